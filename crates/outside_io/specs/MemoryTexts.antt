@@ -1,0 +1,30 @@
+-- Named texts in memory.
+use Rattle.std.specs.Prelude.{◌≡◌, ◌≢◌, ℕ, ◌+◌, List, length, AllPairs, Option, option_and_then, position, bytes_eq, slice_get, Contains, Result, Ok, Err}
+use Rattle.outside_io.specs.declared.texts.Found.{Found}
+use Rattle.outside_io.specs.declared.texts.TextsFault.{TextsFault}
+use Rattle.outside_io.specs.declared.texts.TextsFault.TheVariants.{Failed, NoMemory}
+
+-- The texts under their names, the numbers of the calls that are to fail, and how many calls and faults there were.
+pub record HeldTexts : Type 0 where
+  pub names : List (List ℕ)
+  pub texts : List (List ℕ)
+  pub failing : List ℕ
+  pub calls : ℕ
+  pub faults : ℕ
+
+-- Each text has a name, and no two have the same.
+pub record AreNamed (names texts : List (List ℕ)) : Type 0 where
+  pub paired : length names ≡ length texts
+  pub differ : AllPairs (λ name other. name ≢ other) names
+
+-- The text under a name: that at the name's place.
+abbrev pub text_under : List (List ℕ) → List (List ℕ) → List ℕ → Option (List ℕ)
+text_under names texts name = option_and_then (λ place. slice_get texts place) (position (λ held. bytes_eq held name) names)
+
+-- What a call answers and leaves. It fails where its number is one of those that it was told; it is counted, and
+-- so is its fault. Where memory was refused all stays.
+abbrev pub CountsCall : HeldTexts → HeldTexts → Result Found TextsFault → Type 0
+CountsCall old new (Ok found) = ¬ Contains old.failing old.calls × (new ≡ record old { calls = old.calls + 1 })
+CountsCall old new (Err Failed) =
+    Contains old.failing old.calls × (new ≡ record old { calls = old.calls + 1; faults = old.faults + 1 })
+CountsCall old new (Err NoMemory) = new ≡ old

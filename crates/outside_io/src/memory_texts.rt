@@ -1,0 +1,193 @@
+// Texts in memory, of which given calls fail.
+ghost use Rattle.std.specs.Prelude.{◌≡◌, ◌≢◌, ◌↔◌, [], AllPairs, Contains, EachIndex, IfOk, IsTrue, Some, bytes_eq, option_copied, position, slice_get, slice_index_or};
+ghost use Rattle.outside_io.specs.Texts.{Finds, IsWithin};
+ghost use Rattle.outside_io.specs.MemoryTexts.{AreNamed, text_under, CountsCall};
+
+use crate::{Bytes, Found, List, NoMemory, Texts, TextsFault};
+use std::alloc::Global;
+use std::marker::Model;
+
+/// Texts in memory. Its calls are numbered from 0, a call that was refused memory is not counted, and
+/// those calls fail that it was told. Numbers end below the greatest `u64`: a call that would have that
+/// number answers `NoMemory`.
+#[derive(Drop)]
+pub struct MemoryTexts {
+    names: List<Bytes>,
+    texts: List<Bytes>,
+    failing: List<u64>,
+    calls: u64,
+    faults: u64,
+}
+
+impl Model for MemoryTexts {
+    ghost use Rattle.std.specs.Prelude.{◌≤◌};
+    ghost use Rattle.outside_io.specs.MemoryTexts.{HeldTexts};
+
+    ghost Value = { HeldTexts };
+
+    ghost view = { λ m. record {
+      names = m.names;
+      texts = m.texts;
+      failing = m.failing;
+      calls = m.calls;
+      faults = m.faults;
+    } };
+
+    ghost invariant = { λ m. m.faults ≤ m.calls };
+}
+
+impl MemoryTexts {
+    /// Each text is held under the name at its place. The calls whose numbers stand in `failing` fail.
+    pub fn new(names: List<Bytes>, texts: List<Bytes>, failing: List<u64>) -> MemoryTexts
+        requires { AreNamed names texts }
+        ensures state { result ≡ record { names = names; texts = texts; failing = failing; calls = 0; faults = 0 } }
+        ensures each { EachIndex names (λ place.
+            text_under names texts (slice_index_or names place []) ≡ slice_get texts place) }
+    {
+        MemoryTexts {
+            names,
+            texts,
+            failing,
+            calls: 0,
+            faults: 0,
+        }
+    }
+
+    /// Whether each text has a name and the names differ, as `new` asks.
+    pub fn are_named(names: &List<Bytes>, texts: &List<Bytes>) -> bool
+        ensures { IsTrue result ↔ AreNamed names.now texts.now }
+    {
+        names.len() == texts.len() && all_differ(names.as_slice())
+    }
+}
+
+// Whether no name stands at two places.
+fn all_differ(names: &[Bytes]) -> bool
+    ensures { IsTrue result ↔ AllPairs (λ name other. name ≢ other) names.now }
+{
+    for (place, name) in names.iter().enumerate() {
+        if has(&names[..place], name.as_slice()) {
+            return false;
+        }
+    }
+    true
+}
+
+fn has(names: &[Bytes], name: &[u8]) -> bool
+    ensures { IsTrue result ↔ Contains names.now name.now }
+{
+    names.iter().any(|held| held.as_slice() == name)
+}
+
+impl Texts for MemoryTexts {
+    ghost held = { λ m. Some (text_under m.names m.texts) };
+
+    ghost faults = { λ m. m.faults };
+
+    fn read(&mut self, alloc: Global, name: &[u8], max: u64) -> Result<Found, TextsFault>
+        ensures found { IfOk result (Finds (text_under self.old.names self.old.texts name.now) max) }
+        ensures within { IfOk result (IsWithin max) }
+        ensures counts { CountsCall self.old self.new result }
+    {
+        if self.calls == u64::MAX {
+            return Err(TextsFault::NoMemory);
+        }
+        if self.failing.as_slice().contains(&self.calls) {
+            self.calls += 1;
+            self.faults += 1;
+            return Err(TextsFault::Failed);
+        }
+        let found = find_text(
+            alloc,
+            self.names.as_slice(),
+            self.texts.as_slice(),
+            name,
+            max,
+        )?;
+        self.calls += 1;
+        Ok(found)
+    }
+}
+
+// Copies the text under a name, where it has at most `max` bytes.
+fn find_text(
+    alloc: Global,
+    names: &[Bytes],
+    texts: &[Bytes],
+    name: &[u8],
+    max: u64,
+) -> Result<Found, NoMemory>
+    ensures { IfOk result (Finds (text_under names.now texts.now name.now) max) }
+{
+    let Some(text) = text_at(names, texts, name) else {
+        return Ok(Found::Missing);
+    };
+    if text.len() as u64 > max {
+        return Ok(Found::Longer);
+    }
+    let text = List::from_slice(alloc, text.as_slice())?;
+    Ok(Found::Text(text))
+}
+
+fn text_at<'t>(names: &[Bytes], texts: &'t [Bytes], name: &[u8]) -> Option<&'t Bytes>
+    ensures { option_copied result ≡ text_under names.now texts.now name.now }
+{
+    texts.get(place_of(names, name)?)
+}
+
+fn place_of(names: &[Bytes], name: &[u8]) -> Option<usize>
+    ensures { result ≡ position (λ held. bytes_eq held name.now) names.now }
+{
+    names.iter().position(|held| held.as_slice() == name)
+}
+
+#[cfg(test)]
+mod tests {
+    use super::*;
+    use crate::texts::shown;
+    use std::test::Fail;
+
+    fn lists(alloc: Global, items: &[&[u8]]) -> Result<List<Bytes>, NoMemory> {
+        let mut lists = List::new(alloc);
+        for item in items {
+            lists.push(List::from_slice(alloc, item)?)?;
+        }
+        Ok(lists)
+    }
+
+    #[test]
+    fn reads_and_fails_at_its_calls(rt: HostRuntime) -> Result<(), Fail> {
+        let alloc = rt.alloc();
+        let names = lists(alloc, &[b"g", b"e", b"t"])?;
+        let texts = lists(alloc, &[b"{}", b"", b"x\ny\n"])?;
+        assert!(rt; MemoryTexts::are_named(&names, &texts));
+        let mut held = MemoryTexts::new(names, texts, List::from_slice(alloc, &[2, 4])?);
+        let reads: [(&[u8], u64, &[u8]); 8] = [
+            (b"t", 4, b"x\ny\n"),
+            (b"t", 3, b"longer"),
+            (b"t", 4, b"failed"),
+            (b"e", 0, b""),
+            (b"q", 4, b"failed"),
+            (b"q", 4, b"missing"),
+            (b"", 4, b"missing"),
+            (b"g", u64::MAX, b"{}"),
+        ];
+        for (call, (name, max, expected)) in reads.iter().enumerate() {
+            let found = held.read(alloc, name, *max);
+            assert_eq!(rt; shown(&found), *expected, "call {call}");
+        }
+        Ok(())
+    }
+
+    #[test]
+    fn tells_whether_names_differ(rt: HostRuntime) -> Result<(), Fail> {
+        let alloc = rt.alloc();
+        let two = lists(alloc, &[b"a", b"b"])?;
+        let twice = lists(alloc, &[b"a", b"a"])?;
+        let one = lists(alloc, &[b"a"])?;
+        assert!(rt; MemoryTexts::are_named(&two, &twice));
+        assert!(rt; !MemoryTexts::are_named(&twice, &two));
+        assert!(rt; !MemoryTexts::are_named(&two, &one));
+        Ok(())
+    }
+}

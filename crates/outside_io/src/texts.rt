@@ -1,0 +1,64 @@
+// Named texts that can be read, as the layers above see them.
+ghost use Rattle.std.specs.Prelude.{◌≡◌, ℕ, ◌<◌, ◌≤◌, List, Option, IfSome, IfOk, IsErrOf};
+ghost use Rattle.outside_io.specs.declared.texts.TextsFault.TheVariants.{NoMemory as NoMemoryFault};
+ghost use Rattle.outside_io.specs.Texts.{Finds, IsWithin};
+
+use crate::{Bytes, NoMemory};
+use std::alloc::Global;
+
+/// What a read found under a name.
+#[derive(Drop)]
+pub enum Found {
+    /// The whole text.
+    Text(Bytes),
+    /// No text has this name.
+    Missing,
+    /// The text has more bytes than were asked for.
+    Longer,
+}
+
+/// Why a read gave no answer.
+#[derive(Clone, Copy, Debug, PartialEq, Eq)]
+pub enum TextsFault {
+    /// The source failed, and its count of faults has risen.
+    Failed,
+    /// Memory was refused. The count of faults may have stayed.
+    NoMemory,
+}
+
+impl From<NoMemory> for TextsFault {
+    ghost from_gives = { λ _ fault. fault ≡ NoMemoryFault };
+
+    fn from(_: NoMemory) -> Self {
+        TextsFault::NoMemory
+    }
+}
+
+/// A source of texts that have names.
+pub trait Texts {
+    /// The text under each name, as far as there is one; `None` where the source doesn't tell what it holds.
+    ghost held: { Self → Option (List ℕ → Option (List ℕ)) };
+
+    /// How often the source has failed. It never falls.
+    ghost faults: { Self → ℕ };
+
+    /// Reads the text under `name`, of at most `max` bytes. What the source holds stays.
+    fn read(&mut self, alloc: Global, name: &[u8], max: u64) -> Result<Found, TextsFault>
+        ensures found { IfSome (held self.old) (λ held. IfOk result (Finds (held name.now) max)) }
+        ensures within { IfOk result (IsWithin max) }
+        ensures stays { held self.new ≡ held self.old }
+        ensures cause { IsErrOf result TextsFault.Failed → faults self.old < faults self.new }
+        ensures no_fewer { faults self.old ≤ faults self.new };
+}
+
+// What a read found, in words.
+#[cfg(test)]
+pub(crate) fn shown(found: &Result<Found, TextsFault>) -> &[u8] {
+    match found {
+        Ok(Found::Text(text)) => text.as_slice(),
+        Ok(Found::Missing) => b"missing",
+        Ok(Found::Longer) => b"longer",
+        Err(TextsFault::Failed) => b"failed",
+        Err(TextsFault::NoMemory) => b"no memory",
+    }
+}
