@@ -1,0 +1,30 @@
+// Why a machine refuses an entry.
+
+/// Why a machine refuses an entry. Where several hold, the first in this order is told.
+#[derive(Clone, Copy, Debug, PartialEq, Eq)]
+pub enum MachineError {
+    /// A task, an edge or a semaphore of that number isn't there.
+    NoSuch,
+    /// A release was dropped for want of a unit, and only such drops may follow.
+    AfterStuck,
+    /// The task has no unused release of that cause.
+    NotReleased,
+    /// The least semaphore that the task takes and that has no unit.
+    NoUnit(u32),
+    /// All the starts that the run may have are made.
+    AtLimit,
+    /// No open start stands at that place.
+    NotOpen,
+    /// The edges given don't fit the shape of the task, or only a nested task may end so.
+    NotChosen,
+    /// The least semaphore that the task puts and of which no unit is out.
+    NothingOut(u32),
+    /// A unit of that semaphore is out, or the task doesn't put it.
+    NotOver,
+    /// Nothing has faulted.
+    NotHalted,
+    /// Something runs or has faulted, or the semaphore has a unit.
+    NotStuck,
+    /// Memory was refused.
+    NoMemory,
+}

@@ -1,0 +1,11 @@
+// The span of a start.
+
+/// A start from its Start to its End or Fault, both by their places in the journal of its run.
+#[derive(Clone, Copy, Debug, PartialEq, Eq)]
+pub struct Span {
+    /// How many runs the run stands in: 0 for one that stands in none.
+    pub depth: u32,
+    pub task: u32,
+    pub start: u64,
+    pub end: u64,
+}

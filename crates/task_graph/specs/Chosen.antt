@@ -1,0 +1,17 @@
+-- Which edges a choice gives.
+use Rattle.std.specs.Prelude.{ℕ, ℤ, pos, negsuc, Bool, not, ◌==◌, List, [], ◌∷◌, filter, Option, Some, None, slice_get}
+
+-- the edge at an index; no edge stands at a negative one or past the end
+abbrev pub edge_at : List ℕ → ℤ → Option ℕ
+edge_at out (pos i) = slice_get out i
+edge_at out (negsuc i) = None
+
+-- the edge before the others, and not again among them
+abbrev pub first_of : Option ℕ → List ℕ → List ℕ
+first_of None rest = rest
+first_of (Some e) rest = e ∷ filter (λ f. not (f == e)) rest
+
+-- the edges at the indices that are in range, each where it is first named
+abbrev pub chosen_edges : List ℕ → List ℤ → List ℕ
+chosen_edges out [] = []
+chosen_edges out (i ∷ is) = first_of (edge_at out i) (chosen_edges out is)
