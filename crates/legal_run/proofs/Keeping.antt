@@ -425,3 +425,12 @@ open_flag net limit h flags tallies made start pushed kept opened is =
     let in_place = open_stands h start opened in
     ap (λ (f : List Bool). slice_get f start) is
     ∙ slice_get_push flags false true start (slice_get-get_or flags start true (omega (arith, kept.flags_are.len)) ∙ ap (λ b. Some b) (kept.flags_are.each start true in_place ∙ opened))
+
+-- a Start just made is open
+pub opened_last : (net : NetRows) (limit : ℕ) (h : List Entry) (flags : List Bool) (tallies : Tallies) (made t : ℕ) (cause : Cause) (ins : List Part) → AreKept net limit h flags tallies made
+    → is_open (h ++ Start t cause ins ∷ []) (length h) ≡ true
+opened_last net limit h flags tallies made t cause ins kept =
+    let x = Start t cause ins in
+    let start_is : is_some (start_at (h ++ x ∷ []) (length h)) ≡ true = ap is_some (start_at_push_last h x) in
+    let none : count_by (closes (length h)) (h ++ x ∷ []) ≡ 0 = count_by_push_no (closes (length h)) h x refl ∙ kept.unclosed (length h) (omega arith) in
+    rw (start_is, none) refl

@@ -87,6 +87,7 @@ impl Machine {
     /// release it. After an `Err` nothing has changed.
     pub fn start(&mut self, task: u32, cause: Cause) -> Result<u64, MachineError>
         ensures started { IfOk result (Starts self.old self.new task cause) }
+        ensures opened { IfOk result (λ place. IsTrue (is_open self.new.journal place)) }
         ensures refused { IfErr result (RefusesStart self.old task cause) }
         ensures err { OnErr result (self.new ≡ self.old) }
     {

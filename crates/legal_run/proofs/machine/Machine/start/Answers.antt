@@ -1,5 +1,5 @@
 use Rattle.std.specs.Arc.{arc_value}
-use Rattle.legal_run.proofs.Keeping.{has_started, same_state, released_unweak, used_room, sources_room}
+use Rattle.legal_run.proofs.Keeping.{has_started, same_state, released_unweak, used_room, sources_room, opened_last}
 use Rattle.legal_run.proofs.machine.Machine.start.Goals as goal
 
 pub invariant_of-self-2 : goal.invariant_of-self-2
@@ -27,3 +27,11 @@ use_release-requires-clause-room c = used_room _ _ _ _ _ _ c.self.invariant
 
 pub use_release-requires-clause-source_room : goal.use_release-requires-clause-source_room
 use_release-requires-clause-source_room c = sources_room _ _ _ _ _ _ c.self.invariant
+
+pub returns-clause-opened : goal.returns-clause-opened
+returns-clause-opened c =
+    let can = rw (← c.self.view_is) at c.in-Ok.ensures.ok in
+    let ins_is = (rw c.deref.ensures at c.in-Ok-parts.ensures) c.self.inside.journal c.self.invariant.counts_are in
+    let counted = rw c.deref-2.ensures at c.use_release.ensures in
+    let done = has_started _ _ _ _ _ _ c.args.task c.args.cause c.in-Ok-parts.ins _ _ _ c.self.invariant can.0.0 can.0.2 can.1 ins_is c.in-Ok-append.ensures.ok.0 c.in-Ok-append.ensures.ok.1 counted in
+    rw (done.journal, c.len-place.ensures) (opened_last _ _ _ _ _ _ c.args.task c.args.cause _ c.self.invariant)
