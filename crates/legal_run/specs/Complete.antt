@@ -35,9 +35,9 @@ is_limited (End start gives inner) = false
 is_limited (Fault start why) = false
 is_limited (Drop task cause why) = is_limit_why why
 
--- What a shape-legal journal (`ShapeLegal`) is besides where its run is finished. Nothing runs and no release is left: each source task's one release is used, each token of a weak edge, and
--- each round of tokens on a task's strong in-edges; and releases were dropped at the limit only where all the
--- starts were made.
+-- What a shape-legal journal (`ShapeLegal`) is besides where its run is finished. Nothing runs and no release is
+-- left: each source task's one release is used, each token of a weak edge, and each round of tokens on a task's
+-- strong in-edges; and releases were dropped at the limit only where all the starts were made.
 pub record Complete (net : NetRows) (limit : ℕ) (journal : List Entry) : Type 0 where
   pub none_open : NoneOpen journal
   pub sources : EachTask net (λ t. IsSource net t → used_source t journal ≡ 1)

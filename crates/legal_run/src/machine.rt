@@ -83,6 +83,15 @@ impl Machine {
         &self.journal
     }
 
+    /// The journal of a run that takes no more steps.
+    pub fn into_journal(self) -> Journal
+        ensures journal { result ≡ self.journal }
+        ensures legal { ShapeLegal self.net self.limit self.journal }
+        ensures data_rule { MeetsDataRule self.net self.journal }
+    {
+        self.journal
+    }
+
     /// Starts a task by a release, and gives the place of the Start. Its ins are what waits at the edges that
     /// release it. After an `Err` nothing has changed.
     pub fn start(&mut self, task: u32, cause: Cause) -> Result<u64, MachineError>

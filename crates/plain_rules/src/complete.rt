@@ -1,6 +1,6 @@
 // When a legal journal is that of a finished run.
-ghost use Rattle.std.specs.Prelude.{◌≡◌, ◌≢◌, ◌↔◌, count_by, IsTrue};
-ghost use Rattle.legal_run.specs.Counts.{starts};
+ghost use Rattle.std.specs.Prelude.{◌≡◌, ◌≢◌, ◌↔◌, count_by, fold, map, min, IsTrue};
+ghost use Rattle.legal_run.specs.Counts.{given, starts};
 ghost use Rattle.legal_run.specs.Complete.{EachTask, EachEdge, is_limited, Complete};
 ghost use Rattle.plain_rules.specs.Used.{SourceIsUsed, WeakTokensAreUsed, least_given, StrongRoundsAreUsed};
 
@@ -67,8 +67,17 @@ fn least_given(net: &Net, journal: &[Entry], edges: &[u32]) -> usize
 {
     match edges {
         [] => 0,
-        [edge] => given(net, *edge, journal),
-        [edge, rest @ ..] => given(net, *edge, journal).min(least_given(net, journal, rest)),
+        [edge, rest @ ..] => lowest(net, journal, given(net, *edge, journal), rest),
+    }
+}
+
+// The least of a number and the numbers of tokens that the edges were given.
+fn lowest(net: &Net, journal: &[Entry], number: usize, edges: &[u32]) -> usize
+    ensures { result ≡ fold min number (map (λ e. given net.now e journal.now) edges.now) }
+{
+    match edges {
+        [] => number,
+        [edge, rest @ ..] => { lowest(net, journal, number.min(given(net, *edge, journal)), rest) }
     }
 }
 

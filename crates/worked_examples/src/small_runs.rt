@@ -1,0 +1,158 @@
+// Small runs, step by step, with the answers that were worked out by hand.
+use crate::nets::plain_net;
+use crate::steps::{Step, compare_step, end, expect_legal, start};
+use legal_run::{Cause, Machine, MachineError};
+use std::alloc::Global;
+use std::process::Abort;
+use std::test::Fail;
+
+type Answer = Result<u64, MachineError>;
+
+// A net of so many tasks with these edges, and how many starts its run may have.
+#[derive(Clone, Copy)]
+struct Given<'e> {
+    tasks: u32,
+    edges: &'e [(u32, u32)],
+    limit: u16,
+}
+
+// Each step is answered so, and in the end the machine is at rest or not.
+fn expect_run(
+    rt: &impl Abort,
+    alloc: Global,
+    given: Given<'_>,
+    steps: &[(Step<'_>, Answer)],
+    is_at_rest: bool,
+) -> Result<(), Fail> {
+    let net = plain_net(alloc, given.tasks, given.edges)?;
+    let limit = given.limit as u64;
+    let mut machine = Machine::new(alloc, net.clone()?, limit)?;
+    for (place, (step, expected)) in steps.iter().enumerate() {
+        let answer = compare_step(rt, alloc, &net, limit, &mut machine, *step)?;
+        assert_eq!(rt; answer, *expected, "step {place}");
+    }
+    expect_legal(rt, &net, limit, &machine);
+    assert_eq!(rt; machine.at_rest(), is_at_rest);
+    Ok(())
+}
+
+// Task 1 follows task 0.
+#[test]
+fn one_task_follows_another(rt: HostRuntime) -> Result<(), Fail> {
+    let row = Given {
+        tasks: 2,
+        edges: &[(0, 1)],
+        limit: 10,
+    };
+    let steps = [
+        (start(1, Cause::Strong), Err(MachineError::NotReleased)),
+        (start(0, Cause::Source), Ok(0)),
+        (start(0, Cause::Source), Err(MachineError::NotReleased)),
+        (start(1, Cause::Strong), Err(MachineError::NotReleased)),
+        (end(0, &[0]), Ok(1)),
+        (end(0, &[0]), Err(MachineError::NotOpen)),
+        (start(1, Cause::Source), Err(MachineError::NotReleased)),
+        (start(1, Cause::Strong), Ok(2)),
+        (end(2, &[0]), Err(MachineError::NotChosen)),
+        (end(1, &[]), Err(MachineError::NotOpen)),
+        (end(2, &[]), Ok(3)),
+        (start(1, Cause::Strong), Err(MachineError::NotReleased)),
+    ];
+    expect_run(&rt, rt.alloc(), row, &steps, true)
+}
+
+// Tasks 1 and 2 follow task 0, and task 3 follows both.
+#[test]
+fn a_diamond_waits_for_both_sides(rt: HostRuntime) -> Result<(), Fail> {
+    let diamond = Given {
+        tasks: 4,
+        edges: &[(0, 1), (0, 2), (1, 3), (2, 3)],
+        limit: 10,
+    };
+    let steps = [
+        (start(0, Cause::Source), Ok(0)),
+        (end(0, &[1, 0]), Err(MachineError::NotChosen)),
+        (end(0, &[1]), Err(MachineError::NotChosen)),
+        (end(0, &[0, 1]), Ok(1)),
+        (start(2, Cause::Strong), Ok(2)),
+        (start(1, Cause::Strong), Ok(3)),
+        (end(2, &[3]), Ok(4)),
+        (start(3, Cause::Strong), Err(MachineError::NotReleased)),
+        (end(3, &[3]), Err(MachineError::NotChosen)),
+        (end(3, &[2]), Ok(5)),
+        (start(3, Cause::Strong), Ok(6)),
+        (end(6, &[]), Ok(7)),
+    ];
+    expect_run(&rt, rt.alloc(), diamond, &steps, true)
+}
+
+// Two edges lead from task 0 to task 1.
+#[test]
+fn a_double_edge_releases_once(rt: HostRuntime) -> Result<(), Fail> {
+    let double = Given {
+        tasks: 2,
+        edges: &[(0, 1), (0, 1)],
+        limit: 10,
+    };
+    let steps = [
+        (start(0, Cause::Source), Ok(0)),
+        (end(0, &[0]), Err(MachineError::NotChosen)),
+        (end(0, &[0, 1]), Ok(1)),
+        (start(1, Cause::Strong), Ok(2)),
+        (start(1, Cause::Strong), Err(MachineError::NotReleased)),
+        (end(2, &[]), Ok(3)),
+    ];
+    expect_run(&rt, rt.alloc(), double, &steps, true)
+}
+
+// An end that gives nothing releases nothing, and the run is over.
+#[test]
+fn an_end_may_give_nothing(rt: HostRuntime) -> Result<(), Fail> {
+    let row = Given {
+        tasks: 2,
+        edges: &[(0, 1)],
+        limit: 10,
+    };
+    let steps = [
+        (start(0, Cause::Source), Ok(0)),
+        (end(0, &[]), Ok(1)),
+        (start(1, Cause::Strong), Err(MachineError::NotReleased)),
+    ];
+    expect_run(&rt, rt.alloc(), row, &steps, true)
+}
+
+// The second start would be one too many.
+#[test]
+fn a_limit_ends_a_run_early(rt: HostRuntime) -> Result<(), Fail> {
+    let row = Given {
+        tasks: 2,
+        edges: &[(0, 1)],
+        limit: 1,
+    };
+    let steps = [
+        (start(0, Cause::Source), Ok(0)),
+        (end(0, &[0]), Ok(1)),
+        (start(1, Cause::Source), Err(MachineError::NotReleased)),
+        (start(1, Cause::Strong), Err(MachineError::AtLimit)),
+    ];
+    expect_run(&rt, rt.alloc(), row, &steps, false)
+}
+
+// Each number that the net hasn't is refused before anything else is looked at.
+#[test]
+fn unknown_numbers_are_refused(rt: HostRuntime) -> Result<(), Fail> {
+    let row = Given {
+        tasks: 2,
+        edges: &[(0, 1)],
+        limit: 0,
+    };
+    let steps = [
+        (start(2, Cause::Source), Err(MachineError::NoSuch)),
+        (start(0, Cause::Weak(1)), Err(MachineError::NoSuch)),
+        (start(1, Cause::Weak(0)), Err(MachineError::NotReleased)),
+        (end(5, &[1]), Err(MachineError::NoSuch)),
+        (end(5, &[0]), Err(MachineError::NotOpen)),
+        (start(0, Cause::Source), Err(MachineError::AtLimit)),
+    ];
+    expect_run(&rt, rt.alloc(), row, &steps, false)
+}

@@ -1,0 +1,94 @@
+// Steps that a machine is asked for, each compared with what the rules decide.
+use legal_run::{Cause, Entry, Machine, MachineError};
+use outside_io::{List, NoMemory};
+use plain_rules::{is_complete, is_shape_legal, may_follow, meets_data_rule};
+use std::alloc::Global;
+use std::process::Abort;
+use task_graph::Net;
+
+/// A step that a machine is asked for.
+#[derive(Clone, Copy)]
+pub enum Step<'g> {
+    Start {
+        task: u32,
+        cause: Cause,
+    },
+    End {
+        start: u64,
+        gives: &'g [u32],
+        inner: bool,
+    },
+}
+
+/// A start by a release.
+pub fn start(task: u32, cause: Cause) -> Step<'static> {
+    Step::Start { task, cause }
+}
+
+/// An end that gives these edges.
+pub fn end(start: u64, gives: &[u32]) -> Step<'_> {
+    Step::End {
+        start,
+        gives,
+        inner: false,
+    }
+}
+
+/// Asks for a step. The machine takes it exactly where the rules allow it, and is at rest exactly where its
+/// journal is complete.
+pub fn compare_step(
+    rt: &impl Abort,
+    alloc: Global,
+    net: &Net,
+    limit: u64,
+    machine: &mut Machine,
+    step: Step<'_>,
+) -> Result<Result<u64, MachineError>, NoMemory> {
+    let entry = entry_of(alloc, step)?;
+    let before = machine.journal().len();
+    let is_allowed = may_follow(net, limit, machine.journal().as_slice(), &entry);
+    let answer = ask(machine, step);
+    assert_eq!(rt; answer.is_ok(), is_allowed);
+    assert_eq!(rt; machine.journal().len() > before, is_allowed);
+    let is_finished = is_complete(net, limit, machine.journal().as_slice());
+    assert_eq!(rt; machine.at_rest(), is_finished);
+    Ok(answer)
+}
+
+/// The whole journal is one that the rules allow.
+pub fn expect_legal(rt: &impl Abort, net: &Net, limit: u64, machine: &Machine) {
+    let journal = machine.journal().as_slice();
+    assert!(rt; is_shape_legal(net, limit, journal));
+    assert!(rt; meets_data_rule(net, journal));
+}
+
+// The entry of a step. What a start finds is left out, since whether it may start doesn't depend on it.
+fn entry_of(alloc: Global, step: Step<'_>) -> Result<Entry, NoMemory> {
+    match step {
+        Step::Start { task, cause } => Ok(Entry::Start {
+            task,
+            cause,
+            ins: List::new(alloc),
+        }),
+        Step::End {
+            start,
+            gives,
+            inner,
+        } => Ok(Entry::End {
+            start,
+            gives: List::from_slice(alloc, gives)?,
+            inner,
+        }),
+    }
+}
+
+fn ask(machine: &mut Machine, step: Step<'_>) -> Result<u64, MachineError> {
+    match step {
+        Step::Start { task, cause } => machine.start(task, cause),
+        Step::End {
+            start,
+            gives,
+            inner,
+        } => machine.end(start, gives, inner),
+    }
+}

@@ -1,0 +1,147 @@
+// Every step that a small net has numbers for, and some that it hasn't, asked for again and again until none
+// is taken.
+use crate::nets::plain_net;
+use crate::steps::{Step, compare_step, expect_legal};
+use legal_run::{Cause, Machine};
+use outside_io::NoMemory;
+use std::alloc::Global;
+use std::process::Abort;
+use std::test::Fail;
+use task_graph::Net;
+
+// A net of so many tasks with these edges, how many starts its run may have, how many entries its journal has
+// once no step is taken any more, and whether it is then at rest.
+#[derive(Clone, Copy)]
+struct Sweep<'e> {
+    tasks: u32,
+    edges: &'e [(u32, u32)],
+    limit: u16,
+    entries: usize,
+    is_at_rest: bool,
+}
+
+#[test]
+fn sweeps_end_as_they_should(rt: HostRuntime) -> Result<(), Fail> {
+    let sweeps = [
+        // a row, whole and with one start only
+        sweep_of(2, &[(0, 1)], 10, 4, true),
+        sweep_of(2, &[(0, 1)], 1, 2, false),
+        // a diamond, whole and with three starts
+        sweep_of(4, &[(0, 1), (0, 2), (1, 3), (2, 3)], 10, 8, true),
+        sweep_of(4, &[(0, 1), (0, 2), (1, 3), (2, 3)], 3, 6, false),
+        // a double edge
+        sweep_of(2, &[(0, 1), (0, 1)], 10, 4, true),
+        // two sources of one task
+        sweep_of(3, &[(0, 2), (1, 2)], 10, 6, true),
+        // tasks without edges, and none
+        sweep_of(3, &[], 10, 6, true),
+        sweep_of(0, &[], 10, 0, true),
+        // tasks that wait for each other or for themselves never begin
+        sweep_of(2, &[(0, 1), (1, 0)], 10, 0, true),
+        sweep_of(2, &[(0, 0)], 10, 2, true),
+        sweep_of(3, &[(0, 1), (1, 2), (2, 1)], 10, 2, true),
+    ];
+    for (place, sweep) in sweeps.iter().enumerate() {
+        let (entries, is_at_rest) = run_sweep(&rt, rt.alloc(), sweep)?;
+        assert_eq!(rt; entries, sweep.entries, "sweep {place}");
+        assert_eq!(rt; is_at_rest, sweep.is_at_rest, "sweep {place}");
+    }
+    Ok(())
+}
+
+fn sweep_of(
+    tasks: u32,
+    edges: &[(u32, u32)],
+    limit: u16,
+    entries: usize,
+    is_at_rest: bool,
+) -> Sweep<'_> {
+    Sweep {
+        tasks,
+        edges,
+        limit,
+        entries,
+        is_at_rest,
+    }
+}
+
+// How many entries the journal has in the end, and whether the machine is then at rest.
+fn run_sweep(rt: &impl Abort, alloc: Global, sweep: &Sweep<'_>) -> Result<(usize, bool), Fail> {
+    let net = plain_net(alloc, sweep.tasks, sweep.edges)?;
+    let limit = sweep.limit as u64;
+    let mut machine = Machine::new(alloc, net.clone()?, limit)?;
+    // Each round but the last takes a step, and no net here has more than eight.
+    for _ in 0..10 {
+        ask_starts(rt, alloc, &net, limit, &mut machine)?;
+        ask_ends(rt, alloc, &net, limit, &mut machine)?;
+    }
+    expect_legal(rt, &net, limit, &machine);
+    Ok((machine.journal().len(), machine.at_rest()))
+}
+
+// Each task, and a number that is no task's.
+fn ask_starts(
+    rt: &impl Abort,
+    alloc: Global,
+    net: &Net,
+    limit: u64,
+    machine: &mut Machine,
+) -> Result<(), NoMemory> {
+    for task in 0..=net.tasks().len() as u32 {
+        ask_start(rt, alloc, net, limit, machine, task)?;
+    }
+    Ok(())
+}
+
+// A task by each cause.
+fn ask_start(
+    rt: &impl Abort,
+    alloc: Global,
+    net: &Net,
+    limit: u64,
+    machine: &mut Machine,
+    task: u32,
+) -> Result<(), NoMemory> {
+    for cause in [Cause::Weak(0), Cause::Weak(9), Cause::Strong, Cause::Source] {
+        let step = Step::Start { task, cause };
+        let _ = compare_step(rt, alloc, net, limit, machine, step)?;
+    }
+    Ok(())
+}
+
+// Each place of the journal, and the one past its end.
+fn ask_ends(
+    rt: &impl Abort,
+    alloc: Global,
+    net: &Net,
+    limit: u64,
+    machine: &mut Machine,
+) -> Result<(), NoMemory> {
+    for start in 0..=machine.journal().len() as u64 {
+        ask_end(rt, alloc, net, limit, machine, start)?;
+    }
+    Ok(())
+}
+
+// The start at a place, with the out-edges of each task in turn, its own among them.
+fn ask_end(
+    rt: &impl Abort,
+    alloc: Global,
+    net: &Net,
+    limit: u64,
+    machine: &mut Machine,
+    start: u64,
+) -> Result<(), NoMemory> {
+    for task in 0..net.tasks().len() as u32 {
+        let gives = net.out_edges(task);
+        for inner in [true, false] {
+            let step = Step::End {
+                start,
+                gives,
+                inner,
+            };
+            let _ = compare_step(rt, alloc, net, limit, machine, step)?;
+        }
+    }
+    Ok(())
+}

@@ -1,0 +1,73 @@
+#!/usr/bin/env bash
+# Holds README.md and docs/ against the sources. Prints nothing where they agree; else a line for each
+# difference, and ends with status 1.
+set -euo pipefail
+cd "$(dirname "${BASH_SOURCE[0]}")/.."
+
+faults=0
+fault() {
+    echo "docs: $1" >&2
+    faults=$((faults + 1))
+}
+
+# Whether a document has this text, as it stands.
+has() {
+    grep -qF -- "$2" "$1"
+}
+
+documents=(README.md docs/ARCHITECTURE.md docs/DEFINITIONS.md docs/FORMATS.md docs/DECISIONS.md docs/TESTING.md)
+for document in "${documents[@]}"; do
+    if [[ ! -f $document ]]; then
+        fault "$document isn't there"
+        exit 1
+    fi
+done
+
+# Each crate of crates.txt is described, and each crate that is described is there.
+crates=$(sed -E 's/#.*//; s/[ :].*//; /^$/d' crates.txt)
+for crate in $crates; do
+    [[ -d crates/$crate/src ]] || fault "crates.txt names $crate, which crates/ hasn't"
+    for document in README.md docs/ARCHITECTURE.md docs/TESTING.md; do
+        has "$document" "\`$crate\`" || fault "$document doesn't name the crate $crate"
+    done
+done
+for folder in crates/*/; do
+    crate=$(basename "$folder")
+    grep -qx -- "$crate" <<<"$crates" || fault "crates/$crate isn't in crates.txt"
+done
+
+# Each file of definitions is explained, and each that is named is there.
+for crate in outside_io task_graph legal_run plain_rules; do
+    for file in crates/"$crate"/specs/*.antt; do
+        [[ $(basename "$file") == Lib.antt ]] && continue
+        has docs/DEFINITIONS.md "\`${file#crates/}\`" || fault "docs/DEFINITIONS.md doesn't name ${file#crates/}"
+    done
+done
+while read -r file; do
+    [[ -f crates/$file ]] || fault "docs/DEFINITIONS.md names $file, which isn't there"
+done < <(grep -oE '`[a-z_]+/specs/[A-Za-z]+\.antt`' docs/DEFINITIONS.md | tr -d '`' | sort -u)
+
+# Each file of the repository that a document links to or names in code letters is there.
+for document in "${documents[@]}"; do
+    folder=$(dirname "$document")
+    while read -r link; do
+        [[ -e $folder/$link ]] || fault "$document links to $link, which isn't there"
+    done < <(grep -oE '\]\([^)#: ]+' "$document" | sed 's/^](//' | sort -u || true)
+    while read -r path; do
+        [[ -e $path ]] || fault "$document names $path, which isn't there"
+    done < <(grep -oE '`(crates|docs|tools|examples|bench|\.ci)/[A-Za-z0-9_./-]+`' "$document" | tr -d '`' | sort -u || true)
+done
+
+# Each command of the Makefile that README.md tells is a target.
+while read -r target; do
+    grep -qE "^$target:" Makefile || fault "README.md tells 'make $target', which isn't a target"
+done < <(grep -oE '`make [a-z]+`' README.md | tr -d '`' | sed 's/make //' | sort -u || true)
+
+# No document names a path of one machine.
+for document in "${documents[@]}"; do
+    if grep -nE '(^|[^A-Za-z0-9_.])/(opt|work|home|root|tmp|usr)/' "$document" >&2; then
+        fault "$document names a path of one machine"
+    fi
+done
+
+((faults == 0))
