@@ -45,7 +45,8 @@ CanBeUsed m t cause = NamesRelease m t cause × NoneStuck m × IsReleased m.net 
 abbrev pub HasUnitsBelow : MachineState → ℕ → ℕ → Type 0
 HasUnitsBelow m t s = (r : ℕ) → r < s → IsTrue (takes m.net r t) → HasUnit m.net r m.journal
 
--- When a start is refused: the first of these that holds, in this order.
+-- When a start is refused: the first of these that holds, in this order. What the rules allow is refused for
+-- want of memory alone.
 abbrev pub RefusesStart : MachineState → ℕ → Cause → MachineError → Type 0
 RefusesStart m t cause NoSuch = ¬ NamesRelease m t cause
 RefusesStart m t cause AfterStuck = NamesRelease m t cause × ¬ NoneStuck m
@@ -58,7 +59,7 @@ RefusesStart m t cause (NothingOut s) = ⊥
 RefusesStart m t cause NotOver = ⊥
 RefusesStart m t cause NotHalted = ⊥
 RefusesStart m t cause NotStuck = ⊥
-RefusesStart m t cause NoMemory = Unit {0}
+RefusesStart m t cause NoMemory = CanBeUsed m t cause × HasUnitsBelow m t (length m.net.sems) × (starts m.journal < m.limit)
 
 -- the edges of an End are the net's
 abbrev pub NamesEdges : MachineState → List ℕ → Type 0
@@ -76,7 +77,8 @@ PutsAt m start s = (t : ℕ) × (start_at m.journal start ≡ Some t) × IsTrue 
 abbrev pub HasOutBelow : MachineState → ℕ → ℕ → Type 0
 HasOutBelow m start s = (r : ℕ) → r < s → PutsAt m start r → back m.net r m.journal < taken m.net r m.journal
 
--- When an end is refused: the first of these that holds, in this order.
+-- When an end is refused: the first of these that holds, in this order. What the rules allow is refused for
+-- want of memory alone.
 abbrev pub RefusesEnd : MachineState → ℕ → List ℕ → Bool → MachineError → Type 0
 RefusesEnd m start gives inner NoSuch = ¬ NamesEdges m gives
 RefusesEnd m start gives inner AfterStuck = NamesEdges m gives × ¬ NoneStuck m
@@ -91,4 +93,5 @@ RefusesEnd m start gives inner (NothingOut s) =
 RefusesEnd m start gives inner NotOver = ⊥
 RefusesEnd m start gives inner NotHalted = ⊥
 RefusesEnd m start gives inner NotStuck = ⊥
-RefusesEnd m start gives inner NoMemory = Unit {0}
+RefusesEnd m start gives inner NoMemory =
+    CanClose m start gives × ChoiceRule m.net m.journal (End start gives inner) × HasOutBelow m start (length m.net.sems)
