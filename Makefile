@@ -5,7 +5,7 @@
 all:
 	rt all check
 
-# There is no program to show yet: two worked runs, as tests.
+# There is no program to show yet: the worked runs, as tests.
 demo:
 	cd crates/worked_examples && rt test --jobs 2
 

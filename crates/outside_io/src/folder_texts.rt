@@ -1,5 +1,5 @@
 // Texts in the files of a folder. What a file holds is told by no contract.
-ghost use Rattle.std.specs.Prelude.{◌≡◌, ◌↔◌, IfOk, IfSome, None, Some, take};
+ghost use Rattle.std.specs.Prelude.{◌≡◌, ◌↔◌, ◌+◌, IfOk, IfSome, IsErrOf, OnOk, None, Some, take};
 ghost use Rattle.std.specs.IoError.{error_kind};
 ghost use Rattle.outside_io.specs.Texts.{Finds, IsWithin};
 
@@ -43,7 +43,12 @@ impl<R: Files + Copy> Texts for FolderTexts<R> {
 
     ghost faults = { λ faults. faults };
 
-    fn read(&mut self, alloc: Global, name: &[u8], max: u64) -> Result<Found, TextsFault> {
+    fn read(&mut self, alloc: Global, name: &[u8], max: u64) -> Result<Found, TextsFault>
+        ensures within { IfOk result (IsWithin max) }
+        ensures counted { IsErrOf result TextsFault.Failed → self.new ≡ self.old + 1 }
+        ensures ok_counts { OnOk result (self.new ≡ self.old) }
+        ensures no_memory { IsErrOf result TextsFault.NoMemory → self.new ≡ self.old }
+    {
         if self.faults == u64::MAX {
             return Err(TextsFault::NoMemory);
         }
@@ -107,7 +112,7 @@ fn fault_of(error: &io::Error) -> TextsFault
 #[cfg(test)]
 mod tests {
     use super::*;
-    use crate::texts::shown;
+    use crate::texts::{Seen, as_seen};
     use std::test::Fail;
 
     #[test]
@@ -115,19 +120,19 @@ mod tests {
         fs::write(&rt, "lines.txt", "x\ny\n")?;
         fs::write(&rt, "empty.txt", "")?;
         let mut texts = FolderTexts::new(&rt);
-        let reads: [(&[u8], u64, &[u8]); 8] = [
-            (b"lines.txt", 100, b"x\ny\n"),
-            (b"lines.txt", 4, b"x\ny\n"),
-            (b"lines.txt", 3, b"longer"),
-            (b"empty.txt", 0, b""),
-            (b"absent.txt", 100, b"missing"),
-            (b".", 100, b"failed"),
-            (b"lines.txt/below", 100, b"failed"),
-            (b"\xff", 100, b"failed"),
+        let reads: [(&[u8], u64, Seen<'_>); 8] = [
+            (b"lines.txt", 100, Seen::Text(b"x\ny\n")),
+            (b"lines.txt", 4, Seen::Text(b"x\ny\n")),
+            (b"lines.txt", 3, Seen::Longer),
+            (b"empty.txt", 0, Seen::Text(b"")),
+            (b"absent.txt", 100, Seen::Missing),
+            (b".", 100, Seen::Failed),
+            (b"lines.txt/below", 100, Seen::Failed),
+            (b"\xff", 100, Seen::Failed),
         ];
         for (name, max, expected) in reads {
             let found = texts.read(rt.alloc(), name, max);
-            assert_eq!(rt; shown(&found), expected, "{name:?} up to {max}");
+            assert_eq!(rt; as_seen(&found), expected, "{name:?} up to {max}");
         }
         fs::remove_file(&rt, "lines.txt")?;
         fs::remove_file(&rt, "empty.txt")?;

@@ -27,7 +27,7 @@ impl<T: Drop> From<Back<T>> for NoMemory {
     }
 }
 
-/// Memory was refused, and the item comes back.
+/// What a list had no room for.
 #[derive(Debug, Drop)]
 pub struct Back<T> {
     pub item: T,

@@ -144,7 +144,7 @@ fn place_of(names: &[Bytes], name: &[u8]) -> Option<usize>
 #[cfg(test)]
 mod tests {
     use super::*;
-    use crate::texts::shown;
+    use crate::texts::{Seen, as_seen};
     use std::test::Fail;
 
     fn lists(alloc: Global, items: &[&[u8]]) -> Result<List<Bytes>, NoMemory> {
@@ -162,19 +162,19 @@ mod tests {
         let texts = lists(alloc, &[b"{}", b"", b"x\ny\n"])?;
         assert!(rt; MemoryTexts::are_named(&names, &texts));
         let mut held = MemoryTexts::new(names, texts, List::from_slice(alloc, &[2, 4])?);
-        let reads: [(&[u8], u64, &[u8]); 8] = [
-            (b"t", 4, b"x\ny\n"),
-            (b"t", 3, b"longer"),
-            (b"t", 4, b"failed"),
-            (b"e", 0, b""),
-            (b"q", 4, b"failed"),
-            (b"q", 4, b"missing"),
-            (b"", 4, b"missing"),
-            (b"g", u64::MAX, b"{}"),
+        let reads: [(&[u8], u64, Seen<'_>); 8] = [
+            (b"t", 4, Seen::Text(b"x\ny\n")),
+            (b"t", 3, Seen::Longer),
+            (b"t", 4, Seen::Failed),
+            (b"e", 0, Seen::Text(b"")),
+            (b"q", 4, Seen::Failed),
+            (b"q", 4, Seen::Missing),
+            (b"", 4, Seen::Missing),
+            (b"g", u64::MAX, Seen::Text(b"{}")),
         ];
         for (call, (name, max, expected)) in reads.iter().enumerate() {
             let found = held.read(alloc, name, *max);
-            assert_eq!(rt; shown(&found), *expected, "call {call}");
+            assert_eq!(rt; as_seen(&found), *expected, "call {call}");
         }
         Ok(())
     }

@@ -30,7 +30,7 @@ pub trait Sink {
     /// How often the sink has failed. It never falls.
     ghost faults: { Self → ℕ };
 
-    /// Takes the piece. A sink that takes nothing of a piece that isn't empty has failed.
+    /// Takes the whole piece, or answers an error; an `Ok` that left bytes out doesn't come.
     fn put(&mut self, piece: &[u8]) -> Result<(), SinkFault>
         ensures ok { OnOk result (Took (taken self.old) (taken self.new) piece.now) }
         ensures err { OnErr result (TookFront (taken self.old) (taken self.new) piece.now) }

@@ -1,5 +1,5 @@
 // The standard streams as sinks. What a stream shows is told by no contract.
-ghost use Rattle.std.specs.Prelude.{◌≡◌, ◌<◌, ◌≤◌, IsErrOf, None, OnOk};
+ghost use Rattle.std.specs.Prelude.{◌≡◌, ◌<◌, ◌≤◌, ◌+◌, ◌-◌, ◌^◌, IsErrOf, None, OnOk};
 ghost use Rattle.std.specs.Io.KnownBytes.{Appends};
 
 use crate::{Sink, SinkFault};
@@ -8,8 +8,10 @@ use std::marker::Model;
 
 /// A runtime that has the standard streams to write on.
 pub trait StandardStreams {
+    /// Standard output.
     fn output(&self) -> Stdout;
 
+    /// Standard error.
     fn error(&self) -> Stderr;
 }
 
@@ -76,6 +78,10 @@ impl<W: Write> Sink for StdSink<W> {
         ensures written { OnOk result (Appends (W.contents self.old.stream) (W.contents self.new.stream) piece.now) }
         ensures cause { IsErrOf result SinkFault.Failed → self.old.faults < self.new.faults }
         ensures no_fewer { self.old.faults ≤ self.new.faults }
+        ensures counted { IsErrOf result SinkFault.Failed → self.new.faults ≡ self.old.faults + 1 }
+        ensures ok_counts { OnOk result (self.new.faults ≡ self.old.faults) }
+        ensures full { IsErrOf result SinkFault.NoMemory →
+            (self.old.faults ≡ 2 ^ 64 - 1) × (self.new ≡ self.old) }
     {
         if self.faults == u64::MAX {
             return Err(SinkFault::NoMemory);

@@ -22,7 +22,7 @@ pub enum Found {
 pub enum TextsFault {
     /// The source failed, and its count of faults has risen.
     Failed,
-    /// Memory was refused. The count of faults may have stayed.
+    /// Memory was refused. What is held stays, and the count of faults has not fallen.
     NoMemory,
 }
 
@@ -51,14 +51,24 @@ pub trait Texts {
         ensures no_fewer { faults self.old ≤ faults self.new };
 }
 
-// What a read found, in words.
+// What a read answered, to be compared.
 #[cfg(test)]
-pub(crate) fn shown(found: &Result<Found, TextsFault>) -> &[u8] {
+#[derive(Clone, Copy, Debug, PartialEq, Eq)]
+pub(crate) enum Seen<'t> {
+    Text(&'t [u8]),
+    Missing,
+    Longer,
+    Failed,
+    NoMemory,
+}
+
+#[cfg(test)]
+pub(crate) fn as_seen(found: &Result<Found, TextsFault>) -> Seen<'_> {
     match found {
-        Ok(Found::Text(text)) => text.as_slice(),
-        Ok(Found::Missing) => b"missing",
-        Ok(Found::Longer) => b"longer",
-        Err(TextsFault::Failed) => b"failed",
-        Err(TextsFault::NoMemory) => b"no memory",
+        Ok(Found::Text(text)) => Seen::Text(text.as_slice()),
+        Ok(Found::Missing) => Seen::Missing,
+        Ok(Found::Longer) => Seen::Longer,
+        Err(TextsFault::Failed) => Seen::Failed,
+        Err(TextsFault::NoMemory) => Seen::NoMemory,
     }
 }
