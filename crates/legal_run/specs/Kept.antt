@@ -14,6 +14,10 @@ use Rattle.legal_run.specs.Complete.{is_limited, least}
 use Rattle.legal_run.specs.ShapeLegal.{ShapeLegal, MeetsDataRule}
 use Rattle.legal_run.specs.Waiting.{waiting}
 
+-- the most starts that a run may have
+abbrev pub most_starts : ℕ
+most_starts = 2097153
+
 -- the list has the values of f at 0, 1 and so on below n
 pub record Tells {X : Type 0} (f : ℕ → X) (xs : List X) (n : ℕ) : Type 0 where
   pub len : length xs ≡ n
@@ -37,7 +41,7 @@ pub record Waits (net : NetRows) (journal : List Entry) (e : ℕ) : Type 0 where
 pub record AreKept (net : NetRows) (limit : ℕ) (journal : List Entry) (flags : List Bool) (counts : Tallies) (made : ℕ) : Type 0 where
   pub rows : IsNet net
   pub plain : IsPlainNet net
-  pub limited : limit ≤ 2097153
+  pub limited : limit ≤ most_starts
   pub legal : ShapeLegal net limit journal
   pub meets_data : MeetsDataRule net journal
   pub waits : (e : ℕ) → Waits net journal e

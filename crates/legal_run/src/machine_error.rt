@@ -13,7 +13,7 @@ pub enum MachineError {
     NoUnit(u32),
     /// All the starts that the run may have are made.
     AtLimit,
-    /// No open start stands at that place.
+    /// That place has no start, or its start is closed.
     NotOpen,
     /// The edges given don't fit the shape of the task, or only a nested task may end so.
     NotChosen,

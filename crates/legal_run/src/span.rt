@@ -5,7 +5,10 @@
 pub struct Span {
     /// How many runs the run stands in: 0 for one that stands in none.
     pub depth: u32,
+    /// The task that started.
     pub task: u32,
+    /// The place of the Start.
     pub start: u64,
+    /// The place of the End or Fault.
     pub end: u64,
 }

@@ -28,7 +28,7 @@ pub enum BuildError {
     ZeroCount,
     /// This semaphore stands twice in one list.
     Repeated(u32),
-    /// An edge out of a task that chooses its successors begins without a token.
+    /// An edge out of a task that chooses its successors was to begin with a token.
     WeakStart,
     /// So many of the kind stand already, and no more may.
     TooMany(u32),

@@ -8,15 +8,19 @@ use crate::side::Side;
 use outside_io::NoMemory;
 use std::alloc::Global;
 
+/// For each task its out-edges, its strong in-edges and its weak in-edges.
 #[derive(Drop)]
 pub struct EdgeIndex {
+    /// The edges out of a task.
     pub out: Groups,
+    /// The strong edges into it.
     pub strong: Groups,
+    /// The weak edges into it.
     pub weak: Groups,
 }
 
 impl EdgeIndex {
-    // An index without room. It takes no memory.
+    /// An index without room. It takes no memory.
     pub fn new(alloc: Global) -> EdgeIndex
         ensures { HasRoomFor result 0 0 }
     {
@@ -27,8 +31,8 @@ impl EdgeIndex {
         }
     }
 
-    // Takes the memory for the lists of so many tasks and edges. After an `Err` the room that there was is
-    // still there.
+    /// Takes the memory for the lists of so many tasks and edges. After an `Err` the room that there was is
+    /// still there.
     pub fn make_room(&mut self, tasks: usize, edges: usize) -> Result<(), NoMemory>
         requires few { tasks < 2 ^ 63 }
         ensures ok { OnOk result (HasRoomFor self.new tasks edges) }
@@ -39,7 +43,7 @@ impl EdgeIndex {
         self.weak.make_room(tasks, edges)
     }
 
-    // Lists the edges of each task.
+    /// Lists the edges of each task.
     pub fn fill(&mut self, tasks: &[TaskRow], edges: &[EdgeRow])
         requires room { HasRoomFor self.old (length tasks.now) (length edges.now) }
         requires ends { All (EndsIn tasks.now) edges.now }

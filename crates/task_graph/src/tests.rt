@@ -14,9 +14,9 @@ fn add_task(builder: &mut NetBuilder, alloc: Global) -> Result<u32, BuildError> 
 // Three tasks, and an edge from the first to the second twice, with one from the second to the third between.
 fn double_edge(alloc: Global) -> Result<Net, BuildError> {
     let mut builder = NetBuilder::new(alloc);
-    for _ in 0..3 {
-        add_task(&mut builder, alloc)?;
-    }
+    add_task(&mut builder, alloc)?;
+    add_task(&mut builder, alloc)?;
+    add_task(&mut builder, alloc)?;
     for (from, to) in [(0, 1), (1, 2), (0, 1)] {
         builder.edge(from, to, false)?;
     }
