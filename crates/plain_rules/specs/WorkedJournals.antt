@@ -112,6 +112,16 @@ stuck_run = source_run [] ++ Drop 1 Source (Stuck 0) ∷ []
 abbrev pub over_run : List Entry
 over_run = Start 0 Source [] ∷ Fault 0 (OverRelease 0) ∷ []
 
+-- on `putter_and_taker_net`: before the taker ended, no unit stood for the putter
+abbrev pub over_before_run : List Entry
+over_before_run = Start 0 Source [] ∷ Start 1 Source [] ∷ End 1 [] false ∷ Fault 0 (OverRelease 0) ∷ []
+
+-- on `putters_and_taker_net`: one unit for two putters, of which the other gives it back
+abbrev pub over_beside_run : List Entry
+over_beside_run =
+    Start 2 Source [] ∷ End 0 [] false ∷ Start 0 Source [] ∷ Start 1 Source [] ∷ End 2 [] false
+    ∷ Fault 3 (OverRelease 0) ∷ []
+
 -- why a start faults in these journals
 abbrev pub long : Why
 long = Long 20000000

@@ -107,6 +107,18 @@ takers_and_free_net = record {
 abbrev pub putter_net : NetRows
 putter_net = record { tasks = bound [] (0 ∷ []) ∷ []; edges = []; sems = 1 ∷ [] }
 
+-- Task 0 puts a unit of semaphore 0, and task 1 takes one.
+abbrev pub putter_and_taker_net : NetRows
+putter_and_taker_net = record { tasks = bound [] (0 ∷ []) ∷ bound (0 ∷ []) [] ∷ []; edges = []; sems = 1 ∷ [] }
+
+-- Tasks 0 and 1 put a unit of semaphore 0 each, and task 2 takes one.
+abbrev pub putters_and_taker_net : NetRows
+putters_and_taker_net = record {
+  tasks = bound [] (0 ∷ []) ∷ bound [] (0 ∷ []) ∷ bound (0 ∷ []) [] ∷ [];
+  edges = [];
+  sems = 1 ∷ [];
+}
+
 -- two tasks without edges
 abbrev pub apart_net : NetRows
 apart_net = record { tasks = free Plain ∷ free Plain ∷ []; edges = []; sems = [] }

@@ -38,4 +38,7 @@ pub use refused::{
 };
 pub use release::{is_released, meets_release_rule};
 pub use units::{has_unit, is_over_release, meets_semaphore_rule};
-pub use worked::{choosing_runs, dropped_runs, kept_runs, routed_run, strong_runs, unit_runs};
+pub use worked::{
+    choosing_runs, chosen_by_indices, dropped_runs, kept_runs, over_runs, routed_run, strong_runs,
+    unit_runs, what_waits,
+};

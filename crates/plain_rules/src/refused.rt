@@ -1,4 +1,5 @@
-// Entries that may not follow a worked journal, each with the one rule that it breaks.
+// Entries that may not follow a worked journal, each with the rule that it is to break; but for four numbers
+// out of range it breaks no other.
 ghost use Rattle.std.specs.Prelude.{true, false, [], ◌∷◌, ◌++◌};
 ghost use Rattle.legal_run.specs.declared.entry.Cause.TheVariants.{Source, Strong, Weak};
 ghost use Rattle.legal_run.specs.declared.entry.Part.TheVariants.{From, First, Nothing};
@@ -65,6 +66,7 @@ pub fn over_units()
     ensures not_over { Breaks Units across_net 10 across_front (Fault 2 (OverRelease 0)) }
     ensures not_put { Breaks Units across_net 10 (Start 0 Source [] ∷ [])
         (Fault 0 (OverRelease 0)) }
+    ensures own_unit { Breaks Units one_unit_net 10 one_unit_front (Fault 2 (OverRelease 0)) }
 {}
 
 /// Starts past the limit, and Drops whose cause isn't there.
