@@ -13,6 +13,7 @@ type Answer = Result<u64, MachineError>;
 struct Given<'e> {
     tasks: u32,
     edges: &'e [(u32, u32)],
+    // 16 bits keep it below `MAX_LIMIT`.
     limit: u16,
 }
 

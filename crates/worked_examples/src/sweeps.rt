@@ -15,6 +15,7 @@ use task_graph::Net;
 struct Sweep<'e> {
     tasks: u32,
     edges: &'e [(u32, u32)],
+    // 16 bits keep it below `MAX_LIMIT`.
     limit: u16,
     entries: usize,
     is_at_rest: bool,
@@ -70,7 +71,7 @@ fn run_sweep(rt: &impl Abort, alloc: Global, sweep: &Sweep<'_>) -> Result<(usize
     let net = plain_net(alloc, sweep.tasks, sweep.edges)?;
     let limit = sweep.limit as u64;
     let mut machine = Machine::new(alloc, net.clone()?, limit)?;
-    // Each round but the last takes a step, and no net here has more than eight.
+    // No net here has more than eight steps, and each round takes one where one is left.
     for _ in 0..10 {
         ask_starts(rt, alloc, &net, limit, &mut machine)?;
         ask_ends(rt, alloc, &net, limit, &mut machine)?;
@@ -133,15 +134,28 @@ fn ask_end(
     start: u64,
 ) -> Result<(), NoMemory> {
     for task in 0..net.tasks().len() as u32 {
-        let gives = net.out_edges(task);
-        for inner in [true, false] {
-            let step = Step::End {
-                start,
-                gives,
-                inner,
-            };
-            let _ = compare_step(rt, alloc, net, limit, machine, step)?;
-        }
+        ask_end_as(rt, alloc, net, limit, machine, start, net.out_edges(task))?;
+    }
+    Ok(())
+}
+
+// The start at a place, with these edges, as a run of its own and not.
+fn ask_end_as(
+    rt: &impl Abort,
+    alloc: Global,
+    net: &Net,
+    limit: u64,
+    machine: &mut Machine,
+    start: u64,
+    gives: &[u32],
+) -> Result<(), NoMemory> {
+    for inner in [true, false] {
+        let step = Step::End {
+            start,
+            gives,
+            inner,
+        };
+        let _ = compare_step(rt, alloc, net, limit, machine, step)?;
     }
     Ok(())
 }
