@@ -1,0 +1,62 @@
+//! The program `flow`: the real texts, streams and watchers for `flow_run`, and its exit code.
+#![tactic(auto)]
+
+use flow_run::flow_main;
+use outside_io::{FolderTexts, NoMemory, StdSink};
+use span_profile::{SpanCount, Watch};
+use std::alloc::Global;
+use std::env;
+use std::process::ExitCode;
+
+/// How many watchers a call is handed.
+const WATCHERS: usize = 16;
+
+/// The exit code where the words or the watchers find no memory.
+const NO_MEMORY: u8 = 13;
+
+fn main(rt: HostRuntime) -> ExitCode {
+    match call(&rt) {
+        Ok(code) => ExitCode::from(code),
+        Err(NoMemory) => ExitCode::from(NO_MEMORY),
+    }
+}
+
+// Calls the program with the words after its name.
+fn call(rt: &HostRuntime) -> Result<u8, NoMemory> {
+    let words = words(rt)?;
+    let watchers = watchers(rt.alloc())?;
+    let mut texts = FolderTexts::new(rt);
+    let mut out = StdSink::out(rt);
+    let mut notes = StdSink::notes(rt);
+    let outcome = flow_main(
+        rt.alloc(),
+        words.as_slice(),
+        &mut texts,
+        &mut out,
+        &mut notes,
+        watchers,
+    );
+    Ok(outcome.status.code())
+}
+
+// The words after the program's own name.
+fn words(rt: &HostRuntime) -> Result<Vec<String>, NoMemory> {
+    let mut words = Vec::new(rt.alloc());
+    let Ok(all_words) = env::args(rt) else {
+        return Err(NoMemory);
+    };
+    for word in all_words.skip(1) {
+        words.push(word)?;
+    }
+    Ok(words)
+}
+
+// Watchers that count spans.
+fn watchers(alloc: Global) -> Result<Vec<Box<dyn Watch + Send>>, NoMemory> {
+    let mut watchers: Vec<Box<dyn Watch + Send>> = Vec::new(alloc);
+    for _seat in 0..WATCHERS {
+        let watcher: Box<dyn Watch + Send> = Box::new(alloc, SpanCount::new())?;
+        watchers.push(watcher)?;
+    }
+    Ok(watchers)
+}

@@ -1,0 +1,77 @@
+-- The report of a run, one task after another.
+use Rattle.std.proofs.Common.{append-nil, ◌≡◌, ℕ, zero, suc, ◌+◌, ◌-◌, ◌<◌, Bool, true, false, List, [], ◌∷◌, ◌++◌, length, Option, Some, None, sym, refl, ap, ◌∙◌, subst, arith, slice_index_or}
+use Rattle.std.specs.Prelude.{◌==◌, if◌then◌else◌}
+use Rattle.std.specs.List.{range_with_len, flat_map}
+use Rattle.std.specs.Option.{option_map_or, option_and_then}
+use Rattle.std.proofs.lemmas.Option.{none-some}
+use Rattle.std.proofs.lemmas.Grind.{flat_map-append}
+use Rattle.legal_run.specs.declared.entry.Entry.{Entry}
+use Rattle.run_frame.specs.declared.run.ValueRow.{ValueRow}
+use Rattle.run_frame.specs.Runs.{value_at}
+use Rattle.text_tasks.specs.declared.item.Item.{Item}
+use Rattle.outside_io.specs.Sink.{Took, TookFront}
+use Rattle.outside_io.proofs.Pieces.{whole_after_whole, front_after_whole, front_of_front}
+use Rattle.task_graph.specs.NetRows.{NetRows}
+use Rattle.run_frame.specs.NestedRule.{job_of, journal_of}
+use Rattle.run_frame.specs.declared.run.FrameRun.{FrameRun, out-FrameRun}
+use Rattle.text_tasks.specs.declared.job.TextJob.{TextJob}
+use Rattle.text_tasks.specs.JobMeaning.{net_of, names_of}
+use Rattle.flow_run.specs.Output.{ended_at, last_before, last_end, last_value, task_report, told}
+use Rattle.flow_run.proofs.EndsLemmas.{counting_more, last_before_more}
+
+-- The texts of one number more.
+pub texts_more : (text : ℕ → List ℕ) (n : ℕ) → flat_map text (range_with_len 0 (n + 1)) ≡ flat_map text (range_with_len 0 n) ++ text n
+texts_more text n =
+    ap (flat_map text) (counting_more 0 n n (omega arith))
+    ∙ flat_map-append text (range_with_len 0 n) (n ∷ [])
+    ∙ ap (λ last. flat_map text (range_with_len 0 n) ++ last) (append-nil (text n))
+
+-- A whole text more was taken.
+pub one_taken : (text : ℕ → List ℕ) (n : ℕ) (before between after : Option (List ℕ)) → Took before between (flat_map text (range_with_len 0 n)) → Took between after (text n) → Took before after (flat_map text (range_with_len 0 (n + 1)))
+one_taken text n before between after whole next = rw (texts_more text n) (whole_after_whole before between after _ _ whole next)
+
+-- A front of the first texts is a front of more of them.
+front_further : (text : ℕ → List ℕ) (n more : ℕ) (before after : Option (List ℕ)) → TookFront before after (flat_map text (range_with_len 0 n)) → TookFront before after (flat_map text (range_with_len 0 (n + more)))
+front_further text n zero before after part = let same : n ≡ n + 0 = omega arith in subst (λ k. TookFront before after (flat_map text (range_with_len 0 k))) same part
+front_further text n (suc more) before after part =
+    let same : n + more + 1 ≡ n + suc more = omega arith in
+    subst (λ k. TookFront before after (flat_map text (range_with_len 0 k))) same
+    (rw (texts_more text (n + more)) (front_of_front before after _ _ (front_further text n more before after part)))
+
+-- Where a front of one text was taken after those before it, it is a front of all texts.
+pub one_refused : (text : ℕ → List ℕ) (n all : ℕ) (before between after : Option (List ℕ)) → n < all → Took before between (flat_map text (range_with_len 0 n)) → TookFront between after (text n) → TookFront before after (flat_map text (range_with_len 0 all))
+one_refused text n all before between after inside whole part =
+    let same : n + 1 + (all - (n + 1)) ≡ all = omega arith in
+    subst (λ k. TookFront before after (flat_map text (range_with_len 0 k))) same
+    (front_further text (n + 1) (all - (n + 1)) before after (rw (texts_more text n) (front_after_whole before between after _ _ whole part)))
+
+-- The last End before a place stands before it.
+last_inside : (journal : List Entry) (t n k : ℕ) → last_before journal t n ≡ Some k → k < n
+last_inside journal t zero k is = absurd (none-some k is)
+last_inside journal t (suc n) k is =
+    let next : n + 1 ≡ suc n = omega arith in
+    by_test (option_map_or (λ task. task == t) (ended_at journal n) false) (last_before journal t n)
+    (sym (last_before_more journal t n (ended_at journal n) refl) ∙ ap (last_before journal t) next ∙ is) (last_inside journal t n k)
+  where
+    by_test : (hit : Bool) (old : Option ℕ) → (if hit then Some n else old) ≡ Some k → (old ≡ Some k → k < n) → k < suc n
+    by_test true old is inside = let same : n ≡ k = ap (λ o. option_map_or (λ place. place) o n) is in omega arith
+    by_test false old is inside = omega (arith, inside is)
+
+-- Values that are held by place give the last value of a task.
+pub value_found : (journal : List Entry) (values : List (ValueRow Item)) (t : ℕ) (held : ℕ → Option Item) → ((n : ℕ) → n < length journal → held n ≡ value_at values n) → option_and_then held (last_end journal t) ≡ last_value journal values t
+value_found journal values t held each = by_end (last_end journal t) (λ n is. each n (last_inside journal t (length journal) n is))
+  where
+    by_end : (end : Option ℕ) → ((n : ℕ) → end ≡ Some n → held n ≡ value_at values n) → option_and_then held end ≡ option_and_then (value_at values) end
+    by_end None same = refl
+    by_end (Some n) same = same n refl
+
+-- What the looked-up parts of a task's report come to is what the report tells of it.
+pub told_is : (run : FrameRun TextJob Item) (net : NetRows) (t : ℕ) (name : List ℕ) (end : Option ℕ) (held : ℕ → Option Item) (value : Option Item)
+    → net ≡ net_of (job_of run) → name ≡ slice_index_or (names_of (job_of run)) t [] → end ≡ last_end (journal_of run) t
+    → ((n : ℕ) → n < length (journal_of run) → held n ≡ value_at (out-FrameRun TextJob Item run).values n) → value ≡ option_and_then held end
+    → task_report net t name value ≡ told (names_of (job_of run)) (net_of (job_of run)) (journal_of run) (out-FrameRun TextJob Item run).values t
+told_is run net t name end held value net_is name_is end_is each value_is =
+    ap (λ n. task_report n t name value) net_is
+    ∙ ap (λ n. task_report (net_of (job_of run)) t n value) name_is
+    ∙ ap (task_report (net_of (job_of run)) t (slice_index_or (names_of (job_of run)) t []))
+    (value_is ∙ ap (option_and_then held) end_is ∙ value_found (journal_of run) (out-FrameRun TextJob Item run).values t held each)

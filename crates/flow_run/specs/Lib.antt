@@ -1,0 +1,10 @@
+pub mod Taking
+pub mod UnderWay
+pub mod Sources
+pub mod OneThread
+pub mod Codes
+pub mod Words
+pub mod Requests
+pub mod Output
+pub mod Notes
+pub mod Answers

@@ -1,0 +1,54 @@
+-- The line that a status puts on the notes, as bytes.
+use Rattle.std.specs.Prelude.{ℕ, List, [], ◌++◌, codes, decimal}
+use Rattle.graph_file.specs.declared.refusals.Spot.{Spot}
+use Rattle.graph_file.specs.declared.refusals.Spot.TheVariants.{File, Sem, Task, Module, ModuleSem, ModuleTask}
+use Rattle.graph_file.specs.declared.refusals.Kind.{Kind}
+use Rattle.graph_file.specs.declared.refusals.Kind.TheVariants as kind
+use Rattle.graph_file.specs.declared.refusals.GraphError.{GraphError}
+use Rattle.graph_file.specs.declared.refusals.GraphError.TheVariants as error
+use Rattle.flow_run.specs.declared.status.Status.{Status}
+use Rattle.flow_run.specs.declared.status.Status.TheVariants.{Done, BadWords, BadGraph, NoSource, NoText, LongText, ReadFault, WriteFault, NoMemory}
+
+-- A place in a graph file, with its numbers in decimal.
+abbrev pub spot_text : Spot → List ℕ
+spot_text File = codes "file"
+spot_text (Sem sem) = codes "semaphore " ++ decimal sem
+spot_text (Task task) = codes "task " ++ decimal task
+spot_text (Module place) = codes "module " ++ decimal place
+spot_text (ModuleSem place sem) = codes "module " ++ decimal place ++ codes " semaphore " ++ decimal sem
+spot_text (ModuleTask place task) = codes "module " ++ decimal place ++ codes " task " ++ decimal task
+
+-- The plural of what there are too many of.
+abbrev pub kind_text : Kind → List ℕ
+kind_text kind.Tasks = codes "tasks"
+kind_text kind.Edges = codes "edges"
+kind_text kind.Semaphores = codes "semaphores"
+kind_text kind.Modules = codes "modules"
+kind_text kind.Depth = codes "depth"
+kind_text kind.Texts = codes "texts"
+
+-- Why the bytes are no graph file. The field stands in it as it is.
+abbrev pub graph_error_text : GraphError → List ℕ
+graph_error_text error.NotJson = codes "not JSON"
+graph_error_text (error.BadField spot field) = codes "bad field " ++ field ++ codes " in " ++ spot_text spot
+graph_error_text (error.NoSuchName spot field) = codes "no such name in " ++ field ++ codes " of " ++ spot_text spot
+graph_error_text (error.Repeated spot field) = codes "repeated name in " ++ field ++ codes " of " ++ spot_text spot
+graph_error_text (error.TooMany much) = codes "too many " ++ kind_text much
+graph_error_text error.NoMemory = codes "no memory"
+
+-- Where a source is missing. The graph itself needs no word.
+abbrev pub within_text : Spot → List ℕ
+within_text File = []
+within_text spot = codes " in " ++ spot_text spot
+
+-- The whole line with its end, or no byte where all was done. A name stands in it as it is.
+abbrev pub note_line : Status → List ℕ
+note_line Done = []
+note_line BadWords = codes "flow: bad words\n"
+note_line (BadGraph why) = codes "flow: bad graph: " ++ graph_error_text why ++ codes "\n"
+note_line (NoSource spot) = codes "flow: no source" ++ within_text spot ++ codes "\n"
+note_line (NoText name) = codes "flow: no text " ++ name ++ codes "\n"
+note_line (LongText name) = codes "flow: text too long " ++ name ++ codes "\n"
+note_line (ReadFault name) = codes "flow: read fault on " ++ name ++ codes "\n"
+note_line WriteFault = codes "flow: write fault\n"
+note_line NoMemory = codes "flow: no memory\n"

@@ -1,0 +1,20 @@
+//! The top call of the program: from the words, the texts and the streams that are handed in to a status.
+//!
+//! The layer above sees `flow_main` and its `Outcome`. The definitions stand in `specs/`: `Words` says which words
+//! ask for what, `Requests` what a graph file asks for and why a call stops before its run, `Output` what the
+//! report of a run is, `Notes` the line of a status, and `Answers` how a call ends.
+#![tactic(auto)]
+
+mod call;
+mod carried;
+mod last_ends;
+mod note;
+mod one_thread;
+mod prepare;
+mod report;
+mod status;
+mod words;
+
+pub use call::{Outcome, flow_main};
+pub use prepare::{FILE_LIMIT, START_LIMIT, TEXT_LIMIT};
+pub use status::{Noted, Status};

@@ -1,0 +1,222 @@
+// The one line that a status puts on the notes.
+ghost use Rattle.std.specs.Prelude.{◌≡◌, ◌<◌, ◌≤◌, ◌++◌, codes, decimal, IfOk, OnOk};
+ghost use Rattle.outside_io.specs.Sink.{Took, TookFront};
+ghost use Rattle.flow_run.specs.Notes.{graph_error_text, kind_text, note_line, spot_text, within_text};
+ghost use Rattle.flow_run.specs.declared.status.Noted.TheVariants as noted;
+ghost use Rattle.flow_run.specs.declared.status.Status.TheVariants.{Done};
+
+use super::status::{Noted, Status};
+use graph_file::{GraphError, Kind, Spot};
+use itoa::Buffer;
+use outside_io::{Bytes, List, NoMemory, Sink, SinkFault};
+use std::alloc::Global;
+
+/// Puts the line of a status on the notes, by one put. Where all was done there is no line, and nothing is put.
+/// After a fault the notes took a front of the line; where memory was refused they took nothing.
+pub fn put_note<N: Sink>(alloc: Global, notes: &mut N, status: &Status) -> Noted
+    ensures whole { result ≡ noted.Whole
+        → Took (N.taken notes.old) (N.taken notes.new) (note_line status.now) }
+    ensures front { result ≡ noted.Fault
+        → TookFront (N.taken notes.old) (N.taken notes.new) (note_line status.now) }
+    ensures cause { result ≡ noted.Fault → N.faults notes.old < N.faults notes.new }
+    ensures no_memory { result ≡ noted.NoMemory → N.taken notes.new ≡ N.taken notes.old }
+    ensures no_fewer { N.faults notes.old ≤ N.faults notes.new }
+    ensures done { status.now ≡ Done → result ≡ noted.Whole }
+    ensures untouched { status.now ≡ Done → notes.new ≡ notes.old }
+{
+    if let Status::Done = status {
+        return Noted::Whole;
+    }
+    let Ok(line) = line_of(alloc, status) else {
+        return Noted::NoMemory;
+    };
+    match notes.put(line.as_slice()) {
+        Ok(()) => Noted::Whole,
+        Err(SinkFault::Failed) => Noted::Fault,
+        Err(SinkFault::NoMemory) => Noted::NoMemory,
+    }
+}
+
+fn line_of(alloc: Global, status: &Status) -> Result<Bytes, NoMemory>
+    ensures { IfOk result (λ line. line ≡ note_line status.now) }
+{
+    match status {
+        Status::Done => Ok(List::new(alloc)),
+        Status::BadWords => List::from_slice(alloc, b"flow: bad words\n"),
+        Status::BadGraph(error) => bad_graph(alloc, error),
+        Status::NoSource(spot) => no_source(alloc, *spot),
+        Status::NoText(name) => of_name(alloc, b"flow: no text ", name),
+        Status::LongText(name) => of_name(alloc, b"flow: text too long ", name),
+        Status::ReadFault(name) => of_name(alloc, b"flow: read fault on ", name),
+        Status::WriteFault => List::from_slice(alloc, b"flow: write fault\n"),
+        Status::NoMemory => List::from_slice(alloc, b"flow: no memory\n"),
+    }
+}
+
+fn bad_graph(alloc: Global, error: &GraphError) -> Result<Bytes, NoMemory>
+    ensures { IfOk result (λ line.
+        line ≡ codes "flow: bad graph: " ++ graph_error_text error.now ++ codes "\n") }
+{
+    let mut line = List::from_slice(alloc, b"flow: bad graph: ")?;
+    add_graph_error(&mut line, error)?;
+    line.push(b'\n')?;
+    Ok(line)
+}
+
+fn no_source(alloc: Global, spot: Spot) -> Result<Bytes, NoMemory>
+    ensures { IfOk result (λ line.
+        line ≡ codes "flow: no source" ++ within_text spot ++ codes "\n") }
+{
+    let mut line = List::from_slice(alloc, b"flow: no source")?;
+    add_within(&mut line, spot)?;
+    line.push(b'\n')?;
+    Ok(line)
+}
+
+// The line that says this of the text of that name.
+fn of_name(alloc: Global, what: &[u8], name: &Bytes) -> Result<Bytes, NoMemory>
+    ensures { IfOk result (λ line. line ≡ what.now ++ name.now ++ codes "\n") }
+{
+    let mut line = List::new(alloc);
+    add_around(&mut line, what, name, b"\n")?;
+    Ok(line)
+}
+
+fn add_within(line: &mut Bytes, spot: Spot) -> Result<(), NoMemory>
+    ensures { OnOk result (line.new ≡ line.old ++ within_text spot) }
+{
+    if let Spot::File = spot {
+        return Ok(());
+    }
+    line.add_all(b" in ")?;
+    add_spot(line, spot)
+}
+
+fn add_graph_error(line: &mut Bytes, error: &GraphError) -> Result<(), NoMemory>
+    ensures { OnOk result (line.new ≡ line.old ++ graph_error_text error.now) }
+{
+    match error {
+        GraphError::NotJson => line.add_all(b"not JSON"),
+        GraphError::BadField(spot, field) => add_field(line, b"bad field ", field, b" in ", *spot),
+        GraphError::NoSuchName(spot, field) => add_field(
+            line,
+            b"no such name in ",
+            field,
+            b" of ",
+            *spot,
+        ),
+        GraphError::Repeated(spot, field) => add_field(
+            line,
+            b"repeated name in ",
+            field,
+            b" of ",
+            *spot,
+        ),
+        GraphError::TooMany(kind) => {
+            line.add_all(b"too many ")?;
+            line.add_all(plural_of(*kind))
+        }
+        GraphError::NoMemory => line.add_all(b"no memory"),
+    }
+}
+
+// Adds what is wrong with a field and where it stands.
+fn add_field(
+    line: &mut Bytes,
+    what: &[u8],
+    field: &Bytes,
+    link: &[u8],
+    spot: Spot,
+) -> Result<(), NoMemory>
+    ensures { OnOk result (line.new
+        ≡ line.old ++ (what.now ++ field.now ++ link.now ++ spot_text spot)) }
+{
+    add_around(line, what, field, link)?;
+    add_spot(line, spot)
+}
+
+// Adds a name as it is, between two texts.
+fn add_around(line: &mut Bytes, before: &[u8], name: &Bytes, after: &[u8]) -> Result<(), NoMemory>
+    ensures { OnOk result (line.new ≡ line.old ++ before.now ++ name.now ++ after.now) }
+{
+    line.add_all(before)?;
+    line.add_all(name.as_slice())?;
+    line.add_all(after)
+}
+
+fn add_spot(line: &mut Bytes, spot: Spot) -> Result<(), NoMemory>
+    ensures { OnOk result (line.new ≡ line.old ++ spot_text spot) }
+{
+    match spot {
+        Spot::File => line.add_all(b"file"),
+        Spot::Sem(sem) => add_numbered(line, b"semaphore ", sem),
+        Spot::Task(task) => add_numbered(line, b"task ", task),
+        Spot::Module(module) => add_numbered(line, b"module ", module),
+        Spot::ModuleSem(module, sem) => {
+            add_numbered(line, b"module ", module)?;
+            add_numbered(line, b" semaphore ", sem)
+        }
+        Spot::ModuleTask(module, task) => {
+            add_numbered(line, b"module ", module)?;
+            add_numbered(line, b" task ", task)
+        }
+    }
+}
+
+// Adds a word and, in decimal, a number.
+fn add_numbered(line: &mut Bytes, word: &[u8], number: u32) -> Result<(), NoMemory>
+    ensures { OnOk result (line.new ≡ line.old ++ word.now ++ decimal number) }
+{
+    let mut digits = Buffer::new();
+    line.add_all(word)?;
+    line.add_all(digits.format(number).as_bytes())
+}
+
+fn plural_of(kind: Kind) -> &'static [u8]
+    ensures { result.now ≡ kind_text kind }
+{
+    match kind {
+        Kind::Tasks => b"tasks",
+        Kind::Edges => b"edges",
+        Kind::Semaphores => b"semaphores",
+        Kind::Modules => b"modules",
+        Kind::Depth => b"depth",
+        Kind::Texts => b"texts",
+    }
+}
+
+#[cfg(test)]
+mod tests {
+    use super::*;
+    use outside_io::{FailAt, MemorySink};
+    use std::test::Fail;
+
+    #[test]
+    fn puts_the_line_and_for_done_nothing(rt: HostRuntime) -> Result<(), Fail> {
+        let mut notes = MemorySink::new(rt.alloc(), List::new(rt.alloc()));
+        assert_eq!(rt;
+            put_note(rt.alloc(), &mut notes, &Status::Done),
+            Noted::Whole
+        );
+        let field = List::from_slice(rt.alloc(), b"sem")?;
+        let error = GraphError::NoSuchName(Spot::ModuleTask(12, 4294967295), field);
+        let status = Status::BadGraph(error);
+        assert_eq!(rt; put_note(rt.alloc(), &mut notes, &status), Noted::Whole);
+        let line = b"flow: bad graph: no such name in sem of module 12 task 4294967295\n";
+        assert_eq!(rt; notes.bytes(), line.as_slice());
+        Ok(())
+    }
+
+    #[test]
+    fn tells_a_fault(rt: HostRuntime) -> Result<(), Fail> {
+        let mut failing = List::new(rt.alloc());
+        failing.push(FailAt { call: 0, taken: 7 })?;
+        let mut notes = MemorySink::new(rt.alloc(), failing);
+        assert_eq!(rt;
+            put_note(rt.alloc(), &mut notes, &Status::WriteFault),
+            Noted::Fault
+        );
+        assert_eq!(rt; notes.bytes(), b"flow: w".as_slice());
+        Ok(())
+    }
+}

@@ -1,0 +1,183 @@
+// The report of a run: what each task that leads to no other ended with.
+ghost use Rattle.std.specs.Prelude.{◌≡◌, ◌<◌, ◌≤◌, ◌++◌, [], None, length, IfOk, OnOk, OnErr, IsErrOf, slice_index_or, option_map};
+ghost use Rattle.std.specs.Option.{option_and_then, option_copied};
+ghost use Rattle.std.specs.Arc.{arc_value};
+ghost use Rattle.outside_io.specs.Sink.{Took, TookFront};
+ghost use Rattle.flow_run.specs.Output.{ended_mark, header, outcome, task_report, report_of};
+
+use super::last_ends::{last_ends, values_by_place};
+use outside_io::{Bytes, List, NoMemory, Sink, SinkFault};
+use run_frame::{FrameRun, Job};
+use std::alloc::Global;
+use std::sync::Arc;
+use task_graph::Net;
+use text_tasks::{Item, TextJob};
+
+// The marks with which the line of a task begins that has ended, and of one that hasn't.
+const ENDED: &[u8] = b"== ";
+
+const NOT_ENDED: &[u8] = b"-- ";
+
+/// Puts on the sink what each task ended with that leads to no other: its name on a line, and its last value
+/// below it, in the order of the tasks' numbers. A task that hasn't ended has a line alone.
+///
+/// After an `Err` the sink has a front of the report.
+pub fn put_report<S: Sink>(
+    alloc: Global,
+    out: &mut S,
+    run: &FrameRun<TextJob>,
+) -> Result<(), SinkFault>
+    ensures ok { OnOk result (Took (S.taken out.old) (S.taken out.new) (report_of run.now)) }
+    ensures err { OnErr result (TookFront (S.taken out.old) (S.taken out.new) (report_of run.now)) }
+    ensures cause { IsErrOf result SinkFault.Failed → S.faults out.old < S.faults out.new }
+    ensures no_fewer { S.faults out.old ≤ S.faults out.new }
+{
+    let net = run.job.net();
+    let names = run.job.names();
+    let tasks = net.tasks().len();
+    let ends = last_ends(alloc, &run.journal, tasks)?;
+    let values = values_by_place(alloc, run.values.as_slice(), run.journal.len())?;
+    for task in 0..tasks as u32 {
+        let value = last_value(&ends, &values, task);
+        if let Err(fault) = put_task(alloc, out, net, task, name_of(names, task), value) {
+            return Err(fault);
+        }
+    }
+    Ok(())
+}
+
+// The name of a task.
+fn name_of(names: &[Bytes], task: u32) -> &[u8]
+    ensures { result.now ≡ slice_index_or names.now task [] }
+{
+    match names.get(task as usize) {
+        Some(name) => name.as_slice(),
+        None => &[],
+    }
+}
+
+// The value at the place of a task's last End.
+fn last_value<'a>(
+    ends: &[Option<u64>],
+    values: &'a [Option<Arc<Item>>],
+    task: u32,
+) -> Option<&'a Item>
+    requires { task < length ends.now }
+    ensures { option_copied result
+        ≡ option_and_then (λ n. option_map arc_value (slice_index_or values.now n None)) (slice_index_or ends.now task None) }
+{
+    let place = ends[task as usize]?;
+    match values.get(place as usize) {
+        Some(Some(value)) => Some(value),
+        _ => None,
+    }
+}
+
+// Puts what is told of a task.
+#[tactic(auto, using(outside_io::proofs::Pieces::took_nothing))]
+fn put_task<S: Sink>(
+    alloc: Global,
+    out: &mut S,
+    net: &Net,
+    task: u32,
+    name: &[u8],
+    value: Option<&Item>,
+) -> Result<(), SinkFault>
+    requires { task < length net.now.tasks }
+    ensures ok { OnOk result (Took (S.taken out.old) (S.taken out.new) (task_report net.now task name.now (option_copied value.entry))) }
+    ensures err { OnErr result (TookFront (S.taken out.old) (S.taken out.new) (task_report net.now task name.now (option_copied value.entry))) }
+    ensures cause { IsErrOf result SinkFault.Failed → S.faults out.old < S.faults out.new }
+    ensures no_fewer { S.faults out.old ≤ S.faults out.new }
+{
+    if net.out_edges(task).is_empty() {
+        put_outcome(alloc, out, name, value)
+    } else {
+        Ok(())
+    }
+}
+
+// Puts a task's line, and its value below it where it has one.
+fn put_outcome<S: Sink>(
+    alloc: Global,
+    out: &mut S,
+    name: &[u8],
+    value: Option<&Item>,
+) -> Result<(), SinkFault>
+    ensures ok { OnOk result (Took (S.taken out.old) (S.taken out.new) (outcome name.now (option_copied value.entry))) }
+    ensures err { OnErr result (TookFront (S.taken out.old) (S.taken out.new) (outcome name.now (option_copied value.entry))) }
+    ensures cause { IsErrOf result SinkFault.Failed → S.faults out.old < S.faults out.new }
+    ensures no_fewer { S.faults out.old ≤ S.faults out.new }
+{
+    match value {
+        Some(item) => put_ended(alloc, out, name, item.text()),
+        None => put_header(alloc, out, NOT_ENDED, name),
+    }
+}
+
+// Puts the line of a task that has ended, and its value.
+#[tactic(auto, using(outside_io::proofs::Pieces::front_of_nothing))]
+fn put_ended<S: Sink>(alloc: Global, out: &mut S, name: &[u8], text: &[u8]) -> Result<(), SinkFault>
+    ensures ok { OnOk result (Took (S.taken out.old) (S.taken out.new) (header ended_mark name.now ++ text.now)) }
+    ensures err { OnErr result (TookFront (S.taken out.old) (S.taken out.new) (header ended_mark name.now ++ text.now)) }
+    ensures cause { IsErrOf result SinkFault.Failed → S.faults out.old < S.faults out.new }
+    ensures no_fewer { S.faults out.old ≤ S.faults out.new }
+{
+    let line = header_line(alloc, ENDED, name)?;
+    put_both(out, line.as_slice(), text)
+}
+
+// Puts a line and a value.
+#[tactic(auto, using(outside_io::proofs::Pieces::front_after_whole))]
+fn put_both<S: Sink>(out: &mut S, line: &[u8], text: &[u8]) -> Result<(), SinkFault>
+    ensures ok { OnOk result (Took (S.taken out.old) (S.taken out.new) (line.now ++ text.now)) }
+    ensures err { OnErr result (TookFront (S.taken out.old) (S.taken out.new) (line.now ++ text.now)) }
+    ensures cause { IsErrOf result SinkFault.Failed → S.faults out.old < S.faults out.new }
+    ensures no_fewer { S.faults out.old ≤ S.faults out.new }
+{
+    if let Err(fault) = out.put(line) {
+        return Err(fault);
+    }
+    put_value(out, text)
+}
+
+// Puts a mark and a name on a line.
+#[tactic(auto, using(outside_io::proofs::Pieces::front_of_nothing))]
+fn put_header<S: Sink>(
+    alloc: Global,
+    out: &mut S,
+    mark: &[u8],
+    name: &[u8],
+) -> Result<(), SinkFault>
+    ensures ok { OnOk result (Took (S.taken out.old) (S.taken out.new) (header mark.now name.now)) }
+    ensures err { OnErr result (TookFront (S.taken out.old) (S.taken out.new) (header mark.now name.now)) }
+    ensures cause { IsErrOf result SinkFault.Failed → S.faults out.old < S.faults out.new }
+    ensures no_fewer { S.faults out.old ≤ S.faults out.new }
+{
+    let line = header_line(alloc, mark, name)?;
+    out.put(line.as_slice())
+}
+
+// A line of a mark and a name.
+fn header_line(alloc: Global, mark: &[u8], name: &[u8]) -> Result<Bytes, NoMemory>
+    ensures { IfOk result (λ line. line ≡ header mark.now name.now) }
+{
+    let mut line = List::from_slice(alloc, mark)?;
+    line.add_all(name)?;
+    line.push(b'\n')?;
+    Ok(line)
+}
+
+// Puts a value, where it isn't empty.
+#[tactic(auto, using(outside_io::proofs::Pieces::took_nothing))]
+fn put_value<S: Sink>(out: &mut S, text: &[u8]) -> Result<(), SinkFault>
+    ensures ok { OnOk result (Took (S.taken out.old) (S.taken out.new) text.now) }
+    ensures err { OnErr result (TookFront (S.taken out.old) (S.taken out.new) text.now) }
+    ensures cause { IsErrOf result SinkFault.Failed → S.faults out.old < S.faults out.new }
+    ensures no_fewer { S.faults out.old ≤ S.faults out.new }
+{
+    if text.is_empty() {
+        Ok(())
+    } else {
+        out.put(text)
+    }
+}

@@ -1,0 +1,13 @@
+pub mod FieldLemmas
+pub mod EachLemmas
+pub mod ReadingLemmas
+pub mod LookupLemmas
+pub mod PlaceLemmas
+pub mod SeenLemmas
+pub mod MentionLemmas
+pub mod RuleLemmas
+pub mod NetLemmas
+pub mod TaskLemmas
+pub mod PlanLemmas
+pub mod SourceLemmas
+pub mod PlanUses

@@ -1,0 +1,65 @@
+// Why bytes are no graph file.
+ghost use Rattle.graph_file.specs.declared.refusals.GraphError.TheVariants.{NoMemory as NoMemoryOf};
+
+use outside_io::{Back, Bytes, NoMemory};
+
+/// A place in a graph file. Tasks, semaphores and modules are numbered from 0 in their lists.
+#[derive(Clone, Copy, Debug, PartialEq, Eq)]
+pub enum Spot {
+    File,
+    Sem(u32),
+    Task(u32),
+    Module(u32),
+    /// The module, and the semaphore in it.
+    ModuleSem(u32, u32),
+    /// The module, and the task in it.
+    ModuleTask(u32, u32),
+}
+
+/// What there may be too many of.
+#[derive(Clone, Copy, Debug, PartialEq, Eq)]
+pub enum Kind {
+    Tasks,
+    Edges,
+    Semaphores,
+    Modules,
+    Depth,
+    /// Different names of texts.
+    Texts,
+}
+
+/// Why bytes are no graph file.
+#[derive(Drop)]
+pub enum GraphError {
+    /// They are no JSON text in UTF-8, or one that nests too deep.
+    NotJson,
+    /// A field is missing, unknown, or has a content that it may not have.
+    BadField(Spot, Bytes),
+    /// A field has a name that nothing has.
+    NoSuchName(Spot, Bytes),
+    /// A field has a name that stands before.
+    Repeated(Spot, Bytes),
+    TooMany(Kind),
+    /// Memory was refused. It says nothing of the bytes.
+    NoMemory,
+}
+
+impl From<NoMemory> for GraphError {
+    ghost use Rattle.std.specs.Prelude.{◌≡◌};
+
+    ghost from_gives = { λ _ error. error ≡ NoMemoryOf };
+
+    fn from(_: NoMemory) -> Self {
+        GraphError::NoMemory
+    }
+}
+
+impl<T: Drop> From<Back<T>> for GraphError {
+    ghost use Rattle.std.specs.Prelude.{◌≡◌};
+
+    ghost from_gives = { λ _ error. error ≡ NoMemoryOf };
+
+    fn from(_: Back<T>) -> Self {
+        GraphError::NoMemory
+    }
+}

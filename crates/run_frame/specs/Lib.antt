@@ -1,0 +1,5 @@
+pub mod Meaning
+pub mod Runs
+pub mod WorkRule
+pub mod NestedRule
+pub mod Legal

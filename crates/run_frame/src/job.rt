@@ -1,0 +1,80 @@
+// Jobs.
+ghost use Rattle.std.specs.Prelude.{◌≡◌, ◌<◌, ◌≤◌, ℕ, List, length, map, IfOk, IfErr};
+ghost use Rattle.std.specs.Arc.{arc_value};
+ghost use Rattle.join_words.specs.Ins.{Found, parts_of, found_of};
+ghost use Rattle.run_frame.specs.Meaning.{Meaning, IsRelease, FaultAllowed, AnswerFits, IsOwnWhy};
+ghost use Rattle.legal_run.specs.declared.entry.Why.{Why};
+ghost use Rattle.run_frame.specs.declared.job.Done.{Done};
+
+use join_words::Ins;
+use legal_run::Why;
+use outside_io::List;
+use std::alloc::Global;
+use std::sync::Arc;
+use task_graph::Net;
+
+/// What has values. It names them alone, so that a run is plain data that no meaning of the job enters.
+pub trait Valued: Sized {
+    type V: Send + Sync + Drop;
+}
+
+/// Which of a task's successors an answer releases.
+#[derive(Drop)]
+pub enum Answer {
+    /// Each of them.
+    All,
+    /// None.
+    None,
+    /// Those at these indices, in the order in which the edges were added, from 0.
+    Indices(List<i64>),
+}
+
+/// What a task's work came to.
+pub enum Done<J: Valued> {
+    /// A value, and which successors go on.
+    Value(J::V, Answer),
+    /// A job to be run in its place.
+    Inner(J),
+}
+
+/// Why a task's work came to nothing.
+#[derive(Clone, Copy, Debug, PartialEq, Eq)]
+pub enum JobError {
+    /// A fault that the journal tells.
+    Fault(Why),
+    /// Memory was refused.
+    NoMemory,
+}
+
+/// A net with its work.
+pub trait Job: Valued + Send + Sync {
+    /// What jobs of this type may answer.
+    ghost meaning: { Meaning Self Self.V };
+
+    /// What holds of each job.
+    ghost keeps: { Self → Type 0 };
+
+    /// The net.
+    fn net(&self) -> &Arc<Net>
+        ensures value { arc_value result.now ≡ meaning.net self.now }
+        ensures keeps { keeps self.now };
+
+    /// How many starts a run of it may have.
+    fn limit(&self) -> u64
+        ensures value { result ≡ meaning.limit self.now }
+        ensures small { result ≤ 2097153 };
+
+    /// Does the work of a task on what it finds.
+    fn run(&self, alloc: Global, task: u32, ins: &Ins<Self::V>) -> Result<Done<Self>, JobError>
+        requires { IsRelease (meaning.net self.now) task (length (parts_of ins.now)) }
+        ensures answer { IfOk result (meaning.answers self.now task (map found_of (parts_of ins.now))) }
+        ensures fault { IfErr result (FaultAllowed meaning self.now task (map found_of (parts_of ins.now))) };
+
+    /// An answer that is allowed fits the task's shape.
+    ghost answers_fit: { (job : Self) (task : ℕ) (found : List (Found Self.V)) (done : Done Self Self.V) →
+        keeps job → meaning.answers job task found done → AnswerFits (meaning.net job) task done };
+
+    /// A fault that is allowed is the work's own: it tells neither of an inner run nor of a unit.
+    ghost faults_own: { (job : Self) (task : ℕ) (found : List (Found Self.V)) (why : Why) →
+        keeps job → meaning.faults job task found why → IsOwnWhy why };
+}

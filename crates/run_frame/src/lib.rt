@@ -1,0 +1,12 @@
+//! Jobs and their runs: what a job is, and which runs of it are legal.
+//!
+//! The layer above sees a job by its meanings (the ghost members of `Job`), and a run as plain data
+//! (`FrameRun`) with the facts `LegalRun` and `CompleteRun`. The definitions stand in `specs/`: `WorkRule`,
+//! `NestedRule`, `Legal`.
+#![tactic(auto)]
+
+mod job;
+mod run;
+
+pub use job::{Answer, Done, Job, JobError, Valued};
+pub use run::{FrameRun, InnerRow, ValueRow};
