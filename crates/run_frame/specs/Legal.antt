@@ -1,13 +1,8 @@
 -- Which runs are legal.
-use Rattle.std.specs.Prelude.{◌≡◌, ℕ, ◌<◌, List, [], map, Option}
-use Rattle.std.specs.List.{AllByRecursion}
-use Rattle.std.specs.List.Sorted.{IsStrictlyIncreasing}
-use Rattle.std.specs.Arc.{arc_value}
-use Rattle.legal_run.specs.declared.entry.Entry.{Entry}
+use Rattle.std.specs.Prelude.{ℕ, Option}
 use Rattle.legal_run.specs.Entries.{EachAfter}
 use Rattle.legal_run.specs.ShapeLegal.{ShapeLegal, MeetsDataRule}
 use Rattle.legal_run.specs.Complete.{Complete}
-use Rattle.run_frame.specs.declared.run.ValueRow.{ValueRow}
 use Rattle.run_frame.specs.declared.run.FrameRun.{FrameRun, FrameRun', out-FrameRun, Row_of-InnerRow, end_of-InnerRow, more_of-InnerRow}
 use Rattle.run_frame.specs.declared.run.InnerRow.{InnerRow, InnerRow'}
 use Rattle.run_frame.specs.Meaning.{Meaning}

@@ -6,7 +6,6 @@ use Rattle.legal_run.specs.declared.entry.Why.{Why}
 use Rattle.legal_run.specs.declared.entry.Why.TheVariants.{Long, Wide, Unmet, Inner, OverRelease}
 use Rattle.legal_run.specs.declared.entry.Entry.{Entry}
 use Rattle.legal_run.specs.declared.entry.Entry.TheVariants.{Start, End, Fault, Drop}
-use Rattle.run_frame.specs.declared.job.Done.{Done}
 use Rattle.run_frame.specs.declared.job.Done.TheVariants.{Inner as InnerJob}
 use Rattle.run_frame.specs.declared.run.ValueRow.{ValueRow}
 use Rattle.run_frame.specs.declared.run.FrameRun.{FrameRun, out-FrameRun}

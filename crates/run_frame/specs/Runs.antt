@@ -1,5 +1,5 @@
 -- Looking into a run.
-use Rattle.std.specs.Prelude.{◌≡◌, ℕ, ◌==◌, ◌+◌, List, [], ◌∷◌, map, count_by, Option, Some, None, option_map, if◌then◌else◌}
+use Rattle.std.specs.Prelude.{◌≡◌, ℕ, ◌==◌, List, [], ◌∷◌, map, count_by, Option, Some, None, if◌then◌else◌}
 use Rattle.std.specs.Arc.{arc_value}
 use Rattle.legal_run.specs.declared.entry.Part.{Part}
 use Rattle.legal_run.specs.declared.entry.Part.TheVariants.{From, First, Nothing}
@@ -9,8 +9,8 @@ use Rattle.legal_run.specs.HaltLimitStuckRule.{is_stuck}
 use Rattle.legal_run.specs.Complete.{is_limited}
 use Rattle.join_words.specs.Ins.{Found, value, first, nothing}
 use Rattle.run_frame.specs.declared.run.ValueRow.{ValueRow}
-use Rattle.run_frame.specs.declared.run.FrameRun.{FrameRun, FrameRun', out-FrameRun}
-use Rattle.run_frame.specs.declared.run.InnerRow.{InnerRow, InnerRow', out-InnerRow}
+use Rattle.run_frame.specs.declared.run.FrameRun.{FrameRun}
+use Rattle.run_frame.specs.declared.run.InnerRow.{InnerRow, out-InnerRow}
 
 -- the value at a place, where a row has it
 abbrev pub value_at : {V : Type 0} → List (ValueRow V) → ℕ → Option V

@@ -1,9 +1,7 @@
 -- What a start's work comes to, by the job's meaning.
 use Rattle.std.specs.Prelude.{◌≡◌, ℕ, Bool, true, false, List, [], Option, Some, None, length, slice_get, IsSomeAnd}
-use Rattle.task_graph.specs.NetRows.{NetRows}
 use Rattle.task_graph.specs.Net.{out_edges}
 use Rattle.task_graph.specs.Chosen.{chosen_edges}
-use Rattle.legal_run.specs.declared.entry.Part.{Part}
 use Rattle.legal_run.specs.declared.entry.Why.{Why}
 use Rattle.legal_run.specs.declared.entry.Why.TheVariants.{Long, Wide, Unmet, Inner, OverRelease}
 use Rattle.legal_run.specs.declared.entry.Entry.{Entry}
@@ -11,12 +9,11 @@ use Rattle.legal_run.specs.declared.entry.Entry.TheVariants.{Start, End, Fault, 
 use Rattle.join_words.specs.Ins.{Found}
 use Rattle.run_frame.specs.declared.job.Answer.{Answer}
 use Rattle.run_frame.specs.declared.job.Answer.TheVariants.{All, None as NoneOf, Indices}
-use Rattle.run_frame.specs.declared.job.Done.{Done}
 use Rattle.run_frame.specs.declared.job.Done.TheVariants.{Value}
 use Rattle.run_frame.specs.declared.run.ValueRow.{ValueRow}
 use Rattle.run_frame.specs.declared.run.FrameRun.{FrameRun}
 use Rattle.run_frame.specs.Meaning.{Meaning}
-use Rattle.run_frame.specs.Runs.{value_at, found_ins, inner_in}
+use Rattle.run_frame.specs.Runs.{value_at, found_ins}
 
 -- The edges that an answer gives: all out-edges in order, none, or those chosen.
 abbrev pub gives_of : List ℕ → Answer → List ℕ

@@ -1,5 +1,5 @@
 -- A task that finds one value at most gives a value: normal, and not too long.
-use Rattle.std.proofs.Common.{◌≡◌, ℕ, suc, ◌+◌, ◌<◌, ◌≤◌, Bool, true, false, cond, List, [], ◌∷◌, length, Option, Some, None, sym, refl, ap, ◌∙◌, subst, arith, get_or, decimal}
+use Rattle.std.proofs.Common.{◌≡◌, ℕ, suc, ◌+◌, ◌<◌, ◌≤◌, Bool, true, false, cond, List, [], ◌∷◌, length, Option, Some, None, sym, refl, ap, ◌∙◌, subst, arith, decimal}
 use Rattle.std.specs.Prelude.{unwrap_or, All, filter, slice_get, IsSomeAnd, ◌==◌}
 use Rattle.std.specs.List.{AllByRecursion}
 use Rattle.legal_run.specs.declared.entry.Why.{Why}
@@ -17,8 +17,8 @@ use Rattle.graph_file.specs.declared.ops.Op.TheVariants.{Read, Text as OnText}
 use Rattle.graph_file.specs.declared.ops.TextOp.{TextOp}
 use Rattle.graph_file.specs.declared.ops.TextOp.TheVariants.{Keep, Count}
 use Rattle.text_tasks.specs.declared.table.TextRow.{TextRow}
-use Rattle.text_tasks.specs.Lines.{lines_of, text_of, ended, is_normal, normal, IsNormal, occurs, line_end}
-use Rattle.text_tasks.specs.TextMeaning.{keep_meaning, count_meaning}
+use Rattle.text_tasks.specs.Lines.{lines_of, ended, is_normal, normal, IsNormal, occurs, line_end}
+use Rattle.text_tasks.specs.TextMeaning.{count_meaning}
 use Rattle.text_tasks.specs.TextTable.{text_in}
 use Rattle.text_tasks.specs.GraphWork.{GraphWork, IsWork, text_limit}
 use Rattle.text_tasks.specs.Items.{item_text}

@@ -1,12 +1,11 @@
 -- What text jobs find and give.
-use Rattle.std.proofs.Common.{◌≡◌, ◌≢◌, ◌⊎◌, inl, inr, ℕ, zero, suc, ◌+◌, ◌<◌, ◌≤◌, Bool, true, false, not, ◌&&◌, cond, eqb, List, [], ◌∷◌, ◌++◌, length, Option, Some, None, sym, refl, ap, ◌∙◌, subst, arith, get_or, map}
+use Rattle.std.proofs.Common.{◌≡◌, ◌≢◌, ℕ, suc, ◌≤◌, Bool, true, false, not, ◌&&◌, cond, List, [], ◌∷◌, length, Some, None, sym, refl, ap, ◌∙◌, arith, get_or, map}
 use Rattle.std.specs.Prelude.{slice_get, ◌==◌, All, AllPairs, if◌then◌else◌}
-use Rattle.std.specs.List.{onto_first, flat_map}
+use Rattle.std.specs.List.{onto_first}
 use Rattle.std.proofs.lemmas.Bool.{eqb-true}
-use Rattle.std.proofs.lemmas.Bool.Decides.{nat_tests}
 use Rattle.std.proofs.lemmas.List.{append-nil}
 use Rattle.task_graph.specs.NetRows.{NetRows}
-use Rattle.task_graph.specs.Places.{places, places_from}
+use Rattle.task_graph.specs.Places.{places_from}
 use Rattle.task_graph.specs.Net.{strong_in, is_weak_row}
 use Rattle.task_graph.specs.declared.net.EdgeRow.{EdgeRow}
 use Rattle.join_words.specs.declared.ins.Given.{Given}
@@ -14,7 +13,7 @@ use Rattle.join_words.specs.Ins.{found_of}
 use Rattle.graph_file.specs.declared.ops.TextOp.{TextOp}
 use Rattle.graph_file.specs.declared.ops.TextOp.TheVariants.{Keep, Count}
 use Rattle.text_tasks.specs.declared.item.Item.{Item}
-use Rattle.text_tasks.specs.Lines.{lines_of, text_of, is_normal, normal, ended, line_end}
+use Rattle.text_tasks.specs.Lines.{lines_of, is_normal, normal, ended, line_end}
 use Rattle.text_tasks.specs.JobMeaning.{found_text, text_found, text_op_value}
 
 -- one part's text is all that is found
@@ -43,6 +42,7 @@ one_place key p t n (x ∷ xs) keyed apart = by_test (p x) refl (one_place key p
         by_other : (b : Bool) → p (get_or xs k d) ≡ b → b ≡ false
         by_other false is = refl
         by_other true is = absurd (apart 0 (suc k) d (omega arith) (omega arith) (keyed x passes ∙ sym (keyed (get_or xs k d) is)))
+
     by_test : (b : Bool) → p x ≡ b → length (places_from p (suc n) xs) ≤ 1 → length (cond b (n ∷ places_from p (suc n) xs) (places_from p (suc n) xs)) ≤ 1
     by_test true passes rest = let none = no_places p (suc n) xs (others passes) in let few : length (places_from p (suc n) xs) ≡ 0 = ap length none in omega arith
     by_test false fails rest = rest

@@ -1,18 +1,16 @@
 -- The laws that text jobs keep.
-use Rattle.std.specs.Prelude.{◌≡◌, ℕ, ℤ, List, length, All, Option, Some, None, slice_get, IfSome, IsSomeAnd, refl}
+use Rattle.std.specs.Prelude.{◌≡◌, ℕ, ℤ, List, Option, Some, None, slice_get, IfSome, IsSomeAnd, refl}
 use Rattle.std.proofs.Common.{subst, sym}
 use Rattle.std.proofs.lemmas.Option.{slice_get_within, get_or_from_slice_get}
 use Rattle.task_graph.specs.Net.{IsPlainTask}
-use Rattle.task_graph.specs.declared.net.Shape.TheVariants.{Plain}
 use Rattle.task_graph.specs.declared.net.TaskRow.{TaskRow}
 use Rattle.legal_run.specs.declared.entry.Why.{Why}
 use Rattle.legal_run.specs.declared.entry.Why.TheVariants.{Long, Wide, Unmet, Inner, OverRelease}
 use Rattle.join_words.specs.Ins.{Found}
-use Rattle.run_frame.specs.declared.job.Answer.{Answer}
 use Rattle.run_frame.specs.declared.job.Answer.TheVariants.{All as Each, None as NoneOf, Indices}
 use Rattle.run_frame.specs.declared.job.Done.{Done}
 use Rattle.run_frame.specs.declared.job.Done.TheVariants.{Value, Inner as InnerJob}
-use Rattle.run_frame.specs.Meaning.{AnswerFits, FitsShape, DoneFits, IsOwnWhy}
+use Rattle.run_frame.specs.Meaning.{AnswerFits, FitsShape, IsOwnWhy}
 use Rattle.graph_file.specs.declared.ops.Op.{Op}
 use Rattle.text_tasks.specs.declared.item.Item.{Item}
 use Rattle.text_tasks.specs.declared.item.Item.TheVariants.{Text}

@@ -1,5 +1,5 @@
 -- What the tasks of graph files answer.
-use Rattle.std.specs.Prelude.{◌≡◌, ℕ, ◌<◌, ◌≤◌, List, [], ◌∷◌, ◌++◌, length, All, Option, Some, None, unwrap_or, slice_get, IsSome, IsSomeAnd}
+use Rattle.std.specs.Prelude.{◌≡◌, ℕ, ◌<◌, ◌≤◌, List, [], length, unwrap_or, slice_get, IsSomeAnd}
 use Rattle.std.specs.List.{flat_map}
 use Rattle.task_graph.specs.NetRows.{NetRows}
 use Rattle.legal_run.specs.declared.entry.Why.{Why}
@@ -11,14 +11,11 @@ use Rattle.run_frame.specs.declared.job.Done.{Done}
 use Rattle.run_frame.specs.declared.job.Done.TheVariants.{Value, Inner as InnerJob}
 use Rattle.run_frame.specs.declared.job.JobError.{JobError}
 use Rattle.run_frame.specs.declared.job.JobError.TheVariants.{Fault as FaultOf, NoMemory}
-use Rattle.run_frame.specs.declared.run.FrameRun.{FrameRun}
 use Rattle.run_frame.specs.Meaning.{Meaning}
 use Rattle.graph_file.specs.declared.ops.Op.{Op}
 use Rattle.graph_file.specs.declared.ops.Op.TheVariants.{Read, Text as OnText}
 use Rattle.graph_file.specs.declared.ops.TextOp.{TextOp}
 use Rattle.graph_file.specs.declared.ops.TextOp.TheVariants.{Keep, Count}
-use Rattle.graph_file.specs.PlanRows.{PlanRows, IsPlan}
-use Rattle.graph_file.specs.TextNames.{texts_of}
 use Rattle.text_tasks.specs.declared.item.Item.{Item}
 use Rattle.text_tasks.specs.declared.item.Item.TheVariants.{Text}
 use Rattle.text_tasks.specs.declared.table.TextRow.{TextRow}
@@ -96,13 +93,13 @@ JobFaults (Graph work) task found why = FaultsWith work task found why
 -- What text jobs may answer. No job is run inside another yet.
 abbrev pub text_job : Meaning TextJob Item
 text_job = record {
-    net = net_of;
-    limit = limit_of;
-    answers = JobAnswers;
-    faults = JobFaults;
-    gathers = λ job run item. ⊥;
-    gather_faults = λ job run why. ⊥;
-  }
+  net = net_of;
+  limit = limit_of;
+  answers = JobAnswers;
+  faults = JobFaults;
+  gathers = λ job run item. ⊥;
+  gather_faults = λ job run why. ⊥;
+}
 
 -- the fault that an error tells is one of these; want of memory is free
 abbrev pub MayFault : GraphWork → ℕ → List (Found Item) → JobError → Type 0

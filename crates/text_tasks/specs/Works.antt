@@ -9,12 +9,12 @@ use Rattle.text_tasks.specs.TextTable.{rows_of}
 
 abbrev pub work_of : Inside → GraphWork
 work_of job = record {
-    plan = plan_rows (arc_value job.plan);
-    texts = rows_of (arc_value job.texts);
-    «module» = job.«module»;
-    input = job.input;
-    limit = job.limit;
-  }
+  plan = plan_rows (arc_value job.plan);
+  texts = rows_of (arc_value job.texts);
+  «module» = job.«module»;
+  input = job.input;
+  limit = job.limit;
+}
 
 -- the work of a plan's top graph, started with the empty text
 abbrev pub first_work : PlanRows → List TextRow → ℕ → GraphWork

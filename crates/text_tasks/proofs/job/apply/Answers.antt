@@ -1,4 +1,4 @@
-use Rattle.std.proofs.Common.{◌≡◌, ◌∙◌, ap}
+use Rattle.std.proofs.Common.{◌∙◌, ap}
 use Rattle.text_tasks.specs.JobMeaning.{text_op_value}
 use Rattle.text_tasks.proofs.Jobs.{op_on_normal}
 use Rattle.text_tasks.proofs.job.apply.Goals as goal

@@ -1,4 +1,4 @@
-use Rattle.std.proofs.Common.{◌≡◌, sym, ◌∙◌, ap, Some, None}
+use Rattle.std.proofs.Common.{sym, ◌∙◌, ap, Some}
 use Rattle.std.specs.Option.{option_copied}
 use Rattle.text_tasks.specs.Items.{item_text}
 use Rattle.text_tasks.proofs.Jobs.{one_part, no_part}

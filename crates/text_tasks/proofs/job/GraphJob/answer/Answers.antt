@@ -1,4 +1,4 @@
-use Rattle.std.proofs.Common.{◌≡◌, ◌≤◌, ◌⊎◌, inl, inr, ⊎_elim, arith}
+use Rattle.std.proofs.Common.{inl, inr, arith}
 use Rattle.text_tasks.proofs.Jobs.{single_in}
 use Rattle.text_tasks.proofs.job.GraphJob.answer.Goals as goal
 
