@@ -1,5 +1,5 @@
 -- Which edges a choice gives.
-use Rattle.std.specs.Prelude.{ℕ, ℤ, pos, negsuc, Bool, not, ◌==◌, List, [], ◌∷◌, filter, Option, Some, None, slice_get}
+use Rattle.std.specs.Prelude.{ℕ, ℤ, pos, negsuc, not, ◌==◌, List, [], ◌∷◌, filter, Option, Some, None, slice_get}
 
 -- the edge at an index; no edge stands at a negative one or past the end
 abbrev pub edge_at : List ℕ → ℤ → Option ℕ
