@@ -37,7 +37,7 @@ for folder in crates/*/; do
 done
 
 # Each file of definitions is explained, and each that is named is there.
-for crate in outside_io task_graph legal_run plain_rules; do
+for crate in outside_io task_graph legal_run plain_rules join_words span_profile run_frame graph_file text_tasks flow_run; do
     for file in crates/"$crate"/specs/*.antt; do
         [[ $(basename "$file") == Lib.antt ]] && continue
         has docs/DEFINITIONS.md "\`${file#crates/}\`" || fault "docs/DEFINITIONS.md doesn't name ${file#crates/}"
@@ -62,6 +62,17 @@ done
 while read -r target; do
     grep -qE "^$target:" Makefile || fault "README.md tells 'make $target', which isn't a target"
 done < <(grep -oE '`make [a-z]+`' README.md | tr -d '`' | sed 's/make //' | sort -u || true)
+
+# Each example has a graph and what the program is to print, and README.md tells of it. What the gate runs is one.
+for folder in examples/*/; do
+    for file in graph.json expected.txt; do
+        [[ -f $folder$file ]] || fault "$folder has no $file"
+    done
+    has README.md "\`${folder%/}\`" || fault "README.md doesn't name $folder"
+done
+for pair in graph.json:data/graph.json t5.txt:data/t5.txt expected.txt:stdout; do
+    cmp -s "examples/count-lines/${pair%:*}" "crates/flow/${pair#*:}" || fault "crates/flow/${pair#*:} isn't the example's ${pair%:*}"
+done
 
 # No document names a path of one machine.
 for document in "${documents[@]}"; do
