@@ -1,20 +1,19 @@
 -- Before the first step the source tasks are ready, and nothing else is there.
-use Rattle.std.proofs.Common.{◌≡◌, ◌≢◌, ◌⊎◌, inl, inr, ℕ, zero, suc, ◌+◌, ◌<◌, ◌≤◌, Bool, true, false, cond, List, [], ◌∷◌, ◌++◌, length, Option, Some, None, sym, refl, ap, ◌∙◌, subst, arith}
+use Rattle.std.proofs.Common.{◌≡◌, ℕ, zero, suc, ◌<◌, ◌≤◌, Bool, true, false, cond, List, [], ◌∷◌, length, Option, Some, None, sym, refl, ap, ◌∙◌, subst, arith}
 use Rattle.std.specs.Prelude.{◌==◌, All, replicate, slice_get, slice_index_or, sum_by, if◌then◌else◌}
 use Rattle.std.specs.Option.{option_map_or}
-use Rattle.std.proofs.lemmas.List.{length-replicate, get_or-replicate}
+use Rattle.std.proofs.lemmas.List.{length-replicate}
 use Rattle.std.proofs.lemmas.List.Sums.{sum_by-cons}
 use Rattle.std.proofs.lemmas.Option.{slice_get_within, get_or_from_slice_get}
 use Rattle.task_graph.specs.NetRows.{NetRows}
 use Rattle.task_graph.specs.Net.{in_edges, IsPlainNet}
 use Rattle.task_graph.specs.declared.net.EdgeRow.{EdgeRow}
-use Rattle.legal_run.specs.declared.entry.Part.{Part}
-use Rattle.legal_run.specs.declared.entry.Part.TheVariants.{From, First, Nothing}
+use Rattle.legal_run.specs.declared.entry.Part.TheVariants.{First, Nothing}
 use Rattle.legal_run.specs.Waiting.{first_waiting}
 use Rattle.legal_run.proofs.NetLemmas.{plain_first_tokens}
 use Rattle.join_words.specs.declared.ins.Given.{Given}
 use Rattle.join_words.specs.declared.ins.Given.TheVariants.{Nothing as NothingGiven}
-use Rattle.join_words.specs.Ins.{Found, nothing, found_of}
+use Rattle.join_words.specs.Ins.{nothing, found_of}
 use Rattle.text_tasks.specs.declared.item.Item.{Item}
 use Rattle.text_tasks.specs.declared.job.TextJob.{TextJob}
 use Rattle.text_tasks.specs.JobMeaning.{net_of, limit_of, IsTextJob}
@@ -22,8 +21,7 @@ use Rattle.std.specs.Arc.{arc_value}
 use Rattle.flow_run.specs.declared.one_thread.OneThread.{OneThread}
 use Rattle.flow_run.specs.OneThread.{IsUnderWay}
 use Rattle.flow_run.proofs.Finished.{plan_of}
-use Rattle.text_tasks.specs.ValueTexts.{IsValueText, FindsText}
-use Rattle.text_tasks.specs.Items.{item_text}
+use Rattle.text_tasks.specs.ValueTexts.{FindsText}
 use Rattle.flow_run.specs.UnderWay.{UnderWay, Carries, started_times, times, born, flow_along, inflow}
 
 -- nothing waits at an edge that begins without a token
@@ -81,6 +79,7 @@ begun job carried ready plain none sources below =
   where
     net : NetRows
     net = net_of job
+
     found : (e : ℕ) → found_of (slice_index_or carried e NothingGiven) ≡ nothing
     found e = ap (λ cs. found_of (slice_index_or cs e NothingGiven)) none ∙ ap found_of (nothing_at NothingGiven (length net.edges) e)
 
@@ -96,8 +95,8 @@ begun_run run net ready is room same its_net its_limit its_journal carried value
       net = its_net ∙ same;
       limit = its_limit;
       under = subst (λ h. UnderWay (arc_value run.job) h run.carried.items run.values ready) (sym its_journal)
-        (subst (λ vs. UnderWay (arc_value run.job) [] run.carried.items vs ready) (sym values)
-        (begun (arc_value run.job) run.carried.items ready plan.plain (carried ∙ ap (λ (n : NetRows). replicate (length n.edges) NothingGiven) same)
+          (subst (λ vs. UnderWay (arc_value run.job) [] run.carried.items vs ready) (sym values)
+          (begun (arc_value run.job) run.carried.items ready plan.plain (carried ∙ ap (λ (n : NetRows). replicate (length n.edges) NothingGiven) same)
           (subst (λ (n : NetRows). (t : ℕ) → t < length n.tasks → times t ready ≡ born (in_edges n t)) same sources)
           (subst (λ (n : NetRows). All (λ t. t < length n.tasks) ready) same below)));
     }

@@ -1,8 +1,5 @@
 -- How a call ends that stops before its run.
-use Rattle.std.proofs.Common.{◌≡◌, ◌⊎◌, inl, inr, ℕ, List, [], refl}
-use Rattle.run_frame.specs.declared.run.FrameRun.{FrameRun}
-use Rattle.text_tasks.specs.declared.item.Item.{Item}
-use Rattle.text_tasks.specs.declared.job.TextJob.{TextJob}
+use Rattle.std.proofs.Common.{inl, inr, ℕ, List, [], refl}
 use Rattle.flow_run.specs.declared.status.Status.{Status}
 use Rattle.flow_run.specs.declared.status.Status.TheVariants.{Done, BadWords, BadGraph, NoSource, NoText, LongText, ReadFault, WriteFault, NoMemory}
 use Rattle.flow_run.specs.Requests.{Held, StopsBefore}

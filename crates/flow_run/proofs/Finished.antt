@@ -1,7 +1,7 @@
 -- A run in which no task is ready is finished, and legal.
-use Rattle.std.proofs.Common.{◌≡◌, ◌≢◌, ◌⊎◌, inl, inr, ℕ, zero, suc, ◌+◌, ◌<◌, ◌≤◌, Bool, true, false, cond, eqb, List, [], ◌∷◌, ◌++◌, length, Option, Some, None, sym, refl, ap, ◌∙◌, subst, arith, IsTrue, map, append-nil}
-use Rattle.std.specs.Prelude.{◌==◌, AllPairs, count_by}
-use Rattle.std.specs.List.{AllByRecursion, range_with_len}
+use Rattle.std.proofs.Common.{◌≡◌, ◌≢◌, ℕ, ◌<◌, true, false, List, [], ◌∷◌, ◌++◌, length, sym, refl, ap, ◌∙◌, subst, arith, IsTrue, map, append-nil}
+use Rattle.std.specs.Prelude.{AllPairs, count_by}
+use Rattle.std.specs.List.{AllByRecursion}
 use Rattle.std.proofs.lemmas.Bool.{false≢true}
 use Rattle.task_graph.specs.NetRows.{NetRows}
 use Rattle.task_graph.specs.Net.{in_edges, strong_in, is_weak, IsSource, IsPlainNet, IsNet}
@@ -17,7 +17,6 @@ use Rattle.legal_run.proofs.WaitingLemmas.{each_below}
 use Rattle.join_words.specs.declared.ins.Given.{Given}
 use Rattle.run_frame.specs.declared.run.ValueRow.{ValueRow}
 use Rattle.run_frame.specs.declared.run.FrameRun.{FrameRun, FrameRun-F, roll-FrameRun, out-FrameRun, out-roll-FrameRun, FrameRun', rolls-FrameRun', Row_of-InnerRow, end_of-InnerRow, more_of-InnerRow, items-the_row-InnerRow, items_hidden-the_row-InnerRow-0}
-
 use Rattle.run_frame.specs.declared.run.InnerRow.{InnerRow}
 use Rattle.run_frame.specs.Legal.{Legal, LegalJournal, LegalRows, CompleteRun}
 use Rattle.run_frame.specs.Runs.{inner_in}
@@ -33,11 +32,9 @@ use Rattle.text_tasks.specs.declared.item.Item.{Item}
 use Rattle.text_tasks.specs.declared.job.TextJob.{TextJob}
 use Rattle.text_tasks.specs.JobMeaning.{text_job, net_of, limit_of, IsTextJob}
 use Rattle.text_tasks.specs.declared.job.TextJob.TheVariants.{Graph}
-use Rattle.text_tasks.specs.GraphWork.{GraphWork}
-use Rattle.graph_file.specs.PlanRows.{IsPlan}
-use Rattle.flow_run.specs.UnderWay.{UnderWay, IsPlainEntry, started_times, born, inflow, none_inner}
+use Rattle.flow_run.specs.UnderWay.{UnderWay, IsPlainEntry, started_times, born, none_inner}
 use Rattle.flow_run.proofs.Flow.{count_cons, no_inflow}
-use Rattle.flow_run.proofs.Released.{OnlyEdge, only_edge, not_born, edge_given}
+use Rattle.flow_run.proofs.Released.{only_edge, not_born, edge_given}
 
 none_limited : (net : NetRows) (h : List Entry) → AllByRecursion (IsPlainEntry net) h → count_by is_limited h ≡ 0
 none_limited net [] plain = refl
@@ -62,10 +59,12 @@ complete job h carried values limit plain single under =
   where
     net : NetRows
     net = net_of job
+
     source : (t : ℕ) → t < length net.tasks → IsSource net t → used_source t h ≡ 1
     source t below is =
         let birth : born (in_edges net t) ≡ 1 = ap born is in
         omega (arith, under.account t below, under.sources_only t is, no_inflow net.edges (started_times h) t 0 is, birth)
+
     strong : (t : ℕ) → t < length net.tasks → strong_in net t ≢ [] → used t h ≡ least (map (λ e. given net e h) (strong_in net t))
     strong t below some =
         let o = only_edge net t single some in
@@ -112,7 +111,7 @@ legal_alone job journal values inner none legal =
     let same = items_hidden-the_row-InnerRow-0 TextJob Item inner in
     let rolls = rolls-FrameRun' {X1 = TextJob} {X2 = Item} (record { job = job; journal = journal; values = values; inner = inner }) in
     legal_without (roll-FrameRun TextJob Item (record { job = job; journal = journal; values = values; inner = inner }))
-      (subst (λ run. inner_rows run ≡ []) (sym rolls) (same ∙ none)) legal
+    (subst (λ run. inner_rows run ≡ []) (sym rolls) (same ∙ none)) legal
 
 -- what a job's net keeps
 pub record HasPlainNet (net : NetRows) : Type 0 where
@@ -134,16 +133,17 @@ pub finished_legal : (run : OneThread) (inner : Vec (InnerRow TextJob Item)) →
 finished_legal run inner none is shape found =
     legal_alone run.job run.machine.journal run.values inner none (record {
       shape = subst (λ (l : Layer). ShapeLegal (net_of (arc_value l.job)) (limit_of (arc_value l.job)) l.journal) (sym opened)
-        (subst (λ n. ShapeLegal n (limit_of (arc_value run.job)) run.machine.journal) is.net (subst (λ l. ShapeLegal run.machine.net l run.machine.journal) is.limit shape));
+          (subst (λ n. ShapeLegal n (limit_of (arc_value run.job)) run.machine.journal) is.net (subst (λ l. ShapeLegal run.machine.net l run.machine.journal) is.limit shape));
       found = subst (λ (l : Layer). MeetsDataRule (net_of (arc_value l.job)) l.journal) (sym opened) (subst (λ n. MeetsDataRule n run.machine.journal) is.net found);
       work = subst (λ (l : Layer). EachAfter (WorkRule text_job (arc_value l.job) l.values (λ n. inner_in l.inner.items n)) l.journal) (sym opened)
-        (subst (λ rows. EachAfter (WorkRule text_job (arc_value run.job) run.values (λ n. inner_in rows n)) run.machine.journal) (sym none) (work_done (arc_value run.job) run.machine.journal run.carried.items run.values [] is.under));
+          (subst (λ rows. EachAfter (WorkRule text_job (arc_value run.job) run.values (λ n. inner_in rows n)) run.machine.journal) (sym none) (work_done (arc_value run.job) run.machine.journal run.carried.items run.values [] is.under));
       nested = subst (λ (l : Layer). EachAfter (NestedRule text_job (arc_value l.job) l.values (λ n. inner_in l.inner.items n)) l.journal) (sym opened)
-        (subst (λ rows. EachAfter (NestedRule text_job (arc_value run.job) run.values (λ n. inner_in rows n)) run.machine.journal) (sym none) (nothing_nested (arc_value run.job) run.machine.journal run.carried.items run.values [] is.under));
+          (subst (λ rows. EachAfter (NestedRule text_job (arc_value run.job) run.values (λ n. inner_in rows n)) run.machine.journal) (sym none) (nothing_nested (arc_value run.job) run.machine.journal run.carried.items run.values [] is.under));
     })
   where
     layer : Layer
     layer = record { job = run.job; journal = run.machine.journal; values = run.values; inner = inner }
+
     opened : out-FrameRun TextJob Item (roll-FrameRun TextJob Item layer) ≡ layer
     opened = out-roll-FrameRun TextJob Item layer
 
@@ -152,9 +152,10 @@ pub finished_complete : (run : OneThread) (inner : Vec (InnerRow TextJob Item)) 
 finished_complete run inner is =
     let plan = plan_of (arc_value run.job) is.job in
     subst (λ (l : Layer). Complete (net_of (arc_value l.job)) (limit_of (arc_value l.job)) l.journal) (sym opened)
-      (complete (arc_value run.job) run.machine.journal run.carried.items run.values (limit_of (arc_value run.job)) plan.plain plan.single is.under)
+    (complete (arc_value run.job) run.machine.journal run.carried.items run.values (limit_of (arc_value run.job)) plan.plain plan.single is.under)
   where
     layer : Layer
     layer = record { job = run.job; journal = run.machine.journal; values = run.values; inner = inner }
+
     opened : out-FrameRun TextJob Item (roll-FrameRun TextJob Item layer) ≡ layer
     opened = out-roll-FrameRun TextJob Item layer

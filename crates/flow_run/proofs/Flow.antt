@@ -1,19 +1,19 @@
 -- Tokens flow along the edges of a net in which no two edges lead to one task.
-use Rattle.std.proofs.Common.{◌≡◌, ◌≢◌, ◌⊎◌, inl, inr, ℕ, zero, suc, ◌+◌, ◌-◌, ◌<◌, ◌≤◌, Bool, true, false, not, ◌&&◌, ◌||◌, cond, eqb, List, [], ◌∷◌, ◌++◌, length, Option, Some, None, sym, refl, ap, ◌∙◌, subst, arith, get_or, map}
-use Rattle.std.specs.Prelude.{count_by, sum_by, slice_get, ◌==◌, All, AllPairs, if◌then◌else◌}
-use Rattle.std.specs.List.{list_any, AllByRecursion, range_with_len}
+use Rattle.std.proofs.Common.{◌≡◌, ◌≢◌, ◌⊎◌, inl, inr, ℕ, zero, suc, ◌+◌, ◌<◌, ◌≤◌, Bool, true, false, ◌&&◌, cond, eqb, List, [], ◌∷◌, ◌++◌, length, Option, Some, sym, refl, ap, ◌∙◌, subst, arith, map}
+use Rattle.std.specs.Prelude.{count_by, sum_by, slice_get, ◌==◌, All, AllPairs}
+use Rattle.std.specs.List.{range_with_len}
 use Rattle.std.specs.Option.{option_map_or}
-use Rattle.std.proofs.lemmas.Bool.{cases_eq, false≢true, eqb-true}
+use Rattle.std.proofs.lemmas.Bool.{cases_eq}
 use Rattle.std.proofs.lemmas.Bool.Decides.{nat_tests}
 use Rattle.std.proofs.lemmas.List.{append_assoc, length_push}
 use Rattle.std.proofs.lemmas.Option.{slice_get_within, get_or_from_slice_get}
 use Rattle.std.proofs.lemmas.List.Sums.{sum_by-cons, sum_by-append}
 use Rattle.task_graph.specs.NetRows.{NetRows}
-use Rattle.task_graph.specs.Places.{places, places_from}
-use Rattle.task_graph.specs.Net.{in_edges, out_edges, IsSource}
+use Rattle.task_graph.specs.Places.{places_from}
+use Rattle.task_graph.specs.Net.{out_edges}
 use Rattle.task_graph.specs.declared.net.EdgeRow.{EdgeRow}
 use Rattle.flow_run.specs.Taking.{target_of}
-use Rattle.flow_run.specs.UnderWay.{times, born, inflow, flow_along}
+use Rattle.flow_run.specs.UnderWay.{times, flow_along}
 
 abbrev pub one_if : Bool → ℕ
 one_if b = cond b 1 0
@@ -49,9 +49,9 @@ targets_from : (p : EdgeRow → Bool) (q : ℕ) (front rows : List EdgeRow) →
 targets_from p q front [] = refl
 targets_from p q front (row ∷ rows) =
     by_test (p row) refl
-      (subst (λ n. times q (map (target_of (front ++ row ∷ rows)) (places_from p n rows)) ≡ count_by (λ r. p r && (r.to == q)) rows) (omega (arith, length_push front row))
-      (subst (λ es. times q (map (target_of es) (places_from p (length (front ++ row ∷ [])) rows)) ≡ count_by (λ r. p r && (r.to == q)) rows) (append_assoc front (row ∷ []) rows)
-      (targets_from p q (front ++ row ∷ []) rows)))
+    (subst (λ n. times q (map (target_of (front ++ row ∷ rows)) (places_from p n rows)) ≡ count_by (λ r. p r && (r.to == q)) rows) (omega (arith, length_push front row))
+    (subst (λ es. times q (map (target_of es) (places_from p (length (front ++ row ∷ [])) rows)) ≡ count_by (λ r. p r && (r.to == q)) rows) (append_assoc front (row ∷ []) rows)
+    (targets_from p q (front ++ row ∷ []) rows)))
   where
     by_test : (b : Bool) → p row ≡ b → times q (map (target_of (front ++ row ∷ rows)) (places_from p (suc (length front)) rows)) ≡ count_by (λ r. p r && (r.to == q)) rows
         → times q (map (target_of (front ++ row ∷ rows)) (cond b (length front ∷ places_from p (suc (length front)) rows) (places_from p (suc (length front)) rows))) ≡ count_by (λ r. p r && (r.to == q)) (row ∷ rows)

@@ -1,24 +1,21 @@
 -- Reading texts one after another.
-use Rattle.std.proofs.Common.{◌≡◌, ◌≢◌, ℕ, zero, suc, ◌+◌, ◌<◌, ◌≤◌, Bool, true, false, not, cond, List, [], ◌∷◌, ◌++◌, length, Option, Some, None, sym, refl, ap, ◌∙◌, subst, arith, get_or, map, take, drop, filter}
+use Rattle.std.proofs.Common.{◌≡◌, ◌≢◌, ℕ, zero, suc, ◌+◌, ◌<◌, ◌≤◌, Bool, true, false, not, cond, List, [], ◌∷◌, ◌++◌, length, Some, None, sym, refl, ap, ◌∙◌, subst, arith, get_or, map, take, drop, filter}
 use Rattle.std.specs.Prelude.{All, AllPairs, IsSome}
-use Rattle.std.specs.List.{filter_map}
 use Rattle.std.specs.Str.{bytes_eq}
 use Rattle.std.proofs.lemmas.Bool.{false≢true}
 use Rattle.std.proofs.lemmas.Slice.Eq.{bytes_eq-Decides}
 use Rattle.std.proofs.lemmas.List.{take_more, map-append, get_or-take, length-take-le, get_or_default}
 use Rattle.std.proofs.lemmas.List.Kept.{AllPairs-cons, AllPairs-filter}
 use Rattle.std.proofs.lemmas.List.Elements.{All-nil, All-cons, All-push, All-weaker, All-head, All-tail}
-use Rattle.graph_file.specs.declared.ops.Op.{Op}
 use Rattle.graph_file.specs.declared.refusals.GraphError.{GraphError}
 use Rattle.graph_file.specs.declared.refusals.GraphError.TheVariants.{NotJson, BadField, NoSuchName, Repeated, TooMany, NoMemory as NoMemoryToRead}
 use Rattle.graph_file.specs.PlanRows.{PlanRows, IsPlan}
 use Rattle.graph_file.specs.PlanText.{PlanText}
-use Rattle.graph_file.specs.TextNames.{text_of, texts_of, first_mentions}
+use Rattle.graph_file.specs.TextNames.{texts_of, first_mentions}
 use Rattle.text_tasks.specs.declared.table.TextRow.{TextRow}
 use Rattle.text_tasks.specs.GraphWork.{text_limit, IsWork}
 use Rattle.text_tasks.specs.TextTable.{text_in}
 use Rattle.flow_run.specs.declared.status.Status.{Status}
-use Rattle.flow_run.specs.declared.status.Status.TheVariants.{BadGraph, NoMemory}
 use Rattle.flow_run.specs.Requests.{Held, IsHeld, StopsAtName, StopsAtText, StopsAtBytes, TextsAre, IsRefusal}
 
 -- the names of texts differ
@@ -49,7 +46,7 @@ pub all_read : (rows : List TextRow) → All (λ name. IsSome (text_in rows name
 all_read [] = All-nil (λ name. IsSome (text_in [] name))
 all_read (row ∷ rows) =
     All-cons (λ name. IsSome (text_in (row ∷ rows) name)) row.name (map (λ (r : TextRow). r.name) rows) (let hit = (bytes_eq-Decides row.name row.name).1 refl in rw hit refl)
-      (All-weaker (λ name. IsSome (text_in rows name)) (λ name. IsSome (text_in (row ∷ rows) name)) later (map (λ (r : TextRow). r.name) rows) (all_read rows))
+    (All-weaker (λ name. IsSome (text_in rows name)) (λ name. IsSome (text_in (row ∷ rows) name)) later (map (λ (r : TextRow). r.name) rows) (all_read rows))
   where
     later : (name : List ℕ) → IsSome (text_in rows name) → IsSome (text_in (row ∷ rows) name)
     later name some = by_test (bytes_eq row.name name)

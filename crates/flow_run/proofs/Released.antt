@@ -1,17 +1,15 @@
 -- A task that is ready has a release, and its start and its end are refused for want of memory alone.
-use Rattle.std.proofs.Common.{◌≡◌, ◌≢◌, ◌⊎◌, inl, inr, ℕ, zero, suc, ◌+◌, ◌<◌, ◌≤◌, Bool, true, false, not, ◌&&◌, cond, eqb, List, [], ◌∷◌, ◌++◌, length, Option, Some, None, sym, refl, ap, ◌∙◌, subst, arith, IsTrue, get_or}
-use Rattle.std.specs.Prelude.{slice_get, ◌==◌, All, AllPairs, IsSomeAnd, sum_by, count_by, if◌then◌else◌}
-use Rattle.std.specs.List.{list_any, AllByRecursion, range_with_len}
+use Rattle.std.proofs.Common.{◌≡◌, ◌≢◌, ◌⊎◌, inl, inr, ℕ, suc, ◌+◌, ◌<◌, ◌≤◌, Bool, true, false, not, ◌&&◌, eqb, List, [], ◌∷◌, ◌++◌, length, Option, Some, None, sym, refl, ap, ◌∙◌, subst, arith, IsTrue, get_or}
+use Rattle.std.specs.Prelude.{slice_get, ◌==◌, AllPairs, IsSomeAnd, count_by}
+use Rattle.std.specs.List.{list_any, AllByRecursion}
 use Rattle.std.specs.Option.{option_map_or}
-use Rattle.std.proofs.lemmas.Bool.{cases_eq, eqb-true, false≢true}
+use Rattle.std.proofs.lemmas.Bool.{eqb-true, false≢true}
 use Rattle.std.proofs.lemmas.Bool.Decides.{nat_tests}
-use Rattle.std.proofs.lemmas.List.Sums.{sum_by-cons}
 use Rattle.std.proofs.lemmas.List.Elements.{recursion_from_All}
-use Rattle.std.proofs.lemmas.Option.{slice_get_within, get_or_from_slice_get, slice_get_cases}
+use Rattle.std.proofs.lemmas.Option.{slice_get_cases}
 use Rattle.task_graph.specs.NetRows.{NetRows}
-use Rattle.task_graph.specs.Net.{out_edges, in_edges, strong_in, IsSource, is_weak_row, IsPlainNet, IsPlainTask}
+use Rattle.task_graph.specs.Net.{out_edges, in_edges, strong_in, is_weak_row, IsPlainNet, IsPlainTask}
 use Rattle.task_graph.specs.declared.net.Shape.{Shape}
-use Rattle.task_graph.specs.declared.net.Shape.TheVariants.{Plain}
 use Rattle.task_graph.specs.declared.net.EdgeRow.{EdgeRow}
 use Rattle.task_graph.specs.declared.net.TaskRow.{TaskRow}
 use Rattle.task_graph.proofs.PlaceLemmas.{strong_in-source}
@@ -24,11 +22,10 @@ use Rattle.legal_run.specs.declared.machine_error.MachineError.{MachineError}
 use Rattle.legal_run.specs.declared.machine_error.MachineError.TheVariants.{NoSuch, AfterStuck, NotReleased, NoUnit, AtLimit, NotOpen, NotChosen, NothingOut, NotOver, NotHalted, NotStuck, NoMemory}
 use Rattle.legal_run.specs.MachineState.{MachineState}
 use Rattle.legal_run.specs.ShapeLegal.{CauseInRange}
-use Rattle.legal_run.specs.Machine.{RefusesStart, RefusesEnd, CanClose, NoneStuck, PutsAt}
-use Rattle.legal_run.specs.Counts.{given, used, used_source, starts, start_at, is_open}
+use Rattle.legal_run.specs.Machine.{RefusesStart, RefusesEnd}
+use Rattle.legal_run.specs.Counts.{given, used, starts, start_at, is_open}
 use Rattle.legal_run.specs.ReleaseRule.{IsReleased}
 use Rattle.legal_run.specs.ChoiceRule.{ChoiceRule, GivesFit, InnerFits}
-use Rattle.legal_run.specs.SemaphoreRule.{takes, puts}
 use Rattle.legal_run.specs.HaltLimitStuckRule.{is_stuck}
 use Rattle.legal_run.proofs.NetLemmas.{any_place, places_below}
 use Rattle.legal_run.proofs.Keeping.{plain_takes, plain_puts}
@@ -40,8 +37,8 @@ use Rattle.text_tasks.specs.declared.job.TextJob.{TextJob}
 use Rattle.text_tasks.specs.JobMeaning.{net_of}
 use Rattle.text_tasks.proofs.Jobs.{single_in}
 use Rattle.flow_run.specs.OneThread.{CauseFits}
-use Rattle.flow_run.specs.UnderWay.{UnderWay, IsPlainEntry, started_times, times, born, inflow}
-use Rattle.flow_run.proofs.Flow.{one_if, count-append, count_cons, single_flow, sum_with_gap}
+use Rattle.flow_run.specs.UnderWay.{UnderWay, IsPlainEntry, started_times, born, inflow}
+use Rattle.flow_run.proofs.Flow.{one_if, count_cons, single_flow, sum_with_gap}
 use Rattle.flow_run.proofs.Started.{starts_total}
 use Rattle.flow_run.proofs.Stepping.{IsStep, plain_start, not_started, times_last, AllByRecursion-push}
 
@@ -58,14 +55,17 @@ only_edge net t apart some = by_list (strong_in net t) refl (single_in net t apa
   where
     passes : EdgeRow → Bool
     passes row = (row.to == t) && not (is_weak_row net row)
+
     first_true : (a b : Bool) → a && b ≡ true → a ≡ true
     first_true true b h = refl
     first_true false b h = h
+
     by_row : (e : ℕ) → strong_in net t ≡ e ∷ [] → option_map_or passes (slice_get net.edges e) false ≡ true
-      → ((row : EdgeRow) × (e < length net.edges) × (slice_get net.edges e ≡ Some row) × (get_or net.edges e row ≡ row)) ⊎ ((length net.edges ≤ e) × (slice_get net.edges e ≡ None)) → OnlyEdge net t
+        → ((row : EdgeRow) × (e < length net.edges) × (slice_get net.edges e ≡ Some row) × (get_or net.edges e row ≡ row)) ⊎ ((length net.edges ≤ e) × (slice_get net.edges e ≡ None)) → OnlyEdge net t
     by_row e is passed (inl (row, within, there, same)) =
         record { edge = e; row = row; only = is; there = there; leads = eqb-true row.to t (first_true (row.to == t) (not (is_weak_row net row)) (ap (λ (o : Option EdgeRow). option_map_or passes o false) (sym there) ∙ passed)) }
     by_row e is passed (inr (past, none)) = absurd (false≢true (ap (λ (o : Option EdgeRow). option_map_or passes o false) (sym none) ∙ passed))
+
     by_list : (es : List ℕ) → strong_in net t ≡ es → length (strong_in net t) ≤ 1 → OnlyEdge net t
     by_list [] is few = absurd (some is)
     by_list (e ∷ []) is few =
@@ -94,8 +94,10 @@ released job h carried values rest t cause step under = by_cause cause step.fits
   where
     net : NetRows
     net = net_of job
+
     none : started_times h t ≡ 0
     none = not_started job h carried values rest t under step.in_range
+
     by_cause : (c : Cause) → CauseFits net t c → IsReleased net h t c
     by_cause Source source = (source, omega (arith, none))
     by_cause Strong some =
@@ -168,8 +170,10 @@ end_taken job h carried values rest t start cause ins m error step under same af
   where
     at : start_at m.journal start ≡ Some t
     at = ap (λ j. start_at j start) after ∙ ap (start_at (h ++ Start t cause ins ∷ [])) place ∙ start_at_push_last h (Start t cause ins)
+
     plain : IsPlainNet m.net
     plain = rw same step.plain
+
     by_error : (e : MachineError) → RefusesEnd m start (out_edges (net_of job) t) false e → e ≡ NoMemory
     by_error NoSuch no_such = absurd (no_such (rw same (recursion_from_All (λ e. e < length (net_of job).edges) (out_edges (net_of job) t) (places_below (λ row. row.from == t) (net_of job).edges))))
     by_error AfterStuck (names, stuck) = absurd (stuck (rw after (none_stuck (net_of job) (h ++ Start t cause ins ∷ []) (AllByRecursion-push (IsPlainEntry (net_of job)) h (Start t cause ins) under.entries (plain_start (net_of job) t cause step.in_range step.fits)))))

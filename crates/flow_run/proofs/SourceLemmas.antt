@@ -1,6 +1,5 @@
 -- One task more is looked at for the list of source tasks.
-use Rattle.std.proofs.Common.{◌≡◌, ◌≢◌, ◌⊎◌, inl, inr, ℕ, zero, suc, ◌+◌, ◌<◌, ◌≤◌, Bool, true, false, eqb, List, [], ◌∷◌, ◌++◌, length, sym, refl, ap, ◌∙◌, subst, arith}
-use Rattle.std.specs.Prelude.{◌==◌, All}
+use Rattle.std.proofs.Common.{◌≡◌, ◌≢◌, ◌⊎◌, inl, inr, ℕ, ◌+◌, ◌<◌, true, false, eqb, List, [], ◌∷◌, ◌++◌, length, sym, refl, ap, ◌∙◌, arith}
 use Rattle.std.proofs.lemmas.Bool.{cases_eq}
 use Rattle.std.proofs.lemmas.Bool.Decides.{nat_tests}
 use Rattle.std.proofs.lemmas.List.Elements.{All-push}
@@ -39,6 +38,7 @@ no_source net ready n old not =
     not_born : (es : List ℕ) → in_edges net n ≡ es → born (in_edges net n) ≡ 0
     not_born [] none = absurd (not none)
     not_born (e ∷ es) some = ap born some
+
     by_below : (t : ℕ) → t < n + 1 → (t ≡ n) ⊎ (t ≢ n) → times t ready ≡ born (in_edges net t)
     by_below t below (inl same) = old.past t (omega arith) ∙ sym (ap (λ k. born (in_edges net k)) same ∙ not_born (in_edges net n) refl)
     by_below t below (inr other) = old.below t (omega arith)

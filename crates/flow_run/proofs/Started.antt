@@ -1,22 +1,19 @@
 -- How often tasks were started.
-use Rattle.std.proofs.Common.{◌≡◌, ◌≢◌, ◌⊎◌, inl, inr, ℕ, zero, suc, ◌+◌, ◌-◌, ◌<◌, ◌≤◌, Bool, true, false, not, ◌&&◌, ◌||◌, cond, eqb, List, [], ◌∷◌, ◌++◌, length, Option, Some, None, sym, refl, ap, ◌∙◌, subst, arith, get_or, map}
-use Rattle.std.specs.Prelude.{count_by, sum_by, slice_get, ◌==◌, All, AllPairs, if◌then◌else◌}
+use Rattle.std.proofs.Common.{◌≡◌, ℕ, ◌+◌, Bool, false, ◌&&◌, eqb, List, [], ◌∷◌, ◌++◌, length, sym, refl, ap, ◌∙◌, arith}
+use Rattle.std.specs.Prelude.{count_by, sum_by, ◌==◌}
 use Rattle.std.specs.List.{list_any, AllByRecursion, range_with_len}
-use Rattle.std.specs.Option.{option_map_or}
 use Rattle.std.proofs.lemmas.List.Sums.{sum_by-cons}
 use Rattle.task_graph.specs.NetRows.{NetRows}
-use Rattle.task_graph.specs.Net.{out_edges, strong_in, IsSource}
-use Rattle.task_graph.specs.declared.net.EdgeRow.{EdgeRow}
 use Rattle.legal_run.specs.declared.entry.Cause.{Cause}
 use Rattle.legal_run.specs.declared.entry.Cause.TheVariants.{Source, Strong, Weak}
 use Rattle.legal_run.specs.declared.entry.Entry.{Entry}
 use Rattle.legal_run.specs.declared.entry.Entry.TheVariants.{Start, End, Fault, Drop}
 use Rattle.legal_run.specs.declared.entry.Part.{Part}
-use Rattle.legal_run.specs.Counts.{given, gives_edge, used, used_source, uses, is_strong, is_source, is_start, starts}
+use Rattle.legal_run.specs.Counts.{given, used, used_source, uses, is_strong, is_source, is_start, starts}
 use Rattle.legal_run.proofs.Tallying.{given_push, count_by_push_no, and_false, and_true}
 use Rattle.legal_run.proofs.Snoc.{count_by_push}
 use Rattle.flow_run.specs.UnderWay.{IsPlainStart, IsPlainEntry, started_times}
-use Rattle.flow_run.proofs.Flow.{one_if, count_cons, sum_raised, sum_nothing, sum_kept, eqb_both_ways}
+use Rattle.flow_run.proofs.Flow.{one_if, sum_raised, sum_nothing, sum_kept}
 
 -- a Start and its End
 abbrev pub with_step : List Entry → ℕ → Cause → List Part → List ℕ → List Entry
@@ -55,8 +52,10 @@ starts_total net (x ∷ h) plain = by_entry x plain.0 (starts_total net h plain.
   where
     n : ℕ
     n = length net.tasks
+
     front : (p : Entry → Bool) (y : Entry) → count_by p (y ∷ h) ≡ one_if (p y) + count_by p h
     front p y = sum_by-cons (λ z. one_if (p z)) y h
+
     by_entry : (y : Entry) → IsPlainEntry net y → starts h ≡ sum_by (started_times h) (range_with_len 0 n) → starts (y ∷ h) ≡ sum_by (started_times (y ∷ h)) (range_with_len 0 n)
     by_entry (Start t Source ins) below rest =
         front is_start (Start t Source ins) ∙ omega arith ∙ sym (sum_raised (started_times h) (started_times (Start t Source ins ∷ h)) 0 n t below raised)

@@ -1,16 +1,16 @@
 -- What holds between two steps holds after the next.
-use Rattle.std.proofs.Common.{◌≡◌, ◌≢◌, ◌⊎◌, inl, inr, ℕ, zero, suc, ◌+◌, ◌<◌, ◌≤◌, Bool, true, false, ◌&&◌, cond, eqb, List, [], ◌∷◌, ◌++◌, length, Option, Some, None, sym, refl, ap, ◌∙◌, subst, arith, get_or, map}
+use Rattle.std.proofs.Common.{◌≡◌, ◌≢◌, ◌⊎◌, inl, inr, ℕ, ◌+◌, ◌<◌, ◌≤◌, Bool, true, false, ◌&&◌, cond, eqb, List, [], ◌∷◌, ◌++◌, length, Option, Some, None, sym, refl, ap, ◌∙◌, subst, arith, get_or, map}
 use Rattle.std.specs.Prelude.{slice_get, slice_index_or, ◌==◌, All, IsSomeAnd, if◌then◌else◌}
-use Rattle.std.specs.List.{list_any, AllByRecursion}
+use Rattle.std.specs.List.{list_any}
 use Rattle.std.specs.Option.{option_map_or}
 use Rattle.std.specs.Arc.{arc_value}
 use Rattle.std.proofs.lemmas.Bool.{cases_eq}
 use Rattle.std.proofs.lemmas.Bool.Decides.{nat_tests}
 use Rattle.std.proofs.lemmas.List.{append_assoc, length_push}
 use Rattle.std.proofs.lemmas.List.Elements.{All-append, All-map, All-weaker, All-pop, All-head, All-tail}
-use Rattle.std.proofs.lemmas.Option.{slice_get_cases, slice_get_within, get_or_from_slice_get, slice_get-get_or}
+use Rattle.std.proofs.lemmas.Option.{slice_get_cases}
 use Rattle.task_graph.specs.NetRows.{NetRows}
-use Rattle.task_graph.specs.Net.{out_edges, in_edges, strong_in, IsSource, IsNet, IsEdgeOf}
+use Rattle.task_graph.specs.Net.{out_edges, strong_in, IsSource, IsNet, IsEdgeOf}
 use Rattle.task_graph.specs.declared.net.EdgeRow.{EdgeRow}
 use Rattle.task_graph.proofs.PlaceLemmas.{strong_in-source}
 use Rattle.legal_run.specs.declared.entry.Cause.{Cause}
@@ -18,22 +18,21 @@ use Rattle.legal_run.specs.declared.entry.Cause.TheVariants.{Source, Strong, Wea
 use Rattle.legal_run.specs.declared.entry.Entry.{Entry}
 use Rattle.legal_run.specs.declared.entry.Entry.TheVariants.{Start, End}
 use Rattle.legal_run.specs.declared.entry.Part.{Part}
-use Rattle.legal_run.specs.declared.entry.Part.TheVariants.{From, First, Nothing}
+use Rattle.legal_run.specs.declared.entry.Part.TheVariants.{From, Nothing}
 use Rattle.legal_run.specs.Entries.{EachAfter}
-use Rattle.legal_run.specs.Counts.{given, used, used_source, is_strong, is_source}
-use Rattle.legal_run.specs.DataRule.{edges_of}
+use Rattle.legal_run.specs.Counts.{given, used, used_source}
 use Rattle.legal_run.specs.Waiting.{waiting, waiting_parts}
 use Rattle.legal_run.proofs.Snoc.{EachAfter-push, slice_get_push_last}
 use Rattle.legal_run.proofs.Tallying.{and_false}
 use Rattle.legal_run.proofs.NetLemmas.{any_place, places_below}
 use Rattle.join_words.specs.declared.ins.Given.{Given}
 use Rattle.join_words.specs.declared.ins.Given.TheVariants.{Nothing as NothingGiven}
-use Rattle.join_words.specs.Ins.{Found, value, first, nothing, found_of}
+use Rattle.join_words.specs.Ins.{Found, value, nothing, found_of}
 use Rattle.run_frame.specs.declared.job.Answer.TheVariants.{All as Each}
 use Rattle.run_frame.specs.declared.job.Done.TheVariants.{Value}
 use Rattle.run_frame.specs.declared.run.ValueRow.{ValueRow}
-use Rattle.run_frame.specs.Runs.{value_at, found_at, found_ins}
-use Rattle.run_frame.specs.WorkRule.{WorkRule, Work, work_of, work_at, Answers, gives_of}
+use Rattle.run_frame.specs.Runs.{value_at, found_ins}
+use Rattle.run_frame.specs.WorkRule.{WorkRule, Work, work_of, work_at, Answers}
 use Rattle.text_tasks.specs.declared.item.Item.{Item}
 use Rattle.text_tasks.specs.declared.job.TextJob.{TextJob}
 use Rattle.text_tasks.specs.JobMeaning.{text_job, net_of, JobAnswers}
@@ -55,7 +54,7 @@ pub record Steps (job : TextJob) (h : List Entry) (t : ℕ) (found : List (Found
   pub fits : IsValueText (item_text (arc_value row.value))
   pub len : length new ≡ length old
   pub each : (e : ℕ) → e < length old → found_of (slice_index_or new e NothingGiven)
-    ≡ (if list_any (λ g. g == e) (out_edges (net_of job) t) then value (arc_value row.value) else (if list_any (λ f. f == e) (strong_in (net_of job) t) then nothing else found_of (slice_index_or old e NothingGiven)))
+      ≡ (if list_any (λ g. g == e) (out_edges (net_of job) t) then value (arc_value row.value) else (if list_any (λ f. f == e) (strong_in (net_of job) t) then nothing else found_of (slice_index_or old e NothingGiven)))
 
 -- what is carried after a step, by whether the task gave the edge and took from it
 carries_step : (values more : List (ValueRow Item)) (gives takes : Bool) (place : ℕ) (item : Item) (before : Part) (found : Found Item) → value_at (values ++ more) place ≡ Some item → Carries values before found
@@ -95,33 +94,44 @@ work_step : (job : TextJob) (h : List Entry) (carried new : List (Given Item)) (
     → EachAfter (WorkRule text_job job ((values ++ row ∷ []) ++ more) none_inner) (with_step h t cause (waiting_parts (net_of job) t cause h) (out_edges (net_of job) t))
 work_step job h carried new values ready t cause found row step under steps more later =
     subst (λ vs. EachAfter (WorkRule text_job job vs none_inner) h') (sym (append_assoc values (row ∷ []) more)) (
-      EachAfter-push (WorkRule text_job job all_values none_inner) (h ++ start ∷ []) (End (length h) (out_edges net t) false)
-        (EachAfter-push (WorkRule text_job job all_values none_inner) h start before tt)
-        ended)
+    EachAfter-push (WorkRule text_job job all_values none_inner) (h ++ start ∷ []) (End (length h) (out_edges net t) false)
+    (EachAfter-push (WorkRule text_job job all_values none_inner) h start before tt)
+    ended)
   where
     net : NetRows
     net = net_of job
+
     ins : List Part
     ins = waiting_parts net t cause h
+
     start : Entry
     start = Start t cause ins
+
     h' : List Entry
     h' = with_step h t cause ins (out_edges net t)
+
     all_values : List (ValueRow Item)
     all_values = values ++ row ∷ more
+
     before : EachAfter (WorkRule text_job job all_values none_inner) h
     before = under.work (row ∷ more) (let p = steps.place in omega arith, later_still (length h) (length h') more (omega (arith, length_step h t cause ins (out_edges net t))) later)
+
     finds : found_ins all_values ins ≡ found
     finds = ap (λ es. found_ins all_values (map (λ e. waiting net e h) es)) (edges_are net t cause step.fits)
-      ∙ found_carried job h carried values (row ∷ more) under.carries (strong_in net t) (places_below _ net.edges) ∙ sym steps.finds
+        ∙ found_carried job h carried values (row ∷ more) under.carries (strong_in net t) (places_below _ net.edges) ∙ sym steps.finds
+
     made : Work Item
     made = record { task = t; found = found_ins all_values ins }
+
     at_start : work_at all_values (h ++ start ∷ []) (length h) ≡ Some made
     at_start = ap (λ (o : Option Entry). elim o [ None ↦ None | Some entry ↦ work_of all_values entry ]) (slice_get_push_last h start)
+
     at_end : value_at all_values (length (h ++ start ∷ [])) ≡ Some (arc_value row.value)
     at_end = ap (value_at all_values) (length_push h start) ∙ value_last job h carried values ready row more under steps.place
+
     answers : Answers text_job job made (arc_value row.value) (out_edges net t)
     answers = record { answer = Each; allowed = subst (λ f. JobAnswers job t f (Value (arc_value row.value) Each)) (sym finds) steps.answered; chosen = refl }
+
     ended : WorkRule text_job job all_values none_inner (h ++ start ∷ []) (End (length h) (out_edges net t) false)
     ended =
         subst (λ (w : Option (Work Item)). IsSomeAnd w (λ work. IsSomeAnd (value_at all_values (length (h ++ start ∷ []))) (λ v. Answers text_job job work v (out_edges net t)))) (sym at_start)
@@ -178,8 +188,8 @@ targets_in net is es below = All-map (λ t. t < length net.tasks) (target_of net
 ready_step : (job : TextJob) (t : ℕ) (rest : List ℕ) → IsNet (net_of job) → All (λ q. q < length (net_of job).tasks) (rest ++ t ∷ []) → All (λ q. q < length (net_of job).tasks) (rest ++ map (target_of (net_of job).edges) (out_edges (net_of job) t))
 ready_step job t rest is all =
     All-append (λ q. q < length (net_of job).tasks) rest (map (target_of (net_of job).edges) (out_edges (net_of job) t))
-      (All-pop (λ q. q < length (net_of job).tasks) (rest ++ t ∷ []) rest (Some t) refl all).0
-      (targets_in (net_of job) is (out_edges (net_of job) t) (places_below _ (net_of job).edges))
+    (All-pop (λ q. q < length (net_of job).tasks) (rest ++ t ∷ []) rest (Some t) refl all).0
+    (targets_in (net_of job) is (out_edges (net_of job) t) (places_below _ (net_of job).edges))
 
 -- the step
 pub under_step : (job : TextJob) (h : List Entry) (carried new : List (Given Item)) (values : List (ValueRow Item)) (rest : List ℕ) (t : ℕ) (cause : Cause) (found : List (Found Item)) (row : ValueRow Item) → IsStep job t cause
@@ -190,13 +200,13 @@ under_step job h carried new values rest t cause found row step under steps =
       entries = AllByRecursion-push _ (h ++ Start t cause ins ∷ []) (End (length h) (out_edges net t) false) (AllByRecursion-push _ h (Start t cause ins) under.entries (plain_start net t cause step.in_range step.fits)) refl;
       carried_len = steps.len ∙ under.carried_len;
       carries = λ e below. subst (λ p. Carries (values ++ row ∷ []) p (found_of (slice_index_or new e NothingGiven))) (sym (waiting_step net h t e cause ins step.fits))
-        (subst (Carries (values ++ row ∷ []) (cond (list_any (λ g. g == e) (out_edges net t)) (From (length h + 1)) (cond (list_any (λ f. f == e) (strong_in net t)) Nothing (waiting net e h)))) (sym (steps.each e (rw under.carried_len below)))
-        (carries_step values (row ∷ []) (list_any (λ g. g == e) (out_edges net t)) (list_any (λ f. f == e) (strong_in net t)) (length h + 1) (arc_value row.value) (waiting net e h) (found_of (slice_index_or carried e NothingGiven))
+          (subst (Carries (values ++ row ∷ []) (cond (list_any (λ g. g == e) (out_edges net t)) (From (length h + 1)) (cond (list_any (λ f. f == e) (strong_in net t)) Nothing (waiting net e h)))) (sym (steps.each e (rw under.carried_len below)))
+          (carries_step values (row ∷ []) (list_any (λ g. g == e) (out_edges net t)) (list_any (λ f. f == e) (strong_in net t)) (length h + 1) (arc_value row.value) (waiting net e h) (found_of (slice_index_or carried e NothingGiven))
           (value_last job h carried values (rest ++ t ∷ []) row [] under steps.place) (under.carries e below)));
       texts = λ e below. subst FindsText (sym (steps.each e (rw under.carried_len below)))
-        (finds_step (list_any (λ g. g == e) (out_edges net t)) (list_any (λ f. f == e) (strong_in net t)) (arc_value row.value) (found_of (slice_index_or carried e NothingGiven)) steps.fits (under.texts e below));
+          (finds_step (list_any (λ g. g == e) (out_edges net t)) (list_any (λ f. f == e) (strong_in net t)) (arc_value row.value) (found_of (slice_index_or carried e NothingGiven)) steps.fits (under.texts e below));
       values_before = λ n after. let len = length_step h t cause ins (out_edges net t) in
-        value_behind values (row ∷ []) n (under.values_before n (omega arith)) ∙ value_not_here row n (λ same. let at = steps.place in omega arith);
+          value_behind values (row ∷ []) n (under.values_before n (omega arith)) ∙ value_not_here row n (λ same. let at = steps.place in omega arith);
       work = work_step job h carried new values (rest ++ t ∷ []) t cause found row step under steps;
       none_open = none_open_step h t cause ins (out_edges net t) under.none_open;
       account = account_step job h carried values rest t cause ins step under;
@@ -209,5 +219,6 @@ under_step job h carried new values rest t cause found row step under steps =
   where
     net : NetRows
     net = net_of job
+
     ins : List Part
     ins = waiting_parts net t cause h

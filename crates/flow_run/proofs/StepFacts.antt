@@ -1,14 +1,12 @@
 -- What a step needs of its calls.
-use Rattle.std.proofs.Common.{◌≡◌, ◌≢◌, ◌⊎◌, inl, inr, ℕ, zero, suc, ◌+◌, ◌<◌, ◌≤◌, Bool, true, false, cond, eqb, List, [], ◌∷◌, ◌++◌, length, Option, Some, None, sym, refl, ap, ◌∙◌, subst, arith, map}
-use Rattle.std.specs.Prelude.{slice_index_or, Result, Ok, Err, IfErr, ◌==◌, All, IfSome, count_by, if◌then◌else◌}
+use Rattle.std.proofs.Common.{◌≡◌, ℕ, ◌+◌, ◌<◌, ◌≤◌, Bool, true, false, cond, List, [], ◌∷◌, ◌++◌, length, Some, sym, refl, ap, ◌∙◌, subst, arith, map}
+use Rattle.std.specs.Prelude.{slice_index_or, Result, Ok, Err, IfErr, ◌==◌, All, if◌then◌else◌}
 use Rattle.std.specs.List.{AllByRecursion, list_any}
 use Rattle.std.specs.Arc.{arc_value}
 use Rattle.std.proofs.lemmas.List.{length-map, length_push}
-use Rattle.std.proofs.lemmas.List.Sums.{count_by-le-length}
 use Rattle.std.proofs.lemmas.List.Elements.{All-pop, All-head, All-tail}
 use Rattle.task_graph.specs.NetRows.{NetRows}
 use Rattle.task_graph.specs.Net.{strong_in, out_edges}
-use Rattle.task_graph.specs.declared.net.EdgeRow.{EdgeRow}
 use Rattle.legal_run.specs.declared.entry.Cause.{Cause}
 use Rattle.legal_run.specs.declared.entry.Entry.{Entry}
 use Rattle.legal_run.specs.declared.entry.Entry.TheVariants.{Start, End}
@@ -115,33 +113,41 @@ step_done old new t calls is =
       net = ap (λ (m : MachineState). m.net) calls.ends_it.after ∙ ap (λ (m : MachineState). m.net) calls.starts_it.after ∙ is.net ∙ ap net_of (sym same_job);
       limit = ap (λ (m : MachineState). m.limit) calls.ends_it.after ∙ ap (λ (m : MachineState). m.limit) calls.starts_it.after ∙ is.limit ∙ ap limit_of (sym same_job);
       under =
-        subst (λ j. UnderWay j new.machine.journal new.carried.items new.values new.ready.items) (sym same_job)
-        (subst (λ h. UnderWay job h new.carried.items new.values new.ready.items) (sym (journal_after old new t calls is.net))
-        (subst (λ vs. UnderWay job (with_step h t calls.cause (waiting_parts net t calls.cause h) (out_edges net t)) new.carried.items vs new.ready.items) (sym calls.values)
-        (subst (λ rs. UnderWay job (with_step h t calls.cause (waiting_parts net t calls.cause h) (out_edges net t)) new.carried.items (old.values ++ calls.row ∷ []) rs) (sym calls.ready)
-        (under_step job h old.carried.items new.carried.items old.values old.ready.items t calls.cause (map found_of calls.parts) calls.row step is.under steps))));
+          subst (λ j. UnderWay j new.machine.journal new.carried.items new.values new.ready.items) (sym same_job)
+          (subst (λ h. UnderWay job h new.carried.items new.values new.ready.items) (sym (journal_after old new t calls is.net))
+          (subst (λ vs. UnderWay job (with_step h t calls.cause (waiting_parts net t calls.cause h) (out_edges net t)) new.carried.items vs new.ready.items) (sym calls.values)
+          (subst (λ rs. UnderWay job (with_step h t calls.cause (waiting_parts net t calls.cause h) (out_edges net t)) new.carried.items (old.values ++ calls.row ∷ []) rs) (sym calls.ready)
+          (under_step job h old.carried.items new.carried.items old.values old.ready.items t calls.cause (map found_of calls.parts) calls.row step is.under steps))));
     }
   where
     job : TextJob
     job = arc_value old.job
+
     net : NetRows
     net = net_of job
+
     h : List Entry
     h = old.machine.journal
+
     same_job : arc_value new.job ≡ job
     same_job = ap arc_value calls.job
+
     step : IsStep job t calls.cause
     step = is_step old old.ready.items t calls.cause is calls.fits
+
     finds : map found_of calls.parts ≡ map (λ e. found_of (slice_index_or old.carried.items e NothingGiven)) (strong_in net t)
     finds = found_at_edges old.carried.items calls.parts (strong_in net t) calls.taken
+
     texts : (length (map found_of calls.parts) ≤ 1) × AllByRecursion FindsText (map found_of calls.parts)
     texts = finds_texts old old.ready.items t calls.cause (map found_of calls.parts) is step finds
+
     kept : (k : ℕ) → k < length old.carried.items → found_of (slice_index_or calls.emptied k NothingGiven) ≡ (if list_any (λ f. f == k) (strong_in net t) then nothing else found_of (slice_index_or old.carried.items k NothingGiven))
     kept k below = ap found_of (calls.emptied_each k NothingGiven below) ∙ by_test (list_any (λ f. f == k) (strong_in net t))
       where
         by_test : (b : Bool) → found_of (cond b NothingGiven (slice_index_or old.carried.items k NothingGiven)) ≡ cond b nothing (found_of (slice_index_or old.carried.items k NothingGiven))
         by_test true = refl
         by_test false = refl
+
     steps : Steps job h t (map found_of calls.parts) old.carried.items new.carried.items calls.row
     steps = record {
       finds = finds;

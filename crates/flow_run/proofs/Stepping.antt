@@ -1,49 +1,36 @@
 -- One step of a run by one thread: a task that is ready starts, works, ends and gives its value to all its edges.
-use Rattle.std.proofs.Common.{◌≡◌, ◌≢◌, ◌⊎◌, inl, inr, ℕ, zero, suc, ◌+◌, ◌-◌, ◌<◌, ◌≤◌, Bool, true, false, not, ◌&&◌, ◌||◌, cond, eqb, List, [], ◌∷◌, ◌++◌, length, Option, Some, None, sym, refl, ap, ◌∙◌, subst, arith, get_or, map, IsTrue}
-use Rattle.std.specs.Prelude.{count_by, sum_by, slice_get, ◌==◌, is_some, All, AllPairs, IsSomeAnd, if◌then◌else◌}
-use Rattle.std.specs.List.{list_any, AllByRecursion, range_with_len}
-use Rattle.std.specs.Option.{option_map_or}
-use Rattle.std.specs.Arc.{arc_value}
-use Rattle.std.proofs.lemmas.Bool.{cases_eq, cases_lt, false≢true}
+use Rattle.std.proofs.Common.{◌≡◌, ◌≢◌, ◌⊎◌, inl, inr, ℕ, ◌+◌, ◌<◌, ◌≤◌, true, false, cond, eqb, List, [], ◌∷◌, ◌++◌, length, sym, refl, ap, ◌∙◌, arith, map}
+use Rattle.std.specs.Prelude.{count_by, ◌==◌, is_some, AllPairs}
+use Rattle.std.specs.List.{list_any, AllByRecursion}
+use Rattle.std.proofs.lemmas.Bool.{cases_eq, cases_lt}
 use Rattle.std.proofs.lemmas.Bool.Decides.{nat_tests}
-use Rattle.std.proofs.lemmas.List.{append_assoc, length_push}
-use Rattle.std.proofs.lemmas.List.Elements.{All-append, All-map, All-weaker, All-push, All-cons}
-use Rattle.std.proofs.lemmas.Option.{slice_get_within, get_or_from_slice_get, slice_get-get_or}
+use Rattle.std.proofs.lemmas.List.{length_push}
+use Rattle.std.proofs.lemmas.List.Elements.{All-weaker}
 use Rattle.task_graph.specs.NetRows.{NetRows}
-use Rattle.task_graph.specs.Net.{out_edges, in_edges, strong_in, weak_in, IsSource, IsNet, IsEdgeOf, IsPlainNet, is_weak_row}
+use Rattle.task_graph.specs.Net.{out_edges, in_edges, strong_in, IsNet, IsEdgeOf, IsPlainNet}
 use Rattle.task_graph.specs.declared.net.EdgeRow.{EdgeRow}
-use Rattle.task_graph.proofs.PlaceLemmas.{strong_in-source, source_from_none}
+use Rattle.task_graph.proofs.PlaceLemmas.{strong_in-source}
 use Rattle.legal_run.specs.declared.entry.Cause.{Cause}
 use Rattle.legal_run.specs.declared.entry.Cause.TheVariants.{Source, Strong, Weak}
 use Rattle.legal_run.specs.declared.entry.Entry.{Entry}
-use Rattle.legal_run.specs.declared.entry.Entry.TheVariants.{Start, End, Fault, Drop}
+use Rattle.legal_run.specs.declared.entry.Entry.TheVariants.{Start, End}
 use Rattle.legal_run.specs.declared.entry.Part.{Part}
-use Rattle.legal_run.specs.declared.entry.Part.TheVariants.{From, First, Nothing}
-use Rattle.legal_run.specs.Entries.{EachAfter, EachAfterThese}
-use Rattle.legal_run.specs.Counts.{given, used, used_source, is_open, start_at, closes, is_strong, is_source}
+use Rattle.legal_run.specs.declared.entry.Part.TheVariants.{From, Nothing}
+use Rattle.legal_run.specs.Counts.{is_open, start_at}
 use Rattle.legal_run.specs.DataRule.{edges_of}
-use Rattle.legal_run.specs.Waiting.{waiting, waiting_parts, uses_edge}
-use Rattle.legal_run.proofs.Snoc.{EachAfter-push, is_open_push_below, start_at_push_last, waiting_push, slice_get_push_last}
-use Rattle.legal_run.proofs.Tallying.{and_false, and_true}
-use Rattle.legal_run.proofs.NetLemmas.{any_place, places_below}
+use Rattle.legal_run.specs.Waiting.{waiting}
+use Rattle.legal_run.proofs.Snoc.{is_open_push_below, start_at_push_last, waiting_push}
+use Rattle.legal_run.proofs.Tallying.{and_false}
 use Rattle.join_words.specs.declared.ins.Given.{Given}
-use Rattle.join_words.specs.declared.ins.Given.TheVariants.{Nothing as NothingGiven}
-use Rattle.join_words.specs.Ins.{Found, value, first, nothing, found_of}
-use Rattle.run_frame.specs.declared.job.Answer.TheVariants.{All as Each}
-use Rattle.run_frame.specs.declared.job.Done.TheVariants.{Value}
 use Rattle.run_frame.specs.declared.run.ValueRow.{ValueRow}
-use Rattle.run_frame.specs.Runs.{value_at, found_at, found_ins}
-use Rattle.run_frame.specs.WorkRule.{WorkRule, work_of, work_at, Answers, gives_of}
 use Rattle.text_tasks.specs.declared.item.Item.{Item}
 use Rattle.text_tasks.specs.declared.job.TextJob.{TextJob}
-use Rattle.text_tasks.specs.Items.{item_text}
-use Rattle.text_tasks.specs.JobMeaning.{text_job, net_of, JobAnswers, value_limit}
+use Rattle.text_tasks.specs.JobMeaning.{net_of}
 use Rattle.flow_run.specs.Taking.{target_of}
 use Rattle.flow_run.specs.OneThread.{CauseFits}
-use Rattle.flow_run.specs.UnderWay.{UnderWay, Carries, ComeLater, none_inner, IsPlainStart, IsPlainEntry, started_times, times, born, inflow, flow_along}
-use Rattle.flow_run.proofs.Flow.{one_if, count-append, count_cons, eqb_both_ways, leads, times_targets, inflow_more, no_inflow, single_flow, inflow_once, sum_with_gap}
-use Rattle.flow_run.proofs.Started.{with_step, source_step, strong_step, started_step, given_step, starts_total}
-use Rattle.flow_run.proofs.Values.{value_stays, value_behind, value_here, value_not_here, carried_found, carries_still}
+use Rattle.flow_run.specs.UnderWay.{UnderWay, IsPlainStart, started_times, times, born, inflow}
+use Rattle.flow_run.proofs.Flow.{one_if, count-append, count_cons, leads, times_targets, inflow_more, no_inflow, inflow_once}
+use Rattle.flow_run.proofs.Started.{with_step, started_step}
 
 -- what a step is about: a job of a plain net in which no two edges lead to one task, a task of it, and its cause
 pub record IsStep (job : TextJob) (t : ℕ) (cause : Cause) : Type 0 where
@@ -72,7 +59,7 @@ waiting_step net h t e cause ins fits =
     waiting_push net e (h ++ Start t cause ins ∷ []) (End (length h) (out_edges net t) false)
     ∙ ap (λ n. cond (list_any (λ g. g == e) (out_edges net t)) (From n) (waiting net e (h ++ Start t cause ins ∷ []))) (length_push h (Start t cause ins))
     ∙ ap (λ p. cond (list_any (λ g. g == e) (out_edges net t)) (From (length h + 1)) p)
-      (waiting_push net e h (Start t cause ins) ∙ ap (λ es. cond (list_any (λ f. f == e) es) Nothing (waiting net e h)) (edges_are net t cause fits))
+    (waiting_push net e h (Start t cause ins) ∙ ap (λ es. cond (list_any (λ f. f == e) es) Nothing (waiting net e h)) (edges_are net t cause fits))
 
 -- the length of a journal after a step
 pub length_step : (h : List Entry) (t : ℕ) (cause : Cause) (ins : List Part) (gives : List ℕ) → length (with_step h t cause ins gives) ≡ length h + 2
@@ -89,8 +76,10 @@ none_open_step h t cause ins gives closed n below = by_place (cases_lt n (length
   where
     s : Entry
     s = Start t cause ins
+
     e : Entry
     e = End (length h) gives false
+
     by_place : (n < length h) ⊎ (length h ≤ n) → (n ≡ length h) ⊎ (n ≢ length h) → is_open ((h ++ s ∷ []) ++ e ∷ []) n ≡ false
     by_place (inl before) any =
         is_open_push_below (h ++ s ∷ []) e n (omega (arith, length_push h s)) ∙ rw (is_open_push_below h s n before, closed n before) refl
@@ -123,7 +112,7 @@ account_step job h carried values rest t cause ins step under q below =
     let more = λ (p : ℕ). started_step net h t p cause ins (out_edges net t) (plain_start net t cause step.in_range step.fits) in
     let flows : inflow net (started_times h') q ≡ inflow net (started_times h) q + count_by (leads t q) net.edges = inflow_more net.edges (started_times h) (started_times h') t q more in
     let ready : times q (rest ++ map (target_of net.edges) (out_edges net t)) ≡ times q rest + count_by (leads t q) net.edges =
-      count-append (λ x. x == q) rest (map (target_of net.edges) (out_edges net t)) ∙ ap (λ n. times q rest + n) (times_targets net t q) in
+    count-append (λ x. x == q) rest (map (target_of net.edges) (out_edges net t)) ∙ ap (λ n. times q rest + n) (times_targets net t q) in
     omega (arith, more q, flows, ready, times_last rest t q, under.account q below)
 
 -- and each task was started or is ready once at most
@@ -134,8 +123,10 @@ once_step job h carried values rest t cause ins step under q below = by_born (in
   where
     net : NetRows
     net = net_of job
+
     h' : List Entry
     h' = with_step h t cause ins (out_edges net t)
+
     started_once : (p : ℕ) → p < length net.tasks → started_times h' p ≤ 1
     started_once p p_below = by_cases (cases_eq t p)
       where
@@ -150,6 +141,7 @@ once_step job h carried values rest t cause ins step under q below = by_born (in
             let miss : eqb t p ≡ false = grind (arith, nat_tests) in
             let more = started_step net h t p cause ins (out_edges net t) (plain_start net t cause step.in_range step.fits) ∙ ap (λ b. started_times h p + one_if b) miss in
             omega (arith, under.once p p_below)
+
     by_born : (es : List ℕ) → in_edges net q ≡ es → started_times h' q + times q (rest ++ map (target_of net.edges) (out_edges net t)) ≤ 1
     by_born [] none =
         let birth : born (in_edges net q) ≡ 1 = ap born none in

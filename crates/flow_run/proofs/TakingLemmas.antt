@@ -1,10 +1,10 @@
 -- One part more is taken.
-use Rattle.std.proofs.Common.{◌≡◌, ◌≢◌, ◌⊎◌, inl, inr, ℕ, zero, suc, ◌+◌, ◌<◌, ◌≤◌, Bool, true, false, ◌||◌, cond, eqb, List, [], ◌∷◌, ◌++◌, length, sym, refl, ap, ◌∙◌, subst, arith, get_or, set, take, map, length-set, get_or-set_same, get_or-set_other}
+use Rattle.std.proofs.Common.{◌≡◌, ◌≢◌, ◌⊎◌, inl, inr, ℕ, ◌+◌, ◌<◌, ◌≤◌, Bool, true, false, ◌||◌, cond, eqb, List, [], ◌∷◌, ◌++◌, length, sym, refl, ap, ◌∙◌, subst, arith, get_or, set, take, map, length-set, get_or-set_same, get_or-set_other}
 use Rattle.std.specs.Prelude.{count_by, ◌==◌, if◌then◌else◌}
 use Rattle.std.specs.List.{list_any}
-use Rattle.std.proofs.lemmas.Bool.{cases_eq, false≢true}
+use Rattle.std.proofs.lemmas.Bool.{cases_eq}
 use Rattle.std.proofs.lemmas.Bool.Decides.{nat_tests}
-use Rattle.std.proofs.lemmas.List.{take_more, map-append, get_or_default}
+use Rattle.std.proofs.lemmas.List.{take_more, map-append}
 use Rattle.std.proofs.lemmas.List.Folds.{list_any-append}
 use Rattle.std.proofs.lemmas.List.Sums.{sum_by-cons, sum_by-take-le, count_by_more_yes}
 use Rattle.join_words.specs.declared.ins.Given.{Given}
@@ -39,7 +39,7 @@ taking_more old new parts room all es i taking below in_range once =
     let same : get_or new e Nothing ≡ get_or old e Nothing = taking.each e Nothing in_range ∙ ap (λ b. if b then Nothing else get_or old e Nothing) before in
     record {
       taken = ap (λ p. p ++ get_or new e Nothing ∷ []) taking.taken ∙ ap (λ p. map (λ f. get_or old f Nothing) (take i es) ++ p ∷ []) same
-        ∙ sym (map-append (λ f. get_or old f Nothing) (take i es) (e ∷ [])) ∙ ap (map (λ f. get_or old f Nothing)) (sym (take_more es i 0 below));
+          ∙ sym (map-append (λ f. get_or old f Nothing) (take i es) (e ∷ [])) ∙ ap (map (λ f. get_or old f Nothing)) (sym (take_more es i 0 below));
       has_room = taking.has_room;
       len = length-set new e Nothing ∙ taking.len;
       each = λ k d k_below. at_place k d k_below (cases_eq e k);

@@ -1,17 +1,15 @@
 -- Values by their places.
-use Rattle.std.proofs.Common.{◌≡◌, ◌≢◌, ◌⊎◌, inl, inr, ℕ, zero, suc, ◌+◌, ◌<◌, ◌≤◌, Bool, true, false, cond, eqb, List, [], ◌∷◌, ◌++◌, length, Option, Some, None, sym, refl, ap, ◌∙◌, subst, arith, map}
-use Rattle.std.specs.Prelude.{◌==◌, if◌then◌else◌}
-use Rattle.std.specs.List.{AllByRecursion}
+use Rattle.std.proofs.Common.{◌≡◌, ◌≢◌, ℕ, Bool, true, false, cond, eqb, List, [], ◌∷◌, ◌++◌, Some, None, sym, refl, ap, ◌∙◌, arith}
+use Rattle.std.specs.Prelude.{◌==◌}
 use Rattle.std.specs.Arc.{arc_value}
-use Rattle.std.proofs.lemmas.Bool.{cases_eq, false≢true}
 use Rattle.std.proofs.lemmas.Bool.Decides.{nat_tests}
 use Rattle.legal_run.specs.declared.entry.Part.{Part}
 use Rattle.legal_run.specs.declared.entry.Part.TheVariants.{From, First, Nothing}
-use Rattle.join_words.specs.Ins.{Found, value, first, nothing}
+use Rattle.join_words.specs.Ins.{Found}
 use Rattle.run_frame.specs.declared.run.ValueRow.{ValueRow}
-use Rattle.run_frame.specs.Runs.{value_at, found_at, found_by, found_ins}
+use Rattle.run_frame.specs.Runs.{value_at, found_at, found_by}
 use Rattle.text_tasks.specs.declared.item.Item.{Item}
-use Rattle.flow_run.specs.UnderWay.{Carries, ComeLater}
+use Rattle.flow_run.specs.UnderWay.{Carries}
 
 -- a value stays where it is, whatever comes behind
 pub value_stays : (rows more : List (ValueRow Item)) (n : ℕ) (v : Item) → value_at rows n ≡ Some v → value_at (rows ++ more) n ≡ Some v

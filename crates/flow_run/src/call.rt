@@ -153,7 +153,11 @@ fn kept_runs(alloc: Global, job: TextJob) -> Result<List<FrameRun<TextJob>>, NoM
 }
 
 // Puts the reports of these runs, in order.
-fn put_reports<S: Sink>(alloc: Global, out: &mut S, runs: &[FrameRun<TextJob>]) -> Result<(), SinkFault>
+fn put_reports<S: Sink>(
+    alloc: Global,
+    out: &mut S,
+    runs: &[FrameRun<TextJob>],
+) -> Result<(), SinkFault>
     ensures ok { OnOk result (Took (S.taken out.old) (S.taken out.new) (reports runs.now)) }
     ensures err { OnErr result (TookFront (S.taken out.old) (S.taken out.new) (reports runs.now)) }
     ensures cause { IsErrOf result SinkFault.Failed → S.faults out.old < S.faults out.new }

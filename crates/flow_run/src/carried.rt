@@ -28,7 +28,11 @@ pub fn none_carried(alloc: Global, edges: usize) -> Result<Vec<Given<Item>>, NoM
 }
 
 /// Takes what waits at each of these edges, in order. Nothing waits there afterwards.
-pub fn take_ins(alloc: Global, carried: &mut Vec<Given<Item>>, edges: &[u32]) -> Result<Ins<Item>, NoMemory>
+pub fn take_ins(
+    alloc: Global,
+    carried: &mut Vec<Given<Item>>,
+    edges: &[u32],
+) -> Result<Ins<Item>, NoMemory>
     requires places { All (λ e. e < length carried.old.items) edges.now }
     requires once { (e : ℕ) → count_by (λ f. f == e) edges.now ≤ 1 }
     ensures taken { IfOk result (λ ins. parts_of ins ≡ map (λ e. slice_index_or carried.old.items e Nothing) edges.now) }
@@ -44,7 +48,12 @@ pub fn take_ins(alloc: Global, carried: &mut Vec<Given<Item>>, edges: &[u32]) ->
 }
 
 /// Puts a value at each of these edges.
-pub fn carry(carried: &mut Vec<Given<Item>>, edges: &[u32], place: u64, item: &Arc<Item>) -> Result<(), NoMemory>
+pub fn carry(
+    carried: &mut Vec<Given<Item>>,
+    edges: &[u32],
+    place: u64,
+    item: &Arc<Item>,
+) -> Result<(), NoMemory>
     requires { All (λ e. e < length carried.old.items) edges.now }
     ensures len { length carried.new.items ≡ length carried.old.items }
     ensures each { IfOk result (λ _. (k : ℕ) (d : Given Item) → k < length carried.old.items →

@@ -60,7 +60,12 @@ pub fn prepare<F: Texts>(alloc: Global, texts: &mut F, file: &[u8]) -> Result<Te
 }
 
 // The text of a name, if it has at most so many bytes.
-fn read_named<F: Texts>(alloc: Global, texts: &mut F, name: &[u8], max: u64) -> Result<Bytes, Status>
+fn read_named<F: Texts>(
+    alloc: Global,
+    texts: &mut F,
+    name: &[u8],
+    max: u64,
+) -> Result<Bytes, Status>
     ensures held { IfOk result (IsHeld (F.held texts.old) name.now max) }
     ensures stops { IfErr result (StopsAtName (F.held texts.old) name.now max) }
     ensures fault { IfErr result (λ status. HasFault status (F.faults texts.old) (F.faults texts.new)) }
@@ -101,7 +106,9 @@ fn refusal(error: GraphError) -> Status
         GraphError::NoMemory => Status::NoMemory,
         GraphError::NotJson => Status::BadGraph(GraphError::NotJson),
         GraphError::BadField(spot, field) => Status::BadGraph(GraphError::BadField(spot, field)),
-        GraphError::NoSuchName(spot, field) => Status::BadGraph(GraphError::NoSuchName(spot, field)),
+        GraphError::NoSuchName(spot, field) => Status::BadGraph(GraphError::NoSuchName(
+            spot, field,
+        )),
         GraphError::Repeated(spot, field) => Status::BadGraph(GraphError::Repeated(spot, field)),
         GraphError::TooMany(kind) => Status::BadGraph(GraphError::TooMany(kind)),
     }
@@ -126,7 +133,12 @@ fn read_texts<F: Texts>(alloc: Global, texts: &mut F, names: &[Bytes]) -> Result
 }
 
 // Adds the text of a name that isn't in the table.
-fn add_text<F: Texts>(alloc: Global, texts: &mut F, table: &mut TextTable, name: &Bytes) -> Result<(), Status>
+fn add_text<F: Texts>(
+    alloc: Global,
+    texts: &mut F,
+    table: &mut TextTable,
+    name: &Bytes,
+) -> Result<(), Status>
     requires { text_in (rows_of table.old) name.now ≡ None }
     ensures added { IfOk result (λ _. IsAdded (F.held texts.old) name.now (rows_of table.old) (rows_of table.new)) }
     ensures stops { IfErr result (StopsAtName (F.held texts.old) name.now text_limit) }

@@ -1,6 +1,5 @@
-use Rattle.std.proofs.Common.{inl, sym, subst, ◌∙◌, ◌≡◌, refl, ap}
+use Rattle.std.proofs.Common.{inl, subst}
 use Rattle.flow_run.specs.Requests.{StopsBefore}
-use Rattle.flow_run.specs.Answers.{KeptWith}
 use Rattle.flow_run.proofs.Ending.{kept_none}
 use Rattle.flow_run.proofs.call.answer.Goals as goal
 

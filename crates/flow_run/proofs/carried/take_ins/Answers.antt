@@ -1,4 +1,4 @@
-use Rattle.std.proofs.Common.{◌≡◌, ◌∙◌, arith, get_or}
+use Rattle.std.proofs.Common.{◌∙◌, arith, get_or}
 use Rattle.std.proofs.lemmas.List.{get_or_default}
 use Rattle.join_words.specs.declared.ins.Given.TheVariants.{Nothing}
 use Rattle.flow_run.proofs.TakingLemmas.{taking_more}

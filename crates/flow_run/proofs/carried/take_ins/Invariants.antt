@@ -1,9 +1,5 @@
-use Rattle.std.proofs.Common.{◌≡◌, ◌==◌, ◌<◌, ℕ, length, map, take, slice_index_or, if◌then◌else◌}
-use Rattle.std.specs.List.{list_any}
+use Rattle.std.proofs.Common.{length, take}
 use Rattle.join_words.specs.Ins.{parts_of, room_of}
-use Rattle.join_words.specs.declared.ins.Given.{Given}
-use Rattle.join_words.specs.declared.ins.Given.TheVariants.{Nothing}
-use Rattle.text_tasks.specs.declared.item.Item.{Item}
 use Rattle.flow_run.specs.Taking.{Taking}
 use Rattle.flow_run.proofs.carried.take_ins.Given as goal
 

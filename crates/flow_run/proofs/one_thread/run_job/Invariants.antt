@@ -1,4 +1,4 @@
-use Rattle.std.proofs.Common.{◌≡◌, ◌-◌, ℕ, length}
+use Rattle.std.proofs.Common.{◌≡◌, ◌-◌, length}
 use Rattle.std.specs.Arc.{arc_value}
 use Rattle.legal_run.specs.Counts.{starts}
 use Rattle.text_tasks.specs.JobMeaning.{net_of}

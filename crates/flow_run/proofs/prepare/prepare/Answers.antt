@@ -1,9 +1,8 @@
-use Rattle.std.proofs.Common.{rules, arith, sym, subst, refl, ◌≡◌, ◌≢◌, ◌≤◌, ◌∙◌, ap, List, ℕ}
+use Rattle.std.proofs.Common.{sym, subst, ◌≢◌, ◌∙◌}
 use Rattle.std.specs.Prelude.{AllPairs}
 use Rattle.std.specs.List.{filter_map}
-use Rattle.std.specs.Arc.{arc_value}
 use Rattle.graph_file.specs.PlanRows.{plan_rows}
-use Rattle.graph_file.specs.TextNames.{text_of, texts_of}
+use Rattle.graph_file.specs.TextNames.{text_of}
 use Rattle.text_tasks.specs.TextTable.{rows_of}
 use Rattle.flow_run.specs.Requests.{TextsAre}
 use Rattle.flow_run.proofs.Preparing.{mentions_differ, is_work}
@@ -17,4 +16,4 @@ pub first_job-requires : goal.first_job-requires
 first_job-requires g c =
     let names = c.as_slice-2.ensures ∙ c.in-Ok-text_names.ensures in
     rw (c.in-Ok-new.ensures.ok, c.in-Ok-new-2.ensures.ok) (is_work _ (plan_rows c.in-Ok-read_plan.plan) (rows_of c.in-Ok-read_texts.table) c.in-Ok-read_plan.ensures.rules
-      (subst (λ ns. TextsAre (g.F.Texts.held c.read_named.new.texts) ns (rows_of c.in-Ok-read_texts.table)) names c.in-Ok-read_texts.ensures.are))
+    (subst (λ ns. TextsAre (g.F.Texts.held c.read_named.new.texts) ns (rows_of c.in-Ok-read_texts.table)) names c.in-Ok-read_texts.ensures.are))

@@ -1,4 +1,4 @@
-use Rattle.std.proofs.Common.{rules, arith, sym, subst, refl, ◌≡◌, ◌<◌, ◌∙◌, ap, length, List, ℕ}
+use Rattle.std.proofs.Common.{rules, subst, ◌≡◌, ◌<◌, ◌∙◌, ap, length, ℕ}
 use Rattle.std.specs.Prelude.{All, replicate}
 use Rattle.std.specs.Arc.{arc_value}
 use Rattle.task_graph.specs.NetRows.{NetRows}
@@ -17,7 +17,7 @@ returns-clause-under_way c =
     let edges : c.edges.result.now ≡ (arc_value c.in_ok-net.net).edges = c.edges.ensures.rows ∙ ap (λ (n : NetRows). n.edges) c.deref-2.ensures in
     let machine = c.in_ok-machine.ensures in
     begun_run _ (arc_value c.in_ok-net.net) c.in_ok-ready.ready.items c.requires.job c.requires.room net
-      (ap (λ (m : MachineState). m.net) machine) (ap (λ (m : MachineState). m.limit) machine ∙ limit) (ap (λ (m : MachineState). m.journal) machine)
-      (c.in_ok-carried.ensures ∙ ap (λ rows. replicate (length rows) Nothing) edges) c.new-2.ensures
-      (subst (λ (n : NetRows). (t : ℕ) → t < length n.tasks → times t c.in_ok-ready.ready.items ≡ born (in_edges n t)) c.deref-3.ensures c.in_ok-ready.ensures.each)
-      (subst (λ (n : NetRows). All (λ t. t < length n.tasks) c.in_ok-ready.ready.items) c.deref-3.ensures c.in_ok-ready.ensures.in_range)
+    (ap (λ (m : MachineState). m.net) machine) (ap (λ (m : MachineState). m.limit) machine ∙ limit) (ap (λ (m : MachineState). m.journal) machine)
+    (c.in_ok-carried.ensures ∙ ap (λ rows. replicate (length rows) Nothing) edges) c.new-2.ensures
+    (subst (λ (n : NetRows). (t : ℕ) → t < length n.tasks → times t c.in_ok-ready.ready.items ≡ born (in_edges n t)) c.deref-3.ensures c.in_ok-ready.ensures.each)
+    (subst (λ (n : NetRows). All (λ t. t < length n.tasks) c.in_ok-ready.ready.items) c.deref-3.ensures c.in_ok-ready.ensures.in_range)
