@@ -39,11 +39,11 @@ fn call(rt: &HostRuntime) -> Result<u8, NoMemory> {
     Ok(outcome.status.code())
 }
 
-// The words after the program's own name.
+// The words after the program's own name. Where they can't be read as text there is none, which is no command.
 fn words(rt: &HostRuntime) -> Result<Vec<String>, NoMemory> {
     let mut words = Vec::new(rt.alloc());
     let Ok(all_words) = env::args(rt) else {
-        return Err(NoMemory);
+        return Ok(words);
     };
     for word in all_words.skip(1) {
         words.push(word)?;
