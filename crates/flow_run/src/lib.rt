@@ -13,6 +13,8 @@ mod one_thread;
 mod prepare;
 mod report;
 mod status;
+#[cfg(test)]
+mod tests;
 mod words;
 
 pub use call::{Outcome, flow_main};
