@@ -88,6 +88,19 @@ fn refuses_files(rt: HostRuntime) -> Result<(), Fail> {
         (r#"{"tasks":{}}"#, "bad tasks in File"),
         (r#"{"tasks":[7]}"#, "bad tasks in File"),
         (r#"{"tasks":[],"version":1}"#, "bad version in File"),
+    ] {
+        assert_eq!(rt; shown(alloc, file.as_bytes())?.as_str(), want);
+    }
+    assert_eq!(rt; shown(alloc, &[b'[', 255, b']'])?.as_str(), "no JSON");
+    let deep = vec![in alloc; b'['; 4_194_304]?;
+    assert_eq!(rt; shown(alloc, deep.as_slice())?.as_str(), "no JSON");
+    Ok(())
+}
+
+#[test]
+fn refuses_tasks(rt: HostRuntime) -> Result<(), Fail> {
+    let alloc = rt.alloc();
+    for (file, want) in [
         (r#"{"tasks":[{"op":"count"}]}"#, "bad name in Task(0)"),
         (
             r#"{"tasks":[{"name":"a b","op":"count"}]}"#,
@@ -111,16 +124,26 @@ fn refuses_files(rt: HostRuntime) -> Result<(), Fail> {
             "bad word in Task(0)",
         ),
         (
+            r#"{"tasks":[{"name":"a","op":"count","n":1,"word":"x"}]}"#,
+            "bad n in Task(0)",
+        ),
+    ] {
+        assert_eq!(rt; shown(alloc, file.as_bytes())?.as_str(), want);
+    }
+    Ok(())
+}
+
+#[test]
+fn refuses_links(rt: HostRuntime) -> Result<(), Fail> {
+    let alloc = rt.alloc();
+    for (file, want) in [
+        (
             r#"{"tasks":[{"name":"a","op":"count","to":"a"}]}"#,
             "bad to in Task(0)",
         ),
         (
             r#"{"tasks":[{"name":"a","op":"count","to":["a b"]}]}"#,
             "bad to in Task(0)",
-        ),
-        (
-            r#"{"tasks":[{"name":"a","op":"count","n":1,"word":"x"}]}"#,
-            "bad n in Task(0)",
         ),
         (
             r#"{"tasks":[{"name":"a","op":"count","to":["a","a"]}]}"#,
@@ -137,9 +160,6 @@ fn refuses_files(rt: HostRuntime) -> Result<(), Fail> {
     ] {
         assert_eq!(rt; shown(alloc, file.as_bytes())?.as_str(), want);
     }
-    assert_eq!(rt; shown(alloc, &[b'[', 255, b']'])?.as_str(), "no JSON");
-    let deep = vec![in alloc; b'['; 4_194_304]?;
-    assert_eq!(rt; shown(alloc, deep.as_slice())?.as_str(), "no JSON");
     Ok(())
 }
 
