@@ -1,5 +1,5 @@
 // Calls of the program over texts and sinks in memory.
-use crate::{Outcome, flow_main};
+use crate::{FILE_LIMIT, Outcome, TEXT_LIMIT, flow_main};
 use outside_io::{Bytes, FailAt, List, MemorySink, MemoryTexts, NoMemory};
 use std::alloc::{AllocError, Global};
 use std::str;
@@ -209,6 +209,35 @@ fn tells_failing_puts(rt: HostRuntime) -> Result<(), Fail> {
             ..run(READ, "x")
         };
         assert_eq!(rt; shown(rt.alloc(), &call)?.as_str(), want);
+    }
+    Ok(())
+}
+
+// So many bytes: these, and spaces after them.
+fn padded(alloc: Global, front: &str, len: u64) -> Result<String, AllocError> {
+    let mut padded = String::from_str(alloc, front)?;
+    for _place in front.len()..len as usize {
+        padded.push(' ')?;
+    }
+    Ok(padded)
+}
+
+#[test]
+fn holds_texts_to_their_limits(rt: HostRuntime) -> Result<(), Fail> {
+    let alloc = rt.alloc();
+    for (graph_len, text_len, want) in [
+        (
+            FILE_LIMIT,
+            TEXT_LIMIT,
+            "0 written, run of 4; == lines\n1\n; ",
+        ),
+        (FILE_LIMIT + 1, 0, "5 written; ; flow: text too long g\n"),
+        (0, TEXT_LIMIT + 1, "5 written; ; flow: text too long t\n"),
+    ] {
+        let graph = padded(alloc, COUNT, graph_len)?;
+        let text = padded(alloc, "", text_len)?;
+        let call = run(graph.as_str(), text.as_str());
+        assert_eq!(rt; shown(alloc, &call)?.as_str(), want);
     }
     Ok(())
 }
