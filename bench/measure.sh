@@ -31,25 +31,39 @@ printf 'x\ny\n' > small.txt
 chain 1000
 chain 10000
 
-# The best of five.
+# The best of five: seconds, and the most memory in use.
 measure() {
-    local name=$1
-    shift
-    for _round in 1 2 3 4 5; do
-        python3 - "$name" "$@" <<'PYTHON'
+    python3 - "$@" <<'PYTHON'
 import resource, subprocess, sys, time
-start = time.perf_counter()
-with open("printed.txt", "wb") as printed:
-    subprocess.run(sys.argv[2:], stdout=printed, check=True)
-seconds = time.perf_counter() - start
-print(f"{sys.argv[1]:<16} {seconds:8.4f} s {resource.getrusage(resource.RUSAGE_CHILDREN).ru_maxrss // 1024:5d} MB")
+best = float("inf")
+for _ in range(5):
+    with open("printed.txt", "wb") as printed:
+        start = time.perf_counter()
+        subprocess.run(sys.argv[1:], stdout=printed, check=True)
+        best = min(best, time.perf_counter() - start)
+print(f"{best:.4f} {resource.getrusage(resource.RUSAGE_CHILDREN).ru_maxrss // 1024}")
 PYTHON
-    done | sort -k2,2n | head -n 1
 }
 
-measure "flow keep" "$flow" run keep.json
-measure "grep -F" grep -F ERROR log.txt
-measure "flow count" "$flow" run count.json
-measure "wc -l" wc -l log.txt
-measure "1,000 tasks" "$flow" run chain1000.json
-measure "10,000 tasks" "$flow" run chain10000.json
+# Prints a figure, and its ratio to another's seconds where one is given.
+tell() {
+    awk -v name="$1" -v seconds="$2" -v memory="$3" -v other="${4:-}" 'BEGIN {
+        printf "%-13s %8.4f s %5d MB", name, seconds, memory
+        if (other != "") printf "   %.1f times the other", seconds / other
+        printf "\n"
+    }'
+}
+
+read -r grep_seconds grep_memory < <(measure grep -F ERROR log.txt)
+read -r keep_seconds keep_memory < <(measure "$flow" run keep.json)
+read -r wc_seconds wc_memory < <(measure wc -l log.txt)
+read -r count_seconds count_memory < <(measure "$flow" run count.json)
+read -r thousand_seconds thousand_memory < <(measure "$flow" run chain1000.json)
+read -r most_seconds most_memory < <(measure "$flow" run chain10000.json)
+
+tell "grep -F" "$grep_seconds" "$grep_memory"
+tell "flow keep" "$keep_seconds" "$keep_memory" "$grep_seconds"
+tell "wc -l" "$wc_seconds" "$wc_memory"
+tell "flow count" "$count_seconds" "$count_memory" "$wc_seconds"
+tell "1,000 tasks" "$thousand_seconds" "$thousand_memory"
+tell "10,000 tasks" "$most_seconds" "$most_memory" "$thousand_seconds"

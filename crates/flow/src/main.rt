@@ -6,6 +6,7 @@ use outside_io::{FolderTexts, NoMemory, StdSink};
 use span_profile::{SpanCount, Watch};
 use std::alloc::Global;
 use std::env;
+use std::io::ErrorKind;
 use std::process::ExitCode;
 
 /// How many watchers a call is handed.
@@ -39,11 +40,13 @@ fn call(rt: &HostRuntime) -> Result<u8, NoMemory> {
     Ok(outcome.status.code())
 }
 
-// The words after the program's own name. Where they can't be read as text there is none, which is no command.
+// The words after the program's own name. Where they are no text there is none, which is no command.
 fn words(rt: &HostRuntime) -> Result<Vec<String>, NoMemory> {
     let mut words = Vec::new(rt.alloc());
-    let Ok(all_words) = env::args(rt) else {
-        return Ok(words);
+    let all_words = match env::args(rt) {
+        Ok(all_words) => all_words,
+        Err(error) if error.kind() == ErrorKind::InvalidData => return Ok(words),
+        Err(_) => return Err(NoMemory),
     };
     for word in all_words.skip(1) {
         words.push(word)?;

@@ -28,7 +28,7 @@ pub struct Outcome {
     pub runs: List<FrameRun<TextJob>>,
     /// The watchers, as they were handed in.
     pub watchers: Vec<Box<dyn Watch + Send>>,
-    /// Whether no put on the output was refused.
+    /// Whether the output took the whole report. It did not where a put or memory was refused.
     pub written: bool,
     /// Whether the line of the status was put on the notes.
     pub noted: Noted,
@@ -46,16 +46,24 @@ pub fn flow_main<F: Texts, S: Sink, N: Sink>(
 ) -> Outcome
     // The status has its cause, and the kept run is one legal and complete run of the graph that FILE holds.
     ensures ends { CallEnds (F.held texts.old) words.now result.status result.runs }
-    // The output took the report of the kept run.
+    // The output took the report of the kept run. Where no run is kept nothing is put there.
     ensures output { OutputIs (S.taken out.old) (S.taken out.new) result.written (reports result.runs) }
+    ensures out_untouched { result.runs ≡ [] → out.new ≡ out.old }
     ensures written { WrittenFits result.status result.written }
     ensures write_fault { WriteCause result.status (S.faults out.old) (S.faults out.new) }
     ensures read_fault { HasFault result.status (F.faults texts.old) (F.faults texts.new) }
-    // The notes took the line of the status.
+    ensures texts_stay { F.held texts.new ≡ F.held texts.old }
+    // The notes took the line of the status. With Done there is none, and nothing is put there.
+    ensures noted_done { result.status ≡ Status.Done → result.noted ≡ Noted.Whole }
+    ensures notes_untouched { result.status ≡ Status.Done → notes.new ≡ notes.old }
     ensures noted_whole { result.noted ≡ Noted.Whole → Took (N.taken notes.old) (N.taken notes.new) (note_line result.status) }
     ensures noted_front { result.noted ≡ Noted.Fault → TookFront (N.taken notes.old) (N.taken notes.new) (note_line result.status) }
     ensures note_fault { result.noted ≡ Noted.Fault → N.faults notes.old < N.faults notes.new }
     ensures noted_nothing { result.noted ≡ Noted.NoMemory → N.taken notes.new ≡ N.taken notes.old }
+    // No count of faults falls.
+    ensures no_fewer_of_texts { F.faults texts.old ≤ F.faults texts.new }
+    ensures no_fewer_of_out { S.faults out.old ≤ S.faults out.new }
+    ensures no_fewer_of_notes { N.faults notes.old ≤ N.faults notes.new }
     ensures watchers { result.watchers ≡ watchers }
 {
     let Ended {
@@ -84,13 +92,32 @@ struct Ended {
 fn answer<F: Texts, S: Sink>(alloc: Global, words: &[String], texts: &mut F, out: &mut S) -> Ended
     ensures ends { CallEnds (F.held texts.old) words.now result.status result.runs }
     ensures output { OutputIs (S.taken out.old) (S.taken out.new) result.written (reports result.runs) }
+    ensures out_untouched { result.runs ≡ [] → out.new ≡ out.old }
     ensures written { WrittenFits result.status result.written }
     ensures write_fault { WriteCause result.status (S.faults out.old) (S.faults out.new) }
     ensures read_fault { HasFault result.status (F.faults texts.old) (F.faults texts.new) }
+    ensures texts_stay { F.held texts.new ≡ F.held texts.old }
+    ensures no_fewer_of_texts { F.faults texts.old ≤ F.faults texts.new }
+    ensures no_fewer_of_out { S.faults out.old ≤ S.faults out.new }
 {
-    let Some(file) = file_to_run(words) else {
-        return stopped(alloc, Status::BadWords);
-    };
+    match file_to_run(words) {
+        Some(file) => run_file(alloc, file, texts, out),
+        None => stopped(alloc, Status::BadWords),
+    }
+}
+
+// The command `run FILE`.
+fn run_file<F: Texts, S: Sink>(alloc: Global, file: &str, texts: &mut F, out: &mut S) -> Ended
+    ensures ends { KeptWith (F.held texts.old) file.now result.status result.runs }
+    ensures output { OutputIs (S.taken out.old) (S.taken out.new) result.written (reports result.runs) }
+    ensures out_untouched { result.runs ≡ [] → out.new ≡ out.old }
+    ensures written { WrittenFits result.status result.written }
+    ensures write_fault { WriteCause result.status (S.faults out.old) (S.faults out.new) }
+    ensures read_fault { HasFault result.status (F.faults texts.old) (F.faults texts.new) }
+    ensures texts_stay { F.held texts.new ≡ F.held texts.old }
+    ensures no_fewer_of_texts { F.faults texts.old ≤ F.faults texts.new }
+    ensures no_fewer_of_out { S.faults out.old ≤ S.faults out.new }
+{
     match prepare(alloc, texts, file.as_bytes()) {
         Ok(job) => run_and_report(alloc, job, out),
         Err(status) => stopped(alloc, status),
@@ -114,8 +141,10 @@ fn run_and_report<S: Sink>(alloc: Global, job: TextJob, out: &mut S) -> Ended
     requires room { length (net_of job).tasks ≤ limit_of job }
     ensures kept { RanWith job result.status result.runs }
     ensures output { OutputIs (S.taken out.old) (S.taken out.new) result.written (reports result.runs) }
+    ensures out_untouched { result.runs ≡ [] → out.new ≡ out.old }
     ensures written { WrittenFits result.status result.written }
     ensures write_fault { WriteCause result.status (S.faults out.old) (S.faults out.new) }
+    ensures no_fewer { S.faults out.old ≤ S.faults out.new }
 {
     let Ok(runs) = kept_runs(alloc, job) else {
         return stopped(alloc, Status::NoMemory);

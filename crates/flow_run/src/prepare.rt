@@ -33,6 +33,7 @@ pub fn prepare<F: Texts>(alloc: Global, texts: &mut F, file: &[u8]) -> Result<Te
     ensures requested { IfOk result (IsRequestedJob (F.held texts.old) file.now) }
     ensures stops { IfErr result (StopsBefore (F.held texts.old) file.now) }
     ensures fault { IfErr result (λ status. HasFault status (F.faults texts.old) (F.faults texts.new)) }
+    ensures stays { F.held texts.new ≡ F.held texts.old }
     ensures no_fewer { F.faults texts.old ≤ F.faults texts.new }
 {
     let bytes = match read_named(alloc, texts, file, FILE_LIMIT) {
@@ -120,6 +121,7 @@ fn read_texts<F: Texts>(alloc: Global, texts: &mut F, names: &[Bytes]) -> Result
     ensures are { IfOk result (λ table. TextsAre (F.held texts.old) names.now (rows_of table)) }
     ensures stops { IfErr result (StopsAtText (F.held texts.old) names.now) }
     ensures fault { IfErr result (λ status. HasFault status (F.faults texts.old) (F.faults texts.new)) }
+    ensures stays { F.held texts.new ≡ F.held texts.old }
     ensures no_fewer { F.faults texts.old ≤ F.faults texts.new }
 {
     let mut table = TextTable::new(alloc);

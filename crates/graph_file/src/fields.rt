@@ -27,7 +27,7 @@ pub(crate) fn bad_field(alloc: Global, spot: Spot, field: &str) -> GraphError
     }
 }
 
-/// A task's place. No file that fits memory has more tasks than a `u32` counts.
+/// A task's place. A number past the greatest `u32` is told as that one.
 pub(crate) fn task_spot(task: usize) -> Spot {
     Spot::Task(u32::try_from(task).unwrap_or(u32::MAX))
 }

@@ -1,7 +1,7 @@
 //! Jobs and their runs: what a job is, and which runs of it are legal.
 //!
 //! The layer above sees a job by its meanings (the ghost members of `Job`), and a run as plain data
-//! (`FrameRun`) with the facts `LegalRun` and `CompleteRun`. The definitions stand in `specs/`: `WorkRule`,
+//! (`FrameRun`) with the facts `Legal` and `CompleteRun`. The definitions stand in `specs/`: `WorkRule`,
 //! `NestedRule`, `Legal`.
 #![tactic(auto)]
 

@@ -11,8 +11,8 @@ pub struct ValueRow<V> {
     pub value: Arc<V>,
 }
 
-/// A run of a job: its journal, the value of each End, and the runs that its starts made. Both kinds of row
-/// stand by rising place.
+/// A run of a job: its journal, the value of each End, and the runs that its starts made. Of two rows of one
+/// kind with the same place the first counts.
 #[cycle(run)]
 #[derive(Drop)]
 pub struct FrameRun<J: Valued> {

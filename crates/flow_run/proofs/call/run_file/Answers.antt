@@ -1,9 +1,9 @@
-use Rattle.std.proofs.Common.{inl, subst}
+use Rattle.std.proofs.Common.{subst}
 use Rattle.flow_run.specs.Requests.{StopsBefore}
 use Rattle.flow_run.proofs.Ending.{kept_none}
-use Rattle.flow_run.proofs.call.answer.Goals as goal
+use Rattle.flow_run.proofs.call.run_file.Goals as goal
 
 pub returns-in-Err-clause-ends : goal.returns-in-Err-clause-ends
 returns-in-Err-clause-ends g c =
     let stops = subst (λ file. StopsBefore (g.F.Texts.held c.args.texts.now) file c.in-Err.status) c.as_bytes.ensures.value c.in-Err.ensures.stops in
-    rw c.stopped-in-Err.ensures (inl (c.in-Some.file.now, c.in-Some.ensures.taken, kept_none (g.F.Texts.held c.args.texts.now) c.in-Some.file.now c.in-Err.status stops))
+    rw c.stopped.ensures (kept_none (g.F.Texts.held c.args.texts.now) c.args.file.now c.in-Err.status stops)
