@@ -10,8 +10,8 @@ const EMPTY: &str = r#"{"tasks":[]}"#;
 const READ: &str = r#"{"tasks":[{"name":"a","op":"read","text":"t"}]}"#;
 
 const COUNT: &str = r#"{"tasks":[
-    {"name":"all","op":"read","text":"t","to":["lines"]},
-    {"name":"lines","op":"count"}]}"#;
+    {"name":"a","op":"read","text":"t","to":["b"]},
+    {"name":"b","op":"count"}]}"#;
 
 const KEEP: &str = r#"{"tasks":[
     {"name":"b","op":"keep","word":"b"},
@@ -106,12 +106,8 @@ fn runs_graphs(rt: HostRuntime) -> Result<(), Fail> {
     for (graph, text, want) in [
         (EMPTY, "", "0 written, run of 0; ; "),
         (READ, "", "0 written, run of 2; == a\n; "),
-        (
-            COUNT,
-            "1\n2\n3\n4\n5\n",
-            "0 written, run of 4; == lines\n5\n; ",
-        ),
-        (COUNT, "1\n2", "0 written, run of 4; == lines\n2\n; "),
+        (COUNT, "1\n2\n3\n4\n5\n", "0 written, run of 4; == b\n5\n; "),
+        (COUNT, "x\ny", "0 written, run of 4; == b\n2\n; "),
         (
             KEEP,
             "ab\nc\nb",
@@ -226,11 +222,7 @@ fn padded(alloc: Global, front: &str, len: u64) -> Result<String, AllocError> {
 fn holds_texts_to_their_limits(rt: HostRuntime) -> Result<(), Fail> {
     let alloc = rt.alloc();
     for (graph_len, text_len, want) in [
-        (
-            FILE_LIMIT,
-            TEXT_LIMIT,
-            "0 written, run of 4; == lines\n1\n; ",
-        ),
+        (FILE_LIMIT, TEXT_LIMIT, "0 written, run of 4; == b\n1\n; "),
         (FILE_LIMIT + 1, 0, "5 written; ; flow: text too long g\n"),
         (0, TEXT_LIMIT + 1, "5 written; ; flow: text too long t\n"),
     ] {
