@@ -4,7 +4,6 @@
 use flow_run::flow_main;
 use outside_io::{FolderTexts, NoMemory, StdSink};
 use span_profile::{SpanCount, Watch};
-use std::alloc::Global;
 use std::env;
 use std::io::ErrorKind;
 use std::process::ExitCode;
@@ -16,16 +15,24 @@ const WATCHERS: usize = 16;
 const NO_MEMORY: u8 = 13;
 
 fn main(rt: HostRuntime) -> ExitCode {
-    match call(&rt) {
+    let mut watchers: Vec<Box<dyn Watch + Send>> = Vec::new(rt.alloc());
+    for _seat in 0..WATCHERS {
+        let Ok(watcher) = Box::new(rt.alloc(), SpanCount::new()) else {
+            return ExitCode::from(NO_MEMORY);
+        };
+        if watchers.push(watcher).is_err() {
+            return ExitCode::from(NO_MEMORY);
+        }
+    }
+    match call(&rt, watchers) {
         Ok(code) => ExitCode::from(code),
         Err(NoMemory) => ExitCode::from(NO_MEMORY),
     }
 }
 
 // Calls the program with the words after its name.
-fn call(rt: &HostRuntime) -> Result<u8, NoMemory> {
+fn call(rt: &HostRuntime, watchers: Vec<Box<dyn Watch + Send>>) -> Result<u8, NoMemory> {
     let words = words(rt)?;
-    let watchers = watchers(rt.alloc())?;
     let mut texts = FolderTexts::new(rt);
     let mut out = StdSink::out(rt);
     let mut notes = StdSink::notes(rt);
@@ -52,14 +59,4 @@ fn words(rt: &HostRuntime) -> Result<Vec<String>, NoMemory> {
         words.push(word)?;
     }
     Ok(words)
-}
-
-// Watchers that count spans.
-fn watchers(alloc: Global) -> Result<Vec<Box<dyn Watch + Send>>, NoMemory> {
-    let mut watchers: Vec<Box<dyn Watch + Send>> = Vec::new(alloc);
-    for _seat in 0..WATCHERS {
-        let watcher: Box<dyn Watch + Send> = Box::new(alloc, SpanCount::new())?;
-        watchers.push(watcher)?;
-    }
-    Ok(watchers)
 }
