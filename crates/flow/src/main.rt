@@ -1,7 +1,7 @@
 //! The program `flow`: the real texts, streams and watchers for `flow_run`, and its exit code.
 #![tactic(auto)]
 
-use flow_run::flow_main;
+use flow_run::{Status, flow_main, put_note};
 use outside_io::{FolderTexts, NoMemory, StdSink};
 use span_profile::{SpanCount, Watch};
 use std::env;
@@ -11,23 +11,27 @@ use std::process::ExitCode;
 /// How many watchers a call is handed.
 const WATCHERS: usize = 16;
 
-/// The exit code where the words or the watchers find no memory.
-const NO_MEMORY: u8 = 13;
-
 fn main(rt: HostRuntime) -> ExitCode {
     let mut watchers: Vec<Box<dyn Watch + Send>> = Vec::new(rt.alloc());
     for _seat in 0..WATCHERS {
         let Ok(watcher) = Box::new(rt.alloc(), SpanCount::new()) else {
-            return ExitCode::from(NO_MEMORY);
+            return without_memory(&rt);
         };
         if watchers.push(watcher).is_err() {
-            return ExitCode::from(NO_MEMORY);
+            return without_memory(&rt);
         }
     }
     match call(&rt, watchers) {
         Ok(code) => ExitCode::from(code),
-        Err(NoMemory) => ExitCode::from(NO_MEMORY),
+        Err(NoMemory) => without_memory(&rt),
     }
+}
+
+// The end of a program that finds no memory for the words or the watchers.
+fn without_memory(rt: &HostRuntime) -> ExitCode {
+    let status = Status::NoMemory;
+    let _noted = put_note(rt.alloc(), &mut StdSink::notes(rt), &status);
+    ExitCode::from(status.code())
 }
 
 // Calls the program with the words after its name.

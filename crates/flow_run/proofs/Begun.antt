@@ -66,6 +66,7 @@ begun job carried ready plain none sources below =
       carried_len = ap length none ∙ length-replicate (length net.edges) NothingGiven;
       carries = λ e inside. subst (λ p. Carries [] p (found_of (slice_index_or carried e NothingGiven))) (sym (nothing_waits net e plain)) (found e);
       texts = λ e inside. subst FindsText (sym (found e)) tt;
+      rows = refl;
       values_before = λ n past. refl;
       work = λ more later. tt;
       none_open = λ n past. absurd (omega arith);

@@ -1,6 +1,6 @@
 -- A run in which no task is ready is finished, and legal.
 use Rattle.std.proofs.Common.{◌≡◌, ◌≢◌, ℕ, ◌<◌, true, false, List, [], ◌∷◌, ◌++◌, length, sym, refl, ap, ◌∙◌, subst, arith, IsTrue, map, append-nil}
-use Rattle.std.specs.Prelude.{AllPairs, count_by}
+use Rattle.std.specs.Prelude.{All, AllPairs, count_by, slice_get, IsSomeAnd}
 use Rattle.std.specs.List.{AllByRecursion}
 use Rattle.std.proofs.lemmas.Bool.{false≢true}
 use Rattle.task_graph.specs.NetRows.{NetRows}
@@ -17,9 +17,10 @@ use Rattle.legal_run.proofs.WaitingLemmas.{each_below}
 use Rattle.join_words.specs.declared.ins.Given.{Given}
 use Rattle.run_frame.specs.declared.run.ValueRow.{ValueRow}
 use Rattle.run_frame.specs.declared.run.FrameRun.{FrameRun, FrameRun-F, roll-FrameRun, out-FrameRun, out-roll-FrameRun, FrameRun', rolls-FrameRun', Row_of-InnerRow, end_of-InnerRow, more_of-InnerRow, items-the_row-InnerRow, items_hidden-the_row-InnerRow-0}
-use Rattle.run_frame.specs.declared.run.InnerRow.{InnerRow}
+use Rattle.run_frame.specs.declared.run.InnerRow.{InnerRow, out-InnerRow}
 use Rattle.run_frame.specs.Legal.{Legal, LegalJournal, LegalRows, CompleteRun}
 use Rattle.run_frame.specs.Runs.{inner_in}
+use Rattle.run_frame.specs.Rows.{RowsFit, MayHaveInner, ends_from}
 use Rattle.flow_run.specs.declared.one_thread.OneThread.{OneThread}
 use Rattle.flow_run.specs.OneThread.{IsUnderWay}
 use Rattle.std.specs.Arc.{arc_value}
@@ -153,6 +154,26 @@ finished_complete run inner is =
     let plan = plan_of (arc_value run.job) is.job in
     subst (λ (l : Layer). Complete (net_of (arc_value l.job)) (limit_of (arc_value l.job)) l.journal) (sym opened)
     (complete (arc_value run.job) run.machine.journal run.carried.items run.values (limit_of (arc_value run.job)) plan.plain plan.single is.under)
+  where
+    layer : Layer
+    layer = record { job = run.job; journal = run.machine.journal; values = run.values; inner = inner }
+
+    opened : out-FrameRun TextJob Item (roll-FrameRun TextJob Item layer) ≡ layer
+    opened = out-roll-FrameRun TextJob Item layer
+
+-- the places of inner runs
+abbrev places : List (InnerRow TextJob Item) → List ℕ
+places rows = map (λ row. (out-InnerRow TextJob Item row).place) rows
+
+pub finished_rows : (run : OneThread) (inner : Vec (InnerRow TextJob Item)) → inner.items ≡ [] → IsUnderWay run []
+    → RowsFit (roll-FrameRun TextJob Item (record { job = run.job; journal = run.machine.journal; values = run.values; inner = inner }))
+finished_rows run inner none is = record {
+  values = subst (λ (l : Layer). map (λ (row : ValueRow Item). row.place) l.values ≡ ends_from 0 l.journal) (sym opened) is.under.rows;
+  rising = subst (λ (l : Layer). AllPairs (λ a b. a < b) (places l.inner.items)) (sym opened)
+      (subst (λ rows. AllPairs (λ a b. a < b) (places rows)) (sym none) (λ i j d less below. absurd (omega arith)));
+  fit = subst (λ (l : Layer). All (λ n. IsSomeAnd (slice_get l.journal n) MayHaveInner) (places l.inner.items)) (sym opened)
+      (subst (λ rows. All (λ n. IsSomeAnd (slice_get run.machine.journal n) MayHaveInner) (places rows)) (sym none) (λ k d below. absurd (omega arith)));
+}
   where
     layer : Layer
     layer = record { job = run.job; journal = run.machine.journal; values = run.values; inner = inner }

@@ -3,6 +3,7 @@ pub mod Values
 pub mod Flow
 pub mod Started
 pub mod Stepping
+pub mod RowLemmas
 pub mod Step
 pub mod Released
 pub mod Finished

@@ -43,6 +43,7 @@ use Rattle.text_tasks.specs.Items.{item_text}
 use Rattle.flow_run.specs.UnderWay.{UnderWay, Carries, ComeLater, none_inner, started_times}
 use Rattle.flow_run.proofs.Flow.{one_if, eqb_both_ways}
 use Rattle.flow_run.proofs.Started.{with_step, source_step, strong_step, started_step, given_step}
+use Rattle.flow_run.proofs.RowLemmas.{rows_step}
 use Rattle.flow_run.proofs.Values.{value_behind, value_here, value_not_here, carried_found, carries_still}
 use Rattle.flow_run.proofs.Stepping.{IsStep, plain_start, edges_are, waiting_step, length_step, AllByRecursion-push, none_open_step, account_step, once_step}
 
@@ -205,6 +206,7 @@ under_step job h carried new values rest t cause found row step under steps =
           (value_last job h carried values (rest ++ t ∷ []) row [] under steps.place) (under.carries e below)));
       texts = λ e below. subst FindsText (sym (steps.each e (rw under.carried_len below)))
           (finds_step (list_any (λ g. g == e) (out_edges net t)) (list_any (λ f. f == e) (strong_in net t)) (arc_value row.value) (found_of (slice_index_or carried e NothingGiven)) steps.fits (under.texts e below));
+      rows = rows_step h values row t cause ins (out_edges net t) under.rows steps.place;
       values_before = λ n after. let len = length_step h t cause ins (out_edges net t) in
           value_behind values (row ∷ []) n (under.values_before n (omega arith)) ∙ value_not_here row n (λ same. let at = steps.place in omega arith);
       work = work_step job h carried new values (rest ++ t ∷ []) t cause found row step under steps;

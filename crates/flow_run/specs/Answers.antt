@@ -5,6 +5,7 @@ use Rattle.std.specs.List.{flat_map}
 use Rattle.outside_io.specs.Sink.{Took, TookFront}
 use Rattle.run_frame.specs.declared.run.FrameRun.{FrameRun}
 use Rattle.run_frame.specs.Legal.{Legal, CompleteRun}
+use Rattle.run_frame.specs.Rows.{RowsFit}
 use Rattle.run_frame.specs.NestedRule.{job_of}
 use Rattle.text_tasks.specs.declared.item.Item.{Item}
 use Rattle.text_tasks.specs.declared.job.TextJob.{TextJob}
@@ -15,10 +16,11 @@ use Rattle.flow_run.specs.Requests.{Held, IsRequestedJob, StopsBefore}
 use Rattle.flow_run.specs.Words.{AsksForRun}
 use Rattle.flow_run.specs.Output.{report_of}
 
--- a run that is kept: legal, complete, and of the job that the file asks for
+-- a run that is kept: legal, complete, with a value for each End, and of the job that the file asks for
 pub record IsKept (held : Held) (file : List ℕ) (run : FrameRun TextJob Item) : Type 0 where
   pub legal : Legal text_job run
   pub complete : CompleteRun text_job run
+  pub rows : RowsFit run
   pub requested : IsRequestedJob held file (job_of run)
 
 -- Which runs are kept with a status. One was run to its end where the status is Done or WriteFault; it may have
@@ -40,6 +42,7 @@ pub record RanOnce (job : TextJob) (runs : List (FrameRun TextJob Item)) : Type 
   pub only : runs ≡ run ∷ []
   pub legal : Legal text_job run
   pub complete : CompleteRun text_job run
+  pub rows : RowsFit run
   pub of_job : job_of run ≡ job
 
 -- so it was, or memory was refused
@@ -88,7 +91,19 @@ CallEnds held words status runs =
     ((file : List ℕ) × AsksForRun words file × KeptWith held file status runs)
     ⊎ ((status ≡ BadWords) × (runs ≡ []) × ((file : List ℕ) → ¬ AsksForRun words file))
 
--- the output took the whole text, or a front of it where a put was refused
+-- whether the output took the whole report: all but where a put on it was refused, or memory was
+abbrev pub put_whole : Status → Bool → Bool
+put_whole Done written = written
+put_whole BadWords written = written
+put_whole (BadGraph error) written = written
+put_whole (NoSource spot) written = written
+put_whole (NoText name) written = written
+put_whole (LongText name) written = written
+put_whole (ReadFault name) written = written
+put_whole WriteFault written = written
+put_whole NoMemory written = false
+
+-- the output took the whole text, or a front of it
 abbrev pub OutputIs : Option (List ℕ) → Option (List ℕ) → Bool → List ℕ → Type 0
 OutputIs before after true text = Took before after text
 OutputIs before after false text = TookFront before after text

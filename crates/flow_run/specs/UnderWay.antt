@@ -1,5 +1,5 @@
 -- What holds of a run by one thread between two of its steps.
-use Rattle.std.specs.Prelude.{◌≡◌, ◌≢◌, ℕ, ◌+◌, ◌<◌, ◌≤◌, false, ◌==◌, List, [], ◌∷◌, ◌++◌, length, sum_by, count_by, All, Option, Some, None, slice_get, slice_index_or, if◌then◌else◌}
+use Rattle.std.specs.Prelude.{◌≡◌, ◌≢◌, ℕ, ◌+◌, ◌<◌, ◌≤◌, false, ◌==◌, List, [], ◌∷◌, ◌++◌, length, map, sum_by, count_by, All, Option, Some, None, slice_get, slice_index_or, if◌then◌else◌}
 use Rattle.std.specs.List.{AllByRecursion}
 use Rattle.task_graph.specs.NetRows.{NetRows}
 use Rattle.task_graph.specs.Net.{IsSource, in_edges, strong_in}
@@ -19,6 +19,7 @@ use Rattle.join_words.specs.Ins.{Found, value, first, nothing, found_of}
 use Rattle.run_frame.specs.declared.run.ValueRow.{ValueRow}
 use Rattle.run_frame.specs.declared.run.FrameRun.{FrameRun}
 use Rattle.run_frame.specs.Runs.{value_at}
+use Rattle.run_frame.specs.Rows.{ends_from}
 use Rattle.run_frame.specs.WorkRule.{WorkRule}
 use Rattle.text_tasks.specs.declared.item.Item.{Item}
 use Rattle.text_tasks.specs.declared.job.TextJob.{TextJob}
@@ -72,13 +73,14 @@ abbrev pub none_inner : ℕ → Option (FrameRun TextJob Item)
 none_inner n = None
 
 -- Between two steps each start is closed, each release that isn't used is ready, and each task was started or
--- is ready once at most. What waits at the edges is carried there. Each End so far has a value that its work
+-- is ready once at most. What waits at the edges is carried there. Each End so far has one value, which its work
 -- allows, whatever values come later.
 pub record UnderWay (job : TextJob) (h : List Entry) (carried : List (Given Item)) (values : List (ValueRow Item)) (ready : List ℕ) : Type 0 where
   pub entries : AllByRecursion (IsPlainEntry (net_of job)) h
   pub carried_len : length carried ≡ length (net_of job).edges
   pub carries : (e : ℕ) → e < length (net_of job).edges → Carries values (waiting (net_of job) e h) (found_of (slice_index_or carried e NothingGiven))
   pub texts : (e : ℕ) → e < length (net_of job).edges → FindsText (found_of (slice_index_or carried e NothingGiven))
+  pub rows : map (λ (row : ValueRow Item). row.place) values ≡ ends_from 0 h
   pub values_before : (n : ℕ) → length h ≤ n → value_at values n ≡ None
   pub work : (more : List (ValueRow Item)) → ComeLater (length h) more → EachAfter (WorkRule text_job job (values ++ more) none_inner) h
   pub none_open : (n : ℕ) → n < length h → is_open h n ≡ false

@@ -3,13 +3,13 @@ ghost use Rattle.std.specs.Prelude.{◌≡◌, ◌≤◌, ◌<◌, ℕ, List, []
 ghost use Rattle.outside_io.specs.Sink.{Took, TookFront};
 ghost use Rattle.text_tasks.specs.JobMeaning.{net_of, limit_of, IsTextJob};
 ghost use Rattle.flow_run.specs.Requests.{IsRequestedJob, HasFault};
-ghost use Rattle.flow_run.specs.Answers.{KeptWith, CallEnds, OutputIs, WrittenFits, WriteCause, RanOnce, RanWith, reports};
+ghost use Rattle.flow_run.specs.Answers.{KeptWith, CallEnds, OutputIs, put_whole, WrittenFits, WriteCause, RanOnce, RanWith, reports};
 ghost use Rattle.flow_run.specs.Notes.{note_line};
 
 use super::note::put_note;
 use super::one_thread::run_job;
 use super::prepare::prepare;
-use super::report::put_report;
+use super::report::{ReportFault, put_report};
 use super::status::{Noted, Status};
 use super::words::file_to_run;
 use outside_io::{List, NoMemory, Sink, SinkFault, Texts};
@@ -28,7 +28,8 @@ pub struct Outcome {
     pub runs: List<FrameRun<TextJob>>,
     /// The watchers, as they were handed in.
     pub watchers: Vec<Box<dyn Watch + Send>>,
-    /// Whether the output took the whole report. It did not where a put or memory was refused.
+    /// Whether no put on the output was refused. The output then took the whole report, or nothing where no run
+    /// is kept; with `NoMemory` it may have taken a front, since memory can be refused between two puts.
     pub written: bool,
     /// Whether the line of the status was put on the notes.
     pub noted: Noted,
@@ -46,8 +47,9 @@ pub fn flow_main<F: Texts, S: Sink, N: Sink>(
 ) -> Outcome
     // The status has its cause, and the kept run is one legal and complete run of the graph that FILE holds.
     ensures ends { CallEnds (F.held texts.old) words.now result.status result.runs }
-    // The output took the report of the kept run. Where no run is kept nothing is put there.
-    ensures output { OutputIs (S.taken out.old) (S.taken out.new) result.written (reports result.runs) }
+    // The output took the report of the kept run, or a front of it where a put or memory was refused. Where no
+    // run is kept nothing is put there.
+    ensures output { OutputIs (S.taken out.old) (S.taken out.new) (put_whole result.status result.written) (reports result.runs) }
     ensures out_untouched { result.runs ≡ [] → out.new ≡ out.old }
     ensures written { WrittenFits result.status result.written }
     ensures write_fault { WriteCause result.status (S.faults out.old) (S.faults out.new) }
@@ -91,7 +93,7 @@ struct Ended {
 // Does what the words ask for.
 fn answer<F: Texts, S: Sink>(alloc: Global, words: &[String], texts: &mut F, out: &mut S) -> Ended
     ensures ends { CallEnds (F.held texts.old) words.now result.status result.runs }
-    ensures output { OutputIs (S.taken out.old) (S.taken out.new) result.written (reports result.runs) }
+    ensures output { OutputIs (S.taken out.old) (S.taken out.new) (put_whole result.status result.written) (reports result.runs) }
     ensures out_untouched { result.runs ≡ [] → out.new ≡ out.old }
     ensures written { WrittenFits result.status result.written }
     ensures write_fault { WriteCause result.status (S.faults out.old) (S.faults out.new) }
@@ -109,7 +111,7 @@ fn answer<F: Texts, S: Sink>(alloc: Global, words: &[String], texts: &mut F, out
 // The command `run FILE`.
 fn run_file<F: Texts, S: Sink>(alloc: Global, file: &str, texts: &mut F, out: &mut S) -> Ended
     ensures ends { KeptWith (F.held texts.old) file.now result.status result.runs }
-    ensures output { OutputIs (S.taken out.old) (S.taken out.new) result.written (reports result.runs) }
+    ensures output { OutputIs (S.taken out.old) (S.taken out.new) (put_whole result.status result.written) (reports result.runs) }
     ensures out_untouched { result.runs ≡ [] → out.new ≡ out.old }
     ensures written { WrittenFits result.status result.written }
     ensures write_fault { WriteCause result.status (S.faults out.old) (S.faults out.new) }
@@ -140,7 +142,7 @@ fn run_and_report<S: Sink>(alloc: Global, job: TextJob, out: &mut S) -> Ended
     requires job { IsTextJob job }
     requires room { length (net_of job).tasks ≤ limit_of job }
     ensures kept { RanWith job result.status result.runs }
-    ensures output { OutputIs (S.taken out.old) (S.taken out.new) result.written (reports result.runs) }
+    ensures output { OutputIs (S.taken out.old) (S.taken out.new) (put_whole result.status result.written) (reports result.runs) }
     ensures out_untouched { result.runs ≡ [] → out.new ≡ out.old }
     ensures written { WrittenFits result.status result.written }
     ensures write_fault { WriteCause result.status (S.faults out.old) (S.faults out.new) }
@@ -155,15 +157,20 @@ fn run_and_report<S: Sink>(alloc: Global, job: TextJob, out: &mut S) -> Ended
             runs,
             written: true,
         },
-        Err(SinkFault::Failed) => Ended {
+        Err(ReportFault::Refused(SinkFault::Failed)) => Ended {
             status: Status::WriteFault,
             runs,
             written: false,
         },
-        Err(SinkFault::NoMemory) => Ended {
+        Err(ReportFault::Refused(SinkFault::NoMemory)) => Ended {
             status: Status::NoMemory,
             runs,
             written: false,
+        },
+        Err(ReportFault::NoMemory) => Ended {
+            status: Status::NoMemory,
+            runs,
+            written: true,
         },
     }
 }
@@ -186,10 +193,10 @@ fn put_reports<S: Sink>(
     alloc: Global,
     out: &mut S,
     runs: &[FrameRun<TextJob>],
-) -> Result<(), SinkFault>
+) -> Result<(), ReportFault>
     ensures ok { OnOk result (Took (S.taken out.old) (S.taken out.new) (reports runs.now)) }
     ensures err { OnErr result (TookFront (S.taken out.old) (S.taken out.new) (reports runs.now)) }
-    ensures cause { IsErrOf result SinkFault.Failed → S.faults out.old < S.faults out.new }
+    ensures cause { IsErrOf result (ReportFault.Refused SinkFault.Failed) → S.faults out.old < S.faults out.new }
     ensures no_fewer { S.faults out.old ≤ S.faults out.new }
 {
     for run in runs {

@@ -1,6 +1,6 @@
 //! The top call of the program: from the words, the texts and the streams that are handed in to a status.
 //!
-//! The layer above sees `flow_main` and its `Outcome`. The definitions stand in `specs/`: `Words` says which words
+//! The layer above sees `flow_main` and its `Outcome`, and `put_note` for an end before any call. The definitions stand in `specs/`: `Words` says which words
 //! ask for what, `Requests` what a graph file asks for and why a call stops before its run, `Output` what the
 //! report of a run is, `Notes` the line of a status, and `Answers` how a call ends.
 #![tactic(auto)]
@@ -18,5 +18,6 @@ mod tests;
 mod words;
 
 pub use call::{Outcome, flow_main};
+pub use note::put_note;
 pub use prepare::{FILE_LIMIT, START_LIMIT, TEXT_LIMIT};
 pub use status::{Noted, Status};

@@ -1,5 +1,6 @@
 // The one line that a status puts on the notes.
 ghost use Rattle.std.specs.Prelude.{◌≡◌, ◌<◌, ◌≤◌, ◌++◌, codes, decimal, IfOk, OnOk};
+ghost use Rattle.std.specs.Result.{IsOkAnd};
 ghost use Rattle.outside_io.specs.Sink.{Took, TookFront};
 ghost use Rattle.flow_run.specs.Notes.{graph_error_text, kind_text, note_line, spot_text, within_text};
 ghost use Rattle.flow_run.specs.declared.status.Noted.TheVariants as noted;
@@ -12,7 +13,8 @@ use outside_io::{Bytes, List, NoMemory, Sink, SinkFault};
 use std::alloc::Global;
 
 /// Puts the line of a status on the notes, by one put. Where all was done there is no line, and nothing is put.
-/// After a fault the notes took a front of the line; where memory was refused they took nothing.
+/// After a fault the notes took a front of the line; where memory was refused they took nothing. A line that names
+/// nothing takes no memory, so that of want of memory can be put all the same.
 pub fn put_note<N: Sink>(alloc: Global, notes: &mut N, status: &Status) -> Noted
     ensures whole { result ≡ noted.Whole
         → Took (N.taken notes.old) (N.taken notes.new) (note_line status.now) }
@@ -24,32 +26,45 @@ pub fn put_note<N: Sink>(alloc: Global, notes: &mut N, status: &Status) -> Noted
     ensures done { status.now ≡ Done → result ≡ noted.Whole }
     ensures untouched { status.now ≡ Done → notes.new ≡ notes.old }
 {
-    if let Status::Done = status {
-        return Noted::Whole;
-    }
-    let Ok(line) = line_of(alloc, status) else {
-        return Noted::NoMemory;
-    };
-    match notes.put(line.as_slice()) {
-        Ok(()) => Noted::Whole,
-        Err(SinkFault::Failed) => Noted::Fault,
-        Err(SinkFault::NoMemory) => Noted::NoMemory,
+    match status {
+        Status::Done => Noted::Whole,
+        Status::BadWords => put_line(notes, b"flow: bad words\n"),
+        Status::BadGraph(error) => put_made(notes, bad_graph(alloc, error)),
+        Status::NoSource(spot) => put_made(notes, no_source(alloc, *spot)),
+        Status::NoText(name) => put_made(notes, of_name(alloc, b"flow: no text ", name)),
+        Status::LongText(name) => put_made(notes, of_name(alloc, b"flow: text too long ", name)),
+        Status::ReadFault(name) => put_made(notes, of_name(alloc, b"flow: read fault on ", name)),
+        Status::WriteFault => put_line(notes, b"flow: write fault\n"),
+        Status::NoMemory => put_line(notes, b"flow: no memory\n"),
     }
 }
 
-fn line_of(alloc: Global, status: &Status) -> Result<Bytes, NoMemory>
-    ensures { IfOk result (λ line. line ≡ note_line status.now) }
+// Puts a line where there was memory to make it.
+fn put_made<N: Sink>(notes: &mut N, line: Result<Bytes, NoMemory>) -> Noted
+    ensures whole { result ≡ noted.Whole → IsOkAnd line (Took (N.taken notes.old) (N.taken notes.new)) }
+    ensures front { result ≡ noted.Fault → IsOkAnd line (TookFront (N.taken notes.old) (N.taken notes.new)) }
+    ensures cause { result ≡ noted.Fault → N.faults notes.old < N.faults notes.new }
+    ensures no_memory { result ≡ noted.NoMemory → N.taken notes.new ≡ N.taken notes.old }
+    ensures no_fewer { N.faults notes.old ≤ N.faults notes.new }
 {
-    match status {
-        Status::Done => Ok(List::new(alloc)),
-        Status::BadWords => List::from_slice(alloc, b"flow: bad words\n"),
-        Status::BadGraph(error) => bad_graph(alloc, error),
-        Status::NoSource(spot) => no_source(alloc, *spot),
-        Status::NoText(name) => of_name(alloc, b"flow: no text ", name),
-        Status::LongText(name) => of_name(alloc, b"flow: text too long ", name),
-        Status::ReadFault(name) => of_name(alloc, b"flow: read fault on ", name),
-        Status::WriteFault => List::from_slice(alloc, b"flow: write fault\n"),
-        Status::NoMemory => List::from_slice(alloc, b"flow: no memory\n"),
+    match line {
+        Ok(line) => put_line(notes, line.as_slice()),
+        Err(_) => Noted::NoMemory,
+    }
+}
+
+// Puts a line, by one put.
+fn put_line<N: Sink>(notes: &mut N, line: &[u8]) -> Noted
+    ensures whole { result ≡ noted.Whole → Took (N.taken notes.old) (N.taken notes.new) line.now }
+    ensures front { result ≡ noted.Fault → TookFront (N.taken notes.old) (N.taken notes.new) line.now }
+    ensures cause { result ≡ noted.Fault → N.faults notes.old < N.faults notes.new }
+    ensures no_memory { result ≡ noted.NoMemory → N.taken notes.new ≡ N.taken notes.old }
+    ensures no_fewer { N.faults notes.old ≤ N.faults notes.new }
+{
+    match notes.put(line) {
+        Ok(()) => Noted::Whole,
+        Err(SinkFault::Failed) => Noted::Fault,
+        Err(SinkFault::NoMemory) => Noted::NoMemory,
     }
 }
 

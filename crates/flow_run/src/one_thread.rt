@@ -5,6 +5,7 @@ ghost use Rattle.task_graph.specs.Net.{in_edges};
 ghost use Rattle.join_words.specs.Ins.{Found, found_of, parts_of};
 ghost use Rattle.join_words.specs.declared.ins.Given.TheVariants.{Nothing};
 ghost use Rattle.run_frame.specs.Legal.{Legal, CompleteRun};
+ghost use Rattle.run_frame.specs.Rows.{RowsFit};
 ghost use Rattle.run_frame.specs.NestedRule.{job_of};
 ghost use Rattle.text_tasks.specs.JobMeaning.{text_job, net_of, limit_of, IsTextJob};
 ghost use Rattle.flow_run.specs.UnderWay.{times, born};
@@ -30,6 +31,7 @@ pub fn run_job(alloc: Global, job: Arc<TextJob>) -> Result<FrameRun<TextJob>, No
     ensures job { IfOk result (λ run. job_of run ≡ arc_value job) }
     ensures legal { IfOk result (Legal text_job) }
     ensures complete { IfOk result (CompleteRun text_job) }
+    ensures rows { IfOk result RowsFit }
 {
     let mut run = OneThread::new(alloc, job)?;
     while let Some(task) = run.ready.pop() {
@@ -102,6 +104,7 @@ impl OneThread {
         ensures job { job_of result ≡ arc_value self.job }
         ensures legal { Legal text_job result }
         ensures complete { CompleteRun text_job result }
+        ensures rows { RowsFit result }
     {
         FrameRun {
             job: self.job,

@@ -18,6 +18,26 @@ const ENDED: &[u8] = b"== ";
 
 const NOT_ENDED: &[u8] = b"-- ";
 
+/// Why a report isn't put whole.
+#[derive(Clone, Copy, Debug, PartialEq, Eq)]
+pub enum ReportFault {
+    /// The put of a piece was refused.
+    Refused(SinkFault),
+    /// Memory was refused before a put.
+    NoMemory,
+}
+
+impl From<NoMemory> for ReportFault {
+    ghost use Rattle.std.specs.Prelude.{◌≡◌};
+    ghost use Rattle.flow_run.specs.declared.report.ReportFault.TheVariants.{NoMemory as NoMemoryFault};
+
+    ghost from_gives = { λ _ fault. fault ≡ NoMemoryFault };
+
+    fn from(_: NoMemory) -> Self {
+        ReportFault::NoMemory
+    }
+}
+
 /// Puts on the sink what each task ended with that leads to no other: its name on a line, and its last value
 /// below it, in the order of the tasks' numbers. A task that hasn't ended has a line alone.
 ///
@@ -26,10 +46,10 @@ pub fn put_report<S: Sink>(
     alloc: Global,
     out: &mut S,
     run: &FrameRun<TextJob>,
-) -> Result<(), SinkFault>
+) -> Result<(), ReportFault>
     ensures ok { OnOk result (Took (S.taken out.old) (S.taken out.new) (report_of run.now)) }
     ensures err { OnErr result (TookFront (S.taken out.old) (S.taken out.new) (report_of run.now)) }
-    ensures cause { IsErrOf result SinkFault.Failed → S.faults out.old < S.faults out.new }
+    ensures cause { IsErrOf result (ReportFault.Refused SinkFault.Failed) → S.faults out.old < S.faults out.new }
     ensures no_fewer { S.faults out.old ≤ S.faults out.new }
 {
     let net = run.job.net();
@@ -82,11 +102,11 @@ fn put_task<S: Sink>(
     task: u32,
     name: &[u8],
     value: Option<&Item>,
-) -> Result<(), SinkFault>
+) -> Result<(), ReportFault>
     requires { task < length net.now.tasks }
     ensures ok { OnOk result (Took (S.taken out.old) (S.taken out.new) (task_report net.now task name.now (option_copied value.entry))) }
     ensures err { OnErr result (TookFront (S.taken out.old) (S.taken out.new) (task_report net.now task name.now (option_copied value.entry))) }
-    ensures cause { IsErrOf result SinkFault.Failed → S.faults out.old < S.faults out.new }
+    ensures cause { IsErrOf result (ReportFault.Refused SinkFault.Failed) → S.faults out.old < S.faults out.new }
     ensures no_fewer { S.faults out.old ≤ S.faults out.new }
 {
     if net.out_edges(task).is_empty() {
@@ -102,10 +122,10 @@ fn put_outcome<S: Sink>(
     out: &mut S,
     name: &[u8],
     value: Option<&Item>,
-) -> Result<(), SinkFault>
+) -> Result<(), ReportFault>
     ensures ok { OnOk result (Took (S.taken out.old) (S.taken out.new) (outcome name.now (option_copied value.entry))) }
     ensures err { OnErr result (TookFront (S.taken out.old) (S.taken out.new) (outcome name.now (option_copied value.entry))) }
-    ensures cause { IsErrOf result SinkFault.Failed → S.faults out.old < S.faults out.new }
+    ensures cause { IsErrOf result (ReportFault.Refused SinkFault.Failed) → S.faults out.old < S.faults out.new }
     ensures no_fewer { S.faults out.old ≤ S.faults out.new }
 {
     match value {
@@ -116,10 +136,15 @@ fn put_outcome<S: Sink>(
 
 // Puts the line of a task that has ended, and its value.
 #[tactic(auto, using(outside_io::proofs::Pieces::front_of_nothing))]
-fn put_ended<S: Sink>(alloc: Global, out: &mut S, name: &[u8], text: &[u8]) -> Result<(), SinkFault>
+fn put_ended<S: Sink>(
+    alloc: Global,
+    out: &mut S,
+    name: &[u8],
+    text: &[u8],
+) -> Result<(), ReportFault>
     ensures ok { OnOk result (Took (S.taken out.old) (S.taken out.new) (header ended_mark name.now ++ text.now)) }
     ensures err { OnErr result (TookFront (S.taken out.old) (S.taken out.new) (header ended_mark name.now ++ text.now)) }
-    ensures cause { IsErrOf result SinkFault.Failed → S.faults out.old < S.faults out.new }
+    ensures cause { IsErrOf result (ReportFault.Refused SinkFault.Failed) → S.faults out.old < S.faults out.new }
     ensures no_fewer { S.faults out.old ≤ S.faults out.new }
 {
     let line = header_line(alloc, ENDED, name)?;
@@ -128,13 +153,13 @@ fn put_ended<S: Sink>(alloc: Global, out: &mut S, name: &[u8], text: &[u8]) -> R
 
 // Puts a line and a value.
 #[tactic(auto, using(outside_io::proofs::Pieces::front_after_whole))]
-fn put_both<S: Sink>(out: &mut S, line: &[u8], text: &[u8]) -> Result<(), SinkFault>
+fn put_both<S: Sink>(out: &mut S, line: &[u8], text: &[u8]) -> Result<(), ReportFault>
     ensures ok { OnOk result (Took (S.taken out.old) (S.taken out.new) (line.now ++ text.now)) }
     ensures err { OnErr result (TookFront (S.taken out.old) (S.taken out.new) (line.now ++ text.now)) }
-    ensures cause { IsErrOf result SinkFault.Failed → S.faults out.old < S.faults out.new }
+    ensures cause { IsErrOf result (ReportFault.Refused SinkFault.Failed) → S.faults out.old < S.faults out.new }
     ensures no_fewer { S.faults out.old ≤ S.faults out.new }
 {
-    if let Err(fault) = out.put(line) {
+    if let Err(fault) = put_piece(out, line) {
         return Err(fault);
     }
     put_value(out, text)
@@ -147,14 +172,14 @@ fn put_header<S: Sink>(
     out: &mut S,
     mark: &[u8],
     name: &[u8],
-) -> Result<(), SinkFault>
+) -> Result<(), ReportFault>
     ensures ok { OnOk result (Took (S.taken out.old) (S.taken out.new) (header mark.now name.now)) }
     ensures err { OnErr result (TookFront (S.taken out.old) (S.taken out.new) (header mark.now name.now)) }
-    ensures cause { IsErrOf result SinkFault.Failed → S.faults out.old < S.faults out.new }
+    ensures cause { IsErrOf result (ReportFault.Refused SinkFault.Failed) → S.faults out.old < S.faults out.new }
     ensures no_fewer { S.faults out.old ≤ S.faults out.new }
 {
     let line = header_line(alloc, mark, name)?;
-    out.put(line.as_slice())
+    put_piece(out, line.as_slice())
 }
 
 // A line of a mark and a name.
@@ -169,15 +194,28 @@ fn header_line(alloc: Global, mark: &[u8], name: &[u8]) -> Result<Bytes, NoMemor
 
 // Puts a value, where it isn't empty.
 #[tactic(auto, using(outside_io::proofs::Pieces::took_nothing))]
-fn put_value<S: Sink>(out: &mut S, text: &[u8]) -> Result<(), SinkFault>
+fn put_value<S: Sink>(out: &mut S, text: &[u8]) -> Result<(), ReportFault>
     ensures ok { OnOk result (Took (S.taken out.old) (S.taken out.new) text.now) }
     ensures err { OnErr result (TookFront (S.taken out.old) (S.taken out.new) text.now) }
-    ensures cause { IsErrOf result SinkFault.Failed → S.faults out.old < S.faults out.new }
+    ensures cause { IsErrOf result (ReportFault.Refused SinkFault.Failed) → S.faults out.old < S.faults out.new }
     ensures no_fewer { S.faults out.old ≤ S.faults out.new }
 {
     if text.is_empty() {
         Ok(())
     } else {
-        out.put(text)
+        put_piece(out, text)
+    }
+}
+
+// Puts a piece, by one put.
+fn put_piece<S: Sink>(out: &mut S, piece: &[u8]) -> Result<(), ReportFault>
+    ensures ok { OnOk result (Took (S.taken out.old) (S.taken out.new) piece.now) }
+    ensures err { OnErr result (TookFront (S.taken out.old) (S.taken out.new) piece.now) }
+    ensures cause { IsErrOf result (ReportFault.Refused SinkFault.Failed) → S.faults out.old < S.faults out.new }
+    ensures no_fewer { S.faults out.old ≤ S.faults out.new }
+{
+    match out.put(piece) {
+        Ok(()) => Ok(()),
+        Err(fault) => Err(ReportFault::Refused(fault)),
     }
 }

@@ -3,3 +3,4 @@ pub mod Runs
 pub mod WorkRule
 pub mod NestedRule
 pub mod Legal
+pub mod Rows
