@@ -16,17 +16,17 @@ program:
 demo: program
 	cd examples/count-lines && ../../crates/flow/out/flow run graph.json
 
-# The program on each of the examples, against the output that it is to have.
+# The program on each of the examples, on words and files that it refuses and on outputs that fail: its exit code
+# and what it puts on both streams.
 examples: program
-	@for folder in examples/*/; do \
-	    (cd "$$folder" && ../../crates/flow/out/flow run graph.json | cmp - expected.txt); \
-	    echo "$$folder"; \
-	done
+	@bash tools/check_program.sh
 
-# The gate: the documents against the sources, then every proof, must-fail edit and test from nothing. The
-# last line is 'N passed, M failed'.
-test: docs
-	@rt ci
+# The gate: every proof, must-fail edit and test from nothing, the last line of which is 'N passed, M failed';
+# then the documents against the sources, and the program that it built on the examples.
+test:
+	rt ci
+	@bash tools/check_docs.sh
+	@bash tools/check_program.sh
 
 # Whether the documents name what there is. It says nothing where they do.
 docs:

@@ -70,7 +70,7 @@ for folder in examples/*/; do
     done
     has README.md "\`${folder%/}\`" || fault "README.md doesn't name $folder"
 done
-for pair in graph.json:data/graph.json t5.txt:data/t5.txt expected.txt:stdout; do
+for pair in graph.json:data/graph.json t.txt:data/t.txt expected.txt:stdout; do
     cmp -s "examples/count-lines/${pair%:*}" "crates/flow/${pair#*:}" || fault "crates/flow/${pair#*:} isn't the example's ${pair%:*}"
 done
 
