@@ -13,7 +13,7 @@ use Rattle.graph_file.specs.declared.refusals.GraphError.{GraphError}
 use Rattle.graph_file.specs.declared.refusals.GraphError.TheVariants.{NotJson, BadField, NoSuchName, Repeated, TooMany, NoMemory}
 use Rattle.graph_file.specs.Draft.{AllDiffer, KeepsRules}
 use Rattle.graph_file.specs.Lookups.{place_in}
-use Rattle.graph_file.specs.PlanRows.{edge_limit, task_limit, text_limit}
+use Rattle.graph_file.specs.PlanRows.{edge_limit, task_limit, text_count_limit}
 use Rattle.graph_file.specs.Reading.{Denies, Tests}
 use Rattle.graph_file.specs.TextNames.{texts_of}
 use Rattle.graph_file.specs.Lookups.{HasPlaces}
@@ -93,7 +93,7 @@ Denies-part NoMemory P Q part denied = tt
 
 -- the numbers of tasks, edges and texts are within their limits
 abbrev IsWithinLimits : Draft → Type 0
-IsWithinLimits draft = (length draft.names ≤ task_limit) × (length draft.links ≤ edge_limit) × (length (texts_of draft.ops) ≤ text_limit)
+IsWithinLimits draft = (length draft.names ≤ task_limit) × (length draft.links ≤ edge_limit) × (length (texts_of draft.ops) ≤ text_count_limit)
 
 -- the other rules hold, so the limits decide
 pub Tests-limits : {A : Type 0} (draft : Draft) (r : Result A GraphError) → AllDiffer (map (λ (link : Link). link.to) draft.links) → All (λ (link : Link). Contains draft.names link.to) draft.links → AllDiffer draft.names

@@ -7,7 +7,7 @@ use Rattle.task_graph.specs.declared.net.TaskRow.{TaskRow}
 use Rattle.task_graph.specs.declared.net.Shape.TheVariants.{Plain}
 use Rattle.graph_file.specs.declared.draft.Draft.{Draft}
 use Rattle.graph_file.specs.declared.draft.Link.{Link}
-use Rattle.graph_file.specs.PlanRows.{PlanRows, task_limit, edge_limit, text_limit}
+use Rattle.graph_file.specs.PlanRows.{PlanRows, task_limit, edge_limit, text_count_limit}
 use Rattle.graph_file.specs.TaskText.{TaskText}
 use Rattle.graph_file.specs.TextNames.{texts_of}
 
@@ -31,7 +31,7 @@ pub record KeepsRules (draft : Draft) : Type 0 where
   pub single : AllDiffer (map (λ link. link.to) draft.links)
   pub tasks : length draft.names ≤ task_limit
   pub edges : length draft.links ≤ edge_limit
-  pub texts : length (texts_of draft.ops) ≤ text_limit
+  pub texts : length (texts_of draft.ops) ≤ text_count_limit
 
 -- a task without a choice, an inner graph and semaphores
 abbrev pub plain_row : TaskRow

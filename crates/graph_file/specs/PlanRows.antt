@@ -39,8 +39,8 @@ abbrev pub edge_limit : ℕ
 edge_limit = 100000
 
 -- how many different names of texts
-abbrev pub text_limit : ℕ
-text_limit = 1024
+abbrev pub text_count_limit : ℕ
+text_count_limit = 1024
 
 -- the name of a text has 1 to 4,096 bytes
 pub record IsTextName (text : List ℕ) : Type 0 where
@@ -64,4 +64,4 @@ pub record IsPlan (plan : PlanRows) : Type 0 where
   pub task_count : length plan.top.net.tasks ≤ task_limit
   pub edge_count : length plan.top.net.edges ≤ edge_limit
   pub texts : All IsTextName (texts_of plan.top.ops)
-  pub text_count : length (texts_of plan.top.ops) ≤ text_limit
+  pub text_count : length (texts_of plan.top.ops) ≤ text_count_limit

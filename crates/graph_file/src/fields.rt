@@ -114,8 +114,8 @@ fn unknown_key<'v>(object: &'v Map<String, Value>, fields: &[&str]) -> Option<&'
     object.keys().find(|key| !is_known(fields, key.as_str()))
 }
 
-#[tactic(auto, using(crate::proofs::FieldLemmas::has_only_other))]
 /// The first field of an object, in the order of their bytes, that is none of these.
+#[tactic(auto, using(crate::proofs::FieldLemmas::has_only_other))]
 pub(crate) fn unknown_field<'v>(object: &'v Value, fields: &[&str]) -> Option<&'v str>
     ensures { is_none result ≡ has_only (map (λ s. s.now) fields.now) (view object.now) }
 {

@@ -2,7 +2,7 @@
 ghost use Rattle.std.specs.Prelude.{◌≡◌, ◌≢◌, ◌≤◌, ◌<◌, length, map, is_none, All, Contains, MatchOption, IfOk, position};
 ghost use Rattle.graph_file.specs.Draft.{AllDiffer, KeepsRules};
 ghost use Rattle.graph_file.specs.Lookups.{HasPlaces, place_in};
-ghost use Rattle.graph_file.specs.PlanRows.{edge_limit, task_limit, text_limit};
+ghost use Rattle.graph_file.specs.PlanRows.{edge_limit, task_limit, text_count_limit};
 ghost use Rattle.graph_file.specs.Reading.{Tests};
 ghost use Rattle.graph_file.specs.TextNames.{texts_of};
 
@@ -88,7 +88,7 @@ fn first_repeated(alloc: Global, names: &[Bytes]) -> Result<Option<usize>, NoMem
 fn check_limits(alloc: Global, draft: &Draft) -> Result<(), GraphError>
     ensures { Tests result ((length draft.now.names ≤ task_limit)
         × (length draft.now.links ≤ edge_limit)
-        × (length (texts_of draft.now.ops) ≤ text_limit)) }
+        × (length (texts_of draft.now.ops) ≤ text_count_limit)) }
 {
     if draft.names.len() > MAX_TASKS {
         return Err(GraphError::TooMany(Kind::Tasks));
