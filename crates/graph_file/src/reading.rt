@@ -27,9 +27,12 @@ use task_graph::Net;
 /// its edges lead. Names of tasks differ, and no two edges lead to the same task. There are at most 10,000
 /// tasks, 100,000 edges and 1,024 different texts. Of a field that stands twice the last one counts.
 ///
-/// Where the bytes break several rules, the refusal that is told is the first in the order of the variants of
-/// `GraphError`, and of these the first in the file. A second edge to a task is a `BadField` of the task that
-/// it leaves, told after all other bad fields.
+/// Where the bytes break several rules, the refusal that is told is of the first class in the order of the
+/// variants of `GraphError`, unless memory is refused before that. Of bad fields those of the file come first,
+/// `tasks` and then unknown ones, and then those of the first task that has any: `name`, `op` and its own field,
+/// `to`, and unknown ones in the order of their bytes. A second edge to a task is a bad `to` of the task that it
+/// leaves. Of unknown and of repeated names that of the first task is told, and of the limits the first that is
+/// passed of those on tasks, edges and texts.
 pub fn read_graph(alloc: Global, bytes: &[u8]) -> Result<Plan, GraphError>
     ensures found { IfOk result (λ plan. PlanText bytes.now (plan_rows plan)) }
     ensures rules { IfOk result (λ plan. IsPlan (plan_rows plan)) }

@@ -27,9 +27,7 @@ pub(crate) fn check(alloc: Global, draft: &Draft, places: &Places<'_>) -> Result
     ensures { Tests result (KeepsRules draft.now) }
 {
     let links = draft.links.as_slice();
-    if let Some(link) = first_shared(alloc, links)? {
-        return Err(bad_field(alloc, task_spot(links[link].from), "to"));
-    }
+    check_targets(alloc, links)?;
     if let Some(link) = first_unknown(draft, places) {
         return Err(no_such_name(alloc, task_spot(links[link].from), "to"));
     }
@@ -37,6 +35,16 @@ pub(crate) fn check(alloc: Global, draft: &Draft, places: &Places<'_>) -> Result
         return Err(repeated(alloc, task_spot(task), "name"));
     }
     check_limits(alloc, draft)
+}
+
+/// Whether no two links lead to the same task.
+pub(crate) fn check_targets(alloc: Global, links: &[Link]) -> Result<(), GraphError>
+    ensures { Tests result (AllDiffer (map (λ link. link.to) links.now)) }
+{
+    match first_shared(alloc, links)? {
+        Some(link) => Err(bad_field(alloc, task_spot(links[link].from), "to")),
+        None => Ok(()),
+    }
 }
 
 // The first link that leads to a task to which one before it leads.

@@ -14,6 +14,7 @@ use crate::fields::{
 };
 use crate::ops::{Op, TextOp};
 use crate::refusals::{GraphError, Spot};
+use crate::rules::check_targets;
 use outside_io::{Bytes, List};
 use serde_json::Value;
 use std::alloc::Global;
@@ -49,9 +50,24 @@ fn read_tasks(alloc: Global, tasks: &[Value]) -> Result<Draft, GraphError>
         links: List::new(alloc),
     };
     for task in tasks {
-        read_task(alloc, task, &mut draft)?;
+        if let Err(error) = read_task(alloc, task, &mut draft) {
+            return Err(first_refusal(alloc, draft.links.as_slice(), error));
+        }
     }
     Ok(draft)
+}
+
+// A second edge to a task, if these links have one; else the refusal of what stands after them.
+fn first_refusal(alloc: Global, links: &[Link], later: GraphError) -> GraphError
+    ensures { later ≡ GraphError.NoMemory → result ≡ GraphError.NoMemory }
+{
+    if let GraphError::NoMemory = later {
+        return GraphError::NoMemory;
+    }
+    match check_targets(alloc, links) {
+        Ok(()) => later,
+        Err(error) => error,
+    }
 }
 
 // Puts the task at the end of the draft.
