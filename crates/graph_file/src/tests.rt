@@ -1,10 +1,13 @@
 // Files, and the plan or the refusal that they stand for.
-use crate::{Graph, GraphError, Op, Spot, TextOp, no_source, read_graph, text_names};
+use crate::{Graph, GraphError, Op, Spot, TextOp, no_source, read_graph};
 use outside_io::Bytes;
 use std::alloc::{AllocError, Global};
 use std::process::Abort;
 use std::str;
 use std::test::Fail;
+
+mod limits;
+mod order;
 
 fn text_of(bytes: &Bytes) -> &str {
     str::from_utf8(bytes.as_slice()).unwrap_or("?")
@@ -160,33 +163,6 @@ fn refuses_links(rt: HostRuntime) -> Result<(), Fail> {
     ] {
         assert_eq!(rt; shown(alloc, file.as_bytes())?.as_str(), want);
     }
-    Ok(())
-}
-
-// A file of so many tasks without edges, each of which reads a text of its own.
-fn wide_file(alloc: Global, count: u32) -> Result<String, AllocError> {
-    let mut file = String::from_str(alloc, r#"{"tasks":["#)?;
-    for task in 0..count {
-        let comma = if task == 0 { "" } else { "," };
-        let task = format!(in alloc;
-            "{comma}{{\"name\":\"{task}\",\"op\":\"read\",\"text\":\"{task}\"}}"
-        )?;
-        file.push_str(task.as_str())?;
-    }
-    file.push_str("]}")?;
-    Ok(file)
-}
-
-#[test]
-fn counts_different_texts(rt: HostRuntime) -> Result<(), Fail> {
-    let alloc = rt.alloc();
-    let file = wide_file(alloc, 1_024)?;
-    let Ok(plan) = read_graph(alloc, file.as_bytes()) else {
-        return fail(&rt);
-    };
-    assert_eq!(rt; text_names(alloc, &plan.top)?.len(), 1_024);
-    let file = wide_file(alloc, 1_025)?;
-    assert_eq!(rt; shown(alloc, file.as_bytes())?.as_str(), "too many Texts");
     Ok(())
 }
 
