@@ -1,0 +1,189 @@
+-- The definitions over runs, computed on small ones.
+use Rattle.std.proofs.Common.{◌≡◌, ℕ, ◌+◌, List, [], ◌∷◌, true, false, Option, Some, None, refl, ap, arith}
+use Rattle.std.specs.Prelude.{pos, negsuc}
+use Rattle.std.specs.Arc.{arc_value}
+use Rattle.std.specs.Global.{Global}
+use Rattle.std.specs.declared.sync.Arc.{Arc}
+use Rattle.task_graph.specs.NetRows.{NetRows}
+use Rattle.task_graph.specs.declared.net.Shape.TheVariants.{Plain, Choice, Many, Nested}
+use Rattle.task_graph.specs.declared.net.TaskRow.{TaskRow}
+use Rattle.legal_run.specs.declared.entry.Cause.TheVariants.{Source, Strong}
+use Rattle.legal_run.specs.declared.entry.Part.TheVariants.{From, First, Nothing}
+use Rattle.legal_run.specs.declared.entry.Why.TheVariants.{Long, Wide, Inner, OverRelease}
+use Rattle.legal_run.specs.declared.entry.DropWhy.TheVariants.{Limit, Stuck}
+use Rattle.legal_run.specs.declared.entry.Entry.{Entry}
+use Rattle.legal_run.specs.declared.entry.Entry.TheVariants.{Start, End, Fault, Drop}
+use Rattle.join_words.specs.Ins.{Found, value, first, nothing}
+use Rattle.run_frame.specs.declared.job.Answer.TheVariants.{All, None as NoneOf, Indices}
+use Rattle.run_frame.specs.declared.job.Done.{Done}
+use Rattle.run_frame.specs.declared.job.Done.TheVariants.{Value, Inner as InnerJob}
+use Rattle.run_frame.specs.declared.run.ValueRow.{ValueRow}
+use Rattle.run_frame.specs.declared.run.FrameRun.{FrameRun}
+use Rattle.run_frame.specs.Meaning.{Meaning, FitsShape, DoneFits, IsOwnWhy}
+use Rattle.run_frame.specs.Runs.{value_at, found_ins, IsFine}
+use Rattle.run_frame.specs.WorkRule.{WorkRule, gives_of}
+use Rattle.run_frame.specs.NestedRule.{NestedRule, job_of, journal_of}
+
+-- Jobs that are numbers. A task of job j gives j and all that it finds, added up, to all its successors, or hands
+-- on that number as a job, and may fault with its own number as a length. A run of job j is gathered to j, or to
+-- a fault that is j wide.
+abbrev added : List (Found ℕ) → ℕ
+added [] = 0
+added (value n ∷ found) = n + added found
+added (none ∷ found) = added found
+
+abbrev task : TaskRow
+task = record { shape = Plain; takes = []; puts = [] }
+
+abbrev net : NetRows
+net = record { tasks = task ∷ task ∷ []; edges = (record { from = 0; to = 1; start = false }) ∷ []; sems = [] }
+
+abbrev may_answer : ℕ → ℕ → List (Found ℕ) → Done ℕ ℕ → Type 0
+may_answer j t found (Value n answer) = (n ≡ j + added found) × (answer ≡ All)
+may_answer j t found (InnerJob k) = k ≡ j + added found
+
+abbrev numbers : Meaning ℕ ℕ
+numbers = record {
+    net = λ j. net;
+    limit = λ j. 2;
+    answers = may_answer;
+    faults = λ j t found why. why ≡ Long t;
+    gathers = λ j run n. n ≡ j;
+    gather_faults = λ j run why. why ≡ Wide j;
+  }
+
+-- the first task started
+abbrev begun : List Entry
+begun = Start 0 Source [] ∷ []
+
+-- the first task ended with a value, at place 1, and the second found that value
+abbrev second_begun : List Entry
+second_begun = Start 0 Source [] ∷ End 0 (0 ∷ []) false ∷ Start 1 Strong (From 1 ∷ []) ∷ []
+
+-- Which answers fit a shape: one index a choice, and not two.
+one_index : FitsShape Choice (Indices (pos 4 ∷ []))
+one_index = refl
+
+two_indices : ¬ FitsShape Choice (Indices (pos 4 ∷ pos 6 ∷ []))
+two_indices is = absurd (cc)
+
+-- Not all edges of a task that names those it gives.
+all_of_many : ¬ FitsShape Many All
+all_of_many is = is
+
+-- Only a nested task answers with a job.
+nested_job : DoneFits {J = ℕ} {V = ℕ} Nested (InnerJob 7)
+nested_job = refl
+
+plain_job : ¬ DoneFits {J = ℕ} {V = ℕ} Plain (InnerJob 7)
+plain_job is = absurd (cc)
+
+-- The work's own faults tell of no inner run and of no unit.
+not_own_inner : ¬ IsOwnWhy Inner
+not_own_inner is = is
+
+not_own_unit : ¬ IsOwnWhy (OverRelease 0)
+not_own_unit is = is
+
+-- What an answer gives: all edges, none, or those at its indices, each once and none out of range.
+all_given : gives_of (4 ∷ 6 ∷ []) All ≡ 4 ∷ 6 ∷ []
+all_given = refl
+
+none_given : gives_of (4 ∷ 6 ∷ []) NoneOf ≡ []
+none_given = refl
+
+chosen_given : gives_of (4 ∷ 6 ∷ []) (Indices (pos 1 ∷ pos 5 ∷ negsuc 0 ∷ pos 0 ∷ pos 1 ∷ [])) ≡ 6 ∷ 4 ∷ []
+chosen_given = refl
+
+-- A run is fine with nothing cut short: without a fault, and without a drop at the limit or for want of a unit.
+fine : IsFine begun
+fine = record { no_fault = refl; none_limited = refl; none_stuck = refl }
+
+not_fine_faulted : ¬ IsFine (Start 0 Source [] ∷ Fault 0 (Long 7) ∷ [])
+not_fine_faulted is = absurd (cc)
+
+not_fine_limited : ¬ IsFine (Drop 0 Source Limit ∷ [])
+not_fine_limited is = absurd (cc)
+
+not_fine_stuck : ¬ IsFine (Drop 0 Source (Stuck 0) ∷ [])
+not_fine_stuck is = absurd (cc)
+
+-- The claims below speak of two values, at the places 1 and 3, and of a run that some start made.
+module _ (five ten : Arc ℕ Global) (run : FrameRun ℕ ℕ) where
+  abbrev rows : List (ValueRow ℕ)
+  rows = record { place = 1; value = five } ∷ record { place = 3; value = ten } ∷ []
+
+  abbrev no_run : ℕ → Option (FrameRun ℕ ℕ)
+  no_run n = None
+
+  abbrev the_run : ℕ → Option (FrameRun ℕ ℕ)
+  the_run n = Some run
+
+  -- A value stands at its row's place, and at no other.
+  second_value : value_at rows 3 ≡ Some (arc_value ten)
+  second_value = refl
+
+  no_value : value_at rows 2 ≡ None
+  no_value = refl
+
+  -- What is found: the value of an end, the token of the beginning, nothing.
+  three_parts : found_ins rows (From 1 ∷ First ∷ Nothing ∷ []) ≡ value (arc_value five) ∷ first ∷ nothing ∷ []
+  three_parts = refl
+
+  -- An end's value is what the work may answer on what its start found: the job's number and that value.
+  second_end : arc_value ten ≡ 2 + (arc_value five + 0) → WorkRule numbers 2 rows no_run second_begun (End 2 [] false)
+  second_end sum = record { answer = All; allowed = (sum, refl); chosen = refl }
+
+  wrong_value : arc_value ten ≡ 3 + arc_value five → ¬ WorkRule numbers 2 rows no_run second_begun (End 2 [] false)
+  wrong_value sum is = absurd (omega (arith, sum, is.allowed.0))
+
+  -- An end without a value breaks the rule, and so does one that gives other edges than its answer.
+  end_without_value : ¬ WorkRule numbers 2 rows no_run (Start 0 Source [] ∷ Start 1 Strong [] ∷ []) (End 0 (0 ∷ []) false)
+  end_without_value is = is
+
+  edge_held_back : ¬ WorkRule numbers 2 rows no_run begun (End 0 [] false)
+  edge_held_back is = let given = ap (gives_of (0 ∷ [])) is.allowed.1 in absurd (cc)
+
+  -- A fault without a run is one that the work may name, and never tells of an inner run.
+  own_fault : WorkRule numbers 2 rows no_run begun (Fault 0 (Long 0))
+  own_fault = refl
+
+  other_fault : ¬ WorkRule numbers 2 rows no_run begun (Fault 0 (Long 7))
+  other_fault is = absurd (cc)
+
+  fault_of_inner : ¬ WorkRule numbers 2 rows no_run begun (Fault 0 Inner)
+  fault_of_inner is = is
+
+  -- An inner end has a run: of the job that was answered, fine, and gathered to its value.
+  inner_end : job_of run ≡ 2 → IsFine (journal_of run) → arc_value five ≡ 2 → NestedRule numbers 2 rows the_run begun (End 0 (0 ∷ []) true)
+  inner_end job calm is = record { answered = job; fine = calm; gathered = cc; all_edges = refl }
+
+  inner_end_without_run : ¬ NestedRule numbers 2 rows no_run begun (End 0 (0 ∷ []) true)
+  inner_end_without_run is = is
+
+  inner_end_of_other_job : job_of run ≡ 3 → ¬ NestedRule numbers 2 rows the_run begun (End 0 (0 ∷ []) true)
+  inner_end_of_other_job job is = absurd (cc)
+
+  inner_end_not_fine : ¬ IsFine (journal_of run) → ¬ NestedRule numbers 2 rows the_run begun (End 0 (0 ∷ []) true)
+  inner_end_not_fine broken is = broken is.fine
+
+  inner_end_not_gathered : job_of run ≡ 2 → arc_value five ≡ 3 → ¬ NestedRule numbers 2 rows the_run begun (End 0 (0 ∷ []) true)
+  inner_end_not_gathered job other is = absurd (cc)
+
+  -- No other end has a run.
+  plain_end_with_run : ¬ NestedRule numbers 2 rows the_run begun (End 0 (0 ∷ []) false)
+  plain_end_with_run is = is
+
+  -- A fault tells of its run where that isn't fine, and there alone.
+  inner_fault : job_of run ≡ 2 → ¬ IsFine (journal_of run) → NestedRule numbers 2 rows the_run begun (Fault 0 Inner)
+  inner_fault job broken = (job, broken)
+
+  inner_fault_of_fine : IsFine (journal_of run) → ¬ NestedRule numbers 2 rows the_run begun (Fault 0 Inner)
+  inner_fault_of_fine calm is = is.1 calm
+
+  -- Of a run that is fine a fault is one that gathering it may name.
+  gather_fault : job_of run ≡ 2 → IsFine (journal_of run) → NestedRule numbers 2 rows the_run begun (Fault 0 (Wide 2))
+  gather_fault job calm = (job, (calm, cc))
+
+  no_gather_fault : ¬ NestedRule numbers 2 rows the_run begun (Fault 0 (Long 0))
+  no_gather_fault is = absurd (cc)
