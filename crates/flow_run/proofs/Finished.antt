@@ -82,11 +82,11 @@ pub nothing_nested : (job : TextJob) (h : List Entry) (carried : List (Given Ite
 nothing_nested job h carried values ready under = each_after_plain (NestedRule text_job job values none_inner) (net_of job) meets [] h under.entries
   where
     meets : (before : List Entry) (x : Entry) → IsPlainEntry (net_of job) x → NestedRule text_job job values none_inner before x
-    meets before (Start t cause ins) is = tt
+    meets before (Start t cause ins) is = refl
     meets before (End start gives true) is = absurd (false≢true (sym is))
     meets before (End start gives false) is = tt
     meets before (Fault start why) is = tt
-    meets before (Drop t cause why) is = tt
+    meets before (Drop t cause why) is = refl
 
 -- all the work is allowed
 pub work_done : (job : TextJob) (h : List Entry) (carried : List (Given Item)) (values : List (ValueRow Item)) (ready : List ℕ) → UnderWay job h carried values ready → EachAfter (WorkRule text_job job values none_inner) h

@@ -170,9 +170,15 @@ module _ (five ten : Arc ℕ Global) (run : FrameRun ℕ ℕ) where
   inner_end_not_gathered : job_of run ≡ 2 → arc_value five ≡ 3 → ¬ NestedRule numbers 2 rows the_run begun (End 0 (0 ∷ []) true)
   inner_end_not_gathered job other is = absurd (cc)
 
-  -- No other end has a run.
+  -- No other end has a run, and no start.
   plain_end_with_run : ¬ NestedRule numbers 2 rows the_run begun (End 0 (0 ∷ []) false)
   plain_end_with_run is = is
+
+  start_with_run : ¬ NestedRule numbers 2 rows the_run [] (Start 0 Source [])
+  start_with_run is = absurd (cc)
+
+  drop_with_run : ¬ NestedRule numbers 2 rows the_run [] (Drop 0 Source Limit)
+  drop_with_run is = absurd (cc)
 
   -- A fault tells of its run where that isn't fine, and there alone.
   inner_fault : job_of run ≡ 2 → ¬ IsFine (journal_of run) → NestedRule numbers 2 rows the_run begun (Fault 0 Inner)

@@ -52,9 +52,9 @@ InnerEndRule meaning job values journal start gives true run =
 InnerEndRule meaning job values journal start gives false None = Unit {0}
 InnerEndRule meaning job values journal start gives false (Some run) = ⊥
 
--- Where a start made a run, its End or Fault fits that run; no other End has one.
+-- Where a start made a run, its End or Fault fits that run. No other End has one, and no Start or Drop.
 abbrev pub NestedRule : {J V : Type 0} → Meaning J V → J → List (ValueRow V) → (ℕ → Option (FrameRun J V)) → List Entry → Entry → Type 0
-NestedRule meaning job values inner journal (Start task cause ins) = Unit {0}
+NestedRule meaning job values inner journal (Start task cause ins) = inner (length journal) ≡ None
 NestedRule meaning job values inner journal (End start gives is_inner) = InnerEndRule meaning job values journal start gives is_inner (inner (length journal))
 NestedRule meaning job values inner journal (Fault start why) = InnerFault meaning job values journal start why (inner (length journal))
-NestedRule meaning job values inner journal (Drop task cause why) = Unit {0}
+NestedRule meaning job values inner journal (Drop task cause why) = inner (length journal) ≡ None
