@@ -78,16 +78,13 @@ impl GraphJob {
         }
     }
 
-    // The value of a task on what it finds.
-    fn value(&self, alloc: Global, task: u32, found: &[u8]) -> Result<Bytes, NoMemory>
-        requires { task < length self.now.plan.top.ops }
-        ensures { IfOk result (λ text. IsSomeAnd (slice_get self.now.plan.top.ops task)
-            (λ op. text ≡ value_on self.now.texts op found.now)) }
+    // The value of an operation on the text that its task finds.
+    fn value(&self, alloc: Global, op: &Op, found: &[u8]) -> Result<Bytes, NoMemory>
+        ensures { IfOk result (λ text. text ≡ value_on self.now.texts op.now found.now) }
     {
-        match self.graph().ops.get(task as usize) {
-            Some(Op::Read(name)) => self.read(alloc, name.as_slice()),
-            Some(Op::Text(op)) => apply(alloc, op, found),
-            None => unreachable!(),
+        match op {
+            Op::Read(name) => self.read(alloc, name.as_slice()),
+            Op::Text(op) => apply(alloc, op, found),
         }
     }
 
@@ -97,8 +94,10 @@ impl GraphJob {
         ensures answer { IfOk result (AnswersWith self.now task (map found_of (parts_of ins.now))) }
         ensures fault { IfErr result (MayFault self.now task (map found_of (parts_of ins.now))) }
     {
-        let _graph = self.graph();
-        let Ok(text) = self.value(alloc, task, text_of(ins)) else {
+        let Some(op) = self.graph().ops.get(task as usize) else {
+            unreachable!()
+        };
+        let Ok(text) = self.value(alloc, op, text_of(ins)) else {
             return Err(JobError::NoMemory);
         };
         let bytes = text.len() as u64;

@@ -4,5 +4,5 @@ use Rattle.text_tasks.proofs.job.GraphJob.answer.Goals as goal
 
 pub text_of-requires : goal.text_of-requires
 text_of-requires c =
-    let few = single_in c.args.self.now.plan.top.net c.args.task c.graph-graph.ensures.work.plan.single in
+    let few = single_in c.args.self.now.plan.top.net c.args.task c.graph.ensures.work.plan.single in
     elim c.requires.1 [ inl one ↦ one | inr each ↦ omega (arith, each, few) ]
