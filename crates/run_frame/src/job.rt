@@ -1,5 +1,5 @@
 // Jobs.
-ghost use Rattle.std.specs.Prelude.{◌≡◌, ◌<◌, ◌≤◌, ℕ, List, length, map, IfOk, IfErr};
+ghost use Rattle.std.specs.Prelude.{◌≡◌, ◌≤◌, ℕ, List, length, map, IfOk, IfErr};
 ghost use Rattle.std.specs.Arc.{arc_value};
 ghost use Rattle.join_words.specs.Ins.{Found, parts_of, found_of};
 ghost use Rattle.run_frame.specs.Meaning.{Meaning, IsRelease, FaultAllowed, AnswerFits, IsOwnWhy};

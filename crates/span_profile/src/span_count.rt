@@ -1,5 +1,5 @@
 // The watcher that only counts.
-ghost use Rattle.std.specs.Prelude.{◌≡◌, None, IsOk};
+ghost use Rattle.std.specs.Prelude.{◌≡◌, None};
 
 use super::watch::Watch;
 use legal_run::Span;

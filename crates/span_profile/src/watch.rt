@@ -1,5 +1,5 @@
 // Watchers.
-ghost use Rattle.std.specs.Prelude.{◌≡◌, ◌≤◌, ◌<◌, ◌^◌, ◌++◌, ◌∷◌, [], ℕ, List, Option, length, OnOk, OnErr, IfSome, option_and_then, option_map, slice_get};
+ghost use Rattle.std.specs.Prelude.{◌≡◌, ◌++◌, ◌∷◌, [], ℕ, List, Option, OnOk, OnErr, option_and_then, option_map, slice_get};
 ghost use Rattle.legal_run.specs.declared.span.Span.{Span};
 ghost use Rattle.span_profile.specs.Watch.{one_more};
 

@@ -1,9 +1,9 @@
 // The jobs of graph files.
-ghost use Rattle.std.specs.Prelude.{◌≡◌, ◌≤◌, ◌<◌, [], length, map, IfOk, IfErr, IsSomeAnd, slice_get, unwrap_or};
+ghost use Rattle.std.specs.Prelude.{◌≡◌, ◌≤◌, [], length, map, IfOk, IfErr, unwrap_or};
 ghost use Rattle.std.specs.Arc.{arc_value};
-ghost use Rattle.graph_file.specs.PlanRows.{IsPlan, plan_rows};
+ghost use Rattle.graph_file.specs.PlanRows.{plan_rows};
 ghost use Rattle.text_tasks.specs.TextTable.{rows_of, text_in};
-ghost use Rattle.text_tasks.specs.GraphWork.{GraphWork, IsWork};
+ghost use Rattle.text_tasks.specs.GraphWork.{IsWork};
 ghost use Rattle.text_tasks.specs.Works.{first_work};
 ghost use Rattle.text_tasks.specs.Lines.{IsNormal, normal};
 ghost use Rattle.text_tasks.specs.JobMeaning.{text_found, text_op_value, value_on, AnswersWith, MayFault};
