@@ -1,5 +1,6 @@
 // The watcher that only counts.
-ghost use Rattle.std.specs.Prelude.{◌≡◌, None};
+ghost use Rattle.std.specs.Prelude.{◌≡◌, None, IsOk};
+ghost use Rattle.span_profile.specs.Watch.{one_more, counted};
 
 use super::watch::Watch;
 use legal_run::Span;
@@ -14,18 +15,22 @@ pub struct SpanCount {
 impl SpanCount {
     /// A watcher that was told nothing.
     pub fn new() -> SpanCount
-        ensures { result.count ≡ 0 }
+        ensures { counted result ≡ 0 }
     {
         SpanCount { count: 0 }
     }
 }
 
 impl Watch for SpanCount {
-    ghost told = { λ watcher. watcher.count };
+    ghost told = { counted };
 
     ghost seen = { λ _. None };
 
-    fn span(&mut self, _: Span) -> Result<(), NoMemory> {
+    /// Counts a span. It takes no memory, so it never fails.
+    fn span(&mut self, _: Span) -> Result<(), NoMemory>
+        ensures ok { IsOk result }
+        ensures count { counted self.new ≡ one_more (counted self.old) }
+    {
         self.count = self.count.saturating_add(1);
         Ok(())
     }
