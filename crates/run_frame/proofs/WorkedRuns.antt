@@ -44,13 +44,13 @@ may_answer j t found (InnerJob k) = k ≡ j + added found
 
 abbrev numbers : Meaning ℕ ℕ
 numbers = record {
-    net = λ j. net;
-    limit = λ j. 2;
-    answers = may_answer;
-    faults = λ j t found why. why ≡ Long t;
-    gathers = λ j run n. n ≡ j;
-    gather_faults = λ j run why. why ≡ Wide j;
-  }
+  net = λ j. net;
+  limit = λ j. 2;
+  answers = may_answer;
+  faults = λ j t found why. why ≡ Long t;
+  gathers = λ j run n. n ≡ j;
+  gather_faults = λ j run why. why ≡ Wide j;
+}
 
 -- the first task started
 abbrev begun : List Entry
