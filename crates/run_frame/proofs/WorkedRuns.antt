@@ -21,6 +21,7 @@ use Rattle.run_frame.specs.declared.run.ValueRow.{ValueRow}
 use Rattle.run_frame.specs.declared.run.FrameRun.{FrameRun}
 use Rattle.run_frame.specs.Meaning.{Meaning, FitsShape, DoneFits, IsOwnWhy}
 use Rattle.run_frame.specs.Runs.{value_at, found_ins, IsFine}
+use Rattle.run_frame.specs.Rows.{ends_from}
 use Rattle.run_frame.specs.WorkRule.{WorkRule, gives_of}
 use Rattle.run_frame.specs.NestedRule.{NestedRule, job_of, journal_of}
 
@@ -59,6 +60,10 @@ begun = Start 0 Source [] ∷ []
 -- the first task ended with a value, at place 1, and the second found that value
 abbrev second_begun : List Entry
 second_begun = Start 0 Source [] ∷ End 0 (0 ∷ []) false ∷ Start 1 Strong (From 1 ∷ []) ∷ []
+
+-- The one End among these stands at place 1.
+one_end : ends_from 0 second_begun ≡ 1 ∷ []
+one_end = refl
 
 -- Which answers fit a shape: one index a choice, and not two.
 one_index : FitsShape Choice (Indices (pos 4 ∷ []))
