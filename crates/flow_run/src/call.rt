@@ -1,8 +1,8 @@
 // The top call of the program.
-ghost use Rattle.std.specs.Prelude.{◌≡◌, ◌≤◌, ◌<◌, ℕ, List, [], ◌∷◌, true, length, IfOk, IfErr, OnOk, OnErr, IsErrOf};
+ghost use Rattle.std.specs.Prelude.{◌≡◌, ◌≤◌, ◌<◌, List, [], true, length, IfOk, OnOk, OnErr, IsErrOf};
 ghost use Rattle.outside_io.specs.Sink.{Took, TookFront};
 ghost use Rattle.text_tasks.specs.JobMeaning.{net_of, limit_of, IsTextJob};
-ghost use Rattle.flow_run.specs.Requests.{IsRequestedJob, HasFault};
+ghost use Rattle.flow_run.specs.Requests.{HasFault};
 ghost use Rattle.flow_run.specs.Answers.{KeptWith, CallEnds, OutputIs, put_whole, WrittenFits, WriteCause, RanOnce, RanWith, reports};
 ghost use Rattle.flow_run.specs.Notes.{note_line};
 
@@ -52,6 +52,7 @@ pub fn flow_main<F: Texts, S: Sink, N: Sink>(
     ensures output { OutputIs (S.taken out.old) (S.taken out.new) (put_whole result.status result.written) (reports result.runs) }
     ensures out_untouched { result.runs ≡ [] → out.new ≡ out.old }
     ensures written { WrittenFits result.status result.written }
+    ensures nothing_refused { result.runs ≡ [] → result.written ≡ true }
     ensures write_fault { WriteCause result.status (S.faults out.old) (S.faults out.new) }
     ensures read_fault { HasFault result.status (F.faults texts.old) (F.faults texts.new) }
     ensures texts_stay { F.held texts.new ≡ F.held texts.old }
@@ -96,6 +97,7 @@ fn answer<F: Texts, S: Sink>(alloc: Global, words: &[String], texts: &mut F, out
     ensures output { OutputIs (S.taken out.old) (S.taken out.new) (put_whole result.status result.written) (reports result.runs) }
     ensures out_untouched { result.runs ≡ [] → out.new ≡ out.old }
     ensures written { WrittenFits result.status result.written }
+    ensures nothing_refused { result.runs ≡ [] → result.written ≡ true }
     ensures write_fault { WriteCause result.status (S.faults out.old) (S.faults out.new) }
     ensures read_fault { HasFault result.status (F.faults texts.old) (F.faults texts.new) }
     ensures texts_stay { F.held texts.new ≡ F.held texts.old }
@@ -114,6 +116,7 @@ fn run_file<F: Texts, S: Sink>(alloc: Global, file: &str, texts: &mut F, out: &m
     ensures output { OutputIs (S.taken out.old) (S.taken out.new) (put_whole result.status result.written) (reports result.runs) }
     ensures out_untouched { result.runs ≡ [] → out.new ≡ out.old }
     ensures written { WrittenFits result.status result.written }
+    ensures nothing_refused { result.runs ≡ [] → result.written ≡ true }
     ensures write_fault { WriteCause result.status (S.faults out.old) (S.faults out.new) }
     ensures read_fault { HasFault result.status (F.faults texts.old) (F.faults texts.new) }
     ensures texts_stay { F.held texts.new ≡ F.held texts.old }
@@ -145,6 +148,7 @@ fn run_and_report<S: Sink>(alloc: Global, job: TextJob, out: &mut S) -> Ended
     ensures output { OutputIs (S.taken out.old) (S.taken out.new) (put_whole result.status result.written) (reports result.runs) }
     ensures out_untouched { result.runs ≡ [] → out.new ≡ out.old }
     ensures written { WrittenFits result.status result.written }
+    ensures nothing_refused { result.runs ≡ [] → result.written ≡ true }
     ensures write_fault { WriteCause result.status (S.faults out.old) (S.faults out.new) }
     ensures no_fewer { S.faults out.old ≤ S.faults out.new }
 {
