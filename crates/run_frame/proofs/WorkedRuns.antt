@@ -1,5 +1,5 @@
 -- The definitions over runs, computed on small ones.
-use Rattle.std.proofs.Common.{◌≡◌, ℕ, ◌+◌, List, [], ◌∷◌, true, false, Option, Some, None, refl, ap, arith}
+use Rattle.std.proofs.Common.{◌≡◌, ℕ, ◌+◌, List, [], ◌∷◌, true, false, Option, Some, None, map, refl, sym, ap, ◌∙◌, arith}
 use Rattle.std.specs.Prelude.{pos, negsuc}
 use Rattle.std.specs.Arc.{arc_value}
 use Rattle.std.specs.Global.{Global}
@@ -18,10 +18,10 @@ use Rattle.run_frame.specs.declared.job.Answer.TheVariants.{All, None as NoneOf,
 use Rattle.run_frame.specs.declared.job.Done.{Done}
 use Rattle.run_frame.specs.declared.job.Done.TheVariants.{Value, Inner as InnerJob}
 use Rattle.run_frame.specs.declared.run.ValueRow.{ValueRow}
-use Rattle.run_frame.specs.declared.run.FrameRun.{FrameRun}
+use Rattle.run_frame.specs.declared.run.FrameRun.{FrameRun, out-FrameRun}
 use Rattle.run_frame.specs.Meaning.{Meaning, FitsShape, DoneFits, IsOwnWhy}
 use Rattle.run_frame.specs.Runs.{value_at, found_ins, IsFine}
-use Rattle.run_frame.specs.Rows.{ends_from}
+use Rattle.run_frame.specs.Rows.{RowsFit, ends_from}
 use Rattle.run_frame.specs.WorkRule.{WorkRule, gives_of}
 use Rattle.run_frame.specs.NestedRule.{NestedRule, job_of, journal_of}
 
@@ -60,10 +60,6 @@ begun = Start 0 Source [] ∷ []
 -- the first task ended with a value, at place 1, and the second found that value
 abbrev second_begun : List Entry
 second_begun = Start 0 Source [] ∷ End 0 (0 ∷ []) false ∷ Start 1 Strong (From 1 ∷ []) ∷ []
-
--- The one End among these stands at place 1.
-one_end : ends_from 0 second_begun ≡ 1 ∷ []
-one_end = refl
 
 -- Which answers fit a shape: one index a choice, and not two.
 one_index : FitsShape Choice (Indices (pos 4 ∷ []))
@@ -131,6 +127,12 @@ module _ (five ten : Arc ℕ Global) (run : FrameRun ℕ ℕ) where
   no_value : value_at rows 2 ≡ None
   no_value = refl
 
+  -- Two values of a run with one End don't fit it.
+  one_value_too_many : (out-FrameRun ℕ ℕ run).values ≡ rows → journal_of run ≡ second_begun → ¬ RowsFit run
+  one_value_too_many values journal fit =
+      let same : 1 ∷ 3 ∷ [] ≡ 1 ∷ [] = ap (map (λ (row : ValueRow ℕ). row.place)) (sym values) ∙ fit.values ∙ ap (ends_from 0) journal in
+      absurd (cc)
+
   -- What is found: the value of an end, the token of the beginning, nothing.
   three_parts : found_ins rows (From 1 ∷ First ∷ Nothing ∷ []) ≡ value (arc_value five) ∷ first ∷ nothing ∷ []
   three_parts = refl
@@ -162,6 +164,9 @@ module _ (five ten : Arc ℕ Global) (run : FrameRun ℕ ℕ) where
   -- An inner end has a run: of the job that was answered, fine, and gathered to its value.
   inner_end : job_of run ≡ 2 → IsFine (journal_of run) → arc_value five ≡ 2 → NestedRule numbers 2 rows the_run begun (End 0 (0 ∷ []) true)
   inner_end job calm is = record { answered = job; fine = calm; gathered = cc; all_edges = refl }
+
+  inner_end_holds_back : ¬ NestedRule numbers 2 rows the_run begun (End 0 [] true)
+  inner_end_holds_back is = absurd (cc)
 
   inner_end_without_run : ¬ NestedRule numbers 2 rows no_run begun (End 0 (0 ∷ []) true)
   inner_end_without_run is = is

@@ -4,7 +4,7 @@ use Rattle.legal_run.specs.declared.entry.Entry.{Entry}
 use Rattle.legal_run.specs.declared.entry.Entry.TheVariants.{Start, End, Fault, Drop}
 use Rattle.run_frame.specs.declared.run.ValueRow.{ValueRow}
 use Rattle.run_frame.specs.declared.run.FrameRun.{FrameRun, out-FrameRun}
-use Rattle.run_frame.specs.declared.run.InnerRow.{InnerRow, out-InnerRow}
+use Rattle.run_frame.specs.declared.run.InnerRow.{out-InnerRow}
 use Rattle.run_frame.specs.NestedRule.{journal_of}
 
 -- the places of the Ends among these entries, the first of which stands at a place

@@ -3,7 +3,13 @@ use super::{COUNT, Call, run, shown};
 use outside_io::FailAt;
 use std::test::Fail;
 
+const READ: &str = r#"{"tasks":[{"name":"a","op":"read","text":"t"}]}"#;
+
 const READ_OTHER: &str = r#"{"tasks":[{"name":"a","op":"read","text":"u"}]}"#;
+
+const READ_TWO_OTHERS: &str = r#"{"tasks":[
+    {"name":"a","op":"read","text":"v"},
+    {"name":"b","op":"read","text":"u"}]}"#;
 
 fn counting<'a>() -> Call<'a> {
     run(COUNT.as_bytes(), b"x\ny")
@@ -16,9 +22,11 @@ fn tells_missing_texts(rt: HostRuntime) -> Result<(), Fail> {
         ..counting()
     };
     let no_text = run(READ_OTHER.as_bytes(), b"");
+    let neither_text = run(READ_TWO_OTHERS.as_bytes(), b"");
     for (call, want) in [
         (no_graph, "5 written; ; flow: no text h\n"),
         (no_text, "5 written; ; flow: no text u\n"),
+        (neither_text, "5 written; ; flow: no text v\n"),
     ] {
         assert_eq!(rt; shown(rt.alloc(), &call)?.as_str(), want);
     }
@@ -56,6 +64,20 @@ fn tells_failing_puts(rt: HostRuntime) -> Result<(), Fail> {
         };
         assert_eq!(rt; shown(rt.alloc(), &call)?.as_str(), want);
     }
+    Ok(())
+}
+
+// The value of a text without a line is no put, so the put after the line of its task can't fail.
+#[test]
+fn puts_no_empty_value(rt: HostRuntime) -> Result<(), Fail> {
+    let call = Call {
+        failing_puts: &[FailAt { call: 1, taken: 0 }],
+        ..run(READ.as_bytes(), b"")
+    };
+    assert_eq!(rt;
+        shown(rt.alloc(), &call)?.as_str(),
+        "0 written, run of 2; == a\n; "
+    );
     Ok(())
 }
 

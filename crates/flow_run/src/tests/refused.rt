@@ -70,7 +70,7 @@ const SEVERAL: &str =
 {"tasks":[{"name":"a","op":"sort","to":7}]} -> bad field op in task 0
 {"tasks":[{"name":"a","op":"count","to":7,"n":1}]} -> bad field to in task 0
 {"tasks":[{"name":"a","op":"count","z":1,"n":1}]} -> bad field n in task 0
-{"tasks":[{"name":"a","op":"count","to":["b","b"]},{"name":"b","op":"sort"}]} -> bad field op in task 1
+{"tasks":[{"name":"a","op":"count","to":["b","b"]},{"name":"b","op":"sort"}]} -> bad field to in task 0
 {"tasks":[{"name":"a","op":"count","to":["z","b","b"]},{"name":"b","op":"count"}]} -> bad field to in task 0"#;
 
 // Graphs in which no task can begin.
