@@ -1,11 +1,13 @@
 #!/usr/bin/env bash
-# Runs the built program on each of the examples, on words and files that it refuses and on streams that fail,
-# and compares its exit code, standard output and standard error. Prints a line for each difference, and ends
-# with status 1 where there is one. Its one argument is the program; without it that of the last build is run.
+# Runs the built program on each of the examples, on words and files that it refuses, on outputs that fail and
+# without memory, and compares its exit code, standard output and standard error. Prints a line for each
+# difference, and ends with status 1 where there is one. Its one argument is the program; without it that of the
+# last build is run.
 set -euo pipefail
-cd "$(dirname "${BASH_SOURCE[0]}")/.."
+top=$(realpath "$(dirname "${BASH_SOURCE[0]}")/..")
+program=$(realpath "${1:-$top/crates/flow/out/flow}")
+cd "$top"
 
-program=$(realpath "${1:-crates/flow/out/flow}")
 seen=$(mktemp -d)
 trap 'rm -rf "$seen"' EXIT
 
@@ -25,10 +27,14 @@ compare() {
     cmp -s "$seen/notes" "$notes" || fault "$what notes: $(cat "$seen/notes")"
 }
 
-# Calls the program with these words.
+# Calls the program with these words, and with so many kilobytes of memory.
+memory=unlimited
 call() {
     local code=0
-    "$program" "$@" >"$seen/out" 2>"$seen/notes" || code=$?
+    (
+        ulimit -v "$memory"
+        exec "$program" "$@" >"$seen/out" 2>"$seen/notes"
+    ) || code=$?
     echo "$code" >"$seen/code"
 }
 
@@ -67,6 +73,32 @@ refused 5 'flow: no text nowhere.json' run nowhere.json
 refused 5 'flow: no text t.txt' run "$count"
 refused 6 'flow: read fault on examples' run examples
 refused 3 'flow: bad graph: not JSON' run examples/count-lines/t.txt
+
+# Files and texts past their limits, and texts that can't be read.
+mkdir "$seen/texts" "$seen/texts/folder"
+cd "$seen/texts"
+head -c 4194305 /dev/zero | tr '\0' '[' >brackets.json
+head -c 16777216 /dev/zero >long.txt
+reading() {
+    echo '{"tasks":[{"name":"a","op":"read","text":"'"$1"'"}]}' >graph.json
+}
+refused 5 'flow: text too long brackets.json' run brackets.json
+truncate -s 4194304 brackets.json
+refused 3 'flow: bad graph: not JSON' run brackets.json
+reading long.txt
+refused 5 'flow: text too long long.txt' run graph.json
+reading folder
+refused 6 'flow: read fault on folder' run graph.json
+reading nowhere.txt
+refused 5 'flow: no text nowhere.txt' run graph.json
+
+# A text for which there is no memory.
+truncate -s 16777215 long.txt
+reading long.txt
+memory=16384
+refused 13 'flow: no memory' run graph.json
+memory=unlimited
+cd "$top"
 
 # A call whose output took nothing.
 lost() {
