@@ -1,8 +1,8 @@
 // The values that wait at the edges of a net, while one thread runs it.
-ghost use Rattle.std.specs.Prelude.{◌≡◌, ◌==◌, ◌≤◌, ◌<◌, ◌++◌, ◌∷◌, [], ℕ, List, length, map, replicate, All, IfOk, count_by, slice_index_or, if◌then◌else◌};
+ghost use Rattle.std.specs.Prelude.{◌≡◌, ◌==◌, ◌≤◌, ◌<◌, ◌++◌, ℕ, length, map, replicate, All, IfOk, count_by, slice_index_or, if◌then◌else◌};
 ghost use Rattle.std.specs.List.{list_any};
 ghost use Rattle.std.specs.Arc.{arc_value};
-ghost use Rattle.join_words.specs.Ins.{Found, value, found_of, parts_of, room_of};
+ghost use Rattle.join_words.specs.Ins.{value, found_of, parts_of};
 ghost use Rattle.join_words.specs.declared.ins.Given.{Given};
 ghost use Rattle.join_words.specs.declared.ins.Given.TheVariants.{Nothing};
 ghost use Rattle.text_tasks.specs.declared.item.Item.{Item};

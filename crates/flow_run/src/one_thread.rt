@@ -1,9 +1,7 @@
 // Runs by one thread.
-ghost use Rattle.std.specs.Prelude.{◌≡◌, ◌≤◌, ◌<◌, ◌++◌, ◌∷◌, [], ℕ, List, length, map, replicate, All, IfOk, IfErr, Ok, ◌+◌};
+ghost use Rattle.std.specs.Prelude.{◌≡◌, ◌≤◌, ◌<◌, ◌++◌, ◌∷◌, [], ℕ, List, length, All, IfOk, IfErr, Ok, ◌+◌};
 ghost use Rattle.std.specs.Arc.{arc_value};
 ghost use Rattle.task_graph.specs.Net.{in_edges};
-ghost use Rattle.join_words.specs.Ins.{Found, found_of, parts_of};
-ghost use Rattle.join_words.specs.declared.ins.Given.TheVariants.{Nothing};
 ghost use Rattle.run_frame.specs.Legal.{Legal, CompleteRun};
 ghost use Rattle.run_frame.specs.Rows.{RowsFit};
 ghost use Rattle.run_frame.specs.NestedRule.{job_of};

@@ -1,9 +1,7 @@
 // From the name of a graph file to a job that is ready to run.
-ghost use Rattle.std.specs.Prelude.{◌≡◌, ◌≢◌, ◌≤◌, ◌<◌, AllPairs, ℕ, List, length, take, All, IfOk, IfErr, None};
-ghost use Rattle.std.specs.Arc.{arc_value};
-ghost use Rattle.graph_file.specs.PlanRows.{PlanRows, IsPlan, plan_rows};
+ghost use Rattle.std.specs.Prelude.{◌≡◌, ◌≢◌, ◌≤◌, ◌<◌, AllPairs, List, length, IfOk, IfErr, None};
+ghost use Rattle.graph_file.specs.PlanRows.{IsPlan, plan_rows};
 ghost use Rattle.graph_file.specs.PlanText.{PlanText};
-ghost use Rattle.graph_file.specs.Sources.{NoSourceAnswer};
 ghost use Rattle.text_tasks.specs.TextTable.{rows_of, text_in};
 ghost use Rattle.text_tasks.specs.GraphWork.{text_limit};
 ghost use Rattle.text_tasks.specs.JobMeaning.{net_of, limit_of, IsTextJob};

@@ -1,10 +1,9 @@
 // The machine of one thread: it keeps a legal journal, and refuses each entry that would break it.
-ghost use Rattle.std.specs.Prelude.{◌≡◌, ◌↔◌, ◌≤◌, ◌<◌, ◌++◌, ◌∷◌, [], Bool, true, false, ℕ, List, length, IsTrue, IfOk, IfErr, OnOk, OnErr, Some, ◌⊎◌, count_by};
+ghost use Rattle.std.specs.Prelude.{◌≡◌, ◌↔◌, ◌≤◌, ◌<◌, ◌++◌, ◌∷◌, [], true, false, List, length, IsTrue, IfOk, IfErr, OnOk, OnErr, Some, ◌⊎◌};
 ghost use Rattle.std.specs.Arc.{arc_value};
-ghost use Rattle.task_graph.specs.Net.{IsPlainNet, IsNet, out_edges};
+ghost use Rattle.task_graph.specs.Net.{IsPlainNet, out_edges};
 ghost use Rattle.legal_run.specs.declared.entry.Entry.TheVariants.{Start, End};
 ghost use Rattle.legal_run.specs.Counts.{starts, start_at, is_open};
-ghost use Rattle.legal_run.specs.ReleaseRule.{IsReleased};
 ghost use Rattle.legal_run.specs.ChoiceRule.{ChoiceRule};
 ghost use Rattle.legal_run.specs.ShapeLegal.{ShapeLegal, MeetsDataRule};
 ghost use Rattle.legal_run.specs.Complete.{Complete};

@@ -1,5 +1,5 @@
 // Which entries of a journal are open Starts, by their places, and how many.
-ghost use Rattle.std.specs.Prelude.{◌≡◌, ◌↔◌, ◌<◌, ◌++◌, ◌∷◌, [], Bool, true, false, List, length, IsTrue, OnOk, OnErr, Contains, slice_set, slice_get, take, count_by, Some, ◌+◌, ◌-◌};
+ghost use Rattle.std.specs.Prelude.{◌≡◌, ◌↔◌, ◌<◌, ◌++◌, ◌∷◌, [], Bool, true, false, List, length, IsTrue, OnOk, OnErr, slice_set, slice_get, take, count_by, Some, ◌+◌, ◌-◌};
 
 use outside_io::NoMemory;
 use std::alloc::Global;

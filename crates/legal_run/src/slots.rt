@@ -1,6 +1,6 @@
 // Changes of lists at several places.
 ghost use Rattle.std.specs.Prelude.{◌≡◌, ◌↔◌, ◌==◌, ◌+◌, ◌<◌, ◌≤◌, ◌^◌, ℕ, length, IsTrue, All, IfOk, map, fold, min, count_by, slice_index, slice_index_or, slice_set, if◌then◌else◌};
-ghost use Rattle.std.specs.List.{list_any, AllByRecursion};
+ghost use Rattle.std.specs.List.{list_any};
 ghost use Rattle.legal_run.specs.Complete.{least};
 ghost use Rattle.legal_run.specs.declared.entry.Part.{Part};
 ghost use Rattle.legal_run.specs.declared.entry.Part.TheVariants.{Nothing};

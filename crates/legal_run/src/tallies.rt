@@ -1,15 +1,14 @@
 // What a machine counts for each task and each edge of its net.
 ghost use Rattle.std.specs.Prelude.{Bool, ◌==◌, count_by, ◌≡◌, ◌↔◌, ◌+◌, ◌<◌, ◌≤◌, ◌^◌, ◌++◌, ◌∷◌, [], ℕ, List, length, IsTrue, IfOk, All};
-ghost use Rattle.std.specs.List.{AllByRecursion};
 ghost use Rattle.task_graph.specs.NetRows.{NetRows};
-ghost use Rattle.task_graph.specs.Net.{IsNet, IsPlainNet, IsSource, out_edges, strong_in};
+ghost use Rattle.task_graph.specs.Net.{IsPlainNet};
 ghost use Rattle.legal_run.specs.declared.entry.Entry.{Entry};
 ghost use Rattle.legal_run.specs.declared.entry.Entry.TheVariants.{Start, End};
 ghost use Rattle.legal_run.specs.declared.entry.Part.{Part};
 ghost use Rattle.legal_run.specs.declared.entry.Cause.TheVariants.{Source, Strong};
-ghost use Rattle.legal_run.specs.Counts.{given, used, used_source};
+ghost use Rattle.legal_run.specs.Counts.{given, used};
 ghost use Rattle.legal_run.specs.ReleaseRule.{IsReleased};
-ghost use Rattle.legal_run.specs.Complete.{EachTask, least};
+ghost use Rattle.legal_run.specs.Complete.{least};
 ghost use Rattle.legal_run.specs.Waiting.{waiting_parts};
 ghost use Rattle.legal_run.specs.Kept.{Counted, NeedsNoWeakEdge, SourceUsed, RoundsUsed, AreUsedUp};
 ghost use Rattle.legal_run.specs.ShapeLegal.{CauseInRange};

@@ -1,8 +1,8 @@
 // Starts that find what they may not, in worked journals, and runs that aren't finished.
-ghost use Rattle.std.specs.Prelude.{true, false, [], ◌∷◌, ◌++◌};
+ghost use Rattle.std.specs.Prelude.{false, [], ◌∷◌, ◌++◌};
 ghost use Rattle.legal_run.specs.declared.entry.Cause.TheVariants.{Source, Strong, Weak};
 ghost use Rattle.legal_run.specs.declared.entry.Part.TheVariants.{From, First, Nothing};
-ghost use Rattle.legal_run.specs.declared.entry.Entry.TheVariants.{Start, End, Fault, Drop};
+ghost use Rattle.legal_run.specs.declared.entry.Entry.TheVariants.{Start, End};
 ghost use Rattle.plain_rules.specs.Findings.{IsUnfinished, FindsAmiss};
 ghost use Rattle.plain_rules.specs.WorkedNets.{row_net, diamond_net, kept_net, choice_net, self_net, ring_net, two_rings_net};
 ghost use Rattle.plain_rules.specs.WorkedJournals.{source_run, row_front, diamond_front, kept_rounds, chosen_front, limited_run, ring_rounds, rings_round, two_rings_front};

@@ -1,6 +1,6 @@
 // What the rules count in a journal.
 ghost use Rattle.std.specs.Prelude.{◌≡◌, ◌↔◌, count_by, take, IsTrue};
-ghost use Rattle.legal_run.specs.Counts.{gives_edge, first_tokens, given, is_strong, is_source, is_weak_at, uses, uses_any, used, used_weak, used_source, started, start_at, closes, is_open, is_start, is_fault, starts, faults, NoneOpen};
+ghost use Rattle.legal_run.specs.Counts.{gives_edge, first_tokens, given, is_strong, is_source, is_weak_at, uses, uses_any, used, used_weak, used_source, started, start_at, closes, is_open, starts, faults, NoneOpen};
 
 use legal_run::{Cause, Entry};
 use task_graph::Net;

@@ -1,7 +1,7 @@
 // What a Start finds at the edges that released it.
 ghost use Rattle.std.specs.Prelude.{◌≡◌, ◌↔◌, ◌+◌, ◌≤◌, ◌<◌, ◌^◌, ◌&&◌, ◌==◌, false, length, take, count_by, slice_get, IsTrue, IsSomeAnd};
 ghost use Rattle.std.specs.Option.{option_map_or};
-ghost use Rattle.std.specs.List.{AllZip, list_any, zip};
+ghost use Rattle.std.specs.List.{AllZip};
 ghost use Rattle.legal_run.specs.Counts.{gives_edge, first_tokens, given};
 ghost use Rattle.legal_run.specs.Calm.{used_at, IsCalm};
 ghost use Rattle.legal_run.specs.DataRule.{edges_of, has_part, last_from, last_part, MayFind, IsPartAt, DataRule};

@@ -1,5 +1,5 @@
 // Which journals are legal, as far as the net alone decides.
-ghost use Rattle.std.specs.Prelude.{ℕ, ◌↔◌, ◌<◌, length, take, slice_get, IsTrue, IsSomeAnd};
+ghost use Rattle.std.specs.Prelude.{◌↔◌, ◌<◌, length, take, slice_get, IsTrue, IsSomeAnd};
 ghost use Rattle.std.specs.List.{AllByRecursion};
 ghost use Rattle.legal_run.specs.ShapeLegal.{CauseInRange, WhyInRange, DropWhyInRange, IsInRange, MayFollow, ShapeLegal};
 

@@ -1,7 +1,7 @@
 // Look-ups in a net that also answer for numbers that are no task's or no edge's.
-ghost use Rattle.std.specs.Prelude.{◌≡◌, ◌↔◌, ◌<◌, length, slice_get, IsSomeAnd, IsTrue};
+ghost use Rattle.std.specs.Prelude.{◌≡◌, ◌↔◌, ◌<◌, slice_get, IsSomeAnd, IsTrue};
 ghost use Rattle.task_graph.specs.declared.net.EdgeRow.{EdgeRow};
-ghost use Rattle.task_graph.specs.Net.{IsSource, chooses, task_chooses, is_weak_row, is_weak, strong_in};
+ghost use Rattle.task_graph.specs.Net.{IsSource, chooses, task_chooses, is_weak, strong_in};
 
 use task_graph::{Net, Shape};
 

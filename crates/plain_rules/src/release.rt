@@ -1,5 +1,5 @@
 // The rule on releases.
-ghost use Rattle.std.specs.Prelude.{◌≡◌, ◌≢◌, ◌↔◌, ◌+◌, ◌≤◌, [], slice_get, IsSomeAnd, IsTrue};
+ghost use Rattle.std.specs.Prelude.{◌↔◌, ◌+◌, ◌≤◌, IsTrue};
 ghost use Rattle.std.specs.List.{AllByRecursion};
 ghost use Rattle.task_graph.specs.Net.{strong_in};
 ghost use Rattle.legal_run.specs.Counts.{used, given};

@@ -1,8 +1,8 @@
 // The rule on the units of semaphores.
-ghost use Rattle.std.specs.Prelude.{◌≡◌, ◌↔◌, ◌+◌, ◌≤◌, ◌<◌, ◌^◌, ◌&&◌, ◌==◌, not, true, false, ℕ, [], ◌∷◌, ◌++◌, count_by, length, take, if◌then◌else◌, IsTrue, IsSomeAnd};
+ghost use Rattle.std.specs.Prelude.{◌≡◌, ◌↔◌, ◌+◌, ◌≤◌, ◌<◌, ◌^◌, ◌&&◌, ◌==◌, not, true, false, ℕ, [], ◌∷◌, ◌++◌, count_by, length, take, IsTrue};
 ghost use Rattle.std.specs.Option.{option_map_or};
 ghost use Rattle.std.specs.List.{AllByRecursion, range_with_len};
-ghost use Rattle.legal_run.specs.Counts.{started, start_at, closes};
+ghost use Rattle.legal_run.specs.Counts.{started, start_at};
 ghost use Rattle.legal_run.specs.SemaphoreRule.{takes, puts, taken, gives_back, back, max_of, HasUnit, IsWithin, starts_at, closed_takers, other_putters, IsOverRelease, OverReleaseRule, FaultRule, SemaphoreRule};
 ghost use Rattle.plain_rules.specs.Claims.{keeps_unit, IsOver};
 
