@@ -1,8 +1,9 @@
 //! The top call of the program: from the words, the texts and the streams that are handed in to a status.
 //!
-//! The layer above sees `flow_main` and its `Outcome`, and `put_note` for an end before any call. The definitions stand in `specs/`: `Words` says which words
-//! ask for what, `Requests` what a graph file asks for and why a call stops before its run, `Output` what the
-//! report of a run is, `Notes` the line of a status, and `Answers` how a call ends.
+//! The layer above sees `flow_main` and its `Outcome`, and `put_note` for an end before any call. The definitions
+//! stand in `specs/`: `Words` says which words ask for what, `Requests` what a graph file asks for and why a call
+//! stops before its run, `Output` what the report of a run is, `Notes` the line of a status, and `Answers` how a
+//! call ends.
 #![tactic(auto)]
 
 mod call;

@@ -96,7 +96,7 @@ fn row_of(rows: &[FailAt], call: u64) -> Option<&FailAt>
     rows.iter().find(|row| row.call == call)
 }
 
-// The first `count` bytes of the piece, or all of a shorter one.
+// At most `count` bytes, from the front of the piece.
 fn front_of(piece: &[u8], count: u64) -> &[u8]
     ensures { result.now ≡ take count piece.now }
 {

@@ -1,5 +1,5 @@
 -- The definitions over runs, computed on small ones.
-use Rattle.std.proofs.Common.{◌≡◌, ℕ, ◌+◌, List, [], ◌∷◌, true, false, Option, Some, None, map, refl, sym, ap, ◌∙◌, arith}
+use Rattle.std.proofs.Common.{◌≡◌, ℕ, ◌+◌, List, [], ◌∷◌, true, false, Option, Some, None, length, map, refl, sym, ap, ◌∙◌, arith}
 use Rattle.std.specs.Prelude.{pos, negsuc}
 use Rattle.std.specs.Arc.{arc_value}
 use Rattle.std.specs.Global.{Global}
@@ -131,7 +131,8 @@ module _ (five ten : Arc ℕ Global) (run : FrameRun ℕ ℕ) where
   one_value_too_many : (out-FrameRun ℕ ℕ run).values ≡ rows → journal_of run ≡ second_begun → ¬ RowsFit run
   one_value_too_many values journal fit =
       let same : 1 ∷ 3 ∷ [] ≡ 1 ∷ [] = ap (map (λ (row : ValueRow ℕ). row.place)) (sym values) ∙ fit.values ∙ ap (ends_from 0) journal in
-      absurd (cc)
+      let two_is_one : 2 ≡ 1 = ap length same in
+      absurd (omega (arith, two_is_one))
 
   -- What is found: the value of an end, the token of the beginning, nothing.
   three_parts : found_ins rows (From 1 ∷ First ∷ Nothing ∷ []) ≡ value (arc_value five) ∷ first ∷ nothing ∷ []

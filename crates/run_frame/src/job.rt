@@ -13,7 +13,7 @@ use std::alloc::Global;
 use std::sync::Arc;
 use task_graph::Net;
 
-/// What has values. It names them alone, so that a run is plain data that no meaning of the job enters.
+/// The type of a job's values, apart from what the job does, so that a run can be kept without its job's meaning.
 pub trait Valued: Sized {
     type V: Send + Sync + Drop;
 }
