@@ -33,8 +33,8 @@ wrote_all before after bytes last none part = subst (Appends before after) (sym 
 
 -- A piece that is written behind all that was held back.
 pub puts_behind : {W : Type 0} (contents : W → Option (List ℕ)) (old between new : OpenStream W) (piece : List ℕ) (result : Result (Unit {0}) SinkFault)
-    → old.faults ≢ 2 ^ 64 - 1 → WritesOn contents old between old.held (Ok tt) → WritesOn contents between new piece result → PutsOn contents old new piece result
-puts_behind contents old between new piece (Ok done) room (held, none, faults) (wrote, none_new, faults_new) = record {
+    → WritesOn contents old between old.held (Ok tt) → WritesOn contents between new piece result → PutsOn contents old new piece result
+puts_behind contents old between new piece (Ok done) (held, none, faults) (wrote, none_new, faults_new) = record {
   wrote = record {
     front = old.held ++ piece;
     parts = sym (append-nil (old.held ++ piece)) ∙ ap (λ last. (old.held ++ piece) ++ last) (sym none_new);
@@ -42,7 +42,7 @@ puts_behind contents old between new piece (Ok done) room (held, none, faults) (
   };
   faults = faults_new ∙ faults;
 }
-puts_behind contents old between new piece (Err Failed) room (held, none, faults) failed = record {
+puts_behind contents old between new piece (Err Failed) (held, none, faults) failed = record {
   wrote = record {
     lost = failed.wrote.lost;
     but = record {
@@ -54,12 +54,12 @@ puts_behind contents old between new piece (Err Failed) room (held, none, faults
   nothing_held = failed.nothing_held;
   faults = failed.faults ∙ ap (λ n. n + 1) faults;
 }
-puts_behind contents old between new piece (Err NoMemory) room (held, none, faults) (full, same) = absurd (room (sym faults ∙ full))
+puts_behind contents old between new piece (Err NoMemory) (held, none, faults) never = absurd never
 
 -- Where the write of what was held back fails, the piece is lost with the rest of it.
 pub puts_nothing : {W : Type 0} (contents : W → Option (List ℕ)) (old new : OpenStream W) (piece : List ℕ) (fault : SinkFault)
-    → old.faults ≢ 2 ^ 64 - 1 → WritesOn contents old new old.held (Err fault) → PutsOn contents old new piece (Err fault)
-puts_nothing contents old new piece Failed room failed = record {
+    → WritesOn contents old new old.held (Err fault) → PutsOn contents old new piece (Err fault)
+puts_nothing contents old new piece Failed failed = record {
   wrote = record {
     lost = failed.wrote.lost ++ piece;
     but = record {
@@ -71,4 +71,4 @@ puts_nothing contents old new piece Failed room failed = record {
   nothing_held = failed.nothing_held;
   faults = failed.faults;
 }
-puts_nothing contents old new piece NoMemory room (full, same) = absurd (room full)
+puts_nothing contents old new piece NoMemory never = absurd never

@@ -43,8 +43,8 @@ PutsOn contents old new piece (Ok done) = HoldsBack contents old new piece
 PutsOn contents old new piece (Err Failed) = FailsToWrite contents old new (old.held ++ piece)
 PutsOn contents old new piece (Err NoMemory) = (old.faults ≡ 2 ^ 64 - 1) × (new ≡ old)
 
--- What a write of bytes does, of which none is held back.
+-- What a write of bytes does, of which none is held back. It takes no memory.
 abbrev pub WritesOn : {W : Type 0} → (W → Option (List ℕ)) → OpenStream W → OpenStream W → List ℕ → Result (Unit {0}) SinkFault → Type 0
 WritesOn contents old new bytes (Ok done) = Appends (contents old.stream) (contents new.stream) bytes × (new.held ≡ []) × (new.faults ≡ old.faults)
 WritesOn contents old new bytes (Err Failed) = FailsToWrite contents old new bytes
-WritesOn contents old new bytes (Err NoMemory) = (old.faults ≡ 2 ^ 64 - 1) × (new ≡ record old { held = [] })
+WritesOn contents old new bytes (Err NoMemory) = ⊥

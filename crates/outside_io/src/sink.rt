@@ -1,5 +1,5 @@
 // What bytes are put on, as the layers above see it.
-ghost use Rattle.std.specs.Prelude.{◌≡◌, [], OnOk, IsErrOf};
+ghost use Rattle.std.specs.Prelude.{◌≡◌, [], OnOk, OnErr, IfErr, IsErrOf};
 ghost use Rattle.outside_io.specs.declared.sink.SinkFault.TheVariants.{NoMemory as NoMemoryFault};
 ghost use Rattle.outside_io.specs.Sink.{SinkState, Accepts, FailsOn};
 
@@ -38,11 +38,11 @@ pub trait Sink {
         ensures failed { IsErrOf result SinkFault.Failed → FailsOn (state self.old) (state self.new) piece.now }
         ensures no_memory { IsErrOf result SinkFault.NoMemory → state self.new ≡ state self.old };
 
-    /// Passes on what is held back. Nothing is held back afterwards: what an error kept from being passed on is
-    /// lost.
+    /// Passes on what is held back. Nothing is held back afterwards: what a failure kept from being passed on is
+    /// lost. It takes no memory, so it never answers `NoMemory`.
     fn flush(&mut self) -> Result<(), SinkFault>
         ensures ok { OnOk result (Accepts (state self.old) (state self.new) []) }
-        ensures failed { IsErrOf result SinkFault.Failed → FailsOn (state self.old) (state self.new) [] }
-        ensures no_memory { IsErrOf result SinkFault.NoMemory → state self.new ≡ record (state self.old) { held_back = [] } }
+        ensures err { OnErr result (FailsOn (state self.old) (state self.new) []) }
+        ensures failed { IfErr result (λ fault. fault ≡ SinkFault.Failed) }
         ensures nothing_held { (state self.new).held_back ≡ [] };
 }

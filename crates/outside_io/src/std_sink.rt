@@ -37,8 +37,7 @@ const HELD_LIMIT: usize = 65_536;
 /// what is held back: a `StdSink` that is dropped without it loses those bytes.
 ///
 /// A write that fails, as at a closed pipe, and one that takes nothing are faults; one that a signal cut short goes
-/// on. The count of faults ends at the greatest `u64`: there each put answers `NoMemory` and does nothing, and so
-/// does a flush, but that what was held back is lost.
+/// on. The count of faults ends at the greatest `u64`: there each put answers `NoMemory` and does nothing.
 #[derive(Drop)]
 pub struct StdSink<W> {
     stream: W,
@@ -51,12 +50,12 @@ impl<W> Model for StdSink<W> {
 
     ghost Value = { OpenStream W };
 
-    ghost use Rattle.std.specs.Prelude.{◌≤◌, length};
+    ghost use Rattle.std.specs.Prelude.{◌≡◌, ◌≤◌, ◌-◌, ◌^◌, [], length};
     ghost use Rattle.outside_io.specs.StdSink.{held_limit};
 
     ghost view = { λ sink. record { stream = sink.stream; held = sink.held.items; faults = sink.faults } };
 
-    ghost invariant = { λ sink. length sink.held.items ≤ held_limit };
+    ghost invariant = { λ sink. (length sink.held.items ≤ held_limit) × (sink.faults ≡ 2 ^ 64 - 1 → sink.held.items ≡ []) };
 }
 
 impl StdSink<Stdout> {
@@ -93,14 +92,16 @@ impl<W> StdSink<W> {
 
     // Holds a piece back, where there are room and memory for it, and says whether it did.
     fn hold(&mut self, piece: &[u8]) -> bool
+        requires { self.old.faults < 2 ^ 64 - 1 }
         ensures { MatchBool result (self.new ≡ record self.old { held = self.old.held ++ piece.now }) (self.new ≡ self.old) }
     {
         piece.len() <= HELD_LIMIT - self.held.len() && self.held.extend_from_slice(piece).is_ok()
     }
 
-    // The answer after a write. A failure is counted.
+    // The answer after a write of all there was. A failure is counted.
     fn answer(&mut self, is_written: bool) -> Result<(), SinkFault>
-        requires { self.old.faults < 2 ^ 64 - 1 }
+        requires room { self.old.faults < 2 ^ 64 - 1 }
+        requires nothing_held { self.old.held ≡ [] }
         ensures ok { OnOk result (IsTrue is_written × (self.new ≡ self.old)) }
         ensures err { OnErr result (¬ IsTrue is_written × (self.new ≡ record self.old { faults = self.old.faults + 1 })) }
         ensures failed { IfErr result (λ fault. fault ≡ SinkFault.Failed) }
@@ -127,7 +128,8 @@ impl<W: Write> StdSink<W> {
     // Writes what is held back. Nothing is held back afterwards.
     fn write_held(&mut self) -> Result<(), SinkFault>
         requires { self.old.faults < 2 ^ 64 - 1 }
-        ensures { WritesOn W.contents self.old self.new self.old.held result }
+        ensures writes { WritesOn W.contents self.old self.new self.old.held result }
+        ensures failed { IfErr result (λ fault. fault ≡ SinkFault.Failed) }
     {
         let is_written = write_whole(&mut self.stream, self.held.as_slice());
         self.held.clear();
@@ -157,11 +159,11 @@ impl<W: Write> Sink for StdSink<W> {
     }
 
     fn flush(&mut self) -> Result<(), SinkFault>
-        ensures { WritesOn W.contents self.old self.new self.old.held result }
+        ensures writes { WritesOn W.contents self.old self.new self.old.held result }
+        ensures failed { IfErr result (λ fault. fault ≡ SinkFault.Failed) }
     {
-        if self.faults == u64::MAX {
-            self.held.clear();
-            return Err(SinkFault::NoMemory);
+        if self.held.is_empty() {
+            return Ok(());
         }
         self.write_held()
     }
