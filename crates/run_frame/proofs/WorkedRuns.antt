@@ -51,6 +51,7 @@ numbers = record {
   faults = λ j t found why. why ≡ Long t;
   gathers = λ j run n. n ≡ j;
   gather_faults = λ j run why. why ≡ Wide j;
+  follows = λ j run k. k ≡ j + 1;
 }
 
 -- the first task started

@@ -9,3 +9,4 @@ pub mod Indexed
 pub mod Building
 pub mod Counting
 pub mod Chosen
+pub mod Choosing

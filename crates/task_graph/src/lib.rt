@@ -7,13 +7,15 @@
 #![tactic(auto)]
 
 mod builder;
+mod choice;
 mod counting;
 mod groups;
 mod index;
 mod net;
+mod semaphores;
 mod side;
 #[cfg(test)]
 mod tests;
 
-pub use builder::{BuildError, MAX_EDGES, MAX_TASKS, NetBuilder};
+pub use builder::{BuildError, MAX_EDGES, MAX_SEMAPHORES, MAX_TASKS, NetBuilder};
 pub use net::{EdgeRow, Net, Shape, TaskRow};

@@ -8,7 +8,7 @@ use Rattle.std.proofs.lemmas.List.Elements.{filter-append}
 use Rattle.legal_run.specs.declared.entry.Entry.{Entry}
 use Rattle.run_frame.specs.declared.run.ValueRow.{ValueRow}
 use Rattle.run_frame.specs.Runs.{value_at}
-use Rattle.flow_run.specs.Output.{ended_at, is_end_of, ends_before, last_before}
+use Rattle.run_frame.specs.LastEnds.{ended_at, is_end_of, ends_before, last_before}
 
 -- Counting one further puts a number at the end.
 pub counting_more : (from n at : ℕ) → from + n ≡ at → range_with_len from (n + 1) ≡ range_with_len from n ++ at ∷ []
@@ -43,3 +43,7 @@ value_at_more (first ∷ rows) row n = by_test (first.place == n) (arc_value fir
     by_test : {V : Type 0} (is : Bool) (hit : V) (all front last : Option V) → all ≡ option_or front last → (if is then Some hit else all) ≡ option_or (if is then Some hit else front) last
     by_test true hit all front last more = refl
     by_test false hit all front last more = more
+
+-- The same, told by the test of an End.
+pub last_before_at : (journal : List Entry) (t n : ℕ) → last_before journal t (n + 1) ≡ (if is_end_of journal t n then Some n else last_before journal t n)
+last_before_at journal t n = last_before_more journal t n (ended_at journal n) refl

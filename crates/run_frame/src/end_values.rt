@@ -1,17 +1,16 @@
-// The last End of each task of a run, and the value of each End.
+// The last End of each task of a run, and the value of each End, each for all of them by one walk.
 ghost use Rattle.std.specs.Prelude.{◌≡◌, ◌==◌, ◌<◌, ℕ, None, Some, length, replicate, IfOk, slice_index_or, option_map, if◌then◌else◌};
 ghost use Rattle.std.specs.Option.{option_or};
 ghost use Rattle.std.specs.Arc.{arc_value};
 ghost use Rattle.legal_run.specs.Counts.{start_at};
 ghost use Rattle.run_frame.specs.Runs.{value_at};
-ghost use Rattle.flow_run.specs.Output.{ended_at, last_end};
+ghost use Rattle.run_frame.specs.LastEnds.{ended_at, last_end};
 
+use super::run::ValueRow;
 use legal_run::{Entry, Journal};
 use outside_io::NoMemory;
-use run_frame::ValueRow;
 use std::alloc::Global;
 use std::sync::Arc;
-use text_tasks::Item;
 
 /// The place of the last End of each of so many tasks. It takes one walk over the journal.
 pub fn last_ends(
@@ -33,7 +32,7 @@ pub fn last_ends(
 }
 
 // The task whose End stands at a place.
-fn ended_task(entries: &[Entry], place: usize) -> Option<u32>
+pub(crate) fn ended_task(entries: &[Entry], place: usize) -> Option<u32>
     ensures { result ≡ ended_at entries.now place }
 {
     match entries.get(place) {
@@ -64,11 +63,11 @@ fn note_end(ends: &mut Vec<Option<u64>>, task: u32, place: u64)
 }
 
 /// The value of the first row for each place below so many. It takes one walk over the rows.
-pub fn values_by_place(
+pub fn values_by_place<V: Drop>(
     alloc: Global,
-    rows: &[ValueRow<Item>],
+    rows: &[ValueRow<V>],
     places: usize,
-) -> Result<Vec<Option<Arc<Item>>>, NoMemory>
+) -> Result<Vec<Option<Arc<V>>>, NoMemory>
     ensures len { IfOk result (λ values. length values.items ≡ places) }
     ensures each { IfOk result (λ values. (n : ℕ) → n < places →
         option_map arc_value (slice_index_or values.items n None) ≡ value_at rows.now n) }
@@ -92,7 +91,7 @@ fn nothing_held<T: Drop>(alloc: Global, count: usize) -> Result<Vec<Option<T>>, 
 }
 
 // Keeps the value of a row where its place has none yet.
-fn keep_first(values: &mut Vec<Option<Arc<Item>>>, row: &ValueRow<Item>) -> Result<(), NoMemory>
+fn keep_first<V: Drop>(values: &mut Vec<Option<Arc<V>>>, row: &ValueRow<V>) -> Result<(), NoMemory>
     ensures len { length values.new.items ≡ length values.old.items }
     ensures each { IfOk result (λ _. (n : ℕ) → n < length values.old.items →
         option_map arc_value (slice_index_or values.new.items n None)

@@ -1,8 +1,8 @@
 use Rattle.std.proofs.Common.{rules, arith, sym, ap, ◌∙◌, ◌≡◌, ◌==◌, None, Some, if◌then◌else◌}
-use Rattle.flow_run.specs.Output.{ended_at}
-use Rattle.flow_run.proofs.EndsLemmas.{last_before_more}
-use Rattle.flow_run.proofs.last_ends.last_ends.Goals.{in-Some, in_default}
-use Rattle.flow_run.proofs.last_ends.last_ends.Goals as goal
+use Rattle.run_frame.specs.LastEnds.{ended_at}
+use Rattle.run_frame.proofs.EndsLemmas.{last_before_more}
+use Rattle.run_frame.proofs.end_values.last_ends.Goals.{in-Some, in_default}
+use Rattle.run_frame.proofs.end_values.last_ends.Goals as goal
 
 pub loop-place-preserved : goal.loop-place-preserved
 loop-place-preserved c = elim c.match-ended_task.branch [

@@ -1,6 +1,6 @@
 use Rattle.std.proofs.Common.{◌≡◌, ◌<◌, ℕ, None, length, slice_index_or}
-use Rattle.flow_run.specs.Output.{last_before}
-use Rattle.flow_run.proofs.last_ends.last_ends.Given as goal
+use Rattle.run_frame.specs.LastEnds.{last_before}
+use Rattle.run_frame.proofs.end_values.last_ends.Given as goal
 
 abbrev pub invariant-loop-place : goal.invariant-loop-place
 invariant-loop-place l = record {

@@ -3,11 +3,11 @@ use Rattle.std.specs.Arc.{arc_value}
 use Rattle.std.specs.Option.{option_or}
 use Rattle.std.proofs.lemmas.List.{take_more}
 use Rattle.run_frame.specs.Runs.{value_at}
-use Rattle.flow_run.proofs.EndsLemmas.{value_at_more}
-use Rattle.flow_run.proofs.last_ends.values_by_place.Goals as goal
+use Rattle.run_frame.proofs.EndsLemmas.{value_at_more}
+use Rattle.run_frame.proofs.end_values.values_by_place.Goals as goal
 
 pub loop-row-preserved : goal.loop-row-preserved
-loop-row-preserved c =
+loop-row-preserved g c =
     let row = c.row-item.result in
     let rows = c.args.rows.now in
     let more : take (c.loop-row.row-index + 1) rows ≡ take c.loop-row.row-index rows ++ row ∷ [] =
