@@ -27,7 +27,7 @@ use Rattle.text_tasks.specs.declared.item.Item.TheVariants.{Text}
 use Rattle.text_tasks.specs.declared.table.TextRow.{TextRow}
 use Rattle.text_tasks.specs.declared.job.TextJob.{TextJob}
 use Rattle.text_tasks.specs.declared.job.TextJob.TheVariants.{Graph}
-use Rattle.text_tasks.specs.GraphWork.{GraphWork, IsWork}
+use Rattle.text_tasks.specs.GraphWork.{GraphWork, IsWork, graph_of}
 use Rattle.text_tasks.specs.Items.{item_text}
 use Rattle.text_tasks.specs.Lines.{normal}
 use Rattle.text_tasks.specs.TextMeaning.{keep_meaning, count_meaning}
@@ -68,24 +68,24 @@ Gives work found (Text text) NoneOf op = ⊥
 Gives work found (Text text) (Indices is) op = ⊥
 
 abbrev pub AnswersWith : GraphWork → ℕ → List (Found Item) → Done TextJob Item → Type 0
-AnswersWith work task found (Value item answer) = IsSomeAnd (slice_get work.plan.top.ops task) (Gives work found item answer)
+AnswersWith work task found (Value item answer) = IsSomeAnd (slice_get (graph_of work).ops task) (Gives work found item answer)
 AnswersWith work task found (InnerJob job) = ⊥
 
 -- A value that would be too long is a fault that tells its length.
 abbrev pub FaultsWith : GraphWork → ℕ → List (Found Item) → Why → Type 0
 FaultsWith work task found (Long n) =
-    IsSomeAnd (slice_get work.plan.top.ops task) (λ op. (n ≡ length (task_value work op found)) × (value_limit < n))
+    IsSomeAnd (slice_get (graph_of work).ops task) (λ op. (n ≡ length (task_value work op found)) × (value_limit < n))
 FaultsWith work task found (Wide n) = ⊥
 FaultsWith work task found (Unmet k) = ⊥
 FaultsWith work task found Inner = ⊥
 FaultsWith work task found (OverRelease s) = ⊥
 
 abbrev pub net_of : TextJob → NetRows
-net_of (Graph work) = work.plan.top.net
+net_of (Graph work) = (graph_of work).net
 
 -- the names of the tasks, by their numbers
 abbrev pub names_of : TextJob → List (List ℕ)
-names_of (Graph work) = work.plan.top.names
+names_of (Graph work) = (graph_of work).names
 
 abbrev pub limit_of : TextJob → ℕ
 limit_of (Graph work) = work.limit
