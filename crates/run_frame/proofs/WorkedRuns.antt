@@ -1,6 +1,6 @@
 -- The definitions over runs, computed on small ones.
 use Rattle.std.proofs.Common.{◌≡◌, ℕ, ◌+◌, List, [], ◌∷◌, true, false, Option, Some, None, length, map, refl, sym, ap, ◌∙◌, arith}
-use Rattle.std.specs.Prelude.{pos, negsuc}
+use Rattle.std.specs.Prelude.{pos, negsuc, ◌==◌, if◌then◌else◌}
 use Rattle.std.specs.Arc.{arc_value}
 use Rattle.std.specs.Global.{Global}
 use Rattle.std.specs.declared.sync.Arc.{Arc}
@@ -404,6 +404,13 @@ module _ (five ten : Arc ℕ Global) (run : FrameRun ℕ ℕ) where
   -- The run beside a fault is of the job that was answered, on the work of the start that the fault closes.
   fault_of_other_job : job_of run ≡ 3 → ¬ NestedRule numbers 2 rows the_run begun (Fault 0 Inner)
   fault_of_other_job job is = absurd (cc)
+
+  -- It is the run at the place of the fault, and not at that of the start.
+  abbrev run_at_end : ℕ → Option (FrameRun ℕ ℕ)
+  run_at_end n = if n == 1 then Some run else None
+
+  fault_has_its_own_run : job_of run ≡ 3 → ¬ NestedRule numbers 2 rows run_at_end begun (Fault 0 Inner)
+  fault_has_its_own_run job is = absurd (cc)
 
   fault_of_no_start : ¬ NestedRule numbers 2 rows the_run begun (Fault 1 Inner)
   fault_of_no_start is = is
