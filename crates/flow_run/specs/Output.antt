@@ -17,39 +17,6 @@ use Rattle.text_tasks.specs.Items.{item_text}
 use Rattle.text_tasks.specs.Lines.{line_end}
 use Rattle.text_tasks.specs.JobMeaning.{net_of, names_of}
 
--- the task of the start that an End closes
-abbrev pub ended : List Entry → Entry → Option ℕ
-ended journal (Start task cause ins) = None
-ended journal (End start gives inner) = start_at journal start
-ended journal (Fault start why) = None
-ended journal (Drop task cause why) = None
-
--- the task whose End stands at a place, where one stands there
-abbrev pub ended_at : List Entry → ℕ → Option ℕ
-ended_at journal n = option_and_then (ended journal) (slice_get journal n)
-
--- whether an End of this task stands at a place
-abbrev pub is_end_of : List Entry → ℕ → ℕ → Bool
-is_end_of journal t n = option_map_or (λ task. task == t) (ended_at journal n) false
-
--- the places of a task's Ends below a number, rising, and the last of them
-abbrev pub ends_before : List Entry → ℕ → ℕ → List ℕ
-ends_before journal t n = filter (is_end_of journal t) (range_with_len 0 n)
-
-abbrev pub last_before : List Entry → ℕ → ℕ → Option ℕ
-last_before journal t n = last_or None (ends_before journal t n)
-
--- the places of all its Ends, and the last of them
-abbrev pub ends_of : List Entry → ℕ → List ℕ
-ends_of journal t = ends_before journal t (length journal)
-
-abbrev pub last_end : List Entry → ℕ → Option ℕ
-last_end journal t = last_or None (ends_of journal t)
-
--- the value of a task's last End
-abbrev pub last_value : List Entry → List (ValueRow Item) → ℕ → Option Item
-last_value journal values t = option_and_then (value_at values) (last_end journal t)
-
 -- the marks with which the line of a task begins that has ended, and of one that hasn't
 abbrev pub ended_mark : List ℕ
 ended_mark = 61 ∷ 61 ∷ 32 ∷ []
