@@ -1,15 +1,13 @@
 -- The report of a run: what each task that leads to no other ended with.
-use Rattle.std.specs.Prelude.{ℕ, Bool, false, ◌==◌, List, [], ◌∷◌, ◌++◌, length, filter, slice_get, slice_index_or, Option, Some, None, if◌then◌else◌}
-use Rattle.std.specs.List.{range_with_len, last_or, flat_map}
-use Rattle.std.specs.Option.{option_map_or, option_and_then}
+use Rattle.std.specs.Prelude.{ℕ, ◌==◌, List, [], ◌∷◌, ◌++◌, length, slice_index_or, Option, Some, None, if◌then◌else◌}
+use Rattle.std.specs.List.{range_with_len, flat_map}
 use Rattle.task_graph.specs.NetRows.{NetRows}
 use Rattle.task_graph.specs.Net.{out_edges}
 use Rattle.legal_run.specs.declared.entry.Entry.{Entry}
-use Rattle.legal_run.specs.declared.entry.Entry.TheVariants.{Start, End, Fault, Drop}
-use Rattle.legal_run.specs.Counts.{start_at}
 use Rattle.run_frame.specs.declared.run.ValueRow.{ValueRow}
-use Rattle.run_frame.specs.declared.run.FrameRun.{FrameRun, out-FrameRun}
-use Rattle.run_frame.specs.Runs.{value_at}
+use Rattle.run_frame.specs.declared.run.FrameRun.{FrameRun}
+use Rattle.run_frame.specs.LastEnds.{last_value}
+use Rattle.run_frame.specs.Runs.{values_of}
 use Rattle.run_frame.specs.NestedRule.{job_of, journal_of}
 use Rattle.text_tasks.specs.declared.item.Item.{Item}
 use Rattle.text_tasks.specs.declared.job.TextJob.{TextJob}
@@ -48,4 +46,4 @@ report names net journal values = flat_map (told names net journal values) (rang
 
 -- the report of a run
 abbrev pub report_of : FrameRun TextJob Item → List ℕ
-report_of run = report (names_of (job_of run)) (net_of (job_of run)) (journal_of run) (out-FrameRun TextJob Item run).values
+report_of run = report (names_of (job_of run)) (net_of (job_of run)) (journal_of run) (values_of run)

@@ -104,12 +104,17 @@ pub record IsRequested (held : Held) (file : List ℕ) (work : GraphWork) : Type
 abbrev pub IsRequestedJob : Held → List ℕ → TextJob → Type 0
 IsRequestedJob held file (Graph work) = IsRequested held file work
 
--- How reads that come to this count their faults: one that fails is told or was out of memory for its name.
+-- How reads that stop the call for this reason count their faults: a failure that isn't told was met where an
+-- allocation failed too.
+abbrev pub CountsStop : Stop → ℕ → ℕ → Type 0
+CountsStop (ReadFault name) before after = before < after
+CountsStop NoMemory before after = before ≤ after
+CountsStop stop before after = after ≡ before
+
+-- how reads count their faults
 abbrev pub CountsReads : {A : Type 0} → ℕ → ℕ → Result A Stop → Type 0
 CountsReads before after (Ok read) = after ≡ before
-CountsReads before after (Err (ReadFault name)) = before < after
-CountsReads before after (Err NoMemory) = before ≤ after
-CountsReads before after (Err stop) = after ≡ before
+CountsReads before after (Err stop) = CountsStop stop before after
 
 -- What the words ask for can be had whole: the source specifies what it holds; the file has no more bytes than may
 -- be read, and stands for a plan with a task to begin with, or without tasks; and each text that the plan names is

@@ -201,6 +201,7 @@ fn deliver_reports<S: Sink>(
 }
 
 // Puts the reports of these runs, in order.
+#[tactic(auto, using(outside_io::proofs::Pieces::accepts_nothing))]
 fn put_reports<S: Sink>(
     alloc: Global,
     out: &mut S,

@@ -1,7 +1,7 @@
 // The one line that a status puts on the notes.
-ghost use Rattle.std.specs.Prelude.{◌≡◌, ◌<◌, ◌≤◌, ◌++◌, codes, decimal, IfOk, OnOk};
+ghost use Rattle.std.specs.Prelude.{◌≡◌, ◌<◌, ◌++◌, [], codes, decimal, IfOk, IsErrOf, OnOk};
 ghost use Rattle.std.specs.Result.{IsOkAnd};
-ghost use Rattle.outside_io.specs.Sink.{Took, TookFront};
+ghost use Rattle.flow_run.specs.Answers.{CutShort, Delivered, Delivers};
 ghost use Rattle.flow_run.specs.Notes.{graph_error_text, kind_text, note_line, spot_text, within_text};
 ghost use Rattle.flow_run.specs.declared.status.Noted.TheVariants as noted;
 ghost use Rattle.flow_run.specs.declared.status.Status.TheVariants.{Done};
@@ -17,7 +17,10 @@ use std::alloc::Global;
 /// the same.
 pub fn put_note<N: Sink>(alloc: Global, notes: &mut N, status: &Status) -> Noted
     requires { (N.state notes.old).held_back ≡ [] }
-    ensures noted { Notes (N.state notes.old) (N.state notes.new) (note_line status.now) result }
+    ensures whole { result ≡ noted.Whole → Delivered (N.state notes.old) (N.state notes.new) (note_line status.now) }
+    ensures fault { result ≡ noted.Fault → CutShort (N.state notes.old) (N.state notes.new) (note_line status.now) }
+    ensures cause { result ≡ noted.Fault → (N.state notes.old).faults < (N.state notes.new).faults }
+    ensures no_memory { result ≡ noted.NoMemory → N.state notes.new ≡ N.state notes.old }
     ensures done { status.now ≡ Done → result ≡ noted.Whole }
     ensures untouched { status.now ≡ Done → notes.new ≡ notes.old }
 {
@@ -37,8 +40,10 @@ pub fn put_note<N: Sink>(alloc: Global, notes: &mut N, status: &Status) -> Noted
 // Writes a line where there was memory to make it.
 fn put_made<N: Sink>(notes: &mut N, line: Result<Bytes, NoMemory>) -> Noted
     requires { (N.state notes.old).held_back ≡ [] }
-    ensures ok { IfOk line (λ line. Notes (N.state notes.old) (N.state notes.new) line result) }
-    ensures err { OnErr line ((result ≡ noted.NoMemory) × (N.state notes.new ≡ N.state notes.old)) }
+    ensures whole { result ≡ noted.Whole → IsOkAnd line (Delivered (N.state notes.old) (N.state notes.new)) }
+    ensures fault { result ≡ noted.Fault → IsOkAnd line (CutShort (N.state notes.old) (N.state notes.new)) }
+    ensures cause { result ≡ noted.Fault → (N.state notes.old).faults < (N.state notes.new).faults }
+    ensures no_memory { result ≡ noted.NoMemory → N.state notes.new ≡ N.state notes.old }
 {
     match line {
         Ok(line) => put_line(notes, line.as_slice()),
@@ -49,12 +54,28 @@ fn put_made<N: Sink>(notes: &mut N, line: Result<Bytes, NoMemory>) -> Noted
 // Writes a line, by one put.
 fn put_line<N: Sink>(notes: &mut N, line: &[u8]) -> Noted
     requires { (N.state notes.old).held_back ≡ [] }
-    ensures { Notes (N.state notes.old) (N.state notes.new) line.now result }
+    ensures whole { result ≡ noted.Whole → Delivered (N.state notes.old) (N.state notes.new) line.now }
+    ensures fault { result ≡ noted.Fault → CutShort (N.state notes.old) (N.state notes.new) line.now }
+    ensures cause { result ≡ noted.Fault → (N.state notes.old).faults < (N.state notes.new).faults }
+    ensures no_memory { result ≡ noted.NoMemory → N.state notes.new ≡ N.state notes.old }
 {
-    match notes.put(line) {
-        Ok(()) => flushed(notes),
+    match deliver(notes, line) {
+        Ok(()) => Noted::Whole,
         Err(SinkFault::Failed) => Noted::Fault,
         Err(SinkFault::NoMemory) => Noted::NoMemory,
+    }
+}
+
+// Puts a line on the notes and flushes them.
+#[tactic(auto, using(crate::proofs::Ending::cut_short))]
+fn deliver<N: Sink>(notes: &mut N, line: &[u8]) -> Result<(), SinkFault>
+    requires { (N.state notes.old).held_back ≡ [] }
+    ensures delivers { Delivers (N.state notes.old) (N.state notes.new) line.now result }
+    ensures no_memory { IsErrOf result SinkFault.NoMemory → N.state notes.new ≡ N.state notes.old }
+{
+    match notes.put(line) {
+        Ok(()) => notes.flush(),
+        Err(fault) => Err(fault),
     }
 }
 

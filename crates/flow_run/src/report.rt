@@ -21,6 +21,7 @@ const NOT_ENDED: &[u8] = b"-- ";
 /// below it, in the order of the tasks' numbers. A task that hasn't ended has a line alone.
 ///
 /// After an `Err` the sink has a prefix of the report.
+#[tactic(auto, using(outside_io::proofs::Pieces::accepts_nothing, outside_io::proofs::Pieces::writes_nothing))]
 pub fn put_report<S: Sink>(
     alloc: Global,
     out: &mut S,
@@ -119,7 +120,7 @@ fn put_ended<S: Sink>(
 }
 
 // Puts a line and a value.
-#[tactic(auto, using(outside_io::proofs::Pieces::writes_both))]
+#[tactic(auto, using(outside_io::proofs::Pieces::writes_both, outside_io::proofs::Pieces::writes_no_more))]
 fn put_both<S: Sink>(out: &mut S, line: &[u8], text: &[u8]) -> Result<(), SinkFault>
     ensures { Writes (S.state out.old) (S.state out.new) (line.now ++ text.now) result }
 {
