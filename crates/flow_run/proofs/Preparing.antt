@@ -1,5 +1,5 @@
 -- Reading texts one after another.
-use Rattle.std.proofs.Common.{◌≡◌, ◌≢◌, ℕ, zero, suc, ◌+◌, ◌<◌, ◌≤◌, Bool, true, false, not, cond, List, [], ◌∷◌, ◌++◌, length, Some, None, sym, refl, ap, ◌∙◌, subst, arith, get_or, map, take, drop, filter}
+use Rattle.std.proofs.Common.{◌≡◌, ◌≢◌, ◌⊎◌, inl, inr, ℕ, zero, suc, ◌+◌, ◌<◌, ◌≤◌, Bool, true, false, not, cond, List, [], ◌∷◌, ◌++◌, length, Some, None, sym, refl, ap, ◌∙◌, subst, arith, get_or, map, take, drop, filter}
 use Rattle.std.specs.Prelude.{All, AllPairs, IsSome}
 use Rattle.std.specs.Str.{bytes_eq}
 use Rattle.std.proofs.lemmas.Bool.{false≢true}
@@ -8,15 +8,16 @@ use Rattle.std.proofs.lemmas.List.{take_more, map-append, get_or-take, length-ta
 use Rattle.std.proofs.lemmas.List.Kept.{AllPairs-cons, AllPairs-filter}
 use Rattle.std.proofs.lemmas.List.Elements.{All-nil, All-cons, All-push, All-weaker, All-head, All-tail}
 use Rattle.graph_file.specs.declared.refusals.GraphError.{GraphError}
-use Rattle.graph_file.specs.declared.refusals.GraphError.TheVariants.{NotJson, BadField, NoSuchName, Repeated, TooMany, NoMemory as NoMemoryToRead}
-use Rattle.graph_file.specs.PlanRows.{PlanRows, IsPlan}
+use Rattle.graph_file.specs.declared.refusals.GraphError.TheVariants.{NoMemory as NoMemoryToRead}
+use Rattle.graph_file.specs.PlanRows.{PlanRows, IsPlan, plan_texts}
 use Rattle.graph_file.specs.PlanText.{PlanText}
-use Rattle.graph_file.specs.TextNames.{texts_of, first_mentions}
+use Rattle.graph_file.specs.TextNames.{first_mentions}
 use Rattle.text_tasks.specs.declared.table.TextRow.{TextRow}
 use Rattle.text_tasks.specs.GraphWork.{text_limit, IsWork}
 use Rattle.text_tasks.specs.TextTable.{text_in}
-use Rattle.flow_run.specs.declared.status.Status.{Status}
-use Rattle.flow_run.specs.Requests.{Held, IsHeld, StopsAtName, StopsAtText, StopsAtBytes, TextsAre, IsRefusal}
+use Rattle.flow_run.specs.declared.stop.Stop.{Stop}
+use Rattle.flow_run.specs.declared.stop.Stop.TheVariants.{BadGraph, NoSource, NoText, LongText, ReadFault, NoMemory}
+use Rattle.flow_run.specs.Requests.{Held, IsHeld, StopsAtName, StopsAtText, StopsAtBytes, TextsAre, CountsStop}
 
 -- the names of texts differ
 pub mentions_differ : (names : List (List ℕ)) → AllPairs (λ a b. a ≢ b) (first_mentions names)
@@ -79,21 +80,30 @@ around (x ∷ xs) (suc i) d below =
     let two : suc (suc i) ≡ suc i + 1 = omega arith in
     ap (λ ys. x ∷ ys) (rest ∙ ap (λ n. take i xs ++ get_or xs i d ∷ drop n xs) one) ∙ ap (λ n. x ∷ (take i xs ++ get_or xs i d ∷ drop n (x ∷ xs))) two
 
-pub stops_at : (held : Held) (names : List (List ℕ)) (rows : List TextRow) (i : ℕ) (name : List ℕ) (status : Status) → i < length names → name ≡ get_or names i name → TextsAre held (take i names) rows → StopsAtName held name text_limit status → StopsAtText held names status
-stops_at held names rows i name status below is so_far stops =
+pub stops_at : (held : Held) (names : List (List ℕ)) (rows : List TextRow) (i : ℕ) (name : List ℕ) (why : Stop) → i < length names → name ≡ get_or names i name → TextsAre held (take i names) rows → StopsAtName held name text_limit why → StopsAtText held names why
+stops_at held names rows i name why below is so_far stops =
     record { before = take i names; name = name; after = drop (i + 1) names; rows = rows; parts = around names i name below ∙ ap (λ n. take i names ++ n ∷ drop (i + 1) names) (sym is); read = so_far; stops = stops }
 
 -- a refusal stops the call
-pub refused_bytes : (bytes : List ℕ) (error : GraphError) (status : Status) → IsRefusal error status → (error ≢ NoMemoryToRead → (plan : PlanRows) → PlanText bytes plan → ⊥) → StopsAtBytes bytes status
-refused_bytes bytes NoMemoryToRead status is refused = subst (StopsAtBytes bytes) (sym is) tt
-refused_bytes bytes NotJson status is refused = subst (StopsAtBytes bytes) (sym is) (λ same. absurd (cc), refused (λ same. absurd (cc)))
-refused_bytes bytes (BadField spot field) status is refused = subst (StopsAtBytes bytes) (sym is) (λ same. absurd (cc), refused (λ same. absurd (cc)))
-refused_bytes bytes (NoSuchName spot field) status is refused = subst (StopsAtBytes bytes) (sym is) (λ same. absurd (cc), refused (λ same. absurd (cc)))
-refused_bytes bytes (Repeated spot field) status is refused = subst (StopsAtBytes bytes) (sym is) (λ same. absurd (cc), refused (λ same. absurd (cc)))
-refused_bytes bytes (TooMany kind) status is refused = subst (StopsAtBytes bytes) (sym is) (λ same. absurd (cc), refused (λ same. absurd (cc)))
+pub refused_bytes : (bytes : List ℕ) (error : GraphError) (why : Stop) → (why ≡ NoMemory) ⊎ ((error ≢ NoMemoryToRead) × (why ≡ BadGraph error)) → (error ≢ NoMemoryToRead → (plan : PlanRows) → PlanText bytes plan → ⊥) → StopsAtBytes bytes why
+refused_bytes bytes error why (inl same) refused = subst (StopsAtBytes bytes) (sym same) tt
+refused_bytes bytes error why (inr (other, same)) refused = subst (StopsAtBytes bytes) (sym same) (other, refused other)
+
+-- the bytes of a file are looked at without a read
+pub no_more_faults : (bytes : List ℕ) (why : Stop) (before after : ℕ) → StopsAtBytes bytes why → after ≡ before → CountsStop why before after
+no_more_faults bytes (BadGraph error) before after stops same = same
+no_more_faults bytes (NoSource spot) before after stops same = same
+no_more_faults bytes (NoText name) before after stops same = absurd stops
+no_more_faults bytes (LongText name) before after stops same = absurd stops
+no_more_faults bytes (ReadFault name) before after stops same = absurd stops
+no_more_faults bytes NoMemory before after stops same = omega (arith, same)
+
+-- reads after reads that didn't fail
+pub later_faults : (why : Stop) (before between after : ℕ) → between ≡ before → CountsStop why between after → CountsStop why before after
+later_faults why before between after same counts = subst (λ n. CountsStop why n after) same counts
 
 -- the job of a plan over the texts that it names
-pub is_work : (held : Held) (plan : PlanRows) (rows : List TextRow) → IsPlan plan → TextsAre held (texts_of plan.top.ops) rows → IsWork (record { plan = plan; texts = rows; «module» = None; input = []; limit = 100000 })
+pub is_work : (held : Held) (plan : PlanRows) (rows : List TextRow) → IsPlan plan → TextsAre held (plan_texts plan) rows → IsWork (record { plan = plan; texts = rows; «module» = None; input = []; limit = 100000 })
 is_work held plan rows is read =
     record {
       plan = is;

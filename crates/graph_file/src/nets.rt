@@ -41,12 +41,10 @@ fn add_task(alloc: Global, builder: &mut NetBuilder) -> Result<(), NoMemory>
     requires { length builder.old.tasks < task_limit }
     ensures { OnOk result (builder.new ≡ with_task builder.old plain_row) }
 {
-    let Err(error) = builder.task(Shape::Plain, List::new(alloc), List::new(alloc)) else {
-        return Ok(());
-    };
-    match error {
-        BuildError::NoMemory => Err(NoMemory),
-        _ => unreachable!(),
+    match builder.task(Shape::Plain, List::new(alloc), List::new(alloc)) {
+        Ok(_) => Ok(()),
+        Err(BuildError::NoMemory) => Err(NoMemory),
+        Err(_) => unreachable!(),
     }
 }
 

@@ -10,6 +10,7 @@ use Rattle.join_words.specs.Ins.{Found}
 use Rattle.run_frame.specs.declared.job.Answer.TheVariants.{All as Each, None as NoneOf, Indices}
 use Rattle.run_frame.specs.declared.job.Done.{Done}
 use Rattle.run_frame.specs.declared.job.Done.TheVariants.{Value, Inner as InnerJob}
+use Rattle.run_frame.specs.declared.run.FrameRun.{FrameRun}
 use Rattle.run_frame.specs.Meaning.{AnswerFits, FitsShape, IsOwnWhy}
 use Rattle.graph_file.specs.declared.ops.Op.{Op}
 use Rattle.text_tasks.specs.declared.item.Item.{Item}
@@ -17,7 +18,7 @@ use Rattle.text_tasks.specs.declared.item.Item.TheVariants.{Text}
 use Rattle.text_tasks.specs.declared.job.TextJob.{TextJob}
 use Rattle.text_tasks.specs.declared.job.TextJob.TheVariants.{Graph}
 use Rattle.text_tasks.specs.GraphWork.{GraphWork, IsWork, graph_of}
-use Rattle.text_tasks.specs.JobMeaning.{JobAnswers, JobFaults, IsTextJob, net_of, Gives}
+use Rattle.text_tasks.specs.JobMeaning.{JobAnswers, JobFaults, IsTextJob, net_of, Gives, text_job}
 
 -- a Plain task may give all its edges
 plain_gives_all : (work : GraphWork) → IsWork work → (task : ℕ) (item : Item) (row : Option TaskRow) → slice_get (graph_of work).net.tasks task ≡ row → IfSome row (λ (r : TaskRow). FitsShape r.shape Each)
@@ -52,3 +53,7 @@ text_faults_own (Graph work) task found (Wide n) keeps faults = tt
 text_faults_own (Graph work) task found (Unmet k) keeps faults = tt
 text_faults_own (Graph work) task found Inner keeps faults = absurd faults
 text_faults_own (Graph work) task found (OverRelease s) keeps faults = absurd faults
+
+-- no run is gathered, so no fault is named
+pub text_gather_faults_own : (job : TextJob) (run : FrameRun TextJob Item) (why : Why) → IsTextJob job → text_job.gather_faults job run why → IsOwnWhy why
+text_gather_faults_own job run why keeps never = absurd never

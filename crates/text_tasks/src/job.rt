@@ -162,7 +162,7 @@ impl Valued for TextJob {
 
 impl Job for TextJob {
     ghost use Rattle.text_tasks.specs.JobMeaning.{text_job, IsTextJob};
-    ghost use Rattle.text_tasks.specs.JobLaws.{text_answers_fit, text_faults_own};
+    ghost use Rattle.text_tasks.specs.JobLaws.{text_answers_fit, text_faults_own, text_gather_faults_own};
 
     ghost meaning = { text_job };
 
@@ -189,6 +189,8 @@ impl Job for TextJob {
     ghost answers_fit = { text_answers_fit };
 
     ghost faults_own = { text_faults_own };
+
+    ghost gather_faults_own = { text_gather_faults_own };
 }
 
 /// The job of a plan's top graph, started with the empty text.
