@@ -1,17 +1,16 @@
 -- How a call ends that stops before its run, and what a flush makes of what was put.
-use Rattle.std.proofs.Common.{◌≡◌, ◌≢◌, ◌⊎◌, inl, inr, ℕ, ◌<◌, ◌≤◌, true, false, List, [], ◌∷◌, ◌++◌, Option, Result, Ok, Err, OnOk, OnErr, IfErr, IfOk, refl, sym, ap, ◌∙◌, subst, arith, append-nil, append_assoc}
+use Rattle.std.proofs.Common.{◌≡◌, ◌≢◌, inl, inr, ℕ, ◌<◌, ◌≤◌, true, false, List, [], ◌∷◌, ◌++◌, Option, Result, Ok, Err, OnOk, OnErr, IfErr, refl, sym, ap, ◌∙◌, subst, arith, append-nil, append_assoc}
 use Rattle.outside_io.specs.declared.sink.SinkFault.{SinkFault}
 use Rattle.outside_io.specs.declared.sink.SinkFault.TheVariants as fault
-use Rattle.outside_io.specs.Sink.{SinkState, Took, TookBut, TookFront, Accepts, FailsOn, AcceptsFront}
+use Rattle.outside_io.specs.Sink.{SinkState, Took, TookFront, Accepts, FailsOn, AcceptsFront}
 use Rattle.outside_io.proofs.Pieces.{took_nothing, took_all, writes_both}
-use Rattle.run_frame.specs.NestedRule.{job_of}
 use Rattle.text_tasks.specs.declared.job.TextJob.{TextJob}
 use Rattle.flow_run.specs.declared.status.Status.{Status}
 use Rattle.flow_run.specs.declared.status.Status.TheVariants.{Done, BadWords, BadGraph, NoSource, NoText, LongText, ReadFault, WriteFault, NoMemory}
 use Rattle.flow_run.specs.declared.stop.Stop.{Stop}
 use Rattle.flow_run.specs.declared.stop.Stop.TheVariants as stop
 use Rattle.flow_run.specs.Requests.{Held, IsRequestedJob, StopsBefore, CountsStop}
-use Rattle.flow_run.specs.Answers.{Run, status_of, IsAfterRun, RanOnce, StoppedBefore, RunEnds, JobEnds, reports, Delivered, CutShort, Delivers, Reported, IsReadFault, HaveRead}
+use Rattle.flow_run.specs.Answers.{Run, status_of, IsAfterRun, RanOnce, RunEnds, JobEnds, reports, Delivered, CutShort, Delivers, Reported, IsReadFault, HaveRead}
 
 -- Bytes that were taken where nothing was held back before.
 front_taken : (before after : SinkState) (bytes : List ℕ) → before.held_back ≡ [] → TookFront before.taken after.taken (before.held_back ++ bytes) → TookFront before.taken after.taken bytes

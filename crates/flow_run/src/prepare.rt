@@ -58,12 +58,7 @@ pub fn prepare<F: Texts>(alloc: Global, texts: &mut F, file: &[u8]) -> Result<Te
 }
 
 // The text of a name, if it has at most so many bytes.
-fn read_named<F: Texts>(
-    alloc: Global,
-    texts: &mut F,
-    name: &[u8],
-    max: u64,
-) -> Result<Bytes, Stop>
+fn read_named<F: Texts>(alloc: Global, texts: &mut F, name: &[u8], max: u64) -> Result<Bytes, Stop>
     ensures held { IfOk result (IsHeld (F.held texts.old) name.now max) }
     ensures stops { IfErr result (StopsAtName (F.held texts.old) name.now max) }
     ensures stays { F.held texts.new ≡ F.held texts.old }
