@@ -119,9 +119,7 @@ fn put_ended<S: Sink>(alloc: Global, out: &mut S, name: &[u8], text: &[u8]) -> R
 fn put_both<S: Sink>(out: &mut S, line: &[u8], text: &[u8]) -> Result<(), SinkFault>
     ensures { Writes (S.state out.old) (S.state out.new) (line.now ++ text.now) result }
 {
-    if let Err(fault) = put_piece(out, line) {
-        return Err(fault);
-    }
+    put_piece(out, line)?;
     put_value(out, text)
 }
 
