@@ -17,3 +17,4 @@ pub mod OutputExamples
 pub mod ReportRule
 pub mod Ending
 pub mod Completing
+pub mod CallExamples

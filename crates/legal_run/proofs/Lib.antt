@@ -4,3 +4,4 @@ pub mod Snoc
 pub mod Tallying
 pub mod WaitingLemmas
 pub mod Keeping
+pub mod WorkedRules

@@ -4,3 +4,4 @@ pub mod CountingLemmas
 pub mod GroupLemmas
 pub mod SemaphoreLemmas
 pub mod ChoiceLemmas
+pub mod WorkedNets

@@ -71,7 +71,7 @@ impl Model for NetBuilder {
 
     ghost Value = { NetRows };
 
-    ghost use Rattle.task_graph.specs.Building.{built_rows, IsBuilding};
+    ghost use Rattle.task_graph.specs.inside.Building.{built_rows, IsBuilding};
 
     ghost view = { built_rows };
 

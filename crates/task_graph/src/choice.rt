@@ -2,7 +2,7 @@
 ghost use Rattle.std.specs.Prelude.{◌≡◌, ◌<◌, ◌∷◌, [], ◌++◌, length, slice_index, IfOk, List, MatchOption, None, OnOk, Some, ℤ};
 ghost use Rattle.std.specs.List.Sorted.{IsStrictlyIncreasing};
 ghost use Rattle.task_graph.specs.Chosen.{chosen_edges, edge_at};
-ghost use Rattle.task_graph.specs.Choosing.{HasChosen};
+ghost use Rattle.task_graph.specs.inside.Choosing.{HasChosen};
 
 use outside_io::{List, NoMemory};
 use std::alloc::Global;

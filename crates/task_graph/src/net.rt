@@ -1,7 +1,7 @@
 // Nets: the rows of tasks, edges and semaphores, and the lists of each task's edges.
 ghost use Rattle.std.specs.Prelude.{◌≡◌, ◌↔◌, ◌<◌, IfOk, IsTrue, length};
 ghost use Rattle.task_graph.specs.Chosen.{IsAnswerFor, chosen_edges};
-ghost use Rattle.task_graph.specs.EdgeIndex.{IsIndexOf};
+ghost use Rattle.task_graph.specs.inside.EdgeIndex.{IsIndexOf};
 ghost use Rattle.task_graph.specs.Net.{IsNet, IsSource, chooses, is_weak, out_edges, strong_in, weak_in};
 
 use crate::choice::choose;
@@ -69,7 +69,7 @@ impl Model for Net {
 
     ghost Value = { NetRows };
 
-    ghost use Rattle.task_graph.specs.Indexed.{rows_of, IsIndexed};
+    ghost use Rattle.task_graph.specs.inside.Indexed.{rows_of, IsIndexed};
 
     ghost view = { rows_of };
 

@@ -2,7 +2,7 @@
 use Rattle.task_graph.specs.declared.net.Net.TheInside.{Inside}
 use Rattle.task_graph.specs.NetRows.{NetRows}
 use Rattle.task_graph.specs.Net.{IsNet}
-use Rattle.task_graph.specs.EdgeIndex.{IsIndexOf}
+use Rattle.task_graph.specs.inside.EdgeIndex.{IsIndexOf}
 
 -- the rows
 abbrev pub rows_of : Inside → NetRows

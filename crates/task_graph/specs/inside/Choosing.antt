@@ -1,4 +1,4 @@
--- How far a choice of edges has come (internal: no public clause cites this).
+-- How far a choice of edges has come.
 use Rattle.std.specs.Prelude.{◌≡◌, ◌==◌, ℕ, ℤ, ◌<◌, Bool, List, length, slice_index, slice_index_or}
 use Rattle.std.specs.List.{list_any}
 use Rattle.task_graph.specs.Chosen.{chosen_edges}

@@ -4,7 +4,7 @@ use Rattle.task_graph.specs.declared.builder.NetBuilder.TheInside.{Inside}
 use Rattle.task_graph.specs.NetRows.{NetRows}
 use Rattle.task_graph.specs.Net.{IsNet}
 use Rattle.task_graph.specs.NetBuilder.{task_limit, edge_limit, semaphore_limit}
-use Rattle.task_graph.specs.EdgeIndex.{HasRoomFor}
+use Rattle.task_graph.specs.inside.EdgeIndex.{HasRoomFor}
 
 -- the rows so far
 abbrev pub built_rows : Inside → NetRows
