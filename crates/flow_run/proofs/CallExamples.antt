@@ -1,12 +1,10 @@
 -- What a call asks for and how it ends, computed on a graph file `g` of one byte that names the text `t`, of two. Names
 -- are of one small byte here.
-use Rattle.std.proofs.Common.{◌≡◌, ◌≢◌, ℕ, zero, suc, ◌+◌, ◌<◌, ◌≤◌, List, [], ◌∷◌, ◌++◌, length, replicate, ◌⊎◌, Option, Some, None, true, false, inl, inr, refl, arith, codes, ap}
-use Rattle.std.specs.Prelude.{String, IfSome, slice_get, if◌then◌else◌, bytes_eq}
+use Rattle.std.proofs.Common.{◌≡◌, ℕ, zero, suc, ◌<◌, List, [], ◌∷◌, length, ◌⊎◌, Option, Some, None, true, false, inl, inr, refl, arith, codes, ap}
+use Rattle.std.specs.Prelude.{String, if◌then◌else◌, bytes_eq}
 use Rattle.std.specs.Global.{Global}
 use Rattle.std.specs.List.{All}
-use Rattle.outside_io.specs.Sink.{SinkState, TookFront}
-use Rattle.task_graph.specs.NetRows.{NetRows}
-use Rattle.graph_file.specs.declared.ops.Op.TheVariants.{Read}
+use Rattle.outside_io.specs.Sink.{SinkState}
 use Rattle.graph_file.specs.declared.refusals.GraphError.TheVariants.{NotJson, NoMemory as NoMemoryToRead}
 use Rattle.graph_file.specs.declared.refusals.Spot.TheVariants.{File}
 use Rattle.graph_file.specs.PlanRows.{PlanRows, plan_texts}
@@ -18,7 +16,7 @@ use Rattle.flow_run.specs.declared.stop.Stop.{Stop}
 use Rattle.flow_run.specs.declared.stop.Stop.TheVariants as stop
 use Rattle.flow_run.specs.Words.{AsksForRun, IsFileName}
 use Rattle.flow_run.specs.Requests.{Held, IsHeld, StopsAtName, TextsAre, StopsAtText, HasStart, StopsAtBytes, HasPlan, IsRequested, file_limit, start_limit}
-use Rattle.flow_run.specs.Answers.{Run, status_of, IsAfterRun, RanOnce, StoppedBefore, RunEnds, CallEnds, Reported, IsReadFault, HaveRead}
+use Rattle.flow_run.specs.Answers.{Run, status_of, IsAfterRun, RunEnds, CallEnds, Reported, IsReadFault, HaveRead}
 use Rattle.flow_run.specs.Codes.{code_of}
 
 abbrev g : List ℕ

@@ -1,13 +1,12 @@
 -- What is at hand and meets no failure is done.
-use Rattle.std.proofs.Common.{◌≡◌, ◌≢◌, ◌⊎◌, inl, inr, ℕ, ◌<◌, ◌≤◌, ◌+◌, List, [], ◌∷◌, ◌++◌, length, Option, Some, None, String, refl, sym, ap, ◌∙◌, subst, arith, codes, get_or}
+use Rattle.std.proofs.Common.{◌≡◌, ◌≢◌, ◌⊎◌, inl, inr, ℕ, ◌≤◌, List, [], ◌∷◌, ◌++◌, length, Option, Some, None, String, refl, sym, ap, ◌∙◌, subst, arith, codes}
 use Rattle.std.specs.Global.{Global}
-use Rattle.std.specs.Prelude.{All, IfSome, IsSomeAnd, map, slice_index_or}
-use Rattle.std.specs.String.{string_bytes}
+use Rattle.std.specs.Prelude.{All, IsSomeAnd}
 use Rattle.std.proofs.lemmas.Option.{none-some}
 use Rattle.std.proofs.lemmas.List.Elements.{All-head, All-tail}
 use Rattle.graph_file.specs.declared.refusals.Spot.{Spot}
 use Rattle.graph_file.specs.declared.refusals.Spot.TheVariants as spot
-use Rattle.graph_file.specs.PlanRows.{GraphRows, PlanRows, plan_texts}
+use Rattle.graph_file.specs.PlanRows.{PlanRows, plan_texts}
 use Rattle.graph_file.specs.PlanText.{PlanText}
 use Rattle.graph_file.specs.Sources.{NoSourceAnswer}
 use Rattle.graph_file.specs.Draft.{plan_of, draft_of}
@@ -16,9 +15,9 @@ use Rattle.flow_run.specs.declared.status.Status.{Status}
 use Rattle.flow_run.specs.declared.status.Status.TheVariants.{Done, BadWords, BadGraph, NoSource, NoText, LongText, ReadFault, WriteFault, NoMemory}
 use Rattle.flow_run.specs.declared.stop.Stop.{Stop}
 use Rattle.flow_run.specs.declared.stop.Stop.TheVariants as stop
-use Rattle.flow_run.specs.Requests.{Held, IsHeld, HasStart, HasPlan, StopsAtName, StopsAtBytes, StopsAtGraph, StopsAtText, StopsAtPlanText, StopsBefore, IsAtHand, file_limit}
+use Rattle.flow_run.specs.Requests.{Held, IsHeld, HasStart, StopsAtName, StopsAtBytes, StopsAtText, StopsBefore, IsAtHand, file_limit}
 use Rattle.flow_run.specs.Words.{AsksForRun}
-use Rattle.flow_run.specs.Answers.{Run, status_of, IsAfterRun, RunEnds, CallEnds, IsReadFault}
+use Rattle.flow_run.specs.Answers.{Run, status_of, IsAfterRun, CallEnds, IsReadFault}
 
 -- Bytes stand for one plan at most.
 one_plan : (bytes : List ℕ) (plan other : PlanRows) → PlanText bytes plan → PlanText bytes other → plan ≡ other

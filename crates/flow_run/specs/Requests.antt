@@ -1,7 +1,6 @@
 -- What a call of the program asks for, and why it stops before a run.
 use Rattle.std.specs.Prelude.{◌≡◌, ◌≢◌, ◌⊎◌, ℕ, ◌<◌, ◌≤◌, List, [], ◌∷◌, ◌++◌, length, map, All, Option, Some, None, IfSome, IsSomeAnd, Result, Ok, Err, String}
 use Rattle.std.specs.Global.{Global}
-use Rattle.graph_file.specs.declared.refusals.GraphError.{GraphError}
 use Rattle.graph_file.specs.declared.refusals.GraphError.TheVariants.{NoMemory as NoMemoryToRead}
 use Rattle.graph_file.specs.PlanRows.{PlanRows, plan_texts}
 use Rattle.graph_file.specs.PlanText.{PlanText}

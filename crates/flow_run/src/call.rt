@@ -62,9 +62,11 @@ pub fn flow_main<F: Texts, S: Sink, N: Sink>(
     ensures not_written { result.written ≡ false → ((S.state out.old).faults < (S.state out.new).faults) ⊎ (result.status ≡ Status.NoMemory) }
     ensures done { result.status ≡ Status.Done → result.written ≡ true }
     ensures write_fault { result.status ≡ Status.WriteFault → result.written ≡ false }
+    ensures no_fewer_of_out { (S.state out.old).faults ≤ (S.state out.new).faults }
     // A read that failed is told, unless an allocation failed. Words that are refused read nothing.
     ensures read_fault { IsReadFault result.status → F.faults texts.old < F.faults texts.new }
     ensures read_faults_told { (F.faults texts.new ≡ F.faults texts.old) ⊎ IsReadFault result.status ⊎ (result.status ≡ Status.NoMemory) }
+    ensures no_fewer_of_texts { F.faults texts.old ≤ F.faults texts.new }
     ensures texts_stay { F.held texts.new ≡ F.held texts.old }
     ensures texts_untouched { result.status ≡ Status.BadWords → texts.new ≡ texts.old }
     // The notes took the line of the status. With Done there is none, and they are left alone.

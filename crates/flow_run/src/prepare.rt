@@ -33,37 +33,17 @@ pub fn prepare<F: Texts>(alloc: Global, texts: &mut F, file: &[u8]) -> Result<Te
     ensures stays { F.held texts.new ≡ F.held texts.old }
     ensures counts { CountsReads (F.faults texts.old) (F.faults texts.new) result }
 {
-    let bytes = match read_named(alloc, texts, file, FILE_LIMIT) {
-        Ok(bytes) => bytes,
-        Err(stop) => return Err(stop),
-    };
-    let plan = match read_plan(alloc, bytes.as_slice()) {
-        Ok(plan) => plan,
-        Err(stop) => return Err(stop),
-    };
-    let Ok(names) = text_names(alloc, &plan) else {
-        return Err(Stop::NoMemory);
-    };
-    let table = match read_texts(alloc, texts, names.as_slice()) {
-        Ok(table) => table,
-        Err(stop) => return Err(stop),
-    };
-    let Ok(plan) = Arc::new(alloc, plan) else {
-        return Err(Stop::NoMemory);
-    };
-    let Ok(table) = Arc::new(alloc, table) else {
-        return Err(Stop::NoMemory);
-    };
+    let bytes = read_named(alloc, texts, file, FILE_LIMIT)?;
+    let plan = read_plan(alloc, bytes.as_slice())?;
+    let names = text_names(alloc, &plan)?;
+    let table = read_texts(alloc, texts, names.as_slice())?;
+    let plan = Arc::new(alloc, plan)?;
+    let table = Arc::new(alloc, table)?;
     Ok(first_job(alloc, plan, table, START_LIMIT))
 }
 
 // The text of a name, if it has at most so many bytes.
-fn read_named<F: Texts>(
-    alloc: Global,
-    texts: &mut F,
-    name: &[u8],
-    max: u64,
-) -> Result<Bytes, Stop>
+fn read_named<F: Texts>(alloc: Global, texts: &mut F, name: &[u8], max: u64) -> Result<Bytes, Stop>
     ensures held { IfOk result (IsHeld (F.held texts.old) name.now max) }
     ensures stops { IfErr result (StopsAtName (F.held texts.old) name.now max) }
     ensures stays { F.held texts.new ≡ F.held texts.old }
@@ -125,15 +105,7 @@ fn add_text<F: Texts>(
     ensures stays { F.held texts.new ≡ F.held texts.old }
     ensures counts { CountsReads (F.faults texts.old) (F.faults texts.new) result }
 {
-    let text = match read_named(alloc, texts, name.as_slice(), TEXT_LIMIT) {
-        Ok(text) => text,
-        Err(stop) => return Err(stop),
-    };
-    let Ok(name) = name.copy() else {
-        return Err(Stop::NoMemory);
-    };
-    match table.add(name, text) {
-        Ok(()) => Ok(()),
-        Err(_) => Err(Stop::NoMemory),
-    }
+    let text = read_named(alloc, texts, name.as_slice(), TEXT_LIMIT)?;
+    table.add(name.copy()?, text)?;
+    Ok(())
 }

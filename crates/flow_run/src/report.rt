@@ -107,12 +107,7 @@ fn put_outcome<S: Sink>(
 
 // Puts the line of a task that has ended, and its value.
 #[tactic(auto, using(outside_io::proofs::Pieces::writes_nothing))]
-fn put_ended<S: Sink>(
-    alloc: Global,
-    out: &mut S,
-    name: &[u8],
-    text: &[u8],
-) -> Result<(), SinkFault>
+fn put_ended<S: Sink>(alloc: Global, out: &mut S, name: &[u8], text: &[u8]) -> Result<(), SinkFault>
     ensures { Writes (S.state out.old) (S.state out.new) (header ended_mark name.now ++ text.now) result }
 {
     let line = header_line(alloc, ENDED, name)?;
@@ -124,9 +119,7 @@ fn put_ended<S: Sink>(
 fn put_both<S: Sink>(out: &mut S, line: &[u8], text: &[u8]) -> Result<(), SinkFault>
     ensures { Writes (S.state out.old) (S.state out.new) (line.now ++ text.now) result }
 {
-    if let Err(fault) = put_piece(out, line) {
-        return Err(fault);
-    }
+    put_piece(out, line)?;
     put_value(out, text)
 }
 

@@ -28,6 +28,17 @@ impl From<NoMemory> for Stop {
     }
 }
 
+impl<T: Drop> From<AllocFailed<T>> for Stop {
+    ghost use Rattle.std.specs.Prelude.{◌≡◌};
+    ghost use Rattle.flow_run.specs.declared.stop.Stop.TheVariants.{NoMemory as NoMemoryStop};
+
+    ghost from_gives = { λ _ stop. stop ≡ NoMemoryStop };
+
+    fn from(_: AllocFailed<T>) -> Self {
+        Stop::NoMemory
+    }
+}
+
 /// A refusal of the bytes; a failed allocation is a reason of its own.
 pub fn refusal(error: GraphError) -> Stop
     ensures { (result ≡ Stop.NoMemory) ⊎ ((error ≢ NoMemoryToRead) × (result ≡ Stop.BadGraph error)) }

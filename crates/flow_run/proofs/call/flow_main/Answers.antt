@@ -9,6 +9,6 @@ returns-clause-completes g c = λ hand no_read_fault no_write_fault.
     completes _ _ c.answer-status.result.status _ did.ends hand
     (λ fault. let rises = did.read.cause fault in absurd (omega (arith, rises, no_read_fault)))
     (λ same. elim (did.reported.cause (did.reported.write_fault same)) [
-      inl rises ↦ absurd (omega (arith, rises, no_write_fault))
-    | inr memory ↦ absurd (let never : WriteFault ≡ NoMemory = sym same ∙ memory in cc)
+      | inl rises ↦ absurd (omega (arith, rises, no_write_fault))
+      | inr memory ↦ absurd (let never : WriteFault ≡ NoMemory = sym same ∙ memory in cc)
     ])

@@ -1,8 +1,8 @@
-use Rattle.std.proofs.Common.{inl, refl, subst, sym, ◌∙◌, ap}
+use Rattle.std.proofs.Common.{inl, subst, sym, ◌∙◌, ap}
 use Rattle.flow_run.specs.declared.call.Ended.{Ended}
 use Rattle.flow_run.specs.Requests.{StopsBefore}
-use Rattle.flow_run.specs.Answers.{RunEnds, HaveRead, Reported, status_of}
-use Rattle.flow_run.proofs.Ending.{read_stopped, read_well, reported_none, run_ends, stop_no_write_fault, job_no_read_fault}
+use Rattle.flow_run.specs.Answers.{HaveRead}
+use Rattle.flow_run.proofs.Ending.{read_stopped}
 use Rattle.flow_run.proofs.call.run_file.Goals as goal
 
 pub returns-in-Err-clause-ends : goal.returns-in-Err-clause-ends

@@ -1,13 +1,10 @@
-use Rattle.std.proofs.Common.{rules, Err, arith, subst, ◌≡◌, ◌<◌, ℕ, [], length, None, slice_index_or, option_map}
+use Rattle.std.proofs.Common.{rules, Err, subst, ◌≡◌, ◌<◌, ℕ, [], length, None, slice_index_or, option_map}
 use Rattle.std.specs.Arc.{arc_value}
 use Rattle.std.specs.Option.{option_copied, option_and_then}
 use Rattle.outside_io.specs.Sink.{Accepts, Writes}
-use Rattle.outside_io.proofs.Pieces.{accepts_nothing, writes_nothing}
 use Rattle.run_frame.specs.LastEnds.{last_end}
 use Rattle.run_frame.specs.NestedRule.{job_of, journal_of}
 use Rattle.run_frame.specs.Runs.{value_at, values_of}
-use Rattle.text_tasks.specs.declared.item.Item.{Item}
-use Rattle.text_tasks.specs.declared.job.TextJob.{TextJob}
 use Rattle.text_tasks.specs.JobMeaning.{net_of, names_of}
 use Rattle.flow_run.specs.Output.{told}
 use Rattle.flow_run.proofs.ReportLemmas.{one_written, one_refused, told_is}
