@@ -66,22 +66,22 @@ module _ {T C : Type 0} (key : T → C) where
 
   -- A seat that holds the slot, with a value that has the key, writes 0
   gives_it : (first : T) (slots id : ℕ) (view : Snapshot T) (value : T) → key value ≡ key first
-      → Allows (holds first) slots id (view, (0, Some value) ∷ []) 8 (λ _. 0) (λ _ _. Unit {0})
+      → Allows (holds first) slots id (view, (0, Some value) ∷ []) 8 (λ _. 0) (λ _ after. after.1 ≡ [])
   gives_it first slots id view value same s kept len at small = by_case (slice_get s.words 8) s.homes refl kept
     where
       given : (n : ℕ) → slice_get s.words 8 ≡ Some n → IsKept key first (slice_set s.words 8 0) (some (Some value) ∷ [])
       given n e = subst (λ word. IsKeptAt key first word (some (Some value) ∷ [])) (sym (word_set s.words 8 n 0 e)) same
 
       by_case : (word : Option ℕ) (homes : List (core.Option (Option T))) → slice_get s.words 8 ≡ word → IsKeptAt key first word homes
-          → Keeps first s.words homes ((0, Some value) ∷ []) 0 (λ _ _. Unit {0})
-      by_case (Some zero) (some (Some x) ∷ []) e h = (view, gives, tt, given 0 e, tt)
-      by_case (Some (suc n)) (none ∷ []) e h = (view, gives, tt, given (suc n) e, tt)
+          → Keeps first s.words homes ((0, Some value) ∷ []) 0 (λ w a. carried_after ((0, Some value) ∷ []) a ≡ [])
+      by_case (Some zero) (some (Some x) ∷ []) e h = (view, gives, tt, given 0 e, refl)
+      by_case (Some (suc n)) (none ∷ []) e h = (view, gives, tt, given (suc n) e, refl)
       by_case _ _ e h = absurd h
 
   pub gives_back : (first : T) (slots id : ℕ) (me : Me (Option T) (Snapshot T)) (value : T) → me.1 ≡ (0, Some value) ∷ [] → key value ≡ key first
-      → Allows (holds first) slots id me 8 (λ _. 0) (λ _ _. Unit {0})
+      → Allows (holds first) slots id me 8 (λ _. 0) (λ _ after. after.1 ≡ [])
   gives_back first slots id me value is same =
-      subst (λ (held : List (ℕ × Option T)). Allows (holds first) slots id (me.0, held) 8 (λ _. 0) (λ _ _. Unit {0})) (sym is) (gives_it first slots id me.0 value same)
+      subst (λ (held : List (ℕ × Option T)). Allows (holds first) slots id (me.0, held) 8 (λ _. 0) (λ _ after. after.1 ≡ [])) (sym is) (gives_it first slots id me.0 value same)
 
   -- the steps of a seat with this view, as a call asks for them
   pub claims : (first : Snapshot T) (slots id : ℕ) (me : Me (Option T) (Snapshot T)) → me ≡ (first, []) → (f : ℕ → ℕ) → ((n : ℕ) → IsMore (f n)) → Allows (holds first.value) slots id me 8 f (TakesIfFree key me)

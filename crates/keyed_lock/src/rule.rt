@@ -32,9 +32,11 @@ impl<T: Keyed> Play<Option<T>, Snapshot<T>> for Takes {
     ghost then = { λ s me n me'. TakesIfFree T.key me n me' };
 }
 
-/// The slot is given back.
+/// The slot is given back, and the seat holds nothing.
 pub struct Gives;
 
 impl<T: Keyed> Play<Option<T>, Snapshot<T>> for Gives {
-    ghost then = { λ s me n me'. Unit {0} };
+    ghost use Rattle.std.specs.Prelude.{◌≡◌, []};
+
+    ghost then = { λ s me n me'. me'.1 ≡ [] };
 }
