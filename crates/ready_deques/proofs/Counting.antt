@@ -1,13 +1,13 @@
 -- Each step on the count word keeps its rule.
-use Rattle.std.proofs.Common.{◌≡◌, ◌≢◌, ℕ, zero, suc, ◌+◌, ◌-◌, ◌*◌, ◌%◌, ◌^◌, ◌<◌, ◌≤◌, List, [], ◌∷◌, ◌++◌, length, set, Some, refl, sym, ap, ◌∙◌, subst, eqb, eq-eqb, ne_eqb, Bool, true, false, arith}
-use Rattle.std.specs.Prelude.{sum_by, slice_set, slice_get, slice_index, ◌==◌, replicate}
+use Rattle.std.proofs.Common.{◌≡◌, ℕ, zero, suc, ◌+◌, ◌-◌, ◌%◌, ◌^◌, ◌<◌, List, [], ◌∷◌, ◌++◌, set, Some, refl, sym, ap, ◌∙◌, eq-eqb, ne_eqb, Bool, arith}
+use Rattle.std.specs.Prelude.{slice_set, slice_get, slice_index, ◌==◌, replicate}
 use Rattle.std.proofs.lemmas.List.Sums.{sum_by-cons, sum_by_push}
 use mathlib.Core.Option.{some, none, some-ne-none, some-injective}
 use mathlib.Core.Logic.{dite}
 use native.Mathlib.Decide.{ℕ_discrete}
 use prog.Atomic.{either}
 use lib.ListN.{get_elem?}
-use Rattle.atomic_table.specs.Table.{State, Me, Step, step, Act, keeps, Allows, Enters}
+use Rattle.atomic_table.specs.Table.{State, Me, step, keeps, Allows, Enters}
 use Rattle.ready_deques.specs.declared.count.Counting.{Counting}
 use Rattle.ready_deques.specs.inside.Counts.{counting, total_count, IsCounted, EntersIt, RaisesIt, LowersIt, SeesIt, seen}
 

@@ -1,5 +1,5 @@
 -- The rule of the count word, and what its steps tell.
-use Rattle.std.specs.Prelude.{◌≡◌, ◌≢◌, ℕ, zero, suc, ◌+◌, ◌-◌, List, [], ◌∷◌, sum_by, Option, Some, slice_get}
+use Rattle.std.specs.Prelude.{◌≡◌, ◌≢◌, ℕ, zero, suc, ◌+◌, ◌-◌, List, [], sum_by, Some, slice_get}
 use Rattle.atomic_table.specs.Table.{Step, Me}
 use Rattle.ready_deques.specs.declared.count.Counting.{Counting}
 

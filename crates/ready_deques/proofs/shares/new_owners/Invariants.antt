@@ -1,4 +1,4 @@
-use Rattle.std.proofs.Common.{◌≡◌, ◌+◌, ◌≤◌, All, Some, length}
+use Rattle.std.proofs.Common.{◌≡◌, ◌+◌, All, Some, length}
 use Rattle.std.specs.Arc.{arc_value}
 use Rattle.crossbeam_deque.specs.Injected.{injector_view, IsInjectorPassOf}
 use Rattle.ready_deques.specs.Lists.{IsOwnerOf}
