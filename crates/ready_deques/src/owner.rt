@@ -7,14 +7,13 @@ ghost use Rattle.ready_deques.specs.Lists.{IsOwnerOf};
 ghost use Rattle.ready_deques.specs.inside.Naming.{IsKnown, about};
 ghost use Rattle.ready_deques.specs.inside.Shared.{name_of};
 
-use crate::count::Counting;
+use crate::count::Account;
 use crate::deque::{ItemWorker, Queued};
 use crate::injector::ItemPass;
 use crate::ready::Ready;
 use crate::tagged::Tagged;
 use crate::thief::{Thief, steal_any, thief_of};
 use crate::{deque, injector};
-use atomic_table::Seat;
 use crossbeam_deque::Steal;
 use crossbeam_utils::sync::Parker;
 use outside_io::{Back, NoMemory};
@@ -31,7 +30,7 @@ pub struct Owner<T: Tagged + Drop> {
     // Stealers of the other owners' deques, the next owner's first.
     thieves: Vec<Thief<T>>,
     pass: ItemPass<T>,
-    seat: Seat<(), Counting>,
+    account: Account,
     parker: Parker,
     // Its bit in the set of sleepers.
     bit: u64,
@@ -47,9 +46,9 @@ impl<T: Tagged + Drop> Model for Owner<T> {
 
     ghost Value = { OwnerState };
 
-    ghost view = { λ o. owner_state (arc_value o.ready).tag.numbers (arc_value o.ready).counter.table.shared.table_id o.seat.me.0.zeros };
+    ghost view = { λ o. owner_state (arc_value o.ready).tag.numbers (arc_value o.ready).counter.table.shared.table_id o.account.zeros };
 
-    ghost invariant = { λ o. (worker_view o.worker ≡ Some (name_of (arc_value o.ready))) × All (λ thief. pass_view thief.pass ≡ Some (name_of (arc_value o.ready))) o.thieves.items × IsInjectorPassOf (arc_value o.ready).injector o.pass × (injector_view o.pass ≡ Some (name_of (arc_value o.ready))) × (o.seat.table_id ≡ (arc_value o.ready).counter.table.shared.table_id) };
+    ghost invariant = { λ o. (worker_view o.worker ≡ Some (name_of (arc_value o.ready))) × All (λ thief. pass_view thief.pass ≡ Some (name_of (arc_value o.ready))) o.thieves.items × IsInjectorPassOf (arc_value o.ready).injector o.pass × (injector_view o.pass ≡ Some (name_of (arc_value o.ready))) × (o.account.counts ≡ (arc_value o.ready).counter.table.shared.table_id) };
 }
 
 // Queues an item in the owner's deque, or else in the injector.
@@ -106,7 +105,8 @@ impl<T: Tagged + Drop> Owner<T> {
         ensures same { self.new ≡ self.old }
         ensures back { IfErr result (λ back. back.item ≡ item) }
     {
-        let queued = self.ready.count_in(rt, item);
+        let seat = self.ready.counter.count(rt, &mut self.account);
+        let queued = Queued { item, seat };
         match put(&self.ready, rt, &mut self.worker, &mut self.pass, queued) {
             Ok(()) => {
                 self.ready.sleepers.wake_one();
@@ -184,7 +184,7 @@ impl<T: Tagged + Drop> Owner<T> {
         ensures zero { IsTrue result → self.new.zeros ≡ self.old.zeros + 1 }
         ensures more { IsFalse result → self.new.zeros ≡ self.old.zeros }
     {
-        self.ready.counter.load(&mut self.seat) == 0
+        self.ready.counter.finds_zero(&mut self.account)
     }
 
     // An owner that can't steal from anybody yet.
@@ -193,21 +193,22 @@ impl<T: Tagged + Drop> Owner<T> {
         ready: &Arc<Ready<T>>,
         worker: ItemWorker<T>,
         pass: ItemPass<T>,
+        account: Account,
         parker: Parker,
         bit: u64,
     ) -> Result<Owner<T>, NoMemory>
         requires worker { worker_view worker ≡ Some (name_of (arc_value ready.now)) }
         requires pass { IsInjectorPassOf (arc_value ready.now).injector pass × (injector_view pass ≡ Some (name_of (arc_value ready.now))) }
+        requires account { account.counts ≡ (arc_value ready.now).counter.table.shared.table_id }
         ensures { IfOk result (IsOwnerOf (arc_value ready.now)) }
     {
-        let seat = ready.counter.enter();
         let ready = Arc::try_clone(ready)?;
         Ok(Owner {
             ready,
             worker,
             thieves: Vec::new(alloc),
             pass,
-            seat,
+            account,
             parker,
             bit,
         })

@@ -56,8 +56,8 @@ impl<T: Tagged + Drop> Ready<T> {
         requires { T.tag item ≡ tag_of self.now }
         ensures back { IfErr result (λ back. back.item ≡ item) }
     {
-        let queued = self.count_in(rt, item);
-        match self.put(rt, queued) {
+        let seat = self.counter.raise(rt);
+        match self.put(rt, Queued { item, seat }) {
             Ok(()) => {
                 self.sleepers.wake_one();
                 Ok(())
@@ -82,16 +82,6 @@ impl<T: Tagged + Drop> Ready<T> {
     /// Whether the list was closed at a step of this call.
     pub fn is_closed(&self) -> bool {
         self.closed.load(SeqCst)
-    }
-
-    // An item with a count of its own.
-    pub(crate) fn count_in<R: Wait>(&self, rt: &R, item: T) -> Queued<T>
-        requires { T.tag item ≡ tag_of self.now }
-        ensures known { IsKnown T.tag (Some (name_of self.now)) (result ∷ []) }
-        ensures item { result.item ≡ item }
-    {
-        let seat = self.counter.raise(rt);
-        Queued { item, seat }
     }
 
     // The item, whose count is given back.

@@ -7,7 +7,7 @@ ghost use Rattle.ready_deques.specs.Lists.{IsOwnerOf, tag_of};
 ghost use Rattle.ready_deques.specs.inside.Naming.{about};
 ghost use Rattle.ready_deques.specs.inside.Shared.{name_of};
 
-use crate::count::Counter;
+use crate::count::{Account, Counter};
 use crate::deque::{ItemWorker, Naming};
 use crate::injector::{ItemInjector, ItemPass};
 use crate::owner::Owner;
@@ -43,10 +43,10 @@ impl<T: Tagged + Drop> Ready<T> {
         ensures count { IfOk result (λ shares. length shares.owners.items ≡ workers) }
     {
         let tag = Tag::of::<K, ByTag>(of);
-        let counter = Counter::new(alloc)?;
+        let (counter, account) = Counter::new(alloc)?;
         let (parkers, wakers) = new_parkers(alloc, workers)?;
         let (ready, pass) = shared(alloc, tag, counter, Sleepers::new(wakers))?;
-        let mut owners = new_owners(alloc, &ready, pass, parkers)?;
+        let mut owners = new_owners(alloc, &ready, pass, account, parkers)?;
         pair_all(&ready, &mut owners)?;
         Ok(Shares { ready, owners })
     }
@@ -128,6 +128,7 @@ fn shared<T: Tagged + Drop>(
     sleepers: Sleepers,
 ) -> Result<(Arc<Ready<T>>, ItemPass<T>), NoMemory>
     ensures tag { IfOk result (λ made. tag_of (arc_value made.0) ≡ tag.numbers) }
+    ensures counts { IfOk result (λ made. (arc_value made.0).counter.table.shared.table_id ≡ counter.table.shared.table_id) }
     ensures pass { IfOk result (λ made. IsInjectorPassOf (arc_value made.0).injector made.1 × (injector_view made.1 ≡ Some (name_of (arc_value made.0)))) }
 {
     let (injector, mut pass) = named_injector(alloc, &tag, &counter)?;
@@ -149,33 +150,40 @@ fn new_owner<T: Tagged + Drop>(
     alloc: Global,
     ready: &Arc<Ready<T>>,
     pass: &mut ItemPass<T>,
+    account: &mut Account,
     parker: Parker,
     bit: u64,
 ) -> Result<Owner<T>, NoMemory>
-    requires { IsInjectorPassOf (arc_value ready.now).injector pass.old × (injector_view pass.old ≡ Some (name_of (arc_value ready.now))) }
+    requires account { account.old.counts ≡ (arc_value ready.now).counter.table.shared.table_id }
+    requires pass { IsInjectorPassOf (arc_value ready.now).injector pass.old × (injector_view pass.old ≡ Some (name_of (arc_value ready.now))) }
     ensures pass { IsInjectorPassOf (arc_value ready.now).injector pass.new × (injector_view pass.new ≡ injector_view pass.old) }
+    ensures account { account.new ≡ account.old }
     ensures owner { IfOk result (IsOwnerOf (arc_value ready.now)) }
 {
+    let own_account = ready.counter.open(account);
     let own_pass = injector::another(&ready.injector, pass);
     let worker = named_worker(alloc, &ready.tag, &ready.counter)?;
-    Owner::of(alloc, ready, worker, own_pass, parker, bit)
+    Owner::of(alloc, ready, worker, own_pass, own_account, parker, bit)
 }
 
 fn add_owner<T: Tagged + Drop>(
     alloc: Global,
     ready: &Arc<Ready<T>>,
     pass: &mut ItemPass<T>,
+    account: &mut Account,
     owners: &mut Vec<Owner<T>>,
     parker: Parker,
     bit: u64,
 ) -> Result<(), NoMemory>
+    requires account { account.old.counts ≡ (arc_value ready.now).counter.table.shared.table_id }
     requires pass { IsInjectorPassOf (arc_value ready.now).injector pass.old × (injector_view pass.old ≡ Some (name_of (arc_value ready.now))) }
     requires owners { All (IsOwnerOf (arc_value ready.now)) owners.old.items }
     ensures pass { IsInjectorPassOf (arc_value ready.now).injector pass.new × (injector_view pass.new ≡ injector_view pass.old) }
+    ensures account { account.new ≡ account.old }
     ensures owners { All (IsOwnerOf (arc_value ready.now)) owners.new.items }
     ensures count { IfOk result (λ _. length owners.new.items ≡ length owners.old.items + 1) }
 {
-    let owner = new_owner(alloc, ready, pass, parker, bit)?;
+    let owner = new_owner(alloc, ready, pass, account, parker, bit)?;
     owners.push(owner)?;
     Ok(())
 }
@@ -185,8 +193,10 @@ fn new_owners<T: Tagged + Drop>(
     alloc: Global,
     ready: &Arc<Ready<T>>,
     mut pass: ItemPass<T>,
+    mut account: Account,
     mut parkers: Vec<Parker>,
 ) -> Result<Vec<Owner<T>>, NoMemory>
+    requires account { account.counts ≡ (arc_value ready.now).counter.table.shared.table_id }
     requires pass { IsInjectorPassOf (arc_value ready.now).injector pass × (injector_view pass ≡ Some (name_of (arc_value ready.now))) }
     requires count { length parkers.items ≤ 16 }
     ensures owners { IfOk result (λ owners. All (IsOwnerOf (arc_value ready.now)) owners.items) }
@@ -195,7 +205,15 @@ fn new_owners<T: Tagged + Drop>(
     let mut owners = Vec::new(alloc);
     while let Some(parker) = parkers.pop() {
         let bit = 1u64 << parkers.len();
-        add_owner(alloc, ready, &mut pass, &mut owners, parker, bit)?;
+        add_owner(
+            alloc,
+            ready,
+            &mut pass,
+            &mut account,
+            &mut owners,
+            parker,
+            bit,
+        )?;
     }
     Ok(owners)
 }

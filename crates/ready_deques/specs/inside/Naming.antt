@@ -45,7 +45,7 @@ Named a views = (i : ℕ) (v : Option About) → get_elem? views i ≡ some v �
 module _ {T : Type 0} (tag : T → List ℕ) where
   -- the item has the list's tag, and its seat holds one count
   abbrev pub IsQueued : About → Queued T → Type 0
-  IsQueued a queued = (tag queued.item ≡ a.tag) × (queued.seat.table_id ≡ a.counts) × (queued.seat.me ≡ (counting 1 0, []))
+  IsQueued a queued = (tag queued.item ≡ a.tag) × (queued.seat.table_id ≡ a.counts) × (queued.seat.me ≡ (counting 1 0 0, []))
 
   -- a pass that has a name knows that these items are of its list. One without a name knows of no item
   abbrev pub IsKnown : Option About → List (Queued T) → Type 0

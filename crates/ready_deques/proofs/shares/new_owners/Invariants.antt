@@ -10,6 +10,7 @@ invariant-loop-parker g l =
     All (IsOwnerOf (arc_value l.ready)) l.owners.items
     × IsInjectorPassOf (arc_value l.ready).injector l.pass
     × (injector_view l.pass ≡ Some (name_of (arc_value l.ready)))
+    × (l.account.counts ≡ (arc_value l.ready).counter.table.shared.table_id)
     × (length l.owners.items + length l.parkers.items ≡ length l.initial.parkers.items)
 
 abbrev pub decreases-loop-parker : goal.decreases-loop-parker
