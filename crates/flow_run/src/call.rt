@@ -184,6 +184,7 @@ fn kept_runs(alloc: Global, job: TextJob) -> Result<List<FrameRun<TextJob>>, NoM
 }
 
 // Writes the reports of these runs, in order, and all that is held back of them.
+#[tactic(auto, using(crate::proofs::Ending::cut_short, crate::proofs::Ending::flush_delivers, crate::proofs::Ending::flush_cuts))]
 fn deliver_reports<S: Sink>(
     alloc: Global,
     out: &mut S,

@@ -67,7 +67,7 @@ fn put_line<N: Sink>(notes: &mut N, line: &[u8]) -> Noted
 }
 
 // Puts a line on the notes and flushes them.
-#[tactic(auto, using(crate::proofs::Ending::cut_short))]
+#[tactic(auto, using(crate::proofs::Ending::cut_short, crate::proofs::Ending::flush_delivers))]
 fn deliver<N: Sink>(notes: &mut N, line: &[u8]) -> Result<(), SinkFault>
     requires { (N.state notes.old).held_back ≡ [] }
     ensures delivers { Delivers (N.state notes.old) (N.state notes.new) line.now result }
