@@ -15,7 +15,7 @@ has() {
     grep -qF -- "$2" "$1"
 }
 
-documents=(README.md docs/ARCHITECTURE.md docs/DEFINITIONS.md docs/FORMATS.md docs/DECISIONS.md docs/TESTING.md)
+documents=(README.md docs/THEOREM.md docs/PROVED.md docs/ARCHITECTURE.md docs/DEFINITIONS.md docs/FORMATS.md docs/DECISIONS.md docs/TESTING.md)
 for document in "${documents[@]}"; do
     if [[ ! -f $document ]]; then
         fault "$document isn't there"
@@ -27,7 +27,7 @@ done
 crates=$(sed -E 's/#.*//; s/[ :].*//; /^$/d' crates.txt)
 for crate in $crates; do
     [[ -d crates/$crate/src ]] || fault "crates.txt names $crate, which crates/ hasn't"
-    for document in README.md docs/ARCHITECTURE.md docs/TESTING.md; do
+    for document in docs/PROVED.md docs/ARCHITECTURE.md docs/TESTING.md; do
         has "$document" "\`$crate\`" || fault "$document doesn't name the crate $crate"
     done
 done
@@ -36,16 +36,21 @@ for folder in crates/*/; do
     grep -qx -- "$crate" <<<"$crates" || fault "crates/$crate isn't in crates.txt"
 done
 
-# Each file of definitions is explained, and each that is named is there.
-for crate in outside_io task_graph legal_run plain_rules join_words span_profile run_frame graph_file text_tasks flow_run; do
-    for file in crates/"$crate"/specs/*.antt; do
-        [[ $(basename "$file") == Lib.antt ]] && continue
-        has docs/DEFINITIONS.md "\`${file#crates/}\`" || fault "docs/DEFINITIONS.md doesn't name ${file#crates/}"
-    done
+# Each file of definitions that public clauses cite is explained, and each that is named is there.
+for file in crates/*/specs/*.antt; do
+    [[ $(basename "$file") == Lib.antt || $(basename "$file") == [a-z]*.antt ]] && continue
+    has docs/DEFINITIONS.md "\`${file#crates/}\`" || fault "docs/DEFINITIONS.md doesn't name ${file#crates/}"
 done
 while read -r file; do
     [[ -f crates/$file ]] || fault "docs/DEFINITIONS.md names $file, which isn't there"
-done < <(grep -oE '`[a-z_]+/specs/[A-Za-z]+\.antt`' docs/DEFINITIONS.md | tr -d '`' | sort -u)
+done < <(grep -ohE '`[a-z_]+/specs/[A-Za-z/]+\.antt`' docs/DEFINITIONS.md docs/THEOREM.md | tr -d '`' | sort -u)
+
+# The theorem's page has the length of each file that it names.
+while IFS='|' read -r _ _ file lines _; do
+    file=$(tr -d '` ' <<<"$file")
+    lines=$(tr -d ' ' <<<"$lines")
+    [[ $(wc -l <"crates/$file") == "$lines" ]] || fault "docs/THEOREM.md says $lines lines of $file"
+done < <(grep -E '\.antt` \| [0-9]+ \|$' docs/THEOREM.md)
 
 # Each file of the repository that a document links to or names in code letters is there.
 for document in "${documents[@]}"; do
