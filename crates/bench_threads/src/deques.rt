@@ -110,15 +110,21 @@ fn add_alone(alloc: Global, owners: &mut Vec<Owner<Item>>) -> Result<(), NoMemor
     requires { All (λ owner. owner.tag ≡ []) owners.old.items }
     ensures { All (λ owner. owner.tag ≡ []) owners.new.items }
 {
-    let Shares {
-        ready,
-        owners: mut alone,
-    } = new_list(alloc, 1)?;
-    let _ = ready;
-    if let Some(owner) = alone.pop() {
-        owners.push(owner)?;
-    }
+    let owner = lone_owner(alloc)?;
+    owners.push(owner)?;
     Ok(())
+}
+
+// The owner of a list that has no other.
+fn lone_owner(alloc: Global) -> Result<Owner<Item>, NoMemory>
+    ensures { IfOk result (λ owner. owner.tag ≡ []) }
+{
+    let Shares { ready, mut owners } = new_list(alloc, 1)?;
+    let _ = ready;
+    match owners.pop() {
+        Some(owner) => Ok(owner),
+        None => Err(NoMemory),
+    }
 }
 
 fn new_list(alloc: Global, workers: u32) -> Result<Shares<Item>, NoMemory>
