@@ -29,6 +29,8 @@ fn main(rt: HostRuntime) -> io::Result<()> {
     }
     let nanos = deques::own(&rt, rt.alloc(), 4, 4)?;
     println!(rt; "4 owners, all at work: push and take_own {nanos} ns")?;
+    let nanos = deques::apart(&rt, rt.alloc(), 4)?;
+    println!(rt; "4 lists of one owner, all at work: push and take_own {nanos} ns")?;
     let nanos = deques::stolen(&rt, rt.alloc())?;
     println!(rt; "three thieves: an item stolen each {nanos} ns")?;
     Ok(())

@@ -118,7 +118,7 @@ impl<T: Tagged + Drop> Owner<T> {
         }
     }
 
-    /// The newest item of this owner's deque. It waits for nobody.
+    /// The newest item of this owner's deque, or `None` if the deque is empty. It waits for nobody.
     pub fn take_own(&mut self) -> Option<T>
         ensures same { self.new ≡ self.old }
         ensures tag { IfSome result (λ item. T.tag item ≡ self.old.tag) }
