@@ -22,7 +22,7 @@ use Rattle.flow_run.specs.declared.one_thread.OneThread.{OneThread}
 use Rattle.flow_run.specs.OneThread.{IsUnderWay}
 use Rattle.flow_run.proofs.Finished.{plan_of}
 use Rattle.text_tasks.specs.ValueTexts.{FindsText}
-use Rattle.flow_run.specs.UnderWay.{UnderWay, Carries, started_times, times, born, flow_along, inflow}
+use Rattle.flow_run.specs.UnderWay.{UnderWay, end_named, end_of, Carries, started_times, times, born, flow_along, inflow}
 
 -- nothing waits at an edge that begins without a token
 nothing_waits : (net : NetRows) (e : ℕ) → IsPlainNet net → first_waiting net e ≡ Nothing
@@ -65,6 +65,7 @@ begun job carried ready plain none sources below =
       entries = tt;
       carried_len = ap length none ∙ length-replicate (length net.edges) NothingGiven;
       carries = λ e inside. subst (λ p. Carries [] p (found_of (slice_index_or carried e NothingGiven))) (sym (nothing_waits net e plain)) (found e);
+      ends = λ e inside. ap end_of (held e) ∙ ap end_named (sym (nothing_waits net e plain));
       texts = λ e inside. subst FindsText (sym (found e)) tt;
       rows = refl;
       values_before = λ n past. refl;
@@ -81,8 +82,11 @@ begun job carried ready plain none sources below =
     net : NetRows
     net = net_of job
 
+    held : (e : ℕ) → slice_index_or carried e NothingGiven ≡ NothingGiven
+    held e = ap (λ cs. slice_index_or cs e NothingGiven) none ∙ nothing_at NothingGiven (length net.edges) e
+
     found : (e : ℕ) → found_of (slice_index_or carried e NothingGiven) ≡ nothing
-    found e = ap (λ cs. found_of (slice_index_or cs e NothingGiven)) none ∙ ap found_of (nothing_at NothingGiven (length net.edges) e)
+    found e = ap found_of (held e)
 
 -- a run that was put together so
 pub begun_run : (run : OneThread) (net : NetRows) (ready : List ℕ) → IsTextJob (arc_value run.job) → length (net_of (arc_value run.job)).tasks ≤ limit_of (arc_value run.job)

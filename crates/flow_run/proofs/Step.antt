@@ -40,7 +40,7 @@ use Rattle.flow_run.specs.Taking.{target_of}
 use Rattle.flow_run.specs.OneThread.{CauseFits}
 use Rattle.text_tasks.specs.ValueTexts.{IsValueText, FindsText}
 use Rattle.text_tasks.specs.Items.{item_text}
-use Rattle.flow_run.specs.UnderWay.{UnderWay, Carries, ComeLater, none_inner, started_times}
+use Rattle.flow_run.specs.UnderWay.{UnderWay, end_named, end_of, Carries, ComeLater, none_inner, started_times}
 use Rattle.flow_run.proofs.Flow.{one_if, eqb_both_ways}
 use Rattle.flow_run.proofs.Started.{with_step, source_step, strong_step, started_step, given_step}
 use Rattle.flow_run.proofs.RowLemmas.{rows_step}
@@ -56,6 +56,15 @@ pub record Steps (job : TextJob) (h : List Entry) (t : ℕ) (found : List (Found
   pub len : length new ≡ length old
   pub each : (e : ℕ) → e < length old → found_of (slice_index_or new e NothingGiven)
       ≡ (if list_any (λ g. g == e) (out_edges (net_of job) t) then value (arc_value row.value) else (if list_any (λ f. f == e) (strong_in (net_of job) t) then nothing else found_of (slice_index_or old e NothingGiven)))
+  pub ends : (e : ℕ) → e < length old → end_of (slice_index_or new e NothingGiven)
+      ≡ (if list_any (λ g. g == e) (out_edges (net_of job) t) then Some row.place else (if list_any (λ f. f == e) (strong_in (net_of job) t) then None else end_of (slice_index_or old e NothingGiven)))
+
+-- the index of the End at an edge after a step, by whether the task gave the edge and took from it
+ends_step : (gives takes : Bool) (place : ℕ) (before : Part) (end : Option ℕ) → end ≡ end_named before
+    → cond gives (Some place) (cond takes None end) ≡ end_named (cond gives (From place) (cond takes Nothing before))
+ends_step true takes place before end is = refl
+ends_step false true place before end is = refl
+ends_step false false place before end is = is
 
 -- what is carried after a step, by whether the task gave the edge and took from it
 carries_step : (values more : List (ValueRow Item)) (gives takes : Bool) (place : ℕ) (item : Item) (before : Part) (found : Found Item) → value_at (values ++ more) place ≡ Some item → Carries values before found
@@ -204,6 +213,9 @@ under_step job h carried new values rest t cause found row step under steps =
           (subst (Carries (values ++ row ∷ []) (cond (list_any (λ g. g == e) (out_edges net t)) (From (length h + 1)) (cond (list_any (λ f. f == e) (strong_in net t)) Nothing (waiting net e h)))) (sym (steps.each e (rw under.carried_len below)))
           (carries_step values (row ∷ []) (list_any (λ g. g == e) (out_edges net t)) (list_any (λ f. f == e) (strong_in net t)) (length h + 1) (arc_value row.value) (waiting net e h) (found_of (slice_index_or carried e NothingGiven))
           (value_last job h carried values (rest ++ t ∷ []) row [] under steps.place) (under.carries e below)));
+      ends = λ e below. steps.ends e (rw under.carried_len below) ∙ ap (λ n. cond (list_any (λ g. g == e) (out_edges net t)) (Some n) (cond (list_any (λ f. f == e) (strong_in net t)) None (end_of (slice_index_or carried e NothingGiven)))) steps.place
+          ∙ ends_step (list_any (λ g. g == e) (out_edges net t)) (list_any (λ f. f == e) (strong_in net t)) (length h + 1) (waiting net e h) (end_of (slice_index_or carried e NothingGiven)) (under.ends e below)
+          ∙ ap end_named (sym (waiting_step net h t e cause ins step.fits));
       texts = λ e below. subst FindsText (sym (steps.each e (rw under.carried_len below)))
           (finds_step (list_any (λ g. g == e) (out_edges net t)) (list_any (λ f. f == e) (strong_in net t)) (arc_value row.value) (found_of (slice_index_or carried e NothingGiven)) steps.fits (under.texts e below));
       rows = rows_step h values row t cause ins (out_edges net t) under.rows steps.place;

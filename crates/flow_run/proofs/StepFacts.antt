@@ -1,5 +1,5 @@
 -- What a step needs of its calls.
-use Rattle.std.proofs.Common.{◌≡◌, ℕ, ◌+◌, ◌<◌, ◌≤◌, Bool, true, false, cond, List, [], ◌∷◌, ◌++◌, length, Some, sym, refl, ap, ◌∙◌, subst, arith, map}
+use Rattle.std.proofs.Common.{◌≡◌, ℕ, ◌+◌, ◌<◌, ◌≤◌, Bool, true, false, cond, List, [], ◌∷◌, ◌++◌, length, Some, None, sym, refl, ap, ◌∙◌, subst, arith, map}
 use Rattle.std.specs.Prelude.{slice_index_or, Result, Ok, Err, IfErr, ◌==◌, All, if◌then◌else◌}
 use Rattle.std.specs.List.{AllByRecursion, list_any}
 use Rattle.std.specs.Arc.{arc_value}
@@ -27,7 +27,7 @@ use Rattle.run_frame.specs.declared.job.JobError.{JobError}
 use Rattle.run_frame.specs.declared.job.JobError.TheVariants.{Fault as FaultOf, NoMemory as JobNoMemory}
 use Rattle.run_frame.specs.Meaning.{FaultAllowed}
 use Rattle.flow_run.specs.Taking.{target_of}
-use Rattle.flow_run.specs.UnderWay.{UnderWay}
+use Rattle.flow_run.specs.UnderWay.{UnderWay, end_of}
 use Rattle.flow_run.proofs.Started.{with_step}
 use Rattle.flow_run.proofs.Step.{Steps, under_step}
 use Rattle.join_words.specs.declared.ins.Given.{Given}
@@ -89,6 +89,7 @@ pub record StepCalls (old new : OneThread) (t : ℕ) : Type 0 where
   pub row_place : row.place ≡ place
   pub carried_len : length new.carried.items ≡ length emptied
   pub carried_each : (k : ℕ) (d : Given Item) → k < length emptied → found_of (slice_index_or new.carried.items k d) ≡ (if list_any (λ e. e == k) (out_edges (net_of (arc_value old.job)) t) then value (arc_value row.value) else found_of (slice_index_or emptied k d))
+  pub carried_ends : (k : ℕ) (d : Given Item) → k < length emptied → end_of (slice_index_or new.carried.items k d) ≡ (if list_any (λ e. e == k) (out_edges (net_of (arc_value old.job)) t) then Some place else end_of (slice_index_or emptied k d))
   pub values : new.values ≡ old.values ++ row ∷ []
   pub ready : new.ready.items ≡ old.ready.items ++ map (target_of (net_of (arc_value old.job)).edges) (out_edges (net_of (arc_value old.job)) t)
 
@@ -148,6 +149,13 @@ step_done old new t calls is =
         by_test true = refl
         by_test false = refl
 
+    kept_end : (k : ℕ) → k < length old.carried.items → end_of (slice_index_or calls.emptied k NothingGiven) ≡ (if list_any (λ f. f == k) (strong_in net t) then None else end_of (slice_index_or old.carried.items k NothingGiven))
+    kept_end k below = ap end_of (calls.emptied_each k NothingGiven below) ∙ by_test (list_any (λ f. f == k) (strong_in net t))
+      where
+        by_test : (b : Bool) → end_of (cond b NothingGiven (slice_index_or old.carried.items k NothingGiven)) ≡ cond b None (end_of (slice_index_or old.carried.items k NothingGiven))
+        by_test true = refl
+        by_test false = refl
+
     steps : Steps job h t (map found_of calls.parts) old.carried.items new.carried.items calls.row
     steps = record {
       finds = finds;
@@ -156,6 +164,8 @@ step_done old new t calls is =
       fits = (gives_value job t (map found_of calls.parts) (arc_value calls.row.value) Each is.job texts.0 texts.1 calls.answered).1;
       len = calls.carried_len ∙ calls.emptied_len;
       each = λ k below. calls.carried_each k NothingGiven (rw calls.emptied_len below) ∙ ap (λ f. if list_any (λ g. g == k) (out_edges net t) then value (arc_value calls.row.value) else f) (kept k below);
+      ends = λ k below. calls.carried_ends k NothingGiven (rw calls.emptied_len below) ∙ ap (λ n. if list_any (λ g. g == k) (out_edges net t) then Some n else end_of (slice_index_or calls.emptied k NothingGiven)) (sym calls.row_place)
+          ∙ ap (λ o. if list_any (λ g. g == k) (out_edges net t) then Some calls.row.place else o) (kept_end k below);
     }
 
 -- a refusal that can only be want of memory

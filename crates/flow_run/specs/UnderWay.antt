@@ -14,7 +14,7 @@ use Rattle.legal_run.specs.Entries.{EachAfter}
 use Rattle.legal_run.specs.Counts.{given, used, used_source, is_open}
 use Rattle.legal_run.specs.Waiting.{waiting}
 use Rattle.join_words.specs.declared.ins.Given.{Given}
-use Rattle.join_words.specs.declared.ins.Given.TheVariants.{Nothing as NothingGiven}
+use Rattle.join_words.specs.declared.ins.Given.TheVariants.{Value as ValueGiven, First as FirstGiven, Nothing as NothingGiven}
 use Rattle.join_words.specs.Ins.{Found, value, first, nothing, found_of}
 use Rattle.run_frame.specs.declared.run.ValueRow.{ValueRow}
 use Rattle.run_frame.specs.declared.run.FrameRun.{FrameRun}
@@ -65,6 +65,17 @@ Carries values (From n) found = (item : Item) × (value_at values n ≡ Some ite
 Carries values First found = found ≡ first
 Carries values Nothing found = found ≡ nothing
 
+-- the index of the End that a part names, in a journal and among the inputs that a job is handed
+abbrev pub end_named : Part → Option ℕ
+end_named (From n) = Some n
+end_named First = None
+end_named Nothing = None
+
+abbrev pub end_of : Given Item → Option ℕ
+end_of (ValueGiven n shared) = Some n
+end_of FirstGiven = None
+end_of NothingGiven = None
+
 -- rows of places that are still to come
 abbrev pub ComeLater : ℕ → List (ValueRow Item) → Type 0
 ComeLater n rows = AllByRecursion (λ (row : ValueRow Item). n ≤ row.place) rows
@@ -73,12 +84,13 @@ abbrev pub none_inner : ℕ → Option (FrameRun TextJob Item)
 none_inner n = None
 
 -- Between two steps each start is closed, each release that isn't used is ready, and each task was started or
--- is ready once at most. What waits at the edges is carried there. Each End so far has one value, which its work
+-- is ready once at most. What waits at the edges is carried there, with the index of its End. Each End so far has one value, which its work
 -- allows, whatever values come later.
 pub record UnderWay (job : TextJob) (h : List Entry) (carried : List (Given Item)) (values : List (ValueRow Item)) (ready : List ℕ) : Type 0 where
   pub entries : AllByRecursion (IsPlainEntry (net_of job)) h
   pub carried_len : length carried ≡ length (net_of job).edges
   pub carries : (e : ℕ) → e < length (net_of job).edges → Carries values (waiting (net_of job) e h) (found_of (slice_index_or carried e NothingGiven))
+  pub ends : (e : ℕ) → e < length (net_of job).edges → end_of (slice_index_or carried e NothingGiven) ≡ end_named (waiting (net_of job) e h)
   pub texts : (e : ℕ) → e < length (net_of job).edges → FindsText (found_of (slice_index_or carried e NothingGiven))
   pub rows : map (λ (row : ValueRow Item). row.place) values ≡ ends_from 0 h
   pub values_before : (n : ℕ) → length h ≤ n → value_at values n ≡ None

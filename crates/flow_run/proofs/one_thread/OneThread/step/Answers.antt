@@ -1,5 +1,6 @@
 use Rattle.std.proofs.Common.{rules, arith, sym, subst, refl, ◌≡◌, ◌<◌, ◌≤◌, ◌++◌, ◌∙◌, ap, length, ℕ, map}
-use Rattle.std.specs.Prelude.{All, count_by, ◌==◌, IfOk, IfErr, IsTrue, slice_index_or, if◌then◌else◌, false}
+use Rattle.flow_run.specs.UnderWay.{end_of}
+use Rattle.std.specs.Prelude.{Some, All, count_by, ◌==◌, IfOk, IfErr, IsTrue, slice_index_or, if◌then◌else◌, false}
 use Rattle.std.specs.List.{list_any}
 use Rattle.join_words.specs.declared.ins.Given.{Given}
 use Rattle.join_words.specs.declared.ins.Given.TheVariants.{Nothing}
@@ -100,6 +101,7 @@ returns-clause-under_way c =
       row_place = refl;
       carried_len = c.in_ok-carry.ensures.len;
       carried_each = subst (λ es. (k : ℕ) (d : Given Item) → k < length c.take_ins.new.carried.items → found_of (slice_index_or c.carry.new.carried.items k d) ≡ (if list_any (λ e. e == k) es then value (arc_value c.in_ok-value.value) else found_of (slice_index_or c.take_ins.new.carried.items k d))) gives c.in_ok-carry.ensures.each;
+      carried_ends = subst (λ es. (k : ℕ) (d : Given Item) → k < length c.take_ins.new.carried.items → end_of (slice_index_or c.carry.new.carried.items k d) ≡ (if list_any (λ e. e == k) es then Some c.in_ok-place.place else end_of (slice_index_or c.take_ins.new.carried.items k d))) gives c.in_ok-carry.ensures.index;
       values = c.in_ok-push.ensures.ok;
       ready = c.in_ok-release.ensures ∙ ap (λ es. run.ready.items ++ map (target_of c.edges.result.now) es) gives ∙ ap (λ rs. run.ready.items ++ map (target_of rs) (out_edges (net_of (arc_value run.job)) c.args.task)) rows;
     }) c.requires
