@@ -1,6 +1,7 @@
 pub mod Flags
 pub mod NetLemmas
 pub mod Snoc
+pub mod StartsAt
 pub mod Tallying
-pub mod WaitingLemmas
-pub mod Keeping
+pub mod Rounding
+pub mod Changing

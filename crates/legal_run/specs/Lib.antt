@@ -10,6 +10,8 @@ pub mod HaltLimitStuckRule
 pub mod ShapeLegal
 pub mod Complete
 pub mod Waiting
-pub mod Kept
+pub mod Inside
 pub mod MachineState
 pub mod Machine
+pub mod Refusal
+pub mod Verdict
