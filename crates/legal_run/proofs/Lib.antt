@@ -5,3 +5,6 @@ pub mod StartsAt
 pub mod Tallying
 pub mod Rounding
 pub mod Changing
+pub mod UnitLaws
+pub mod ReleaseLaws
+pub mod Reaching

@@ -25,7 +25,7 @@ count_cons : {X : Type 0} (p : X → Bool) (x : X) (xs : List X) → count_by p 
 count_cons p x xs = sum_by-cons (λ y. one_if (p y)) x xs
 
 -- the least of a number and some more is at most the number and each of them, and one of them
-fold_min : (f : ℕ → ℕ) (n : ℕ) (es : List ℕ) → (fold min n (map f es) ≤ n) × AllByRecursion (λ e. fold min n (map f es) ≤ f e) es × ((fold min n (map f es) ≡ n) ⊎ (1 ≤ count_by (λ e. f e == fold min n (map f es)) es))
+pub fold_min : (f : ℕ → ℕ) (n : ℕ) (es : List ℕ) → (fold min n (map f es) ≤ n) × AllByRecursion (λ e. fold min n (map f es) ≤ f e) es × ((fold min n (map f es) ≡ n) ⊎ (1 ≤ count_by (λ e. f e == fold min n (map f es)) es))
 fold_min f n [] = (omega arith, tt, inl refl)
 fold_min f n (e ∷ es) =
     let m = fold min (min n (f e)) (map f es) in

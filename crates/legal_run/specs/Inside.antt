@@ -4,3 +4,4 @@ pub mod Reached
 pub mod Over
 pub mod Rounds
 pub mod Units
+pub mod Releases

@@ -4,6 +4,7 @@
 
 mod entry;
 mod machine_error;
+mod releases;
 mod rounds;
 mod slots;
 mod span;

@@ -1,9 +1,16 @@
 // What is counted of each semaphore.
-ghost use Rattle.std.specs.Prelude.{◌≡◌, ◌==◌, ◌<◌, ◌^◌, [], length, IfOk, All};
+ghost use Rattle.std.specs.Prelude.{◌≡◌, ◌==◌, ◌<◌, ◌^◌, ◌++◌, ◌∷◌, [], ℕ, Bool, List, length, IfOk, All};
 ghost use Rattle.std.specs.List.{list_any};
 ghost use Rattle.std.specs.List.Sorted.{IsStrictlyIncreasing};
 
-ghost use Rattle.legal_run.specs.Inside.Units.{CountsUnits, Changed, HasRoom, with_taken, with_putter, with_back, with_closed, always, is_other};
+ghost use Rattle.legal_run.specs.declared.entry.Cause.{Cause};
+ghost use Rattle.legal_run.specs.declared.entry.Part.{Part};
+ghost use Rattle.legal_run.specs.declared.entry.Why.{Why};
+ghost use Rattle.legal_run.specs.declared.entry.Entry.{Entry};
+ghost use Rattle.legal_run.specs.declared.entry.Entry.TheVariants.{Start, End, Fault};
+ghost use Rattle.legal_run.specs.declared.units.UnitCount.{UnitCount};
+ghost use Rattle.legal_run.specs.Inside.Reached.{IsReached, ClosesTask, IsRowOf};
+ghost use Rattle.legal_run.specs.Inside.Units.{CountsUnits, AreSmall, Changed, with_taken, with_putter, with_back, with_closed, always, is_other};
 
 use outside_io::NoMemory;
 use std::alloc::Global;
@@ -64,6 +71,54 @@ impl Units {
             counts: vec![in alloc; none; net.sems().len()]?,
         })
     }
+
+    /// Counts a start of a task.
+    pub fn start(&mut self, net: &Net, task: u32)
+        requires task { task < length net.now.tasks }
+        requires len { length self.old.counts.items ≡ length net.now.sems }
+        requires small { AreSmall self.old.counts.items }
+        ensures { (limit : ℕ) (journal : List Entry) (cause : Cause) (ins : List Part) → IsReached net.now limit journal
+            → CountsUnits net.now journal self.old.counts.items → CountsUnits net.now (journal ++ Start task cause ins ∷ []) self.new.counts.items }
+    {
+        let row = task_row(net, task);
+        let takes = row.takes.as_slice();
+        take_each(&mut self.counts, takes);
+        add_putters(&mut self.counts, row.puts.as_slice(), takes);
+    }
+
+    /// Counts an end of a start of a task, at a place in the journal.
+    pub fn end(&mut self, net: &Net, task: u32, place: u64)
+        requires task { task < length net.now.tasks }
+        requires len { length self.old.counts.items ≡ length net.now.sems }
+        requires small { AreSmall self.old.counts.items }
+        ensures { (limit : ℕ) (journal : List Entry) (start : ℕ) (gives : List ℕ) (inner : Bool) → IsReached net.now limit journal → ClosesTask journal start task → place ≡ length journal
+            → CountsUnits net.now journal self.old.counts.items → CountsUnits net.now (journal ++ End start gives inner ∷ []) self.new.counts.items }
+    {
+        let row = task_row(net, task);
+        let puts = row.puts.as_slice();
+        give_back_each(&mut self.counts, puts);
+        close_takers(&mut self.counts, row.takes.as_slice(), puts, place);
+    }
+
+    /// Counts a fault of a start of a task, at a place in the journal.
+    pub fn fault(&mut self, net: &Net, task: u32, place: u64)
+        requires task { task < length net.now.tasks }
+        requires len { length self.old.counts.items ≡ length net.now.sems }
+        requires small { AreSmall self.old.counts.items }
+        ensures { (limit : ℕ) (journal : List Entry) (start : ℕ) (why : Why) → IsReached net.now limit journal → ClosesTask journal start task → place ≡ length journal
+            → CountsUnits net.now journal self.old.counts.items → CountsUnits net.now (journal ++ Fault start why ∷ []) self.new.counts.items }
+    {
+        let row = task_row(net, task);
+        close_takers(&mut self.counts, row.takes.as_slice(), row.puts.as_slice(), place);
+    }
+}
+
+/// The row of a task.
+pub fn task_row(net: &Net, task: u32) -> &TaskRow
+    requires { task < length net.now.tasks }
+    ensures { IsRowOf net.now task result.now }
+{
+    &net.tasks()[task as usize]
 }
 
 // Whether a semaphore is in a rising list.
@@ -78,7 +133,7 @@ fn has(sems: &[u32], sem: u32) -> bool
 fn take_each(counts: &mut Vec<UnitCount>, sems: &[u32])
     requires rising { IsStrictlyIncreasing sems.now }
     requires in_range { All (λ s. s < length counts.old.items) sems.now }
-    requires room { All HasRoom counts.old.items }
+    requires room { All (λ (u : UnitCount). u.taken < 2 ^ 63) counts.old.items }
     ensures { Changed with_taken always counts.old.items counts.new.items sems.now }
 {
     for sem in sems {
@@ -91,7 +146,7 @@ fn add_putters(counts: &mut Vec<UnitCount>, puts: &[u32], takes: &[u32])
     requires rising { IsStrictlyIncreasing puts.now }
     requires takes_rising { IsStrictlyIncreasing takes.now }
     requires in_range { All (λ s. s < length counts.old.items) puts.now }
-    requires room { All HasRoom counts.old.items }
+    requires room { All (λ (u : UnitCount). u.putters < 2 ^ 63) counts.old.items }
     ensures { Changed with_putter (is_other takes.now) counts.old.items counts.new.items puts.now }
 {
     for sem in puts {
@@ -105,7 +160,7 @@ fn add_putters(counts: &mut Vec<UnitCount>, puts: &[u32], takes: &[u32])
 fn give_back_each(counts: &mut Vec<UnitCount>, sems: &[u32])
     requires rising { IsStrictlyIncreasing sems.now }
     requires in_range { All (λ s. s < length counts.old.items) sems.now }
-    requires room { All HasRoom counts.old.items }
+    requires room { All (λ (u : UnitCount). u.back < 2 ^ 63) counts.old.items }
     ensures { Changed with_back always counts.old.items counts.new.items sems.now }
 {
     for sem in sems {
@@ -118,7 +173,7 @@ fn close_takers(counts: &mut Vec<UnitCount>, takes: &[u32], puts: &[u32], place:
     requires rising { IsStrictlyIncreasing takes.now }
     requires puts_rising { IsStrictlyIncreasing puts.now }
     requires in_range { All (λ s. s < length counts.old.items) takes.now }
-    requires room { All HasRoom counts.old.items }
+    requires room { All (λ (u : UnitCount). u.closed_takers < 2 ^ 63) counts.old.items }
     ensures { Changed (with_closed place) (is_other puts.now) counts.old.items counts.new.items takes.now }
 {
     for sem in takes {

@@ -1,5 +1,5 @@
 -- What is counted of each semaphore.
-use Rattle.std.specs.Prelude.{◌≡◌, ℕ, ◌+◌, ◌<◌, ◌≤◌, ◌^◌, Bool, true, not, ◌&&◌, ◌==◌, List, length, slice_index_or, if◌then◌else◌}
+use Rattle.std.specs.Prelude.{◌≡◌, ℕ, ◌+◌, ◌<◌, ◌≤◌, ◌^◌, Bool, true, not, ◌&&◌, ◌==◌, List, length, slice_index_or, All, if◌then◌else◌}
 use Rattle.std.specs.List.{list_any}
 use Rattle.task_graph.specs.NetRows.{NetRows}
 use Rattle.legal_run.specs.declared.entry.Entry.{Entry}
@@ -48,9 +48,12 @@ pub record Changed (change : UnitCount → UnitCount) (test : ℕ → Bool) (old
   pub each : (k : ℕ) (d : UnitCount) → k < length old →
       slice_index_or new k d ≡ (if list_any (λ s. s == k) sems && test k then change (slice_index_or old k d) else slice_index_or old k d)
 
--- counts that may grow
-pub record HasRoom (count : UnitCount) : Type 0 where
+-- counts far below what a number holds
+pub record IsSmall (count : UnitCount) : Type 0 where
   pub taken : count.taken < 2 ^ 63
   pub back : count.back < 2 ^ 63
   pub putters : count.putters < 2 ^ 63
   pub closed : count.closed_takers < 2 ^ 63
+
+abbrev pub AreSmall : List UnitCount → Type 0
+AreSmall counts = All IsSmall counts

@@ -30,4 +30,4 @@ close_taker-requires c =
     let below : sem < length c.args.counts.now.items = c.requires.in_range c.loop-sem.sem-index 0 c.loop-sem-test.true in
     let same = next_same (with_closed c.args.place) (is_other c.args.puts.now) _ _ _ _ sem c.index_mut.result.now c.requires.rising c.loop-sem-test.true refl below c.loop-sem.invariant in
     let room = c.requires.room sem c.index_mut.result.now below in
-    omega (arith, room.closed, ap (λ (u : UnitCount). u.closed_takers) (c.index_mut.ensures.value ∙ same))
+    omega (arith, room, ap (λ (u : UnitCount). u.closed_takers) (c.index_mut.ensures.value ∙ same))
