@@ -8,3 +8,5 @@ pub mod Changing
 pub mod UnitLaws
 pub mod ReleaseLaws
 pub mod Reaching
+pub mod WaitingLemmas
+pub mod CountLaws

@@ -5,3 +5,5 @@ pub mod Over
 pub mod Rounds
 pub mod Units
 pub mod Releases
+pub mod Waits
+pub mod Counted

@@ -2,14 +2,18 @@
 //! that keeps such a journal.
 #![tactic(auto)]
 
+mod counts;
 mod entry;
 mod machine_error;
+mod open_starts;
+mod position;
 mod releases;
 mod rounds;
 mod slots;
 mod span;
 mod units;
 mod verdict;
+mod waiting;
 
 pub use entry::{Cause, DropWhy, Entry, Journal, Part, Why};
 pub use machine_error::MachineError;
