@@ -87,7 +87,7 @@ next_same change test old now sems i s d rising within is in_range so_far =
     so_far.each s d in_range ∙ ap (λ b. cond (b && test s) (change (get_or old s d)) (get_or old s d)) (absent_before sems i s rising within is)
 
 -- an item found by its place is among a list
-any_found : (xs : List ℕ) (i s : ℕ) → i < length xs → get_or xs i 0 ≡ s → list_any (λ r. r == s) xs ≡ true
+pub any_found : (xs : List ℕ) (i s : ℕ) → i < length xs → get_or xs i 0 ≡ s → list_any (λ r. r == s) xs ≡ true
 any_found [] i s below is = absurd (omega arith)
 any_found (x ∷ xs) zero s below is = let hit : eqb x s ≡ true = grind (arith, nat_tests) in rw hit refl
 any_found (x ∷ xs) (suc i) s below is = rw (any_found xs i s (omega arith) is) (or_yes (eqb x s))

@@ -10,3 +10,4 @@ pub mod ReleaseLaws
 pub mod Reaching
 pub mod WaitingLemmas
 pub mod CountLaws
+pub mod Refusing

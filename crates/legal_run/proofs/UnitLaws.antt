@@ -1,12 +1,15 @@
 -- What is counted of a semaphore after one entry more.
 use Rattle.std.proofs.Common.{◌≡◌, ◌≢◌, ◌⊎◌, inl, inr, ℕ, suc, ◌+◌, ◌<◌, ◌≤◌, ◌^◌, Bool, true, false, not, ◌&&◌, cond, eqb, List, [], ◌∷◌, ◌++◌, length, Option, Some, None, sym, refl, ap, ◌∙◌, subst, arith, get_or, is_some}
-use Rattle.std.specs.Prelude.{count_by, ◌==◌, slice_get, All}
+use Rattle.std.specs.Prelude.{count_by, ◌==◌, slice_get, All, Any, MatchOption}
+use Rattle.std.specs.List.Sorted.{IsStrictlyIncreasing}
+use Rattle.std.proofs.lemmas.List.Folds.{Any-from_list_any}
+use Rattle.std.proofs.lemmas.List.Kept.{AllPairs-from_increasing}
 use Rattle.std.specs.Option.{option_map_or, option_and_then}
 use Rattle.std.specs.List.{list_any, AllByRecursion}
-use Rattle.std.proofs.lemmas.Bool.{cases_eq, cases_lt, false≢true}
+use Rattle.std.proofs.lemmas.Bool.{cases_eq, cases_lt, false≢true, eqb-true}
 use Rattle.std.proofs.lemmas.Bool.Decides.{nat_tests}
 use Rattle.std.proofs.lemmas.List.Sums.{sum_by-cons, count_by-le-length}
-use Rattle.std.proofs.lemmas.List.{length_push}
+use Rattle.std.proofs.lemmas.List.{length_push, get_or_default}
 use Rattle.std.proofs.lemmas.Option.{slice_get-get_or, slice_get_within}
 use Rattle.task_graph.specs.NetRows.{NetRows}
 use Rattle.task_graph.specs.Net.{AreSemaphoresOf}
@@ -19,13 +22,15 @@ use Rattle.legal_run.specs.declared.entry.Entry.{Entry}
 use Rattle.legal_run.specs.declared.entry.Entry.TheVariants.{Start, End, Fault, Drop}
 use Rattle.legal_run.specs.declared.units.UnitCount.{UnitCount}
 use Rattle.legal_run.specs.Counts.{started, start_at, closes}
-use Rattle.legal_run.specs.SemaphoreRule.{takes, puts, taken, back, gives_back, closed_takers}
+use Rattle.legal_run.specs.SemaphoreRule.{takes, puts, taken, back, gives_back, closed_takers, HasUnit, IsOverRelease}
+use Rattle.legal_run.specs.Refusal.{IsLeast, WantsUnit, PutsWithNothingOut}
 use Rattle.legal_run.specs.Inside.Reached.{ClosesBelow, ClosesTask, IsReached, IsRowOf}
 use Rattle.legal_run.specs.Inside.Over.{putters, IsOver, WasOver}
-use Rattle.legal_run.specs.Inside.Units.{CountsUnit, CountsUnits, Changed, always, is_other, with_taken, with_putter, with_back, with_closed}
+use Rattle.legal_run.specs.Inside.Units.{CountsUnit, CountsUnits, IsFirstWithout, HasUnitLeft, IsOut, no_units, Changed, always, is_other, with_taken, with_putter, with_back, with_closed}
 use Rattle.legal_run.proofs.Snoc.{count_by_push, start_at_push_below}
 use Rattle.legal_run.proofs.Tallying.{count_by_push_no}
-use Rattle.legal_run.proofs.StartsAt.{putters_push, closed_takers_open, closed_takers_closed, was_over_still, was_over_before}
+use Rattle.legal_run.proofs.StartsAt.{putters_push, closed_takers_open, closed_takers_closed, was_over_still, was_over_before, over_release_is}
+use Rattle.legal_run.proofs.Changing.{any_found}
 
 abbrev one_if : Bool → ℕ
 one_if b = cond b 1 0
@@ -180,6 +185,17 @@ takes_row net s t row is = ap (λ o. option_map_or (λ (r : TaskRow). list_any (
 pub puts_row : (net : NetRows) (s t : ℕ) (row : TaskRow) → IsRowOf net t row → puts net s t ≡ list_any (λ x. x == s) row.puts
 puts_row net s t row is = ap (λ o. option_map_or (λ (r : TaskRow). list_any (λ x. x == s) r.puts) o false) is.stands
 
+-- a number that is among a list has a place there
+found_place : (xs : List ℕ) (s : ℕ) → list_any (λ x. x == s) xs ≡ true → (k : ℕ) × (k < length xs) × (get_or xs k 0 ≡ s)
+found_place xs s among = by_any (Any-from_list_any (λ x. x == s) xs among)
+  where
+    by_any : Any (λ x. (x == s) ≡ true) xs → (k : ℕ) × (k < length xs) × (get_or xs k 0 ≡ s)
+    by_any any = (any.0, any.2, get_or_default xs any.0 0 any.1 any.2 ∙ any.3 ∙ eqb-true any.1 s any.4)
+
+-- a semaphore that a task names is the net's
+pub named_in_range : (net : NetRows) (ids : List ℕ) (s : ℕ) → AreSemaphoresOf net ids → list_any (λ x. x == s) ids ≡ true → s < length net.sems
+named_in_range net ids s are among = let at = found_place ids s among in subst (λ k. k < length net.sems) at.2 (are.in_range at.0 0 at.1)
+
 -- the semaphores of a task have counts
 pub sems_counted : (net : NetRows) (ids : List ℕ) (counts : List UnitCount) → AreSemaphoresOf net ids → length counts ≡ length net.sems → All (λ s. s < length counts) ids
 sems_counted net ids counts are len = λ k d below. omega (arith, len, are.in_range k d below)
@@ -237,3 +253,74 @@ units_fault net limit t p row h why n old new is closed_are reached closed_it he
 -- and after a Drop
 pub units_drop : (net : NetRows) (limit t : ℕ) (h : List Entry) (cause : Cause) (why : DropWhy) (counts : List UnitCount) → IsReached net limit h → CountsUnits net h counts → CountsUnits net (h ++ Drop t cause why ∷ []) counts
 units_drop net limit t h cause why counts reached c = record { len = c.len; each = λ s d below. unit_same net limit s h t cause why (get_or counts s d) reached (c.each s d below) }
+
+-- the least number of a rising list without a property
+first_is_least : (P Q : ℕ → Type 0) (xs : List ℕ) (found : Option ℕ) → IsStrictlyIncreasing xs → ((s : ℕ) → list_any (λ x. x == s) xs ≡ true → ¬ P s → Q s) → ((s : ℕ) → Q s → (list_any (λ x. x == s) xs ≡ true) × ¬ P s) → IsFirstWithout P xs found
+    → MatchOption found ((s : ℕ) → ¬ Q s) (λ s. IsLeast Q s)
+first_is_least P Q xs None rising there away each = λ s q. let at = found_place xs s (away s q).0 in (away s q).1 (subst P at.2 (each at.0 at.1))
+first_is_least P Q xs (Some x) rising there away found = record { has_it = there x (any_found xs found.0 x found.1 found.2) found.4; least = λ r below q. by_place r below q (found_place xs r (away r q).0) }
+  where
+    by_place : (r : ℕ) → r < x → Q r → (k : ℕ) × (k < length xs) × (get_or xs k 0 ≡ r) → ⊥
+    by_place r below q at = by_case (cases_lt at.0 found.0)
+      where
+        by_same : (found.0 < at.0) ⊎ (at.0 ≤ found.0) → found.0 ≤ at.0 → ⊥
+        by_same (inl later) after = omega (arith, AllPairs-from_increasing xs rising found.0 at.0 0 later at.1, at.2, found.2)
+        by_same (inr same) after = let e : at.0 ≡ found.0 = omega arith in omega (arith, ap (λ k. get_or xs k 0) e, at.2, found.2)
+
+        by_case : (at.0 < found.0) ⊎ (found.0 ≤ at.0) → ⊥
+        by_case (inl before) = (away r q).1 (subst P at.2 (found.3 at.0 before))
+        by_case (inr after) = by_same (cases_lt found.0 at.0) after
+
+-- the least semaphore that a task takes and that has no unit
+pub wanted_is : (net : NetRows) (t : ℕ) (row : TaskRow) (h : List Entry) (counts : List UnitCount) (maxima : List ℕ) (found : Option ℕ) → IsRowOf net t row → maxima ≡ net.sems → CountsUnits net h counts
+    → IsFirstWithout (HasUnitLeft counts maxima) row.takes found → MatchOption found ((s : ℕ) → ¬ WantsUnit net h t s) (λ s. IsLeast (WantsUnit net h t) s)
+wanted_is net t row h counts maxima found is maxima_are c first =
+    first_is_least (HasUnitLeft counts maxima) (WantsUnit net h t) row.takes found is.well_formed.takes.rising
+    (λ s among none. (takes_row net s t row is ∙ among, λ unit. none (to s among unit)))
+    (λ s wants. let among = sym (takes_row net s t row is) ∙ wants.0 in (among, λ unit. wants.1 (from s among unit))) first
+  where
+    count : (s : ℕ) → list_any (λ x. x == s) row.takes ≡ true → CountsUnit net h s (get_or counts s no_units)
+    count s among = c.each s no_units (named_in_range net row.takes s is.well_formed.takes among)
+
+    to : (s : ℕ) → list_any (λ x. x == s) row.takes ≡ true → HasUnit net s h → HasUnitLeft counts maxima s
+    to s among unit = let u = count s among in omega (arith, u.taken, u.back, ap (λ ms. get_or ms s 0) maxima_are)
+
+    from : (s : ℕ) → list_any (λ x. x == s) row.takes ≡ true → HasUnitLeft counts maxima s → HasUnit net s h
+    from s among left = let u = count s among in omega (arith, u.taken, u.back, ap (λ ms. get_or ms s 0) maxima_are)
+
+-- the least semaphore that a task puts and of which nothing is out
+pub not_out_is : (net : NetRows) (t : ℕ) (row : TaskRow) (h : List Entry) (counts : List UnitCount) (found : Option ℕ) → IsRowOf net t row → CountsUnits net h counts
+    → IsFirstWithout (IsOut counts) row.puts found → MatchOption found ((s : ℕ) → ¬ PutsWithNothingOut net h t s) (λ s. IsLeast (PutsWithNothingOut net h t) s)
+not_out_is net t row h counts found is c first =
+    first_is_least (IsOut counts) (PutsWithNothingOut net h t) row.puts found is.well_formed.puts.rising
+    (λ s among none. (puts_row net s t row is ∙ among, by_case s among none (cases_eq (back net s h) (taken net s h))))
+    (λ s none. let among = sym (puts_row net s t row is) ∙ none.0 in (among, λ out. out (let u = count s among in u.back ∙ none.1 ∙ sym u.taken))) first
+  where
+    count : (s : ℕ) → list_any (λ x. x == s) row.puts ≡ true → CountsUnit net h s (get_or counts s no_units)
+    count s among = c.each s no_units (named_in_range net row.puts s is.well_formed.puts among)
+
+    by_case : (s : ℕ) → list_any (λ x. x == s) row.puts ≡ true → ¬ IsOut counts s → (back net s h ≡ taken net s h) ⊎ (back net s h ≢ taken net s h) → back net s h ≡ taken net s h
+    by_case s among none (inl same) = same
+    by_case s among none (inr other) = absurd (none (λ e. other (let u = count s among in sym u.back ∙ e ∙ u.taken)))
+
+-- whether a start would give back a unit that isn't out
+pub over_is : (net : NetRows) (s p t : ℕ) (row : TaskRow) (h : List Entry) (count : UnitCount) (flag : Bool) → IsRowOf net t row → CountsUnit net h s count → start_at h p ≡ Some t → flag ≡ list_any (λ x. x == s) row.puts
+    → (flag ≡ true → (p < count.last_over) ⊎ (count.closed_takers < count.putters) → IsOverRelease net h s p t) × (IsOverRelease net h s p t → (flag ≡ true) × ((p < count.last_over) ⊎ (count.closed_takers < count.putters)))
+over_is net s p t row h count flag is c started flag_is = (
+  λ putter case. (law (sym (flag_is' putter))).0 (there case),
+  λ over. (flag_is ∙ sym (puts_row net s t row is) ∙ over.0, here ((law over.0).1 over)),
+)
+  where
+    flag_is' : flag ≡ true → true ≡ puts net s t
+    flag_is' put = sym put ∙ flag_is ∙ sym (puts_row net s t row is)
+
+    law : puts net s t ≡ true → ((p < count.last_over) ⊎ IsOver net s h → IsOverRelease net h s p t) × (IsOverRelease net h s p t → (p < count.last_over) ⊎ IsOver net s h)
+    law putter = over_release_is net s p t count.last_over h started (start_below h p t started) putter c.over
+
+    there : (p < count.last_over) ⊎ (count.closed_takers < count.putters) → (p < count.last_over) ⊎ IsOver net s h
+    there (inl before) = inl before
+    there (inr now) = inr (omega (arith, c.closed, c.putters))
+
+    here : (p < count.last_over) ⊎ IsOver net s h → (p < count.last_over) ⊎ (count.closed_takers < count.putters)
+    here (inl before) = inl before
+    here (inr now) = inr (omega (arith, c.closed, c.putters))

@@ -52,7 +52,7 @@ impl<'j> Position<'j> {
 
     // Whether a number is a task's.
     fn is_task(&self, task: u32) -> bool
-        ensures { IsTrue result ↔ (task < length self.net.tasks) }
+        ensures { IsTrue result ↔ (task < length self.now.net.tasks) }
     {
         (task as usize) < self.net.tasks().len()
     }

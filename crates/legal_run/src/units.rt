@@ -1,5 +1,5 @@
 // What is counted of each semaphore.
-ghost use Rattle.std.specs.Prelude.{◌≡◌, ◌==◌, ◌<◌, ◌^◌, ◌++◌, ◌∷◌, [], ℕ, Bool, List, length, IfOk, All};
+ghost use Rattle.std.specs.Prelude.{◌≡◌, ◌==◌, ◌<◌, ◌^◌, ◌++◌, ◌∷◌, [], ◌↔◌, ◌⊎◌, ◌+◌, ℕ, Bool, List, Some, length, IsTrue, IfOk, All, MatchOption};
 ghost use Rattle.std.specs.List.{list_any};
 ghost use Rattle.std.specs.List.Sorted.{IsStrictlyIncreasing};
 
@@ -9,8 +9,11 @@ ghost use Rattle.legal_run.specs.declared.entry.Why.{Why};
 ghost use Rattle.legal_run.specs.declared.entry.Entry.{Entry};
 ghost use Rattle.legal_run.specs.declared.entry.Entry.TheVariants.{Start, End, Fault};
 ghost use Rattle.legal_run.specs.declared.units.UnitCount.{UnitCount};
+ghost use Rattle.legal_run.specs.Counts.{start_at};
+ghost use Rattle.legal_run.specs.SemaphoreRule.{IsOverRelease};
+ghost use Rattle.legal_run.specs.Refusal.{IsLeast, WantsUnit, PutsWithNothingOut};
 ghost use Rattle.legal_run.specs.Inside.Reached.{IsReached, ClosesTask, IsRowOf};
-ghost use Rattle.legal_run.specs.Inside.Units.{CountsUnits, AreSmall, Changed, with_taken, with_putter, with_back, with_closed, always, is_other};
+ghost use Rattle.legal_run.specs.Inside.Units.{CountsUnits, AreSmall, IsFirstWithout, HasUnitLeft, IsOut, Changed, with_taken, with_putter, with_back, with_closed, always, is_other};
 
 use outside_io::NoMemory;
 use std::alloc::Global;
@@ -36,6 +39,13 @@ pub struct UnitCount {
 }
 
 impl UnitCount {
+    // Whether `putters` was above `closed_takers` after the entry at a place.
+    fn was_over(&self, place: u64) -> bool
+        ensures { IsTrue result ↔ ((place < self.now.last_over) ⊎ (self.now.closed_takers < self.now.putters)) }
+    {
+        place < self.last_over || self.closed_takers < self.putters
+    }
+
     // Counts that a start is closed whose task takes the semaphore and doesn't put it.
     fn close_taker(&mut self, place: u64)
         requires { self.old.closed_takers < 2 ^ 63 }
@@ -70,6 +80,69 @@ impl Units {
         Ok(Units {
             counts: vec![in alloc; none; net.sems().len()]?,
         })
+    }
+
+    /// The least semaphore that a task takes and that has no unit.
+    pub fn wanted(&self, net: &Net, task: u32) -> Option<u32>
+        requires task { task < length net.now.tasks }
+        requires len { length self.now.counts.items ≡ length net.now.sems }
+        requires small { AreSmall self.now.counts.items }
+        ensures { (journal : List Entry) → CountsUnits net.now journal self.now.counts.items
+            → MatchOption result ((s : ℕ) → ¬ WantsUnit net.now journal task s) (λ s. IsLeast (WantsUnit net.now journal task) s) }
+    {
+        let row = task_row(net, task);
+        self.first_without(net.sems(), row.takes.as_slice())
+    }
+
+    // The first of these semaphores that has no unit.
+    fn first_without(&self, maxima: &[u32], sems: &[u32]) -> Option<u32>
+        requires in_range { All (λ s. s < length self.now.counts.items) sems.now }
+        requires maxima { length maxima.now ≡ length self.now.counts.items }
+        requires small { AreSmall self.now.counts.items }
+        ensures { IsFirstWithout (HasUnitLeft self.now.counts.items maxima.now) sems.now result }
+    {
+        for sem in sems {
+            if !has_unit(&self.counts[*sem as usize], maxima[*sem as usize]) {
+                return Some(*sem);
+            }
+        }
+        None
+    }
+
+    /// The least semaphore that a task puts and of which nothing is out.
+    pub fn not_out(&self, net: &Net, task: u32) -> Option<u32>
+        requires task { task < length net.now.tasks }
+        requires len { length self.now.counts.items ≡ length net.now.sems }
+        ensures { (journal : List Entry) → CountsUnits net.now journal self.now.counts.items
+            → MatchOption result ((s : ℕ) → ¬ PutsWithNothingOut net.now journal task s) (λ s. IsLeast (PutsWithNothingOut net.now journal task) s) }
+    {
+        let row = task_row(net, task);
+        self.first_not_out(row.puts.as_slice())
+    }
+
+    // The first of these semaphores of which nothing is out.
+    fn first_not_out(&self, sems: &[u32]) -> Option<u32>
+        requires { All (λ s. s < length self.now.counts.items) sems.now }
+        ensures { IsFirstWithout (IsOut self.now.counts.items) sems.now result }
+    {
+        for sem in sems {
+            let count = &self.counts[*sem as usize];
+            if count.back == count.taken {
+                return Some(*sem);
+            }
+        }
+        None
+    }
+
+    /// Whether the start at a place, of a task, would give back a unit of a semaphore that isn't out.
+    pub fn is_over_release(&self, net: &Net, task: u32, sem: u32, place: u64) -> bool
+        requires task { task < length net.now.tasks }
+        requires sem { sem < length net.now.sems }
+        requires len { length self.now.counts.items ≡ length net.now.sems }
+        ensures { (journal : List Entry) → CountsUnits net.now journal self.now.counts.items → start_at journal place ≡ Some task
+            → (IsTrue result ↔ IsOverRelease net.now journal sem place task) }
+    {
+        has(task_row(net, task).puts.as_slice(), sem) && self.counts[sem as usize].was_over(place)
     }
 
     /// Counts a start of a task.
@@ -111,6 +184,14 @@ impl Units {
         let row = task_row(net, task);
         close_takers(&mut self.counts, row.takes.as_slice(), row.puts.as_slice(), place);
     }
+}
+
+// Whether a semaphore with this maximum has a unit, by its counts.
+fn has_unit(count: &UnitCount, max: u32) -> bool
+    requires { count.now.back < 2 ^ 63 }
+    ensures { IsTrue result ↔ (count.now.taken < count.now.back + max) }
+{
+    count.taken < count.back + u64::from(max)
 }
 
 /// The row of a task.

@@ -1,5 +1,5 @@
 -- What is counted of each semaphore.
-use Rattle.std.specs.Prelude.{◌≡◌, ℕ, ◌+◌, ◌<◌, ◌≤◌, ◌^◌, Bool, true, not, ◌&&◌, ◌==◌, List, length, slice_index_or, All, if◌then◌else◌}
+use Rattle.std.specs.Prelude.{◌≡◌, ℕ, ◌+◌, ◌<◌, ◌≤◌, ◌^◌, Bool, true, not, ◌&&◌, ◌==◌, List, length, Option, Some, None, slice_index, slice_index_or, All, if◌then◌else◌}
 use Rattle.std.specs.List.{list_any}
 use Rattle.task_graph.specs.NetRows.{NetRows}
 use Rattle.legal_run.specs.declared.entry.Entry.{Entry}
@@ -57,3 +57,18 @@ pub record IsSmall (count : UnitCount) : Type 0 where
 
 abbrev pub AreSmall : List UnitCount → Type 0
 AreSmall counts = All IsSmall counts
+
+-- a semaphore has a unit, and a unit of it is out, by its counts
+abbrev pub no_units : UnitCount
+no_units = record { taken = 0; back = 0; putters = 0; closed_takers = 0; last_over = 0 }
+
+abbrev pub HasUnitLeft : List UnitCount → List ℕ → ℕ → Type 0
+HasUnitLeft counts maxima s = (slice_index_or counts s no_units).taken < (slice_index_or counts s no_units).back + slice_index maxima s
+
+abbrev pub IsOut : List UnitCount → ℕ → Type 0
+IsOut counts s = (slice_index_or counts s no_units).back ≡ (slice_index_or counts s no_units).taken → ⊥
+
+-- the first number of a list without a property, or None where each has it
+abbrev pub IsFirstWithout : (ℕ → Type 0) → List ℕ → Option ℕ → Type 0
+IsFirstWithout P xs None = (k : ℕ) → k < length xs → P (slice_index xs k)
+IsFirstWithout P xs (Some x) = (i : ℕ) × (i < length xs) × (slice_index xs i ≡ x) × ((k : ℕ) → k < i → P (slice_index xs k)) × ¬ P x
