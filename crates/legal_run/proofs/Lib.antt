@@ -11,3 +11,4 @@ pub mod Reaching
 pub mod WaitingLemmas
 pub mod CountLaws
 pub mod Refusing
+pub mod Marking

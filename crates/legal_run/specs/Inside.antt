@@ -7,3 +7,4 @@ pub mod Units
 pub mod Releases
 pub mod Waits
 pub mod Counted
+pub mod Marking

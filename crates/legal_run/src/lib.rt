@@ -2,9 +2,11 @@
 //! that keeps such a journal.
 #![tactic(auto)]
 
+mod choice;
 mod counts;
 mod entry;
 mod machine_error;
+mod marks;
 mod open_starts;
 mod position;
 mod releases;

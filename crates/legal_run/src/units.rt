@@ -186,8 +186,8 @@ impl Units {
     }
 }
 
-// Whether a semaphore with this maximum has a unit, by its counts.
-fn has_unit(count: &UnitCount, max: u32) -> bool
+/// Whether a semaphore with this maximum has a unit, by its counts.
+pub fn has_unit(count: &UnitCount, max: u32) -> bool
     requires { count.now.back < 2 ^ 63 }
     ensures { IsTrue result ↔ (count.now.taken < count.now.back + max) }
 {
@@ -202,8 +202,8 @@ pub fn task_row(net: &Net, task: u32) -> &TaskRow
     &net.tasks()[task as usize]
 }
 
-// Whether a semaphore is in a rising list.
-fn has(sems: &[u32], sem: u32) -> bool
+/// Whether a semaphore is in a rising list.
+pub fn has(sems: &[u32], sem: u32) -> bool
     requires { IsStrictlyIncreasing sems.now }
     ensures { result ≡ list_any (λ s. s == sem) sems.now }
 {

@@ -33,8 +33,8 @@ pub record CanGrow (net : NetRows) (counts : Counts) : Type 0 where
   pub starts : counts.starts < 2 ^ 62
   pub faults : counts.faults < 2 ^ 62
 
--- a shape-legal journal that memory can hold, and its counts
+-- a shape-legal journal and its counts
 pub record IsPosition (net : NetRows) (limit : ℕ) (journal : List Entry) (counts : Counts) : Type 0 where
   pub reached : IsReached net limit journal
   pub counted : IsCounted net journal counts
-  pub size : length journal < 2 ^ 61
+  pub grow : CanGrow net counts
