@@ -1,19 +1,23 @@
 -- The counts of a journal after one entry more.
-use Rattle.std.proofs.Common.{◌≡◌, ◌≢◌, ◌⊎◌, inl, inr, ℕ, zero, suc, ◌+◌, ◌<◌, ◌≤◌, ◌^◌, Bool, true, false, not, ◌&&◌, cond, eqb, List, [], ◌∷◌, ◌++◌, length, Option, Some, None, sym, refl, ap, ◌∙◌, subst, arith, get_or, set, length-set, get_or-set_same, get_or-set_other, is_some}
-use Rattle.std.specs.Prelude.{count_by, ◌==◌, slice_get, All, replicate}
+use Rattle.std.proofs.Common.{◌≡◌, ◌≢◌, ◌⊎◌, inl, inr, ℕ, zero, suc, ◌+◌, ◌<◌, ◌≤◌, ◌^◌, Bool, true, false, not, ◌&&◌, cond, eqb, List, [], ◌∷◌, ◌++◌, length, Option, Some, None, sym, refl, ap, ◌∙◌, subst, arith, get_or, set, length-set, get_or-set_same, get_or-set_other, is_some, IsTrue, map}
+use Rattle.std.specs.Prelude.{count_by, ◌==◌, slice_get, All, replicate, MatchOption, IsSomeAnd}
 use Rattle.std.specs.Option.{option_and_then, option_map_or}
 use Rattle.std.specs.List.{enumerate_from}
 use Rattle.std.proofs.lemmas.List.FromFn.{length-enumerate_from}
-use Rattle.std.proofs.lemmas.Bool.{cases_eq, cases_lt, false≢true}
+use Rattle.std.proofs.lemmas.Bool.{cases_eq, cases_lt, false≢true, eqb-true}
 use Rattle.std.proofs.lemmas.Bool.Decides.{nat_tests}
 use Rattle.std.proofs.lemmas.List.{length_push}
 use Rattle.std.proofs.lemmas.List.Sums.{count_by-le-length}
 use Rattle.std.proofs.lemmas.Option.{slice_get_past, slice_get_within, slice_get-get_or, get_or_from_slice_get}
 use Rattle.task_graph.specs.NetRows.{NetRows}
+use Rattle.task_graph.specs.Net.{IsSource, is_weak, out_edges, strong_in}
+use Rattle.task_graph.specs.declared.net.TaskRow.{TaskRow}
+use Rattle.legal_run.specs.ChoiceRule.{ChoiceRule, GivesFit, InnerFits}
 use Rattle.task_graph.specs.declared.net.EdgeRow.{EdgeRow}
 use Rattle.legal_run.specs.declared.entry.Cause.{Cause}
 use Rattle.legal_run.specs.declared.entry.Part.{Part}
 use Rattle.legal_run.specs.declared.entry.Why.{Why}
+use Rattle.legal_run.specs.declared.entry.Why.TheVariants.{OverRelease}
 use Rattle.legal_run.specs.declared.entry.DropWhy.{DropWhy}
 use Rattle.legal_run.specs.declared.entry.DropWhy.TheVariants.{Halted, Limit, Stuck}
 use Rattle.legal_run.specs.declared.entry.Entry.{Entry}
@@ -21,19 +25,23 @@ use Rattle.legal_run.specs.declared.entry.Entry.TheVariants.{Start, End, Fault, 
 use Rattle.legal_run.specs.declared.releases.Releases.{Releases}
 use Rattle.legal_run.specs.declared.units.UnitCount.{UnitCount}
 use Rattle.legal_run.specs.declared.counts.Counts.{Counts}
-use Rattle.legal_run.specs.Counts.{given, first_tokens, gives_edge, used, used_weak, used_source, uses, uses_any, is_strong, is_source, is_weak_at, starts, faults, started, start_at, is_open, closes, is_start, is_fault}
-use Rattle.legal_run.specs.SemaphoreRule.{takes, puts, gives_back, taken, back, closed_takers, starts_at}
+use Rattle.legal_run.specs.Counts.{given, first_tokens, gives_edge, used, used_weak, used_source, uses, uses_any, is_strong, is_source, is_weak_at, starts, faults, started, start_at, is_open, closes, is_start, is_fault, NoneOpen}
+use Rattle.legal_run.specs.SemaphoreRule.{takes, puts, gives_back, taken, back, closed_takers, starts_at, IsOverRelease, OverReleaseRule}
 use Rattle.legal_run.specs.HaltLimitStuckRule.{is_stuck}
-use Rattle.legal_run.specs.Complete.{is_limited}
+use Rattle.legal_run.specs.Complete.{Complete, is_limited, least}
+use Rattle.legal_run.specs.Entries.{EachAfterThese}
+use Rattle.legal_run.specs.ShapeLegal.{ShapeLegal, MayFollow}
 use Rattle.legal_run.specs.Inside.Reached.{IsReached, ClosesTask}
 use Rattle.legal_run.specs.Inside.Over.{putters}
-use Rattle.legal_run.specs.Inside.Releases.{CountsReleases, AreFew}
+use Rattle.legal_run.specs.Inside.Releases.{CountsReleases, AreFew, NoneLeft}
 use Rattle.legal_run.specs.Inside.Units.{CountsUnits, AreSmall}
 use Rattle.legal_run.specs.Inside.Counted.{CountsOpen, IsCounted, CanGrow}
 use Rattle.legal_run.proofs.Snoc.{count_by_push, is_open_push_below, start_at_push_last, slice_get_push_last}
 use Rattle.legal_run.proofs.Tallying.{count_by_push_no, and_false, and_true}
 use Rattle.legal_run.proofs.UnitLaws.{unclosed, start_below, units_drop}
 use Rattle.legal_run.proofs.ReleaseLaws.{unused_counts, fault_no_use}
+use Rattle.legal_run.proofs.Reaching.{open_stands, each_below, at_below}
+use Rattle.legal_run.proofs.Flags.{all_clear, none_set}
 
 abbrev one_if : Bool → ℕ
 one_if b = cond b 1 0
@@ -243,3 +251,114 @@ counted_empty net counts room releases units opened starts_are faults_are stuck_
     clear n zero d below = absurd (omega arith)
     clear zero (suc m) d below = refl
     clear (suc n) (suc m) d below = clear n m d (omega arith)
+
+-- a flag that isn't set counts none
+pub none_counted : (p : Entry → Bool) (h : List Entry) (flag : Bool) → flag ≡ not (count_by p h == 0) → flag ≡ false → count_by p h ≡ 0
+none_counted p h flag is clear = by_test (count_by p h == 0) refl (sym is ∙ clear)
+  where
+    by_test : (b : Bool) → eqb (count_by p h) 0 ≡ b → not b ≡ false → count_by p h ≡ 0
+    by_test true same any = eqb-true (count_by p h) 0 same
+    by_test false other any = absurd (false≢true (sym any))
+
+-- and one that is set counts some
+pub some_counted : (p : Entry → Bool) (h : List Entry) (flag : Bool) → flag ≡ not (count_by p h == 0) → flag ≡ true → count_by p h ≢ 0
+some_counted p h flag is set_it none = false≢true (ap (λ n. not (n == 0)) (sym none) ∙ sym is ∙ set_it)
+
+-- a flag that is set stands for an open Start
+pub open_is : (h : List Entry) (flags : List Bool) (p : ℕ) → CountsOpen h flags → slice_get flags p ≡ Some true → is_open h p ≡ true
+open_is h flags p counts flag = sym (counts.each p true (slice_get_within flags p true flag)) ∙ get_or_from_slice_get flags p true true flag
+
+pub open_flag : (h : List Entry) (flags : List Bool) (p : ℕ) → CountsOpen h flags → is_open h p ≡ true → slice_get flags p ≡ Some true
+open_flag h flags p counts opened =
+    let below : p < length flags = omega (arith, counts.room, open_stands h p opened) in
+    slice_get-get_or flags p true below ∙ ap (λ b. Some b) (counts.each p true below ∙ opened)
+
+-- an open Start is closed by nothing
+open_unclosed : (g : List Entry) (n : ℕ) → is_open g n ≡ true → count_by (closes n) g ≡ 0
+open_unclosed g n opened = by_parts (is_some (start_at g n)) (count_by (closes n) g == 0) refl opened
+  where
+    by_parts : (a b : Bool) → eqb (count_by (closes n) g) 0 ≡ b → a && b ≡ true → count_by (closes n) g ≡ 0
+    by_parts true true same both = eqb-true (count_by (closes n) g) 0 same
+    by_parts true false same both = absurd (false≢true both)
+    by_parts false b same both = absurd (false≢true both)
+
+-- each item of a journal meets its rule after some entries
+each_at : {X : Type 0} (Rule : List X → X → Type 0) (before xs : List X) (n : ℕ) (x : X) → EachAfterThese Rule before xs → slice_get xs n ≡ Some x → (first : List X) × Rule first x
+each_at Rule before [] n x each is = absurd (cc)
+each_at Rule before (y ∷ ys) zero x each is = (before, subst (λ z. Rule before z) (let e : y ≡ x = cc in e) each.0)
+each_at Rule before (y ∷ ys) (suc n) x each is = each_at Rule (before ++ y ∷ []) ys n x each.1 is
+
+-- a Start that stands is of a task
+pub start_in_range : (net : NetRows) (limit : ℕ) (h : List Entry) (n t : ℕ) → ShapeLegal net limit h → start_at h n ≡ Some t → t < length net.tasks
+start_in_range net limit h n t legal is = by_item (slice_get h n) refl is
+  where
+    by_entry : (x : Entry) → (first : List Entry) × MayFollow net limit first x → started x ≡ Some t → t < length net.tasks
+    by_entry (Start q cause ins) may same = let e : q ≡ t = cc in subst (λ k. k < length net.tasks) e may.1.in_range.0
+    by_entry (End start gives inner) may same = absurd (cc)
+    by_entry (Fault start why) may same = absurd (cc)
+    by_entry (Drop q cause why) may same = absurd (cc)
+
+    by_item : (o : Option Entry) → slice_get h n ≡ o → option_and_then started o ≡ Some t → t < length net.tasks
+    by_item None none same = absurd (cc)
+    by_item (Some x) some same = by_entry x (each_at (MayFollow net limit) [] h n x legal some) same
+
+-- the task of an open Start
+pub open_task_is : (net : NetRows) (limit : ℕ) (h : List Entry) (p : ℕ) (task : Option ℕ) → IsReached net limit h → is_open h p ≡ true → task ≡ start_at h p
+    → MatchOption task (¬ IsTrue (is_open h p)) (λ t. (ClosesTask h p t × IsTrue (is_open h p)) × (t < length net.tasks))
+open_task_is net limit h p None reached opened is = absurd (false≢true (ap (λ o. is_some o && (count_by (closes p) h == 0)) is ∙ opened))
+open_task_is net limit h p (Some t) reached opened is = ((record { started = sym is; unclosed = open_unclosed h p opened }, opened), start_in_range net limit h p t reached.legal (sym is))
+
+-- no Start is open where no flag is set
+pub idle_is : (h : List Entry) (flags : List Bool) → CountsOpen h flags → (count_by (λ flag. flag) flags ≡ 0 → NoneOpen h) × (NoneOpen h → count_by (λ flag. flag) flags ≡ 0)
+idle_is h flags counts = (
+  λ none. each_below (λ n. is_open h n ≡ false) (length h) (λ n below. sym (counts.each n false (omega (arith, counts.room))) ∙ all_clear flags none n false (omega (arith, counts.room))),
+  λ closed. none_set flags (λ n d below. counts.each n d below ∙ by_case closed n (cases_lt n (length h))),
+)
+  where
+    by_case : NoneOpen h → (n : ℕ) → (n < length h) ⊎ (length h ≤ n) → is_open h n ≡ false
+    by_case closed n (inl below) = at_below (λ k. is_open h k ≡ false) (length h) closed n below
+    by_case closed n (inr past) = ap (λ o. is_some (option_and_then started o) && (count_by (closes n) h == 0)) (slice_get_past h n past)
+
+-- when a run is finished
+pub complete_is : (net : NetRows) (limit : ℕ) (h : List Entry) → NoneOpen h → NoneLeft net h → (count_by is_limited h ≢ 0 → starts h ≡ limit) → Complete net limit h
+complete_is net limit h closed left limited = record {
+  none_open = closed;
+  sources = each_below (λ t. IsSource net t → used_source t h ≡ 1) (length net.tasks) (λ t below. (left.tasks t below).0);
+  weak = each_below (λ e. IsTrue (is_weak net e) → used_weak e h ≡ given net e h) (length net.edges) left.edges;
+  strong = each_below (λ t. strong_in net t ≢ [] → used t h ≡ least (map (λ e. given net e h) (strong_in net t))) (length net.tasks) (λ t below. (left.tasks t below).1);
+  limited = limited;
+}
+
+pub left_of : (net : NetRows) (limit : ℕ) (h : List Entry) → Complete net limit h → NoneLeft net h
+left_of net limit h complete = record {
+  tasks = λ t below. (
+    at_below (λ k. IsSource net k → used_source k h ≡ 1) (length net.tasks) complete.sources t below,
+    at_below (λ k. strong_in net k ≢ [] → used k h ≡ least (map (λ e. given net e h) (strong_in net k))) (length net.tasks) complete.strong t below,
+  );
+  edges = λ e below. at_below (λ k. IsTrue (is_weak net k) → used_weak k h ≡ given net k h) (length net.edges) complete.weak e below;
+}
+
+-- a Fault of a unit tells a true one
+pub over_rule : (net : NetRows) (h : List Entry) (p t s : ℕ) (why : Why) (answer : Bool) → start_at h p ≡ Some t → why ≡ OverRelease s → (IsTrue answer → IsOverRelease net h s p t) × (IsOverRelease net h s p t → IsTrue answer)
+    → (IsTrue answer → OverReleaseRule net h p why) × (OverReleaseRule net h p why → IsTrue answer)
+over_rule net h p t s why answer is why_is law =
+    subst (λ (w : Why). (IsTrue answer → OverReleaseRule net h p w) × (OverReleaseRule net h p w → IsTrue answer)) (sym why_is)
+    (subst (λ (o : Option ℕ). (IsTrue answer → IsSomeAnd o (IsOverRelease net h s p)) × (IsSomeAnd o (IsOverRelease net h s p) → IsTrue answer)) (sym is) law)
+
+-- an End fits the task of the Start that it closes
+pub choice_rule : (net : NetRows) (h : List Entry) (p t : ℕ) (gives : List ℕ) (inner : Bool) → start_at h p ≡ Some t → IsSomeAnd (slice_get net.tasks t) (λ (row : TaskRow). GivesFit row.shape (out_edges net t) gives × InnerFits row.shape inner)
+    → ChoiceRule net h (End p gives inner)
+choice_rule net h p t gives inner is fits =
+    subst (λ (o : Option ℕ). IsSomeAnd o (λ q. IsSomeAnd (slice_get net.tasks q) (λ (row : TaskRow). GivesFit row.shape (out_edges net q) gives × InnerFits row.shape inner))) (sym is) fits
+
+-- the starts reach the limit, if a release was dropped there
+pub limit_is : (h : List Entry) (limit made : ℕ) (flag : Bool) → flag ≡ not (count_by is_limited h == 0) → made ≡ starts h
+    → ((flag ≡ true → made ≡ limit) → count_by is_limited h ≢ 0 → starts h ≡ limit) × ((count_by is_limited h ≢ 0 → starts h ≡ limit) → flag ≡ true → made ≡ limit)
+limit_is h limit made flag is made_is = (
+  λ rule some. sym made_is ∙ rule (set_where flag refl some),
+  λ rule set_it. made_is ∙ rule (some_counted is_limited h flag is set_it),
+)
+  where
+    set_where : (b : Bool) → flag ≡ b → count_by is_limited h ≢ 0 → flag ≡ true
+    set_where true same some = same
+    set_where false same some = absurd (some (none_counted is_limited h flag is same))

@@ -12,3 +12,4 @@ pub mod WaitingLemmas
 pub mod CountLaws
 pub mod Refusing
 pub mod Marking
+pub mod Keeping

@@ -1,6 +1,6 @@
 -- Which break of an entry is told, and when it may follow.
-use Rattle.std.proofs.Common.{◌≡◌, ◌≢◌, ◌⊎◌, inl, inr, ℕ, suc, ◌+◌, ◌<◌, ◌≤◌, Bool, true, false, not, ◌&&◌, cond, eqb, List, [], ◌∷◌, ◌++◌, length, Option, Some, None, sym, refl, ap, ◌∙◌, subst, arith, get_or, IsTrue, is_some}
-use Rattle.std.specs.Prelude.{count_by, ◌==◌, slice_get, IsSomeAnd}
+use Rattle.std.proofs.Common.{◌≡◌, ◌≢◌, ◌⊎◌, inl, inr, ℕ, suc, ◌+◌, ◌<◌, ◌≤◌, Bool, true, false, not, ◌&&◌, cond, eqb, List, [], ◌∷◌, ◌++◌, length, Option, Some, None, sym, refl, ap, ◌∙◌, subst, arith, get_or, IsTrue, is_some, Result, Ok, Err}
+use Rattle.std.specs.Prelude.{count_by, ◌==◌, slice_get, IsSomeAnd, MatchResult}
 use Rattle.std.specs.Option.{option_map_or}
 use Rattle.std.specs.List.{AllByRecursion, range_with_len, list_any}
 use Rattle.std.proofs.lemmas.Bool.{cases_eq, cases_lt, false≢true}
@@ -24,6 +24,7 @@ use Rattle.legal_run.specs.SemaphoreRule.{takes, puts, taken, back, max_of, HasU
 use Rattle.legal_run.specs.HaltLimitStuckRule.{AfterStuckRule, DropRule, is_stuck_why}
 use Rattle.legal_run.specs.ShapeLegal.{IsInRange, CauseInRange, WhyInRange, DropWhyInRange, MayFollow}
 use Rattle.legal_run.specs.Refusal.{Breaks, rank, IsRefusal, IsLeast, WantsUnit, PutsWithNothingOut, StartsWithoutUnit, StartsAtLimit, EndsWithNothingOut, DropsWithoutCause, is_halted_why}
+use Rattle.legal_run.specs.Inside.Checks.{BreaksWhy}
 use Rattle.legal_run.specs.Inside.Reached.{IsReached, ClosesTask}
 use Rattle.legal_run.proofs.UnitLaws.{taken_push, back_push, start_below, named_in_range}
 use Rattle.legal_run.proofs.Snoc.{start_at_push_below}
@@ -371,3 +372,37 @@ breaks_nothing net limit h x NotStuck reached may = by_entry x may
     by_entry (End start gives inner) m = λ f. f
     by_entry (Fault start why) m = λ f. f
     by_entry (Drop t cause why) m = λ f. f.1 m.halt_limit_stuck.dropped
+
+-- what a Drop breaks whose numbers are right, which comes in time and whose release is unused
+pub drop_answer : (net : NetRows) (limit t : ℕ) (h : List Entry) (cause : Cause) (why : DropWhy) (answer : Result (Unit {0}) Break) → IsReached net limit h → t < length net.tasks → CauseInRange net cause → DropWhyInRange net why → AfterStuckRule h (Drop t cause why)
+    → IsReleased net h t cause → MatchResult answer (λ _. DropRule net h t why) (λ b. BreaksWhy net h t why b) → MatchResult answer (λ _. MayFollow net limit h (Drop t cause why)) (λ b. IsRefusal net limit h (Drop t cause why) b)
+drop_answer net limit t h cause why (Ok u) reached in_tasks in_edges in_sems after released rule = may_drop net limit t h cause why reached in_tasks in_edges in_sems after released rule
+drop_answer net limit t h cause why (Err b) reached in_tasks in_edges in_sems after released breaks = by_break b breaks
+  where
+    x : Entry
+    x = Drop t cause why
+
+    clear : Clear net limit h x 9
+    clear =
+        clear_over net limit h x (clear_out net limit h x (clear_choice net limit h x (clear_open net limit h x (clear_limit net limit h x (clear_units net limit h x (clear_release net limit h x (clear_stuck net limit h x (clear_range net limit h x (in_tasks, in_edges, in_sems)) after) released) (λ s f. f)) (λ f. f)) tt) tt) (λ s f. f)) tt
+
+    not_halted : IsTrue (is_stuck_why why) → ¬ DropsWithoutCause is_halted_why net h x
+    not_halted stuck f = both why stuck f.0
+      where
+        both : (w : DropWhy) → is_stuck_why w ≡ true → is_halted_why w ≡ true → ⊥
+        both Halted yes_stuck yes_halted = false≢true yes_stuck
+        both Limit yes_stuck yes_halted = false≢true yes_stuck
+        both (Stuck s) yes_stuck yes_halted = false≢true yes_halted
+
+    by_break : (c : Break) → BreaksWhy net h t why c → IsRefusal net limit h x c
+    by_break NoSuch f = absurd f
+    by_break AfterStuck f = absurd f
+    by_break NotReleased f = absurd f
+    by_break (OverUnits s) f = absurd f
+    by_break OverLimit f = absurd f
+    by_break NotOpen f = absurd f
+    by_break NotChosen f = absurd f
+    by_break (NothingOut s) f = absurd f
+    by_break NotOver f = absurd f
+    by_break NotHalted f = refused net limit h x NotHalted clear f
+    by_break NotStuck f = refused net limit h x NotStuck (clear_halted net limit h x clear (not_halted f.0)) f

@@ -8,3 +8,5 @@ pub mod Releases
 pub mod Waits
 pub mod Counted
 pub mod Marking
+pub mod Checks
+pub mod Kept

@@ -5,6 +5,7 @@
 mod choice;
 mod counts;
 mod entry;
+mod machine;
 mod machine_error;
 mod marks;
 mod open_starts;
@@ -18,6 +19,7 @@ mod verdict;
 mod waiting;
 
 pub use entry::{Cause, DropWhy, Entry, Journal, Part, Why};
+pub use machine::{MAX_LIMIT, Machine};
 pub use machine_error::MachineError;
 pub use span::Span;
 pub use verdict::{Break, Verdict};

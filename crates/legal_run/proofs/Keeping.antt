@@ -1,0 +1,142 @@
+-- A machine's parts fit together after each step.
+use Rattle.std.proofs.Common.{◌≡◌, ◌≢◌, ◌⊎◌, inl, inr, ℕ, ◌+◌, ◌<◌, ◌≤◌, ◌^◌, Bool, true, false, cond, List, [], ◌∷◌, ◌++◌, length, sym, refl, ap, ◌∙◌, subst, arith, get_or, map, Result, Ok, Err, Some, None, Option, IsTrue, is_some, ◌&&◌}
+use Rattle.std.specs.Prelude.{count_by, slice_get, ◌==◌, All, IsSomeAnd, MatchOption, MatchResult}
+use Rattle.std.specs.Option.{option_and_then}
+use Rattle.std.specs.List.{AllByRecursion}
+use Rattle.std.proofs.lemmas.Bool.{cases_lt, false≢true}
+use Rattle.std.proofs.lemmas.List.{length_push, get_or_append_left, get_or_push}
+use Rattle.std.proofs.lemmas.List.Elements.{All-from_recursion}
+use Rattle.std.proofs.lemmas.Option.{slice_get_past}
+use Rattle.std.proofs.lemmas.List.Sums.{count_by-le-length}
+use Rattle.task_graph.specs.NetRows.{NetRows}
+use Rattle.task_graph.specs.Net.{IsNet, out_edges}
+use Rattle.task_graph.specs.declared.net.Shape.{Shape}
+use Rattle.task_graph.specs.declared.net.Shape.TheVariants.{Plain, Choice, Many, Nested}
+use Rattle.task_graph.specs.declared.net.TaskRow.{TaskRow}
+use Rattle.task_graph.specs.declared.net.EdgeRow.{EdgeRow}
+use Rattle.legal_run.specs.declared.entry.Cause.{Cause}
+use Rattle.legal_run.specs.declared.entry.Part.{Part}
+use Rattle.legal_run.specs.declared.entry.Why.{Why}
+use Rattle.legal_run.specs.declared.entry.DropWhy.{DropWhy}
+use Rattle.legal_run.specs.declared.entry.Entry.{Entry}
+use Rattle.legal_run.specs.declared.entry.Entry.TheVariants.{Start, End, Fault, Drop}
+use Rattle.legal_run.specs.declared.verdict.Break.{Break}
+use Rattle.legal_run.specs.declared.counts.Counts.{Counts}
+use Rattle.legal_run.specs.declared.machine_error.MachineError.{MachineError}
+use Rattle.legal_run.specs.declared.machine_error.MachineError.TheVariants.{NoMemory}
+use Rattle.legal_run.specs.Counts.{started, start_at, is_open, closes}
+use Rattle.legal_run.specs.ChoiceRule.{ChoiceRule, GivesFit, InnerFits, AreAmong}
+use Rattle.legal_run.specs.DataRule.{DataRule, edges_of}
+use Rattle.legal_run.specs.ShapeLegal.{ShapeLegal, MayFollow, MeetsDataRule}
+use Rattle.legal_run.specs.Waiting.{waiting_parts}
+use Rattle.legal_run.specs.MachineState.{MachineState}
+use Rattle.legal_run.specs.Machine.{Refuses, break_of}
+use Rattle.legal_run.specs.Refusal.{IsRefusal}
+use Rattle.legal_run.specs.Inside.Reached.{IsReached}
+use Rattle.legal_run.specs.Inside.Releases.{CountsReleases}
+use Rattle.legal_run.specs.Inside.Units.{CountsUnits}
+use Rattle.legal_run.specs.Inside.Waits.{Waits, TellsWaiting}
+use Rattle.legal_run.specs.Inside.Counted.{CountsOpen, IsCounted, CanGrow, IsPosition}
+use Rattle.legal_run.specs.Inside.Kept.{IsLed, IsKept}
+use Rattle.legal_run.proofs.Snoc.{EachAfter-push}
+use Rattle.legal_run.proofs.NetLemmas.{counted_once, at_place}
+use Rattle.legal_run.proofs.Marking.{distinct_once}
+use Rattle.legal_run.proofs.Reaching.{reached_push, reached_empty, released_held}
+use Rattle.legal_run.proofs.CountLaws.{can_grow}
+use Rattle.legal_run.proofs.WaitingLemmas.{waits_start, waits_drop, waits_end, waits_fault, waits_empty, parts_allowed, tells_fault}
+
+-- at first
+pub led_empty : (net : NetRows) (limit : ℕ) → IsNet net → IsLed net limit []
+led_empty net limit rows = record { reached = reached_empty net limit rows; meets_data = tt; waits = waits_empty net }
+
+-- after each entry
+pub led_start : (net : NetRows) (limit t : ℕ) (h : List Entry) (cause : Cause) → IsLed net limit h → MayFollow net limit h (Start t cause (waiting_parts net t cause h)) → IsLed net limit (h ++ Start t cause (waiting_parts net t cause h) ∷ [])
+led_start net limit t h cause led may = record {
+  reached = reached_push net limit h _ led.reached may;
+  meets_data = EachAfter-push (DataRule net) h _ led.meets_data (parts_allowed net h (edges_of net t cause) (released_held net h t cause may.release) led.waits);
+  waits = waits_start net h t cause may.release led.waits;
+}
+
+pub led_end : (net : NetRows) (limit p : ℕ) (h : List Entry) (gives : List ℕ) (inner : Bool) → IsLed net limit h → MayFollow net limit h (End p gives inner) → IsLed net limit (h ++ End p gives inner ∷ [])
+led_end net limit p h gives inner led may = record {
+  reached = reached_push net limit h _ led.reached may;
+  meets_data = EachAfter-push (DataRule net) h _ led.meets_data tt;
+  waits = waits_end net h p gives inner led.waits;
+}
+
+pub led_fault : (net : NetRows) (limit p : ℕ) (h : List Entry) (why : Why) → IsLed net limit h → MayFollow net limit h (Fault p why) → IsLed net limit (h ++ Fault p why ∷ [])
+led_fault net limit p h why led may = record {
+  reached = reached_push net limit h _ led.reached may;
+  meets_data = EachAfter-push (DataRule net) h _ led.meets_data tt;
+  waits = waits_fault net h p why led.waits;
+}
+
+pub led_drop : (net : NetRows) (limit t : ℕ) (h : List Entry) (cause : Cause) (why : DropWhy) → IsLed net limit h → MayFollow net limit h (Drop t cause why) → IsLed net limit (h ++ Drop t cause why ∷ [])
+led_drop net limit t h cause why led may = record {
+  reached = reached_push net limit h _ led.reached may;
+  meets_data = EachAfter-push (DataRule net) h _ led.meets_data tt;
+  waits = waits_drop net h t cause why may.release led.waits;
+}
+
+-- one place more for entries to come
+pub open_room : (h : List Entry) (flags : List Bool) → CountsOpen h flags → CountsOpen h (flags ++ false ∷ [])
+open_room h flags counts = record { room = omega (arith, counts.room, length_push flags false); each = λ n d below. by_case n d (cases_lt n (length flags)) below }
+  where
+    by_case : (n : ℕ) (d : Bool) → (n < length flags) ⊎ (length flags ≤ n) → n < length (flags ++ false ∷ []) → get_or (flags ++ false ∷ []) n d ≡ is_open h n
+    by_case n d (inl before) below = get_or_append_left flags (false ∷ []) d n before ∙ counts.each n d before
+    by_case n d (inr after) below =
+        let gone : slice_get h n ≡ None = slice_get_past h n (omega (arith, counts.room)) in
+        get_or_push flags false d n (omega (arith, length_push flags false)) ∙ sym (ap (λ o. is_some_start o && (count_by (closes n) h == 0)) gone)
+      where
+        is_some_start : Option Entry → Bool
+        is_some_start o = is_some (option_and_then started o)
+
+-- the counts with other room
+pub counted_room : (net : NetRows) (h : List Entry) (counts new : Counts) → IsCounted net h counts → CountsOpen h new.open_starts → new.releases ≡ counts.releases → new.units ≡ counts.units → new.starts ≡ counts.starts → new.faults ≡ counts.faults
+    → new.is_stuck ≡ counts.is_stuck → new.is_limited ≡ counts.is_limited → IsCounted net h new
+counted_room net h counts new c opened releases units starts faults stuck limited = record {
+  releases = subst (λ r. CountsReleases net h r) (sym releases) c.releases;
+  units = subst (λ u. CountsUnits net h u.counts.items) (sym units) c.units;
+  opened = opened;
+  starts = starts ∙ c.starts;
+  faults = faults ∙ c.faults;
+  stuck = stuck ∙ c.stuck;
+  limited = limited ∙ c.limited;
+}
+
+-- what an End gives, it gives once
+pub gives_once : (net : NetRows) (h : List Entry) (p : ℕ) (gives : List ℕ) (inner : Bool) → ChoiceRule net h (End p gives inner) → (e : ℕ) → count_by (λ g. g == e) gives ≤ 1
+gives_once net h p gives inner rule e = by_task (start_at h p) rule
+  where
+    all_or_none : (t : ℕ) → (gives ≡ out_edges net t) ⊎ (gives ≡ []) → count_by (λ g. g == e) gives ≤ 1
+    all_or_none t (inl all) = rw all (counted_once (λ (row : EdgeRow). row.from == t) net.edges e)
+    all_or_none t (inr none) = rw none (omega arith)
+
+    by_shape : (t : ℕ) (shape : Shape) → GivesFit shape (out_edges net t) gives → count_by (λ g. g == e) gives ≤ 1
+    by_shape t Plain fits = all_or_none t fits
+    by_shape t Nested fits = all_or_none t fits
+    by_shape t Choice fits = omega (arith, fits.0, count_by-le-length (λ g. g == e) gives)
+    by_shape t Many fits = distinct_once gives fits.0 e
+
+    by_row : (t : ℕ) (row : Option TaskRow) → IsSomeAnd row (λ (r : TaskRow). GivesFit r.shape (out_edges net t) gives × InnerFits r.shape inner) → count_by (λ g. g == e) gives ≤ 1
+    by_row t None fits = absurd fits
+    by_row t (Some row) fits = by_shape t row.shape fits.0
+
+    by_task : (t : Option ℕ) → IsSomeAnd t (λ q. IsSomeAnd (slice_get net.tasks q) (λ (r : TaskRow). GivesFit r.shape (out_edges net q) gives × InnerFits r.shape inner)) → count_by (λ g. g == e) gives ≤ 1
+    by_task None fits = absurd fits
+    by_task (Some t) fits = by_row t (slice_get net.tasks t) fits
+
+-- an error that stands for a break is refused for it
+pub refused_error : (m : MachineState) (x : Entry) (b : Break) (error : MachineError) → IsRefusal m.net m.limit m.journal x b → break_of error ≡ Some b → Refuses m x error
+refused_error m x b error refusal is = subst (λ (o : Option Break). MatchOption o (MayFollow m.net m.limit m.journal x) (IsRefusal m.net m.limit m.journal x)) (sym is) refusal
+
+-- the value of a machine at a journal
+abbrev pub state : NetRows → ℕ → List Entry → MachineState
+state net limit journal = record { net = net; limit = limit; journal = journal }
+
+pub same_state : (net : NetRows) (limit : ℕ) (j k : List Entry) → j ≡ k → state net limit j ≡ state net limit k
+same_state net limit j k same = ap (λ (i : List Entry). state net limit i) same
+
+-- a machine's position
+pub position_of : (net : NetRows) (limit : ℕ) (h : List Entry) (counts : Counts) (parts : List Part) (marks : ℕ) → IsKept net limit h counts parts marks → length h < 2 ^ 61 → IsPosition net limit h counts
+position_of net limit h counts parts marks kept size = record { reached = kept.led.reached; counted = kept.counted; grow = can_grow net h counts kept.counted size }
