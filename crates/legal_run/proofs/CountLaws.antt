@@ -59,7 +59,7 @@ is_open_push_other h x n other = by_case (cases_lt n (length h))
         ∙ sym (ap (λ o. (is_some (option_and_then started o) && (count_by (closes n) h == 0)) && not (closes n x)) gone_before)
 
 -- and at the entry itself
-is_open_push_last : (net : NetRows) (limit : ℕ) (h : List Entry) (x : Entry) → IsReached net limit h → closes (length h) x ≡ false → is_open (h ++ x ∷ []) (length h) ≡ is_start x
+pub is_open_push_last : (net : NetRows) (limit : ℕ) (h : List Entry) (x : Entry) → IsReached net limit h → closes (length h) x ≡ false → is_open (h ++ x ∷ []) (length h) ≡ is_start x
 is_open_push_last net limit h x reached not_itself =
     let none : count_by (closes (length h)) (h ++ x ∷ []) ≡ 0 = count_by_push_no (closes (length h)) h x not_itself ∙ unclosed net limit (length h) h reached (omega arith) in
     ap (λ o. is_some o && (count_by (closes (length h)) (h ++ x ∷ []) == 0)) (start_at_push_last h x) ∙ ap (λ k. is_some (started x) && (k == 0)) none ∙ and_true (is_start x)
@@ -362,3 +362,9 @@ limit_is h limit made flag is made_is = (
     set_where : (b : Bool) → flag ≡ b → count_by is_limited h ≢ 0 → flag ≡ true
     set_where true same some = same
     set_where false same some = absurd (some (none_counted is_limited h flag is same))
+
+-- the place of an entry to come has no open Start
+pub next_closed : (h : List Entry) (flags : List Bool) (place : ℕ) → CountsOpen h flags → length h < length flags → place ≡ length h → slice_get flags place ≡ Some false
+next_closed h flags place counts room here =
+    let past : is_open h place ≡ false = ap (λ o. is_some (option_and_then started o) && (count_by (closes place) h == 0)) (slice_get_past h place (omega arith)) in
+    slice_get-get_or flags place false (omega arith) ∙ ap (λ b. Some b) (counts.each place false (omega arith) ∙ past)

@@ -1,15 +1,13 @@
 // The machine of one thread: it keeps a legal journal, and refuses each entry that would break it.
-ghost use Rattle.std.specs.Prelude.{◌≡◌, ◌↔◌, ◌≤◌, ◌<◌, ◌++◌, ◌∷◌, ◌-◌, [], ℕ, List, length, map, IsTrue, IfOk, IfErr, OnOk, OnErr, MatchResult, ◌^◌};
+ghost use Rattle.std.specs.Prelude.{◌≡◌, ◌↔◌, ◌≤◌, ◌<◌, ◌++◌, ◌∷◌, ◌-◌, [], ℕ, List, length, map, IsTrue, IfOk, IfErr, OnOk, OnErr, ◌^◌};
 ghost use Rattle.std.specs.Arc.{arc_value};
 ghost use Rattle.task_graph.specs.Net.{strong_in};
 ghost use Rattle.legal_run.specs.declared.entry.Entry.TheVariants.{End, Fault, Drop};
 ghost use Rattle.legal_run.specs.Counts.{given, used, is_open};
-ghost use Rattle.legal_run.specs.ShapeLegal.{ShapeLegal, MayFollow, MeetsDataRule, CauseInRange};
+ghost use Rattle.legal_run.specs.ShapeLegal.{ShapeLegal, MeetsDataRule, CauseInRange};
 ghost use Rattle.legal_run.specs.Complete.{Complete, least};
 ghost use Rattle.legal_run.specs.Waiting.{waiting_parts};
 ghost use Rattle.legal_run.specs.Machine.{Starts, Ends, Faults, Drops, Refuses, start_entry};
-ghost use Rattle.legal_run.specs.Refusal.{IsRefusal};
-ghost use Rattle.legal_run.specs.Inside.Reached.{ClosesTask};
 ghost use Rattle.legal_run.specs.Inside.Counted.{CountsOpen};
 
 use super::counts::Counts;
@@ -18,7 +16,6 @@ use super::machine_error::MachineError;
 use super::marks::Marks;
 use super::open_starts::OpenStarts;
 use super::position::Position;
-use super::verdict::Break;
 use super::waiting::Waiting;
 use outside_io::{List, NoMemory};
 use std::alloc::Global;
@@ -126,7 +123,9 @@ impl Machine {
         ensures refused { IfErr result (Refuses self.old (End start gives.now inner)) }
         ensures err { OnErr result (self.new ≡ self.old) }
     {
-        let task = match self.check_end(start, gives, inner) {
+        let journal = self.journal.as_slice();
+        let position = Position::new(&self.net, self.limit, journal, &self.counts);
+        let task = match position.check_end(&mut self.marks, start, gives, inner) {
             Ok(task) => task,
             Err(broken) => return Err(broken.into()),
         };
@@ -207,18 +206,6 @@ impl Machine {
         ensures { result ≡ least (map (λ e. given self.now.net e self.now.journal) (strong_in self.now.net task)) - used task self.now.journal }
     {
         self.position().rounds(task)
-    }
-
-    // Which rule an End breaks, if any; else the task of the start that it closes.
-    fn check_end(&mut self, start: u64, gives: &[u32], inner: bool) -> Result<u32, Break>
-        ensures checked { MatchResult result (λ task. MayFollow self.old.net self.old.limit self.old.journal (End start gives.now inner) × ClosesTask self.old.journal start task)
-            (λ break. IsRefusal self.old.net self.old.limit self.old.journal (End start gives.now inner) break) }
-        ensures task { IfOk result (λ task. task < length self.old.net.tasks) }
-        ensures same { self.new ≡ self.old }
-    {
-        let journal = self.journal.as_slice();
-        let position = Position::new(&self.net, self.limit, journal, &self.counts);
-        position.check_end(&mut self.marks, start, gives, inner)
     }
 
     // The position after the journal.
