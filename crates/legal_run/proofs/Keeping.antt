@@ -1,12 +1,12 @@
 -- A machine's parts fit together after each step.
-use Rattle.std.proofs.Common.{◌≡◌, ◌≢◌, ◌⊎◌, inl, inr, ℕ, ◌+◌, ◌*◌, ◌<◌, ◌≤◌, ◌^◌, Bool, true, false, cond, List, [], ◌∷◌, ◌++◌, length, sym, refl, ap, ◌∙◌, subst, arith, get_or, map, Result, Ok, Err, Some, None, Option, IsTrue, is_some, ◌&&◌}
+use Rattle.std.proofs.Common.{◌≡◌, ◌≢◌, ◌⊎◌, inl, inr, ℕ, ◌+◌, ◌*◌, ◌<◌, ◌≤◌, ◌^◌, Bool, true, false, cond, List, [], ◌∷◌, ◌++◌, length, take, sym, refl, ap, ◌∙◌, subst, arith, get_or, map, Result, Ok, Err, Some, None, Option, IsTrue, is_some, ◌&&◌}
 use Rattle.std.specs.Prelude.{count_by, slice_get, ◌==◌, All, IsSomeAnd, MatchOption, MatchResult}
 use Rattle.std.specs.Option.{option_and_then}
 use Rattle.std.specs.List.{AllByRecursion}
 use Rattle.std.proofs.lemmas.Bool.{cases_lt, false≢true}
-use Rattle.std.proofs.lemmas.List.{length_push, get_or_append_left, get_or_push}
+use Rattle.std.proofs.lemmas.List.{length_push, get_or_append_left, get_or_push, take_more}
 use Rattle.std.proofs.lemmas.List.Elements.{All-from_recursion}
-use Rattle.std.proofs.lemmas.Option.{slice_get_past}
+use Rattle.std.proofs.lemmas.Option.{slice_get_past, get_or_from_slice_get}
 use Rattle.std.proofs.lemmas.List.Sums.{count_by-le-length}
 use Rattle.task_graph.specs.NetRows.{NetRows}
 use Rattle.task_graph.specs.Net.{IsNet, out_edges}
@@ -37,6 +37,8 @@ use Rattle.legal_run.specs.Inside.Releases.{CountsReleases, IsUseOf}
 use Rattle.legal_run.specs.Inside.Units.{CountsUnits}
 use Rattle.legal_run.specs.Inside.Waits.{Waits, TellsWaiting}
 use Rattle.legal_run.specs.Inside.Counted.{CountsOpen, IsCounted, CanGrow, IsPosition}
+use Rattle.legal_run.specs.declared.walk.Walk.{Walk}
+use Rattle.legal_run.specs.Inside.Walks.{IsAt}
 use Rattle.legal_run.specs.Inside.Kept.{IsLed, IsKept}
 use Rattle.legal_run.proofs.Snoc.{EachAfter-push}
 use Rattle.legal_run.proofs.NetLemmas.{counted_once, at_place}
@@ -194,6 +196,19 @@ has_dropped net limit t h h' cause why parts parts' counts counts' counts'' mark
 pub opened_last : (net : NetRows) (limit t : ℕ) (h : List Entry) (cause : Cause) (ins : List Part) → IsReached net limit h → is_open (h ++ Start t cause ins ∷ []) (length h) ≡ true
 opened_last net limit t h cause ins reached = is_open_push_last net limit h (Start t cause ins) reached refl
 
+-- the position of a walk
+pub walk_position : (net : NetRows) (limit : ℕ) (h : List Entry) (counts : Counts) → IsReached net limit h → IsCounted net h counts → length h < 2 ^ 61 → IsPosition net limit h counts
+walk_position net limit h counts reached counted size = record { reached = reached; counted = counted; grow = can_grow net h counts counted size }
+
 -- what memory can hold
 pub small_journal : (h : List Entry) → (length h < 18446744073709551616) × (length h * 48 < 9223372036854775808) → length h < 2 ^ 61
 small_journal h size = omega (arith, size.1)
+
+-- a walk that has gone past one entry more
+pub walked : (net : NetRows) (limit place : ℕ) (entries : List Entry) (walk : Walk) → place < length entries → IsSomeAnd (slice_get entries place) (λ x. IsAt net limit (take place entries ++ x ∷ []) walk) → IsAt net limit (take (place + 1) entries) walk
+walked net limit place entries walk below past = by_item (slice_get entries place) refl past
+  where
+    by_item : (o : Option Entry) → slice_get entries place ≡ o → IsSomeAnd o (λ x. IsAt net limit (take place entries ++ x ∷ []) walk) → IsAt net limit (take (place + 1) entries) walk
+    by_item None none at = absurd at
+    by_item (Some x) some at =
+        subst (λ xs. IsAt net limit xs walk) (sym (take_more entries place x below ∙ ap (λ (y : Entry). take place entries ++ y ∷ []) (get_or_from_slice_get entries place x x some))) at

@@ -10,3 +10,4 @@ pub mod Counted
 pub mod Marking
 pub mod Checks
 pub mod Kept
+pub mod Walks

@@ -5,6 +5,7 @@
 mod choice;
 mod counts;
 mod entry;
+
 mod machine;
 mod machine_error;
 mod marks;
@@ -17,8 +18,10 @@ mod span;
 mod units;
 mod verdict;
 mod waiting;
+mod walk;
 
 pub use entry::{Cause, DropWhy, Entry, Journal, Part, Why};
+pub use walk::judge;
 pub use machine::{MAX_LIMIT, Machine};
 pub use machine_error::MachineError;
 pub use span::Span;
