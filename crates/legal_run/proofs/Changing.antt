@@ -14,7 +14,7 @@ use Rattle.std.proofs.lemmas.List.Sums.{sum_by-cons, sum_by-append}
 use Rattle.std.proofs.lemmas.List.Folds.{list_any-append}
 use Rattle.std.proofs.lemmas.List.Kept.{AllPairs-from_increasing}
 use Rattle.legal_run.specs.declared.units.UnitCount.{UnitCount}
-use Rattle.legal_run.specs.Inside.Units.{Changed}
+use Rattle.legal_run.specs.inside.Units.{Changed}
 
 abbrev one_if : Bool → ℕ
 one_if b = cond b 1 0

@@ -31,11 +31,11 @@ use Rattle.legal_run.specs.HaltLimitStuckRule.{is_stuck}
 use Rattle.legal_run.specs.Complete.{Complete, is_limited, least}
 use Rattle.legal_run.specs.Entries.{EachAfterThese}
 use Rattle.legal_run.specs.ShapeLegal.{ShapeLegal, MayFollow}
-use Rattle.legal_run.specs.Inside.Reached.{IsReached, ClosesTask}
-use Rattle.legal_run.specs.Inside.Over.{putters}
-use Rattle.legal_run.specs.Inside.Releases.{CountsReleases, AreFew, NoneLeft}
-use Rattle.legal_run.specs.Inside.Units.{CountsUnits, AreSmall}
-use Rattle.legal_run.specs.Inside.Counted.{CountsOpen, IsCounted, CanGrow}
+use Rattle.legal_run.specs.inside.Reached.{IsReached, ClosesTask}
+use Rattle.legal_run.specs.inside.Over.{putters}
+use Rattle.legal_run.specs.inside.Releases.{CountsReleases, AreFew, NoneLeft}
+use Rattle.legal_run.specs.inside.Units.{CountsUnits, AreSmall}
+use Rattle.legal_run.specs.inside.Counted.{CountsOpen, IsCounted, CanGrow}
 use Rattle.legal_run.proofs.Snoc.{count_by_push, is_open_push_below, start_at_push_last, slice_get_push_last}
 use Rattle.legal_run.proofs.Tallying.{count_by_push_no, and_false, and_true}
 use Rattle.legal_run.proofs.UnitLaws.{unclosed, start_below, units_drop}

@@ -32,14 +32,14 @@ use Rattle.legal_run.specs.Waiting.{waiting_parts}
 use Rattle.legal_run.specs.MachineState.{MachineState}
 use Rattle.legal_run.specs.Machine.{Refuses, break_of}
 use Rattle.legal_run.specs.Refusal.{IsRefusal}
-use Rattle.legal_run.specs.Inside.Reached.{IsReached, ClosesTask}
-use Rattle.legal_run.specs.Inside.Releases.{CountsReleases, IsUseOf}
-use Rattle.legal_run.specs.Inside.Units.{CountsUnits}
-use Rattle.legal_run.specs.Inside.Waits.{Waits, TellsWaiting}
-use Rattle.legal_run.specs.Inside.Counted.{CountsOpen, IsCounted, CanGrow, IsPosition}
+use Rattle.legal_run.specs.inside.Reached.{IsReached, ClosesTask}
+use Rattle.legal_run.specs.inside.Releases.{CountsReleases, IsUseOf}
+use Rattle.legal_run.specs.inside.Units.{CountsUnits}
+use Rattle.legal_run.specs.inside.Waits.{Waits, TellsWaiting}
+use Rattle.legal_run.specs.inside.Counted.{CountsOpen, IsCounted, CanGrow, IsPosition}
 use Rattle.legal_run.specs.declared.walk.Walk.{Walk}
-use Rattle.legal_run.specs.Inside.Walks.{IsAt}
-use Rattle.legal_run.specs.Inside.Kept.{IsLed, IsKept}
+use Rattle.legal_run.specs.inside.Walks.{IsAt}
+use Rattle.legal_run.specs.inside.Kept.{IsLed, IsKept}
 use Rattle.legal_run.proofs.Snoc.{EachAfter-push}
 use Rattle.legal_run.proofs.NetLemmas.{counted_once, at_place}
 use Rattle.legal_run.proofs.Marking.{distinct_once}

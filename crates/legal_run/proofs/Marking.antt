@@ -13,7 +13,7 @@ use Rattle.task_graph.specs.NetRows.{NetRows}
 use Rattle.task_graph.specs.Net.{out_edges}
 use Rattle.task_graph.specs.declared.net.EdgeRow.{EdgeRow}
 use Rattle.legal_run.specs.ChoiceRule.{AreAmong}
-use Rattle.legal_run.specs.Inside.Marking.{AreClear, Marked}
+use Rattle.legal_run.specs.inside.Marking.{AreClear, Marked}
 use Rattle.legal_run.proofs.NetLemmas.{any_place}
 
 abbrev one_if : Bool → ℕ

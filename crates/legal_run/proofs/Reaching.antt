@@ -22,8 +22,8 @@ use Rattle.legal_run.specs.Calm.{used_at}
 use Rattle.legal_run.specs.DataRule.{edges_of}
 use Rattle.legal_run.specs.SemaphoreRule.{IsWithin}
 use Rattle.legal_run.specs.ShapeLegal.{ShapeLegal, MayFollow}
-use Rattle.legal_run.specs.Inside.Reached.{ClosesBelow, IsReached}
-use Rattle.legal_run.specs.Inside.Releases.{IsUseOf, IsNoUse}
+use Rattle.legal_run.specs.inside.Reached.{ClosesBelow, IsReached}
+use Rattle.legal_run.specs.inside.Releases.{IsUseOf, IsNoUse}
 use Rattle.legal_run.proofs.Snoc.{count_by_push, EachAfter-push}
 use Rattle.legal_run.proofs.Tallying.{given_push, count_by_push_no, and_false, and_true}
 use Rattle.legal_run.proofs.NetLemmas.{any_place}

@@ -24,8 +24,8 @@ use Rattle.legal_run.specs.SemaphoreRule.{takes, puts, taken, back, max_of, HasU
 use Rattle.legal_run.specs.HaltLimitStuckRule.{AfterStuckRule, DropRule, is_stuck_why}
 use Rattle.legal_run.specs.ShapeLegal.{IsInRange, CauseInRange, WhyInRange, DropWhyInRange, MayFollow}
 use Rattle.legal_run.specs.Refusal.{Breaks, rank, IsRefusal, IsLeast, WantsUnit, PutsWithNothingOut, StartsWithoutUnit, StartsAtLimit, EndsWithNothingOut, DropsWithoutCause, is_halted_why}
-use Rattle.legal_run.specs.Inside.Checks.{BreaksWhy}
-use Rattle.legal_run.specs.Inside.Reached.{IsReached, ClosesTask}
+use Rattle.legal_run.specs.inside.Checks.{BreaksWhy}
+use Rattle.legal_run.specs.inside.Reached.{IsReached, ClosesTask}
 use Rattle.legal_run.proofs.UnitLaws.{taken_push, back_push, start_below, named_in_range}
 use Rattle.legal_run.proofs.Snoc.{start_at_push_below}
 use Rattle.legal_run.proofs.Reaching.{each_below, at_below}

@@ -20,9 +20,9 @@ use Rattle.legal_run.specs.declared.releases.Releases.{Releases}
 use Rattle.legal_run.specs.Counts.{given, gives_edge, used, used_weak, used_source, uses, uses_any, is_strong, is_source, is_weak_at}
 use Rattle.legal_run.specs.ReleaseRule.{IsReleased}
 use Rattle.legal_run.specs.Complete.{least}
-use Rattle.legal_run.specs.Inside.Tells.{Tells}
-use Rattle.legal_run.specs.Inside.Rounds.{AreRounds}
-use Rattle.legal_run.specs.Inside.Releases.{CountsReleases, IsUseOf, IsNoUse, NoneLeft, AreUsedUp, no_round}
+use Rattle.legal_run.specs.inside.Tells.{Tells}
+use Rattle.legal_run.specs.inside.Rounds.{AreRounds}
+use Rattle.legal_run.specs.inside.Releases.{CountsReleases, IsUseOf, IsNoUse, NoneLeft, AreUsedUp, no_round}
 use Rattle.legal_run.proofs.Snoc.{count_by_push}
 use Rattle.legal_run.proofs.Tallying.{tells_same, tells_one_more, given_push, count_by_push_no, count_once, strong_in_tallied, and_false, and_true}
 use Rattle.legal_run.proofs.NetLemmas.{map_agree}

@@ -14,7 +14,7 @@ use Rattle.task_graph.specs.declared.net.EdgeRow.{EdgeRow}
 use Rattle.legal_run.specs.declared.rounds.Round.{Round}
 use Rattle.legal_run.specs.declared.rounds.Rounds.{Rounds}
 use Rattle.legal_run.specs.Complete.{least}
-use Rattle.legal_run.specs.Inside.Rounds.{IsRound, GivenOnce, AreRounds}
+use Rattle.legal_run.specs.inside.Rounds.{IsRound, GivenOnce, AreRounds}
 use Rattle.legal_run.proofs.NetLemmas.{any_place, at_place, counted_once}
 use Rattle.legal_run.proofs.Tallying.{count_once, and_false}
 

@@ -11,7 +11,7 @@ use Rattle.task_graph.specs.NetRows.{NetRows}
 use Rattle.legal_run.specs.declared.entry.Entry.{Entry}
 use Rattle.legal_run.specs.Counts.{started, start_at, closes}
 use Rattle.legal_run.specs.SemaphoreRule.{takes, puts, starts_at, closed_takers, other_putters, IsOverRelease}
-use Rattle.legal_run.specs.Inside.Over.{putters, IsOver, WasOver}
+use Rattle.legal_run.specs.inside.Over.{putters, IsOver, WasOver}
 use Rattle.legal_run.proofs.Snoc.{count_by_push, start_at_push_below}
 
 -- whether the Start that an entry is passes, at a place

@@ -10,7 +10,7 @@ use Rattle.task_graph.specs.NetRows.{NetRows}
 use Rattle.task_graph.specs.Net.{strong_in, is_weak_row}
 use Rattle.legal_run.specs.declared.entry.Entry.{Entry}
 use Rattle.legal_run.specs.Counts.{given, gives_edge}
-use Rattle.legal_run.specs.Inside.Tells.{Tells}
+use Rattle.legal_run.specs.inside.Tells.{Tells}
 use Rattle.legal_run.proofs.Snoc.{count_by_push}
 use Rattle.legal_run.proofs.NetLemmas.{places_below}
 

@@ -24,9 +24,9 @@ use Rattle.legal_run.specs.declared.units.UnitCount.{UnitCount}
 use Rattle.legal_run.specs.Counts.{started, start_at, closes}
 use Rattle.legal_run.specs.SemaphoreRule.{takes, puts, taken, back, gives_back, closed_takers, HasUnit, IsOverRelease}
 use Rattle.legal_run.specs.Refusal.{IsLeast, WantsUnit, PutsWithNothingOut}
-use Rattle.legal_run.specs.Inside.Reached.{ClosesBelow, ClosesTask, IsReached, IsRowOf}
-use Rattle.legal_run.specs.Inside.Over.{putters, IsOver, WasOver}
-use Rattle.legal_run.specs.Inside.Units.{CountsUnit, CountsUnits, IsFirstWithout, HasUnitLeft, IsOut, no_units, Changed, always, is_other, with_taken, with_putter, with_back, with_closed}
+use Rattle.legal_run.specs.inside.Reached.{ClosesBelow, ClosesTask, IsReached, IsRowOf}
+use Rattle.legal_run.specs.inside.Over.{putters, IsOver, WasOver}
+use Rattle.legal_run.specs.inside.Units.{CountsUnit, CountsUnits, IsFirstWithout, HasUnitLeft, IsOut, no_units, Changed, always, is_other, with_taken, with_putter, with_back, with_closed}
 use Rattle.legal_run.proofs.Snoc.{count_by_push, start_at_push_below}
 use Rattle.legal_run.proofs.Tallying.{count_by_push_no}
 use Rattle.legal_run.proofs.StartsAt.{putters_push, closed_takers_open, closed_takers_closed, was_over_still, was_over_before, over_release_is}

@@ -26,8 +26,8 @@ use Rattle.legal_run.specs.ReleaseRule.{IsReleased}
 use Rattle.legal_run.specs.Calm.{IsCalm, used_at}
 use Rattle.legal_run.specs.DataRule.{edges_of, MayFind, IsPartAt, has_part, is_from, is_first, last_part}
 use Rattle.legal_run.specs.Waiting.{waiting, uses_edge, waiting_parts, first_waiting}
-use Rattle.legal_run.specs.Inside.Waits.{Waits, TellsWaiting}
-use Rattle.legal_run.specs.Inside.Releases.{IsUseOf, IsNoUse}
+use Rattle.legal_run.specs.inside.Waits.{Waits, TellsWaiting}
+use Rattle.legal_run.specs.inside.Releases.{IsUseOf, IsNoUse}
 use Rattle.legal_run.proofs.Snoc.{count_by_push, waiting_push, last_part_push, slice_get_push, slice_get_push_last}
 use Rattle.legal_run.proofs.Tallying.{given_push, count_by_push_no, and_false, tells_same}
 use Rattle.legal_run.proofs.ReleaseLaws.{start_use, drop_use, end_no_use, fault_no_use}

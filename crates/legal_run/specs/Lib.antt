@@ -10,7 +10,7 @@ pub mod HaltLimitStuckRule
 pub mod ShapeLegal
 pub mod Complete
 pub mod Waiting
-pub mod Inside
+pub mod inside
 pub mod MachineState
 pub mod Machine
 pub mod Refusal

@@ -5,8 +5,8 @@ ghost use Rattle.legal_run.specs.declared.entry.Entry.TheVariants.{Start, End, F
 ghost use Rattle.legal_run.specs.declared.entry.Part.{Part};
 ghost use Rattle.legal_run.specs.declared.entry.Why.{Why};
 ghost use Rattle.legal_run.specs.ShapeLegal.{CauseInRange};
-ghost use Rattle.legal_run.specs.Inside.Reached.{IsReached, ClosesTask};
-ghost use Rattle.legal_run.specs.Inside.Counted.{IsCounted, CanGrow};
+ghost use Rattle.legal_run.specs.inside.Reached.{IsReached, ClosesTask};
+ghost use Rattle.legal_run.specs.inside.Counted.{IsCounted, CanGrow};
 
 use super::entry::{Cause, DropWhy, Why};
 use super::open_starts::OpenStarts;

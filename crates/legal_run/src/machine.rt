@@ -8,7 +8,7 @@ ghost use Rattle.legal_run.specs.ShapeLegal.{ShapeLegal, MeetsDataRule, CauseInR
 ghost use Rattle.legal_run.specs.Complete.{Complete, least};
 ghost use Rattle.legal_run.specs.Waiting.{waiting_parts};
 ghost use Rattle.legal_run.specs.Machine.{Starts, Ends, Faults, Drops, Refuses, start_entry};
-ghost use Rattle.legal_run.specs.Inside.Counted.{CountsOpen};
+ghost use Rattle.legal_run.specs.inside.Counted.{CountsOpen};
 
 use super::counts::Counts;
 use super::entry::{Cause, DropWhy, Entry, Journal, Part, Why};
@@ -45,7 +45,7 @@ pub struct Machine {
 impl Model for Machine {
     ghost use Rattle.std.specs.Arc.{arc_value};
     ghost use Rattle.legal_run.specs.MachineState.{MachineState};
-    ghost use Rattle.legal_run.specs.Inside.Kept.{IsKept};
+    ghost use Rattle.legal_run.specs.inside.Kept.{IsKept};
 
     ghost Value = { MachineState };
 

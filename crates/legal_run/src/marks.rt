@@ -1,7 +1,7 @@
 // Whether the numbers of a list differ.
 ghost use Rattle.std.specs.Prelude.{◌≡◌, ◌↔◌, ◌==◌, ◌<◌, Bool, true, false, ℕ, length, IsTrue, IfOk, All, slice_index_or, if◌then◌else◌};
 ghost use Rattle.std.specs.List.{IsDistinct, list_any};
-ghost use Rattle.legal_run.specs.Inside.Marking.{AreClear};
+ghost use Rattle.legal_run.specs.inside.Marking.{AreClear};
 
 use outside_io::NoMemory;
 use std::alloc::Global;
@@ -16,7 +16,7 @@ pub struct Marks {
 
 impl Model for Marks {
     ghost use Rattle.std.specs.Prelude.{ℕ, length};
-    ghost use Rattle.legal_run.specs.Inside.Marking.{AreClear};
+    ghost use Rattle.legal_run.specs.inside.Marking.{AreClear};
 
     ghost Value = { ℕ };
 

@@ -12,10 +12,10 @@ ghost use Rattle.legal_run.specs.HaltLimitStuckRule.{is_stuck_why, DropRule, May
 ghost use Rattle.legal_run.specs.Complete.{Complete, is_limited, least};
 ghost use Rattle.legal_run.specs.ShapeLegal.{MayFollow, CauseInRange, WhyInRange, DropWhyInRange};
 ghost use Rattle.legal_run.specs.Refusal.{IsRefusal, IsLeast, WantsUnit, PutsWithNothingOut};
-ghost use Rattle.legal_run.specs.Inside.Reached.{ClosesTask};
-ghost use Rattle.legal_run.specs.Inside.Releases.{NoneLeft};
-ghost use Rattle.legal_run.specs.Inside.Checks.{BreaksWhy};
-ghost use Rattle.legal_run.specs.Inside.Counted.{IsPosition};
+ghost use Rattle.legal_run.specs.inside.Reached.{ClosesTask};
+ghost use Rattle.legal_run.specs.inside.Releases.{NoneLeft};
+ghost use Rattle.legal_run.specs.inside.Checks.{BreaksWhy};
+ghost use Rattle.legal_run.specs.inside.Counted.{IsPosition};
 
 use super::choice::{gives_fit, inner_fits};
 use super::counts::Counts;
@@ -39,7 +39,7 @@ pub struct Position<'j> {
 
 impl<'j> Model for Position<'j> {
     ghost use Rattle.legal_run.specs.MachineState.{MachineState};
-    ghost use Rattle.legal_run.specs.Inside.Counted.{IsPosition};
+    ghost use Rattle.legal_run.specs.inside.Counted.{IsPosition};
 
     ghost Value = { MachineState };
 

@@ -9,7 +9,7 @@ ghost use Rattle.legal_run.specs.Counts.{given, used};
 ghost use Rattle.legal_run.specs.ReleaseRule.{IsReleased};
 ghost use Rattle.legal_run.specs.Complete.{least, EachTask, EachEdge};
 ghost use Rattle.legal_run.specs.ShapeLegal.{CauseInRange};
-ghost use Rattle.legal_run.specs.Inside.Releases.{CountsReleases, AreFew, IsUseOf, AreUsedUp, SourceUsed, RoundsUsed, WeakUsed};
+ghost use Rattle.legal_run.specs.inside.Releases.{CountsReleases, AreFew, IsUseOf, AreUsedUp, SourceUsed, RoundsUsed, WeakUsed};
 
 use super::entry::Cause;
 use super::rounds::Rounds;

@@ -2,8 +2,8 @@
 ghost use Rattle.std.specs.Prelude.{◌≡◌, ◌==◌, ◌+◌, ◌<◌, ◌≤◌, ◌^◌, ℕ, List, length, IfOk, All, count_by, slice_index, slice_index_or, slice_set};
 ghost use Rattle.task_graph.specs.Net.{strong_in};
 ghost use Rattle.legal_run.specs.Counts.{first_tokens};
-ghost use Rattle.legal_run.specs.Inside.Tells.{Tells};
-ghost use Rattle.legal_run.specs.Inside.Rounds.{IsRound, GivenOnce, AreRounds};
+ghost use Rattle.legal_run.specs.inside.Tells.{Tells};
+ghost use Rattle.legal_run.specs.inside.Rounds.{IsRound, GivenOnce, AreRounds};
 
 use super::slots;
 use outside_io::NoMemory;

@@ -12,8 +12,8 @@ ghost use Rattle.legal_run.specs.declared.units.UnitCount.{UnitCount};
 ghost use Rattle.legal_run.specs.Counts.{start_at};
 ghost use Rattle.legal_run.specs.SemaphoreRule.{IsOverRelease};
 ghost use Rattle.legal_run.specs.Refusal.{IsLeast, WantsUnit, PutsWithNothingOut};
-ghost use Rattle.legal_run.specs.Inside.Reached.{IsReached, ClosesTask, IsRowOf};
-ghost use Rattle.legal_run.specs.Inside.Units.{CountsUnits, AreSmall, IsFirstWithout, HasUnitLeft, IsOut, Changed, with_taken, with_putter, with_back, with_closed, always, is_other};
+ghost use Rattle.legal_run.specs.inside.Reached.{IsReached, ClosesTask, IsRowOf};
+ghost use Rattle.legal_run.specs.inside.Units.{CountsUnits, AreSmall, IsFirstWithout, HasUnitLeft, IsOut, Changed, with_taken, with_putter, with_back, with_closed, always, is_other};
 
 use outside_io::NoMemory;
 use std::alloc::Global;

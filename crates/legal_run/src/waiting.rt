@@ -5,8 +5,8 @@ ghost use Rattle.legal_run.specs.declared.entry.Entry.{Entry};
 ghost use Rattle.legal_run.specs.declared.entry.Entry.TheVariants.{End};
 ghost use Rattle.legal_run.specs.ShapeLegal.{CauseInRange};
 ghost use Rattle.legal_run.specs.Waiting.{waiting_parts};
-ghost use Rattle.legal_run.specs.Inside.Releases.{IsUseOf};
-ghost use Rattle.legal_run.specs.Inside.Waits.{TellsWaiting};
+ghost use Rattle.legal_run.specs.inside.Releases.{IsUseOf};
+ghost use Rattle.legal_run.specs.inside.Waits.{TellsWaiting};
 
 use super::entry::{Cause, Part};
 use super::slots;

@@ -3,7 +3,7 @@ ghost use Rattle.std.specs.Prelude.{◌≡◌, ◌<◌, ◌^◌, [], ℕ, List, 
 ghost use Rattle.legal_run.specs.declared.entry.Part.{Part};
 ghost use Rattle.legal_run.specs.declared.entry.Entry.TheVariants.{Start, End, Fault, Drop};
 ghost use Rattle.legal_run.specs.Verdict.{IsVerdict};
-ghost use Rattle.legal_run.specs.Inside.Walks.{IsAt, Walks};
+ghost use Rattle.legal_run.specs.inside.Walks.{IsAt, Walks};
 
 use super::counts::Counts;
 use super::entry::{Cause, DropWhy, Entry, Journal, Why};

@@ -1,5 +1,5 @@
 use Rattle.std.proofs.Common.{take}
-use Rattle.legal_run.specs.Inside.Marking.{Marked}
+use Rattle.legal_run.specs.inside.Marking.{Marked}
 use Rattle.legal_run.proofs.marks.mark_each.Given as goal
 
 abbrev pub invariant-loop-number : goal.invariant-loop-number

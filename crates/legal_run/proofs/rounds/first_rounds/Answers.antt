@@ -2,7 +2,7 @@ use Rattle.std.proofs.Common.{arith, subst, sym, ◌∙◌, ap, length}
 use Rattle.std.proofs.lemmas.List.{length_push}
 use Rattle.task_graph.specs.Net.{strong_in}
 use Rattle.legal_run.specs.declared.rounds.Round.{Round}
-use Rattle.legal_run.specs.Inside.Rounds.{IsRound}
+use Rattle.legal_run.specs.inside.Rounds.{IsRound}
 use Rattle.legal_run.proofs.Tallying.{strong_in_tallied, each_push}
 use Rattle.legal_run.proofs.rounds.first_rounds.Goals as goal
 

@@ -1,7 +1,7 @@
 use Rattle.std.proofs.Common.{arith, refl, ap, sym, ◌∙◌, ◌≡◌, ◌<◌, length, cond, not, Bool, List, Vec, Global}
 use Rattle.std.specs.Prelude.{slice_index, slice_index_or, slice_set}
 use Rattle.legal_run.specs.declared.units.UnitCount.{UnitCount}
-use Rattle.legal_run.specs.Inside.Units.{with_putter, is_other}
+use Rattle.legal_run.specs.inside.Units.{with_putter, is_other}
 use Rattle.legal_run.proofs.Changing.{changed_more}
 use Rattle.legal_run.proofs.units.add_putters.Goals as goal
 use Rattle.legal_run.proofs.units.add_putters.Goals.{then-not-has, else-not-has}

@@ -1,5 +1,5 @@
 use Rattle.std.proofs.Common.{take}
-use Rattle.legal_run.specs.Inside.Units.{Changed, is_other, with_putter}
+use Rattle.legal_run.specs.inside.Units.{Changed, is_other, with_putter}
 use Rattle.legal_run.proofs.units.add_putters.Given as goal
 
 abbrev pub invariant-loop-sem : goal.invariant-loop-sem

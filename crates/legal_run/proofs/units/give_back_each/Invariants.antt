@@ -1,5 +1,5 @@
 use Rattle.std.proofs.Common.{take}
-use Rattle.legal_run.specs.Inside.Units.{Changed, always, with_back}
+use Rattle.legal_run.specs.inside.Units.{Changed, always, with_back}
 use Rattle.legal_run.proofs.units.give_back_each.Given as goal
 
 abbrev pub invariant-loop-sem : goal.invariant-loop-sem

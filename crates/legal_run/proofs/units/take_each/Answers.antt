@@ -1,7 +1,7 @@
 use Rattle.std.proofs.Common.{arith, refl, ap, ◌<◌, length}
 use Rattle.std.specs.Prelude.{slice_index, slice_set}
 use Rattle.legal_run.specs.declared.units.UnitCount.{UnitCount}
-use Rattle.legal_run.specs.Inside.Units.{with_taken, always}
+use Rattle.legal_run.specs.inside.Units.{with_taken, always}
 use Rattle.legal_run.proofs.Changing.{changed_more}
 use Rattle.legal_run.proofs.units.take_each.Goals as goal
 

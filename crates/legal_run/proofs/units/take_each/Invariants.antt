@@ -1,5 +1,5 @@
 use Rattle.std.proofs.Common.{take}
-use Rattle.legal_run.specs.Inside.Units.{Changed, always, with_taken}
+use Rattle.legal_run.specs.inside.Units.{Changed, always, with_taken}
 use Rattle.legal_run.proofs.units.take_each.Given as goal
 
 abbrev pub invariant-loop-sem : goal.invariant-loop-sem

@@ -1,5 +1,5 @@
 use Rattle.std.proofs.Common.{◌≡◌, length, take}
-use Rattle.legal_run.specs.Inside.Walks.{IsAt}
+use Rattle.legal_run.specs.inside.Walks.{IsAt}
 use Rattle.legal_run.proofs.walk.judge.Given as goal
 
 abbrev pub invariant-loop-place : goal.invariant-loop-place

@@ -1,5 +1,5 @@
 use Rattle.std.proofs.Common.{ℕ, ◌<◌}
-use Rattle.legal_run.specs.Inside.Releases.{SourceUsed}
+use Rattle.legal_run.specs.inside.Releases.{SourceUsed}
 use Rattle.legal_run.proofs.releases.Releases.are_sources_used.Given as goal
 
 abbrev pub invariant-loop-task : goal.invariant-loop-task

@@ -1,5 +1,5 @@
 use Rattle.std.proofs.Common.{ℕ, ◌<◌}
-use Rattle.legal_run.specs.Inside.Releases.{WeakUsed}
+use Rattle.legal_run.specs.inside.Releases.{WeakUsed}
 use Rattle.legal_run.proofs.releases.Releases.are_weak_edges_used.Given as goal
 
 abbrev pub invariant-loop-edge : goal.invariant-loop-edge

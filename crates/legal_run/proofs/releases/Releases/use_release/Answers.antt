@@ -1,6 +1,6 @@
 use Rattle.std.proofs.Common.{refl, subst}
 use Rattle.legal_run.specs.declared.entry.Cause.{Cause}
-use Rattle.legal_run.specs.Inside.Releases.{IsUseOf}
+use Rattle.legal_run.specs.inside.Releases.{IsUseOf}
 use Rattle.legal_run.proofs.ReleaseLaws.{source_counts, strong_counts, weak_counts}
 use Rattle.legal_run.proofs.releases.Releases.use_release.Goals as goal
 

@@ -1,6 +1,6 @@
 use Rattle.std.proofs.Common.{◌≡◌, ℕ, ◌+◌, ◌<◌, ◌==◌, length, take, slice_index_or}
 use Rattle.std.specs.Prelude.{count_by}
-use Rattle.legal_run.specs.Inside.Rounds.{AreRounds}
+use Rattle.legal_run.specs.inside.Rounds.{AreRounds}
 use Rattle.legal_run.proofs.rounds.Rounds.give.Given as goal
 
 abbrev pub invariant-loop-edge : goal.invariant-loop-edge

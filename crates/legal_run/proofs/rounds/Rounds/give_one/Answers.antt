@@ -4,7 +4,7 @@ use Rattle.std.proofs.lemmas.List.{get_or_default}
 use Rattle.task_graph.specs.Net.{strong_in}
 use Rattle.task_graph.specs.declared.net.EdgeRow.{EdgeRow}
 use Rattle.legal_run.specs.declared.rounds.Round.{Round}
-use Rattle.legal_run.specs.Inside.Rounds.{IsRound}
+use Rattle.legal_run.specs.inside.Rounds.{IsRound}
 use Rattle.legal_run.proofs.Tallying.{strong_in_tallied}
 use Rattle.legal_run.proofs.Rounding.{rounds_weak, rounds_strong, target_reached, target_least, row_stands, weak_row, strong_once, target_in_range}
 use Rattle.legal_run.proofs.rounds.Rounds.give_one.Goals as goal

@@ -1,5 +1,5 @@
 use Rattle.std.proofs.Common.{ℕ, ◌<◌, slice_index}
-use Rattle.legal_run.specs.Inside.Units.{IsOut}
+use Rattle.legal_run.specs.inside.Units.{IsOut}
 use Rattle.legal_run.proofs.units.Units.first_not_out.Given as goal
 
 abbrev pub invariant-loop-sem : goal.invariant-loop-sem

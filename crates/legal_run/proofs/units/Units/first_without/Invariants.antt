@@ -1,5 +1,5 @@
 use Rattle.std.proofs.Common.{ℕ, ◌<◌, slice_index}
-use Rattle.legal_run.specs.Inside.Units.{HasUnitLeft}
+use Rattle.legal_run.specs.inside.Units.{HasUnitLeft}
 use Rattle.legal_run.proofs.units.Units.first_without.Given as goal
 
 abbrev pub invariant-loop-sem : goal.invariant-loop-sem

@@ -1,7 +1,7 @@
 use Rattle.std.proofs.Common.{sym, subst, ◌∙◌}
 use Rattle.std.proofs.lemmas.Bool.{false≢true}
 use Rattle.legal_run.specs.declared.units.UnitCount.{UnitCount}
-use Rattle.legal_run.specs.Inside.Units.{CountsUnit, no_units}
+use Rattle.legal_run.specs.inside.Units.{CountsUnit, no_units}
 use Rattle.legal_run.proofs.UnitLaws.{over_is}
 use Rattle.legal_run.proofs.units.Units.is_over_release.Goals as goal
 

@@ -1,6 +1,6 @@
 use Rattle.std.proofs.Common.{refl, subst, ap, ◌∙◌, length}
 use Rattle.legal_run.specs.declared.entry.Cause.{Cause}
-use Rattle.legal_run.specs.Inside.Releases.{IsUseOf}
+use Rattle.legal_run.specs.inside.Releases.{IsUseOf}
 use Rattle.legal_run.proofs.Tallying.{strong_in_tallied}
 use Rattle.legal_run.proofs.WaitingLemmas.{tells_use}
 use Rattle.legal_run.proofs.waiting.Waiting.take.Goals as goal

@@ -11,8 +11,8 @@ use Rattle.legal_run.specs.Counts.{given, gives_edge, used, used_weak, used_sour
 use Rattle.legal_run.specs.DataRule.{edges_of}
 use Rattle.legal_run.specs.Complete.{least}
 use Rattle.legal_run.specs.Waiting.{uses_edge}
-use Rattle.legal_run.specs.Inside.Tells.{Tells}
-use Rattle.legal_run.specs.Inside.Rounds.{AreRounds}
+use Rattle.legal_run.specs.inside.Tells.{Tells}
+use Rattle.legal_run.specs.inside.Rounds.{AreRounds}
 
 -- the counts are those of the journal
 pub record CountsReleases (net : NetRows) (journal : List Entry) (counts : Releases) : Type 0 where

@@ -6,9 +6,9 @@ use Rattle.legal_run.specs.declared.counts.Counts.{Counts}
 use Rattle.legal_run.specs.Counts.{starts, faults, is_open}
 use Rattle.legal_run.specs.HaltLimitStuckRule.{is_stuck}
 use Rattle.legal_run.specs.Complete.{is_limited}
-use Rattle.legal_run.specs.Inside.Reached.{IsReached}
-use Rattle.legal_run.specs.Inside.Releases.{CountsReleases, AreFew}
-use Rattle.legal_run.specs.Inside.Units.{CountsUnits, AreSmall}
+use Rattle.legal_run.specs.inside.Reached.{IsReached}
+use Rattle.legal_run.specs.inside.Releases.{CountsReleases, AreFew}
+use Rattle.legal_run.specs.inside.Units.{CountsUnits, AreSmall}
 
 -- a flag for each place, and perhaps for some past the end, where no Start is open
 pub record CountsOpen (journal : List Entry) (flags : List Bool) : Type 0 where

@@ -7,7 +7,7 @@ use Rattle.legal_run.specs.Counts.{given}
 use Rattle.legal_run.specs.Calm.{IsCalm, used_at}
 use Rattle.legal_run.specs.DataRule.{MayFind, last_part, has_part, is_from}
 use Rattle.legal_run.specs.Waiting.{waiting}
-use Rattle.legal_run.specs.Inside.Tells.{Tells}
+use Rattle.legal_run.specs.inside.Tells.{Tells}
 
 -- by edge, what waits
 abbrev pub TellsWaiting : NetRows → List Entry → List Part → Type 0

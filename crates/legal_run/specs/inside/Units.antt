@@ -5,7 +5,7 @@ use Rattle.task_graph.specs.NetRows.{NetRows}
 use Rattle.legal_run.specs.declared.entry.Entry.{Entry}
 use Rattle.legal_run.specs.declared.units.UnitCount.{UnitCount}
 use Rattle.legal_run.specs.SemaphoreRule.{taken, back, closed_takers}
-use Rattle.legal_run.specs.Inside.Over.{putters, WasOver}
+use Rattle.legal_run.specs.inside.Over.{putters, WasOver}
 
 -- the counts of a semaphore are those of the journal
 pub record CountsUnit (net : NetRows) (journal : List Entry) (s : ℕ) (count : UnitCount) : Type 0 where

@@ -5,9 +5,9 @@ use Rattle.legal_run.specs.declared.entry.Entry.{Entry}
 use Rattle.legal_run.specs.declared.entry.Part.{Part}
 use Rattle.legal_run.specs.declared.counts.Counts.{Counts}
 use Rattle.legal_run.specs.ShapeLegal.{MeetsDataRule}
-use Rattle.legal_run.specs.Inside.Reached.{IsReached}
-use Rattle.legal_run.specs.Inside.Waits.{Waits, TellsWaiting}
-use Rattle.legal_run.specs.Inside.Counted.{IsCounted}
+use Rattle.legal_run.specs.inside.Reached.{IsReached}
+use Rattle.legal_run.specs.inside.Waits.{Waits, TellsWaiting}
+use Rattle.legal_run.specs.inside.Counted.{IsCounted}
 
 -- a journal that one thread keeps: shape-legal, each Start finds what it may, and so will the next one
 pub record IsLed (net : NetRows) (limit : ℕ) (journal : List Entry) : Type 0 where

@@ -5,8 +5,8 @@ use Rattle.legal_run.specs.declared.entry.Entry.{Entry}
 use Rattle.legal_run.specs.declared.verdict.Break.{Break}
 use Rattle.legal_run.specs.declared.walk.Walk.{Walk}
 use Rattle.legal_run.specs.Refusal.{IsRefusal}
-use Rattle.legal_run.specs.Inside.Reached.{IsReached}
-use Rattle.legal_run.specs.Inside.Counted.{IsCounted}
+use Rattle.legal_run.specs.inside.Reached.{IsReached}
+use Rattle.legal_run.specs.inside.Counted.{IsCounted}
 
 -- the entries so far may stand where they stand, and are counted
 pub record IsAt (net : NetRows) (limit : ℕ) (before : List Entry) (walk : Walk) : Type 0 where
