@@ -1,6 +1,6 @@
 #!/usr/bin/env bash
-# Measures the built program beside `grep -F` and `wc -l` on the same text, and on chains of 1,000 and 10,000
-# tasks. It says seconds and the most memory in use (13 MB are the measuring script's own). Run it as
+# Measures the built program beside `grep -F` and `wc -l` on the same text, on chains of 1,000 and 10,000 tasks, and
+# on a read with 9,999 counts behind it. It says seconds and the most memory in use (13 MB are the measuring script's own). Run it as
 # `bash bench/measure.sh`, from any folder.
 set -euo pipefail
 flow=$(cd "$(dirname "${BASH_SOURCE[0]}")/.." && pwd)/crates/flow/out/flow
@@ -31,6 +31,19 @@ printf 'x\ny\n' > small.txt
 chain 1000
 chain 10000
 
+# A read and so many counts of it.
+fan() {
+    python3 - "$1" <<'PYTHON'
+import json, sys
+count = int(sys.argv[1])
+names = [f"c{k}" for k in range(count)]
+tasks = [{"name": "t", "op": "read", "text": "small.txt", "to": names}]
+tasks += [{"name": name, "op": "count"} for name in names]
+json.dump({"tasks": tasks}, open(f"fan{count}.json", "w"))
+PYTHON
+}
+fan 9999
+
 # The best of five: seconds, and the most memory in use.
 measure() {
     python3 - "$@" <<'PYTHON'
@@ -60,6 +73,7 @@ read -r wc_seconds wc_memory < <(measure wc -l log.txt)
 read -r count_seconds count_memory < <(measure "$flow" run count.json)
 read -r thousand_seconds thousand_memory < <(measure "$flow" run chain1000.json)
 read -r most_seconds most_memory < <(measure "$flow" run chain10000.json)
+read -r fan_seconds fan_memory < <(measure "$flow" run fan9999.json)
 
 tell "grep -F" "$grep_seconds" "$grep_memory"
 tell "flow keep" "$keep_seconds" "$keep_memory" "$grep_seconds"
@@ -67,3 +81,4 @@ tell "wc -l" "$wc_seconds" "$wc_memory"
 tell "flow count" "$count_seconds" "$count_memory" "$wc_seconds"
 tell "1,000 tasks" "$thousand_seconds" "$thousand_memory"
 tell "10,000 tasks" "$most_seconds" "$most_memory" "$thousand_seconds"
+tell "9,999 counts" "$fan_seconds" "$fan_memory"

@@ -100,32 +100,89 @@ refused 13 'flow: no memory' run graph.json
 memory=unlimited
 cd "$top"
 
-# A call whose output took nothing.
-lost() {
-    : >"$seen/out"
+# A call whose output took no more than these first bytes of its report.
+report=/dev/null
+cut_short() {
+    local what=$1 size=$2
+    head -c "$size" "$report" >"$seen/wanted_out"
     echo 'flow: write fault' >"$seen/wanted_notes"
-    compare "a call with $1" 7 /dev/null "$seen/wanted_notes"
+    compare "a call with $what" 7 "$seen/wanted_out" "$seen/wanted_notes"
 }
 
-cd examples/count-lines
-
-code=0
-"$program" run graph.json >/dev/full 2>"$seen/notes" || code=$?
-echo "$code" >"$seen/code"
-lost 'a full device'
-
-code=0
-"$program" run graph.json >&- 2>"$seen/notes" || code=$?
-echo "$code" >"$seen/code"
-lost 'a closed output'
-
-(
-    sleep 0.3
-    code=0
-    "$program" run graph.json 2>"$seen/notes" || code=$?
+# Calls the program on graph.json with this output, of at most so many kilobytes.
+put_on() {
+    local code=0
+    (
+        trap '' XFSZ
+        ulimit -f "${2:-unlimited}"
+        exec "$program" run graph.json >"$1" 2>"$seen/notes"
+    ) || code=$?
     echo "$code" >"$seen/code"
-) | head -c 0
-lost 'a pipe whose reader has gone'
+}
+
+# The same with a pipe whose reader takes so many bytes and then goes.
+pipe_of() {
+    (
+        if (($1 == 0)); then sleep 0.3; fi
+        code=0
+        "$program" run graph.json 2>"$seen/notes" || code=$?
+        echo "$code" >"$seen/code"
+    ) | head -c "$1" >"$seen/out"
+}
+
+# The same with a closed output.
+put_nowhere() {
+    local code=0
+    "$program" run graph.json >&- 2>"$seen/notes" || code=$?
+    : >"$seen/out"
+    echo "$code" >"$seen/code"
+}
+
+# A report that fits into one write.
+cd "$top/examples/count-lines"
+report=expected.txt
+put_on /dev/full
+: >"$seen/out"
+cut_short 'a full device' 0
+put_nowhere
+cut_short 'a closed output' 0
+pipe_of 0
+cut_short 'a pipe whose reader has gone' 0
+
+# A report of 200 KiB, in four writes: 20 KiB, 80 KiB, a line, and 100 KiB.
+mkdir "$seen/report"
+cd "$seen/report"
+for size in 20 80 100; do
+    head -c $((size * 1024)) /dev/zero | tr '\0' x | fold -w 63 >"$size.txt"
+    echo >>"$size.txt"
+done
+cat >graph.json <<'GRAPH'
+{"tasks":[
+{"name":"a","op":"read","text":"20.txt"},
+{"name":"b","op":"read","text":"80.txt"},
+{"name":"c","op":"read","text":"100.txt"}]}
+GRAPH
+report=$seen/report/whole.txt
+{
+    echo '== a' && cat 20.txt && echo '== b' && cat 80.txt && echo '== c' && cat 100.txt
+} >"$report"
+put_on "$seen/out"
+compare 'a report of 200 KiB' 0 "$report" /dev/null
+put_on /dev/full
+: >"$seen/out"
+cut_short 'a device that is full at the first write' 0
+put_on "$seen/out" 50
+cut_short 'a file that is full in a middle write' $((50 * 1024))
+put_on "$seen/out" 150
+cut_short 'a file that is full in the last write' $((150 * 1024))
+put_nowhere
+cut_short 'an output that is closed at the first write' 0
+pipe_of 0
+cut_short 'a pipe whose reader goes at the first write' 0
+pipe_of 25000
+cut_short 'a pipe whose reader goes in a middle write' 25000
+pipe_of 110000
+cut_short 'a pipe whose reader goes in the last write' 110000
 
 echo "program: $cases calls, $faults with a difference"
 ((faults == 0))

@@ -30,7 +30,7 @@ fn main(rt: HostRuntime) -> ExitCode {
 // The end of a program that finds no memory for the words or the watchers.
 fn without_memory(rt: &HostRuntime) -> ExitCode {
     let status = Status::NoMemory;
-    let _noted = put_note(rt.alloc(), &mut StdSink::notes(rt), &status);
+    let _noted = put_note(rt.alloc(), &mut StdSink::notes(rt.alloc(), rt), &status);
     ExitCode::from(status.code())
 }
 
@@ -38,8 +38,8 @@ fn without_memory(rt: &HostRuntime) -> ExitCode {
 fn call(rt: &HostRuntime, watchers: Vec<Box<dyn Watch + Send>>) -> Result<u8, NoMemory> {
     let words = words(rt)?;
     let mut texts = FolderTexts::new(rt);
-    let mut out = StdSink::out(rt);
-    let mut notes = StdSink::notes(rt);
+    let mut out = StdSink::out(rt.alloc(), rt);
+    let mut notes = StdSink::notes(rt.alloc(), rt);
     let outcome = flow_main(
         rt.alloc(),
         words.as_slice(),

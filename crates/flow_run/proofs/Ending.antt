@@ -1,29 +1,84 @@
--- How a call ends that stops before its run.
-use Rattle.std.proofs.Common.{inl, inr, ℕ, Bool, true, false, List, [], Option, refl}
-use Rattle.outside_io.proofs.Pieces.{took_nothing, front_of_nothing}
+-- How a call ends that stops before its run, and what a flush makes of what was put.
+use Rattle.std.proofs.Common.{◌≡◌, inl, inr, ℕ, ◌<◌, ◌≤◌, List, [], ◌++◌, Option, Result, Ok, Err, OnOk, OnErr, IfErr, refl, sym, ap, ◌∙◌, subst, arith, append-nil, append_assoc}
+use Rattle.outside_io.specs.declared.sink.SinkFault.{SinkFault}
+use Rattle.outside_io.specs.declared.sink.SinkFault.TheVariants as fault
+use Rattle.outside_io.specs.Sink.{SinkState, Took, TookFront, Accepts, FailsOn, AcceptsFront}
+use Rattle.outside_io.proofs.Pieces.{took_all, writes_both}
 use Rattle.flow_run.specs.declared.status.Status.{Status}
-use Rattle.flow_run.specs.declared.status.Status.TheVariants.{Done, BadWords, BadGraph, NoSource, NoText, LongText, ReadFault, WriteFault, NoMemory}
-use Rattle.flow_run.specs.Requests.{Held, StopsBefore}
-use Rattle.flow_run.specs.Answers.{KeptWith, OutputIs}
+use Rattle.flow_run.specs.declared.status.Status.TheVariants.{BadGraph, NoSource, NoText, LongText}
+use Rattle.flow_run.specs.declared.stop.Stop.{Stop}
+use Rattle.flow_run.specs.declared.stop.Stop.TheVariants as stop
+use Rattle.flow_run.specs.Requests.{Held, CountsStop}
+use Rattle.flow_run.specs.Answers.{status_of, Delivered, CutShort, Delivers, IsReadFault, HaveRead}
 
-pub kept_none : (held : Held) (file : List ℕ) (status : Status) → StopsBefore held file status → KeptWith held file status []
-kept_none held file Done (inl never) = absurd never
-kept_none held file Done (inr (inl at)) = absurd at.stops
-kept_none held file Done (inr (inr at)) = absurd at.stops.stops
-kept_none held file BadWords (inl never) = absurd never
-kept_none held file BadWords (inr (inl at)) = absurd at.stops
-kept_none held file BadWords (inr (inr at)) = absurd at.stops.stops
-kept_none held file (BadGraph error) stops = (refl, stops)
-kept_none held file (NoSource spot) stops = (refl, stops)
-kept_none held file (NoText name) stops = (refl, stops)
-kept_none held file (LongText name) stops = (refl, stops)
-kept_none held file (ReadFault name) stops = (refl, stops)
-kept_none held file WriteFault (inl never) = absurd never
-kept_none held file WriteFault (inr (inl at)) = absurd at.stops
-kept_none held file WriteFault (inr (inr at)) = absurd at.stops.stops
-kept_none held file NoMemory stops = inl refl
+-- Bytes that were taken where nothing was held back before.
+front_taken : (before after : SinkState) (bytes : List ℕ) → before.held_back ≡ [] → TookFront before.taken after.taken (before.held_back ++ bytes) → TookFront before.taken after.taken bytes
+front_taken before after bytes none front = subst (λ held. TookFront before.taken after.taken (held ++ bytes)) none front
 
--- Where there is nothing to put, the output stays as it is.
-pub nothing_put : (taken : Option (List ℕ)) (whole : Bool) → OutputIs taken taken whole []
-nothing_put taken true = took_nothing taken taken refl
-nothing_put taken false = front_of_nothing taken taken [] refl
+-- A prefix of a prefix.
+front_of_part : (before after : Option (List ℕ)) (bytes front rest : List ℕ) → bytes ≡ front ++ rest → TookFront before after front → TookFront before after bytes
+front_of_part before after bytes front rest parts part = record {
+  lost = part.lost ++ rest;
+  but = record {
+    front = part.but.front;
+    parts = parts ∙ ap (λ l. l ++ rest) part.but.parts ∙ append_assoc part.but.front part.lost rest;
+    took = part.but.took;
+  };
+}
+
+-- The whole is a prefix.
+front_of_all : (before after : Option (List ℕ)) (bytes : List ℕ) → Took before after bytes → TookFront before after bytes
+front_of_all before after bytes took = record { lost = []; but = record { front = bytes; parts = sym (append-nil bytes); took = took } }
+
+-- A write that failed.
+pub cut_short : (before after : SinkState) (bytes : List ℕ) → before.held_back ≡ [] → FailsOn before after bytes → CutShort before after bytes × (before.faults < after.faults)
+cut_short before after bytes none failed = (record { took = front_taken before after bytes none failed.passed; nothing_held = failed.nothing_held }, failed.faults)
+
+-- All that was accepted is taken once nothing is held back.
+delivered : (before after : SinkState) (bytes : List ℕ) → before.held_back ≡ [] → after.held_back ≡ [] → Accepts before after bytes → Delivered before after bytes
+delivered before after bytes none_before none_after accepted = record {
+  took = subst (λ held. Took before.taken after.taken (held ++ bytes)) none_before (took_all before.taken after.taken (before.held_back ++ bytes) after.held_back none_after accepted.passed);
+  nothing_held = none_after;
+  faults = accepted.faults;
+}
+
+-- What a flush answers.
+pub record Flushes (before after : SinkState) (result : Result (Unit {0}) SinkFault) : Type 0 where
+  pub ok : OnOk result (Accepts before after [])
+  pub err : OnErr result (FailsOn before after [])
+  pub failed : IfErr result (λ why. why ≡ fault.Failed)
+  pub nothing_held : after.held_back ≡ []
+
+-- A flush behind bytes that were accepted.
+pub flush_delivers : (before between after : SinkState) (bytes : List ℕ) (result : Result (Unit {0}) SinkFault) → before.held_back ≡ [] → Accepts before between bytes → Flushes between after result → Delivers before after bytes result
+flush_delivers before between after bytes (Ok done) none accepted flush =
+    delivered before after bytes none flush.nothing_held (subst (Accepts before after) (append-nil bytes) (writes_both before between after bytes [] (Ok done) accepted flush.ok))
+flush_delivers before between after bytes (Err fault.Failed) none accepted flush =
+    cut_short before after bytes none (subst (FailsOn before after) (append-nil bytes) (writes_both before between after bytes [] (Err fault.Failed) accepted flush.err))
+flush_delivers before between after bytes (Err fault.NoMemory) none accepted flush = absurd (let never : fault.NoMemory ≡ fault.Failed = flush.failed in cc)
+
+-- A flush behind a prefix that was accepted.
+pub flush_cuts : (before between after : SinkState) (bytes : List ℕ) (result : Result (Unit {0}) SinkFault) → before.held_back ≡ [] → AcceptsFront before between bytes → Flushes between after result → CutShort before after bytes × (before.faults ≤ after.faults)
+flush_cuts before between after bytes result none part flush = by_result result (flush_delivers before between after part.front result none part.accepted flush)
+  where
+    cut : TookFront before.taken after.taken part.front → CutShort before after bytes
+    cut took = record { took = front_of_part before.taken after.taken bytes part.front part.rest part.parts took; nothing_held = flush.nothing_held }
+
+    by_result : (r : Result (Unit {0}) SinkFault) → Delivers before after part.front r → CutShort before after bytes × (before.faults ≤ after.faults)
+    by_result (Ok done) whole = (cut (front_of_all before.taken after.taken part.front whole.took), omega (arith, whole.faults))
+    by_result (Err fault.Failed) failed = (cut failed.0.took, omega (arith, failed.1))
+    by_result (Err fault.NoMemory) failed = (cut failed.0.took, failed.1)
+
+module _ {F : Type 0} (held : F → Held) (faults : F → ℕ) (old new : F) where
+  -- Nothing failed.
+  pub read_well : (status : Status) → held new ≡ held old → faults new ≡ faults old → (IsReadFault status → ⊥) → HaveRead held faults old new status
+  read_well status stays same none = record { stays = stays; no_fewer = omega (arith, same); cause = λ fault. absurd (none fault); told = inl same }
+
+  -- What stopped the reads is told.
+  pub read_stopped : (why : Stop) → held new ≡ held old → CountsStop why (faults old) (faults new) → HaveRead held faults old new (status_of why)
+  read_stopped (stop.BadGraph error) stays same = read_well (BadGraph error) stays same (λ (name, is). absurd (cc))
+  read_stopped (stop.NoSource spot) stays same = read_well (NoSource spot) stays same (λ (name, is). absurd (cc))
+  read_stopped (stop.NoText n) stays same = read_well (NoText n) stays same (λ (name, is). absurd (cc))
+  read_stopped (stop.LongText n) stays same = read_well (LongText n) stays same (λ (name, is). absurd (cc))
+  read_stopped (stop.ReadFault n) stays rises = record { stays = stays; no_fewer = omega (arith, rises); cause = λ _. rises; told = inr (inl (n, refl)) }
+  read_stopped stop.NoMemory stays no_fewer = record { stays = stays; no_fewer = no_fewer; cause = λ (name, is). absurd (cc); told = inr (inr refl) }

@@ -18,7 +18,7 @@ use Rattle.join_words.specs.declared.ins.Given.{Given}
 use Rattle.run_frame.specs.declared.run.ValueRow.{ValueRow}
 use Rattle.run_frame.specs.declared.run.FrameRun.{FrameRun, FrameRun-F, roll-FrameRun, out-FrameRun, out-roll-FrameRun, FrameRun', rolls-FrameRun', Row_of-InnerRow, end_of-InnerRow, more_of-InnerRow, items-the_row-InnerRow, items_hidden-the_row-InnerRow-0}
 use Rattle.run_frame.specs.declared.run.InnerRow.{InnerRow, out-InnerRow}
-use Rattle.run_frame.specs.Legal.{Legal, LegalJournal, LegalRows, CompleteRun}
+use Rattle.run_frame.specs.Legal.{Legal, LegalJournal, LegalRows, CompleteRun, IsKept}
 use Rattle.run_frame.specs.Runs.{inner_in}
 use Rattle.run_frame.specs.Rows.{RowsFit, MayHaveInner, ends_from}
 use Rattle.flow_run.specs.declared.one_thread.OneThread.{OneThread}
@@ -102,17 +102,18 @@ abbrev inner_rows : FrameRun TextJob Item → List (InnerRow TextJob Item)
 inner_rows (FrameRun' job journal values shape rows) = items-the_row-InnerRow TextJob Item _ rows
 
 -- a run without inner runs is legal where its journal is
-legal_without : (run : FrameRun TextJob Item) → inner_rows run ≡ [] → LegalJournal text_job run → Legal text_job run
-legal_without (FrameRun' job journal values shape rows) none legal = (legal, no_rows rows none)
+legal_without : (run : FrameRun TextJob Item) → inner_rows run ≡ [] → LegalJournal text_job run → RowsFit run → Legal text_job run
+legal_without (FrameRun' job journal values shape rows) none legal fit = (legal, fit, no_rows rows none)
 
 pub legal_alone : (job : Arc TextJob Global) (journal : List Entry) (values : List (ValueRow Item)) (inner : Vec (InnerRow TextJob Item)) → inner.items ≡ []
     → LegalJournal text_job (roll-FrameRun TextJob Item (record { job = job; journal = journal; values = values; inner = inner }))
+    → RowsFit (roll-FrameRun TextJob Item (record { job = job; journal = journal; values = values; inner = inner }))
     → Legal text_job (roll-FrameRun TextJob Item (record { job = job; journal = journal; values = values; inner = inner }))
-legal_alone job journal values inner none legal =
+legal_alone job journal values inner none legal fit =
     let same = items_hidden-the_row-InnerRow-0 TextJob Item inner in
     let rolls = rolls-FrameRun' {X1 = TextJob} {X2 = Item} (record { job = job; journal = journal; values = values; inner = inner }) in
     legal_without (roll-FrameRun TextJob Item (record { job = job; journal = journal; values = values; inner = inner }))
-    (subst (λ run. inner_rows run ≡ []) (sym rolls) (same ∙ none)) legal
+    (subst (λ run. inner_rows run ≡ []) (sym rolls) (same ∙ none)) legal fit
 
 -- what a job's net keeps
 pub record HasPlainNet (net : NetRows) : Type 0 where
@@ -127,45 +128,11 @@ plan_of (Graph work) is = record { rows = is.plan.net; plain = is.plan.plain; si
 abbrev Layer : Type 0
 Layer = FrameRun-F TextJob Item (FrameRun TextJob Item) (InnerRow TextJob Item)
 
--- The run of a finished one is legal and complete.
-pub finished_legal : (run : OneThread) (inner : Vec (InnerRow TextJob Item)) → inner.items ≡ [] → IsUnderWay run []
-    → ShapeLegal run.machine.net run.machine.limit run.machine.journal → MeetsDataRule run.machine.net run.machine.journal
-    → Legal text_job (roll-FrameRun TextJob Item (record { job = run.job; journal = run.machine.journal; values = run.values; inner = inner }))
-finished_legal run inner none is shape found =
-    legal_alone run.job run.machine.journal run.values inner none (record {
-      shape = subst (λ (l : Layer). ShapeLegal (net_of (arc_value l.job)) (limit_of (arc_value l.job)) l.journal) (sym opened)
-          (subst (λ n. ShapeLegal n (limit_of (arc_value run.job)) run.machine.journal) is.net (subst (λ l. ShapeLegal run.machine.net l run.machine.journal) is.limit shape));
-      found = subst (λ (l : Layer). MeetsDataRule (net_of (arc_value l.job)) l.journal) (sym opened) (subst (λ n. MeetsDataRule n run.machine.journal) is.net found);
-      work = subst (λ (l : Layer). EachAfter (WorkRule text_job (arc_value l.job) l.values (λ n. inner_in l.inner.items n)) l.journal) (sym opened)
-          (subst (λ rows. EachAfter (WorkRule text_job (arc_value run.job) run.values (λ n. inner_in rows n)) run.machine.journal) (sym none) (work_done (arc_value run.job) run.machine.journal run.carried.items run.values [] is.under));
-      nested = subst (λ (l : Layer). EachAfter (NestedRule text_job (arc_value l.job) l.values (λ n. inner_in l.inner.items n)) l.journal) (sym opened)
-          (subst (λ rows. EachAfter (NestedRule text_job (arc_value run.job) run.values (λ n. inner_in rows n)) run.machine.journal) (sym none) (nothing_nested (arc_value run.job) run.machine.journal run.carried.items run.values [] is.under));
-    })
-  where
-    layer : Layer
-    layer = record { job = run.job; journal = run.machine.journal; values = run.values; inner = inner }
-
-    opened : out-FrameRun TextJob Item (roll-FrameRun TextJob Item layer) ≡ layer
-    opened = out-roll-FrameRun TextJob Item layer
-
-pub finished_complete : (run : OneThread) (inner : Vec (InnerRow TextJob Item)) → IsUnderWay run []
-    → CompleteRun text_job (roll-FrameRun TextJob Item (record { job = run.job; journal = run.machine.journal; values = run.values; inner = inner }))
-finished_complete run inner is =
-    let plan = plan_of (arc_value run.job) is.job in
-    subst (λ (l : Layer). Complete (net_of (arc_value l.job)) (limit_of (arc_value l.job)) l.journal) (sym opened)
-    (complete (arc_value run.job) run.machine.journal run.carried.items run.values (limit_of (arc_value run.job)) plan.plain plan.single is.under)
-  where
-    layer : Layer
-    layer = record { job = run.job; journal = run.machine.journal; values = run.values; inner = inner }
-
-    opened : out-FrameRun TextJob Item (roll-FrameRun TextJob Item layer) ≡ layer
-    opened = out-roll-FrameRun TextJob Item layer
-
 -- the places of inner runs
 abbrev places : List (InnerRow TextJob Item) → List ℕ
 places rows = map (λ row. (out-InnerRow TextJob Item row).place) rows
 
-pub finished_rows : (run : OneThread) (inner : Vec (InnerRow TextJob Item)) → inner.items ≡ [] → IsUnderWay run []
+finished_rows : (run : OneThread) (inner : Vec (InnerRow TextJob Item)) → inner.items ≡ [] → IsUnderWay run []
     → RowsFit (roll-FrameRun TextJob Item (record { job = run.job; journal = run.machine.journal; values = run.values; inner = inner }))
 finished_rows run inner none is = record {
   values = subst (λ (l : Layer). map (λ (row : ValueRow Item). row.place) l.values ≡ ends_from 0 l.journal) (sym opened) is.under.rows;
@@ -180,3 +147,45 @@ finished_rows run inner none is = record {
 
     opened : out-FrameRun TextJob Item (roll-FrameRun TextJob Item layer) ≡ layer
     opened = out-roll-FrameRun TextJob Item layer
+
+-- The run of a finished one is legal and complete, so it may be kept.
+finished_legal : (run : OneThread) (inner : Vec (InnerRow TextJob Item)) → inner.items ≡ [] → IsUnderWay run []
+    → ShapeLegal run.machine.net run.machine.limit run.machine.journal → MeetsDataRule run.machine.net run.machine.journal
+    → Legal text_job (roll-FrameRun TextJob Item (record { job = run.job; journal = run.machine.journal; values = run.values; inner = inner }))
+finished_legal run inner none is shape found =
+    legal_alone run.job run.machine.journal run.values inner none (record {
+      shape = subst (λ (l : Layer). ShapeLegal (net_of (arc_value l.job)) (limit_of (arc_value l.job)) l.journal) (sym opened)
+          (subst (λ n. ShapeLegal n (limit_of (arc_value run.job)) run.machine.journal) is.net (subst (λ l. ShapeLegal run.machine.net l run.machine.journal) is.limit shape));
+      found = subst (λ (l : Layer). MeetsDataRule (net_of (arc_value l.job)) l.journal) (sym opened) (subst (λ n. MeetsDataRule n run.machine.journal) is.net found);
+      work = subst (λ (l : Layer). EachAfter (WorkRule text_job (arc_value l.job) l.values (λ n. inner_in l.inner.items n)) l.journal) (sym opened)
+          (subst (λ rows. EachAfter (WorkRule text_job (arc_value run.job) run.values (λ n. inner_in rows n)) run.machine.journal) (sym none) (work_done (arc_value run.job) run.machine.journal run.carried.items run.values [] is.under));
+      nested = subst (λ (l : Layer). EachAfter (NestedRule text_job (arc_value l.job) l.values (λ n. inner_in l.inner.items n)) l.journal) (sym opened)
+          (subst (λ rows. EachAfter (NestedRule text_job (arc_value run.job) run.values (λ n. inner_in rows n)) run.machine.journal) (sym none) (nothing_nested (arc_value run.job) run.machine.journal run.carried.items run.values [] is.under));
+    }) (finished_rows run inner none is)
+  where
+    layer : Layer
+    layer = record { job = run.job; journal = run.machine.journal; values = run.values; inner = inner }
+
+    opened : out-FrameRun TextJob Item (roll-FrameRun TextJob Item layer) ≡ layer
+    opened = out-roll-FrameRun TextJob Item layer
+
+finished_complete : (run : OneThread) (inner : Vec (InnerRow TextJob Item)) → IsUnderWay run []
+    → CompleteRun text_job (roll-FrameRun TextJob Item (record { job = run.job; journal = run.machine.journal; values = run.values; inner = inner }))
+finished_complete run inner is =
+    let plan = plan_of (arc_value run.job) is.job in
+    subst (λ (l : Layer). Complete (net_of (arc_value l.job)) (limit_of (arc_value l.job)) l.journal) (sym opened)
+    (complete (arc_value run.job) run.machine.journal run.carried.items run.values (limit_of (arc_value run.job)) plan.plain plan.single is.under)
+  where
+    layer : Layer
+    layer = record { job = run.job; journal = run.machine.journal; values = run.values; inner = inner }
+
+    opened : out-FrameRun TextJob Item (roll-FrameRun TextJob Item layer) ≡ layer
+    opened = out-roll-FrameRun TextJob Item layer
+
+pub finished_kept : (run : OneThread) (inner : Vec (InnerRow TextJob Item)) → inner.items ≡ [] → IsUnderWay run []
+    → ShapeLegal run.machine.net run.machine.limit run.machine.journal → MeetsDataRule run.machine.net run.machine.journal
+    → IsKept text_job (roll-FrameRun TextJob Item (record { job = run.job; journal = run.machine.journal; values = run.values; inner = inner }))
+finished_kept run inner none is shape found = record {
+  legal = finished_legal run inner none is shape found;
+  complete = finished_complete run inner is;
+}

@@ -12,8 +12,9 @@ pub mod SourceLemmas
 pub mod StepFacts
 pub mod Preparing
 pub mod NoteExamples
-pub mod EndsLemmas
 pub mod ReportLemmas
 pub mod OutputExamples
 pub mod ReportRule
 pub mod Ending
+pub mod Completing
+pub mod CallExamples

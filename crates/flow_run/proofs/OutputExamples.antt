@@ -12,7 +12,8 @@ use Rattle.legal_run.specs.declared.entry.Entry.{Entry}
 use Rattle.legal_run.specs.declared.entry.Entry.TheVariants.{Start, End}
 use Rattle.text_tasks.specs.declared.item.Item.{Item}
 use Rattle.text_tasks.specs.declared.item.Item.TheVariants.{Text}
-use Rattle.flow_run.specs.Output.{report, ends_of, last_end, outcome}
+use Rattle.run_frame.specs.LastEnds.{ends_of, last_end}
+use Rattle.flow_run.specs.Output.{report, outcome}
 
 abbrev task : TaskRow
 task = record { shape = Plain; takes = []; puts = [] }

@@ -1,22 +1,23 @@
 -- Reading texts one after another.
-use Rattle.std.proofs.Common.{◌≡◌, ◌≢◌, ℕ, zero, suc, ◌+◌, ◌<◌, ◌≤◌, Bool, true, false, not, cond, List, [], ◌∷◌, ◌++◌, length, Some, None, sym, refl, ap, ◌∙◌, subst, arith, get_or, map, take, drop, filter}
+use Rattle.std.proofs.Common.{◌≡◌, ◌≢◌, ◌⊎◌, inl, inr, ℕ, zero, suc, ◌+◌, ◌<◌, ◌≤◌, Bool, true, false, not, cond, List, [], ◌∷◌, ◌++◌, length, Some, None, sym, refl, ap, ◌∙◌, subst, arith, get_or, map, take, drop, filter}
 use Rattle.std.specs.Prelude.{All, AllPairs, IsSome}
 use Rattle.std.specs.Str.{bytes_eq}
 use Rattle.std.proofs.lemmas.Bool.{false≢true}
 use Rattle.std.proofs.lemmas.Slice.Eq.{bytes_eq-Decides}
-use Rattle.std.proofs.lemmas.List.{take_more, map-append, get_or-take, length-take-le, get_or_default}
+use Rattle.std.proofs.lemmas.List.{get_or-take, length-take-le, get_or_default}
 use Rattle.std.proofs.lemmas.List.Kept.{AllPairs-cons, AllPairs-filter}
-use Rattle.std.proofs.lemmas.List.Elements.{All-nil, All-cons, All-push, All-weaker, All-head, All-tail}
+use Rattle.std.proofs.lemmas.List.Elements.{All-nil, All-cons, All-weaker, All-head, All-tail}
 use Rattle.graph_file.specs.declared.refusals.GraphError.{GraphError}
-use Rattle.graph_file.specs.declared.refusals.GraphError.TheVariants.{NotJson, BadField, NoSuchName, Repeated, TooMany, NoMemory as NoMemoryToRead}
-use Rattle.graph_file.specs.PlanRows.{PlanRows, IsPlan}
+use Rattle.graph_file.specs.declared.refusals.GraphError.TheVariants.{NoMemory as NoMemoryToRead}
+use Rattle.graph_file.specs.PlanRows.{PlanRows, IsPlan, plan_texts}
 use Rattle.graph_file.specs.PlanText.{PlanText}
-use Rattle.graph_file.specs.TextNames.{texts_of, first_mentions}
+use Rattle.graph_file.specs.TextNames.{first_mentions}
 use Rattle.text_tasks.specs.declared.table.TextRow.{TextRow}
 use Rattle.text_tasks.specs.GraphWork.{text_limit, IsWork}
 use Rattle.text_tasks.specs.TextTable.{text_in}
-use Rattle.flow_run.specs.declared.status.Status.{Status}
-use Rattle.flow_run.specs.Requests.{Held, IsHeld, StopsAtName, StopsAtText, StopsAtBytes, TextsAre, IsRefusal}
+use Rattle.flow_run.specs.declared.stop.Stop.{Stop}
+use Rattle.flow_run.specs.declared.stop.Stop.TheVariants.{BadGraph, NoMemory}
+use Rattle.flow_run.specs.Requests.{Held, IsHeld, StopsAtName, StopsAtText, StopsAtBytes, TextsAre}
 
 -- the names of texts differ
 pub mentions_differ : (names : List (List ℕ)) → AllPairs (λ a b. a ≢ b) (first_mentions names)
@@ -61,14 +62,6 @@ others_before names i d below apart = λ k e k_below.
     let few = length-take-le i names (omega arith) in
     subst (λ other. other ≢ get_or names i d) (sym (get_or-take i names k e (omega arith))) (subst (λ n. get_or names k e ≢ n) (get_or_default names i e d below) (apart k i e (omega arith) below))
 
-pub text_more : (held : Held) (names : List (List ℕ)) (rows : List TextRow) (i : ℕ) (name text : List ℕ) → i < length names → name ≡ get_or names i name → TextsAre held (take i names) rows → IsHeld held name text_limit text
-    → TextsAre held (take (i + 1) names) (rows ++ record { name = name; text = text } ∷ [])
-text_more held names rows i name text below is so_far fits =
-    record {
-      named = map-append (λ (row : TextRow). row.name) rows (record { name = name; text = text } ∷ []) ∙ ap (λ ns. ns ++ name ∷ []) so_far.named ∙ ap (λ n. take i names ++ n ∷ []) is ∙ sym (take_more names i name below);
-      read = All-push (λ (row : TextRow). IsHeld held row.name text_limit row.text) rows (record { name = name; text = text }) so_far.read fits;
-    }
-
 -- a list around one of its places
 pub around : {X : Type 0} (xs : List X) (i : ℕ) (d : X) → i < length xs → xs ≡ take i xs ++ get_or xs i d ∷ drop (i + 1) xs
 around [] i d below = absurd (omega arith)
@@ -79,21 +72,17 @@ around (x ∷ xs) (suc i) d below =
     let two : suc (suc i) ≡ suc i + 1 = omega arith in
     ap (λ ys. x ∷ ys) (rest ∙ ap (λ n. take i xs ++ get_or xs i d ∷ drop n xs) one) ∙ ap (λ n. x ∷ (take i xs ++ get_or xs i d ∷ drop n (x ∷ xs))) two
 
-pub stops_at : (held : Held) (names : List (List ℕ)) (rows : List TextRow) (i : ℕ) (name : List ℕ) (status : Status) → i < length names → name ≡ get_or names i name → TextsAre held (take i names) rows → StopsAtName held name text_limit status → StopsAtText held names status
-stops_at held names rows i name status below is so_far stops =
+pub stops_at : (held : Held) (names : List (List ℕ)) (rows : List TextRow) (i : ℕ) (name : List ℕ) (why : Stop) → i < length names → name ≡ get_or names i name → TextsAre held (take i names) rows → StopsAtName held name text_limit why → StopsAtText held names why
+stops_at held names rows i name why below is so_far stops =
     record { before = take i names; name = name; after = drop (i + 1) names; rows = rows; parts = around names i name below ∙ ap (λ n. take i names ++ n ∷ drop (i + 1) names) (sym is); read = so_far; stops = stops }
 
 -- a refusal stops the call
-pub refused_bytes : (bytes : List ℕ) (error : GraphError) (status : Status) → IsRefusal error status → (error ≢ NoMemoryToRead → (plan : PlanRows) → PlanText bytes plan → ⊥) → StopsAtBytes bytes status
-refused_bytes bytes NoMemoryToRead status is refused = subst (StopsAtBytes bytes) (sym is) tt
-refused_bytes bytes NotJson status is refused = subst (StopsAtBytes bytes) (sym is) (λ same. absurd (cc), refused (λ same. absurd (cc)))
-refused_bytes bytes (BadField spot field) status is refused = subst (StopsAtBytes bytes) (sym is) (λ same. absurd (cc), refused (λ same. absurd (cc)))
-refused_bytes bytes (NoSuchName spot field) status is refused = subst (StopsAtBytes bytes) (sym is) (λ same. absurd (cc), refused (λ same. absurd (cc)))
-refused_bytes bytes (Repeated spot field) status is refused = subst (StopsAtBytes bytes) (sym is) (λ same. absurd (cc), refused (λ same. absurd (cc)))
-refused_bytes bytes (TooMany kind) status is refused = subst (StopsAtBytes bytes) (sym is) (λ same. absurd (cc), refused (λ same. absurd (cc)))
+pub refused_bytes : (bytes : List ℕ) (error : GraphError) (why : Stop) → (why ≡ NoMemory) ⊎ ((error ≢ NoMemoryToRead) × (why ≡ BadGraph error)) → (error ≢ NoMemoryToRead → (plan : PlanRows) → PlanText bytes plan → ⊥) → StopsAtBytes bytes why
+refused_bytes bytes error why (inl same) refused = subst (StopsAtBytes bytes) (sym same) tt
+refused_bytes bytes error why (inr (other, same)) refused = subst (StopsAtBytes bytes) (sym same) (other, refused other)
 
 -- the job of a plan over the texts that it names
-pub is_work : (held : Held) (plan : PlanRows) (rows : List TextRow) → IsPlan plan → TextsAre held (texts_of plan.top.ops) rows → IsWork (record { plan = plan; texts = rows; «module» = None; input = []; limit = 100000 })
+pub is_work : (held : Held) (plan : PlanRows) (rows : List TextRow) → IsPlan plan → TextsAre held (plan_texts plan) rows → IsWork (record { plan = plan; texts = rows; «module» = None; input = []; limit = 100000 })
 is_work held plan rows is read =
     record {
       plan = is;

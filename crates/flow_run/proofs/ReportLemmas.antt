@@ -1,5 +1,5 @@
 -- The report of a run, one task after another.
-use Rattle.std.proofs.Common.{append-nil, ◌≡◌, ℕ, zero, suc, ◌+◌, ◌-◌, ◌<◌, Bool, true, false, List, [], ◌∷◌, ◌++◌, length, Option, Some, None, sym, refl, ap, ◌∙◌, subst, arith, slice_index_or}
+use Rattle.std.proofs.Common.{Ok, Err, append-nil, ◌≡◌, ℕ, zero, suc, ◌+◌, ◌-◌, ◌<◌, Bool, true, false, List, [], ◌∷◌, ◌++◌, length, Option, Some, None, sym, refl, ap, ◌∙◌, subst, arith, slice_index_or}
 use Rattle.std.specs.Prelude.{◌==◌, if◌then◌else◌}
 use Rattle.std.specs.List.{range_with_len, flat_map}
 use Rattle.std.specs.Option.{option_map_or, option_and_then}
@@ -9,15 +9,17 @@ use Rattle.legal_run.specs.declared.entry.Entry.{Entry}
 use Rattle.run_frame.specs.declared.run.ValueRow.{ValueRow}
 use Rattle.run_frame.specs.Runs.{value_at}
 use Rattle.text_tasks.specs.declared.item.Item.{Item}
-use Rattle.outside_io.specs.Sink.{Took, TookFront}
-use Rattle.outside_io.proofs.Pieces.{whole_after_whole, front_after_whole, front_of_front}
+use Rattle.outside_io.specs.declared.sink.SinkFault.{SinkFault}
+use Rattle.outside_io.specs.Sink.{SinkState, Accepts, Writes}
+use Rattle.outside_io.proofs.Pieces.{writes_both, writes_no_more}
 use Rattle.task_graph.specs.NetRows.{NetRows}
 use Rattle.run_frame.specs.NestedRule.{job_of, journal_of}
 use Rattle.run_frame.specs.declared.run.FrameRun.{FrameRun, out-FrameRun}
 use Rattle.text_tasks.specs.declared.job.TextJob.{TextJob}
 use Rattle.text_tasks.specs.JobMeaning.{net_of, names_of}
-use Rattle.flow_run.specs.Output.{ended_at, last_before, last_end, last_value, task_report, told}
-use Rattle.flow_run.proofs.EndsLemmas.{counting_more, last_before_more}
+use Rattle.run_frame.specs.LastEnds.{ended_at, last_before, last_end, last_value}
+use Rattle.run_frame.proofs.EndsLemmas.{counting_more, last_before_more}
+use Rattle.flow_run.specs.Output.{task_report, told}
 
 -- The texts of one number more.
 pub texts_more : (text : ℕ → List ℕ) (n : ℕ) → flat_map text (range_with_len 0 (n + 1)) ≡ flat_map text (range_with_len 0 n) ++ text n
@@ -26,24 +28,25 @@ texts_more text n =
     ∙ flat_map-append text (range_with_len 0 n) (n ∷ [])
     ∙ ap (λ last. flat_map text (range_with_len 0 n) ++ last) (append-nil (text n))
 
--- A whole text more was taken.
-pub one_taken : (text : ℕ → List ℕ) (n : ℕ) (before between after : Option (List ℕ)) → Took before between (flat_map text (range_with_len 0 n)) → Took between after (text n) → Took before after (flat_map text (range_with_len 0 (n + 1)))
-one_taken text n before between after whole next = rw (texts_more text n) (whole_after_whole before between after _ _ whole next)
+-- After the texts before it, the text of one number more was accepted.
+pub one_written : (text : ℕ → List ℕ) (n : ℕ) (before between after : SinkState) → Accepts before between (flat_map text (range_with_len 0 n)) → Accepts between after (text n) → Accepts before after (flat_map text (range_with_len 0 (n + 1)))
+one_written text n before between after whole next = rw (texts_more text n) (writes_both before between after _ _ (Ok tt) whole next)
 
--- A front of the first texts is a front of more of them.
-front_further : (text : ℕ → List ℕ) (n more : ℕ) (before after : Option (List ℕ)) → TookFront before after (flat_map text (range_with_len 0 n)) → TookFront before after (flat_map text (range_with_len 0 (n + more)))
-front_further text n zero before after part = let same : n ≡ n + 0 = omega arith in subst (λ k. TookFront before after (flat_map text (range_with_len 0 k))) same part
-front_further text n (suc more) before after part =
+-- A write that ends in an error at some of the texts does so at more of them.
+no_further : (text : ℕ → List ℕ) (n more : ℕ) (before after : SinkState) (fault : SinkFault) → Writes before after (flat_map text (range_with_len 0 n)) (Err fault) → Writes before after (flat_map text (range_with_len 0 (n + more))) (Err fault)
+no_further text n zero before after fault cut = let same : n ≡ n + 0 = omega arith in subst (λ k. Writes before after (flat_map text (range_with_len 0 k)) (Err fault)) same cut
+no_further text n (suc more) before after fault cut =
     let same : n + more + 1 ≡ n + suc more = omega arith in
-    subst (λ k. TookFront before after (flat_map text (range_with_len 0 k))) same
-    (rw (texts_more text (n + more)) (front_of_front before after _ _ (front_further text n more before after part)))
+    subst (λ k. Writes before after (flat_map text (range_with_len 0 k)) (Err fault)) same
+    (subst (λ bytes. Writes before after bytes (Err fault)) (sym (texts_more text (n + more))) (writes_no_more before after _ _ fault (no_further text n more before after fault cut)))
 
--- Where a front of one text was taken after those before it, it is a front of all texts.
-pub one_refused : (text : ℕ → List ℕ) (n all : ℕ) (before between after : Option (List ℕ)) → n < all → Took before between (flat_map text (range_with_len 0 n)) → TookFront between after (text n) → TookFront before after (flat_map text (range_with_len 0 all))
-one_refused text n all before between after inside whole part =
+-- Where the write of one text ends in an error after those before it, so does that of all texts.
+pub one_refused : (text : ℕ → List ℕ) (n all : ℕ) (before between after : SinkState) (fault : SinkFault) → n < all → Accepts before between (flat_map text (range_with_len 0 n)) → Writes between after (text n) (Err fault) → Writes before after (flat_map text (range_with_len 0 all)) (Err fault)
+one_refused text n all before between after fault inside whole part =
     let same : n + 1 + (all - (n + 1)) ≡ all = omega arith in
-    subst (λ k. TookFront before after (flat_map text (range_with_len 0 k))) same
-    (front_further text (n + 1) (all - (n + 1)) before after (rw (texts_more text n) (front_after_whole before between after _ _ whole part)))
+    subst (λ k. Writes before after (flat_map text (range_with_len 0 k)) (Err fault)) same
+    (no_further text (n + 1) (all - (n + 1)) before after fault
+    (subst (λ bytes. Writes before after bytes (Err fault)) (sym (texts_more text n)) (writes_both before between after _ _ (Err fault) whole part)))
 
 -- The last End before a place stands before it.
 last_inside : (journal : List Entry) (t n k : ℕ) → last_before journal t n ≡ Some k → k < n

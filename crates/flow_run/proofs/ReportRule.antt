@@ -17,8 +17,8 @@ use Rattle.run_frame.specs.NestedRule.{NestedRule, InnerEnd, job_of, journal_of}
 use Rattle.text_tasks.specs.declared.item.Item.{Item}
 use Rattle.text_tasks.specs.declared.job.TextJob.{TextJob}
 use Rattle.text_tasks.specs.JobMeaning.{text_job}
-use Rattle.flow_run.specs.Output.{ended, ended_at, is_end_of, last_before, last_end, last_value}
-use Rattle.flow_run.proofs.EndsLemmas.{last_before_more}
+use Rattle.run_frame.specs.LastEnds.{ended, ended_at, is_end_of, last_before, last_end, last_value}
+use Rattle.run_frame.proofs.EndsLemmas.{last_before_more}
 
 -- The last of a task's Ends is one.
 last_is_end : (journal : List Entry) (t n k : ℕ) → last_before journal t n ≡ Some k → is_end_of journal t k ≡ true

@@ -1,109 +1,116 @@
 -- How a call of the program ends: the status, what ran, and what was put.
-use Rattle.std.specs.Prelude.{◌≡◌, ◌⊎◌, ℕ, ◌<◌, Bool, true, false, List, [], ◌∷◌, Option, String}
+use Rattle.std.specs.Prelude.{◌≡◌, ◌⊎◌, ℕ, ◌<◌, ◌≤◌, Bool, true, false, List, [], ◌∷◌, Result, Ok, Err, String}
 use Rattle.std.specs.Global.{Global}
 use Rattle.std.specs.List.{flat_map}
-use Rattle.outside_io.specs.Sink.{Took, TookFront}
+use Rattle.outside_io.specs.declared.sink.SinkFault.{SinkFault}
+use Rattle.outside_io.specs.declared.sink.SinkFault.TheVariants as fault
+use Rattle.outside_io.specs.Sink.{SinkState, Took, TookFront}
 use Rattle.run_frame.specs.declared.run.FrameRun.{FrameRun}
-use Rattle.run_frame.specs.Legal.{Legal, CompleteRun}
-use Rattle.run_frame.specs.Rows.{RowsFit}
+use Rattle.run_frame.specs.Legal.{IsKept}
 use Rattle.run_frame.specs.NestedRule.{job_of}
 use Rattle.text_tasks.specs.declared.item.Item.{Item}
 use Rattle.text_tasks.specs.declared.job.TextJob.{TextJob}
 use Rattle.text_tasks.specs.JobMeaning.{text_job}
 use Rattle.flow_run.specs.declared.status.Status.{Status}
 use Rattle.flow_run.specs.declared.status.Status.TheVariants.{Done, BadWords, BadGraph, NoSource, NoText, LongText, ReadFault, WriteFault, NoMemory}
+use Rattle.flow_run.specs.declared.stop.Stop.{Stop}
+use Rattle.flow_run.specs.declared.stop.Stop.TheVariants as stop
 use Rattle.flow_run.specs.Requests.{Held, IsRequestedJob, StopsBefore}
 use Rattle.flow_run.specs.Words.{AsksForRun}
 use Rattle.flow_run.specs.Output.{report_of}
 
--- a run that is kept: legal, complete, with a value for each End, and of the job that the file asks for
-pub record IsKept (held : Held) (file : List ℕ) (run : FrameRun TextJob Item) : Type 0 where
-  pub legal : Legal text_job run
-  pub complete : CompleteRun text_job run
-  pub rows : RowsFit run
-  pub requested : IsRequestedJob held file (job_of run)
+-- a run of text jobs
+abbrev pub Run : Type 0
+Run = FrameRun TextJob Item
 
--- Which runs are kept with a status. One was run to its end where the status is Done or WriteFault; it may have
--- been where memory was refused; else none was begun, for the reason that the status tells.
-abbrev pub KeptWith : Held → List ℕ → Status → List (FrameRun TextJob Item) → Type 0
-KeptWith held file Done runs = (run : FrameRun TextJob Item) × (runs ≡ run ∷ []) × IsKept held file run
-KeptWith held file BadWords runs = ⊥
-KeptWith held file (BadGraph error) runs = (runs ≡ []) × StopsBefore held file (BadGraph error)
-KeptWith held file (NoSource spot) runs = (runs ≡ []) × StopsBefore held file (NoSource spot)
-KeptWith held file (NoText name) runs = (runs ≡ []) × StopsBefore held file (NoText name)
-KeptWith held file (LongText name) runs = (runs ≡ []) × StopsBefore held file (LongText name)
-KeptWith held file (ReadFault name) runs = (runs ≡ []) × StopsBefore held file (ReadFault name)
-KeptWith held file WriteFault runs = (run : FrameRun TextJob Item) × (runs ≡ run ∷ []) × IsKept held file run
-KeptWith held file NoMemory runs = (runs ≡ []) ⊎ ((run : FrameRun TextJob Item) × (runs ≡ run ∷ []) × IsKept held file run)
+-- the status that tells why a call stopped before a run
+abbrev pub status_of : Stop → Status
+status_of (stop.BadGraph error) = BadGraph error
+status_of (stop.NoSource spot) = NoSource spot
+status_of (stop.NoText name) = NoText name
+status_of (stop.LongText name) = LongText name
+status_of (stop.ReadFault name) = ReadFault name
+status_of stop.NoMemory = NoMemory
 
--- one run of the job was run to its end
-pub record RanOnce (job : TextJob) (runs : List (FrameRun TextJob Item)) : Type 0 where
-  pub run : FrameRun TextJob Item
+-- a status that may come after a run
+abbrev pub IsAfterRun : Status → Type 0
+IsAfterRun Done = Unit {0}
+IsAfterRun WriteFault = Unit {0}
+IsAfterRun NoMemory = Unit {0}
+IsAfterRun status = ⊥
+
+-- one run was run to its end, and its job is such a one
+pub record RanOnce (IsJob : TextJob → Type 0) (status : Status) (runs : List Run) : Type 0 where
+  pub run : Run
   pub only : runs ≡ run ∷ []
-  pub legal : Legal text_job run
-  pub complete : CompleteRun text_job run
-  pub rows : RowsFit run
-  pub of_job : job_of run ≡ job
+  pub kept : IsKept text_job run
+  pub job : IsJob (job_of run)
+  pub after : IsAfterRun status
 
--- so it was, or memory was refused
-abbrev pub RanWith : TextJob → Status → List (FrameRun TextJob Item) → Type 0
-RanWith job Done runs = RanOnce job runs
-RanWith job BadWords runs = ⊥
-RanWith job (BadGraph error) runs = ⊥
-RanWith job (NoSource spot) runs = ⊥
-RanWith job (NoText name) runs = ⊥
-RanWith job (LongText name) runs = ⊥
-RanWith job (ReadFault name) runs = ⊥
-RanWith job WriteFault runs = RanOnce job runs
-RanWith job NoMemory runs = (runs ≡ []) ⊎ RanOnce job runs
+-- no run was begun
+pub record StoppedBefore (Stops : Stop → Type 0) (status : Status) (runs : List Run) : Type 0 where
+  pub why : Stop
+  pub stops : Stops why
+  pub told : status ≡ status_of why
+  pub none : runs ≡ []
 
--- what is put on the output for these runs
-abbrev pub reports : List (FrameRun TextJob Item) → List ℕ
-reports runs = flat_map report_of runs
+-- How a call ends that is to run a file: before a run, for a reason that the status tells, or after the run that
+-- the file asks for.
+abbrev pub RunEnds : Held → List ℕ → Status → List Run → Type 0
+RunEnds held file status runs = StoppedBefore (StopsBefore held file) status runs ⊎ RanOnce (IsRequestedJob held file) status runs
 
--- whether the status says that a put was refused
-abbrev pub WrittenFits : Status → Bool → Type 0
-WrittenFits Done written = written ≡ true
-WrittenFits BadWords written = written ≡ true
-WrittenFits (BadGraph error) written = written ≡ true
-WrittenFits (NoSource spot) written = written ≡ true
-WrittenFits (NoText name) written = written ≡ true
-WrittenFits (LongText name) written = written ≡ true
-WrittenFits (ReadFault name) written = written ≡ true
-WrittenFits WriteFault written = written ≡ false
-WrittenFits NoMemory written = Unit {0}
+-- how a job's run ends: without memory, or after it
+abbrev pub JobEnds : TextJob → Status → List Run → Type 0
+JobEnds job status runs = StoppedBefore (λ why. why ≡ stop.NoMemory) status runs ⊎ RanOnce (λ of. of ≡ job) status runs
 
--- no put on the output was refused, or its count of faults rose, or memory was refused
-abbrev pub WriteCause : Status → ℕ → ℕ → Type 0
-WriteCause Done before after = Unit {0}
-WriteCause BadWords before after = Unit {0}
-WriteCause (BadGraph error) before after = Unit {0}
-WriteCause (NoSource spot) before after = Unit {0}
-WriteCause (NoText name) before after = Unit {0}
-WriteCause (LongText name) before after = Unit {0}
-WriteCause (ReadFault name) before after = Unit {0}
-WriteCause WriteFault before after = before < after
-WriteCause NoMemory before after = Unit {0}
-
--- the words ask for a run of this file, with this end, or they ask for none
-abbrev pub CallEnds : Held → List (String Global) → Status → List (FrameRun TextJob Item) → Type 0
+-- how a call ends: the words ask for a run of a file, or for none
+abbrev pub CallEnds : Held → List (String Global) → Status → List Run → Type 0
 CallEnds held words status runs =
-    ((file : List ℕ) × AsksForRun words file × KeptWith held file status runs)
+    ((file : List ℕ) × AsksForRun words file × RunEnds held file status runs)
     ⊎ ((status ≡ BadWords) × (runs ≡ []) × ((file : List ℕ) → ¬ AsksForRun words file))
 
--- whether the output took the whole report: all but where a put on it was refused, or memory was
-abbrev pub put_whole : Status → Bool → Bool
-put_whole Done written = written
-put_whole BadWords written = written
-put_whole (BadGraph error) written = written
-put_whole (NoSource spot) written = written
-put_whole (NoText name) written = written
-put_whole (LongText name) written = written
-put_whole (ReadFault name) written = written
-put_whole WriteFault written = written
-put_whole NoMemory written = false
+-- what is put on the output for these runs
+abbrev pub reports : List Run → List ℕ
+reports runs = flat_map report_of runs
 
--- the output took the whole text, or a front of it
-abbrev pub OutputIs : Option (List ℕ) → Option (List ℕ) → Bool → List ℕ → Type 0
-OutputIs before after true text = Took before after text
-OutputIs before after false text = TookFront before after text
+-- the whole of these bytes was taken, and nothing is held back
+pub record Delivered (before after : SinkState) (bytes : List ℕ) : Type 0 where
+  pub took : Took before.taken after.taken bytes
+  pub nothing_held : after.held_back ≡ []
+  pub faults : after.faults ≡ before.faults
+
+-- a prefix of these bytes was taken, and nothing is held back
+pub record CutShort (before after : SinkState) (bytes : List ℕ) : Type 0 where
+  pub took : TookFront before.taken after.taken bytes
+  pub nothing_held : after.held_back ≡ []
+
+-- what bytes come to that are put on a sink which holds nothing back, and flushed
+abbrev pub Delivers : SinkState → SinkState → List ℕ → Result (Unit {0}) SinkFault → Type 0
+Delivers before after bytes (Ok done) = Delivered before after bytes
+Delivers before after bytes (Err fault.Failed) = CutShort before after bytes × (before.faults < after.faults)
+Delivers before after bytes (Err fault.NoMemory) = CutShort before after bytes × (before.faults ≤ after.faults)
+
+-- What a command has done to the output when it ends. Where no run is kept it is as it was.
+pub record Reported {S : Type 0} (state : S → SinkState) (old new : S) (status : Status) (runs : List Run) (written : Bool) : Type 0 where
+  pub front : TookFront (state old).taken (state new).taken (reports runs)
+  pub whole : written ≡ true → Took (state old).taken (state new).taken (reports runs)
+  pub nothing_held : (state new).held_back ≡ []
+  pub no_fault : written ≡ true → (state new).faults ≡ (state old).faults
+  pub cause : written ≡ false → ((state old).faults < (state new).faults) ⊎ (status ≡ NoMemory)
+  pub no_fewer : (state old).faults ≤ (state new).faults
+  pub done : status ≡ Done → written ≡ true
+  pub write_fault : status ≡ WriteFault → written ≡ false
+  pub untouched : runs ≡ [] → new ≡ old
+  pub nothing_to_write : runs ≡ [] → written ≡ true
+
+-- a read failed, and the status tells on which name
+abbrev pub IsReadFault : Status → Type 0
+IsReadFault status = (name : List ℕ) × (status ≡ ReadFault name)
+
+-- What a command has done to the texts when it ends: what is held stays, and a failed read is told unless memory
+-- ran out.
+pub record HaveRead {F : Type 0} (held : F → Held) (faults : F → ℕ) (old new : F) (status : Status) : Type 0 where
+  pub stays : held new ≡ held old
+  pub no_fewer : faults old ≤ faults new
+  pub cause : IsReadFault status → faults old < faults new
+  pub told : (faults new ≡ faults old) ⊎ IsReadFault status ⊎ (status ≡ NoMemory)

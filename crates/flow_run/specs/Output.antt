@@ -1,54 +1,19 @@
 -- The report of a run: what each task that leads to no other ended with.
-use Rattle.std.specs.Prelude.{ℕ, Bool, false, ◌==◌, List, [], ◌∷◌, ◌++◌, length, filter, slice_get, slice_index_or, Option, Some, None, if◌then◌else◌}
-use Rattle.std.specs.List.{range_with_len, last_or, flat_map}
-use Rattle.std.specs.Option.{option_map_or, option_and_then}
+use Rattle.std.specs.Prelude.{ℕ, ◌==◌, List, [], ◌∷◌, ◌++◌, length, slice_index_or, Option, Some, None, if◌then◌else◌}
+use Rattle.std.specs.List.{range_with_len, flat_map}
 use Rattle.task_graph.specs.NetRows.{NetRows}
 use Rattle.task_graph.specs.Net.{out_edges}
 use Rattle.legal_run.specs.declared.entry.Entry.{Entry}
-use Rattle.legal_run.specs.declared.entry.Entry.TheVariants.{Start, End, Fault, Drop}
-use Rattle.legal_run.specs.Counts.{start_at}
 use Rattle.run_frame.specs.declared.run.ValueRow.{ValueRow}
-use Rattle.run_frame.specs.declared.run.FrameRun.{FrameRun, out-FrameRun}
-use Rattle.run_frame.specs.Runs.{value_at}
+use Rattle.run_frame.specs.declared.run.FrameRun.{FrameRun}
+use Rattle.run_frame.specs.LastEnds.{last_value}
+use Rattle.run_frame.specs.Runs.{values_of}
 use Rattle.run_frame.specs.NestedRule.{job_of, journal_of}
 use Rattle.text_tasks.specs.declared.item.Item.{Item}
 use Rattle.text_tasks.specs.declared.job.TextJob.{TextJob}
 use Rattle.text_tasks.specs.Items.{item_text}
 use Rattle.text_tasks.specs.Lines.{line_end}
 use Rattle.text_tasks.specs.JobMeaning.{net_of, names_of}
-
--- the task of the start that an End closes
-abbrev pub ended : List Entry → Entry → Option ℕ
-ended journal (Start task cause ins) = None
-ended journal (End start gives inner) = start_at journal start
-ended journal (Fault start why) = None
-ended journal (Drop task cause why) = None
-
--- the task whose End stands at a place, where one stands there
-abbrev pub ended_at : List Entry → ℕ → Option ℕ
-ended_at journal n = option_and_then (ended journal) (slice_get journal n)
-
--- whether an End of this task stands at a place
-abbrev pub is_end_of : List Entry → ℕ → ℕ → Bool
-is_end_of journal t n = option_map_or (λ task. task == t) (ended_at journal n) false
-
--- the places of a task's Ends below a number, rising, and the last of them
-abbrev pub ends_before : List Entry → ℕ → ℕ → List ℕ
-ends_before journal t n = filter (is_end_of journal t) (range_with_len 0 n)
-
-abbrev pub last_before : List Entry → ℕ → ℕ → Option ℕ
-last_before journal t n = last_or None (ends_before journal t n)
-
--- the places of all its Ends, and the last of them
-abbrev pub ends_of : List Entry → ℕ → List ℕ
-ends_of journal t = ends_before journal t (length journal)
-
-abbrev pub last_end : List Entry → ℕ → Option ℕ
-last_end journal t = last_or None (ends_of journal t)
-
--- the value of a task's last End
-abbrev pub last_value : List Entry → List (ValueRow Item) → ℕ → Option Item
-last_value journal values t = option_and_then (value_at values) (last_end journal t)
 
 -- the marks with which the line of a task begins that has ended, and of one that hasn't
 abbrev pub ended_mark : List ℕ
@@ -81,4 +46,4 @@ report names net journal values = flat_map (told names net journal values) (rang
 
 -- the report of a run
 abbrev pub report_of : FrameRun TextJob Item → List ℕ
-report_of run = report (names_of (job_of run)) (net_of (job_of run)) (journal_of run) (out-FrameRun TextJob Item run).values
+report_of run = report (names_of (job_of run)) (net_of (job_of run)) (journal_of run) (values_of run)

@@ -1,19 +1,19 @@
 -- What a call of the program asks for, and why it stops before a run.
-use Rattle.std.specs.Prelude.{◌≡◌, ◌≢◌, ◌⊎◌, ℕ, ◌<◌, ◌≤◌, List, [], ◌∷◌, ◌++◌, length, map, All, Option, Some, None, IfSome, IsSomeAnd}
-use Rattle.graph_file.specs.declared.refusals.GraphError.{GraphError}
-use Rattle.graph_file.specs.declared.refusals.GraphError.TheVariants.{NotJson, BadField, NoSuchName, Repeated, TooMany, NoMemory as NoMemoryToRead}
-use Rattle.graph_file.specs.PlanRows.{PlanRows}
+use Rattle.std.specs.Prelude.{◌≡◌, ◌≢◌, ◌⊎◌, ℕ, ◌<◌, ◌≤◌, List, [], ◌∷◌, ◌++◌, length, map, All, Option, Some, None, IfSome, IsSomeAnd, Result, Ok, Err, String}
+use Rattle.std.specs.Global.{Global}
+use Rattle.graph_file.specs.declared.refusals.GraphError.TheVariants.{NoMemory as NoMemoryToRead}
+use Rattle.graph_file.specs.PlanRows.{PlanRows, plan_texts}
 use Rattle.graph_file.specs.PlanText.{PlanText}
 use Rattle.graph_file.specs.Sources.{NoSourceAnswer}
-use Rattle.graph_file.specs.TextNames.{texts_of}
 use Rattle.text_tasks.specs.declared.table.TextRow.{TextRow}
 use Rattle.text_tasks.specs.declared.job.TextJob.{TextJob}
 use Rattle.text_tasks.specs.declared.job.TextJob.TheVariants.{Graph}
 use Rattle.text_tasks.specs.GraphWork.{GraphWork, text_limit}
-use Rattle.flow_run.specs.declared.status.Status.{Status}
-use Rattle.flow_run.specs.declared.status.Status.TheVariants.{Done, BadWords, BadGraph, NoSource, NoText, LongText, ReadFault, WriteFault, NoMemory}
+use Rattle.flow_run.specs.declared.stop.Stop.{Stop}
+use Rattle.flow_run.specs.declared.stop.Stop.TheVariants.{BadGraph, NoSource, NoText, LongText, ReadFault, NoMemory}
+use Rattle.flow_run.specs.Words.{AsksForRun}
 
--- the texts that a source holds, where it tells them
+-- the texts that a source holds, where it specifies them
 abbrev pub Held : Type 0
 Held = Option (List ℕ → Option (List ℕ))
 
@@ -30,16 +30,12 @@ abbrev pub IsHeld : Held → List ℕ → ℕ → List ℕ → Type 0
 IsHeld held name max bytes = IfSome held (λ text. text name ≡ Some bytes) × (length bytes ≤ max)
 
 -- why the read of a name stops the call
-abbrev pub StopsAtName : Held → List ℕ → ℕ → Status → Type 0
-StopsAtName held name max Done = ⊥
-StopsAtName held name max BadWords = ⊥
-StopsAtName held name max (BadGraph error) = ⊥
-StopsAtName held name max (NoSource spot) = ⊥
+abbrev pub StopsAtName : Held → List ℕ → ℕ → Stop → Type 0
 StopsAtName held name max (NoText n) = (n ≡ name) × IfSome held (λ text. text name ≡ None)
 StopsAtName held name max (LongText n) = (n ≡ name) × IfSome held (λ text. IsSomeAnd (text name) (λ bytes. max < length bytes))
 StopsAtName held name max (ReadFault n) = n ≡ name
-StopsAtName held name max WriteFault = ⊥
 StopsAtName held name max NoMemory = Unit {0}
+StopsAtName held name max stop = ⊥
 
 -- the rows are the texts of these names, as they are held
 pub record TextsAre (held : Held) (names : List (List ℕ)) (rows : List TextRow) : Type 0 where
@@ -53,39 +49,25 @@ pub record IsAdded (held : Held) (name : List ℕ) (old new : List TextRow) : Ty
   pub read : IsHeld held name text_limit text
 
 -- why reading the texts of these names stops the call: at the first that can't be read
-pub record StopsAtText (held : Held) (names : List (List ℕ)) (status : Status) : Type 0 where
+pub record StopsAtText (held : Held) (names : List (List ℕ)) (stop : Stop) : Type 0 where
   pub before : List (List ℕ)
   pub name : List ℕ
   pub after : List (List ℕ)
   pub rows : List TextRow
   pub parts : names ≡ before ++ name ∷ after
   pub read : TextsAre held before rows
-  pub stops : StopsAtName held name text_limit status
+  pub stops : StopsAtName held name text_limit stop
 
 -- the graph has a task to begin with, or no task at all
 abbrev pub HasStart : PlanRows → Type 0
 HasStart plan = NoSourceAnswer plan None
 
 -- why bytes that were read as a graph file stop the call
-abbrev pub StopsAtBytes : List ℕ → Status → Type 0
-StopsAtBytes bytes Done = ⊥
-StopsAtBytes bytes BadWords = ⊥
+abbrev pub StopsAtBytes : List ℕ → Stop → Type 0
 StopsAtBytes bytes (BadGraph error) = (error ≢ NoMemoryToRead) × ((plan : PlanRows) → PlanText bytes plan → ⊥)
 StopsAtBytes bytes (NoSource spot) = (plan : PlanRows) × PlanText bytes plan × NoSourceAnswer plan (Some spot)
-StopsAtBytes bytes (NoText name) = ⊥
-StopsAtBytes bytes (LongText name) = ⊥
-StopsAtBytes bytes (ReadFault name) = ⊥
-StopsAtBytes bytes WriteFault = ⊥
 StopsAtBytes bytes NoMemory = Unit {0}
-
--- a refusal is told as it is, but want of memory has a status of its own
-abbrev pub IsRefusal : GraphError → Status → Type 0
-IsRefusal NoMemoryToRead status = status ≡ NoMemory
-IsRefusal NotJson status = status ≡ BadGraph NotJson
-IsRefusal (BadField spot field) status = status ≡ BadGraph (BadField spot field)
-IsRefusal (NoSuchName spot field) status = status ≡ BadGraph (NoSuchName spot field)
-IsRefusal (Repeated spot field) status = status ≡ BadGraph (Repeated spot field)
-IsRefusal (TooMany kind) status = status ≡ BadGraph (TooMany kind)
+StopsAtBytes bytes stop = ⊥
 
 -- the bytes held under the file's name stand for the plan, and the graph has a task to begin with
 pub record HasPlan (held : Held) (file : List ℕ) (plan : PlanRows) : Type 0 where
@@ -95,25 +77,25 @@ pub record HasPlan (held : Held) (file : List ℕ) (plan : PlanRows) : Type 0 wh
   pub source : HasStart plan
 
 -- why the graph stops the call
-pub record StopsAtGraph (held : Held) (file : List ℕ) (status : Status) : Type 0 where
+pub record StopsAtGraph (held : Held) (file : List ℕ) (stop : Stop) : Type 0 where
   pub bytes : List ℕ
   pub read : IsHeld held file file_limit bytes
-  pub stops : StopsAtBytes bytes status
+  pub stops : StopsAtBytes bytes stop
 
 -- why one of the plan's texts stops the call
-pub record StopsAtPlanText (held : Held) (file : List ℕ) (status : Status) : Type 0 where
+pub record StopsAtPlanText (held : Held) (file : List ℕ) (stop : Stop) : Type 0 where
   pub plan : PlanRows
   pub has : HasPlan held file plan
-  pub stops : StopsAtText held (texts_of plan.top.ops) status
+  pub stops : StopsAtText held (plan_texts plan) stop
 
 -- Why a call stops before its run: at the graph file, at the graph that it holds, or at a text.
-abbrev pub StopsBefore : Held → List ℕ → Status → Type 0
-StopsBefore held file status = StopsAtName held file file_limit status ⊎ StopsAtGraph held file status ⊎ StopsAtPlanText held file status
+abbrev pub StopsBefore : Held → List ℕ → Stop → Type 0
+StopsBefore held file stop = StopsAtName held file file_limit stop ⊎ StopsAtGraph held file stop ⊎ StopsAtPlanText held file stop
 
 -- the job that a file asks for, over the texts as they are held
 pub record IsRequested (held : Held) (file : List ℕ) (work : GraphWork) : Type 0 where
   pub plan : HasPlan held file work.plan
-  pub texts : TextsAre held (texts_of work.plan.top.ops) work.texts
+  pub texts : TextsAre held (plan_texts work.plan) work.texts
   pub top : work.«module» ≡ None
   pub input : work.input ≡ []
   pub limit : work.limit ≡ start_limit
@@ -121,14 +103,27 @@ pub record IsRequested (held : Held) (file : List ℕ) (work : GraphWork) : Type
 abbrev pub IsRequestedJob : Held → List ℕ → TextJob → Type 0
 IsRequestedJob held file (Graph work) = IsRequested held file work
 
--- a read fault comes only where the count of faults rose
-abbrev pub HasFault : Status → ℕ → ℕ → Type 0
-HasFault Done before after = Unit {0}
-HasFault BadWords before after = Unit {0}
-HasFault (BadGraph error) before after = Unit {0}
-HasFault (NoSource spot) before after = Unit {0}
-HasFault (NoText name) before after = Unit {0}
-HasFault (LongText name) before after = Unit {0}
-HasFault (ReadFault name) before after = before < after
-HasFault WriteFault before after = Unit {0}
-HasFault NoMemory before after = Unit {0}
+-- How reads that stop the call for this reason count their faults: a failure that isn't told was met where an
+-- allocation failed too.
+abbrev pub CountsStop : Stop → ℕ → ℕ → Type 0
+CountsStop (ReadFault name) before after = before < after
+CountsStop NoMemory before after = before ≤ after
+CountsStop stop before after = after ≡ before
+
+-- how reads count their faults
+abbrev pub CountsReads : {A : Type 0} → ℕ → ℕ → Result A Stop → Type 0
+CountsReads before after (Ok read) = after ≡ before
+CountsReads before after (Err stop) = CountsStop stop before after
+
+-- What the words ask for can be had whole: the source specifies what it holds; the file has no more bytes than may
+-- be read, and stands for a plan with a task to begin with, or without tasks; and each text that the plan names is
+-- held, with no more bytes than may be read.
+pub record IsAtHand (held : Held) (words : List (String Global)) : Type 0 where
+  pub file : List ℕ
+  pub text : List ℕ → Option (List ℕ)
+  pub plan : PlanRows
+  pub asks : AsksForRun words file
+  pub specified : held ≡ Some text
+  pub graph : IsSomeAnd (text file) (λ bytes. (length bytes ≤ file_limit) × PlanText bytes plan)
+  pub source : HasStart plan
+  pub named : All (λ name. IsSomeAnd (text name) (λ bytes. length bytes ≤ text_limit)) (plan_texts plan)

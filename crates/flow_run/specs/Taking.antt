@@ -1,11 +1,17 @@
 -- Parts taken from their edges.
-use Rattle.std.specs.Prelude.{◌≡◌, ◌==◌, ◌<◌, ℕ, List, length, map, slice_get, slice_index_or, if◌then◌else◌}
+use Rattle.std.specs.Prelude.{◌≡◌, ◌==◌, ◌<◌, ℕ, List, length, map, slice_get, slice_index_or, Option, Some, None, if◌then◌else◌}
 use Rattle.std.specs.List.{list_any}
 use Rattle.std.specs.Option.{option_map_or}
 use Rattle.task_graph.specs.declared.net.EdgeRow.{EdgeRow}
 use Rattle.join_words.specs.declared.ins.Given.{Given}
-use Rattle.join_words.specs.declared.ins.Given.TheVariants.{Nothing}
+use Rattle.join_words.specs.declared.ins.Given.TheVariants.{Value, First, Nothing}
 use Rattle.text_tasks.specs.declared.item.Item.{Item}
+
+-- the index of the End whose value a part is
+abbrev pub end_of : Given Item → Option ℕ
+end_of (Value n shared) = Some n
+end_of First = None
+end_of Nothing = None
 
 -- what was carried at these edges has been taken, in order, into a list with room for so many
 pub record Taking (old new parts : List (Given Item)) (room all : ℕ) (edges : List ℕ) : Type 0 where

@@ -1,15 +1,15 @@
 // The top call of the program.
-ghost use Rattle.std.specs.Prelude.{◌≡◌, ◌≤◌, ◌<◌, List, [], true, length, IfOk, OnOk, OnErr, IsErrOf};
-ghost use Rattle.outside_io.specs.Sink.{Took, TookFront};
+ghost use Rattle.std.specs.Prelude.{◌≡◌, ◌⊎◌, ◌≤◌, ◌<◌, [], true, false, length, IfOk};
+ghost use Rattle.outside_io.specs.Sink.{Took, TookFront, Writes};
 ghost use Rattle.text_tasks.specs.JobMeaning.{net_of, limit_of, IsTextJob};
-ghost use Rattle.flow_run.specs.Requests.{HasFault};
-ghost use Rattle.flow_run.specs.Answers.{KeptWith, CallEnds, OutputIs, put_whole, WrittenFits, WriteCause, RanOnce, RanWith, reports};
+ghost use Rattle.flow_run.specs.Requests.{IsAtHand};
+ghost use Rattle.flow_run.specs.Answers.{CallEnds, Delivers, HaveRead, IsReadFault, JobEnds, RanOnce, Reported, RunEnds, reports};
 ghost use Rattle.flow_run.specs.Notes.{note_line};
 
 use super::note::put_note;
 use super::one_thread::run_job;
 use super::prepare::prepare;
-use super::report::{ReportFault, put_report};
+use super::report::put_report;
 use super::status::{Noted, Status};
 use super::words::file_to_run;
 use outside_io::{List, NoMemory, Sink, SinkFault, Texts};
@@ -28,15 +28,14 @@ pub struct Outcome {
     pub runs: List<FrameRun<TextJob>>,
     /// The watchers, as they were handed in.
     pub watchers: Vec<Box<dyn Watch + Send>>,
-    /// Whether no put on the output was refused. The output then took the whole report, or nothing where no run
-    /// is kept; with `NoMemory` it may have taken a front, since memory can be refused between two puts.
+    /// Whether the whole report was written, or there was none to write. Else the output has a prefix of it.
     pub written: bool,
-    /// Whether the line of the status was put on the notes.
+    /// Whether the line of the status was written.
     pub noted: Noted,
 }
 
 /// Does what the words ask for: `run FILE` reads the graph file of this name and the texts that it names, runs
-/// the graph to its end, and puts the run's report on `out`. The line of the status goes to `notes`.
+/// the graph to its end, and writes the run's report on `out`. The line of the status goes to `notes`.
 pub fn flow_main<F: Texts, S: Sink, N: Sink>(
     alloc: Global,
     words: &[String],
@@ -45,28 +44,40 @@ pub fn flow_main<F: Texts, S: Sink, N: Sink>(
     notes: &mut N,
     watchers: Vec<Box<dyn Watch + Send>>,
 ) -> Outcome
+    requires nothing_held_on_out { (S.state out.old).held_back ≡ [] }
+    requires nothing_held_on_notes { (N.state notes.old).held_back ≡ [] }
     // The status has its cause, and the kept run is one legal and complete run of the graph that FILE holds.
     ensures ends { CallEnds (F.held texts.old) words.now result.status result.runs }
-    // The output took the report of the kept run, or a front of it where a put or memory was refused. Where no
-    // run is kept nothing is put there.
-    ensures output { OutputIs (S.taken out.old) (S.taken out.new) (put_whole result.status result.written) (reports result.runs) }
+    // Where what the words ask for is at hand and nothing fails, all is done.
+    ensures completes { IsAtHand (F.held texts.old) words.now → F.faults texts.new ≡ F.faults texts.old →
+        (S.state out.new).faults ≡ (S.state out.old).faults → (result.status ≡ Status.Done) ⊎ (result.status ≡ Status.NoMemory) }
+    // The output took the report of the kept run, or a prefix of it. Where no run is kept it is left alone.
+    ensures output { TookFront (S.state out.old).taken (S.state out.new).taken (reports result.runs) }
+    ensures whole { result.written ≡ true → Took (S.state out.old).taken (S.state out.new).taken (reports result.runs) }
+    ensures nothing_held { (S.state out.new).held_back ≡ [] }
     ensures out_untouched { result.runs ≡ [] → out.new ≡ out.old }
-    ensures written { WrittenFits result.status result.written }
-    ensures nothing_refused { result.runs ≡ [] → result.written ≡ true }
-    ensures write_fault { WriteCause result.status (S.faults out.old) (S.faults out.new) }
-    ensures read_fault { HasFault result.status (F.faults texts.old) (F.faults texts.new) }
+    ensures nothing_to_write { result.runs ≡ [] → result.written ≡ true }
+    // The whole was written without a failure; or a write failed, or an allocation.
+    ensures written { result.written ≡ true → (S.state out.new).faults ≡ (S.state out.old).faults }
+    ensures not_written { result.written ≡ false → ((S.state out.old).faults < (S.state out.new).faults) ⊎ (result.status ≡ Status.NoMemory) }
+    ensures done { result.status ≡ Status.Done → result.written ≡ true }
+    ensures write_fault { result.status ≡ Status.WriteFault → result.written ≡ false }
+    ensures no_fewer_of_out { (S.state out.old).faults ≤ (S.state out.new).faults }
+    // A read that failed is told, unless an allocation failed. Words that are refused read nothing.
+    ensures read_fault { IsReadFault result.status → F.faults texts.old < F.faults texts.new }
+    ensures read_faults_told { (F.faults texts.new ≡ F.faults texts.old) ⊎ IsReadFault result.status ⊎ (result.status ≡ Status.NoMemory) }
+    ensures no_fewer_of_texts { F.faults texts.old ≤ F.faults texts.new }
     ensures texts_stay { F.held texts.new ≡ F.held texts.old }
-    // The notes took the line of the status. With Done there is none, and nothing is put there.
+    ensures texts_untouched { result.status ≡ Status.BadWords → texts.new ≡ texts.old }
+    // The notes took the line of the status. With Done there is none, and they are left alone.
     ensures noted_done { result.status ≡ Status.Done → result.noted ≡ Noted.Whole }
     ensures notes_untouched { result.status ≡ Status.Done → notes.new ≡ notes.old }
-    ensures noted_whole { result.noted ≡ Noted.Whole → Took (N.taken notes.old) (N.taken notes.new) (note_line result.status) }
-    ensures noted_front { result.noted ≡ Noted.Fault → TookFront (N.taken notes.old) (N.taken notes.new) (note_line result.status) }
-    ensures note_fault { result.noted ≡ Noted.Fault → N.faults notes.old < N.faults notes.new }
-    ensures noted_nothing { result.noted ≡ Noted.NoMemory → N.taken notes.new ≡ N.taken notes.old }
-    // No count of faults falls.
-    ensures no_fewer_of_texts { F.faults texts.old ≤ F.faults texts.new }
-    ensures no_fewer_of_out { S.faults out.old ≤ S.faults out.new }
-    ensures no_fewer_of_notes { N.faults notes.old ≤ N.faults notes.new }
+    ensures noted_whole { result.noted ≡ Noted.Whole → Took (N.state notes.old).taken (N.state notes.new).taken (note_line result.status) }
+    ensures noted_front { result.noted ≡ Noted.Fault → TookFront (N.state notes.old).taken (N.state notes.new).taken (note_line result.status) }
+    ensures note_fault { result.noted ≡ Noted.Fault → (N.state notes.old).faults < (N.state notes.new).faults }
+    ensures noted_nothing { result.noted ≡ Noted.NoMemory → N.state notes.new ≡ N.state notes.old }
+    ensures no_note_fault { result.noted ≡ Noted.Whole → (N.state notes.new).faults ≡ (N.state notes.old).faults }
+    ensures no_note_held { (N.state notes.new).held_back ≡ [] }
     ensures watchers { result.watchers ≡ watchers }
 {
     let Ended {
@@ -93,16 +104,11 @@ struct Ended {
 
 // Does what the words ask for.
 fn answer<F: Texts, S: Sink>(alloc: Global, words: &[String], texts: &mut F, out: &mut S) -> Ended
+    requires { (S.state out.old).held_back ≡ [] }
     ensures ends { CallEnds (F.held texts.old) words.now result.status result.runs }
-    ensures output { OutputIs (S.taken out.old) (S.taken out.new) (put_whole result.status result.written) (reports result.runs) }
-    ensures out_untouched { result.runs ≡ [] → out.new ≡ out.old }
-    ensures written { WrittenFits result.status result.written }
-    ensures nothing_refused { result.runs ≡ [] → result.written ≡ true }
-    ensures write_fault { WriteCause result.status (S.faults out.old) (S.faults out.new) }
-    ensures read_fault { HasFault result.status (F.faults texts.old) (F.faults texts.new) }
-    ensures texts_stay { F.held texts.new ≡ F.held texts.old }
-    ensures no_fewer_of_texts { F.faults texts.old ≤ F.faults texts.new }
-    ensures no_fewer_of_out { S.faults out.old ≤ S.faults out.new }
+    ensures reported { Reported S.state out.old out.new result.status result.runs result.written }
+    ensures read { HaveRead F.held F.faults texts.old texts.new result.status }
+    ensures texts_untouched { result.status ≡ Status.BadWords → texts.new ≡ texts.old }
 {
     match file_to_run(words) {
         Some(file) => run_file(alloc, file, texts, out),
@@ -112,20 +118,14 @@ fn answer<F: Texts, S: Sink>(alloc: Global, words: &[String], texts: &mut F, out
 
 // The command `run FILE`.
 fn run_file<F: Texts, S: Sink>(alloc: Global, file: &str, texts: &mut F, out: &mut S) -> Ended
-    ensures ends { KeptWith (F.held texts.old) file.now result.status result.runs }
-    ensures output { OutputIs (S.taken out.old) (S.taken out.new) (put_whole result.status result.written) (reports result.runs) }
-    ensures out_untouched { result.runs ≡ [] → out.new ≡ out.old }
-    ensures written { WrittenFits result.status result.written }
-    ensures nothing_refused { result.runs ≡ [] → result.written ≡ true }
-    ensures write_fault { WriteCause result.status (S.faults out.old) (S.faults out.new) }
-    ensures read_fault { HasFault result.status (F.faults texts.old) (F.faults texts.new) }
-    ensures texts_stay { F.held texts.new ≡ F.held texts.old }
-    ensures no_fewer_of_texts { F.faults texts.old ≤ F.faults texts.new }
-    ensures no_fewer_of_out { S.faults out.old ≤ S.faults out.new }
+    requires { (S.state out.old).held_back ≡ [] }
+    ensures ends { RunEnds (F.held texts.old) file.now result.status result.runs }
+    ensures reported { Reported S.state out.old out.new result.status result.runs result.written }
+    ensures read { HaveRead F.held F.faults texts.old texts.new result.status }
 {
     match prepare(alloc, texts, file.as_bytes()) {
         Ok(job) => run_and_report(alloc, job, out),
-        Err(status) => stopped(alloc, status),
+        Err(stop) => stopped(alloc, Status::of(stop)),
     }
 }
 
@@ -140,41 +140,32 @@ fn stopped(alloc: Global, status: Status) -> Ended
     }
 }
 
-// Runs the job and puts the report of its run.
+// Runs the job and writes the report of its run.
 fn run_and_report<S: Sink>(alloc: Global, job: TextJob, out: &mut S) -> Ended
     requires job { IsTextJob job }
     requires room { length (net_of job).tasks ≤ limit_of job }
-    ensures kept { RanWith job result.status result.runs }
-    ensures output { OutputIs (S.taken out.old) (S.taken out.new) (put_whole result.status result.written) (reports result.runs) }
-    ensures out_untouched { result.runs ≡ [] → out.new ≡ out.old }
-    ensures written { WrittenFits result.status result.written }
-    ensures nothing_refused { result.runs ≡ [] → result.written ≡ true }
-    ensures write_fault { WriteCause result.status (S.faults out.old) (S.faults out.new) }
-    ensures no_fewer { S.faults out.old ≤ S.faults out.new }
+    requires nothing_held { (S.state out.old).held_back ≡ [] }
+    ensures ends { JobEnds job result.status result.runs }
+    ensures reported { Reported S.state out.old out.new result.status result.runs result.written }
 {
     let Ok(runs) = kept_runs(alloc, job) else {
         return stopped(alloc, Status::NoMemory);
     };
-    match put_reports(alloc, out, runs.as_slice()) {
+    match deliver_reports(alloc, out, runs.as_slice()) {
         Ok(()) => Ended {
             status: Status::Done,
             runs,
             written: true,
         },
-        Err(ReportFault::Refused(SinkFault::Failed)) => Ended {
+        Err(SinkFault::Failed) => Ended {
             status: Status::WriteFault,
             runs,
             written: false,
         },
-        Err(ReportFault::Refused(SinkFault::NoMemory)) => Ended {
+        Err(SinkFault::NoMemory) => Ended {
             status: Status::NoMemory,
             runs,
             written: false,
-        },
-        Err(ReportFault::NoMemory) => Ended {
-            status: Status::NoMemory,
-            runs,
-            written: true,
         },
     }
 }
@@ -183,7 +174,7 @@ fn run_and_report<S: Sink>(alloc: Global, job: TextJob, out: &mut S) -> Ended
 fn kept_runs(alloc: Global, job: TextJob) -> Result<List<FrameRun<TextJob>>, NoMemory>
     requires job { IsTextJob job }
     requires room { length (net_of job).tasks ≤ limit_of job }
-    ensures { IfOk result (λ runs. RanOnce job runs) }
+    ensures { IfOk result (RanOnce (λ of. of ≡ job) Status.Done) }
 {
     let job = Arc::new(alloc, job)?;
     let run = run_job(alloc, job)?;
@@ -192,21 +183,37 @@ fn kept_runs(alloc: Global, job: TextJob) -> Result<List<FrameRun<TextJob>>, NoM
     Ok(runs)
 }
 
+// Writes the reports of these runs, in order, and all that is held back of them.
+fn deliver_reports<S: Sink>(
+    alloc: Global,
+    out: &mut S,
+    runs: &[FrameRun<TextJob>],
+) -> Result<(), SinkFault>
+    requires { (S.state out.old).held_back ≡ [] }
+    ensures { Delivers (S.state out.old) (S.state out.new) (reports runs.now) result }
+{
+    match put_reports(alloc, out, runs) {
+        Ok(()) => out.flush(),
+        Err(SinkFault::Failed) => Err(SinkFault::Failed),
+        Err(SinkFault::NoMemory) => {
+            let _flushed = out.flush();
+            Err(SinkFault::NoMemory)
+        }
+    }
+}
+
 // Puts the reports of these runs, in order.
+#[tactic(auto, using(outside_io::proofs::Pieces::accepts_nothing))]
 fn put_reports<S: Sink>(
     alloc: Global,
     out: &mut S,
     runs: &[FrameRun<TextJob>],
-) -> Result<(), ReportFault>
-    ensures ok { OnOk result (Took (S.taken out.old) (S.taken out.new) (reports runs.now)) }
-    ensures err { OnErr result (TookFront (S.taken out.old) (S.taken out.new) (reports runs.now)) }
-    ensures cause { IsErrOf result (ReportFault.Refused SinkFault.Failed) → S.faults out.old < S.faults out.new }
-    ensures no_fewer { S.faults out.old ≤ S.faults out.new }
+) -> Result<(), SinkFault>
+    ensures { Writes (S.state out.old) (S.state out.new) (reports runs.now) result }
 {
     for run in runs {
-        match put_report(alloc, out, run) {
-            Ok(()) => (),
-            Err(fault) => return Err(fault),
+        if let Err(fault) = put_report(alloc, out, run) {
+            return Err(fault);
         }
     }
     Ok(())

@@ -1,12 +1,12 @@
 // The values that wait at the edges of a net, while one thread runs it.
-ghost use Rattle.std.specs.Prelude.{◌≡◌, ◌==◌, ◌≤◌, ◌<◌, ◌++◌, ℕ, length, map, replicate, All, IfOk, count_by, slice_index_or, if◌then◌else◌};
+ghost use Rattle.std.specs.Prelude.{◌≡◌, ◌==◌, ◌≤◌, ◌<◌, ◌++◌, ℕ, Some, length, map, replicate, All, IfOk, count_by, slice_index_or, if◌then◌else◌};
 ghost use Rattle.std.specs.List.{list_any};
 ghost use Rattle.std.specs.Arc.{arc_value};
 ghost use Rattle.join_words.specs.Ins.{value, found_of, parts_of};
 ghost use Rattle.join_words.specs.declared.ins.Given.{Given};
 ghost use Rattle.join_words.specs.declared.ins.Given.TheVariants.{Nothing};
 ghost use Rattle.text_tasks.specs.declared.item.Item.{Item};
-ghost use Rattle.flow_run.specs.Taking.{target_of};
+ghost use Rattle.flow_run.specs.Taking.{end_of, target_of};
 
 use join_words::{Given, Ins};
 use outside_io::NoMemory;
@@ -47,7 +47,7 @@ pub fn take_ins(
     Ok(ins)
 }
 
-/// Puts a value at each of these edges.
+/// Puts the value of the End at an index at each of these edges.
 pub fn carry(
     carried: &mut Vec<Given<Item>>,
     edges: &[u32],
@@ -59,6 +59,9 @@ pub fn carry(
     ensures each { IfOk result (λ _. (k : ℕ) (d : Given Item) → k < length carried.old.items →
         found_of (slice_index_or carried.new.items k d)
         ≡ (if list_any (λ e. e == k) edges.now then value (arc_value item.now) else found_of (slice_index_or carried.old.items k d))) }
+    ensures index { IfOk result (λ _. (k : ℕ) (d : Given Item) → k < length carried.old.items →
+        end_of (slice_index_or carried.new.items k d)
+        ≡ (if list_any (λ e. e == k) edges.now then Some place else end_of (slice_index_or carried.old.items k d))) }
 {
     for edge in edges {
         carried[*edge as usize] = Given::Value(place, Arc::try_clone(item)?);

@@ -8,12 +8,12 @@
 
 mod call;
 mod carried;
-mod last_ends;
 mod note;
 mod one_thread;
 mod prepare;
 mod report;
 mod status;
+mod stop;
 #[cfg(test)]
 mod tests;
 mod words;

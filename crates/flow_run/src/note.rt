@@ -1,7 +1,7 @@
 // The one line that a status puts on the notes.
-ghost use Rattle.std.specs.Prelude.{◌≡◌, ◌<◌, ◌≤◌, ◌++◌, codes, decimal, IfOk, OnOk};
+ghost use Rattle.std.specs.Prelude.{◌≡◌, ◌<◌, ◌++◌, [], codes, decimal, IfOk, IsErrOf, OnOk};
 ghost use Rattle.std.specs.Result.{IsOkAnd};
-ghost use Rattle.outside_io.specs.Sink.{Took, TookFront};
+ghost use Rattle.flow_run.specs.Answers.{CutShort, Delivered, Delivers};
 ghost use Rattle.flow_run.specs.Notes.{graph_error_text, kind_text, note_line, spot_text, within_text};
 ghost use Rattle.flow_run.specs.declared.status.Noted.TheVariants as noted;
 ghost use Rattle.flow_run.specs.declared.status.Status.TheVariants.{Done};
@@ -12,17 +12,15 @@ use itoa::Buffer;
 use outside_io::{Bytes, List, NoMemory, Sink, SinkFault};
 use std::alloc::Global;
 
-/// Puts the line of a status on the notes, by one put. Where all was done there is no line, and nothing is put.
-/// After a fault the notes took a front of the line; where memory was refused they took nothing. A line that names
-/// nothing takes no memory, so that of want of memory can be put all the same.
+/// Writes the line of a status on the notes, by one put, and flushes them. Where all was done there is no line, and
+/// they are left alone. A line that names nothing takes no memory, so that of a failed allocation can be written all
+/// the same.
 pub fn put_note<N: Sink>(alloc: Global, notes: &mut N, status: &Status) -> Noted
-    ensures whole { result ≡ noted.Whole
-        → Took (N.taken notes.old) (N.taken notes.new) (note_line status.now) }
-    ensures front { result ≡ noted.Fault
-        → TookFront (N.taken notes.old) (N.taken notes.new) (note_line status.now) }
-    ensures cause { result ≡ noted.Fault → N.faults notes.old < N.faults notes.new }
-    ensures no_memory { result ≡ noted.NoMemory → N.taken notes.new ≡ N.taken notes.old }
-    ensures no_fewer { N.faults notes.old ≤ N.faults notes.new }
+    requires { (N.state notes.old).held_back ≡ [] }
+    ensures whole { result ≡ noted.Whole → Delivered (N.state notes.old) (N.state notes.new) (note_line status.now) }
+    ensures fault { result ≡ noted.Fault → CutShort (N.state notes.old) (N.state notes.new) (note_line status.now) }
+    ensures cause { result ≡ noted.Fault → (N.state notes.old).faults < (N.state notes.new).faults }
+    ensures no_memory { result ≡ noted.NoMemory → N.state notes.new ≡ N.state notes.old }
     ensures done { status.now ≡ Done → result ≡ noted.Whole }
     ensures untouched { status.now ≡ Done → notes.new ≡ notes.old }
 {
@@ -39,13 +37,13 @@ pub fn put_note<N: Sink>(alloc: Global, notes: &mut N, status: &Status) -> Noted
     }
 }
 
-// Puts a line where there was memory to make it.
+// Writes a line where there was memory to make it.
 fn put_made<N: Sink>(notes: &mut N, line: Result<Bytes, NoMemory>) -> Noted
-    ensures whole { result ≡ noted.Whole → IsOkAnd line (Took (N.taken notes.old) (N.taken notes.new)) }
-    ensures front { result ≡ noted.Fault → IsOkAnd line (TookFront (N.taken notes.old) (N.taken notes.new)) }
-    ensures cause { result ≡ noted.Fault → N.faults notes.old < N.faults notes.new }
-    ensures no_memory { result ≡ noted.NoMemory → N.taken notes.new ≡ N.taken notes.old }
-    ensures no_fewer { N.faults notes.old ≤ N.faults notes.new }
+    requires { (N.state notes.old).held_back ≡ [] }
+    ensures whole { result ≡ noted.Whole → IsOkAnd line (Delivered (N.state notes.old) (N.state notes.new)) }
+    ensures fault { result ≡ noted.Fault → IsOkAnd line (CutShort (N.state notes.old) (N.state notes.new)) }
+    ensures cause { result ≡ noted.Fault → (N.state notes.old).faults < (N.state notes.new).faults }
+    ensures no_memory { result ≡ noted.NoMemory → N.state notes.new ≡ N.state notes.old }
 {
     match line {
         Ok(line) => put_line(notes, line.as_slice()),
@@ -53,18 +51,31 @@ fn put_made<N: Sink>(notes: &mut N, line: Result<Bytes, NoMemory>) -> Noted
     }
 }
 
-// Puts a line, by one put.
+// Writes a line, by one put.
 fn put_line<N: Sink>(notes: &mut N, line: &[u8]) -> Noted
-    ensures whole { result ≡ noted.Whole → Took (N.taken notes.old) (N.taken notes.new) line.now }
-    ensures front { result ≡ noted.Fault → TookFront (N.taken notes.old) (N.taken notes.new) line.now }
-    ensures cause { result ≡ noted.Fault → N.faults notes.old < N.faults notes.new }
-    ensures no_memory { result ≡ noted.NoMemory → N.taken notes.new ≡ N.taken notes.old }
-    ensures no_fewer { N.faults notes.old ≤ N.faults notes.new }
+    requires { (N.state notes.old).held_back ≡ [] }
+    ensures whole { result ≡ noted.Whole → Delivered (N.state notes.old) (N.state notes.new) line.now }
+    ensures fault { result ≡ noted.Fault → CutShort (N.state notes.old) (N.state notes.new) line.now }
+    ensures cause { result ≡ noted.Fault → (N.state notes.old).faults < (N.state notes.new).faults }
+    ensures no_memory { result ≡ noted.NoMemory → N.state notes.new ≡ N.state notes.old }
 {
-    match notes.put(line) {
+    match deliver(notes, line) {
         Ok(()) => Noted::Whole,
         Err(SinkFault::Failed) => Noted::Fault,
         Err(SinkFault::NoMemory) => Noted::NoMemory,
+    }
+}
+
+// Puts a line on the notes and flushes them.
+#[tactic(auto, using(crate::proofs::Ending::cut_short))]
+fn deliver<N: Sink>(notes: &mut N, line: &[u8]) -> Result<(), SinkFault>
+    requires { (N.state notes.old).held_back ≡ [] }
+    ensures delivers { Delivers (N.state notes.old) (N.state notes.new) line.now result }
+    ensures no_memory { IsErrOf result SinkFault.NoMemory → N.state notes.new ≡ N.state notes.old }
+{
+    match notes.put(line) {
+        Ok(()) => notes.flush(),
+        Err(fault) => Err(fault),
     }
 }
 

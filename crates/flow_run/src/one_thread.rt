@@ -2,8 +2,7 @@
 ghost use Rattle.std.specs.Prelude.{◌≡◌, ◌≤◌, ◌<◌, ◌++◌, ◌∷◌, [], ℕ, List, length, All, IfOk, IfErr, Ok, ◌+◌};
 ghost use Rattle.std.specs.Arc.{arc_value};
 ghost use Rattle.task_graph.specs.Net.{in_edges};
-ghost use Rattle.run_frame.specs.Legal.{Legal, CompleteRun};
-ghost use Rattle.run_frame.specs.Rows.{RowsFit};
+ghost use Rattle.run_frame.specs.Legal.{IsKept};
 ghost use Rattle.run_frame.specs.NestedRule.{job_of};
 ghost use Rattle.text_tasks.specs.JobMeaning.{text_job, net_of, limit_of, IsTextJob};
 ghost use Rattle.flow_run.specs.UnderWay.{times, born};
@@ -27,9 +26,7 @@ pub fn run_job(alloc: Global, job: Arc<TextJob>) -> Result<FrameRun<TextJob>, No
     requires job { IsTextJob (arc_value job) }
     requires room { length (net_of (arc_value job)).tasks ≤ limit_of (arc_value job) }
     ensures job { IfOk result (λ run. job_of run ≡ arc_value job) }
-    ensures legal { IfOk result (Legal text_job) }
-    ensures complete { IfOk result (CompleteRun text_job) }
-    ensures rows { IfOk result RowsFit }
+    ensures kept { IfOk result (IsKept text_job) }
 {
     let mut run = OneThread::new(alloc, job)?;
     while let Some(task) = run.ready.pop() {
@@ -100,9 +97,7 @@ impl OneThread {
     fn finish(self) -> FrameRun<TextJob>
         requires { IsUnderWay self [] }
         ensures job { job_of result ≡ arc_value self.job }
-        ensures legal { Legal text_job result }
-        ensures complete { CompleteRun text_job result }
-        ensures rows { RowsFit result }
+        ensures kept { IsKept text_job result }
     {
         FrameRun {
             job: self.job,

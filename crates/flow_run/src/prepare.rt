@@ -1,14 +1,14 @@
 // From the name of a graph file to a job that is ready to run.
-ghost use Rattle.std.specs.Prelude.{◌≡◌, ◌≢◌, ◌≤◌, ◌<◌, AllPairs, List, length, IfOk, IfErr, None};
+ghost use Rattle.std.specs.Prelude.{◌≡◌, ◌≢◌, ◌≤◌, AllPairs, length, IfOk, IfErr, None};
 ghost use Rattle.graph_file.specs.PlanRows.{IsPlan, plan_rows};
 ghost use Rattle.graph_file.specs.PlanText.{PlanText};
 ghost use Rattle.text_tasks.specs.TextTable.{rows_of, text_in};
 ghost use Rattle.text_tasks.specs.GraphWork.{text_limit};
 ghost use Rattle.text_tasks.specs.JobMeaning.{net_of, limit_of, IsTextJob};
-ghost use Rattle.flow_run.specs.Requests.{IsHeld, StopsAtName, StopsAtText, StopsBefore, TextsAre, IsRequestedJob, HasFault, StopsAtBytes, HasStart, IsRefusal, IsAdded};
+ghost use Rattle.flow_run.specs.Requests.{CountsReads, HasStart, IsAdded, IsHeld, IsRequestedJob, StopsAtBytes, StopsAtName, StopsAtText, StopsBefore, TextsAre};
 
-use super::status::Status;
-use graph_file::{GraphError, Plan, no_source, read_graph, text_names};
+use super::stop::{Stop, refusal};
+use graph_file::{Plan, no_source, read_graph, text_names};
 use outside_io::{Bytes, Found, List, Texts, TextsFault};
 use std::alloc::Global;
 use std::sync::Arc;
@@ -25,63 +25,41 @@ pub const START_LIMIT: u64 = 100_000;
 
 /// The job that a graph file asks for, with its texts read in the order in which they are first named. An
 /// `Err` tells the first thing that stops the call.
-pub fn prepare<F: Texts>(alloc: Global, texts: &mut F, file: &[u8]) -> Result<TextJob, Status>
+pub fn prepare<F: Texts>(alloc: Global, texts: &mut F, file: &[u8]) -> Result<TextJob, Stop>
     ensures job { IfOk result IsTextJob }
     ensures room { IfOk result (λ job. length (net_of job).tasks ≤ limit_of job) }
     ensures requested { IfOk result (IsRequestedJob (F.held texts.old) file.now) }
     ensures stops { IfErr result (StopsBefore (F.held texts.old) file.now) }
-    ensures fault { IfErr result (λ status. HasFault status (F.faults texts.old) (F.faults texts.new)) }
     ensures stays { F.held texts.new ≡ F.held texts.old }
-    ensures no_fewer { F.faults texts.old ≤ F.faults texts.new }
+    ensures counts { CountsReads (F.faults texts.old) (F.faults texts.new) result }
 {
-    let bytes = match read_named(alloc, texts, file, FILE_LIMIT) {
-        Ok(bytes) => bytes,
-        Err(status) => return Err(status),
-    };
-    let plan = match read_plan(alloc, bytes.as_slice()) {
-        Ok(plan) => plan,
-        Err(status) => return Err(status),
-    };
-    let Ok(names) = text_names(alloc, &plan.top) else {
-        return Err(Status::NoMemory);
-    };
-    let table = match read_texts(alloc, texts, names.as_slice()) {
-        Ok(table) => table,
-        Err(status) => return Err(status),
-    };
-    let Ok(plan) = Arc::new(alloc, plan) else {
-        return Err(Status::NoMemory);
-    };
-    let Ok(table) = Arc::new(alloc, table) else {
-        return Err(Status::NoMemory);
-    };
+    let bytes = read_named(alloc, texts, file, FILE_LIMIT)?;
+    let plan = read_plan(alloc, bytes.as_slice())?;
+    let names = text_names(alloc, &plan)?;
+    let table = read_texts(alloc, texts, names.as_slice())?;
+    let plan = Arc::new(alloc, plan)?;
+    let table = Arc::new(alloc, table)?;
     Ok(first_job(alloc, plan, table, START_LIMIT))
 }
 
 // The text of a name, if it has at most so many bytes.
-fn read_named<F: Texts>(
-    alloc: Global,
-    texts: &mut F,
-    name: &[u8],
-    max: u64,
-) -> Result<Bytes, Status>
+fn read_named<F: Texts>(alloc: Global, texts: &mut F, name: &[u8], max: u64) -> Result<Bytes, Stop>
     ensures held { IfOk result (IsHeld (F.held texts.old) name.now max) }
     ensures stops { IfErr result (StopsAtName (F.held texts.old) name.now max) }
-    ensures fault { IfErr result (λ status. HasFault status (F.faults texts.old) (F.faults texts.new)) }
     ensures stays { F.held texts.new ≡ F.held texts.old }
-    ensures no_fewer { F.faults texts.old ≤ F.faults texts.new }
+    ensures counts { CountsReads (F.faults texts.old) (F.faults texts.new) result }
 {
     match texts.read(alloc, name, max) {
         Ok(Found::Text(bytes)) => Ok(bytes),
-        Ok(Found::Missing) => Err(Status::NoText(List::from_slice(alloc, name)?)),
-        Ok(Found::Longer) => Err(Status::LongText(List::from_slice(alloc, name)?)),
-        Err(TextsFault::Failed) => Err(Status::ReadFault(List::from_slice(alloc, name)?)),
-        Err(TextsFault::NoMemory) => Err(Status::NoMemory),
+        Ok(Found::Missing) => Err(Stop::NoText(List::from_slice(alloc, name)?)),
+        Ok(Found::Longer) => Err(Stop::LongText(List::from_slice(alloc, name)?)),
+        Err(TextsFault::Failed) => Err(Stop::ReadFault(List::from_slice(alloc, name)?)),
+        Err(TextsFault::NoMemory) => Err(Stop::NoMemory),
     }
 }
 
 // The plan for which these bytes stand, if its graph has a task to begin with.
-fn read_plan(alloc: Global, bytes: &[u8]) -> Result<Plan, Status>
+fn read_plan(alloc: Global, bytes: &[u8]) -> Result<Plan, Stop>
     ensures plan { IfOk result (λ plan. PlanText bytes.now (plan_rows plan)) }
     ensures rules { IfOk result (λ plan. IsPlan (plan_rows plan)) }
     ensures source { IfOk result (λ plan. HasStart (plan_rows plan)) }
@@ -93,40 +71,22 @@ fn read_plan(alloc: Global, bytes: &[u8]) -> Result<Plan, Status>
     };
     match no_source(&plan) {
         None => Ok(plan),
-        Some(spot) => Err(Status::NoSource(spot)),
-    }
-}
-
-// The status of a refusal.
-fn refusal(error: GraphError) -> Status
-    ensures { IsRefusal error result }
-{
-    match error {
-        GraphError::NoMemory => Status::NoMemory,
-        GraphError::NotJson => Status::BadGraph(GraphError::NotJson),
-        GraphError::BadField(spot, field) => Status::BadGraph(GraphError::BadField(spot, field)),
-        GraphError::NoSuchName(spot, field) => Status::BadGraph(GraphError::NoSuchName(
-            spot, field,
-        )),
-        GraphError::Repeated(spot, field) => Status::BadGraph(GraphError::Repeated(spot, field)),
-        GraphError::TooMany(kind) => Status::BadGraph(GraphError::TooMany(kind)),
+        Some(spot) => Err(Stop::NoSource(spot)),
     }
 }
 
 // The texts of these names, which differ.
-fn read_texts<F: Texts>(alloc: Global, texts: &mut F, names: &[Bytes]) -> Result<TextTable, Status>
+fn read_texts<F: Texts>(alloc: Global, texts: &mut F, names: &[Bytes]) -> Result<TextTable, Stop>
     requires { AllPairs (λ a b. a ≢ b) names.now }
     ensures are { IfOk result (λ table. TextsAre (F.held texts.old) names.now (rows_of table)) }
     ensures stops { IfErr result (StopsAtText (F.held texts.old) names.now) }
-    ensures fault { IfErr result (λ status. HasFault status (F.faults texts.old) (F.faults texts.new)) }
     ensures stays { F.held texts.new ≡ F.held texts.old }
-    ensures no_fewer { F.faults texts.old ≤ F.faults texts.new }
+    ensures counts { CountsReads (F.faults texts.old) (F.faults texts.new) result }
 {
     let mut table = TextTable::new(alloc);
     for name in names {
-        match add_text(alloc, texts, &mut table, name) {
-            Ok(()) => (),
-            Err(status) => return Err(status),
+        if let Err(stop) = add_text(alloc, texts, &mut table, name) {
+            return Err(stop);
         }
     }
     Ok(table)
@@ -138,23 +98,14 @@ fn add_text<F: Texts>(
     texts: &mut F,
     table: &mut TextTable,
     name: &Bytes,
-) -> Result<(), Status>
+) -> Result<(), Stop>
     requires { text_in (rows_of table.old) name.now ≡ None }
     ensures added { IfOk result (λ _. IsAdded (F.held texts.old) name.now (rows_of table.old) (rows_of table.new)) }
     ensures stops { IfErr result (StopsAtName (F.held texts.old) name.now text_limit) }
-    ensures fault { IfErr result (λ status. HasFault status (F.faults texts.old) (F.faults texts.new)) }
     ensures stays { F.held texts.new ≡ F.held texts.old }
-    ensures no_fewer { F.faults texts.old ≤ F.faults texts.new }
+    ensures counts { CountsReads (F.faults texts.old) (F.faults texts.new) result }
 {
-    let text = match read_named(alloc, texts, name.as_slice(), TEXT_LIMIT) {
-        Ok(text) => text,
-        Err(status) => return Err(status),
-    };
-    let Ok(name) = name.copy() else {
-        return Err(Status::NoMemory);
-    };
-    match table.add(name, text) {
-        Ok(()) => Ok(()),
-        Err(_) => Err(Status::NoMemory),
-    }
+    let text = read_named(alloc, texts, name.as_slice(), TEXT_LIMIT)?;
+    table.add(name.copy()?, text)?;
+    Ok(())
 }

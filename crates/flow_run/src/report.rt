@@ -1,13 +1,12 @@
 // The report of a run: what each task that leads to no other ended with.
-ghost use Rattle.std.specs.Prelude.{◌≡◌, ◌<◌, ◌≤◌, ◌++◌, [], None, length, IfOk, OnOk, OnErr, IsErrOf, slice_index_or, option_map};
+ghost use Rattle.std.specs.Prelude.{◌≡◌, ◌<◌, ◌++◌, [], None, length, IfOk, slice_index_or, option_map};
 ghost use Rattle.std.specs.Option.{option_and_then, option_copied};
 ghost use Rattle.std.specs.Arc.{arc_value};
-ghost use Rattle.outside_io.specs.Sink.{Took, TookFront};
+ghost use Rattle.outside_io.specs.Sink.{Writes};
 ghost use Rattle.flow_run.specs.Output.{ended_mark, header, outcome, task_report, report_of};
 
-use super::last_ends::{last_ends, values_by_place};
 use outside_io::{Bytes, List, NoMemory, Sink, SinkFault};
-use run_frame::{FrameRun, Job};
+use run_frame::{FrameRun, Job, last_ends, values_by_place};
 use std::alloc::Global;
 use std::sync::Arc;
 use task_graph::Net;
@@ -18,39 +17,17 @@ const ENDED: &[u8] = b"== ";
 
 const NOT_ENDED: &[u8] = b"-- ";
 
-/// Why a report isn't put whole.
-#[derive(Clone, Copy, Debug, PartialEq, Eq)]
-pub enum ReportFault {
-    /// The put of a piece was refused.
-    Refused(SinkFault),
-    /// Memory was refused before a put.
-    NoMemory,
-}
-
-impl From<NoMemory> for ReportFault {
-    ghost use Rattle.std.specs.Prelude.{◌≡◌};
-    ghost use Rattle.flow_run.specs.declared.report.ReportFault.TheVariants.{NoMemory as NoMemoryFault};
-
-    ghost from_gives = { λ _ fault. fault ≡ NoMemoryFault };
-
-    fn from(_: NoMemory) -> Self {
-        ReportFault::NoMemory
-    }
-}
-
 /// Puts on the sink what each task ended with that leads to no other: its name on a line, and its last value
 /// below it, in the order of the tasks' numbers. A task that hasn't ended has a line alone.
 ///
-/// After an `Err` the sink has a front of the report.
+/// After an `Err` the sink has a prefix of the report.
+#[tactic(auto, using(outside_io::proofs::Pieces::accepts_nothing, outside_io::proofs::Pieces::writes_nothing))]
 pub fn put_report<S: Sink>(
     alloc: Global,
     out: &mut S,
     run: &FrameRun<TextJob>,
-) -> Result<(), ReportFault>
-    ensures ok { OnOk result (Took (S.taken out.old) (S.taken out.new) (report_of run.now)) }
-    ensures err { OnErr result (TookFront (S.taken out.old) (S.taken out.new) (report_of run.now)) }
-    ensures cause { IsErrOf result (ReportFault.Refused SinkFault.Failed) → S.faults out.old < S.faults out.new }
-    ensures no_fewer { S.faults out.old ≤ S.faults out.new }
+) -> Result<(), SinkFault>
+    ensures { Writes (S.state out.old) (S.state out.new) (report_of run.now) result }
 {
     let net = run.job.net();
     let names = run.job.names();
@@ -94,7 +71,7 @@ fn last_value<'a>(
 }
 
 // Puts what is told of a task.
-#[tactic(auto, using(outside_io::proofs::Pieces::took_nothing))]
+#[tactic(auto, using(outside_io::proofs::Pieces::accepts_nothing))]
 fn put_task<S: Sink>(
     alloc: Global,
     out: &mut S,
@@ -102,12 +79,9 @@ fn put_task<S: Sink>(
     task: u32,
     name: &[u8],
     value: Option<&Item>,
-) -> Result<(), ReportFault>
+) -> Result<(), SinkFault>
     requires { task < length net.now.tasks }
-    ensures ok { OnOk result (Took (S.taken out.old) (S.taken out.new) (task_report net.now task name.now (option_copied value.entry))) }
-    ensures err { OnErr result (TookFront (S.taken out.old) (S.taken out.new) (task_report net.now task name.now (option_copied value.entry))) }
-    ensures cause { IsErrOf result (ReportFault.Refused SinkFault.Failed) → S.faults out.old < S.faults out.new }
-    ensures no_fewer { S.faults out.old ≤ S.faults out.new }
+    ensures { Writes (S.state out.old) (S.state out.new) (task_report net.now task name.now (option_copied value.entry)) result }
 {
     if net.out_edges(task).is_empty() {
         put_outcome(alloc, out, name, value)
@@ -122,11 +96,8 @@ fn put_outcome<S: Sink>(
     out: &mut S,
     name: &[u8],
     value: Option<&Item>,
-) -> Result<(), ReportFault>
-    ensures ok { OnOk result (Took (S.taken out.old) (S.taken out.new) (outcome name.now (option_copied value.entry))) }
-    ensures err { OnErr result (TookFront (S.taken out.old) (S.taken out.new) (outcome name.now (option_copied value.entry))) }
-    ensures cause { IsErrOf result (ReportFault.Refused SinkFault.Failed) → S.faults out.old < S.faults out.new }
-    ensures no_fewer { S.faults out.old ≤ S.faults out.new }
+) -> Result<(), SinkFault>
+    ensures { Writes (S.state out.old) (S.state out.new) (outcome name.now (option_copied value.entry)) result }
 {
     match value {
         Some(item) => put_ended(alloc, out, name, item.text()),
@@ -135,48 +106,32 @@ fn put_outcome<S: Sink>(
 }
 
 // Puts the line of a task that has ended, and its value.
-#[tactic(auto, using(outside_io::proofs::Pieces::front_of_nothing))]
-fn put_ended<S: Sink>(
-    alloc: Global,
-    out: &mut S,
-    name: &[u8],
-    text: &[u8],
-) -> Result<(), ReportFault>
-    ensures ok { OnOk result (Took (S.taken out.old) (S.taken out.new) (header ended_mark name.now ++ text.now)) }
-    ensures err { OnErr result (TookFront (S.taken out.old) (S.taken out.new) (header ended_mark name.now ++ text.now)) }
-    ensures cause { IsErrOf result (ReportFault.Refused SinkFault.Failed) → S.faults out.old < S.faults out.new }
-    ensures no_fewer { S.faults out.old ≤ S.faults out.new }
+#[tactic(auto, using(outside_io::proofs::Pieces::writes_nothing))]
+fn put_ended<S: Sink>(alloc: Global, out: &mut S, name: &[u8], text: &[u8]) -> Result<(), SinkFault>
+    ensures { Writes (S.state out.old) (S.state out.new) (header ended_mark name.now ++ text.now) result }
 {
     let line = header_line(alloc, ENDED, name)?;
     put_both(out, line.as_slice(), text)
 }
 
 // Puts a line and a value.
-#[tactic(auto, using(outside_io::proofs::Pieces::front_after_whole))]
-fn put_both<S: Sink>(out: &mut S, line: &[u8], text: &[u8]) -> Result<(), ReportFault>
-    ensures ok { OnOk result (Took (S.taken out.old) (S.taken out.new) (line.now ++ text.now)) }
-    ensures err { OnErr result (TookFront (S.taken out.old) (S.taken out.new) (line.now ++ text.now)) }
-    ensures cause { IsErrOf result (ReportFault.Refused SinkFault.Failed) → S.faults out.old < S.faults out.new }
-    ensures no_fewer { S.faults out.old ≤ S.faults out.new }
+#[tactic(auto, using(outside_io::proofs::Pieces::writes_both, outside_io::proofs::Pieces::writes_no_more))]
+fn put_both<S: Sink>(out: &mut S, line: &[u8], text: &[u8]) -> Result<(), SinkFault>
+    ensures { Writes (S.state out.old) (S.state out.new) (line.now ++ text.now) result }
 {
-    if let Err(fault) = put_piece(out, line) {
-        return Err(fault);
-    }
+    put_piece(out, line)?;
     put_value(out, text)
 }
 
 // Puts a mark and a name on a line.
-#[tactic(auto, using(outside_io::proofs::Pieces::front_of_nothing))]
+#[tactic(auto, using(outside_io::proofs::Pieces::writes_nothing))]
 fn put_header<S: Sink>(
     alloc: Global,
     out: &mut S,
     mark: &[u8],
     name: &[u8],
-) -> Result<(), ReportFault>
-    ensures ok { OnOk result (Took (S.taken out.old) (S.taken out.new) (header mark.now name.now)) }
-    ensures err { OnErr result (TookFront (S.taken out.old) (S.taken out.new) (header mark.now name.now)) }
-    ensures cause { IsErrOf result (ReportFault.Refused SinkFault.Failed) → S.faults out.old < S.faults out.new }
-    ensures no_fewer { S.faults out.old ≤ S.faults out.new }
+) -> Result<(), SinkFault>
+    ensures { Writes (S.state out.old) (S.state out.new) (header mark.now name.now) result }
 {
     let line = header_line(alloc, mark, name)?;
     put_piece(out, line.as_slice())
@@ -193,12 +148,9 @@ fn header_line(alloc: Global, mark: &[u8], name: &[u8]) -> Result<Bytes, NoMemor
 }
 
 // Puts a value, where it isn't empty.
-#[tactic(auto, using(outside_io::proofs::Pieces::took_nothing))]
-fn put_value<S: Sink>(out: &mut S, text: &[u8]) -> Result<(), ReportFault>
-    ensures ok { OnOk result (Took (S.taken out.old) (S.taken out.new) text.now) }
-    ensures err { OnErr result (TookFront (S.taken out.old) (S.taken out.new) text.now) }
-    ensures cause { IsErrOf result (ReportFault.Refused SinkFault.Failed) → S.faults out.old < S.faults out.new }
-    ensures no_fewer { S.faults out.old ≤ S.faults out.new }
+#[tactic(auto, using(outside_io::proofs::Pieces::accepts_nothing))]
+fn put_value<S: Sink>(out: &mut S, text: &[u8]) -> Result<(), SinkFault>
+    ensures { Writes (S.state out.old) (S.state out.new) text.now result }
 {
     if text.is_empty() {
         Ok(())
@@ -208,14 +160,8 @@ fn put_value<S: Sink>(out: &mut S, text: &[u8]) -> Result<(), ReportFault>
 }
 
 // Puts a piece, by one put.
-fn put_piece<S: Sink>(out: &mut S, piece: &[u8]) -> Result<(), ReportFault>
-    ensures ok { OnOk result (Took (S.taken out.old) (S.taken out.new) piece.now) }
-    ensures err { OnErr result (TookFront (S.taken out.old) (S.taken out.new) piece.now) }
-    ensures cause { IsErrOf result (ReportFault.Refused SinkFault.Failed) → S.faults out.old < S.faults out.new }
-    ensures no_fewer { S.faults out.old ≤ S.faults out.new }
+fn put_piece<S: Sink>(out: &mut S, piece: &[u8]) -> Result<(), SinkFault>
+    ensures { Writes (S.state out.old) (S.state out.new) piece.now result }
 {
-    match out.put(piece) {
-        Ok(()) => Ok(()),
-        Err(fault) => Err(ReportFault::Refused(fault)),
-    }
+    out.put(piece)
 }

@@ -1,9 +1,11 @@
 // How a call of the program ends.
 ghost use Rattle.std.specs.Prelude.{◌≡◌};
+ghost use Rattle.flow_run.specs.Answers.{status_of};
 ghost use Rattle.flow_run.specs.Codes.{code_of};
 
+use super::stop::Stop;
 use graph_file::{GraphError, Spot};
-use outside_io::{Bytes, NoMemory};
+use outside_io::Bytes;
 
 /// How a call ends. Each status has its code and its line on the notes.
 #[derive(Drop)]
@@ -22,9 +24,9 @@ pub enum Status {
     LongText(Bytes),
     /// Reading the text of this name failed.
     ReadFault(Bytes),
-    /// A put on the output was refused.
+    /// Writing the output failed.
     WriteFault,
-    /// Memory was refused.
+    /// An allocation failed.
     NoMemory,
 }
 
@@ -47,24 +49,29 @@ impl Status {
     }
 }
 
-/// Whether the note of a status was put.
+/// Whether the line of a status was written.
 #[derive(Clone, Copy, Debug, PartialEq, Eq)]
 pub enum Noted {
-    /// The notes took the whole line.
+    /// The whole line was written.
     Whole,
-    /// The put was refused.
+    /// Writing failed, after a prefix of the line.
     Fault,
-    /// Memory was refused, and nothing was put.
+    /// An allocation failed, and nothing was written.
     NoMemory,
 }
 
-impl From<NoMemory> for Status {
-    ghost use Rattle.std.specs.Prelude.{◌≡◌};
-    ghost use Rattle.flow_run.specs.declared.status.Status.TheVariants.{NoMemory as NoMemoryStatus};
-
-    ghost from_gives = { λ _ status. status ≡ NoMemoryStatus };
-
-    fn from(_: NoMemory) -> Self {
-        Status::NoMemory
+impl Status {
+    /// The status that tells why a call ended before its run.
+    pub fn of(stop: Stop) -> Status
+        ensures { result ≡ status_of stop }
+    {
+        match stop {
+            Stop::BadGraph(error) => Status::BadGraph(error),
+            Stop::NoSource(spot) => Status::NoSource(spot),
+            Stop::NoText(name) => Status::NoText(name),
+            Stop::LongText(name) => Status::LongText(name),
+            Stop::ReadFault(name) => Status::ReadFault(name),
+            Stop::NoMemory => Status::NoMemory,
+        }
     }
 }

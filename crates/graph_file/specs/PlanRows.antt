@@ -30,6 +30,10 @@ graph_rows g = record { name = g.name; names = g.names; ops = g.ops; sem_names =
 abbrev pub plan_rows : Plan → PlanRows
 plan_rows p = record { top = graph_rows p.top; modules = map graph_rows p.modules }
 
+-- the texts that a plan names, each once, in the order of the first mentions
+abbrev pub plan_texts : PlanRows → List (List ℕ)
+plan_texts plan = texts_of plan.top.ops
+
 -- how many tasks a file may have
 abbrev pub task_limit : ℕ
 task_limit = 10000
@@ -63,5 +67,5 @@ pub record IsPlan (plan : PlanRows) : Type 0 where
   pub single : AllPairs (λ (a b : EdgeRow). a.to ≢ b.to) plan.top.net.edges
   pub task_count : length plan.top.net.tasks ≤ task_limit
   pub edge_count : length plan.top.net.edges ≤ edge_limit
-  pub texts : All IsTextName (texts_of plan.top.ops)
-  pub text_count : length (texts_of plan.top.ops) ≤ text_count_limit
+  pub texts : All IsTextName (plan_texts plan)
+  pub text_count : length (plan_texts plan) ≤ text_count_limit

@@ -1,20 +1,21 @@
-// The texts that a graph's operations name.
+// The texts that a plan names.
 ghost use Rattle.std.specs.Prelude.{◌≡◌, IfOk, OnOk};
 ghost use Rattle.graph_file.specs.Lookups.{Mentions};
+ghost use Rattle.graph_file.specs.PlanRows.{plan_rows, plan_texts};
 ghost use Rattle.graph_file.specs.TextNames.{text_of, texts_of};
 
 use crate::lookups::{Seen, note};
 use crate::ops::Op;
-use crate::plans::Graph;
+use crate::plans::Plan;
 use outside_io::{Bytes, List, NoMemory};
 use std::alloc::Global;
 use std::collections::HashSet;
 
-/// The names of the texts that a graph's operations mention, each once, in the order of the first mentions.
-pub fn text_names(alloc: Global, graph: &Graph) -> Result<List<Bytes>, NoMemory>
-    ensures { IfOk result (λ names. names ≡ texts_of graph.now.ops) }
+/// The names of the texts that a plan's tasks read, each once, in the order of the first mentions.
+pub fn text_names(alloc: Global, plan: &Plan) -> Result<List<Bytes>, NoMemory>
+    ensures { IfOk result (λ names. names ≡ plan_texts (plan_rows plan.now)) }
 {
-    names_of_texts(alloc, graph.ops.as_slice())
+    names_of_texts(alloc, plan.top.ops.as_slice())
 }
 
 /// The same of a list of operations.

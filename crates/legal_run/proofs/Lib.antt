@@ -13,3 +13,4 @@ pub mod CountLaws
 pub mod Refusing
 pub mod Marking
 pub mod Keeping
+pub mod WorkedRules

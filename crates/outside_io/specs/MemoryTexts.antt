@@ -1,5 +1,5 @@
 -- Named texts in memory.
-use Rattle.std.specs.Prelude.{◌≡◌, ◌≢◌, ℕ, ◌+◌, List, length, AllPairs, Option, option_and_then, position, bytes_eq, slice_get, Contains, Result, Ok, Err}
+use Rattle.std.specs.Prelude.{◌≡◌, ◌≢◌, ◌⊎◌, ℕ, ◌+◌, ◌-◌, ◌^◌, List, length, AllPairs, Option, option_and_then, position, bytes_eq, slice_get, Contains, Result, Ok, Err}
 use Rattle.outside_io.specs.declared.texts.Found.{Found}
 use Rattle.outside_io.specs.declared.texts.TextsFault.{TextsFault}
 use Rattle.outside_io.specs.declared.texts.TextsFault.TheVariants.{Failed, NoMemory}
@@ -21,10 +21,10 @@ pub record AreNamed (names texts : List (List ℕ)) : Type 0 where
 abbrev pub text_under : List (List ℕ) → List (List ℕ) → List ℕ → Option (List ℕ)
 text_under names texts name = option_and_then (λ place. slice_get texts place) (position (λ held. bytes_eq held name) names)
 
--- What a call answers and leaves. It fails where its number is one of those that it was told; it is counted, and
--- so is its fault. Where memory was refused all stays.
+-- What a call answers and leaves. It fails exactly where its number is one of those that it was told, and its fault
+-- is counted. After a failed allocation all is as before. Where the numbers have run out it answers `NoMemory`.
 abbrev pub CountsCall : HeldTexts → HeldTexts → Result Found TextsFault → Type 0
 CountsCall old new (Ok found) = ¬ Contains old.failing old.calls × (new ≡ record old { calls = old.calls + 1 })
 CountsCall old new (Err Failed) =
     Contains old.failing old.calls × (new ≡ record old { calls = old.calls + 1; faults = old.faults + 1 })
-CountsCall old new (Err NoMemory) = new ≡ old
+CountsCall old new (Err NoMemory) = (new ≡ old) × (¬ Contains old.failing old.calls ⊎ (old.calls ≡ 2 ^ 64 - 1))

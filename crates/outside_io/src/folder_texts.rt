@@ -1,5 +1,5 @@
 // Texts in the files of a folder. What a file holds is told by no contract.
-ghost use Rattle.std.specs.Prelude.{◌≡◌, ◌↔◌, ◌+◌, IfOk, IfSome, IsErrOf, OnOk, None, Some, take};
+ghost use Rattle.std.specs.Prelude.{◌≡◌, ◌≢◌, ◌↔◌, ◌+◌, ◌-◌, ◌^◌, IfOk, IfSome, IsErrOf, IsUtf8, OnOk, None, Some, take};
 ghost use Rattle.std.specs.IoError.{error_kind};
 ghost use Rattle.outside_io.specs.Texts.{Finds, IsWithin};
 
@@ -46,8 +46,9 @@ impl<R: Files + Copy> Texts for FolderTexts<R> {
     fn read(&mut self, alloc: Global, name: &[u8], max: u64) -> Result<Found, TextsFault>
         ensures within { IfOk result (IsWithin max) }
         ensures counted { IsErrOf result TextsFault.Failed → self.new ≡ self.old + 1 }
-        ensures ok_counts { OnOk result (self.new ≡ self.old) }
-        ensures no_memory { IsErrOf result TextsFault.NoMemory → self.new ≡ self.old }
+        ensures ok_faults { OnOk result (self.new ≡ self.old) }
+        ensures no_memory_faults { IsErrOf result TextsFault.NoMemory → self.new ≡ self.old }
+        ensures not_utf8 { ¬ IsUtf8 name.now → self.old ≢ 2 ^ 64 - 1 → IsErrOf result TextsFault.Failed }
     {
         if self.faults == u64::MAX {
             return Err(TextsFault::NoMemory);
@@ -62,7 +63,8 @@ impl<R: Files + Copy> Texts for FolderTexts<R> {
 
 // Reads the file at the path, of at most `max` bytes.
 fn read_file<R: Files>(rt: &R, alloc: Global, name: &[u8], max: u64) -> Result<Found, TextsFault>
-    ensures { IfOk result (IsWithin max) }
+    ensures within { IfOk result (IsWithin max) }
+    ensures not_utf8 { ¬ IsUtf8 name.now → IsErrOf result TextsFault.Failed }
 {
     let Ok(path) = str::from_utf8(name) else {
         return Err(TextsFault::Failed);

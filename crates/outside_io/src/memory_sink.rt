@@ -1,23 +1,24 @@
 // A sink in memory, of which given calls fail.
-ghost use Rattle.std.specs.Prelude.{◌≡◌, ◌==◌, [], find, OnErr, Some, option_copied, take};
-ghost use Rattle.outside_io.specs.Sink.{TookFront};
+ghost use Rattle.std.specs.Prelude.{◌≡◌, ◌==◌, [], find, IsOk, option_copied, take};
+ghost use Rattle.outside_io.specs.Sink.{Writes};
 
 use crate::{Bytes, List, Sink, SinkFault};
 use std::alloc::Global;
 use std::marker::Model;
 
-/// A call of a sink in memory that is to fail.
+/// A put on a sink in memory that is to fail.
 #[derive(Clone, Copy, Debug, PartialEq, Eq)]
 pub struct FailAt {
-    /// The number of the call, from 0.
+    /// The number of the put, from 0.
     pub call: u64,
     /// How many bytes it takes of its piece before it fails: all of a piece that is no longer than this.
     pub taken: u64,
 }
 
-/// A sink in memory. Its calls are numbered from 0, a call that was refused memory is not counted, and
-/// those calls fail that it was told. Numbers end below the greatest `u64`: a call that would have that
-/// number answers `NoMemory`.
+/// A sink in memory, which holds nothing back. Its puts are numbered from 0, and exactly those fail that it was
+/// told: where the allocation for what such a put takes fails, it takes nothing and fails all the same. A put that
+/// answers `NoMemory` isn't numbered. Numbers end below the greatest `u64`: a put that would have that number
+/// answers `NoMemory`.
 #[derive(Drop)]
 pub struct MemorySink {
     bytes: Bytes,
@@ -64,28 +65,40 @@ impl MemorySink {
 }
 
 impl Sink for MemorySink {
-    ghost use Rattle.outside_io.specs.MemorySink.{Puts};
+    ghost use Rattle.outside_io.specs.MemorySink.{Puts, as_sink};
 
-    ghost taken = { λ m. Some m.bytes };
-
-    ghost faults = { λ m. m.faults };
+    ghost state = { as_sink };
 
     fn put(&mut self, piece: &[u8]) -> Result<(), SinkFault>
-        ensures err { OnErr result (TookFront (Some self.old.bytes) (Some self.new.bytes) piece.now) }
+        ensures writes { Writes (as_sink self.old) (as_sink self.new) piece.now result }
         ensures puts { Puts self.old self.new piece.now result }
     {
         if self.calls == u64::MAX {
             return Err(SinkFault::NoMemory);
         }
-        let Some(row) = row_of(self.failing.as_slice(), self.calls) else {
-            self.bytes.add_all(piece)?;
-            self.calls += 1;
-            return Ok(());
-        };
-        self.bytes.add_all(front_of(piece, row.taken))?;
-        self.calls += 1;
-        self.faults += 1;
-        Err(SinkFault::Failed)
+        match row_of(self.failing.as_slice(), self.calls) {
+            Some(row) => {
+                let _taken = self.bytes.add_all(front_of(piece, row.taken));
+                self.faults += 1;
+                self.calls += 1;
+                Err(SinkFault::Failed)
+            }
+            None => match self.bytes.add_all(piece) {
+                Ok(()) => {
+                    self.calls += 1;
+                    Ok(())
+                }
+                Err(_) => Err(SinkFault::NoMemory),
+            },
+        }
+    }
+
+    /// Does nothing.
+    fn flush(&mut self) -> Result<(), SinkFault>
+        ensures ok { IsOk result }
+        ensures same { self.new ≡ self.old }
+    {
+        Ok(())
     }
 }
 

@@ -7,9 +7,9 @@ use crate::{Bytes, Found, List, NoMemory, Texts, TextsFault};
 use std::alloc::Global;
 use std::marker::Model;
 
-/// Texts in memory. Its calls are numbered from 0, a call that was refused memory is not counted, and
-/// those calls fail that it was told. Numbers end below the greatest `u64`: a call that would have that
-/// number answers `NoMemory`.
+/// Texts in memory. Its calls are numbered from 0, and exactly those fail that it was told. A call that answers
+/// `NoMemory` isn't numbered. Numbers end below the greatest `u64`: a call that would have that number answers
+/// `NoMemory`.
 #[derive(Drop)]
 pub struct MemoryTexts {
     names: List<Bytes>,

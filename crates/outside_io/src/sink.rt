@@ -1,16 +1,17 @@
 // What bytes are put on, as the layers above see it.
-ghost use Rattle.std.specs.Prelude.{◌≡◌, ℕ, ◌<◌, ◌≤◌, List, Option, OnOk, OnErr, IsErrOf};
+ghost use Rattle.std.specs.Prelude.{◌≡◌, [], OnOk, OnErr, IfErr, IsErrOf};
 ghost use Rattle.outside_io.specs.declared.sink.SinkFault.TheVariants.{NoMemory as NoMemoryFault};
-ghost use Rattle.outside_io.specs.Sink.{Took, TookFront};
+ghost use Rattle.outside_io.specs.Sink.{SinkState, Accepts, FailsOn};
 
 use crate::NoMemory;
 
-/// Why a sink didn't take a whole piece.
+/// Why a sink didn't take a whole piece, or didn't pass on what it held back.
 #[derive(Clone, Copy, Debug, PartialEq, Eq)]
 pub enum SinkFault {
-    /// The sink failed, and its count of faults has risen. It may have taken a front of the piece.
+    /// The sink failed, and its count of faults has risen. Of what it held back and the piece it has passed on a
+    /// prefix, and the rest is lost.
     Failed,
-    /// Memory was refused, and nothing of the piece was taken.
+    /// An allocation failed.
     NoMemory,
 }
 
@@ -23,18 +24,25 @@ impl From<NoMemory> for SinkFault {
 }
 
 /// Takes bytes, one piece after another.
+///
+/// A sink may hold back bytes that it has accepted, to pass many of them on at once. Whoever needs them passed on
+/// calls `flush`.
 pub trait Sink {
-    /// All bytes taken so far; `None` where the sink doesn't tell them.
-    ghost taken: { Self → Option (List ℕ) };
+    /// The bytes passed on so far, those held back, and how often the sink has failed.
+    ghost state: { Self → SinkState };
 
-    /// How often the sink has failed. It never falls.
-    ghost faults: { Self → ℕ };
-
-    /// Takes the whole piece, or answers an error; an `Ok` that left bytes out doesn't come.
+    /// Accepts the whole piece, or answers an error; an `Ok` that left bytes out doesn't come. After `NoMemory`
+    /// all is as before.
     fn put(&mut self, piece: &[u8]) -> Result<(), SinkFault>
-        ensures ok { OnOk result (Took (taken self.old) (taken self.new) piece.now) }
-        ensures err { OnErr result (TookFront (taken self.old) (taken self.new) piece.now) }
-        ensures no_memory { IsErrOf result SinkFault.NoMemory → taken self.new ≡ taken self.old }
-        ensures cause { IsErrOf result SinkFault.Failed → faults self.old < faults self.new }
-        ensures no_fewer { faults self.old ≤ faults self.new };
+        ensures ok { OnOk result (Accepts (state self.old) (state self.new) piece.now) }
+        ensures failed { IsErrOf result SinkFault.Failed → FailsOn (state self.old) (state self.new) piece.now }
+        ensures no_memory { IsErrOf result SinkFault.NoMemory → state self.new ≡ state self.old };
+
+    /// Passes on what is held back. Nothing is held back afterwards: what a failure kept from being passed on is
+    /// lost. It takes no memory, so it never answers `NoMemory`.
+    fn flush(&mut self) -> Result<(), SinkFault>
+        ensures ok { OnOk result (Accepts (state self.old) (state self.new) []) }
+        ensures err { OnErr result (FailsOn (state self.old) (state self.new) []) }
+        ensures failed { IfErr result (λ fault. fault ≡ SinkFault.Failed) }
+        ensures nothing_held { (state self.new).held_back ≡ [] };
 }

@@ -1,5 +1,5 @@
 // Named texts that can be read, as the layers above see them.
-ghost use Rattle.std.specs.Prelude.{◌≡◌, ℕ, ◌<◌, ◌≤◌, List, Option, IfSome, IfOk, IsErrOf};
+ghost use Rattle.std.specs.Prelude.{◌≡◌, ℕ, ◌<◌, List, Option, IfSome, IfOk, OnOk, IsErrOf};
 ghost use Rattle.outside_io.specs.declared.texts.TextsFault.TheVariants.{NoMemory as NoMemoryFault};
 ghost use Rattle.outside_io.specs.Texts.{Finds, IsWithin};
 
@@ -22,7 +22,7 @@ pub enum Found {
 pub enum TextsFault {
     /// The source failed, and its count of faults has risen.
     Failed,
-    /// Memory was refused. What is held stays, and the count of faults has not fallen.
+    /// An allocation failed. What is held stays, and so does the count of faults.
     NoMemory,
 }
 
@@ -36,10 +36,10 @@ impl From<NoMemory> for TextsFault {
 
 /// A source of texts that have names.
 pub trait Texts {
-    /// The text under each name, as far as there is one; `None` where the source doesn't tell what it holds.
+    /// The text under each name, as far as there is one; `None` where the source doesn't specify what it holds.
     ghost held: { Self → Option (List ℕ → Option (List ℕ)) };
 
-    /// How often the source has failed. It never falls.
+    /// How often the source has failed.
     ghost faults: { Self → ℕ };
 
     /// Reads the text under `name`, of at most `max` bytes. What the source holds stays.
@@ -47,8 +47,10 @@ pub trait Texts {
         ensures found { IfSome (held self.old) (λ held. IfOk result (Finds (held name.now) max)) }
         ensures within { IfOk result (IsWithin max) }
         ensures stays { held self.new ≡ held self.old }
-        ensures cause { IsErrOf result TextsFault.Failed → faults self.old < faults self.new }
-        ensures no_fewer { faults self.old ≤ faults self.new };
+        // A failure is counted, and nothing else is.
+        ensures failed { IsErrOf result TextsFault.Failed → faults self.old < faults self.new }
+        ensures ok_faults { OnOk result (faults self.new ≡ faults self.old) }
+        ensures no_memory_faults { IsErrOf result TextsFault.NoMemory → faults self.new ≡ faults self.old };
 }
 
 // What a read answered, to be compared.

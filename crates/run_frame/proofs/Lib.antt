@@ -1,1 +1,3 @@
 pub mod WorkedRuns
+pub mod EndsLemmas
+pub mod WorkedLegal

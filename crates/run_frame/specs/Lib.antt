@@ -4,3 +4,4 @@ pub mod WorkRule
 pub mod NestedRule
 pub mod Legal
 pub mod Rows
+pub mod LastEnds

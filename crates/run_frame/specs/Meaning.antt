@@ -1,12 +1,16 @@
 -- What a job may answer.
-use Rattle.std.specs.Prelude.{◌≡◌, ◌⊎◌, ℕ, ◌<◌, ◌≤◌, List, length, slice_get, IfSome}
+use Rattle.std.specs.Prelude.{◌≡◌, ◌≢◌, ℕ, ◌<◌, List, [], length, slice_get, IfSome, IsSomeAnd, IsTrue}
 use Rattle.task_graph.specs.NetRows.{NetRows}
-use Rattle.task_graph.specs.Net.{strong_in}
+use Rattle.task_graph.specs.Net.{IsSource, strong_in, is_weak}
+use Rattle.task_graph.specs.declared.net.EdgeRow.{EdgeRow}
 use Rattle.task_graph.specs.declared.net.Shape.{Shape}
 use Rattle.task_graph.specs.declared.net.Shape.TheVariants.{Plain, Choice, Many, Nested}
 use Rattle.task_graph.specs.declared.net.TaskRow.{TaskRow}
+use Rattle.legal_run.specs.declared.entry.Cause.{Cause}
+use Rattle.legal_run.specs.declared.entry.Cause.TheVariants.{Source, Strong, Weak}
 use Rattle.legal_run.specs.declared.entry.Why.{Why}
 use Rattle.legal_run.specs.declared.entry.Why.TheVariants.{Long, Wide, Unmet, Inner, OverRelease}
+use Rattle.legal_run.specs.DataRule.{edges_of}
 use Rattle.join_words.specs.Ins.{Found}
 use Rattle.run_frame.specs.declared.job.Answer.{Answer}
 use Rattle.run_frame.specs.declared.job.Answer.TheVariants.{All, None as NoneOf, Indices}
@@ -17,8 +21,9 @@ use Rattle.run_frame.specs.declared.job.JobError.TheVariants.{Fault as FaultOf, 
 use Rattle.run_frame.specs.declared.run.FrameRun.{FrameRun}
 
 -- The meaning of jobs of a type, with values of a type: the net of a job and the starts that a run of it may
--- have; which answers and which faults a task may come to on what it finds; and, of a job that was run inside
--- another, to which values a run of it may be gathered and which faults gathering it may name.
+-- have; which answers and which faults a task may come to on what it finds; of a job that was run inside
+-- another, to which values a run of it may be gathered and which faults gathering it may name; and of a job that
+-- is run again, which job may follow a run of it.
 pub record Meaning (J V : Type 0) : Type 1 where
   pub net : J → NetRows
   pub limit : J → ℕ
@@ -26,10 +31,20 @@ pub record Meaning (J V : Type 0) : Type 1 where
   pub faults : J → ℕ → List (Found V) → Why → Type 0
   pub gathers : J → FrameRun J V → V → Type 0
   pub gather_faults : J → FrameRun J V → Why → Type 0
+  pub follows : J → FrameRun J V → J → Type 0
 
--- A release of the task may have so many parts: none, one, or one for each strong in-edge.
-abbrev pub IsRelease : NetRows → ℕ → ℕ → Type 0
-IsRelease net task parts = (task < length net.tasks) × ((parts ≤ 1) ⊎ (parts ≡ length (strong_in net task)))
+-- A task can be released by a cause: as a source, by its strong in-edges if it has any, by a weak edge into it.
+abbrev pub IsCauseOf : NetRows → ℕ → Cause → Type 0
+IsCauseOf net task Source = IsSource net task
+IsCauseOf net task Strong = strong_in net task ≢ []
+IsCauseOf net task (Weak e) = IsTrue (is_weak net e) × IsSomeAnd (slice_get net.edges e) (λ (row : EdgeRow). row.to ≡ task)
+
+-- the inputs of a start of the task by some cause have so many parts: one for each edge of that cause
+pub record IsRelease (net : NetRows) (task parts : ℕ) : Type 0 where
+  pub in_range : task < length net.tasks
+  pub cause : Cause
+  pub can_release : IsCauseOf net task cause
+  pub size : parts ≡ length (edges_of net task cause)
 
 -- The fault that an error tells is allowed; want of memory is free.
 abbrev pub FaultAllowed : {J V : Type 0} → Meaning J V → J → ℕ → List (Found V) → JobError → Type 0

@@ -9,13 +9,17 @@ use Rattle.legal_run.specs.HaltLimitStuckRule.{is_stuck}
 use Rattle.legal_run.specs.Complete.{is_limited}
 use Rattle.join_words.specs.Ins.{Found, value, first, nothing}
 use Rattle.run_frame.specs.declared.run.ValueRow.{ValueRow}
-use Rattle.run_frame.specs.declared.run.FrameRun.{FrameRun}
+use Rattle.run_frame.specs.declared.run.FrameRun.{FrameRun, out-FrameRun}
 use Rattle.run_frame.specs.declared.run.InnerRow.{InnerRow, out-InnerRow}
 
 -- the value at a place, where a row has it
 abbrev pub value_at : {V : Type 0} → List (ValueRow V) → ℕ → Option V
 value_at [] n = None
 value_at (row ∷ rows) n = if row.place == n then Some (arc_value row.value) else value_at rows n
+
+-- the rows of a run's values
+abbrev pub values_of : {J V : Type 0} → FrameRun J V → List (ValueRow V)
+values_of {J} {V} run = (out-FrameRun J V run).values
 
 -- what is found by a part: the value of the End that it names
 abbrev pub found_by : {V : Type 0} → Option V → Found V

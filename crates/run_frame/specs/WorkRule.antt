@@ -49,14 +49,21 @@ EndRule meaning job values journal start gives true = Unit {0}
 EndRule meaning job values journal start gives false =
     IsSomeAnd (work_at values journal start) (λ work. IsSomeAnd (value_at values (length journal)) (λ v. Answers meaning job work v gives))
 
--- A Fault without an inner run has a why that the meaning allows. That of a unit is the net's affair
--- (`SemaphoreRule`), and none tells of an inner run.
+-- The meaning allows an answer that is a value.
+pub record AnswersValue {J V : Type 0} (meaning : Meaning J V) (job : J) (work : Work V) : Type 0 where
+  pub value : V
+  pub answer : Answer
+  pub allowed : meaning.answers job work.task work.found (Value value answer)
+
+-- A Fault without an inner run has a why that the meaning allows. Whether a unit is wanting is decided by the
+-- net (`SemaphoreRule`), but such a fault comes in place of an End, so the work has answered a value. No fault
+-- without an inner run tells of one.
 abbrev pub FaultAllowed : {J V : Type 0} → Meaning J V → J → Work V → Why → Type 0
 FaultAllowed meaning job work (Long n) = meaning.faults job work.task work.found (Long n)
 FaultAllowed meaning job work (Wide n) = meaning.faults job work.task work.found (Wide n)
 FaultAllowed meaning job work (Unmet k) = meaning.faults job work.task work.found (Unmet k)
 FaultAllowed meaning job work Inner = ⊥
-FaultAllowed meaning job work (OverRelease s) = Unit {0}
+FaultAllowed meaning job work (OverRelease s) = AnswersValue meaning job work
 
 abbrev pub FaultRule : {J V : Type 0} → Meaning J V → J → List (ValueRow V) → List Entry → ℕ → Why → Option (FrameRun J V) → Type 0
 FaultRule meaning job values journal start why None = IsSomeAnd (work_at values journal start) (λ work. FaultAllowed meaning job work why)

@@ -5,6 +5,7 @@ ghost use Rattle.join_words.specs.Ins.{Found, parts_of, found_of};
 ghost use Rattle.run_frame.specs.Meaning.{Meaning, IsRelease, FaultAllowed, AnswerFits, IsOwnWhy};
 ghost use Rattle.legal_run.specs.declared.entry.Why.{Why};
 ghost use Rattle.run_frame.specs.declared.job.Done.{Done};
+ghost use Rattle.run_frame.specs.declared.run.FrameRun.{FrameRun};
 
 use join_words::Ins;
 use legal_run::Why;
@@ -64,7 +65,8 @@ pub trait Job: Valued + Send + Sync {
         ensures value { result ≡ meaning.limit self.now }
         ensures small { result ≤ 2097153 };
 
-    /// Does the work of a task on what it finds.
+    /// Does the work of a task on the inputs of a start, which are as many as the edges of some cause by which
+    /// the task can be released.
     fn run(&self, alloc: Global, task: u32, ins: &Ins<Self::V>) -> Result<Done<Self>, JobError>
         requires { IsRelease (meaning.net self.now) task (length (parts_of ins.now)) }
         ensures answer { IfOk result (meaning.answers self.now task (map found_of (parts_of ins.now))) }
@@ -77,4 +79,8 @@ pub trait Job: Valued + Send + Sync {
     /// A fault that is allowed is the work's own: it tells neither of an inner run nor of a unit.
     ghost faults_own: { (job : Self) (task : ℕ) (found : List (Found Self.V)) (why : Why) →
         keeps job → meaning.faults job task found why → IsOwnWhy why };
+
+    /// So is a fault that gathering a run may name.
+    ghost gather_faults_own: { (job : Self) (run : FrameRun Self Self.V) (why : Why) →
+        keeps job → meaning.gather_faults job run why → IsOwnWhy why };
 }

@@ -5,8 +5,10 @@
 //! `NestedRule`, `Legal`.
 #![tactic(auto)]
 
+mod end_values;
 mod job;
 mod run;
 
+pub use end_values::{last_ends, values_by_place};
 pub use job::{Answer, Done, Job, JobError, Valued};
 pub use run::{FrameRun, InnerRow, ValueRow};

@@ -1,6 +1,13 @@
-// Runs, as plain data.
+// Runs, as plain data, and what is looked up in one.
+ghost use Rattle.std.specs.Prelude.{◌≡◌, option_copied};
+ghost use Rattle.run_frame.specs.LastEnds.{is_end_of, last_end};
+ghost use Rattle.run_frame.specs.Legal.{inner_at};
+ghost use Rattle.run_frame.specs.NestedRule.{journal_of};
+ghost use Rattle.run_frame.specs.Runs.{value_at, values_of, inner_in};
+
+use super::end_values::ended_task;
 use super::job::Valued;
-use legal_run::Journal;
+use legal_run::{Entry, Journal};
 use outside_io::List;
 use std::sync::Arc;
 
@@ -28,4 +35,76 @@ pub struct FrameRun<J: Valued> {
 pub struct InnerRow<J: Valued> {
     pub place: u64,
     pub run: FrameRun<J>,
+}
+
+impl<J: Valued> FrameRun<J> {
+    /// The value of the End at a place, or `None` where no End stands there. It walks over the values.
+    pub fn value(&self, place: u64) -> Option<&J::V>
+        ensures { option_copied result ≡ value_at (values_of self.now) place }
+    {
+        value_in(self.values.as_slice(), place)
+    }
+
+    /// The run that was made by the start which the End or Fault at a place closed, or `None` where there is
+    /// none. It walks over the inner runs.
+    pub fn inner(&self, place: u64) -> Option<&FrameRun<J>>
+        ensures { option_copied result ≡ inner_at self.now place }
+    {
+        inner_in(self.inner.as_slice(), place)
+    }
+
+    /// The place of a task's last End, or `None` where it has none. It walks over the journal.
+    pub fn last_end(&self, task: u32) -> Option<u64>
+        ensures { result ≡ last_end (journal_of self.now) task }
+    {
+        last_end_in(self.journal.as_slice(), task)
+    }
+}
+
+// The value of the first row with this place.
+fn value_in<V>(rows: &[ValueRow<V>], place: u64) -> Option<&V>
+    ensures { option_copied result ≡ value_at rows.now place }
+{
+    for row in rows {
+        if row.place == place {
+            return Some(&row.value);
+        }
+    }
+    None
+}
+
+// The run of the first row with this place.
+fn inner_in<J: Valued>(rows: &[InnerRow<J>], place: u64) -> Option<&FrameRun<J>>
+    ensures { option_copied result ≡ inner_in rows.now place }
+{
+    for row in rows {
+        if row.place == place {
+            return Some(&row.run);
+        }
+    }
+    None
+}
+
+#[tactic(auto, using(crate::proofs::EndsLemmas::last_before_at))]
+// The last place at which an End of the task stands.
+fn last_end_in(entries: &[Entry], task: u32) -> Option<u64>
+    ensures { result ≡ last_end entries.now task }
+{
+    let mut last = None;
+    for place in 0..entries.len() {
+        if is_end_of(entries, task, place) {
+            last = Some(place as u64);
+        }
+    }
+    last
+}
+
+// Whether an End of the task stands at a place.
+fn is_end_of(entries: &[Entry], task: u32, place: usize) -> bool
+    ensures { result ≡ is_end_of entries.now task place }
+{
+    match ended_task(entries, place) {
+        Some(ended) => ended == task,
+        None => false,
+    }
 }

@@ -26,6 +26,8 @@ impl Watch for SpanCount {
 
     ghost seen = { λ _. None };
 
+    ghost counts_spans = { λ _. tt };
+
     /// Counts a span. It takes no memory, so it never fails.
     fn span(&mut self, _: Span) -> Result<(), NoMemory>
         ensures ok { IsOk result }

@@ -1,5 +1,5 @@
 // Watchers.
-ghost use Rattle.std.specs.Prelude.{◌≡◌, ◌++◌, ◌∷◌, [], ℕ, List, Option, OnOk, OnErr, option_and_then, option_map, slice_get};
+ghost use Rattle.std.specs.Prelude.{◌≡◌, ◌++◌, ◌∷◌, ◌-◌, ◌^◌, [], ℕ, IfSome, List, Option, OnOk, OnErr, length, min, option_and_then, option_map, slice_get};
 ghost use Rattle.legal_run.specs.declared.span.Span.{Span};
 ghost use Rattle.span_profile.specs.Watch.{one_more};
 
@@ -11,8 +11,11 @@ pub trait Watch: Drop {
     /// How many spans it was told. At the greatest u64 it stays there.
     ghost told: { Self → ℕ };
 
-    /// The spans that it was told, or `None` where it doesn't tell them.
+    /// The spans that it was told, or `None` where they are not specified.
     ghost seen: { Self → Option (List Span) };
+
+    /// Where the spans are specified, the count is how many they are, or the greatest u64 where they are more.
+    ghost counts_spans: { (watcher : Self) → IfSome (seen watcher) (λ spans. told watcher ≡ min (length spans) (2 ^ 64 - 1)) };
 
     /// Tells it a span. After an `Err` nothing has changed.
     fn span(&mut self, span: Span) -> Result<(), NoMemory>

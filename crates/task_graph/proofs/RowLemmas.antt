@@ -1,5 +1,5 @@
 -- A net stays well formed, and plain, where a row is added.
-use Rattle.std.proofs.Common.{◌≡◌, ℕ, zero, suc, ◌<◌, false, List, [], ◌∷◌, ◌++◌, length, slice_get, arith, refl, ap, ◌∙◌}
+use Rattle.std.proofs.Common.{◌≡◌, ℕ, zero, suc, ◌<◌, ◌≤◌, false, List, [], ◌∷◌, ◌++◌, length, slice_get, arith, refl, ap, ◌∙◌}
 use Rattle.std.specs.Option.{option_map_or}
 use Rattle.std.proofs.lemmas.List.{length_push}
 use Rattle.std.proofs.lemmas.List.Elements.{All-push, All-weaker}
@@ -7,7 +7,7 @@ use Rattle.task_graph.specs.declared.net.TaskRow.{TaskRow}
 use Rattle.task_graph.specs.declared.net.EdgeRow.{EdgeRow}
 use Rattle.task_graph.specs.NetRows.{NetRows}
 use Rattle.task_graph.specs.Net.{chooses, is_weak_row, IsEdgeOf, AreSemaphoresOf, IsTaskOf, IsNet, IsPlainTask, IsPlainNet}
-use Rattle.task_graph.specs.NetBuilder.{task_limit, edge_limit, with_task, with_edge}
+use Rattle.task_graph.specs.NetBuilder.{task_limit, edge_limit, semaphore_limit, with_task, with_edge, with_semaphore}
 
 -- an item behind the others doesn't move them
 slice_get-push : {X : Type 0} (xs : List X) (x : X) (i : ℕ) → i < length xs → slice_get (xs ++ x ∷ []) i ≡ slice_get xs i
@@ -43,19 +43,10 @@ edge_with_rows net edges row e = record {
   starts_strong = e.starts_strong;
 }
 
--- the empty list of semaphores
-no_semaphores : (net : NetRows) (ids : List ℕ) → ids ≡ [] → AreSemaphoresOf net ids
-no_semaphores net [] e = record { rising = λ k h. absurd (omega arith); in_range = λ k d h. absurd (omega arith) }
-no_semaphores net (x ∷ xs) e = absurd cc
-
--- a plain task fits every net
-task_from_plain : (net : NetRows) (row : TaskRow) → IsPlainTask row → IsTaskOf net row
-task_from_plain net row p = record { takes = no_semaphores net row.takes p.takes; puts = no_semaphores net row.puts p.puts }
-
-pub net_with_task : (net : NetRows) (row : TaskRow) → IsNet net → IsPlainTask row → length net.tasks < task_limit → IsNet (with_task net row)
-net_with_task net row n p room = record {
+pub net_with_task : (net : NetRows) (row : TaskRow) → IsNet net → IsTaskOf net row → length net.tasks < task_limit → IsNet (with_task net row)
+net_with_task net row n t room = record {
   tasks = let new = with_task net row in
-      All-push (IsTaskOf new) net.tasks row (All-weaker (IsTaskOf net) (IsTaskOf new) (task_with_rows net new.tasks new.edges) net.tasks n.tasks) (task_from_plain new row p);
+      All-push (IsTaskOf new) net.tasks row (All-weaker (IsTaskOf net) (IsTaskOf new) (task_with_rows net new.tasks new.edges) net.tasks n.tasks) (task_with_rows net new.tasks new.edges row t);
   edges = All-weaker (IsEdgeOf net) (IsEdgeOf (with_task net row)) (edge_with_task net row) net.edges n.edges;
   sems = n.sems;
   task_count = let l = length_push net.tasks row in omega arith;
@@ -73,6 +64,36 @@ net_with_edge net row n e room = record {
   task_count = n.task_count;
   edge_count = let l = length_push net.edges row in omega arith;
   sem_count = n.sem_count;
+}
+
+-- one more semaphore leaves the others' numbers in range
+semaphores_with_one : (net : NetRows) (max : ℕ) (ids : List ℕ) → AreSemaphoresOf net ids → AreSemaphoresOf (with_semaphore net max) ids
+semaphores_with_one net max ids are = record {
+  rising = are.rising;
+  in_range = All-weaker (λ s. s < length net.sems) (λ s. s < length (net.sems ++ max ∷ [])) (λ s h. let l = length_push net.sems max in omega arith) ids are.in_range;
+}
+
+task_with_semaphore : (net : NetRows) (max : ℕ) (row : TaskRow) → IsTaskOf net row → IsTaskOf (with_semaphore net max) row
+task_with_semaphore net max row t = record {
+  takes = semaphores_with_one net max row.takes t.takes;
+  puts = semaphores_with_one net max row.puts t.puts;
+}
+
+edge_with_semaphore : (net : NetRows) (max : ℕ) (row : EdgeRow) → IsEdgeOf net row → IsEdgeOf (with_semaphore net max) row
+edge_with_semaphore net max row e = record {
+  from_in_range = e.from_in_range;
+  to_in_range = e.to_in_range;
+  starts_strong = e.starts_strong;
+}
+
+pub net_with_semaphore : (net : NetRows) (max : ℕ) → IsNet net → 1 ≤ max → length net.sems < semaphore_limit → IsNet (with_semaphore net max)
+net_with_semaphore net max n positive room = record {
+  tasks = All-weaker (IsTaskOf net) (IsTaskOf (with_semaphore net max)) (task_with_semaphore net max) net.tasks n.tasks;
+  edges = All-weaker (IsEdgeOf net) (IsEdgeOf (with_semaphore net max)) (edge_with_semaphore net max) net.edges n.edges;
+  sems = All-push (λ m. 1 ≤ m) net.sems max n.sems positive;
+  task_count = n.task_count;
+  edge_count = n.edge_count;
+  sem_count = let l = length_push net.sems max in omega arith;
 }
 
 pub plain_with_task : (net : NetRows) (row : TaskRow) → IsPlainTask row → IsPlainNet net → IsPlainNet (with_task net row)

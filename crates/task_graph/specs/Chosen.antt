@@ -1,5 +1,9 @@
--- Which edges a choice gives.
-use Rattle.std.specs.Prelude.{ℕ, ℤ, pos, negsuc, not, ◌==◌, List, [], ◌∷◌, filter, Option, Some, None, slice_get}
+-- Which edges a choosing task signals.
+use Rattle.std.specs.Prelude.{◌≡◌, ℕ, ℤ, pos, negsuc, not, ◌==◌, List, [], ◌∷◌, filter, Option, Some, None, slice_get, IsSomeAnd}
+use Rattle.task_graph.specs.NetRows.{NetRows}
+use Rattle.task_graph.specs.declared.net.Shape.{Shape}
+use Rattle.task_graph.specs.declared.net.Shape.TheVariants.{Plain, Choice, Many, Nested}
+use Rattle.task_graph.specs.declared.net.TaskRow.{TaskRow}
 
 -- the edge at an index; no edge stands at a negative one or past the end
 abbrev pub edge_at : List ℕ → ℤ → Option ℕ
@@ -15,3 +19,14 @@ first_of (Some e) rest = e ∷ filter (λ f. not (f == e)) rest
 abbrev pub chosen_edges : List ℕ → List ℤ → List ℕ
 chosen_edges out [] = []
 chosen_edges out (i ∷ is) = first_of (edge_at out i) (chosen_edges out is)
+
+-- how many indices the answer of a task of this shape has: a Choice's one, a Many's any number
+abbrev pub FitsShape : Shape → ℕ → Type 0
+FitsShape Plain n = ⊥
+FitsShape Choice n = n ≡ 1
+FitsShape Many n = Unit {0}
+FitsShape Nested n = ⊥
+
+-- a task may answer so many indices
+abbrev pub IsAnswerFor : NetRows → ℕ → ℕ → Type 0
+IsAnswerFor net t n = IsSomeAnd (slice_get net.tasks t) (λ (row : TaskRow). FitsShape row.shape n)

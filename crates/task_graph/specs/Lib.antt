@@ -2,10 +2,5 @@ pub mod NetRows
 pub mod Places
 pub mod Net
 pub mod NetBuilder
-pub mod Side
-pub mod Groups
-pub mod EdgeIndex
-pub mod Indexed
-pub mod Building
-pub mod Counting
 pub mod Chosen
+pub mod inside

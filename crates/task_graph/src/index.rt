@@ -1,6 +1,6 @@
 // The lists of each task's edges: those out of it, and the strong and the weak ones into it.
 ghost use Rattle.std.specs.Prelude.{◌<◌, ◌^◌, ℕ, OnOk, All, length};
-ghost use Rattle.task_graph.specs.EdgeIndex.{IsIndexOf, HasRoomFor, EndsIn};
+ghost use Rattle.task_graph.specs.inside.EdgeIndex.{IsIndexOf, HasRoomFor, EndsIn};
 
 use crate::groups::Groups;
 use crate::net::{EdgeRow, TaskRow};

@@ -1,19 +1,26 @@
 //! Task graphs: nets of tasks and edges, and the builder that makes them.
 //!
-//! The layer above sees a `Net` as its three lists of rows (`NetRows`), knows that they are well formed
-//! (`IsNet`), and asks for a task's edges at no cost. The definitions stand in `specs/`: `NetRows` has the
-//! rows, `Net` has weak and strong edges and the lists of a task's edges, `NetBuilder` says what the builder
-//! adds and what it refuses.
+//! A net is a marked graph with choices. Its edges hold tokens: a task is released when each of its strong in-edges
+//! holds one, or when a weak edge into it holds one; an edge is weak where the task that it leaves chooses among its
+//! successors. The tokens of each edge take the place of Taskflow's one join counter a task. Each task's out-edges,
+//! strong and weak in-edges are compressed sparse rows (CSR): one list of all edges by task, and one of bounds.
+//!
+//! The layer above sees a `Net` as its three lists of rows (`NetRows`), knows that they are well formed (`IsNet`), and
+//! looks up a task's edges in constant time. The definitions are in `specs/`: `NetRows` has the rows, `Net` weak and
+//! strong edges and the lists of a task's edges, `Chosen` which edges an answer chooses, and `NetBuilder` what the
+//! builder adds and what it refuses. They are computed on small nets in `proofs/WorkedNets.antt`.
 #![tactic(auto)]
 
 mod builder;
+mod choice;
 mod counting;
 mod groups;
 mod index;
 mod net;
+mod semaphores;
 mod side;
 #[cfg(test)]
 mod tests;
 
-pub use builder::{BuildError, MAX_EDGES, MAX_TASKS, NetBuilder};
+pub use builder::{BuildError, MAX_EDGES, MAX_SEMAPHORES, MAX_TASKS, NetBuilder};
 pub use net::{EdgeRow, Net, Shape, TaskRow};

@@ -1,10 +1,13 @@
 // Nets: the rows of tasks, edges and semaphores, and the lists of each task's edges.
-ghost use Rattle.std.specs.Prelude.{◌≡◌, ◌↔◌, ◌<◌, IsTrue, length};
-ghost use Rattle.task_graph.specs.EdgeIndex.{IsIndexOf};
+ghost use Rattle.std.specs.Prelude.{◌≡◌, ◌↔◌, ◌<◌, IfOk, IsTrue, length};
+ghost use Rattle.task_graph.specs.Chosen.{IsAnswerFor, chosen_edges};
+ghost use Rattle.task_graph.specs.inside.EdgeIndex.{IsIndexOf};
 ghost use Rattle.task_graph.specs.Net.{IsNet, IsSource, chooses, is_weak, out_edges, strong_in, weak_in};
 
+use crate::choice::choose;
 use crate::index::EdgeIndex;
-use outside_io::List;
+use outside_io::{List, NoMemory};
+use std::alloc::Global;
 use std::marker::Model;
 
 /// How a task ends.
@@ -66,7 +69,7 @@ impl Model for Net {
 
     ghost Value = { NetRows };
 
-    ghost use Rattle.task_graph.specs.Indexed.{rows_of, IsIndexed};
+    ghost use Rattle.task_graph.specs.inside.Indexed.{rows_of, IsIndexed};
 
     ghost view = { rows_of };
 
@@ -148,6 +151,17 @@ impl Net {
     {
         let edge = self.edges.as_slice()[edge as usize];
         self.tasks.as_slice()[edge.from as usize].shape.chooses()
+    }
+
+    /// The edges that a choosing task signals where its work answers these indices among its successors: those
+    /// at the indices that are in range, each once, in the order in which they are first named. A Choice
+    /// answers one index, a Many any number.
+    pub fn chosen(&self, alloc: Global, task: u32, answer: &[i64]) -> Result<List<u32>, NoMemory>
+        requires task { task < length self.now.tasks }
+        requires answer { IsAnswerFor self.now task (length answer.now) }
+        ensures { IfOk result (λ edges. edges ≡ chosen_edges (out_edges self.now task) answer.now) }
+    {
+        choose(alloc, self.out_edges(task), answer)
     }
 
     /// Whether no edge leads into a task.

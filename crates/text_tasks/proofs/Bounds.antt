@@ -20,7 +20,7 @@ use Rattle.text_tasks.specs.declared.table.TextRow.{TextRow}
 use Rattle.text_tasks.specs.Lines.{lines_of, ended, is_normal, normal, IsNormal, occurs, line_end}
 use Rattle.text_tasks.specs.TextMeaning.{count_meaning}
 use Rattle.text_tasks.specs.TextTable.{text_in}
-use Rattle.text_tasks.specs.GraphWork.{GraphWork, IsWork, text_limit}
+use Rattle.text_tasks.specs.GraphWork.{GraphWork, IsWork, text_limit, graph_of}
 use Rattle.text_tasks.specs.Items.{item_text}
 use Rattle.text_tasks.specs.declared.item.Item.{Item}
 use Rattle.text_tasks.specs.declared.item.Item.TheVariants.{Text}
@@ -74,7 +74,7 @@ value_is : (work : GraphWork) (found : List (Found Item)) (op : Op) → IsWork w
 value_is work found op is few fit = let text = text_found_fits found few fit in value_fits work.texts op (text_found found) is.short text.0 text.1
 
 pub no_fault : (job : TextJob) (task : ℕ) (found : List (Found Item)) (why : Why) → IsTextJob job → length found ≤ 1 → AllByRecursion FindsText found → JobFaults job task found why → ⊥
-no_fault (Graph work) task found (Long n) is few fit faults = by_op (slice_get work.plan.top.ops task) faults
+no_fault (Graph work) task found (Long n) is few fit faults = by_op (slice_get (graph_of work).ops task) faults
   where
     by_op : (op : Option Op) → IsSomeAnd op (λ o. (n ≡ length (task_value work o found)) × (value_limit < n)) → ⊥
     by_op None none = none
@@ -86,17 +86,17 @@ no_fault (Graph work) task found (OverRelease s) is few fit faults = faults
 
 -- an answer is a value for all the successors
 pub gives_value : (job : TextJob) (task : ℕ) (found : List (Found Item)) (item : Item) (answer : Answer) → IsTextJob job → length found ≤ 1 → AllByRecursion FindsText found → JobAnswers job task found (Value item answer) → (answer ≡ Each) × IsValueText (item_text item)
-gives_value (Graph work) task found (Text text) Each is few fit answers = (refl, by_op (slice_get work.plan.top.ops task) answers)
+gives_value (Graph work) task found (Text text) Each is few fit answers = (refl, by_op (slice_get (graph_of work).ops task) answers)
   where
     by_op : (op : Option Op) → IsSomeAnd op (λ o. (text ≡ task_value work o found) × (length text ≤ value_limit)) → IsValueText text
     by_op None none = absurd none
     by_op (Some op) (same, short) = subst IsValueText (sym same) (value_is work found op is few fit)
-gives_value (Graph work) task found (Text text) NoneOf is few fit answers = absurd (by_op (slice_get work.plan.top.ops task) answers)
+gives_value (Graph work) task found (Text text) NoneOf is few fit answers = absurd (by_op (slice_get (graph_of work).ops task) answers)
   where
     by_op : (op : Option Op) → IsSomeAnd op (λ o. ⊥) → ⊥
     by_op None none = none
     by_op (Some op) never = never
-gives_value (Graph work) task found (Text text) (Indices chosen) is few fit answers = absurd (by_op (slice_get work.plan.top.ops task) answers)
+gives_value (Graph work) task found (Text text) (Indices chosen) is few fit answers = absurd (by_op (slice_get (graph_of work).ops task) answers)
   where
     by_op : (op : Option Op) → IsSomeAnd op (λ o. ⊥) → ⊥
     by_op None none = none

@@ -8,6 +8,10 @@ use Rattle.task_graph.specs.NetRows.{NetRows}
 use Rattle.task_graph.specs.Places.{places_from}
 use Rattle.task_graph.specs.Net.{strong_in, is_weak_row}
 use Rattle.task_graph.specs.declared.net.EdgeRow.{EdgeRow}
+use Rattle.legal_run.specs.declared.entry.Cause.{Cause}
+use Rattle.legal_run.specs.declared.entry.Cause.TheVariants.{Source, Strong, Weak}
+use Rattle.legal_run.specs.DataRule.{edges_of}
+use Rattle.run_frame.specs.Meaning.{IsRelease}
 use Rattle.join_words.specs.declared.ins.Given.{Given}
 use Rattle.join_words.specs.Ins.{found_of}
 use Rattle.graph_file.specs.declared.ops.TextOp.{TextOp}
@@ -57,6 +61,15 @@ single_in net t apart = one_place (λ (row : EdgeRow). row.to) (λ row. (row.to 
         first_true : (a b : Bool) → a && b ≡ true → a ≡ true
         first_true true b h = refl
         first_true false b h = h
+
+-- so a start of it has one part at most
+pub few_parts : (net : NetRows) (t parts : ℕ) → AllPairs (λ (a b : EdgeRow). a.to ≢ b.to) net.edges → IsRelease net t parts → parts ≤ 1
+few_parts net t parts apart release = by_cause release.cause release.size
+  where
+    by_cause : (cause : Cause) → parts ≡ length (edges_of net t cause) → parts ≤ 1
+    by_cause Source size = omega (arith, size)
+    by_cause Strong size = omega (arith, size, single_in net t apart)
+    by_cause (Weak e) size = omega (arith, size)
 
 -- a text that isn't normal has the lines of the normal one
 lines_of-ended : (text : List ℕ) → is_normal text ≡ false → lines_of (ended text) ≡ lines_of text

@@ -1,7 +1,9 @@
 -- What the tasks of graph files answer.
-use Rattle.std.specs.Prelude.{◌≡◌, ℕ, ◌<◌, ◌≤◌, List, [], length, unwrap_or, slice_get, IsSomeAnd}
-use Rattle.std.specs.List.{flat_map}
+use Rattle.std.specs.Prelude.{◌≡◌, ◌==◌, ℕ, ◌<◌, ◌≤◌, List, [], length, filter, unwrap_or, slice_get, Option, None, IsSomeAnd}
+use Rattle.std.specs.List.{flat_map, last_or, range_with_len}
+use Rattle.std.specs.Option.{option_map_or, option_and_then}
 use Rattle.task_graph.specs.NetRows.{NetRows}
+use Rattle.task_graph.specs.Net.{out_edges}
 use Rattle.legal_run.specs.declared.entry.Why.{Why}
 use Rattle.legal_run.specs.declared.entry.Why.TheVariants.{Long, Wide, Unmet, Inner, OverRelease}
 use Rattle.join_words.specs.Ins.{Found, value, first, nothing}
@@ -11,7 +13,11 @@ use Rattle.run_frame.specs.declared.job.Done.{Done}
 use Rattle.run_frame.specs.declared.job.Done.TheVariants.{Value, Inner as InnerJob}
 use Rattle.run_frame.specs.declared.job.JobError.{JobError}
 use Rattle.run_frame.specs.declared.job.JobError.TheVariants.{Fault as FaultOf, NoMemory}
+use Rattle.run_frame.specs.declared.run.FrameRun.{FrameRun}
 use Rattle.run_frame.specs.Meaning.{Meaning}
+use Rattle.run_frame.specs.Runs.{values_of}
+use Rattle.run_frame.specs.NestedRule.{job_of, journal_of}
+use Rattle.run_frame.specs.LastEnds.{last_value}
 use Rattle.graph_file.specs.declared.ops.Op.{Op}
 use Rattle.graph_file.specs.declared.ops.Op.TheVariants.{Read, Text as OnText}
 use Rattle.graph_file.specs.declared.ops.TextOp.{TextOp}
@@ -21,7 +27,7 @@ use Rattle.text_tasks.specs.declared.item.Item.TheVariants.{Text}
 use Rattle.text_tasks.specs.declared.table.TextRow.{TextRow}
 use Rattle.text_tasks.specs.declared.job.TextJob.{TextJob}
 use Rattle.text_tasks.specs.declared.job.TextJob.TheVariants.{Graph}
-use Rattle.text_tasks.specs.GraphWork.{GraphWork, IsWork}
+use Rattle.text_tasks.specs.GraphWork.{GraphWork, IsWork, graph_of}
 use Rattle.text_tasks.specs.Items.{item_text}
 use Rattle.text_tasks.specs.Lines.{normal}
 use Rattle.text_tasks.specs.TextMeaning.{keep_meaning, count_meaning}
@@ -62,24 +68,24 @@ Gives work found (Text text) NoneOf op = ⊥
 Gives work found (Text text) (Indices is) op = ⊥
 
 abbrev pub AnswersWith : GraphWork → ℕ → List (Found Item) → Done TextJob Item → Type 0
-AnswersWith work task found (Value item answer) = IsSomeAnd (slice_get work.plan.top.ops task) (Gives work found item answer)
+AnswersWith work task found (Value item answer) = IsSomeAnd (slice_get (graph_of work).ops task) (Gives work found item answer)
 AnswersWith work task found (InnerJob job) = ⊥
 
 -- A value that would be too long is a fault that tells its length.
 abbrev pub FaultsWith : GraphWork → ℕ → List (Found Item) → Why → Type 0
 FaultsWith work task found (Long n) =
-    IsSomeAnd (slice_get work.plan.top.ops task) (λ op. (n ≡ length (task_value work op found)) × (value_limit < n))
+    IsSomeAnd (slice_get (graph_of work).ops task) (λ op. (n ≡ length (task_value work op found)) × (value_limit < n))
 FaultsWith work task found (Wide n) = ⊥
 FaultsWith work task found (Unmet k) = ⊥
 FaultsWith work task found Inner = ⊥
 FaultsWith work task found (OverRelease s) = ⊥
 
 abbrev pub net_of : TextJob → NetRows
-net_of (Graph work) = work.plan.top.net
+net_of (Graph work) = (graph_of work).net
 
 -- the names of the tasks, by their numbers
 abbrev pub names_of : TextJob → List (List ℕ)
-names_of (Graph work) = work.plan.top.names
+names_of (Graph work) = (graph_of work).names
 
 abbrev pub limit_of : TextJob → ℕ
 limit_of (Graph work) = work.limit
@@ -90,6 +96,18 @@ JobAnswers (Graph work) task found done = AnswersWith work task found done
 abbrev pub JobFaults : TextJob → ℕ → List (Found Item) → Why → Type 0
 JobFaults (Graph work) task found why = FaultsWith work task found why
 
+-- the last task that leads to no other
+abbrev pub last_sink : NetRows → Option ℕ
+last_sink net = last_or None (filter (λ t. length (out_edges net t) == 0) (range_with_len 0 (length net.tasks)))
+
+-- what a run hands to the next round: the value of the last End of that task, or the empty text
+abbrev pub feedback_of : FrameRun TextJob Item → List ℕ
+feedback_of run = option_map_or item_text (option_and_then (last_value (journal_of run) (values_of run)) (last_sink (net_of (job_of run)))) []
+
+-- the next round is of the same graph, with that text as its input
+abbrev pub JobFollows : TextJob → FrameRun TextJob Item → TextJob → Type 0
+JobFollows (Graph work) run next = next ≡ Graph (record work { input = feedback_of run })
+
 -- What text jobs may answer. No job is run inside another yet.
 abbrev pub text_job : Meaning TextJob Item
 text_job = record {
@@ -99,6 +117,7 @@ text_job = record {
   faults = JobFaults;
   gathers = λ job run item. ⊥;
   gather_faults = λ job run why. ⊥;
+  follows = JobFollows;
 }
 
 -- the fault that an error tells is one of these; want of memory is free

@@ -3,7 +3,7 @@ ghost use Rattle.std.specs.Prelude.{◌≡◌, ◌≤◌, [], length, map, IfOk,
 ghost use Rattle.std.specs.Arc.{arc_value};
 ghost use Rattle.graph_file.specs.PlanRows.{plan_rows};
 ghost use Rattle.text_tasks.specs.TextTable.{rows_of, text_in};
-ghost use Rattle.text_tasks.specs.GraphWork.{IsWork};
+ghost use Rattle.text_tasks.specs.GraphWork.{IsWork, graph_of};
 ghost use Rattle.text_tasks.specs.Works.{first_work};
 ghost use Rattle.text_tasks.specs.Lines.{IsNormal, normal};
 ghost use Rattle.text_tasks.specs.JobMeaning.{text_found, text_op_value, value_on, AnswersWith, MayFault};
@@ -62,7 +62,7 @@ impl GraphJob {
 
     // The graph that is run.
     fn graph(&self) -> &Graph
-        ensures rows { graph_rows result.now ≡ self.now.plan.top }
+        ensures rows { graph_rows result.now ≡ graph_of self.now }
         ensures work { IsWork self.now }
     {
         &self.plan.top
@@ -90,7 +90,7 @@ impl GraphJob {
 
     // What a task answers on what it finds.
     fn answer(&self, alloc: Global, task: u32, ins: &Ins<Item>) -> Result<Done<TextJob>, JobError>
-        requires { IsRelease self.now.plan.top.net task (length (parts_of ins.now)) }
+        requires { IsRelease (graph_of self.now).net task (length (parts_of ins.now)) }
         ensures answer { IfOk result (AnswersWith self.now task (map found_of (parts_of ins.now))) }
         ensures fault { IfErr result (MayFault self.now task (map found_of (parts_of ins.now))) }
     {
@@ -162,7 +162,7 @@ impl Valued for TextJob {
 
 impl Job for TextJob {
     ghost use Rattle.text_tasks.specs.JobMeaning.{text_job, IsTextJob};
-    ghost use Rattle.text_tasks.specs.JobLaws.{text_answers_fit, text_faults_own};
+    ghost use Rattle.text_tasks.specs.JobLaws.{text_answers_fit, text_faults_own, text_gather_faults_own};
 
     ghost meaning = { text_job };
 
@@ -189,6 +189,8 @@ impl Job for TextJob {
     ghost answers_fit = { text_answers_fit };
 
     ghost faults_own = { text_faults_own };
+
+    ghost gather_faults_own = { text_gather_faults_own };
 }
 
 /// The job of a plan's top graph, started with the empty text.

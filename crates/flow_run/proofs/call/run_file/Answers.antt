@@ -1,13 +1,16 @@
-use Rattle.std.proofs.Common.{subst, true}
+use Rattle.std.proofs.Common.{inl, subst, sym, ◌∙◌, ap}
+use Rattle.flow_run.specs.declared.call.Ended.{Ended}
 use Rattle.flow_run.specs.Requests.{StopsBefore}
-use Rattle.flow_run.specs.Answers.{put_whole}
-use Rattle.flow_run.proofs.Ending.{kept_none, nothing_put}
+use Rattle.flow_run.specs.Answers.{HaveRead}
+use Rattle.flow_run.proofs.Ending.{read_stopped}
 use Rattle.flow_run.proofs.call.run_file.Goals as goal
 
 pub returns-in-Err-clause-ends : goal.returns-in-Err-clause-ends
 returns-in-Err-clause-ends g c =
-    let stops = subst (λ file. StopsBefore (g.F.Texts.held c.args.texts.now) file c.in-Err.status) c.as_bytes.ensures.value c.in-Err.ensures.stops in
-    rw c.stopped.ensures (kept_none (g.F.Texts.held c.args.texts.now) c.args.file.now c.in-Err.status stops)
+    let stops = subst (λ file. StopsBefore (g.F.Texts.held c.args.texts.now) file c.in-Err.stop) c.as_bytes.ensures.value c.in-Err.ensures.stops in
+    inl (record { why = c.in-Err.stop; stops = stops; told = ap (λ (e : Ended). e.status) c.stopped.ensures ∙ c.of.ensures; none = ap (λ (e : Ended). e.runs) c.stopped.ensures })
 
-pub returns-in-Err-clause-output : goal.returns-in-Err-clause-output
-returns-in-Err-clause-output g c = rw c.stopped.ensures (nothing_put (g.S.Sink.taken c.args.out.now) (put_whole c.in-Err.status true))
+pub returns-in-Err-clause-read : goal.returns-in-Err-clause-read
+returns-in-Err-clause-read g c =
+    let status = ap (λ (e : Ended). e.status) c.stopped.ensures ∙ c.of.ensures in
+    subst (HaveRead g.F.Texts.held g.F.Texts.faults c.args.texts.now c.prepare.new.texts) (sym status) (read_stopped g.F.Texts.held g.F.Texts.faults _ _ c.in-Err.stop c.prepare.ensures.stays c.in-Err.ensures.counts)

@@ -10,10 +10,10 @@ use Rattle.flow_run.proofs.prepare.prepare.Goals as goal
 
 pub read_texts-requires : goal.read_texts-requires
 read_texts-requires g c =
-    subst (AllPairs (λ a b. a ≢ b)) (sym (c.as_slice-2.ensures ∙ c.in-Ok-text_names.ensures)) (mentions_differ (filter_map text_of c.in-Ok-read_plan.plan.top.ops))
+    subst (AllPairs (λ a b. a ≢ b)) (sym (c.as_slice-2.ensures ∙ c.in_ok-names.ensures)) (mentions_differ (filter_map text_of c.in_ok-plan.plan.top.ops))
 
 pub first_job-requires : goal.first_job-requires
 first_job-requires g c =
-    let names = c.as_slice-2.ensures ∙ c.in-Ok-text_names.ensures in
-    rw (c.in-Ok-new.ensures.ok, c.in-Ok-new-2.ensures.ok) (is_work _ (plan_rows c.in-Ok-read_plan.plan) (rows_of c.in-Ok-read_texts.table) c.in-Ok-read_plan.ensures.rules
-    (subst (λ ns. TextsAre (g.F.Texts.held c.read_named.new.texts) ns (rows_of c.in-Ok-read_texts.table)) names c.in-Ok-read_texts.ensures.are))
+    let names = c.as_slice-2.ensures ∙ c.in_ok-names.ensures in
+    rw (c.in_ok-plan-2.ensures.ok, c.in_ok-table-2.ensures.ok) (is_work _ (plan_rows c.in_ok-plan.plan) (rows_of c.in_ok-table.table) c.in_ok-plan.ensures.rules
+    (subst (λ ns. TextsAre (g.F.Texts.held c.read_named.new.texts) ns (rows_of c.in_ok-table.table)) names c.in_ok-table.ensures.are))

@@ -16,5 +16,5 @@ add_text-requires g c =
 pub returns-in-Err-clause-stops : goal.returns-in-Err-clause-stops
 returns-in-Err-clause-stops g c =
     let so_far = c.loop-name.invariant in
-    stops_at (g.F.Texts.held c.args.texts.now) c.args.names.now (rows_of c.loop-name.table) c.loop-name.name-index c.name-item.result c.in-Err.status c.loop-name-test.true c.name-item.is so_far.are
-    (subst (λ (h : Held). StopsAtName h c.name-item.result text_limit c.in-Err.status) so_far.held c.in-Err.ensures.stops)
+    stops_at (g.F.Texts.held c.args.texts.now) c.args.names.now (rows_of c.loop-name.table) c.loop-name.name-index c.name-item.result c.in-Err.stop c.loop-name-test.true c.name-item.is so_far.are
+    (subst (λ (h : Held). StopsAtName h c.name-item.result text_limit c.in-Err.stop) so_far.held c.in-Err.ensures.stops)

@@ -1,45 +1,40 @@
-use Rattle.std.proofs.Common.{rules, arith, subst, ◌≡◌, ◌<◌, ℕ, [], length, None, slice_index_or, option_map}
+use Rattle.std.proofs.Common.{rules, Err, subst, ◌≡◌, ◌<◌, ℕ, [], length, None, slice_index_or, option_map}
 use Rattle.std.specs.Arc.{arc_value}
 use Rattle.std.specs.Option.{option_copied, option_and_then}
-use Rattle.outside_io.specs.Sink.{Took, TookFront}
+use Rattle.outside_io.specs.Sink.{Accepts, Writes}
+use Rattle.run_frame.specs.LastEnds.{last_end}
 use Rattle.run_frame.specs.NestedRule.{job_of, journal_of}
-use Rattle.run_frame.specs.Runs.{value_at}
-use Rattle.run_frame.specs.declared.run.FrameRun.{out-FrameRun}
-use Rattle.text_tasks.specs.declared.item.Item.{Item}
-use Rattle.text_tasks.specs.declared.job.TextJob.{TextJob}
+use Rattle.run_frame.specs.Runs.{value_at, values_of}
 use Rattle.text_tasks.specs.JobMeaning.{net_of, names_of}
-use Rattle.flow_run.specs.Output.{told, last_end}
-use Rattle.flow_run.proofs.ReportLemmas.{one_taken, one_refused, told_is}
+use Rattle.flow_run.specs.Output.{told}
+use Rattle.flow_run.proofs.ReportLemmas.{one_written, one_refused, told_is}
 use Rattle.flow_run.proofs.report.put_report.Goals as goal
 
 pub loop-task-preserved : goal.loop-task-preserved
 loop-task-preserved g c =
     let run = c.args.run.now in
     let t = c.loop-task.task in
-    let text = told (names_of (job_of run)) (net_of (job_of run)) (journal_of run) (out-FrameRun TextJob Item run).values in
+    let text = told (names_of (job_of run)) (net_of (job_of run)) (journal_of run) (values_of run) in
     let held = λ (n : ℕ). option_map arc_value (slice_index_or c.in_ok-values.values.items n None) in
     let net : c.deref-in-loop-task-3.result.now ≡ net_of (job_of run) = search rules in
     let name : c.name_of.result.now ≡ slice_index_or (names_of (job_of run)) t [] = search rules in
     let end : slice_index_or c.in_ok-ends.ends.items t None ≡ last_end (journal_of run) t = search rules in
-    let each : (n : ℕ) → n < length (journal_of run) → held n ≡ value_at (out-FrameRun TextJob Item run).values n = search rules in
+    let each : (n : ℕ) → n < length (journal_of run) → held n ≡ value_at (values_of run) n = search rules in
     let value : option_copied c.last_value-value.result ≡ option_and_then held (slice_index_or c.in_ok-ends.ends.items t None) = search rules in
     let same = told_is run c.deref-in-loop-task-3.result.now t c.name_of.result.now (slice_index_or c.in_ok-ends.ends.items t None) held (option_copied c.last_value-value.result) net name end each value in
-    record {
-      taken = one_taken text t _ _ _ c.loop-task.invariant.taken (subst (Took (g.S.Sink.taken c.loop-task.out) (g.S.Sink.taken c.put_task.new.out)) same c.in_default.ensures.ok);
-      faults = omega (arith, c.loop-task.invariant.faults, c.put_task.ensures.no_fewer);
-    }
+    one_written text t _ _ _ c.loop-task.invariant (subst (Accepts (g.S.Sink.state c.loop-task.out) (g.S.Sink.state c.put_task.new.out)) same c.in_default.ensures)
 
-pub returns-in-Err-clause-err : goal.returns-in-Err-clause-err
-returns-in-Err-clause-err g c =
+pub returns-in-Err : goal.returns-in-Err
+returns-in-Err g c =
     let run = c.args.run.now in
     let t = c.loop-task.task in
-    let text = told (names_of (job_of run)) (net_of (job_of run)) (journal_of run) (out-FrameRun TextJob Item run).values in
+    let text = told (names_of (job_of run)) (net_of (job_of run)) (journal_of run) (values_of run) in
     let held = λ (n : ℕ). option_map arc_value (slice_index_or c.in_ok-values.values.items n None) in
     let net : c.deref-in-loop-task-3.result.now ≡ net_of (job_of run) = search rules in
     let name : c.name_of.result.now ≡ slice_index_or (names_of (job_of run)) t [] = search rules in
     let end : slice_index_or c.in_ok-ends.ends.items t None ≡ last_end (journal_of run) t = search rules in
-    let each : (n : ℕ) → n < length (journal_of run) → held n ≡ value_at (out-FrameRun TextJob Item run).values n = search rules in
+    let each : (n : ℕ) → n < length (journal_of run) → held n ≡ value_at (values_of run) n = search rules in
     let value : option_copied c.last_value-value.result ≡ option_and_then held (slice_index_or c.in_ok-ends.ends.items t None) = search rules in
     let inside : t < length (net_of (job_of run)).tasks = search rules in
     let same = told_is run c.deref-in-loop-task-3.result.now t c.name_of.result.now (slice_index_or c.in_ok-ends.ends.items t None) held (option_copied c.last_value-value.result) net name end each value in
-    one_refused text t (length (net_of (job_of run)).tasks) _ _ _ inside c.loop-task.invariant.taken (subst (TookFront (g.S.Sink.taken c.loop-task.out) (g.S.Sink.taken c.put_task.new.out)) same c.in-Err.ensures.err)
+    one_refused text t (length (net_of (job_of run)).tasks) _ _ _ c.in-Err.fault inside c.loop-task.invariant (subst (λ bytes. Writes (g.S.Sink.state c.loop-task.out) (g.S.Sink.state c.put_task.new.out) bytes (Err c.in-Err.fault)) same c.in-Err.ensures)

@@ -8,6 +8,7 @@ invariant_of-self c = record {
   rows = c.self.invariant.rows;
   tasks = c.self.invariant.tasks;
   edges = c.self.invariant.edges;
+  sems = c.self.invariant.sems;
   room = c.make_room.ensures.keeps _ _ c.self.invariant.room;
 }
 
@@ -16,8 +17,9 @@ invariant_of-self-2 c = rw c.in_ok-push.ensures.ok record {
   rows = net_with_edge _ _ c.self.invariant.rows (search rules) (search rules);
   tasks = c.self.invariant.tasks;
   edges = search (rules, length_push);
+  sems = c.self.invariant.sems;
   room = search (rules, length_push);
 }
 
 pub returns-clause-plain : goal.returns-clause-plain
-returns-clause-plain c = rw (c.in_ok-push.ensures.ok, ← c.self.view_is) (plain_with_edge _ _ c.requires)
+returns-clause-plain c = rw (c.in_ok-push.ensures.ok, ← c.self.view_is) (λ plain start. plain_with_edge _ _ start plain)

@@ -1,23 +1,12 @@
-use Rattle.std.proofs.Common.{rules}
-use Rattle.std.proofs.lemmas.List.{length_push}
-use Rattle.task_graph.proofs.RowLemmas.{net_with_task, plain_with_task}
+use Rattle.task_graph.proofs.RowLemmas.{plain_with_task}
+use Rattle.task_graph.proofs.SemaphoreLemmas.{settled-fits, settled-plain}
 use Rattle.task_graph.proofs.builder.NetBuilder.task.Goals as goal
 
-pub invariant_of-self : goal.invariant_of-self
-invariant_of-self c = record {
-  rows = c.self.invariant.rows;
-  tasks = c.self.invariant.tasks;
-  edges = c.self.invariant.edges;
-  room = c.make_room.ensures.keeps _ _ c.self.invariant.room;
-}
-
-pub invariant_of-self-2 : goal.invariant_of-self-2
-invariant_of-self-2 c = rw c.in_ok-push.ensures.ok record {
-  rows = net_with_task _ _ c.self.invariant.rows (record { shape = c.requires.shape; takes = c.requires.takes; puts = c.requires.puts }) (search rules);
-  tasks = search (rules, length_push);
-  edges = c.self.invariant.edges;
-  room = search (rules, length_push);
-}
+pub append_task-requires-clause-fits : goal.append_task-requires-clause-fits
+append_task-requires-clause-fits c = rw c.in_ok-row.ensures (settled-fits _ _)
 
 pub returns-clause-plain : goal.returns-clause-plain
-returns-clause-plain c = rw (c.in_ok-push.ensures.ok, ← c.self.view_is) (plain_with_task _ _ (record { shape = c.requires.shape; takes = c.requires.takes; puts = c.requires.puts }))
+returns-clause-plain c =
+    λ plain task.
+    rw (c.in_ok-append_task.ensures.ok, c.in_ok-row.ensures)
+    (plain_with_task c.args.self.now _ (settled-plain c.args.self.now _ (rw (c.as_slice-3.ensures, c.as_slice-4.ensures) task)) plain)

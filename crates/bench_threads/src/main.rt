@@ -1,0 +1,35 @@
+//! How long the calls of `keyed_lock`, `tickets` and `ready_deques` last. It measures if it is called with a word,
+//! and otherwise does nothing. It is no part of the product.
+#![tactic(auto)]
+
+mod clock;
+mod deques;
+mod locks;
+mod register;
+
+use outside_io::NoMemory;
+use std::{env, io};
+
+fn main(rt: HostRuntime) -> io::Result<()> {
+    if env::args(&rt)?.len() < 2 {
+        return Ok(());
+    }
+    for threads in [1, clock::THREADS].iter() {
+        let adds = locks::adds(&rt, *threads)?;
+        let takes = locks::takes(&rt, rt.alloc(), *threads)?;
+        println!(rt; "{threads} threads: two fetch_adds {adds} ns, take and put {takes} ns")?;
+    }
+    for others in [0, 10_000].iter() {
+        let nanos = register::issues(&rt, rt.alloc(), *others)?;
+        println!(rt; "{others} outstanding: issue and redeem {nanos} ns")?;
+    }
+    for workers in [1, 4, 16].iter() {
+        let nanos = deques::own(&rt, rt.alloc(), *workers, 1)?;
+        println!(rt; "{workers} owners, one at work: push and take_own {nanos} ns")?;
+    }
+    let nanos = deques::own(&rt, rt.alloc(), 4, 4)?;
+    println!(rt; "4 owners, all at work: push and take_own {nanos} ns")?;
+    let nanos = deques::stolen(&rt, rt.alloc())?;
+    println!(rt; "three thieves: an item stolen each {nanos} ns")?;
+    Ok(())
+}

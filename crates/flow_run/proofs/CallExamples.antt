@@ -1,0 +1,312 @@
+-- What a call asks for and how it ends, computed on a graph file `g` of one byte that names the text `t`, of two. Names
+-- are of one small byte here.
+use Rattle.std.proofs.Common.{◌≡◌, ℕ, zero, suc, ◌<◌, List, [], ◌∷◌, length, ◌⊎◌, Option, Some, None, true, false, inl, inr, refl, arith, codes, ap}
+use Rattle.std.specs.Prelude.{String, if◌then◌else◌, bytes_eq}
+use Rattle.std.specs.Global.{Global}
+use Rattle.std.specs.List.{All}
+use Rattle.outside_io.specs.Sink.{SinkState}
+use Rattle.graph_file.specs.declared.refusals.GraphError.TheVariants.{NotJson, NoMemory as NoMemoryToRead}
+use Rattle.graph_file.specs.declared.refusals.Spot.TheVariants.{File}
+use Rattle.graph_file.specs.PlanRows.{PlanRows, plan_texts}
+use Rattle.graph_file.specs.PlanText.{PlanText}
+use Rattle.text_tasks.specs.declared.table.TextRow.{TextRow}
+use Rattle.text_tasks.specs.GraphWork.{GraphWork, text_limit}
+use Rattle.flow_run.specs.declared.status.Status.TheVariants.{Done, BadWords, BadGraph, NoSource, NoText, LongText, ReadFault, WriteFault, NoMemory}
+use Rattle.flow_run.specs.declared.stop.Stop.{Stop}
+use Rattle.flow_run.specs.declared.stop.Stop.TheVariants as stop
+use Rattle.flow_run.specs.Words.{AsksForRun, IsFileName}
+use Rattle.flow_run.specs.Requests.{Held, IsHeld, StopsAtName, TextsAre, StopsAtText, HasStart, StopsAtBytes, HasPlan, IsRequested, file_limit, start_limit}
+use Rattle.flow_run.specs.Answers.{Run, status_of, IsAfterRun, RunEnds, CallEnds, Reported, IsReadFault, HaveRead}
+use Rattle.flow_run.specs.Codes.{code_of}
+
+abbrev g : List ℕ
+g = 0 ∷ []
+
+abbrev t : List ℕ
+t = 1 ∷ []
+
+abbrev u : List ℕ
+u = 2 ∷ []
+
+-- what is held: a byte under `g`, two under `t`
+abbrev texts : List ℕ → Option (List ℕ)
+texts name = if bytes_eq name g then Some (1 ∷ []) else (if bytes_eq name t then Some (2 ∷ 3 ∷ []) else None)
+
+abbrev held : Held
+held = Some texts
+
+-- A name holds its own bytes, as many as may be read at most; of a source that doesn't specify what it holds only
+-- their number is told.
+own_bytes : IsHeld held t 2 (2 ∷ 3 ∷ [])
+own_bytes = (refl, omega arith)
+
+bytes_of_another : ¬ IsHeld held t 2 (1 ∷ [])
+bytes_of_another is = absurd (cc)
+
+more_than_may_be_read : ¬ IsHeld held t 1 (2 ∷ 3 ∷ [])
+more_than_may_be_read is = absurd (omega (arith, is.1))
+
+unspecified : IsHeld None t 2 (9 ∷ [])
+unspecified = (tt, omega arith)
+
+unspecified_but_too_long : ¬ IsHeld None t 0 (9 ∷ [])
+unspecified_but_too_long is = absurd (omega (arith, is.1))
+
+-- A name stops the call where nothing is held under it, or more than may be read; the answer names it.
+missing : StopsAtName held u 2 (stop.NoText u)
+missing = (refl, refl)
+
+missing_names_another : ¬ StopsAtName held u 2 (stop.NoText t)
+missing_names_another is = absurd (cc)
+
+held_is_not_missing : ¬ StopsAtName held t 2 (stop.NoText t)
+held_is_not_missing is = absurd (cc)
+
+longer : StopsAtName held t 1 (stop.LongText t)
+longer = (refl, omega arith)
+
+just_the_limit : ¬ StopsAtName held t 2 (stop.LongText t)
+just_the_limit is = absurd (omega (arith, is.1))
+
+longer_names_another : ¬ StopsAtName held t 1 (stop.LongText g)
+longer_names_another is = absurd (cc)
+
+missing_is_not_longer : ¬ StopsAtName held u 1 (stop.LongText u)
+missing_is_not_longer is = is.1
+
+read_fault : StopsAtName held t 2 (stop.ReadFault t)
+read_fault = refl
+
+read_fault_names_another : ¬ StopsAtName held t 2 (stop.ReadFault g)
+read_fault_names_another is = absurd (cc)
+
+no_bad_graph_at_a_name : ¬ StopsAtName held t 2 (stop.BadGraph NotJson)
+no_bad_graph_at_a_name is = is
+
+no_source_at_a_name : ¬ StopsAtName held t 2 (stop.NoSource File)
+no_source_at_a_name is = is
+
+-- The texts of a job are those of its names, in order, as they are held.
+all_one : {X : Type 0} (P : X → Type 0) (x : X) → P x → All P (x ∷ [])
+all_one P x here zero d below = here
+all_one P x here (suc k) d below = absurd (omega arith)
+
+abbrev row : List ℕ → List ℕ → TextRow
+row name text = record { name = name; text = text }
+
+abbrev IsHeldRow : TextRow → Type 0
+IsHeldRow r = IsHeld held r.name text_limit r.text
+
+one_text : TextsAre held (t ∷ []) (row t (2 ∷ 3 ∷ []) ∷ [])
+one_text = record { named = refl; read = all_one IsHeldRow (row t (2 ∷ 3 ∷ [])) (refl, omega arith) }
+
+another_text : ¬ TextsAre held (t ∷ []) (row t (9 ∷ []) ∷ [])
+another_text is = let same : Some (2 ∷ 3 ∷ []) ≡ Some (9 ∷ []) = (is.read 0 (row t []) (omega arith)).0 in let lengths : 2 ≡ 1 = ap known_length same in absurd (omega (arith, lengths))
+  where
+    known_length : Option (List ℕ) → ℕ
+    known_length None = 0
+    known_length (Some xs) = length xs
+
+text_left_out : ¬ TextsAre held (t ∷ []) []
+text_left_out is = absurd (cc)
+
+text_of_another_name : ¬ TextsAre held (t ∷ []) (row g (1 ∷ []) ∷ [])
+text_of_another_name is = absurd (cc)
+
+-- Of several names the first that can't be read stops the call.
+second_missing : StopsAtText held (t ∷ u ∷ (3 ∷ []) ∷ []) (stop.NoText u)
+second_missing = record { before = t ∷ []; name = u; after = (3 ∷ []) ∷ []; rows = row t (2 ∷ 3 ∷ []) ∷ []; parts = refl; read = one_text; stops = missing }
+
+-- Bytes stop the call where they stand for no plan, or for one without a task to begin with.
+module _ (bytes : List ℕ) (plan : PlanRows) (stands : PlanText bytes plan) where
+  not_bad : ¬ StopsAtBytes bytes (stop.BadGraph NotJson)
+  not_bad is = is.1 plan stands
+
+  no_memory_is_no_bad_graph : ¬ StopsAtBytes bytes (stop.BadGraph NoMemoryToRead)
+  no_memory_is_no_bad_graph is = is.0 refl
+
+  no_text_at_bytes : ¬ StopsAtBytes bytes (stop.NoText t)
+  no_text_at_bytes is = is
+
+  no_long_text_at_bytes : ¬ StopsAtBytes bytes (stop.LongText t)
+  no_long_text_at_bytes is = is
+
+  no_read_fault_at_bytes : ¬ StopsAtBytes bytes (stop.ReadFault t)
+  no_read_fault_at_bytes is = is
+
+bad_bytes : (bytes : List ℕ) → ((plan : PlanRows) → PlanText bytes plan → ⊥) → StopsAtBytes bytes (stop.BadGraph NotJson)
+bad_bytes bytes none = (λ same. absurd (cc), none)
+
+-- The job that is asked for is of the file's plan over the texts held, of its top graph, with no input and the limit.
+abbrev work : PlanRows → GraphWork
+work plan = record { plan = plan; texts = row t (2 ∷ 3 ∷ []) ∷ []; «module» = None; input = []; limit = 100000 }
+
+module _ (plan : PlanRows) (stands : PlanText (1 ∷ []) plan) (source : HasStart plan) (names_t : plan_texts plan ≡ t ∷ []) where
+  has_plan : HasPlan held g plan
+  has_plan = record { bytes = 1 ∷ []; read = (refl, omega arith); stands = stands; source = source }
+
+  requested : IsRequested held g (work plan)
+  requested = record { plan = has_plan; texts = rw names_t one_text; top = refl; input = refl; limit = refl }
+
+  other_limit : ¬ IsRequested held g (record (work plan) { limit = 99999 })
+  other_limit is = absurd (omega (arith, is.limit))
+
+  other_input : ¬ IsRequested held g (record (work plan) { input = 1 ∷ [] })
+  other_input is = let input = is.input in absurd (cc)
+
+  a_module : ¬ IsRequested held g (record (work plan) { «module» = Some 0 })
+  a_module is = let top = is.top in absurd (cc)
+
+  other_texts : ¬ IsRequested held g (record (work plan) { texts = row t (9 ∷ []) ∷ [] })
+  other_texts is = another_text (rw names_t at is.texts)
+
+  file_of_another_name : ¬ ((bytes : List ℕ) → PlanText bytes plan → bytes ≡ 1 ∷ []) → ¬ HasPlan held u plan
+  file_of_another_name only is = let none : None ≡ Some is.bytes = is.read.0 in absurd (cc)
+
+limits : (file_limit ≡ 4194304) × (text_limit ≡ 16777215) × (start_limit ≡ 100000)
+limits = (refl, refl, refl)
+
+-- A file's name doesn't begin with a hyphen.
+hyphen : ¬ IsFileName (codes "-x")
+hyphen is = is refl
+
+hyphen_later : IsFileName (codes "x-")
+hyphen_later same = let n : 120 ≡ 45 = ap (λ (o : Option ℕ). option_or_zero o) same in absurd (omega (arith, n))
+  where
+    option_or_zero : Option ℕ → ℕ
+    option_or_zero None = 0
+    option_or_zero (Some n) = n
+
+-- After a run the status is one of three; before a run it tells why.
+after_run : IsAfterRun Done × IsAfterRun WriteFault × IsAfterRun NoMemory
+after_run = (tt, tt, tt)
+
+not_after_run : (¬ IsAfterRun BadWords) × (¬ IsAfterRun (BadGraph NotJson)) × (¬ IsAfterRun (NoSource File)) × (¬ IsAfterRun (NoText t)) × (¬ IsAfterRun (LongText t)) × (¬ IsAfterRun (ReadFault t))
+not_after_run = (λ is. is, λ is. is, λ is. is, λ is. is, λ is. is, λ is. is)
+
+told : (status_of (stop.NoText t) ≡ NoText t) × (status_of (stop.LongText t) ≡ LongText t) × (status_of (stop.ReadFault t) ≡ ReadFault t) × (status_of (stop.NoSource File) ≡ NoSource File) × (status_of stop.NoMemory ≡ NoMemory)
+told = (refl, refl, refl, refl, refl)
+
+-- A call that stopped before a run isn't done, and keeps none.
+never_done_before : (why : Stop) → ¬ (Done ≡ status_of why)
+never_done_before (stop.BadGraph error) same = absurd (cc)
+never_done_before (stop.NoSource spot) same = absurd (cc)
+never_done_before (stop.NoText name) same = absurd (cc)
+never_done_before (stop.LongText name) same = absurd (cc)
+never_done_before (stop.ReadFault name) same = absurd (cc)
+never_done_before stop.NoMemory same = absurd (cc)
+
+done_keeps_a_run : ¬ RunEnds held g Done []
+done_keeps_a_run (inl stopped) = never_done_before stopped.why stopped.told
+done_keeps_a_run (inr ran) = let only : [] ≡ ran.run ∷ [] = ran.only in absurd (cc)
+
+module _ (run other : Run) where
+  one_run_is_kept : ¬ RunEnds held g Done (run ∷ other ∷ [])
+  one_run_is_kept (inl stopped) = never_done_before stopped.why stopped.told
+  one_run_is_kept (inr ran) = let only : run ∷ other ∷ [] ≡ ran.run ∷ [] = ran.only in absurd (omega (arith, ap length only))
+
+  stopped_keeps_none : ¬ RunEnds held g (NoText t) (run ∷ [])
+  stopped_keeps_none (inl stopped) = let none : run ∷ [] ≡ [] = stopped.none in absurd (cc)
+  stopped_keeps_none (inr ran) = ran.after
+
+  -- Words that ask for a run of a file aren't bad words.
+  asked : (words : List (String Global)) → AsksForRun words g → ¬ CallEnds held words BadWords []
+  asked words asks (inl (file, asks_file, inl stopped)) = never_bad stopped.why stopped.told
+    where
+      never_bad : (why : Stop) → ¬ (BadWords ≡ status_of why)
+      never_bad (stop.BadGraph error) same = absurd (cc)
+      never_bad (stop.NoSource spot) same = absurd (cc)
+      never_bad (stop.NoText name) same = absurd (cc)
+      never_bad (stop.LongText name) same = absurd (cc)
+      never_bad (stop.ReadFault name) same = absurd (cc)
+      never_bad stop.NoMemory same = absurd (cc)
+  asked words asks (inl (file, asks_file, inr ran)) = ran.after
+  asked words asks (inr (same, none, not)) = not g asks
+
+-- What has been done to a sink of memory when the call ends.
+abbrev sink : List ℕ → ℕ → SinkState
+sink taken faults = record { taken = Some taken; held_back = []; faults = faults }
+
+abbrev of_memory : SinkState → SinkState
+of_memory state = state
+
+-- Nothing to write: the output stays as it is, and that is no failure to write.
+nothing_reported : Reported of_memory (sink [] 0) (sink [] 0) (NoText t) [] true
+nothing_reported = record {
+  front = record { lost = []; but = record { front = []; parts = refl; took = refl } };
+  whole = λ written. refl;
+  nothing_held = refl;
+  no_fault = λ written. refl;
+  cause = λ failed. absurd (cc);
+  no_fewer = omega arith;
+  done = λ is. absurd (cc);
+  write_fault = λ is. absurd (cc);
+  untouched = λ none. refl;
+  nothing_to_write = λ none. refl;
+}
+
+failed_empty_write_hidden : ¬ Reported of_memory (sink [] 0) (sink [] 1) (NoText t) [] true
+failed_empty_write_hidden is = absurd (omega (arith, is.no_fault refl))
+
+bytes_without_a_run : ¬ Reported of_memory (sink [] 0) (sink (7 ∷ []) 0) (NoText t) [] true
+bytes_without_a_run is = let stays : (sink (7 ∷ []) 0) ≡ (sink [] 0) = is.untouched refl in absurd (omega (arith, ap taken_length stays))
+  where
+    taken_length : SinkState → ℕ
+    taken_length state = elim state.taken [ None ↦ 0 | Some bytes ↦ length bytes ]
+
+written_denied_without_a_run : ¬ Reported of_memory (sink [] 0) (sink [] 0) (NoText t) [] false
+written_denied_without_a_run is = let written : false ≡ true = is.nothing_to_write refl in absurd (cc)
+
+module _ (runs : List Run) where
+  failed_write_hidden : ¬ Reported of_memory (sink [] 0) (sink [] 1) Done runs true
+  failed_write_hidden is = absurd (omega (arith, is.no_fault refl))
+
+  fault_without_a_failed_write : ¬ Reported of_memory (sink [] 0) (sink [] 0) WriteFault runs false
+  fault_without_a_failed_write is = neither (is.cause refl)
+    where
+      neither : (0 < 0) ⊎ (WriteFault ≡ NoMemory) → ⊥
+      neither (inl rose) = omega arith
+      neither (inr same) = absurd (cc)
+
+  fault_beside_a_whole_report : ¬ Reported of_memory (sink [] 0) (sink [] 1) WriteFault runs true
+  fault_beside_a_whole_report is = let written : true ≡ false = is.write_fault refl in absurd (cc)
+
+  done_with_a_prefix : ¬ Reported of_memory (sink [] 0) (sink [] 1) Done runs false
+  done_with_a_prefix is = let written : false ≡ true = is.done refl in absurd (cc)
+
+  bytes_held_back : ¬ Reported of_memory (sink [] 0) (record { taken = Some []; held_back = 7 ∷ []; faults = 0 }) Done runs true
+  bytes_held_back is = let none = is.nothing_held in absurd (cc)
+
+  faults_forgotten : ¬ Reported of_memory (sink [] 2) (sink [] 1) NoMemory runs false
+  faults_forgotten is = absurd (omega (arith, is.no_fewer))
+
+-- A failed read is told, and a read fault isn't told of nothing.
+abbrev texts_kept : ℕ → Held
+texts_kept faults = held
+
+abbrev count : ℕ → ℕ
+count faults = faults
+
+read_well : HaveRead texts_kept count 0 0 Done
+read_well = record { stays = refl; no_fewer = omega arith; cause = λ is. absurd (cc); told = inl refl }
+
+failed_read_hidden : ¬ HaveRead texts_kept count 0 1 Done
+failed_read_hidden is = by_case is.told
+  where
+    by_case : (count 1 ≡ count 0) ⊎ IsReadFault Done ⊎ (Done ≡ NoMemory) → ⊥
+    by_case (inl same) = omega arith
+    by_case (inr (inl (name, is))) = absurd (cc)
+    by_case (inr (inr is)) = absurd (cc)
+
+read_fault_of_nothing : ¬ HaveRead texts_kept count 0 0 (ReadFault t)
+read_fault_of_nothing is = absurd (omega (arith, is.cause (t, refl)))
+
+read_fault_told : HaveRead texts_kept count 0 1 (ReadFault t)
+read_fault_told = record { stays = refl; no_fewer = omega arith; cause = λ is. omega arith; told = inr (inl (t, refl)) }
+
+-- The exit codes.
+codes_of_all : (code_of Done ≡ 0) × (code_of BadWords ≡ 2) × (code_of (BadGraph NotJson) ≡ 3) × (code_of (NoSource File) ≡ 4) × (code_of (NoText t) ≡ 5)
+codes_of_all = (refl, refl, refl, refl, refl)
+
+codes_of_faults : (code_of (LongText t) ≡ 5) × (code_of (ReadFault t) ≡ 6) × (code_of WriteFault ≡ 7) × (code_of NoMemory ≡ 13)
+codes_of_faults = (refl, refl, refl, refl)

@@ -1,0 +1,234 @@
+// One owner of a list.
+ghost use Rattle.std.specs.Prelude.{◌≡◌, ◌∷◌, ◌+◌, [], All, Some, IfOk, IfErr, IfSome, MatchOption, IsTrue, IsFalse};
+ghost use Rattle.std.specs.Arc.{arc_value};
+ghost use Rattle.crossbeam_deque.specs.Handles.{view, worker_view};
+ghost use Rattle.crossbeam_deque.specs.Injected.{injector_view, IsInjectorPassOf};
+ghost use Rattle.ready_deques.specs.Lists.{IsOwnerOf};
+ghost use Rattle.ready_deques.specs.inside.Naming.{IsKnown, about};
+ghost use Rattle.ready_deques.specs.inside.Shared.{name_of};
+
+use crate::count::Account;
+use crate::deque::{ItemWorker, Queued};
+use crate::injector::ItemPass;
+use crate::ready::Ready;
+use crate::tagged::Tagged;
+use crate::thief::{Thief, steal_any, thief_of};
+use crate::{deque, injector};
+use crossbeam_deque::Steal;
+use crossbeam_utils::sync::Parker;
+use outside_io::{Back, NoMemory};
+use std::alloc::Global;
+use std::marker::Model;
+use std::sync::{Arc, Wait};
+use std::thread;
+
+/// The owner of one deque of a list.
+#[derive(Drop)]
+pub struct Owner<T: Tagged + Drop> {
+    ready: Arc<Ready<T>>,
+    worker: ItemWorker<T>,
+    // Stealers of the other owners' deques, the next owner's first.
+    thieves: Vec<Thief<T>>,
+    pass: ItemPass<T>,
+    account: Account,
+    parker: Parker,
+    // Its bit in the set of sleepers.
+    bit: u64,
+}
+
+impl<T: Tagged + Drop> Model for Owner<T> {
+    ghost use Rattle.std.specs.Prelude.{◌≡◌, All, Some};
+    ghost use Rattle.std.specs.Arc.{arc_value};
+    ghost use Rattle.crossbeam_deque.specs.Handles.{view as pass_view, worker_view};
+    ghost use Rattle.crossbeam_deque.specs.Injected.{injector_view, IsInjectorPassOf};
+    ghost use Rattle.ready_deques.specs.Lists.{OwnerState, owner_state};
+    ghost use Rattle.ready_deques.specs.inside.Shared.{name_of};
+
+    ghost Value = { OwnerState };
+
+    ghost view = { λ o. owner_state (arc_value o.ready).tag.numbers (arc_value o.ready).counter.table.shared.table_id o.account.zeros };
+
+    ghost invariant = { λ o. (worker_view o.worker ≡ Some (name_of (arc_value o.ready))) × All (λ thief. pass_view thief.pass ≡ Some (name_of (arc_value o.ready))) o.thieves.items × IsInjectorPassOf (arc_value o.ready).injector o.pass × (injector_view o.pass ≡ Some (name_of (arc_value o.ready))) × (o.account.counts ≡ (arc_value o.ready).counter.table.shared.table_id) };
+}
+
+// Queues an item in the owner's deque, or else in the injector.
+fn put<T: Tagged + Drop, R: Wait>(
+    ready: &Ready<T>,
+    rt: &R,
+    worker: &mut ItemWorker<T>,
+    pass: &mut ItemPass<T>,
+    queued: Queued<T>,
+) -> Result<(), Queued<T>>
+    requires worker { worker_view worker.old ≡ Some (name_of ready.now) }
+    requires pass { IsInjectorPassOf ready.now.injector pass.old × (injector_view pass.old ≡ Some (name_of ready.now)) }
+    requires item { IsKnown T.tag (Some (name_of ready.now)) (queued ∷ []) }
+    ensures worker { worker_view worker.new ≡ worker_view worker.old }
+    ensures pass { IsInjectorPassOf ready.now.injector pass.new × (injector_view pass.new ≡ injector_view pass.old) }
+    ensures refused { IfErr result (λ back. back ≡ queued) }
+{
+    match deque::push(worker, queued) {
+        Ok(()) => Ok(()),
+        Err(queued) => injector::push(&ready.injector, rt, pass, queued),
+    }
+}
+
+// The owner's newest item, else the injector's oldest, else another owner's oldest.
+fn find<T: Tagged + Drop, R: Wait>(
+    ready: &Ready<T>,
+    rt: &R,
+    worker: &mut ItemWorker<T>,
+    pass: &mut ItemPass<T>,
+    thieves: &mut Vec<Thief<T>>,
+) -> Option<Queued<T>>
+    requires worker { worker_view worker.old ≡ Some (name_of ready.now) }
+    requires pass { IsInjectorPassOf ready.now.injector pass.old × (injector_view pass.old ≡ Some (name_of ready.now)) }
+    requires thieves { All (λ thief. view thief.pass ≡ Some (name_of ready.now)) thieves.old.items }
+    ensures worker { worker_view worker.new ≡ worker_view worker.old }
+    ensures pass { IsInjectorPassOf ready.now.injector pass.new × (injector_view pass.new ≡ injector_view pass.old) }
+    ensures thieves { All (λ thief. view thief.pass ≡ Some (name_of ready.now)) thieves.new.items }
+    ensures taken { IfSome result (λ queued. IsKnown T.tag (Some (name_of ready.now)) (queued ∷ [])) }
+{
+    if let Some(queued) = deque::pop(worker) {
+        return Some(queued);
+    }
+    if let Steal::Success(queued) = injector::steal(&ready.injector, rt, pass) {
+        return Some(queued);
+    }
+    steal_any(ready, thieves)
+}
+
+impl<T: Tagged + Drop> Owner<T> {
+    /// Queues an item in this owner's deque, or in the injector if the deque can't grow, and wakes one owner that
+    /// sleeps. It may wait. After an `Err`, which comes only if an allocation fails, the item is not queued.
+    pub fn push<R: Wait>(&mut self, rt: &R, item: T) -> Result<(), Back<T>>
+        requires { T.tag item ≡ self.old.tag }
+        ensures same { self.new ≡ self.old }
+        ensures back { IfErr result (λ back. back.item ≡ item) }
+    {
+        let seat = self.ready.counter.count(rt, &mut self.account);
+        let queued = Queued { item, seat };
+        match put(&self.ready, rt, &mut self.worker, &mut self.pass, queued) {
+            Ok(()) => {
+                self.ready.sleepers.wake_one();
+                Ok(())
+            }
+            Err(queued) => Err(Back {
+                item: self.ready.count_out(queued),
+            }),
+        }
+    }
+
+    /// The newest item of this owner's deque. It waits for nobody.
+    pub fn take_own(&mut self) -> Option<T>
+        ensures same { self.new ≡ self.old }
+        ensures tag { IfSome result (λ item. T.tag item ≡ self.old.tag) }
+    {
+        match deque::pop(&mut self.worker) {
+            Some(queued) => Some(self.ready.count_out(queued)),
+            None => None,
+        }
+    }
+
+    /// The newest item of this owner's deque, else the injector's oldest, else the oldest of another owner's deque,
+    /// beginning with the next owner. It may wait. `None` only if a load of the count word in this call found 0, so
+    /// that no item was queued then.
+    pub fn take<R: Wait>(&mut self, rt: &R) -> Option<T>
+        ensures same { (self.new.tag ≡ self.old.tag) × (self.new.counts ≡ self.old.counts) }
+        ensures tag { IfSome result (λ item. T.tag item ≡ self.old.tag) }
+        ensures zeros { MatchOption result (self.new.zeros ≡ self.old.zeros + 1) (λ _. self.new.zeros ≡ self.old.zeros) }
+    {
+        for _ in rt.forever() {
+            if let Some(item) = self.find_item(rt) {
+                return Some(item);
+            }
+            if self.finds_none() {
+                return None;
+            }
+            thread::yield_now();
+        }
+        unreachable!()
+    }
+
+    /// Sleeps until an item is pushed or the list is closed, unless there is an item already or it is closed. It may
+    /// also return for no reason.
+    pub fn idle<R: Wait>(&mut self, rt: &R)
+        ensures { self.new ≡ self.old }
+    {
+        let sleepers = &self.ready.sleepers;
+        sleepers.enter(self.bit);
+        if self.ready.counter.is_zero() && !self.ready.is_closed() {
+            self.parker.park(rt);
+        }
+        sleepers.leave(self.bit);
+    }
+
+    fn find_item<R: Wait>(&mut self, rt: &R) -> Option<T>
+        ensures same { self.new ≡ self.old }
+        ensures tag { IfSome result (λ item. T.tag item ≡ self.old.tag) }
+    {
+        match find(
+            &self.ready,
+            rt,
+            &mut self.worker,
+            &mut self.pass,
+            &mut self.thieves,
+        ) {
+            Some(queued) => Some(self.ready.count_out(queued)),
+            None => None,
+        }
+    }
+
+    // Whether the count word is 0 at a step of this call.
+    fn finds_none(&mut self) -> bool
+        ensures same { (self.new.tag ≡ self.old.tag) × (self.new.counts ≡ self.old.counts) }
+        ensures zero { IsTrue result → self.new.zeros ≡ self.old.zeros + 1 }
+        ensures more { IsFalse result → self.new.zeros ≡ self.old.zeros }
+    {
+        self.ready.counter.finds_zero(&mut self.account)
+    }
+
+    // An owner that can't steal from anybody yet.
+    pub(crate) fn of(
+        alloc: Global,
+        ready: &Arc<Ready<T>>,
+        worker: ItemWorker<T>,
+        pass: ItemPass<T>,
+        account: Account,
+        parker: Parker,
+        bit: u64,
+    ) -> Result<Owner<T>, NoMemory>
+        requires worker { worker_view worker ≡ Some (name_of (arc_value ready.now)) }
+        requires pass { IsInjectorPassOf (arc_value ready.now).injector pass × (injector_view pass ≡ Some (name_of (arc_value ready.now))) }
+        requires account { account.counts ≡ (arc_value ready.now).counter.table.shared.table_id }
+        ensures { IfOk result (IsOwnerOf (arc_value ready.now)) }
+    {
+        let ready = Arc::try_clone(ready)?;
+        Ok(Owner {
+            ready,
+            worker,
+            thieves: Vec::new(alloc),
+            pass,
+            account,
+            parker,
+            bit,
+        })
+    }
+
+    // A stealer of this owner's deque.
+    pub(crate) fn lend(&mut self) -> Result<Thief<T>, NoMemory>
+        ensures same { self.new ≡ self.old }
+        ensures named { IfOk result (λ thief. view thief.pass ≡ Some (about self.old.tag self.old.counts)) }
+    {
+        thief_of(&mut self.worker)
+    }
+
+    // From now on this owner steals with this thief too, after its other ones.
+    pub(crate) fn gain(&mut self, thief: Thief<T>) -> Result<(), NoMemory>
+        requires { view thief.pass ≡ Some (about self.old.tag self.old.counts) }
+        ensures { self.new ≡ self.old }
+    {
+        let _ = &self.ready;
+        self.thieves.push(thief)?;
+        Ok(())
+    }
+}

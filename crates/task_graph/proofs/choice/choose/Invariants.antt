@@ -1,0 +1,6 @@
+use Rattle.std.proofs.Common.{take}
+use Rattle.task_graph.specs.inside.Choosing.{HasChosen}
+use Rattle.task_graph.proofs.choice.choose.Given as goal
+
+abbrev pub invariant-loop-index : goal.invariant-loop-index
+invariant-loop-index l = HasChosen l.out (take l.index-index l.answer) l.seen l.chosen

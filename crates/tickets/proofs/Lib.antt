@@ -1,0 +1,3 @@
+mod Named
+mod Items
+pub mod Steps
