@@ -15,3 +15,4 @@ pub mod MachineState
 pub mod Machine
 pub mod Refusal
 pub mod Verdict
+pub mod Ready

@@ -7,6 +7,7 @@ ghost use Rattle.legal_run.specs.Counts.{given, used, is_open};
 ghost use Rattle.legal_run.specs.ShapeLegal.{ShapeLegal, MeetsDataRule, CauseInRange};
 ghost use Rattle.legal_run.specs.Complete.{Complete, least};
 ghost use Rattle.legal_run.specs.Waiting.{waiting_parts};
+ghost use Rattle.legal_run.specs.Ready.{ready_list};
 ghost use Rattle.legal_run.specs.Machine.{Starts, Ends, Faults, Drops, Refuses, start_entry};
 ghost use Rattle.legal_run.specs.inside.Counted.{CountsOpen};
 
@@ -16,6 +17,7 @@ use super::machine_error::MachineError;
 use super::marks::Marks;
 use super::open_starts::OpenStarts;
 use super::position::Position;
+use super::ready::Ready;
 use super::waiting::Waiting;
 use outside_io::{List, NoMemory};
 use std::alloc::Global;
@@ -189,6 +191,14 @@ impl Machine {
         ensures { IsTrue result ↔ Complete self.now.net self.now.limit self.now.journal }
     {
         self.position().is_complete()
+    }
+
+    /// Each release that is left with how often it can be used, by rising task, and of a task as a source, by its
+    /// strong in-edges, and by its weak in-edges in order.
+    pub fn ready(&self) -> Result<List<Ready>, NoMemory>
+        ensures { IfOk result (λ list. list ≡ ready_list self.now.net self.now.journal) }
+    {
+        self.position().ready(self.alloc)
     }
 
     /// What a start by a release would find: the parts that wait at the edges which release the task.

@@ -11,6 +11,7 @@ ghost use Rattle.legal_run.specs.SemaphoreRule.{OverReleaseRule, takes, HasUnit}
 ghost use Rattle.legal_run.specs.HaltLimitStuckRule.{is_stuck_why, DropRule, MayBeStuck};
 ghost use Rattle.legal_run.specs.Complete.{Complete, is_limited, least};
 ghost use Rattle.legal_run.specs.ShapeLegal.{MayFollow, CauseInRange, WhyInRange, DropWhyInRange};
+ghost use Rattle.legal_run.specs.Ready.{ready_list};
 ghost use Rattle.legal_run.specs.Refusal.{IsRefusal, IsLeast, WantsUnit, PutsWithNothingOut};
 ghost use Rattle.legal_run.specs.inside.Reached.{ClosesTask};
 ghost use Rattle.legal_run.specs.inside.Releases.{NoneLeft};
@@ -21,9 +22,12 @@ use super::choice::{gives_fit, inner_fits};
 use super::counts::Counts;
 use super::entry::{Cause, DropWhy, Entry, Why};
 use super::marks::Marks;
+use super::ready::{self, Ready};
 use super::slots;
 use super::units::{has, has_unit, task_row};
 use super::verdict::Break;
+use outside_io::{List, NoMemory};
+use std::alloc::Global;
 use std::marker::Model;
 use task_graph::Net;
 
@@ -314,6 +318,13 @@ impl<'j> Position<'j> {
         ensures { result ≡ least (map (λ e. given self.now.net e self.now.journal) (strong_in self.now.net task)) - used task self.now.journal }
     {
         self.counts.releases.rounds_left(self.net, task)
+    }
+
+    /// The releases that are left.
+    pub fn ready(&self, alloc: Global) -> Result<List<Ready>, NoMemory>
+        ensures { IfOk result (λ list. list ≡ ready_list self.now.net self.now.journal) }
+    {
+        ready::ready_list(alloc, self.net, &self.counts.releases)
     }
 
     // Whether each release is used.

@@ -5,7 +5,8 @@ ghost use Rattle.task_graph.specs.Net.{strong_in};
 ghost use Rattle.legal_run.specs.declared.entry.Entry.{Entry};
 ghost use Rattle.legal_run.specs.declared.entry.Entry.TheVariants.{End};
 ghost use Rattle.legal_run.specs.declared.entry.Cause.TheVariants.{Source, Strong, Weak};
-ghost use Rattle.legal_run.specs.Counts.{given, used};
+ghost use Rattle.legal_run.specs.Counts.{given, used, used_weak};
+ghost use Rattle.legal_run.specs.Ready.{times_left};
 ghost use Rattle.legal_run.specs.ReleaseRule.{IsReleased};
 ghost use Rattle.legal_run.specs.Complete.{least, EachTask, EachEdge};
 ghost use Rattle.legal_run.specs.ShapeLegal.{CauseInRange};
@@ -106,6 +107,28 @@ impl Releases {
         self.rounds.by_task[task as usize]
             .least
             .saturating_sub(self.used[task as usize])
+    }
+
+    /// Whether the one release of a task is left, if it is a source task.
+    pub fn source_left(&self, net: &Net, task: u32) -> u64
+        requires task { task < length net.now.tasks }
+        requires few { AreFew net.now self.now }
+        ensures { (journal : List Entry) → CountsReleases net.now journal self.now → result ≡ times_left net.now journal task Source }
+    {
+        if net.is_source(task) {
+            1u64.saturating_sub(self.used_source[task as usize])
+        } else {
+            0
+        }
+    }
+
+    /// How many tokens a weak edge holds.
+    pub fn tokens_left(&self, net: &Net, edge: u32) -> u64
+        requires edge { edge < length net.now.edges }
+        requires few { AreFew net.now self.now }
+        ensures { (journal : List Entry) → CountsReleases net.now journal self.now → result ≡ given net.now edge journal - used_weak edge journal }
+    {
+        self.rounds.given[edge as usize].saturating_sub(self.used_weak[edge as usize])
     }
 
     /// Whether each release is used.

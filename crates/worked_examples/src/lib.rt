@@ -16,3 +16,5 @@ mod small_runs;
 mod steps;
 #[cfg(test)]
 mod sweeps;
+#[cfg(test)]
+mod walks;

@@ -103,7 +103,8 @@ fn entry_of(alloc: Global, step: Step<'_>) -> Result<Entry, NoMemory> {
     }
 }
 
-fn ask(machine: &mut Machine, step: Step<'_>) -> Result<u64, MachineError> {
+/// Asks for a step.
+pub fn ask(machine: &mut Machine, step: Step<'_>) -> Result<u64, MachineError> {
     match step {
         Step::Start { task, cause } => machine.start(task, cause),
         Step::End {
