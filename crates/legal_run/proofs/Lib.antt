@@ -14,3 +14,4 @@ pub mod Refusing
 pub mod Marking
 pub mod Keeping
 pub mod WorkedRules
+pub mod Readying
