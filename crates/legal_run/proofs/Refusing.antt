@@ -406,3 +406,193 @@ drop_answer net limit t h cause why (Err b) reached in_tasks in_edges in_sems af
     by_break NotOver f = absurd f
     by_break NotHalted f = refused net limit h x NotHalted clear f
     by_break NotStuck f = refused net limit h x NotStuck (clear_halted net limit h x clear (not_halted f.0)) f
+
+-- the least number with a property is one
+least_once : (P : ℕ → Type 0) (s r : ℕ) → IsLeast P s → IsLeast P r → s ≡ r
+least_once P s r one other = by_case (cases_lt s r) (cases_lt r s)
+  where
+    by_case : (s < r) ⊎ (r ≤ s) → (r < s) ⊎ (s ≤ r) → s ≡ r
+    by_case (inl less) any = absurd (other.least s less one.has_it)
+    by_case (inr more) (inl less) = absurd (one.least r less other.has_it)
+    by_case (inr more) (inr less) = omega arith
+
+units_once : (net : NetRows) (h : List Entry) (x : Entry) (s r : ℕ) → StartsWithoutUnit net h x s → StartsWithoutUnit net h x r → s ≡ r
+units_once net h (Start t cause ins) s r one other = least_once (WantsUnit net h t) s r one other
+units_once net h (End start gives inner) s r one other = absurd one
+units_once net h (Fault start why) s r one other = absurd one
+units_once net h (Drop t cause why) s r one other = absurd one
+
+out_once : (net : NetRows) (h : List Entry) (x : Entry) (s r : ℕ) → EndsWithNothingOut net h x s → EndsWithNothingOut net h x r → s ≡ r
+out_once net h (Start t cause ins) s r one other = absurd one
+out_once net h (End start gives inner) s r one other = by_task (start_at h start) one other
+  where
+    by_task : (o : Option ℕ) → IsSomeAnd o (λ t. IsLeast (PutsWithNothingOut net h t) s) → IsSomeAnd o (λ t. IsLeast (PutsWithNothingOut net h t) r) → s ≡ r
+    by_task None a b = absurd a
+    by_task (Some t) a b = least_once (PutsWithNothingOut net h t) s r a b
+out_once net h (Fault start why) s r one other = absurd one
+out_once net h (Drop t cause why) s r one other = absurd one
+
+-- breaks of one rank are one
+of_NoSuch : (net : NetRows) (limit : ℕ) (h : List Entry) (x : Entry) → Breaks net limit h x NoSuch → (other : Break) → Breaks net limit h x other → rank other ≡ 0 → NoSuch ≡ other
+of_NoSuch net limit h x one NoSuch two is = refl
+of_NoSuch net limit h x one AfterStuck two is = absurd (omega arith)
+of_NoSuch net limit h x one NotReleased two is = absurd (omega arith)
+of_NoSuch net limit h x one (OverUnits r) two is = absurd (omega arith)
+of_NoSuch net limit h x one OverLimit two is = absurd (omega arith)
+of_NoSuch net limit h x one NotOpen two is = absurd (omega arith)
+of_NoSuch net limit h x one NotChosen two is = absurd (omega arith)
+of_NoSuch net limit h x one (NothingOut r) two is = absurd (omega arith)
+of_NoSuch net limit h x one NotOver two is = absurd (omega arith)
+of_NoSuch net limit h x one NotHalted two is = absurd (omega arith)
+of_NoSuch net limit h x one NotStuck two is = absurd (omega arith)
+
+of_AfterStuck : (net : NetRows) (limit : ℕ) (h : List Entry) (x : Entry) → Breaks net limit h x AfterStuck → (other : Break) → Breaks net limit h x other → rank other ≡ 1 → AfterStuck ≡ other
+of_AfterStuck net limit h x one NoSuch two is = absurd (omega arith)
+of_AfterStuck net limit h x one AfterStuck two is = refl
+of_AfterStuck net limit h x one NotReleased two is = absurd (omega arith)
+of_AfterStuck net limit h x one (OverUnits r) two is = absurd (omega arith)
+of_AfterStuck net limit h x one OverLimit two is = absurd (omega arith)
+of_AfterStuck net limit h x one NotOpen two is = absurd (omega arith)
+of_AfterStuck net limit h x one NotChosen two is = absurd (omega arith)
+of_AfterStuck net limit h x one (NothingOut r) two is = absurd (omega arith)
+of_AfterStuck net limit h x one NotOver two is = absurd (omega arith)
+of_AfterStuck net limit h x one NotHalted two is = absurd (omega arith)
+of_AfterStuck net limit h x one NotStuck two is = absurd (omega arith)
+
+of_NotReleased : (net : NetRows) (limit : ℕ) (h : List Entry) (x : Entry) → Breaks net limit h x NotReleased → (other : Break) → Breaks net limit h x other → rank other ≡ 2 → NotReleased ≡ other
+of_NotReleased net limit h x one NoSuch two is = absurd (omega arith)
+of_NotReleased net limit h x one AfterStuck two is = absurd (omega arith)
+of_NotReleased net limit h x one NotReleased two is = refl
+of_NotReleased net limit h x one (OverUnits r) two is = absurd (omega arith)
+of_NotReleased net limit h x one OverLimit two is = absurd (omega arith)
+of_NotReleased net limit h x one NotOpen two is = absurd (omega arith)
+of_NotReleased net limit h x one NotChosen two is = absurd (omega arith)
+of_NotReleased net limit h x one (NothingOut r) two is = absurd (omega arith)
+of_NotReleased net limit h x one NotOver two is = absurd (omega arith)
+of_NotReleased net limit h x one NotHalted two is = absurd (omega arith)
+of_NotReleased net limit h x one NotStuck two is = absurd (omega arith)
+
+of_OverUnits : (net : NetRows) (limit : ℕ) (h : List Entry) (x : Entry) (s : ℕ) → Breaks net limit h x (OverUnits s) → (other : Break) → Breaks net limit h x other → rank other ≡ 3 → (OverUnits s) ≡ other
+of_OverUnits net limit h x s one NoSuch two is = absurd (omega arith)
+of_OverUnits net limit h x s one AfterStuck two is = absurd (omega arith)
+of_OverUnits net limit h x s one NotReleased two is = absurd (omega arith)
+of_OverUnits net limit h x s one (OverUnits r) two is = ap (λ n. OverUnits n) (units_once net h x s r one two)
+of_OverUnits net limit h x s one OverLimit two is = absurd (omega arith)
+of_OverUnits net limit h x s one NotOpen two is = absurd (omega arith)
+of_OverUnits net limit h x s one NotChosen two is = absurd (omega arith)
+of_OverUnits net limit h x s one (NothingOut r) two is = absurd (omega arith)
+of_OverUnits net limit h x s one NotOver two is = absurd (omega arith)
+of_OverUnits net limit h x s one NotHalted two is = absurd (omega arith)
+of_OverUnits net limit h x s one NotStuck two is = absurd (omega arith)
+
+of_OverLimit : (net : NetRows) (limit : ℕ) (h : List Entry) (x : Entry) → Breaks net limit h x OverLimit → (other : Break) → Breaks net limit h x other → rank other ≡ 4 → OverLimit ≡ other
+of_OverLimit net limit h x one NoSuch two is = absurd (omega arith)
+of_OverLimit net limit h x one AfterStuck two is = absurd (omega arith)
+of_OverLimit net limit h x one NotReleased two is = absurd (omega arith)
+of_OverLimit net limit h x one (OverUnits r) two is = absurd (omega arith)
+of_OverLimit net limit h x one OverLimit two is = refl
+of_OverLimit net limit h x one NotOpen two is = absurd (omega arith)
+of_OverLimit net limit h x one NotChosen two is = absurd (omega arith)
+of_OverLimit net limit h x one (NothingOut r) two is = absurd (omega arith)
+of_OverLimit net limit h x one NotOver two is = absurd (omega arith)
+of_OverLimit net limit h x one NotHalted two is = absurd (omega arith)
+of_OverLimit net limit h x one NotStuck two is = absurd (omega arith)
+
+of_NotOpen : (net : NetRows) (limit : ℕ) (h : List Entry) (x : Entry) → Breaks net limit h x NotOpen → (other : Break) → Breaks net limit h x other → rank other ≡ 5 → NotOpen ≡ other
+of_NotOpen net limit h x one NoSuch two is = absurd (omega arith)
+of_NotOpen net limit h x one AfterStuck two is = absurd (omega arith)
+of_NotOpen net limit h x one NotReleased two is = absurd (omega arith)
+of_NotOpen net limit h x one (OverUnits r) two is = absurd (omega arith)
+of_NotOpen net limit h x one OverLimit two is = absurd (omega arith)
+of_NotOpen net limit h x one NotOpen two is = refl
+of_NotOpen net limit h x one NotChosen two is = absurd (omega arith)
+of_NotOpen net limit h x one (NothingOut r) two is = absurd (omega arith)
+of_NotOpen net limit h x one NotOver two is = absurd (omega arith)
+of_NotOpen net limit h x one NotHalted two is = absurd (omega arith)
+of_NotOpen net limit h x one NotStuck two is = absurd (omega arith)
+
+of_NotChosen : (net : NetRows) (limit : ℕ) (h : List Entry) (x : Entry) → Breaks net limit h x NotChosen → (other : Break) → Breaks net limit h x other → rank other ≡ 6 → NotChosen ≡ other
+of_NotChosen net limit h x one NoSuch two is = absurd (omega arith)
+of_NotChosen net limit h x one AfterStuck two is = absurd (omega arith)
+of_NotChosen net limit h x one NotReleased two is = absurd (omega arith)
+of_NotChosen net limit h x one (OverUnits r) two is = absurd (omega arith)
+of_NotChosen net limit h x one OverLimit two is = absurd (omega arith)
+of_NotChosen net limit h x one NotOpen two is = absurd (omega arith)
+of_NotChosen net limit h x one NotChosen two is = refl
+of_NotChosen net limit h x one (NothingOut r) two is = absurd (omega arith)
+of_NotChosen net limit h x one NotOver two is = absurd (omega arith)
+of_NotChosen net limit h x one NotHalted two is = absurd (omega arith)
+of_NotChosen net limit h x one NotStuck two is = absurd (omega arith)
+
+of_NothingOut : (net : NetRows) (limit : ℕ) (h : List Entry) (x : Entry) (s : ℕ) → Breaks net limit h x (NothingOut s) → (other : Break) → Breaks net limit h x other → rank other ≡ 7 → (NothingOut s) ≡ other
+of_NothingOut net limit h x s one NoSuch two is = absurd (omega arith)
+of_NothingOut net limit h x s one AfterStuck two is = absurd (omega arith)
+of_NothingOut net limit h x s one NotReleased two is = absurd (omega arith)
+of_NothingOut net limit h x s one (OverUnits r) two is = absurd (omega arith)
+of_NothingOut net limit h x s one OverLimit two is = absurd (omega arith)
+of_NothingOut net limit h x s one NotOpen two is = absurd (omega arith)
+of_NothingOut net limit h x s one NotChosen two is = absurd (omega arith)
+of_NothingOut net limit h x s one (NothingOut r) two is = ap (λ n. NothingOut n) (out_once net h x s r one two)
+of_NothingOut net limit h x s one NotOver two is = absurd (omega arith)
+of_NothingOut net limit h x s one NotHalted two is = absurd (omega arith)
+of_NothingOut net limit h x s one NotStuck two is = absurd (omega arith)
+
+of_NotOver : (net : NetRows) (limit : ℕ) (h : List Entry) (x : Entry) → Breaks net limit h x NotOver → (other : Break) → Breaks net limit h x other → rank other ≡ 8 → NotOver ≡ other
+of_NotOver net limit h x one NoSuch two is = absurd (omega arith)
+of_NotOver net limit h x one AfterStuck two is = absurd (omega arith)
+of_NotOver net limit h x one NotReleased two is = absurd (omega arith)
+of_NotOver net limit h x one (OverUnits r) two is = absurd (omega arith)
+of_NotOver net limit h x one OverLimit two is = absurd (omega arith)
+of_NotOver net limit h x one NotOpen two is = absurd (omega arith)
+of_NotOver net limit h x one NotChosen two is = absurd (omega arith)
+of_NotOver net limit h x one (NothingOut r) two is = absurd (omega arith)
+of_NotOver net limit h x one NotOver two is = refl
+of_NotOver net limit h x one NotHalted two is = absurd (omega arith)
+of_NotOver net limit h x one NotStuck two is = absurd (omega arith)
+
+of_NotHalted : (net : NetRows) (limit : ℕ) (h : List Entry) (x : Entry) → Breaks net limit h x NotHalted → (other : Break) → Breaks net limit h x other → rank other ≡ 9 → NotHalted ≡ other
+of_NotHalted net limit h x one NoSuch two is = absurd (omega arith)
+of_NotHalted net limit h x one AfterStuck two is = absurd (omega arith)
+of_NotHalted net limit h x one NotReleased two is = absurd (omega arith)
+of_NotHalted net limit h x one (OverUnits r) two is = absurd (omega arith)
+of_NotHalted net limit h x one OverLimit two is = absurd (omega arith)
+of_NotHalted net limit h x one NotOpen two is = absurd (omega arith)
+of_NotHalted net limit h x one NotChosen two is = absurd (omega arith)
+of_NotHalted net limit h x one (NothingOut r) two is = absurd (omega arith)
+of_NotHalted net limit h x one NotOver two is = absurd (omega arith)
+of_NotHalted net limit h x one NotHalted two is = refl
+of_NotHalted net limit h x one NotStuck two is = absurd (omega arith)
+
+of_NotStuck : (net : NetRows) (limit : ℕ) (h : List Entry) (x : Entry) → Breaks net limit h x NotStuck → (other : Break) → Breaks net limit h x other → rank other ≡ 10 → NotStuck ≡ other
+of_NotStuck net limit h x one NoSuch two is = absurd (omega arith)
+of_NotStuck net limit h x one AfterStuck two is = absurd (omega arith)
+of_NotStuck net limit h x one NotReleased two is = absurd (omega arith)
+of_NotStuck net limit h x one (OverUnits r) two is = absurd (omega arith)
+of_NotStuck net limit h x one OverLimit two is = absurd (omega arith)
+of_NotStuck net limit h x one NotOpen two is = absurd (omega arith)
+of_NotStuck net limit h x one NotChosen two is = absurd (omega arith)
+of_NotStuck net limit h x one (NothingOut r) two is = absurd (omega arith)
+of_NotStuck net limit h x one NotOver two is = absurd (omega arith)
+of_NotStuck net limit h x one NotHalted two is = absurd (omega arith)
+of_NotStuck net limit h x one NotStuck two is = refl
+
+pub one_refusal : (net : NetRows) (limit : ℕ) (h : List Entry) (x : Entry) (b c : Break) → IsRefusal net limit h x b → IsRefusal net limit h x c → b ≡ c
+one_refusal net limit h x b c one other = by_rank (cases_lt (rank b) (rank c)) (cases_lt (rank c) (rank b))
+  where
+    same : (d : Break) → Breaks net limit h x d → rank c ≡ rank d → d ≡ c
+    same NoSuch breaks is = of_NoSuch net limit h x breaks c other.breaks is
+    same AfterStuck breaks is = of_AfterStuck net limit h x breaks c other.breaks is
+    same NotReleased breaks is = of_NotReleased net limit h x breaks c other.breaks is
+    same (OverUnits s) breaks is = of_OverUnits net limit h x s breaks c other.breaks is
+    same OverLimit breaks is = of_OverLimit net limit h x breaks c other.breaks is
+    same NotOpen breaks is = of_NotOpen net limit h x breaks c other.breaks is
+    same NotChosen breaks is = of_NotChosen net limit h x breaks c other.breaks is
+    same (NothingOut s) breaks is = of_NothingOut net limit h x s breaks c other.breaks is
+    same NotOver breaks is = of_NotOver net limit h x breaks c other.breaks is
+    same NotHalted breaks is = of_NotHalted net limit h x breaks c other.breaks is
+    same NotStuck breaks is = of_NotStuck net limit h x breaks c other.breaks is
+
+    by_rank : (rank b < rank c) ⊎ (rank c ≤ rank b) → (rank c < rank b) ⊎ (rank b ≤ rank c) → b ≡ c
+    by_rank (inl less) any = absurd (other.first b less one.breaks)
+    by_rank (inr more) (inl less) = absurd (one.first c less other.breaks)
+    by_rank (inr more) (inr less) = same b one.breaks (omega arith)
