@@ -13,7 +13,7 @@ use Rattle.legal_run.specs.Counts.{given, used, used_weak, used_source, is_open}
 use Rattle.legal_run.specs.ShapeLegal.{ShapeLegal, MeetsDataRule}
 use Rattle.legal_run.specs.Complete.{Complete, is_limited, least}
 use Rattle.legal_run.proofs.NetLemmas.{plain_strong}
-use Rattle.legal_run.proofs.WaitingLemmas.{each_below}
+use Rattle.legal_run.proofs.Reaching.{each_below}
 use Rattle.join_words.specs.declared.ins.Given.{Given}
 use Rattle.run_frame.specs.declared.run.ValueRow.{ValueRow}
 use Rattle.run_frame.specs.declared.run.FrameRun.{FrameRun, FrameRun-F, roll-FrameRun, out-FrameRun, out-roll-FrameRun, FrameRun', rolls-FrameRun', Row_of-InnerRow, end_of-InnerRow, more_of-InnerRow, items-the_row-InnerRow, items_hidden-the_row-InnerRow-0}

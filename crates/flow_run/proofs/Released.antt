@@ -22,13 +22,14 @@ use Rattle.legal_run.specs.declared.machine_error.MachineError.{MachineError}
 use Rattle.legal_run.specs.declared.machine_error.MachineError.TheVariants.{NoSuch, AfterStuck, NotReleased, NoUnit, AtLimit, NotOpen, NotChosen, NothingOut, NotOver, NotHalted, NotStuck, NoMemory}
 use Rattle.legal_run.specs.MachineState.{MachineState}
 use Rattle.legal_run.specs.ShapeLegal.{CauseInRange}
-use Rattle.legal_run.specs.Machine.{RefusesStart, RefusesEnd}
+use Rattle.legal_run.specs.Refusal.{IsLeast, PutsWithNothingOut}
+use Rattle.legal_run.specs.Machine.{Refuses, start_entry}
 use Rattle.legal_run.specs.Counts.{given, used, starts, start_at, is_open}
 use Rattle.legal_run.specs.ReleaseRule.{IsReleased}
 use Rattle.legal_run.specs.ChoiceRule.{ChoiceRule, GivesFit, InnerFits}
 use Rattle.legal_run.specs.HaltLimitStuckRule.{is_stuck}
 use Rattle.legal_run.proofs.NetLemmas.{any_place, places_below}
-use Rattle.legal_run.proofs.Keeping.{plain_takes, plain_puts}
+use Rattle.legal_run.proofs.NetLemmas.{plain_takes, plain_puts}
 use Rattle.legal_run.proofs.Snoc.{start_at_push_last}
 use Rattle.join_words.specs.declared.ins.Given.{Given}
 use Rattle.run_frame.specs.declared.run.ValueRow.{ValueRow}
@@ -134,21 +135,21 @@ cause_in_range net t (Weak e) fits = absurd fits
 
 -- so its start is refused for want of memory alone
 pub start_taken : (job : TextJob) (carried : List (Given Item)) (values : List (ValueRow Item)) (rest : List ℕ) (t : ℕ) (cause : Cause) (m : MachineState) (error : MachineError) → IsStep job t cause → UnderWay job m.journal carried values (rest ++ t ∷ [])
-    → m.net ≡ net_of job → length (net_of job).tasks ≤ m.limit → RefusesStart m t cause error → error ≡ NoMemory
+    → m.net ≡ net_of job → length (net_of job).tasks ≤ m.limit → Refuses m (start_entry m t cause) error → error ≡ NoMemory
 start_taken job carried values rest t cause m error step under same room refuses = by_error error refuses
   where
-    by_error : (e : MachineError) → RefusesStart m t cause e → e ≡ NoMemory
-    by_error NoSuch no_such = absurd (no_such (rw same step.in_range, cause_in_range m.net t cause (rw same step.fits)))
-    by_error AfterStuck (names, stuck) = absurd (stuck (none_stuck (net_of job) m.journal under.entries))
-    by_error NotReleased (names, none, not_released) = absurd (not_released (rw same (released job m.journal carried values rest t cause step under)))
-    by_error (NoUnit s) (may, takes_it, below, none) = absurd (false≢true (sym (plain_takes m.net (rw same step.plain) s t) ∙ takes_it))
-    by_error AtLimit (may, units, at) = let left = room_left job m.journal carried values rest t cause step under in absurd (omega arith)
-    by_error NotOpen never = absurd never
-    by_error NotChosen never = absurd never
-    by_error (NothingOut s) never = absurd never
-    by_error NotOver never = absurd never
-    by_error NotHalted never = absurd never
-    by_error NotStuck never = absurd never
+    by_error : (e : MachineError) → Refuses m (start_entry m t cause) e → e ≡ NoMemory
+    by_error NoSuch refusal = absurd (refusal.breaks (rw same step.in_range, cause_in_range m.net t cause (rw same step.fits)))
+    by_error AfterStuck refusal = absurd (refusal.breaks (λ any. none_stuck (net_of job) m.journal under.entries))
+    by_error NotReleased refusal = absurd (refusal.breaks (rw same (released job m.journal carried values rest t cause step under)))
+    by_error (NoUnit s) refusal = absurd (false≢true (sym (plain_takes m.net (rw same step.plain) s t) ∙ refusal.breaks.has_it.0))
+    by_error AtLimit refusal = let left = room_left job m.journal carried values rest t cause step under in absurd (refusal.breaks (omega arith))
+    by_error NotOpen refusal = absurd (refusal.breaks tt)
+    by_error NotChosen refusal = absurd (refusal.breaks tt)
+    by_error (NothingOut s) refusal = absurd refusal.breaks
+    by_error NotOver refusal = absurd (refusal.breaks tt)
+    by_error NotHalted refusal = absurd refusal.breaks
+    by_error NotStuck refusal = absurd refusal.breaks
     by_error NoMemory free = refl
 
 -- an End of a plain task may give all its edges
@@ -165,7 +166,7 @@ may_choose net h t start plain below at =
 
 -- and so is its end
 pub end_taken : (job : TextJob) (h : List Entry) (carried : List (Given Item)) (values : List (ValueRow Item)) (rest : List ℕ) (t start : ℕ) (cause : Cause) (ins : List Part) (m : MachineState) (error : MachineError) → IsStep job t cause → UnderWay job h carried values (rest ++ t ∷ [])
-    → m.net ≡ net_of job → m.journal ≡ h ++ Start t cause ins ∷ [] → start ≡ length h → IsTrue (is_open m.journal start) → RefusesEnd m start (out_edges (net_of job) t) false error → error ≡ NoMemory
+    → m.net ≡ net_of job → m.journal ≡ h ++ Start t cause ins ∷ [] → start ≡ length h → IsTrue (is_open m.journal start) → Refuses m (End start (out_edges (net_of job) t) false) error → error ≡ NoMemory
 end_taken job h carried values rest t start cause ins m error step under same after place opened refuses = by_error error refuses
   where
     at : start_at m.journal start ≡ Some t
@@ -174,16 +175,18 @@ end_taken job h carried values rest t start cause ins m error step under same af
     plain : IsPlainNet m.net
     plain = rw same step.plain
 
-    by_error : (e : MachineError) → RefusesEnd m start (out_edges (net_of job) t) false e → e ≡ NoMemory
-    by_error NoSuch no_such = absurd (no_such (rw same (recursion_from_All (λ e. e < length (net_of job).edges) (out_edges (net_of job) t) (places_below (λ row. row.from == t) (net_of job).edges))))
-    by_error AfterStuck (names, stuck) = absurd (stuck (rw after (none_stuck (net_of job) (h ++ Start t cause ins ∷ []) (AllByRecursion-push (IsPlainEntry (net_of job)) h (Start t cause ins) under.entries (plain_start (net_of job) t cause step.in_range step.fits)))))
-    by_error NotReleased never = absurd never
-    by_error (NoUnit s) never = absurd never
-    by_error AtLimit never = absurd never
-    by_error NotOpen (names, none, not_open) = absurd (not_open opened)
-    by_error NotChosen (may, not_chosen) = absurd (not_chosen (subst (λ n. ChoiceRule n m.journal (End start (out_edges (net_of job) t) false)) (sym same) (may_choose (net_of job) m.journal t start step.plain step.in_range at)))
-    by_error (NothingOut s) (may, chosen, (q, at_q, puts_it), below, none) = absurd (false≢true (sym (plain_puts m.net plain s q) ∙ puts_it))
-    by_error NotOver never = absurd never
-    by_error NotHalted never = absurd never
-    by_error NotStuck never = absurd never
+    by_error : (e : MachineError) → Refuses m (End start (out_edges (net_of job) t) false) e → e ≡ NoMemory
+    by_error NoSuch refusal = absurd (refusal.breaks (rw same (recursion_from_All (λ e. e < length (net_of job).edges) (out_edges (net_of job) t) (places_below (λ row. row.from == t) (net_of job).edges))))
+    by_error AfterStuck refusal = absurd (refusal.breaks (λ any. rw after (none_stuck (net_of job) (h ++ Start t cause ins ∷ []) (AllByRecursion-push (IsPlainEntry (net_of job)) h (Start t cause ins) under.entries (plain_start (net_of job) t cause step.in_range step.fits)))))
+    by_error NotReleased refusal = absurd (refusal.breaks tt)
+    by_error (NoUnit s) refusal = absurd refusal.breaks
+    by_error AtLimit refusal = absurd refusal.breaks
+    by_error NotOpen refusal = absurd (refusal.breaks opened)
+    by_error NotChosen refusal = absurd (refusal.breaks (subst (λ n. ChoiceRule n m.journal (End start (out_edges (net_of job) t) false)) (sym same) (may_choose (net_of job) m.journal t start step.plain step.in_range at)))
+    by_error (NothingOut s) refusal =
+        let least = subst (λ (o : Option ℕ). IsSomeAnd o (λ q. IsLeast (PutsWithNothingOut m.net m.journal q) s)) at refusal.breaks in
+        absurd (false≢true (sym (plain_puts m.net plain s t) ∙ least.has_it.0))
+    by_error NotOver refusal = absurd (refusal.breaks tt)
+    by_error NotHalted refusal = absurd refusal.breaks
+    by_error NotStuck refusal = absurd refusal.breaks
     by_error NoMemory free = refl

@@ -14,6 +14,7 @@ use Rattle.task_graph.specs.Net.{is_weak, is_weak_row, task_chooses, chooses, Is
 use Rattle.task_graph.specs.declared.net.TaskRow.{TaskRow}
 use Rattle.task_graph.specs.declared.net.EdgeRow.{EdgeRow}
 use Rattle.legal_run.specs.Counts.{first_tokens}
+use Rattle.legal_run.specs.SemaphoreRule.{takes, puts}
 
 -- the item at a place that is there has what each has
 pub at_place : {X : Type 0} (P : X → Type 0) (xs : List X) (i : ℕ) (x : X) → All P xs → slice_get xs i ≡ Some x → P x
@@ -136,3 +137,18 @@ plain_first_tokens net plain e = by_row (slice_get net.edges e) refl
 pub map_agree : {X Y : Type 0} (f g : X → Y) (xs : List X) → AllByRecursion (λ x. f x ≡ g x) xs → map f xs ≡ map g xs
 map_agree f g [] all = refl
 map_agree f g (x ∷ xs) all = rw (all.0, map_agree f g xs all.1) refl
+
+-- a plain task takes and puts no unit
+pub plain_takes : (net : NetRows) → IsPlainNet net → (s t : ℕ) → takes net s t ≡ false
+plain_takes net plain s t = by_row (slice_get net.tasks t) refl
+  where
+    by_row : (row : Option TaskRow) → slice_get net.tasks t ≡ row → option_map_or (λ (r : TaskRow). list_any (λ x. x == s) r.takes) row false ≡ false
+    by_row None is = refl
+    by_row (Some row) is = ap (λ ids. list_any (λ x. x == s) ids) (at_place IsPlainTask net.tasks t row plain.tasks is).takes
+
+pub plain_puts : (net : NetRows) → IsPlainNet net → (s t : ℕ) → puts net s t ≡ false
+plain_puts net plain s t = by_row (slice_get net.tasks t) refl
+  where
+    by_row : (row : Option TaskRow) → slice_get net.tasks t ≡ row → option_map_or (λ (r : TaskRow). list_any (λ x. x == s) r.puts) row false ≡ false
+    by_row None is = refl
+    by_row (Some row) is = ap (λ ids. list_any (λ x. x == s) ids) (at_place IsPlainTask net.tasks t row plain.tasks is).puts

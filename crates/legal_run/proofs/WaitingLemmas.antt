@@ -1,46 +1,37 @@
 -- What waits at the edges is what a start may find there.
-use Rattle.std.proofs.Common.{◌≡◌, ◌≢◌, ◌⊎◌, inl, inr, ℕ, zero, suc, ◌+◌, ◌<◌, ◌≤◌, Bool, true, false, not, ◌&&◌, ◌||◌, cond, eqb, List, [], ◌∷◌, ◌++◌, length, take, Option, Some, None, sym, refl, ap, ◌∙◌, subst, arith, map, IsTrue}
-use Rattle.std.specs.Prelude.{slice_get, ◌==◌}
+use Rattle.std.proofs.Common.{◌≡◌, ◌≢◌, ◌⊎◌, inl, inr, ℕ, zero, suc, ◌+◌, ◌<◌, ◌≤◌, Bool, true, false, not, ◌&&◌, ◌||◌, cond, eqb, List, [], ◌∷◌, ◌++◌, length, take, Option, Some, None, sym, refl, ap, ◌∙◌, subst, arith, map, get_or, IsTrue, Result, Ok, Err, IfOk}
+use Rattle.std.specs.Prelude.{slice_get, ◌==◌, All}
+use Rattle.std.proofs.lemmas.List.Elements.{recursion_from_All}
+use Rattle.legal_run.proofs.NetLemmas.{map_agree}
 use Rattle.std.specs.Option.{option_map_or}
 use Rattle.std.specs.List.{list_any, AllByRecursion, AllZip, zip, range_with_len}
 use Rattle.std.proofs.lemmas.Bool.Decides.{nat_tests}
 use Rattle.std.proofs.lemmas.Bool.{cases_eq, false≢true}
 use Rattle.std.proofs.lemmas.List.{take_all, take-append-le, length_push}
 use Rattle.std.proofs.lemmas.Option.{slice_get_past}
+use Rattle.outside_io.specs.declared.list.NoMemory.{NoMemory}
 use Rattle.task_graph.specs.NetRows.{NetRows}
-use Rattle.task_graph.specs.Net.{is_weak, is_weak_row}
+use Rattle.task_graph.specs.Net.{is_weak, strong_in}
 use Rattle.task_graph.specs.declared.net.EdgeRow.{EdgeRow}
 use Rattle.legal_run.specs.declared.entry.Cause.{Cause}
 use Rattle.legal_run.specs.declared.entry.Cause.TheVariants.{Source, Strong, Weak}
-use Rattle.legal_run.specs.declared.entry.Entry.{Entry}
-use Rattle.legal_run.specs.declared.entry.Entry.TheVariants.{Start, End}
 use Rattle.legal_run.specs.declared.entry.Part.{Part}
 use Rattle.legal_run.specs.declared.entry.Part.TheVariants.{From, First, Nothing}
-use Rattle.legal_run.specs.Counts.{given, gives_edge, used, used_weak, uses, uses_any, is_strong, is_weak_at}
+use Rattle.legal_run.specs.declared.entry.Why.{Why}
+use Rattle.legal_run.specs.declared.entry.DropWhy.{DropWhy}
+use Rattle.legal_run.specs.declared.entry.Entry.{Entry}
+use Rattle.legal_run.specs.declared.entry.Entry.TheVariants.{Start, End, Fault, Drop}
+use Rattle.legal_run.specs.Counts.{given, first_tokens, gives_edge, used, used_weak}
 use Rattle.legal_run.specs.ReleaseRule.{IsReleased}
 use Rattle.legal_run.specs.Calm.{IsCalm, used_at}
-use Rattle.legal_run.specs.DataRule.{edges_of, MayFind, IsPartAt, has_part, is_from, is_first}
-use Rattle.legal_run.specs.Waiting.{waiting, uses_edge, waiting_parts}
-use Rattle.legal_run.specs.Kept.{Waits}
+use Rattle.legal_run.specs.DataRule.{edges_of, MayFind, IsPartAt, has_part, is_from, is_first, last_part}
+use Rattle.legal_run.specs.Waiting.{waiting, uses_edge, waiting_parts, first_waiting}
+use Rattle.legal_run.specs.inside.Waits.{Waits, TellsWaiting}
+use Rattle.legal_run.specs.inside.Releases.{IsUseOf, IsNoUse}
 use Rattle.legal_run.proofs.Snoc.{count_by_push, waiting_push, last_part_push, slice_get_push, slice_get_push_last}
-use Rattle.legal_run.proofs.Tallying.{given_push, count_by_push_no, and_false}
-use Rattle.legal_run.proofs.NetLemmas.{any_place}
-
--- a fact of each number of a range
-pub at_in_range : (P : ℕ → Type 0) (a n : ℕ) → AllByRecursion P (range_with_len a n) → (k : ℕ) → k < n → P (a + k)
-at_in_range P a zero all k below = absurd (omega arith)
-at_in_range P a (suc n) all zero below = subst P (omega arith) all.0
-at_in_range P a (suc n) all (suc k) below = subst P (omega arith) (at_in_range P (a + 1) n all.1 k (omega arith))
-
-pub each_in_range : (P : ℕ → Type 0) (a n : ℕ) → ((k : ℕ) → k < n → P (a + k)) → AllByRecursion P (range_with_len a n)
-each_in_range P a zero each = tt
-each_in_range P a (suc n) each = (subst P (omega arith) (each 0 (omega arith)), each_in_range P (a + 1) n (λ k below. subst P (omega arith) (each (suc k) (omega arith))))
-
-pub at_below : (P : ℕ → Type 0) (n : ℕ) → AllByRecursion P (range_with_len 0 n) → (k : ℕ) → k < n → P k
-at_below P n all k below = subst P (omega arith) (at_in_range P 0 n all k below)
-
-pub each_below : (P : ℕ → Type 0) (n : ℕ) → ((k : ℕ) → k < n → P k) → AllByRecursion P (range_with_len 0 n)
-each_below P n each = each_in_range P 0 n (λ k below. subst P (omega arith) (each k below))
+use Rattle.legal_run.proofs.Tallying.{given_push, count_by_push_no, and_false, tells_same}
+use Rattle.legal_run.proofs.ReleaseLaws.{start_use, drop_use, end_no_use, fault_no_use}
+use Rattle.legal_run.proofs.Reaching.{at_below, each_below, used_at_use, used_at_none}
 
 -- an edge that is calm was calm an entry before, and then held at most one token
 pub calm_before : (net : NetRows) (e : ℕ) (h : List Entry) (x : Entry) → IsCalm net e (h ++ x ∷ []) → IsCalm net e h
@@ -53,17 +44,6 @@ pub calm_now : (net : NetRows) (e : ℕ) (h : List Entry) → IsCalm net e h →
 calm_now net e h calm =
     subst (λ p. given net e p ≤ used_at net e p + 1) (take_all (length h) h (omega arith))
     (at_below (λ m. given net e (take m h) ≤ used_at net e (take m h) + 1) (length h + 1) calm (length h) (omega arith))
-
--- equality of numbers goes both ways
-eqb_both_ways : (a b : ℕ) → eqb a b ≡ eqb b a
-eqb_both_ways a b = by_cases (cases_eq a b)
-  where
-    by_cases : (a ≡ b) ⊎ (a ≢ b) → eqb a b ≡ eqb b a
-    by_cases (inl same) = rw same refl
-    by_cases (inr other) =
-        let one : eqb a b ≡ false = grind (arith, nat_tests) in
-        let two : eqb b a ≡ false = grind (arith, nat_tests) in
-        one ∙ sym two
 
 -- where no number of a list is e, no pair that begins with e is among its pairs
 zip_first_none : (e : ℕ) (test : Part → Bool) (es : List ℕ) (ps : List Part) → list_any (λ f. f == e) es ≡ false → list_any (λ p. (p.0 == e) && test p.1) (zip es ps) ≡ false
@@ -93,58 +73,6 @@ found_stands net h f (From m) n may past = by_cases (cases_eq m n)
     by_cases (inr other) = grind (arith, nat_tests)
 found_stands net h f First n may past = refl
 found_stands net h f Nothing n may past = refl
-
--- the strong releases used of an edge's target, where the edge is there
-abbrev target_used : Option EdgeRow → List Entry → ℕ
-target_used row h = option_map_or (λ (r : EdgeRow). used r.to h) row 0
-
-target_same : (row : Option EdgeRow) (h k : List Entry) → ((r : ℕ) → used r k ≡ used r h) → target_used row k ≡ target_used row h
-target_same None h k same = refl
-target_same (Some row) h k same = same row.to
-
-or_false : (b : Bool) → b || false ≡ b
-or_false true = refl
-or_false false = refl
-
--- a token of an edge is used where the entry uses the edge
-pub used_at_push : (net : NetRows) (e : ℕ) (h : List Entry) (t : ℕ) (cause : Cause) (ins : List Part) → IsReleased net h t cause →
-    used_at net e (h ++ Start t cause ins ∷ []) ≡ used_at net e h + cond (uses_edge net e (Start t cause ins)) 1 0
-used_at_push net e h t Source ins rule = by_weak (is_weak net e)
-  where
-    k : List Entry
-    k = h ++ Start t Source ins ∷ []
-
-    by_weak : (b : Bool) → cond b (used_weak e k) (target_used (slice_get net.edges e) k) ≡ cond b (used_weak e h) (target_used (slice_get net.edges e) h) + 0
-    by_weak true = count_by_push_no (uses_any (is_weak_at e)) h (Start t Source ins) refl ∙ omega arith
-    by_weak false = target_same (slice_get net.edges e) h k (λ r. count_by_push_no (uses is_strong r) h (Start t Source ins) (and_false (eqb t r))) ∙ omega arith
-used_at_push net e h t Strong ins rule = by_row (slice_get net.edges e) ∙ ap (λ b. used_at net e h + cond b 1 0) (sym (any_place (λ (row : EdgeRow). (row.to == t) && not (is_weak_row net row)) e net.edges))
-  where
-    k : List Entry
-    k = h ++ Start t Strong ins ∷ []
-
-    by_weak : (row : EdgeRow) (b : Bool) → cond b (used_weak e k) (used row.to k) ≡ cond b (used_weak e h) (used row.to h) + cond ((row.to == t) && not b) 1 0
-    by_weak row true = count_by_push_no (uses_any (is_weak_at e)) h (Start t Strong ins) refl ∙ rw (and_false (row.to == t)) (omega arith)
-    by_weak row false = count_by_push (uses is_strong row.to) h (Start t Strong ins) ∙ ap (λ b. used row.to h + cond (b && true) 1 0) (eqb_both_ways t row.to)
-
-    by_row : (row : Option EdgeRow) → cond (option_map_or (is_weak_row net) row false) (used_weak e k) (target_used row k)
-        ≡ cond (option_map_or (is_weak_row net) row false) (used_weak e h) (target_used row h) + cond (option_map_or (λ (r : EdgeRow). (r.to == t) && not (is_weak_row net r)) row false) 1 0
-    by_row None = omega arith
-    by_row (Some row) = by_weak row (is_weak_row net row)
-used_at_push net e h t (Weak f) ins rule = by_weak (is_weak net e) refl
-  where
-    k : List Entry
-    k = h ++ Start t (Weak f) ins ∷ []
-
-    not_it : is_weak net e ≡ false → (f ≡ e) ⊎ (f ≢ e) → eqb f e ≡ false
-    not_it strong (inl same) = absurd (false≢true (sym strong ∙ subst (λ g. IsTrue (is_weak net g)) same rule.0))
-    not_it strong (inr other) = grind (arith, nat_tests)
-
-    by_weak : (b : Bool) → is_weak net e ≡ b → cond b (used_weak e k) (target_used (slice_get net.edges e) k)
-        ≡ cond b (used_weak e h) (target_used (slice_get net.edges e) h) + cond ((f == e) || false) 1 0
-    by_weak true is = count_by_push (uses_any (is_weak_at e)) h (Start t (Weak f) ins) ∙ ap (λ b. used_weak e h + cond b 1 0) (sym (or_false (f == e)))
-    by_weak false is =
-        let miss = not_it is (cases_eq f e) in
-        target_same (slice_get net.edges e) h k (λ r. count_by_push_no (uses is_strong r) h (Start t (Weak f) ins) (and_false (eqb t r))) ∙ rw miss (omega arith)
 
 -- what was found before may be found after an entry that finds nothing at the edge
 found_still : (net : NetRows) (h : List Entry) (x : Entry) (e : ℕ) (part : Part) → ((test : Part → Bool) → has_part net e test x ≡ false) → MayFind net h e part → MayFind net (h ++ x ∷ []) e part
@@ -191,21 +119,27 @@ waits_used net h x e no_gift takes none one_more waits =
       to_come = λ n past. count_by_push_no (has_part net e (is_from n)) h x (none n (omega (arith, length_push h x))) ∙ waits.to_come n (omega (arith, length_push h x));
     }
 
--- a Start that finds what waits leaves each edge so
-pub waits_start : (net : NetRows) (h : List Entry) (t : ℕ) (cause : Cause) → IsReleased net h t cause → ((e : ℕ) → Waits net h e) → (e : ℕ) → Waits net (h ++ Start t cause (waiting_parts net t cause h) ∷ []) e
-waits_start net h t cause rule waits e = by_use (uses_edge net e x) refl
+-- a use of a release leaves each edge so, if the Start finds what waits
+waits_use : (net : NetRows) (h : List Entry) (x : Entry) (t : ℕ) (cause : Cause) → IsUseOf t cause x → IsReleased net h t cause
+    → ((e n : ℕ) → length h ≤ n → has_part net e (is_from n) x ≡ false) → ((e : ℕ) (test : Part → Bool) → uses_edge net e x ≡ false → has_part net e test x ≡ false)
+    → ((e : ℕ) → Waits net h e) → (e : ℕ) → Waits net (h ++ x ∷ []) e
+waits_use net h x t cause using rule later elsewhere waits e = by_use (uses_edge net e x) refl
   where
-    x : Entry
-    x = Start t cause (waiting_parts net t cause h)
+    used_is : (b : Bool) → uses_edge net e x ≡ b → used_at net e (h ++ x ∷ []) ≡ used_at net e h + cond b 1 0
+    used_is b takes = used_at_use net e h x t cause using rule ∙ ap (λ c. used_at net e h + cond c 1 0) (sym (using.edges net e) ∙ takes)
 
     by_use : (b : Bool) → uses_edge net e x ≡ b → Waits net (h ++ x ∷ []) e
-    by_use true takes =
-        waits_used net h x e refl takes
-        (λ n past. zip_second_none e (is_from n) (λ f. waiting net f h) (λ f. found_stands net h f (waiting net f h) n (waits f).found past) (edges_of net t cause))
-        (used_at_push net e h t cause (waiting_parts net t cause h) rule ∙ ap (λ b. used_at net e h + cond b 1 0) takes) (waits e)
-    by_use false takes =
-        waits_still net h x e refl takes (λ test. zip_first_none e test (edges_of net t cause) (waiting_parts net t cause h) takes)
-        (used_at_push net e h t cause (waiting_parts net t cause h) rule ∙ ap (λ b. used_at net e h + cond b 1 0) takes ∙ omega arith) (waits e)
+    by_use true takes = waits_used net h x e (using.no_gift e) takes (later e) (used_is true takes) (waits e)
+    by_use false takes = waits_still net h x e (using.no_gift e) takes (λ test. elsewhere e test takes) (used_is false takes ∙ omega arith) (waits e)
+
+pub waits_start : (net : NetRows) (h : List Entry) (t : ℕ) (cause : Cause) → IsReleased net h t cause → ((e : ℕ) → Waits net h e) → (e : ℕ) → Waits net (h ++ Start t cause (waiting_parts net t cause h) ∷ []) e
+waits_start net h t cause rule waits =
+    waits_use net h (Start t cause (waiting_parts net t cause h)) t cause (start_use t cause (waiting_parts net t cause h)) rule
+    (λ e n past. zip_second_none e (is_from n) (λ f. waiting net f h) (λ f. found_stands net h f (waiting net f h) n (waits f).found past) (edges_of net t cause))
+    (λ e test takes. zip_first_none e test (edges_of net t cause) (waiting_parts net t cause h) takes) waits
+
+pub waits_drop : (net : NetRows) (h : List Entry) (t : ℕ) (cause : Cause) (why : DropWhy) → IsReleased net h t cause → ((e : ℕ) → Waits net h e) → (e : ℕ) → Waits net (h ++ Drop t cause why ∷ []) e
+waits_drop net h t cause why rule waits = waits_use net h (Drop t cause why) t cause (drop_use t cause why) rule (λ e n past. refl) (λ e test takes. refl) waits
 
 -- so does an End
 pub waits_end : (net : NetRows) (h : List Entry) (start : ℕ) (gives : List ℕ) (inner : Bool) → ((e : ℕ) → Waits net h e) → (e : ℕ) → Waits net (h ++ End start gives inner ∷ []) e
@@ -214,19 +148,80 @@ waits_end net h start gives inner waits e = by_gift (list_any (λ g. g == e) giv
     x : Entry
     x = End start gives inner
 
-    used_same : used_at net e (h ++ x ∷ []) ≡ used_at net e h
-    used_same = by_weak (is_weak net e)
-      where
-        by_weak : (b : Bool) → cond b (used_weak e (h ++ x ∷ [])) (target_used (slice_get net.edges e) (h ++ x ∷ [])) ≡ cond b (used_weak e h) (target_used (slice_get net.edges e) h)
-        by_weak true = count_by_push_no (uses_any (is_weak_at e)) h x refl
-        by_weak false = target_same (slice_get net.edges e) h (h ++ x ∷ []) (λ r. count_by_push_no (uses is_strong r) h x refl)
-
     by_gift : (b : Bool) → list_any (λ g. g == e) gives ≡ b → Waits net (h ++ x ∷ []) e
     by_gift true gift = waits_given net h x e gift (λ test. refl) (waits e)
-    by_gift false gift = waits_still net h x e gift refl (λ test. refl) used_same (waits e)
+    by_gift false gift = waits_still net h x e gift refl (λ test. refl) (used_at_none net e h x (end_no_use start gives inner)) (waits e)
+
+-- and a Fault
+pub waits_fault : (net : NetRows) (h : List Entry) (start : ℕ) (why : Why) → ((e : ℕ) → Waits net h e) → (e : ℕ) → Waits net (h ++ Fault start why ∷ []) e
+waits_fault net h start why waits e = waits_still net h (Fault start why) e refl refl (λ test. refl) (used_at_none net e h (Fault start why) (fault_no_use start why)) (waits e)
+
+abbrev one_number : Bool → ℕ
+one_number b = cond b 1 0
+
+-- at first
+pub waits_empty : (net : NetRows) (e : ℕ) → Waits net [] e
+waits_empty net e = by_row (slice_get net.edges e) refl
+  where
+    found : (row : Option EdgeRow) → slice_get net.edges e ≡ row → MayFind net [] e (option_map_or (λ (r : EdgeRow). cond r.start First Nothing) row Nothing)
+    found None is = tt
+    found (Some row) is = by_start row.start (ap (λ o. option_map_or (λ (r : EdgeRow). cond r.start 1 0) o 0) is)
+      where
+        by_start : (b : Bool) → first_tokens net e ≡ cond b 1 0 → MayFind net [] e (cond b First Nothing)
+        by_start true one = (one, refl)
+        by_start false none = tt
+
+    last : (row : Option EdgeRow) → (option_map_or (λ (r : EdgeRow). one_number r.start) row 0 ≡ 0 → ⊥) → option_map_or (λ (r : EdgeRow). cond r.start First Nothing) row Nothing ≡ First
+    last None some = absurd (some refl)
+    last (Some row) some = by_start row.start some
+      where
+        by_start : (b : Bool) → (one_number b ≡ 0 → ⊥) → cond b First Nothing ≡ First
+        by_start true any = refl
+        by_start false any = absurd (any refl)
+
+    by_row : (row : Option EdgeRow) → slice_get net.edges e ≡ row → Waits net [] e
+    by_row row is = record {
+      found = subst (λ o. MayFind net [] e (option_map_or (λ (r : EdgeRow). cond r.start First Nothing) o Nothing)) (sym is) (found row is);
+      last = λ calm more. last (slice_get net.edges e) (λ none. absurd (omega arith));
+      to_come = λ n past. refl;
+    }
 
 -- the parts that wait are such as the start may have
 pub parts_allowed : (net : NetRows) (h : List Entry) (es : List ℕ) → AllByRecursion (λ e. used_at net e h < given net e h) es → ((e : ℕ) → Waits net h e) → AllZip (IsPartAt net h) es (map (λ e. waiting net e h) es)
 parts_allowed net h [] held waits = tt
 parts_allowed net h (e ∷ es) held waits =
     (record { found = (waits e).found; last = λ calm. (waits e).last calm held.0 }, parts_allowed net h es held.1 waits)
+
+-- what is read of the parts after a use
+pub tells_use : (net : NetRows) (h : List Entry) (x : Entry) (t : ℕ) (cause : Cause) (old new : List Part) → IsUseOf t cause x → TellsWaiting net h old → length new ≡ length old
+    → ((k : ℕ) (d : Part) → k < length old → get_or new k d ≡ cond (list_any (λ e. e == k) (edges_of net t cause)) Nothing (get_or old k d)) → TellsWaiting net (h ++ x ∷ []) new
+tells_use net h x t cause old new using tells len each = record {
+  len = len ∙ tells.len;
+  each = λ k d below.
+      each k d (omega (arith, tells.len)) ∙ ap (λ p. cond (list_any (λ e. e == k) (edges_of net t cause)) Nothing p) (tells.each k d below)
+      ∙ sym (waiting_push net k h x ∙ ap (λ b. cond b (From (length h)) (cond (uses_edge net k x) Nothing (waiting net k h))) (using.no_gift k) ∙ ap (λ b. cond b Nothing (waiting net k h)) (using.edges net k));
+}
+
+-- after an End
+pub tells_end : (net : NetRows) (h : List Entry) (start : ℕ) (gives : List ℕ) (inner : Bool) (place : ℕ) (old new : List Part) → TellsWaiting net h old → place ≡ length h → length new ≡ length old
+    → ((k : ℕ) (d : Part) → k < length old → get_or new k d ≡ cond (list_any (λ e. e == k) gives) (From place) (get_or old k d)) → TellsWaiting net (h ++ End start gives inner ∷ []) new
+tells_end net h start gives inner place old new tells here len each = record {
+  len = len ∙ tells.len;
+  each = λ k d below.
+      each k d (omega (arith, tells.len)) ∙ ap (λ p. cond (list_any (λ e. e == k) gives) (From place) p) (tells.each k d below) ∙ ap (λ n. cond (list_any (λ e. e == k) gives) (From n) (waiting net k h)) here
+      ∙ sym (waiting_push net k h (End start gives inner));
+}
+
+-- and after a Fault
+pub tells_fault : (net : NetRows) (h : List Entry) (start : ℕ) (why : Why) (parts : List Part) → TellsWaiting net h parts → TellsWaiting net (h ++ Fault start why ∷ []) parts
+tells_fault net h start why parts tells = tells_same _ _ _ _ tells (λ e. waiting_push net e h (Fault start why))
+
+-- the parts read at edges are those that wait
+pub parts_read : (net : NetRows) (h : List Entry) (parts : List Part) (es : List ℕ) → TellsWaiting net h parts → All (λ e. e < length parts) es → map (λ e. get_or parts e Nothing) es ≡ map (λ e. waiting net e h) es
+parts_read net h parts es tells within =
+    map_agree (λ e. get_or parts e Nothing) (λ e. waiting net e h) es (recursion_from_All _ es (λ k d below. tells.each (get_or es k d) Nothing (omega (arith, within k d below, tells.len))))
+
+pub parts_answer : (net : NetRows) (h : List Entry) (parts : List Part) (es : List ℕ) (answer : Result (List Part) NoMemory) → TellsWaiting net h parts → All (λ e. e < length parts) es
+    → IfOk answer (λ list. list ≡ map (λ e. get_or parts e Nothing) es) → IfOk answer (λ list. list ≡ map (λ e. waiting net e h) es)
+parts_answer net h parts es (Err e) tells within read = tt
+parts_answer net h parts es (Ok list) tells within read = read ∙ parts_read net h parts es tells within

@@ -10,6 +10,9 @@ pub mod HaltLimitStuckRule
 pub mod ShapeLegal
 pub mod Complete
 pub mod Waiting
-pub mod Kept
+pub mod inside
 pub mod MachineState
 pub mod Machine
+pub mod Refusal
+pub mod Verdict
+pub mod Ready

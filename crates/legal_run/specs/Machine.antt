@@ -1,18 +1,17 @@
 -- The machine, as contracts see it, and what its steps do.
-use Rattle.std.specs.Prelude.{◌≡◌, ℕ, ◌<◌, Bool, List, [], ◌∷◌, ◌++◌, length, count_by, IsTrue, Some}
-use Rattle.std.specs.List.{AllByRecursion}
+use Rattle.std.specs.Prelude.{◌≡◌, ℕ, Bool, List, [], ◌∷◌, ◌++◌, length, Option, Some, None, MatchOption}
 use Rattle.legal_run.specs.declared.entry.Cause.{Cause}
+use Rattle.legal_run.specs.declared.entry.Why.{Why}
+use Rattle.legal_run.specs.declared.entry.DropWhy.{DropWhy}
 use Rattle.legal_run.specs.declared.entry.Entry.{Entry}
-use Rattle.legal_run.specs.declared.entry.Entry.TheVariants.{Start, End}
+use Rattle.legal_run.specs.declared.entry.Entry.TheVariants.{Start, End, Fault, Drop}
+use Rattle.legal_run.specs.declared.verdict.Break.{Break}
+use Rattle.legal_run.specs.declared.verdict.Break.TheVariants.{OverUnits, OverLimit, NoSuch as NoSuchNumber, AfterStuck as StuckBefore, NotReleased as NoRelease, NotOpen as NoOpenStart, NotChosen as NoChoice, NothingOut as NoUnitOut, NotOver as NoOverRelease, NotHalted as NoFault, NotStuck as NoStuckRun}
 use Rattle.legal_run.specs.declared.machine_error.MachineError.{MachineError}
 use Rattle.legal_run.specs.declared.machine_error.MachineError.TheVariants.{NoSuch, AfterStuck, NotReleased, NoUnit, AtLimit, NotOpen, NotChosen, NothingOut, NotOver, NotHalted, NotStuck, NoMemory}
 use Rattle.legal_run.specs.MachineState.{MachineState}
-use Rattle.legal_run.specs.Counts.{starts, start_at, is_open}
-use Rattle.legal_run.specs.ReleaseRule.{IsReleased}
-use Rattle.legal_run.specs.ChoiceRule.{ChoiceRule}
-use Rattle.legal_run.specs.SemaphoreRule.{takes, puts, taken, back, HasUnit}
-use Rattle.legal_run.specs.HaltLimitStuckRule.{is_stuck}
-use Rattle.legal_run.specs.ShapeLegal.{MayFollow, CauseInRange}
+use Rattle.legal_run.specs.ShapeLegal.{MayFollow}
+use Rattle.legal_run.specs.Refusal.{IsRefusal}
 use Rattle.legal_run.specs.Waiting.{waiting_parts}
 
 -- the entry stands last in the new journal, at this place, and could stand there
@@ -21,77 +20,41 @@ pub record Appends (old new : MachineState) (entry : Entry) (place : ℕ) : Type
   pub allowed : MayFollow old.net old.limit old.journal entry
   pub after : new ≡ record old { journal = old.journal ++ entry ∷ [] }
 
--- The Start finds what waits at the edges that release its task.
+-- the Start of a task by a release, which finds what waits at the edges that release the task
+abbrev pub start_entry : MachineState → ℕ → Cause → Entry
+start_entry m t cause = Start t cause (waiting_parts m.net t cause m.journal)
+
 abbrev pub Starts : MachineState → MachineState → ℕ → Cause → ℕ → Type 0
-Starts old new t cause place = Appends old new (Start t cause (waiting_parts old.net t cause old.journal)) place
+Starts old new t cause place = Appends old new (start_entry old t cause) place
 
 -- the End of the Start at a place
 abbrev pub Ends : MachineState → MachineState → ℕ → List ℕ → Bool → ℕ → Type 0
 Ends old new start gives inner place = Appends old new (End start gives inner) place
 
--- no release was dropped for want of a unit
-abbrev pub NoneStuck : MachineState → Type 0
-NoneStuck m = count_by is_stuck m.journal ≡ 0
+-- its Fault
+abbrev pub Faults : MachineState → MachineState → ℕ → Why → ℕ → Type 0
+Faults old new start why place = Appends old new (Fault start why) place
 
--- the numbers of a release are the net's
-abbrev pub NamesRelease : MachineState → ℕ → Cause → Type 0
-NamesRelease m t cause = (t < length m.net.tasks) × CauseInRange m.net cause
+-- the Drop of a release
+abbrev pub Drops : MachineState → MachineState → ℕ → Cause → DropWhy → ℕ → Type 0
+Drops old new t cause why place = Appends old new (Drop t cause why) place
 
--- the task has such a release, and a start may follow
-abbrev pub CanBeUsed : MachineState → ℕ → Cause → Type 0
-CanBeUsed m t cause = NamesRelease m t cause × NoneStuck m × IsReleased m.net m.journal t cause
+-- the break for which a machine refuses an entry with this error
+abbrev pub break_of : MachineError → Option Break
+break_of NoSuch = Some NoSuchNumber
+break_of AfterStuck = Some StuckBefore
+break_of NotReleased = Some NoRelease
+break_of (NoUnit s) = Some (OverUnits s)
+break_of AtLimit = Some OverLimit
+break_of NotOpen = Some NoOpenStart
+break_of NotChosen = Some NoChoice
+break_of (NothingOut s) = Some (NoUnitOut s)
+break_of NotOver = Some NoOverRelease
+break_of NotHalted = Some NoFault
+break_of NotStuck = Some NoStuckRun
+break_of NoMemory = None
 
--- each semaphore below s that the task takes has a unit
-abbrev pub HasUnitsBelow : MachineState → ℕ → ℕ → Type 0
-HasUnitsBelow m t s = (r : ℕ) → r < s → IsTrue (takes m.net r t) → HasUnit m.net r m.journal
-
--- When a start is refused: the first of these that holds, in this order. What the rules allow is refused for
--- want of memory alone.
-abbrev pub RefusesStart : MachineState → ℕ → Cause → MachineError → Type 0
-RefusesStart m t cause NoSuch = ¬ NamesRelease m t cause
-RefusesStart m t cause AfterStuck = NamesRelease m t cause × ¬ NoneStuck m
-RefusesStart m t cause NotReleased = NamesRelease m t cause × NoneStuck m × ¬ IsReleased m.net m.journal t cause
-RefusesStart m t cause (NoUnit s) = CanBeUsed m t cause × IsTrue (takes m.net s t) × HasUnitsBelow m t s × ¬ HasUnit m.net s m.journal
-RefusesStart m t cause AtLimit = CanBeUsed m t cause × HasUnitsBelow m t (length m.net.sems) × (starts m.journal ≡ m.limit)
-RefusesStart m t cause NotOpen = ⊥
-RefusesStart m t cause NotChosen = ⊥
-RefusesStart m t cause (NothingOut s) = ⊥
-RefusesStart m t cause NotOver = ⊥
-RefusesStart m t cause NotHalted = ⊥
-RefusesStart m t cause NotStuck = ⊥
-RefusesStart m t cause NoMemory = CanBeUsed m t cause × HasUnitsBelow m t (length m.net.sems) × (starts m.journal < m.limit)
-
--- the edges of an End are the net's
-abbrev pub NamesEdges : MachineState → List ℕ → Type 0
-NamesEdges m gives = AllByRecursion (λ e. e < length m.net.edges) gives
-
--- an End names an open Start, and nothing was dropped for want of a unit
-abbrev pub CanClose : MachineState → ℕ → List ℕ → Type 0
-CanClose m start gives = NamesEdges m gives × NoneStuck m × IsTrue (is_open m.journal start)
-
--- the task of the Start at a place puts the semaphore
-abbrev pub PutsAt : MachineState → ℕ → ℕ → Type 0
-PutsAt m start s = (t : ℕ) × (start_at m.journal start ≡ Some t) × IsTrue (puts m.net s t)
-
--- each semaphore below s that the Start's task puts has a unit out
-abbrev pub HasOutBelow : MachineState → ℕ → ℕ → Type 0
-HasOutBelow m start s = (r : ℕ) → r < s → PutsAt m start r → back m.net r m.journal < taken m.net r m.journal
-
--- When an end is refused: the first of these that holds, in this order. What the rules allow is refused for
--- want of memory alone.
-abbrev pub RefusesEnd : MachineState → ℕ → List ℕ → Bool → MachineError → Type 0
-RefusesEnd m start gives inner NoSuch = ¬ NamesEdges m gives
-RefusesEnd m start gives inner AfterStuck = NamesEdges m gives × ¬ NoneStuck m
-RefusesEnd m start gives inner NotReleased = ⊥
-RefusesEnd m start gives inner (NoUnit s) = ⊥
-RefusesEnd m start gives inner AtLimit = ⊥
-RefusesEnd m start gives inner NotOpen = NamesEdges m gives × NoneStuck m × ¬ IsTrue (is_open m.journal start)
-RefusesEnd m start gives inner NotChosen = CanClose m start gives × ¬ ChoiceRule m.net m.journal (End start gives inner)
-RefusesEnd m start gives inner (NothingOut s) =
-    CanClose m start gives × ChoiceRule m.net m.journal (End start gives inner)
-    × PutsAt m start s × HasOutBelow m start s × (back m.net s m.journal ≡ taken m.net s m.journal)
-RefusesEnd m start gives inner NotOver = ⊥
-RefusesEnd m start gives inner NotHalted = ⊥
-RefusesEnd m start gives inner NotStuck = ⊥
-RefusesEnd m start gives inner NoMemory =
-    CanClose m start gives × ChoiceRule m.net m.journal (End start gives inner) × HasOutBelow m start (length m.net.sems)
+-- A machine refuses an entry for the break that is told of it; and an entry that may follow for want of memory alone.
+abbrev pub Refuses : MachineState → Entry → MachineError → Type 0
+Refuses m entry error =
+    MatchOption (break_of error) (MayFollow m.net m.limit m.journal entry) (IsRefusal m.net m.limit m.journal entry)

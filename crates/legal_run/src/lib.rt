@@ -1,20 +1,32 @@
 //! Journals of runs: what an entry is, which journals are legal and complete, and a machine of one thread
 //! that keeps such a journal.
-//!
-//! The layer above sees a `Machine` as its net, its limit and its journal, and knows that the journal is
-//! shape-legal (`ShapeLegal`) and meets `DataRule`, and that `at_rest` is `Complete`. The definitions stand
-//! in `specs/`, a file for each rule. The crate `plain_rules` decides them slowly, by walking lists.
 #![tactic(auto)]
 
+mod choice;
+mod counts;
 mod entry;
+
+mod laws;
 mod machine;
 mod machine_error;
+mod marks;
 mod open_starts;
+mod position;
+mod ready;
+mod releases;
+mod rounds;
 mod slots;
 mod span;
-mod tallies;
+mod units;
+mod verdict;
+mod waiting;
+mod walk;
 
 pub use entry::{Cause, DropWhy, Entry, Journal, Part, Why};
+pub use walk::judge;
+pub use laws::{one_refusal_or_none, what_waits_after_an_entry};
 pub use machine::{MAX_LIMIT, Machine};
 pub use machine_error::MachineError;
+pub use ready::Ready;
 pub use span::Span;
+pub use verdict::{Break, Verdict};

@@ -1,75 +1,78 @@
 // The machine of one thread: it keeps a legal journal, and refuses each entry that would break it.
-ghost use Rattle.std.specs.Prelude.{◌≡◌, ◌↔◌, ◌≤◌, ◌<◌, ◌++◌, ◌∷◌, [], true, false, List, length, IsTrue, IfOk, IfErr, OnOk, OnErr, Some, ◌⊎◌};
+ghost use Rattle.std.specs.Prelude.{◌≡◌, ◌↔◌, ◌≤◌, ◌<◌, ◌++◌, ◌∷◌, ◌-◌, [], ℕ, List, length, map, IsTrue, IfOk, IfErr, OnOk, OnErr, ◌^◌};
 ghost use Rattle.std.specs.Arc.{arc_value};
-ghost use Rattle.task_graph.specs.Net.{IsPlainNet, out_edges};
-ghost use Rattle.legal_run.specs.declared.entry.Entry.TheVariants.{Start, End};
-ghost use Rattle.legal_run.specs.Counts.{starts, start_at, is_open};
-ghost use Rattle.legal_run.specs.ChoiceRule.{ChoiceRule};
-ghost use Rattle.legal_run.specs.ShapeLegal.{ShapeLegal, MeetsDataRule};
-ghost use Rattle.legal_run.specs.Complete.{Complete};
-ghost use Rattle.legal_run.specs.Machine.{Starts, Ends, RefusesStart, RefusesEnd, NamesRelease, CanBeUsed, CanClose};
+ghost use Rattle.task_graph.specs.Net.{strong_in};
+ghost use Rattle.legal_run.specs.declared.entry.Entry.TheVariants.{End, Fault, Drop};
+ghost use Rattle.legal_run.specs.Counts.{given, used, is_open};
+ghost use Rattle.legal_run.specs.ShapeLegal.{ShapeLegal, MeetsDataRule, CauseInRange};
+ghost use Rattle.legal_run.specs.Complete.{Complete, least};
+ghost use Rattle.legal_run.specs.Waiting.{waiting_parts};
+ghost use Rattle.legal_run.specs.Ready.{ready_list};
+ghost use Rattle.legal_run.specs.Machine.{Starts, Ends, Faults, Drops, Refuses, start_entry};
+ghost use Rattle.legal_run.specs.inside.Counted.{CountsOpen};
 
-use super::entry::{Cause, Entry, Journal};
+use super::counts::Counts;
+use super::entry::{Cause, DropWhy, Entry, Journal, Part, Why};
 use super::machine_error::MachineError;
+use super::marks::Marks;
 use super::open_starts::OpenStarts;
-use super::slots;
-use super::tallies::Tallies;
+use super::position::Position;
+use super::ready::Ready;
+use super::waiting::Waiting;
 use outside_io::{List, NoMemory};
 use std::alloc::Global;
 use std::marker::Model;
 use std::sync::Arc;
 use task_graph::Net;
 
-/// The most starts that a run may have.
+/// The most starts that a run of the program may have.
 pub const MAX_LIMIT: u64 = 2_097_153;
 
 /// A run of a net by one thread, as far as it has come.
 ///
-/// Contracts see the net, the limit of starts and the journal (`MachineState`). A step takes time in
-/// proportion to the edges of its task, whatever the length of the journal: beside the journal the machine
-/// keeps what the rules count in it.
+/// Contracts see the net, the limit of starts and the journal (`MachineState`). A step takes time in proportion to
+/// the edges and semaphores of its task, and an End of a task that chooses in proportion to the edges that it gives,
+/// whatever the length of the journal: beside the journal the machine keeps what the rules count in it.
 #[derive(Drop)]
 pub struct Machine {
     alloc: Global,
     net: Arc<Net>,
     limit: u64,
     journal: Journal,
-    running: OpenStarts,
-    tallies: Tallies,
-    made: u64,
+    counts: Counts,
+    waiting: Waiting,
+    marks: Marks,
 }
 
 impl Model for Machine {
     ghost use Rattle.std.specs.Arc.{arc_value};
     ghost use Rattle.legal_run.specs.MachineState.{MachineState};
+    ghost use Rattle.legal_run.specs.inside.Kept.{IsKept};
 
     ghost Value = { MachineState };
 
-    ghost use Rattle.legal_run.specs.Kept.{AreKept};
-
     ghost view = { λ m. record { net = arc_value m.net; limit = m.limit; journal = m.journal } };
 
-    ghost invariant = { λ m. AreKept (arc_value m.net) m.limit m.journal m.running m.tallies m.made };
+    ghost invariant = { λ m. IsKept (arc_value m.net) m.limit m.journal m.counts m.waiting.parts.items m.marks };
 }
 
 impl Machine {
-    /// A run that hasn't begun. The net has plain tasks alone, no semaphore is taken or put, and no edge
-    /// begins with a token.
+    /// A run that hasn't begun.
     pub fn new(alloc: Global, net: Arc<Net>, limit: u64) -> Result<Machine, NoMemory>
-        requires plain { IsPlainNet (arc_value net) }
-        requires limit { limit ≤ MAX_LIMIT }
         ensures { IfOk result (λ m. m ≡ record { net = arc_value net; limit = limit; journal = [] }) }
     {
         let _rows = net.tasks();
-        let tallies = Tallies::new(alloc, &net)?;
+        let counts = Counts::new(alloc, &net, 0)?;
+        let waiting = Waiting::new(alloc, &net)?;
+        let marks = Marks::new(alloc, net.edges().len())?;
         Ok(Machine {
             alloc,
             net,
             limit,
             journal: List::new(alloc),
-            running: OpenStarts::new(alloc),
-            tallies,
-            made: 0,
+            counts,
+            waiting,
+            marks,
         })
     }
 
@@ -91,147 +94,156 @@ impl Machine {
         self.journal
     }
 
-    /// Starts a task by a release, and gives the place of the Start. Its ins are what waits at the edges that
+    /// Starts a task by a release, and gives the index of the Start. Its parts are what waits at the edges that
     /// release it. After an `Err` nothing has changed.
     pub fn start(&mut self, task: u32, cause: Cause) -> Result<u64, MachineError>
         ensures started { IfOk result (Starts self.old self.new task cause) }
         ensures opened { IfOk result (λ place. IsTrue (is_open self.new.journal place)) }
-        ensures refused { IfErr result (RefusesStart self.old task cause) }
+        ensures refused { IfErr result (Refuses self.old (start_entry self.old task cause)) }
         ensures err { OnErr result (self.new ≡ self.old) }
     {
-        match self.check_start(task, cause) {
+        match self.position().check_start(task, cause) {
             Ok(()) => (),
-            Err(error) => return Err(error),
+            Err(broken) => return Err(broken.into()),
         }
-        let Ok(ins) = self.tallies.parts(self.alloc, &self.net, task, cause) else {
+        let Ok(ins) = self.waiting.parts_of(self.alloc, &self.net, task, cause) else {
             return Err(MachineError::NoMemory);
         };
-        let place = self.journal.len() as u64;
         let entry = Entry::Start { task, cause, ins };
-        let Ok(()) = append(&mut self.journal, &mut self.running, entry, true) else {
+        let Ok(place) = append(&mut self.journal, &mut self.counts.open_starts, entry) else {
             return Err(MachineError::NoMemory);
         };
-        self.tallies.use_release(&self.net, task, cause);
-        self.made += 1;
+        self.counts.start(&self.net, place, task, cause);
+        self.waiting.take(&self.net, task, cause);
         Ok(place)
     }
 
-    // Why a start is refused, if it is.
-    fn check_start(&self, task: u32, cause: Cause) -> Result<(), MachineError>
-        ensures ok { OnOk result (CanBeUsed self.now task cause × (starts self.now.journal < self.now.limit)) }
-        ensures refused { IfErr result (RefusesStart self.now task cause) }
-    {
-        if !self.names(task, cause) {
-            return Err(MachineError::NoSuch);
-        }
-        if !self.tallies.is_released(&self.net, task, cause) {
-            return Err(MachineError::NotReleased);
-        }
-        if self.made == self.limit {
-            return Err(MachineError::AtLimit);
-        }
-        Ok(())
-    }
-
-    /// Ends the start at a place, gives these edges a token each, and gives the place of the End. `inner` says
-    /// that the start's work was a run of its own. After an `Err` nothing has changed.
+    /// Ends the start at an index, gives these edges a token each, and gives the index of the End. `inner` says that
+    /// the start's work was a run of its own. After an `Err` nothing has changed.
     pub fn end(&mut self, start: u64, gives: &[u32], inner: bool) -> Result<u64, MachineError>
         ensures ended { IfOk result (Ends self.old self.new start gives.now inner) }
-        ensures refused { IfErr result (RefusesEnd self.old start gives.now inner) }
+        ensures refused { IfErr result (Refuses self.old (End start gives.now inner)) }
         ensures err { OnErr result (self.new ≡ self.old) }
     {
-        match self.check_end(start, gives, inner) {
-            Ok(()) => (),
-            Err(error) => return Err(error),
-        }
+        let journal = self.journal.as_slice();
+        let position = Position::new(&self.net, self.limit, journal, &self.counts);
+        let task = match position.check_end(&mut self.marks, start, gives, inner) {
+            Ok(task) => task,
+            Err(broken) => return Err(broken.into()),
+        };
         let Ok(list) = List::from_slice(self.alloc, gives) else {
             return Err(MachineError::NoMemory);
         };
-        let place = self.journal.len() as u64;
         let entry = Entry::End {
             start,
             gives: list,
             inner,
         };
-        let Ok(()) = append(&mut self.journal, &mut self.running, entry, false) else {
+        let Ok(place) = append(&mut self.journal, &mut self.counts.open_starts, entry) else {
             return Err(MachineError::NoMemory);
         };
-        self.running.close(start as usize);
-        self.tallies.give(gives, place);
+        self.counts.end(&self.net, place, start, task, gives);
+        self.waiting.give(gives, place);
         Ok(place)
     }
 
-    // Why an end is refused, if it is.
-    fn check_end(&self, start: u64, gives: &[u32], inner: bool) -> Result<(), MachineError>
-        ensures ok { OnOk result (CanClose self.now start gives.now
-            × ChoiceRule self.now.net self.now.journal (End start gives.now inner)) }
-        ensures refused { IfErr result (RefusesEnd self.now start gives.now inner) }
+    /// Records that the start at an index faulted, and gives the index of the Fault. After an `Err` nothing has
+    /// changed.
+    pub fn fault(&mut self, start: u64, why: Why) -> Result<u64, MachineError>
+        ensures faulted { IfOk result (Faults self.old self.new start why) }
+        ensures refused { IfErr result (Refuses self.old (Fault start why)) }
+        ensures err { OnErr result (self.new ≡ self.old) }
     {
-        if !slots::each_below(gives, self.net.edges().len()) {
-            return Err(MachineError::NoSuch);
-        }
-        if !self.running.is_open(start as usize) {
-            return Err(MachineError::NotOpen);
-        }
-        if !self.fits(self.task_of(start), gives, inner) {
-            return Err(MachineError::NotChosen);
-        }
-        Ok(())
+        let task = match self.position().check_fault(start, why) {
+            Ok(task) => task,
+            Err(broken) => return Err(broken.into()),
+        };
+        let entry = Entry::Fault { start, why };
+        let Ok(place) = append(&mut self.journal, &mut self.counts.open_starts, entry) else {
+            return Err(MachineError::NoMemory);
+        };
+        self.counts.fault(&self.net, place, start, task);
+        Ok(place)
     }
 
-    // The task of the open Start at a place.
-    fn task_of(&self, start: u64) -> u32
-        requires { IsTrue (is_open self.now.journal start) }
-        ensures task { start_at self.now.journal start ≡ Some result }
-        ensures in_range { result < length self.now.net.tasks }
+    /// Uses a release up without a start, and gives the index of the Drop. After an `Err` nothing has changed.
+    pub fn drop_release(&mut self, task: u32, cause: Cause, why: DropWhy) -> Result<u64, MachineError>
+        ensures dropped { IfOk result (Drops self.old self.new task cause why) }
+        ensures refused { IfErr result (Refuses self.old (Drop task cause why)) }
+        ensures err { OnErr result (self.new ≡ self.old) }
     {
-        match self.journal.get(start as usize) {
-            Some(Entry::Start { task, .. }) => *task,
-            _ => unreachable!(),
+        match self.position().check_drop(task, cause, why) {
+            Ok(()) => (),
+            Err(broken) => return Err(broken.into()),
         }
+        let entry = Entry::Drop { task, cause, why };
+        let Ok(place) = append(&mut self.journal, &mut self.counts.open_starts, entry) else {
+            return Err(MachineError::NoMemory);
+        };
+        self.counts.drop_release(&self.net, task, cause, why);
+        self.waiting.take(&self.net, task, cause);
+        Ok(place)
     }
 
-    // Whether an End of a plain task may give these edges.
-    fn fits(&self, task: u32, gives: &[u32], inner: bool) -> bool
-        requires { task < length self.now.net.tasks }
-        ensures { IsTrue result ↔ (((gives.now ≡ out_edges self.now.net task) ⊎ (gives.now ≡ [])) × (inner ≡ false)) }
-    {
-        !inner && (gives.is_empty() || gives == self.net.out_edges(task))
-    }
-
-    /// Whether the run is finished: nothing runs, and no release is left.
+    /// Whether the run is finished: nothing runs, no release is left, and releases were dropped at the limit only
+    /// where all the starts were made. It takes no memory, and time in proportion to the net.
     pub fn at_rest(&self) -> bool
         ensures { IsTrue result ↔ Complete self.now.net self.now.limit self.now.journal }
     {
-        self.running.is_empty() && self.tallies.are_used_up(&self.net)
+        self.position().is_complete()
     }
 
-    // Whether a release names a task and an edge of the net.
-    fn names(&self, task: u32, cause: Cause) -> bool
-        ensures { IsTrue result ↔ NamesRelease self.now task cause }
+    /// Each release that is left with how often it can be used, by rising task, and of a task as a source, by its
+    /// strong in-edges, and by its weak in-edges in order.
+    pub fn ready(&self) -> Result<List<Ready>, NoMemory>
+        ensures { IfOk result (λ list. list ≡ ready_list self.now.net self.now.journal) }
     {
-        let is_task = (task as usize) < self.net.tasks().len();
-        match cause {
-            Cause::Source | Cause::Strong => is_task,
-            Cause::Weak(edge) => is_task && (edge as usize) < self.net.edges().len(),
-        }
+        self.position().ready(self.alloc)
+    }
+
+    /// What a start by a release would find: the parts that wait at the edges which release the task.
+    pub fn parts(&self, task: u32, cause: Cause) -> Result<List<Part>, NoMemory>
+        requires task { task < length self.now.net.tasks }
+        requires cause { CauseInRange self.now.net cause }
+        ensures { IfOk result (λ parts. parts ≡ waiting_parts self.now.net task cause self.now.journal) }
+    {
+        self.waiting.parts_of(self.alloc, &self.net, task, cause)
+    }
+
+    /// How many rounds of tokens the strong in-edges of a task hold: how often it can be started by them.
+    pub fn rounds(&self, task: u32) -> u64
+        requires { task < length self.now.net.tasks }
+        ensures { result ≡ least (map (λ e. given self.now.net e self.now.journal) (strong_in self.now.net task)) - used task self.now.journal }
+    {
+        self.position().rounds(task)
+    }
+
+    // The position after the journal.
+    fn position(&self) -> Position<'_>
+        ensures { result ≡ self.now }
+    {
+        Position::new(&self.net, self.limit, self.journal.as_slice(), &self.counts)
     }
 }
 
-// Puts an entry at the end, with its flag, or neither.
+// Puts an entry at the end and gives its place, or changes nothing but the room for entries to come.
 fn append(
     journal: &mut Journal,
-    flags: &mut OpenStarts,
+    open_starts: &mut OpenStarts,
     entry: Entry,
-    is_open: bool,
-) -> Result<(), NoMemory>
-    ensures ok { OnOk result ((journal.new ≡ journal.old ++ entry ∷ []) × (flags.new ≡ flags.old ++ is_open ∷ [])) }
-    ensures err { OnErr result ((journal.new ≡ journal.old) × (flags.new ≡ flags.old)) }
+) -> Result<u64, NoMemory>
+    requires { CountsOpen journal.old open_starts.old }
+    ensures place { IfOk result (λ place. place ≡ length journal.old) }
+    ensures appended { OnOk result (journal.new ≡ journal.old ++ entry ∷ []) }
+    ensures room { OnOk result (length journal.old < length open_starts.new) }
+    ensures err { OnErr result (journal.new ≡ journal.old) }
+    ensures opened { CountsOpen journal.old open_starts.new }
+    ensures size { length journal.old < 2 ^ 61 }
 {
-    flags.push(is_open)?;
-    if journal.push(entry).is_err() {
-        flags.pop();
-        return Err(NoMemory);
+    let place = journal.as_slice().len();
+    if place == open_starts.room() {
+        open_starts.add_room()?;
     }
-    Ok(())
+    journal.push(entry)?;
+    Ok(place as u64)
 }

@@ -1,4 +1,8 @@
 // Why a machine refuses an entry.
+ghost use Rattle.std.specs.Prelude.{◌≡◌, Some};
+ghost use Rattle.legal_run.specs.Machine.{break_of};
+
+use super::verdict::Break;
 
 /// Why a machine refuses an entry. Where several hold, the first in this order is told.
 #[derive(Clone, Copy, Debug, PartialEq, Eq)]
@@ -27,4 +31,27 @@ pub enum MachineError {
     NotStuck,
     /// Memory was refused.
     NoMemory,
+}
+
+impl From<Break> for MachineError {
+    ghost use Rattle.std.specs.Prelude.{◌≡◌, Some};
+    ghost use Rattle.legal_run.specs.Machine.{break_of};
+
+    ghost from_gives = { λ of error. break_of error ≡ Some of };
+
+    fn from(of: Break) -> Self {
+        match of {
+            Break::NoSuch => MachineError::NoSuch,
+            Break::AfterStuck => MachineError::AfterStuck,
+            Break::NotReleased => MachineError::NotReleased,
+            Break::OverUnits(sem) => MachineError::NoUnit(sem),
+            Break::OverLimit => MachineError::AtLimit,
+            Break::NotOpen => MachineError::NotOpen,
+            Break::NotChosen => MachineError::NotChosen,
+            Break::NothingOut(sem) => MachineError::NothingOut(sem),
+            Break::NotOver => MachineError::NotOver,
+            Break::NotHalted => MachineError::NotHalted,
+            Break::NotStuck => MachineError::NotStuck,
+        }
+    }
 }

@@ -1,11 +1,11 @@
 // Which entries of a journal are open Starts, by their places, and how many.
-ghost use Rattle.std.specs.Prelude.{◌≡◌, ◌↔◌, ◌<◌, ◌++◌, ◌∷◌, [], Bool, true, false, List, length, IsTrue, OnOk, OnErr, slice_set, slice_get, take, count_by, Some, ◌+◌, ◌-◌};
+ghost use Rattle.std.specs.Prelude.{◌≡◌, ◌↔◌, ◌++◌, ◌∷◌, [], Bool, true, false, List, length, IsTrue, IfOk, OnOk, OnErr, slice_set, slice_get, count_by, replicate, Some};
 
 use outside_io::NoMemory;
 use std::alloc::Global;
 use std::marker::Model;
 
-/// A flag for each entry of a journal: whether it is an open Start.
+/// A flag for each place of a journal and perhaps for some to come: whether an open Start stands there.
 #[derive(Drop)]
 pub struct OpenStarts {
     flags: Vec<bool>,
@@ -23,39 +23,43 @@ impl Model for OpenStarts {
 }
 
 impl OpenStarts {
-    /// Those of the empty journal.
-    pub fn new(alloc: Global) -> OpenStarts
-        ensures { result ≡ [] }
+    /// Those of the empty journal, with room for so many entries.
+    #[tactic(auto, using(crate::proofs::Flags::none_of_clear))]
+    pub fn with_room(alloc: Global, room: usize) -> Result<OpenStarts, NoMemory>
+        ensures { IfOk result (λ flags. flags ≡ replicate room false) }
     {
-        OpenStarts {
-            flags: Vec::new(alloc),
+        Ok(OpenStarts {
+            flags: vec![in alloc; false; room]?,
             count: 0,
-        }
+        })
     }
 
-    /// Adds the flag of a new entry.
-    pub fn push(&mut self, is_open: bool) -> Result<(), NoMemory>
-        ensures ok { OnOk result (self.new ≡ self.old ++ is_open ∷ []) }
+    /// For how many entries there is room.
+    pub fn room(&self) -> usize
+        ensures { result ≡ length self.now }
+    {
+        self.flags.len()
+    }
+
+    /// Makes room for an entry more.
+    pub fn add_room(&mut self) -> Result<(), NoMemory>
+        ensures ok { OnOk result (self.new ≡ self.old ++ false ∷ []) }
         ensures err { OnErr result (self.new ≡ self.old) }
     {
-        if self.flags.push(is_open).is_err() {
+        if self.flags.push(false).is_err() {
             return Err(NoMemory);
-        }
-        if is_open {
-            self.count += 1;
         }
         Ok(())
     }
 
-    /// Takes the last flag off again.
-    pub fn pop(&mut self)
-        ensures { self.new ≡ take (length self.old - 1) self.old }
+    /// Opens a Start at a place.
+    #[tactic(auto, using(crate::proofs::Flags::count_raised))]
+    pub fn open(&mut self, place: usize)
+        requires { slice_get self.old place ≡ Some false }
+        ensures { self.new ≡ slice_set self.old place true }
     {
-        if let Some(flag) = self.flags.pop() {
-            if flag {
-                self.count -= 1;
-            }
-        }
+        self.flags[place] = true;
+        self.count += 1;
     }
 
     /// Closes the open Start at a place.
@@ -68,7 +72,7 @@ impl OpenStarts {
         self.count -= 1;
     }
 
-    /// Whether an open Start stands at a place; there is none past the end.
+    /// Whether an open Start stands at a place.
     pub fn is_open(&self, place: usize) -> bool
         ensures { IsTrue result ↔ (slice_get self.now place ≡ Some true) }
     {

@@ -18,19 +18,6 @@ pub fn add_one(counts: &mut Vec<u64>, at: usize)
     counts[at] += 1;
 }
 
-/// Adds one to the count at each place, once for each time that it is named.
-pub fn add_each(counts: &mut Vec<u64>, places: &[u32])
-    requires places { All (λ at. at < length counts.old.items) places.now }
-    requires room { All (λ n. n + length places.now < 2 ^ 64) counts.old.items }
-    ensures len { length counts.new.items ≡ length counts.old.items }
-    ensures each { (k d : ℕ) → k < length counts.old.items →
-        slice_index_or counts.new.items k d ≡ slice_index_or counts.old.items k d + count_by (λ at. at == k) places.now }
-{
-    for at in places {
-        counts[*at as usize] += 1;
-    }
-}
-
 /// Puts a part at each place.
 pub fn put_each(parts: &mut Vec<Part>, places: &[u32], part: Part)
     requires { All (λ at. at < length parts.old.items) places.now }
@@ -55,19 +42,6 @@ pub fn parts_at(alloc: Global, parts: &[Part], places: &[u32]) -> Result<List<Pa
     Ok(list)
 }
 
-/// Whether each count at these places is above a number.
-pub fn each_above(counts: &[u64], places: &[u32], number: u64) -> bool
-    requires { All (λ at. at < length counts.now) places.now }
-    ensures { IsTrue result ↔ All (λ at. number + 1 ≤ slice_index counts.now at) places.now }
-{
-    for at in places {
-        if counts[*at as usize] <= number {
-            return false;
-        }
-    }
-    true
-}
-
 /// The least count at these places, and 0 where there is no place.
 pub fn least_at(counts: &[u64], places: &[u32]) -> u64
     requires { All (λ at. at < length counts.now) places.now }
@@ -89,6 +63,20 @@ fn lowest(number: u64, counts: &[u64], places: &[u32]) -> u64
         least = least.min(counts[*at as usize]);
     }
     least
+}
+
+/// How many of the counts at these places are a number.
+pub fn count_at(counts: &[u64], places: &[u32], number: u64) -> u64
+    requires { All (λ at. at < length counts.now) places.now }
+    ensures { result ≡ count_by (λ at. slice_index counts.now at == number) places.now }
+{
+    let mut found = 0;
+    for at in places {
+        if counts[*at as usize] == number {
+            found += 1;
+        }
+    }
+    found
 }
 
 /// Whether each number is below a bound.

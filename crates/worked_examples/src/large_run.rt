@@ -1,8 +1,4 @@
 // A run of many tasks.
-ghost use Rattle.std.specs.Arc.{arc_value};
-ghost use Rattle.std.specs.Prelude.{IfOk};
-ghost use Rattle.task_graph.specs.Net.{IsPlainNet};
-
 use crate::nets::add_tasks;
 use legal_run::{Cause, MAX_LIMIT, Machine, MachineError};
 use std::alloc::Global;
@@ -16,7 +12,6 @@ const EDGES: u32 = 100_000;
 
 // The source of an edge is never the last task, and its target is a later task, at most ten tasks on.
 fn add_edges(builder: &mut NetBuilder) -> Result<(), BuildError>
-    ensures { IsPlainNet builder.old → IsPlainNet builder.new }
 {
     for edge in 0..EDGES {
         let from = edge % (TASKS - 1);
@@ -27,7 +22,6 @@ fn add_edges(builder: &mut NetBuilder) -> Result<(), BuildError>
 }
 
 fn large_net(alloc: Global) -> Result<Arc<Net>, Fail>
-    ensures { IfOk result (λ net. IsPlainNet (arc_value net)) }
 {
     let mut builder = NetBuilder::new(alloc);
     add_tasks(alloc, &mut builder, TASKS)?;

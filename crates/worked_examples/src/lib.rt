@@ -9,6 +9,8 @@ mod journals;
 #[cfg(test)]
 mod large_run;
 #[cfg(test)]
+mod looks;
+#[cfg(test)]
 mod nets;
 #[cfg(test)]
 mod small_runs;
@@ -16,3 +18,5 @@ mod small_runs;
 mod steps;
 #[cfg(test)]
 mod sweeps;
+#[cfg(test)]
+mod walks;

@@ -1,7 +1,9 @@
 // Small runs, step by step, with the answers that were worked out by hand.
-use crate::nets::plain_net;
-use crate::steps::{Step, compare_step, end, expect_legal, start};
-use legal_run::{Cause, Machine, MachineError};
+use crate::nets::{Rows, bound, net_of, plain_net};
+use crate::steps::{Step, compare_step, drop_of, end, expect_legal, fault, start};
+use legal_run::{Cause, DropWhy, Machine, MachineError, Why};
+use std::sync::Arc;
+use task_graph::Net;
 use std::alloc::Global;
 use std::process::Abort;
 use std::test::Fail;
@@ -26,13 +28,24 @@ fn expect_run(
     is_at_rest: bool,
 ) -> Result<(), Fail> {
     let net = plain_net(alloc, given.tasks, given.edges)?;
-    let limit = given.limit as u64;
+    expect_run_of(rt, alloc, &net, given.limit as u64, steps, is_at_rest)
+}
+
+// The same of any net.
+fn expect_run_of(
+    rt: &impl Abort,
+    alloc: Global,
+    net: &Arc<Net>,
+    limit: u64,
+    steps: &[(Step<'_>, Answer)],
+    is_at_rest: bool,
+) -> Result<(), Fail> {
     let mut machine = Machine::new(alloc, net.clone()?, limit)?;
     for (place, (step, expected)) in steps.iter().enumerate() {
-        let answer = compare_step(rt, alloc, &net, limit, &mut machine, *step)?;
+        let answer = compare_step(rt, alloc, net, limit, &mut machine, *step)?;
         assert_eq!(rt; answer, *expected, "step {place}");
     }
-    expect_legal(rt, &net, limit, &machine);
+    expect_legal(rt, net, limit, &machine);
     assert_eq!(rt; machine.at_rest(), is_at_rest);
     Ok(())
 }
@@ -156,4 +169,72 @@ fn unknown_numbers_are_refused(rt: HostRuntime) -> Result<(), Fail> {
         (start(0, Cause::Source), Err(MachineError::AtLimit)),
     ];
     expect_run(&rt, rt.alloc(), row, &steps, false)
+}
+
+// Task 0 takes the one unit, task 1 after it puts it back, and task 2 takes it.
+#[test]
+fn a_unit_goes_from_task_to_task(rt: HostRuntime) -> Result<(), Fail> {
+    let tasks = [bound(&[0], &[]), bound(&[], &[0]), bound(&[0], &[])];
+    let rows = Rows {
+        sems: &[1],
+        tasks: &tasks,
+        edges: &[(0, 1)],
+        rings: &[],
+    };
+    let net = net_of(rt.alloc(), rows)?;
+    let stuck = DropWhy::Stuck(0);
+    let steps = [
+        (start(0, Cause::Source), Ok(0)),
+        (drop_of(2, Cause::Source, stuck), Err(MachineError::NotStuck)),
+        (end(0, &[0]), Ok(1)),
+        (start(2, Cause::Source), Err(MachineError::NoUnit(0))),
+        (start(1, Cause::Strong), Ok(2)),
+        (fault(2, Why::OverRelease(0)), Err(MachineError::NotOver)),
+        (end(2, &[]), Ok(3)),
+        (start(2, Cause::Source), Ok(4)),
+        (end(4, &[]), Ok(5)),
+    ];
+    expect_run_of(&rt, rt.alloc(), &net, 10, &steps, true)
+}
+
+// Two tasks take the one unit, and none puts it back.
+#[test]
+fn a_run_gets_stuck(rt: HostRuntime) -> Result<(), Fail> {
+    let tasks = [bound(&[0], &[]), bound(&[0], &[])];
+    let rows = Rows {
+        sems: &[1],
+        tasks: &tasks,
+        edges: &[],
+        rings: &[],
+    };
+    let net = net_of(rt.alloc(), rows)?;
+    let steps = [
+        (start(0, Cause::Source), Ok(0)),
+        (end(0, &[]), Ok(1)),
+        (drop_of(1, Cause::Source, DropWhy::Halted), Err(MachineError::NotHalted)),
+        (drop_of(1, Cause::Source, DropWhy::Stuck(1)), Err(MachineError::NoSuch)),
+        (drop_of(1, Cause::Source, DropWhy::Stuck(0)), Ok(2)),
+        (start(1, Cause::Source), Err(MachineError::AfterStuck)),
+    ];
+    expect_run_of(&rt, rt.alloc(), &net, 10, &steps, true)
+}
+
+// The one task puts a unit that nobody took.
+#[test]
+fn a_unit_too_many_is_a_fault(rt: HostRuntime) -> Result<(), Fail> {
+    let tasks = [bound(&[], &[0])];
+    let rows = Rows {
+        sems: &[1],
+        tasks: &tasks,
+        edges: &[],
+        rings: &[],
+    };
+    let net = net_of(rt.alloc(), rows)?;
+    let steps = [
+        (start(0, Cause::Source), Ok(0)),
+        (end(0, &[]), Err(MachineError::NothingOut(0))),
+        (fault(0, Why::OverRelease(1)), Err(MachineError::NoSuch)),
+        (fault(0, Why::OverRelease(0)), Ok(1)),
+    ];
+    expect_run_of(&rt, rt.alloc(), &net, 10, &steps, true)
 }

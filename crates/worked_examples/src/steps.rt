@@ -1,5 +1,5 @@
 // Steps that a machine is asked for, each compared with what the rules decide.
-use legal_run::{Cause, Entry, Machine, MachineError};
+use legal_run::{Cause, DropWhy, Entry, Machine, MachineError, Why};
 use outside_io::{List, NoMemory};
 use plain_rules::{is_complete, is_shape_legal, may_follow, meets_data_rule};
 use std::alloc::Global;
@@ -18,6 +18,15 @@ pub enum Step<'g> {
         gives: &'g [u32],
         inner: bool,
     },
+    Fault {
+        start: u64,
+        why: Why,
+    },
+    Drop {
+        task: u32,
+        cause: Cause,
+        why: DropWhy,
+    },
 }
 
 /// A start by a release.
@@ -32,6 +41,16 @@ pub fn end(start: u64, gives: &[u32]) -> Step<'_> {
         gives,
         inner: false,
     }
+}
+
+/// A fault of a start.
+pub fn fault(start: u64, why: Why) -> Step<'static> {
+    Step::Fault { start, why }
+}
+
+/// A drop of a release.
+pub fn drop_of(task: u32, cause: Cause, why: DropWhy) -> Step<'static> {
+    Step::Drop { task, cause, why }
 }
 
 /// Asks for a step. The machine takes it exactly where the rules allow it, and is at rest exactly where its
@@ -79,10 +98,13 @@ fn entry_of(alloc: Global, step: Step<'_>) -> Result<Entry, NoMemory> {
             gives: List::from_slice(alloc, gives)?,
             inner,
         }),
+        Step::Fault { start, why } => Ok(Entry::Fault { start, why }),
+        Step::Drop { task, cause, why } => Ok(Entry::Drop { task, cause, why }),
     }
 }
 
-fn ask(machine: &mut Machine, step: Step<'_>) -> Result<u64, MachineError> {
+/// Asks for a step.
+pub fn ask(machine: &mut Machine, step: Step<'_>) -> Result<u64, MachineError> {
     match step {
         Step::Start { task, cause } => machine.start(task, cause),
         Step::End {
@@ -90,5 +112,7 @@ fn ask(machine: &mut Machine, step: Step<'_>) -> Result<u64, MachineError> {
             gives,
             inner,
         } => machine.end(start, gives, inner),
+        Step::Fault { start, why } => machine.fault(start, why),
+        Step::Drop { task, cause, why } => machine.drop_release(task, cause, why),
     }
 }

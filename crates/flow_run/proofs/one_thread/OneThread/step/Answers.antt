@@ -13,7 +13,8 @@ use Rattle.std.specs.Arc.{arc_value}
 use Rattle.task_graph.specs.NetRows.{NetRows}
 use Rattle.task_graph.specs.Net.{strong_in, out_edges}
 use Rattle.legal_run.specs.MachineState.{MachineState}
-use Rattle.legal_run.specs.Machine.{Starts, Ends, RefusesEnd}
+use Rattle.legal_run.specs.Machine.{Starts, Ends, Refuses}
+use Rattle.legal_run.specs.declared.entry.Entry.TheVariants.{End}
 use Rattle.legal_run.specs.Waiting.{waiting_parts}
 use Rattle.legal_run.specs.Counts.{is_open}
 use Rattle.legal_run.proofs.NetLemmas.{places_below, counted_once}
@@ -66,7 +67,7 @@ place_of-requires-2 c =
     let gives = c.out_edges-gives.ensures ∙ ap (λ (n : NetRows). out_edges n c.args.task) (c.deref-5.ensures ∙ net) in
     only_memory _ (λ error refuses. end_taken (arc_value run.job) run.machine.journal run.carried.items run.values run.ready.items c.args.task c.in_ok-start.start cause (waiting_parts run.machine.net c.args.task cause run.machine.journal) c.start.new.self error step c.requires.under
     (ap (λ (m : MachineState). m.net) begun.after ∙ c.requires.net) (ap (λ (m : MachineState). m.journal) begun.after) begun.stands opened refuses)
-    c.end.result (subst (λ es. IfErr c.end.result (RefusesEnd c.start.new.self c.in_ok-start.start es false)) gives c.end.ensures.refused)
+    c.end.result (subst (λ es. IfErr c.end.result (Refuses c.start.new.self (End c.in_ok-start.start es false))) gives c.end.ensures.refused)
 
 pub returns-clause-under_way : goal.returns-clause-under_way
 returns-clause-under_way c =

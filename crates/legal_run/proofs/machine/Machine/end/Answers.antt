@@ -1,35 +1,55 @@
+use Rattle.std.proofs.Common.{arith, refl, ap, sym, ◌∙◌, ◌<◌, length, List, []}
 use Rattle.std.specs.Arc.{arc_value}
-use Rattle.legal_run.proofs.Keeping.{has_ended, same_state, choice_gives, gives_once, gives_few, given_room, open_flag}
+use Rattle.legal_run.specs.declared.entry.Part.{Part}
+use Rattle.legal_run.specs.ShapeLegal.{MayFollow}
+use Rattle.legal_run.specs.declared.entry.Entry.TheVariants.{Start, End, Fault, Drop}
+use Rattle.legal_run.proofs.CountLaws.{can_grow, open_flag}
+use Rattle.legal_run.proofs.Keeping.{position_of, small_journal, counted_room, gives_once, has_ended, same_state}
 use Rattle.legal_run.proofs.machine.Machine.end.Goals as goal
 
-pub give-requires-clause-once : goal.give-requires-clause-once
-give-requires-clause-once c =
-    let can = rw (← c.self.view_is) at c.in-Ok.ensures.ok in
+pub new-position-requires : goal.new-position-requires
+new-position-requires c =
+    let journal = c.as_slice-journal.ensures in
+    rw (c.deref.ensures, journal) (position_of _ _ _ _ _ _ c.self.invariant (rw journal at (small_journal _ c.as_slice-journal.type_inv)))
+
+pub end-requires-clause-grow : goal.end-requires-clause-grow
+end-requires-clause-grow c =
     let net = arc_value c.self.inside.net in
-    let plainly = choice_gives net c.self.inside.journal c.args.start c.args.gives.now c.args.inner c.self.invariant.plain can.1 in
-    gives_once net c.self.inside.journal c.args.start c.args.gives.now plainly
+    let h = c.self.inside.journal in
+    let counted = counted_room net h c.self.inside.counts (record c.self.inside.counts { open_starts = c.append.new.open_starts }) c.self.invariant.counted c.in-Ok-append.ensures.opened refl refl refl refl refl refl in
+    rw c.deref-2.ensures (can_grow net h _ counted c.in-Ok-append.ensures.size)
+
+pub end-requires-clause-once : goal.end-requires-clause-once
+end-requires-clause-once c =
+    let journal = c.as_slice-journal.ensures in
+    let found = rw (c.new-position.ensures, c.deref.ensures, journal) at c.in-Ok.ensures.checked in
+    gives_once (arc_value c.self.inside.net) c.self.inside.journal c.args.start c.args.gives.now c.args.inner found.0.choice
+
+pub end-requires-clause-opened : goal.end-requires-clause-opened
+end-requires-clause-opened c =
+    let journal = c.as_slice-journal.ensures in
+    let found = rw (c.new-position.ensures, c.deref.ensures, journal) at c.in-Ok.ensures.checked in
+    open_flag c.self.inside.journal _ c.args.start c.in-Ok-append.ensures.opened found.0.closing
 
 pub invariant_of-self-2 : goal.invariant_of-self-2
 invariant_of-self-2 c =
-    let can = rw (← c.self.view_is) at c.in-Ok.ensures.ok in
-    (has_ended _ _ _ _ _ _ c.args.start c.args.gives.now c.in-Ok-from_slice.list c.args.inner _ _ _ _ c.len-place.result c.self.invariant can.0.0 can.0.2 can.1
-    c.in-Ok-from_slice.ensures c.in-Ok-append.ensures.ok.0 c.in-Ok-append.ensures.ok.1 c.close.ensures c.len-place.ensures c.give.ensures).kept
+    let net = arc_value c.self.inside.net in
+    let h = c.self.inside.journal in
+    let counted = counted_room net h c.self.inside.counts (record c.self.inside.counts { open_starts = c.append.new.open_starts }) c.self.invariant.counted c.in-Ok-append.ensures.opened refl refl refl refl refl refl in
+    let journal = c.as_slice-journal.ensures in
+    let found = rw (c.new-position.ensures, c.deref.ensures, journal) at c.in-Ok.ensures.checked in
+    let counts_it = rw c.deref-2.ensures at c.end.ensures.counted in
+    let done = has_ended net c.self.inside.limit c.args.start c.in-Ok.task _ h _ c.args.gives.now c.in-Ok-from_slice.list c.args.inner _ _ _ _ _ _ c.self.invariant found.0 found.1 c.in-Ok-from_slice.ensures c.in-Ok-append.ensures.appended c.in-Ok-append.ensures.place counted c.in-Ok-append.ensures.room counts_it c.give.ensures in
+    rw c.in-Ok.ensures.marks done.kept
 
 pub returns-clause-ended : goal.returns-clause-ended
 returns-clause-ended c =
-    let can = rw (← c.self.view_is) at c.in-Ok.ensures.ok in
-    let done = has_ended _ _ _ _ _ _ c.args.start c.args.gives.now c.in-Ok-from_slice.list c.args.inner _ _ _ _ c.len-place.result c.self.invariant can.0.0 can.0.2 can.1
-    c.in-Ok-from_slice.ensures c.in-Ok-append.ensures.ok.0 c.in-Ok-append.ensures.ok.1 c.close.ensures c.len-place.ensures c.give.ensures in
-    rw (← c.self.view_is) (record { stands = c.len-place.ensures; allowed = done.may; after = same_state _ _ _ _ done.journal })
-
-pub give-requires-clause-room : goal.give-requires-clause-room
-give-requires-clause-room c =
-    let can = rw (← c.self.view_is) at c.in-Ok.ensures.ok in
     let net = arc_value c.self.inside.net in
-    let plainly = choice_gives net c.self.inside.journal c.args.start c.args.gives.now c.args.inner c.self.invariant.plain can.1 in
-    given_room _ _ _ _ _ _ _ c.self.invariant (gives_few net c.self.inside.journal c.args.start c.args.gives.now plainly)
+    let h = c.self.inside.journal in
+    let counted = counted_room net h c.self.inside.counts (record c.self.inside.counts { open_starts = c.append.new.open_starts }) c.self.invariant.counted c.in-Ok-append.ensures.opened refl refl refl refl refl refl in
+    let journal = c.as_slice-journal.ensures in
+    let found = rw (c.new-position.ensures, c.deref.ensures, journal) at c.in-Ok.ensures.checked in
+    let counts_it = rw c.deref-2.ensures at c.end.ensures.counted in
+    let done = has_ended net c.self.inside.limit c.args.start c.in-Ok.task _ h _ c.args.gives.now c.in-Ok-from_slice.list c.args.inner _ _ _ _ _ _ c.self.invariant found.0 found.1 c.in-Ok-from_slice.ensures c.in-Ok-append.ensures.appended c.in-Ok-append.ensures.place counted c.in-Ok-append.ensures.room counts_it c.give.ensures in
+    rw (← c.self.view_is) (record { stands = c.in-Ok-append.ensures.place; allowed = done.may; after = same_state _ _ _ _ done.journal })
 
-pub close-requires : goal.close-requires
-close-requires c =
-    let can = rw (← c.self.view_is) at c.in-Ok.ensures.ok in
-    open_flag _ _ _ _ _ _ _ _ c.self.invariant can.0.2 c.in-Ok-append.ensures.ok.1

@@ -1,0 +1,27 @@
+use Rattle.std.proofs.Common.{refl, sym, ◌∙◌, ◌≡◌, ◌<◌, length, subst, ℕ, [], List}
+use Rattle.legal_run.specs.declared.entry.Part.{Part}
+use Rattle.legal_run.proofs.Reaching.{reached_push}
+use Rattle.legal_run.proofs.Keeping.{walk_position, gives_once}
+use Rattle.legal_run.proofs.CountLaws.{can_grow, next_closed, open_flag}
+use Rattle.legal_run.proofs.walk.Walk.end.Goals as goal
+
+pub new-position-requires : goal.new-position-requires
+new-position-requires c = walk_position _ _ _ _ c.requires.at.reached c.requires.at.counted c.requires.size
+
+pub end-requires-clause-grow : goal.end-requires-clause-grow
+end-requires-clause-grow c = can_grow _ _ _ c.requires.at.counted c.requires.size
+
+pub end-requires-clause-opened : goal.end-requires-clause-opened
+end-requires-clause-opened c = let found = rw c.new-position.ensures at c.in-Ok.ensures.checked in open_flag c.args.before.now _ c.args.start c.requires.at.counted.opened found.0.closing
+
+pub end-requires-clause-once : goal.end-requires-clause-once
+end-requires-clause-once c = let found = rw c.new-position.ensures at c.in-Ok.ensures.checked in gives_once c.args.net.now c.args.before.now c.args.start c.args.gives.now c.args.inner found.0.choice
+
+pub returns-clause-walks : goal.returns-clause-walks
+returns-clause-walks c =
+    let found = rw c.new-position.ensures at c.in-Ok.ensures.checked in
+    record {
+      reached = reached_push _ _ _ _ c.requires.at.reached found.0;
+      counted = c.end.ensures.counted c.args.limit c.args.before.now c.args.inner c.requires.at.reached refl c.requires.room found.1 c.requires.at.counted;
+      marks_are = c.in-Ok.ensures.marks ∙ c.requires.at.marks_are;
+    }

@@ -1,0 +1,42 @@
+-- The releases that are left, each with how often it can be used.
+use Rattle.std.specs.Prelude.{ℕ, ◌-◌, ◌==◌, List, [], ◌∷◌, ◌++◌, length, map, if◌then◌else◌}
+use Rattle.std.specs.List.{range_with_len}
+use Rattle.task_graph.specs.NetRows.{NetRows}
+use Rattle.task_graph.specs.Net.{in_edges, strong_in, weak_in}
+use Rattle.legal_run.specs.declared.entry.Cause.{Cause}
+use Rattle.legal_run.specs.declared.entry.Cause.TheVariants.{Source, Strong, Weak}
+use Rattle.legal_run.specs.declared.entry.Entry.{Entry}
+use Rattle.legal_run.specs.declared.ready.Ready.{Ready}
+use Rattle.legal_run.specs.Counts.{given, used, used_weak, used_source}
+use Rattle.legal_run.specs.Complete.{least}
+
+-- How often a release of a task can still be used: a source task has one in all; a task has as many by its strong
+-- in-edges as the least of them was given tokens; a weak edge as many as it was given.
+abbrev pub times_left : NetRows → List Entry → ℕ → Cause → ℕ
+times_left net journal t Source = if length (in_edges net t) == 0 then 1 - used_source t journal else 0
+times_left net journal t Strong = least (map (λ e. given net e journal) (strong_in net t)) - used t journal
+times_left net journal t (Weak e) = given net e journal - used_weak e journal
+
+-- a release, unless it can't be used any more
+abbrev pub ready_row : ℕ → Cause → ℕ → List Ready
+ready_row t cause times = if times == 0 then [] else record { task = t; cause = cause; times = times } ∷ []
+
+-- what is left by these weak edges into a task
+abbrev pub ready_weak : NetRows → List Entry → ℕ → List ℕ → List Ready
+ready_weak net journal t [] = []
+ready_weak net journal t (e ∷ es) = ready_row t (Weak e) (times_left net journal t (Weak e)) ++ ready_weak net journal t es
+
+-- what is left of a task: as a source, by its strong in-edges, and by its weak ones in order
+abbrev pub ready_of : NetRows → List Entry → ℕ → List Ready
+ready_of net journal t =
+    ready_row t Source (times_left net journal t Source) ++ (ready_row t Strong (times_left net journal t Strong)
+    ++ ready_weak net journal t (weak_in net t))
+
+-- what is left of these tasks
+abbrev pub ready_of_each : NetRows → List Entry → List ℕ → List Ready
+ready_of_each net journal [] = []
+ready_of_each net journal (t ∷ ts) = ready_of net journal t ++ ready_of_each net journal ts
+
+-- what is left, by rising task
+abbrev pub ready_list : NetRows → List Entry → List Ready
+ready_list net journal = ready_of_each net journal (range_with_len 0 (length net.tasks))
