@@ -1,6 +1,6 @@
 -- The counts of a journal after one entry more.
 use Rattle.std.proofs.Common.{◌≡◌, ◌≢◌, ◌⊎◌, inl, inr, ℕ, zero, suc, ◌+◌, ◌<◌, ◌≤◌, ◌^◌, Bool, true, false, not, ◌&&◌, cond, eqb, List, [], ◌∷◌, ◌++◌, length, Option, Some, None, sym, refl, ap, ◌∙◌, subst, arith, get_or, set, length-set, get_or-set_same, get_or-set_other, is_some, IsTrue, map}
-use Rattle.std.specs.Prelude.{count_by, ◌==◌, slice_get, All, replicate, MatchOption, IsSomeAnd}
+use Rattle.std.specs.Prelude.{count_by, ◌==◌, slice_get, replicate, MatchOption, IsSomeAnd}
 use Rattle.std.specs.Option.{option_and_then, option_map_or}
 use Rattle.std.specs.List.{enumerate_from}
 use Rattle.std.proofs.lemmas.List.FromFn.{length-enumerate_from}
@@ -19,24 +19,20 @@ use Rattle.legal_run.specs.declared.entry.Part.{Part}
 use Rattle.legal_run.specs.declared.entry.Why.{Why}
 use Rattle.legal_run.specs.declared.entry.Why.TheVariants.{OverRelease}
 use Rattle.legal_run.specs.declared.entry.DropWhy.{DropWhy}
-use Rattle.legal_run.specs.declared.entry.DropWhy.TheVariants.{Halted, Limit, Stuck}
 use Rattle.legal_run.specs.declared.entry.Entry.{Entry}
 use Rattle.legal_run.specs.declared.entry.Entry.TheVariants.{Start, End, Fault, Drop}
-use Rattle.legal_run.specs.declared.releases.Releases.{Releases}
-use Rattle.legal_run.specs.declared.units.UnitCount.{UnitCount}
 use Rattle.legal_run.specs.declared.counts.Counts.{Counts}
-use Rattle.legal_run.specs.Counts.{given, first_tokens, gives_edge, used, used_weak, used_source, uses, uses_any, is_strong, is_source, is_weak_at, starts, faults, started, start_at, is_open, closes, is_start, is_fault, NoneOpen}
-use Rattle.legal_run.specs.SemaphoreRule.{takes, puts, gives_back, taken, back, closed_takers, starts_at, IsOverRelease, OverReleaseRule}
+use Rattle.legal_run.specs.Counts.{given, first_tokens, gives_edge, used, used_weak, used_source, uses, uses_any, is_strong, is_source, is_weak_at, starts, started, start_at, is_open, closes, is_start, is_fault, NoneOpen}
+use Rattle.legal_run.specs.SemaphoreRule.{takes, puts, gives_back, starts_at, IsOverRelease, OverReleaseRule}
 use Rattle.legal_run.specs.HaltLimitStuckRule.{is_stuck}
 use Rattle.legal_run.specs.Complete.{Complete, is_limited, least}
 use Rattle.legal_run.specs.Entries.{EachAfterThese}
 use Rattle.legal_run.specs.ShapeLegal.{ShapeLegal, MayFollow}
 use Rattle.legal_run.specs.inside.Reached.{IsReached, ClosesTask}
-use Rattle.legal_run.specs.inside.Over.{putters}
-use Rattle.legal_run.specs.inside.Releases.{CountsReleases, AreFew, NoneLeft}
-use Rattle.legal_run.specs.inside.Units.{CountsUnits, AreSmall}
+use Rattle.legal_run.specs.inside.Releases.{CountsReleases, NoneLeft}
+use Rattle.legal_run.specs.inside.Units.{CountsUnits}
 use Rattle.legal_run.specs.inside.Counted.{CountsOpen, IsCounted, CanGrow}
-use Rattle.legal_run.proofs.Snoc.{count_by_push, is_open_push_below, start_at_push_last, slice_get_push_last}
+use Rattle.legal_run.proofs.Snoc.{count_by_push, is_open_push_below, start_at_push_last}
 use Rattle.legal_run.proofs.Tallying.{count_by_push_no, and_false, and_true}
 use Rattle.legal_run.proofs.UnitLaws.{unclosed, start_below, units_drop}
 use Rattle.legal_run.proofs.ReleaseLaws.{unused_counts, fault_no_use}

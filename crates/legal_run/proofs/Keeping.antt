@@ -1,11 +1,9 @@
 -- A machine's parts fit together after each step.
-use Rattle.std.proofs.Common.{◌≡◌, ◌≢◌, ◌⊎◌, inl, inr, ℕ, ◌+◌, ◌*◌, ◌<◌, ◌≤◌, ◌^◌, Bool, true, false, cond, List, [], ◌∷◌, ◌++◌, length, take, sym, refl, ap, ◌∙◌, subst, arith, get_or, map, Result, Ok, Err, Some, None, Option, IsTrue, is_some, ◌&&◌}
-use Rattle.std.specs.Prelude.{count_by, slice_get, ◌==◌, All, IsSomeAnd, MatchOption, MatchResult}
+use Rattle.std.proofs.Common.{◌≡◌, ◌⊎◌, inl, inr, ℕ, ◌+◌, ◌*◌, ◌<◌, ◌≤◌, ◌^◌, Bool, true, false, List, [], ◌∷◌, ◌++◌, length, take, sym, refl, ap, ◌∙◌, subst, arith, get_or, Some, None, Option, is_some, ◌&&◌}
+use Rattle.std.specs.Prelude.{count_by, slice_get, ◌==◌, IsSomeAnd, MatchOption}
 use Rattle.std.specs.Option.{option_and_then}
-use Rattle.std.specs.List.{AllByRecursion}
-use Rattle.std.proofs.lemmas.Bool.{cases_lt, false≢true}
+use Rattle.std.proofs.lemmas.Bool.{cases_lt}
 use Rattle.std.proofs.lemmas.List.{length_push, get_or_append_left, get_or_push, take_more}
-use Rattle.std.proofs.lemmas.List.Elements.{All-from_recursion}
 use Rattle.std.proofs.lemmas.Option.{slice_get_past, get_or_from_slice_get}
 use Rattle.std.proofs.lemmas.List.Sums.{count_by-le-length}
 use Rattle.task_graph.specs.NetRows.{NetRows}
@@ -23,11 +21,10 @@ use Rattle.legal_run.specs.declared.entry.Entry.TheVariants.{Start, End, Fault, 
 use Rattle.legal_run.specs.declared.verdict.Break.{Break}
 use Rattle.legal_run.specs.declared.counts.Counts.{Counts}
 use Rattle.legal_run.specs.declared.machine_error.MachineError.{MachineError}
-use Rattle.legal_run.specs.declared.machine_error.MachineError.TheVariants.{NoMemory}
 use Rattle.legal_run.specs.Counts.{started, start_at, is_open, closes}
-use Rattle.legal_run.specs.ChoiceRule.{ChoiceRule, GivesFit, InnerFits, AreAmong}
+use Rattle.legal_run.specs.ChoiceRule.{ChoiceRule, GivesFit, InnerFits}
 use Rattle.legal_run.specs.DataRule.{DataRule, edges_of}
-use Rattle.legal_run.specs.ShapeLegal.{ShapeLegal, MayFollow, MeetsDataRule}
+use Rattle.legal_run.specs.ShapeLegal.{MayFollow}
 use Rattle.legal_run.specs.Waiting.{waiting_parts}
 use Rattle.legal_run.specs.MachineState.{MachineState}
 use Rattle.legal_run.specs.Machine.{Refuses, break_of}
@@ -35,13 +32,13 @@ use Rattle.legal_run.specs.Refusal.{IsRefusal}
 use Rattle.legal_run.specs.inside.Reached.{IsReached, ClosesTask}
 use Rattle.legal_run.specs.inside.Releases.{CountsReleases, IsUseOf}
 use Rattle.legal_run.specs.inside.Units.{CountsUnits}
-use Rattle.legal_run.specs.inside.Waits.{Waits, TellsWaiting}
-use Rattle.legal_run.specs.inside.Counted.{CountsOpen, IsCounted, CanGrow, IsPosition}
+use Rattle.legal_run.specs.inside.Waits.{TellsWaiting}
+use Rattle.legal_run.specs.inside.Counted.{CountsOpen, IsCounted, IsPosition}
 use Rattle.legal_run.specs.declared.walk.Walk.{Walk}
 use Rattle.legal_run.specs.inside.Walks.{IsAt}
 use Rattle.legal_run.specs.inside.Kept.{IsLed, IsKept}
 use Rattle.legal_run.proofs.Snoc.{EachAfter-push}
-use Rattle.legal_run.proofs.NetLemmas.{counted_once, at_place}
+use Rattle.legal_run.proofs.NetLemmas.{counted_once}
 use Rattle.legal_run.proofs.Marking.{distinct_once}
 use Rattle.legal_run.proofs.Reaching.{reached_push, reached_empty, released_held}
 use Rattle.legal_run.proofs.CountLaws.{can_grow, is_open_push_last}

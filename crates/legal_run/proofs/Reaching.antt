@@ -15,8 +15,8 @@ use Rattle.legal_run.specs.declared.entry.Cause.{Cause}
 use Rattle.legal_run.specs.declared.entry.Cause.TheVariants.{Source, Strong, Weak}
 use Rattle.legal_run.specs.declared.entry.Entry.{Entry}
 use Rattle.legal_run.specs.declared.entry.Entry.TheVariants.{Start, End, Fault, Drop}
-use Rattle.legal_run.specs.Counts.{given, gives_edge, used, used_weak, uses, uses_any, is_strong, is_weak_at, started, is_open, closes}
-use Rattle.legal_run.specs.Entries.{EachAfter, EachAfterThese}
+use Rattle.legal_run.specs.Counts.{given, used, used_weak, uses, uses_any, is_strong, is_weak_at, started, is_open, closes}
+use Rattle.legal_run.specs.Entries.{EachAfterThese}
 use Rattle.legal_run.specs.ReleaseRule.{IsReleased}
 use Rattle.legal_run.specs.Calm.{used_at}
 use Rattle.legal_run.specs.DataRule.{edges_of}
@@ -25,7 +25,7 @@ use Rattle.legal_run.specs.ShapeLegal.{ShapeLegal, MayFollow}
 use Rattle.legal_run.specs.inside.Reached.{ClosesBelow, IsReached}
 use Rattle.legal_run.specs.inside.Releases.{IsUseOf, IsNoUse}
 use Rattle.legal_run.proofs.Snoc.{count_by_push, EachAfter-push}
-use Rattle.legal_run.proofs.Tallying.{given_push, count_by_push_no, and_false, and_true}
+use Rattle.legal_run.proofs.Tallying.{given_push, count_by_push_no, and_false}
 use Rattle.legal_run.proofs.NetLemmas.{any_place}
 use Rattle.legal_run.proofs.ReleaseLaws.{start_use, drop_use, end_no_use, fault_no_use}
 

@@ -1,8 +1,8 @@
 -- Which break of an entry is told, and when it may follow.
-use Rattle.std.proofs.Common.{◌≡◌, ◌≢◌, ◌⊎◌, inl, inr, ℕ, suc, ◌+◌, ◌<◌, ◌≤◌, Bool, true, false, not, ◌&&◌, cond, eqb, List, [], ◌∷◌, ◌++◌, length, Option, Some, None, sym, refl, ap, ◌∙◌, subst, arith, get_or, IsTrue, is_some, Result, Ok, Err}
-use Rattle.std.specs.Prelude.{count_by, ◌==◌, slice_get, IsSomeAnd, MatchResult}
+use Rattle.std.proofs.Common.{◌≡◌, ◌≢◌, ◌⊎◌, inl, inr, ℕ, ◌+◌, ◌<◌, ◌≤◌, Bool, true, false, cond, List, [], ◌∷◌, ◌++◌, length, Option, Some, None, refl, ap, ◌∙◌, arith, IsTrue, Result, Ok, Err}
+use Rattle.std.specs.Prelude.{◌==◌, slice_get, IsSomeAnd, MatchResult}
 use Rattle.std.specs.Option.{option_map_or}
-use Rattle.std.specs.List.{AllByRecursion, range_with_len, list_any}
+use Rattle.std.specs.List.{AllByRecursion, list_any}
 use Rattle.std.proofs.lemmas.Bool.{cases_eq, cases_lt, false≢true}
 use Rattle.task_graph.specs.NetRows.{NetRows}
 use Rattle.task_graph.specs.Net.{IsNet, IsTaskOf}
@@ -16,16 +16,16 @@ use Rattle.legal_run.specs.declared.entry.Entry.{Entry}
 use Rattle.legal_run.specs.declared.entry.Entry.TheVariants.{Start, End, Fault, Drop}
 use Rattle.legal_run.specs.declared.verdict.Break.{Break}
 use Rattle.legal_run.specs.declared.verdict.Break.TheVariants.{NoSuch, AfterStuck, NotReleased, OverUnits, OverLimit, NotOpen, NotChosen, NothingOut, NotOver, NotHalted, NotStuck}
-use Rattle.legal_run.specs.Counts.{starts, start_at, started, is_open}
+use Rattle.legal_run.specs.Counts.{starts, start_at, is_open}
 use Rattle.legal_run.specs.ReleaseRule.{IsReleased, ReleaseRule}
 use Rattle.legal_run.specs.ClosingRule.{ClosingRule}
 use Rattle.legal_run.specs.ChoiceRule.{ChoiceRule}
-use Rattle.legal_run.specs.SemaphoreRule.{takes, puts, taken, back, max_of, HasUnit, IsWithin, FaultRule}
+use Rattle.legal_run.specs.SemaphoreRule.{takes, puts, taken, back, max_of, IsWithin, FaultRule}
 use Rattle.legal_run.specs.HaltLimitStuckRule.{AfterStuckRule, DropRule, is_stuck_why}
 use Rattle.legal_run.specs.ShapeLegal.{IsInRange, CauseInRange, WhyInRange, DropWhyInRange, MayFollow}
 use Rattle.legal_run.specs.Refusal.{Breaks, rank, IsRefusal, IsLeast, WantsUnit, PutsWithNothingOut, StartsWithoutUnit, StartsAtLimit, EndsWithNothingOut, DropsWithoutCause, is_halted_why}
 use Rattle.legal_run.specs.inside.Checks.{BreaksWhy}
-use Rattle.legal_run.specs.inside.Reached.{IsReached, ClosesTask}
+use Rattle.legal_run.specs.inside.Reached.{IsReached}
 use Rattle.legal_run.proofs.UnitLaws.{taken_push, back_push, start_below, named_in_range}
 use Rattle.legal_run.proofs.Snoc.{start_at_push_below}
 use Rattle.legal_run.proofs.Reaching.{each_below, at_below}

@@ -1,12 +1,10 @@
 -- What is counted of releases after one entry more, and what the counts decide.
-use Rattle.std.proofs.Common.{◌≡◌, ◌≢◌, ◌⊎◌, inl, inr, ℕ, suc, ◌+◌, ◌-◌, ◌<◌, ◌≤◌, Bool, true, false, not, ◌&&◌, cond, eqb, min, List, [], ◌∷◌, ◌++◌, length, map, fold, Option, Some, None, sym, refl, ap, ◌∙◌, subst, arith, get_or, set}
-use Rattle.std.specs.Prelude.{count_by, ◌==◌, slice_get, All}
-use Rattle.std.specs.List.{list_any, AllByRecursion}
-use Rattle.std.proofs.lemmas.Bool.Decides.{nat_tests}
-use Rattle.std.proofs.lemmas.List.Elements.{All-from_recursion, recursion_from_All}
-use Rattle.std.proofs.lemmas.List.{get_or_default}
+use Rattle.std.proofs.Common.{◌≡◌, ◌≢◌, ℕ, ◌+◌, ◌<◌, ◌≤◌, Bool, true, false, ◌&&◌, cond, eqb, min, List, [], ◌∷◌, ◌++◌, length, map, fold, sym, refl, ap, ◌∙◌, subst, arith, get_or, set}
+use Rattle.std.specs.Prelude.{count_by, ◌==◌}
+use Rattle.std.specs.List.{AllByRecursion}
+use Rattle.std.proofs.lemmas.List.Elements.{recursion_from_All}
 use Rattle.task_graph.specs.NetRows.{NetRows}
-use Rattle.task_graph.specs.Net.{strong_in, is_weak, IsSource}
+use Rattle.task_graph.specs.Net.{strong_in}
 use Rattle.legal_run.specs.declared.entry.Cause.{Cause}
 use Rattle.legal_run.specs.declared.entry.Cause.TheVariants.{Source, Strong, Weak}
 use Rattle.legal_run.specs.declared.entry.Part.{Part}

@@ -1,9 +1,9 @@
 -- Counts of Starts by place and task, and what they say of units given back too often.
-use Rattle.std.proofs.Common.{◌≡◌, ◌≢◌, ◌⊎◌, inl, inr, ℕ, zero, suc, ◌+◌, ◌<◌, ◌≤◌, Bool, true, false, not, ◌&&◌, cond, eqb, List, [], ◌∷◌, ◌++◌, length, take, Option, Some, None, sym, refl, ap, ◌∙◌, subst, arith, IsTrue}
-use Rattle.std.specs.Prelude.{count_by, ◌==◌, IsSomeAnd, slice_get}
+use Rattle.std.proofs.Common.{◌≡◌, ◌≢◌, ◌⊎◌, inl, inr, ℕ, zero, suc, ◌+◌, ◌<◌, ◌≤◌, Bool, true, false, not, ◌&&◌, cond, eqb, List, [], ◌∷◌, ◌++◌, length, take, Option, Some, None, sym, refl, ap, ◌∙◌, subst, arith}
+use Rattle.std.specs.Prelude.{count_by, ◌==◌, slice_get}
 use Rattle.std.specs.Option.{option_map_or, option_and_then}
 use Rattle.std.specs.List.{enumerate_from}
-use Rattle.std.proofs.lemmas.Bool.{cases_eq, cases_lt, false≢true}
+use Rattle.std.proofs.lemmas.Bool.{cases_lt}
 use Rattle.std.proofs.lemmas.Bool.Decides.{nat_tests}
 use Rattle.std.proofs.lemmas.List.Sums.{sum_by-cons}
 use Rattle.std.proofs.lemmas.List.{take_all, take-append-le, length_push}
@@ -12,7 +12,7 @@ use Rattle.legal_run.specs.declared.entry.Entry.{Entry}
 use Rattle.legal_run.specs.Counts.{started, start_at, closes}
 use Rattle.legal_run.specs.SemaphoreRule.{takes, puts, starts_at, closed_takers, other_putters, IsOverRelease}
 use Rattle.legal_run.specs.inside.Over.{putters, IsOver, WasOver}
-use Rattle.legal_run.proofs.Snoc.{count_by_push, start_at_push_below}
+use Rattle.legal_run.proofs.Snoc.{count_by_push}
 
 -- whether the Start that an entry is passes, at a place
 abbrev pub passes_at : (ℕ → ℕ → Bool) → ℕ → Entry → Bool

@@ -76,4 +76,3 @@ count_once p (x ∷ xs) once = by_head (p x) (count_by p xs) (list_any p xs) (su
 -- the strong in-edges of a task have places in a list as long as the net's edges
 pub strong_in_tallied : {X : Type 0} (net : NetRows) (t : ℕ) (edges : List ℕ) (xs : List X) → edges ≡ strong_in net t → length xs ≡ length net.edges → All (λ e. e < length xs) edges
 strong_in_tallied net t edges xs is len = subst (λ es. All (λ e. e < length xs) es) (sym is) (subst (λ n. All (λ e. e < n) (strong_in net t)) (sym len) (places_below (λ row. (row.to == t) && not (is_weak_row net row)) net.edges))
-

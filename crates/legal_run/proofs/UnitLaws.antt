@@ -1,16 +1,16 @@
 -- What is counted of a semaphore after one entry more.
-use Rattle.std.proofs.Common.{◌≡◌, ◌≢◌, ◌⊎◌, inl, inr, ℕ, suc, ◌+◌, ◌<◌, ◌≤◌, ◌^◌, Bool, true, false, not, ◌&&◌, cond, eqb, List, [], ◌∷◌, ◌++◌, length, Option, Some, None, sym, refl, ap, ◌∙◌, subst, arith, get_or, is_some}
+use Rattle.std.proofs.Common.{◌≡◌, ◌≢◌, ◌⊎◌, inl, inr, ℕ, ◌+◌, ◌<◌, ◌≤◌, Bool, true, false, not, ◌&&◌, cond, eqb, List, [], ◌∷◌, ◌++◌, length, Option, Some, None, sym, refl, ap, ◌∙◌, subst, arith, get_or}
 use Rattle.std.specs.Prelude.{count_by, ◌==◌, slice_get, All, Any, MatchOption}
 use Rattle.std.specs.List.Sorted.{IsStrictlyIncreasing}
 use Rattle.std.proofs.lemmas.List.Folds.{Any-from_list_any}
 use Rattle.std.proofs.lemmas.List.Kept.{AllPairs-from_increasing}
 use Rattle.std.specs.Option.{option_map_or, option_and_then}
 use Rattle.std.specs.List.{list_any, AllByRecursion}
-use Rattle.std.proofs.lemmas.Bool.{cases_eq, cases_lt, false≢true, eqb-true}
+use Rattle.std.proofs.lemmas.Bool.{cases_eq, cases_lt, eqb-true}
 use Rattle.std.proofs.lemmas.Bool.Decides.{nat_tests}
-use Rattle.std.proofs.lemmas.List.Sums.{sum_by-cons, count_by-le-length}
-use Rattle.std.proofs.lemmas.List.{length_push, get_or_default}
-use Rattle.std.proofs.lemmas.Option.{slice_get-get_or, slice_get_within}
+use Rattle.std.proofs.lemmas.List.Sums.{sum_by-cons}
+use Rattle.std.proofs.lemmas.List.{get_or_default}
+use Rattle.std.proofs.lemmas.Option.{slice_get_within}
 use Rattle.task_graph.specs.NetRows.{NetRows}
 use Rattle.task_graph.specs.Net.{AreSemaphoresOf}
 use Rattle.task_graph.specs.declared.net.TaskRow.{TaskRow}
@@ -28,7 +28,6 @@ use Rattle.legal_run.specs.inside.Reached.{ClosesBelow, ClosesTask, IsReached, I
 use Rattle.legal_run.specs.inside.Over.{putters, IsOver, WasOver}
 use Rattle.legal_run.specs.inside.Units.{CountsUnit, CountsUnits, IsFirstWithout, HasUnitLeft, IsOut, no_units, Changed, always, is_other, with_taken, with_putter, with_back, with_closed}
 use Rattle.legal_run.proofs.Snoc.{count_by_push, start_at_push_below}
-use Rattle.legal_run.proofs.Tallying.{count_by_push_no}
 use Rattle.legal_run.proofs.StartsAt.{putters_push, closed_takers_open, closed_takers_closed, was_over_still, was_over_before, over_release_is}
 use Rattle.legal_run.proofs.Changing.{any_found}
 

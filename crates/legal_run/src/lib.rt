@@ -5,7 +5,6 @@
 mod choice;
 mod counts;
 mod entry;
-
 mod laws;
 mod machine;
 mod machine_error;
@@ -23,10 +22,10 @@ mod waiting;
 mod walk;
 
 pub use entry::{Cause, DropWhy, Entry, Journal, Part, Why};
-pub use walk::judge;
 pub use laws::{one_refusal_or_none, what_waits_after_an_entry};
 pub use machine::{MAX_LIMIT, Machine};
 pub use machine_error::MachineError;
 pub use ready::Ready;
 pub use span::Span;
 pub use verdict::{Break, Verdict};
+pub use walk::judge;

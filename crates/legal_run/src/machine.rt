@@ -167,7 +167,12 @@ impl Machine {
     }
 
     /// Uses a release up without a start, and gives the index of the Drop. After an `Err` nothing has changed.
-    pub fn drop_release(&mut self, task: u32, cause: Cause, why: DropWhy) -> Result<u64, MachineError>
+    pub fn drop_release(
+        &mut self,
+        task: u32,
+        cause: Cause,
+        why: DropWhy,
+    ) -> Result<u64, MachineError>
         ensures dropped { IfOk result (Drops self.old self.new task cause why) }
         ensures refused { IfErr result (Refuses self.old (Drop task cause why)) }
         ensures err { OnErr result (self.new ≡ self.old) }

@@ -118,7 +118,13 @@ impl<'j> Position<'j> {
     }
 
     /// Which rule an End breaks, if any; else the task of the start that it closes.
-    pub fn check_end(&self, marks: &mut Marks, start: u64, gives: &[u32], inner: bool) -> Result<u32, Break>
+    pub fn check_end(
+        &self,
+        marks: &mut Marks,
+        start: u64,
+        gives: &[u32],
+        inner: bool,
+    ) -> Result<u32, Break>
         requires { marks.old ≡ length self.now.net.edges }
         ensures checked { MatchResult result (λ task. MayFollow self.now.net self.now.limit self.now.journal (End start gives.now inner) × ClosesTask self.now.journal start task)
             (λ break. IsRefusal self.now.net self.now.limit self.now.journal (End start gives.now inner) break) }

@@ -34,7 +34,12 @@ pub fn ready_list(alloc: Global, net: &Net, releases: &Releases) -> Result<List<
 }
 
 // Adds what is left of a task.
-fn add_task(list: &mut List<Ready>, net: &Net, releases: &Releases, task: u32) -> Result<(), NoMemory>
+fn add_task(
+    list: &mut List<Ready>,
+    net: &Net,
+    releases: &Releases,
+    task: u32,
+) -> Result<(), NoMemory>
     requires task { task < length net.now.tasks }
     requires few { AreFew net.now releases.now }
     ensures { (journal : List Entry) → CountsReleases net.now journal releases.now → OnOk result (list.new ≡ list.old ++ ready_of net.now journal task) }
@@ -45,13 +50,24 @@ fn add_task(list: &mut List<Ready>, net: &Net, releases: &Releases, task: u32) -
 }
 
 // Adds what is left by these weak edges into a task.
-fn add_weak(list: &mut List<Ready>, net: &Net, releases: &Releases, task: u32, edges: &[u32]) -> Result<(), NoMemory>
+fn add_weak(
+    list: &mut List<Ready>,
+    net: &Net,
+    releases: &Releases,
+    task: u32,
+    edges: &[u32],
+) -> Result<(), NoMemory>
     requires edges { All (λ e. e < length net.now.edges) edges.now }
     requires few { AreFew net.now releases.now }
     ensures { (journal : List Entry) → CountsReleases net.now journal releases.now → OnOk result (list.new ≡ list.old ++ ready_weak net.now journal task edges.now) }
 {
     for edge in edges {
-        add_row(list, task, Cause::Weak(*edge), releases.tokens_left(net, *edge))?;
+        add_row(
+            list,
+            task,
+            Cause::Weak(*edge),
+            releases.tokens_left(net, *edge),
+        )?;
     }
     Ok(())
 }

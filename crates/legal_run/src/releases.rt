@@ -191,7 +191,6 @@ impl Releases {
         requires few { AreFew net.now self.now }
         ensures { IsTrue result ↔ WeakUsed net.now self.now edge }
     {
-        !net.is_weak(edge)
-            || self.used_weak[edge as usize] == self.rounds.given[edge as usize]
+        !net.is_weak(edge) || self.used_weak[edge as usize] == self.rounds.given[edge as usize]
     }
 }

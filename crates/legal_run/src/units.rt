@@ -2,7 +2,6 @@
 ghost use Rattle.std.specs.Prelude.{◌≡◌, ◌==◌, ◌<◌, ◌^◌, ◌++◌, ◌∷◌, [], ◌↔◌, ◌⊎◌, ◌+◌, ℕ, Bool, List, Some, length, IsTrue, IfOk, All, MatchOption};
 ghost use Rattle.std.specs.List.{list_any};
 ghost use Rattle.std.specs.List.Sorted.{IsStrictlyIncreasing};
-
 ghost use Rattle.legal_run.specs.declared.entry.Cause.{Cause};
 ghost use Rattle.legal_run.specs.declared.entry.Part.{Part};
 ghost use Rattle.legal_run.specs.declared.entry.Why.{Why};
@@ -182,7 +181,12 @@ impl Units {
             → CountsUnits net.now journal self.old.counts.items → CountsUnits net.now (journal ++ Fault start why ∷ []) self.new.counts.items }
     {
         let row = task_row(net, task);
-        close_takers(&mut self.counts, row.takes.as_slice(), row.puts.as_slice(), place);
+        close_takers(
+            &mut self.counts,
+            row.takes.as_slice(),
+            row.puts.as_slice(),
+            place,
+        );
     }
 }
 

@@ -64,7 +64,13 @@ impl Waiting {
     }
 
     /// What waits at each edge that releases a task by a cause.
-    pub fn parts_of(&self, alloc: Global, net: &Net, task: u32, cause: Cause) -> Result<List<Part>, NoMemory>
+    pub fn parts_of(
+        &self,
+        alloc: Global,
+        net: &Net,
+        task: u32,
+        cause: Cause,
+    ) -> Result<List<Part>, NoMemory>
         requires task { task < length net.now.tasks }
         requires cause { CauseInRange net.now cause }
         requires len { length self.now.parts.items ≡ length net.now.edges }

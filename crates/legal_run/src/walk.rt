@@ -16,12 +16,7 @@ use task_graph::Net;
 
 /// Judges a journal in one pass: whether it is legal as far as the net decides, and that of a finished run, or which
 /// entry is the first that may not stand where it stands, and why. What the starts found isn't judged.
-pub fn judge(
-    alloc: Global,
-    net: &Net,
-    limit: u64,
-    journal: &Journal,
-) -> Result<Verdict, NoMemory>
+pub fn judge(alloc: Global, net: &Net, limit: u64, journal: &Journal) -> Result<Verdict, NoMemory>
     ensures { IfOk result (IsVerdict net.now limit journal.now) }
 {
     let entries = journal.as_slice();
@@ -64,14 +59,29 @@ impl Walk {
         let before = &entries[..place];
         match entries.get(place) {
             Some(Entry::Start { task, cause, .. }) => self.start(net, limit, before, *task, *cause),
-            Some(Entry::End { start, gives, inner }) => self.end(net, limit, before, *start, gives.as_slice(), *inner),
+            Some(
+                Entry::End {
+                    start,
+                    gives,
+                    inner,
+                },
+            ) => self.end(net, limit, before, *start, gives.as_slice(), *inner),
             Some(Entry::Fault { start, why }) => self.fault(net, limit, before, *start, *why),
-            Some(Entry::Drop { task, cause, why }) => self.drop_release(net, limit, before, *task, *cause, *why),
+            Some(Entry::Drop { task, cause, why }) => self.drop_release(
+                net, limit, before, *task, *cause, *why,
+            ),
             None => unreachable!(),
         }
     }
 
-    fn start(&mut self, net: &Net, limit: u64, before: &[Entry], task: u32, cause: Cause) -> Result<(), Break>
+    fn start(
+        &mut self,
+        net: &Net,
+        limit: u64,
+        before: &[Entry],
+        task: u32,
+        cause: Cause,
+    ) -> Result<(), Break>
         requires at { IsAt net.now limit before.now self.old }
         requires room { length before.now < length self.old.counts.open_starts }
         requires size { length before.now < 2 ^ 61 }
@@ -87,7 +97,15 @@ impl Walk {
         Ok(())
     }
 
-    fn end(&mut self, net: &Net, limit: u64, before: &[Entry], start: u64, gives: &[u32], inner: bool) -> Result<(), Break>
+    fn end(
+        &mut self,
+        net: &Net,
+        limit: u64,
+        before: &[Entry],
+        start: u64,
+        gives: &[u32],
+        inner: bool,
+    ) -> Result<(), Break>
         requires at { IsAt net.now limit before.now self.old }
         requires room { length before.now < length self.old.counts.open_starts }
         requires size { length before.now < 2 ^ 61 }
@@ -99,11 +117,19 @@ impl Walk {
             Ok(task) => task,
             Err(broken) => return Err(broken),
         };
-        self.counts.end(net, before.len() as u64, start, task, gives);
+        self.counts
+            .end(net, before.len() as u64, start, task, gives);
         Ok(())
     }
 
-    fn fault(&mut self, net: &Net, limit: u64, before: &[Entry], start: u64, why: Why) -> Result<(), Break>
+    fn fault(
+        &mut self,
+        net: &Net,
+        limit: u64,
+        before: &[Entry],
+        start: u64,
+        why: Why,
+    ) -> Result<(), Break>
         requires at { IsAt net.now limit before.now self.old }
         requires room { length before.now < length self.old.counts.open_starts }
         requires size { length before.now < 2 ^ 61 }
@@ -119,7 +145,15 @@ impl Walk {
         Ok(())
     }
 
-    fn drop_release(&mut self, net: &Net, limit: u64, before: &[Entry], task: u32, cause: Cause, why: DropWhy) -> Result<(), Break>
+    fn drop_release(
+        &mut self,
+        net: &Net,
+        limit: u64,
+        before: &[Entry],
+        task: u32,
+        cause: Cause,
+        why: DropWhy,
+    ) -> Result<(), Break>
         requires at { IsAt net.now limit before.now self.old }
         requires room { length before.now < length self.old.counts.open_starts }
         requires size { length before.now < 2 ^ 61 }

@@ -11,8 +11,7 @@ const TASKS: u32 = 10_000;
 const EDGES: u32 = 100_000;
 
 // The source of an edge is never the last task, and its target is a later task, at most ten tasks on.
-fn add_edges(builder: &mut NetBuilder) -> Result<(), BuildError>
-{
+fn add_edges(builder: &mut NetBuilder) -> Result<(), BuildError> {
     for edge in 0..EDGES {
         let from = edge % (TASKS - 1);
         let to = (from + 1 + edge / TASKS).min(TASKS - 1);
@@ -21,8 +20,7 @@ fn add_edges(builder: &mut NetBuilder) -> Result<(), BuildError>
     Ok(())
 }
 
-fn large_net(alloc: Global) -> Result<Arc<Net>, Fail>
-{
+fn large_net(alloc: Global) -> Result<Arc<Net>, Fail> {
     let mut builder = NetBuilder::new(alloc);
     add_tasks(alloc, &mut builder, TASKS)?;
     add_edges(&mut builder)?;

@@ -31,8 +31,14 @@ fn tokens_are_kept_for_a_task_that_waits(rt: HostRuntime) -> Result<(), Fail> {
     let left = [ready(2, Cause::Strong, 1), ready(3, Cause::Source, 1)];
     assert_eq!(rt; machine.ready()?.as_slice(), &left[..]);
     assert_eq!(rt; machine.rounds(4), 0);
-    assert_eq!(rt; machine.parts(4, Cause::Strong)?.as_slice(), &[Part::From(7), Part::Nothing][..]);
-    assert_eq!(rt; judge(rt.alloc(), &net, 10, machine.journal())?, Verdict::Legal);
+    assert_eq!(rt;
+        machine.parts(4, Cause::Strong)?.as_slice(),
+        &[Part::From(7), Part::Nothing][..]
+    );
+    assert_eq!(rt;
+        judge(rt.alloc(), &net, 10, machine.journal())?,
+        Verdict::Legal
+    );
     let late = Verdict::Breaks(6, Break::OverLimit);
     assert_eq!(rt; judge(rt.alloc(), &net, 3, machine.journal())?, late);
     Ok(())

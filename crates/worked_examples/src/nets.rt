@@ -77,7 +77,11 @@ pub fn add_tasks(alloc: Global, builder: &mut NetBuilder, count: u32) -> Result<
     Ok(())
 }
 
-fn add_edges(builder: &mut NetBuilder, edges: &[(u32, u32)], start: bool) -> Result<(), BuildError> {
+fn add_edges(
+    builder: &mut NetBuilder,
+    edges: &[(u32, u32)],
+    start: bool,
+) -> Result<(), BuildError> {
     for (from, to) in edges {
         builder.edge(*from, *to, start)?;
     }

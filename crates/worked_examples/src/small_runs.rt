@@ -2,11 +2,11 @@
 use crate::nets::{Rows, bound, net_of, plain_net};
 use crate::steps::{Step, compare_step, drop_of, end, expect_legal, fault, start};
 use legal_run::{Cause, DropWhy, Machine, MachineError, Why};
-use std::sync::Arc;
-use task_graph::Net;
 use std::alloc::Global;
 use std::process::Abort;
+use std::sync::Arc;
 use std::test::Fail;
+use task_graph::Net;
 
 type Answer = Result<u64, MachineError>;
 
@@ -185,7 +185,10 @@ fn a_unit_goes_from_task_to_task(rt: HostRuntime) -> Result<(), Fail> {
     let stuck = DropWhy::Stuck(0);
     let steps = [
         (start(0, Cause::Source), Ok(0)),
-        (drop_of(2, Cause::Source, stuck), Err(MachineError::NotStuck)),
+        (
+            drop_of(2, Cause::Source, stuck),
+            Err(MachineError::NotStuck),
+        ),
         (end(0, &[0]), Ok(1)),
         (start(2, Cause::Source), Err(MachineError::NoUnit(0))),
         (start(1, Cause::Strong), Ok(2)),
@@ -211,8 +214,14 @@ fn a_run_gets_stuck(rt: HostRuntime) -> Result<(), Fail> {
     let steps = [
         (start(0, Cause::Source), Ok(0)),
         (end(0, &[]), Ok(1)),
-        (drop_of(1, Cause::Source, DropWhy::Halted), Err(MachineError::NotHalted)),
-        (drop_of(1, Cause::Source, DropWhy::Stuck(1)), Err(MachineError::NoSuch)),
+        (
+            drop_of(1, Cause::Source, DropWhy::Halted),
+            Err(MachineError::NotHalted),
+        ),
+        (
+            drop_of(1, Cause::Source, DropWhy::Stuck(1)),
+            Err(MachineError::NoSuch),
+        ),
         (drop_of(1, Cause::Source, DropWhy::Stuck(0)), Ok(2)),
         (start(1, Cause::Source), Err(MachineError::AfterStuck)),
     ];

@@ -74,8 +74,26 @@ fn walk_both(
         puts: unit,
     };
     let tasks = [free(Shape::Plain), middle, last];
-    walk(rt, alloc, Rows { sems: &[1], tasks: &tasks, edges, rings: &[] })?;
-    walk(rt, alloc, Rows { sems: &[1], tasks: &tasks, edges, rings: &[(0, 0)] })
+    walk(
+        rt,
+        alloc,
+        Rows {
+            sems: &[1],
+            tasks: &tasks,
+            edges,
+            rings: &[],
+        },
+    )?;
+    walk(
+        rt,
+        alloc,
+        Rows {
+            sems: &[1],
+            tasks: &tasks,
+            edges,
+            rings: &[(0, 0)],
+        },
+    )
 }
 
 fn walk(rt: &impl Abort, alloc: Global, rows: Rows<'_>) -> Result<(), Fail> {
@@ -177,7 +195,12 @@ fn trial_of(alloc: Global, net: Arc<Net>) -> Result<Trial, Fail> {
 
 fn add_releases(moves: &mut Vec<Move>, task: u32, cause: Cause) -> Result<(), Fail> {
     moves.push(Move::Start(task, cause))?;
-    for why in [DropWhy::Halted, DropWhy::Limit, DropWhy::Stuck(0), DropWhy::Stuck(1)] {
+    for why in [
+        DropWhy::Halted,
+        DropWhy::Limit,
+        DropWhy::Stuck(0),
+        DropWhy::Stuck(1),
+    ] {
         moves.push(Move::Drop(task, cause, why))?;
     }
     Ok(())

@@ -1,5 +1,5 @@
 -- When more units of a semaphore are claimed than come from elsewhere, by two numbers.
-use Rattle.std.specs.Prelude.{◌≡◌, ℕ, ◌+◌, ◌≤◌, ◌<◌, not, ◌&&◌, ◌⊎◌, List, length, take, IsTrue}
+use Rattle.std.specs.Prelude.{ℕ, ◌+◌, ◌≤◌, not, ◌&&◌, ◌⊎◌, List, length, take}
 use Rattle.task_graph.specs.NetRows.{NetRows}
 use Rattle.legal_run.specs.declared.entry.Entry.{Entry}
 use Rattle.legal_run.specs.SemaphoreRule.{takes, puts, starts_at, closed_takers}

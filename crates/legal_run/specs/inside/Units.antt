@@ -1,5 +1,5 @@
 -- What is counted of each semaphore.
-use Rattle.std.specs.Prelude.{◌≡◌, ℕ, ◌+◌, ◌<◌, ◌≤◌, ◌^◌, Bool, true, not, ◌&&◌, ◌==◌, List, length, Option, Some, None, slice_index, slice_index_or, All, if◌then◌else◌}
+use Rattle.std.specs.Prelude.{◌≡◌, ℕ, ◌+◌, ◌<◌, ◌^◌, Bool, true, not, ◌&&◌, ◌==◌, List, length, Option, Some, None, slice_index, slice_index_or, All, if◌then◌else◌}
 use Rattle.std.specs.List.{list_any}
 use Rattle.task_graph.specs.NetRows.{NetRows}
 use Rattle.legal_run.specs.declared.entry.Entry.{Entry}

@@ -1,4 +1,4 @@
-use Rattle.std.proofs.Common.{refl, sym, ap, ◌∙◌, ◌<◌, ◌&&◌, length, not, Bool, false, arith}
+use Rattle.std.proofs.Common.{refl, sym, ap, ◌∙◌, ◌<◌, ◌&&◌, length, not, false, arith}
 use Rattle.std.specs.Prelude.{slice_index, slice_index_or}
 use Rattle.std.proofs.lemmas.List.{get_or_default}
 use Rattle.legal_run.proofs.Marking.{marked_none, marked_more}
@@ -14,7 +14,7 @@ loop-number-preserved c =
     let below : number < length c.args.flags.now.items = c.requires.in_range c.loop-number.number-index 0 c.loop-number-test.true in
     let within : number < length c.loop-number.flags.items = omega (arith, below, c.loop-number.invariant.len) in
     elim c.if-distinct.branch [
-      then-distinct w ↦
+      | then-distinct w ↦
           (marked_more _ _ c.loop-number.distinct w.index.result.now _ _ _ number c.loop-number-test.true refl below c.loop-number.invariant w.index.ensures
           (w.distinct-is ∙ ap (λ b. b && not w.index.result.now) (sym w.if-distinct.true)))
       | else-distinct w ↦

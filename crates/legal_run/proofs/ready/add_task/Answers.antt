@@ -1,8 +1,6 @@
-use Rattle.std.proofs.Common.{◌≡◌, ◌<◌, ◌++◌, length, subst, sym, List, ℕ}
+use Rattle.std.proofs.Common.{◌≡◌, ◌<◌, length, subst, sym, List, ℕ}
 use Rattle.std.specs.Prelude.{OnOk, All}
-use Rattle.task_graph.specs.Net.{weak_in}
 use Rattle.legal_run.specs.declared.ready.Ready.{Ready}
-use Rattle.legal_run.specs.Ready.{ready_weak}
 use Rattle.legal_run.proofs.NetLemmas.{places_below}
 use Rattle.legal_run.proofs.Readying.{task_parts}
 use Rattle.legal_run.proofs.ready.add_task.Goals as goal

@@ -1,4 +1,4 @@
-use Rattle.std.proofs.Common.{◌≡◌, ℕ, ◌<◌, length, vec_len, slice_index_or}
+use Rattle.std.proofs.Common.{◌≡◌, ℕ, ◌<◌, length, slice_index_or}
 use Rattle.legal_run.specs.Counts.{first_tokens}
 use Rattle.legal_run.proofs.rounds.first_given.Given as goal
 

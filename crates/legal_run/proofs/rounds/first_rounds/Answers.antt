@@ -1,4 +1,4 @@
-use Rattle.std.proofs.Common.{arith, subst, sym, ◌∙◌, ap, length}
+use Rattle.std.proofs.Common.{arith, ◌∙◌}
 use Rattle.std.proofs.lemmas.List.{length_push}
 use Rattle.task_graph.specs.Net.{strong_in}
 use Rattle.legal_run.specs.declared.rounds.Round.{Round}

@@ -1,4 +1,4 @@
-use Rattle.std.proofs.Common.{arith, refl, ap, sym, ◌∙◌, ◌≡◌, ◌<◌, length, cond, not, Bool, List, Vec, Global}
+use Rattle.std.proofs.Common.{arith, refl, ap, sym, ◌∙◌, ◌<◌, length, cond, not, Vec, Global}
 use Rattle.std.specs.Prelude.{slice_index, slice_index_or, slice_set}
 use Rattle.legal_run.specs.declared.units.UnitCount.{UnitCount}
 use Rattle.legal_run.specs.inside.Units.{with_closed, is_other}
@@ -11,7 +11,7 @@ loop-sem-preserved c =
     let sem = slice_index c.args.takes.now c.loop-sem.sem-index in
     let below : sem < length c.args.counts.now.items = c.requires.in_range c.loop-sem.sem-index 0 c.loop-sem-test.true in
     elim c.if-not-has.branch [
-      then-not-has w ↦
+      | then-not-has w ↦
           (changed_more (with_closed c.args.place) (is_other c.args.puts.now) _ _ _ _ _ sem w.index_mut.result.now c.requires.rising c.loop-sem-test.true refl below c.loop-sem.invariant
           (ap (λ (v : Vec UnitCount Global). v.items) w.counts-is ∙ ap (λ (u : UnitCount). slice_set c.loop-sem.counts.items sem u) (w.close_taker.ensures ∙ ap (with_closed c.args.place) w.index_mut.ensures.value)
           ∙ ap (λ b. cond (not b) (slice_set c.loop-sem.counts.items sem ((with_closed c.args.place) (slice_index_or c.loop-sem.counts.items sem w.index_mut.result.now))) c.loop-sem.counts.items) (sym w.if-not-has.true ∙ c.has.ensures)))

@@ -1,4 +1,4 @@
-use Rattle.std.proofs.Common.{arith, refl, ap, ◌<◌, length}
+use Rattle.std.proofs.Common.{refl, ap, ◌<◌, length}
 use Rattle.std.specs.Prelude.{slice_index, slice_set}
 use Rattle.legal_run.specs.declared.units.UnitCount.{UnitCount}
 use Rattle.legal_run.specs.inside.Units.{with_back, always}

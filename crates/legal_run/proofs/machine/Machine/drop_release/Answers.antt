@@ -1,8 +1,5 @@
-use Rattle.std.proofs.Common.{arith, refl, ap, sym, ◌∙◌, ◌<◌, length, List, []}
+use Rattle.std.proofs.Common.{refl}
 use Rattle.std.specs.Arc.{arc_value}
-use Rattle.legal_run.specs.declared.entry.Part.{Part}
-use Rattle.legal_run.specs.ShapeLegal.{MayFollow}
-use Rattle.legal_run.specs.declared.entry.Entry.TheVariants.{Start, End, Fault, Drop}
 use Rattle.legal_run.proofs.CountLaws.{can_grow}
 use Rattle.legal_run.proofs.Keeping.{counted_room, has_dropped, same_state}
 use Rattle.legal_run.proofs.machine.Machine.drop_release.Goals as goal
@@ -35,4 +32,3 @@ returns-clause-dropped c =
     let tells_it = rw c.deref-2.ensures at c.take.ensures in
     let done = has_dropped net c.self.inside.limit c.args.task h _ c.args.cause c.args.why _ _ _ _ _ _ c.self.invariant may c.in-Ok-append.ensures.appended counted c.in-Ok-append.ensures.room counts_it tells_it in
     rw (← c.self.view_is) (record { stands = c.in-Ok-append.ensures.place; allowed = done.may; after = same_state _ _ _ _ done.journal })
-

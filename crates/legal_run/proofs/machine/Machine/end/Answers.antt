@@ -1,8 +1,5 @@
-use Rattle.std.proofs.Common.{arith, refl, ap, sym, ◌∙◌, ◌<◌, length, List, []}
+use Rattle.std.proofs.Common.{refl}
 use Rattle.std.specs.Arc.{arc_value}
-use Rattle.legal_run.specs.declared.entry.Part.{Part}
-use Rattle.legal_run.specs.ShapeLegal.{MayFollow}
-use Rattle.legal_run.specs.declared.entry.Entry.TheVariants.{Start, End, Fault, Drop}
 use Rattle.legal_run.proofs.CountLaws.{can_grow, open_flag}
 use Rattle.legal_run.proofs.Keeping.{position_of, small_journal, counted_room, gives_once, has_ended, same_state}
 use Rattle.legal_run.proofs.machine.Machine.end.Goals as goal
@@ -52,4 +49,3 @@ returns-clause-ended c =
     let counts_it = rw c.deref-2.ensures at c.end.ensures.counted in
     let done = has_ended net c.self.inside.limit c.args.start c.in-Ok.task _ h _ c.args.gives.now c.in-Ok-from_slice.list c.args.inner _ _ _ _ _ _ c.self.invariant found.0 found.1 c.in-Ok-from_slice.ensures c.in-Ok-append.ensures.appended c.in-Ok-append.ensures.place counted c.in-Ok-append.ensures.room counts_it c.give.ensures in
     rw (← c.self.view_is) (record { stands = c.in-Ok-append.ensures.place; allowed = done.may; after = same_state _ _ _ _ done.journal })
-

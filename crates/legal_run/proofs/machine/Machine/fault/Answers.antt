@@ -1,8 +1,5 @@
-use Rattle.std.proofs.Common.{arith, refl, ap, sym, ◌∙◌, ◌<◌, length, List, []}
+use Rattle.std.proofs.Common.{refl}
 use Rattle.std.specs.Arc.{arc_value}
-use Rattle.legal_run.specs.declared.entry.Part.{Part}
-use Rattle.legal_run.specs.ShapeLegal.{MayFollow}
-use Rattle.legal_run.specs.declared.entry.Entry.TheVariants.{Start, End, Fault, Drop}
 use Rattle.legal_run.proofs.CountLaws.{can_grow, open_flag}
 use Rattle.legal_run.proofs.Keeping.{counted_room, has_faulted, same_state}
 use Rattle.legal_run.proofs.machine.Machine.fault.Goals as goal
@@ -38,4 +35,3 @@ returns-clause-faulted c =
     let counts_it = rw c.deref.ensures at c.fault.ensures.counted in
     let done = has_faulted net c.self.inside.limit c.args.start c.in-Ok.task _ h _ c.args.why _ _ _ _ _ c.self.invariant found.0 found.1 c.in-Ok-append.ensures.appended c.in-Ok-append.ensures.place counted c.in-Ok-append.ensures.room counts_it in
     rw (← c.self.view_is) (record { stands = c.in-Ok-append.ensures.place; allowed = done.may; after = same_state _ _ _ _ done.journal })
-

@@ -1,9 +1,9 @@
-use Rattle.std.proofs.Common.{arith, refl, ap, sym, ◌∙◌, ◌<◌, length, List, []}
+use Rattle.std.proofs.Common.{refl, List, []}
 use Rattle.std.specs.Arc.{arc_value}
 use Rattle.legal_run.specs.declared.entry.Part.{Part}
 use Rattle.legal_run.specs.Waiting.{waiting_parts}
 use Rattle.legal_run.specs.ShapeLegal.{MayFollow}
-use Rattle.legal_run.specs.declared.entry.Entry.TheVariants.{Start, End, Fault, Drop}
+use Rattle.legal_run.specs.declared.entry.Entry.TheVariants.{Start}
 use Rattle.legal_run.proofs.CountLaws.{can_grow, next_closed}
 use Rattle.legal_run.proofs.Keeping.{counted_room, has_started, same_state, opened_last}
 use Rattle.legal_run.proofs.machine.Machine.start.Goals as goal
@@ -92,4 +92,3 @@ returns-clause-opened c =
     let tells_it = rw c.deref-3.ensures at c.take.ensures in
     let done = has_started net c.self.inside.limit c.args.task _ h _ c.args.cause _ _ _ _ _ _ _ c.self.invariant may ins c.in-Ok-append.ensures.appended c.in-Ok-append.ensures.place counted counts_it tells_it in
     rw (done.journal, c.in-Ok-append.ensures.place) (opened_last net c.self.inside.limit c.args.task h c.args.cause _ c.self.invariant.led.reached)
-

@@ -14,6 +14,6 @@ returns-clause-checked c =
     let enough = rw (← c.self.view_is) at c.in_default-not_out.ensures in
     rw (← c.self.view_is) (
       may_end _ _ c.args.start c.in-Some.task _ c.args.gives.now c.args.inner at.reached (recursion_from_All (λ e. e < length c.self.inside.net.now.edges) c.args.gives.now (rw c.edges.ensures.rows at edges)) (λ any. none_counted is_stuck c.self.inside.journal.now _ at.counted.stuck c.if-self.false) found.0.1 found.0.0.started
-      (choice_rule c.self.inside.net.now c.self.inside.journal.now c.args.start c.in-Some.task c.args.gives.now c.args.inner found.0.0.started fits) enough,
+          (choice_rule c.self.inside.net.now c.self.inside.journal.now c.args.start c.in-Some.task c.args.gives.now c.args.inner found.0.0.started fits) enough,
       found.0.0,
     )

@@ -1,4 +1,3 @@
-use Rattle.std.proofs.Common.{arith}
 use Rattle.std.proofs.lemmas.Bool.{ltb-true, lt-ltb}
 use Rattle.legal_run.proofs.ReleaseLaws.{released_strong}
 use Rattle.legal_run.proofs.releases.Releases.is_released.Goals as goal

@@ -1,4 +1,4 @@
-use Rattle.std.proofs.Common.{arith, ap, ◌∙◌}
+use Rattle.std.proofs.Common.{ap, ◌∙◌}
 use Rattle.legal_run.specs.declared.rounds.Round.{Round}
 use Rattle.legal_run.proofs.ReleaseLaws.{round_least}
 use Rattle.legal_run.proofs.releases.Releases.rounds_left.Goals as goal

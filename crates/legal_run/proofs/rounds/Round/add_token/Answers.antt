@@ -1,4 +1,4 @@
-use Rattle.std.proofs.Common.{refl, arith, ◌≡◌}
+use Rattle.std.proofs.Common.{refl, arith}
 use Rattle.legal_run.proofs.Rounding.{round_same, round_fewer, round_next}
 use Rattle.legal_run.proofs.rounds.Round.add_token.Goals as goal
 

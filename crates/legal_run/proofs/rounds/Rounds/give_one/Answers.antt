@@ -1,5 +1,5 @@
-use Rattle.std.proofs.Common.{refl, arith, ◌≡◌, ◌≤◌, ◌<◌, ◌∙◌, sym, subst, ap, length, length-set, List}
-use Rattle.std.specs.Prelude.{All, slice_get, Some, slice_index, slice_index_or, slice_set, false}
+use Rattle.std.proofs.Common.{refl, arith, ◌≤◌, ◌<◌, ◌∙◌, sym, subst, ap, length, length-set, List}
+use Rattle.std.specs.Prelude.{slice_index_or, slice_set, false}
 use Rattle.std.proofs.lemmas.List.{get_or_default}
 use Rattle.task_graph.specs.Net.{strong_in}
 use Rattle.task_graph.specs.declared.net.EdgeRow.{EdgeRow}

@@ -1,9 +1,8 @@
-use Rattle.std.proofs.Common.{refl, arith, subst, sym, ap, ◌∙◌, ◌<◌, ◌^◌, length, List}
-use Rattle.std.specs.Prelude.{All}
+use Rattle.std.proofs.Common.{refl, subst, sym, ◌∙◌}
 use Rattle.std.specs.List.Sorted.{IsStrictlyIncreasing}
 use Rattle.legal_run.specs.declared.units.UnitCount.{UnitCount}
-use Rattle.legal_run.specs.inside.Units.{Changed, with_taken, with_putter, with_back, with_closed, always, is_other}
-use Rattle.legal_run.proofs.UnitLaws.{sems_counted, changed_small, units_start, units_end, units_fault}
+use Rattle.legal_run.specs.inside.Units.{with_back, always}
+use Rattle.legal_run.proofs.UnitLaws.{sems_counted, changed_small, units_end}
 use Rattle.legal_run.proofs.units.Units.end.Goals as goal
 
 pub give_back_each-requires-clause-rising : goal.give_back_each-requires-clause-rising

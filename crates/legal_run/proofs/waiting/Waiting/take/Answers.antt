@@ -1,4 +1,4 @@
-use Rattle.std.proofs.Common.{refl, subst, ap, ◌∙◌, length}
+use Rattle.std.proofs.Common.{refl, subst}
 use Rattle.legal_run.specs.declared.entry.Cause.{Cause}
 use Rattle.legal_run.specs.inside.Releases.{IsUseOf}
 use Rattle.legal_run.proofs.Tallying.{strong_in_tallied}

@@ -1,8 +1,7 @@
-use Rattle.std.proofs.Common.{refl, sym, ◌∙◌, ◌≡◌, ◌<◌, length, subst, ℕ, [], List}
-use Rattle.legal_run.specs.declared.entry.Part.{Part}
+use Rattle.std.proofs.Common.{refl}
 use Rattle.legal_run.proofs.Reaching.{reached_push}
-use Rattle.legal_run.proofs.Keeping.{walk_position, gives_once}
-use Rattle.legal_run.proofs.CountLaws.{can_grow, next_closed, open_flag}
+use Rattle.legal_run.proofs.Keeping.{walk_position}
+use Rattle.legal_run.proofs.CountLaws.{can_grow, open_flag}
 use Rattle.legal_run.proofs.walk.Walk.fault.Goals as goal
 
 pub new-position-requires : goal.new-position-requires
