@@ -19,10 +19,10 @@ use Rattle.text_tasks.specs.declared.job.TextJob.{TextJob}
 use Rattle.text_tasks.specs.JobMeaning.{net_of, limit_of, IsTextJob}
 use Rattle.std.specs.Arc.{arc_value}
 use Rattle.flow_run.specs.declared.one_thread.OneThread.{OneThread}
-use Rattle.flow_run.specs.OneThread.{IsUnderWay}
+use Rattle.flow_run.specs.inside.OneThread.{IsUnderWay}
 use Rattle.flow_run.proofs.Finished.{plan_of}
 use Rattle.text_tasks.specs.ValueTexts.{FindsText}
-use Rattle.flow_run.specs.UnderWay.{UnderWay, end_named, end_of, Carries, started_times, times, born, flow_along, inflow}
+use Rattle.flow_run.specs.inside.UnderWay.{UnderWay, end_named, end_of, Carries, started_times, times, born, flow_along, inflow}
 
 -- nothing waits at an edge that begins without a token
 nothing_waits : (net : NetRows) (e : ℕ) → IsPlainNet net → first_waiting net e ≡ Nothing

@@ -22,7 +22,7 @@ use Rattle.run_frame.specs.Legal.{Legal, LegalJournal, LegalRows, CompleteRun, I
 use Rattle.run_frame.specs.Runs.{inner_in}
 use Rattle.run_frame.specs.Rows.{RowsFit, MayHaveInner, ends_from}
 use Rattle.flow_run.specs.declared.one_thread.OneThread.{OneThread}
-use Rattle.flow_run.specs.OneThread.{IsUnderWay}
+use Rattle.flow_run.specs.inside.OneThread.{IsUnderWay}
 use Rattle.std.specs.Arc.{arc_value}
 use Rattle.std.specs.Global.{Vec}
 use Rattle.std.specs.Global.{Global}
@@ -33,7 +33,7 @@ use Rattle.text_tasks.specs.declared.item.Item.{Item}
 use Rattle.text_tasks.specs.declared.job.TextJob.{TextJob}
 use Rattle.text_tasks.specs.JobMeaning.{text_job, net_of, limit_of, IsTextJob}
 use Rattle.text_tasks.specs.declared.job.TextJob.TheVariants.{Graph}
-use Rattle.flow_run.specs.UnderWay.{UnderWay, IsPlainEntry, started_times, born, none_inner}
+use Rattle.flow_run.specs.inside.UnderWay.{UnderWay, IsPlainEntry, started_times, born, none_inner}
 use Rattle.flow_run.proofs.Flow.{count_cons, no_inflow}
 use Rattle.flow_run.proofs.Released.{only_edge, not_born, edge_given}
 

@@ -12,8 +12,8 @@ use Rattle.task_graph.specs.NetRows.{NetRows}
 use Rattle.task_graph.specs.Places.{places_from}
 use Rattle.task_graph.specs.Net.{out_edges}
 use Rattle.task_graph.specs.declared.net.EdgeRow.{EdgeRow}
-use Rattle.flow_run.specs.Taking.{target_of}
-use Rattle.flow_run.specs.UnderWay.{times, flow_along}
+use Rattle.flow_run.specs.inside.Taking.{target_of}
+use Rattle.flow_run.specs.inside.UnderWay.{times, flow_along}
 
 abbrev pub one_if : Bool → ℕ
 one_if b = cond b 1 0

@@ -37,8 +37,8 @@ use Rattle.text_tasks.specs.declared.item.Item.{Item}
 use Rattle.text_tasks.specs.declared.job.TextJob.{TextJob}
 use Rattle.text_tasks.specs.JobMeaning.{net_of}
 use Rattle.text_tasks.proofs.Jobs.{single_in}
-use Rattle.flow_run.specs.OneThread.{CauseFits}
-use Rattle.flow_run.specs.UnderWay.{UnderWay, IsPlainEntry, started_times, born, inflow}
+use Rattle.flow_run.specs.inside.OneThread.{CauseFits}
+use Rattle.flow_run.specs.inside.UnderWay.{UnderWay, IsPlainEntry, started_times, born, inflow}
 use Rattle.flow_run.proofs.Flow.{one_if, count_cons, single_flow, sum_with_gap}
 use Rattle.flow_run.proofs.Started.{starts_total}
 use Rattle.flow_run.proofs.Stepping.{IsStep, plain_start, not_started, times_last, AllByRecursion-push}

@@ -5,8 +5,8 @@ use Rattle.std.proofs.lemmas.Bool.Decides.{nat_tests}
 use Rattle.std.proofs.lemmas.List.Elements.{All-push}
 use Rattle.task_graph.specs.NetRows.{NetRows}
 use Rattle.task_graph.specs.Net.{in_edges, IsSource}
-use Rattle.flow_run.specs.UnderWay.{times, born}
-use Rattle.flow_run.specs.Sources.{SourcesBelow}
+use Rattle.flow_run.specs.inside.UnderWay.{times, born}
+use Rattle.flow_run.specs.inside.Sources.{SourcesBelow}
 use Rattle.flow_run.proofs.Flow.{one_if}
 use Rattle.flow_run.proofs.Stepping.{times_last}
 

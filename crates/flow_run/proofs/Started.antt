@@ -12,7 +12,7 @@ use Rattle.legal_run.specs.declared.entry.Part.{Part}
 use Rattle.legal_run.specs.Counts.{given, used, used_source, uses, is_strong, is_source, is_start, starts}
 use Rattle.legal_run.proofs.Tallying.{given_push, count_by_push_no, and_false, and_true}
 use Rattle.legal_run.proofs.Snoc.{count_by_push}
-use Rattle.flow_run.specs.UnderWay.{IsPlainStart, IsPlainEntry, started_times}
+use Rattle.flow_run.specs.inside.UnderWay.{IsPlainStart, IsPlainEntry, started_times}
 use Rattle.flow_run.proofs.Flow.{one_if, sum_raised, sum_nothing, sum_kept}
 
 -- a Start and its End

@@ -36,11 +36,11 @@ use Rattle.run_frame.specs.WorkRule.{WorkRule, Work, work_of, work_at, Answers}
 use Rattle.text_tasks.specs.declared.item.Item.{Item}
 use Rattle.text_tasks.specs.declared.job.TextJob.{TextJob}
 use Rattle.text_tasks.specs.JobMeaning.{text_job, net_of, JobAnswers}
-use Rattle.flow_run.specs.Taking.{target_of}
-use Rattle.flow_run.specs.OneThread.{CauseFits}
+use Rattle.flow_run.specs.inside.Taking.{target_of}
+use Rattle.flow_run.specs.inside.OneThread.{CauseFits}
 use Rattle.text_tasks.specs.ValueTexts.{IsValueText, FindsText}
 use Rattle.text_tasks.specs.Items.{item_text}
-use Rattle.flow_run.specs.UnderWay.{UnderWay, end_named, end_of, Carries, ComeLater, none_inner, started_times}
+use Rattle.flow_run.specs.inside.UnderWay.{UnderWay, end_named, end_of, Carries, ComeLater, none_inner, started_times}
 use Rattle.flow_run.proofs.Flow.{one_if, eqb_both_ways}
 use Rattle.flow_run.proofs.Started.{with_step, source_step, strong_step, started_step, given_step}
 use Rattle.flow_run.proofs.RowLemmas.{rows_step}

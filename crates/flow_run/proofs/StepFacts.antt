@@ -26,8 +26,8 @@ use Rattle.legal_run.specs.declared.machine_error.MachineError.TheVariants.{NoMe
 use Rattle.run_frame.specs.declared.job.JobError.{JobError}
 use Rattle.run_frame.specs.declared.job.JobError.TheVariants.{Fault as FaultOf, NoMemory as JobNoMemory}
 use Rattle.run_frame.specs.Meaning.{FaultAllowed}
-use Rattle.flow_run.specs.Taking.{target_of}
-use Rattle.flow_run.specs.UnderWay.{UnderWay, end_of}
+use Rattle.flow_run.specs.inside.Taking.{target_of}
+use Rattle.flow_run.specs.inside.UnderWay.{UnderWay, end_of}
 use Rattle.flow_run.proofs.Started.{with_step}
 use Rattle.flow_run.proofs.Step.{Steps, under_step}
 use Rattle.join_words.specs.declared.ins.Given.{Given}
@@ -38,7 +38,7 @@ use Rattle.text_tasks.specs.ValueTexts.{FindsText}
 use Rattle.text_tasks.specs.JobMeaning.{net_of, limit_of, IsTextJob, JobAnswers, text_job}
 use Rattle.text_tasks.proofs.Jobs.{single_in}
 use Rattle.flow_run.specs.declared.one_thread.OneThread.{OneThread}
-use Rattle.flow_run.specs.OneThread.{IsUnderWay, CauseFits}
+use Rattle.flow_run.specs.inside.OneThread.{IsUnderWay, CauseFits}
 use Rattle.flow_run.proofs.Finished.{plan_of}
 use Rattle.flow_run.proofs.Stepping.{IsStep}
 

@@ -26,9 +26,9 @@ use Rattle.run_frame.specs.declared.run.ValueRow.{ValueRow}
 use Rattle.text_tasks.specs.declared.item.Item.{Item}
 use Rattle.text_tasks.specs.declared.job.TextJob.{TextJob}
 use Rattle.text_tasks.specs.JobMeaning.{net_of}
-use Rattle.flow_run.specs.Taking.{target_of}
-use Rattle.flow_run.specs.OneThread.{CauseFits}
-use Rattle.flow_run.specs.UnderWay.{UnderWay, IsPlainStart, started_times, times, born, inflow}
+use Rattle.flow_run.specs.inside.Taking.{target_of}
+use Rattle.flow_run.specs.inside.OneThread.{CauseFits}
+use Rattle.flow_run.specs.inside.UnderWay.{UnderWay, IsPlainStart, started_times, times, born, inflow}
 use Rattle.flow_run.proofs.Flow.{one_if, count-append, count_cons, leads, times_targets, inflow_more, no_inflow, inflow_once}
 use Rattle.flow_run.proofs.Started.{with_step, started_step}
 

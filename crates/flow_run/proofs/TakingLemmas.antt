@@ -10,7 +10,7 @@ use Rattle.std.proofs.lemmas.List.Sums.{sum_by-cons, sum_by-take-le, count_by_mo
 use Rattle.join_words.specs.declared.ins.Given.{Given}
 use Rattle.join_words.specs.declared.ins.Given.TheVariants.{Nothing}
 use Rattle.text_tasks.specs.declared.item.Item.{Item}
-use Rattle.flow_run.specs.Taking.{Taking}
+use Rattle.flow_run.specs.inside.Taking.{Taking}
 
 -- what is never counted doesn't occur
 none_from_count : {X : Type 0} (p : X → Bool) (xs : List X) → count_by p xs ≡ 0 → list_any p xs ≡ false

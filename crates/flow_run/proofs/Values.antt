@@ -9,7 +9,7 @@ use Rattle.join_words.specs.Ins.{Found}
 use Rattle.run_frame.specs.declared.run.ValueRow.{ValueRow}
 use Rattle.run_frame.specs.Runs.{value_at, found_at, found_by}
 use Rattle.text_tasks.specs.declared.item.Item.{Item}
-use Rattle.flow_run.specs.UnderWay.{Carries}
+use Rattle.flow_run.specs.inside.UnderWay.{Carries}
 
 -- a value stays where it is, whatever comes behind
 pub value_stays : (rows more : List (ValueRow Item)) (n : ℕ) (v : Item) → value_at rows n ≡ Some v → value_at (rows ++ more) n ≡ Some v

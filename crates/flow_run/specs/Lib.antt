@@ -1,10 +1,7 @@
-pub mod Taking
-pub mod UnderWay
-pub mod Sources
-pub mod OneThread
 pub mod Codes
 pub mod Words
 pub mod Requests
 pub mod Output
 pub mod Notes
 pub mod Answers
+pub mod inside

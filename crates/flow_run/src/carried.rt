@@ -6,8 +6,8 @@ ghost use Rattle.join_words.specs.Ins.{value, found_of, parts_of};
 ghost use Rattle.join_words.specs.declared.ins.Given.{Given};
 ghost use Rattle.join_words.specs.declared.ins.Given.TheVariants.{Nothing};
 ghost use Rattle.text_tasks.specs.declared.item.Item.{Item};
-ghost use Rattle.flow_run.specs.Taking.{target_of};
-ghost use Rattle.flow_run.specs.UnderWay.{end_of};
+ghost use Rattle.flow_run.specs.inside.Taking.{target_of};
+ghost use Rattle.flow_run.specs.inside.UnderWay.{end_of};
 
 use join_words::{Given, Ins};
 use outside_io::NoMemory;

@@ -5,10 +5,10 @@ ghost use Rattle.task_graph.specs.Net.{in_edges};
 ghost use Rattle.run_frame.specs.Legal.{IsKept};
 ghost use Rattle.run_frame.specs.NestedRule.{job_of};
 ghost use Rattle.text_tasks.specs.JobMeaning.{text_job, net_of, limit_of, IsTextJob};
-ghost use Rattle.flow_run.specs.UnderWay.{times, born};
+ghost use Rattle.flow_run.specs.inside.UnderWay.{times, born};
 ghost use Rattle.task_graph.specs.Net.{IsPlainNet};
 ghost use Rattle.legal_run.specs.Counts.{starts};
-ghost use Rattle.flow_run.specs.OneThread.{IsUnderWay, CauseFits, IsForAll};
+ghost use Rattle.flow_run.specs.inside.OneThread.{IsUnderWay, CauseFits, IsForAll};
 
 use super::carried::{carry, none_carried, release, take_ins};
 use join_words::{Given, Ins};
@@ -47,7 +47,7 @@ struct OneThread {
 }
 
 impl OneThread {
-    ghost use Rattle.flow_run.specs.OneThread.{IsUnderWay};
+    ghost use Rattle.flow_run.specs.inside.OneThread.{IsUnderWay};
 
     // A run in which only the source tasks are ready.
     fn new(alloc: Global, job: Arc<TextJob>) -> Result<OneThread, NoMemory>

@@ -7,7 +7,7 @@ use Rattle.std.specs.HashMap.{HashMap}
 use Rattle.std.specs.HashSet as bag
 use Rattle.std.specs.HashSet.{HashSet}
 use Rattle.std.specs.Option.{option_or}
-use Rattle.graph_file.specs.Lookups.{AddsName, KeepsPlace, place_in}
+use Rattle.graph_file.specs.inside.Lookups.{AddsName, KeepsPlace, place_in}
 
 abbrev same_name : Bor (List ℕ) → Bor (List ℕ) → Bool
 same_name a b = bytes_eq a.now b.now

@@ -6,7 +6,7 @@ use Rattle.std.proofs.lemmas.List.Elements.{filter-append, filter_map-append}
 use Rattle.std.specs.HashSet.{HashSet}
 use Rattle.std.specs.List.{filter, filter_map, list_any}
 use Rattle.graph_file.specs.declared.ops.Op.{Op}
-use Rattle.graph_file.specs.Lookups.{Mentions}
+use Rattle.graph_file.specs.inside.Lookups.{Mentions}
 use Rattle.graph_file.specs.TextNames.{first_mentions, text_of, texts_of}
 use Rattle.graph_file.proofs.SeenLemmas.{HasNames, HasNames-more}
 

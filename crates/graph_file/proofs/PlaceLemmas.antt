@@ -6,7 +6,7 @@ use Rattle.std.specs.HashMap.{HashMap}
 use Rattle.std.specs.List.{position, position_from}
 use Rattle.std.specs.Option.{option_or}
 use Rattle.std.specs.Borrow.{Bor}
-use Rattle.graph_file.specs.Lookups.{HasPlaces, KeepsPlace}
+use Rattle.graph_file.specs.inside.Lookups.{HasPlaces, KeepsPlace}
 
 position_from-snoc_step : (b : Bool) (i : ℕ) (rest later : Option ℕ) (last : Option ℕ) → later ≡ option_or rest last → cond b (Some i) later ≡ option_or (cond b (Some i) rest) last
 position_from-snoc_step true i rest later last e = refl

@@ -15,7 +15,7 @@ use Rattle.graph_file.specs.declared.plans.Plan.{Plan}
 use Rattle.graph_file.specs.declared.refusals.GraphError.{GraphError}
 use Rattle.graph_file.specs.Draft.{KeepsRules, draft_of, edge_of, links_from, net_of, number_of, plain_row, plan_of}
 use Rattle.graph_file.specs.PlanRows.{IsPlan, IsTextName, plan_rows}
-use Rattle.graph_file.specs.Reading.{AreFromTasks, Tests, link_to}
+use Rattle.graph_file.specs.inside.Reading.{AreFromTasks, Tests, link_to}
 use Rattle.graph_file.specs.TaskText.{TaskText, tasks_of}
 use Rattle.graph_file.specs.TextNames.{first_mentions, text_of}
 use Rattle.graph_file.proofs.RuleLemmas.{absent, place_within}

@@ -12,7 +12,7 @@ use Rattle.graph_file.specs.declared.draft.Link.{Link}
 use Rattle.graph_file.specs.declared.refusals.GraphError.{GraphError}
 use Rattle.graph_file.specs.declared.refusals.GraphError.TheVariants.{NotJson, BadField, NoSuchName, Repeated, TooMany, NoMemory}
 use Rattle.graph_file.specs.Draft.{draft_of, links_from}
-use Rattle.graph_file.specs.Reading.{LinksAnswer, Reads, Refuses, TaskAnswer, link_to, with_task}
+use Rattle.graph_file.specs.inside.Reading.{LinksAnswer, Reads, Refuses, TaskAnswer, link_to, with_task}
 use Rattle.graph_file.specs.Steps.{each}
 use Rattle.graph_file.specs.TaskText.{TaskText, has_only, listed, name_of, task_of, tasks_of, to_in}
 use Rattle.graph_file.proofs.EachLemmas.{ReadBefore, ReadBefore-more}

@@ -12,11 +12,11 @@ use Rattle.graph_file.specs.declared.draft.Link.{Link}
 use Rattle.graph_file.specs.declared.refusals.GraphError.{GraphError}
 use Rattle.graph_file.specs.declared.refusals.GraphError.TheVariants.{NotJson, BadField, NoSuchName, Repeated, TooMany, NoMemory}
 use Rattle.graph_file.specs.Draft.{AllDiffer, KeepsRules}
-use Rattle.graph_file.specs.Lookups.{place_in}
+use Rattle.graph_file.specs.inside.Lookups.{place_in}
 use Rattle.graph_file.specs.PlanRows.{edge_limit, task_limit, text_count_limit}
-use Rattle.graph_file.specs.Reading.{Denies, Tests}
+use Rattle.graph_file.specs.inside.Reading.{Denies, Tests}
 use Rattle.graph_file.specs.TextNames.{texts_of}
-use Rattle.graph_file.specs.Lookups.{HasPlaces}
+use Rattle.graph_file.specs.inside.Lookups.{HasPlaces}
 
 no_place_step : {K : Type 0} (p : K → Bool) (x : K) (xs : List K) (b : Bool) (i : ℕ) (rest : Option ℕ) → p x ≡ b → cond b (Some i) rest ≡ None
     → (rest ≡ None → All (λ y. p y ≡ false) xs) → All (λ y. p y ≡ false) (x ∷ xs)

@@ -11,7 +11,7 @@ use Rattle.std.specs.HashSet.{HashSet}
 use Rattle.std.specs.List.{All, AllPairs, list_any}
 use Rattle.graph_file.specs.declared.draft.Link.{Link}
 use Rattle.graph_file.specs.Draft.{AllDiffer}
-use Rattle.graph_file.specs.Lookups.{AddsName, has_name}
+use Rattle.graph_file.specs.inside.Lookups.{AddsName, has_name}
 
 -- the set has these names
 abbrev pub HasNames : {S : Type 0} → HashSet (Bor (List ℕ)) S → List (List ℕ) → Type 0

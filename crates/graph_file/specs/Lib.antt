@@ -5,5 +5,4 @@ pub mod TextNames
 pub mod Draft
 pub mod PlanText
 pub mod Sources
-pub mod Reading
-pub mod Lookups
+pub mod inside

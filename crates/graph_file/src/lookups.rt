@@ -1,6 +1,6 @@
 // Sets of names, and the places of names.
 ghost use Rattle.std.specs.Prelude.{◌≡◌, not, IfOk, OnOk};
-ghost use Rattle.graph_file.specs.Lookups.{AddsName, HasPlaces, KeepsPlace, has_name};
+ghost use Rattle.graph_file.specs.inside.Lookups.{AddsName, HasPlaces, KeepsPlace, has_name};
 
 use outside_io::{Bytes, NoMemory};
 use std::alloc::Global;

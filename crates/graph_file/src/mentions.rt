@@ -1,6 +1,6 @@
 // The texts that a plan names.
 ghost use Rattle.std.specs.Prelude.{◌≡◌, IfOk, OnOk};
-ghost use Rattle.graph_file.specs.Lookups.{Mentions};
+ghost use Rattle.graph_file.specs.inside.Lookups.{Mentions};
 ghost use Rattle.graph_file.specs.PlanRows.{plan_rows, plan_texts};
 ghost use Rattle.graph_file.specs.TextNames.{text_of, texts_of};
 

@@ -2,9 +2,9 @@
 ghost use Rattle.std.specs.Prelude.{◌≡◌, ◌<◌, ◌≤◌, [], length, replicate, false, Contains, IfOk, OnOk};
 ghost use Rattle.task_graph.specs.NetBuilder.{empty_net, with_edge, with_task};
 ghost use Rattle.graph_file.specs.Draft.{KeepsRules, net_of, number_of, plain_row};
-ghost use Rattle.graph_file.specs.Lookups.{HasPlaces};
+ghost use Rattle.graph_file.specs.inside.Lookups.{HasPlaces};
 ghost use Rattle.graph_file.specs.PlanRows.{edge_limit, task_limit};
-ghost use Rattle.graph_file.specs.Reading.{AreFromTasks};
+ghost use Rattle.graph_file.specs.inside.Reading.{AreFromTasks};
 
 use crate::draft::{Draft, Link};
 use crate::lookups::Places;

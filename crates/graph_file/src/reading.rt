@@ -4,7 +4,7 @@ ghost use Rattle.serde_json.specs.Errors.{IsMemory};
 ghost use Rattle.graph_file.specs.Draft.{KeepsRules, net_of, plan_of};
 ghost use Rattle.graph_file.specs.PlanRows.{IsPlan, PlanRows, plan_rows};
 ghost use Rattle.graph_file.specs.PlanText.{PlanText};
-ghost use Rattle.graph_file.specs.Reading.{AreFromTasks, Tests};
+ghost use Rattle.graph_file.specs.inside.Reading.{AreFromTasks, Tests};
 
 use crate::draft::Draft;
 use crate::lookups::places_of;

@@ -1,9 +1,9 @@
 // The rules that the tasks of a file keep with one another.
 ghost use Rattle.std.specs.Prelude.{◌≡◌, ◌≢◌, ◌≤◌, ◌<◌, length, map, is_none, All, Contains, MatchOption, IfOk, position};
 ghost use Rattle.graph_file.specs.Draft.{AllDiffer, KeepsRules};
-ghost use Rattle.graph_file.specs.Lookups.{HasPlaces, place_in};
+ghost use Rattle.graph_file.specs.inside.Lookups.{HasPlaces, place_in};
 ghost use Rattle.graph_file.specs.PlanRows.{edge_limit, task_limit, text_count_limit};
-ghost use Rattle.graph_file.specs.Reading.{Tests};
+ghost use Rattle.graph_file.specs.inside.Reading.{Tests};
 ghost use Rattle.graph_file.specs.TextNames.{texts_of};
 
 use crate::draft::{Draft, Link};

@@ -4,7 +4,7 @@ ghost use Rattle.std.specs.List.{list_all};
 ghost use Rattle.serde_json.specs.View.{view};
 ghost use Rattle.serde_json.specs.Find.{as_object, get};
 ghost use Rattle.graph_file.specs.Draft.{draft_of};
-ghost use Rattle.graph_file.specs.Reading.{LinksAnswer, Reads, TaskAnswer};
+ghost use Rattle.graph_file.specs.inside.Reading.{LinksAnswer, Reads, TaskAnswer};
 ghost use Rattle.graph_file.specs.Steps.{each, passing};
 ghost use Rattle.graph_file.specs.TaskText.{fields_of, has_only, is_text_name, is_word, name_of, op_in, string_in, task_of, tasks_of, to_in};
 

@@ -77,7 +77,7 @@ pub record IsOutOfRange (net : NetRows) (limit : ℕ) (journal : List Entry) (en
   pub range : ¬ IsInRange net entry
 
 -- The journal is legal, with the entry too, but the entry is a Start that finds what it may not.
-pub record FindsAmiss (net : NetRows) (limit : ℕ) (journal : List Entry) (entry : Entry) : Type 0 where
+pub record FindsWrong (net : NetRows) (limit : ℕ) (journal : List Entry) (entry : Entry) : Type 0 where
   pub before : IsLegal net limit journal
   pub shape : ShapeLegal net limit (journal ++ entry ∷ [])
-  pub amiss : ¬ DataRule net journal entry
+  pub broken : ¬ DataRule net journal entry

@@ -13,7 +13,7 @@ use Rattle.std.specs.List.{onto_first, starts_with, between, AllByRecursion}
 use Rattle.memchr.specs.Find.{OccursAt, Nowhere, IsFirstByte, is_byte}
 use Rattle.memchr.proofs.lemmas.MatchLemmas.{OccursAt-split}
 use Rattle.text_tasks.specs.Lines.{line_end, lines_of, ended, text_of, IsNormal, IsPlain, occurs, OccursIn}
-use Rattle.text_tasks.specs.FoundLine.{StartsLine, EndsLine, IsFirstKept}
+use Rattle.text_tasks.specs.inside.FoundLine.{StartsLine, EndsLine, IsFirstKept}
 use Rattle.text_tasks.specs.declared.found_line.FoundLine.{FoundLine}
 use Rattle.text_tasks.specs.TextMeaning.{keep_meaning}
 use Rattle.text_tasks.proofs.LineLemmas.{lines_of-at_end, lines_of-within, lines_of-append, lines_of-ended, text_of-lines_of, normal_same, IsNormal-ended, IsNormal-text_of, IsNormal-drop}

@@ -6,7 +6,7 @@ use Rattle.std.proofs.lemmas.List.{take_more, length-take-le, get_or-take}
 use Rattle.std.proofs.lemmas.List.Edits.{get_or-between, length-between}
 use Rattle.memchr.specs.Find.{IsFirstByte, IsLastByte, is_byte}
 use Rattle.text_tasks.specs.Lines.{line_end, IsNormal}
-use Rattle.text_tasks.specs.FoundLine.{StartsLine, EndsLine}
+use Rattle.text_tasks.specs.inside.FoundLine.{StartsLine, EndsLine}
 use Rattle.text_tasks.proofs.LineLemmas.{IsNormal-ended, last_of_normal}
 
 -- behind the last line end before the place

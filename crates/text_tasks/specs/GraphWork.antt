@@ -1,5 +1,5 @@
 -- What a graph's job is to its callers.
-use Rattle.std.specs.Prelude.{◌≡◌, ℕ, ◌≤◌, List, length, All, Option, None, IsSome}
+use Rattle.std.specs.Prelude.{◌≡◌, ℕ, ◌≤◌, List, [], length, All, Option, None, IsSome}
 use Rattle.graph_file.specs.PlanRows.{GraphRows, PlanRows, IsPlan, plan_texts}
 use Rattle.text_tasks.specs.declared.table.TextRow.{TextRow}
 use Rattle.text_tasks.specs.TextTable.{text_in}
@@ -12,6 +12,10 @@ pub record GraphWork : Type 0 where
   pub «module» : Option ℕ
   pub input : List ℕ
   pub limit : ℕ
+
+-- the work of a plan's top graph, started with the empty text
+abbrev pub first_work : PlanRows → List TextRow → ℕ → GraphWork
+first_work plan texts limit = record { plan = plan; texts = texts; «module» = None; input = []; limit = limit }
 
 -- the graph that is run
 abbrev pub graph_of : GraphWork → GraphRows

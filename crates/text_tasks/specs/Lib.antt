@@ -1,10 +1,9 @@
 pub mod Lines
 pub mod TextMeaning
-pub mod FoundLine
 pub mod TextTable
 pub mod Items
 pub mod GraphWork
-pub mod Works
 pub mod JobMeaning
 pub mod ValueTexts
 pub mod JobLaws
+pub mod inside

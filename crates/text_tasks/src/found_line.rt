@@ -2,7 +2,7 @@
 ghost use Rattle.std.specs.Prelude.{◌≡◌, ◌<◌, ◌≤◌, [], length, IfSome, IfNone};
 ghost use Rattle.text_tasks.specs.Lines.{IsNormal};
 ghost use Rattle.text_tasks.specs.TextMeaning.{keep_meaning};
-ghost use Rattle.text_tasks.specs.FoundLine.{StartsLine, EndsLine, IsWord, IsFirstKept};
+ghost use Rattle.text_tasks.specs.inside.FoundLine.{StartsLine, EndsLine, IsWord, IsFirstKept};
 
 use memchr::memmem::Finder;
 use memchr::{memchr, memrchr};

@@ -3,8 +3,7 @@ ghost use Rattle.std.specs.Prelude.{◌≡◌, ◌≤◌, [], length, map, IfOk,
 ghost use Rattle.std.specs.Arc.{arc_value};
 ghost use Rattle.graph_file.specs.PlanRows.{plan_rows};
 ghost use Rattle.text_tasks.specs.TextTable.{rows_of, text_in};
-ghost use Rattle.text_tasks.specs.GraphWork.{IsWork, graph_of};
-ghost use Rattle.text_tasks.specs.Works.{first_work};
+ghost use Rattle.text_tasks.specs.GraphWork.{IsWork, first_work, graph_of};
 ghost use Rattle.text_tasks.specs.Lines.{IsNormal, normal};
 ghost use Rattle.text_tasks.specs.JobMeaning.{text_found, text_op_value, value_on, AnswersWith, MayFault};
 ghost use Rattle.join_words.specs.Ins.{parts_of, found_of};
@@ -50,7 +49,7 @@ impl Model for GraphJob {
 
     ghost Value = { GraphWork };
 
-    ghost use Rattle.text_tasks.specs.Works.{work_of};
+    ghost use Rattle.text_tasks.specs.inside.Works.{work_of};
 
     ghost view = { work_of };
 

@@ -2,7 +2,7 @@
 ghost use Rattle.std.specs.Prelude.{◌≡◌, ◌≤◌, length, IfOk};
 ghost use Rattle.text_tasks.specs.Lines.{IsNormal};
 ghost use Rattle.text_tasks.specs.TextMeaning.{keep_meaning};
-ghost use Rattle.text_tasks.specs.FoundLine.{IsWord};
+ghost use Rattle.text_tasks.specs.inside.FoundLine.{IsWord};
 
 use crate::found_line::first_kept;
 use memchr::memchr;

@@ -4,7 +4,7 @@ use Rattle.std.specs.Arc.{arc_value}
 use Rattle.join_words.specs.Ins.{found_of, value}
 use Rattle.join_words.specs.declared.ins.Given.{Given}
 use Rattle.text_tasks.specs.declared.item.Item.{Item}
-use Rattle.flow_run.specs.UnderWay.{end_of}
+use Rattle.flow_run.specs.inside.UnderWay.{end_of}
 use Rattle.flow_run.proofs.carried.carry.Given as goal
 
 abbrev pub invariant-loop-edge : goal.invariant-loop-edge

@@ -1,5 +1,5 @@
 use Rattle.std.proofs.Common.{◌≡◌, ◌++◌, map, take}
-use Rattle.flow_run.specs.Taking.{target_of}
+use Rattle.flow_run.specs.inside.Taking.{target_of}
 use Rattle.flow_run.proofs.carried.release.Given as goal
 
 abbrev pub invariant-loop-edge : goal.invariant-loop-edge

@@ -1,6 +1,6 @@
 use Rattle.std.proofs.Common.{length, take}
 use Rattle.join_words.specs.Ins.{parts_of, room_of}
-use Rattle.flow_run.specs.Taking.{Taking}
+use Rattle.flow_run.specs.inside.Taking.{Taking}
 use Rattle.flow_run.proofs.carried.take_ins.Given as goal
 
 abbrev pub invariant-loop-edge : goal.invariant-loop-edge

@@ -1,6 +1,6 @@
 use Rattle.std.proofs.Common.{sym, subst, refl, ◌+◌, ◌∙◌, ap, length}
 use Rattle.std.proofs.lemmas.Bool.{false≢true}
-use Rattle.flow_run.specs.Sources.{SourcesBelow}
+use Rattle.flow_run.specs.inside.Sources.{SourcesBelow}
 use Rattle.flow_run.proofs.SourceLemmas.{source_added, no_source}
 use Rattle.flow_run.proofs.one_thread.sources.Goals.{then-is_source+in_ok-push, else-is_source}
 use Rattle.flow_run.proofs.one_thread.sources.Goals as goal

@@ -1,4 +1,4 @@
-use Rattle.flow_run.specs.Sources.{SourcesBelow}
+use Rattle.flow_run.specs.inside.Sources.{SourcesBelow}
 use Rattle.flow_run.proofs.one_thread.sources.Given as goal
 
 abbrev pub invariant-loop-task : goal.invariant-loop-task

@@ -1,7 +1,7 @@
 use Rattle.std.proofs.Common.{◌≡◌, ℕ, List, map, ◌++◌}
 use Rattle.serde_json.specs.View.{view}
 use Rattle.graph_file.specs.TaskText.{name_of}
-use Rattle.graph_file.specs.Reading.{link_to}
+use Rattle.graph_file.specs.inside.Reading.{link_to}
 use Rattle.graph_file.proofs.EachLemmas.{ReadBefore}
 use Rattle.graph_file.proofs.tasks.read_links.Given as goal
 

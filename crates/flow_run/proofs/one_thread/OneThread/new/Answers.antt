@@ -6,7 +6,7 @@ use Rattle.task_graph.specs.Net.{in_edges}
 use Rattle.join_words.specs.declared.ins.Given.TheVariants.{Nothing}
 use Rattle.legal_run.specs.MachineState.{MachineState}
 use Rattle.text_tasks.specs.JobMeaning.{net_of, limit_of}
-use Rattle.flow_run.specs.UnderWay.{times, born}
+use Rattle.flow_run.specs.inside.UnderWay.{times, born}
 use Rattle.flow_run.proofs.Begun.{begun_run}
 use Rattle.flow_run.proofs.one_thread.OneThread.new.Goals as goal
 

@@ -1,5 +1,5 @@
 use Rattle.std.proofs.Common.{rules, arith, sym, subst, refl, ◌≡◌, ◌<◌, ◌≤◌, ◌++◌, ◌∙◌, ap, length, ℕ, map}
-use Rattle.flow_run.specs.UnderWay.{end_of}
+use Rattle.flow_run.specs.inside.UnderWay.{end_of}
 use Rattle.std.specs.Prelude.{Some, All, count_by, ◌==◌, IfOk, IfErr, IsTrue, slice_index_or, if◌then◌else◌, false}
 use Rattle.std.specs.List.{list_any}
 use Rattle.join_words.specs.declared.ins.Given.{Given}
@@ -8,7 +8,7 @@ use Rattle.run_frame.specs.Meaning.{FaultAllowed}
 use Rattle.run_frame.specs.declared.job.Answer.TheVariants.{All as Each}
 use Rattle.run_frame.specs.declared.job.Done.TheVariants.{Value}
 use Rattle.text_tasks.specs.declared.item.Item.{Item}
-use Rattle.flow_run.specs.Taking.{target_of}
+use Rattle.flow_run.specs.inside.Taking.{target_of}
 use Rattle.std.specs.Arc.{arc_value}
 use Rattle.task_graph.specs.NetRows.{NetRows}
 use Rattle.task_graph.specs.Net.{strong_in, out_edges}
@@ -20,7 +20,7 @@ use Rattle.legal_run.specs.Counts.{is_open}
 use Rattle.legal_run.proofs.NetLemmas.{places_below, counted_once}
 use Rattle.join_words.specs.Ins.{value, found_of, parts_of}
 use Rattle.text_tasks.specs.JobMeaning.{net_of, text_job, JobAnswers}
-use Rattle.flow_run.specs.OneThread.{CauseFits}
+use Rattle.flow_run.specs.inside.OneThread.{CauseFits}
 use Rattle.flow_run.proofs.StepFacts.{is_step, found_at_edges, finds_texts, step_done, one_start_more, only_memory, no_other_fault}
 use Rattle.flow_run.proofs.Released.{start_taken, end_taken, room_left}
 use Rattle.flow_run.proofs.one_thread.OneThread.step.Goals as goal

@@ -1,4 +1,4 @@
--- What sets and maps know of names, for private clauses.
+-- What sets and maps know of names.
 use Rattle.std.specs.Prelude.{◌≡◌, ℕ, ◌||◌, List, [], ◌∷◌, ◌++◌, Bool, Option, Some, None, if◌then◌else◌, position}
 use Rattle.std.specs.Borrow.{Bor}
 use Rattle.std.specs.Option.{option_or}

@@ -12,7 +12,7 @@ use Rattle.text_tasks.specs.declared.item.Item.{Item}
 use Rattle.text_tasks.specs.declared.job.TextJob.{TextJob}
 use Rattle.text_tasks.specs.JobMeaning.{net_of, limit_of, IsTextJob}
 use Rattle.flow_run.specs.declared.one_thread.OneThread.{OneThread}
-use Rattle.flow_run.specs.UnderWay.{UnderWay}
+use Rattle.flow_run.specs.inside.UnderWay.{UnderWay}
 
 -- the run of a text job, whose limit allows a start of each task, where these tasks are ready
 pub record IsUnderWay (run : OneThread) (ready : List ℕ) : Type 0 where

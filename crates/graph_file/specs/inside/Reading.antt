@@ -1,4 +1,4 @@
--- What the steps of the reader answer, for private clauses.
+-- What the steps of the reader answer.
 use Rattle.std.specs.Prelude.{◌≡◌, ℕ, ◌<◌, List, [], ◌∷◌, ◌++◌, length, map, Option, Some, None, Result, Ok, Err, All, ⊤}
 use Rattle.graph_file.specs.declared.draft.Draft.{Draft}
 use Rattle.graph_file.specs.declared.draft.Link.{Link}

@@ -2,7 +2,7 @@
 use Rattle.std.specs.Prelude.{◌≡◌, ℕ, ◌<◌, ◌≤◌, List, length, All}
 use Rattle.task_graph.specs.NetRows.{NetRows}
 use Rattle.task_graph.specs.Net.{in_edges}
-use Rattle.flow_run.specs.UnderWay.{times, born}
+use Rattle.flow_run.specs.inside.UnderWay.{times, born}
 
 -- each source task below a number, once, and no other
 pub record SourcesBelow (net : NetRows) (ready : List ℕ) (n : ℕ) : Type 0 where

@@ -3,28 +3,28 @@ ghost use Rattle.std.specs.Prelude.{false, [], ◌∷◌, ◌++◌};
 ghost use Rattle.legal_run.specs.declared.entry.Cause.TheVariants.{Source, Strong, Weak};
 ghost use Rattle.legal_run.specs.declared.entry.Part.TheVariants.{From, First, Nothing};
 ghost use Rattle.legal_run.specs.declared.entry.Entry.TheVariants.{Start, End};
-ghost use Rattle.plain_rules.specs.Findings.{IsUnfinished, FindsAmiss};
+ghost use Rattle.plain_rules.specs.Findings.{IsUnfinished, FindsWrong};
 ghost use Rattle.plain_rules.specs.WorkedNets.{row_net, diamond_net, kept_net, choice_net, self_net, ring_net, two_rings_net};
 ghost use Rattle.plain_rules.specs.WorkedJournals.{source_run, row_front, diamond_front, kept_rounds, chosen_front, limited_run, ring_rounds, rings_round, two_rings_front};
 
 /// Starts with a part that they may not have, or with too few or too many.
-pub fn parts_amiss()
-    ensures not_an_end { FindsAmiss row_net 10 (source_run (0 ∷ []))
+pub fn wrong_inputs()
+    ensures not_an_end { FindsWrong row_net 10 (source_run (0 ∷ []))
         (Start 1 Strong (From 0 ∷ [])) }
-    ensures not_given { FindsAmiss diamond_net 10 (diamond_front ++ End 3 (2 ∷ []) false ∷ [])
+    ensures not_given { FindsWrong diamond_net 10 (diamond_front ++ End 3 (2 ∷ []) false ∷ [])
         (Start 3 Strong (From 4 ∷ From 5 ∷ [])) }
-    ensures nothing { FindsAmiss row_net 10 (source_run (0 ∷ [])) (Start 1 Strong (Nothing ∷ [])) }
-    ensures no_token { FindsAmiss kept_net 10 kept_rounds (Start 4 Strong (First ∷ From 15 ∷ [])) }
-    ensures found_before { FindsAmiss two_rings_net 10 two_rings_front
+    ensures nothing { FindsWrong row_net 10 (source_run (0 ∷ [])) (Start 1 Strong (Nothing ∷ [])) }
+    ensures no_token { FindsWrong kept_net 10 kept_rounds (Start 4 Strong (First ∷ From 15 ∷ [])) }
+    ensures found_before { FindsWrong two_rings_net 10 two_rings_front
         (Start 2 Strong (From 1 ∷ From 7 ∷ [])) }
-    ensures first_found_before { FindsAmiss two_rings_net 10 rings_round
+    ensures first_found_before { FindsWrong two_rings_net 10 rings_round
         (Start 0 Strong (First ∷ [])) }
-    ensures not_the_last { FindsAmiss ring_net 10 ring_rounds (Start 1 Strong (From 1 ∷ [])) }
-    ensures too_few { FindsAmiss row_net 10 (source_run (0 ∷ [])) (Start 1 Strong []) }
-    ensures too_many { FindsAmiss row_net 10 (source_run (0 ∷ []))
+    ensures not_the_last { FindsWrong ring_net 10 ring_rounds (Start 1 Strong (From 1 ∷ [])) }
+    ensures too_few { FindsWrong row_net 10 (source_run (0 ∷ [])) (Start 1 Strong []) }
+    ensures too_many { FindsWrong row_net 10 (source_run (0 ∷ []))
         (Start 1 Strong (From 1 ∷ From 1 ∷ [])) }
-    ensures source { FindsAmiss row_net 10 [] (Start 0 Source (Nothing ∷ [])) }
-    ensures weak { FindsAmiss choice_net 10 chosen_front (Start 2 (Weak 1) (From 1 ∷ [])) }
+    ensures source { FindsWrong row_net 10 [] (Start 0 Source (Nothing ∷ [])) }
+    ensures weak { FindsWrong choice_net 10 chosen_front (Start 2 (Weak 1) (From 1 ∷ [])) }
 {}
 
 /// Legal journals of runs that go on: of which a start is open or a release is left, or of which a release was

@@ -1,7 +1,7 @@
 -- That a Many gives different edges computes once `IsDistinct` is opened.
 use Rattle.std.proofs.Common.{rules}
 use Rattle.std.specs.List.{IsDistinct}
-use Rattle.plain_rules.proofs.worked.routed_run.Goals as goal
+use Rattle.plain_rules.proofs.finished_runs.routed_run.Goals as goal
 
 pub returns : goal.returns
 unfolding IsDistinct
