@@ -41,4 +41,4 @@ pub use refused_entries::{
 };
 pub use release::{is_released, meets_release_rule};
 pub use units::{has_unit, is_over_release, meets_semaphore_rule};
-pub use wrong_inputs::{unfinished, wrong_inputs};
+pub use wrong_inputs::{starts_with_wrong_inputs, unfinished};

@@ -8,7 +8,7 @@ ghost use Rattle.plain_rules.specs.WorkedNets.{row_net, diamond_net, kept_net, c
 ghost use Rattle.plain_rules.specs.WorkedJournals.{source_run, row_front, diamond_front, kept_rounds, chosen_front, limited_run, ring_rounds, rings_round, two_rings_front};
 
 /// Starts with a part that they may not have, or with too few or too many.
-pub fn wrong_inputs()
+pub fn starts_with_wrong_inputs()
     ensures not_an_end { FindsWrong row_net 10 (source_run (0 ∷ []))
         (Start 1 Strong (From 0 ∷ [])) }
     ensures not_given { FindsWrong diamond_net 10 (diamond_front ++ End 3 (2 ∷ []) false ∷ [])
