@@ -128,7 +128,7 @@ round_least net h counts t d c below =
     (recursion_from_All _ (strong_in net t) (λ k e k_below. c.given.each (get_or (strong_in net t) k e) 0 (omega (arith, within k e k_below, c.given.len)))))
 
 -- a number below the least is below each
-below_least : (f : ℕ → ℕ) (n : ℕ) (es : List ℕ) → n + 1 ≤ least (map f es) → (es ≢ []) × AllByRecursion (λ e. n + 1 ≤ f e) es
+pub below_least : (f : ℕ → ℕ) (n : ℕ) (es : List ℕ) → n + 1 ≤ least (map f es) → (es ≢ []) × AllByRecursion (λ e. n + 1 ≤ f e) es
 below_least f n [] less = absurd (omega arith)
 below_least f n (e ∷ es) less =
     let m = fold_min f (f e) es in
@@ -143,7 +143,7 @@ above_each : (f : ℕ → ℕ) (n m : ℕ) (es : List ℕ) → n ≤ m → AllBy
 above_each f n m [] first all = first
 above_each f n m (e ∷ es) first all = above_each f n (min m (f e)) es (omega (arith, all.0)) all.1
 
-below_each : (f : ℕ → ℕ) (n : ℕ) (es : List ℕ) → (es ≢ []) × AllByRecursion (λ e. n + 1 ≤ f e) es → n + 1 ≤ least (map f es)
+pub below_each : (f : ℕ → ℕ) (n : ℕ) (es : List ℕ) → (es ≢ []) × AllByRecursion (λ e. n + 1 ≤ f e) es → n + 1 ≤ least (map f es)
 below_each f n [] all = absurd (all.0 refl)
 below_each f n (e ∷ es) all = above_each f (n + 1) (f e) es all.1.0 all.1.1
 

@@ -54,9 +54,13 @@ fn refuses_ends_that_are_no_tasks(rt: HostRuntime) -> Result<(), Fail> {
 }
 
 fn is_many(net: &Net, task: u32) -> bool
-    ensures { IsTrue result → IsSomeAnd (slice_get net.now.tasks task) (λ row. row.shape ≡ Shape.Many) }
+    ensures there { IsTrue result → task < length net.now.tasks }
+    ensures many { IsTrue result → IsSomeAnd (slice_get net.now.tasks task) (λ row. row.shape ≡ Shape.Many) }
 {
-    matches!(net.tasks().get(task as usize), Some(row) if row.shape == Shape::Many)
+    match net.tasks().get(task as usize) {
+        Some(row) => row.shape == Shape::Many,
+        None => false,
+    }
 }
 
 // The edges that a net with one Many, three edges out of it and these indices chooses; its edges are 1 to 3.
