@@ -140,194 +140,195 @@ MayStandAt journal n = IsSomeAnd (slice_get journal n) MayHaveInner
 
 -- Runs hold their inner runs in vectors: of none, one or two, wherever they stand in memory.
 module _ (ptr : Ptr) (alloc : Global)
-  (ok_none : ok-type (Unit {0}) Global ptr 0 0 alloc []) (small_none : small-type (Unit {0}) Global ptr 0 0 alloc [] ok_none)
-  (ok_one : ok-type (Unit {0}) Global ptr 1 1 alloc (tt ∷ [])) (small_one : small-type (Unit {0}) Global ptr 1 1 alloc (tt ∷ []) ok_one)
-  (ok_two : ok-type (Unit {0}) Global ptr 2 2 alloc (tt ∷ tt ∷ [])) (small_two : small-type (Unit {0}) Global ptr 2 2 alloc (tt ∷ tt ∷ []) ok_two)
+    (ok_none : ok-type (Unit {0}) Global ptr 0 0 alloc []) (small_none : small-type (Unit {0}) Global ptr 0 0 alloc [] ok_none)
+    (ok_one : ok-type (Unit {0}) Global ptr 1 1 alloc (tt ∷ [])) (small_one : small-type (Unit {0}) Global ptr 1 1 alloc (tt ∷ []) ok_one)
+    (ok_two : ok-type (Unit {0}) Global ptr 2 2 alloc (tt ∷ tt ∷ [])) (small_two : small-type (Unit {0}) Global ptr 2 2 alloc (tt ∷ tt ∷ []) ok_two)
   where
+    abbrev none : Vec (Unit {0}) Global
+    none = record { ptr = ptr; len = 0; cap = 0; alloc = alloc; items = []; ok = ok_none; small = small_none }
 
-  abbrev none : Vec (Unit {0}) Global
-  none = record { ptr = ptr; len = 0; cap = 0; alloc = alloc; items = []; ok = ok_none; small = small_none }
+    abbrev one : Vec (Unit {0}) Global
+    one = record { ptr = ptr; len = 1; cap = 1; alloc = alloc; items = tt ∷ []; ok = ok_one; small = small_one }
 
-  abbrev one : Vec (Unit {0}) Global
-  one = record { ptr = ptr; len = 1; cap = 1; alloc = alloc; items = tt ∷ []; ok = ok_one; small = small_one }
+    abbrev two : Vec (Unit {0}) Global
+    two = record { ptr = ptr; len = 2; cap = 2; alloc = alloc; items = tt ∷ tt ∷ []; ok = ok_two; small = small_two }
 
-  abbrev two : Vec (Unit {0}) Global
-  two = record { ptr = ptr; len = 2; cap = 2; alloc = alloc; items = tt ∷ tt ∷ []; ok = ok_two; small = small_two }
+    abbrev the : ℕ → Arc ℕ Global
+    the n = record { ptr = ptr; value = n }
 
-  abbrev the : ℕ → Arc ℕ Global
-  the n = record { ptr = ptr; value = n }
+    abbrev at : ℕ → ℕ → ValueRow ℕ
+    at place n = record { place = place; value = the n }
 
-  abbrev at : ℕ → ℕ → ValueRow ℕ
-  at place n = record { place = place; value = the n }
+    -- runs without, with one and with two inner runs: a job, a journal, values, and the inner runs with their places
+    abbrev alone : ℕ → List Entry → List (ValueRow ℕ) → FrameRun ℕ ℕ
+    alone job journal values = FrameRun' (the job) journal values none end_of-InnerRow
 
-  -- runs without, with one and with two inner runs: a job, a journal, values, and the inner runs with their places
-  abbrev alone : ℕ → List Entry → List (ValueRow ℕ) → FrameRun ℕ ℕ
-  alone job journal values = FrameRun' (the job) journal values none end_of-InnerRow
+    abbrev with_one : ℕ → List Entry → List (ValueRow ℕ) → ℕ → FrameRun ℕ ℕ → FrameRun ℕ ℕ
+    with_one job journal values place run = FrameRun' (the job) journal values one (more_of-InnerRow (InnerRow' place run) end_of-InnerRow)
 
-  abbrev with_one : ℕ → List Entry → List (ValueRow ℕ) → ℕ → FrameRun ℕ ℕ → FrameRun ℕ ℕ
-  with_one job journal values place run = FrameRun' (the job) journal values one (more_of-InnerRow (InnerRow' place run) end_of-InnerRow)
+    abbrev with_two : ℕ → List Entry → List (ValueRow ℕ) → ℕ → FrameRun ℕ ℕ → ℕ → FrameRun ℕ ℕ → FrameRun ℕ ℕ
+    with_two job journal values place run other_place other =
+        FrameRun' (the job) journal values two (more_of-InnerRow (InnerRow' place run) (more_of-InnerRow (InnerRow' other_place other) end_of-InnerRow))
 
-  abbrev with_two : ℕ → List Entry → List (ValueRow ℕ) → ℕ → FrameRun ℕ ℕ → ℕ → FrameRun ℕ ℕ → FrameRun ℕ ℕ
-  with_two job journal values place run other_place other =
-      FrameRun' (the job) journal values two (more_of-InnerRow (InnerRow' place run) (more_of-InnerRow (InnerRow' other_place other) end_of-InnerRow))
+    -- job 0's run, and job 1's run around it
+    abbrev inside : FrameRun ℕ ℕ
+    inside = alone 0 [] []
 
-  -- job 0's run, and job 1's run around it
-  abbrev inside : FrameRun ℕ ℕ
-  inside = alone 0 [] []
+    abbrev around : FrameRun ℕ ℕ
+    around = with_one 1 whole (at 1 0 ∷ at 3 1 ∷ []) 1 inside
 
-  abbrev around : FrameRun ℕ ℕ
-  around = with_one 1 whole (at 1 0 ∷ at 3 1 ∷ []) 1 inside
+    inside_kept : IsKept countdown inside
+    unfolding out-FrameRun out shown-the_row-InnerRow-0 shown out-InnerRow
+    inside_kept = record {
+      legal = (
+        record { shape = tt; found = tt; work = tt; nested = tt },
+        record { values = refl; rising = λ i j d before below. absurd (omega arith); fit = λ k d below. absurd (omega arith) },
+        tt,
+      );
+      complete = nothing_complete;
+    }
 
-  inside_kept : IsKept countdown inside
-  unfolding out-FrameRun out shown-the_row-InnerRow-0 shown out-InnerRow
-  inside_kept = record {
-    legal = (record { shape = tt; found = tt; work = tt; nested = tt },
-    record { values = refl; rising = λ i j d before below. absurd (omega arith); fit = λ k d below. absurd (omega arith) },
-    tt);
-    complete = nothing_complete;
-  }
+    around_journal : LegalJournal countdown around
+    unfolding out-FrameRun out shown-the_row-InnerRow-0 shown out-InnerRow
+    around_journal = record {
+      shape = whole_shape;
+      found = whole_finds;
+      work = (tt, (tt, (tt, (record { answer = Each; allowed = (refl, refl); chosen = refl }, tt))));
+      nested = (refl, (record { answered = refl; fine = record { no_fault = refl; none_limited = refl; none_stuck = refl }; gathered = refl; all_edges = refl }, (refl, (tt, tt))));
+    }
 
-  around_journal : LegalJournal countdown around
-  unfolding out-FrameRun out shown-the_row-InnerRow-0 shown out-InnerRow
-  around_journal = record {
-    shape = whole_shape;
-    found = whole_finds;
-    work = (tt, (tt, (tt, (record { answer = Each; allowed = (refl, refl); chosen = refl }, tt))));
-    nested = (refl, (record { answered = refl; fine = record { no_fault = refl; none_limited = refl; none_stuck = refl }; gathered = refl; all_edges = refl }, (refl, (tt, tt))));
-  }
+    around_rows : RowsFit around
+    unfolding out-FrameRun out shown-the_row-InnerRow-0 shown out-InnerRow
+    around_rows = record { values = refl; rising = λ i j d before below. absurd (omega arith); fit = all_one (MayStandAt whole) 1 refl }
 
-  around_rows : RowsFit around
-  unfolding out-FrameRun out shown-the_row-InnerRow-0 shown out-InnerRow
-  around_rows = record { values = refl; rising = λ i j d before below. absurd (omega arith); fit = all_one (MayStandAt whole) 1 refl }
+    around_kept : IsKept countdown around
+    unfolding out-FrameRun out shown-the_row-InnerRow-0 shown out-InnerRow
+    around_kept = record { legal = (around_journal, around_rows, ((inside_kept.legal, inside_kept.complete), tt)); complete = whole_complete }
 
-  around_kept : IsKept countdown around
-  unfolding out-FrameRun out shown-the_row-InnerRow-0 shown out-InnerRow
-  around_kept = record { legal = (around_journal, around_rows, ((inside_kept.legal, inside_kept.complete), tt)); complete = whole_complete }
+    -- Each part of a legal journal is asked for: the shape by the job's own net and limit, the inputs, the work and the
+    -- inner runs.
+    other_net : ¬ LegalJournal (record countdown { net = λ j. no_tasks }) around
+    unfolding out-FrameRun out shown-the_row-InnerRow-0 shown out-InnerRow
+    other_net is = absurd (omega (arith, is.shape.0.in_range.0))
 
-  -- Each part of a legal journal is asked for: the shape by the job's own net and limit, the inputs, the work and the
-  -- inner runs.
-  other_net : ¬ LegalJournal (record countdown { net = λ j. no_tasks }) around
-  unfolding out-FrameRun out shown-the_row-InnerRow-0 shown out-InnerRow
-  other_net is = absurd (omega (arith, is.shape.0.in_range.0))
+    low_limit : ¬ LegalJournal (record countdown { limit = λ j. j }) around
+    unfolding out-FrameRun out shown-the_row-InnerRow-0 shown out-InnerRow
+    low_limit is = absurd (omega (arith, is.shape.1.1.0.halt_limit_stuck.dropped))
 
-  low_limit : ¬ LegalJournal (record countdown { limit = λ j. j }) around
-  unfolding out-FrameRun out shown-the_row-InnerRow-0 shown out-InnerRow
-  low_limit is = absurd (omega (arith, is.shape.1.1.0.halt_limit_stuck.dropped))
+    nothing_found : ¬ LegalJournal countdown (with_one 1 finds_nothing (at 1 0 ∷ at 3 1 ∷ []) 1 inside)
+    unfolding out-FrameRun out shown-the_row-InnerRow-0 shown out-InnerRow
+    nothing_found is = let last : Nothing ≡ From 1 = is.found.1.1.0.0.last (omega arith, (omega arith, (omega arith, tt))) in absurd (cc)
 
-  nothing_found : ¬ LegalJournal countdown (with_one 1 finds_nothing (at 1 0 ∷ at 3 1 ∷ []) 1 inside)
-  unfolding out-FrameRun out shown-the_row-InnerRow-0 shown out-InnerRow
-  nothing_found is = let last : Nothing ≡ From 1 = is.found.1.1.0.0.last (omega arith, (omega arith, (omega arith, tt))) in absurd (cc)
+    other_value : ¬ LegalJournal countdown (with_one 1 whole (at 1 0 ∷ at 3 7 ∷ []) 1 inside)
+    unfolding out-FrameRun out shown-the_row-InnerRow-0 shown out-InnerRow
+    other_value is = absurd (omega (arith, is.work.1.1.1.0.allowed.0))
 
-  other_value : ¬ LegalJournal countdown (with_one 1 whole (at 1 0 ∷ at 3 7 ∷ []) 1 inside)
-  unfolding out-FrameRun out shown-the_row-InnerRow-0 shown out-InnerRow
-  other_value is = absurd (omega (arith, is.work.1.1.1.0.allowed.0))
+    other_job : ¬ LegalJournal countdown (with_one 2 whole (at 1 0 ∷ at 3 2 ∷ []) 1 inside)
+    unfolding out-FrameRun out shown-the_row-InnerRow-0 shown out-InnerRow
+    other_job is = absurd (omega (arith, is.nested.1.0.answered))
 
-  other_job : ¬ LegalJournal countdown (with_one 2 whole (at 1 0 ∷ at 3 2 ∷ []) 1 inside)
-  unfolding out-FrameRun out shown-the_row-InnerRow-0 shown out-InnerRow
-  other_job is = absurd (omega (arith, is.nested.1.0.answered))
+    no_inner_run : ¬ LegalJournal countdown (alone 1 whole (at 1 0 ∷ at 3 1 ∷ []))
+    unfolding out-FrameRun out shown-the_row-InnerRow-0 shown out-InnerRow
+    no_inner_run is = is.nested.1.0
 
-  no_inner_run : ¬ LegalJournal countdown (alone 1 whole (at 1 0 ∷ at 3 1 ∷ []))
-  unfolding out-FrameRun out shown-the_row-InnerRow-0 shown out-InnerRow
-  no_inner_run is = is.nested.1.0
+    inner_run_elsewhere : ¬ LegalJournal countdown (with_one 1 whole (at 1 0 ∷ at 3 1 ∷ []) 0 inside)
+    unfolding out-FrameRun out shown-the_row-InnerRow-0 shown out-InnerRow
+    inner_run_elsewhere is = absurd (cc)
 
-  inner_run_elsewhere : ¬ LegalJournal countdown (with_one 1 whole (at 1 0 ∷ at 3 1 ∷ []) 0 inside)
-  unfolding out-FrameRun out shown-the_row-InnerRow-0 shown out-InnerRow
-  inner_run_elsewhere is = absurd (cc)
+    -- The run inside is held to all of it: it is finished, legal, and its rows fit; so is a second one.
+    open_inside : ¬ Legal countdown (with_one 2 whole (at 1 1 ∷ at 3 2 ∷ []) 1 (alone 1 (Start 0 Source [] ∷ []) []))
+    unfolding out-FrameRun out shown-the_row-InnerRow-0 shown out-InnerRow
+    open_inside is = let closed : true ≡ false = is.2.0.1.none_open.0 in absurd (cc)
 
-  -- The run inside is held to all of it: it is finished, legal, and its rows fit; so is a second one.
-  open_inside : ¬ Legal countdown (with_one 2 whole (at 1 1 ∷ at 3 2 ∷ []) 1 (alone 1 (Start 0 Source [] ∷ []) []))
-  unfolding out-FrameRun out shown-the_row-InnerRow-0 shown out-InnerRow
-  open_inside is = let closed : true ≡ false = is.2.0.1.none_open.0 in absurd (cc)
+    release_left_inside : ¬ Legal countdown (with_one 2 whole (at 1 1 ∷ at 3 2 ∷ []) 1 (alone 1 [] []))
+    unfolding out-FrameRun out shown-the_row-InnerRow-0 shown out-InnerRow
+    release_left_inside is = let used : 0 ≡ 1 = is.2.0.1.sources.0 refl in absurd (omega (arith, used))
 
-  release_left_inside : ¬ Legal countdown (with_one 2 whole (at 1 1 ∷ at 3 2 ∷ []) 1 (alone 1 [] []))
-  unfolding out-FrameRun out shown-the_row-InnerRow-0 shown out-InnerRow
-  release_left_inside is = let used : 0 ≡ 1 = is.2.0.1.sources.0 refl in absurd (omega (arith, used))
+    illegal_inside : ¬ Legal countdown (with_one 1 whole (at 1 0 ∷ at 3 1 ∷ []) 1 (alone 0 (End 0 [] false ∷ []) (at 0 0 ∷ [])))
+    unfolding out-FrameRun out shown-the_row-InnerRow-0 shown out-InnerRow
+    illegal_inside is = let opened : false ≡ true = is.2.0.0.0.shape.0.closing in absurd (cc)
 
-  illegal_inside : ¬ Legal countdown (with_one 1 whole (at 1 0 ∷ at 3 1 ∷ []) 1 (alone 0 (End 0 [] false ∷ []) (at 0 0 ∷ [])))
-  unfolding out-FrameRun out shown-the_row-InnerRow-0 shown out-InnerRow
-  illegal_inside is = let opened : false ≡ true = is.2.0.0.0.shape.0.closing in absurd (cc)
+    two_values_inside : ¬ Legal countdown (with_one 2 whole (at 1 1 ∷ at 3 2 ∷ []) 1 (with_one 1 whole (at 1 0 ∷ at 1 0 ∷ at 3 1 ∷ []) 1 inside))
+    unfolding out-FrameRun out shown-the_row-InnerRow-0 shown out-InnerRow
+    two_values_inside is = let same : 1 ∷ 1 ∷ 3 ∷ [] ≡ 1 ∷ 3 ∷ [] = is.2.0.0.1.values in let longer : 3 ≡ 2 = ap length same in absurd (omega (arith, longer))
 
-  two_values_inside : ¬ Legal countdown (with_one 2 whole (at 1 1 ∷ at 3 2 ∷ []) 1 (with_one 1 whole (at 1 0 ∷ at 1 0 ∷ at 3 1 ∷ []) 1 inside))
-  unfolding out-FrameRun out shown-the_row-InnerRow-0 shown out-InnerRow
-  two_values_inside is = let same : 1 ∷ 1 ∷ 3 ∷ [] ≡ 1 ∷ 3 ∷ [] = is.2.0.0.1.values in let longer : 3 ≡ 2 = ap length same in absurd (omega (arith, longer))
+    illegal_second : ¬ Legal countdown (with_two 1 whole (at 1 0 ∷ at 3 1 ∷ []) 1 inside 3 (alone 0 (End 0 [] false ∷ []) (at 0 0 ∷ [])))
+    unfolding out-FrameRun out shown-the_row-InnerRow-0 shown out-InnerRow
+    illegal_second is = let opened : false ≡ true = is.2.1.0.0.0.shape.0.closing in absurd (cc)
 
-  illegal_second : ¬ Legal countdown (with_two 1 whole (at 1 0 ∷ at 3 1 ∷ []) 1 inside 3 (alone 0 (End 0 [] false ∷ []) (at 0 0 ∷ [])))
-  unfolding out-FrameRun out shown-the_row-InnerRow-0 shown out-InnerRow
-  illegal_second is = let opened : false ≡ true = is.2.1.0.0.0.shape.0.closing in absurd (cc)
+    -- Rows fit where each End has one value, in order, and inner runs rise and stand at inner Ends and Faults.
+    value_missing : ¬ RowsFit (with_one 1 whole (at 1 0 ∷ []) 1 inside)
+    unfolding out-FrameRun out shown-the_row-InnerRow-0 shown out-InnerRow
+    value_missing is = let shorter : 1 ≡ 2 = ap length is.values in absurd (omega (arith, shorter))
 
-  -- Rows fit where each End has one value, in order, and inner runs rise and stand at inner Ends and Faults.
-  value_missing : ¬ RowsFit (with_one 1 whole (at 1 0 ∷ []) 1 inside)
-  unfolding out-FrameRun out shown-the_row-InnerRow-0 shown out-InnerRow
-  value_missing is = let shorter : 1 ≡ 2 = ap length is.values in absurd (omega (arith, shorter))
+    values_fall : ¬ RowsFit (with_one 1 whole (at 3 1 ∷ at 1 0 ∷ []) 1 inside)
+    unfolding out-FrameRun out shown-the_row-InnerRow-0 shown out-InnerRow
+    values_fall is = let first : 3 ≡ 1 = ap (λ (ns : List ℕ). get_or ns 0 0) is.values in absurd (omega (arith, first))
 
-  values_fall : ¬ RowsFit (with_one 1 whole (at 3 1 ∷ at 1 0 ∷ []) 1 inside)
-  unfolding out-FrameRun out shown-the_row-InnerRow-0 shown out-InnerRow
-  values_fall is = let first : 3 ≡ 1 = ap (λ (ns : List ℕ). get_or ns 0 0) is.values in absurd (omega (arith, first))
+    value_of_a_start : ¬ RowsFit (with_one 1 whole (at 1 0 ∷ at 2 1 ∷ []) 1 inside)
+    unfolding out-FrameRun out shown-the_row-InnerRow-0 shown out-InnerRow
+    value_of_a_start is = let second : 2 ≡ 3 = ap (λ (ns : List ℕ). get_or ns 1 0) is.values in absurd (omega (arith, second))
 
-  value_of_a_start : ¬ RowsFit (with_one 1 whole (at 1 0 ∷ at 2 1 ∷ []) 1 inside)
-  unfolding out-FrameRun out shown-the_row-InnerRow-0 shown out-InnerRow
-  value_of_a_start is = let second : 2 ≡ 3 = ap (λ (ns : List ℕ). get_or ns 1 0) is.values in absurd (omega (arith, second))
+    two_inner_runs_at_one_place : ¬ RowsFit (with_two 1 whole (at 1 0 ∷ at 3 1 ∷ []) 1 inside 1 inside)
+    unfolding out-FrameRun out shown-the_row-InnerRow-0 shown out-InnerRow
+    two_inner_runs_at_one_place is = absurd (omega (arith, is.rising 0 1 0 (omega arith) (omega arith)))
 
-  two_inner_runs_at_one_place : ¬ RowsFit (with_two 1 whole (at 1 0 ∷ at 3 1 ∷ []) 1 inside 1 inside)
-  unfolding out-FrameRun out shown-the_row-InnerRow-0 shown out-InnerRow
-  two_inner_runs_at_one_place is = absurd (omega (arith, is.rising 0 1 0 (omega arith) (omega arith)))
+    inner_run_at_a_plain_end : ¬ RowsFit (with_one 1 whole (at 1 0 ∷ at 3 1 ∷ []) 3 inside)
+    unfolding out-FrameRun out shown-the_row-InnerRow-0 shown out-InnerRow
+    inner_run_at_a_plain_end is = let inner : false ≡ true = is.fit 0 0 (omega arith) in absurd (cc)
 
-  inner_run_at_a_plain_end : ¬ RowsFit (with_one 1 whole (at 1 0 ∷ at 3 1 ∷ []) 3 inside)
-  unfolding out-FrameRun out shown-the_row-InnerRow-0 shown out-InnerRow
-  inner_run_at_a_plain_end is = let inner : false ≡ true = is.fit 0 0 (omega arith) in absurd (cc)
+    inner_run_at_a_start : ¬ RowsFit (with_one 1 whole (at 1 0 ∷ at 3 1 ∷ []) 2 inside)
+    unfolding out-FrameRun out shown-the_row-InnerRow-0 shown out-InnerRow
+    inner_run_at_a_start is = is.fit 0 0 (omega arith)
 
-  inner_run_at_a_start : ¬ RowsFit (with_one 1 whole (at 1 0 ∷ at 3 1 ∷ []) 2 inside)
-  unfolding out-FrameRun out shown-the_row-InnerRow-0 shown out-InnerRow
-  inner_run_at_a_start is = is.fit 0 0 (omega arith)
+    inner_run_at_a_drop : ¬ RowsFit (with_one 1 (Drop 0 Source Limit ∷ []) [] 0 inside)
+    unfolding out-FrameRun out shown-the_row-InnerRow-0 shown out-InnerRow
+    inner_run_at_a_drop is = is.fit 0 0 (omega arith)
 
-  inner_run_at_a_drop : ¬ RowsFit (with_one 1 (Drop 0 Source Limit ∷ []) [] 0 inside)
-  unfolding out-FrameRun out shown-the_row-InnerRow-0 shown out-InnerRow
-  inner_run_at_a_drop is = is.fit 0 0 (omega arith)
+    inner_run_past_the_end : ¬ RowsFit (with_one 1 whole (at 1 0 ∷ at 3 1 ∷ []) 4 inside)
+    unfolding out-FrameRun out shown-the_row-InnerRow-0 shown out-InnerRow
+    inner_run_past_the_end is = is.fit 0 0 (omega arith)
 
-  inner_run_past_the_end : ¬ RowsFit (with_one 1 whole (at 1 0 ∷ at 3 1 ∷ []) 4 inside)
-  unfolding out-FrameRun out shown-the_row-InnerRow-0 shown out-InnerRow
-  inner_run_past_the_end is = is.fit 0 0 (omega arith)
+    inner_run_at_a_fault : RowsFit (with_one 1 (Start 0 Source [] ∷ Fault 0 Inner ∷ []) [] 1 inside)
+    unfolding out-FrameRun out shown-the_row-InnerRow-0 shown out-InnerRow
+    inner_run_at_a_fault = record { values = refl; rising = λ i j d before below. absurd (omega arith); fit = all_one (MayStandAt (Start 0 Source [] ∷ Fault 0 Inner ∷ [])) 1 tt }
 
-  inner_run_at_a_fault : RowsFit (with_one 1 (Start 0 Source [] ∷ Fault 0 Inner ∷ []) [] 1 inside)
-  unfolding out-FrameRun out shown-the_row-InnerRow-0 shown out-InnerRow
-  inner_run_at_a_fault = record { values = refl; rising = λ i j d before below. absurd (omega arith); fit = all_one (MayStandAt (Start 0 Source [] ∷ Fault 0 Inner ∷ [])) 1 tt }
+    -- Whether a run is finished goes by its job's net and limit.
+    limited_at_its_limit : CompleteRun (record countdown { limit = λ j. 0 }) (alone 1 (Drop 0 Source Limit ∷ []) [])
+    unfolding out-FrameRun out shown-the_row-InnerRow-0 shown out-InnerRow
+    limited_at_its_limit = record {
+      none_open = (refl, tt);
+      sources = (λ is. refl, (λ is. absurd (cc), tt));
+      weak = (λ is. absurd (cc), tt);
+      strong = (λ some. absurd (some refl), (λ some. refl, tt));
+      limited = λ some. refl;
+    }
 
-  -- Whether a run is finished goes by its job's net and limit.
-  limited_at_its_limit : CompleteRun (record countdown { limit = λ j. 0 }) (alone 1 (Drop 0 Source Limit ∷ []) [])
-  unfolding out-FrameRun out shown-the_row-InnerRow-0 shown out-InnerRow
-  limited_at_its_limit = record {
-    none_open = (refl, tt);
-    sources = (λ is. refl, (λ is. absurd (cc), tt));
-    weak = (λ is. absurd (cc), tt);
-    strong = (λ some. absurd (some refl), (λ some. refl, tt));
-    limited = λ some. refl;
-  }
+    limited_before_its_limit : ¬ CompleteRun countdown (alone 1 (Drop 0 Source Limit ∷ []) [])
+    unfolding out-FrameRun out shown-the_row-InnerRow-0 shown out-InnerRow
+    limited_before_its_limit is = let made : 0 ≡ 2 = is.limited (λ none. absurd (omega (arith, none))) in absurd (omega (arith, made))
 
-  limited_before_its_limit : ¬ CompleteRun countdown (alone 1 (Drop 0 Source Limit ∷ []) [])
-  unfolding out-FrameRun out shown-the_row-InnerRow-0 shown out-InnerRow
-  limited_before_its_limit is = let made : 0 ≡ 2 = is.limited (λ none. absurd (omega (arith, none))) in absurd (omega (arith, made))
+    kept_needs_an_end : ¬ IsKept countdown (alone 1 [] [])
+    unfolding out-FrameRun out shown-the_row-InnerRow-0 shown out-InnerRow
+    kept_needs_an_end is = let used : 0 ≡ 1 = is.complete.sources.0 refl in absurd (omega (arith, used))
 
-  kept_needs_an_end : ¬ IsKept countdown (alone 1 [] [])
-  unfolding out-FrameRun out shown-the_row-InnerRow-0 shown out-InnerRow
-  kept_needs_an_end is = let used : 0 ≡ 1 = is.complete.sources.0 refl in absurd (omega (arith, used))
+    kept_needs_its_rules : ¬ IsKept countdown (alone 1 whole (at 1 0 ∷ at 3 1 ∷ []))
+    unfolding out-FrameRun out shown-the_row-InnerRow-0 shown out-InnerRow
+    kept_needs_its_rules is = is.legal.0.nested.1.0
 
-  kept_needs_its_rules : ¬ IsKept countdown (alone 1 whole (at 1 0 ∷ at 3 1 ∷ []))
-  unfolding out-FrameRun out shown-the_row-InnerRow-0 shown out-InnerRow
-  kept_needs_its_rules is = is.legal.0.nested.1.0
+    -- Each inner run is looked up by its own place, and a place between them has none.
+    abbrev two_inside : FrameRun ℕ ℕ
+    two_inside = with_two 1 whole (at 1 0 ∷ at 3 1 ∷ []) 1 inside 3 around
 
-  -- Each inner run is looked up by its own place, and a place between them has none.
-  abbrev two_inside : FrameRun ℕ ℕ
-  two_inside = with_two 1 whole (at 1 0 ∷ at 3 1 ∷ []) 1 inside 3 around
+    second_run : inner_at two_inside 3 ≡ Some around
+    unfolding out-FrameRun out shown-the_row-InnerRow-0 shown out-InnerRow
+    second_run = refl
 
-  second_run : inner_at two_inside 3 ≡ Some around
-  unfolding out-FrameRun out shown-the_row-InnerRow-0 shown out-InnerRow
-  second_run = refl
+    no_run_between : inner_at two_inside 2 ≡ None
+    unfolding out-FrameRun out shown-the_row-InnerRow-0 shown out-InnerRow
+    no_run_between = refl
 
-  no_run_between : inner_at two_inside 2 ≡ None
-  unfolding out-FrameRun out shown-the_row-InnerRow-0 shown out-InnerRow
-  no_run_between = refl
-
-  -- Only the task that hands on a job has an inner run.
-  inner_end_of_plain_task : ¬ NestedRule countdown 1 (at 1 0 ∷ []) (inner_at around) (Start 1 Strong [] ∷ []) (End 0 [] true)
-  unfolding out-FrameRun out shown-the_row-InnerRow-0 shown out-InnerRow
-  inner_end_of_plain_task is = is.answered
+    -- Only the task that hands on a job has an inner run.
+    inner_end_of_plain_task : ¬ NestedRule countdown 1 (at 1 0 ∷ []) (inner_at around) (Start 1 Strong [] ∷ []) (End 0 [] true)
+    unfolding out-FrameRun out shown-the_row-InnerRow-0 shown out-InnerRow
+    inner_end_of_plain_task is = is.answered
