@@ -336,6 +336,9 @@ module _ (five ten : Arc ℕ Global) (run : FrameRun ℕ ℕ) where
   fault_of_an_end : ¬ WorkRule numbers 2 rows no_run second_begun (Fault 1 (Long 0))
   fault_of_an_end is = is
 
+  fault_of_a_drop : ¬ WorkRule numbers 2 rows no_run (Drop 0 Source Limit ∷ []) (Fault 0 (Long 0))
+  fault_of_a_drop is = is
+
   -- An inner end has a run: of the job that was answered, fine, and gathered to its value.
   inner_end : job_of run ≡ 2 → IsFine (journal_of run) → arc_value five ≡ 2 → NestedRule numbers 2 rows the_run begun (End 0 (0 ∷ []) true)
   inner_end job calm is = record { answered = job; fine = calm; gathered = cc; all_edges = refl }
@@ -449,3 +452,7 @@ no_end = refl
 
 ends_of_both : ends_from 0 twice ≡ 2 ∷ 3 ∷ 5 ∷ []
 ends_of_both = refl
+
+-- A fault and a drop have their places too.
+ends_behind_others : ends_from 0 (Fault 9 Inner ∷ End 9 [] false ∷ Drop 0 Source Limit ∷ End 9 [] true ∷ []) ≡ 1 ∷ 3 ∷ []
+ends_behind_others = refl
