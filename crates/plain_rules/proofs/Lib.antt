@@ -1,3 +1,4 @@
 pub mod Decided
 pub mod Ends
+pub mod Semaphores
 pub mod Walks

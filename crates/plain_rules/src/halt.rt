@@ -25,7 +25,8 @@ fn meets_limit_rule(net: &Net, limit: u64, journal: &[Entry], entry: &Entry) -> 
     }
 }
 
-fn may_drop(net: &Net, journal: &[Entry], task: u32, why: DropWhy) -> bool
+/// Whether a release of a task may be dropped for this reason.
+pub fn may_drop(net: &Net, journal: &[Entry], task: u32, why: DropWhy) -> bool
     ensures { IsTrue result ↔ DropRule net.now journal.now task why }
 {
     match why {
@@ -62,7 +63,8 @@ fn stuck_drops(journal: &[Entry]) -> usize
     journal.iter().filter(|entry| is_stuck(entry)).count()
 }
 
-fn meets_after_stuck_rule(journal: &[Entry], entry: &Entry) -> bool
+/// Whether an entry is a Drop for want of a unit, or no such Drop is before it.
+pub fn meets_after_stuck_rule(journal: &[Entry], entry: &Entry) -> bool
     ensures { IsTrue result ↔ AfterStuckRule journal.now entry.now }
 {
     is_stuck(entry) || stuck_drops(journal) == 0

@@ -1,10 +1,10 @@
 //! The rules of journals, decided by walking lists.
 //!
 //! Each rule has a plain function whose contract is the rule itself: `is_shape_legal` says whether a
-//! journal is `ShapeLegal`, `meets_data_rule` whether it meets the rule on what starts find, and
-//! `is_complete` whether it is `Complete`. They keep no counts and allocate nothing, and look at the whole
-//! journal again for each entry. So they are for small journals, as those of tests that compare a faster
-//! machine with them.
+//! journal is `ShapeLegal`, `meets_data_rule` whether it meets the rule on what starts find, `refusal` which
+//! rule an entry breaks first, and `is_complete` whether a journal is `Complete`. They keep no counts and
+//! allocate nothing, and look at the whole journal again for each entry. So they are for small journals, as
+//! those of tests that compare a faster machine with them.
 //!
 //! Beside them stand functions with empty bodies. Their contracts say of journals that were worked out by
 //! hand which are legal and complete, and which rule each of the others breaks.
@@ -19,6 +19,7 @@ mod finished_runs;
 mod halt;
 mod legal;
 mod nets;
+mod refusals;
 mod refused_entries;
 mod release;
 mod units;
@@ -35,6 +36,7 @@ pub use finished_runs::{
 };
 pub use halt::meets_halt_limit_stuck_rule;
 pub use legal::{is_in_range, is_shape_legal, may_follow};
+pub use refusals::refusal;
 pub use refused_entries::{
     not_chosen, not_distinct, not_open, not_released, out_of_range, over_units,
     past_limit_or_without_cause,

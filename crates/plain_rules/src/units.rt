@@ -20,7 +20,8 @@ pub fn takes(net: &Net, sem: u32, task: u32) -> bool
     }
 }
 
-fn puts(net: &Net, sem: u32, task: u32) -> bool
+/// Whether a task puts a unit of a semaphore.
+pub fn puts(net: &Net, sem: u32, task: u32) -> bool
     ensures { result ≡ puts net.now sem task }
 {
     match net.tasks().get(task as usize) {
@@ -38,7 +39,8 @@ fn starts_taker(net: &Net, sem: u32, entry: &Entry) -> bool
     }
 }
 
-fn taken(net: &Net, sem: u32, journal: &[Entry]) -> usize
+/// How many units of a semaphore were taken.
+pub fn taken(net: &Net, sem: u32, journal: &[Entry]) -> usize
     ensures value { result ≡ taken net.now sem journal.now }
     ensures few { result < 2 ^ 63 }
 {
@@ -60,7 +62,8 @@ fn gives_back(net: &Net, sem: u32, journal: &[Entry], entry: &Entry) -> bool
     }
 }
 
-fn back(net: &Net, sem: u32, journal: &[Entry]) -> usize
+/// How many units of a semaphore are back.
+pub fn back(net: &Net, sem: u32, journal: &[Entry]) -> usize
     ensures value { result ≡ back net.now sem journal.now }
     ensures few { result < 2 ^ 63 }
 {
@@ -160,7 +163,8 @@ fn back_with(net: &Net, sem: u32, journal: &[Entry], next: &Entry) -> usize
         + usize::from(gives_back_with(net, sem, journal, next, next))
 }
 
-fn meets_fault_rule(net: &Net, journal: &[Entry], entry: &Entry) -> bool
+/// Whether a Fault for a unit that isn't out is a true one.
+pub fn meets_fault_rule(net: &Net, journal: &[Entry], entry: &Entry) -> bool
     ensures { IsTrue result ↔ FaultRule net.now journal.now entry.now }
 {
     match entry {
