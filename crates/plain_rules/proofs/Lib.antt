@@ -2,3 +2,4 @@ pub mod Decided
 pub mod Ends
 pub mod Semaphores
 pub mod Walks
+pub mod WorkedMachine
