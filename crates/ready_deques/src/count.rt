@@ -12,9 +12,12 @@ use std::sync::Wait;
 // How many owners have a word for spare counts.
 const OWNERS: usize = 16;
 
-// The words of the table. One of sixteen is used, the one in the middle, so that no other data is on its cache line:
-// first the count word, then a word for the spare counts of each owner.
+// The words of the table. One word of each line is used, the one in the middle, so that no other data is on its cache
+// line: first the count word, then the spare counts of each owner.
 const WORDS: usize = 272;
+
+// How many words a line has here: twice those of a cache line, since processors fetch cache lines in pairs.
+const LINE: usize = 16;
 
 const WORD: usize = 8;
 
@@ -29,7 +32,7 @@ pub struct Counting {
     pub room: u64,
 }
 
-/// The word is the number of counts that the seats hold and of those that are spare, and room bounds it.
+/// The count word is the number of counts that the seats hold and of those that are spare, and room bounds it.
 pub struct Counted;
 
 impl TableRule<(), Counting, ()> for Counted {
@@ -153,7 +156,7 @@ impl Model for Account {
     ghost invariant = { λ a. (a.seat.me ≡ (counting 0 a.seat.me.0.zeros a.room, [])) × IsSpare a.spare };
 }
 
-/// The table of the count word.
+/// The table of the count word and of the spare counts.
 #[derive(Drop)]
 pub struct Counter {
     pub table: Table<(), Counting, (), Counted, Global>,
@@ -165,7 +168,7 @@ fn spare_word(number: usize) -> usize
     requires { number < 16 }
     ensures { IsSpare result }
 {
-    WORD + 16 * (number + 1)
+    WORD + LINE * (number + 1)
 }
 
 impl Counter {
@@ -200,8 +203,8 @@ impl Counter {
         }
     }
 
-    /// A seat that holds one count: one that the owner has to spare, else a new one. While the account has room the
-    /// word is raised by a sum, which room keeps from wrapping.
+    /// A seat that holds one count: one that the owner has to spare, else a new one. While the account has room a new
+    /// one is made by a sum, which room keeps from wrapping.
     pub fn count<R: Wait>(&self, rt: &R, account: &mut Account) -> Seat<(), Counting>
         requires { account.old.counts ≡ self.now.table.shared.table_id }
         ensures account { account.new ≡ account.old }
@@ -256,15 +259,17 @@ impl Counter {
         self.lower_by(&mut seat, 1);
     }
 
-    /// Keeps a seat's count for the owner's next push.
+    /// Adds a seat's count to those that the account's owner has to spare.
     pub fn keep(&self, account: &Account, mut seat: Seat<(), Counting>)
         requires table { seat.table_id ≡ self.now.table.shared.table_id }
         requires view { seat.me ≡ (counting 1 0 0, []) }
     {
-        self.table.shared.fetch_add::<Keeps>(&mut seat, account.spare, 1);
+        self.table
+            .shared
+            .fetch_add::<Keeps>(&mut seat, account.spare, 1);
     }
 
-    /// Takes the spare counts of all owners out of the word.
+    /// Takes the spare counts of all owners out of the count word.
     pub fn gather(&self, account: &mut Account)
         requires { account.old.counts ≡ self.now.table.shared.table_id }
         ensures { account.new ≡ account.old }
@@ -323,7 +328,8 @@ impl Counter {
         self.table.shared.fetch_add::<Draws>(seat, WORD, 1);
     }
 
-    // Takes a spare count, if there is one and no other takes it meanwhile.
+    // Whether the seat now has one spare count more. It has none where there is none, or where another gathers them
+    // meanwhile.
     fn spend(&self, seat: &mut Seat<(), Counting>, word: usize) -> bool
         requires table { seat.old.table_id ≡ self.now.table.shared.table_id }
         requires word { IsSpare word }
@@ -346,7 +352,7 @@ impl Counter {
         self.table.shared.split_seat::<HandsOver>(seat)
     }
 
-    // Takes one owner's spare counts out of the word.
+    // Takes one owner's spare counts out of the count word.
     fn gather_from(&self, account: &mut Account, word: usize)
         requires account { account.old.counts ≡ self.now.table.shared.table_id }
         requires word { IsSpare word }
@@ -358,7 +364,7 @@ impl Counter {
         }
     }
 
-    // Gives the seat all spare counts of one owner.
+    // Gives the seat all spare counts of one owner, and answers how many.
     fn empty(&self, seat: &mut Seat<(), Counting>, word: usize) -> u64
         requires table { seat.old.table_id ≡ self.now.table.shared.table_id }
         requires word { IsSpare word }

@@ -131,7 +131,7 @@ impl<T: Tagged + Drop> Owner<T> {
 
     /// The newest item of this owner's deque, else the injector's oldest, else the oldest of another owner's deque,
     /// beginning with the next owner. It may wait. `None` only if a load of the count word in this call found 0, so
-    /// that no item was queued then.
+    /// that no item was queued then. It waits for no owner that is busy with an item that it took.
     pub fn take<R: Wait>(&mut self, rt: &R) -> Option<T>
         ensures same { (self.new.tag ≡ self.old.tag) × (self.new.counts ≡ self.old.counts) }
         ensures tag { IfSome result (λ item. T.tag item ≡ self.old.tag) }
@@ -178,7 +178,7 @@ impl<T: Tagged + Drop> Owner<T> {
         }
     }
 
-    // Whether the count word is 0 at a step of this call, after the spare counts were taken out of it.
+    // Whether the count word is 0 at a step of this call, which follows on taking the spare counts out of it.
     fn finds_none(&mut self) -> bool
         ensures same { (self.new.tag ≡ self.old.tag) × (self.new.counts ≡ self.old.counts) }
         ensures zero { IsTrue result → self.new.zeros ≡ self.old.zeros + 1 }
