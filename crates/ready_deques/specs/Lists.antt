@@ -8,7 +8,7 @@ use Rattle.ready_deques.specs.declared.tagged.Tagged.{Ghosts}
 abbrev pub tag_of : {T : Type 0} {G : Ghosts T} → Ready T G → List ℕ
 tag_of ready = ready.tag.numbers
 
--- The tag of an owner's list, the table of its count word, and how many loads of that word by this owner found 0. The word is the number of items that are queued, and of those on their way in or out
+-- The tag of an owner's list, the table of its count word, and how many loads of that word by this owner found 0. The word is never below the number of items that are queued
 pub record OwnerState : Type 0 where
   pub tag : List ℕ
   pub counts : TableId

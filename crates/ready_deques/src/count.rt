@@ -1,7 +1,7 @@
-// The count word of a list: how many items are queued, or on their way in or out.
-ghost use Rattle.std.specs.Prelude.{◌≡◌, ◌+◌, ◌-◌, ◌<◌, [], IfOk, IsTrue, IsFalse};
+// The count word of a list, and the spare counts of its owners.
+ghost use Rattle.std.specs.Prelude.{◌≡◌, ◌≢◌, ◌+◌, ◌-◌, ◌*◌, ◌<◌, [], IfOk, IsTrue, IsFalse};
 ghost use Rattle.ready_deques.specs.declared.count.TheConstants.{WORDS};
-ghost use Rattle.ready_deques.specs.inside.Counts.{counting, seen, account_state, without_count, half_kept, half_given};
+ghost use Rattle.ready_deques.specs.inside.Counts.{counting, seen, account_state, with_count, with_counts, without_count, count_alone, drawn, half_kept, half_given, IsSpare};
 
 use atomic_table::{Play, Seat, Split, Table, TableRule};
 use outside_io::NoMemory;
@@ -9,8 +9,15 @@ use std::alloc::Global;
 use std::marker::Model;
 use std::sync::Wait;
 
-// The words of the table. Only the one in the middle is used, so that no other data is on its cache line.
-const WORDS: usize = 16;
+// How many owners have a word for spare counts.
+const OWNERS: usize = 16;
+
+// The words of the table. One word of each line is used, the one in the middle, so that no other data is on its cache
+// line: first the count word, then the spare counts of each owner.
+const WORDS: usize = 272;
+
+// How many words a line has here: twice those of a cache line, since processors fetch cache lines in pairs.
+const LINE: usize = 16;
 
 const WORD: usize = 8;
 
@@ -25,7 +32,7 @@ pub struct Counting {
     pub room: u64,
 }
 
-/// The word is the number of counts that the seats hold, and room bounds it.
+/// The count word is the number of counts that the seats hold and of those that are spare, and room bounds it.
 pub struct Counted;
 
 impl TableRule<(), Counting, ()> for Counted {
@@ -63,13 +70,40 @@ impl Play<(), Counting> for Draws {
     ghost then = { DrawsIt };
 }
 
-/// The word and the seat's counts are one less.
+/// The word and the seat's counts are less by the same number.
 pub struct Lowers;
 
 impl Play<(), Counting> for Lowers {
     ghost use Rattle.ready_deques.specs.inside.Counts.{LowersIt};
 
     ghost then = { LowersIt };
+}
+
+/// The seat has one count less, and there is one more to spare.
+pub struct Keeps;
+
+impl Play<(), Counting> for Keeps {
+    ghost use Rattle.ready_deques.specs.inside.Counts.{KeepsCount};
+
+    ghost then = { KeepsCount };
+}
+
+/// If there are as many counts to spare as were seen, there is one less, and the seat has one more.
+pub struct Spends;
+
+impl Play<(), Counting> for Spends {
+    ghost use Rattle.ready_deques.specs.inside.Counts.{RaisesIt};
+
+    ghost then = { RaisesIt };
+}
+
+/// The seat has all counts that there were to spare.
+pub struct Gathers;
+
+impl Play<(), Counting> for Gathers {
+    ghost use Rattle.ready_deques.specs.inside.Counts.{GathersIt};
+
+    ghost then = { GathersIt };
 }
 
 /// A load that finds 0 is counted.
@@ -103,66 +137,89 @@ impl Split<Counting> for Halves {
     ghost right = { half_given };
 }
 
-/// A seat without a count, with its room.
+/// A seat without a count, with its room, and the word of its owner's spare counts.
 #[derive(Drop)]
 pub struct Account {
     seat: Seat<(), Counting>,
     room: u64,
+    spare: usize,
 }
 
 impl Model for Account {
     ghost use Rattle.std.specs.Prelude.{◌≡◌, []};
-    ghost use Rattle.ready_deques.specs.inside.Counts.{counting, AccountState, account_state};
+    ghost use Rattle.ready_deques.specs.inside.Counts.{counting, AccountState, account_state, IsSpare};
 
     ghost Value = { AccountState };
 
     ghost view = { λ a. account_state a.seat.table_id a.seat.me.0.zeros };
 
-    ghost invariant = { λ a. a.seat.me ≡ (counting 0 a.seat.me.0.zeros a.room, []) };
+    ghost invariant = { λ a. (a.seat.me ≡ (counting 0 a.seat.me.0.zeros a.room, [])) × IsSpare a.spare };
 }
 
-/// The table of the count word.
+/// The table of the count word and of the spare counts.
 #[derive(Drop)]
 pub struct Counter {
     pub table: Table<(), Counting, (), Counted, Global>,
     ghost words: { table.shared.table_id.words ≡ WORDS },
 }
 
+// Where the spare counts of the owner with this number are.
+fn spare_word(number: usize) -> usize
+    requires { number < 16 }
+    ensures { IsSpare result }
+{
+    WORD + LINE * (number + 1)
+}
+
 impl Counter {
-    /// A word that is 0, and an account with all room.
+    /// A word that is 0, no spare counts, and an account with all room.
     #[tactic(auto, using(crate::proofs::Counting::begins))]
     pub fn new(alloc: Global) -> Result<(Counter, Account), NoMemory>
         ensures { IfOk result (λ made. made.1 ≡ account_state made.0.table.shared.table_id 0) }
     {
         let (table, seat) = Table::of_words(alloc, &[0; WORDS], &())?;
-        Ok((Counter { table }, Account { seat, room: ROOM }))
+        let account = Account {
+            seat,
+            room: ROOM,
+            spare: spare_word(0),
+        };
+        Ok((Counter { table }, account))
     }
 
-    /// An account with half of another's room.
-    pub fn open(&self, from: &mut Account) -> Account
-        requires { from.old.counts ≡ self.now.table.shared.table_id }
+    /// The account of the owner with this number, with half of another's room.
+    pub fn open(&self, from: &mut Account, number: usize) -> Account
+        requires account { from.old.counts ≡ self.now.table.shared.table_id }
+        requires number { number < 16 }
         ensures from { from.new ≡ from.old }
         ensures opened { result ≡ account_state self.now.table.shared.table_id 0 }
     {
         let half = from.room / 2;
         let seat = self.split_room(&mut from.seat);
         from.room -= half;
-        Account { seat, room: half }
+        Account {
+            seat,
+            room: half,
+            spare: spare_word(number),
+        }
     }
 
-    /// A seat that holds one count. While the account has room the word is raised by a sum, which room keeps from
-    /// wrapping.
+    /// A seat that holds one count: one that the owner has to spare, else a new one. While the account has room a new
+    /// one is made by a sum, which room keeps from wrapping.
     pub fn count<R: Wait>(&self, rt: &R, account: &mut Account) -> Seat<(), Counting>
         requires { account.old.counts ≡ self.now.table.shared.table_id }
         ensures account { account.new ≡ account.old }
         ensures table { result.table_id ≡ self.now.table.shared.table_id }
         ensures view { result.me ≡ (counting 1 0 0, []) }
     {
+        if self.spend(&mut account.seat, account.spare) {
+            return self.hand_over(&mut account.seat);
+        }
         if account.room == 0 {
             return self.raise(rt);
         }
         account.room -= 1;
-        self.draw(&mut account.seat)
+        self.draw(&mut account.seat);
+        self.hand_over(&mut account.seat)
     }
 
     /// A seat that holds one count. The word is raised by a compare-exchange, from a number that is far from
@@ -184,12 +241,42 @@ impl Counter {
         unreachable!()
     }
 
-    /// Gives a seat's count back.
+    // Takes the seat's counts, so many, out of the word.
+    fn lower_by(&self, seat: &mut Seat<(), Counting>, count: u64)
+        requires table { seat.old.table_id ≡ self.now.table.shared.table_id }
+        requires count { seat.old.me.0.count ≡ count }
+        ensures table { seat.new.table_id ≡ seat.old.table_id }
+        ensures view { seat.new.me ≡ (without_count seat.old.me.0, seat.old.me.1) }
+    {
+        self.table.shared.fetch_sub::<Lowers>(seat, WORD, count);
+    }
+
+    /// Takes a seat's count out of the word.
     pub fn lower(&self, mut seat: Seat<(), Counting>)
         requires table { seat.table_id ≡ self.now.table.shared.table_id }
         requires view { seat.me ≡ (counting 1 0 0, []) }
     {
-        self.table.shared.fetch_sub::<Lowers>(&mut seat, WORD, 1);
+        self.lower_by(&mut seat, 1);
+    }
+
+    /// Adds a seat's count to those that the account's owner has to spare.
+    pub fn keep(&self, account: &Account, mut seat: Seat<(), Counting>)
+        requires table { seat.table_id ≡ self.now.table.shared.table_id }
+        requires view { seat.me ≡ (counting 1 0 0, []) }
+    {
+        self.table
+            .shared
+            .fetch_add::<Keeps>(&mut seat, account.spare, 1);
+    }
+
+    /// Takes the spare counts of all owners out of the count word.
+    pub fn gather(&self, account: &mut Account)
+        requires { account.old.counts ≡ self.now.table.shared.table_id }
+        ensures { account.new ≡ account.old }
+    {
+        for number in 0..OWNERS {
+            self.gather_from(account, spare_word(number));
+        }
     }
 
     /// Whether the word is 0 at a step of this call. The account counts it if so.
@@ -231,15 +318,59 @@ impl Counter {
         self.table.shared.split_seat::<Halves>(seat)
     }
 
-    fn draw(&self, seat: &mut Seat<(), Counting>) -> Seat<(), Counting>
+    // Raises the word by a sum, for one of the seat's room.
+    fn draw(&self, seat: &mut Seat<(), Counting>)
         requires table { seat.old.table_id ≡ self.now.table.shared.table_id }
-        requires count { seat.old.me.0.count ≡ 0 }
         requires room { 0 < seat.old.me.0.room }
-        ensures table { (seat.new.table_id ≡ seat.old.table_id) × (result.table_id ≡ seat.old.table_id) }
-        ensures kept { seat.new.me ≡ (counting 0 seat.old.me.0.zeros (seat.old.me.0.room - 1), seat.old.me.1) }
-        ensures drawn { result.me ≡ (counting 1 0 0, []) }
+        ensures table { seat.new.table_id ≡ seat.old.table_id }
+        ensures drawn { seat.new.me ≡ (drawn seat.old.me.0, seat.old.me.1) }
     {
         self.table.shared.fetch_add::<Draws>(seat, WORD, 1);
+    }
+
+    // Whether the seat now has one spare count more. It has none where there is none, or where another gathers them
+    // meanwhile.
+    fn spend(&self, seat: &mut Seat<(), Counting>, word: usize) -> bool
+        requires table { seat.old.table_id ≡ self.now.table.shared.table_id }
+        requires word { IsSpare word }
+        ensures table { seat.new.table_id ≡ seat.old.table_id }
+        ensures spent { IsTrue result → seat.new.me ≡ (with_count seat.old.me.0, seat.old.me.1) }
+        ensures none { IsFalse result → seat.new.me ≡ seat.old.me }
+    {
+        let shared = &self.table.shared;
+        let found = shared.peek(word);
+        found != 0 && shared.compare_exchange::<Spends>(seat, word, found, found - 1) == found
+    }
+
+    // The seat's counts, as a seat of their own.
+    fn hand_over(&self, seat: &mut Seat<(), Counting>) -> Seat<(), Counting>
+        requires table { seat.old.table_id ≡ self.now.table.shared.table_id }
+        ensures table { (seat.new.table_id ≡ seat.old.table_id) × (result.table_id ≡ seat.old.table_id) }
+        ensures kept { seat.new.me ≡ (without_count seat.old.me.0, seat.old.me.1) }
+        ensures given { result.me ≡ (count_alone seat.old.me.0, []) }
+    {
         self.table.shared.split_seat::<HandsOver>(seat)
+    }
+
+    // Takes one owner's spare counts out of the count word.
+    fn gather_from(&self, account: &mut Account, word: usize)
+        requires account { account.old.counts ≡ self.now.table.shared.table_id }
+        requires word { IsSpare word }
+        ensures { account.new ≡ account.old }
+    {
+        if self.table.shared.peek(word) != 0 {
+            let gathered = self.empty(&mut account.seat, word);
+            self.lower_by(&mut account.seat, gathered);
+        }
+    }
+
+    // Gives the seat all spare counts of one owner, and answers how many.
+    fn empty(&self, seat: &mut Seat<(), Counting>, word: usize) -> u64
+        requires table { seat.old.table_id ≡ self.now.table.shared.table_id }
+        requires word { IsSpare word }
+        ensures table { seat.new.table_id ≡ seat.old.table_id }
+        ensures view { seat.new.me ≡ (with_counts result seat.old.me.0, seat.old.me.1) }
+    {
+        self.table.shared.swap::<Gathers>(seat, word, 0)
     }
 }

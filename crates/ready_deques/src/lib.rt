@@ -13,30 +13,41 @@
 //! by the first step on it, which gives its passes the list's name: its tag and the table of its count word. Whoever
 //! pushes shows that the item fits the name, and whoever takes one learns that it does.
 //!
-//! # The count word
+//! # The count word and the spare counts
 //!
-//! A table of `atomic_table` has one word in use, the number of items that are queued or on their way in or out. Its
-//! rule (`Counted`) says that the word is the number of counts that the seats hold.
+//! A table of `atomic_table` has the count word and, for each owner, a word of spare counts. Its rule (`Counted`) says
+//! that the count word is the number of counts that the seats hold and of those that are spare. So the count word is
+//! never below the number of queued items.
 //!
-//! - A push first raises the word, which gives a seat of its own one count, and then queues the item with that seat.
-//!   If neither the deque nor the injector takes it, the count is given back, and the caller has the item again.
-//! - Whoever takes an item lowers the word, which spends the count of the item's seat.
-//! - A load in `take` that finds 0 is counted in the owner's account. So where `take` answers `None`, no seat held a
-//!   count at a step of that call, and since each queued item holds one, none was queued.
+//! - A push first gets a seat with one count, and then queues the item with that seat. The count is one that the owner
+//!   has to spare, and the count word stays as it is; an owner with none to spare raises the count word by one. If
+//!   neither the deque nor the injector takes the item, the caller has the item again, and the count is spare. A push
+//!   from outside always raises the word, and lowers it again if it is refused.
+//! - An owner that takes an item, of its own or of another, adds the count of the item's seat to its own spare counts
+//!   and leaves the count word alone. So owners that push and take their own items write no word in common.
+//! - A `take` that finds no item first gathers the spare counts of all owners, from each word into its own seat, and
+//!   takes them out of the count word. Only then it loads the count word. So an owner that is busy with an item keeps
+//!   no other from `None`. A load that finds 0 is counted in the owner's account. So where `take` answers `None`, no
+//!   seat held a count at a step of that call, and since each queued item holds one, none was queued.
 //!
-//! An owner raises the word by a sum, which never fails when other owners do the same. So that the sum can't wrap,
-//! each owner's account has room, which was cut from a first account of 2^62 and is spent by each push. Without room,
-//! and from outside, the word is raised by a compare-exchange from a number below 2^62.
+//! An owner raises the count word by a sum, which never fails when other owners do the same. So that the sum can't
+//! wrap, each owner's account has room, which was cut from a first account of 2^62 and is spent by each such push.
+//! Without room, and from outside, the word is raised by a compare-exchange from a number below 2^62. A word of spare
+//! counts is raised by a sum too, and can't wrap since it is at most the count word.
 //!
 //! # The sleepers
 //!
 //! An owner that finds nothing may sleep in `idle`. It puts itself into the set of sleepers, then looks at the count
-//! word and at the mark of closing once more, and only then parks. A push raises the count before it looks at that
-//! set, so one of the two sees the other. It takes one owner out of the set and unparks it; where the set is empty it
-//! makes no call to the system. `close` sets its mark and unparks all. An owner may be unparked without a reason, and
-//! then looks in vain. That a wake arrives, and that workers steal, is shown by tests and not proved.
+//! word and at the mark of closing once more, and only then parks. A push has the item's count before it looks at that
+//! set, and the count word is not 0 while the item is queued. So an owner that enters the set before the push looks is
+//! there to be woken, and one that enters later finds a count word that is not 0. The push takes one owner out of the
+//! set and unparks it; where the set is empty it makes no call to the system. `close` sets its mark and unparks all.
+//! An owner may be unparked without a reason, and then looks in vain. Where nothing but spare counts keeps the count
+//! word above 0, `idle` returns at once, and the next `take` gathers them. That a wake arrives, and that workers
+//! steal, is shown by tests and not proved.
 //!
-//! The count word and the set of sleepers lie on cache lines of their own, since every push and take touches them.
+//! The count word, each word of spare counts and the set of sleepers lie on cache lines of their own, since pushes and
+//! takes write them.
 //!
 //! The layer above sees a list by its tag (`tag_of`), and an owner as an `OwnerState`: the tag of its list, the table
 //! of its count word, and how many of its loads found 0. The definitions are in `specs/Lists.antt`.

@@ -113,7 +113,7 @@ impl<T: Tagged + Drop> Owner<T> {
                 Ok(())
             }
             Err(queued) => Err(Back {
-                item: self.ready.count_out(queued),
+                item: self.ready.keep_count(&self.account, queued),
             }),
         }
     }
@@ -124,14 +124,14 @@ impl<T: Tagged + Drop> Owner<T> {
         ensures tag { IfSome result (λ item. T.tag item ≡ self.old.tag) }
     {
         match deque::pop(&mut self.worker) {
-            Some(queued) => Some(self.ready.count_out(queued)),
+            Some(queued) => Some(self.ready.keep_count(&self.account, queued)),
             None => None,
         }
     }
 
     /// The newest item of this owner's deque, else the injector's oldest, else the oldest of another owner's deque,
     /// beginning with the next owner. It may wait. `None` only if a load of the count word in this call found 0, so
-    /// that no item was queued then.
+    /// that no item was queued then. It waits for no owner that is busy with an item that it took.
     pub fn take<R: Wait>(&mut self, rt: &R) -> Option<T>
         ensures same { (self.new.tag ≡ self.old.tag) × (self.new.counts ≡ self.old.counts) }
         ensures tag { IfSome result (λ item. T.tag item ≡ self.old.tag) }
@@ -173,17 +173,18 @@ impl<T: Tagged + Drop> Owner<T> {
             &mut self.pass,
             &mut self.thieves,
         ) {
-            Some(queued) => Some(self.ready.count_out(queued)),
+            Some(queued) => Some(self.ready.keep_count(&self.account, queued)),
             None => None,
         }
     }
 
-    // Whether the count word is 0 at a step of this call.
+    // Whether the count word is 0 at a step of this call, which follows on taking the spare counts out of it.
     fn finds_none(&mut self) -> bool
         ensures same { (self.new.tag ≡ self.old.tag) × (self.new.counts ≡ self.old.counts) }
         ensures zero { IsTrue result → self.new.zeros ≡ self.old.zeros + 1 }
         ensures more { IsFalse result → self.new.zeros ≡ self.old.zeros }
     {
+        self.ready.counter.gather(&mut self.account);
         self.ready.counter.finds_zero(&mut self.account)
     }
 

@@ -4,7 +4,7 @@ ghost use Rattle.keyed_lock.specs.Locks.{made_with};
 ghost use Rattle.crossbeam_deque.specs.Injected.{injector_view};
 ghost use Rattle.ready_deques.specs.inside.Naming.{IsKnown, about, injector_of, pass_key};
 
-use crate::count::Counter;
+use crate::count::{Account, Counter};
 use crate::deque::Queued;
 use crate::injector;
 use crate::injector::{ItemInjector, ItemPass};
@@ -84,8 +84,19 @@ impl<T: Tagged + Drop> Ready<T> {
         self.closed.load(SeqCst)
     }
 
-    // The item, whose count is given back.
-    pub(crate) fn count_out(&self, queued: Queued<T>) -> T
+    // The item, whose count goes to those that an owner has to spare.
+    pub(crate) fn keep_count(&self, account: &Account, queued: Queued<T>) -> T
+        requires { IsKnown T.tag (Some (name_of self.now)) (queued ∷ []) }
+        ensures item { result ≡ queued.item }
+        ensures tag { T.tag result ≡ tag_of self.now }
+    {
+        let Queued { item, seat } = queued;
+        self.counter.keep(account, seat);
+        item
+    }
+
+    // The item, whose count is taken out of the count word.
+    fn count_out(&self, queued: Queued<T>) -> T
         requires { IsKnown T.tag (Some (name_of self.now)) (queued ∷ []) }
         ensures item { result ≡ queued.item }
         ensures tag { T.tag result ≡ tag_of self.now }

@@ -152,17 +152,19 @@ fn new_owner<T: Tagged + Drop>(
     pass: &mut ItemPass<T>,
     account: &mut Account,
     parker: Parker,
-    bit: u64,
+    number: usize,
 ) -> Result<Owner<T>, NoMemory>
+    requires number { number < 16 }
     requires account { account.old.counts ≡ (arc_value ready.now).counter.table.shared.table_id }
     requires pass { IsInjectorPassOf (arc_value ready.now).injector pass.old × (injector_view pass.old ≡ Some (name_of (arc_value ready.now))) }
     ensures pass { IsInjectorPassOf (arc_value ready.now).injector pass.new × (injector_view pass.new ≡ injector_view pass.old) }
     ensures account { account.new ≡ account.old }
     ensures owner { IfOk result (IsOwnerOf (arc_value ready.now)) }
 {
-    let own_account = ready.counter.open(account);
+    let own_account = ready.counter.open(account, number);
     let own_pass = injector::another(&ready.injector, pass);
     let worker = named_worker(alloc, &ready.tag, &ready.counter)?;
+    let bit = 1u64 << number;
     Owner::of(alloc, ready, worker, own_pass, own_account, parker, bit)
 }
 
@@ -173,8 +175,9 @@ fn add_owner<T: Tagged + Drop>(
     account: &mut Account,
     owners: &mut Vec<Owner<T>>,
     parker: Parker,
-    bit: u64,
+    number: usize,
 ) -> Result<(), NoMemory>
+    requires number { number < 16 }
     requires account { account.old.counts ≡ (arc_value ready.now).counter.table.shared.table_id }
     requires pass { IsInjectorPassOf (arc_value ready.now).injector pass.old × (injector_view pass.old ≡ Some (name_of (arc_value ready.now))) }
     requires owners { All (IsOwnerOf (arc_value ready.now)) owners.old.items }
@@ -183,12 +186,12 @@ fn add_owner<T: Tagged + Drop>(
     ensures owners { All (IsOwnerOf (arc_value ready.now)) owners.new.items }
     ensures count { IfOk result (λ _. length owners.new.items ≡ length owners.old.items + 1) }
 {
-    let owner = new_owner(alloc, ready, pass, account, parker, bit)?;
+    let owner = new_owner(alloc, ready, pass, account, parker, number)?;
     owners.push(owner)?;
     Ok(())
 }
 
-// An owner for each parker. The bit of each is that of its waker's place.
+// An owner for each parker. Each has the number of its waker's place.
 fn new_owners<T: Tagged + Drop>(
     alloc: Global,
     ready: &Arc<Ready<T>>,
@@ -204,7 +207,7 @@ fn new_owners<T: Tagged + Drop>(
 {
     let mut owners = Vec::new(alloc);
     while let Some(parker) = parkers.pop() {
-        let bit = 1u64 << parkers.len();
+        let number = parkers.len();
         add_owner(
             alloc,
             ready,
@@ -212,7 +215,7 @@ fn new_owners<T: Tagged + Drop>(
             &mut account,
             &mut owners,
             parker,
-            bit,
+            number,
         )?;
     }
     Ok(owners)
