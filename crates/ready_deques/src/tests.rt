@@ -155,6 +155,16 @@ fn await_seen<R: Wait>(rt: &R, seen: &AtomicU64, count: u64) {
     }
 }
 
+// Waits until an owner sleeps, or is about to.
+fn await_asleep<R: Wait>(rt: &R, ready: &Ready<u32>) {
+    for _ in rt.forever() {
+        if ready.sleepers.is_any_asleep() {
+            return;
+        }
+        yield_now();
+    }
+}
+
 // Waits until the list is open.
 fn await_open<R: Wait>(rt: &R, ready: &Ready<u32>) {
     for _ in rt.forever() {
@@ -182,15 +192,17 @@ fn serve<R: Wait>(rt: &R, ready: &Ready<u32>, mut owner: Owner<u32>, seen: &Atom
     }
 }
 
-// Pushes an item and closes the list, a thousand times, each as soon as the other thread has seen the last.
+// Pushes an item and closes the list, a thousand times, each as soon as the other thread has seen the last and sleeps.
 fn wake<R: Wait>(rt: &R, ready: &Ready<u32>, mut owner: Owner<u32>, seen: &AtomicU64) -> bool
     requires { owner.tag ≡ [] }
 {
     for round in 0..1000u64 {
+        await_asleep(rt, ready);
         if owner.push(rt, 1).is_err() {
             return false;
         }
         await_seen(rt, seen, 2 * round + 1);
+        await_asleep(rt, ready);
         ready.close();
         await_seen(rt, seen, 2 * round + 2);
         ready.reopen();
