@@ -1,4 +1,6 @@
 // Steps that a machine is asked for, each compared with what the rules decide.
+ghost use Rattle.std.specs.Prelude.{◌≡◌};
+
 use legal_run::{Cause, DropWhy, Entry, Machine, MachineError, Why};
 use outside_io::{List, NoMemory};
 use plain_rules::{is_complete, is_shape_legal, meets_data_rule, refusal};
@@ -104,7 +106,9 @@ pub fn entry_of(alloc: Global, step: Step<'_>) -> Result<Entry, NoMemory> {
 }
 
 /// Asks for a step.
-pub fn ask(machine: &mut Machine, step: Step<'_>) -> Result<u64, MachineError> {
+pub fn ask(machine: &mut Machine, step: Step<'_>) -> Result<u64, MachineError>
+    ensures { machine.new.net ≡ machine.old.net }
+{
     match step {
         Step::Start { task, cause } => machine.start(task, cause),
         Step::End {
