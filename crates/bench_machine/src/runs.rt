@@ -1,7 +1,7 @@
 // Runs of these nets.
 use crate::clock::{micros_since, nanos_since};
 use crate::nets::{self, CHOICES};
-use legal_run::{Cause, MAX_LIMIT, Machine, MachineError, judge};
+use legal_run::{Cause, MAX_LIMIT, Machine, MachineError, Verdict, judge};
 use std::alloc::{AllocError, Global};
 use std::io;
 use std::sync::Arc;
@@ -85,8 +85,9 @@ pub fn judged<R: Clock>(rt: &R, alloc: Global) -> io::Result<u64> {
         return Err(AllocError.into());
     };
     let start = Instant::now(rt)?;
-    let is_judged = judge(alloc, &net, MAX_LIMIT, machine.journal()).is_ok();
-    told(is_run && is_judged, micros_since(rt, start)?)
+    let verdict = judge(alloc, &net, MAX_LIMIT, machine.journal());
+    let micros = micros_since(rt, start)?;
+    told(is_run && matches!(verdict, Ok(Verdict::Legal)), micros)
 }
 
 fn loop_machine(alloc: Global) -> io::Result<Machine> {

@@ -19,4 +19,6 @@ mod steps;
 #[cfg(test)]
 mod sweeps;
 #[cfg(test)]
+mod verdicts;
+#[cfg(test)]
 mod walks;

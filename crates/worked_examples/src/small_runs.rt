@@ -1,12 +1,12 @@
 // Small runs, step by step, with the answers that were worked out by hand.
-use crate::nets::{Rows, bound, net_of, plain_net};
+use crate::nets::{Rows, bound, free, net_of, plain_net};
 use crate::steps::{Step, compare_step, drop_of, end, expect_legal, fault, start};
 use legal_run::{Cause, DropWhy, Machine, MachineError, Why};
 use std::alloc::Global;
 use std::process::Abort;
 use std::sync::Arc;
 use std::test::Fail;
-use task_graph::Net;
+use task_graph::{Net, Shape};
 
 type Answer = Result<u64, MachineError>;
 
@@ -152,23 +152,60 @@ fn a_limit_ends_a_run_early(rt: HostRuntime) -> Result<(), Fail> {
     expect_run(&rt, rt.alloc(), row, &steps, false)
 }
 
-// Each number that the net hasn't is refused before anything else is looked at.
+// Each number that the net hasn't, each choice of edges that the shape of the task doesn't allow, and each entry after
+// a drop for want of a unit. Task 1 chooses one edge of two, task 2 some of two, and task 3 takes the one unit.
 #[test]
-fn unknown_numbers_are_refused(rt: HostRuntime) -> Result<(), Fail> {
-    let row = Given {
-        tasks: 2,
-        edges: &[(0, 1)],
-        limit: 0,
-    };
-    let steps = [
-        (start(2, Cause::Source), Err(MachineError::NoSuch)),
-        (start(0, Cause::Weak(1)), Err(MachineError::NoSuch)),
-        (start(1, Cause::Weak(0)), Err(MachineError::NotReleased)),
-        (end(5, &[1]), Err(MachineError::NoSuch)),
-        (end(5, &[0]), Err(MachineError::NotOpen)),
-        (start(0, Cause::Source), Err(MachineError::AtLimit)),
+fn bad_input_is_refused(rt: HostRuntime) -> Result<(), Fail> {
+    let plain = free(Shape::Plain);
+    let tasks = [
+        plain,
+        free(Shape::Choice),
+        free(Shape::Many),
+        bound(&[0], &[]),
     ];
-    expect_run(&rt, rt.alloc(), row, &steps, false)
+    let rows = Rows {
+        sems: &[1],
+        tasks: &tasks,
+        edges: &[(0, 1), (0, 2), (1, 3), (1, 3), (2, 3), (2, 3)],
+        rings: &[],
+    };
+    let net = net_of(rt.alloc(), rows)?;
+    let no_such = Err(MachineError::NoSuch);
+    let not_chosen = Err(MachineError::NotChosen);
+    let after_stuck = Err(MachineError::AfterStuck);
+    let stuck = DropWhy::Stuck(0);
+    let steps = [
+        (start(4, Cause::Source), no_such),
+        (start(0, Cause::Weak(6)), no_such),
+        (drop_of(4, Cause::Source, DropWhy::Halted), no_such),
+        (drop_of(0, Cause::Weak(6), DropWhy::Halted), no_such),
+        (drop_of(0, Cause::Source, DropWhy::Stuck(1)), no_such),
+        (end(0, &[6]), no_such),
+        (fault(0, Why::OverRelease(1)), no_such),
+        (start(0, Cause::Source), Ok(0)),
+        (end(0, &[2]), not_chosen),
+        (end(0, &[0, 0]), not_chosen),
+        (end(0, &[1, 0]), not_chosen),
+        (end(0, &[0, 1]), Ok(1)),
+        (start(1, Cause::Strong), Ok(2)),
+        (end(2, &[4]), not_chosen),
+        (end(2, &[2, 2]), not_chosen),
+        (end(2, &[2, 3]), not_chosen),
+        (end(2, &[3]), Ok(3)),
+        (start(2, Cause::Strong), Ok(4)),
+        (end(4, &[4, 3]), not_chosen),
+        (end(4, &[4, 4]), not_chosen),
+        (end(4, &[5, 4]), Ok(5)),
+        (start(3, Cause::Weak(3)), Ok(6)),
+        (end(6, &[]), Ok(7)),
+        (drop_of(3, Cause::Weak(4), stuck), Ok(8)),
+        (start(3, Cause::Weak(5)), after_stuck),
+        (end(6, &[]), after_stuck),
+        (fault(6, Why::Inner), after_stuck),
+        (drop_of(3, Cause::Weak(5), DropWhy::Limit), after_stuck),
+        (drop_of(3, Cause::Weak(5), stuck), Ok(9)),
+    ];
+    expect_run_of(&rt, rt.alloc(), &net, 10, &steps, true)
 }
 
 // Task 0 takes the one unit, task 1 after it puts it back, and task 2 takes it.

@@ -1,7 +1,9 @@
 // Steps that a machine is asked for, each compared with what the rules decide.
+ghost use Rattle.std.specs.Prelude.{◌≡◌};
+
 use legal_run::{Cause, DropWhy, Entry, Machine, MachineError, Why};
 use outside_io::{List, NoMemory};
-use plain_rules::{is_complete, is_shape_legal, may_follow, meets_data_rule};
+use plain_rules::{is_complete, is_shape_legal, meets_data_rule, refusal};
 use std::alloc::Global;
 use std::process::Abort;
 use task_graph::Net;
@@ -53,8 +55,8 @@ pub fn drop_of(task: u32, cause: Cause, why: DropWhy) -> Step<'static> {
     Step::Drop { task, cause, why }
 }
 
-/// Asks for a step. The machine takes it exactly where the rules allow it, and is at rest exactly where its
-/// journal is complete.
+/// Asks for a step. The machine takes it exactly where the rules allow it, or tells which of them it breaks first, and
+/// is at rest exactly where its journal is complete.
 pub fn compare_step(
     rt: &impl Abort,
     alloc: Global,
@@ -65,10 +67,10 @@ pub fn compare_step(
 ) -> Result<Result<u64, MachineError>, NoMemory> {
     let entry = entry_of(alloc, step)?;
     let before = machine.journal().len();
-    let is_allowed = may_follow(net, limit, machine.journal().as_slice(), &entry);
+    let broken = refusal(net, limit, machine.journal().as_slice(), &entry);
     let answer = ask(machine, step);
-    assert_eq!(rt; answer.is_ok(), is_allowed);
-    assert_eq!(rt; machine.journal().len() > before, is_allowed);
+    assert_eq!(rt; answer.err(), broken.map(MachineError::from));
+    assert_eq!(rt; machine.journal().len() > before, broken.is_none());
     let is_finished = is_complete(net, limit, machine.journal().as_slice());
     assert_eq!(rt; machine.at_rest(), is_finished);
     Ok(answer)
@@ -81,8 +83,8 @@ pub fn expect_legal(rt: &impl Abort, net: &Net, limit: u64, machine: &Machine) {
     assert!(rt; meets_data_rule(net, journal));
 }
 
-// The entry of a step. What a start finds is left out, since whether it may start doesn't depend on it.
-fn entry_of(alloc: Global, step: Step<'_>) -> Result<Entry, NoMemory> {
+/// The entry of a step. What a start finds is left out, since whether it may start doesn't depend on it.
+pub fn entry_of(alloc: Global, step: Step<'_>) -> Result<Entry, NoMemory> {
     match step {
         Step::Start { task, cause } => Ok(Entry::Start {
             task,
@@ -104,7 +106,9 @@ fn entry_of(alloc: Global, step: Step<'_>) -> Result<Entry, NoMemory> {
 }
 
 /// Asks for a step.
-pub fn ask(machine: &mut Machine, step: Step<'_>) -> Result<u64, MachineError> {
+pub fn ask(machine: &mut Machine, step: Step<'_>) -> Result<u64, MachineError>
+    ensures { machine.new.net ≡ machine.old.net }
+{
     match step {
         Step::Start { task, cause } => machine.start(task, cause),
         Step::End {

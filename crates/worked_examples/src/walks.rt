@@ -1,9 +1,9 @@
 // Every state that a small net reaches within a few steps, with every next step tried at each of them.
-use crate::nets::{Rows, Task, free, net_of};
-use crate::steps::{Step, ask, compare_step, expect_legal};
-use legal_run::{Cause, DropWhy, Machine, Verdict, Why, judge};
-use outside_io::List;
-use plain_rules::is_complete;
+use crate::nets::{Rows, Task, bound, free, net_of};
+use crate::steps::{Step, ask, compare_step, entry_of, expect_legal};
+use crate::verdicts::{Tally, compare_verdict};
+use legal_run::{Cause, DropWhy, Journal, Machine, Why};
+use outside_io::{List, NoMemory};
 use std::alloc::Global;
 use std::process::Abort;
 use std::sync::Arc;
@@ -37,6 +37,7 @@ struct Trial {
 // puts that unit or not. A task that chooses may choose itself. Task 0 is a source, or begins with a token.
 #[test]
 fn machines_and_rules_agree(rt: HostRuntime) -> Result<(), Fail> {
+    let mut tally = Tally::new(rt.alloc());
     for shape in [Shape::Plain, Shape::Nested, Shape::Choice, Shape::Many] {
         let own: &[(u32, u32)] = &[(0, 1), (1, 2)];
         let looped: &[(u32, u32)] = &[(0, 1), (1, 2), (1, 1)];
@@ -46,16 +47,31 @@ fn machines_and_rules_agree(rt: HostRuntime) -> Result<(), Fail> {
             looped
         };
         for (takes, puts) in [(false, false), (true, false), (false, true), (true, true)] {
-            walk_both(&rt, rt.alloc(), shape, takes, puts, edges)?;
+            walk_both(&rt, rt.alloc(), &mut tally, shape, takes, puts, edges)?;
         }
     }
+    walk_takers(&rt, rt.alloc(), &mut tally)?;
+    tally.expect_each(&rt);
     Ok(())
+}
+
+// Two tasks take the one unit, and none puts it back.
+fn walk_takers(rt: &impl Abort, alloc: Global, tally: &mut Tally) -> Result<(), Fail> {
+    let tasks = [bound(&[0], &[]), bound(&[0], &[])];
+    let rows = Rows {
+        sems: &[1],
+        tasks: &tasks,
+        edges: &[],
+        rings: &[],
+    };
+    walk(rt, alloc, tally, rows)
 }
 
 // The net with a source, and with a token at the beginning.
 fn walk_both(
     rt: &impl Abort,
     alloc: Global,
+    tally: &mut Tally,
     shape: Shape,
     takes: bool,
     puts: bool,
@@ -77,6 +93,7 @@ fn walk_both(
     walk(
         rt,
         alloc,
+        tally,
         Rows {
             sems: &[1],
             tasks: &tasks,
@@ -87,6 +104,7 @@ fn walk_both(
     walk(
         rt,
         alloc,
+        tally,
         Rows {
             sems: &[1],
             tasks: &tasks,
@@ -96,54 +114,50 @@ fn walk_both(
     )
 }
 
-fn walk(rt: &impl Abort, alloc: Global, rows: Rows<'_>) -> Result<(), Fail> {
+fn walk(rt: &impl Abort, alloc: Global, tally: &mut Tally, rows: Rows<'_>) -> Result<(), Fail> {
     let net = net_of(alloc, rows)?;
     let trial = trial_of(alloc, net)?;
     let mut path = Vec::new(alloc);
-    explore(rt, alloc, &trial, &mut path, DEPTH)
+    explore(rt, alloc, tally, &trial, &mut path, DEPTH)
 }
 
 // Tries each step at the state after a path, and goes on from each that is taken.
 fn explore(
     rt: &impl Abort,
     alloc: Global,
+    tally: &mut Tally,
     trial: &Trial,
     path: &mut Vec<Move>,
     depth: u8,
 ) -> Result<(), Fail> {
     let mut machine = replay(alloc, trial, path.as_slice())?;
-    expect_state(rt, alloc, trial, &machine)?;
+    expect_legal(rt, &trial.net, LIMIT, &machine);
     if depth == 0 {
         return Ok(());
     }
     for next in trial.moves.as_slice() {
+        path.push(*next)?;
+        let journal = journal_of(alloc, trial, path.as_slice())?;
+        compare_verdict(rt, alloc, tally, &trial.net, LIMIT, &journal)?;
         let step = step_of(trial, *next);
         if compare_step(rt, alloc, &trial.net, LIMIT, &mut machine, step)?.is_ok() {
-            path.push(*next)?;
-            explore(rt, alloc, trial, path, depth - 1)?;
+            explore(rt, alloc, tally, trial, path, depth - 1)?;
             path.pop();
             machine = replay(alloc, trial, path.as_slice())?;
+        } else {
+            path.pop();
         }
     }
     Ok(())
 }
 
-// The journal is legal, and the judge says so.
-fn expect_state(
-    rt: &impl Abort,
-    alloc: Global,
-    trial: &Trial,
-    machine: &Machine,
-) -> Result<(), Fail> {
-    expect_legal(rt, &trial.net, LIMIT, machine);
-    let verdict = judge(alloc, &trial.net, LIMIT, machine.journal())?;
-    let expected = if is_complete(&trial.net, LIMIT, machine.journal().as_slice()) {
-        Verdict::Complete
-    } else {
-        Verdict::Legal
-    };
-    assert_eq!(rt; verdict, expected);
-    Ok(())
+// The entries of steps, of which perhaps the last may not be taken.
+fn journal_of(alloc: Global, trial: &Trial, path: &[Move]) -> Result<Journal, NoMemory> {
+    let mut journal = List::new(alloc);
+    for step in path {
+        journal.push(entry_of(alloc, step_of(trial, *step))?)?;
+    }
+    Ok(journal)
 }
 
 fn replay(alloc: Global, trial: &Trial, path: &[Move]) -> Result<Machine, Fail> {
