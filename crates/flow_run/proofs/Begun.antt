@@ -8,9 +8,9 @@ use Rattle.std.proofs.lemmas.Option.{slice_get_within, get_or_from_slice_get}
 use Rattle.task_graph.specs.NetRows.{NetRows}
 use Rattle.task_graph.specs.Net.{in_edges, IsPlainNet}
 use Rattle.task_graph.specs.declared.net.EdgeRow.{EdgeRow}
-use Rattle.legal_run.specs.declared.entry.Part.TheVariants.{First, Nothing}
-use Rattle.legal_run.specs.Waiting.{first_waiting}
-use Rattle.legal_run.proofs.NetLemmas.{plain_first_tokens}
+use Rattle.journal_rules.specs.declared.entry.Part.TheVariants.{First, Nothing}
+use Rattle.journal_rules.specs.Waiting.{first_waiting}
+use Rattle.journal_rules.proofs.NetLemmas.{plain_first_tokens}
 use Rattle.join_words.specs.declared.ins.Given.{Given}
 use Rattle.join_words.specs.declared.ins.Given.TheVariants.{Nothing as NothingGiven}
 use Rattle.join_words.specs.Ins.{nothing, found_of}

@@ -6,14 +6,14 @@ use Rattle.std.proofs.lemmas.Bool.{false≢true}
 use Rattle.task_graph.specs.NetRows.{NetRows}
 use Rattle.task_graph.specs.Net.{in_edges, strong_in, is_weak, IsSource, IsPlainNet, IsNet}
 use Rattle.task_graph.specs.declared.net.EdgeRow.{EdgeRow}
-use Rattle.legal_run.specs.declared.entry.Entry.{Entry}
-use Rattle.legal_run.specs.declared.entry.Entry.TheVariants.{Start, End, Fault, Drop}
-use Rattle.legal_run.specs.Entries.{EachAfter, EachAfterThese}
-use Rattle.legal_run.specs.Counts.{given, used, used_weak, used_source, is_open}
-use Rattle.legal_run.specs.ShapeLegal.{ShapeLegal, MeetsDataRule}
-use Rattle.legal_run.specs.Complete.{Complete, is_limited, least}
-use Rattle.legal_run.proofs.NetLemmas.{plain_strong}
-use Rattle.legal_run.proofs.Reaching.{each_below}
+use Rattle.journal_rules.specs.declared.entry.Entry.{Entry}
+use Rattle.journal_rules.specs.declared.entry.Entry.TheVariants.{Start, End, Fault, Drop}
+use Rattle.journal_rules.specs.Entries.{EachAfter, EachAfterThese}
+use Rattle.journal_rules.specs.Counts.{given, used, used_weak, used_source, is_open}
+use Rattle.journal_rules.specs.ShapeLegal.{ShapeLegal, MeetsDataRule}
+use Rattle.journal_rules.specs.Complete.{Complete, is_limited, least}
+use Rattle.journal_rules.proofs.NetLemmas.{plain_strong}
+use Rattle.journal_rules.proofs.Reaching.{each_below}
 use Rattle.join_words.specs.declared.ins.Given.{Given}
 use Rattle.run_frame.specs.declared.run.ValueRow.{ValueRow}
 use Rattle.run_frame.specs.declared.run.FrameRun.{FrameRun, FrameRun-F, roll-FrameRun, out-FrameRun, out-roll-FrameRun, FrameRun', rolls-FrameRun', Row_of-InnerRow, end_of-InnerRow, more_of-InnerRow, items-the_row-InnerRow, items_hidden-the_row-InnerRow-0}

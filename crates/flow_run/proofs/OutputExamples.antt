@@ -6,10 +6,10 @@ use Rattle.std.specs.declared.sync.Arc.{Arc}
 use Rattle.task_graph.specs.NetRows.{NetRows}
 use Rattle.task_graph.specs.declared.net.Shape.TheVariants.{Plain}
 use Rattle.task_graph.specs.declared.net.TaskRow.{TaskRow}
-use Rattle.legal_run.specs.declared.entry.Cause.TheVariants.{Source, Strong}
-use Rattle.legal_run.specs.declared.entry.Part.TheVariants.{From}
-use Rattle.legal_run.specs.declared.entry.Entry.{Entry}
-use Rattle.legal_run.specs.declared.entry.Entry.TheVariants.{Start, End}
+use Rattle.journal_rules.specs.declared.entry.Cause.TheVariants.{Source, Strong}
+use Rattle.journal_rules.specs.declared.entry.Part.TheVariants.{From}
+use Rattle.journal_rules.specs.declared.entry.Entry.{Entry}
+use Rattle.journal_rules.specs.declared.entry.Entry.TheVariants.{Start, End}
 use Rattle.text_tasks.specs.declared.item.Item.{Item}
 use Rattle.text_tasks.specs.declared.item.Item.TheVariants.{Text}
 use Rattle.run_frame.specs.LastEnds.{ends_of, last_end}

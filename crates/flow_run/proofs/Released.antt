@@ -13,24 +13,24 @@ use Rattle.task_graph.specs.declared.net.Shape.{Shape}
 use Rattle.task_graph.specs.declared.net.EdgeRow.{EdgeRow}
 use Rattle.task_graph.specs.declared.net.TaskRow.{TaskRow}
 use Rattle.task_graph.proofs.PlaceLemmas.{strong_in-source}
-use Rattle.legal_run.specs.declared.entry.Cause.{Cause}
-use Rattle.legal_run.specs.declared.entry.Cause.TheVariants.{Source, Strong, Weak}
-use Rattle.legal_run.specs.declared.entry.Entry.{Entry}
-use Rattle.legal_run.specs.declared.entry.Entry.TheVariants.{Start, End, Fault, Drop}
-use Rattle.legal_run.specs.declared.entry.Part.{Part}
+use Rattle.journal_rules.specs.declared.entry.Cause.{Cause}
+use Rattle.journal_rules.specs.declared.entry.Cause.TheVariants.{Source, Strong, Weak}
+use Rattle.journal_rules.specs.declared.entry.Entry.{Entry}
+use Rattle.journal_rules.specs.declared.entry.Entry.TheVariants.{Start, End, Fault, Drop}
+use Rattle.journal_rules.specs.declared.entry.Part.{Part}
 use Rattle.legal_run.specs.declared.machine_error.MachineError.{MachineError}
 use Rattle.legal_run.specs.declared.machine_error.MachineError.TheVariants.{NoSuch, AfterStuck, NotReleased, NoUnit, AtLimit, NotOpen, NotChosen, NothingOut, NotOver, NotHalted, NotStuck, NoMemory}
 use Rattle.legal_run.specs.MachineState.{MachineState}
-use Rattle.legal_run.specs.ShapeLegal.{CauseInRange}
-use Rattle.legal_run.specs.Refusal.{IsLeast, PutsWithNothingOut}
+use Rattle.journal_rules.specs.ShapeLegal.{CauseInRange}
+use Rattle.journal_rules.specs.MissingUnits.{IsLeast, PutsWithNothingOut}
 use Rattle.legal_run.specs.Machine.{Refuses, start_entry}
-use Rattle.legal_run.specs.Counts.{given, used, starts, start_at, is_open}
-use Rattle.legal_run.specs.ReleaseRule.{IsReleased}
-use Rattle.legal_run.specs.ChoiceRule.{ChoiceRule, GivesFit, InnerFits}
-use Rattle.legal_run.specs.HaltLimitStuckRule.{is_stuck}
-use Rattle.legal_run.proofs.NetLemmas.{any_place, places_below}
-use Rattle.legal_run.proofs.NetLemmas.{plain_takes, plain_puts}
-use Rattle.legal_run.proofs.Snoc.{start_at_push_last}
+use Rattle.journal_rules.specs.Counts.{given, used, starts, start_at, is_open}
+use Rattle.journal_rules.specs.ReleaseRule.{IsReleased}
+use Rattle.journal_rules.specs.ChoiceRule.{ChoiceRule, GivesFit, InnerFits}
+use Rattle.journal_rules.specs.HaltLimitStuckRule.{is_stuck}
+use Rattle.journal_rules.proofs.NetLemmas.{any_place, places_below}
+use Rattle.journal_rules.proofs.NetLemmas.{plain_takes, plain_puts}
+use Rattle.journal_rules.proofs.Snoc.{start_at_push_last}
 use Rattle.join_words.specs.declared.ins.Given.{Given}
 use Rattle.run_frame.specs.declared.run.ValueRow.{ValueRow}
 use Rattle.text_tasks.specs.declared.item.Item.{Item}

@@ -5,9 +5,9 @@ use Rattle.std.specs.Option.{option_map_or, option_and_then}
 use Rattle.std.proofs.lemmas.Bool.{false≢true}
 use Rattle.std.proofs.lemmas.List.{length-append}
 use Rattle.std.proofs.lemmas.Option.{none-some}
-use Rattle.legal_run.specs.declared.entry.Entry.{Entry}
-use Rattle.legal_run.specs.declared.entry.Entry.TheVariants.{Start, End, Fault, Drop}
-use Rattle.legal_run.specs.Entries.{EachAfter, EachAfterThese}
+use Rattle.journal_rules.specs.declared.entry.Entry.{Entry}
+use Rattle.journal_rules.specs.declared.entry.Entry.TheVariants.{Start, End, Fault, Drop}
+use Rattle.journal_rules.specs.Entries.{EachAfter, EachAfterThese}
 use Rattle.run_frame.specs.declared.run.ValueRow.{ValueRow}
 use Rattle.run_frame.specs.declared.run.FrameRun.{FrameRun, FrameRun', out-FrameRun}
 use Rattle.run_frame.specs.Runs.{value_at}

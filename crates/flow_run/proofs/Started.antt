@@ -4,14 +4,14 @@ use Rattle.std.specs.Prelude.{count_by, sum_by, ◌==◌}
 use Rattle.std.specs.List.{list_any, AllByRecursion, range_with_len}
 use Rattle.std.proofs.lemmas.List.Sums.{sum_by-cons}
 use Rattle.task_graph.specs.NetRows.{NetRows}
-use Rattle.legal_run.specs.declared.entry.Cause.{Cause}
-use Rattle.legal_run.specs.declared.entry.Cause.TheVariants.{Source, Strong, Weak}
-use Rattle.legal_run.specs.declared.entry.Entry.{Entry}
-use Rattle.legal_run.specs.declared.entry.Entry.TheVariants.{Start, End, Fault, Drop}
-use Rattle.legal_run.specs.declared.entry.Part.{Part}
-use Rattle.legal_run.specs.Counts.{given, used, used_source, uses, is_strong, is_source, is_start, starts}
-use Rattle.legal_run.proofs.Tallying.{given_push, count_by_push_no, and_false, and_true}
-use Rattle.legal_run.proofs.Snoc.{count_by_push}
+use Rattle.journal_rules.specs.declared.entry.Cause.{Cause}
+use Rattle.journal_rules.specs.declared.entry.Cause.TheVariants.{Source, Strong, Weak}
+use Rattle.journal_rules.specs.declared.entry.Entry.{Entry}
+use Rattle.journal_rules.specs.declared.entry.Entry.TheVariants.{Start, End, Fault, Drop}
+use Rattle.journal_rules.specs.declared.entry.Part.{Part}
+use Rattle.journal_rules.specs.Counts.{given, used, used_source, uses, is_strong, is_source, is_start, starts}
+use Rattle.journal_rules.proofs.Tallying.{given_push, count_by_push_no, and_false, and_true}
+use Rattle.journal_rules.proofs.Snoc.{count_by_push}
 use Rattle.flow_run.specs.inside.UnderWay.{IsPlainStart, IsPlainEntry, started_times}
 use Rattle.flow_run.proofs.Flow.{one_if, sum_raised, sum_nothing, sum_kept}
 

@@ -13,21 +13,21 @@ use Rattle.task_graph.specs.NetRows.{NetRows}
 use Rattle.task_graph.specs.Net.{out_edges, strong_in, IsSource, IsNet, IsEdgeOf}
 use Rattle.task_graph.specs.declared.net.EdgeRow.{EdgeRow}
 use Rattle.task_graph.proofs.PlaceLemmas.{strong_in-source}
-use Rattle.legal_run.specs.declared.entry.Cause.{Cause}
-use Rattle.legal_run.specs.declared.entry.Cause.TheVariants.{Source, Strong, Weak}
-use Rattle.legal_run.specs.declared.entry.Entry.{Entry}
-use Rattle.legal_run.specs.declared.entry.Entry.TheVariants.{Start, End}
-use Rattle.legal_run.specs.declared.entry.Part.{Part}
-use Rattle.legal_run.specs.declared.entry.Part.TheVariants.{From, Nothing}
-use Rattle.legal_run.specs.Entries.{EachAfter}
-use Rattle.legal_run.specs.Counts.{given, used, used_source}
-use Rattle.legal_run.specs.Waiting.{waiting, waiting_parts}
-use Rattle.legal_run.proofs.Snoc.{EachAfter-push, slice_get_push_last}
-use Rattle.legal_run.proofs.Tallying.{and_false}
-use Rattle.legal_run.proofs.NetLemmas.{any_place, places_below}
+use Rattle.journal_rules.specs.declared.entry.Cause.{Cause}
+use Rattle.journal_rules.specs.declared.entry.Cause.TheVariants.{Source, Strong, Weak}
+use Rattle.journal_rules.specs.declared.entry.Entry.{Entry}
+use Rattle.journal_rules.specs.declared.entry.Entry.TheVariants.{Start, End}
+use Rattle.journal_rules.specs.declared.entry.Part.{Part}
+use Rattle.journal_rules.specs.declared.entry.Part.TheVariants.{From, Nothing}
+use Rattle.journal_rules.specs.Entries.{EachAfter}
+use Rattle.journal_rules.specs.Counts.{given, used, used_source}
+use Rattle.journal_rules.specs.Waiting.{waiting, waiting_parts}
+use Rattle.journal_rules.proofs.Snoc.{EachAfter-push, slice_get_push_last}
+use Rattle.journal_rules.proofs.Tallying.{and_false}
+use Rattle.journal_rules.proofs.NetLemmas.{any_place, places_below}
 use Rattle.join_words.specs.declared.ins.Given.{Given}
 use Rattle.join_words.specs.declared.ins.Given.TheVariants.{Nothing as NothingGiven}
-use Rattle.join_words.specs.Ins.{Found, value, nothing, found_of}
+use Rattle.join_words.specs.Ins.{InputValue, value, nothing, found_of}
 use Rattle.run_frame.specs.declared.job.Answer.TheVariants.{All as Each}
 use Rattle.run_frame.specs.declared.job.Done.TheVariants.{Value}
 use Rattle.run_frame.specs.declared.run.ValueRow.{ValueRow}
@@ -48,7 +48,7 @@ use Rattle.flow_run.proofs.Values.{value_behind, value_here, value_not_here, car
 use Rattle.flow_run.proofs.Stepping.{IsStep, plain_start, edges_are, waiting_step, length_step, AllByRecursion-push, none_open_step, account_step, once_step}
 
 -- what a step does to what is carried, to the values and to the tasks that are ready
-pub record Steps (job : TextJob) (h : List Entry) (t : ℕ) (found : List (Found Item)) (old new : List (Given Item)) (row : ValueRow Item) : Type 0 where
+pub record Steps (job : TextJob) (h : List Entry) (t : ℕ) (found : List (InputValue Item)) (old new : List (Given Item)) (row : ValueRow Item) : Type 0 where
   pub finds : found ≡ map (λ e. found_of (slice_index_or old e NothingGiven)) (strong_in (net_of job) t)
   pub answered : JobAnswers job t found (Value (arc_value row.value) Each)
   pub place : row.place ≡ length h + 1
@@ -67,13 +67,13 @@ ends_step false true place before end is = refl
 ends_step false false place before end is = is
 
 -- what is carried after a step, by whether the task gave the edge and took from it
-carries_step : (values more : List (ValueRow Item)) (gives takes : Bool) (place : ℕ) (item : Item) (before : Part) (found : Found Item) → value_at (values ++ more) place ≡ Some item → Carries values before found
+carries_step : (values more : List (ValueRow Item)) (gives takes : Bool) (place : ℕ) (item : Item) (before : Part) (found : InputValue Item) → value_at (values ++ more) place ≡ Some item → Carries values before found
     → Carries (values ++ more) (cond gives (From place) (cond takes Nothing before)) (cond gives (value item) (cond takes nothing found))
 carries_step values more true takes place item before found here old = (item, here, refl)
 carries_step values more false true place item before found here old = refl
 carries_step values more false false place item before found here old = carries_still values more before found old
 
-finds_step : (gives takes : Bool) (item : Item) (found : Found Item) → IsValueText (item_text item) → FindsText found → FindsText (cond gives (value item) (cond takes nothing found))
+finds_step : (gives takes : Bool) (item : Item) (found : InputValue Item) → IsValueText (item_text item) → FindsText found → FindsText (cond gives (value item) (cond takes nothing found))
 finds_step true takes item found fits old = fits
 finds_step false true item found fits old = tt
 finds_step false false item found fits old = old
@@ -99,7 +99,7 @@ value_last job h carried values ready row more under place =
     value_behind values (row ∷ more) (length h + 1) (under.values_before (length h + 1) (omega arith)) ∙ ap (value_at (row ∷ more)) (sym place) ∙ value_here row more
 
 -- the work of a step
-work_step : (job : TextJob) (h : List Entry) (carried new : List (Given Item)) (values : List (ValueRow Item)) (ready : List ℕ) (t : ℕ) (cause : Cause) (found : List (Found Item)) (row : ValueRow Item) → IsStep job t cause
+work_step : (job : TextJob) (h : List Entry) (carried new : List (Given Item)) (values : List (ValueRow Item)) (ready : List ℕ) (t : ℕ) (cause : Cause) (found : List (InputValue Item)) (row : ValueRow Item) → IsStep job t cause
     → UnderWay job h carried values ready → Steps job h t found carried new row → (more : List (ValueRow Item)) → ComeLater (length (with_step h t cause (waiting_parts (net_of job) t cause h) (out_edges (net_of job) t))) more
     → EachAfter (WorkRule text_job job ((values ++ row ∷ []) ++ more) none_inner) (with_step h t cause (waiting_parts (net_of job) t cause h) (out_edges (net_of job) t))
 work_step job h carried new values ready t cause found row step under steps more later =
@@ -202,7 +202,7 @@ ready_step job t rest is all =
     (targets_in (net_of job) is (out_edges (net_of job) t) (places_below _ (net_of job).edges))
 
 -- the step
-pub under_step : (job : TextJob) (h : List Entry) (carried new : List (Given Item)) (values : List (ValueRow Item)) (rest : List ℕ) (t : ℕ) (cause : Cause) (found : List (Found Item)) (row : ValueRow Item) → IsStep job t cause
+pub under_step : (job : TextJob) (h : List Entry) (carried new : List (Given Item)) (values : List (ValueRow Item)) (rest : List ℕ) (t : ℕ) (cause : Cause) (found : List (InputValue Item)) (row : ValueRow Item) → IsStep job t cause
     → UnderWay job h carried values (rest ++ t ∷ []) → Steps job h t found carried new row
     → UnderWay job (with_step h t cause (waiting_parts (net_of job) t cause h) (out_edges (net_of job) t)) new (values ++ row ∷ []) (rest ++ map (target_of (net_of job).edges) (out_edges (net_of job) t))
 under_step job h carried new values rest t cause found row step under steps =

@@ -7,15 +7,15 @@ use Rattle.std.proofs.lemmas.List.{length-map, length_push}
 use Rattle.std.proofs.lemmas.List.Elements.{All-pop, All-head, All-tail}
 use Rattle.task_graph.specs.NetRows.{NetRows}
 use Rattle.task_graph.specs.Net.{strong_in, out_edges}
-use Rattle.legal_run.specs.declared.entry.Cause.{Cause}
-use Rattle.legal_run.specs.declared.entry.Entry.{Entry}
-use Rattle.legal_run.specs.declared.entry.Entry.TheVariants.{Start, End}
+use Rattle.journal_rules.specs.declared.entry.Cause.{Cause}
+use Rattle.journal_rules.specs.declared.entry.Entry.{Entry}
+use Rattle.journal_rules.specs.declared.entry.Entry.TheVariants.{Start, End}
 use Rattle.legal_run.specs.MachineState.{MachineState}
 use Rattle.legal_run.specs.Machine.{Starts, Ends}
-use Rattle.legal_run.specs.Counts.{starts, is_start}
-use Rattle.legal_run.specs.Waiting.{waiting_parts}
-use Rattle.legal_run.proofs.Snoc.{count_by_push}
-use Rattle.legal_run.proofs.NetLemmas.{places_below}
+use Rattle.journal_rules.specs.Counts.{starts, is_start}
+use Rattle.journal_rules.specs.Waiting.{waiting_parts}
+use Rattle.journal_rules.proofs.Snoc.{count_by_push}
+use Rattle.journal_rules.proofs.NetLemmas.{places_below}
 use Rattle.run_frame.specs.declared.job.Answer.TheVariants.{All as Each}
 use Rattle.run_frame.specs.declared.job.Done.TheVariants.{Value}
 use Rattle.run_frame.specs.declared.run.ValueRow.{ValueRow}
@@ -32,7 +32,7 @@ use Rattle.flow_run.proofs.Started.{with_step}
 use Rattle.flow_run.proofs.Step.{Steps, under_step}
 use Rattle.join_words.specs.declared.ins.Given.{Given}
 use Rattle.join_words.specs.declared.ins.Given.TheVariants.{Nothing as NothingGiven}
-use Rattle.join_words.specs.Ins.{Found, value, nothing, found_of}
+use Rattle.join_words.specs.Ins.{InputValue, value, nothing, found_of}
 use Rattle.text_tasks.specs.declared.item.Item.{Item}
 use Rattle.text_tasks.specs.ValueTexts.{FindsText}
 use Rattle.text_tasks.specs.JobMeaning.{net_of, limit_of, IsTextJob, JobAnswers, text_job}
@@ -61,7 +61,7 @@ each_text old n texts [] below = tt
 each_text old n texts (e ∷ es) below = (texts e (All-head (λ k. k < n) e es below), each_text old n texts es (All-tail (λ k. k < n) e es below))
 
 -- at most one value is found, and it is a value's text
-pub finds_texts : (run : OneThread) (rest : List ℕ) (t : ℕ) (cause : Cause) (found : List (Found Item)) → IsUnderWay run (rest ++ t ∷ []) → IsStep (arc_value run.job) t cause
+pub finds_texts : (run : OneThread) (rest : List ℕ) (t : ℕ) (cause : Cause) (found : List (InputValue Item)) → IsUnderWay run (rest ++ t ∷ []) → IsStep (arc_value run.job) t cause
     → found ≡ map (λ e. found_of (slice_index_or run.carried.items e NothingGiven)) (strong_in (net_of (arc_value run.job)) t) → (length found ≤ 1) × AllByRecursion FindsText found
 finds_texts run rest t cause found is step finds =
     let net = net_of (arc_value run.job) in
@@ -173,7 +173,7 @@ pub only_memory : {X : Type 0} (P : MachineError → Type 0) → ((e : MachineEr
 only_memory P only (Ok x) never = tt
 only_memory P only (Err e) refused = only e refused
 
-pub no_other_fault : {X : Type 0} (job : TextJob) (t : ℕ) (found : List (Found Item)) → IsTextJob job → length found ≤ 1 → AllByRecursion FindsText found → (r : Result X JobError) → IfErr r (FaultAllowed text_job job t found) → IfErr r (λ e. e ≡ JobNoMemory)
+pub no_other_fault : {X : Type 0} (job : TextJob) (t : ℕ) (found : List (InputValue Item)) → IsTextJob job → length found ≤ 1 → AllByRecursion FindsText found → (r : Result X JobError) → IfErr r (FaultAllowed text_job job t found) → IfErr r (λ e. e ≡ JobNoMemory)
 no_other_fault job t found is few fit (Ok x) never = tt
 no_other_fault job t found is few fit (Err (FaultOf why)) faults = absurd (no_fault job t found why is few fit faults)
 no_other_fault job t found is few fit (Err JobNoMemory) free = refl

@@ -10,17 +10,17 @@ use Rattle.task_graph.specs.NetRows.{NetRows}
 use Rattle.task_graph.specs.Net.{out_edges, in_edges, strong_in, IsNet, IsEdgeOf, IsPlainNet}
 use Rattle.task_graph.specs.declared.net.EdgeRow.{EdgeRow}
 use Rattle.task_graph.proofs.PlaceLemmas.{strong_in-source}
-use Rattle.legal_run.specs.declared.entry.Cause.{Cause}
-use Rattle.legal_run.specs.declared.entry.Cause.TheVariants.{Source, Strong, Weak}
-use Rattle.legal_run.specs.declared.entry.Entry.{Entry}
-use Rattle.legal_run.specs.declared.entry.Entry.TheVariants.{Start, End}
-use Rattle.legal_run.specs.declared.entry.Part.{Part}
-use Rattle.legal_run.specs.declared.entry.Part.TheVariants.{From, Nothing}
-use Rattle.legal_run.specs.Counts.{is_open, start_at}
-use Rattle.legal_run.specs.DataRule.{edges_of}
-use Rattle.legal_run.specs.Waiting.{waiting}
-use Rattle.legal_run.proofs.Snoc.{is_open_push_below, start_at_push_last, waiting_push}
-use Rattle.legal_run.proofs.Tallying.{and_false}
+use Rattle.journal_rules.specs.declared.entry.Cause.{Cause}
+use Rattle.journal_rules.specs.declared.entry.Cause.TheVariants.{Source, Strong, Weak}
+use Rattle.journal_rules.specs.declared.entry.Entry.{Entry}
+use Rattle.journal_rules.specs.declared.entry.Entry.TheVariants.{Start, End}
+use Rattle.journal_rules.specs.declared.entry.Part.{Part}
+use Rattle.journal_rules.specs.declared.entry.Part.TheVariants.{From, Nothing}
+use Rattle.journal_rules.specs.Counts.{is_open, start_at}
+use Rattle.journal_rules.specs.DataRule.{edges_of}
+use Rattle.journal_rules.specs.Waiting.{waiting}
+use Rattle.journal_rules.proofs.Snoc.{is_open_push_below, start_at_push_last, waiting_push}
+use Rattle.journal_rules.proofs.Tallying.{and_false}
 use Rattle.join_words.specs.declared.ins.Given.{Given}
 use Rattle.run_frame.specs.declared.run.ValueRow.{ValueRow}
 use Rattle.text_tasks.specs.declared.item.Item.{Item}

@@ -3,9 +3,9 @@ use Rattle.std.proofs.Common.{◌≡◌, ◌≢◌, ℕ, Bool, true, false, cond
 use Rattle.std.specs.Prelude.{◌==◌}
 use Rattle.std.specs.Arc.{arc_value}
 use Rattle.std.proofs.lemmas.Bool.Decides.{nat_tests}
-use Rattle.legal_run.specs.declared.entry.Part.{Part}
-use Rattle.legal_run.specs.declared.entry.Part.TheVariants.{From, First, Nothing}
-use Rattle.join_words.specs.Ins.{Found}
+use Rattle.journal_rules.specs.declared.entry.Part.{Part}
+use Rattle.journal_rules.specs.declared.entry.Part.TheVariants.{From, First, Nothing}
+use Rattle.join_words.specs.Ins.{InputValue}
 use Rattle.run_frame.specs.declared.run.ValueRow.{ValueRow}
 use Rattle.run_frame.specs.Runs.{value_at, found_at, found_by}
 use Rattle.text_tasks.specs.declared.item.Item.{Item}
@@ -37,12 +37,12 @@ pub value_not_here : (row : ValueRow Item) (n : ℕ) → row.place ≢ n → val
 value_not_here row n other = let miss : eqb row.place n ≡ false = grind (arith, nat_tests) in rw miss refl
 
 -- what is carried is what is found by what waits
-pub carried_found : (values more : List (ValueRow Item)) (part : Part) (found : Found Item) → Carries values part found → found_at (values ++ more) part ≡ found
+pub carried_found : (values more : List (ValueRow Item)) (part : Part) (found : InputValue Item) → Carries values part found → found_at (values ++ more) part ≡ found
 carried_found values more (From n) found (item, at, is) = ap found_by (value_stays values more n item at) ∙ sym is
 carried_found values more First found is = sym is
 carried_found values more Nothing found is = sym is
 
-pub carries_still : (values more : List (ValueRow Item)) (part : Part) (found : Found Item) → Carries values part found → Carries (values ++ more) part found
+pub carries_still : (values more : List (ValueRow Item)) (part : Part) (found : InputValue Item) → Carries values part found → Carries (values ++ more) part found
 carries_still values more (From n) found (item, at, is) = (item, value_stays values more n item at, is)
 carries_still values more First found is = is
 carries_still values more Nothing found is = is

@@ -3,7 +3,7 @@ use Rattle.std.specs.Prelude.{ℕ, ◌==◌, List, [], ◌∷◌, ◌++◌, leng
 use Rattle.std.specs.List.{range_with_len, flat_map}
 use Rattle.task_graph.specs.NetRows.{NetRows}
 use Rattle.task_graph.specs.Net.{out_edges}
-use Rattle.legal_run.specs.declared.entry.Entry.{Entry}
+use Rattle.journal_rules.specs.declared.entry.Entry.{Entry}
 use Rattle.run_frame.specs.declared.run.ValueRow.{ValueRow}
 use Rattle.run_frame.specs.declared.run.FrameRun.{FrameRun}
 use Rattle.run_frame.specs.LastEnds.{last_value}

@@ -7,7 +7,7 @@ ghost use Rattle.run_frame.specs.NestedRule.{job_of};
 ghost use Rattle.text_tasks.specs.JobMeaning.{text_job, net_of, limit_of, IsTextJob};
 ghost use Rattle.flow_run.specs.inside.UnderWay.{times, born};
 ghost use Rattle.task_graph.specs.Net.{IsPlainNet};
-ghost use Rattle.legal_run.specs.Counts.{starts};
+ghost use Rattle.journal_rules.specs.Counts.{starts};
 ghost use Rattle.flow_run.specs.inside.OneThread.{IsUnderWay, CauseFits, IsForAll};
 
 use super::carried::{carry, none_carried, release, take_ins};

@@ -67,7 +67,7 @@ fn shown_outcome(alloc: Global, outcome: &Outcome) -> Result<String, AllocError>
         Noted::Fault => shown.push_str(", note refused")?,
         Noted::NoMemory => shown.push_str(", no memory for the note")?,
     }
-    for run in outcome.runs.as_slice() {
+    for run in &outcome.runs {
         shown.push_str(format!(in alloc; ", run of {}", run.journal.len())?.as_str())?;
     }
     Ok(shown)

@@ -12,37 +12,37 @@ use Rattle.task_graph.specs.declared.net.Shape.{Shape}
 use Rattle.task_graph.specs.declared.net.Shape.TheVariants.{Plain, Choice, Many, Nested}
 use Rattle.task_graph.specs.declared.net.TaskRow.{TaskRow}
 use Rattle.task_graph.specs.declared.net.EdgeRow.{EdgeRow}
-use Rattle.legal_run.specs.declared.entry.Cause.{Cause}
-use Rattle.legal_run.specs.declared.entry.Part.{Part}
-use Rattle.legal_run.specs.declared.entry.Why.{Why}
-use Rattle.legal_run.specs.declared.entry.DropWhy.{DropWhy}
-use Rattle.legal_run.specs.declared.entry.Entry.{Entry}
-use Rattle.legal_run.specs.declared.entry.Entry.TheVariants.{Start, End, Fault, Drop}
+use Rattle.journal_rules.specs.declared.entry.Cause.{Cause}
+use Rattle.journal_rules.specs.declared.entry.Part.{Part}
+use Rattle.journal_rules.specs.declared.entry.Why.{Why}
+use Rattle.journal_rules.specs.declared.entry.DropWhy.{DropWhy}
+use Rattle.journal_rules.specs.declared.entry.Entry.{Entry}
+use Rattle.journal_rules.specs.declared.entry.Entry.TheVariants.{Start, End, Fault, Drop}
 use Rattle.legal_run.specs.declared.verdict.Break.{Break}
-use Rattle.legal_run.specs.declared.counts.Counts.{Counts}
+use Rattle.journal_rules.specs.declared.counts.Counts.{Counts}
 use Rattle.legal_run.specs.declared.machine_error.MachineError.{MachineError}
-use Rattle.legal_run.specs.Counts.{started, start_at, is_open, closes}
-use Rattle.legal_run.specs.ChoiceRule.{ChoiceRule, GivesFit, InnerFits}
-use Rattle.legal_run.specs.DataRule.{DataRule, edges_of}
-use Rattle.legal_run.specs.ShapeLegal.{MayFollow}
-use Rattle.legal_run.specs.Waiting.{waiting_parts}
+use Rattle.journal_rules.specs.Counts.{started, start_at, is_open, closes}
+use Rattle.journal_rules.specs.ChoiceRule.{ChoiceRule, GivesFit, InnerFits}
+use Rattle.journal_rules.specs.DataRule.{DataRule, edges_of}
+use Rattle.journal_rules.specs.ShapeLegal.{MayFollow}
+use Rattle.journal_rules.specs.Waiting.{waiting_parts}
 use Rattle.legal_run.specs.MachineState.{MachineState}
 use Rattle.legal_run.specs.Machine.{Refuses, break_of}
 use Rattle.legal_run.specs.Refusal.{IsRefusal}
-use Rattle.legal_run.specs.inside.Reached.{IsReached, ClosesTask}
-use Rattle.legal_run.specs.inside.Releases.{CountsReleases, IsUseOf}
-use Rattle.legal_run.specs.inside.Units.{CountsUnits}
+use Rattle.journal_rules.specs.inside.Reached.{IsReached, ClosesTask}
+use Rattle.journal_rules.specs.inside.Releases.{CountsReleases, IsUseOf}
+use Rattle.journal_rules.specs.inside.Units.{CountsUnits}
 use Rattle.legal_run.specs.inside.Waits.{TellsWaiting}
-use Rattle.legal_run.specs.inside.Counted.{CountsOpen, IsCounted, IsPosition}
+use Rattle.journal_rules.specs.inside.Counted.{CountsOpen, IsCounted, IsPosition}
 use Rattle.legal_run.specs.declared.walk.Walk.{Walk}
 use Rattle.legal_run.specs.inside.Walks.{IsAt}
 use Rattle.legal_run.specs.inside.Kept.{IsLed, IsKept}
-use Rattle.legal_run.proofs.Snoc.{EachAfter-push}
-use Rattle.legal_run.proofs.NetLemmas.{counted_once}
+use Rattle.journal_rules.proofs.Snoc.{EachAfter-push}
+use Rattle.journal_rules.proofs.NetLemmas.{counted_once}
 use Rattle.legal_run.proofs.Marking.{distinct_once}
-use Rattle.legal_run.proofs.Reaching.{reached_push, reached_empty, released_held}
-use Rattle.legal_run.proofs.CountLaws.{can_grow, is_open_push_last}
-use Rattle.legal_run.proofs.ReleaseLaws.{start_use, drop_use}
+use Rattle.journal_rules.proofs.Reaching.{reached_push, reached_empty, released_held}
+use Rattle.journal_rules.proofs.CountLaws.{can_grow, is_open_push_last}
+use Rattle.journal_rules.proofs.ReleaseLaws.{start_use, drop_use}
 use Rattle.legal_run.proofs.WaitingLemmas.{waits_start, waits_drop, waits_end, waits_fault, waits_empty, parts_allowed, tells_fault}
 
 -- at first

@@ -1,17 +1,5 @@
-pub mod Flags
-pub mod NetLemmas
-pub mod Snoc
-pub mod StartsAt
-pub mod Tallying
-pub mod Rounding
-pub mod Changing
-pub mod UnitLaws
-pub mod ReleaseLaws
-pub mod Reaching
 pub mod WaitingLemmas
-pub mod CountLaws
 pub mod Refusing
 pub mod Marking
 pub mod Keeping
-pub mod WorkedRules
 pub mod Readying

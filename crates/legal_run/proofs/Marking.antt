@@ -12,9 +12,9 @@ use Rattle.std.proofs.lemmas.List.Folds.{list_any-append}
 use Rattle.task_graph.specs.NetRows.{NetRows}
 use Rattle.task_graph.specs.Net.{out_edges}
 use Rattle.task_graph.specs.declared.net.EdgeRow.{EdgeRow}
-use Rattle.legal_run.specs.ChoiceRule.{AreAmong}
+use Rattle.journal_rules.specs.ChoiceRule.{AreAmong}
 use Rattle.legal_run.specs.inside.Marking.{AreClear, Marked}
-use Rattle.legal_run.proofs.NetLemmas.{any_place}
+use Rattle.journal_rules.proofs.NetLemmas.{any_place}
 
 abbrev one_if : Bool → ℕ
 one_if b = cond b 1 0

@@ -4,10 +4,11 @@ use Rattle.std.specs.List.{range_with_len}
 use Rattle.std.proofs.lemmas.List.{append-nil, take_more}
 use Rattle.task_graph.specs.NetRows.{NetRows}
 use Rattle.task_graph.specs.Net.{weak_in}
-use Rattle.legal_run.specs.declared.entry.Cause.TheVariants.{Source, Strong, Weak}
-use Rattle.legal_run.specs.declared.entry.Entry.{Entry}
+use Rattle.journal_rules.specs.declared.entry.Cause.TheVariants.{Source, Strong, Weak}
+use Rattle.journal_rules.specs.declared.entry.Entry.{Entry}
 use Rattle.legal_run.specs.declared.ready.Ready.{Ready}
-use Rattle.legal_run.specs.Ready.{times_left, ready_row, ready_weak, ready_of, ready_of_each}
+use Rattle.legal_run.specs.Ready.{ready_row, ready_weak, ready_of, ready_of_each}
+use Rattle.journal_rules.specs.TimesLeft.{times_left}
 
 weak_push : (net : NetRows) (h : List Entry) (t : ℕ) (es : List ℕ) (e : ℕ) → ready_weak net h t (es ++ e ∷ []) ≡ ready_weak net h t es ++ ready_row t (Weak e) (times_left net h t (Weak e))
 weak_push net h t [] e = append-nil (ready_row t (Weak e) (times_left net h t (Weak e)))

@@ -7,29 +7,30 @@ use Rattle.std.proofs.lemmas.Bool.{cases_eq, cases_lt, false≢true}
 use Rattle.task_graph.specs.NetRows.{NetRows}
 use Rattle.task_graph.specs.Net.{IsNet, IsTaskOf}
 use Rattle.task_graph.specs.declared.net.TaskRow.{TaskRow}
-use Rattle.legal_run.specs.declared.entry.Cause.{Cause}
-use Rattle.legal_run.specs.declared.entry.Part.{Part}
-use Rattle.legal_run.specs.declared.entry.Why.{Why}
-use Rattle.legal_run.specs.declared.entry.DropWhy.{DropWhy}
-use Rattle.legal_run.specs.declared.entry.DropWhy.TheVariants.{Halted, Limit, Stuck}
-use Rattle.legal_run.specs.declared.entry.Entry.{Entry}
-use Rattle.legal_run.specs.declared.entry.Entry.TheVariants.{Start, End, Fault, Drop}
+use Rattle.journal_rules.specs.declared.entry.Cause.{Cause}
+use Rattle.journal_rules.specs.declared.entry.Part.{Part}
+use Rattle.journal_rules.specs.declared.entry.Why.{Why}
+use Rattle.journal_rules.specs.declared.entry.DropWhy.{DropWhy}
+use Rattle.journal_rules.specs.declared.entry.DropWhy.TheVariants.{Halted, Limit, Stuck}
+use Rattle.journal_rules.specs.declared.entry.Entry.{Entry}
+use Rattle.journal_rules.specs.declared.entry.Entry.TheVariants.{Start, End, Fault, Drop}
 use Rattle.legal_run.specs.declared.verdict.Break.{Break}
 use Rattle.legal_run.specs.declared.verdict.Break.TheVariants.{NoSuch, AfterStuck, NotReleased, OverUnits, OverLimit, NotOpen, NotChosen, NothingOut, NotOver, NotHalted, NotStuck}
-use Rattle.legal_run.specs.Counts.{starts, start_at, is_open}
-use Rattle.legal_run.specs.ReleaseRule.{IsReleased, ReleaseRule}
-use Rattle.legal_run.specs.ClosingRule.{ClosingRule}
-use Rattle.legal_run.specs.ChoiceRule.{ChoiceRule}
-use Rattle.legal_run.specs.SemaphoreRule.{takes, puts, taken, back, max_of, IsWithin, FaultRule}
-use Rattle.legal_run.specs.HaltLimitStuckRule.{AfterStuckRule, DropRule, is_stuck_why}
-use Rattle.legal_run.specs.ShapeLegal.{IsInRange, CauseInRange, WhyInRange, DropWhyInRange, MayFollow}
-use Rattle.legal_run.specs.Refusal.{Breaks, rank, IsRefusal, IsLeast, WantsUnit, PutsWithNothingOut, StartsWithoutUnit, StartsAtLimit, EndsWithNothingOut, DropsWithoutCause, is_halted_why}
+use Rattle.journal_rules.specs.Counts.{starts, start_at, is_open}
+use Rattle.journal_rules.specs.ReleaseRule.{IsReleased, ReleaseRule}
+use Rattle.journal_rules.specs.ClosingRule.{ClosingRule}
+use Rattle.journal_rules.specs.ChoiceRule.{ChoiceRule}
+use Rattle.journal_rules.specs.SemaphoreRule.{takes, puts, taken, back, max_of, UnitsInBounds, UnitFaultRule}
+use Rattle.journal_rules.specs.MissingUnits.{IsLeast, WantsUnit, PutsWithNothingOut}
+use Rattle.journal_rules.specs.HaltLimitStuckRule.{AfterStuckRule, DropRule, is_stuck_why}
+use Rattle.journal_rules.specs.ShapeLegal.{IsInRange, CauseInRange, WhyInRange, DropWhyInRange, MayFollow}
+use Rattle.legal_run.specs.Refusal.{Breaks, rank, IsRefusal, StartsWithoutUnit, StartsAtLimit, EndsWithNothingOut, DropsWithoutCause, is_halted_why}
 use Rattle.legal_run.specs.inside.Checks.{BreaksWhy}
-use Rattle.legal_run.specs.inside.Reached.{IsReached}
-use Rattle.legal_run.proofs.UnitLaws.{taken_push, back_push, start_below, named_in_range}
-use Rattle.legal_run.proofs.Snoc.{start_at_push_below}
-use Rattle.legal_run.proofs.Reaching.{each_below, at_below}
-use Rattle.legal_run.proofs.NetLemmas.{at_place}
+use Rattle.journal_rules.specs.inside.Reached.{IsReached}
+use Rattle.journal_rules.proofs.UnitLaws.{taken_push, back_push, start_below, named_in_range}
+use Rattle.journal_rules.proofs.Snoc.{start_at_push_below}
+use Rattle.journal_rules.proofs.Reaching.{each_below, at_below}
+use Rattle.journal_rules.proofs.NetLemmas.{at_place}
 
 abbrev one_if : Bool → ℕ
 one_if b = cond b 1 0
@@ -181,7 +182,7 @@ clear_out net limit h x clear rule = clear_more net limit h x 7 clear next
     next NotHalted is = absurd (omega arith)
     next NotStuck is = absurd (omega arith)
 
-pub clear_over : (net : NetRows) (limit : ℕ) (h : List Entry) (x : Entry) → Clear net limit h x 8 → FaultRule net h x → Clear net limit h x 9
+pub clear_over : (net : NetRows) (limit : ℕ) (h : List Entry) (x : Entry) → Clear net limit h x 8 → UnitFaultRule net h x → Clear net limit h x 9
 clear_over net limit h x clear rule = clear_more net limit h x 8 clear next
   where
     next : (b : Break) → rank b ≡ 8 → ¬ Breaks net limit h x b
@@ -214,13 +215,13 @@ clear_halted net limit h x clear rule = clear_more net limit h x 9 clear next
     next NotStuck is = absurd (omega arith)
 
 -- the units after an entry
-pub within_start : (net : NetRows) (limit t : ℕ) (h : List Entry) (cause : Cause) (ins : List Part) → IsReached net limit h → ((s : ℕ) → ¬ WantsUnit net h t s) → (s : ℕ) → s < length net.sems → IsWithin net (h ++ Start t cause ins ∷ []) s
+pub within_start : (net : NetRows) (limit t : ℕ) (h : List Entry) (cause : Cause) (ins : List Part) → IsReached net limit h → ((s : ℕ) → ¬ WantsUnit net h t s) → (s : ℕ) → s < length net.sems → UnitsInBounds net (h ++ Start t cause ins ∷ []) s
 within_start net limit t h cause ins reached enough s below = by_takes (takes net s t) refl (cases_lt (taken net s h) (back net s h + max_of net s))
   where
     x : Entry
     x = Start t cause ins
 
-    by_takes : (b : Bool) → takes net s t ≡ b → (taken net s h < back net s h + max_of net s) ⊎ (back net s h + max_of net s ≤ taken net s h) → IsWithin net (h ++ x ∷ []) s
+    by_takes : (b : Bool) → takes net s t ≡ b → (taken net s h < back net s h + max_of net s) ⊎ (back net s h + max_of net s ≤ taken net s h) → UnitsInBounds net (h ++ x ∷ []) s
     by_takes b is (inl unit) =
         let few : one_if (takes net s t) ≤ 1 = at_most (takes net s t) in
         (omega (arith, taken_push net s h x, back_push net limit s h x reached, (reached.within s below).0), omega (arith, taken_push net s h x, back_push net limit s h x reached))
@@ -233,7 +234,7 @@ within_start net limit t h cause ins reached enough s below = by_takes (takes ne
         let same : taken net s (h ++ x ∷ []) ≡ taken net s h + 0 = taken_push net s h x ∙ ap (λ c. taken net s h + one_if c) is in
         (omega (arith, same, back_push net limit s h x reached, (reached.within s below).0), omega (arith, same, back_push net limit s h x reached, (reached.within s below).1))
 
-within_end : (net : NetRows) (limit p t : ℕ) (h : List Entry) (gives : List ℕ) (inner : Bool) → IsReached net limit h → start_at h p ≡ Some t → ((s : ℕ) → ¬ PutsWithNothingOut net h t s) → (s : ℕ) → s < length net.sems → IsWithin net (h ++ End p gives inner ∷ []) s
+within_end : (net : NetRows) (limit p t : ℕ) (h : List Entry) (gives : List ℕ) (inner : Bool) → IsReached net limit h → start_at h p ≡ Some t → ((s : ℕ) → ¬ PutsWithNothingOut net h t s) → (s : ℕ) → s < length net.sems → UnitsInBounds net (h ++ End p gives inner ∷ []) s
 within_end net limit p t h gives inner reached is enough s below = by_puts (puts net s t) refl (cases_eq (back net s h) (taken net s h))
   where
     x : Entry
@@ -245,7 +246,7 @@ within_end net limit p t h gives inner reached is enough s below = by_puts (puts
     taken_is : taken net s (h ++ x ∷ []) ≡ taken net s h + 0
     taken_is = taken_push net s h x
 
-    by_puts : (b : Bool) → puts net s t ≡ b → (back net s h ≡ taken net s h) ⊎ (back net s h ≢ taken net s h) → IsWithin net (h ++ x ∷ []) s
+    by_puts : (b : Bool) → puts net s t ≡ b → (back net s h ≡ taken net s h) ⊎ (back net s h ≢ taken net s h) → UnitsInBounds net (h ++ x ∷ []) s
     by_puts true put (inl same) = absurd (enough s (put, same))
     by_puts true put (inr other) =
         let more : back net s (h ++ x ∷ []) ≡ back net s h + 1 = back_is ∙ ap (λ c. back net s h + one_if c) put in
@@ -262,7 +263,7 @@ may_start net limit t h cause ins reached in_tasks in_edges after rule enough ro
   release = rule;
   closing = tt;
   choice = tt;
-  semaphore = record { within = each_below (IsWithin net (h ++ Start t cause ins ∷ [])) (length net.sems) (within_start net limit t h cause ins reached enough); over = tt };
+  semaphore = record { within = each_below (UnitsInBounds net (h ++ Start t cause ins ∷ [])) (length net.sems) (within_start net limit t h cause ins reached enough); over = tt };
   halt_limit_stuck = record { dropped = room; after_stuck = after };
 }
 
@@ -273,20 +274,20 @@ may_end net limit p t h gives inner reached in_edges after opened is rule enough
   release = tt;
   closing = opened;
   choice = rule;
-  semaphore = record { within = each_below (IsWithin net (h ++ End p gives inner ∷ [])) (length net.sems) (within_end net limit p t h gives inner reached is enough); over = tt };
+  semaphore = record { within = each_below (UnitsInBounds net (h ++ End p gives inner ∷ [])) (length net.sems) (within_end net limit p t h gives inner reached is enough); over = tt };
   halt_limit_stuck = record { dropped = tt; after_stuck = after };
 }
 
-within_still : (net : NetRows) (limit : ℕ) (h : List Entry) (x : Entry) (s : ℕ) → IsReached net limit h → s < length net.sems → taken net s (h ++ x ∷ []) ≡ taken net s h + 0 → back net s (h ++ x ∷ []) ≡ back net s h + 0 → IsWithin net (h ++ x ∷ []) s
+within_still : (net : NetRows) (limit : ℕ) (h : List Entry) (x : Entry) (s : ℕ) → IsReached net limit h → s < length net.sems → taken net s (h ++ x ∷ []) ≡ taken net s h + 0 → back net s (h ++ x ∷ []) ≡ back net s h + 0 → UnitsInBounds net (h ++ x ∷ []) s
 within_still net limit h x s reached below ta ba = (omega (arith, ta, ba, (reached.within s below).0), omega (arith, ta, ba, (reached.within s below).1))
 
-pub may_fault : (net : NetRows) (limit p : ℕ) (h : List Entry) (why : Why) → IsReached net limit h → WhyInRange net why → AfterStuckRule h (Fault p why) → is_open h p ≡ true → FaultRule net h (Fault p why) → MayFollow net limit h (Fault p why)
+pub may_fault : (net : NetRows) (limit p : ℕ) (h : List Entry) (why : Why) → IsReached net limit h → WhyInRange net why → AfterStuckRule h (Fault p why) → is_open h p ≡ true → UnitFaultRule net h (Fault p why) → MayFollow net limit h (Fault p why)
 may_fault net limit p h why reached in_range after opened rule = record {
   in_range = in_range;
   release = tt;
   closing = opened;
   choice = tt;
-  semaphore = record { within = each_below (IsWithin net (h ++ Fault p why ∷ [])) (length net.sems) (λ s below. within_still net limit h (Fault p why) s reached below (taken_push net s h (Fault p why)) (back_push net limit s h (Fault p why) reached)); over = rule };
+  semaphore = record { within = each_below (UnitsInBounds net (h ++ Fault p why ∷ [])) (length net.sems) (λ s below. within_still net limit h (Fault p why) s reached below (taken_push net s h (Fault p why)) (back_push net limit s h (Fault p why) reached)); over = rule };
   halt_limit_stuck = record { dropped = tt; after_stuck = after };
 }
 
@@ -297,7 +298,7 @@ may_drop net limit t h cause why reached in_tasks in_edges in_sems after release
   release = released;
   closing = tt;
   choice = tt;
-  semaphore = record { within = each_below (IsWithin net (h ++ Drop t cause why ∷ [])) (length net.sems) (λ s below. within_still net limit h (Drop t cause why) s reached below (taken_push net s h (Drop t cause why)) (back_push net limit s h (Drop t cause why) reached)); over = tt };
+  semaphore = record { within = each_below (UnitsInBounds net (h ++ Drop t cause why ∷ [])) (length net.sems) (λ s below. within_still net limit h (Drop t cause why) s reached below (taken_push net s h (Drop t cause why)) (back_push net limit s h (Drop t cause why) reached)); over = tt };
   halt_limit_stuck = record { dropped = rule; after_stuck = after };
 }
 
@@ -328,7 +329,7 @@ breaks_nothing net limit h x (OverUnits s) reached may = by_entry x may
         let y = Start t cause ins in
         let below = takes_in_range net s t reached.rows f.has_it.0 in
         let more : taken net s (h ++ y ∷ []) ≡ taken net s h + 1 = taken_push net s h y ∙ ap (λ c. taken net s h + one_if c) f.has_it.0 in
-        f.has_it.1 (omega (arith, more, back_push net limit s h y reached, (at_below (IsWithin net (h ++ y ∷ [])) (length net.sems) m.semaphore.within s below).1))
+        f.has_it.1 (omega (arith, more, back_push net limit s h y reached, (at_below (UnitsInBounds net (h ++ y ∷ [])) (length net.sems) m.semaphore.within s below).1))
     by_entry (End start gives inner) m = λ f. f
     by_entry (Fault start why) m = λ f. f
     by_entry (Drop t cause why) m = λ f. f
@@ -354,7 +355,7 @@ breaks_nothing net limit h x (NothingOut s) reached may = by_entry x may
             let below = puts_in_range net s t reached.rows f.has_it.0 in
             let more : back net s (h ++ y ∷ []) ≡ back net s h + 1 =
             back_push net limit s h y reached ∙ ap (λ o. back net s h + one_if (option_map_or (puts net s) o false)) (start_at_push_below h y p (start_below h p t is) ∙ is) ∙ ap (λ c. back net s h + one_if c) f.has_it.0 in
-            omega (arith, more, f.has_it.1, taken_push net s h y, (at_below (IsWithin net (h ++ y ∷ [])) (length net.sems) m.semaphore.within s below).0)
+            omega (arith, more, f.has_it.1, taken_push net s h y, (at_below (UnitsInBounds net (h ++ y ∷ [])) (length net.sems) m.semaphore.within s below).0)
     by_entry (Fault start why) m = λ f. f
     by_entry (Drop t cause why) m = λ f. f
 breaks_nothing net limit h x NotOver reached may = λ f. f may.semaphore.over

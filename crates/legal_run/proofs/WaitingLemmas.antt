@@ -2,7 +2,7 @@
 use Rattle.std.proofs.Common.{◌≡◌, ◌≢◌, ◌⊎◌, inl, inr, ℕ, ◌+◌, ◌<◌, ◌≤◌, Bool, true, false, ◌&&◌, ◌||◌, cond, eqb, List, [], ◌∷◌, ◌++◌, length, take, Option, Some, None, sym, refl, ap, ◌∙◌, subst, arith, map, get_or, IsTrue, Result, Ok, Err, IfOk}
 use Rattle.std.specs.Prelude.{slice_get, ◌==◌, All}
 use Rattle.std.proofs.lemmas.List.Elements.{recursion_from_All}
-use Rattle.legal_run.proofs.NetLemmas.{map_agree}
+use Rattle.journal_rules.proofs.NetLemmas.{map_agree}
 use Rattle.std.specs.Option.{option_map_or}
 use Rattle.std.specs.List.{list_any, AllByRecursion, AllZip, zip}
 use Rattle.std.proofs.lemmas.Bool.Decides.{nat_tests}
@@ -12,24 +12,24 @@ use Rattle.std.proofs.lemmas.Option.{slice_get_past}
 use Rattle.outside_io.specs.declared.list.NoMemory.{NoMemory}
 use Rattle.task_graph.specs.NetRows.{NetRows}
 use Rattle.task_graph.specs.declared.net.EdgeRow.{EdgeRow}
-use Rattle.legal_run.specs.declared.entry.Cause.{Cause}
-use Rattle.legal_run.specs.declared.entry.Part.{Part}
-use Rattle.legal_run.specs.declared.entry.Part.TheVariants.{From, First, Nothing}
-use Rattle.legal_run.specs.declared.entry.Why.{Why}
-use Rattle.legal_run.specs.declared.entry.DropWhy.{DropWhy}
-use Rattle.legal_run.specs.declared.entry.Entry.{Entry}
-use Rattle.legal_run.specs.declared.entry.Entry.TheVariants.{Start, End, Fault, Drop}
-use Rattle.legal_run.specs.Counts.{given, first_tokens, gives_edge}
-use Rattle.legal_run.specs.ReleaseRule.{IsReleased}
-use Rattle.legal_run.specs.Calm.{IsCalm, used_at}
-use Rattle.legal_run.specs.DataRule.{edges_of, MayFind, IsPartAt, has_part, is_from, is_first}
-use Rattle.legal_run.specs.Waiting.{waiting, uses_edge, waiting_parts}
+use Rattle.journal_rules.specs.declared.entry.Cause.{Cause}
+use Rattle.journal_rules.specs.declared.entry.Part.{Part}
+use Rattle.journal_rules.specs.declared.entry.Part.TheVariants.{From, First, Nothing}
+use Rattle.journal_rules.specs.declared.entry.Why.{Why}
+use Rattle.journal_rules.specs.declared.entry.DropWhy.{DropWhy}
+use Rattle.journal_rules.specs.declared.entry.Entry.{Entry}
+use Rattle.journal_rules.specs.declared.entry.Entry.TheVariants.{Start, End, Fault, Drop}
+use Rattle.journal_rules.specs.Counts.{given, first_tokens, gives_edge}
+use Rattle.journal_rules.specs.ReleaseRule.{IsReleased}
+use Rattle.journal_rules.specs.Calm.{IsCalm, used_at}
+use Rattle.journal_rules.specs.DataRule.{edges_of, MayFind, IsPartAt, has_part, is_from, is_first}
+use Rattle.journal_rules.specs.Waiting.{waiting, uses_edge, waiting_parts}
 use Rattle.legal_run.specs.inside.Waits.{Waits, TellsWaiting}
-use Rattle.legal_run.specs.inside.Releases.{IsUseOf}
-use Rattle.legal_run.proofs.Snoc.{waiting_push, last_part_push, slice_get_push, slice_get_push_last}
-use Rattle.legal_run.proofs.Tallying.{given_push, count_by_push_no, and_false, tells_same}
-use Rattle.legal_run.proofs.ReleaseLaws.{start_use, drop_use, end_no_use, fault_no_use}
-use Rattle.legal_run.proofs.Reaching.{at_below, each_below, used_at_use, used_at_none}
+use Rattle.journal_rules.specs.inside.Releases.{IsUseOf}
+use Rattle.journal_rules.proofs.Snoc.{waiting_push, last_part_push, slice_get_push, slice_get_push_last}
+use Rattle.journal_rules.proofs.Tallying.{given_push, count_by_push_no, and_false, tells_same}
+use Rattle.journal_rules.proofs.ReleaseLaws.{start_use, drop_use, end_no_use, fault_no_use}
+use Rattle.journal_rules.proofs.Reaching.{at_below, each_below, used_at_use, used_at_none}
 
 -- an edge that is calm was calm an entry before, and then held at most one token
 pub calm_before : (net : NetRows) (e : ℕ) (h : List Entry) (x : Entry) → IsCalm net e (h ++ x ∷ []) → IsCalm net e h

@@ -1,15 +1,3 @@
-pub mod Counts
-pub mod Entries
-pub mod ReleaseRule
-pub mod ClosingRule
-pub mod ChoiceRule
-pub mod Calm
-pub mod DataRule
-pub mod SemaphoreRule
-pub mod HaltLimitStuckRule
-pub mod ShapeLegal
-pub mod Complete
-pub mod Waiting
 pub mod inside
 pub mod MachineState
 pub mod Machine

@@ -1,18 +1,18 @@
 -- The machine, as contracts see it, and what its steps do.
 use Rattle.std.specs.Prelude.{◌≡◌, ℕ, Bool, List, [], ◌∷◌, ◌++◌, length, Option, Some, None, MatchOption}
-use Rattle.legal_run.specs.declared.entry.Cause.{Cause}
-use Rattle.legal_run.specs.declared.entry.Why.{Why}
-use Rattle.legal_run.specs.declared.entry.DropWhy.{DropWhy}
-use Rattle.legal_run.specs.declared.entry.Entry.{Entry}
-use Rattle.legal_run.specs.declared.entry.Entry.TheVariants.{Start, End, Fault, Drop}
+use Rattle.journal_rules.specs.declared.entry.Cause.{Cause}
+use Rattle.journal_rules.specs.declared.entry.Why.{Why}
+use Rattle.journal_rules.specs.declared.entry.DropWhy.{DropWhy}
+use Rattle.journal_rules.specs.declared.entry.Entry.{Entry}
+use Rattle.journal_rules.specs.declared.entry.Entry.TheVariants.{Start, End, Fault, Drop}
 use Rattle.legal_run.specs.declared.verdict.Break.{Break}
 use Rattle.legal_run.specs.declared.verdict.Break.TheVariants.{OverUnits, OverLimit, NoSuch as NoSuchNumber, AfterStuck as StuckBefore, NotReleased as NoRelease, NotOpen as NoOpenStart, NotChosen as NoChoice, NothingOut as NoUnitOut, NotOver as NoOverRelease, NotHalted as NoFault, NotStuck as NoStuckRun}
 use Rattle.legal_run.specs.declared.machine_error.MachineError.{MachineError}
 use Rattle.legal_run.specs.declared.machine_error.MachineError.TheVariants.{NoSuch, AfterStuck, NotReleased, NoUnit, AtLimit, NotOpen, NotChosen, NothingOut, NotOver, NotHalted, NotStuck, NoMemory}
 use Rattle.legal_run.specs.MachineState.{MachineState}
-use Rattle.legal_run.specs.ShapeLegal.{MayFollow}
+use Rattle.journal_rules.specs.ShapeLegal.{MayFollow}
 use Rattle.legal_run.specs.Refusal.{IsRefusal}
-use Rattle.legal_run.specs.Waiting.{waiting_parts}
+use Rattle.journal_rules.specs.Waiting.{waiting_parts}
 
 -- the entry stands last in the new journal, at this place, and could stand there
 pub record Appends (old new : MachineState) (entry : Entry) (place : ℕ) : Type 0 where

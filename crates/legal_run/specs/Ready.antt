@@ -1,21 +1,13 @@
 -- The releases that are left, each with how often it can be used.
-use Rattle.std.specs.Prelude.{ℕ, ◌-◌, ◌==◌, List, [], ◌∷◌, ◌++◌, length, map, if◌then◌else◌}
+use Rattle.std.specs.Prelude.{ℕ, ◌==◌, List, [], ◌∷◌, ◌++◌, length, if◌then◌else◌}
 use Rattle.std.specs.List.{range_with_len}
 use Rattle.task_graph.specs.NetRows.{NetRows}
-use Rattle.task_graph.specs.Net.{in_edges, strong_in, weak_in}
-use Rattle.legal_run.specs.declared.entry.Cause.{Cause}
-use Rattle.legal_run.specs.declared.entry.Cause.TheVariants.{Source, Strong, Weak}
-use Rattle.legal_run.specs.declared.entry.Entry.{Entry}
+use Rattle.task_graph.specs.Net.{weak_in}
+use Rattle.journal_rules.specs.declared.entry.Cause.{Cause}
+use Rattle.journal_rules.specs.declared.entry.Cause.TheVariants.{Source, Strong, Weak}
+use Rattle.journal_rules.specs.declared.entry.Entry.{Entry}
 use Rattle.legal_run.specs.declared.ready.Ready.{Ready}
-use Rattle.legal_run.specs.Counts.{given, used, used_weak, used_source}
-use Rattle.legal_run.specs.Complete.{least}
-
--- How often a release of a task can still be used: a source task has one in all; a task has as many by its strong
--- in-edges as the least of them was given tokens; a weak edge as many as it was given.
-abbrev pub times_left : NetRows → List Entry → ℕ → Cause → ℕ
-times_left net journal t Source = if length (in_edges net t) == 0 then 1 - used_source t journal else 0
-times_left net journal t Strong = least (map (λ e. given net e journal) (strong_in net t)) - used t journal
-times_left net journal t (Weak e) = given net e journal - used_weak e journal
+use Rattle.journal_rules.specs.TimesLeft.{times_left}
 
 -- a release, unless it can't be used any more
 abbrev pub ready_row : ℕ → Cause → ℕ → List Ready

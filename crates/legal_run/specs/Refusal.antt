@@ -1,32 +1,20 @@
 -- Which rule an entry breaks after a journal, and which break is told where it breaks several.
 use Rattle.std.specs.Prelude.{◌≡◌, ℕ, ◌<◌, Bool, true, false, List, IsTrue, IsSomeAnd}
 use Rattle.task_graph.specs.NetRows.{NetRows}
-use Rattle.legal_run.specs.declared.entry.DropWhy.{DropWhy}
-use Rattle.legal_run.specs.declared.entry.DropWhy.TheVariants.{Halted, Limit, Stuck}
-use Rattle.legal_run.specs.declared.entry.Entry.{Entry}
-use Rattle.legal_run.specs.declared.entry.Entry.TheVariants.{Start, End, Fault, Drop}
+use Rattle.journal_rules.specs.declared.entry.DropWhy.{DropWhy}
+use Rattle.journal_rules.specs.declared.entry.DropWhy.TheVariants.{Halted, Limit, Stuck}
+use Rattle.journal_rules.specs.declared.entry.Entry.{Entry}
+use Rattle.journal_rules.specs.declared.entry.Entry.TheVariants.{Start, End, Fault, Drop}
 use Rattle.legal_run.specs.declared.verdict.Break.{Break}
 use Rattle.legal_run.specs.declared.verdict.Break.TheVariants.{NoSuch, AfterStuck, NotReleased, OverUnits, OverLimit, NotOpen, NotChosen, NothingOut, NotOver, NotHalted, NotStuck}
-use Rattle.legal_run.specs.Counts.{starts, start_at}
-use Rattle.legal_run.specs.ReleaseRule.{ReleaseRule}
-use Rattle.legal_run.specs.ClosingRule.{ClosingRule}
-use Rattle.legal_run.specs.ChoiceRule.{ChoiceRule}
-use Rattle.legal_run.specs.SemaphoreRule.{takes, puts, taken, back, HasUnit, FaultRule}
-use Rattle.legal_run.specs.HaltLimitStuckRule.{AfterStuckRule, DropRule, is_stuck_why}
-use Rattle.legal_run.specs.ShapeLegal.{IsInRange}
-
--- the least number with a property
-pub record IsLeast (P : ℕ → Type 0) (s : ℕ) : Type 0 where
-  pub has_it : P s
-  pub least : (r : ℕ) → r < s → ¬ P r
-
--- a task takes the semaphore, which has no unit
-abbrev pub WantsUnit : NetRows → List Entry → ℕ → ℕ → Type 0
-WantsUnit net journal t s = IsTrue (takes net s t) × ¬ HasUnit net s journal
-
--- a task puts the semaphore, of which as many units are back as were taken
-abbrev pub PutsWithNothingOut : NetRows → List Entry → ℕ → ℕ → Type 0
-PutsWithNothingOut net journal t s = IsTrue (puts net s t) × (back net s journal ≡ taken net s journal)
+use Rattle.journal_rules.specs.Counts.{starts, start_at}
+use Rattle.journal_rules.specs.ReleaseRule.{ReleaseRule}
+use Rattle.journal_rules.specs.ClosingRule.{ClosingRule}
+use Rattle.journal_rules.specs.ChoiceRule.{ChoiceRule}
+use Rattle.journal_rules.specs.SemaphoreRule.{HasUnit, UnitFaultRule}
+use Rattle.journal_rules.specs.MissingUnits.{IsLeast, WantsUnit, PutsWithNothingOut}
+use Rattle.journal_rules.specs.HaltLimitStuckRule.{AfterStuckRule, DropRule, is_stuck_why}
+use Rattle.journal_rules.specs.ShapeLegal.{IsInRange}
 
 -- the entry is a Start, and this is the least semaphore that its task takes and that has no unit
 abbrev pub StartsWithoutUnit : NetRows → List Entry → Entry → ℕ → Type 0
@@ -73,7 +61,7 @@ Breaks net limit journal entry OverLimit = StartsAtLimit limit journal entry
 Breaks net limit journal entry NotOpen = ¬ ClosingRule journal entry
 Breaks net limit journal entry NotChosen = ¬ ChoiceRule net journal entry
 Breaks net limit journal entry (NothingOut s) = EndsWithNothingOut net journal entry s
-Breaks net limit journal entry NotOver = ¬ FaultRule net journal entry
+Breaks net limit journal entry NotOver = ¬ UnitFaultRule net journal entry
 Breaks net limit journal entry NotHalted = DropsWithoutCause is_halted_why net journal entry
 Breaks net limit journal entry NotStuck = DropsWithoutCause is_stuck_why net journal entry
 

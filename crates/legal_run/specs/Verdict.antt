@@ -1,11 +1,11 @@
 -- What the judge says of a journal.
 use Rattle.std.specs.Prelude.{ℕ, List, take, slice_get, IsSomeAnd}
 use Rattle.task_graph.specs.NetRows.{NetRows}
-use Rattle.legal_run.specs.declared.entry.Entry.{Entry}
+use Rattle.journal_rules.specs.declared.entry.Entry.{Entry}
 use Rattle.legal_run.specs.declared.verdict.Verdict.{Verdict}
 use Rattle.legal_run.specs.declared.verdict.Verdict.TheVariants.{Complete as Finished, Legal, Breaks}
-use Rattle.legal_run.specs.ShapeLegal.{ShapeLegal}
-use Rattle.legal_run.specs.Complete.{Complete}
+use Rattle.journal_rules.specs.ShapeLegal.{ShapeLegal}
+use Rattle.journal_rules.specs.Complete.{Complete}
 use Rattle.legal_run.specs.Refusal.{IsRefusal}
 
 -- Complete: the journal is legal as far as the net decides, and that of a finished run.

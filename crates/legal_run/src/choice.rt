@@ -2,7 +2,7 @@
 ghost use Rattle.std.specs.Prelude.{◌≡◌, ◌↔◌, ◌==◌, ◌<◌, ◌⊎◌, [], length, IsTrue, All};
 ghost use Rattle.std.specs.List.{list_any};
 ghost use Rattle.task_graph.specs.Net.{out_edges};
-ghost use Rattle.legal_run.specs.ChoiceRule.{AreAmong, GivesFit, InnerFits};
+ghost use Rattle.journal_rules.specs.ChoiceRule.{AreAmong, GivesFit, InnerFits};
 
 use super::marks::Marks;
 use task_graph::{Net, Shape};

@@ -2,30 +2,28 @@
 ghost use Rattle.std.specs.Prelude.{◌≡◌, ◌≢◌, ◌↔◌, ◌<◌, ◌-◌, map, ℕ, List, length, count_by, slice_get, IsTrue, IsSomeAnd, MatchOption, MatchResult, IfOk, Some, All};
 ghost use Rattle.task_graph.specs.Net.{out_edges, strong_in};
 ghost use Rattle.task_graph.specs.declared.net.TaskRow.{TaskRow};
-ghost use Rattle.legal_run.specs.declared.entry.Entry.TheVariants.{Start, End, Fault, Drop};
-ghost use Rattle.legal_run.specs.declared.entry.Part.{Part};
-ghost use Rattle.legal_run.specs.Counts.{given, used, starts, faults, started, start_at, is_open, NoneOpen};
-ghost use Rattle.legal_run.specs.ReleaseRule.{IsReleased};
-ghost use Rattle.legal_run.specs.ChoiceRule.{GivesFit, InnerFits};
-ghost use Rattle.legal_run.specs.SemaphoreRule.{OverReleaseRule, takes, HasUnit};
-ghost use Rattle.legal_run.specs.HaltLimitStuckRule.{is_stuck_why, DropRule, MayBeStuck};
-ghost use Rattle.legal_run.specs.Complete.{Complete, is_limited, least};
-ghost use Rattle.legal_run.specs.ShapeLegal.{MayFollow, CauseInRange, WhyInRange, DropWhyInRange};
+ghost use Rattle.journal_rules.specs.declared.entry.Entry.TheVariants.{Start, End, Fault, Drop};
+ghost use Rattle.journal_rules.specs.declared.entry.Part.{Part};
+ghost use Rattle.journal_rules.specs.Counts.{given, used, starts, faults, started, start_at, is_open, NoneOpen};
+ghost use Rattle.journal_rules.specs.ReleaseRule.{IsReleased};
+ghost use Rattle.journal_rules.specs.ChoiceRule.{GivesFit, InnerFits};
+ghost use Rattle.journal_rules.specs.SemaphoreRule.{OverReleaseRule, takes, HasUnit};
+ghost use Rattle.journal_rules.specs.HaltLimitStuckRule.{is_stuck_why, DropRule, MayBeStuck};
+ghost use Rattle.journal_rules.specs.Complete.{Complete, is_limited, least};
+ghost use Rattle.journal_rules.specs.ShapeLegal.{MayFollow, CauseInRange, WhyInRange, DropWhyInRange};
 ghost use Rattle.legal_run.specs.Ready.{ready_list};
-ghost use Rattle.legal_run.specs.Refusal.{IsRefusal, IsLeast, WantsUnit, PutsWithNothingOut};
-ghost use Rattle.legal_run.specs.inside.Reached.{ClosesTask};
-ghost use Rattle.legal_run.specs.inside.Releases.{NoneLeft};
+ghost use Rattle.legal_run.specs.Refusal.{IsRefusal};
+ghost use Rattle.journal_rules.specs.MissingUnits.{IsLeast, WantsUnit, PutsWithNothingOut};
+ghost use Rattle.journal_rules.specs.inside.Reached.{ClosesTask};
+ghost use Rattle.journal_rules.specs.inside.Releases.{NoneLeft};
 ghost use Rattle.legal_run.specs.inside.Checks.{BreaksWhy};
-ghost use Rattle.legal_run.specs.inside.Counted.{IsPosition};
+ghost use Rattle.journal_rules.specs.inside.Counted.{IsPosition};
 
 use super::choice::{gives_fit, inner_fits};
-use super::counts::Counts;
-use super::entry::{Cause, DropWhy, Entry, Why};
 use super::marks::Marks;
 use super::ready::{self, Ready};
-use super::slots;
-use super::units::{has, has_unit, task_row};
 use super::verdict::Break;
+use journal_rules::{Cause, Counts, DropWhy, Entry, Why, has_unit, is_listed, task_row};
 use outside_io::{List, NoMemory};
 use std::alloc::Global;
 use std::marker::Model;
@@ -43,7 +41,7 @@ pub struct Position<'j> {
 
 impl<'j> Model for Position<'j> {
     ghost use Rattle.legal_run.specs.MachineState.{MachineState};
-    ghost use Rattle.legal_run.specs.inside.Counted.{IsPosition};
+    ghost use Rattle.journal_rules.specs.inside.Counted.{IsPosition};
 
     ghost Value = { MachineState };
 
@@ -131,7 +129,7 @@ impl<'j> Position<'j> {
         ensures task { IfOk result (λ task. task < length self.now.net.tasks) }
         ensures marks { marks.new ≡ marks.old }
     {
-        if !slots::each_below(gives, self.net.edges().len()) {
+        if !each_below(gives, self.net.edges().len()) {
             return Err(Break::NoSuch);
         }
         if self.counts.is_stuck {
@@ -294,7 +292,7 @@ impl<'j> Position<'j> {
         requires { task < length self.now.net.tasks }
         ensures { result ≡ takes self.now.net sem task }
     {
-        has(task_row(self.net, task).takes.as_slice(), sem)
+        is_listed(task_row(self.net, task).takes.as_slice(), sem)
     }
 
     fn has_unit(&self, sem: u32) -> bool
@@ -370,4 +368,11 @@ fn is_stuck(why: DropWhy) -> bool
     ensures { result ≡ is_stuck_why why }
 {
     matches!(why, DropWhy::Stuck(_))
+}
+
+// Whether each number is below a bound.
+fn each_below(numbers: &[u32], bound: usize) -> bool
+    ensures { IsTrue result ↔ All (λ n. n < bound) numbers.now }
+{
+    numbers.iter().all(|n| (*n as usize) < bound)
 }

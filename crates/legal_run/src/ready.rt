@@ -1,13 +1,13 @@
 // The releases that are left.
 ghost use Rattle.std.specs.Prelude.{◌≡◌, ◌<◌, ◌++◌, [], ℕ, List, length, map, IfOk, OnOk, All};
 ghost use Rattle.task_graph.specs.Net.{weak_in};
-ghost use Rattle.legal_run.specs.declared.entry.Entry.{Entry};
-ghost use Rattle.legal_run.specs.declared.entry.Cause.TheVariants.{Source, Strong, Weak};
-ghost use Rattle.legal_run.specs.Ready.{times_left, ready_row, ready_weak, ready_of, ready_list};
-ghost use Rattle.legal_run.specs.inside.Releases.{CountsReleases, AreFew};
+ghost use Rattle.journal_rules.specs.declared.entry.Entry.{Entry};
+ghost use Rattle.journal_rules.specs.declared.entry.Cause.TheVariants.{Source, Strong, Weak};
+ghost use Rattle.legal_run.specs.Ready.{ready_row, ready_weak, ready_of, ready_list};
+ghost use Rattle.journal_rules.specs.TimesLeft.{times_left};
+ghost use Rattle.journal_rules.specs.inside.Releases.{CountsReleases, AreFew};
 
-use super::entry::Cause;
-use super::releases::Releases;
+use journal_rules::{Cause, Releases};
 use outside_io::{List, NoMemory};
 use std::alloc::Global;
 use task_graph::Net;

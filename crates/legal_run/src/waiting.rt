@@ -1,15 +1,17 @@
 // What waits at each edge for the next start that uses a token of it.
-ghost use Rattle.std.specs.Prelude.{◌≡◌, ◌<◌, ◌++◌, ◌∷◌, [], ℕ, Bool, List, length, IfOk, All};
+ghost use Rattle.std.specs.Prelude.{◌≡◌, ◌==◌, ◌<◌, ◌++◌, ◌∷◌, [], ℕ, Bool, List, length, IfOk, All, map, slice_index_or, if◌then◌else◌};
+ghost use Rattle.std.specs.List.{list_any};
 ghost use Rattle.task_graph.specs.NetRows.{NetRows};
-ghost use Rattle.legal_run.specs.declared.entry.Entry.{Entry};
-ghost use Rattle.legal_run.specs.declared.entry.Entry.TheVariants.{End};
-ghost use Rattle.legal_run.specs.ShapeLegal.{CauseInRange};
-ghost use Rattle.legal_run.specs.Waiting.{waiting_parts};
-ghost use Rattle.legal_run.specs.inside.Releases.{IsUseOf};
+ghost use Rattle.journal_rules.specs.declared.entry.Entry.{Entry};
+ghost use Rattle.journal_rules.specs.declared.entry.Entry.TheVariants.{End};
+ghost use Rattle.journal_rules.specs.declared.entry.Part.{Part};
+ghost use Rattle.journal_rules.specs.declared.entry.Part.TheVariants.{Nothing};
+ghost use Rattle.journal_rules.specs.ShapeLegal.{CauseInRange};
+ghost use Rattle.journal_rules.specs.Waiting.{waiting_parts};
+ghost use Rattle.journal_rules.specs.inside.Releases.{IsUseOf};
 ghost use Rattle.legal_run.specs.inside.Waits.{TellsWaiting};
 
-use super::entry::{Cause, Part};
-use super::slots;
+use journal_rules::{Cause, Part};
 use outside_io::{List, NoMemory};
 use std::alloc::Global;
 use task_graph::Net;
@@ -48,9 +50,9 @@ impl Waiting {
         match cause {
             Cause::Source => (),
             Cause::Strong => {
-                slots::put_each(&mut self.parts, net.strong_in(task), Part::Nothing);
+                put_each(&mut self.parts, net.strong_in(task), Part::Nothing);
             }
-            Cause::Weak(edge) => slots::put_each(&mut self.parts, &[edge], Part::Nothing),
+            Cause::Weak(edge) => put_each(&mut self.parts, &[edge], Part::Nothing),
         }
     }
 
@@ -60,7 +62,7 @@ impl Waiting {
         ensures { (net : NetRows) (journal : List Entry) (start : ℕ) (inner : Bool) → TellsWaiting net journal self.old.parts.items → place ≡ length journal
             → TellsWaiting net (journal ++ End start gives.now inner ∷ []) self.new.parts.items }
     {
-        slots::put_each(&mut self.parts, gives, Part::From(place));
+        put_each(&mut self.parts, gives, Part::From(place));
     }
 
     /// What waits at each edge that releases a task by a cause.
@@ -79,8 +81,32 @@ impl Waiting {
     {
         match cause {
             Cause::Source => Ok(List::new(alloc)),
-            Cause::Strong => slots::parts_at(alloc, self.parts.as_slice(), net.strong_in(task)),
-            Cause::Weak(edge) => slots::parts_at(alloc, self.parts.as_slice(), &[edge]),
+            Cause::Strong => parts_at(alloc, self.parts.as_slice(), net.strong_in(task)),
+            Cause::Weak(edge) => parts_at(alloc, self.parts.as_slice(), &[edge]),
         }
     }
+}
+
+// Puts a part at each place.
+fn put_each(parts: &mut Vec<Part>, places: &[u32], part: Part)
+    requires { All (λ at. at < length parts.old.items) places.now }
+    ensures len { length parts.new.items ≡ length parts.old.items }
+    ensures each { (k : ℕ) (d : Part) → k < length parts.old.items →
+        slice_index_or parts.new.items k d ≡ (if list_any (λ at. at == k) places.now then part else slice_index_or parts.old.items k d) }
+{
+    for at in places {
+        parts[*at as usize] = part;
+    }
+}
+
+// The parts at these places, in order.
+fn parts_at(alloc: Global, parts: &[Part], places: &[u32]) -> Result<List<Part>, NoMemory>
+    requires { All (λ at. at < length parts.now) places.now }
+    ensures { IfOk result (λ list. list ≡ map (λ at. slice_index_or parts.now at Nothing) places.now) }
+{
+    let mut list = List::new(alloc);
+    for at in places {
+        list.push(parts[*at as usize])?;
+    }
+    Ok(list)
 }

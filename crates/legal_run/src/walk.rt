@@ -1,15 +1,14 @@
 // The judge of journals, made by whomever.
 ghost use Rattle.std.specs.Prelude.{◌≡◌, ◌<◌, ◌^◌, [], ℕ, List, length, IfOk, IsSomeAnd, take, slice_get};
-ghost use Rattle.legal_run.specs.declared.entry.Part.{Part};
-ghost use Rattle.legal_run.specs.declared.entry.Entry.TheVariants.{Start, End, Fault, Drop};
+ghost use Rattle.journal_rules.specs.declared.entry.Part.{Part};
+ghost use Rattle.journal_rules.specs.declared.entry.Entry.TheVariants.{Start, End, Fault, Drop};
 ghost use Rattle.legal_run.specs.Verdict.{IsVerdict};
 ghost use Rattle.legal_run.specs.inside.Walks.{IsAt, Walks};
 
-use super::counts::Counts;
-use super::entry::{Cause, DropWhy, Entry, Journal, Why};
 use super::marks::Marks;
 use super::position::Position;
 use super::verdict::{Break, Verdict};
+use journal_rules::{Cause, Counts, DropWhy, Entry, Journal, Why};
 use outside_io::NoMemory;
 use std::alloc::Global;
 use task_graph::Net;

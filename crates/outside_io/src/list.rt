@@ -1,9 +1,13 @@
 // A growing list that contracts see as the list of its items.
-ghost use Rattle.std.specs.Prelude.{◌≡◌, ◌↔◌, ◌++◌, ◌∷◌, [], length, IsTrue, OnOk, IfErr, OnErr, IfOk, slice_get};
+ghost use Rattle.std.specs.Prelude.{◌≡◌, ◌↔◌, ◌++◌, ◌∷◌, ◌<◌, ◌^◌, [], length, IsTrue, OnOk, IfErr, OnErr, IfOk, slice_get};
 ghost use Rattle.std.specs.Option.{option_copied};
+ghost use Rattle.std.specs.Iterator.Runs.{EveryRun, ItemsMapTo};
+ghost use Rattle.std.specs.Slice.Iter.{iter_rest, iter_steps};
 
 use std::alloc::{AllocError, AllocFailed, Global};
 use std::marker::Model;
+use std::ops::DerefSlice;
+use std::slice;
 
 /// Memory was refused.
 #[derive(Clone, Copy, Debug, PartialEq, Eq)]
@@ -134,6 +138,30 @@ impl<T: Copy> List<T> {
     }
 }
 
+// A list is read as the slice of its items.
+impl<T> DerefSlice for List<T> {
+    type Elem = T;
+
+    ghost deref_gives = { λ list items. items ≡ list };
+
+    fn deref(&self) -> &[T] {
+        self.as_slice()
+    }
+}
+
+impl<'a, T> IntoIterator for &'a List<T> {
+    type Item = &'a T;
+
+    type IntoIter = slice::Iter<'a, T>;
+
+    ghost into_iter_gives = { λ list it. (iter_rest it ≡ list.now) × (length (iter_rest it) < 2 ^ 64)
+        × EveryRun (iter_steps {A = T}) (λ p. ItemsMapTo p (λ x. x.now) (iter_rest p.from)) };
+
+    fn into_iter(self) -> slice::Iter<'a, T> {
+        self.as_slice().iter()
+    }
+}
+
 #[cfg(test)]
 mod tests {
     use super::*;
@@ -150,6 +178,13 @@ mod tests {
         assert_eq!(rt; list.len(), 3);
         assert_eq!(rt; list.get(2).copied(), Some(98));
         assert_eq!(rt; list.get(3).copied(), None);
+        assert!(rt; list.contains(&97));
+        let mut sum = 0u64;
+        for item in &list {
+            sum = sum.wrapping_add(u64::from(*item));
+        }
+        assert_eq!(rt; sum, 202);
+        assert_eq!(rt; list.iter().filter(|item| **item > 90).count(), 2);
         Ok(())
     }
 }

@@ -92,7 +92,7 @@ impl Texts for MemoryTexts {
         if self.calls == u64::MAX {
             return Err(TextsFault::NoMemory);
         }
-        if self.failing.as_slice().contains(&self.calls) {
+        if self.failing.contains(&self.calls) {
             self.calls += 1;
             self.faults += 1;
             return Err(TextsFault::Failed);
@@ -132,10 +132,10 @@ fn find_text(
 fn text_at<'t>(names: &[Bytes], texts: &'t [Bytes], name: &[u8]) -> Option<&'t Bytes>
     ensures { option_copied result ≡ text_under names.now texts.now name.now }
 {
-    texts.get(place_of(names, name)?)
+    texts.get(index_of(names, name)?)
 }
 
-fn place_of(names: &[Bytes], name: &[u8]) -> Option<usize>
+fn index_of(names: &[Bytes], name: &[u8]) -> Option<usize>
     ensures { result ≡ position (λ held. bytes_eq held name.now) names.now }
 {
     names.iter().position(|held| held.as_slice() == name)

@@ -8,15 +8,15 @@ use Rattle.std.specs.declared.vec.Vec.{ok-type, small-type}
 use denote.RawPtr.{Ptr}
 use Rattle.task_graph.specs.NetRows.{NetRows}
 use Rattle.task_graph.specs.declared.net.Shape.TheVariants.{Plain, Nested}
-use Rattle.legal_run.specs.declared.entry.Cause.TheVariants.{Source, Strong}
-use Rattle.legal_run.specs.declared.entry.Part.TheVariants.{From, Nothing}
-use Rattle.legal_run.specs.declared.entry.Why.TheVariants.{Wide, Inner}
-use Rattle.legal_run.specs.declared.entry.DropWhy.TheVariants.{Limit}
-use Rattle.legal_run.specs.declared.entry.Entry.{Entry}
-use Rattle.legal_run.specs.declared.entry.Entry.TheVariants.{Start, End, Fault, Drop}
-use Rattle.legal_run.specs.ShapeLegal.{ShapeLegal, MeetsDataRule, MayFollow}
-use Rattle.legal_run.specs.Complete.{Complete}
-use Rattle.join_words.specs.Ins.{Found}
+use Rattle.journal_rules.specs.declared.entry.Cause.TheVariants.{Source, Strong}
+use Rattle.journal_rules.specs.declared.entry.Part.TheVariants.{From, Nothing}
+use Rattle.journal_rules.specs.declared.entry.Why.TheVariants.{Wide, Inner}
+use Rattle.journal_rules.specs.declared.entry.DropWhy.TheVariants.{Limit}
+use Rattle.journal_rules.specs.declared.entry.Entry.{Entry}
+use Rattle.journal_rules.specs.declared.entry.Entry.TheVariants.{Start, End, Fault, Drop}
+use Rattle.journal_rules.specs.ShapeLegal.{ShapeLegal, MeetsDataRule, MayFollow}
+use Rattle.journal_rules.specs.Complete.{Complete}
+use Rattle.join_words.specs.Ins.{InputValue}
 use Rattle.run_frame.specs.declared.job.Answer.TheVariants.{All as Each}
 use Rattle.run_frame.specs.declared.job.Done.{Done}
 use Rattle.run_frame.specs.declared.job.Done.TheVariants.{Value, Inner as InnerJob}
@@ -47,7 +47,7 @@ abbrev net_of_number : ℕ → NetRows
 net_of_number zero = no_tasks
 net_of_number (suc j) = two_tasks
 
-abbrev answers_of : ℕ → ℕ → List (Found ℕ) → Done ℕ ℕ → Type 0
+abbrev answers_of : ℕ → ℕ → List (InputValue ℕ) → Done ℕ ℕ → Type 0
 answers_of j zero found (Value n answer) = ⊥
 answers_of j zero found (InnerJob k) = j ≡ suc k
 answers_of j (suc t) found (Value n answer) = (n ≡ j) × (answer ≡ Each)

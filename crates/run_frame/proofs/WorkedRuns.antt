@@ -7,15 +7,15 @@ use Rattle.std.specs.declared.sync.Arc.{Arc}
 use Rattle.task_graph.specs.NetRows.{NetRows}
 use Rattle.task_graph.specs.declared.net.Shape.TheVariants.{Plain, Choice, Many, Nested}
 use Rattle.task_graph.specs.declared.net.TaskRow.{TaskRow}
-use Rattle.legal_run.specs.declared.entry.Cause.{Cause}
-use Rattle.legal_run.specs.declared.entry.Cause.TheVariants.{Source, Strong, Weak}
-use Rattle.legal_run.specs.DataRule.{edges_of}
-use Rattle.legal_run.specs.declared.entry.Part.TheVariants.{From, First, Nothing}
-use Rattle.legal_run.specs.declared.entry.Why.TheVariants.{Long, Wide, Unmet, Inner, OverRelease}
-use Rattle.legal_run.specs.declared.entry.DropWhy.TheVariants.{Limit, Stuck}
-use Rattle.legal_run.specs.declared.entry.Entry.{Entry}
-use Rattle.legal_run.specs.declared.entry.Entry.TheVariants.{Start, End, Fault, Drop}
-use Rattle.join_words.specs.Ins.{Found, value, first, nothing}
+use Rattle.journal_rules.specs.declared.entry.Cause.{Cause}
+use Rattle.journal_rules.specs.declared.entry.Cause.TheVariants.{Source, Strong, Weak}
+use Rattle.journal_rules.specs.DataRule.{edges_of}
+use Rattle.journal_rules.specs.declared.entry.Part.TheVariants.{From, First, Nothing}
+use Rattle.journal_rules.specs.declared.entry.Why.TheVariants.{Long, Wide, Unmet, Inner, OverRelease}
+use Rattle.journal_rules.specs.declared.entry.DropWhy.TheVariants.{Limit, Stuck}
+use Rattle.journal_rules.specs.declared.entry.Entry.{Entry}
+use Rattle.journal_rules.specs.declared.entry.Entry.TheVariants.{Start, End, Fault, Drop}
+use Rattle.join_words.specs.Ins.{InputValue, value, first, nothing}
 use Rattle.run_frame.specs.declared.job.Answer.TheVariants.{All, None as NoneOf, Indices}
 use Rattle.run_frame.specs.declared.job.Done.{Done}
 use Rattle.run_frame.specs.declared.job.Done.TheVariants.{Value, Inner as InnerJob}
@@ -32,7 +32,7 @@ use Rattle.run_frame.specs.NestedRule.{NestedRule, job_of, journal_of}
 -- Jobs that are numbers. A task of job j gives j and all that it finds, added up, to all its successors, or hands
 -- on that number as a job, and may fault with its own number as a length. A run of job j is gathered to j, or to
 -- a fault that is j wide.
-abbrev added : List (Found ℕ) → ℕ
+abbrev added : List (InputValue ℕ) → ℕ
 added [] = 0
 added (value n ∷ found) = n + added found
 added (none ∷ found) = added found
@@ -43,7 +43,7 @@ task = record { shape = Plain; takes = []; puts = [] }
 abbrev net : NetRows
 net = record { tasks = task ∷ task ∷ []; edges = (record { from = 0; to = 1; start = false }) ∷ []; sems = [] }
 
-abbrev may_answer : ℕ → ℕ → List (Found ℕ) → Done ℕ ℕ → Type 0
+abbrev may_answer : ℕ → ℕ → List (InputValue ℕ) → Done ℕ ℕ → Type 0
 may_answer j t found (Value n answer) = (n ≡ j + added found) × (answer ≡ All)
 may_answer j t found (InnerJob k) = k ≡ j + added found
 
@@ -59,7 +59,7 @@ numbers = record {
 }
 
 -- the same, but that a task always hands on a job, or that gathering may name any fault
-abbrev hands_on : ℕ → ℕ → List (Found ℕ) → Done ℕ ℕ → Type 0
+abbrev hands_on : ℕ → ℕ → List (InputValue ℕ) → Done ℕ ℕ → Type 0
 hands_on j t found (Value n answer) = ⊥
 hands_on j t found (InnerJob k) = Unit {0}
 

@@ -1,8 +1,8 @@
 -- Which runs are legal.
 use Rattle.std.specs.Prelude.{ℕ, Option}
-use Rattle.legal_run.specs.Entries.{EachAfter}
-use Rattle.legal_run.specs.ShapeLegal.{ShapeLegal, MeetsDataRule}
-use Rattle.legal_run.specs.Complete.{Complete}
+use Rattle.journal_rules.specs.Entries.{EachAfter}
+use Rattle.journal_rules.specs.ShapeLegal.{ShapeLegal, MeetsDataRule}
+use Rattle.journal_rules.specs.Complete.{Complete}
 use Rattle.run_frame.specs.declared.run.FrameRun.{FrameRun, FrameRun', out-FrameRun, Row_of-InnerRow, end_of-InnerRow, more_of-InnerRow}
 use Rattle.run_frame.specs.declared.run.InnerRow.{InnerRow, InnerRow'}
 use Rattle.run_frame.specs.Meaning.{Meaning}

@@ -6,12 +6,12 @@ use Rattle.task_graph.specs.declared.net.EdgeRow.{EdgeRow}
 use Rattle.task_graph.specs.declared.net.Shape.{Shape}
 use Rattle.task_graph.specs.declared.net.Shape.TheVariants.{Plain, Choice, Many, Nested}
 use Rattle.task_graph.specs.declared.net.TaskRow.{TaskRow}
-use Rattle.legal_run.specs.declared.entry.Cause.{Cause}
-use Rattle.legal_run.specs.declared.entry.Cause.TheVariants.{Source, Strong, Weak}
-use Rattle.legal_run.specs.declared.entry.Why.{Why}
-use Rattle.legal_run.specs.declared.entry.Why.TheVariants.{Long, Wide, Unmet, Inner, OverRelease}
-use Rattle.legal_run.specs.DataRule.{edges_of}
-use Rattle.join_words.specs.Ins.{Found}
+use Rattle.journal_rules.specs.declared.entry.Cause.{Cause}
+use Rattle.journal_rules.specs.declared.entry.Cause.TheVariants.{Source, Strong, Weak}
+use Rattle.journal_rules.specs.declared.entry.Why.{Why}
+use Rattle.journal_rules.specs.declared.entry.Why.TheVariants.{Long, Wide, Unmet, Inner, OverRelease}
+use Rattle.journal_rules.specs.DataRule.{edges_of}
+use Rattle.join_words.specs.Ins.{InputValue}
 use Rattle.run_frame.specs.declared.job.Answer.{Answer}
 use Rattle.run_frame.specs.declared.job.Answer.TheVariants.{All, None as NoneOf, Indices}
 use Rattle.run_frame.specs.declared.job.Done.{Done}
@@ -27,8 +27,8 @@ use Rattle.run_frame.specs.declared.run.FrameRun.{FrameRun}
 pub record Meaning (J V : Type 0) : Type 1 where
   pub net : J → NetRows
   pub limit : J → ℕ
-  pub answers : J → ℕ → List (Found V) → Done J V → Type 0
-  pub faults : J → ℕ → List (Found V) → Why → Type 0
+  pub answers : J → ℕ → List (InputValue V) → Done J V → Type 0
+  pub faults : J → ℕ → List (InputValue V) → Why → Type 0
   pub gathers : J → FrameRun J V → V → Type 0
   pub gather_faults : J → FrameRun J V → Why → Type 0
   pub follows : J → FrameRun J V → J → Type 0
@@ -47,7 +47,7 @@ pub record IsRelease (net : NetRows) (task parts : ℕ) : Type 0 where
   pub size : parts ≡ length (edges_of net task cause)
 
 -- The fault that an error tells is allowed; want of memory is free.
-abbrev pub FaultAllowed : {J V : Type 0} → Meaning J V → J → ℕ → List (Found V) → JobError → Type 0
+abbrev pub FaultAllowed : {J V : Type 0} → Meaning J V → J → ℕ → List (InputValue V) → JobError → Type 0
 FaultAllowed meaning job task found (FaultOf why) = meaning.faults job task found why
 FaultAllowed meaning job task found NoMemory = Unit {0}
 

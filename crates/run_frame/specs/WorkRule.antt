@@ -2,11 +2,11 @@
 use Rattle.std.specs.Prelude.{◌≡◌, ℕ, Bool, true, false, List, [], Option, Some, None, length, slice_get, IsSomeAnd}
 use Rattle.task_graph.specs.Net.{out_edges}
 use Rattle.task_graph.specs.Chosen.{chosen_edges}
-use Rattle.legal_run.specs.declared.entry.Why.{Why}
-use Rattle.legal_run.specs.declared.entry.Why.TheVariants.{Long, Wide, Unmet, Inner, OverRelease}
-use Rattle.legal_run.specs.declared.entry.Entry.{Entry}
-use Rattle.legal_run.specs.declared.entry.Entry.TheVariants.{Start, End, Fault, Drop}
-use Rattle.join_words.specs.Ins.{Found}
+use Rattle.journal_rules.specs.declared.entry.Why.{Why}
+use Rattle.journal_rules.specs.declared.entry.Why.TheVariants.{Long, Wide, Unmet, Inner, OverRelease}
+use Rattle.journal_rules.specs.declared.entry.Entry.{Entry}
+use Rattle.journal_rules.specs.declared.entry.Entry.TheVariants.{Start, End, Fault, Drop}
+use Rattle.join_words.specs.Ins.{InputValue}
 use Rattle.run_frame.specs.declared.job.Answer.{Answer}
 use Rattle.run_frame.specs.declared.job.Answer.TheVariants.{All, None as NoneOf, Indices}
 use Rattle.run_frame.specs.declared.job.Done.TheVariants.{Value}
@@ -24,7 +24,7 @@ gives_of out (Indices is) = chosen_edges out is
 -- a start that was made: its task and what it found
 pub record Work (V : Type 0) : Type 0 where
   pub task : ℕ
-  pub found : List (Found V)
+  pub found : List (InputValue V)
 
 -- the work of an entry, if it is a Start
 abbrev pub work_of : {V : Type 0} → List (ValueRow V) → Entry → Option (Work V)

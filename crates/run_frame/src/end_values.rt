@@ -2,7 +2,7 @@
 ghost use Rattle.std.specs.Prelude.{◌≡◌, ◌==◌, ◌<◌, ℕ, None, Some, length, replicate, IfOk, slice_index_or, option_map, if◌then◌else◌};
 ghost use Rattle.std.specs.Option.{option_or};
 ghost use Rattle.std.specs.Arc.{arc_value};
-ghost use Rattle.legal_run.specs.Counts.{start_at};
+ghost use Rattle.journal_rules.specs.Counts.{start_at};
 ghost use Rattle.run_frame.specs.Runs.{value_at};
 ghost use Rattle.run_frame.specs.LastEnds.{ended_at, last_end};
 

@@ -1,9 +1,9 @@
 // Jobs.
 ghost use Rattle.std.specs.Prelude.{◌≡◌, ◌≤◌, ℕ, List, length, map, IfOk, IfErr};
 ghost use Rattle.std.specs.Arc.{arc_value};
-ghost use Rattle.join_words.specs.Ins.{Found, parts_of, found_of};
+ghost use Rattle.join_words.specs.Ins.{InputValue, parts_of, found_of};
 ghost use Rattle.run_frame.specs.Meaning.{Meaning, IsRelease, FaultAllowed, AnswerFits, IsOwnWhy};
-ghost use Rattle.legal_run.specs.declared.entry.Why.{Why};
+ghost use Rattle.journal_rules.specs.declared.entry.Why.{Why};
 ghost use Rattle.run_frame.specs.declared.job.Done.{Done};
 ghost use Rattle.run_frame.specs.declared.run.FrameRun.{FrameRun};
 
@@ -73,11 +73,11 @@ pub trait Job: Valued + Send + Sync {
         ensures fault { IfErr result (FaultAllowed meaning self.now task (map found_of (parts_of ins.now))) };
 
     /// An answer that is allowed fits the task's shape.
-    ghost answers_fit: { (job : Self) (task : ℕ) (found : List (Found Self.V)) (done : Done Self Self.V) →
+    ghost answers_fit: { (job : Self) (task : ℕ) (found : List (InputValue Self.V)) (done : Done Self Self.V) →
         keeps job → meaning.answers job task found done → AnswerFits (meaning.net job) task done };
 
     /// A fault that is allowed is the work's own: it tells neither of an inner run nor of a unit.
-    ghost faults_own: { (job : Self) (task : ℕ) (found : List (Found Self.V)) (why : Why) →
+    ghost faults_own: { (job : Self) (task : ℕ) (found : List (InputValue Self.V)) (why : Why) →
         keeps job → meaning.faults job task found why → IsOwnWhy why };
 
     /// So is a fault that gathering a run may name.

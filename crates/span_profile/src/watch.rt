@@ -1,6 +1,6 @@
 // Watchers.
 ghost use Rattle.std.specs.Prelude.{◌≡◌, ◌++◌, ◌∷◌, ◌-◌, ◌^◌, [], ℕ, IfSome, List, Option, OnOk, OnErr, length, min, option_and_then, option_map, slice_get};
-ghost use Rattle.legal_run.specs.declared.span.Span.{Span};
+ghost use Rattle.journal_rules.specs.declared.span.Span.{Span};
 ghost use Rattle.span_profile.specs.Watch.{one_more};
 
 use legal_run::Span;

@@ -34,14 +34,14 @@ fn choose_at(
     ensures { OnOk result ((answer : List ℤ) → HasChosen out.now answer seen.old chosen.old
         → HasChosen out.now (answer ++ index.now ∷ []) seen.new chosen.new) }
 {
-    match place_of(out, index) {
+    match place_in_range(out, index) {
         None => Ok(()),
         Some(place) => choose_edge(out, place, seen, chosen),
     }
 }
 
 // The place in `out` that an index names, if it names one.
-fn place_of(out: &[u32], index: &i64) -> Option<usize>
+fn place_in_range(out: &[u32], index: &i64) -> Option<usize>
     ensures { MatchOption result (edge_at out.now index.now ≡ None)
         (λ place. (place < length out.now) × (edge_at out.now index.now ≡ Some (slice_index out.now place))) }
 {

@@ -69,9 +69,9 @@ impl Model for Net {
 
     ghost Value = { NetRows };
 
-    ghost use Rattle.task_graph.specs.inside.Indexed.{rows_of, IsIndexed};
+    ghost use Rattle.task_graph.specs.inside.Indexed.{net_rows, IsIndexed};
 
-    ghost view = { rows_of };
+    ghost view = { net_rows };
 
     ghost invariant = { IsIndexed };
 }

@@ -2,9 +2,9 @@
 use Rattle.std.proofs.Common.{◌≡◌, ℕ, suc, ◌+◌, ◌<◌, ◌≤◌, Bool, true, false, cond, List, [], ◌∷◌, length, Option, Some, None, sym, refl, ap, ◌∙◌, subst, arith, decimal}
 use Rattle.std.specs.Prelude.{unwrap_or, All, filter, slice_get, IsSomeAnd, ◌==◌}
 use Rattle.std.specs.List.{AllByRecursion}
-use Rattle.legal_run.specs.declared.entry.Why.{Why}
-use Rattle.legal_run.specs.declared.entry.Why.TheVariants.{Long, Wide, Unmet, Inner, OverRelease}
-use Rattle.join_words.specs.Ins.{Found, value, first, nothing}
+use Rattle.journal_rules.specs.declared.entry.Why.{Why}
+use Rattle.journal_rules.specs.declared.entry.Why.TheVariants.{Long, Wide, Unmet, Inner, OverRelease}
+use Rattle.join_words.specs.Ins.{InputValue, value, first, nothing}
 use Rattle.run_frame.specs.declared.job.Answer.{Answer}
 use Rattle.run_frame.specs.declared.job.Answer.TheVariants.{All as Each, None as NoneOf, Indices}
 use Rattle.run_frame.specs.declared.job.Done.TheVariants.{Value}
@@ -62,7 +62,7 @@ value_fits rows (Read name) text short is fits =
 value_fits rows (OnText op) text short is fits = op_value op text is fits
 
 -- of one part at most, the text found is a value's
-text_found_fits : (found : List (Found Item)) → length found ≤ 1 → AllByRecursion FindsText found → IsValueText (text_found found)
+text_found_fits : (found : List (InputValue Item)) → length found ≤ 1 → AllByRecursion FindsText found → IsValueText (text_found found)
 text_found_fits [] few fit = (refl, omega arith)
 text_found_fits (value item ∷ []) few fit = subst IsValueText (sym (append-nil (item_text item))) fit.0
 text_found_fits (first ∷ []) few fit = (refl, omega arith)
@@ -70,10 +70,10 @@ text_found_fits (nothing ∷ []) few fit = (refl, omega arith)
 text_found_fits (a ∷ b ∷ rest) few fit = absurd (omega arith)
 
 -- so the value is a value's text, and there is no fault
-value_is : (work : GraphWork) (found : List (Found Item)) (op : Op) → IsWork work → length found ≤ 1 → AllByRecursion FindsText found → IsValueText (task_value work op found)
+value_is : (work : GraphWork) (found : List (InputValue Item)) (op : Op) → IsWork work → length found ≤ 1 → AllByRecursion FindsText found → IsValueText (task_value work op found)
 value_is work found op is few fit = let text = text_found_fits found few fit in value_fits work.texts op (text_found found) is.short text.0 text.1
 
-pub no_fault : (job : TextJob) (task : ℕ) (found : List (Found Item)) (why : Why) → IsTextJob job → length found ≤ 1 → AllByRecursion FindsText found → JobFaults job task found why → ⊥
+pub no_fault : (job : TextJob) (task : ℕ) (found : List (InputValue Item)) (why : Why) → IsTextJob job → length found ≤ 1 → AllByRecursion FindsText found → JobFaults job task found why → ⊥
 no_fault (Graph work) task found (Long n) is few fit faults = by_op (slice_get (graph_of work).ops task) faults
   where
     by_op : (op : Option Op) → IsSomeAnd op (λ o. (n ≡ length (task_value work o found)) × (value_limit < n)) → ⊥
@@ -85,7 +85,7 @@ no_fault (Graph work) task found Inner is few fit faults = faults
 no_fault (Graph work) task found (OverRelease s) is few fit faults = faults
 
 -- an answer is a value for all the successors
-pub gives_value : (job : TextJob) (task : ℕ) (found : List (Found Item)) (item : Item) (answer : Answer) → IsTextJob job → length found ≤ 1 → AllByRecursion FindsText found → JobAnswers job task found (Value item answer) → (answer ≡ Each) × IsValueText (item_text item)
+pub gives_value : (job : TextJob) (task : ℕ) (found : List (InputValue Item)) (item : Item) (answer : Answer) → IsTextJob job → length found ≤ 1 → AllByRecursion FindsText found → JobAnswers job task found (Value item answer) → (answer ≡ Each) × IsValueText (item_text item)
 gives_value (Graph work) task found (Text text) Each is few fit answers = (refl, by_op (slice_get (graph_of work).ops task) answers)
   where
     by_op : (op : Option Op) → IsSomeAnd op (λ o. (text ≡ task_value work o found) × (length text ≤ value_limit)) → IsValueText text

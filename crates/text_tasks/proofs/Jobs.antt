@@ -8,9 +8,9 @@ use Rattle.task_graph.specs.NetRows.{NetRows}
 use Rattle.task_graph.specs.Places.{places_from}
 use Rattle.task_graph.specs.Net.{strong_in, is_weak_row}
 use Rattle.task_graph.specs.declared.net.EdgeRow.{EdgeRow}
-use Rattle.legal_run.specs.declared.entry.Cause.{Cause}
-use Rattle.legal_run.specs.declared.entry.Cause.TheVariants.{Source, Strong, Weak}
-use Rattle.legal_run.specs.DataRule.{edges_of}
+use Rattle.journal_rules.specs.declared.entry.Cause.{Cause}
+use Rattle.journal_rules.specs.declared.entry.Cause.TheVariants.{Source, Strong, Weak}
+use Rattle.journal_rules.specs.DataRule.{edges_of}
 use Rattle.run_frame.specs.Meaning.{IsRelease}
 use Rattle.join_words.specs.declared.ins.Given.{Given}
 use Rattle.join_words.specs.Ins.{found_of}

@@ -4,9 +4,9 @@ use Rattle.std.proofs.Common.{subst, sym}
 use Rattle.std.proofs.lemmas.Option.{slice_get_within, get_or_from_slice_get}
 use Rattle.task_graph.specs.Net.{IsPlainTask}
 use Rattle.task_graph.specs.declared.net.TaskRow.{TaskRow}
-use Rattle.legal_run.specs.declared.entry.Why.{Why}
-use Rattle.legal_run.specs.declared.entry.Why.TheVariants.{Long, Wide, Unmet, Inner, OverRelease}
-use Rattle.join_words.specs.Ins.{Found}
+use Rattle.journal_rules.specs.declared.entry.Why.{Why}
+use Rattle.journal_rules.specs.declared.entry.Why.TheVariants.{Long, Wide, Unmet, Inner, OverRelease}
+use Rattle.join_words.specs.Ins.{InputValue}
 use Rattle.run_frame.specs.declared.job.Answer.TheVariants.{All as Each, None as NoneOf, Indices}
 use Rattle.run_frame.specs.declared.job.Done.{Done}
 use Rattle.run_frame.specs.declared.job.Done.TheVariants.{Value, Inner as InnerJob}
@@ -33,21 +33,21 @@ none_of : {A : Type 0} (P : A → Type 0) → ((x : A) → P x → ⊥) → (o :
 none_of P never None some = some
 none_of P never (Some x) some = never x some
 
-gives_not : (work : GraphWork) (found : List (Found Item)) (item : Item) (op : Op) → Gives work found item NoneOf op → ⊥
+gives_not : (work : GraphWork) (found : List (InputValue Item)) (item : Item) (op : Op) → Gives work found item NoneOf op → ⊥
 gives_not work found (Text text) op gives = gives
 
-chooses_not : (work : GraphWork) (found : List (Found Item)) (item : Item) (is : List ℤ) (op : Op) → Gives work found item (Indices is) op → ⊥
+chooses_not : (work : GraphWork) (found : List (InputValue Item)) (item : Item) (is : List ℤ) (op : Op) → Gives work found item (Indices is) op → ⊥
 chooses_not work found (Text text) is op gives = gives
 
 -- an answer fits its task
-pub text_answers_fit : (job : TextJob) (task : ℕ) (found : List (Found Item)) (done : Done TextJob Item) → IsTextJob job → JobAnswers job task found done → AnswerFits (net_of job) task done
+pub text_answers_fit : (job : TextJob) (task : ℕ) (found : List (InputValue Item)) (done : Done TextJob Item) → IsTextJob job → JobAnswers job task found done → AnswerFits (net_of job) task done
 text_answers_fit (Graph work) task found (Value item Each) keeps answers = plain_gives_all work keeps task item (slice_get (graph_of work).net.tasks task) refl
 text_answers_fit (Graph work) task found (Value item NoneOf) keeps answers = absurd (none_of _ (gives_not work found item) (slice_get (graph_of work).ops task) answers)
 text_answers_fit (Graph work) task found (Value item (Indices is)) keeps answers = absurd (none_of _ (chooses_not work found item is) (slice_get (graph_of work).ops task) answers)
 text_answers_fit (Graph work) task found (InnerJob job) keeps answers = absurd answers
 
 -- and a fault is the work's own
-pub text_faults_own : (job : TextJob) (task : ℕ) (found : List (Found Item)) (why : Why) → IsTextJob job → JobFaults job task found why → IsOwnWhy why
+pub text_faults_own : (job : TextJob) (task : ℕ) (found : List (InputValue Item)) (why : Why) → IsTextJob job → JobFaults job task found why → IsOwnWhy why
 text_faults_own (Graph work) task found (Long n) keeps faults = tt
 text_faults_own (Graph work) task found (Wide n) keeps faults = tt
 text_faults_own (Graph work) task found (Unmet k) keeps faults = tt

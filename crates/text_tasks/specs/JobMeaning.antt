@@ -4,9 +4,9 @@ use Rattle.std.specs.List.{flat_map, last_or, range_with_len}
 use Rattle.std.specs.Option.{option_map_or, option_and_then}
 use Rattle.task_graph.specs.NetRows.{NetRows}
 use Rattle.task_graph.specs.Net.{out_edges}
-use Rattle.legal_run.specs.declared.entry.Why.{Why}
-use Rattle.legal_run.specs.declared.entry.Why.TheVariants.{Long, Wide, Unmet, Inner, OverRelease}
-use Rattle.join_words.specs.Ins.{Found, value, first, nothing}
+use Rattle.journal_rules.specs.declared.entry.Why.{Why}
+use Rattle.journal_rules.specs.declared.entry.Why.TheVariants.{Long, Wide, Unmet, Inner, OverRelease}
+use Rattle.join_words.specs.Ins.{InputValue, value, first, nothing}
 use Rattle.run_frame.specs.declared.job.Answer.{Answer}
 use Rattle.run_frame.specs.declared.job.Answer.TheVariants.{All as Each, None as NoneOf, Indices}
 use Rattle.run_frame.specs.declared.job.Done.{Done}
@@ -38,13 +38,13 @@ abbrev pub value_limit : ℕ
 value_limit = 16777216
 
 -- the text of what a task finds at an edge: a value counts as its text, anything else as the empty text
-abbrev pub found_text : Found Item → List ℕ
+abbrev pub found_text : InputValue Item → List ℕ
 found_text (value item) = item_text item
 found_text first = []
 found_text nothing = []
 
 -- the text of a task: what it finds, one after another
-abbrev pub text_found : List (Found Item) → List ℕ
+abbrev pub text_found : List (InputValue Item) → List ℕ
 text_found found = flat_map found_text found
 
 -- the text that an operation on a text gives
@@ -58,21 +58,21 @@ value_on texts (Read name) text = normal (unwrap_or (text_in texts name) [])
 value_on texts (OnText op) text = text_op_value op text
 
 -- what the task of a graph would give
-abbrev pub task_value : GraphWork → Op → List (Found Item) → List ℕ
+abbrev pub task_value : GraphWork → Op → List (InputValue Item) → List ℕ
 task_value work op found = value_on work.texts op (text_found found)
 
 -- A task gives its value to all its successors, where the value isn't too long.
-abbrev pub Gives : GraphWork → List (Found Item) → Item → Answer → Op → Type 0
+abbrev pub Gives : GraphWork → List (InputValue Item) → Item → Answer → Op → Type 0
 Gives work found (Text text) Each op = (text ≡ task_value work op found) × (length text ≤ value_limit)
 Gives work found (Text text) NoneOf op = ⊥
 Gives work found (Text text) (Indices is) op = ⊥
 
-abbrev pub AnswersWith : GraphWork → ℕ → List (Found Item) → Done TextJob Item → Type 0
+abbrev pub AnswersWith : GraphWork → ℕ → List (InputValue Item) → Done TextJob Item → Type 0
 AnswersWith work task found (Value item answer) = IsSomeAnd (slice_get (graph_of work).ops task) (Gives work found item answer)
 AnswersWith work task found (InnerJob job) = ⊥
 
 -- A value that would be too long is a fault that tells its length.
-abbrev pub FaultsWith : GraphWork → ℕ → List (Found Item) → Why → Type 0
+abbrev pub FaultsWith : GraphWork → ℕ → List (InputValue Item) → Why → Type 0
 FaultsWith work task found (Long n) =
     IsSomeAnd (slice_get (graph_of work).ops task) (λ op. (n ≡ length (task_value work op found)) × (value_limit < n))
 FaultsWith work task found (Wide n) = ⊥
@@ -90,10 +90,10 @@ names_of (Graph work) = (graph_of work).names
 abbrev pub limit_of : TextJob → ℕ
 limit_of (Graph work) = work.limit
 
-abbrev pub JobAnswers : TextJob → ℕ → List (Found Item) → Done TextJob Item → Type 0
+abbrev pub JobAnswers : TextJob → ℕ → List (InputValue Item) → Done TextJob Item → Type 0
 JobAnswers (Graph work) task found done = AnswersWith work task found done
 
-abbrev pub JobFaults : TextJob → ℕ → List (Found Item) → Why → Type 0
+abbrev pub JobFaults : TextJob → ℕ → List (InputValue Item) → Why → Type 0
 JobFaults (Graph work) task found why = FaultsWith work task found why
 
 -- the last task that leads to no other
@@ -121,7 +121,7 @@ text_job = record {
 }
 
 -- the fault that an error tells is one of these; want of memory is free
-abbrev pub MayFault : GraphWork → ℕ → List (Found Item) → JobError → Type 0
+abbrev pub MayFault : GraphWork → ℕ → List (InputValue Item) → JobError → Type 0
 MayFault work task found (FaultOf why) = FaultsWith work task found why
 MayFault work task found NoMemory = Unit {0}
 

@@ -2,7 +2,8 @@
 use crate::nets::plain_net;
 use legal_run::{Cause, DropWhy, Entry, Part, Why};
 use outside_io::{List, NoMemory};
-use plain_rules::{is_complete, is_shape_legal, meets_data_rule};
+use slow_rules::is_shape_legal;
+use slow_verdicts::{is_complete, meets_data_rule};
 use std::alloc::Global;
 use std::test::Fail;
 use task_graph::Net;

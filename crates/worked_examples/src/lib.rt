@@ -5,20 +5,20 @@
 #![tactic(auto)]
 
 #[cfg(test)]
+mod exhaustive_steps;
+#[cfg(test)]
+mod greedy_runs;
+#[cfg(test)]
 mod journals;
 #[cfg(test)]
 mod large_run;
 #[cfg(test)]
-mod looks;
-#[cfg(test)]
 mod nets;
+#[cfg(test)]
+mod queries;
 #[cfg(test)]
 mod small_runs;
 #[cfg(test)]
 mod steps;
 #[cfg(test)]
-mod sweeps;
-#[cfg(test)]
 mod verdicts;
-#[cfg(test)]
-mod walks;

@@ -42,7 +42,7 @@ pub struct Rows<'r> {
 }
 
 /// The net of these rows.
-pub fn net_of(alloc: Global, rows: Rows<'_>) -> Result<Arc<Net>, Fail> {
+pub fn built_net(alloc: Global, rows: Rows<'_>) -> Result<Arc<Net>, Fail> {
     let mut builder = NetBuilder::new(alloc);
     for max in rows.sems {
         builder.semaphore(*max)?;

@@ -1,5 +1,5 @@
 // Small runs, step by step, with the answers that were worked out by hand.
-use crate::nets::{Rows, bound, free, net_of, plain_net};
+use crate::nets::{Rows, bound, free, built_net, plain_net};
 use crate::steps::{Step, compare_step, drop_of, end, expect_legal, fault, start};
 use legal_run::{Cause, DropWhy, Machine, MachineError, Why};
 use std::alloc::Global;
@@ -169,7 +169,7 @@ fn bad_input_is_refused(rt: HostRuntime) -> Result<(), Fail> {
         edges: &[(0, 1), (0, 2), (1, 3), (1, 3), (2, 3), (2, 3)],
         rings: &[],
     };
-    let net = net_of(rt.alloc(), rows)?;
+    let net = built_net(rt.alloc(), rows)?;
     let no_such = Err(MachineError::NoSuch);
     let not_chosen = Err(MachineError::NotChosen);
     let after_stuck = Err(MachineError::AfterStuck);
@@ -218,7 +218,7 @@ fn a_unit_goes_from_task_to_task(rt: HostRuntime) -> Result<(), Fail> {
         edges: &[(0, 1)],
         rings: &[],
     };
-    let net = net_of(rt.alloc(), rows)?;
+    let net = built_net(rt.alloc(), rows)?;
     let stuck = DropWhy::Stuck(0);
     let steps = [
         (start(0, Cause::Source), Ok(0)),
@@ -247,7 +247,7 @@ fn a_run_gets_stuck(rt: HostRuntime) -> Result<(), Fail> {
         edges: &[],
         rings: &[],
     };
-    let net = net_of(rt.alloc(), rows)?;
+    let net = built_net(rt.alloc(), rows)?;
     let steps = [
         (start(0, Cause::Source), Ok(0)),
         (end(0, &[]), Ok(1)),
@@ -275,7 +275,7 @@ fn a_unit_too_many_is_a_fault(rt: HostRuntime) -> Result<(), Fail> {
         edges: &[],
         rings: &[],
     };
-    let net = net_of(rt.alloc(), rows)?;
+    let net = built_net(rt.alloc(), rows)?;
     let steps = [
         (start(0, Cause::Source), Ok(0)),
         (end(0, &[]), Err(MachineError::NothingOut(0))),

@@ -3,7 +3,8 @@ ghost use Rattle.std.specs.Prelude.{◌≡◌};
 
 use legal_run::{Cause, DropWhy, Entry, Machine, MachineError, Why};
 use outside_io::{List, NoMemory};
-use plain_rules::{is_complete, is_shape_legal, meets_data_rule, refusal};
+use slow_rules::is_shape_legal;
+use slow_verdicts::{is_complete, meets_data_rule, refusal};
 use std::alloc::Global;
 use std::process::Abort;
 use task_graph::Net;

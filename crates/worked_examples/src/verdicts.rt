@@ -1,6 +1,6 @@
 // Verdicts of the judge, each compared with what the rules decide, and which of them occurred.
 use legal_run::{Break, Entry, Journal, Verdict, judge};
-use plain_rules::{is_complete, refusal};
+use slow_verdicts::{is_complete, refusal};
 use std::alloc::Global;
 use std::process::Abort;
 use std::test::Fail;
@@ -47,7 +47,7 @@ impl Tally {
             Verdict::Legal => self.legal = self.legal.saturating_add(1),
             Verdict::Breaks(_, broken) => {
                 self.broken = self.broken.saturating_add(1);
-                if !self.breaks.as_slice().contains(&broken) {
+                if !self.breaks.contains(&broken) {
                     self.breaks.push(broken)?;
                 }
             }
@@ -61,7 +61,7 @@ impl Tally {
         assert!(rt; self.legal >= 200);
         assert!(rt; self.broken >= 200);
         for broken in BREAKS {
-            assert!(rt; self.breaks.as_slice().contains(&broken), "{broken:?}");
+            assert!(rt; self.breaks.contains(&broken), "{broken:?}");
         }
     }
 }

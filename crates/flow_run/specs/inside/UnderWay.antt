@@ -4,18 +4,18 @@ use Rattle.std.specs.List.{AllByRecursion}
 use Rattle.task_graph.specs.NetRows.{NetRows}
 use Rattle.task_graph.specs.Net.{IsSource, in_edges, strong_in}
 use Rattle.task_graph.specs.declared.net.EdgeRow.{EdgeRow}
-use Rattle.legal_run.specs.declared.entry.Cause.{Cause}
-use Rattle.legal_run.specs.declared.entry.Cause.TheVariants.{Source, Strong, Weak}
-use Rattle.legal_run.specs.declared.entry.Part.{Part}
-use Rattle.legal_run.specs.declared.entry.Part.TheVariants.{From, First, Nothing}
-use Rattle.legal_run.specs.declared.entry.Entry.{Entry}
-use Rattle.legal_run.specs.declared.entry.Entry.TheVariants.{Start, End, Fault, Drop}
-use Rattle.legal_run.specs.Entries.{EachAfter}
-use Rattle.legal_run.specs.Counts.{given, used, used_source, is_open}
-use Rattle.legal_run.specs.Waiting.{waiting}
+use Rattle.journal_rules.specs.declared.entry.Cause.{Cause}
+use Rattle.journal_rules.specs.declared.entry.Cause.TheVariants.{Source, Strong, Weak}
+use Rattle.journal_rules.specs.declared.entry.Part.{Part}
+use Rattle.journal_rules.specs.declared.entry.Part.TheVariants.{From, First, Nothing}
+use Rattle.journal_rules.specs.declared.entry.Entry.{Entry}
+use Rattle.journal_rules.specs.declared.entry.Entry.TheVariants.{Start, End, Fault, Drop}
+use Rattle.journal_rules.specs.Entries.{EachAfter}
+use Rattle.journal_rules.specs.Counts.{given, used, used_source, is_open}
+use Rattle.journal_rules.specs.Waiting.{waiting}
 use Rattle.join_words.specs.declared.ins.Given.{Given}
 use Rattle.join_words.specs.declared.ins.Given.TheVariants.{Value as ValueGiven, First as FirstGiven, Nothing as NothingGiven}
-use Rattle.join_words.specs.Ins.{Found, value, first, nothing, found_of}
+use Rattle.join_words.specs.Ins.{InputValue, value, first, nothing, found_of}
 use Rattle.run_frame.specs.declared.run.ValueRow.{ValueRow}
 use Rattle.run_frame.specs.declared.run.FrameRun.{FrameRun}
 use Rattle.run_frame.specs.Runs.{value_at}
@@ -60,7 +60,7 @@ abbrev pub inflow : NetRows → (ℕ → ℕ) → ℕ → ℕ
 inflow net f t = sum_by (flow_along f t) net.edges
 
 -- what is carried at an edge is the value of what waits there
-abbrev pub Carries : List (ValueRow Item) → Part → Found Item → Type 0
+abbrev pub Carries : List (ValueRow Item) → Part → InputValue Item → Type 0
 Carries values (From n) found = (item : Item) × (value_at values n ≡ Some item) × (found ≡ value item)
 Carries values First found = found ≡ first
 Carries values Nothing found = found ≡ nothing

@@ -1,11 +1,11 @@
 -- What a check of a part of an entry says.
 use Rattle.std.specs.Prelude.{ℕ, List, IsTrue}
 use Rattle.task_graph.specs.NetRows.{NetRows}
-use Rattle.legal_run.specs.declared.entry.DropWhy.{DropWhy}
-use Rattle.legal_run.specs.declared.entry.Entry.{Entry}
+use Rattle.journal_rules.specs.declared.entry.DropWhy.{DropWhy}
+use Rattle.journal_rules.specs.declared.entry.Entry.{Entry}
 use Rattle.legal_run.specs.declared.verdict.Break.{Break}
 use Rattle.legal_run.specs.declared.verdict.Break.TheVariants.{NoSuch, AfterStuck, NotReleased, OverUnits, OverLimit, NotOpen, NotChosen, NothingOut, NotOver, NotHalted, NotStuck}
-use Rattle.legal_run.specs.HaltLimitStuckRule.{DropRule, is_stuck_why}
+use Rattle.journal_rules.specs.HaltLimitStuckRule.{DropRule, is_stuck_why}
 use Rattle.legal_run.specs.Refusal.{is_halted_why}
 
 -- a Drop for this reason doesn't have it, and this break says so

@@ -1,13 +1,13 @@
 -- What a machine keeps beside its journal.
 use Rattle.std.specs.Prelude.{◌≡◌, ℕ, List, length}
 use Rattle.task_graph.specs.NetRows.{NetRows}
-use Rattle.legal_run.specs.declared.entry.Entry.{Entry}
-use Rattle.legal_run.specs.declared.entry.Part.{Part}
-use Rattle.legal_run.specs.declared.counts.Counts.{Counts}
-use Rattle.legal_run.specs.ShapeLegal.{MeetsDataRule}
-use Rattle.legal_run.specs.inside.Reached.{IsReached}
+use Rattle.journal_rules.specs.declared.entry.Entry.{Entry}
+use Rattle.journal_rules.specs.declared.entry.Part.{Part}
+use Rattle.journal_rules.specs.declared.counts.Counts.{Counts}
+use Rattle.journal_rules.specs.ShapeLegal.{MeetsDataRule}
+use Rattle.journal_rules.specs.inside.Reached.{IsReached}
 use Rattle.legal_run.specs.inside.Waits.{Waits, TellsWaiting}
-use Rattle.legal_run.specs.inside.Counted.{IsCounted}
+use Rattle.journal_rules.specs.inside.Counted.{IsCounted}
 
 -- a journal that one thread keeps: shape-legal, each Start finds what it may, and so will the next one
 pub record IsLed (net : NetRows) (limit : ℕ) (journal : List Entry) : Type 0 where

@@ -1,13 +1,13 @@
 -- What waits at the edges, where one thread keeps the journal.
 use Rattle.std.specs.Prelude.{◌≡◌, ℕ, ◌<◌, ◌≤◌, List, length, count_by}
 use Rattle.task_graph.specs.NetRows.{NetRows}
-use Rattle.legal_run.specs.declared.entry.Entry.{Entry}
-use Rattle.legal_run.specs.declared.entry.Part.{Part}
-use Rattle.legal_run.specs.Counts.{given}
-use Rattle.legal_run.specs.Calm.{IsCalm, used_at}
-use Rattle.legal_run.specs.DataRule.{MayFind, last_part, has_part, is_from}
-use Rattle.legal_run.specs.Waiting.{waiting}
-use Rattle.legal_run.specs.inside.Tells.{Tells}
+use Rattle.journal_rules.specs.declared.entry.Entry.{Entry}
+use Rattle.journal_rules.specs.declared.entry.Part.{Part}
+use Rattle.journal_rules.specs.Counts.{given}
+use Rattle.journal_rules.specs.Calm.{IsCalm, used_at}
+use Rattle.journal_rules.specs.DataRule.{MayFind, last_part, has_part, is_from}
+use Rattle.journal_rules.specs.Waiting.{waiting}
+use Rattle.journal_rules.specs.inside.Tells.{Tells}
 
 -- by edge, what waits
 abbrev pub TellsWaiting : NetRows → List Entry → List Part → Type 0

@@ -1,12 +1,12 @@
 -- A walk over a journal, from entry to entry.
 use Rattle.std.specs.Prelude.{◌≡◌, ℕ, List, [], ◌∷◌, ◌++◌, length, Result, MatchResult}
 use Rattle.task_graph.specs.NetRows.{NetRows}
-use Rattle.legal_run.specs.declared.entry.Entry.{Entry}
+use Rattle.journal_rules.specs.declared.entry.Entry.{Entry}
 use Rattle.legal_run.specs.declared.verdict.Break.{Break}
 use Rattle.legal_run.specs.declared.walk.Walk.{Walk}
 use Rattle.legal_run.specs.Refusal.{IsRefusal}
-use Rattle.legal_run.specs.inside.Reached.{IsReached}
-use Rattle.legal_run.specs.inside.Counted.{IsCounted}
+use Rattle.journal_rules.specs.inside.Reached.{IsReached}
+use Rattle.journal_rules.specs.inside.Counted.{IsCounted}
 
 -- the entries so far may stand where they stand, and are counted
 pub record IsAt (net : NetRows) (limit : ℕ) (before : List Entry) (walk : Walk) : Type 0 where

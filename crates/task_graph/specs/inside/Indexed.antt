@@ -5,10 +5,10 @@ use Rattle.task_graph.specs.Net.{IsNet}
 use Rattle.task_graph.specs.inside.EdgeIndex.{IsIndexOf}
 
 -- the rows
-abbrev pub rows_of : Inside → NetRows
-rows_of net = record { tasks = net.tasks; edges = net.edges; sems = net.sems }
+abbrev pub net_rows : Inside → NetRows
+net_rows net = record { tasks = net.tasks; edges = net.edges; sems = net.sems }
 
 -- the rows are well formed, and each task's lists are kept
 pub record IsIndexed (net : Inside) : Type 0 where
-  pub rows : IsNet (rows_of net)
+  pub rows : IsNet (net_rows net)
   pub index : IsIndexOf net.index net.tasks net.edges

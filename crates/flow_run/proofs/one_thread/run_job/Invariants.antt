@@ -1,6 +1,6 @@
 use Rattle.std.proofs.Common.{◌≡◌, ◌-◌, length}
 use Rattle.std.specs.Arc.{arc_value}
-use Rattle.legal_run.specs.Counts.{starts}
+use Rattle.journal_rules.specs.Counts.{starts}
 use Rattle.text_tasks.specs.JobMeaning.{net_of}
 use Rattle.flow_run.specs.inside.OneThread.{IsUnderWay}
 use Rattle.flow_run.proofs.one_thread.run_job.Given as goal

@@ -1,6 +1,6 @@
 use Rattle.std.proofs.Common.{take}
 use Rattle.task_graph.specs.Net.{out_edges}
-use Rattle.legal_run.specs.ChoiceRule.{AreAmong}
+use Rattle.journal_rules.specs.ChoiceRule.{AreAmong}
 use Rattle.legal_run.proofs.choice.are_out_edges.Given as goal
 
 abbrev pub invariant-loop-edge : goal.invariant-loop-edge

@@ -1,6 +1,6 @@
 use Rattle.std.proofs.Common.{sym, ◌∙◌, ap, false, eqb, List, get_or}
 use Rattle.task_graph.specs.declared.net.EdgeRow.{EdgeRow}
-use Rattle.legal_run.proofs.Rounding.{row_stands}
+use Rattle.journal_rules.proofs.Rounding.{row_stands}
 use Rattle.legal_run.proofs.Marking.{out_is}
 use Rattle.legal_run.proofs.choice.is_out_edge.Goals as goal
 

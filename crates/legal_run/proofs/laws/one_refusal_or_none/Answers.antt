@@ -1,4 +1,4 @@
-use Rattle.legal_run.proofs.Reaching.{reached_legal}
+use Rattle.journal_rules.proofs.Reaching.{reached_legal}
 use Rattle.legal_run.proofs.Refusing.{one_refusal, breaks_nothing}
 use Rattle.legal_run.proofs.laws.one_refusal_or_none.Goals as goal
 

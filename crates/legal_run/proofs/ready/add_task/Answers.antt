@@ -1,7 +1,7 @@
 use Rattle.std.proofs.Common.{◌≡◌, ◌<◌, length, subst, sym, List, ℕ}
 use Rattle.std.specs.Prelude.{OnOk, All}
 use Rattle.legal_run.specs.declared.ready.Ready.{Ready}
-use Rattle.legal_run.proofs.NetLemmas.{places_below}
+use Rattle.journal_rules.proofs.NetLemmas.{places_below}
 use Rattle.legal_run.proofs.Readying.{task_parts}
 use Rattle.legal_run.proofs.ready.add_task.Goals as goal
 

@@ -1,7 +1,7 @@
 use Rattle.std.proofs.Common.{◌≡◌, ◌++◌, List, take}
-use Rattle.legal_run.specs.declared.entry.Entry.{Entry}
+use Rattle.journal_rules.specs.declared.entry.Entry.{Entry}
 use Rattle.legal_run.specs.Ready.{ready_weak}
-use Rattle.legal_run.specs.inside.Releases.{CountsReleases}
+use Rattle.journal_rules.specs.inside.Releases.{CountsReleases}
 use Rattle.legal_run.proofs.ready.add_weak.Given as goal
 
 abbrev pub invariant-loop-edge : goal.invariant-loop-edge

@@ -1,8 +1,8 @@
 use Rattle.std.proofs.Common.{◌≡◌, List}
 use Rattle.std.specs.List.{range_with_len}
-use Rattle.legal_run.specs.declared.entry.Entry.{Entry}
+use Rattle.journal_rules.specs.declared.entry.Entry.{Entry}
 use Rattle.legal_run.specs.Ready.{ready_of_each}
-use Rattle.legal_run.specs.inside.Releases.{CountsReleases}
+use Rattle.journal_rules.specs.inside.Releases.{CountsReleases}
 use Rattle.legal_run.proofs.ready.ready_list.Given as goal
 
 abbrev pub invariant-loop-task : goal.invariant-loop-task

@@ -14,10 +14,10 @@ use Rattle.task_graph.specs.NetRows.{NetRows}
 use Rattle.task_graph.specs.Net.{strong_in, out_edges}
 use Rattle.legal_run.specs.MachineState.{MachineState}
 use Rattle.legal_run.specs.Machine.{Starts, Ends, Refuses}
-use Rattle.legal_run.specs.declared.entry.Entry.TheVariants.{End}
-use Rattle.legal_run.specs.Waiting.{waiting_parts}
-use Rattle.legal_run.specs.Counts.{is_open}
-use Rattle.legal_run.proofs.NetLemmas.{places_below, counted_once}
+use Rattle.journal_rules.specs.declared.entry.Entry.TheVariants.{End}
+use Rattle.journal_rules.specs.Waiting.{waiting_parts}
+use Rattle.journal_rules.specs.Counts.{is_open}
+use Rattle.journal_rules.proofs.NetLemmas.{places_below, counted_once}
 use Rattle.join_words.specs.Ins.{value, found_of, parts_of}
 use Rattle.text_tasks.specs.JobMeaning.{net_of, text_job, JobAnswers}
 use Rattle.flow_run.specs.inside.OneThread.{CauseFits}

@@ -1,6 +1,6 @@
 use Rattle.std.proofs.Common.{refl}
 use Rattle.std.specs.Arc.{arc_value}
-use Rattle.legal_run.proofs.CountLaws.{can_grow}
+use Rattle.journal_rules.proofs.CountLaws.{can_grow}
 use Rattle.legal_run.proofs.Keeping.{counted_room, has_dropped, same_state}
 use Rattle.legal_run.proofs.machine.Machine.drop_release.Goals as goal
 

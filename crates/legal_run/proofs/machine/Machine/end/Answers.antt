@@ -1,6 +1,6 @@
 use Rattle.std.proofs.Common.{refl}
 use Rattle.std.specs.Arc.{arc_value}
-use Rattle.legal_run.proofs.CountLaws.{can_grow, open_flag}
+use Rattle.journal_rules.proofs.CountLaws.{can_grow, open_flag}
 use Rattle.legal_run.proofs.Keeping.{position_of, small_journal, counted_room, gives_once, has_ended, same_state}
 use Rattle.legal_run.proofs.machine.Machine.end.Goals as goal
 

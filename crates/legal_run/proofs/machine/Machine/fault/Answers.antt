@@ -1,6 +1,6 @@
 use Rattle.std.proofs.Common.{refl}
 use Rattle.std.specs.Arc.{arc_value}
-use Rattle.legal_run.proofs.CountLaws.{can_grow, open_flag}
+use Rattle.journal_rules.proofs.CountLaws.{can_grow, open_flag}
 use Rattle.legal_run.proofs.Keeping.{counted_room, has_faulted, same_state}
 use Rattle.legal_run.proofs.machine.Machine.fault.Goals as goal
 

@@ -1,10 +1,10 @@
 use Rattle.std.proofs.Common.{refl, List, []}
 use Rattle.std.specs.Arc.{arc_value}
-use Rattle.legal_run.specs.declared.entry.Part.{Part}
-use Rattle.legal_run.specs.Waiting.{waiting_parts}
-use Rattle.legal_run.specs.ShapeLegal.{MayFollow}
-use Rattle.legal_run.specs.declared.entry.Entry.TheVariants.{Start}
-use Rattle.legal_run.proofs.CountLaws.{can_grow, next_closed}
+use Rattle.journal_rules.specs.declared.entry.Part.{Part}
+use Rattle.journal_rules.specs.Waiting.{waiting_parts}
+use Rattle.journal_rules.specs.ShapeLegal.{MayFollow}
+use Rattle.journal_rules.specs.declared.entry.Entry.TheVariants.{Start}
+use Rattle.journal_rules.proofs.CountLaws.{can_grow, next_closed}
 use Rattle.legal_run.proofs.Keeping.{counted_room, has_started, same_state, opened_last}
 use Rattle.legal_run.proofs.machine.Machine.start.Goals as goal
 

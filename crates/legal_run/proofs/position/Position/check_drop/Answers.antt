@@ -1,9 +1,9 @@
 use Rattle.std.proofs.Common.{sym, ◌∙◌}
 use Rattle.std.proofs.lemmas.Bool.{false≢true}
-use Rattle.legal_run.specs.declared.entry.Entry.TheVariants.{Drop}
-use Rattle.legal_run.specs.HaltLimitStuckRule.{AfterStuckRule, is_stuck}
+use Rattle.journal_rules.specs.declared.entry.Entry.TheVariants.{Drop}
+use Rattle.journal_rules.specs.HaltLimitStuckRule.{AfterStuckRule, is_stuck}
 use Rattle.legal_run.proofs.Refusing.{drop_answer}
-use Rattle.legal_run.proofs.CountLaws.{none_counted}
+use Rattle.journal_rules.proofs.CountLaws.{none_counted}
 use Rattle.legal_run.proofs.position.Position.check_drop.Goals.{else-self-via-then-self+else-not-is_stuck, else-self-via-else-self}
 use Rattle.legal_run.proofs.position.Position.check_drop.Goals as goal
 

@@ -1,8 +1,8 @@
 use Rattle.std.proofs.Common.{◌<◌, length}
 use Rattle.std.proofs.lemmas.List.Elements.{recursion_from_All}
 use Rattle.legal_run.proofs.Refusing.{may_end}
-use Rattle.legal_run.proofs.CountLaws.{none_counted, choice_rule}
-use Rattle.legal_run.specs.HaltLimitStuckRule.{is_stuck}
+use Rattle.journal_rules.proofs.CountLaws.{none_counted, choice_rule}
+use Rattle.journal_rules.specs.HaltLimitStuckRule.{is_stuck}
 use Rattle.legal_run.proofs.position.Position.check_end.Goals as goal
 
 pub returns-clause-checked : goal.returns-clause-checked

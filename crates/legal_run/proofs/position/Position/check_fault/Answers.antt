@@ -1,6 +1,6 @@
 use Rattle.legal_run.proofs.Refusing.{may_fault}
-use Rattle.legal_run.proofs.CountLaws.{none_counted}
-use Rattle.legal_run.specs.HaltLimitStuckRule.{is_stuck}
+use Rattle.journal_rules.proofs.CountLaws.{none_counted}
+use Rattle.journal_rules.specs.HaltLimitStuckRule.{is_stuck}
 use Rattle.legal_run.proofs.position.Position.check_fault.Goals as goal
 
 pub returns-clause-checked : goal.returns-clause-checked

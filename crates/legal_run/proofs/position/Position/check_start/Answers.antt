@@ -1,7 +1,7 @@
 use Rattle.legal_run.proofs.Refusing.{may_start}
 use Rattle.std.proofs.Common.{arith}
-use Rattle.legal_run.proofs.CountLaws.{none_counted}
-use Rattle.legal_run.specs.HaltLimitStuckRule.{is_stuck}
+use Rattle.journal_rules.proofs.CountLaws.{none_counted}
+use Rattle.journal_rules.specs.HaltLimitStuckRule.{is_stuck}
 use Rattle.legal_run.proofs.position.Position.check_start.Goals as goal
 
 pub returns : goal.returns

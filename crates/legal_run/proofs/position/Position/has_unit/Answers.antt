@@ -1,6 +1,6 @@
 use Rattle.std.proofs.Common.{arith, ap, sym, subst, ℕ, List, get_or}
-use Rattle.legal_run.specs.declared.units.UnitCount.{UnitCount}
-use Rattle.legal_run.specs.inside.Units.{CountsUnit}
+use Rattle.journal_rules.specs.declared.units.UnitCount.{UnitCount}
+use Rattle.journal_rules.specs.inside.Units.{CountsUnit}
 use Rattle.legal_run.proofs.position.Position.has_unit.Goals as goal
 
 pub returns : goal.returns

@@ -1,6 +1,6 @@
 use Rattle.std.proofs.Common.{sym, ◌∙◌}
 use Rattle.std.proofs.lemmas.Bool.{false≢true}
-use Rattle.legal_run.proofs.CountLaws.{complete_is, left_of}
+use Rattle.journal_rules.proofs.CountLaws.{complete_is, left_of}
 use Rattle.legal_run.proofs.position.Position.is_complete.Goals as goal
 
 pub returns-then-not-is_used_up : goal.returns-then-not-is_used_up

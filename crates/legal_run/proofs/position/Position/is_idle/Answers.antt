@@ -1,4 +1,4 @@
-use Rattle.legal_run.proofs.CountLaws.{idle_is}
+use Rattle.journal_rules.proofs.CountLaws.{idle_is}
 use Rattle.legal_run.proofs.position.Position.is_idle.Goals as goal
 
 pub returns : goal.returns

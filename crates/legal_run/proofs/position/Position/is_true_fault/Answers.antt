@@ -1,4 +1,4 @@
-use Rattle.legal_run.proofs.CountLaws.{over_rule}
+use Rattle.journal_rules.proofs.CountLaws.{over_rule}
 use Rattle.legal_run.proofs.position.Position.is_true_fault.Goals as goal
 
 pub returns-in-OverRelease : goal.returns-in-OverRelease

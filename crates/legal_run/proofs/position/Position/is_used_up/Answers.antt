@@ -1,4 +1,4 @@
-use Rattle.legal_run.proofs.ReleaseLaws.{none_left}
+use Rattle.journal_rules.proofs.ReleaseLaws.{none_left}
 use Rattle.legal_run.proofs.position.Position.is_used_up.Goals as goal
 
 pub returns : goal.returns

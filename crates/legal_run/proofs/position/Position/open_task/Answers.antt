@@ -1,4 +1,4 @@
-use Rattle.legal_run.proofs.CountLaws.{open_task_is, open_is}
+use Rattle.journal_rules.proofs.CountLaws.{open_task_is, open_is}
 use Rattle.legal_run.proofs.position.Position.open_task.Goals as goal
 
 pub returns : goal.returns

@@ -1,6 +1,6 @@
 use Rattle.std.proofs.Common.{◌≡◌, ℕ, ◌<◌, [], length, slice_index_or}
-use Rattle.legal_run.specs.declared.entry.Part.{Part}
-use Rattle.legal_run.specs.Waiting.{waiting}
+use Rattle.journal_rules.specs.declared.entry.Part.{Part}
+use Rattle.journal_rules.specs.Waiting.{waiting}
 use Rattle.legal_run.proofs.waiting.Waiting.new.Given as goal
 
 abbrev pub invariant-loop-row : goal.invariant-loop-row

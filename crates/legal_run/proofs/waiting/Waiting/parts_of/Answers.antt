@@ -1,6 +1,6 @@
 use Rattle.std.proofs.Common.{ap, ◌∙◌, refl, length}
 use Rattle.task_graph.specs.Net.{strong_in}
-use Rattle.legal_run.proofs.Tallying.{strong_in_tallied}
+use Rattle.journal_rules.proofs.Tallying.{strong_in_tallied}
 use Rattle.legal_run.proofs.WaitingLemmas.{parts_answer}
 use Rattle.legal_run.proofs.waiting.Waiting.parts_of.Goals as goal
 

@@ -1,7 +1,7 @@
 use Rattle.std.proofs.Common.{refl, subst}
-use Rattle.legal_run.specs.declared.entry.Cause.{Cause}
-use Rattle.legal_run.specs.inside.Releases.{IsUseOf}
-use Rattle.legal_run.proofs.Tallying.{strong_in_tallied}
+use Rattle.journal_rules.specs.declared.entry.Cause.{Cause}
+use Rattle.journal_rules.specs.inside.Releases.{IsUseOf}
+use Rattle.journal_rules.proofs.Tallying.{strong_in_tallied}
 use Rattle.legal_run.proofs.WaitingLemmas.{tells_use}
 use Rattle.legal_run.proofs.waiting.Waiting.take.Goals as goal
 

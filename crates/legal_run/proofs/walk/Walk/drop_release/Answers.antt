@@ -1,6 +1,6 @@
-use Rattle.legal_run.proofs.Reaching.{reached_push}
+use Rattle.journal_rules.proofs.Reaching.{reached_push}
 use Rattle.legal_run.proofs.Keeping.{walk_position}
-use Rattle.legal_run.proofs.CountLaws.{can_grow}
+use Rattle.journal_rules.proofs.CountLaws.{can_grow}
 use Rattle.legal_run.proofs.walk.Walk.drop_release.Goals as goal
 
 pub new-position-requires : goal.new-position-requires

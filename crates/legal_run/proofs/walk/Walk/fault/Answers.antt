@@ -1,7 +1,7 @@
 use Rattle.std.proofs.Common.{refl}
-use Rattle.legal_run.proofs.Reaching.{reached_push}
+use Rattle.journal_rules.proofs.Reaching.{reached_push}
 use Rattle.legal_run.proofs.Keeping.{walk_position}
-use Rattle.legal_run.proofs.CountLaws.{can_grow, open_flag}
+use Rattle.journal_rules.proofs.CountLaws.{can_grow, open_flag}
 use Rattle.legal_run.proofs.walk.Walk.fault.Goals as goal
 
 pub new-position-requires : goal.new-position-requires

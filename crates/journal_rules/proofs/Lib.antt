@@ -1,0 +1,12 @@
+pub mod Flags
+pub mod NetLemmas
+pub mod Snoc
+pub mod StartsAt
+pub mod Tallying
+pub mod Rounding
+pub mod Changing
+pub mod UnitLaws
+pub mod ReleaseLaws
+pub mod Reaching
+pub mod CountLaws
+pub mod WorkedRules

@@ -1,6 +1,0 @@
-use Rattle.std.proofs.Common.{take}
-use Rattle.legal_run.specs.inside.Units.{Changed, always, with_taken}
-use Rattle.legal_run.proofs.units.take_each.Given as goal
-
-abbrev pub invariant-loop-sem : goal.invariant-loop-sem
-invariant-loop-sem l = Changed with_taken always l.fn.counts.items l.counts.items (take l.sem-index l.sems)

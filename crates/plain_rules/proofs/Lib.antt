@@ -1,5 +1,0 @@
-pub mod Decided
-pub mod Ends
-pub mod Semaphores
-pub mod Walks
-pub mod WorkedMachine

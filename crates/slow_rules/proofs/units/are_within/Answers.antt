@@ -1,0 +1,13 @@
+use Rattle.std.proofs.Common.{ℕ, [], ◌∷◌, ◌++◌, length, arith, rules, tests}
+use Rattle.std.proofs.lemmas.Iterator.{cases_from_all, YieldsList-from_range}
+use Rattle.journal_rules.specs.SemaphoreRule.{UnitsInBounds}
+use Rattle.slow_rules.proofs.Walks.{decides_all, same_rows}
+use Rattle.slow_rules.proofs.units.are_within.Goals as goal
+
+pub returns : goal.returns
+returns c =
+    let P : ℕ → Type 0 = UnitsInBounds c.args.net.now (c.args.journal.now ++ c.args.next.now ∷ []) in
+    let n = length c.args.net.now.sems in
+    decides_all P _ _
+    (cases_from_all _ _ _ P (λ s. ¬ P s) c.all.ensures.ran (YieldsList-from_range 0 n n (same_rows _ _ c.sems.ensures.rows) (omega arith))
+    (λ x q k. search (rules, tests)) (λ x q k. search (rules, tests)))
