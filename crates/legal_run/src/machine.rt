@@ -3,7 +3,7 @@ ghost use Rattle.std.specs.Prelude.{◌≡◌, ◌↔◌, ◌≤◌, ◌<◌, �
 ghost use Rattle.std.specs.Arc.{arc_value};
 ghost use Rattle.task_graph.specs.Net.{strong_in};
 ghost use Rattle.journal_rules.specs.declared.entry.Entry.TheVariants.{End, Fault, Drop};
-ghost use Rattle.journal_rules.specs.Counts.{given, used, is_open};
+ghost use Rattle.journal_rules.specs.Counts.{given, used, is_open, starts, faults};
 ghost use Rattle.journal_rules.specs.ShapeLegal.{ShapeLegal, MeetsDataRule, CauseInRange};
 ghost use Rattle.journal_rules.specs.Complete.{Complete, least};
 ghost use Rattle.journal_rules.specs.Waiting.{waiting_parts};
@@ -219,6 +219,20 @@ impl Machine {
         ensures { result ≡ least (map (λ e. given self.now.net e self.now.journal) (strong_in self.now.net task)) - used task self.now.journal }
     {
         self.position().rounds(task)
+    }
+
+    /// How many starts there are.
+    pub fn starts(&self) -> u64
+        ensures { result ≡ starts self.now.journal }
+    {
+        self.counts.starts
+    }
+
+    /// How many starts have faulted.
+    pub fn faults(&self) -> u64
+        ensures { result ≡ faults self.now.journal }
+    {
+        self.counts.faults
     }
 
     // The position after the journal.

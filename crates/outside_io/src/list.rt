@@ -1,6 +1,6 @@
 // A growing list that contracts see as the list of its items.
-ghost use Rattle.std.specs.Prelude.{◌≡◌, ◌↔◌, ◌++◌, ◌∷◌, ◌<◌, ◌^◌, [], length, IsTrue, OnOk, IfErr, OnErr, IfOk, slice_get};
-ghost use Rattle.std.specs.Option.{option_copied};
+ghost use Rattle.std.specs.Prelude.{◌≡◌, ◌↔◌, ◌-◌, ◌++◌, ◌∷◌, ◌<◌, ◌^◌, [], length, take, IsTrue, OnOk, IfErr, OnErr, IfOk, slice_get};
+ghost use Rattle.std.specs.Option.{option_copied, option_to_list};
 ghost use Rattle.std.specs.Iterator.Runs.{EveryRun, ItemsMapTo};
 ghost use Rattle.std.specs.Slice.Iter.{iter_rest, iter_steps};
 
@@ -81,6 +81,14 @@ impl<T> List<T> {
             Ok(()) => Ok(()),
             Err(failed) => Err(Back { item: failed.value }),
         }
+    }
+
+    /// Takes the last item off, or `None` where there is none.
+    pub fn pop(&mut self) -> Option<T>
+        ensures last { self.old ≡ self.new ++ option_to_list result }
+        ensures rest { self.new ≡ take (length self.old - 1) self.old }
+    {
+        self.items.pop()
     }
 
     /// How many items there are.
@@ -185,6 +193,8 @@ mod tests {
         }
         assert_eq!(rt; sum, 202);
         assert_eq!(rt; list.iter().filter(|item| **item > 90).count(), 2);
+        assert_eq!(rt; list.pop(), Some(98));
+        assert_eq!(rt; list.len(), 2);
         Ok(())
     }
 }

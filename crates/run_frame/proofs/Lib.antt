@@ -1,3 +1,9 @@
 pub mod WorkedRuns
 pub mod EndsLemmas
 pub mod WorkedLegal
+pub mod DutyLemmas
+pub mod ValueLemmas
+pub mod BeginningLemmas
+pub mod HandingLemmas
+pub mod RefusedLemmas
+pub mod CountedLemmas

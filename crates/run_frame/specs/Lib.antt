@@ -5,3 +5,7 @@ pub mod NestedRule
 pub mod Legal
 pub mod Rows
 pub mod LastEnds
+pub mod FlatNets
+pub mod Duties
+pub mod Frames
+pub mod inside

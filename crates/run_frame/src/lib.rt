@@ -5,10 +5,18 @@
 //! `NestedRule`, `Legal`.
 #![tactic(auto)]
 
+mod duty;
 mod end_values;
+mod handing;
 mod job;
+mod kept_values;
+mod outstanding;
 mod run;
+mod state;
+mod steps;
 
+pub use duty::Duty;
 pub use end_values::{last_ends, values_by_place};
 pub use job::{Answer, Done, Job, JobError, Valued};
 pub use run::{FrameRun, InnerRow, ValueRow};
+pub use state::{Begun, FrameState, Started};

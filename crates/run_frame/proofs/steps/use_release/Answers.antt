@@ -1,0 +1,8 @@
+use Rattle.std.proofs.Common.{◌<◌, arith, rules}
+use Rattle.legal_run.specs.Counts.{starts}
+use Rattle.run_frame.proofs.steps.use_release.Goals as goal
+
+pub start_task-requires : goal.start_task-requires
+start_task-requires g c = λ ins.
+    let within : starts c.args.machine.now.journal < c.args.machine.now.limit = search rules in
+    c.requires.can.start within ins

@@ -1,0 +1,120 @@
+-- The state of a run, as contracts see it, and what its calls do.
+use Rattle.std.specs.Prelude.{◌≡◌, ℕ, ◌<◌, ◌≤◌, false, List, [], ◌∷◌, ◌++◌, length, map, Option, Some, None, slice_set}
+use Rattle.atomic_table.specs.Seated.{TableId}
+use Rattle.task_graph.specs.NetRows.{NetRows}
+use Rattle.task_graph.specs.Net.{out_edges}
+use Rattle.legal_run.specs.MachineState.{MachineState}
+use Rattle.legal_run.specs.Machine.{Starts, Ends, Faults, Drops}
+use Rattle.legal_run.specs.declared.entry.Cause.{Cause}
+use Rattle.legal_run.specs.declared.entry.Why.{Why}
+use Rattle.legal_run.specs.declared.entry.DropWhy.{DropWhy}
+use Rattle.legal_run.specs.declared.entry.DropWhy.TheVariants.{Halted, Limit}
+use Rattle.legal_run.specs.Counts.{starts, faults}
+use Rattle.join_words.specs.Ins.{found_of, parts_of}
+use Rattle.join_words.specs.declared.ins.Ins.{Ins}
+use Rattle.tickets.specs.Books.{TicketState, ticket_state}
+use Rattle.run_frame.specs.Meaning.{Meaning, IsRelease}
+use Rattle.run_frame.specs.WorkRule.{gives_of}
+use Rattle.run_frame.specs.declared.job.Answer.{Answer}
+use Rattle.run_frame.specs.declared.job.Done.TheVariants.{Value}
+use Rattle.run_frame.specs.declared.duty.Duty.{Duty}
+use Rattle.run_frame.specs.declared.duty.Duty.TheVariants.{Unused, Running}
+use Rattle.run_frame.specs.declared.state.Started.{Started}
+use Rattle.run_frame.specs.declared.state.Started.TheVariants as started
+use Rattle.run_frame.specs.Duties.{AreReleasesOf}
+
+-- the name of its register, its job, the net, the limit and the journal so far, and what is outstanding by number
+pub record FrameView (J V : Type 0) : Type 0 where
+  pub register : TableId
+  pub job : J
+  pub machine : MachineState
+  pub items : List (Option (Duty V))
+
+-- a state of the same run
+pub record IsSameRun {J V : Type 0} (old new : FrameView J V) : Type 0 where
+  pub register : new.register ≡ old.register
+  pub job : new.job ≡ old.job
+
+-- what is outstanding after a ticket was redeemed and these were issued
+abbrev pub items_after : {V : Type 0} → List (Option (Duty V)) → TicketState (Duty V) → List (TicketState (Duty V)) → List (Option (Duty V))
+items_after items ticket issued = slice_set items ticket.number None ++ map (λ t. Some t.item) issued
+
+-- A ticket comes back: the state is as it was, but that another ticket names the item.
+pub record ComesBack {J V : Type 0} (old new : FrameView J V) (ticket back : TicketState (Duty V)) : Type 0 where
+  pub state : new ≡ record old { items = items_after old.items ticket (back ∷ []) }
+  pub register : back.register ≡ ticket.register
+  pub item : back.item ≡ ticket.item
+
+-- an open start with inputs on which its task may work
+abbrev pub IsStarted : {V : Type 0} → NetRows → Duty V → Type 0
+IsStarted net (Unused task cause) = ⊥
+IsStarted net (Running task start ins) = IsRelease net task (length (parts_of ins))
+
+-- The task of a release was started, and the open start is outstanding in place of the release.
+pub record StartsTask {J V : Type 0} (meaning : Meaning J V) (old new : FrameView J V) (release ticket : TicketState (Duty V)) : Type 0 where
+  pub task : ℕ
+  pub cause : Cause
+  pub start : ℕ
+  pub ins : Ins V
+  pub was : release.item ≡ Unused task cause
+  pub item : ticket.item ≡ Running task start ins
+  pub started : IsStarted (meaning.net old.job) ticket.item
+  pub register : ticket.register ≡ old.register
+  pub entry : Starts old.machine new.machine task cause start
+  pub no_fault : faults old.machine.journal ≡ 0
+  pub items : new.items ≡ items_after old.items release (ticket ∷ [])
+
+-- A release was dropped.
+pub record DropsTask {J V : Type 0} (old new : FrameView J V) (release : TicketState (Duty V)) (why : DropWhy) : Type 0 where
+  pub task : ℕ
+  pub cause : Cause
+  pub place : ℕ
+  pub was : release.item ≡ Unused task cause
+  pub entry : Drops old.machine new.machine task cause why place
+  pub items : new.items ≡ items_after old.items release []
+
+-- What came of a release: it was started, dropped since a start has faulted, or dropped since all starts were made.
+abbrev pub StartDoes : {J V : Type 0} → Meaning J V → FrameView J V → FrameView J V → TicketState (Duty V) → Started V → Type 0
+StartDoes meaning old new release (started.Running ticket) = StartsTask meaning old new release ticket
+StartDoes meaning old new release started.Halted = DropsTask old new release Halted
+StartDoes meaning old new release started.AtLimit =
+    DropsTask old new release Limit × (faults old.machine.journal ≡ 0) × (starts old.machine.journal ≡ old.machine.limit)
+
+-- the work of an open start may come to this value with this answer
+abbrev pub MayEndWith : {J V : Type 0} → Meaning J V → J → Duty V → V → Answer → Type 0
+MayEndWith meaning job (Unused task cause) v answer = ⊥
+MayEndWith meaning job (Running task start ins) v answer =
+    (task < length (meaning.net job).tasks) × meaning.answers job task (map found_of (parts_of ins)) (Value v answer)
+
+-- and to this fault
+abbrev pub MayFaultWith : {J V : Type 0} → Meaning J V → J → Duty V → Why → Type 0
+MayFaultWith meaning job (Unused task cause) why = ⊥
+MayFaultWith meaning job (Running task start ins) why = meaning.faults job task (map found_of (parts_of ins)) why
+
+-- A start was ended with an answer, and each release that this made has one of these tickets.
+pub record EndsTask {J V : Type 0} (meaning : Meaning J V) (old new : FrameView J V) (ticket : TicketState (Duty V)) (answer : Answer) (released : List (TicketState (Duty V))) : Type 0 where
+  pub task : ℕ
+  pub start : ℕ
+  pub ins : Ins V
+  pub place : ℕ
+  pub was : ticket.item ≡ Running task start ins
+  pub entry : Ends old.machine new.machine start (gives_of (out_edges (meaning.net old.job) task) answer) false place
+  pub items : new.items ≡ items_after old.items ticket released
+  pub releases : AreReleasesOf old.register released
+
+-- A start has faulted.
+pub record FaultsTask {J V : Type 0} (old new : FrameView J V) (ticket : TicketState (Duty V)) (why : Why) : Type 0 where
+  pub task : ℕ
+  pub start : ℕ
+  pub ins : Ins V
+  pub place : ℕ
+  pub was : ticket.item ≡ Running task start ins
+  pub entry : Faults old.machine new.machine start why place
+  pub items : new.items ≡ items_after old.items ticket []
+
+-- A run that has just begun: its journal is empty, and each first release has one of these tickets.
+pub record IsBegun {J V : Type 0} (meaning : Meaning J V) (job : J) (state : FrameView J V) (released : List (TicketState (Duty V))) : Type 0 where
+  pub job_is : state.job ≡ job
+  pub machine : state.machine ≡ record { net = meaning.net job; limit = meaning.limit job; journal = [] }
+  pub items : state.items ≡ map (λ t. Some t.item) released
+  pub releases : AreReleasesOf state.register released
