@@ -14,11 +14,14 @@ use Rattle.legal_run.specs.Complete.{least}
 use Rattle.legal_run.proofs.Tallying.{and_true, and_false}
 use Rattle.legal_run.proofs.NetLemmas.{at_place}
 use Rattle.task_graph.proofs.PlaceLemmas.{strong_in-source}
-use Rattle.run_frame.specs.Meaning.{IsCauseOf}
 use Rattle.run_frame.specs.declared.duty.Duty.{Duty}
 use Rattle.run_frame.specs.declared.duty.Duty.TheVariants.{Unused, Running}
 use Rattle.run_frame.specs.Duties.{is_unused, is_running, unused, running, as_source, as_strong, by_weak, outstanding_count}
-use Rattle.run_frame.specs.inside.UnderWay.{rounds, born, IsAccounted}
+use Rattle.legal_run.specs.MachineState.{MachineState}
+use Rattle.run_frame.specs.declared.run.ValueRow.{ValueRow}
+use Rattle.run_frame.specs.FlatNets.{IsFlatNet}
+use Rattle.run_frame.specs.Meaning.{Meaning, IsCauseOf}
+use Rattle.run_frame.specs.inside.UnderWay.{rounds, born, DutyFits, IsAccounted, IsUnderWay}
 use Rattle.run_frame.specs.inside.Handing.{IsReleaseIn, FirstCause, FirstBelow}
 use Rattle.run_frame.proofs.DutyLemmas.{one, get_push, count_pushed}
 
@@ -197,3 +200,30 @@ module _ {V : Type 0} (net : NetRows) where
     weak = λ e weak. let w = first.weak e in let g = weak_token net e rows weak in omega arith;
     opened = λ n. first.opened n;
   }
+
+-- a run that has just begun
+pub begun : {J V : Type 0} (meaning : Meaning J V) (job : J) (net : NetRows) (limit : ℕ) (m : MachineState) (values : List (ValueRow V)) (items : List (Option (Duty V))) → net ≡ meaning.net job → limit ≡ meaning.limit job → IsFlatNet (meaning.net job) → IsNet net
+    → m ≡ record { net = net; limit = limit; journal = [] } → values ≡ [] → IsAccounted net [] items → ((n : ℕ) (duty : Duty V) → slice_get items n ≡ Some (Some duty) → IsReleaseIn net duty) → IsUnderWay meaning job m values items
+begun {J} {V} meaning job net limit m values items same full flat rows is none account fits =
+    subst (λ (s : MachineState). IsUnderWay meaning job s values items) (sym is) (subst (λ vs. IsUnderWay meaning job start vs items) (sym none) (record {
+      led = record {
+        net = same;
+        limit = full;
+        flat = subst IsFlatNet (sym same) flat;
+        rows = rows;
+        legal = tt;
+        none_stuck = refl;
+        within = omega arith;
+        limited = λ some. absurd (some refl);
+      };
+      worked = record { rows = refl; work = λ more later. tt; nested = λ all. tt };
+      fits = λ n duty at. fit duty (fits n duty at);
+      accounted = account;
+    }))
+  where
+    start : MachineState
+    start = record { net = net; limit = limit; journal = [] }
+
+    fit : (duty : Duty V) → IsReleaseIn net duty → DutyFits net [] [] duty
+    fit (Unused t cause) is = is
+    fit (Running t place ins) is = absurd is

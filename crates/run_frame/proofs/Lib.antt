@@ -3,6 +3,11 @@ pub mod EndsLemmas
 pub mod WorkedLegal
 pub mod DutyLemmas
 pub mod ValueLemmas
+pub mod FinishingLemmas
+pub mod EndingLemmas
+pub mod UsingLemmas
+pub mod ChosenLemmas
+pub mod PushLemmas
 pub mod BeginningLemmas
 pub mod HandingLemmas
 pub mod RefusedLemmas

@@ -1,5 +1,5 @@
 -- The state of a run, as contracts see it, and what its calls do.
-use Rattle.std.specs.Prelude.{◌≡◌, ℕ, ◌<◌, ◌≤◌, false, List, [], ◌∷◌, ◌++◌, length, map, Option, Some, None, slice_set}
+use Rattle.std.specs.Prelude.{◌≡◌, ◌⊎◌, ℕ, ◌<◌, false, List, [], ◌∷◌, ◌++◌, length, map, Option, Some, None, slice_set}
 use Rattle.atomic_table.specs.Seated.{TableId}
 use Rattle.task_graph.specs.NetRows.{NetRows}
 use Rattle.task_graph.specs.Net.{out_edges}
@@ -39,9 +39,10 @@ pub record IsSameRun {J V : Type 0} (old new : FrameView J V) : Type 0 where
 abbrev pub items_after : {V : Type 0} → List (Option (Duty V)) → TicketState (Duty V) → List (TicketState (Duty V)) → List (Option (Duty V))
 items_after items ticket issued = slice_set items ticket.number None ++ map (λ t. Some t.item) issued
 
--- A ticket comes back: the state is as it was, but that another ticket names the item.
+-- A ticket comes back: the state is as it was, but that the ticket's item may have another number.
 pub record ComesBack {J V : Type 0} (old new : FrameView J V) (ticket back : TicketState (Duty V)) : Type 0 where
-  pub state : new ≡ record old { items = items_after old.items ticket (back ∷ []) }
+  pub state : new ≡ record old { items = new.items }
+  pub items : (new.items ≡ old.items) ⊎ (new.items ≡ items_after old.items ticket (back ∷ []))
   pub register : back.register ≡ ticket.register
   pub item : back.item ≡ ticket.item
 

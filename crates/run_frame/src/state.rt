@@ -109,19 +109,29 @@ impl<J: Job + Drop> FrameState<J> {
         let Duty::Unused { task, cause } = self.outstanding.redeem(release) else {
             unreachable!()
         };
-        match use_release(self.alloc, &mut self.machine, limit, &self.values, task, cause) {
-            Ok(Used::Started(start, ins)) => {
+        let used = match use_release(
+            self.alloc,
+            &mut self.machine,
+            limit,
+            &self.values,
+            task,
+            cause,
+        ) {
+            Ok(used) => used,
+            Err(_) => {
+                let duty = Duty::Unused { task, cause };
+                return Err(Back {
+                    item: self.outstanding.issue(duty),
+                });
+            }
+        };
+        match used {
+            Used::Started(start, ins) => {
                 let duty = Duty::Running { task, start, ins };
                 Ok(Started::Running(self.outstanding.issue(duty)))
             }
-            Ok(Used::Halted) => Ok(Started::Halted),
-            Ok(Used::AtLimit) => Ok(Started::AtLimit),
-            Err(_) => {
-                let duty = Duty::Unused { task, cause };
-                Err(Back {
-                    item: self.outstanding.issue(duty),
-                })
-            }
+            Used::Halted => Ok(Started::Halted),
+            Used::AtLimit => Ok(Started::AtLimit),
         }
     }
 
@@ -179,18 +189,20 @@ impl<J: Job + Drop> FrameState<J> {
         let Ok(mut released) = Vec::with_capacity(self.alloc, gives.len()) else {
             return Err(Back { item: running });
         };
-        let duty = self.outstanding.redeem(running);
-        let Duty::Running { start, .. } = &duty else {
+        let Duty::Running { task, start, ins } = self.outstanding.redeem(running) else {
             unreachable!()
         };
-        match end_task(&mut self.machine, &mut self.values, *start, gives, value) {
+        match end_task(&mut self.machine, &mut self.values, start, gives, value) {
             Ok(_) => {
                 hand_out(&self.machine, net, gives, &mut self.outstanding, &mut released);
                 Ok(released)
             }
-            Err(_) => Err(Back {
-                item: self.outstanding.issue(duty),
-            }),
+            Err(_) => {
+                let duty = Duty::Running { task, start, ins };
+                Err(Back {
+                    item: self.outstanding.issue(duty),
+                })
+            }
         }
     }
 
@@ -206,15 +218,17 @@ impl<J: Job + Drop> FrameState<J> {
         ensures ok { OnOk result (FaultsTask self.old self.new running why) }
         ensures back { IfErr result (λ back. ComesBack self.old self.new running back.item) }
     {
-        let duty = self.outstanding.redeem(running);
-        let Duty::Running { start, .. } = &duty else {
+        let Duty::Running { task, start, ins } = self.outstanding.redeem(running) else {
             unreachable!()
         };
-        match fault_task(&mut self.machine, *start, why) {
+        match fault_task(&mut self.machine, start, why) {
             Ok(_) => Ok(()),
-            Err(_) => Err(Back {
-                item: self.outstanding.issue(duty),
-            }),
+            Err(_) => {
+                let duty = Duty::Running { task, start, ins };
+                Err(Back {
+                    item: self.outstanding.issue(duty),
+                })
+            }
         }
     }
 
