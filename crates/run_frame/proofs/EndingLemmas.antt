@@ -276,9 +276,9 @@ module _ {J V : Type 0} (meaning : Meaning J V) (job : J) (m : MachineState) (va
         by_duty (Running q p i) is fits =
             let below = open_stands m.journal p fits.1 in
             let other : p ≢ start = λ same.
-                let hit : eqb p start ≡ true = grind (arith, nat_tests) in
-                let some = count_has (is_running start) (set items n None) k (Running q p i) refl is hit in
-                absurd (omega (arith, none_left)) in
+            let hit : eqb p start ≡ true = grind (arith, nat_tests) in
+            let some = count_has (is_running start) (set items n None) k (Running q p i) refl is hit in
+            absurd (omega (arith, none_left)) in
             let miss : eqb start p ≡ false = grind (arith, nat_tests) in (
               fits.0,
               is_open_push_below m.journal x p below ∙ ap (λ b. is_open m.journal p && not b) (closing p ∙ miss) ∙ ap (λ b. b && true) fits.1,
@@ -393,7 +393,7 @@ module _ {J V : Type 0} (meaning : Meaning J V) (job : J) (m : MachineState) (va
             subst (λ k. unused (as_strong k) items' + used k ended ≡ rounds m.net ended k) target done.1
         by_test false any =
             let same : rounds m.net ended q ≡ rounds m.net m.journal q =
-                ap least (map_agree (λ e. given m.net e ended) (λ e. given m.net e m.journal) (strong_in m.net q) (unchanged (strong_in m.net q) (none_passes (λ e. gives_edge e entry) (strong_in m.net q) any))) in
+            ap least (map_agree (λ e. given m.net e ended) (λ e. given m.net e m.journal) (strong_in m.net q) (unchanged (strong_in m.net q) (none_passes (λ e. gives_edge e entry) (strong_in m.net q) any))) in
             let a = under.accounted.strong q inside in
             let b = hands.hands.strong q in
             let c = hands.hands.may.within q inside in
@@ -494,6 +494,7 @@ module _ {J V : Type 0} where
         start = given.start;
         ins = given.ins;
         place = given.place;
+        stood = given.stood;
         was = given.was;
         entry = subst (λ es. Ends old.machine new.machine given.start es false given.place) (chosen ∙ ap (λ k. gives_of (out_edges (meaning.net old.job) k) answer) same) given.entry;
         items = given.items;

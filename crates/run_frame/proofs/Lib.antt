@@ -12,3 +12,4 @@ pub mod BeginningLemmas
 pub mod HandingLemmas
 pub mod RefusedLemmas
 pub mod CountedLemmas
+pub mod OneThreadLemmas

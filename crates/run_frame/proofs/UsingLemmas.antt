@@ -333,7 +333,7 @@ module _ {J V : Type 0} (meaning : Meaning J V) (job : J) (m : MachineState) (va
       finds more later =
           ap (λ (o : Option Entry). elim o [ None ↦ None | Some entry ↦ work_of (values ++ more) entry ]) (slice_get_push_last m.journal x)
           ∙ ap (λ fs. Some (record { task = t; found = fs }))
-              (found_more values more (length m.journal) parts (waiting_before m.net m.journal t cause) (later_still (length m.journal) (length h) more (omega (arith, length_push m.journal x)) later) ∙ sym made.found)
+          (found_more values more (length m.journal) parts (waiting_before m.net m.journal t cause) (later_still (length m.journal) (length h) more (omega (arith, length_push m.journal x)) later) ∙ sym made.found)
 
       fits_if : Option (Duty V) → Type 0
       fits_if None = Unit {0}
@@ -369,5 +369,5 @@ module _ {J V : Type 0} (meaning : Meaning J V) (job : J) (m : MachineState) (va
   is_started n t start cause ins item under at found is =
       let fits = under.fits n (Unused t cause) at in
       let len : length (parts_of ins) ≡ length (edges_of m.net t cause) =
-          sym (length-map (parts_of ins) found_of) ∙ ap length found ∙ length-map (waiting_parts m.net t cause m.journal) (found_at values) ∙ length-map (edges_of m.net t cause) (λ e. waiting m.net e m.journal) in
+      sym (length-map (parts_of ins) found_of) ∙ ap length found ∙ length-map (waiting_parts m.net t cause m.journal) (found_at values) ∙ length-map (edges_of m.net t cause) (λ e. waiting m.net e m.journal) in
       subst (IsStarted (meaning.net job)) (sym is) (subst (λ (net : NetRows). IsRelease net t (length (parts_of ins))) under.led.net (record { in_range = fits.0; cause = cause; can_release = fits.1; size = len }))

@@ -1,5 +1,5 @@
 -- The state of a run, as contracts see it, and what its calls do.
-use Rattle.std.specs.Prelude.{◌≡◌, ◌⊎◌, ℕ, ◌<◌, false, List, [], ◌∷◌, ◌++◌, length, map, Option, Some, None, slice_set}
+use Rattle.std.specs.Prelude.{◌≡◌, ◌⊎◌, ℕ, ◌<◌, false, List, [], ◌∷◌, ◌++◌, length, map, Option, Some, None, slice_get, slice_set}
 use Rattle.atomic_table.specs.Seated.{TableId}
 use Rattle.task_graph.specs.NetRows.{NetRows}
 use Rattle.task_graph.specs.Net.{out_edges}
@@ -16,7 +16,7 @@ use Rattle.tickets.specs.Books.{TicketState, ticket_state}
 use Rattle.run_frame.specs.Meaning.{Meaning, IsRelease}
 use Rattle.run_frame.specs.WorkRule.{gives_of}
 use Rattle.run_frame.specs.declared.job.Answer.{Answer}
-use Rattle.run_frame.specs.declared.job.Done.TheVariants.{Value}
+use Rattle.run_frame.specs.declared.job.Done.TheVariants.{Value, Inner}
 use Rattle.run_frame.specs.declared.duty.Duty.{Duty}
 use Rattle.run_frame.specs.declared.duty.Duty.TheVariants.{Unused, Running}
 use Rattle.run_frame.specs.declared.state.Started.{Started}
@@ -35,6 +35,10 @@ pub record IsSameRun {J V : Type 0} (old new : FrameView J V) : Type 0 where
   pub register : new.register ≡ old.register
   pub job : new.job ≡ old.job
 
+-- a ticket's item is outstanding
+abbrev pub IsOutstanding : {V : Type 0} → List (Option (Duty V)) → TicketState (Duty V) → Type 0
+IsOutstanding items ticket = slice_get items ticket.number ≡ Some (Some ticket.item)
+
 -- what is outstanding after a ticket was redeemed and these were issued
 abbrev pub items_after : {V : Type 0} → List (Option (Duty V)) → TicketState (Duty V) → List (TicketState (Duty V)) → List (Option (Duty V))
 items_after items ticket issued = slice_set items ticket.number None ++ map (λ t. Some t.item) issued
@@ -51,15 +55,22 @@ abbrev pub IsStarted : {V : Type 0} → NetRows → Duty V → Type 0
 IsStarted net (Unused task cause) = ⊥
 IsStarted net (Running task start ins) = IsRelease net task (length (parts_of ins))
 
+-- the work of an open start has no run of its own
+abbrev pub HasNoInner : {J V : Type 0} → Meaning J V → J → Duty V → Type 0
+HasNoInner meaning job (Unused task cause) = Unit {0}
+HasNoInner {J} meaning job (Running task start ins) = (inner : J) → ¬ meaning.answers job task (map found_of (parts_of ins)) (Inner inner)
+
 -- The task of a release was started, and the open start is outstanding in place of the release.
 pub record StartsTask {J V : Type 0} (meaning : Meaning J V) (old new : FrameView J V) (release ticket : TicketState (Duty V)) : Type 0 where
   pub task : ℕ
   pub cause : Cause
   pub start : ℕ
   pub ins : Ins V
+  pub stood : IsOutstanding old.items release
   pub was : release.item ≡ Unused task cause
   pub item : ticket.item ≡ Running task start ins
   pub started : IsStarted (meaning.net old.job) ticket.item
+  pub flat : HasNoInner meaning old.job ticket.item
   pub register : ticket.register ≡ old.register
   pub entry : Starts old.machine new.machine task cause start
   pub no_fault : faults old.machine.journal ≡ 0
@@ -70,6 +81,7 @@ pub record DropsTask {J V : Type 0} (old new : FrameView J V) (release : TicketS
   pub task : ℕ
   pub cause : Cause
   pub place : ℕ
+  pub stood : IsOutstanding old.items release
   pub was : release.item ≡ Unused task cause
   pub entry : Drops old.machine new.machine task cause why place
   pub items : new.items ≡ items_after old.items release []
@@ -98,6 +110,7 @@ pub record EndsTask {J V : Type 0} (meaning : Meaning J V) (old new : FrameView 
   pub start : ℕ
   pub ins : Ins V
   pub place : ℕ
+  pub stood : IsOutstanding old.items ticket
   pub was : ticket.item ≡ Running task start ins
   pub entry : Ends old.machine new.machine start (gives_of (out_edges (meaning.net old.job) task) answer) false place
   pub items : new.items ≡ items_after old.items ticket released
@@ -109,6 +122,7 @@ pub record FaultsTask {J V : Type 0} (old new : FrameView J V) (ticket : TicketS
   pub start : ℕ
   pub ins : Ins V
   pub place : ℕ
+  pub stood : IsOutstanding old.items ticket
   pub was : ticket.item ≡ Running task start ins
   pub entry : Faults old.machine new.machine start why place
   pub items : new.items ≡ items_after old.items ticket []

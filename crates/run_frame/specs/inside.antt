@@ -4,3 +4,4 @@ pub mod KeptValues
 pub mod UnderWay
 pub mod Handing
 pub mod Steps
+pub mod OneThread

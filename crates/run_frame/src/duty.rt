@@ -6,14 +6,7 @@ use legal_run::Cause;
 #[derive(Drop)]
 pub enum Duty<V> {
     /// A release of a task that isn't used.
-    Unused {
-        task: u32,
-        cause: Cause,
-    },
+    Unused { task: u32, cause: Cause },
     /// An open start of a task, at an index of the journal, with its inputs.
-    Running {
-        task: u32,
-        start: u64,
-        ins: Ins<V>,
-    },
+    Running { task: u32, start: u64, ins: Ins<V> },
 }

@@ -194,7 +194,13 @@ impl<J: Job + Drop> FrameState<J> {
         };
         match end_task(&mut self.machine, &mut self.values, start, gives, value) {
             Ok(_) => {
-                hand_out(&self.machine, net, gives, &mut self.outstanding, &mut released);
+                hand_out(
+                    &self.machine,
+                    net,
+                    gives,
+                    &mut self.outstanding,
+                    &mut released,
+                );
                 Ok(released)
             }
             Err(_) => {

@@ -23,7 +23,7 @@ use Rattle.run_frame.specs.Meaning.{Meaning}
 use Rattle.run_frame.specs.Runs.{found_ins}
 use Rattle.run_frame.specs.WorkRule.{Answers}
 use Rattle.run_frame.specs.Duties.{AreReleasesOf}
-use Rattle.run_frame.specs.Frames.{FrameView, items_after}
+use Rattle.run_frame.specs.Frames.{FrameView, IsOutstanding, items_after}
 
 -- a machine can refuse this entry for want of memory alone
 pub record CanTake (m : MachineState) (entry : Entry) : Type 0 where
@@ -61,6 +61,7 @@ pub record GivesEdges {J V : Type 0} (old new : FrameView J V) (ticket : TicketS
   pub start : ℕ
   pub ins : Ins V
   pub place : ℕ
+  pub stood : IsOutstanding old.items ticket
   pub was : ticket.item ≡ Running task start ins
   pub entry : Ends old.machine new.machine start gives false place
   pub items : new.items ≡ items_after old.items ticket released

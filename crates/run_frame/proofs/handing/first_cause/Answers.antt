@@ -17,10 +17,9 @@ returns-then-rounds-gt0 c =
     let net = c.args.net.now in
     let t = c.args.task in
     let left : c.rounds.result ≡ rounds net [] t - 0 =
-        c.rounds.ensures ∙ ap (λ (n : NetRows). rounds n c.args.machine.now.journal t - used t c.args.machine.now.journal) c.requires.net ∙ ap (λ h. rounds net h t - used t h) c.requires.journal in
+    c.rounds.ensures ∙ ap (λ (n : NetRows). rounds n c.args.machine.now.journal t - used t c.args.machine.now.journal) c.requires.net ∙ ap (λ h. rounds net h t - used t h) c.requires.journal in
     let test = c.if-rounds-gt0.true in
-    let few = one_round net t in
-    (
+    let few = one_round net t in (
       λ none. let no_round : rounds net [] t ≡ 0 = ap (λ es. least (map (λ e. given net e []) es)) none in absurd (omega arith),
       unborn (in_edges net t) (λ source. absurd (false≢true (sym c.if-is_source.false ∙ c.is_source.ensures.1 source))),
       omega arith,

@@ -15,7 +15,8 @@ count_in-requires-clause-room g c = λ t inside.
 pub invariant_of-self : goal.invariant_of-self
 invariant_of-self g c =
     let V = g.row.V.Denot in
-    let below = subst (λ (s : OutstandingState V). IsBelow s.tasks c.args.duty) (sym c.self.view_is) c.requires.task in
-    (ap (λ (b : BookState (Duty V)). b.register) c.issue.ensures.book,
-        subst (λ (items : List (Option (Duty V))). IsCounted items c.count_in.new.strong.items (c.self.inside.total + 1)) (sym (ap (λ (b : BookState (Duty V)). b.items) c.issue.ensures.book))
-        (counted_issued c.self.inside.book.items c.self.inside.strong.items c.count_in.new.strong.items c.self.inside.total c.args.duty c.self.invariant.1 c.count_in.ensures below))
+    let below = subst (λ (s : OutstandingState V). IsBelow s.tasks c.args.duty) (sym c.self.view_is) c.requires.task in (
+      ap (λ (b : BookState (Duty V)). b.register) c.issue.ensures.book,
+      subst (λ (items : List (Option (Duty V))). IsCounted items c.count_in.new.strong.items (c.self.inside.total + 1)) (sym (ap (λ (b : BookState (Duty V)). b.items) c.issue.ensures.book))
+          (counted_issued c.self.inside.book.items c.self.inside.strong.items c.count_in.new.strong.items c.self.inside.total c.args.duty c.self.invariant.1 c.count_in.ensures below),
+    )

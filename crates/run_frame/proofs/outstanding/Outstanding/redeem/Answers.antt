@@ -19,11 +19,12 @@ overflow_sub-self g c =
 
 pub invariant_of-self : goal.invariant_of-self
 invariant_of-self g c =
-    let V = g.row.V.Denot in
-    (ap (λ (b : BookState (Duty V)). b.register) c.redeem-duty.ensures.book,
-        subst (λ (items : List (Option (Duty V))). IsCounted items c.count_out.new.strong.items (c.self.inside.total - 1)) (sym (ap (λ (b : BookState (Duty V)). b.items) c.redeem-duty.ensures.book))
-        (counted_redeemed c.self.inside.book.items c.self.inside.strong.items c.count_out.new.strong.items c.self.inside.total c.args.ticket.number c.redeem-duty.result c.self.invariant.1
-            (c.redeem-duty.ensures.outstanding ∙ ap (λ d. Some (Some d)) (sym c.redeem-duty.ensures.item)) c.count_out.ensures))
+    let V = g.row.V.Denot in (
+      ap (λ (b : BookState (Duty V)). b.register) c.redeem-duty.ensures.book,
+      subst (λ (items : List (Option (Duty V))). IsCounted items c.count_out.new.strong.items (c.self.inside.total - 1)) (sym (ap (λ (b : BookState (Duty V)). b.items) c.redeem-duty.ensures.book))
+          (counted_redeemed c.self.inside.book.items c.self.inside.strong.items c.count_out.new.strong.items c.self.inside.total c.args.ticket.number c.redeem-duty.result c.self.invariant.1
+          (c.redeem-duty.ensures.outstanding ∙ ap (λ d. Some (Some d)) (sym c.redeem-duty.ensures.item)) c.count_out.ensures),
+    )
 
 pub returns-clause-fewer : goal.returns-clause-fewer
 returns-clause-fewer g c =
@@ -36,8 +37,8 @@ pub returns-clause-room : goal.returns-clause-room
 returns-clause-room g c =
     let V = g.row.V.Denot in
     let a : outstanding_count c.redeem-duty.new.book.items + 1 ≡ outstanding_count c.self.inside.book.items =
-        ap (λ (b : BookState (Duty V)). outstanding_count b.items + 1) c.redeem-duty.ensures.book
-        ∙ one_fewer c.self.inside.book.items c.args.ticket.number c.args.ticket.item c.redeem-duty.ensures.outstanding in
+    ap (λ (b : BookState (Duty V)). outstanding_count b.items + 1) c.redeem-duty.ensures.book
+    ∙ one_fewer c.self.inside.book.items c.args.ticket.number c.args.ticket.item c.redeem-duty.ensures.outstanding in
     let b = c.self.invariant.1.all in
     let fits : c.self.inside.total < 18446744073709551616 = search rules in
     omega arith

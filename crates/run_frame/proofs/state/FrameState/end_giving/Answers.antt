@@ -15,7 +15,8 @@ use Rattle.run_frame.specs.declared.job.Answer.{Answer}
 use Rattle.run_frame.specs.declared.job.Answer.TheVariants.{All as AllOf, None as NoneOf, Indices}
 use Rattle.run_frame.specs.declared.job.Done.TheVariants.{Value}
 use Rattle.run_frame.specs.WorkRule.{Answers, gives_of}
-use Rattle.run_frame.specs.Frames.{FrameView, MayEndWith, MayFaultWith, EndsTask, IsStarted}
+use Rattle.run_frame.specs.FlatNets.{IsFlatNet}
+use Rattle.run_frame.specs.Frames.{FrameView, MayEndWith, MayFaultWith, EndsTask, IsStarted, HasNoInner}
 use Rattle.run_frame.specs.inside.Outstanding.{OutstandingState}
 use Rattle.run_frame.specs.inside.UnderWay.{IsUnderWay}
 use Rattle.run_frame.specs.inside.Handing.{MayHand, HandsEdges}
@@ -62,7 +63,7 @@ hand_out-requires-clause-may g c =
     let tasks : c.redeem.new.self.tasks ≡ i.outstanding.tasks = ap (λ (s : OutstandingState V). s.tasks) c.redeem.ensures.items in
     let net : c.args.net.now ≡ i.machine.net = c.requires.net ∙ ap meaning.net jobs ∙ sym under.led.net in
     may_hand meaning job i.machine i.values i.outstanding.items c.args.running.number c.in-Running.task c.in-Running.start c.in-Running.ins c.args.gives.now (arc_value c.args.value) c.end_task.new.values c.in-Ok-end_task.field-0 c.end_task.new.machine
-        c.args.net.now c.redeem.new.self.items under at c.in-Ok-end_task.ensures.ended net left
+    c.args.net.now c.redeem.new.self.items under at c.in-Ok-end_task.ensures.ended net left
 
 pub invariant_of-self : goal.invariant_of-self
 invariant_of-self g c =
@@ -81,8 +82,7 @@ invariant_of-self g c =
     let answers = subst (λ (j : J). MayGive meaning j duty (arc_value c.args.value) c.args.gives.now) jobs (subst (λ (d : Duty V). MayGive meaning c.args.self.now.job d (arc_value c.args.value) c.args.gives.now) is c.requires.answer) in
     let net : c.args.net.now ≡ i.machine.net = c.requires.net ∙ ap meaning.net jobs ∙ sym under.led.net in
     let made = c.in-Ok-end_task.ensures in
-    let now : c.hand_out.new.outstanding.tasks ≡ c.redeem.new.self.tasks = ap (λ (s : OutstandingState V). s.tasks) c.hand_out.ensures.same in
-    (
+    let now : c.hand_out.new.outstanding.tasks ≡ c.redeem.new.self.tasks = ap (λ (s : OutstandingState V). s.tasks) c.hand_out.ensures.same in (
       after_end meaning job i.machine i.values i.outstanding.items c.args.running.number c.in-Running.task c.in-Running.start c.in-Running.ins c.args.gives.now (arc_value c.args.value) c.end_task.new.values c.in-Ok-end_task.field-0 c.end_task.new.machine
           c.args.net.now c.redeem.new.self.items c.hand_out.new.outstanding.items under at made.ended made.value answers net left c.hand_out.ensures.hands,
       now ∙ tasks ∙ c.self.invariant.1 ∙ sym (ap (λ (s : MachineState). length s.net.tasks) made.ended.after),
@@ -122,8 +122,7 @@ invariant_of-self-in-Err-end_task g c =
     let machine = c.in-Err.ensures.err in
     let values = c.in-Err.ensures.values in
     let again : c.issue.new.self.items ≡ set i.outstanding.items c.args.running.number None ++ Some duty ∷ [] = ap (λ (s : OutstandingState V). s.items) c.issue.ensures.items ∙ ap (λ xs. xs ++ Some duty ∷ []) left in
-    let more : c.issue.new.self.tasks ≡ c.redeem.new.self.tasks = ap (λ (s : OutstandingState V). s.tasks) c.issue.ensures.items in
-    (
+    let more : c.issue.new.self.tasks ≡ c.redeem.new.self.tasks = ap (λ (s : OutstandingState V). s.tasks) c.issue.ensures.items in (
       subst (λ (s : MachineState). IsUnderWay meaning job s c.end_task.new.values c.issue.new.self.items) (sym machine)
           (subst (λ (vs : List (ValueRow V)). IsUnderWay meaning job i.machine vs c.issue.new.self.items) (sym values) (reissued meaning job i.machine i.values i.outstanding.items c.args.running.number duty c.issue.new.self.items under at again)),
       more ∙ tasks ∙ c.self.invariant.1 ∙ sym (ap (λ (s : MachineState). length s.net.tasks) machine),
@@ -151,6 +150,7 @@ returns-in-Ok-end_task-clause-ok g c =
       start = c.in-Running.start;
       ins = c.in-Running.ins;
       place = c.in-Ok-end_task.field-0;
+      stood = c.redeem.ensures.was;
       was = is;
       entry = c.in-Ok-end_task.ensures.ended;
       items = issued.items ∙ ap (λ xs. xs ++ map (λ (t : TicketState (Duty V)). Some t.item) c.hand_out.new.released.items) left;

@@ -15,7 +15,8 @@ use Rattle.run_frame.specs.declared.job.Answer.{Answer}
 use Rattle.run_frame.specs.declared.job.Answer.TheVariants.{All as AllOf, None as NoneOf, Indices}
 use Rattle.run_frame.specs.declared.job.Done.TheVariants.{Value}
 use Rattle.run_frame.specs.WorkRule.{Answers, gives_of}
-use Rattle.run_frame.specs.Frames.{FrameView, MayEndWith, MayFaultWith, EndsTask, IsStarted}
+use Rattle.run_frame.specs.FlatNets.{IsFlatNet}
+use Rattle.run_frame.specs.Frames.{FrameView, MayEndWith, MayFaultWith, EndsTask, IsStarted, HasNoInner}
 use Rattle.run_frame.specs.inside.Outstanding.{OutstandingState}
 use Rattle.run_frame.specs.inside.UnderWay.{IsUnderWay}
 use Rattle.run_frame.specs.inside.Handing.{MayHand, HandsEdges}
@@ -58,8 +59,7 @@ invariant_of-self g c =
     let left : c.redeem.new.self.items ≡ set i.outstanding.items c.args.running.number None = ap (λ (s : OutstandingState V). s.items) c.redeem.ensures.items in
     let tasks : c.redeem.new.self.tasks ≡ i.outstanding.tasks = ap (λ (s : OutstandingState V). s.tasks) c.redeem.ensures.items in
     let allowed = subst (λ (j : J). MayFaultWith meaning j duty c.args.why) jobs (subst (λ (d : Duty V). MayFaultWith meaning c.args.self.now.job d c.args.why) is c.requires.fault) in
-    let own = (g.met.J.Job g.world.𝓛 g.world.𝓜 g.world.𝓡 ((λ s x. x), (λ x. x), (λ x. x), λ x. x)).faults_own job c.in-Running.task _ c.args.why c.self.invariant.2 allowed in
-    (
+    let own = (g.met.J.Job g.world.𝓛 g.world.𝓜 g.world.𝓡 ((λ s x. x), (λ x. x), (λ x. x), λ x. x)).faults_own job c.in-Running.task _ c.args.why c.self.invariant.2 allowed in (
       after_fault meaning job i.machine i.values i.outstanding.items c.args.running.number c.in-Running.task c.in-Running.start c.in-Running.ins c.args.why c.in-Ok.field-0 c.fault_task.new.machine c.redeem.new.self.items
           under at c.in-Ok.ensures.ok allowed own left,
       tasks ∙ c.self.invariant.1 ∙ sym (ap (λ (s : MachineState). length s.net.tasks) c.in-Ok.ensures.ok.after),
@@ -98,8 +98,7 @@ invariant_of-self-in-Err g c =
     let tasks : c.redeem.new.self.tasks ≡ i.outstanding.tasks = ap (λ (s : OutstandingState V). s.tasks) c.redeem.ensures.items in
     let machine = c.in-Err.ensures.err in
     let again : c.issue.new.self.items ≡ set i.outstanding.items c.args.running.number None ++ Some duty ∷ [] = ap (λ (s : OutstandingState V). s.items) c.issue.ensures.items ∙ ap (λ xs. xs ++ Some duty ∷ []) left in
-    let more : c.issue.new.self.tasks ≡ c.redeem.new.self.tasks = ap (λ (s : OutstandingState V). s.tasks) c.issue.ensures.items in
-    (
+    let more : c.issue.new.self.tasks ≡ c.redeem.new.self.tasks = ap (λ (s : OutstandingState V). s.tasks) c.issue.ensures.items in (
       subst (λ (s : MachineState). IsUnderWay meaning job s i.values c.issue.new.self.items) (sym machine) (reissued meaning job i.machine i.values i.outstanding.items c.args.running.number duty c.issue.new.self.items under at again),
       more ∙ tasks ∙ c.self.invariant.1 ∙ sym (ap (λ (s : MachineState). length s.net.tasks) machine),
       c.self.invariant.2,
@@ -124,6 +123,7 @@ returns-in-Ok-clause-ok g c =
       start = c.in-Running.start;
       ins = c.in-Running.ins;
       place = c.in-Ok.field-0;
+      stood = c.redeem.ensures.was;
       was = is;
       entry = c.in-Ok.ensures.ok;
       items = left ∙ sym (append-nil (set i.outstanding.items c.args.running.number None));

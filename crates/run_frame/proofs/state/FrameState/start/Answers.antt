@@ -15,7 +15,8 @@ use Rattle.run_frame.specs.declared.job.Answer.{Answer}
 use Rattle.run_frame.specs.declared.job.Answer.TheVariants.{All as AllOf, None as NoneOf, Indices}
 use Rattle.run_frame.specs.declared.job.Done.TheVariants.{Value}
 use Rattle.run_frame.specs.WorkRule.{Answers, gives_of}
-use Rattle.run_frame.specs.Frames.{FrameView, MayEndWith, MayFaultWith, EndsTask, IsStarted}
+use Rattle.run_frame.specs.FlatNets.{IsFlatNet}
+use Rattle.run_frame.specs.Frames.{FrameView, MayEndWith, MayFaultWith, EndsTask, IsStarted, HasNoInner}
 use Rattle.run_frame.specs.inside.Outstanding.{OutstandingState}
 use Rattle.run_frame.specs.inside.UnderWay.{IsUnderWay}
 use Rattle.run_frame.specs.inside.Handing.{MayHand, HandsEdges}
@@ -28,6 +29,7 @@ use Rattle.std.proofs.lemmas.Bool.{false≢true}
 use Rattle.legal_run.specs.declared.entry.DropWhy.TheVariants.{Halted, Limit}
 use Rattle.run_frame.specs.declared.steps.Used.{Used}
 use Rattle.run_frame.specs.inside.Steps.{UsesRelease}
+use Rattle.run_frame.proofs.ChosenLemmas.{no_inner}
 use Rattle.run_frame.proofs.state.FrameState.start.Goals as goal
 
 pub use_release-requires-clause-can : goal.use_release-requires-clause-can
@@ -63,8 +65,7 @@ invariant_of-self-in-Started g c =
     let made = subst (λ (u : Used V). UsesRelease i.machine c.use_release.new.machine i.values c.in-Unused.task c.in-Unused.cause u) c.in-Started.is c.in-Ok.ensures.ok in
     let begun : Duty V = Running c.in-Unused.task c.in-Started.start c.in-Started.ins in
     let again : c.issue-in-Started.new.self.items ≡ set i.outstanding.items c.args.release.number None ++ Some begun ∷ [] = ap (λ (s : OutstandingState V). s.items) c.issue-in-Started.ensures.items ∙ ap (λ xs. xs ++ Some begun ∷ []) left in
-    let more : c.issue-in-Started.new.self.tasks ≡ c.redeem.new.self.tasks = ap (λ (s : OutstandingState V). s.tasks) c.issue-in-Started.ensures.items in
-    (
+    let more : c.issue-in-Started.new.self.tasks ≡ c.redeem.new.self.tasks = ap (λ (s : OutstandingState V). s.tasks) c.issue-in-Started.ensures.items in (
       after_start meaning job i.machine i.values i.outstanding.items c.args.release.number c.in-Unused.task c.in-Started.start c.in-Unused.cause c.in-Started.ins c.use_release.new.machine c.issue-in-Started.new.self.items under at made.0 again,
       more ∙ tasks ∙ c.self.invariant.1 ∙ sym (ap (λ (s : MachineState). length s.net.tasks) made.0.entry.after),
       c.self.invariant.2,
@@ -84,8 +85,7 @@ invariant_of-self-in-Halted g c =
     let jobs : c.args.self.now.job ≡ job = sym (ap (λ (k : FrameView J V). k.job) c.self.view_is) in
     let left : c.redeem.new.self.items ≡ set i.outstanding.items c.args.release.number None = ap (λ (s : OutstandingState V). s.items) c.redeem.ensures.items in
     let tasks : c.redeem.new.self.tasks ≡ i.outstanding.tasks = ap (λ (s : OutstandingState V). s.tasks) c.redeem.ensures.items in
-    let made = subst (λ (u : Used V). UsesRelease i.machine c.use_release.new.machine i.values c.in-Unused.task c.in-Unused.cause u) c.in-Halted.is c.in-Ok.ensures.ok in
-    (
+    let made = subst (λ (u : Used V). UsesRelease i.machine c.use_release.new.machine i.values c.in-Unused.task c.in-Unused.cause u) c.in-Halted.is c.in-Ok.ensures.ok in (
       after_drop meaning job i.machine i.values i.outstanding.items c.args.release.number c.in-Unused.task made.0 c.in-Unused.cause Halted c.use_release.new.machine c.redeem.new.self.items under at made.1 refl (λ limit. absurd (false≢true limit)) left,
       tasks ∙ c.self.invariant.1 ∙ sym (ap (λ (s : MachineState). length s.net.tasks) made.1.after),
       c.self.invariant.2,
@@ -106,8 +106,7 @@ invariant_of-self-in-AtLimit g c =
     let left : c.redeem.new.self.items ≡ set i.outstanding.items c.args.release.number None = ap (λ (s : OutstandingState V). s.items) c.redeem.ensures.items in
     let tasks : c.redeem.new.self.tasks ≡ i.outstanding.tasks = ap (λ (s : OutstandingState V). s.tasks) c.redeem.ensures.items in
     let made = subst (λ (u : Used V). UsesRelease i.machine c.use_release.new.machine i.values c.in-Unused.task c.in-Unused.cause u) c.in-AtLimit.is c.in-Ok.ensures.ok in
-    let full = made.3 in
-    (
+    let full = made.3 in (
       after_drop meaning job i.machine i.values i.outstanding.items c.args.release.number c.in-Unused.task made.0 c.in-Unused.cause Limit c.use_release.new.machine c.redeem.new.self.items under at made.1 refl (λ limit. omega arith) left,
       tasks ∙ c.self.invariant.1 ∙ sym (ap (λ (s : MachineState). length s.net.tasks) made.1.after),
       c.self.invariant.2,
@@ -145,8 +144,7 @@ invariant_of-self g c =
     let tasks : c.redeem.new.self.tasks ≡ i.outstanding.tasks = ap (λ (s : OutstandingState V). s.tasks) c.redeem.ensures.items in
     let machine = c.in-Err.ensures.err in
     let again : c.issue.new.self.items ≡ set i.outstanding.items c.args.release.number None ++ Some duty ∷ [] = ap (λ (s : OutstandingState V). s.items) c.issue.ensures.items ∙ ap (λ xs. xs ++ Some duty ∷ []) left in
-    let more : c.issue.new.self.tasks ≡ c.redeem.new.self.tasks = ap (λ (s : OutstandingState V). s.tasks) c.issue.ensures.items in
-    (
+    let more : c.issue.new.self.tasks ≡ c.redeem.new.self.tasks = ap (λ (s : OutstandingState V). s.tasks) c.issue.ensures.items in (
       subst (λ (s : MachineState). IsUnderWay meaning job s i.values c.issue.new.self.items) (sym machine) (reissued meaning job i.machine i.values i.outstanding.items c.args.release.number duty c.issue.new.self.items under at again),
       more ∙ tasks ∙ c.self.invariant.1 ∙ sym (ap (λ (s : MachineState). length s.net.tasks) machine),
       c.self.invariant.2,
@@ -175,9 +173,13 @@ returns-in-Started-clause-ok g c =
       cause = c.in-Unused.cause;
       start = c.in-Started.start;
       ins = c.in-Started.ins;
+      stood = c.redeem.ensures.was;
       was = is;
       item = item;
       started = is_started meaning job i.machine i.values i.outstanding.items c.args.release.number c.in-Unused.task c.in-Started.start c.in-Unused.cause c.in-Started.ins c.issue-in-Started.result.item under at made.0.found item;
+      flat = subst (HasNoInner meaning job) (sym item) (λ inner allowed.
+          no_inner J V (meaning.net job) c.in-Unused.task inner (subst IsFlatNet under.led.net under.led.flat) (subst (λ (n : NetRows). c.in-Unused.task < length n.tasks) under.led.net (under.fits c.args.release.number duty at).0)
+          ((g.met.J.Job g.world.𝓛 g.world.𝓜 g.world.𝓡 ((λ s x. x), (λ x. x), (λ x. x), λ x. x)).answers_fit job c.in-Unused.task _ _ c.self.invariant.2 allowed));
       register = ap (λ (t : TicketState (Duty V)). t.register) c.issue-in-Started.ensures.ticket ∙ register;
       entry = made.0.entry;
       no_fault = made.1;
