@@ -1,8 +1,7 @@
 -- The edges that an answer signals fit the shape of its task.
-use Rattle.std.proofs.Common.{◌≡◌, ◌≢◌, ◌⊎◌, inl, inr, ℕ, zero, suc, ◌+◌, ◌<◌, ◌≤◌, Bool, true, false, not, cond, eqb, List, [], ◌∷◌, ◌++◌, length, get_or, Option, Some, None, ℤ, pos, negsuc, refl, sym, ap, ◌∙◌, subst, arith}
+use Rattle.std.proofs.Common.{◌≡◌, inl, inr, ℕ, zero, suc, ◌<◌, ◌≤◌, Bool, true, false, not, cond, eqb, List, [], ◌∷◌, length, get_or, Option, Some, None, ℤ, pos, negsuc, refl, arith}
 use Rattle.std.specs.Prelude.{slice_get, IsTrue, IsSomeAnd, IfSome, All, filter, ◌==◌}
 use Rattle.std.specs.List.{AllByRecursion, IsDistinct, list_any}
-use Rattle.std.proofs.lemmas.Bool.{false≢true}
 use Rattle.std.proofs.lemmas.Bool.Decides.{nat_tests}
 use Rattle.std.proofs.lemmas.List.Elements.{recursion_from_All}
 use Rattle.task_graph.specs.NetRows.{NetRows}
@@ -12,9 +11,9 @@ use Rattle.task_graph.specs.declared.net.Shape.{Shape}
 use Rattle.task_graph.specs.declared.net.Shape.TheVariants.{Plain, Choice, Many, Nested}
 use Rattle.task_graph.specs.declared.net.TaskRow.{TaskRow}
 use Rattle.task_graph.specs.declared.net.EdgeRow.{EdgeRow}
-use Rattle.legal_run.specs.ChoiceRule.{AreAmong, GivesFit, InnerFits}
-use Rattle.legal_run.proofs.Changing.{any_found}
-use Rattle.legal_run.proofs.NetLemmas.{at_place, places_below}
+use Rattle.journal_rules.specs.ChoiceRule.{AreAmong, GivesFit, InnerFits}
+use Rattle.journal_rules.proofs.Changing.{any_found}
+use Rattle.journal_rules.proofs.NetLemmas.{at_place, places_below}
 use Rattle.run_frame.specs.Meaning.{FitsShape, DoneFits, AnswerFits}
 use Rattle.run_frame.specs.WorkRule.{gives_of}
 use Rattle.run_frame.specs.declared.job.Answer.{Answer}

@@ -1,10 +1,10 @@
 -- The counts of what is outstanding, after one item more and one less.
-use Rattle.std.proofs.Common.{◌≡◌, ◌⊎◌, ⊎_elim, ℕ, ◌+◌, ◌-◌, ◌<◌, ◌≤◌, List, [], ◌∷◌, ◌++◌, length, set, get_or, Option, Some, None, refl, sym, ap, ◌∙◌, subst, arith}
+use Rattle.std.proofs.Common.{◌≡◌, ⊎_elim, ℕ, ◌+◌, ◌-◌, ◌<◌, List, [], ◌∷◌, ◌++◌, length, set, Option, Some, None, refl, sym, subst, arith}
 use Rattle.std.specs.Prelude.{slice_get, slice_index, is_some}
 use Rattle.run_frame.specs.declared.duty.Duty.{Duty}
-use Rattle.run_frame.specs.Duties.{is_unused, unused, as_strong, outstanding_count}
-use Rattle.run_frame.specs.inside.Outstanding.{IsBelow, strong_one, CountsStrong, IsAmongStrong, IsCounted}
-use Rattle.run_frame.proofs.DutyLemmas.{one, get_push, get_cleared, count_cleared, count_has, count_pushed, count_below}
+use Rattle.run_frame.specs.Duties.{is_unused, as_strong, outstanding_count}
+use Rattle.run_frame.specs.inside.Outstanding.{IsBelow, CountsStrong, IsAmongStrong, IsCounted}
+use Rattle.run_frame.proofs.DutyLemmas.{get_push, get_cleared, count_cleared, count_pushed, count_below}
 
 module _ {V : Type 0} where
   pub counted_issued : (items : List (Option (Duty V))) (strong strong' : List ℕ) (total : ℕ) (duty : Duty V) → IsCounted items strong total → CountsStrong strong duty strong' → IsBelow (length strong) duty

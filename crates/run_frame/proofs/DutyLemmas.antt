@@ -1,12 +1,8 @@
 -- Counting what is outstanding.
-use Rattle.std.proofs.Common.{◌≡◌, ◌≢◌, ◌⊎◌, inl, inr, ℕ, zero, suc, ◌+◌, ◌<◌, ◌≤◌, Bool, true, false, ◌&&◌, cond, eqb, List, [], ◌∷◌, ◌++◌, length, map, set, Option, Some, None, refl, sym, ap, ◌∙◌, subst, arith}
+use Rattle.std.proofs.Common.{◌≡◌, ◌⊎◌, inl, inr, ℕ, zero, suc, ◌+◌, ◌≤◌, Bool, true, false, cond, List, [], ◌∷◌, ◌++◌, length, map, set, Option, Some, None, refl, ap, arith}
 use Rattle.std.specs.Prelude.{count_by, slice_get, is_some}
 use Rattle.std.proofs.lemmas.List.Sums.{sum_by-cons, sum_by_push}
-use Rattle.legal_run.specs.declared.entry.Cause.{Cause}
 use Rattle.tickets.specs.Books.{TicketState}
-use Rattle.run_frame.specs.declared.duty.Duty.{Duty}
-use Rattle.run_frame.specs.declared.duty.Duty.TheVariants.{Unused, Running}
-use Rattle.run_frame.specs.Duties.{is_unused, outstanding_count}
 
 abbrev pub one : Bool → ℕ
 one b = cond b 1 0

@@ -1,6 +1,6 @@
 -- A start that ends or faults: its entry keeps what holds of a run.
 use Rattle.std.proofs.Common.{◌≡◌, ◌≢◌, ◌⊎◌, inl, inr, ⊎_elim, ℕ, zero, suc, ◌+◌, ◌<◌, ◌≤◌, min, fold, Bool, true, false, not, ◌&&◌, ◌||◌, cond, eqb, List, [], ◌∷◌, ◌++◌, length, map, set, get_or, Option, Some, None, refl, sym, ap, ◌∙◌, subst, arith}
-use Rattle.std.specs.Prelude.{count_by, slice_get, slice_index, is_some, IsTrue, IsSomeAnd, IfSome, All, ◌==◌, if◌then◌else◌}
+use Rattle.std.specs.Prelude.{count_by, slice_get, is_some, IsTrue, IsSomeAnd, ◌==◌}
 use Rattle.std.specs.List.{AllByRecursion, list_any}
 use Rattle.std.specs.Option.{option_map_or, option_and_then}
 use Rattle.std.specs.Arc.{arc_value}
@@ -10,28 +10,26 @@ use Rattle.std.proofs.lemmas.List.{length_push, append_assoc}
 use Rattle.std.proofs.lemmas.List.Sums.{sum_by-cons}
 use native.Mathlib.Decide.{dec_le}
 use Rattle.task_graph.specs.NetRows.{NetRows}
-use Rattle.task_graph.specs.Net.{IsNet, is_weak, is_weak_row, in_edges, out_edges, strong_in}
+use Rattle.task_graph.specs.Net.{is_weak, is_weak_row, out_edges, strong_in}
 use Rattle.task_graph.specs.declared.net.EdgeRow.{EdgeRow}
 use Rattle.task_graph.specs.declared.net.TaskRow.{TaskRow}
 use Rattle.legal_run.specs.MachineState.{MachineState}
 use Rattle.legal_run.specs.Machine.{Ends, Faults}
-use Rattle.legal_run.specs.declared.entry.Cause.{Cause}
-use Rattle.legal_run.specs.declared.entry.Why.{Why}
-use Rattle.legal_run.specs.declared.entry.Why.TheVariants.{Long, Wide, Unmet, Inner, OverRelease}
-use Rattle.legal_run.specs.declared.entry.Entry.{Entry}
-use Rattle.legal_run.specs.declared.entry.Entry.TheVariants.{Start, End, Fault, Drop}
-use Rattle.legal_run.specs.Entries.{EachAfter}
-use Rattle.legal_run.specs.ChoiceRule.{ChoiceRule, GivesFit, InnerFits}
-use Rattle.legal_run.specs.Counts.{given, gives_edge, used, used_source, used_weak, uses, uses_any, is_source, is_strong, is_weak_at, is_open, closes, started, start_at, starts}
-use Rattle.legal_run.specs.Complete.{least}
-use Rattle.legal_run.specs.SemaphoreRule.{FaultRule}
-use Rattle.legal_run.specs.ShapeLegal.{MayFollow, WhyInRange}
-use Rattle.legal_run.specs.inside.Releases.{IsNoUse}
-use Rattle.legal_run.proofs.Snoc.{EachAfter-push, is_open_push_below, start_at_push_last}
-use Rattle.legal_run.proofs.Tallying.{given_push, count_by_push_no, count_once, and_true, and_false}
-use Rattle.legal_run.proofs.NetLemmas.{map_agree, any_place}
+use Rattle.journal_rules.specs.declared.entry.Cause.{Cause}
+use Rattle.journal_rules.specs.declared.entry.Why.{Why}
+use Rattle.journal_rules.specs.declared.entry.Why.TheVariants.{Long, Wide, Unmet, Inner, OverRelease}
+use Rattle.journal_rules.specs.declared.entry.Entry.{Entry}
+use Rattle.journal_rules.specs.declared.entry.Entry.TheVariants.{Start, End, Fault, Drop}
+use Rattle.journal_rules.specs.Entries.{EachAfter}
+use Rattle.journal_rules.specs.ChoiceRule.{GivesFit, InnerFits}
+use Rattle.journal_rules.specs.Counts.{given, gives_edge, used, used_weak, uses, uses_any, is_source, is_strong, is_weak_at, is_open, closes, started, start_at}
+use Rattle.journal_rules.specs.Complete.{least}
+use Rattle.journal_rules.specs.SemaphoreRule.{UnitFaultRule}
+use Rattle.journal_rules.specs.ShapeLegal.{MayFollow, WhyInRange}
+use Rattle.journal_rules.proofs.Snoc.{EachAfter-push, is_open_push_below, start_at_push_last}
+use Rattle.journal_rules.proofs.Tallying.{given_push, count_by_push_no, count_once, and_false}
+use Rattle.journal_rules.proofs.NetLemmas.{map_agree, any_place}
 use Rattle.legal_run.proofs.Keeping.{gives_once}
-use Rattle.legal_run.proofs.ReleaseLaws.{end_no_use, fault_no_use}
 use Rattle.join_words.specs.Ins.{found_of, parts_of}
 use Rattle.join_words.specs.declared.ins.Ins.{Ins}
 use Rattle.run_frame.specs.declared.run.ValueRow.{ValueRow}
@@ -45,12 +43,12 @@ use Rattle.run_frame.specs.declared.duty.Duty.{Duty}
 use Rattle.run_frame.specs.declared.duty.Duty.TheVariants.{Unused, Running}
 use Rattle.run_frame.specs.Duties.{is_unused, is_running, unused, running, as_source, as_strong, by_weak}
 use Rattle.run_frame.specs.inside.KeptValues.{HasRow}
-use Rattle.run_frame.specs.inside.UnderWay.{ComeLater, none_inner, born, rounds, FoundAt, DutyFits, DutiesFit, IsLedBy, IsWorked, IsAccounted, IsUnderWay}
+use Rattle.run_frame.specs.inside.UnderWay.{ComeLater, none_inner, rounds, FoundAt, DutyFits, DutiesFit, IsUnderWay}
 use Rattle.tickets.specs.Books.{TicketState}
 use Rattle.run_frame.specs.declared.job.Answer.{Answer}
 use Rattle.run_frame.specs.Frames.{FrameView, EndsTask}
 use Rattle.run_frame.specs.inside.Steps.{CanTake, GivesEdges}
-use Rattle.run_frame.specs.inside.Handing.{target_of, IsReleaseIn, MayHand, IsHanded, is_weak_gift, HandsEdges}
+use Rattle.run_frame.specs.inside.Handing.{target_of, IsReleaseIn, MayHand, is_weak_gift, HandsEdges}
 use Rattle.run_frame.proofs.DutyLemmas.{one, get_cleared, count_cleared, count_has}
 use Rattle.run_frame.proofs.PushLemmas.{ends_same, ends_more, open_past, open_stands, work_still, later_still, value_behind, map_places, rows_below, led_push}
 use Rattle.run_frame.proofs.ChosenLemmas.{choice_fits, gives_in_range}
@@ -204,7 +202,7 @@ module _ {J V : Type 0} (meaning : Meaning J V) (job : J) (m : MachineState) (va
       within Inner is = absurd is
       within (OverRelease s) is = absurd is
 
-      no_unit : (w : Why) → IsOwnWhy w → FaultRule m.net m.journal (Fault start w)
+      no_unit : (w : Why) → IsOwnWhy w → UnitFaultRule m.net m.journal (Fault start w)
       no_unit (Long k) is = tt
       no_unit (Wide k) is = tt
       no_unit (Unmet k) is = tt

@@ -1,31 +1,28 @@
 -- A run in which nothing is outstanding is complete, and legal.
-use Rattle.std.proofs.Common.{◌≡◌, ◌≢◌, ◌⊎◌, ℕ, zero, suc, ◌+◌, ◌<◌, ◌≤◌, Bool, true, false, ◌&&◌, cond, eqb, List, [], ◌∷◌, ◌++◌, length, map, Option, Some, None, append-nil, refl, sym, ap, ◌∙◌, subst, arith}
-use Rattle.std.specs.Prelude.{All, AllPairs, count_by, is_some, slice_get, IsSomeAnd, IsTrue, ◌==◌}
+use Rattle.std.proofs.Common.{◌≡◌, ℕ, suc, ◌<◌, ◌≤◌, Bool, true, false, ◌&&◌, eqb, List, [], length, map, Option, Some, append-nil, refl, sym, ap, ◌∙◌, subst, arith}
+use Rattle.std.specs.Prelude.{All, AllPairs, slice_get, IsSomeAnd}
 use Rattle.std.specs.Arc.{arc_value}
 use Rattle.std.specs.Global.{Vec, Global}
 use Rattle.std.specs.declared.sync.Arc.{Arc}
 use Rattle.std.proofs.lemmas.Bool.{false≢true}
 use Rattle.std.proofs.lemmas.Bool.Decides.{nat_tests}
 use native.Mathlib.Decide.{dec_le}
-use Rattle.task_graph.specs.NetRows.{NetRows}
-use Rattle.task_graph.specs.Net.{IsSource, is_weak, in_edges, strong_in}
+use Rattle.task_graph.specs.Net.{in_edges, strong_in}
 use Rattle.task_graph.specs.declared.net.EdgeRow.{EdgeRow}
 use Rattle.legal_run.specs.MachineState.{MachineState}
-use Rattle.legal_run.specs.declared.entry.Cause.{Cause}
-use Rattle.legal_run.specs.declared.entry.Cause.TheVariants.{Source, Strong, Weak}
-use Rattle.legal_run.specs.declared.entry.Entry.{Entry}
-use Rattle.legal_run.specs.Entries.{EachAfter}
-use Rattle.legal_run.specs.Counts.{used, used_source, used_weak, given, is_open, starts, NoneOpen}
-use Rattle.legal_run.specs.Complete.{Complete, least, is_limited}
-use Rattle.legal_run.specs.ShapeLegal.{ShapeLegal, MeetsDataRule}
-use Rattle.legal_run.specs.inside.Releases.{NoneLeft}
-use Rattle.legal_run.proofs.CountLaws.{complete_is, left_of}
-use Rattle.legal_run.proofs.Reaching.{each_below, at_below}
-use Rattle.join_words.specs.declared.ins.Ins.{Ins}
+use Rattle.journal_rules.specs.declared.entry.Cause.{Cause}
+use Rattle.journal_rules.specs.declared.entry.Cause.TheVariants.{Source, Strong, Weak}
+use Rattle.journal_rules.specs.Entries.{EachAfter}
+use Rattle.journal_rules.specs.Counts.{used, used_source, used_weak, given, is_open}
+use Rattle.journal_rules.specs.Complete.{Complete, least}
+use Rattle.journal_rules.specs.ShapeLegal.{ShapeLegal, MeetsDataRule}
+use Rattle.journal_rules.specs.inside.Releases.{NoneLeft}
+use Rattle.journal_rules.proofs.CountLaws.{complete_is, left_of}
+use Rattle.journal_rules.proofs.Reaching.{each_below, at_below}
 use Rattle.run_frame.specs.declared.run.ValueRow.{ValueRow}
 use Rattle.run_frame.specs.declared.run.FrameRun.{FrameRun, FrameRun-F, roll-FrameRun, out-FrameRun, out-roll-FrameRun, FrameRun', rolls-FrameRun', Row_of-InnerRow, end_of-InnerRow, more_of-InnerRow, items-the_row-InnerRow, items_hidden-the_row-InnerRow-0}
 use Rattle.run_frame.specs.declared.run.InnerRow.{InnerRow, out-InnerRow}
-use Rattle.run_frame.specs.Legal.{Legal, LegalJournal, LegalRows, CompleteRun, IsKept}
+use Rattle.run_frame.specs.Legal.{Legal, LegalJournal, LegalRows, IsKept}
 use Rattle.run_frame.specs.Runs.{inner_in}
 use Rattle.run_frame.specs.Rows.{RowsFit, MayHaveInner, ends_from}
 use Rattle.run_frame.specs.WorkRule.{WorkRule}

@@ -1,31 +1,28 @@
 -- Handing out releases.
-use Rattle.std.proofs.Common.{◌≡◌, ◌≢◌, ◌⊎◌, inl, inr, ⊎_elim, ℕ, zero, suc, ◌+◌, ◌<◌, ◌≤◌, Bool, true, false, ◌&&◌, cond, eqb, min, fold, List, [], ◌∷◌, ◌++◌, length, map, take, get_or, Option, Some, None, refl, sym, ap, ◌∙◌, subst, arith}
-use Rattle.std.specs.Prelude.{count_by, slice_get, slice_index, IsTrue, IsSomeAnd, All, is_some, ◌==◌, if◌then◌else◌}
+use Rattle.std.proofs.Common.{◌≡◌, ◌≢◌, ◌⊎◌, inl, inr, ⊎_elim, ℕ, zero, suc, ◌+◌, ◌<◌, ◌≤◌, Bool, true, false, ◌&&◌, eqb, List, [], ◌∷◌, ◌++◌, length, map, get_or, Option, Some, None, refl, sym, ap, ◌∙◌, subst, arith}
+use Rattle.std.specs.Prelude.{slice_get, IsSomeAnd, ◌==◌}
 use Rattle.std.specs.Option.{option_map_or}
 use Rattle.std.proofs.lemmas.Bool.{cases_eq, false≢true}
 use Rattle.std.proofs.lemmas.Bool.Decides.{nat_tests}
-use Rattle.std.proofs.lemmas.List.{take_more, append_assoc}
+use Rattle.std.proofs.lemmas.List.{append_assoc}
 use Rattle.std.proofs.lemmas.List.Elements.{All-append}
-use Rattle.std.proofs.lemmas.List.Sums.{sum_by_push}
 use Rattle.task_graph.specs.NetRows.{NetRows}
-use Rattle.task_graph.specs.Net.{IsNet, IsSource, is_weak, is_weak_row, in_edges, strong_in}
+use Rattle.task_graph.specs.Net.{is_weak, strong_in}
 use Rattle.task_graph.specs.declared.net.EdgeRow.{EdgeRow}
 use Rattle.atomic_table.specs.Seated.{TableId}
-use Rattle.legal_run.specs.declared.entry.Cause.{Cause}
-use Rattle.legal_run.specs.declared.entry.Cause.TheVariants.{Source, Strong, Weak}
-use Rattle.legal_run.specs.declared.entry.Entry.{Entry}
-use Rattle.legal_run.specs.Counts.{given, first_tokens, used, is_source, is_strong, is_weak_at}
-use Rattle.legal_run.specs.Complete.{least}
-use Rattle.legal_run.proofs.Tallying.{and_true, and_false}
-use Rattle.legal_run.proofs.Snoc.{count_by_push}
-use Rattle.legal_run.proofs.NetLemmas.{at_place}
+use Rattle.journal_rules.specs.declared.entry.Cause.{Cause}
+use Rattle.journal_rules.specs.declared.entry.Cause.TheVariants.{Strong, Weak}
+use Rattle.journal_rules.specs.declared.entry.Entry.{Entry}
+use Rattle.journal_rules.specs.Counts.{given, used}
+use Rattle.journal_rules.specs.Complete.{least}
+use Rattle.journal_rules.proofs.Tallying.{and_true, and_false}
+use Rattle.journal_rules.proofs.Snoc.{count_by_push}
 use Rattle.tickets.specs.Books.{TicketState}
-use Rattle.run_frame.specs.Meaning.{IsCauseOf}
 use Rattle.run_frame.specs.declared.duty.Duty.{Duty}
-use Rattle.run_frame.specs.declared.duty.Duty.TheVariants.{Unused, Running}
-use Rattle.run_frame.specs.Duties.{is_unused, is_running, unused, running, as_source, as_strong, by_weak, outstanding_count, IsReleaseOf, AreReleasesOf}
-use Rattle.run_frame.specs.inside.UnderWay.{rounds, born, IsAccounted}
-use Rattle.run_frame.specs.inside.Handing.{target_of, IsReleaseIn, MayHand, Hands, IsHanded, is_weak_gift, HandsEdge, HandsEdges, AreIssued, FirstCause, FirstBelow}
+use Rattle.run_frame.specs.declared.duty.Duty.TheVariants.{Unused}
+use Rattle.run_frame.specs.Duties.{is_unused, is_running, unused, running, as_source, as_strong, by_weak, IsReleaseOf}
+use Rattle.run_frame.specs.inside.UnderWay.{rounds}
+use Rattle.run_frame.specs.inside.Handing.{target_of, IsReleaseIn, MayHand, IsHanded, is_weak_gift, HandsEdge, HandsEdges, AreIssued}
 use Rattle.run_frame.proofs.DutyLemmas.{one, get_push, count_pushed}
 
 -- where an edge leads

@@ -1,30 +1,27 @@
 -- What a step of one thread leaves of a run.
-use Rattle.std.proofs.Common.{◌≡◌, ◌≢◌, ◌⊎◌, ℕ, ◌+◌, ◌<◌, Bool, true, false, cond, List, [], ◌∷◌, ◌++◌, length, set, map, Option, Some, None, append-nil, refl, sym, ap, ◌∙◌, subst, arith, Ok, Err}
-use Rattle.std.specs.Prelude.{slice_get, is_some, IfOk, Result}
-use Rattle.std.specs.Option.{option_to_list}
+use Rattle.std.proofs.Common.{◌≡◌, ◌≢◌, ℕ, ◌+◌, cond, List, [], ◌∷◌, ◌++◌, length, set, Some, None, refl, sym, ap, ◌∙◌, subst, arith, Ok, Err}
+use Rattle.std.specs.Prelude.{IfOk, Result}
 use Rattle.std.proofs.lemmas.List.Elements.{All-push, All-pop}
 use Rattle.std.proofs.lemmas.List.{length_push}
 use Rattle.atomic_table.specs.Seated.{TableId}
 use Rattle.legal_run.specs.MachineState.{MachineState}
 use Rattle.legal_run.specs.Machine.{Appends}
-use Rattle.legal_run.specs.declared.entry.Cause.{Cause}
-use Rattle.legal_run.specs.declared.entry.Why.{Why}
-use Rattle.legal_run.specs.declared.entry.DropWhy.{DropWhy}
-use Rattle.legal_run.specs.declared.entry.DropWhy.TheVariants.{Halted, Limit}
-use Rattle.legal_run.specs.declared.entry.Entry.{Entry}
-use Rattle.legal_run.specs.declared.entry.Entry.TheVariants.{Start, End, Fault, Drop}
-use Rattle.legal_run.specs.Counts.{starts, is_start}
-use Rattle.legal_run.proofs.Snoc.{count_by_push}
+use Rattle.journal_rules.specs.declared.entry.Why.{Why}
+use Rattle.journal_rules.specs.declared.entry.DropWhy.{DropWhy}
+use Rattle.journal_rules.specs.declared.entry.DropWhy.TheVariants.{Halted, Limit}
+use Rattle.journal_rules.specs.declared.entry.Entry.{Entry}
+use Rattle.journal_rules.specs.declared.entry.Entry.TheVariants.{Fault, Drop}
+use Rattle.journal_rules.specs.Counts.{starts, is_start}
+use Rattle.journal_rules.proofs.Snoc.{count_by_push}
 use Rattle.tickets.specs.Books.{TicketState}
 use Rattle.run_frame.specs.Meaning.{Meaning}
 use Rattle.run_frame.specs.declared.job.Answer.{Answer}
 use Rattle.run_frame.specs.declared.duty.Duty.{Duty}
-use Rattle.run_frame.specs.declared.duty.Duty.TheVariants.{Unused, Running}
 use Rattle.run_frame.specs.declared.state.Started.{Started}
 use Rattle.run_frame.specs.declared.state.Started.TheVariants as started
 use Rattle.run_frame.specs.Duties.{IsReleaseOf, AreReleasesOf, outstanding_count}
 use Rattle.run_frame.specs.Frames.{FrameView, IsSameRun, IsOutstanding, items_after, StartDoes, StartsTask, DropsTask, EndsTask, FaultsTask, IsBegun, HasNoInner, IsStarted}
-use Rattle.run_frame.specs.inside.OneThread.{GoesOn, HoldsAll, HoldsAllBut, IsOpenStart, HasStartedNext, LeavesOne}
+use Rattle.run_frame.specs.inside.OneThread.{GoesOn, HoldsAll, HoldsAllBut, HasStartedNext, LeavesOne}
 use Rattle.run_frame.proofs.DutyLemmas.{count_issued}
 use Rattle.run_frame.proofs.CountedLemmas.{one_fewer}
 

@@ -1,38 +1,34 @@
 -- What holds of a journal holds after one entry more.
-use Rattle.std.proofs.Common.{◌≡◌, ◌≢◌, ◌⊎◌, inl, inr, ℕ, zero, suc, ◌+◌, ◌<◌, ◌≤◌, Bool, true, false, not, ◌&&◌, cond, eqb, List, [], ◌∷◌, ◌++◌, length, map, Option, Some, None, refl, sym, ap, ◌∙◌, subst, arith}
-use Rattle.std.specs.Prelude.{count_by, slice_get, is_some, IsTrue, ◌==◌, nat_lt, if◌then◌else◌}
+use Rattle.std.proofs.Common.{◌≡◌, ◌≢◌, ℕ, zero, suc, ◌+◌, ◌<◌, ◌≤◌, Bool, true, false, ◌&&◌, cond, eqb, List, [], ◌∷◌, ◌++◌, length, map, Option, Some, None, refl, sym, ap, ◌∙◌, subst, arith}
+use Rattle.std.specs.Prelude.{count_by, slice_get, is_some, ◌==◌, nat_lt, if◌then◌else◌}
 use Rattle.std.specs.List.{AllByRecursion}
 use Rattle.std.specs.Option.{option_and_then, option_map_or}
 use Rattle.std.specs.Arc.{arc_value}
 use Rattle.std.proofs.lemmas.Bool.{false≢true}
 use Rattle.std.proofs.lemmas.Bool.Decides.{nat_tests}
-use Rattle.std.proofs.lemmas.List.{length_push}
 use Rattle.task_graph.specs.NetRows.{NetRows}
 use Rattle.task_graph.specs.declared.net.EdgeRow.{EdgeRow}
 use Rattle.legal_run.specs.MachineState.{MachineState}
-use Rattle.legal_run.specs.declared.entry.Cause.{Cause}
-use Rattle.legal_run.specs.declared.entry.Part.{Part}
-use Rattle.legal_run.specs.declared.entry.Part.TheVariants.{From, First, Nothing}
-use Rattle.legal_run.specs.declared.entry.DropWhy.{DropWhy}
-use Rattle.legal_run.specs.declared.entry.DropWhy.TheVariants.{Halted, Limit, Stuck}
-use Rattle.legal_run.specs.declared.entry.Entry.{Entry}
-use Rattle.legal_run.specs.declared.entry.Entry.TheVariants.{Start, End, Fault, Drop}
-use Rattle.legal_run.specs.Entries.{EachAfter}
-use Rattle.legal_run.specs.Counts.{is_open, closes, started, start_at, is_start, starts, gives_edge}
-use Rattle.legal_run.specs.Complete.{is_limited}
-use Rattle.legal_run.specs.HaltLimitStuckRule.{is_stuck}
-use Rattle.legal_run.specs.ShapeLegal.{MayFollow}
-use Rattle.legal_run.specs.DataRule.{edges_of}
-use Rattle.legal_run.specs.Waiting.{waiting, waiting_parts, left_over, last_place, first_waiting, uses_edge}
-use Rattle.legal_run.proofs.Snoc.{count_by_push, EachAfter-push, slice_get_push_below, last_place_below}
-use Rattle.legal_run.proofs.Tallying.{count_by_push_no}
+use Rattle.journal_rules.specs.declared.entry.Cause.{Cause}
+use Rattle.journal_rules.specs.declared.entry.Part.{Part}
+use Rattle.journal_rules.specs.declared.entry.Part.TheVariants.{From, First, Nothing}
+use Rattle.journal_rules.specs.declared.entry.Entry.{Entry}
+use Rattle.journal_rules.specs.declared.entry.Entry.TheVariants.{Start, End, Fault, Drop}
+use Rattle.journal_rules.specs.Counts.{is_open, closes, started, is_start, starts, gives_edge}
+use Rattle.journal_rules.specs.Complete.{is_limited}
+use Rattle.journal_rules.specs.HaltLimitStuckRule.{is_stuck}
+use Rattle.journal_rules.specs.ShapeLegal.{MayFollow}
+use Rattle.journal_rules.specs.DataRule.{edges_of}
+use Rattle.journal_rules.specs.Waiting.{waiting, waiting_parts, left_over, last_place, first_waiting, uses_edge}
+use Rattle.journal_rules.proofs.Snoc.{count_by_push, EachAfter-push, slice_get_push_below, last_place_below}
+use Rattle.journal_rules.proofs.Tallying.{count_by_push_no}
 use native.Mathlib.Decide.{dec_le}
 use Rattle.join_words.specs.Ins.{first, nothing}
 use Rattle.run_frame.specs.declared.run.ValueRow.{ValueRow}
 use Rattle.run_frame.specs.Meaning.{Meaning}
 use Rattle.run_frame.specs.Rows.{ends_from}
-use Rattle.run_frame.specs.Runs.{value_at, found_at, found_ins}
-use Rattle.run_frame.specs.WorkRule.{Work, work_at, work_of}
+use Rattle.run_frame.specs.Runs.{value_at, found_ins}
+use Rattle.run_frame.specs.WorkRule.{work_at, work_of}
 use Rattle.run_frame.specs.inside.UnderWay.{ComeLater, IsLedBy}
 
 -- the places of the Ends

@@ -1,13 +1,13 @@
 -- A machine refuses an entry that may follow for want of memory alone.
-use Rattle.std.proofs.Common.{◌≡◌, ◌≢◌, ◌⊎◌, ℕ, ◌+◌, ◌<◌, ◌≤◌, List, refl, sym, arith}
+use Rattle.std.proofs.Common.{◌≡◌, refl}
 use Rattle.legal_run.specs.MachineState.{MachineState}
 use Rattle.legal_run.specs.Machine.{Refuses}
-use Rattle.legal_run.specs.declared.entry.Entry.{Entry}
+use Rattle.journal_rules.specs.declared.entry.Entry.{Entry}
 use Rattle.legal_run.specs.declared.verdict.Break.{Break}
 use Rattle.legal_run.specs.declared.machine_error.MachineError.{MachineError}
 use Rattle.legal_run.specs.declared.machine_error.MachineError.TheVariants.{NoSuch, AfterStuck, NotReleased, NoUnit, AtLimit, NotOpen, NotChosen, NothingOut, NotOver, NotHalted, NotStuck, NoMemory}
 use Rattle.legal_run.specs.Refusal.{IsRefusal}
-use Rattle.legal_run.proofs.Reaching.{reached_legal}
+use Rattle.journal_rules.proofs.Reaching.{reached_legal}
 use Rattle.legal_run.proofs.Refusing.{breaks_nothing}
 use Rattle.run_frame.specs.inside.Steps.{CanTake}
 

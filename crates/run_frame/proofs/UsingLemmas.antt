@@ -1,42 +1,40 @@
 -- A release that is used: its start or its drop keeps what holds of a run.
-use Rattle.std.proofs.Common.{◌≡◌, ◌≢◌, ◌⊎◌, inl, inr, ⊎_elim, ℕ, zero, suc, ◌+◌, ◌<◌, ◌≤◌, Bool, true, false, not, ◌&&◌, cond, eqb, List, [], ◌∷◌, ◌++◌, length, map, set, get_or, Option, Some, None, refl, sym, ap, ◌∙◌, subst, arith}
-use Rattle.std.specs.Prelude.{count_by, slice_get, is_some, IsTrue, IsSomeAnd, All, ◌==◌, if◌then◌else◌}
+use Rattle.std.proofs.Common.{◌≡◌, ◌≢◌, ◌⊎◌, inl, inr, ⊎_elim, ℕ, suc, ◌+◌, ◌<◌, ◌≤◌, Bool, true, false, ◌&&◌, cond, eqb, List, [], ◌∷◌, ◌++◌, length, map, set, Option, Some, None, refl, sym, ap, ◌∙◌, subst, arith}
+use Rattle.std.specs.Prelude.{count_by, slice_get, is_some, IsTrue, IsSomeAnd, ◌==◌}
 use Rattle.std.specs.List.{AllByRecursion, list_any}
 use Rattle.std.specs.Option.{option_map_or}
-use Rattle.std.specs.Arc.{arc_value}
 use Rattle.std.proofs.lemmas.Bool.{cases_eq, false≢true}
 use Rattle.std.proofs.lemmas.Bool.Decides.{nat_tests}
 use Rattle.std.proofs.lemmas.List.{length_push, length-map}
 use native.Mathlib.Decide.{dec_le}
 use Rattle.std.proofs.lemmas.List.Sums.{sum_by-cons}
 use Rattle.task_graph.specs.NetRows.{NetRows}
-use Rattle.task_graph.specs.Net.{IsNet, IsSource, is_weak, in_edges, strong_in}
+use Rattle.task_graph.specs.Net.{in_edges, strong_in}
 use Rattle.task_graph.specs.declared.net.EdgeRow.{EdgeRow}
 use Rattle.task_graph.specs.declared.net.TaskRow.{TaskRow}
 use Rattle.legal_run.specs.MachineState.{MachineState}
-use Rattle.legal_run.specs.Machine.{Starts, Drops, start_entry}
-use Rattle.legal_run.specs.declared.entry.Cause.{Cause}
-use Rattle.legal_run.specs.declared.entry.Cause.TheVariants.{Source, Strong, Weak}
-use Rattle.legal_run.specs.declared.entry.Part.{Part}
-use Rattle.legal_run.specs.declared.entry.DropWhy.{DropWhy}
-use Rattle.legal_run.specs.declared.entry.DropWhy.TheVariants.{Halted, Limit, Stuck}
-use Rattle.legal_run.specs.declared.entry.Entry.{Entry}
-use Rattle.legal_run.specs.declared.entry.Entry.TheVariants.{Start, End, Fault, Drop}
-use Rattle.legal_run.specs.Entries.{EachAfter}
-use Rattle.legal_run.specs.Counts.{given, gives_edge, used, used_source, used_weak, uses, uses_any, is_source, is_strong, is_weak_at, is_open, closes, started, start_at, starts, faults}
-use Rattle.legal_run.specs.Complete.{least, is_limited, is_limit_why}
-use Rattle.legal_run.specs.ReleaseRule.{IsReleased}
-use Rattle.legal_run.specs.SemaphoreRule.{takes, puts, taken, back, gives_back, IsWithin, SemaphoreRule, FaultRule}
-use Rattle.legal_run.specs.HaltLimitStuckRule.{is_stuck, is_stuck_why}
-use Rattle.legal_run.specs.ShapeLegal.{CauseInRange, MayFollow}
-use Rattle.legal_run.specs.DataRule.{edges_of}
-use Rattle.legal_run.specs.Waiting.{waiting, waiting_parts}
-use Rattle.legal_run.specs.inside.Releases.{IsUseOf}
-use Rattle.legal_run.proofs.Snoc.{count_by_push, EachAfter-push, is_open_push_below, slice_get_push_last, start_at_push_last}
-use Rattle.legal_run.proofs.Tallying.{given_push, and_true}
-use Rattle.legal_run.proofs.NetLemmas.{at_place, map_agree}
-use Rattle.legal_run.proofs.Reaching.{each_below}
-use Rattle.legal_run.proofs.ReleaseLaws.{below_least, start_use, drop_use}
+use Rattle.legal_run.specs.Machine.{Drops}
+use Rattle.journal_rules.specs.declared.entry.Cause.{Cause}
+use Rattle.journal_rules.specs.declared.entry.Cause.TheVariants.{Source, Strong, Weak}
+use Rattle.journal_rules.specs.declared.entry.Part.{Part}
+use Rattle.journal_rules.specs.declared.entry.DropWhy.{DropWhy}
+use Rattle.journal_rules.specs.declared.entry.DropWhy.TheVariants.{Halted, Limit}
+use Rattle.journal_rules.specs.declared.entry.Entry.{Entry}
+use Rattle.journal_rules.specs.declared.entry.Entry.TheVariants.{Start, End, Fault, Drop}
+use Rattle.journal_rules.specs.Counts.{given, gives_edge, used, used_source, used_weak, uses, uses_any, is_source, is_strong, is_weak_at, is_open, closes, started, start_at, starts}
+use Rattle.journal_rules.specs.Complete.{least, is_limit_why}
+use Rattle.journal_rules.specs.ReleaseRule.{IsReleased}
+use Rattle.journal_rules.specs.SemaphoreRule.{takes, puts, taken, back, gives_back, UnitsInBounds, SemaphoreRule, UnitFaultRule}
+use Rattle.journal_rules.specs.HaltLimitStuckRule.{is_stuck_why}
+use Rattle.journal_rules.specs.ShapeLegal.{CauseInRange, MayFollow}
+use Rattle.journal_rules.specs.DataRule.{edges_of}
+use Rattle.journal_rules.specs.Waiting.{waiting, waiting_parts}
+use Rattle.journal_rules.specs.inside.Releases.{IsUseOf}
+use Rattle.journal_rules.proofs.Snoc.{count_by_push, EachAfter-push, is_open_push_below, slice_get_push_last, start_at_push_last}
+use Rattle.journal_rules.proofs.Tallying.{given_push, and_true}
+use Rattle.journal_rules.proofs.NetLemmas.{at_place, map_agree}
+use Rattle.journal_rules.proofs.Reaching.{each_below}
+use Rattle.journal_rules.proofs.ReleaseLaws.{below_least, start_use, drop_use}
 use Rattle.join_words.specs.Ins.{found_of, parts_of}
 use Rattle.join_words.specs.declared.ins.Ins.{Ins}
 use Rattle.run_frame.specs.declared.run.ValueRow.{ValueRow}
@@ -44,13 +42,13 @@ use Rattle.run_frame.specs.Meaning.{Meaning, IsCauseOf, IsRelease}
 use Rattle.run_frame.specs.FlatNets.{IsFlatTask, IsFlatNet}
 use Rattle.run_frame.specs.Rows.{ends_from}
 use Rattle.run_frame.specs.Runs.{found_at, found_ins}
-use Rattle.run_frame.specs.WorkRule.{WorkRule, Work, work_at, work_of}
+use Rattle.run_frame.specs.WorkRule.{WorkRule, work_of}
 use Rattle.run_frame.specs.NestedRule.{NestedRule}
 use Rattle.run_frame.specs.Frames.{IsStarted}
 use Rattle.run_frame.specs.declared.duty.Duty.{Duty}
 use Rattle.run_frame.specs.declared.duty.Duty.TheVariants.{Unused, Running}
 use Rattle.run_frame.specs.Duties.{is_unused, is_running, unused, running, as_source, as_strong, by_weak}
-use Rattle.run_frame.specs.inside.UnderWay.{ComeLater, none_inner, born, rounds, FoundAt, DutyFits, DutiesFit, IsLedBy, IsWorked, IsAccounted, IsUnderWay}
+use Rattle.run_frame.specs.inside.UnderWay.{none_inner, born, rounds, FoundAt, DutyFits, IsWorked, IsAccounted, IsUnderWay}
 use Rattle.run_frame.specs.inside.Steps.{CanTake, CanUse, HasStarted}
 use Rattle.run_frame.proofs.DutyLemmas.{one, get_push, get_cleared, count_cleared, count_has, count_pushed}
 use Rattle.run_frame.proofs.PushLemmas.{ends_same, open_past, open_stands, work_still, later_still, waiting_before, found_more, slice_get_past, led_push}
@@ -74,7 +72,7 @@ none_of p none (x ∷ xs) =
     let r = none_of p none xs in
     omega arith
 
-pub flat_within : (net : NetRows) (h : List Entry) (s : ℕ) → IsFlatNet net → IsWithin net h s
+pub flat_within : (net : NetRows) (h : List Entry) (s : ℕ) → IsFlatNet net → UnitsInBounds net h s
 flat_within net h s flat =
     let a : taken net s h ≡ 0 = none_of (λ entry. option_map_or (takes net s) (started entry) false) taken_none h in
     let b : back net s h ≡ 0 = none_of (gives_back net s h) back_none h in
@@ -93,8 +91,8 @@ flat_within net h s flat =
     back_none (Fault p w) = refl
     back_none (Drop t c w) = refl
 
-pub flat_semaphores : (net : NetRows) (h : List Entry) (x : Entry) → IsFlatNet net → FaultRule net h x → SemaphoreRule net h x
-flat_semaphores net h x flat over = record { within = each_below (IsWithin net (h ++ x ∷ [])) (length net.sems) (λ s below. flat_within net (h ++ x ∷ []) s flat); over = over }
+pub flat_semaphores : (net : NetRows) (h : List Entry) (x : Entry) → IsFlatNet net → UnitFaultRule net h x → SemaphoreRule net h x
+flat_semaphores net h x flat over = record { within = each_below (UnitsInBounds net (h ++ x ∷ [])) (length net.sems) (λ s below. flat_within net (h ++ x ∷ []) s flat); over = over }
 
 -- what was given stays, where an entry gives nothing
 pub given_same : (net : NetRows) (h : List Entry) (x : Entry) → ((e : ℕ) → gives_edge e x ≡ false) → (e : ℕ) → given net e (h ++ x ∷ []) ≡ given net e h

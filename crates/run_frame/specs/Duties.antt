@@ -1,8 +1,8 @@
 -- What is outstanding in a run, counted.
 use Rattle.std.specs.Prelude.{◌≡◌, ℕ, Bool, false, ◌&&◌, ◌==◌, List, All, Option, Some, None, is_some, count_by}
 use Rattle.atomic_table.specs.Seated.{TableId}
-use Rattle.legal_run.specs.declared.entry.Cause.{Cause}
-use Rattle.legal_run.specs.Counts.{is_source, is_strong, is_weak_at}
+use Rattle.journal_rules.specs.declared.entry.Cause.{Cause}
+use Rattle.journal_rules.specs.Counts.{is_source, is_strong, is_weak_at}
 use Rattle.tickets.specs.Books.{TicketState}
 use Rattle.run_frame.specs.declared.duty.Duty.{Duty}
 use Rattle.run_frame.specs.declared.duty.Duty.TheVariants.{Unused, Running}

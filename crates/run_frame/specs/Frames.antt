@@ -5,14 +5,14 @@ use Rattle.task_graph.specs.NetRows.{NetRows}
 use Rattle.task_graph.specs.Net.{out_edges}
 use Rattle.legal_run.specs.MachineState.{MachineState}
 use Rattle.legal_run.specs.Machine.{Starts, Ends, Faults, Drops}
-use Rattle.legal_run.specs.declared.entry.Cause.{Cause}
-use Rattle.legal_run.specs.declared.entry.Why.{Why}
-use Rattle.legal_run.specs.declared.entry.DropWhy.{DropWhy}
-use Rattle.legal_run.specs.declared.entry.DropWhy.TheVariants.{Halted, Limit}
-use Rattle.legal_run.specs.Counts.{starts, faults}
+use Rattle.journal_rules.specs.declared.entry.Cause.{Cause}
+use Rattle.journal_rules.specs.declared.entry.Why.{Why}
+use Rattle.journal_rules.specs.declared.entry.DropWhy.{DropWhy}
+use Rattle.journal_rules.specs.declared.entry.DropWhy.TheVariants.{Halted, Limit}
+use Rattle.journal_rules.specs.Counts.{starts, faults}
 use Rattle.join_words.specs.Ins.{found_of, parts_of}
 use Rattle.join_words.specs.declared.ins.Ins.{Ins}
-use Rattle.tickets.specs.Books.{TicketState, ticket_state}
+use Rattle.tickets.specs.Books.{TicketState}
 use Rattle.run_frame.specs.Meaning.{Meaning, IsRelease}
 use Rattle.run_frame.specs.WorkRule.{gives_of}
 use Rattle.run_frame.specs.declared.job.Answer.{Answer}

@@ -1,8 +1,8 @@
 // The state of a run: what starts, ends, faults and drops.
 ghost use Rattle.std.specs.Prelude.{◌≡◌, ◌↔◌, ◌≤◌, ◌<◌, ◌++◌, ◌∷◌, [], ℕ, length, map, IfOk, IfErr, OnOk, OnErr, IsOk, false};
 ghost use Rattle.std.specs.Arc.{arc_value};
-ghost use Rattle.legal_run.specs.Complete.{Complete};
-ghost use Rattle.legal_run.specs.ShapeLegal.{ShapeLegal, MeetsDataRule};
+ghost use Rattle.journal_rules.specs.Complete.{Complete};
+ghost use Rattle.journal_rules.specs.ShapeLegal.{ShapeLegal, MeetsDataRule};
 ghost use Rattle.run_frame.specs.Legal.{IsKept};
 ghost use Rattle.run_frame.specs.NestedRule.{job_of, journal_of};
 ghost use Rattle.run_frame.specs.FlatNets.{IsFlatNet};

@@ -2,8 +2,8 @@
 ghost use Rattle.std.specs.Prelude.{◌≡◌, ◌<◌, ℕ, false, List, length, map, IfOk, OnErr, IsTrue};
 ghost use Rattle.std.specs.List.{AllByRecursion};
 ghost use Rattle.std.specs.Arc.{arc_value};
-ghost use Rattle.legal_run.specs.declared.entry.Entry.TheVariants.{Start, End, Fault, Drop};
-ghost use Rattle.legal_run.specs.declared.entry.Part.{Part};
+ghost use Rattle.journal_rules.specs.declared.entry.Entry.TheVariants.{Start, End, Fault, Drop};
+ghost use Rattle.journal_rules.specs.declared.entry.Part.{Part};
 ghost use Rattle.legal_run.specs.Machine.{Ends, Faults, Drops};
 ghost use Rattle.run_frame.specs.declared.run.ValueRow.{ValueRow};
 ghost use Rattle.run_frame.specs.inside.KeptValues.{HasRow};

@@ -1,6 +1,6 @@
 -- A run by one thread, which holds all releases between two steps.
-use Rattle.std.specs.Prelude.{◌≡◌, ℕ, ◌+◌, ◌<◌, List, [], length, Option, Some, None}
-use Rattle.legal_run.specs.Counts.{starts}
+use Rattle.std.specs.Prelude.{◌≡◌, ℕ, ◌+◌, ◌<◌, List, length, Option, Some, None}
+use Rattle.journal_rules.specs.Counts.{starts}
 use Rattle.tickets.specs.Books.{TicketState}
 use Rattle.run_frame.specs.Meaning.{Meaning}
 use Rattle.run_frame.specs.declared.duty.Duty.{Duty}

@@ -1,16 +1,16 @@
 -- What the parts of a step do.
-use Rattle.std.specs.Prelude.{◌≡◌, ℕ, ◌<◌, ◌≤◌, false, List, length, map, IsTrue}
+use Rattle.std.specs.Prelude.{◌≡◌, ℕ, ◌<◌, ◌≤◌, false, List, map, IsTrue}
 use Rattle.task_graph.specs.Net.{IsNet}
 use Rattle.legal_run.specs.MachineState.{MachineState}
 use Rattle.legal_run.specs.Machine.{Starts, Ends, Drops}
-use Rattle.legal_run.specs.declared.entry.Cause.{Cause}
-use Rattle.legal_run.specs.declared.entry.Part.{Part}
-use Rattle.legal_run.specs.declared.entry.DropWhy.TheVariants.{Halted, Limit}
-use Rattle.legal_run.specs.declared.entry.Entry.{Entry}
-use Rattle.legal_run.specs.declared.entry.Entry.TheVariants.{Start, End, Fault, Drop}
-use Rattle.legal_run.specs.Counts.{starts, faults, is_open}
-use Rattle.legal_run.specs.ShapeLegal.{ShapeLegal, MayFollow}
-use Rattle.legal_run.specs.Waiting.{waiting_parts}
+use Rattle.journal_rules.specs.declared.entry.Cause.{Cause}
+use Rattle.journal_rules.specs.declared.entry.Part.{Part}
+use Rattle.journal_rules.specs.declared.entry.DropWhy.TheVariants.{Halted, Limit}
+use Rattle.journal_rules.specs.declared.entry.Entry.{Entry}
+use Rattle.journal_rules.specs.declared.entry.Entry.TheVariants.{Start, Drop}
+use Rattle.journal_rules.specs.Counts.{starts, faults, is_open}
+use Rattle.journal_rules.specs.ShapeLegal.{ShapeLegal, MayFollow}
+use Rattle.journal_rules.specs.Waiting.{waiting_parts}
 use Rattle.join_words.specs.Ins.{found_of, parts_of}
 use Rattle.join_words.specs.declared.ins.Ins.{Ins}
 use Rattle.tickets.specs.Books.{TicketState}

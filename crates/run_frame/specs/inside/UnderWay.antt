@@ -4,12 +4,12 @@ use Rattle.std.specs.List.{AllByRecursion}
 use Rattle.task_graph.specs.NetRows.{NetRows}
 use Rattle.task_graph.specs.Net.{IsNet, in_edges, strong_in, is_weak}
 use Rattle.legal_run.specs.MachineState.{MachineState}
-use Rattle.legal_run.specs.declared.entry.Entry.{Entry}
-use Rattle.legal_run.specs.Entries.{EachAfter}
-use Rattle.legal_run.specs.Counts.{given, used, used_source, used_weak, is_open, starts}
-use Rattle.legal_run.specs.Complete.{least, is_limited}
-use Rattle.legal_run.specs.ShapeLegal.{ShapeLegal}
-use Rattle.legal_run.specs.HaltLimitStuckRule.{is_stuck}
+use Rattle.journal_rules.specs.declared.entry.Entry.{Entry}
+use Rattle.journal_rules.specs.Entries.{EachAfter}
+use Rattle.journal_rules.specs.Counts.{given, used, used_source, used_weak, is_open, starts}
+use Rattle.journal_rules.specs.Complete.{least, is_limited}
+use Rattle.journal_rules.specs.ShapeLegal.{ShapeLegal}
+use Rattle.journal_rules.specs.HaltLimitStuckRule.{is_stuck}
 use Rattle.join_words.specs.Ins.{found_of, parts_of}
 use Rattle.join_words.specs.declared.ins.Ins.{Ins}
 use Rattle.run_frame.specs.declared.run.ValueRow.{ValueRow}
@@ -17,7 +17,6 @@ use Rattle.run_frame.specs.declared.run.FrameRun.{FrameRun}
 use Rattle.run_frame.specs.FlatNets.{IsFlatNet}
 use Rattle.run_frame.specs.Meaning.{Meaning, IsCauseOf}
 use Rattle.run_frame.specs.Rows.{ends_from}
-use Rattle.run_frame.specs.Runs.{value_at}
 use Rattle.run_frame.specs.WorkRule.{WorkRule, work_at}
 use Rattle.run_frame.specs.NestedRule.{NestedRule}
 use Rattle.run_frame.specs.declared.duty.Duty.{Duty}

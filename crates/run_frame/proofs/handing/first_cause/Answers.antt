@@ -1,11 +1,10 @@
-use Rattle.std.proofs.Common.{◌≡◌, ◌≢◌, ◌∙◌, ◌<◌, ◌≤◌, ◌-◌, [], sym, ap, map, arith, rules}
+use Rattle.std.proofs.Common.{◌≡◌, ◌∙◌, ◌-◌, [], sym, ap, map, arith, rules}
 use Rattle.std.proofs.lemmas.Bool.{false≢true}
 use Rattle.task_graph.specs.NetRows.{NetRows}
-use Rattle.task_graph.specs.Net.{IsSource, in_edges, strong_in}
-use Rattle.legal_run.specs.declared.entry.Entry.{Entry}
-use Rattle.legal_run.specs.Counts.{given, used}
-use Rattle.legal_run.specs.Complete.{least}
-use Rattle.run_frame.specs.inside.UnderWay.{rounds, born}
+use Rattle.task_graph.specs.Net.{IsSource, in_edges}
+use Rattle.journal_rules.specs.Counts.{given, used}
+use Rattle.journal_rules.specs.Complete.{least}
+use Rattle.run_frame.specs.inside.UnderWay.{rounds}
 use Rattle.run_frame.proofs.BeginningLemmas.{source_rounds, unborn, one_round}
 use Rattle.run_frame.proofs.handing.first_cause.Goals as goal
 

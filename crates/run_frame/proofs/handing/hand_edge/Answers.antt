@@ -1,13 +1,12 @@
-use Rattle.std.proofs.Common.{◌≡◌, ◌∙◌, ◌+◌, ◌-◌, ◌<◌, ◌++◌, ◌∷◌, [], length, List, Option, Some, sym, ap, subst, arith}
+use Rattle.std.proofs.Common.{◌≡◌, ◌∙◌, ◌+◌, ◌-◌, ◌<◌, ◌++◌, ◌∷◌, [], length, Some, sym, ap, subst, arith}
 use Rattle.task_graph.specs.NetRows.{NetRows}
-use Rattle.legal_run.specs.declared.entry.Cause.TheVariants.{Strong, Weak}
-use Rattle.legal_run.specs.Counts.{used}
-use Rattle.run_frame.specs.declared.duty.Duty.{Duty}
+use Rattle.journal_rules.specs.declared.entry.Cause.TheVariants.{Strong, Weak}
+use Rattle.journal_rules.specs.Counts.{used}
 use Rattle.run_frame.specs.declared.duty.Duty.TheVariants.{Unused}
 use Rattle.run_frame.specs.Duties.{unused, as_strong}
 use Rattle.run_frame.specs.inside.Outstanding.{OutstandingState}
 use Rattle.run_frame.specs.inside.UnderWay.{rounds}
-use Rattle.run_frame.specs.inside.Handing.{HandsEdge, target_of}
+use Rattle.run_frame.specs.inside.Handing.{HandsEdge}
 use Rattle.run_frame.proofs.HandingLemmas.{handed_weak, handed_strong}
 use Rattle.run_frame.proofs.handing.hand_edge.Goals as goal
 

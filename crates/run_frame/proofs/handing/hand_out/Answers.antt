@@ -1,10 +1,8 @@
-use Rattle.std.proofs.Common.{◌≡◌, ◌∙◌, ◌+◌, ◌<◌, ◌≤◌, ◌++◌, ◌∷◌, [], length, take, get_or, List, Option, sym, ap, subst, arith}
+use Rattle.std.proofs.Common.{◌≡◌, ◌∙◌, take, get_or, sym, ap, subst, arith}
 use Rattle.std.proofs.lemmas.List.{take_more}
-use Rattle.tickets.specs.Books.{TicketState}
 use Rattle.atomic_table.specs.Seated.{TableId}
-use Rattle.run_frame.specs.declared.duty.Duty.{Duty}
 use Rattle.run_frame.specs.inside.Outstanding.{OutstandingState}
-use Rattle.run_frame.specs.inside.Handing.{HandsEdges, AreIssued}
+use Rattle.run_frame.specs.inside.Handing.{AreIssued}
 use Rattle.run_frame.proofs.HandingLemmas.{hands_more}
 use Rattle.run_frame.proofs.handing.hand_out.Goals as goal
 

@@ -1,4 +1,4 @@
-use Rattle.std.proofs.Common.{◌≡◌, ◌+◌, ◌<◌, ◌≤◌, length, take}
+use Rattle.std.proofs.Common.{◌≡◌, ◌+◌, ◌≤◌, length, take}
 use Rattle.std.specs.Vec.{vec_capacity, vec_len}
 use Rattle.run_frame.specs.Duties.{outstanding_count}
 use Rattle.run_frame.specs.inside.Handing.{HandsEdges, AreIssued}

@@ -1,5 +1,4 @@
-use Rattle.std.proofs.Common.{◌≡◌, ◌∙◌, refl, ◌<◌, ◌≤◌, ◌+◌, ◌++◌, ◌∷◌, [], sym, ap, subst, length, get_or, ℕ, arith, rules}
-use Rattle.run_frame.specs.inside.KeptValues.{IsIndexOf}
+use Rattle.std.proofs.Common.{◌≡◌, refl, length, arith}
 use Rattle.run_frame.proofs.ValueLemmas.{index_resized, index_last}
 use Rattle.run_frame.proofs.kept_values.index_up_to.Goals as goal
 

@@ -1,4 +1,3 @@
-use Rattle.std.proofs.Common.{sym, subst}
 use Rattle.run_frame.proofs.OneThreadLemmas.{leaves_fault}
 use Rattle.run_frame.proofs.one_thread.record_fault.Goals as goal
 

@@ -1,7 +1,7 @@
-use Rattle.std.proofs.Common.{◌≡◌, ◌∙◌, sym, subst, ap, arith}
+use Rattle.std.proofs.Common.{◌≡◌, ◌∙◌, sym, ap, arith}
 use Rattle.std.specs.Arc.{arc_value}
 use Rattle.legal_run.specs.MachineState.{MachineState}
-use Rattle.legal_run.specs.Counts.{starts}
+use Rattle.journal_rules.specs.Counts.{starts}
 use Rattle.run_frame.proofs.OneThreadLemmas.{holds_begun}
 use Rattle.run_frame.proofs.one_thread.run_alone.Goals as goal
 

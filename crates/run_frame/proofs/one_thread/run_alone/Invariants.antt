@@ -1,6 +1,6 @@
 use Rattle.std.proofs.Common.{◌≡◌, ◌≤◌}
 use Rattle.std.specs.Arc.{arc_value}
-use Rattle.legal_run.specs.Counts.{starts}
+use Rattle.journal_rules.specs.Counts.{starts}
 use Rattle.run_frame.specs.inside.OneThread.{HoldsAll}
 use Rattle.run_frame.proofs.one_thread.run_alone.Given as goal
 

@@ -1,7 +1,6 @@
 use Rattle.std.proofs.Common.{subst}
 use Rattle.run_frame.specs.Frames.{StartDoes}
 use Rattle.run_frame.specs.declared.state.Started.{Started}
-use Rattle.run_frame.specs.declared.state.Started.TheVariants.{Running}
 use Rattle.run_frame.proofs.OneThreadLemmas.{has_started, holds_dropped, leaves_not_started}
 use Rattle.run_frame.proofs.one_thread.start_next.Goals as goal
 

@@ -1,4 +1,3 @@
-use Rattle.std.proofs.Common.{◌≡◌, sym, subst}
 use Rattle.std.proofs.lemmas.Result.{IfOk-weaker}
 use Rattle.run_frame.proofs.OneThreadLemmas.{holds_ended, goes_ended, if_both}
 use Rattle.run_frame.proofs.one_thread.work.Goals as goal

@@ -1,9 +1,4 @@
-use Rattle.std.proofs.Common.{refl}
 use Rattle.run_frame.proofs.RefusedLemmas.{refused_memory}
-use Rattle.run_frame.proofs.PushLemmas.{led_push}
-use Rattle.run_frame.proofs.EndingLemmas.{after_end}
-use Rattle.run_frame.proofs.UsingLemmas.{can_use}
-use Rattle.run_frame.proofs.ChosenLemmas.{choice_fits}
 use Rattle.run_frame.proofs.steps.end_task.Goals as goal
 
 pub only_memory-requires : goal.only_memory-requires

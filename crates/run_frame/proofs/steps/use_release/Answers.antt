@@ -1,5 +1,5 @@
-use Rattle.std.proofs.Common.{◌<◌, arith, rules}
-use Rattle.legal_run.specs.Counts.{starts}
+use Rattle.std.proofs.Common.{◌<◌, rules}
+use Rattle.journal_rules.specs.Counts.{starts}
 use Rattle.run_frame.proofs.steps.use_release.Goals as goal
 
 pub start_task-requires : goal.start_task-requires

@@ -1,4 +1,4 @@
-use Rattle.std.proofs.Common.{◌≡◌, ◌≤◌, ◌∙◌, sym, ap, length, arith, rules}
+use Rattle.std.proofs.Common.{◌≤◌, ◌∙◌, sym, ap, length, rules}
 use Rattle.run_frame.specs.Runs.{value_at}
 use Rattle.run_frame.proofs.ValueLemmas.{value_none}
 use Rattle.run_frame.proofs.kept_values.KeptValues.get.Goals as goal

@@ -1,4 +1,4 @@
-use Rattle.std.proofs.Common.{◌≡◌, ◌∙◌, ◌-◌, sym, subst, ap, List, [], ◌∷◌, ◌++◌, length, take, append-nil, Option, Some, None, arith}
+use Rattle.std.proofs.Common.{◌∙◌, ◌-◌, subst, ap, [], ◌∷◌, ◌++◌, length, take, append-nil, Option, Some, None, arith}
 use Rattle.std.specs.Option.{option_to_list}
 use Rattle.std.proofs.Math.Seq.{take-append_seam}
 use Rattle.std.proofs.lemmas.List.{length_push}

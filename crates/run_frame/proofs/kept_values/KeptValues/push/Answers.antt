@@ -1,8 +1,7 @@
-use Rattle.std.proofs.Common.{◌≡◌, ◌<◌, ◌∙◌, sym, subst, ap, refl, List, [], ◌∷◌, ◌++◌}
+use Rattle.std.proofs.Common.{◌<◌, ◌∙◌, sym, subst, ap, refl, List, [], ◌∷◌, ◌++◌}
 use Rattle.std.specs.List.{AllByRecursion}
-use Rattle.std.specs.Arc.{arc_value}
 use Rattle.run_frame.specs.declared.run.ValueRow.{ValueRow}
-use Rattle.run_frame.specs.inside.KeptValues.{IsIndexOf, HasNext, HasRow}
+use Rattle.run_frame.specs.inside.KeptValues.{IsIndexOf, HasNext}
 use Rattle.run_frame.proofs.ValueLemmas.{index_push}
 use Rattle.run_frame.proofs.kept_values.KeptValues.push.Goals.{in-Ok, in-Err}
 use Rattle.run_frame.proofs.kept_values.KeptValues.push.Goals as goal

@@ -1,4 +1,4 @@
-use Rattle.std.proofs.Common.{◌≡◌, ◌∙◌, ◌+◌, ◌<◌, ◌++◌, ◌∷◌, [], length, List, Option, Some, sym, ap, subst}
+use Rattle.std.proofs.Common.{◌+◌, ◌<◌, List, Option, sym, ap, subst}
 use Rattle.tickets.specs.Books.{BookState}
 use Rattle.run_frame.specs.declared.duty.Duty.{Duty}
 use Rattle.run_frame.specs.Duties.{outstanding_count}

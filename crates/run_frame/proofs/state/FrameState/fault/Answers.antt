@@ -1,29 +1,14 @@
-use Rattle.std.proofs.Common.{◌≡◌, ◌∙◌, ◌+◌, ◌<◌, ◌++◌, ◌∷◌, [], ap, sym, subst, refl, inl, inr, set, length, map, List, Option, Some, None, append-nil, rules}
+use Rattle.std.proofs.Common.{◌≡◌, ◌∙◌, ◌<◌, ◌++◌, ◌∷◌, [], ap, sym, subst, set, length, Some, None, append-nil}
 use Rattle.std.specs.Arc.{arc_value}
 use Rattle.std.specs.Prelude.{slice_get}
-use Rattle.std.specs.List.{AllByRecursion}
-use Rattle.task_graph.specs.NetRows.{NetRows}
-use Rattle.task_graph.specs.Net.{out_edges}
 use Rattle.legal_run.specs.MachineState.{MachineState}
-use Rattle.legal_run.specs.declared.entry.Entry.TheVariants.{End}
-use Rattle.join_words.specs.Ins.{found_of, parts_of}
-use Rattle.tickets.specs.Books.{TicketState}
-use Rattle.run_frame.specs.declared.run.ValueRow.{ValueRow}
 use Rattle.run_frame.specs.declared.duty.Duty.{Duty}
-use Rattle.run_frame.specs.declared.duty.Duty.TheVariants.{Unused, Running}
-use Rattle.run_frame.specs.declared.job.Answer.{Answer}
-use Rattle.run_frame.specs.declared.job.Answer.TheVariants.{All as AllOf, None as NoneOf, Indices}
-use Rattle.run_frame.specs.declared.job.Done.TheVariants.{Value}
-use Rattle.run_frame.specs.WorkRule.{Answers, gives_of}
-use Rattle.run_frame.specs.FlatNets.{IsFlatNet}
-use Rattle.run_frame.specs.Frames.{FrameView, MayEndWith, MayFaultWith, EndsTask, IsStarted, HasNoInner}
+use Rattle.run_frame.specs.declared.duty.Duty.TheVariants.{Running}
+use Rattle.run_frame.specs.Frames.{FrameView, MayFaultWith}
 use Rattle.run_frame.specs.inside.Outstanding.{OutstandingState}
 use Rattle.run_frame.specs.inside.UnderWay.{IsUnderWay}
-use Rattle.run_frame.specs.inside.Handing.{MayHand, HandsEdges}
-use Rattle.run_frame.specs.inside.Steps.{CanTake, MayGive, GivesEdges}
-use Rattle.run_frame.proofs.PushLemmas.{rows_below}
-use Rattle.run_frame.proofs.UsingLemmas.{can_use, reissued, after_start, after_drop, is_started}
-use Rattle.run_frame.proofs.EndingLemmas.{may_end, may_hand, after_end, may_fault, after_fault}
+use Rattle.run_frame.proofs.UsingLemmas.{reissued}
+use Rattle.run_frame.proofs.EndingLemmas.{may_fault, after_fault}
 use Rattle.run_frame.proofs.state.FrameState.fault.Goals as goal
 
 pub fault_task-requires : goal.fault_task-requires

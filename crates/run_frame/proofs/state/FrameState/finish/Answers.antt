@@ -1,7 +1,7 @@
-use Rattle.std.proofs.Common.{◌≡◌, List, sym, subst, refl, ap, ◌∙◌}
+use Rattle.std.proofs.Common.{List, sym, subst, refl, ◌∙◌}
 use Rattle.std.proofs.lemmas.Bool.{false≢true}
 use Rattle.std.specs.Arc.{arc_value}
-use Rattle.legal_run.specs.declared.entry.Entry.{Entry}
+use Rattle.journal_rules.specs.declared.entry.Entry.{Entry}
 use Rattle.run_frame.specs.declared.run.ValueRow.{ValueRow}
 use Rattle.run_frame.specs.declared.run.FrameRun.{roll-FrameRun}
 use Rattle.run_frame.specs.Legal.{IsKept}
