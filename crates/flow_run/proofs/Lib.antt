@@ -1,15 +1,3 @@
-pub mod TakingLemmas
-pub mod Values
-pub mod Flow
-pub mod Started
-pub mod Stepping
-pub mod RowLemmas
-pub mod Step
-pub mod Released
-pub mod Finished
-pub mod Begun
-pub mod SourceLemmas
-pub mod StepFacts
 pub mod Preparing
 pub mod NoteExamples
 pub mod ReportLemmas

@@ -4,4 +4,3 @@ pub mod Requests
 pub mod Output
 pub mod Notes
 pub mod Answers
-pub mod inside

@@ -1,19 +1,17 @@
 // The top call of the program.
-ghost use Rattle.std.specs.Prelude.{◌≡◌, ◌⊎◌, ◌≤◌, ◌<◌, [], true, false, length, IfOk};
+ghost use Rattle.std.specs.Prelude.{◌≡◌, ◌⊎◌, ◌≤◌, ◌<◌, [], true, false, IfOk};
 ghost use Rattle.outside_io.specs.Sink.{Took, TookFront, Writes};
-ghost use Rattle.text_tasks.specs.JobMeaning.{net_of, limit_of, IsTextJob};
 ghost use Rattle.flow_run.specs.Requests.{IsAtHand};
 ghost use Rattle.flow_run.specs.Answers.{CallEnds, Delivers, HaveRead, IsReadFault, JobEnds, RanOnce, Reported, RunEnds, reports};
 ghost use Rattle.flow_run.specs.Notes.{note_line};
 
 use super::note::put_note;
-use super::one_thread::run_job;
 use super::prepare::prepare;
 use super::report::put_report;
 use super::status::{Noted, Status};
 use super::words::file_to_run;
 use outside_io::{List, NoMemory, Sink, SinkFault, Texts};
-use run_frame::FrameRun;
+use run_frame::{FrameRun, run_alone};
 use span_profile::Watch;
 use std::alloc::Global;
 use std::sync::Arc;
@@ -142,9 +140,7 @@ fn stopped(alloc: Global, status: Status) -> Ended
 
 // Runs the job and writes the report of its run.
 fn run_and_report<S: Sink>(alloc: Global, job: TextJob, out: &mut S) -> Ended
-    requires job { IsTextJob job }
-    requires room { length (net_of job).tasks ≤ limit_of job }
-    requires nothing_held { (S.state out.old).held_back ≡ [] }
+    requires { (S.state out.old).held_back ≡ [] }
     ensures ends { JobEnds job result.status result.runs }
     ensures reported { Reported S.state out.old out.new result.status result.runs result.written }
 {
@@ -172,12 +168,10 @@ fn run_and_report<S: Sink>(alloc: Global, job: TextJob, out: &mut S) -> Ended
 
 // The run of the job, kept in a list.
 fn kept_runs(alloc: Global, job: TextJob) -> Result<List<FrameRun<TextJob>>, NoMemory>
-    requires job { IsTextJob job }
-    requires room { length (net_of job).tasks ≤ limit_of job }
     ensures { IfOk result (RanOnce (λ of. of ≡ job) Status.Done) }
 {
     let job = Arc::new(alloc, job)?;
-    let run = run_job(alloc, job)?;
+    let run = run_alone(alloc, job)?;
     let mut runs = List::new(alloc);
     runs.push(run)?;
     Ok(runs)

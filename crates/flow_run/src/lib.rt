@@ -7,9 +7,7 @@
 #![tactic(auto)]
 
 mod call;
-mod carried;
 mod note;
-mod one_thread;
 mod prepare;
 mod report;
 mod status;

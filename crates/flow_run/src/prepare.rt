@@ -1,10 +1,9 @@
 // From the name of a graph file to a job that is ready to run.
-ghost use Rattle.std.specs.Prelude.{◌≡◌, ◌≢◌, ◌≤◌, AllPairs, length, IfOk, IfErr, None};
+ghost use Rattle.std.specs.Prelude.{◌≡◌, ◌≢◌, AllPairs, IfOk, IfErr, None};
 ghost use Rattle.graph_file.specs.PlanRows.{IsPlan, plan_rows};
 ghost use Rattle.graph_file.specs.PlanText.{PlanText};
 ghost use Rattle.text_tasks.specs.TextTable.{rows_of, text_in};
 ghost use Rattle.text_tasks.specs.GraphWork.{text_limit};
-ghost use Rattle.text_tasks.specs.JobMeaning.{net_of, limit_of, IsTextJob};
 ghost use Rattle.flow_run.specs.Requests.{CountsReads, HasStart, IsAdded, IsHeld, IsRequestedJob, StopsAtBytes, StopsAtName, StopsAtText, StopsBefore, TextsAre};
 
 use super::stop::{Stop, refusal};
@@ -26,8 +25,6 @@ pub const START_LIMIT: u64 = 100_000;
 /// The job that a graph file asks for, with its texts read in the order in which they are first named. An
 /// `Err` tells the first thing that stops the call.
 pub fn prepare<F: Texts>(alloc: Global, texts: &mut F, file: &[u8]) -> Result<TextJob, Stop>
-    ensures job { IfOk result IsTextJob }
-    ensures room { IfOk result (λ job. length (net_of job).tasks ≤ limit_of job) }
     ensures requested { IfOk result (IsRequestedJob (F.held texts.old) file.now) }
     ensures stops { IfErr result (StopsBefore (F.held texts.old) file.now) }
     ensures stays { F.held texts.new ≡ F.held texts.old }
