@@ -64,6 +64,14 @@ impl<T> List<T> {
         }
     }
 
+    /// The empty list, with room for so many items.
+    pub fn with_room(alloc: Global, room: usize) -> Result<List<T>, NoMemory>
+        ensures { IfOk result (λ list. list ≡ []) }
+    {
+        let items = Vec::with_capacity(alloc, room)?;
+        Ok(List { items })
+    }
+
     // The list of a vector's items, which are not copied.
     pub(crate) fn from_vec(items: Vec<T>) -> List<T>
         ensures { result ≡ items.items }
@@ -177,7 +185,7 @@ mod tests {
 
     #[test]
     fn grows_and_copies(rt: HostRuntime) -> Result<(), Fail> {
-        let mut list = List::new(rt.alloc());
+        let mut list = List::with_room(rt.alloc(), 2)?;
         assert!(rt; list.is_empty());
         list.push(7u8)?;
         list.add_all(b"ab")?;

@@ -1,0 +1,62 @@
+-- The first bytes of a piece, as a number.
+use Rattle.std.proofs.Common.{◌≡◌, ℕ, zero, suc, ◌+◌, ◌*◌, ◌<◌, ◌≤◌, Bool, true, false, List, [], ◌∷◌, get_or, refl, sym, ap, subst, ◌∙◌, arith, le_refl}
+use Rattle.std.specs.Ordering.{is_le, is_gt, is_lt, ordering_reverse, ordering_then, nat_cmp}
+use Rattle.std.specs.declared.cmp.Ordering.{Ordering}
+use Rattle.std.specs.declared.cmp.Ordering.TheVariants.{Less, Equal, Greater}
+use Rattle.std.proofs.lemmas.Cmp.{ranked, by_ranked, nat_list_cmp_total}
+use Rattle.text_ops.specs.declared.mark.Mark.{Mark}
+use Rattle.text_ops.specs.LineOrder.{line_cmp, IsUpTo}
+use Rattle.text_ops.specs.inside.Marks.{digits_on, lead_of, marked_piece, mark_cmp}
+
+
+AreBytes-rest : (byte : ℕ) (rest : List ℕ) → ((k : ℕ) → get_or (byte ∷ rest) k 0 < 256) → (k : ℕ) → get_or rest k 0 < 256
+AreBytes-rest byte rest bytes k = bytes (suc k)
+
+-- a greater number stays greater
+digits_on-less : (n x y : ℕ) (a b : List ℕ) → ((k : ℕ) → get_or a k 0 < 256) → x < y → digits_on x n a ≤ digits_on y n b
+digits_on-less zero x y a b bytes less = omega arith
+digits_on-less (suc n) x y [] [] bytes less = digits_on-less n (x * 256) (y * 256) [] [] bytes (omega arith)
+digits_on-less (suc n) x y [] (q ∷ qs) bytes less = digits_on-less n (x * 256) (y * 256 + q) [] qs bytes (omega arith)
+digits_on-less (suc n) x y (p ∷ ps) [] bytes less = digits_on-less n (x * 256 + p) (y * 256) ps [] (AreBytes-rest p ps bytes) (omega (arith, bytes 0))
+digits_on-less (suc n) x y (p ∷ ps) (q ∷ qs) bytes less = digits_on-less n (x * 256 + p) (y * 256 + q) ps qs (AreBytes-rest p ps bytes) (omega (arith, bytes 0))
+
+nothing : (b : List ℕ) → IsUpTo [] b
+nothing [] = refl
+nothing (q ∷ qs) = refl
+
+-- with the same number before, pieces compare as their digits
+digits_on-up_to : (n x : ℕ) (a b : List ℕ) → ((k : ℕ) → get_or a k 0 < 256) → IsUpTo a b → digits_on x n a ≤ digits_on x n b
+digits_on-up_to zero x a b bytes le = omega arith
+digits_on-up_to (suc n) x [] [] bytes le = digits_on-up_to n (x * 256) [] [] bytes refl
+digits_on-up_to (suc n) x [] (zero ∷ qs) bytes le = let none : x * 256 ≡ x * 256 + zero = omega arith in subst (λ m. digits_on (x * 256) n [] ≤ digits_on m n qs) none (digits_on-up_to n (x * 256) [] qs bytes (nothing qs))
+digits_on-up_to (suc n) x [] (suc q ∷ qs) bytes le = digits_on-less n (x * 256) (x * 256 + suc q) [] qs bytes (omega arith)
+digits_on-up_to (suc n) x (p ∷ ps) [] bytes le = cc
+digits_on-up_to (suc n) x (p ∷ ps) (q ∷ qs) bytes le =
+    by_ranked (p < q) (p ≡ q) (q < p) (nat_cmp p q) (ranked p q (nat_cmp p q) refl)
+    (λ is less. digits_on-less n (x * 256 + p) (x * 256 + q) ps qs (AreBytes-rest p ps bytes) (omega arith))
+    (λ is same. subst (λ r. digits_on (x * 256 + p) n ps ≤ digits_on (x * 256 + r) n qs) same
+    (digits_on-up_to n (x * 256 + p) ps qs (AreBytes-rest p ps bytes) (sym (ap (λ o. is_le (ordering_then o (line_cmp ps qs))) is) ∙ le)))
+    (λ is more. let never : false ≡ true = sym (ap (λ o. is_le (ordering_then o (line_cmp ps qs))) is) ∙ le in cc)
+
+pub lead_of-up_to : (a b : List ℕ) → ((k : ℕ) → get_or a k 0 < 256) → IsUpTo a b → lead_of a ≤ lead_of b
+lead_of-up_to a b bytes le = digits_on-up_to 8 0 a b bytes le
+
+-- Marks that aren't the other way round stand for pieces that aren't.
+reversed : (a b : List ℕ) → line_cmp a b ≡ ordering_reverse (line_cmp b a)
+reversed a b = nat_list_cmp_total.antisymm a b
+
+pub marked_piece-up_to : (text : List ℕ) (a b : Mark) → a.lead ≡ lead_of (marked_piece text a) → b.lead ≡ lead_of (marked_piece text b) → ((k : ℕ) → get_or (marked_piece text b) k 0 < 256) → is_lt (mark_cmp text b a) ≡ false → IsUpTo (marked_piece text a) (marked_piece text b)
+marked_piece-up_to text a b lead_a lead_b bytes not = ap is_le (reversed (marked_piece text a) (marked_piece text b)) ∙ by_order (line_cmp (marked_piece text b) (marked_piece text a)) refl
+  where
+    by_order : (o : Ordering) → line_cmp (marked_piece text b) (marked_piece text a) ≡ o → is_le (ordering_reverse o) ≡ true
+    by_order Less is =
+        let low : b.lead ≤ a.lead = omega (arith, lead_of-up_to (marked_piece text b) (marked_piece text a) bytes (ap is_le is), lead_a, lead_b) in
+        by_ranked (b.lead < a.lead) (b.lead ≡ a.lead) (a.lead < b.lead) (nat_cmp b.lead a.lead) (ranked b.lead a.lead (nat_cmp b.lead a.lead) refl)
+        (λ lead less. let never : true ≡ false = sym (ap (λ o. is_lt (ordering_then o (ordering_then (line_cmp (marked_piece text b) (marked_piece text a)) (nat_cmp b.start a.start)))) lead) ∙ not in cc)
+        (λ lead same.
+        let never : true ≡ false =
+        sym (ap (λ o. is_lt (ordering_then o (ordering_then (line_cmp (marked_piece text b) (marked_piece text a)) (nat_cmp b.start a.start)))) lead
+        ∙ ap (λ o. is_lt (ordering_then o (nat_cmp b.start a.start))) is) ∙ not in cc)
+        (λ lead more. absurd (omega arith))
+    by_order Equal is = refl
+    by_order Greater is = refl

@@ -1,0 +1,7 @@
+pub mod Lines
+pub mod LineOrder
+pub mod Repeats
+pub mod MatchKeys
+pub mod TextMeaning
+pub mod Values
+pub mod inside

@@ -1,0 +1,12 @@
+-- Internal: what a text is made of, and what the private functions say to one another.
+pub mod SharedText
+pub mod Gathering
+pub mod Keeping
+pub mod Marks
+pub mod Sorting
+pub mod Matching
+pub mod Tallying
+pub mod Repeating
+pub mod Cuts
+pub mod KeptSoFar
+pub mod FoundLine

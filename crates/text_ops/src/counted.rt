@@ -1,0 +1,30 @@
+// The number of lines.
+ghost use Rattle.std.specs.Prelude.{◌≡◌, ◌≤◌, length};
+ghost use Rattle.text_ops.specs.Lines.{lines_of};
+ghost use Rattle.text_ops.specs.TextMeaning.{count_meaning};
+ghost use Rattle.text_ops.specs.Values.{Makes};
+
+use crate::gathered::ApplyError;
+use crate::text::Text;
+use itoa::write_digits;
+use memchr::memchr_iter;
+use outside_io::List;
+use std::alloc::Global;
+
+/// How many lines the text has.
+pub fn line_count(text: &Text) -> u64
+    ensures value { result ≡ length (lines_of text.now) }
+    ensures small { result ≤ 2147483647 }
+{
+    memchr_iter(b'\n', text.as_slice()).count() as u64
+}
+
+/// One line, the number of lines of the text in decimal.
+pub fn count(alloc: Global, text: &Text) -> Result<Text, ApplyError>
+    ensures { Makes (count_meaning text.now) result }
+{
+    let mut line = [b'\n'; 21];
+    let start = write_digits(line_count(text), &mut line, 20);
+    let line = List::from_slice(alloc, &line[start..])?;
+    Ok(Text::from_lines(alloc, line)?)
+}

@@ -1,0 +1,77 @@
+// How values are gathered.
+ghost use Rattle.std.specs.Prelude.{◌≡◌, ◌+◌, ◌<◌, ◌≤◌, ◌^◌, ◌++◌, ◌∷◌, ℕ, List, [], length, IfOk, OnOk, OnErr};
+ghost use Rattle.text_ops.specs.Lines.{line_end, IsNormal};
+ghost use Rattle.text_ops.specs.Values.{Makes, value_limit};
+ghost use Rattle.text_ops.specs.inside.Gathering.{IsGathered};
+
+use crate::gathered::{ApplyError, Gathered, VALUE_LIMIT};
+use crate::text::Text;
+use outside_io::{List, NoMemory};
+use std::alloc::Global;
+
+impl Gathered {
+    // Nothing. It takes no memory.
+    pub(crate) fn new(alloc: Global) -> Gathered
+        ensures { IsGathered [] result }
+    {
+        Gathered {
+            bytes: List::new(alloc),
+            total: 0,
+        }
+    }
+
+    // Nothing, with room for so many bytes.
+    pub(crate) fn with_room(alloc: Global, room: usize) -> Result<Gathered, NoMemory>
+        ensures { IfOk result (IsGathered []) }
+    {
+        Ok(Gathered {
+            bytes: List::with_room(alloc, room)?,
+            total: 0,
+        })
+    }
+
+    // Adds bytes. After an `Err` nothing was added.
+    pub(crate) fn add(&mut self, piece: &[u8]) -> Result<(), NoMemory>
+        requires { self.old.total + length piece.now < 2 ^ 64 }
+        ensures gathered { (all : List ℕ) → IsGathered all self.old → OnOk result (IsGathered (all ++ piece.now) self.new) }
+        ensures total { OnOk result (self.new.total ≡ self.old.total + length piece.now) }
+        ensures err { OnErr result (self.new.total ≡ self.old.total) }
+        ensures lines { IsNormal self.old.bytes → IsNormal piece.now → IsNormal self.new.bytes }
+    {
+        let total = self.total + piece.len() as u64;
+        if total > VALUE_LIMIT {
+            self.total = total;
+            return Ok(());
+        }
+        self.bytes.add_all(piece)?;
+        self.total = total;
+        Ok(())
+    }
+
+    // Adds a line of two parts. After an `Err` a part of it may be added.
+    pub(crate) fn add_line(&mut self, front: &[u8], back: &[u8]) -> Result<(), NoMemory>
+        requires { self.old.total + length front.now + length back.now + 1 < 2 ^ 64 }
+        ensures gathered { (all : List ℕ) → IsGathered all self.old → OnOk result (IsGathered (all ++ (front.now ++ (back.now ++ line_end ∷ []))) self.new) }
+        ensures total { OnOk result (self.new.total ≡ self.old.total + (length front.now + length back.now + 1)) }
+    {
+        self.total += front.len() as u64 + back.len() as u64 + 1;
+        if self.total <= VALUE_LIMIT {
+            self.bytes.add_all(front)?;
+            self.bytes.add_all(back)?;
+            self.bytes.push(b'\n')?;
+        }
+        Ok(())
+    }
+
+    // The text of what was added, which are whole lines, if it isn't too long.
+    pub(crate) fn finish(self, alloc: Global) -> Result<Text, ApplyError>
+        requires { self.total ≤ value_limit → IsNormal self.bytes }
+        ensures { (all : List ℕ) → IsGathered all self → Makes all result }
+    {
+        let Gathered { bytes, total } = self;
+        if total > VALUE_LIMIT {
+            return Err(ApplyError::Long(total));
+        }
+        Ok(Text::from_lines(alloc, bytes)?)
+    }
+}

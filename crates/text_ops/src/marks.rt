@@ -1,0 +1,140 @@
+// Marks of the pieces of a text, in the order of their bytes.
+ghost use Rattle.std.specs.Prelude.{◌≡◌, ◌≤◌, length, slice_index, IfOk};
+ghost use Rattle.std.specs.List.Sorted.{IsPermutation, IsSortedBy};
+ghost use Rattle.std.specs.Ordering.{is_lt, nat_cmp, ordering_then};
+ghost use Rattle.text_ops.specs.LineOrder.{line_cmp};
+ghost use Rattle.text_ops.specs.Lines.{IsNormal, lines_of};
+ghost use Rattle.text_ops.specs.MatchKeys.{match_key};
+ghost use Rattle.text_ops.specs.inside.Marks.{AreSortedMarks, lead_of, mark_cmp, marked_piece, marked_with_end, marks_of, piece_of};
+
+use crate::line_walk::Lines;
+use crate::mark::{Mark, Piece};
+use memchr::{memchr, memchr_iter};
+use outside_io::NoMemory;
+use std::alloc::Global;
+use std::cmp::Ordering;
+
+// Marks of these pieces of the lines, in the order of their bytes. Marks of equal pieces stand in the order of the
+// lines.
+pub(crate) fn sorted_marks(alloc: Global, text: &[u8], by: Piece) -> Result<Vec<Mark>, NoMemory>
+    requires normal { IsNormal text.now }
+    requires short { length text.now ≤ 2147483647 }
+    ensures { IfOk result (λ marks. AreSortedMarks by text.now marks.items) }
+{
+    let mut marks = marks_of(alloc, text, by)?;
+    sort_marks(text, &mut marks);
+    Ok(marks)
+}
+
+// The bytes of the piece, as far as the text has them.
+pub(crate) fn marked_piece<'t>(text: &'t [u8], mark: &Mark) -> &'t [u8]
+    ensures { result.now ≡ marked_piece text.now mark.now }
+{
+    let start = (mark.start as usize).min(text.len());
+    let rest = &text[start..];
+    let end = (mark.len as usize).min(rest.len());
+    &rest[..end]
+}
+
+// The bytes of the piece and the one behind it.
+pub(crate) fn marked_with_end<'t>(text: &'t [u8], mark: &Mark) -> &'t [u8]
+    ensures { result.now ≡ marked_with_end text.now mark.now }
+{
+    let start = (mark.start as usize).min(text.len());
+    let rest = &text[start..];
+    let end = (mark.len as usize + 1).min(rest.len());
+    &rest[..end]
+}
+
+// The first eight bytes as a number.
+pub(crate) fn lead(bytes: &[u8]) -> u64
+    ensures { result ≡ lead_of bytes.now }
+{
+    u64::from_be_bytes([
+        byte_at(bytes, 0),
+        byte_at(bytes, 1),
+        byte_at(bytes, 2),
+        byte_at(bytes, 3),
+        byte_at(bytes, 4),
+        byte_at(bytes, 5),
+        byte_at(bytes, 6),
+        byte_at(bytes, 7),
+    ])
+}
+
+// The byte at this place, or 0 where there is none.
+fn byte_at(bytes: &[u8], place: usize) -> u8
+    ensures { result ≡ slice_index bytes.now place }
+{
+    match bytes.get(place) {
+        Some(byte) => *byte,
+        None => 0,
+    }
+}
+
+// What stands before the first space.
+pub(crate) fn match_key(line: &[u8]) -> &[u8]
+    ensures { result.now ≡ match_key line.now }
+{
+    match memchr(b' ', line) {
+        Some(end) => &line[..end],
+        None => line,
+    }
+}
+
+// The piece of a line that is meant.
+fn piece_of(by: Piece, line: &[u8]) -> &[u8]
+    ensures { result.now ≡ piece_of by line.now }
+{
+    match by {
+        Piece::Whole => line,
+        Piece::Key => match_key(line),
+    }
+}
+
+// The marks in the order of the lines.
+fn marks_of(alloc: Global, text: &[u8], by: Piece) -> Result<Vec<Mark>, NoMemory>
+    requires normal { IsNormal text.now }
+    requires short { length text.now ≤ 2147483647 }
+    ensures { IfOk result (λ marks. marks.items ≡ marks_of by 0 (lines_of text.now)) }
+{
+    let count = memchr_iter(b'\n', text).count();
+    let mut marks = Vec::with_capacity(alloc, count)?;
+    let mut start = 0;
+    for line in Lines::new(text) {
+        let piece = piece_of(by, line);
+        marks.push(Mark {
+            lead: lead(piece),
+            start: start as u32,
+            len: piece.len() as u32,
+        })?;
+        start += line.len() + 1;
+    }
+    Ok(marks)
+}
+
+fn sort_marks(text: &[u8], marks: &mut Vec<Mark>)
+    ensures permutation { IsPermutation marks.old.items marks.new.items }
+    ensures sorted { IsSortedBy (λ a b. is_lt (mark_cmp text.now a b)) marks.new.items }
+{
+    marks.sort_unstable_by(|a, b| compare(text, a, b));
+}
+
+// By the leads, then by the bytes, then by the places.
+fn compare(text: &[u8], a: &Mark, b: &Mark) -> Ordering
+    ensures { result ≡ mark_cmp text.now a.now b.now }
+{
+    match a.lead.cmp(&b.lead) {
+        Ordering::Equal => compare_bytes(text, a, b),
+        other => other,
+    }
+}
+
+fn compare_bytes(text: &[u8], a: &Mark, b: &Mark) -> Ordering
+    ensures { result ≡ ordering_then (line_cmp (marked_piece text.now a.now) (marked_piece text.now b.now)) (nat_cmp a.now.start b.now.start) }
+{
+    match marked_piece(text, a).cmp(marked_piece(text, b)) {
+        Ordering::Equal => a.start.cmp(&b.start),
+        other => other,
+    }
+}

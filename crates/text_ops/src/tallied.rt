@@ -1,0 +1,59 @@
+// How often each line stands in a text.
+ghost use Rattle.std.specs.Prelude.{◌≡◌, ◌+◌, ◌<◌, ◌≤◌, ◌++◌, ◌∷◌, [], ℕ, List, length, map, decimal, slice_index_or, OnOk};
+ghost use Rattle.text_ops.specs.Lines.{ended};
+ghost use Rattle.text_ops.specs.MatchKeys.{space};
+ghost use Rattle.text_ops.specs.TextMeaning.{tally_meaning};
+ghost use Rattle.text_ops.specs.Values.{Makes};
+ghost use Rattle.text_ops.specs.inside.Gathering.{IsGathered};
+ghost use Rattle.text_ops.specs.inside.Marks.{marked_piece};
+ghost use Rattle.text_ops.specs.inside.Tallying.{run_of};
+
+use crate::gathered::{ApplyError, Gathered};
+use crate::mark::{Mark, Piece};
+use crate::marks::{marked_piece, sorted_marks};
+use crate::text::Text;
+use itoa::write_digits;
+use outside_io::NoMemory;
+use std::alloc::Global;
+
+/// For each different line, in the order of their bytes, a line with its count in decimal, a space and the line.
+pub fn tally(alloc: Global, text: &Text) -> Result<Text, ApplyError>
+    ensures { Makes (tally_meaning text.now) result }
+{
+    let bytes = text.as_slice();
+    let marks = sorted_marks(alloc, bytes, Piece::Whole)?;
+    let marks = marks.as_slice();
+    let mut made = Gathered::new(alloc);
+    let mut at = 0;
+    while at < marks.len() {
+        let count = run_length(bytes, &marks[at..]);
+        add_counted(&mut made, count as u64, marked_piece(bytes, &marks[at]))?;
+        at += count;
+    }
+    made.finish(alloc)
+}
+
+// How many marks, from the first on, stand for what the first stands for.
+fn run_length(text: &[u8], marks: &[Mark]) -> usize
+    requires { 0 < length marks.now }
+    ensures { result ≡ run_of (map (marked_piece text.now) marks.now) }
+{
+    let first = marked_piece(text, &marks[0]);
+    for (k, mark) in marks.iter().enumerate() {
+        if marked_piece(text, mark) != first {
+            return k;
+        }
+    }
+    marks.len()
+}
+
+// Adds a count, a space and a line.
+fn add_counted(made: &mut Gathered, count: u64, line: &[u8]) -> Result<(), NoMemory>
+    requires { made.old.total + length line.now + 22 < 18446744073709551616 }
+    ensures gathered { (all : List ℕ) → IsGathered all made.old → OnOk result (IsGathered (all ++ ended (decimal count ++ space ∷ line.now)) made.new) }
+    ensures total { OnOk result (made.new.total ≤ made.old.total + length line.now + 22) }
+{
+    let mut front = [b' '; 21];
+    let start = write_digits(count, &mut front, 20);
+    made.add_line(&front[start..], line)
+}
