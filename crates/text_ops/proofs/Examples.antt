@@ -1,5 +1,5 @@
 -- The definitions, computed on small texts.
-use Rattle.std.proofs.Common.{◌≡◌, ◌≤◌, ◌<◌, ◌++◌, ℕ, Bool, true, false, List, [], ◌∷◌, length, Option, Some, None, Ok, Err, refl, codes, suc, zero, sym, lit<, lit≤, arith}
+use Rattle.std.proofs.Common.{◌≡◌, ◌≢◌, ◌≤◌, ◌<◌, ◌++◌, ℕ, Bool, true, false, List, [], ◌∷◌, length, Option, Some, None, Ok, Err, refl, codes, ap, get_or, suc, zero, sym, lit<, lit≤, arith}
 use Rattle.std.specs.Fmt.{digits}
 use Rattle.std.specs.declared.cmp.Ordering.TheVariants.{Less, Equal, Greater}
 use Rattle.text_ops.specs.declared.gathered.ApplyError.TheVariants.{Long, NoMemory}
@@ -9,6 +9,9 @@ use Rattle.text_ops.specs.MatchKeys.{match_key, behind_key, first_with, joined, 
 use Rattle.text_ops.specs.Repeats.{changes, without_repeats, count_of, NeighboursDiffer}
 use Rattle.text_ops.specs.TextMeaning.{keep_meaning, without_meaning, head_meaning, tail_meaning, skip_meaning, sort_meaning, uniq_meaning, count_meaning, tally_line, tally_meaning, match_meaning, has_word}
 use Rattle.text_ops.specs.Values.{value_limit, MayRefuse, Makes}
+
+apart : (a b : ℕ) → a < b → a ≢ b
+apart a b low same = absurd (omega arith)
 
 no_line : lines_of [] ≡ []
 no_line = refl
@@ -125,7 +128,7 @@ uniq_lines : uniq_meaning (codes "a\na\nb\na\n") ≡ codes "a\nb\na\n"
 uniq_lines = refl
 
 neighbours_that_differ : NeighboursDiffer (codes "a" ∷ codes "b" ∷ [])
-neighbours_that_differ zero d low same = cc
+neighbours_that_differ zero d low same = apart 97 98 (lit< tt) (ap (λ (l : List ℕ). get_or l 0 0) same)
 neighbours_that_differ (suc k) d low same = absurd (omega arith)
 
 neighbours_that_are_equal : ¬ NeighboursDiffer (codes "a" ∷ codes "a" ∷ [])
@@ -205,7 +208,7 @@ value_made : Makes (codes "a\n") (Ok (codes "a\n"))
 value_made = (refl, lit≤ tt)
 
 another_value : ¬ Makes (codes "a\n") (Ok (codes "b\n"))
-another_value made = let never : codes "b\n" ≡ codes "a\n" = made.0 in cc
+another_value made = apart 97 98 (lit< tt) (sym (ap (λ (l : List ℕ). get_or l 0 0) made.0))
 
 refused_value : (value : List ℕ) → length value ≡ 16777217 → Makes value (Err (Long 16777217))
 refused_value value long = long_value value long
