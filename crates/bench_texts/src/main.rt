@@ -26,9 +26,11 @@ fn main(rt: HostRuntime) -> io::Result<()> {
     };
     let operand = args.next();
     let operand = operand.as_ref().map_or("", |word| word.as_str());
-    let Ok(Found::Text(bytes)) =
-        FolderTexts::new(&rt).read(rt.alloc(), file.as_str().as_bytes(), MOST)
-    else {
+    let Ok(Found::Text(bytes)) = FolderTexts::new(&rt).read(
+        rt.alloc(),
+        file.as_str().as_bytes(),
+        MOST,
+    ) else {
         return println!(rt; "no text");
     };
     let text = Text::from_bytes(rt.alloc(), bytes);

@@ -65,10 +65,10 @@ impl<T> List<T> {
     }
 
     /// The empty list, with room for so many items.
-    pub fn with_room(alloc: Global, room: usize) -> Result<List<T>, NoMemory>
+    pub fn with_room(alloc: Global, items: usize) -> Result<List<T>, NoMemory>
         ensures { IfOk result (λ list. list ≡ []) }
     {
-        let items = Vec::with_capacity(alloc, room)?;
+        let items = Vec::with_capacity(alloc, items)?;
         Ok(List { items })
     }
 

@@ -1,18 +1,18 @@
 -- What holds of places between lines.
-use Rattle.std.proofs.Common.{◌≡◌, ◌≢◌, ℕ, ◌+◌, ◌-◌, ◌<◌, ◌≤◌, cond, ◌==◌, List, [], ◌∷◌, ◌++◌, length, take, drop, get_or, None, Some, refl, sym, ap, subst, ◌∙◌, arith, length-take, length-drop, length-append, append-nil, append_assoc, count_by}
+use Rattle.std.proofs.Common.{◌≡◌, ◌≢◌, ℕ, ◌+◌, ◌-◌, ◌<◌, ◌≤◌, cond, ◌==◌, List, [], ◌∷◌, ◌++◌, length, take, drop, get_or, None, Some, refl, sym, ap, subst, ◌∙◌, arith, length-drop, append-nil, append_assoc}
 use Rattle.std.specs.List.{between}
 use Rattle.std.proofs.Math.Seq.{take-add}
 use Rattle.std.proofs.lemmas.Bool.{eqb-true, eq-eqb}
-use Rattle.std.proofs.lemmas.List.{take-append-drop, take_all, drop_all, take_at, drop_at, take_more, drop-drop, length-take-le, drop_more, get_or-take}
+use Rattle.std.proofs.lemmas.List.{take-append-drop, take_all, drop_all, take_at, drop_at, take_more, length-take-le, get_or-take}
 use Rattle.std.proofs.lemmas.List.Sums.{sum_by-append}
 use Rattle.std.proofs.lemmas.Slice.{between_to_end}
 use Rattle.std.proofs.lemmas.List.Edits.{length-between, get_or-between}
 use Rattle.memchr.specs.Find.{IsFirstByte, IsLastByte, is_byte, places}
 use Rattle.memchr.proofs.lemmas.CallerLemmas.{length-places}
-use Rattle.text_ops.specs.Lines.{line_end, lines_of, text_of, ended, normal, IsNormal, IsPlain}
+use Rattle.text_ops.specs.Lines.{line_end, lines_of, text_of, ended, IsNormal, IsPlain}
 use Rattle.text_ops.specs.inside.Cuts.{IsCut, end_count, LeftBehind, LeftBefore}
 use Rattle.text_ops.proofs.LineLemmas.{lines_of-append, lines_of-ended, text_of-lines_of, normal_same, count_by-lines_of, IsNormal-ended, IsNormal-drop}
-use Rattle.text_ops.proofs.WalkLemmas.{no_line, first_line_plain, first_line_parts}
+use Rattle.text_ops.proofs.WalkLemmas.{no_line, first_line_plain}
 
 end_count-append : (xs ys : List ℕ) → end_count (xs ++ ys) ≡ end_count xs + end_count ys
 end_count-append xs ys = sum_by-append (λ byte. cond (byte == line_end) 1 0) xs ys

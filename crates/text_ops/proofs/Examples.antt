@@ -1,14 +1,14 @@
 -- The definitions, computed on small texts.
-use Rattle.std.proofs.Common.{◌≡◌, ◌≢◌, ◌≤◌, ◌<◌, ◌++◌, ℕ, Bool, true, false, List, [], ◌∷◌, length, Option, Some, None, Ok, Err, refl, codes, ap, get_or, suc, zero, sym, lit<, lit≤, arith}
+use Rattle.std.proofs.Common.{◌≡◌, ◌≢◌, ◌<◌, ℕ, true, false, List, [], ◌∷◌, length, Some, None, Ok, Err, refl, codes, ap, get_or, suc, zero, sym, lit<, lit≤, arith}
 use Rattle.std.specs.Fmt.{digits}
 use Rattle.std.specs.declared.cmp.Ordering.TheVariants.{Less, Equal, Greater}
 use Rattle.text_ops.specs.declared.gathered.ApplyError.TheVariants.{Long, NoMemory}
-use Rattle.text_ops.specs.Lines.{lines_of, text_of, ended, normal, is_normal, occurs, IsNormal}
+use Rattle.text_ops.specs.Lines.{lines_of, text_of, normal, occurs}
 use Rattle.text_ops.specs.LineOrder.{line_cmp, IsUpTo, insert_line, in_order}
 use Rattle.text_ops.specs.MatchKeys.{match_key, behind_key, first_with, joined, matched}
 use Rattle.text_ops.specs.Repeats.{changes, without_repeats, count_of, NeighboursDiffer}
 use Rattle.text_ops.specs.TextMeaning.{keep_meaning, without_meaning, head_meaning, tail_meaning, skip_meaning, sort_meaning, uniq_meaning, count_meaning, tally_line, tally_meaning, match_meaning, has_word}
-use Rattle.text_ops.specs.Values.{value_limit, MayRefuse, Makes}
+use Rattle.text_ops.specs.Values.{MayRefuse, Makes}
 
 apart : (a b : ℕ) → a < b → a ≢ b
 apart a b low same = absurd (omega arith)

@@ -1,8 +1,8 @@
 -- Whether a word occurs in some line.
-use Rattle.std.proofs.Common.{◌≡◌, ℕ, ◌+◌, ◌<◌, ◌≤◌, ◌==◌, Bool, true, false, cond, not, ◌||◌, List, [], ◌∷◌, ◌++◌, length, drop, Option, Some, None, is_some, refl, sym, ap, subst, ◌∙◌, arith, ⊎_elim, filter, length-append, IfSome, IfNone}
+use Rattle.std.proofs.Common.{◌≡◌, ℕ, ◌==◌, Bool, true, false, not, ◌||◌, List, [], ◌∷◌, length, drop, Option, Some, None, is_some, refl, sym, ap, ◌∙◌, arith, ⊎_elim, filter, length-append, IfSome, IfNone}
 use Rattle.std.specs.List.{list_any, between}
 use Rattle.std.proofs.lemmas.Bool.{cases_Bool, cond-true, cond-false, or_left, ne_eqb}
-use Rattle.std.proofs.lemmas.List.{length_push, nil_from_length}
+use Rattle.std.proofs.lemmas.List.{length_push}
 use Rattle.std.proofs.lemmas.List.Edits.{length-between}
 use Rattle.text_ops.specs.declared.found_line.FoundLine.{FoundLine}
 use Rattle.text_ops.specs.Lines.{line_end, lines_of, text_of, ended, occurs, IsNormal, IsPlain}

@@ -1,23 +1,20 @@
 -- What holds of the lines in which a word occurs.
-use Rattle.std.proofs.Common.{◌≡◌, ◌≢◌, ℕ, zero, suc, ◌+◌, ◌-◌, ◌<◌, ◌≤◌, Bool, true, false, cond, not, ◌==◌, nat_eq, List, [], ◌∷◌, ◌++◌, length, take, drop, get_or, refl, sym, ap, subst, ◌∙◌, arith, append-nil, append_assoc, length-append, length-take, length-drop, get_or-take, get_or-drop, ⊎_elim, filter, Option, Some, None, is_some, Result, Ok, Err, IfOk}
+use Rattle.std.proofs.Common.{◌≡◌, ◌≢◌, ℕ, zero, suc, ◌+◌, ◌-◌, ◌<◌, ◌≤◌, Bool, true, false, cond, not, ◌==◌, nat_eq, List, [], ◌∷◌, ◌++◌, length, take, drop, get_or, refl, sym, ap, subst, ◌∙◌, arith, append-nil, append_assoc, length-append, length-take, length-drop, get_or-take, get_or-drop, ⊎_elim, filter, Option, Some, None, is_some}
 use Rattle.std.proofs.lemmas.Bool.{cases_Bool, cond-true, cond-false, cond_both, or_left, or_right, or_cases, false_from_ne_true, eqb-true, eqb-false, cases_lt}
 use Rattle.std.proofs.lemmas.Bool.Decides.{Decides-eqb}
-use Rattle.std.proofs.Math.Seq.{take-add}
-use Rattle.std.proofs.lemmas.List.{take-append-drop, drop-drop, take_more, length-take-le, get_or-append-add, get_or_append_left}
+use Rattle.std.proofs.lemmas.List.{take-append-drop, take_more, length-take-le, get_or-append-add, get_or_append_left}
 use Rattle.std.proofs.lemmas.List.Concat.{flat_map-append}
-use Rattle.std.proofs.lemmas.List.Edits.{split_between, length-between}
+use Rattle.std.proofs.lemmas.List.Edits.{split_between}
 use Rattle.std.proofs.lemmas.List.Elements.{filter-append}
 use Rattle.std.proofs.lemmas.List.Sums.{length-filter, count_by-le-length}
-use Rattle.std.proofs.lemmas.Slice.{between_to_end}
 use Rattle.std.proofs.lemmas.Slice.Eq.{starts_is}
 use Rattle.std.specs.List.{onto_first, starts_with, between, AllByRecursion}
 use Rattle.memchr.specs.Find.{OccursAt, Nowhere, IsFirstByte, is_byte}
 use Rattle.memchr.proofs.lemmas.MatchLemmas.{OccursAt-split}
 use Rattle.text_ops.specs.Lines.{line_end, lines_of, ended, text_of, IsNormal, IsPlain, occurs, OccursIn}
 use Rattle.text_ops.specs.inside.FoundLine.{StartsLine, EndsLine, IsFirstKept, IsNowhere}
-use Rattle.text_ops.specs.declared.found_line.FoundLine.{FoundLine}
 use Rattle.text_ops.specs.TextMeaning.{keep_meaning, without_meaning}
-use Rattle.text_ops.proofs.LineLemmas.{lines_of-at_end, lines_of-within, lines_of-append, lines_of-ended, text_of-lines_of, normal_same, IsNormal-ended, IsNormal-text_of, IsNormal-drop}
+use Rattle.text_ops.proofs.LineLemmas.{lines_of-at_end, lines_of-within, lines_of-append, lines_of-ended, text_of-lines_of, normal_same, IsNormal-ended}
 
 -- the test `occurs` says that the word stands in the line
 starts-true : (word line rest : List ℕ) → line ≡ word ++ rest → starts_with nat_eq line word ≡ true

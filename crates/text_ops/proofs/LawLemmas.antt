@@ -1,10 +1,10 @@
 -- What the laws of operations rest on.
-use Rattle.std.proofs.Common.{◌≡◌, ◌≢◌, ℕ, zero, suc, ◌+◌, ◌<◌, ◌≤◌, ◌⊎◌, inl, inr, Bool, true, false, cond, not, List, [], ◌∷◌, ◌++◌, length, take, drop, get_or, refl, sym, ap, subst, ◌∙◌, arith, ⊎_elim, filter, count_by}
+use Rattle.std.proofs.Common.{◌≡◌, ◌≢◌, ℕ, zero, suc, ◌+◌, ◌<◌, ◌⊎◌, inl, inr, Bool, true, false, cond, not, List, [], ◌∷◌, ◌++◌, length, take, drop, get_or, refl, sym, ap, subst, ◌∙◌, arith, ⊎_elim, filter}
 use Rattle.std.specs.Prelude.{AllPairs}
-use Rattle.std.specs.List.{sum_by, AllByRecursion, AllAdjacentBelow, Contains}
+use Rattle.std.specs.List.{sum_by, AllByRecursion, Contains}
 use Rattle.std.specs.List.Sorted.{IsPermutation}
 use Rattle.std.specs.Str.{bytes_eq}
-use Rattle.std.proofs.lemmas.Bool.{cases_Bool, cond-true, cond-false, cond_both, false_from_ne_true, both_ways}
+use Rattle.std.proofs.lemmas.Bool.{cases_Bool, cond-true, cond-false, cond_both, false_from_ne_true}
 use Rattle.std.proofs.lemmas.List.{take-append-drop}
 use Rattle.std.proofs.lemmas.List.Concat.{flat_map-append}
 use Rattle.std.proofs.lemmas.List.Sums.{sum_by-cons}
@@ -16,7 +16,7 @@ use Rattle.text_ops.specs.Repeats.{changes, without_repeats, count_of, Neighbour
 use Rattle.text_ops.specs.TextMeaning.{keep_meaning, without_meaning}
 use Rattle.text_ops.proofs.KeepLemmas.{lines_plain}
 use Rattle.text_ops.proofs.LineLemmas.{text_of-lines_of, lines_of-text_of}
-use Rattle.text_ops.proofs.OrderLemmas.{Rises, Rises-in_order, IsUpTo-antisym, IsUpTo-trans, IsPermutation-in_order, count_of-cons, count_of-permutation}
+use Rattle.text_ops.proofs.OrderLemmas.{Rises, Rises-in_order, IsUpTo-antisym, IsUpTo-trans, IsPermutation-in_order, count_of-cons}
 
 -- a cut between lines
 pub both_parts : (n : ℕ) (text : List ℕ) → text_of (take n (lines_of text)) ++ text_of (drop n (lines_of text)) ≡ normal text

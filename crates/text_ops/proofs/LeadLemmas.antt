@@ -1,13 +1,12 @@
 -- The first bytes of a piece, as a number.
-use Rattle.std.proofs.Common.{◌≡◌, ℕ, zero, suc, ◌+◌, ◌*◌, ◌<◌, ◌≤◌, Bool, true, false, List, [], ◌∷◌, get_or, refl, sym, ap, subst, ◌∙◌, arith, le_refl}
-use Rattle.std.specs.Ordering.{is_le, is_gt, is_lt, ordering_reverse, ordering_then, nat_cmp}
+use Rattle.std.proofs.Common.{◌≡◌, ℕ, zero, suc, ◌+◌, ◌*◌, ◌<◌, ◌≤◌, true, false, List, [], ◌∷◌, get_or, refl, sym, ap, subst, ◌∙◌, arith}
+use Rattle.std.specs.Ordering.{is_le, is_lt, ordering_reverse, ordering_then, nat_cmp}
 use Rattle.std.specs.declared.cmp.Ordering.{Ordering}
 use Rattle.std.specs.declared.cmp.Ordering.TheVariants.{Less, Equal, Greater}
 use Rattle.std.proofs.lemmas.Cmp.{ranked, by_ranked, nat_list_cmp_total}
 use Rattle.text_ops.specs.declared.mark.Mark.{Mark}
 use Rattle.text_ops.specs.LineOrder.{line_cmp, IsUpTo}
 use Rattle.text_ops.specs.inside.Marks.{digits_on, lead_of, marked_piece, mark_cmp}
-
 
 AreBytes-rest : (byte : ℕ) (rest : List ℕ) → ((k : ℕ) → get_or (byte ∷ rest) k 0 < 256) → (k : ℕ) → get_or rest k 0 < 256
 AreBytes-rest byte rest bytes k = bytes (suc k)

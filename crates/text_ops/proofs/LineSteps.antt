@@ -1,5 +1,5 @@
 -- Steps over the lines of a text.
-use Rattle.std.proofs.Common.{◌≡◌, ℕ, ◌+◌, ◌-◌, ◌≤◌, List, [], ◌∷◌, ◌++◌, length, take, drop, sym, ap, subst, ◌∙◌, arith, length-drop, length-append, append_assoc}
+use Rattle.std.proofs.Common.{◌≡◌, ℕ, ◌+◌, ◌-◌, ◌≤◌, List, ◌∷◌, length, take, drop, sym, ap, subst, ◌∙◌, arith, length-drop, length-append}
 use Rattle.std.specs.List.{between}
 use Rattle.std.proofs.lemmas.List.{drop-drop, take_at, drop_at, length_push}
 use Rattle.text_ops.specs.Lines.{line_end, lines_of, text_of, ended, IsNormal}

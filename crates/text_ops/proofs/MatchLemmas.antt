@@ -1,35 +1,25 @@
 -- Lines found by their keys among sorted marks.
-use Rattle.std.proofs.Common.{◌≡◌, ◌≢◌, ℕ, zero, suc, ◌+◌, ◌-◌, ◌<◌, ◌≤◌, ◌==◌, Bool, true, false, not, List, [], ◌∷◌, ◌++◌, length, take, drop, get_or, get_or-drop, map, Option, Some, None, refl, sym, ap, subst, ◌∙◌, arith, ⊎_elim, min}
-use Rattle.std.specs.Prelude.{All, AllPairs, filter_map}
-use Rattle.std.specs.List.{between, take_while, prefix_len, AllByRecursion, find, Contains}
-use Rattle.std.specs.List.Sorted.{IsPermutation, IsPartitionedBy}
-use Rattle.std.specs.Option.{option_map}
-use Rattle.std.specs.Str.{bytes_eq}
+use Rattle.std.proofs.Common.{◌≡◌, ◌≢◌, ℕ, ◌+◌, ◌<◌, ◌≤◌, ◌==◌, true, false, not, List, [], ◌∷◌, ◌++◌, length, take, drop, get_or, get_or-drop, Some, None, refl, sym, ap, subst, ◌∙◌, arith}
+use Rattle.std.specs.List.{between, take_while}
 use Rattle.std.specs.Ordering.{nat_cmp, ordering_then, is_lt, is_le, ordering_reverse}
 use Rattle.std.specs.declared.cmp.Ordering.{Ordering}
 use Rattle.std.specs.declared.cmp.Ordering.TheVariants.{Less, Equal, Greater}
-use Rattle.std.proofs.lemmas.Bool.{cases_Bool, cond-true, cond-false, false_from_ne_true, cases_lt, eqb-true}
+use Rattle.std.proofs.lemmas.Bool.{false_from_ne_true, eqb-true}
 use Rattle.std.proofs.lemmas.Cmp.{ranked, by_ranked, nat_cmp_total, nat_list_cmp_total, tied_itself}
-use Rattle.std.proofs.lemmas.List.{get_or_default, get_or-map, length-map, drop-drop, drop_min, drop-append-le, take_all, append_assoc, take_at, length-take-le, length-drop, get_or_append_left, get_or-append_right, get_or_at, length-append}
-use Rattle.std.proofs.lemmas.List.Elements.{All-nil, All-cons, All-head, All-tail, Contains-get_or}
-use Rattle.std.proofs.lemmas.List.Sums.{prefix_len_is, prefix_len-le-length}
-use Rattle.std.proofs.lemmas.List.Sorted.{All-permutation, Contains-permutation, IsPermutation-sym, sorted_far, ranks_by}
+use Rattle.std.proofs.lemmas.List.{drop-drop, drop-append-le, take_all, append_assoc, take_at, length-drop, get_or_append_left, get_or_at, length-append}
+use Rattle.std.proofs.lemmas.List.Sums.{prefix_len_is}
 use Rattle.std.proofs.lemmas.Slice.{between_to_end}
-use Rattle.std.proofs.lemmas.Slice.Eq.{bytes_eq-Decides}
 use Rattle.memchr.specs.Find.{IsFirstByte, is_byte}
 use Rattle.text_ops.specs.declared.mark.Mark.{Mark}
 use Rattle.text_ops.specs.declared.mark.Piece.TheVariants.{Key}
-use Rattle.text_ops.specs.Lines.{line_end, lines_of, text_of, ended, IsNormal, IsPlain}
+use Rattle.text_ops.specs.Lines.{line_end, text_of, IsPlain}
 use Rattle.text_ops.specs.LineOrder.{line_cmp, IsUpTo}
-use Rattle.text_ops.specs.MatchKeys.{match_key, behind_key, first_with}
-use Rattle.text_ops.specs.inside.Marks.{lead_of, marked_piece, mark_cmp, mark_at, marks_of, AreSortedMarks}
-use Rattle.text_ops.specs.inside.Matching.{behind_mark, is_before, IsFirstPlace}
-use Rattle.text_ops.proofs.KeepLemmas.{lines_plain}
+use Rattle.text_ops.specs.MatchKeys.{match_key, behind_key}
+use Rattle.text_ops.specs.inside.Marks.{lead_of, marked_piece, mark_at}
+use Rattle.text_ops.specs.inside.Matching.{behind_mark, is_before}
 use Rattle.text_ops.proofs.LeadLemmas.{lead_of-up_to}
-use Rattle.text_ops.proofs.LineSteps.{text_is, next_rest}
-use Rattle.text_ops.proofs.MarkLemmas.{mark_total, length-match_key-le}
-use Rattle.text_ops.proofs.OrderLemmas.{IsUpTo-refl, IsUpTo-trans, IsUpTo-antisym}
-use Rattle.text_ops.proofs.SortedMarks.{HasLead, leads, pieces_rise, marked_piece-mark_at, bytes_marked}
+use Rattle.text_ops.proofs.MarkLemmas.{length-match_key-le}
+use Rattle.text_ops.proofs.OrderLemmas.{IsUpTo-trans, IsUpTo-antisym}
 
 -- What stands up to the next line end.
 up_to_end : (line rest : List ℕ) → IsPlain line → take_while (λ byte. not (byte == line_end)) (line ++ line_end ∷ rest) ≡ line

@@ -1,11 +1,10 @@
 -- Runs of equal lines among lines in order.
-use Rattle.std.proofs.Common.{◌≡◌, ◌≢◌, ℕ, zero, suc, ◌+◌, ◌*◌, ◌-◌, ◌<◌, ◌≤◌, true, false, cond, List, [], ◌∷◌, ◌++◌, length, take, drop, get_or, map, decimal, refl, sym, ap, subst, ◌∙◌, arith, ⊎_elim, append_assoc, append-nil, length-drop}
+use Rattle.std.proofs.Common.{◌≡◌, ◌≢◌, ℕ, suc, ◌+◌, ◌<◌, ◌≤◌, true, false, cond, List, [], ◌∷◌, ◌++◌, length, take, drop, get_or, map, decimal, refl, sym, ap, ◌∙◌, arith, ⊎_elim, append_assoc, append-nil, length-drop}
 use Rattle.std.specs.List.{prefix_len, AllByRecursion}
-use Rattle.std.specs.List.Sorted.{IsPermutation}
 use Rattle.std.specs.Str.{bytes_eq}
 use Rattle.std.proofs.Math.Seq.{take-add}
 use Rattle.std.proofs.lemmas.Bool.{cases_Bool, cond-true, cond-false, false_from_ne_true}
-use Rattle.std.proofs.lemmas.List.{drop_more, drop-drop, get_or-map, length-map, take-append-drop, drop-map}
+use Rattle.std.proofs.lemmas.List.{drop-drop, get_or-map, length-map, take-append-drop}
 use Rattle.std.proofs.lemmas.List.Sums.{sum_by-append, prefix_len_is, prefix_len-le-length}
 use Rattle.std.proofs.lemmas.Slice.Eq.{bytes_eq-Decides}
 use Rattle.text_ops.specs.declared.gathered.Gathered.{Gathered}

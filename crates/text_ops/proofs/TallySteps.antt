@@ -67,8 +67,14 @@ module _ (text bytes : List ℕ) (marks : List Mark) (same : bytes ≡ text) (is
 
     pub run_inside : (run : ℕ) → run ≡ run_of (map (marked_piece bytes) (between at (length marks) marks)) → at + run ≤ length marks
     run_inside run is_run =
-        omega (arith, run_here run is_run, run-le (marked_piece bytes (get_or marks at d)) (drop (at + 1) (map (marked_piece bytes) marks)) rises_here,
-        ap length here, length-drop at (map (marked_piece bytes) marks), length-map marks (marked_piece bytes))
+        omega (
+          arith,
+          run_here run is_run,
+          run-le (marked_piece bytes (get_or marks at d)) (drop (at + 1) (map (marked_piece bytes) marks)) rises_here,
+          ap length here,
+          length-drop at (map (marked_piece bytes) marks),
+          length-map marks (marked_piece bytes),
+        )
 
     pub next_tally : (made next : Gathered) (piece : List ℕ) (run : ℕ) → (so_far : TallySoFar text (map (marked_piece bytes) marks) at made) → run ≡ run_of (map (marked_piece bytes) (between at (length marks) marks)) → piece ≡ marked_piece bytes (get_or marks at d) → ((all : List ℕ) → IsGathered all made → IsGathered (all ++ ended (decimal run ++ space ∷ piece)) next) → next.total ≤ made.total + length piece + 22 → TallySoFar text (map (marked_piece bytes) marks) (at + run) next
     next_tally made next piece run so_far is_run piece_is put total =

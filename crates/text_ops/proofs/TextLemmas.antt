@@ -1,9 +1,8 @@
 -- Parts of a text.
-use Rattle.std.proofs.Common.{◌≡◌, ℕ, ◌+◌, ◌-◌, ◌≤◌, List, ◌++◌, length, take, drop, sym, ap, subst, ◌∙◌, arith, length-take, length-drop}
+use Rattle.std.proofs.Common.{◌≡◌, ℕ, ◌+◌, ◌-◌, ◌≤◌, List, ◌++◌, length, take, drop, sym, ap, ◌∙◌, arith, length-take}
 use Rattle.std.specs.List.{between}
 use Rattle.std.proofs.Math.Seq.{take-add}
 use Rattle.std.proofs.lemmas.List.{take-take, drop-take, drop-drop, take_all}
-use Rattle.text_ops.specs.Lines.{IsNormal}
 
 -- a part of a part
 pub between-between : (xs : List ℕ) (s e i j : ℕ) → i ≤ j → s + j ≤ e → between i j (between s e xs) ≡ between (s + i) (s + j) xs

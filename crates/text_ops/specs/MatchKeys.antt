@@ -1,5 +1,5 @@
 -- The keys by which lines are matched.
-use Rattle.std.specs.Prelude.{ℕ, ◌==◌, Bool, not, List, [], ◌++◌, length, drop, filter_map, Option}
+use Rattle.std.specs.Prelude.{ℕ, ◌==◌, not, List, ◌++◌, length, drop, filter_map, Option}
 use Rattle.std.specs.List.{take_while, find}
 use Rattle.std.specs.Option.{option_map}
 use Rattle.std.specs.Str.{bytes_eq}

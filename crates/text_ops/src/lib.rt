@@ -1,4 +1,12 @@
-//! What operations make of texts.
+//! Texts of lines, and what operations make of them.
+//!
+//! A `Text` is normal: empty, or ended by a line feed. Its bytes are shared, and a text may be a part of the bytes of
+//! another one, so that handing a text on and cutting it copy nothing. Each operation makes what the function of its
+//! name in `specs/TextMeaning.antt` says, or says how many bytes that would be, where they are more than a value may
+//! have, without building it. The layer above knows a text by its bytes alone.
+//!
+//! `specs/Lines.antt` has lines and words, `specs/LineOrder.antt` the order of lines, `specs/Repeats.antt` neighbours
+//! that are equal, `specs/MatchKeys.antt` how lines of two texts match, `specs/Values.antt` what an operation answers.
 #![tactic(auto)]
 
 mod counted;
@@ -9,7 +17,6 @@ mod gathering;
 mod keeping;
 mod kept_lines;
 mod kept_runs;
-
 mod laws;
 mod line_walk;
 mod mark;
@@ -24,10 +31,10 @@ mod tallied;
 mod tests;
 mod text;
 
+pub use counted::{count, line_count};
 pub use cuts::{head, skip, tail};
 pub use gathered::{ApplyError, VALUE_LIMIT};
 pub use kept_lines::{has_word, keep, without};
-pub use counted::{count, line_count};
 pub use laws::{lines_and_words, order_of_lines, shares_of_lines};
 pub use matched::match_lines;
 pub use normal_text::{into_normal, is_normal};

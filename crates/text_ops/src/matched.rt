@@ -12,7 +12,7 @@ ghost use Rattle.text_ops.specs.inside.Matching.{IsFirstPlace, behind_mark, is_b
 use crate::gathered::{ApplyError, Gathered};
 use crate::line_walk::Lines;
 use crate::mark::{Mark, Piece};
-use crate::marks::{match_key, lead, marked_piece, sorted_marks};
+use crate::marks::{lead, marked_piece, match_key, sorted_marks};
 use crate::text::Text;
 use memchr::memchr;
 use std::alloc::Global;

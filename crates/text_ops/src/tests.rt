@@ -60,7 +60,11 @@ fn gives_values_written_by_hand(rt: HostRuntime) -> Result<(), Fail> {
         (Op::Keep(b"x"), b"", b""),
         (Op::Keep(b""), b"x\n\ny\n", b"x\n\ny\n"),
         (Op::Keep(b""), b"", b""),
-        (Op::Keep(b"x"), b"axa\nb\ncx\nxd\n\nxx\n", b"axa\ncx\nxd\nxx\n"),
+        (
+            Op::Keep(b"x"),
+            b"axa\nb\ncx\nxd\n\nxx\n",
+            b"axa\ncx\nxd\nxx\n",
+        ),
         (Op::Keep(b"ab"), b"a\nb\nab\naab\nba\n", b"ab\naab\n"),
         (Op::Keep(b"longer"), b"x\ny\n", b""),
         (Op::Keep(b"x\ny"), b"x\ny\n", b""),
@@ -87,7 +91,11 @@ fn gives_values_written_by_hand(rt: HostRuntime) -> Result<(), Fail> {
         (Op::Sort, b"b\n\na\n", b"\na\nb\n"),
         (Op::Sort, b"b\na\nb\n", b"a\nb\nb\n"),
         (Op::Sort, b"a\0\na\n\0\n\xff\n", b"\0\na\na\0\n\xff\n"),
-        (Op::Sort, b"abcdefghz\nabcdefgha\nabcdefgh\n", b"abcdefgh\nabcdefgha\nabcdefghz\n"),
+        (
+            Op::Sort,
+            b"abcdefghz\nabcdefgha\nabcdefgh\n",
+            b"abcdefgh\nabcdefgha\nabcdefghz\n",
+        ),
         (Op::Uniq, b"a\na\nb\na\n", b"a\nb\na\n"),
         (Op::Uniq, b"\n\n\na\n", b"\na\n"),
         (Op::Uniq, b"\0\n\0\n", b"\0\n"),
@@ -98,10 +106,18 @@ fn gives_values_written_by_hand(rt: HostRuntime) -> Result<(), Fail> {
         (Op::Tally, b"\n", b"1 \n"),
         (Op::Tally, b"b\na\nb\n\n", b"1 \n1 a\n2 b\n"),
         (Op::Tally, b"\xff\n\0\n\xff\n", b"1 \0\n2 \xff\n"),
-        (Op::Match(b"10 x y\n30 z\n10 q\n20\n"), b"10 a\n20 b\n10 c\n30\n", b"10 a x y\n20 b\n10 c x y\n30 z\n"),
+        (
+            Op::Match(b"10 x y\n30 z\n10 q\n20\n"),
+            b"10 a\n20 b\n10 c\n30\n",
+            b"10 a x y\n20 b\n10 c x y\n30 z\n",
+        ),
         (Op::Match(b""), b"a\n", b""),
         (Op::Match(b" x\n"), b"\n a\nb\n", b" x\n a x\n"),
-        (Op::Match(b"abcdefgh1 p\nabcdefgh2 q\n"), b"abcdefgh2\nabcdefgh\n", b"abcdefgh2 q\n"),
+        (
+            Op::Match(b"abcdefgh1 p\nabcdefgh2 q\n"),
+            b"abcdefgh2\nabcdefgh\n",
+            b"abcdefgh2 q\n",
+        ),
     ];
     for (op, text, value) in table {
         let made = apply(rt.alloc(), op, &text_of(rt.alloc(), text)?)?;
@@ -136,7 +152,12 @@ fn gives_what_the_definitions_say(rt: HostRuntime) -> Result<(), Fail> {
         for op in ops {
             let made = apply(rt.alloc(), op, &text)?;
             let value = slow::value(rt.alloc(), op, text.as_slice())?;
-            assert_eq!(rt; made.as_slice(), value.as_slice(), "{op:?} of {text:?}", text = text.as_slice());
+            assert_eq!(rt;
+                made.as_slice(),
+                value.as_slice(),
+                "{op:?} of {text:?}",
+                text = text.as_slice()
+            );
         }
         let lines = slow::lines(rt.alloc(), text.as_slice())?;
         assert_eq!(rt; line_count(&text), lines.len() as u64);
@@ -157,9 +178,15 @@ fn refuses_values_that_are_too_long(rt: HostRuntime) -> Result<(), Fail> {
     assert_eq!(rt; sort(rt.alloc(), &line)?.len(), 16_777_216);
     assert_eq!(rt; keep(rt.alloc(), b"x", &line)?.len(), 16_777_216);
     assert_eq!(rt; uniq(rt.alloc(), &line)?.len(), 16_777_216);
-    assert_eq!(rt; tally(rt.alloc(), &line).err(), Some(ApplyError::Long(16_777_218)));
+    assert_eq!(rt;
+        tally(rt.alloc(), &line).err(),
+        Some(ApplyError::Long(16_777_218))
+    );
     let left = text_of(rt.alloc(), b"k\nk")?;
-    assert_eq!(rt; match_lines(rt.alloc(), &left, &line).err(), Some(ApplyError::Long(33_554_432)));
+    assert_eq!(rt;
+        match_lines(rt.alloc(), &left, &line).err(),
+        Some(ApplyError::Long(33_554_432))
+    );
     long.add_all(line.as_slice())?;
     let lines = text_of(rt.alloc(), long.as_slice())?;
     let ops: [(Op<'_>, u64); 7] = [
@@ -172,7 +199,11 @@ fn refuses_values_that_are_too_long(rt: HostRuntime) -> Result<(), Fail> {
         (Op::Tally, 33_554_433),
     ];
     for (op, bytes) in ops {
-        assert_eq!(rt; apply(rt.alloc(), op, &lines).err(), Some(ApplyError::Long(bytes)), "{op:?}");
+        assert_eq!(rt;
+            apply(rt.alloc(), op, &lines).err(),
+            Some(ApplyError::Long(bytes)),
+            "{op:?}"
+        );
     }
     assert_eq!(rt; count(rt.alloc(), &lines)?.as_slice(), b"1\n".as_slice());
     Ok(())

@@ -1,10 +1,9 @@
-use Rattle.std.proofs.Common.{◌≡◌, rules, arith, ◌∙◌, sym, ap, subst, length, decimal, [], ◌∷◌}
+use Rattle.std.proofs.Common.{◌≡◌, arith, ◌∙◌, sym, subst, length, decimal, [], ◌∷◌}
 use Rattle.std.proofs.lemmas.Fmt.{length-decimal-le}
 use Rattle.text_ops.specs.Lines.{IsNormal, lines_of}
 use Rattle.text_ops.specs.TextMeaning.{count_meaning}
-use Rattle.text_ops.specs.Values.{Makes}
 use Rattle.text_ops.proofs.LineLemmas.{IsNormal-text_of}
-use Rattle.text_ops.proofs.CountLemmas.{counted_line, length-count_meaning-le}
+use Rattle.text_ops.proofs.CountLemmas.{counted_line}
 use Rattle.text_ops.proofs.counted.count.Goals as goal
 
 pub write_digits-start-requires : goal.write_digits-start-requires

@@ -1,11 +1,10 @@
-use Rattle.std.proofs.Common.{◌≡◌, ◌∙◌, ◌+◌, ◌≤◌, ◌++◌, sym, ap, subst, length, arith}
+use Rattle.std.proofs.Common.{◌∙◌, ◌+◌, ◌≤◌, ◌++◌, sym, ap, subst, length, arith}
 use Rattle.std.specs.List.{between}
 use Rattle.std.proofs.lemmas.Slice.{between_to_end}
 use Rattle.text_ops.specs.Values.{Makes}
-use Rattle.text_ops.specs.Lines.{IsNormal}
 use Rattle.text_ops.specs.TextMeaning.{without_meaning}
 use Rattle.text_ops.specs.inside.FoundLine.{IsFirstKept, IsNowhere}
-use Rattle.text_ops.proofs.KeptSoFarLemmas.{KeptSoFar-start, KeptSoFar-step, line_within, front_whole, after_whole, next_others, rest_nowhere}
+use Rattle.text_ops.proofs.KeptSoFarLemmas.{KeptSoFar-start, KeptSoFar-step, line_within, after_whole, next_others, rest_nowhere}
 use Rattle.text_ops.proofs.kept_lines.drop_found.Goals as goal
 
 pub loop-line-init : goal.loop-line-init

@@ -1,4 +1,4 @@
-use Rattle.std.proofs.Common.{◌≡◌, ◌∙◌, ◌==◌, sym, ap, subst, not, length, is_some}
+use Rattle.std.proofs.Common.{◌∙◌, ◌==◌, sym, ap, not, length}
 use Rattle.std.proofs.lemmas.Bool.{eqb-true}
 use Rattle.text_ops.specs.TextMeaning.{has_word}
 use Rattle.text_ops.proofs.KeepLemmas.{broken_word}
@@ -6,7 +6,7 @@ use Rattle.text_ops.proofs.HasWordLemmas.{has_word-first, has_word-empty, has_wo
 use Rattle.text_ops.proofs.kept_lines.has_word.Goals as goal
 
 pub returns-then-is_empty : goal.returns-then-is_empty
-returns-then-is_empty c = 
+returns-then-is_empty c =
     let empty = eqb-true _ 0 (sym c.is_empty.ensures ∙ c.if-is_empty.true) in
     ap not (c.is_empty-then-is_empty.ensures ∙ ap (λ text. length text == 0) c.as_slice-bytes.ensures.value)
     ∙ sym (has_word-empty c.args.word.now c.args.text.now empty c.as_slice-bytes.ensures.normal)

@@ -1,10 +1,9 @@
-use Rattle.std.proofs.Common.{◌≡◌, ◌∙◌, ◌+◌, ◌++◌, sym, ap, subst, append-nil, length}
+use Rattle.std.proofs.Common.{◌∙◌, ◌+◌, ◌++◌, sym, ap, subst, append-nil, length}
 use Rattle.std.specs.List.{between}
 use Rattle.text_ops.specs.Values.{Makes}
-use Rattle.text_ops.specs.Lines.{IsNormal}
 use Rattle.text_ops.specs.TextMeaning.{keep_meaning}
 use Rattle.text_ops.specs.inside.FoundLine.{IsFirstKept, IsNowhere}
-use Rattle.text_ops.proofs.KeptSoFarLemmas.{KeptSoFar-start, KeptSoFar-step, line_within, line_whole, after_whole, next_kept, rest_nowhere}
+use Rattle.text_ops.proofs.KeptSoFarLemmas.{KeptSoFar-start, KeptSoFar-step, line_within, after_whole, next_kept, rest_nowhere}
 use Rattle.text_ops.proofs.kept_lines.keep_found.Goals as goal
 
 pub loop-line-init : goal.loop-line-init

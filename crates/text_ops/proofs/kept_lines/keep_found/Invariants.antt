@@ -1,4 +1,4 @@
-use Rattle.std.proofs.Common.{◌≡◌, ◌-◌, length}
+use Rattle.std.proofs.Common.{◌-◌, length}
 use Rattle.text_ops.specs.TextMeaning.{keep_meaning}
 use Rattle.text_ops.specs.inside.KeptSoFar.{KeptSoFar}
 use Rattle.text_ops.proofs.kept_lines.keep_found.Given as goal

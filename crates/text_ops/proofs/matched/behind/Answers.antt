@@ -1,4 +1,4 @@
-use Rattle.std.proofs.Common.{◌≡◌, ◌+◌, ◌≤◌, ◌==◌, ℕ, not, ◌∙◌, ap, arith, length, drop, min}
+use Rattle.std.proofs.Common.{◌+◌, ◌==◌, ℕ, not, ◌∙◌, ap, arith, drop}
 use Rattle.std.specs.List.{take_while}
 use Rattle.std.proofs.lemmas.List.{drop_min}
 use Rattle.text_ops.specs.Lines.{line_end}

@@ -1,7 +1,6 @@
-use Rattle.std.proofs.Common.{◌≡◌, ◌≢◌, ◌<◌, ◌∙◌, None, Some, sym, ap, arith, length, get_or}
+use Rattle.std.proofs.Common.{◌∙◌, Some, sym, ap, arith}
 use Rattle.std.specs.Option.{option_map, option_copied}
-use Rattle.text_ops.specs.Lines.{lines_of}
-use Rattle.text_ops.specs.MatchKeys.{behind_key, first_with}
+use Rattle.text_ops.specs.MatchKeys.{behind_key}
 use Rattle.text_ops.specs.declared.mark.Mark.{Mark}
 use Rattle.text_ops.specs.inside.Marks.{marked_piece}
 use Rattle.text_ops.specs.inside.Matching.{behind_mark}

@@ -1,10 +1,9 @@
-use Rattle.std.proofs.Common.{◌≡◌, ◌≤◌, ◌∙◌, sym, ap, subst, arith, length}
+use Rattle.std.proofs.Common.{◌∙◌, sym, ap, subst, arith, length}
 use Rattle.text_ops.specs.Lines.{lines_of, IsNormal}
 use Rattle.text_ops.specs.MatchKeys.{matched}
-use Rattle.text_ops.specs.Values.{Makes}
 use Rattle.text_ops.proofs.LineLemmas.{IsNormal-text_of}
 use Rattle.text_ops.proofs.SortLemmas.{gathered_normal}
-use Rattle.text_ops.proofs.MatchSteps.{MatchSoFar-start, MatchSoFar-found, MatchSoFar-none, MatchSoFar-end, match_countable}
+use Rattle.text_ops.proofs.MatchSteps.{MatchSoFar-start, MatchSoFar-found, MatchSoFar-end, match_countable}
 use Rattle.text_ops.proofs.matched.match_lines.Goals as goal
 
 pub loop-line-init : goal.loop-line-init

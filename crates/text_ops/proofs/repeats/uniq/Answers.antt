@@ -1,9 +1,8 @@
-use Rattle.std.proofs.Common.{◌≡◌, ◌+◌, ◌≤◌, ◌++◌, ◌∙◌, sym, ap, subst, length, [], ◌∷◌, Some}
+use Rattle.std.proofs.Common.{◌+◌, ◌≤◌, ◌∙◌, sym, subst, length, Some}
 use Rattle.std.specs.Option.{option_copied}
 use Rattle.std.specs.List.{between}
 use Rattle.text_ops.specs.declared.kept_runs.KeptRuns.{KeptRuns}
 use Rattle.text_ops.specs.Lines.{IsNormal}
-use Rattle.text_ops.specs.inside.Keeping.{HasKept}
 use Rattle.text_ops.specs.inside.Repeating.{UniqSoFar}
 use Rattle.text_ops.specs.Values.{Makes}
 use Rattle.text_ops.proofs.RepeatLemmas.{UniqSoFar-start, UniqSoFar-kept, UniqSoFar-left, UniqSoFar-end, next_inside, next_normal}

@@ -1,8 +1,8 @@
-use Rattle.std.proofs.Common.{◌≡◌, ◌∙◌, ◌≤◌, sym, ap, subst, length, arith, map, take, get_or}
+use Rattle.std.proofs.Common.{◌∙◌, sym, ap, subst, length, arith, map, take, get_or}
 use Rattle.std.proofs.lemmas.List.{take_all}
 use Rattle.text_ops.specs.declared.mark.Piece.TheVariants.{Whole}
 use Rattle.text_ops.specs.inside.Marks.{marked_piece, AreSortedMarks}
-use Rattle.text_ops.specs.Lines.{lines_of, text_of, IsNormal}
+use Rattle.text_ops.specs.Lines.{text_of, IsNormal}
 use Rattle.text_ops.specs.Values.{Makes}
 use Rattle.text_ops.specs.TextMeaning.{sort_meaning}
 use Rattle.text_ops.proofs.CountLemmas.{length-lines_of-le}
@@ -21,8 +21,17 @@ add-requires c =
     let bytes = c.as_slice-bytes.result.now in
     let normal = subst IsNormal (sym same) c.as_slice-bytes.ensures.normal in
     let few = length_marks bytes c.in_ok-marks.marks.items Whole normal c.in_ok-marks.ensures in
-    omega (arith, c.loop-mark.invariant.total, ap length c.marked_with_end.ensures, length-with_end-le bytes (get_or c.as_slice-mark-items.result.now c.loop-mark.mark-index (record { lead = 0; start = 0; len = 0 })),
-    ap length c.as_slice-mark-items.ensures.value, few, length-lines_of-le bytes normal, ap length same, c.as_slice-bytes.ensures.short)
+    omega (
+      arith,
+      c.loop-mark.invariant.total,
+      ap length c.marked_with_end.ensures,
+      length-with_end-le bytes (get_or c.as_slice-mark-items.result.now c.loop-mark.mark-index (record { lead = 0; start = 0; len = 0 })),
+      ap length c.as_slice-mark-items.ensures.value,
+      few,
+      length-lines_of-le bytes normal,
+      ap length same,
+      c.as_slice-bytes.ensures.short,
+    )
 
 pub loop-mark-preserved : goal.loop-mark-preserved
 loop-mark-preserved c =

@@ -1,4 +1,4 @@
-use Rattle.std.proofs.Common.{◌≡◌, ◌∙◌, ◌<◌, sym, arith, below_more}
+use Rattle.std.proofs.Common.{◌∙◌, sym, arith, below_more}
 use Rattle.text_ops.specs.inside.Marks.{marked_piece}
 use Rattle.text_ops.proofs.TallyLemmas.{run_marks}
 use Rattle.text_ops.proofs.TallySteps.{differs, equal}

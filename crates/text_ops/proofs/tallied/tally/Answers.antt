@@ -1,4 +1,4 @@
-use Rattle.std.proofs.Common.{◌≡◌, ◌∙◌, ◌≤◌, ◌+◌, sym, ap, subst, arith, rules, length, get_or}
+use Rattle.std.proofs.Common.{◌≤◌, ◌+◌, sym, ap, subst, arith, rules, length, get_or}
 use Rattle.text_ops.specs.declared.mark.Mark.{Mark}
 use Rattle.text_ops.specs.declared.mark.Piece.TheVariants.{Whole}
 use Rattle.text_ops.specs.Lines.{IsNormal}
@@ -25,9 +25,13 @@ add_counted-requires c =
     let text = c.as_slice-bytes in
     let marks = c.as_slice-marks.result.now in
     let sorted = subst (AreSortedMarks Whole text.result.now) (sym c.as_slice-marks.ensures.value) c.in_ok-marks.ensures in
-    omega (arith, c.loop-at.invariant.total, ap length c.marked_piece.ensures,
-    few_marks c.args.text.now text.result.now marks text.ensures.value text.ensures.normal text.ensures.short sorted,
-    short_line c.args.text.now text.result.now marks text.ensures.value text.ensures.normal text.ensures.short sorted (get_or marks c.loop-at.at no_mark))
+    omega (
+      arith,
+      c.loop-at.invariant.total,
+      ap length c.marked_piece.ensures,
+      few_marks c.args.text.now text.result.now marks text.ensures.value text.ensures.normal text.ensures.short sorted,
+      short_line c.args.text.now text.result.now marks text.ensures.value text.ensures.normal text.ensures.short sorted (get_or marks c.loop-at.at no_mark),
+    )
 
 pub overflow_add-at : goal.overflow_add-at
 overflow_add-at c =

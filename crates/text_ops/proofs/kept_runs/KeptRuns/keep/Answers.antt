@@ -1,4 +1,4 @@
-use Rattle.std.proofs.Common.{◌≡◌, ◌∙◌, ◌++◌, sym, ap, subst, arith, append_assoc}
+use Rattle.std.proofs.Common.{◌∙◌, ◌++◌, sym, ap, subst, arith, append_assoc}
 use Rattle.std.specs.List.{between}
 use Rattle.text_ops.specs.Lines.{IsNormal}
 use Rattle.text_ops.proofs.LineLemmas.{IsNormal-append}
@@ -32,4 +32,3 @@ returns-then-start-self-clause-kept c text all kept =
           ∙ append_assoc kept.copied (between runs.start runs.end text) (between runs.end c.args.end text)
           ∙ ap (λ l. kept.copied ++ l) (sym (between-append text runs.start runs.end c.args.end runs.rising (omega (arith, c.requires.after, c.requires.rising))));
     }
-

@@ -1,4 +1,4 @@
-use Rattle.std.proofs.Common.{◌≡◌, ◌∷◌, [], sym, ap, ◌∙◌, arith, length}
+use Rattle.std.proofs.Common.{sym, ap, ◌∙◌, arith, length}
 use Rattle.text_ops.specs.Lines.{lines_of}
 use Rattle.text_ops.proofs.WalkLemmas.{no_line, first_line_is, rest_normal}
 use Rattle.text_ops.proofs.line_walk.LinesIterator.next.Goals as goal

@@ -1,4 +1,4 @@
-use Rattle.std.proofs.Common.{◌≡◌, sym, subst, ap, length}
+use Rattle.std.proofs.Common.{sym, subst, ap, length}
 use Rattle.text_ops.specs.Lines.{IsNormal}
 use Rattle.text_ops.proofs.TextLemmas.{between_all}
 use Rattle.text_ops.proofs.text.Text.share.Goals as goal
