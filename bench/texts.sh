@@ -30,6 +30,12 @@ PYTHON
 random_lines 99 > long.txt
 random_lines 6 > short.txt
 
+# The first half of each, which is matched with itself, and the half twice, which is tallied: so no value is too long.
+for text in long short; do
+    head -n $(($(wc -l < $text.txt) / 2)) $text.txt > $text.half.txt
+    cat $text.half.txt $text.half.txt > $text.twice.txt
+done
+
 # For each line of the second reading, the first line of the first one with the same key, which ends before a space.
 cat > match.awk <<'AWK'
 {
@@ -76,10 +82,14 @@ tell() {
 }
 
 for text in long short; do
-    file=$text.txt
-    half=$(($(wc -l < $file) / 2))
+    half=$(wc -l < $text.half.txt)
     for operation in "head $half" "tail $half" "skip $half" "keep abc" "without abc" uniq count sort tally match; do
         read -r name operand <<< "$operation"
+        case $name in
+            tally) file=$text.twice.txt ;;
+            match) file=$text.half.txt ;;
+            *) file=$text.txt ;;
+        esac
         read -r micros size memory < <(measure "$name" $file "$operand")
         case $name in
             keep) beside="grep -F" other=$(time_of "grep -F '$operand' $file") ;;
