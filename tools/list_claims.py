@@ -15,7 +15,7 @@ CLAIM = re.compile(r"^\s*(?:pub )?([a-z_][a-z0-9_-]*) : (.*)$")
 CLAUSE = re.compile(r"ensures ([a-z_0-9]+) \{((?:[^{}]|\{[^{}]*\})*)\}")
 IMPORT = re.compile(r"use Rattle\.([a-z_]+)\.specs\.([A-Za-z.]+)\.\{([^}]*)\}")
 # Crates whose definitions are the claims' own nets and journals, or serve the slow decisions alone.
-EXAMPLES = ("slow_rules", "slow_verdicts", "worked_journals")
+EXAMPLES = ("slow_rules", "slow_verdicts", "worked_journals", "number_jobs")
 BEGIN = "<!-- claims: made by tools/list_claims.py -->"
 END = "<!-- end of claims -->"
 

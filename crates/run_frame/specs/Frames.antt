@@ -17,6 +17,8 @@ use Rattle.run_frame.specs.Meaning.{Meaning, IsRelease}
 use Rattle.run_frame.specs.WorkRule.{gives_of}
 use Rattle.run_frame.specs.declared.job.Answer.{Answer}
 use Rattle.run_frame.specs.declared.job.Done.TheVariants.{Value, Inner}
+use Rattle.run_frame.specs.declared.job.JobError.{JobError}
+use Rattle.run_frame.specs.declared.job.JobError.TheVariants.{Fault as FaultOf, NoMemory}
 use Rattle.run_frame.specs.declared.duty.Duty.{Duty}
 use Rattle.run_frame.specs.declared.duty.Duty.TheVariants.{Unused, Running}
 use Rattle.run_frame.specs.declared.state.Started.{Started}
@@ -103,6 +105,11 @@ MayEndWith meaning job (Running task start ins) v answer =
 abbrev pub MayFaultWith : {J V : Type 0} → Meaning J V → J → Duty V → Why → Type 0
 MayFaultWith meaning job (Unused task cause) why = ⊥
 MayFaultWith meaning job (Running task start ins) why = meaning.faults job task (map found_of (parts_of ins)) why
+
+-- and to this error; want of memory is free
+abbrev pub MayFail : {J V : Type 0} → Meaning J V → J → Duty V → JobError → Type 0
+MayFail meaning job duty (FaultOf why) = MayFaultWith meaning job duty why
+MayFail meaning job duty NoMemory = Unit {0}
 
 -- A start was ended with an answer, and each release that this made has one of these tickets.
 pub record EndsTask {J V : Type 0} (meaning : Meaning J V) (old new : FrameView J V) (ticket : TicketState (Duty V)) (answer : Answer) (released : List (TicketState (Duty V))) : Type 0 where

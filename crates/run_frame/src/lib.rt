@@ -25,6 +25,6 @@ mod steps;
 pub use duty::Duty;
 pub use end_values::{last_ends, values_by_place};
 pub use job::{Answer, Done, Job, JobError, Valued};
-pub use one_thread::run_alone;
+pub use one_thread::{run_alone, run_task};
 pub use run::{FrameRun, InnerRow, ValueRow};
 pub use state::{Begun, FrameState, Started};

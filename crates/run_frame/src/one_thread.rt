@@ -6,8 +6,8 @@ ghost use Rattle.run_frame.specs.Legal.{IsKept};
 ghost use Rattle.run_frame.specs.NestedRule.{job_of};
 ghost use Rattle.run_frame.specs.FlatNets.{IsFlatNet};
 ghost use Rattle.run_frame.specs.Duties.{AreReleasesOf, outstanding_count};
-ghost use Rattle.run_frame.specs.Frames.{IsStarted, HasNoInner, MayEndWith};
-ghost use Rattle.run_frame.specs.inside.OneThread.{GoesOn, HoldsAll, HoldsAllBut, IsOpenStart, MayFail, LeavesOne, TakesNext};
+ghost use Rattle.run_frame.specs.Frames.{IsStarted, HasNoInner, MayEndWith, MayFail};
+ghost use Rattle.run_frame.specs.inside.OneThread.{GoesOn, HoldsAll, HoldsAllBut, IsOpenStart, LeavesOne, TakesNext};
 ghost use Rattle.join_words.specs.Ins.{found_of, parts_of};
 
 use super::duty::Duty;
@@ -92,8 +92,8 @@ fn work<J: Job + Drop>(
     }
 }
 
-// Does the work of a start.
-fn run_task<J: Job + Drop>(
+/// Does the work of an open start. It needs no state of the run, so that other steps may be taken meanwhile.
+pub fn run_task<J: Job + Drop>(
     alloc: Global,
     job: &Arc<J>,
     running: &Ticket<Duty<J::V>>,

@@ -5,9 +5,7 @@ use Rattle.tickets.specs.Books.{TicketState}
 use Rattle.run_frame.specs.Meaning.{Meaning}
 use Rattle.run_frame.specs.declared.duty.Duty.{Duty}
 use Rattle.run_frame.specs.Duties.{AreReleasesOf, outstanding_count}
-use Rattle.run_frame.specs.declared.job.JobError.{JobError}
-use Rattle.run_frame.specs.declared.job.JobError.TheVariants.{Fault as FaultOf, NoMemory}
-use Rattle.run_frame.specs.Frames.{FrameView, IsStarted, HasNoInner, MayFaultWith}
+use Rattle.run_frame.specs.Frames.{FrameView, IsStarted, HasNoInner}
 
 -- a later state of the same run, with so many starts more
 pub record GoesOn {J V : Type 0} (old new : FrameView J V) (more : ℕ) : Type 0 where
@@ -43,11 +41,6 @@ pub record HasStartedNext {J V : Type 0} (meaning : Meaning J V) (old new : Fram
 abbrev pub TakesNext : {J V : Type 0} → Meaning J V → FrameView J V → FrameView J V → List (TicketState (Duty V)) → Option (TicketState (Duty V)) → Type 0
 TakesNext meaning old new ready None = GoesOn old new 0 × (outstanding_count new.items ≡ 0)
 TakesNext meaning old new ready (Some ticket) = HasStartedNext meaning old new ready ticket
-
--- the work of an open start may come to this error
-abbrev pub MayFail : {J V : Type 0} → Meaning J V → J → Duty V → JobError → Type 0
-MayFail meaning job duty (FaultOf why) = MayFaultWith meaning job duty why
-MayFail meaning job duty NoMemory = Unit {0}
 
 -- the run goes on without the start, and without new releases
 pub record LeavesOne {J V : Type 0} (old new : FrameView J V) : Type 0 where

@@ -1,0 +1,2 @@
+pub mod NumberMeaning
+pub mod inside

@@ -1,0 +1,2 @@
+-- Internal: what the tests' runs hold between two steps.
+pub mod Orders
