@@ -1,0 +1,90 @@
+-- Command lines and what they ask for, computed.
+use Rattle.std.proofs.Common.{◌≡◌, refl, codes, Some, None, [], ◌∷◌, List, ℕ}
+use Rattle.clap.proofs.OnLiterals.{clap_on_literals}
+use Rattle.command_line.specs.Numbers.{number_of}
+use Rattle.command_line.specs.Requests.{run, asked_by}
+
+-- Numbers have 1 to 7 digits and nothing else, and are in their range.
+least : number_of 1 1000000 (codes "1") ≡ Some 1
+least = refl
+
+greatest : number_of 1 1000000 (codes "1000000") ≡ Some 1000000
+greatest = refl
+
+zeros_in_front : number_of 1 1000000 (codes "0000012") ≡ Some 12
+zeros_in_front = refl
+
+too_low : number_of 1 1000000 (codes "0") ≡ None
+too_low = refl
+
+too_high : number_of 1 1000000 (codes "1000001") ≡ None
+too_high = refl
+
+eight_digits : number_of 1 1000000 (codes "00000001") ≡ None
+eight_digits = refl
+
+no_digit : number_of 0 9 [] ≡ None
+no_digit = refl
+
+a_plus : number_of 1 9 (codes "+4") ≡ None
+a_plus = refl
+
+a_letter : number_of 1 9 (codes "1x") ≡ None
+a_letter = refl
+
+-- A run of a file, with the limit that is said or the default.
+plain : asked_by (codes "run" ∷ codes "g" ∷ []) ≡ Some (run (codes "g") 100000)
+unfolding clap_on_literals
+plain = refl
+
+limited : asked_by (codes "run" ∷ codes "g" ∷ codes "--limit" ∷ codes "10" ∷ []) ≡ Some (run (codes "g") 10)
+unfolding clap_on_literals
+limited = refl
+
+limit_first : asked_by (codes "run" ∷ codes "--limit=10" ∷ codes "g" ∷ []) ≡ Some (run (codes "g") 10)
+unfolding clap_on_literals
+limit_first = refl
+
+behind_two_hyphens : asked_by (codes "run" ∷ codes "--" ∷ codes "-g" ∷ []) ≡ Some (run (codes "-g") 100000)
+unfolding clap_on_literals
+behind_two_hyphens = refl
+
+-- What is refused: no command, another one, no file, two files, other options, an option twice or without its value,
+-- help, and numbers that are none.
+nothing : asked_by [] ≡ None
+nothing = refl
+
+another_command : asked_by (codes "Run" ∷ codes "g" ∷ []) ≡ None
+another_command = refl
+
+no_file : asked_by (codes "run" ∷ []) ≡ None
+unfolding clap_on_literals
+no_file = refl
+
+two_files : asked_by (codes "run" ∷ codes "g" ∷ codes "h" ∷ []) ≡ None
+unfolding clap_on_literals
+two_files = refl
+
+unknown_option : asked_by (codes "run" ∷ codes "g" ∷ codes "--workers" ∷ codes "4" ∷ []) ≡ None
+unfolding clap_on_literals
+unknown_option = refl
+
+hyphen_file : asked_by (codes "run" ∷ codes "-g" ∷ []) ≡ None
+unfolding clap_on_literals
+hyphen_file = refl
+
+limit_twice : asked_by (codes "run" ∷ codes "g" ∷ codes "--limit" ∷ codes "1" ∷ codes "--limit" ∷ codes "1" ∷ []) ≡ None
+unfolding clap_on_literals
+limit_twice = refl
+
+limit_without_value : asked_by (codes "run" ∷ codes "g" ∷ codes "--limit" ∷ []) ≡ None
+unfolding clap_on_literals
+limit_without_value = refl
+
+help : asked_by (codes "run" ∷ codes "g" ∷ codes "--help" ∷ []) ≡ None
+unfolding clap_on_literals
+help = refl
+
+bad_limit : asked_by (codes "run" ∷ codes "g" ∷ codes "--limit" ∷ codes "1x" ∷ []) ≡ None
+unfolding clap_on_literals
+bad_limit = refl

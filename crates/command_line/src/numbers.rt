@@ -1,0 +1,49 @@
+// Numbers of a command line.
+ghost use Rattle.std.specs.Prelude.{◌≡◌, ◌↔◌, All, IsTrue};
+ghost use Rattle.std.specs.Char.{is_ascii_digit};
+ghost use Rattle.std.specs.Str.Parse.{digits_value};
+ghost use Rattle.command_line.specs.Numbers.{number_of, is_short_number};
+
+/// The most starts that a run may be limited to.
+pub const LIMIT: u64 = 1_000_000;
+
+/// The number that an argument writes: 1 to 7 ASCII digits, from `least` to `most`.
+pub(crate) fn number_of(text: &str, least: u64, most: u64) -> Option<u64>
+    ensures { result ≡ number_of least most text.now }
+{
+    if !is_short_number(text.as_bytes()) {
+        return None;
+    }
+    let number = value_of(text);
+    if least <= number && number <= most {
+        Some(number)
+    } else {
+        None
+    }
+}
+
+// The number that 1 to 7 digits write.
+fn value_of(text: &str) -> u64
+    requires { IsTrue (is_short_number text.now) }
+    ensures { result ≡ digits_value 10 text.now }
+{
+    match text.parse::<u64>() {
+        Ok(number) => number,
+        Err(_) => unreachable!(),
+    }
+}
+
+// Whether these are 1 to 7 ASCII digits.
+#[tactic(auto, using(crate::proofs::Digits::digits_from_each, crate::proofs::Digits::each_from_digits))]
+fn is_short_number(text: &[u8]) -> bool
+    ensures { IsTrue result ↔ IsTrue (is_short_number text.now) }
+{
+    !text.is_empty() && text.len() <= 7 && are_digits(text)
+}
+
+// Whether each byte is an ASCII digit.
+fn are_digits(text: &[u8]) -> bool
+    ensures { IsTrue result ↔ All (λ byte. IsTrue (is_ascii_digit byte)) text.now }
+{
+    text.iter().all(|byte| byte.is_ascii_digit())
+}
