@@ -1,5 +1,5 @@
 -- What a command line asks for.
-use Rattle.std.specs.Prelude.{ℕ, true, List, [], ◌∷◌, Option, Some, None, option_and_then, option_map, if◌then◌else◌, codes}
+use Rattle.std.specs.Prelude.{ℕ, ◌≤◌, true, List, [], ◌∷◌, Option, Some, None, option_and_then, option_map, if◌then◌else◌, codes}
 use Rattle.std.specs.Option.{option_map_or}
 use Rattle.std.specs.Str.{bytes_eq}
 use Rattle.clap.specs.Walk.{Row, Rule}
@@ -19,6 +19,10 @@ start_limit = 100000
 -- what is asked for: to run the graph in a file, with at most so many starts
 pub data Asked : Type 0 where
   run : List ℕ → ℕ → Asked
+
+-- the limit is within the greatest
+abbrev pub IsWithinLimit : Asked → Type 0
+IsWithinLimit (run file limit) = limit ≤ greatest_limit
 
 -- a command of this name that reads no name of a program, and of itself has no flag
 abbrev pub bare : List ℕ → App

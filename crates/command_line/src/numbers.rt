@@ -1,5 +1,5 @@
 // Numbers of a command line.
-ghost use Rattle.std.specs.Prelude.{◌≡◌, ◌↔◌, All, IsTrue};
+ghost use Rattle.std.specs.Prelude.{◌≡◌, ◌↔◌, ◌≤◌, All, IsTrue, IfSome};
 ghost use Rattle.std.specs.Char.{is_ascii_digit};
 ghost use Rattle.std.specs.Str.Parse.{digits_value};
 ghost use Rattle.command_line.specs.Numbers.{number_of, is_short_number};
@@ -9,7 +9,8 @@ pub const LIMIT: u64 = 1_000_000;
 
 /// The number that an argument writes: 1 to 7 ASCII digits, from `least` to `most`.
 pub(crate) fn number_of(text: &str, least: u64, most: u64) -> Option<u64>
-    ensures { result ≡ number_of least most text.now }
+    ensures value { result ≡ number_of least most text.now }
+    ensures most { IfSome result (λ number. number ≤ most) }
 {
     if !is_short_number(text.as_bytes()) {
         return None;

@@ -1,7 +1,7 @@
 // Requests.
 ghost use Rattle.std.specs.Prelude.{◌≡◌, map, IfOk, IfErr, Some, None};
 ghost use Rattle.std.specs.String.{string_bytes};
-ghost use Rattle.command_line.specs.Requests.{asked, asked_by};
+ghost use Rattle.command_line.specs.Requests.{IsWithinLimit, asked, asked_by};
 
 use super::run::{Run, read_run};
 use std::alloc::{AllocError, Global};
@@ -32,6 +32,7 @@ impl From<AllocError> for ArgumentsError {
 /// (`asked_by`), unless an allocation fails.
 pub fn read_arguments<'w>(alloc: Global, arguments: &'w [String]) -> Result<Request<'w>, ArgumentsError>
     ensures ok { IfOk result (λ request. asked_by (map string_bytes arguments.entry.now) ≡ Some (asked request)) }
+    ensures limit { IfOk result (λ request. IsWithinLimit (asked request)) }
     ensures refused { IfErr result (λ error. error ≡ ArgumentsError.Refused → asked_by (map string_bytes arguments.entry.now) ≡ None) }
 {
     let Some((command, rest)) = arguments.split_first() else {

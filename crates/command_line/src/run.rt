@@ -1,8 +1,8 @@
 // The command `run`.
-ghost use Rattle.std.specs.Prelude.{◌≡◌, map, IfOk, IfErr, Some, None, option_map, option_and_then};
+ghost use Rattle.std.specs.Prelude.{◌≡◌, map, IfOk, IfErr, IfSome, ◌≤◌, Some, None, option_map, option_and_then};
 ghost use Rattle.std.specs.String.{string_bytes};
 ghost use Rattle.clap.specs.Words.{app_of, is_simple, is_simple_and_free, rows_of, found_of, kind_of};
-ghost use Rattle.command_line.specs.Requests.{run, run_app, run_in, rows_in, limit_by};
+ghost use Rattle.command_line.specs.Requests.{greatest_limit, run, run_app, run_in, rows_in, limit_by};
 
 use super::numbers::{LIMIT, number_of};
 use super::request::ArgumentsError;
@@ -25,6 +25,7 @@ pub struct Run<'w> {
 /// What the arguments after `run` ask for.
 pub(crate) fn read_run<'w>(alloc: Global, arguments: &'w [String]) -> Result<Run<'w>, ArgumentsError>
     ensures ok { IfOk result (λ r. option_and_then run_in (rows_in run_app (map string_bytes arguments.entry.now)) ≡ Some (run r.file.now r.limit)) }
+    ensures limit { IfOk result (λ r. r.limit ≤ greatest_limit) }
     ensures err { IfErr result (λ error. error ≡ ArgumentsError.Refused → option_and_then run_in (rows_in run_app (map string_bytes arguments.entry.now)) ≡ None) }
 {
     let matches = match run_matches(alloc, arguments) {
@@ -71,7 +72,8 @@ fn run_command<'w>(alloc: Global) -> Result<Command<'w>, AllocError>
 // The run that these matches ask for.
 #[tactic(auto, using(crate::proofs::Reading::first_in_rows))]
 fn run_of<'w>(matches: &ArgMatches<'w>) -> Option<Run<'w>>
-    ensures { option_map (λ r. run r.file.now r.limit) result ≡ run_in (rows_of (found_of matches.now)) }
+    ensures run { option_map (λ r. run r.file.now r.limit) result ≡ run_in (rows_of (found_of matches.now)) }
+    ensures limit { IfSome result (λ r. r.limit ≤ greatest_limit) }
 {
     match (matches.get_str("file"), limit_of(matches.get_str("limit"))) {
         (Some(file), Some(limit)) => Some(Run { file, limit }),
@@ -81,7 +83,8 @@ fn run_of<'w>(matches: &ArgMatches<'w>) -> Option<Run<'w>>
 
 // The limit that an option's value asks for; without the option, the default.
 fn limit_of(text: Option<&str>) -> Option<u64>
-    ensures { result ≡ limit_by (option_map (λ t. t.now) text.entry) }
+    ensures value { result ≡ limit_by (option_map (λ t. t.now) text.entry) }
+    ensures limit { IfSome result (λ limit. limit ≤ greatest_limit) }
 {
     match text {
         Some(text) => number_of(text, 1, LIMIT),

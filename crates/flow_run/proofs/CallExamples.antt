@@ -11,12 +11,14 @@ use Rattle.graph_file.specs.PlanRows.{PlanRows, plan_texts}
 use Rattle.graph_file.specs.PlanText.{PlanText}
 use Rattle.text_tasks.specs.declared.table.TextRow.{TextRow}
 use Rattle.text_tasks.specs.GraphWork.{GraphWork, text_limit}
-use Rattle.flow_run.specs.declared.status.Status.TheVariants.{Done, BadWords, BadGraph, NoSource, NoText, LongText, ReadFault, WriteFault, NoMemory}
+use Rattle.flow_run.specs.declared.status.Status.TheVariants.{Done, BadWords, BadGraph, NoSource, NoText, LongText, ReadFault, WriteFault, Limit, TaskFault, Stuck, NoMemory}
 use Rattle.flow_run.specs.declared.stop.Stop.{Stop}
 use Rattle.flow_run.specs.declared.stop.Stop.TheVariants as stop
-use Rattle.flow_run.specs.Words.{AsksForRun, IsFileName}
-use Rattle.flow_run.specs.Requests.{Held, IsHeld, StopsAtName, TextsAre, StopsAtText, HasStart, StopsAtBytes, HasPlan, IsRequested, file_limit, start_limit}
-use Rattle.flow_run.specs.Answers.{Run, status_of, IsAfterRun, RunEnds, CallEnds, Reported, IsReadFault, HaveRead}
+use Rattle.command_line.specs.Requests.{asked_by, run as run_of}
+use Rattle.journal_rules.specs.declared.entry.Why.TheVariants.{Long as TooLong}
+use Rattle.nested_runs.specs.declared.reasons.Reason.TheVariants as reason
+use Rattle.flow_run.specs.Requests.{Held, IsHeld, StopsAtName, TextsAre, StopsAtText, HasStart, StopsAtBytes, HasPlan, IsRequested, file_limit}
+use Rattle.flow_run.specs.Answers.{Run, status_of, status_after, IsAfterRun, RunEnds, CallEnds, Reported, IsReadFault, HaveRead}
 use Rattle.flow_run.specs.Codes.{code_of}
 
 abbrev g : List ℕ
@@ -139,50 +141,62 @@ bad_bytes bytes none = (λ same. absurd (cc), none)
 
 -- The job that is asked for is of the file's plan over the texts held, of its top graph, with no input and the limit.
 abbrev work : PlanRows → GraphWork
-work plan = record { plan = plan; texts = row t (2 ∷ 3 ∷ []) ∷ []; «module» = None; input = []; limit = 100000 }
+work plan = record { plan = plan; texts = row t (2 ∷ 3 ∷ []) ∷ []; «module» = None; input = []; limit = 77 }
 
 module _ (plan : PlanRows) (stands : PlanText (1 ∷ []) plan) (source : HasStart plan) (names_t : plan_texts plan ≡ t ∷ []) where
   has_plan : HasPlan held g plan
   has_plan = record { bytes = 1 ∷ []; read = (refl, omega arith); stands = stands; source = source }
 
-  requested : IsRequested held g (work plan)
-  requested = record { plan = has_plan; texts = rw names_t one_text; top = refl; input = refl; limit = refl }
+  requested : IsRequested held g 77 (work plan)
+  requested = record { plan = has_plan; texts = rw names_t one_text; top = refl; input = refl; starts = refl }
 
-  other_limit : ¬ IsRequested held g (record (work plan) { limit = 99999 })
-  other_limit is = absurd (omega (arith, is.limit))
+  other_limit : ¬ IsRequested held g 77 (record (work plan) { limit = 76 })
+  other_limit is = absurd (omega (arith, is.starts))
 
-  other_input : ¬ IsRequested held g (record (work plan) { input = 1 ∷ [] })
+  other_input : ¬ IsRequested held g 77 (record (work plan) { input = 1 ∷ [] })
   other_input is = let input = is.input in absurd (cc)
 
-  a_module : ¬ IsRequested held g (record (work plan) { «module» = Some 0 })
+  a_module : ¬ IsRequested held g 77 (record (work plan) { «module» = Some 0 })
   a_module is = let top = is.top in absurd (cc)
 
-  other_texts : ¬ IsRequested held g (record (work plan) { texts = row t (9 ∷ []) ∷ [] })
+  other_texts : ¬ IsRequested held g 77 (record (work plan) { texts = row t (9 ∷ []) ∷ [] })
   other_texts is = another_text (rw names_t at is.texts)
 
   file_of_another_name : ¬ ((bytes : List ℕ) → PlanText bytes plan → bytes ≡ 1 ∷ []) → ¬ HasPlan held u plan
   file_of_another_name only is = let none : None ≡ Some is.bytes = is.read.0 in absurd (cc)
 
-limits : (file_limit ≡ 4194304) × (text_limit ≡ 16777215) × (start_limit ≡ 100000)
-limits = (refl, refl, refl)
+limits : (file_limit ≡ 4194304) × (text_limit ≡ 16777215)
+limits = (refl, refl)
 
--- A file's name doesn't begin with a hyphen.
-hyphen : ¬ IsFileName (codes "-x")
-hyphen is = is refl
+-- After a run the status tells its reason, or that memory ran out, or of a run that ended fine that the output failed.
+after_run : IsAfterRun reason.Fine Done × IsAfterRun reason.Fine WriteFault × IsAfterRun reason.Fine NoMemory
+after_run = (inl refl, inr (inl (refl, refl)), inr (inr refl))
 
-hyphen_later : IsFileName (codes "x-")
-hyphen_later same = let n : 120 ≡ 45 = ap (λ (o : Option ℕ). option_or_zero o) same in absurd (omega (arith, n))
-  where
-    option_or_zero : Option ℕ → ℕ
-    option_or_zero None = 0
-    option_or_zero (Some n) = n
+after_a_fault : IsAfterRun (reason.Fault (3 ∷ []) (TooLong 9)) (TaskFault (3 ∷ []) (TooLong 9)) × IsAfterRun (reason.Fault (3 ∷ []) (TooLong 9)) NoMemory
+after_a_fault = (inl refl, inr (inr refl))
 
--- After a run the status is one of three; before a run it tells why.
-after_run : IsAfterRun Done × IsAfterRun WriteFault × IsAfterRun NoMemory
-after_run = (tt, tt, tt)
+after_cut_runs : (status_after (reason.Limit [] 9) ≡ Limit [] 9) × (status_after (reason.Stuck (3 ∷ [])) ≡ Stuck (3 ∷ []))
+after_cut_runs = (refl, refl)
 
-not_after_run : (¬ IsAfterRun BadWords) × (¬ IsAfterRun (BadGraph NotJson)) × (¬ IsAfterRun (NoSource File)) × (¬ IsAfterRun (NoText t)) × (¬ IsAfterRun (LongText t)) × (¬ IsAfterRun (ReadFault t))
-not_after_run = (λ is. is, λ is. is, λ is. is, λ is. is, λ is. is, λ is. is)
+fault_called_done : ¬ IsAfterRun (reason.Fault (3 ∷ []) (TooLong 9)) Done
+fault_called_done (inl same) = absurd (cc)
+fault_called_done (inr (inl (fine, same))) = absurd (cc)
+fault_called_done (inr (inr same)) = absurd (cc)
+
+fault_of_another_task : ¬ IsAfterRun (reason.Fault (3 ∷ []) (TooLong 9)) (TaskFault (4 ∷ []) (TooLong 9))
+fault_of_another_task (inl same) = absurd (cc)
+fault_of_another_task (inr (inl (fine, same))) = absurd (cc)
+fault_of_another_task (inr (inr same)) = absurd (cc)
+
+limit_hidden_by_the_output : ¬ IsAfterRun (reason.Limit [] 9) WriteFault
+limit_hidden_by_the_output (inl same) = absurd (cc)
+limit_hidden_by_the_output (inr (inl (fine, same))) = absurd (cc)
+limit_hidden_by_the_output (inr (inr same)) = absurd (cc)
+
+not_after_run : ¬ IsAfterRun reason.Fine BadWords
+not_after_run (inl same) = absurd (cc)
+not_after_run (inr (inl (fine, same))) = absurd (cc)
+not_after_run (inr (inr same)) = absurd (cc)
 
 told : (status_of (stop.NoText t) ≡ NoText t) × (status_of (stop.LongText t) ≡ LongText t) × (status_of (stop.ReadFault t) ≡ ReadFault t) × (status_of (stop.NoSource File) ≡ NoSource File) × (status_of stop.NoMemory ≡ NoMemory)
 told = (refl, refl, refl, refl, refl)
@@ -196,32 +210,32 @@ never_done_before (stop.LongText name) same = absurd (cc)
 never_done_before (stop.ReadFault name) same = absurd (cc)
 never_done_before stop.NoMemory same = absurd (cc)
 
-done_keeps_a_run : ¬ RunEnds held g Done []
+done_keeps_a_run : ¬ RunEnds held g 77 Done []
 done_keeps_a_run (inl stopped) = never_done_before stopped.why stopped.told
 done_keeps_a_run (inr ran) = let only : [] ≡ ran.run ∷ [] = ran.only in absurd (cc)
 
 module _ (run other : Run) where
-  one_run_is_kept : ¬ RunEnds held g Done (run ∷ other ∷ [])
+  one_run_is_kept : ¬ RunEnds held g 77 Done (run ∷ other ∷ [])
   one_run_is_kept (inl stopped) = never_done_before stopped.why stopped.told
   one_run_is_kept (inr ran) = let only : run ∷ other ∷ [] ≡ ran.run ∷ [] = ran.only in absurd (omega (arith, ap length only))
 
-  stopped_keeps_none : ¬ RunEnds held g (NoText t) (run ∷ [])
-  stopped_keeps_none (inl stopped) = let none : run ∷ [] ≡ [] = stopped.none in absurd (cc)
-  stopped_keeps_none (inr ran) = ran.after
+-- A command line that asks for a run isn't refused, and one that asks for nothing is.
+asked : (arguments : List (List ℕ)) → asked_by arguments ≡ Some (run_of g 77) → ¬ CallEnds held arguments BadWords []
+asked arguments asks (inl (file, limit, asks_file, inl stopped)) = never_bad stopped.why stopped.told
+  where
+    never_bad : (why : Stop) → ¬ (BadWords ≡ status_of why)
+    never_bad (stop.BadGraph error) same = absurd (cc)
+    never_bad (stop.NoSource spot) same = absurd (cc)
+    never_bad (stop.NoText name) same = absurd (cc)
+    never_bad (stop.LongText name) same = absurd (cc)
+    never_bad (stop.ReadFault name) same = absurd (cc)
+    never_bad stop.NoMemory same = absurd (cc)
+asked arguments asks (inl (file, limit, asks_file, inr ran)) = let only : [] ≡ ran.run ∷ [] = ran.only in absurd (cc)
+asked arguments asks (inr (inl (same, none, refused))) = let never : Some (run_of g 77) ≡ None = let both : asked_by arguments ≡ None = refused in cc in absurd (cc)
+asked arguments asks (inr (inr (same, none))) = absurd (cc)
 
-  -- Words that ask for a run of a file aren't bad words.
-  asked : (words : List (String Global)) → AsksForRun words g → ¬ CallEnds held words BadWords []
-  asked words asks (inl (file, asks_file, inl stopped)) = never_bad stopped.why stopped.told
-    where
-      never_bad : (why : Stop) → ¬ (BadWords ≡ status_of why)
-      never_bad (stop.BadGraph error) same = absurd (cc)
-      never_bad (stop.NoSource spot) same = absurd (cc)
-      never_bad (stop.NoText name) same = absurd (cc)
-      never_bad (stop.LongText name) same = absurd (cc)
-      never_bad (stop.ReadFault name) same = absurd (cc)
-      never_bad stop.NoMemory same = absurd (cc)
-  asked words asks (inl (file, asks_file, inr ran)) = ran.after
-  asked words asks (inr (same, none, not)) = not g asks
+refused : (arguments : List (List ℕ)) → asked_by arguments ≡ None → CallEnds held arguments BadWords []
+refused arguments none = inr (inl (refl, refl, none))
 
 -- What has been done to a sink of memory when the call ends.
 abbrev sink : List ℕ → ℕ → SinkState
@@ -307,6 +321,9 @@ read_fault_told = record { stays = refl; no_fewer = omega arith; cause = λ is. 
 -- The exit codes.
 codes_of_all : (code_of Done ≡ 0) × (code_of BadWords ≡ 2) × (code_of (BadGraph NotJson) ≡ 3) × (code_of (NoSource File) ≡ 4) × (code_of (NoText t) ≡ 5)
 codes_of_all = (refl, refl, refl, refl, refl)
+
+codes_of_cut_runs : (code_of (Limit [] 9) ≡ 8) × (code_of (TaskFault (3 ∷ []) (TooLong 9)) ≡ 9) × (code_of (Stuck (3 ∷ [])) ≡ 10)
+codes_of_cut_runs = (refl, refl, refl)
 
 codes_of_faults : (code_of (LongText t) ≡ 5) × (code_of (ReadFault t) ≡ 6) × (code_of WriteFault ≡ 7) × (code_of NoMemory ≡ 13)
 codes_of_faults = (refl, refl, refl, refl)

@@ -1,6 +1,5 @@
 -- What is at hand and meets no failure is done.
-use Rattle.std.proofs.Common.{◌≡◌, ◌≢◌, ◌⊎◌, inl, inr, ℕ, ◌≤◌, List, [], ◌∷◌, ◌++◌, length, Option, Some, None, String, refl, sym, ap, ◌∙◌, subst, arith, codes}
-use Rattle.std.specs.Global.{Global}
+use Rattle.std.proofs.Common.{◌≡◌, ◌≢◌, ◌⊎◌, inl, inr, ℕ, ◌≤◌, List, [], ◌∷◌, ◌++◌, length, Option, Some, None, refl, sym, ap, ◌∙◌, subst, arith, codes}
 use Rattle.std.specs.Prelude.{All, IsSomeAnd}
 use Rattle.std.proofs.lemmas.Option.{none-some}
 use Rattle.std.proofs.lemmas.List.Elements.{All-head, All-tail}
@@ -16,8 +15,12 @@ use Rattle.flow_run.specs.declared.status.Status.TheVariants.{Done, BadWords, Ba
 use Rattle.flow_run.specs.declared.stop.Stop.{Stop}
 use Rattle.flow_run.specs.declared.stop.Stop.TheVariants as stop
 use Rattle.flow_run.specs.Requests.{Held, IsHeld, HasStart, StopsAtName, StopsAtBytes, StopsAtText, StopsBefore, IsAtHand, file_limit}
-use Rattle.flow_run.specs.Words.{AsksForRun}
-use Rattle.flow_run.specs.Answers.{Run, status_of, IsAfterRun, CallEnds, IsReadFault}
+use Rattle.command_line.specs.Requests.{Asked, asked_by, run}
+use Rattle.nested_runs.specs.Reasons.{run_reason}
+use Rattle.nested_runs.specs.declared.reasons.Reason.{Reason}
+use Rattle.nested_runs.specs.declared.reasons.Reason.TheVariants.{Fine}
+use Rattle.text_tasks.specs.JobMeaning.{text_job}
+use Rattle.flow_run.specs.Answers.{Run, status_after, status_of, IsAfterRun, CallEnds, IsReadFault}
 
 -- Bytes stand for one plan at most.
 one_plan : (bytes : List ℕ) (plan other : PlanRows) → PlanText bytes plan → PlanText bytes other → plan ≡ other
@@ -25,9 +28,9 @@ one_plan bytes plan other one two =
     let same : one.tasks ≡ two.tasks = let both : Some one.tasks ≡ Some two.tasks = sym one.read_as ∙ two.read_as in cc in
     one.is ∙ ap (λ tasks. plan_of (draft_of tasks)) same ∙ sym two.is
 
--- Words ask for one file at most.
-one_file : (words : List (String Global)) (file other : List ℕ) → AsksForRun words file → AsksForRun words other → file ≡ other
-one_file words file other one two = let both : codes "run" ∷ file ∷ [] ≡ codes "run" ∷ other ∷ [] = sym one.command ∙ two.command in cc
+-- A command line asks for one file at most.
+one_file : (arguments : List (List ℕ)) (file other : List ℕ) (limit most : ℕ) → asked_by arguments ≡ Some (run file limit) → asked_by arguments ≡ Some (run other most) → file ≡ other
+one_file arguments file other limit most one two = let both : Some (run file limit) ≡ Some (run other most) = sym one ∙ two in cc
 
 -- A plan that has a start has no graph without a source.
 has_source : (plan : PlanRows) (at : Spot) → HasStart plan → NoSourceAnswer plan (Some at) → ⊥
@@ -89,22 +92,19 @@ module _ (text : List ℕ → Option (List ℕ)) (file : List ℕ) (plan : PlanR
       let stands = (held_some text file at.has.bytes file_limit (λ bytes. (length bytes ≤ file_limit) × PlanText bytes plan) at.has.read graph).1 in
       never_at_texts why named (subst (λ p. StopsAtText (Some text) (plan_texts p) why) (one_plan at.has.bytes at.plan plan at.has.stands stands) at.stops) fine
 
--- a run that was run to its end has ended so
-after_run : (status : Status) → IsAfterRun status → status ≢ WriteFault → (status ≡ Done) ⊎ (status ≡ NoMemory)
-after_run Done after fine = inl refl
-after_run WriteFault after fine = absurd (fine refl)
-after_run NoMemory after fine = inr refl
-after_run BadWords after fine = absurd after
-after_run (BadGraph error) after fine = absurd after
-after_run (NoSource at) after fine = absurd after
-after_run (NoText name) after fine = absurd after
-after_run (LongText name) after fine = absurd after
-after_run (ReadFault name) after fine = absurd after
+-- a run that ended fine, and whose output didn't fail, is done
+after_run : (why : Reason) (status : Status) → why ≡ Fine → IsAfterRun why status → status ≢ WriteFault → (status ≡ Done) ⊎ (status ≡ NoMemory)
+after_run why status fine (inl told) written = inl (told ∙ ap status_after fine)
+after_run why status fine (inr (inl (also, failed))) written = absurd (written failed)
+after_run why status fine (inr (inr memory)) written = inr memory
 
-pub completes : (held : Held) (words : List (String Global)) (status : Status) (runs : List Run) → CallEnds held words status runs → IsAtHand held words → (IsReadFault status → ⊥) → status ≢ WriteFault → (status ≡ Done) ⊎ (status ≡ NoMemory)
-completes held words status runs (inr (same, none, never)) hand read write = absurd (never hand.file hand.asks)
-completes held words status runs (inl (file, asks, inr ran)) hand read write = after_run status ran.after write
-completes held words status runs (inl (file, asks, inl stopped)) hand read write =
-    let stops : StopsBefore (Some hand.text) hand.file stopped.why = subst (λ h. StopsBefore h hand.file stopped.why) hand.specified (subst (λ f. StopsBefore held f stopped.why) (one_file words file hand.file asks hand.asks) stopped.stops) in
+pub completes : (held : Held) (arguments : List (List ℕ)) (status : Status) (runs : List Run) → CallEnds held arguments status runs → IsAtHand held arguments → All (λ run. run_reason text_job run ≡ Fine) runs
+    → (IsReadFault status → ⊥) → status ≢ WriteFault → (status ≡ Done) ⊎ (status ≡ NoMemory)
+completes held arguments status runs (inr (inr (memory, none))) hand fine read write = inr memory
+completes held arguments status runs (inr (inl (same, none, never))) hand fine read write = absurd (none-some (run hand.file hand.limit) (sym never ∙ hand.asks))
+completes held arguments status runs (inl (file, limit, asks, inr ran)) hand fine read write =
+    after_run (run_reason text_job ran.run) status (All-head (λ r. run_reason text_job r ≡ Fine) ran.run [] (subst (All (λ r. run_reason text_job r ≡ Fine)) ran.only fine)) ran.after write
+completes held arguments status runs (inl (file, limit, asks, inl stopped)) hand fine read write =
+    let stops : StopsBefore (Some hand.text) hand.file stopped.why = subst (λ h. StopsBefore h hand.file stopped.why) hand.specified (subst (λ f. StopsBefore held f stopped.why) (one_file arguments file hand.file limit hand.limit asks hand.asks) stopped.stops) in
     let memory = never_before hand.text hand.file hand.plan stopped.why hand.graph hand.source hand.named stops (λ n is. read (n, stopped.told ∙ ap status_of is)) in
     inr (stopped.told ∙ ap status_of memory)

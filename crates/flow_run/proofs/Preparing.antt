@@ -13,7 +13,7 @@ use Rattle.graph_file.specs.PlanRows.{PlanRows, IsPlan, plan_texts}
 use Rattle.graph_file.specs.PlanText.{PlanText}
 use Rattle.graph_file.specs.TextNames.{first_mentions}
 use Rattle.text_tasks.specs.declared.table.TextRow.{TextRow}
-use Rattle.text_tasks.specs.GraphWork.{text_limit, IsWork}
+use Rattle.text_tasks.specs.GraphWork.{greatest_limit, text_limit, IsWork}
 use Rattle.text_tasks.specs.TextTable.{text_in}
 use Rattle.flow_run.specs.declared.stop.Stop.{Stop}
 use Rattle.flow_run.specs.declared.stop.Stop.TheVariants.{BadGraph, NoMemory}
@@ -82,12 +82,12 @@ refused_bytes bytes error why (inl same) refused = subst (StopsAtBytes bytes) (s
 refused_bytes bytes error why (inr (other, same)) refused = subst (StopsAtBytes bytes) (sym same) (other, refused other)
 
 -- the job of a plan over the texts that it names
-pub is_work : (held : Held) (plan : PlanRows) (rows : List TextRow) → IsPlan plan → TextsAre held (plan_texts plan) rows → IsWork (record { plan = plan; texts = rows; «module» = None; input = []; limit = 100000 })
-is_work held plan rows is read =
+pub is_work : (held : Held) (plan : PlanRows) (rows : List TextRow) (limit : ℕ) → limit ≤ greatest_limit → IsPlan plan → TextsAre held (plan_texts plan) rows → IsWork (record { plan = plan; texts = rows; «module» = None; input = []; limit = limit })
+is_work held plan rows limit within is read =
     record {
       plan = is;
       named = subst (All (λ name. IsSome (text_in rows name))) read.named (all_read rows);
       short = All-weaker (λ (row : TextRow). IsHeld held row.name text_limit row.text) (λ (row : TextRow). length row.text ≤ text_limit) (λ row fits. fits.1) rows read.read;
       top = refl;
-      starts = omega arith;
+      starts = within;
     }

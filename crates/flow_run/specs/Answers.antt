@@ -1,6 +1,5 @@
 -- How a call of the program ends: the status, what ran, and what was put.
-use Rattle.std.specs.Prelude.{◌≡◌, ◌⊎◌, ℕ, ◌<◌, ◌≤◌, Bool, true, false, List, [], ◌∷◌, Result, Ok, Err, String}
-use Rattle.std.specs.Global.{Global}
+use Rattle.std.specs.Prelude.{◌≡◌, ◌⊎◌, ℕ, ◌<◌, ◌≤◌, Bool, true, false, List, [], ◌∷◌, Option, Some, None, Result, Ok, Err}
 use Rattle.std.specs.List.{flat_map}
 use Rattle.outside_io.specs.declared.sink.SinkFault.{SinkFault}
 use Rattle.outside_io.specs.declared.sink.SinkFault.TheVariants as fault
@@ -10,13 +9,16 @@ use Rattle.run_frame.specs.Legal.{IsKept}
 use Rattle.run_frame.specs.NestedRule.{job_of}
 use Rattle.text_tasks.specs.declared.item.Item.{Item}
 use Rattle.text_tasks.specs.declared.job.TextJob.{TextJob}
-use Rattle.text_tasks.specs.JobMeaning.{text_job}
+use Rattle.text_tasks.specs.JobMeaning.{names_of, text_job}
 use Rattle.flow_run.specs.declared.status.Status.{Status}
-use Rattle.flow_run.specs.declared.status.Status.TheVariants.{Done, BadWords, BadGraph, NoSource, NoText, LongText, ReadFault, WriteFault, NoMemory}
+use Rattle.flow_run.specs.declared.status.Status.TheVariants.{Done, BadWords, BadGraph, NoSource, NoText, LongText, ReadFault, WriteFault, Limit, TaskFault, Stuck, NoMemory}
 use Rattle.flow_run.specs.declared.stop.Stop.{Stop}
 use Rattle.flow_run.specs.declared.stop.Stop.TheVariants as stop
+use Rattle.command_line.specs.Requests.{asked_by, run}
+use Rattle.nested_runs.specs.Reasons.{run_reason}
+use Rattle.nested_runs.specs.declared.reasons.Reason.{Reason}
+use Rattle.nested_runs.specs.declared.reasons.Reason.TheVariants as reason
 use Rattle.flow_run.specs.Requests.{Held, IsRequestedJob, StopsBefore}
-use Rattle.flow_run.specs.Words.{AsksForRun}
 use Rattle.flow_run.specs.Output.{report_of}
 
 -- a run of text jobs
@@ -32,12 +34,17 @@ status_of (stop.LongText name) = LongText name
 status_of (stop.ReadFault name) = ReadFault name
 status_of stop.NoMemory = NoMemory
 
--- a status that may come after a run
-abbrev pub IsAfterRun : Status → Type 0
-IsAfterRun Done = Unit {0}
-IsAfterRun WriteFault = Unit {0}
-IsAfterRun NoMemory = Unit {0}
-IsAfterRun status = ⊥
+-- the status of a run that came to its end for a reason, where nothing else went wrong
+abbrev pub status_after : Reason → Status
+status_after reason.Fine = Done
+status_after (reason.Fault path why) = TaskFault path why
+status_after (reason.Limit path limit) = Limit path limit
+status_after (reason.Stuck path) = Stuck path
+
+-- The status tells the run's reason; of a run that ended fine it may tell that the output failed, and of each that
+-- memory ran out.
+abbrev pub IsAfterRun : Reason → Status → Type 0
+IsAfterRun why status = (status ≡ status_after why) ⊎ ((why ≡ reason.Fine) × (status ≡ WriteFault)) ⊎ (status ≡ NoMemory)
 
 -- one run was run to its end, and its job is such a one
 pub record RanOnce (IsJob : TextJob → Type 0) (status : Status) (runs : List Run) : Type 0 where
@@ -45,7 +52,15 @@ pub record RanOnce (IsJob : TextJob → Type 0) (status : Status) (runs : List R
   pub only : runs ≡ run ∷ []
   pub kept : IsKept text_job run
   pub job : IsJob (job_of run)
-  pub after : IsAfterRun status
+  pub after : IsAfterRun (run_reason text_job run) status
+
+-- one run of the job is kept, which came to its end for this reason
+pub record KeptOnce (job : TextJob) (runs : List Run) (why : Reason) : Type 0 where
+  pub run : Run
+  pub only : runs ≡ run ∷ []
+  pub kept : IsKept text_job run
+  pub same : job_of run ≡ job
+  pub reason : run_reason text_job run ≡ why
 
 -- no run was begun
 pub record StoppedBefore (Stops : Stop → Type 0) (status : Status) (runs : List Run) : Type 0 where
@@ -56,18 +71,24 @@ pub record StoppedBefore (Stops : Stop → Type 0) (status : Status) (runs : Lis
 
 -- How a call ends that is to run a file: before a run, for a reason that the status tells, or after the run that
 -- the file asks for.
-abbrev pub RunEnds : Held → List ℕ → Status → List Run → Type 0
-RunEnds held file status runs = StoppedBefore (StopsBefore held file) status runs ⊎ RanOnce (IsRequestedJob held file) status runs
+abbrev pub RunEnds : Held → List ℕ → ℕ → Status → List Run → Type 0
+RunEnds held file limit status runs = StoppedBefore (StopsBefore held file) status runs ⊎ RanOnce (IsRequestedJob held file limit) status runs
 
 -- how a job's run ends: without memory, or after it
 abbrev pub JobEnds : TextJob → Status → List Run → Type 0
 JobEnds job status runs = StoppedBefore (λ why. why ≡ stop.NoMemory) status runs ⊎ RanOnce (λ of. of ≡ job) status runs
 
--- how a call ends: the words ask for a run of a file, or for none
-abbrev pub CallEnds : Held → List (String Global) → Status → List Run → Type 0
-CallEnds held words status runs =
-    ((file : List ℕ) × AsksForRun words file × RunEnds held file status runs)
-    ⊎ ((status ≡ BadWords) × (runs ≡ []) × ((file : List ℕ) → ¬ AsksForRun words file))
+-- how a call ends: the command line asks for a run of a file, or for nothing, or there is no memory to read it
+abbrev pub CallEnds : Held → List (List ℕ) → Status → List Run → Type 0
+CallEnds held arguments status runs =
+    ((file : List ℕ) × (limit : ℕ) × (asked_by arguments ≡ Some (run file limit)) × RunEnds held file limit status runs)
+    ⊎ ((status ≡ BadWords) × (runs ≡ []) × (asked_by arguments ≡ None))
+    ⊎ ((status ≡ NoMemory) × (runs ≡ []))
+
+-- the names of the tasks of the graph that was run
+abbrev pub names_in : List Run → List (List ℕ)
+names_in [] = []
+names_in (first ∷ runs) = names_of (job_of first)
 
 -- what is put on the output for these runs
 abbrev pub reports : List Run → List ℕ

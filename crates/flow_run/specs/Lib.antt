@@ -1,5 +1,5 @@
 pub mod Codes
-pub mod Words
+pub mod Reasons
 pub mod Requests
 pub mod Output
 pub mod Notes

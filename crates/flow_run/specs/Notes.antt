@@ -6,8 +6,9 @@ use Rattle.graph_file.specs.declared.refusals.Kind.{Kind}
 use Rattle.graph_file.specs.declared.refusals.Kind.TheVariants as kind
 use Rattle.graph_file.specs.declared.refusals.GraphError.{GraphError}
 use Rattle.graph_file.specs.declared.refusals.GraphError.TheVariants as error
+use Rattle.flow_run.specs.Reasons.{fault_text, limit_text, stuck_text}
 use Rattle.flow_run.specs.declared.status.Status.{Status}
-use Rattle.flow_run.specs.declared.status.Status.TheVariants.{Done, BadWords, BadGraph, NoSource, NoText, LongText, ReadFault, WriteFault, NoMemory}
+use Rattle.flow_run.specs.declared.status.Status.TheVariants.{Done, BadWords, BadGraph, NoSource, NoText, LongText, ReadFault, WriteFault, Limit, TaskFault, Stuck, NoMemory}
 
 -- A place in a graph file, with its numbers in decimal.
 abbrev pub spot_text : Spot → List ℕ
@@ -41,14 +42,18 @@ abbrev pub within_text : Spot → List ℕ
 within_text File = []
 within_text spot = codes " in " ++ spot_text spot
 
--- The whole line with its end, or no byte where all was done. A name stands in it as it is.
-abbrev pub note_line : Status → List ℕ
-note_line Done = []
-note_line BadWords = codes "flow: bad words\n"
-note_line (BadGraph why) = codes "flow: bad graph: " ++ graph_error_text why ++ codes "\n"
-note_line (NoSource spot) = codes "flow: no source" ++ within_text spot ++ codes "\n"
-note_line (NoText name) = codes "flow: no text " ++ name ++ codes "\n"
-note_line (LongText name) = codes "flow: text too long " ++ name ++ codes "\n"
-note_line (ReadFault name) = codes "flow: read fault on " ++ name ++ codes "\n"
-note_line WriteFault = codes "flow: write fault\n"
-note_line NoMemory = codes "flow: no memory\n"
+-- The whole line with its end, or no byte where all was done. The names are those of the tasks. A name stands in it as
+-- it is.
+abbrev pub note_line : List (List ℕ) → Status → List ℕ
+note_line names Done = []
+note_line names BadWords = codes "flow: bad words\n"
+note_line names (BadGraph why) = codes "flow: bad graph: " ++ graph_error_text why ++ codes "\n"
+note_line names (NoSource spot) = codes "flow: no source" ++ within_text spot ++ codes "\n"
+note_line names (NoText name) = codes "flow: no text " ++ name ++ codes "\n"
+note_line names (LongText name) = codes "flow: text too long " ++ name ++ codes "\n"
+note_line names (ReadFault name) = codes "flow: read fault on " ++ name ++ codes "\n"
+note_line names WriteFault = codes "flow: write fault\n"
+note_line names (Limit path limit) = codes "flow: " ++ limit_text names path limit ++ codes "\n"
+note_line names (TaskFault path why) = codes "flow: " ++ fault_text names path why ++ codes "\n"
+note_line names (Stuck path) = codes "flow: " ++ stuck_text names path ++ codes "\n"
+note_line names NoMemory = codes "flow: no memory\n"

@@ -1,4 +1,4 @@
--- The report of a run: what each task that leads to no other ended with.
+-- The report of a run: what each task that leads to no other ended with, and why the run was cut short.
 use Rattle.std.specs.Prelude.{ℕ, ◌==◌, List, [], ◌∷◌, ◌++◌, length, slice_index_or, Option, Some, None, if◌then◌else◌}
 use Rattle.std.specs.List.{range_with_len, flat_map}
 use Rattle.task_graph.specs.NetRows.{NetRows}
@@ -13,7 +13,9 @@ use Rattle.text_tasks.specs.declared.item.Item.{Item}
 use Rattle.text_tasks.specs.declared.job.TextJob.{TextJob}
 use Rattle.text_tasks.specs.Items.{item_text}
 use Rattle.text_tasks.specs.Lines.{line_end}
-use Rattle.text_tasks.specs.JobMeaning.{net_of, names_of}
+use Rattle.text_tasks.specs.JobMeaning.{net_of, names_of, text_job}
+use Rattle.nested_runs.specs.Reasons.{run_reason}
+use Rattle.flow_run.specs.Reasons.{reason_line}
 
 -- the marks with which the line of a task begins that has ended, and of one that hasn't
 abbrev pub ended_mark : List ℕ
@@ -44,6 +46,8 @@ told names net journal values t = task_report net t (slice_index_or names t []) 
 abbrev pub report : List (List ℕ) → NetRows → List Entry → List (ValueRow Item) → List ℕ
 report names net journal values = flat_map (told names net journal values) (range_with_len 0 (length net.tasks))
 
--- the report of a run
+-- the report of a run: what its tasks ended with, and why it was cut short, if it was
 abbrev pub report_of : FrameRun TextJob Item → List ℕ
-report_of run = report (names_of (job_of run)) (net_of (job_of run)) (journal_of run) (values_of run)
+report_of run =
+    report (names_of (job_of run)) (net_of (job_of run)) (journal_of run) (values_of run)
+    ++ reason_line (names_of (job_of run)) (run_reason text_job run)

@@ -1,6 +1,5 @@
 -- What a call of the program asks for, and why it stops before a run.
-use Rattle.std.specs.Prelude.{◌≡◌, ◌≢◌, ◌⊎◌, ℕ, ◌<◌, ◌≤◌, List, [], ◌∷◌, ◌++◌, length, map, All, Option, Some, None, IfSome, IsSomeAnd, Result, Ok, Err, String}
-use Rattle.std.specs.Global.{Global}
+use Rattle.std.specs.Prelude.{◌≡◌, ◌≢◌, ◌⊎◌, ℕ, ◌<◌, ◌≤◌, List, [], ◌∷◌, ◌++◌, length, map, All, Option, Some, None, IfSome, IsSomeAnd, Result, Ok, Err}
 use Rattle.graph_file.specs.declared.refusals.GraphError.TheVariants.{NoMemory as NoMemoryToRead}
 use Rattle.graph_file.specs.PlanRows.{PlanRows, plan_texts}
 use Rattle.graph_file.specs.PlanText.{PlanText}
@@ -11,7 +10,7 @@ use Rattle.text_tasks.specs.declared.job.TextJob.TheVariants.{Graph}
 use Rattle.text_tasks.specs.GraphWork.{GraphWork, text_limit}
 use Rattle.flow_run.specs.declared.stop.Stop.{Stop}
 use Rattle.flow_run.specs.declared.stop.Stop.TheVariants.{BadGraph, NoSource, NoText, LongText, ReadFault, NoMemory}
-use Rattle.flow_run.specs.Words.{AsksForRun}
+use Rattle.command_line.specs.Requests.{asked_by, run}
 
 -- the texts that a source holds, where it specifies them
 abbrev pub Held : Type 0
@@ -20,10 +19,6 @@ Held = Option (List ℕ → Option (List ℕ))
 -- the most bytes of a graph file
 abbrev pub file_limit : ℕ
 file_limit = 4194304
-
--- the starts that a run may have
-abbrev pub start_limit : ℕ
-start_limit = 100000
 
 -- these bytes are held under the name, and are no more than may be read
 abbrev pub IsHeld : Held → List ℕ → ℕ → List ℕ → Type 0
@@ -92,16 +87,16 @@ pub record StopsAtPlanText (held : Held) (file : List ℕ) (stop : Stop) : Type 
 abbrev pub StopsBefore : Held → List ℕ → Stop → Type 0
 StopsBefore held file stop = StopsAtName held file file_limit stop ⊎ StopsAtGraph held file stop ⊎ StopsAtPlanText held file stop
 
--- the job that a file asks for, over the texts as they are held
-pub record IsRequested (held : Held) (file : List ℕ) (work : GraphWork) : Type 0 where
+-- the job that a file asks for, over the texts as they are held, with at most so many starts
+pub record IsRequested (held : Held) (file : List ℕ) (limit : ℕ) (work : GraphWork) : Type 0 where
   pub plan : HasPlan held file work.plan
   pub texts : TextsAre held (plan_texts work.plan) work.texts
   pub top : work.«module» ≡ None
   pub input : work.input ≡ []
-  pub limit : work.limit ≡ start_limit
+  pub starts : work.limit ≡ limit
 
-abbrev pub IsRequestedJob : Held → List ℕ → TextJob → Type 0
-IsRequestedJob held file (Graph work) = IsRequested held file work
+abbrev pub IsRequestedJob : Held → List ℕ → ℕ → TextJob → Type 0
+IsRequestedJob held file limit (Graph work) = IsRequested held file limit work
 
 -- How reads that stop the call for this reason count their faults: a failure that isn't told was met where an
 -- allocation failed too.
@@ -115,14 +110,15 @@ abbrev pub CountsReads : {A : Type 0} → ℕ → ℕ → Result A Stop → Type
 CountsReads before after (Ok read) = after ≡ before
 CountsReads before after (Err stop) = CountsStop stop before after
 
--- What the words ask for can be had whole: the source specifies what it holds; the file has no more bytes than may
+-- What the command line asks for can be had whole: the source specifies what it holds; the file has no more bytes than may
 -- be read, and stands for a plan with a task to begin with, or without tasks; and each text that the plan names is
 -- held, with no more bytes than may be read.
-pub record IsAtHand (held : Held) (words : List (String Global)) : Type 0 where
+pub record IsAtHand (held : Held) (arguments : List (List ℕ)) : Type 0 where
   pub file : List ℕ
+  pub limit : ℕ
   pub text : List ℕ → Option (List ℕ)
   pub plan : PlanRows
-  pub asks : AsksForRun words file
+  pub asks : asked_by arguments ≡ Some (run file limit)
   pub specified : held ≡ Some text
   pub graph : IsSomeAnd (text file) (λ bytes. (length bytes ≤ file_limit) × PlanText bytes plan)
   pub source : HasStart plan

@@ -1,17 +1,23 @@
 // The top call of the program.
-ghost use Rattle.std.specs.Prelude.{◌≡◌, ◌⊎◌, ◌≤◌, ◌<◌, [], true, false, IfOk};
+ghost use Rattle.std.specs.Prelude.{◌≡◌, ◌≢◌, ◌⊎◌, ◌≤◌, ◌<◌, [], true, false, map, All, IfOk};
+ghost use Rattle.std.specs.String.{string_bytes};
 ghost use Rattle.outside_io.specs.Sink.{Took, TookFront, Writes};
+ghost use Rattle.command_line.specs.Requests.{greatest_limit};
+ghost use Rattle.nested_runs.specs.Reasons.{run_reason};
+ghost use Rattle.text_tasks.specs.JobMeaning.{text_job, IsTextJob};
 ghost use Rattle.flow_run.specs.Requests.{IsAtHand};
-ghost use Rattle.flow_run.specs.Answers.{CallEnds, Delivers, HaveRead, IsReadFault, JobEnds, RanOnce, Reported, RunEnds, reports};
+ghost use Rattle.flow_run.specs.Answers.{CallEnds, Delivers, HaveRead, IsReadFault, JobEnds, KeptOnce, Reported, RunEnds, names_in, reports, status_after};
 ghost use Rattle.flow_run.specs.Notes.{note_line};
 
 use super::note::put_note;
+use super::one_thread::run_job;
 use super::prepare::prepare;
 use super::report::put_report;
 use super::status::{Noted, Status};
-use super::words::file_to_run;
-use outside_io::{List, NoMemory, Sink, SinkFault, Texts};
-use run_frame::{FrameRun, run_alone};
+use command_line::{ArgumentsError, Request, Run, read_arguments};
+use nested_runs::{Reason, reason_of};
+use outside_io::{Bytes, List, NoMemory, Sink, SinkFault, Texts};
+use run_frame::FrameRun;
 use span_profile::Watch;
 use std::alloc::Global;
 use std::sync::Arc;
@@ -45,10 +51,11 @@ pub fn flow_main<F: Texts, S: Sink, N: Sink>(
     requires nothing_held_on_out { (S.state out.old).held_back ≡ [] }
     requires nothing_held_on_notes { (N.state notes.old).held_back ≡ [] }
     // The status has its cause, and the kept run is one legal and complete run of the graph that FILE holds.
-    ensures ends { CallEnds (F.held texts.old) words.now result.status result.runs }
-    // Where what the words ask for is at hand and nothing fails, all is done.
-    ensures completes { IsAtHand (F.held texts.old) words.now → F.faults texts.new ≡ F.faults texts.old →
-        (S.state out.new).faults ≡ (S.state out.old).faults → (result.status ≡ Status.Done) ⊎ (result.status ≡ Status.NoMemory) }
+    ensures ends { CallEnds (F.held texts.old) (map string_bytes words.now) result.status result.runs }
+    // Where what the words ask for is at hand, the run ends fine and nothing fails, all is done.
+    ensures completes { IsAtHand (F.held texts.old) (map string_bytes words.now) → All (λ run. run_reason text_job run ≡ Reason.Fine) result.runs →
+        F.faults texts.new ≡ F.faults texts.old → (S.state out.new).faults ≡ (S.state out.old).faults →
+        (result.status ≡ Status.Done) ⊎ (result.status ≡ Status.NoMemory) }
     // The output took the report of the kept run, or a prefix of it. Where no run is kept it is left alone.
     ensures output { TookFront (S.state out.old).taken (S.state out.new).taken (reports result.runs) }
     ensures whole { result.written ≡ true → Took (S.state out.old).taken (S.state out.new).taken (reports result.runs) }
@@ -70,8 +77,8 @@ pub fn flow_main<F: Texts, S: Sink, N: Sink>(
     // The notes took the line of the status. With Done there is none, and they are left alone.
     ensures noted_done { result.status ≡ Status.Done → result.noted ≡ Noted.Whole }
     ensures notes_untouched { result.status ≡ Status.Done → notes.new ≡ notes.old }
-    ensures noted_whole { result.noted ≡ Noted.Whole → Took (N.state notes.old).taken (N.state notes.new).taken (note_line result.status) }
-    ensures noted_front { result.noted ≡ Noted.Fault → TookFront (N.state notes.old).taken (N.state notes.new).taken (note_line result.status) }
+    ensures noted_whole { result.noted ≡ Noted.Whole → Took (N.state notes.old).taken (N.state notes.new).taken (note_line (names_in result.runs) result.status) }
+    ensures noted_front { result.noted ≡ Noted.Fault → TookFront (N.state notes.old).taken (N.state notes.new).taken (note_line (names_in result.runs) result.status) }
     ensures note_fault { result.noted ≡ Noted.Fault → (N.state notes.old).faults < (N.state notes.new).faults }
     ensures noted_nothing { result.noted ≡ Noted.NoMemory → N.state notes.new ≡ N.state notes.old }
     ensures no_note_fault { result.noted ≡ Noted.Whole → (N.state notes.new).faults ≡ (N.state notes.old).faults }
@@ -83,7 +90,7 @@ pub fn flow_main<F: Texts, S: Sink, N: Sink>(
         runs,
         written,
     } = answer(alloc, words, texts, out);
-    let noted = put_note(alloc, notes, &status);
+    let noted = put_note(alloc, notes, names_in(runs.as_slice()), &status);
     Outcome {
         status,
         runs,
@@ -103,25 +110,32 @@ struct Ended {
 // Does what the words ask for.
 fn answer<F: Texts, S: Sink>(alloc: Global, words: &[String], texts: &mut F, out: &mut S) -> Ended
     requires { (S.state out.old).held_back ≡ [] }
-    ensures ends { CallEnds (F.held texts.old) words.now result.status result.runs }
+    ensures ends { CallEnds (F.held texts.old) (map string_bytes words.now) result.status result.runs }
     ensures reported { Reported S.state out.old out.new result.status result.runs result.written }
     ensures read { HaveRead F.held F.faults texts.old texts.new result.status }
     ensures texts_untouched { result.status ≡ Status.BadWords → texts.new ≡ texts.old }
 {
-    match file_to_run(words) {
-        Some(file) => run_file(alloc, file, texts, out),
-        None => stopped(alloc, Status::BadWords),
+    match read_arguments(alloc, words) {
+        Ok(Request::Run(run)) => run_file(alloc, run, texts, out),
+        Err(ArgumentsError::Refused) => stopped(alloc, Status::BadWords),
+        Err(ArgumentsError::NoMemory) => stopped(alloc, Status::NoMemory),
     }
 }
 
-// The command `run FILE`.
-fn run_file<F: Texts, S: Sink>(alloc: Global, file: &str, texts: &mut F, out: &mut S) -> Ended
-    requires { (S.state out.old).held_back ≡ [] }
-    ensures ends { RunEnds (F.held texts.old) file.now result.status result.runs }
+// The command `run`.
+fn run_file<F: Texts, S: Sink>(
+    alloc: Global,
+    run: Run<'_>,
+    texts: &mut F,
+    out: &mut S,
+) -> Ended
+    requires limit { run.limit ≤ greatest_limit }
+    requires nothing_held { (S.state out.old).held_back ≡ [] }
+    ensures ends { RunEnds (F.held texts.old) run.entry.file.now run.entry.limit result.status result.runs }
     ensures reported { Reported S.state out.old out.new result.status result.runs result.written }
     ensures read { HaveRead F.held F.faults texts.old texts.new result.status }
 {
-    match prepare(alloc, texts, file.as_bytes()) {
+    match prepare(alloc, texts, run.file.as_bytes(), run.limit) {
         Ok(job) => run_and_report(alloc, job, out),
         Err(stop) => stopped(alloc, Status::of(stop)),
     }
@@ -140,21 +154,22 @@ fn stopped(alloc: Global, status: Status) -> Ended
 
 // Runs the job and writes the report of its run.
 fn run_and_report<S: Sink>(alloc: Global, job: TextJob, out: &mut S) -> Ended
-    requires { (S.state out.old).held_back ≡ [] }
+    requires job { IsTextJob job }
+    requires nothing_held { (S.state out.old).held_back ≡ [] }
     ensures ends { JobEnds job result.status result.runs }
     ensures reported { Reported S.state out.old out.new result.status result.runs result.written }
 {
-    let Ok(runs) = kept_runs(alloc, job) else {
+    let Ok(KeptRuns { runs, reason }) = kept_runs(alloc, job) else {
         return stopped(alloc, Status::NoMemory);
     };
     match deliver_reports(alloc, out, runs.as_slice()) {
         Ok(()) => Ended {
-            status: Status::Done,
+            status: Status::after(reason),
             runs,
             written: true,
         },
         Err(SinkFault::Failed) => Ended {
-            status: Status::WriteFault,
+            status: unwritten(reason),
             runs,
             written: false,
         },
@@ -166,15 +181,44 @@ fn run_and_report<S: Sink>(alloc: Global, job: TextJob, out: &mut S) -> Ended
     }
 }
 
+// The status of a run whose report couldn't be written: a run that was cut short is told of before that.
+fn unwritten(reason: Reason) -> Status
+    ensures fine { reason ≡ Reason.Fine → result ≡ Status.WriteFault }
+    ensures cut { reason ≢ Reason.Fine → result ≡ status_after reason }
+{
+    match reason {
+        Reason::Fine => Status::WriteFault,
+        reason => Status::after(reason),
+    }
+}
+
+// Runs that are kept, and why the last one came to its end.
+struct KeptRuns {
+    runs: List<FrameRun<TextJob>>,
+    reason: Reason,
+}
+
 // The run of the job, kept in a list.
-fn kept_runs(alloc: Global, job: TextJob) -> Result<List<FrameRun<TextJob>>, NoMemory>
-    ensures { IfOk result (RanOnce (λ of. of ≡ job) Status.Done) }
+fn kept_runs(alloc: Global, job: TextJob) -> Result<KeptRuns, NoMemory>
+    requires { IsTextJob job }
+    ensures { IfOk result (λ kept. KeptOnce job kept.runs kept.reason) }
 {
     let job = Arc::new(alloc, job)?;
-    let run = run_alone(alloc, job)?;
+    let run = run_job(alloc, job)?;
+    let reason = reason_of(alloc, &run)?;
     let mut runs = List::new(alloc);
     runs.push(run)?;
-    Ok(runs)
+    Ok(KeptRuns { runs, reason })
+}
+
+// The names of the tasks of the graph that was run.
+fn names_in(runs: &[FrameRun<TextJob>]) -> &[Bytes]
+    ensures { result.now ≡ names_in runs.now }
+{
+    match runs {
+        [run, ..] => run.job.names(),
+        [] => &[],
+    }
 }
 
 // Writes the reports of these runs, in order, and all that is held back of them.

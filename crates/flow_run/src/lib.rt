@@ -1,22 +1,22 @@
 //! The top call of the program: from the words, the texts and the streams that are handed in to a status.
 //!
 //! The layer above sees `flow_main` and its `Outcome`, and `put_note` for an end before any call. The definitions
-//! stand in `specs/`: `Words` says which words ask for what, `Requests` what a graph file asks for and why a call
-//! stops before its run, `Output` what the report of a run is, `Notes` the line of a status, and `Answers` how a
-//! call ends.
+//! stand in `specs/`: `Requests` says what a graph file asks for and why a call stops before its run, `Output` what
+//! the report of a run is, `Reasons` how it tells why a run was cut short, `Notes` the line of a status, and `Answers`
+//! how a call ends. What a command line asks for is said by `command_line`.
 #![tactic(auto)]
 
 mod call;
 mod note;
 mod prepare;
+mod reasons;
 mod report;
 mod status;
 mod stop;
 #[cfg(test)]
 mod tests;
-mod words;
 
 pub use call::{Outcome, flow_main};
 pub use note::put_note;
-pub use prepare::{FILE_LIMIT, START_LIMIT, TEXT_LIMIT};
+pub use prepare::{FILE_LIMIT, TEXT_LIMIT};
 pub use status::{Noted, Status};

@@ -1,24 +1,31 @@
 // The one line that a status puts on the notes.
-ghost use Rattle.std.specs.Prelude.{◌≡◌, ◌<◌, ◌++◌, [], codes, decimal, IfOk, IsErrOf, OnOk};
+ghost use Rattle.std.specs.Prelude.{◌≡◌, ◌<◌, ◌++◌, [], codes, IfOk, IsErrOf, OnOk};
 ghost use Rattle.std.specs.Result.{IsOkAnd};
 ghost use Rattle.flow_run.specs.Answers.{CutShort, Delivered, Delivers};
 ghost use Rattle.flow_run.specs.Notes.{graph_error_text, kind_text, note_line, spot_text, within_text};
+ghost use Rattle.flow_run.specs.Reasons.{fault_text, limit_text, stuck_text};
 ghost use Rattle.flow_run.specs.declared.status.Noted.TheVariants as noted;
 ghost use Rattle.flow_run.specs.declared.status.Status.TheVariants.{Done};
 
+use super::reasons::{add_fault, add_limit, add_numbered, add_stuck};
 use super::status::{Noted, Status};
 use graph_file::{GraphError, Kind, Spot};
-use itoa::Buffer;
+use legal_run::Why;
 use outside_io::{Bytes, List, NoMemory, Sink, SinkFault};
 use std::alloc::Global;
 
 /// Writes the line of a status on the notes, by one put, and flushes them. Where all was done there is no line, and
-/// they are left alone. A line that names nothing takes no memory, so that of a failed allocation can be written all
-/// the same.
-pub fn put_note<N: Sink>(alloc: Global, notes: &mut N, status: &Status) -> Noted
+/// they are left alone. Tasks are told by these names. A line that names nothing takes no memory, so that of a failed
+/// allocation can be written all the same.
+pub fn put_note<N: Sink>(
+    alloc: Global,
+    notes: &mut N,
+    names: &[Bytes],
+    status: &Status,
+) -> Noted
     requires { (N.state notes.old).held_back ≡ [] }
-    ensures whole { result ≡ noted.Whole → Delivered (N.state notes.old) (N.state notes.new) (note_line status.now) }
-    ensures fault { result ≡ noted.Fault → CutShort (N.state notes.old) (N.state notes.new) (note_line status.now) }
+    ensures whole { result ≡ noted.Whole → Delivered (N.state notes.old) (N.state notes.new) (note_line names.now status.now) }
+    ensures fault { result ≡ noted.Fault → CutShort (N.state notes.old) (N.state notes.new) (note_line names.now status.now) }
     ensures cause { result ≡ noted.Fault → (N.state notes.old).faults < (N.state notes.new).faults }
     ensures no_memory { result ≡ noted.NoMemory → N.state notes.new ≡ N.state notes.old }
     ensures done { status.now ≡ Done → result ≡ noted.Whole }
@@ -33,6 +40,9 @@ pub fn put_note<N: Sink>(alloc: Global, notes: &mut N, status: &Status) -> Noted
         Status::LongText(name) => put_made(notes, of_name(alloc, b"flow: text too long ", name)),
         Status::ReadFault(name) => put_made(notes, of_name(alloc, b"flow: read fault on ", name)),
         Status::WriteFault => put_line(notes, b"flow: write fault\n"),
+        Status::Limit(path, limit) => put_made(notes, limit_note(alloc, names, path, *limit)),
+        Status::TaskFault(path, why) => put_made(notes, fault_note(alloc, names, path, *why)),
+        Status::Stuck(path) => put_made(notes, stuck_note(alloc, names, path)),
         Status::NoMemory => put_line(notes, b"flow: no memory\n"),
     }
 }
@@ -77,6 +87,46 @@ fn deliver<N: Sink>(notes: &mut N, line: &[u8]) -> Result<(), SinkFault>
         Ok(()) => notes.flush(),
         Err(fault) => Err(fault),
     }
+}
+
+// The line that a run met its limit.
+fn limit_note(
+    alloc: Global,
+    names: &[Bytes],
+    path: &List<u32>,
+    limit: u64,
+) -> Result<Bytes, NoMemory>
+    ensures { IfOk result (λ line. line ≡ codes "flow: " ++ limit_text names.now path.now limit ++ codes "\n") }
+{
+    let mut line = List::from_slice(alloc, b"flow: ")?;
+    add_limit(&mut line, names, path.as_slice(), limit)?;
+    line.push(b'\n')?;
+    Ok(line)
+}
+
+// The line that a task faulted.
+fn fault_note(
+    alloc: Global,
+    names: &[Bytes],
+    path: &List<u32>,
+    why: Why,
+) -> Result<Bytes, NoMemory>
+    ensures { IfOk result (λ line. line ≡ codes "flow: " ++ fault_text names.now path.now why ++ codes "\n") }
+{
+    let mut line = List::from_slice(alloc, b"flow: ")?;
+    add_fault(&mut line, names, path.as_slice(), why)?;
+    line.push(b'\n')?;
+    Ok(line)
+}
+
+// The line that a task waited for a unit that never came.
+fn stuck_note(alloc: Global, names: &[Bytes], path: &List<u32>) -> Result<Bytes, NoMemory>
+    ensures { IfOk result (λ line. line ≡ codes "flow: " ++ stuck_text names.now path.now ++ codes "\n") }
+{
+    let mut line = List::from_slice(alloc, b"flow: ")?;
+    add_stuck(&mut line, names, path.as_slice())?;
+    line.push(b'\n')?;
+    Ok(line)
 }
 
 fn bad_graph(alloc: Global, error: &GraphError) -> Result<Bytes, NoMemory>
@@ -175,27 +225,18 @@ fn add_spot(line: &mut Bytes, spot: Spot) -> Result<(), NoMemory>
 {
     match spot {
         Spot::File => line.add_all(b"file"),
-        Spot::Sem(sem) => add_numbered(line, b"semaphore ", sem),
-        Spot::Task(task) => add_numbered(line, b"task ", task),
-        Spot::Module(module) => add_numbered(line, b"module ", module),
+        Spot::Sem(sem) => add_numbered(line, b"semaphore ", u64::from(sem)),
+        Spot::Task(task) => add_numbered(line, b"task ", u64::from(task)),
+        Spot::Module(module) => add_numbered(line, b"module ", u64::from(module)),
         Spot::ModuleSem(module, sem) => {
-            add_numbered(line, b"module ", module)?;
-            add_numbered(line, b" semaphore ", sem)
+            add_numbered(line, b"module ", u64::from(module))?;
+            add_numbered(line, b" semaphore ", u64::from(sem))
         }
         Spot::ModuleTask(module, task) => {
-            add_numbered(line, b"module ", module)?;
-            add_numbered(line, b" task ", task)
+            add_numbered(line, b"module ", u64::from(module))?;
+            add_numbered(line, b" task ", u64::from(task))
         }
     }
-}
-
-// Adds a word and, in decimal, a number.
-fn add_numbered(line: &mut Bytes, word: &[u8], number: u32) -> Result<(), NoMemory>
-    ensures { OnOk result (line.new ≡ line.old ++ word.now ++ decimal number) }
-{
-    let mut digits = Buffer::new();
-    line.add_all(word)?;
-    line.add_all(digits.format(number).as_bytes())
 }
 
 fn plural_of(kind: Kind) -> &'static [u8]
@@ -221,13 +262,13 @@ mod tests {
     fn puts_the_line_and_for_done_nothing(rt: HostRuntime) -> Result<(), Fail> {
         let mut notes = MemorySink::new(rt.alloc(), List::new(rt.alloc()));
         assert_eq!(rt;
-            put_note(rt.alloc(), &mut notes, &Status::Done),
+            put_note(rt.alloc(), &mut notes, &[], &Status::Done),
             Noted::Whole
         );
         let field = List::from_slice(rt.alloc(), b"sem")?;
         let error = GraphError::NoSuchName(Spot::ModuleTask(12, 4294967295), field);
         let status = Status::BadGraph(error);
-        assert_eq!(rt; put_note(rt.alloc(), &mut notes, &status), Noted::Whole);
+        assert_eq!(rt; put_note(rt.alloc(), &mut notes, &[], &status), Noted::Whole);
         let line = b"flow: bad graph: no such name in sem of module 12 task 4294967295\n";
         assert_eq!(rt; notes.bytes(), line.as_slice());
         Ok(())
@@ -239,7 +280,7 @@ mod tests {
         failing.push(FailAt { call: 0, taken: 7 })?;
         let mut notes = MemorySink::new(rt.alloc(), failing);
         assert_eq!(rt;
-            put_note(rt.alloc(), &mut notes, &Status::WriteFault),
+            put_note(rt.alloc(), &mut notes, &[], &Status::WriteFault),
             Noted::Fault
         );
         assert_eq!(rt; notes.bytes(), b"flow: w".as_slice());

@@ -1,9 +1,10 @@
 // From the name of a graph file to a job that is ready to run.
-ghost use Rattle.std.specs.Prelude.{◌≡◌, ◌≢◌, AllPairs, IfOk, IfErr, None};
+ghost use Rattle.std.specs.Prelude.{◌≡◌, ◌≢◌, ◌≤◌, AllPairs, length, IfOk, IfErr, None};
 ghost use Rattle.graph_file.specs.PlanRows.{IsPlan, plan_rows};
 ghost use Rattle.graph_file.specs.PlanText.{PlanText};
 ghost use Rattle.text_tasks.specs.TextTable.{rows_of, text_in};
-ghost use Rattle.text_tasks.specs.GraphWork.{text_limit};
+ghost use Rattle.text_tasks.specs.GraphWork.{greatest_limit, text_limit};
+ghost use Rattle.text_tasks.specs.JobMeaning.{IsTextJob};
 ghost use Rattle.flow_run.specs.Requests.{CountsReads, HasStart, IsAdded, IsHeld, IsRequestedJob, StopsAtBytes, StopsAtName, StopsAtText, StopsBefore, TextsAre};
 
 use super::stop::{Stop, refusal};
@@ -19,13 +20,17 @@ pub const FILE_LIMIT: u64 = 4_194_304;
 /// The most bytes of a text.
 pub const TEXT_LIMIT: u64 = 16_777_215;
 
-/// The starts that a run may have.
-pub const START_LIMIT: u64 = 100_000;
-
-/// The job that a graph file asks for, with its texts read in the order in which they are first named. An
-/// `Err` tells the first thing that stops the call.
-pub fn prepare<F: Texts>(alloc: Global, texts: &mut F, file: &[u8]) -> Result<TextJob, Stop>
-    ensures requested { IfOk result (IsRequestedJob (F.held texts.old) file.now) }
+/// The job that a graph file asks for, with its texts read in the order in which they are first named, and at most
+/// so many starts. An `Err` tells the first thing that stops the call.
+pub fn prepare<F: Texts>(
+    alloc: Global,
+    texts: &mut F,
+    file: &[u8],
+    limit: u64,
+) -> Result<TextJob, Stop>
+    requires { limit ≤ greatest_limit }
+    ensures job { IfOk result IsTextJob }
+    ensures requested { IfOk result (IsRequestedJob (F.held texts.old) file.now limit) }
     ensures stops { IfErr result (StopsBefore (F.held texts.old) file.now) }
     ensures stays { F.held texts.new ≡ F.held texts.old }
     ensures counts { CountsReads (F.faults texts.old) (F.faults texts.new) result }
@@ -36,7 +41,7 @@ pub fn prepare<F: Texts>(alloc: Global, texts: &mut F, file: &[u8]) -> Result<Te
     let table = read_texts(alloc, texts, names.as_slice())?;
     let plan = Arc::new(alloc, plan)?;
     let table = Arc::new(alloc, table)?;
-    Ok(first_job(alloc, plan, table, START_LIMIT))
+    Ok(first_job(alloc, plan, table, limit))
 }
 
 // The text of a name, if it has at most so many bytes.

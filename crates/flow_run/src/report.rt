@@ -3,8 +3,15 @@ ghost use Rattle.std.specs.Prelude.{◌≡◌, ◌<◌, ◌++◌, [], None, leng
 ghost use Rattle.std.specs.Option.{option_and_then, option_copied};
 ghost use Rattle.std.specs.Arc.{arc_value};
 ghost use Rattle.outside_io.specs.Sink.{Writes};
-ghost use Rattle.flow_run.specs.Output.{ended_mark, header, outcome, task_report, report_of};
+ghost use Rattle.run_frame.specs.NestedRule.{job_of, journal_of};
+ghost use Rattle.run_frame.specs.Runs.{values_of};
+ghost use Rattle.text_tasks.specs.JobMeaning.{names_of, net_of, text_job};
+ghost use Rattle.nested_runs.specs.Reasons.{run_reason};
+ghost use Rattle.flow_run.specs.Reasons.{reason_line};
+ghost use Rattle.flow_run.specs.Output.{ended_mark, header, outcome, report, task_report, report_of};
 
+use super::reasons::{add_reason_line, name_of};
+use nested_runs::reason_of;
 use outside_io::{Bytes, List, NoMemory, Sink, SinkFault};
 use run_frame::{FrameRun, Job, last_ends, values_by_place};
 use std::alloc::Global;
@@ -17,17 +24,44 @@ const ENDED: &[u8] = b"== ";
 
 const NOT_ENDED: &[u8] = b"-- ";
 
-/// Puts on the sink what each task ended with that leads to no other: its name on a line, and its last value
-/// below it, in the order of the tasks' numbers. A task that hasn't ended has a line alone.
-///
-/// After an `Err` the sink has a prefix of the report.
-#[tactic(auto, using(outside_io::proofs::Pieces::accepts_nothing, outside_io::proofs::Pieces::writes_nothing))]
+/// Puts the report of a run on the sink: what each task ended with that leads to no other, and why the run was cut
+/// short, if it was. After an `Err` the sink has a prefix of the report.
+#[tactic(auto, using(outside_io::proofs::Pieces::writes_both, outside_io::proofs::Pieces::writes_no_more))]
 pub fn put_report<S: Sink>(
     alloc: Global,
     out: &mut S,
     run: &FrameRun<TextJob>,
 ) -> Result<(), SinkFault>
     ensures { Writes (S.state out.old) (S.state out.new) (report_of run.now) result }
+{
+    put_tasks(alloc, out, run)?;
+    put_reason(alloc, out, run)
+}
+
+// Puts the line that tells why a run was cut short, if it was.
+#[tactic(auto, using(outside_io::proofs::Pieces::writes_nothing))]
+fn put_reason<S: Sink>(
+    alloc: Global,
+    out: &mut S,
+    run: &FrameRun<TextJob>,
+) -> Result<(), SinkFault>
+    ensures { Writes (S.state out.old) (S.state out.new) (reason_line (names_of (job_of run.now)) (run_reason text_job run.now)) result }
+{
+    let reason = reason_of(alloc, run)?;
+    let mut line = List::new(alloc);
+    add_reason_line(&mut line, run.job.names(), &reason)?;
+    put_value(out, line.as_slice())
+}
+
+// Puts what each task ended with that leads to no other: its name on a line, and its last value below it, in the
+// order of the tasks' numbers. A task that hasn't ended has a line alone.
+#[tactic(auto, using(outside_io::proofs::Pieces::accepts_nothing, outside_io::proofs::Pieces::writes_nothing))]
+fn put_tasks<S: Sink>(
+    alloc: Global,
+    out: &mut S,
+    run: &FrameRun<TextJob>,
+) -> Result<(), SinkFault>
+    ensures { Writes (S.state out.old) (S.state out.new) (report (names_of (job_of run.now)) (net_of (job_of run.now)) (journal_of run.now) (values_of run.now)) result }
 {
     let net = run.job.net();
     let names = run.job.names();
@@ -41,16 +75,6 @@ pub fn put_report<S: Sink>(
         }
     }
     Ok(())
-}
-
-// The name of a task.
-fn name_of(names: &[Bytes], task: u32) -> &[u8]
-    ensures { result.now ≡ slice_index_or names.now task [] }
-{
-    match names.get(task as usize) {
-        Some(name) => name.as_slice(),
-        None => &[],
-    }
 }
 
 // The value at the place of a task's last End.

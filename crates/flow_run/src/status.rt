@@ -1,11 +1,13 @@
 // How a call of the program ends.
 ghost use Rattle.std.specs.Prelude.{◌≡◌};
-ghost use Rattle.flow_run.specs.Answers.{status_of};
+ghost use Rattle.flow_run.specs.Answers.{status_after, status_of};
 ghost use Rattle.flow_run.specs.Codes.{code_of};
 
 use super::stop::Stop;
 use graph_file::{GraphError, Spot};
-use outside_io::Bytes;
+use legal_run::Why;
+use nested_runs::Reason;
+use outside_io::{Bytes, List};
 
 /// How a call ends. Each status has its code and its line on the notes.
 #[derive(Drop)]
@@ -26,6 +28,13 @@ pub enum Status {
     ReadFault(Bytes),
     /// Writing the output failed.
     WriteFault,
+    /// Releases were dropped at the limit of starts: the tasks that lead to the run that met it, none for the graph's
+    /// own, and that limit.
+    Limit(List<u32>, u64),
+    /// A task faulted: the tasks that lead to it, and why.
+    TaskFault(List<u32>, Why),
+    /// A task waited for a unit of a semaphore that never came: the tasks that lead to it.
+    Stuck(List<u32>),
     /// An allocation failed.
     NoMemory,
 }
@@ -44,6 +53,9 @@ impl Status {
             Status::LongText(_) => 5,
             Status::ReadFault(_) => 6,
             Status::WriteFault => 7,
+            Status::Limit(_, _) => 8,
+            Status::TaskFault(_, _) => 9,
+            Status::Stuck(_) => 10,
             Status::NoMemory => 13,
         }
     }
@@ -72,6 +84,18 @@ impl Status {
             Stop::LongText(name) => Status::LongText(name),
             Stop::ReadFault(name) => Status::ReadFault(name),
             Stop::NoMemory => Status::NoMemory,
+        }
+    }
+
+    /// The status of a run that came to its end for a reason, where nothing else went wrong.
+    pub fn after(reason: Reason) -> Status
+        ensures { result ≡ status_after reason }
+    {
+        match reason {
+            Reason::Fine => Status::Done,
+            Reason::Fault(path, why) => Status::TaskFault(path, why),
+            Reason::Limit(path, limit) => Status::Limit(path, limit),
+            Reason::Stuck(path) => Status::Stuck(path),
         }
     }
 }

@@ -4,9 +4,9 @@ use Rattle.flow_run.proofs.Completing.{completes}
 use Rattle.flow_run.proofs.call.flow_main.Goals as goal
 
 pub returns-clause-completes : goal.returns-clause-completes
-returns-clause-completes g c = λ hand no_read_fault no_write_fault.
+returns-clause-completes g c = λ hand fine no_read_fault no_write_fault.
     let did = c.answer-status.ensures in
-    completes _ _ c.answer-status.result.status _ did.ends hand
+    completes _ _ c.answer-status.result.status _ did.ends hand fine
     (λ fault. let rises = did.read.cause fault in absurd (omega (arith, rises, no_read_fault)))
     (λ same. elim (did.reported.cause (did.reported.write_fault same)) [
       | inl rises ↦ absurd (omega (arith, rises, no_write_fault))

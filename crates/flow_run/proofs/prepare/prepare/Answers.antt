@@ -15,5 +15,5 @@ read_texts-requires g c =
 pub first_job-requires : goal.first_job-requires
 first_job-requires g c =
     let names = c.as_slice-2.ensures ∙ c.in_ok-names.ensures in
-    rw (c.in_ok-plan-2.ensures.ok, c.in_ok-table-2.ensures.ok) (is_work _ (plan_rows c.in_ok-plan.plan) (rows_of c.in_ok-table.table) c.in_ok-plan.ensures.rules
+    rw (c.in_ok-plan-2.ensures.ok, c.in_ok-table-2.ensures.ok) (is_work _ (plan_rows c.in_ok-plan.plan) (rows_of c.in_ok-table.table) c.args.limit c.requires c.in_ok-plan.ensures.rules
     (subst (λ ns. TextsAre (g.F.Texts.held c.read_named.new.texts) ns (rows_of c.in_ok-table.table)) names c.in_ok-table.ensures.are))

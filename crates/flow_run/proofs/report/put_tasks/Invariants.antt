@@ -4,7 +4,7 @@ use Rattle.run_frame.specs.NestedRule.{job_of, journal_of}
 use Rattle.run_frame.specs.Runs.{values_of}
 use Rattle.text_tasks.specs.JobMeaning.{net_of, names_of}
 use Rattle.flow_run.specs.Output.{told}
-use Rattle.flow_run.proofs.report.put_report.Given as goal
+use Rattle.flow_run.proofs.report.put_tasks.Given as goal
 
 abbrev pub invariant-loop-task : goal.invariant-loop-task
 invariant-loop-task g l = Accepts (g.S.Sink.state l.fn.out) (g.S.Sink.state l.out)

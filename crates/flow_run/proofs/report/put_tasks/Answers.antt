@@ -8,7 +8,7 @@ use Rattle.run_frame.specs.Runs.{value_at, values_of}
 use Rattle.text_tasks.specs.JobMeaning.{net_of, names_of}
 use Rattle.flow_run.specs.Output.{told}
 use Rattle.flow_run.proofs.ReportLemmas.{one_written, one_refused, told_is}
-use Rattle.flow_run.proofs.report.put_report.Goals as goal
+use Rattle.flow_run.proofs.report.put_tasks.Goals as goal
 
 pub loop-task-preserved : goal.loop-task-preserved
 loop-task-preserved g c =
