@@ -69,6 +69,12 @@ refused 2 'flow: bad words' run "$count" "$count"
 refused 2 'flow: bad words' run -x
 refused 2 'flow: bad words' run $'\xff'
 refused 2 'flow: bad words' walk "$count"
+refused 2 'flow: bad words' run "$count" --limit
+refused 2 'flow: bad words' run "$count" --limit 0
+refused 2 'flow: bad words' run "$count" --limit 1x
+refused 2 'flow: bad words' run "$count" --limit 1 --limit 1
+refused 2 'flow: bad words' run "$count" --workers 4
+refused 2 'flow: bad words' run "$count" --help
 refused 5 'flow: no text nowhere.json' run nowhere.json
 refused 5 'flow: no text t.txt' run "$count"
 refused 6 'flow: read fault on examples' run examples
@@ -91,6 +97,22 @@ reading folder
 refused 6 'flow: read fault on folder' run graph.json
 reading nowhere.txt
 refused 5 'flow: no text nowhere.txt' run graph.json
+
+# Runs that are cut short: a value that would be too long, and a loop at its limit, whatever becomes of the output.
+head -c 9437184 /dev/zero | tr '\0' '\n' >lines.txt
+echo '{"tasks":[{"name":"a","op":"read","text":"lines.txt","to":["b","b"]},{"name":"b","op":"pass"}]}' >graph.json
+printf -- '-- b\n!! fault b: long 18874368\n' >"$seen/wanted_out"
+echo 'flow: fault b: long 18874368' >"$seen/wanted_notes"
+call run graph.json
+compare 'a run that faults' 9 "$seen/wanted_out" "$seen/wanted_notes"
+cd "$top/examples/trim-to-fit"
+printf -- '-- newest\n!! limit 5\n' >"$seen/wanted_out"
+echo 'flow: limit 5' >"$seen/wanted_notes"
+call run graph.json --limit 5
+compare 'a run that meets its limit' 8 "$seen/wanted_out" "$seen/wanted_notes"
+call run --limit=5 graph.json
+compare 'a run that meets its limit' 8 "$seen/wanted_out" "$seen/wanted_notes"
+cd "$seen/texts"
 
 # A text for which there is no memory.
 truncate -s 16777215 long.txt
