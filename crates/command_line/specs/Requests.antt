@@ -6,8 +6,6 @@ use Rattle.clap.specs.Walk.{Row, Rule}
 use Rattle.clap.specs.Words.{App, Kinds, first_of, matches_of, fault_of, new_app, new_rule, with_rule}
 use Rattle.clap.specs.Simple.{on_top}
 use Rattle.command_line.specs.Numbers.{number_of}
-use Rattle.command_line.specs.declared.request.Request.{Request}
-use Rattle.command_line.specs.declared.request.Request.TheVariants.{Run as RunOf}
 
 -- the most starts that a run may be limited to, and how many it may have where nothing is said
 abbrev pub greatest_limit : ℕ
@@ -19,10 +17,6 @@ start_limit = 100000
 -- what is asked for: to run the graph in a file, with at most so many starts
 pub data Asked : Type 0 where
   run : List ℕ → ℕ → Asked
-
--- the limit is within the greatest
-abbrev pub IsWithinLimit : Asked → Type 0
-IsWithinLimit (run file limit) = limit ≤ greatest_limit
 
 -- a command of this name that reads no name of a program, and of itself has no flag
 abbrev pub bare : List ℕ → App
@@ -59,7 +53,3 @@ run_in rows = option_and_then (λ file. option_map (run file) (limit_by (first_o
 abbrev pub asked_by : List (List ℕ) → Option Asked
 asked_by [] = None
 asked_by (command ∷ arguments) = if bytes_eq command (codes "run") then option_and_then run_in (rows_in run_app arguments) else None
-
--- a request, as plain data
-abbrev pub asked : Request → Asked
-asked (RunOf r) = run r.file.now r.limit

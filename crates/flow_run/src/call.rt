@@ -10,14 +10,13 @@ ghost use Rattle.flow_run.specs.Answers.{CallEnds, Delivers, HaveRead, IsReadFau
 ghost use Rattle.flow_run.specs.Notes.{note_line};
 
 use super::note::put_note;
-use super::one_thread::run_job;
 use super::prepare::prepare;
 use super::report::put_report;
 use super::status::{Noted, Status};
-use command_line::{ArgumentsError, Request, Run, read_arguments};
+use command_line::{ArgumentsError, Run, read_arguments};
 use nested_runs::{Reason, reason_of};
 use outside_io::{Bytes, List, NoMemory, Sink, SinkFault, Texts};
-use run_frame::FrameRun;
+use run_frame::{FrameRun, run_alone};
 use span_profile::Watch;
 use std::alloc::Global;
 use std::sync::Arc;
@@ -116,7 +115,7 @@ fn answer<F: Texts, S: Sink>(alloc: Global, words: &[String], texts: &mut F, out
     ensures texts_untouched { result.status ≡ Status.BadWords → texts.new ≡ texts.old }
 {
     match read_arguments(alloc, words) {
-        Ok(Request::Run(run)) => run_file(alloc, run, texts, out),
+        Ok(run) => run_file(alloc, run, texts, out),
         Err(ArgumentsError::Refused) => stopped(alloc, Status::BadWords),
         Err(ArgumentsError::NoMemory) => stopped(alloc, Status::NoMemory),
     }
@@ -204,7 +203,7 @@ fn kept_runs(alloc: Global, job: TextJob) -> Result<KeptRuns, NoMemory>
     ensures { IfOk result (λ kept. KeptOnce job kept.runs kept.reason) }
 {
     let job = Arc::new(alloc, job)?;
-    let run = run_job(alloc, job)?;
+    let run = run_alone(alloc, job)?;
     let reason = reason_of(alloc, &run)?;
     let mut runs = List::new(alloc);
     runs.push(run)?;
