@@ -98,21 +98,14 @@ refused 6 'flow: read fault on folder' run graph.json
 reading nowhere.txt
 refused 5 'flow: no text nowhere.txt' run graph.json
 
-# Runs that are cut short: a value that would be too long, and a loop at its limit, whatever becomes of the output.
-head -c 9437184 /dev/zero | tr '\0' '\n' >lines.txt
-echo '{"tasks":[{"name":"a","op":"read","text":"lines.txt","to":["b","b"]},{"name":"b","op":"pass"}]}' >graph.json
-printf -- '-- b\n!! fault b: long 18874368\n' >"$seen/wanted_out"
-echo 'flow: fault b: long 18874368' >"$seen/wanted_notes"
-call run graph.json
-compare 'a run that faults' 9 "$seen/wanted_out" "$seen/wanted_notes"
-cd "$top/examples/trim-to-fit"
-printf -- '-- newest\n!! limit 5\n' >"$seen/wanted_out"
-echo 'flow: limit 5' >"$seen/wanted_notes"
-call run graph.json --limit 5
+# A run that is cut short by its limit.
+cp "$top/examples/count-lines/t.txt" .
+printf -- '-- b\n!! limit 1\n' >"$seen/wanted_out"
+echo 'flow: limit 1' >"$seen/wanted_notes"
+call run "$top/examples/count-lines/graph.json" --limit 1
 compare 'a run that meets its limit' 8 "$seen/wanted_out" "$seen/wanted_notes"
-call run --limit=5 graph.json
+call run --limit=1 "$top/examples/count-lines/graph.json"
 compare 'a run that meets its limit' 8 "$seen/wanted_out" "$seen/wanted_notes"
-cd "$seen/texts"
 
 # A text for which there is no memory.
 truncate -s 16777215 long.txt

@@ -1,5 +1,4 @@
 // Calls of the program over texts and sinks in memory.
-mod conditions;
 mod faults;
 mod graphs;
 mod limits;
