@@ -36,6 +36,34 @@ pub fn wide(alloc: Global) -> Result<Net, BuildError> {
     Ok(builder.finish())
 }
 
+/// Plain tasks that a first one precedes.
+pub fn fan(alloc: Global) -> Result<Net, BuildError> {
+    let mut builder = NetBuilder::new(alloc);
+    add_tasks(alloc, &mut builder, Shape::Plain, PREDECESSORS + 1)?;
+    for to in 0..PREDECESSORS {
+        builder.edge(0, to + 1, false)?;
+    }
+    Ok(builder.finish())
+}
+
+/// Plain tasks, of which each precedes the next.
+pub fn chain(alloc: Global) -> Result<Net, BuildError> {
+    let mut builder = NetBuilder::new(alloc);
+    add_tasks(alloc, &mut builder, Shape::Plain, TASKS)?;
+    for from in 0..TASKS - 1 {
+        builder.edge(from, from + 1, false)?;
+    }
+    Ok(builder.finish())
+}
+
+/// One task with an edge to itself that begins with a token.
+pub fn self_loop(alloc: Global) -> Result<Net, BuildError> {
+    let mut builder = NetBuilder::new(alloc);
+    add_tasks(alloc, &mut builder, Shape::Plain, 1)?;
+    builder.edge(0, 0, true)?;
+    Ok(builder.finish())
+}
+
 /// Task 0, and then Choice tasks, of which each precedes the next and the last one the first: task k has edge k.
 pub fn looped(alloc: Global) -> Result<Net, BuildError> {
     let mut builder = NetBuilder::new(alloc);
