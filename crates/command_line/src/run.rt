@@ -23,7 +23,10 @@ pub struct Run<'w> {
 }
 
 /// What the arguments after `run` ask for.
-pub(crate) fn read_run<'w>(alloc: Global, arguments: &'w [String]) -> Result<Run<'w>, ArgumentsError>
+pub(crate) fn read_run<'w>(
+    alloc: Global,
+    arguments: &'w [String],
+) -> Result<Run<'w>, ArgumentsError>
     ensures ok { IfOk result (λ r. option_and_then run_in (rows_in run_app (map string_bytes arguments.entry.now)) ≡ Some (run r.file.now r.limit)) }
     ensures limit { IfOk result (λ r. r.limit ≤ greatest_limit) }
     ensures err { IfErr result (λ error. error ≡ ArgumentsError.Refused → option_and_then run_in (rows_in run_app (map string_bytes arguments.entry.now)) ≡ None) }
@@ -39,10 +42,7 @@ pub(crate) fn read_run<'w>(alloc: Global, arguments: &'w [String]) -> Result<Run
 }
 
 // What `clap` finds among the arguments after `run`.
-fn run_matches<'w>(
-    alloc: Global,
-    arguments: &'w [String],
-) -> Result<ArgMatches<'w>, ArgumentsError>
+fn run_matches<'w>(alloc: Global, arguments: &'w [String]) -> Result<ArgMatches<'w>, ArgumentsError>
     ensures ok { IfOk result (λ matches. rows_in run_app (map string_bytes arguments.entry.now) ≡ Some (rows_of (found_of matches))) }
     ensures err { IfErr result (λ error. error ≡ ArgumentsError.Refused → rows_in run_app (map string_bytes arguments.entry.now) ≡ None) }
 {

@@ -30,7 +30,12 @@ fn main(rt: HostRuntime) -> ExitCode {
 // The end of a program that finds no memory for the words or the watchers.
 fn without_memory(rt: &HostRuntime) -> ExitCode {
     let status = Status::NoMemory;
-    let _noted = put_note(rt.alloc(), &mut StdSink::notes(rt.alloc(), rt), &[], &status);
+    let _noted = put_note(
+        rt.alloc(),
+        &mut StdSink::notes(rt.alloc(), rt),
+        &[],
+        &status,
+    );
     ExitCode::from(status.code())
 }
 

@@ -122,12 +122,7 @@ fn answer<F: Texts, S: Sink>(alloc: Global, words: &[String], texts: &mut F, out
 }
 
 // The command `run`.
-fn run_file<F: Texts, S: Sink>(
-    alloc: Global,
-    run: Run<'_>,
-    texts: &mut F,
-    out: &mut S,
-) -> Ended
+fn run_file<F: Texts, S: Sink>(alloc: Global, run: Run<'_>, texts: &mut F, out: &mut S) -> Ended
     requires limit { run.limit ≤ greatest_limit }
     requires nothing_held { (S.state out.old).held_back ≡ [] }
     ensures ends { RunEnds (F.held texts.old) run.entry.file.now run.entry.limit result.status result.runs }

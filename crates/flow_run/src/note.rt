@@ -17,12 +17,7 @@ use std::alloc::Global;
 /// Writes the line of a status on the notes, by one put, and flushes them. Where all was done there is no line, and
 /// they are left alone. Tasks are told by these names. A line that names nothing takes no memory, so that of a failed
 /// allocation can be written all the same.
-pub fn put_note<N: Sink>(
-    alloc: Global,
-    notes: &mut N,
-    names: &[Bytes],
-    status: &Status,
-) -> Noted
+pub fn put_note<N: Sink>(alloc: Global, notes: &mut N, names: &[Bytes], status: &Status) -> Noted
     requires { (N.state notes.old).held_back ≡ [] }
     ensures whole { result ≡ noted.Whole → Delivered (N.state notes.old) (N.state notes.new) (note_line names.now status.now) }
     ensures fault { result ≡ noted.Fault → CutShort (N.state notes.old) (N.state notes.new) (note_line names.now status.now) }
@@ -105,12 +100,7 @@ fn limit_note(
 }
 
 // The line that a task faulted.
-fn fault_note(
-    alloc: Global,
-    names: &[Bytes],
-    path: &List<u32>,
-    why: Why,
-) -> Result<Bytes, NoMemory>
+fn fault_note(alloc: Global, names: &[Bytes], path: &List<u32>, why: Why) -> Result<Bytes, NoMemory>
     ensures { IfOk result (λ line. line ≡ codes "flow: " ++ fault_text names.now path.now why ++ codes "\n") }
 {
     let mut line = List::from_slice(alloc, b"flow: ")?;
@@ -268,7 +258,10 @@ mod tests {
         let field = List::from_slice(rt.alloc(), b"sem")?;
         let error = GraphError::NoSuchName(Spot::ModuleTask(12, 4294967295), field);
         let status = Status::BadGraph(error);
-        assert_eq!(rt; put_note(rt.alloc(), &mut notes, &[], &status), Noted::Whole);
+        assert_eq!(rt;
+            put_note(rt.alloc(), &mut notes, &[], &status),
+            Noted::Whole
+        );
         let line = b"flow: bad graph: no such name in sem of module 12 task 4294967295\n";
         assert_eq!(rt; notes.bytes(), line.as_slice());
         Ok(())

@@ -40,11 +40,7 @@ pub fn put_report<S: Sink>(
 
 // Puts the line that tells why a run was cut short, if it was.
 #[tactic(auto, using(outside_io::proofs::Pieces::writes_nothing))]
-fn put_reason<S: Sink>(
-    alloc: Global,
-    out: &mut S,
-    run: &FrameRun<TextJob>,
-) -> Result<(), SinkFault>
+fn put_reason<S: Sink>(alloc: Global, out: &mut S, run: &FrameRun<TextJob>) -> Result<(), SinkFault>
     ensures { Writes (S.state out.old) (S.state out.new) (reason_line (names_of (job_of run.now)) (run_reason text_job run.now)) result }
 {
     let reason = reason_of(alloc, run)?;
@@ -56,11 +52,7 @@ fn put_reason<S: Sink>(
 // Puts what each task ended with that leads to no other: its name on a line, and its last value below it, in the
 // order of the tasks' numbers. A task that hasn't ended has a line alone.
 #[tactic(auto, using(outside_io::proofs::Pieces::accepts_nothing, outside_io::proofs::Pieces::writes_nothing))]
-fn put_tasks<S: Sink>(
-    alloc: Global,
-    out: &mut S,
-    run: &FrameRun<TextJob>,
-) -> Result<(), SinkFault>
+fn put_tasks<S: Sink>(alloc: Global, out: &mut S, run: &FrameRun<TextJob>) -> Result<(), SinkFault>
     ensures { Writes (S.state out.old) (S.state out.new) (report (names_of (job_of run.now)) (net_of (job_of run.now)) (journal_of run.now) (values_of run.now)) result }
 {
     let net = run.job.net();

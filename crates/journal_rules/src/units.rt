@@ -141,7 +141,8 @@ impl Units {
         ensures { (journal : List Entry) → CountsUnits net.now journal self.now.counts.items → start_at journal place ≡ Some task
             → (IsTrue result ↔ IsOverRelease net.now journal sem place task) }
     {
-        is_listed(task_row(net, task).puts.as_slice(), sem) && self.counts[sem as usize].was_over(place)
+        is_listed(task_row(net, task).puts.as_slice(), sem)
+            && self.counts[sem as usize].was_over(place)
     }
 
     /// Counts a start of a task.

@@ -62,9 +62,9 @@ reason_at (row ∷ rows) n = if row.0 == n then Some row.1 else reason_at rows n
 -- One run, with the reason of each run inside it beside that run's place: the first Fault counts.
 abbrev pub reason_step : {J V : Type 0} → Meaning J V → FrameRun-F J V Reason (ℕ × Reason) → Reason
 reason_step meaning run = elim (first_fault run.journal) [
-    | None ↦ unfaulted (meaning.limit (arc_value run.job)) run.journal
-    | Some fault ↦ faulted (unwrap_or (start_at run.journal fault.start) 0) fault.why (reason_at run.inner.items fault.place)
-  ]
+  | None ↦ unfaulted (meaning.limit (arc_value run.job)) run.journal
+  | Some fault ↦ faulted (unwrap_or (start_at run.journal fault.start) 0) fault.why (reason_at run.inner.items fault.place)
+]
 
 -- the reason of an inner run, beside its place
 abbrev pub row_step : {J V : Type 0} → InnerRow-F J V Reason (ℕ × Reason) → ℕ × Reason

@@ -50,7 +50,11 @@ pub(crate) fn first_stuck(journal: &[Entry]) -> Option<u32>
 pub(crate) fn is_limited(journal: &[Entry]) -> bool
     ensures { IsTrue result ↔ (count_by is_limited journal.now ≢ 0) }
 {
-    journal.iter().filter(|entry| is_drop_at_limit(entry)).count() != 0
+    journal
+        .iter()
+        .filter(|entry| is_drop_at_limit(entry))
+        .count()
+        != 0
 }
 
 // Whether an entry is a Drop at the limit.

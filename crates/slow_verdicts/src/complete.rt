@@ -5,7 +5,9 @@ ghost use Rattle.journal_rules.specs.Complete.{EachTask, EachEdge, is_limited, C
 ghost use Rattle.slow_verdicts.specs.Used.{SourceIsUsed, WeakTokensAreUsed, least_given, StrongRoundsAreUsed};
 
 use legal_run::{DropWhy, Entry};
-use slow_rules::{given, is_source, is_weak, none_open, starts, strong_in, used, used_source, used_weak};
+use slow_rules::{
+    given, is_source, is_weak, none_open, starts, strong_in, used, used_source, used_weak,
+};
 use task_graph::Net;
 
 /// Whether nothing runs and no release is left, and releases were dropped at the limit only where all

@@ -6,7 +6,10 @@ ghost use Rattle.legal_run.specs.Refusal.{StartsWithoutUnit, StartsAtLimit, Ends
 ghost use Rattle.journal_rules.specs.MissingUnits.{IsLeast, WantsUnit, PutsWithNothingOut};
 
 use legal_run::{Break, DropWhy, Entry};
-use slow_rules::{back, has_unit, is_in_range, may_drop, meets_after_stuck_rule, meets_choice_rule, meets_closing_rule, meets_fault_rule, meets_release_rule, puts, start_at, starts, taken, takes};
+use slow_rules::{
+    back, has_unit, is_in_range, may_drop, meets_after_stuck_rule, meets_choice_rule,
+    meets_closing_rule, meets_fault_rule, meets_release_rule, puts, start_at, starts, taken, takes,
+};
 use task_graph::Net;
 
 /// The break that is told of an entry after a journal, or `None` where it breaks no rule.

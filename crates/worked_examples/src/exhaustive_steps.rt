@@ -1,5 +1,5 @@
 // Every state that a small net reaches within a few steps, with every next step tried at each of them.
-use crate::nets::{Rows, Task, bound, free, built_net};
+use crate::nets::{Rows, Task, bound, built_net, free};
 use crate::steps::{Step, ask, compare_step, entry_of, expect_legal};
 use crate::verdicts::{Tally, compare_verdict};
 use legal_run::{Cause, DropWhy, Journal, Machine, Why};

@@ -67,7 +67,11 @@ fn greedy_run(
 }
 
 // How many entries the journal has in the end, and whether the machine is then at rest.
-fn lead_greedily(rt: &impl Abort, alloc: Global, run: &GreedyRun<'_>) -> Result<(usize, bool), Fail> {
+fn lead_greedily(
+    rt: &impl Abort,
+    alloc: Global,
+    run: &GreedyRun<'_>,
+) -> Result<(usize, bool), Fail> {
     let net = plain_net(alloc, run.tasks, run.edges)?;
     let limit = run.limit as u64;
     let mut machine = Machine::new(alloc, net.clone()?, limit)?;

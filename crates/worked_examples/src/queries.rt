@@ -1,7 +1,7 @@
 // What a machine says of the steps to come, and what the judge says of those that were taken.
 ghost use Rattle.std.specs.Prelude.{◌≡◌, ◌<◌, length};
 
-use crate::nets::{Rows, free, built_net};
+use crate::nets::{Rows, built_net, free};
 use crate::steps::{Step, ask, end, start};
 use legal_run::{Break, Cause, Machine, Part, Ready, Verdict, judge};
 use std::alloc::Global;

@@ -1,5 +1,5 @@
 // Small runs, step by step, with the answers that were worked out by hand.
-use crate::nets::{Rows, bound, free, built_net, plain_net};
+use crate::nets::{Rows, bound, built_net, free, plain_net};
 use crate::steps::{Step, compare_step, drop_of, end, expect_legal, fault, start};
 use legal_run::{Cause, DropWhy, Machine, MachineError, Why};
 use std::alloc::Global;
