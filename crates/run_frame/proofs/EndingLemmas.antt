@@ -41,14 +41,14 @@ use Rattle.run_frame.specs.WorkRule.{WorkRule, Work, Answers, FaultAllowed, give
 use Rattle.run_frame.specs.NestedRule.{NestedRule}
 use Rattle.run_frame.specs.declared.duty.Duty.{Duty}
 use Rattle.run_frame.specs.declared.duty.Duty.TheVariants.{Unused, Running}
-use Rattle.run_frame.specs.Duties.{is_unused, is_running, unused, running, as_source, as_strong, by_weak}
+use Rattle.run_frame.specs.Duties.{is_unused, is_running, unused, running, as_source, as_strong, by_weak, AreMadeBy, target_of}
 use Rattle.run_frame.specs.inside.KeptValues.{HasRow}
 use Rattle.run_frame.specs.inside.UnderWay.{ComeLater, none_inner, rounds, FoundAt, DutyFits, DutiesFit, IsUnderWay}
 use Rattle.tickets.specs.Books.{TicketState}
 use Rattle.run_frame.specs.declared.job.Answer.{Answer}
 use Rattle.run_frame.specs.Frames.{FrameView, EndsTask}
 use Rattle.run_frame.specs.inside.Steps.{CanTake, GivesEdges}
-use Rattle.run_frame.specs.inside.Handing.{target_of, IsReleaseIn, MayHand, is_weak_gift, HandsEdges}
+use Rattle.run_frame.specs.inside.Handing.{IsReleaseIn, MayHand, is_weak_gift, HandsEdges}
 use Rattle.run_frame.proofs.DutyLemmas.{one, get_cleared, count_cleared, count_has}
 use Rattle.run_frame.proofs.PushLemmas.{ends_same, ends_more, open_past, open_stands, work_still, later_still, value_behind, map_places, rows_below, led_push}
 use Rattle.run_frame.proofs.ChosenLemmas.{choice_fits, gives_in_range}
@@ -484,7 +484,7 @@ module _ {J V : Type 0} (meaning : Meaning J V) (job : J) (m : MachineState) (va
 module _ {J V : Type 0} where
   -- a start that signals the edges of an answer was ended with the answer
   pub ends_by : (meaning : Meaning J V) (old new : FrameView J V) (ticket : TicketState (Duty V)) (gives : List ℕ) (answer : Answer) (released : List (TicketState (Duty V))) (t start : ℕ) (ins : Ins V) → ticket.item ≡ Running t start ins
-      → gives ≡ gives_of (out_edges (meaning.net old.job) t) answer → GivesEdges old new ticket gives released → EndsTask meaning old new ticket answer released
+      → gives ≡ gives_of (out_edges (meaning.net old.job) t) answer → GivesEdges (meaning.net old.job) old new ticket gives released → EndsTask meaning old new ticket answer released
   ends_by meaning old new ticket gives answer released t start ins is chosen given =
       let same : t ≡ given.task = task_of (sym is ∙ given.was) in
       record {
@@ -497,6 +497,7 @@ module _ {J V : Type 0} where
         entry = subst (λ es. Ends old.machine new.machine given.start es false given.place) (chosen ∙ ap (λ k. gives_of (out_edges (meaning.net old.job) k) answer) same) given.entry;
         items = given.items;
         releases = given.releases;
+        made = subst (λ es. AreMadeBy (meaning.net old.job) es released) (chosen ∙ ap (λ k. gives_of (out_edges (meaning.net old.job) k) answer) same) given.made;
       }
     where
       of : Duty V → ℕ

@@ -1,5 +1,6 @@
 -- Handing out releases.
 use Rattle.std.proofs.Common.{◌≡◌, ◌≢◌, ◌⊎◌, inl, inr, ⊎_elim, ℕ, zero, suc, ◌+◌, ◌<◌, ◌≤◌, Bool, true, false, ◌&&◌, eqb, List, [], ◌∷◌, ◌++◌, length, map, get_or, Option, Some, None, refl, sym, ap, ◌∙◌, subst, arith}
+use Rattle.std.proofs.lemmas.List.{map_push}
 use Rattle.std.specs.Prelude.{slice_get, IsSomeAnd, ◌==◌}
 use Rattle.std.specs.Option.{option_map_or}
 use Rattle.std.proofs.lemmas.Bool.{cases_eq, false≢true}
@@ -20,9 +21,9 @@ use Rattle.journal_rules.proofs.Snoc.{count_by_push}
 use Rattle.tickets.specs.Books.{TicketState}
 use Rattle.run_frame.specs.declared.duty.Duty.{Duty}
 use Rattle.run_frame.specs.declared.duty.Duty.TheVariants.{Unused}
-use Rattle.run_frame.specs.Duties.{is_unused, is_running, unused, running, as_source, as_strong, by_weak, IsReleaseOf}
+use Rattle.run_frame.specs.Duties.{is_unused, is_running, unused, running, as_source, as_strong, by_weak, IsReleaseOf, IsThinned, AreMadeBy, release_by, target_of}
 use Rattle.run_frame.specs.inside.UnderWay.{rounds}
-use Rattle.run_frame.specs.inside.Handing.{target_of, IsReleaseIn, MayHand, IsHanded, is_weak_gift, HandsEdge, HandsEdges, AreIssued}
+use Rattle.run_frame.specs.inside.Handing.{IsReleaseIn, MayHand, IsHanded, is_weak_gift, HandsEdge, HandsEdges, AreIssued}
 use Rattle.run_frame.proofs.DutyLemmas.{one, get_push, count_pushed}
 
 -- where an edge leads
@@ -186,3 +187,27 @@ module _ {V : Type 0} where
       append-nil : (xs : List (Option (Duty V))) → xs ++ [] ≡ xs
       append-nil [] = refl
       append-nil (x ∷ xs) = ap (λ ys. x ∷ ys) (append-nil xs)
+
+module _ {X : Type 0} where
+  thinned_more : (xs ys : List X) (x : X) → IsThinned xs ys → IsThinned (xs ++ x ∷ []) (ys ++ x ∷ [])
+  thinned_more [] [] x thin = inl (refl, tt)
+  thinned_more [] (y ∷ ys) x thin = inr (thinned_more [] ys x tt)
+  thinned_more (z ∷ zs) [] x thin = absurd thin
+  thinned_more (z ∷ zs) (y ∷ ys) x (inl (same, thin)) = inl (same, thinned_more zs ys x thin)
+  thinned_more (z ∷ zs) (y ∷ ys) x (inr thin) = inr (thinned_more (z ∷ zs) ys x thin)
+
+  thinned_skip : (xs ys : List X) (y : X) → IsThinned xs ys → IsThinned xs (ys ++ y ∷ [])
+  thinned_skip [] ys y thin = tt
+  thinned_skip (z ∷ zs) [] y thin = absurd thin
+  thinned_skip (z ∷ zs) (x ∷ ys) y (inl (same, thin)) = inl (same, thinned_skip zs ys y thin)
+  thinned_skip (z ∷ zs) (x ∷ ys) y (inr thin) = inr (thinned_skip (z ∷ zs) ys y thin)
+
+module _ {V : Type 0} (net : NetRows) where
+  -- an edge more, which made a release or none
+  pub made_more : (edges : List ℕ) (e : ℕ) (tickets : List (TicketState (Duty V))) (ticket : TicketState (Duty V)) → ticket.item ≡ release_by net e → AreMadeBy net edges tickets → AreMadeBy net (edges ++ e ∷ []) (tickets ++ ticket ∷ [])
+  made_more edges e tickets ticket is made =
+      rw (map_push (λ (t : TicketState (Duty V)). t.item) tickets ticket, map_push (release_by {V = V} net) edges e, is)
+      (thinned_more (map (λ (t : TicketState (Duty V)). t.item) tickets) (map (release_by net) edges) (release_by net e) made)
+
+  pub made_skip : (edges : List ℕ) (e : ℕ) (tickets : List (TicketState (Duty V))) → AreMadeBy net edges tickets → AreMadeBy net (edges ++ e ∷ []) tickets
+  made_skip edges e tickets made = rw (map_push (release_by {V = V} net) edges e) (thinned_skip (map (λ (t : TicketState (Duty V)). t.item) tickets) (map (release_by net) edges) (release_by net e) made)

@@ -13,3 +13,4 @@ pub mod HandingLemmas
 pub mod RefusedLemmas
 pub mod CountedLemmas
 pub mod OneThreadLemmas
+pub mod WorkedStates

@@ -1,7 +1,12 @@
 -- What is outstanding in a run, counted.
-use Rattle.std.specs.Prelude.{◌≡◌, ℕ, Bool, false, ◌&&◌, ◌==◌, List, All, Option, Some, None, is_some, count_by}
+use Rattle.std.specs.Prelude.{◌≡◌, ◌⊎◌, ℕ, Bool, false, ◌&&◌, ◌==◌, List, [], ◌∷◌, map, All, Option, Some, None, is_some, count_by, slice_get, if◌then◌else◌}
+use Rattle.std.specs.Option.{option_map_or}
+use Rattle.task_graph.specs.NetRows.{NetRows}
+use Rattle.task_graph.specs.Net.{is_weak}
+use Rattle.task_graph.specs.declared.net.EdgeRow.{EdgeRow}
 use Rattle.atomic_table.specs.Seated.{TableId}
 use Rattle.journal_rules.specs.declared.entry.Cause.{Cause}
+use Rattle.journal_rules.specs.declared.entry.Cause.TheVariants.{Strong, Weak}
 use Rattle.journal_rules.specs.Counts.{is_source, is_strong, is_weak_at}
 use Rattle.tickets.specs.Books.{TicketState}
 use Rattle.run_frame.specs.declared.duty.Duty.{Duty}
@@ -52,3 +57,25 @@ IsReleaseOf register ticket = (ticket.register ≡ register) × IsUnused ticket.
 
 abbrev pub AreReleasesOf : {V : Type 0} → TableId → List (TicketState (Duty V)) → Type 0
 AreReleasesOf register tickets = All (IsReleaseOf register) tickets
+
+-- the task that an edge leads to
+abbrev pub target_of : NetRows → ℕ → ℕ
+target_of net e = option_map_or (λ (row : EdgeRow). row.to) (slice_get net.edges e) 0
+
+-- The release that a token on an edge can make: by the edge itself where it is weak, else by its target's strong
+-- in-edges.
+abbrev pub cause_by : NetRows → ℕ → Cause
+cause_by net e = if is_weak net e then Weak e else Strong
+
+abbrev pub release_by : {V : Type 0} → NetRows → ℕ → Duty V
+release_by net e = Unused (target_of net e) (cause_by net e)
+
+-- the one list is the other, of which items may be left out
+abbrev pub IsThinned : {X : Type 0} → List X → List X → Type 0
+IsThinned [] ys = Unit {0}
+IsThinned (x ∷ xs) [] = ⊥
+IsThinned (x ∷ xs) (y ∷ ys) = ((x ≡ y) × IsThinned xs ys) ⊎ IsThinned (x ∷ xs) ys
+
+-- each of these tickets is for a release that one of the edges made, in their order
+abbrev pub AreMadeBy : {V : Type 0} → NetRows → List ℕ → List (TicketState (Duty V)) → Type 0
+AreMadeBy net edges tickets = IsThinned (map (λ t. t.item) tickets) (map (release_by net) edges)

@@ -23,7 +23,7 @@ use Rattle.run_frame.specs.declared.duty.Duty.{Duty}
 use Rattle.run_frame.specs.declared.duty.Duty.TheVariants.{Unused, Running}
 use Rattle.run_frame.specs.declared.state.Started.{Started}
 use Rattle.run_frame.specs.declared.state.Started.TheVariants as started
-use Rattle.run_frame.specs.Duties.{AreReleasesOf}
+use Rattle.run_frame.specs.Duties.{AreReleasesOf, AreMadeBy}
 
 -- the name of its register, its job, the net, the limit and the journal so far, and what is outstanding by number
 pub record FrameView (J V : Type 0) : Type 0 where
@@ -111,7 +111,7 @@ abbrev pub MayFail : {J V : Type 0} → Meaning J V → J → Duty V → JobErro
 MayFail meaning job duty (FaultOf why) = MayFaultWith meaning job duty why
 MayFail meaning job duty NoMemory = Unit {0}
 
--- A start was ended with an answer, and each release that this made has one of these tickets.
+-- A start was ended with an answer, and each release that this made has one of these tickets, in the order of the edges.
 pub record EndsTask {J V : Type 0} (meaning : Meaning J V) (old new : FrameView J V) (ticket : TicketState (Duty V)) (answer : Answer) (released : List (TicketState (Duty V))) : Type 0 where
   pub task : ℕ
   pub start : ℕ
@@ -122,6 +122,7 @@ pub record EndsTask {J V : Type 0} (meaning : Meaning J V) (old new : FrameView 
   pub entry : Ends old.machine new.machine start (gives_of (out_edges (meaning.net old.job) task) answer) false place
   pub items : new.items ≡ items_after old.items ticket released
   pub releases : AreReleasesOf old.register released
+  pub made : AreMadeBy (meaning.net old.job) (gives_of (out_edges (meaning.net old.job) task) answer) released
 
 -- A start has faulted.
 pub record FaultsTask {J V : Type 0} (old new : FrameView J V) (ticket : TicketState (Duty V)) (why : Why) : Type 0 where

@@ -1,10 +1,11 @@
 // The releases that a run begins with, and those that an End makes.
 ghost use Rattle.std.specs.Prelude.{◌≡◌, ◌+◌, ◌≤◌, ◌<◌, ◌^◌, ◌++◌, ◌∷◌, [], ℕ, List, Option, Some, length, All, IfOk, slice_get};
 ghost use Rattle.run_frame.specs.declared.duty.Duty.{Duty};
+ghost use Rattle.task_graph.specs.NetRows.{NetRows};
 ghost use Rattle.std.specs.Vec.{vec_capacity, vec_len};
-ghost use Rattle.run_frame.specs.Duties.{outstanding_count};
+ghost use Rattle.run_frame.specs.Duties.{outstanding_count, AreMadeBy, target_of, cause_by};
 ghost use Rattle.run_frame.specs.inside.UnderWay.{IsAccounted};
-ghost use Rattle.run_frame.specs.inside.Handing.{MayHand, HandsEdge, HandsEdges, AreIssued, IsReleaseIn, FirstCause, target_of};
+ghost use Rattle.run_frame.specs.inside.Handing.{MayHand, HandsEdge, HandsEdges, AreIssued, IsReleaseIn, FirstCause};
 
 use super::duty::Duty;
 use super::outstanding::Outstanding;
@@ -32,6 +33,7 @@ pub fn hand_out<V: Drop>(
     ensures hands { HandsEdges net.now machine.now.journal gives.now outstanding.old.items outstanding.new.items }
     ensures same { outstanding.new ≡ record outstanding.old { items = outstanding.new.items } }
     ensures issued { AreIssued outstanding.old.register outstanding.old.items outstanding.new.items released.new.items }
+    ensures made { AreMadeBy net.now gives.now released.new.items }
 {
     for edge in gives {
         hand_edge(machine, net, *edge, outstanding, released);
@@ -57,6 +59,7 @@ fn hand_edge<V: Drop>(
     ensures same { outstanding.new ≡ record outstanding.old { items = outstanding.new.items } }
     ensures issued { (base : List (Option (Duty V))) → AreIssued outstanding.old.register base outstanding.old.items released.old.items
         → AreIssued outstanding.old.register base outstanding.new.items released.new.items }
+    ensures made { (edges : List ℕ) → AreMadeBy net.now edges released.old.items → AreMadeBy net.now (edges ++ edge ∷ []) released.new.items }
     ensures total { outstanding_count outstanding.new.items ≤ outstanding_count outstanding.old.items + 1 }
     ensures len { vec_len released.new ≤ vec_len released.old + 1 }
     ensures capacity { vec_capacity released.new ≡ vec_capacity released.old }
@@ -91,6 +94,8 @@ fn hand<V: Drop>(
     ensures items { outstanding.new ≡ record outstanding.old { items = outstanding.old.items ++ Some (Duty.Unused task cause) ∷ [] } }
     ensures issued { (base : List (Option (Duty V))) → AreIssued outstanding.old.register base outstanding.old.items released.old.items
         → AreIssued outstanding.old.register base outstanding.new.items released.new.items }
+    ensures made { (net : NetRows) (edges : List ℕ) (edge : ℕ) → task ≡ target_of net edge → cause ≡ cause_by net edge → AreMadeBy net edges released.old.items
+        → AreMadeBy net (edges ++ edge ∷ []) released.new.items }
     ensures len { vec_len released.new ≡ vec_len released.old + 1 }
     ensures capacity { vec_capacity released.new ≡ vec_capacity released.old }
 {

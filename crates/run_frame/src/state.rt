@@ -180,7 +180,7 @@ impl<J: Job + Drop> FrameState<J> {
         requires register { running.register ≡ self.old.register }
         requires answer { MayGive J.meaning self.old.job running.item (arc_value value) gives.now }
         ensures same { IsSameRun self.old self.new }
-        ensures ok { IfOk result (λ released. GivesEdges self.old self.new running gives.now released.items) }
+        ensures ok { IfOk result (λ released. GivesEdges net.now self.old self.new running gives.now released.items) }
         ensures back { IfErr result (λ back. ComesBack self.old self.new running back.item) }
     {
         if !self.outstanding.has_room(gives.len()) {

@@ -1,9 +1,7 @@
 -- What handing out releases does, edge by edge.
 use Rattle.std.specs.Prelude.{◌≡◌, ◌≢◌, ◌⊎◌, ℕ, ◌+◌, ◌<◌, ◌≤◌, Bool, false, ◌&&◌, ◌==◌, List, [], ◌++◌, length, map, count_by, Option, Some, None, slice_get, slice_index, if◌then◌else◌}
-use Rattle.std.specs.Option.{option_map_or}
 use Rattle.task_graph.specs.NetRows.{NetRows}
 use Rattle.task_graph.specs.Net.{IsSource, is_weak, in_edges, strong_in}
-use Rattle.task_graph.specs.declared.net.EdgeRow.{EdgeRow}
 use Rattle.atomic_table.specs.Seated.{TableId}
 use Rattle.journal_rules.specs.declared.entry.Cause.{Cause}
 use Rattle.journal_rules.specs.declared.entry.Cause.TheVariants.{Source, Strong, Weak}
@@ -13,12 +11,8 @@ use Rattle.tickets.specs.Books.{TicketState}
 use Rattle.run_frame.specs.Meaning.{IsCauseOf}
 use Rattle.run_frame.specs.declared.duty.Duty.{Duty}
 use Rattle.run_frame.specs.declared.duty.Duty.TheVariants.{Unused, Running}
-use Rattle.run_frame.specs.Duties.{unused, running, as_source, as_strong, by_weak, outstanding_count, AreReleasesOf}
+use Rattle.run_frame.specs.Duties.{unused, running, as_source, as_strong, by_weak, outstanding_count, AreReleasesOf, target_of}
 use Rattle.run_frame.specs.inside.UnderWay.{rounds, born}
-
--- the task that an edge leads to
-abbrev pub target_of : NetRows → ℕ → ℕ
-target_of net e = option_map_or (λ (row : EdgeRow). row.to) (slice_get net.edges e) 0
 
 -- a release that its cause can make
 abbrev pub IsReleaseIn : {V : Type 0} → NetRows → Duty V → Type 0

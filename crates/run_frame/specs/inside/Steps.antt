@@ -1,5 +1,6 @@
 -- What the parts of a step do.
 use Rattle.std.specs.Prelude.{◌≡◌, ℕ, ◌<◌, ◌≤◌, false, List, map, IsTrue}
+use Rattle.task_graph.specs.NetRows.{NetRows}
 use Rattle.task_graph.specs.Net.{IsNet}
 use Rattle.legal_run.specs.MachineState.{MachineState}
 use Rattle.legal_run.specs.Machine.{Starts, Ends, Drops}
@@ -22,7 +23,7 @@ use Rattle.run_frame.specs.declared.steps.Used.TheVariants as used
 use Rattle.run_frame.specs.Meaning.{Meaning}
 use Rattle.run_frame.specs.Runs.{found_ins}
 use Rattle.run_frame.specs.WorkRule.{Answers}
-use Rattle.run_frame.specs.Duties.{AreReleasesOf}
+use Rattle.run_frame.specs.Duties.{AreReleasesOf, AreMadeBy}
 use Rattle.run_frame.specs.Frames.{FrameView, IsOutstanding, items_after}
 
 -- a machine can refuse this entry for want of memory alone
@@ -56,7 +57,7 @@ MayGive meaning job (Unused t cause) v gives = ⊥
 MayGive meaning job (Running t start ins) v gives = Answers meaning job (record { task = t; found = map found_of (parts_of ins) }) v gives
 
 -- A start was ended that signals these edges, and each release that this made has one of these tickets.
-pub record GivesEdges {J V : Type 0} (old new : FrameView J V) (ticket : TicketState (Duty V)) (gives : List ℕ) (released : List (TicketState (Duty V))) : Type 0 where
+pub record GivesEdges {J V : Type 0} (net : NetRows) (old new : FrameView J V) (ticket : TicketState (Duty V)) (gives : List ℕ) (released : List (TicketState (Duty V))) : Type 0 where
   pub task : ℕ
   pub start : ℕ
   pub ins : Ins V
@@ -66,3 +67,4 @@ pub record GivesEdges {J V : Type 0} (old new : FrameView J V) (ticket : TicketS
   pub entry : Ends old.machine new.machine start gives false place
   pub items : new.items ≡ items_after old.items ticket released
   pub releases : AreReleasesOf old.register released
+  pub made : AreMadeBy net gives released

@@ -29,4 +29,5 @@ loop-edge-preserved g c =
       capacity = omega arith;
       len = omega arith;
       issued = subst (λ (r : TableId). AreIssued r c.args.outstanding.now.items c.hand_edge.new.outstanding.items c.hand_edge.new.released.items) (sym register) (e.issued c.args.outstanding.now.items i.issued);
+      made = rw (take_more c.args.gives.now k 0 c.loop-edge-test.true) (e.made (take k c.args.gives.now) i.made);
     }

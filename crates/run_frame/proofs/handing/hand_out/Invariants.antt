@@ -1,6 +1,6 @@
 use Rattle.std.proofs.Common.{◌≡◌, ◌+◌, ◌≤◌, length, take}
 use Rattle.std.specs.Vec.{vec_capacity, vec_len}
-use Rattle.run_frame.specs.Duties.{outstanding_count}
+use Rattle.run_frame.specs.Duties.{outstanding_count, AreMadeBy}
 use Rattle.run_frame.specs.inside.Handing.{HandsEdges, AreIssued}
 use Rattle.run_frame.proofs.handing.hand_out.Given as goal
 
@@ -13,4 +13,5 @@ invariant-loop-edge g l = record {
   capacity : length l.gives ≤ vec_capacity l.released;
   len : vec_len l.released ≤ l.edge-index;
   issued : AreIssued l.outstanding.register l.initial.outstanding.items l.outstanding.items l.released.items;
+  made : AreMadeBy l.net (take l.edge-index l.gives) l.released.items;
 }

@@ -47,8 +47,8 @@ returns-in-All-clause-ok g c =
     let jobs : now.job ≡ arc_value c.self.inside.job = sym (ap (λ (k : FrameView J V). k.job) c.self.view_is) in
     let net : arc_value c.in-Ok.net ≡ meaning.net (arc_value c.self.inside.job) = search rules in
     let nets : arc_value c.in-Ok.net ≡ meaning.net now.job = net ∙ ap meaning.net (sym jobs) in
-    IfOk-weaker c.end_giving.result (λ ts. GivesEdges now c.end_giving.new.self c.args.running c.out_edges.result.now ts.items) (λ ts. EndsTask meaning now c.end_giving.new.self c.args.running c.args.answer.now ts.items)
-    (λ ts given. ends_by meaning now c.end_giving.new.self c.args.running c.out_edges.result.now c.args.answer.now ts.items t c.in-Running.start c.in-Running.ins is (c.out_edges.ensures ∙ ap (λ (n : NetRows). out_edges n t) (c.deref-in-All-2.ensures ∙ nets) ∙ sym (ap (gives_of (out_edges (meaning.net now.job) t)) c.in-All.is)) given) c.end_giving.ensures.ok
+    IfOk-weaker c.end_giving.result (λ ts. GivesEdges c.deref-in-All.result.now now c.end_giving.new.self c.args.running c.out_edges.result.now ts.items) (λ ts. EndsTask meaning now c.end_giving.new.self c.args.running c.args.answer.now ts.items)
+    (λ ts given. ends_by meaning now c.end_giving.new.self c.args.running c.out_edges.result.now c.args.answer.now ts.items t c.in-Running.start c.in-Running.ins is (c.out_edges.ensures ∙ ap (λ (n : NetRows). out_edges n t) (c.deref-in-All-2.ensures ∙ nets) ∙ sym (ap (gives_of (out_edges (meaning.net now.job) t)) c.in-All.is)) (subst (λ (n : NetRows). GivesEdges n now c.end_giving.new.self c.args.running c.out_edges.result.now ts.items) (c.deref-in-All.ensures ∙ nets) given)) c.end_giving.ensures.ok
 
 pub returns-in-None-clause-ok : goal.returns-in-None-clause-ok
 returns-in-None-clause-ok g c =
@@ -61,8 +61,8 @@ returns-in-None-clause-ok g c =
     let jobs : now.job ≡ arc_value c.self.inside.job = sym (ap (λ (k : FrameView J V). k.job) c.self.view_is) in
     let net : arc_value c.in-Ok.net ≡ meaning.net (arc_value c.self.inside.job) = search rules in
     let nets : arc_value c.in-Ok.net ≡ meaning.net now.job = net ∙ ap meaning.net (sym jobs) in
-    IfOk-weaker c.end_giving-in-None.result (λ ts. GivesEdges now c.end_giving-in-None.new.self c.args.running [] ts.items) (λ ts. EndsTask meaning now c.end_giving-in-None.new.self c.args.running c.args.answer.now ts.items)
-    (λ ts given. ends_by meaning now c.end_giving-in-None.new.self c.args.running [] c.args.answer.now ts.items t c.in-Running.start c.in-Running.ins is (sym (ap (gives_of (out_edges (meaning.net now.job) t)) c.in-None.is)) given) c.end_giving-in-None.ensures.ok
+    IfOk-weaker c.end_giving-in-None.result (λ ts. GivesEdges c.deref-in-None.result.now now c.end_giving-in-None.new.self c.args.running [] ts.items) (λ ts. EndsTask meaning now c.end_giving-in-None.new.self c.args.running c.args.answer.now ts.items)
+    (λ ts given. ends_by meaning now c.end_giving-in-None.new.self c.args.running [] c.args.answer.now ts.items t c.in-Running.start c.in-Running.ins is (sym (ap (gives_of (out_edges (meaning.net now.job) t)) c.in-None.is)) (subst (λ (n : NetRows). GivesEdges n now c.end_giving-in-None.new.self c.args.running [] ts.items) (c.deref-in-None.ensures ∙ nets) given)) c.end_giving-in-None.ensures.ok
 
 pub returns-in-Ok-chosen-clause-ok : goal.returns-in-Ok-chosen-clause-ok
 returns-in-Ok-chosen-clause-ok g c =
@@ -76,5 +76,5 @@ returns-in-Ok-chosen-clause-ok g c =
     let net : arc_value c.in-Ok.net ≡ meaning.net (arc_value c.self.inside.job) = search rules in
     let nets : arc_value c.in-Ok.net ≡ meaning.net now.job = net ∙ ap meaning.net (sym jobs) in
     let chosen : c.as_slice-in-Ok-chosen.result.now ≡ chosen_edges (out_edges c.deref-in-Indices.result.now t) c.as_slice.result.now = c.as_slice-in-Ok-chosen.ensures ∙ c.in-Ok-chosen.ensures in
-    IfOk-weaker c.end_giving-in-Ok-chosen.result (λ ts. GivesEdges now c.end_giving-in-Ok-chosen.new.self c.args.running c.as_slice-in-Ok-chosen.result.now ts.items) (λ ts. EndsTask meaning now c.end_giving-in-Ok-chosen.new.self c.args.running c.args.answer.now ts.items)
-    (λ ts given. ends_by meaning now c.end_giving-in-Ok-chosen.new.self c.args.running c.as_slice-in-Ok-chosen.result.now c.args.answer.now ts.items t c.in-Running.start c.in-Running.ins is (chosen ∙ ap (λ (n : NetRows). chosen_edges (out_edges n t) c.as_slice.result.now) (c.deref-in-Indices.ensures ∙ nets) ∙ ap (chosen_edges (out_edges (meaning.net now.job) t)) c.as_slice.ensures ∙ sym (ap (gives_of (out_edges (meaning.net now.job) t)) c.in-Indices.is)) given) c.end_giving-in-Ok-chosen.ensures.ok
+    IfOk-weaker c.end_giving-in-Ok-chosen.result (λ ts. GivesEdges c.deref-in-Ok-chosen.result.now now c.end_giving-in-Ok-chosen.new.self c.args.running c.as_slice-in-Ok-chosen.result.now ts.items) (λ ts. EndsTask meaning now c.end_giving-in-Ok-chosen.new.self c.args.running c.args.answer.now ts.items)
+    (λ ts given. ends_by meaning now c.end_giving-in-Ok-chosen.new.self c.args.running c.as_slice-in-Ok-chosen.result.now c.args.answer.now ts.items t c.in-Running.start c.in-Running.ins is (chosen ∙ ap (λ (n : NetRows). chosen_edges (out_edges n t) c.as_slice.result.now) (c.deref-in-Indices.ensures ∙ nets) ∙ ap (chosen_edges (out_edges (meaning.net now.job) t)) c.as_slice.ensures ∙ sym (ap (gives_of (out_edges (meaning.net now.job) t)) c.in-Indices.is)) (subst (λ (n : NetRows). GivesEdges n now c.end_giving-in-Ok-chosen.new.self c.args.running c.as_slice-in-Ok-chosen.result.now ts.items) (c.deref-in-Ok-chosen.ensures ∙ nets) given)) c.end_giving-in-Ok-chosen.ensures.ok

@@ -144,4 +144,5 @@ returns-in-Ok-end_task-clause-ok g c =
       entry = c.in-Ok-end_task.ensures.ended;
       items = issued.items ∙ ap (λ xs. xs ++ map (λ (t : TicketState (Duty V)). Some t.item) c.hand_out.new.released.items) left;
       releases = rw (← register) issued.releases;
+      made = c.hand_out.ensures.made;
     })
