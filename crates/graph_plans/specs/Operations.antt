@@ -1,0 +1,59 @@
+-- What operations are to a plan: the shapes of their tasks, and what they may name.
+use Rattle.std.specs.Prelude.{ℕ, ◌<◌, ◌≤◌, List, length, All}
+use Rattle.task_graph.specs.declared.net.Shape.{Shape}
+use Rattle.task_graph.specs.declared.net.Shape.TheVariants.{Plain, Choice, Many}
+use Rattle.graph_plans.specs.declared.ops.Op.{Op}
+use Rattle.graph_plans.specs.declared.ops.Op.TheVariants.{Input, Read, Text, Match, Back, IfMore, IfHas, Route}
+use Rattle.graph_plans.specs.declared.ops.TextOp.{TextOp}
+use Rattle.graph_plans.specs.declared.ops.TextOp.TheVariants.{Pass, Keep, Without, Head, Tail, Skip, Sort, Uniq, Count, Tally}
+
+-- the shape of the task of an operation
+abbrev pub shape_of : Op → Shape
+shape_of Input = Plain
+shape_of (Read text) = Plain
+shape_of (Text op) = Plain
+shape_of Match = Plain
+shape_of Back = Choice
+shape_of (IfMore n) = Choice
+shape_of (IfHas word) = Choice
+shape_of (Route words) = Many
+
+-- the greatest number of lines that an operation may name
+abbrev pub line_limit : ℕ
+line_limit = 1000000000
+
+-- the most bytes of a word
+abbrev pub word_limit : ℕ
+word_limit = 4096
+
+-- the most words of a route
+abbrev pub route_limit : ℕ
+route_limit = 256
+
+-- a word has at most 4,096 bytes
+abbrev pub IsWord : List ℕ → Type 0
+IsWord word = length word ≤ word_limit
+
+-- the words and numbers of an operation on one text are within their limits
+abbrev pub IsTextOp : TextOp → Type 0
+IsTextOp Pass = Unit {0}
+IsTextOp (Keep word) = IsWord word
+IsTextOp (Without word) = IsWord word
+IsTextOp (Head n) = n ≤ line_limit
+IsTextOp (Tail n) = n ≤ line_limit
+IsTextOp (Skip n) = n ≤ line_limit
+IsTextOp Sort = Unit {0}
+IsTextOp Uniq = Unit {0}
+IsTextOp Count = Unit {0}
+IsTextOp Tally = Unit {0}
+
+-- the same of any operation, where so many texts are named
+abbrev pub IsOp : ℕ → Op → Type 0
+IsOp texts Input = Unit {0}
+IsOp texts (Read text) = text < texts
+IsOp texts (Text op) = IsTextOp op
+IsOp texts Match = Unit {0}
+IsOp texts Back = Unit {0}
+IsOp texts (IfMore n) = n ≤ line_limit
+IsOp texts (IfHas word) = IsWord word
+IsOp texts (Route words) = (length words ≤ route_limit) × All IsWord words

@@ -1,0 +1,18 @@
+//! Plans: what a graph file stands for, without a word on how a file writes it.
+//!
+//! A plan has the graphs of a file, what their tasks do, and the names of the texts that they read. The layers above
+//! see it as its rows (`plan_rows`) and know that a plan that was read keeps the rules of `IsPlan`. The definitions
+//! stand in `specs/`: `Operations` says of which shape the task of an operation is and what an operation may name,
+//! `PlanRows` has the rows of a plan with their rules and limits, and `Sources` says which plans have no task to begin
+//! with.
+#![tactic(auto)]
+
+mod ops;
+mod plans;
+mod sources;
+mod spots;
+
+pub use ops::{Op, TextOp};
+pub use plans::{Graph, Plan};
+pub use sources::no_source;
+pub use spots::Spot;

@@ -1,0 +1,48 @@
+// The operations of tasks.
+use outside_io::{Bytes, List};
+
+/// An operation on one text. A number of lines is at most 1,000,000,000, a word has at most 4,096 bytes.
+#[derive(Drop)]
+pub enum TextOp {
+    /// The text as it is.
+    Pass,
+    /// The lines in which this word occurs.
+    Keep(Bytes),
+    /// The other lines.
+    Without(Bytes),
+    /// So many of the first lines.
+    Head(u64),
+    /// So many of the last lines.
+    Tail(u64),
+    /// All lines but so many of the first ones.
+    Skip(u64),
+    /// The lines in the order of their bytes.
+    Sort,
+    /// The lines that differ from the line just before them.
+    Uniq,
+    /// One line, the number of lines in decimal.
+    Count,
+    /// Each different line, in the order of their bytes, behind its count.
+    Tally,
+}
+
+/// What a task does. The text of a task is what its predecessors hand it, one after another.
+#[derive(Drop)]
+pub enum Op {
+    /// The text with which the graph was started.
+    Input,
+    /// The text of this number in the plan's list of names.
+    Read(u32),
+    /// An operation on the task's text.
+    Text(TextOp),
+    /// The lines of the first text that a predecessor hands it whose key is that of a line of the others.
+    Match,
+    /// The task's text, for its first successor alone.
+    Back,
+    /// The task's text, for its first successor where it has more lines than this number, else for the second one.
+    IfMore(u64),
+    /// The task's text, for its first successor where this word occurs in it, else for the second one.
+    IfHas(Bytes),
+    /// The task's text, for each successor whose word in this list of at most 256 occurs in it.
+    Route(List<Bytes>),
+}

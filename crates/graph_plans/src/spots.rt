@@ -1,0 +1,14 @@
+// Places in a graph file.
+
+/// A place in a graph file. Tasks, semaphores and modules are numbered from 0 in their lists.
+#[derive(Clone, Copy, Debug, PartialEq, Eq)]
+pub enum Spot {
+    File,
+    Sem(u32),
+    Task(u32),
+    Module(u32),
+    /// The module, and the semaphore in it.
+    ModuleSem(u32, u32),
+    /// The module, and the task in it.
+    ModuleTask(u32, u32),
+}
