@@ -52,8 +52,11 @@ while IFS='|' read -r _ _ file lines _; do
     [[ $(wc -l <"crates/$file") == "$lines" ]] || fault "docs/THEOREM.md says $lines lines of $file"
 done < <(grep -E '\.antt` \| [0-9]+ \|$' docs/THEOREM.md)
 
+# It names the files of the definitions that the clauses of flow_main rest on, and no others.
+python3 -B tools/list_theorem.py --check || fault "docs/THEOREM.md names other definitions than the clauses of flow_main cite"
+
 # The claims that the page of definitions lists are those of the sources.
-python3 tools/list_claims.py --check || fault "docs/DEFINITIONS.md lists other claims than tools/list_claims.py --write would"
+python3 -B tools/list_claims.py --check || fault "docs/DEFINITIONS.md lists other claims than tools/list_claims.py --write would"
 
 # Each file of the repository that a document links to or names in code letters is there.
 for document in "${documents[@]}"; do
