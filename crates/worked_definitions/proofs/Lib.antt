@@ -1,0 +1,3 @@
+pub mod WorkedSinks
+pub mod WorkedBuilder
+pub mod WorkedSteps
