@@ -1,3 +1,4 @@
 pub mod WorkedSinks
 pub mod WorkedBuilder
 pub mod WorkedSteps
+pub mod WorkedFrames

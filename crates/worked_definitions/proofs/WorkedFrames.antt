@@ -1,0 +1,434 @@
+-- What a run's steps do and what its works may come to, computed on small ones.
+use Rattle.std.proofs.Common.{◌≡◌, ◌≢◌, ◌⊎◌, ℕ, zero, suc, ◌+◌, ◌<◌, ◌≤◌, true, false, List, [], ◌∷◌, ◌++◌, length, map, Option, Some, None, inl, inr, refl, ap, sym, ◌∙◌, arith}
+use Rattle.std.specs.Arc.{arc_value}
+use Rattle.std.specs.Global.{Global}
+use Rattle.std.specs.declared.sync.Arc.{Arc}
+use Rattle.std.proofs.lemmas.List.Elements.{All-from_recursion}
+use Rattle.atomic_table.specs.Seated.{TableId}
+use Rattle.task_graph.specs.NetRows.{NetRows}
+use Rattle.task_graph.specs.declared.net.Shape.{Shape}
+use Rattle.task_graph.specs.declared.net.Shape.TheVariants.{Plain, Nested}
+use Rattle.task_graph.specs.declared.net.TaskRow.{TaskRow}
+use Rattle.task_graph.specs.declared.net.EdgeRow.{EdgeRow}
+use Rattle.journal_rules.specs.declared.entry.Cause.{Cause}
+use Rattle.journal_rules.specs.declared.entry.Cause.TheVariants.{Source, Strong, Weak}
+use Rattle.journal_rules.specs.declared.entry.Part.TheVariants.{From}
+use Rattle.journal_rules.specs.declared.entry.Why.{Why}
+use Rattle.journal_rules.specs.declared.entry.Why.TheVariants.{Long, Wide, Unmet, Inner, OverRelease}
+use Rattle.journal_rules.specs.declared.entry.DropWhy.TheVariants.{Halted, Limit}
+use Rattle.journal_rules.specs.declared.entry.Entry.{Entry}
+use Rattle.journal_rules.specs.declared.entry.Entry.TheVariants.{Start, End, Fault, Drop}
+use Rattle.journal_rules.specs.DataRule.{edges_of}
+use Rattle.journal_rules.specs.ShapeLegal.{MayFollow}
+use Rattle.legal_run.specs.MachineState.{MachineState}
+use Rattle.join_words.specs.Ins.{InputValue, value, first, nothing, parts_of, found_of}
+use Rattle.join_words.specs.declared.ins.Ins.{Ins}
+use Rattle.join_words.specs.declared.ins.Given.TheVariants as given
+use Rattle.tickets.specs.Books.{TicketState}
+use Rattle.run_frame.specs.declared.job.Answer.TheVariants.{All as Each, None as NoneOf}
+use Rattle.run_frame.specs.declared.job.Done.{Done}
+use Rattle.run_frame.specs.declared.job.Done.TheVariants.{Value, Inner as InnerJob}
+use Rattle.run_frame.specs.declared.job.JobError.TheVariants.{Fault as FaultOf, NoMemory}
+use Rattle.run_frame.specs.declared.duty.Duty.{Duty}
+use Rattle.run_frame.specs.declared.duty.Duty.TheVariants.{Unused, Running}
+use Rattle.run_frame.specs.declared.state.Started.TheVariants as started
+use Rattle.run_frame.specs.declared.run.ValueRow.{ValueRow}
+use Rattle.run_frame.specs.declared.run.FrameRun.{FrameRun}
+use Rattle.run_frame.specs.Meaning.{Meaning, IsCauseOf}
+use Rattle.run_frame.specs.Runs.{IsFine}
+use Rattle.run_frame.specs.LastEnds.{last_before, last_value}
+use Rattle.run_frame.specs.WorkRule.{WorkRule}
+use Rattle.run_frame.specs.NestedRule.{NestedRule, job_of, journal_of}
+use Rattle.run_frame.specs.Duties.{IsReleaseOf}
+use Rattle.run_frame.specs.Frames.{FrameView, IsSameRun, ComesBack, IsStarted, HasNoInner, StartsTask, DropsTask, StartDoes, MayEndWith, MayFaultWith, MayFail, EndsTask, FaultsTask, IsBegun}
+
+abbrev free : Shape → TaskRow
+free shape = record { shape = shape; takes = []; puts = [] }
+
+abbrev edge : ℕ → ℕ → EdgeRow
+edge from to = record { from = from; to = to; start = false }
+
+-- a plain task that leads to a nested one, and that to a plain one
+abbrev line : NetRows
+line = record { tasks = free Plain ∷ free Nested ∷ free Plain ∷ []; edges = edge 0 1 ∷ edge 1 2 ∷ []; sems = [] }
+
+-- Jobs that are numbers. What a task of a job comes to is the number of the job, that of the task, and all that it has
+-- found, added up: as a value, as a job that it hands on, or as the number of a fault.
+abbrev added : List (InputValue ℕ) → ℕ
+added [] = 0
+added (value n ∷ found) = n + added found
+added (none ∷ found) = added found
+
+abbrev may_answer : ℕ → ℕ → List (InputValue ℕ) → Done ℕ ℕ → Type 0
+may_answer j t found (Value n answer) = (n ≡ j + t + added found) × (answer ≡ Each)
+may_answer j t found (InnerJob k) = k ≡ j + t + added found
+
+abbrev may_fault : ℕ → ℕ → List (InputValue ℕ) → Why → Type 0
+may_fault j t found (Long n) = n ≡ j + t + added found
+may_fault j t found (Wide n) = n ≡ j + t + added found
+may_fault j t found (Unmet n) = n ≡ j + t + added found
+may_fault j t found Inner = ⊥
+may_fault j t found (OverRelease s) = ⊥
+
+abbrev sums : Meaning ℕ ℕ
+sums = record {
+  net = λ j. line;
+  limit = λ j. j + 2;
+  answers = may_answer;
+  faults = may_fault;
+  gathers = λ j run n. n ≡ j;
+  gather_faults = λ j run why. may_fault j 0 [] why;
+  follows = λ j run k. k ≡ j + 1;
+}
+
+-- the same, but that task 0 answers a value and each other task a job; or that a task answers a value where it has
+-- found something, and nothing else
+abbrev first_answers : ℕ → ℕ → List (InputValue ℕ) → Done ℕ ℕ → Type 0
+first_answers j zero found (Value n answer) = Unit {0}
+first_answers j zero found (InnerJob k) = ⊥
+first_answers j (suc t) found (Value n answer) = ⊥
+first_answers j (suc t) found (InnerJob k) = Unit {0}
+
+abbrev first_alone : Meaning ℕ ℕ
+first_alone = record sums { answers = first_answers }
+
+abbrev finders_answer : ℕ → ℕ → List (InputValue ℕ) → Done ℕ ℕ → Type 0
+finders_answer j t [] done = ⊥
+finders_answer j t (x ∷ found) (Value n answer) = Unit {0}
+finders_answer j t (x ∷ found) (InnerJob k) = ⊥
+
+abbrev finders : Meaning ℕ ℕ
+finders = record sums { answers = finders_answer }
+
+-- the nested task was started, and found the value of the first
+abbrev second_begun : List Entry
+second_begun = Start 0 Source [] ∷ End 0 (0 ∷ []) false ∷ Start 1 Strong (From 1 ∷ []) ∷ []
+
+-- The claims below speak of two values, at the places 1 and 3, and of a run that some start made.
+module _ (five ten : Arc ℕ Global) (run : FrameRun ℕ ℕ) where
+  abbrev rows : List (ValueRow ℕ)
+  rows = record { place = 1; value = five } ∷ record { place = 3; value = ten } ∷ []
+
+  abbrev no_run : ℕ → Option (FrameRun ℕ ℕ)
+  no_run n = None
+
+  abbrev the_run : ℕ → Option (FrameRun ℕ ℕ)
+  the_run n = Some run
+
+  -- The run beside an end is of the job that its task answers on what was found, and the end signals the edges of its
+  -- own task.
+  second_inner_end : job_of run ≡ 3 + (arc_value five + 0) → IsFine (journal_of run) → arc_value ten ≡ job_of run → NestedRule sums 2 rows the_run second_begun (End 2 (1 ∷ []) true)
+  second_inner_end job fine gathered = record { answered = job; fine = fine; gathered = gathered; all_edges = refl }
+
+  edges_of_the_first : ¬ NestedRule sums 2 rows the_run second_begun (End 2 (0 ∷ []) true)
+  edges_of_the_first is = let same = is.all_edges in absurd (cc)
+
+  nothing_found_by_the_second : arc_value five ≡ 7 → job_of run ≡ 3 → ¬ NestedRule sums 2 rows the_run second_begun (End 2 (1 ∷ []) true)
+  nothing_found_by_the_second seven job is = absurd (omega (arith, seven, job, is.answered))
+
+  run_of_what_was_found : arc_value five ≡ 7 → job_of run ≡ 3 → ¬ NestedRule sums 2 rows the_run second_begun (Fault 2 Inner)
+  run_of_what_was_found seven job is = absurd (omega (arith, seven, job, is.0))
+
+  -- A fault of each kind is one that the task may name on what it found.
+  fault_of_what_was_found : arc_value five ≡ 7 → WorkRule sums 2 rows no_run second_begun (Fault 2 (Long 10)) × WorkRule sums 2 rows no_run second_begun (Fault 2 (Wide 10)) × WorkRule sums 2 rows no_run second_begun (Fault 2 (Unmet 10))
+  fault_of_what_was_found seven = (omega (arith, seven), omega (arith, seven), omega (arith, seven))
+
+  fault_of_nothing_found : arc_value five ≡ 7 → ¬ WorkRule sums 2 rows no_run second_begun (Fault 2 (Long 3))
+  fault_of_nothing_found seven is = absurd (omega (arith, seven, is))
+
+  -- A fault that tells of a unit stands in place of a value that this task may answer, on what it found.
+  unit_fault_of_the_second : ¬ WorkRule first_alone 2 rows no_run second_begun (Fault 2 (OverRelease 0))
+  unit_fault_of_the_second is = is.allowed
+
+  unit_fault_of_a_finder : WorkRule finders 2 rows no_run second_begun (Fault 2 (OverRelease 0))
+  unit_fault_of_a_finder = record { value = 0; answer = Each; allowed = tt }
+
+  unit_fault_without_inputs : ¬ WorkRule finders 2 rows no_run (Start 0 Source [] ∷ []) (Fault 0 (OverRelease 0))
+  unit_fault_without_inputs is = is.allowed
+
+  -- The value of a task's last end; and the last end before some place.
+  abbrev twice : List Entry
+  twice = Start 0 Source [] ∷ End 0 [] false ∷ Start 0 Source [] ∷ End 2 [] false ∷ Start 1 Strong [] ∷ []
+
+  value_of_the_last_end : last_value twice rows 0 ≡ Some (arc_value ten)
+  value_of_the_last_end = refl
+
+  no_value_without_an_end : last_value twice rows 1 ≡ None
+  no_value_without_an_end = refl
+
+  last_end_before : (last_before twice 0 3 ≡ Some 1) × (last_before twice 0 4 ≡ Some 3) × (last_before twice 0 1 ≡ None)
+  last_end_before = (refl, refl, refl)
+
+-- Two sources, of which the first leads to another task.
+abbrev flat : NetRows
+flat = record { tasks = free Plain ∷ free Plain ∷ free Plain ∷ []; edges = edge 0 1 ∷ []; sems = [] }
+
+-- the jobs above, over this net and without jobs that are handed on
+abbrev flat_answer : ℕ → ℕ → List (InputValue ℕ) → Done ℕ ℕ → Type 0
+flat_answer j t found (Value n answer) = (n ≡ j + t + added found) × (answer ≡ Each)
+flat_answer j t found (InnerJob k) = ⊥
+
+abbrev flat_sums : Meaning ℕ ℕ
+flat_sums = record sums { net = λ j. flat; answers = flat_answer }
+
+abbrev at : List Entry → ℕ → MachineState
+at journal limit = record { net = flat; limit = limit; journal = journal }
+
+may_start : MayFollow flat 4 [] (Start 0 Source [])
+may_start = record {
+  in_range = (omega arith, tt);
+  release = (refl, refl);
+  closing = tt;
+  choice = tt;
+  semaphore = record { within = tt; over = tt };
+  halt_limit_stuck = record { dropped = omega arith; after_stuck = λ other. refl };
+}
+
+abbrev begun : List Entry
+begun = Start 0 Source [] ∷ []
+
+may_end : MayFollow flat 4 begun (End 0 (0 ∷ []) false)
+may_end = record {
+  in_range = (omega arith, tt);
+  release = tt;
+  closing = refl;
+  choice = (inl refl, refl);
+  semaphore = record { within = tt; over = tt };
+  halt_limit_stuck = record { dropped = tt; after_stuck = λ other. refl };
+}
+
+may_fault_first : MayFollow flat 4 begun (Fault 0 (Long 2))
+may_fault_first = record {
+  in_range = tt;
+  release = tt;
+  closing = refl;
+  choice = tt;
+  semaphore = record { within = tt; over = tt };
+  halt_limit_stuck = record { dropped = tt; after_stuck = λ other. refl };
+}
+
+abbrev faulted : List Entry
+faulted = Start 0 Source [] ∷ Fault 0 (Long 2) ∷ []
+
+may_drop : MayFollow flat 4 faulted (Drop 2 Source Halted)
+may_drop = record {
+  in_range = (omega arith, tt, tt);
+  release = (refl, refl);
+  closing = tt;
+  choice = tt;
+  semaphore = record { within = tt; over = tt };
+  halt_limit_stuck = record { dropped = omega arith; after_stuck = λ other. refl };
+}
+
+may_drop_at_limit : MayFollow flat 1 begun (Drop 2 Source Limit)
+may_drop_at_limit = record {
+  in_range = (omega arith, tt, tt);
+  release = (refl, refl);
+  closing = tt;
+  choice = tt;
+  semaphore = record { within = tt; over = tt };
+  halt_limit_stuck = record { dropped = tt; after_stuck = λ other. refl };
+}
+
+-- The claims below speak of the runs of a register, and of the inputs of a start.
+module _ (r s : TableId) (other : s ≢ r) (ins : Ins ℕ) where
+  abbrev ticket : ℕ → Duty ℕ → TicketState (Duty ℕ)
+  ticket number duty = record { register = r; number = number; item = duty }
+
+  abbrev view : List Entry → ℕ → List (Option (Duty ℕ)) → FrameView ℕ ℕ
+  view journal limit items = record { register = r; job = 2; machine = at journal limit; items = items }
+
+  abbrev both_sources : List (Option (Duty ℕ))
+  both_sources = Some (Unused 0 Source) ∷ Some (Unused 2 Source) ∷ []
+
+  -- A state of the same run has its register and its job.
+  same_run : IsSameRun (view [] 4 both_sources) (view begun 4 [])
+  same_run = record { register = refl; job = refl }
+
+  run_of_another_job : ¬ IsSameRun (view [] 4 []) (record (view [] 4 []) { job = 3 })
+  run_of_another_job is = absurd (omega (arith, is.job))
+
+  run_of_another_register : ¬ IsSameRun (view [] 4 []) (record (view [] 4 []) { register = s })
+  run_of_another_register is = other is.register
+
+  -- What an open start may come to goes by its task and by what it has found.
+  open_first : parts_of ins ≡ [] → IsStarted flat (Running 0 4 ins)
+  open_first parts = record { in_range = omega arith; cause = Source; can_release = refl; size = ap length parts }
+
+  open_second_without_inputs : parts_of ins ≡ [] → ¬ IsStarted flat (Running 1 4 ins)
+  open_second_without_inputs parts is = by_cause is.cause is.can_release (sym (ap length parts) ∙ is.size)
+    where
+      by_cause : (cause : Cause) → IsCauseOf flat 1 cause → 0 ≡ length (edges_of flat 1 cause) → ⊥
+      by_cause Source can size = absurd (cc)
+      by_cause Strong can size = absurd (omega (arith, size))
+      by_cause (Weak e) can size = absurd (omega (arith, size))
+
+  unused_is_not_open : ¬ IsStarted {V = ℕ} flat (Unused 0 Source)
+  unused_is_not_open is = is
+
+  no_job_handed_on : HasNoInner flat_sums 2 (Running 0 4 ins) × HasNoInner sums 2 (Unused 0 Source)
+  no_job_handed_on = (λ inner is. is, tt)
+
+  job_handed_on : ¬ HasNoInner sums 2 (Running 0 4 ins)
+  job_handed_on is = is (2 + 0 + added (map found_of (parts_of ins))) refl
+
+  ends_with_its_sum : parts_of ins ≡ given.First ∷ [] → MayEndWith flat_sums 2 (Running 1 4 ins) 3 Each
+  ends_with_its_sum parts = (omega arith, (sym (ap (λ found. 3 + added (map found_of found)) parts), refl))
+
+  ends_with_another_value : parts_of ins ≡ given.First ∷ [] → ¬ MayEndWith flat_sums 2 (Running 1 4 ins) 6 Each
+  ends_with_another_value parts is = let sum = ap (λ found. 3 + added (map found_of found)) parts in absurd (omega (arith, sum, is.1.0))
+
+  ends_with_another_answer : ¬ MayEndWith flat_sums 2 (Running 1 4 ins) 3 NoneOf
+  ends_with_another_answer is = let answer = is.1.1 in absurd (cc)
+
+  ends_as_no_task : ¬ MayEndWith flat_sums 2 (Running 3 4 ins) 5 Each
+  ends_as_no_task is = absurd (omega (arith, is.0))
+
+  unused_does_not_end : ¬ MayEndWith flat_sums 2 (Unused 0 Source) 2 Each
+  unused_does_not_end is = is
+
+  faults_with_its_sum : parts_of ins ≡ given.First ∷ [] → MayFaultWith flat_sums 2 (Running 1 4 ins) (Long 3) × MayFail flat_sums 2 (Running 1 4 ins) (FaultOf (Long 3))
+  faults_with_its_sum parts = let sum = sym (ap (λ found. 3 + added (map found_of found)) parts) in (sum, sum)
+
+  faults_with_another : parts_of ins ≡ given.First ∷ [] → ¬ MayFail flat_sums 2 (Running 1 4 ins) (FaultOf (Long 6))
+  faults_with_another parts is = let sum = ap (λ found. 3 + added (map found_of found)) parts in absurd (omega (arith, sum, is))
+
+  unused_does_not_fault : ¬ MayFaultWith flat_sums 2 (Unused 0 Source) (Long 2)
+  unused_does_not_fault is = is
+
+  fails_without_memory : MayFail flat_sums 2 (Running 1 4 ins) NoMemory
+  fails_without_memory = tt
+
+  -- A run begins with an empty journal, with its job's net and limit, and with what its tickets are for.
+  begins : IsBegun flat_sums 2 (view [] 4 both_sources) (ticket 0 (Unused 0 Source) ∷ ticket 1 (Unused 2 Source) ∷ [])
+  begins = record { job_is = refl; machine = refl; items = refl; releases = All-from_recursion (IsReleaseOf r) (ticket 0 (Unused 0 Source) ∷ ticket 1 (Unused 2 Source) ∷ []) ((refl, tt), ((refl, tt), tt)) }
+
+  begins_with_a_start : ¬ IsBegun flat_sums 2 (view begun 4 []) []
+  begins_with_a_start is = let longer = ap (λ (state : MachineState). length state.journal) is.machine in absurd (omega (arith, longer))
+
+  begins_with_another_limit : ¬ IsBegun flat_sums 2 (view [] 5 []) []
+  begins_with_another_limit is = let limit = ap (λ (state : MachineState). state.limit) is.machine in absurd (omega (arith, limit))
+
+  begins_another_job : ¬ IsBegun flat_sums 3 (view [] 5 []) []
+  begins_another_job is = absurd (omega (arith, is.job_is))
+
+  begins_with_more_than_its_tickets : ¬ IsBegun flat_sums 2 (view [] 4 both_sources) (ticket 0 (Unused 0 Source) ∷ [])
+  begins_with_more_than_its_tickets is = let longer = ap length is.items in absurd (omega (arith, longer))
+
+  -- A release is started: its place is taken by nothing, and the open start has the ticket of the next number.
+  starts_first : parts_of ins ≡ [] → StartDoes flat_sums (view [] 4 both_sources) (view begun 4 (None ∷ Some (Unused 2 Source) ∷ Some (Running 0 0 ins) ∷ [])) (ticket 0 (Unused 0 Source)) (started.Running (ticket 2 (Running 0 0 ins)))
+  starts_first parts = record {
+    task = 0;
+    cause = Source;
+    start = 0;
+    ins = ins;
+    stood = refl;
+    was = refl;
+    item = refl;
+    started = record { in_range = omega arith; cause = Source; can_release = refl; size = ap length parts };
+    flat = λ inner is. is;
+    register = refl;
+    entry = record { stands = refl; allowed = may_start; after = refl };
+    no_fault = refl;
+    items = refl;
+  }
+
+  release_stays : ¬ StartsTask flat_sums (view [] 4 both_sources) (view begun 4 (Some (Unused 0 Source) ∷ Some (Unused 2 Source) ∷ Some (Running 0 0 ins) ∷ [])) (ticket 0 (Unused 0 Source)) (ticket 2 (Running 0 0 ins))
+  release_stays is = let items = is.items in absurd (cc)
+
+  start_not_outstanding : ¬ StartsTask flat_sums (view [] 4 both_sources) (view begun 4 (None ∷ Some (Unused 2 Source) ∷ [])) (ticket 0 (Unused 0 Source)) (ticket 2 (Running 0 0 ins))
+  start_not_outstanding is = let longer = ap length is.items in absurd (omega (arith, longer))
+
+  ticket_of_another_start : ¬ StartsTask flat_sums (view [] 4 both_sources) (view begun 4 (None ∷ Some (Unused 2 Source) ∷ Some (Running 0 7 ins) ∷ [])) (ticket 0 (Unused 0 Source)) (ticket 2 (Running 0 7 ins))
+  ticket_of_another_start is = let item = is.item in let stands = is.entry.stands in absurd (cc)
+
+  started_after_a_fault : ¬ StartsTask flat_sums (view faulted 4 (Some (Unused 2 Source) ∷ [])) (view (faulted ++ Start 2 Source [] ∷ []) 4 (None ∷ Some (Running 2 2 ins) ∷ [])) (ticket 0 (Unused 2 Source)) (ticket 1 (Running 2 2 ins))
+  started_after_a_fault is = absurd (omega (arith, is.no_fault))
+
+  started_twice : ¬ StartsTask flat_sums (view begun 4 (None ∷ [])) (view (begun ++ Start 0 Source [] ∷ []) 4 (None ∷ Some (Running 0 1 ins) ∷ [])) (ticket 0 (Unused 0 Source)) (ticket 1 (Running 0 1 ins))
+  started_twice is = let stood = is.stood in absurd (cc)
+
+  job_to_hand_on : ¬ StartsTask sums (view [] 4 both_sources) (view begun 4 (None ∷ Some (Unused 2 Source) ∷ Some (Running 0 0 ins) ∷ [])) (ticket 0 (Unused 0 Source)) (ticket 2 (Running 0 0 ins))
+  job_to_hand_on is = job_handed_on_at_start is.flat
+    where
+      job_handed_on_at_start : ¬ HasNoInner sums 2 (Running 0 0 ins)
+      job_handed_on_at_start is = is (2 + 0 + added (map found_of (parts_of ins))) refl
+
+  -- It is dropped after a fault, or where all starts were made; and then it isn't outstanding any more.
+  halted : StartDoes flat_sums (view faulted 4 (Some (Unused 2 Source) ∷ [])) (view (faulted ++ Drop 2 Source Halted ∷ []) 4 (None ∷ [])) (ticket 0 (Unused 2 Source)) started.Halted
+  halted = record { task = 2; cause = Source; place = 2; stood = refl; was = refl; entry = record { stands = refl; allowed = may_drop; after = refl }; items = refl }
+
+  halted_at_the_limit : ¬ StartDoes flat_sums (view begun 1 (Some (Unused 2 Source) ∷ [])) (view (begun ++ Drop 2 Source Limit ∷ []) 1 (None ∷ [])) (ticket 0 (Unused 2 Source)) started.Halted
+  halted_at_the_limit is = let same = ap (λ (state : MachineState). state.journal) is.entry.after in absurd (cc)
+
+  dropped_and_outstanding : ¬ DropsTask (view faulted 4 (Some (Unused 2 Source) ∷ [])) (view (faulted ++ Drop 2 Source Halted ∷ []) 4 (Some (Unused 2 Source) ∷ [])) (ticket 0 (Unused 2 Source)) Halted
+  dropped_and_outstanding is = let items = is.items in absurd (cc)
+
+  limited : StartDoes flat_sums (view begun 1 (Some (Unused 2 Source) ∷ [])) (view (begun ++ Drop 2 Source Limit ∷ []) 1 (None ∷ [])) (ticket 0 (Unused 2 Source)) started.AtLimit
+  limited = (record { task = 2; cause = Source; place = 1; stood = refl; was = refl; entry = record { stands = refl; allowed = may_drop_at_limit; after = refl }; items = refl }, refl, refl)
+
+  limited_before_the_limit : ¬ StartDoes flat_sums (view begun 2 (Some (Unused 2 Source) ∷ [])) (view (begun ++ Drop 2 Source Limit ∷ []) 2 (None ∷ [])) (ticket 0 (Unused 2 Source)) started.AtLimit
+  limited_before_the_limit is = absurd (omega (arith, is.2))
+
+  limited_after_a_fault : ¬ StartDoes flat_sums (view faulted 1 (Some (Unused 2 Source) ∷ [])) (view (faulted ++ Drop 2 Source Limit ∷ []) 1 (None ∷ [])) (ticket 0 (Unused 2 Source)) started.AtLimit
+  limited_after_a_fault is = absurd (omega (arith, is.1))
+
+  -- An end is recorded with the edges that its answer signals, isn't inner, and gives a ticket for what it released.
+  ends_first : EndsTask flat_sums (view begun 4 (Some (Running 0 0 ins) ∷ [])) (view (begun ++ End 0 (0 ∷ []) false ∷ []) 4 (None ∷ Some (Unused 1 Strong) ∷ [])) (ticket 0 (Running 0 0 ins)) Each (ticket 1 (Unused 1 Strong) ∷ [])
+  ends_first = record {
+    task = 0;
+    start = 0;
+    ins = ins;
+    place = 1;
+    stood = refl;
+    was = refl;
+    entry = record { stands = refl; allowed = may_end; after = refl };
+    items = refl;
+    releases = All-from_recursion (IsReleaseOf r) (ticket 1 (Unused 1 Strong) ∷ []) ((refl, tt), tt);
+    made = inl (refl, tt);
+  }
+
+  edges_against_the_answer : ¬ EndsTask flat_sums (view begun 4 (Some (Running 0 0 ins) ∷ [])) (view (begun ++ End 0 (0 ∷ []) false ∷ []) 4 (None ∷ Some (Unused 1 Strong) ∷ [])) (ticket 0 (Running 0 0 ins)) NoneOf (ticket 1 (Unused 1 Strong) ∷ [])
+  edges_against_the_answer is = let same = ap (λ (state : MachineState). state.journal) is.entry.after in absurd (cc)
+
+  end_called_inner : ¬ EndsTask flat_sums (view begun 4 (Some (Running 0 0 ins) ∷ [])) (view (begun ++ End 0 [] true ∷ []) 4 (None ∷ [])) (ticket 0 (Running 0 0 ins)) NoneOf []
+  end_called_inner is = let same = ap (λ (state : MachineState). state.journal) is.entry.after in absurd (cc)
+
+  start_stays : ¬ EndsTask flat_sums (view begun 4 (Some (Running 0 0 ins) ∷ [])) (view (begun ++ End 0 [] false ∷ []) 4 (Some (Running 0 0 ins) ∷ [])) (ticket 0 (Running 0 0 ins)) NoneOf []
+  start_stays is = let items = is.items in absurd (cc)
+
+  release_without_a_ticket : ¬ EndsTask flat_sums (view begun 4 (Some (Running 0 0 ins) ∷ [])) (view (begun ++ End 0 (0 ∷ []) false ∷ []) 4 (None ∷ Some (Unused 1 Strong) ∷ [])) (ticket 0 (Running 0 0 ins)) Each []
+  release_without_a_ticket is = let longer = ap length is.items in absurd (omega (arith, longer))
+
+  -- A fault is recorded with its cause, and the start isn't outstanding any more.
+  faults_first : FaultsTask (view begun 4 (Some (Running 0 0 ins) ∷ [])) (view faulted 4 (None ∷ [])) (ticket 0 (Running 0 0 ins)) (Long 2)
+  faults_first = record { task = 0; start = 0; ins = ins; place = 1; stood = refl; was = refl; entry = record { stands = refl; allowed = may_fault_first; after = refl }; items = refl }
+
+  fault_of_another_cause : ¬ FaultsTask (view begun 4 (Some (Running 0 0 ins) ∷ [])) (view faulted 4 (None ∷ [])) (ticket 0 (Running 0 0 ins)) (Long 3)
+  fault_of_another_cause is = let same = ap (λ (state : MachineState). state.journal) is.entry.after in absurd (cc)
+
+  faulted_and_outstanding : ¬ FaultsTask (view begun 4 (Some (Running 0 0 ins) ∷ [])) (view faulted 4 (Some (Running 0 0 ins) ∷ [])) (ticket 0 (Running 0 0 ins)) (Long 2)
+  faulted_and_outstanding is = let items = is.items in absurd (cc)
+
+  -- After a refusal the ticket comes back, for the same item and of the same register; the item may have another number.
+  comes_back : ComesBack (view [] 4 both_sources) (view [] 4 both_sources) (ticket 0 (Unused 0 Source)) (ticket 0 (Unused 0 Source))
+  comes_back = record { state = refl; items = inl refl; register = refl; item = refl }
+
+  comes_back_renumbered : ComesBack (view [] 4 both_sources) (view [] 4 (None ∷ Some (Unused 2 Source) ∷ Some (Unused 0 Source) ∷ [])) (ticket 0 (Unused 0 Source)) (ticket 2 (Unused 0 Source))
+  comes_back_renumbered = record { state = refl; items = inr refl; register = refl; item = refl }
+
+  comes_back_for_another : ¬ ComesBack (view [] 4 both_sources) (view [] 4 both_sources) (ticket 0 (Unused 0 Source)) (ticket 1 (Unused 2 Source))
+  comes_back_for_another is = let item = is.item in absurd (cc)
+
+  comes_back_of_another_register : ¬ ComesBack (view [] 4 both_sources) (view [] 4 both_sources) (ticket 0 (Unused 0 Source)) (record (ticket 0 (Unused 0 Source)) { register = s })
+  comes_back_of_another_register is = other is.register
+
+  comes_back_after_a_step : ¬ ComesBack (view [] 4 both_sources) (view begun 4 both_sources) (ticket 0 (Unused 0 Source)) (ticket 0 (Unused 0 Source))
+  comes_back_after_a_step is = let longer = ap (λ (state : FrameView ℕ ℕ). length state.machine.journal) is.state in absurd (omega (arith, longer))
+
+  comes_back_without_its_item : ¬ ComesBack (view [] 4 both_sources) (view [] 4 (None ∷ Some (Unused 2 Source) ∷ [])) (ticket 0 (Unused 0 Source)) (ticket 0 (Unused 0 Source))
+  comes_back_without_its_item is = never is.items
+    where
+      never : ◌≡◌ {A = List (Option (Duty ℕ))} (None ∷ Some (Unused 2 Source) ∷ []) both_sources ⊎ ◌≡◌ {A = List (Option (Duty ℕ))} (None ∷ Some (Unused 2 Source) ∷ []) (None ∷ Some (Unused 2 Source) ∷ Some (Unused 0 Source) ∷ []) → ⊥
+      never (inl same) = absurd (cc)
+      never (inr same) = let longer = ap length same in absurd (omega (arith, longer))
