@@ -3,7 +3,8 @@
 
 A claim is a lemma of a crate's proofs/Worked*.antt or proofs/*Examples.antt, or a clause of an empty function of
 worked_journals. It belongs to each definition that its statement names. A definition that no statement names is shown
-by the definitions that cite it. Prints the table of docs/DEFINITIONS.md; with --check compares it with the one there.
+by the definitions that cite it, or by none. Prints the table of docs/DEFINITIONS.md; with --check compares it with the
+one there.
 """
 import re
 import sys
@@ -52,22 +53,35 @@ def claims():
     return found
 
 
+def cited(file, text, home, texts):
+    """The definitions that a definition of a file cites."""
+    keys = {(file, word) if (file, word) in texts else home.get(word) for word in words(text)}
+    return {key for key in keys if key in texts}
+
+
 def table():
     stated = claims()
-    rows = []
-    for file, names in definitions().items():
-        cells = []
-        for name, text in names.items():
-            own = [claim for claim, used in stated if (file, name) in used]
-            if own:
-                cells.append(f"`{name}`: " + ", ".join(dict.fromkeys(own)))
-                continue
-            citing = [other for other, body in names.items() if other != name and name in words(body)]
-            if citing:
-                cells.append(f"`{name}`: those of " + ", ".join(f"`{other}`" for other in citing))
-        if cells:
-            rows.append(f"| `{file}` | " + "; ".join(cells) + " |")
-    return "\n".join(["| File | Definitions and their claims |", "|---|---|", *rows])
+    texts = {(file, name): text for file, names in definitions().items() for name, text in names.items()}
+    homes = {file: imported((CRATES / file).read_text()) for file, _ in texts}
+    cites = {key: cited(key[0], text, homes[key[0]], texts) - {key} for key, text in texts.items()}
+    own = {key: list(dict.fromkeys(claim for claim, used in stated if key in used)) for key in texts}
+    # What a claim computes goes through all that its definitions cite.
+    shown = set()
+    waiting = [key for key in texts if own[key]]
+    while waiting:
+        key = waiting.pop()
+        if key not in shown:
+            shown.add(key)
+            waiting.extend(cites[key])
+    rows = {}
+    for key in texts:
+        file, name = key
+        citing = [other for other in texts if key in cites[other] and other in shown]
+        by = [other for _, other in citing if (file, other) in citing] or list(dict.fromkeys(other for _, other in citing))
+        said = ", ".join(own[key]) if own[key] else "those of " + ", ".join(f"`{other}`" for other in by) if by else "none"
+        rows.setdefault(file, []).append(f"`{name}`: {said}")
+    lines = [f"| `{file}` | " + "; ".join(cells) + " |" for file, cells in rows.items()]
+    return "\n".join(["| File | Definitions and their claims |", "|---|---|", *lines])
 
 
 def main():

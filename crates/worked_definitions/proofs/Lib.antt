@@ -2,3 +2,4 @@ pub mod WorkedSinks
 pub mod WorkedBuilder
 pub mod WorkedSteps
 pub mod WorkedFrames
+pub mod WorkedSources

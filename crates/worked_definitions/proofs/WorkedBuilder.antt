@@ -1,15 +1,13 @@
 -- What the builder of nets answers, and which nets are well formed, computed on small ones.
-use Rattle.std.proofs.Common.{◌≡◌, ℕ, zero, suc, ◌<◌, true, false, List, [], ◌∷◌, ◌++◌, length, map, Ok, Err, refl, ap, sym, ◌∙◌, arith}
-use Rattle.std.specs.List.{All}
+use Rattle.std.proofs.Common.{◌≡◌, ℕ, true, false, List, [], ◌∷◌, length, map, Ok, Err, refl, ap, arith}
 use Rattle.std.specs.Prelude.{replicate}
-use Rattle.std.proofs.lemmas.List.Elements.{All-from_recursion}
 use Rattle.task_graph.specs.declared.net.Shape.{Shape}
 use Rattle.task_graph.specs.declared.net.Shape.TheVariants.{Plain, Choice}
 use Rattle.task_graph.specs.declared.net.TaskRow.{TaskRow}
 use Rattle.task_graph.specs.declared.net.EdgeRow.{EdgeRow}
-use Rattle.task_graph.specs.declared.builder.BuildError.TheVariants.{NoSuchTask, NoSuchSemaphore, ZeroCount, Repeated, WeakStart, TooMany, NoMemory}
+use Rattle.task_graph.specs.declared.builder.BuildError.TheVariants.{NoSuchTask, ZeroCount, Repeated, WeakStart, TooMany, NoMemory}
 use Rattle.task_graph.specs.NetRows.{NetRows}
-use Rattle.task_graph.specs.Net.{IsSource, IsEdgeOf, IsTaskOf, IsNet}
+use Rattle.task_graph.specs.Net.{IsSource, IsNet}
 use Rattle.task_graph.specs.NetBuilder.{task_limit, edge_limit, with_task, with_edge, with_semaphore, AddsTask, AddsEdge, SemaphoreAnswer, TaskAnswer, EdgeAnswer, RefusesTask, RefusesEdge, RefusesSemaphore}
 
 abbrev free : Shape → TaskRow

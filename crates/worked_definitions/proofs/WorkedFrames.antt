@@ -1,5 +1,5 @@
 -- What a run's steps do and what its works may come to, computed on small ones.
-use Rattle.std.proofs.Common.{◌≡◌, ◌≢◌, ◌⊎◌, ℕ, zero, suc, ◌+◌, ◌<◌, ◌≤◌, true, false, List, [], ◌∷◌, ◌++◌, length, map, Option, Some, None, inl, inr, refl, ap, sym, ◌∙◌, arith}
+use Rattle.std.proofs.Common.{◌≡◌, ◌≢◌, ◌⊎◌, ℕ, zero, suc, ◌+◌, true, false, List, [], ◌∷◌, ◌++◌, length, map, Option, Some, None, inl, inr, refl, ap, sym, ◌∙◌, arith}
 use Rattle.std.specs.Arc.{arc_value}
 use Rattle.std.specs.Global.{Global}
 use Rattle.std.specs.declared.sync.Arc.{Arc}
@@ -21,7 +21,7 @@ use Rattle.journal_rules.specs.declared.entry.Entry.TheVariants.{Start, End, Fau
 use Rattle.journal_rules.specs.DataRule.{edges_of}
 use Rattle.journal_rules.specs.ShapeLegal.{MayFollow}
 use Rattle.legal_run.specs.MachineState.{MachineState}
-use Rattle.join_words.specs.Ins.{InputValue, value, first, nothing, parts_of, found_of}
+use Rattle.join_words.specs.Ins.{InputValue, value, parts_of, found_of}
 use Rattle.join_words.specs.declared.ins.Ins.{Ins}
 use Rattle.join_words.specs.declared.ins.Given.TheVariants as given
 use Rattle.tickets.specs.Books.{TicketState}

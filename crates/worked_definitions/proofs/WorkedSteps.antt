@@ -1,21 +1,19 @@
 -- What a machine's steps do, which break is told of an entry, and the verdict, computed on a small net.
-use Rattle.std.proofs.Common.{◌≡◌, ℕ, ◌+◌, ◌<◌, ◌≤◌, true, false, List, [], ◌∷◌, ◌++◌, length, Some, None, inl, inr, refl, ap, arith}
+use Rattle.std.proofs.Common.{◌≡◌, ℕ, true, false, List, [], ◌∷◌, ◌++◌, Some, None, inl, refl, ap, arith}
 use Rattle.task_graph.specs.NetRows.{NetRows}
 use Rattle.task_graph.specs.declared.net.Shape.{Shape}
 use Rattle.task_graph.specs.declared.net.Shape.TheVariants.{Plain, Choice}
 use Rattle.task_graph.specs.declared.net.TaskRow.{TaskRow}
 use Rattle.task_graph.specs.declared.net.EdgeRow.{EdgeRow}
 use Rattle.journal_rules.specs.declared.entry.Cause.TheVariants.{Source, Strong, Weak}
-use Rattle.journal_rules.specs.declared.entry.Part.TheVariants.{From, First, Nothing}
-use Rattle.journal_rules.specs.declared.entry.Why.{Why}
-use Rattle.journal_rules.specs.declared.entry.Why.TheVariants.{Long, Inner, OverRelease}
+use Rattle.journal_rules.specs.declared.entry.Part.TheVariants.{From, Nothing}
+use Rattle.journal_rules.specs.declared.entry.Why.TheVariants.{Inner, OverRelease}
 use Rattle.journal_rules.specs.declared.entry.DropWhy.TheVariants.{Halted, Limit, Stuck}
 use Rattle.journal_rules.specs.declared.entry.Entry.{Entry}
 use Rattle.journal_rules.specs.declared.entry.Entry.TheVariants.{Start, End, Fault, Drop}
 use Rattle.journal_rules.specs.DataRule.{MayFind}
 use Rattle.journal_rules.specs.ShapeLegal.{MayFollow}
 use Rattle.legal_run.specs.declared.machine_error.MachineError.TheVariants as error
-use Rattle.legal_run.specs.declared.verdict.Break.{Break}
 use Rattle.legal_run.specs.declared.verdict.Break.TheVariants.{NoSuch, AfterStuck, NotReleased, OverUnits, OverLimit, NotOpen, NotChosen, NothingOut, NotOver, NotHalted, NotStuck}
 use Rattle.legal_run.specs.declared.verdict.Verdict.TheVariants.{Breaks as BreaksAt}
 use Rattle.legal_run.specs.MachineState.{MachineState}

@@ -1,5 +1,10 @@
 //! Claims on the definitions of several crates, computed on small examples.
 //!
-//! They stand here, above those crates, so that a claim more doesn't have the crates proved again: what sinks, sources
-//! and streams do in `proofs/WorkedSinks.antt`.
+//! They are lemmas in `proofs/`, and stand here, above the crates whose definitions they compute, so that a claim more
+//! doesn't have those crates proved again:
+//!
+//! - `WorkedSinks`, `WorkedSources`: sinks, sources of texts, streams, the inputs of a start, a watcher's count;
+//! - `WorkedBuilder`: what the builder of nets answers, and which nets are well formed;
+//! - `WorkedSteps`: what a machine's steps do, the break of each rule, the verdict;
+//! - `WorkedFrames`: what a run's steps do, and what its works may come to.
 #![tactic(auto)]

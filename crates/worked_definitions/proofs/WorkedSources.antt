@@ -1,0 +1,125 @@
+-- What a read finds and how sources in memory count, what a start's inputs hold, and how a watcher counts, computed on
+-- small ones.
+use Rattle.std.proofs.Common.{◌≡◌, ◌⊎◌, ℕ, zero, suc, ◌<◌, [], ◌∷◌, Some, None, Ok, Err, inl, inr, refl, ap, arith}
+use Rattle.std.specs.Prelude.{Contains, slice_index_or}
+use Rattle.std.specs.Arc.{arc_value}
+use Rattle.std.specs.Global.{Global}
+use Rattle.std.specs.declared.sync.Arc.{Arc}
+use Rattle.outside_io.specs.declared.texts.Found.TheVariants.{Text, Missing, Longer}
+use Rattle.outside_io.specs.declared.texts.TextsFault.TheVariants.{Failed, NoMemory}
+use Rattle.outside_io.specs.Texts.{Finds, IsWithin}
+use Rattle.outside_io.specs.MemoryTexts.{HeldTexts, AreNamed, text_under, CountsCall}
+use Rattle.join_words.specs.declared.ins.Given.TheVariants.{Value, First, Nothing}
+use Rattle.join_words.specs.Ins.{value, first, nothing, found_of}
+use Rattle.span_profile.specs.Watch.{one_more, counted}
+
+-- A text of just the most bytes is found whole, and one of more is longer.
+found_whole : Finds (Some (1 ∷ 2 ∷ [])) 2 (Text (1 ∷ 2 ∷ []))
+found_whole = (refl, omega arith)
+
+found_too_long : ¬ Finds (Some (1 ∷ 2 ∷ [])) 1 (Text (1 ∷ 2 ∷ []))
+found_too_long is = absurd (omega (arith, is.1))
+
+found_in_part : ¬ Finds (Some (1 ∷ 2 ∷ [])) 2 (Text (1 ∷ []))
+found_in_part is = let same = is.0 in absurd (cc)
+
+found_nowhere : ¬ Finds None 2 (Text [])
+found_nowhere is = let same = is.0 in absurd (cc)
+
+longer : Finds (Some (1 ∷ 2 ∷ [])) 1 Longer
+longer = omega arith
+
+not_longer : ¬ Finds (Some (1 ∷ 2 ∷ [])) 2 Longer
+not_longer is = absurd (omega (arith, is))
+
+nothing_is_longer : ¬ Finds None 0 Longer
+nothing_is_longer is = is
+
+missing : Finds None 0 Missing
+missing = refl
+
+empty_is_not_missing : ¬ Finds (Some []) 0 Missing
+empty_is_not_missing is = absurd (cc)
+
+within : IsWithin 2 (Text (1 ∷ 2 ∷ [])) × IsWithin 0 Missing × IsWithin 0 Longer
+within = (omega arith, tt, tt)
+
+not_within : ¬ IsWithin 1 (Text (1 ∷ 2 ∷ []))
+not_within is = absurd (omega (arith, is))
+
+-- Each text stands under the name at its place, and names differ.
+two_names : (text_under ((1 ∷ []) ∷ (1 ∷ 2 ∷ []) ∷ []) ((7 ∷ []) ∷ (8 ∷ []) ∷ []) (1 ∷ 2 ∷ []) ≡ Some (8 ∷ [])) × (text_under ((1 ∷ []) ∷ (1 ∷ 2 ∷ []) ∷ []) ((7 ∷ []) ∷ (8 ∷ []) ∷ []) (1 ∷ []) ≡ Some (7 ∷ []))
+two_names = (refl, refl)
+
+no_such_name : text_under ((1 ∷ 2 ∷ []) ∷ []) ((7 ∷ []) ∷ []) (1 ∷ []) ≡ None
+no_such_name = refl
+
+one_name : AreNamed ((1 ∷ []) ∷ []) ((7 ∷ []) ∷ [])
+one_name = record { paired = refl; differ = λ i j d before below. absurd (omega arith) }
+
+name_without_a_text : ¬ AreNamed ((1 ∷ []) ∷ []) []
+name_without_a_text is = absurd (omega (arith, is.paired))
+
+one_name_twice : ¬ AreNamed ((1 ∷ []) ∷ (1 ∷ []) ∷ []) ([] ∷ [] ∷ [])
+one_name_twice is = is.differ 0 1 [] (omega arith) (omega arith) refl
+
+-- The calls that are named fail, and no other.
+abbrev held : ℕ → ℕ → HeldTexts
+held calls faults = record { names = []; texts = []; failing = 2 ∷ 4 ∷ 18446744073709551615 ∷ []; calls = calls; faults = faults }
+
+named_call_fails : CountsCall (held 4 0) (held 5 1) (Err Failed)
+named_call_fails = ((1, omega arith, refl), refl)
+
+failure_uncounted : ¬ CountsCall (held 4 0) (held 5 0) (Err Failed)
+failure_uncounted is = let faults = ap (λ (texts : HeldTexts). texts.faults) is.1 in absurd (omega (arith, faults))
+
+abbrev is_named : ℕ → Type 0
+is_named call = Contains (2 ∷ 4 ∷ 18446744073709551615 ∷ []) call
+
+not_named : ¬ is_named 3
+not_named is = never is.0 is.1 is.2
+  where
+    never : (k : ℕ) → k < 3 → ◌≡◌ {A = ℕ} (slice_index_or (2 ∷ 4 ∷ 18446744073709551615 ∷ []) k 3) 3 → ⊥
+    never zero below at = absurd (omega (arith, at))
+    never (suc zero) below at = absurd (omega (arith, at))
+    never (suc (suc zero)) below at = absurd (omega (arith, at))
+    never (suc (suc (suc k))) below at = absurd (omega (arith, below))
+
+unnamed_call_fails : ¬ CountsCall (held 3 0) (held 4 1) (Err Failed)
+unnamed_call_fails is = not_named is.0
+
+unnamed_call : CountsCall (held 3 0) (held 4 0) (Ok Missing)
+unnamed_call = (not_named, refl)
+
+named_call_succeeds : ¬ CountsCall (held 4 0) (held 5 0) (Ok Missing)
+named_call_succeeds is = is.0 (1, omega arith, refl)
+
+call_without_a_number : ¬ CountsCall (held 3 0) (held 3 0) (Ok Missing)
+call_without_a_number is = let calls = ap (λ (texts : HeldTexts). texts.calls) is.1 in absurd (omega (arith, calls))
+
+memory_ends : CountsCall (held 3 0) (held 3 0) (Err NoMemory)
+memory_ends = (refl, inl not_named)
+
+memory_ends_in_a_named_call : ¬ CountsCall (held 4 0) (held 4 0) (Err NoMemory)
+memory_ends_in_a_named_call is = never is.1
+  where
+    never : (¬ is_named 4) ⊎ ◌≡◌ {A = ℕ} 4 18446744073709551615 → ⊥
+    never (inl unnamed) = unnamed (1, omega arith, refl)
+    never (inr full) = absurd (omega (arith, full))
+
+memory_ends_and_is_numbered : ¬ CountsCall (held 3 0) (held 4 0) (Err NoMemory)
+memory_ends_and_is_numbered is = let calls = ap (λ (texts : HeldTexts). texts.calls) is.0 in absurd (omega (arith, calls))
+
+numbers_end : CountsCall (held 18446744073709551615 0) (held 18446744073709551615 0) (Err NoMemory)
+numbers_end = (refl, inr refl)
+
+-- What a part of a start's inputs holds, whoever shares it.
+held_by_parts : (shared : Arc ℕ Global) → (found_of (Value 3 shared) ≡ value (arc_value shared)) × (found_of {V = ℕ} First ≡ first) × (found_of {V = ℕ} Nothing ≡ nothing)
+held_by_parts shared = (refl, refl, refl)
+
+-- A watcher counts one more, and stays at the greatest number of 64 bits.
+counts_on : (one_more 0 ≡ 1) × (one_more 18446744073709551614 ≡ 18446744073709551615) × (one_more 18446744073709551615 ≡ 18446744073709551615)
+counts_on = (refl, refl, refl)
+
+told_so_far : counted (record { count = 7 }) ≡ 7
+told_so_far = refl
