@@ -69,6 +69,11 @@ for document in "${documents[@]}"; do
     done < <(grep -oE '`(crates|docs|tools|examples|bench|\.ci)/[A-Za-z0-9_./-]+`' "$document" | tr -d '`' | sort -u || true)
 done
 
+# docs/FORMATS.md is where limits stand: README.md's table has no other number.
+while read -r number; do
+    has docs/FORMATS.md "$number" || fault "README.md has a limit of $number, which docs/FORMATS.md hasn't"
+done < <(sed -n '/^| Limit/,/^$/p' README.md | grep -oE '[0-9]{1,3}(,[0-9]{3})+' | sort -u)
+
 # Each command of the Makefile that README.md tells is a target.
 while read -r target; do
     grep -qE "^$target:" Makefile || fault "README.md tells 'make $target', which isn't a target"
