@@ -32,7 +32,7 @@ const ORDERS: [Order; 10] = [
     Order::Mixed(17),
 ];
 
-// A run, and how many starts it has, of which how many fault, and how many drops.
+// A run: its net and limit, how its tasks choose and fault, and how many starts it is to have.
 #[derive(Clone, Copy)]
 struct Case<'r> {
     rows: Rows<'r>,

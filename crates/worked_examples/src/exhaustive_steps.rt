@@ -34,7 +34,8 @@ struct Trial {
 }
 
 // Task 1 follows task 0, and task 2, which takes and puts a unit, follows task 1, which is of each shape and takes or
-// puts that unit or not. A task that chooses may choose itself. Task 0 is a source, or begins with a token.
+// puts that unit or not. A task that chooses may choose itself. Task 0 is a source, or begins with a token. Since the
+// release by a weak edge of task 1 comes at the last step, there are nets whose task 0 chooses, too.
 #[test]
 fn machines_and_rules_agree(rt: HostRuntime) -> Result<(), Fail> {
     let mut tally = Tally::new(rt.alloc());
@@ -50,9 +51,60 @@ fn machines_and_rules_agree(rt: HostRuntime) -> Result<(), Fail> {
             walk_both(&rt, rt.alloc(), &mut tally, shape, takes, puts, edges)?;
         }
     }
+    walk_choosers(&rt, rt.alloc(), &mut tally)?;
     walk_takers(&rt, rt.alloc(), &mut tally)?;
     tally.expect_each(&rt);
     Ok(())
+}
+
+// The nets whose task 0 chooses.
+fn walk_choosers(rt: &impl Abort, alloc: Global, tally: &mut Tally) -> Result<(), Fail> {
+    for (takes, puts) in [(false, false), (true, false), (false, true), (true, true)] {
+        walk_chooser(rt, alloc, tally, Shape::Choice, takes, puts)?;
+    }
+    walk_chooser(rt, alloc, tally, Shape::Many, false, false)
+}
+
+// Task 0 chooses. It is a source with two edges to task 1; or it begins with a token, and may choose itself. Task 1
+// takes and puts a unit.
+fn walk_chooser(
+    rt: &impl Abort,
+    alloc: Global,
+    tally: &mut Tally,
+    shape: Shape,
+    takes: bool,
+    puts: bool,
+) -> Result<(), Fail> {
+    let unit: &[u32] = &[0];
+    let none: &[u32] = &[];
+    let first = Task {
+        shape,
+        takes: if takes { unit } else { none },
+        puts: if puts { unit } else { none },
+    };
+    let tasks = [first, bound(unit, unit)];
+    walk(
+        rt,
+        alloc,
+        tally,
+        Rows {
+            sems: &[1],
+            tasks: &tasks,
+            edges: &[(0, 1), (0, 1)],
+            rings: &[],
+        },
+    )?;
+    walk(
+        rt,
+        alloc,
+        tally,
+        Rows {
+            sems: &[1],
+            tasks: &tasks,
+            edges: &[(0, 0), (0, 1)],
+            rings: &[(1, 0)],
+        },
+    )
 }
 
 // Two tasks take the one unit, and none puts it back.

@@ -15,8 +15,7 @@ use task_graph::Net;
 struct GreedyRun<'e> {
     tasks: u32,
     edges: &'e [(u32, u32)],
-    // 16 bits keep it below `MAX_LIMIT`.
-    limit: u16,
+    limit: u64,
     entries: usize,
     is_at_rest: bool,
 }
@@ -53,7 +52,7 @@ fn greedy_runs_end_as_they_should(rt: HostRuntime) -> Result<(), Fail> {
 fn greedy_run(
     tasks: u32,
     edges: &[(u32, u32)],
-    limit: u16,
+    limit: u64,
     entries: usize,
     is_at_rest: bool,
 ) -> GreedyRun<'_> {
@@ -73,7 +72,7 @@ fn lead_greedily(
     run: &GreedyRun<'_>,
 ) -> Result<(usize, bool), Fail> {
     let net = plain_net(alloc, run.tasks, run.edges)?;
-    let limit = run.limit as u64;
+    let limit = run.limit;
     let mut machine = Machine::new(alloc, net.clone()?, limit)?;
     // No net here has more than eight steps, and each round takes one where one is left.
     for _ in 0..10 {

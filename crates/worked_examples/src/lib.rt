@@ -5,6 +5,8 @@
 #![tactic(auto)]
 
 #[cfg(test)]
+mod builder_calls;
+#[cfg(test)]
 mod exhaustive_steps;
 #[cfg(test)]
 mod greedy_runs;

@@ -15,8 +15,7 @@ type Answer = Result<u64, MachineError>;
 struct Given<'e> {
     tasks: u32,
     edges: &'e [(u32, u32)],
-    // 16 bits keep it below `MAX_LIMIT`.
-    limit: u16,
+    limit: u64,
 }
 
 // Each step is answered so, and in the end the machine is at rest or not.
@@ -28,7 +27,7 @@ fn expect_run(
     is_at_rest: bool,
 ) -> Result<(), Fail> {
     let net = plain_net(alloc, given.tasks, given.edges)?;
-    expect_run_of(rt, alloc, &net, given.limit as u64, steps, is_at_rest)
+    expect_run_of(rt, alloc, &net, given.limit, steps, is_at_rest)
 }
 
 // The same of any net.

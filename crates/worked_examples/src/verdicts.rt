@@ -1,5 +1,5 @@
 // Verdicts of the judge, each compared with what the rules decide, and which of them occurred.
-use legal_run::{Break, Entry, Journal, Verdict, judge};
+use legal_run::{Break, Cause, DropWhy, Entry, Journal, Verdict, Why, judge};
 use slow_verdicts::{is_complete, refusal};
 use std::alloc::Global;
 use std::process::Abort;
@@ -21,13 +21,43 @@ const BREAKS: [Break; 11] = [
     Break::NotStuck,
 ];
 
-/// How many journals were judged so, and which breaks occurred.
+// What an entry is, by the rules that decide whether it may stand.
+#[derive(Clone, Copy, Debug, PartialEq, Eq)]
+enum Kind {
+    SourceStart,
+    StrongStart,
+    WeakStart,
+    End,
+    InnerEnd,
+    Fault,
+    OverRelease,
+    Halted,
+    AtLimit,
+    Stuck,
+}
+
+// Each kind.
+const KINDS: [Kind; 10] = [
+    Kind::SourceStart,
+    Kind::StrongStart,
+    Kind::WeakStart,
+    Kind::End,
+    Kind::InnerEnd,
+    Kind::Fault,
+    Kind::OverRelease,
+    Kind::Halted,
+    Kind::AtLimit,
+    Kind::Stuck,
+];
+
+/// How many journals were judged so, which breaks occurred, and of which kinds an entry was one that may stand.
 #[derive(Drop)]
 pub struct Tally {
     complete: u64,
     legal: u64,
     broken: u64,
     breaks: Vec<Break>,
+    kinds: Vec<Kind>,
 }
 
 impl Tally {
@@ -38,6 +68,7 @@ impl Tally {
             legal: 0,
             broken: 0,
             breaks: Vec::new(alloc),
+            kinds: Vec::new(alloc),
         }
     }
 
@@ -55,13 +86,33 @@ impl Tally {
         Ok(())
     }
 
-    /// Two hundred journals or more were complete, as many legal, and as many broken, in each way.
+    // Counts an entry that may stand.
+    fn add_kind(&mut self, kind: Kind) -> Result<(), Fail> {
+        if !self.kinds.contains(&kind) {
+            self.kinds.push(kind)?;
+        }
+        Ok(())
+    }
+
+    /// Two hundred journals or more were complete, as many legal, and as many broken, in each way; and entries of each
+    /// kind may stand where they stood.
     pub fn expect_each(&self, rt: &impl Abort) {
         assert!(rt; self.complete >= 200);
         assert!(rt; self.legal >= 200);
         assert!(rt; self.broken >= 200);
+        self.expect_breaks(rt);
+        self.expect_kinds(rt);
+    }
+
+    fn expect_breaks(&self, rt: &impl Abort) {
         for broken in BREAKS {
             assert!(rt; self.breaks.contains(&broken), "{broken:?}");
+        }
+    }
+
+    fn expect_kinds(&self, rt: &impl Abort) {
+        for kind in KINDS {
+            assert!(rt; self.kinds.contains(&kind), "{kind:?}");
         }
     }
 }
@@ -78,7 +129,41 @@ pub fn compare_verdict(
     let expected = plain_verdict(net, limit, journal.as_slice());
     let verdict = judge(alloc, net, limit, journal)?;
     assert_eq!(rt; verdict, expected);
-    tally.add(verdict)
+    tally.add(verdict)?;
+    match (journal.as_slice().last(), verdict) {
+        (Some(last), Verdict::Complete | Verdict::Legal) => tally.add_kind(kind_of(last)),
+        _ => Ok(()),
+    }
+}
+
+fn kind_of(entry: &Entry) -> Kind {
+    match entry {
+        Entry::Start { cause, .. } => start_kind(*cause),
+        Entry::End { inner: true, .. } => Kind::InnerEnd,
+        Entry::End { .. } => Kind::End,
+        Entry::Fault {
+            why: Why::OverRelease(_),
+            ..
+        } => Kind::OverRelease,
+        Entry::Fault { .. } => Kind::Fault,
+        Entry::Drop { why, .. } => drop_kind(*why),
+    }
+}
+
+fn start_kind(cause: Cause) -> Kind {
+    match cause {
+        Cause::Source => Kind::SourceStart,
+        Cause::Strong => Kind::StrongStart,
+        Cause::Weak(_) => Kind::WeakStart,
+    }
+}
+
+fn drop_kind(why: DropWhy) -> Kind {
+    match why {
+        DropWhy::Halted => Kind::Halted,
+        DropWhy::Limit => Kind::AtLimit,
+        DropWhy::Stuck(_) => Kind::Stuck,
+    }
 }
 
 fn plain_verdict(net: &Net, limit: u64, journal: &[Entry]) -> Verdict {
