@@ -1,15 +1,15 @@
 // Texts that aren't there, and reads and puts that fail.
-use super::{COUNT, Call, run, shown};
+use crate::calls::{COUNT, Call, run, shown};
 use outside_io::FailAt;
 use std::test::Fail;
 
 const READ: &str = r#"{"tasks":[{"name":"a","op":"read","text":"t"}]}"#;
 
-const READ_OTHER: &str = r#"{"tasks":[{"name":"a","op":"read","text":"u"}]}"#;
+const READ_OTHER: &str = r#"{"tasks":[{"name":"a","op":"read","text":"v"}]}"#;
 
 const READ_TWO_OTHERS: &str = r#"{"tasks":[
-    {"name":"a","op":"read","text":"v"},
-    {"name":"b","op":"read","text":"u"}]}"#;
+    {"name":"a","op":"read","text":"w"},
+    {"name":"b","op":"read","text":"v"}]}"#;
 
 fn counting<'a>() -> Call<'a> {
     run(COUNT.as_bytes(), b"x\ny")
@@ -25,8 +25,8 @@ fn tells_missing_texts(rt: HostRuntime) -> Result<(), Fail> {
     let neither_text = run(READ_TWO_OTHERS.as_bytes(), b"");
     for (call, want) in [
         (no_graph, "5 written; ; flow: no text h\n"),
-        (no_text, "5 written; ; flow: no text u\n"),
-        (neither_text, "5 written; ; flow: no text v\n"),
+        (no_text, "5 written; ; flow: no text v\n"),
+        (neither_text, "5 written; ; flow: no text w\n"),
     ] {
         assert_eq!(rt; shown(rt.alloc(), &call)?.as_str(), want);
     }
@@ -92,7 +92,7 @@ fn tells_failing_notes(rt: HostRuntime) -> Result<(), Fail> {
     for (call, taken, want) in [
         (no_text, 0, "5 written, note refused; ; "),
         (no_text, 7, "5 written, note refused; ; flow: n"),
-        (no_text, 99, "5 written, note refused; ; flow: no text u\n"),
+        (no_text, 99, "5 written, note refused; ; flow: no text v\n"),
         (no_words, 4, "2 written, note refused; ; flow"),
         (counting(), 0, "0 written, run of 4; == b\n2\n; "),
     ] {

@@ -1,37 +1,33 @@
 // Calls of the program over texts and sinks in memory.
-mod faults;
-mod graphs;
-mod limits;
-mod refused;
-mod words;
-
-use crate::{Noted, Outcome, flow_main};
+use flow_run::{Noted, Outcome, flow_main};
 use outside_io::{Bytes, FailAt, List, MemorySink, MemoryTexts, NoMemory};
 use std::alloc::{AllocError, Global};
 use std::str;
 
 // A read of the text `t` and the number of its lines.
-const COUNT: &str = r#"{"tasks":[
+pub const COUNT: &str = r#"{"tasks":[
     {"name":"a","op":"read","text":"t","to":["b"]},
     {"name":"b","op":"count"}]}"#;
 
-// A call that finds a graph file `g` and a text `t`, and the calls of texts and sinks that fail in it.
+// A call that finds a graph file `g` and the texts `t` and `u`, and the calls of texts and sinks that fail in it.
 #[derive(Clone, Copy)]
-struct Call<'a> {
-    words: &'a [&'a str],
-    graph: &'a [u8],
-    text: &'a [u8],
-    failing_reads: &'a [u64],
-    failing_puts: &'a [FailAt],
-    failing_notes: &'a [FailAt],
+pub struct Call<'a> {
+    pub words: &'a [&'a str],
+    pub graph: &'a [u8],
+    pub text: &'a [u8],
+    pub other: &'a [u8],
+    pub failing_reads: &'a [u64],
+    pub failing_puts: &'a [FailAt],
+    pub failing_notes: &'a [FailAt],
 }
 
 // A call of `run g` in which no call of texts and sinks fails.
-fn run<'a>(graph: &'a [u8], text: &'a [u8]) -> Call<'a> {
+pub fn run<'a>(graph: &'a [u8], text: &'a [u8]) -> Call<'a> {
     Call {
         words: &["run", "g"],
         graph,
         text,
+        other: b"",
         failing_reads: &[],
         failing_puts: &[],
         failing_notes: &[],
@@ -46,11 +42,12 @@ fn strings(alloc: Global, words: &[&str]) -> Result<Vec<String>, AllocError> {
     Ok(strings)
 }
 
-fn pair(alloc: Global, first: &[u8], second: &[u8]) -> Result<List<Bytes>, NoMemory> {
-    let mut pair = List::new(alloc);
-    pair.push(List::from_slice(alloc, first)?)?;
-    pair.push(List::from_slice(alloc, second)?)?;
-    Ok(pair)
+fn list(alloc: Global, items: &[&[u8]]) -> Result<List<Bytes>, NoMemory> {
+    let mut list = List::new(alloc);
+    for item in items {
+        list.push(List::from_slice(alloc, item)?)?;
+    }
+    Ok(list)
 }
 
 // What the sink took, or a question mark where that is no text.
@@ -75,8 +72,8 @@ fn shown_outcome(alloc: Global, outcome: &Outcome) -> Result<String, AllocError>
 
 // The texts that a call finds.
 fn texts_of(alloc: Global, call: &Call<'_>) -> Result<MemoryTexts, NoMemory> {
-    let names = pair(alloc, b"g", b"t")?;
-    let held = pair(alloc, call.graph, call.text)?;
+    let names = list(alloc, &[b"g", b"t", b"u"])?;
+    let held = list(alloc, &[call.graph, call.text, call.other])?;
     let failing = List::from_slice(alloc, call.failing_reads)?;
     if !MemoryTexts::are_named(&names, &held) {
         return Err(NoMemory);
@@ -106,8 +103,8 @@ fn joined(alloc: Global, first: &str, second: &str, third: &str) -> Result<Strin
     format!(in alloc; "{first}; {second}; {third}")
 }
 
-// How the call ends, then what the output took, then what the notes took.
-fn shown(alloc: Global, call: &Call<'_>) -> Result<String, NoMemory> {
+// How the call ends, then what the output took, then what standard error took.
+pub fn shown(alloc: Global, call: &Call<'_>) -> Result<String, NoMemory> {
     let words = strings(alloc, call.words)?;
     let mut texts = texts_of(alloc, call)?;
     let mut out = sink(alloc, call.failing_puts)?;

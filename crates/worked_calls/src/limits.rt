@@ -1,6 +1,6 @@
 // Files and texts of just the greatest length, and of one byte more.
-use super::{COUNT, run, shown};
-use crate::{FILE_LIMIT, TEXT_LIMIT};
+use crate::calls::{COUNT, run, shown};
+use flow_run::{FILE_LIMIT, TEXT_LIMIT};
 use outside_io::{Bytes, List, NoMemory};
 use std::alloc::Global;
 use std::test::Fail;

@@ -1,5 +1,5 @@
 // Words that ask for nothing.
-use super::{COUNT, Call, run, shown};
+use crate::calls::{COUNT, Call, run, shown};
 use std::test::Fail;
 
 #[test]
