@@ -1,5 +1,5 @@
 -- What the tasks of graph files answer.
-use Rattle.std.specs.Prelude.{◌≡◌, ◌==◌, ℕ, ◌<◌, ◌≤◌, List, [], length, filter, slice_get, Option, None, IsSomeAnd}
+use Rattle.std.specs.Prelude.{◌≡◌, ◌==◌, Bool, ℕ, ◌<◌, ◌≤◌, List, [], length, filter, slice_get, Option, None, IsSomeAnd}
 use Rattle.std.specs.List.{last_or, range_with_len}
 use Rattle.std.specs.Option.{option_map_or, option_and_then}
 use Rattle.task_graph.specs.NetRows.{NetRows}
@@ -52,9 +52,17 @@ names_of (Graph work) = (graph_of work).names
 abbrev pub limit_of : TextJob → ℕ
 limit_of (Graph work) = work.limit
 
+-- whether a task leads to no other
+abbrev pub is_sink : NetRows → ℕ → Bool
+is_sink net t = length (out_edges net t) == 0
+
+-- the last task below a number that leads to no other
+abbrev pub last_sink_below : NetRows → ℕ → Option ℕ
+last_sink_below net n = last_or None (filter (is_sink net) (range_with_len 0 n))
+
 -- the last task that leads to no other
 abbrev pub last_sink : NetRows → Option ℕ
-last_sink net = last_or None (filter (λ t. length (out_edges net t) == 0) (range_with_len 0 (length net.tasks)))
+last_sink net = last_sink_below net (length net.tasks)
 
 -- what a run hands to the next round: the value of the last End of that task, or the empty text
 abbrev pub feedback_of : FrameRun TextJob Item → List ℕ

@@ -1,6 +1,7 @@
 // The texts that a task finds at its edges.
 ghost use Rattle.std.specs.Prelude.{◌≡◌, ◌<◌, ◌≤◌, ◌^◌, [], length, IfOk, MatchOption};
 ghost use Rattle.join_words.specs.Ins.{parts_of};
+ghost use Rattle.text_ops.specs.Lines.{IsNormal};
 ghost use Rattle.text_ops.specs.Values.{Makes};
 ghost use Rattle.text_tasks.specs.inside.Finding.{StartsText, found_at, text_from};
 
@@ -57,6 +58,19 @@ pub(crate) fn text_at(ins: &Ins<Item>, place: usize) -> Option<&Text>
     Some(text)
 }
 
+// Its bytes.
+fn bytes_at(ins: &Ins<Item>, place: usize) -> &[u8]
+    ensures value { result.now ≡ found_at ins.now place }
+    ensures normal { IsNormal result.now }
+    ensures short { length result.now ≤ 2147483647 }
+{
+    match text_at(ins, place) {
+        Some(text) => text.as_slice(),
+        None => &[],
+    }
+}
+
+#[tactic(auto, using(crate::proofs::FoundLemmas::text_from_next, crate::proofs::FoundLemmas::text_from_end))]
 // The first text from a place on that isn't empty.
 fn first_text(ins: &Ins<Item>, from: usize) -> Option<&Text>
     ensures { MatchOption result (text_from ins.now from ≡ []) (λ text. StartsText text.now (text_from ins.now from)) }
@@ -69,6 +83,7 @@ fn first_text(ins: &Ins<Item>, from: usize) -> Option<&Text>
     None
 }
 
+#[tactic(auto, using(crate::proofs::FoundLemmas::text_from_next, crate::proofs::FoundLemmas::text_from_end))]
 // How many bytes the texts from a place on have.
 fn found_len(ins: &Ins<Item>, from: usize) -> u64
     requires { length (parts_of ins.now) < 2 ^ 32 }
@@ -76,13 +91,12 @@ fn found_len(ins: &Ins<Item>, from: usize) -> u64
 {
     let mut len = 0;
     for place in from..ins.len() {
-        if let Some(text) = text_at(ins, place) {
-            len += text.len() as u64;
-        }
+        len += bytes_at(ins, place).len() as u64;
     }
     len
 }
 
+#[tactic(auto, using(crate::proofs::FoundLemmas::text_from_next, crate::proofs::FoundLemmas::text_from_end))]
 // A copy of the texts from a place on, which have so many bytes.
 fn put_together(alloc: Global, ins: &Ins<Item>, from: usize, len: usize) -> Result<Text, NoMemory>
     requires len { len ≡ length (text_from ins.now from) }
@@ -91,9 +105,7 @@ fn put_together(alloc: Global, ins: &Ins<Item>, from: usize, len: usize) -> Resu
 {
     let mut bytes = List::with_room(alloc, len)?;
     for place in from..ins.len() {
-        if let Some(text) = text_at(ins, place) {
-            bytes.add_all(text.as_slice())?;
-        }
+        bytes.add_all(bytes_at(ins, place))?;
     }
     Text::from_lines(alloc, bytes)
 }
