@@ -1,7 +1,8 @@
 -- The texts at a task's edges, from an edge on.
-use Rattle.std.proofs.Common.{◌≡◌, ℕ, zero, suc, ◌+◌, ◌≤◌, List, [], ◌∷◌, ◌++◌, length, drop, map, refl, sym, ap, ◌∙◌, subst, arith, length-append, append_assoc}
+use Rattle.std.proofs.Common.{inl, inr, min, ◌-◌, ◌<◌, ◌≡◌, ℕ, zero, suc, ◌+◌, ◌≤◌, List, [], ◌∷◌, ◌++◌, length, drop, refl, sym, ap, ◌∙◌, arith, append_assoc}
 use Rattle.std.specs.Prelude.{slice_get}
 use Rattle.std.specs.Option.{option_map_or}
+use Rattle.std.proofs.lemmas.Bool.{cases_lt}
 use Rattle.std.proofs.Math.ListN.{drop_of_length-le}
 use Rattle.std.proofs.lemmas.List.{length-map}
 use Rattle.join_words.specs.declared.ins.Ins.{Ins}
@@ -41,10 +42,17 @@ left_found_at ins = left_of (founds ins)
 pub right_found_from : (ins : Ins Item) → right_found (founds ins) ≡ text_from ins 1
 right_found_from ins = right_of (founds ins)
 
--- how long they are, by what was counted before
-pub length_next : (ins : Ins Item) (place : ℕ) → length (text_from ins place) ≡ length (found_at ins place) + length (text_from ins (place + 1))
-length_next ins place = ap length (text_from_next ins place) ∙ length-append (found_at ins place) (text_from ins (place + 1))
-
 -- what was put together, with the text at the next edge
 pub together_next : (made : List ℕ) (ins : Ins Item) (place : ℕ) → (made ++ found_at ins place) ++ text_from ins (place + 1) ≡ made ++ text_from ins place
 together_next made ins place = append_assoc made (found_at ins place) (text_from ins (place + 1)) ∙ ap (λ rest. made ++ rest) (sym (text_from_next ins place))
+
+-- where no edge stands between two places, the texts from either on are the same
+pub text_from_same : (ins : Ins Item) (from place : ℕ) → place ≤ from → min from (length (parts_of ins)) ≤ place → text_from ins place ≡ text_from ins from
+text_from_same ins from place low high = elim (cases_lt from (length (parts_of ins))) [
+  | inl below ↦ let same : place ≡ from = omega (arith, below) in ap (text_from ins) same
+  | inr past ↦ text_from_end ins place (omega (arith, past)) ∙ sym (text_from_end ins from past)
+]
+
+-- the text at the edge before, and those from a place on
+pub text_from_before : (ins : Ins Item) (place : ℕ) → 0 < place → text_from ins (place - 1) ≡ found_at ins (place - 1) ++ text_from ins place
+text_from_before ins place some = let same : place - 1 + 1 ≡ place = omega arith in text_from_next ins (place - 1) ∙ ap (λ k. found_at ins (place - 1) ++ text_from ins k) same

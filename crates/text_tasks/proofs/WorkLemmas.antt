@@ -1,10 +1,10 @@
 -- What operations make of what is found.
-use Rattle.std.proofs.Common.{◌≡◌, ℕ, suc, ◌+◌, ◌<◌, ◌≤◌, ℤ, pos, Bool, true, false, cond, List, [], ◌∷◌, ◌++◌, length, map, drop, get_or, Some, None, refl, sym, ap, ◌∙◌, arith, drop-cons, append_assoc}
+use Rattle.std.proofs.Common.{◌≡◌, ℕ, suc, ◌+◌, ◌<◌, ◌≤◌, ℤ, pos, Bool, true, false, cond, List, [], ◌∷◌, ◌++◌, length, map, drop, get_or, Some, None, sym, ap, ◌∙◌, arith, drop-cons, append_assoc}
 use Rattle.std.specs.Prelude.{if◌then◌else◌, filter, ◌==◌, ◌&&◌, not}
 use Rattle.std.specs.List.{range_with_len, last_or}
 use Rattle.std.proofs.lemmas.List.Elements.{filter-append}
 use Rattle.task_graph.specs.NetRows.{NetRows}
-use Rattle.task_graph.specs.Net.{strong_in, is_weak_row}
+use Rattle.task_graph.specs.Net.{is_weak_row}
 use Rattle.task_graph.specs.declared.net.EdgeRow.{EdgeRow}
 use Rattle.task_graph.specs.Places.{places_from}
 use Rattle.journal_rules.specs.declared.entry.Cause.{Cause}
@@ -14,7 +14,12 @@ use Rattle.journal_rules.proofs.NetLemmas.{places_length}
 use Rattle.run_frame.specs.Meaning.{IsRelease}
 use Rattle.run_frame.proofs.EndsLemmas.{counting_more, last_put}
 use Rattle.std.proofs.lemmas.List.{append-nil}
-use Rattle.text_ops.specs.TextMeaning.{has_word}
+use Rattle.text_ops.specs.declared.gathered.ApplyError.{ApplyError}
+use Rattle.text_ops.specs.declared.gathered.ApplyError.TheVariants.{Long, NoMemory}
+use Rattle.text_ops.specs.Lines.{IsNormal}
+use Rattle.text_ops.specs.TextMeaning.{has_word, sort_meaning}
+use Rattle.text_ops.specs.Values.{MayRefuse}
+use Rattle.text_ops.proofs.SortLemmas.{length-sort_meaning}
 use Rattle.text_tasks.specs.JobMeaning.{is_sink, last_sink_below}
 
 -- A release has no more parts than there are edges, or one.
@@ -53,3 +58,8 @@ occurring_next words text chosen i d is below same = by_test is (ap (λ found. c
     by_test : (b : Bool) → chosen ++ map pos (places_from (λ word. has_word word text) i (drop i words)) ≡ chosen ++ map pos (cond b (i ∷ behind) behind) → cond b (chosen ++ pos i ∷ []) chosen ++ map pos behind ≡ chosen ++ map pos (places_from (λ word. has_word word text) i (drop i words))
     by_test true step = append_assoc chosen (pos i ∷ []) (map pos behind) ∙ sym step
     by_test false step = sym step
+
+-- a text in order is as long as the text
+pub sort_refuses : (text : List ℕ) (error : ApplyError) → IsNormal text → MayRefuse text error → MayRefuse (sort_meaning text) error
+sort_refuses text (Long n) is refused = (refused.0 ∙ sym (length-sort_meaning text is), refused.1)
+sort_refuses text NoMemory is refused = tt

@@ -1,5 +1,5 @@
 -- The laws that text jobs keep.
-use Rattle.std.specs.Prelude.{◌≡◌, ◌≢◌, ℕ, ◌<◌, Bool, true, false, cond, List, length, map, Option, Some, None, slice_get, slice_index_or, IfSome, IsSomeAnd, refl}
+use Rattle.std.specs.Prelude.{◌≡◌, ◌≢◌, ℕ, Bool, true, false, cond, List, Option, Some, None, slice_get, slice_index_or, IfSome, IsSomeAnd, refl}
 use Rattle.std.specs.Option.{option_map}
 use Rattle.std.proofs.Common.{subst, sym, ◌∙◌, ap}
 use Rattle.std.proofs.lemmas.Option.{slice_get-map, slice_get-get_or}
@@ -13,7 +13,7 @@ use Rattle.run_frame.specs.declared.job.Answer.{Answer}
 use Rattle.run_frame.specs.declared.job.Done.{Done}
 use Rattle.run_frame.specs.declared.job.Done.TheVariants.{Value, Inner as InnerJob}
 use Rattle.run_frame.specs.declared.run.FrameRun.{FrameRun}
-use Rattle.run_frame.specs.FlatNets.{IsFlatTask, IsFlatNet}
+use Rattle.run_frame.specs.FlatNets.{IsFlatNet}
 use Rattle.run_frame.specs.Meaning.{AnswerFits, DoneFits, FitsShape, IsOwnWhy}
 use Rattle.graph_plans.specs.declared.ops.Op.{Op}
 use Rattle.graph_plans.specs.declared.ops.Op.TheVariants.{Input, Read, Text, Match, Back, IfMore, IfHas, Route}

@@ -18,7 +18,7 @@ use Rattle.text_ops.specs.Values.{value_limit}
 use Rattle.text_tasks.specs.declared.item.Item.{Item}
 use Rattle.text_tasks.specs.declared.job.TextJob.{TextJob}
 use Rattle.text_tasks.specs.declared.job.TextJob.TheVariants.{Graph}
-use Rattle.text_tasks.specs.GraphWork.{GraphWork, IsWork, graph_of}
+use Rattle.text_tasks.specs.GraphWork.{IsWork, graph_of}
 use Rattle.text_tasks.specs.Items.{item_text}
 use Rattle.text_tasks.specs.OpMeaning.{OpMeaning, hands_on, op_meaning}
 

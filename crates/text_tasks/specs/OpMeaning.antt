@@ -3,7 +3,7 @@ use Rattle.std.specs.Prelude.{ℕ, ℤ, pos, Bool, nat_lt, if◌then◌else◌, 
 use Rattle.task_graph.specs.Places.{places}
 use Rattle.join_words.specs.Ins.{InputValue}
 use Rattle.run_frame.specs.declared.job.Answer.{Answer}
-use Rattle.run_frame.specs.declared.job.Answer.TheVariants.{All as Each, None as NoneOf, Indices}
+use Rattle.run_frame.specs.declared.job.Answer.TheVariants.{All as Each, Indices}
 use Rattle.graph_plans.specs.declared.ops.Op.{Op}
 use Rattle.graph_plans.specs.declared.ops.Op.TheVariants.{Input, Read, Text, Match, Back, IfMore, IfHas, Route}
 use Rattle.graph_plans.specs.declared.ops.TextOp.{TextOp}

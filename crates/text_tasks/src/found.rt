@@ -17,7 +17,8 @@ const TEXT_LIMIT: u64 = 2_147_483_647;
 // The text of a task, as a value. Where it is too long it isn't put together.
 pub(crate) fn whole_text(alloc: Global, ins: &Ins<Item>) -> Result<Text, ApplyError>
     requires { length (parts_of ins.now) < 2 ^ 32 }
-    ensures { Makes (text_from ins.now 0) result }
+    ensures value { Makes (text_from ins.now 0) result }
+    ensures normal { IsNormal (text_from ins.now 0) }
 {
     let len = found_len(ins, 0);
     if len > VALUE_LIMIT {
@@ -84,13 +85,14 @@ fn first_text(ins: &Ins<Item>, from: usize) -> Option<&Text>
 }
 
 #[tactic(auto, using(crate::proofs::FoundLemmas::text_from_next, crate::proofs::FoundLemmas::text_from_end))]
-// How many bytes the texts from a place on have.
+// How many bytes the texts from a place on have. They are counted from the last one on.
 fn found_len(ins: &Ins<Item>, from: usize) -> u64
     requires { length (parts_of ins.now) < 2 ^ 32 }
-    ensures { result ≡ length (text_from ins.now from) }
+    ensures len { result ≡ length (text_from ins.now from) }
+    ensures normal { IsNormal (text_from ins.now from) }
 {
     let mut len = 0;
-    for place in from..ins.len() {
+    for place in (from..ins.len()).rev() {
         len += bytes_at(ins, place).len() as u64;
     }
     len

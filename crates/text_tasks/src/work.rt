@@ -2,7 +2,7 @@
 ghost use Rattle.std.specs.Prelude.{◌≡◌, ◌<◌, ◌≤◌, ◌^◌, [], length, if◌then◌else◌, slice_index_or, IfOk};
 ghost use Rattle.graph_plans.specs.Operations.{IsOp};
 ghost use Rattle.join_words.specs.Ins.{parts_of};
-ghost use Rattle.text_ops.specs.TextMeaning.{match_meaning};
+ghost use Rattle.text_ops.specs.TextMeaning.{match_meaning, sort_meaning};
 ghost use Rattle.text_ops.specs.Values.{Makes};
 ghost use Rattle.text_tasks.specs.FoundTexts.{left_found, right_found};
 ghost use Rattle.text_tasks.specs.OpMeaning.{first_one, occurring, op_meaning, second_one, text_op_value};
@@ -75,10 +75,21 @@ fn apply(alloc: Global, op: &TextOp, ins: &Ins<Item>) -> Result<Text, ApplyError
     requires { length (parts_of ins.now) < 2 ^ 32 }
     ensures { Makes (text_op_value op.now (text_from ins.now 0)) result }
 {
-    if matches!(op, TextOp::Pass) {
-        return whole_text(alloc, ins);
+    match op {
+        TextOp::Pass => whole_text(alloc, ins),
+        TextOp::Sort => sort_found(alloc, ins),
+        op => apply_to(alloc, op, &text_from(alloc, ins, 0)?),
     }
-    apply_to(alloc, op, &text_from(alloc, ins, 0)?)
+}
+
+// The lines of the text of a task in order. They are as long as the text, so one that is too long isn't put together.
+#[tactic(auto, using(crate::proofs::WorkLemmas::sort_refuses))]
+fn sort_found(alloc: Global, ins: &Ins<Item>) -> Result<Text, ApplyError>
+    requires { length (parts_of ins.now) < 2 ^ 32 }
+    ensures { Makes (sort_meaning (text_from ins.now 0)) result }
+{
+    let text = whole_text(alloc, ins)?;
+    sort(alloc, &text)
 }
 
 // What an operation on one text makes of a text. One row for each operation.

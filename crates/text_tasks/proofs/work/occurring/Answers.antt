@@ -17,7 +17,7 @@ loop-index-preserved c =
     let more : Bool → List ℤ = λ b. cond b (chosen ++ pos i ∷ []) chosen in
     let small : to_z w64 i ≡ pos i = to_z_pos w64 i (omega (arith, c.loop-index-test.true, c.requires)) in
     let added : c.if-has_word.chosen ≡ more c.has_word.result = elim c.if-has_word.branch [
-      then-has_word+in_ok-push w ↦ w.chosen-is ∙ w.in_ok-push.ensures.ok ∙ ap (λ index. chosen ++ index ∷ []) small ∙ ap more (sym w.if-has_word.true)
-    | else-has_word w ↦ w.chosen-is ∙ ap more (sym w.if-has_word.false)
+      | then-has_word+in_ok-push w ↦ w.chosen-is ∙ w.in_ok-push.ensures.ok ∙ ap (λ index. chosen ++ index ∷ []) small ∙ ap more (sym w.if-has_word.true)
+      | else-has_word w ↦ w.chosen-is ∙ ap more (sym w.if-has_word.false)
     ] in
     ap (λ front. front ++ map pos (places_from (λ word. has_word word text) (i + 1) (drop (i + 1) words))) added ∙ next ∙ c.loop-index.invariant
