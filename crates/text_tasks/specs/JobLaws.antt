@@ -24,7 +24,7 @@ use Rattle.text_tasks.specs.declared.job.TextJob.{TextJob}
 use Rattle.text_tasks.specs.declared.job.TextJob.TheVariants.{Graph}
 use Rattle.text_tasks.specs.GraphWork.{GraphWork, IsWork, graph_of}
 use Rattle.text_tasks.specs.FoundTexts.{text_found}
-use Rattle.text_tasks.specs.OpMeaning.{OpMeaning, hands_on, op_meaning, first_one, second_one, has_more}
+use Rattle.text_tasks.specs.OpMeaning.{OpMeaning, hands_over, op_meaning, first_one, second_one, has_more}
 use Rattle.text_tasks.specs.JobMeaning.{AnswersAs, FaultsAs, JobAnswers, JobFaults, IsTextJob, net_of, text_job}
 
 -- the shapes of tasks are those of their operations
@@ -41,7 +41,7 @@ op_shape work task row op keeps row_is op_is =
     cc
 
 -- a value fits where its answer does
-value_fits : (shape : Shape) (text : List ℕ) (chosen : Answer) (done : Done TextJob Item) → FitsShape shape chosen → AnswersAs (hands_on text chosen) done → DoneFits shape done
+value_fits : (shape : Shape) (text : List ℕ) (chosen : Answer) (done : Done TextJob Item) → FitsShape shape chosen → AnswersAs (hands_over text chosen) done → DoneFits shape done
 value_fits shape text chosen (Value item answer) fits answers = subst (FitsShape shape) (sym answers.1) fits
 value_fits shape text chosen (InnerJob job) fits answers = absurd answers
 
@@ -70,11 +70,11 @@ pub text_answers_fit : (job : TextJob) (task : ℕ) (found : List (InputValue It
 text_answers_fit (Graph work) task found done keeps answers = task_fits work task found done keeps _ _ refl refl answers
 
 meaning_why : (meaning : OpMeaning) (why : Why) → FaultsAs meaning why → IsOwnWhy why
-meaning_why (hands_on text chosen) (Long n) faults = tt
-meaning_why (hands_on text chosen) (Wide n) faults = tt
-meaning_why (hands_on text chosen) (Unmet k) faults = tt
-meaning_why (hands_on text chosen) Inner faults = faults
-meaning_why (hands_on text chosen) (OverRelease s) faults = faults
+meaning_why (hands_over text chosen) (Long n) faults = tt
+meaning_why (hands_over text chosen) (Wide n) faults = tt
+meaning_why (hands_over text chosen) (Unmet k) faults = tt
+meaning_why (hands_over text chosen) Inner faults = faults
+meaning_why (hands_over text chosen) (OverRelease s) faults = faults
 
 task_why : (work : GraphWork) (found : List (InputValue Item)) (why : Why) (op : Option Op) → IsSomeAnd op (λ o. FaultsAs (op_meaning work found o) why) → IsOwnWhy why
 task_why work found why None faults = absurd faults

@@ -20,20 +20,20 @@ use Rattle.text_tasks.specs.declared.job.TextJob.{TextJob}
 use Rattle.text_tasks.specs.declared.job.TextJob.TheVariants.{Graph}
 use Rattle.text_tasks.specs.GraphWork.{IsWork, graph_of}
 use Rattle.text_tasks.specs.Items.{item_text}
-use Rattle.text_tasks.specs.OpMeaning.{OpMeaning, hands_on, op_meaning}
+use Rattle.text_tasks.specs.OpMeaning.{OpMeaning, hands_over, op_meaning}
 
 -- A value that is handed on is answered as it is, where it isn't too long.
 abbrev pub AnswersAs : OpMeaning → Done TextJob Item → Type 0
-AnswersAs (hands_on text chosen) (Value item answer) = (item_text item ≡ text) × (answer ≡ chosen) × (length text ≤ value_limit)
-AnswersAs (hands_on text chosen) (InnerJob job) = ⊥
+AnswersAs (hands_over text chosen) (Value item answer) = (item_text item ≡ text) × (answer ≡ chosen) × (length text ≤ value_limit)
+AnswersAs (hands_over text chosen) (InnerJob job) = ⊥
 
 -- One that would be too long is a fault that tells its length.
 abbrev pub FaultsAs : OpMeaning → Why → Type 0
-FaultsAs (hands_on text chosen) (Long n) = (n ≡ length text) × (value_limit < n)
-FaultsAs (hands_on text chosen) (Wide n) = ⊥
-FaultsAs (hands_on text chosen) (Unmet k) = ⊥
-FaultsAs (hands_on text chosen) Inner = ⊥
-FaultsAs (hands_on text chosen) (OverRelease s) = ⊥
+FaultsAs (hands_over text chosen) (Long n) = (n ≡ length text) × (value_limit < n)
+FaultsAs (hands_over text chosen) (Wide n) = ⊥
+FaultsAs (hands_over text chosen) (Unmet k) = ⊥
+FaultsAs (hands_over text chosen) Inner = ⊥
+FaultsAs (hands_over text chosen) (OverRelease s) = ⊥
 
 -- A task answers and faults by its operation.
 abbrev pub JobAnswers : TextJob → ℕ → List (InputValue Item) → Done TextJob Item → Type 0

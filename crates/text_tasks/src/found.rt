@@ -3,7 +3,7 @@ ghost use Rattle.std.specs.Prelude.{◌≡◌, ◌<◌, ◌≤◌, ◌^◌, [], 
 ghost use Rattle.join_words.specs.Ins.{parts_of};
 ghost use Rattle.text_ops.specs.Lines.{IsNormal};
 ghost use Rattle.text_ops.specs.Values.{Makes};
-ghost use Rattle.text_tasks.specs.inside.Finding.{StartsText, found_at, text_from};
+ghost use Rattle.text_tasks.specs.inside.Finding.{StartsText, text_of_edge, text_from};
 
 use crate::item::Item;
 use join_words::{Given, Ins};
@@ -46,8 +46,8 @@ pub(crate) fn text_from(alloc: Global, ins: &Ins<Item>, from: usize) -> Result<T
 }
 
 // The text at an edge, unless it is empty.
-pub(crate) fn text_at(ins: &Ins<Item>, place: usize) -> Option<&Text>
-    ensures { MatchOption result (found_at ins.now place ≡ []) (λ text. text.now ≡ found_at ins.now place) }
+pub(crate) fn text_of_edge(ins: &Ins<Item>, place: usize) -> Option<&Text>
+    ensures { MatchOption result (text_of_edge ins.now place ≡ []) (λ text. text.now ≡ text_of_edge ins.now place) }
 {
     let Some(Given::Value(_, item)) = ins.get(place) else {
         return None;
@@ -61,11 +61,11 @@ pub(crate) fn text_at(ins: &Ins<Item>, place: usize) -> Option<&Text>
 
 // Its bytes.
 fn bytes_at(ins: &Ins<Item>, place: usize) -> &[u8]
-    ensures value { result.now ≡ found_at ins.now place }
+    ensures value { result.now ≡ text_of_edge ins.now place }
     ensures normal { IsNormal result.now }
     ensures short { length result.now ≤ 2147483647 }
 {
-    match text_at(ins, place) {
+    match text_of_edge(ins, place) {
         Some(text) => text.as_slice(),
         None => &[],
     }
@@ -77,7 +77,7 @@ fn first_text(ins: &Ins<Item>, from: usize) -> Option<&Text>
     ensures { MatchOption result (text_from ins.now from ≡ []) (λ text. StartsText text.now (text_from ins.now from)) }
 {
     for place in from..ins.len() {
-        if let Some(text) = text_at(ins, place) {
+        if let Some(text) = text_of_edge(ins, place) {
             return Some(text);
         }
     }
