@@ -1,8 +1,8 @@
 -- The laws that text jobs keep.
-use Rattle.std.specs.Prelude.{◌≡◌, ℕ, Bool, true, false, cond, List, map, Option, Some, None, slice_get, IfSome, IsSomeAnd, refl}
+use Rattle.std.specs.Prelude.{◌≡◌, ◌≢◌, ℕ, Bool, true, false, cond, List, Option, Some, None, slice_get, slice_index_or, IfSome, IsSomeAnd, refl}
 use Rattle.std.specs.Option.{option_map}
 use Rattle.std.proofs.Common.{subst, sym, ◌∙◌, ap}
-use Rattle.std.proofs.lemmas.Option.{slice_get-map}
+use Rattle.std.proofs.lemmas.Option.{slice_get-map, slice_get-get_or}
 use Rattle.task_graph.specs.declared.net.Shape.{Shape}
 use Rattle.task_graph.specs.declared.net.Shape.TheVariants.{Plain, Choice, Many, Nested}
 use Rattle.task_graph.specs.declared.net.TaskRow.{TaskRow}
@@ -13,6 +13,7 @@ use Rattle.run_frame.specs.declared.job.Answer.{Answer}
 use Rattle.run_frame.specs.declared.job.Done.{Done}
 use Rattle.run_frame.specs.declared.job.Done.TheVariants.{Value, Inner as InnerJob}
 use Rattle.run_frame.specs.declared.run.FrameRun.{FrameRun}
+use Rattle.run_frame.specs.FlatNets.{IsFlatNet}
 use Rattle.run_frame.specs.Meaning.{AnswerFits, DoneFits, FitsShape, IsOwnWhy}
 use Rattle.graph_plans.specs.declared.ops.Op.{Op}
 use Rattle.graph_plans.specs.declared.ops.Op.TheVariants.{Input, Read, Text, Match, Back, IfMore, IfHas, Route}
@@ -23,19 +24,24 @@ use Rattle.text_tasks.specs.declared.job.TextJob.{TextJob}
 use Rattle.text_tasks.specs.declared.job.TextJob.TheVariants.{Graph}
 use Rattle.text_tasks.specs.GraphWork.{GraphWork, IsWork, graph_of}
 use Rattle.text_tasks.specs.FoundTexts.{text_found}
-use Rattle.text_tasks.specs.OpMeaning.{OpMeaning, hands_on, op_meaning, first_one, second_one, has_more}
+use Rattle.text_tasks.specs.OpMeaning.{OpMeaning, hands_over, op_meaning, first_one, second_one, has_more}
 use Rattle.text_tasks.specs.JobMeaning.{AnswersAs, FaultsAs, JobAnswers, JobFaults, IsTextJob, net_of, text_job}
 
--- an operation's task has its shape
+-- the shapes of tasks are those of their operations
+shape_at : (work : GraphWork) (task : ℕ) (row : TaskRow) → IsWork work → slice_get (graph_of work).net.tasks task ≡ Some row → Some row.shape ≡ option_map shape_of (slice_get (graph_of work).ops task)
+shape_at work task row keeps row_is =
+    sym (ap (option_map (λ (r : TaskRow). r.shape)) row_is)
+    ∙ sym (slice_get-map (λ (r : TaskRow). r.shape) (graph_of work).net.tasks task)
+    ∙ ap (λ shapes. slice_get shapes task) keeps.plan.shapes
+    ∙ slice_get-map shape_of (graph_of work).ops task
+
 op_shape : (work : GraphWork) (task : ℕ) (row : TaskRow) (op : Op) → IsWork work → slice_get (graph_of work).net.tasks task ≡ Some row → slice_get (graph_of work).ops task ≡ Some op → row.shape ≡ shape_of op
 op_shape work task row op keeps row_is op_is =
-    let tasks = sym (slice_get-map (λ (r : TaskRow). r.shape) (graph_of work).net.tasks task) ∙ ap (λ rows. slice_get rows task) keeps.plan.shapes in
-    let shapes = tasks ∙ slice_get-map shape_of (graph_of work).ops task in
-    let both : Some row.shape ≡ Some (shape_of op) = sym (ap (option_map (λ (r : TaskRow). r.shape)) row_is) ∙ shapes ∙ ap (option_map shape_of) op_is in
+    let both : Some row.shape ≡ Some (shape_of op) = shape_at work task row keeps row_is ∙ ap (option_map shape_of) op_is in
     cc
 
 -- a value fits where its answer does
-value_fits : (shape : Shape) (text : List ℕ) (chosen : Answer) (done : Done TextJob Item) → FitsShape shape chosen → AnswersAs (hands_on text chosen) done → DoneFits shape done
+value_fits : (shape : Shape) (text : List ℕ) (chosen : Answer) (done : Done TextJob Item) → FitsShape shape chosen → AnswersAs (hands_over text chosen) done → DoneFits shape done
 value_fits shape text chosen (Value item answer) fits answers = subst (FitsShape shape) (sym answers.1) fits
 value_fits shape text chosen (InnerJob job) fits answers = absurd answers
 
@@ -64,11 +70,11 @@ pub text_answers_fit : (job : TextJob) (task : ℕ) (found : List (InputValue It
 text_answers_fit (Graph work) task found done keeps answers = task_fits work task found done keeps _ _ refl refl answers
 
 meaning_why : (meaning : OpMeaning) (why : Why) → FaultsAs meaning why → IsOwnWhy why
-meaning_why (hands_on text chosen) (Long n) faults = tt
-meaning_why (hands_on text chosen) (Wide n) faults = tt
-meaning_why (hands_on text chosen) (Unmet k) faults = tt
-meaning_why (hands_on text chosen) Inner faults = faults
-meaning_why (hands_on text chosen) (OverRelease s) faults = faults
+meaning_why (hands_over text chosen) (Long n) faults = tt
+meaning_why (hands_over text chosen) (Wide n) faults = tt
+meaning_why (hands_over text chosen) (Unmet k) faults = tt
+meaning_why (hands_over text chosen) Inner faults = faults
+meaning_why (hands_over text chosen) (OverRelease s) faults = faults
 
 task_why : (work : GraphWork) (found : List (InputValue Item)) (why : Why) (op : Option Op) → IsSomeAnd op (λ o. FaultsAs (op_meaning work found o) why) → IsOwnWhy why
 task_why work found why None faults = absurd faults
@@ -81,3 +87,30 @@ text_faults_own (Graph work) task found why keeps faults = task_why work found w
 -- no run is gathered, so no fault is named
 pub text_gather_faults_own : (job : TextJob) (run : FrameRun TextJob Item) (why : Why) → IsTextJob job → text_job.gather_faults job run why → IsOwnWhy why
 text_gather_faults_own job run why keeps never = absurd never
+
+-- no operation has an inner graph
+not_nested : (op : Op) → shape_of op ≢ Nested
+not_nested Input same = cc
+not_nested (Read number) same = cc
+not_nested (Text op) same = cc
+not_nested Match same = cc
+not_nested Back same = cc
+not_nested (IfMore n) same = cc
+not_nested (IfHas word) same = cc
+not_nested (Route words) same = cc
+
+some_not_nested : (shape : Shape) (op : Option Op) → Some shape ≡ option_map shape_of op → shape ≢ Nested
+some_not_nested shape None is same = cc
+some_not_nested shape (Some op) is same = not_nested op (cc)
+
+-- the net of a text job is flat
+pub text_job_flat : (job : TextJob) → IsTextJob job → IsFlatNet (net_of job)
+text_job_flat (Graph work) keeps task d below =
+    let tasks = (graph_of work).net.tasks in
+    let row : TaskRow = slice_index_or tasks task d in
+    let units = keeps.plan.no_units task d below in
+    record {
+      shape = some_not_nested row.shape (slice_get (graph_of work).ops task) (shape_at work task row keeps (slice_get-get_or tasks task d below));
+      takes = units.takes;
+      puts = units.puts;
+    }

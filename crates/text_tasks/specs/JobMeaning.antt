@@ -1,5 +1,5 @@
 -- What the tasks of graph files answer.
-use Rattle.std.specs.Prelude.{◌≡◌, ◌==◌, ℕ, ◌<◌, ◌≤◌, List, [], length, filter, slice_get, Option, None, IsSomeAnd}
+use Rattle.std.specs.Prelude.{◌≡◌, ◌==◌, Bool, ℕ, ◌<◌, ◌≤◌, List, [], length, filter, slice_get, Option, None, IsSomeAnd}
 use Rattle.std.specs.List.{last_or, range_with_len}
 use Rattle.std.specs.Option.{option_map_or, option_and_then}
 use Rattle.task_graph.specs.NetRows.{NetRows}
@@ -18,22 +18,22 @@ use Rattle.text_ops.specs.Values.{value_limit}
 use Rattle.text_tasks.specs.declared.item.Item.{Item}
 use Rattle.text_tasks.specs.declared.job.TextJob.{TextJob}
 use Rattle.text_tasks.specs.declared.job.TextJob.TheVariants.{Graph}
-use Rattle.text_tasks.specs.GraphWork.{GraphWork, IsWork, graph_of}
+use Rattle.text_tasks.specs.GraphWork.{IsWork, graph_of}
 use Rattle.text_tasks.specs.Items.{item_text}
-use Rattle.text_tasks.specs.OpMeaning.{OpMeaning, hands_on, op_meaning}
+use Rattle.text_tasks.specs.OpMeaning.{OpMeaning, hands_over, op_meaning}
 
 -- A value that is handed on is answered as it is, where it isn't too long.
 abbrev pub AnswersAs : OpMeaning → Done TextJob Item → Type 0
-AnswersAs (hands_on text chosen) (Value item answer) = (item_text item ≡ text) × (answer ≡ chosen) × (length text ≤ value_limit)
-AnswersAs (hands_on text chosen) (InnerJob job) = ⊥
+AnswersAs (hands_over text chosen) (Value item answer) = (item_text item ≡ text) × (answer ≡ chosen) × (length text ≤ value_limit)
+AnswersAs (hands_over text chosen) (InnerJob job) = ⊥
 
 -- One that would be too long is a fault that tells its length.
 abbrev pub FaultsAs : OpMeaning → Why → Type 0
-FaultsAs (hands_on text chosen) (Long n) = (n ≡ length text) × (value_limit < n)
-FaultsAs (hands_on text chosen) (Wide n) = ⊥
-FaultsAs (hands_on text chosen) (Unmet k) = ⊥
-FaultsAs (hands_on text chosen) Inner = ⊥
-FaultsAs (hands_on text chosen) (OverRelease s) = ⊥
+FaultsAs (hands_over text chosen) (Long n) = (n ≡ length text) × (value_limit < n)
+FaultsAs (hands_over text chosen) (Wide n) = ⊥
+FaultsAs (hands_over text chosen) (Unmet k) = ⊥
+FaultsAs (hands_over text chosen) Inner = ⊥
+FaultsAs (hands_over text chosen) (OverRelease s) = ⊥
 
 -- A task answers and faults by its operation.
 abbrev pub JobAnswers : TextJob → ℕ → List (InputValue Item) → Done TextJob Item → Type 0
@@ -52,9 +52,17 @@ names_of (Graph work) = (graph_of work).names
 abbrev pub limit_of : TextJob → ℕ
 limit_of (Graph work) = work.limit
 
+-- whether a task leads to no other
+abbrev pub is_sink : NetRows → ℕ → Bool
+is_sink net t = length (out_edges net t) == 0
+
+-- the last task below a number that leads to no other
+abbrev pub last_sink_below : NetRows → ℕ → Option ℕ
+last_sink_below net n = last_or None (filter (is_sink net) (range_with_len 0 n))
+
 -- the last task that leads to no other
 abbrev pub last_sink : NetRows → Option ℕ
-last_sink net = last_or None (filter (λ t. length (out_edges net t) == 0) (range_with_len 0 (length net.tasks)))
+last_sink net = last_sink_below net (length net.tasks)
 
 -- what a run hands to the next round: the value of the last End of that task, or the empty text
 abbrev pub feedback_of : FrameRun TextJob Item → List ℕ

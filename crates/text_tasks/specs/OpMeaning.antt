@@ -3,7 +3,7 @@ use Rattle.std.specs.Prelude.{ℕ, ℤ, pos, Bool, nat_lt, if◌then◌else◌, 
 use Rattle.task_graph.specs.Places.{places}
 use Rattle.join_words.specs.Ins.{InputValue}
 use Rattle.run_frame.specs.declared.job.Answer.{Answer}
-use Rattle.run_frame.specs.declared.job.Answer.TheVariants.{All as Each, None as NoneOf, Indices}
+use Rattle.run_frame.specs.declared.job.Answer.TheVariants.{All as Each, Indices}
 use Rattle.graph_plans.specs.declared.ops.Op.{Op}
 use Rattle.graph_plans.specs.declared.ops.Op.TheVariants.{Input, Read, Text, Match, Back, IfMore, IfHas, Route}
 use Rattle.graph_plans.specs.declared.ops.TextOp.{TextOp}
@@ -45,15 +45,15 @@ occurring words text = map pos (places (λ word. has_word word text) words)
 
 -- What a task does on what it finds: it hands a value on, to those of its successors that the answer names.
 pub data OpMeaning : Type 0 where
-  hands_on : List ℕ → Answer → OpMeaning
+  hands_over : List ℕ → Answer → OpMeaning
 
 -- One row for each operation.
 abbrev pub op_meaning : GraphWork → List (InputValue Item) → Op → OpMeaning
-op_meaning work found Input = hands_on work.input Each
-op_meaning work found (Read number) = hands_on (slice_index_or work.texts number []) Each
-op_meaning work found (Text op) = hands_on (text_op_value op (text_found found)) Each
-op_meaning work found Match = hands_on (match_meaning (left_found found) (right_found found)) Each
-op_meaning work found Back = hands_on (text_found found) first_one
-op_meaning work found (IfMore n) = hands_on (text_found found) (if has_more n (text_found found) then first_one else second_one)
-op_meaning work found (IfHas word) = hands_on (text_found found) (if has_word word (text_found found) then first_one else second_one)
-op_meaning work found (Route words) = hands_on (text_found found) (Indices (occurring words (text_found found)))
+op_meaning work found Input = hands_over work.input Each
+op_meaning work found (Read number) = hands_over (slice_index_or work.texts number []) Each
+op_meaning work found (Text op) = hands_over (text_op_value op (text_found found)) Each
+op_meaning work found Match = hands_over (match_meaning (left_found found) (right_found found)) Each
+op_meaning work found Back = hands_over (text_found found) first_one
+op_meaning work found (IfMore n) = hands_over (text_found found) (if has_more n (text_found found) then first_one else second_one)
+op_meaning work found (IfHas word) = hands_over (text_found found) (if has_word word (text_found found) then first_one else second_one)
+op_meaning work found (Route words) = hands_over (text_found found) (Indices (occurring words (text_found found)))

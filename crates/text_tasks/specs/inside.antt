@@ -2,3 +2,4 @@
 pub mod Works
 pub mod Finding
 pub mod Working
+pub mod WorkedPlans

@@ -31,6 +31,7 @@ fn last_item(run: &FrameRun<TextJob>) -> Option<&Item>
     run.value(place)
 }
 
+#[tactic(auto, using(crate::proofs::WorkLemmas::last_sink_next))]
 // The last task without an out-edge.
 fn last_sink(net: &Net) -> Option<u32>
     ensures { result ≡ last_sink net.now }

@@ -1,8 +1,9 @@
 // The texts that a task finds at its edges.
 ghost use Rattle.std.specs.Prelude.{◌≡◌, ◌<◌, ◌≤◌, ◌^◌, [], length, IfOk, MatchOption};
 ghost use Rattle.join_words.specs.Ins.{parts_of};
+ghost use Rattle.text_ops.specs.Lines.{IsNormal};
 ghost use Rattle.text_ops.specs.Values.{Makes};
-ghost use Rattle.text_tasks.specs.inside.Finding.{StartsText, found_at, text_from};
+ghost use Rattle.text_tasks.specs.inside.Finding.{StartsText, text_of_edge, text_from};
 
 use crate::item::Item;
 use join_words::{Given, Ins};
@@ -16,7 +17,8 @@ const TEXT_LIMIT: u64 = 2_147_483_647;
 // The text of a task, as a value. Where it is too long it isn't put together.
 pub(crate) fn whole_text(alloc: Global, ins: &Ins<Item>) -> Result<Text, ApplyError>
     requires { length (parts_of ins.now) < 2 ^ 32 }
-    ensures { Makes (text_from ins.now 0) result }
+    ensures value { Makes (text_from ins.now 0) result }
+    ensures normal { IsNormal (text_from ins.now 0) }
 {
     let len = found_len(ins, 0);
     if len > VALUE_LIMIT {
@@ -44,8 +46,8 @@ pub(crate) fn text_from(alloc: Global, ins: &Ins<Item>, from: usize) -> Result<T
 }
 
 // The text at an edge, unless it is empty.
-pub(crate) fn text_at(ins: &Ins<Item>, place: usize) -> Option<&Text>
-    ensures { MatchOption result (found_at ins.now place ≡ []) (λ text. text.now ≡ found_at ins.now place) }
+pub(crate) fn text_of_edge(ins: &Ins<Item>, place: usize) -> Option<&Text>
+    ensures { MatchOption result (text_of_edge ins.now place ≡ []) (λ text. text.now ≡ text_of_edge ins.now place) }
 {
     let Some(Given::Value(_, item)) = ins.get(place) else {
         return None;
@@ -57,32 +59,46 @@ pub(crate) fn text_at(ins: &Ins<Item>, place: usize) -> Option<&Text>
     Some(text)
 }
 
+// Its bytes.
+fn bytes_at(ins: &Ins<Item>, place: usize) -> &[u8]
+    ensures value { result.now ≡ text_of_edge ins.now place }
+    ensures normal { IsNormal result.now }
+    ensures short { length result.now ≤ 2147483647 }
+{
+    match text_of_edge(ins, place) {
+        Some(text) => text.as_slice(),
+        None => &[],
+    }
+}
+
+#[tactic(auto, using(crate::proofs::FoundLemmas::text_from_next, crate::proofs::FoundLemmas::text_from_end))]
 // The first text from a place on that isn't empty.
 fn first_text(ins: &Ins<Item>, from: usize) -> Option<&Text>
     ensures { MatchOption result (text_from ins.now from ≡ []) (λ text. StartsText text.now (text_from ins.now from)) }
 {
     for place in from..ins.len() {
-        if let Some(text) = text_at(ins, place) {
+        if let Some(text) = text_of_edge(ins, place) {
             return Some(text);
         }
     }
     None
 }
 
-// How many bytes the texts from a place on have.
+#[tactic(auto, using(crate::proofs::FoundLemmas::text_from_next, crate::proofs::FoundLemmas::text_from_end))]
+// How many bytes the texts from a place on have. They are counted from the last one on.
 fn found_len(ins: &Ins<Item>, from: usize) -> u64
     requires { length (parts_of ins.now) < 2 ^ 32 }
-    ensures { result ≡ length (text_from ins.now from) }
+    ensures len { result ≡ length (text_from ins.now from) }
+    ensures normal { IsNormal (text_from ins.now from) }
 {
     let mut len = 0;
-    for place in from..ins.len() {
-        if let Some(text) = text_at(ins, place) {
-            len += text.len() as u64;
-        }
+    for place in (from..ins.len()).rev() {
+        len += bytes_at(ins, place).len() as u64;
     }
     len
 }
 
+#[tactic(auto, using(crate::proofs::FoundLemmas::text_from_next, crate::proofs::FoundLemmas::text_from_end))]
 // A copy of the texts from a place on, which have so many bytes.
 fn put_together(alloc: Global, ins: &Ins<Item>, from: usize, len: usize) -> Result<Text, NoMemory>
     requires len { len ≡ length (text_from ins.now from) }
@@ -91,9 +107,7 @@ fn put_together(alloc: Global, ins: &Ins<Item>, from: usize, len: usize) -> Resu
 {
     let mut bytes = List::with_room(alloc, len)?;
     for place in from..ins.len() {
-        if let Some(text) = text_at(ins, place) {
-            bytes.add_all(text.as_slice())?;
-        }
+        bytes.add_all(bytes_at(ins, place))?;
     }
     Text::from_lines(alloc, bytes)
 }

@@ -53,7 +53,6 @@ impl Model for GraphJob {
 impl GraphJob {
     ghost use Rattle.graph_plans.specs.PlanRows.{graph_rows};
     ghost use Rattle.text_tasks.specs.JobMeaning.{JobAnswers, text_job};
-    ghost use Rattle.text_tasks.specs.declared.job.TextJob.TheVariants.{Graph};
 
     // The graph that is run.
     pub(crate) fn graph(&self) -> &Graph
@@ -66,8 +65,8 @@ impl GraphJob {
     // What a task answers on what it finds.
     fn answer(&self, alloc: Global, task: u32, ins: &Ins<Item>) -> Result<Done<TextJob>, JobError>
         requires { IsRelease (graph_of self.now).net task (length (parts_of ins.now)) }
-        ensures answer { IfOk result (JobAnswers (Graph self.now) task (map found_of (parts_of ins.now))) }
-        ensures fault { IfErr result (FaultAllowed text_job (Graph self.now) task (map found_of (parts_of ins.now))) }
+        ensures answer { IfOk result (JobAnswers (TextJob.Graph self.now) task (map found_of (parts_of ins.now))) }
+        ensures fault { IfErr result (FaultAllowed text_job (TextJob.Graph self.now) task (map found_of (parts_of ins.now))) }
     {
         let Some(op) = self.graph().ops.get(task as usize) else {
             unreachable!()

@@ -17,3 +17,4 @@ pub use feedback_text::feedback;
 pub use item::Item;
 pub use job::{GraphJob, TextJob, first_job};
 pub use table::TextTable;
+pub use work::apply;

@@ -2,14 +2,14 @@
 ghost use Rattle.std.specs.Prelude.{◌≡◌, ◌<◌, ◌≤◌, ◌^◌, [], length, if◌then◌else◌, slice_index_or, IfOk};
 ghost use Rattle.graph_plans.specs.Operations.{IsOp};
 ghost use Rattle.join_words.specs.Ins.{parts_of};
-ghost use Rattle.text_ops.specs.TextMeaning.{match_meaning};
+ghost use Rattle.text_ops.specs.TextMeaning.{match_meaning, sort_meaning};
 ghost use Rattle.text_ops.specs.Values.{Makes};
 ghost use Rattle.text_tasks.specs.FoundTexts.{left_found, right_found};
 ghost use Rattle.text_tasks.specs.OpMeaning.{first_one, occurring, op_meaning, second_one, text_op_value};
 ghost use Rattle.text_tasks.specs.inside.Finding.{founds, text_from};
-ghost use Rattle.text_tasks.specs.inside.Working.{HandsOn};
+ghost use Rattle.text_tasks.specs.inside.Working.{HandsOver};
 
-use crate::found::{text_at, text_from, whole_text};
+use crate::found::{text_of_edge, text_from, whole_text};
 use crate::item::Item;
 use crate::job::GraphJob;
 use graph_plans::{Op, TextOp};
@@ -32,12 +32,12 @@ impl GraphJob {
     ) -> Result<(Text, Answer), ApplyError>
         requires op { IsOp (length self.now.texts) op.now }
         requires parts { length (parts_of ins.now) < 2 ^ 32 }
-        ensures { HandsOn (op_meaning self.now (founds ins.now) op.now) result }
+        ensures { HandsOver (op_meaning self.now (founds ins.now) op.now) result }
     {
         match op {
             Op::Input => Ok((self.input.share()?, Answer::All)),
             Op::Read(number) => Ok((self.read(*number)?, Answer::All)),
-            Op::Text(op) => Ok((apply(alloc, op, ins)?, Answer::All)),
+            Op::Text(op) => Ok((apply_to_found(alloc, op, ins)?, Answer::All)),
             Op::Match => Ok((match_found(alloc, ins)?, Answer::All)),
             Op::Back => Ok((whole_text(alloc, ins)?, first_or_second(alloc, true)?)),
             Op::IfMore(n) => {
@@ -71,18 +71,31 @@ impl GraphJob {
 }
 
 // What an operation on one text makes of the text of a task.
-fn apply(alloc: Global, op: &TextOp, ins: &Ins<Item>) -> Result<Text, ApplyError>
+fn apply_to_found(alloc: Global, op: &TextOp, ins: &Ins<Item>) -> Result<Text, ApplyError>
     requires { length (parts_of ins.now) < 2 ^ 32 }
     ensures { Makes (text_op_value op.now (text_from ins.now 0)) result }
 {
-    if matches!(op, TextOp::Pass) {
-        return whole_text(alloc, ins);
+    match op {
+        TextOp::Pass => whole_text(alloc, ins),
+        TextOp::Sort => sort_found(alloc, ins),
+        op => apply(alloc, op, &text_from(alloc, ins, 0)?),
     }
-    apply_to(alloc, op, &text_from(alloc, ins, 0)?)
 }
 
-// What an operation on one text makes of a text. One row for each operation.
-fn apply_to(alloc: Global, op: &TextOp, text: &Text) -> Result<Text, ApplyError>
+// The lines of the text of a task in order. They are as long as the text, so one that is too long isn't put together.
+#[tactic(auto, using(crate::proofs::WorkLemmas::sort_refuses))]
+fn sort_found(alloc: Global, ins: &Ins<Item>) -> Result<Text, ApplyError>
+    requires { length (parts_of ins.now) < 2 ^ 32 }
+    ensures { Makes (sort_meaning (text_from ins.now 0)) result }
+{
+    let text = whole_text(alloc, ins)?;
+    sort(alloc, &text)
+}
+
+/// What an operation on one text makes of a text. One row for each operation.
+///
+/// `Long`: the value would have so many bytes, which are more than `VALUE_LIMIT`.
+pub fn apply(alloc: Global, op: &TextOp, text: &Text) -> Result<Text, ApplyError>
     ensures { Makes (text_op_value op.now text.now) result }
 {
     match op {
@@ -104,7 +117,7 @@ fn match_found(alloc: Global, ins: &Ins<Item>) -> Result<Text, ApplyError>
     requires { length (parts_of ins.now) < 2 ^ 32 }
     ensures { Makes (match_meaning (left_found (founds ins.now)) (right_found (founds ins.now))) result }
 {
-    let Some(left) = text_at(ins, 0) else {
+    let Some(left) = text_of_edge(ins, 0) else {
         return Ok(Text::new());
     };
     match_lines(alloc, left, &text_from(alloc, ins, 1)?)

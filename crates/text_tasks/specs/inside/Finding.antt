@@ -11,8 +11,8 @@ abbrev pub founds : Ins Item → List (InputValue Item)
 founds ins = map found_of (parts_of ins)
 
 -- the text at an edge
-abbrev pub found_at : Ins Item → ℕ → List ℕ
-found_at ins place = option_map_or found_text (slice_get (founds ins) place) []
+abbrev pub text_of_edge : Ins Item → ℕ → List ℕ
+text_of_edge ins place = option_map_or found_text (slice_get (founds ins) place) []
 
 -- the texts from an edge on, one behind the other
 abbrev pub text_from : Ins Item → ℕ → List ℕ

@@ -1,0 +1,4 @@
+pub mod FoundLemmas
+pub mod WorkLemmas
+pub mod PlanLemmas
+pub mod WorkedJobs
