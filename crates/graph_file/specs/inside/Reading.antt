@@ -1,59 +1,30 @@
--- What the steps of the reader answer.
-use Rattle.std.specs.Prelude.{◌≡◌, ℕ, ◌<◌, List, [], ◌∷◌, ◌++◌, length, map, Option, Some, None, Result, Ok, Err, All, ⊤}
+-- What the steps of the reader answer, which may also find no memory.
+use Rattle.std.specs.Prelude.{◌≡◌, ◌≢◌, map, Result, Ok, Err, ⊤}
 use Rattle.graph_file.specs.declared.draft.Draft.{Draft}
 use Rattle.graph_file.specs.declared.draft.Link.{Link}
 use Rattle.graph_file.specs.declared.refusals.GraphError.{GraphError}
-use Rattle.graph_file.specs.declared.refusals.GraphError.TheVariants.{NotJson, BadField, NoSuchName, Repeated, TooMany, NoMemory}
-use Rattle.graph_file.specs.TaskText.{TaskText}
+use Rattle.graph_file.specs.declared.refusals.GraphError.TheVariants.{NoMemory}
+use Rattle.graph_file.specs.PlanText.{DraftRows, LinkRow}
 
--- A refusal shows that P fails. Want of memory shows nothing.
-abbrev pub Denies : GraphError → Type 0 → Type 0
-Denies NotJson P = P → ⊥
-Denies (BadField spot field) P = P → ⊥
-Denies (NoSuchName spot field) P = P → ⊥
-Denies (Repeated spot field) P = P → ⊥
-Denies (TooMany kind) P = P → ⊥
-Denies NoMemory P = ⊤
+-- what a reader answers, where this is to be found
+abbrev pub Reads : {A : Type 0} → Result A GraphError → Result A GraphError → Type 0
+Reads (Ok x) found = found ≡ Ok x
+Reads (Err e) found = e ≢ NoMemory → found ≡ Err e
 
--- what a test of P answers
-abbrev pub Tests : {A : Type 0} → Result A GraphError → Type 0 → Type 0
-Tests (Ok x) P = P
-Tests (Err e) P = Denies e P
+-- the same, as f sees it
+abbrev pub ReadsAs : {A B : Type 0} → (A → B) → Result A GraphError → Result B GraphError → Type 0
+ReadsAs f (Ok x) found = found ≡ Ok (f x)
+ReadsAs f (Err e) found = e ≢ NoMemory → found ≡ Err e
 
--- A refusal shows that nothing was found.
-abbrev pub Refuses : {A : Type 0} → GraphError → Option A → Type 0
-Refuses NotJson found = found ≡ None
-Refuses (BadField spot field) found = found ≡ None
-Refuses (NoSuchName spot field) found = found ≡ None
-Refuses (Repeated spot field) found = found ≡ None
-Refuses (TooMany kind) found = found ≡ None
-Refuses NoMemory found = ⊤
+-- the same of a reader that changes a state
+abbrev pub Leads : {S : Type 0} → Result ⊤ GraphError → S → Result S GraphError → Type 0
+Leads (Ok done) new found = found ≡ Ok new
+Leads (Err e) new found = e ≢ NoMemory → found ≡ Err e
 
--- what a reader of something answers
-abbrev pub Reads : {A : Type 0} → Result A GraphError → Option A → Type 0
-Reads (Ok x) found = found ≡ Some x
-Reads (Err e) found = Refuses e found
+-- ---- what the code has of a draft
 
--- an edge of the task of this number
-abbrev pub link_to : ℕ → List ℕ → Link
-link_to from name = record { from = from; to = name }
+abbrev pub link_row : Link → LinkRow
+link_row link = record { from = link.from; to = link.to.now }
 
--- the draft with one task more
-abbrev pub with_task : Draft → TaskText → Draft
-with_task draft task = record { names = draft.names ++ task.name ∷ []; ops = draft.ops ++ task.op ∷ []; links = draft.links ++ map (link_to (length draft.names)) task.to }
-
--- what a reader answers that puts the links from one task at the end
-abbrev pub LinksAnswer : ℕ → List Link → Option (List (List ℕ)) → Result ⊤ GraphError → List Link → Type 0
-LinksAnswer from old None (Ok done) new = ⊥
-LinksAnswer from old (Some to) (Ok done) new = new ≡ old ++ map (link_to from) to
-LinksAnswer from old found (Err e) new = Refuses e found
-
--- what a reader answers that puts a task at the end
-abbrev pub TaskAnswer : Draft → Option TaskText → Result ⊤ GraphError → Draft → Type 0
-TaskAnswer old None (Ok done) new = ⊥
-TaskAnswer old (Some task) (Ok done) new = new ≡ with_task old task
-TaskAnswer old found (Err e) new = Refuses e found
-
--- each link comes from one of the tasks
-abbrev pub AreFromTasks : Draft → Type 0
-AreFromTasks draft = All (λ link. link.from < length draft.names) draft.links
+abbrev pub draft_rows : Draft → DraftRows
+draft_rows draft = record { names = draft.names; ops = draft.ops; links = map link_row draft.links; texts = draft.texts }
