@@ -1,0 +1,10 @@
+pub mod ArrayLemmas
+pub mod EachLemmas
+pub mod FieldLemmas
+pub mod JsonLemmas
+pub mod LookupLemmas
+pub mod OpLemmas
+pub mod PlaceLemmas
+pub mod TaskLemmas
+pub mod WalkLemmas
+pub mod WordLemmas
