@@ -3,6 +3,7 @@ pub mod EachLemmas
 pub mod FieldLemmas
 pub mod JsonLemmas
 pub mod LookupLemmas
+pub mod NameLemmas
 pub mod OpLemmas
 pub mod PlaceLemmas
 pub mod TaskLemmas

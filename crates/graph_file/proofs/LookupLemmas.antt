@@ -25,3 +25,15 @@ pub KeepsPlace-updates : {S : Type 0} (old new : HashMap (Bor (List ℕ)) ℕ S)
     → KeepsPlace old name.now place new
 KeepsPlace-updates old new name place none updates q =
     updates.0 (some_ref q) ∙ kept_or _ _ _ place (nat_list_eq_equiv.symm name.now q) (λ same. ap (place_in old) ((bytes_eq-Decides q name.now).0 same) ∙ none)
+
+-- a place that was kept, put aside and kept again
+again_step : (here : Bool) (found : Option ℕ) (first place : ℕ) → (here ≡ true → found ≡ Some first) → cond here (Some first) (cond here (Some place) found) ≡ option_or found (cond here (Some place) None)
+again_step true found first place kept = rw (kept refl) refl
+again_step false None first place kept = refl
+again_step false (Some p) first place kept = refl
+
+pub KeepsPlace-again : {S : Type 0} (old middle new : HashMap (Bor (List ℕ)) ℕ S) (name : Bor (List ℕ)) (place first : ℕ) → place_in old name.now ≡ Some first
+    → hash.Updates same_name old middle name (Some place) → hash.Updates same_name middle new name (Some first) → KeepsPlace old name.now place new
+KeepsPlace-again old middle new name place first kept put back q =
+    back.0 (some_ref q) ∙ ap (λ found. cond (bytes_eq name.now q) (Some first) found) (put.0 (some_ref q))
+    ∙ rw (nat_list_eq_equiv.symm name.now q) (again_step (bytes_eq q name.now) (place_in old q) first place (λ same. ap (place_in old) ((bytes_eq-Decides q name.now).0 same) ∙ kept))

@@ -1,5 +1,5 @@
 -- Which bytes are a graph file for which plan, and else the first refusal.
-use Rattle.std.specs.Prelude.{◌≡◌, ℕ, false, List, [], ◌∷◌, ◌++◌, length, map, not, unwrap_or, is_some, position, Result, Ok, Err, ok_or, if◌then◌else◌, nat_le, codes}
+use Rattle.std.specs.Prelude.{◌≡◌, ℕ, false, List, [], ◌∷◌, ◌++◌, length, map, not, unwrap_or, is_some, position, Result, Ok, Err, ok_or, if◌then◌else◌, nat_le, codes, ⊤}
 use Rattle.std.specs.List.{list_any}
 use Rattle.std.specs.Str.{bytes_eq, is_utf8}
 use Rattle.serde_json.specs.Data.{Data}
@@ -127,14 +127,19 @@ plan_with draft edges = record {
   texts = draft.texts;
 }
 
+-- there are not too many tasks, edges and texts
+abbrev pub within_limits : DraftRows → Result ⊤ GraphError
+within_limits draft = do
+  tasks ← passed (nat_le (length draft.names) task_limit) (TooMany Tasks)
+  edges ← passed (nat_le (length draft.links) edge_limit) (TooMany Edges)
+  passed (nat_le (length draft.texts) text_count_limit) (TooMany Texts)
+
 -- the classes of refusals in their order, after that of fields
 abbrev pub plan_of : DraftRows → Result PlanRows GraphError
 plan_of draft = do
   edges ← walk (add_edge draft.names) [] draft.links
   names ← walk add_name [] draft.names
-  tasks ← passed (nat_le (length draft.names) task_limit) (TooMany Tasks)
-  all ← passed (nat_le (length draft.links) edge_limit) (TooMany Edges)
-  texts ← passed (nat_le (length draft.texts) text_count_limit) (TooMany Texts)
+  done ← within_limits draft
   Ok (plan_with draft edges)
 
 -- ---- the bytes

@@ -1,5 +1,5 @@
 -- What the steps of the reader answer, which may also find no memory.
-use Rattle.std.specs.Prelude.{◌≡◌, ◌≢◌, ℕ, List, [], ◌∷◌, ◌++◌, length, map, Option, Result, Ok, Err, ok_or, codes, ⊤}
+use Rattle.std.specs.Prelude.{◌≡◌, ◌≢◌, ℕ, List, [], ◌∷◌, ◌++◌, length, map, Option, Some, None, Result, Ok, Err, ok_or, codes, ⊤}
 use Rattle.serde_json.specs.Data.{Data}
 use Rattle.graph_file.specs.declared.draft.Draft.{Draft}
 use Rattle.graph_file.specs.declared.draft.Link.{Link}
@@ -8,7 +8,7 @@ use Rattle.graph_file.specs.declared.file_op.FileOp.{FileOp}
 use Rattle.graph_file.specs.declared.file_op.FileOp.TheVariants.{Reads as ReadsOf, Does}
 use Rattle.graph_file.specs.declared.file_op.FoundOp.{FoundOp}
 use Rattle.graph_file.specs.declared.refusals.GraphError.{GraphError}
-use Rattle.graph_file.specs.declared.refusals.GraphError.TheVariants.{NoMemory}
+use Rattle.graph_file.specs.declared.refusals.GraphError.TheVariants.{NoMemory, Repeated}
 use Rattle.graph_file.specs.OpRows.{FileOpRow, reads, does, WithFields, op_in, op_rows}
 use Rattle.graph_file.specs.Contents.{empty_list_of, name_of, names_of}
 use Rattle.graph_file.specs.Fields.{allowed, needed, only, task_spot}
@@ -74,3 +74,10 @@ add_task_steps draft d = let spot = task_spot (length draft.names) in do
 -- what an item holds is put at the end, as f sees it
 abbrev pub put_each : {X Y : Type 0} → (Data → Option X) → (X → Y) → GraphError → List Y → Data → Result (List Y) GraphError
 put_each content f refusal ys d = ok_or (content d) refusal >>= λ x. Ok (ys ++ f x ∷ [])
+
+-- ---- the names of tasks
+
+-- the names, unless one stands at this place that stood before
+abbrev pub unless_repeated : List (List ℕ) → Option ℕ → Result (List (List ℕ)) GraphError
+unless_repeated names None = Ok names
+unless_repeated names (Some task) = Err (Repeated (task_spot task) (codes "name"))
