@@ -4,6 +4,7 @@ pub mod FieldLemmas
 pub mod JsonLemmas
 pub mod LookupLemmas
 pub mod NameLemmas
+pub mod NetLemmas
 pub mod OpLemmas
 pub mod PlaceLemmas
 pub mod TaskLemmas

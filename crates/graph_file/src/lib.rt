@@ -7,6 +7,7 @@ mod draft;
 mod fields;
 mod file_op;
 mod lookups;
+mod nets;
 mod ops;
 mod reading;
 mod refusals;
