@@ -1,7 +1,9 @@
 pub mod ArrayLemmas
+pub mod BindLemmas
 pub mod EachLemmas
 pub mod FieldLemmas
 pub mod JsonLemmas
+pub mod FineLemmas
 pub mod LookupLemmas
 pub mod NameLemmas
 pub mod NetLemmas
