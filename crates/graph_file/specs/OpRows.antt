@@ -1,5 +1,5 @@
 -- The operations of a graph file: a row for each.
-use Rattle.std.specs.Prelude.{ℕ, List, [], ◌∷◌, map, Option, Result, Ok, codes, option_and_then}
+use Rattle.std.specs.Prelude.{ℕ, List, [], ◌∷◌, map, Option, Result, Ok, ok_or, codes}
 use Rattle.std.specs.List.{find}
 use Rattle.std.specs.Str.{bytes_eq}
 use Rattle.serde_json.specs.Data.{Data}
@@ -10,6 +10,7 @@ use Rattle.graph_plans.specs.declared.ops.TextOp.{TextOp}
 use Rattle.graph_plans.specs.declared.ops.TextOp.TheVariants.{Pass, Keep, Without, Head, Tail, Skip, Sort, Uniq, Count, Tally}
 use Rattle.graph_plans.specs.declared.spots.Spot.{Spot}
 use Rattle.graph_file.specs.declared.refusals.GraphError.{GraphError}
+use Rattle.graph_file.specs.declared.refusals.GraphError.TheVariants.{BadField}
 use Rattle.graph_file.specs.Contents.{lines_of, text_name_of, word_of, words_of}
 use Rattle.graph_file.specs.Fields.{needed}
 use Rattle.graph_file.specs.Steps.{◌>>=◌}
@@ -38,7 +39,7 @@ abbrev pub used_by : {A B : Type 0} → (A → B) → OpRow A → OpRow B
 used_by f row = record { name = row.name; fields = row.fields; made = λ spot d. row.made spot d >>= λ op. Ok (f op) }
 
 -- the operations on one text
-abbrev pub text_rows : List (OpRow TextOp)
+unfoldable pub text_rows : List (OpRow TextOp)
 text_rows =
     bare (codes "pass") Pass
     ∷ single (codes "keep") (codes "word") word_of Keep
@@ -53,7 +54,7 @@ text_rows =
     ∷ []
 
 -- the operations of tasks
-abbrev pub op_rows : List (OpRow FileOpRow)
+unfoldable pub op_rows : List (OpRow FileOpRow)
 op_rows =
     bare (codes "input") (does Input)
     ∷ single (codes "read") (codes "text") text_name_of reads
@@ -73,9 +74,15 @@ pub record WithFields (A : Type 0) : Type 0 where
   pub op : A
   pub fields : List (List ℕ)
 
--- the operation that an object's field `op` names, one of these, with its own fields
-abbrev pub op_in : {A : Type 0} → List (OpRow A) → Spot → Data → Result (WithFields A) GraphError
-op_in rows spot d = do
-  row ← needed (λ name. option_and_then (row_called rows) (as_str name)) spot (codes "op") d
+-- the operation of this name, one of these, with its own fields in an object
+abbrev pub op_called : {A : Type 0} → List (OpRow A) → List ℕ → Spot → Data → Result (WithFields A) GraphError
+op_called rows name spot d = do
+  row ← ok_or (row_called rows name) (BadField spot (codes "op"))
   op ← row.made spot d
   Ok (record { op = op; fields = row.fields })
+
+-- the operation that an object's field `op` names
+abbrev pub op_in : {A : Type 0} → List (OpRow A) → Spot → Data → Result (WithFields A) GraphError
+op_in rows spot d = do
+  name ← needed as_str spot (codes "op") d
+  op_called rows name spot d

@@ -1,5 +1,5 @@
 -- Which bytes are a graph file for which plan, and else the first refusal.
-use Rattle.std.specs.Prelude.{◌≡◌, ℕ, false, List, [], ◌∷◌, ◌++◌, length, map, not, unwrap_or, position, Result, Ok, Err, ok_or, if◌then◌else◌, nat_le, codes}
+use Rattle.std.specs.Prelude.{◌≡◌, ℕ, false, List, [], ◌∷◌, ◌++◌, length, map, not, unwrap_or, is_some, position, Result, Ok, Err, ok_or, if◌then◌else◌, nat_le, codes, ⊤}
 use Rattle.std.specs.List.{list_any}
 use Rattle.std.specs.Str.{bytes_eq, is_utf8}
 use Rattle.serde_json.specs.Data.{Data}
@@ -51,9 +51,13 @@ abbrev pub numbered : List (List ℕ) → FileOpRow → Op
 numbered texts (reads text) = Read (u32_of (text_number texts text))
 numbered texts (does op) = op
 
+-- the texts, with this one among them
+abbrev pub with_text : List (List ℕ) → List ℕ → List (List ℕ)
+with_text texts text = if is_some (position (bytes_eq text) texts) then texts else texts ++ text ∷ []
+
 -- the texts that are mentioned then
 abbrev pub mentioned : List (List ℕ) → FileOpRow → List (List ℕ)
-mentioned texts (reads text) = if list_any (bytes_eq text) texts then texts else texts ++ text ∷ []
+mentioned texts (reads text) = with_text texts text
 mentioned texts (does op) = texts
 
 -- an edge from the task of this number
@@ -123,14 +127,19 @@ plan_with draft edges = record {
   texts = draft.texts;
 }
 
+-- there are not too many tasks, edges and texts
+abbrev pub within_limits : DraftRows → Result ⊤ GraphError
+within_limits draft = do
+  tasks ← passed (nat_le (length draft.names) task_limit) (TooMany Tasks)
+  edges ← passed (nat_le (length draft.links) edge_limit) (TooMany Edges)
+  passed (nat_le (length draft.texts) text_count_limit) (TooMany Texts)
+
 -- the classes of refusals in their order, after that of fields
 abbrev pub plan_of : DraftRows → Result PlanRows GraphError
 plan_of draft = do
   edges ← walk (add_edge draft.names) [] draft.links
   names ← walk add_name [] draft.names
-  tasks ← passed (nat_le (length draft.names) task_limit) (TooMany Tasks)
-  all ← passed (nat_le (length draft.links) edge_limit) (TooMany Edges)
-  texts ← passed (nat_le (length draft.texts) text_count_limit) (TooMany Texts)
+  done ← within_limits draft
   Ok (plan_with draft edges)
 
 -- ---- the bytes

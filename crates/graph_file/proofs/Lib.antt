@@ -1,0 +1,15 @@
+pub mod ArrayLemmas
+pub mod BindLemmas
+pub mod DraftLemmas
+pub mod EachLemmas
+pub mod FieldLemmas
+pub mod JsonLemmas
+pub mod FineLemmas
+pub mod LookupLemmas
+pub mod NameLemmas
+pub mod NetLemmas
+pub mod OpLemmas
+pub mod PlaceLemmas
+pub mod TaskLemmas
+pub mod WalkLemmas
+pub mod WordLemmas

@@ -1,0 +1,124 @@
+// The fields of the objects in a graph file.
+ghost use Rattle.std.specs.Prelude.{◌≡◌, [], ◌++◌, codes, map, option_and_then, option_map, string_bytes, ok_or};
+ghost use Rattle.std.specs.BTreeMap.{keys};
+ghost use Rattle.std.specs.List.{find, list_any};
+ghost use Rattle.std.specs.Str.{bytes_eq};
+ghost use Rattle.serde_json.specs.Find.{get};
+ghost use Rattle.serde_json.specs.View.{view};
+ghost use Rattle.graph_file.specs.Contents.{each, empty_list_of, lines_of, list_of, name_of, names_of, text_name_of, whole_of, word_of, words_of};
+ghost use Rattle.graph_file.specs.Fields.{allowed, is_unknown, needed, only, unknown};
+ghost use Rattle.graph_file.specs.PlanText.{task_fields};
+ghost use Rattle.graph_file.specs.inside.Reading.{Leads, Reads, ReadsAs, put_each};
+ghost use Rattle.graph_file.specs.Steps.{walk};
+
+use crate::bad_fields::bad_field;
+use crate::contents::{list_of, name_of, text_name_of, whole_of, word_of};
+use crate::refusals::GraphError;
+use graph_plans::Spot;
+use outside_io::{Bytes, List};
+use serde_json::{Map, Value};
+use std::alloc::Global;
+
+const MAX_LINES: u64 = 1_000_000_000;
+
+const MAX_WORDS: usize = 256;
+
+/// The name of a task.
+pub(crate) fn read_name<'v>(alloc: Global, spot: Spot, task: &'v Value) -> Result<&'v str, GraphError>
+    ensures { ReadsAs (λ s. s.now) result (needed name_of spot (codes "name") (view task.now)) }
+{
+    let Some(name) = task.get("name").and_then(name_of) else {
+        return Err(bad_field(alloc, spot, "name"));
+    };
+    Ok(name)
+}
+
+/// The name of the text that an operation reads.
+pub(crate) fn read_text_name<'v>(
+    alloc: Global,
+    spot: Spot,
+    object: &'v Value,
+) -> Result<&'v str, GraphError>
+    ensures { ReadsAs (λ s. s.now) result (needed text_name_of spot (codes "text") (view object.now)) }
+{
+    let Some(text) = object.get("text").and_then(text_name_of) else {
+        return Err(bad_field(alloc, spot, "text"));
+    };
+    Ok(text)
+}
+
+/// The word of an operation.
+pub(crate) fn read_word(alloc: Global, spot: Spot, object: &Value) -> Result<Bytes, GraphError>
+    ensures { Reads result (needed word_of spot (codes "word") (view object.now)) }
+{
+    let Some(word) = object.get("word").and_then(word_of) else {
+        return Err(bad_field(alloc, spot, "word"));
+    };
+    Ok(Bytes::from_slice(alloc, word.as_bytes())?)
+}
+
+/// The number of lines that an operation names.
+pub(crate) fn read_lines(alloc: Global, spot: Spot, object: &Value) -> Result<u64, GraphError>
+    ensures { Reads result (needed lines_of spot (codes "n") (view object.now)) }
+{
+    let Some(lines) = object.get("n").and_then(lines_of) else {
+        return Err(bad_field(alloc, spot, "n"));
+    };
+    Ok(lines)
+}
+
+fn lines_of(value: &Value) -> Option<u64>
+    ensures { result ≡ lines_of (view value.now) }
+{
+    whole_of(value, 0, MAX_LINES)
+}
+
+// The items of a field, if it holds a list.
+fn list_in<'v>(object: &'v Value, field: &str) -> Option<&'v [Value]>
+    ensures { option_map (λ items. map view items.now) result ≡ option_and_then list_of (get field.now (view object.now)) }
+{
+    let list = object.get(field)?;
+    list_of(list)
+}
+
+/// The words of an operation.
+pub(crate) fn read_words(
+    alloc: Global,
+    spot: Spot,
+    object: &Value,
+) -> Result<List<Bytes>, GraphError>
+    ensures { Reads result (needed words_of spot (codes "words") (view object.now)) }
+{
+    let Some(words) = list_in(object, "words") else {
+        return Err(bad_field(alloc, spot, "words"));
+    };
+    if words.len() > MAX_WORDS {
+        return Err(bad_field(alloc, spot, "words"));
+    }
+    copied_words(alloc, spot, words)
+}
+
+fn copied_words(alloc: Global, spot: Spot, words: &[Value]) -> Result<List<Bytes>, GraphError>
+    ensures { Reads result (walk (put_each word_of (λ word. word) (GraphError.BadField spot (codes "words"))) [] (map view words.now)) }
+{
+    let mut copies = List::new(alloc);
+    for word in words {
+        copy_word(alloc, spot, word, &mut copies)?;
+    }
+    Ok(copies)
+}
+
+fn copy_word(
+    alloc: Global,
+    spot: Spot,
+    word: &Value,
+    copies: &mut List<Bytes>,
+) -> Result<(), GraphError>
+    ensures { Leads result copies.new (put_each word_of (λ word. word) (GraphError.BadField spot (codes "words")) copies.old (view word.now)) }
+{
+    let Some(word) = word_of(word) else {
+        return Err(bad_field(alloc, spot, "words"));
+    };
+    copies.push(Bytes::from_slice(alloc, word.as_bytes())?)?;
+    Ok(())
+}
