@@ -117,7 +117,7 @@ one_text : TextsAre held (t ∷ []) ((2 ∷ 3 ∷ 10 ∷ []) ∷ [])
 one_text = (own_text, tt)
 
 two_texts : TextsAre held (t ∷ g ∷ []) ((2 ∷ 3 ∷ 10 ∷ []) ∷ (1 ∷ 10 ∷ []) ∷ [])
-two_texts = (own_text, record { bytes = 1 ∷ []; read = (refl, omega arith); is = refl }, tt)
+two_texts = (own_text, (record { bytes = 1 ∷ []; read = (refl, omega arith); is = refl }, tt))
 
 in_another_order : ¬ TextsAre held (g ∷ t ∷ []) ((2 ∷ 3 ∷ 10 ∷ []) ∷ (1 ∷ 10 ∷ []) ∷ [])
 in_another_order are = text_of_another_name are.0
@@ -156,8 +156,11 @@ module _ (bytes : List ℕ) (plan : PlanRows) (stands : PlanText bytes plan) whe
 bad_bytes : (bytes : List ℕ) → IsRefused bytes NotJson → StopsAtBytes bytes (stop.BadGraph NotJson)
 bad_bytes bytes refused = refused
 
+abbrev no_json : Result PlanRows GraphError
+no_json = Err NotJson
+
 another_reason : (bytes : List ℕ) → IsRefused bytes NotJson → ¬ StopsAtBytes bytes (stop.BadGraph (TooMany Tasks))
-another_reason bytes refused is = let both : (Err NotJson : Result PlanRows GraphError) ≡ Err (TooMany Tasks) = sym refused ∙ is in absurd (cc)
+another_reason bytes refused is = let both : no_json ≡ Err (TooMany Tasks) = sym refused ∙ is in absurd (cc)
 
 -- The job that is asked for is of the file's plan over the texts held, of its top graph, with no input and the limit.
 abbrev work : PlanRows → GraphWork

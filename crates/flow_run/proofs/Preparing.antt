@@ -1,6 +1,7 @@
 -- Reading texts one after another.
 use Rattle.std.proofs.Common.{◌≡◌, ◌≢◌, ◌⊎◌, inl, inr, ℕ, zero, suc, ◌+◌, ◌<◌, ◌≤◌, Bool, true, false, cond, List, [], ◌∷◌, ◌++◌, length, sym, refl, ap, ◌∙◌, subst, arith, get_or, take, drop, length-append}
 use Rattle.std.specs.Prelude.{All}
+use Rattle.std.proofs.lemmas.List.{take_more}
 use Rattle.std.proofs.lemmas.List.Elements.{All-nil, All-cons}
 use Rattle.graph_file.specs.declared.refusals.GraphError.{GraphError}
 use Rattle.graph_file.specs.declared.refusals.GraphError.TheVariants.{NoMemory as NoMemoryToRead}
@@ -13,7 +14,7 @@ use Rattle.text_tasks.specs.ValueTexts.{IsValueText}
 use Rattle.text_tasks.specs.GraphWork.{greatest_limit, IsWork, first_work}
 use Rattle.flow_run.specs.declared.stop.Stop.{Stop}
 use Rattle.flow_run.specs.declared.stop.Stop.TheVariants.{BadGraph, NoMemory}
-use Rattle.flow_run.specs.Requests.{Held, IsTextOf, StopsAtName, StopsAtText, StopsAtBytes, TextsAre, text_limit}
+use Rattle.flow_run.specs.Requests.{Held, IsAdded, IsTextOf, StopsAtName, StopsAtText, StopsAtBytes, TextsAre, text_limit}
 
 -- one text more
 pub texts_more : (held : Held) (names texts : List (List ℕ)) (name text : List ℕ) → TextsAre held names texts → IsTextOf held name text → TextsAre held (names ++ name ∷ []) (texts ++ text ∷ [])
@@ -21,6 +22,12 @@ texts_more held [] [] name text so_far is = (is, tt)
 texts_more held [] (t ∷ ts) name text so_far is = absurd so_far
 texts_more held (n ∷ ns) [] name text so_far is = absurd so_far
 texts_more held (n ∷ ns) (t ∷ ts) name text so_far is = (so_far.0, texts_more held ns ts name text so_far.1 is)
+
+-- the text of the next name
+pub read_one_more : (held : Held) (names : List (List ℕ)) (i : ℕ) (name : List ℕ) (old new : List (List ℕ)) → i < length names → name ≡ get_or names i name → TextsAre held (take i names) old → IsAdded held name old new → TextsAre held (take (i + 1) names) new
+read_one_more held names i name old new below is so_far added =
+    subst (λ ns. TextsAre held ns new) (sym (take_more names i name below ∙ ap (λ n. take i names ++ n ∷ []) (sym is)))
+    (subst (TextsAre held (take i names ++ name ∷ [])) (sym added.row) (texts_more held (take i names) old name added.text so_far added.read))
 
 -- there is a text for each name
 pub as_many : (held : Held) (names texts : List (List ℕ)) → TextsAre held names texts → length texts ≡ length names
@@ -56,10 +63,6 @@ around (x ∷ xs) (suc i) d below =
     let one : i + 1 ≡ suc i = omega arith in
     let two : suc (suc i) ≡ suc i + 1 = omega arith in
     ap (λ ys. x ∷ ys) (rest ∙ ap (λ n. take i xs ++ get_or xs i d ∷ drop n xs) one) ∙ ap (λ n. x ∷ (take i xs ++ get_or xs i d ∷ drop n (x ∷ xs))) two
-
-pub stops_at : (held : Held) (names : List (List ℕ)) (rows : List TextRow) (i : ℕ) (name : List ℕ) (why : Stop) → i < length names → name ≡ get_or names i name → TextsAre held (take i names) rows → StopsAtName held name text_limit why → StopsAtText held names why
-stops_at held names rows i name why below is so_far stops =
-    record { before = take i names; name = name; after = drop (i + 1) names; rows = rows; parts = around names i name below ∙ ap (λ n. take i names ++ n ∷ drop (i + 1) names) (sym is); read = so_far; stops = stops }
 
 pub stops_at : (held : Held) (names texts : List (List ℕ)) (i : ℕ) (name : List ℕ) (why : Stop) → i < length names → name ≡ get_or names i name → TextsAre held (take i names) texts → StopsAtName held name text_limit why → StopsAtText held names why
 stops_at held names texts i name why below is so_far stops =
