@@ -10,6 +10,9 @@ pub mod NameLemmas
 pub mod NetLemmas
 pub mod OpLemmas
 pub mod PlaceLemmas
+pub mod PlanLemmas
+pub mod ReadingLemmas
 pub mod TaskLemmas
 pub mod WalkLemmas
 pub mod WordLemmas
+pub mod WrittenLemmas
