@@ -1,5 +1,6 @@
 pub mod ArrayLemmas
 pub mod BindLemmas
+pub mod DraftLemmas
 pub mod EachLemmas
 pub mod FieldLemmas
 pub mod JsonLemmas
