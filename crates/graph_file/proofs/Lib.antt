@@ -10,6 +10,7 @@ pub mod NameLemmas
 pub mod NetLemmas
 pub mod OpLemmas
 pub mod PlaceLemmas
+pub mod PlanLemmas
 pub mod TaskLemmas
 pub mod WalkLemmas
 pub mod WordLemmas
