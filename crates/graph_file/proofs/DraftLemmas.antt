@@ -1,9 +1,9 @@
 -- What holds of the tasks of each file.
-use Rattle.std.proofs.Common.{◌≡◌, ◌≢◌, ℕ, suc, ◌+◌, ◌<◌, ◌≤◌, min, List, [], ◌∷◌, ◌++◌, map, length, get_or, Bool, true, false, ◌&&◌, leb, cond, Option, Some, None, is_some, unwrap_or, position, Result, Ok, Err, All, AllPairs, Contains, refl, sym, ap, subst, ◌∙◌, bytes_eq, arith}
+use Rattle.std.proofs.Common.{◌≡◌, ◌≢◌, ℕ, ◌+◌, ◌<◌, ◌≤◌, List, [], ◌∷◌, ◌++◌, map, length, get_or, Bool, true, false, leb, cond, Option, Some, None, is_some, unwrap_or, position, All, refl, sym, ap, ◌∙◌, bytes_eq, arith}
 use Rattle.std.proofs.lemmas.Bool.{and_parts, leb-true, true≢false}
 use Rattle.std.proofs.lemmas.Cmp.{nat_list_eq_equiv}
-use Rattle.std.proofs.lemmas.List.{length-append, length-map, get_or_default}
-use Rattle.std.proofs.lemmas.List.Elements.{All-append, All-from_recursion, All-map, All-push}
+use Rattle.std.proofs.lemmas.List.{length-append, get_or_default}
+use Rattle.std.proofs.lemmas.List.Elements.{All-append, All-map, All-push}
 use Rattle.std.proofs.lemmas.List.Quantifiers.{all_pairs_push, position-Some}
 use Rattle.std.proofs.lemmas.Map.Views.{list_any-from_Contains}
 use Rattle.std.specs.List.{list_all, list_any}
@@ -13,7 +13,7 @@ use Rattle.graph_plans.specs.declared.ops.TextOp.{TextOp}
 use Rattle.graph_plans.specs.declared.ops.TextOp.TheVariants.{Pass, Keep, Without, Head, Tail, Skip, Sort, Uniq, Count, Tally}
 use Rattle.graph_plans.specs.Operations.{IsOp, IsTextOp, IsWord, line_limit, route_limit, word_limit}
 use Rattle.graph_plans.specs.PlanRows.{AllDiffer, IsTextName}
-use Rattle.graph_file.specs.Contents.{is_name, is_text}
+use Rattle.graph_file.specs.Contents.{is_text}
 use Rattle.graph_file.specs.Fields.{u32_of}
 use Rattle.graph_file.specs.OpRows.{FileOpRow, reads, does}
 use Rattle.graph_file.specs.PlanText.{DraftRows, LinkRow, TaskText, link_to, mentioned, no_tasks, numbered, text_number, with_task, with_text}

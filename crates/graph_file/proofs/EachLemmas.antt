@@ -1,5 +1,5 @@
 -- Lists that are read item by item.
-use Rattle.std.proofs.Common.{◌≡◌, List, [], ◌∷◌, ◌++◌, map, Option, Some, None, Result, Ok, Err, ok_or, option_and_then, option_map, refl, ap, sym, ◌∙◌, append_assoc}
+use Rattle.std.proofs.Common.{◌≡◌, List, [], ◌∷◌, ◌++◌, map, Option, Some, None, Ok, ok_or, option_and_then, option_map, refl, ap, sym, ◌∙◌, append_assoc}
 use Rattle.std.proofs.lemmas.List.{append-nil}
 use Rattle.serde_json.specs.Data.{Data}
 use Rattle.graph_file.specs.declared.refusals.GraphError.{GraphError}
@@ -16,7 +16,7 @@ later f e ys x (Some xs) = ap Ok (append_assoc ys (f x ∷ []) (map f xs))
 walk-put_step : {X Y : Type 0} (content : Data → Option X) (f : X → Y) (e : GraphError) (ys : List Y) (first : Option X) (ds : List Data)
     → ((x : X) → walk (put_each content f e) (ys ++ f x ∷ []) ds ≡ (ok_or (each content ds) e >>= λ xs. Ok ((ys ++ f x ∷ []) ++ map f xs)))
     → ((ok_or first e >>= λ x. Ok (ys ++ f x ∷ [])) >>= λ next. walk (put_each content f e) next ds)
-        ≡ (ok_or (option_and_then (λ x. option_map (λ xs. x ∷ xs) (each content ds)) first) e >>= λ xs. Ok (ys ++ map f xs))
+    ≡ (ok_or (option_and_then (λ x. option_map (λ xs. x ∷ xs) (each content ds)) first) e >>= λ xs. Ok (ys ++ map f xs))
 walk-put_step content f e ys None ds rest = refl
 walk-put_step content f e ys (Some x) ds rest = rest x ∙ later f e ys x (each content ds)
 

@@ -1,27 +1,25 @@
 -- The tasks that were read may stand in a file.
-use Rattle.std.proofs.Common.{◌≡◌, ℕ, ◌+◌, List, [], ◌∷◌, ◌++◌, map, length, Bool, true, false, ◌&&◌, leb, cond, Option, Some, None, Result, Ok, Err, ok_or, option_and_then, codes, bytes_eq, refl, sym, ap, subst, ◌∙◌}
-use Rattle.std.proofs.lemmas.Option.{cond_some, option_and_then_some}
+use Rattle.std.proofs.Common.{◌≡◌, ℕ, List, [], ◌∷◌, ◌++◌, map, length, Bool, true, false, leb, cond, Option, Some, None, Ok, ok_or, option_and_then, codes, bytes_eq, refl, ap, subst, ◌∙◌}
+use Rattle.std.proofs.lemmas.Option.{option_and_then_some}
 use Rattle.std.specs.Bool.{⊤}
 use Rattle.std.specs.Option.{option_map_or}
-use Rattle.std.specs.List.{find, list_all}
+use Rattle.std.specs.List.{list_all}
 use Rattle.serde_json.specs.Data.{Data}
 use Rattle.serde_json.specs.Find.{as_number, as_str, as_u64, get}
-use Rattle.graph_plans.specs.declared.ops.Op.{Op}
-use Rattle.graph_plans.specs.declared.ops.Op.TheVariants.{Input, Read, Text, Match, Back, IfMore, IfHas, Route}
-use Rattle.graph_plans.specs.declared.ops.TextOp.{TextOp}
+use Rattle.graph_plans.specs.declared.ops.Op.TheVariants.{Input, Text, Match, Back, IfMore, IfHas, Route}
 use Rattle.graph_plans.specs.declared.ops.TextOp.TheVariants.{Pass, Keep, Without, Head, Tail, Skip, Sort, Uniq, Count, Tally}
 use Rattle.graph_plans.specs.declared.spots.Spot.{Spot}
 use Rattle.graph_plans.specs.declared.spots.Spot.TheVariants.{File}
-use Rattle.graph_plans.specs.Operations.{line_limit, route_limit, word_limit}
+use Rattle.graph_plans.specs.Operations.{route_limit, word_limit}
 use Rattle.graph_file.specs.declared.refusals.GraphError.{GraphError}
 use Rattle.graph_file.specs.declared.refusals.GraphError.TheVariants.{BadField}
 use Rattle.graph_file.specs.Contents.{each, empty_list_of, is_name, is_text, lines_of, list_of, name_of, names_of, objects_of, passing, text_name_of, whole_of, word_of, words_of}
 use Rattle.graph_file.specs.Fields.{allowed, needed, only, task_spot}
 use Rattle.graph_file.specs.OpRows.{FileOpRow, reads, does, OpRow, WithFields, bare, single, used_by, text_rows, op_rows, row_called, op_called, op_in}
 use Rattle.graph_file.specs.PlanText.{DraftRows, TaskText, add_task, draft_in, file_fields, no_tasks, task_fields, with_task}
-use Rattle.graph_file.specs.Steps.{◌>>=◌, walk}
-use Rattle.graph_file.specs.inside.Fine.{AreFine, IsFine, fits, fits_op, fits_lines, fits_text_op, fits_words, with_tasks}
-use Rattle.graph_file.proofs.BindLemmas.{bind_ok, each-all, each-length, ok_or_ok, passing-ok, passing-same}
+use Rattle.graph_file.specs.Steps.{walk}
+use Rattle.graph_file.specs.inside.Fine.{AreFine, IsFine, fits, fits_lines, fits_text_op, fits_words, with_tasks}
+use Rattle.graph_file.proofs.BindLemmas.{bind_ok, each-all, each-length, ok_or_ok, passing-ok}
 
 -- ---- contents
 
@@ -81,12 +79,12 @@ all-used : {A B : Type 0} (test : B → Bool) (f : A → B) (rows : List (OpRow 
 all-used test f [] all = tt
 all-used test f (row ∷ rows) all =
     let first : Makes test (used_by f row) = λ spot d made is. bind_ok (row.made spot d) (λ op. Ok (f op)) made is (λ op here rest.
-        let same : f op ≡ made = cc in subst (λ o. test o ≡ true) same (all.0 spot d op here)) in
+    let same : f op ≡ made = cc in subst (λ o. test o ≡ true) same (all.0 spot d op here)) in
     (first, all-used test f rows all.1)
 
 all-text_rows : AllMake fits_text_op text_rows
 unfolding text_rows
-all-text_rows = 
+all-text_rows =
     makes-bare fits_text_op (codes "pass") Pass refl
     & makes-single fits_text_op (codes "keep") (codes "word") word_of Keep finds-word
     & makes-single fits_text_op (codes "without") (codes "word") word_of Without finds-word
@@ -101,7 +99,7 @@ all-text_rows =
 
 all-op_rows : AllMake fits op_rows
 unfolding op_rows
-all-op_rows = 
+all-op_rows =
     makes-bare fits (codes "input") (does Input) refl
     & makes-single fits (codes "read") (codes "text") text_name_of reads finds-text
     & makes-bare fits (codes "match") (does Match) refl

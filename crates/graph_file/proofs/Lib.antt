@@ -11,6 +11,7 @@ pub mod NetLemmas
 pub mod OpLemmas
 pub mod PlaceLemmas
 pub mod PlanLemmas
+pub mod ReadingLemmas
 pub mod TaskLemmas
 pub mod WalkLemmas
 pub mod WordLemmas

@@ -1,16 +1,15 @@
 -- Names, while a map takes the place of one after another.
-use Rattle.std.proofs.Common.{◌≡◌, ℕ, ◌+◌, ◌<◌, ◌≤◌, List, [], ◌∷◌, ◌++◌, length, take, drop, get_or, Bool, true, false, not, ◌||◌, cond, Option, Some, None, is_some, is_none, position, Result, Ok, Err, Bor, codes, refl, sym, ap, ◌∙◌, bytes_eq, arith, add-one}
+use Rattle.std.proofs.Common.{◌≡◌, ℕ, ◌+◌, ◌<◌, ◌≤◌, List, [], ◌∷◌, ◌++◌, length, take, drop, get_or, Bool, true, false, not, ◌||◌, cond, Option, Some, None, is_some, is_none, position, Err, Bor, codes, refl, ap, ◌∙◌, bytes_eq, arith, add-one}
 use Rattle.std.proofs.lemmas.Iterator.Adapters.{position_from-zero}
 use Rattle.std.proofs.lemmas.List.{take_more, take_all, drop_all, length-take-le}
 use Rattle.std.proofs.Math.Seq.{drop-cons}
 use Rattle.std.specs.HashMap.{HashMap}
 use Rattle.std.specs.List.{list_any, position_from}
 use Rattle.std.specs.Option.{option_or}
-use Rattle.graph_file.specs.declared.refusals.GraphError.{GraphError}
 use Rattle.graph_file.specs.declared.refusals.GraphError.TheVariants.{Repeated}
 use Rattle.graph_file.specs.Fields.{task_spot}
 use Rattle.graph_file.specs.PlanText.{add_name}
-use Rattle.graph_file.specs.Steps.{◌>>=◌, passed, walk}
+use Rattle.graph_file.specs.Steps.{walk}
 use Rattle.graph_file.specs.inside.Lookups.{HasPlaces, place_in}
 use Rattle.graph_file.specs.inside.Reading.{unless_repeated}
 

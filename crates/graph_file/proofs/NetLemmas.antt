@@ -1,21 +1,18 @@
 -- Nets in the making.
-use Rattle.std.proofs.Common.{◌≡◌, ◌≢◌, ℕ, ◌+◌, ◌<◌, ◌≤◌, ◌==◌, nat_lt, List, [], ◌∷◌, ◌++◌, length, map, take, get_or, Option, Some, None, filter, find, refl, sym, subst, ap, ◌∙◌, arith}
+use Rattle.std.proofs.Common.{◌≡◌, ◌≢◌, ℕ, ◌<◌, ◌==◌, nat_lt, List, [], ◌∷◌, length, map, get_or, None, filter, find, refl, sym, subst, ap, ◌∙◌, arith}
 use Rattle.std.specs.Prelude.{count_by}
 use Rattle.std.specs.List.{All, list_any, range_with_len}
 use Rattle.std.specs.Option.{option_or}
 use Rattle.std.proofs.lemmas.Option.{none-some}
-use Rattle.std.proofs.lemmas.List.{take_more, map-append, get_or-map, length-map}
+use Rattle.std.proofs.lemmas.List.{get_or-map, length-map}
 use Rattle.task_graph.specs.NetRows.{NetRows}
-use Rattle.task_graph.specs.NetBuilder.{with_edge, with_task, settled, least_repeated, AddsTask, RefusesTask}
+use Rattle.task_graph.specs.NetBuilder.{with_task, settled, least_repeated, AddsTask, RefusesTask}
 use Rattle.task_graph.specs.declared.builder.BuildError.{BuildError}
 use Rattle.task_graph.specs.declared.builder.BuildError.TheVariants.{NoSuchTask, NoSuchSemaphore, ZeroCount, Repeated, WeakStart, TooMany, NoMemory}
-use Rattle.task_graph.specs.declared.net.EdgeRow.{EdgeRow}
 use Rattle.task_graph.specs.declared.net.Shape.{Shape}
 use Rattle.task_graph.specs.declared.net.TaskRow.{TaskRow}
-use Rattle.graph_plans.specs.declared.ops.Op.{Op}
 use Rattle.graph_file.specs.declared.nets.Edge.{Edge}
-use Rattle.graph_file.specs.PlanText.{task_row}
-use Rattle.graph_file.specs.inside.Drafts.{IsAmong, edge_row, net_with}
+use Rattle.graph_file.specs.inside.Drafts.{IsAmong, edge_row}
 
 -- A list that names no semaphore names none twice, and has none in rising order.
 none_repeated : (sems : List ℕ) → find (λ s. nat_lt 1 (count_by (λ id. id == s) [])) sems ≡ None

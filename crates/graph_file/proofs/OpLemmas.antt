@@ -1,7 +1,6 @@
 -- Operations that are used by others.
-use Rattle.std.proofs.Common.{◌≡◌, ℕ, List, [], ◌∷◌, map, Bool, true, false, cond, Option, Some, None, Result, Ok, Err, ok_or, option_map, codes, refl, ap, sym, ◌∙◌, bytes_eq}
+use Rattle.std.proofs.Common.{◌≡◌, ℕ, List, [], ◌∷◌, map, Bool, true, false, cond, Option, Some, None, Result, Ok, Err, ok_or, option_map, codes, refl, sym, bytes_eq}
 use Rattle.std.proofs.lemmas.Slice.Eq.{bytes_eq-Decides}
-use Rattle.std.specs.List.{find}
 use Rattle.serde_json.specs.Data.{Data}
 use Rattle.graph_plans.specs.declared.spots.Spot.{Spot}
 use Rattle.graph_file.specs.declared.refusals.GraphError.{GraphError}
@@ -30,7 +29,7 @@ made_step f fields (Err e) = refl
 
 called_step : {A B : Type 0} (f : A → B) (row : Option (OpRow A)) (spot : Spot) (d : Data) (e : GraphError)
     → (ok_or (option_map (used_by f) row) e >>= λ r. r.made spot d >>= λ op. Ok (record { op = op; fields = r.fields }))
-        ≡ ((ok_or row e >>= λ r. r.made spot d >>= λ op. Ok (record { op = op; fields = r.fields })) >>= λ found. Ok (used_found f found))
+    ≡ ((ok_or row e >>= λ r. r.made spot d >>= λ op. Ok (record { op = op; fields = r.fields })) >>= λ found. Ok (used_found f found))
 called_step f None spot d e = refl
 called_step f (Some row) spot d e = made_step f row.fields (row.made spot d)
 
@@ -59,9 +58,16 @@ pub no_text_op : (name : List ℕ) (spot : Spot) (d : Data)
 unfolding text_rows
 no_text_op name spot d pass_ keep_ without_ head_ tail_ skip_ sort_ uniq_ count_ tally_ =
     rw (
-      differs (codes "pass") name pass_, differs (codes "keep") name keep_, differs (codes "without") name without_, differs (codes "head") name head_,
-      differs (codes "tail") name tail_, differs (codes "skip") name skip_, differs (codes "sort") name sort_, differs (codes "uniq") name uniq_,
-      differs (codes "count") name count_, differs (codes "tally") name tally_,
+      differs (codes "pass") name pass_,
+      differs (codes "keep") name keep_,
+      differs (codes "without") name without_,
+      differs (codes "head") name head_,
+      differs (codes "tail") name tail_,
+      differs (codes "skip") name skip_,
+      differs (codes "sort") name sort_,
+      differs (codes "uniq") name uniq_,
+      differs (codes "count") name count_,
+      differs (codes "tally") name tally_,
     ) refl
 
 -- a name that only an operation on one text may have
@@ -72,6 +78,11 @@ pub no_own_op : (name : List ℕ) (spot : Spot) (d : Data)
 unfolding op_rows
 no_own_op name spot d input_ read_ match_ back_ more_ has_ route_ =
     rw (
-      differs (codes "input") name input_, differs (codes "read") name read_, differs (codes "match") name match_, differs (codes "back") name back_,
-      differs (codes "ifmore") name more_, differs (codes "ifhas") name has_, differs (codes "route") name route_,
+      differs (codes "input") name input_,
+      differs (codes "read") name read_,
+      differs (codes "match") name match_,
+      differs (codes "back") name back_,
+      differs (codes "ifmore") name more_,
+      differs (codes "ifhas") name has_,
+      differs (codes "route") name route_,
     ) refl

@@ -1,24 +1,24 @@
 -- The plan of a file keeps its rules.
-use Rattle.std.proofs.Common.{◌≡◌, ℕ, suc, ◌+◌, ◌<◌, ◌≤◌, List, [], ◌∷◌, ◌++◌, map, length, Bool, true, false, not, leb, Option, Some, None, position, Result, Ok, Err, ok_or, All, refl, sym, ap, subst, ◌∙◌, bytes_eq, arith, append_assoc}
+use Rattle.std.proofs.Common.{◌≡◌, ℕ, suc, ◌+◌, ◌<◌, ◌≤◌, List, [], ◌∷◌, ◌++◌, map, length, Bool, true, false, not, leb, position, Ok, ok_or, All, refl, sym, ap, subst, ◌∙◌, bytes_eq, arith, append_assoc}
 use Rattle.std.proofs.lemmas.Bool.{false≢true, leb-true}
 use Rattle.std.proofs.lemmas.List.{append-nil, length-append, length-map}
-use Rattle.std.proofs.lemmas.List.Elements.{All-append, All-map, All-nil, All-push, All-weaker}
+use Rattle.std.proofs.lemmas.List.Elements.{All-map, All-nil, All-push}
 use Rattle.std.specs.List.{list_any}
 use Rattle.serde_json.specs.Data.{Data}
 use Rattle.task_graph.specs.NetRows.{NetRows}
-use Rattle.task_graph.specs.Net.{AreSemaphoresOf, IsEdgeOf, IsNet, IsTaskOf}
+use Rattle.task_graph.specs.Net.{AreSemaphoresOf, IsNet, IsTaskOf}
 use Rattle.task_graph.specs.declared.net.EdgeRow.{EdgeRow}
 use Rattle.task_graph.specs.declared.net.TaskRow.{TaskRow}
 use Rattle.graph_plans.specs.declared.ops.Op.{Op}
 use Rattle.graph_plans.specs.Operations.{shape_of}
 use Rattle.graph_plans.specs.PlanRows.{AllDiffer, IsPlan, NeedsNoUnit, PlanRows, edge_limit, task_limit, text_count_limit}
 use Rattle.graph_file.specs.declared.refusals.GraphError.{GraphError}
-use Rattle.graph_file.specs.declared.refusals.GraphError.TheVariants.{NoSuchName, TooMany}
+use Rattle.graph_file.specs.declared.refusals.GraphError.TheVariants.{TooMany}
 use Rattle.graph_file.specs.declared.refusals.Kind.TheVariants.{Tasks, Edges, Texts}
-use Rattle.graph_file.specs.Fields.{task_spot}
-use Rattle.graph_file.specs.PlanText.{DraftRows, LinkRow, PlanText, add_edge, add_name, draft_in, json_in, no_tasks, plan_in, plan_of, plan_with, task_row, within_limits}
-use Rattle.graph_file.specs.Steps.{◌>>=◌, passed, walk}
-use Rattle.graph_file.specs.inside.Drafts.{IsAmong, IsDraft, net_with}
+use Rattle.graph_file.specs.PlanText.{DraftRows, LinkRow, PlanText, add_edge, add_name, draft_in, json_in, plan_in, plan_of, plan_with, task_row, within_limits}
+use Rattle.graph_file.specs.Steps.{passed, walk}
+use Rattle.graph_file.specs.declared.nets.Edge.{Edge}
+use Rattle.graph_file.specs.inside.Drafts.{IsAmong, IsDraft, edge_row, edge_rows, net_with}
 use Rattle.graph_file.proofs.BindLemmas.{bind_ok, ok_or_ok, passed-ok}
 use Rattle.graph_file.proofs.DraftLemmas.{AllDiffer-push, IsDraft-of, place_within}
 use Rattle.graph_file.proofs.FineLemmas.{draft_in-tasks}
@@ -46,8 +46,8 @@ AreEdges-walk names old (link ∷ links) edges sources among starts is =
     let same : old ++ edge ∷ [] ≡ next = cc in
     let at_edge : IsAmong (length names) edge = record { from = sources 0 link (omega arith); to = place_within names link.to to (ok_or_ok _ _ to found) } in
     let others = AreEdges-walk names next links edges (λ k d within. sources (suc k) d (omega arith))
-        (subst (All (IsAmong (length names))) same (All-push (IsAmong (length names)) old edge among at_edge))
-        (subst (All (λ (e : EdgeRow). e.start ≡ false)) same (All-push (λ (e : EdgeRow). e.start ≡ false) old edge starts refl)) rest in
+    (subst (All (IsAmong (length names))) same (All-push (IsAmong (length names)) old edge among at_edge))
+    (subst (All (λ (e : EdgeRow). e.start ≡ false)) same (All-push (λ (e : EdgeRow). e.start ≡ false) old edge starts refl)) rest in
     let longer : length next ≡ length old + 1 = ap length (sym same) ∙ length-append old (edge ∷ []) in
     record { among = others.among; starts = others.starts; count = omega (arith, others.count, longer) }))
 
@@ -148,7 +148,7 @@ IsPlan-draft draft plan is planned =
     bind_ok (within_limits draft) _ plan after_names (λ done limits last.
     let same : plan_with draft edges ≡ plan = cc in
     subst IsPlan same (IsPlan-with draft edges is (AllDiffer-walk [] draft.names names (λ i j d less within. absurd (omega arith)) named)
-        (AreEdges-draft draft edges is walked) (IsWithinLimits-passed draft limits)))))
+    (AreEdges-draft draft edges is walked) (IsWithinLimits-passed draft limits)))))
 
 pub IsDraft-read : (d : Data) (draft : DraftRows) → draft_in d ≡ Ok draft → IsDraft draft
 IsDraft-read d draft is = let tasks = draft_in-tasks d draft is in subst IsDraft tasks.2 (IsDraft-of tasks.0 tasks.1)
@@ -158,3 +158,15 @@ pub IsPlan-read : (bytes : List ℕ) (plan : PlanRows) → PlanText bytes plan �
 IsPlan-read bytes plan is =
     bind_ok (json_in bytes) plan_in plan is (λ d json after.
     bind_ok (draft_in d) plan_of plan after (λ draft read_ planned. IsPlan-draft draft plan (IsDraft-read d draft read_) planned))
+
+-- ---- the edges, as the code has them
+
+pub few-edges : (draft : DraftRows) (edges shown : List Edge) → shown ≡ edges → IsDraft draft → walk (add_edge draft.names) [] draft.links ≡ Ok (edge_rows edges) → within_limits draft ≡ Ok tt → length shown ≤ edge_limit
+few-edges draft edges shown same is walked limits =
+    let are = AreEdges-draft draft (edge_rows edges) is walked in
+    let passed_ = IsWithinLimits-passed draft limits in
+    rw same (omega (arith, length-map edges edge_row, are.count, passed_.edges))
+
+pub among-ops : (draft : DraftRows) (edges shown : List Edge) (ops : List Op) → shown ≡ edges → ops ≡ draft.ops → IsDraft draft → walk (add_edge draft.names) [] draft.links ≡ Ok (edge_rows edges)
+    → All (IsAmong (length ops)) (edge_rows shown)
+among-ops draft edges shown ops same ops_same is walked = rw (same, ops_same, is.op_count) (AreEdges-draft draft (edge_rows edges) is walked).among

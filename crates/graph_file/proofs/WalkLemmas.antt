@@ -1,11 +1,10 @@
 -- A walk, while a loop goes over the items.
-use Rattle.std.proofs.Common.{◌≡◌, ◌≢◌, ℕ, ◌+◌, ◌<◌, List, [], ◌∷◌, map, length, drop, get_or, Result, Ok, Err, refl, sym, ◌∙◌, add-one}
+use Rattle.std.proofs.Common.{◌≡◌, ◌≢◌, ℕ, ◌+◌, ◌<◌, List, ◌∷◌, map, length, drop, get_or, Result, Ok, Err, refl, ◌∙◌, add-one}
 use Rattle.std.proofs.lemmas.List.{get_or_default}
 use Rattle.std.proofs.Math.Seq.{drop-cons}
-use Rattle.std.specs.Bool.{⊤}
 use Rattle.graph_file.specs.declared.refusals.GraphError.{GraphError}
 use Rattle.graph_file.specs.declared.refusals.GraphError.TheVariants.{NoMemory}
-use Rattle.graph_file.specs.Steps.{◌>>=◌, walk}
+use Rattle.graph_file.specs.Steps.{walk}
 
 -- the walk over the values goes on from this state at place i
 abbrev pub GoesOn : {S V A : Type 0} → (V → A) → (S → A → Result S GraphError) → S → List V → ℕ → S → Type 0

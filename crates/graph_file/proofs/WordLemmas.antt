@@ -7,7 +7,7 @@ use Rattle.serde_json.specs.declared.value.Value.{Value}
 use Rattle.graph_plans.specs.declared.spots.Spot.{Spot}
 use Rattle.graph_file.specs.declared.refusals.GraphError.{GraphError}
 use Rattle.graph_file.specs.declared.refusals.GraphError.TheVariants.{BadField}
-use Rattle.graph_file.specs.Contents.{each, list_of, passing, word_of, words_of}
+use Rattle.graph_file.specs.Contents.{each, list_of, word_of, words_of}
 use Rattle.graph_file.specs.Steps.{◌>>=◌, walk}
 use Rattle.graph_file.specs.inside.Reading.{Reads, put_each}
 use Rattle.graph_file.proofs.EachLemmas.{walk-put_each}

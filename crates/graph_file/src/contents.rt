@@ -51,7 +51,11 @@ pub(crate) fn text_name_of(value: &Value) -> Option<&str>
     ensures { option_map (λ s. s.now) result ≡ text_name_of (view value.now) }
 {
     let text = value.as_str()?;
-    if is_text(text, 1, MAX_WORD_LEN) { Some(text) } else { None }
+    if is_text(text, 1, MAX_WORD_LEN) {
+        Some(text)
+    } else {
+        None
+    }
 }
 
 /// The string, if this is one and a word.
@@ -59,7 +63,11 @@ pub(crate) fn word_of(value: &Value) -> Option<&str>
     ensures { option_map (λ s. s.now) result ≡ word_of (view value.now) }
 {
     let word = value.as_str()?;
-    if is_text(word, 0, MAX_WORD_LEN) { Some(word) } else { None }
+    if is_text(word, 0, MAX_WORD_LEN) {
+        Some(word)
+    } else {
+        None
+    }
 }
 
 /// The whole number, if this is one in the range.
@@ -67,7 +75,11 @@ pub(crate) fn whole_of(value: &Value, least: u64, most: u64) -> Option<u64>
     ensures { result ≡ whole_of least most (view value.now) }
 {
     let number = value.as_u64()?;
-    if least <= number && number <= most { Some(number) } else { None }
+    if least <= number && number <= most {
+        Some(number)
+    } else {
+        None
+    }
 }
 
 /// The items, if this is a list.
@@ -85,7 +97,11 @@ pub(crate) fn objects_of(value: &Value) -> Option<&[Value]>
     ensures { option_map (λ items. map view items.now) result ≡ objects_of (view value.now) }
 {
     let items = list_of(value)?;
-    if are_objects(items) { Some(items) } else { None }
+    if are_objects(items) {
+        Some(items)
+    } else {
+        None
+    }
 }
 
 fn are_objects(values: &[Value]) -> bool

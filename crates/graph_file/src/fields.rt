@@ -24,7 +24,11 @@ const MAX_LINES: u64 = 1_000_000_000;
 const MAX_WORDS: usize = 256;
 
 /// The name of a task.
-pub(crate) fn read_name<'v>(alloc: Global, spot: Spot, task: &'v Value) -> Result<&'v str, GraphError>
+pub(crate) fn read_name<'v>(
+    alloc: Global,
+    spot: Spot,
+    task: &'v Value,
+) -> Result<&'v str, GraphError>
     ensures { ReadsAs (λ s. s.now) result (needed name_of spot (codes "name") (view task.now)) }
 {
     let Some(name) = task.get("name").and_then(name_of) else {

@@ -11,6 +11,7 @@ mod nets;
 mod ops;
 mod reading;
 mod refusals;
+mod rules;
 mod tasks;
 mod unknown;
 mod writing;

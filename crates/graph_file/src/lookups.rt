@@ -35,11 +35,7 @@ pub(crate) fn places_of(alloc: Global, names: &[Bytes]) -> Result<Named<'_>, NoM
 }
 
 // Keeps a name's first place, and says whether this is the first one.
-fn keep_place<'n>(
-    places: &mut Places<'n>,
-    name: &'n [u8],
-    place: usize,
-) -> Result<bool, NoMemory>
+fn keep_place<'n>(places: &mut Places<'n>, name: &'n [u8], place: usize) -> Result<bool, NoMemory>
     ensures new { IfOk result (λ new. new ≡ is_none (place_in places.old name.now)) }
     ensures kept { OnOk result (KeepsPlace places.old name.now place places.new) }
 {
@@ -54,7 +50,11 @@ fn keep_place<'n>(
 fn first_repeated(found: Option<usize>, place: usize, new: bool) -> Option<usize>
     ensures { result ≡ option_or found (if new then None else Some place) }
 {
-    if found.is_none() && !new { Some(place) } else { found }
+    if found.is_none() && !new {
+        Some(place)
+    } else {
+        found
+    }
 }
 
 /// The number of a text. One that wasn't mentioned before is put at the end.

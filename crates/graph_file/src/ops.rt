@@ -45,12 +45,24 @@ fn read_op_called<'v>(
 {
     Ok(match name {
         "input" => with(&[], FileOp::Does(Op::Input)),
-        "read" => with(&["text"], FileOp::Reads(read_text_name(alloc, spot, object)?)),
+        "read" => with(
+            &["text"],
+            FileOp::Reads(read_text_name(alloc, spot, object)?),
+        ),
         "match" => with(&[], FileOp::Does(Op::Match)),
         "back" => with(&[], FileOp::Does(Op::Back)),
-        "ifmore" => with(&["n"], FileOp::Does(Op::IfMore(read_lines(alloc, spot, object)?))),
-        "ifhas" => with(&["word"], FileOp::Does(Op::IfHas(read_word(alloc, spot, object)?))),
-        "route" => with(&["words"], FileOp::Does(Op::Route(read_words(alloc, spot, object)?))),
+        "ifmore" => with(
+            &["n"],
+            FileOp::Does(Op::IfMore(read_lines(alloc, spot, object)?)),
+        ),
+        "ifhas" => with(
+            &["word"],
+            FileOp::Does(Op::IfHas(read_word(alloc, spot, object)?)),
+        ),
+        "route" => with(
+            &["words"],
+            FileOp::Does(Op::Route(read_words(alloc, spot, object)?)),
+        ),
         _ => return read_used_text_op(alloc, name, spot, object),
     })
 }

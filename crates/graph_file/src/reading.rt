@@ -1,10 +1,16 @@
 // The reading of graph files.
-ghost use Rattle.std.specs.Prelude.{◌≢◌, IfErr, IfOk};
+ghost use Rattle.std.specs.Prelude.{◌≡◌, ◌≢◌, IfErr, IfOk};
+ghost use Rattle.serde_json.specs.Errors.{IsMemory};
+ghost use Rattle.serde_json.specs.View.{view};
 ghost use Rattle.graph_plans.specs.PlanRows.{IsPlan, plan_rows};
-ghost use Rattle.graph_file.specs.PlanText.{IsRefused, PlanText};
+ghost use Rattle.graph_file.specs.PlanText.{IsRefused, PlanText, json_in, read_plan};
+ghost use Rattle.graph_file.specs.inside.Reading.{ReadsAs};
 
 use crate::refusals::GraphError;
+use crate::rules::plan_of;
+use crate::tasks::read_file;
 use graph_plans::Plan;
+use serde_json::{Category, Error, Value};
 use std::alloc::Global;
 
 /// The plan that the bytes stand for, or the first refusal.
@@ -13,5 +19,32 @@ pub fn read_graph(alloc: Global, bytes: &[u8]) -> Result<Plan, GraphError>
     ensures rules { IfOk result (λ plan. IsPlan (plan_rows plan)) }
     ensures refusal { IfErr result (λ error. error ≢ GraphError.NoMemory → IsRefused bytes.now error) }
 {
-    Err(GraphError::NoMemory)
+    read_by_steps(alloc, bytes)
+}
+
+fn read_by_steps(alloc: Global, bytes: &[u8]) -> Result<Plan, GraphError>
+    ensures { ReadsAs plan_rows result (read_plan bytes.now) }
+{
+    let file = read_json(alloc, bytes)?;
+    let draft = read_file(alloc, &file)?;
+    plan_of(alloc, draft)
+}
+
+fn read_json(alloc: Global, bytes: &[u8]) -> Result<Value, GraphError>
+    ensures { ReadsAs view result (json_in bytes.now) }
+{
+    match Value::from_slice(alloc, bytes) {
+        Ok(file) => Ok(file),
+        Err(error) => Err(json_refusal(error)),
+    }
+}
+
+fn json_refusal(error: Error) -> GraphError
+    ensures memory { IsMemory error → result ≡ GraphError.NoMemory }
+    ensures other { result ≢ GraphError.NoMemory → result ≡ GraphError.NotJson }
+{
+    match error.classify() {
+        Category::Memory => GraphError::NoMemory,
+        _ => GraphError::NotJson,
+    }
 }

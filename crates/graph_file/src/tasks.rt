@@ -183,7 +183,9 @@ fn put_op<'v>(
     ensures numbers { OnOk result (HasPlaces numbers.new draft.new.texts) }
 {
     let op = numbered(alloc, op, &mut draft.texts, numbers)?;
-    draft.names.push(Bytes::from_slice(alloc, name.as_bytes())?)?;
+    draft
+        .names
+        .push(Bytes::from_slice(alloc, name.as_bytes())?)?;
     draft.ops.push(op)?;
     Ok(())
 }

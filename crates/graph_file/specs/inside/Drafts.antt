@@ -31,3 +31,6 @@ net_with ops edges = record { tasks = map task_row ops; edges = edges; sems = []
 -- the plan of a draft, with this net
 abbrev pub plan_around : DraftRows → NetRows → PlanRows
 plan_around draft net = record { top = record { name = []; names = draft.names; ops = draft.ops; sem_names = []; net = net }; modules = []; texts = draft.texts }
+
+abbrev pub edge_rows : List Edge → List EdgeRow
+edge_rows edges = map edge_row edges

@@ -1,5 +1,4 @@
-use Rattle.std.proofs.Common.{◌≡◌, length, subst, sym, ap, ◌∙◌}
-use Rattle.graph_file.specs.inside.Drafts.{IsAmong, edge_row}
+use Rattle.std.proofs.Common.{◌≡◌, length, sym, ap, ◌∙◌}
 use Rattle.graph_file.proofs.NetLemmas.{among-at}
 use Rattle.graph_file.proofs.nets.add_edges.Goals as goal
 

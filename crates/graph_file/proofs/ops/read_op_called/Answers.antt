@@ -1,6 +1,5 @@
 -- No row of a task's own has this name.
 use Rattle.serde_json.specs.View.{view}
-use Rattle.graph_file.specs.inside.Reading.{ReadsAs, found_op}
 use Rattle.graph_file.proofs.OpLemmas.{no_own_op}
 use Rattle.graph_file.proofs.ops.read_op_called.Goals as goal
 

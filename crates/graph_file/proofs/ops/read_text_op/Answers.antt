@@ -1,5 +1,5 @@
 -- No row has this name.
-use Rattle.std.proofs.Common.{codes, sym, ap, ◌∙◌, Err}
+use Rattle.std.proofs.Common.{sym, ap, ◌∙◌, Err}
 use Rattle.serde_json.specs.View.{view}
 use Rattle.graph_file.proofs.OpLemmas.{no_text_op}
 use Rattle.graph_file.proofs.ops.read_text_op.Goals as goal
