@@ -15,3 +15,4 @@ pub mod ReadingLemmas
 pub mod TaskLemmas
 pub mod WalkLemmas
 pub mod WordLemmas
+pub mod WrittenLemmas

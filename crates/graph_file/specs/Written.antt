@@ -1,6 +1,5 @@
 -- How a plan is written.
-use Rattle.std.specs.Prelude.{ℕ, List, [], map, filter, ◌==◌, slice_index_or, codes}
-use Rattle.std.specs.List.{enumerate_from, zip}
+use Rattle.std.specs.Prelude.{ℕ, suc, List, [], ◌∷◌, map, filter, ◌==◌, slice_index_or, codes}
 use Rattle.serde_json.specs.Data.{Data, string, number, unsigned, array, no_items, object, Members, no_members, member, put}
 use Rattle.serde_json.specs.View.{items_of}
 use Rattle.serde_json.specs.Written.{compact_text}
@@ -59,14 +58,23 @@ task_data name op to = object (put (codes "holds") (array no_items) (put (codes 
 abbrev pub to_of : PlanRows → ℕ → List (List ℕ)
 to_of plan t = map (λ (edge : EdgeRow). slice_index_or plan.top.names edge.to []) (filter (λ (edge : EdgeRow). edge.from == t) plan.top.net.edges)
 
+-- the tasks with these names and operations, of which the first has this number
+abbrev pub tasks_from : PlanRows → ℕ → List (List ℕ) → List Op → List Data
+tasks_from plan t [] ops = []
+tasks_from plan t (name ∷ names) [] = []
+tasks_from plan t (name ∷ names) (op ∷ ops) = task_data name (op_text plan.texts op) (to_of plan t) ∷ tasks_from plan (suc t) names ops
+
 -- the tasks of a plan
 abbrev pub tasks_data : PlanRows → List Data
-tasks_data plan = map (λ p. task_data p.1.0 (op_text plan.texts p.1.1) (to_of plan p.0)) (enumerate_from 0 (zip plan.top.names plan.top.ops))
+tasks_data plan = tasks_from plan 0 plan.top.names plan.top.ops
 
--- the file of a plan, of version 1
+-- the file with these tasks, of version 1; it has no semaphores and no modules yet
+abbrev pub file_data : List Data → Data
+file_data tasks = object (put (codes "modules") (array no_items) (put (codes "semaphores") (array no_items) (put (codes "tasks") (array (items_of tasks)) (put (codes "version") (number (unsigned 1)) no_members))))
+
+-- the file of a plan
 abbrev pub plan_data : PlanRows → Data
-plan_data plan =
-    object (put (codes "modules") (array no_items) (put (codes "semaphores") (array no_items) (put (codes "tasks") (array (items_of (tasks_data plan))) (put (codes "version") (number (unsigned 1)) no_members))))
+plan_data plan = file_data (tasks_data plan)
 
 -- the text that is written for a plan: no spaces, and the fields of each object in the order of their bytes
 abbrev pub plan_text : PlanRows → List ℕ
