@@ -1,6 +1,7 @@
 //! How long reading and writing a graph file last, alone.
 #![tactic(auto)]
 
+use graph_file::read_graph;
 use outside_io::{FolderTexts, Found, Texts};
 use serde_json::Value;
 use std::{env, io};
@@ -25,6 +26,10 @@ fn main(rt: HostRuntime) -> io::Result<()> {
         "json" => match Value::from_slice(rt.alloc(), bytes.as_slice()) {
             Ok(_) => println!(rt; "json"),
             Err(_) => println!(rt; "no json"),
+        },
+        "read" => match read_graph(rt.alloc(), bytes.as_slice()) {
+            Ok(_) => println!(rt; "plan"),
+            Err(_) => println!(rt; "no plan"),
         },
         _ => println!(rt; "none"),
     }

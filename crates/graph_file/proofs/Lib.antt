@@ -13,6 +13,7 @@ pub mod PlaceLemmas
 pub mod PlanLemmas
 pub mod ReadingLemmas
 pub mod TaskLemmas
+pub mod TripLemmas
 pub mod WalkLemmas
 pub mod WordLemmas
 pub mod WrittenLemmas
