@@ -163,7 +163,7 @@ def difference(graph, texts, has_conditions, seen):
     if not starts:
         return None if (code, notes) == (4, "flow: no source\n") else f"code {code}, {notes!r} without a source"
     if has_conditions:
-        return None if code in (0, 8) and has_form(graph, out) else f"code {code}, {notes!r}, or a report of another form"
+        return None if code in (0, 8, 9) and has_form(graph, out) else f"code {code}, {notes!r}, or a report of another form"
     wanted = slow_report(graph, texts)
     return None if (code, out) == (0, wanted) else f"code {code}, printed {out!r}, wanted {wanted!r}"
 

@@ -1,23 +1,25 @@
 -- What a call asks for and how it ends, computed on a graph file `g` of one byte that names the text `t`, of two. Names
 -- are of one small byte here.
-use Rattle.std.proofs.Common.{◌≡◌, ℕ, zero, suc, ◌<◌, List, [], ◌∷◌, length, ◌⊎◌, Option, Some, None, true, false, inl, inr, refl, arith, codes, ap}
+use Rattle.std.proofs.Common.{◌≡◌, ℕ, zero, suc, ◌<◌, List, [], ◌∷◌, length, ◌⊎◌, Option, Some, None, true, false, inl, inr, refl, arith, codes, ap, sym, subst, ◌∙◌, Result, Ok, Err}
 use Rattle.std.specs.Prelude.{String, if◌then◌else◌, bytes_eq}
 use Rattle.std.specs.Global.{Global}
 use Rattle.std.specs.List.{All}
 use Rattle.outside_io.specs.Sink.{SinkState}
-use Rattle.graph_file.specs.declared.refusals.GraphError.TheVariants.{NotJson, NoMemory as NoMemoryToRead}
-use Rattle.graph_file.specs.declared.refusals.Spot.TheVariants.{File}
-use Rattle.graph_file.specs.PlanRows.{PlanRows, plan_texts}
-use Rattle.graph_file.specs.PlanText.{PlanText}
-use Rattle.text_tasks.specs.declared.table.TextRow.{TextRow}
-use Rattle.text_tasks.specs.GraphWork.{GraphWork, text_limit}
+use Rattle.graph_file.specs.declared.refusals.GraphError.TheVariants.{NotJson, TooMany}
+use Rattle.graph_file.specs.declared.refusals.GraphError.{GraphError}
+use Rattle.graph_file.specs.declared.refusals.Kind.TheVariants.{Tasks}
+use Rattle.text_ops.specs.Lines.{normal}
+use Rattle.graph_plans.specs.declared.spots.Spot.TheVariants.{File}
+use Rattle.graph_plans.specs.PlanRows.{PlanRows}
+use Rattle.graph_file.specs.PlanText.{PlanText, IsRefused}
+use Rattle.text_tasks.specs.GraphWork.{GraphWork}
 use Rattle.flow_run.specs.declared.status.Status.TheVariants.{Done, BadWords, BadGraph, NoSource, NoText, LongText, ReadFault, WriteFault, Limit, TaskFault, Stuck, NoMemory}
 use Rattle.flow_run.specs.declared.stop.Stop.{Stop}
 use Rattle.flow_run.specs.declared.stop.Stop.TheVariants as stop
 use Rattle.command_line.specs.Requests.{asked_by, run as run_of}
 use Rattle.journal_rules.specs.declared.entry.Why.TheVariants.{Long as TooLong}
 use Rattle.nested_runs.specs.declared.reasons.Reason.TheVariants as reason
-use Rattle.flow_run.specs.Requests.{Held, IsHeld, StopsAtName, TextsAre, StopsAtText, HasStart, StopsAtBytes, HasPlan, IsRequested, file_limit}
+use Rattle.flow_run.specs.Requests.{Held, IsHeld, StopsAtName, IsTextOf, TextsAre, StopsAtText, HasStart, StopsAtBytes, HasPlan, IsRequested, file_limit, text_limit}
 use Rattle.flow_run.specs.Answers.{Run, status_of, status_after, IsAfterRun, RunEnds, CallEnds, Reported, IsReadFault, HaveRead}
 use Rattle.flow_run.specs.Codes.{code_of}
 
@@ -88,44 +90,59 @@ no_bad_graph_at_a_name is = is
 no_source_at_a_name : ¬ StopsAtName held t 2 (stop.NoSource File)
 no_source_at_a_name is = is
 
--- The texts of a job are those of its names, in order, as they are held.
-all_one : {X : Type 0} (P : X → Type 0) (x : X) → P x → All P (x ∷ [])
-all_one P x here zero d below = here
-all_one P x here (suc k) d below = absurd (omega arith)
+-- The texts of a job are those of its names, in order, as they are held, and each line of them has an end.
+own_text : IsTextOf held t (2 ∷ 3 ∷ 10 ∷ [])
+own_text = record { bytes = 2 ∷ 3 ∷ []; read = (refl, omega arith); is = refl }
 
-abbrev row : List ℕ → List ℕ → TextRow
-row name text = record { name = name; text = text }
+known_length : Option (List ℕ) → ℕ
+known_length None = 0
+known_length (Some xs) = length xs
 
-abbrev IsHeldRow : TextRow → Type 0
-IsHeldRow r = IsHeld held r.name text_limit r.text
+-- without the end of its line
+text_as_it_was_read : ¬ IsTextOf held t (2 ∷ 3 ∷ [])
+text_as_it_was_read is =
+    let bytes : Some (2 ∷ 3 ∷ []) ≡ Some is.bytes = is.read.0 in
+    let same : 2 ∷ 3 ∷ [] ≡ is.bytes = cc in
+    let lengths : 2 ≡ 3 = ap length (is.is ∙ ap normal (sym same)) in
+    absurd (omega (arith, lengths))
 
-one_text : TextsAre held (t ∷ []) (row t (2 ∷ 3 ∷ []) ∷ [])
-one_text = record { named = refl; read = all_one IsHeldRow (row t (2 ∷ 3 ∷ [])) (refl, omega arith) }
+text_of_another_name : ¬ IsTextOf held g (2 ∷ 3 ∷ 10 ∷ [])
+text_of_another_name is =
+    let bytes : Some (1 ∷ []) ≡ Some is.bytes = is.read.0 in
+    let same : 1 ∷ [] ≡ is.bytes = cc in
+    let lengths : 3 ≡ 2 = ap length (is.is ∙ ap normal (sym same)) in
+    absurd (omega (arith, lengths))
 
-another_text : ¬ TextsAre held (t ∷ []) (row t (9 ∷ []) ∷ [])
-another_text is = let same : Some (2 ∷ 3 ∷ []) ≡ Some (9 ∷ []) = (is.read 0 (row t []) (omega arith)).0 in let lengths : 2 ≡ 1 = ap known_length same in absurd (omega (arith, lengths))
-  where
-    known_length : Option (List ℕ) → ℕ
-    known_length None = 0
-    known_length (Some xs) = length xs
+one_text : TextsAre held (t ∷ []) ((2 ∷ 3 ∷ 10 ∷ []) ∷ [])
+one_text = (own_text, tt)
+
+two_texts : TextsAre held (t ∷ g ∷ []) ((2 ∷ 3 ∷ 10 ∷ []) ∷ (1 ∷ 10 ∷ []) ∷ [])
+two_texts = (own_text, (record { bytes = 1 ∷ []; read = (refl, omega arith); is = refl }, tt))
+
+in_another_order : ¬ TextsAre held (g ∷ t ∷ []) ((2 ∷ 3 ∷ 10 ∷ []) ∷ (1 ∷ 10 ∷ []) ∷ [])
+in_another_order are = text_of_another_name are.0
 
 text_left_out : ¬ TextsAre held (t ∷ []) []
-text_left_out is = absurd (cc)
+text_left_out are = are
 
-text_of_another_name : ¬ TextsAre held (t ∷ []) (row g (1 ∷ []) ∷ [])
-text_of_another_name is = absurd (cc)
+one_text_too_many : ¬ TextsAre held [] ((2 ∷ 3 ∷ 10 ∷ []) ∷ [])
+one_text_too_many are = are
+
+another_text : ¬ TextsAre held (t ∷ []) ((1 ∷ 10 ∷ []) ∷ [])
+another_text are =
+    let bytes : Some (2 ∷ 3 ∷ []) ≡ Some are.0.bytes = are.0.read.0 in
+    let same : 2 ∷ 3 ∷ [] ≡ are.0.bytes = cc in
+    let lengths : 2 ≡ 3 = ap length (are.0.is ∙ ap normal (sym same)) in
+    absurd (omega (arith, lengths))
 
 -- Of several names the first that can't be read stops the call.
 second_missing : StopsAtText held (t ∷ u ∷ (3 ∷ []) ∷ []) (stop.NoText u)
-second_missing = record { before = t ∷ []; name = u; after = (3 ∷ []) ∷ []; rows = row t (2 ∷ 3 ∷ []) ∷ []; parts = refl; read = one_text; stops = missing }
+second_missing = record { before = t ∷ []; name = u; after = (3 ∷ []) ∷ []; texts = (2 ∷ 3 ∷ 10 ∷ []) ∷ []; parts = refl; read = one_text; stops = missing }
 
--- Bytes stop the call where they stand for no plan, or for one without a task to begin with.
+-- Bytes stop the call where they stand for no plan, for the first reason, or for one without a task to begin with.
 module _ (bytes : List ℕ) (plan : PlanRows) (stands : PlanText bytes plan) where
   not_bad : ¬ StopsAtBytes bytes (stop.BadGraph NotJson)
-  not_bad is = is.1 plan stands
-
-  no_memory_is_no_bad_graph : ¬ StopsAtBytes bytes (stop.BadGraph NoMemoryToRead)
-  no_memory_is_no_bad_graph is = is.0 refl
+  not_bad is = let both : Ok plan ≡ Err NotJson = sym stands ∙ is in absurd (cc)
 
   no_text_at_bytes : ¬ StopsAtBytes bytes (stop.NoText t)
   no_text_at_bytes is = is
@@ -136,14 +153,20 @@ module _ (bytes : List ℕ) (plan : PlanRows) (stands : PlanText bytes plan) whe
   no_read_fault_at_bytes : ¬ StopsAtBytes bytes (stop.ReadFault t)
   no_read_fault_at_bytes is = is
 
-bad_bytes : (bytes : List ℕ) → ((plan : PlanRows) → PlanText bytes plan → ⊥) → StopsAtBytes bytes (stop.BadGraph NotJson)
-bad_bytes bytes none = (λ same. absurd (cc), none)
+bad_bytes : (bytes : List ℕ) → IsRefused bytes NotJson → StopsAtBytes bytes (stop.BadGraph NotJson)
+bad_bytes bytes refused = refused
+
+abbrev no_json : Result PlanRows GraphError
+no_json = Err NotJson
+
+another_reason : (bytes : List ℕ) → IsRefused bytes NotJson → ¬ StopsAtBytes bytes (stop.BadGraph (TooMany Tasks))
+another_reason bytes refused is = let both : no_json ≡ Err (TooMany Tasks) = sym refused ∙ is in absurd (cc)
 
 -- The job that is asked for is of the file's plan over the texts held, of its top graph, with no input and the limit.
 abbrev work : PlanRows → GraphWork
-work plan = record { plan = plan; texts = row t (2 ∷ 3 ∷ []) ∷ []; «module» = None; input = []; limit = 77 }
+work plan = record { plan = plan; texts = (2 ∷ 3 ∷ 10 ∷ []) ∷ []; «module» = None; input = []; limit = 77 }
 
-module _ (plan : PlanRows) (stands : PlanText (1 ∷ []) plan) (source : HasStart plan) (names_t : plan_texts plan ≡ t ∷ []) where
+module _ (plan : PlanRows) (stands : PlanText (1 ∷ []) plan) (source : HasStart plan) (names_t : plan.texts ≡ t ∷ []) where
   has_plan : HasPlan held g plan
   has_plan = record { bytes = 1 ∷ []; read = (refl, omega arith); stands = stands; source = source }
 
@@ -159,8 +182,8 @@ module _ (plan : PlanRows) (stands : PlanText (1 ∷ []) plan) (source : HasStar
   a_module : ¬ IsRequested held g 77 (record (work plan) { «module» = Some 0 })
   a_module is = let top = is.top in absurd (cc)
 
-  other_texts : ¬ IsRequested held g 77 (record (work plan) { texts = row t (9 ∷ []) ∷ [] })
-  other_texts is = another_text (rw names_t at is.texts)
+  other_texts : ¬ IsRequested held g 77 (record (work plan) { texts = (1 ∷ 10 ∷ []) ∷ [] })
+  other_texts is = absurd (another_text (subst (λ names. TextsAre held names ((1 ∷ 10 ∷ []) ∷ [])) names_t is.texts))
 
   file_of_another_name : ¬ ((bytes : List ℕ) → PlanText bytes plan → bytes ≡ 1 ∷ []) → ¬ HasPlan held u plan
   file_of_another_name only is = let none : None ≡ Some is.bytes = is.read.0 in absurd (cc)

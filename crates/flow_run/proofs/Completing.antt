@@ -1,20 +1,19 @@
 -- What is at hand and meets no failure is done.
-use Rattle.std.proofs.Common.{◌≡◌, ◌≢◌, ◌⊎◌, inl, inr, ℕ, ◌≤◌, List, [], ◌∷◌, ◌++◌, length, Option, Some, None, refl, sym, ap, ◌∙◌, subst, arith, codes}
+use Rattle.std.proofs.Common.{◌≡◌, ◌≢◌, ◌⊎◌, inl, inr, ℕ, ◌≤◌, List, [], ◌∷◌, ◌++◌, length, Option, Some, None, Ok, Err, refl, sym, ap, ◌∙◌, subst, arith, codes}
 use Rattle.std.specs.Prelude.{All, IsSomeAnd}
 use Rattle.std.proofs.lemmas.Option.{none-some}
 use Rattle.std.proofs.lemmas.List.Elements.{All-head, All-tail}
-use Rattle.graph_file.specs.declared.refusals.Spot.{Spot}
-use Rattle.graph_file.specs.declared.refusals.Spot.TheVariants as spot
-use Rattle.graph_file.specs.PlanRows.{PlanRows, plan_texts}
-use Rattle.graph_file.specs.PlanText.{PlanText}
-use Rattle.graph_file.specs.Sources.{NoSourceAnswer}
-use Rattle.graph_file.specs.Draft.{plan_of, draft_of}
-use Rattle.text_tasks.specs.GraphWork.{text_limit}
+use Rattle.graph_file.specs.declared.refusals.GraphError.{GraphError}
+use Rattle.graph_plans.specs.declared.spots.Spot.{Spot}
+use Rattle.graph_plans.specs.declared.spots.Spot.TheVariants as spot
+use Rattle.graph_plans.specs.PlanRows.{PlanRows}
+use Rattle.graph_file.specs.PlanText.{PlanText, IsRefused}
+use Rattle.graph_plans.specs.Sources.{NoSourceAnswer}
 use Rattle.flow_run.specs.declared.status.Status.{Status}
 use Rattle.flow_run.specs.declared.status.Status.TheVariants.{Done, BadWords, BadGraph, NoSource, NoText, LongText, ReadFault, WriteFault, NoMemory}
 use Rattle.flow_run.specs.declared.stop.Stop.{Stop}
 use Rattle.flow_run.specs.declared.stop.Stop.TheVariants as stop
-use Rattle.flow_run.specs.Requests.{Held, IsHeld, HasStart, StopsAtName, StopsAtBytes, StopsAtText, StopsBefore, IsAtHand, file_limit}
+use Rattle.flow_run.specs.Requests.{Held, IsHeld, HasStart, StopsAtName, StopsAtBytes, StopsAtText, StopsBefore, IsAtHand, file_limit, text_limit}
 use Rattle.command_line.specs.Requests.{Asked, asked_by, run}
 use Rattle.nested_runs.specs.Reasons.{run_reason}
 use Rattle.nested_runs.specs.declared.reasons.Reason.{Reason}
@@ -24,9 +23,11 @@ use Rattle.flow_run.specs.Answers.{Run, status_after, status_of, IsAfterRun, Cal
 
 -- Bytes stand for one plan at most.
 one_plan : (bytes : List ℕ) (plan other : PlanRows) → PlanText bytes plan → PlanText bytes other → plan ≡ other
-one_plan bytes plan other one two =
-    let same : one.tasks ≡ two.tasks = let both : Some one.tasks ≡ Some two.tasks = sym one.read_as ∙ two.read_as in cc in
-    one.is ∙ ap (λ tasks. plan_of (draft_of tasks)) same ∙ sym two.is
+one_plan bytes plan other one two = let both : Ok plan ≡ Ok other = sym one ∙ two in cc
+
+-- Bytes that stand for a plan aren't refused.
+not_refused : (bytes : List ℕ) (plan : PlanRows) (error : GraphError) → PlanText bytes plan → IsRefused bytes error → ⊥
+not_refused bytes plan error stands refused = let both : Ok plan ≡ Err error = sym stands ∙ refused in absurd (cc)
 
 -- A command line asks for one file at most.
 one_file : (arguments : List (List ℕ)) (file other : List ℕ) (limit most : ℕ) → asked_by arguments ≡ Some (run file limit) → asked_by arguments ≡ Some (run other most) → file ≡ other
@@ -65,13 +66,13 @@ all_at P (y ∷ before) after x all = all_at P before after x (All-tail P y (bef
 
 module _ (text : List ℕ → Option (List ℕ)) (file : List ℕ) (plan : PlanRows) where
   -- What stops the read of the texts is no more.
-  never_at_texts : (why : Stop) → All (λ name. IsSomeAnd (text name) (λ bytes. length bytes ≤ text_limit)) (plan_texts plan) → StopsAtText (Some text) (plan_texts plan) why → ((n : List ℕ) → why ≢ stop.ReadFault n) → why ≡ stop.NoMemory
+  never_at_texts : (why : Stop) → All (λ name. IsSomeAnd (text name) (λ bytes. length bytes ≤ text_limit)) plan.texts → StopsAtText (Some text) plan.texts why → ((n : List ℕ) → why ≢ stop.ReadFault n) → why ≡ stop.NoMemory
   never_at_texts why named at fine =
       never_stops text at.name text_limit why (all_at (λ name. IsSomeAnd (text name) (λ bytes. length bytes ≤ text_limit)) at.before at.after at.name (subst (All (λ name. IsSomeAnd (text name) (λ bytes. length bytes ≤ text_limit))) at.parts named)) at.stops fine
 
   -- Bytes that stand for the plan are refused for nothing else.
   never_at_bytes : (bytes : List ℕ) (why : Stop) → PlanText bytes plan → HasStart plan → StopsAtBytes bytes why → why ≡ stop.NoMemory
-  never_at_bytes bytes (stop.BadGraph error) stands start stops = absurd (stops.1 plan stands)
+  never_at_bytes bytes (stop.BadGraph error) stands start stops = absurd (not_refused bytes plan error stands stops)
   never_at_bytes bytes (stop.NoSource at) stands start stops = absurd (has_source plan at start (subst (λ p. NoSourceAnswer p (Some at)) (one_plan bytes stops.0 plan stops.1 stands) stops.2))
   never_at_bytes bytes (stop.NoText n) stands start stops = absurd stops
   never_at_bytes bytes (stop.LongText n) stands start stops = absurd stops
@@ -80,7 +81,7 @@ module _ (text : List ℕ → Option (List ℕ)) (file : List ℕ) (plan : PlanR
 
   -- So nothing but a failure or want of memory stops the call.
   never_before : (why : Stop) → IsSomeAnd (text file) (λ bytes. (length bytes ≤ file_limit) × PlanText bytes plan) → HasStart plan
-      → All (λ name. IsSomeAnd (text name) (λ bytes. length bytes ≤ text_limit)) (plan_texts plan) → StopsBefore (Some text) file why → ((n : List ℕ) → why ≢ stop.ReadFault n) → why ≡ stop.NoMemory
+      → All (λ name. IsSomeAnd (text name) (λ bytes. length bytes ≤ text_limit)) plan.texts → StopsBefore (Some text) file why → ((n : List ℕ) → why ≢ stop.ReadFault n) → why ≡ stop.NoMemory
   never_before why graph start named (inl at) fine = never_stops text file file_limit why (weaker (text file) graph) at fine
     where
       weaker : (o : Option (List ℕ)) → IsSomeAnd o (λ bytes. (length bytes ≤ file_limit) × PlanText bytes plan) → IsSomeAnd o (λ bytes. length bytes ≤ file_limit)
@@ -90,7 +91,7 @@ module _ (text : List ℕ → Option (List ℕ)) (file : List ℕ) (plan : PlanR
       never_at_bytes at.bytes why (held_some text file at.bytes file_limit (λ bytes. (length bytes ≤ file_limit) × PlanText bytes plan) at.read graph).1 start at.stops
   never_before why graph start named (inr (inr at)) fine =
       let stands = (held_some text file at.has.bytes file_limit (λ bytes. (length bytes ≤ file_limit) × PlanText bytes plan) at.has.read graph).1 in
-      never_at_texts why named (subst (λ p. StopsAtText (Some text) (plan_texts p) why) (one_plan at.has.bytes at.plan plan at.has.stands stands) at.stops) fine
+      never_at_texts why named (subst (λ p. StopsAtText (Some text) p.texts why) (one_plan at.has.bytes at.plan plan at.has.stands stands) at.stops) fine
 
 -- a run that ended fine, and whose output didn't fail, is done
 after_run : (why : Reason) (status : Status) → why ≡ Fine → IsAfterRun why status → status ≢ WriteFault → (status ≡ Done) ⊎ (status ≡ NoMemory)

@@ -1,7 +1,7 @@
 -- The line of each status, written out.
 use Rattle.std.proofs.Common.{List, ℕ, ◌≡◌, [], ◌∷◌, refl, codes}
 use Rattle.std.specs.Fmt.{digits}
-use Rattle.graph_file.specs.declared.refusals.Spot.TheVariants.{File, Sem, Task, Module, ModuleSem, ModuleTask}
+use Rattle.graph_plans.specs.declared.spots.Spot.TheVariants.{File, Sem, Task, Module, ModuleSem, ModuleTask}
 use Rattle.graph_file.specs.declared.refusals.Kind.TheVariants as kind
 use Rattle.graph_file.specs.declared.refusals.GraphError.TheVariants as error
 use Rattle.journal_rules.specs.declared.entry.Why.TheVariants.{Long as TooLong, Wide, Unmet, Inner, OverRelease}

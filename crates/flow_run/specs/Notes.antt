@@ -1,7 +1,7 @@
 -- The line that a status puts on the notes, as bytes.
 use Rattle.std.specs.Prelude.{ℕ, List, [], ◌++◌, codes, decimal}
-use Rattle.graph_file.specs.declared.refusals.Spot.{Spot}
-use Rattle.graph_file.specs.declared.refusals.Spot.TheVariants.{File, Sem, Task, Module, ModuleSem, ModuleTask}
+use Rattle.graph_plans.specs.declared.spots.Spot.{Spot}
+use Rattle.graph_plans.specs.declared.spots.Spot.TheVariants.{File, Sem, Task, Module, ModuleSem, ModuleTask}
 use Rattle.graph_file.specs.declared.refusals.Kind.{Kind}
 use Rattle.graph_file.specs.declared.refusals.Kind.TheVariants as kind
 use Rattle.graph_file.specs.declared.refusals.GraphError.{GraphError}

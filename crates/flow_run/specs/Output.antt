@@ -12,7 +12,7 @@ use Rattle.run_frame.specs.NestedRule.{job_of, journal_of}
 use Rattle.text_tasks.specs.declared.item.Item.{Item}
 use Rattle.text_tasks.specs.declared.job.TextJob.{TextJob}
 use Rattle.text_tasks.specs.Items.{item_text}
-use Rattle.text_tasks.specs.Lines.{line_end}
+use Rattle.text_ops.specs.Lines.{line_end}
 use Rattle.text_tasks.specs.JobMeaning.{net_of, names_of, text_job}
 use Rattle.nested_runs.specs.Reasons.{run_reason}
 use Rattle.flow_run.specs.Reasons.{reason_line}

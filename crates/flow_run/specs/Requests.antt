@@ -1,13 +1,12 @@
 -- What a call of the program asks for, and why it stops before a run.
-use Rattle.std.specs.Prelude.{◌≡◌, ◌≢◌, ◌⊎◌, ℕ, ◌<◌, ◌≤◌, List, [], ◌∷◌, ◌++◌, length, map, All, Option, Some, None, IfSome, IsSomeAnd, Result, Ok, Err}
-use Rattle.graph_file.specs.declared.refusals.GraphError.TheVariants.{NoMemory as NoMemoryToRead}
-use Rattle.graph_file.specs.PlanRows.{PlanRows, plan_texts}
-use Rattle.graph_file.specs.PlanText.{PlanText}
-use Rattle.graph_file.specs.Sources.{NoSourceAnswer}
-use Rattle.text_tasks.specs.declared.table.TextRow.{TextRow}
+use Rattle.std.specs.Prelude.{◌≡◌, ◌⊎◌, ℕ, ◌<◌, ◌≤◌, List, [], ◌∷◌, ◌++◌, length, All, Option, Some, None, IfSome, IsSomeAnd, Result, Ok, Err}
+use Rattle.graph_plans.specs.PlanRows.{PlanRows}
+use Rattle.graph_file.specs.PlanText.{PlanText, IsRefused}
+use Rattle.graph_plans.specs.Sources.{NoSourceAnswer}
+use Rattle.text_ops.specs.Lines.{normal}
 use Rattle.text_tasks.specs.declared.job.TextJob.{TextJob}
 use Rattle.text_tasks.specs.declared.job.TextJob.TheVariants.{Graph}
-use Rattle.text_tasks.specs.GraphWork.{GraphWork, text_limit}
+use Rattle.text_tasks.specs.GraphWork.{GraphWork}
 use Rattle.flow_run.specs.declared.stop.Stop.{Stop}
 use Rattle.flow_run.specs.declared.stop.Stop.TheVariants.{BadGraph, NoSource, NoText, LongText, ReadFault, NoMemory}
 use Rattle.command_line.specs.Requests.{asked_by, run}
@@ -19,6 +18,10 @@ Held = Option (List ℕ → Option (List ℕ))
 -- the most bytes of a graph file
 abbrev pub file_limit : ℕ
 file_limit = 4194304
+
+-- the most bytes of a text that is read
+abbrev pub text_limit : ℕ
+text_limit = 16777215
 
 -- these bytes are held under the name, and are no more than may be read
 abbrev pub IsHeld : Held → List ℕ → ℕ → List ℕ → Type 0
@@ -32,25 +35,33 @@ StopsAtName held name max (ReadFault n) = n ≡ name
 StopsAtName held name max NoMemory = Unit {0}
 StopsAtName held name max stop = ⊥
 
--- the rows are the texts of these names, as they are held
-pub record TextsAre (held : Held) (names : List (List ℕ)) (rows : List TextRow) : Type 0 where
-  pub named : map (λ (row : TextRow). row.name) rows ≡ names
-  pub read : All (λ (row : TextRow). IsHeld held row.name text_limit row.text) rows
+-- the text of a name: what is held under it, with an end to its last line
+pub record IsTextOf (held : Held) (name text : List ℕ) : Type 0 where
+  pub bytes : List ℕ
+  pub read : IsHeld held name text_limit bytes
+  pub is : text ≡ normal bytes
+
+-- the texts of these names, in their order
+abbrev pub TextsAre : Held → List (List ℕ) → List (List ℕ) → Type 0
+TextsAre held [] [] = Unit {0}
+TextsAre held [] (text ∷ texts) = ⊥
+TextsAre held (name ∷ names) [] = ⊥
+TextsAre held (name ∷ names) (text ∷ texts) = IsTextOf held name text × TextsAre held names texts
 
 -- the text of a name was read and stands behind the others
-pub record IsAdded (held : Held) (name : List ℕ) (old new : List TextRow) : Type 0 where
+pub record IsAdded (held : Held) (name : List ℕ) (old new : List (List ℕ)) : Type 0 where
   pub text : List ℕ
-  pub row : new ≡ old ++ record { name = name; text = text } ∷ []
-  pub read : IsHeld held name text_limit text
+  pub row : new ≡ old ++ text ∷ []
+  pub read : IsTextOf held name text
 
 -- why reading the texts of these names stops the call: at the first that can't be read
 pub record StopsAtText (held : Held) (names : List (List ℕ)) (stop : Stop) : Type 0 where
   pub before : List (List ℕ)
   pub name : List ℕ
   pub after : List (List ℕ)
-  pub rows : List TextRow
+  pub texts : List (List ℕ)
   pub parts : names ≡ before ++ name ∷ after
-  pub read : TextsAre held before rows
+  pub read : TextsAre held before texts
   pub stops : StopsAtName held name text_limit stop
 
 -- the graph has a task to begin with, or no task at all
@@ -59,7 +70,7 @@ HasStart plan = NoSourceAnswer plan None
 
 -- why bytes that were read as a graph file stop the call
 abbrev pub StopsAtBytes : List ℕ → Stop → Type 0
-StopsAtBytes bytes (BadGraph error) = (error ≢ NoMemoryToRead) × ((plan : PlanRows) → PlanText bytes plan → ⊥)
+StopsAtBytes bytes (BadGraph error) = IsRefused bytes error
 StopsAtBytes bytes (NoSource spot) = (plan : PlanRows) × PlanText bytes plan × NoSourceAnswer plan (Some spot)
 StopsAtBytes bytes NoMemory = Unit {0}
 StopsAtBytes bytes stop = ⊥
@@ -81,7 +92,7 @@ pub record StopsAtGraph (held : Held) (file : List ℕ) (stop : Stop) : Type 0 w
 pub record StopsAtPlanText (held : Held) (file : List ℕ) (stop : Stop) : Type 0 where
   pub plan : PlanRows
   pub has : HasPlan held file plan
-  pub stops : StopsAtText held (plan_texts plan) stop
+  pub stops : StopsAtText held plan.texts stop
 
 -- Why a call stops before its run: at the graph file, at the graph that it holds, or at a text.
 abbrev pub StopsBefore : Held → List ℕ → Stop → Type 0
@@ -90,7 +101,7 @@ StopsBefore held file stop = StopsAtName held file file_limit stop ⊎ StopsAtGr
 -- the job that a file asks for, over the texts as they are held, with at most so many starts
 pub record IsRequested (held : Held) (file : List ℕ) (limit : ℕ) (work : GraphWork) : Type 0 where
   pub plan : HasPlan held file work.plan
-  pub texts : TextsAre held (plan_texts work.plan) work.texts
+  pub texts : TextsAre held work.plan.texts work.texts
   pub top : work.«module» ≡ None
   pub input : work.input ≡ []
   pub starts : work.limit ≡ limit
@@ -122,4 +133,4 @@ pub record IsAtHand (held : Held) (arguments : List (List ℕ)) : Type 0 where
   pub specified : held ≡ Some text
   pub graph : IsSomeAnd (text file) (λ bytes. (length bytes ≤ file_limit) × PlanText bytes plan)
   pub source : HasStart plan
-  pub named : All (λ name. IsSomeAnd (text name) (λ bytes. length bytes ≤ text_limit)) (plan_texts plan)
+  pub named : All (λ name. IsSomeAnd (text name) (λ bytes. length bytes ≤ text_limit)) plan.texts

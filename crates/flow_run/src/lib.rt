@@ -13,8 +13,6 @@ mod reasons;
 mod report;
 mod status;
 mod stop;
-#[cfg(test)]
-mod tests;
 
 pub use call::{Outcome, flow_main};
 pub use note::put_note;

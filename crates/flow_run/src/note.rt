@@ -9,7 +9,8 @@ ghost use Rattle.flow_run.specs.declared.status.Status.TheVariants.{Done};
 
 use super::reasons::{add_fault, add_limit, add_numbered, add_stuck};
 use super::status::{Noted, Status};
-use graph_file::{GraphError, Kind, Spot};
+use graph_file::{GraphError, Kind};
+use graph_plans::Spot;
 use legal_run::Why;
 use outside_io::{Bytes, List, NoMemory, Sink, SinkFault};
 use std::alloc::Global;

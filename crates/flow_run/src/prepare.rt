@@ -1,17 +1,18 @@
 // From the name of a graph file to a job that is ready to run.
-ghost use Rattle.std.specs.Prelude.{◌≡◌, ◌≢◌, ◌≤◌, AllPairs, length, IfOk, IfErr, None};
-ghost use Rattle.graph_file.specs.PlanRows.{IsPlan, plan_rows};
+ghost use Rattle.std.specs.Prelude.{◌≡◌, ◌≤◌, IfOk, IfErr};
+ghost use Rattle.graph_plans.specs.PlanRows.{IsPlan, plan_rows};
 ghost use Rattle.graph_file.specs.PlanText.{PlanText};
-ghost use Rattle.text_tasks.specs.TextTable.{rows_of, text_in};
-ghost use Rattle.text_tasks.specs.GraphWork.{greatest_limit, text_limit};
+ghost use Rattle.text_tasks.specs.GraphWork.{greatest_limit};
 ghost use Rattle.text_tasks.specs.JobMeaning.{IsTextJob};
-ghost use Rattle.flow_run.specs.Requests.{CountsReads, HasStart, IsAdded, IsHeld, IsRequestedJob, StopsAtBytes, StopsAtName, StopsAtText, StopsBefore, TextsAre};
+ghost use Rattle.flow_run.specs.Requests.{CountsReads, HasStart, IsAdded, IsHeld, IsRequestedJob, StopsAtBytes, StopsAtName, StopsAtText, StopsBefore, TextsAre, text_limit};
 
 use super::stop::{Stop, refusal};
-use graph_file::{Plan, no_source, read_graph, text_names};
+use graph_file::read_graph;
+use graph_plans::{Plan, no_source};
 use outside_io::{Bytes, Found, List, Texts, TextsFault};
 use std::alloc::Global;
 use std::sync::Arc;
+use text_ops::Text;
 use text_tasks::{TextJob, TextTable, first_job};
 
 /// The most bytes of a graph file.
@@ -37,11 +38,10 @@ pub fn prepare<F: Texts>(
 {
     let bytes = read_named(alloc, texts, file, FILE_LIMIT)?;
     let plan = read_plan(alloc, bytes.as_slice())?;
-    let names = text_names(alloc, &plan)?;
-    let table = read_texts(alloc, texts, names.as_slice())?;
+    let table = read_texts(alloc, texts, plan.texts.as_slice())?;
     let plan = Arc::new(alloc, plan)?;
     let table = Arc::new(alloc, table)?;
-    Ok(first_job(alloc, plan, table, limit))
+    Ok(first_job(plan, table, limit))
 }
 
 // The text of a name, if it has at most so many bytes.
@@ -77,10 +77,9 @@ fn read_plan(alloc: Global, bytes: &[u8]) -> Result<Plan, Stop>
     }
 }
 
-// The texts of these names, which differ.
+// The texts of these names.
 fn read_texts<F: Texts>(alloc: Global, texts: &mut F, names: &[Bytes]) -> Result<TextTable, Stop>
-    requires { AllPairs (λ a b. a ≢ b) names.now }
-    ensures are { IfOk result (λ table. TextsAre (F.held texts.old) names.now (rows_of table)) }
+    ensures are { IfOk result (TextsAre (F.held texts.old) names.now) }
     ensures stops { IfErr result (StopsAtText (F.held texts.old) names.now) }
     ensures stays { F.held texts.new ≡ F.held texts.old }
     ensures counts { CountsReads (F.faults texts.old) (F.faults texts.new) result }
@@ -94,20 +93,19 @@ fn read_texts<F: Texts>(alloc: Global, texts: &mut F, names: &[Bytes]) -> Result
     Ok(table)
 }
 
-// Adds the text of a name that isn't in the table.
+// Adds the text of a name, with an end to its last line.
 fn add_text<F: Texts>(
     alloc: Global,
     texts: &mut F,
     table: &mut TextTable,
     name: &Bytes,
 ) -> Result<(), Stop>
-    requires { text_in (rows_of table.old) name.now ≡ None }
-    ensures added { IfOk result (λ _. IsAdded (F.held texts.old) name.now (rows_of table.old) (rows_of table.new)) }
+    ensures added { IfOk result (λ _. IsAdded (F.held texts.old) name.now table.old table.new) }
     ensures stops { IfErr result (StopsAtName (F.held texts.old) name.now text_limit) }
     ensures stays { F.held texts.new ≡ F.held texts.old }
     ensures counts { CountsReads (F.faults texts.old) (F.faults texts.new) result }
 {
-    let text = read_named(alloc, texts, name.as_slice(), TEXT_LIMIT)?;
-    table.add(name.copy()?, text)?;
+    let bytes = read_named(alloc, texts, name.as_slice(), TEXT_LIMIT)?;
+    table.add(Text::from_bytes(alloc, bytes)?)?;
     Ok(())
 }

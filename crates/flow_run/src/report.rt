@@ -116,7 +116,7 @@ fn put_outcome<S: Sink>(
     ensures { Writes (S.state out.old) (S.state out.new) (outcome name.now (option_copied value.entry)) result }
 {
     match value {
-        Some(item) => put_ended(alloc, out, name, item.text()),
+        Some(item) => put_ended(alloc, out, name, item.text().as_slice()),
         None => put_header(alloc, out, NOT_ENDED, name),
     }
 }

@@ -4,7 +4,8 @@ ghost use Rattle.flow_run.specs.Answers.{status_after, status_of};
 ghost use Rattle.flow_run.specs.Codes.{code_of};
 
 use super::stop::Stop;
-use graph_file::{GraphError, Spot};
+use graph_file::GraphError;
+use graph_plans::Spot;
 use legal_run::Why;
 use nested_runs::Reason;
 use outside_io::{Bytes, List};

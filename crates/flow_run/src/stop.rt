@@ -2,7 +2,8 @@
 ghost use Rattle.std.specs.Prelude.{◌≡◌, ◌≢◌, ◌⊎◌};
 ghost use Rattle.graph_file.specs.declared.refusals.GraphError.TheVariants.{NoMemory as NoMemoryToRead};
 
-use graph_file::{GraphError, Spot};
+use graph_file::GraphError;
+use graph_plans::Spot;
 use outside_io::{Bytes, NoMemory};
 use std::alloc::AllocFailed;
 

@@ -1,51 +1,27 @@
--- What is found in each item, while a loop goes over the items.
-use Rattle.std.proofs.Common.{◌≡◌, ℕ, ◌+◌, ◌<◌, List, [], ◌∷◌, ◌++◌, map, length, drop, get_or, Option, Some, None, option_map, refl, sym, ap, ◌∙◌, append_assoc, add-one}
+-- Lists that are read item by item.
+use Rattle.std.proofs.Common.{◌≡◌, List, [], ◌∷◌, ◌++◌, map, Option, Some, None, Ok, ok_or, option_and_then, option_map, refl, ap, sym, ◌∙◌, append_assoc}
 use Rattle.std.proofs.lemmas.List.{append-nil}
-use Rattle.std.proofs.lemmas.Iterator.Adapters.{option_map_id}
-use Rattle.std.proofs.Math.Seq.{drop-cons}
-use Rattle.graph_file.specs.Steps.{each}
+use Rattle.serde_json.specs.Data.{Data}
+use Rattle.graph_file.specs.declared.refusals.GraphError.{GraphError}
+use Rattle.graph_file.specs.Contents.{each}
+use Rattle.graph_file.specs.Steps.{◌>>=◌, walk}
+use Rattle.graph_file.specs.inside.Reading.{put_each}
 
--- of the items, `rest` are left, and those before gave `done`
-pub record HasRead {A B : Type 0} (f : A → Option B) (all rest : List A) (done : List B) : Type 0 where
-  pub front : each f all ≡ option_map (λ ys. done ++ ys) (each f rest)
+later : {X Y : Type 0} (f : X → Y) (e : GraphError) (ys : List Y) (x : X) (rest : Option (List X))
+    → (ok_or rest e >>= λ xs. Ok ((ys ++ f x ∷ []) ++ map f xs)) ≡ (ok_or (option_map (λ xs. x ∷ xs) rest) e >>= λ xs. Ok (ys ++ map f xs))
+later f e ys x None = refl
+later f e ys x (Some xs) = ap Ok (append_assoc ys (f x ∷ []) (map f xs))
 
-pub HasRead-start : {A B : Type 0} (f : A → Option B) (all : List A) → HasRead f all all []
-HasRead-start f all = record { front = sym (option_map_id (each f all)) }
+-- an item that holds nothing, or one behind which the rest is read
+walk-put_step : {X Y : Type 0} (content : Data → Option X) (f : X → Y) (e : GraphError) (ys : List Y) (first : Option X) (ds : List Data)
+    → ((x : X) → walk (put_each content f e) (ys ++ f x ∷ []) ds ≡ (ok_or (each content ds) e >>= λ xs. Ok ((ys ++ f x ∷ []) ++ map f xs)))
+    → ((ok_or first e >>= λ x. Ok (ys ++ f x ∷ [])) >>= λ next. walk (put_each content f e) next ds)
+    ≡ (ok_or (option_and_then (λ x. option_map (λ xs. x ∷ xs) (each content ds)) first) e >>= λ xs. Ok (ys ++ map f xs))
+walk-put_step content f e ys None ds rest = refl
+walk-put_step content f e ys (Some x) ds rest = rest x ∙ later f e ys x (each content ds)
 
-moved : {B : Type 0} (done : List B) (y : B) (found : Option (List B)) → option_map (λ ys. done ++ ys) (option_map (λ ys. y ∷ ys) found) ≡ option_map (λ ys. (done ++ y ∷ []) ++ ys) found
-moved done y None = refl
-moved done y (Some ys) = ap Some (sym (append_assoc done (y ∷ []) ys))
-
--- one item more was read
-pub HasRead-more : {A B : Type 0} (f : A → Option B) (all : List A) (x : A) (rest : List A) (done : List B) (y : B)
-    → f x ≡ Some y → HasRead f all (x ∷ rest) done → HasRead f all rest (done ++ y ∷ [])
-HasRead-more f all x rest done y is so_far = record { front = (rw is at so_far.front) ∙ moved done y (each f rest) }
-
--- nothing is in this item, so nothing is in all of them
-pub HasRead-none : {A B : Type 0} (f : A → Option B) (all : List A) (x : A) (rest : List A) (done : List B)
-    → f x ≡ None → HasRead f all (x ∷ rest) done → each f all ≡ None
-HasRead-none f all x rest done is so_far = rw is at so_far.front
-
--- no item is left
-pub HasRead-end : {A B : Type 0} (f : A → Option B) (all : List A) (done : List B) → HasRead f all [] done → each f all ≡ Some done
-HasRead-end f all done so_far = so_far.front ∙ ap Some (append-nil done)
-
--- ---- the same at place i of a list of values
-
-abbrev pub ReadBefore : {V A B : Type 0} → (V → A) → (A → Option B) → List V → ℕ → List B → Type 0
-ReadBefore v f vs i done = HasRead f (map v vs) (map v (drop i vs)) done
-
-next_of : {V A : Type 0} (v : V → A) (vs : List V) (i : ℕ) (x : V) → i < length vs → x ≡ get_or vs i x → map v (drop i vs) ≡ v x ∷ map v (drop (i + 1) vs)
-next_of v vs i x within is =
-    let e : drop i vs ≡ x ∷ drop (i + 1) vs = drop-cons vs i x within ∙ rw (← is, add-one i) refl in
-    rw e refl
-
-pub ReadBefore-more : {V A B : Type 0} (v : V → A) (f : A → Option B) (vs : List V) (i : ℕ) (x : V) (done : List B) (y : B)
-    → i < length vs → x ≡ get_or vs i x → f (v x) ≡ Some y → ReadBefore v f vs i done → ReadBefore v f vs (i + 1) (done ++ y ∷ [])
-ReadBefore-more v f vs i x done y within is found so_far =
-    HasRead-more f (map v vs) (v x) _ done y found (rw (next_of v vs i x within is) at so_far)
-
-pub ReadBefore-none : {V A B : Type 0} (v : V → A) (f : A → Option B) (vs : List V) (i : ℕ) (x : V) (done : List B)
-    → i < length vs → x ≡ get_or vs i x → f (v x) ≡ None → ReadBefore v f vs i done → each f (map v vs) ≡ None
-ReadBefore-none v f vs i x done within is found so_far =
-    HasRead-none f (map v vs) (v x) _ done found (rw (next_of v vs i x within is) at so_far)
+-- the items are read one after another just where each of them is read
+pub walk-put_each : {X Y : Type 0} (content : Data → Option X) (f : X → Y) (e : GraphError) (ys : List Y) (ds : List Data)
+    → walk (put_each content f e) ys ds ≡ (ok_or (each content ds) e >>= λ xs. Ok (ys ++ map f xs))
+walk-put_each content f e ys [] = ap Ok (sym (append-nil ys))
+walk-put_each content f e ys (d ∷ ds) = walk-put_step content f e ys (content d) ds (λ x. walk-put_each content f e (ys ++ f x ∷ []) ds)

@@ -1,29 +1,18 @@
 -- Nets in the making.
-use Rattle.std.proofs.Common.{◌≡◌, ◌≢◌, ℕ, ◌+◌, ◌<◌, ◌==◌, nat_lt, List, [], ◌∷◌, length, get_or, replicate, Option, Some, None, filter, find, refl, sym, subst, ap, ◌∙◌, arith}
+use Rattle.std.proofs.Common.{◌≡◌, ◌≢◌, ℕ, ◌<◌, ◌==◌, nat_lt, List, [], ◌∷◌, length, map, get_or, None, filter, find, refl, sym, subst, ap, ◌∙◌, arith}
 use Rattle.std.specs.Prelude.{count_by}
-use Rattle.std.specs.List.{list_any, range_with_len}
+use Rattle.std.specs.List.{All, list_any, range_with_len}
 use Rattle.std.specs.Option.{option_or}
 use Rattle.std.proofs.lemmas.Option.{none-some}
-use Rattle.std.proofs.lemmas.List.{replicate-append-replicate}
-use Rattle.std.specs.List.{All}
+use Rattle.std.proofs.lemmas.List.{get_or-map, length-map}
 use Rattle.task_graph.specs.NetRows.{NetRows}
-use Rattle.task_graph.specs.NetBuilder.{with_task, rising, settled, least_repeated, AddsTask, RefusesTask}
+use Rattle.task_graph.specs.NetBuilder.{with_task, settled, least_repeated, AddsTask, RefusesTask}
 use Rattle.task_graph.specs.declared.builder.BuildError.{BuildError}
 use Rattle.task_graph.specs.declared.builder.BuildError.TheVariants.{NoSuchTask, NoSuchSemaphore, ZeroCount, Repeated, WeakStart, TooMany, NoMemory}
-use Rattle.task_graph.specs.declared.net.Shape.TheVariants.{Plain}
+use Rattle.task_graph.specs.declared.net.Shape.{Shape}
 use Rattle.task_graph.specs.declared.net.TaskRow.{TaskRow}
-use Rattle.graph_file.specs.Draft.{plain_row}
-
--- what holds of each item holds of the one that the loop looks at
-pub All-at : {X : Type 0} (P : X → Type 0) (xs items : List X) (i : ℕ) (x : X) → items ≡ xs → i < length items → x ≡ get_or items i x → All P xs → P x
-All-at P xs items i x same within is all = subst P (sym is) (subst (All P) (sym same) all i x within)
-
--- the net of so many tasks and nothing else
-abbrev pub tasks_alone : ℕ → NetRows
-tasks_alone count = record { tasks = replicate count plain_row; edges = []; sems = [] }
-
-pub tasks_alone-more : (old new : NetRows) (count : ℕ) → old ≡ tasks_alone count → new ≡ with_task old plain_row → new ≡ tasks_alone (count + 1)
-tasks_alone-more old new count is added = added ∙ ap (λ net. with_task net plain_row) is ∙ rw (← replicate-append-replicate count 1 plain_row) refl
+use Rattle.graph_file.specs.declared.nets.Edge.{Edge}
+use Rattle.graph_file.specs.inside.Drafts.{IsAmong, edge_row}
 
 -- A list that names no semaphore names none twice, and has none in rising order.
 none_repeated : (sems : List ℕ) → find (λ s. nat_lt 1 (count_by (λ id. id == s) [])) sems ≡ None
@@ -34,18 +23,22 @@ none_rising : (sems : List ℕ) → filter (λ s. list_any (λ id. id == s) []) 
 none_rising [] = refl
 none_rising (x ∷ sems) = none_rising sems
 
--- A plain task without semaphores stands in the net as it is.
-plain_settled : (net : NetRows) → settled net plain_row ≡ plain_row
-plain_settled net = ap (λ (none : List ℕ). record { shape = Plain; takes = none; puts = none }) (none_rising (range_with_len 0 (length net.sems)))
+-- a task without semaphores
+abbrev pub bare_row : Shape → TaskRow
+bare_row shape = record { shape = shape; takes = []; puts = [] }
 
-pub plain_added : (net new : NetRows) (row : TaskRow) (id : ℕ) → row ≡ plain_row → AddsTask net row id new → new ≡ with_task net plain_row
-plain_added net new row id is added = added.rows ∙ ap (λ r. with_task net (settled net r)) is ∙ ap (with_task net) (plain_settled net)
+-- It stands in the net as it is.
+bare_settled : (net : NetRows) (shape : Shape) → settled net (bare_row shape) ≡ bare_row shape
+bare_settled net shape = ap (λ (none : List ℕ). record { shape = shape; takes = none; puts = none }) (none_rising (range_with_len 0 (length net.sems)))
+
+pub bare_added : (net new : NetRows) (row : TaskRow) (shape : Shape) (id : ℕ) → row ≡ bare_row shape → AddsTask net row id new → new ≡ with_task net (bare_row shape)
+bare_added net new row shape id is added = added.rows ∙ ap (λ r. with_task net (settled net r)) is ∙ ap (with_task net) (bare_settled net shape)
 
 -- Nothing but want of memory refuses it while the net has room.
-pub plain_not_refused : (net : NetRows) (row : TaskRow) (error : BuildError) → row ≡ plain_row → length net.tasks < 10000 → error ≢ NoMemory → RefusesTask net row error → ⊥
-plain_not_refused net row error is room other refused = by_error error other (subst (λ r. RefusesTask net r error) is refused)
+pub bare_not_refused : (net : NetRows) (row : TaskRow) (shape : Shape) (error : BuildError) → row ≡ bare_row shape → length net.tasks < 10000 → error ≢ NoMemory → RefusesTask net row error → ⊥
+bare_not_refused net row shape error is room other refused = by_error error other (subst (λ r. RefusesTask net r error) is refused)
   where
-    by_error : (e : BuildError) → e ≢ NoMemory → RefusesTask net plain_row e → ⊥
+    by_error : (e : BuildError) → e ≢ NoMemory → RefusesTask net (bare_row shape) e → ⊥
     by_error (NoSuchTask id) other never = never
     by_error (NoSuchSemaphore id) other unknown = none-some id unknown
     by_error ZeroCount other never = never
@@ -54,3 +47,9 @@ plain_not_refused net row error is room other refused = by_error error other (su
     by_error WeakStart other never = never
     by_error (TooMany count) other full = absurd (omega (arith, room, full.2))
     by_error NoMemory other refused = other refl
+
+-- the edge at a place is among the tasks
+pub among-at : (tasks : ℕ) (edges : List Edge) (i : ℕ) (d : Edge) → i < length edges → All (IsAmong tasks) (map edge_row edges) → IsAmong tasks (edge_row (get_or edges i d))
+among-at tasks edges i d within all =
+    let long : i < length (map edge_row edges) = rw (length-map edges edge_row) within in
+    subst (IsAmong tasks) (get_or-map edge_row edges i d (edge_row d) within) (all i (edge_row d) long)

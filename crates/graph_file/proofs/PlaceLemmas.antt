@@ -31,3 +31,9 @@ HasPlaces-more old new names i name within is so_far kept q =
     let longer : take (i + 1) names ≡ take i names ++ name ∷ [] = take_more names i name within ∙ rw (← is) refl in
     let number : length (take i names) ≡ i = length-take-le i names (omega arith) in
     kept q ∙ rw (so_far q) (sym (rw longer (position-snoc (bytes_eq q) (take i names) name ∙ rw number refl)))
+
+-- one name more at the end has its place
+pub HasPlaces-snoc : {S : Type 0} (old new : HashMap (Bor (List ℕ)) ℕ S) (names longer : List (List ℕ)) (name : List ℕ) (place : ℕ) → place ≡ length names → longer ≡ names ++ name ∷ []
+    → HasPlaces old names → KeepsPlace old name place new → HasPlaces new longer
+HasPlaces-snoc old new names longer name place number is so_far kept q =
+    kept q ∙ rw (so_far q, number, is) (sym (position-snoc (bytes_eq q) names name))

@@ -1,158 +1,172 @@
--- What holds of the plan of a file's tasks.
-use Rattle.std.proofs.Common.{◌≡◌, ◌≢◌, ℕ, suc, ◌+◌, ◌<◌, List, [], ◌∷◌, length, map, get_or, false, not, Option, Some, None, option_map, unwrap_or, IfOk, Result, Ok, Err, bytes_eq, refl, sym, ap, subst, ◌∙◌, arith}
-use Rattle.std.proofs.lemmas.Bool.{false≢true}
-use Rattle.std.proofs.lemmas.List.{length-map, length-replicate, get_or-map, get_or_default}
-use Rattle.std.proofs.lemmas.List.Elements.{All-append, All-cons, All-filter, All-map, All-nil, All-replicate}
-use Rattle.std.specs.List.{All, AllPairs, Contains, cons_option, filter_map, position}
+-- The plan of a file keeps its rules.
+use Rattle.std.proofs.Common.{◌≡◌, ℕ, suc, ◌+◌, ◌<◌, ◌≤◌, List, [], ◌∷◌, ◌++◌, map, length, Bool, true, false, not, leb, position, Ok, ok_or, All, refl, sym, ap, subst, ◌∙◌, bytes_eq, arith, append_assoc}
+use Rattle.std.proofs.lemmas.Bool.{false≢true, leb-true}
+use Rattle.std.proofs.lemmas.List.{append-nil, length-append, length-map}
+use Rattle.std.proofs.lemmas.List.Elements.{All-map, All-nil, All-push}
+use Rattle.std.specs.List.{list_any}
 use Rattle.serde_json.specs.Data.{Data}
 use Rattle.task_graph.specs.NetRows.{NetRows}
-use Rattle.task_graph.specs.Net.{AreSemaphoresOf, IsEdgeOf, IsNet, IsPlainNet, IsPlainTask, IsTaskOf}
+use Rattle.task_graph.specs.Net.{AreSemaphoresOf, IsNet, IsTaskOf}
 use Rattle.task_graph.specs.declared.net.EdgeRow.{EdgeRow}
-use Rattle.graph_file.specs.declared.draft.Draft.{Draft}
-use Rattle.graph_file.specs.declared.draft.Link.{Link}
-use Rattle.graph_file.specs.declared.ops.Op.{Op}
-use Rattle.graph_file.specs.declared.plans.Plan.{Plan}
+use Rattle.task_graph.specs.declared.net.TaskRow.{TaskRow}
+use Rattle.graph_plans.specs.declared.ops.Op.{Op}
+use Rattle.graph_plans.specs.Operations.{shape_of}
+use Rattle.graph_plans.specs.PlanRows.{AllDiffer, IsPlan, NeedsNoUnit, PlanRows, edge_limit, task_limit, text_count_limit}
 use Rattle.graph_file.specs.declared.refusals.GraphError.{GraphError}
-use Rattle.graph_file.specs.Draft.{KeepsRules, draft_of, edge_of, links_from, net_of, number_of, plain_row, plan_of}
-use Rattle.graph_file.specs.PlanRows.{IsPlan, IsTextName, plan_rows}
-use Rattle.graph_file.specs.inside.Reading.{AreFromTasks, Tests, link_to}
-use Rattle.graph_file.specs.TaskText.{TaskText, tasks_of}
-use Rattle.graph_file.specs.TextNames.{first_mentions, text_of}
-use Rattle.graph_file.proofs.RuleLemmas.{absent, place_within}
-use Rattle.graph_file.proofs.TaskLemmas.{NamesText, NamesText-tasks_of}
+use Rattle.graph_file.specs.declared.refusals.GraphError.TheVariants.{TooMany}
+use Rattle.graph_file.specs.declared.refusals.Kind.TheVariants.{Tasks, Edges, Texts}
+use Rattle.graph_file.specs.PlanText.{DraftRows, LinkRow, PlanText, add_edge, add_name, draft_in, json_in, plan_in, plan_of, plan_with, task_row, within_limits}
+use Rattle.graph_file.specs.Steps.{passed, walk}
+use Rattle.graph_file.specs.declared.nets.Edge.{Edge}
+use Rattle.graph_file.specs.inside.Drafts.{IsAmong, IsDraft, edge_row, edge_rows, net_with}
+use Rattle.graph_file.proofs.BindLemmas.{bind_ok, ok_or_ok, passed-ok}
+use Rattle.graph_file.proofs.DraftLemmas.{AllDiffer-push, IsDraft-of, place_within}
+use Rattle.graph_file.proofs.FineLemmas.{draft_in-tasks}
 
--- ---- the sources of links
+-- ---- edges
 
-are_from : (n : ℕ) (tasks : List TaskText) → All (λ (link : Link). link.from < n + length tasks) (links_from n tasks)
-are_from n [] = All-nil _
-are_from n (task ∷ tasks) =
-    let more : n + suc (length tasks) ≡ suc n + length tasks = omega arith in
-    let below : n < suc n + length tasks = omega arith in
-    rw more (All-append (λ (link : Link). link.from < suc n + length tasks) (map (link_to n) task.to) (links_from (suc n) tasks)
-    (All-map (λ (link : Link). link.from < suc n + length tasks) (link_to n) task.to (λ k d within. below)) (are_from (suc n) tasks))
+abbrev pub IsSourceOf : ℕ → LinkRow → Type 0
+IsSourceOf tasks link = link.from < tasks
 
-pub AreFromTasks-draft_of : (tasks : List TaskText) → AreFromTasks (draft_of tasks)
-AreFromTasks-draft_of tasks =
-    let count : length (map (λ (t : TaskText). t.name) tasks) ≡ 0 + length tasks = length-map tasks (λ (t : TaskText). t.name) ∙ omega arith in
-    rw count (are_from 0 tasks)
+-- each link became an edge of the tasks
+pub record AreEdges (tasks : ℕ) (old : List EdgeRow) (links : List LinkRow) (edges : List EdgeRow) : Type 0 where
+  pub among : All (IsAmong tasks) edges
+  pub starts : All (λ (edge : EdgeRow). edge.start ≡ false) edges
+  pub count : length edges ≡ length old + length links
 
--- ---- the numbers of names
+pub AreEdges-walk : (names : List (List ℕ)) (old : List EdgeRow) (links : List LinkRow) (edges : List EdgeRow) → All (IsSourceOf (length names)) links → All (IsAmong (length names)) old
+    → All (λ (edge : EdgeRow). edge.start ≡ false) old → walk (add_edge names) old links ≡ Ok edges → AreEdges (length names) old links edges
+AreEdges-walk names old [] edges sources among starts is =
+    let same : old ≡ edges = cc in
+    subst (AreEdges (length names) old []) same (record { among = among; starts = starts; count = omega arith })
+AreEdges-walk names old (link ∷ links) edges sources among starts is =
+    bind_ok (add_edge names old link) (λ next. walk (add_edge names) next links) edges is (λ next here rest.
+    bind_ok (ok_or (position (bytes_eq link.to) names) _) _ next here (λ to found put.
+    let edge : EdgeRow = record { from = link.from; to = to; start = false } in
+    let same : old ++ edge ∷ [] ≡ next = cc in
+    let at_edge : IsAmong (length names) edge = record { from = sources 0 link (omega arith); to = place_within names link.to to (ok_or_ok _ _ to found) } in
+    let others = AreEdges-walk names next links edges (λ k d within. sources (suc k) d (omega arith))
+    (subst (All (IsAmong (length names))) same (All-push (IsAmong (length names)) old edge among at_edge))
+    (subst (All (λ (e : EdgeRow). e.start ≡ false)) same (All-push (λ (e : EdgeRow). e.start ≡ false) old edge starts refl)) rest in
+    let longer : length next ≡ length old + 1 = ap length (sym same) ∙ length-append old (edge ∷ []) in
+    record { among = others.among; starts = others.starts; count = omega (arith, others.count, longer) }))
 
-number_step : (names : List (List ℕ)) (name : List ℕ) (place : Option ℕ) → position (bytes_eq name) names ≡ place → (place ≡ None → ⊥) → (unwrap_or place 0 < length names) × (get_or names (unwrap_or place 0) name ≡ name)
-number_step names name None is some_ = absurd (some_ refl)
-number_step names name (Some k) is some_ = place_within names name k is
+-- the edges of a draft
+pub AreEdges-draft : (draft : DraftRows) (edges : List EdgeRow) → IsDraft draft → walk (add_edge draft.names) [] draft.links ≡ Ok edges → AreEdges (length draft.names) [] draft.links edges
+AreEdges-draft draft edges is walked = AreEdges-walk draft.names [] draft.links edges is.sources (All-nil (IsAmong (length draft.names))) (All-nil (λ (edge : EdgeRow). edge.start ≡ false)) walked
 
--- the number of one of the names is its place
-number_at : (names : List (List ℕ)) (name : List ℕ) → Contains names name → (number_of names name < length names) × (get_or names (number_of names name) name ≡ name)
-number_at names name here = number_step names name (position (bytes_eq name) names) refl (λ none. absent names name none here)
+-- ---- names
 
--- different names have different numbers
-numbers_differ : (names : List (List ℕ)) (a b : List ℕ) → Contains names a → Contains names b → a ≢ b → number_of names a ≢ number_of names b
-numbers_differ names a b has_a has_b differ same =
-    let at_a = number_at names a has_a in
-    let at_b = number_at names b has_b in
-    differ (sym at_a.1 ∙ get_or_default names (number_of names a) a b at_a.0 ∙ ap (λ k. get_or names k b) same ∙ at_b.1)
+not_step : (test : Bool) → not test ≡ true → test ≡ false
+not_step true is = cc
+not_step false is = refl
 
--- ---- the net
+pub AllDiffer-walk : (before names r : List (List ℕ)) → AllDiffer before → walk add_name before names ≡ Ok r → AllDiffer (before ++ names)
+AllDiffer-walk before [] r differ is = rw append-nil differ
+AllDiffer-walk before (name ∷ names) r differ is =
+    bind_ok (add_name before name) (λ next. walk add_name next names) r is (λ next here rest.
+    let new = passed-ok (not (list_any (bytes_eq name) before)) _ _ next here in
+    let same : before ++ name ∷ [] ≡ next = cc (new.1) in
+    let longer : AllDiffer (before ++ name ∷ []) = AllDiffer-push before name differ (not_step _ new.0) in
+    let all = AllDiffer-walk next names r (subst AllDiffer same longer) rest in
+    subst AllDiffer (ap (λ ns. ns ++ names) (sym same) ∙ append_assoc before (name ∷ []) names) all)
 
-AreSemaphoresOf-none : (net : NetRows) → AreSemaphoresOf net []
-AreSemaphoresOf-none net = record { rising = λ k within. absurd (omega arith); in_range = All-nil _ }
+-- ---- limits
 
-pub IsNet-net_of : (draft : Draft) → KeepsRules draft → AreFromTasks draft → IsNet (net_of draft)
-IsNet-net_of draft rules sources =
-    let net = net_of draft in
-    let count : length net.tasks ≡ length draft.names = length-replicate (length draft.names) plain_row in
+pub record IsWithinLimits (draft : DraftRows) : Type 0 where
+  pub tasks : length draft.names ≤ task_limit
+  pub edges : length draft.links ≤ edge_limit
+  pub texts : length draft.texts ≤ text_count_limit
+
+last-passed : (test : Bool) (e : GraphError) → passed test e ≡ Ok tt → test ≡ true
+last-passed true e is = refl
+last-passed false e is = cc
+
+pub IsWithinLimits-passed : (draft : DraftRows) → within_limits draft ≡ Ok tt → IsWithinLimits draft
+IsWithinLimits-passed draft is =
+    let first = passed-ok (leb (length draft.names) task_limit) (TooMany Tasks) _ tt is in
+    let second = passed-ok (leb (length draft.links) edge_limit) (TooMany Edges) _ tt first.1 in
     record {
-      tasks = All-replicate (IsTaskOf net) (length draft.names) plain_row (record { takes = AreSemaphoresOf-none net; puts = AreSemaphoresOf-none net });
-      edges = All-map (IsEdgeOf net) (edge_of draft.names) draft.links (λ k d within. record {
-        from_in_range = rw count (sources k d within);
-        to_in_range = rw count (number_at draft.names _ (rules.known k d within)).0;
-        starts_strong = λ starts. absurd (false≢true starts);
-      });
-      sems = All-nil _;
-      task_count = omega (arith, count, rules.tasks);
-      edge_count = omega (arith, length-map draft.links (edge_of draft.names), rules.edges);
-      sem_count = omega arith;
+      tasks = leb-true (length draft.names) task_limit first.0;
+      edges = leb-true (length draft.links) edge_limit second.0;
+      texts = leb-true (length draft.texts) text_count_limit (last-passed _ (TooMany Texts) second.1);
     }
-
-IsPlainNet-net_of : (draft : Draft) → IsPlainNet (net_of draft)
-IsPlainNet-net_of draft = record {
-  tasks = All-replicate IsPlainTask (length draft.names) plain_row (record { shape = refl; takes = refl; puts = refl });
-  edges = All-map (λ (row : EdgeRow). row.start ≡ false) (edge_of draft.names) draft.links (λ k d within. refl);
-}
-
--- no two links lead to the same name, so no two edges lead to the same task
-single_targets : (draft : Draft) → KeepsRules draft → AllPairs (λ (a b : EdgeRow). a.to ≢ b.to) (map (edge_of draft.names) draft.links)
-single_targets draft rules i j d less within =
-    let names = draft.names in
-    let links = draft.links in
-    let long : j < length links = omega (arith, within, length-map links (edge_of names)) in
-    let short : i < length links = omega arith in
-    let e : Link = record { from = 0; to = [] } in
-    let a = get_or links i e in
-    let b = get_or links j e in
-    let target = λ (link : Link). link.to in
-    let at_a : get_or (map target links) i [] ≡ a.to = get_or-map target links i e [] short in
-    let at_b : get_or (map target links) j [] ≡ b.to = get_or-map target links j e [] long in
-    let apart : a.to ≢ b.to = λ same. rules.single i j [] less (rw (length-map links target) long) (at_a ∙ same ∙ sym at_b) in
-    rw (get_or-map (edge_of names) links i e d short, get_or-map (edge_of names) links j e d long)
-    (numbers_differ names a.to b.to (rules.known i e short) (rules.known j e long) apart)
-
--- ---- the texts
-
-All-first_mentions : (P : List ℕ → Type 0) (names : List (List ℕ)) → All P names → All P (first_mentions names)
-All-first_mentions P [] all = All-nil P
-All-first_mentions P (x ∷ xs) all =
-    All-cons P x _ (all 0 x (omega arith)) (All-filter (λ y. not (bytes_eq x y)) P (first_mentions xs) (All-first_mentions P xs (λ k d within. all (suc k) d (omega arith))))
-
-texts_step : (op : Op) (text : Option (List ℕ)) (rest : List (List ℕ)) → text_of op ≡ text → NamesText op → All IsTextName rest → All IsTextName (cons_option text rest)
-texts_step op None rest is names all = all
-texts_step op (Some text) rest is names all = All-cons IsTextName text rest (rw is at names) all
-
-All-texts : (ops : List Op) → All NamesText ops → All IsTextName (filter_map text_of ops)
-All-texts [] all = All-nil IsTextName
-All-texts (op ∷ ops) all = texts_step op (text_of op) _ refl (all 0 op (omega arith)) (All-texts ops (λ k d within. all (suc k) d (omega arith)))
 
 -- ---- the plan
 
-pub IsPlan-plan_of : (tasks : List TaskText) → KeepsRules (draft_of tasks) → All (λ (t : TaskText). NamesText t.op) tasks → IsPlan (plan_of (draft_of tasks))
-IsPlan-plan_of tasks rules names =
-    let draft = draft_of tasks in
-    let count = length-replicate (length draft.names) plain_row in
-    let ops = All-map NamesText (λ (t : TaskText). t.op) tasks names in
+no-semaphores : (net : NetRows) → AreSemaphoresOf net []
+no-semaphores net = record { rising = λ k within. absurd (omega arith); in_range = All-nil _ }
+
+IsNet-with : (ops : List Op) (edges : List EdgeRow) → All (IsAmong (length ops)) edges → All (λ (edge : EdgeRow). edge.start ≡ false) edges → length ops ≤ task_limit → length edges ≤ edge_limit → IsNet (net_with ops edges)
+IsNet-with ops edges among starts few_tasks few_edges =
+    let net = net_with ops edges in
+    let count : length (map task_row ops) ≡ length ops = length-map ops task_row in
+    record {
+      tasks = All-map (IsTaskOf net) task_row ops (λ k d within. record { takes = no-semaphores net; puts = no-semaphores net });
+      edges = λ k d within. let at_edge = among k d within in record {
+        from_in_range = rw count at_edge.from;
+        to_in_range = rw count at_edge.to;
+        starts_strong = λ starts_. absurd (false≢true (sym (starts k d within) ∙ starts_));
+      };
+      sems = All-nil _;
+      task_count = omega (arith, count, few_tasks);
+      edge_count = omega (arith, few_edges);
+      sem_count = omega arith;
+    }
+
+shapes-of : (ops : List Op) → map (λ (row : TaskRow). row.shape) (map task_row ops) ≡ map shape_of ops
+shapes-of [] = refl
+shapes-of (op ∷ ops) = ap (λ shapes. shape_of op ∷ shapes) (shapes-of ops)
+
+IsPlan-with : (draft : DraftRows) (edges : List EdgeRow) → IsDraft draft → AllDiffer draft.names → AreEdges (length draft.names) [] draft.links edges → IsWithinLimits draft → IsPlan (plan_with draft edges)
+IsPlan-with draft edges is differ are limits =
+    let count : length (map task_row draft.ops) ≡ length draft.names = length-map draft.ops task_row ∙ is.op_count in
+    let edge_count : length edges ≤ edge_limit = omega (arith, are.count, limits.edges) in
     record {
       name = refl;
       modules = refl;
       sem_names = refl;
-      net = IsNet-net_of draft rules (AreFromTasks-draft_of tasks);
-      plain = IsPlainNet-net_of draft;
+      net = IsNet-with draft.ops edges (rw (is.op_count) are.among) are.starts (omega (arith, is.op_count, limits.tasks)) edge_count;
       sems = refl;
+      no_units = All-map NeedsNoUnit task_row draft.ops (λ k d within. record { takes = refl; puts = refl });
+      no_first_tokens = are.starts;
       names = sym count;
-      ops = length-map tasks (λ (t : TaskText). t.op) ∙ sym (length-map tasks (λ (t : TaskText). t.name)) ∙ sym count;
-      names_differ = rules.names;
-      single = single_targets draft rules;
-      task_count = rw count rules.tasks;
-      edge_count = rw (length-map draft.links (edge_of draft.names)) rules.edges;
-      texts = All-first_mentions IsTextName (filter_map text_of draft.ops) (All-texts draft.ops ops);
-      text_count = rules.texts;
+      shapes = shapes-of draft.ops;
+      ops = is.ops;
+      names_differ = differ;
+      task_count = rw count limits.tasks;
+      edge_count = edge_count;
+      texts = is.texts;
+      texts_differ = is.texts_differ;
+      text_count = limits.texts;
     }
 
--- ---- the draft that was read
+IsPlan-draft : (draft : DraftRows) (plan : PlanRows) → IsDraft draft → plan_of draft ≡ Ok plan → IsPlan plan
+IsPlan-draft draft plan is planned =
+    bind_ok (walk (add_edge draft.names) [] draft.links) _ plan planned (λ edges walked after_edges.
+    bind_ok (walk add_name [] draft.names) _ plan after_edges (λ names named after_names.
+    bind_ok (within_limits draft) _ plan after_names (λ done limits last.
+    let same : plan_with draft edges ≡ plan = cc in
+    subst IsPlan same (IsPlan-with draft edges is (AllDiffer-walk [] draft.names names (λ i j d less within. absurd (omega arith)) named)
+    (AreEdges-draft draft edges is walked) (IsWithinLimits-passed draft limits)))))
 
-pub AreFromTasks-option : (found : Option (List TaskText)) (draft : Draft) → option_map draft_of found ≡ Some draft → AreFromTasks draft
-AreFromTasks-option None draft is = cc
-AreFromTasks-option (Some tasks) draft is = let same : draft_of tasks ≡ draft = cc in subst AreFromTasks same (AreFromTasks-draft_of tasks)
+pub IsDraft-read : (d : Data) (draft : DraftRows) → draft_in d ≡ Ok draft → IsDraft draft
+IsDraft-read d draft is = let tasks = draft_in-tasks d draft is in subst IsDraft tasks.2 (IsDraft-of tasks.0 tasks.1)
 
-IsPlan-option : (found : Option (List TaskText)) (draft : Draft) → option_map draft_of found ≡ Some draft → ((tasks : List TaskText) → found ≡ Some tasks → All (λ (t : TaskText). NamesText t.op) tasks)
-    → KeepsRules draft → IsPlan (plan_of draft)
-IsPlan-option None draft is names rules = cc
-IsPlan-option (Some tasks) draft is names rules =
-    let same : draft_of tasks ≡ draft = cc in
-    let kept : KeepsRules (draft_of tasks) = subst KeepsRules (sym same) rules in
-    subst (λ d. IsPlan (plan_of d)) same (IsPlan-plan_of tasks kept (names tasks refl))
+-- the plan that the bytes stand for keeps its rules
+pub IsPlan-read : (bytes : List ℕ) (plan : PlanRows) → PlanText bytes plan → IsPlan plan
+IsPlan-read bytes plan is =
+    bind_ok (json_in bytes) plan_in plan is (λ d json after.
+    bind_ok (draft_in d) plan_of plan after (λ draft read_ planned. IsPlan-draft draft plan (IsDraft-read d draft read_) planned))
 
--- the plan of a file's tasks keeps its rules
-pub IsPlan-result : (d : Data) (draft : Draft) (r : Result Plan GraphError) → option_map draft_of (tasks_of d) ≡ Some draft → Tests r (KeepsRules draft) → IfOk r (λ plan. plan_rows plan ≡ plan_of draft)
-    → IfOk r (λ plan. IsPlan (plan_rows plan))
-IsPlan-result d draft (Ok plan) is rules same = subst IsPlan (sym same) (IsPlan-option (tasks_of d) draft is (NamesText-tasks_of d) rules)
-IsPlan-result d draft (Err e) is rules same = tt
+-- ---- the edges, as the code has them
+
+pub few-edges : (draft : DraftRows) (edges shown : List Edge) → shown ≡ edges → IsDraft draft → walk (add_edge draft.names) [] draft.links ≡ Ok (edge_rows edges) → within_limits draft ≡ Ok tt → length shown ≤ edge_limit
+few-edges draft edges shown same is walked limits =
+    let are = AreEdges-draft draft (edge_rows edges) is walked in
+    let passed_ = IsWithinLimits-passed draft limits in
+    rw same (omega (arith, length-map edges edge_row, are.count, passed_.edges))
+
+pub among-ops : (draft : DraftRows) (edges shown : List Edge) (ops : List Op) → shown ≡ edges → ops ≡ draft.ops → IsDraft draft → walk (add_edge draft.names) [] draft.links ≡ Ok (edge_rows edges)
+    → All (IsAmong (length ops)) (edge_rows shown)
+among-ops draft edges shown ops same ops_same is walked = rw (same, ops_same, is.op_count) (AreEdges-draft draft (edge_rows edges) is walked).among

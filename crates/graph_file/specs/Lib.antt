@@ -1,8 +1,7 @@
-pub mod PlanRows
 pub mod Steps
-pub mod TaskText
-pub mod TextNames
-pub mod Draft
+pub mod Contents
+pub mod Fields
+pub mod OpRows
 pub mod PlanText
-pub mod Sources
+pub mod Written
 pub mod inside

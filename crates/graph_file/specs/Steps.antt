@@ -1,16 +1,23 @@
--- Steps that may give nothing.
-use Rattle.std.specs.Prelude.{List, [], ◌∷◌, Bool, Option, Some, None, option_and_then, option_map, if◌then◌else◌}
+-- Steps of which the first refusal counts.
+use Rattle.std.specs.Prelude.{List, [], ◌∷◌, Bool, Option, Some, None, Result, Ok, Err, if◌then◌else◌, ⊤}
+use Rattle.graph_file.specs.declared.refusals.GraphError.{GraphError}
 
--- the next step, of what the one before gave
+-- the next step, unless the one before refused
 infixl 10 ◌>>=◌
-abbrev pub ◌>>=◌ : {A B : Type 0} → Option A → (A → Option B) → Option B
-o >>= f = option_and_then f o
+abbrev pub ◌>>=◌ : {A B : Type 0} → Result A GraphError → (A → Result B GraphError) → Result B GraphError
+(Ok x) >>= f = f x
+(Err e) >>= f = Err e
 
--- x, if it passes the test
-abbrev pub passing : {A : Type 0} → (A → Bool) → A → Option A
-passing test x = if test x then Some x else None
+-- a step for each item in order, from the state that the one before left
+abbrev pub walk : {S A : Type 0} → (S → A → Result S GraphError) → S → List A → Result S GraphError
+walk step s [] = Ok s
+walk step s (x ∷ xs) = step s x >>= λ next. walk step next xs
 
--- what f gives of each item, if it gives something of each
-abbrev pub each : {A B : Type 0} → (A → Option B) → List A → Option (List B)
-each f [] = Some []
-each f (x ∷ xs) = option_and_then (λ y. option_map (λ ys. y ∷ ys) (each f xs)) (f x)
+-- this refusal, unless the test is passed
+abbrev pub passed : Bool → GraphError → Result ⊤ GraphError
+passed test refusal = if test then Ok tt else Err refusal
+
+-- the refusal of what was found, if something was
+abbrev pub unless : {A : Type 0} → Option A → (A → GraphError) → Result ⊤ GraphError
+unless None refusal = Ok tt
+unless (Some x) refusal = Err (refusal x)

@@ -1,3 +1,5 @@
 -- Internal: what the reader's steps answer, and what sets and maps know of names.
-pub mod Lookups
 pub mod Reading
+pub mod Drafts
+pub mod Fine
+pub mod Lookups

@@ -1,129 +1,128 @@
-// The fields of objects in a graph file.
-ghost use Rattle.std.specs.Prelude.{◌≡◌, ◌≢◌, not, string_bytes, map, option_and_then, option_map, is_none};
-ghost use Rattle.std.specs.List.{find, list_all, list_any};
+// The fields of the objects in a graph file.
+ghost use Rattle.std.specs.Prelude.{◌≡◌, [], ◌++◌, codes, map, option_and_then, option_map, string_bytes, ok_or};
 ghost use Rattle.std.specs.BTreeMap.{keys};
+ghost use Rattle.std.specs.List.{find, list_any};
 ghost use Rattle.std.specs.Str.{bytes_eq};
-ghost use Rattle.serde_json.specs.View.{items_view, view};
-ghost use Rattle.serde_json.specs.Find.{as_array, get};
-ghost use Rattle.graph_file.specs.Steps.{passing};
-ghost use Rattle.graph_file.specs.TaskText.{has_only, is_name, is_name_byte, is_text_name, is_word, name_of, string_in};
+ghost use Rattle.serde_json.specs.Find.{get};
+ghost use Rattle.serde_json.specs.View.{view};
+ghost use Rattle.graph_file.specs.Contents.{each, empty_list_of, lines_of, list_of, name_of, names_of, text_name_of, whole_of, word_of, words_of};
+ghost use Rattle.graph_file.specs.Fields.{allowed, is_unknown, needed, only, unknown};
+ghost use Rattle.graph_file.specs.PlanText.{task_fields};
+ghost use Rattle.graph_file.specs.inside.Reading.{Leads, Reads, ReadsAs, put_each};
+ghost use Rattle.graph_file.specs.Steps.{walk};
 
-use crate::refusals::{GraphError, Spot};
-use outside_io::Bytes;
+use crate::bad_fields::bad_field;
+use crate::contents::{list_of, name_of, text_name_of, whole_of, word_of};
+use crate::refusals::GraphError;
+use graph_plans::Spot;
+use outside_io::{Bytes, List};
 use serde_json::{Map, Value};
 use std::alloc::Global;
 
-const MAX_NAME_LEN: usize = 64;
+const MAX_LINES: u64 = 1_000_000_000;
 
-const MAX_TEXT_LEN: usize = 4_096;
+const MAX_WORDS: usize = 256;
 
-/// The refusal of a field's content, of a missing field or of an unknown one.
-pub(crate) fn bad_field(alloc: Global, spot: Spot, field: &str) -> GraphError
-    ensures { result ≢ GraphError.NoMemory → result ≡ GraphError.BadField spot field.now }
+/// The name of a task.
+pub(crate) fn read_name<'v>(
+    alloc: Global,
+    spot: Spot,
+    task: &'v Value,
+) -> Result<&'v str, GraphError>
+    ensures { ReadsAs (λ s. s.now) result (needed name_of spot (codes "name") (view task.now)) }
 {
-    match Bytes::from_slice(alloc, field.as_bytes()) {
-        Ok(field) => GraphError::BadField(spot, field),
-        Err(_) => GraphError::NoMemory,
-    }
-}
-
-/// A task's place. A number past the greatest `u32` is told as that one.
-pub(crate) fn task_spot(task: usize) -> Spot {
-    Spot::Task(u32::try_from(task).unwrap_or(u32::MAX))
-}
-
-#[tactic(auto, unfolding(crate::specs::TaskText::is_name_byte))]
-fn is_name_byte(byte: u8) -> bool
-    ensures { result ≡ is_name_byte byte }
-{
-    matches!(byte, b'A'..=b'Z' | b'a'..=b'z' | b'0'..=b'9' | b'_' | b'-' | b'.')
-}
-
-fn are_name_bytes(bytes: &[u8]) -> bool
-    ensures { result ≡ list_all is_name_byte bytes.now }
-{
-    bytes.iter().all(|byte| is_name_byte(*byte))
-}
-
-fn is_name(text: &str) -> bool
-    ensures { result ≡ is_name text.now }
-{
-    1 <= text.len() && text.len() <= MAX_NAME_LEN && are_name_bytes(text.as_bytes())
-}
-
-/// The string, if this is one and a name.
-pub(crate) fn name_of(value: &Value) -> Option<&str>
-    ensures { option_map (λ s. s.now) result ≡ name_of (view value.now) }
-{
-    let name = value.as_str()?;
-    if is_name(name) { Some(name) } else { None }
-}
-
-/// The string in a field, if there is one.
-pub(crate) fn string_in<'v>(object: &'v Value, field: &str) -> Option<&'v str>
-    ensures { option_map (λ s. s.now) result ≡ string_in field.now (view object.now) }
-{
-    object.get(field).and_then(Value::as_str)
-}
-
-/// The array in a field, if there is one.
-pub(crate) fn array_in<'v>(object: &'v Value, field: &str) -> Option<&'v Vec<Value>>
-    ensures { option_map (λ v. items_view v.now.items) result
-        ≡ option_and_then as_array (get field.now (view object.now)) }
-{
-    object.get(field).and_then(Value::as_array)
-}
-
-/// The string in a field, if it may name a text.
-pub(crate) fn text_name_in<'v>(object: &'v Value, field: &str) -> Option<&'v str>
-    ensures { option_map (λ s. s.now) result
-        ≡ option_and_then (passing is_text_name) (string_in field.now (view object.now)) }
-{
-    let text = string_in(object, field)?;
-    if 1 <= text.len() && text.len() <= MAX_TEXT_LEN {
-        Some(text)
-    } else {
-        None
-    }
-}
-
-/// The string in a field, if it isn't too long for a word.
-pub(crate) fn word_in<'v>(object: &'v Value, field: &str) -> Option<&'v str>
-    ensures { option_map (λ s. s.now) result
-        ≡ option_and_then (passing is_word) (string_in field.now (view object.now)) }
-{
-    let word = string_in(object, field)?;
-    if word.len() <= MAX_TEXT_LEN {
-        Some(word)
-    } else {
-        None
-    }
-}
-
-// Whether the key is one of these fields.
-fn is_known(fields: &[&str], key: &str) -> bool
-    ensures { result ≡ list_any (λ field. bytes_eq field.now key.now) fields.now }
-{
-    fields.iter().any(|field| *field == key)
-}
-
-fn unknown_key<'v>(object: &'v Map<String, Value>, fields: &[&str]) -> Option<&'v String>
-    ensures { option_map (λ k. k.now) result
-        ≡ find (λ key. not (list_any (λ field. bytes_eq field.now (string_bytes key)) fields.now)) (keys object.now) }
-{
-    object.keys().find(|key| !is_known(fields, key.as_str()))
-}
-
-/// The first field of an object, in the order of their bytes, that is none of these.
-#[tactic(auto, using(crate::proofs::FieldLemmas::has_only_other))]
-pub(crate) fn unknown_field<'v>(object: &'v Value, fields: &[&str]) -> Option<&'v str>
-    ensures { is_none result ≡ has_only (map (λ s. s.now) fields.now) (view object.now) }
-{
-    let Some(object) = object.as_object() else {
-        return None;
+    let Some(name) = task.get("name").and_then(name_of) else {
+        return Err(bad_field(alloc, spot, "name"));
     };
-    let Some(key) = unknown_key(object, fields) else {
-        return None;
+    Ok(name)
+}
+
+/// The name of the text that an operation reads.
+pub(crate) fn read_text_name<'v>(
+    alloc: Global,
+    spot: Spot,
+    object: &'v Value,
+) -> Result<&'v str, GraphError>
+    ensures { ReadsAs (λ s. s.now) result (needed text_name_of spot (codes "text") (view object.now)) }
+{
+    let Some(text) = object.get("text").and_then(text_name_of) else {
+        return Err(bad_field(alloc, spot, "text"));
     };
-    Some(key.as_str())
+    Ok(text)
+}
+
+/// The word of an operation.
+pub(crate) fn read_word(alloc: Global, spot: Spot, object: &Value) -> Result<Bytes, GraphError>
+    ensures { Reads result (needed word_of spot (codes "word") (view object.now)) }
+{
+    let Some(word) = object.get("word").and_then(word_of) else {
+        return Err(bad_field(alloc, spot, "word"));
+    };
+    Ok(Bytes::from_slice(alloc, word.as_bytes())?)
+}
+
+/// The number of lines that an operation names.
+pub(crate) fn read_lines(alloc: Global, spot: Spot, object: &Value) -> Result<u64, GraphError>
+    ensures { Reads result (needed lines_of spot (codes "n") (view object.now)) }
+{
+    let Some(lines) = object.get("n").and_then(lines_of) else {
+        return Err(bad_field(alloc, spot, "n"));
+    };
+    Ok(lines)
+}
+
+fn lines_of(value: &Value) -> Option<u64>
+    ensures { result ≡ lines_of (view value.now) }
+{
+    whole_of(value, 0, MAX_LINES)
+}
+
+// The items of a field, if it holds a list.
+fn list_in<'v>(object: &'v Value, field: &str) -> Option<&'v [Value]>
+    ensures { option_map (λ items. map view items.now) result ≡ option_and_then list_of (get field.now (view object.now)) }
+{
+    let list = object.get(field)?;
+    list_of(list)
+}
+
+/// The words of an operation.
+pub(crate) fn read_words(
+    alloc: Global,
+    spot: Spot,
+    object: &Value,
+) -> Result<List<Bytes>, GraphError>
+    ensures { Reads result (needed words_of spot (codes "words") (view object.now)) }
+{
+    let Some(words) = list_in(object, "words") else {
+        return Err(bad_field(alloc, spot, "words"));
+    };
+    if words.len() > MAX_WORDS {
+        return Err(bad_field(alloc, spot, "words"));
+    }
+    copied_words(alloc, spot, words)
+}
+
+fn copied_words(alloc: Global, spot: Spot, words: &[Value]) -> Result<List<Bytes>, GraphError>
+    ensures { Reads result (walk (put_each word_of (λ word. word) (GraphError.BadField spot (codes "words"))) [] (map view words.now)) }
+{
+    let mut copies = List::new(alloc);
+    for word in words {
+        copy_word(alloc, spot, word, &mut copies)?;
+    }
+    Ok(copies)
+}
+
+fn copy_word(
+    alloc: Global,
+    spot: Spot,
+    word: &Value,
+    copies: &mut List<Bytes>,
+) -> Result<(), GraphError>
+    ensures { Leads result copies.new (put_each word_of (λ word. word) (GraphError.BadField spot (codes "words")) copies.old (view word.now)) }
+{
+    let Some(word) = word_of(word) else {
+        return Err(bad_field(alloc, spot, "words"));
+    };
+    copies.push(Bytes::from_slice(alloc, word.as_bytes())?)?;
+    Ok(())
 }

@@ -1,89 +1,88 @@
 // The net of a graph file.
-ghost use Rattle.std.specs.Prelude.{◌≡◌, ◌<◌, ◌≤◌, [], length, replicate, false, Contains, IfOk, OnOk};
+ghost use Rattle.std.specs.Prelude.{◌≡◌, ◌<◌, ◌≤◌, [], All, IfOk, OnOk, false, length, map};
+ghost use Rattle.graph_plans.specs.Operations.{shape_of};
+ghost use Rattle.graph_plans.specs.PlanRows.{edge_limit, task_limit};
 ghost use Rattle.task_graph.specs.NetBuilder.{empty_net, with_edge, with_task};
-ghost use Rattle.graph_file.specs.Draft.{KeepsRules, net_of, number_of, plain_row};
-ghost use Rattle.graph_file.specs.inside.Lookups.{HasPlaces};
-ghost use Rattle.graph_file.specs.PlanRows.{edge_limit, task_limit};
-ghost use Rattle.graph_file.specs.inside.Reading.{AreFromTasks};
+ghost use Rattle.graph_file.specs.PlanText.{task_row};
+ghost use Rattle.graph_file.specs.inside.Drafts.{IsAmong, edge_row, net_with};
 
-use crate::draft::{Draft, Link};
-use crate::lookups::Places;
+use graph_plans::Op;
 use outside_io::{List, NoMemory};
 use std::alloc::Global;
 use task_graph::{BuildError, Net, NetBuilder, Shape};
 
-/// The net of these tasks.
-pub(crate) fn net_of(alloc: Global, draft: &Draft, places: &Places<'_>) -> Result<Net, NoMemory>
-    requires rules { KeepsRules draft.now }
-    requires sources { AreFromTasks draft.now }
-    requires places { HasPlaces places.now draft.now.names }
-    ensures { IfOk result (λ net. net ≡ net_of draft.now) }
+/// An edge by the numbers of its tasks.
+#[derive(Clone, Copy, Drop)]
+pub(crate) struct Edge {
+    pub from: usize,
+    pub to: usize,
+}
+
+/// The net of tasks with these operations, and of these edges.
+pub(crate) fn net_with(alloc: Global, ops: &[Op], edges: &[Edge]) -> Result<Net, NoMemory>
+    requires tasks { length ops.now ≤ task_limit }
+    requires edges { length edges.now ≤ edge_limit }
+    requires among { All (IsAmong (length ops.now)) (map edge_row edges.now) }
+    ensures { IfOk result (λ net. net ≡ net_with ops.now (map edge_row edges.now)) }
 {
     let mut builder = NetBuilder::new(alloc);
-    add_tasks(alloc, &mut builder, draft.names.len())?;
-    add_edges(&mut builder, draft, places)?;
+    add_tasks(alloc, &mut builder, ops)?;
+    add_edges(&mut builder, ops.len(), edges)?;
     Ok(builder.finish())
 }
 
-fn add_tasks(alloc: Global, builder: &mut NetBuilder, count: usize) -> Result<(), NoMemory>
+fn add_tasks(alloc: Global, builder: &mut NetBuilder, ops: &[Op]) -> Result<(), NoMemory>
     requires empty { builder.old ≡ empty_net }
-    requires room { count ≤ task_limit }
-    ensures { OnOk result (builder.new
-        ≡ record { tasks = replicate count plain_row; edges = []; sems = [] }) }
+    requires room { length ops.now ≤ task_limit }
+    ensures { OnOk result (builder.new ≡ net_with ops.now []) }
 {
-    for _ in 0..count {
-        add_task(alloc, builder)?;
+    for op in ops {
+        add_task(alloc, builder, op)?;
     }
     Ok(())
 }
 
-fn add_task(alloc: Global, builder: &mut NetBuilder) -> Result<(), NoMemory>
+fn add_task(alloc: Global, builder: &mut NetBuilder, op: &Op) -> Result<(), NoMemory>
     requires { length builder.old.tasks < task_limit }
-    ensures { OnOk result (builder.new ≡ with_task builder.old plain_row) }
+    ensures { OnOk result (builder.new ≡ with_task builder.old (task_row op.now)) }
 {
-    match builder.task(Shape::Plain, List::new(alloc), List::new(alloc)) {
+    match builder.task(shape_of(op), List::new(alloc), List::new(alloc)) {
         Ok(_) => Ok(()),
         Err(BuildError::NoMemory) => Err(NoMemory),
         Err(_) => unreachable!(),
     }
 }
 
-fn add_edges(builder: &mut NetBuilder, draft: &Draft, places: &Places<'_>) -> Result<(), NoMemory>
-    requires rules { KeepsRules draft.now }
-    requires sources { AreFromTasks draft.now }
-    requires places { HasPlaces places.now draft.now.names }
-    requires tasks { builder.old
-        ≡ record { tasks = replicate (length draft.now.names) plain_row; edges = []; sems = [] } }
-    ensures { OnOk result (builder.new ≡ net_of draft.now) }
+fn shape_of(op: &Op) -> Shape
+    ensures { result ≡ shape_of op.now }
 {
-    for link in draft.links.as_slice() {
-        add_edge(builder, link.from, place_of(draft, places, link))?;
+    match op {
+        Op::Input | Op::Read(_) | Op::Text(_) | Op::Match => Shape::Plain,
+        Op::Back | Op::IfMore(_) | Op::IfHas(_) => Shape::Choice,
+        Op::Route(_) => Shape::Many,
+    }
+}
+
+fn add_edges(builder: &mut NetBuilder, tasks: usize, edges: &[Edge]) -> Result<(), NoMemory>
+    requires tasks { (length builder.old.tasks ≡ tasks) × (tasks ≤ task_limit) }
+    requires none { builder.old.edges ≡ [] }
+    requires room { length edges.now ≤ edge_limit }
+    requires among { All (IsAmong tasks) (map edge_row edges.now) }
+    ensures { OnOk result (builder.new ≡ record builder.old { edges = map edge_row edges.now }) }
+{
+    for edge in edges {
+        add_edge(builder, *edge)?;
     }
     Ok(())
 }
 
-// The place of the task to which a link leads.
-fn place_of(draft: &Draft, places: &Places<'_>, link: &Link) -> usize
-    requires places { HasPlaces places.now draft.now.names }
-    requires known { Contains draft.now.names link.now.to }
-    ensures number { result ≡ number_of draft.now.names link.now.to }
-    ensures within { result < length draft.now.names }
-{
-    let Some(place) = places.get(link.to.as_slice()) else {
-        unreachable!()
-    };
-    *place
-}
-
-fn add_edge(builder: &mut NetBuilder, from: usize, to: usize) -> Result<(), NoMemory>
+fn add_edge(builder: &mut NetBuilder, edge: Edge) -> Result<(), NoMemory>
     requires tasks { length builder.old.tasks ≤ task_limit }
     requires room { length builder.old.edges < edge_limit }
-    requires from { from < length builder.old.tasks }
-    requires to { to < length builder.old.tasks }
-    ensures { OnOk result (builder.new
-        ≡ with_edge builder.old (record { from = from; to = to; start = false })) }
+    requires among { IsAmong (length builder.old.tasks) (edge_row edge) }
+    ensures { OnOk result (builder.new ≡ with_edge builder.old (edge_row edge)) }
 {
-    match builder.edge(from as u32, to as u32, false) {
+    match builder.edge(edge.from as u32, edge.to as u32, false) {
         Ok(_) => Ok(()),
         Err(BuildError::NoMemory) => Err(NoMemory),
         Err(_) => unreachable!(),

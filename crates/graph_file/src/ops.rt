@@ -1,20 +1,110 @@
-// The operations of tasks.
-use outside_io::Bytes;
+// The operations of a graph file: a row for each.
+ghost use Rattle.std.specs.Prelude.{◌≡◌, codes, map, option_and_then, option_map};
+ghost use Rattle.serde_json.specs.Find.{as_str, get};
+ghost use Rattle.serde_json.specs.View.{view};
+ghost use Rattle.graph_file.specs.OpRows.{does, op_called, op_in, op_rows, text_rows, used_by};
+ghost use Rattle.graph_file.specs.inside.Reading.{ReadsAs, found_op, found_text_op};
 
-/// An operation on one text.
-#[derive(Drop)]
-pub enum TextOp {
-    /// The lines in which this word occurs. It has at most 4,096 bytes.
-    Keep(Bytes),
-    /// One line, the number of lines in decimal.
-    Count,
+use crate::bad_fields::bad_field;
+use crate::fields::{read_lines, read_text_name, read_word, read_words};
+use crate::file_op::{FileOp, FoundOp, with};
+use crate::refusals::GraphError;
+use graph_plans::{Op, Spot, TextOp};
+use serde_json::Value;
+use std::alloc::Global;
+
+/// The operation of a task, with its own fields.
+pub(crate) fn read_op<'v>(
+    alloc: Global,
+    spot: Spot,
+    task: &'v Value,
+) -> Result<FoundOp<FileOp<'v>>, GraphError>
+    ensures { ReadsAs found_op result (op_in op_rows spot (view task.now)) }
+{
+    let Some(name) = op_name(task) else {
+        return Err(bad_field(alloc, spot, "op"));
+    };
+    read_op_called(alloc, name, spot, task)
 }
 
-/// What a task does.
-#[derive(Drop)]
-pub enum Op {
-    /// Reads the text of this name, which has 1 to 4,096 bytes.
-    Read(Bytes),
-    /// An operation on the task's text.
-    Text(TextOp),
+fn op_name(object: &Value) -> Option<&str>
+    ensures { option_map (λ s. s.now) result ≡ option_and_then as_str (get (codes "op") (view object.now)) }
+{
+    object.get("op")?.as_str()
+}
+
+// The operation of this name, with its own fields in an object.
+#[tactic(auto, unfolding(crate::specs::OpRows::op_rows))]
+fn read_op_called<'v>(
+    alloc: Global,
+    name: &str,
+    spot: Spot,
+    object: &'v Value,
+) -> Result<FoundOp<FileOp<'v>>, GraphError>
+    ensures { ReadsAs found_op result (op_called op_rows name.now spot (view object.now)) }
+{
+    Ok(match name {
+        "input" => with(&[], FileOp::Does(Op::Input)),
+        "read" => with(
+            &["text"],
+            FileOp::Reads(read_text_name(alloc, spot, object)?),
+        ),
+        "match" => with(&[], FileOp::Does(Op::Match)),
+        "back" => with(&[], FileOp::Does(Op::Back)),
+        "ifmore" => with(
+            &["n"],
+            FileOp::Does(Op::IfMore(read_lines(alloc, spot, object)?)),
+        ),
+        "ifhas" => with(
+            &["word"],
+            FileOp::Does(Op::IfHas(read_word(alloc, spot, object)?)),
+        ),
+        "route" => with(
+            &["words"],
+            FileOp::Does(Op::Route(read_words(alloc, spot, object)?)),
+        ),
+        _ => return read_used_text_op(alloc, name, spot, object),
+    })
+}
+
+// The operation on one text of this name, as a task's.
+#[tactic(auto, using(crate::proofs::OpLemmas::op_called_used))]
+fn read_used_text_op<'v>(
+    alloc: Global,
+    name: &str,
+    spot: Spot,
+    object: &'v Value,
+) -> Result<FoundOp<FileOp<'v>>, GraphError>
+    ensures { ReadsAs found_op result
+        (op_called (map (used_by (λ op. does (Op.Text op))) text_rows) name.now spot (view object.now)) }
+{
+    match read_text_op(alloc, name, spot, object) {
+        Ok(found) => Ok(with(found.fields, FileOp::Does(Op::Text(found.op)))),
+        Err(refusal) => Err(refusal),
+    }
+}
+
+/// The operation on one text of this name, with its own fields in an object.
+#[tactic(auto, unfolding(crate::specs::OpRows::text_rows))]
+pub(crate) fn read_text_op(
+    alloc: Global,
+    name: &str,
+    spot: Spot,
+    object: &Value,
+) -> Result<FoundOp<TextOp>, GraphError>
+    ensures { ReadsAs found_text_op result (op_called text_rows name.now spot (view object.now)) }
+{
+    Ok(match name {
+        "pass" => with(&[], TextOp::Pass),
+        "keep" => with(&["word"], TextOp::Keep(read_word(alloc, spot, object)?)),
+        "without" => with(&["word"], TextOp::Without(read_word(alloc, spot, object)?)),
+        "head" => with(&["n"], TextOp::Head(read_lines(alloc, spot, object)?)),
+        "tail" => with(&["n"], TextOp::Tail(read_lines(alloc, spot, object)?)),
+        "skip" => with(&["n"], TextOp::Skip(read_lines(alloc, spot, object)?)),
+        "sort" => with(&[], TextOp::Sort),
+        "uniq" => with(&[], TextOp::Uniq),
+        "count" => with(&[], TextOp::Count),
+        "tally" => with(&[], TextOp::Tally),
+        _ => return Err(bad_field(alloc, spot, "op")),
+    })
 }

@@ -1,20 +1,8 @@
 // Why bytes are no graph file.
 ghost use Rattle.graph_file.specs.declared.refusals.GraphError.TheVariants.{NoMemory as NoMemoryOf};
 
+use graph_plans::Spot;
 use outside_io::{Back, Bytes, NoMemory};
-
-/// A place in a graph file. Tasks, semaphores and modules are numbered from 0 in their lists.
-#[derive(Clone, Copy, Debug, PartialEq, Eq)]
-pub enum Spot {
-    File,
-    Sem(u32),
-    Task(u32),
-    Module(u32),
-    /// The module, and the semaphore in it.
-    ModuleSem(u32, u32),
-    /// The module, and the task in it.
-    ModuleTask(u32, u32),
-}
 
 /// What there may be too many of.
 #[derive(Clone, Copy, Debug, PartialEq, Eq)]

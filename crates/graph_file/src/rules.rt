@@ -1,19 +1,22 @@
-// The rules that the tasks of a file keep with one another.
-ghost use Rattle.std.specs.Prelude.{◌≡◌, ◌≢◌, ◌≤◌, ◌<◌, length, map, is_none, All, Contains, MatchOption, IfOk, position};
-ghost use Rattle.graph_file.specs.Draft.{AllDiffer, KeepsRules};
-ghost use Rattle.graph_file.specs.inside.Lookups.{HasPlaces, place_in};
-ghost use Rattle.graph_file.specs.PlanRows.{edge_limit, task_limit, text_count_limit};
-ghost use Rattle.graph_file.specs.inside.Reading.{Tests};
-ghost use Rattle.graph_file.specs.TextNames.{texts_of};
+// The tasks of a file taken together: names looked up, and limits.
+ghost use Rattle.std.specs.Prelude.{[], map};
+ghost use Rattle.graph_file.specs.PlanText.{add_edge, plan_of, within_limits};
+ghost use Rattle.graph_file.specs.Steps.{walk};
+ghost use Rattle.graph_plans.specs.PlanRows.{plan_rows};
+ghost use Rattle.graph_file.specs.inside.Drafts.{IsDraft, edge_rows, plan_around};
+ghost use Rattle.graph_file.specs.inside.Lookups.{HasPlaces};
+ghost use Rattle.graph_file.specs.inside.Reading.{Leads, Reads, ReadsAs, draft_rows, link_row};
 
+use crate::bad_fields::{no_such_name, repeated, task_spot};
 use crate::draft::{Draft, Link};
-use crate::fields::{bad_field, task_spot};
-use crate::lookups::{Places, note};
-use crate::mentions::names_of_texts;
-use crate::refusals::{GraphError, Kind, Spot};
-use outside_io::{Bytes, NoMemory};
+use crate::lookups::{Places, places_of};
+use crate::nets::{Edge, net_with};
+use crate::refusals::{GraphError, Kind};
+use graph_plans::{Graph, Plan};
+use outside_io::List;
 use std::alloc::Global;
-use std::collections::HashSet;
+use std::sync::Arc;
+use task_graph::Net;
 
 const MAX_TASKS: usize = 10_000;
 
@@ -21,82 +24,94 @@ const MAX_EDGES: usize = 100_000;
 
 const MAX_TEXTS: usize = 1_024;
 
-/// Whether the tasks keep their rules.
-pub(crate) fn check(alloc: Global, draft: &Draft, places: &Places<'_>) -> Result<(), GraphError>
-    requires { HasPlaces places.now draft.now.names }
-    ensures { Tests result (KeepsRules draft.now) }
+/// The plan of these tasks.
+pub(crate) fn plan_of(alloc: Global, draft: Draft<'_>) -> Result<Plan, GraphError>
+    requires { IsDraft (draft_rows draft) }
+    ensures { ReadsAs plan_rows result (plan_of (draft_rows draft.entry)) }
 {
-    let links = draft.links.as_slice();
-    check_targets(alloc, links)?;
-    if let Some(link) = first_unknown(draft, places) {
-        return Err(no_such_name(alloc, task_spot(links[link].from), "to"));
-    }
-    if let Some(task) = first_repeated(alloc, draft.names.as_slice())? {
+    let net = net_of(alloc, &draft)?;
+    let Ok(net) = Arc::new(alloc, net) else {
+        return Err(GraphError::NoMemory);
+    };
+    let top = Graph {
+        name: List::new(alloc),
+        names: draft.names,
+        ops: draft.ops,
+        sem_names: List::new(alloc),
+        net,
+    };
+    Ok(Plan {
+        top,
+        modules: List::new(alloc),
+        texts: draft.texts,
+    })
+}
+
+// The net of these tasks, if they keep the rules.
+fn net_of(alloc: Global, draft: &Draft<'_>) -> Result<Net, GraphError>
+    requires { IsDraft (draft_rows draft.now) }
+    ensures { ReadsAs (plan_around (draft_rows draft.now)) result (plan_of (draft_rows draft.now)) }
+{
+    let named = places_of(alloc, draft.names.as_slice())?;
+    let edges = edges_of(alloc, draft, &named.places)?;
+    if let Some(task) = named.repeated {
         return Err(repeated(alloc, task_spot(task), "name"));
     }
-    check_limits(alloc, draft)
+    check_limits(draft)?;
+    Ok(net_with(alloc, draft.ops.as_slice(), edges.as_slice())?)
 }
 
-/// Whether no two links lead to the same task.
-pub(crate) fn check_targets(alloc: Global, links: &[Link]) -> Result<(), GraphError>
-    ensures { Tests result (AllDiffer (map (λ link. link.to) links.now)) }
-{
-    match first_shared(alloc, links)? {
-        Some(link) => Err(bad_field(alloc, task_spot(links[link].from), "to")),
-        None => Ok(()),
-    }
-}
-
-// The first link that leads to a task to which one before it leads.
-fn first_shared(alloc: Global, links: &[Link]) -> Result<Option<usize>, NoMemory>
-    ensures { IfOk result (λ found. MatchOption found (AllDiffer (map (λ link. link.to) links.now))
-        (λ i. (i < length links.now) × (AllDiffer (map (λ link. link.to) links.now) → ⊥))) }
-{
-    let mut seen = HashSet::new(alloc);
-    for (i, link) in links.iter().enumerate() {
-        if !note(&mut seen, link.to.as_slice())? {
-            return Ok(Some(i));
-        }
-    }
-    Ok(None)
-}
-
-// The first link that leads to no task.
-fn first_unknown(draft: &Draft, places: &Places<'_>) -> Option<usize>
+// The edges by the numbers of their tasks.
+fn edges_of(alloc: Global, draft: &Draft<'_>, places: &Places<'_>) -> Result<List<Edge>, GraphError>
     requires { HasPlaces places.now draft.now.names }
-    ensures { MatchOption result (All (λ link. Contains draft.now.names link.to) draft.now.links)
-        (λ i. (i < length draft.now.links)
-        × (All (λ link. Contains draft.now.names link.to) draft.now.links → ⊥)) }
+    ensures { ReadsAs edge_rows result (walk (add_edge draft.now.names) [] (map link_row draft.now.links)) }
 {
-    place_of_unknown(draft.links.as_slice(), places)
+    let mut edges = List::new(alloc);
+    add_edges(alloc, draft, places, draft.links.as_slice(), &mut edges)?;
+    Ok(edges)
 }
 
-fn place_of_unknown(links: &[Link], places: &Places<'_>) -> Option<usize>
-    ensures { result ≡ position (λ link. is_none (place_in places.now link.to)) links.now }
+fn add_edges(
+    alloc: Global,
+    draft: &Draft<'_>,
+    places: &Places<'_>,
+    links: &[Link<'_>],
+    edges: &mut List<Edge>,
+) -> Result<(), GraphError>
+    requires { HasPlaces places.now draft.now.names }
+    ensures { Leads result (edge_rows edges.new)
+        (walk (add_edge draft.now.names) (edge_rows edges.old) (map link_row links.now)) }
 {
-    links
-        .iter()
-        .position(|link| !places.contains_key(link.to.as_slice()))
-}
-
-// The first name that stands before.
-fn first_repeated(alloc: Global, names: &[Bytes]) -> Result<Option<usize>, NoMemory>
-    ensures { IfOk result (λ found. MatchOption found (AllDiffer names.now)
-        (λ i. AllDiffer names.now → ⊥)) }
-{
-    let mut seen = HashSet::new(alloc);
-    for (i, name) in names.iter().enumerate() {
-        if !note(&mut seen, name.as_slice())? {
-            return Ok(Some(i));
+    for link in links {
+        if let Err(refusal) = add_edge(alloc, draft, places, link, edges) {
+            return Err(refusal);
         }
     }
-    Ok(None)
+    Ok(())
 }
 
-fn check_limits(alloc: Global, draft: &Draft) -> Result<(), GraphError>
-    ensures { Tests result ((length draft.now.names ≤ task_limit)
-        × (length draft.now.links ≤ edge_limit)
-        × (length (texts_of draft.now.ops) ≤ text_count_limit)) }
+fn add_edge(
+    alloc: Global,
+    draft: &Draft<'_>,
+    places: &Places<'_>,
+    link: &Link<'_>,
+    edges: &mut List<Edge>,
+) -> Result<(), GraphError>
+    requires { HasPlaces places.now draft.now.names }
+    ensures { Leads result (edge_rows edges.new) (add_edge draft.now.names (edge_rows edges.old) (link_row link.now)) }
+{
+    let Some(to) = places.get(link.to.as_bytes()) else {
+        return Err(no_such_name(alloc, task_spot(link.from), "to"));
+    };
+    edges.push(Edge {
+        from: link.from,
+        to: *to,
+    })?;
+    Ok(())
+}
+
+fn check_limits(draft: &Draft<'_>) -> Result<(), GraphError>
+    ensures { Reads result (within_limits (draft_rows draft.now)) }
 {
     if draft.names.len() > MAX_TASKS {
         return Err(GraphError::TooMany(Kind::Tasks));
@@ -104,26 +119,8 @@ fn check_limits(alloc: Global, draft: &Draft) -> Result<(), GraphError>
     if draft.links.len() > MAX_EDGES {
         return Err(GraphError::TooMany(Kind::Edges));
     }
-    if names_of_texts(alloc, draft.ops.as_slice())?.len() > MAX_TEXTS {
+    if draft.texts.len() > MAX_TEXTS {
         return Err(GraphError::TooMany(Kind::Texts));
     }
     Ok(())
-}
-
-fn no_such_name(alloc: Global, spot: Spot, field: &str) -> GraphError
-    ensures { result ≢ GraphError.NoMemory → result ≡ GraphError.NoSuchName spot field.now }
-{
-    match Bytes::from_slice(alloc, field.as_bytes()) {
-        Ok(field) => GraphError::NoSuchName(spot, field),
-        Err(_) => GraphError::NoMemory,
-    }
-}
-
-fn repeated(alloc: Global, spot: Spot, field: &str) -> GraphError
-    ensures { result ≢ GraphError.NoMemory → result ≡ GraphError.Repeated spot field.now }
-{
-    match Bytes::from_slice(alloc, field.as_bytes()) {
-        Ok(field) => GraphError::Repeated(spot, field),
-        Err(_) => GraphError::NoMemory,
-    }
 }

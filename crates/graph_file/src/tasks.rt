@@ -1,179 +1,212 @@
 // The tasks in a graph file.
-ghost use Rattle.std.specs.Prelude.{◌≡◌, ◌∷◌, map, codes, option_and_then, option_map, is_none, is_some};
-ghost use Rattle.std.specs.List.{list_all};
+ghost use Rattle.std.specs.Prelude.{◌≡◌, [], codes, map, IfOk, OnOk, if◌then◌else◌, Some, None};
 ghost use Rattle.serde_json.specs.View.{view};
-ghost use Rattle.serde_json.specs.Find.{as_object, get};
-ghost use Rattle.graph_file.specs.Draft.{draft_of};
-ghost use Rattle.graph_file.specs.inside.Reading.{LinksAnswer, Reads, TaskAnswer};
-ghost use Rattle.graph_file.specs.Steps.{each, passing};
-ghost use Rattle.graph_file.specs.TaskText.{fields_of, has_only, is_text_name, is_word, name_of, op_in, string_in, task_of, tasks_of, to_in};
+ghost use Rattle.graph_plans.specs.declared.spots.Spot.TheVariants.{File};
+ghost use Rattle.graph_file.specs.Contents.{empty_list_of, name_of, objects_of, whole_of};
+ghost use Rattle.graph_file.specs.Fields.{allowed, needed, task_spot};
+ghost use Rattle.graph_file.specs.PlanText.{draft_in, link_to, mentioned, no_tasks, numbered};
+ghost use Rattle.graph_file.specs.Steps.{walk};
+ghost use Rattle.graph_file.specs.inside.Lookups.{HasPlaces};
+ghost use Rattle.graph_file.specs.inside.Reading.{Leads, Reads, ReadsAs, add_task_steps, draft_rows, file_op_row, link_row, links_with, put_each, with_op};
 
+use crate::bad_fields::{bad_field, task_spot};
+use crate::contents::{list_of, name_of, objects_of, whole_of};
 use crate::draft::{Draft, Link};
-use crate::fields::{
-    array_in, bad_field, name_of, string_in, task_spot, text_name_in, unknown_field, word_in,
-};
-use crate::ops::{Op, TextOp};
-use crate::refusals::{GraphError, Spot};
-use crate::rules::check_targets;
-use outside_io::{Bytes, List};
+use crate::fields::read_name;
+use crate::file_op::FileOp;
+use crate::lookups::{Places, number_of};
+use crate::ops::read_op;
+use crate::refusals::GraphError;
+use crate::unknown::check_fields;
+use graph_plans::{Op, Spot};
+use outside_io::{Bytes, List, NoMemory};
 use serde_json::Value;
 use std::alloc::Global;
+use std::collections::HashMap;
 
 /// The tasks of a file.
-pub(crate) fn read_file(alloc: Global, file: &Value) -> Result<Draft, GraphError>
-    ensures { Reads result (option_map draft_of (tasks_of (view file.now))) }
+#[tactic(auto, using(crate::proofs::TaskLemmas::walk_steps))]
+pub(crate) fn read_file<'v>(alloc: Global, file: &'v Value) -> Result<Draft<'v>, GraphError>
+    ensures { ReadsAs draft_rows result (draft_in (view file.now)) }
 {
-    let Some(tasks) = array_in(file, "tasks") else {
+    read_version(alloc, file)?;
+    let tasks = task_list(alloc, file)?;
+    check_none(alloc, Spot::File, "semaphores", file)?;
+    check_none(alloc, Spot::File, "modules", file)?;
+    let fields = &["version", "tasks", "semaphores", "modules"];
+    check_fields(alloc, Spot::File, file, fields, &[])?;
+    read_tasks(alloc, tasks)
+}
+
+fn read_version(alloc: Global, file: &Value) -> Result<u64, GraphError>
+    ensures { Reads result (allowed 1 (whole_of 1 1) File (codes "version") (view file.now)) }
+{
+    let Some(version) = file.get("version") else {
+        return Ok(1);
+    };
+    match whole_of(version, 1, 1) {
+        Some(version) => Ok(version),
+        None => Err(bad_field(alloc, Spot::File, "version")),
+    }
+}
+
+fn task_list<'v>(alloc: Global, file: &'v Value) -> Result<&'v [Value], GraphError>
+    ensures { ReadsAs (λ items. map view items.now) result (needed objects_of File (codes "tasks") (view file.now)) }
+{
+    let Some(tasks) = file.get("tasks").and_then(objects_of) else {
         return Err(bad_field(alloc, Spot::File, "tasks"));
     };
-    if !are_objects(tasks.as_slice()) {
-        return Err(bad_field(alloc, Spot::File, "tasks"));
-    }
-    if let Some(field) = unknown_field(file, &["tasks"]) {
-        return Err(bad_field(alloc, Spot::File, field));
-    }
-    read_tasks(alloc, tasks.as_slice())
+    Ok(tasks)
 }
 
-fn are_objects(values: &[Value]) -> bool
-    ensures { result ≡ list_all (λ value. is_some (as_object (view value))) values.now }
+// That a field is missing or holds the list without items.
+fn check_none(alloc: Global, spot: Spot, field: &str, object: &Value) -> Result<(), GraphError>
+    ensures { Leads result [] (allowed [] empty_list_of spot field.now (view object.now)) }
 {
-    values.iter().all(|value| value.is_object())
+    let Some(list) = object.get(field) else {
+        return Ok(());
+    };
+    if is_empty_list(list) {
+        Ok(())
+    } else {
+        Err(bad_field(alloc, spot, field))
+    }
 }
 
-fn read_tasks(alloc: Global, tasks: &[Value]) -> Result<Draft, GraphError>
-    ensures { Reads result (option_map draft_of (each task_of (map view tasks.now))) }
+fn is_empty_list(value: &Value) -> bool
+    ensures { (if result then Some [] else None) ≡ empty_list_of (view value.now) }
+{
+    match list_of(value) {
+        Some(items) => items.is_empty(),
+        None => false,
+    }
+}
+
+fn read_tasks<'v>(alloc: Global, tasks: &'v [Value]) -> Result<Draft<'v>, GraphError>
+    ensures { ReadsAs draft_rows result (walk add_task_steps no_tasks (map view tasks.now)) }
 {
     let mut draft = Draft {
         names: List::new(alloc),
         ops: List::new(alloc),
         links: List::new(alloc),
+        texts: List::new(alloc),
     };
+    let mut numbers = HashMap::new(alloc);
     for task in tasks {
-        if let Err(error) = read_task(alloc, task, &mut draft) {
-            return Err(first_refusal(alloc, draft.links.as_slice(), error));
-        }
+        read_task(alloc, task, &mut draft, &mut numbers)?;
     }
     Ok(draft)
 }
 
-// A second edge to a task, if these links have one; else the refusal of what stands after them.
-fn first_refusal(alloc: Global, links: &[Link], later: GraphError) -> GraphError
-    ensures { later ≡ GraphError.NoMemory → result ≡ GraphError.NoMemory }
-{
-    if let GraphError::NoMemory = later {
-        return GraphError::NoMemory;
-    }
-    match check_targets(alloc, links) {
-        Ok(()) => later,
-        Err(error) => error,
-    }
-}
-
-// Puts the task at the end of the draft.
-fn read_task(alloc: Global, task: &Value, draft: &mut Draft) -> Result<(), GraphError>
-    ensures { TaskAnswer draft.old (task_of (view task.now)) result draft.new }
+// Puts a task at the end of the draft.
+fn read_task<'v>(
+    alloc: Global,
+    task: &'v Value,
+    draft: &mut Draft<'v>,
+    numbers: &mut Places<'v>,
+) -> Result<(), GraphError>
+    requires { HasPlaces numbers.old draft.old.texts }
+    ensures draft { Leads result (draft_rows draft.new) (add_task_steps (draft_rows draft.old) (view task.now)) }
+    ensures numbers { OnOk result (HasPlaces numbers.new draft.new.texts) }
 {
     let number = draft.names.len();
     let spot = task_spot(number);
     let name = read_name(alloc, spot, task)?;
-    let op = read_op(alloc, spot, task)?;
+    let found = read_op(alloc, spot, task)?;
     read_to(alloc, number, task, &mut draft.links)?;
-    if let Some(field) = unknown_task_field(task, &op) {
-        return Err(bad_field(alloc, spot, field));
-    }
-    draft.names.push(name)?;
-    draft.ops.push(op)?;
-    Ok(())
-}
-
-fn read_name(alloc: Global, spot: Spot, task: &Value) -> Result<Bytes, GraphError>
-    ensures { Reads result (option_and_then name_of (get (codes "name") (view task.now))) }
-{
-    let Some(name) = task.get("name").and_then(name_of) else {
-        return Err(bad_field(alloc, spot, "name"));
-    };
-    Ok(Bytes::from_slice(alloc, name.as_bytes())?)
-}
-
-fn read_op(alloc: Global, spot: Spot, task: &Value) -> Result<Op, GraphError>
-    ensures { Reads result (op_in (view task.now)) }
-{
-    let Some(name) = string_in(task, "op") else {
-        return Err(bad_field(alloc, spot, "op"));
-    };
-    match name {
-        "read" => read_text(alloc, spot, task),
-        "keep" => read_keep(alloc, spot, task),
-        "count" => Ok(Op::Text(TextOp::Count)),
-        _ => Err(bad_field(alloc, spot, "op")),
-    }
-}
-
-fn read_text(alloc: Global, spot: Spot, task: &Value) -> Result<Op, GraphError>
-    ensures { Reads result (option_map Op.Read
-        (option_and_then (passing is_text_name) (string_in (codes "text") (view task.now)))) }
-{
-    let Some(text) = text_name_in(task, "text") else {
-        return Err(bad_field(alloc, spot, "text"));
-    };
-    Ok(Op::Read(Bytes::from_slice(alloc, text.as_bytes())?))
-}
-
-fn read_keep(alloc: Global, spot: Spot, task: &Value) -> Result<Op, GraphError>
-    ensures { Reads result (option_map (λ word. Op.Text (TextOp.Keep word))
-        (option_and_then (passing is_word) (string_in (codes "word") (view task.now)))) }
-{
-    let Some(word) = word_in(task, "word") else {
-        return Err(bad_field(alloc, spot, "word"));
-    };
-    let word = Bytes::from_slice(alloc, word.as_bytes())?;
-    Ok(Op::Text(TextOp::Keep(word)))
+    check_none(alloc, spot, "holds", task)?;
+    let fields = &["name", "op", "to", "holds"];
+    check_fields(alloc, spot, task, fields, found.fields)?;
+    Ok(put_op(alloc, name, found.op, draft, numbers)?)
 }
 
 // Puts the edges out of a task at the end.
-fn read_to(
+fn read_to<'v>(
     alloc: Global,
     from: usize,
-    task: &Value,
-    links: &mut List<Link>,
+    task: &'v Value,
+    links: &mut List<Link<'v>>,
 ) -> Result<(), GraphError>
-    ensures { LinksAnswer from links.old (to_in (view task.now)) result links.new }
+    ensures { Leads result (map link_row links.new) (links_with from (map link_row links.old) (view task.now)) }
 {
     let Some(to) = task.get("to") else {
         return Ok(());
     };
-    let Some(names) = to.as_array() else {
+    let Some(names) = list_of(to) else {
         return Err(bad_field(alloc, task_spot(from), "to"));
     };
-    read_links(alloc, from, names.as_slice(), links)
+    read_links(alloc, from, names, links)
 }
 
-fn read_links(
+fn read_links<'v>(
     alloc: Global,
     from: usize,
-    names: &[Value],
-    links: &mut List<Link>,
+    names: &'v [Value],
+    links: &mut List<Link<'v>>,
 ) -> Result<(), GraphError>
-    ensures { LinksAnswer from links.old (each name_of (map view names.now)) result links.new }
+    ensures { Leads result (map link_row links.new)
+        (walk (put_each name_of (link_to from) (GraphError.BadField (task_spot from) (codes "to"))) (map link_row links.old) (map view names.now)) }
 {
     for name in names {
-        let Some(name) = name_of(name) else {
-            return Err(bad_field(alloc, task_spot(from), "to"));
-        };
-        let to = Bytes::from_slice(alloc, name.as_bytes())?;
-        links.push(Link { from, to })?;
+        read_link(alloc, from, name, links)?;
     }
     Ok(())
 }
 
-fn unknown_task_field<'v>(task: &'v Value, op: &Op) -> Option<&'v str>
-    ensures { is_none result ≡ has_only
-        (codes "name" ∷ codes "op" ∷ codes "to" ∷ fields_of op.now) (view task.now) }
+fn read_link<'v>(
+    alloc: Global,
+    from: usize,
+    name: &'v Value,
+    links: &mut List<Link<'v>>,
+) -> Result<(), GraphError>
+    ensures { Leads result (map link_row links.new)
+        (put_each name_of (link_to from) (GraphError.BadField (task_spot from) (codes "to")) (map link_row links.old) (view name.now)) }
+{
+    let Some(to) = name_of(name) else {
+        return Err(bad_field(alloc, task_spot(from), "to"));
+    };
+    links.push(Link { from, to })?;
+    Ok(())
+}
+
+// Puts a task's name and operation at the end, and its text among the texts.
+fn put_op<'v>(
+    alloc: Global,
+    name: &str,
+    op: FileOp<'v>,
+    draft: &mut Draft<'v>,
+    numbers: &mut Places<'v>,
+) -> Result<(), NoMemory>
+    requires { HasPlaces numbers.old draft.old.texts }
+    ensures draft { OnOk result (draft_rows draft.new
+        ≡ with_op (draft_rows draft.old) name.now (file_op_row op.entry) (map link_row draft.old.links)) }
+    ensures numbers { OnOk result (HasPlaces numbers.new draft.new.texts) }
+{
+    let op = numbered(alloc, op, &mut draft.texts, numbers)?;
+    draft
+        .names
+        .push(Bytes::from_slice(alloc, name.as_bytes())?)?;
+    draft.ops.push(op)?;
+    Ok(())
+}
+
+// The operation as a plan has it. What it reads is put among the texts.
+fn numbered<'v>(
+    alloc: Global,
+    op: FileOp<'v>,
+    texts: &mut List<Bytes>,
+    numbers: &mut Places<'v>,
+) -> Result<Op, NoMemory>
+    requires { HasPlaces numbers.old texts.old }
+    ensures op { IfOk result (λ made. made ≡ numbered texts.old (file_op_row op.entry)) }
+    ensures texts { OnOk result (texts.new ≡ mentioned texts.old (file_op_row op.entry)) }
+    ensures numbers { OnOk result (HasPlaces numbers.new texts.new) }
 {
     match op {
-        Op::Read(_) => unknown_field(task, &["name", "op", "to", "text"]),
-        Op::Text(TextOp::Keep(_)) => unknown_field(task, &["name", "op", "to", "word"]),
-        Op::Text(TextOp::Count) => unknown_field(task, &["name", "op", "to"]),
+        FileOp::Reads(text) => {
+            let number = number_of(alloc, text, texts, numbers)?;
+            Ok(Op::Read(u32::try_from(number).unwrap_or(u32::MAX)))
+        }
+        FileOp::Does(op) => Ok(op),
     }
 }

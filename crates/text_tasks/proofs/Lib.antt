@@ -1,7 +1,4 @@
-pub mod Examples
-pub mod LineLemmas
-pub mod KeepLemmas
-pub mod PlaceLemmas
-pub mod CountLemmas
-pub mod Jobs
-pub mod Bounds
+pub mod FoundLemmas
+pub mod WorkLemmas
+pub mod PlanLemmas
+pub mod WorkedJobs

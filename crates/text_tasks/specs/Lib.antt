@@ -1,9 +1,8 @@
-pub mod Lines
-pub mod TextMeaning
-pub mod TextTable
 pub mod Items
-pub mod GraphWork
-pub mod JobMeaning
 pub mod ValueTexts
+pub mod GraphWork
+pub mod FoundTexts
+pub mod OpMeaning
+pub mod JobMeaning
 pub mod JobLaws
 pub mod inside

@@ -1,3 +1,5 @@
--- Internal: the line that a search finds, and what a job is made of.
-pub mod FoundLine
+-- Internal: what a job is made of, and what the private functions say to one another.
 pub mod Works
+pub mod Finding
+pub mod Working
+pub mod WorkedPlans

@@ -2,22 +2,20 @@
 ghost use Rattle.std.specs.Prelude.{◌≡◌};
 ghost use Rattle.text_tasks.specs.Items.{item_text};
 
-use outside_io::Bytes;
-
 /// What a text task ends with.
 #[derive(Drop)]
 pub enum Item {
-    /// A text. It is normal: empty, or ending with a line's end.
-    Text(Bytes),
+    /// A text. Its bytes may be shared with other values.
+    Text(text_ops::Text),
 }
 
 impl Item {
     /// The text of a value.
-    pub fn text(&self) -> &[u8]
+    pub fn text(&self) -> &text_ops::Text
         ensures { result.now ≡ item_text self.now }
     {
         match self {
-            Item::Text(text) => text.as_slice(),
+            Item::Text(text) => text,
         }
     }
 }

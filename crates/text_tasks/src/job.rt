@@ -1,31 +1,25 @@
 // The jobs of graph files.
-ghost use Rattle.std.specs.Prelude.{◌≡◌, ◌≤◌, [], length, map, IfOk, IfErr, unwrap_or};
+ghost use Rattle.std.specs.Prelude.{◌≡◌, length, map, IfOk, IfErr};
 ghost use Rattle.std.specs.Arc.{arc_value};
-ghost use Rattle.graph_file.specs.PlanRows.{plan_rows};
-ghost use Rattle.text_tasks.specs.TextTable.{rows_of, text_in};
-ghost use Rattle.text_tasks.specs.GraphWork.{IsWork, first_work, graph_of};
-ghost use Rattle.text_tasks.specs.Lines.{IsNormal, normal};
-ghost use Rattle.text_tasks.specs.JobMeaning.{text_found, text_op_value, value_on, AnswersWith, MayFault};
+ghost use Rattle.graph_plans.specs.PlanRows.{plan_rows};
+ghost use Rattle.run_frame.specs.FlatNets.{IsFlatNet};
+ghost use Rattle.run_frame.specs.Meaning.{FaultAllowed, IsRelease};
 ghost use Rattle.join_words.specs.Ins.{parts_of, found_of};
-ghost use Rattle.run_frame.specs.Meaning.{IsRelease};
+ghost use Rattle.text_tasks.specs.GraphWork.{IsWork, first_work, graph_of};
+ghost use Rattle.text_tasks.specs.JobMeaning.{net_of};
 
-use super::item::Item;
-use super::kept_lines::keep;
-use super::line_count::count;
-use super::normal_text::{is_normal, normal};
-use super::table::TextTable;
-use graph_file::{Graph, Op, Plan, TextOp};
-use join_words::{Given, Ins};
+use crate::item::Item;
+use crate::table::TextTable;
+use graph_plans::{Graph, Plan};
+use join_words::Ins;
 use legal_run::Why;
-use outside_io::{Bytes, List, NoMemory};
-use run_frame::{Answer, Done, Job, JobError, Valued};
+use outside_io::Bytes;
+use run_frame::{Done, Job, JobError, Valued};
 use std::alloc::Global;
 use std::marker::Model;
 use std::sync::Arc;
 use task_graph::Net;
-
-/// The most bytes of a value.
-pub const VALUE_LIMIT: u64 = 16_777_216;
+use text_ops::{ApplyError, Text};
 
 /// A job of text tasks.
 #[derive(Drop)]
@@ -34,13 +28,13 @@ pub enum TextJob {
     Graph(GraphJob),
 }
 
-/// A graph of a plan, over texts by name. Contracts see it as a `GraphWork`.
+/// A graph of a plan, with the texts that it reads. Contracts see it as a `GraphWork`.
 #[derive(Drop)]
 pub struct GraphJob {
-    plan: Arc<Plan>,
-    texts: Arc<TextTable>,
+    pub(crate) plan: Arc<Plan>,
+    pub(crate) texts: Arc<TextTable>,
     module: Option<u32>,
-    input: Bytes,
+    pub(crate) input: Text,
     limit: u64,
 }
 
@@ -57,88 +51,31 @@ impl Model for GraphJob {
 }
 
 impl GraphJob {
-    ghost use Rattle.graph_file.specs.PlanRows.{graph_rows};
+    ghost use Rattle.graph_plans.specs.PlanRows.{graph_rows};
+    ghost use Rattle.text_tasks.specs.JobMeaning.{JobAnswers, text_job};
 
     // The graph that is run.
-    fn graph(&self) -> &Graph
+    pub(crate) fn graph(&self) -> &Graph
         ensures rows { graph_rows result.now ≡ graph_of self.now }
         ensures work { IsWork self.now }
     {
         &self.plan.top
     }
 
-    // The text under a name, made normal.
-    fn read(&self, alloc: Global, name: &[u8]) -> Result<Bytes, NoMemory>
-        ensures { IfOk result (λ text. text ≡ normal (unwrap_or (text_in self.now.texts name.now) [])) }
-    {
-        match self.texts.get(name) {
-            Some(text) => normal(alloc, text.as_slice()),
-            None => Ok(List::new(alloc)),
-        }
-    }
-
-    // The value of an operation on the text that its task finds.
-    fn value(&self, alloc: Global, op: &Op, found: &[u8]) -> Result<Bytes, NoMemory>
-        ensures { IfOk result (λ text. text ≡ value_on self.now.texts op.now found.now) }
-    {
-        match op {
-            Op::Read(name) => self.read(alloc, name.as_slice()),
-            Op::Text(op) => apply(alloc, op, found),
-        }
-    }
-
     // What a task answers on what it finds.
     fn answer(&self, alloc: Global, task: u32, ins: &Ins<Item>) -> Result<Done<TextJob>, JobError>
         requires { IsRelease (graph_of self.now).net task (length (parts_of ins.now)) }
-        ensures answer { IfOk result (AnswersWith self.now task (map found_of (parts_of ins.now))) }
-        ensures fault { IfErr result (MayFault self.now task (map found_of (parts_of ins.now))) }
+        ensures answer { IfOk result (JobAnswers (TextJob.Graph self.now) task (map found_of (parts_of ins.now))) }
+        ensures fault { IfErr result (FaultAllowed text_job (TextJob.Graph self.now) task (map found_of (parts_of ins.now))) }
     {
         let Some(op) = self.graph().ops.get(task as usize) else {
             unreachable!()
         };
-        let Ok(text) = self.value(alloc, op, text_of(ins)) else {
-            return Err(JobError::NoMemory);
-        };
-        let bytes = text.len() as u64;
-        if bytes > VALUE_LIMIT {
-            return Err(JobError::Fault(Why::Long(bytes)));
+        match self.work(alloc, op, ins) {
+            Ok((text, answer)) => Ok(Done::Value(Item::Text(text), answer)),
+            Err(ApplyError::Long(bytes)) => Err(JobError::Fault(Why::Long(bytes))),
+            Err(ApplyError::NoMemory) => Err(JobError::NoMemory),
         }
-        Ok(Done::Value(Item::Text(text), Answer::All))
-    }
-}
-
-// The text that a task finds where it finds one part at most.
-fn text_of(ins: &Ins<Item>) -> &[u8]
-    requires { length (parts_of ins.now) ≤ 1 }
-    ensures { result.now ≡ text_found (map found_of (parts_of ins.now)) }
-{
-    match ins.get(0) {
-        Some(Given::Value(_, item)) => item.text(),
-        Some(Given::First) => &[],
-        Some(Given::Nothing) => &[],
-        None => &[],
-    }
-}
-
-// What an operation on one text makes of a text.
-fn apply(alloc: Global, op: &TextOp, text: &[u8]) -> Result<Bytes, NoMemory>
-    ensures { IfOk result (λ made. made ≡ text_op_value op.now text.now) }
-{
-    if is_normal(text) {
-        return apply_normal(alloc, op, text);
-    }
-    let text = normal(alloc, text)?;
-    apply_normal(alloc, op, text.as_slice())
-}
-
-// What an operation on one text makes of a normal text.
-fn apply_normal(alloc: Global, op: &TextOp, text: &[u8]) -> Result<Bytes, NoMemory>
-    requires { IsNormal text.now }
-    ensures { IfOk result (λ made. made ≡ text_op_value op.now text.now) }
-{
-    match op {
-        TextOp::Keep(word) => keep(alloc, word.as_slice(), text),
-        TextOp::Count => count(alloc, text),
     }
 }
 
@@ -179,6 +116,9 @@ impl Job for TextJob {
         }
     }
 
+    /// Does the work of a task's operation. It faults with `Long` where the value would have more than 16,777,216
+    /// bytes. That is found without putting the value together where it is the task's whole text. A task that has to
+    /// look into a text of 2 GiB or more, put together of several ones, answers that memory was refused.
     fn run(&self, alloc: Global, task: u32, ins: &Ins<Item>) -> Result<Done<TextJob>, JobError> {
         match self {
             TextJob::Graph(job) => job.answer(alloc, task, ins),
@@ -193,15 +133,16 @@ impl Job for TextJob {
 }
 
 /// The job of a plan's top graph, started with the empty text.
-pub fn first_job(alloc: Global, plan: Arc<Plan>, texts: Arc<TextTable>, limit: u64) -> TextJob
-    requires { IsWork (first_work (plan_rows (arc_value plan)) (rows_of (arc_value texts)) limit) }
-    ensures { result ≡ TextJob.Graph (first_work (plan_rows (arc_value plan)) (rows_of (arc_value texts)) limit) }
+pub fn first_job(plan: Arc<Plan>, texts: Arc<TextTable>, limit: u64) -> TextJob
+    requires { IsWork (first_work (plan_rows (arc_value plan)) (arc_value texts) limit) }
+    ensures job { result ≡ TextJob.Graph (first_work (plan_rows (arc_value plan)) (arc_value texts) limit) }
+    ensures flat { IsFlatNet (net_of result) }
 {
     TextJob::Graph(GraphJob {
         plan,
         texts,
         module: None,
-        input: List::new(alloc),
+        input: Text::new(),
         limit,
     })
 }

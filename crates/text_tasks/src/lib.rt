@@ -1,26 +1,20 @@
-//! The tasks of graph files: what they do to texts, and the jobs that do it.
+//! The tasks of graph files: what they find, what they make of it, and the jobs that do it.
 //!
-//! The layer above sees a job by its meaning (`text_job`), and each operation as a function on lists of lines.
-//! The definitions stand in `specs/`: `Lines` says what the lines of a text are and when a text is normal,
-//! `TextMeaning` what each operation makes of a text, `JobMeaning` what a task of a graph answers. Line ends are
-//! searched in the whole text: no list of lines is held in memory.
+//! The layer above sees a job by its meaning (`text_job`). The definitions stand in `specs/`: `OpMeaning` has a row for
+//! each operation, with the value that its task hands on and the successors that get it; `JobMeaning` says what a task
+//! of a graph answers, and when it faults; `FoundTexts` what the text of a task is; `GraphWork` what a job consists of.
+//! What the operations make of texts stands in `text_ops`, and the shape of each operation's task in `graph_plans`.
 #![tactic(auto)]
 
-mod found_line;
+mod feedback_text;
+mod found;
 mod item;
 mod job;
-mod kept_lines;
-mod laws;
-mod line_count;
-mod normal_text;
 mod table;
-#[cfg(test)]
-mod tests;
+mod work;
 
+pub use feedback_text::feedback;
 pub use item::Item;
 pub use job::{GraphJob, TextJob, first_job};
-pub use kept_lines::keep;
-pub use laws::lines_and_words;
-pub use line_count::count;
-pub use normal_text::{into_normal, is_normal, normal};
-pub use table::{TextRow, TextTable};
+pub use table::TextTable;
+pub use work::apply;

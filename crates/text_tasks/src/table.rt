@@ -1,55 +1,58 @@
-// The texts that were read, by name.
-ghost use Rattle.std.specs.Prelude.{◌≡◌, ◌++◌, ◌∷◌, [], None, OnOk, OnErr};
+// The texts that were read.
+ghost use Rattle.std.specs.Prelude.{◌≡◌, ◌++◌, ◌∷◌, [], length, slice_get, OnOk, OnErr};
 ghost use Rattle.std.specs.Option.{option_copied};
-ghost use Rattle.text_tasks.specs.TextTable.{rows_of, text_in};
 
-use outside_io::{Bytes, List, NoMemory};
+use outside_io::{List, NoMemory};
 use std::alloc::Global;
+use std::marker::Model;
+use text_ops::Text;
 
-/// A text with its name.
-#[derive(Drop)]
-pub struct TextRow {
-    pub name: Bytes,
-    pub text: Bytes,
-}
-
-/// The texts that tasks read, by name.
+/// The texts that tasks read, by number. Contracts see it as the list of them.
 #[derive(Drop)]
 pub struct TextTable {
-    rows: List<TextRow>,
+    texts: List<Text>,
+}
+
+impl Model for TextTable {
+    ghost use Rattle.std.specs.Prelude.{ℕ, List};
+
+    ghost Value = { List (List ℕ) };
+
+    ghost view = { λ table. table.texts };
 }
 
 impl TextTable {
     /// No text. It takes no memory.
     pub fn new(alloc: Global) -> TextTable
-        ensures { rows_of result ≡ [] }
+        ensures { result ≡ [] }
     {
         TextTable {
-            rows: List::new(alloc),
+            texts: List::new(alloc),
         }
     }
 
-    /// Adds a text under a name that wasn't added before. After an `Err` the table is as it was.
-    pub fn add(&mut self, name: Bytes, text: Bytes) -> Result<(), NoMemory>
-        requires { text_in (rows_of self.old) name ≡ None }
-        ensures ok { OnOk result (rows_of self.new ≡ rows_of self.old ++ (record { name = name; text = text }) ∷ []) }
-        ensures err { OnErr result (rows_of self.new ≡ rows_of self.old) }
+    /// Adds a text, whose number is that of the texts that were added before. After an `Err` the table is as it was.
+    pub fn add(&mut self, text: Text) -> Result<(), NoMemory>
+        ensures ok { OnOk result (self.new ≡ self.old ++ text ∷ []) }
+        ensures err { OnErr result (self.new ≡ self.old) }
     {
-        match self.rows.push(TextRow { name, text }) {
+        match self.texts.push(text) {
             Ok(()) => Ok(()),
             Err(_) => Err(NoMemory),
         }
     }
 
-    /// The text of a name, or `None` where it wasn't added.
-    pub fn get(&self, name: &[u8]) -> Option<&Bytes>
-        ensures { option_copied result ≡ text_in (rows_of self.now) name.now }
+    /// The text of a number, or `None` where there are no more than so many.
+    pub fn get(&self, number: u32) -> Option<&Text>
+        ensures { option_copied result ≡ slice_get self.now number }
     {
-        for row in self.rows.as_slice() {
-            if row.name.as_slice() == name {
-                return Some(&row.text);
-            }
-        }
-        None
+        self.texts.get(number as usize)
+    }
+
+    /// How many texts there are.
+    pub fn len(&self) -> usize
+        ensures { result ≡ length self.now }
+    {
+        self.texts.len()
     }
 }

@@ -1,59 +1,83 @@
--- What the steps of the reader answer.
-use Rattle.std.specs.Prelude.{◌≡◌, ℕ, ◌<◌, List, [], ◌∷◌, ◌++◌, length, map, Option, Some, None, Result, Ok, Err, All, ⊤}
+-- What the steps of the reader answer, which may also find no memory.
+use Rattle.std.specs.Prelude.{◌≡◌, ◌≢◌, ℕ, List, [], ◌∷◌, ◌++◌, length, map, Option, Some, None, Result, Ok, Err, ok_or, codes, ⊤}
+use Rattle.serde_json.specs.Data.{Data}
 use Rattle.graph_file.specs.declared.draft.Draft.{Draft}
 use Rattle.graph_file.specs.declared.draft.Link.{Link}
+use Rattle.graph_plans.specs.declared.ops.TextOp.{TextOp}
+use Rattle.graph_file.specs.declared.file_op.FileOp.{FileOp}
+use Rattle.graph_file.specs.declared.file_op.FileOp.TheVariants.{Reads as ReadsOf, Does}
+use Rattle.graph_file.specs.declared.file_op.FoundOp.{FoundOp}
 use Rattle.graph_file.specs.declared.refusals.GraphError.{GraphError}
-use Rattle.graph_file.specs.declared.refusals.GraphError.TheVariants.{NotJson, BadField, NoSuchName, Repeated, TooMany, NoMemory}
-use Rattle.graph_file.specs.TaskText.{TaskText}
+use Rattle.graph_file.specs.declared.refusals.GraphError.TheVariants.{NoMemory, Repeated}
+use Rattle.graph_file.specs.OpRows.{FileOpRow, reads, does, WithFields, op_in, op_rows}
+use Rattle.graph_file.specs.Contents.{empty_list_of, name_of, names_of}
+use Rattle.graph_file.specs.Fields.{allowed, needed, only, task_spot}
+use Rattle.graph_file.specs.PlanText.{DraftRows, LinkRow, link_to, mentioned, numbered, task_fields}
+use Rattle.graph_file.specs.Steps.{◌>>=◌}
 
--- A refusal shows that P fails. Want of memory shows nothing.
-abbrev pub Denies : GraphError → Type 0 → Type 0
-Denies NotJson P = P → ⊥
-Denies (BadField spot field) P = P → ⊥
-Denies (NoSuchName spot field) P = P → ⊥
-Denies (Repeated spot field) P = P → ⊥
-Denies (TooMany kind) P = P → ⊥
-Denies NoMemory P = ⊤
+-- what a reader answers, where this is to be found
+abbrev pub Reads : {A : Type 0} → Result A GraphError → Result A GraphError → Type 0
+Reads (Ok x) found = found ≡ Ok x
+Reads (Err e) found = e ≢ NoMemory → found ≡ Err e
 
--- what a test of P answers
-abbrev pub Tests : {A : Type 0} → Result A GraphError → Type 0 → Type 0
-Tests (Ok x) P = P
-Tests (Err e) P = Denies e P
+-- the same, as f sees it
+abbrev pub ReadsAs : {A B : Type 0} → (A → B) → Result A GraphError → Result B GraphError → Type 0
+ReadsAs f (Ok x) found = found ≡ Ok (f x)
+ReadsAs f (Err e) found = e ≢ NoMemory → found ≡ Err e
 
--- A refusal shows that nothing was found.
-abbrev pub Refuses : {A : Type 0} → GraphError → Option A → Type 0
-Refuses NotJson found = found ≡ None
-Refuses (BadField spot field) found = found ≡ None
-Refuses (NoSuchName spot field) found = found ≡ None
-Refuses (Repeated spot field) found = found ≡ None
-Refuses (TooMany kind) found = found ≡ None
-Refuses NoMemory found = ⊤
+-- the same of a reader that changes a state
+abbrev pub Leads : {S : Type 0} → Result ⊤ GraphError → S → Result S GraphError → Type 0
+Leads (Ok done) new found = found ≡ Ok new
+Leads (Err e) new found = e ≢ NoMemory → found ≡ Err e
 
--- what a reader of something answers
-abbrev pub Reads : {A : Type 0} → Result A GraphError → Option A → Type 0
-Reads (Ok x) found = found ≡ Some x
-Reads (Err e) found = Refuses e found
+-- ---- what the code has of a draft
 
--- an edge of the task of this number
-abbrev pub link_to : ℕ → List ℕ → Link
-link_to from name = record { from = from; to = name }
+abbrev pub link_row : Link → LinkRow
+link_row link = record { from = link.from; to = link.to.now }
 
--- the draft with one task more
-abbrev pub with_task : Draft → TaskText → Draft
-with_task draft task = record { names = draft.names ++ task.name ∷ []; ops = draft.ops ++ task.op ∷ []; links = draft.links ++ map (link_to (length draft.names)) task.to }
+abbrev pub draft_rows : Draft → DraftRows
+draft_rows draft = record { names = draft.names; ops = draft.ops; links = map link_row draft.links; texts = draft.texts }
 
--- what a reader answers that puts the links from one task at the end
-abbrev pub LinksAnswer : ℕ → List Link → Option (List (List ℕ)) → Result ⊤ GraphError → List Link → Type 0
-LinksAnswer from old None (Ok done) new = ⊥
-LinksAnswer from old (Some to) (Ok done) new = new ≡ old ++ map (link_to from) to
-LinksAnswer from old found (Err e) new = Refuses e found
+-- ---- what it has of an operation
 
--- what a reader answers that puts a task at the end
-abbrev pub TaskAnswer : Draft → Option TaskText → Result ⊤ GraphError → Draft → Type 0
-TaskAnswer old None (Ok done) new = ⊥
-TaskAnswer old (Some task) (Ok done) new = new ≡ with_task old task
-TaskAnswer old found (Err e) new = Refuses e found
+abbrev pub file_op_row : FileOp → FileOpRow
+file_op_row (ReadsOf text) = reads text.now
+file_op_row (Does op) = does op
 
--- each link comes from one of the tasks
-abbrev pub AreFromTasks : Draft → Type 0
-AreFromTasks draft = All (λ link. link.from < length draft.names) draft.links
+abbrev pub found_op : FoundOp FileOp → WithFields FileOpRow
+found_op found = record { op = file_op_row found.op; fields = map (λ s. s.now) found.fields.now }
+
+abbrev pub found_text_op : FoundOp TextOp → WithFields TextOp
+found_text_op found = record { op = found.op; fields = map (λ s. s.now) found.fields.now }
+
+-- ---- a task, by the steps in which it is read
+
+-- the links, and those of a task with this number
+abbrev pub links_with : ℕ → List LinkRow → Data → Result (List LinkRow) GraphError
+links_with n links d = allowed [] names_of (task_spot n) (codes "to") d >>= λ to. Ok (links ++ map (link_to n) to)
+
+-- the draft with these links, and one task more
+abbrev pub with_op : DraftRows → List ℕ → FileOpRow → List LinkRow → DraftRows
+with_op draft name op links = record { names = draft.names ++ name ∷ []; ops = draft.ops ++ numbered draft.texts op ∷ []; links = links; texts = mentioned draft.texts op }
+
+abbrev pub add_task_steps : DraftRows → Data → Result DraftRows GraphError
+add_task_steps draft d = let spot = task_spot (length draft.names) in do
+  name ← needed name_of spot (codes "name") d
+  found ← op_in op_rows spot d
+  links ← links_with (length draft.names) draft.links d
+  holds ← allowed [] empty_list_of spot (codes "holds") d
+  done ← only (task_fields ++ found.fields) spot d
+  Ok (with_op draft name found.op links)
+
+-- ---- lists that are read item by item
+
+-- what an item holds is put at the end, as f sees it
+abbrev pub put_each : {X Y : Type 0} → (Data → Option X) → (X → Y) → GraphError → List Y → Data → Result (List Y) GraphError
+put_each content f refusal ys d = ok_or (content d) refusal >>= λ x. Ok (ys ++ f x ∷ [])
+
+-- ---- the names of tasks
+
+-- the names, unless one stands at this place that stood before
+abbrev pub unless_repeated : List (List ℕ) → Option ℕ → Result (List (List ℕ)) GraphError
+unless_repeated names None = Ok names
+unless_repeated names (Some task) = Err (Repeated (task_spot task) (codes "name"))

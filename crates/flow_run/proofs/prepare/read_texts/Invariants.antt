@@ -1,5 +1,4 @@
 use Rattle.std.proofs.Common.{◌≡◌, take}
-use Rattle.text_tasks.specs.TextTable.{rows_of}
 use Rattle.flow_run.specs.Requests.{TextsAre}
 use Rattle.flow_run.proofs.prepare.read_texts.Given as goal
 
@@ -7,5 +6,5 @@ abbrev pub invariant-loop-name : goal.invariant-loop-name
 invariant-loop-name g l = record {
   held : g.F.Texts.held l.texts ≡ g.F.Texts.held l.fn.texts;
   faults : g.F.Texts.faults l.texts ≡ g.F.Texts.faults l.fn.texts;
-  are : TextsAre (g.F.Texts.held l.fn.texts) (take l.name-index l.names) (rows_of l.table);
+  are : TextsAre (g.F.Texts.held l.fn.texts) (take l.name-index l.names) l.table;
 }

@@ -1,8 +1,8 @@
-use Rattle.std.specs.List.{Contains}
-use Rattle.graph_file.specs.declared.draft.Link.{Link}
-use Rattle.graph_file.proofs.NetLemmas.{All-at}
+use Rattle.std.proofs.Common.{◌≡◌, length, sym, ap, ◌∙◌}
+use Rattle.graph_file.proofs.NetLemmas.{among-at}
 use Rattle.graph_file.proofs.nets.add_edges.Goals as goal
 
-pub place_of-requires-clause-known : goal.place_of-requires-clause-known
-place_of-requires-clause-known c =
-    All-at (λ (link : Link). Contains c.args.draft.now.names link.to) c.args.draft.now.links _ c.loop-link.link-index c.link-item.result c.as_slice-link-items.ensures c.loop-link-test.true c.link-item.is c.requires.rules.known
+pub add_edge-requires-clause-among : goal.add_edge-requires-clause-among
+add_edge-requires-clause-among c =
+    let count : c.args.tasks ≡ length c.loop-edge.builder.tasks = sym c.requires.tasks.0 ∙ ap (λ net. length net.tasks) (sym c.loop-edge.invariant) in
+    rw (← count) (among-at c.args.tasks c.args.edges.now c.loop-edge.edge-index (record { from = 0; to = 0 }) c.loop-edge-test.true c.requires.among)

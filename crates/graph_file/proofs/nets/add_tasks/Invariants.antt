@@ -1,6 +1,6 @@
-use Rattle.std.proofs.Common.{◌≡◌, [], replicate}
-use Rattle.graph_file.specs.Draft.{plain_row}
+use Rattle.std.proofs.Common.{◌≡◌, [], take}
+use Rattle.graph_file.specs.inside.Drafts.{net_with}
 use Rattle.graph_file.proofs.nets.add_tasks.Given as goal
 
-abbrev pub invariant-loop : goal.invariant-loop
-invariant-loop l = l.builder ≡ record { tasks = replicate l.counter plain_row; edges = []; sems = [] }
+abbrev pub invariant-loop-op : goal.invariant-loop-op
+invariant-loop-op l = l.builder ≡ net_with (take l.op-index l.ops) []

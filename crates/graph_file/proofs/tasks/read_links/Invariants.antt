@@ -1,10 +1,12 @@
-use Rattle.std.proofs.Common.{◌≡◌, ℕ, List, map, ◌++◌}
+use Rattle.std.proofs.Common.{codes, map}
 use Rattle.serde_json.specs.View.{view}
-use Rattle.graph_file.specs.TaskText.{name_of}
-use Rattle.graph_file.specs.inside.Reading.{link_to}
-use Rattle.graph_file.proofs.EachLemmas.{ReadBefore}
+use Rattle.graph_file.specs.declared.refusals.GraphError.TheVariants.{BadField}
+use Rattle.graph_file.specs.Contents.{name_of}
+use Rattle.graph_file.specs.Fields.{task_spot}
+use Rattle.graph_file.specs.PlanText.{link_to}
+use Rattle.graph_file.specs.inside.Reading.{link_row, put_each}
+use Rattle.graph_file.proofs.WalkLemmas.{GoesOn}
 use Rattle.graph_file.proofs.tasks.read_links.Given as goal
 
 abbrev pub invariant-loop-name : goal.invariant-loop-name
-invariant-loop-name l =
-    (done : List (List ℕ)) × ReadBefore view name_of l.names l.name-index done × (l.links ≡ l.fn.links ++ map (link_to l.from) done)
+invariant-loop-name l = GoesOn view (put_each name_of (link_to l.from) (BadField (task_spot l.from) (codes "to"))) (map link_row l.fn.links) l.names l.name-index (map link_row l.links)

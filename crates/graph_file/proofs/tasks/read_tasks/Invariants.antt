@@ -1,10 +1,12 @@
-use Rattle.std.proofs.Common.{◌≡◌, List}
 use Rattle.serde_json.specs.View.{view}
-use Rattle.graph_file.specs.Draft.{draft_of}
-use Rattle.graph_file.specs.TaskText.{TaskText, task_of}
-use Rattle.graph_file.proofs.EachLemmas.{ReadBefore}
+use Rattle.graph_file.specs.PlanText.{no_tasks}
+use Rattle.graph_file.specs.inside.Lookups.{HasPlaces}
+use Rattle.graph_file.specs.inside.Reading.{add_task_steps, draft_rows}
+use Rattle.graph_file.proofs.WalkLemmas.{GoesOn}
 use Rattle.graph_file.proofs.tasks.read_tasks.Given as goal
 
 abbrev pub invariant-loop-task : goal.invariant-loop-task
-invariant-loop-task l =
-    (done : List TaskText) × ReadBefore view task_of l.tasks l.task-index done × (l.draft ≡ draft_of done)
+invariant-loop-task l = record {
+  walked : GoesOn view add_task_steps no_tasks l.tasks l.task-index (draft_rows l.draft);
+  numbers : HasPlaces l.numbers l.draft.texts;
+}

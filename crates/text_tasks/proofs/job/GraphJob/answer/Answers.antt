@@ -1,6 +1,7 @@
+use Rattle.std.proofs.Common.{arith}
 use Rattle.text_tasks.specs.GraphWork.{graph_of}
-use Rattle.text_tasks.proofs.Jobs.{few_parts}
+use Rattle.text_tasks.proofs.WorkLemmas.{release_parts}
 use Rattle.text_tasks.proofs.job.GraphJob.answer.Goals as goal
 
-pub text_of-requires : goal.text_of-requires
-text_of-requires c = few_parts (graph_of c.args.self.now).net c.args.task _ c.graph.ensures.work.plan.single c.requires
+pub work-requires-clause-parts : goal.work-requires-clause-parts
+work-requires-clause-parts c = omega (arith, release_parts (graph_of c.args.self.now).net c.args.task _ c.requires, c.graph.ensures.work.plan.edge_count)

@@ -1,0 +1,7 @@
+use Rattle.std.proofs.Common.{subst, sym}
+use Rattle.text_tasks.specs.JobMeaning.{IsTextJob}
+use Rattle.text_tasks.specs.JobLaws.{text_job_flat}
+use Rattle.flow_run.proofs.call.kept_runs.Goals as goal
+
+pub run_alone-requires-after_bounds : goal.run_alone-requires-after_bounds
+run_alone-requires-after_bounds c κs = text_job_flat _ (subst IsTextJob (sym c.in_ok-job.ensures.ok) c.requires)

@@ -1,0 +1,172 @@
+-- The tasks that were read may stand in a file.
+use Rattle.std.proofs.Common.{◌≡◌, ℕ, List, [], ◌∷◌, ◌++◌, map, length, Bool, true, false, leb, cond, Option, Some, None, Ok, ok_or, option_and_then, codes, bytes_eq, refl, ap, subst, ◌∙◌}
+use Rattle.std.proofs.lemmas.Option.{option_and_then_some}
+use Rattle.std.specs.Bool.{⊤}
+use Rattle.std.specs.Option.{option_map_or}
+use Rattle.std.specs.List.{list_all}
+use Rattle.serde_json.specs.Data.{Data}
+use Rattle.serde_json.specs.Find.{as_number, as_str, as_u64, get}
+use Rattle.graph_plans.specs.declared.ops.Op.TheVariants.{Input, Text, Match, Back, IfMore, IfHas, Route}
+use Rattle.graph_plans.specs.declared.ops.TextOp.TheVariants.{Pass, Keep, Without, Head, Tail, Skip, Sort, Uniq, Count, Tally}
+use Rattle.graph_plans.specs.declared.spots.Spot.{Spot}
+use Rattle.graph_plans.specs.declared.spots.Spot.TheVariants.{File}
+use Rattle.graph_plans.specs.Operations.{route_limit, word_limit}
+use Rattle.graph_file.specs.declared.refusals.GraphError.{GraphError}
+use Rattle.graph_file.specs.declared.refusals.GraphError.TheVariants.{BadField}
+use Rattle.graph_file.specs.Contents.{each, empty_list_of, is_name, is_text, lines_of, list_of, name_of, names_of, objects_of, passing, text_name_of, whole_of, word_of, words_of}
+use Rattle.graph_file.specs.Fields.{allowed, needed, only, task_spot}
+use Rattle.graph_file.specs.OpRows.{FileOpRow, reads, does, OpRow, WithFields, bare, single, used_by, text_rows, op_rows, row_called, op_called, op_in}
+use Rattle.graph_file.specs.PlanText.{DraftRows, TaskText, add_task, draft_in, file_fields, no_tasks, task_fields, with_task}
+use Rattle.graph_file.specs.Steps.{walk}
+use Rattle.graph_file.specs.inside.Fine.{AreFine, IsFine, fits, fits_lines, fits_text_op, fits_words, with_tasks}
+use Rattle.graph_file.proofs.BindLemmas.{bind_ok, each-all, each-length, ok_or_ok, passing-ok}
+
+-- ---- contents
+
+-- what a content finds passes a test
+abbrev Finds : {X : Type 0} → (Data → Option X) → (X → Bool) → Type 0
+Finds {X} content test = (d : Data) (x : X) → content d ≡ Some x → test x ≡ true
+
+finds-word : Finds word_of (is_text 0 word_limit)
+finds-word d word is = passing-ok (is_text 0 word_limit) (as_str d) word is
+
+finds-text : Finds text_name_of (is_text 1 4096)
+finds-text d text is = passing-ok (is_text 1 4096) (as_str d) text is
+
+finds-lines : Finds lines_of fits_lines
+finds-lines d n is = passing-ok fits_lines (option_and_then as_u64 (as_number d)) n is
+
+finds-name : Finds name_of is_name
+finds-name d name is = passing-ok is_name (as_str d) name is
+
+finds-words : Finds words_of fits_words
+finds-words d words is =
+    option_and_then_some (each word_of) (option_and_then (passing (λ items. leb (length items) route_limit)) (list_of d)) words is (λ items here each_.
+    let few : leb (length items) route_limit ≡ true = passing-ok (λ items. leb (length items) route_limit) (list_of d) items here in
+    let all : list_all (is_text 0 word_limit) words ≡ true = each-all word_of (is_text 0 word_limit) items words finds-word each_ in
+    rw (each-length word_of items words each_, few) all)
+
+finds-names : Finds names_of (list_all is_name)
+finds-names d names is = option_and_then_some (each name_of) (list_of d) names is (λ items here each_. each-all name_of is_name items names finds-name each_)
+
+-- ---- rows
+
+-- a row makes only what passes a test
+abbrev Makes : {A : Type 0} → (A → Bool) → OpRow A → Type 0
+Makes {A} test row = (spot : Spot) (d : Data) (op : A) → row.made spot d ≡ Ok op → test op ≡ true
+
+abbrev AllMake : {A : Type 0} → (A → Bool) → List (OpRow A) → Type 0
+AllMake test [] = ⊤
+AllMake test (row ∷ rows) = Makes test row × AllMake test rows
+
+infixr 20 ◌&◌
+◌&◌ : {P Q : Type 0} → P → Q → P × Q
+first & rest = (first, rest)
+
+makes-bare : {A : Type 0} (test : A → Bool) (name : List ℕ) (op : A) → test op ≡ true → Makes test (bare name op)
+makes-bare test name op passes spot d made is = let same : op ≡ made = cc in subst (λ o. test o ≡ true) same passes
+
+found-passes : {X : Type 0} (content : Data → Option X) (test : X → Bool) (found : Option Data) (e : GraphError) (x : X) → Finds content test → ok_or (option_and_then content found) e ≡ Ok x → test x ≡ true
+found-passes content test found e x finds is = option_and_then_some content found x (ok_or_ok _ e x is) (λ d here there. finds d x there)
+
+makes-single : {A X : Type 0} (test : A → Bool) (name field : List ℕ) (content : Data → Option X) (op : X → A) → Finds content (λ x. test (op x)) → Makes test (single name field content op)
+makes-single test name field content op finds spot d made is =
+    bind_ok (needed content spot field d) (λ x. Ok (op x)) made is (λ x here rest.
+    let same : op x ≡ made = cc in
+    subst (λ o. test o ≡ true) same (found-passes content (λ x. test (op x)) (get field d) (BadField spot field) x finds here))
+
+all-used : {A B : Type 0} (test : B → Bool) (f : A → B) (rows : List (OpRow A)) → AllMake (λ op. test (f op)) rows → AllMake test (map (used_by f) rows)
+all-used test f [] all = tt
+all-used test f (row ∷ rows) all =
+    let first : Makes test (used_by f row) = λ spot d made is. bind_ok (row.made spot d) (λ op. Ok (f op)) made is (λ op here rest.
+    let same : f op ≡ made = cc in subst (λ o. test o ≡ true) same (all.0 spot d op here)) in
+    (first, all-used test f rows all.1)
+
+all-text_rows : AllMake fits_text_op text_rows
+unfolding text_rows
+all-text_rows =
+    makes-bare fits_text_op (codes "pass") Pass refl
+    & makes-single fits_text_op (codes "keep") (codes "word") word_of Keep finds-word
+    & makes-single fits_text_op (codes "without") (codes "word") word_of Without finds-word
+    & makes-single fits_text_op (codes "head") (codes "n") lines_of Head finds-lines
+    & makes-single fits_text_op (codes "tail") (codes "n") lines_of Tail finds-lines
+    & makes-single fits_text_op (codes "skip") (codes "n") lines_of Skip finds-lines
+    & makes-bare fits_text_op (codes "sort") Sort refl
+    & makes-bare fits_text_op (codes "uniq") Uniq refl
+    & makes-bare fits_text_op (codes "count") Count refl
+    & makes-bare fits_text_op (codes "tally") Tally refl
+    & tt
+
+all-op_rows : AllMake fits op_rows
+unfolding op_rows
+all-op_rows =
+    makes-bare fits (codes "input") (does Input) refl
+    & makes-single fits (codes "read") (codes "text") text_name_of reads finds-text
+    & makes-bare fits (codes "match") (does Match) refl
+    & makes-bare fits (codes "back") (does Back) refl
+    & makes-single fits (codes "ifmore") (codes "n") lines_of (λ n. does (IfMore n)) finds-lines
+    & makes-single fits (codes "ifhas") (codes "word") word_of (λ word. does (IfHas word)) finds-word
+    & makes-single fits (codes "route") (codes "words") words_of (λ words. does (Route words)) finds-words
+    & all-used fits (λ op. does (Text op)) text_rows all-text_rows
+
+called-makes_step : {A : Type 0} (test : A → Bool) (row found : OpRow A) (here : Bool) (rest : Option (OpRow A)) → Makes test row → (rest ≡ Some found → Makes test found) → cond here (Some row) rest ≡ Some found → Makes test found
+called-makes_step test row found true rest makes later is = let same : row ≡ found = cc in subst (Makes test) same makes
+called-makes_step test row found false rest makes later is = later is
+
+called-makes : {A : Type 0} (test : A → Bool) (rows : List (OpRow A)) (name : List ℕ) (row : OpRow A) → AllMake test rows → row_called rows name ≡ Some row → Makes test row
+called-makes test [] name row all is = cc
+called-makes test (first ∷ rows) name row all is =
+    called-makes_step test first row (bytes_eq first.name name) (row_called rows name) all.0 (called-makes test rows name row all.1) is
+
+-- the operation that an object names may stand in a file
+op_in-fits : (spot : Spot) (d : Data) (found : WithFields FileOpRow) → op_in op_rows spot d ≡ Ok found → fits found.op ≡ true
+op_in-fits spot d found is =
+    bind_ok (needed as_str spot (codes "op") d) (λ name. op_called op_rows name spot d) found is (λ name here called.
+    bind_ok (ok_or (row_called op_rows name) (BadField spot (codes "op"))) _ found called (λ row at_row rest.
+    bind_ok (row.made spot d) _ found rest (λ op made last.
+    let same : record { op = op; fields = row.fields } ≡ found = cc in
+    let fine : fits op ≡ true = called-makes fits op_rows name row all-op_rows (ok_or_ok _ _ row at_row) spot d op made in
+    subst (λ (f : WithFields FileOpRow). fits f.op ≡ true) same fine)))
+
+-- ---- tasks
+
+allowed-names : (spot : Spot) (field : List ℕ) (found : Option Data) (names : List (List ℕ)) → ok_or (option_map_or names_of found (Some [])) (BadField spot field) ≡ Ok names → list_all is_name names ≡ true
+allowed-names spot field None names is = let same : [] ≡ names = cc in subst (λ ns. list_all is_name ns ≡ true) same refl
+allowed-names spot field (Some d) names is = finds-names d names (ok_or_ok _ _ names is)
+
+-- a task that is read may stand in a file, and the draft has it besides
+pub task-read : (draft : DraftRows) (d : Data) (next : DraftRows) → add_task draft d ≡ Ok next → (task : TaskText) × IsFine task × (with_task draft task ≡ next)
+task-read draft d next is =
+    let spot = task_spot (length draft.names) in
+    bind_ok (needed name_of spot (codes "name") d) _ next is (λ name named after_name.
+    bind_ok (op_in op_rows spot d) _ next after_name (λ found called after_op.
+    bind_ok (allowed [] names_of spot (codes "to") d) _ next after_op (λ to linked after_to.
+    bind_ok (allowed [] empty_list_of spot (codes "holds") d) _ next after_to (λ holds held after_holds.
+    bind_ok (only (task_fields ++ found.fields) spot d) _ next after_holds (λ done none last.
+    let task : TaskText = record { name = name; op = found.op; to = to } in
+    let same : with_task draft task ≡ next = cc in (
+      task,
+      record {
+        name = found-passes name_of is_name (get (codes "name") d) (BadField spot (codes "name")) name finds-name named;
+        op = op_in-fits spot d found called;
+        to = allowed-names spot (codes "to") (get (codes "to") d) to linked;
+      },
+      same,
+    ))))))
+
+tasks-read : (draft : DraftRows) (ds : List Data) (r : DraftRows) → walk add_task draft ds ≡ Ok r → (tasks : List TaskText) × AreFine tasks × (with_tasks draft tasks ≡ r)
+tasks-read draft [] r is = let same : draft ≡ r = cc in ([], tt, same)
+tasks-read draft (d ∷ ds) r is =
+    bind_ok (add_task draft d) (λ next. walk add_task next ds) r is (λ next here rest.
+    let first = task-read draft d next here in
+    let others = tasks-read next ds r rest in
+    (first.0 ∷ others.0, (first.1, others.1), ap (λ x. with_tasks x others.0) first.2 ∙ others.2))
+
+-- the draft of a file has just its tasks
+pub draft_in-tasks : (d : Data) (draft : DraftRows) → draft_in d ≡ Ok draft → (tasks : List TaskText) × AreFine tasks × (with_tasks no_tasks tasks ≡ draft)
+draft_in-tasks d draft is =
+    bind_ok (allowed 1 (whole_of 1 1) File (codes "version") d) _ draft is (λ version at_version after_version.
+    bind_ok (needed objects_of File (codes "tasks") d) _ draft after_version (λ ds here after_tasks.
+    bind_ok (allowed [] empty_list_of File (codes "semaphores") d) _ draft after_tasks (λ sems at_sems after_sems.
+    bind_ok (allowed [] empty_list_of File (codes "modules") d) _ draft after_sems (λ modules at_modules after_modules.
+    bind_ok (only file_fields File d) _ draft after_modules (λ done none walked. tasks-read no_tasks ds draft walked)))))

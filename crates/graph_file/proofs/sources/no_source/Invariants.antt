@@ -1,6 +1,0 @@
-use Rattle.graph_file.specs.PlanRows.{plan_rows}
-use Rattle.graph_file.specs.Sources.{SourcesBefore}
-use Rattle.graph_file.proofs.sources.no_source.Given as goal
-
-abbrev pub invariant-loop-module : goal.invariant-loop-module
-invariant-loop-module l = SourcesBefore (plan_rows l.plan) l.module

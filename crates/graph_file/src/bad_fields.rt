@@ -1,0 +1,45 @@
+// The refusals of fields.
+ghost use Rattle.std.specs.Prelude.{◌≡◌, ◌≢◌};
+ghost use Rattle.graph_file.specs.Fields.{task_spot};
+
+use crate::refusals::GraphError;
+use graph_plans::Spot;
+use outside_io::Bytes;
+use std::alloc::Global;
+
+/// The refusal of a field's content, of a missing field or of an unknown one.
+pub(crate) fn bad_field(alloc: Global, spot: Spot, field: &str) -> GraphError
+    ensures { result ≢ GraphError.NoMemory → result ≡ GraphError.BadField spot field.now }
+{
+    match Bytes::from_slice(alloc, field.as_bytes()) {
+        Ok(field) => GraphError::BadField(spot, field),
+        Err(_) => GraphError::NoMemory,
+    }
+}
+
+/// The refusal of a name that nothing has.
+pub(crate) fn no_such_name(alloc: Global, spot: Spot, field: &str) -> GraphError
+    ensures { result ≢ GraphError.NoMemory → result ≡ GraphError.NoSuchName spot field.now }
+{
+    match Bytes::from_slice(alloc, field.as_bytes()) {
+        Ok(field) => GraphError::NoSuchName(spot, field),
+        Err(_) => GraphError::NoMemory,
+    }
+}
+
+/// The refusal of a name that stands before.
+pub(crate) fn repeated(alloc: Global, spot: Spot, field: &str) -> GraphError
+    ensures { result ≢ GraphError.NoMemory → result ≡ GraphError.Repeated spot field.now }
+{
+    match Bytes::from_slice(alloc, field.as_bytes()) {
+        Ok(field) => GraphError::Repeated(spot, field),
+        Err(_) => GraphError::NoMemory,
+    }
+}
+
+/// A task's place. A number past the greatest `u32` is reported as that one.
+pub(crate) fn task_spot(task: usize) -> Spot
+    ensures { result ≡ task_spot task }
+{
+    Spot::Task(u32::try_from(task).unwrap_or(u32::MAX))
+}

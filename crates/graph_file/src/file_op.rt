@@ -1,0 +1,25 @@
+// The operations of a graph file.
+ghost use Rattle.std.specs.Prelude.{◌≡◌};
+
+use graph_plans::Op;
+
+/// An operation as a file has it: the text that it reads has a name and no number yet, and any other is as in a plan.
+#[derive(Drop)]
+pub(crate) enum FileOp<'v> {
+    Reads(&'v str),
+    Does(Op),
+}
+
+/// An operation, and the names of its own fields.
+#[derive(Drop)]
+pub(crate) struct FoundOp<T> {
+    pub op: T,
+    pub fields: &'static [&'static str],
+}
+
+/// An operation with these fields of its own.
+pub(crate) fn with<T>(fields: &'static [&'static str], op: T) -> FoundOp<T>
+    ensures { result ≡ record { op = op; fields = fields.entry } }
+{
+    FoundOp { op, fields }
+}

@@ -1,0 +1,86 @@
+-- The small plan keeps the rules of plans.
+use Rattle.std.proofs.Common.{◌≡◌, ℕ, ◌<◌, false, List, [], ◌∷◌, All, refl, arith}
+use Rattle.std.proofs.lemmas.List.Elements.{All-from_recursion}
+use Rattle.std.proofs.lemmas.Map.Made.{AllPairs-from_IsDistinct}
+use Rattle.std.proofs.lemmas.Slice.Eq.{bytes_eq-Decides}
+use Rattle.std.specs.List.{IsDistinct}
+use Rattle.std.specs.Str.{bytes_eq}
+use Rattle.task_graph.specs.NetRows.{NetRows}
+use Rattle.task_graph.specs.Net.{IsNet, IsTaskOf, IsEdgeOf, AreSemaphoresOf}
+use Rattle.task_graph.specs.declared.net.Shape.{Shape}
+use Rattle.task_graph.specs.declared.net.Shape.TheVariants.{Plain}
+use Rattle.task_graph.specs.declared.net.EdgeRow.{EdgeRow}
+use Rattle.journal_rules.specs.declared.entry.Cause.TheVariants.{Strong}
+use Rattle.run_frame.specs.Meaning.{IsRelease}
+use Rattle.graph_plans.specs.declared.ops.Op.{Op}
+use Rattle.graph_plans.specs.Operations.{IsOp, shape_of}
+use Rattle.graph_plans.specs.PlanRows.{IsPlan, IsTextName, NeedsNoUnit, AllDiffer}
+use Rattle.text_tasks.specs.GraphWork.{IsWork}
+use Rattle.text_tasks.specs.ValueTexts.{IsValueText}
+use Rattle.text_tasks.specs.inside.WorkedPlans.{worked_task, worked_edge, worked_net, worked_plan, worked_texts, worked_work}
+
+no_semaphores : (net : NetRows) → AreSemaphoresOf net []
+no_semaphores net = record { rising = λ k below. absurd (omega (arith, below)); in_range = λ k d below. absurd (omega (arith, below)) }
+
+task_of : (net : NetRows) (shape : Shape) → IsTaskOf net (worked_task shape)
+task_of net shape = record { takes = no_semaphores net; puts = no_semaphores net }
+
+edge_of : (shape : Shape) (from : ℕ) → from < 4 → IsEdgeOf (worked_net shape) (worked_edge from)
+edge_of shape from below = record { from_in_range = below; to_in_range = omega arith; starts_strong = λ start. absurd (cc) }
+
+net_is : (shape : Shape) → IsNet (worked_net shape)
+net_is shape = record {
+  tasks = All-from_recursion (IsTaskOf (worked_net shape)) (worked_net shape).tasks (task_of (worked_net shape) Plain, (task_of (worked_net shape) Plain, (task_of (worked_net shape) Plain, (task_of (worked_net shape) shape, tt))));
+  edges = All-from_recursion (IsEdgeOf (worked_net shape)) (worked_net shape).edges (edge_of shape 0 (omega arith), (edge_of shape 1 (omega arith), (edge_of shape 2 (omega arith), tt)));
+  sems = λ k d below. absurd (omega (arith, below));
+  task_count = omega arith;
+  edge_count = omega arith;
+  sem_count = omega arith;
+}
+
+no_unit : (shape : Shape) → NeedsNoUnit (worked_task shape)
+no_unit shape = record { takes = refl; puts = refl }
+
+apart : (names : List (List ℕ)) → IsDistinct bytes_eq names → AllDiffer names
+apart names distinct = AllPairs-from_IsDistinct {eq = bytes_eq} bytes_eq-Decides names distinct
+
+text_name : (letter : ℕ) → IsTextName (letter ∷ [])
+text_name letter = record { least = omega arith; most = omega arith }
+
+pub worked_is_plan : (op : Op) → IsOp 2 op → IsPlan (worked_plan op)
+unfolding IsDistinct
+worked_is_plan op fits = record {
+  name = refl;
+  modules = refl;
+  sem_names = refl;
+  net = net_is (shape_of op);
+  sems = refl;
+  no_units = All-from_recursion NeedsNoUnit (worked_net (shape_of op)).tasks (no_unit Plain, (no_unit Plain, (no_unit Plain, (no_unit (shape_of op), tt))));
+  no_first_tokens = All-from_recursion (λ (row : EdgeRow). row.start ≡ false) (worked_net (shape_of op)).edges (refl, (refl, (refl, tt)));
+  names = refl;
+  shapes = refl;
+  ops = All-from_recursion (IsOp 2) (worked_plan op).top.ops (omega arith, (omega arith, (omega arith, (fits, tt))));
+  names_differ = apart (worked_plan op).top.names (((refl, (refl, (refl, tt))), ((refl, (refl, tt)), ((refl, tt), (tt, tt)))));
+  task_count = omega arith;
+  edge_count = omega arith;
+  texts = All-from_recursion IsTextName (worked_plan op).texts (text_name 101, (text_name 102, tt));
+  texts_differ = apart (worked_plan op).texts ((refl, tt), (tt, tt));
+  text_count = omega arith;
+}
+
+value_texts : All IsValueText worked_texts
+value_texts = All-from_recursion IsValueText worked_texts (record { normal = refl; short = omega arith }, (record { normal = refl; short = omega arith }, tt))
+
+pub worked_is_work : (op : Op) → IsOp 2 op → IsWork (worked_work op)
+worked_is_work op fits = record {
+  plan = worked_is_plan op fits;
+  text_count = refl;
+  texts = value_texts;
+  input = record { normal = refl; short = omega arith };
+  top = refl;
+  starts = omega arith;
+}
+
+-- a start of the last task finds three parts
+pub worked_release : (shape : Shape) → IsRelease (worked_net shape) 3 3
+worked_release shape = record { in_range = omega arith; cause = Strong; can_release = λ none. absurd (cc); size = refl }

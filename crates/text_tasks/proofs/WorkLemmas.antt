@@ -1,0 +1,65 @@
+-- What operations make of what is found.
+use Rattle.std.proofs.Common.{◌≡◌, ℕ, suc, ◌+◌, ◌<◌, ◌≤◌, ℤ, pos, Bool, true, false, cond, List, [], ◌∷◌, ◌++◌, length, map, drop, get_or, Some, None, sym, ap, ◌∙◌, arith, drop-cons, append_assoc}
+use Rattle.std.specs.Prelude.{if◌then◌else◌, filter, ◌==◌, ◌&&◌, not}
+use Rattle.std.specs.List.{range_with_len, last_or}
+use Rattle.std.proofs.lemmas.List.Elements.{filter-append}
+use Rattle.task_graph.specs.NetRows.{NetRows}
+use Rattle.task_graph.specs.Net.{is_weak_row}
+use Rattle.task_graph.specs.declared.net.EdgeRow.{EdgeRow}
+use Rattle.task_graph.specs.Places.{places_from}
+use Rattle.journal_rules.specs.declared.entry.Cause.{Cause}
+use Rattle.journal_rules.specs.declared.entry.Cause.TheVariants.{Source, Strong, Weak}
+use Rattle.journal_rules.specs.DataRule.{edges_of}
+use Rattle.journal_rules.proofs.NetLemmas.{places_length}
+use Rattle.run_frame.specs.Meaning.{IsRelease}
+use Rattle.run_frame.proofs.EndsLemmas.{counting_more, last_put}
+use Rattle.std.proofs.lemmas.List.{append-nil}
+use Rattle.text_ops.specs.declared.gathered.ApplyError.{ApplyError}
+use Rattle.text_ops.specs.declared.gathered.ApplyError.TheVariants.{Long, NoMemory}
+use Rattle.text_ops.specs.Lines.{IsNormal}
+use Rattle.text_ops.specs.TextMeaning.{has_word, sort_meaning}
+use Rattle.text_ops.specs.Values.{MayRefuse}
+use Rattle.text_ops.proofs.SortLemmas.{length-sort_meaning}
+use Rattle.text_tasks.specs.JobMeaning.{is_sink, last_sink_below}
+
+-- A release has no more parts than there are edges, or one.
+pub release_parts : (net : NetRows) (task parts : ℕ) → IsRelease net task parts → parts ≤ length net.edges + 1
+release_parts net task parts release = by_cause release.cause release.size
+  where
+    by_cause : (cause : Cause) → parts ≡ length (edges_of net task cause) → parts ≤ length net.edges + 1
+    by_cause Source size = omega (arith, size)
+    by_cause Strong size = omega (arith, size, places_length (λ (row : EdgeRow). (row.to == task) && not (is_weak_row net row)) net.edges)
+    by_cause (Weak e) size = omega (arith, size)
+
+last_kept : (ts : List ℕ) (n : ℕ) (is : Bool) → last_or None (ts ++ cond is (n ∷ []) []) ≡ (if is then Some n else last_or None ts)
+last_kept ts n true = last_put None ts n
+last_kept ts n false = ap (last_or None) (append-nil ts)
+
+-- The last task without an out-edge, with one task more.
+pub last_sink_next : (net : NetRows) (n : ℕ) → last_sink_below net (n + 1) ≡ (if is_sink net n then Some n else last_sink_below net n)
+last_sink_next net n =
+    ap (λ ts. last_or None (filter (is_sink net) ts)) (counting_more 0 n n (omega arith))
+    ∙ ap (last_or None) (filter-append (is_sink net) (range_with_len 0 n) (n ∷ []))
+    ∙ last_kept (filter (is_sink net) (range_with_len 0 n)) n (is_sink net n)
+
+-- the places of the items that pass, behind those that were looked at
+pub places_next : {X : Type 0} (p : X → Bool) (xs : List X) (i : ℕ) (d : X) → i < length xs → places_from p i (drop i xs) ≡ cond (p (get_or xs i d)) (i ∷ places_from p (i + 1) (drop (i + 1) xs)) (places_from p (i + 1) (drop (i + 1) xs))
+places_next p xs i d below =
+    let next : i + 1 ≡ suc i = omega arith in
+    rw next (ap (places_from p i) (drop-cons xs i d below))
+
+-- the words that occur, behind those that were looked at
+pub occurring_next : (words : List (List ℕ)) (text : List ℕ) (chosen : List ℤ) (i : ℕ) (d : List ℕ) (is : Bool) → i < length words → is ≡ has_word (get_or words i d) text → cond is (chosen ++ pos i ∷ []) chosen ++ map pos (places_from (λ word. has_word word text) (i + 1) (drop (i + 1) words)) ≡ chosen ++ map pos (places_from (λ word. has_word word text) i (drop i words))
+occurring_next words text chosen i d is below same = by_test is (ap (λ found. chosen ++ map pos found) (places_next (λ word. has_word word text) words i d below ∙ ap (λ b. cond b (i ∷ behind) behind) (sym same)))
+  where
+    behind : List ℕ
+    behind = places_from (λ word. has_word word text) (i + 1) (drop (i + 1) words)
+
+    by_test : (b : Bool) → chosen ++ map pos (places_from (λ word. has_word word text) i (drop i words)) ≡ chosen ++ map pos (cond b (i ∷ behind) behind) → cond b (chosen ++ pos i ∷ []) chosen ++ map pos behind ≡ chosen ++ map pos (places_from (λ word. has_word word text) i (drop i words))
+    by_test true step = append_assoc chosen (pos i ∷ []) (map pos behind) ∙ sym step
+    by_test false step = sym step
+
+-- a text in order is as long as the text
+pub sort_refuses : (text : List ℕ) (error : ApplyError) → IsNormal text → MayRefuse text error → MayRefuse (sort_meaning text) error
+sort_refuses text (Long n) is refused = (refused.0 ∙ sym (length-sort_meaning text is), refused.1)
+sort_refuses text NoMemory is refused = tt

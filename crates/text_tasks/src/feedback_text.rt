@@ -1,0 +1,46 @@
+// What a run hands to the next round.
+ghost use Rattle.std.specs.Prelude.{◌≡◌};
+ghost use Rattle.std.specs.Option.{option_copied, option_and_then};
+ghost use Rattle.run_frame.specs.LastEnds.{last_value};
+ghost use Rattle.run_frame.specs.NestedRule.{job_of, journal_of};
+ghost use Rattle.run_frame.specs.Runs.{values_of};
+ghost use Rattle.text_tasks.specs.JobMeaning.{feedback_of, last_sink, net_of};
+
+use crate::item::Item;
+use crate::job::TextJob;
+use run_frame::{FrameRun, Job};
+use task_graph::Net;
+
+/// The value of the last End of the last task, by its number, that has no out-edge; or the empty text, where no task is
+/// so or that one has no End. It walks over the tasks, the journal and the values.
+pub fn feedback(run: &FrameRun<TextJob>) -> &[u8]
+    ensures { result.now ≡ feedback_of run.now }
+{
+    match last_item(run) {
+        Some(item) => item.text().as_slice(),
+        None => &[],
+    }
+}
+
+// The value, if there is one.
+fn last_item(run: &FrameRun<TextJob>) -> Option<&Item>
+    ensures { option_copied result ≡ option_and_then (last_value (journal_of run.now) (values_of run.now)) (last_sink (net_of (job_of run.now))) }
+{
+    let task = last_sink(run.job.net())?;
+    let place = run.last_end(task)?;
+    run.value(place)
+}
+
+#[tactic(auto, using(crate::proofs::WorkLemmas::last_sink_next))]
+// The last task without an out-edge.
+fn last_sink(net: &Net) -> Option<u32>
+    ensures { result ≡ last_sink net.now }
+{
+    let mut last = None;
+    for task in 0..net.tasks().len() as u32 {
+        if net.out_edges(task).is_empty() {
+            last = Some(task);
+        }
+    }
+    last
+}

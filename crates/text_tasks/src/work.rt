@@ -1,0 +1,146 @@
+// The work of each operation.
+ghost use Rattle.std.specs.Prelude.{◌≡◌, ◌<◌, ◌≤◌, ◌^◌, [], length, if◌then◌else◌, slice_index_or, IfOk};
+ghost use Rattle.graph_plans.specs.Operations.{IsOp};
+ghost use Rattle.join_words.specs.Ins.{parts_of};
+ghost use Rattle.text_ops.specs.TextMeaning.{match_meaning, sort_meaning};
+ghost use Rattle.text_ops.specs.Values.{Makes};
+ghost use Rattle.text_tasks.specs.FoundTexts.{left_found, right_found};
+ghost use Rattle.text_tasks.specs.OpMeaning.{first_one, occurring, op_meaning, second_one, text_op_value};
+ghost use Rattle.text_tasks.specs.inside.Finding.{founds, text_from};
+ghost use Rattle.text_tasks.specs.inside.Working.{HandsOver};
+
+use crate::found::{text_of_edge, text_from, whole_text};
+use crate::item::Item;
+use crate::job::GraphJob;
+use graph_plans::{Op, TextOp};
+use join_words::Ins;
+use outside_io::{Bytes, List, NoMemory};
+use run_frame::Answer;
+use std::alloc::Global;
+use text_ops::{
+    ApplyError, Text, count, has_word, head, keep, line_count, match_lines, pass, skip, sort, tail,
+    tally, uniq, without,
+};
+
+impl GraphJob {
+    // What the task of an operation makes of what it finds, and which successors get it. One row for each operation.
+    pub(crate) fn work(
+        &self,
+        alloc: Global,
+        op: &Op,
+        ins: &Ins<Item>,
+    ) -> Result<(Text, Answer), ApplyError>
+        requires op { IsOp (length self.now.texts) op.now }
+        requires parts { length (parts_of ins.now) < 2 ^ 32 }
+        ensures { HandsOver (op_meaning self.now (founds ins.now) op.now) result }
+    {
+        match op {
+            Op::Input => Ok((self.input.share()?, Answer::All)),
+            Op::Read(number) => Ok((self.read(*number)?, Answer::All)),
+            Op::Text(op) => Ok((apply_to_found(alloc, op, ins)?, Answer::All)),
+            Op::Match => Ok((match_found(alloc, ins)?, Answer::All)),
+            Op::Back => Ok((whole_text(alloc, ins)?, first_or_second(alloc, true)?)),
+            Op::IfMore(n) => {
+                let text = whole_text(alloc, ins)?;
+                let has_more = line_count(&text) > *n;
+                Ok((text, first_or_second(alloc, has_more)?))
+            }
+            Op::IfHas(word) => {
+                let text = whole_text(alloc, ins)?;
+                let has_word = has_word(word.as_slice(), &text);
+                Ok((text, first_or_second(alloc, has_word)?))
+            }
+            Op::Route(words) => {
+                let text = whole_text(alloc, ins)?;
+                let chosen = occurring(alloc, words.as_slice(), &text)?;
+                Ok((text, Answer::Indices(chosen)))
+            }
+        }
+    }
+
+    // The text of a number.
+    fn read(&self, number: u32) -> Result<Text, NoMemory>
+        requires { number < length self.now.texts }
+        ensures { IfOk result (λ text. text ≡ slice_index_or self.now.texts number []) }
+    {
+        let Some(text) = self.texts.get(number) else {
+            unreachable!()
+        };
+        text.share()
+    }
+}
+
+// What an operation on one text makes of the text of a task.
+fn apply_to_found(alloc: Global, op: &TextOp, ins: &Ins<Item>) -> Result<Text, ApplyError>
+    requires { length (parts_of ins.now) < 2 ^ 32 }
+    ensures { Makes (text_op_value op.now (text_from ins.now 0)) result }
+{
+    match op {
+        TextOp::Pass => whole_text(alloc, ins),
+        TextOp::Sort => sort_found(alloc, ins),
+        op => apply(alloc, op, &text_from(alloc, ins, 0)?),
+    }
+}
+
+// The lines of the text of a task in order. They are as long as the text, so one that is too long isn't put together.
+#[tactic(auto, using(crate::proofs::WorkLemmas::sort_refuses))]
+fn sort_found(alloc: Global, ins: &Ins<Item>) -> Result<Text, ApplyError>
+    requires { length (parts_of ins.now) < 2 ^ 32 }
+    ensures { Makes (sort_meaning (text_from ins.now 0)) result }
+{
+    let text = whole_text(alloc, ins)?;
+    sort(alloc, &text)
+}
+
+/// What an operation on one text makes of a text. One row for each operation.
+///
+/// `Long`: the value would have so many bytes, which are more than `VALUE_LIMIT`.
+pub fn apply(alloc: Global, op: &TextOp, text: &Text) -> Result<Text, ApplyError>
+    ensures { Makes (text_op_value op.now text.now) result }
+{
+    match op {
+        TextOp::Pass => pass(text),
+        TextOp::Keep(word) => keep(alloc, word.as_slice(), text),
+        TextOp::Without(word) => without(alloc, word.as_slice(), text),
+        TextOp::Head(n) => head(text, *n),
+        TextOp::Tail(n) => tail(text, *n),
+        TextOp::Skip(n) => skip(text, *n),
+        TextOp::Sort => sort(alloc, text),
+        TextOp::Uniq => uniq(alloc, text),
+        TextOp::Count => count(alloc, text),
+        TextOp::Tally => tally(alloc, text),
+    }
+}
+
+// The lines of the text at the first edge, matched with those of the others.
+fn match_found(alloc: Global, ins: &Ins<Item>) -> Result<Text, ApplyError>
+    requires { length (parts_of ins.now) < 2 ^ 32 }
+    ensures { Makes (match_meaning (left_found (founds ins.now)) (right_found (founds ins.now))) result }
+{
+    let Some(left) = text_of_edge(ins, 0) else {
+        return Ok(Text::new());
+    };
+    match_lines(alloc, left, &text_from(alloc, ins, 1)?)
+}
+
+// The first successor alone, or else the second one alone.
+fn first_or_second(alloc: Global, first: bool) -> Result<Answer, NoMemory>
+    ensures { IfOk result (λ answer. answer ≡ (if first then first_one else second_one)) }
+{
+    let index = if first { 0 } else { 1 };
+    Ok(Answer::Indices(List::from_slice(alloc, &[index])?))
+}
+
+// The rising indices of the words that occur in a line of the text.
+fn occurring(alloc: Global, words: &[Bytes], text: &Text) -> Result<List<i64>, NoMemory>
+    requires { length words.now ≤ 256 }
+    ensures { IfOk result (λ chosen. chosen ≡ occurring words.now text.now) }
+{
+    let mut chosen = List::new(alloc);
+    for (index, word) in words.iter().enumerate() {
+        if has_word(word.as_slice(), text) {
+            chosen.push(index as i64)?;
+        }
+    }
+    Ok(chosen)
+}

@@ -1,0 +1,38 @@
+// Words that ask for nothing.
+use crate::calls::{COUNT, Call, run, shown};
+use std::test::Fail;
+
+#[test]
+fn refuses_words(rt: HostRuntime) -> Result<(), Fail> {
+    let refused: [&[&str]; 18] = [
+        &[],
+        &[""],
+        &["run"],
+        &["run", "-x"],
+        &["g"],
+        &["Run", "g"],
+        &["walk", "g"],
+        &["run", "g", "g"],
+        &["run", "g", "--help"],
+        &["run", "g", "--workers", "0"],
+        &["run", "g", "--limit"],
+        &["run", "g", "--limit", ""],
+        &["run", "g", "--limit", "0"],
+        &["run", "g", "--limit", "+4"],
+        &["run", "g", "--limit", "1x"],
+        &["run", "g", "--limit", "1000001"],
+        &["run", "g", "--limit", "00000001"],
+        &["run", "g", "--limit", "1", "--limit", "1"],
+    ];
+    for words in refused {
+        let call = Call {
+            words,
+            ..run(COUNT.as_bytes(), b"")
+        };
+        assert_eq!(rt;
+            shown(rt.alloc(), &call)?.as_str(),
+            "2 written; ; flow: bad words\n"
+        );
+    }
+    Ok(())
+}

@@ -1,0 +1,20 @@
+//! Calls of the program, worked as examples. There is nothing here but tests.
+//!
+//! Each call is one of `flow_main` over texts and sinks in memory; a test shows the exit code, how many entries the
+//! journal of each kept run has, and what both sinks took.
+#![tactic(auto)]
+
+#[cfg(test)]
+mod arguments;
+#[cfg(test)]
+mod calls;
+#[cfg(test)]
+mod faults;
+#[cfg(test)]
+mod graphs;
+#[cfg(test)]
+mod limits;
+#[cfg(test)]
+mod operations;
+#[cfg(test)]
+mod refused;
