@@ -3,3 +3,4 @@ pub mod WorkedBuilder
 pub mod WorkedSteps
 pub mod WorkedFrames
 pub mod WorkedSources
+pub mod WorkedRows

@@ -272,11 +272,14 @@ module _ (r s : TableId) (other : s ≢ r) (ins : Ins ℕ) where
   job_handed_on : ¬ HasNoInner sums 2 (Running 0 4 ins)
   job_handed_on is = is (2 + 0 + added (map found_of (parts_of ins))) refl
 
-  ends_with_its_sum : parts_of ins ≡ given.First ∷ [] → MayEndWith flat_sums 2 (Running 1 4 ins) 3 Each
-  ends_with_its_sum parts = (omega arith, (sym (ap (λ found. 3 + added (map found_of found)) parts), refl))
+  sum_of_inputs : (shared : Arc ℕ Global) → parts_of ins ≡ given.Value 1 shared ∷ [] → arc_value shared ≡ 7 → 3 + added (map found_of (parts_of ins)) ≡ 10
+  sum_of_inputs shared parts seven = let sum : 3 + added (map found_of (parts_of ins)) ≡ 3 + (arc_value shared + 0) = ap (λ found. 3 + added (map found_of found)) parts in omega (arith, seven, sum)
 
-  ends_with_another_value : parts_of ins ≡ given.First ∷ [] → ¬ MayEndWith flat_sums 2 (Running 1 4 ins) 6 Each
-  ends_with_another_value parts is = let sum = ap (λ found. 3 + added (map found_of found)) parts in absurd (omega (arith, sum, is.1.0))
+  ends_with_its_sum : (shared : Arc ℕ Global) → parts_of ins ≡ given.Value 1 shared ∷ [] → arc_value shared ≡ 7 → MayEndWith flat_sums 2 (Running 1 4 ins) 10 Each
+  ends_with_its_sum shared parts seven = (omega arith, (sym (sum_of_inputs shared parts seven), refl))
+
+  ends_without_its_inputs : (shared : Arc ℕ Global) → parts_of ins ≡ given.Value 1 shared ∷ [] → arc_value shared ≡ 7 → ¬ MayEndWith flat_sums 2 (Running 1 4 ins) 3 Each
+  ends_without_its_inputs shared parts seven is = absurd (omega (arith, sum_of_inputs shared parts seven, is.1.0))
 
   ends_with_another_answer : ¬ MayEndWith flat_sums 2 (Running 1 4 ins) 3 NoneOf
   ends_with_another_answer is = let answer = is.1.1 in absurd (cc)
@@ -287,11 +290,11 @@ module _ (r s : TableId) (other : s ≢ r) (ins : Ins ℕ) where
   unused_does_not_end : ¬ MayEndWith flat_sums 2 (Unused 0 Source) 2 Each
   unused_does_not_end is = is
 
-  faults_with_its_sum : parts_of ins ≡ given.First ∷ [] → MayFaultWith flat_sums 2 (Running 1 4 ins) (Long 3) × MayFail flat_sums 2 (Running 1 4 ins) (FaultOf (Long 3))
-  faults_with_its_sum parts = let sum = sym (ap (λ found. 3 + added (map found_of found)) parts) in (sum, sum)
+  faults_with_its_sum : (shared : Arc ℕ Global) → parts_of ins ≡ given.Value 1 shared ∷ [] → arc_value shared ≡ 7 → MayFaultWith flat_sums 2 (Running 1 4 ins) (Long 10) × MayFail flat_sums 2 (Running 1 4 ins) (FaultOf (Wide 10))
+  faults_with_its_sum shared parts seven = (sym (sum_of_inputs shared parts seven), sym (sum_of_inputs shared parts seven))
 
-  faults_with_another : parts_of ins ≡ given.First ∷ [] → ¬ MayFail flat_sums 2 (Running 1 4 ins) (FaultOf (Long 6))
-  faults_with_another parts is = let sum = ap (λ found. 3 + added (map found_of found)) parts in absurd (omega (arith, sum, is))
+  faults_without_its_inputs : (shared : Arc ℕ Global) → parts_of ins ≡ given.Value 1 shared ∷ [] → arc_value shared ≡ 7 → ¬ MayFail flat_sums 2 (Running 1 4 ins) (FaultOf (Long 3))
+  faults_without_its_inputs shared parts seven is = absurd (omega (arith, sum_of_inputs shared parts seven, is))
 
   unused_does_not_fault : ¬ MayFaultWith flat_sums 2 (Unused 0 Source) (Long 2)
   unused_does_not_fault is = is

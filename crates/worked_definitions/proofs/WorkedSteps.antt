@@ -185,6 +185,9 @@ stuck_is_not_halted is = absurd (cc)
 stuck_by_right : ¬ Breaks unit_net 9 taken (Drop 0 Source (Stuck 0)) NotStuck
 stuck_by_right is = is.1 (record { no_fault = refl; none_open = (refl, (refl, tt)); takes_it = refl; no_unit = λ has. absurd (omega (arith, has)) })
 
+stuck_without_need : Breaks unit_net 9 taken (Drop 1 Source (Stuck 0)) NotStuck
+stuck_without_need = (refl, λ is. let takes : false ≡ true = is.takes_it in absurd (cc))
+
 -- The verdict names the first entry that is refused; those before it are legal, whatever those behind it are.
 may_begin : MayFollow net 2 [] (Start 0 Source [])
 may_begin = record {

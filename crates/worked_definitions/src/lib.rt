@@ -6,5 +6,5 @@
 //! - `WorkedSinks`, `WorkedSources`: sinks, sources of texts, streams, the inputs of a start, a watcher's count;
 //! - `WorkedBuilder`: what the builder of nets answers, and which nets are well formed;
 //! - `WorkedSteps`: what a machine's steps do, the break of each rule, the verdict;
-//! - `WorkedFrames`: what a run's steps do, and what its works may come to.
+//! - `WorkedFrames`, `WorkedRows`: what a run's steps do, what its works may come to, and where its inner runs stand.
 #![tactic(auto)]
