@@ -30,6 +30,16 @@ PYTHON
 random_lines 99 > long.txt
 random_lines 6 > short.txt
 
+# A text of as many short lines, of which a hundred differ.
+few_lines() {
+    python3 - short.txt <<'PYTHON'
+import random, sys
+lines = open(sys.argv[1], "rb").readlines()
+sys.stdout.buffer.write(b"".join(random.Random(2).choices(lines[:100], k=len(lines))))
+PYTHON
+}
+few_lines > few.txt
+
 # The first half of each, which is matched with itself, and the half twice, which is tallied: so no value is too long.
 for text in long short; do
     head -n $(($(wc -l < $text.txt) / 2)) $text.txt > $text.half.txt
@@ -81,12 +91,14 @@ tell() {
     }'
 }
 
-for text in long short; do
-    half=$(wc -l < $text.half.txt)
-    for operation in "head $half" "tail $half" "skip $half" "keep abc" "without abc" uniq count sort tally match; do
+for text in long short few; do
+    half=$(($(wc -l < $text.txt) / 2))
+    operations=("head $half" "tail $half" "skip $half" "keep abc" "without abc" uniq count sort tally match)
+    [[ $text == few ]] && operations=(sort tally)
+    for operation in "${operations[@]}"; do
         read -r name operand <<< "$operation"
         case $name in
-            tally) file=$text.twice.txt ;;
+            tally) [[ $text == few ]] && file=few.txt || file=$text.twice.txt ;;
             match) file=$text.half.txt ;;
             *) file=$text.txt ;;
         esac

@@ -1,5 +1,6 @@
 //! How long the calls of `keyed_lock`, `tickets` and `ready_deques` last. It measures if it is called with a word,
-//! and otherwise does nothing. It is no part of the product.
+//! and otherwise does nothing; with `own` or `apart` and numbers of owners it makes one measurement of the ready list
+//! alone, for those who count its processor time. It is no part of the product.
 #![tactic(auto)]
 
 mod clock;
@@ -11,8 +12,19 @@ use outside_io::NoMemory;
 use std::{env, io};
 
 fn main(rt: HostRuntime) -> io::Result<()> {
-    if env::args(&rt)?.len() < 2 {
+    let mut args = env::args(&rt)?;
+    let _program = args.next();
+    let Some(word) = args.next() else {
         return Ok(());
+    };
+    let (owners, at_work) = (number(args.next()), number(args.next()));
+    if word.as_str() == "own" {
+        let nanos = deques::own(&rt, rt.alloc(), owners, at_work as usize)?;
+        return println!(rt; "{owners} owners, {at_work} at work: {nanos} ns");
+    }
+    if word.as_str() == "apart" {
+        let nanos = deques::apart(&rt, rt.alloc(), owners)?;
+        return println!(rt; "{owners} lists of one owner: {nanos} ns");
     }
     for threads in [1, clock::THREADS].iter() {
         let adds = locks::adds(&rt, *threads)?;
@@ -34,4 +46,9 @@ fn main(rt: HostRuntime) -> io::Result<()> {
     let nanos = deques::stolen(&rt, rt.alloc())?;
     println!(rt; "three thieves: an item stolen each {nanos} ns")?;
     Ok(())
+}
+
+// The number that a word stands for.
+fn number(word: Option<String>) -> u32 {
+    word.map_or(0, |word| word.as_str().parse::<u32>().unwrap_or(0))
 }
