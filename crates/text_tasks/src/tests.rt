@@ -3,7 +3,7 @@ mod jobs;
 
 use crate::{Item, TextJob, apply};
 use graph_plans::TextOp;
-use jobs::{Part, Step, job, lone_part, op_of, parts_of, text_of};
+use jobs::{Part, Step, job, op_of, parts_of, text_of};
 use legal_run::Why;
 use outside_io::List;
 use run_frame::{Answer, Done, Job, JobError};
@@ -34,6 +34,7 @@ fn chosen(answer: &Answer) -> Successors<'_> {
 }
 
 // What the last task answers on these parts, which doesn't fault.
+#[tactic(auto, using(crate::proofs::PlanLemmas::worked_release))]
 fn answer(alloc: Global, step: Step<'_>, parts: [Part<'_>; 3]) -> Result<(Item, Answer), Fail> {
     let job = job(alloc, op_of(alloc, step)?)?;
     match job.run(alloc, 3, &parts_of(alloc, parts)?) {
@@ -50,6 +51,7 @@ fn value(done: Done<TextJob>) -> Result<(Item, Answer), Fail> {
 }
 
 // Why the last task gives no value on these parts.
+#[tactic(auto, using(crate::proofs::PlanLemmas::worked_release))]
 fn fault(alloc: Global, step: Step<'_>, parts: [Part<'_>; 3]) -> Result<JobError, Fail> {
     let job = job(alloc, op_of(alloc, step)?)?;
     match job.run(alloc, 3, &parts_of(alloc, parts)?) {
@@ -231,31 +233,6 @@ fn faults_where_a_value_is_too_long(rt: HostRuntime) -> Result<(), Fail> {
     // Each of the halves has the same key: the first line is joined with the rest of the second one.
     let error = fault(rt.alloc(), Step::Match, two)?;
     assert_eq!(rt; error, JobError::Fault(Why::Long(18_874_366)));
-    Ok(())
-}
-
-#[test]
-fn hands_a_lone_text_on_without_a_copy(rt: HostRuntime) -> Result<(), Fail> {
-    let steps: [Step<'_>; 5] = [
-        Step::Pass,
-        Step::Back,
-        Step::IfMore(1),
-        Step::IfHas(b"a"),
-        Step::Route(&[b"a"]),
-    ];
-    for step in steps {
-        let text = text_of(rt.alloc(), b"b\na\n")?;
-        let parts = lone_part(rt.alloc(), &text)?;
-        let job = job(rt.alloc(), op_of(rt.alloc(), step)?)?;
-        let Ok(done) = job.run(rt.alloc(), 3, &parts) else {
-            return Err(Fail::new("no value"));
-        };
-        let (item, _) = value(done)?;
-        assert!(rt;
-            item.text().as_slice().as_ptr() == text.as_slice().as_ptr(),
-            "{step:?}"
-        );
-    }
     Ok(())
 }
 

@@ -151,17 +151,6 @@ pub(super) fn parts_of(alloc: Global, parts: [Part<'_>; 3]) -> Result<Ins<Item>,
     Ok(ins)
 }
 
-/// What a start finds that gets this text alone.
-pub(super) fn lone_part(alloc: Global, text: &Text) -> Result<Ins<Item>, Fail>
-    ensures { IfOk result (λ ins. length (parts_of ins) ≡ 3) }
-{
-    let mut ins = Ins::with_room(alloc, 3)?;
-    ins.add(Given::Nothing);
-    ins.add(Given::Value(0, Arc::new(alloc, Item::Text(text.share()?))?));
-    ins.add(Given::First);
-    Ok(ins)
-}
-
 fn given(alloc: Global, part: Part<'_>) -> Result<Given<Item>, Fail> {
     match part {
         Part::Text(bytes) => {
@@ -174,6 +163,7 @@ fn given(alloc: Global, part: Part<'_>) -> Result<Given<Item>, Fail> {
 }
 
 /// A job of which the last task has this operation.
+#[tactic(auto, using(crate::proofs::PlanLemmas::worked_is_work))]
 pub(super) fn job(alloc: Global, op: Op) -> Result<TextJob, Fail>
     requires { IsOp 2 op }
     ensures { IfOk result (λ job. job ≡ TextJob.Graph (worked_work op)) }
