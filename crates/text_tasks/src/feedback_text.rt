@@ -31,8 +31,8 @@ fn last_item(run: &FrameRun<TextJob>) -> Option<&Item>
     run.value(place)
 }
 
-#[tactic(auto, using(crate::proofs::WorkLemmas::last_sink_next))]
 // The last task without an out-edge.
+#[tactic(auto, using(crate::proofs::WorkLemmas::last_sink_next))]
 fn last_sink(net: &Net) -> Option<u32>
     ensures { result ≡ last_sink net.now }
 {

@@ -71,8 +71,8 @@ fn bytes_at(ins: &Ins<Item>, place: usize) -> &[u8]
     }
 }
 
-#[tactic(auto, using(crate::proofs::FoundLemmas::text_from_next, crate::proofs::FoundLemmas::text_from_end))]
 // The first text from a place on that isn't empty.
+#[tactic(auto, using(crate::proofs::FoundLemmas::text_from_next, crate::proofs::FoundLemmas::text_from_end))]
 fn first_text(ins: &Ins<Item>, from: usize) -> Option<&Text>
     ensures { MatchOption result (text_from ins.now from ≡ []) (λ text. StartsText text.now (text_from ins.now from)) }
 {
@@ -84,8 +84,8 @@ fn first_text(ins: &Ins<Item>, from: usize) -> Option<&Text>
     None
 }
 
-#[tactic(auto, using(crate::proofs::FoundLemmas::text_from_next, crate::proofs::FoundLemmas::text_from_end))]
 // How many bytes the texts from a place on have. They are counted from the last one on.
+#[tactic(auto, using(crate::proofs::FoundLemmas::text_from_next, crate::proofs::FoundLemmas::text_from_end))]
 fn found_len(ins: &Ins<Item>, from: usize) -> u64
     requires { length (parts_of ins.now) < 2 ^ 32 }
     ensures len { result ≡ length (text_from ins.now from) }
@@ -98,8 +98,8 @@ fn found_len(ins: &Ins<Item>, from: usize) -> u64
     len
 }
 
-#[tactic(auto, using(crate::proofs::FoundLemmas::text_from_next, crate::proofs::FoundLemmas::text_from_end))]
 // A copy of the texts from a place on, which have so many bytes.
+#[tactic(auto, using(crate::proofs::FoundLemmas::text_from_next, crate::proofs::FoundLemmas::text_from_end))]
 fn put_together(alloc: Global, ins: &Ins<Item>, from: usize, len: usize) -> Result<Text, NoMemory>
     requires len { len ≡ length (text_from ins.now from) }
     requires short { len ≤ 2147483647 }

@@ -11,6 +11,8 @@ mod found;
 mod item;
 mod job;
 mod table;
+#[cfg(test)]
+mod tests;
 mod work;
 
 pub use feedback_text::feedback;

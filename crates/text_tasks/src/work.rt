@@ -9,7 +9,7 @@ ghost use Rattle.text_tasks.specs.OpMeaning.{first_one, occurring, op_meaning, s
 ghost use Rattle.text_tasks.specs.inside.Finding.{founds, text_from};
 ghost use Rattle.text_tasks.specs.inside.Working.{HandsOver};
 
-use crate::found::{text_of_edge, text_from, whole_text};
+use crate::found::{text_from, text_of_edge, whole_text};
 use crate::item::Item;
 use crate::job::GraphJob;
 use graph_plans::{Op, TextOp};
