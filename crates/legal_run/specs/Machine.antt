@@ -54,7 +54,7 @@ break_of NotHalted = Some NoFault
 break_of NotStuck = Some NoStuckRun
 break_of NoMemory = None
 
--- A machine refuses an entry for the break that is told of it; and an entry that may follow for want of memory alone.
+-- A machine refuses an entry for the break that is told of it, and one that may follow only where an allocation fails.
 abbrev pub Refuses : MachineState → Entry → MachineError → Type 0
 Refuses m entry error =
     MatchOption (break_of error) (MayFollow m.net m.limit m.journal entry) (IsRefusal m.net m.limit m.journal entry)

@@ -9,7 +9,7 @@ use std::marker::Model;
 use std::ops::DerefSlice;
 use std::slice;
 
-/// Memory was refused.
+/// An allocation failed.
 #[derive(Clone, Copy, Debug, PartialEq, Eq)]
 pub struct NoMemory;
 

@@ -1,4 +1,4 @@
--- A machine refuses an entry that may follow for want of memory alone.
+-- A machine refuses an entry that may follow only where an allocation fails.
 use Rattle.std.proofs.Common.{◌≡◌, refl}
 use Rattle.legal_run.specs.MachineState.{MachineState}
 use Rattle.legal_run.specs.Machine.{Refuses}

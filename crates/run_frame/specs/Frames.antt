@@ -106,7 +106,7 @@ abbrev pub MayFaultWith : {J V : Type 0} → Meaning J V → J → Duty V → Wh
 MayFaultWith meaning job (Unused task cause) why = ⊥
 MayFaultWith meaning job (Running task start ins) why = meaning.faults job task (map found_of (parts_of ins)) why
 
--- and to this error; want of memory is free
+-- and to this error; an allocation may always fail
 abbrev pub MayFail : {J V : Type 0} → Meaning J V → J → Duty V → JobError → Type 0
 MayFail meaning job duty (FaultOf why) = MayFaultWith meaning job duty why
 MayFail meaning job duty NoMemory = Unit {0}
@@ -135,7 +135,7 @@ pub record FaultsTask {J V : Type 0} (old new : FrameView J V) (ticket : TicketS
   pub entry : Faults old.machine new.machine start why place
   pub items : new.items ≡ items_after old.items ticket []
 
--- A run that has just begun: its journal is empty, and each first release has one of these tickets.
+-- A run that has just begun: its journal is empty, and what is outstanding are the releases of these tickets.
 pub record IsBegun {J V : Type 0} (meaning : Meaning J V) (job : J) (state : FrameView J V) (released : List (TicketState (Duty V))) : Type 0 where
   pub job_is : state.job ≡ job
   pub machine : state.machine ≡ record { net = meaning.net job; limit = meaning.limit job; journal = [] }

@@ -46,7 +46,7 @@ pub record IsRelease (net : NetRows) (task parts : ℕ) : Type 0 where
   pub can_release : IsCauseOf net task cause
   pub size : parts ≡ length (edges_of net task cause)
 
--- The fault that an error tells is allowed; want of memory is free.
+-- The fault that an error tells is allowed; an allocation may always fail.
 abbrev pub FaultAllowed : {J V : Type 0} → Meaning J V → J → ℕ → List (InputValue V) → JobError → Type 0
 FaultAllowed meaning job task found (FaultOf why) = meaning.faults job task found why
 FaultAllowed meaning job task found NoMemory = Unit {0}

@@ -43,7 +43,7 @@ pub enum Done<J: Valued> {
 pub enum JobError {
     /// A fault that the journal tells.
     Fault(Why),
-    /// Memory was refused.
+    /// An allocation failed.
     NoMemory,
 }
 

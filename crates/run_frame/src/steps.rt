@@ -126,7 +126,7 @@ pub fn fault_task(machine: &mut Machine, start: u64, why: Why) -> Result<u64, No
     }
 }
 
-// What a machine answers that refuses an entry for want of memory.
+// What a machine answers that refuses an entry since an allocation failed.
 fn only_memory(error: MachineError) -> NoMemory
     requires { error ≡ MachineError.NoMemory }
 {

@@ -51,7 +51,7 @@ OccursIn-append word xs ys stands =
 stands_in_whole : (word line after text : List ℕ) → text ≡ line ++ after → OccursIn word line → OccursIn word text
 stands_in_whole word line after text is stands = subst (OccursIn word) (sym is) (OccursIn-append word line after stands)
 
--- the first line is a front of the text
+-- the first line is a prefix of the text
 front_of_onto : (byte : ℕ) (rest line : List ℕ) (parts more : List (List ℕ)) → ((first : List ℕ) (others : List (List ℕ)) → parts ≡ first ∷ others → (after : List ℕ) × (rest ≡ first ++ after)) → onto_first byte parts ≡ line ∷ more → (after : List ℕ) × (byte ∷ rest ≡ line ++ after)
 front_of_onto byte rest line [] more fronts is =
     let same : line ≡ byte ∷ [] = cc in

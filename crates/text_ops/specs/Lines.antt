@@ -43,6 +43,6 @@ abbrev pub occurs : List ℕ → List ℕ → Bool
 occurs word [] = starts_with nat_eq [] word
 occurs word (byte ∷ rest) = starts_with nat_eq (byte ∷ rest) word || occurs word rest
 
--- The word stands somewhere in the line: the line is a front, the word and a rest.
+-- The word stands somewhere in the line: the line is a prefix, the word and a rest.
 abbrev pub OccursIn : List ℕ → List ℕ → Type 0
 OccursIn word line = (front : List ℕ) × (rest : List ℕ) × (line ≡ front ++ (word ++ rest))

@@ -26,7 +26,7 @@ use Rattle.run_frame.specs.WorkRule.{Answers}
 use Rattle.run_frame.specs.Duties.{AreReleasesOf, AreMadeBy}
 use Rattle.run_frame.specs.Frames.{FrameView, IsOutstanding, items_after}
 
--- a machine can refuse this entry for want of memory alone
+-- a machine refuses this entry only where an allocation fails
 pub record CanTake (m : MachineState) (entry : Entry) : Type 0 where
   pub rows : IsNet m.net
   pub legal : ShapeLegal m.net m.limit m.journal
