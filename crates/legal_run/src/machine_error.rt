@@ -23,13 +23,13 @@ pub enum MachineError {
     NotChosen,
     /// The least semaphore that the task puts and of which no unit is out.
     NothingOut(u32),
-    /// A unit of that semaphore is out, or the task doesn't put it.
+    /// A unit of that semaphore was out all along, or the task doesn't put it.
     NotOver,
     /// Nothing has faulted.
     NotHalted,
-    /// Something runs or has faulted, or the semaphore has a unit.
+    /// Something runs or has faulted, the task doesn't take the semaphore, or it has a unit.
     NotStuck,
-    /// Memory was refused.
+    /// An allocation failed.
     NoMemory,
 }
 
