@@ -10,8 +10,8 @@
 //! strong in-edges were given, and how many of these edges were given no more. Only where the last of them gets a token
 //! are they all walked.
 //!
-//! The rules are in `specs/`, one a file. What the counts stand for is in `specs/inside/`: only the machine and the
-//! judge of the crate above need it.
+//! The rules are in `specs/`, one a file. What the counts stand for is in `specs/inside/`: of the crates above only the
+//! machine, the judge and lemmas cite it.
 #![tactic(auto)]
 
 mod counts;

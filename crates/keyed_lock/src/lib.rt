@@ -14,7 +14,7 @@
 //!   value out of the slot. Whoever finds another word looks again for a short while, then swaps in `AWAITED`: if
 //!   it finds `FREE` there the value is its own, and otherwise it sleeps on the word.
 //! - `put` lays the value into the slot and swaps in `FREE`. If it finds `AWAITED` it wakes one sleeper, who swaps
-//!   in `AWAITED` again, so that no other sleeper is forgotten. Where nobody sleeps no call to the system is made.
+//!   in `AWAITED` again, so that no other sleeper is forgotten. Where it finds `TAKEN` it makes no call to the system.
 //!
 //! The slot is read and written only by the caller who found `FREE`, up to its `put`: it holds the slot by its
 //! pass, a token without bytes. The rule of the table says that a value in the slot has the lock's key.

@@ -23,7 +23,7 @@ use std::marker::Model;
 use std::sync::Arc;
 use task_graph::Net;
 
-/// The most starts that a run of the program may have.
+/// The greatest limit of starts that a job may have. A machine takes any limit.
 pub const MAX_LIMIT: u64 = 2_097_153;
 
 /// A run of a net by one thread, as far as it has come.

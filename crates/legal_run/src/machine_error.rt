@@ -27,7 +27,7 @@ pub enum MachineError {
     NotOver,
     /// Nothing has faulted.
     NotHalted,
-    /// Something runs or has faulted, or the semaphore has a unit.
+    /// Something runs or has faulted, the task doesn't take the semaphore, or it has a unit.
     NotStuck,
     /// An allocation failed.
     NoMemory,
