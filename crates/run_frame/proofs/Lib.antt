@@ -10,6 +10,7 @@ pub mod ChosenLemmas
 pub mod PushLemmas
 pub mod BeginningLemmas
 pub mod HandingLemmas
+pub mod KeptLemmas
 pub mod RefusedLemmas
 pub mod CountedLemmas
 pub mod OneThreadLemmas
