@@ -28,7 +28,7 @@ use Rattle.run_frame.specs.declared.duty.Duty.{Duty}
 use Rattle.run_frame.specs.declared.duty.Duty.TheVariants.{Unused, Running}
 use Rattle.run_frame.specs.declared.state.Started.{Started}
 use Rattle.run_frame.specs.declared.state.Started.TheVariants as started
-use Rattle.run_frame.specs.Duties.{AreReleasesOf, AreMadeBy}
+use Rattle.run_frame.specs.Duties.{AreReleasesOf, AreMadeBy, first_releases}
 
 -- the name of its register, its job, the net, the limit and the journal so far, and what is outstanding by number
 pub record FrameView (J V : Type 0) : Type 0 where
@@ -148,9 +148,10 @@ pub record FaultsTask {J V : Type 0} (old new : FrameView J V) (ticket : TicketS
   pub entry : Faults old.machine new.machine start why place
   pub items : new.items ≡ items_after old.items ticket []
 
--- A run that has just begun: its journal is empty, and each first release has one of these tickets.
+-- A run that has just begun: its journal is empty, and these tickets are for its first releases, by rising task.
 pub record IsBegun {J V : Type 0} (meaning : Meaning J V) (job : J) (state : FrameView J V) (released : List (TicketState (Duty V))) : Type 0 where
   pub job_is : state.job ≡ job
   pub machine : state.machine ≡ record { net = meaning.net job; limit = meaning.limit job; journal = [] }
   pub items : state.items ≡ map (λ t. Some t.item) released
   pub releases : AreReleasesOf state.register released
+  pub first : map (λ t. t.item) released ≡ first_releases (meaning.net job)

@@ -325,7 +325,16 @@ module _ (r s : TableId) (other : s ≢ r) (ins : Ins ℕ) where
 
   -- A run begins with an empty journal, with its job's net and limit, and with what its tickets are for.
   begins : IsBegun flat_sums 2 (view [] 4 both_sources) (ticket 0 (Unused 0 Source) ∷ ticket 1 (Unused 2 Source) ∷ [])
-  begins = record { job_is = refl; machine = refl; items = refl; releases = All-from_recursion (IsReleaseOf r) (ticket 0 (Unused 0 Source) ∷ ticket 1 (Unused 2 Source) ∷ []) ((refl, tt), ((refl, tt), tt)) }
+  begins = record { job_is = refl; machine = refl; items = refl; first = refl; releases = All-from_recursion (IsReleaseOf r) (ticket 0 (Unused 0 Source) ∷ ticket 1 (Unused 2 Source) ∷ []) ((refl, tt), ((refl, tt), tt)) }
+
+  begins_by_falling_task : ¬ IsBegun flat_sums 2 (view [] 4 (Some (Unused 2 Source) ∷ Some (Unused 0 Source) ∷ [])) (ticket 0 (Unused 2 Source) ∷ ticket 1 (Unused 0 Source) ∷ [])
+  begins_by_falling_task is = let first = is.first in absurd (cc)
+
+  begins_without_the_second_source : ¬ IsBegun flat_sums 2 (view [] 4 (Some (Unused 0 Source) ∷ [])) (ticket 0 (Unused 0 Source) ∷ [])
+  begins_without_the_second_source is = let first = is.first in absurd (cc)
+
+  begins_with_a_task_that_waits : ¬ IsBegun flat_sums 2 (view [] 4 (Some (Unused 0 Source) ∷ Some (Unused 1 Strong) ∷ Some (Unused 2 Source) ∷ [])) (ticket 0 (Unused 0 Source) ∷ ticket 1 (Unused 1 Strong) ∷ ticket 2 (Unused 2 Source) ∷ [])
+  begins_with_a_task_that_waits is = let first = is.first in absurd (cc)
 
   begins_with_a_start : ¬ IsBegun flat_sums 2 (view begun 4 []) []
   begins_with_a_start is = let longer = ap (λ (state : MachineState). length state.journal) is.machine in absurd (omega (arith, longer))
