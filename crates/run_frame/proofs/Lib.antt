@@ -10,6 +10,8 @@ pub mod ChosenLemmas
 pub mod PushLemmas
 pub mod BeginningLemmas
 pub mod HandingLemmas
+pub mod KeptLemmas
+pub mod FirstReleaseLemmas
 pub mod RefusedLemmas
 pub mod CountedLemmas
 pub mod OneThreadLemmas

@@ -1,10 +1,11 @@
 -- The definitions of what is outstanding in a run, computed on small lists.
-use Rattle.std.proofs.Common.{◌≡◌, ◌≢◌, inl, inr, ℕ, List, [], ◌∷◌, false, Option, Some, None, refl, arith}
+use Rattle.std.proofs.Common.{◌≡◌, ◌≢◌, inl, inr, ℕ, Bool, List, [], ◌∷◌, true, false, Option, Some, None, refl, arith}
 use Rattle.std.proofs.lemmas.List.Elements.{All-from_recursion, recursion_from_All}
 use Rattle.task_graph.specs.NetRows.{NetRows}
 use Rattle.task_graph.specs.declared.net.Shape.{Shape}
 use Rattle.task_graph.specs.declared.net.Shape.TheVariants.{Plain, Choice, Many, Nested}
 use Rattle.task_graph.specs.declared.net.TaskRow.{TaskRow}
+use Rattle.task_graph.specs.declared.net.EdgeRow.{EdgeRow}
 use Rattle.journal_rules.specs.declared.entry.Cause.TheVariants.{Source, Strong, Weak}
 use Rattle.join_words.specs.declared.ins.Ins.{Ins}
 use Rattle.run_frame.specs.FlatNets.{IsFlatTask, IsFlatNet}
@@ -12,7 +13,7 @@ use Rattle.run_frame.specs.declared.duty.Duty.{Duty}
 use Rattle.run_frame.specs.declared.duty.Duty.TheVariants.{Unused, Running}
 use Rattle.atomic_table.specs.Seated.{TableId}
 use Rattle.tickets.specs.Books.{TicketState}
-use Rattle.run_frame.specs.Duties.{unused, running, as_source, as_strong, by_weak, outstanding_count, IsReleaseOf, AreReleasesOf, release_by, IsThinned, AreMadeBy}
+use Rattle.run_frame.specs.Duties.{unused, running, as_source, as_strong, by_weak, outstanding_count, IsReleaseOf, AreReleasesOf, release_by, IsThinned, AreMadeBy, has_first_token, first_cause, first_release, first_releases}
 use Rattle.run_frame.specs.Frames.{IsOutstanding, items_after}
 
 abbrev row : Shape → TaskRow
@@ -116,3 +117,28 @@ turned thin = no thin
 twice : IsThinned {X = ℕ} (1 ∷ 1 ∷ []) (1 ∷ []) → ⊥
 twice (inl (e, thin)) = thin
 twice (inr thin) = thin
+
+-- An edge, and a net. Tasks 0 and 4 are sources. Both edges into task 1 begin with a token, and one of the two into task 2. Task 3 has a weak
+-- edge alone, and task 5 a weak one beside a strong one with a token.
+abbrev edge : ℕ → ℕ → Bool → EdgeRow
+edge from to start = record { from = from; to = to; start = start }
+
+abbrev tokens : NetRows
+tokens = record {
+  tasks = row Plain ∷ row Plain ∷ row Plain ∷ row Plain ∷ row Choice ∷ row Plain ∷ [];
+  edges = edge 0 1 true ∷ edge 2 1 true ∷ edge 1 2 true ∷ edge 3 2 false ∷ edge 4 3 false ∷ edge 0 5 true ∷ edge 4 5 false ∷ [];
+  sems = [];
+}
+
+tokens_at_first : (has_first_token tokens 2 ≡ true) × (has_first_token tokens 3 ≡ false) × (has_first_token tokens 7 ≡ false)
+tokens_at_first = (refl, refl, refl)
+
+-- A source is released at once, and a task all of whose strong edges begin with a token; by rising task.
+by_rising_task : first_releases {V = ℕ} tokens ≡ Unused 0 Source ∷ Unused 1 Strong ∷ Unused 4 Source ∷ Unused 5 Strong ∷ []
+by_rising_task = refl
+
+waits_at_first : (first_release {V = ℕ} tokens 2 ≡ None) × (first_release {V = ℕ} tokens 3 ≡ None)
+waits_at_first = (refl, refl)
+
+first_by_its_edges : (first_cause tokens [] [] ≡ Some Source) × (first_cause tokens (4 ∷ []) [] ≡ None) × (first_cause tokens (2 ∷ 3 ∷ []) (2 ∷ 3 ∷ []) ≡ None) × (first_cause tokens (5 ∷ 6 ∷ []) (5 ∷ []) ≡ Some Strong)
+first_by_its_edges = (refl, refl, refl, refl)

@@ -1,12 +1,13 @@
 -- What is outstanding in a run, counted.
-use Rattle.std.specs.Prelude.{◌≡◌, ◌⊎◌, ℕ, Bool, false, ◌&&◌, ◌==◌, List, [], ◌∷◌, map, All, Option, Some, None, is_some, count_by, slice_get, if◌then◌else◌}
-use Rattle.std.specs.Option.{option_map_or}
+use Rattle.std.specs.Prelude.{◌≡◌, ◌⊎◌, ℕ, Bool, false, ◌&&◌, ◌==◌, List, [], ◌∷◌, length, map, filter_map, All, Option, Some, None, is_some, count_by, slice_get, if◌then◌else◌}
+use Rattle.std.specs.List.{list_all, range_with_len}
+use Rattle.std.specs.Option.{option_map, option_map_or}
 use Rattle.task_graph.specs.NetRows.{NetRows}
-use Rattle.task_graph.specs.Net.{is_weak}
+use Rattle.task_graph.specs.Net.{is_weak, in_edges, strong_in}
 use Rattle.task_graph.specs.declared.net.EdgeRow.{EdgeRow}
 use Rattle.atomic_table.specs.Seated.{TableId}
 use Rattle.journal_rules.specs.declared.entry.Cause.{Cause}
-use Rattle.journal_rules.specs.declared.entry.Cause.TheVariants.{Strong, Weak}
+use Rattle.journal_rules.specs.declared.entry.Cause.TheVariants.{Source, Strong, Weak}
 use Rattle.journal_rules.specs.Counts.{is_source, is_strong, is_weak_at}
 use Rattle.tickets.specs.Books.{TicketState}
 use Rattle.run_frame.specs.declared.duty.Duty.{Duty}
@@ -79,3 +80,22 @@ IsThinned (x ∷ xs) (y ∷ ys) = ((x ≡ y) × IsThinned xs ys) ⊎ IsThinned (
 -- each of these tickets is for a release that one of the edges made, in their order
 abbrev pub AreMadeBy : {V : Type 0} → NetRows → List ℕ → List (TicketState (Duty V)) → Type 0
 AreMadeBy net edges tickets = IsThinned (map (λ t. t.item) tickets) (map (release_by net) edges)
+
+-- whether an edge begins with a token
+abbrev pub has_first_token : NetRows → ℕ → Bool
+has_first_token net e = option_map_or (λ (row : EdgeRow). row.start) (slice_get net.edges e) false
+
+-- The cause by which a task with these in-edges, of which those are strong, is released before anything has run: a
+-- source as such, and another task by its strong in-edges where it has some and all of them begin with a token.
+abbrev pub first_cause : NetRows → List ℕ → List ℕ → Option Cause
+first_cause net [] strong = Some Source
+first_cause net (e ∷ es) [] = None
+first_cause net (e ∷ es) (s ∷ ss) = if list_all (has_first_token net) (s ∷ ss) then Some Strong else None
+
+-- the release with which a task begins, if it does
+abbrev pub first_release : {V : Type 0} → NetRows → ℕ → Option (Duty V)
+first_release net t = option_map (Unused t) (first_cause net (in_edges net t) (strong_in net t))
+
+-- the releases with which a run begins, by rising task
+abbrev pub first_releases : {V : Type 0} → NetRows → List (Duty V)
+first_releases net = filter_map (first_release net) (range_with_len 0 (length net.tasks))

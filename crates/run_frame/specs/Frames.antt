@@ -7,10 +7,15 @@ use Rattle.legal_run.specs.MachineState.{MachineState}
 use Rattle.legal_run.specs.Machine.{Starts, Ends, Faults, Drops}
 use Rattle.journal_rules.specs.declared.entry.Cause.{Cause}
 use Rattle.journal_rules.specs.declared.entry.Why.{Why}
+use Rattle.journal_rules.specs.declared.entry.Part.{Part}
+use Rattle.journal_rules.specs.declared.entry.Part.TheVariants.{From, First, Nothing}
 use Rattle.journal_rules.specs.declared.entry.DropWhy.{DropWhy}
 use Rattle.journal_rules.specs.declared.entry.DropWhy.TheVariants.{Halted, Limit}
 use Rattle.journal_rules.specs.Counts.{starts, faults}
+use Rattle.journal_rules.specs.Waiting.{waiting_parts}
 use Rattle.join_words.specs.Ins.{found_of, parts_of}
+use Rattle.join_words.specs.declared.ins.Given.{Given}
+use Rattle.join_words.specs.declared.ins.Given.TheVariants as given
 use Rattle.join_words.specs.declared.ins.Ins.{Ins}
 use Rattle.tickets.specs.Books.{TicketState}
 use Rattle.run_frame.specs.Meaning.{Meaning, IsRelease}
@@ -23,7 +28,7 @@ use Rattle.run_frame.specs.declared.duty.Duty.{Duty}
 use Rattle.run_frame.specs.declared.duty.Duty.TheVariants.{Unused, Running}
 use Rattle.run_frame.specs.declared.state.Started.{Started}
 use Rattle.run_frame.specs.declared.state.Started.TheVariants as started
-use Rattle.run_frame.specs.Duties.{AreReleasesOf, AreMadeBy}
+use Rattle.run_frame.specs.Duties.{AreReleasesOf, AreMadeBy, first_releases}
 
 -- the name of its register, its job, the net, the limit and the journal so far, and what is outstanding by number
 pub record FrameView (J V : Type 0) : Type 0 where
@@ -62,7 +67,14 @@ abbrev pub HasNoInner : {J V : Type 0} → Meaning J V → J → Duty V → Type
 HasNoInner meaning job (Unused task cause) = Unit {0}
 HasNoInner {J} meaning job (Running task start ins) = (inner : J) → ¬ meaning.answers job task (map found_of (parts_of ins)) (Inner inner)
 
--- The task of a release was started, and the open start is outstanding in place of the release.
+-- how the journal names an input: a value by the index of its End, a first token and nothing as such
+abbrev pub part_of : {V : Type 0} → Given V → Part
+part_of (given.Value place shared) = From place
+part_of given.First = First
+part_of given.Nothing = Nothing
+
+-- The task of a release was started, and the open start is outstanding in place of the release. Its inputs are those
+-- that the journal's Start names.
 pub record StartsTask {J V : Type 0} (meaning : Meaning J V) (old new : FrameView J V) (release ticket : TicketState (Duty V)) : Type 0 where
   pub task : ℕ
   pub cause : Cause
@@ -75,6 +87,7 @@ pub record StartsTask {J V : Type 0} (meaning : Meaning J V) (old new : FrameVie
   pub flat : HasNoInner meaning old.job ticket.item
   pub register : ticket.register ≡ old.register
   pub entry : Starts old.machine new.machine task cause start
+  pub parts : map part_of (parts_of ins) ≡ waiting_parts old.machine.net task cause old.machine.journal
   pub no_fault : faults old.machine.journal ≡ 0
   pub items : new.items ≡ items_after old.items release (ticket ∷ [])
 
@@ -135,9 +148,10 @@ pub record FaultsTask {J V : Type 0} (old new : FrameView J V) (ticket : TicketS
   pub entry : Faults old.machine new.machine start why place
   pub items : new.items ≡ items_after old.items ticket []
 
--- A run that has just begun: its journal is empty, and what is outstanding are the releases of these tickets.
+-- A run that has just begun: its journal is empty, and these tickets are for its first releases, by rising task.
 pub record IsBegun {J V : Type 0} (meaning : Meaning J V) (job : J) (state : FrameView J V) (released : List (TicketState (Duty V))) : Type 0 where
   pub job_is : state.job ≡ job
   pub machine : state.machine ≡ record { net = meaning.net job; limit = meaning.limit job; journal = [] }
   pub items : state.items ≡ map (λ t. Some t.item) released
   pub releases : AreReleasesOf state.register released
+  pub first : map (λ t. t.item) released ≡ first_releases (meaning.net job)

@@ -1,9 +1,9 @@
 // The releases that a run begins with, and those that an End makes.
-ghost use Rattle.std.specs.Prelude.{◌≡◌, ◌+◌, ◌≤◌, ◌<◌, ◌^◌, ◌++◌, ◌∷◌, [], ℕ, List, Option, Some, length, All, IfOk, slice_get};
+ghost use Rattle.std.specs.Prelude.{◌≡◌, ◌+◌, ◌≤◌, ◌<◌, ◌^◌, ◌++◌, ◌∷◌, [], ℕ, List, Option, Some, length, map, All, IfOk, slice_get};
 ghost use Rattle.run_frame.specs.declared.duty.Duty.{Duty};
 ghost use Rattle.task_graph.specs.NetRows.{NetRows};
 ghost use Rattle.std.specs.Vec.{vec_capacity, vec_len};
-ghost use Rattle.run_frame.specs.Duties.{outstanding_count, AreMadeBy, target_of, cause_by};
+ghost use Rattle.run_frame.specs.Duties.{outstanding_count, AreMadeBy, target_of, cause_by, first_releases};
 ghost use Rattle.run_frame.specs.inside.UnderWay.{IsAccounted};
 ghost use Rattle.run_frame.specs.inside.Handing.{MayHand, HandsEdge, HandsEdges, AreIssued, IsReleaseIn, FirstCause};
 
@@ -118,6 +118,7 @@ pub fn first_releases<V: Drop>(
     ensures fits { IfOk result (λ _. (n : ℕ) (duty : Duty V) → slice_get outstanding.new.items n ≡ Some (Some duty) → IsReleaseIn net.now duty) }
     ensures same { outstanding.new ≡ record outstanding.old { items = outstanding.new.items } }
     ensures issued { IfOk result (λ tickets. AreIssued outstanding.old.register [] outstanding.new.items tickets.items) }
+    ensures first { IfOk result (λ tickets. map (λ t. t.item) tickets.items ≡ first_releases net.now) }
 {
     let mut released = Vec::new(alloc);
     for task in 0..net.tasks().len() as u32 {

@@ -1,11 +1,13 @@
 // The values of a run, found by the index of their End in constant time.
-ghost use Rattle.std.specs.Prelude.{◌≡◌, ◌≤◌, ◌<◌, ◌++◌, ◌∷◌, [], ℕ, None, length, map, IfOk, OnOk, OnErr, List};
+ghost use Rattle.std.specs.Prelude.{◌≡◌, ◌≤◌, ◌<◌, ◌++◌, ◌∷◌, [], ℕ, None, length, map, All, IsSome, IfOk, OnOk, OnErr, List};
 ghost use Rattle.std.specs.List.{AllByRecursion};
 ghost use Rattle.std.specs.Option.{option_copied, option_map, option_to_list};
 ghost use Rattle.std.specs.Arc.{arc_value};
 ghost use Rattle.join_words.specs.Ins.{found_of, parts_of};
+ghost use Rattle.journal_rules.specs.declared.entry.Part.TheVariants.{From};
 ghost use Rattle.run_frame.specs.Runs.{value_at, found_by, found_at, found_ins};
-ghost use Rattle.run_frame.specs.inside.KeptValues.{HasRow, HasNext, IsIndexOf, value_of_row};
+ghost use Rattle.run_frame.specs.Frames.{part_of};
+ghost use Rattle.run_frame.specs.inside.KeptValues.{HasRow, HasNext, IsIndexOf, IsKeptPart, value_of_row};
 ghost use Rattle.run_frame.specs.declared.run.ValueRow.{ValueRow};
 
 use super::run::ValueRow;
@@ -84,9 +86,11 @@ impl<V: Drop> KeptValues<V> {
         }
     }
 
-    // What stands for a part.
+    // What stands for a part, whose value is kept where it names an End.
     fn given(&self, part: Part) -> Result<Given<V>, NoMemory>
-        ensures { IfOk result (λ given. found_of given ≡ found_at self.now part) }
+        requires { IsKeptPart self.now part }
+        ensures found { IfOk result (λ given. found_of given ≡ found_at self.now part) }
+        ensures part { IfOk result (λ given. part_of given ≡ part) }
     {
         match part {
             Part::From(place) => self.given_value(place),
@@ -95,19 +99,23 @@ impl<V: Drop> KeptValues<V> {
         }
     }
 
-    // What stands for the value of the End at an index.
+    // What stands for the value of the End at an index, which is kept.
     fn given_value(&self, place: u64) -> Result<Given<V>, NoMemory>
-        ensures { IfOk result (λ given. found_of given ≡ found_by (value_at self.now place)) }
+        requires { IsSome (value_at self.now place) }
+        ensures found { IfOk result (λ given. found_of given ≡ found_by (value_at self.now place)) }
+        ensures part { IfOk result (λ given. part_of given ≡ From place) }
     {
-        match self.get(place) {
-            Some(value) => Ok(Given::Value(place, Arc::try_clone(value)?)),
-            None => Ok(Given::Nothing),
-        }
+        let Some(value) = self.get(place) else {
+            unreachable!()
+        };
+        Ok(Given::Value(place, Arc::try_clone(value)?))
     }
 
-    /// The inputs that these parts stand for.
+    /// The inputs that these parts stand for. The value of each End that a part names is kept.
     pub fn inputs(&self, alloc: Global, parts: &[Part]) -> Result<Ins<V>, NoMemory>
-        ensures { IfOk result (λ ins. map found_of (parts_of ins) ≡ found_ins self.now parts.now) }
+        requires { All (IsKeptPart self.now) parts.now }
+        ensures found { IfOk result (λ ins. map found_of (parts_of ins) ≡ found_ins self.now parts.now) }
+        ensures parts { IfOk result (λ ins. map part_of (parts_of ins) ≡ parts.now) }
     {
         let mut ins = Ins::with_room(alloc, parts.len())?;
         for part in parts {

@@ -6,6 +6,7 @@ ghost use Rattle.journal_rules.specs.declared.entry.Entry.TheVariants.{Start, En
 ghost use Rattle.journal_rules.specs.declared.entry.Part.{Part};
 ghost use Rattle.legal_run.specs.Machine.{Ends, Faults, Drops};
 ghost use Rattle.run_frame.specs.declared.run.ValueRow.{ValueRow};
+ghost use Rattle.run_frame.specs.Rows.{ends_from};
 ghost use Rattle.run_frame.specs.inside.KeptValues.{HasRow};
 ghost use Rattle.run_frame.specs.inside.Steps.{CanTake, CanUse, HasStarted, UsesRelease};
 
@@ -27,7 +28,8 @@ pub enum Used<V> {
     AtLimit,
 }
 
-/// Starts the task of a release, or drops the release. After an `Err` nothing has changed.
+/// Starts the task of a release, or drops the release. Each End so far has its value. After an `Err` nothing has
+/// changed.
 pub fn use_release<V: Drop>(
     alloc: Global,
     machine: &mut Machine,
@@ -38,6 +40,7 @@ pub fn use_release<V: Drop>(
 ) -> Result<Used<V>, NoMemory>
     requires limit { limit ≡ machine.old.limit }
     requires can { CanUse machine.old task cause }
+    requires values { map (λ (row : ValueRow V). row.place) values.now ≡ ends_from 0 machine.old.journal }
     ensures ok { IfOk result (UsesRelease machine.old machine.new values.now task cause) }
     ensures err { OnErr result (machine.new ≡ machine.old) }
 {
@@ -60,7 +63,8 @@ fn start_task<V: Drop>(
     task: u32,
     cause: Cause,
 ) -> Result<(u64, Ins<V>), NoMemory>
-    requires { (ins : List Part) → CanTake machine.old (Start task cause ins) }
+    requires can { (ins : List Part) → CanTake machine.old (Start task cause ins) }
+    requires values { map (λ (row : ValueRow V). row.place) values.now ≡ ends_from 0 machine.old.journal }
     ensures ok { IfOk result (λ made. HasStarted machine.old machine.new values.now task cause made.0 made.1) }
     ensures err { OnErr result (machine.new ≡ machine.old) }
 {

@@ -12,13 +12,14 @@ use Rattle.task_graph.specs.declared.net.TaskRow.{TaskRow}
 use Rattle.task_graph.specs.declared.net.EdgeRow.{EdgeRow}
 use Rattle.journal_rules.specs.declared.entry.Cause.{Cause}
 use Rattle.journal_rules.specs.declared.entry.Cause.TheVariants.{Source, Strong, Weak}
-use Rattle.journal_rules.specs.declared.entry.Part.TheVariants.{From}
+use Rattle.journal_rules.specs.declared.entry.Part.TheVariants.{From, First, Nothing}
 use Rattle.journal_rules.specs.declared.entry.Why.{Why}
 use Rattle.journal_rules.specs.declared.entry.Why.TheVariants.{Long, Wide, Unmet, Inner, OverRelease}
 use Rattle.journal_rules.specs.declared.entry.DropWhy.TheVariants.{Halted, Limit}
 use Rattle.journal_rules.specs.declared.entry.Entry.{Entry}
 use Rattle.journal_rules.specs.declared.entry.Entry.TheVariants.{Start, End, Fault, Drop}
 use Rattle.journal_rules.specs.DataRule.{edges_of}
+use Rattle.journal_rules.specs.Waiting.{waiting_parts}
 use Rattle.journal_rules.specs.ShapeLegal.{MayFollow}
 use Rattle.legal_run.specs.MachineState.{MachineState}
 use Rattle.join_words.specs.Ins.{InputValue, value, parts_of, found_of}
@@ -40,7 +41,7 @@ use Rattle.run_frame.specs.LastEnds.{last_before, last_value}
 use Rattle.run_frame.specs.WorkRule.{WorkRule}
 use Rattle.run_frame.specs.NestedRule.{NestedRule, job_of, journal_of}
 use Rattle.run_frame.specs.Duties.{IsReleaseOf}
-use Rattle.run_frame.specs.Frames.{FrameView, IsSameRun, ComesBack, IsStarted, HasNoInner, StartsTask, DropsTask, StartDoes, MayEndWith, MayFaultWith, MayFail, EndsTask, FaultsTask, IsBegun}
+use Rattle.run_frame.specs.Frames.{FrameView, IsSameRun, ComesBack, IsStarted, HasNoInner, StartsTask, DropsTask, StartDoes, MayEndWith, MayFaultWith, MayFail, EndsTask, FaultsTask, IsBegun, part_of}
 
 abbrev free : Shape → TaskRow
 free shape = record { shape = shape; takes = []; puts = [] }
@@ -159,6 +160,16 @@ module _ (five ten : Arc ℕ Global) (run : FrameRun ℕ ℕ) where
   last_end_before : (last_before twice 0 3 ≡ Some 1) × (last_before twice 0 4 ≡ Some 3) × (last_before twice 0 1 ≡ None)
   last_end_before = (refl, refl, refl)
 
+  -- The journal names a value by the index of its End; a first token and nothing have none.
+  named_inputs : map part_of (given.Value 3 ten ∷ given.First ∷ given.Nothing ∷ []) ≡ From 3 ∷ First ∷ Nothing ∷ []
+  named_inputs = refl
+
+  named_by_another_index : ¬ (part_of (given.Value 3 ten) ≡ From 1)
+  named_by_another_index is = absurd (cc)
+
+  first_is_not_nothing : ¬ (part_of {V = ℕ} given.First ≡ Nothing)
+  first_is_not_nothing is = absurd (cc)
+
 -- Two sources, of which the first leads to another task.
 abbrev flat : NetRows
 flat = record { tasks = free Plain ∷ free Plain ∷ free Plain ∷ []; edges = edge 0 1 ∷ []; sems = [] }
@@ -195,6 +206,19 @@ may_end = record {
   choice = (inl refl, refl);
   semaphore = record { within = tt; over = tt };
   halt_limit_stuck = record { dropped = tt; after_stuck = λ other. refl };
+}
+
+abbrev ended : List Entry
+ended = Start 0 Source [] ∷ End 0 (0 ∷ []) false ∷ []
+
+may_start_second : MayFollow flat 4 ended (Start 1 Strong (From 1 ∷ []))
+may_start_second = record {
+  in_range = (omega arith, tt);
+  release = ((λ none. absurd (cc)), (omega arith, tt));
+  closing = tt;
+  choice = tt;
+  semaphore = record { within = tt; over = tt };
+  halt_limit_stuck = record { dropped = omega arith; after_stuck = λ other. refl };
 }
 
 may_fault_first : MayFollow flat 4 begun (Fault 0 (Long 2))
@@ -304,7 +328,16 @@ module _ (r s : TableId) (other : s ≢ r) (ins : Ins ℕ) where
 
   -- A run begins with an empty journal, with its job's net and limit, and with what its tickets are for.
   begins : IsBegun flat_sums 2 (view [] 4 both_sources) (ticket 0 (Unused 0 Source) ∷ ticket 1 (Unused 2 Source) ∷ [])
-  begins = record { job_is = refl; machine = refl; items = refl; releases = All-from_recursion (IsReleaseOf r) (ticket 0 (Unused 0 Source) ∷ ticket 1 (Unused 2 Source) ∷ []) ((refl, tt), ((refl, tt), tt)) }
+  begins = record { job_is = refl; machine = refl; items = refl; first = refl; releases = All-from_recursion (IsReleaseOf r) (ticket 0 (Unused 0 Source) ∷ ticket 1 (Unused 2 Source) ∷ []) ((refl, tt), ((refl, tt), tt)) }
+
+  begins_by_falling_task : ¬ IsBegun flat_sums 2 (view [] 4 (Some (Unused 2 Source) ∷ Some (Unused 0 Source) ∷ [])) (ticket 0 (Unused 2 Source) ∷ ticket 1 (Unused 0 Source) ∷ [])
+  begins_by_falling_task is = let first = is.first in absurd (cc)
+
+  begins_without_the_second_source : ¬ IsBegun flat_sums 2 (view [] 4 (Some (Unused 0 Source) ∷ [])) (ticket 0 (Unused 0 Source) ∷ [])
+  begins_without_the_second_source is = let first = is.first in absurd (cc)
+
+  begins_with_a_task_that_waits : ¬ IsBegun flat_sums 2 (view [] 4 (Some (Unused 0 Source) ∷ Some (Unused 1 Strong) ∷ Some (Unused 2 Source) ∷ [])) (ticket 0 (Unused 0 Source) ∷ ticket 1 (Unused 1 Strong) ∷ ticket 2 (Unused 2 Source) ∷ [])
+  begins_with_a_task_that_waits is = let first = is.first in absurd (cc)
 
   begins_with_a_start : ¬ IsBegun flat_sums 2 (view begun 4 []) []
   begins_with_a_start is = let longer = ap (λ (state : MachineState). length state.journal) is.machine in absurd (omega (arith, longer))
@@ -332,9 +365,41 @@ module _ (r s : TableId) (other : s ≢ r) (ins : Ins ℕ) where
     flat = λ inner is. is;
     register = refl;
     entry = record { stands = refl; allowed = may_start; after = refl };
+    parts = ap (map part_of) parts;
     no_fault = refl;
     items = refl;
   }
+
+  -- What it finds is named as the journal names it: the value of the first task's End by that End's index.
+  starts_second : (shared : Arc ℕ Global) → parts_of ins ≡ given.Value 1 shared ∷ [] → StartsTask flat_sums (view ended 4 (Some (Unused 1 Strong) ∷ [])) (view (ended ++ Start 1 Strong (From 1 ∷ []) ∷ []) 4 (None ∷ Some (Running 1 2 ins) ∷ [])) (ticket 0 (Unused 1 Strong)) (ticket 1 (Running 1 2 ins))
+  starts_second shared parts = record {
+    task = 1;
+    cause = Strong;
+    start = 2;
+    ins = ins;
+    stood = refl;
+    was = refl;
+    item = refl;
+    started = record { in_range = omega arith; cause = Strong; can_release = (λ none. absurd (cc)); size = ap length parts };
+    flat = λ inner is. is;
+    register = refl;
+    entry = record { stands = refl; allowed = may_start_second; after = refl };
+    parts = ap (map part_of) parts;
+    no_fault = refl;
+    items = refl;
+  }
+
+  input_under_another_index : (shared : Arc ℕ Global) → parts_of ins ≡ given.Value 0 shared ∷ [] → ¬ StartsTask flat_sums (view ended 4 (Some (Unused 1 Strong) ∷ [])) (view (ended ++ Start 1 Strong (From 1 ∷ []) ∷ []) 4 (None ∷ Some (Running 1 2 ins) ∷ [])) (ticket 0 (Unused 1 Strong)) (ticket 1 (Running 1 2 ins))
+  input_under_another_index shared parts is = other_index is.ins is.cause is.item is.was is.parts
+    where
+      other_index : (i : Ins ℕ) (c : Cause) {t k : ℕ} → Running 1 2 ins ≡ Running t k i → ◌≡◌ {A = Duty ℕ} (Unused 1 Strong) (Unused t c) → map part_of (parts_of i) ≡ waiting_parts flat t c ended → ⊥
+      other_index i c {t = t} item was named =
+          let same : i ≡ ins = cc in
+          let cause : c ≡ Strong = cc in
+          let task : t ≡ 1 = cc in
+          let of_zero : map part_of (parts_of i) ≡ From 0 ∷ [] = ap (λ (j : Ins ℕ). map part_of (parts_of j)) same ∙ ap (map part_of) parts in
+          let of_one : waiting_parts flat t c ended ≡ From 1 ∷ [] = ap (λ q. waiting_parts flat q c ended) task ∙ ap (λ d. waiting_parts flat 1 d ended) cause in
+          absurd (cc)
 
   release_stays : ¬ StartsTask flat_sums (view [] 4 both_sources) (view begun 4 (Some (Unused 0 Source) ∷ Some (Unused 2 Source) ∷ Some (Running 0 0 ins) ∷ [])) (ticket 0 (Unused 0 Source)) (ticket 2 (Running 0 0 ins))
   release_stays is = let items = is.items in absurd (cc)

@@ -1,7 +1,9 @@
 -- The values of a run so far, and where each is found.
-use Rattle.std.specs.Prelude.{◌≡◌, ℕ, ◌==◌, ◌+◌, ◌<◌, List, [], ◌∷◌, ◌++◌, length, Option, Some, None, slice_get, slice_index, if◌then◌else◌}
+use Rattle.std.specs.Prelude.{◌≡◌, ℕ, ◌==◌, ◌+◌, ◌<◌, List, [], ◌∷◌, ◌++◌, length, Option, Some, None, IsSome, slice_get, slice_index, if◌then◌else◌}
 use Rattle.std.specs.List.{AllByRecursion}
 use Rattle.std.specs.Arc.{arc_value}
+use Rattle.journal_rules.specs.declared.entry.Part.{Part}
+use Rattle.journal_rules.specs.declared.entry.Part.TheVariants.{From, First, Nothing}
 use Rattle.run_frame.specs.declared.run.ValueRow.{ValueRow}
 use Rattle.run_frame.specs.Runs.{value_at}
 
@@ -33,3 +35,9 @@ pub record HasRow {V : Type 0} (old new : List (ValueRow V)) (place : ℕ) (v : 
   pub rows : new ≡ old ++ row ∷ []
   pub index : row.place ≡ place
   pub value : arc_value row.value ≡ v
+
+-- the End that a part names has a value
+abbrev pub IsKeptPart : {V : Type 0} → List (ValueRow V) → Part → Type 0
+IsKeptPart rows (From n) = IsSome (value_at rows n)
+IsKeptPart rows First = Unit {0}
+IsKeptPart rows Nothing = Unit {0}

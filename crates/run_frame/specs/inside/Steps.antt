@@ -24,7 +24,7 @@ use Rattle.run_frame.specs.Meaning.{Meaning}
 use Rattle.run_frame.specs.Runs.{found_ins}
 use Rattle.run_frame.specs.WorkRule.{Answers}
 use Rattle.run_frame.specs.Duties.{AreReleasesOf, AreMadeBy}
-use Rattle.run_frame.specs.Frames.{FrameView, IsOutstanding, items_after}
+use Rattle.run_frame.specs.Frames.{FrameView, IsOutstanding, items_after, part_of}
 
 -- a machine refuses this entry only where an allocation fails
 pub record CanTake (m : MachineState) (entry : Entry) : Type 0 where
@@ -44,6 +44,7 @@ pub record HasStarted {V : Type 0} (old new : MachineState) (values : List (Valu
   pub entry : Starts old new t cause start
   pub opened : IsTrue (is_open new.journal start)
   pub found : map found_of (parts_of ins) ≡ found_ins values (waiting_parts old.net t cause old.journal)
+  pub parts : map part_of (parts_of ins) ≡ waiting_parts old.net t cause old.journal
 
 -- what came of a release
 abbrev pub UsesRelease : {V : Type 0} → MachineState → MachineState → List (ValueRow V) → ℕ → Cause → Used V → Type 0

@@ -35,6 +35,9 @@ use_release-requires-clause-can g c =
     let tasks : c.redeem.new.self.tasks ≡ i.outstanding.tasks = ap (λ (s : OutstandingState V). s.tasks) c.redeem.ensures.items in
     can_use meaning job i.machine i.values i.outstanding.items c.args.release.number c.in-Unused.task c.in-Unused.cause under at
 
+pub use_release-requires-clause-values : goal.use_release-requires-clause-values
+use_release-requires-clause-values g c = c.self.invariant.0.worked.rows
+
 pub invariant_of-self-in-Started : goal.invariant_of-self-in-Started
 invariant_of-self-in-Started g c =
     let J = g.row.J.Denot in
@@ -169,6 +172,7 @@ returns-in-Started-clause-ok g c =
           ((g.met.J.Job g.world.𝓛 g.world.𝓜 g.world.𝓡 ((λ s x. x), (λ x. x), (λ x. x), λ x. x)).answers_fit job c.in-Unused.task _ _ c.self.invariant.2 allowed));
       register = ap (λ (t : TicketState (Duty V)). t.register) c.issue-in-Started.ensures.ticket ∙ register;
       entry = made.0.entry;
+      parts = made.0.parts;
       no_fault = made.1;
       items = ap (λ (s : OutstandingState V). s.items) c.issue-in-Started.ensures.items ∙ ap (λ xs. xs ++ Some begun ∷ []) left ∙ ap (λ (d : Duty V). set i.outstanding.items c.args.release.number None ++ Some d ∷ []) (sym item);
     })
