@@ -19,12 +19,12 @@ use Rattle.text_ops.specs.declared.mark.Piece.TheVariants.{Key}
 use Rattle.text_ops.specs.Lines.{lines_of, text_of, IsNormal, IsPlain}
 use Rattle.text_ops.specs.LineOrder.{line_cmp, IsUpTo}
 use Rattle.text_ops.specs.MatchKeys.{match_key, behind_key, first_with}
-use Rattle.text_ops.specs.inside.Marks.{lead_of, marked_piece, mark_cmp, mark_at, marks_of, AreSortedMarks}
+use Rattle.text_ops.specs.inside.Marks.{lead_of, behind_leads_cmp, marked_piece, mark_cmp, mark_at, marks_of, AreSortedMarks}
 use Rattle.text_ops.specs.inside.Matching.{behind_mark, is_before, IsFirstPlace}
 use Rattle.text_ops.proofs.KeepLemmas.{lines_plain}
 use Rattle.text_ops.proofs.LineSteps.{text_is, next_rest}
 use Rattle.text_ops.proofs.MatchLemmas.{behind-mark_at, before_is, less_from}
-use Rattle.text_ops.proofs.MarkLemmas.{mark_total}
+use Rattle.text_ops.proofs.MarkLemmas.{behind_leads_total, mark_total}
 use Rattle.text_ops.proofs.OrderLemmas.{IsUpTo-refl, IsUpTo-antisym}
 use Rattle.text_ops.proofs.SortedMarks.{leads, pieces_rise, marked_piece-mark_at, bytes_marked}
 
@@ -115,12 +115,12 @@ module _ (text key : List ℕ) (marks : List Mark) (are : AreSortedMarks Key tex
 
   -- the mark at the first place, if it stands for the key
   module _ (place : ℕ) (first : IsFirstPlace text key marks place) where
-    by_start : (a b : Mark) → a.lead ≡ b.lead → marked_piece text a ≡ marked_piece text b → is_lt (mark_cmp text a b) ≡ false → b.start ≤ a.start
+    by_start : (a b : Mark) → a.lead ≡ b.lead → marked_piece text a ≡ marked_piece text b → is_lt (mark_cmp Key text a b) ≡ false → b.start ≤ a.start
     by_start a b level same not_less =
         let leads_tie : nat_cmp a.lead b.lead ≡ Equal = ap (λ n. nat_cmp n b.lead) level ∙ tied_itself nat_cmp_total b.lead in
-        let pieces_tie : line_cmp (marked_piece text a) (marked_piece text b) ≡ Equal = ap (λ p. line_cmp p (marked_piece text b)) same ∙ tied_itself nat_list_cmp_total (marked_piece text b) in
+        let pieces_tie : behind_leads_cmp (marked_piece text a) (marked_piece text b) ≡ Equal = ap (λ p. behind_leads_cmp p (marked_piece text b)) same ∙ tied_itself behind_leads_total (marked_piece text b) in
         let whole : is_lt (nat_cmp a.start b.start) ≡ false =
-        sym (ap (λ o. is_lt (ordering_then o (ordering_then (line_cmp (marked_piece text a) (marked_piece text b)) (nat_cmp a.start b.start)))) leads_tie
+        sym (ap (λ o. is_lt (ordering_then o (ordering_then (behind_leads_cmp (marked_piece text a) (marked_piece text b)) (nat_cmp a.start b.start)))) leads_tie
         ∙ ap (λ o. is_lt (ordering_then o (nat_cmp a.start b.start))) pieces_tie) ∙ not_less in
         by_ranked (a.start < b.start) (a.start ≡ b.start) (b.start < a.start) (nat_cmp a.start b.start) (ranked a.start b.start (nat_cmp a.start b.start) refl)
         (λ o less. let never : true ≡ false = sym (ap is_lt o) ∙ whole in cc)
@@ -135,9 +135,9 @@ module _ (text key : List ℕ) (marks : List Mark) (are : AreSortedMarks Key tex
         (λ from.
         let lead_m = leads Key text marks is are k e low ∙ ap lead_of other in
         let lead_mark = ap (λ (x : Mark). x.lead) one ∙ leads Key text marks is are place d inside ∙ ap (λ (x : Mark). lead_of (marked_piece text x)) (sym one) ∙ ap lead_of same in
-        let far = sorted_far (λ (x : Mark) (y : Mark). is_lt (mark_cmp text x y)) (ranks_by (mark_total text) (λ (x : Mark). x)) marks are.sorted place k e from low in
+        let far = sorted_far (λ (x : Mark) (y : Mark). is_lt (mark_cmp Key text x y)) (ranks_by (mark_total Key text) (λ (x : Mark). x)) marks are.sorted place k e from low in
         let one_e = one ∙ get_or_default marks place d e inside in
-        let not_less = ap (λ x. is_lt (mark_cmp text m x)) one_e ∙ far in
+        let not_less = ap (λ x. is_lt (mark_cmp Key text m x)) one_e ∙ far in
         by_start m mark (lead_m ∙ sym lead_mark) (other ∙ sym same) not_less)
         (cases_lt k place)
 

@@ -1,11 +1,10 @@
 // Marks of the pieces of a text, in the order of their bytes.
-ghost use Rattle.std.specs.Prelude.{◌≡◌, ◌≤◌, length, slice_index, IfOk};
+ghost use Rattle.std.specs.Prelude.{◌≡◌, ◌≤◌, drop, length, slice_index, IfOk};
 ghost use Rattle.std.specs.List.Sorted.{IsPermutation, IsSortedBy};
 ghost use Rattle.std.specs.Ordering.{is_lt, nat_cmp, ordering_then};
-ghost use Rattle.text_ops.specs.LineOrder.{line_cmp};
 ghost use Rattle.text_ops.specs.Lines.{IsNormal, lines_of};
 ghost use Rattle.text_ops.specs.MatchKeys.{match_key};
-ghost use Rattle.text_ops.specs.inside.Marks.{AreSortedMarks, lead_of, mark_cmp, marked_piece, marked_with_end, marks_of, piece_of};
+ghost use Rattle.text_ops.specs.inside.Marks.{AreSortedMarks, behind_leads_cmp, lead_of, mark_cmp, marked_piece, marked_with_end, marks_of, piece_of, tie_of};
 
 use crate::line_walk::Lines;
 use crate::mark::{Mark, Piece};
@@ -14,15 +13,14 @@ use outside_io::NoMemory;
 use std::alloc::Global;
 use std::cmp::Ordering;
 
-// Marks of these pieces of the lines, in the order of their bytes. Marks of equal pieces stand in the order of the
-// lines.
+// Marks of these pieces of the lines, in the order of their bytes. Marks of equal keys stand in the order of the lines.
 pub(crate) fn sorted_marks(alloc: Global, text: &[u8], by: Piece) -> Result<Vec<Mark>, NoMemory>
     requires normal { IsNormal text.now }
     requires short { length text.now ≤ 2147483647 }
     ensures { IfOk result (λ marks. AreSortedMarks by text.now marks.items) }
 {
     let mut marks = marks_of(alloc, text, by)?;
-    sort_marks(text, &mut marks);
+    sort_marks(text, by, &mut marks);
     Ok(marks)
 }
 
@@ -113,28 +111,56 @@ fn marks_of(alloc: Global, text: &[u8], by: Piece) -> Result<Vec<Mark>, NoMemory
     Ok(marks)
 }
 
-fn sort_marks(text: &[u8], marks: &mut Vec<Mark>)
+fn sort_marks(text: &[u8], by: Piece, marks: &mut Vec<Mark>)
     ensures permutation { IsPermutation marks.old.items marks.new.items }
-    ensures sorted { IsSortedBy (λ a b. is_lt (mark_cmp text.now a b)) marks.new.items }
+    ensures sorted { IsSortedBy (λ a b. is_lt (mark_cmp by text.now a b)) marks.new.items }
 {
-    marks.sort_unstable_by(|a, b| compare(text, a, b));
+    marks.sort_unstable_by(|a, b| compare(text, by, a, b));
 }
 
-// By the leads, then by the bytes, then by the places.
-fn compare(text: &[u8], a: &Mark, b: &Mark) -> Ordering
-    ensures { result ≡ mark_cmp text.now a.now b.now }
+// By the leads, then by what these don't show.
+fn compare(text: &[u8], by: Piece, a: &Mark, b: &Mark) -> Ordering
+    ensures { result ≡ mark_cmp by text.now a.now b.now }
 {
     match a.lead.cmp(&b.lead) {
-        Ordering::Equal => compare_bytes(text, a, b),
+        Ordering::Equal => compare_pieces(text, by, a, b),
         other => other,
     }
 }
 
-fn compare_bytes(text: &[u8], a: &Mark, b: &Mark) -> Ordering
-    ensures { result ≡ ordering_then (line_cmp (marked_piece text.now a.now) (marked_piece text.now b.now)) (nat_cmp a.now.start b.now.start) }
+// The order of marks with equal leads.
+fn compare_pieces(text: &[u8], by: Piece, a: &Mark, b: &Mark) -> Ordering
+    ensures { result ≡ ordering_then (behind_leads_cmp (marked_piece text.now a.now) (marked_piece text.now b.now)) (nat_cmp (tie_of by a.now) (tie_of by b.now)) }
 {
-    match marked_piece(text, a).cmp(marked_piece(text, b)) {
-        Ordering::Equal => a.start.cmp(&b.start),
+    match compare_behind_leads(marked_piece(text, a), marked_piece(text, b)) {
+        Ordering::Equal => tie(by, a).cmp(&tie(by, b)),
         other => other,
+    }
+}
+
+// Pieces of at most eight bytes whose leads are equal differ in their lengths alone.
+fn compare_behind_leads(a: &[u8], b: &[u8]) -> Ordering
+    ensures { result ≡ behind_leads_cmp a.now b.now }
+{
+    match a.len().min(9).cmp(&b.len().min(9)) {
+        Ordering::Equal => behind_lead(a).cmp(behind_lead(b)),
+        other => other,
+    }
+}
+
+// The bytes behind the eighth.
+fn behind_lead(piece: &[u8]) -> &[u8]
+    ensures { result.now ≡ drop 8 piece.now }
+{
+    &piece[piece.len().min(8)..]
+}
+
+// Equal lines may stand in any order, since they are one and the same, and equal keys stand in the order of their lines.
+fn tie(by: Piece, mark: &Mark) -> u32
+    ensures { result ≡ tie_of by mark.now }
+{
+    match by {
+        Piece::Whole => 0,
+        Piece::Key => mark.start,
     }
 }

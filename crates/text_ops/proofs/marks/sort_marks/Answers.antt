@@ -9,4 +9,4 @@ use Rattle.text_ops.proofs.marks.sort_marks.Goals as goal
 
 pub returns-clause-sorted : goal.returns-clause-sorted
 returns-clause-sorted c =
-    c.sort_unstable_by.ensures.sorted (λ (a : Mark) (b : Mark). is_lt (mark_cmp c.args.text.now a b)) (ranks_by (mark_total c.args.text.now) (λ (m : Mark). m)) (always_returns_same _ _ _ (λ a r q h. (let is : r ≡ mark_cmp c.args.text.now a.0.now a.1.0.now = search rules in ap is_lt is, search rules)))
+    c.sort_unstable_by.ensures.sorted (λ (a : Mark) (b : Mark). is_lt (mark_cmp c.args.by c.args.text.now a b)) (ranks_by (mark_total c.args.by c.args.text.now) (λ (m : Mark). m)) (always_returns_same _ _ _ (λ a r q h. (let is : r ≡ mark_cmp c.args.by c.args.text.now a.0.now a.1.0.now = search rules in ap is_lt is, search rules)))
