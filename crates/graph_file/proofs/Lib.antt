@@ -16,4 +16,6 @@ pub mod TaskLemmas
 pub mod TripLemmas
 pub mod WalkLemmas
 pub mod WordLemmas
+pub mod WritableLemmas
 pub mod WrittenLemmas
+pub mod WritingLemmas

@@ -1,11 +1,10 @@
 -- A plan that was written is read again.
-use Rattle.std.proofs.Common.{◌≡◌, ◌==◌, ℕ, suc, ◌+◌, ◌<◌, ◌≤◌, min, List, [], ◌∷◌, ◌++◌, map, filter, length, get_or, Bool, true, false, cond, is_some, unwrap_or, position, Option, Some, None, Result, Ok, Err, ok_or, bytes_eq, refl, sym, ap, subst, ◌∙◌, append_assoc, arith}
+use Rattle.std.proofs.Common.{◌≡◌, ◌==◌, ℕ, suc, ◌<◌, ◌≤◌, List, [], ◌∷◌, ◌++◌, map, filter, length, get_or, Bool, true, false, cond, is_some, unwrap_or, position, Option, Some, None, Ok, ok_or, bytes_eq, refl, sym, ap, subst, ◌∙◌, append_assoc, arith}
 use Rattle.std.proofs.lemmas.Bool.{eq-eqb, ne_eqb}
 use Rattle.std.proofs.lemmas.List.{append-nil, get_or_append_left, length-append, map-append}
 use Rattle.std.proofs.lemmas.List.Quantifiers.{position-Some}
 use Rattle.std.proofs.lemmas.Slice.Eq.{bytes_eq-Decides}
 use Rattle.std.proofs.Math.Seq.{get_or-append_seam}
-use Rattle.serde_json.specs.Data.{Data, string}
 use Rattle.task_graph.specs.declared.net.EdgeRow.{EdgeRow}
 use Rattle.graph_plans.specs.declared.ops.Op.{Op}
 use Rattle.graph_plans.specs.declared.ops.Op.TheVariants.{Input, Read, Text, Match, Back, IfMore, IfHas, Route}
@@ -15,9 +14,9 @@ use Rattle.graph_file.specs.Fields.{u32_of}
 use Rattle.graph_file.specs.OpRows.{FileOpRow, reads, does}
 use Rattle.graph_file.specs.PlanText.{DraftRows, LinkRow, PlanText, TaskText, add_edge, add_name, draft_in, json_in, link_to, mentioned, no_tasks, numbered, plan_in, plan_of, plan_with, text_number, with_task, with_text, within_limits}
 use Rattle.graph_file.specs.Steps.{◌>>=◌, walk}
-use Rattle.graph_file.specs.Written.{file_data, op_text, plan_data, task_data, tasks_data, tasks_from, to_of}
-use Rattle.graph_file.specs.inside.Fine.{AreFine, fits, fits_op, with_tasks}
-use Rattle.graph_file.proofs.BindLemmas.{bind_ok, ok_or_ok}
+use Rattle.graph_file.specs.Written.{file_data, op_text, plan_data, tasks_from, to_of}
+use Rattle.graph_file.specs.inside.Fine.{AreFine, fits, with_tasks}
+use Rattle.graph_file.proofs.BindLemmas.{bind_ok}
 use Rattle.graph_file.proofs.FineLemmas.{draft_in-tasks}
 use Rattle.graph_file.proofs.PlanLemmas.{IsWithinLimits-passed}
 use Rattle.graph_file.proofs.WrittenLemmas.{file_op_text, file-written, task_text_data}
@@ -89,7 +88,7 @@ numbered_all texts [] = []
 numbered_all texts (task ∷ tasks) = numbered texts task.op ∷ numbered_all (mentioned texts task.op) tasks
 
 -- the longer list begins with the other
-abbrev Extends : List (List ℕ) → List (List ℕ) → Type 0
+abbrev pub Extends : List (List ℕ) → List (List ℕ) → Type 0
 Extends longer texts = (more : List (List ℕ)) × (longer ≡ texts ++ more)
 
 extends-again : (longest longer texts : List (List ℕ)) → Extends longest longer → Extends longer texts → Extends longest texts
@@ -103,7 +102,7 @@ extends-mentioned : (texts : List (List ℕ)) (op : FileOpRow) → Extends (ment
 extends-mentioned texts (reads text) = extends-step (is_some (position (bytes_eq text) texts)) texts text
 extends-mentioned texts (does op) = ([], sym (append-nil texts))
 
-extends-all : (texts : List (List ℕ)) (tasks : List TaskText) → Extends (mentioned_all texts tasks) texts
+pub extends-all : (texts : List (List ℕ)) (tasks : List TaskText) → Extends (mentioned_all texts tasks) texts
 extends-all texts [] = ([], sym (append-nil texts))
 extends-all texts (task ∷ tasks) = extends-again (mentioned_all texts (task ∷ tasks)) (mentioned texts task.op) texts (extends-all (mentioned texts task.op) tasks) (extends-mentioned texts task.op)
 
@@ -113,22 +112,23 @@ at_step None texts text at = (omega (arith, length-append texts (text ∷ [])), 
 at_step (Some k) texts text at = at k refl
 
 -- a text stands at its number
-at-number : (texts : List (List ℕ)) (text : List ℕ) → (text_number texts text < length (with_text texts text)) × (get_or (with_text texts text) (text_number texts text) [] ≡ text)
+pub at-number : (texts : List (List ℕ)) (text : List ℕ) → (text_number texts text < length (with_text texts text)) × (get_or (with_text texts text) (text_number texts text) [] ≡ text)
 at-number texts text = at_step (position (bytes_eq text) texts) texts text (λ k found.
     let at = position-Some (bytes_eq text) texts k [] found in
     (at.0, sym ((bytes_eq-Decides text (get_or texts k [])).0 at.1)))
 
-read-at : (all texts : List (List ℕ)) (text : List ℕ) → Extends all (with_text texts text) → length all ≤ 1024 → get_or all (u32_of (text_number texts text)) [] ≡ text
+pub read-at : (all texts : List (List ℕ)) (text : List ℕ) → Extends all (with_text texts text) → length all ≤ 1024
+    → (u32_of (text_number texts text) < length all) × (get_or all (u32_of (text_number texts text)) [] ≡ text)
 read-at all texts text longer few =
     let at = at-number texts text in
     let n = text_number texts text in
     let within : n < length all = omega (arith, at.0, ap length longer.1, length-append (with_text texts text) longer.0) in
     let small : u32_of n ≡ n = omega (arith, within, few) in
-    rw (small, longer.1, get_or_append_left (with_text texts text) longer.0 [] n at.0) at.1
+    (omega (arith, small, within), rw (small, longer.1, get_or_append_left (with_text texts text) longer.0 [] n at.0) at.1)
 
 -- what is written for an operation is what the file had
 op-kept : (all texts : List (List ℕ)) (op : FileOpRow) → fits op ≡ true → Extends all (mentioned texts op) → length all ≤ 1024 → op_text all (numbered texts op) ≡ file_op_text op
-op-kept all texts (reads text) fine longer few = rw (read-at all texts text longer few) refl
+op-kept all texts (reads text) fine longer few = rw ((read-at all texts text longer few).1) refl
 op-kept all texts (does Input) fine longer few = refl
 op-kept all texts (does (Read text)) fine longer few = cc
 op-kept all texts (does (Text op)) fine longer few = refl
@@ -153,11 +153,11 @@ tasks-kept plan n texts [] fine leads all few = refl
 tasks-kept plan n texts (task ∷ tasks) fine leads all few =
     let extends : Extends plan.texts (mentioned texts task.op) = subst (λ ts. Extends ts (mentioned texts task.op)) (sym all) (extends-all (mentioned texts task.op) tasks) in
     let others = tasks-kept plan (suc n) (mentioned texts task.op) tasks fine.1
-        (λ t more. leads t (omega arith) ∙ names_to-other t n task.to (links_from (suc n) tasks) (λ same. absurd (omega arith))) all few in
+    (λ t more. leads t (omega arith) ∙ names_to-other t n task.to (links_from (suc n) tasks) (λ same. absurd (omega arith))) all few in
     rw (op-kept plan.texts texts task.op fine.0.op extends few, leads n (omega arith), names_to-here n task tasks) (ap (λ ds. task_text_data task ∷ ds) others)
 
 -- the draft that these tasks give
-with_tasks-is : (draft : DraftRows) (tasks : List TaskText)
+pub with_tasks-is : (draft : DraftRows) (tasks : List TaskText)
     → with_tasks draft tasks ≡ record {
       names = draft.names ++ names_of_tasks tasks;
       ops = draft.ops ++ numbered_all draft.texts tasks;
@@ -168,8 +168,12 @@ with_tasks-is draft [] = rw (append-nil, append-nil, append-nil) refl
 with_tasks-is draft (task ∷ tasks) =
     let op = numbered draft.texts task.op in
     let longer : length (draft.names ++ task.name ∷ []) ≡ suc (length draft.names) = omega (arith, length-append draft.names (task.name ∷ [])) in
-    with_tasks-is (with_task draft task) tasks ∙ rw (longer, append_assoc draft.names (task.name ∷ []) (names_of_tasks tasks), append_assoc draft.ops (op ∷ []) (numbered_all (mentioned draft.texts task.op) tasks),
-        append_assoc draft.links (map (link_to (length draft.names)) task.to) (links_from (suc (length draft.names)) tasks)) refl
+    with_tasks-is (with_task draft task) tasks ∙ rw (
+      longer,
+      append_assoc draft.names (task.name ∷ []) (names_of_tasks tasks),
+      append_assoc draft.ops (op ∷ []) (numbered_all (mentioned draft.texts task.op) tasks),
+      append_assoc draft.links (map (link_to (length draft.names)) task.to) (links_from (suc (length draft.names)) tasks),
+    ) refl
 
 draft-kept : (tasks : List TaskText) (plan : PlanRows) → AreFine tasks → plan_of (with_tasks no_tasks tasks) ≡ Ok plan → plan_data plan ≡ file_data (map task_text_data tasks)
 draft-kept tasks plan fine is =

@@ -1,9 +1,9 @@
 -- A task that was written is read again.
-use Rattle.std.proofs.Common.{◌≡◌, ℕ, ◌≤◌, List, [], ◌∷◌, ◌++◌, map, length, Bool, true, false, ◌&&◌, leb, cond, Option, Some, None, Result, Ok, Err, codes, refl, sym, ap, ◌∙◌}
+use Rattle.std.proofs.Common.{◌≡◌, ℕ, List, [], ◌∷◌, map, length, true, leb, Some, Ok, codes, refl, ap}
 use Rattle.std.proofs.lemmas.Bool.{and_parts}
 use Rattle.std.proofs.lemmas.List.{length-map}
 use Rattle.std.specs.List.{list_all}
-use Rattle.serde_json.specs.Data.{Data, string, number, unsigned, array, object, no_items}
+use Rattle.serde_json.specs.Data.{Data, string}
 use Rattle.serde_json.specs.View.{items_of}
 use Rattle.graph_plans.specs.declared.ops.Op.{Op}
 use Rattle.graph_plans.specs.declared.ops.Op.TheVariants.{Input, Read, Text, Match, Back, IfMore, IfHas, Route}
@@ -13,9 +13,9 @@ use Rattle.graph_plans.specs.Operations.{route_limit, word_limit}
 use Rattle.graph_file.specs.Contents.{each, is_name, is_object, is_text, listed, name_of, names_of, word_of, words_of}
 use Rattle.graph_file.specs.OpRows.{FileOpRow, reads, does, op_rows, text_rows}
 use Rattle.graph_file.specs.PlanText.{DraftRows, TaskText, add_task, draft_in, no_tasks, with_task}
-use Rattle.graph_file.specs.Steps.{◌>>=◌, walk}
-use Rattle.graph_file.specs.Written.{OpText, file_data, op_text, strings_data, task_data, text_op_text, with_field, without_field}
-use Rattle.graph_file.specs.inside.Fine.{AreFine, IsFine, fits, fits_op, fits_text_op, fits_words, with_tasks}
+use Rattle.graph_file.specs.Steps.{walk}
+use Rattle.graph_file.specs.Written.{OpText, file_data, op_text, strings_data, task_data, text_op_text, with_field}
+use Rattle.graph_file.specs.inside.Fine.{AreFine, fits, fits_op, fits_text_op, fits_words, with_tasks}
 
 listed-items_of : (ds : List Data) → listed (items_of ds) ≡ ds
 listed-items_of [] = refl

@@ -15,6 +15,7 @@ mod rules;
 mod tasks;
 mod unknown;
 mod writing;
+mod written_ops;
 
 pub use reading::read_graph;
 pub use refusals::{GraphError, Kind};

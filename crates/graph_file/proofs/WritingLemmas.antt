@@ -1,0 +1,76 @@
+-- The names that are written for a task.
+use Rattle.std.proofs.Common.{◌≡◌, ◌==◌, ℕ, zero, suc, ◌+◌, ◌<◌, false, List, [], ◌∷◌, ◌++◌, map, filter, length, get_or, take, Bool, true, cond, All, refl, sym, ap, subst, append_assoc, arith}
+use Rattle.std.proofs.lemmas.List.{length-append}
+use Rattle.std.proofs.Math.Seq.{get_or-append_seam}
+use Rattle.task_graph.specs.Places.{places_from}
+use Rattle.task_graph.specs.Net.{out_edges}
+use Rattle.task_graph.specs.declared.net.EdgeRow.{EdgeRow}
+use Rattle.serde_json.specs.Data.{Data}
+use Rattle.graph_plans.specs.declared.ops.Op.{Op}
+use Rattle.graph_plans.specs.PlanRows.{PlanRows}
+use Rattle.graph_file.specs.Written.{op_text, task_data, tasks_from, to_of}
+use Rattle.graph_file.specs.inside.Writing.{IsString, end_name}
+
+-- a name at a place is UTF-8
+pub utf8-at : (names : List (List ℕ)) (i : ℕ) (name : List ℕ) → i < length names → name ≡ get_or names i name → All IsString names → IsString name
+utf8-at names i name within is all = subst IsString (sym is) (all i name within)
+
+within_step : {X : Type 0} (p : X → Bool) (n k : ℕ) (here : Bool) (rest : List ℕ) (last : ℕ) → ((j : ℕ) → j < length rest → get_or rest j 0 < last) → n < last → k < length (cond here (n ∷ rest) rest) → get_or (cond here (n ∷ rest) rest) k 0 < last
+within_step p n zero true rest last others less within = less
+within_step p n (suc k) true rest last others less within = others k (omega arith)
+within_step p n k false rest last others less within = others k within
+
+places-within : {X : Type 0} (p : X → Bool) (n : ℕ) (xs : List X) (k : ℕ) → k < length (places_from p n xs) → get_or (places_from p n xs) k 0 < n + length xs
+places-within p n [] k within = absurd (omega arith)
+places-within p n (x ∷ xs) k within =
+    within_step p n k (p x) (places_from p (suc n) xs) (n + suc (length xs)) (λ j less. let later = places-within p (suc n) xs j less in omega (arith, later)) (omega arith) within
+
+-- an edge out of a task is one of the edges
+pub edge-within : (plan : PlanRows) (t i : ℕ) (shown : List ℕ) → shown ≡ out_edges plan.top.net t → i < length shown → get_or shown i 0 < length plan.top.net.edges
+edge-within plan t i shown same within =
+    let long : i < length (out_edges plan.top.net t) = rw (← same) within in
+    rw same (let less = places-within (λ (row : EdgeRow). row.from == t) 0 plan.top.net.edges i long in omega (arith, less))
+
+ends_step : (names : List (List ℕ)) (all : List EdgeRow) (edge : EdgeRow) (here : Bool) (n : ℕ) (rest : List ℕ) (edges : List EdgeRow) → get_or all n (record { from = 0; to = 0; start = false }) ≡ edge
+    → map (λ e. get_or names (get_or all e (record { from = 0; to = 0; start = false })).to []) rest ≡ map (λ (e : EdgeRow). get_or names e.to []) edges
+    → map (λ e. get_or names (get_or all e (record { from = 0; to = 0; start = false })).to []) (cond here (n ∷ rest) rest) ≡ map (λ (e : EdgeRow). get_or names e.to []) (cond here (edge ∷ edges) edges)
+ends_step names all edge true n rest edges at same = rw (at, same) refl
+ends_step names all edge false n rest edges at same = same
+
+ends-from : (names : List (List ℕ)) (t : ℕ) (before edges : List EdgeRow)
+    → map (λ e. get_or names (get_or (before ++ edges) e (record { from = 0; to = 0; start = false })).to []) (places_from (λ (row : EdgeRow). row.from == t) (length before) edges)
+    ≡ map (λ (e : EdgeRow). get_or names e.to []) (filter (λ (row : EdgeRow). row.from == t) edges)
+ends-from names t before [] = refl
+ends-from names t before (edge ∷ edges) =
+    let d : EdgeRow = record { from = 0; to = 0; start = false } in
+    let all = before ++ edge ∷ edges in
+    let longer : (before ++ edge ∷ []) ++ edges ≡ all = append_assoc before (edge ∷ []) edges in
+    let number : length (before ++ edge ∷ []) ≡ suc (length before) = omega (arith, length-append before (edge ∷ [])) in
+    let others = rw (longer, number) at (ends-from names t (before ++ edge ∷ []) edges) in
+    ends_step names all edge (edge.from == t) (length before) _ _ (get_or-append_seam before edge edges d) others
+
+-- the names of the ends of a task's edges
+pub ends-to : (plan : PlanRows) (t : ℕ) → map (end_name plan) (out_edges plan.top.net t) ≡ to_of plan t
+ends-to plan t = ends-from plan.top.names t [] plan.top.net.edges
+
+-- ---- task by task
+
+tasks-snoc : (plan : PlanRows) (t i : ℕ) (names : List (List ℕ)) (ops : List Op) (d : Op) → i < length names → i < length ops
+    → tasks_from plan t (take (suc i) names) (take (suc i) ops) ≡ tasks_from plan t (take i names) (take i ops) ++ task_data (get_or names i []) (op_text plan.texts (get_or ops i d)) (to_of plan (t + i)) ∷ []
+tasks-snoc plan t i [] ops d in_names in_ops = absurd (omega arith)
+tasks-snoc plan t i (name ∷ names) [] d in_names in_ops = absurd (omega arith)
+tasks-snoc plan t zero (name ∷ names) (op ∷ ops) d in_names in_ops = let here : t + 0 ≡ t = omega arith in rw here refl
+tasks-snoc plan t (suc i) (name ∷ names) (op ∷ ops) d in_names in_ops =
+    let number : t + suc i ≡ suc t + i = omega arith in
+    ap (λ ds. task_data name (op_text plan.texts op) (to_of plan t) ∷ ds) (rw number (tasks-snoc plan (suc t) i names ops d (omega arith) (omega arith)))
+
+-- one task more was written
+pub tasks-more : (plan : PlanRows) (i : ℕ) (op : Op) (old : List Data) (new : Data) → i < length plan.top.ops → length plan.top.ops ≡ length plan.top.names → op ≡ get_or plan.top.ops i op
+    → new ≡ task_data (get_or plan.top.names i []) (op_text plan.texts op) (to_of plan i) → old ≡ tasks_from plan 0 (take i plan.top.names) (take i plan.top.ops)
+    → old ++ new ∷ [] ≡ tasks_from plan 0 (take (i + 1) plan.top.names) (take (i + 1) plan.top.ops)
+tasks-more plan i op old new within count is written so_far =
+    let in_names : i < length plan.top.names = omega (arith, count) in
+    let number : i + 1 ≡ suc i = omega arith in
+    let here : 0 + i ≡ i = omega arith in
+    let at_op : get_or plan.top.ops i op ≡ op = sym is in
+    rw (number, tasks-snoc plan 0 i plan.top.names plan.top.ops op in_names within, here, at_op, so_far, written) refl
