@@ -78,7 +78,10 @@ const LIMIT: &str = r#"{"tasks":[
     {"name":"d","op":"pass"}]}"#;
 
 // The first of these calls that is shown in another way, or nothing.
-fn first_difference<'a>(alloc: Global, calls: &[(&'a str, &str, &str)]) -> Result<&'a str, NoMemory> {
+fn first_difference<'a>(
+    alloc: Global,
+    calls: &[(&'a str, &str, &str)],
+) -> Result<&'a str, NoMemory> {
     for (graph, text, want) in calls {
         let seen = shown(alloc, &run(graph.as_bytes(), text.as_bytes()))?;
         if seen.as_str() != *want {
@@ -126,8 +129,16 @@ fn runs_conditions(rt: HostRuntime) -> Result<(), Fail> {
 fn stops_at_limits(rt: HostRuntime) -> Result<(), Fail> {
     for (graph, limit, want) in [
         (COUNT, "2", "0 written, run of 4; == b\n3\n; "),
-        (COUNT, "1", "8 written, run of 3; -- b\n!! limit 1\n; flow: limit 1\n"),
-        (LIMIT, "10", "8 written, run of 21; -- d\n!! limit 10\n; flow: limit 10\n"),
+        (
+            COUNT,
+            "1",
+            "8 written, run of 3; -- b\n!! limit 1\n; flow: limit 1\n",
+        ),
+        (
+            LIMIT,
+            "10",
+            "8 written, run of 21; -- d\n!! limit 10\n; flow: limit 10\n",
+        ),
     ] {
         let call = Call {
             words: &["run", "g", "--limit", limit],

@@ -33,7 +33,9 @@ const TWICE: &str = r#"{"tasks":[
 const HALF: usize = 4_718_592;
 
 fn graph(alloc: Global, op: &str) -> Result<String, AllocError> {
-    format!(in alloc; r#"{{"tasks":[{{"name":"r","op":"read","text":"t","to":["b"]}},{{"name":"b","op":{op}}}]}}"#)
+    format!(in alloc;
+        r#"{{"tasks":[{{"name":"r","op":"read","text":"t","to":["b"]}},{{"name":"b","op":{op}}}]}}"#
+    )
 }
 
 fn wanted(alloc: Global, value: &str) -> Result<String, AllocError> {
