@@ -1,5 +1,5 @@
 -- The edges that an answer signals fit the shape of its task.
-use Rattle.std.proofs.Common.{◌≡◌, inl, inr, ℕ, zero, suc, ◌<◌, ◌≤◌, Bool, true, false, not, cond, eqb, List, [], ◌∷◌, length, get_or, Option, Some, None, ℤ, pos, negsuc, refl, arith}
+use Rattle.std.proofs.Common.{◌≡◌, ◌∙◌, sym, ap, take, drop, slice_index, ◌+◌, ◌-◌, inl, inr, ℕ, zero, suc, ◌<◌, ◌≤◌, Bool, true, false, not, cond, eqb, List, [], ◌∷◌, length, get_or, Option, Some, None, ℤ, pos, negsuc, refl, arith}
 use Rattle.std.specs.Prelude.{slice_get, IsTrue, IsSomeAnd, IfSome, All, filter, ◌==◌}
 use Rattle.std.specs.List.{AllByRecursion, IsDistinct, list_any}
 use Rattle.std.proofs.lemmas.Bool.Decides.{nat_tests}
@@ -151,3 +151,18 @@ no_inner J V net t inner flat below fits = by_row (slice_get net.tasks t) refl f
     by_row : (row : Option TaskRow) → slice_get net.tasks t ≡ row → IfSome row (λ (r : TaskRow). DoneFits r.shape done) → ⊥
     by_row None is f = past_tasks net.tasks t below is
     by_row (Some row) is f = (at_place IsFlatTask net.tasks t row flat is).shape f
+
+one_of : (out : List ℕ) (p : ℕ) → p < length out → take 1 (drop p out) ≡ slice_index out p ∷ []
+one_of [] p below = absurd (omega (arith, below))
+one_of (x ∷ xs) zero below = refl
+one_of (x ∷ xs) (suc p) below = one_of xs p (omega (arith, below))
+
+-- one index chooses the edge at its place alone
+pub one_chosen : (out : List ℕ) (index : ℤ) (p : ℕ) → p < length out → edge_at out index ≡ Some (slice_index out p) → take (p + 1 - p) (drop p out) ≡ chosen_edges out (index ∷ [])
+one_chosen out index p below is =
+    let one : p + 1 - p ≡ 1 = omega arith in
+    ap (λ n. take n (drop p out)) one ∙ one_of out p below ∙ ap (λ e. first_of e []) (sym is)
+
+-- and one that names none chooses none
+pub none_chosen : (out : List ℕ) (index : ℤ) → edge_at out index ≡ None → [] ≡ chosen_edges out (index ∷ [])
+none_chosen out index none = ap (λ e. first_of e []) (sym none)

@@ -1,5 +1,6 @@
 // The state of a run: what starts, ends, faults and drops.
-ghost use Rattle.std.specs.Prelude.{◌≡◌, ◌↔◌, ◌≤◌, ◌<◌, ◌++◌, ◌∷◌, [], ℕ, length, map, IfOk, IfErr, OnOk, OnErr, IsOk, false};
+ghost use Rattle.std.specs.Prelude.{◌≡◌, ◌↔◌, ◌≤◌, ◌<◌, ◌++◌, ◌∷◌, [], ℕ, length, map, IfOk, IfErr, IfSome, MatchOption, OnOk, OnErr, IsOk, false, None, Some, slice_index};
+ghost use Rattle.task_graph.specs.Chosen.{chosen_edges, edge_at};
 ghost use Rattle.std.specs.Arc.{arc_value};
 ghost use Rattle.journal_rules.specs.Complete.{Complete};
 ghost use Rattle.journal_rules.specs.ShapeLegal.{ShapeLegal, MeetsDataRule};
@@ -160,6 +161,9 @@ impl<J: Job + Drop> FrameState<J> {
             Answer::All => self.end_giving(&net, running, value, net.out_edges(task)),
             Answer::None => self.end_giving(&net, running, value, &[]),
             Answer::Indices(indices) => {
+                if let Some(gives) = edge_at_one(net.out_edges(task), indices.as_slice()) {
+                    return self.end_giving(&net, running, value, gives);
+                }
                 match net.chosen(self.alloc, task, indices.as_slice()) {
                     Ok(chosen) => self.end_giving(&net, running, value, chosen.as_slice()),
                     Err(_) => Err(Back { item: running }),
@@ -273,5 +277,30 @@ impl<J: Job + Drop> FrameState<J> {
             values: values.into_rows(),
             inner: Vec::new(alloc),
         })
+    }
+}
+
+// The edge that a list of one index chooses, or none, without a list of its own. `None` where there isn't one index.
+#[tactic(auto, using(crate::proofs::ChosenLemmas::one_chosen, crate::proofs::ChosenLemmas::none_chosen))]
+fn edge_at_one<'n>(out: &'n [u32], indices: &[i64]) -> Option<&'n [u32]>
+    ensures { IfSome result (λ edges. edges.now ≡ chosen_edges out.now indices.now) }
+{
+    let [index] = indices else {
+        return None;
+    };
+    match place_named(out, *index) {
+        Some(place) => Some(&out[place..place + 1]),
+        None => Some(&[]),
+    }
+}
+
+// The place in a list of edges that an index names, if it names one.
+fn place_named(out: &[u32], index: i64) -> Option<usize>
+    ensures { MatchOption result (edge_at out.now index ≡ None)
+        (λ place. (place < length out.now) × (edge_at out.now index ≡ Some (slice_index out.now place))) }
+{
+    match usize::try_from(index) {
+        Ok(place) if place < out.len() => Some(place),
+        _ => None,
     }
 }
