@@ -16,7 +16,7 @@ use Rattle.text_ops.specs.Repeats.{changes, without_repeats, count_of, Neighbour
 use Rattle.text_ops.specs.TextMeaning.{keep_meaning, without_meaning}
 use Rattle.text_ops.proofs.KeepLemmas.{lines_plain}
 use Rattle.text_ops.proofs.LineLemmas.{text_of-lines_of, lines_of-text_of}
-use Rattle.text_ops.proofs.OrderLemmas.{Rises, Rises-in_order, IsUpTo-antisym, IsUpTo-trans, IsPermutation-in_order, count_of-cons}
+use Rattle.text_ops.proofs.OrderLemmas.{Rises, Rises-in_order, AllPairs-rising, IsUpTo-antisym, IsUpTo-trans, IsPermutation-in_order, count_of-cons}
 
 -- a cut between lines
 pub both_parts : (n : ℕ) (text : List ℕ) → text_of (take n (lines_of text)) ++ text_of (drop n (lines_of text)) ≡ normal text
@@ -108,6 +108,18 @@ climbing_differ (line ∷ rest) climbs (suc i) (suc j) d before low = climbing_d
 
 pub each_once : (lines : List (List ℕ)) → AllPairs (λ a b. a ≢ b) (without_repeats (in_order lines))
 each_once lines = climbing_differ (without_repeats (in_order lines)) (Climbs-once (in_order lines) (Rises-in_order lines))
+
+-- the lines that are left are in order still
+below_up_to : (a : List ℕ) (lines : List (List ℕ)) → AllByRecursion (Below a) lines → AllByRecursion (IsUpTo a) lines
+below_up_to a [] all = tt
+below_up_to a (line ∷ rest) all = (all.0.0, below_up_to a rest all.1)
+
+climbing_rise : (lines : List (List ℕ)) → Climbs lines → Rises lines
+climbing_rise [] climbs = tt
+climbing_rise (line ∷ rest) climbs = (below_up_to line rest climbs.0, climbing_rise rest climbs.1)
+
+pub left_in_order : (lines : List (List ℕ)) → AllPairs IsUpTo (without_repeats (in_order lines))
+left_in_order lines = AllPairs-rising (without_repeats (in_order lines)) (climbing_rise (without_repeats (in_order lines)) (Climbs-once (in_order lines) (Rises-in_order lines)))
 
 -- Which lines are left.
 in_cons : (x : List ℕ) (xs : List (List ℕ)) (v : List ℕ) → Contains (x ∷ xs) v → (x ≡ v) ⊎ Contains xs v

@@ -36,8 +36,9 @@ pub fn order_of_lines()
     // No two lines that are equal and may stand in either order differ: there is one such order.
     ensures one { (a b : List ℕ) → IsUpTo a b → IsUpTo b a → a ≡ b }
 
-    // No two neighbours are equal, and of lines in order each is left once.
+    // No two neighbours are equal, and of lines in order each is left once, in order.
     ensures differ { (lines : List (List ℕ)) → NeighboursDiffer (without_repeats lines) }
+    ensures ordered { (lines : List (List ℕ)) → AllPairs IsUpTo (without_repeats (in_order lines)) }
     ensures once { (lines : List (List ℕ)) → AllPairs (λ a b. a ≢ b) (without_repeats (in_order lines)) }
     ensures each { (line : List ℕ) (lines : List (List ℕ)) → Contains lines line ↔ Contains (without_repeats (in_order lines)) line }
 

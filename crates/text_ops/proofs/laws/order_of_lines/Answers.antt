@@ -1,5 +1,5 @@
 use Rattle.text_ops.specs.LineOrder.{in_order}
-use Rattle.text_ops.proofs.LawLemmas.{neighbours_differ, each_once, line_left, left_line, counts_add_up}
+use Rattle.text_ops.proofs.LawLemmas.{neighbours_differ, each_once, left_in_order, line_left, left_line, counts_add_up}
 use Rattle.text_ops.proofs.OrderLemmas.{IsPermutation-in_order, AllPairs-rising, Rises-in_order, IsUpTo-antisym}
 use Rattle.text_ops.proofs.laws.order_of_lines.Goals as goal
 
@@ -14,6 +14,9 @@ returns-clause-one c = IsUpTo-antisym
 
 pub returns-clause-differ : goal.returns-clause-differ
 returns-clause-differ c = neighbours_differ
+
+pub returns-clause-ordered : goal.returns-clause-ordered
+returns-clause-ordered c = left_in_order
 
 pub returns-clause-once : goal.returns-clause-once
 returns-clause-once c = each_once
