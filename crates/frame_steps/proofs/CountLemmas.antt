@@ -1,0 +1,38 @@
+-- How many items are outstanding after a step.
+use Rattle.std.proofs.Common.{◌≡◌, ℕ, ◌+◌, ◌≤◌, List, [], ◌∷◌, length, set, Option, None, ap, ◌∙◌, arith}
+use Rattle.journal_rules.specs.declared.entry.Why.{Why}
+use Rattle.tickets.specs.Books.{TicketState}
+use Rattle.run_frame.specs.Meaning.{Meaning}
+use Rattle.run_frame.specs.declared.job.Answer.{Answer}
+use Rattle.run_frame.specs.declared.duty.Duty.{Duty}
+use Rattle.run_frame.specs.declared.state.Started.{Started}
+use Rattle.run_frame.specs.declared.state.Started.TheVariants as started
+use Rattle.run_frame.specs.Duties.{outstanding_count}
+use Rattle.run_frame.specs.Frames.{FrameView, IsOutstanding, items_after, StartDoes, StartsTask, DropsTask, EndsTask, FaultsTask}
+use Rattle.run_frame.proofs.DutyLemmas.{count_issued}
+use Rattle.run_frame.proofs.CountedLemmas.{one_fewer}
+
+module _ {J V : Type 0} where
+  -- one item is redeemed, and these are issued
+  counts_after : (old new : FrameView J V) (ticket : TicketState (Duty V)) (issued : List (TicketState (Duty V))) → IsOutstanding old.items ticket → new.items ≡ items_after old.items ticket issued
+      → outstanding_count new.items + 1 ≡ outstanding_count old.items + length issued
+  counts_after old new ticket issued stood is =
+      let a = one_fewer old.items ticket.number ticket.item stood in
+      let b = ap outstanding_count is ∙ count_issued (set old.items ticket.number None) issued in
+      omega arith
+
+  pub counts_started : (meaning : Meaning J V) (old new : FrameView J V) (release ticket : TicketState (Duty V)) → StartDoes meaning old new release (started.Running ticket) → outstanding_count new.items ≡ outstanding_count old.items
+  counts_started meaning old new release ticket starts = let a = counts_after old new release (ticket ∷ []) starts.stood starts.items in omega arith
+
+  pub counts_halted : (meaning : Meaning J V) (old new : FrameView J V) (release : TicketState (Duty V)) → StartDoes meaning old new release started.Halted → outstanding_count new.items + 1 ≡ outstanding_count old.items
+  counts_halted meaning old new release drops = let a = counts_after old new release [] drops.stood drops.items in omega arith
+
+  pub counts_limited : (meaning : Meaning J V) (old new : FrameView J V) (release : TicketState (Duty V)) → StartDoes meaning old new release started.AtLimit → outstanding_count new.items + 1 ≡ outstanding_count old.items
+  counts_limited meaning old new release drops = let a = counts_after old new release [] drops.0.stood drops.0.items in omega arith
+
+  pub counts_ended : (meaning : Meaning J V) (old new : FrameView J V) (ticket : TicketState (Duty V)) (answer : Answer) (released : List (TicketState (Duty V))) → EndsTask meaning old new ticket answer released
+      → outstanding_count new.items + 1 ≡ outstanding_count old.items + length released
+  counts_ended meaning old new ticket answer released ends = counts_after old new ticket released ends.stood ends.items
+
+  pub counts_faulted : (old new : FrameView J V) (ticket : TicketState (Duty V)) (why : Why) → FaultsTask old new ticket why → outstanding_count new.items + 1 ≡ outstanding_count old.items
+  counts_faulted old new ticket why faults = let a = counts_after old new ticket [] faults.stood faults.items in omega arith
