@@ -19,11 +19,12 @@ module _ (net : NetRows) (limit : ℕ) where
   none_first : IsNet net → Complete net limit [] → HasNoFirstRelease net
   none_first is complete t Source below released =
       let used : 0 ≡ 1 = at_below _ (length net.tasks) complete.sources t below released.0 in
-      omega arith
+      absurd (omega arith)
   none_first is complete t Strong below released =
       let used : 0 ≡ least (map (λ e. given net e []) (strong_in net t)) = at_below _ (length net.tasks) complete.strong t below released.0 in
-      omega (arith, below_each (λ e. given net e []) 0 (strong_in net t) released)
-  none_first is complete t (Weak e) below released = let none = weak_token net e is released.0 in omega (arith, released.2)
+      let some = below_each (λ e. given net e []) 0 (strong_in net t) released in
+      absurd (omega arith)
+  none_first is complete t (Weak e) below released = let none = weak_token net e is released.0 in absurd (omega (arith, released.2))
 
   complete_first : IsNet net → HasNoFirstRelease net → Complete net limit []
   complete_first is none = record {

@@ -1,2 +1,4 @@
 mod FirstLemmas
 mod CountLemmas
+mod ReleaseLemmas
+mod SessionLemmas

@@ -11,7 +11,7 @@ use super::stepped::{State, Stepped};
 use keyed_lock::{Held, KeyedLock};
 use legal_run::Why;
 use outside_io::NoMemory;
-use run_frame::{Answer, Begun, Duty, FrameRun, FrameState, Job, JobError, Started, run_task};
+use run_frame::{Answer, Begun, Duty, FrameRun, FrameState, Job, JobError, run_task};
 use std::alloc::Global;
 use std::marker::Model;
 use std::sync::{Arc, Wait};
@@ -152,13 +152,13 @@ impl<J: Job + Drop> Frame<J> {
             pass,
         } = self.lock.take(rt);
         match run.start(release) {
-            Ok(Started::Running(running)) => {
+            Ok(Some(running)) => {
                 self.lock.put(Held { value: run, pass });
                 Ok(AfterStart::Running(running))
             }
-            Ok(_) => {
-                let held = Held { value: run, pass };
-                Ok(AfterStart::Dropped(settle(&self.lock, held)))
+            Ok(None) => {
+                let run = settle(&self.lock, Held { value: run, pass });
+                Ok(AfterStart::Dropped(run))
             }
             Err(NoMemory) => {
                 self.lock.put(Held { value: run, pass });

@@ -46,27 +46,31 @@ impl<J: Job> Keyed for LockedRun<J> {
 }
 
 impl<J: Job + Drop> LockedRun<J> {
-    ghost use Rattle.run_frame.specs.Frames.{IsSameRun, StartDoes, MayEndWith, MayFaultWith, EndsTask, FaultsTask};
+    ghost use Rattle.run_frame.specs.Frames.{IsSameRun, MayEndWith, MayFaultWith, EndsTask, FaultsTask};
+    ghost use Rattle.frame_steps.specs.inside.Locked.{StartsOrDrops};
 
-    /// Starts the task of a release, or drops the release.
-    pub fn start(&mut self, release: Ticket<Duty<J::V>>) -> Result<Started<J::V>, NoMemory>
+    /// Starts the task of a release and gives the ticket of the open start, or drops the release.
+    pub fn start(
+        &mut self,
+        release: Ticket<Duty<J::V>>,
+    ) -> Result<Option<Ticket<Duty<J::V>>>, NoMemory>
         requires { IsReleaseOf self.old.state.register release }
         ensures same { IsSameRun self.old.state self.new.state }
-        ensures ok { IfOk result (StartDoes J.meaning self.old.state self.new.state release) }
+        ensures ok { IfOk result (StartsOrDrops J.meaning self.old.state self.new.state release) }
         ensures counted { OnOk result (IsSome self.new.left) }
     {
         let Some(left) = self.left else {
             return Err(NoMemory);
         };
         match self.state.start(release) {
-            Ok(Started::Running(running)) => Ok(Started::Running(running)),
+            Ok(Started::Running(running)) => Ok(Some(running)),
             Ok(Started::Halted) => {
                 self.left = Some(left - 1);
-                Ok(Started::Halted)
+                Ok(None)
             }
             Ok(Started::AtLimit) => {
                 self.left = Some(left - 1);
-                Ok(Started::AtLimit)
+                Ok(None)
             }
             Err(_) => {
                 self.left = None;
@@ -93,10 +97,11 @@ impl<J: Job + Drop> LockedRun<J> {
         };
         match self.state.end(running, value, answer) {
             Ok(released) => {
-                self.left = (left - 1).checked_add(released.len() as u64);
-                if self.left.is_none() {
+                let Some(left) = (left - 1).checked_add(released.len() as u64) else {
+                    self.left = None;
                     return Err(NoMemory);
-                }
+                };
+                self.left = Some(left);
                 Ok(released)
             }
             Err(_) => {
