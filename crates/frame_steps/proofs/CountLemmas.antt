@@ -9,7 +9,7 @@ use Rattle.run_frame.specs.declared.duty.Duty.{Duty}
 use Rattle.run_frame.specs.declared.state.Started.{Started}
 use Rattle.run_frame.specs.declared.state.Started.TheVariants as started
 use Rattle.run_frame.specs.Duties.{outstanding_count}
-use Rattle.run_frame.specs.Frames.{FrameView, IsOutstanding, items_after, StartDoes, StartsTask, DropsTask, EndsTask, FaultsTask}
+use Rattle.run_frame.specs.Frames.{FrameView, IsOutstanding, items_after, StartDoes, EndsTask, FaultsTask}
 use Rattle.run_frame.proofs.DutyLemmas.{count_issued}
 use Rattle.run_frame.proofs.CountedLemmas.{one_fewer}
 

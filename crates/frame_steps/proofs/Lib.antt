@@ -2,3 +2,4 @@ mod FirstLemmas
 mod CountLemmas
 mod ReleaseLemmas
 mod SessionLemmas
+mod BeginLemmas

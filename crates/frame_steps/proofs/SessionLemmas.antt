@@ -1,6 +1,6 @@
 -- What a frame's lock shows to whoever takes it once.
-use Rattle.std.proofs.Common.{◌≡◌, ◌≢◌, ◌⊎◌, inl, inr, ◌↔◌, List, [], ◌∷◌, Option, Some, None, refl, sym, ap, ◌∙◌, subst}
-use Rattle.std.specs.Prelude.{All, IfSome, IsSome}
+use Rattle.std.proofs.Common.{◌≡◌, inl, inr, ◌↔◌, List, [], ◌∷◌, Option, Some, None, refl, sym, ap, ◌∙◌, subst}
+use Rattle.std.specs.Prelude.{All, IfSome, IsSome, MatchOption}
 use Rattle.std.proofs.lemmas.Bool.{false≢true}
 use Rattle.std.proofs.lemmas.List.Elements.{All-nil, All-weaker}
 use Rattle.journal_rules.specs.declared.entry.Why.{Why}
@@ -14,10 +14,13 @@ use Rattle.run_frame.specs.declared.duty.Duty.{Duty}
 use Rattle.run_frame.specs.declared.run.FrameRun.{FrameRun}
 use Rattle.run_frame.specs.Duties.{IsReleaseOf, outstanding_count}
 use Rattle.run_frame.specs.Frames.{FrameView, IsSameRun, StartsTask, DropsTask, EndsTask, FaultsTask, MayEndWith, MayFaultWith}
-use Rattle.frame_steps.specs.Releases.{FrameKey, key_of, IsReleaseIn}
-use Rattle.frame_steps.specs.Steps.{IsStateOf, StartsRelease, DropsRelease, EndsStart, FaultsStart, ClosesRun}
+use Rattle.frame_steps.specs.Releases.{FrameKey, ReleaseView, key_of, IsReleaseIn, tickets_of}
+use Rattle.frame_steps.specs.Steps.{IsStateOf, IsStateAfter, StartsRelease, DropsRelease, ClosesRun, UsesUp, StepsRelease}
+use Rattle.frame_steps.specs.declared.stepped.State.{State}
+use Rattle.frame_steps.specs.declared.stepped.State.TheVariants.{Went, Closed}
+use Rattle.frame_steps.specs.declared.stepped.Stepped.{Stepped}
 use Rattle.frame_steps.specs.declared.frame.AfterEnd.{AfterEnd}
-use Rattle.frame_steps.specs.inside.Sessions.{ComesOfStart, IsRunOf, MayEndIn, MayFaultIn}
+use Rattle.frame_steps.specs.inside.Sessions.{ComesOfStart, ComesOfStep, IsRunOf, MayEndIn, MayFaultIn}
 
 module _ {J V : Type 0} (meaning : Meaning J V) where
   -- what is given out of a run that was left in a state
@@ -78,3 +81,34 @@ module _ {J V : Type 0} (meaning : Meaning J V) where
         → (after : FrameView J V) × DropsRelease frames release after × IsRunOf meaning frames after run
     comes_of_drop found left release run key same drops settled =
         (left, record { found = found; of_frame = state_of found key; why = drops.0; drops = drops.1 }, run_of found left run key same settled)
+
+  pub comes_of_use : (frames : List (FrameKey J)) (release running : TicketState (Duty V)) (end : AfterEnd J V) → StartsRelease meaning frames release running → ComesOfStart meaning frames running end → ComesOfStep meaning frames release end
+  comes_of_use frames release running end starts comes = record {
+    left = comes.left;
+    used = inr (running, starts, comes.closes);
+    releases = comes.releases;
+    run = comes.run;
+  }
+
+  pub comes_of_none : (frames : List (FrameKey J)) (release : TicketState (Duty V)) (end : AfterEnd J V) → (left : FrameView J V) × DropsRelease frames release left × IsRunOf meaning frames left end.run → end.released.items ≡ []
+      → ComesOfStep meaning frames release end
+  comes_of_none frames release end drops none = record {
+    left = drops.0;
+    used = inl (none, drops.1);
+    releases = subst (All (IsReleaseIn frames)) (sym none) (All-nil _);
+    run = drops.2;
+  }
+
+  state_after : (frames : List (FrameKey J)) (left : FrameView J V) (run : Option (FrameRun J V)) (state : State J V) → MatchOption run (state ≡ Went) (λ closed. state ≡ Closed closed) → IsRunOf meaning frames left run
+      → IsStateAfter meaning frames left state
+  state_after frames left None state is of = subst (IsStateAfter meaning frames left) (sym is) of
+  state_after frames left (Some run) state is of = subst (IsStateAfter meaning frames left) (sym is) of
+
+  pub steps_release : (release : ReleaseView J V) (end : AfterEnd J V) (stepped : Stepped J V) → ComesOfStep meaning release.frames release.ticket end → tickets_of stepped.released.items ≡ end.released.items
+      → All (λ (next : ReleaseView J V). next.frames ≡ release.frames) stepped.released.items → MatchOption end.run (stepped.state ≡ Went) (λ closed. stepped.state ≡ Closed closed) → StepsRelease meaning release stepped
+  steps_release release end stepped comes tickets frames is = record {
+    left = comes.left;
+    used = subst (λ ts. UsesUp meaning release.frames release.ticket ts comes.left) (sym tickets) comes.used;
+    frames = frames;
+    state = state_after release.frames comes.left end.run stepped.state is comes.run;
+  }

@@ -63,7 +63,7 @@ struct AfterEnd<J: Job> {
 impl<J: Job + Drop> Frame<J> {
     ghost use Rattle.frame_steps.specs.Releases.{key_of, HasRegister, IsReleaseIn};
     ghost use Rattle.frame_steps.specs.Steps.{IsClosed, BeginsFrame, StepsRelease};
-    ghost use Rattle.frame_steps.specs.inside.Sessions.{ComesOfRelease, ComesOfStart, IsOpenIn, MayEndIn, MayFaultIn};
+    ghost use Rattle.frame_steps.specs.inside.Sessions.{ComesOfRelease, ComesOfStart, ComesOfStep, IsOpenIn, MayEndIn, MayFaultIn};
 
     /// Begins a run of a job, with a release for each task that is released before anything has run. If there is
     /// none, the run is complete as it is.
@@ -96,20 +96,12 @@ impl<J: Job + Drop> Frame<J> {
         ensures { IfOk result (StepsRelease J.meaning release) }
     {
         let Release { frame, ticket } = release;
-        let end = match frame.start(rt, ticket)? {
-            AfterStart::Running(running) => frame.work(rt, running)?,
-            AfterStart::Dropped(run) => AfterEnd {
-                released: Vec::new(frame.alloc),
-                run,
-            },
-        };
-        let AfterEnd { released, run } = end;
+        let AfterEnd { released, run } = frame.use_up(rt, ticket)?;
         let released = Release::all(frame.alloc, &frame, released)?;
-        let state = match run {
-            Some(run) => State::Closed(run),
-            None => State::Went,
-        };
-        Ok(Stepped { released, state })
+        Ok(Stepped {
+            released,
+            state: State::after(run),
+        })
     }
 
     // A frame in no other, whose run is in this state, with so many tickets out.
@@ -136,6 +128,24 @@ impl<J: Job + Drop> Frame<J> {
             },
         )?;
         Ok(frame)
+    }
+
+    // Drops a release, or starts its task, does its work and ends the start or records its fault.
+    fn use_up<R: Wait>(
+        &self,
+        rt: &R,
+        release: Ticket<Duty<J::V>>,
+    ) -> Result<AfterEnd<J>, NoMemory>
+        requires { IsReleaseIn self.now release }
+        ensures { IfOk result (ComesOfStep J.meaning self.now release) }
+    {
+        match self.start(rt, release)? {
+            AfterStart::Running(running) => self.work(rt, running),
+            AfterStart::Dropped(run) => Ok(AfterEnd {
+                released: Vec::new(self.alloc),
+                run,
+            }),
+        }
     }
 
     // Starts the task of a release, or drops the release.

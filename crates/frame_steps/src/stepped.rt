@@ -1,4 +1,6 @@
 // What a beginning and a step come to.
+ghost use Rattle.std.specs.Prelude.{◌≡◌, MatchOption};
+
 use super::release::Release;
 use run_frame::{FrameRun, Job};
 
@@ -20,4 +22,16 @@ pub enum State<J: Job> {
     Inner,
     /// Nothing is left to do. The run is complete.
     Closed(FrameRun<J>),
+}
+
+impl<J: Job> State<J> {
+    // What is with a run that is given out, or isn't.
+    pub(crate) fn after(run: Option<FrameRun<J>>) -> State<J>
+        ensures { MatchOption run (result ≡ State.Went) (λ closed. result ≡ State.Closed closed) }
+    {
+        match run {
+            Some(run) => State::Closed(run),
+            None => State::Went,
+        }
+    }
 }

@@ -9,7 +9,7 @@ use Rattle.run_frame.specs.Meaning.{Meaning}
 use Rattle.run_frame.specs.Duties.{outstanding_count}
 use Rattle.run_frame.specs.Frames.{FrameView, IsStarted, HasNoInner, MayEndWith, MayFaultWith}
 use Rattle.frame_steps.specs.Releases.{FrameKey, IsReleaseIn}
-use Rattle.frame_steps.specs.Steps.{StartsRelease, DropsRelease, ClosesStart, ClosesRun}
+use Rattle.frame_steps.specs.Steps.{StartsRelease, DropsRelease, ClosesStart, ClosesRun, UsesUp}
 use Rattle.frame_steps.specs.declared.frame.AfterStart.{AfterStart}
 use Rattle.frame_steps.specs.declared.frame.AfterStart.TheVariants.{Running, Dropped}
 use Rattle.frame_steps.specs.declared.frame.AfterEnd.{AfterEnd}
@@ -42,5 +42,11 @@ ComesOfRelease {J} {V} meaning frames release (Dropped run) =
 pub record ComesOfStart {J V : Type 0} (meaning : Meaning J V) (frames : List (FrameKey J)) (running : TicketState (Duty V)) (end : AfterEnd J V) : Type 0 where
   pub left : FrameView J V
   pub closes : ClosesStart meaning frames running end.released.items left
+  pub releases : All (IsReleaseIn frames) end.released.items
+  pub run : IsRunOf meaning frames left end.run
+
+pub record ComesOfStep {J V : Type 0} (meaning : Meaning J V) (frames : List (FrameKey J)) (release : TicketState (Duty V)) (end : AfterEnd J V) : Type 0 where
+  pub left : FrameView J V
+  pub used : UsesUp meaning frames release end.released.items left
   pub releases : All (IsReleaseIn frames) end.released.items
   pub run : IsRunOf meaning frames left end.run

@@ -1,7 +1,7 @@
-use Rattle.std.proofs.Common.{◌≡◌, ◌∷◌, [], sym, ap, ◌∙◌}
+use Rattle.std.proofs.Common.{◌∷◌, sym, ap, ◌∙◌}
 use Rattle.std.specs.Arc.{arc_value}
 use Rattle.keyed_lock.specs.Locks.{made_with}
-use Rattle.frame_steps.specs.Releases.{FrameKey, key_of}
+use Rattle.frame_steps.specs.Releases.{key_of}
 use Rattle.frame_steps.proofs.SessionLemmas.{comes_of_end}
 use Rattle.frame_steps.proofs.frame.Frame.end.Goals as goal
 

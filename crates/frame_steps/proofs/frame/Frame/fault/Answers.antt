@@ -1,6 +1,6 @@
-use Rattle.std.proofs.Common.{◌≡◌, ◌∷◌, [], sym, ap, ◌∙◌}
+use Rattle.std.proofs.Common.{◌∷◌, sym, ap, ◌∙◌}
 use Rattle.keyed_lock.specs.Locks.{made_with}
-use Rattle.frame_steps.specs.Releases.{FrameKey, key_of}
+use Rattle.frame_steps.specs.Releases.{key_of}
 use Rattle.frame_steps.proofs.SessionLemmas.{comes_of_fault}
 use Rattle.frame_steps.proofs.frame.Frame.fault.Goals as goal
 

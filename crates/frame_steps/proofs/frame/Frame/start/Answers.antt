@@ -1,6 +1,6 @@
-use Rattle.std.proofs.Common.{◌≡◌, ◌∷◌, [], sym, ap, ◌∙◌, subst}
+use Rattle.std.proofs.Common.{◌∷◌, sym, ap, ◌∙◌}
 use Rattle.keyed_lock.specs.Locks.{made_with}
-use Rattle.frame_steps.specs.Releases.{FrameKey, key_of}
+use Rattle.frame_steps.specs.Releases.{key_of}
 use Rattle.frame_steps.proofs.SessionLemmas.{comes_of_start, comes_of_drop}
 use Rattle.frame_steps.proofs.frame.Frame.start.Goals as goal
 

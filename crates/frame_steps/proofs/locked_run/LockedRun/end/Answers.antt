@@ -1,6 +1,4 @@
-use Rattle.std.proofs.Common.{◌≡◌, ◌+◌, ◌≤◌, ap, arith}
-use Rattle.run_frame.specs.Duties.{outstanding_count}
-use Rattle.run_frame.specs.Frames.{FrameView}
+use Rattle.std.proofs.Common.{◌≤◌, ap, arith}
 use Rattle.frame_steps.proofs.CountLemmas.{left_is, counts_ended, items_count}
 use Rattle.frame_steps.proofs.locked_run.LockedRun.end.Goals as goal
 

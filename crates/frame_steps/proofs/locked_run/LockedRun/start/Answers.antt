@@ -1,7 +1,4 @@
-use Rattle.std.proofs.Common.{◌≡◌, ◌+◌, ◌≤◌, ap, subst, ◌∙◌, sym, arith}
-use Rattle.std.specs.Prelude.{IfSome}
-use Rattle.run_frame.specs.Duties.{outstanding_count}
-use Rattle.run_frame.specs.Frames.{FrameView}
+use Rattle.std.proofs.Common.{ap, ◌∙◌, sym, arith}
 use Rattle.frame_steps.proofs.CountLemmas.{left_is, counts_started, counts_halted, counts_limited, items_count, still_counted}
 use Rattle.frame_steps.proofs.locked_run.LockedRun.start.Goals as goal
 

@@ -1,8 +1,7 @@
-use Rattle.std.proofs.Common.{◌≡◌, ◌+◌, List, [], ◌∷◌, length, sym, ap, ◌∙◌, subst, arith}
+use Rattle.std.proofs.Common.{length, sym, ap, ◌∙◌, arith}
 use Rattle.std.specs.Arc.{arc_value}
-use Rattle.std.specs.Vec.Iter.{into_iter_items, into_iter_len}
-use Rattle.frame_steps.specs.Releases.{FrameKey, ReleaseView}
-use Rattle.frame_steps.proofs.ReleaseLemmas.{AreMade, made_none, made_one, made_all}
+use Rattle.std.specs.Vec.Iter.{into_iter_items}
+use Rattle.frame_steps.proofs.ReleaseLemmas.{made_none, made_one, made_all}
 use Rattle.frame_steps.proofs.release.Release.all.Goals as goal
 
 pub loop-ticket-init : goal.loop-ticket-init
