@@ -47,13 +47,16 @@ module _ {J V : Type 0} (meaning : Meaning J V) where
         → FaultsTask found left running why → end.released.items ≡ [] → IsSettled left end.run → ComesOfStart meaning frames running end
     comes_of_fault found left running why end key may same faults none settled = record {
       left = left;
-      closes = inr (none, record {
-        found = found;
-        of_frame = state_of found key;
-        why = why;
-        work = subst (λ (k : FrameKey J). MayFaultWith meaning k.job running.item why) (sym key) (subst (λ fs. MayFaultIn meaning fs running.item why) alone may);
-        faults = faults;
-      });
+      closes = inr (
+        none,
+        record {
+          found = found;
+          of_frame = state_of found key;
+          why = why;
+          work = subst (λ (k : FrameKey J). MayFaultWith meaning k.job running.item why) (sym key) (subst (λ fs. MayFaultIn meaning fs running.item why) alone may);
+          faults = faults;
+        },
+      );
       releases = subst (All (IsReleaseIn frames)) (sym none) (All-nil _);
       run = run_of found left end.run key same settled;
     }

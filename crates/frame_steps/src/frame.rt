@@ -116,7 +116,13 @@ impl<J: Job + Drop> Frame<J> {
         ensures { IfOk result (λ frame. arc_value frame ≡ key_of state ∷ []) }
     {
         let state = Box::new(alloc, state)?;
-        let lock = KeyedLock::new(alloc, LockedRun { state, left: Some(left) })?;
+        let lock = KeyedLock::new(
+            alloc,
+            LockedRun {
+                state,
+                left: Some(left),
+            },
+        )?;
         let frame = Arc::new(
             alloc,
             Frame {
@@ -131,11 +137,7 @@ impl<J: Job + Drop> Frame<J> {
     }
 
     // Drops a release, or starts its task, does its work and ends the start or records its fault.
-    fn use_up<R: Wait>(
-        &self,
-        rt: &R,
-        release: Ticket<Duty<J::V>>,
-    ) -> Result<AfterEnd<J>, NoMemory>
+    fn use_up<R: Wait>(&self, rt: &R, release: Ticket<Duty<J::V>>) -> Result<AfterEnd<J>, NoMemory>
         requires { IsReleaseIn self.now release }
         ensures { IfOk result (ComesOfStep J.meaning self.now release) }
     {
@@ -149,11 +151,7 @@ impl<J: Job + Drop> Frame<J> {
     }
 
     // Starts the task of a release, or drops the release.
-    fn start<R: Wait>(
-        &self,
-        rt: &R,
-        release: Ticket<Duty<J::V>>,
-    ) -> Result<AfterStart<J>, NoMemory>
+    fn start<R: Wait>(&self, rt: &R, release: Ticket<Duty<J::V>>) -> Result<AfterStart<J>, NoMemory>
         requires { IsReleaseIn self.now release }
         ensures { IfOk result (ComesOfRelease J.meaning self.now release) }
     {
@@ -178,11 +176,7 @@ impl<J: Job + Drop> Frame<J> {
     }
 
     // Does the work of a start, and ends it or records its fault. The lock isn't held while the work is done.
-    fn work<R: Wait>(
-        &self,
-        rt: &R,
-        running: Ticket<Duty<J::V>>,
-    ) -> Result<AfterEnd<J>, NoMemory>
+    fn work<R: Wait>(&self, rt: &R, running: Ticket<Duty<J::V>>) -> Result<AfterEnd<J>, NoMemory>
         requires { IsOpenIn J.meaning self.now running }
         ensures { IfOk result (ComesOfStart J.meaning self.now running) }
     {

@@ -86,7 +86,7 @@ fn once<R: Threads + Wait + Abort + Sync>(
         panic!(rt; "a net that isn't flat");
     };
     let job = Arc::new(alloc, job)?;
-    let Some(run) = stepped_by(rt, alloc, job, threads.max(1))? else {
+    let Some(run) = stepped_by(rt, alloc, job, threads)? else {
         panic!(rt; "a run that isn't closed");
     };
     assert_eq!(rt; run.values.len(), starts);

@@ -1,5 +1,5 @@
 // Threads that step a run over one list.
-ghost use Rattle.std.specs.Prelude.{◌<◌, All, IfOk, IfSome, length};
+ghost use Rattle.std.specs.Prelude.{All, IfOk, IfSome};
 ghost use Rattle.std.specs.Arc.{arc_value};
 ghost use Rattle.run_frame.specs.Legal.{IsKept};
 ghost use Rattle.run_frame.specs.FlatNets.{IsFlatNet};
@@ -52,15 +52,15 @@ impl<J: Job + Drop> ReadyReleases<J> {
     }
 }
 
-/// The run of a job, stepped by so many threads over one list. It is `None` if an allocation failed in a step.
+/// The run of a job, stepped by so many threads over one list. It is `None` where there is no thread, or an allocation
+/// failed in a step.
 pub fn stepped_by<J: Job + Drop, R: Threads + Wait + Sync>(
     rt: &R,
     alloc: Global,
     job: Arc<J>,
     threads: usize,
 ) -> Result<Option<FrameRun<J>>, NoMemory>
-    requires flat { IsFlatNet (J.meaning.net (arc_value job)) }
-    requires threads { 0 < threads }
+    requires { IsFlatNet (J.meaning.net (arc_value job)) }
     ensures { IfOk result (λ run. IfSome run (IsKept J.meaning)) }
 {
     let Stepped { released, state } = Frame::begin(alloc, job)?;
@@ -85,10 +85,9 @@ fn step_together<J: Job + Drop, R: Threads + Wait + Sync>(
     list: &Mutex<ReadyReleases<J>>,
     hands: &mut [Hand<J>],
 )
-    requires { 0 < length hands.old }
     ensures { All (λ hand. IfSome hand.run (IsKept J.meaning)) hands.new }
 {
-    let threads = hands.len();
+    let threads = hands.len().max(1);
     for_each_mut(
         rt,
         hands,
@@ -104,7 +103,7 @@ fn steps<J: Job + Drop, R: Wait>(rt: &R, list: &Mutex<ReadyReleases<J>>) -> Opti
     ensures { IfSome result (IsKept J.meaning) }
 {
     for _ in rt.forever() {
-        match next(rt, list) {
+        match take_next(rt, list) {
             Next::Step(release) => match Frame::step(rt, release) {
                 Ok(Stepped { released, state }) => match state {
                     State::Went => add(rt, list, released),
@@ -124,7 +123,7 @@ fn steps<J: Job + Drop, R: Wait>(rt: &R, list: &Mutex<ReadyReleases<J>>) -> Opti
     unreachable!()
 }
 
-fn next<J: Job + Drop, R: Wait>(rt: &R, list: &Mutex<ReadyReleases<J>>) -> Next<J> {
+fn take_next<J: Job + Drop, R: Wait>(rt: &R, list: &Mutex<ReadyReleases<J>>) -> Next<J> {
     list.lock(rt).next()
 }
 

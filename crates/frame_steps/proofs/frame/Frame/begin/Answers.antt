@@ -24,7 +24,7 @@ returns-in-Ok-clause-begins g c =
     let e = c.in-Ok.ensures in
     subst (λ (job : J). BeginsFrame meaning job (record { released = c.new.result; state = Closed c.in-Ok.run' })) c.in_ok-try_clone.ensures
     (begins_closed meaning (arc_value c.in_ok-try_clone.field-0) f.state f.released.items c.in_ok-state.ensures (record { released = c.new.result; state = Closed c.in-Ok.run' }) c.in-Ok.run' c.new.ensures.items refl e.kept e.job e.journal
-      (e.nothing_left.0 refl))
+    (e.nothing_left.0 refl))
 
 pub returns-in_ok-all-in-Err-clause-begins : goal.returns-in_ok-all-in-Err-clause-begins
 returns-in_ok-all-in-Err-clause-begins g c =
@@ -38,4 +38,4 @@ returns-in_ok-all-in-Err-clause-begins g c =
     let frames = subst (λ (frames : List (FrameKey J)). All (λ (release : ReleaseView J V). release.frames ≡ frames) c.in_ok-all-in-Err.field-0.items) own made.frames in
     subst (λ (job : J). BeginsFrame meaning job (record { released = c.in_ok-all-in-Err.field-0; state = Went })) c.in_ok-try_clone.ensures
     (begins_open meaning (arc_value c.in_ok-try_clone.field-0) f.state f.released.items c.in_ok-state.ensures (record { released = c.in_ok-all-in-Err.field-0; state = Went }) made.tickets frames refl
-      (λ none. false≢true (e.nothing_left.1 none)))
+    (λ none. false≢true (e.nothing_left.1 none)))
