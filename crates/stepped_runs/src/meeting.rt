@@ -1,9 +1,7 @@
 // Two tasks that wait for each other while they work.
-ghost use Rattle.std.specs.Prelude.{IfSome, slice_get};
-ghost use Rattle.task_graph.specs.declared.net.TaskRow.{TaskRow};
-
 use crate::stepped_by;
 use join_words::Ins;
+use number_jobs::NumberJob;
 use outside_io::List;
 use run_frame::{Answer, Done, Job, JobError, Valued};
 use std::alloc::Global;
@@ -18,10 +16,11 @@ use task_graph::{BuildError, Net, NetBuilder, Shape};
 // How often a task looks for the other.
 const LOOKS: u32 = 10_000_000;
 
-/// Each of two tasks sets its flag and looks for the other's. Its value is 1 if it saw that flag.
+/// Each of two tasks sets its flag and looks for the other's. Its value is 1 if it saw that flag. The net is that of a
+/// job of numbers.
 #[derive(Drop)]
 struct Meeting {
-    net: Arc<Net>,
+    numbers: NumberJob,
     first: AtomicBool,
     second: AtomicBool,
 }
@@ -31,15 +30,14 @@ impl Valued for Meeting {
 }
 
 impl Job for Meeting {
-    ghost use Rattle.std.specs.Arc.{arc_value};
     ghost use Rattle.run_frame.specs.Meaning.{AnswerFits};
 
-    ghost meaning = { record { net = λ job. arc_value job.net; limit = λ job. 10; answers = λ job task found done. AnswerFits (arc_value job.net) task done; faults = λ job task found why. ⊥; gathers = λ job run v. ⊥; gather_faults = λ job run why. ⊥; follows = λ job run next. ⊥ } };
+    ghost meaning = { record { net = λ job. job.numbers.net; limit = λ job. 10; answers = λ job task found done. AnswerFits job.numbers.net task done; faults = λ job task found why. ⊥; gathers = λ job run v. ⊥; gather_faults = λ job run why. ⊥; follows = λ job run next. ⊥ } };
 
     ghost keeps = { λ job. Unit {0} };
 
     fn net(&self) -> &Arc<Net> {
-        &self.net
+        self.numbers.net()
     }
 
     fn limit(&self) -> u64 {
@@ -85,8 +83,12 @@ fn two_tasks(alloc: Global) -> Result<Net, BuildError> {
 
 #[test]
 fn tasks_work_side_by_side(rt: HostRuntime) -> Result<(), Fail> {
+    let net = Arc::new(rt.alloc(), two_tasks(rt.alloc())?)?;
+    let Some(numbers) = NumberJob::new(net, 10, 0, 0) else {
+        panic!(rt; "a net that isn't flat");
+    };
     let job = Meeting {
-        net: Arc::new(rt.alloc(), two_tasks(rt.alloc())?)?,
+        numbers,
         first: AtomicBool::new(false),
         second: AtomicBool::new(false),
     };
