@@ -3,6 +3,7 @@ use crate::clock::nanos_since;
 use crate::job::{BusyJob, turned};
 use crate::nets;
 use frame_steps::{Frame, State, Stepped};
+use number_jobs::{NumberJob, START_LIMIT};
 use outside_io::NoMemory;
 use run_frame::{FrameRun, run_alone};
 use std::alloc::{AllocError, Global};
@@ -163,8 +164,8 @@ fn shared(alloc: Global, net: Result<Net, BuildError>) -> io::Result<Arc<Net>> {
 
 // A job on a net, whose tasks make so many turns.
 fn busy(alloc: Global, net: &Arc<Net>, turns: u64) -> io::Result<Arc<BusyJob>> {
-    match BusyJob::new(Arc::try_clone(net)?, turns) {
-        Some(job) => Ok(Arc::new(alloc, job)?),
+    match NumberJob::new(Arc::try_clone(net)?, START_LIMIT, 0, 0) {
+        Some(numbers) => Ok(Arc::new(alloc, BusyJob { numbers, turns })?),
         None => Err(AllocError.into()),
     }
 }
