@@ -1,0 +1,5 @@
+mod FirstLemmas
+mod CountLemmas
+mod ReleaseLemmas
+mod SessionLemmas
+mod BeginLemmas

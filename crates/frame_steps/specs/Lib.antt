@@ -1,0 +1,4 @@
+pub mod FirstReleases
+pub mod Releases
+pub mod Steps
+pub mod inside
