@@ -27,9 +27,15 @@ fn main(rt: HostRuntime) -> io::Result<()> {
 
 fn measure<R: Threads + Wait + Clock + Print + Sync>(rt: &R, alloc: Global) -> io::Result<()> {
     let chain = runs::chain(rt, alloc)?;
-    println!(rt; "a chain of 10,000 empty tasks: {} ns a start alone, {} ns stepped", chain.alone, chain.stepped)?;
+    println!(rt;
+        "a chain of 10,000 empty tasks: {} ns a start alone, {} ns stepped",
+        chain.alone, chain.stepped
+    )?;
     let fan = runs::fan(rt, alloc)?;
-    println!(rt; "100,000 empty successors of a task: {} ns a start alone, {} ns stepped", fan.alone, fan.stepped)?;
+    println!(rt;
+        "100,000 empty successors of a task: {} ns a start alone, {} ns stepped",
+        fan.alone, fan.stepped
+    )?;
     for threads in [1usize, 2, 4].iter() {
         let nanos = runs::working(rt, alloc, *threads)?;
         println!(rt; "tasks of 2 us, {threads} threads: {nanos} ns a start")?;

@@ -59,15 +59,35 @@ fn halts(rt: HostRuntime) -> Result<(), Fail> {
     let (Some(second), Some(first)) = (released.pop(), released.pop()) else {
         panic!(rt; "no two releases");
     };
-    assert_eq!(rt; (first.task(), first.cause(), first.depth()), (0, Cause::Source, 0));
+    assert_eq!(rt;
+        (first.task(), first.cause(), first.depth()),
+        (0, Cause::Source, 0)
+    );
     assert_eq!(rt; second.task(), 1);
     goes_on(&rt, first)?;
     let run = closes(&rt, second)?;
     let journal = run.journal.as_slice();
     assert_eq!(rt; journal.len(), 3);
     assert!(rt; matches!(&journal[0], Entry::Start { task: 0, .. }));
-    assert!(rt; matches!(&journal[1], Entry::Fault { start: 0, why: Why::Long(FIRST) }));
-    assert!(rt; matches!(&journal[2], Entry::Drop { task: 1, cause: Cause::Source, why: DropWhy::Halted }));
+    assert!(rt;
+        matches!(
+            &journal[1],
+            Entry::Fault {
+                start: 0,
+                why: Why::Long(FIRST)
+            }
+        )
+    );
+    assert!(rt;
+        matches!(
+            &journal[2],
+            Entry::Drop {
+                task: 1,
+                cause: Cause::Source,
+                why: DropWhy::Halted
+            }
+        )
+    );
     Ok(())
 }
 

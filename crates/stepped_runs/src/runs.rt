@@ -104,7 +104,13 @@ fn a_diamond(rt: HostRuntime) -> Result<(), Fail> {
         turns: 0,
         starts: 4,
     };
-    often(&rt, rt.alloc(), built(rt.alloc(), case)?, case.turns, case.starts)
+    often(
+        &rt,
+        rt.alloc(),
+        built(rt.alloc(), case)?,
+        case.turns,
+        case.starts,
+    )
 }
 
 #[test]
@@ -129,7 +135,13 @@ fn a_loop_with_a_condition(rt: HostRuntime) -> Result<(), Fail> {
         turns: 10,
         starts: 22,
     };
-    often(&rt, rt.alloc(), built(rt.alloc(), case)?, case.turns, case.starts)
+    often(
+        &rt,
+        rt.alloc(),
+        built(rt.alloc(), case)?,
+        case.turns,
+        case.starts,
+    )
 }
 
 // Tokens that wait for another edge, one that is there from the beginning, and some that stay.
@@ -150,5 +162,11 @@ fn kept_tokens(rt: HostRuntime) -> Result<(), Fail> {
         turns: 0,
         starts: 5,
     };
-    often(&rt, rt.alloc(), built(rt.alloc(), case)?, case.turns, case.starts)
+    often(
+        &rt,
+        rt.alloc(),
+        built(rt.alloc(), case)?,
+        case.turns,
+        case.starts,
+    )
 }
