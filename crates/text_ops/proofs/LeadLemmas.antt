@@ -5,9 +5,9 @@ use Rattle.std.specs.declared.cmp.Ordering.{Ordering}
 use Rattle.std.specs.declared.cmp.Ordering.TheVariants.{Less, Equal, Greater}
 use Rattle.std.proofs.lemmas.Cmp.{ranked, by_ranked, nat_list_cmp_total}
 use Rattle.text_ops.specs.declared.mark.Mark.{Mark}
+use Rattle.text_ops.specs.declared.mark.Piece.{Piece}
 use Rattle.text_ops.specs.LineOrder.{line_cmp, IsUpTo}
 use Rattle.text_ops.specs.inside.Marks.{digits_on, lead_of, behind_leads_cmp, tie_of, marked_piece, mark_cmp}
-use Rattle.text_ops.specs.declared.mark.Piece.{Piece}
 
 AreBytes-rest : (byte : ℕ) (rest : List ℕ) → ((k : ℕ) → get_or (byte ∷ rest) k 0 < 256) → (k : ℕ) → get_or rest k 0 < 256
 AreBytes-rest byte rest bytes k = bytes (suc k)
