@@ -25,7 +25,7 @@ pub(crate) fn places_of(alloc: Global, names: &[Bytes]) -> Result<Named<'_>, NoM
     ensures places { IfOk result (λ named. HasPlaces named.places names.now) }
     ensures repeated { IfOk result (λ named. walk add_name [] names.now ≡ unless_repeated names.now named.repeated) }
 {
-    let mut places = HashMap::new(alloc);
+    let mut places = HashMap::with_capacity(alloc, names.len())?;
     let mut repeated = None;
     for (place, name) in names.iter().enumerate() {
         let new = keep_place(&mut places, name.as_slice(), place)?;

@@ -66,7 +66,7 @@ fn edges_of(alloc: Global, draft: &Draft<'_>, places: &Places<'_>) -> Result<Lis
     requires { HasPlaces places.now draft.now.names }
     ensures { ReadsAs edge_rows result (walk (add_edge draft.now.names) [] (map link_row draft.now.links)) }
 {
-    let mut edges = List::new(alloc);
+    let mut edges = List::with_room(alloc, draft.links.len())?;
     add_edges(alloc, draft, places, draft.links.as_slice(), &mut edges)?;
     Ok(edges)
 }

@@ -86,9 +86,9 @@ fn read_tasks<'v>(alloc: Global, tasks: &'v [Value]) -> Result<Draft<'v>, GraphE
     ensures { ReadsAs draft_rows result (walk add_task_steps no_tasks (map view tasks.now)) }
 {
     let mut draft = Draft {
-        names: List::new(alloc),
-        ops: List::new(alloc),
-        links: List::new(alloc),
+        names: List::with_room(alloc, tasks.len())?,
+        ops: List::with_room(alloc, tasks.len())?,
+        links: List::with_room(alloc, tasks.len())?,
         texts: List::new(alloc),
     };
     let mut numbers = HashMap::new(alloc);
