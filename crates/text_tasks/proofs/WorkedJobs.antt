@@ -192,8 +192,8 @@ text_read = refl
 no_text_read : op_meaning work (x ∷ []) (Read 2) ≡ hands_over [] Each
 no_text_read = refl
 
-lines_headed : op_meaning work (y ∷ nothing ∷ x ∷ []) (OnText (Head 1)) ≡ hands_over (codes "y\n") Each
-lines_headed = refl
+lines_of_all_edges : op_meaning work (y ∷ nothing ∷ x ∷ []) (OnText (Tail 2)) ≡ hands_over (codes "z\nx\n") Each
+lines_of_all_edges = refl
 
 lines_matched : op_meaning work (value (Text (codes "k 1\nl\n")) ∷ value (Text (codes "l 2\n")) ∷ value (Text (codes "k 3\nk 4\n")) ∷ []) Match ≡ hands_over (codes "k 1 3\nl 2\n") Each
 lines_matched = refl
