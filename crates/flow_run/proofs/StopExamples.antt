@@ -1,25 +1,22 @@
 -- Where a call stops and what it has done when it ends, computed at the limits and on a report of two bytes.
-use Rattle.std.proofs.Common.{◌≡◌, ℕ, ◌<◌, ◌+◌, List, [], ◌∷◌, ◌++◌, length, ◌⊎◌, Option, Some, None, true, false, inl, inr, refl, arith, ap, sym, subst, ◌∙◌, Result, Ok, Err}
+use Rattle.std.proofs.Common.{◌≡◌, ℕ, ◌+◌, List, [], ◌∷◌, ◌++◌, length, Option, Some, None, true, false, inl, inr, refl, arith, ap, sym, subst, ◌∙◌, Result, Ok, Err}
 use Rattle.std.specs.Prelude.{if◌then◌else◌, bytes_eq, ◌==◌}
 use Rattle.std.specs.Io.KnownBytes.{append_known}
 use Rattle.std.proofs.lemmas.List.{length-append}
 use Rattle.outside_io.specs.Sink.{SinkState}
 use Rattle.outside_io.specs.declared.sink.SinkFault.TheVariants as fault
 use Rattle.graph_plans.specs.PlanRows.{PlanRows}
-use Rattle.text_tasks.specs.GraphWork.{GraphWork}
 use Rattle.text_tasks.specs.declared.job.TextJob.{TextJob}
 use Rattle.text_tasks.specs.declared.job.TextJob.TheVariants.{Graph}
-use Rattle.text_tasks.specs.JobMeaning.{limit_of, text_job}
+use Rattle.text_tasks.specs.JobMeaning.{limit_of, names_of, text_job}
 use Rattle.run_frame.specs.NestedRule.{job_of}
 use Rattle.nested_runs.specs.Reasons.{run_reason}
 use Rattle.nested_runs.specs.declared.reasons.Reason.TheVariants as reason
-use Rattle.command_line.specs.Requests.{asked_by, run as run_of}
-use Rattle.flow_run.specs.declared.status.Status.{Status}
-use Rattle.flow_run.specs.declared.status.Status.TheVariants.{Done, BadWords, NoText, ReadFault, WriteFault, Stuck, NoMemory}
+use Rattle.flow_run.specs.declared.status.Status.TheVariants.{Done, WriteFault}
 use Rattle.flow_run.specs.declared.stop.Stop.{Stop}
 use Rattle.flow_run.specs.declared.stop.Stop.TheVariants as stop
-use Rattle.flow_run.specs.Requests.{Held, IsHeld, StopsAtName, IsTextOf, TextsAre, StopsAtText, HasStart, HasPlan, IsRequestedJob, CountsReads, CountsStop, text_limit}
-use Rattle.flow_run.specs.Answers.{Run, IsAfterRun, RanOnce, RunEnds, Reported, Delivers, HaveRead, reports, status_of}
+use Rattle.flow_run.specs.Requests.{Held, StopsAtName, IsTextOf, TextsAre, StopsAtText, HasStart, HasPlan, IsRequestedJob, IsAtHand, CountsReads, CountsStop, text_limit}
+use Rattle.flow_run.specs.Answers.{Run, IsAfterRun, RanOnce, KeptOnce, names_in, RunEnds, Reported, Delivers, HaveRead, reports}
 
 abbrev g : List ℕ
 g = 0 ∷ []
@@ -179,3 +176,25 @@ put_failed = (record { took = record { lost = 8 ∷ []; but = record { front = 7
 
 texts_changed : ¬ HaveRead (λ n. if n == 0 then held else None) (λ n. 0) 0 1 Done
 texts_changed is = let same : None ≡ held = is.stays in absurd (cc)
+
+-- ---- the kept run, and what can be had
+
+names_of_the_run : (run : Run) → (names_in [] ≡ []) × (names_in (run ∷ []) ≡ names_of (job_of run))
+names_of_the_run run = (refl, refl)
+
+no_run_kept : (job : TextJob) → ¬ KeptOnce job [] reason.Fine
+no_run_kept job is = let only : [] ≡ is.run ∷ [] = is.only in absurd (cc)
+
+kept_for_another_reason : (run : Run) (job : TextJob) → run_reason text_job run ≡ reason.Stuck (3 ∷ []) → ¬ KeptOnce job (run ∷ []) reason.Fine
+kept_for_another_reason run job stuck is =
+    let same : is.run ≡ run = cc in
+    let both : reason.Fine ≡ reason.Stuck (3 ∷ []) = sym is.reason ∙ (ap (run_reason text_job) same ∙ stuck) in
+    absurd (cc)
+
+run_of_another_job : (run : Run) (job : TextJob) → limit_of (job_of run) ≡ 76 → limit_of job ≡ 77 → ¬ KeptOnce job (run ∷ []) reason.Fine
+run_of_another_job run job limit other is =
+    let same : is.run ≡ run = cc in
+    absurd (omega (arith, limit, other, ap (λ r. limit_of (job_of r)) same, ap limit_of is.same))
+
+nothing_at_hand : (arguments : List (List ℕ)) → ¬ IsAtHand None arguments
+nothing_at_hand arguments is = let some : None ≡ Some is.text = is.specified in absurd (cc)
