@@ -6,3 +6,4 @@ pub mod ReportRule
 pub mod Ending
 pub mod Completing
 pub mod CallExamples
+pub mod StopExamples

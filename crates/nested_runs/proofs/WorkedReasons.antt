@@ -1,11 +1,15 @@
 -- Reasons of runs, computed on small journals.
-use Rattle.std.proofs.Common.{◌≡◌, refl, Some, None, [], ◌∷◌, List, true, false}
+use Rattle.std.proofs.Common.{◌≡◌, ℕ, refl, Some, None, [], ◌∷◌, List, true, false}
+use Rattle.std.specs.Arc.{arc_value}
 use Rattle.journal_rules.specs.declared.entry.Cause.TheVariants.{Source, Strong}
 use Rattle.journal_rules.specs.declared.entry.DropWhy.TheVariants.{Halted, Limit as AtLimit, Stuck as WantsUnit}
 use Rattle.journal_rules.specs.declared.entry.Entry.{Entry}
 use Rattle.journal_rules.specs.declared.entry.Entry.TheVariants.{Start, End, Fault as FaultEntry, Drop}
 use Rattle.journal_rules.specs.declared.entry.Why.TheVariants.{Long, Inner}
-use Rattle.nested_runs.specs.Reasons.{first_fault, first_stuck, unfaulted, below, faulted, reason_at}
+use Rattle.run_frame.specs.Meaning.{Meaning}
+use Rattle.run_frame.specs.declared.run.FrameRun.TheOpen.{FrameRun-F}
+use Rattle.nested_runs.specs.Reasons.{first_fault, first_stuck, unfaulted, below, faulted, reason_at, reason_step}
+use Rattle.nested_runs.specs.declared.reasons.Reason.{Reason}
 use Rattle.nested_runs.specs.declared.reasons.Reason.TheVariants.{Fine, Fault, Limit, Stuck}
 
 -- two starts, of tasks 4 and 7, of which the second faults first; then a drop
@@ -58,3 +62,11 @@ second_row = refl
 
 no_row : reason_at ((1, Fine) ∷ (3, Limit [] 2) ∷ []) 2 ≡ None
 no_row = refl
+
+-- The reason of a run: its first Fault by the task that was started there; else what its own limit and its Drops say.
+module _ {J V : Type 0} (meaning : Meaning J V) (run : FrameRun-F J V Reason (ℕ × Reason)) where
+  fault_of_the_second_start : reason_step meaning (record run { journal = two_faults }) ≡ Fault (7 ∷ []) (Long 9)
+  fault_of_the_second_start = refl
+
+  own_limit : reason_step meaning (record run { journal = Drop 3 Strong AtLimit ∷ [] }) ≡ Limit [] (meaning.limit (arc_value run.job))
+  own_limit = refl

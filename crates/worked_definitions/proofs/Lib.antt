@@ -4,3 +4,4 @@ pub mod WorkedSteps
 pub mod WorkedFrames
 pub mod WorkedSources
 pub mod WorkedRows
+pub mod WorkedGraphFiles

@@ -6,5 +6,6 @@
 //! - `WorkedSinks`, `WorkedSources`: sinks, sources of texts, streams, the inputs of a start, a watcher's count;
 //! - `WorkedBuilder`: what the builder of nets answers, and which nets are well formed;
 //! - `WorkedSteps`: what a machine's steps do, the break of each rule, the verdict;
-//! - `WorkedFrames`, `WorkedRows`: what a run's steps do, what its works may come to, and where its inner runs stand.
+//! - `WorkedFrames`, `WorkedRows`: what a run's steps do, what its works may come to, and where its inner runs stand;
+//! - `WorkedGraphFiles`: which plan the tasks of a graph file stand for, what is refused first, and how a plan is written.
 #![tactic(auto)]

@@ -1,0 +1,200 @@
+-- Where a call stops and what it has done when it ends, computed at the limits and on a report of two bytes.
+use Rattle.std.proofs.Common.{◌≡◌, ℕ, ◌+◌, List, [], ◌∷◌, ◌++◌, length, Option, Some, None, true, false, inl, inr, refl, arith, ap, sym, subst, ◌∙◌, Result, Ok, Err}
+use Rattle.std.specs.Prelude.{if◌then◌else◌, bytes_eq, ◌==◌}
+use Rattle.std.specs.Io.KnownBytes.{append_known}
+use Rattle.std.proofs.lemmas.List.{length-append}
+use Rattle.outside_io.specs.Sink.{SinkState}
+use Rattle.outside_io.specs.declared.sink.SinkFault.TheVariants as fault
+use Rattle.graph_plans.specs.PlanRows.{PlanRows}
+use Rattle.text_tasks.specs.declared.job.TextJob.{TextJob}
+use Rattle.text_tasks.specs.declared.job.TextJob.TheVariants.{Graph}
+use Rattle.text_tasks.specs.JobMeaning.{limit_of, names_of, text_job}
+use Rattle.run_frame.specs.NestedRule.{job_of}
+use Rattle.nested_runs.specs.Reasons.{run_reason}
+use Rattle.nested_runs.specs.declared.reasons.Reason.TheVariants as reason
+use Rattle.flow_run.specs.declared.status.Status.TheVariants.{Done, WriteFault}
+use Rattle.flow_run.specs.declared.stop.Stop.{Stop}
+use Rattle.flow_run.specs.declared.stop.Stop.TheVariants as stop
+use Rattle.flow_run.specs.Requests.{Held, StopsAtName, IsTextOf, TextsAre, StopsAtText, HasStart, HasPlan, IsRequestedJob, IsAtHand, CountsReads, CountsStop, text_limit}
+use Rattle.flow_run.specs.Answers.{Run, IsAfterRun, RanOnce, KeptOnce, names_in, RunEnds, Reported, Delivers, HaveRead, reports}
+
+abbrev g : List ℕ
+g = 0 ∷ []
+
+abbrev t : List ℕ
+t = 1 ∷ []
+
+abbrev u : List ℕ
+u = 2 ∷ []
+
+-- what is held: a byte under `g`
+abbrev held : Held
+held = Some (λ name. if bytes_eq name g then Some (1 ∷ []) else None)
+
+abbrev known_length : Option (List ℕ) → ℕ
+known_length None = 0
+known_length (Some bytes) = length bytes
+
+-- these bytes under each name
+abbrev all_hold : List ℕ → Held
+all_hold bytes = Some (λ name. Some bytes)
+
+-- ---- at the limits
+
+text_at_its_limit : (bytes : List ℕ) → length bytes ≡ 16777215 → ¬ StopsAtText (all_hold bytes) (t ∷ []) (stop.LongText t)
+text_at_its_limit bytes long is = absurd (omega (arith, long, is.stops.1))
+
+text_over_its_limit : (bytes : List ℕ) → length bytes ≡ 16777216 → StopsAtText (all_hold bytes) (t ∷ []) (stop.LongText t)
+text_over_its_limit bytes long = record { before = []; name = t; after = []; texts = []; parts = refl; read = tt; stops = (refl, omega (arith, long)) }
+
+no_text_over_its_limit : (bytes text : List ℕ) → length bytes ≡ 16777216 → ¬ IsTextOf (all_hold bytes) t text
+no_text_over_its_limit bytes text long is = let same : Some bytes ≡ Some is.bytes = is.read.0 in absurd (omega (arith, long, ap known_length same, is.read.1))
+
+no_plan_over_its_limit : (bytes : List ℕ) (plan : PlanRows) → length bytes ≡ 4194305 → ¬ HasPlan (all_hold bytes) g plan
+no_plan_over_its_limit bytes plan long is = let same : Some bytes ≡ Some is.bytes = is.read.0 in absurd (omega (arith, long, ap known_length same, is.read.1))
+
+plan_without_a_start : (plan : PlanRows) → ¬ HasStart plan → ¬ HasPlan held g plan
+plan_without_a_start plan none is = none is.source
+
+-- Of two names without a text the first stops the call.
+later_missing : ¬ StopsAtText held (u ∷ (3 ∷ []) ∷ []) (stop.NoText (3 ∷ []))
+later_missing is = none is.before is.name is.after is.texts is.parts is.read is.stops
+  where
+    none : (before : List (List ℕ)) (name : List ℕ) (after kept : List (List ℕ)) → u ∷ (3 ∷ []) ∷ [] ≡ before ++ name ∷ after → TextsAre held before kept → StopsAtName held name text_limit (stop.NoText (3 ∷ [])) → ⊥
+    none [] name after kept parts read stops = let first : u ≡ name = cc in let named : 3 ∷ [] ≡ name = stops.0 in absurd (cc)
+    none (first ∷ before) name after [] parts read stops = read
+    none (first ∷ before) name after (row ∷ kept) parts read stops =
+        let same : u ≡ first = cc in
+        let is : IsTextOf held u row = subst (λ n. IsTextOf held n row) (sym same) read.0 in
+        let some : None ≡ Some is.bytes = is.read.0 in
+        absurd (cc)
+
+-- ---- how reads count
+
+counted : CountsStop (stop.ReadFault t) 1 2 × CountsStop stop.NoMemory 1 1 × CountsStop stop.NoMemory 1 2 × CountsStop (stop.NoText t) 1 1
+counted = (omega arith, omega arith, omega arith, refl)
+
+fault_not_counted : ¬ CountsStop (stop.ReadFault t) 1 1
+fault_not_counted is = absurd (omega (arith, is))
+
+count_lost : ¬ CountsStop stop.NoMemory 1 0
+count_lost is = absurd (omega (arith, is))
+
+missing_text_counted : ¬ CountsStop (stop.NoText t) 1 2
+missing_text_counted is = absurd (omega (arith, is))
+
+abbrev read_all : Result ℕ Stop
+read_all = Ok 0
+
+good_read_counted : ¬ CountsReads 1 2 read_all
+good_read_counted is = absurd (omega (arith, is))
+
+-- ---- the run that is kept
+
+-- the call names the limit of the run that is kept
+run_of_another_limit : (run : Run) → limit_of (job_of run) ≡ 76 → ¬ RunEnds held g 77 Done (run ∷ [])
+run_of_another_limit run limit (inl stopped) = let none : run ∷ [] ≡ [] = stopped.none in absurd (cc)
+run_of_another_limit run limit (inr ran) = let same : run ≡ ran.run = cc in absurd (omega (arith, limit, ap (λ r. limit_of (job_of r)) same, starts (job_of ran.run) ran.job))
+  where
+    starts : (job : TextJob) → IsRequestedJob held g 77 job → limit_of job ≡ 77
+    starts (Graph work) is = is.starts
+
+stuck_run_called_done : (run : Run) → run_reason text_job run ≡ reason.Stuck (3 ∷ []) → ¬ RanOnce (λ job. job ≡ job) Done (run ∷ [])
+stuck_run_called_done run stuck is =
+    let same : is.run ≡ run = cc in
+    by_case (subst (λ why. IsAfterRun why Done) (ap (run_reason text_job) same ∙ stuck) is.after)
+  where
+    by_case : IsAfterRun (reason.Stuck (3 ∷ [])) Done → ⊥
+    by_case (inl told) = absurd (cc)
+    by_case (inr (inl (fine, told))) = absurd (cc)
+    by_case (inr (inr told)) = absurd (cc)
+
+-- ---- the report of a kept run, of two bytes
+
+abbrev sink : List ℕ → ℕ → SinkState
+sink taken faults = record { taken = Some taken; held_back = []; faults = faults }
+
+abbrev of_memory : SinkState → SinkState
+of_memory state = state
+
+module _ (run : Run) (two : reports (run ∷ []) ≡ 7 ∷ 8 ∷ []) where
+  whole_report : Reported of_memory (sink (1 ∷ []) 0) (sink (1 ∷ 7 ∷ 8 ∷ []) 0) Done (run ∷ []) true
+  whole_report = record {
+    front = record { lost = []; but = record { front = 7 ∷ 8 ∷ []; parts = two; took = refl } };
+    whole = λ written. ap (append_known (Some (1 ∷ []))) (sym two);
+    nothing_held = refl;
+    no_fault = λ written. refl;
+    cause = λ failed. absurd (cc);
+    no_fewer = omega arith;
+    done = λ is. refl;
+    write_fault = λ is. absurd (cc);
+    untouched = λ none. absurd (cc);
+    nothing_to_write = λ none. absurd (cc);
+  }
+
+  prefix_beside_done : ¬ Reported of_memory (sink [] 0) (sink (7 ∷ []) 0) Done (run ∷ []) true
+  prefix_beside_done is =
+      let whole : Some (7 ∷ []) ≡ Some (7 ∷ 8 ∷ []) = is.whole refl ∙ ap (append_known (Some [])) two in
+      absurd (omega (arith, ap known_length whole))
+
+  prefix_beside_a_fault : Reported of_memory (sink [] 0) (sink (7 ∷ []) 1) WriteFault (run ∷ []) false
+  prefix_beside_a_fault = record {
+    front = record { lost = 8 ∷ []; but = record { front = 7 ∷ []; parts = two; took = refl } };
+    whole = λ written. absurd (cc);
+    nothing_held = refl;
+    no_fault = λ written. absurd (cc);
+    cause = λ failed. inl (omega arith);
+    no_fewer = omega arith;
+    done = λ is. absurd (cc);
+    write_fault = λ is. refl;
+    untouched = λ none. absurd (cc);
+    nothing_to_write = λ none. absurd (cc);
+  }
+
+  more_than_the_report : ¬ Reported of_memory (sink [] 0) (sink (7 ∷ 8 ∷ 9 ∷ []) 1) WriteFault (run ∷ []) false
+  more_than_the_report is =
+      let took : Some (7 ∷ 8 ∷ 9 ∷ []) ≡ Some is.front.but.front = is.front.but.took in
+      let parts : 7 ∷ 8 ∷ [] ≡ is.front.but.front ++ is.front.lost = sym two ∙ is.front.but.parts in
+      let longer : 2 ≡ length is.front.but.front + length is.front.lost = ap length parts ∙ length-append is.front.but.front is.front.lost in
+      absurd (omega (arith, ap known_length took, longer))
+
+-- ---- a put
+
+put_whole : Delivers (sink [] 0) (sink (7 ∷ 8 ∷ []) 0) (7 ∷ 8 ∷ []) (Ok tt)
+put_whole = record { took = refl; nothing_held = refl; faults = refl }
+
+put_in_part : ¬ Delivers (sink [] 0) (sink (7 ∷ []) 0) (7 ∷ 8 ∷ []) (Ok tt)
+put_in_part is = let took : Some (7 ∷ []) ≡ Some (7 ∷ 8 ∷ []) = is.took in absurd (omega (arith, ap known_length took))
+
+failed_put_not_counted : ¬ Delivers (sink [] 0) (sink (7 ∷ []) 0) (7 ∷ 8 ∷ []) (Err fault.Failed)
+failed_put_not_counted is = absurd (omega (arith, is.1))
+
+put_failed : Delivers (sink [] 0) (sink (7 ∷ []) 1) (7 ∷ 8 ∷ []) (Err fault.Failed)
+put_failed = (record { took = record { lost = 8 ∷ []; but = record { front = 7 ∷ []; parts = refl; took = refl } }; nothing_held = refl }, omega arith)
+
+-- ---- the texts stay
+
+texts_changed : ¬ HaveRead (λ n. if n == 0 then held else None) (λ n. 0) 0 1 Done
+texts_changed is = let same : None ≡ held = is.stays in absurd (cc)
+
+-- ---- the kept run, and what can be had
+
+names_of_the_run : (run : Run) → (names_in [] ≡ []) × (names_in (run ∷ []) ≡ names_of (job_of run))
+names_of_the_run run = (refl, refl)
+
+no_run_kept : (job : TextJob) → ¬ KeptOnce job [] reason.Fine
+no_run_kept job is = let only : [] ≡ is.run ∷ [] = is.only in absurd (cc)
+
+kept_for_another_reason : (run : Run) (job : TextJob) → run_reason text_job run ≡ reason.Stuck (3 ∷ []) → ¬ KeptOnce job (run ∷ []) reason.Fine
+kept_for_another_reason run job stuck is =
+    let same : is.run ≡ run = cc in
+    let both : reason.Fine ≡ reason.Stuck (3 ∷ []) = sym is.reason ∙ (ap (run_reason text_job) same ∙ stuck) in
+    absurd (cc)
+
+run_of_another_job : (run : Run) (job : TextJob) → limit_of (job_of run) ≡ 76 → limit_of job ≡ 77 → ¬ KeptOnce job (run ∷ []) reason.Fine
+run_of_another_job run job limit other is =
+    let same : is.run ≡ run = cc in
+    absurd (omega (arith, limit, other, ap (λ r. limit_of (job_of r)) same, ap limit_of is.same))
+
+nothing_at_hand : (arguments : List (List ℕ)) → ¬ IsAtHand None arguments
+nothing_at_hand arguments is = let some : None ≡ Some is.text = is.specified in absurd (cc)
