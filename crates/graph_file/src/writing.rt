@@ -14,7 +14,8 @@ use outside_io::{Bytes, NoMemory};
 use serde_json::{Value, json, put};
 use std::alloc::{AllocError, Global};
 
-/// The bytes of a graph file for a plan.
+/// The bytes of a graph file for a plan: compact JSON of version 1, with every field that may be missing written out,
+/// and the fields of each object in the order of their bytes.
 pub fn write_graph(alloc: Global, plan: &Plan) -> Result<Bytes, NoMemory>
     requires { HasFile (plan_rows plan.now) }
     ensures text { IfOk result (λ bytes. bytes ≡ plan_text (plan_rows plan.now)) }
