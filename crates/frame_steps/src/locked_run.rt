@@ -73,7 +73,7 @@ impl<J: Job + Drop> LockedRun<J> {
                 Ok(None)
             }
             Err(_) => {
-                self.left = None;
+                self.left = None; // the release is outstanding still
                 Err(NoMemory)
             }
         }
@@ -105,7 +105,7 @@ impl<J: Job + Drop> LockedRun<J> {
                 Ok(released)
             }
             Err(_) => {
-                self.left = None;
+                self.left = None; // the start is outstanding still
                 Err(NoMemory)
             }
         }
@@ -128,7 +128,7 @@ impl<J: Job + Drop> LockedRun<J> {
                 Ok(())
             }
             Err(_) => {
-                self.left = None;
+                self.left = None; // the start is outstanding still
                 Err(NoMemory)
             }
         }
