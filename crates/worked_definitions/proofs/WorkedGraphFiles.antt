@@ -133,19 +133,19 @@ name_of_before : add_name (a ∷ b ∷ []) a ≡ Err (Repeated (Task 2) (codes "
 name_of_before = refl
 
 plan_of_two_tasks : plan_of (record { names = a ∷ c ∷ []; ops = Read 0 ∷ Back ∷ []; links = record { from = 0; to = c } ∷ record { from = 1; to = a } ∷ []; texts = b ∷ [] }) ≡ Ok (record {
-    top = record {
-        name = [];
-        names = a ∷ c ∷ [];
-        ops = Read 0 ∷ Back ∷ [];
-        sem_names = [];
-        net = record {
-            tasks = record { shape = Plain; takes = []; puts = [] } ∷ record { shape = Choice; takes = []; puts = [] } ∷ [];
-            edges = record { from = 0; to = 1; start = false } ∷ record { from = 1; to = 0; start = false } ∷ [];
-            sems = [];
-        };
+  top = record {
+    name = [];
+    names = a ∷ c ∷ [];
+    ops = Read 0 ∷ Back ∷ [];
+    sem_names = [];
+    net = record {
+      tasks = record { shape = Plain; takes = []; puts = [] } ∷ record { shape = Choice; takes = []; puts = [] } ∷ [];
+      edges = record { from = 0; to = 1; start = false } ∷ record { from = 1; to = 0; start = false } ∷ [];
+      sems = [];
     };
-    modules = [];
-    texts = b ∷ [];
+  };
+  modules = [];
+  texts = b ∷ [];
 })
 plan_of_two_tasks = refl
 
