@@ -6,6 +6,7 @@ use Rattle.std.proofs.lemmas.List.{length-append}
 use Rattle.outside_io.specs.Sink.{SinkState}
 use Rattle.outside_io.specs.declared.sink.SinkFault.TheVariants as fault
 use Rattle.graph_plans.specs.PlanRows.{PlanRows}
+use Rattle.text_tasks.specs.GraphWork.{first_work}
 use Rattle.text_tasks.specs.declared.job.TextJob.{TextJob}
 use Rattle.text_tasks.specs.declared.job.TextJob.TheVariants.{Graph}
 use Rattle.text_tasks.specs.JobMeaning.{limit_of, names_of, text_job}
@@ -30,6 +31,9 @@ u = 2 ∷ []
 -- what is held: a byte under `g`
 abbrev held : Held
 held = Some (λ name. if bytes_eq name g then Some (1 ∷ []) else None)
+
+abbrev no_plan : PlanRows
+no_plan = record { top = record { name = []; names = []; ops = []; sem_names = []; net = record { tasks = []; edges = []; sems = [] } }; modules = []; texts = [] }
 
 abbrev known_length : Option (List ℕ) → ℕ
 known_length None = 0
@@ -68,6 +72,10 @@ later_missing is = none is.before is.name is.after is.texts is.parts is.read is.
         let is : IsTextOf held u row = subst (λ n. IsTextOf held n row) (sym same) read.0 in
         let some : None ≡ Some is.bytes = is.read.0 in
         absurd (cc)
+
+-- The job of a plan has the limit that is asked for.
+limit_of_first_work : (first_work no_plan [] 76).limit ≡ 76
+limit_of_first_work = refl
 
 -- ---- how reads count
 
