@@ -29,7 +29,7 @@ const TWICE: &str = r#"{"tasks":[
     {"name":"a","op":"read","text":"t","to":["b","b"]},
     {"name":"b","op":"pass"}]}"#;
 
-// The lines of half of a value's greatest length and a bit.
+// As many lines of two bytes as a value of a bit more than half the greatest length has.
 const HALF: usize = 4_718_592;
 
 fn graph(alloc: Global, op: &str) -> Result<String, AllocError> {
@@ -84,7 +84,7 @@ fn matches_texts(rt: HostRuntime) -> Result<(), Fail> {
 
 // So many lines of one letter.
 fn letters(alloc: Global, lines: usize) -> Result<Bytes, NoMemory> {
-    let mut text = List::with_room(alloc, 2 * lines)?;
+    let mut text = List::new(alloc);
     for _line in 0..lines {
         text.add_all(b"x\n")?;
     }
