@@ -80,6 +80,59 @@ refused 5 'flow: no text t.txt' run "$count"
 refused 6 'flow: read fault on examples' run examples
 refused 3 'flow: bad graph: not JSON' run examples/count-lines/t.txt
 
+# Small graphs over the text t.txt, as lists of tasks: the code and what is printed, with `\n` for a line end.
+mkdir "$seen/graphs"
+cd "$seen/graphs"
+prints() {
+    local what=$1 text=$2 tasks=$3 code=$4 out=$5 notes=$6
+    shift 6
+    printf "$text" >t.txt
+    echo "{\"tasks\":[$tasks]}" >graph.json
+    printf -- "$out" >"$seen/wanted_out"
+    printf -- "$notes" >"$seen/wanted_notes"
+    call run graph.json "$@"
+    compare "$what" "$code" "$seen/wanted_out" "$seen/wanted_notes"
+}
+task() {
+    local name=$1 op=$2 fields=${3:-}
+    echo "{\"name\":\"$name\",\"op\":\"$op\"${fields:+,$fields}}"
+}
+read_to() {
+    task "$1" read "\"text\":\"t.txt\",\"to\":[$2]"
+}
+five='1\n2\n3\n4\n5\n'
+prints 'two lines of work that meet' 'x\ny\n' \
+    "$(read_to a '"b","c"'),$(task b keep '"word":"x","to":["d"]'),$(task c without '"word":"x","to":["d"]'),$(task d pass)" \
+    0 '== d\nx\ny\n' ''
+prints 'two edges between two tasks' 'x\n' "$(read_to a '"b","b"'),$(task b pass)" 0 '== b\nx\nx\n' ''
+prints 'a loop that skips' "$five" \
+    "$(read_to init '"body"'),$(task body skip '"n":1,"to":["c"]'),$(task c ifmore '"n":2,"to":["body","done"]'),$(task 'done' pass)" \
+    0 '== done\n4\n5\n' ''
+back="$(read_to a '"c"'),$(task c ifmore '"n":2,"to":["body","done"]'),$(task body skip '"n":1,"to":["back"]'),$(task back back '"to":["c"]'),$(task 'done' pass)"
+prints 'a loop that comes back' "$five" "$back" 0 '== done\n4\n5\n' ''
+prints 'a loop that is left at once' 'x\n' "$back" 0 '== done\nx\n' ''
+prints 'a choice out of range' 'x\n' "$(read_to a '"c"'),$(task c ifmore '"n":2,"to":["b"]'),$(task b pass)" 0 '-- b\n' ''
+prints 'tokens that are kept' "$five" \
+    "$(read_to s '"p"'),$(task p skip '"n":1,"to":["c","t"]'),$(task c ifmore '"n":2,"to":["p"]'),$(read_to q '"t"'),$(task t head '"n":0')" \
+    0 '== t\n' ''
+prints 'a route' 'a\nb\n' \
+    "$(read_to r '"o"'),$(task o route '"words":["a","b","a","z"],"to":["x","y","z","w"]'),$(task x pass),$(task y pass),$(task z pass),$(task w pass)" \
+    0 '== x\na\nb\n== y\na\nb\n== z\na\nb\n-- w\n' ''
+prints 'a word that occurs' "$five" "$(read_to r '"c"'),$(task c ifhas '"word":"3","to":["y","n"]'),$(task y count),$(task n pass)" \
+    0 '== y\n5\n-- n\n' ''
+prints 'a loop that meets its limit' 'x\ny\nz\n' "$(read_to a '"c"'),$(task c ifmore '"n":2,"to":["c","d"]'),$(task d pass)" \
+    8 '-- d\n!! limit 10\n' 'flow: limit 10\n' --limit 10
+prints 'neighbours that differ' 'a\na\nb\na\n' "$(read_to a '"b"'),$(task b uniq)" 0 '== b\na\nb\na\n' ''
+prints 'lines in order' 'b\n\na\n' "$(read_to a '"b"'),$(task b sort)" 0 '== b\n\na\nb\n' ''
+prints 'the last lines' '1\n2\n3\n' "$(read_to a '"b"'),$(task b tail '"n":2')" 0 '== b\n2\n3\n' ''
+(yes x || true) | head -n 4718592 >t.txt
+echo "{\"tasks\":[$(read_to a '"b","b"'),$(task b pass)]}" >graph.json
+printf -- '-- b\n!! fault b: long 18874368\n' >"$seen/wanted_out"
+echo 'flow: fault b: long 18874368' >"$seen/wanted_notes"
+call run graph.json
+compare 'a value that would be too long' 9 "$seen/wanted_out" "$seen/wanted_notes"
+cd "$top"
+
 # Files and texts past their limits, and texts that can't be read.
 mkdir "$seen/texts" "$seen/texts/folder"
 cd "$seen/texts"
