@@ -74,6 +74,14 @@ while read -r number; do
     has docs/FORMATS.md "$number" || fault "README.md has a limit of $number, which docs/FORMATS.md hasn't"
 done < <(sed -n '/^| Limit/,/^$/p' README.md | grep -oE '[0-9]{1,3}(,[0-9]{3})+' | sort -u)
 
+# It is where exit codes stand, with the numbers of the definition. README.md has no other number.
+codes=$(sed -nE 's/^code_of .* = ([0-9]+)$/\1/p' crates/flow_run/specs/Codes.antt | sort -nu)
+listed=$(sed -n '/^## Exit codes/,/^They are tried/p' docs/FORMATS.md | sed -nE 's/^\| [A-Z][A-Za-z]* \| ([0-9]+) \|.*/\1/p' | sort -nu)
+[[ $listed == "$codes" ]] || fault "docs/FORMATS.md has other exit codes than crates/flow_run/specs/Codes.antt"
+while read -r code; do
+    grep -qx -- "$code" <<<"$codes" || fault "README.md tells of the exit code $code, which there isn't"
+done < <(grep -oE 'the exit code tells the kind:[^.]*' README.md | grep -oE '[0-9]+' | sort -nu)
+
 # Each command of the Makefile that README.md tells is a target.
 while read -r target; do
     grep -qE "^$target:" Makefile || fault "README.md tells 'make $target', which isn't a target"

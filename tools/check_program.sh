@@ -80,6 +80,86 @@ refused 5 'flow: no text t.txt' run "$count"
 refused 6 'flow: read fault on examples' run examples
 refused 3 'flow: bad graph: not JSON' run examples/count-lines/t.txt
 
+# The journal of a run in place of its report, and what the judge says of it and of journals that are made from it. The
+# judge reads no text that the graph names.
+mkdir "$seen/journals"
+cd "$seen/journals"
+cp "$top/$count" graph.json
+printf 'flow journal 2\nstart 0 source -\nend 0 0 plain\nstart 1 strong 1\nend 2 - plain\n' >whole.txt
+cp "$top/examples/count-lines/t.txt" .
+call run graph.json --journal
+compare 'a run with --journal' 0 whole.txt /dev/null
+call run --journal --limit 1 graph.json
+printf 'flow journal 2\nstart 0 source -\nend 0 0 plain\ndrop 1 strong limit\n' >cut.txt
+echo 'flow: limit 1' >"$seen/wanted_notes"
+compare 'a run with --journal that meets its limit' 8 cut.txt "$seen/wanted_notes"
+rm t.txt
+# The code of the judge, its line and its note.
+judges() {
+    local journal=$1 code=$2 out=$3 notes=$4
+    shift 4
+    printf -- "$out" >"$seen/wanted_out"
+    printf -- "$notes" >"$seen/wanted_notes"
+    call judge graph.json "$journal" "$@"
+    compare "the judgement of $journal" "$code" "$seen/wanted_out" "$seen/wanted_notes"
+}
+for version in 1 2; do
+    sed "1s/.*/flow journal $version/" <whole.txt >journal.txt
+    judges journal.txt 0 'complete\n' ''
+    judges journal.txt 0 'complete\n' '' --limit 2
+    judges journal.txt 11 'breaks at 2: over limit\n' 'flow: not legal at 2\n' --limit 1
+    head -n 4 journal.txt >without_end.txt
+    judges without_end.txt 0 'legal\n' ''
+    head -n 1 journal.txt >empty.txt
+    judges empty.txt 0 'legal\n' ''
+    awk 'NR == 3 { held = $0; next } { print } NR == 4 { print held }' journal.txt >exchanged.txt
+    judges exchanged.txt 11 'breaks at 1: not released\n' 'flow: not legal at 1\n'
+    head -c -1 journal.txt >without_last_byte.txt
+    judges without_last_byte.txt 12 '' 'flow: bad journal line 5\n'
+    sed '3s/end 0/end 00/' journal.txt >leading_zero.txt
+    judges leading_zero.txt 12 '' 'flow: bad journal line 3\n'
+    sed 's/$/\r/' journal.txt >returns.txt
+    judges returns.txt 12 '' 'flow: bad journal line 1\n'
+done
+judges cut.txt 0 'complete\n' '' --limit 1
+judges cut.txt 0 'legal\n' ''
+printf 'flow journal 1\ndrop 0 source stuck:0\n' >stuck.txt
+judges stuck.txt 12 '' 'flow: bad journal line 2\n'
+sed -i '1s/1/2/' stuck.txt
+judges stuck.txt 11 'breaks at 0: no such number\n' 'flow: not legal at 0\n'
+: >nothing.txt
+judges nothing.txt 12 '' 'flow: bad journal line 1\n'
+truncate -s 67108864 long.txt
+judges long.txt 12 '' 'flow: bad journal line 1\n'
+truncate -s 67108865 long.txt
+refused 5 'flow: text too long long.txt' judge graph.json long.txt
+rm long.txt
+refused 5 'flow: no text nowhere.txt' judge graph.json nowhere.txt
+refused 5 'flow: no text nowhere.json' judge nowhere.json nowhere.txt
+mkdir folder
+refused 6 'flow: read fault on folder' judge graph.json folder
+refused 3 'flow: bad graph: not JSON' judge whole.txt whole.txt
+echo '{"tasks":[{"name":"a","op":"pass","to":["a"]}]}' >circle.json
+refused 4 'flow: no source' judge circle.json nowhere.txt
+refused 2 'flow: bad words' judge graph.json
+refused 2 'flow: bad words' judge graph.json whole.txt whole.txt
+refused 2 'flow: bad words' judge graph.json whole.txt --journal
+refused 2 'flow: bad words' judge graph.json whole.txt --limit 1000001
+refused 2 'flow: bad words' run graph.json --journal=yes
+refused 2 'flow: bad words' run graph.json --journal --journal
+# An output that fails: a journal that breaks no rule isn't done, and one that breaks a rule is told so.
+on_full_device() {
+    local code=0
+    "$program" judge graph.json "$1" >/dev/full 2>"$seen/notes" || code=$?
+    : >"$seen/out"
+    echo "$code" >"$seen/code"
+    echo "$3" >"$seen/wanted_notes"
+    compare "the judgement of $1 on a full device" "$2" /dev/null "$seen/wanted_notes"
+}
+on_full_device whole.txt 7 'flow: write fault'
+on_full_device exchanged.txt 11 'flow: not legal at 1'
+cd "$top"
+
 # Small graphs over the text t.txt, as lists of tasks: the code and what is printed, with `\n` for a line end.
 mkdir "$seen/graphs"
 cd "$seen/graphs"

@@ -2,9 +2,9 @@
 """Lists, for each definition of a crate's specs/, the claims that compute it on small examples.
 
 A claim is a lemma of a crate's proofs/Worked*.antt or proofs/*Examples.antt, or a clause of an empty function of
-worked_journals. It belongs to each definition that its statement names. A definition that no statement names is shown
-by the definitions that cite it, or by none. Prints the table of docs/DEFINITIONS.md; with --check compares it with the
-one there.
+worked_journals or of a file worked.rt. It belongs to each definition that its statement names. A definition that no
+statement names is shown by the definitions that cite it, or by none. Prints the table of docs/DEFINITIONS.md; with
+--check compares it with the one there.
 """
 import re
 import sys
@@ -46,7 +46,7 @@ def claims():
                 statement += " " + lines[j].strip()
                 j += 1
             found.append((match.group(1), {home[word] for word in words(statement) if word in home}))
-    for path in sorted(CRATES.glob("worked_journals/src/*.rt")):
+    for path in sorted([*CRATES.glob("worked_journals/src/*.rt"), *CRATES.glob("*/src/worked.rt")]):
         home = imported(path.read_text())
         for name, statement in CLAUSE.findall(path.read_text()):
             found.append((name, {home[word] for word in words(statement) if word in home}))

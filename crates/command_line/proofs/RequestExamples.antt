@@ -1,8 +1,11 @@
 -- Command lines and what they ask for, computed.
-use Rattle.std.proofs.Common.{◌≡◌, refl, codes, Some, None, [], ◌∷◌, List, ℕ}
+use Rattle.std.proofs.Common.{◌≡◌, refl, codes, Some, None, [], ◌∷◌, List, ℕ, true, false}
+use Rattle.std.specs.Borrow.{Bor}
+use Rattle.command_line.specs.declared.request.Request.TheVariants.{Run, Judge}
+use Rattle.command_line.specs.Asked.{asked}
 use Rattle.clap.proofs.OnLiterals.{clap_on_literals}
 use Rattle.command_line.specs.Numbers.{number_of}
-use Rattle.command_line.specs.Requests.{run, asked_by}
+use Rattle.command_line.specs.Requests.{run, judge, asked_by, limit_asked}
 
 -- Numbers have 1 to 7 digits and nothing else, and are in their range.
 least : number_of 1 1000000 (codes "1") ≡ Some 1
@@ -33,19 +36,19 @@ a_letter : number_of 1 9 (codes "1x") ≡ None
 a_letter = refl
 
 -- A run of a file, with the limit that is said or the default.
-plain : asked_by (codes "run" ∷ codes "g" ∷ []) ≡ Some (run (codes "g") 100000)
+plain : asked_by (codes "run" ∷ codes "g" ∷ []) ≡ Some (run (codes "g") 100000 false)
 unfolding clap_on_literals
 plain = refl
 
-limited : asked_by (codes "run" ∷ codes "g" ∷ codes "--limit" ∷ codes "10" ∷ []) ≡ Some (run (codes "g") 10)
+limited : asked_by (codes "run" ∷ codes "g" ∷ codes "--limit" ∷ codes "10" ∷ []) ≡ Some (run (codes "g") 10 false)
 unfolding clap_on_literals
 limited = refl
 
-limit_first : asked_by (codes "run" ∷ codes "--limit=10" ∷ codes "g" ∷ []) ≡ Some (run (codes "g") 10)
+limit_first : asked_by (codes "run" ∷ codes "--limit=10" ∷ codes "g" ∷ []) ≡ Some (run (codes "g") 10 false)
 unfolding clap_on_literals
 limit_first = refl
 
-behind_two_hyphens : asked_by (codes "run" ∷ codes "--" ∷ codes "-g" ∷ []) ≡ Some (run (codes "-g") 100000)
+behind_two_hyphens : asked_by (codes "run" ∷ codes "--" ∷ codes "-g" ∷ []) ≡ Some (run (codes "-g") 100000 false)
 unfolding clap_on_literals
 behind_two_hyphens = refl
 
@@ -88,3 +91,60 @@ help = refl
 bad_limit : asked_by (codes "run" ∷ codes "g" ∷ codes "--limit" ∷ codes "1x" ∷ []) ≡ None
 unfolding clap_on_literals
 bad_limit = refl
+
+-- The journal in place of the report.
+with_journal : asked_by (codes "run" ∷ codes "g" ∷ codes "--journal" ∷ []) ≡ Some (run (codes "g") 100000 true)
+unfolding clap_on_literals
+with_journal = refl
+
+journal_first : asked_by (codes "run" ∷ codes "--journal" ∷ codes "--limit" ∷ codes "7" ∷ codes "g" ∷ []) ≡ Some (run (codes "g") 7 true)
+unfolding clap_on_literals
+journal_first = refl
+
+journal_with_value : asked_by (codes "run" ∷ codes "g" ∷ codes "--journal=yes" ∷ []) ≡ None
+unfolding clap_on_literals
+journal_with_value = refl
+
+journal_twice : asked_by (codes "run" ∷ codes "g" ∷ codes "--journal" ∷ codes "--journal" ∷ []) ≡ None
+unfolding clap_on_literals
+journal_twice = refl
+
+-- A judgement of a journal, with the limit that is said or the default.
+judged : asked_by (codes "judge" ∷ codes "g" ∷ codes "j" ∷ []) ≡ Some (judge (codes "g") (codes "j") 100000)
+unfolding clap_on_literals
+judged = refl
+
+judged_within : asked_by (codes "judge" ∷ codes "g" ∷ codes "--limit" ∷ codes "3" ∷ codes "j" ∷ []) ≡ Some (judge (codes "g") (codes "j") 3)
+unfolding clap_on_literals
+judged_within = refl
+
+no_journal : asked_by (codes "judge" ∷ codes "g" ∷ []) ≡ None
+unfolding clap_on_literals
+no_journal = refl
+
+three_files : asked_by (codes "judge" ∷ codes "g" ∷ codes "j" ∷ codes "k" ∷ []) ≡ None
+unfolding clap_on_literals
+three_files = refl
+
+flag_of_another_command : asked_by (codes "judge" ∷ codes "g" ∷ codes "j" ∷ codes "--journal" ∷ []) ≡ None
+unfolding clap_on_literals
+flag_of_another_command = refl
+
+judged_within_nothing : asked_by (codes "judge" ∷ codes "g" ∷ codes "j" ∷ codes "--limit" ∷ codes "0" ∷ []) ≡ None
+unfolding clap_on_literals
+judged_within_nothing = refl
+
+-- Either may have so many starts.
+starts_of_a_run : limit_asked (run (codes "g") 5 false) ≡ 5
+starts_of_a_run = refl
+
+starts_of_a_judgement : limit_asked (judge (codes "g") (codes "j") 6) ≡ 6
+starts_of_a_judgement = refl
+
+-- What requests of the source ask for.
+module _ (file journal : Bor (List ℕ)) where
+  asks_for_a_run : asked (Run (record { file = file; limit = 5; journal = true })) ≡ run file.now 5 true
+  asks_for_a_run = refl
+
+  asks_for_a_judgement : asked (Judge (record { file = file; journal = journal; limit = 6 })) ≡ judge file.now journal.now 6
+  asks_for_a_judgement = refl

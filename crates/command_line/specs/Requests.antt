@@ -1,26 +1,34 @@
 -- What a command line asks for.
-use Rattle.std.specs.Prelude.{ℕ, ◌≤◌, true, List, [], ◌∷◌, Option, Some, None, option_and_then, option_map, if◌then◌else◌, codes}
+use Rattle.std.specs.Prelude.{ℕ, ◌≤◌, Bool, true, false, List, [], ◌∷◌, Option, Some, None, option_and_then, option_map, if◌then◌else◌, codes}
 use Rattle.std.specs.Option.{option_map_or}
 use Rattle.std.specs.Str.{bytes_eq}
 use Rattle.clap.specs.Walk.{Row, Rule}
 use Rattle.clap.specs.Words.{App, Kinds, first_of, matches_of, fault_of, new_app, new_rule, with_rule}
+use Rattle.clap.specs.declared.builder.action.ArgAction.TheVariants.{SetTrue}
 use Rattle.clap.specs.Simple.{on_top}
 use Rattle.command_line.specs.Numbers.{number_of}
 
 -- the most starts that a run may be limited to, and how many it may have where nothing is said
-abbrev pub greatest_limit : ℕ
-greatest_limit = 1000000
+abbrev pub greatest_limit_option : ℕ
+greatest_limit_option = 1000000
 
 abbrev pub start_limit : ℕ
 start_limit = 100000
 
--- what is asked for: to run the graph in a file, with at most so many starts
+-- What is asked for: to run the graph in a file, with at most so many starts, and to write its journal in place of its
+-- report or not; or to judge the journal in another file, which may have so many starts.
 pub data Asked : Type 0 where
-  run : List ℕ → ℕ → Asked
+  run : List ℕ → ℕ → Bool → Asked
+  judge : List ℕ → List ℕ → ℕ → Asked
+
+-- how many starts there may be
+abbrev pub limit_asked : Asked → ℕ
+limit_asked (run file limit journal) = limit
+limit_asked (judge file journal limit) = limit
 
 -- a command of this name that reads no name of a program, and of itself has no flag
-abbrev pub bare : List ℕ → App
-bare name = on_top (λ s. record s { no_binary_name = true; disable_help_flag = true }) (new_app name)
+abbrev pub command_named : List ℕ → App
+command_named name = on_top (λ s. record s { no_binary_name = true; disable_help_flag = true }) (new_app name)
 
 -- an argument that has to be there, by its place, and an option with a value
 abbrev pub required : List ℕ → Rule
@@ -29,9 +37,17 @@ required name = record (new_rule name) { required = true }
 abbrev pub option : List ℕ → Rule
 option name = record (new_rule name) { long = Some name }
 
--- `run FILE [--limit N]`
+-- an option without a value
+abbrev pub flag : List ℕ → Rule
+flag name = record (new_rule name) { long = Some name; action = Some SetTrue }
+
+-- `run FILE [--limit N] [--journal]`
 abbrev pub run_app : App
-run_app = with_rule (with_rule (bare (codes "run")) (required (codes "file"))) (option (codes "limit"))
+run_app = with_rule (with_rule (with_rule (command_named (codes "run")) (required (codes "file"))) (option (codes "limit"))) (flag (codes "journal"))
+
+-- `judge FILE JOURNAL [--limit N]`
+abbrev pub judge_app : App
+judge_app = with_rule (with_rule (with_rule (command_named (codes "judge")) (required (codes "file"))) (required (codes "journal"))) (option (codes "limit"))
 
 -- what a command finds among the arguments, where it finds no fault with them
 abbrev pub rows_without : Kinds → List Row → Option (List Row)
@@ -43,13 +59,24 @@ rows_in app arguments = rows_without (fault_of app arguments) (matches_of app ar
 
 -- the limit that an option's value asks for; without the option, the default
 abbrev pub limit_by : Option (List ℕ) → Option ℕ
-limit_by text = option_map_or (number_of 1 greatest_limit) text (Some start_limit)
+limit_by text = option_map_or (number_of 1 greatest_limit_option) text (Some start_limit)
+
+-- whether a flag stands there, by what `clap` says of it
+abbrev pub is_set : Option (List ℕ) → Bool
+is_set text = option_map_or (λ value. bytes_eq value (codes "true")) text false
 
 -- the run that is asked for
 abbrev pub run_in : List Row → Option Asked
-run_in rows = option_and_then (λ file. option_map (run file) (limit_by (first_of (codes "limit") rows))) (first_of (codes "file") rows)
+run_in rows =
+    option_and_then (λ file. option_map (λ limit. run file limit (is_set (first_of (codes "journal") rows))) (limit_by (first_of (codes "limit") rows))) (first_of (codes "file") rows)
+
+-- the judgement that is asked for
+abbrev pub judge_in : List Row → Option Asked
+judge_in rows =
+    option_and_then (λ file. option_and_then (λ journal. option_map (judge file journal) (limit_by (first_of (codes "limit") rows))) (first_of (codes "journal") rows)) (first_of (codes "file") rows)
 
 -- What a command line asks for: its first argument names the command that reads the others.
 abbrev pub asked_by : List (List ℕ) → Option Asked
 asked_by [] = None
-asked_by (command ∷ arguments) = if bytes_eq command (codes "run") then option_and_then run_in (rows_in run_app arguments) else None
+asked_by (command ∷ arguments) = if bytes_eq command (codes "run") then option_and_then run_in (rows_in run_app arguments)
+    else (if bytes_eq command (codes "judge") then option_and_then judge_in (rows_in judge_app arguments) else None)

@@ -1,8 +1,10 @@
 // Requests.
 ghost use Rattle.std.specs.Prelude.{◌≡◌, ◌≤◌, map, IfOk, IfErr, Some, None};
 ghost use Rattle.std.specs.String.{string_bytes};
-ghost use Rattle.command_line.specs.Requests.{asked_by, greatest_limit, run};
+ghost use Rattle.command_line.specs.Requests.{asked_by, greatest_limit_option, limit_asked};
+ghost use Rattle.command_line.specs.Asked.{asked};
 
+use super::judge::{Judge, read_judge};
 use super::run::{Run, read_run};
 use std::alloc::{AllocError, Global};
 
@@ -21,18 +23,29 @@ impl From<AllocError> for ArgumentsError {
     }
 }
 
-/// The run that the arguments after the program's own name ask for. `Refused` comes exactly where they ask for nothing
+/// What arguments ask for.
+#[derive(Clone, Copy)]
+pub enum Request<'w> {
+    Run(Run<'w>),
+    Judge(Judge<'w>),
+}
+
+/// What the arguments after the program's own name ask for. `Refused` comes exactly where they ask for nothing
 /// (`asked_by`), unless an allocation fails.
-pub fn read_arguments<'w>(alloc: Global, arguments: &'w [String]) -> Result<Run<'w>, ArgumentsError>
-    ensures ok { IfOk result (λ r. asked_by (map string_bytes arguments.entry.now) ≡ Some (run r.file.now r.limit)) }
-    ensures limit { IfOk result (λ r. r.limit ≤ greatest_limit) }
+pub fn read_arguments<'w>(
+    alloc: Global,
+    arguments: &'w [String],
+) -> Result<Request<'w>, ArgumentsError>
+    ensures ok { IfOk result (λ request. asked_by (map string_bytes arguments.entry.now) ≡ Some (asked request)) }
+    ensures limit { IfOk result (λ request. limit_asked (asked request) ≤ greatest_limit_option) }
     ensures refused { IfErr result (λ error. error ≡ ArgumentsError.Refused → asked_by (map string_bytes arguments.entry.now) ≡ None) }
 {
     let Some((command, rest)) = arguments.split_first() else {
         return Err(ArgumentsError::Refused);
     };
-    if command.as_str() == "run" {
-        return read_run(alloc, rest);
+    match command.as_str() {
+        "run" => Ok(Request::Run(read_run(alloc, rest)?)),
+        "judge" => Ok(Request::Judge(read_judge(alloc, rest)?)),
+        _ => Err(ArgumentsError::Refused),
     }
-    Err(ArgumentsError::Refused)
 }

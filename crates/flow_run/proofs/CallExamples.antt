@@ -1,9 +1,7 @@
 -- What a call asks for and how it ends, computed on a graph file `g` of one byte that names the text `t`, of two. Names
 -- are of one small byte here.
-use Rattle.std.proofs.Common.{◌≡◌, ℕ, zero, suc, ◌<◌, List, [], ◌∷◌, length, ◌⊎◌, Option, Some, None, true, false, inl, inr, refl, arith, codes, ap, sym, subst, ◌∙◌, Result, Ok, Err}
-use Rattle.std.specs.Prelude.{String, if◌then◌else◌, bytes_eq}
-use Rattle.std.specs.Global.{Global}
-use Rattle.std.specs.List.{All}
+use Rattle.std.proofs.Common.{◌≡◌, ℕ, ◌<◌, List, [], ◌∷◌, length, ◌⊎◌, Option, Some, None, true, false, inl, inr, refl, arith, ap, sym, subst, ◌∙◌, Result, Ok, Err}
+use Rattle.std.specs.Prelude.{if◌then◌else◌, bytes_eq}
 use Rattle.outside_io.specs.Sink.{SinkState}
 use Rattle.graph_file.specs.declared.refusals.GraphError.TheVariants.{NotJson, TooMany}
 use Rattle.graph_file.specs.declared.refusals.GraphError.{GraphError}
@@ -13,14 +11,17 @@ use Rattle.graph_plans.specs.declared.spots.Spot.TheVariants.{File}
 use Rattle.graph_plans.specs.PlanRows.{PlanRows}
 use Rattle.graph_file.specs.PlanText.{PlanText, IsRefused}
 use Rattle.text_tasks.specs.GraphWork.{GraphWork}
-use Rattle.flow_run.specs.declared.status.Status.TheVariants.{Done, BadWords, BadGraph, NoSource, NoText, LongText, ReadFault, WriteFault, Limit, TaskFault, Stuck, NoMemory}
+use Rattle.flow_run.specs.declared.status.Status.TheVariants.{Done, BadWords, BadGraph, NoSource, NoText, LongText, ReadFault, WriteFault, Limit, TaskFault, Stuck, NotLegal, BadJournal, NoMemory}
 use Rattle.flow_run.specs.declared.stop.Stop.{Stop}
 use Rattle.flow_run.specs.declared.stop.Stop.TheVariants as stop
-use Rattle.command_line.specs.Requests.{asked_by, run as run_of}
+use Rattle.command_line.specs.Requests.{asked_by, run as run_of, judge as judge_of}
+use Rattle.legal_run.specs.declared.verdict.Verdict.TheVariants.{Complete as Finished}
+use Rattle.legal_run.specs.declared.verdict.Break.TheVariants.{NotOpen}
 use Rattle.journal_rules.specs.declared.entry.Why.TheVariants.{Long as TooLong}
 use Rattle.nested_runs.specs.declared.reasons.Reason.TheVariants as reason
 use Rattle.flow_run.specs.Requests.{Held, IsHeld, StopsAtName, IsTextOf, TextsAre, StopsAtText, HasStart, StopsAtBytes, HasPlan, IsRequested, file_limit, text_limit}
-use Rattle.flow_run.specs.Answers.{Run, status_of, status_after, IsAfterRun, RunEnds, CallEnds, Reported, IsReadFault, HaveRead}
+use Rattle.flow_run.specs.Answers.{Run, status_after, IsAfterRun, RunEnds, CallEnds, Reported, IsReadFault, HaveRead}
+use Rattle.flow_run.specs.Stopping.{status_of}
 use Rattle.flow_run.specs.Codes.{code_of}
 
 abbrev g : List ℕ
@@ -221,8 +222,8 @@ not_after_run (inl same) = absurd (cc)
 not_after_run (inr (inl (fine, same))) = absurd (cc)
 not_after_run (inr (inr same)) = absurd (cc)
 
-told : (status_of (stop.NoText t) ≡ NoText t) × (status_of (stop.LongText t) ≡ LongText t) × (status_of (stop.ReadFault t) ≡ ReadFault t) × (status_of (stop.NoSource File) ≡ NoSource File) × (status_of stop.NoMemory ≡ NoMemory)
-told = (refl, refl, refl, refl, refl)
+told : (status_of (stop.NoText t) ≡ NoText t) × (status_of (stop.LongText t) ≡ LongText t) × (status_of (stop.ReadFault t) ≡ ReadFault t) × (status_of (stop.NoSource File) ≡ NoSource File) × (status_of (stop.BadJournal 2) ≡ BadJournal 2) × (status_of stop.NoMemory ≡ NoMemory)
+told = (refl, refl, refl, refl, refl, refl)
 
 -- A call that stopped before a run isn't done, and keeps none.
 never_done_before : (why : Stop) → ¬ (Done ≡ status_of why)
@@ -231,6 +232,7 @@ never_done_before (stop.NoSource spot) same = absurd (cc)
 never_done_before (stop.NoText name) same = absurd (cc)
 never_done_before (stop.LongText name) same = absurd (cc)
 never_done_before (stop.ReadFault name) same = absurd (cc)
+never_done_before (stop.BadJournal line) same = absurd (cc)
 never_done_before stop.NoMemory same = absurd (cc)
 
 done_keeps_a_run : ¬ RunEnds held g 77 Done []
@@ -243,22 +245,45 @@ module _ (run other : Run) where
   one_run_is_kept (inr ran) = let only : run ∷ other ∷ [] ≡ ran.run ∷ [] = ran.only in absurd (omega (arith, ap length only))
 
 -- A command line that asks for a run isn't refused, and one that asks for nothing is.
-asked : (arguments : List (List ℕ)) → asked_by arguments ≡ Some (run_of g 77) → ¬ CallEnds held arguments BadWords []
-asked arguments asks (inl (file, limit, asks_file, inl stopped)) = never_bad stopped.why stopped.told
-  where
-    never_bad : (why : Stop) → ¬ (BadWords ≡ status_of why)
-    never_bad (stop.BadGraph error) same = absurd (cc)
-    never_bad (stop.NoSource spot) same = absurd (cc)
-    never_bad (stop.NoText name) same = absurd (cc)
-    never_bad (stop.LongText name) same = absurd (cc)
-    never_bad (stop.ReadFault name) same = absurd (cc)
-    never_bad stop.NoMemory same = absurd (cc)
-asked arguments asks (inl (file, limit, asks_file, inr ran)) = let only : [] ≡ ran.run ∷ [] = ran.only in absurd (cc)
-asked arguments asks (inr (inl (same, none, refused))) = let never : Some (run_of g 77) ≡ None = let both : asked_by arguments ≡ None = refused in cc in absurd (cc)
-asked arguments asks (inr (inr (same, none))) = absurd (cc)
+never_bad : (why : Stop) → ¬ (BadWords ≡ status_of why)
+never_bad (stop.BadGraph error) same = absurd (cc)
+never_bad (stop.NoSource spot) same = absurd (cc)
+never_bad (stop.NoText name) same = absurd (cc)
+never_bad (stop.LongText name) same = absurd (cc)
+never_bad (stop.ReadFault name) same = absurd (cc)
+never_bad (stop.BadJournal line) same = absurd (cc)
+never_bad stop.NoMemory same = absurd (cc)
 
-refused : (arguments : List (List ℕ)) → asked_by arguments ≡ None → CallEnds held arguments BadWords []
-refused arguments none = inr (inl (refl, refl, none))
+asked : (arguments : List (List ℕ)) → asked_by arguments ≡ Some (run_of g 77 false) → ¬ CallEnds held arguments BadWords [] None
+asked arguments asks (inl (file, limit, journal, asks_file, inl stopped, none)) = never_bad stopped.why stopped.told
+asked arguments asks (inl (file, limit, journal, asks_file, inr ran, none)) = let only : [] ≡ ran.run ∷ [] = ran.only in absurd (cc)
+asked arguments asks (inr (inl (file, name, limit, asks_judge, ends, none))) = let never : Some (run_of g 77 false) ≡ Some (judge_of file name limit) = sym asks ∙ asks_judge in absurd (cc)
+asked arguments asks (inr (inr (inl (same, none, nothing, refused)))) = let never : Some (run_of g 77 false) ≡ None = sym asks ∙ refused in absurd (cc)
+asked arguments asks (inr (inr (inr (same, none, nothing)))) = absurd (cc)
+
+asked_to_judge : (arguments : List (List ℕ)) → asked_by arguments ≡ Some (judge_of g t 77) → ¬ CallEnds held arguments BadWords [] None
+asked_to_judge arguments asks (inl (file, limit, journal, asks_file, ends, none)) = let never : Some (judge_of g t 77) ≡ Some (run_of file limit journal) = sym asks ∙ asks_file in absurd (cc)
+asked_to_judge arguments asks (inr (inl (file, name, limit, asks_judge, inl stopped, none))) = never_bad stopped.why stopped.told
+asked_to_judge arguments asks (inr (inl (file, name, limit, asks_judge, inr ended, none))) = let only : None ≡ Some ended.told = ended.only in absurd (cc)
+asked_to_judge arguments asks (inr (inr (inl (same, none, nothing, refused)))) = let never : Some (judge_of g t 77) ≡ None = sym asks ∙ refused in absurd (cc)
+asked_to_judge arguments asks (inr (inr (inr (same, none, nothing)))) = absurd (cc)
+
+refused : (arguments : List (List ℕ)) → asked_by arguments ≡ None → CallEnds held arguments BadWords [] None
+refused arguments none = inr (inr (inl (refl, refl, refl, none)))
+
+-- A run has no verdict, and a judgement keeps no run.
+module _ (arguments : List (List ℕ)) where
+  verdict_on_a_run : asked_by arguments ≡ Some (run_of g 77 false) → ¬ CallEnds held arguments Done [] (Some Finished)
+  verdict_on_a_run asks (inl (file, limit, journal, asks_file, ends, none)) = absurd (cc)
+  verdict_on_a_run asks (inr (inl (file, name, limit, asks_judge, ends, none))) = let never : Some (run_of g 77 false) ≡ Some (judge_of file name limit) = sym asks ∙ asks_judge in absurd (cc)
+  verdict_on_a_run asks (inr (inr (inl (same, none, nothing, refused)))) = absurd (cc)
+  verdict_on_a_run asks (inr (inr (inr (same, none, nothing)))) = absurd (cc)
+
+  run_of_a_judgement : (run : Run) → asked_by arguments ≡ Some (judge_of g t 77) → ¬ CallEnds held arguments Done (run ∷ []) None
+  run_of_a_judgement run asks (inl (file, limit, journal, asks_file, ends, none)) = let never : Some (judge_of g t 77) ≡ Some (run_of file limit journal) = sym asks ∙ asks_file in absurd (cc)
+  run_of_a_judgement run asks (inr (inl (file, name, limit, asks_judge, ends, none))) = absurd (cc)
+  run_of_a_judgement run asks (inr (inr (inl (same, none, nothing, refused)))) = absurd (cc)
+  run_of_a_judgement run asks (inr (inr (inr (same, none, nothing)))) = absurd (cc)
 
 -- What has been done to a sink of memory when the call ends.
 abbrev sink : List ℕ → ℕ → SinkState
@@ -268,7 +293,7 @@ abbrev of_memory : SinkState → SinkState
 of_memory state = state
 
 -- Nothing to write: the output stays as it is, and that is no failure to write.
-nothing_reported : Reported of_memory (sink [] 0) (sink [] 0) (NoText t) [] true
+nothing_reported : Reported of_memory (sink [] 0) (sink [] 0) (NoText t) false [] true
 nothing_reported = record {
   front = record { lost = []; but = record { front = []; parts = refl; took = refl } };
   whole = λ written. refl;
@@ -282,39 +307,39 @@ nothing_reported = record {
   nothing_to_write = λ none. refl;
 }
 
-failed_empty_write_hidden : ¬ Reported of_memory (sink [] 0) (sink [] 1) (NoText t) [] true
+failed_empty_write_hidden : ¬ Reported of_memory (sink [] 0) (sink [] 1) (NoText t) false [] true
 failed_empty_write_hidden is = absurd (omega (arith, is.no_fault refl))
 
-bytes_without_a_run : ¬ Reported of_memory (sink [] 0) (sink (7 ∷ []) 0) (NoText t) [] true
+bytes_without_a_run : ¬ Reported of_memory (sink [] 0) (sink (7 ∷ []) 0) (NoText t) false [] true
 bytes_without_a_run is = let stays : (sink (7 ∷ []) 0) ≡ (sink [] 0) = is.untouched refl in absurd (omega (arith, ap taken_length stays))
   where
     taken_length : SinkState → ℕ
     taken_length state = elim state.taken [ None ↦ 0 | Some bytes ↦ length bytes ]
 
-written_denied_without_a_run : ¬ Reported of_memory (sink [] 0) (sink [] 0) (NoText t) [] false
+written_denied_without_a_run : ¬ Reported of_memory (sink [] 0) (sink [] 0) (NoText t) false [] false
 written_denied_without_a_run is = let written : false ≡ true = is.nothing_to_write refl in absurd (cc)
 
 module _ (runs : List Run) where
-  failed_write_hidden : ¬ Reported of_memory (sink [] 0) (sink [] 1) Done runs true
+  failed_write_hidden : ¬ Reported of_memory (sink [] 0) (sink [] 1) Done false runs true
   failed_write_hidden is = absurd (omega (arith, is.no_fault refl))
 
-  fault_without_a_failed_write : ¬ Reported of_memory (sink [] 0) (sink [] 0) WriteFault runs false
+  fault_without_a_failed_write : ¬ Reported of_memory (sink [] 0) (sink [] 0) WriteFault false runs false
   fault_without_a_failed_write is = neither (is.cause refl)
     where
       neither : (0 < 0) ⊎ (WriteFault ≡ NoMemory) → ⊥
       neither (inl rose) = omega arith
       neither (inr same) = absurd (cc)
 
-  fault_beside_a_whole_report : ¬ Reported of_memory (sink [] 0) (sink [] 1) WriteFault runs true
+  fault_beside_a_whole_report : ¬ Reported of_memory (sink [] 0) (sink [] 1) WriteFault false runs true
   fault_beside_a_whole_report is = let written : true ≡ false = is.write_fault refl in absurd (cc)
 
-  done_with_a_prefix : ¬ Reported of_memory (sink [] 0) (sink [] 1) Done runs false
+  done_with_a_prefix : ¬ Reported of_memory (sink [] 0) (sink [] 1) Done false runs false
   done_with_a_prefix is = let written : false ≡ true = is.done refl in absurd (cc)
 
-  bytes_held_back : ¬ Reported of_memory (sink [] 0) (record { taken = Some []; held_back = 7 ∷ []; faults = 0 }) Done runs true
+  bytes_held_back : ¬ Reported of_memory (sink [] 0) (record { taken = Some []; held_back = 7 ∷ []; faults = 0 }) Done false runs true
   bytes_held_back is = let none = is.nothing_held in absurd (cc)
 
-  faults_forgotten : ¬ Reported of_memory (sink [] 2) (sink [] 1) NoMemory runs false
+  faults_forgotten : ¬ Reported of_memory (sink [] 2) (sink [] 1) NoMemory false runs false
   faults_forgotten is = absurd (omega (arith, is.no_fewer))
 
 -- A failed read is told, and a read fault isn't told of nothing.
@@ -347,6 +372,9 @@ codes_of_all = (refl, refl, refl, refl, refl)
 
 codes_of_cut_runs : (code_of (Limit [] 9) ≡ 8) × (code_of (TaskFault (3 ∷ []) (TooLong 9)) ≡ 9) × (code_of (Stuck (3 ∷ [])) ≡ 10)
 codes_of_cut_runs = (refl, refl, refl)
+
+codes_of_judgements : (code_of (NotLegal 3 NotOpen) ≡ 11) × (code_of (BadJournal 2) ≡ 12)
+codes_of_judgements = (refl, refl)
 
 codes_of_faults : (code_of (LongText t) ≡ 5) × (code_of (ReadFault t) ≡ 6) × (code_of WriteFault ≡ 7) × (code_of NoMemory ≡ 13)
 codes_of_faults = (refl, refl, refl, refl)

@@ -1,5 +1,5 @@
 -- What is at hand and meets no failure is done.
-use Rattle.std.proofs.Common.{◌≡◌, ◌≢◌, ◌⊎◌, inl, inr, ℕ, ◌≤◌, List, [], ◌∷◌, ◌++◌, length, Option, Some, None, Ok, Err, refl, sym, ap, ◌∙◌, subst, arith, codes}
+use Rattle.std.proofs.Common.{◌≡◌, ◌≢◌, ◌⊎◌, inl, inr, ℕ, ◌≤◌, Bool, List, [], ◌∷◌, ◌++◌, length, Option, Some, None, Ok, Err, refl, sym, ap, ◌∙◌, subst, arith}
 use Rattle.std.specs.Prelude.{All, IsSomeAnd}
 use Rattle.std.proofs.lemmas.Option.{none-some}
 use Rattle.std.proofs.lemmas.List.Elements.{All-head, All-tail}
@@ -10,16 +10,26 @@ use Rattle.graph_plans.specs.PlanRows.{PlanRows}
 use Rattle.graph_file.specs.PlanText.{PlanText, IsRefused}
 use Rattle.graph_plans.specs.Sources.{NoSourceAnswer}
 use Rattle.flow_run.specs.declared.status.Status.{Status}
-use Rattle.flow_run.specs.declared.status.Status.TheVariants.{Done, BadWords, BadGraph, NoSource, NoText, LongText, ReadFault, WriteFault, NoMemory}
+use Rattle.flow_run.specs.declared.status.Status.TheVariants.{Done, WriteFault, NoMemory}
 use Rattle.flow_run.specs.declared.stop.Stop.{Stop}
 use Rattle.flow_run.specs.declared.stop.Stop.TheVariants as stop
 use Rattle.flow_run.specs.Requests.{Held, IsHeld, HasStart, StopsAtName, StopsAtBytes, StopsAtText, StopsBefore, IsAtHand, file_limit, text_limit}
-use Rattle.command_line.specs.Requests.{Asked, asked_by, run}
+use Rattle.command_line.specs.Requests.{asked_by, run, judge}
 use Rattle.nested_runs.specs.Reasons.{run_reason}
 use Rattle.nested_runs.specs.declared.reasons.Reason.{Reason}
 use Rattle.nested_runs.specs.declared.reasons.Reason.TheVariants.{Fine}
 use Rattle.text_tasks.specs.JobMeaning.{text_job}
-use Rattle.flow_run.specs.Answers.{Run, status_after, status_of, IsAfterRun, CallEnds, IsReadFault}
+use Rattle.flow_run.specs.Stopping.{status_of}
+use Rattle.flow_run.specs.Answers.{Run, status_after, IsAfterRun, CallEnds, IsReadFault}
+use Rattle.journal_rules.specs.declared.entry.Entry.{Entry}
+use Rattle.task_graph.specs.NetRows.{NetRows}
+use Rattle.legal_run.specs.declared.verdict.Break.{Break}
+use Rattle.legal_run.specs.declared.verdict.Verdict.{Verdict}
+use Rattle.legal_run.specs.declared.verdict.Verdict.TheVariants.{Complete as Finished, Legal, Breaks}
+use Rattle.legal_run.specs.Verdict.{IsVerdict}
+use Rattle.journal_text.specs.JournalText.{IsJournalText}
+use Rattle.journal_text.proofs.TextLemmas.{one_journal}
+use Rattle.flow_run.specs.Judging.{IsJudged, IsAfterVerdict, StopsAtJournalBytes, StopsAtJournal, StopsBeforeVerdict, CanBeJudged, journal_limit}
 
 -- Bytes stand for one plan at most.
 one_plan : (bytes : List ℕ) (plan other : PlanRows) → PlanText bytes plan → PlanText bytes other → plan ≡ other
@@ -30,8 +40,16 @@ not_refused : (bytes : List ℕ) (plan : PlanRows) (error : GraphError) → Plan
 not_refused bytes plan error stands refused = let both : Ok plan ≡ Err error = sym stands ∙ refused in absurd (cc)
 
 -- A command line asks for one file at most.
-one_file : (arguments : List (List ℕ)) (file other : List ℕ) (limit most : ℕ) → asked_by arguments ≡ Some (run file limit) → asked_by arguments ≡ Some (run other most) → file ≡ other
-one_file arguments file other limit most one two = let both : Some (run file limit) ≡ Some (run other most) = sym one ∙ two in cc
+one_file : (arguments : List (List ℕ)) (file other : List ℕ) (limit most : ℕ) (journal instead : Bool) → asked_by arguments ≡ Some (run file limit journal) → asked_by arguments ≡ Some (run other most instead) → file ≡ other
+one_file arguments file other limit most journal instead one two = let both : Some (run file limit journal) ≡ Some (run other most instead) = sym one ∙ two in cc
+
+-- And for one judgement.
+one_judgement : (arguments : List (List ℕ)) (file name other others : List ℕ) (limit most : ℕ) → asked_by arguments ≡ Some (judge file name limit) → asked_by arguments ≡ Some (judge other others most)
+    → (file ≡ other) × (name ≡ others) × (limit ≡ most)
+one_judgement arguments file name other others limit most one two = let both : Some (judge file name limit) ≡ Some (judge other others most) = sym one ∙ two in (cc, cc, cc)
+
+no_run_and_judgement : (arguments : List (List ℕ)) (file other name : List ℕ) (limit most : ℕ) (journal : Bool) → asked_by arguments ≡ Some (run file limit journal) → asked_by arguments ≡ Some (judge other name most) → ⊥
+no_run_and_judgement arguments file other name limit most journal one two = let both : Some (run file limit journal) ≡ Some (judge other name most) = sym one ∙ two in absurd (cc)
 
 -- A plan that has a start has no graph without a source.
 has_source : (plan : PlanRows) (at : Spot) → HasStart plan → NoSourceAnswer plan (Some at) → ⊥
@@ -57,6 +75,7 @@ never_stops text name max why has stops fine = by_text (text name) why has stops
     by_text (Some bytes) (stop.NoText n) few stops fine = absurd (none-some bytes (sym stops.1))
     by_text (Some bytes) (stop.LongText n) few stops fine = absurd (omega (arith, few, stops.1))
     by_text (Some bytes) (stop.ReadFault n) few stops fine = absurd (fine n refl)
+    by_text (Some bytes) (stop.BadJournal line) few stops fine = absurd stops
     by_text (Some bytes) stop.NoMemory few stops fine = refl
 
 -- What holds of each item holds of one in the middle.
@@ -77,16 +96,51 @@ module _ (text : List ℕ → Option (List ℕ)) (file : List ℕ) (plan : PlanR
   never_at_bytes bytes (stop.NoText n) stands start stops = absurd stops
   never_at_bytes bytes (stop.LongText n) stands start stops = absurd stops
   never_at_bytes bytes (stop.ReadFault n) stands start stops = absurd stops
+  never_at_bytes bytes (stop.BadJournal line) stands start stops = absurd stops
   never_at_bytes bytes stop.NoMemory stands start stops = refl
+
+  weaker : (max : ℕ) (P : List ℕ → Type 0) (o : Option (List ℕ)) → IsSomeAnd o (λ bytes. (length bytes ≤ max) × P bytes) → IsSomeAnd o (λ bytes. length bytes ≤ max)
+  weaker max P None never = never
+  weaker max P (Some bytes) both = both.0
+
+  -- Nor does anything else stop a judgement of a journal's text.
+  never_at_journal : (name : List ℕ) (journal : List Entry) (why : Stop) → IsSomeAnd (text name) (λ bytes. (length bytes ≤ journal_limit) × IsJournalText journal bytes)
+      → StopsAtJournal (Some text) name why → ((n : List ℕ) → why ≢ stop.ReadFault n) → why ≡ stop.NoMemory
+  never_at_journal name journal why trace (inl at) fine = never_stops text name journal_limit why (weaker journal_limit (IsJournalText journal) (text name) trace) at fine
+  never_at_journal name journal why trace (inr at) fine =
+      by_stop why (held_some text name at.bytes journal_limit (λ bytes. (length bytes ≤ journal_limit) × IsJournalText journal bytes) at.read trace).1 at.stops
+    where
+      by_stop : (w : Stop) → IsJournalText journal at.bytes → StopsAtJournalBytes at.bytes w → w ≡ stop.NoMemory
+      by_stop (stop.BadGraph error) stands stops = absurd stops
+      by_stop (stop.NoSource at) stands stops = absurd stops
+      by_stop (stop.NoText n) stands stops = absurd stops
+      by_stop (stop.LongText n) stands stops = absurd stops
+      by_stop (stop.ReadFault n) stands stops = absurd stops
+      by_stop (stop.BadJournal line) stands stops = absurd (stops.no_text journal stands)
+      by_stop stop.NoMemory stands stops = refl
+
+  never_before_verdict : (name : List ℕ) (journal : List Entry) (why : Stop) → IsSomeAnd (text file) (λ bytes. (length bytes ≤ file_limit) × PlanText bytes plan) → HasStart plan
+      → IsSomeAnd (text name) (λ bytes. (length bytes ≤ journal_limit) × IsJournalText journal bytes) → StopsBeforeVerdict (Some text) file name why → ((n : List ℕ) → why ≢ stop.ReadFault n) → why ≡ stop.NoMemory
+  never_before_verdict name journal why graph start trace (inl at) fine = never_stops text file file_limit why (weaker file_limit (λ bytes. PlanText bytes plan) (text file) graph) at fine
+  never_before_verdict name journal why graph start trace (inr (inl at)) fine =
+      never_at_bytes at.bytes why (held_some text file at.bytes file_limit (λ bytes. (length bytes ≤ file_limit) × PlanText bytes plan) at.read graph).1 start at.stops
+  never_before_verdict name journal why graph start trace (inr (inr at)) fine = never_at_journal name journal why trace at.stops fine
+
+  -- The verdict on the journal that is held is no break.
+  judged_well : (name : List ℕ) (journal : List Entry) (limit : ℕ) (verdict : Verdict) → IsSomeAnd (text file) (λ bytes. (length bytes ≤ file_limit) × PlanText bytes plan)
+      → IsSomeAnd (text name) (λ bytes. (length bytes ≤ journal_limit) × IsJournalText journal bytes)
+      → IsJudged (Some text) file name limit verdict → IsVerdict plan.top.net limit journal verdict
+  judged_well name journal limit verdict graph trace judged =
+      let stands = (held_some text file judged.graph.bytes file_limit (λ bytes. (length bytes ≤ file_limit) × PlanText bytes plan) judged.graph.read graph).1 in
+      let written = (held_some text name judged.text.bytes journal_limit (λ bytes. (length bytes ≤ journal_limit) × IsJournalText journal bytes) judged.text.read trace).1 in
+      let same_plan = one_plan judged.graph.bytes judged.plan plan judged.graph.stands stands in
+      let same_journal = one_journal judged.journal journal judged.text.bytes judged.text.stands written in
+      subst (λ (p : PlanRows). IsVerdict p.top.net limit journal verdict) same_plan (subst (λ (j : List Entry). IsVerdict judged.plan.top.net limit j verdict) same_journal judged.is)
 
   -- So nothing but a failure or want of memory stops the call.
   never_before : (why : Stop) → IsSomeAnd (text file) (λ bytes. (length bytes ≤ file_limit) × PlanText bytes plan) → HasStart plan
       → All (λ name. IsSomeAnd (text name) (λ bytes. length bytes ≤ text_limit)) plan.texts → StopsBefore (Some text) file why → ((n : List ℕ) → why ≢ stop.ReadFault n) → why ≡ stop.NoMemory
-  never_before why graph start named (inl at) fine = never_stops text file file_limit why (weaker (text file) graph) at fine
-    where
-      weaker : (o : Option (List ℕ)) → IsSomeAnd o (λ bytes. (length bytes ≤ file_limit) × PlanText bytes plan) → IsSomeAnd o (λ bytes. length bytes ≤ file_limit)
-      weaker None never = never
-      weaker (Some bytes) both = both.0
+  never_before why graph start named (inl at) fine = never_stops text file file_limit why (weaker file_limit (λ bytes. PlanText bytes plan) (text file) graph) at fine
   never_before why graph start named (inr (inl at)) fine =
       never_at_bytes at.bytes why (held_some text file at.bytes file_limit (λ bytes. (length bytes ≤ file_limit) × PlanText bytes plan) at.read graph).1 start at.stops
   never_before why graph start named (inr (inr at)) fine =
@@ -99,13 +153,44 @@ after_run why status fine (inl told) written = inl (told ∙ ap status_after fin
 after_run why status fine (inr (inl (also, failed))) written = absurd (written failed)
 after_run why status fine (inr (inr memory)) written = inr memory
 
-pub completes : (held : Held) (arguments : List (List ℕ)) (status : Status) (runs : List Run) → CallEnds held arguments status runs → IsAtHand held arguments → All (λ run. run_reason text_job run ≡ Fine) runs
-    → (IsReadFault status → ⊥) → status ≢ WriteFault → (status ≡ Done) ⊎ (status ≡ NoMemory)
-completes held arguments status runs (inr (inr (memory, none))) hand fine read write = inr memory
-completes held arguments status runs (inr (inl (same, none, never))) hand fine read write = absurd (none-some (run hand.file hand.limit) (sym never ∙ hand.asks))
-completes held arguments status runs (inl (file, limit, asks, inr ran)) hand fine read write =
+pub completes : (held : Held) (arguments : List (List ℕ)) (status : Status) (runs : List Run) (verdict : Option Verdict) → CallEnds held arguments status runs verdict → IsAtHand held arguments
+    → All (λ run. run_reason text_job run ≡ Fine) runs → (IsReadFault status → ⊥) → status ≢ WriteFault → (status ≡ Done) ⊎ (status ≡ NoMemory)
+completes held arguments status runs verdict (inr (inr (inr (memory, none, nothing)))) hand fine read write = inr memory
+completes held arguments status runs verdict (inr (inr (inl (same, none, nothing, never)))) hand fine read write = absurd (none-some (run hand.file hand.limit hand.journal) (sym never ∙ hand.asks))
+completes held arguments status runs verdict (inr (inl (file, name, limit, asks, ends, none))) hand fine read write = absurd (no_run_and_judgement arguments hand.file file name hand.limit limit hand.journal hand.asks asks)
+completes held arguments status runs verdict (inl (file, limit, journal, asks, inr ran, none)) hand fine read write =
     after_run (run_reason text_job ran.run) status (All-head (λ r. run_reason text_job r ≡ Fine) ran.run [] (subst (All (λ r. run_reason text_job r ≡ Fine)) ran.only fine)) ran.after write
-completes held arguments status runs (inl (file, limit, asks, inl stopped)) hand fine read write =
-    let stops : StopsBefore (Some hand.text) hand.file stopped.why = subst (λ h. StopsBefore h hand.file stopped.why) hand.specified (subst (λ f. StopsBefore held f stopped.why) (one_file arguments file hand.file limit hand.limit asks hand.asks) stopped.stops) in
+completes held arguments status runs verdict (inl (file, limit, journal, asks, inl stopped, none)) hand fine read write =
+    let stops : StopsBefore (Some hand.text) hand.file stopped.why =
+    subst (λ h. StopsBefore h hand.file stopped.why) hand.specified (subst (λ f. StopsBefore held f stopped.why) (one_file arguments file hand.file limit hand.limit journal hand.journal asks hand.asks) stopped.stops) in
     let memory = never_before hand.text hand.file hand.plan stopped.why hand.graph hand.source hand.named stops (λ n is. read (n, stopped.told ∙ ap status_of is)) in
     inr (stopped.told ∙ ap status_of memory)
+
+-- a verdict that is no break, and whose line didn't fail, is done
+after_verdict : (net : NetRows) (limit : ℕ) (journal : List Entry) (verdict : Verdict) (status : Status) → IsVerdict net limit journal verdict → ((place : ℕ) (why : Break) → ¬ IsVerdict net limit journal (Breaks place why))
+    → IsAfterVerdict verdict status → status ≢ WriteFault → (status ≡ Done) ⊎ (status ≡ NoMemory)
+after_verdict net limit journal Finished status is never (inl told) written = inl told
+after_verdict net limit journal Legal status is never (inl told) written = inl told
+after_verdict net limit journal (Breaks place why) status is never (inl told) written = absurd (never place why is)
+after_verdict net limit journal verdict status is never (inr (inl (also, failed))) written = absurd (written failed)
+after_verdict net limit journal verdict status is never (inr (inr memory)) written = inr memory
+
+pub judges : (held : Held) (arguments : List (List ℕ)) (status : Status) (runs : List Run) (verdict : Option Verdict) → CallEnds held arguments status runs verdict → CanBeJudged held arguments
+    → (IsReadFault status → ⊥) → status ≢ WriteFault → (status ≡ Done) ⊎ (status ≡ NoMemory)
+judges held arguments status runs verdict (inr (inr (inr (memory, none, nothing)))) can read write = inr memory
+judges held arguments status runs verdict (inr (inr (inl (same, none, nothing, never)))) can read write = absurd (none-some (judge can.file can.name can.limit) (sym never ∙ can.asks))
+judges held arguments status runs verdict (inl (file, limit, journal, asks, ends, none)) can read write = absurd (no_run_and_judgement arguments file can.file can.name limit can.limit journal asks can.asks)
+judges held arguments status runs verdict (inr (inl (file, name, limit, asks, inl stopped, none))) can read write =
+    let same = one_judgement arguments file name can.file can.name limit can.limit asks can.asks in
+    let stops : StopsBeforeVerdict (Some can.text) can.file can.name stopped.why =
+    subst (λ h. StopsBeforeVerdict h can.file can.name stopped.why) can.specified
+    (subst (λ n. StopsBeforeVerdict held can.file n stopped.why) same.1 (subst (λ f. StopsBeforeVerdict held f name stopped.why) same.0 stopped.stops)) in
+    let memory = never_before_verdict can.text can.file can.plan can.name can.journal stopped.why can.graph can.source can.trace stops (λ n is. read (n, stopped.told ∙ ap status_of is)) in
+    inr (stopped.told ∙ ap status_of memory)
+judges held arguments status runs verdict (inr (inl (file, name, limit, asks, inr ended, none))) can read write =
+    let same = one_judgement arguments file name can.file can.name limit can.limit asks can.asks in
+    let judged : IsJudged (Some can.text) can.file can.name can.limit ended.told =
+    subst (λ h. IsJudged h can.file can.name can.limit ended.told) can.specified
+    (subst (λ l. IsJudged held can.file can.name l ended.told) same.2 (subst (λ n. IsJudged held can.file n limit ended.told) same.1 (subst (λ f. IsJudged held f name limit ended.told) same.0 ended.judged))) in
+    let is = judged_well can.text can.file can.plan can.name can.journal can.limit ended.told can.graph can.trace judged in
+    after_verdict can.plan.top.net can.limit can.journal ended.told status is can.stands ended.after write

@@ -3,13 +3,15 @@ use Rattle.std.proofs.Common.{◌≡◌, inl, inr, ℕ, ◌<◌, ◌≤◌, List
 use Rattle.outside_io.specs.declared.sink.SinkFault.{SinkFault}
 use Rattle.outside_io.specs.declared.sink.SinkFault.TheVariants as fault
 use Rattle.outside_io.specs.Sink.{SinkState, Took, TookFront, Accepts, FailsOn, AcceptsFront}
-use Rattle.outside_io.proofs.Pieces.{took_all, writes_both}
+use Rattle.outside_io.proofs.Pieces.{took_all, took_nothing, writes_both}
+use Rattle.std.specs.Result.{IsOkAnd, IfOk}
 use Rattle.flow_run.specs.declared.status.Status.{Status}
-use Rattle.flow_run.specs.declared.status.Status.TheVariants.{BadGraph, NoSource, NoText, LongText}
+use Rattle.flow_run.specs.declared.status.Status.TheVariants.{BadGraph, NoSource, NoText, LongText, BadJournal}
 use Rattle.flow_run.specs.declared.stop.Stop.{Stop}
 use Rattle.flow_run.specs.declared.stop.Stop.TheVariants as stop
 use Rattle.flow_run.specs.Requests.{Held, CountsStop}
-use Rattle.flow_run.specs.Answers.{status_of, Delivered, CutShort, Delivers, IsReadFault, HaveRead}
+use Rattle.flow_run.specs.Stopping.{status_of}
+use Rattle.flow_run.specs.Answers.{Delivered, CutShort, Delivers, IsReadFault, HaveRead}
 
 -- Bytes that were taken where nothing was held back before.
 front_taken : (before after : SinkState) (bytes : List ℕ) → before.held_back ≡ [] → TookFront before.taken after.taken (before.held_back ++ bytes) → TookFront before.taken after.taken bytes
@@ -41,6 +43,16 @@ delivered before after bytes none_before none_after accepted = record {
   nothing_held = none_after;
   faults = accepted.faults;
 }
+
+-- Where nothing was put for want of memory.
+pub nothing_delivered : (state : SinkState) (bytes : List ℕ) → state.held_back ≡ [] → Delivers state state bytes (Err fault.NoMemory)
+nothing_delivered state bytes none = (
+  record {
+    took = record { lost = bytes; but = record { front = []; parts = refl; took = took_nothing state.taken state.taken refl } };
+    nothing_held = none;
+  },
+  omega arith,
+)
 
 -- What a flush answers.
 pub record Flushes (before after : SinkState) (result : Result (Unit {0}) SinkFault) : Type 0 where
@@ -81,4 +93,10 @@ module _ {F : Type 0} (held : F → Held) (faults : F → ℕ) (old new : F) whe
   read_stopped (stop.NoText n) stays same = read_well (NoText n) stays same (λ (name, is). absurd (cc))
   read_stopped (stop.LongText n) stays same = read_well (LongText n) stays same (λ (name, is). absurd (cc))
   read_stopped (stop.ReadFault n) stays rises = record { stays = stays; no_fewer = omega (arith, rises); cause = λ _. rises; told = inr (inl (n, refl)) }
+  read_stopped (stop.BadJournal line) stays same = read_well (BadJournal line) stays same (λ (name, is). absurd (cc))
   read_stopped stop.NoMemory stays no_fewer = record { stays = stays; no_fewer = no_fewer; cause = λ (name, is). absurd (cc); told = inr (inr refl) }
+
+-- What holds of a line that was made holds of what it says.
+pub made_line : {E : Type 0} (line : Result (List ℕ) E) (text : List ℕ) (P : List ℕ → Type 0) → IfOk line (λ made. made ≡ text) → IsOkAnd line P → P text
+made_line (Ok made) text P says holds = subst P says holds
+made_line (Err error) text P says holds = absurd holds

@@ -7,3 +7,4 @@ pub mod Ending
 pub mod Completing
 pub mod CallExamples
 pub mod StopExamples
+pub mod JudgeExamples

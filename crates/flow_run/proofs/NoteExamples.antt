@@ -4,7 +4,7 @@ use Rattle.std.specs.Fmt.{digits}
 use Rattle.graph_plans.specs.declared.spots.Spot.TheVariants.{File, Sem, Task, Module, ModuleSem, ModuleTask}
 use Rattle.graph_file.specs.declared.refusals.Kind.TheVariants as kind
 use Rattle.graph_file.specs.declared.refusals.GraphError.TheVariants as error
-use Rattle.journal_rules.specs.declared.entry.Why.TheVariants.{Long as TooLong, Wide, Unmet, Inner, OverRelease}
+use Rattle.journal_rules.specs.declared.entry.Why.TheVariants.{Long as TooLong, Wide, Unmet, OverRelease}
 use Rattle.nested_runs.specs.declared.reasons.Reason.TheVariants as reason
 use Rattle.flow_run.specs.Reasons.{reason_line}
 use Rattle.flow_run.specs.declared.status.Status.{Status}

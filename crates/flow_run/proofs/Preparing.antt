@@ -8,7 +8,6 @@ use Rattle.graph_file.specs.declared.refusals.GraphError.TheVariants.{NoMemory a
 use Rattle.graph_plans.specs.PlanRows.{PlanRows, IsPlan}
 use Rattle.graph_file.specs.PlanText.{IsRefused}
 use Rattle.text_ops.specs.Lines.{normal, is_normal, line_end}
-use Rattle.text_ops.specs.Values.{value_limit}
 use Rattle.text_ops.proofs.LineLemmas.{IsNormal-normal}
 use Rattle.text_tasks.specs.ValueTexts.{IsValueText}
 use Rattle.text_tasks.specs.GraphWork.{greatest_limit, IsWork, first_work}

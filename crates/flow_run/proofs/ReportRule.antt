@@ -1,4 +1,4 @@
--- In a legal run each End has a value: the report tells of each task that has ended with the line of one that has.
+-- In a legal run each End has a value: the report tells of each task that has ended_task with the line of one that has.
 use Rattle.std.proofs.Common.{◌≡◌, ℕ, zero, suc, ◌+◌, Bool, true, false, List, [], ◌∷◌, ◌++◌, length, Option, Some, None, sym, refl, ap, ◌∙◌, subst, arith}
 use Rattle.std.specs.Prelude.{◌==◌, if◌then◌else◌, slice_get, IsSome, IsSomeAnd}
 use Rattle.std.specs.Option.{option_map_or, option_and_then}
@@ -17,7 +17,7 @@ use Rattle.run_frame.specs.NestedRule.{NestedRule, InnerEnd, job_of, journal_of}
 use Rattle.text_tasks.specs.declared.item.Item.{Item}
 use Rattle.text_tasks.specs.declared.job.TextJob.{TextJob}
 use Rattle.text_tasks.specs.JobMeaning.{text_job}
-use Rattle.run_frame.specs.LastEnds.{ended, ended_at, is_end_of, last_before, last_end, last_value}
+use Rattle.run_frame.specs.LastEnds.{ended_task, ended_at, is_end_of, last_before, last_end, last_value}
 use Rattle.run_frame.proofs.EndsLemmas.{last_before_more}
 
 -- The last of a task's Ends is one.
@@ -55,7 +55,7 @@ some_inside P None o p meets = absurd meets
 some_inside P (Some a) o p meets = some_within (P a) o p meets
 
 module _ (job : TextJob) (journal : List Entry) (values : List (ValueRow Item)) (inner : ℕ → Option (FrameRun TextJob Item)) where
-  end_has_value : EachAfter (WorkRule text_job job values inner) journal → EachAfter (NestedRule text_job job values inner) journal → (n t : ℕ) (o : Option Entry) → slice_get journal n ≡ o → option_map_or (λ task. task == t) (option_and_then (ended journal) o) false ≡ true → IsSome (value_at values n)
+  end_has_value : EachAfter (WorkRule text_job job values inner) journal → EachAfter (NestedRule text_job job values inner) journal → (n t : ℕ) (o : Option Entry) → slice_get journal n ≡ o → option_map_or (λ task. task == t) (option_and_then (ended_task journal) o) false ≡ true → IsSome (value_at values n)
   end_has_value work nested n t None at is = absurd (false≢true is)
   end_has_value work nested n t (Some (Start task cause ins)) at is = absurd (false≢true is)
   end_has_value work nested n t (Some (Fault start why)) at is = absurd (false≢true is)

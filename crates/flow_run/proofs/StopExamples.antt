@@ -17,7 +17,7 @@ use Rattle.flow_run.specs.declared.status.Status.TheVariants.{Done, WriteFault}
 use Rattle.flow_run.specs.declared.stop.Stop.{Stop}
 use Rattle.flow_run.specs.declared.stop.Stop.TheVariants as stop
 use Rattle.flow_run.specs.Requests.{Held, StopsAtName, IsTextOf, TextsAre, StopsAtText, HasStart, HasPlan, IsRequestedJob, IsAtHand, CountsReads, CountsStop, text_limit}
-use Rattle.flow_run.specs.Answers.{Run, IsAfterRun, RanOnce, KeptOnce, names_in, RunEnds, Reported, Delivers, HaveRead, reports}
+use Rattle.flow_run.specs.Answers.{Run, IsAfterRun, RanOnce, KeptOnce, names_in, RunEnds, Reported, Delivers, HaveRead, run_texts}
 
 abbrev g : List ℕ
 g = 0 ∷ []
@@ -125,8 +125,8 @@ sink taken faults = record { taken = Some taken; held_back = []; faults = faults
 abbrev of_memory : SinkState → SinkState
 of_memory state = state
 
-module _ (run : Run) (two : reports (run ∷ []) ≡ 7 ∷ 8 ∷ []) where
-  whole_report : Reported of_memory (sink (1 ∷ []) 0) (sink (1 ∷ 7 ∷ 8 ∷ []) 0) Done (run ∷ []) true
+module _ (run : Run) (two : run_texts false (run ∷ []) ≡ 7 ∷ 8 ∷ []) where
+  whole_report : Reported of_memory (sink (1 ∷ []) 0) (sink (1 ∷ 7 ∷ 8 ∷ []) 0) Done false (run ∷ []) true
   whole_report = record {
     front = record { lost = []; but = record { front = 7 ∷ 8 ∷ []; parts = two; took = refl } };
     whole = λ written. ap (append_known (Some (1 ∷ []))) (sym two);
@@ -140,12 +140,12 @@ module _ (run : Run) (two : reports (run ∷ []) ≡ 7 ∷ 8 ∷ []) where
     nothing_to_write = λ none. absurd (cc);
   }
 
-  prefix_beside_done : ¬ Reported of_memory (sink [] 0) (sink (7 ∷ []) 0) Done (run ∷ []) true
+  prefix_beside_done : ¬ Reported of_memory (sink [] 0) (sink (7 ∷ []) 0) Done false (run ∷ []) true
   prefix_beside_done is =
       let whole : Some (7 ∷ []) ≡ Some (7 ∷ 8 ∷ []) = is.whole refl ∙ ap (append_known (Some [])) two in
       absurd (omega (arith, ap known_length whole))
 
-  prefix_beside_a_fault : Reported of_memory (sink [] 0) (sink (7 ∷ []) 1) WriteFault (run ∷ []) false
+  prefix_beside_a_fault : Reported of_memory (sink [] 0) (sink (7 ∷ []) 1) WriteFault false (run ∷ []) false
   prefix_beside_a_fault = record {
     front = record { lost = 8 ∷ []; but = record { front = 7 ∷ []; parts = two; took = refl } };
     whole = λ written. absurd (cc);
@@ -159,7 +159,7 @@ module _ (run : Run) (two : reports (run ∷ []) ≡ 7 ∷ 8 ∷ []) where
     nothing_to_write = λ none. absurd (cc);
   }
 
-  more_than_the_report : ¬ Reported of_memory (sink [] 0) (sink (7 ∷ 8 ∷ 9 ∷ []) 1) WriteFault (run ∷ []) false
+  more_than_the_report : ¬ Reported of_memory (sink [] 0) (sink (7 ∷ 8 ∷ 9 ∷ []) 1) WriteFault false (run ∷ []) false
   more_than_the_report is =
       let took : Some (7 ∷ 8 ∷ 9 ∷ []) ≡ Some is.front.but.front = is.front.but.took in
       let parts : 7 ∷ 8 ∷ [] ≡ is.front.but.front ++ is.front.lost = sym two ∙ is.front.but.parts in

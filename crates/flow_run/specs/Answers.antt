@@ -1,38 +1,33 @@
 -- How a call of the program ends: the status, what ran, and what was put.
-use Rattle.std.specs.Prelude.{◌≡◌, ◌⊎◌, ℕ, ◌<◌, ◌≤◌, Bool, true, false, List, [], ◌∷◌, Option, Some, None, Result, Ok, Err}
+use Rattle.std.specs.Prelude.{◌≡◌, ◌⊎◌, ℕ, ◌<◌, ◌≤◌, Bool, true, false, List, [], ◌∷◌, ◌++◌, Option, Some, None, Result, Ok, Err}
 use Rattle.std.specs.List.{flat_map}
 use Rattle.outside_io.specs.declared.sink.SinkFault.{SinkFault}
 use Rattle.outside_io.specs.declared.sink.SinkFault.TheVariants as fault
 use Rattle.outside_io.specs.Sink.{SinkState, Took, TookFront}
 use Rattle.run_frame.specs.declared.run.FrameRun.{FrameRun}
 use Rattle.run_frame.specs.Legal.{IsKept}
-use Rattle.run_frame.specs.NestedRule.{job_of}
+use Rattle.run_frame.specs.NestedRule.{job_of, journal_of}
 use Rattle.text_tasks.specs.declared.item.Item.{Item}
 use Rattle.text_tasks.specs.declared.job.TextJob.{TextJob}
 use Rattle.text_tasks.specs.JobMeaning.{names_of, text_job}
 use Rattle.flow_run.specs.declared.status.Status.{Status}
-use Rattle.flow_run.specs.declared.status.Status.TheVariants.{Done, BadWords, BadGraph, NoSource, NoText, LongText, ReadFault, WriteFault, Limit, TaskFault, Stuck, NoMemory}
-use Rattle.flow_run.specs.declared.stop.Stop.{Stop}
+use Rattle.flow_run.specs.declared.status.Status.TheVariants.{Done, BadWords, ReadFault, WriteFault, Limit, TaskFault, Stuck, NoMemory}
 use Rattle.flow_run.specs.declared.stop.Stop.TheVariants as stop
-use Rattle.command_line.specs.Requests.{asked_by, run}
+use Rattle.command_line.specs.Requests.{Asked, asked_by, run, judge}
+use Rattle.legal_run.specs.declared.verdict.Verdict.{Verdict}
+use Rattle.journal_text.specs.declared.version.Version.TheVariants.{Two}
+use Rattle.journal_text.specs.JournalText.{journal_text}
 use Rattle.nested_runs.specs.Reasons.{run_reason}
 use Rattle.nested_runs.specs.declared.reasons.Reason.{Reason}
 use Rattle.nested_runs.specs.declared.reasons.Reason.TheVariants as reason
 use Rattle.flow_run.specs.Requests.{Held, IsRequestedJob, StopsBefore}
 use Rattle.flow_run.specs.Output.{report_of}
+use Rattle.flow_run.specs.Stopping.{StoppedBefore}
+use Rattle.flow_run.specs.Judging.{JudgeEnds, verdict_text}
 
 -- a run of text jobs
 abbrev pub Run : Type 0
 Run = FrameRun TextJob Item
-
--- the status that tells why a call stopped before a run
-abbrev pub status_of : Stop → Status
-status_of (stop.BadGraph error) = BadGraph error
-status_of (stop.NoSource spot) = NoSource spot
-status_of (stop.NoText name) = NoText name
-status_of (stop.LongText name) = LongText name
-status_of (stop.ReadFault name) = ReadFault name
-status_of stop.NoMemory = NoMemory
 
 -- the status of a run that came to its end for a reason, where nothing else went wrong
 abbrev pub status_after : Reason → Status
@@ -62,37 +57,46 @@ pub record KeptOnce (job : TextJob) (runs : List Run) (why : Reason) : Type 0 wh
   pub same : job_of run ≡ job
   pub reason : run_reason text_job run ≡ why
 
--- no run was begun
-pub record StoppedBefore (Stops : Stop → Type 0) (status : Status) (runs : List Run) : Type 0 where
-  pub why : Stop
-  pub stops : Stops why
-  pub told : status ≡ status_of why
-  pub none : runs ≡ []
-
 -- How a call ends that is to run a file: before a run, for a reason that the status tells, or after the run that
 -- the file asks for.
 abbrev pub RunEnds : Held → List ℕ → ℕ → Status → List Run → Type 0
-RunEnds held file limit status runs = StoppedBefore (StopsBefore held file) status runs ⊎ RanOnce (IsRequestedJob held file limit) status runs
+RunEnds held file limit status runs = StoppedBefore (StopsBefore held file) status (runs ≡ []) ⊎ RanOnce (IsRequestedJob held file limit) status runs
 
 -- how a job's run ends: without memory, or after it
 abbrev pub JobEnds : TextJob → Status → List Run → Type 0
-JobEnds job status runs = StoppedBefore (λ why. why ≡ stop.NoMemory) status runs ⊎ RanOnce (λ of. of ≡ job) status runs
+JobEnds job status runs = StoppedBefore (λ why. why ≡ stop.NoMemory) status (runs ≡ []) ⊎ RanOnce (λ of. of ≡ job) status runs
 
--- how a call ends: the command line asks for a run of a file, or for nothing, or there is no memory to read it
-abbrev pub CallEnds : Held → List (List ℕ) → Status → List Run → Type 0
-CallEnds held arguments status runs =
-    ((file : List ℕ) × (limit : ℕ) × (asked_by arguments ≡ Some (run file limit)) × RunEnds held file limit status runs)
-    ⊎ ((status ≡ BadWords) × (runs ≡ []) × (asked_by arguments ≡ None))
-    ⊎ ((status ≡ NoMemory) × (runs ≡ []))
+-- How a call ends: the command line asks for a run of a file, or for a judgement of a journal, or for nothing, or there is
+-- no memory to read it.
+abbrev pub CallEnds : Held → List (List ℕ) → Status → List Run → Option Verdict → Type 0
+CallEnds held arguments status runs verdict =
+    ((file : List ℕ) × (limit : ℕ) × (journal : Bool) × (asked_by arguments ≡ Some (run file limit journal)) × RunEnds held file limit status runs × (verdict ≡ None))
+    ⊎ ((file : List ℕ) × (name : List ℕ) × (limit : ℕ) × (asked_by arguments ≡ Some (judge file name limit)) × JudgeEnds held file name limit status verdict × (runs ≡ []))
+    ⊎ ((status ≡ BadWords) × (runs ≡ []) × (verdict ≡ None) × (asked_by arguments ≡ None))
+    ⊎ ((status ≡ NoMemory) × (runs ≡ []) × (verdict ≡ None))
 
 -- the names of the tasks of the graph that was run
 abbrev pub names_in : List Run → List (List ℕ)
 names_in [] = []
 names_in (first ∷ runs) = names_of (job_of first)
 
--- what is put on the output for these runs
-abbrev pub reports : List Run → List ℕ
-reports runs = flat_map report_of runs
+-- what is written of a run: its journal in place of its report, or its report
+abbrev pub run_text : Bool → Run → List ℕ
+run_text true kept = journal_text Two (journal_of kept)
+run_text false kept = report_of kept
+
+-- what is written of these runs
+abbrev pub run_texts : Bool → List Run → List ℕ
+run_texts journal runs = flat_map (run_text journal) runs
+
+-- whether journals are asked for in place of reports
+abbrev pub wants_journal : Option Asked → Bool
+wants_journal (Some (run file limit journal)) = journal
+wants_journal asked = false
+
+-- what is put on the output: what is written of the runs that are kept, and of the verdict
+abbrev pub output_of : List (List ℕ) → List Run → Option Verdict → List ℕ
+output_of arguments runs verdict = run_texts (wants_journal (asked_by arguments)) runs ++ verdict_text verdict
 
 -- the whole of these bytes was taken, and nothing is held back
 pub record Delivered (before after : SinkState) (bytes : List ℕ) : Type 0 where
@@ -111,18 +115,23 @@ Delivers before after bytes (Ok done) = Delivered before after bytes
 Delivers before after bytes (Err fault.Failed) = CutShort before after bytes × (before.faults < after.faults)
 Delivers before after bytes (Err fault.NoMemory) = CutShort before after bytes × (before.faults ≤ after.faults)
 
--- What a command has done to the output when it ends. Where no run is kept it is as it was.
-pub record Reported {S : Type 0} (state : S → SinkState) (old new : S) (status : Status) (runs : List Run) (written : Bool) : Type 0 where
-  pub front : TookFront (state old).taken (state new).taken (reports runs)
-  pub whole : written ≡ true → Took (state old).taken (state new).taken (reports runs)
+-- What a command has done to the output when it ends, on which it was to put these bytes. Where it came to nothing the
+-- output is as it was.
+pub record HasWritten {S : Type 0} (state : S → SinkState) (old new : S) (status : Status) (Nothing : Type 0) (bytes : List ℕ) (written : Bool) : Type 0 where
+  pub front : TookFront (state old).taken (state new).taken bytes
+  pub whole : written ≡ true → Took (state old).taken (state new).taken bytes
   pub nothing_held : (state new).held_back ≡ []
   pub no_fault : written ≡ true → (state new).faults ≡ (state old).faults
   pub cause : written ≡ false → ((state old).faults < (state new).faults) ⊎ (status ≡ NoMemory)
   pub no_fewer : (state old).faults ≤ (state new).faults
   pub done : status ≡ Done → written ≡ true
   pub write_fault : status ≡ WriteFault → written ≡ false
-  pub untouched : runs ≡ [] → new ≡ old
-  pub nothing_to_write : runs ≡ [] → written ≡ true
+  pub untouched : Nothing → new ≡ old
+  pub nothing_to_write : Nothing → written ≡ true
+
+-- what a command has done to the output that keeps these runs
+abbrev pub Reported : {S : Type 0} → (S → SinkState) → S → S → Status → Bool → List Run → Bool → Type 0
+Reported state old new status journal runs written = HasWritten state old new status (runs ≡ []) (run_texts journal runs) written
 
 -- a read failed, and the status tells on which name
 abbrev pub IsReadFault : Status → Type 0

@@ -1,7 +1,7 @@
 -- The exit codes.
 use Rattle.std.specs.Prelude.{ℕ}
 use Rattle.flow_run.specs.declared.status.Status.{Status}
-use Rattle.flow_run.specs.declared.status.Status.TheVariants.{Done, BadWords, BadGraph, NoSource, NoText, LongText, ReadFault, WriteFault, Limit, TaskFault, Stuck, NoMemory}
+use Rattle.flow_run.specs.declared.status.Status.TheVariants.{Done, BadWords, BadGraph, NoSource, NoText, LongText, ReadFault, WriteFault, Limit, TaskFault, Stuck, NotLegal, BadJournal, NoMemory}
 
 -- 0 where the command did what it was to do; another number for each kind of reason that it didn't
 abbrev pub code_of : Status → ℕ
@@ -16,4 +16,6 @@ code_of WriteFault = 7
 code_of (Limit path limit) = 8
 code_of (TaskFault path why) = 9
 code_of (Stuck path) = 10
+code_of (NotLegal place why) = 11
+code_of (BadJournal line) = 12
 code_of NoMemory = 13

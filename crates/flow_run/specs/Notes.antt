@@ -8,7 +8,7 @@ use Rattle.graph_file.specs.declared.refusals.GraphError.{GraphError}
 use Rattle.graph_file.specs.declared.refusals.GraphError.TheVariants as error
 use Rattle.flow_run.specs.Reasons.{fault_text, limit_text, stuck_text}
 use Rattle.flow_run.specs.declared.status.Status.{Status}
-use Rattle.flow_run.specs.declared.status.Status.TheVariants.{Done, BadWords, BadGraph, NoSource, NoText, LongText, ReadFault, WriteFault, Limit, TaskFault, Stuck, NoMemory}
+use Rattle.flow_run.specs.declared.status.Status.TheVariants.{Done, BadWords, BadGraph, NoSource, NoText, LongText, ReadFault, WriteFault, Limit, TaskFault, Stuck, NotLegal, BadJournal, NoMemory}
 
 -- A place in a graph file, with its numbers in decimal.
 abbrev pub spot_text : Spot → List ℕ
@@ -56,4 +56,6 @@ note_line names WriteFault = codes "flow: write fault\n"
 note_line names (Limit path limit) = codes "flow: " ++ limit_text names path limit ++ codes "\n"
 note_line names (TaskFault path why) = codes "flow: " ++ fault_text names path why ++ codes "\n"
 note_line names (Stuck path) = codes "flow: " ++ stuck_text names path ++ codes "\n"
+note_line names (NotLegal place why) = codes "flow: not legal at " ++ decimal place ++ codes "\n"
+note_line names (BadJournal line) = codes "flow: bad journal line " ++ decimal line ++ codes "\n"
 note_line names NoMemory = codes "flow: no memory\n"

@@ -1,5 +1,5 @@
 -- What a call of the program asks for, and why it stops before a run.
-use Rattle.std.specs.Prelude.{◌≡◌, ◌⊎◌, ℕ, ◌<◌, ◌≤◌, List, [], ◌∷◌, ◌++◌, length, All, Option, Some, None, IfSome, IsSomeAnd, Result, Ok, Err}
+use Rattle.std.specs.Prelude.{◌≡◌, ◌⊎◌, ℕ, ◌<◌, ◌≤◌, Bool, List, [], ◌∷◌, ◌++◌, length, All, Option, Some, None, IfSome, IsSomeAnd, Result, Ok, Err}
 use Rattle.graph_plans.specs.PlanRows.{PlanRows}
 use Rattle.graph_file.specs.PlanText.{PlanText, IsRefused}
 use Rattle.graph_plans.specs.Sources.{NoSourceAnswer}
@@ -121,15 +121,16 @@ abbrev pub CountsReads : {A : Type 0} → ℕ → ℕ → Result A Stop → Type
 CountsReads before after (Ok read) = after ≡ before
 CountsReads before after (Err stop) = CountsStop stop before after
 
--- What the command line asks for can be had whole: the source specifies what it holds; the file has no more bytes than may
+-- The run that the command line asks for can be had whole: the source specifies what it holds; the file has no more bytes than may
 -- be read, and stands for a plan with a task to begin with, or without tasks; and each text that the plan names is
 -- held, with no more bytes than may be read.
 pub record IsAtHand (held : Held) (arguments : List (List ℕ)) : Type 0 where
   pub file : List ℕ
   pub limit : ℕ
+  pub journal : Bool
   pub text : List ℕ → Option (List ℕ)
   pub plan : PlanRows
-  pub asks : asked_by arguments ≡ Some (run file limit)
+  pub asks : asked_by arguments ≡ Some (run file limit journal)
   pub specified : held ≡ Some text
   pub graph : IsSomeAnd (text file) (λ bytes. (length bytes ≤ file_limit) × PlanText bytes plan)
   pub source : HasStart plan

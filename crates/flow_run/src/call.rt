@@ -2,18 +2,22 @@
 ghost use Rattle.std.specs.Prelude.{◌≡◌, ◌≢◌, ◌⊎◌, ◌≤◌, ◌<◌, [], true, false, map, All, IfOk};
 ghost use Rattle.std.specs.String.{string_bytes};
 ghost use Rattle.outside_io.specs.Sink.{Took, TookFront, Writes};
-ghost use Rattle.command_line.specs.Requests.{greatest_limit};
+ghost use Rattle.command_line.specs.Requests.{greatest_limit_option};
 ghost use Rattle.nested_runs.specs.Reasons.{run_reason};
 ghost use Rattle.text_tasks.specs.JobMeaning.{text_job, IsTextJob};
 ghost use Rattle.flow_run.specs.Requests.{IsAtHand};
-ghost use Rattle.flow_run.specs.Answers.{CallEnds, Delivers, HaveRead, IsReadFault, JobEnds, KeptOnce, Reported, RunEnds, names_in, reports, status_after};
+ghost use Rattle.flow_run.specs.Answers.{CallEnds, Delivers, HasWritten, HaveRead, IsReadFault, JobEnds, KeptOnce, Reported, RunEnds, names_in, output_of, run_text, run_texts, status_after};
+ghost use Rattle.flow_run.specs.Judging.{CanBeJudged};
 ghost use Rattle.flow_run.specs.Notes.{note_line};
 
+use super::judging::judge_file;
 use super::note::put_note;
 use super::prepare::prepare;
 use super::report::put_report;
 use super::status::{Noted, Status};
-use command_line::{ArgumentsError, Run, read_arguments};
+use command_line::{ArgumentsError, Request, Run, read_arguments};
+use journal_text::print_journal;
+use legal_run::Verdict;
 use nested_runs::{Reason, reason_of};
 use outside_io::{Bytes, List, NoMemory, Sink, SinkFault, Texts};
 use run_frame::{FrameRun, run_alone};
@@ -29,16 +33,19 @@ pub struct Outcome {
     pub status: Status,
     /// The runs that were run to their end.
     pub runs: List<FrameRun<TextJob>>,
+    /// The judge's verdict, where one was come to.
+    pub verdict: Option<Verdict>,
     /// The watchers, as they were handed in.
     pub watchers: Vec<Box<dyn Watch + Send>>,
-    /// Whether the whole report was written, or there was none to write. Else the output has a prefix of it.
+    /// Whether all that was to be written was written, or nothing was. Else the output has a prefix of it.
     pub written: bool,
     /// Whether the line of the status was written.
     pub noted: Noted,
 }
 
 /// Does what the words ask for: `run FILE` reads the graph file of this name and the texts that it names, runs
-/// the graph to its end, and writes the run's report on `out`. The line of the status goes to `notes`.
+/// the graph to its end, and writes the run's report on `out`, or with `--journal` its journal; `judge FILE JOURNAL` reads
+/// the journal file of that name besides, and writes the judge's verdict. The line of the status goes to `notes`.
 pub fn flow_main<F: Texts, S: Sink, N: Sink>(
     alloc: Global,
     words: &[String],
@@ -49,18 +56,24 @@ pub fn flow_main<F: Texts, S: Sink, N: Sink>(
 ) -> Outcome
     requires nothing_held_on_out { (S.state out.old).held_back ≡ [] }
     requires nothing_held_on_notes { (N.state notes.old).held_back ≡ [] }
-    // The status has its cause, and the kept run is one legal and complete run of the graph that FILE holds.
-    ensures ends { CallEnds (F.held texts.old) (map string_bytes words.now) result.status result.runs }
+    // The status has its cause; the kept run is one legal and complete run of the graph that FILE holds, and the verdict
+    // that on the journal that JOURNAL holds.
+    ensures ends { CallEnds (F.held texts.old) (map string_bytes words.now) result.status result.runs result.verdict }
     // Where what the words ask for is at hand, the run ends fine and nothing fails, all is done.
     ensures completes { IsAtHand (F.held texts.old) (map string_bytes words.now) → All (λ run. run_reason text_job run ≡ Reason.Fine) result.runs →
         F.faults texts.new ≡ F.faults texts.old → (S.state out.new).faults ≡ (S.state out.old).faults →
         (result.status ≡ Status.Done) ⊎ (result.status ≡ Status.NoMemory) }
-    // The output took the report of the kept run, or a prefix of it. Where no run is kept it is left alone.
-    ensures output { TookFront (S.state out.old).taken (S.state out.new).taken (reports result.runs) }
-    ensures whole { result.written ≡ true → Took (S.state out.old).taken (S.state out.new).taken (reports result.runs) }
+    // Where the journal that is to be judged is at hand, breaks no rule and nothing fails, all is done.
+    ensures judges { CanBeJudged (F.held texts.old) (map string_bytes words.now) →
+        F.faults texts.new ≡ F.faults texts.old → (S.state out.new).faults ≡ (S.state out.old).faults →
+        (result.status ≡ Status.Done) ⊎ (result.status ≡ Status.NoMemory) }
+    // The output took the report or the journal of the kept run, or the verdict's line, or a prefix of it. Where no run is
+    // kept and no verdict was come to, it is left alone.
+    ensures output { TookFront (S.state out.old).taken (S.state out.new).taken (output_of (map string_bytes words.now) result.runs result.verdict) }
+    ensures whole { result.written ≡ true → Took (S.state out.old).taken (S.state out.new).taken (output_of (map string_bytes words.now) result.runs result.verdict) }
     ensures nothing_held { (S.state out.new).held_back ≡ [] }
-    ensures out_untouched { result.runs ≡ [] → out.new ≡ out.old }
-    ensures nothing_to_write { result.runs ≡ [] → result.written ≡ true }
+    ensures out_untouched { result.runs ≡ [] → result.verdict ≡ None → out.new ≡ out.old }
+    ensures nothing_to_write { result.runs ≡ [] → result.verdict ≡ None → result.written ≡ true }
     // The whole was written without a failure; or a write failed, or an allocation.
     ensures written { result.written ≡ true → (S.state out.new).faults ≡ (S.state out.old).faults }
     ensures not_written { result.written ≡ false → ((S.state out.old).faults < (S.state out.new).faults) ⊎ (result.status ≡ Status.NoMemory) }
@@ -87,12 +100,14 @@ pub fn flow_main<F: Texts, S: Sink, N: Sink>(
     let Ended {
         status,
         runs,
+        verdict,
         written,
     } = answer(alloc, words, texts, out);
     let noted = put_note(alloc, notes, names_in(runs.as_slice()), &status);
     Outcome {
         status,
         runs,
+        verdict,
         watchers,
         written,
         noted,
@@ -100,22 +115,24 @@ pub fn flow_main<F: Texts, S: Sink, N: Sink>(
 }
 
 // How a command ended, apart from its note.
-struct Ended {
-    status: Status,
-    runs: List<FrameRun<TextJob>>,
-    written: bool,
+pub(crate) struct Ended {
+    pub status: Status,
+    pub runs: List<FrameRun<TextJob>>,
+    pub verdict: Option<Verdict>,
+    pub written: bool,
 }
 
 // Does what the words ask for.
 fn answer<F: Texts, S: Sink>(alloc: Global, words: &[String], texts: &mut F, out: &mut S) -> Ended
     requires { (S.state out.old).held_back ≡ [] }
-    ensures ends { CallEnds (F.held texts.old) (map string_bytes words.now) result.status result.runs }
-    ensures reported { Reported S.state out.old out.new result.status result.runs result.written }
+    ensures ends { CallEnds (F.held texts.old) (map string_bytes words.now) result.status result.runs result.verdict }
+    ensures told { HasWritten S.state out.old out.new result.status ((result.runs ≡ []) × (result.verdict ≡ None)) (output_of (map string_bytes words.now) result.runs result.verdict) result.written }
     ensures read { HaveRead F.held F.faults texts.old texts.new result.status }
     ensures texts_untouched { result.status ≡ Status.BadWords → texts.new ≡ texts.old }
 {
     match read_arguments(alloc, words) {
-        Ok(run) => run_file(alloc, run, texts, out),
+        Ok(Request::Run(run)) => run_file(alloc, run, texts, out),
+        Ok(Request::Judge(judge)) => judge_file(alloc, judge, texts, out),
         Err(ArgumentsError::Refused) => stopped(alloc, Status::BadWords),
         Err(ArgumentsError::NoMemory) => stopped(alloc, Status::NoMemory),
     }
@@ -123,53 +140,59 @@ fn answer<F: Texts, S: Sink>(alloc: Global, words: &[String], texts: &mut F, out
 
 // The command `run`.
 fn run_file<F: Texts, S: Sink>(alloc: Global, run: Run<'_>, texts: &mut F, out: &mut S) -> Ended
-    requires limit { run.limit ≤ greatest_limit }
+    requires limit { run.limit ≤ greatest_limit_option }
     requires nothing_held { (S.state out.old).held_back ≡ [] }
     ensures ends { RunEnds (F.held texts.old) run.entry.file.now run.entry.limit result.status result.runs }
-    ensures reported { Reported S.state out.old out.new result.status result.runs result.written }
+    ensures reported { Reported S.state out.old out.new result.status run.entry.journal result.runs result.written }
+    ensures no_verdict { result.verdict ≡ None }
     ensures read { HaveRead F.held F.faults texts.old texts.new result.status }
 {
     match prepare(alloc, texts, run.file.as_bytes(), run.limit) {
-        Ok(job) => run_and_report(alloc, job, out),
+        Ok(job) => run_and_report(alloc, job, run.journal, out),
         Err(stop) => stopped(alloc, Status::of(stop)),
     }
 }
 
-// An end before any run.
-fn stopped(alloc: Global, status: Status) -> Ended
-    ensures { result ≡ record { status = status; runs = []; written = true } }
+/// An end before any run and any verdict.
+pub(crate) fn stopped(alloc: Global, status: Status) -> Ended
+    ensures { result ≡ record { status = status; runs = []; verdict = None; written = true } }
 {
     Ended {
         status,
         runs: List::new(alloc),
+        verdict: None,
         written: true,
     }
 }
 
-// Runs the job and writes the report of its run.
-fn run_and_report<S: Sink>(alloc: Global, job: TextJob, out: &mut S) -> Ended
+// Runs the job and writes the report of its run, or its journal.
+fn run_and_report<S: Sink>(alloc: Global, job: TextJob, journal: bool, out: &mut S) -> Ended
     requires job { IsTextJob job }
     requires nothing_held { (S.state out.old).held_back ≡ [] }
     ensures ends { JobEnds job result.status result.runs }
-    ensures reported { Reported S.state out.old out.new result.status result.runs result.written }
+    ensures reported { Reported S.state out.old out.new result.status journal result.runs result.written }
+    ensures no_verdict { result.verdict ≡ None }
 {
     let Ok(KeptRuns { runs, reason }) = kept_runs(alloc, job) else {
         return stopped(alloc, Status::NoMemory);
     };
-    match deliver_reports(alloc, out, runs.as_slice()) {
+    match deliver_runs(alloc, out, runs.as_slice(), journal) {
         Ok(()) => Ended {
             status: Status::after(reason),
             runs,
+            verdict: None,
             written: true,
         },
         Err(SinkFault::Failed) => Ended {
             status: unwritten(reason),
             runs,
+            verdict: None,
             written: false,
         },
         Err(SinkFault::NoMemory) => Ended {
             status: Status::NoMemory,
             runs,
+            verdict: None,
             written: false,
         },
     }
@@ -215,17 +238,18 @@ fn names_in(runs: &[FrameRun<TextJob>]) -> &[Bytes]
     }
 }
 
-// Writes the reports of these runs, in order, and all that is held back of them.
+// Writes the reports of these runs, or their journals, in order, and all that is held back of them.
 #[tactic(auto, using(crate::proofs::Ending::cut_short, crate::proofs::Ending::flush_delivers, crate::proofs::Ending::flush_cuts))]
-fn deliver_reports<S: Sink>(
+fn deliver_runs<S: Sink>(
     alloc: Global,
     out: &mut S,
     runs: &[FrameRun<TextJob>],
+    journal: bool,
 ) -> Result<(), SinkFault>
     requires { (S.state out.old).held_back ≡ [] }
-    ensures { Delivers (S.state out.old) (S.state out.new) (reports runs.now) result }
+    ensures { Delivers (S.state out.old) (S.state out.new) (run_texts journal runs.now) result }
 {
-    match put_reports(alloc, out, runs) {
+    match put_runs(alloc, out, runs, journal) {
         Ok(()) => out.flush(),
         Err(SinkFault::Failed) => Err(SinkFault::Failed),
         Err(SinkFault::NoMemory) => {
@@ -235,19 +259,36 @@ fn deliver_reports<S: Sink>(
     }
 }
 
-// Puts the reports of these runs, in order.
+// Puts the reports of these runs, or their journals, in order.
 #[tactic(auto, using(outside_io::proofs::Pieces::accepts_nothing))]
-fn put_reports<S: Sink>(
+fn put_runs<S: Sink>(
     alloc: Global,
     out: &mut S,
     runs: &[FrameRun<TextJob>],
+    journal: bool,
 ) -> Result<(), SinkFault>
-    ensures { Writes (S.state out.old) (S.state out.new) (reports runs.now) result }
+    ensures { Writes (S.state out.old) (S.state out.new) (run_texts journal runs.now) result }
 {
     for run in runs {
-        if let Err(fault) = put_report(alloc, out, run) {
+        if let Err(fault) = put_run(alloc, out, run, journal) {
             return Err(fault);
         }
     }
     Ok(())
+}
+
+// Puts the report of a run, or its journal.
+fn put_run<S: Sink>(
+    alloc: Global,
+    out: &mut S,
+    run: &FrameRun<TextJob>,
+    journal: bool,
+) -> Result<(), SinkFault>
+    ensures { Writes (S.state out.old) (S.state out.new) (run_text journal run.now) result }
+{
+    if journal {
+        print_journal(alloc, run.journal.as_slice(), out)
+    } else {
+        put_report(alloc, out, run)
+    }
 }

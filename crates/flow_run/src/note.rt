@@ -1,5 +1,5 @@
 // The one line that a status puts on the notes.
-ghost use Rattle.std.specs.Prelude.{◌≡◌, ◌<◌, ◌++◌, [], codes, IfOk, IsErrOf, OnOk};
+ghost use Rattle.std.specs.Prelude.{◌≡◌, ◌<◌, ◌++◌, [], codes, decimal, IfOk, IsErrOf, OnOk};
 ghost use Rattle.std.specs.Result.{IsOkAnd};
 ghost use Rattle.flow_run.specs.Answers.{CutShort, Delivered, Delivers};
 ghost use Rattle.flow_run.specs.Notes.{graph_error_text, kind_text, note_line, spot_text, within_text};
@@ -39,6 +39,14 @@ pub fn put_note<N: Sink>(alloc: Global, notes: &mut N, names: &[Bytes], status: 
         Status::Limit(path, limit) => put_made(notes, limit_note(alloc, names, path, *limit)),
         Status::TaskFault(path, why) => put_made(notes, fault_note(alloc, names, path, *why)),
         Status::Stuck(path) => put_made(notes, stuck_note(alloc, names, path)),
+        Status::NotLegal(place, _) => put_made(
+            notes,
+            numbered(alloc, b"flow: not legal at ", *place),
+        ),
+        Status::BadJournal(line) => put_made(
+            notes,
+            numbered(alloc, b"flow: bad journal line ", *line),
+        ),
         Status::NoMemory => put_line(notes, b"flow: no memory\n"),
     }
 }
@@ -72,9 +80,9 @@ fn put_line<N: Sink>(notes: &mut N, line: &[u8]) -> Noted
     }
 }
 
-// Puts a line on the notes and flushes them.
+/// Puts a line on a sink and flushes it.
 #[tactic(auto, using(crate::proofs::Ending::cut_short, crate::proofs::Ending::flush_delivers))]
-fn deliver<N: Sink>(notes: &mut N, line: &[u8]) -> Result<(), SinkFault>
+pub(crate) fn deliver<N: Sink>(notes: &mut N, line: &[u8]) -> Result<(), SinkFault>
     requires { (N.state notes.old).held_back ≡ [] }
     ensures delivers { Delivers (N.state notes.old) (N.state notes.new) line.now result }
     ensures no_memory { IsErrOf result SinkFault.NoMemory → N.state notes.new ≡ N.state notes.old }
@@ -136,6 +144,16 @@ fn no_source(alloc: Global, spot: Spot) -> Result<Bytes, NoMemory>
 {
     let mut line = List::from_slice(alloc, b"flow: no source")?;
     add_within(&mut line, spot)?;
+    line.push(b'\n')?;
+    Ok(line)
+}
+
+// The line that ends with this number.
+fn numbered(alloc: Global, what: &[u8], number: u64) -> Result<Bytes, NoMemory>
+    ensures { IfOk result (λ line. line ≡ what.now ++ decimal number ++ codes "\n") }
+{
+    let mut line = List::new(alloc);
+    add_numbered(&mut line, what, number)?;
     line.push(b'\n')?;
     Ok(line)
 }

@@ -44,8 +44,13 @@ pub fn prepare<F: Texts>(
     Ok(first_job(plan, table, limit))
 }
 
-// The text of a name, if it has at most so many bytes.
-fn read_named<F: Texts>(alloc: Global, texts: &mut F, name: &[u8], max: u64) -> Result<Bytes, Stop>
+/// The text of a name, if it has at most so many bytes.
+pub(crate) fn read_named<F: Texts>(
+    alloc: Global,
+    texts: &mut F,
+    name: &[u8],
+    max: u64,
+) -> Result<Bytes, Stop>
     ensures held { IfOk result (IsHeld (F.held texts.old) name.now max) }
     ensures stops { IfErr result (StopsAtName (F.held texts.old) name.now max) }
     ensures stays { F.held texts.new ≡ F.held texts.old }
@@ -60,8 +65,8 @@ fn read_named<F: Texts>(alloc: Global, texts: &mut F, name: &[u8], max: u64) -> 
     }
 }
 
-// The plan for which these bytes stand, if its graph has a task to begin with.
-fn read_plan(alloc: Global, bytes: &[u8]) -> Result<Plan, Stop>
+/// The plan for which these bytes stand, if its graph has a task to begin with.
+pub(crate) fn read_plan(alloc: Global, bytes: &[u8]) -> Result<Plan, Stop>
     ensures plan { IfOk result (λ plan. PlanText bytes.now (plan_rows plan)) }
     ensures rules { IfOk result (λ plan. IsPlan (plan_rows plan)) }
     ensures source { IfOk result (λ plan. HasStart (plan_rows plan)) }

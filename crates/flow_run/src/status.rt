@@ -1,12 +1,14 @@
 // How a call of the program ends.
 ghost use Rattle.std.specs.Prelude.{◌≡◌};
-ghost use Rattle.flow_run.specs.Answers.{status_after, status_of};
+ghost use Rattle.flow_run.specs.Answers.{status_after};
+ghost use Rattle.flow_run.specs.Judging.{status_by};
+ghost use Rattle.flow_run.specs.Stopping.{status_of};
 ghost use Rattle.flow_run.specs.Codes.{code_of};
 
 use super::stop::Stop;
 use graph_file::GraphError;
 use graph_plans::Spot;
-use legal_run::Why;
+use legal_run::{Break, Verdict, Why};
 use nested_runs::Reason;
 use outside_io::{Bytes, List};
 
@@ -36,6 +38,10 @@ pub enum Status {
     TaskFault(List<u32>, Why),
     /// A task waited for a unit of a semaphore that never came: the tasks that lead to it.
     Stuck(List<u32>),
+    /// The entry at this place of a journal breaks a rule, and which.
+    NotLegal(u64, Break),
+    /// The bytes that were read as a journal are none: the number of the first bad line, from 1.
+    BadJournal(u64),
     /// An allocation failed.
     NoMemory,
 }
@@ -57,6 +63,8 @@ impl Status {
             Status::Limit(_, _) => 8,
             Status::TaskFault(_, _) => 9,
             Status::Stuck(_) => 10,
+            Status::NotLegal(_, _) => 11,
+            Status::BadJournal(_) => 12,
             Status::NoMemory => 13,
         }
     }
@@ -74,7 +82,7 @@ pub enum Noted {
 }
 
 impl Status {
-    /// The status that tells why a call ended before its run.
+    /// The status that tells why a call ended before what it was to do.
     pub fn of(stop: Stop) -> Status
         ensures { result ≡ status_of stop }
     {
@@ -84,6 +92,7 @@ impl Status {
             Stop::NoText(name) => Status::NoText(name),
             Stop::LongText(name) => Status::LongText(name),
             Stop::ReadFault(name) => Status::ReadFault(name),
+            Stop::BadJournal(line) => Status::BadJournal(line),
             Stop::NoMemory => Status::NoMemory,
         }
     }
@@ -97,6 +106,17 @@ impl Status {
             Reason::Fault(path, why) => Status::TaskFault(path, why),
             Reason::Limit(path, limit) => Status::Limit(path, limit),
             Reason::Stuck(path) => Status::Stuck(path),
+        }
+    }
+
+    /// The status of a verdict, where nothing else went wrong.
+    pub fn by(verdict: Verdict) -> Status
+        ensures { result ≡ status_by verdict }
+    {
+        match verdict {
+            Verdict::Complete => Status::Done,
+            Verdict::Legal => Status::Done,
+            Verdict::Breaks(place, why) => Status::NotLegal(place, why),
         }
     }
 }

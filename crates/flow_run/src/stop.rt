@@ -1,9 +1,12 @@
 // Why a call ends before its run.
-ghost use Rattle.std.specs.Prelude.{◌≡◌, ◌≢◌, ◌⊎◌};
+ghost use Rattle.std.specs.Prelude.{◌≡◌, ◌≢◌, ◌⊎◌, ℕ, List};
+ghost use Rattle.journal_text.specs.JournalText.{RefusesJournal};
+ghost use Rattle.flow_run.specs.Judging.{StopsAtJournalBytes};
 ghost use Rattle.graph_file.specs.declared.refusals.GraphError.TheVariants.{NoMemory as NoMemoryToRead};
 
 use graph_file::GraphError;
 use graph_plans::Spot;
+use journal_text::JournalError;
 use outside_io::{Bytes, NoMemory};
 use std::alloc::AllocFailed;
 
@@ -15,6 +18,7 @@ pub enum Stop {
     NoText(Bytes),
     LongText(Bytes),
     ReadFault(Bytes),
+    BadJournal(u64),
     NoMemory,
 }
 
@@ -47,5 +51,15 @@ pub fn refusal(error: GraphError) -> Stop
     match error {
         GraphError::NoMemory => Stop::NoMemory,
         error => Stop::BadGraph(error),
+    }
+}
+
+/// Why bytes that were read as a journal stop the call.
+pub fn journal_refusal(error: JournalError) -> Stop
+    ensures { (bytes : List ℕ) → RefusesJournal bytes error → StopsAtJournalBytes bytes result }
+{
+    match error {
+        JournalError::BadLine(line) => Stop::BadJournal(line),
+        JournalError::NoMemory => Stop::NoMemory,
     }
 }

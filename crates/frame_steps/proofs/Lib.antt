@@ -1,4 +1,3 @@
-mod FirstLemmas
 mod CountLemmas
 mod ReleaseLemmas
 mod SessionLemmas

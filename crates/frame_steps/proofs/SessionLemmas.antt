@@ -14,7 +14,7 @@ use Rattle.run_frame.specs.declared.duty.Duty.{Duty}
 use Rattle.run_frame.specs.declared.run.FrameRun.{FrameRun}
 use Rattle.run_frame.specs.Duties.{IsReleaseOf, outstanding_count}
 use Rattle.run_frame.specs.Frames.{FrameView, IsSameRun, StartsTask, DropsTask, EndsTask, FaultsTask, MayEndWith, MayFaultWith}
-use Rattle.frame_steps.specs.Releases.{FrameKey, ReleaseView, key_of, IsReleaseIn, tickets_of}
+use Rattle.frame_steps.specs.Releases.{FrameKey, ReleaseView, frame_key, IsReleaseIn, tickets_of}
 use Rattle.frame_steps.specs.Steps.{IsStateOf, IsStateAfter, StartsRelease, DropsRelease, ClosesRun, UsesUp, StepsRelease}
 use Rattle.frame_steps.specs.declared.stepped.State.{State}
 use Rattle.frame_steps.specs.declared.stepped.State.TheVariants.{Went, Closed}
@@ -31,10 +31,10 @@ module _ {J V : Type 0} (meaning : Meaning J V) where
     pub nothing_left : IsSome run ↔ (outstanding_count left.items ≡ 0)
 
   module _ (frames : List (FrameKey J)) (own : FrameKey J) (alone : frames ≡ own ∷ []) where
-    pub state_of : (found : FrameView J V) → key_of found ≡ own → IsStateOf frames found
+    pub state_of : (found : FrameView J V) → frame_key found ≡ own → IsStateOf frames found
     state_of found key = subst (λ fs. IsStateOf fs found) (sym alone) key
 
-    pub run_of : (found left : FrameView J V) (run : Option (FrameRun J V)) → key_of found ≡ own → IsSameRun found left → IsSettled left run → IsRunOf meaning frames left run
+    pub run_of : (found left : FrameView J V) (run : Option (FrameRun J V)) → frame_key found ≡ own → IsSameRun found left → IsSettled left run → IsRunOf meaning frames left run
     run_of found left None key same settled = λ none. absurd (false≢true (settled.nothing_left.1 none))
     run_of found left (Some run) key same settled = subst (λ fs. ClosesRun meaning fs left run) (sym alone) (record {
       kept = settled.kept;
@@ -43,7 +43,7 @@ module _ {J V : Type 0} (meaning : Meaning J V) where
       nothing_left = settled.nothing_left.0 refl;
     })
 
-    pub comes_of_fault : (found left : FrameView J V) (running : TicketState (Duty V)) (why : Why) (end : AfterEnd J V) → key_of found ≡ own → MayFaultIn meaning frames running.item why → IsSameRun found left
+    pub comes_of_fault : (found left : FrameView J V) (running : TicketState (Duty V)) (why : Why) (end : AfterEnd J V) → frame_key found ≡ own → MayFaultIn meaning frames running.item why → IsSameRun found left
         → FaultsTask found left running why → end.released.items ≡ [] → IsSettled left end.run → ComesOfStart meaning frames running end
     comes_of_fault found left running why end key may same faults none settled = record {
       left = left;
@@ -52,6 +52,7 @@ module _ {J V : Type 0} (meaning : Meaning J V) where
         record {
           found = found;
           of_frame = state_of found key;
+          same = same;
           why = why;
           work = subst (λ (k : FrameKey J). MayFaultWith meaning k.job running.item why) (sym key) (subst (λ fs. MayFaultIn meaning fs running.item why) alone may);
           faults = faults;
@@ -61,13 +62,14 @@ module _ {J V : Type 0} (meaning : Meaning J V) where
       run = run_of found left end.run key same settled;
     }
 
-    pub comes_of_end : (found left : FrameView J V) (running : TicketState (Duty V)) (value : V) (answer : Answer) (end : AfterEnd J V) → key_of found ≡ own → MayEndIn meaning frames running.item value answer → IsSameRun found left
+    pub comes_of_end : (found left : FrameView J V) (running : TicketState (Duty V)) (value : V) (answer : Answer) (end : AfterEnd J V) → frame_key found ≡ own → MayEndIn meaning frames running.item value answer → IsSameRun found left
         → EndsTask meaning found left running answer end.released.items → IsSettled left end.run → ComesOfStart meaning frames running end
     comes_of_end found left running value answer end key may same ends settled = record {
       left = left;
       closes = inl (record {
         found = found;
         of_frame = state_of found key;
+        same = same;
         value = value;
         answer = answer;
         work = subst (λ (k : FrameKey J). MayEndWith meaning k.job running.item value answer) (sym key) (subst (λ fs. MayEndIn meaning fs running.item value answer) alone may);
@@ -77,13 +79,13 @@ module _ {J V : Type 0} (meaning : Meaning J V) where
       run = run_of found left end.run key same settled;
     }
 
-    pub comes_of_start : (found left : FrameView J V) (release running : TicketState (Duty V)) → key_of found ≡ own → StartsTask meaning found left release running → StartsRelease meaning frames release running
-    comes_of_start found left release running key starts = record { found = found; left = left; of_frame = state_of found key; starts = starts }
+    pub comes_of_start : (found left : FrameView J V) (release running : TicketState (Duty V)) → frame_key found ≡ own → IsSameRun found left → StartsTask meaning found left release running → StartsRelease meaning frames release running
+    comes_of_start found left release running key same starts = record { found = found; left = left; of_frame = state_of found key; same = same; starts = starts }
 
-    pub comes_of_drop : (found left : FrameView J V) (release : TicketState (Duty V)) (run : Option (FrameRun J V)) → key_of found ≡ own → IsSameRun found left → (why : DropWhy) × DropsTask found left release why → IsSettled left run
+    pub comes_of_drop : (found left : FrameView J V) (release : TicketState (Duty V)) (run : Option (FrameRun J V)) → frame_key found ≡ own → IsSameRun found left → (why : DropWhy) × DropsTask found left release why → IsSettled left run
         → (after : FrameView J V) × DropsRelease frames release after × IsRunOf meaning frames after run
     comes_of_drop found left release run key same drops settled =
-        (left, record { found = found; of_frame = state_of found key; why = drops.0; drops = drops.1 }, run_of found left run key same settled)
+        (left, record { found = found; of_frame = state_of found key; same = same; why = drops.0; drops = drops.1 }, run_of found left run key same settled)
 
   pub comes_of_use : (frames : List (FrameKey J)) (release running : TicketState (Duty V)) (end : AfterEnd J V) → StartsRelease meaning frames release running → ComesOfStart meaning frames running end → ComesOfStep meaning frames release end
   comes_of_use frames release running end starts comes = record {

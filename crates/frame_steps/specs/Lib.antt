@@ -1,4 +1,3 @@
-pub mod FirstReleases
 pub mod Releases
 pub mod Steps
 pub mod inside

@@ -15,8 +15,8 @@ pub record FrameKey (J : Type 0) : Type 0 where
   pub register : TableId
   pub job : J
 
-abbrev pub key_of : {J V : Type 0} → FrameView J V → FrameKey J
-key_of state = record { register = state.register; job = state.job }
+abbrev pub frame_key : {J V : Type 0} → FrameView J V → FrameKey J
+frame_key state = record { register = state.register; job = state.job }
 
 -- a release: the keys of its frame and of the frames around that one, and its ticket
 pub record ReleaseView (J V : Type 0) : Type 0 where

@@ -10,8 +10,8 @@ use Rattle.run_frame.specs.Meaning.{Meaning}
 use Rattle.run_frame.specs.Legal.{IsKept}
 use Rattle.run_frame.specs.NestedRule.{job_of, journal_of}
 use Rattle.run_frame.specs.Duties.{outstanding_count}
-use Rattle.run_frame.specs.Frames.{FrameView, StartsTask, DropsTask, EndsTask, FaultsTask, MayEndWith, MayFaultWith, IsBegun}
-use Rattle.frame_steps.specs.Releases.{FrameKey, ReleaseView, key_of, root_job, tickets_of}
+use Rattle.run_frame.specs.Frames.{FrameView, IsSameRun, StartsTask, DropsTask, EndsTask, FaultsTask, MayEndWith, MayFaultWith, IsBegun}
+use Rattle.frame_steps.specs.Releases.{FrameKey, ReleaseView, frame_key, root_job, tickets_of}
 use Rattle.frame_steps.specs.declared.stepped.State.{State}
 use Rattle.frame_steps.specs.declared.stepped.State.TheVariants.{Went, Parked, Inner, Closed}
 use Rattle.frame_steps.specs.declared.stepped.Stepped.{Stepped}
@@ -19,12 +19,13 @@ use Rattle.frame_steps.specs.declared.stepped.Stepped.{Stepped}
 -- a state of a frame's run, as it was found under the lock
 abbrev pub IsStateOf : {J V : Type 0} → List (FrameKey J) → FrameView J V → Type 0
 IsStateOf [] state = ⊥
-IsStateOf (frame ∷ around) state = key_of state ≡ frame
+IsStateOf (frame ∷ around) state = frame_key state ≡ frame
 
 -- A release of the frame was dropped, and the run was left in a state.
 pub record DropsRelease {J V : Type 0} (frames : List (FrameKey J)) (release : TicketState (Duty V)) (left : FrameView J V) : Type 0 where
   pub found : FrameView J V
   pub of_frame : IsStateOf frames found
+  pub same : IsSameRun found left
   pub why : DropWhy
   pub drops : DropsTask found left release why
 
@@ -33,12 +34,14 @@ pub record StartsRelease {J V : Type 0} (meaning : Meaning J V) (frames : List (
   pub found : FrameView J V
   pub left : FrameView J V
   pub of_frame : IsStateOf frames found
+  pub same : IsSameRun found left
   pub starts : StartsTask meaning found left release running
 
 -- A start has ended with a value and an answer that its work may come to, and what this released has tickets.
 pub record EndsStart {J V : Type 0} (meaning : Meaning J V) (frames : List (FrameKey J)) (running : TicketState (Duty V)) (released : List (TicketState (Duty V))) (left : FrameView J V) : Type 0 where
   pub found : FrameView J V
   pub of_frame : IsStateOf frames found
+  pub same : IsSameRun found left
   pub value : V
   pub answer : Answer
   pub work : MayEndWith meaning found.job running.item value answer
@@ -48,6 +51,7 @@ pub record EndsStart {J V : Type 0} (meaning : Meaning J V) (frames : List (Fram
 pub record FaultsStart {J V : Type 0} (meaning : Meaning J V) (frames : List (FrameKey J)) (running : TicketState (Duty V)) (left : FrameView J V) : Type 0 where
   pub found : FrameView J V
   pub of_frame : IsStateOf frames found
+  pub same : IsSameRun found left
   pub why : Why
   pub work : MayFaultWith meaning found.job running.item why
   pub faults : FaultsTask found left running why
@@ -89,8 +93,8 @@ IsClosed (Closed run) = Unit {0}
 pub record BeginsFrame {J V : Type 0} (meaning : Meaning J V) (job : J) (stepped : Stepped J V) : Type 0 where
   pub left : FrameView J V
   pub begun : IsBegun meaning job left (tickets_of stepped.released.items)
-  pub frames : All (λ (release : ReleaseView J V). release.frames ≡ key_of left ∷ []) stepped.released.items
-  pub state : IsStateAfter meaning (key_of left ∷ []) left stepped.state
+  pub frames : All (λ (release : ReleaseView J V). release.frames ≡ frame_key left ∷ []) stepped.released.items
+  pub state : IsStateAfter meaning (frame_key left ∷ []) left stepped.state
 
 -- A step was taken: the release is used up, and what this released is of the same frame.
 pub record StepsRelease {J V : Type 0} (meaning : Meaning J V) (release : ReleaseView J V) (stepped : Stepped J V) : Type 0 where

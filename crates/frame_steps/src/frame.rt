@@ -1,9 +1,8 @@
 // Frames.
 ghost use Rattle.std.specs.Prelude.{◌≡◌, ◌↔◌, ◌∷◌, [], IfOk};
 ghost use Rattle.std.specs.Arc.{arc_value};
-ghost use Rattle.journal_rules.specs.Complete.{Complete};
 ghost use Rattle.run_frame.specs.FlatNets.{IsFlatNet};
-ghost use Rattle.run_frame.specs.Duties.{outstanding_count};
+ghost use Rattle.run_frame.specs.Duties.{first_releases, outstanding_count};
 
 use super::locked_run::{LockedRun, settle};
 use super::release::Release;
@@ -36,9 +35,9 @@ impl<J: Job> Model for Frame<J> {
 
     ghost use Rattle.std.specs.Arc.{arc_value};
     ghost use Rattle.keyed_lock.specs.Locks.{made_with};
-    ghost use Rattle.frame_steps.specs.Releases.{key_of, frames_around, depth_of};
+    ghost use Rattle.frame_steps.specs.Releases.{frame_key, frames_around, depth_of};
 
-    ghost view = { λ frame. key_of (made_with frame.lock).state ∷ frames_around frame.parent };
+    ghost view = { λ frame. frame_key (made_with frame.lock).state ∷ frames_around frame.parent };
 
     ghost invariant = { λ frame. ((made_with frame.lock).state.job ≡ arc_value frame.job)
         × (frame.depth ≡ 0) × (frames_around frame.parent ≡ []) };
@@ -61,16 +60,16 @@ struct AfterEnd<J: Job> {
 }
 
 impl<J: Job + Drop> Frame<J> {
-    ghost use Rattle.frame_steps.specs.Releases.{key_of, HasRegister, IsReleaseIn};
+    ghost use Rattle.frame_steps.specs.Releases.{frame_key, HasRegister, IsReleaseIn};
     ghost use Rattle.frame_steps.specs.Steps.{IsClosed, BeginsFrame, StepsRelease};
     ghost use Rattle.frame_steps.specs.inside.Sessions.{ComesOfRelease, ComesOfStart, ComesOfStep, IsOpenIn, MayEndIn, MayFaultIn};
 
-    /// Begins a run of a job, with a release for each task that is released before anything has run. If there is
-    /// none, the run is complete as it is.
+    /// Begins a run of a job, with a release for each task that is released before anything has run
+    /// (`first_releases`). If there is none, the run is complete as it is, and closed.
     pub fn begin(alloc: Global, job: Arc<J>) -> Result<Stepped<J>, NoMemory>
         requires { IsFlatNet (J.meaning.net (arc_value job)) }
         ensures begins { IfOk result (BeginsFrame J.meaning (arc_value job)) }
-        ensures closed { IfOk result (λ stepped. IsClosed stepped.state ↔ Complete (J.meaning.net (arc_value job)) (J.meaning.limit (arc_value job)) []) }
+        ensures closed { IfOk result (λ stepped. IsClosed stepped.state ↔ (first_releases {V = J.V} (J.meaning.net (arc_value job)) ≡ [])) }
     {
         let Begun { state, released } = FrameState::begin(alloc, Arc::try_clone(&job)?)?;
         match state.finish() {
@@ -113,7 +112,7 @@ impl<J: Job + Drop> Frame<J> {
     ) -> Result<Arc<Frame<J>>, NoMemory>
         requires job { state.job ≡ arc_value job }
         requires left { left ≡ outstanding_count state.items }
-        ensures { IfOk result (λ frame. arc_value frame ≡ key_of state ∷ []) }
+        ensures { IfOk result (λ frame. arc_value frame ≡ frame_key state ∷ []) }
     {
         let state = Box::new(alloc, state)?;
         let lock = KeyedLock::new(

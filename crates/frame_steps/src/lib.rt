@@ -15,12 +15,10 @@
 #![tactic(auto)]
 
 mod frame;
-mod laws;
 mod locked_run;
 mod release;
 mod stepped;
 
 pub use frame::Frame;
-pub use laws::what_is_complete_at_first;
 pub use release::Release;
 pub use stepped::{State, Stepped};

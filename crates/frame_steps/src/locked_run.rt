@@ -38,11 +38,11 @@ impl<J: Job> Model for LockedRun<J> {
 }
 
 impl<J: Job> Keyed for LockedRun<J> {
-    ghost use Rattle.frame_steps.specs.Releases.{FrameKey, key_of};
+    ghost use Rattle.frame_steps.specs.Releases.{FrameKey, frame_key};
 
     ghost Key = { FrameKey J };
 
-    ghost key = { λ run. key_of run.state };
+    ghost key = { λ run. frame_key run.state };
 }
 
 impl<J: Job + Drop> LockedRun<J> {

@@ -16,9 +16,9 @@ use Rattle.graph_plans.specs.PlanRows.{AllDiffer, IsTextName}
 use Rattle.graph_file.specs.Contents.{is_text}
 use Rattle.graph_file.specs.Fields.{u32_of}
 use Rattle.graph_file.specs.OpRows.{FileOpRow, reads, does}
-use Rattle.graph_file.specs.PlanText.{DraftRows, LinkRow, TaskText, link_to, mentioned, no_tasks, numbered, text_number, with_task, with_text}
+use Rattle.graph_file.specs.PlanText.{DraftRows, LinkRow, TaskText, link_to, mentioned, no_tasks, numbered, text_number, with_task_text, with_text}
 use Rattle.graph_file.specs.inside.Drafts.{IsDraft}
-use Rattle.graph_file.specs.inside.Fine.{AreFine, IsFine, fits, fits_lines, fits_op, fits_text_op, fits_words, with_tasks}
+use Rattle.graph_file.specs.inside.Fine.{AreFine, IsValidTask, fits, fits_lines, fits_op, fits_text_op, fits_words, with_tasks}
 use Rattle.graph_file.proofs.NameLemmas.{some_place}
 
 -- ---- operations
@@ -134,7 +134,7 @@ IsDraft-start = record {
   texts_differ = λ i j d less within. absurd (omega arith);
 }
 
-IsDraft-more : (draft : DraftRows) (task : TaskText) → IsDraft draft → IsFine task → IsDraft (with_task draft task)
+IsDraft-more : (draft : DraftRows) (task : TaskText) → IsDraft draft → IsValidTask task → IsDraft (with_task_text draft task)
 IsDraft-more draft task is fine =
     let texts = mentioned draft.texts task.op in
     let n = length draft.names in
@@ -154,7 +154,7 @@ IsDraft-more draft task is fine =
 
 pub IsDraft-tasks : (draft : DraftRows) (tasks : List TaskText) → IsDraft draft → AreFine tasks → IsDraft (with_tasks draft tasks)
 IsDraft-tasks draft [] is fine = is
-IsDraft-tasks draft (task ∷ tasks) is fine = IsDraft-tasks (with_task draft task) tasks (IsDraft-more draft task is fine.0) fine.1
+IsDraft-tasks draft (task ∷ tasks) is fine = IsDraft-tasks (with_task_text draft task) tasks (IsDraft-more draft task is fine.0) fine.1
 
 pub IsDraft-of : (tasks : List TaskText) → AreFine tasks → IsDraft (with_tasks no_tasks tasks)
 IsDraft-of tasks fine = IsDraft-tasks no_tasks tasks IsDraft-start fine

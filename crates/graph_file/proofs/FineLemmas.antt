@@ -13,12 +13,12 @@ use Rattle.graph_plans.specs.declared.spots.Spot.TheVariants.{File}
 use Rattle.graph_plans.specs.Operations.{route_limit, word_limit}
 use Rattle.graph_file.specs.declared.refusals.GraphError.{GraphError}
 use Rattle.graph_file.specs.declared.refusals.GraphError.TheVariants.{BadField}
-use Rattle.graph_file.specs.Contents.{each, empty_list_of, is_name, is_text, lines_of, list_of, name_of, names_of, objects_of, passing, text_name_of, whole_of, word_of, words_of}
+use Rattle.graph_file.specs.Contents.{each, empty_list_of, is_name, is_text, line_count_of, list_of, task_name_of, name_list_of, objects_of, passing, text_name_of, whole_of, word_of, words_of}
 use Rattle.graph_file.specs.Fields.{allowed, needed, only, task_spot}
 use Rattle.graph_file.specs.OpRows.{FileOpRow, reads, does, OpRow, WithFields, bare, single, used_by, text_rows, op_rows, row_called, op_called, op_in}
-use Rattle.graph_file.specs.PlanText.{DraftRows, TaskText, add_task, draft_in, file_fields, no_tasks, task_fields, with_task}
+use Rattle.graph_file.specs.PlanText.{DraftRows, TaskText, add_task, draft_in, file_fields, no_tasks, task_fields, with_task_text}
 use Rattle.graph_file.specs.Steps.{walk}
-use Rattle.graph_file.specs.inside.Fine.{AreFine, IsFine, fits, fits_lines, fits_text_op, fits_words, with_tasks}
+use Rattle.graph_file.specs.inside.Fine.{AreFine, IsValidTask, fits, fits_lines, fits_text_op, fits_words, with_tasks}
 use Rattle.graph_file.proofs.BindLemmas.{bind_ok, each-all, each-length, ok_or_ok, passing-ok}
 
 -- ---- contents
@@ -33,10 +33,10 @@ finds-word d word is = passing-ok (is_text 0 word_limit) (as_str d) word is
 finds-text : Finds text_name_of (is_text 1 4096)
 finds-text d text is = passing-ok (is_text 1 4096) (as_str d) text is
 
-finds-lines : Finds lines_of fits_lines
+finds-lines : Finds line_count_of fits_lines
 finds-lines d n is = passing-ok fits_lines (option_and_then as_u64 (as_number d)) n is
 
-finds-name : Finds name_of is_name
+finds-name : Finds task_name_of is_name
 finds-name d name is = passing-ok is_name (as_str d) name is
 
 finds-words : Finds words_of fits_words
@@ -46,8 +46,8 @@ finds-words d words is =
     let all : list_all (is_text 0 word_limit) words ≡ true = each-all word_of (is_text 0 word_limit) items words finds-word each_ in
     rw (each-length word_of items words each_, few) all)
 
-finds-names : Finds names_of (list_all is_name)
-finds-names d names is = option_and_then_some (each name_of) (list_of d) names is (λ items here each_. each-all name_of is_name items names finds-name each_)
+finds-names : Finds name_list_of (list_all is_name)
+finds-names d names is = option_and_then_some (each task_name_of) (list_of d) names is (λ items here each_. each-all task_name_of is_name items names finds-name each_)
 
 -- ---- rows
 
@@ -88,9 +88,9 @@ all-text_rows =
     makes-bare fits_text_op (codes "pass") Pass refl
     & makes-single fits_text_op (codes "keep") (codes "word") word_of Keep finds-word
     & makes-single fits_text_op (codes "without") (codes "word") word_of Without finds-word
-    & makes-single fits_text_op (codes "head") (codes "n") lines_of Head finds-lines
-    & makes-single fits_text_op (codes "tail") (codes "n") lines_of Tail finds-lines
-    & makes-single fits_text_op (codes "skip") (codes "n") lines_of Skip finds-lines
+    & makes-single fits_text_op (codes "head") (codes "n") line_count_of Head finds-lines
+    & makes-single fits_text_op (codes "tail") (codes "n") line_count_of Tail finds-lines
+    & makes-single fits_text_op (codes "skip") (codes "n") line_count_of Skip finds-lines
     & makes-bare fits_text_op (codes "sort") Sort refl
     & makes-bare fits_text_op (codes "uniq") Uniq refl
     & makes-bare fits_text_op (codes "count") Count refl
@@ -104,7 +104,7 @@ all-op_rows =
     & makes-single fits (codes "read") (codes "text") text_name_of reads finds-text
     & makes-bare fits (codes "match") (does Match) refl
     & makes-bare fits (codes "back") (does Back) refl
-    & makes-single fits (codes "ifmore") (codes "n") lines_of (λ n. does (IfMore n)) finds-lines
+    & makes-single fits (codes "ifmore") (codes "n") line_count_of (λ n. does (IfMore n)) finds-lines
     & makes-single fits (codes "ifhas") (codes "word") word_of (λ word. does (IfHas word)) finds-word
     & makes-single fits (codes "route") (codes "words") words_of (λ words. does (Route words)) finds-words
     & all-used fits (λ op. does (Text op)) text_rows all-text_rows
@@ -130,24 +130,24 @@ op_in-fits spot d found is =
 
 -- ---- tasks
 
-allowed-names : (spot : Spot) (field : List ℕ) (found : Option Data) (names : List (List ℕ)) → ok_or (option_map_or names_of found (Some [])) (BadField spot field) ≡ Ok names → list_all is_name names ≡ true
+allowed-names : (spot : Spot) (field : List ℕ) (found : Option Data) (names : List (List ℕ)) → ok_or (option_map_or name_list_of found (Some [])) (BadField spot field) ≡ Ok names → list_all is_name names ≡ true
 allowed-names spot field None names is = let same : [] ≡ names = cc in subst (λ ns. list_all is_name ns ≡ true) same refl
 allowed-names spot field (Some d) names is = finds-names d names (ok_or_ok _ _ names is)
 
 -- a task that is read may stand in a file, and the draft has it besides
-pub task-read : (draft : DraftRows) (d : Data) (next : DraftRows) → add_task draft d ≡ Ok next → (task : TaskText) × IsFine task × (with_task draft task ≡ next)
+pub task-read : (draft : DraftRows) (d : Data) (next : DraftRows) → add_task draft d ≡ Ok next → (task : TaskText) × IsValidTask task × (with_task_text draft task ≡ next)
 task-read draft d next is =
     let spot = task_spot (length draft.names) in
-    bind_ok (needed name_of spot (codes "name") d) _ next is (λ name named after_name.
+    bind_ok (needed task_name_of spot (codes "name") d) _ next is (λ name named after_name.
     bind_ok (op_in op_rows spot d) _ next after_name (λ found called after_op.
-    bind_ok (allowed [] names_of spot (codes "to") d) _ next after_op (λ to linked after_to.
+    bind_ok (allowed [] name_list_of spot (codes "to") d) _ next after_op (λ to linked after_to.
     bind_ok (allowed [] empty_list_of spot (codes "holds") d) _ next after_to (λ holds held after_holds.
     bind_ok (only (task_fields ++ found.fields) spot d) _ next after_holds (λ done none last.
     let task : TaskText = record { name = name; op = found.op; to = to } in
-    let same : with_task draft task ≡ next = cc in (
+    let same : with_task_text draft task ≡ next = cc in (
       task,
       record {
-        name = found-passes name_of is_name (get (codes "name") d) (BadField spot (codes "name")) name finds-name named;
+        name = found-passes task_name_of is_name (get (codes "name") d) (BadField spot (codes "name")) name finds-name named;
         op = op_in-fits spot d found called;
         to = allowed-names spot (codes "to") (get (codes "to") d) to linked;
       },

@@ -11,7 +11,7 @@ use Rattle.task_graph.specs.declared.net.EdgeRow.{EdgeRow}
 use Rattle.task_graph.specs.declared.net.TaskRow.{TaskRow}
 use Rattle.graph_plans.specs.declared.ops.Op.{Op}
 use Rattle.graph_plans.specs.Operations.{shape_of}
-use Rattle.graph_plans.specs.PlanRows.{AllDiffer, IsPlan, NeedsNoUnit, PlanRows, edge_limit, task_limit, text_count_limit}
+use Rattle.graph_plans.specs.PlanRows.{AllDiffer, IsPlan, NeedsNoUnit, PlanRows, file_edge_limit, file_task_limit, text_count_limit}
 use Rattle.graph_file.specs.declared.refusals.GraphError.{GraphError}
 use Rattle.graph_file.specs.declared.refusals.GraphError.TheVariants.{TooMany}
 use Rattle.graph_file.specs.declared.refusals.Kind.TheVariants.{Tasks, Edges, Texts}
@@ -74,8 +74,8 @@ AllDiffer-walk before (name ∷ names) r differ is =
 -- ---- limits
 
 pub record IsWithinLimits (draft : DraftRows) : Type 0 where
-  pub tasks : length draft.names ≤ task_limit
-  pub edges : length draft.links ≤ edge_limit
+  pub tasks : length draft.names ≤ file_task_limit
+  pub edges : length draft.links ≤ file_edge_limit
   pub texts : length draft.texts ≤ text_count_limit
 
 last-passed : (test : Bool) (e : GraphError) → passed test e ≡ Ok tt → test ≡ true
@@ -84,11 +84,11 @@ last-passed false e is = cc
 
 pub IsWithinLimits-passed : (draft : DraftRows) → within_limits draft ≡ Ok tt → IsWithinLimits draft
 IsWithinLimits-passed draft is =
-    let first = passed-ok (leb (length draft.names) task_limit) (TooMany Tasks) _ tt is in
-    let second = passed-ok (leb (length draft.links) edge_limit) (TooMany Edges) _ tt first.1 in
+    let first = passed-ok (leb (length draft.names) file_task_limit) (TooMany Tasks) _ tt is in
+    let second = passed-ok (leb (length draft.links) file_edge_limit) (TooMany Edges) _ tt first.1 in
     record {
-      tasks = leb-true (length draft.names) task_limit first.0;
-      edges = leb-true (length draft.links) edge_limit second.0;
+      tasks = leb-true (length draft.names) file_task_limit first.0;
+      edges = leb-true (length draft.links) file_edge_limit second.0;
       texts = leb-true (length draft.texts) text_count_limit (last-passed _ (TooMany Texts) second.1);
     }
 
@@ -97,7 +97,7 @@ IsWithinLimits-passed draft is =
 no-semaphores : (net : NetRows) → AreSemaphoresOf net []
 no-semaphores net = record { rising = λ k within. absurd (omega arith); in_range = All-nil _ }
 
-IsNet-with : (ops : List Op) (edges : List EdgeRow) → All (IsAmong (length ops)) edges → All (λ (edge : EdgeRow). edge.start ≡ false) edges → length ops ≤ task_limit → length edges ≤ edge_limit → IsNet (net_with ops edges)
+IsNet-with : (ops : List Op) (edges : List EdgeRow) → All (IsAmong (length ops)) edges → All (λ (edge : EdgeRow). edge.start ≡ false) edges → length ops ≤ file_task_limit → length edges ≤ file_edge_limit → IsNet (net_with ops edges)
 IsNet-with ops edges among starts few_tasks few_edges =
     let net = net_with ops edges in
     let count : length (map task_row ops) ≡ length ops = length-map ops task_row in
@@ -121,7 +121,7 @@ shapes-of (op ∷ ops) = ap (λ shapes. shape_of op ∷ shapes) (shapes-of ops)
 IsPlan-with : (draft : DraftRows) (edges : List EdgeRow) → IsDraft draft → AllDiffer draft.names → AreEdges (length draft.names) [] draft.links edges → IsWithinLimits draft → IsPlan (plan_with draft edges)
 IsPlan-with draft edges is differ are limits =
     let count : length (map task_row draft.ops) ≡ length draft.names = length-map draft.ops task_row ∙ is.op_count in
-    let edge_count : length edges ≤ edge_limit = omega (arith, are.count, limits.edges) in
+    let edge_count : length edges ≤ file_edge_limit = omega (arith, are.count, limits.edges) in
     record {
       name = refl;
       modules = refl;
@@ -161,7 +161,7 @@ IsPlan-read bytes plan is =
 
 -- ---- the edges, as the code has them
 
-pub few-edges : (draft : DraftRows) (edges shown : List Edge) → shown ≡ edges → IsDraft draft → walk (add_edge draft.names) [] draft.links ≡ Ok (edge_rows edges) → within_limits draft ≡ Ok tt → length shown ≤ edge_limit
+pub few-edges : (draft : DraftRows) (edges shown : List Edge) → shown ≡ edges → IsDraft draft → walk (add_edge draft.names) [] draft.links ≡ Ok (edge_rows edges) → within_limits draft ≡ Ok tt → length shown ≤ file_edge_limit
 few-edges draft edges shown same is walked limits =
     let are = AreEdges-draft draft (edge_rows edges) is walked in
     let passed_ = IsWithinLimits-passed draft limits in

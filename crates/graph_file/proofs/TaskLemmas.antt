@@ -5,7 +5,7 @@ use Rattle.serde_json.specs.Data.{Data}
 use Rattle.serde_json.specs.Find.{get}
 use Rattle.graph_file.specs.declared.refusals.GraphError.{GraphError}
 use Rattle.graph_file.specs.declared.refusals.GraphError.TheVariants.{BadField}
-use Rattle.graph_file.specs.Contents.{list_of, name_of, names_of}
+use Rattle.graph_file.specs.Contents.{list_of, task_name_of, name_list_of}
 use Rattle.graph_file.specs.Fields.{allowed, needed, task_spot}
 use Rattle.graph_file.specs.OpRows.{op_in, op_rows}
 use Rattle.graph_file.specs.PlanText.{DraftRows, LinkRow, add_task, link_to}
@@ -15,11 +15,11 @@ use Rattle.graph_file.proofs.EachLemmas.{walk-put_each}
 
 -- the names in a task's `to`, read one after another
 links-read : (n : ℕ) (links : List LinkRow) (d to : Data) (items : List Data) → Some to ≡ get (codes "to") d → Some items ≡ list_of to
-    → links_with n links d ≡ walk (put_each name_of (link_to n) (BadField (task_spot n) (codes "to"))) links items
-links-read n links d to items is are = rw (← is, ← are) (sym (walk-put_each name_of (link_to n) (BadField (task_spot n) (codes "to")) links items))
+    → links_with n links d ≡ walk (put_each task_name_of (link_to n) (BadField (task_spot n) (codes "to"))) links items
+links-read n links d to items is are = rw (← is, ← are) (sym (walk-put_each task_name_of (link_to n) (BadField (task_spot n) (codes "to")) links items))
 
 pub Leads-links : (n : ℕ) (links new : List LinkRow) (d to : Data) (items : List Data) (r : Result ⊤ GraphError) → Some to ≡ get (codes "to") d → Some items ≡ list_of to
-    → Leads r new (walk (put_each name_of (link_to n) (BadField (task_spot n) (codes "to"))) links items) → Leads r new (links_with n links d)
+    → Leads r new (walk (put_each task_name_of (link_to n) (BadField (task_spot n) (codes "to"))) links items) → Leads r new (links_with n links d)
 Leads-links n links new d to items r is are leads = rw (links-read n links d to items is are) leads
 
 -- ---- the steps are those of the definition
@@ -35,9 +35,9 @@ bind_map (Err e) f k = refl
 add_task-steps : (draft : DraftRows) (d : Data) → add_task_steps draft d ≡ add_task draft d
 add_task-steps draft d =
     let n = length draft.names in
-    same_rest (needed name_of (task_spot n) (codes "name") d) _ _ (λ name.
+    same_rest (needed task_name_of (task_spot n) (codes "name") d) _ _ (λ name.
     same_rest (op_in op_rows (task_spot n) d) _ _ (λ found.
-    bind_map (allowed [] names_of (task_spot n) (codes "to") d) (λ to. draft.links ++ map (link_to n) to) _))
+    bind_map (allowed [] name_list_of (task_spot n) (codes "to") d) (λ to. draft.links ++ map (link_to n) to) _))
 
 pub walk_steps : (draft : DraftRows) (ds : List Data) → walk add_task_steps draft ds ≡ walk add_task draft ds
 walk_steps draft [] = refl

@@ -12,7 +12,7 @@ use Rattle.graph_plans.specs.PlanRows.{PlanRows}
 use Rattle.graph_file.specs.declared.refusals.GraphError.{GraphError}
 use Rattle.graph_file.specs.Fields.{u32_of}
 use Rattle.graph_file.specs.OpRows.{FileOpRow, reads, does}
-use Rattle.graph_file.specs.PlanText.{DraftRows, LinkRow, PlanText, TaskText, add_edge, add_name, draft_in, json_in, link_to, mentioned, no_tasks, numbered, plan_in, plan_of, plan_with, text_number, with_task, with_text, within_limits}
+use Rattle.graph_file.specs.PlanText.{DraftRows, LinkRow, PlanText, TaskText, add_edge, add_name, draft_in, json_in, link_to, mentioned, no_tasks, numbered, plan_in, plan_of, plan_with, text_number, with_task_text, with_text, within_limits}
 use Rattle.graph_file.specs.Steps.{◌>>=◌, walk}
 use Rattle.graph_file.specs.Written.{file_data, op_text, plan_data, tasks_from, to_of}
 use Rattle.graph_file.specs.inside.Fine.{AreFine, fits, with_tasks}
@@ -168,7 +168,7 @@ with_tasks-is draft [] = rw (append-nil, append-nil, append-nil) refl
 with_tasks-is draft (task ∷ tasks) =
     let op = numbered draft.texts task.op in
     let longer : length (draft.names ++ task.name ∷ []) ≡ suc (length draft.names) = omega (arith, length-append draft.names (task.name ∷ [])) in
-    with_tasks-is (with_task draft task) tasks ∙ rw (
+    with_tasks-is (with_task_text draft task) tasks ∙ rw (
       longer,
       append_assoc draft.names (task.name ∷ []) (names_of_tasks tasks),
       append_assoc draft.ops (op ∷ []) (numbered_all (mentioned draft.texts task.op) tasks),

@@ -10,9 +10,9 @@ use Rattle.graph_plans.specs.declared.ops.Op.TheVariants.{Input, Read, Text, Mat
 use Rattle.graph_plans.specs.declared.ops.TextOp.{TextOp}
 use Rattle.graph_plans.specs.declared.ops.TextOp.TheVariants.{Pass, Keep, Without, Head, Tail, Skip, Sort, Uniq, Count, Tally}
 use Rattle.graph_plans.specs.Operations.{route_limit, word_limit}
-use Rattle.graph_file.specs.Contents.{each, is_name, is_object, is_text, listed, name_of, names_of, word_of, words_of}
+use Rattle.graph_file.specs.Contents.{each, is_name, is_object, is_text, listed, task_name_of, name_list_of, word_of, words_of}
 use Rattle.graph_file.specs.OpRows.{FileOpRow, reads, does, op_rows, text_rows}
-use Rattle.graph_file.specs.PlanText.{DraftRows, TaskText, add_task, draft_in, no_tasks, with_task}
+use Rattle.graph_file.specs.PlanText.{DraftRows, TaskText, add_task, draft_in, no_tasks, with_task_text}
 use Rattle.graph_file.specs.Steps.{walk}
 use Rattle.graph_file.specs.Written.{OpText, file_data, op_text, strings_data, task_data, text_op_text, with_field}
 use Rattle.graph_file.specs.inside.Fine.{AreFine, fits, fits_op, fits_text_op, fits_words, with_tasks}
@@ -22,7 +22,7 @@ listed-items_of [] = refl
 listed-items_of (d ∷ ds) = ap (λ xs. d ∷ xs) (listed-items_of ds)
 
 -- strings of which each passes are read again
-each-name : (names : List (List ℕ)) → list_all is_name names ≡ true → each name_of (map string names) ≡ Some names
+each-name : (names : List (List ℕ)) → list_all is_name names ≡ true → each task_name_of (map string names) ≡ Some names
 each-name [] fine = refl
 each-name (name ∷ names) fine = let parts = and_parts (is_name name) (list_all is_name names) fine in rw (parts.0, each-name names parts.1) refl
 
@@ -30,7 +30,7 @@ each-word : (words : List (List ℕ)) → list_all (is_text 0 word_limit) words 
 each-word [] fine = refl
 each-word (word ∷ words) fine = let parts = and_parts (is_text 0 word_limit word) (list_all (is_text 0 word_limit) words) fine in rw (parts.0, each-word words parts.1) refl
 
-names-written : (names : List (List ℕ)) → list_all is_name names ≡ true → names_of (strings_data names) ≡ Some names
+names-written : (names : List (List ℕ)) → list_all is_name names ≡ true → name_list_of (strings_data names) ≡ Some names
 names-written names fine = rw (listed-items_of (map string names)) (each-name names fine)
 
 words-written : (words : List (List ℕ)) → fits_words words ≡ true → words_of (strings_data words) ≡ Some words
@@ -49,10 +49,10 @@ abbrev pub task_text_data : TaskText → Data
 task_text_data task = task_data task.name (file_op_text task.op) task.to
 
 IsWritten : DraftRows → TaskText → Type 0
-IsWritten draft task = add_task draft (task_text_data task) ≡ Ok (with_task draft task)
+IsWritten draft task = add_task draft (task_text_data task) ≡ Ok (with_task_text draft task)
 
 text_op-written : (draft : DraftRows) (name : List ℕ) (op : TextOp) (to : List (List ℕ)) → is_name name ≡ true → fits_text_op op ≡ true → list_all is_name to ≡ true
-    → add_task draft (task_data name (text_op_text op) to) ≡ Ok (with_task draft (record { name = name; op = does (Text op); to = to }))
+    → add_task draft (task_data name (text_op_text op) to) ≡ Ok (with_task_text draft (record { name = name; op = does (Text op); to = to }))
 unfolding op_rows text_rows
 text_op-written draft name Pass to named fine all = rw (named, names-written to all) refl
 text_op-written draft name (Keep word) to named fine all = rw (named, fine, names-written to all) refl
@@ -66,7 +66,7 @@ text_op-written draft name Count to named fine all = rw (named, names-written to
 text_op-written draft name Tally to named fine all = rw (named, names-written to all) refl
 
 op-written : (draft : DraftRows) (name : List ℕ) (op : Op) (to : List (List ℕ)) → is_name name ≡ true → fits_op op ≡ true → list_all is_name to ≡ true
-    → add_task draft (task_data name (op_text [] op) to) ≡ Ok (with_task draft (record { name = name; op = does op; to = to }))
+    → add_task draft (task_data name (op_text [] op) to) ≡ Ok (with_task_text draft (record { name = name; op = does op; to = to }))
 unfolding op_rows text_rows
 op-written draft name Input to named fine all = rw (named, names-written to all) refl
 op-written draft name (Read text) to named fine all = cc
@@ -78,7 +78,7 @@ op-written draft name (IfHas word) to named fine all = rw (named, fine, names-wr
 op-written draft name (Route words) to named fine all = rw (named, words-written words fine, names-written to all) refl
 
 file_op-written : (draft : DraftRows) (name : List ℕ) (op : FileOpRow) (to : List (List ℕ)) → is_name name ≡ true → fits op ≡ true → list_all is_name to ≡ true
-    → add_task draft (task_data name (file_op_text op) to) ≡ Ok (with_task draft (record { name = name; op = op; to = to }))
+    → add_task draft (task_data name (file_op_text op) to) ≡ Ok (with_task_text draft (record { name = name; op = op; to = to }))
 unfolding op_rows text_rows
 file_op-written draft name (reads text) to named fine all = rw (named, fine, names-written to all) refl
 file_op-written draft name (does op) to named fine all = op-written draft name op to named fine all
@@ -87,7 +87,7 @@ file_op-written draft name (does op) to named fine all = op-written draft name o
 
 tasks-written : (draft : DraftRows) (tasks : List TaskText) → AreFine tasks → walk add_task draft (map task_text_data tasks) ≡ Ok (with_tasks draft tasks)
 tasks-written draft [] fine = refl
-tasks-written draft (task ∷ tasks) fine = rw (file_op-written draft task.name task.op task.to fine.0.name fine.0.op fine.0.to) (tasks-written (with_task draft task) tasks fine.1)
+tasks-written draft (task ∷ tasks) fine = rw (file_op-written draft task.name task.op task.to fine.0.name fine.0.op fine.0.to) (tasks-written (with_task_text draft task) tasks fine.1)
 
 objects-written : (tasks : List TaskText) → list_all is_object (map task_text_data tasks) ≡ true
 objects-written [] = refl

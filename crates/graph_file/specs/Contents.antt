@@ -47,12 +47,12 @@ abbrev pub is_name : List ℕ → Bool
 is_name s = nat_le 1 (length s) && nat_le (length s) 64 && list_all is_name_byte s
 
 -- a string that is a name
-abbrev pub name_of : Data → Option (List ℕ)
-name_of d = option_and_then (passing is_name) (as_str d)
+abbrev pub task_name_of : Data → Option (List ℕ)
+task_name_of d = option_and_then (passing is_name) (as_str d)
 
 -- a list of names
-abbrev pub names_of : Data → Option (List (List ℕ))
-names_of d = option_and_then (each name_of) (list_of d)
+abbrev pub name_list_of : Data → Option (List (List ℕ))
+name_list_of d = option_and_then (each task_name_of) (list_of d)
 
 -- ---- what operations name
 
@@ -77,5 +77,5 @@ abbrev pub whole_of : ℕ → ℕ → Data → Option ℕ
 whole_of least most d = option_and_then (passing (λ n. nat_le least n && nat_le n most)) (option_and_then as_u64 (as_number d))
 
 -- a number of lines: at most 1,000,000,000
-abbrev pub lines_of : Data → Option ℕ
-lines_of d = whole_of 0 line_limit d
+abbrev pub line_count_of : Data → Option ℕ
+line_count_of d = whole_of 0 line_limit d

@@ -11,7 +11,7 @@ use Rattle.graph_plans.specs.declared.ops.TextOp.TheVariants.{Pass, Keep, Withou
 use Rattle.graph_plans.specs.declared.spots.Spot.{Spot}
 use Rattle.graph_file.specs.declared.refusals.GraphError.{GraphError}
 use Rattle.graph_file.specs.declared.refusals.GraphError.TheVariants.{BadField}
-use Rattle.graph_file.specs.Contents.{lines_of, text_name_of, word_of, words_of}
+use Rattle.graph_file.specs.Contents.{line_count_of, text_name_of, word_of, words_of}
 use Rattle.graph_file.specs.Fields.{needed}
 use Rattle.graph_file.specs.Steps.{◌>>=◌}
 
@@ -44,9 +44,9 @@ text_rows =
     bare (codes "pass") Pass
     ∷ single (codes "keep") (codes "word") word_of Keep
     ∷ single (codes "without") (codes "word") word_of Without
-    ∷ single (codes "head") (codes "n") lines_of Head
-    ∷ single (codes "tail") (codes "n") lines_of Tail
-    ∷ single (codes "skip") (codes "n") lines_of Skip
+    ∷ single (codes "head") (codes "n") line_count_of Head
+    ∷ single (codes "tail") (codes "n") line_count_of Tail
+    ∷ single (codes "skip") (codes "n") line_count_of Skip
     ∷ bare (codes "sort") Sort
     ∷ bare (codes "uniq") Uniq
     ∷ bare (codes "count") Count
@@ -60,7 +60,7 @@ op_rows =
     ∷ single (codes "read") (codes "text") text_name_of reads
     ∷ bare (codes "match") (does Match)
     ∷ bare (codes "back") (does Back)
-    ∷ single (codes "ifmore") (codes "n") lines_of (λ n. does (IfMore n))
+    ∷ single (codes "ifmore") (codes "n") line_count_of (λ n. does (IfMore n))
     ∷ single (codes "ifhas") (codes "word") word_of (λ word. does (IfHas word))
     ∷ single (codes "route") (codes "words") words_of (λ words. does (Route words))
     ∷ map (used_by (λ op. does (Text op))) text_rows

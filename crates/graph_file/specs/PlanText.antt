@@ -10,11 +10,11 @@ use Rattle.graph_plans.specs.declared.ops.Op.{Op}
 use Rattle.graph_plans.specs.declared.ops.Op.TheVariants.{Read}
 use Rattle.graph_plans.specs.declared.spots.Spot.TheVariants.{File}
 use Rattle.graph_plans.specs.Operations.{shape_of}
-use Rattle.graph_plans.specs.PlanRows.{PlanRows, edge_limit, task_limit, text_count_limit}
+use Rattle.graph_plans.specs.PlanRows.{PlanRows, file_edge_limit, file_task_limit, text_count_limit}
 use Rattle.graph_file.specs.declared.refusals.GraphError.{GraphError}
 use Rattle.graph_file.specs.declared.refusals.GraphError.TheVariants.{NotJson, NoSuchName, Repeated, TooMany}
 use Rattle.graph_file.specs.declared.refusals.Kind.TheVariants.{Tasks, Edges, Texts}
-use Rattle.graph_file.specs.Contents.{empty_list_of, name_of, names_of, objects_of, whole_of}
+use Rattle.graph_file.specs.Contents.{empty_list_of, task_name_of, name_list_of, objects_of, whole_of}
 use Rattle.graph_file.specs.Fields.{allowed, needed, only, task_spot, u32_of}
 use Rattle.graph_file.specs.OpRows.{FileOpRow, reads, does, op_in, op_rows}
 use Rattle.graph_file.specs.Steps.{◌>>=◌, passed, walk}
@@ -65,8 +65,8 @@ abbrev pub link_to : ℕ → List ℕ → LinkRow
 link_to from to = record { from = from; to = to }
 
 -- one task more
-abbrev pub with_task : DraftRows → TaskText → DraftRows
-with_task draft task = record {
+abbrev pub with_task_text : DraftRows → TaskText → DraftRows
+with_task_text draft task = record {
   names = draft.names ++ task.name ∷ [];
   ops = draft.ops ++ numbered draft.texts task.op ∷ [];
   links = draft.links ++ map (link_to (length draft.names)) task.to;
@@ -80,12 +80,12 @@ task_fields = codes "name" ∷ codes "op" ∷ codes "to" ∷ codes "holds" ∷ [
 -- An object more, by the order of its fields. No task holds a semaphore yet.
 abbrev pub add_task : DraftRows → Data → Result DraftRows GraphError
 add_task draft d = let spot = task_spot (length draft.names) in do
-  name ← needed name_of spot (codes "name") d
+  name ← needed task_name_of spot (codes "name") d
   found ← op_in op_rows spot d
-  to ← allowed [] names_of spot (codes "to") d
+  to ← allowed [] name_list_of spot (codes "to") d
   holds ← allowed [] empty_list_of spot (codes "holds") d
   done ← only (task_fields ++ found.fields) spot d
-  Ok (with_task draft (record { name = name; op = found.op; to = to }))
+  Ok (with_task_text draft (record { name = name; op = found.op; to = to }))
 
 -- the fields of a file
 abbrev pub file_fields : List (List ℕ)
@@ -130,8 +130,8 @@ plan_with draft edges = record {
 -- there are not too many tasks, edges and texts
 abbrev pub within_limits : DraftRows → Result ⊤ GraphError
 within_limits draft = do
-  tasks ← passed (nat_le (length draft.names) task_limit) (TooMany Tasks)
-  edges ← passed (nat_le (length draft.links) edge_limit) (TooMany Edges)
+  tasks ← passed (nat_le (length draft.names) file_task_limit) (TooMany Tasks)
+  edges ← passed (nat_le (length draft.links) file_edge_limit) (TooMany Edges)
   passed (nat_le (length draft.texts) text_count_limit) (TooMany Texts)
 
 -- the classes of refusals in their order, after that of fields

@@ -5,14 +5,14 @@ ghost use Rattle.std.specs.List.{find, list_any};
 ghost use Rattle.std.specs.Str.{bytes_eq};
 ghost use Rattle.serde_json.specs.Find.{get};
 ghost use Rattle.serde_json.specs.View.{view};
-ghost use Rattle.graph_file.specs.Contents.{each, empty_list_of, lines_of, list_of, name_of, names_of, text_name_of, whole_of, word_of, words_of};
+ghost use Rattle.graph_file.specs.Contents.{each, empty_list_of, line_count_of, list_of, task_name_of, name_list_of, text_name_of, whole_of, word_of, words_of};
 ghost use Rattle.graph_file.specs.Fields.{allowed, is_unknown, needed, only, unknown};
 ghost use Rattle.graph_file.specs.PlanText.{task_fields};
 ghost use Rattle.graph_file.specs.inside.Reading.{Leads, Reads, ReadsAs, put_each};
 ghost use Rattle.graph_file.specs.Steps.{walk};
 
 use crate::bad_fields::bad_field;
-use crate::contents::{list_of, name_of, text_name_of, whole_of, word_of};
+use crate::contents::{list_of, task_name_of, text_name_of, whole_of, word_of};
 use crate::refusals::GraphError;
 use graph_plans::Spot;
 use outside_io::{Bytes, List};
@@ -29,9 +29,9 @@ pub(crate) fn read_name<'v>(
     spot: Spot,
     task: &'v Value,
 ) -> Result<&'v str, GraphError>
-    ensures { ReadsAs (λ s. s.now) result (needed name_of spot (codes "name") (view task.now)) }
+    ensures { ReadsAs (λ s. s.now) result (needed task_name_of spot (codes "name") (view task.now)) }
 {
-    let Some(name) = task.get("name").and_then(name_of) else {
+    let Some(name) = task.get("name").and_then(task_name_of) else {
         return Err(bad_field(alloc, spot, "name"));
     };
     Ok(name)
@@ -63,16 +63,16 @@ pub(crate) fn read_word(alloc: Global, spot: Spot, object: &Value) -> Result<Byt
 
 /// The number of lines that an operation names.
 pub(crate) fn read_lines(alloc: Global, spot: Spot, object: &Value) -> Result<u64, GraphError>
-    ensures { Reads result (needed lines_of spot (codes "n") (view object.now)) }
+    ensures { Reads result (needed line_count_of spot (codes "n") (view object.now)) }
 {
-    let Some(lines) = object.get("n").and_then(lines_of) else {
+    let Some(lines) = object.get("n").and_then(line_count_of) else {
         return Err(bad_field(alloc, spot, "n"));
     };
     Ok(lines)
 }
 
-fn lines_of(value: &Value) -> Option<u64>
-    ensures { result ≡ lines_of (view value.now) }
+fn line_count_of(value: &Value) -> Option<u64>
+    ensures { result ≡ line_count_of (view value.now) }
 {
     whole_of(value, 0, MAX_LINES)
 }

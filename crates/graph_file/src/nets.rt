@@ -1,7 +1,7 @@
 // The net of a graph file.
 ghost use Rattle.std.specs.Prelude.{◌≡◌, ◌<◌, ◌≤◌, [], All, IfOk, OnOk, false, length, map};
 ghost use Rattle.graph_plans.specs.Operations.{shape_of};
-ghost use Rattle.graph_plans.specs.PlanRows.{edge_limit, task_limit};
+ghost use Rattle.graph_plans.specs.PlanRows.{file_edge_limit, file_task_limit};
 ghost use Rattle.task_graph.specs.NetBuilder.{empty_net, with_edge, with_task};
 ghost use Rattle.graph_file.specs.PlanText.{task_row};
 ghost use Rattle.graph_file.specs.inside.Drafts.{IsAmong, edge_row, net_with};
@@ -20,8 +20,8 @@ pub(crate) struct Edge {
 
 /// The net of tasks with these operations, and of these edges.
 pub(crate) fn net_with(alloc: Global, ops: &[Op], edges: &[Edge]) -> Result<Net, NoMemory>
-    requires tasks { length ops.now ≤ task_limit }
-    requires edges { length edges.now ≤ edge_limit }
+    requires tasks { length ops.now ≤ file_task_limit }
+    requires edges { length edges.now ≤ file_edge_limit }
     requires among { All (IsAmong (length ops.now)) (map edge_row edges.now) }
     ensures { IfOk result (λ net. net ≡ net_with ops.now (map edge_row edges.now)) }
 {
@@ -33,7 +33,7 @@ pub(crate) fn net_with(alloc: Global, ops: &[Op], edges: &[Edge]) -> Result<Net,
 
 fn add_tasks(alloc: Global, builder: &mut NetBuilder, ops: &[Op]) -> Result<(), NoMemory>
     requires empty { builder.old ≡ empty_net }
-    requires room { length ops.now ≤ task_limit }
+    requires room { length ops.now ≤ file_task_limit }
     ensures { OnOk result (builder.new ≡ net_with ops.now []) }
 {
     for op in ops {
@@ -43,7 +43,7 @@ fn add_tasks(alloc: Global, builder: &mut NetBuilder, ops: &[Op]) -> Result<(), 
 }
 
 fn add_task(alloc: Global, builder: &mut NetBuilder, op: &Op) -> Result<(), NoMemory>
-    requires { length builder.old.tasks < task_limit }
+    requires { length builder.old.tasks < file_task_limit }
     ensures { OnOk result (builder.new ≡ with_task builder.old (task_row op.now)) }
 {
     match builder.task(shape_of(op), List::new(alloc), List::new(alloc)) {
@@ -64,9 +64,9 @@ fn shape_of(op: &Op) -> Shape
 }
 
 fn add_edges(builder: &mut NetBuilder, tasks: usize, edges: &[Edge]) -> Result<(), NoMemory>
-    requires tasks { (length builder.old.tasks ≡ tasks) × (tasks ≤ task_limit) }
+    requires tasks { (length builder.old.tasks ≡ tasks) × (tasks ≤ file_task_limit) }
     requires none { builder.old.edges ≡ [] }
-    requires room { length edges.now ≤ edge_limit }
+    requires room { length edges.now ≤ file_edge_limit }
     requires among { All (IsAmong tasks) (map edge_row edges.now) }
     ensures { OnOk result (builder.new ≡ record builder.old { edges = map edge_row edges.now }) }
 {
@@ -77,8 +77,8 @@ fn add_edges(builder: &mut NetBuilder, tasks: usize, edges: &[Edge]) -> Result<(
 }
 
 fn add_edge(builder: &mut NetBuilder, edge: Edge) -> Result<(), NoMemory>
-    requires tasks { length builder.old.tasks ≤ task_limit }
-    requires room { length builder.old.edges < edge_limit }
+    requires tasks { length builder.old.tasks ≤ file_task_limit }
+    requires room { length builder.old.edges < file_edge_limit }
     requires among { IsAmong (length builder.old.tasks) (edge_row edge) }
     ensures { OnOk result (builder.new ≡ with_edge builder.old (edge_row edge)) }
 {

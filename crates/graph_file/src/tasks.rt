@@ -2,7 +2,7 @@
 ghost use Rattle.std.specs.Prelude.{◌≡◌, [], codes, map, IfOk, OnOk, if◌then◌else◌, Some, None};
 ghost use Rattle.serde_json.specs.View.{view};
 ghost use Rattle.graph_plans.specs.declared.spots.Spot.TheVariants.{File};
-ghost use Rattle.graph_file.specs.Contents.{empty_list_of, name_of, objects_of, whole_of};
+ghost use Rattle.graph_file.specs.Contents.{empty_list_of, task_name_of, objects_of, whole_of};
 ghost use Rattle.graph_file.specs.Fields.{allowed, needed, task_spot};
 ghost use Rattle.graph_file.specs.PlanText.{draft_in, link_to, mentioned, no_tasks, numbered};
 ghost use Rattle.graph_file.specs.Steps.{walk};
@@ -10,7 +10,7 @@ ghost use Rattle.graph_file.specs.inside.Lookups.{HasPlaces};
 ghost use Rattle.graph_file.specs.inside.Reading.{Leads, Reads, ReadsAs, add_task_steps, draft_rows, file_op_row, link_row, links_with, put_each, with_op};
 
 use crate::bad_fields::{bad_field, task_spot};
-use crate::contents::{list_of, name_of, objects_of, whole_of};
+use crate::contents::{list_of, objects_of, task_name_of, whole_of};
 use crate::draft::{Draft, Link};
 use crate::fields::read_name;
 use crate::file_op::FileOp;
@@ -145,7 +145,7 @@ fn read_links<'v>(
     links: &mut List<Link<'v>>,
 ) -> Result<(), GraphError>
     ensures { Leads result (map link_row links.new)
-        (walk (put_each name_of (link_to from) (GraphError.BadField (task_spot from) (codes "to"))) (map link_row links.old) (map view names.now)) }
+        (walk (put_each task_name_of (link_to from) (GraphError.BadField (task_spot from) (codes "to"))) (map link_row links.old) (map view names.now)) }
 {
     for name in names {
         read_link(alloc, from, name, links)?;
@@ -160,9 +160,9 @@ fn read_link<'v>(
     links: &mut List<Link<'v>>,
 ) -> Result<(), GraphError>
     ensures { Leads result (map link_row links.new)
-        (put_each name_of (link_to from) (GraphError.BadField (task_spot from) (codes "to")) (map link_row links.old) (view name.now)) }
+        (put_each task_name_of (link_to from) (GraphError.BadField (task_spot from) (codes "to")) (map link_row links.old) (view name.now)) }
 {
-    let Some(to) = name_of(name) else {
+    let Some(to) = task_name_of(name) else {
         return Err(bad_field(alloc, task_spot(from), "to"));
     };
     links.push(Link { from, to })?;

@@ -33,12 +33,12 @@ abbrev pub plan_rows : Plan → PlanRows
 plan_rows p = record { top = graph_rows p.top; modules = map graph_rows p.modules; texts = p.texts }
 
 -- how many tasks a file may have
-abbrev pub task_limit : ℕ
-task_limit = 10000
+abbrev pub file_task_limit : ℕ
+file_task_limit = 10000
 
 -- how many edges
-abbrev pub edge_limit : ℕ
-edge_limit = 100000
+abbrev pub file_edge_limit : ℕ
+file_edge_limit = 100000
 
 -- how many different names of texts
 abbrev pub text_count_limit : ℕ
@@ -72,8 +72,8 @@ pub record IsPlan (plan : PlanRows) : Type 0 where
   pub shapes : map (λ (row : TaskRow). row.shape) plan.top.net.tasks ≡ map shape_of plan.top.ops
   pub ops : All (IsOp (length plan.texts)) plan.top.ops
   pub names_differ : AllDiffer plan.top.names
-  pub task_count : length plan.top.net.tasks ≤ task_limit
-  pub edge_count : length plan.top.net.edges ≤ edge_limit
+  pub task_count : length plan.top.net.tasks ≤ file_task_limit
+  pub edge_count : length plan.top.net.edges ≤ file_edge_limit
   pub texts : All IsTextName plan.texts
   pub texts_differ : AllDiffer plan.texts
   pub text_count : length plan.texts ≤ text_count_limit

@@ -6,6 +6,7 @@ pub mod Tallying
 pub mod Rounding
 pub mod Changing
 pub mod UnitLaws
+pub mod TaskSemaphores
 pub mod ReleaseLaws
 pub mod Reaching
 pub mod CountLaws

@@ -7,7 +7,7 @@ use mathlib.Core.Option as core
 use prog.Atomic.{either}
 use Rattle.atomic_table.specs.Table.{State, Me, Act, keeps, takes, gives, Valid, homes_after, carried_after, Allows}
 use Rattle.atomic_table.proofs.Lists.{exchanged}
-use Rattle.keyed_lock.specs.inside.Rule.{IsKept, IsKeptAt, HasValue, TakesIfFree}
+use Rattle.keyed_lock.specs.inside.Rule.{KeepsLock, IsKeptAt, HasValue, TakesIfFree}
 
 -- the word in use, before and after it is written
 word_found : (words : List ℕ) (i n : ℕ) → slice_get words i ≡ Some n → slice_index words i ≡ n
@@ -33,12 +33,12 @@ claimed n = exchanged n 0 1 IsMore (λ _. (0, refl)) (not_zero n)
 
 module _ {T C : Type 0} (key : T → C) where
   abbrev holds : T → State (Option T) (Snapshot T) → Type 0
-  holds first s = IsKept key first s.words s.homes
+  holds first s = KeepsLock key first s.words s.homes
 
   -- What a step on the word makes of the rule
   abbrev Keeps : T → List ℕ → List (core.Option (Option T)) → List (ℕ × Option T) → ℕ → (Snapshot T → Act (Option T) → Type 0) → Type 0
   Keeps first words homes held m then =
-      (w : Snapshot T) × (a : Act (Option T)) × Valid homes held a × IsKept key first (slice_set words 8 m) (homes_after homes held a) × then w a
+      (w : Snapshot T) × (a : Act (Option T)) × Valid homes held a × KeepsLock key first (slice_set words 8 m) (homes_after homes held a) × then w a
 
   -- A seat that holds nothing writes something that is not 0, and holds the slot if it found 0
   takes_it : (first : Snapshot T) (slots id : ℕ) (f : ℕ → ℕ) → ((n : ℕ) → IsMore (f n)) → Allows (holds first.value) slots id (first, []) 8 f (TakesIfFree key (first, []))
@@ -69,7 +69,7 @@ module _ {T C : Type 0} (key : T → C) where
       → Allows (holds first) slots id (view, (0, Some value) ∷ []) 8 (λ _. 0) (λ _ after. after.1 ≡ [])
   gives_it first slots id view value same s kept len at small = by_case (slice_get s.words 8) s.homes refl kept
     where
-      given : (n : ℕ) → slice_get s.words 8 ≡ Some n → IsKept key first (slice_set s.words 8 0) (some (Some value) ∷ [])
+      given : (n : ℕ) → slice_get s.words 8 ≡ Some n → KeepsLock key first (slice_set s.words 8 0) (some (Some value) ∷ [])
       given n e = subst (λ word. IsKeptAt key first word (some (Some value) ∷ [])) (sym (word_set s.words 8 n 0 e)) same
 
       by_case : (word : Option ℕ) (homes : List (core.Option (Option T))) → slice_get s.words 8 ≡ word → IsKeptAt key first word homes

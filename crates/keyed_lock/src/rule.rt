@@ -7,9 +7,9 @@ use std::snapshot::Snapshot;
 pub struct HasKey;
 
 impl<T: Keyed> TableRule<Option<T>, Snapshot<T>, Snapshot<T>> for HasKey {
-    ghost use Rattle.keyed_lock.specs.inside.Rule.{IsKept};
+    ghost use Rattle.keyed_lock.specs.inside.Rule.{KeepsLock};
 
-    ghost holds = { λ first s. IsKept T.key first.value s.words s.homes };
+    ghost holds = { λ first s. KeepsLock T.key first.value s.words s.homes };
 
     ghost first = { λ first. first };
 }

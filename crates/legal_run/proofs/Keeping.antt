@@ -36,7 +36,7 @@ use Rattle.legal_run.specs.inside.Waits.{TellsWaiting}
 use Rattle.journal_rules.specs.inside.Counted.{CountsOpen, IsCounted, IsPosition}
 use Rattle.legal_run.specs.declared.walk.Walk.{Walk}
 use Rattle.legal_run.specs.inside.Walks.{IsAt}
-use Rattle.legal_run.specs.inside.Kept.{IsLed, IsKept}
+use Rattle.legal_run.specs.inside.Kept.{IsLed, IsMachineFor}
 use Rattle.journal_rules.proofs.Snoc.{EachAfter-push}
 use Rattle.journal_rules.proofs.NetLemmas.{counted_once}
 use Rattle.legal_run.proofs.Marking.{distinct_once}
@@ -138,24 +138,24 @@ pub same_state : (net : NetRows) (limit : ℕ) (j k : List Entry) → j ≡ k �
 same_state net limit j k same = ap (λ (i : List Entry). state net limit i) same
 
 -- a machine's position
-pub position_of : (net : NetRows) (limit : ℕ) (h : List Entry) (counts : Counts) (parts : List Part) (marks : ℕ) → IsKept net limit h counts parts marks → length h < 2 ^ 61 → IsPosition net limit h counts
+pub position_of : (net : NetRows) (limit : ℕ) (h : List Entry) (counts : Counts) (parts : List Part) (marks : ℕ) → IsMachineFor net limit h counts parts marks → length h < 2 ^ 61 → IsPosition net limit h counts
 position_of net limit h counts parts marks kept size = record { reached = kept.led.reached; counted = kept.counted; grow = can_grow net h counts kept.counted size }
 
 -- a machine that has taken an entry: the entry could follow, and the parts fit together again
 pub record HasTaken (net : NetRows) (limit : ℕ) (h : List Entry) (x : Entry) (h' : List Entry) (counts : Counts) (parts : List Part) (marks : ℕ) : Type 0 where
   pub may : MayFollow net limit h x
   pub journal : h' ≡ h ++ x ∷ []
-  pub kept : IsKept net limit h' counts parts marks
+  pub kept : IsMachineFor net limit h' counts parts marks
 
 taken : (net : NetRows) (limit : ℕ) (h : List Entry) (x : Entry) (h' : List Entry) (counts : Counts) (parts : List Part) (marks : ℕ) → MayFollow net limit h x → h' ≡ h ++ x ∷ [] → marks ≡ length net.edges
     → IsLed net limit (h ++ x ∷ []) → IsCounted net (h ++ x ∷ []) counts → TellsWaiting net (h ++ x ∷ []) parts → HasTaken net limit h x h' counts parts marks
 taken net limit h x h' counts parts marks may is marks_are led counted waiting = record {
   may = may;
   journal = is;
-  kept = subst (λ j. IsKept net limit j counts parts marks) (sym is) (record { led = led; counted = counted; waiting = waiting; marks_are = marks_are });
+  kept = subst (λ j. IsMachineFor net limit j counts parts marks) (sym is) (record { led = led; counted = counted; waiting = waiting; marks_are = marks_are });
 }
 
-pub has_started : (net : NetRows) (limit t place : ℕ) (h h' : List Entry) (cause : Cause) (ins parts parts' : List Part) (counts counts' counts'' : Counts) (marks : ℕ) → IsKept net limit h counts parts marks → ((i : List Part) → MayFollow net limit h (Start t cause i))
+pub has_started : (net : NetRows) (limit t place : ℕ) (h h' : List Entry) (cause : Cause) (ins parts parts' : List Part) (counts counts' counts'' : Counts) (marks : ℕ) → IsMachineFor net limit h counts parts marks → ((i : List Part) → MayFollow net limit h (Start t cause i))
     → ins ≡ waiting_parts net t cause h → h' ≡ h ++ Start t cause ins ∷ [] → place ≡ length h → IsCounted net h counts'
     → ((l : ℕ) (journal : List Entry) (i : List Part) → IsReached net l journal → place ≡ length journal → IsCounted net journal counts' → IsCounted net (journal ++ Start t cause i ∷ []) counts'')
     → ((journal : List Entry) (entry : Entry) → IsUseOf t cause entry → TellsWaiting net journal parts → TellsWaiting net (journal ++ entry ∷ []) parts')
@@ -165,7 +165,7 @@ has_started net limit t place h h' cause ins parts parts' counts counts' counts'
     taken net limit h (Start t cause found) h' counts'' parts' marks (may found) (is ∙ ap (λ i. h ++ Start t cause i ∷ []) ins_is) kept.marks_are (led_start net limit t h cause kept.led (may found))
     (counts_it limit h found kept.led.reached here counted) (tells_it h (Start t cause found) (start_use t cause found) kept.waiting)
 
-pub has_ended : (net : NetRows) (limit p t place : ℕ) (h h' : List Entry) (gives list : List ℕ) (inner : Bool) (parts parts' : List Part) (counts counts' counts'' : Counts) (marks : ℕ) → IsKept net limit h counts parts marks → MayFollow net limit h (End p gives inner) → ClosesTask h p t
+pub has_ended : (net : NetRows) (limit p t place : ℕ) (h h' : List Entry) (gives list : List ℕ) (inner : Bool) (parts parts' : List Part) (counts counts' counts'' : Counts) (marks : ℕ) → IsMachineFor net limit h counts parts marks → MayFollow net limit h (End p gives inner) → ClosesTask h p t
     → list ≡ gives → h' ≡ h ++ End p list inner ∷ [] → place ≡ length h → IsCounted net h counts' → length h < length counts'.open_starts
     → ((l : ℕ) (journal : List Entry) (i : Bool) → IsReached net l journal → place ≡ length journal → length journal < length counts'.open_starts → ClosesTask journal p t → IsCounted net journal counts' → IsCounted net (journal ++ End p gives i ∷ []) counts'')
     → ((n : NetRows) (journal : List Entry) (start : ℕ) (i : Bool) → TellsWaiting n journal parts → place ≡ length journal → TellsWaiting n (journal ++ End start gives i ∷ []) parts')
@@ -174,14 +174,14 @@ has_ended net limit p t place h h' gives list inner parts parts' counts counts' 
     taken net limit h (End p gives inner) h' counts'' parts' marks may (is ∙ ap (λ (g : List ℕ). h ++ End p g inner ∷ []) list_is) kept.marks_are (led_end net limit p h gives inner kept.led may)
     (counts_it limit h inner kept.led.reached here room closed counted) (tells_it net h p inner kept.waiting here)
 
-pub has_faulted : (net : NetRows) (limit p t place : ℕ) (h h' : List Entry) (why : Why) (parts : List Part) (counts counts' counts'' : Counts) (marks : ℕ) → IsKept net limit h counts parts marks → MayFollow net limit h (Fault p why) → ClosesTask h p t
+pub has_faulted : (net : NetRows) (limit p t place : ℕ) (h h' : List Entry) (why : Why) (parts : List Part) (counts counts' counts'' : Counts) (marks : ℕ) → IsMachineFor net limit h counts parts marks → MayFollow net limit h (Fault p why) → ClosesTask h p t
     → h' ≡ h ++ Fault p why ∷ [] → place ≡ length h → IsCounted net h counts' → length h < length counts'.open_starts
     → ((l : ℕ) (journal : List Entry) (w : Why) → IsReached net l journal → place ≡ length journal → length journal < length counts'.open_starts → ClosesTask journal p t → IsCounted net journal counts' → IsCounted net (journal ++ Fault p w ∷ []) counts'')
     → HasTaken net limit h (Fault p why) h' counts'' parts marks
 has_faulted net limit p t place h h' why parts counts counts' counts'' marks kept may closed is here counted room counts_it =
     taken net limit h (Fault p why) h' counts'' parts marks may is kept.marks_are (led_fault net limit p h why kept.led may) (counts_it limit h why kept.led.reached here room closed counted) (tells_fault net h p why parts kept.waiting)
 
-pub has_dropped : (net : NetRows) (limit t : ℕ) (h h' : List Entry) (cause : Cause) (why : DropWhy) (parts parts' : List Part) (counts counts' counts'' : Counts) (marks : ℕ) → IsKept net limit h counts parts marks → MayFollow net limit h (Drop t cause why)
+pub has_dropped : (net : NetRows) (limit t : ℕ) (h h' : List Entry) (cause : Cause) (why : DropWhy) (parts parts' : List Part) (counts counts' counts'' : Counts) (marks : ℕ) → IsMachineFor net limit h counts parts marks → MayFollow net limit h (Drop t cause why)
     → h' ≡ h ++ Drop t cause why ∷ [] → IsCounted net h counts' → length h < length counts'.open_starts
     → ((l : ℕ) (journal : List Entry) → IsReached net l journal → length journal < length counts'.open_starts → IsCounted net journal counts' → IsCounted net (journal ++ Drop t cause why ∷ []) counts'')
     → ((journal : List Entry) (entry : Entry) → IsUseOf t cause entry → TellsWaiting net journal parts → TellsWaiting net (journal ++ entry ∷ []) parts')

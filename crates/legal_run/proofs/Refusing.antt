@@ -1,12 +1,10 @@
 -- Which break of an entry is told, and when it may follow.
 use Rattle.std.proofs.Common.{◌≡◌, ◌≢◌, ◌⊎◌, inl, inr, ℕ, ◌+◌, ◌<◌, ◌≤◌, Bool, true, false, cond, List, [], ◌∷◌, ◌++◌, length, Option, Some, None, refl, ap, ◌∙◌, arith, IsTrue, Result, Ok, Err}
-use Rattle.std.specs.Prelude.{◌==◌, slice_get, IsSomeAnd, MatchResult}
+use Rattle.std.specs.Prelude.{IsSomeAnd, MatchResult}
 use Rattle.std.specs.Option.{option_map_or}
-use Rattle.std.specs.List.{AllByRecursion, list_any}
+use Rattle.std.specs.List.{AllByRecursion}
 use Rattle.std.proofs.lemmas.Bool.{cases_eq, cases_lt, false≢true}
 use Rattle.task_graph.specs.NetRows.{NetRows}
-use Rattle.task_graph.specs.Net.{IsNet, IsTaskOf}
-use Rattle.task_graph.specs.declared.net.TaskRow.{TaskRow}
 use Rattle.journal_rules.specs.declared.entry.Cause.{Cause}
 use Rattle.journal_rules.specs.declared.entry.Part.{Part}
 use Rattle.journal_rules.specs.declared.entry.Why.{Why}
@@ -27,10 +25,10 @@ use Rattle.journal_rules.specs.ShapeLegal.{IsInRange, CauseInRange, WhyInRange, 
 use Rattle.legal_run.specs.Refusal.{Breaks, rank, IsRefusal, StartsWithoutUnit, StartsAtLimit, EndsWithNothingOut, DropsWithoutCause, is_halted_why}
 use Rattle.legal_run.specs.inside.Checks.{BreaksWhy}
 use Rattle.journal_rules.specs.inside.Reached.{IsReached}
-use Rattle.journal_rules.proofs.UnitLaws.{taken_push, back_push, start_below, named_in_range}
+use Rattle.journal_rules.proofs.UnitLaws.{taken_push, back_push, start_below}
 use Rattle.journal_rules.proofs.Snoc.{start_at_push_below}
 use Rattle.journal_rules.proofs.Reaching.{each_below, at_below}
-use Rattle.journal_rules.proofs.NetLemmas.{at_place}
+use Rattle.journal_rules.proofs.TaskSemaphores.{takes_in_range, puts_in_range}
 
 abbrev one_if : Bool → ℕ
 one_if b = cond b 1 0
@@ -301,21 +299,6 @@ may_drop net limit t h cause why reached in_tasks in_edges in_sems after release
   semaphore = record { within = each_below (UnitsInBounds net (h ++ Drop t cause why ∷ [])) (length net.sems) (λ s below. within_still net limit h (Drop t cause why) s reached below (taken_push net s h (Drop t cause why)) (back_push net limit s h (Drop t cause why) reached)); over = tt };
   halt_limit_stuck = record { dropped = rule; after_stuck = after };
 }
-
--- a semaphore that a task takes, or puts, is the net's
-takes_in_range : (net : NetRows) (s t : ℕ) → IsNet net → IsTrue (takes net s t) → s < length net.sems
-takes_in_range net s t rows is = by_row (slice_get net.tasks t) refl is
-  where
-    by_row : (row : Option TaskRow) → slice_get net.tasks t ≡ row → option_map_or (λ (r : TaskRow). list_any (λ x. x == s) r.takes) row false ≡ true → s < length net.sems
-    by_row None stands among = absurd (false≢true among)
-    by_row (Some row) stands among = named_in_range net row.takes s (at_place (IsTaskOf net) net.tasks t row rows.tasks stands).takes among
-
-puts_in_range : (net : NetRows) (s t : ℕ) → IsNet net → IsTrue (puts net s t) → s < length net.sems
-puts_in_range net s t rows is = by_row (slice_get net.tasks t) refl is
-  where
-    by_row : (row : Option TaskRow) → slice_get net.tasks t ≡ row → option_map_or (λ (r : TaskRow). list_any (λ x. x == s) r.puts) row false ≡ true → s < length net.sems
-    by_row None stands among = absurd (false≢true among)
-    by_row (Some row) stands among = named_in_range net row.puts s (at_place (IsTaskOf net) net.tasks t row rows.tasks stands).puts among
 
 -- An entry that may follow breaks no rule.
 pub breaks_nothing : (net : NetRows) (limit : ℕ) (h : List Entry) (x : Entry) (b : Break) → IsReached net limit h → MayFollow net limit h x → ¬ Breaks net limit h x b

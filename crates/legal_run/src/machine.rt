@@ -45,13 +45,13 @@ pub struct Machine {
 impl Model for Machine {
     ghost use Rattle.std.specs.Arc.{arc_value};
     ghost use Rattle.legal_run.specs.MachineState.{MachineState};
-    ghost use Rattle.legal_run.specs.inside.Kept.{IsKept};
+    ghost use Rattle.legal_run.specs.inside.Kept.{IsMachineFor};
 
     ghost Value = { MachineState };
 
     ghost view = { λ m. record { net = arc_value m.net; limit = m.limit; journal = m.journal } };
 
-    ghost invariant = { λ m. IsKept (arc_value m.net) m.limit m.journal m.counts m.waiting.parts.items m.marks };
+    ghost invariant = { λ m. IsMachineFor (arc_value m.net) m.limit m.journal m.counts m.waiting.parts.items m.marks };
 }
 
 impl Machine {

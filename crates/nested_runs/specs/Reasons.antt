@@ -1,5 +1,5 @@
 -- Why a run came to its end.
-use Rattle.std.specs.Prelude.{ℕ, suc, ◌==◌, List, [], ◌∷◌, map, count_by, unwrap_or, Option, Some, None, if◌then◌else◌}
+use Rattle.std.specs.Prelude.{ℕ, suc, ◌==◌, List, [], ◌∷◌, count_by, unwrap_or, Option, Some, None, if◌then◌else◌}
 use Rattle.std.specs.Arc.{arc_value}
 use Rattle.journal_rules.specs.declared.entry.Entry.{Entry}
 use Rattle.journal_rules.specs.declared.entry.Entry.TheVariants.{Start, End, Fault as FaultEntry, Drop}
@@ -9,10 +9,9 @@ use Rattle.journal_rules.specs.declared.entry.Why.TheVariants.{Inner}
 use Rattle.journal_rules.specs.Counts.{start_at}
 use Rattle.journal_rules.specs.Complete.{is_limited}
 use Rattle.run_frame.specs.Meaning.{Meaning}
-use Rattle.run_frame.specs.declared.run.FrameRun.{FrameRun, out-FrameRun}
-use Rattle.run_frame.specs.declared.run.InnerRow.{InnerRow}
+use Rattle.run_frame.specs.declared.run.FrameRun.{FrameRun}
 use Rattle.run_frame.specs.declared.run.FrameRun.TheOpen.{FrameRun-F, InnerRow-F}
-use Rattle.run_frame.specs.declared.run.FrameRun.TheFolds.{fold-FrameRun, fold-InnerRow}
+use Rattle.run_frame.specs.declared.run.FrameRun.TheFolds.{fold-FrameRun}
 use Rattle.nested_runs.specs.declared.faults.Faulted.{Faulted}
 use Rattle.nested_runs.specs.declared.reasons.Reason.{Reason}
 use Rattle.nested_runs.specs.declared.reasons.Reason.TheVariants.{Fine, Fault, Limit, Stuck}
@@ -73,11 +72,3 @@ row_step row = (row.place, row.run)
 -- why a run came to its end
 abbrev pub run_reason : {J V : Type 0} → Meaning J V → FrameRun J V → Reason
 run_reason {J} {V} meaning = fold-FrameRun J V Reason (ℕ × Reason) (reason_step meaning) row_step
-
--- the reason of the run in a row, beside its place
-abbrev pub row_reason : {J V : Type 0} → Meaning J V → InnerRow J V → ℕ × Reason
-row_reason {J} {V} meaning = fold-InnerRow J V Reason (ℕ × Reason) (reason_step meaning) row_step
-
--- the reason of the inner run at a place
-abbrev pub inner_reason_at : {J V : Type 0} → Meaning J V → FrameRun J V → ℕ → Option Reason
-inner_reason_at {J} {V} meaning run n = reason_at (map (row_reason meaning) (out-FrameRun J V run).inner.items) n

@@ -2,7 +2,8 @@
 ghost use Rattle.std.specs.Prelude.{◌≡◌, ◌∷◌, [], IfOk, map, unwrap_or};
 ghost use Rattle.journal_rules.specs.Counts.{start_at};
 ghost use Rattle.run_frame.specs.NestedRule.{journal_of};
-ghost use Rattle.nested_runs.specs.Reasons.{below, faulted, inner_reason_at, reason_at, row_reason, run_reason, unfaulted};
+ghost use Rattle.nested_runs.specs.Reasons.{below, faulted, reason_at, run_reason, unfaulted};
+ghost use Rattle.nested_runs.specs.inside.InnerReasons.{inner_reason_at, row_reason};
 
 use super::faults::{Faulted, first_fault, first_stuck, is_limited};
 use journal_rules::{Entry, Why};

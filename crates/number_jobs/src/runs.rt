@@ -112,7 +112,11 @@ fn conditions(rt: HostRuntime) -> Result<(), Fail> {
             turns: 10,
             ..turning
         },
-    )?;
+    )
+}
+
+#[test]
+fn several_chosen(rt: HostRuntime) -> Result<(), Fail> {
     // two of four successors, and a task that waits for both
     let two = whole(
         &[MANY, PLAIN, PLAIN, PLAIN, PLAIN, PLAIN],
@@ -194,7 +198,11 @@ fn limits(rt: HostRuntime) -> Result<(), Fail> {
             limit: 5,
             ..whole(&[PLAIN; 8], &[(0, 6), (1, 6), (2, 7)], &[], 5)
         },
-    )?;
+    )
+}
+
+#[test]
+fn limits_of_loops(rt: HostRuntime) -> Result<(), Fail> {
     // a task that gives itself a token each time, and one to another
     in_each_order(
         &rt,

@@ -11,10 +11,10 @@ use prog.Atomic.{either}
 use lib.ListN.{get_elem?}
 use Rattle.atomic_table.specs.Table.{State, Me, step, keeps, Allows, Enters, Splits}
 use Rattle.ready_deques.specs.declared.count.Counting.{Counting}
-use Rattle.ready_deques.specs.inside.Counts.{counting, count_word, total_words, total_count, total_room, IsSpare, IsCounted, EntersIt, RaisesIt, DrawsIt, LowersIt, KeepsCount, GathersIt, SeesIt, seen, with_count, with_counts, without_count, drawn, count_alone, half_kept, half_given}
+use Rattle.ready_deques.specs.inside.Counts.{counting, count_word, total_words, total_count, total_room, IsSpare, HoldsCounts, EntersIt, RaisesIt, DrawsIt, LowersIt, KeepsCount, GathersIt, SeesIt, seen, with_count, with_counts, without_count, drawn, count_alone, half_kept, half_given}
 
 abbrev S : State (Unit {0}) Counting → Type 0
-S s = IsCounted s.words s.views
+S s = HoldsCounts s.words s.views
 
 -- a sum over the views after one view changed
 sum_by-set : (f : Counting → ℕ) (l : List Counting) (i : ℕ) (v w : Counting) → get_elem? l i ≡ some v → sum_by f (set l i w) + f v ≡ sum_by f l + f w
@@ -51,7 +51,7 @@ spare_and_word words i size spare =
     omega arith
 
 -- a seat's counts and the spare counts of one word are at most the count word
-spare_bound : (words : List ℕ) (views : List Counting) (i id : ℕ) (v : Counting) → IsCounted words views → IsSpare i → get_elem? views id ≡ some v → slice_index words i + v.count ≤ count_word words
+spare_bound : (words : List ℕ) (views : List Counting) (i id : ℕ) (v : Counting) → HoldsCounts words views → IsSpare i → get_elem? views id ≡ some v → slice_index words i + v.count ≤ count_word words
 spare_bound words views i id v h spare at =
     let a = spare_and_word words i h.size spare in
     let c = sum_by-set count_of views id v (counting 0 0 0) at in
@@ -59,9 +59,9 @@ spare_bound words views i id v h spare at =
     omega arith
 
 -- the rule after a seat's view changed and the count word was written
-counted_after : (words : List ℕ) (views : List Counting) (id : ℕ) (v w : Counting) (m : ℕ) → IsCounted words views → get_elem? views id ≡ some v
+counted_after : (words : List ℕ) (views : List Counting) (id : ℕ) (v w : Counting) (m : ℕ) → HoldsCounts words views → get_elem? views id ≡ some v
     → m + v.count ≡ count_word words + w.count → w.room ≤ v.room → w.count + w.room ≤ v.count + v.room ⊎ (count_word words < 4611686018427387904) × (w.count ≤ v.count + 1)
-    → IsCounted (slice_set words 8 m) (set views id w)
+    → HoldsCounts (slice_set words 8 m) (set views id w)
 counted_after words views id v w m h at word room bound =
     let c = sum_by-set count_of views id v w at in
     let r = sum_by-set room_of views id v w at in
@@ -79,9 +79,9 @@ counted_after words views id v w m h at word room bound =
     }
 
 -- the rule after counts went from a seat to a spare word, or back
-spare_after : (words : List ℕ) (views : List Counting) (i id : ℕ) (v w : Counting) (m : ℕ) → IsCounted words views → IsSpare i → get_elem? views id ≡ some v
+spare_after : (words : List ℕ) (views : List Counting) (i id : ℕ) (v w : Counting) (m : ℕ) → HoldsCounts words views → IsSpare i → get_elem? views id ≡ some v
     → m + w.count ≡ slice_index words i + v.count → w.room ≡ v.room
-    → IsCounted (slice_set words i m) (set views id w)
+    → HoldsCounts (slice_set words i m) (set views id w)
 spare_after words views i id v w m h spare at word room =
     let c = sum_by-set count_of views id v w at in
     let r = sum_by-set room_of views id v w at in
@@ -93,8 +93,8 @@ spare_after words views i id v w m h spare at word room =
     record { size = length-set words i m ∙ h.size; word = omega arith; room = omega arith; bound = omega arith }
 
 -- the rule after a seat's view was cut in two
-counted_split : (words : List ℕ) (views : List Counting) (id : ℕ) (v left right : Counting) → IsCounted words views → get_elem? views id ≡ some v
-    → left.count + right.count ≡ v.count → left.room + right.room ≡ v.room → IsCounted words (set views id left ++ right ∷ [])
+counted_split : (words : List ℕ) (views : List Counting) (id : ℕ) (v left right : Counting) → HoldsCounts words views → get_elem? views id ≡ some v
+    → left.count + right.count ≡ v.count → left.room + right.room ≡ v.room → HoldsCounts words (set views id left ++ right ∷ [])
 counted_split words views id v left right h at count room =
     let c = sum_by-set count_of views id v left at in
     let r = sum_by-set room_of views id v left at in
@@ -105,7 +105,7 @@ counted_split words views id v left right h at count room =
     let old_bound = h.bound in
     record { size = h.size; word = omega arith; room = omega arith; bound = omega arith }
 
-pub begins : IsCounted (replicate 272 0) (counting 0 0 4611686018427387904 ∷ [])
+pub begins : HoldsCounts (replicate 272 0) (counting 0 0 4611686018427387904 ∷ [])
 begins =
     let w : count_word (replicate 272 0) ≡ 0 = get_or-replicate 272 8 0 0 (omega arith) in
     let t : total_words (replicate 272 0) ≡ 0 = sum_by-replicate (λ (n : ℕ). n) 272 0 in
@@ -152,7 +152,7 @@ draws slots id me some_room s h len at small =
     (w, keeps, tt, counted_after s.words s.views id me.0 w ((n + 1) % 18446744073709551616) h at (omega arith) (omega arith) (inl (omega arith)), refl)
 
 -- a seat's counts are at most the count word
-seat_bound : (words : List ℕ) (views : List Counting) (id : ℕ) (v : Counting) → IsCounted words views → get_elem? views id ≡ some v → v.count ≤ count_word words
+seat_bound : (words : List ℕ) (views : List Counting) (id : ℕ) (v : Counting) → HoldsCounts words views → get_elem? views id ≡ some v → v.count ≤ count_word words
 seat_bound words views id v h at =
     let b = spare_bound words views 24 id v h (omega arith, omega arith) at in
     omega arith

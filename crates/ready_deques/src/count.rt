@@ -36,9 +36,9 @@ pub struct Counting {
 pub struct Counted;
 
 impl TableRule<(), Counting, ()> for Counted {
-    ghost use Rattle.ready_deques.specs.inside.Counts.{IsCounted, counting};
+    ghost use Rattle.ready_deques.specs.inside.Counts.{HoldsCounts, counting};
 
-    ghost holds = { λ _ s. IsCounted s.words s.views };
+    ghost holds = { λ _ s. HoldsCounts s.words s.views };
 
     ghost first = { λ _. counting 0 0 4611686018427387904 };
 }

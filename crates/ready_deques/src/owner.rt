@@ -5,7 +5,7 @@ ghost use Rattle.crossbeam_deque.specs.Handles.{view, worker_view};
 ghost use Rattle.crossbeam_deque.specs.Injected.{injector_view, IsInjectorPassOf};
 ghost use Rattle.ready_deques.specs.Lists.{IsOwnerOf};
 ghost use Rattle.ready_deques.specs.inside.Naming.{IsKnown, about};
-ghost use Rattle.ready_deques.specs.inside.Shared.{name_of};
+ghost use Rattle.ready_deques.specs.inside.Shared.{list_name_of};
 
 use crate::count::Account;
 use crate::deque::{ItemWorker, Queued};
@@ -42,13 +42,13 @@ impl<T: Tagged + Drop> Model for Owner<T> {
     ghost use Rattle.crossbeam_deque.specs.Handles.{view as pass_view, worker_view};
     ghost use Rattle.crossbeam_deque.specs.Injected.{injector_view, IsInjectorPassOf};
     ghost use Rattle.ready_deques.specs.Lists.{OwnerState, owner_state};
-    ghost use Rattle.ready_deques.specs.inside.Shared.{name_of};
+    ghost use Rattle.ready_deques.specs.inside.Shared.{list_name_of};
 
     ghost Value = { OwnerState };
 
     ghost view = { λ o. owner_state (arc_value o.ready).tag.numbers (arc_value o.ready).counter.table.shared.table_id o.account.zeros };
 
-    ghost invariant = { λ o. (worker_view o.worker ≡ Some (name_of (arc_value o.ready))) × All (λ thief. pass_view thief.pass ≡ Some (name_of (arc_value o.ready))) o.thieves.items × IsInjectorPassOf (arc_value o.ready).injector o.pass × (injector_view o.pass ≡ Some (name_of (arc_value o.ready))) × (o.account.counts ≡ (arc_value o.ready).counter.table.shared.table_id) };
+    ghost invariant = { λ o. (worker_view o.worker ≡ Some (list_name_of (arc_value o.ready))) × All (λ thief. pass_view thief.pass ≡ Some (list_name_of (arc_value o.ready))) o.thieves.items × IsInjectorPassOf (arc_value o.ready).injector o.pass × (injector_view o.pass ≡ Some (list_name_of (arc_value o.ready))) × (o.account.counts ≡ (arc_value o.ready).counter.table.shared.table_id) };
 }
 
 // Queues an item in the owner's deque, or else in the injector.
@@ -59,9 +59,9 @@ fn put<T: Tagged + Drop, R: Wait>(
     pass: &mut ItemPass<T>,
     queued: Queued<T>,
 ) -> Result<(), Queued<T>>
-    requires worker { worker_view worker.old ≡ Some (name_of ready.now) }
-    requires pass { IsInjectorPassOf ready.now.injector pass.old × (injector_view pass.old ≡ Some (name_of ready.now)) }
-    requires item { IsKnown T.tag (Some (name_of ready.now)) (queued ∷ []) }
+    requires worker { worker_view worker.old ≡ Some (list_name_of ready.now) }
+    requires pass { IsInjectorPassOf ready.now.injector pass.old × (injector_view pass.old ≡ Some (list_name_of ready.now)) }
+    requires item { IsKnown T.tag (Some (list_name_of ready.now)) (queued ∷ []) }
     ensures worker { worker_view worker.new ≡ worker_view worker.old }
     ensures pass { IsInjectorPassOf ready.now.injector pass.new × (injector_view pass.new ≡ injector_view pass.old) }
     ensures refused { IfErr result (λ back. back ≡ queued) }
@@ -80,13 +80,13 @@ fn find<T: Tagged + Drop, R: Wait>(
     pass: &mut ItemPass<T>,
     thieves: &mut Vec<Thief<T>>,
 ) -> Option<Queued<T>>
-    requires worker { worker_view worker.old ≡ Some (name_of ready.now) }
-    requires pass { IsInjectorPassOf ready.now.injector pass.old × (injector_view pass.old ≡ Some (name_of ready.now)) }
-    requires thieves { All (λ thief. view thief.pass ≡ Some (name_of ready.now)) thieves.old.items }
+    requires worker { worker_view worker.old ≡ Some (list_name_of ready.now) }
+    requires pass { IsInjectorPassOf ready.now.injector pass.old × (injector_view pass.old ≡ Some (list_name_of ready.now)) }
+    requires thieves { All (λ thief. view thief.pass ≡ Some (list_name_of ready.now)) thieves.old.items }
     ensures worker { worker_view worker.new ≡ worker_view worker.old }
     ensures pass { IsInjectorPassOf ready.now.injector pass.new × (injector_view pass.new ≡ injector_view pass.old) }
-    ensures thieves { All (λ thief. view thief.pass ≡ Some (name_of ready.now)) thieves.new.items }
-    ensures taken { IfSome result (λ queued. IsKnown T.tag (Some (name_of ready.now)) (queued ∷ [])) }
+    ensures thieves { All (λ thief. view thief.pass ≡ Some (list_name_of ready.now)) thieves.new.items }
+    ensures taken { IfSome result (λ queued. IsKnown T.tag (Some (list_name_of ready.now)) (queued ∷ [])) }
 {
     if let Some(queued) = deque::pop(worker) {
         return Some(queued);
@@ -198,8 +198,8 @@ impl<T: Tagged + Drop> Owner<T> {
         parker: Parker,
         bit: u64,
     ) -> Result<Owner<T>, NoMemory>
-        requires worker { worker_view worker ≡ Some (name_of (arc_value ready.now)) }
-        requires pass { IsInjectorPassOf (arc_value ready.now).injector pass × (injector_view pass ≡ Some (name_of (arc_value ready.now))) }
+        requires worker { worker_view worker ≡ Some (list_name_of (arc_value ready.now)) }
+        requires pass { IsInjectorPassOf (arc_value ready.now).injector pass × (injector_view pass ≡ Some (list_name_of (arc_value ready.now))) }
         requires account { account.counts ≡ (arc_value ready.now).counter.table.shared.table_id }
         ensures { IfOk result (IsOwnerOf (arc_value ready.now)) }
     {

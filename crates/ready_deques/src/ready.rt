@@ -48,7 +48,7 @@ pub struct Ready<T: Tagged + Drop> {
 
 impl<T: Tagged + Drop> Ready<T> {
     ghost use Rattle.ready_deques.specs.Lists.{tag_of};
-    ghost use Rattle.ready_deques.specs.inside.Shared.{name_of};
+    ghost use Rattle.ready_deques.specs.inside.Shared.{list_name_of};
 
     /// Queues an item from outside, where its owners take the oldest first, and wakes one owner that sleeps. It may
     /// wait. After an `Err`, which comes only if an allocation fails, the item is not queued.
@@ -86,7 +86,7 @@ impl<T: Tagged + Drop> Ready<T> {
 
     // The item, whose count goes to those that an owner has to spare.
     pub(crate) fn keep_count(&self, account: &Account, queued: Queued<T>) -> T
-        requires { IsKnown T.tag (Some (name_of self.now)) (queued ∷ []) }
+        requires { IsKnown T.tag (Some (list_name_of self.now)) (queued ∷ []) }
         ensures item { result ≡ queued.item }
         ensures tag { T.tag result ≡ tag_of self.now }
     {
@@ -97,7 +97,7 @@ impl<T: Tagged + Drop> Ready<T> {
 
     // The item, whose count is taken out of the count word.
     fn count_out(&self, queued: Queued<T>) -> T
-        requires { IsKnown T.tag (Some (name_of self.now)) (queued ∷ []) }
+        requires { IsKnown T.tag (Some (list_name_of self.now)) (queued ∷ []) }
         ensures item { result ≡ queued.item }
         ensures tag { T.tag result ≡ tag_of self.now }
     {
@@ -108,7 +108,7 @@ impl<T: Tagged + Drop> Ready<T> {
 
     // Puts an item into the injector, with the spare pass.
     fn put<R: Wait>(&self, rt: &R, queued: Queued<T>) -> Result<(), Queued<T>>
-        requires { IsKnown T.tag (Some (name_of self.now)) (queued ∷ []) }
+        requires { IsKnown T.tag (Some (list_name_of self.now)) (queued ∷ []) }
         ensures { IfErr result (λ back. back ≡ queued) }
     {
         let Held { value, pass } = self.spare.take(rt);

@@ -5,7 +5,7 @@ ghost use Rattle.crossbeam_deque.specs.Handles.{worker_view};
 ghost use Rattle.crossbeam_deque.specs.Injected.{injector_view, IsInjectorPassOf};
 ghost use Rattle.ready_deques.specs.Lists.{IsOwnerOf, tag_of};
 ghost use Rattle.ready_deques.specs.inside.Naming.{about};
-ghost use Rattle.ready_deques.specs.inside.Shared.{name_of};
+ghost use Rattle.ready_deques.specs.inside.Shared.{list_name_of};
 
 use crate::count::{Account, Counter};
 use crate::deque::{ItemWorker, Naming};
@@ -129,7 +129,7 @@ fn shared<T: Tagged + Drop>(
 ) -> Result<(Arc<Ready<T>>, ItemPass<T>), NoMemory>
     ensures tag { IfOk result (λ made. tag_of (arc_value made.0) ≡ tag.numbers) }
     ensures counts { IfOk result (λ made. (arc_value made.0).counter.table.shared.table_id ≡ counter.table.shared.table_id) }
-    ensures pass { IfOk result (λ made. IsInjectorPassOf (arc_value made.0).injector made.1 × (injector_view made.1 ≡ Some (name_of (arc_value made.0)))) }
+    ensures pass { IfOk result (λ made. IsInjectorPassOf (arc_value made.0).injector made.1 × (injector_view made.1 ≡ Some (list_name_of (arc_value made.0)))) }
 {
     let (injector, mut pass) = named_injector(alloc, &tag, &counter)?;
     let spare = Spare {
@@ -156,7 +156,7 @@ fn new_owner<T: Tagged + Drop>(
 ) -> Result<Owner<T>, NoMemory>
     requires number { number < 16 }
     requires account { account.old.counts ≡ (arc_value ready.now).counter.table.shared.table_id }
-    requires pass { IsInjectorPassOf (arc_value ready.now).injector pass.old × (injector_view pass.old ≡ Some (name_of (arc_value ready.now))) }
+    requires pass { IsInjectorPassOf (arc_value ready.now).injector pass.old × (injector_view pass.old ≡ Some (list_name_of (arc_value ready.now))) }
     ensures pass { IsInjectorPassOf (arc_value ready.now).injector pass.new × (injector_view pass.new ≡ injector_view pass.old) }
     ensures account { account.new ≡ account.old }
     ensures owner { IfOk result (IsOwnerOf (arc_value ready.now)) }
@@ -179,7 +179,7 @@ fn add_owner<T: Tagged + Drop>(
 ) -> Result<(), NoMemory>
     requires number { number < 16 }
     requires account { account.old.counts ≡ (arc_value ready.now).counter.table.shared.table_id }
-    requires pass { IsInjectorPassOf (arc_value ready.now).injector pass.old × (injector_view pass.old ≡ Some (name_of (arc_value ready.now))) }
+    requires pass { IsInjectorPassOf (arc_value ready.now).injector pass.old × (injector_view pass.old ≡ Some (list_name_of (arc_value ready.now))) }
     requires owners { All (IsOwnerOf (arc_value ready.now)) owners.old.items }
     ensures pass { IsInjectorPassOf (arc_value ready.now).injector pass.new × (injector_view pass.new ≡ injector_view pass.old) }
     ensures account { account.new ≡ account.old }
@@ -200,7 +200,7 @@ fn new_owners<T: Tagged + Drop>(
     mut parkers: Vec<Parker>,
 ) -> Result<Vec<Owner<T>>, NoMemory>
     requires account { account.counts ≡ (arc_value ready.now).counter.table.shared.table_id }
-    requires pass { IsInjectorPassOf (arc_value ready.now).injector pass × (injector_view pass ≡ Some (name_of (arc_value ready.now))) }
+    requires pass { IsInjectorPassOf (arc_value ready.now).injector pass × (injector_view pass ≡ Some (list_name_of (arc_value ready.now))) }
     requires count { length parkers.items ≤ 16 }
     ensures owners { IfOk result (λ owners. All (IsOwnerOf (arc_value ready.now)) owners.items) }
     ensures count { IfOk result (λ owners. length owners.items ≡ length parkers.items) }

@@ -2,7 +2,7 @@
 ghost use Rattle.std.specs.Prelude.{◌≡◌, ◌∷◌, [], All, Some, IfOk, IfSome};
 ghost use Rattle.crossbeam_deque.specs.Handles.{view, IsPassOf, stealer_deque, worker_flavor, worker_view};
 ghost use Rattle.ready_deques.specs.inside.Naming.{IsKnown};
-ghost use Rattle.ready_deques.specs.inside.Shared.{name_of};
+ghost use Rattle.ready_deques.specs.inside.Shared.{list_name_of};
 
 use crate::deque;
 use crate::deque::{ItemStealer, ItemWorker, Queued, StealerPass};
@@ -49,9 +49,9 @@ pub fn steal_any<T: Tagged + Drop>(
     ready: &Ready<T>,
     thieves: &mut Vec<Thief<T>>,
 ) -> Option<Queued<T>>
-    requires { All (λ thief. view thief.pass ≡ Some (name_of ready.now)) thieves.old.items }
-    ensures same { All (λ thief. view thief.pass ≡ Some (name_of ready.now)) thieves.new.items }
-    ensures taken { IfSome result (λ queued. IsKnown T.tag (Some (name_of ready.now)) (queued ∷ [])) }
+    requires { All (λ thief. view thief.pass ≡ Some (list_name_of ready.now)) thieves.old.items }
+    ensures same { All (λ thief. view thief.pass ≡ Some (list_name_of ready.now)) thieves.new.items }
+    ensures taken { IfSome result (λ queued. IsKnown T.tag (Some (list_name_of ready.now)) (queued ∷ [])) }
 {
     for i in 0..thieves.len() {
         if let Some(queued) = thieves[i].steal() {

@@ -21,7 +21,7 @@ use Rattle.run_frame.specs.declared.run.ValueRow.{ValueRow}
 use Rattle.run_frame.specs.FlatNets.{IsFlatNet}
 use Rattle.run_frame.specs.Meaning.{Meaning, IsCauseOf}
 use Rattle.run_frame.specs.inside.UnderWay.{rounds, born, DutyFits, IsAccounted, IsUnderWay}
-use Rattle.run_frame.specs.inside.Handing.{IsReleaseIn, FirstCause, FirstBelow}
+use Rattle.run_frame.specs.inside.Handing.{IsTaskRelease, FirstCause, FirstBelow}
 use Rattle.run_frame.proofs.DutyLemmas.{one, get_push, count_pushed}
 
 -- a source has no round, since it has no in-edge
@@ -118,7 +118,7 @@ module _ {V : Type 0} (net : NetRows) where
     where
       release_if : Option (Duty V) → Type 0
       release_if None = Unit {0}
-      release_if (Some d) = IsReleaseIn net d
+      release_if (Some d) = IsTaskRelease net d
 
       released : (c : Cause) → FirstCause net t (Some c) → IsCauseOf net t c
       released Source f = f.0
@@ -202,7 +202,7 @@ module _ {V : Type 0} (net : NetRows) where
 
 -- a run that has just begun
 pub begun : {J V : Type 0} (meaning : Meaning J V) (job : J) (net : NetRows) (limit : ℕ) (m : MachineState) (values : List (ValueRow V)) (items : List (Option (Duty V))) → net ≡ meaning.net job → limit ≡ meaning.limit job → IsFlatNet (meaning.net job) → IsNet net
-    → m ≡ record { net = net; limit = limit; journal = [] } → values ≡ [] → IsAccounted net [] items → ((n : ℕ) (duty : Duty V) → slice_get items n ≡ Some (Some duty) → IsReleaseIn net duty) → IsUnderWay meaning job m values items
+    → m ≡ record { net = net; limit = limit; journal = [] } → values ≡ [] → IsAccounted net [] items → ((n : ℕ) (duty : Duty V) → slice_get items n ≡ Some (Some duty) → IsTaskRelease net duty) → IsUnderWay meaning job m values items
 begun {J} {V} meaning job net limit m values items same full flat rows is none account fits =
     subst (λ (s : MachineState). IsUnderWay meaning job s values items) (sym is) (subst (λ vs. IsUnderWay meaning job start vs items) (sym none) (record {
       led = record {
@@ -223,6 +223,6 @@ begun {J} {V} meaning job net limit m values items same full flat rows is none a
     start : MachineState
     start = record { net = net; limit = limit; journal = [] }
 
-    fit : (duty : Duty V) → IsReleaseIn net duty → DutyFits net [] [] duty
+    fit : (duty : Duty V) → IsTaskRelease net duty → DutyFits net [] [] duty
     fit (Unused t cause) is = is
     fit (Running t place ins) is = absurd is

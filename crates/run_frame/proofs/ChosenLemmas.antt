@@ -6,7 +6,7 @@ use Rattle.std.proofs.lemmas.Bool.Decides.{nat_tests}
 use Rattle.std.proofs.lemmas.List.Elements.{recursion_from_All}
 use Rattle.task_graph.specs.NetRows.{NetRows}
 use Rattle.task_graph.specs.Net.{out_edges}
-use Rattle.task_graph.specs.Chosen.{edge_at, first_of, chosen_edges, IsAnswerFor, FitsShape as FitsCount}
+use Rattle.task_graph.specs.Chosen.{edge_at, first_of, chosen_edges, IsAnswerFor, AnswersSoMany as FitsCount}
 use Rattle.task_graph.specs.declared.net.Shape.{Shape}
 use Rattle.task_graph.specs.declared.net.Shape.TheVariants.{Plain, Choice, Many, Nested}
 use Rattle.task_graph.specs.declared.net.TaskRow.{TaskRow}

@@ -3,12 +3,12 @@ use Rattle.std.proofs.Common.{◌≡◌, ⊎_elim, ℕ, ◌+◌, ◌-◌, ◌<�
 use Rattle.std.specs.Prelude.{slice_get, slice_index, is_some}
 use Rattle.run_frame.specs.declared.duty.Duty.{Duty}
 use Rattle.run_frame.specs.Duties.{is_unused, as_strong, outstanding_count}
-use Rattle.run_frame.specs.inside.Outstanding.{IsBelow, CountsStrong, IsAmongStrong, IsCounted}
+use Rattle.run_frame.specs.inside.Outstanding.{IsBelow, CountsStrong, IsAmongStrong, CountsOutstanding}
 use Rattle.run_frame.proofs.DutyLemmas.{get_push, get_cleared, count_cleared, count_pushed, count_below}
 
 module _ {V : Type 0} where
-  pub counted_issued : (items : List (Option (Duty V))) (strong strong' : List ℕ) (total : ℕ) (duty : Duty V) → IsCounted items strong total → CountsStrong strong duty strong' → IsBelow (length strong) duty
-      → IsCounted (items ++ Some duty ∷ []) strong' (total + 1)
+  pub counted_issued : (items : List (Option (Duty V))) (strong strong' : List ℕ) (total : ℕ) (duty : Duty V) → CountsOutstanding items strong total → CountsStrong strong duty strong' → IsBelow (length strong) duty
+      → CountsOutstanding (items ++ Some duty ∷ []) strong' (total + 1)
   counted_issued items strong strong' total duty counted more below = record {
     all = let a = count_pushed is_some items duty in let b = counted.all in omega arith;
     each = λ t inside.
@@ -27,8 +27,8 @@ module _ {V : Type 0} where
       same : (d : Duty V) → Some duty ≡ Some d → IsBelow (length strong) d
       same d e = subst below_if e below
 
-  pub counted_redeemed : (items : List (Option (Duty V))) (strong strong' : List ℕ) (total n : ℕ) (duty : Duty V) → IsCounted items strong total → slice_get items n ≡ Some (Some duty) → CountsStrong strong' duty strong
-      → IsCounted (set items n None) strong' (total - 1)
+  pub counted_redeemed : (items : List (Option (Duty V))) (strong strong' : List ℕ) (total n : ℕ) (duty : Duty V) → CountsOutstanding items strong total → slice_get items n ≡ Some (Some duty) → CountsStrong strong' duty strong
+      → CountsOutstanding (set items n None) strong' (total - 1)
   counted_redeemed items strong strong' total n duty counted at fewer = record {
     all = let a : outstanding_count (set items n None) + 1 ≡ outstanding_count items = count_cleared is_some items n duty refl at in let b = counted.all in omega arith;
     each = λ t inside.
@@ -39,13 +39,13 @@ module _ {V : Type 0} where
     below = λ k d is. subst (λ len. IsBelow len d) fewer.len (counted.below k d (get_cleared items n k d is));
   }
 
-  pub counted_room : (items : List (Option (Duty V))) (strong : List ℕ) (total most t : ℕ) → IsCounted items strong total → outstanding_count items + 1 < most → t < length strong → slice_index strong t + 1 < most
+  pub counted_room : (items : List (Option (Duty V))) (strong : List ℕ) (total most t : ℕ) → CountsOutstanding items strong total → outstanding_count items + 1 < most → t < length strong → slice_index strong t + 1 < most
   counted_room items strong total most t counted room inside =
       let a = counted.each t inside in
       let b = count_below (is_unused (as_strong t)) refl items in
       omega arith
 
-  pub counted_among : (items : List (Option (Duty V))) (strong : List ℕ) (total n : ℕ) (duty : Duty V) → IsCounted items strong total → slice_get items n ≡ Some (Some duty) → IsAmongStrong strong duty
+  pub counted_among : (items : List (Option (Duty V))) (strong : List ℕ) (total n : ℕ) (duty : Duty V) → CountsOutstanding items strong total → slice_get items n ≡ Some (Some duty) → IsAmongStrong strong duty
   counted_among items strong total n duty counted at = λ t inside.
       let a = counted.each t inside in
       let c = count_cleared (is_unused (as_strong t)) items n duty refl at in

@@ -48,7 +48,7 @@ use Rattle.tickets.specs.Books.{TicketState}
 use Rattle.run_frame.specs.declared.job.Answer.{Answer}
 use Rattle.run_frame.specs.Frames.{FrameView, EndsTask}
 use Rattle.run_frame.specs.inside.Steps.{CanTake, GivesEdges}
-use Rattle.run_frame.specs.inside.Handing.{IsReleaseIn, MayHand, is_weak_gift, HandsEdges}
+use Rattle.run_frame.specs.inside.Handing.{IsTaskRelease, MayHand, is_weak_gift, HandsEdges}
 use Rattle.run_frame.proofs.DutyLemmas.{one, get_cleared, count_cleared, count_has}
 use Rattle.run_frame.proofs.PushLemmas.{ends_same, ends_more, open_past, open_stands, work_still, later_still, value_behind, map_places, rows_below, led_push}
 use Rattle.run_frame.proofs.ChosenLemmas.{choice_fits, gives_in_range}
@@ -467,7 +467,7 @@ module _ {J V : Type 0} (meaning : Meaning J V) (job : J) (m : MachineState) (va
         closed = closed_fits entry under at (λ q. refl) refl (values ++ row ∷ []) (λ q p i below found more later.
             ap (λ vs. work_at vs ended p) (append_assoc values (row ∷ []) more) ∙ work_still (values ++ row ∷ more) m.journal entry p below ∙ found (row ∷ more) (row_later more later))
 
-        new_fits : (d : Duty V) → IsReleaseIn m.net d → DutyFits m.net ended (values ++ row ∷ []) d
+        new_fits : (d : Duty V) → IsTaskRelease m.net d → DutyFits m.net ended (values ++ row ∷ []) d
         new_fits (Unused q c) is = is
         new_fits (Running q p i) is = absurd is
 

@@ -23,7 +23,7 @@ use Rattle.run_frame.specs.declared.duty.Duty.{Duty}
 use Rattle.run_frame.specs.declared.duty.Duty.TheVariants.{Unused}
 use Rattle.run_frame.specs.Duties.{is_unused, is_running, unused, running, as_source, as_strong, by_weak, IsReleaseOf, IsThinned, AreMadeBy, release_by, target_of}
 use Rattle.run_frame.specs.inside.UnderWay.{rounds}
-use Rattle.run_frame.specs.inside.Handing.{IsReleaseIn, MayHand, IsHanded, is_weak_gift, HandsEdge, HandsEdges, AreIssued}
+use Rattle.run_frame.specs.inside.Handing.{IsTaskRelease, MayHand, IsHanded, is_weak_gift, HandsEdge, HandsEdges, AreIssued}
 use Rattle.run_frame.proofs.DutyLemmas.{one, get_push, count_pushed}
 
 -- where an edge leads
@@ -47,13 +47,13 @@ module _ {V : Type 0} (net : NetRows) (h : List Entry) where
   running_pushed : (n : ℕ) (items : List (Option (Duty V))) (t : ℕ) (cause : Cause) → running n (items ++ Some (Unused t cause) ∷ []) ≡ running n items
   running_pushed n items t cause = let c : running n (items ++ Some (Unused t cause) ∷ []) ≡ running n items + 0 = count_pushed (is_running n) items (Unused t cause) in omega arith
 
-  duties_pushed : (items : List (Option (Duty V))) (made : Duty V) → IsReleaseIn net made → (n : ℕ) (duty : Duty V) → slice_get (items ++ Some made ∷ []) n ≡ Some (Some duty)
-      → (slice_get items n ≡ Some (Some duty)) ⊎ IsReleaseIn net duty
+  duties_pushed : (items : List (Option (Duty V))) (made : Duty V) → IsTaskRelease net made → (n : ℕ) (duty : Duty V) → slice_get (items ++ Some made ∷ []) n ≡ Some (Some duty)
+      → (slice_get items n ≡ Some (Some duty)) ⊎ IsTaskRelease net duty
   duties_pushed items made is n duty at = ⊎_elim (λ was. inl was) (λ (e : Some made ≡ Some duty). inr (subst release_if e is)) (get_push items (Some made) (Some duty) n at)
     where
       release_if : Option (Duty V) → Type 0
       release_if None = Unit {0}
-      release_if (Some d) = IsReleaseIn net d
+      release_if (Some d) = IsTaskRelease net d
 
   -- by a weak edge
   pub handed_weak : (items : List (Option (Duty V))) (e : ℕ) → MayHand net h items → e < length net.edges → target_of net e < length net.tasks → is_weak net e ≡ true

@@ -22,7 +22,7 @@ use Rattle.run_frame.specs.declared.job.Done.TheVariants.{Value, Inner as InnerJ
 use Rattle.run_frame.specs.declared.run.ValueRow.{ValueRow}
 use Rattle.run_frame.specs.declared.run.FrameRun.{FrameRun, out-FrameRun}
 use Rattle.run_frame.specs.declared.job.JobError.TheVariants.{Fault as FaultOf, NoMemory}
-use Rattle.run_frame.specs.Meaning.{Meaning, FitsShape, DoneFits, AnswerFits, IsCauseOf, IsRelease, FaultAllowed, IsOwnWhy}
+use Rattle.run_frame.specs.Meaning.{Meaning, FitsShape, DoneFits, AnswerFits, IsCauseOf, IsRelease, ErrorAllowed, IsOwnWhy}
 use Rattle.run_frame.specs.LastEnds.{last_end}
 use Rattle.run_frame.specs.Runs.{value_at, found_ins, IsFine}
 use Rattle.run_frame.specs.Rows.{RowsFit, ends_from}
@@ -186,13 +186,13 @@ edge_past_the_end : ¬ IsCauseOf choice_then_plain 0 (Weak 3)
 edge_past_the_end is = is.1
 
 -- A fault that an error names is one that the job may name on what it found; an allocation may always fail.
-named_fault : FaultAllowed numbers 2 1 [] (FaultOf (Long 1))
+named_fault : ErrorAllowed numbers 2 1 [] (FaultOf (Long 1))
 named_fault = refl
 
-other_named_fault : ¬ FaultAllowed numbers 2 1 [] (FaultOf (Long 2))
+other_named_fault : ¬ ErrorAllowed numbers 2 1 [] (FaultOf (Long 2))
 other_named_fault is = absurd (cc)
 
-no_memory : FaultAllowed numbers 2 1 [] NoMemory
+no_memory : ErrorAllowed numbers 2 1 [] NoMemory
 no_memory = tt
 
 -- The work's own faults tell of no inner run and of no unit.

@@ -9,15 +9,15 @@ use Rattle.run_frame.specs.declared.run.ValueRow.{ValueRow}
 use Rattle.run_frame.specs.Runs.{value_at}
 
 -- the task of the start that an End closes
-abbrev pub ended : List Entry → Entry → Option ℕ
-ended journal (Start task cause ins) = None
-ended journal (End start gives inner) = start_at journal start
-ended journal (Fault start why) = None
-ended journal (Drop task cause why) = None
+abbrev pub ended_task : List Entry → Entry → Option ℕ
+ended_task journal (Start task cause ins) = None
+ended_task journal (End start gives inner) = start_at journal start
+ended_task journal (Fault start why) = None
+ended_task journal (Drop task cause why) = None
 
 -- the task whose End stands at a place, where one stands there
 abbrev pub ended_at : List Entry → ℕ → Option ℕ
-ended_at journal n = option_and_then (ended journal) (slice_get journal n)
+ended_at journal n = option_and_then (ended_task journal) (slice_get journal n)
 
 -- whether an End of this task stands at a place
 abbrev pub is_end_of : List Entry → ℕ → ℕ → Bool

@@ -47,9 +47,9 @@ pub record IsRelease (net : NetRows) (task parts : ℕ) : Type 0 where
   pub size : parts ≡ length (edges_of net task cause)
 
 -- The fault that an error tells is allowed; an allocation may always fail.
-abbrev pub FaultAllowed : {J V : Type 0} → Meaning J V → J → ℕ → List (InputValue V) → JobError → Type 0
-FaultAllowed meaning job task found (FaultOf why) = meaning.faults job task found why
-FaultAllowed meaning job task found NoMemory = Unit {0}
+abbrev pub ErrorAllowed : {J V : Type 0} → Meaning J V → J → ℕ → List (InputValue V) → JobError → Type 0
+ErrorAllowed meaning job task found (FaultOf why) = meaning.faults job task found why
+ErrorAllowed meaning job task found NoMemory = Unit {0}
 
 -- All fits a Plain and a Nested task, one index a Choice, any indices a Many, and none every task.
 abbrev pub FitsShape : Shape → Answer → Type 0

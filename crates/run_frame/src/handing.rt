@@ -5,7 +5,7 @@ ghost use Rattle.task_graph.specs.NetRows.{NetRows};
 ghost use Rattle.std.specs.Vec.{vec_capacity, vec_len};
 ghost use Rattle.run_frame.specs.Duties.{outstanding_count, AreMadeBy, target_of, cause_by, first_releases};
 ghost use Rattle.run_frame.specs.inside.UnderWay.{IsAccounted};
-ghost use Rattle.run_frame.specs.inside.Handing.{MayHand, HandsEdge, HandsEdges, AreIssued, IsReleaseIn, FirstCause};
+ghost use Rattle.run_frame.specs.inside.Handing.{MayHand, HandsEdge, HandsEdges, AreIssued, IsTaskRelease, FirstCause};
 
 use super::duty::Duty;
 use super::outstanding::Outstanding;
@@ -115,7 +115,7 @@ pub fn first_releases<V: Drop>(
     requires tasks { outstanding.old.tasks ≡ length net.now.tasks }
     requires none { outstanding.old.items ≡ [] }
     ensures begins { IfOk result (λ _. IsAccounted net.now [] outstanding.new.items) }
-    ensures fits { IfOk result (λ _. (n : ℕ) (duty : Duty V) → slice_get outstanding.new.items n ≡ Some (Some duty) → IsReleaseIn net.now duty) }
+    ensures fits { IfOk result (λ _. (n : ℕ) (duty : Duty V) → slice_get outstanding.new.items n ≡ Some (Some duty) → IsTaskRelease net.now duty) }
     ensures same { outstanding.new ≡ record outstanding.old { items = outstanding.new.items } }
     ensures issued { IfOk result (λ tickets. AreIssued outstanding.old.register [] outstanding.new.items tickets.items) }
     ensures first { IfOk result (λ tickets. map (λ t. t.item) tickets.items ≡ first_releases net.now) }

@@ -2,7 +2,7 @@
 ghost use Rattle.std.specs.Prelude.{◌≡◌, ◌≤◌, ℕ, List, length, map, IfOk, IfErr};
 ghost use Rattle.std.specs.Arc.{arc_value};
 ghost use Rattle.join_words.specs.Ins.{InputValue, parts_of, found_of};
-ghost use Rattle.run_frame.specs.Meaning.{Meaning, IsRelease, FaultAllowed, AnswerFits, IsOwnWhy};
+ghost use Rattle.run_frame.specs.Meaning.{Meaning, IsRelease, ErrorAllowed, AnswerFits, IsOwnWhy};
 ghost use Rattle.journal_rules.specs.declared.entry.Why.{Why};
 ghost use Rattle.run_frame.specs.declared.job.Done.{Done};
 ghost use Rattle.run_frame.specs.declared.run.FrameRun.{FrameRun};
@@ -70,7 +70,7 @@ pub trait Job: Valued + Send + Sync {
     fn run(&self, alloc: Global, task: u32, ins: &Ins<Self::V>) -> Result<Done<Self>, JobError>
         requires { IsRelease (meaning.net self.now) task (length (parts_of ins.now)) }
         ensures answer { IfOk result (meaning.answers self.now task (map found_of (parts_of ins.now))) }
-        ensures fault { IfErr result (FaultAllowed meaning self.now task (map found_of (parts_of ins.now))) };
+        ensures fault { IfErr result (ErrorAllowed meaning self.now task (map found_of (parts_of ins.now))) };
 
     /// An answer that is allowed fits the task's shape.
     ghost answers_fit: { (job : Self) (task : ℕ) (found : List (InputValue Self.V)) (done : Done Self Self.V) →

@@ -24,13 +24,13 @@ pub struct Outstanding<V> {
 
 impl<V> Model for Outstanding<V> {
     ghost use Rattle.std.specs.Prelude.{◌≡◌, length};
-    ghost use Rattle.run_frame.specs.inside.Outstanding.{OutstandingState, IsCounted};
+    ghost use Rattle.run_frame.specs.inside.Outstanding.{OutstandingState, CountsOutstanding};
 
     ghost Value = { OutstandingState V };
 
     ghost view = { λ o. record { register = o.register; items = o.book.items; tasks = length o.strong.items } };
 
-    ghost invariant = { λ o. (o.book.register ≡ o.register) × IsCounted o.book.items o.strong.items o.total };
+    ghost invariant = { λ o. (o.book.register ≡ o.register) × CountsOutstanding o.book.items o.strong.items o.total };
 }
 
 impl<V: Drop> Outstanding<V> {

@@ -74,7 +74,7 @@ pub struct Begun<J: Job> {
 
 impl<J: Job + Drop> FrameState<J> {
     /// A run that hasn't made a step yet. Its first releases, by rising task, are those of the source tasks and of the
-    /// tasks all of whose strong in-edges begin with a token.
+    /// tasks that have strong in-edges, all of which begin with a token.
     pub fn begin(alloc: Global, job: Arc<J>) -> Result<Begun<J>, NoMemory>
         requires { IsFlatNet (J.meaning.net (arc_value job)) }
         ensures { IfOk result (λ begun. IsBegun J.meaning (arc_value job) begun.state begun.released.items) }

@@ -10,6 +10,6 @@ unfoldable pub keeps_unit : NetRows → ℕ → List Entry → ℕ → ℕ → B
 keeps_unit net s journal n t = takes net s t && not (puts net s t) && not (count_by (closes n) journal == 0)
 
 -- the others give back at least as many units as come from elsewhere than the start at this place, of task t
-abbrev pub IsOver : NetRows → ℕ → ℕ → ℕ → List Entry → Type 0
-IsOver net s place t journal =
+abbrev pub IsOverAt : NetRows → ℕ → ℕ → ℕ → List Entry → Type 0
+IsOverAt net s place t journal =
     closed_takers net s journal + (if takes net s t then 1 else 0) ≤ other_putters net s place journal

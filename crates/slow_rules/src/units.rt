@@ -4,7 +4,7 @@ ghost use Rattle.std.specs.Option.{option_map_or};
 ghost use Rattle.std.specs.List.{AllByRecursion, range_with_len};
 ghost use Rattle.journal_rules.specs.Counts.{started, start_at};
 ghost use Rattle.journal_rules.specs.SemaphoreRule.{takes, puts, taken, gives_back, back, max_of, HasUnit, UnitsInBounds, starts_at, closed_takers, other_putters, IsOverRelease, OverReleaseRule, UnitFaultRule, SemaphoreRule};
-ghost use Rattle.slow_rules.specs.Claims.{keeps_unit, IsOver};
+ghost use Rattle.slow_rules.specs.Claims.{keeps_unit, IsOverAt};
 
 use crate::counts::{closings, prefix, start_at, started};
 use journal_rules::{Entry, Why};
@@ -195,21 +195,21 @@ pub fn is_over_release(net: &Net, journal: &[Entry], sem: u32, place: u64, task:
 // Whether there was such a moment since the start.
 fn was_over(net: &Net, journal: &[Entry], sem: u32, place: u64, task: u32) -> bool
     ensures { IsTrue result ↔ ((n : ℕ) × (place < n) × (n ≤ length journal.now)
-        × IsOver net.now sem place task (take n journal.now)) }
+        × IsOverAt net.now sem place task (take n journal.now)) }
 {
     (0..journal.len() + 1).any(|n| is_over_after(net, prefix(journal, n), sem, place, task))
 }
 
 fn is_over_after(net: &Net, journal: &[Entry], sem: u32, place: u64, task: u32) -> bool
     ensures { IsTrue result
-        ↔ ((place < length journal.now) × IsOver net.now sem place task journal.now) }
+        ↔ ((place < length journal.now) × IsOverAt net.now sem place task journal.now) }
 {
     place < journal.len() as u64 && is_over(net, journal, sem, place, task)
 }
 
 // Whether the others' claims are as many as the units that come from elsewhere.
 fn is_over(net: &Net, journal: &[Entry], sem: u32, place: u64, task: u32) -> bool
-    ensures { IsTrue result ↔ IsOver net.now sem place task journal.now }
+    ensures { IsTrue result ↔ IsOverAt net.now sem place task journal.now }
 {
     closed_takers(net, sem, journal) + usize::from(takes(net, sem, task))
         <= other_putters(net, sem, place, journal)

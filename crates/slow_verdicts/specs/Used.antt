@@ -7,8 +7,8 @@ use Rattle.journal_rules.specs.Counts.{given, used, used_weak, used_source}
 use Rattle.journal_rules.specs.Complete.{least}
 
 -- the one release of a source task
-abbrev pub SourceIsUsed : NetRows → List Entry → ℕ → Type 0
-SourceIsUsed net journal t = IsSource net t → used_source t journal ≡ 1
+abbrev pub HasUsedSource : NetRows → List Entry → ℕ → Type 0
+HasUsedSource net journal t = IsSource net t → used_source t journal ≡ 1
 
 -- each token of a weak edge
 abbrev pub WeakTokensAreUsed : NetRows → List Entry → ℕ → Type 0

@@ -2,7 +2,7 @@
 ghost use Rattle.std.specs.Prelude.{◌≡◌, ◌≢◌, ◌↔◌, count_by, fold, map, min, IsTrue};
 ghost use Rattle.journal_rules.specs.Counts.{given, starts};
 ghost use Rattle.journal_rules.specs.Complete.{EachTask, EachEdge, is_limited, Complete};
-ghost use Rattle.slow_verdicts.specs.Used.{SourceIsUsed, WeakTokensAreUsed, least_given, StrongRoundsAreUsed};
+ghost use Rattle.slow_verdicts.specs.Used.{HasUsedSource, WeakTokensAreUsed, least_given, StrongRoundsAreUsed};
 
 use legal_run::{DropWhy, Entry};
 use slow_rules::{
@@ -23,14 +23,14 @@ pub fn is_complete(net: &Net, limit: u64, journal: &[Entry]) -> bool
 }
 
 fn sources_are_used(net: &Net, journal: &[Entry]) -> bool
-    ensures { IsTrue result ↔ EachTask net.now (SourceIsUsed net.now journal.now) }
+    ensures { IsTrue result ↔ EachTask net.now (HasUsedSource net.now journal.now) }
 {
     let count = net.tasks().len() as u32;
     (0..count).all(|task| source_is_used(net, journal, task))
 }
 
 fn source_is_used(net: &Net, journal: &[Entry], task: u32) -> bool
-    ensures { IsTrue result ↔ SourceIsUsed net.now journal.now task }
+    ensures { IsTrue result ↔ HasUsedSource net.now journal.now task }
 {
     !is_source(net, task) || used_source(task, journal) == 1
 }

@@ -21,12 +21,12 @@ chosen_edges out [] = []
 chosen_edges out (i ∷ is) = first_of (edge_at out i) (chosen_edges out is)
 
 -- how many indices the answer of a task of this shape has: a Choice's one, a Many's any number
-abbrev pub FitsShape : Shape → ℕ → Type 0
-FitsShape Plain n = ⊥
-FitsShape Choice n = n ≡ 1
-FitsShape Many n = Unit {0}
-FitsShape Nested n = ⊥
+abbrev pub AnswersSoMany : Shape → ℕ → Type 0
+AnswersSoMany Plain n = ⊥
+AnswersSoMany Choice n = n ≡ 1
+AnswersSoMany Many n = Unit {0}
+AnswersSoMany Nested n = ⊥
 
 -- a task may answer so many indices
 abbrev pub IsAnswerFor : NetRows → ℕ → ℕ → Type 0
-IsAnswerFor net t n = IsSomeAnd (slice_get net.tasks t) (λ (row : TaskRow). FitsShape row.shape n)
+IsAnswerFor net t n = IsSomeAnd (slice_get net.tasks t) (λ (row : TaskRow). AnswersSoMany row.shape n)

@@ -1,6 +1,6 @@
 // The lists of each task's edges: those out of it, and the strong and the weak ones into it.
 ghost use Rattle.std.specs.Prelude.{◌<◌, ◌^◌, ℕ, OnOk, All, length};
-ghost use Rattle.task_graph.specs.inside.EdgeIndex.{IsIndexOf, HasRoomFor, EndsIn};
+ghost use Rattle.task_graph.specs.inside.EdgeIndex.{IsEdgeIndexOf, HasRoomFor, EndsIn};
 
 use crate::groups::Groups;
 use crate::net::{EdgeRow, TaskRow};
@@ -48,7 +48,7 @@ impl EdgeIndex {
         requires room { HasRoomFor self.old (length tasks.now) (length edges.now) }
         requires ends { All (EndsIn tasks.now) edges.now }
         requires few { length edges.now < 2 ^ 32 }
-        ensures { IsIndexOf self.new tasks.now edges.now }
+        ensures { IsEdgeIndexOf self.new tasks.now edges.now }
     {
         self.out.fill(Side::Out, tasks, edges);
         self.strong.fill(Side::StrongIn, tasks, edges);

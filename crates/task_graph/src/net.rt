@@ -1,7 +1,7 @@
 // Nets: the rows of tasks, edges and semaphores, and the lists of each task's edges.
 ghost use Rattle.std.specs.Prelude.{◌≡◌, ◌↔◌, ◌<◌, IfOk, IsTrue, length};
 ghost use Rattle.task_graph.specs.Chosen.{IsAnswerFor, chosen_edges};
-ghost use Rattle.task_graph.specs.inside.EdgeIndex.{IsIndexOf};
+ghost use Rattle.task_graph.specs.inside.EdgeIndex.{IsEdgeIndexOf};
 ghost use Rattle.task_graph.specs.Net.{IsNet, IsSource, chooses, is_weak, out_edges, strong_in, weak_in};
 
 use crate::choice::choose;
@@ -85,7 +85,7 @@ impl Net {
         index: EdgeIndex,
     ) -> Net
         requires rows { IsNet (record { tasks = tasks; edges = edges; sems = sems }) }
-        requires index { IsIndexOf index tasks edges }
+        requires index { IsEdgeIndexOf index tasks edges }
         ensures { result ≡ record { tasks = tasks; edges = edges; sems = sems } }
     {
         Net {

@@ -5,7 +5,7 @@ use Rattle.std.proofs.lemmas.List.{drop-drop}
 use Rattle.std.proofs.lemmas.List.Edits.{length-between}
 use Rattle.std.proofs.lemmas.Slice.{between_to_end}
 use Rattle.text_ops.specs.declared.found_line.FoundLine.{FoundLine}
-use Rattle.text_ops.specs.declared.kept_runs.KeptRuns.{KeptRuns}
+use Rattle.text_ops.specs.declared.line_runs.LineRuns.{LineRuns}
 use Rattle.text_ops.specs.Lines.{IsNormal}
 use Rattle.text_ops.specs.TextMeaning.{keep_meaning, without_meaning}
 use Rattle.text_ops.specs.inside.FoundLine.{IsFirstKept, IsNowhere}
@@ -14,12 +14,12 @@ use Rattle.text_ops.specs.inside.KeptSoFar.{KeptSoFar}
 use Rattle.text_ops.proofs.LineLemmas.{IsNormal-drop}
 
 -- nothing at the beginning
-pub KeptSoFar-start : (kept_of : List ℕ → List ℕ) (text : List ℕ) (runs : KeptRuns) → HasKept text [] runs → runs.end ≡ 0 → IsNormal text → KeptSoFar kept_of text runs 0
+pub KeptSoFar-start : (kept_of : List ℕ → List ℕ) (text : List ℕ) (runs : LineRuns) → HasKept text [] runs → runs.end ≡ 0 → IsNormal text → KeptSoFar kept_of text runs 0
 KeptSoFar-start kept_of text runs kept end is =
     record { all = []; kept = kept; behind = omega (arith, end); within = omega arith; rest = is; same = refl }
 
 -- some lines from the place on are kept, and the place moves on
-pub KeptSoFar-step : (kept_of : List ℕ → List ℕ) (text : List ℕ) (runs next : KeptRuns) (at place : ℕ) (more : List ℕ) (so_far : KeptSoFar kept_of text runs at) → HasKept text (so_far.all ++ more) next → next.end ≤ place → place ≤ length text → IsNormal (drop place text) → kept_of (drop at text) ≡ more ++ kept_of (drop place text) → KeptSoFar kept_of text next place
+pub KeptSoFar-step : (kept_of : List ℕ → List ℕ) (text : List ℕ) (runs next : LineRuns) (at place : ℕ) (more : List ℕ) (so_far : KeptSoFar kept_of text runs at) → HasKept text (so_far.all ++ more) next → next.end ≤ place → place ≤ length text → IsNormal (drop place text) → kept_of (drop at text) ≡ more ++ kept_of (drop place text) → KeptSoFar kept_of text next place
 KeptSoFar-step kept_of text runs next at place more so_far kept behind within rest is =
     record {
       all = so_far.all ++ more;

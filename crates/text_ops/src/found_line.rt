@@ -1,7 +1,7 @@
 // The first line of a text in which a word occurs.
 ghost use Rattle.std.specs.Prelude.{◌≡◌, ◌<◌, ◌≤◌, [], length, IfSome, IfNone};
 ghost use Rattle.text_ops.specs.Lines.{IsNormal};
-ghost use Rattle.text_ops.specs.inside.FoundLine.{StartsLine, EndsLine, IsWord, IsFirstKept, IsNowhere};
+ghost use Rattle.text_ops.specs.inside.FoundLine.{StartsLine, EndsLine, IsSearchWord, IsFirstKept, IsNowhere};
 
 use memchr::memmem::Finder;
 use memchr::{memchr, memrchr};
@@ -15,7 +15,7 @@ pub(crate) struct FoundLine {
 
 /// The first line in which the word occurs. One search goes over all lines before it.
 pub(crate) fn first_kept(word: &Finder<'_>, text: &[u8]) -> Option<FoundLine>
-    requires word { IsWord word.now }
+    requires word { IsSearchWord word.now }
     requires normal { IsNormal text.now }
     ensures found { IfSome result (IsFirstKept word.now text.now) }
     ensures none { IfNone result (IsNowhere word.now text.now) }

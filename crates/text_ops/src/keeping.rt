@@ -5,19 +5,19 @@ ghost use Rattle.text_ops.specs.Values.{Makes};
 ghost use Rattle.text_ops.specs.inside.Keeping.{HasKept};
 
 use crate::gathered::{ApplyError, Gathered};
-use crate::kept_runs::KeptRuns;
+use crate::line_runs::LineRuns;
 use crate::part::part;
 use crate::text::Text;
 use outside_io::NoMemory;
 use std::alloc::Global;
 
-impl<'t> KeptRuns<'t> {
+impl<'t> LineRuns<'t> {
     // No line.
-    pub(crate) fn new(alloc: Global, text: &'t Text) -> KeptRuns<'t>
+    pub(crate) fn new(alloc: Global, text: &'t Text) -> LineRuns<'t>
         ensures kept { HasKept text.now [] result }
         ensures end { result.end ≡ 0 }
     {
-        KeptRuns {
+        LineRuns {
             text,
             made: Gathered::new(alloc),
             start: 0,
@@ -54,7 +54,7 @@ impl<'t> KeptRuns<'t> {
     pub(crate) fn finish(self, alloc: Global) -> Result<Text, ApplyError>
         ensures { (text all : List ℕ) → HasKept text all self.entry → Makes all result }
     {
-        let KeptRuns {
+        let LineRuns {
             text,
             mut made,
             start,

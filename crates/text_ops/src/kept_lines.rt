@@ -2,11 +2,11 @@
 ghost use Rattle.std.specs.Prelude.{◌≡◌, []};
 ghost use Rattle.text_ops.specs.TextMeaning.{has_word, keep_meaning, without_meaning};
 ghost use Rattle.text_ops.specs.Values.{Makes};
-ghost use Rattle.text_ops.specs.inside.FoundLine.{IsWord};
+ghost use Rattle.text_ops.specs.inside.FoundLine.{IsSearchWord};
 
 use crate::found_line::first_kept;
 use crate::gathered::ApplyError;
-use crate::kept_runs::KeptRuns;
+use crate::line_runs::LineRuns;
 use crate::part::pass;
 use crate::text::Text;
 use memchr::memchr;
@@ -55,11 +55,11 @@ pub fn has_word(word: &[u8], text: &Text) -> bool
 
 // The lines in which the word occurs, which may stand within a line.
 fn keep_found(alloc: Global, word: &Finder<'_>, text: &Text) -> Result<Text, ApplyError>
-    requires { IsWord word.now }
+    requires { IsSearchWord word.now }
     ensures { Makes (keep_meaning word.now text.now) result }
 {
     let bytes = text.as_slice();
-    let mut kept = KeptRuns::new(alloc, text);
+    let mut kept = LineRuns::new(alloc, text);
     let mut at = 0;
     while let Some(line) = first_kept(word, &bytes[at..]) {
         kept.keep(at + line.start, at + line.end)?;
@@ -70,11 +70,11 @@ fn keep_found(alloc: Global, word: &Finder<'_>, text: &Text) -> Result<Text, App
 
 // The other lines.
 fn drop_found(alloc: Global, word: &Finder<'_>, text: &Text) -> Result<Text, ApplyError>
-    requires { IsWord word.now }
+    requires { IsSearchWord word.now }
     ensures { Makes (without_meaning word.now text.now) result }
 {
     let bytes = text.as_slice();
-    let mut kept = KeptRuns::new(alloc, text);
+    let mut kept = LineRuns::new(alloc, text);
     let mut at = 0;
     while let Some(line) = first_kept(word, &bytes[at..]) {
         kept.keep(at, at + line.start)?;

@@ -6,7 +6,7 @@ ghost use Rattle.text_ops.specs.Values.{Makes};
 ghost use Rattle.text_ops.specs.inside.Repeating.{is_repeated};
 
 use crate::gathered::ApplyError;
-use crate::kept_runs::KeptRuns;
+use crate::line_runs::LineRuns;
 use crate::line_walk::Lines;
 use crate::text::Text;
 use std::alloc::Global;
@@ -15,7 +15,7 @@ use std::alloc::Global;
 pub fn uniq(alloc: Global, text: &Text) -> Result<Text, ApplyError>
     ensures { Makes (uniq_meaning text.now) result }
 {
-    let mut kept = KeptRuns::new(alloc, text);
+    let mut kept = LineRuns::new(alloc, text);
     let mut before: Option<&[u8]> = None;
     let mut start = 0;
     for line in Lines::new(text.as_slice()) {

@@ -8,6 +8,7 @@ use crate::{
 };
 use outside_io::{List, NoMemory};
 use std::alloc::Global;
+use std::process::Abort;
 use std::test::Fail;
 
 /// An operation with what it is given beside the text.
@@ -51,79 +52,109 @@ fn text_of(alloc: Global, bytes: &[u8]) -> Result<Text, NoMemory> {
     Text::from_bytes(alloc, bytes)
 }
 
-#[test]
-fn gives_values_written_by_hand(rt: HostRuntime) -> Result<(), Fail> {
-    let table: [(Op<'_>, &[u8], &[u8]); 48] = [
-        (Op::Pass, b"", b""),
-        (Op::Pass, b"\n", b"\n"),
-        (Op::Pass, b"x\ny", b"x\ny\n"),
-        (Op::Keep(b"x"), b"", b""),
-        (Op::Keep(b""), b"x\n\ny\n", b"x\n\ny\n"),
-        (Op::Keep(b""), b"", b""),
-        (
-            Op::Keep(b"x"),
-            b"axa\nb\ncx\nxd\n\nxx\n",
-            b"axa\ncx\nxd\nxx\n",
-        ),
-        (Op::Keep(b"ab"), b"a\nb\nab\naab\nba\n", b"ab\naab\n"),
-        (Op::Keep(b"longer"), b"x\ny\n", b""),
-        (Op::Keep(b"x\ny"), b"x\ny\n", b""),
-        (Op::Keep(b"\n"), b"\n\n", b""),
-        (Op::Keep(&[0]), b"a\0b\nb\n\0\n", b"a\0b\n\0\n"),
-        (Op::Keep(&[255, 254]), b"\xff\xfe\n\xff\n", b"\xff\xfe\n"),
-        (Op::Without(b"x"), b"axa\nb\ncx\nxd\n\nxx\n", b"b\n\n"),
-        (Op::Without(b""), b"x\n\n", b""),
-        (Op::Without(b"x\ny"), b"x\ny\n", b"x\ny\n"),
-        (Op::Without(b"longer"), b"x\ny\n", b"x\ny\n"),
-        (Op::Head(0), b"1\n2\n", b""),
-        (Op::Head(2), b"1\n2\n3\n", b"1\n2\n"),
-        (Op::Head(1), b"\n\n", b"\n"),
-        (Op::Head(u64::MAX), b"1\n2\n", b"1\n2\n"),
-        (Op::Head(1), b"", b""),
-        (Op::Tail(0), b"1\n2\n", b""),
-        (Op::Tail(2), b"1\n2\n3\n", b"2\n3\n"),
-        (Op::Tail(1), b"\n\n", b"\n"),
-        (Op::Tail(u64::MAX), b"1\n2\n", b"1\n2\n"),
-        (Op::Skip(0), b"1\n2\n", b"1\n2\n"),
-        (Op::Skip(1), b"1\n2\n3\n", b"2\n3\n"),
-        (Op::Skip(u64::MAX), b"1\n2\n", b""),
-        (Op::Sort, b"", b""),
-        (Op::Sort, b"b\n\na\n", b"\na\nb\n"),
-        (Op::Sort, b"b\na\nb\n", b"a\nb\nb\n"),
-        (Op::Sort, b"a\0\na\n\0\n\xff\n", b"\0\na\na\0\n\xff\n"),
-        (
-            Op::Sort,
-            b"abcdefghz\nabcdefgha\nabcdefgh\n",
-            b"abcdefgh\nabcdefgha\nabcdefghz\n",
-        ),
-        (Op::Uniq, b"a\na\nb\na\n", b"a\nb\na\n"),
-        (Op::Uniq, b"\n\n\na\n", b"\na\n"),
-        (Op::Uniq, b"\0\n\0\n", b"\0\n"),
-        (Op::Count, b"", b"0\n"),
-        (Op::Count, b"\n", b"1\n"),
-        (Op::Count, b"\n\n\n\n\n\n\n\n\n\nx\n", b"11\n"),
-        (Op::Tally, b"", b""),
-        (Op::Tally, b"\n", b"1 \n"),
-        (Op::Tally, b"b\na\nb\n\n", b"1 \n1 a\n2 b\n"),
-        (Op::Tally, b"\xff\n\0\n\xff\n", b"1 \0\n2 \xff\n"),
-        (
-            Op::Match(b"10 x y\n30 z\n10 q\n20\n"),
-            b"10 a\n20 b\n10 c\n30\n",
-            b"10 a x y\n20 b\n10 c x y\n30 z\n",
-        ),
-        (Op::Match(b""), b"a\n", b""),
-        (Op::Match(b" x\n"), b"\n a\nb\n", b" x\n a x\n"),
-        (
-            Op::Match(b"abcdefgh1 p\nabcdefgh2 q\n"),
-            b"abcdefgh2\nabcdefgh\n",
-            b"abcdefgh2 q\n",
-        ),
-    ];
+// An operation on a text, and its value worked out by hand.
+type Row = (Op<'static>, &'static [u8], &'static [u8]);
+
+// Lines that are kept, or left out.
+const KEPT: [Row; 17] = [
+    (Op::Pass, b"", b""),
+    (Op::Pass, b"\n", b"\n"),
+    (Op::Pass, b"x\ny", b"x\ny\n"),
+    (Op::Keep(b"x"), b"", b""),
+    (Op::Keep(b""), b"x\n\ny\n", b"x\n\ny\n"),
+    (Op::Keep(b""), b"", b""),
+    (
+        Op::Keep(b"x"),
+        b"axa\nb\ncx\nxd\n\nxx\n",
+        b"axa\ncx\nxd\nxx\n",
+    ),
+    (Op::Keep(b"ab"), b"a\nb\nab\naab\nba\n", b"ab\naab\n"),
+    (Op::Keep(b"longer"), b"x\ny\n", b""),
+    (Op::Keep(b"x\ny"), b"x\ny\n", b""),
+    (Op::Keep(b"\n"), b"\n\n", b""),
+    (Op::Keep(&[0]), b"a\0b\nb\n\0\n", b"a\0b\n\0\n"),
+    (Op::Keep(&[255, 254]), b"\xff\xfe\n\xff\n", b"\xff\xfe\n"),
+    (Op::Without(b"x"), b"axa\nb\ncx\nxd\n\nxx\n", b"b\n\n"),
+    (Op::Without(b""), b"x\n\n", b""),
+    (Op::Without(b"x\ny"), b"x\ny\n", b"x\ny\n"),
+    (Op::Without(b"longer"), b"x\ny\n", b"x\ny\n"),
+];
+
+// The first lines, or the last.
+const CUT: [Row; 12] = [
+    (Op::Head(0), b"1\n2\n", b""),
+    (Op::Head(2), b"1\n2\n3\n", b"1\n2\n"),
+    (Op::Head(1), b"\n\n", b"\n"),
+    (Op::Head(u64::MAX), b"1\n2\n", b"1\n2\n"),
+    (Op::Head(1), b"", b""),
+    (Op::Tail(0), b"1\n2\n", b""),
+    (Op::Tail(2), b"1\n2\n3\n", b"2\n3\n"),
+    (Op::Tail(1), b"\n\n", b"\n"),
+    (Op::Tail(u64::MAX), b"1\n2\n", b"1\n2\n"),
+    (Op::Skip(0), b"1\n2\n", b"1\n2\n"),
+    (Op::Skip(1), b"1\n2\n3\n", b"2\n3\n"),
+    (Op::Skip(u64::MAX), b"1\n2\n", b""),
+];
+
+// Lines in order.
+const ORDERED: [Row; 5] = [
+    (Op::Sort, b"", b""),
+    (Op::Sort, b"b\n\na\n", b"\na\nb\n"),
+    (Op::Sort, b"b\na\nb\n", b"a\nb\nb\n"),
+    (Op::Sort, b"a\0\na\n\0\n\xff\n", b"\0\na\na\0\n\xff\n"),
+    (
+        Op::Sort,
+        b"abcdefghz\nabcdefgha\nabcdefgh\n",
+        b"abcdefgh\nabcdefgha\nabcdefghz\n",
+    ),
+];
+
+// Lines that repeat.
+const COUNTED: [Row; 10] = [
+    (Op::Uniq, b"a\na\nb\na\n", b"a\nb\na\n"),
+    (Op::Uniq, b"\n\n\na\n", b"\na\n"),
+    (Op::Uniq, b"\0\n\0\n", b"\0\n"),
+    (Op::Count, b"", b"0\n"),
+    (Op::Count, b"\n", b"1\n"),
+    (Op::Count, b"\n\n\n\n\n\n\n\n\n\nx\n", b"11\n"),
+    (Op::Tally, b"", b""),
+    (Op::Tally, b"\n", b"1 \n"),
+    (Op::Tally, b"b\na\nb\n\n", b"1 \n1 a\n2 b\n"),
+    (Op::Tally, b"\xff\n\0\n\xff\n", b"1 \0\n2 \xff\n"),
+];
+
+// Lines joined with those of another text.
+const MATCHED: [Row; 4] = [
+    (
+        Op::Match(b"10 x y\n30 z\n10 q\n20\n"),
+        b"10 a\n20 b\n10 c\n30\n",
+        b"10 a x y\n20 b\n10 c x y\n30 z\n",
+    ),
+    (Op::Match(b""), b"a\n", b""),
+    (Op::Match(b" x\n"), b"\n a\nb\n", b" x\n a x\n"),
+    (
+        Op::Match(b"abcdefgh1 p\nabcdefgh2 q\n"),
+        b"abcdefgh2\nabcdefgh\n",
+        b"abcdefgh2 q\n",
+    ),
+];
+
+// Whether each operation gives its value.
+fn expect_values(rt: &impl Abort, alloc: Global, table: &[Row]) -> Result<(), Fail> {
     for (op, text, value) in table {
-        let made = apply(rt.alloc(), op, &text_of(rt.alloc(), text)?)?;
-        assert_eq!(rt; made.as_slice(), value, "{op:?} of {text:?}");
+        let made = apply(alloc, *op, &text_of(alloc, text)?)?;
+        assert_eq!(rt; made.as_slice(), *value, "{op:?} of {text:?}");
     }
     Ok(())
+}
+
+#[test]
+fn gives_values_written_by_hand(rt: HostRuntime) -> Result<(), Fail> {
+    expect_values(&rt, rt.alloc(), &KEPT)?;
+    expect_values(&rt, rt.alloc(), &CUT)?;
+    expect_values(&rt, rt.alloc(), &ORDERED)?;
+    expect_values(&rt, rt.alloc(), &COUNTED)?;
+    expect_values(&rt, rt.alloc(), &MATCHED)
 }
 
 #[test]

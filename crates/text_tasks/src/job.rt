@@ -3,7 +3,7 @@ ghost use Rattle.std.specs.Prelude.{◌≡◌, length, map, IfOk, IfErr};
 ghost use Rattle.std.specs.Arc.{arc_value};
 ghost use Rattle.graph_plans.specs.PlanRows.{plan_rows};
 ghost use Rattle.run_frame.specs.FlatNets.{IsFlatNet};
-ghost use Rattle.run_frame.specs.Meaning.{FaultAllowed, IsRelease};
+ghost use Rattle.run_frame.specs.Meaning.{ErrorAllowed, IsRelease};
 ghost use Rattle.join_words.specs.Ins.{parts_of, found_of};
 ghost use Rattle.text_tasks.specs.GraphWork.{IsWork, first_work, graph_of};
 ghost use Rattle.text_tasks.specs.JobMeaning.{net_of};
@@ -43,11 +43,11 @@ impl Model for GraphJob {
 
     ghost Value = { GraphWork };
 
-    ghost use Rattle.text_tasks.specs.inside.Works.{work_of};
+    ghost use Rattle.text_tasks.specs.inside.Works.{graph_work_of};
 
-    ghost view = { work_of };
+    ghost view = { graph_work_of };
 
-    ghost invariant = { λ job. IsWork (work_of job) };
+    ghost invariant = { λ job. IsWork (graph_work_of job) };
 }
 
 impl GraphJob {
@@ -66,7 +66,7 @@ impl GraphJob {
     fn answer(&self, alloc: Global, task: u32, ins: &Ins<Item>) -> Result<Done<TextJob>, JobError>
         requires { IsRelease (graph_of self.now).net task (length (parts_of ins.now)) }
         ensures answer { IfOk result (JobAnswers (TextJob.Graph self.now) task (map found_of (parts_of ins.now))) }
-        ensures fault { IfErr result (FaultAllowed text_job (TextJob.Graph self.now) task (map found_of (parts_of ins.now))) }
+        ensures fault { IfErr result (ErrorAllowed text_job (TextJob.Graph self.now) task (map found_of (parts_of ins.now))) }
     {
         let Some(op) = self.graph().ops.get(task as usize) else {
             unreachable!()

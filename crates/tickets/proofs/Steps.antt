@@ -10,19 +10,19 @@ use Rattle.atomic_table.specs.Table.{State, Me, step, keeps, Allows, Splits, Joi
 use Rattle.atomic_table.proofs.Lists.{at_set, at_snoc}
 use Rattle.tickets.specs.declared.view.View.{View}
 use Rattle.tickets.specs.declared.view.View.TheVariants.{Book, Issuing, Redeeming, Ticket, Spent}
-use Rattle.tickets.specs.inside.Views.{names, Fits, times_out, IsKept, NotesItem, SettlesTicket, book_issued, ticket_issued, with_ticket}
+use Rattle.tickets.specs.inside.Views.{names, Fits, times_out, AreViewsOfOneBook, NotesItem, SettlesTicket, book_issued, ticket_issued, with_ticket}
 use Rattle.tickets.proofs.Named.{one, count_by-set, two_named}
 use Rattle.tickets.proofs.Items.{slice_get-last, slice_get-longer, slice_get-else, times_out-longer, times_out-set}
 
 module _ {X : Type 0} where
   abbrev holds : State X (View X) → Type 0
-  holds s = IsKept s.views
+  holds s = AreViewsOfOneBook s.views
 
   -- the rule, by the items that the book's seat knows
   abbrev IsKeptBy : ℕ → List (Option X) → List (View X) → Type 0
   IsKeptBy keeper items views = ((i : ℕ) (v : View X) → get_elem? views i ≡ some v → Fits keeper items i v) × ((n : ℕ) → count_by (names n) views ≡ times_out (slice_get items n))
 
-  kept_by : (views : List (View X)) (kept : IsKept views) (items : List (Option X)) → items ≡ kept.items → IsKeptBy kept.keeper items views
+  kept_by : (views : List (View X)) (kept : AreViewsOfOneBook views) (items : List (Option X)) → items ≡ kept.items → IsKeptBy kept.keeper items views
   kept_by views kept items same = subst (λ xs. IsKeptBy kept.keeper xs views) (sym same) (kept.fits, kept.once)
 
   -- the views fit after one of them changed
@@ -43,7 +43,7 @@ module _ {X : Type 0} where
   others_fit keeper id old now same i (Ticket n y) apart keep f = keep n y refl f
   others_fit keeper id old now same i Spent apart keep f = tt
 
-  pub begins : IsKept {X = X} (Book [] ∷ [])
+  pub begins : AreViewsOfOneBook {X = X} (Book [] ∷ [])
   begins = record { keeper = 0; items = []; fits = first; once = λ n. refl }
     where
       first : (i : ℕ) (v : View X) → get_elem? (Book [] ∷ []) i ≡ some v → Fits 0 [] i v

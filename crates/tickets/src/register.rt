@@ -61,13 +61,13 @@ pub struct Ticket<X> {
 impl<X> Model for Ticket<X> {
     ghost use Rattle.std.specs.Prelude.{◌≡◌, []};
     ghost use Rattle.tickets.specs.Books.{TicketState, ticket_state};
-    ghost use Rattle.tickets.specs.inside.Views.{ticket_view, number_of};
+    ghost use Rattle.tickets.specs.inside.Views.{ticket_view, view_number};
 
     ghost Value = { TicketState X };
 
-    ghost view = { λ ticket. ticket_state ticket.seat.table_id (number_of ticket.seat.me.0) ticket.item };
+    ghost view = { λ ticket. ticket_state ticket.seat.table_id (view_number ticket.seat.me.0) ticket.item };
 
-    ghost invariant = { λ ticket. ticket.seat.me ≡ (ticket_view (number_of ticket.seat.me.0) ticket.item, []) };
+    ghost invariant = { λ ticket. ticket.seat.me ≡ (ticket_view (view_number ticket.seat.me.0) ticket.item, []) };
 }
 
 impl<X> Register<X> {

@@ -22,9 +22,9 @@ pub struct Registered;
 impl<X> TableRule<X, View<X>, ()> for Registered {
     ghost use Rattle.std.specs.Prelude.{[]};
     ghost use Rattle.tickets.specs.declared.view.View.TheVariants.{Book};
-    ghost use Rattle.tickets.specs.inside.Views.{IsKept};
+    ghost use Rattle.tickets.specs.inside.Views.{AreViewsOfOneBook};
 
-    ghost holds = { λ _ s. IsKept s.views };
+    ghost holds = { λ _ s. AreViewsOfOneBook s.views };
 
     ghost first = { λ _. Book [] };
 }

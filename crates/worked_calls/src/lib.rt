@@ -13,6 +13,8 @@ mod faults;
 #[cfg(test)]
 mod graphs;
 #[cfg(test)]
+mod judged;
+#[cfg(test)]
 mod limits;
 #[cfg(test)]
 mod operations;

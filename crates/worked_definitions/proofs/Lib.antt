@@ -5,3 +5,5 @@ pub mod WorkedFrames
 pub mod WorkedSources
 pub mod WorkedRows
 pub mod WorkedGraphFiles
+pub mod WorkedGraphJson
+pub mod WorkedLines

@@ -1,9 +1,11 @@
 -- What a run's steps do and what its works may come to, computed on small ones.
-use Rattle.std.proofs.Common.{◌≡◌, ◌≢◌, ◌⊎◌, ℕ, zero, suc, ◌+◌, true, false, List, [], ◌∷◌, ◌++◌, length, map, Option, Some, None, inl, inr, refl, ap, sym, ◌∙◌, arith}
+use Rattle.std.proofs.Common.{◌≡◌, ◌≢◌, ◌⊎◌, ℕ, zero, suc, ◌+◌, true, false, List, [], ◌∷◌, ◌++◌, length, map, Option, Some, None, inl, inr, refl, ap, sym, subst, ◌∙◌, arith}
 use Rattle.std.specs.Arc.{arc_value}
 use Rattle.std.specs.Global.{Global}
 use Rattle.std.specs.declared.sync.Arc.{Arc}
-use Rattle.std.proofs.lemmas.List.Elements.{All-from_recursion}
+use Rattle.std.specs.Prelude.{min, All}
+use Rattle.std.proofs.lemmas.List.{length-append}
+use Rattle.std.proofs.lemmas.List.Elements.{All-from_recursion, All-head}
 use Rattle.atomic_table.specs.Seated.{TableId}
 use Rattle.task_graph.specs.NetRows.{NetRows}
 use Rattle.task_graph.specs.declared.net.Shape.{Shape}
@@ -24,8 +26,10 @@ use Rattle.journal_rules.specs.ShapeLegal.{MayFollow}
 use Rattle.legal_run.specs.MachineState.{MachineState}
 use Rattle.join_words.specs.Ins.{InputValue, value, parts_of, found_of}
 use Rattle.join_words.specs.declared.ins.Ins.{Ins}
+use Rattle.join_words.specs.declared.ins.Given.{Given}
 use Rattle.join_words.specs.declared.ins.Given.TheVariants as given
 use Rattle.tickets.specs.Books.{TicketState}
+use Rattle.run_frame.specs.declared.job.Answer.{Answer}
 use Rattle.run_frame.specs.declared.job.Answer.TheVariants.{All as Each, None as NoneOf}
 use Rattle.run_frame.specs.declared.job.Done.{Done}
 use Rattle.run_frame.specs.declared.job.Done.TheVariants.{Value, Inner as InnerJob}
@@ -41,7 +45,12 @@ use Rattle.run_frame.specs.LastEnds.{last_before, last_value}
 use Rattle.run_frame.specs.WorkRule.{WorkRule}
 use Rattle.run_frame.specs.NestedRule.{NestedRule, job_of, journal_of}
 use Rattle.run_frame.specs.Duties.{IsReleaseOf}
+use Rattle.run_frame.specs.Legal.{IsKept}
 use Rattle.run_frame.specs.Frames.{FrameView, IsSameRun, ComesBack, IsStarted, HasNoInner, StartsTask, DropsTask, StartDoes, MayEndWith, MayFaultWith, MayFail, EndsTask, FaultsTask, IsBegun, part_of}
+use Rattle.frame_steps.specs.Releases.{FrameKey, ReleaseView, frame_key, tickets_of, root_job, depth_of, task_of, frames_around, HasRegister, IsReleaseIn}
+use Rattle.frame_steps.specs.Steps.{IsStateOf, DropsRelease, StartsRelease, EndsStart, FaultsStart, ClosesStart, UsesUp, ClosesRun, IsStateAfter, IsClosed, BeginsFrame, StepsRelease}
+use Rattle.frame_steps.specs.declared.stepped.State.TheVariants.{Went, Parked, Inner as HasInner, Closed}
+use Rattle.frame_steps.specs.declared.stepped.Stepped.{Stepped}
 
 abbrev free : Shape → TaskRow
 free shape = record { shape = shape; takes = []; puts = [] }
@@ -500,3 +509,262 @@ module _ (r s : TableId) (other : s ≢ r) (ins : Ins ℕ) where
       never : ◌≡◌ {A = List (Option (Duty ℕ))} (None ∷ Some (Unused 2 Source) ∷ []) both_sources ⊎ ◌≡◌ {A = List (Option (Duty ℕ))} (None ∷ Some (Unused 2 Source) ∷ []) (None ∷ Some (Unused 2 Source) ∷ Some (Unused 0 Source) ∷ []) → ⊥
       never (inl same) = absurd (cc)
       never (inr same) = let longer = ap length same in absurd (omega (arith, longer))
+
+  -- ---- Frames: the run above as one that is in no other, and one of another register that is inside it.
+  abbrev own : List (FrameKey ℕ)
+  own = record { register = r; job = 2 } ∷ []
+
+  abbrev inside : List (FrameKey ℕ)
+  inside = record { register = s; job = 9 } ∷ own
+
+  key_of_a_state : frame_key (view [] 4 both_sources) ≡ record { register = r; job = 2 }
+  key_of_a_state = refl
+
+  key_of_another_job : ¬ (frame_key (view [] 4 both_sources) ≡ record { register = r; job = 9 })
+  key_of_another_job is = absurd (omega (arith, ap (λ (key : FrameKey ℕ). key.job) is))
+
+  key_of_another_register : ¬ (frame_key (view [] 4 both_sources) ≡ record { register = s; job = 2 })
+  key_of_another_register is = other (sym (ap (λ (key : FrameKey ℕ). key.register) is))
+
+  job_of_the_outermost : (root_job inside ≡ Some 2) × (root_job own ≡ Some 2) × (root_job {J = ℕ} [] ≡ None)
+  job_of_the_outermost = (refl, refl, refl)
+
+  depths : (depth_of {J = ℕ} [] ≡ 0) × (depth_of own ≡ 0) × (depth_of inside ≡ 1)
+  depths = (refl, refl, refl)
+
+  deepest : (around : List (FrameKey ℕ)) → length around ≡ 4294967296 → depth_of (record { register = r; job = 2 } ∷ around) ≡ 4294967295
+  deepest around long = ap (λ n. min n 4294967295) long
+
+  tasks_of : (task_of {V = ℕ} (Unused 1 Strong) ≡ 1) × (task_of (Running 2 7 ins) ≡ 2)
+  tasks_of = (refl, refl)
+
+  no_frame_around : frames_around {J = ℕ} None ≡ []
+  no_frame_around = refl
+
+  frames_of_the_parent : (parent : Arc (List (FrameKey ℕ)) Global) → arc_value parent ≡ inside → frames_around (Some parent) ≡ inside
+  frames_of_the_parent parent is = is
+
+  tickets_in_order : tickets_of (record { frames = own; ticket = ticket 0 (Unused 0 Source) } ∷ record { frames = own; ticket = ticket 1 (Unused 2 Source) } ∷ []) ≡ ticket 0 (Unused 0 Source) ∷ ticket 1 (Unused 2 Source) ∷ []
+  tickets_in_order = refl
+
+  register_of_the_inmost : HasRegister inside s × ¬ HasRegister inside r × ¬ HasRegister {J = ℕ} [] r
+  register_of_the_inmost = (refl, other, λ is. is)
+
+  release_in_its_frame : IsReleaseIn own (ticket 0 (Unused 0 Source))
+  release_in_its_frame = (refl, tt)
+
+  release_in_a_frame_inside : ¬ IsReleaseIn inside (ticket 0 (Unused 0 Source))
+  release_in_a_frame_inside is = other is.0
+
+  start_is_no_release : ¬ IsReleaseIn own (ticket 0 (Running 0 0 ins))
+  start_is_no_release is = is.1
+
+  state_of_its_frame : IsStateOf own (view [] 4 both_sources)
+  state_of_its_frame = refl
+
+  state_of_a_frame_inside : ¬ IsStateOf inside (view [] 4 both_sources)
+  state_of_a_frame_inside is = absurd (omega (arith, ap (λ (key : FrameKey ℕ). key.job) is))
+
+  state_of_no_frame : ¬ IsStateOf [] (view [] 4 both_sources)
+  state_of_no_frame is = is
+
+  -- A release is dropped, or started, in a state of its own frame, and the state that is left is of the same run.
+  abbrev dropped : FrameView ℕ ℕ
+  dropped = view (faulted ++ Drop 2 Source Halted ∷ []) 4 (None ∷ [])
+
+  drops_release : DropsRelease own (ticket 0 (Unused 2 Source)) dropped
+  drops_release = record { found = view faulted 4 (Some (Unused 2 Source) ∷ []); of_frame = refl; same = record { register = refl; job = refl }; why = Halted; drops = halted }
+
+  drops_in_another_frame : ¬ DropsRelease inside (ticket 0 (Unused 2 Source)) dropped
+  drops_in_another_frame is = absurd (omega (arith, ap (λ (key : FrameKey ℕ). key.job) is.of_frame, is.same.job))
+
+  leaves_another_run : ¬ DropsRelease own (ticket 0 (Unused 2 Source)) (record dropped { job = 9 })
+  leaves_another_run is = absurd (omega (arith, ap (λ (key : FrameKey ℕ). key.job) is.of_frame, is.same.job))
+
+  drops_without_an_entry : ¬ DropsRelease own (ticket 0 (Unused 2 Source)) (view [] 4 (None ∷ []))
+  drops_without_an_entry is = longer _ is.found.machine.journal (ap (λ (state : MachineState). state.journal) is.drops.entry.after)
+    where
+      longer : (x : Entry) (journal : List Entry) → [] ≡ journal ++ x ∷ [] → ⊥
+      longer x journal is = absurd (omega (arith, ap length is ∙ length-append journal (x ∷ [])))
+
+  abbrev after_start : FrameView ℕ ℕ
+  after_start = view begun 4 (None ∷ Some (Unused 2 Source) ∷ Some (Running 0 0 ins) ∷ [])
+
+  starts_release : parts_of ins ≡ [] → StartsRelease flat_sums own (ticket 0 (Unused 0 Source)) (ticket 2 (Running 0 0 ins))
+  starts_release parts = record { found = view [] 4 both_sources; left = after_start; of_frame = refl; same = record { register = refl; job = refl }; starts = starts_first parts }
+
+  starts_in_another_frame : ¬ StartsRelease flat_sums inside (ticket 0 (Unused 0 Source)) (ticket 2 (Running 0 0 ins))
+  starts_in_another_frame is = other (sym (ap (λ (key : FrameKey ℕ). key.register) is.of_frame) ∙ sym is.starts.register)
+
+  -- An open start ends with what its work may come to, or faults as it may.
+  abbrev after_end : FrameView ℕ ℕ
+  after_end = view ended 4 (None ∷ Some (Unused 2 Source) ∷ None ∷ Some (Unused 1 Strong) ∷ [])
+
+  abbrev after_fault : FrameView ℕ ℕ
+  after_fault = view faulted 4 (None ∷ Some (Unused 2 Source) ∷ None ∷ [])
+
+  abbrev mute : Meaning ℕ ℕ
+  mute = record flat_sums { answers = λ j t found done. ⊥; faults = λ j t found why. ⊥ }
+
+  no_answer : (duty : Duty ℕ) (job v : ℕ) (answer : Answer) → ¬ MayEndWith mute job duty v answer
+  no_answer (Unused task cause) job v answer is = is
+  no_answer (Running task start found) job v answer is = is.1
+
+  ends_start : parts_of ins ≡ [] → EndsStart flat_sums own (ticket 2 (Running 0 0 ins)) (ticket 3 (Unused 1 Strong) ∷ []) after_end
+  ends_start parts = record {
+    found = after_start;
+    of_frame = refl;
+    same = record { register = refl; job = refl };
+    value = 2 + added (map found_of (parts_of ins));
+    answer = Each;
+    work = (omega arith, (refl, refl));
+    ends = record {
+      task = 0;
+      start = 0;
+      ins = ins;
+      place = 1;
+      stood = refl;
+      was = refl;
+      entry = record { stands = refl; allowed = may_end; after = refl };
+      items = refl;
+      releases = All-from_recursion (IsReleaseOf r) (ticket 3 (Unused 1 Strong) ∷ []) ((refl, tt), tt);
+      made = inl (refl, tt);
+    };
+  }
+
+  ends_as_its_work_may_not : ¬ EndsStart mute own (ticket 2 (Running 0 0 ins)) (ticket 3 (Unused 1 Strong) ∷ []) after_end
+  ends_as_its_work_may_not is = no_answer (Running 0 0 ins) is.found.job is.value is.answer is.work
+
+  ends_in_another_frame : ¬ EndsStart flat_sums inside (ticket 2 (Running 0 0 ins)) (ticket 3 (Unused 1 Strong) ∷ []) after_end
+  ends_in_another_frame is = absurd (omega (arith, ap (λ (key : FrameKey ℕ). key.job) is.of_frame, is.same.job))
+
+  ends_and_releases_nothing : ¬ EndsStart flat_sums own (ticket 2 (Running 0 0 ins)) (record (ticket 3 (Unused 1 Strong)) { register = s } ∷ []) after_end
+  ends_and_releases_nothing is = other ((All-head (IsReleaseOf is.found.register) (record (ticket 3 (Unused 1 Strong)) { register = s }) [] is.ends.releases).0 ∙ sym is.same.register)
+
+  faults_start : parts_of ins ≡ [] → FaultsStart flat_sums own (ticket 2 (Running 0 0 ins)) after_fault
+  faults_start parts = record {
+    found = after_start;
+    of_frame = refl;
+    same = record { register = refl; job = refl };
+    why = Long 2;
+    work = sym (ap (λ (found : List (Given ℕ)). 2 + added (map found_of found)) parts);
+    faults = record { task = 0; start = 0; ins = ins; place = 1; stood = refl; was = refl; entry = record { stands = refl; allowed = may_fault_first; after = refl }; items = refl };
+  }
+
+  faults_as_its_work_may_not : ¬ FaultsStart mute own (ticket 2 (Running 0 0 ins)) after_fault
+  faults_as_its_work_may_not is = is.work
+
+  faults_in_another_frame : ¬ FaultsStart flat_sums inside (ticket 2 (Running 0 0 ins)) after_fault
+  faults_in_another_frame is = absurd (omega (arith, ap (λ (key : FrameKey ℕ). key.job) is.of_frame, is.same.job))
+
+  closes_by_its_end : parts_of ins ≡ [] → ClosesStart flat_sums own (ticket 2 (Running 0 0 ins)) (ticket 3 (Unused 1 Strong) ∷ []) after_end
+  closes_by_its_end parts = inl (ends_start parts)
+
+  closes_by_its_fault : parts_of ins ≡ [] → ClosesStart flat_sums own (ticket 2 (Running 0 0 ins)) [] after_fault
+  closes_by_its_fault parts = inr (refl, faults_start parts)
+
+  fault_that_releases : ¬ ClosesStart (record flat_sums { answers = λ j t found done. ⊥ }) own (ticket 2 (Running 0 0 ins)) (ticket 3 (Unused 1 Strong) ∷ []) after_fault
+  fault_that_releases (inl ends) = ends.work.1
+  fault_that_releases (inr faults) = let none = faults.0 in absurd (cc)
+
+  -- A release is used up by a drop, or by a start with its end or its fault.
+  used_by_a_drop : UsesUp flat_sums own (ticket 0 (Unused 2 Source)) [] dropped
+  used_by_a_drop = inl (refl, drops_release)
+
+  used_by_an_end : parts_of ins ≡ [] → UsesUp flat_sums own (ticket 0 (Unused 0 Source)) (ticket 3 (Unused 1 Strong) ∷ []) after_end
+  used_by_an_end parts = inr (ticket 2 (Running 0 0 ins), starts_release parts, closes_by_its_end parts)
+
+  used_by_a_fault : parts_of ins ≡ [] → UsesUp flat_sums own (ticket 0 (Unused 0 Source)) [] after_fault
+  used_by_a_fault parts = inr (ticket 2 (Running 0 0 ins), starts_release parts, closes_by_its_fault parts)
+
+  drop_that_releases : ¬ UsesUp mute own (ticket 0 (Unused 2 Source)) (ticket 3 (Unused 1 Strong) ∷ []) dropped
+  drop_that_releases (inl drops) = let none = drops.0 in absurd (cc)
+  drop_that_releases (inr (running, starts, inl ends)) = no_answer running.item ends.found.job ends.value ends.answer ends.work
+  drop_that_releases (inr (running, starts, inr faults)) = let none = faults.0 in absurd (cc)
+
+  -- A run that is given out may be kept, is of the outermost frame's job, has the journal that was left, and leaves
+  -- nothing to do.
+  closes_run : (run : FrameRun ℕ ℕ) → IsKept flat_sums run → job_of run ≡ 2 → journal_of run ≡ [] → ClosesRun flat_sums inside (view [] 4 []) run
+  closes_run run kept job journal = record { kept = kept; job = ap Some (sym job); journal = journal; nothing_left = refl }
+
+  closes_an_illegal_run : (run : FrameRun ℕ ℕ) → ¬ IsKept flat_sums run → ¬ ClosesRun flat_sums own (view [] 4 []) run
+  closes_an_illegal_run run never is = never is.kept
+
+  closes_the_inner_job : (run : FrameRun ℕ ℕ) → job_of run ≡ 9 → ¬ ClosesRun flat_sums inside (view [] 4 []) run
+  closes_the_inner_job run job is = let same : ◌≡◌ {A = Option ℕ} (Some 2) (Some 9) = is.job ∙ ap Some job in absurd (cc)
+
+  closes_with_another_journal : (run : FrameRun ℕ ℕ) → journal_of run ≡ begun → ¬ ClosesRun flat_sums own (view [] 4 []) run
+  closes_with_another_journal run journal is = absurd (omega (arith, ap length journal, ap length is.journal))
+
+  closes_before_the_end : (run : FrameRun ℕ ℕ) → ¬ ClosesRun flat_sums own (view [] 4 both_sources) run
+  closes_before_the_end run is = absurd (omega (arith, is.nothing_left))
+
+  goes_on : IsStateAfter flat_sums own (view [] 4 both_sources) Went
+  goes_on none = absurd (omega (arith, none))
+
+  goes_on_with_nothing_left : ¬ IsStateAfter flat_sums own (view [] 4 []) Went
+  goes_on_with_nothing_left is = is refl
+
+  parks_nothing : ¬ IsStateAfter flat_sums own (view [] 4 both_sources) Parked × ¬ IsStateAfter flat_sums own (view [] 4 both_sources) HasInner
+  parks_nothing = (λ is. is, λ is. is)
+
+  gives_its_run_out : (run : FrameRun ℕ ℕ) → IsKept flat_sums run → job_of run ≡ 2 → journal_of run ≡ [] → IsStateAfter flat_sums own (view [] 4 []) (Closed run)
+  gives_its_run_out run kept job journal = record { kept = kept; job = ap Some (sym job); journal = journal; nothing_left = refl }
+
+  gives_a_run_out_before_the_end : (run : FrameRun ℕ ℕ) → ¬ IsStateAfter flat_sums own (view [] 4 both_sources) (Closed run)
+  gives_a_run_out_before_the_end run is = absurd (omega (arith, is.nothing_left))
+
+  closed_alone : (run : FrameRun ℕ ℕ) → IsClosed (Closed run) × ¬ IsClosed {J = ℕ} {V = ℕ} Went × ¬ IsClosed {J = ℕ} {V = ℕ} Parked × ¬ IsClosed {J = ℕ} {V = ℕ} HasInner
+  closed_alone run = (tt, λ is. is, λ is. is, λ is. is)
+
+  -- A beginning and a step as a whole.
+  abbrev release_in : List (FrameKey ℕ) → TicketState (Duty ℕ) → ReleaseView ℕ ℕ
+  release_in frames ticket = record { frames = frames; ticket = ticket }
+
+  abbrev both_released : List (FrameKey ℕ) → List (ReleaseView ℕ ℕ)
+  both_released frames = release_in frames (ticket 0 (Unused 0 Source)) ∷ release_in frames (ticket 1 (Unused 2 Source)) ∷ []
+
+  begins_frame : (stepped : Stepped ℕ ℕ) → stepped.released.items ≡ both_released own → stepped.state ≡ Went → BeginsFrame flat_sums 2 stepped
+  begins_frame stepped released went = record {
+    left = view [] 4 both_sources;
+    begun = subst (λ releases. IsBegun flat_sums 2 (view [] 4 both_sources) (tickets_of releases)) (sym released) begins;
+    frames = subst (All (λ (release : ReleaseView ℕ ℕ). release.frames ≡ own)) (sym released) (All-from_recursion (λ (release : ReleaseView ℕ ℕ). release.frames ≡ own) (both_released own) (refl, (refl, tt)));
+    state = subst (IsStateAfter flat_sums own (view [] 4 both_sources)) (sym went) goes_on;
+  }
+
+  begins_with_releases_of_a_frame_inside : (stepped : Stepped ℕ ℕ) → stepped.released.items ≡ both_released inside → ¬ BeginsFrame flat_sums 2 stepped
+  begins_with_releases_of_a_frame_inside stepped released is =
+      let frames = subst (All (λ (release : ReleaseView ℕ ℕ). release.frames ≡ frame_key is.left ∷ [])) released is.frames in
+      absurd (omega (arith, ap length (All-head (λ (release : ReleaseView ℕ ℕ). release.frames ≡ frame_key is.left ∷ []) (release_in inside (ticket 0 (Unused 0 Source))) (release_in inside (ticket 1 (Unused 2 Source)) ∷ []) frames)))
+
+  begins_without_a_release : (stepped : Stepped ℕ ℕ) → stepped.released.items ≡ [] → ¬ BeginsFrame flat_sums 2 stepped
+  begins_without_a_release stepped released is =
+      let first = subst (λ (releases : List (ReleaseView ℕ ℕ)). map (λ (t : TicketState (Duty ℕ)). t.item) (tickets_of releases) ≡ Unused 0 Source ∷ Unused 2 Source ∷ []) released is.begun.first in
+      absurd (cc)
+
+  begins_parked : (stepped : Stepped ℕ ℕ) → stepped.state ≡ Parked → ¬ BeginsFrame flat_sums 2 stepped
+  begins_parked stepped parked is = subst (IsStateAfter flat_sums (frame_key is.left ∷ []) is.left) parked is.state
+
+  steps_release : (stepped : Stepped ℕ ℕ) → parts_of ins ≡ [] → stepped.released.items ≡ release_in own (ticket 3 (Unused 1 Strong)) ∷ [] → stepped.state ≡ Went → StepsRelease flat_sums (release_in own (ticket 0 (Unused 0 Source))) stepped
+  steps_release stepped parts released went = record {
+    left = after_end;
+    used = subst (λ releases. UsesUp flat_sums own (ticket 0 (Unused 0 Source)) (tickets_of releases) after_end) (sym released) (used_by_an_end parts);
+    frames = subst (All (λ (next : ReleaseView ℕ ℕ). next.frames ≡ own)) (sym released) (All-from_recursion (λ (next : ReleaseView ℕ ℕ). next.frames ≡ own) (release_in own (ticket 3 (Unused 1 Strong)) ∷ []) (refl, tt));
+    state = subst (IsStateAfter flat_sums own after_end) (sym went) (λ none. absurd (omega (arith, none)));
+  }
+
+  steps_to_releases_of_another_frame : (stepped : Stepped ℕ ℕ) → stepped.released.items ≡ release_in inside (ticket 3 (Unused 1 Strong)) ∷ [] → ¬ StepsRelease flat_sums (release_in own (ticket 0 (Unused 0 Source))) stepped
+  steps_to_releases_of_another_frame stepped released is =
+      let frames = subst (All (λ (next : ReleaseView ℕ ℕ). next.frames ≡ own)) released is.frames in
+      absurd (omega (arith, ap length (All-head (λ (next : ReleaseView ℕ ℕ). next.frames ≡ own) (release_in inside (ticket 3 (Unused 1 Strong))) [] frames)))
+
+  steps_as_its_work_may_not : (stepped : Stepped ℕ ℕ) → stepped.released.items ≡ release_in own (ticket 3 (Unused 1 Strong)) ∷ [] → ¬ StepsRelease mute (release_in own (ticket 0 (Unused 0 Source))) stepped
+  steps_as_its_work_may_not stepped released is = drop_or_none is.left (subst (λ releases. UsesUp mute own (ticket 0 (Unused 0 Source)) (tickets_of releases) is.left) released is.used)
+    where
+      drop_or_none : (left : FrameView ℕ ℕ) → UsesUp mute own (ticket 0 (Unused 0 Source)) (ticket 3 (Unused 1 Strong) ∷ []) left → ⊥
+      drop_or_none left (inl drops) = let none = drops.0 in absurd (cc)
+      drop_or_none left (inr (running, starts, inl ends)) = no_answer running.item ends.found.job ends.value ends.answer ends.work
+      drop_or_none left (inr (running, starts, inr faults)) = let none = faults.0 in absurd (cc)
+
+  steps_to_a_park : (stepped : Stepped ℕ ℕ) → stepped.state ≡ Parked → ¬ StepsRelease flat_sums (release_in own (ticket 0 (Unused 0 Source))) stepped
+  steps_to_a_park stepped parked is = subst (IsStateAfter flat_sums own is.left) parked is.state

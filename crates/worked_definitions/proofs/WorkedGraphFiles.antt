@@ -12,17 +12,24 @@ use Rattle.graph_plans.specs.declared.ops.Op.TheVariants.{Input, Read, Text, Mat
 use Rattle.graph_plans.specs.declared.ops.TextOp.TheVariants.{Keep, Without, Head, Tail, Skip, Sort}
 use Rattle.graph_plans.specs.declared.spots.Spot.TheVariants.{File, Task, Module}
 use Rattle.graph_plans.specs.Operations.{IsOp, IsTextOp, IsWord, shape_of}
-use Rattle.graph_plans.specs.PlanRows.{GraphRows, PlanRows, IsPlan, IsTextName, NeedsNoUnit}
+use Rattle.std.specs.Arc.{arc_value}
+use Rattle.std.specs.Global.{Global}
+use Rattle.std.specs.declared.sync.Arc.{Arc}
+use Rattle.task_graph.specs.NetRows.{NetRows}
+use Rattle.graph_plans.specs.declared.plans.Graph.{Graph}
+use Rattle.graph_plans.specs.PlanRows.{GraphRows, PlanRows, IsPlan, IsTextName, NeedsNoUnit, graph_rows, plan_rows}
 use Rattle.graph_plans.specs.Sources.{HasNoSource, NoSourceAnswer}
 use Rattle.graph_file.specs.declared.refusals.GraphError.{GraphError}
 use Rattle.graph_file.specs.declared.refusals.GraphError.TheVariants.{NotJson, BadField, NoSuchName, Repeated, TooMany}
 use Rattle.graph_file.specs.declared.refusals.Kind.TheVariants as kind
-use Rattle.graph_file.specs.Contents.{is_name, is_name_byte, lines_of, whole_of}
+use Rattle.graph_file.specs.Contents.{is_name, is_name_byte, line_count_of, whole_of}
 use Rattle.graph_file.specs.Fields.{allowed, needed, only}
 use Rattle.graph_file.specs.OpRows.{reads, does}
-use Rattle.graph_file.specs.PlanText.{DraftRows, add_edge, add_name, plan_of, with_task}
+use Rattle.graph_file.specs.PlanText.{DraftRows, add_edge, add_name, plan_of, with_task_text}
+use Rattle.json.specs.Print.{escape_byte}
+use Rattle.std.specs.Fmt.{digits}
 use Rattle.graph_file.specs.Steps.{walk}
-use Rattle.graph_file.specs.Written.{op_text, to_of, plan_data, file_data, task_data}
+use Rattle.graph_file.specs.Written.{op_text, to_of, plan_data, file_data, task_data, plan_text}
 
 abbrev a : List ℕ
 a = codes "a"
@@ -61,13 +68,13 @@ name_with_a_space : is_name (codes "a b") ≡ false
 unfolding is_name_byte
 name_with_a_space = refl
 
-lines_at_their_limit : lines_of (number (unsigned 1000000000)) ≡ Some 1000000000
+lines_at_their_limit : line_count_of (number (unsigned 1000000000)) ≡ Some 1000000000
 lines_at_their_limit = refl
 
-lines_over_their_limit : lines_of (number (unsigned 1000000001)) ≡ None
+lines_over_their_limit : line_count_of (number (unsigned 1000000001)) ≡ None
 lines_over_their_limit = refl
 
-no_number : lines_of (string a) ≡ None
+no_number : line_count_of (string a) ≡ None
 no_number = refl
 
 least_and_most : (whole_of 1 1 (number (unsigned 1)) ≡ Some 1) × (whole_of 1 1 (number (unsigned 0)) ≡ None) × (whole_of 1 1 (number (unsigned 2)) ≡ None)
@@ -78,22 +85,22 @@ least_and_most = (refl, refl, refl)
 abbrev fields : Data
 fields = object (member a (number (unsigned 7)) (member b (string c) (member c (string a) no_members)))
 
-field_read : needed lines_of (Task 3) a fields ≡ Ok 7
+field_read : needed line_count_of (Task 3) a fields ≡ Ok 7
 field_read = refl
 
-field_of_a_wrong_kind : needed lines_of (Task 3) b fields ≡ Err (BadField (Task 3) b)
+field_of_a_wrong_kind : needed line_count_of (Task 3) b fields ≡ Err (BadField (Task 3) b)
 field_of_a_wrong_kind = refl
 
-field_missing : needed lines_of (Task 3) (codes "d") fields ≡ Err (BadField (Task 3) (codes "d"))
+field_missing : needed line_count_of (Task 3) (codes "d") fields ≡ Err (BadField (Task 3) (codes "d"))
 field_missing = refl
 
-field_that_may_be_missing : allowed 5 lines_of (Task 3) (codes "d") fields ≡ Ok 5
+field_that_may_be_missing : allowed 5 line_count_of (Task 3) (codes "d") fields ≡ Ok 5
 field_that_may_be_missing = refl
 
-field_that_is_there : allowed 5 lines_of (Task 3) a fields ≡ Ok 7
+field_that_is_there : allowed 5 line_count_of (Task 3) a fields ≡ Ok 7
 field_that_is_there = refl
 
-field_that_may_be_missing_of_a_wrong_kind : allowed 5 lines_of (Task 3) b fields ≡ Err (BadField (Task 3) b)
+field_that_may_be_missing_of_a_wrong_kind : allowed 5 line_count_of (Task 3) b fields ≡ Err (BadField (Task 3) b)
 field_that_may_be_missing_of_a_wrong_kind = refl
 
 first_unknown_field : only (a ∷ []) (Task 3) fields ≡ Err (BadField (Task 3) b)
@@ -108,14 +115,14 @@ each_field_known = refl
 abbrev draft : DraftRows
 draft = record { names = a ∷ []; ops = Read 0 ∷ []; links = record { from = 0; to = c } ∷ []; texts = b ∷ [] }
 
-text_of_before : with_task draft (record { name = c; op = reads b; to = [] }) ≡ record draft { names = a ∷ c ∷ []; ops = Read 0 ∷ Read 0 ∷ [] }
+text_of_before : with_task_text draft (record { name = c; op = reads b; to = [] }) ≡ record draft { names = a ∷ c ∷ []; ops = Read 0 ∷ Read 0 ∷ [] }
 text_of_before = refl
 
-text_more : with_task draft (record { name = c; op = reads a; to = a ∷ b ∷ [] })
+text_more : with_task_text draft (record { name = c; op = reads a; to = a ∷ b ∷ [] })
     ≡ record { names = a ∷ c ∷ []; ops = Read 0 ∷ Read 1 ∷ []; links = record { from = 0; to = c } ∷ record { from = 1; to = a } ∷ record { from = 1; to = b } ∷ []; texts = b ∷ a ∷ [] }
 text_more = refl
 
-no_text_read : with_task draft (record { name = c; op = does Match; to = [] }) ≡ record draft { names = a ∷ c ∷ []; ops = Read 0 ∷ Match ∷ [] }
+no_text_read : with_task_text draft (record { name = c; op = does Match; to = [] }) ≡ record draft { names = a ∷ c ∷ []; ops = Read 0 ∷ Match ∷ [] }
 no_text_read = refl
 
 -- ---- the classes of refusals, in their order
@@ -237,6 +244,14 @@ top_before_a_module is = is.1.top ring_has_no_source
 no_source_hidden : ¬ NoSourceAnswer (two_modules (graph [] [])) None
 no_source_hidden is = is.modules 1 ring (omega arith) ring_has_no_source
 
+-- ---- what a plan consists of
+
+rows_of_a_graph : (net : Arc NetRows Global) → graph_rows (record { name = a; names = b ∷ []; ops = Match ∷ []; sem_names = c ∷ []; net = net }) ≡ record { name = a; names = b ∷ []; ops = Match ∷ []; sem_names = c ∷ []; net = arc_value net }
+rows_of_a_graph net = refl
+
+rows_of_a_plan : (top first second : Graph) → plan_rows (record { top = top; modules = first ∷ second ∷ []; texts = a ∷ b ∷ [] }) ≡ record { top = graph_rows top; modules = graph_rows first ∷ graph_rows second ∷ []; texts = a ∷ b ∷ [] }
+rows_of_a_plan top first second = refl
+
 -- ---- the rules of a plan
 
 -- a plan without edges
@@ -313,3 +328,8 @@ written_file = refl
 
 file_fields : file_data [] ≡ object (member (codes "modules") (names_data []) (member (codes "semaphores") (names_data []) (member (codes "tasks") (names_data []) (member (codes "version") (number (unsigned 1)) no_members))))
 file_fields = refl
+
+-- without spaces
+text_of_an_empty_plan : plan_text (plan_with_tasks [] [] [] []) ≡ codes "{\"modules\":[],\"semaphores\":[],\"tasks\":[],\"version\":1}"
+unfolding escape_byte digits
+text_of_an_empty_plan = refl

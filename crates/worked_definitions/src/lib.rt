@@ -6,6 +6,9 @@
 //! - `WorkedSinks`, `WorkedSources`: sinks, sources of texts, streams, the inputs of a start, a watcher's count;
 //! - `WorkedBuilder`: what the builder of nets answers, and which nets are well formed;
 //! - `WorkedSteps`: what a machine's steps do, the break of each rule, the verdict;
-//! - `WorkedFrames`, `WorkedRows`: what a run's steps do, what its works may come to, and where its inner runs stand;
-//! - `WorkedGraphFiles`: which plan the tasks of a graph file stand for, what is refused first, and how a plan is written.
+//! - `WorkedFrames`, `WorkedRows`: what a run's steps do, what its works may come to, where its inner runs stand, and
+//!   what the beginning and the steps of a frame come to;
+//! - `WorkedLines`: lines without an end, and words in them;
+//! - `WorkedGraphFiles`, `WorkedGraphJson`: which plan a graph file stands for, what is refused first, and how a plan is
+//!   written.
 #![tactic(auto)]

@@ -1,6 +1,6 @@
 // Calls of a net's builder, and of what a net chooses, with the answers that were worked out by hand.
 ghost use Rattle.std.specs.Prelude.{◌<◌, length, IsTrue};
-ghost use Rattle.task_graph.specs.Chosen.{FitsShape, IsAnswerFor};
+ghost use Rattle.task_graph.specs.Chosen.{AnswersSoMany, IsAnswerFor};
 
 use crate::nets::{Rows, add_tasks, built_net, free};
 use outside_io::{List, NoMemory};
@@ -79,7 +79,7 @@ fn may_answer(net: &Net, task: u32, count: usize) -> bool
 
 // Whether a task of this shape may answer so many indices.
 fn fits_shape(shape: Shape, count: usize) -> bool
-    ensures { IsTrue result → FitsShape shape count }
+    ensures { IsTrue result → AnswersSoMany shape count }
 {
     match shape {
         Shape::Plain => false,

@@ -151,10 +151,8 @@ fn a_limit_ends_a_run_early(rt: HostRuntime) -> Result<(), Fail> {
     expect_run(&rt, rt.alloc(), row, &steps, false)
 }
 
-// Each number that the net hasn't, each choice of edges that the shape of the task doesn't allow, and each entry after
-// a drop for want of a unit. Task 1 chooses one edge of two, task 2 some of two, and task 3 takes the one unit.
-#[test]
-fn bad_input_is_refused(rt: HostRuntime) -> Result<(), Fail> {
+// Task 1 chooses one edge of two, task 2 some of two, and task 3 takes the one unit.
+fn choosing_net(alloc: Global) -> Result<Arc<Net>, Fail> {
     let plain = free(Shape::Plain);
     let tasks = [
         plain,
@@ -168,7 +166,14 @@ fn bad_input_is_refused(rt: HostRuntime) -> Result<(), Fail> {
         edges: &[(0, 1), (0, 2), (1, 3), (1, 3), (2, 3), (2, 3)],
         rings: &[],
     };
-    let net = built_net(rt.alloc(), rows)?;
+    built_net(alloc, rows)
+}
+
+// Each number that the net hasn't, each choice of edges that the shape of the task doesn't allow, and each entry after
+// a drop for want of a unit.
+#[test]
+fn bad_input_is_refused(rt: HostRuntime) -> Result<(), Fail> {
+    let net = choosing_net(rt.alloc())?;
     let no_such = Err(MachineError::NoSuch);
     let not_chosen = Err(MachineError::NotChosen);
     let after_stuck = Err(MachineError::AfterStuck);

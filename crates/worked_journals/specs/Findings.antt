@@ -60,7 +60,7 @@ Unless true P = ¬ P
 Unless false P = P
 
 -- The journal is legal, and not with the entry, which breaks this rule and no other.
-pub record Breaks (rule : Rule) (net : NetRows) (limit : ℕ) (journal : List Entry) (entry : Entry) : Type 0 where
+pub record BreaksOnly (rule : Rule) (net : NetRows) (limit : ℕ) (journal : List Entry) (entry : Entry) : Type 0 where
   pub before : ShapeLegal net limit journal
   pub illegal : ¬ ShapeLegal net limit (journal ++ entry ∷ [])
   pub in_range : Unless (is_range rule) (IsInRange net entry)

@@ -22,10 +22,6 @@ edge from to = record { from = from; to = to; start = false }
 abbrev pub ring : ℕ → EdgeRow
 ring task = record { from = task; to = task; start = true }
 
--- no task
-abbrev pub empty_net : NetRows
-empty_net = record { tasks = []; edges = []; sems = [] }
-
 -- task 1 after task 0
 abbrev pub row_net : NetRows
 row_net = record { tasks = free Plain ∷ free Plain ∷ []; edges = edge 0 1 ∷ []; sems = [] }

@@ -1,6 +1,7 @@
 // Journals that are worked out by hand, and what the rules say of them.
 ghost use Rattle.worked_journals.specs.Findings.{IsFinished};
-ghost use Rattle.worked_journals.specs.WorkedNets.{empty_net, row_net, diamond_net, double_net, loop_net, kept_net, choice_net, route_net, nested_net, one_unit_net, across_net, takers_net, putter_net, putter_and_taker_net, putters_and_taker_net, apart_net, self_net, two_rings_net};
+ghost use Rattle.task_graph.specs.NetBuilder.{empty_net};
+ghost use Rattle.worked_journals.specs.WorkedNets.{row_net, diamond_net, double_net, loop_net, kept_net, choice_net, route_net, nested_net, one_unit_net, across_net, takers_net, putter_net, putter_and_taker_net, putters_and_taker_net, apart_net, self_net, two_rings_net};
 ghost use Rattle.worked_journals.specs.WorkedJournals.{row_run, diamond_run, double_run, loop_run, kept_rounds, kept_run, kept_run_with_nothing, choice_run, route_run, nested_run, one_unit_run, across_run, stuck_run, over_run, over_before_run, over_beside_run, halted_run, limited_run, two_rings_run, two_rings_limited_run};
 ghost use Rattle.journal_rules.specs.Waiting.{waiting};
 ghost use Rattle.journal_rules.specs.declared.entry.Cause.TheVariants.{Strong};

@@ -6,89 +6,89 @@ ghost use Rattle.journal_rules.specs.declared.entry.Part.TheVariants.{From, Firs
 ghost use Rattle.journal_rules.specs.declared.entry.Why.TheVariants.{OverRelease};
 ghost use Rattle.journal_rules.specs.declared.entry.DropWhy.TheVariants.{Halted, Limit, Stuck};
 ghost use Rattle.journal_rules.specs.declared.entry.Entry.TheVariants.{Start, End, Fault, Drop};
-ghost use Rattle.worked_journals.specs.Findings.{Breaks, IsOutOfRange, Range, Release, Closing, Choosing, Units, Ending};
+ghost use Rattle.worked_journals.specs.Findings.{BreaksOnly, IsOutOfRange, Range, Release, Closing, Choosing, Units, Ending};
 ghost use Rattle.worked_journals.specs.WorkedNets.{row_net, diamond_net, loop_net, choice_net, route_net, one_unit_net, across_net, takers_net, takers_and_free_net, putter_net, apart_net};
 ghost use Rattle.worked_journals.specs.WorkedJournals.{source_run, row_front, row_run, diamond_front, loop_front, loop_run, choice_run, chosen_front, route_front, one_unit_front, across_front, stuck_run, long};
 
 /// Starts and Drops of releases that aren't there: too early, used already, or never there.
 pub fn not_released()
-    ensures early { Breaks Release row_net 10 (Start 0 Source [] ∷ [])
+    ensures early { BreaksOnly Release row_net 10 (Start 0 Source [] ∷ [])
         (Start 1 Strong (From 1 ∷ [])) }
-    ensures early_drop { Breaks Release row_net 10 (Start 0 Source [] ∷ []) (Drop 1 Strong Limit) }
-    ensures half { Breaks Release diamond_net 10 diamond_front
+    ensures early_drop { BreaksOnly Release row_net 10 (Start 0 Source [] ∷ []) (Drop 1 Strong Limit) }
+    ensures half { BreaksOnly Release diamond_net 10 diamond_front
         (Start 3 Strong (First ∷ From 4 ∷ [])) }
-    ensures source_again { Breaks Release row_net 10 (source_run (0 ∷ [])) (Start 0 Source []) }
-    ensures strong_again { Breaks Release row_net 10 row_front (Start 1 Strong (From 1 ∷ [])) }
-    ensures weak_again { Breaks Release loop_net 20 loop_run (Start 3 (Weak 3) (From 13 ∷ [])) }
-    ensures dropped_before { Breaks Release row_net 10 (source_run (0 ∷ []) ++ Drop 1 Strong Limit ∷ [])
+    ensures source_again { BreaksOnly Release row_net 10 (source_run (0 ∷ [])) (Start 0 Source []) }
+    ensures strong_again { BreaksOnly Release row_net 10 row_front (Start 1 Strong (From 1 ∷ [])) }
+    ensures weak_again { BreaksOnly Release loop_net 20 loop_run (Start 3 (Weak 3) (From 13 ∷ [])) }
+    ensures dropped_before { BreaksOnly Release row_net 10 (source_run (0 ∷ []) ++ Drop 1 Strong Limit ∷ [])
         (Start 1 Strong (From 1 ∷ [])) }
-    ensures not_source { Breaks Release row_net 10 [] (Start 1 Source []) }
-    ensures no_strong_edge { Breaks Release row_net 10 [] (Start 0 Strong []) }
-    ensures not_chosen { Breaks Release choice_net 10 choice_run (Start 2 (Weak 1) (From 3 ∷ [])) }
-    ensures strong_edge_alone { Breaks Release row_net 10 (source_run (0 ∷ []))
+    ensures not_source { BreaksOnly Release row_net 10 [] (Start 1 Source []) }
+    ensures no_strong_edge { BreaksOnly Release row_net 10 [] (Start 0 Strong []) }
+    ensures not_chosen { BreaksOnly Release choice_net 10 choice_run (Start 2 (Weak 1) (From 3 ∷ [])) }
+    ensures strong_edge_alone { BreaksOnly Release row_net 10 (source_run (0 ∷ []))
         (Start 1 (Weak 0) (From 1 ∷ [])) }
-    ensures edge_of_another { Breaks Release choice_net 10 chosen_front
+    ensures edge_of_another { BreaksOnly Release choice_net 10 chosen_front
         (Start 0 (Weak 1) (From 3 ∷ [])) }
 {}
 
 /// Ends and Faults that name no open Start.
 pub fn not_open()
-    ensures ended { Breaks Closing row_net 10 row_run (End 2 [] false) }
-    ensures ended_before_fault { Breaks Closing row_net 10 row_run (Fault 2 long) }
-    ensures faulted { Breaks Closing apart_net 10 (Start 0 Source [] ∷ Fault 0 long ∷ [])
+    ensures ended { BreaksOnly Closing row_net 10 row_run (End 2 [] false) }
+    ensures ended_before_fault { BreaksOnly Closing row_net 10 row_run (Fault 2 long) }
+    ensures faulted { BreaksOnly Closing apart_net 10 (Start 0 Source [] ∷ Fault 0 long ∷ [])
         (End 0 [] false) }
-    ensures not_a_start { Breaks Closing row_net 10 row_run (Fault 1 long) }
-    ensures not_there { Breaks Closing row_net 10 row_run (Fault 4 long) }
+    ensures not_a_start { BreaksOnly Closing row_net 10 row_run (Fault 1 long) }
+    ensures not_there { BreaksOnly Closing row_net 10 row_run (Fault 4 long) }
 {}
 
 /// Ends that give what their task may not give.
 pub fn not_chosen()
-    ensures of_another { Breaks Choosing row_net 10 row_front (End 2 (0 ∷ []) false) }
-    ensures some { Breaks Choosing diamond_net 10 (Start 0 Source [] ∷ []) (End 0 (1 ∷ []) false) }
-    ensures other_order { Breaks Choosing diamond_net 10 (Start 0 Source [] ∷ [])
+    ensures of_another { BreaksOnly Choosing row_net 10 row_front (End 2 (0 ∷ []) false) }
+    ensures some { BreaksOnly Choosing diamond_net 10 (Start 0 Source [] ∷ []) (End 0 (1 ∷ []) false) }
+    ensures other_order { BreaksOnly Choosing diamond_net 10 (Start 0 Source [] ∷ [])
         (End 0 (1 ∷ 0 ∷ []) false) }
-    ensures two { Breaks Choosing loop_net 10 loop_front (End 4 (2 ∷ 3 ∷ []) false) }
-    ensures chosen_of_another { Breaks Choosing loop_net 10 loop_front (End 4 (1 ∷ []) false) }
-    ensures inner { Breaks Choosing row_net 10 row_front (End 2 [] true) }
+    ensures two { BreaksOnly Choosing loop_net 10 loop_front (End 4 (2 ∷ 3 ∷ []) false) }
+    ensures chosen_of_another { BreaksOnly Choosing loop_net 10 loop_front (End 4 (1 ∷ []) false) }
+    ensures inner { BreaksOnly Choosing row_net 10 row_front (End 2 [] true) }
 {}
 
 /// An End of a Many that gives an edge twice.
 pub fn not_distinct()
-    ensures { Breaks Choosing route_net 10 route_front (End 2 (3 ∷ 1 ∷ 3 ∷ []) false) }
+    ensures { BreaksOnly Choosing route_net 10 route_front (End 2 (3 ∷ 1 ∷ 3 ∷ []) false) }
 {}
 
 /// Starts that take a unit that isn't there, Ends that give one back that isn't out, and Faults that tell this falsely.
 pub fn over_units()
-    ensures taken { Breaks Units one_unit_net 10 one_unit_front (Start 1 Strong (From 1 ∷ [])) }
-    ensures lost_by_fault { Breaks Units one_unit_net 10 (one_unit_front ++ Fault 2 long ∷ [])
+    ensures taken { BreaksOnly Units one_unit_net 10 one_unit_front (Start 1 Strong (From 1 ∷ [])) }
+    ensures lost_by_fault { BreaksOnly Units one_unit_net 10 (one_unit_front ++ Fault 2 long ∷ [])
         (Start 1 Strong (From 1 ∷ [])) }
-    ensures nothing_out { Breaks Units putter_net 10 (Start 0 Source [] ∷ []) (End 0 [] false) }
-    ensures not_over { Breaks Units across_net 10 across_front (Fault 2 (OverRelease 0)) }
-    ensures not_put { Breaks Units across_net 10 (Start 0 Source [] ∷ [])
+    ensures nothing_out { BreaksOnly Units putter_net 10 (Start 0 Source [] ∷ []) (End 0 [] false) }
+    ensures not_over { BreaksOnly Units across_net 10 across_front (Fault 2 (OverRelease 0)) }
+    ensures not_put { BreaksOnly Units across_net 10 (Start 0 Source [] ∷ [])
         (Fault 0 (OverRelease 0)) }
-    ensures own_unit { Breaks Units one_unit_net 10 one_unit_front (Fault 2 (OverRelease 0)) }
+    ensures own_unit { BreaksOnly Units one_unit_net 10 one_unit_front (Fault 2 (OverRelease 0)) }
 {}
 
 /// Starts past the limit, and Drops whose cause isn't there.
 pub fn past_limit_or_without_cause()
-    ensures limit { Breaks Ending row_net 1 (source_run (0 ∷ [])) (Start 1 Strong (From 1 ∷ [])) }
-    ensures halted { Breaks Ending apart_net 10 (Start 0 Source [] ∷ []) (Drop 1 Source Halted) }
-    ensures stuck_and_open { Breaks Ending takers_net 10 (Start 0 Source [] ∷ [])
+    ensures limit { BreaksOnly Ending row_net 1 (source_run (0 ∷ [])) (Start 1 Strong (From 1 ∷ [])) }
+    ensures halted { BreaksOnly Ending apart_net 10 (Start 0 Source [] ∷ []) (Drop 1 Source Halted) }
+    ensures stuck_and_open { BreaksOnly Ending takers_net 10 (Start 0 Source [] ∷ [])
         (Drop 1 Source (Stuck 0)) }
-    ensures stuck_after_fault { Breaks Ending takers_net 10 (Start 0 Source [] ∷ Fault 0 long ∷ [])
+    ensures stuck_after_fault { BreaksOnly Ending takers_net 10 (Start 0 Source [] ∷ Fault 0 long ∷ [])
         (Drop 1 Source (Stuck 0)) }
-    ensures stuck_without_need { Breaks Ending across_net 10 (source_run (0 ∷ []))
+    ensures stuck_without_need { BreaksOnly Ending across_net 10 (source_run (0 ∷ []))
         (Drop 1 Strong (Stuck 0)) }
-    ensures stuck_with_unit { Breaks Ending takers_net 10 [] (Drop 1 Source (Stuck 0)) }
-    ensures after_stuck { Breaks Ending takers_and_free_net 10 stuck_run (Start 2 Source []) }
-    ensures limit_after_stuck { Breaks Ending takers_and_free_net 10 stuck_run
+    ensures stuck_with_unit { BreaksOnly Ending takers_net 10 [] (Drop 1 Source (Stuck 0)) }
+    ensures after_stuck { BreaksOnly Ending takers_and_free_net 10 stuck_run (Start 2 Source []) }
+    ensures limit_after_stuck { BreaksOnly Ending takers_and_free_net 10 stuck_run
         (Drop 2 Source Limit) }
 {}
 
 /// Entries with a number of a task, an edge or a semaphore that the net hasn't.
 pub fn out_of_range()
-    ensures task { Breaks Range row_net 10 [] (Start 5 Source []) }
-    ensures dropped_task { Breaks Range row_net 10 [] (Drop 5 Source Limit) }
+    ensures task { BreaksOnly Range row_net 10 [] (Start 5 Source []) }
+    ensures dropped_task { BreaksOnly Range row_net 10 [] (Drop 5 Source Limit) }
     ensures weak_edge { IsOutOfRange row_net 10 [] (Start 1 (Weak 9) (Nothing ∷ [])) }
     ensures given_edge { IsOutOfRange row_net 10 (Start 0 Source [] ∷ []) (End 0 (9 ∷ []) false) }
     ensures released { IsOutOfRange putter_net 10 (Start 0 Source [] ∷ [])

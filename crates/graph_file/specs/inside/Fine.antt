@@ -8,7 +8,7 @@ use Rattle.graph_plans.specs.declared.ops.TextOp.TheVariants.{Pass, Keep, Withou
 use Rattle.graph_plans.specs.Operations.{line_limit, route_limit, word_limit}
 use Rattle.graph_file.specs.Contents.{is_name, is_text}
 use Rattle.graph_file.specs.OpRows.{FileOpRow, reads, does}
-use Rattle.graph_file.specs.PlanText.{DraftRows, TaskText, with_task}
+use Rattle.graph_file.specs.PlanText.{DraftRows, TaskText, with_task_text}
 
 abbrev pub fits_lines : ℕ → Bool
 fits_lines n = nat_le 0 n && nat_le n line_limit
@@ -44,16 +44,16 @@ abbrev pub fits : FileOpRow → Bool
 fits (reads text) = is_text 1 4096 text
 fits (does op) = fits_op op
 
-pub record IsFine (task : TaskText) : Type 0 where
+pub record IsValidTask (task : TaskText) : Type 0 where
   pub name : is_name task.name ≡ true
   pub op : fits task.op ≡ true
   pub to : list_all is_name task.to ≡ true
 
 abbrev pub AreFine : List TaskText → Type 0
 AreFine [] = ⊤
-AreFine (task ∷ tasks) = IsFine task × AreFine tasks
+AreFine (task ∷ tasks) = IsValidTask task × AreFine tasks
 
 -- the draft with these tasks more
 abbrev pub with_tasks : DraftRows → List TaskText → DraftRows
 with_tasks draft [] = draft
-with_tasks draft (task ∷ tasks) = with_tasks (with_task draft task) tasks
+with_tasks draft (task ∷ tasks) = with_tasks (with_task_text draft task) tasks

@@ -10,7 +10,7 @@ use Rattle.graph_file.specs.declared.file_op.FoundOp.{FoundOp}
 use Rattle.graph_file.specs.declared.refusals.GraphError.{GraphError}
 use Rattle.graph_file.specs.declared.refusals.GraphError.TheVariants.{NoMemory, Repeated}
 use Rattle.graph_file.specs.OpRows.{FileOpRow, reads, does, WithFields, op_in, op_rows}
-use Rattle.graph_file.specs.Contents.{empty_list_of, name_of, names_of}
+use Rattle.graph_file.specs.Contents.{empty_list_of, task_name_of, name_list_of}
 use Rattle.graph_file.specs.Fields.{allowed, needed, only, task_spot}
 use Rattle.graph_file.specs.PlanText.{DraftRows, LinkRow, link_to, mentioned, numbered, task_fields}
 use Rattle.graph_file.specs.Steps.{◌>>=◌}
@@ -54,7 +54,7 @@ found_text_op found = record { op = found.op; fields = map (λ s. s.now) found.f
 
 -- the links, and those of a task with this number
 abbrev pub links_with : ℕ → List LinkRow → Data → Result (List LinkRow) GraphError
-links_with n links d = allowed [] names_of (task_spot n) (codes "to") d >>= λ to. Ok (links ++ map (link_to n) to)
+links_with n links d = allowed [] name_list_of (task_spot n) (codes "to") d >>= λ to. Ok (links ++ map (link_to n) to)
 
 -- the draft with these links, and one task more
 abbrev pub with_op : DraftRows → List ℕ → FileOpRow → List LinkRow → DraftRows
@@ -62,7 +62,7 @@ with_op draft name op links = record { names = draft.names ++ name ∷ []; ops =
 
 abbrev pub add_task_steps : DraftRows → Data → Result DraftRows GraphError
 add_task_steps draft d = let spot = task_spot (length draft.names) in do
-  name ← needed name_of spot (codes "name") d
+  name ← needed task_name_of spot (codes "name") d
   found ← op_in op_rows spot d
   links ← links_with (length draft.names) draft.links d
   holds ← allowed [] empty_list_of spot (codes "holds") d

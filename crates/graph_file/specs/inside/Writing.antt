@@ -7,7 +7,7 @@ use Rattle.graph_plans.specs.declared.ops.Op.{Op}
 use Rattle.graph_plans.specs.declared.ops.Op.TheVariants.{Input, Read, Text, Match, Back, IfMore, IfHas, Route}
 use Rattle.graph_plans.specs.declared.ops.TextOp.{TextOp}
 use Rattle.graph_plans.specs.declared.ops.TextOp.TheVariants.{Pass, Keep, Without, Head, Tail, Skip, Sort, Uniq, Count, Tally}
-use Rattle.graph_plans.specs.PlanRows.{PlanRows, task_limit}
+use Rattle.graph_plans.specs.PlanRows.{PlanRows, file_task_limit}
 use Rattle.graph_file.specs.declared.written_ops.WrittenOp.{WrittenOp}
 use Rattle.graph_file.specs.Written.{OpText}
 use Rattle.graph_file.specs.inside.Drafts.{IsAmong}
@@ -46,7 +46,7 @@ pub record IsWritable (plan : PlanRows) : Type 0 where
   pub ops : All (HasUtf8 plan.texts) plan.top.ops
   pub op_count : length plan.top.ops ≡ length plan.top.names
   pub task_count : length plan.top.net.tasks ≡ length plan.top.names
-  pub few_tasks : length plan.top.names ≤ task_limit
+  pub few_tasks : length plan.top.names ≤ file_task_limit
   pub edges : All (IsAmong (length plan.top.names)) plan.top.net.edges
 
 abbrev pub op_text_of : WrittenOp → OpText

@@ -12,8 +12,8 @@ module _ {T C : Type 0} (key : T → C) where
   IsKeptAt first (Some (suc _)) (none ∷ []) = Unit {0}
   IsKeptAt first _ _ = ⊥
 
-  abbrev pub IsKept : T → List ℕ → List (core.Option (Option T)) → Type 0
-  IsKept first words slots = IsKeptAt first (slice_get words 8) slots
+  abbrev pub KeepsLock : T → List ℕ → List (core.Option (Option T)) → Type 0
+  KeepsLock first words slots = IsKeptAt first (slice_get words 8) slots
 
   -- a seat holds the slot, with a value that has the key
   abbrev pub HasValue : T → List (ℕ × Option T) → Type 0

@@ -16,7 +16,7 @@ pub record IsLed (net : NetRows) (limit : ℕ) (journal : List Entry) : Type 0 w
   pub waits : (e : ℕ) → Waits net journal e
 
 -- a machine's parts fit together
-pub record IsKept (net : NetRows) (limit : ℕ) (journal : List Entry) (counts : Counts) (parts : List Part) (marks : ℕ) : Type 0 where
+pub record IsMachineFor (net : NetRows) (limit : ℕ) (journal : List Entry) (counts : Counts) (parts : List Part) (marks : ℕ) : Type 0 where
   pub led : IsLed net limit journal
   pub counted : IsCounted net journal counts
   pub waiting : TellsWaiting net journal parts

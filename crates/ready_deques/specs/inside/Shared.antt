@@ -5,5 +5,5 @@ use Rattle.ready_deques.specs.declared.tagged.Tagged.{Ghosts}
 use Rattle.ready_deques.specs.inside.Naming.{about}
 
 -- the name that each pass of the list's deques and of its injector has
-abbrev pub name_of : {T : Type 0} {G : Ghosts T} → Ready T G → About
-name_of ready = about ready.tag.numbers ready.counter.table.shared.table_id
+abbrev pub list_name_of : {T : Type 0} {G : Ghosts T} → Ready T G → About
+list_name_of ready = about ready.tag.numbers ready.counter.table.shared.table_id

@@ -15,9 +15,9 @@ use Rattle.run_frame.specs.Duties.{unused, running, as_source, as_strong, by_wea
 use Rattle.run_frame.specs.inside.UnderWay.{rounds, born}
 
 -- a release that its cause can make
-abbrev pub IsReleaseIn : {V : Type 0} → NetRows → Duty V → Type 0
-IsReleaseIn net (Unused t cause) = (t < length net.tasks) × IsCauseOf net t cause
-IsReleaseIn net (Running t start ins) = ⊥
+abbrev pub IsTaskRelease : {V : Type 0} → NetRows → Duty V → Type 0
+IsTaskRelease net (Unused t cause) = (t < length net.tasks) × IsCauseOf net t cause
+IsTaskRelease net (Running t start ins) = ⊥
 
 -- no more releases of a task by its strong in-edges are outstanding than it has rounds, and at most one less
 pub record MayHand {V : Type 0} (net : NetRows) (h : List Entry) (items : List (Option (Duty V))) : Type 0 where
@@ -30,7 +30,7 @@ pub record Hands {V : Type 0} (net : NetRows) (h : List Entry) (old new : List (
   pub strong : (t : ℕ) → unused (as_strong t) old ≤ unused (as_strong t) new
   pub sources : (t : ℕ) → unused (as_source t) new ≡ unused (as_source t) old
   pub opened : (n : ℕ) → running n new ≡ running n old
-  pub duties : (n : ℕ) (duty : Duty V) → slice_get new n ≡ Some (Some duty) → (slice_get old n ≡ Some (Some duty)) ⊎ IsReleaseIn net duty
+  pub duties : (n : ℕ) (duty : Duty V) → slice_get new n ≡ Some (Some duty) → (slice_get old n ≡ Some (Some duty)) ⊎ IsTaskRelease net duty
 
 -- the rounds of a task are all handed out
 abbrev pub IsHanded : {V : Type 0} → NetRows → List Entry → List (Option (Duty V)) → ℕ → Type 0
@@ -71,5 +71,5 @@ pub record FirstBelow {V : Type 0} (net : NetRows) (below : ℕ) (items : List (
   pub none_past : (t : ℕ) → below ≤ t → (unused (as_source t) items ≡ 0) × (unused (as_strong t) items ≡ 0)
   pub weak : (e : ℕ) → unused (by_weak e) items ≡ 0
   pub opened : (n : ℕ) → running n items ≡ 0
-  pub duties : (n : ℕ) (duty : Duty V) → slice_get items n ≡ Some (Some duty) → IsReleaseIn net duty
+  pub duties : (n : ℕ) (duty : Duty V) → slice_get items n ≡ Some (Some duty) → IsTaskRelease net duty
   pub few : outstanding_count items ≤ below

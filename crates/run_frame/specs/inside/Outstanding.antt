@@ -30,7 +30,7 @@ abbrev pub IsAmongStrong : {V : Type 0} → List ℕ → Duty V → Type 0
 IsAmongStrong strong duty = (t : ℕ) → t < length strong → strong_one t duty ≤ slice_index strong t
 
 -- the numbers are the counts of these items, whose tasks are below their number
-pub record IsCounted {V : Type 0} (items : List (Option (Duty V))) (strong : List ℕ) (total : ℕ) : Type 0 where
+pub record CountsOutstanding {V : Type 0} (items : List (Option (Duty V))) (strong : List ℕ) (total : ℕ) : Type 0 where
   pub all : total ≡ outstanding_count items
   pub each : (t : ℕ) → t < length strong → slice_index strong t ≡ unused (as_strong t) items
   pub below : (n : ℕ) (duty : Duty V) → slice_get items n ≡ Some (Some duty) → IsBelow (length strong) duty

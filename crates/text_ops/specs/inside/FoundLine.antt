@@ -18,7 +18,7 @@ pub record EndsLine (text : List ℕ) (place end : ℕ) : Type 0 where
   pub plain : (k : ℕ) → place ≤ k → k + 1 < end → slice_index text k ≢ line_end
 
 -- The word isn't empty, and may stand within a line.
-pub record IsWord (word : List ℕ) : Type 0 where
+pub record IsSearchWord (word : List ℕ) : Type 0 where
   pub long : 0 < length word
   pub plain : IsPlain word
 

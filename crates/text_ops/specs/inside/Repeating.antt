@@ -1,7 +1,7 @@
 -- A loop over lines that keeps those that differ from the one before.
 use Rattle.std.specs.Prelude.{◌≡◌, ℕ, ◌≤◌, Bool, false, List, ◌++◌, length, drop, Option, Some, None}
 use Rattle.std.specs.Str.{bytes_eq}
-use Rattle.text_ops.specs.declared.kept_runs.KeptRuns.{KeptRuns}
+use Rattle.text_ops.specs.declared.line_runs.LineRuns.{LineRuns}
 use Rattle.text_ops.specs.Lines.{text_of}
 use Rattle.text_ops.specs.Repeats.{changes, without_repeats}
 use Rattle.text_ops.specs.TextMeaning.{uniq_meaning}
@@ -18,7 +18,7 @@ changes_after None lines = without_repeats lines
 changes_after (Some before) lines = changes before lines
 
 -- What was kept before the place, and the changes of the rest, are those of the text.
-pub record UniqSoFar (text : List ℕ) (runs : KeptRuns) (before : Option (List ℕ)) (at : ℕ) (lines : List (List ℕ)) : Type 0 where
+pub record UniqSoFar (text : List ℕ) (runs : LineRuns) (before : Option (List ℕ)) (at : ℕ) (lines : List (List ℕ)) : Type 0 where
   pub all : List ℕ
   pub kept : HasKept text all runs
   pub behind : runs.end ≤ at

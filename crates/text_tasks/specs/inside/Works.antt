@@ -4,8 +4,8 @@ use Rattle.graph_plans.specs.PlanRows.{plan_rows}
 use Rattle.text_tasks.specs.declared.job.GraphJob.TheInside.{Inside}
 use Rattle.text_tasks.specs.GraphWork.{GraphWork}
 
-abbrev pub work_of : Inside → GraphWork
-work_of job = record {
+abbrev pub graph_work_of : Inside → GraphWork
+graph_work_of job = record {
   plan = plan_rows (arc_value job.plan);
   texts = arc_value job.texts;
   «module» = job.«module»;

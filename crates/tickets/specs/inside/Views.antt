@@ -23,12 +23,12 @@ module _ {X : Type 0} where
   items_of Spent = []
 
   -- the number that a view has as a ticket
-  abbrev pub number_of : View X → ℕ
-  number_of (Book items) = 0
-  number_of (Issuing items x) = 0
-  number_of (Redeeming items n x) = n
-  number_of (Ticket n x) = n
-  number_of Spent = 0
+  abbrev pub view_number : View X → ℕ
+  view_number (Book items) = 0
+  view_number (Issuing items x) = 0
+  view_number (Redeeming items n x) = n
+  view_number (Ticket n x) = n
+  view_number Spent = 0
 
   -- whether a view names the number n
   abbrev pub names : ℕ → View X → Bool
@@ -53,7 +53,7 @@ module _ {X : Type 0} where
   Fits keeper items i Spent = Unit {0}
 
 -- There is one book. Each ticket names what is outstanding there, and what is outstanding is named by one ticket
-pub record IsKept {X : Type 0} (views : List (View X)) : Type 0 where
+pub record AreViewsOfOneBook {X : Type 0} (views : List (View X)) : Type 0 where
   pub keeper : ℕ
   pub items : List (Option X)
   pub fits : (i : ℕ) (v : View X) → get_elem? views i ≡ some v → Fits keeper items i v
@@ -83,13 +83,13 @@ module _ {X : Type 0} where
   with_ticket v w = v
 
   -- and its item, which was outstanding, is so no more
-  abbrev pub settled : View X → View X
-  settled (Redeeming items n x) = Book (slice_set items n None)
-  settled v = v
+  abbrev pub settled_views : View X → View X
+  settled_views (Redeeming items n x) = Book (slice_set items n None)
+  settled_views v = v
 
   abbrev pub WasOutstanding : View X → Type 0
   WasOutstanding (Redeeming items n x) = slice_get items n ≡ Some (Some x)
   WasOutstanding v = Unit {0}
 
   abbrev pub SettlesTicket : Step X → Me X (View X) → ℕ → Me X (View X) → Type 0
-  SettlesTicket s me n me' = (me' ≡ (settled me.0, me.1)) × WasOutstanding me.0
+  SettlesTicket s me n me' = (me' ≡ (settled_views me.0, me.1)) × WasOutstanding me.0

@@ -1,14 +1,24 @@
 use Rattle.std.proofs.Common.{◌≡◌, inl, inr, sym, ◌∙◌, arith}
 use Rattle.flow_run.specs.declared.status.Status.TheVariants.{WriteFault, NoMemory}
-use Rattle.flow_run.proofs.Completing.{completes}
+use Rattle.flow_run.proofs.Completing.{completes, judges}
 use Rattle.flow_run.proofs.call.flow_main.Goals as goal
 
 pub returns-clause-completes : goal.returns-clause-completes
 returns-clause-completes g c = λ hand fine no_read_fault no_write_fault.
     let did = c.answer-status.ensures in
-    completes _ _ c.answer-status.result.status _ did.ends hand fine
+    completes _ _ c.answer-status.result.status _ _ did.ends hand fine
     (λ fault. let rises = did.read.cause fault in absurd (omega (arith, rises, no_read_fault)))
-    (λ same. elim (did.reported.cause (did.reported.write_fault same)) [
+    (λ same. elim (did.told.cause (did.told.write_fault same)) [
+      | inl rises ↦ absurd (omega (arith, rises, no_write_fault))
+      | inr memory ↦ absurd (let never : WriteFault ≡ NoMemory = sym same ∙ memory in cc)
+    ])
+
+pub returns-clause-judges : goal.returns-clause-judges
+returns-clause-judges g c = λ can no_read_fault no_write_fault.
+    let did = c.answer-status.ensures in
+    judges _ _ c.answer-status.result.status _ _ did.ends can
+    (λ fault. let rises = did.read.cause fault in absurd (omega (arith, rises, no_read_fault)))
+    (λ same. elim (did.told.cause (did.told.write_fault same)) [
       | inl rises ↦ absurd (omega (arith, rises, no_write_fault))
       | inr memory ↦ absurd (let never : WriteFault ≡ NoMemory = sym same ∙ memory in cc)
     ])

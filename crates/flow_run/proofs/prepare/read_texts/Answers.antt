@@ -1,4 +1,4 @@
-use Rattle.std.proofs.Common.{sym, subst, ◌∙◌}
+use Rattle.std.proofs.Common.{subst, ◌∙◌}
 use Rattle.flow_run.specs.Requests.{IsAdded, StopsAtName, Held, text_limit}
 use Rattle.flow_run.proofs.Preparing.{read_one_more, stops_at}
 use Rattle.flow_run.proofs.prepare.read_texts.Goals as goal

@@ -1,5 +1,6 @@
 use Rattle.std.proofs.Common.{◌≡◌, map, drop}
-use Rattle.nested_runs.specs.Reasons.{reason_at, row_reason}
+use Rattle.nested_runs.specs.Reasons.{reason_at}
+use Rattle.nested_runs.specs.inside.InnerReasons.{row_reason}
 use Rattle.nested_runs.proofs.reasons.+reasons.Given as goal
 
 abbrev pub invariant-inner_reason-loop-row : goal.invariant-inner_reason-loop-row

@@ -1,5 +1,5 @@
 use Rattle.std.proofs.Common.{length, ap, arith}
-use Rattle.slow_verdicts.proofs.Semaphores.{puts_in_range}
+use Rattle.journal_rules.proofs.TaskSemaphores.{puts_in_range}
 use Rattle.slow_verdicts.proofs.refusals.nothing_out.Goals as goal
 
 pub returns : goal.returns

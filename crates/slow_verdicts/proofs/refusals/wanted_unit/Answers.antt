@@ -1,5 +1,5 @@
 use Rattle.std.proofs.Common.{length, ap, arith}
-use Rattle.slow_verdicts.proofs.Semaphores.{takes_in_range}
+use Rattle.journal_rules.proofs.TaskSemaphores.{takes_in_range}
 use Rattle.slow_verdicts.proofs.refusals.wanted_unit.Goals as goal
 
 pub returns : goal.returns

@@ -1,7 +1,7 @@
 use Rattle.std.proofs.Common.{◌+◌, ◌≤◌, ◌∙◌, sym, subst, length, Some}
 use Rattle.std.specs.Option.{option_copied}
 use Rattle.std.specs.List.{between}
-use Rattle.text_ops.specs.declared.kept_runs.KeptRuns.{KeptRuns}
+use Rattle.text_ops.specs.declared.line_runs.LineRuns.{LineRuns}
 use Rattle.text_ops.specs.Lines.{IsNormal}
 use Rattle.text_ops.specs.inside.Repeating.{UniqSoFar}
 use Rattle.text_ops.specs.Values.{Makes}
@@ -34,7 +34,7 @@ loop-line-preserved c =
     elim c.if-not-is_repeated.branch [
       | then-not-is_repeated+in_ok-keep w ↦
           let kept = w.in_ok-keep.ensures.kept text so_far.all so_far.kept in
-          subst (λ (runs : KeptRuns). UniqSoFar text runs (Some line) (at + length line + 1) c.next.new.self) (sym w.kept-is)
+          subst (λ (runs : LineRuns). UniqSoFar text runs (Some line) (at + length line + 1) c.next.new.self) (sym w.kept-is)
           (UniqSoFar-kept text c.loop-line.kept before at line c.loop-line.line-iterator c.next.new.self so_far c.in-Some.ensures.steps w.keep.new.self
           (sym w.if-not-is_repeated.ensures) kept w.in_ok-keep.ensures.end)
       | else-not-is_repeated w ↦

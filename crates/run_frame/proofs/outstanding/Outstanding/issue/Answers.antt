@@ -2,7 +2,7 @@ use Rattle.std.proofs.Common.{◌+◌, ◌<◌, List, Option, sym, ap, subst}
 use Rattle.tickets.specs.Books.{BookState}
 use Rattle.run_frame.specs.declared.duty.Duty.{Duty}
 use Rattle.run_frame.specs.Duties.{outstanding_count}
-use Rattle.run_frame.specs.inside.Outstanding.{OutstandingState, IsBelow, IsCounted}
+use Rattle.run_frame.specs.inside.Outstanding.{OutstandingState, IsBelow, CountsOutstanding}
 use Rattle.run_frame.proofs.CountedLemmas.{counted_issued, counted_room}
 use Rattle.run_frame.proofs.outstanding.Outstanding.issue.Goals as goal
 
@@ -17,6 +17,6 @@ invariant_of-self g c =
     let V = g.row.V.Denot in
     let below = subst (λ (s : OutstandingState V). IsBelow s.tasks c.args.duty) (sym c.self.view_is) c.requires.task in (
       ap (λ (b : BookState (Duty V)). b.register) c.issue.ensures.book,
-      subst (λ (items : List (Option (Duty V))). IsCounted items c.count_in.new.strong.items (c.self.inside.total + 1)) (sym (ap (λ (b : BookState (Duty V)). b.items) c.issue.ensures.book))
+      subst (λ (items : List (Option (Duty V))). CountsOutstanding items c.count_in.new.strong.items (c.self.inside.total + 1)) (sym (ap (λ (b : BookState (Duty V)). b.items) c.issue.ensures.book))
           (counted_issued c.self.inside.book.items c.self.inside.strong.items c.count_in.new.strong.items c.self.inside.total c.args.duty c.self.invariant.1 c.count_in.ensures below),
     )

@@ -2,7 +2,7 @@ use Rattle.std.proofs.Common.{◌≡◌, ◌∙◌, ◌+◌, ◌-◌, ◌<◌, L
 use Rattle.tickets.specs.Books.{BookState}
 use Rattle.run_frame.specs.declared.duty.Duty.{Duty}
 use Rattle.run_frame.specs.Duties.{outstanding_count}
-use Rattle.run_frame.specs.inside.Outstanding.{OutstandingState, IsCounted}
+use Rattle.run_frame.specs.inside.Outstanding.{OutstandingState, CountsOutstanding}
 use Rattle.run_frame.proofs.CountedLemmas.{counted_redeemed, counted_among, one_fewer}
 use Rattle.run_frame.proofs.outstanding.Outstanding.redeem.Goals as goal
 
@@ -20,7 +20,7 @@ pub invariant_of-self : goal.invariant_of-self
 invariant_of-self g c =
     let V = g.row.V.Denot in (
       ap (λ (b : BookState (Duty V)). b.register) c.redeem-duty.ensures.book,
-      subst (λ (items : List (Option (Duty V))). IsCounted items c.count_out.new.strong.items (c.self.inside.total - 1)) (sym (ap (λ (b : BookState (Duty V)). b.items) c.redeem-duty.ensures.book))
+      subst (λ (items : List (Option (Duty V))). CountsOutstanding items c.count_out.new.strong.items (c.self.inside.total - 1)) (sym (ap (λ (b : BookState (Duty V)). b.items) c.redeem-duty.ensures.book))
           (counted_redeemed c.self.inside.book.items c.self.inside.strong.items c.count_out.new.strong.items c.self.inside.total c.args.ticket.number c.redeem-duty.result c.self.invariant.1
           (c.redeem-duty.ensures.outstanding ∙ ap (λ d. Some (Some d)) (sym c.redeem-duty.ensures.item)) c.count_out.ensures),
     )

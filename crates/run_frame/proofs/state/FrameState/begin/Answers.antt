@@ -7,7 +7,7 @@ use Rattle.legal_run.specs.MachineState.{MachineState}
 use Rattle.run_frame.specs.declared.duty.Duty.{Duty}
 use Rattle.run_frame.specs.inside.Outstanding.{OutstandingState}
 use Rattle.run_frame.specs.inside.UnderWay.{IsAccounted}
-use Rattle.run_frame.specs.inside.Handing.{IsReleaseIn}
+use Rattle.run_frame.specs.inside.Handing.{IsTaskRelease}
 use Rattle.run_frame.proofs.BeginningLemmas.{begun}
 use Rattle.run_frame.proofs.state.FrameState.begin.Goals as goal
 
@@ -26,7 +26,7 @@ invariant_of-state g c =
     let same : c.deref-5.result.now ≡ arc_value c.in_ok-try_clone.field-0 = c.deref-5.ensures ∙ net ∙ sym twin in
     let out = c.in_ok-released.ensures in
     let account = subst (λ (n : NetRows). IsAccounted n [] c.first_releases.new.outstanding.items) same out.begins in
-    let fits = subst (λ (n : NetRows). (k : ℕ) (duty : Duty V) → slice_get c.first_releases.new.outstanding.items k ≡ Some (Some duty) → IsReleaseIn n duty) same out.fits in
+    let fits = subst (λ (n : NetRows). (k : ℕ) (duty : Duty V) → slice_get c.first_releases.new.outstanding.items k ≡ Some (Some duty) → IsTaskRelease n duty) same out.fits in
     let tasks : c.first_releases.new.outstanding.tasks ≡ length c.deref-4.result.now.tasks = ap (λ (s : OutstandingState V). s.tasks) c.first_releases.ensures.same ∙ c.in_ok-outstanding.ensures.tasks ∙ ap length c.tasks.ensures.rows in (
       begun meaning job (arc_value c.in_ok-try_clone.field-0) c.limit-limit.result c.in_ok-machine.machine c.new-3.result c.first_releases.new.outstanding.items twin limit c.requires rows machine c.new-3.ensures account fits,
       tasks ∙ ap (λ (n : NetRows). length n.tasks) (c.deref-4.ensures ∙ net ∙ sym twin) ∙ sym (ap (λ (s : MachineState). length s.net.tasks) machine),

@@ -1,6 +1,6 @@
 use Rattle.std.proofs.Common.{arith, sym, ap, ◌∙◌, []}
 use Rattle.tickets.specs.Books.{BookState, TicketState}
-use Rattle.tickets.specs.inside.Views.{with_ticket, book_view, items_of, number_of}
+use Rattle.tickets.specs.inside.Views.{with_ticket, book_view, items_of, view_number}
 use Rattle.tickets.proofs.Steps.{takes_ticket_in, settles_ticket}
 use Rattle.tickets.proofs.register.Register.redeem.Goals as goal
 
@@ -17,4 +17,4 @@ load-requires g c =
     let words = c.self.invariant in
     let e = c.join_seat.ensures in
     let me = e.2 ∙ ap (λ m. (with_ticket m.0 c.ticket.inside.seat.me.0, m.1)) c.book.invariant ∙ ap (λ v. (with_ticket (book_view (items_of c.book.inside.seat.me.0)) v, [])) (ap (λ m. m.0) c.ticket.invariant) in
-    (e.0 ∙ register, omega arith, settles_ticket _ _ _ _ (items_of c.book.inside.seat.me.0) (number_of c.ticket.inside.seat.me.0) c.ticket.inside.item me)
+    (e.0 ∙ register, omega arith, settles_ticket _ _ _ _ (items_of c.book.inside.seat.me.0) (view_number c.ticket.inside.seat.me.0) c.ticket.inside.item me)

@@ -1,0 +1,8 @@
+-- What a request asks for.
+use Rattle.command_line.specs.declared.request.Request.{Request}
+use Rattle.command_line.specs.declared.request.Request.TheVariants.{Run, Judge}
+use Rattle.command_line.specs.Requests.{Asked, run, judge}
+
+abbrev pub asked : Request → Asked
+asked (Run r) = run r.file.now r.limit r.journal
+asked (Judge j) = judge j.file.now j.journal.now j.limit

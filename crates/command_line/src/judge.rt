@@ -1,0 +1,83 @@
+// The command `judge`.
+ghost use Rattle.std.specs.Prelude.{◌≡◌, ◌≤◌, map, IfOk, IfErr, IfSome, Some, None, option_map, option_and_then};
+ghost use Rattle.std.specs.String.{string_bytes};
+ghost use Rattle.clap.specs.Words.{app_of, rows_of, found_of};
+ghost use Rattle.command_line.specs.Requests.{greatest_limit_option, judge, judge_app, judge_in, rows_in};
+
+use super::matches::{bare_command, matches_in};
+use super::numbers::limit_of;
+use super::request::ArgumentsError;
+use clap::{Arg, ArgMatches, Command};
+use std::alloc::{AllocError, Global};
+
+/// Judge the journal in a file by the graph in another.
+#[derive(Clone, Copy)]
+pub struct Judge<'w> {
+    /// The name of the graph file.
+    pub file: &'w str,
+    /// The name of the journal file.
+    pub journal: &'w str,
+    /// How many starts the journal may have, from 1 to 1,000,000.
+    pub limit: u64,
+}
+
+/// What the arguments after `judge` ask for.
+pub(crate) fn read_judge<'w>(
+    alloc: Global,
+    arguments: &'w [String],
+) -> Result<Judge<'w>, ArgumentsError>
+    ensures ok { IfOk result (λ j. option_and_then judge_in (rows_in judge_app (map string_bytes arguments.entry.now)) ≡ Some (judge j.file.now j.journal.now j.limit)) }
+    ensures limit { IfOk result (λ j. j.limit ≤ greatest_limit_option) }
+    ensures err { IfErr result (λ error. error ≡ ArgumentsError.Refused → option_and_then judge_in (rows_in judge_app (map string_bytes arguments.entry.now)) ≡ None) }
+{
+    let matches = match judge_matches(alloc, arguments) {
+        Ok(matches) => matches,
+        Err(error) => return Err(error),
+    };
+    match judge_of(&matches) {
+        Some(judge) => Ok(judge),
+        None => Err(ArgumentsError::Refused),
+    }
+}
+
+// What `clap` finds among the arguments after `judge`.
+fn judge_matches<'w>(
+    alloc: Global,
+    arguments: &'w [String],
+) -> Result<ArgMatches<'w>, ArgumentsError>
+    ensures ok { IfOk result (λ matches. rows_in judge_app (map string_bytes arguments.entry.now) ≡ Some (rows_of (found_of matches))) }
+    ensures err { IfErr result (λ error. error ≡ ArgumentsError.Refused → rows_in judge_app (map string_bytes arguments.entry.now) ≡ None) }
+{
+    match judge_command(alloc) {
+        Ok(command) => matches_in(command, arguments),
+        Err(_) => Err(ArgumentsError::NoMemory),
+    }
+}
+
+// `judge FILE JOURNAL [--limit N]`
+fn judge_command<'w>(alloc: Global) -> Result<Command<'w>, AllocError>
+    ensures { IfOk result (λ command. app_of command ≡ judge_app) }
+{
+    let file = Arg::new(alloc, "file").required(true);
+    let journal = Arg::new(alloc, "journal").required(true);
+    let limit = Arg::new(alloc, "limit").long("limit");
+    let command = bare_command(alloc, "judge").arg(file)?;
+    let command = command.arg(journal)?;
+    command.arg(limit)
+}
+
+// The judgement that these matches ask for.
+#[tactic(auto, using(crate::proofs::Reading::first_in_rows))]
+fn judge_of<'w>(matches: &ArgMatches<'w>) -> Option<Judge<'w>>
+    ensures judge { option_map (λ j. judge j.file.now j.journal.now j.limit) result ≡ judge_in (rows_of (found_of matches.now)) }
+    ensures limit { IfSome result (λ j. j.limit ≤ greatest_limit_option) }
+{
+    let file = matches.get_str("file")?;
+    let journal = matches.get_str("journal")?;
+    let limit = limit_of(matches.get_str("limit"))?;
+    Some(Judge {
+        file,
+        journal,
+        limit,
+    })
+}

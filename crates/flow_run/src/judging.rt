@@ -1,0 +1,163 @@
+// The command `judge`.
+ghost use Rattle.std.specs.Prelude.{◌≡◌, ◌≢◌, ◌++◌, [], None, Some, IfErr, IfOk, OnOk};
+ghost use Rattle.journal_text.specs.JournalText.{IsJournalText};
+ghost use Rattle.flow_run.specs.Answers.{Delivers, HasWritten, HaveRead};
+ghost use Rattle.flow_run.specs.Judging.{HasJournal, IsAfterVerdict, IsJudged, JudgeEnds, StopsAtJournal, StopsAtJournalBytes, StopsBeforeVerdict, break_text, status_by, verdict_line, verdict_text};
+ghost use Rattle.flow_run.specs.Requests.{CountsReads};
+
+use super::call::{Ended, stopped};
+use super::note::deliver;
+use super::prepare::{FILE_LIMIT, read_named, read_plan};
+use super::reasons::add_numbered;
+use super::status::Status;
+use super::stop::{Stop, journal_refusal};
+use command_line::Judge;
+use journal_text::read_journal;
+use legal_run::{Break, Journal, Verdict, judge};
+use outside_io::{Bytes, List, NoMemory, Sink, SinkFault, Texts};
+use std::alloc::Global;
+
+/// The most bytes of a journal file.
+pub const JOURNAL_LIMIT: u64 = 67_108_864;
+
+/// Judges the journal in a file by the graph in another, and writes the verdict's line.
+pub(crate) fn judge_file<F: Texts, S: Sink>(
+    alloc: Global,
+    asked: Judge<'_>,
+    texts: &mut F,
+    out: &mut S,
+) -> Ended
+    requires { (S.state out.old).held_back ≡ [] }
+    ensures ends { JudgeEnds (F.held texts.old) asked.entry.file.now asked.entry.journal.now asked.entry.limit result.status result.verdict }
+    ensures told { HasWritten S.state out.old out.new result.status (result.verdict ≡ None) (verdict_text result.verdict) result.written }
+    ensures no_run { result.runs ≡ [] }
+    ensures read { HaveRead F.held F.faults texts.old texts.new result.status }
+{
+    let (file, journal) = (asked.file.as_bytes(), asked.journal.as_bytes());
+    match verdict_on(alloc, texts, file, journal, asked.limit) {
+        Ok(verdict) => tell_verdict(alloc, verdict, out),
+        Err(stop) => stopped(alloc, Status::of(stop)),
+    }
+}
+
+// The verdict on the journal in a file by the graph in another. An `Err` tells the first thing that stops the call.
+fn verdict_on<F: Texts>(
+    alloc: Global,
+    texts: &mut F,
+    file: &[u8],
+    journal: &[u8],
+    limit: u64,
+) -> Result<Verdict, Stop>
+    ensures judged { IfOk result (IsJudged (F.held texts.old) file.now journal.now limit) }
+    ensures stops { IfErr result (StopsBeforeVerdict (F.held texts.old) file.now journal.now) }
+    ensures stays { F.held texts.new ≡ F.held texts.old }
+    ensures counts { CountsReads (F.faults texts.old) (F.faults texts.new) result }
+{
+    let bytes = read_named(alloc, texts, file, FILE_LIMIT)?;
+    let plan = read_plan(alloc, bytes.as_slice())?;
+    let journal = read_journal_file(alloc, texts, journal)?;
+    Ok(judge(alloc, &plan.top.net, limit, &journal)?)
+}
+
+// The journal in a file.
+fn read_journal_file<F: Texts>(alloc: Global, texts: &mut F, name: &[u8]) -> Result<Journal, Stop>
+    ensures journal { IfOk result (HasJournal (F.held texts.old) name.now) }
+    ensures stops { IfErr result (StopsAtJournal (F.held texts.old) name.now) }
+    ensures stays { F.held texts.new ≡ F.held texts.old }
+    ensures counts { CountsReads (F.faults texts.old) (F.faults texts.new) result }
+{
+    let bytes = read_named(alloc, texts, name, JOURNAL_LIMIT)?;
+    journal_in(alloc, bytes.as_slice())
+}
+
+// The journal of which these bytes are the text.
+fn journal_in(alloc: Global, bytes: &[u8]) -> Result<Journal, Stop>
+    ensures journal { IfOk result (λ journal. IsJournalText journal bytes.now) }
+    ensures stops { IfErr result (StopsAtJournalBytes bytes.now) }
+{
+    match read_journal(alloc, bytes) {
+        Ok(journal) => Ok(journal),
+        Err(error) => Err(journal_refusal(error)),
+    }
+}
+
+// Writes the line of a verdict.
+fn tell_verdict<S: Sink>(alloc: Global, verdict: Verdict, out: &mut S) -> Ended
+    requires { (S.state out.old).held_back ≡ [] }
+    ensures after { IsAfterVerdict verdict result.status }
+    ensures verdict { result.verdict ≡ Some verdict }
+    ensures told { HasWritten S.state out.old out.new result.status (result.verdict ≡ None) (verdict_text result.verdict) result.written }
+    ensures no_run { result.runs ≡ [] }
+{
+    let (status, written) = match deliver_verdict(alloc, verdict, out) {
+        Ok(()) => (Status::by(verdict), true),
+        Err(SinkFault::Failed) => (untold(verdict), false),
+        Err(SinkFault::NoMemory) => (Status::NoMemory, false),
+    };
+    Ended {
+        status,
+        runs: List::new(alloc),
+        verdict: Some(verdict),
+        written,
+    }
+}
+
+// The status of a verdict whose line couldn't be written: an entry that breaks a rule is told of before that.
+fn untold(verdict: Verdict) -> Status
+    ensures fine { status_by verdict ≡ Status.Done → result ≡ Status.WriteFault }
+    ensures breaks { status_by verdict ≢ Status.Done → result ≡ status_by verdict }
+{
+    match Status::by(verdict) {
+        Status::Done => Status::WriteFault,
+        status => status,
+    }
+}
+
+// Puts the line of a verdict on the output, and flushes it.
+#[tactic(auto, using(crate::proofs::Ending::nothing_delivered))]
+fn deliver_verdict<S: Sink>(alloc: Global, verdict: Verdict, out: &mut S) -> Result<(), SinkFault>
+    requires { (S.state out.old).held_back ≡ [] }
+    ensures { Delivers (S.state out.old) (S.state out.new) (verdict_line verdict) result }
+{
+    match line_of_verdict(alloc, verdict) {
+        Ok(line) => deliver(out, line.as_slice()),
+        Err(NoMemory) => Err(SinkFault::NoMemory),
+    }
+}
+
+// The line of a verdict.
+fn line_of_verdict(alloc: Global, verdict: Verdict) -> Result<Bytes, NoMemory>
+    ensures { IfOk result (λ line. line ≡ verdict_line verdict) }
+{
+    match verdict {
+        Verdict::Complete => List::from_slice(alloc, b"complete\n"),
+        Verdict::Legal => List::from_slice(alloc, b"legal\n"),
+        Verdict::Breaks(place, why) => {
+            let mut line = List::new(alloc);
+            add_numbered(&mut line, b"breaks at ", place)?;
+            line.add_all(b": ")?;
+            add_break(&mut line, why)?;
+            line.add_all(b"\n")?;
+            Ok(line)
+        }
+    }
+}
+
+// Adds what an entry breaks.
+fn add_break(line: &mut Bytes, why: Break) -> Result<(), NoMemory>
+    ensures { OnOk result (line.new ≡ line.old ++ break_text why) }
+{
+    match why {
+        Break::NoSuch => line.add_all(b"no such number"),
+        Break::AfterStuck => line.add_all(b"after stuck"),
+        Break::NotReleased => line.add_all(b"not released"),
+        Break::OverUnits(sem) => add_numbered(line, b"over units ", u64::from(sem)),
+        Break::OverLimit => line.add_all(b"over limit"),
+        Break::NotOpen => line.add_all(b"not open"),
+        Break::NotChosen => line.add_all(b"not chosen"),
+        Break::NothingOut(sem) => add_numbered(line, b"nothing out ", u64::from(sem)),
+        Break::NotOver => line.add_all(b"not over"),
+        Break::NotHalted => line.add_all(b"not halted"),
+        Break::NotStuck => line.add_all(b"not stuck"),
+    }
+}

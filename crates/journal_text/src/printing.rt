@@ -1,0 +1,185 @@
+// The writing of a journal's text.
+ghost use Rattle.std.specs.Prelude.{◌≡◌, ◌++◌, codes, decimal, IfOk, OnOk};
+ghost use Rattle.std.specs.List.{flat_map};
+ghost use Rattle.outside_io.specs.Sink.{Writes};
+ghost use Rattle.journal_text.specs.JournalText.{cause_field, drop_field, entry_line, fault_field, inner_field, journal_text, list_field, part_field};
+ghost use Rattle.journal_text.specs.declared.version.Version.TheVariants.{Two};
+
+use itoa::Buffer;
+use journal_rules::{Cause, DropWhy, Entry, Journal, Part, Why};
+use outside_io::{Bytes, List, NoMemory, Sink, SinkFault};
+use std::alloc::Global;
+
+/// Room for a line with few inputs or edges, so that it needn't grow.
+const LINE_ROOM: usize = 96;
+
+/// Puts the text of version 2 on a sink, one put a line. After `NoMemory` the sink accepted a prefix of the text.
+pub fn print_journal<S: Sink>(
+    alloc: Global,
+    journal: &[Entry],
+    out: &mut S,
+) -> Result<(), SinkFault>
+    ensures { Writes (S.state out.old) (S.state out.new) (journal_text Two journal.now) result }
+{
+    if let Err(fault) = put_piece(out, b"flow journal 2\n") {
+        return Err(fault);
+    }
+    put_entries(alloc, journal, out)
+}
+
+// Puts the lines of these entries.
+#[tactic(auto, using(outside_io::proofs::Pieces::accepts_nothing))]
+fn put_entries<S: Sink>(alloc: Global, journal: &[Entry], out: &mut S) -> Result<(), SinkFault>
+    ensures { Writes (S.state out.old) (S.state out.new) (flat_map entry_line journal.now) result }
+{
+    for entry in journal {
+        if let Err(fault) = put_entry(alloc, entry, out) {
+            return Err(fault);
+        }
+    }
+    Ok(())
+}
+
+// Puts the line of an entry.
+#[tactic(auto, using(outside_io::proofs::Pieces::writes_nothing))]
+fn put_entry<S: Sink>(alloc: Global, entry: &Entry, out: &mut S) -> Result<(), SinkFault>
+    ensures { Writes (S.state out.old) (S.state out.new) (entry_line entry.now) result }
+{
+    let line = line_of(alloc, entry)?;
+    put_piece(out, line.as_slice())
+}
+
+// Puts a piece, by one put.
+fn put_piece<S: Sink>(out: &mut S, piece: &[u8]) -> Result<(), SinkFault>
+    ensures { Writes (S.state out.old) (S.state out.new) piece.now result }
+{
+    out.put(piece)
+}
+
+// The line of an entry.
+fn line_of(alloc: Global, entry: &Entry) -> Result<Bytes, NoMemory>
+    ensures { IfOk result (λ line. line ≡ entry_line entry.now) }
+{
+    let mut line = List::with_room(alloc, LINE_ROOM)?;
+    match entry {
+        Entry::Start { task, cause, ins } => {
+            add_numbered(&mut line, b"start ", u64::from(*task))?;
+            line.add_all(b" ")?;
+            add_cause(&mut line, *cause)?;
+            line.add_all(b" ")?;
+            add_ins(&mut line, ins.as_slice())?;
+        }
+        Entry::End {
+            start,
+            gives,
+            inner,
+        } => {
+            add_numbered(&mut line, b"end ", *start)?;
+            line.add_all(b" ")?;
+            add_gives(&mut line, gives.as_slice())?;
+            line.add_all(if *inner { b" inner" } else { b" plain" })?;
+        }
+        Entry::Fault { start, why } => {
+            add_numbered(&mut line, b"fault ", *start)?;
+            line.add_all(b" ")?;
+            add_fault_why(&mut line, *why)?;
+        }
+        Entry::Drop { task, cause, why } => {
+            add_numbered(&mut line, b"drop ", u64::from(*task))?;
+            line.add_all(b" ")?;
+            add_cause(&mut line, *cause)?;
+            line.add_all(b" ")?;
+            add_drop_why(&mut line, *why)?;
+        }
+    }
+    line.add_all(b"\n")?;
+    Ok(line)
+}
+
+// Adds a word and, in decimal, a number.
+fn add_numbered(line: &mut Bytes, word: &[u8], number: u64) -> Result<(), NoMemory>
+    ensures { OnOk result (line.new ≡ line.old ++ word.now ++ decimal number) }
+{
+    let mut digits = Buffer::new();
+    line.add_all(word)?;
+    line.add_all(digits.format(number).as_bytes())
+}
+
+// Adds what a release comes from.
+fn add_cause(line: &mut Bytes, cause: Cause) -> Result<(), NoMemory>
+    ensures { OnOk result (line.new ≡ line.old ++ cause_field cause) }
+{
+    match cause {
+        Cause::Source => line.add_all(b"source"),
+        Cause::Strong => line.add_all(b"strong"),
+        Cause::Weak(edge) => add_numbered(line, b"weak:", u64::from(edge)),
+    }
+}
+
+// Adds what a start finds at an edge.
+fn add_part(line: &mut Bytes, part: Part) -> Result<(), NoMemory>
+    ensures { OnOk result (line.new ≡ line.old ++ part_field part) }
+{
+    match part {
+        Part::From(place) => add_numbered(line, b"", place),
+        Part::First => line.add_all(b"first"),
+        Part::Nothing => line.add_all(b"nothing"),
+    }
+}
+
+// Adds what a start finds at its edges.
+fn add_ins(line: &mut Bytes, ins: &[Part]) -> Result<(), NoMemory>
+    ensures { OnOk result (line.new ≡ line.old ++ list_field part_field ins.now) }
+{
+    match ins {
+        [] => line.add_all(b"-"),
+        [first, rest @ ..] => {
+            add_part(line, *first)?;
+            for part in rest {
+                line.add_all(b",")?;
+                add_part(line, *part)?;
+            }
+            Ok(())
+        }
+    }
+}
+
+// Adds the edges that an end signals.
+fn add_gives(line: &mut Bytes, gives: &[u32]) -> Result<(), NoMemory>
+    ensures { OnOk result (line.new ≡ line.old ++ list_field decimal gives.now) }
+{
+    match gives {
+        [] => line.add_all(b"-"),
+        [first, rest @ ..] => {
+            add_numbered(line, b"", u64::from(*first))?;
+            for edge in rest {
+                add_numbered(line, b",", u64::from(*edge))?;
+            }
+            Ok(())
+        }
+    }
+}
+
+// Adds why a start faulted.
+fn add_fault_why(line: &mut Bytes, why: Why) -> Result<(), NoMemory>
+    ensures { OnOk result (line.new ≡ line.old ++ fault_field why) }
+{
+    match why {
+        Why::Long(bytes) => add_numbered(line, b"long:", bytes),
+        Why::Wide(parts) => add_numbered(line, b"wide:", parts),
+        Why::Unmet(token) => add_numbered(line, b"unmet:", token),
+        Why::Inner => line.add_all(b"inner"),
+        Why::OverRelease(sem) => add_numbered(line, b"over:", u64::from(sem)),
+    }
+}
+
+// Adds why a release was dropped.
+fn add_drop_why(line: &mut Bytes, why: DropWhy) -> Result<(), NoMemory>
+    ensures { OnOk result (line.new ≡ line.old ++ drop_field why) }
+{
+    match why {
+        DropWhy::Halted => line.add_all(b"halted"),
+        DropWhy::Limit => line.add_all(b"limit"),
+        DropWhy::Stuck(sem) => add_numbered(line, b"stuck:", u64::from(sem)),
+    }
+}

@@ -1,0 +1,8 @@
+// The versions of a journal's text.
+
+/// A version of the text. Version 1 has no line for a fault by an over-release and for a drop for want of a unit.
+#[derive(Clone, Copy, Debug, PartialEq, Eq)]
+pub enum Version {
+    One,
+    Two,
+}

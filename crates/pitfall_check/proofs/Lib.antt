@@ -1,0 +1,9 @@
+pub mod PlaceLemmas
+pub mod EdgeLemmas
+pub mod ListingLemmas
+pub mod StepLemmas
+pub mod SpreadLemmas
+pub mod WalkLemmas
+pub mod ReachLemmas
+pub mod SearchLemmas
+pub mod ComponentLemmas

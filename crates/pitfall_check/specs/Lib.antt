@@ -1,0 +1,4 @@
+pub mod Walks
+pub mod Pitfalls
+pub mod Findings
+pub mod inside

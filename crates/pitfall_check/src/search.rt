@@ -1,0 +1,147 @@
+// A depth-first search along strong edges. Its path is a list, so that a long chain of tasks takes no stack.
+ghost use Rattle.std.specs.Prelude.{◌≡◌, ◌+◌, ◌*◌, ◌<◌, ◌^◌, ◌++◌, ◌∷◌, [], true, false, IfOk, IfNone, IfSome, OnOk, length, count_by, slice_index, slice_set};
+ghost use Rattle.task_graph.specs.Net.{out_edges};
+ghost use Rattle.pitfall_check.specs.inside.Steps.{AreEnds};
+ghost use Rattle.pitfall_check.specs.inside.Searching.{IsSearch, IsFullOrder, FindsNext, NoneLeadsToUnseen, OnlySeesMore, is_unseen, leads_to_unseen, progress_of};
+
+use crate::progress::Progress;
+use crate::way::Way;
+use outside_io::NoMemory;
+use std::alloc::Global;
+use task_graph::Net;
+
+/// The tasks in the order in which a depth-first search along strong edges finishes them.
+pub fn finish_order(alloc: Global, net: &Net, heads: &[u32]) -> Result<Vec<u32>, NoMemory>
+    requires { AreEnds Way.Ahead net.now heads.now }
+    ensures { IfOk result (λ order. IsFullOrder net.now order.items) }
+{
+    let mut search = Search::new(alloc, net)?;
+    for task in 0..net.tasks().len() as u32 {
+        search.visit(net, heads, task)?;
+    }
+    Ok(search.order)
+}
+
+// A search under way.
+#[derive(Drop)]
+struct Search {
+    // How far it is with each task.
+    states: Vec<Progress>,
+    // Of each task how many of its edges were followed.
+    cursors: Vec<u32>,
+    // The tasks that it went along from a first one and hasn't finished.
+    path: Vec<u32>,
+    // The tasks that it finished, the first one first.
+    order: Vec<u32>,
+}
+
+impl Search {
+    ghost use Rattle.pitfall_check.specs.inside.SearchState.{HoldsSearch, Opens};
+
+    // A search that has seen no task.
+    fn new(alloc: Global, net: &Net) -> Result<Search, NoMemory>
+        ensures search { IfOk result (HoldsSearch net.now) }
+        ensures path { IfOk result (λ search. search.path.items ≡ []) }
+    {
+        let count = net.tasks().len();
+        let states = vec![in alloc; Progress::Unseen; count]?;
+        let cursors = vec![in alloc; 0u32; count]?;
+        Ok(Search {
+            states,
+            cursors,
+            path: Vec::new(alloc),
+            order: Vec::new(alloc),
+        })
+    }
+
+    // Goes on from a task until all that was found from it is finished.
+    fn visit(&mut self, net: &Net, heads: &[u32], root: u32) -> Result<(), NoMemory>
+        requires heads { AreEnds Way.Ahead net.now heads.now }
+        requires root { root < length net.now.tasks }
+        requires search { HoldsSearch net.now self.old }
+        requires path { self.old.path.items ≡ [] }
+        ensures search { OnOk result (HoldsSearch net.now self.new) }
+        ensures path { OnOk result (self.new.path.items ≡ []) }
+        ensures seen { OnOk result (is_unseen (progress_of self.new.states.items root) ≡ false) }
+        ensures more { OnOk result (OnlySeesMore self.old.states.items self.new.states.items) }
+    {
+        if !self.states[root as usize].is_unseen() {
+            return Ok(());
+        }
+        self.open(root)?;
+        while let Some(task) = self.path.pop() {
+            self.step(net, heads, task)?;
+        }
+        Ok(())
+    }
+
+    // Goes on from the last task of the path, which was taken off: to a task that wasn't seen, or back.
+    fn step(&mut self, net: &Net, heads: &[u32], task: u32) -> Result<(), NoMemory>
+        requires heads { AreEnds Way.Ahead net.now heads.now }
+        requires search { IsSearch net.now self.old.states.items self.old.cursors.items
+            (self.old.path.items ++ task ∷ []) self.old.order.items }
+        ensures search { OnOk result (HoldsSearch net.now self.new) }
+        ensures more { OnOk result (OnlySeesMore self.old.states.items self.new.states.items) }
+        ensures less { OnOk result
+            (2 * count_by is_unseen self.new.states.items + length self.new.path.items
+            < 2 * count_by is_unseen self.old.states.items + length self.old.path.items + 1) }
+    {
+        let cursor = self.cursors[task as usize];
+        match next_unseen(net, heads, self.states.as_slice(), task, cursor as usize) {
+            Some(place) => {
+                self.cursors[task as usize] = place as u32;
+                self.path.push(task)?;
+                self.open(heads[net.out_edges(task)[place] as usize])?;
+            }
+            None => {
+                self.states[task as usize] = Progress::Done;
+                self.order.push(task)?;
+            }
+        }
+        Ok(())
+    }
+
+    // Puts a task at the end of the path.
+    fn open(&mut self, task: u32) -> Result<(), NoMemory>
+        requires { task < length self.old.states.items }
+        ensures { OnOk result (Opens task self.old self.new) }
+    {
+        self.states[task as usize] = Progress::Open;
+        self.path.push(task)?;
+        Ok(())
+    }
+}
+
+// The place of the first edge out of a task, from a place on, that is strong and leads to a task that wasn't seen.
+fn next_unseen(
+    net: &Net,
+    heads: &[u32],
+    states: &[Progress],
+    task: u32,
+    from: usize,
+) -> Option<usize>
+    requires heads { AreEnds Way.Ahead net.now heads.now }
+    requires task { task < length net.now.tasks }
+    requires states { length states.now ≡ length net.now.tasks }
+    requires passed { NoneLeadsToUnseen net.now states.now task from }
+    ensures some { IfSome result (FindsNext net.now states.now task) }
+    ensures none { IfNone result (NoneLeadsToUnseen net.now states.now task (length (out_edges net.now task))) }
+{
+    let edges = net.out_edges(task);
+    for place in from..edges.len() {
+        if leads_to_unseen(net, heads, states, edges[place]) {
+            return Some(place);
+        }
+    }
+    None
+}
+
+// Whether an edge is strong and leads to a task that wasn't seen.
+fn leads_to_unseen(net: &Net, heads: &[u32], states: &[Progress], edge: u32) -> bool
+    requires heads { AreEnds Way.Ahead net.now heads.now }
+    requires edge { edge < length net.now.edges }
+    requires states { length states.now ≡ length net.now.tasks }
+    ensures { result ≡ leads_to_unseen net.now states.now edge }
+{
+    states[heads[edge as usize] as usize].is_unseen() && !net.is_weak(edge)
+}

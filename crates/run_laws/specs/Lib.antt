@@ -1,0 +1,12 @@
+pub mod OneThreadValue
+pub mod Starting
+pub mod Prefixes
+pub mod Ends
+pub mod Steady
+pub mod OneAnswer
+pub mod Graphs
+pub mod Rings
+pub mod PipeNet
+pub mod Cycles
+pub mod Laws
+pub mod Worked

@@ -1,0 +1,4 @@
+mod ChangedLemmas
+mod FoundLemmas
+mod SeatingLemmas
+mod WorkedCrews

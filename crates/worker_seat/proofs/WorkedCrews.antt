@@ -1,0 +1,95 @@
+-- Seats of a crew of two, one state after the other, computed; on both sides of each line of each definition.
+use Rattle.std.proofs.Common.{◌≡◌, ℕ, true, false, [], Some, None, refl}
+use Rattle.std.specs.Global.{Global}
+use Rattle.std.specs.declared.dyn_box.DynBox.{DynBox}
+use Rattle.atomic_table.specs.Seated.{TableId}
+use Rattle.worker_seat.specs.declared.seat.WorkerSeat.{WorkerSeat}
+use Rattle.worker_seat.specs.Seats.{SeatState, crew_state, new_seat, IsBusy, at_job, found_closed, away, refused_seat, left_refused, IsClosedWith}
+use Rattle.worker_seat.specs.Crews.{state_of, watcher_of, moved, MayBegin, IsOpen}
+
+-- two lists, which differ in their numbers of words
+abbrev here : TableId
+here = record { words = 1; slots = 0; views_name = 0; atom = 0; block = 0; offset = 0; slot_names = [] }
+
+abbrev there : TableId
+there = record { words = 2; slots = 0; views_name = 0; atom = 0; block = 0; offset = 0; slot_names = [] }
+
+-- jobs are numbers here
+abbrev fresh : SeatState ℕ
+fresh = new_seat here
+
+abbrev at_seven : SeatState ℕ
+at_seven = record { list = here; job = Some 7; closed = false; refused = false }
+
+abbrev found_seven : SeatState ℕ
+found_seven = record { list = here; job = Some 7; closed = true; refused = false }
+
+abbrev refused_at_seven : SeatState ℕ
+refused_at_seven = record { list = here; job = Some 7; closed = false; refused = true }
+
+a_new_seat_is_at_no_run : fresh ≡ record { list = here; job = None; closed = false; refused = false }
+a_new_seat_is_at_no_run = refl
+
+a_crew_has_a_list_and_seats : crew_state here 2 ≡ record { list = here; seats = 2 }
+a_crew_has_a_list_and_seats = refl
+
+a_seat_goes_to_a_run : at_job 7 fresh ≡ at_seven
+a_seat_goes_to_a_run = refl
+
+a_seat_goes_on_to_the_next_run : at_job 8 found_seven ≡ record { list = here; job = Some 8; closed = false; refused = false }
+a_seat_goes_on_to_the_next_run = refl
+
+a_seat_finds_its_run_closed : found_closed at_seven ≡ found_seven
+a_seat_finds_its_run_closed = refl
+
+a_seat_leaves : away found_seven ≡ fresh
+a_seat_leaves = refl
+
+a_seat_is_refused_at_its_run : refused_seat at_seven ≡ refused_at_seven
+a_seat_is_refused_at_its_run = refl
+
+a_seat_is_refused_as_a_run_was_to_begin : left_refused at_seven ≡ record { list = here; job = None; closed = false; refused = true }
+a_seat_is_refused_as_a_run_was_to_begin = refl
+
+a_seat_at_a_run_is_busy : IsBusy at_seven.job
+a_seat_at_a_run_is_busy = tt
+
+a_new_seat_is_not_busy : ¬ IsBusy fresh.job
+a_new_seat_is_not_busy never = never
+
+a_seat_has_found_its_run_closed : IsClosedWith 7 found_seven
+a_seat_has_found_its_run_closed = (refl, refl)
+
+a_seat_has_not_found_its_run_closed : ¬ IsClosedWith 7 at_seven
+a_seat_has_not_found_its_run_closed (closed, job) = cc
+
+a_seat_has_not_found_another_run_closed : ¬ IsClosedWith 8 found_seven
+a_seat_has_not_found_another_run_closed (closed, job) = cc
+
+module _ (V : Type 0) {X : Type 0} {W : X → Type 0} (watcher : DynBox X Global W) where
+  abbrev seat : SeatState ℕ → WorkerSeat ℕ V X W
+  seat state = record { watcher = watcher; place = state }
+
+  a_seat_has_a_state : state_of (seat at_seven) ≡ at_seven
+  a_seat_has_a_state = refl
+
+  a_seat_has_a_watcher : watcher_of (seat at_seven) ≡ watcher
+  a_seat_has_a_watcher = refl
+
+  a_seat_moves_with_its_watcher : moved found_closed (seat at_seven) ≡ seat found_seven
+  a_seat_moves_with_its_watcher = refl
+
+  a_new_seat_may_begin : MayBegin (seat fresh)
+  a_new_seat_may_begin = record { free = refl; served = refl }
+
+  a_seat_at_a_run_may_not : ¬ MayBegin (seat at_seven)
+  a_seat_at_a_run_may_not may = let free = may.free in cc
+
+  a_refused_seat_may_not : ¬ MayBegin (seat (left_refused fresh))
+  a_refused_seat_may_not may = let served = may.served in cc
+
+  a_seat_at_a_run_is_open : IsOpen (seat at_seven)
+  a_seat_at_a_run_is_open = refl
+
+  a_seat_that_found_it_closed_is_not : ¬ IsOpen (seat found_seven)
+  a_seat_that_found_it_closed_is_not open_seat = cc

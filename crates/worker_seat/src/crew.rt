@@ -1,0 +1,132 @@
+// Crews.
+ghost use Rattle.std.specs.Prelude.{◌≡◌, ◌<◌, ◌≤◌, [], length, map, All, IfOk, IfErr, IfSome, IsSome, IsNone, OnOk, OnErr};
+ghost use Rattle.std.specs.Arc.{arc_value};
+ghost use Rattle.run_frame.specs.FlatNets.{IsFlatNet};
+
+use crate::crew_run::CrewRun;
+use crate::item::{CrewItem, OfCrews};
+use crate::list::CrewList;
+use crate::seat::WorkerSeat;
+use crate::seats::{fetch_first, refuse_all, seat_all, send_all};
+use crate::steps::inject_all;
+use frame_steps::{Frame, State, Stepped};
+use outside_io::{Back, NoMemory};
+use ready_deques::{Ready, Shares};
+use run_frame::{FrameRun, Job};
+use span_profile::Watch;
+use std::alloc::Global;
+use std::sync::{Arc, Wait};
+
+/// What the seats of a crew share.
+#[derive(Drop)]
+pub struct Crew<J: Job + Drop> {
+    pub(crate) alloc: Global,
+    pub(crate) list: CrewList<CrewItem<J>>,
+}
+
+/// A new crew, and all its seats.
+#[derive(Drop)]
+pub struct CrewParts<J: Job + Drop> {
+    pub crew: Crew<J>,
+    pub seats: Vec<WorkerSeat<J>>,
+}
+
+impl<J: Job + Drop> Crew<J> {
+    ghost use Rattle.worker_seat.specs.Seats.{IsBusy, at_job, away, found_closed, left_refused, refused_seat};
+    ghost use Rattle.worker_seat.specs.Crews.{AreSeatsOf, IsOpen, IsRunOf, IsSeatOf, MayBegin, moved, state_of, watcher_of};
+
+    /// A crew with a seat for each of 1 to 16 watchers, in their order. They come back if an allocation fails.
+    pub fn new(
+        alloc: Global,
+        watchers: Vec<Box<dyn Watch + Send>>,
+    ) -> Result<CrewParts<J>, Back<Vec<Box<dyn Watch + Send>>>>
+        requires { (0 < length watchers.items) × (length watchers.items ≤ 16) }
+        ensures crew { IfOk result (λ parts. AreSeatsOf parts.crew parts.seats.items) }
+        ensures new { IfOk result (λ parts. All MayBegin parts.seats.items) }
+        ensures watchers { IfOk result (λ parts. map watcher_of parts.seats.items ≡ watchers.items) }
+        ensures back { IfErr result (λ back. back.item ≡ watchers) }
+    {
+        let count = watchers.len();
+        let Ok(Shares { ready, owners }) = Ready::new(alloc, count as u32, &OfCrews) else {
+            return Err(Back { item: watchers });
+        };
+        let Ok(room) = Vec::with_capacity(alloc, count) else {
+            return Err(Back { item: watchers });
+        };
+        let seats = seat_all(&ready, room, owners, watchers);
+        let list = CrewList {
+            ready,
+            owners: count,
+        };
+        Ok(CrewParts {
+            crew: Crew { alloc, list },
+            seats,
+        })
+    }
+
+    /// Begins a run of a job, for all seats of this crew. None of them is at a run, and none was ever refused. After
+    /// an `Err`, which comes only if an allocation fails, all are refused.
+    pub fn begin<R: Wait>(
+        &self,
+        rt: &R,
+        seats: &mut Vec<WorkerSeat<J>>,
+        job: Arc<J>,
+    ) -> Result<(), NoMemory>
+        requires seats { AreSeatsOf self.now seats.old.items }
+        requires ready { All MayBegin seats.old.items }
+        requires flat { IsFlatNet (J.meaning.net (arc_value job)) }
+        ensures ok { OnOk result (seats.new.items ≡ map (moved (at_job (arc_value job))) seats.old.items) }
+        ensures err { OnErr result (seats.new.items ≡ map (moved left_refused) seats.old.items) }
+    {
+        match self.begun(rt, job) {
+            Ok(run) => send_all(seats.as_mut_slice(), &run),
+            Err(NoMemory) => {
+                refuse_all(seats.as_mut_slice());
+                Err(NoMemory)
+            }
+        }
+    }
+
+    /// Works on the run that the seat is at, on the caller's thread, until the run is closed. It may wait. After an
+    /// `Err`, which comes only if an allocation fails here or for another seat of the crew, the seat is refused.
+    pub fn enter<R: Wait>(&self, rt: &R, seat: &mut WorkerSeat<J>) -> Result<(), NoMemory>
+        requires seat { IsSeatOf self.now seat.old }
+        requires busy { IsBusy (state_of seat.old).job }
+        ensures ok { OnOk result (seat.new ≡ moved found_closed seat.old) }
+        ensures err { OnErr result (seat.new ≡ moved refused_seat seat.old) }
+    {
+        if seat.place.work(rt, &self.list.ready).is_err() {
+            self.list.ready.close(); // the run is never closed, so nobody has to wait for it
+        }
+        seat.place.conclude(rt)
+    }
+
+    /// Hands out the run that a seat has found closed, and takes all seats away from it. `None` exactly where no seat
+    /// has found it closed. Then all stay as they are.
+    pub fn finish<R: Wait>(&self, rt: &R, seats: &mut Vec<WorkerSeat<J>>) -> Option<FrameRun<J>>
+        requires { AreSeatsOf self.now seats.old.items }
+        ensures run { IfSome result (IsRunOf J.meaning seats.old.items) }
+        ensures left { IsSome result → seats.new.items ≡ map (moved away) seats.old.items }
+        ensures none { IsNone result → All IsOpen seats.old.items × (seats.new.items ≡ seats.old.items) }
+    {
+        let _ = &self.list;
+        fetch_first(rt, seats.as_mut_slice())
+    }
+
+    // A run of a job, whose first releases are on the list. If it has none it is closed, and so is the list.
+    fn begun<R: Wait>(&self, rt: &R, job: Arc<J>) -> Result<Arc<CrewRun<J>>, NoMemory>
+        requires { IsFlatNet (J.meaning.net (arc_value job)) }
+        ensures { IfOk result (λ run. (arc_value run).job ≡ arc_value job) }
+    {
+        let run = Arc::new(self.alloc, CrewRun::new(self.alloc, &job)?)?;
+        let Stepped { released, state } = Frame::begin(self.alloc, job)?;
+        if let State::Closed(closed) = state {
+            run.close(rt, closed);
+            self.list.ready.close();
+            return Ok(run);
+        }
+        inject_all(rt, &self.list.ready, &run, released)?;
+        self.list.ready.reopen();
+        Ok(run)
+    }
+}

@@ -1,0 +1,44 @@
+//! Crews: threads of the caller that work on one run together.
+//!
+//! A crew has a list of ready releases (`ready_deques`) and a seat for each of its workers. `begin` begins a run of a
+//! job (`frame_steps`) for all seats. Each seat is entered by a thread of the caller, which works until the run is
+//! closed: it takes a release from the list, takes its step, goes on with the first release that the step made and
+//! puts the others on the list. Who finds nothing there sleeps until something is pushed. The one whose step closes
+//! the run leaves it for the others and closes the list, which wakes all. `finish` hands the run out.
+//!
+//! # The run that is handed out
+//!
+//! What the seats at a run share is a `CrewRun`, made by `begin`: under a `KeyedLock` lies the run once it is closed,
+//! with the book of a register (`tickets`). The job of the run is in the lock's key. A release on the list has its
+//! `CrewRun` along, whose job is the job of the release's own run, and a worker leaves a closed run with the `CrewRun`
+//! of the release that it stepped. So the run that is found with a `CrewRun` is of its job.
+//!
+//! An `enter` that finds the run there takes a ticket, and answers Ok. The value under the lock keeps that tickets are
+//! out only where the run is there. So a seat with a ticket knows that the run is still there, whatever others did
+//! meanwhile, until `finish` redeems a ticket and takes the run away. It takes the value under the lock along and never
+//! puts it back.
+//!
+//! If an allocation fails in one seat, a release may be lost, and the run is never closed. That seat closes the list,
+//! and all seats answer `NoMemory`, since none finds the run. Such a crew takes no further run.
+//!
+//! # What the layer above may know
+//!
+//! A seat is its watcher and a `SeatState`, a crew a `CrewState` (`specs/Seats.antt`, `specs/Crews.antt`). Each call
+//! says what becomes of the state of each seat, and `finish` that the run may be kept and that a seat was at it. The
+//! seats keep their watchers and don't tell them anything yet. It is not proved that a run is ever closed, or that
+//! workers wake or work side by side.
+#![tactic(auto)]
+
+mod attendance;
+mod closing;
+mod crew;
+mod crew_run;
+mod item;
+mod list;
+mod place;
+mod seat;
+mod seats;
+mod steps;
+
+pub use crew::{Crew, CrewParts};
+pub use seat::WorkerSeat;

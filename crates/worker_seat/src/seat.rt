@@ -1,0 +1,75 @@
+// Seats.
+ghost use Rattle.std.specs.Prelude.{◌≡◌, ◌↔◌, [], IsTrue};
+
+use crate::item::CrewItem;
+use crate::place::Place;
+use ready_deques::Owner;
+use run_frame::Job;
+use span_profile::Watch;
+
+/// A worker's place in a crew, for a thread of the caller.
+#[derive(Drop)]
+pub struct WorkerSeat<J: Job + Drop> {
+    pub(crate) watcher: Box<dyn Watch + Send>,
+    pub(crate) place: Place<J>,
+}
+
+impl<J: Job + Drop> WorkerSeat<J> {
+    ghost use Rattle.worker_seat.specs.Seats.{IsBusy, new_seat};
+    ghost use Rattle.worker_seat.specs.Crews.{watcher_of, state_of};
+
+    /// Whether it is at a run: from a `begin` that answered Ok to the `finish` that hands out its run.
+    pub fn busy(&self) -> bool
+        ensures { IsTrue result ↔ IsBusy (state_of self.now).job }
+    {
+        self.place.is_at_run()
+    }
+
+    /// Whether an `enter` has found that run closed.
+    pub fn closed(&self) -> bool
+        ensures { result ≡ (state_of self.now).closed }
+    {
+        self.place.has_found()
+    }
+
+    /// Whether a `begin` or an `enter` of it has ever answered NoMemory.
+    pub fn refused(&self) -> bool
+        ensures { result ≡ (state_of self.now).refused }
+    {
+        self.place.is_refused()
+    }
+
+    /// How many spans its watcher was told.
+    pub fn watched(&self) -> u64
+        ensures { result ≡ told (watcher_of self.now) }
+    {
+        told_by(&self.watcher)
+    }
+
+    /// Its watcher.
+    pub fn into_watcher(self) -> Box<dyn Watch + Send>
+        ensures { result ≡ watcher_of self }
+    {
+        let WorkerSeat { watcher, .. } = self;
+        watcher
+    }
+
+    // A seat at no run.
+    pub(crate) fn new(owner: Owner<CrewItem<J>>, watcher: Box<dyn Watch + Send>) -> WorkerSeat<J>
+        requires { owner.tag ≡ [] }
+        ensures state { state_of result ≡ new_seat owner.counts }
+        ensures watcher { watcher_of result ≡ watcher }
+    {
+        WorkerSeat {
+            watcher,
+            place: Place::new(owner),
+        }
+    }
+}
+
+// How many spans a watcher was told.
+fn told_by(watcher: &Box<dyn Watch + Send>) -> u64
+    ensures { result ≡ told watcher.now }
+{
+    watcher.count()
+}

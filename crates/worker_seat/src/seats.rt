@@ -1,0 +1,118 @@
+// What is done with all seats of a crew.
+ghost use Rattle.std.specs.Prelude.{◌≡◌, [], length, map, All, IfSome, IsSome, IsNone, OnOk, OnErr, position, vec_capacity};
+ghost use Rattle.std.specs.Arc.{arc_value};
+ghost use Rattle.ready_deques.specs.Lists.{IsOwnerOf, tag_of};
+ghost use Rattle.worker_seat.specs.Seats.{at_job, away, left_refused};
+ghost use Rattle.worker_seat.specs.Crews.{IsOpen, IsRunOf, MayBegin, moved, state_of, watcher_of};
+ghost use Rattle.worker_seat.specs.inside.Seating.{list_name};
+
+use crate::crew_run::CrewRun;
+use crate::item::CrewItem;
+use crate::seat::WorkerSeat;
+use outside_io::NoMemory;
+use ready_deques::{Owner, Ready};
+use run_frame::{FrameRun, Job};
+use span_profile::Watch;
+use std::sync::{Arc, Wait};
+
+/// Sends all seats to a run. After an `Err` all are refused.
+pub fn send_all<J: Job + Drop>(
+    seats: &mut [WorkerSeat<J>],
+    run: &Arc<CrewRun<J>>,
+) -> Result<(), NoMemory>
+    ensures ok { OnOk result (seats.new ≡ map (moved (at_job (arc_value run.now).job)) seats.old) }
+    ensures err { OnErr result (seats.new ≡ map (moved left_refused) seats.old) }
+{
+    match try_send_all(seats, run) {
+        Ok(()) => Ok(()),
+        Err(NoMemory) => {
+            refuse_all(seats);
+            Err(NoMemory)
+        }
+    }
+}
+
+// Sends the seats to a run, until an allocation fails.
+fn try_send_all<J: Job + Drop>(
+    seats: &mut [WorkerSeat<J>],
+    run: &Arc<CrewRun<J>>,
+) -> Result<(), NoMemory>
+    ensures ok { OnOk result (seats.new ≡ map (moved (at_job (arc_value run.now).job)) seats.old) }
+    ensures err { OnErr result (map (moved left_refused) seats.new ≡ map (moved left_refused) seats.old) }
+{
+    for seat in seats.iter_mut() {
+        let run = Arc::try_clone(run)?;
+        seat.place.attend(run);
+    }
+    Ok(())
+}
+
+/// All seats leave their run, since an allocation failed.
+pub fn refuse_all<J: Job + Drop>(seats: &mut [WorkerSeat<J>])
+    ensures { seats.new ≡ map (moved left_refused) seats.old }
+{
+    for seat in seats.iter_mut() {
+        seat.place.refuse();
+    }
+}
+
+/// All seats leave their run.
+pub fn leave_all<J: Job + Drop>(seats: &mut [WorkerSeat<J>])
+    ensures { seats.new ≡ map (moved away) seats.old }
+{
+    for seat in seats.iter_mut() {
+        seat.place.leave();
+    }
+}
+
+/// The run that a seat has found closed. Then all seats leave it. If no seat has, all stay.
+pub fn fetch_first<J: Job + Drop, R: Wait>(
+    rt: &R,
+    seats: &mut [WorkerSeat<J>],
+) -> Option<FrameRun<J>>
+    ensures none { IsNone result → All IsOpen seats.old × (seats.new ≡ seats.old) }
+    ensures run { IfSome result (IsRunOf J.meaning seats.old) }
+    ensures left { IsSome result → seats.new ≡ map (moved away) seats.old }
+{
+    match first_closed(seats) {
+        Some(first) => {
+            let run = seats[first].place.fetch(rt);
+            leave_all(seats);
+            run
+        }
+        None => None,
+    }
+}
+
+// The first seat that has found its run closed.
+fn first_closed<J: Job + Drop>(seats: &[WorkerSeat<J>]) -> Option<usize>
+    ensures { result ≡ position (λ seat. (state_of seat).closed) seats.now }
+{
+    seats.iter().position(
+        |seat: &WorkerSeat<J>| -> bool
+            ensures { result ≡ (state_of seat.now).closed }
+        { seat.closed() },
+    )
+}
+
+/// A seat for each watcher, in their order, in the place of those that there is room for.
+pub fn seat_all<J: Job + Drop>(
+    ready: &Ready<CrewItem<J>>,
+    mut seats: Vec<WorkerSeat<J>>,
+    mut owners: Vec<Owner<CrewItem<J>>>,
+    mut watchers: Vec<Box<dyn Watch + Send>>,
+) -> Vec<WorkerSeat<J>>
+    requires empty { seats.items ≡ [] }
+    requires room { vec_capacity seats ≡ length watchers.items }
+    requires list { tag_of ready.now ≡ [] }
+    requires owners { All (IsOwnerOf ready.now) owners.items }
+    requires count { length owners.items ≡ length watchers.items }
+    ensures watchers { map watcher_of result.items ≡ watchers.items }
+    ensures list { All (λ seat. (state_of seat).list ≡ list_name ready.now) result.items }
+    ensures ready { All MayBegin result.items }
+{
+    while let Some(owner) = owners.pop() {
+        seats.push_reserved(WorkerSeat::new(owner, watchers.remove(0)));
+    }
+    seats
+}

@@ -1,0 +1,304 @@
+#!/usr/bin/env python3
+"""Gives the journals that the program prints to its judge, as they are and with one line changed.
+
+    judged_journals.py PROGRAM [--count N] [--seed N]
+
+Runs each of the examples and random graphs with `--journal`, and judges each journal: that of a run that was kept must
+be complete, with the first line of either version. Then one line at a time is changed: two neighbours exchanged, a line
+left out or put twice, a number made another, a word made another. What the judge says of it is compared with a slow judge, which is written here from the
+rules alone, for nets without semaphores, and with the slow reading of a line by a regular expression. Prints a line for
+each difference and how many journals were judged and what was said, and ends with status 1 where there was a
+difference.
+"""
+import argparse
+import json
+import pathlib
+import random
+import re
+import shutil
+import subprocess
+import sys
+import tempfile
+
+from random_graphs import branching_graph, plain_graph, random_text
+
+TOP = pathlib.Path(__file__).resolve().parent.parent
+
+NUMBER = "(?:0|[1-9][0-9]*)"
+CAUSE = f"source|strong|weak:{NUMBER}"
+LINES = [
+    (f"start ({NUMBER}) ({CAUSE}) (-|(?:{NUMBER}|first|nothing)(?:,(?:{NUMBER}|first|nothing))*)", "start"),
+    (f"end ({NUMBER}) (-|{NUMBER}(?:,{NUMBER})*) (plain|inner)", "end"),
+    (f"fault ({NUMBER}) (inner|(?:long|wide|unmet|over):{NUMBER})", "fault"),
+    (f"drop ({NUMBER}) ({CAUSE}) (halted|limit|stuck:{NUMBER})", "drop"),
+]
+VERSIONS = ("flow journal 1", "flow journal 2")
+
+# The most starts of a run: the slow judge takes a time that grows with the square of a journal's length.
+LIMIT = 30
+
+
+# ---- a slow reading
+
+def small(number, bits):
+    return int(number) < 1 << bits
+
+
+def entry_of(line):
+    """The kind and fields of a line, or None where it isn't an entry's."""
+    for pattern, kind in LINES:
+        fields = re.fullmatch(pattern, line)
+        if fields and fits(kind, fields.groups()):
+            return kind, *fields.groups()
+    return None
+
+
+def fits(kind, fields):
+    words = [word for field in fields[1:] for word in field.split(",")]
+    named = [word.split(":") for word in words if ":" in word]
+    wide = {"long", "wide", "unmet"}
+    plain = [word for word in words if word.isdigit()]
+    return (small(fields[0], 32 if kind in ("start", "drop") else 64)
+            and all(small(number, 64 if name in wide else 32) for name, number in named)
+            and all(small(number, 32 if kind == "end" else 64) for number in plain))
+
+
+def read_slowly(text):
+    """The entries of a journal's text, or the number of the first bad line."""
+    lines = text.split("\n")
+    if len(lines) < 2 or lines[0] not in VERSIONS:
+        return 1
+    entries = []
+    for number, line in enumerate(lines[1:-1], 2):
+        entry = entry_of(line)
+        if entry is None or (lines[0] == VERSIONS[0] and re.search("over:|stuck:", line)):
+            return number
+        entries.append(entry)
+    return entries if lines[-1] == "" else len(lines)
+
+
+# ---- a slow judge
+
+class Net:
+    """The tasks and edges of a graph file; conditions have weak edges out of them."""
+
+    def __init__(self, graph):
+        self.ops = [task["op"] for task in graph["tasks"]]
+        places = {task["name"]: place for place, task in enumerate(graph["tasks"])}
+        self.edges = [(place, places[name]) for place, task in enumerate(graph["tasks"]) for name in task.get("to", [])]
+
+    def shape(self, task):
+        return {"back": "choice", "ifmore": "choice", "ifhas": "choice", "route": "many"}.get(self.ops[task], "plain")
+
+    def is_weak(self, edge):
+        return self.shape(self.edges[edge][0]) != "plain"
+
+    def out(self, task):
+        return [edge for edge, (source, _) in enumerate(self.edges) if source == task]
+
+    def into(self, task):
+        return [edge for edge, (_, target) in enumerate(self.edges) if target == task]
+
+
+def breaks(net, limit, before, entry):
+    """The rule that an entry breaks after others, the first in the judge's order, or None."""
+    kind, number, *fields = entry
+    number = int(number)
+    if kind in ("start", "drop"):
+        edge = int(fields[0][5:]) if fields[0].startswith("weak:") else None
+        if number >= len(net.ops) or (edge is not None and edge >= len(net.edges)):
+            return "no such number"
+        if kind == "drop" and fields[1].startswith("stuck:"):
+            return "no such number"
+        if not is_released(net, before, number, fields[0], edge):
+            return "not released"
+        starts = sum(1 for other in before if other[0] == "start")
+        if kind == "start":
+            return "over limit" if starts >= limit else None
+        if fields[1] == "limit":
+            return None
+        return None if any(other[0] == "fault" for other in before) else "not halted"
+    if kind == "end":
+        edges = [] if fields[0] == "-" else [int(edge) for edge in fields[0].split(",")]
+        if any(edge >= len(net.edges) for edge in edges):
+            return "no such number"
+    elif fields[0].startswith("over:"):
+        return "no such number"
+    closed = any(other[0] in ("end", "fault") and int(other[1]) == number for other in before)
+    if number >= len(before) or before[number][0] != "start" or closed:
+        return "not open"
+    if kind == "end":
+        return None if is_chosen(net, int(before[number][1]), edges, fields[1] == "inner") else "not chosen"
+    return None
+
+
+def is_released(net, before, task, cause, edge):
+    into = net.into(task)
+    given = {e: sum(other[2].split(",").count(str(e)) for other in before if other[0] == "end") for e in into}
+    used = [other[2] for other in before if other[0] in ("start", "drop") and int(other[1]) == task]
+    if cause == "source":
+        return not into and not used
+    if cause == "strong":
+        strong = [e for e in into if not net.is_weak(e)]
+        return bool(strong) and min(given[e] for e in strong) > used.count("strong")
+    return edge in into and net.is_weak(edge) and given[edge] > used.count(cause)
+
+
+def is_chosen(net, task, edges, inner):
+    out = net.out(task)
+    if inner:
+        return False
+    shape = net.shape(task)
+    if shape == "plain":
+        return edges in (out, [])
+    if shape == "choice":
+        return len(edges) <= 1 and all(edge in out for edge in edges)
+    return len(set(edges)) == len(edges) and all(edge in out for edge in edges)
+
+
+def is_finished(net, limit, entries):
+    open_starts = [place for place, entry in enumerate(entries) if entry[0] == "start"
+                   and not any(other[0] in ("end", "fault") and int(other[1]) == place for other in entries)]
+    left = any(is_released(net, entries, task, cause, edge) for task in range(len(net.ops))
+               for cause, edge in [("source", None), ("strong", None)] + [(f"weak:{e}", e) for e in net.into(task)])
+    at_limit = any(entry[0] == "drop" and entry[3] == "limit" for entry in entries)
+    starts = sum(1 for entry in entries if entry[0] == "start")
+    return not open_starts and not left and (not at_limit or starts == limit)
+
+
+def judged_slowly(net, limit, text):
+    """The code, output and notes that the judge is to have for a journal."""
+    entries = read_slowly(text)
+    if isinstance(entries, int):
+        return 12, "", f"flow: bad journal line {entries}\n"
+    for place, entry in enumerate(entries):
+        broken = breaks(net, limit, entries[:place], entry)
+        if broken:
+            return 11, f"breaks at {place}: {broken}\n", f"flow: not legal at {place}\n"
+    return 0, "complete\n" if is_finished(net, limit, entries) else "legal\n", ""
+
+
+# ---- one line changed
+
+MORE = (1, 2, 1 << 32, (1 << 64) - 1, 1 << 64)
+WORDS = ("plain", "inner", "strong", "source", "weak:0", "start", "end", "fault", "drop", "halted", "limit", "stuck:0",
+         "long:7", "wide:7", "unmet:7", "over:0", "first", "nothing", "-")
+
+
+def in_version(dice, text):
+    """The journal with the first line of a version."""
+    return dice.choice(VERSIONS) + text[text.index("\n"):]
+
+
+def changed(dice, text):
+    """The journal with one line changed."""
+    other = text
+    while other == text:
+        other = changed_once(dice, text)
+    return other
+
+
+def changed_once(dice, text):
+    lines = text.split("\n")[:-1]
+    place = dice.randrange(len(lines))
+    how = dice.randrange(7)
+    if how == 0 and place + 1 < len(lines):
+        lines[place], lines[place + 1] = lines[place + 1], lines[place]
+    elif how == 1:
+        del lines[place]
+    elif how == 2:
+        lines.insert(place, lines[place])
+    elif how == 3:
+        lines[place] = at_some(dice, "[0-9]+", lines[place], lambda number: str(int(number) + dice.choice(MORE)))
+    elif how == 4:
+        lines[place] = at_some(dice, "[^ ,]+", lines[place], lambda word: dice.choice(WORDS))
+    elif how == 5:
+        lines[place] = at_some(dice, "[0-9]+", lines[place], lambda number: dice.choice(["0", "+", " ", "-", ","]) + number)
+    elif dice.randrange(4) == 0:
+        return text[:-1]
+    return "".join(line + "\n" for line in lines)
+
+
+def at_some(dice, pattern, line, other):
+    """The line with one of the parts that have the pattern made another."""
+    parts = list(re.finditer(pattern, line))
+    if not parts:
+        return line
+    part = dice.choice(parts)
+    return line[:part.start()] + other(part.group()) + line[part.end():]
+
+
+# ---- the program
+
+def call(program, folder, *words):
+    done = subprocess.run([program, *words], cwd=folder, capture_output=True, timeout=60)
+    return done.returncode, done.stdout.decode(), done.stderr.decode()
+
+
+def judged(program, folder, text):
+    pathlib.Path(folder, "journal.txt").write_text(text)
+    return call(program, folder, "judge", "graph.json", "journal.txt", "--limit", str(LIMIT))
+
+
+class Seen:
+    def __init__(self):
+        self.counts = {}
+        self.faults = 0
+
+    def say(self, what):
+        self.counts[what] = self.counts.get(what, 0) + 1
+
+    def fault(self, what):
+        self.faults += 1
+        print(what, file=sys.stderr)
+
+
+def hold(program, folder, graph, dice, what, seen):
+    """Judges the journal of a run of the graph in a folder, and journals that are made from it."""
+    code, text, notes = call(program, folder, "run", "graph.json", "--journal", "--limit", str(LIMIT))
+    if code not in (0, 8, 9, 10):
+        return seen.say("graphs that aren't run")
+    for version in VERSIONS:
+        told = judged(program, folder, version + text[text.index("\n"):])
+        if told != (0, "complete\n", ""):
+            seen.fault(f"{what}: the journal of a run is judged as {told}\n{text}")
+    seen.say("journals of runs, complete")
+    net = Net(graph)
+    for _ in range(6):
+        other = changed(dice, in_version(dice, text))
+        found = judged(program, folder, other)
+        wanted = judged_slowly(net, LIMIT, other)
+        if found != wanted:
+            seen.fault(f"{what}: {found}, wanted {wanted}\n{json.dumps(graph)}\n{other}")
+        seen.say(f"changed journals, code {wanted[0]} {wanted[1].split(':')[-1].strip()}")
+
+
+def main():
+    words = argparse.ArgumentParser(description=__doc__, formatter_class=argparse.RawDescriptionHelpFormatter)
+    words.add_argument("program", type=pathlib.Path)
+    words.add_argument("--count", type=int, default=200)
+    words.add_argument("--seed", type=int, default=1)
+    asked = words.parse_args()
+    program = asked.program.resolve()
+    seen = Seen()
+    for example in sorted((TOP / "examples").iterdir()):
+        with tempfile.TemporaryDirectory() as folder:
+            shutil.copytree(example, folder, dirs_exist_ok=True)
+            graph = json.loads(pathlib.Path(folder, "graph.json").read_text())
+            hold(program, folder, graph, random.Random(asked.seed), example.name, seen)
+    for number in range(asked.count):
+        dice = random.Random(asked.seed * 1_000_003 + number)
+        graph = branching_graph(dice) if number % 2 == 1 else plain_graph(dice)
+        texts = {"one.txt": random_text(dice), "two.txt": random_text(dice)}
+        with tempfile.TemporaryDirectory() as folder:
+            for name, text in texts.items():
+                pathlib.Path(folder, name).write_text(text)
+            pathlib.Path(folder, "graph.json").write_text(json.dumps(graph))
+            hold(program, folder, graph, dice, f"graph {number} of seed {asked.seed}", seen)
+    for what, count in sorted(seen.counts.items()):
+        print(f"{count} {what}")
+    sys.exit(1 if seen.faults else 0)
+
+
+if __name__ == "__main__":
+    main()
