@@ -11,15 +11,17 @@ use Rattle.journal_text.specs.declared.version.Version.TheVariants.{Two}
 use Rattle.journal_text.specs.JournalText.{journal_text}
 use Rattle.run_frame.specs.NestedRule.{journal_of}
 use Rattle.command_line.specs.Requests.{run as run_of, judge as judge_of}
-use Rattle.flow_run.specs.declared.status.Status.{Status}
-use Rattle.flow_run.specs.declared.status.Status.TheVariants.{Done, WriteFault, NoText, NotLegal, NoMemory}
-use Rattle.flow_run.specs.declared.stop.Stop.{Stop}
-use Rattle.flow_run.specs.declared.stop.Stop.TheVariants as stop
+use Rattle.call_status.specs.declared.status.Status.{Status}
+use Rattle.call_status.specs.declared.status.Status.TheVariants.{Done, WriteFault, NoText, NotLegal, NoMemory}
+use Rattle.call_status.specs.declared.stop.Stop.{Stop}
+use Rattle.call_status.specs.declared.stop.Stop.TheVariants as stop
 use Rattle.flow_run.specs.Requests.{Held, HasPlan}
-use Rattle.flow_run.specs.Stopping.{StoppedBefore, status_of}
+use Rattle.call_status.specs.Statuses.{status_of}
+use Rattle.call_status.specs.Stopping.{StoppedBefore}
+use Rattle.flow_run.specs.declared.conclusion.Conclusion.TheVariants as conclusion
 use Rattle.flow_run.specs.Output.{report_of}
-use Rattle.flow_run.specs.Judging.{HasJournal, StopsAtJournalBytes, StopsAtJournal, StopsBeforeVerdict, IsJudged, IsAfterVerdict, EndsJudged, JudgeEnds, CanBeJudged, break_text, verdict_line, verdict_text, status_by, journal_limit}
-use Rattle.flow_run.specs.Answers.{Run, run_texts, wants_journal, output_of}
+use Rattle.flow_run.specs.Judging.{HasJournal, StopsAtJournalBytes, StopsAtJournal, StopsBeforeVerdict, IsJudged, IsAfterVerdict, EndsJudged, JudgeEnds, CanBeJudged, break_text, verdict_line, journal_limit}
+use Rattle.flow_run.specs.Answers.{Run, run_texts, wants_journal, conclusion_text, output_of}
 
 abbrev g : List ℕ
 g = 0 ∷ []
@@ -46,10 +48,10 @@ breaks_at_a_semaphore : verdict_line (Breaks 0 (OverUnits 3)) ≡ codes "breaks 
 unfolding digits
 breaks_at_a_semaphore = refl
 
-nothing_told : verdict_text None ≡ []
+nothing_told : conclusion_text None ≡ []
 nothing_told = refl
 
-verdict_told : verdict_text (Some Legal) ≡ codes "legal\n"
+verdict_told : conclusion_text (Some (conclusion.Verdict Legal)) ≡ codes "legal\n"
 verdict_told = refl
 
 -- What an entry is told to break.
@@ -80,16 +82,6 @@ not_halted = refl
 
 not_stuck : break_text NotStuck ≡ codes "not stuck"
 not_stuck = refl
-
--- The status of a verdict.
-status_of_finished : status_by Finished ≡ Done
-status_of_finished = refl
-
-status_of_legal : status_by Legal ≡ Done
-status_of_legal = refl
-
-status_of_a_break : status_by (Breaks 4 NotOpen) ≡ NotLegal 4 NotOpen
-status_of_a_break = refl
 
 -- A break is told before a line that couldn't be written, and isn't called done.
 break_told : IsAfterVerdict (Breaks 4 NotOpen) (NotLegal 4 NotOpen)
@@ -152,8 +144,8 @@ journal_there (inl (same, none)) = let never : Some (codes "flow journal 2\n") �
 journal_there (inr at) = at.stops
 
 -- An end before the verdict has none, and isn't done.
-verdict_before_the_end : ¬ StoppedBefore (StopsBeforeVerdict held g j) (NoText j) (Some Legal ≡ None)
-verdict_before_the_end is = absurd (let none : Some Legal ≡ None = is.none in cc)
+verdict_before_the_end : ¬ StoppedBefore (StopsBeforeVerdict held g j) (NoText j) (Some (conclusion.Verdict Legal) ≡ None)
+verdict_before_the_end is = absurd (let none : Some (conclusion.Verdict Legal) ≡ None = is.none in cc)
 
 done_without_a_verdict : ¬ JudgeEnds held g j 9 Done None
 done_without_a_verdict (inl stopped) = never stopped.why stopped.told
@@ -166,10 +158,10 @@ done_without_a_verdict (inl stopped) = never stopped.why stopped.told
     never (stop.ReadFault name) same = absurd (cc)
     never (stop.BadJournal line) same = absurd (cc)
     never stop.NoMemory same = absurd (cc)
-done_without_a_verdict (inr ended) = let only : None ≡ Some ended.told = ended.only in absurd (cc)
+done_without_a_verdict (inr ended) = let only : None ≡ Some (conclusion.Verdict ended.verdict) = ended.only in absurd (cc)
 
-verdict_that_is_another : (is : IsJudged held g j 9 Legal) → ¬ EndsJudged held g j 9 (NotLegal 0 NotOpen) (Some Legal)
-verdict_that_is_another is ended = let same : ended.told ≡ Legal = cc in legal_called_broken (subst (λ (v : Verdict). IsAfterVerdict v (NotLegal 0 NotOpen)) same ended.after)
+verdict_that_is_another : (is : IsJudged held g j 9 Legal) → ¬ EndsJudged held g j 9 (NotLegal 0 NotOpen) (Some (conclusion.Verdict Legal))
+verdict_that_is_another is ended = let same : ended.verdict ≡ Legal = cc in legal_called_broken (subst (λ (v : Verdict). IsAfterVerdict v (NotLegal 0 NotOpen)) same ended.after)
 
 -- What is written: of a run its report or its journal, of a judgement the verdict's line.
 module _ (run : Run) where
@@ -194,7 +186,7 @@ judgement_asked_for = refl
 nothing_asked_for : wants_journal None ≡ false
 nothing_asked_for = refl
 
-output_of_a_judgement : (arguments : List (List ℕ)) → output_of arguments [] (Some Legal) ≡ codes "legal\n"
+output_of_a_judgement : (arguments : List (List ℕ)) → output_of arguments [] (Some (conclusion.Verdict Legal)) ≡ codes "legal\n"
 output_of_a_judgement arguments = refl
 
 output_of_nothing : (arguments : List (List ℕ)) → output_of arguments [] None ≡ []

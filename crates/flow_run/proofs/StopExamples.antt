@@ -1,10 +1,9 @@
 -- Where a call stops and what it has done when it ends, computed at the limits and on a report of two bytes.
-use Rattle.std.proofs.Common.{◌≡◌, ℕ, ◌+◌, List, [], ◌∷◌, ◌++◌, length, Option, Some, None, true, false, inl, inr, refl, arith, ap, sym, subst, ◌∙◌, Result, Ok, Err}
+use Rattle.std.proofs.Common.{◌≡◌, ℕ, ◌+◌, List, [], ◌∷◌, ◌++◌, length, Option, Some, None, true, false, inl, inr, refl, arith, ap, sym, subst, ◌∙◌, Result, Ok}
 use Rattle.std.specs.Prelude.{if◌then◌else◌, bytes_eq, ◌==◌}
 use Rattle.std.specs.Io.KnownBytes.{append_known}
 use Rattle.std.proofs.lemmas.List.{length-append}
 use Rattle.outside_io.specs.Sink.{SinkState}
-use Rattle.outside_io.specs.declared.sink.SinkFault.TheVariants as fault
 use Rattle.graph_plans.specs.PlanRows.{PlanRows}
 use Rattle.text_tasks.specs.GraphWork.{first_work}
 use Rattle.text_tasks.specs.declared.job.TextJob.{TextJob}
@@ -13,11 +12,11 @@ use Rattle.text_tasks.specs.JobMeaning.{limit_of, names_of, text_job}
 use Rattle.run_frame.specs.NestedRule.{job_of}
 use Rattle.nested_runs.specs.Reasons.{run_reason}
 use Rattle.nested_runs.specs.declared.reasons.Reason.TheVariants as reason
-use Rattle.flow_run.specs.declared.status.Status.TheVariants.{Done, WriteFault}
-use Rattle.flow_run.specs.declared.stop.Stop.{Stop}
-use Rattle.flow_run.specs.declared.stop.Stop.TheVariants as stop
+use Rattle.call_status.specs.declared.status.Status.TheVariants.{Done, WriteFault}
+use Rattle.call_status.specs.declared.stop.Stop.{Stop}
+use Rattle.call_status.specs.declared.stop.Stop.TheVariants as stop
 use Rattle.flow_run.specs.Requests.{Held, StopsAtName, IsTextOf, TextsAre, StopsAtText, HasStart, HasPlan, IsRequestedJob, IsAtHand, CountsReads, CountsStop, text_limit}
-use Rattle.flow_run.specs.Answers.{Run, IsAfterRun, RanOnce, KeptOnce, names_in, RunEnds, Reported, Delivers, HaveRead, run_texts}
+use Rattle.flow_run.specs.Answers.{Run, IsAfterRun, RanOnce, KeptOnce, names_in, RunEnds, Reported, HaveRead, run_texts}
 
 abbrev g : List ℕ
 g = 0 ∷ []
@@ -165,20 +164,6 @@ module _ (run : Run) (two : run_texts false (run ∷ []) ≡ 7 ∷ 8 ∷ []) whe
       let parts : 7 ∷ 8 ∷ [] ≡ is.front.but.front ++ is.front.lost = sym two ∙ is.front.but.parts in
       let longer : 2 ≡ length is.front.but.front + length is.front.lost = ap length parts ∙ length-append is.front.but.front is.front.lost in
       absurd (omega (arith, ap known_length took, longer))
-
--- ---- a put
-
-put_whole : Delivers (sink [] 0) (sink (7 ∷ 8 ∷ []) 0) (7 ∷ 8 ∷ []) (Ok tt)
-put_whole = record { took = refl; nothing_held = refl; faults = refl }
-
-put_in_part : ¬ Delivers (sink [] 0) (sink (7 ∷ []) 0) (7 ∷ 8 ∷ []) (Ok tt)
-put_in_part is = let took : Some (7 ∷ []) ≡ Some (7 ∷ 8 ∷ []) = is.took in absurd (omega (arith, ap known_length took))
-
-failed_put_not_counted : ¬ Delivers (sink [] 0) (sink (7 ∷ []) 0) (7 ∷ 8 ∷ []) (Err fault.Failed)
-failed_put_not_counted is = absurd (omega (arith, is.1))
-
-put_failed : Delivers (sink [] 0) (sink (7 ∷ []) 1) (7 ∷ 8 ∷ []) (Err fault.Failed)
-put_failed = (record { took = record { lost = 8 ∷ []; but = record { front = 7 ∷ []; parts = refl; took = refl } }; nothing_held = refl }, omega arith)
 
 -- ---- the texts stay
 
