@@ -1,7 +1,7 @@
 -- What a check of a graph asks for, how it ends and what is written of it, computed on a graph file `g` of one byte.
 use Rattle.std.specs.Fmt.{digits}
-use Rattle.std.proofs.Common.{◌≡◌, ℕ, List, [], ◌∷◌, Some, None, Ok, Err, false, inl, inr, refl, sym, ◌∙◌, arith, codes}
-use Rattle.std.specs.Prelude.{bytes_eq, if◌then◌else◌}
+use Rattle.std.proofs.Common.{◌≡◌, ℕ, ◌≤◌, List, [], ◌∷◌, length, Option, Some, None, Ok, Err, false, inl, inr, refl, sym, ap, subst, ◌∙◌, arith, codes}
+use Rattle.std.specs.Prelude.{bytes_eq, if◌then◌else◌, Contains, IsSomeAnd}
 use Rattle.std.proofs.lemmas.Option.{none-some}
 use Rattle.graph_plans.specs.PlanRows.{PlanRows}
 use Rattle.graph_plans.specs.declared.spots.Spot.TheVariants.{File}
@@ -10,24 +10,38 @@ use Rattle.graph_file.specs.PlanText.{PlanText, IsRefused}
 use Rattle.pitfall_check.specs.declared.finding.Finding.{Finding}
 use Rattle.pitfall_check.specs.declared.finding.Finding.TheVariants.{NoSource, Mixed, ManyConditions, StrongCycle, NeverReached}
 use Rattle.pitfall_check.specs.Findings.{AreFindings}
+use Rattle.pitfall_check.specs.Pitfalls.{IsPitfall}
 use Rattle.call_status.specs.declared.status.Status.TheVariants.{Done, WriteFault, NoText, NoMemory}
 use Rattle.call_status.specs.declared.status.Status.TheVariants as status
 use Rattle.call_status.specs.declared.stop.Stop.{Stop}
 use Rattle.call_status.specs.declared.stop.Stop.TheVariants as stop
 use Rattle.call_status.specs.Statuses.{status_of}
-use Rattle.command_line.specs.Requests.{check as check_of}
+use Rattle.command_line.specs.Requests.{asked_by, run as run_of, check as check_of}
 use Rattle.flow_run.specs.declared.conclusion.Conclusion.TheVariants as conclusion
 use Rattle.flow_run.specs.declared.conclusion.GraphFindings.{GraphFindings}
-use Rattle.flow_run.specs.Requests.{Held, StopsAtPlan, StopsAtBytes}
-use Rattle.flow_run.specs.Checking.{StopsBeforeFindings, IsChecked, IsAfterFindings, EndsChecked, CheckEnds, CanBeChecked, finding_line, findings_text, count_line}
+use Rattle.flow_run.specs.Requests.{Held, StopsAtPlan, StopsAtBytes, file_limit}
+use Rattle.flow_run.specs.Checking.{StopsAtFile, StopsBeforeFindings, IsChecked, IsAfterFindings, EndsChecked, CheckEnds, CanBeChecked, finding_line, findings_text, count_line}
 use Rattle.flow_run.specs.Answers.{conclusion_text, wants_journal, output_of}
+use Rattle.flow_run.proofs.Completing.{one_plan}
 
 abbrev g : List ℕ
 g = 0 ∷ []
 
 -- what is held: a byte under `g`
+abbrev texts : List ℕ → Option (List ℕ)
+texts name = if bytes_eq name g then Some (1 ∷ []) else None
+
 abbrev held : Held
-held = Some (λ name. if bytes_eq name g then Some (1 ∷ []) else None)
+held = Some texts
+
+abbrev known_length : Option (List ℕ) → ℕ
+known_length None = 0
+known_length (Some bytes) = length bytes
+
+-- what a source holds under a name, where it says so
+abbrev bytes_of : Held → List ℕ → Option (List ℕ)
+bytes_of None name = None
+bytes_of (Some text) name = text name
 
 -- Tasks by their names: task 0 is `a` and task 1 is `b`.
 abbrev names : List (List ℕ)
@@ -122,6 +136,32 @@ module _ (plan : PlanRows) (stands : PlanText (1 ∷ []) plan) (findings : List 
   checked_and_told : EndsChecked held g Done (Some (conclusion.Findings (record { names = plan.top.names; findings = findings })))
   checked_and_told = record { found = record { names = plan.top.names; findings = findings }; only = refl; checked = checked; after = inl refl }
 
+  -- What is found has the names of the graph's tasks and all its pitfalls.
+  names_of_another_graph : ¬ IsChecked held g (record { names = codes "z" ∷ plan.top.names; findings = findings })
+  names_of_another_graph is =
+      let read : Some (1 ∷ []) ≡ Some is.bytes = is.read.0 in
+      let bytes : 1 ∷ [] ≡ is.bytes = cc in
+      let same = one_plan is.bytes is.plan plan is.stands (subst (λ b. PlanText b plan) bytes stands) in
+      let names : codes "z" ∷ plan.top.names ≡ plan.top.names = is.names ∙ ap (λ (p : PlanRows). p.top.names) same in
+      absurd (omega (arith, ap length names))
+
+  pitfall_left_out : IsPitfall plan.top.net (Mixed 1) → ¬ IsChecked held g (record { names = plan.top.names; findings = [] })
+  pitfall_left_out mixed is =
+      let read : Some (1 ∷ []) ≡ Some is.bytes = is.read.0 in
+      let bytes : 1 ∷ [] ≡ is.bytes = cc in
+      let same = one_plan is.bytes is.plan plan is.stands (subst (λ b. PlanText b plan) bytes stands) in
+      let is_one : IsPitfall is.plan.top.net (Mixed 1) = subst (λ (p : PlanRows). IsPitfall p.top.net (Mixed 1)) (sym same) mixed in
+      not_in_nothing ((is.findings.exact (Mixed 1)).1 is_one)
+    where
+      not_in_nothing : ¬ Contains [] (Mixed 1)
+      not_in_nothing is = absurd (omega arith)
+
+  told_as_another_status : ¬ EndsChecked held g (status.NoSource File) (Some (conclusion.Findings (record { names = plan.top.names; findings = findings })))
+  told_as_another_status ended = no_source_told_as_a_status ended.after
+
+  at_hand : (arguments : List (List ℕ)) → asked_by arguments ≡ Some (check_of g) → CanBeChecked held arguments
+  at_hand arguments asks = record { file = g; text = texts; plan = plan; asks = asks; specified = refl; graph = (omega arith, stands) }
+
 plan_of_a_missing_file : (found : GraphFindings) → ¬ IsChecked held (2 ∷ []) found
 plan_of_a_missing_file found is = let never : None ≡ Some is.bytes = is.read.0 in absurd (cc)
 
@@ -142,3 +182,26 @@ done_without_findings (inr ended) = let only : None ≡ Some (conclusion.Finding
 -- Where the source doesn't specify what it holds, nothing can be said to be at hand.
 nothing_to_check : (arguments : List (List ℕ)) → ¬ CanBeChecked None arguments
 nothing_to_check arguments can = let some : None ≡ Some can.text = can.specified in absurd (cc)
+
+run_asked_for : (arguments : List (List ℕ)) → asked_by arguments ≡ Some (run_of g 9 false) → ¬ CanBeChecked held arguments
+run_asked_for arguments asks can = let never : Some (run_of g 9 false) ≡ Some (check_of can.file) = sym asks ∙ can.asks in absurd (cc)
+
+-- A file that is longer than is read stops the call, and isn't at hand; its bytes are not looked at.
+module _ (bytes : List ℕ) (long : length bytes ≡ 4194305) where
+  abbrev too_long : Held
+  too_long = Some (λ name. Some bytes)
+
+  long_file : StopsBeforeFindings too_long g (stop.LongText g)
+  long_file = inl (refl, omega (arith, long))
+
+  long_file_is_not_read : ¬ StopsAtFile too_long g stop.NoMemory
+  long_file_is_not_read at = let same : Some bytes ≡ Some at.bytes = at.read.0 in absurd (omega (arith, long, ap known_length same, at.read.1))
+
+  long_file_is_not_at_hand : (arguments : List (List ℕ)) → ¬ CanBeChecked too_long arguments
+  long_file_is_not_at_hand arguments can =
+      let same : bytes_of too_long can.file ≡ bytes_of (Some can.text) can.file = ap (λ h. bytes_of h can.file) can.specified in
+      few (can.text can.file) same can.graph
+    where
+      few : (o : Option (List ℕ)) → Some bytes ≡ o → IsSomeAnd o (λ b. (length b ≤ file_limit) × PlanText b can.plan) → ⊥
+      few None same never = never
+      few (Some b) same both = let one : bytes ≡ b = cc in absurd (omega (arith, long, ap length one, both.0))

@@ -35,7 +35,7 @@ use Rattle.journal_text.proofs.TextLemmas.{one_journal}
 use Rattle.flow_run.specs.Judging.{IsJudged, IsAfterVerdict, StopsAtJournalBytes, StopsAtJournal, StopsBeforeVerdict, CanBeJudged, journal_limit}
 
 -- Bytes stand for one plan at most.
-one_plan : (bytes : List ℕ) (plan other : PlanRows) → PlanText bytes plan → PlanText bytes other → plan ≡ other
+pub one_plan : (bytes : List ℕ) (plan other : PlanRows) → PlanText bytes plan → PlanText bytes other → plan ≡ other
 one_plan bytes plan other one two = let both : Ok plan ≡ Ok other = sym one ∙ two in cc
 
 -- Bytes that stand for a plan aren't refused.
