@@ -225,8 +225,11 @@ journal_bytes = refl
 -- ---- what is judged
 
 -- the same, with another text under `j`
+abbrev texts_with : List ℕ → List ℕ → Option (List ℕ)
+texts_with bytes name = if bytes_eq name g then Some (1 ∷ []) else (if bytes_eq name j then Some bytes else None)
+
 abbrev held_with : List ℕ → Held
-held_with bytes = Some (λ name. if bytes_eq name g then Some (1 ∷ []) else (if bytes_eq name j then Some bytes else None))
+held_with bytes = Some (texts_with bytes)
 
 -- a journal of one start, and its text
 abbrev started : List Entry
@@ -286,7 +289,7 @@ module _ (plan : PlanRows) (stands : PlanText (1 ∷ []) plan) (source : HasStar
   has_graph = record { bytes = 1 ∷ []; read = (refl, omega arith); stands = stands; source = source }
 
   judged_unfinished : ¬ Complete plan.top.net 9 [] → IsJudged held g j 9 Legal
-  judged_unfinished open = record { plan = plan; graph = has_graph; journal = []; text = empty_journal; is = (tt, open) }
+  judged_unfinished unfinished = record { plan = plan; graph = has_graph; journal = []; text = empty_journal; is = (tt, unfinished) }
 
   judged_finished : Complete plan.top.net 9 [] → IsJudged held g j 9 Finished
   judged_finished finished = record { plan = plan; graph = has_graph; journal = []; text = empty_journal; is = (tt, finished) }
@@ -303,7 +306,7 @@ module _ (plan : PlanRows) (stands : PlanText (1 ∷ []) plan) (source : HasStar
 
   -- A call that judged ends with the verdict, and tells it.
   ends_judged : ¬ Complete plan.top.net 9 [] → JudgeEnds held g j 9 Done (Some Legal)
-  ends_judged open = inr (record { told = Legal; only = refl; judged = judged_unfinished open; after = inl refl })
+  ends_judged unfinished = inr (record { told = Legal; only = refl; judged = judged_unfinished unfinished; after = inl refl })
 
   -- A bad line of the journal stops behind the graph.
   bad_journal_behind_a_graph : StopsBeforeVerdict (held_with []) g j (stop.BadJournal 1)
@@ -383,28 +386,25 @@ module _ (arguments : List (List ℕ)) where
 
   graph_too_long_to_judge_by : (bytes : List ℕ) → length bytes ≡ 4194305 → asked_by arguments ≡ Some (judge_of j g 9) → ¬ CanBeJudged (held_with bytes) arguments
   graph_too_long_to_judge_by bytes long asks can =
-      absurd (omega (arith, long, (its_graph (λ name. if bytes_eq name g then Some (1 ∷ []) else (if bytes_eq name j then Some bytes else None)) arguments can j g 9 asks).0))
+      absurd (omega (arith, long, (its_graph (texts_with bytes) arguments can j g 9 asks).0))
 
   journal_too_long_to_judge : (bytes : List ℕ) → length bytes ≡ 67108865 → asked_by arguments ≡ Some (judge_of g j 9) → ¬ CanBeJudged (held_with bytes) arguments
   journal_too_long_to_judge bytes long asks can =
-      absurd (omega (arith, long, (its_trace (λ name. if bytes_eq name g then Some (1 ∷ []) else (if bytes_eq name j then Some bytes else None)) arguments can g j 9 asks).0))
+      absurd (omega (arith, long, (its_trace (texts_with bytes) arguments can g j 9 asks).0))
 
-  module _ (plan : PlanRows) (stands : PlanText (1 ∷ []) plan) (asks : asked_by arguments ≡ Some (judge_of g j 9)) where
-    graph_that_can_not_begin : ¬ HasStart plan → ¬ CanBeJudged held arguments
-    graph_that_can_not_begin none can =
-        let both : ok_plan can.plan ≡ ok_plan plan = sym (its_graph texts arguments can g j 9 asks).1 ∙ stands in
-        let same : can.plan ≡ plan = cc in
-        none (subst HasStart same can.source)
+module _ (arguments : List (List ℕ)) (plan : PlanRows) (stands : PlanText (1 ∷ []) plan) (asks : asked_by arguments ≡ Some (judge_of g j 9)) where
+  graph_that_can_not_begin : ¬ HasStart plan → ¬ CanBeJudged held arguments
+  graph_that_can_not_begin none can =
+      let both : ok_plan can.plan ≡ ok_plan plan = sym (its_graph texts arguments can g j 9 asks).1 ∙ stands in
+      let same : can.plan ≡ plan = cc in
+      none (subst HasStart same can.source)
 
-    journal_that_breaks : IsVerdict plan.top.net 9 started (Breaks 0 NotReleased) → ¬ CanBeJudged (held_with one_start) arguments
-    journal_that_breaks breaks can =
-        let both : ok_plan can.plan ≡ ok_plan plan = sym (its_graph of_start arguments can g j 9 asks).1 ∙ stands in
-        let same : can.plan ≡ plan = cc in
-        let journal : can.journal ≡ started = one_journal can.journal started one_start (its_trace of_start arguments can g j 9 asks).1 one_start_is_text in
-        can.stands 0 NotReleased
-        (subst (λ limit. IsVerdict can.plan.top.net limit can.journal (Breaks 0 NotReleased)) (sym (its_limit of_start arguments can g j 9 asks))
-        (subst (λ entries. IsVerdict can.plan.top.net 9 entries (Breaks 0 NotReleased)) (sym journal)
-        (subst (λ (p : PlanRows). IsVerdict p.top.net 9 started (Breaks 0 NotReleased)) (sym same) breaks)))
-      where
-        abbrev of_start : List ℕ → Option (List ℕ)
-        of_start name = if bytes_eq name g then Some (1 ∷ []) else (if bytes_eq name j then Some one_start else None)
+  journal_that_breaks : IsVerdict plan.top.net 9 started (Breaks 0 NotReleased) → ¬ CanBeJudged (held_with one_start) arguments
+  journal_that_breaks breaks can =
+      let both : ok_plan can.plan ≡ ok_plan plan = sym (its_graph (texts_with one_start) arguments can g j 9 asks).1 ∙ stands in
+      let same : can.plan ≡ plan = cc in
+      let journal : can.journal ≡ started = one_journal can.journal started one_start (its_trace (texts_with one_start) arguments can g j 9 asks).1 one_start_is_text in
+      can.stands 0 NotReleased
+      (subst (λ limit. IsVerdict can.plan.top.net limit can.journal (Breaks 0 NotReleased)) (sym (its_limit (texts_with one_start) arguments can g j 9 asks))
+      (subst (λ entries. IsVerdict can.plan.top.net 9 entries (Breaks 0 NotReleased)) (sym journal)
+      (subst (λ (p : PlanRows). IsVerdict p.top.net 9 started (Breaks 0 NotReleased)) (sym same) breaks)))

@@ -249,14 +249,17 @@ module _ (ptr : Ptr) (alloc : Global)
       answered = refl;
       legal = (
         record {
-          shape = (record {
-            in_range = (omega arith, tt, tt);
-            release = (refl, refl);
-            closing = tt;
-            choice = tt;
-            semaphore = record { within = tt; over = tt };
-            halt_limit_stuck = record { dropped = tt; after_stuck = λ other. refl };
-          }, tt);
+          shape = (
+            record {
+              in_range = (omega arith, tt, tt);
+              release = (refl, refl);
+              closing = tt;
+              choice = tt;
+              semaphore = record { within = tt; over = tt };
+              halt_limit_stuck = record { dropped = tt; after_stuck = λ other. refl };
+            },
+            tt,
+          );
           found = (tt, tt);
           work = (tt, tt);
           nested = (refl, tt);
