@@ -5,10 +5,11 @@ use Rattle.graph_plans.specs.declared.spots.Spot.TheVariants.{File, Sem, Task, M
 use Rattle.graph_file.specs.declared.refusals.Kind.TheVariants as kind
 use Rattle.graph_file.specs.declared.refusals.GraphError.TheVariants as error
 use Rattle.journal_rules.specs.declared.entry.Why.TheVariants.{Long as TooLong, Wide, Unmet, OverRelease}
+use Rattle.legal_run.specs.declared.verdict.Break.TheVariants.{NotReleased}
 use Rattle.nested_runs.specs.declared.reasons.Reason.TheVariants as reason
 use Rattle.call_status.specs.Reasons.{reason_line}
 use Rattle.call_status.specs.declared.status.Status.{Status}
-use Rattle.call_status.specs.declared.status.Status.TheVariants.{Done, BadWords, BadGraph, NoSource, NoText, LongText, ReadFault, WriteFault, Limit, TaskFault, Stuck, NoMemory}
+use Rattle.call_status.specs.declared.status.Status.TheVariants.{Done, BadWords, BadGraph, NoSource, NoText, LongText, ReadFault, WriteFault, Limit, TaskFault, Stuck, NotLegal, BadJournal, NoMemory}
 use Rattle.call_status.specs.Notes.{note_line, spot_text}
 
 -- the line of a status that names no task
@@ -133,3 +134,12 @@ limit_line = refl
 
 stuck_line : reason_line names (reason.Stuck (1 ∷ [])) ≡ codes "!! stuck b\n"
 stuck_line = refl
+
+-- An entry that breaks a rule is told by its place, and a bad line by its number from 1.
+not_legal : line (NotLegal 1200 NotReleased) ≡ codes "flow: not legal at 1200\n"
+unfolding digits
+not_legal = refl
+
+bad_journal_line : line (BadJournal 3) ≡ codes "flow: bad journal line 3\n"
+unfolding digits
+bad_journal_line = refl
