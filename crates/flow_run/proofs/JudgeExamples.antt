@@ -244,6 +244,9 @@ length_of (Some bytes) = length bytes
 no_journal_over_its_limit : (bytes : List ℕ) (journal : List Entry) → length bytes ≡ 67108865 → ¬ HasJournal (held_with bytes) j journal
 no_journal_over_its_limit bytes journal long is = let same : Some bytes ≡ Some is.bytes = is.read.0 in absurd (omega (arith, long, ap length_of same, is.read.1))
 
+journal_of_the_most_bytes : (bytes : List ℕ) (journal : List Entry) → length bytes ≡ 67108864 → IsJournalText journal bytes → HasJournal (held_with bytes) j journal
+journal_of_the_most_bytes bytes journal long stands = record { bytes = bytes; read = (refl, omega (arith, long)); stands = stands }
+
 -- An empty journal has no entry that breaks a rule.
 nothing_breaks : (net : NetRows) (limit place : ℕ) (why : Break) → ¬ IsVerdict net limit [] (Breaks place why)
 nothing_breaks net limit place why is = is.1

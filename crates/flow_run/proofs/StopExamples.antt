@@ -17,6 +17,7 @@ use Rattle.run_frame.specs.Legal.{IsKept}
 use Rattle.run_frame.specs.NestedRule.{job_of}
 use Rattle.nested_runs.specs.Reasons.{run_reason}
 use Rattle.nested_runs.specs.declared.reasons.Reason.TheVariants as reason
+use Rattle.text_ops.specs.Lines.{normal}
 use Rattle.call_status.specs.declared.status.Status.TheVariants.{Done, WriteFault, NoMemory}
 use Rattle.command_line.specs.Requests.{asked_by, run as run_of, judge as judge_of}
 use Rattle.call_status.specs.declared.stop.Stop.{Stop}
@@ -58,6 +59,12 @@ text_over_its_limit bytes long = record { before = []; name = t; after = []; tex
 
 no_text_over_its_limit : (bytes text : List ℕ) → length bytes ≡ 16777216 → ¬ IsTextOf (all_hold bytes) t text
 no_text_over_its_limit bytes text long is = let same : Some bytes ≡ Some is.bytes = is.read.0 in absurd (omega (arith, long, ap known_length same, is.read.1))
+
+text_of_the_most_bytes : (bytes : List ℕ) → length bytes ≡ 16777215 → IsTextOf (all_hold bytes) t (normal bytes)
+text_of_the_most_bytes bytes long = record { bytes = bytes; read = (refl, omega (arith, long)); is = refl }
+
+plan_of_the_most_bytes : (bytes : List ℕ) (plan : PlanRows) → length bytes ≡ 4194304 → PlanText bytes plan → HasStart plan → HasPlan (all_hold bytes) g plan
+plan_of_the_most_bytes bytes plan long stands source = record { bytes = bytes; read = (refl, omega (arith, long)); stands = stands; source = source }
 
 no_plan_over_its_limit : (bytes : List ℕ) (plan : PlanRows) → length bytes ≡ 4194305 → ¬ HasPlan (all_hold bytes) g plan
 no_plan_over_its_limit bytes plan long is = let same : Some bytes ≡ Some is.bytes = is.read.0 in absurd (omega (arith, long, ap known_length same, is.read.1))
