@@ -42,7 +42,7 @@ told_of_a_graph = refl
 after_fine_run : status_after reason.Fine ≡ Done
 after_fine_run = refl
 
-after_cut_runs : (status_after (reason.Limit [] 9) ≡ Limit [] 9) × (status_after (reason.Stuck (3 ∷ [])) ≡ Stuck (3 ∷ [])) × (status_after (reason.Fault (3 ∷ []) (TooLong 9)) ≡ TaskFault (3 ∷ []) (TooLong 9))
+after_cut_runs : (status_after (reason.Limit (3 ∷ []) 9) ≡ Limit (3 ∷ []) 9) × (status_after (reason.Stuck (3 ∷ [])) ≡ Stuck (3 ∷ [])) × (status_after (reason.Fault (3 ∷ []) (TooLong 9)) ≡ TaskFault (3 ∷ []) (TooLong 9))
 after_cut_runs = (refl, refl, refl)
 
 -- The status of a verdict.

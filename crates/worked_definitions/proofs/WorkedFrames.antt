@@ -111,6 +111,14 @@ finders_answer j t (x ∷ found) (InnerJob k) = ⊥
 abbrev finders : Meaning ℕ ℕ
 finders = record sums { answers = finders_answer }
 
+-- gathering may name the job's number as a fault of one kind
+abbrev gathering : (ℕ → Why) → Meaning ℕ ℕ
+gathering kind = record sums { gather_faults = λ j run why. why ≡ kind j }
+
+-- the first task was started
+abbrev first_begun : List Entry
+first_begun = Start 0 Source [] ∷ []
+
 -- the nested task was started, and found the value of the first
 abbrev second_begun : List Entry
 second_begun = Start 0 Source [] ∷ End 0 (0 ∷ []) false ∷ Start 1 Strong (From 1 ∷ []) ∷ []
@@ -139,6 +147,13 @@ module _ (five ten : Arc ℕ Global) (run : FrameRun ℕ ℕ) where
 
   run_of_what_was_found : arc_value five ≡ 7 → job_of run ≡ 3 → ¬ NestedRule sums 2 rows the_run second_begun (Fault 2 Inner)
   run_of_what_was_found seven job is = absurd (omega (arith, seven, job, is.0))
+
+  -- Of a run that is fine a fault is of the kind that gathering it may name.
+  gathered_to_its_kind : job_of run ≡ 2 → IsFine (journal_of run) → NestedRule (gathering Long) 2 rows the_run first_begun (Fault 0 (Long 2)) × NestedRule (gathering Unmet) 2 rows the_run first_begun (Fault 0 (Unmet 2))
+  gathered_to_its_kind job fine = ((job, (fine, cc)), (job, (fine, cc)))
+
+  gathered_to_another_kind : ¬ NestedRule (gathering Wide) 2 rows the_run first_begun (Fault 0 (Long 2)) × ¬ NestedRule (gathering Wide) 2 rows the_run first_begun (Fault 0 (Unmet 2)) × ¬ NestedRule (gathering Long) 2 rows the_run first_begun (Fault 0 (Wide 2))
+  gathered_to_another_kind = (λ is. let same = is.1.1 in absurd (cc), λ is. let same = is.1.1 in absurd (cc), λ is. let same = is.1.1 in absurd (cc))
 
   -- A fault of each kind is one that the task may name on what it found.
   fault_of_what_was_found : arc_value five ≡ 7 → WorkRule sums 2 rows no_run second_begun (Fault 2 (Long 10)) × WorkRule sums 2 rows no_run second_begun (Fault 2 (Wide 10)) × WorkRule sums 2 rows no_run second_begun (Fault 2 (Unmet 10))
