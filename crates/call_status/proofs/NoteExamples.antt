@@ -117,6 +117,17 @@ limit_inside : note_line names (Limit (1 ∷ []) 10) ≡ codes "flow: limit 10 i
 unfolding digits
 limit_inside = refl
 
+limit_two_runs_inside : note_line names (Limit (1 ∷ 0 ∷ []) 10) ≡ codes "flow: limit 10 in b/a\n"
+unfolding digits
+limit_two_runs_inside = refl
+
+fault_two_runs_inside : note_line names (TaskFault (1 ∷ 0 ∷ 1 ∷ []) (TooLong 9)) ≡ codes "flow: fault b/a/b: long 9\n"
+unfolding digits
+fault_two_runs_inside = refl
+
+stuck_inside : note_line names (Stuck (1 ∷ 0 ∷ [])) ≡ codes "flow: stuck b/a\n"
+stuck_inside = refl
+
 stuck : note_line names (Stuck (1 ∷ [])) ≡ codes "flow: stuck b\n"
 stuck = refl
 

@@ -5,7 +5,7 @@ use Rattle.command_line.specs.declared.request.Request.TheVariants.{Run, Judge, 
 use Rattle.command_line.specs.Asked.{asked}
 use Rattle.clap.proofs.OnLiterals.{clap_on_literals}
 use Rattle.command_line.specs.Numbers.{number_of}
-use Rattle.command_line.specs.Requests.{run, judge, check, asked_by, limit_asked}
+use Rattle.command_line.specs.Requests.{run, judge, check, asked_by, limit_asked, limit_by}
 
 -- Numbers have 1 to 7 digits and nothing else, and are in their range.
 least : number_of 1 1000000 (codes "1") ≡ Some 1
@@ -133,6 +133,10 @@ flag_of_another_command = refl
 judged_within_nothing : asked_by (codes "judge" ∷ codes "g" ∷ codes "j" ∷ codes "--limit" ∷ codes "0" ∷ []) ≡ None
 unfolding clap_on_literals
 judged_within_nothing = refl
+
+-- The greatest limit that may be asked for, and one more.
+greatest_limit : (limit_by (Some (codes "1000000")) ≡ Some 1000000) × (limit_by (Some (codes "1000001")) ≡ None)
+greatest_limit = (refl, refl)
 
 -- A check of a graph, which has a file and nothing else.
 checked : asked_by (codes "check" ∷ codes "g" ∷ []) ≡ Some (check (codes "g"))

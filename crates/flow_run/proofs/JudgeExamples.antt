@@ -203,6 +203,13 @@ nothing_asked_for = refl
 output_of_a_judgement : (arguments : List (List ℕ)) → output_of arguments [] (Some (conclusion.Verdict Legal)) ≡ codes "legal\n"
 output_of_a_judgement arguments = refl
 
+-- of a run its journal, where that is asked for, and its report else; before what is concluded
+output_with_the_journal : (arguments : List (List ℕ)) (run : Run) → asked_by arguments ≡ Some (run_of g 9 true) → output_of arguments (run ∷ []) (Some (conclusion.Verdict Legal)) ≡ run_texts true (run ∷ []) ++ codes "legal\n"
+output_with_the_journal arguments run asks = ap (λ asked. run_texts (wants_journal asked) (run ∷ []) ++ codes "legal\n") asks
+
+output_with_the_report : (arguments : List (List ℕ)) (run : Run) → asked_by arguments ≡ Some (run_of g 9 false) → output_of arguments (run ∷ []) None ≡ run_texts false (run ∷ []) ++ []
+output_with_the_report arguments run asks = ap (λ asked. run_texts (wants_journal asked) (run ∷ []) ++ []) asks
+
 output_of_nothing : (arguments : List (List ℕ)) → output_of arguments [] None ≡ []
 output_of_nothing arguments = refl
 
