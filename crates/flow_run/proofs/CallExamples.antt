@@ -11,6 +11,7 @@ use Rattle.graph_plans.specs.declared.spots.Spot.TheVariants.{File}
 use Rattle.graph_plans.specs.PlanRows.{PlanRows}
 use Rattle.graph_file.specs.PlanText.{PlanText, IsRefused}
 use Rattle.text_tasks.specs.GraphWork.{GraphWork}
+use Rattle.call_status.specs.declared.status.Status.{Status}
 use Rattle.call_status.specs.declared.status.Status.TheVariants.{Done, BadWords, NoText, ReadFault, WriteFault, TaskFault, NoMemory}
 use Rattle.call_status.specs.declared.stop.Stop.{Stop}
 use Rattle.call_status.specs.declared.stop.Stop.TheVariants as stop
@@ -274,6 +275,22 @@ asked_to_check arguments asks (inr (inr (inr (inr (same, none, nothing))))) = ab
 
 refused : (arguments : List (List ℕ)) → asked_by arguments ≡ None → CallEnds held arguments BadWords [] None
 refused arguments none = inr (inr (inr (inl (refl, refl, refl, none))))
+
+-- It keeps no run and comes to no conclusion, also where memory runs out.
+module _ (arguments : List (List ℕ)) (nothing : asked_by arguments ≡ None) where
+  run_of_nothing : (told : Status) (run : Run) → ¬ CallEnds held arguments told (run ∷ []) None
+  run_of_nothing told run (inl (file, limit, journal, asks_file, ends, none)) = let never : None ≡ Some (run_of file limit journal) = sym nothing ∙ asks_file in absurd (cc)
+  run_of_nothing told run (inr (inl (file, name, limit, asks_judge, ends, none))) = let never : None ≡ Some (judge_of file name limit) = sym nothing ∙ asks_judge in absurd (cc)
+  run_of_nothing told run (inr (inr (inl (file, asks_check, ends, none)))) = let never : None ≡ Some (check_of file) = sym nothing ∙ asks_check in absurd (cc)
+  run_of_nothing told run (inr (inr (inr (inl (same, none, untold, refused))))) = absurd (omega (arith, ap length none))
+  run_of_nothing told run (inr (inr (inr (inr (same, none, untold))))) = absurd (omega (arith, ap length none))
+
+  conclusion_of_nothing : (told : Status) → ¬ CallEnds held arguments told [] (Some (conclusion.Verdict Finished))
+  conclusion_of_nothing told (inl (file, limit, journal, asks_file, ends, none)) = let never : None ≡ Some (run_of file limit journal) = sym nothing ∙ asks_file in absurd (cc)
+  conclusion_of_nothing told (inr (inl (file, name, limit, asks_judge, ends, none))) = let never : None ≡ Some (judge_of file name limit) = sym nothing ∙ asks_judge in absurd (cc)
+  conclusion_of_nothing told (inr (inr (inl (file, asks_check, ends, none)))) = let never : None ≡ Some (check_of file) = sym nothing ∙ asks_check in absurd (cc)
+  conclusion_of_nothing told (inr (inr (inr (inl (same, none, untold, refused))))) = absurd (cc)
+  conclusion_of_nothing told (inr (inr (inr (inr (same, none, untold))))) = absurd (cc)
 
 -- A run has no conclusion, and a judgement and a check keep no run.
 module _ (arguments : List (List ℕ)) where

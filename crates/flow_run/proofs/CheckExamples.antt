@@ -124,6 +124,16 @@ file_there : ¬ StopsBeforeFindings held g (stop.NoText g)
 file_there (inl (same, none)) = absurd (none-some (1 ∷ []) (sym none))
 file_there (inr at) = at.stops
 
+refused_file : IsRefused (1 ∷ []) NotJson → StopsBeforeFindings held g (stop.BadGraph NotJson)
+refused_file refused = inr (record { bytes = 1 ∷ []; read = (refl, omega arith); stops = refused })
+
+file_of_a_plan_is_not_refused : (plan : PlanRows) → PlanText (1 ∷ []) plan → ¬ StopsBeforeFindings held g (stop.BadGraph NotJson)
+file_of_a_plan_is_not_refused plan stands (inl at) = at
+file_of_a_plan_is_not_refused plan stands (inr at) =
+    let read : Some (1 ∷ []) ≡ Some at.bytes = at.read.0 in
+    let bytes : 1 ∷ [] ≡ at.bytes = cc in
+    plan_is_not_refused (1 ∷ []) plan stands (subst (λ b. IsRefused b NotJson) (sym bytes) at.stops)
+
 no_source_stops_no_check_of_a_file : ¬ StopsBeforeFindings held g (stop.NoSource File)
 no_source_stops_no_check_of_a_file (inl at) = at
 no_source_stops_no_check_of_a_file (inr at) = at.stops
@@ -196,6 +206,9 @@ module _ (bytes : List ℕ) (long : length bytes ≡ 4194305) where
 
   long_file_is_not_read : ¬ StopsAtFile too_long g stop.NoMemory
   long_file_is_not_read at = let same : Some bytes ≡ Some at.bytes = at.read.0 in absurd (omega (arith, long, ap known_length same, at.read.1))
+
+  long_file_is_not_checked : (findings : GraphFindings) → ¬ IsChecked too_long g findings
+  long_file_is_not_checked findings is = let same : Some bytes ≡ Some is.bytes = is.read.0 in absurd (omega (arith, long, ap known_length same, is.read.1))
 
   long_file_is_not_at_hand : (arguments : List (List ℕ)) → ¬ CanBeChecked too_long arguments
   long_file_is_not_at_hand arguments can =
