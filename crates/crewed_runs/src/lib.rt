@@ -1,7 +1,7 @@
-//! Runs of jobs of numbers by crews. They are no part of a program: they serve the tests of crews, which stand here, and
-//! measurements.
+//! Runs of jobs of numbers by several workers. There is nothing here but tests.
 #![tactic(auto)]
 
-mod entrance;
-
-pub use entrance::NumberEntrance;
+#[cfg(test)]
+mod gates;
+#[cfg(test)]
+mod runs;

@@ -1,3 +1,0 @@
-pub mod ZipLemmas
-pub mod EnteredLemmas
-pub mod WatcherLemmas
