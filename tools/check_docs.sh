@@ -75,9 +75,9 @@ while read -r number; do
 done < <(sed -n '/^| Limit/,/^$/p' README.md | grep -oE '[0-9]{1,3}(,[0-9]{3})+' | sort -u)
 
 # It is where exit codes stand, with the numbers of the definition. README.md has no other number.
-codes=$(sed -nE 's/^code_of .* = ([0-9]+)$/\1/p' crates/flow_run/specs/Codes.antt | sort -nu)
+codes=$(sed -nE 's/^code_of .* = ([0-9]+)$/\1/p' crates/call_status/specs/Codes.antt | sort -nu)
 listed=$(sed -n '/^## Exit codes/,/^They are tried/p' docs/FORMATS.md | sed -nE 's/^\| [A-Z][A-Za-z]* \| ([0-9]+) \|.*/\1/p' | sort -nu)
-[[ $listed == "$codes" ]] || fault "docs/FORMATS.md has other exit codes than crates/flow_run/specs/Codes.antt"
+[[ $listed == "$codes" ]] || fault "docs/FORMATS.md has other exit codes than crates/call_status/specs/Codes.antt"
 while read -r code; do
     grep -qx -- "$code" <<<"$codes" || fault "README.md tells of the exit code $code, which there isn't"
 done < <(grep -oE 'the exit code tells the kind:[^.]*' README.md | grep -oE '[0-9]+' | sort -nu)

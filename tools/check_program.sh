@@ -51,6 +51,10 @@ for folder in examples/*/; do
     code=0
     if [[ -f $folder/expected.code ]]; then code=$(cat "$folder/expected.code"); fi
     compare "$folder" "$code" "$seen/wanted_out" "$seen/wanted_notes"
+    if [[ -f $folder/findings.txt ]]; then
+        (cd "$folder" && call check graph.json)
+        compare "the check of $folder" 0 "$folder/findings.txt" /dev/null
+    fi
 done
 
 # A call that is to put nothing on its output, and this line on its notes.
@@ -75,6 +79,9 @@ refused 2 'flow: bad words' run "$count" --limit 1x
 refused 2 'flow: bad words' run "$count" --limit 1 --limit 1
 refused 2 'flow: bad words' run "$count" --workers 4
 refused 2 'flow: bad words' run "$count" --help
+refused 2 'flow: bad words' check
+refused 2 'flow: bad words' check "$count" "$count"
+refused 2 'flow: bad words' check "$count" --limit 3
 refused 5 'flow: no text nowhere.json' run nowhere.json
 refused 5 'flow: no text t.txt' run "$count"
 refused 6 'flow: read fault on examples' run examples
@@ -160,6 +167,45 @@ on_full_device whole.txt 7 'flow: write fault'
 on_full_device exchanged.txt 11 'flow: not legal at 1'
 cd "$top"
 
+# The check of a graph: its findings, with code 0 also where there are some. It reads no text that the graph names.
+mkdir "$seen/checks"
+cd "$seen/checks"
+checks() {
+    local what=$1 tasks=$2 out=$3
+    echo "{\"tasks\":[$tasks]}" >graph.json
+    printf -- "$out" >"$seen/wanted_out"
+    call check graph.json
+    compare "the check of $what" 0 "$seen/wanted_out" /dev/null
+}
+task() {
+    local name=$1 op=$2 fields=${3:-}
+    echo "{\"name\":\"$name\",\"op\":\"$op\"${fields:+,$fields}}"
+}
+read_to() {
+    task "$1" read "\"text\":\"t.txt\",\"to\":[$2]"
+}
+checks 'no task' '' 'findings 0\n'
+checks 'a row' "$(read_to a '"b"'),$(task b count)" 'findings 0\n'
+checks 'a circle' "$(task a pass '"to":["b"]'),$(task b pass '"to":["a"]')" \
+    'no source\nstrong cycle a\nstrong cycle b\nnever reached a\nnever reached b\nfindings 5\n'
+refused 4 'flow: no source' run graph.json
+checks 'a circle beside a source' "$(task c pass '"to":["c","d"]'),$(task d pass),$(read_to a '')" \
+    'strong cycle c\nnever reached c\nnever reached d\nfindings 3\n'
+checks 'a loop that skips' \
+    "$(read_to init '"body"'),$(task body skip '"n":1,"to":["c"]'),$(task c ifmore '"n":2,"to":["body","done"]'),$(task 'done' pass)" \
+    'mixed body\nfindings 1\n'
+checks 'a loop that comes back' \
+    "$(read_to a '"c"'),$(task c ifmore '"n":2,"to":["body","done"]'),$(task body skip '"n":1,"to":["back"]'),$(task back back '"to":["c"]'),$(task 'done' pass)" \
+    'mixed c\nfindings 1\n'
+checks 'two conditions that meet' \
+    "$(task x ifhas '"word":"x","to":["z","z"]'),$(task y back '"to":["z"]'),$(task z pass)" 'many conditions z\nfindings 1\n'
+refused 3 'flow: bad graph: not JSON' check "$top/examples/count-lines/t.txt"
+refused 3 'flow: bad graph: bad field op in task 0' check "$top/examples/unknown-operation/graph.json"
+refused 5 'flow: no text nowhere.json' check nowhere.json
+mkdir folder
+refused 6 'flow: read fault on folder' check folder
+cd "$top"
+
 # Small graphs over the text t.txt, as lists of tasks: the code and what is printed, with `\n` for a line end.
 mkdir "$seen/graphs"
 cd "$seen/graphs"
@@ -172,13 +218,6 @@ prints() {
     printf -- "$notes" >"$seen/wanted_notes"
     call run graph.json "$@"
     compare "$what" "$code" "$seen/wanted_out" "$seen/wanted_notes"
-}
-task() {
-    local name=$1 op=$2 fields=${3:-}
-    echo "{\"name\":\"$name\",\"op\":\"$op\"${fields:+,$fields}}"
-}
-read_to() {
-    task "$1" read "\"text\":\"t.txt\",\"to\":[$2]"
 }
 five='1\n2\n3\n4\n5\n'
 prints 'two lines of work that meet' 'x\ny\n' \
@@ -222,8 +261,10 @@ reading() {
     echo '{"tasks":[{"name":"a","op":"read","text":"'"$1"'"}]}' >graph.json
 }
 refused 5 'flow: text too long brackets.json' run brackets.json
+refused 5 'flow: text too long brackets.json' check brackets.json
 truncate -s 4194304 brackets.json
 refused 3 'flow: bad graph: not JSON' run brackets.json
+refused 3 'flow: bad graph: not JSON' check brackets.json
 reading long.txt
 refused 5 'flow: text too long long.txt' run graph.json
 reading folder
@@ -248,7 +289,8 @@ refused 13 'flow: no memory' run graph.json
 memory=unlimited
 cd "$top"
 
-# A call whose output took no more than these first bytes of its report.
+# A call of this command whose output took no more than these first bytes of what it is to print.
+command=run
 report=/dev/null
 cut_short() {
     local what=$1 size=$2
@@ -263,7 +305,7 @@ put_on() {
     (
         trap '' XFSZ
         ulimit -f "${2:-unlimited}"
-        exec "$program" run graph.json >"$1" 2>"$seen/notes"
+        exec "$program" "$command" graph.json >"$1" 2>"$seen/notes"
     ) || code=$?
     echo "$code" >"$seen/code"
 }
@@ -273,7 +315,7 @@ pipe_of() {
     (
         if (($1 == 0)); then sleep 0.3; fi
         code=0
-        "$program" run graph.json 2>"$seen/notes" || code=$?
+        "$program" "$command" graph.json 2>"$seen/notes" || code=$?
         echo "$code" >"$seen/code"
     ) | head -c "$1" >"$seen/out"
 }
@@ -281,21 +323,28 @@ pipe_of() {
 # The same with a closed output.
 put_nowhere() {
     local code=0
-    "$program" run graph.json >&- 2>"$seen/notes" || code=$?
+    "$program" "$command" graph.json >&- 2>"$seen/notes" || code=$?
     : >"$seen/out"
     echo "$code" >"$seen/code"
 }
 
-# A report that fits into one write.
+# A report and findings that fit into one write.
+fits_into_one_write() {
+    report=$1
+    put_on /dev/full
+    : >"$seen/out"
+    cut_short "$command on a full device" 0
+    put_nowhere
+    cut_short "$command on a closed output" 0
+    pipe_of 0
+    cut_short "$command on a pipe whose reader has gone" 0
+}
 cd "$top/examples/count-lines"
-report=expected.txt
-put_on /dev/full
-: >"$seen/out"
-cut_short 'a full device' 0
-put_nowhere
-cut_short 'a closed output' 0
-pipe_of 0
-cut_short 'a pipe whose reader has gone' 0
+fits_into_one_write expected.txt
+cd "$top/examples/ticket-review"
+command=check
+fits_into_one_write findings.txt
+command=run
 
 # A report of 200 KiB, in four writes: 20 KiB, 80 KiB, a line, and 100 KiB.
 mkdir "$seen/report"

@@ -1,6 +1,7 @@
 // A job whose tasks only take time.
 ghost use Rattle.std.specs.Prelude.{◌≡◌, IfSome, slice_get};
 ghost use Rattle.task_graph.specs.declared.net.TaskRow.{TaskRow};
+ghost use Rattle.run_frame.specs.FlatNets.{IsFlatNet};
 ghost use Rattle.run_frame.specs.Meaning.{FitsShape};
 
 use join_words::Ins;
@@ -15,6 +16,7 @@ use task_graph::{Net, Shape};
 pub struct BusyJob {
     pub numbers: NumberJob,
     pub turns: u64,
+    ghost flat: { IsFlatNet numbers.net },
 }
 
 /// A number that comes of so many turns of a loop.

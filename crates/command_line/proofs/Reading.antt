@@ -1,5 +1,5 @@
 -- What a command finds among the arguments, by what `clap` answers.
-use Rattle.std.proofs.Common.{ap, subst, sym, ◌≡◌, ◌∙◌, Bool, true, refl, Some, None, List, ℕ, [], ◌∷◌, ◌⊎◌, inl, inr}
+use Rattle.std.proofs.Common.{subst, sym, ◌≡◌, true, refl, Some, None, List, ℕ, [], ◌∷◌, ◌⊎◌, inl, inr}
 use Rattle.clap.specs.declared.error.Error.{Error}
 use Rattle.clap.specs.declared.error.kind.ErrorKind.TheVariants.{OutOfMemory}
 use Rattle.clap.specs.Walk.{Row}

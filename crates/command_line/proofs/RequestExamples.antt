@@ -1,11 +1,11 @@
 -- Command lines and what they ask for, computed.
 use Rattle.std.proofs.Common.{◌≡◌, refl, codes, Some, None, [], ◌∷◌, List, ℕ, true, false}
 use Rattle.std.specs.Borrow.{Bor}
-use Rattle.command_line.specs.declared.request.Request.TheVariants.{Run, Judge}
+use Rattle.command_line.specs.declared.request.Request.TheVariants.{Run, Judge, Check}
 use Rattle.command_line.specs.Asked.{asked}
 use Rattle.clap.proofs.OnLiterals.{clap_on_literals}
 use Rattle.command_line.specs.Numbers.{number_of}
-use Rattle.command_line.specs.Requests.{run, judge, asked_by, limit_asked}
+use Rattle.command_line.specs.Requests.{run, judge, check, asked_by, limit_asked, limit_by}
 
 -- Numbers have 1 to 7 digits and nothing else, and are in their range.
 least : number_of 1 1000000 (codes "1") ≡ Some 1
@@ -134,12 +134,47 @@ judged_within_nothing : asked_by (codes "judge" ∷ codes "g" ∷ codes "j" ∷ 
 unfolding clap_on_literals
 judged_within_nothing = refl
 
--- Either may have so many starts.
-starts_of_a_run : limit_asked (run (codes "g") 5 false) ≡ 5
+-- The greatest limit that may be asked for, and one more.
+greatest_limit : (limit_by (Some (codes "1000000")) ≡ Some 1000000) × (limit_by (Some (codes "1000001")) ≡ None)
+greatest_limit = (refl, refl)
+
+-- A check of a graph, which has a file and nothing else.
+checked : asked_by (codes "check" ∷ codes "g" ∷ []) ≡ Some (check (codes "g"))
+unfolding clap_on_literals
+checked = refl
+
+checked_behind_two_hyphens : asked_by (codes "check" ∷ codes "--" ∷ codes "-g" ∷ []) ≡ Some (check (codes "-g"))
+unfolding clap_on_literals
+checked_behind_two_hyphens = refl
+
+nothing_to_check : asked_by (codes "check" ∷ []) ≡ None
+unfolding clap_on_literals
+nothing_to_check = refl
+
+two_files_to_check : asked_by (codes "check" ∷ codes "g" ∷ codes "h" ∷ []) ≡ None
+unfolding clap_on_literals
+two_files_to_check = refl
+
+limit_of_a_check : asked_by (codes "check" ∷ codes "g" ∷ codes "--limit" ∷ codes "3" ∷ []) ≡ None
+unfolding clap_on_literals
+limit_of_a_check = refl
+
+help_on_a_check : asked_by (codes "check" ∷ codes "g" ∷ codes "--help" ∷ []) ≡ None
+unfolding clap_on_literals
+help_on_a_check = refl
+
+another_spelling : asked_by (codes "Check" ∷ codes "g" ∷ []) ≡ None
+another_spelling = refl
+
+-- A run and a journal that is judged may have so many starts.
+starts_of_a_run : limit_asked (run (codes "g") 5 false) ≡ Some 5
 starts_of_a_run = refl
 
-starts_of_a_judgement : limit_asked (judge (codes "g") (codes "j") 6) ≡ 6
+starts_of_a_judgement : limit_asked (judge (codes "g") (codes "j") 6) ≡ Some 6
 starts_of_a_judgement = refl
+
+no_starts_of_a_check : limit_asked (check (codes "g")) ≡ None
+no_starts_of_a_check = refl
 
 -- What requests of the source ask for.
 module _ (file journal : Bor (List ℕ)) where
@@ -148,3 +183,6 @@ module _ (file journal : Bor (List ℕ)) where
 
   asks_for_a_judgement : asked (Judge (record { file = file; journal = journal; limit = 6 })) ≡ judge file.now journal.now 6
   asks_for_a_judgement = refl
+
+  asks_for_a_check : asked (Check (record { file = file })) ≡ check file.now
+  asks_for_a_check = refl

@@ -1,5 +1,5 @@
 -- What a command line asks for.
-use Rattle.std.specs.Prelude.{ℕ, ◌≤◌, Bool, true, false, List, [], ◌∷◌, Option, Some, None, option_and_then, option_map, if◌then◌else◌, codes}
+use Rattle.std.specs.Prelude.{ℕ, Bool, true, false, List, [], ◌∷◌, Option, Some, None, option_and_then, option_map, if◌then◌else◌, codes}
 use Rattle.std.specs.Option.{option_map_or}
 use Rattle.std.specs.Str.{bytes_eq}
 use Rattle.clap.specs.Walk.{Row, Rule}
@@ -16,15 +16,18 @@ abbrev pub start_limit : ℕ
 start_limit = 100000
 
 -- What is asked for: to run the graph in a file, with at most so many starts, and to write its journal in place of its
--- report or not; or to judge the journal in another file, which may have so many starts.
+-- report or not; to judge the journal in another file, which may have so many starts; or to find how the graph in a
+-- file can go wrong.
 pub data Asked : Type 0 where
   run : List ℕ → ℕ → Bool → Asked
   judge : List ℕ → List ℕ → ℕ → Asked
+  check : List ℕ → Asked
 
--- how many starts there may be
-abbrev pub limit_asked : Asked → ℕ
-limit_asked (run file limit journal) = limit
-limit_asked (judge file journal limit) = limit
+-- how many starts there may be, where starts are counted
+abbrev pub limit_asked : Asked → Option ℕ
+limit_asked (run file limit journal) = Some limit
+limit_asked (judge file journal limit) = Some limit
+limit_asked (check file) = None
 
 -- a command of this name that reads no name of a program, and of itself has no flag
 abbrev pub command_named : List ℕ → App
@@ -48,6 +51,10 @@ run_app = with_rule (with_rule (with_rule (command_named (codes "run")) (require
 -- `judge FILE JOURNAL [--limit N]`
 abbrev pub judge_app : App
 judge_app = with_rule (with_rule (with_rule (command_named (codes "judge")) (required (codes "file"))) (required (codes "journal"))) (option (codes "limit"))
+
+-- `check FILE`
+abbrev pub check_app : App
+check_app = with_rule (command_named (codes "check")) (required (codes "file"))
 
 -- what a command finds among the arguments, where it finds no fault with them
 abbrev pub rows_without : Kinds → List Row → Option (List Row)
@@ -75,8 +82,13 @@ abbrev pub judge_in : List Row → Option Asked
 judge_in rows =
     option_and_then (λ file. option_and_then (λ journal. option_map (judge file journal) (limit_by (first_of (codes "limit") rows))) (first_of (codes "journal") rows)) (first_of (codes "file") rows)
 
+-- the check that is asked for
+abbrev pub check_in : List Row → Option Asked
+check_in rows = option_map check (first_of (codes "file") rows)
+
 -- What a command line asks for: its first argument names the command that reads the others.
 abbrev pub asked_by : List (List ℕ) → Option Asked
 asked_by [] = None
 asked_by (command ∷ arguments) = if bytes_eq command (codes "run") then option_and_then run_in (rows_in run_app arguments)
-    else (if bytes_eq command (codes "judge") then option_and_then judge_in (rows_in judge_app arguments) else None)
+    else (if bytes_eq command (codes "judge") then option_and_then judge_in (rows_in judge_app arguments)
+    else (if bytes_eq command (codes "check") then option_and_then check_in (rows_in check_app arguments) else None))

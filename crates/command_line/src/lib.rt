@@ -2,16 +2,18 @@
 //!
 //! The first argument names a command of `flow`, and `clap` reads those after it, by one simple command for each of
 //! `flow`'s. The layer above sees what is asked for as plain data; which command lines ask for it stands in
-//! `specs/Requests.antt`: `run_app` and `judge_app` are the commands that `clap` reads by, and `run_in` and
-//! `judge_in` what their matches come to.
+//! `specs/Requests.antt`: `run_app`, `judge_app` and `check_app` are the commands that `clap` reads by, and `run_in`,
+//! `judge_in` and `check_in` what their matches come to.
 #![tactic(auto)]
 
+mod check;
 mod judge;
 mod matches;
 mod numbers;
 mod request;
 mod run;
 
+pub use check::Check;
 pub use judge::Judge;
 pub use numbers::{LIMIT, START_LIMIT};
 pub use request::{ArgumentsError, Request, read_arguments};

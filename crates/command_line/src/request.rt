@@ -1,9 +1,10 @@
 // Requests.
-ghost use Rattle.std.specs.Prelude.{◌≡◌, ◌≤◌, map, IfOk, IfErr, Some, None};
+ghost use Rattle.std.specs.Prelude.{◌≡◌, ◌≤◌, map, IfOk, IfErr, IfSome, Some, None};
 ghost use Rattle.std.specs.String.{string_bytes};
 ghost use Rattle.command_line.specs.Requests.{asked_by, greatest_limit_option, limit_asked};
 ghost use Rattle.command_line.specs.Asked.{asked};
 
+use super::check::{Check, read_check};
 use super::judge::{Judge, read_judge};
 use super::run::{Run, read_run};
 use std::alloc::{AllocError, Global};
@@ -28,6 +29,7 @@ impl From<AllocError> for ArgumentsError {
 pub enum Request<'w> {
     Run(Run<'w>),
     Judge(Judge<'w>),
+    Check(Check<'w>),
 }
 
 /// What the arguments after the program's own name ask for. `Refused` comes exactly where they ask for nothing
@@ -37,7 +39,7 @@ pub fn read_arguments<'w>(
     arguments: &'w [String],
 ) -> Result<Request<'w>, ArgumentsError>
     ensures ok { IfOk result (λ request. asked_by (map string_bytes arguments.entry.now) ≡ Some (asked request)) }
-    ensures limit { IfOk result (λ request. limit_asked (asked request) ≤ greatest_limit_option) }
+    ensures limit { IfOk result (λ request. IfSome (limit_asked (asked request)) (λ limit. limit ≤ greatest_limit_option)) }
     ensures refused { IfErr result (λ error. error ≡ ArgumentsError.Refused → asked_by (map string_bytes arguments.entry.now) ≡ None) }
 {
     let Some((command, rest)) = arguments.split_first() else {
@@ -46,6 +48,7 @@ pub fn read_arguments<'w>(
     match command.as_str() {
         "run" => Ok(Request::Run(read_run(alloc, rest)?)),
         "judge" => Ok(Request::Judge(read_judge(alloc, rest)?)),
+        "check" => Ok(Request::Check(read_check(alloc, rest)?)),
         _ => Err(ArgumentsError::Refused),
     }
 }

@@ -1,7 +1,8 @@
 //! The program `flow`: the real texts, streams and watchers for `flow_run`, and its exit code.
 #![tactic(auto)]
 
-use flow_run::{Status, flow_main, put_note};
+use call_status::{Status, put_note};
+use flow_run::flow_main;
 use outside_io::{FolderTexts, NoMemory, StdSink};
 use span_profile::{SpanCount, Watch};
 use std::env;

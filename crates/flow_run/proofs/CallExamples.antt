@@ -11,18 +11,19 @@ use Rattle.graph_plans.specs.declared.spots.Spot.TheVariants.{File}
 use Rattle.graph_plans.specs.PlanRows.{PlanRows}
 use Rattle.graph_file.specs.PlanText.{PlanText, IsRefused}
 use Rattle.text_tasks.specs.GraphWork.{GraphWork}
-use Rattle.flow_run.specs.declared.status.Status.TheVariants.{Done, BadWords, BadGraph, NoSource, NoText, LongText, ReadFault, WriteFault, Limit, TaskFault, Stuck, NotLegal, BadJournal, NoMemory}
-use Rattle.flow_run.specs.declared.stop.Stop.{Stop}
-use Rattle.flow_run.specs.declared.stop.Stop.TheVariants as stop
-use Rattle.command_line.specs.Requests.{asked_by, run as run_of, judge as judge_of}
+use Rattle.call_status.specs.declared.status.Status.{Status}
+use Rattle.call_status.specs.declared.status.Status.TheVariants.{Done, BadWords, NoText, ReadFault, WriteFault, TaskFault, NoMemory}
+use Rattle.call_status.specs.declared.stop.Stop.{Stop}
+use Rattle.call_status.specs.declared.stop.Stop.TheVariants as stop
+use Rattle.command_line.specs.Requests.{asked_by, run as run_of, judge as judge_of, check as check_of}
 use Rattle.legal_run.specs.declared.verdict.Verdict.TheVariants.{Complete as Finished}
-use Rattle.legal_run.specs.declared.verdict.Break.TheVariants.{NotOpen}
+use Rattle.flow_run.specs.declared.conclusion.Conclusion.TheVariants as conclusion
+use Rattle.flow_run.specs.declared.conclusion.GraphFindings.{GraphFindings}
 use Rattle.journal_rules.specs.declared.entry.Why.TheVariants.{Long as TooLong}
 use Rattle.nested_runs.specs.declared.reasons.Reason.TheVariants as reason
 use Rattle.flow_run.specs.Requests.{Held, IsHeld, StopsAtName, IsTextOf, TextsAre, StopsAtText, HasStart, StopsAtBytes, HasPlan, IsRequested, file_limit, text_limit}
-use Rattle.flow_run.specs.Answers.{Run, status_after, IsAfterRun, RunEnds, CallEnds, Reported, IsReadFault, HaveRead}
-use Rattle.flow_run.specs.Stopping.{status_of}
-use Rattle.flow_run.specs.Codes.{code_of}
+use Rattle.flow_run.specs.Answers.{Run, IsAfterRun, RunEnds, CallEnds, Reported, IsReadFault, HaveRead}
+use Rattle.call_status.specs.Statuses.{status_of}
 
 abbrev g : List ℕ
 g = 0 ∷ []
@@ -199,9 +200,6 @@ after_run = (inl refl, inr (inl (refl, refl)), inr (inr refl))
 after_a_fault : IsAfterRun (reason.Fault (3 ∷ []) (TooLong 9)) (TaskFault (3 ∷ []) (TooLong 9)) × IsAfterRun (reason.Fault (3 ∷ []) (TooLong 9)) NoMemory
 after_a_fault = (inl refl, inr (inr refl))
 
-after_cut_runs : (status_after (reason.Limit [] 9) ≡ Limit [] 9) × (status_after (reason.Stuck (3 ∷ [])) ≡ Stuck (3 ∷ []))
-after_cut_runs = (refl, refl)
-
 fault_called_done : ¬ IsAfterRun (reason.Fault (3 ∷ []) (TooLong 9)) Done
 fault_called_done (inl same) = absurd (cc)
 fault_called_done (inr (inl (fine, same))) = absurd (cc)
@@ -221,9 +219,6 @@ not_after_run : ¬ IsAfterRun reason.Fine BadWords
 not_after_run (inl same) = absurd (cc)
 not_after_run (inr (inl (fine, same))) = absurd (cc)
 not_after_run (inr (inr same)) = absurd (cc)
-
-told : (status_of (stop.NoText t) ≡ NoText t) × (status_of (stop.LongText t) ≡ LongText t) × (status_of (stop.ReadFault t) ≡ ReadFault t) × (status_of (stop.NoSource File) ≡ NoSource File) × (status_of (stop.BadJournal 2) ≡ BadJournal 2) × (status_of stop.NoMemory ≡ NoMemory)
-told = (refl, refl, refl, refl, refl, refl)
 
 -- A call that stopped before a run isn't done, and keeps none.
 never_done_before : (why : Stop) → ¬ (Done ≡ status_of why)
@@ -258,32 +253,67 @@ asked : (arguments : List (List ℕ)) → asked_by arguments ≡ Some (run_of g 
 asked arguments asks (inl (file, limit, journal, asks_file, inl stopped, none)) = never_bad stopped.why stopped.told
 asked arguments asks (inl (file, limit, journal, asks_file, inr ran, none)) = let only : [] ≡ ran.run ∷ [] = ran.only in absurd (cc)
 asked arguments asks (inr (inl (file, name, limit, asks_judge, ends, none))) = let never : Some (run_of g 77 false) ≡ Some (judge_of file name limit) = sym asks ∙ asks_judge in absurd (cc)
-asked arguments asks (inr (inr (inl (same, none, nothing, refused)))) = let never : Some (run_of g 77 false) ≡ None = sym asks ∙ refused in absurd (cc)
-asked arguments asks (inr (inr (inr (same, none, nothing)))) = absurd (cc)
+asked arguments asks (inr (inr (inl (file, asks_check, ends, none)))) = let never : Some (run_of g 77 false) ≡ Some (check_of file) = sym asks ∙ asks_check in absurd (cc)
+asked arguments asks (inr (inr (inr (inl (same, none, nothing, refused))))) = let never : Some (run_of g 77 false) ≡ None = sym asks ∙ refused in absurd (cc)
+asked arguments asks (inr (inr (inr (inr (same, none, nothing))))) = absurd (cc)
 
 asked_to_judge : (arguments : List (List ℕ)) → asked_by arguments ≡ Some (judge_of g t 77) → ¬ CallEnds held arguments BadWords [] None
 asked_to_judge arguments asks (inl (file, limit, journal, asks_file, ends, none)) = let never : Some (judge_of g t 77) ≡ Some (run_of file limit journal) = sym asks ∙ asks_file in absurd (cc)
 asked_to_judge arguments asks (inr (inl (file, name, limit, asks_judge, inl stopped, none))) = never_bad stopped.why stopped.told
-asked_to_judge arguments asks (inr (inl (file, name, limit, asks_judge, inr ended, none))) = let only : None ≡ Some ended.told = ended.only in absurd (cc)
-asked_to_judge arguments asks (inr (inr (inl (same, none, nothing, refused)))) = let never : Some (judge_of g t 77) ≡ None = sym asks ∙ refused in absurd (cc)
-asked_to_judge arguments asks (inr (inr (inr (same, none, nothing)))) = absurd (cc)
+asked_to_judge arguments asks (inr (inl (file, name, limit, asks_judge, inr ended, none))) = let only : None ≡ Some (conclusion.Verdict ended.verdict) = ended.only in absurd (cc)
+asked_to_judge arguments asks (inr (inr (inl (file, asks_check, ends, none)))) = let never : Some (judge_of g t 77) ≡ Some (check_of file) = sym asks ∙ asks_check in absurd (cc)
+asked_to_judge arguments asks (inr (inr (inr (inl (same, none, nothing, refused))))) = let never : Some (judge_of g t 77) ≡ None = sym asks ∙ refused in absurd (cc)
+asked_to_judge arguments asks (inr (inr (inr (inr (same, none, nothing))))) = absurd (cc)
+
+asked_to_check : (arguments : List (List ℕ)) → asked_by arguments ≡ Some (check_of g) → ¬ CallEnds held arguments BadWords [] None
+asked_to_check arguments asks (inl (file, limit, journal, asks_file, ends, none)) = let never : Some (check_of g) ≡ Some (run_of file limit journal) = sym asks ∙ asks_file in absurd (cc)
+asked_to_check arguments asks (inr (inl (file, name, limit, asks_judge, ends, none))) = let never : Some (check_of g) ≡ Some (judge_of file name limit) = sym asks ∙ asks_judge in absurd (cc)
+asked_to_check arguments asks (inr (inr (inl (file, asks_check, inl stopped, none)))) = never_bad stopped.why stopped.told
+asked_to_check arguments asks (inr (inr (inl (file, asks_check, inr ended, none)))) = let only : None ≡ Some (conclusion.Findings ended.found) = ended.only in absurd (cc)
+asked_to_check arguments asks (inr (inr (inr (inl (same, none, nothing, refused))))) = let never : Some (check_of g) ≡ None = sym asks ∙ refused in absurd (cc)
+asked_to_check arguments asks (inr (inr (inr (inr (same, none, nothing))))) = absurd (cc)
 
 refused : (arguments : List (List ℕ)) → asked_by arguments ≡ None → CallEnds held arguments BadWords [] None
-refused arguments none = inr (inr (inl (refl, refl, refl, none)))
+refused arguments none = inr (inr (inr (inl (refl, refl, refl, none))))
 
--- A run has no verdict, and a judgement keeps no run.
+-- It keeps no run and comes to no conclusion, also where memory runs out.
+module _ (arguments : List (List ℕ)) (nothing : asked_by arguments ≡ None) where
+  run_of_nothing : (told : Status) (run : Run) → ¬ CallEnds held arguments told (run ∷ []) None
+  run_of_nothing told run (inl (file, limit, journal, asks_file, ends, none)) = let never : None ≡ Some (run_of file limit journal) = sym nothing ∙ asks_file in absurd (cc)
+  run_of_nothing told run (inr (inl (file, name, limit, asks_judge, ends, none))) = let never : None ≡ Some (judge_of file name limit) = sym nothing ∙ asks_judge in absurd (cc)
+  run_of_nothing told run (inr (inr (inl (file, asks_check, ends, none)))) = let never : None ≡ Some (check_of file) = sym nothing ∙ asks_check in absurd (cc)
+  run_of_nothing told run (inr (inr (inr (inl (same, none, untold, refused))))) = absurd (omega (arith, ap length none))
+  run_of_nothing told run (inr (inr (inr (inr (same, none, untold))))) = absurd (omega (arith, ap length none))
+
+  conclusion_of_nothing : (told : Status) → ¬ CallEnds held arguments told [] (Some (conclusion.Verdict Finished))
+  conclusion_of_nothing told (inl (file, limit, journal, asks_file, ends, none)) = let never : None ≡ Some (run_of file limit journal) = sym nothing ∙ asks_file in absurd (cc)
+  conclusion_of_nothing told (inr (inl (file, name, limit, asks_judge, ends, none))) = let never : None ≡ Some (judge_of file name limit) = sym nothing ∙ asks_judge in absurd (cc)
+  conclusion_of_nothing told (inr (inr (inl (file, asks_check, ends, none)))) = let never : None ≡ Some (check_of file) = sym nothing ∙ asks_check in absurd (cc)
+  conclusion_of_nothing told (inr (inr (inr (inl (same, none, untold, refused))))) = absurd (cc)
+  conclusion_of_nothing told (inr (inr (inr (inr (same, none, untold))))) = absurd (cc)
+
+-- A run has no conclusion, and a judgement and a check keep no run.
 module _ (arguments : List (List ℕ)) where
-  verdict_on_a_run : asked_by arguments ≡ Some (run_of g 77 false) → ¬ CallEnds held arguments Done [] (Some Finished)
+  verdict_on_a_run : asked_by arguments ≡ Some (run_of g 77 false) → ¬ CallEnds held arguments Done [] (Some (conclusion.Verdict Finished))
   verdict_on_a_run asks (inl (file, limit, journal, asks_file, ends, none)) = absurd (cc)
   verdict_on_a_run asks (inr (inl (file, name, limit, asks_judge, ends, none))) = let never : Some (run_of g 77 false) ≡ Some (judge_of file name limit) = sym asks ∙ asks_judge in absurd (cc)
-  verdict_on_a_run asks (inr (inr (inl (same, none, nothing, refused)))) = absurd (cc)
-  verdict_on_a_run asks (inr (inr (inr (same, none, nothing)))) = absurd (cc)
+  verdict_on_a_run asks (inr (inr (inl (file, asks_check, ends, none)))) = let never : Some (run_of g 77 false) ≡ Some (check_of file) = sym asks ∙ asks_check in absurd (cc)
+  verdict_on_a_run asks (inr (inr (inr (inl (same, none, nothing, refused))))) = absurd (cc)
+  verdict_on_a_run asks (inr (inr (inr (inr (same, none, nothing))))) = absurd (cc)
 
   run_of_a_judgement : (run : Run) → asked_by arguments ≡ Some (judge_of g t 77) → ¬ CallEnds held arguments Done (run ∷ []) None
   run_of_a_judgement run asks (inl (file, limit, journal, asks_file, ends, none)) = let never : Some (judge_of g t 77) ≡ Some (run_of file limit journal) = sym asks ∙ asks_file in absurd (cc)
   run_of_a_judgement run asks (inr (inl (file, name, limit, asks_judge, ends, none))) = absurd (cc)
-  run_of_a_judgement run asks (inr (inr (inl (same, none, nothing, refused)))) = absurd (cc)
-  run_of_a_judgement run asks (inr (inr (inr (same, none, nothing)))) = absurd (cc)
+  run_of_a_judgement run asks (inr (inr (inl (file, asks_check, ends, none)))) = absurd (cc)
+  run_of_a_judgement run asks (inr (inr (inr (inl (same, none, nothing, refused))))) = absurd (cc)
+  run_of_a_judgement run asks (inr (inr (inr (inr (same, none, nothing))))) = absurd (cc)
+
+  run_of_a_check : (run : Run) (found : GraphFindings) → asked_by arguments ≡ Some (check_of g) → ¬ CallEnds held arguments Done (run ∷ []) (Some (conclusion.Findings found))
+  run_of_a_check run found asks (inl (file, limit, journal, asks_file, ends, none)) = absurd (cc)
+  run_of_a_check run found asks (inr (inl (file, name, limit, asks_judge, ends, none))) = absurd (cc)
+  run_of_a_check run found asks (inr (inr (inl (file, asks_check, ends, none)))) = absurd (cc)
+  run_of_a_check run found asks (inr (inr (inr (inl (same, none, nothing, refused))))) = absurd (cc)
+  run_of_a_check run found asks (inr (inr (inr (inr (same, none, nothing))))) = absurd (cc)
 
 -- What has been done to a sink of memory when the call ends.
 abbrev sink : List ℕ → ℕ → SinkState
@@ -365,16 +395,3 @@ read_fault_of_nothing is = absurd (omega (arith, is.cause (t, refl)))
 
 read_fault_told : HaveRead texts_kept count 0 1 (ReadFault t)
 read_fault_told = record { stays = refl; no_fewer = omega arith; cause = λ is. omega arith; told = inr (inl (t, refl)) }
-
--- The exit codes.
-codes_of_all : (code_of Done ≡ 0) × (code_of BadWords ≡ 2) × (code_of (BadGraph NotJson) ≡ 3) × (code_of (NoSource File) ≡ 4) × (code_of (NoText t) ≡ 5)
-codes_of_all = (refl, refl, refl, refl, refl)
-
-codes_of_cut_runs : (code_of (Limit [] 9) ≡ 8) × (code_of (TaskFault (3 ∷ []) (TooLong 9)) ≡ 9) × (code_of (Stuck (3 ∷ [])) ≡ 10)
-codes_of_cut_runs = (refl, refl, refl)
-
-codes_of_judgements : (code_of (NotLegal 3 NotOpen) ≡ 11) × (code_of (BadJournal 2) ≡ 12)
-codes_of_judgements = (refl, refl)
-
-codes_of_faults : (code_of (LongText t) ≡ 5) × (code_of (ReadFault t) ≡ 6) × (code_of WriteFault ≡ 7) × (code_of NoMemory ≡ 13)
-codes_of_faults = (refl, refl, refl, refl)

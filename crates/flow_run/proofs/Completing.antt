@@ -9,18 +9,21 @@ use Rattle.graph_plans.specs.declared.spots.Spot.TheVariants as spot
 use Rattle.graph_plans.specs.PlanRows.{PlanRows}
 use Rattle.graph_file.specs.PlanText.{PlanText, IsRefused}
 use Rattle.graph_plans.specs.Sources.{NoSourceAnswer}
-use Rattle.flow_run.specs.declared.status.Status.{Status}
-use Rattle.flow_run.specs.declared.status.Status.TheVariants.{Done, WriteFault, NoMemory}
-use Rattle.flow_run.specs.declared.stop.Stop.{Stop}
-use Rattle.flow_run.specs.declared.stop.Stop.TheVariants as stop
-use Rattle.flow_run.specs.Requests.{Held, IsHeld, HasStart, StopsAtName, StopsAtBytes, StopsAtText, StopsBefore, IsAtHand, file_limit, text_limit}
-use Rattle.command_line.specs.Requests.{asked_by, run, judge}
+use Rattle.call_status.specs.declared.status.Status.{Status}
+use Rattle.call_status.specs.declared.status.Status.TheVariants.{Done, WriteFault, NoMemory}
+use Rattle.call_status.specs.declared.stop.Stop.{Stop}
+use Rattle.call_status.specs.declared.stop.Stop.TheVariants as stop
+use Rattle.flow_run.specs.Requests.{Held, IsHeld, HasStart, StopsAtName, StopsAtPlan, StopsAtBytes, StopsAtText, StopsBefore, IsAtHand, file_limit, text_limit}
+use Rattle.command_line.specs.Requests.{Asked, asked_by, run, judge, check}
 use Rattle.nested_runs.specs.Reasons.{run_reason}
 use Rattle.nested_runs.specs.declared.reasons.Reason.{Reason}
 use Rattle.nested_runs.specs.declared.reasons.Reason.TheVariants.{Fine}
 use Rattle.text_tasks.specs.JobMeaning.{text_job}
-use Rattle.flow_run.specs.Stopping.{status_of}
-use Rattle.flow_run.specs.Answers.{Run, status_after, IsAfterRun, CallEnds, IsReadFault}
+use Rattle.call_status.specs.Statuses.{status_of}
+use Rattle.call_status.specs.Statuses.{status_after}
+use Rattle.flow_run.specs.declared.conclusion.Conclusion.{Conclusion}
+use Rattle.flow_run.specs.Answers.{Run, IsAfterRun, CallEnds, IsReadFault}
+use Rattle.flow_run.specs.Checking.{IsAfterFindings, StopsBeforeFindings, CanBeChecked}
 use Rattle.journal_rules.specs.declared.entry.Entry.{Entry}
 use Rattle.task_graph.specs.NetRows.{NetRows}
 use Rattle.legal_run.specs.declared.verdict.Break.{Break}
@@ -32,24 +35,28 @@ use Rattle.journal_text.proofs.TextLemmas.{one_journal}
 use Rattle.flow_run.specs.Judging.{IsJudged, IsAfterVerdict, StopsAtJournalBytes, StopsAtJournal, StopsBeforeVerdict, CanBeJudged, journal_limit}
 
 -- Bytes stand for one plan at most.
-one_plan : (bytes : List ℕ) (plan other : PlanRows) → PlanText bytes plan → PlanText bytes other → plan ≡ other
+pub one_plan : (bytes : List ℕ) (plan other : PlanRows) → PlanText bytes plan → PlanText bytes other → plan ≡ other
 one_plan bytes plan other one two = let both : Ok plan ≡ Ok other = sym one ∙ two in cc
 
 -- Bytes that stand for a plan aren't refused.
 not_refused : (bytes : List ℕ) (plan : PlanRows) (error : GraphError) → PlanText bytes plan → IsRefused bytes error → ⊥
 not_refused bytes plan error stands refused = let both : Ok plan ≡ Err error = sym stands ∙ refused in absurd (cc)
 
--- A command line asks for one file at most.
-one_file : (arguments : List (List ℕ)) (file other : List ℕ) (limit most : ℕ) (journal instead : Bool) → asked_by arguments ≡ Some (run file limit journal) → asked_by arguments ≡ Some (run other most instead) → file ≡ other
-one_file arguments file other limit most journal instead one two = let both : Some (run file limit journal) ≡ Some (run other most instead) = sym one ∙ two in cc
+-- A command line asks for one thing at most.
+one_request : (arguments : List (List ℕ)) (asked other : Asked) → asked_by arguments ≡ Some asked → asked_by arguments ≡ Some other → asked ≡ other
+one_request arguments asked other one two = let both : Some asked ≡ Some other = sym one ∙ two in cc
 
--- And for one judgement.
-one_judgement : (arguments : List (List ℕ)) (file name other others : List ℕ) (limit most : ℕ) → asked_by arguments ≡ Some (judge file name limit) → asked_by arguments ≡ Some (judge other others most)
-    → (file ≡ other) × (name ≡ others) × (limit ≡ most)
-one_judgement arguments file name other others limit most one two = let both : Some (judge file name limit) ≡ Some (judge other others most) = sym one ∙ two in (cc, cc, cc)
+-- A run asks for one file.
+one_file : (file other : List ℕ) (limit most : ℕ) (journal instead : Bool) → run file limit journal ≡ run other most instead → file ≡ other
+one_file file other limit most journal instead same = cc
 
-no_run_and_judgement : (arguments : List (List ℕ)) (file other name : List ℕ) (limit most : ℕ) (journal : Bool) → asked_by arguments ≡ Some (run file limit journal) → asked_by arguments ≡ Some (judge other name most) → ⊥
-no_run_and_judgement arguments file other name limit most journal one two = let both : Some (run file limit journal) ≡ Some (judge other name most) = sym one ∙ two in absurd (cc)
+-- A judgement asks for one of each.
+one_judgement : (file name other others : List ℕ) (limit most : ℕ) → judge file name limit ≡ judge other others most → (file ≡ other) × (name ≡ others) × (limit ≡ most)
+one_judgement file name other others limit most same = (cc, cc, cc)
+
+-- And so does a check.
+one_check : (file other : List ℕ) → check file ≡ check other → file ≡ other
+one_check file other same = cc
 
 -- A plan that has a start has no graph without a source.
 has_source : (plan : PlanRows) (at : Spot) → HasStart plan → NoSourceAnswer plan (Some at) → ⊥
@@ -99,6 +106,16 @@ module _ (text : List ℕ → Option (List ℕ)) (file : List ℕ) (plan : PlanR
   never_at_bytes bytes (stop.BadJournal line) stands start stops = absurd stops
   never_at_bytes bytes stop.NoMemory stands start stops = refl
 
+  -- Nor for a check.
+  never_at_plan : (bytes : List ℕ) (why : Stop) → PlanText bytes plan → StopsAtPlan bytes why → why ≡ stop.NoMemory
+  never_at_plan bytes (stop.BadGraph error) stands stops = absurd (not_refused bytes plan error stands stops)
+  never_at_plan bytes (stop.NoSource at) stands stops = absurd stops
+  never_at_plan bytes (stop.NoText n) stands stops = absurd stops
+  never_at_plan bytes (stop.LongText n) stands stops = absurd stops
+  never_at_plan bytes (stop.ReadFault n) stands stops = absurd stops
+  never_at_plan bytes (stop.BadJournal line) stands stops = absurd stops
+  never_at_plan bytes stop.NoMemory stands stops = refl
+
   weaker : (max : ℕ) (P : List ℕ → Type 0) (o : Option (List ℕ)) → IsSomeAnd o (λ bytes. (length bytes ≤ max) × P bytes) → IsSomeAnd o (λ bytes. length bytes ≤ max)
   weaker max P None never = never
   weaker max P (Some bytes) both = both.0
@@ -137,6 +154,11 @@ module _ (text : List ℕ → Option (List ℕ)) (file : List ℕ) (plan : PlanR
       let same_journal = one_journal judged.journal journal judged.text.bytes judged.text.stands written in
       subst (λ (p : PlanRows). IsVerdict p.top.net limit journal verdict) same_plan (subst (λ (j : List Entry). IsVerdict judged.plan.top.net limit j verdict) same_journal judged.is)
 
+  never_before_findings : (why : Stop) → IsSomeAnd (text file) (λ bytes. (length bytes ≤ file_limit) × PlanText bytes plan) → StopsBeforeFindings (Some text) file why → ((n : List ℕ) → why ≢ stop.ReadFault n) → why ≡ stop.NoMemory
+  never_before_findings why graph (inl at) fine = never_stops text file file_limit why (weaker file_limit (λ bytes. PlanText bytes plan) (text file) graph) at fine
+  never_before_findings why graph (inr at) fine =
+      never_at_plan at.bytes why (held_some text file at.bytes file_limit (λ bytes. (length bytes ≤ file_limit) × PlanText bytes plan) at.read graph).1 at.stops
+
   -- So nothing but a failure or want of memory stops the call.
   never_before : (why : Stop) → IsSomeAnd (text file) (λ bytes. (length bytes ≤ file_limit) × PlanText bytes plan) → HasStart plan
       → All (λ name. IsSomeAnd (text name) (λ bytes. length bytes ≤ text_limit)) plan.texts → StopsBefore (Some text) file why → ((n : List ℕ) → why ≢ stop.ReadFault n) → why ≡ stop.NoMemory
@@ -153,44 +175,78 @@ after_run why status fine (inl told) written = inl (told ∙ ap status_after fin
 after_run why status fine (inr (inl (also, failed))) written = absurd (written failed)
 after_run why status fine (inr (inr memory)) written = inr memory
 
-pub completes : (held : Held) (arguments : List (List ℕ)) (status : Status) (runs : List Run) (verdict : Option Verdict) → CallEnds held arguments status runs verdict → IsAtHand held arguments
-    → All (λ run. run_reason text_job run ≡ Fine) runs → (IsReadFault status → ⊥) → status ≢ WriteFault → (status ≡ Done) ⊎ (status ≡ NoMemory)
-completes held arguments status runs verdict (inr (inr (inr (memory, none, nothing)))) hand fine read write = inr memory
-completes held arguments status runs verdict (inr (inr (inl (same, none, nothing, never)))) hand fine read write = absurd (none-some (run hand.file hand.limit hand.journal) (sym never ∙ hand.asks))
-completes held arguments status runs verdict (inr (inl (file, name, limit, asks, ends, none))) hand fine read write = absurd (no_run_and_judgement arguments hand.file file name hand.limit limit hand.journal hand.asks asks)
-completes held arguments status runs verdict (inl (file, limit, journal, asks, inr ran, none)) hand fine read write =
-    after_run (run_reason text_job ran.run) status (All-head (λ r. run_reason text_job r ≡ Fine) ran.run [] (subst (All (λ r. run_reason text_job r ≡ Fine)) ran.only fine)) ran.after write
-completes held arguments status runs verdict (inl (file, limit, journal, asks, inl stopped, none)) hand fine read write =
-    let stops : StopsBefore (Some hand.text) hand.file stopped.why =
-    subst (λ h. StopsBefore h hand.file stopped.why) hand.specified (subst (λ f. StopsBefore held f stopped.why) (one_file arguments file hand.file limit hand.limit journal hand.journal asks hand.asks) stopped.stops) in
-    let memory = never_before hand.text hand.file hand.plan stopped.why hand.graph hand.source hand.named stops (λ n is. read (n, stopped.told ∙ ap status_of is)) in
-    inr (stopped.told ∙ ap status_of memory)
+module _ (held : Held) (arguments : List (List ℕ)) (status : Status) where
+  -- No command line asks for two commands.
+  no_run_and_judgement : (file other name : List ℕ) (limit most : ℕ) (journal : Bool) → asked_by arguments ≡ Some (run file limit journal) → asked_by arguments ≡ Some (judge other name most) → ⊥
+  no_run_and_judgement file other name limit most journal one two = let both = one_request arguments (run file limit journal) (judge other name most) one two in absurd (cc)
 
--- a verdict that is no break, and whose line didn't fail, is done
-after_verdict : (net : NetRows) (limit : ℕ) (journal : List Entry) (verdict : Verdict) (status : Status) → IsVerdict net limit journal verdict → ((place : ℕ) (why : Break) → ¬ IsVerdict net limit journal (Breaks place why))
-    → IsAfterVerdict verdict status → status ≢ WriteFault → (status ≡ Done) ⊎ (status ≡ NoMemory)
-after_verdict net limit journal Finished status is never (inl told) written = inl told
-after_verdict net limit journal Legal status is never (inl told) written = inl told
-after_verdict net limit journal (Breaks place why) status is never (inl told) written = absurd (never place why is)
-after_verdict net limit journal verdict status is never (inr (inl (also, failed))) written = absurd (written failed)
-after_verdict net limit journal verdict status is never (inr (inr memory)) written = inr memory
+  no_run_and_check : (file other : List ℕ) (limit : ℕ) (journal : Bool) → asked_by arguments ≡ Some (run file limit journal) → asked_by arguments ≡ Some (check other) → ⊥
+  no_run_and_check file other limit journal one two = let both = one_request arguments (run file limit journal) (check other) one two in absurd (cc)
 
-pub judges : (held : Held) (arguments : List (List ℕ)) (status : Status) (runs : List Run) (verdict : Option Verdict) → CallEnds held arguments status runs verdict → CanBeJudged held arguments
-    → (IsReadFault status → ⊥) → status ≢ WriteFault → (status ≡ Done) ⊎ (status ≡ NoMemory)
-judges held arguments status runs verdict (inr (inr (inr (memory, none, nothing)))) can read write = inr memory
-judges held arguments status runs verdict (inr (inr (inl (same, none, nothing, never)))) can read write = absurd (none-some (judge can.file can.name can.limit) (sym never ∙ can.asks))
-judges held arguments status runs verdict (inl (file, limit, journal, asks, ends, none)) can read write = absurd (no_run_and_judgement arguments file can.file can.name limit can.limit journal asks can.asks)
-judges held arguments status runs verdict (inr (inl (file, name, limit, asks, inl stopped, none))) can read write =
-    let same = one_judgement arguments file name can.file can.name limit can.limit asks can.asks in
-    let stops : StopsBeforeVerdict (Some can.text) can.file can.name stopped.why =
-    subst (λ h. StopsBeforeVerdict h can.file can.name stopped.why) can.specified
-    (subst (λ n. StopsBeforeVerdict held can.file n stopped.why) same.1 (subst (λ f. StopsBeforeVerdict held f name stopped.why) same.0 stopped.stops)) in
-    let memory = never_before_verdict can.text can.file can.plan can.name can.journal stopped.why can.graph can.source can.trace stops (λ n is. read (n, stopped.told ∙ ap status_of is)) in
-    inr (stopped.told ∙ ap status_of memory)
-judges held arguments status runs verdict (inr (inl (file, name, limit, asks, inr ended, none))) can read write =
-    let same = one_judgement arguments file name can.file can.name limit can.limit asks can.asks in
-    let judged : IsJudged (Some can.text) can.file can.name can.limit ended.told =
-    subst (λ h. IsJudged h can.file can.name can.limit ended.told) can.specified
-    (subst (λ l. IsJudged held can.file can.name l ended.told) same.2 (subst (λ n. IsJudged held can.file n limit ended.told) same.1 (subst (λ f. IsJudged held f name limit ended.told) same.0 ended.judged))) in
-    let is = judged_well can.text can.file can.plan can.name can.journal can.limit ended.told can.graph can.trace judged in
-    after_verdict can.plan.top.net can.limit can.journal ended.told status is can.stands ended.after write
+  no_judgement_and_check : (file name other : List ℕ) (limit : ℕ) → asked_by arguments ≡ Some (judge file name limit) → asked_by arguments ≡ Some (check other) → ⊥
+  no_judgement_and_check file name other limit one two = let both = one_request arguments (judge file name limit) (check other) one two in absurd (cc)
+
+  pub completes : (runs : List Run) (concluded : Option Conclusion) → CallEnds held arguments status runs concluded → IsAtHand held arguments
+      → All (λ run. run_reason text_job run ≡ Fine) runs → (IsReadFault status → ⊥) → status ≢ WriteFault → (status ≡ Done) ⊎ (status ≡ NoMemory)
+  completes runs concluded (inr (inr (inr (inr (memory, none, nothing))))) hand fine read write = inr memory
+  completes runs concluded (inr (inr (inr (inl (same, none, nothing, never))))) hand fine read write = absurd (none-some (run hand.file hand.limit hand.journal) (sym never ∙ hand.asks))
+  completes runs concluded (inr (inr (inl (file, asks, ends, none)))) hand fine read write = absurd (no_run_and_check hand.file file hand.limit hand.journal hand.asks asks)
+  completes runs concluded (inr (inl (file, name, limit, asks, ends, none))) hand fine read write = absurd (no_run_and_judgement hand.file file name hand.limit limit hand.journal hand.asks asks)
+  completes runs concluded (inl (file, limit, journal, asks, inr ran, none)) hand fine read write =
+      after_run (run_reason text_job ran.run) status (All-head (λ r. run_reason text_job r ≡ Fine) ran.run [] (subst (All (λ r. run_reason text_job r ≡ Fine)) ran.only fine)) ran.after write
+  completes runs concluded (inl (file, limit, journal, asks, inl stopped, none)) hand fine read write =
+      let same = one_file file hand.file limit hand.limit journal hand.journal (one_request arguments (run file limit journal) (run hand.file hand.limit hand.journal) asks hand.asks) in
+      let stops : StopsBefore (Some hand.text) hand.file stopped.why =
+      subst (λ h. StopsBefore h hand.file stopped.why) hand.specified (subst (λ f. StopsBefore held f stopped.why) same stopped.stops) in
+      let memory = never_before hand.text hand.file hand.plan stopped.why hand.graph hand.source hand.named stops (λ n is. read (n, stopped.told ∙ ap status_of is)) in
+      inr (stopped.told ∙ ap status_of memory)
+
+  -- a verdict that is no break, and whose line didn't fail, is done
+  after_verdict : (net : NetRows) (limit : ℕ) (journal : List Entry) (verdict : Verdict) → IsVerdict net limit journal verdict → ((place : ℕ) (why : Break) → ¬ IsVerdict net limit journal (Breaks place why))
+      → IsAfterVerdict verdict status → status ≢ WriteFault → (status ≡ Done) ⊎ (status ≡ NoMemory)
+  after_verdict net limit journal Finished is never (inl told) written = inl told
+  after_verdict net limit journal Legal is never (inl told) written = inl told
+  after_verdict net limit journal (Breaks place why) is never (inl told) written = absurd (never place why is)
+  after_verdict net limit journal verdict is never (inr (inl (also, failed))) written = absurd (written failed)
+  after_verdict net limit journal verdict is never (inr (inr memory)) written = inr memory
+
+  pub judges : (runs : List Run) (concluded : Option Conclusion) → CallEnds held arguments status runs concluded → CanBeJudged held arguments
+      → (IsReadFault status → ⊥) → status ≢ WriteFault → (status ≡ Done) ⊎ (status ≡ NoMemory)
+  judges runs concluded (inr (inr (inr (inr (memory, none, nothing))))) can read write = inr memory
+  judges runs concluded (inr (inr (inr (inl (same, none, nothing, never))))) can read write = absurd (none-some (judge can.file can.name can.limit) (sym never ∙ can.asks))
+  judges runs concluded (inr (inr (inl (file, asks, ends, none)))) can read write = absurd (no_judgement_and_check can.file can.name file can.limit can.asks asks)
+  judges runs concluded (inl (file, limit, journal, asks, ends, none)) can read write = absurd (no_run_and_judgement file can.file can.name limit can.limit journal asks can.asks)
+  judges runs concluded (inr (inl (file, name, limit, asks, inl stopped, none))) can read write =
+      let same = one_judgement file name can.file can.name limit can.limit (one_request arguments (judge file name limit) (judge can.file can.name can.limit) asks can.asks) in
+      let stops : StopsBeforeVerdict (Some can.text) can.file can.name stopped.why =
+      subst (λ h. StopsBeforeVerdict h can.file can.name stopped.why) can.specified
+      (subst (λ n. StopsBeforeVerdict held can.file n stopped.why) same.1 (subst (λ f. StopsBeforeVerdict held f name stopped.why) same.0 stopped.stops)) in
+      let memory = never_before_verdict can.text can.file can.plan can.name can.journal stopped.why can.graph can.source can.trace stops (λ n is. read (n, stopped.told ∙ ap status_of is)) in
+      inr (stopped.told ∙ ap status_of memory)
+  judges runs concluded (inr (inl (file, name, limit, asks, inr ended, none))) can read write =
+      let same = one_judgement file name can.file can.name limit can.limit (one_request arguments (judge file name limit) (judge can.file can.name can.limit) asks can.asks) in
+      let judged : IsJudged (Some can.text) can.file can.name can.limit ended.verdict =
+      subst (λ h. IsJudged h can.file can.name can.limit ended.verdict) can.specified
+      (subst (λ l. IsJudged held can.file can.name l ended.verdict) same.2 (subst (λ n. IsJudged held can.file n limit ended.verdict) same.1 (subst (λ f. IsJudged held f name limit ended.verdict) same.0 ended.judged))) in
+      let is = judged_well can.text can.file can.plan can.name can.journal can.limit ended.verdict can.graph can.trace judged in
+      after_verdict can.plan.top.net can.limit can.journal ended.verdict is can.stands ended.after write
+
+  -- findings whose lines didn't fail are done
+  after_findings : IsAfterFindings status → status ≢ WriteFault → (status ≡ Done) ⊎ (status ≡ NoMemory)
+  after_findings (inl told) written = inl told
+  after_findings (inr (inl failed)) written = absurd (written failed)
+  after_findings (inr (inr memory)) written = inr memory
+
+  pub checks : (runs : List Run) (concluded : Option Conclusion) → CallEnds held arguments status runs concluded → CanBeChecked held arguments
+      → (IsReadFault status → ⊥) → status ≢ WriteFault → (status ≡ Done) ⊎ (status ≡ NoMemory)
+  checks runs concluded (inr (inr (inr (inr (memory, none, nothing))))) can read write = inr memory
+  checks runs concluded (inr (inr (inr (inl (same, none, nothing, never))))) can read write = absurd (none-some (check can.file) (sym never ∙ can.asks))
+  checks runs concluded (inr (inl (file, name, limit, asks, ends, none))) can read write = absurd (no_judgement_and_check file name can.file limit asks can.asks)
+  checks runs concluded (inl (file, limit, journal, asks, ends, none)) can read write = absurd (no_run_and_check file can.file limit journal asks can.asks)
+  checks runs concluded (inr (inr (inl (file, asks, inl stopped, none)))) can read write =
+      let same = one_check file can.file (one_request arguments (check file) (check can.file) asks can.asks) in
+      let stops : StopsBeforeFindings (Some can.text) can.file stopped.why =
+      subst (λ h. StopsBeforeFindings h can.file stopped.why) can.specified (subst (λ f. StopsBeforeFindings held f stopped.why) same stopped.stops) in
+      let memory = never_before_findings can.text can.file can.plan stopped.why can.graph stops (λ n is. read (n, stopped.told ∙ ap status_of is)) in
+      inr (stopped.told ∙ ap status_of memory)
+  checks runs concluded (inr (inr (inl (file, asks, inr ended, none)))) can read write = after_findings ended.after write

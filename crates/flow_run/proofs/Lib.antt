@@ -1,5 +1,4 @@
 pub mod Preparing
-pub mod NoteExamples
 pub mod ReportLemmas
 pub mod OutputExamples
 pub mod ReportRule
@@ -8,3 +7,4 @@ pub mod Completing
 pub mod CallExamples
 pub mod StopExamples
 pub mod JudgeExamples
+pub mod CheckExamples

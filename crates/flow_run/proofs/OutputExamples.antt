@@ -1,5 +1,5 @@
 -- The report, computed on small runs.
-use Rattle.std.proofs.Common.{◌≡◌, ℕ, List, [], ◌∷◌, ◌++◌, Some, refl, ap, codes, false}
+use Rattle.std.proofs.Common.{◌≡◌, ◌∙◌, ℕ, List, [], ◌∷◌, ◌++◌, Some, refl, ap, codes, false}
 use Rattle.std.specs.Arc.{arc_value}
 use Rattle.std.specs.Global.{Global}
 use Rattle.std.specs.declared.sync.Arc.{Arc}
@@ -12,8 +12,16 @@ use Rattle.journal_rules.specs.declared.entry.Entry.{Entry}
 use Rattle.journal_rules.specs.declared.entry.Entry.TheVariants.{Start, End}
 use Rattle.text_tasks.specs.declared.item.Item.{Item}
 use Rattle.text_tasks.specs.declared.item.Item.TheVariants.{Text}
+use Rattle.text_tasks.specs.declared.job.TextJob.{TextJob}
+use Rattle.text_tasks.specs.JobMeaning.{names_of, net_of, text_job}
+use Rattle.run_frame.specs.declared.run.FrameRun.{FrameRun}
 use Rattle.run_frame.specs.LastEnds.{ends_of, last_end}
-use Rattle.flow_run.specs.Output.{report, outcome}
+use Rattle.run_frame.specs.NestedRule.{job_of, journal_of}
+use Rattle.run_frame.specs.Runs.{values_of}
+use Rattle.nested_runs.specs.Reasons.{run_reason}
+use Rattle.nested_runs.specs.declared.reasons.Reason.TheVariants.{Stuck}
+use Rattle.call_status.specs.Reasons.{reason_line}
+use Rattle.flow_run.specs.Output.{report, report_of, outcome}
 
 abbrev task : TaskRow
 task = record { shape = Plain; takes = []; puts = [] }
@@ -42,3 +50,25 @@ nothing_ended = refl
 -- Of the two tasks the report tells the second alone, with its value.
 counted : (read count : Arc Item Global) → arc_value count ≡ Text (codes "5\n") → report names net journal (record { place = 1; value = read } ∷ record { place = 3; value = count } ∷ []) ≡ codes "== lines\n5\n"
 counted read count five = ap (λ item. outcome (codes "lines") (Some item) ++ []) five
+
+-- Three tasks, of which the first leads to the second: the report tells of the second, which never ended, and then of
+-- the third, with the last of its two values.
+abbrev three : NetRows
+three = record { tasks = task ∷ task ∷ task ∷ []; edges = (record { from = 0; to = 1; start = false }) ∷ []; sems = [] }
+
+abbrev thrice_ended : List Entry
+thrice_ended = Start 0 Source [] ∷ End 0 (0 ∷ []) false ∷ Start 2 Source [] ∷ End 2 [] false ∷ Start 2 Source [] ∷ End 4 [] false ∷ []
+
+third_ended_last : (read early late : Arc Item Global) → arc_value late ≡ Text (codes "5\n")
+    → report (codes "text" ∷ codes "lines" ∷ codes "loop" ∷ []) three thrice_ended (record { place = 1; value = read } ∷ record { place = 3; value = early } ∷ record { place = 5; value = late } ∷ []) ≡ codes "-- lines\n== loop\n5\n"
+third_ended_last read early late five = ap (λ item. codes "-- lines\n" ++ (outcome (codes "loop") (Some item) ++ [])) five
+
+-- Behind it stands why the run was cut short.
+stuck_behind_the_report : (run : FrameRun TextJob Item) → names_of (job_of run) ≡ names → net_of (job_of run) ≡ net → journal_of run ≡ [] → values_of run ≡ []
+    → run_reason text_job run ≡ Stuck (0 ∷ []) → report_of run ≡ codes "-- lines\n!! stuck text\n"
+stuck_behind_the_report run its_names its_net its_journal its_values stuck =
+    ap (λ ns. report ns (net_of (job_of run)) (journal_of run) (values_of run) ++ reason_line ns (run_reason text_job run)) its_names
+    ∙ (ap (λ n. report names n (journal_of run) (values_of run) ++ reason_line names (run_reason text_job run)) its_net
+    ∙ (ap (λ entries. report names net entries (values_of run) ++ reason_line names (run_reason text_job run)) its_journal
+    ∙ (ap (λ values. report names net [] values ++ reason_line names (run_reason text_job run)) its_values
+    ∙ ap (λ why. report names net [] [] ++ reason_line names why) stuck)))

@@ -11,9 +11,9 @@ use Rattle.text_ops.specs.Lines.{normal, is_normal, line_end}
 use Rattle.text_ops.proofs.LineLemmas.{IsNormal-normal}
 use Rattle.text_tasks.specs.ValueTexts.{IsValueText}
 use Rattle.text_tasks.specs.GraphWork.{greatest_limit, IsWork, first_work}
-use Rattle.flow_run.specs.declared.stop.Stop.{Stop}
-use Rattle.flow_run.specs.declared.stop.Stop.TheVariants.{BadGraph, NoMemory}
-use Rattle.flow_run.specs.Requests.{Held, IsAdded, IsTextOf, StopsAtName, StopsAtText, StopsAtBytes, TextsAre, text_limit}
+use Rattle.call_status.specs.declared.stop.Stop.{Stop}
+use Rattle.call_status.specs.declared.stop.Stop.TheVariants.{BadGraph, NoSource, NoText, LongText, ReadFault, BadJournal, NoMemory}
+use Rattle.flow_run.specs.Requests.{Held, IsAdded, IsTextOf, StopsAtName, StopsAtText, StopsAtBytes, StopsAtPlan, TextsAre, text_limit}
 
 -- one text more
 pub texts_more : (held : Held) (names texts : List (List ℕ)) (name text : List ℕ) → TextsAre held names texts → IsTextOf held name text → TextsAre held (names ++ name ∷ []) (texts ++ text ∷ [])
@@ -68,9 +68,19 @@ stops_at held names texts i name why below is so_far stops =
     record { before = take i names; name = name; after = drop (i + 1) names; texts = texts; parts = around names i name below ∙ ap (λ n. take i names ++ n ∷ drop (i + 1) names) (sym is); read = so_far; stops = stops }
 
 -- a refusal stops the call
-pub refused_bytes : (bytes : List ℕ) (error : GraphError) (why : Stop) → (why ≡ NoMemory) ⊎ ((error ≢ NoMemoryToRead) × (why ≡ BadGraph error)) → (error ≢ NoMemoryToRead → IsRefused bytes error) → StopsAtBytes bytes why
-refused_bytes bytes error why (inl same) refused = subst (StopsAtBytes bytes) (sym same) tt
-refused_bytes bytes error why (inr (other, same)) refused = subst (StopsAtBytes bytes) (sym same) (refused other)
+pub refused_bytes : (bytes : List ℕ) (error : GraphError) (why : Stop) → (why ≡ NoMemory) ⊎ ((error ≢ NoMemoryToRead) × (why ≡ BadGraph error)) → (error ≢ NoMemoryToRead → IsRefused bytes error) → StopsAtPlan bytes why
+refused_bytes bytes error why (inl same) refused = subst (StopsAtPlan bytes) (sym same) tt
+refused_bytes bytes error why (inr (other, same)) refused = subst (StopsAtPlan bytes) (sym same) (refused other)
+
+-- what stands for no plan stops a run too
+pub no_plan : (bytes : List ℕ) (why : Stop) → StopsAtPlan bytes why → StopsAtBytes bytes why
+no_plan bytes (BadGraph error) stops = stops
+no_plan bytes (NoSource spot) stops = absurd stops
+no_plan bytes (NoText name) stops = absurd stops
+no_plan bytes (LongText name) stops = absurd stops
+no_plan bytes (ReadFault name) stops = absurd stops
+no_plan bytes (BadJournal line) stops = absurd stops
+no_plan bytes NoMemory stops = stops
 
 -- the job of a plan over the texts that it names
 pub is_work : (held : Held) (plan : PlanRows) (texts : List (List ℕ)) (limit : ℕ) → limit ≤ greatest_limit → IsPlan plan → TextsAre held plan.texts texts → IsWork (first_work plan texts limit)

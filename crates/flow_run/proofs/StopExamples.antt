@@ -1,23 +1,29 @@
 -- Where a call stops and what it has done when it ends, computed at the limits and on a report of two bytes.
-use Rattle.std.proofs.Common.{◌≡◌, ℕ, ◌+◌, List, [], ◌∷◌, ◌++◌, length, Option, Some, None, true, false, inl, inr, refl, arith, ap, sym, subst, ◌∙◌, Result, Ok, Err}
-use Rattle.std.specs.Prelude.{if◌then◌else◌, bytes_eq, ◌==◌}
+use Rattle.std.proofs.Common.{◌≡◌, ℕ, ◌+◌, ◌≤◌, Bool, List, [], ◌∷◌, ◌++◌, length, Option, Some, None, true, false, inl, inr, refl, arith, ap, sym, subst, ◌∙◌, Result, Ok, Err}
+use Rattle.std.specs.Prelude.{if◌then◌else◌, bytes_eq, ◌==◌, All, IsSomeAnd}
 use Rattle.std.specs.Io.KnownBytes.{append_known}
 use Rattle.std.proofs.lemmas.List.{length-append}
+use Rattle.std.proofs.lemmas.List.Elements.{All-from_recursion, All-head}
 use Rattle.outside_io.specs.Sink.{SinkState}
-use Rattle.outside_io.specs.declared.sink.SinkFault.TheVariants as fault
 use Rattle.graph_plans.specs.PlanRows.{PlanRows}
-use Rattle.text_tasks.specs.GraphWork.{first_work}
+use Rattle.graph_file.specs.declared.refusals.GraphError.{GraphError}
+use Rattle.graph_file.specs.declared.refusals.GraphError.TheVariants.{NotJson}
+use Rattle.graph_file.specs.PlanText.{PlanText, IsRefused}
+use Rattle.text_tasks.specs.GraphWork.{GraphWork, first_work}
 use Rattle.text_tasks.specs.declared.job.TextJob.{TextJob}
 use Rattle.text_tasks.specs.declared.job.TextJob.TheVariants.{Graph}
 use Rattle.text_tasks.specs.JobMeaning.{limit_of, names_of, text_job}
+use Rattle.run_frame.specs.Legal.{IsKept}
 use Rattle.run_frame.specs.NestedRule.{job_of}
 use Rattle.nested_runs.specs.Reasons.{run_reason}
 use Rattle.nested_runs.specs.declared.reasons.Reason.TheVariants as reason
-use Rattle.flow_run.specs.declared.status.Status.TheVariants.{Done, WriteFault}
-use Rattle.flow_run.specs.declared.stop.Stop.{Stop}
-use Rattle.flow_run.specs.declared.stop.Stop.TheVariants as stop
-use Rattle.flow_run.specs.Requests.{Held, StopsAtName, IsTextOf, TextsAre, StopsAtText, HasStart, HasPlan, IsRequestedJob, IsAtHand, CountsReads, CountsStop, text_limit}
-use Rattle.flow_run.specs.Answers.{Run, IsAfterRun, RanOnce, KeptOnce, names_in, RunEnds, Reported, Delivers, HaveRead, run_texts}
+use Rattle.text_ops.specs.Lines.{normal}
+use Rattle.call_status.specs.declared.status.Status.TheVariants.{Done, WriteFault, NoMemory}
+use Rattle.command_line.specs.Requests.{asked_by, run as run_of, judge as judge_of}
+use Rattle.call_status.specs.declared.stop.Stop.{Stop}
+use Rattle.call_status.specs.declared.stop.Stop.TheVariants as stop
+use Rattle.flow_run.specs.Requests.{Held, StopsAtName, IsTextOf, TextsAre, StopsAtText, HasStart, HasPlan, StopsBefore, IsRequested, IsRequestedJob, IsAtHand, CountsReads, CountsStop, file_limit, text_limit}
+use Rattle.flow_run.specs.Answers.{Run, IsAfterRun, RanOnce, KeptOnce, names_in, RunEnds, Reported, HaveRead, run_texts}
 
 abbrev g : List ℕ
 g = 0 ∷ []
@@ -53,6 +59,12 @@ text_over_its_limit bytes long = record { before = []; name = t; after = []; tex
 
 no_text_over_its_limit : (bytes text : List ℕ) → length bytes ≡ 16777216 → ¬ IsTextOf (all_hold bytes) t text
 no_text_over_its_limit bytes text long is = let same : Some bytes ≡ Some is.bytes = is.read.0 in absurd (omega (arith, long, ap known_length same, is.read.1))
+
+text_of_the_most_bytes : (bytes : List ℕ) → length bytes ≡ 16777215 → IsTextOf (all_hold bytes) t (normal bytes)
+text_of_the_most_bytes bytes long = record { bytes = bytes; read = (refl, omega (arith, long)); is = refl }
+
+plan_of_the_most_bytes : (bytes : List ℕ) (plan : PlanRows) → length bytes ≡ 4194304 → PlanText bytes plan → HasStart plan → HasPlan (all_hold bytes) g plan
+plan_of_the_most_bytes bytes plan long stands source = record { bytes = bytes; read = (refl, omega (arith, long)); stands = stands; source = source }
 
 no_plan_over_its_limit : (bytes : List ℕ) (plan : PlanRows) → length bytes ≡ 4194305 → ¬ HasPlan (all_hold bytes) g plan
 no_plan_over_its_limit bytes plan long is = let same : Some bytes ≡ Some is.bytes = is.read.0 in absurd (omega (arith, long, ap known_length same, is.read.1))
@@ -166,20 +178,6 @@ module _ (run : Run) (two : run_texts false (run ∷ []) ≡ 7 ∷ 8 ∷ []) whe
       let longer : 2 ≡ length is.front.but.front + length is.front.lost = ap length parts ∙ length-append is.front.but.front is.front.lost in
       absurd (omega (arith, ap known_length took, longer))
 
--- ---- a put
-
-put_whole : Delivers (sink [] 0) (sink (7 ∷ 8 ∷ []) 0) (7 ∷ 8 ∷ []) (Ok tt)
-put_whole = record { took = refl; nothing_held = refl; faults = refl }
-
-put_in_part : ¬ Delivers (sink [] 0) (sink (7 ∷ []) 0) (7 ∷ 8 ∷ []) (Ok tt)
-put_in_part is = let took : Some (7 ∷ []) ≡ Some (7 ∷ 8 ∷ []) = is.took in absurd (omega (arith, ap known_length took))
-
-failed_put_not_counted : ¬ Delivers (sink [] 0) (sink (7 ∷ []) 0) (7 ∷ 8 ∷ []) (Err fault.Failed)
-failed_put_not_counted is = absurd (omega (arith, is.1))
-
-put_failed : Delivers (sink [] 0) (sink (7 ∷ []) 1) (7 ∷ 8 ∷ []) (Err fault.Failed)
-put_failed = (record { took = record { lost = 8 ∷ []; but = record { front = 7 ∷ []; parts = refl; took = refl } }; nothing_held = refl }, omega arith)
-
 -- ---- the texts stay
 
 texts_changed : ¬ HaveRead (λ n. if n == 0 then held else None) (λ n. 0) 0 1 Done
@@ -206,3 +204,107 @@ run_of_another_job run job limit other is =
 
 nothing_at_hand : (arguments : List (List ℕ)) → ¬ IsAtHand None arguments
 nothing_at_hand arguments is = let some : None ≡ Some is.text = is.specified in absurd (cc)
+
+-- ---- each part of an end is asked for
+
+run_that_is_not_kept : (run : Run) → ¬ IsKept text_job run → ¬ RanOnce (λ job. job ≡ job) Done (run ∷ [])
+run_that_is_not_kept run never is =
+    let same : is.run ≡ run = cc in
+    never (subst (IsKept text_job) same is.kept)
+
+reason_of_a_run_that_is_not_kept : (run : Run) (job : TextJob) → ¬ IsKept text_job run → ¬ KeptOnce job (run ∷ []) reason.Fine
+reason_of_a_run_that_is_not_kept run job never is =
+    let same : is.run ≡ run = cc in
+    never (subst (IsKept text_job) same is.kept)
+
+read_faults_forgotten : ¬ HaveRead (λ n. held) (λ (n : ℕ). n) 2 1 NoMemory
+read_faults_forgotten is = absurd (omega (arith, is.no_fewer))
+
+-- ---- what is asked for, and what can be had of it: a graph file `g` that names no text, or the text `t`
+
+abbrev ok_plan : PlanRows → Result PlanRows GraphError
+ok_plan plan = Ok plan
+
+-- where the graph is refused no text stops the call
+text_behind_a_refused_graph : IsRefused (1 ∷ []) NotJson → ¬ StopsBefore held g (stop.NoText t)
+text_behind_a_refused_graph refused (inl (same, none)) = absurd (cc)
+text_behind_a_refused_graph refused (inr (inl at)) = at.stops
+text_behind_a_refused_graph refused (inr (inr behind)) =
+    let same : Some (1 ∷ []) ≡ Some behind.has.bytes = behind.has.read.0 in
+    let bytes : 1 ∷ [] ≡ behind.has.bytes = cc in
+    let both : ok_plan behind.plan ≡ Err NotJson = sym (subst (λ read. PlanText read behind.plan) (sym bytes) behind.has.stands) ∙ refused in
+    absurd (cc)
+
+work_of_another_plan : (plan : PlanRows) (work : GraphWork) → PlanText (1 ∷ []) plan → ¬ (work.plan ≡ plan) → ¬ IsRequested held g 77 work
+work_of_another_plan plan work stands other is =
+    let same : Some (1 ∷ []) ≡ Some is.plan.bytes = is.plan.read.0 in
+    let bytes : 1 ∷ [] ≡ is.plan.bytes = cc in
+    let both : ok_plan work.plan ≡ ok_plan plan = sym (subst (λ read. PlanText read work.plan) (sym bytes) is.plan.stands) ∙ stands in
+    other (cc)
+
+judgement_is_not_at_hand : (arguments : List (List ℕ)) → asked_by arguments ≡ Some (judge_of g t 9) → ¬ IsAtHand held arguments
+judgement_is_not_at_hand arguments asks is = let both : Some (judge_of g t 9) ≡ Some (run_of is.file is.limit is.journal) = sym asks ∙ is.asks in absurd (cc)
+
+-- a source that holds these bytes under `g`, and these under `t`
+abbrev both_held : List ℕ → List ℕ → List ℕ → Option (List ℕ)
+both_held graph text name = if bytes_eq name g then Some graph else (if bytes_eq name t then Some text else None)
+
+module _ (arguments : List (List ℕ)) (graph text : List ℕ) (at_hand : IsAtHand (Some (both_held graph text)) arguments) where
+  its_texts : at_hand.text ≡ both_held graph text
+  its_texts = let both : Some (both_held graph text) ≡ Some at_hand.text = at_hand.specified in cc
+
+  its_graph : (file : List ℕ) (limit : ℕ) (journal : Bool) → asked_by arguments ≡ Some (run_of file limit journal)
+      → IsSomeAnd (both_held graph text file) (λ bytes. (length bytes ≤ file_limit) × PlanText bytes at_hand.plan)
+  its_graph file limit journal asks =
+      let both : Some (run_of file limit journal) ≡ Some (run_of at_hand.file at_hand.limit at_hand.journal) = sym asks ∙ at_hand.asks in
+      let same : file ≡ at_hand.file = cc in
+      subst (λ f. IsSomeAnd (both_held graph text f) (λ bytes. (length bytes ≤ file_limit) × PlanText bytes at_hand.plan)) (sym same)
+      (subst (λ (held_text : List ℕ → Option (List ℕ)). IsSomeAnd (held_text at_hand.file) (λ bytes. (length bytes ≤ file_limit) × PlanText bytes at_hand.plan)) its_texts at_hand.graph)
+
+  its_names : All (λ name. IsSomeAnd (both_held graph text name) (λ bytes. length bytes ≤ text_limit)) at_hand.plan.texts
+  its_names = subst (λ (held_text : List ℕ → Option (List ℕ)). All (λ name. IsSomeAnd (held_text name) (λ bytes. length bytes ≤ text_limit)) at_hand.plan.texts) its_texts at_hand.named
+
+module _ (arguments : List (List ℕ)) (asks : asked_by arguments ≡ Some (run_of g 77 false)) (plan : PlanRows) (stands : PlanText (1 ∷ []) plan) where
+  -- it can be had where the graph can begin and the text that it names is held
+  at_hand_with_its_text : HasStart plan → plan.texts ≡ t ∷ [] → IsAtHand (Some (both_held (1 ∷ []) (2 ∷ 3 ∷ []))) arguments
+  at_hand_with_its_text source names = record {
+    file = g;
+    limit = 77;
+    journal = false;
+    text = both_held (1 ∷ []) (2 ∷ 3 ∷ []);
+    plan = plan;
+    asks = asks;
+    specified = refl;
+    graph = (omega arith, stands);
+    source = source;
+    named = subst (All (λ name. IsSomeAnd (both_held (1 ∷ []) (2 ∷ 3 ∷ []) name) (λ bytes. length bytes ≤ text_limit))) (sym names)
+        (All-from_recursion (λ name. IsSomeAnd (both_held (1 ∷ []) (2 ∷ 3 ∷ []) name) (λ bytes. length bytes ≤ text_limit)) (t ∷ []) (omega arith, tt));
+  }
+
+  -- the plan of what is at hand is this one
+  its_plan : (text : List ℕ) (at_hand : IsAtHand (Some (both_held (1 ∷ []) text)) arguments) → at_hand.plan ≡ plan
+  its_plan text at_hand =
+      let both : ok_plan at_hand.plan ≡ ok_plan plan = sym (its_graph arguments (1 ∷ []) text at_hand g 77 false asks).1 ∙ stands in
+      cc
+
+  graph_that_can_not_begin : (text : List ℕ) → ¬ HasStart plan → ¬ IsAtHand (Some (both_held (1 ∷ []) text)) arguments
+  graph_that_can_not_begin text none at_hand = none (subst HasStart (its_plan text at_hand) at_hand.source)
+
+  named_text_missing : (text : List ℕ) → plan.texts ≡ u ∷ [] → ¬ IsAtHand (Some (both_held (1 ∷ []) text)) arguments
+  named_text_missing text names at_hand =
+      let its : at_hand.plan.texts ≡ u ∷ [] = ap (λ (p : PlanRows). p.texts) (its_plan text at_hand) ∙ names in
+      All-head (λ name. IsSomeAnd (both_held (1 ∷ []) text name) (λ bytes. length bytes ≤ text_limit)) u []
+      (subst (All (λ name. IsSomeAnd (both_held (1 ∷ []) text name) (λ bytes. length bytes ≤ text_limit))) its (its_names arguments (1 ∷ []) text at_hand))
+
+  named_text_too_long : (text : List ℕ) → length text ≡ 16777216 → plan.texts ≡ t ∷ [] → ¬ IsAtHand (Some (both_held (1 ∷ []) text)) arguments
+  named_text_too_long text long names at_hand =
+      let its : at_hand.plan.texts ≡ t ∷ [] = ap (λ (p : PlanRows). p.texts) (its_plan text at_hand) ∙ names in
+      let few : length text ≤ 16777215 = All-head (λ name. IsSomeAnd (both_held (1 ∷ []) text name) (λ bytes. length bytes ≤ text_limit)) t []
+      (subst (All (λ name. IsSomeAnd (both_held (1 ∷ []) text name) (λ bytes. length bytes ≤ text_limit))) its (its_names arguments (1 ∷ []) text at_hand)) in
+      absurd (omega (arith, long, few))
+
+graph_missing : (arguments : List (List ℕ)) (graph text : List ℕ) → asked_by arguments ≡ Some (run_of u 77 false) → ¬ IsAtHand (Some (both_held graph text)) arguments
+graph_missing arguments graph text asks at_hand = its_graph arguments graph text at_hand u 77 false asks
+
+graph_too_long : (arguments : List (List ℕ)) (graph text : List ℕ) → length graph ≡ 4194305 → asked_by arguments ≡ Some (run_of g 77 false) → ¬ IsAtHand (Some (both_held graph text)) arguments
+graph_too_long arguments graph text long asks at_hand = absurd (omega (arith, long, (its_graph arguments graph text at_hand g 77 false asks).0))

@@ -1,8 +1,6 @@
 -- How a call of the program ends: the status, what ran, and what was put.
-use Rattle.std.specs.Prelude.{◌≡◌, ◌⊎◌, ℕ, ◌<◌, ◌≤◌, Bool, true, false, List, [], ◌∷◌, ◌++◌, Option, Some, None, Result, Ok, Err}
+use Rattle.std.specs.Prelude.{◌≡◌, ◌⊎◌, ℕ, ◌<◌, ◌≤◌, Bool, true, false, List, [], ◌∷◌, ◌++◌, Option, Some, None}
 use Rattle.std.specs.List.{flat_map}
-use Rattle.outside_io.specs.declared.sink.SinkFault.{SinkFault}
-use Rattle.outside_io.specs.declared.sink.SinkFault.TheVariants as fault
 use Rattle.outside_io.specs.Sink.{SinkState, Took, TookFront}
 use Rattle.run_frame.specs.declared.run.FrameRun.{FrameRun}
 use Rattle.run_frame.specs.Legal.{IsKept}
@@ -10,31 +8,27 @@ use Rattle.run_frame.specs.NestedRule.{job_of, journal_of}
 use Rattle.text_tasks.specs.declared.item.Item.{Item}
 use Rattle.text_tasks.specs.declared.job.TextJob.{TextJob}
 use Rattle.text_tasks.specs.JobMeaning.{names_of, text_job}
-use Rattle.flow_run.specs.declared.status.Status.{Status}
-use Rattle.flow_run.specs.declared.status.Status.TheVariants.{Done, BadWords, ReadFault, WriteFault, Limit, TaskFault, Stuck, NoMemory}
-use Rattle.flow_run.specs.declared.stop.Stop.TheVariants as stop
-use Rattle.command_line.specs.Requests.{Asked, asked_by, run, judge}
-use Rattle.legal_run.specs.declared.verdict.Verdict.{Verdict}
+use Rattle.call_status.specs.declared.status.Status.{Status}
+use Rattle.call_status.specs.declared.status.Status.TheVariants.{Done, BadWords, ReadFault, WriteFault, NoMemory}
+use Rattle.call_status.specs.declared.stop.Stop.TheVariants as stop
+use Rattle.call_status.specs.Statuses.{status_after}
+use Rattle.call_status.specs.Stopping.{StoppedBefore}
+use Rattle.command_line.specs.Requests.{Asked, asked_by, run, judge, check}
 use Rattle.journal_text.specs.declared.version.Version.TheVariants.{Two}
 use Rattle.journal_text.specs.JournalText.{journal_text}
 use Rattle.nested_runs.specs.Reasons.{run_reason}
 use Rattle.nested_runs.specs.declared.reasons.Reason.{Reason}
 use Rattle.nested_runs.specs.declared.reasons.Reason.TheVariants as reason
+use Rattle.flow_run.specs.declared.conclusion.Conclusion.{Conclusion}
+use Rattle.flow_run.specs.declared.conclusion.Conclusion.TheVariants.{Verdict, Findings}
 use Rattle.flow_run.specs.Requests.{Held, IsRequestedJob, StopsBefore}
 use Rattle.flow_run.specs.Output.{report_of}
-use Rattle.flow_run.specs.Stopping.{StoppedBefore}
-use Rattle.flow_run.specs.Judging.{JudgeEnds, verdict_text}
+use Rattle.flow_run.specs.Judging.{JudgeEnds, verdict_line}
+use Rattle.flow_run.specs.Checking.{CheckEnds, findings_text}
 
 -- a run of text jobs
 abbrev pub Run : Type 0
 Run = FrameRun TextJob Item
-
--- the status of a run that came to its end for a reason, where nothing else went wrong
-abbrev pub status_after : Reason → Status
-status_after reason.Fine = Done
-status_after (reason.Fault path why) = TaskFault path why
-status_after (reason.Limit path limit) = Limit path limit
-status_after (reason.Stuck path) = Stuck path
 
 -- The status tells the run's reason; of a run that ended fine it may tell that the output failed, and of each that
 -- memory ran out.
@@ -66,14 +60,15 @@ RunEnds held file limit status runs = StoppedBefore (StopsBefore held file) stat
 abbrev pub JobEnds : TextJob → Status → List Run → Type 0
 JobEnds job status runs = StoppedBefore (λ why. why ≡ stop.NoMemory) status (runs ≡ []) ⊎ RanOnce (λ of. of ≡ job) status runs
 
--- How a call ends: the command line asks for a run of a file, or for a judgement of a journal, or for nothing, or there is
--- no memory to read it.
-abbrev pub CallEnds : Held → List (List ℕ) → Status → List Run → Option Verdict → Type 0
-CallEnds held arguments status runs verdict =
-    ((file : List ℕ) × (limit : ℕ) × (journal : Bool) × (asked_by arguments ≡ Some (run file limit journal)) × RunEnds held file limit status runs × (verdict ≡ None))
-    ⊎ ((file : List ℕ) × (name : List ℕ) × (limit : ℕ) × (asked_by arguments ≡ Some (judge file name limit)) × JudgeEnds held file name limit status verdict × (runs ≡ []))
-    ⊎ ((status ≡ BadWords) × (runs ≡ []) × (verdict ≡ None) × (asked_by arguments ≡ None))
-    ⊎ ((status ≡ NoMemory) × (runs ≡ []) × (verdict ≡ None))
+-- How a call ends: the command line asks for a run of a file, or for a judgement of a journal, or for a check of a
+-- graph, or for nothing, or there is no memory to read it.
+abbrev pub CallEnds : Held → List (List ℕ) → Status → List Run → Option Conclusion → Type 0
+CallEnds held arguments status runs conclusion =
+    ((file : List ℕ) × (limit : ℕ) × (journal : Bool) × (asked_by arguments ≡ Some (run file limit journal)) × RunEnds held file limit status runs × (conclusion ≡ None))
+    ⊎ ((file : List ℕ) × (name : List ℕ) × (limit : ℕ) × (asked_by arguments ≡ Some (judge file name limit)) × JudgeEnds held file name limit status conclusion × (runs ≡ []))
+    ⊎ ((file : List ℕ) × (asked_by arguments ≡ Some (check file)) × CheckEnds held file status conclusion × (runs ≡ []))
+    ⊎ ((status ≡ BadWords) × (runs ≡ []) × (conclusion ≡ None) × (asked_by arguments ≡ None))
+    ⊎ ((status ≡ NoMemory) × (runs ≡ []) × (conclusion ≡ None))
 
 -- the names of the tasks of the graph that was run
 abbrev pub names_in : List Run → List (List ℕ)
@@ -94,26 +89,15 @@ abbrev pub wants_journal : Option Asked → Bool
 wants_journal (Some (run file limit journal)) = journal
 wants_journal asked = false
 
--- what is put on the output: what is written of the runs that are kept, and of the verdict
-abbrev pub output_of : List (List ℕ) → List Run → Option Verdict → List ℕ
-output_of arguments runs verdict = run_texts (wants_journal (asked_by arguments)) runs ++ verdict_text verdict
+-- what is written of a conclusion, if there is one
+abbrev pub conclusion_text : Option Conclusion → List ℕ
+conclusion_text None = []
+conclusion_text (Some (Verdict verdict)) = verdict_line verdict
+conclusion_text (Some (Findings found)) = findings_text found.names found.findings
 
--- the whole of these bytes was taken, and nothing is held back
-pub record Delivered (before after : SinkState) (bytes : List ℕ) : Type 0 where
-  pub took : Took before.taken after.taken bytes
-  pub nothing_held : after.held_back ≡ []
-  pub faults : after.faults ≡ before.faults
-
--- a prefix of these bytes was taken, and nothing is held back
-pub record CutShort (before after : SinkState) (bytes : List ℕ) : Type 0 where
-  pub took : TookFront before.taken after.taken bytes
-  pub nothing_held : after.held_back ≡ []
-
--- what bytes come to that are put on a sink which holds nothing back, and flushed
-abbrev pub Delivers : SinkState → SinkState → List ℕ → Result (Unit {0}) SinkFault → Type 0
-Delivers before after bytes (Ok done) = Delivered before after bytes
-Delivers before after bytes (Err fault.Failed) = CutShort before after bytes × (before.faults < after.faults)
-Delivers before after bytes (Err fault.NoMemory) = CutShort before after bytes × (before.faults ≤ after.faults)
+-- what is put on the output: what is written of the runs that are kept, and of the conclusion
+abbrev pub output_of : List (List ℕ) → List Run → Option Conclusion → List ℕ
+output_of arguments runs conclusion = run_texts (wants_journal (asked_by arguments)) runs ++ conclusion_text conclusion
 
 -- What a command has done to the output when it ends, on which it was to put these bytes. Where it came to nothing the
 -- output is as it was.

@@ -1,5 +1,5 @@
 -- What a judgement of a journal asks for, how it ends and what is written of it.
-use Rattle.std.specs.Prelude.{◌≡◌, ◌⊎◌, ◌≤◌, ℕ, List, [], ◌++◌, length, codes, decimal, Option, Some, None, IsSomeAnd}
+use Rattle.std.specs.Prelude.{◌≡◌, ◌⊎◌, ◌≤◌, ℕ, List, ◌++◌, length, codes, decimal, Option, Some, None, IsSomeAnd}
 use Rattle.graph_plans.specs.PlanRows.{PlanRows}
 use Rattle.graph_file.specs.PlanText.{PlanText}
 use Rattle.journal_rules.specs.declared.entry.Entry.{Entry}
@@ -10,12 +10,15 @@ use Rattle.legal_run.specs.declared.verdict.Verdict.TheVariants.{Complete as Fin
 use Rattle.legal_run.specs.Verdict.{IsVerdict}
 use Rattle.journal_text.specs.JournalText.{IsBadLine, IsJournalText}
 use Rattle.command_line.specs.Requests.{asked_by, judge}
-use Rattle.flow_run.specs.declared.status.Status.{Status}
-use Rattle.flow_run.specs.declared.status.Status.TheVariants.{Done, WriteFault, NotLegal, NoMemory}
-use Rattle.flow_run.specs.declared.stop.Stop.{Stop}
-use Rattle.flow_run.specs.declared.stop.Stop.TheVariants as stop
+use Rattle.call_status.specs.declared.status.Status.{Status}
+use Rattle.call_status.specs.declared.status.Status.TheVariants.{Done, WriteFault, NoMemory}
+use Rattle.call_status.specs.declared.stop.Stop.{Stop}
+use Rattle.call_status.specs.declared.stop.Stop.TheVariants as stop
+use Rattle.call_status.specs.Statuses.{status_by}
+use Rattle.call_status.specs.Stopping.{StoppedBefore}
 use Rattle.flow_run.specs.Requests.{Held, HasPlan, HasStart, IsHeld, StopsAtGraph, StopsAtName, file_limit}
-use Rattle.flow_run.specs.Stopping.{StoppedBefore}
+use Rattle.flow_run.specs.declared.conclusion.Conclusion.{Conclusion}
+use Rattle.flow_run.specs.declared.conclusion.Conclusion.TheVariants as conclusion
 
 -- the most bytes of a journal file
 abbrev pub journal_limit : ℕ
@@ -60,26 +63,21 @@ pub record IsJudged (held : Held) (file name : List ℕ) (limit : ℕ) (verdict 
   pub text : HasJournal held name journal
   pub is : IsVerdict plan.top.net limit journal verdict
 
--- the status of a verdict, where nothing else went wrong
-abbrev pub status_by : Verdict → Status
-status_by (Breaks place why) = NotLegal place why
-status_by verdict = Done
-
 -- The status tells the verdict; of a journal that breaks no rule it may tell that the output failed, and of each that
 -- memory ran out.
 abbrev pub IsAfterVerdict : Verdict → Status → Type 0
 IsAfterVerdict verdict status = (status ≡ status_by verdict) ⊎ ((status_by verdict ≡ Done) × (status ≡ WriteFault)) ⊎ (status ≡ NoMemory)
 
 -- there is a verdict, and it is told
-pub record EndsJudged (held : Held) (file name : List ℕ) (limit : ℕ) (status : Status) (verdict : Option Verdict) : Type 0 where
-  pub told : Verdict
-  pub only : verdict ≡ Some told
-  pub judged : IsJudged held file name limit told
-  pub after : IsAfterVerdict told status
+pub record EndsJudged (held : Held) (file name : List ℕ) (limit : ℕ) (status : Status) (concluded : Option Conclusion) : Type 0 where
+  pub verdict : Verdict
+  pub only : concluded ≡ Some (conclusion.Verdict verdict)
+  pub judged : IsJudged held file name limit verdict
+  pub after : IsAfterVerdict verdict status
 
 -- How a call ends that is to judge a journal: before the verdict, for a reason that the status tells, or after it.
-abbrev pub JudgeEnds : Held → List ℕ → List ℕ → ℕ → Status → Option Verdict → Type 0
-JudgeEnds held file name limit status verdict = StoppedBefore (StopsBeforeVerdict held file name) status (verdict ≡ None) ⊎ EndsJudged held file name limit status verdict
+abbrev pub JudgeEnds : Held → List ℕ → List ℕ → ℕ → Status → Option Conclusion → Type 0
+JudgeEnds held file name limit status concluded = StoppedBefore (StopsBeforeVerdict held file name) status (concluded ≡ None) ⊎ EndsJudged held file name limit status concluded
 
 -- what an entry is told to break
 abbrev pub break_text : Break → List ℕ
@@ -100,11 +98,6 @@ abbrev pub verdict_line : Verdict → List ℕ
 verdict_line Finished = codes "complete\n"
 verdict_line Legal = codes "legal\n"
 verdict_line (Breaks place why) = codes "breaks at " ++ decimal place ++ codes ": " ++ break_text why ++ codes "\n"
-
--- what is written of a verdict, if there is one
-abbrev pub verdict_text : Option Verdict → List ℕ
-verdict_text None = []
-verdict_text (Some verdict) = verdict_line verdict
 
 -- What the command line asks to be judged can be judged whole, and breaks no rule: the source specifies what it holds;
 -- the graph file has no more bytes than may be read, and stands for a plan with a task to begin with, or without tasks;

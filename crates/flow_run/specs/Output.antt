@@ -15,7 +15,7 @@ use Rattle.text_tasks.specs.Items.{item_text}
 use Rattle.text_ops.specs.Lines.{line_end}
 use Rattle.text_tasks.specs.JobMeaning.{net_of, names_of, text_job}
 use Rattle.nested_runs.specs.Reasons.{run_reason}
-use Rattle.flow_run.specs.Reasons.{reason_line}
+use Rattle.call_status.specs.Reasons.{reason_line}
 
 -- the marks with which the line of a task begins that has ended, and of one that hasn't
 abbrev pub ended_mark : List ℕ

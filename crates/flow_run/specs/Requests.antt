@@ -7,8 +7,8 @@ use Rattle.text_ops.specs.Lines.{normal}
 use Rattle.text_tasks.specs.declared.job.TextJob.{TextJob}
 use Rattle.text_tasks.specs.declared.job.TextJob.TheVariants.{Graph}
 use Rattle.text_tasks.specs.GraphWork.{GraphWork}
-use Rattle.flow_run.specs.declared.stop.Stop.{Stop}
-use Rattle.flow_run.specs.declared.stop.Stop.TheVariants.{BadGraph, NoSource, NoText, LongText, ReadFault, NoMemory}
+use Rattle.call_status.specs.declared.stop.Stop.{Stop}
+use Rattle.call_status.specs.declared.stop.Stop.TheVariants.{BadGraph, NoSource, NoText, LongText, ReadFault, NoMemory}
 use Rattle.command_line.specs.Requests.{asked_by, run}
 
 -- the texts that a source holds, where it specifies them
@@ -68,12 +68,16 @@ pub record StopsAtText (held : Held) (names : List (List ℕ)) (stop : Stop) : T
 abbrev pub HasStart : PlanRows → Type 0
 HasStart plan = NoSourceAnswer plan None
 
+-- why bytes that were read as a graph file stand for no plan
+abbrev pub StopsAtPlan : List ℕ → Stop → Type 0
+StopsAtPlan bytes (BadGraph error) = IsRefused bytes error
+StopsAtPlan bytes NoMemory = Unit {0}
+StopsAtPlan bytes stop = ⊥
+
 -- why bytes that were read as a graph file stop the call
 abbrev pub StopsAtBytes : List ℕ → Stop → Type 0
-StopsAtBytes bytes (BadGraph error) = IsRefused bytes error
 StopsAtBytes bytes (NoSource spot) = (plan : PlanRows) × PlanText bytes plan × NoSourceAnswer plan (Some spot)
-StopsAtBytes bytes NoMemory = Unit {0}
-StopsAtBytes bytes stop = ⊥
+StopsAtBytes bytes stop = StopsAtPlan bytes stop
 
 -- the bytes held under the file's name stand for the plan, and the graph has a task to begin with
 pub record HasPlan (held : Held) (file : List ℕ) (plan : PlanRows) : Type 0 where

@@ -2,22 +2,25 @@
 ghost use Rattle.std.specs.Prelude.{◌≡◌, ◌≢◌, ◌⊎◌, ◌≤◌, ◌<◌, [], true, false, map, All, IfOk};
 ghost use Rattle.std.specs.String.{string_bytes};
 ghost use Rattle.outside_io.specs.Sink.{Took, TookFront, Writes};
+ghost use Rattle.call_status.specs.Delivery.{Delivers};
+ghost use Rattle.call_status.specs.Notes.{note_line};
+ghost use Rattle.call_status.specs.Statuses.{status_after};
 ghost use Rattle.command_line.specs.Requests.{greatest_limit_option};
 ghost use Rattle.nested_runs.specs.Reasons.{run_reason};
 ghost use Rattle.text_tasks.specs.JobMeaning.{text_job, IsTextJob};
 ghost use Rattle.flow_run.specs.Requests.{IsAtHand};
-ghost use Rattle.flow_run.specs.Answers.{CallEnds, Delivers, HasWritten, HaveRead, IsReadFault, JobEnds, KeptOnce, Reported, RunEnds, names_in, output_of, run_text, run_texts, status_after};
+ghost use Rattle.flow_run.specs.Answers.{CallEnds, HasWritten, HaveRead, IsReadFault, JobEnds, KeptOnce, Reported, RunEnds, names_in, output_of, run_text, run_texts};
+ghost use Rattle.flow_run.specs.Checking.{CanBeChecked};
 ghost use Rattle.flow_run.specs.Judging.{CanBeJudged};
-ghost use Rattle.flow_run.specs.Notes.{note_line};
 
+use super::checking::check_file;
+use super::conclusion::Conclusion;
 use super::judging::judge_file;
-use super::note::put_note;
 use super::prepare::prepare;
 use super::report::put_report;
-use super::status::{Noted, Status};
+use call_status::{Noted, Status, flushed, put_note};
 use command_line::{ArgumentsError, Request, Run, read_arguments};
 use journal_text::print_journal;
-use legal_run::Verdict;
 use nested_runs::{Reason, reason_of};
 use outside_io::{Bytes, List, NoMemory, Sink, SinkFault, Texts};
 use run_frame::{FrameRun, run_alone};
@@ -33,8 +36,8 @@ pub struct Outcome {
     pub status: Status,
     /// The runs that were run to their end.
     pub runs: List<FrameRun<TextJob>>,
-    /// The judge's verdict, where one was come to.
-    pub verdict: Option<Verdict>,
+    /// What was concluded, where nothing was to be run: the judge's verdict, or the findings on a graph.
+    pub conclusion: Option<Conclusion>,
     /// The watchers, as they were handed in.
     pub watchers: Vec<Box<dyn Watch + Send>>,
     /// Whether all that was to be written was written, or nothing was. Else the output has a prefix of it.
@@ -45,7 +48,8 @@ pub struct Outcome {
 
 /// Does what the words ask for: `run FILE` reads the graph file of this name and the texts that it names, runs
 /// the graph to its end, and writes the run's report on `out`, or with `--journal` its journal; `judge FILE JOURNAL` reads
-/// the journal file of that name besides, and writes the judge's verdict. The line of the status goes to `notes`.
+/// the journal file of that name besides, and writes the judge's verdict; `check FILE` writes how the graph can go wrong.
+/// The line of the status goes to `notes`.
 pub fn flow_main<F: Texts, S: Sink, N: Sink>(
     alloc: Global,
     words: &[String],
@@ -56,9 +60,9 @@ pub fn flow_main<F: Texts, S: Sink, N: Sink>(
 ) -> Outcome
     requires nothing_held_on_out { (S.state out.old).held_back ≡ [] }
     requires nothing_held_on_notes { (N.state notes.old).held_back ≡ [] }
-    // The status has its cause; the kept run is one legal and complete run of the graph that FILE holds, and the verdict
-    // that on the journal that JOURNAL holds.
-    ensures ends { CallEnds (F.held texts.old) (map string_bytes words.now) result.status result.runs result.verdict }
+    // The status has its cause; the kept run is one legal and complete run of the graph that FILE holds, the verdict
+    // that on the journal that JOURNAL holds, and the findings those on the graph that FILE holds.
+    ensures ends { CallEnds (F.held texts.old) (map string_bytes words.now) result.status result.runs result.conclusion }
     // Where what the words ask for is at hand, the run ends fine and nothing fails, all is done.
     ensures completes { IsAtHand (F.held texts.old) (map string_bytes words.now) → All (λ run. run_reason text_job run ≡ Reason.Fine) result.runs →
         F.faults texts.new ≡ F.faults texts.old → (S.state out.new).faults ≡ (S.state out.old).faults →
@@ -67,13 +71,17 @@ pub fn flow_main<F: Texts, S: Sink, N: Sink>(
     ensures judges { CanBeJudged (F.held texts.old) (map string_bytes words.now) →
         F.faults texts.new ≡ F.faults texts.old → (S.state out.new).faults ≡ (S.state out.old).faults →
         (result.status ≡ Status.Done) ⊎ (result.status ≡ Status.NoMemory) }
-    // The output took the report or the journal of the kept run, or the verdict's line, or a prefix of it. Where no run is
-    // kept and no verdict was come to, it is left alone.
-    ensures output { TookFront (S.state out.old).taken (S.state out.new).taken (output_of (map string_bytes words.now) result.runs result.verdict) }
-    ensures whole { result.written ≡ true → Took (S.state out.old).taken (S.state out.new).taken (output_of (map string_bytes words.now) result.runs result.verdict) }
+    // Where the graph that is to be checked is at hand and nothing fails, all is done.
+    ensures checks { CanBeChecked (F.held texts.old) (map string_bytes words.now) →
+        F.faults texts.new ≡ F.faults texts.old → (S.state out.new).faults ≡ (S.state out.old).faults →
+        (result.status ≡ Status.Done) ⊎ (result.status ≡ Status.NoMemory) }
+    // The output took the report or the journal of the kept run, or the verdict's line, or the findings, or a prefix of it.
+    // Where no run is kept and nothing was concluded, it is left alone.
+    ensures output { TookFront (S.state out.old).taken (S.state out.new).taken (output_of (map string_bytes words.now) result.runs result.conclusion) }
+    ensures whole { result.written ≡ true → Took (S.state out.old).taken (S.state out.new).taken (output_of (map string_bytes words.now) result.runs result.conclusion) }
     ensures nothing_held { (S.state out.new).held_back ≡ [] }
-    ensures out_untouched { result.runs ≡ [] → result.verdict ≡ None → out.new ≡ out.old }
-    ensures nothing_to_write { result.runs ≡ [] → result.verdict ≡ None → result.written ≡ true }
+    ensures out_untouched { result.runs ≡ [] → result.conclusion ≡ None → out.new ≡ out.old }
+    ensures nothing_to_write { result.runs ≡ [] → result.conclusion ≡ None → result.written ≡ true }
     // The whole was written without a failure; or a write failed, or an allocation.
     ensures written { result.written ≡ true → (S.state out.new).faults ≡ (S.state out.old).faults }
     ensures not_written { result.written ≡ false → ((S.state out.old).faults < (S.state out.new).faults) ⊎ (result.status ≡ Status.NoMemory) }
@@ -100,14 +108,14 @@ pub fn flow_main<F: Texts, S: Sink, N: Sink>(
     let Ended {
         status,
         runs,
-        verdict,
+        conclusion,
         written,
     } = answer(alloc, words, texts, out);
     let noted = put_note(alloc, notes, names_in(runs.as_slice()), &status);
     Outcome {
         status,
         runs,
-        verdict,
+        conclusion,
         watchers,
         written,
         noted,
@@ -118,21 +126,22 @@ pub fn flow_main<F: Texts, S: Sink, N: Sink>(
 pub(crate) struct Ended {
     pub status: Status,
     pub runs: List<FrameRun<TextJob>>,
-    pub verdict: Option<Verdict>,
+    pub conclusion: Option<Conclusion>,
     pub written: bool,
 }
 
 // Does what the words ask for.
 fn answer<F: Texts, S: Sink>(alloc: Global, words: &[String], texts: &mut F, out: &mut S) -> Ended
     requires { (S.state out.old).held_back ≡ [] }
-    ensures ends { CallEnds (F.held texts.old) (map string_bytes words.now) result.status result.runs result.verdict }
-    ensures told { HasWritten S.state out.old out.new result.status ((result.runs ≡ []) × (result.verdict ≡ None)) (output_of (map string_bytes words.now) result.runs result.verdict) result.written }
+    ensures ends { CallEnds (F.held texts.old) (map string_bytes words.now) result.status result.runs result.conclusion }
+    ensures told { HasWritten S.state out.old out.new result.status ((result.runs ≡ []) × (result.conclusion ≡ None)) (output_of (map string_bytes words.now) result.runs result.conclusion) result.written }
     ensures read { HaveRead F.held F.faults texts.old texts.new result.status }
     ensures texts_untouched { result.status ≡ Status.BadWords → texts.new ≡ texts.old }
 {
     match read_arguments(alloc, words) {
         Ok(Request::Run(run)) => run_file(alloc, run, texts, out),
         Ok(Request::Judge(judge)) => judge_file(alloc, judge, texts, out),
+        Ok(Request::Check(check)) => check_file(alloc, check, texts, out),
         Err(ArgumentsError::Refused) => stopped(alloc, Status::BadWords),
         Err(ArgumentsError::NoMemory) => stopped(alloc, Status::NoMemory),
     }
@@ -144,7 +153,7 @@ fn run_file<F: Texts, S: Sink>(alloc: Global, run: Run<'_>, texts: &mut F, out: 
     requires nothing_held { (S.state out.old).held_back ≡ [] }
     ensures ends { RunEnds (F.held texts.old) run.entry.file.now run.entry.limit result.status result.runs }
     ensures reported { Reported S.state out.old out.new result.status run.entry.journal result.runs result.written }
-    ensures no_verdict { result.verdict ≡ None }
+    ensures no_conclusion { result.conclusion ≡ None }
     ensures read { HaveRead F.held F.faults texts.old texts.new result.status }
 {
     match prepare(alloc, texts, run.file.as_bytes(), run.limit) {
@@ -153,14 +162,14 @@ fn run_file<F: Texts, S: Sink>(alloc: Global, run: Run<'_>, texts: &mut F, out: 
     }
 }
 
-/// An end before any run and any verdict.
+/// An end before any run and any conclusion.
 pub(crate) fn stopped(alloc: Global, status: Status) -> Ended
-    ensures { result ≡ record { status = status; runs = []; verdict = None; written = true } }
+    ensures { result ≡ record { status = status; runs = []; conclusion = None; written = true } }
 {
     Ended {
         status,
         runs: List::new(alloc),
-        verdict: None,
+        conclusion: None,
         written: true,
     }
 }
@@ -171,7 +180,7 @@ fn run_and_report<S: Sink>(alloc: Global, job: TextJob, journal: bool, out: &mut
     requires nothing_held { (S.state out.old).held_back ≡ [] }
     ensures ends { JobEnds job result.status result.runs }
     ensures reported { Reported S.state out.old out.new result.status journal result.runs result.written }
-    ensures no_verdict { result.verdict ≡ None }
+    ensures no_conclusion { result.conclusion ≡ None }
 {
     let Ok(KeptRuns { runs, reason }) = kept_runs(alloc, job) else {
         return stopped(alloc, Status::NoMemory);
@@ -180,19 +189,19 @@ fn run_and_report<S: Sink>(alloc: Global, job: TextJob, journal: bool, out: &mut
         Ok(()) => Ended {
             status: Status::after(reason),
             runs,
-            verdict: None,
+            conclusion: None,
             written: true,
         },
         Err(SinkFault::Failed) => Ended {
             status: unwritten(reason),
             runs,
-            verdict: None,
+            conclusion: None,
             written: false,
         },
         Err(SinkFault::NoMemory) => Ended {
             status: Status::NoMemory,
             runs,
-            verdict: None,
+            conclusion: None,
             written: false,
         },
     }
@@ -239,7 +248,6 @@ fn names_in(runs: &[FrameRun<TextJob>]) -> &[Bytes]
 }
 
 // Writes the reports of these runs, or their journals, in order, and all that is held back of them.
-#[tactic(auto, using(crate::proofs::Ending::cut_short, crate::proofs::Ending::flush_delivers, crate::proofs::Ending::flush_cuts))]
 fn deliver_runs<S: Sink>(
     alloc: Global,
     out: &mut S,
@@ -249,14 +257,8 @@ fn deliver_runs<S: Sink>(
     requires { (S.state out.old).held_back ≡ [] }
     ensures { Delivers (S.state out.old) (S.state out.new) (run_texts journal runs.now) result }
 {
-    match put_runs(alloc, out, runs, journal) {
-        Ok(()) => out.flush(),
-        Err(SinkFault::Failed) => Err(SinkFault::Failed),
-        Err(SinkFault::NoMemory) => {
-            let _flushed = out.flush();
-            Err(SinkFault::NoMemory)
-        }
-    }
+    let put = put_runs(alloc, out, runs, journal);
+    flushed(out, put)
 }
 
 // Puts the reports of these runs, or their journals, in order.

@@ -1,18 +1,18 @@
 // The command `judge`.
-ghost use Rattle.std.specs.Prelude.{◌≡◌, ◌≢◌, ◌++◌, [], None, Some, IfErr, IfOk, OnOk};
-ghost use Rattle.journal_text.specs.JournalText.{IsJournalText};
-ghost use Rattle.flow_run.specs.Answers.{Delivers, HasWritten, HaveRead};
-ghost use Rattle.flow_run.specs.Judging.{HasJournal, IsAfterVerdict, IsJudged, JudgeEnds, StopsAtJournal, StopsAtJournalBytes, StopsBeforeVerdict, break_text, status_by, verdict_line, verdict_text};
+ghost use Rattle.std.specs.Prelude.{◌≡◌, ◌≢◌, ◌++◌, [], ℕ, List, None, Some, IfErr, IfOk, OnOk};
+ghost use Rattle.journal_text.specs.JournalText.{IsJournalText, RefusesJournal};
+ghost use Rattle.call_status.specs.Delivery.{Delivers};
+ghost use Rattle.call_status.specs.Statuses.{status_by};
+ghost use Rattle.flow_run.specs.Answers.{HasWritten, HaveRead, conclusion_text};
+ghost use Rattle.flow_run.specs.Judging.{HasJournal, IsAfterVerdict, IsJudged, JudgeEnds, StopsAtJournal, StopsAtJournalBytes, StopsBeforeVerdict, break_text, verdict_line};
 ghost use Rattle.flow_run.specs.Requests.{CountsReads};
 
 use super::call::{Ended, stopped};
-use super::note::deliver;
+use super::conclusion::Conclusion;
 use super::prepare::{FILE_LIMIT, read_named, read_plan};
-use super::reasons::add_numbered;
-use super::status::Status;
-use super::stop::{Stop, journal_refusal};
+use call_status::{Status, Stop, add_numbered, deliver};
 use command_line::Judge;
-use journal_text::read_journal;
+use journal_text::{JournalError, read_journal};
 use legal_run::{Break, Journal, Verdict, judge};
 use outside_io::{Bytes, List, NoMemory, Sink, SinkFault, Texts};
 use std::alloc::Global;
@@ -28,8 +28,8 @@ pub(crate) fn judge_file<F: Texts, S: Sink>(
     out: &mut S,
 ) -> Ended
     requires { (S.state out.old).held_back ≡ [] }
-    ensures ends { JudgeEnds (F.held texts.old) asked.entry.file.now asked.entry.journal.now asked.entry.limit result.status result.verdict }
-    ensures told { HasWritten S.state out.old out.new result.status (result.verdict ≡ None) (verdict_text result.verdict) result.written }
+    ensures ends { JudgeEnds (F.held texts.old) asked.entry.file.now asked.entry.journal.now asked.entry.limit result.status result.conclusion }
+    ensures told { HasWritten S.state out.old out.new result.status (result.conclusion ≡ None) (conclusion_text result.conclusion) result.written }
     ensures no_run { result.runs ≡ [] }
     ensures read { HaveRead F.held F.faults texts.old texts.new result.status }
 {
@@ -81,12 +81,22 @@ fn journal_in(alloc: Global, bytes: &[u8]) -> Result<Journal, Stop>
     }
 }
 
+// Why bytes that were read as a journal stop the call.
+fn journal_refusal(error: JournalError) -> Stop
+    ensures { (bytes : List ℕ) → RefusesJournal bytes error → StopsAtJournalBytes bytes result }
+{
+    match error {
+        JournalError::BadLine(line) => Stop::BadJournal(line),
+        JournalError::NoMemory => Stop::NoMemory,
+    }
+}
+
 // Writes the line of a verdict.
 fn tell_verdict<S: Sink>(alloc: Global, verdict: Verdict, out: &mut S) -> Ended
     requires { (S.state out.old).held_back ≡ [] }
     ensures after { IsAfterVerdict verdict result.status }
-    ensures verdict { result.verdict ≡ Some verdict }
-    ensures told { HasWritten S.state out.old out.new result.status (result.verdict ≡ None) (verdict_text result.verdict) result.written }
+    ensures conclusion { result.conclusion ≡ Some (Conclusion.Verdict verdict) }
+    ensures told { HasWritten S.state out.old out.new result.status (result.conclusion ≡ None) (conclusion_text result.conclusion) result.written }
     ensures no_run { result.runs ≡ [] }
 {
     let (status, written) = match deliver_verdict(alloc, verdict, out) {
@@ -97,7 +107,7 @@ fn tell_verdict<S: Sink>(alloc: Global, verdict: Verdict, out: &mut S) -> Ended
     Ended {
         status,
         runs: List::new(alloc),
-        verdict: Some(verdict),
+        conclusion: Some(Conclusion::Verdict(verdict)),
         written,
     }
 }
@@ -114,7 +124,7 @@ fn untold(verdict: Verdict) -> Status
 }
 
 // Puts the line of a verdict on the output, and flushes it.
-#[tactic(auto, using(crate::proofs::Ending::nothing_delivered))]
+#[tactic(auto, using(call_status::proofs::Delivering::nothing_delivered))]
 fn deliver_verdict<S: Sink>(alloc: Global, verdict: Verdict, out: &mut S) -> Result<(), SinkFault>
     requires { (S.state out.old).held_back ≡ [] }
     ensures { Delivers (S.state out.old) (S.state out.new) (verdict_line verdict) result }

@@ -4,9 +4,9 @@ ghost use Rattle.graph_plans.specs.PlanRows.{IsPlan, plan_rows};
 ghost use Rattle.graph_file.specs.PlanText.{PlanText};
 ghost use Rattle.text_tasks.specs.GraphWork.{greatest_limit};
 ghost use Rattle.text_tasks.specs.JobMeaning.{IsTextJob};
-ghost use Rattle.flow_run.specs.Requests.{CountsReads, HasStart, IsAdded, IsHeld, IsRequestedJob, StopsAtBytes, StopsAtName, StopsAtText, StopsBefore, TextsAre, text_limit};
+ghost use Rattle.flow_run.specs.Requests.{CountsReads, HasStart, IsAdded, IsHeld, IsRequestedJob, StopsAtBytes, StopsAtName, StopsAtPlan, StopsAtText, StopsBefore, TextsAre, text_limit};
 
-use super::stop::{Stop, refusal};
+use call_status::{Stop, refusal};
 use graph_file::read_graph;
 use graph_plans::{Plan, no_source};
 use outside_io::{Bytes, Found, List, Texts, TextsFault};
@@ -66,19 +66,29 @@ pub(crate) fn read_named<F: Texts>(
 }
 
 /// The plan for which these bytes stand, if its graph has a task to begin with.
+#[tactic(auto, using(crate::proofs::Preparing::no_plan))]
 pub(crate) fn read_plan(alloc: Global, bytes: &[u8]) -> Result<Plan, Stop>
     ensures plan { IfOk result (λ plan. PlanText bytes.now (plan_rows plan)) }
     ensures rules { IfOk result (λ plan. IsPlan (plan_rows plan)) }
     ensures source { IfOk result (λ plan. HasStart (plan_rows plan)) }
     ensures stops { IfErr result (StopsAtBytes bytes.now) }
 {
-    let plan = match read_graph(alloc, bytes) {
-        Ok(plan) => plan,
-        Err(error) => return Err(refusal(error)),
-    };
+    let plan = plan_in(alloc, bytes)?;
     match no_source(&plan) {
         None => Ok(plan),
         Some(spot) => Err(Stop::NoSource(spot)),
+    }
+}
+
+/// The plan for which these bytes stand.
+pub(crate) fn plan_in(alloc: Global, bytes: &[u8]) -> Result<Plan, Stop>
+    ensures plan { IfOk result (λ plan. PlanText bytes.now (plan_rows plan)) }
+    ensures rules { IfOk result (λ plan. IsPlan (plan_rows plan)) }
+    ensures stops { IfErr result (StopsAtPlan bytes.now) }
+{
+    match read_graph(alloc, bytes) {
+        Ok(plan) => Ok(plan),
+        Err(error) => Err(refusal(error)),
     }
 }
 

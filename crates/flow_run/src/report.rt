@@ -7,10 +7,10 @@ ghost use Rattle.run_frame.specs.NestedRule.{job_of, journal_of};
 ghost use Rattle.run_frame.specs.Runs.{values_of};
 ghost use Rattle.text_tasks.specs.JobMeaning.{names_of, net_of, text_job};
 ghost use Rattle.nested_runs.specs.Reasons.{run_reason};
-ghost use Rattle.flow_run.specs.Reasons.{reason_line};
+ghost use Rattle.call_status.specs.Reasons.{reason_line};
 ghost use Rattle.flow_run.specs.Output.{ended_mark, header, outcome, report, task_report, report_of};
 
-use super::reasons::{add_reason_line, name_of};
+use call_status::{add_reason_line, name_of};
 use nested_runs::reason_of;
 use outside_io::{Bytes, List, NoMemory, Sink, SinkFault};
 use run_frame::{FrameRun, Job, last_ends, values_by_place};
@@ -175,8 +175,8 @@ fn put_value<S: Sink>(out: &mut S, text: &[u8]) -> Result<(), SinkFault>
     }
 }
 
-// Puts a piece, by one put.
-fn put_piece<S: Sink>(out: &mut S, piece: &[u8]) -> Result<(), SinkFault>
+/// Puts a piece, by one put.
+pub(crate) fn put_piece<S: Sink>(out: &mut S, piece: &[u8]) -> Result<(), SinkFault>
     ensures { Writes (S.state out.old) (S.state out.new) piece.now result }
 {
     out.put(piece)

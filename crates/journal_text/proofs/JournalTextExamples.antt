@@ -267,3 +267,31 @@ no_text_of_another is = let same : [] ≡ two_entries = one_journal [] two_entri
 -- More lines than there are begin no text, and a line without its end isn't one.
 no_third_line : ¬ BeginsWithText (codes "flow journal 2\nfault 1 inner") 2
 no_third_line = no_end.bad
+
+-- Each part of an entry is asked for: the edge of a cause, each part that is found, and why it faulted or was dropped, by
+-- its version.
+cause_of_a_start : ¬ HasLine Two (Start 0 (Weak 4294967296) [])
+cause_of_a_start has = let fits = has.1 in omega arith
+
+second_part_of_a_start : ¬ HasLine Two (Start 0 Strong (First ∷ From 18446744073709551616 ∷ []))
+second_part_of_a_start has = let fits = has.2.1.0 in omega arith
+
+length_of_a_fault : ¬ HasLine Two (Fault 0 (Long 18446744073709551616))
+length_of_a_fault has = let fits = has.1 in omega arith
+
+fault_by_version : HasLine Two (Fault 18446744073709551615 (OverRelease 0)) × ¬ HasLine One (Fault 0 (OverRelease 0))
+fault_by_version = ((omega arith, omega arith), λ has. has.1)
+
+cause_of_a_drop : ¬ HasLine Two (Drop 0 (Weak 4294967296) Halted)
+cause_of_a_drop has = let fits = has.1 in omega arith
+
+drop_by_version : HasLine Two (Drop 4294967295 Source (Stuck 0)) × ¬ HasLine One (Drop 0 Source (Stuck 0))
+drop_by_version = ((omega arith, tt, omega arith), λ has. has.2)
+
+-- Lines without room for their numbers are no text, though they would be written so.
+line_of_a_great_task : journal_text Two (Start 4294967296 Source [] ∷ []) ≡ codes "flow journal 2\nstart 4294967296 source -\n"
+unfolding digits
+line_of_a_great_task = refl
+
+text_of_a_great_task : ¬ IsJournalText (Start 4294967296 Source [] ∷ []) (codes "flow journal 2\nstart 4294967296 source -\n")
+text_of_a_great_task is = let fits = is.lines.0.0 in omega arith

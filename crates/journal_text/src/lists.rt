@@ -9,6 +9,9 @@ use journal_rules::Part;
 use outside_io::List;
 use std::alloc::Global;
 
+// The most items for which a list takes room before they are read.
+const FIRST_ROOM: usize = 1_024;
+
 /// What a list in a line has as an item.
 pub(crate) trait ListItem: Copy + Drop {
     /// How an item is read.
@@ -49,16 +52,16 @@ pub(crate) fn list_at<T: ListItem>(
     items_at(alloc, bytes)
 }
 
-// One item or more. The list has room for as many as there are.
+// One item or more. The list has room for as many as there are, or else grows: bytes that are all commas take none.
 #[tactic(auto, unfolding(crate::specs::inside::Reading::items_at))]
 fn items_at<T: ListItem>(alloc: Global, bytes: &[u8]) -> Result<(List<T>, &[u8]), LineFault>
     ensures { ReadsTo (λ x. (x.0, x.1.now)) result (items_at T.read_at bytes.now) }
 {
-    let commas = comma_count(bytes);
-    let mut items = List::with_room(alloc, commas + 1)?;
     let Some((first, rest)) = T::item_at(bytes) else {
         return Err(LineFault::Bad);
     };
+    let commas = comma_count(bytes);
+    let mut items = List::with_room(alloc, commas.min(FIRST_ROOM) + 1)?;
     items.push(first)?;
     let rest = more_items(&mut items, commas, rest)?;
     Ok((items, rest))

@@ -14,6 +14,9 @@ use memchr::memchr_iter;
 use outside_io::{List, NoMemory};
 use std::alloc::Global;
 
+// The bytes of the shortest line of an entry, which is that of an end without edges or of a fault: `end 0 - plain`.
+const SHORTEST_LINE: usize = 14;
+
 /// Why bytes weren't read as the text of a journal.
 #[derive(Clone, Copy, Debug, PartialEq, Eq)]
 pub enum JournalError {
@@ -57,7 +60,8 @@ fn read_entries(alloc: Global, version: Version, bytes: &[u8]) -> Result<Journal
     ensures journal { IfOk result (λ journal. HasRead version bytes.now journal []) }
     ensures stops { IfErr result (λ error. StopsReading version bytes.now error) }
 {
-    let mut journal = List::with_room(alloc, line_ends(bytes))?;
+    let entries = line_ends(bytes).min(bytes.len() / SHORTEST_LINE);
+    let mut journal = List::with_room(alloc, entries)?;
     let mut rest = bytes;
     let mut line = 2u64;
     while !rest.is_empty() {

@@ -1,14 +1,23 @@
 -- Reasons of runs, computed on small journals.
-use Rattle.std.proofs.Common.{◌≡◌, ℕ, refl, Some, None, [], ◌∷◌, List, true, false}
+use Rattle.std.proofs.Common.{◌≡◌, ◌∙◌, ap, ℕ, refl, Some, None, [], ◌∷◌, List, true, false, Vec}
 use Rattle.std.specs.Arc.{arc_value}
+use Rattle.std.specs.Global.{Global}
+use Rattle.std.specs.declared.sync.Arc.{Arc}
+use Rattle.std.specs.declared.vec.Vec.{ok-type, small-type}
+use denote.Hole.Carrier.{out, shown}
+use denote.RawPtr.{Ptr}
 use Rattle.journal_rules.specs.declared.entry.Cause.TheVariants.{Source, Strong}
 use Rattle.journal_rules.specs.declared.entry.DropWhy.TheVariants.{Halted, Limit as AtLimit, Stuck as WantsUnit}
 use Rattle.journal_rules.specs.declared.entry.Entry.{Entry}
 use Rattle.journal_rules.specs.declared.entry.Entry.TheVariants.{Start, End, Fault as FaultEntry, Drop}
 use Rattle.journal_rules.specs.declared.entry.Why.TheVariants.{Long, Inner}
 use Rattle.run_frame.specs.Meaning.{Meaning}
+use Rattle.run_frame.specs.declared.run.FrameRun.{FrameRun, FrameRun', end_of-InnerRow, more_of-InnerRow, out-FrameRun}
+use Rattle.run_frame.specs.declared.run.FrameRun.TheBlock.{shown-the_row-InnerRow-0}
 use Rattle.run_frame.specs.declared.run.FrameRun.TheOpen.{FrameRun-F}
-use Rattle.nested_runs.specs.Reasons.{first_fault, first_stuck, unfaulted, below, faulted, reason_at, reason_step}
+use Rattle.run_frame.specs.declared.run.FrameRun.TheFolds.{fold_out-FrameRun, fold_out-InnerRow}
+use Rattle.run_frame.specs.declared.run.InnerRow.{InnerRow', out-InnerRow}
+use Rattle.nested_runs.specs.Reasons.{first_fault, first_stuck, unfaulted, below, faulted, reason_at, reason_step, row_step, run_reason}
 use Rattle.nested_runs.specs.declared.reasons.Reason.{Reason}
 use Rattle.nested_runs.specs.declared.reasons.Reason.TheVariants.{Fine, Fault, Limit, Stuck}
 
@@ -70,3 +79,52 @@ module _ {J V : Type 0} (meaning : Meaning J V) (run : FrameRun-F J V Reason (�
 
   own_limit : reason_step meaning (record run { journal = Drop 3 Strong AtLimit ∷ [] }) ≡ Limit [] (meaning.limit (arc_value run.job))
   own_limit = refl
+
+-- The reason of a run with runs inside, each of which is looked at in turn. Runs hold their inner runs in vectors: of none
+-- or one, wherever they stand in memory.
+module _ (m : Meaning ℕ ℕ) (ptr : Ptr) (alloc : Global)
+    (ok_none : ok-type (Unit {0}) Global ptr 0 0 alloc []) (small_none : small-type (Unit {0}) Global ptr 0 0 alloc [] ok_none)
+    (ok_one : ok-type (Unit {0}) Global ptr 1 1 alloc (tt ∷ [])) (small_one : small-type (Unit {0}) Global ptr 1 1 alloc (tt ∷ []) ok_one)
+  where
+    abbrev none : Vec (Unit {0}) Global
+    none = record { ptr = ptr; len = 0; cap = 0; alloc = alloc; items = []; ok = ok_none; small = small_none }
+
+    abbrev one : Vec (Unit {0}) Global
+    one = record { ptr = ptr; len = 1; cap = 1; alloc = alloc; items = tt ∷ []; ok = ok_one; small = small_one }
+
+    abbrev the : ℕ → Arc ℕ Global
+    the n = record { ptr = ptr; value = n }
+
+    abbrev alone : ℕ → List Entry → FrameRun ℕ ℕ
+    alone job journal = FrameRun' (the job) journal [] none end_of-InnerRow
+
+    abbrev around : ℕ → List Entry → ℕ → FrameRun ℕ ℕ → FrameRun ℕ ℕ
+    around job journal place run = FrameRun' (the job) journal [] one (more_of-InnerRow (InnerRow' place run) end_of-InnerRow)
+
+    -- a start of task 7 whose run has faulted, or was cut short
+    abbrev faulted_within : List Entry
+    faulted_within = Start 7 Source [] ∷ FaultEntry 0 Inner ∷ []
+
+    -- the reason of the run around such a run, by the one equation of the fold for each of them
+    reason_around : (job place : ℕ) (run : FrameRun ℕ ℕ) (reason : Reason) → run_reason m run ≡ reason
+        → run_reason m (around job faulted_within place run) ≡ faulted 7 Inner (reason_at ((place, reason) ∷ []) 1)
+    unfolding out-FrameRun out shown-the_row-InnerRow-0 shown out-InnerRow
+    reason_around job place run reason is =
+        fold_out-FrameRun ℕ ℕ Reason (ℕ × Reason) (reason_step m) row_step (around job faulted_within place run)
+        ∙ (ap (λ (row : ℕ × Reason). faulted 7 Inner (reason_at (row ∷ []) 1)) (fold_out-InnerRow ℕ ℕ Reason (ℕ × Reason) (reason_step m) row_step (InnerRow' place run))
+        ∙ ap (λ r. faulted 7 Inner (reason_at ((place, r) ∷ []) 1)) is)
+
+    fault_alone : run_reason m (alone 3 two_faults) ≡ Fault (7 ∷ []) (Long 9)
+    unfolding out-FrameRun out shown-the_row-InnerRow-0 shown out-InnerRow
+    fault_alone = fold_out-FrameRun ℕ ℕ Reason (ℕ × Reason) (reason_step m) row_step (alone 3 two_faults)
+
+    fault_two_runs_below : run_reason m (around 1 faulted_within 1 (around 2 faulted_within 1 (alone 3 two_faults))) ≡ Fault (7 ∷ 7 ∷ 7 ∷ []) (Long 9)
+    fault_two_runs_below = reason_around 1 1 (around 2 faulted_within 1 (alone 3 two_faults)) (Fault (7 ∷ 7 ∷ []) (Long 9)) (reason_around 2 1 (alone 3 two_faults) (Fault (7 ∷ []) (Long 9)) fault_alone)
+
+    limit_of_the_run_inside : run_reason m (around 1 faulted_within 1 (alone 3 (Drop 3 Strong AtLimit ∷ []))) ≡ Limit (7 ∷ []) (m.limit 3)
+    unfolding out-FrameRun out shown-the_row-InnerRow-0 shown out-InnerRow
+    limit_of_the_run_inside =
+        reason_around 1 1 (alone 3 (Drop 3 Strong AtLimit ∷ [])) (Limit [] (m.limit 3)) (fold_out-FrameRun ℕ ℕ Reason (ℕ × Reason) (reason_step m) row_step (alone 3 (Drop 3 Strong AtLimit ∷ [])))
+
+    run_at_another_place : run_reason m (around 1 faulted_within 0 (alone 3 two_faults)) ≡ Fault (7 ∷ []) Inner
+    run_at_another_place = reason_around 1 0 (alone 3 two_faults) (Fault (7 ∷ []) (Long 9)) fault_alone

@@ -22,3 +22,4 @@ pub mod Report
 pub mod Chain
 pub mod WorkedMeaning
 pub mod WorkedLaws
+pub mod WorkedRunLaws

@@ -1,9 +1,12 @@
 -- The words of the laws, computed on small nets and journals.
-use Rattle.std.proofs.Common.{◌≡◌, ℕ, zero, suc, ◌<◌, ◌≤◌, ◌-◌, ◌==◌, Bool, true, false, List, [], ◌∷◌, count_by, Option, Some, None, slice_get, refl, arith, if◌then◌else◌}
+use Rattle.std.proofs.Common.{◌≡◌, ◌≢◌, inl, ℕ, zero, suc, ◌<◌, ◌≤◌, ◌+◌, ◌-◌, ◌==◌, ◌||◌, Bool, true, false, cond, List, [], ◌∷◌, count_by, Option, Some, None, slice_get, refl, arith, if◌then◌else◌}
+use Rattle.std.specs.List.{AllByRecursion, list_any}
+use Rattle.std.proofs.lemmas.List.Sums.{sum_by-cons}
 use Rattle.std.specs.Arc.{arc_value}
 use Rattle.std.specs.Global.{Global}
 use Rattle.std.specs.declared.sync.Arc.{Arc}
 use Rattle.task_graph.specs.NetRows.{NetRows}
+use Rattle.task_graph.specs.Net.{is_weak, strong_in}
 use Rattle.task_graph.specs.declared.net.Shape.TheVariants.{Plain, Choice}
 use Rattle.task_graph.specs.declared.net.TaskRow.{TaskRow}
 use Rattle.task_graph.specs.declared.net.EdgeRow.{EdgeRow}
@@ -13,7 +16,10 @@ use Rattle.journal_rules.specs.declared.entry.Why.TheVariants.{Long}
 use Rattle.journal_rules.specs.declared.entry.DropWhy.TheVariants.{Limit}
 use Rattle.journal_rules.specs.declared.entry.Entry.{Entry}
 use Rattle.journal_rules.specs.declared.entry.Entry.TheVariants.{Start, End, Fault, Drop}
+use Rattle.journal_rules.specs.Counts.{first_tokens}
 use Rattle.journal_rules.specs.Entries.{EachAfter}
+use Rattle.journal_rules.specs.SemaphoreRule.{takes, puts, max_of}
+use Rattle.journal_rules.specs.ShapeLegal.{MayFollow}
 use Rattle.join_words.specs.Ins.{InputValue, value, first}
 use Rattle.run_frame.specs.declared.run.ValueRow.{ValueRow}
 use Rattle.run_frame.specs.Duties.{target_of}
@@ -21,13 +27,13 @@ use Rattle.run_laws.specs.OneThreadValue.{OneAnswer, source_of, begun, tokens, p
 use Rattle.run_laws.specs.Starting.{rounds_in, has_item, starts_once, tasks_started, HasFault}
 use Rattle.run_laws.specs.Prefixes.{IsPrefixOf}
 use Rattle.run_laws.specs.Ends.{is_task, ends}
-use Rattle.run_laws.specs.Steady.{runs_at, stops, MayStart, StartRule}
+use Rattle.run_laws.specs.Steady.{runs_at, stops, MayStart, StartRule, Steady}
 use Rattle.run_laws.specs.Graphs.{IsOnceNet, Returns, IsGraph}
-use Rattle.run_laws.specs.Rings.{IsRing, IsRinged}
+use Rattle.run_laws.specs.Rings.{IsRing, IsRinged, RingOf}
 use Rattle.run_laws.specs.PipeNet.{next, cell, pipe_net}
 use Rattle.run_laws.specs.Cycles.{CycleEdge, LiesAt, IsCycle, is_one_of, uses_some, turn, GoesRound}
-use Rattle.run_laws.specs.Laws.{IsInTurn, RunsThrough}
-use Rattle.run_laws.specs.Worked.{four_tasks, two_in_a_ring, adding, end}
+use Rattle.run_laws.specs.Laws.{IsInTurn, KeepsSteady, RunsThrough}
+use Rattle.run_laws.specs.Worked.{four_tasks, two_in_a_ring, adding, failing_on_2, end}
 
 -- ---- tokens and rounds
 
@@ -101,12 +107,34 @@ fault_beyond_the_steps is = beyond is.task is.place is.round is.in_net is.at_pla
     beyond (suc (suc (suc zero))) place round below at fault = absurd (cc)
     beyond (suc (suc (suc (suc t)))) place round below at fault = absurd (omega (arith, below))
 
+-- what is no task, and so has a round without parts, is no fault of the net
+abbrev fails_past_the_end : OneAnswer ℕ
+fails_past_the_end t found = if t == 4 then None else adding four_tasks t found
+
+fault_of_no_task : ¬ HasFault four_tasks fails_past_the_end 4
+fault_of_no_task is = by_task is.task is.place is.round is.in_net is.at_place is.faults
+  where
+    by_task : (t place : ℕ) (round : List (InputValue ℕ)) → t < 4 → slice_get (rounds_in four_tasks fails_past_the_end 4 t) place ≡ Some round → fails_past_the_end t round ≡ None → ⊥
+    by_task zero place round below at fault = absurd (cc)
+    by_task (suc zero) place round below at fault = absurd (cc)
+    by_task (suc (suc zero)) place round below at fault = absurd (cc)
+    by_task (suc (suc (suc zero))) place round below at fault = absurd (cc)
+    by_task (suc (suc (suc (suc t)))) place round below at fault = absurd (omega (arith, below))
+
+-- the second round of task 0 of the ring finds 2
+fault_in_the_second_round : HasFault two_in_a_ring (failing_on_2 two_in_a_ring) 9
+fault_in_the_second_round = record { task = 0; in_net = omega arith; place = 1; round = value 2 ∷ []; at_place = refl; faults = refl }
+
 -- as many starts as the limit are allowed, and no more
 runs_at_the_limit : ¬ HasFault four_tasks (adding four_tasks) 4 → RunsThrough four_tasks 4 (adding four_tasks)
 runs_at_the_limit no_fault = record { no_fault = no_fault; few = omega arith }
 
 not_beyond_the_limit : ¬ RunsThrough four_tasks 3 (adding four_tasks)
 not_beyond_the_limit is = absurd (omega (arith, is.few))
+
+-- as many steps as there are tasks tell of the last task's fault, and all four tasks have started
+not_through_a_fault : ¬ RunsThrough four_tasks 4 fails_at_last
+not_through_a_fault is = is.no_fault (record { task = 3; in_net = omega arith; place = 0; round = value 2 ∷ value 2 ∷ []; at_place = refl; faults = refl })
 
 -- ---- prefixes
 
@@ -137,6 +165,16 @@ module _ (five ten : Arc ℕ Global) where
 
   end_without_value : ends {V = ℕ} [] turned 0 ≡ []
   end_without_value = refl
+
+  -- of two tasks each has its own ends, in the order of the ends
+  abbrev crossed : List Entry
+  crossed = Start 0 Source [] ∷ Start 1 Source [] ∷ End 1 (1 ∷ []) false ∷ Start 0 Source [] ∷ End 0 (0 ∷ []) false ∷ []
+
+  ends_of_the_second : ends rows crossed 1 ≡ record { value = arc_value five; gives = 1 ∷ [] } ∷ []
+  ends_of_the_second = refl
+
+  ends_of_the_first : ends rows crossed 0 ≡ record { value = arc_value ten; gives = 0 ∷ [] } ∷ []
+  ends_of_the_first = refl
 
 tasks_of_starts : (is_task 3 (Some 3) ≡ true) × (is_task 3 (Some 2) ≡ false) × (is_task 0 None ≡ false)
 tasks_of_starts = (refl, refl, refl)
@@ -169,6 +207,13 @@ no_start_behind_its_fault is = absurd (omega (arith, is.none_stopped))
 
 start_behind_a_fault_beside : StartRule (Start 1 Source [] ∷ Fault 0 (Long 1) ∷ []) (Start 0 Source [])
 start_behind_a_fault_beside = record { none_open = (refl, (refl, tt)); none_stopped = refl }
+
+no_start_beside_the_last : ¬ MayStart 1 (Start 0 Source [] ∷ Start 1 Source [] ∷ [])
+no_start_beside_the_last is = let still = is.none_open.1.0 in absurd (cc)
+
+-- edge 0 is calm where task 1 ends without an input, but edge 1 is given a second token
+given_twice_at_edge_1 : ¬ Steady two_in_a_ring (Start 1 Strong [] ∷ End 0 (1 ∷ []) false ∷ [])
+given_twice_at_edge_1 is = absurd (omega (arith, is.calm.1.0.1.1.0))
 
 -- ---- lines, pipes and rings
 
@@ -211,6 +256,9 @@ ring_of_two = record { balanced = balances; one_token = omega arith; in_range = 
 edge_alone_is_no_ring : ¬ IsRing two_in_a_ring (0 ∷ [])
 edge_alone_is_no_ring is = absurd (omega (arith, is.balanced 0))
 
+edge_back_is_no_ring : ¬ IsRing two_in_a_ring (1 ∷ [])
+edge_back_is_no_ring is = absurd (omega (arith, is.balanced 1))
+
 ring_of_no_edge_there : ¬ IsRing two_in_a_ring (0 ∷ 1 ∷ 2 ∷ [])
 ring_of_no_edge_there is = absurd (omega (arith, is.in_range.1.1.0))
 
@@ -225,6 +273,68 @@ two_tokens_are_no_ring is = absurd (omega (arith, is.one_token))
 diamond_is_not_ringed : ¬ IsRinged four_tasks
 diamond_is_not_ringed is = is.fed 0 (omega arith) refl
 
+pub ring_is_ringed : IsRinged two_in_a_ring
+ring_is_ringed = record { strong = strong; rings = rings; fed = fed }
+  where
+    strong : (e : ℕ) → is_weak two_in_a_ring e ≡ false
+    strong zero = refl
+    strong (suc zero) = refl
+    strong (suc (suc e)) = refl
+
+    rings : (e : ℕ) → e < 2 → RingOf two_in_a_ring e
+    rings zero below = record { ring = 0 ∷ 1 ∷ []; is_ring = ring_of_two; has = refl }
+    rings (suc zero) below = record { ring = 0 ∷ 1 ∷ []; is_ring = ring_of_two; has = refl }
+    rings (suc (suc e)) below = absurd (omega (arith, below))
+
+    fed : (t : ℕ) → t < 2 → strong_in two_in_a_ring t ≢ []
+    fed zero below none = absurd (cc)
+    fed (suc zero) below none = absurd (cc)
+    fed (suc (suc t)) below none = absurd (omega (arith, below))
+
+-- Edge 1 leads out of task 0's ring: no list of edges with it has as many into task 0 as out of it.
+abbrev led_out : NetRows
+led_out = record { tasks = free ∷ free ∷ []; edges = from_to 0 0 true ∷ from_to 0 1 false ∷ []; sems = [] }
+
+count_one : (test : ℕ → Bool) (e : ℕ) (ring : List ℕ) → count_by test (e ∷ ring) ≡ cond (test e) 1 0 + count_by test ring
+count_one test e ring = sum_by-cons (λ f. cond (test f) 1 0) e ring
+
+more_out : (ring : List ℕ) → AllByRecursion (λ e. e < 2) ring
+    → count_by (λ e. 0 == target_of led_out e) ring + count_by (λ e. e == 1) ring ≤ count_by (λ e. 0 == source_of led_out e) ring
+more_out [] in_range = omega arith
+more_out (zero ∷ ring) in_range =
+    omega (arith, more_out ring in_range.1, count_one (λ e. 0 == target_of led_out e) 0 ring, count_one (λ e. 0 == source_of led_out e) 0 ring, count_one (λ e. e == 1) 0 ring)
+more_out (suc zero ∷ ring) in_range =
+    omega (arith, more_out ring in_range.1, count_one (λ e. 0 == target_of led_out e) 1 ring, count_one (λ e. 0 == source_of led_out e) 1 ring, count_one (λ e. e == 1) 1 ring)
+more_out (suc (suc e) ∷ ring) in_range = absurd (omega (arith, in_range.0))
+
+counted_where_it_is : (ring : List ℕ) → list_any (λ f. f == 1) ring ≡ true → 1 ≤ count_by (λ e. e == 1) ring
+counted_where_it_is [] is = absurd (cc)
+counted_where_it_is (e ∷ ring) is = omega (arith, count_one (λ f. f == 1) e ring, by_test (counted_where_it_is ring) (e == 1) is)
+  where
+    by_test : (list_any (λ f. f == 1) ring ≡ true → 1 ≤ count_by (λ f. f == 1) ring) → (b : Bool) → b || list_any (λ f. f == 1) ring ≡ true → 1 ≤ cond b 1 0 + count_by (λ f. f == 1) ring
+    by_test more true is = omega arith
+    by_test more false is = omega (arith, more is)
+
+edge_on_no_ring : ¬ IsRinged led_out
+edge_on_no_ring is =
+    let of_it : RingOf led_out 1 = is.rings 1 (omega arith) in
+    absurd (omega (arith, of_it.is_ring.balanced 0, more_out of_it.ring of_it.is_ring.in_range, counted_where_it_is of_it.ring of_it.has))
+
+-- task 2 has no in-edge, beside a ring of two tasks
+unfed_beside_a_ring : ¬ IsRinged (record two_in_a_ring { tasks = free ∷ free ∷ free ∷ [] })
+unfed_beside_a_ring is = is.fed 2 (omega arith) refl
+
+-- Task 1 chooses: edge 1 on the ring of the tasks 0 and 1 is weak, though each has a strong in-edge.
+abbrev chosen_on_a_ring : NetRows
+chosen_on_a_ring = record {
+  tasks = free ∷ (record { shape = Choice; takes = []; puts = [] }) ∷ [];
+  edges = from_to 0 1 false ∷ from_to 1 0 true ∷ from_to 0 0 true ∷ [];
+  sems = [];
+}
+
+weak_edge_on_a_ring : ¬ IsRinged chosen_on_a_ring
+weak_edge_on_a_ring is = let strong = is.strong 1 in absurd (cc)
+
 -- ---- graphs
 
 ring_is_no_graph : ¬ IsOnceNet two_in_a_ring
@@ -235,6 +345,17 @@ chosen = record { tasks = (record { shape = Choice; takes = []; puts = [] }) ∷
 
 condition_is_no_graph : ¬ IsOnceNet chosen
 condition_is_no_graph is = let strong = is.strong 0 in absurd (cc)
+
+-- edge 1 leaves the condition, and edge 0 doesn't
+abbrev chosen_later : NetRows
+chosen_later = record {
+  tasks = free ∷ (record { shape = Choice; takes = []; puts = [] }) ∷ [];
+  edges = from_to 0 1 false ∷ from_to 1 0 false ∷ [];
+  sems = [];
+}
+
+later_condition_is_no_graph : ¬ IsOnceNet chosen_later
+later_condition_is_no_graph is = let strong = is.strong 1 in absurd (cc)
 
 -- a task that takes a unit and keeps it
 abbrev taking : NetRows
@@ -264,18 +385,64 @@ from_nowhere = record { tasks = free ∷ []; edges = from_to 1 0 false ∷ []; s
 edge_from_nowhere : ¬ IsGraph from_nowhere
 edge_from_nowhere is = absurd (omega (arith, is.from_tasks 0 (omega arith)))
 
+-- Two tasks in a row, of which the second takes a unit and puts it back, of a semaphore with one.
+abbrev returning : NetRows
+returning = record {
+  tasks = free ∷ (record { shape = Plain; takes = 0 ∷ []; puts = 0 ∷ [] }) ∷ [];
+  edges = from_to 0 1 false ∷ [];
+  sems = 1 ∷ [];
+}
+
+row_is_a_graph : IsGraph returning
+row_is_a_graph = record {
+  plain = record { strong = strong; no_first = no_first };
+  returns = record { same = same; units = units };
+  from_tasks = from_tasks;
+}
+  where
+    strong : (e : ℕ) → is_weak returning e ≡ false
+    strong zero = refl
+    strong (suc e) = refl
+
+    no_first : (e : ℕ) → first_tokens returning e ≡ 0
+    no_first zero = refl
+    no_first (suc e) = refl
+
+    same : (s t : ℕ) → takes returning s t ≡ puts returning s t
+    same s zero = refl
+    same s (suc zero) = refl
+    same s (suc (suc t)) = refl
+
+    units : (s : ℕ) → s < 1 → 1 ≤ max_of returning s
+    units zero below = omega arith
+    units (suc s) below = absurd (omega (arith, below))
+
+    from_tasks : (e : ℕ) → e < 1 → source_of returning e < 2
+    from_tasks zero below = omega arith
+    from_tasks (suc e) below = absurd (omega (arith, below))
+
+-- the task gives back one semaphore and takes the other
+abbrev exchanging : NetRows
+exchanging = record { tasks = (record { shape = Plain; takes = 0 ∷ 1 ∷ []; puts = 0 ∷ [] }) ∷ []; edges = []; sems = 1 ∷ 1 ∷ [] }
+
+second_semaphore_is_kept : ¬ Returns exchanging
+second_semaphore_is_kept is = let same = is.same 1 0 in absurd (cc)
+
+second_without_units : ¬ Returns (record without_units { sems = 1 ∷ 0 ∷ [] })
+second_without_units is = absurd (omega (arith, is.units 1 (omega arith)))
+
 -- ---- turns
 
 turns : (turn 3 0 ≡ 0) × (turn 3 2 ≡ 2) × (turn 3 3 ≡ 0) × (turn 3 7 ≡ 1)
 turns = (refl, refl, refl, refl)
 
 -- the ring of two tasks is a cycle from task 0 on, into which the token leads
-abbrev first_two : ℕ → Bool
+abbrev pub first_two : ℕ → Bool
 first_two zero = true
 first_two (suc zero) = true
 first_two (suc (suc t)) = false
 
-cycle_of_two : IsCycle two_in_a_ring 2 (λ l. l) first_two
+pub cycle_of_two : IsCycle two_in_a_ring 2 (λ l. l) first_two
 cycle_of_two = record {
   some = omega arith;
   is_in = within;
@@ -314,6 +481,46 @@ pipe_edges_round = (record { below = omega arith; from = refl; to = refl; first 
 edge_the_other_way : ¬ CycleEdge two_in_a_ring 2 (λ l. l) 0 1
 edge_the_other_way is = absurd (omega (arith, is.from))
 
+edge_to_another : ¬ CycleEdge four_tasks 3 (λ l. l + l) 0 0
+edge_to_another is = absurd (omega (arith, is.to))
+
+edge_that_is_not_there : ¬ CycleEdge two_in_a_ring 2 (λ l. 0) 0 2
+edge_that_is_not_there is = absurd (omega (arith, is.below))
+
+place_past_the_last : ¬ LiesAt 2 (λ l. l) 2
+place_past_the_last is = absurd (omega (arith, is.below, is.is))
+
+-- Each part of a cycle is asked for: a task at least, all of them among the tasks that are counted and no others, none
+-- twice, and an edge to each.
+abbrev only : ℕ → ℕ → Bool
+only s t = t == s
+
+abbrev any_task : ℕ → Bool
+any_task t = true
+
+cycle_of_none : ¬ IsCycle two_in_a_ring 0 (λ l. l) none
+cycle_of_none is = absurd (omega (arith, is.some))
+
+second_left_out : ¬ IsCycle two_in_a_ring 2 (λ l. l) (only 0)
+second_left_out is = let within = is.is_in 1 (omega arith) in absurd (cc)
+
+third_taken_in : ¬ IsCycle two_in_a_ring 2 (λ l. l) any_task
+third_taken_in is = let third : LiesAt 2 (λ l. l) 2 = is.lies 2 refl in absurd (omega (arith, third.below, third.is))
+
+-- two edges of a task to itself, of which the second begins with a token
+abbrev over_and_over : NetRows
+over_and_over = record { tasks = free ∷ []; edges = from_to 0 0 false ∷ from_to 0 0 true ∷ []; sems = [] }
+
+task_twice : ¬ IsCycle over_and_over 2 (λ l. 0) (only 0)
+task_twice is = absurd (omega (arith, is.distinct 0 1 (omega arith) (omega arith) refl))
+
+no_way_back : ¬ IsCycle (record two_in_a_ring { edges = from_to 0 1 false ∷ [] }) 2 (λ l. l) first_two
+no_way_back is = by_edge (is.edge 1) (is.edges 1 (omega arith))
+  where
+    by_edge : (e : ℕ) → CycleEdge (record two_in_a_ring { edges = from_to 0 1 false ∷ [] }) 2 (λ l. l) 1 e → ⊥
+    by_edge zero is = absurd (omega (arith, is.from))
+    by_edge (suc e) is = absurd (omega (arith, is.below))
+
 uses : (uses_some first_two (Start 1 Source []) ≡ true) × (uses_some first_two (Start 2 Source []) ≡ false) × (uses_some first_two (Drop 0 Strong Limit) ≡ true) × (uses_some first_two (End 0 [] false) ≡ false) × (uses_some first_two (Fault 0 (Long 1)) ≡ false)
 uses = (refl, refl, refl, refl, refl)
 
@@ -321,8 +528,11 @@ uses = (refl, refl, refl, refl, refl)
 abbrev one_turn : List Entry
 one_turn = Start 0 Strong (First ∷ []) ∷ Start 2 Source [] ∷ []
 
-second_goes : GoesRound 2 (λ l. l) first_two one_turn (Start 1 Strong []) × GoesRound 2 (λ l. l) first_two one_turn (Drop 1 Strong Limit) × GoesRound 2 (λ l. l) first_two one_turn (Start 2 Source [])
-second_goes = (λ among. refl, λ among. refl, λ among. absurd (cc))
+second_goes : GoesRound 2 (λ l. l) first_two one_turn (Start 1 Strong []) × GoesRound 2 (λ l. l) first_two one_turn (Drop 1 Strong Limit)
+second_goes = (λ among. refl, λ among. refl)
+
+third_goes_when_it_will : GoesRound 2 (λ l. l) first_two one_turn (Start 2 Source []) × GoesRound 2 (λ l. l) first_two one_turn (Drop 2 Source Limit)
+third_goes_when_it_will = (λ among. absurd (cc), λ among. absurd (cc))
 
 first_goes_too_early : ¬ GoesRound 2 (λ l. l) first_two one_turn (Start 0 Strong [])
 first_goes_too_early is = absurd (omega (arith, is refl))
@@ -356,3 +566,40 @@ serial_pipe_out_of_turn is = absurd (omega (arith, (is.each_pipe 0 refl).0 refl)
 
 line_out_of_turn : ¬ IsInTurn 2 (true ∷ false ∷ []) (Start 1 Strong [] ∷ [])
 line_out_of_turn is = absurd (omega (arith, (is.each_line 0 (omega arith)).0 refl))
+
+-- line 1 begins with its second pipe, and, of a parallel and a serial pipe, the second with line 1
+second_line_out_of_turn : ¬ IsInTurn 2 (true ∷ false ∷ []) (Start 3 Strong [] ∷ [])
+second_line_out_of_turn is = absurd (omega (arith, (is.each_line 1 (omega arith)).0 refl))
+
+second_pipe_out_of_turn : ¬ IsInTurn 2 (false ∷ true ∷ []) (Start 2 Strong [] ∷ Start 3 Strong [] ∷ [])
+second_pipe_out_of_turn is = absurd (omega (arith, (is.each_pipe 1 refl).1.0 refl))
+
+-- ---- steady nets
+
+-- a ring of two tasks with a token before each
+abbrev two_tokens : NetRows
+two_tokens = record two_in_a_ring { edges = from_to 0 1 true ∷ from_to 1 0 true ∷ [] }
+
+-- Where task 0 ends before task 1 starts, two tokens wait before that.
+two_tokens_in_a_ring : ¬ KeepsSteady two_tokens
+two_tokens_in_a_ring steady = absurd (omega (arith, (steady 1 (Start 0 Strong (First ∷ []) ∷ End 0 (0 ∷ []) false ∷ []) (may_start, (may_end, tt))).calm.0.1.1.0))
+  where
+    may_start : MayFollow two_tokens 1 [] (Start 0 Strong (First ∷ []))
+    may_start = record {
+      in_range = (omega arith, tt);
+      release = (λ none. absurd (cc), (omega arith, tt));
+      closing = tt;
+      choice = tt;
+      semaphore = record { within = tt; over = tt };
+      halt_limit_stuck = record { dropped = omega arith; after_stuck = λ other. refl };
+    }
+
+    may_end : MayFollow two_tokens 1 (Start 0 Strong (First ∷ []) ∷ []) (End 0 (0 ∷ []) false)
+    may_end = record {
+      in_range = (omega arith, tt);
+      release = tt;
+      closing = refl;
+      choice = (inl refl, refl);
+      semaphore = record { within = tt; over = tt };
+      halt_limit_stuck = record { dropped = tt; after_stuck = λ other. refl };
+    }

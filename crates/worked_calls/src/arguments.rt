@@ -4,7 +4,7 @@ use std::test::Fail;
 
 #[test]
 fn refuses_words(rt: HostRuntime) -> Result<(), Fail> {
-    let refused: [&[&str]; 18] = [
+    let refused: [&[&str]; 22] = [
         &[],
         &[""],
         &["run"],
@@ -23,6 +23,10 @@ fn refuses_words(rt: HostRuntime) -> Result<(), Fail> {
         &["run", "g", "--limit", "1000001"],
         &["run", "g", "--limit", "00000001"],
         &["run", "g", "--limit", "1", "--limit", "1"],
+        &["check"],
+        &["check", "g", "g"],
+        &["check", "g", "--limit", "1"],
+        &["check", "g", "--journal"],
     ];
     for words in refused {
         let call = Call {

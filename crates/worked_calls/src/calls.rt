@@ -1,5 +1,6 @@
 // Calls of the program over texts and sinks in memory.
-use flow_run::{Noted, Outcome, flow_main};
+use call_status::Noted;
+use flow_run::{Outcome, flow_main};
 use outside_io::{Bytes, FailAt, List, MemorySink, MemoryTexts, NoMemory};
 use std::alloc::{AllocError, Global};
 use std::str;

@@ -1,13 +1,15 @@
 //! Calls of the program, worked as examples. There is nothing here but tests.
 //!
 //! Each call is one of `flow_main` over texts and sinks in memory; a test shows the exit code, how many entries the
-//! journal of each kept run has, and what both sinks took.
+//! journal of each kept run has, and what both sinks took. The lines of statuses are also put by themselves.
 #![tactic(auto)]
 
 #[cfg(test)]
 mod arguments;
 #[cfg(test)]
 mod calls;
+#[cfg(test)]
+mod checked;
 #[cfg(test)]
 mod faults;
 #[cfg(test)]
@@ -16,6 +18,8 @@ mod graphs;
 mod judged;
 #[cfg(test)]
 mod limits;
+#[cfg(test)]
+mod notes;
 #[cfg(test)]
 mod operations;
 #[cfg(test)]

@@ -128,6 +128,9 @@ unknown_end_comes_first is = absurd (omega (arith, is.0.to_in_range))
 from_just_past_the_tasks : RefusesEdge net (edge 2 9) (NoSuchTask 2)
 from_just_past_the_tasks = record { unknown = omega arith; from_first = λ past. refl; then_to = λ within. absurd (omega (arith, within)) }
 
+neither_end : ¬ RefusesEdge net (edge 1 2) (NoSuchTask 5)
+neither_end is = absurd (omega (arith, is.then_to (omega arith)))
+
 weak_start_to_no_task : ¬ RefusesEdge net (record { from = 1; to = 2; start = true }) WeakStart
 weak_start_to_no_task is = absurd (omega (arith, is.to_in_range))
 

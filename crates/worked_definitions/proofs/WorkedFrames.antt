@@ -8,6 +8,7 @@ use Rattle.std.proofs.lemmas.List.{length-append}
 use Rattle.std.proofs.lemmas.List.Elements.{All-from_recursion, All-head}
 use Rattle.atomic_table.specs.Seated.{TableId}
 use Rattle.task_graph.specs.NetRows.{NetRows}
+use Rattle.task_graph.specs.Net.{out_edges}
 use Rattle.task_graph.specs.declared.net.Shape.{Shape}
 use Rattle.task_graph.specs.declared.net.Shape.TheVariants.{Plain, Nested}
 use Rattle.task_graph.specs.declared.net.TaskRow.{TaskRow}
@@ -44,7 +45,7 @@ use Rattle.run_frame.specs.Runs.{IsFine}
 use Rattle.run_frame.specs.LastEnds.{last_before, last_value}
 use Rattle.run_frame.specs.WorkRule.{WorkRule}
 use Rattle.run_frame.specs.NestedRule.{NestedRule, job_of, journal_of}
-use Rattle.run_frame.specs.Duties.{IsReleaseOf}
+use Rattle.run_frame.specs.Duties.{IsReleaseOf, AreMadeBy}
 use Rattle.run_frame.specs.Legal.{IsKept}
 use Rattle.run_frame.specs.Frames.{FrameView, IsSameRun, ComesBack, IsStarted, HasNoInner, StartsTask, DropsTask, StartDoes, MayEndWith, MayFaultWith, MayFail, EndsTask, FaultsTask, IsBegun, part_of}
 use Rattle.frame_steps.specs.Releases.{FrameKey, ReleaseView, frame_key, tickets_of, root_job, depth_of, task_of, frames_around, HasRegister, IsReleaseIn}
@@ -110,6 +111,14 @@ finders_answer j t (x ∷ found) (InnerJob k) = ⊥
 abbrev finders : Meaning ℕ ℕ
 finders = record sums { answers = finders_answer }
 
+-- gathering may name the job's number as a fault of one kind
+abbrev gathering : (ℕ → Why) → Meaning ℕ ℕ
+gathering kind = record sums { gather_faults = λ j run why. why ≡ kind j }
+
+-- the first task was started
+abbrev first_begun : List Entry
+first_begun = Start 0 Source [] ∷ []
+
 -- the nested task was started, and found the value of the first
 abbrev second_begun : List Entry
 second_begun = Start 0 Source [] ∷ End 0 (0 ∷ []) false ∷ Start 1 Strong (From 1 ∷ []) ∷ []
@@ -138,6 +147,13 @@ module _ (five ten : Arc ℕ Global) (run : FrameRun ℕ ℕ) where
 
   run_of_what_was_found : arc_value five ≡ 7 → job_of run ≡ 3 → ¬ NestedRule sums 2 rows the_run second_begun (Fault 2 Inner)
   run_of_what_was_found seven job is = absurd (omega (arith, seven, job, is.0))
+
+  -- Of a run that is fine a fault is of the kind that gathering it may name.
+  gathered_to_its_kind : job_of run ≡ 2 → IsFine (journal_of run) → NestedRule (gathering Long) 2 rows the_run first_begun (Fault 0 (Long 2)) × NestedRule (gathering Unmet) 2 rows the_run first_begun (Fault 0 (Unmet 2))
+  gathered_to_its_kind job fine = ((job, (fine, cc)), (job, (fine, cc)))
+
+  gathered_to_another_kind : ¬ NestedRule (gathering Wide) 2 rows the_run first_begun (Fault 0 (Long 2)) × ¬ NestedRule (gathering Wide) 2 rows the_run first_begun (Fault 0 (Unmet 2)) × ¬ NestedRule (gathering Long) 2 rows the_run first_begun (Fault 0 (Wide 2))
+  gathered_to_another_kind = (λ is. let same = is.1.1 in absurd (cc), λ is. let same = is.1.1 in absurd (cc), λ is. let same = is.1.1 in absurd (cc))
 
   -- A fault of each kind is one that the task may name on what it found.
   fault_of_what_was_found : arc_value five ≡ 7 → WorkRule sums 2 rows no_run second_begun (Fault 2 (Long 10)) × WorkRule sums 2 rows no_run second_begun (Fault 2 (Wide 10)) × WorkRule sums 2 rows no_run second_begun (Fault 2 (Unmet 10))
@@ -360,6 +376,9 @@ module _ (r s : TableId) (other : s ≢ r) (ins : Ins ℕ) where
   begins_with_more_than_its_tickets : ¬ IsBegun flat_sums 2 (view [] 4 both_sources) (ticket 0 (Unused 0 Source) ∷ [])
   begins_with_more_than_its_tickets is = let longer = ap length is.items in absurd (omega (arith, longer))
 
+  begins_in_another_register : ¬ IsBegun flat_sums 2 (view [] 4 both_sources) (record (ticket 0 (Unused 0 Source)) { register = s } ∷ ticket 1 (Unused 2 Source) ∷ [])
+  begins_in_another_register is = other (All-head (IsReleaseOf r) (record (ticket 0 (Unused 0 Source)) { register = s }) (ticket 1 (Unused 2 Source) ∷ []) is.releases).0
+
   -- A release is started: its place is taken by nothing, and the open start has the ticket of the next number.
   starts_first : parts_of ins ≡ [] → StartDoes flat_sums (view [] 4 both_sources) (view begun 4 (None ∷ Some (Unused 2 Source) ∷ Some (Running 0 0 ins) ∷ [])) (ticket 0 (Unused 0 Source)) (started.Running (ticket 2 (Running 0 0 ins)))
   starts_first parts = record {
@@ -441,6 +460,12 @@ module _ (r s : TableId) (other : s ≢ r) (ins : Ins ℕ) where
   dropped_and_outstanding : ¬ DropsTask (view faulted 4 (Some (Unused 2 Source) ∷ [])) (view (faulted ++ Drop 2 Source Halted ∷ []) 4 (Some (Unused 2 Source) ∷ [])) (ticket 0 (Unused 2 Source)) Halted
   dropped_and_outstanding is = let items = is.items in absurd (cc)
 
+  dropped_again : ¬ DropsTask (view faulted 4 (None ∷ [])) (view (faulted ++ Drop 2 Source Halted ∷ []) 4 (None ∷ [])) (ticket 0 (Unused 2 Source)) Halted
+  dropped_again is = let stood = is.stood in absurd (cc)
+
+  another_release_dropped : ¬ DropsTask (view faulted 4 (Some (Unused 0 Source) ∷ [])) (view (faulted ++ Drop 2 Source Halted ∷ []) 4 (None ∷ [])) (ticket 0 (Unused 0 Source)) Halted
+  another_release_dropped is = let was = is.was in let same = ap (λ (state : MachineState). state.journal) is.entry.after in absurd (cc)
+
   limited : StartDoes flat_sums (view begun 1 (Some (Unused 2 Source) ∷ [])) (view (begun ++ Drop 2 Source Limit ∷ []) 1 (None ∷ [])) (ticket 0 (Unused 2 Source)) started.AtLimit
   limited = (record { task = 2; cause = Source; place = 1; stood = refl; was = refl; entry = record { stands = refl; allowed = may_drop_at_limit; after = refl }; items = refl }, refl, refl)
 
@@ -477,6 +502,31 @@ module _ (r s : TableId) (other : s ≢ r) (ins : Ins ℕ) where
   release_without_a_ticket : ¬ EndsTask flat_sums (view begun 4 (Some (Running 0 0 ins) ∷ [])) (view (begun ++ End 0 (0 ∷ []) false ∷ []) 4 (None ∷ Some (Unused 1 Strong) ∷ [])) (ticket 0 (Running 0 0 ins)) Each []
   release_without_a_ticket is = let longer = ap length is.items in absurd (omega (arith, longer))
 
+  ended_again : ¬ EndsTask flat_sums (view begun 4 (None ∷ [])) (view (begun ++ End 0 [] false ∷ []) 4 (None ∷ [])) (ticket 0 (Running 0 0 ins)) NoneOf []
+  ended_again is = let stood = is.stood in absurd (cc)
+
+  release_ended : ¬ EndsTask flat_sums (view begun 4 (Some (Unused 0 Source) ∷ [])) (view (begun ++ End 0 [] false ∷ []) 4 (None ∷ [])) (ticket 0 (Unused 0 Source)) NoneOf []
+  release_ended is = let was = is.was in absurd (cc)
+
+  another_start_ended : ¬ EndsTask flat_sums (view begun 4 (Some (Running 0 7 ins) ∷ [])) (view (begun ++ End 0 [] false ∷ []) 4 (None ∷ [])) (ticket 0 (Running 0 7 ins)) NoneOf []
+  another_start_ended is = let was = is.was in let same = ap (λ (state : MachineState). state.journal) is.entry.after in absurd (cc)
+
+  -- The ticket is for what the edges release, and of the run's own register.
+  another_task_released : ¬ EndsTask flat_sums (view begun 4 (Some (Running 0 0 ins) ∷ [])) (view (begun ++ End 0 (0 ∷ []) false ∷ []) 4 (None ∷ Some (Unused 2 Strong) ∷ [])) (ticket 0 (Running 0 0 ins)) Each (ticket 1 (Unused 2 Strong) ∷ [])
+  another_task_released is = of_the_first is.ins is.was is.made
+    where
+      of_the_first : (i : Ins ℕ) {t k : ℕ} → ◌≡◌ {A = Duty ℕ} (Running 0 0 ins) (Running t k i) → AreMadeBy flat (out_edges flat t) (ticket 1 (Unused 2 Strong) ∷ []) → ⊥
+      of_the_first i {t = t} was made =
+          let task : t ≡ 0 = cc in
+          not_of_edge_0 (subst (λ q. AreMadeBy flat (out_edges flat q) (ticket 1 (Unused 2 Strong) ∷ [])) task made)
+        where
+          not_of_edge_0 : AreMadeBy flat (0 ∷ []) (ticket 1 (Unused 2 Strong) ∷ []) → ⊥
+          not_of_edge_0 (inl (same, rest)) = absurd (cc)
+          not_of_edge_0 (inr rest) = rest
+
+  released_in_another_register : ¬ EndsTask flat_sums (view begun 4 (Some (Running 0 0 ins) ∷ [])) (view (begun ++ End 0 (0 ∷ []) false ∷ []) 4 (None ∷ Some (Unused 1 Strong) ∷ [])) (ticket 0 (Running 0 0 ins)) Each (record (ticket 1 (Unused 1 Strong)) { register = s } ∷ [])
+  released_in_another_register is = other (All-head (IsReleaseOf r) (record (ticket 1 (Unused 1 Strong)) { register = s }) [] is.releases).0
+
   -- A fault is recorded with its cause, and the start isn't outstanding any more.
   faults_first : FaultsTask (view begun 4 (Some (Running 0 0 ins) ∷ [])) (view faulted 4 (None ∷ [])) (ticket 0 (Running 0 0 ins)) (Long 2)
   faults_first = record { task = 0; start = 0; ins = ins; place = 1; stood = refl; was = refl; entry = record { stands = refl; allowed = may_fault_first; after = refl }; items = refl }
@@ -486,6 +536,15 @@ module _ (r s : TableId) (other : s ≢ r) (ins : Ins ℕ) where
 
   faulted_and_outstanding : ¬ FaultsTask (view begun 4 (Some (Running 0 0 ins) ∷ [])) (view faulted 4 (Some (Running 0 0 ins) ∷ [])) (ticket 0 (Running 0 0 ins)) (Long 2)
   faulted_and_outstanding is = let items = is.items in absurd (cc)
+
+  faulted_again : ¬ FaultsTask (view begun 4 (None ∷ [])) (view faulted 4 (None ∷ [])) (ticket 0 (Running 0 0 ins)) (Long 2)
+  faulted_again is = let stood = is.stood in absurd (cc)
+
+  release_faulted : ¬ FaultsTask (view begun 4 (Some (Unused 0 Source) ∷ [])) (view faulted 4 (None ∷ [])) (ticket 0 (Unused 0 Source)) (Long 2)
+  release_faulted is = let was = is.was in absurd (cc)
+
+  another_start_faulted : ¬ FaultsTask (view begun 4 (Some (Running 0 7 ins) ∷ [])) (view faulted 4 (None ∷ [])) (ticket 0 (Running 0 7 ins)) (Long 2)
+  another_start_faulted is = let was = is.was in let same = ap (λ (state : MachineState). state.journal) is.entry.after in absurd (cc)
 
   -- After a refusal the ticket comes back, for the same item and of the same register; the item may have another number.
   comes_back : ComesBack (view [] 4 both_sources) (view [] 4 both_sources) (ticket 0 (Unused 0 Source)) (ticket 0 (Unused 0 Source))

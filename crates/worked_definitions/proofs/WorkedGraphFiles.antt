@@ -283,6 +283,28 @@ text_without_a_name is = let named : IsTextName [] = is.texts 0 [] (omega arith)
 task_that_takes_a_unit : ¬ IsPlan (plan_with_tasks (a ∷ []) (Match ∷ []) (record { shape = Plain; takes = 0 ∷ []; puts = [] } ∷ []) [])
 task_that_takes_a_unit is = let needs : NeedsNoUnit (record { shape = Plain; takes = 0 ∷ []; puts = [] }) = is.no_units 0 row (omega arith) in absurd (omega (arith, ap length needs.takes))
 
+task_that_puts_a_unit : ¬ IsPlan (plan_with_tasks (a ∷ []) (Match ∷ []) (record { shape = Plain; takes = []; puts = 0 ∷ [] } ∷ []) [])
+task_that_puts_a_unit is = let needs : NeedsNoUnit (record { shape = Plain; takes = []; puts = 0 ∷ [] }) = is.no_units 0 row (omega arith) in absurd (omega (arith, ap length needs.puts))
+
+-- The graph itself has no name, no semaphore, with a name or without, and no edge that begins with a token.
+abbrev with_top : (GraphRows → GraphRows) → PlanRows
+with_top changed = record (plan_with_tasks [] [] [] []) { top = changed (plan_with_tasks [] [] [] []).top }
+
+named_graph : ¬ IsPlan (with_top (λ top. record top { name = a }))
+named_graph is = absurd (omega (arith, ap length is.name))
+
+named_semaphore : ¬ IsPlan (with_top (λ top. record top { sem_names = a ∷ [] }))
+named_semaphore is = absurd (omega (arith, ap length is.sem_names))
+
+semaphore_without_a_name : ¬ IsPlan (with_top (λ top. record top { net = record { tasks = []; edges = []; sems = 1 ∷ [] } }))
+semaphore_without_a_name is = absurd (omega (arith, ap length is.sems))
+
+edge_with_a_first_token : ¬ IsPlan (record (plan_with_tasks (a ∷ []) (Match ∷ []) (row ∷ []) []) { top = record (plan_with_tasks (a ∷ []) (Match ∷ []) (row ∷ []) []).top { net = record { tasks = row ∷ []; edges = record { from = 0; to = 0; start = true } ∷ []; sems = [] } } })
+edge_with_a_first_token is = let none : true ≡ false = is.no_first_tokens 0 (record { from = 0; to = 0; start = true }) (omega arith) in absurd (cc)
+
+plan_of_modules : ¬ IsPlan (record (plan_with_tasks [] [] [] []) { modules = graph [] [] ∷ [] })
+plan_of_modules is = absurd (omega (arith, ap length is.modules))
+
 too_many_tasks : (plan : PlanRows) → length plan.top.net.tasks ≡ 10001 → ¬ IsPlan plan
 too_many_tasks plan many is = absurd (omega (arith, many, is.task_count))
 

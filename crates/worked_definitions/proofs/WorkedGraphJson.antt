@@ -1,5 +1,6 @@
 -- What JSON values a graph file is made of, and the refusal of others, computed on small objects.
-use Rattle.std.proofs.Common.{◌≡◌, ℕ, List, [], ◌∷◌, length, Some, None, Result, Ok, Err, refl, codes}
+use Rattle.std.proofs.Common.{◌≡◌, ℕ, true, List, [], ◌∷◌, length, Some, None, Result, Ok, Err, refl, codes}
+use Rattle.std.specs.Prelude.{is_some, replicate}
 use Rattle.serde_json.specs.Data.{Data, Members, string, number, unsigned, array, object, no_members, member}
 use Rattle.serde_json.specs.View.{items_of}
 use Rattle.graph_plans.specs.declared.ops.Op.TheVariants.{Input, Text, Match, Back, IfMore, IfHas, Route}
@@ -53,6 +54,11 @@ words = (refl, refl, refl)
 lists_of_words : (words_of (list_data (string a ∷ string [] ∷ [])) ≡ Some (a ∷ [] ∷ [])) × (words_of (list_data []) ≡ Some []) × (words_of (list_data (string a ∷ seven ∷ [])) ≡ None) × (words_of (string a) ≡ None)
 unfolding is_utf8 chars encode
 lists_of_words = (refl, refl, refl, refl)
+
+-- as many words as a route may have, and one more
+words_up_to_their_limit : (is_some (words_of (list_data (replicate 256 (string [])))) ≡ true) × (words_of (list_data (replicate 257 (string []))) ≡ None)
+unfolding is_utf8 chars encode
+words_up_to_their_limit = (refl, refl)
 
 -- ---- operations
 

@@ -98,6 +98,15 @@ writes_till_memory_ends = record { front = 1 ∷ []; rest = 2 ∷ []; parts = re
 no_fault_where_memory_ends : ¬ Writes (state [] [] 0) (state [] [] 1) (1 ∷ 2 ∷ []) (Err NoMemory)
 no_fault_where_memory_ends is = absurd (omega (arith, is.accepted.faults))
 
+writes_others_till_memory_ends : ¬ Writes (state [] [] 0) (state (9 ∷ []) [] 0) (1 ∷ 2 ∷ []) (Err NoMemory)
+writes_others_till_memory_ends is = never is.front is.rest is.accepted.passed.front is.accepted.passed.took is.accepted.passed.parts is.parts
+  where
+    never : (front rest passed : List ℕ) → Took (Some []) (Some (9 ∷ [])) passed → front ≡ passed ++ [] → 1 ∷ 2 ∷ [] ≡ front ++ rest → ⊥
+    never [] rest [] took parts all = absurd (cc)
+    never [] rest (x ∷ passed) took parts all = absurd (cc)
+    never (y ∷ front) rest [] took parts all = absurd (cc)
+    never (y ∷ front) rest (x ∷ passed) took parts all = absurd (cc)
+
 writes_less_and_is_done : ¬ Writes (state [] [] 0) (state (1 ∷ []) [] 0) (1 ∷ 2 ∷ []) (Ok tt)
 writes_less_and_is_done is = one_byte_lost is.passed
 

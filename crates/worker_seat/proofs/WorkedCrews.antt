@@ -1,11 +1,18 @@
 -- Seats of a crew of two, one state after the other, computed; on both sides of each line of each definition.
-use Rattle.std.proofs.Common.{◌≡◌, ℕ, true, false, [], Some, None, refl}
+use Rattle.std.proofs.Common.{◌≡◌, ◌∙◌, ℕ, zero, suc, ◌<◌, true, false, [], ◌∷◌, Option, Some, None, refl, sym, ap, arith}
+use Rattle.std.specs.List.{slice_index_or}
+use Rattle.std.proofs.lemmas.List.Elements.{All-from_recursion, recursion_from_All}
 use Rattle.std.specs.Global.{Global}
 use Rattle.std.specs.declared.dyn_box.DynBox.{DynBox}
 use Rattle.atomic_table.specs.Seated.{TableId}
+use Rattle.run_frame.specs.declared.run.FrameRun.{FrameRun}
+use Rattle.run_frame.specs.Meaning.{Meaning}
+use Rattle.run_frame.specs.Legal.{IsKept}
+use Rattle.run_frame.specs.NestedRule.{job_of}
+use Rattle.worker_seat.specs.declared.crew.Crew.{Crew}
 use Rattle.worker_seat.specs.declared.seat.WorkerSeat.{WorkerSeat}
-use Rattle.worker_seat.specs.Seats.{SeatState, crew_state, new_seat, IsBusy, at_job, found_closed, away, refused_seat, left_refused, IsClosedWith}
-use Rattle.worker_seat.specs.Crews.{state_of, watcher_of, moved, MayBegin, IsOpen}
+use Rattle.worker_seat.specs.Seats.{CrewState, SeatState, crew_state, new_seat, IsBusy, at_job, found_closed, away, refused_seat, left_refused, IsClosedWith}
+use Rattle.worker_seat.specs.Crews.{state_of, watcher_of, crew_of, moved, IsSeatOf, AreSeatsOf, MayBegin, IsOpen, IsRunOf}
 
 -- two lists, which differ in their numbers of words
 abbrev here : TableId
@@ -93,3 +100,47 @@ module _ (V : Type 0) {X : Type 0} {W : X → Type 0} (watcher : DynBox X Global
 
   a_seat_that_found_it_closed_is_not : ¬ IsOpen (seat found_seven)
   a_seat_that_found_it_closed_is_not open_seat = cc
+
+  -- The seats of a crew of two: each of its list, and as many as it was made with.
+  a_seat_of_its_list : (crew : Crew ℕ V) → crew_of crew ≡ crew_state here 2 → IsSeatOf crew (seat fresh)
+  a_seat_of_its_list crew two = sym (ap (λ (made : CrewState). made.list) two)
+
+  a_seat_of_another_list : (crew : Crew ℕ V) → crew_of crew ≡ crew_state here 2 → ¬ IsSeatOf crew (seat (new_seat there))
+  a_seat_of_another_list crew two is = absurd (omega (arith, ap (λ (l : TableId). l.words) (is ∙ ap (λ (made : CrewState). made.list) two)))
+
+  both_seats : (crew : Crew ℕ V) → crew_of crew ≡ crew_state here 2 → AreSeatsOf crew (seat found_seven ∷ seat fresh ∷ [])
+  both_seats crew two = record {
+    of_crew = All-from_recursion (IsSeatOf crew) (seat found_seven ∷ seat fresh ∷ []) (a_seat_of_its_list crew two, (a_seat_of_its_list crew two, tt));
+    count = sym (ap (λ (made : CrewState). made.seats) two);
+  }
+
+  one_seat_left_out : (crew : Crew ℕ V) → crew_of crew ≡ crew_state here 2 → ¬ AreSeatsOf crew (seat fresh ∷ [])
+  one_seat_left_out crew two are = absurd (omega (arith, are.count, ap (λ (made : CrewState). made.seats) two))
+
+  second_of_another_list : (crew : Crew ℕ V) → crew_of crew ≡ crew_state here 2 → ¬ AreSeatsOf crew (seat fresh ∷ seat (new_seat there) ∷ [])
+  second_of_another_list crew two are = a_seat_of_another_list crew two (recursion_from_All (IsSeatOf crew) (seat fresh ∷ seat (new_seat there) ∷ []) are.of_crew).1.0
+
+  -- A run is handed out that may be kept, and that one of the seats, whichever, has found closed.
+  found_by_the_second : (meaning : Meaning ℕ V) (run : FrameRun ℕ V) → IsKept meaning run → job_of run ≡ 7 → IsRunOf meaning (seat fresh ∷ seat found_seven ∷ []) run
+  found_by_the_second meaning run kept job = record { kept = kept; found = (1, seat found_seven, omega arith, refl, (refl, ap Some (sym job))) }
+
+  found_but_not_kept : (meaning : Meaning ℕ V) (run : FrameRun ℕ V) → ¬ IsKept meaning run → ¬ IsRunOf meaning (seat found_seven ∷ []) run
+  found_but_not_kept meaning run never is = never is.kept
+
+  found_by_none : (meaning : Meaning ℕ V) (run : FrameRun ℕ V) → ¬ IsRunOf meaning (seat at_seven ∷ []) run
+  found_by_none meaning run is = by_place is.found.0 is.found.1 is.found.2 is.found.3 is.found.4
+    where
+      by_place : (k : ℕ) (one : WorkerSeat ℕ V X W) → k < 1 → slice_index_or (seat at_seven ∷ []) k one ≡ one → IsClosedWith (job_of run) (state_of one) → ⊥
+      by_place zero one below at closed = let same : true ≡ false = sym closed.0 ∙ sym (ap (λ (s : WorkerSeat ℕ V X W). s.place.closed) at) in absurd (cc)
+      by_place (suc k) one below at closed = absurd (omega (arith, below))
+
+  another_run_found : (meaning : Meaning ℕ V) (run : FrameRun ℕ V) → job_of run ≡ 8 → ¬ IsRunOf meaning (seat found_seven ∷ []) run
+  another_run_found meaning run job is = by_place is.found.0 is.found.1 is.found.2 is.found.3 is.found.4
+    where
+      job_of_seat : Option ℕ → ℕ
+      job_of_seat None = 0
+      job_of_seat (Some j) = j
+
+      by_place : (k : ℕ) (one : WorkerSeat ℕ V X W) → k < 1 → slice_index_or (seat found_seven ∷ []) k one ≡ one → IsClosedWith (job_of run) (state_of one) → ⊥
+      by_place zero one below at closed = absurd (omega (arith, job, ap (λ (s : WorkerSeat ℕ V X W). job_of_seat s.place.job) at, ap job_of_seat closed.1))
+      by_place (suc k) one below at closed = absurd (omega (arith, below))

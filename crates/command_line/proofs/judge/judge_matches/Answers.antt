@@ -1,4 +1,4 @@
-use Rattle.std.proofs.Common.{rules, subst, sym, ◌≡◌, true, refl}
+use Rattle.std.proofs.Common.{subst, sym, ◌≡◌, true, refl}
 use Rattle.clap.specs.Words.{App, is_simple, is_simple_and_free}
 use Rattle.clap.proofs.OnLiterals.{clap_on_literals}
 use Rattle.command_line.specs.Requests.{judge_app}

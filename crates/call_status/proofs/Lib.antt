@@ -1,0 +1,3 @@
+pub mod Delivering
+mod NoteExamples
+mod StatusExamples

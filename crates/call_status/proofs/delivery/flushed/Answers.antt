@@ -1,0 +1,12 @@
+use Rattle.std.proofs.Common.{subst, Result}
+use Rattle.outside_io.specs.declared.sink.SinkFault.{SinkFault}
+use Rattle.outside_io.specs.Sink.{Writes}
+use Rattle.call_status.proofs.Delivering.{flush_delivers}
+use Rattle.call_status.proofs.delivery.flushed.Goals as goal
+
+pub returns-in-Ok : goal.returns-in-Ok
+returns-in-Ok g c = λ before bytes none written.
+    let accepted = subst (λ (put : Result (Unit {0}) SinkFault). Writes before (g.S.Sink.state c.args.sink.now) bytes put) c.in-Ok.is written in
+    let flush = c.flush.ensures in
+    flush_delivers before (g.S.Sink.state c.args.sink.now) (g.S.Sink.state c.flush.new.self) bytes c.flush.result none accepted
+    (record { ok = flush.ok; err = flush.err; failed = flush.failed; nothing_held = flush.nothing_held })

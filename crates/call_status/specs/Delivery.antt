@@ -1,0 +1,22 @@
+-- What bytes come to that are put on a sink and flushed.
+use Rattle.std.specs.Prelude.{◌≡◌, ℕ, ◌<◌, ◌≤◌, List, [], Result, Ok, Err}
+use Rattle.outside_io.specs.declared.sink.SinkFault.{SinkFault}
+use Rattle.outside_io.specs.declared.sink.SinkFault.TheVariants as fault
+use Rattle.outside_io.specs.Sink.{SinkState, Took, TookFront}
+
+-- the whole of these bytes was taken, and nothing is held back
+pub record Delivered (before after : SinkState) (bytes : List ℕ) : Type 0 where
+  pub took : Took before.taken after.taken bytes
+  pub nothing_held : after.held_back ≡ []
+  pub faults : after.faults ≡ before.faults
+
+-- a prefix of these bytes was taken, and nothing is held back
+pub record CutShort (before after : SinkState) (bytes : List ℕ) : Type 0 where
+  pub took : TookFront before.taken after.taken bytes
+  pub nothing_held : after.held_back ≡ []
+
+-- what bytes come to that are put on a sink which holds nothing back, and flushed
+abbrev pub Delivers : SinkState → SinkState → List ℕ → Result (Unit {0}) SinkFault → Type 0
+Delivers before after bytes (Ok done) = Delivered before after bytes
+Delivers before after bytes (Err fault.Failed) = CutShort before after bytes × (before.faults < after.faults)
+Delivers before after bytes (Err fault.NoMemory) = CutShort before after bytes × (before.faults ≤ after.faults)

@@ -1,0 +1,6 @@
+pub mod Codes
+pub mod Statuses
+pub mod Stopping
+pub mod Reasons
+pub mod Notes
+pub mod Delivery

@@ -1,0 +1,36 @@
+// Bytes that are put on a sink and flushed.
+ghost use Rattle.std.specs.Prelude.{◌≡◌, [], List, ℕ, IsErrOf};
+ghost use Rattle.outside_io.specs.Sink.{SinkState, Writes};
+ghost use Rattle.call_status.specs.Delivery.{Delivers};
+
+use outside_io::{Sink, SinkFault};
+
+/// Puts a line on a sink and flushes it.
+#[tactic(auto, using(crate::proofs::Delivering::cut_short, crate::proofs::Delivering::flush_delivers))]
+pub fn deliver<S: Sink>(sink: &mut S, line: &[u8]) -> Result<(), SinkFault>
+    requires { (S.state sink.old).held_back ≡ [] }
+    ensures delivers { Delivers (S.state sink.old) (S.state sink.new) line.now result }
+    ensures no_memory { IsErrOf result SinkFault.NoMemory → S.state sink.new ≡ S.state sink.old }
+{
+    match sink.put(line) {
+        Ok(()) => sink.flush(),
+        Err(fault) => Err(fault),
+    }
+}
+
+/// Flushes what was put on a sink that held nothing back before, by what the puts answered, and answers what came of
+/// all that was to be put.
+#[tactic(auto, using(crate::proofs::Delivering::cut_short, crate::proofs::Delivering::flush_delivers, crate::proofs::Delivering::flush_cuts))]
+pub fn flushed<S: Sink>(sink: &mut S, put: Result<(), SinkFault>) -> Result<(), SinkFault>
+    ensures { (before : SinkState) (bytes : List ℕ) → before.held_back ≡ [] → Writes before (S.state sink.old) bytes put
+        → Delivers before (S.state sink.new) bytes result }
+{
+    match put {
+        Ok(()) => sink.flush(),
+        Err(SinkFault::Failed) => Err(SinkFault::Failed),
+        Err(SinkFault::NoMemory) => {
+            let _flushed = sink.flush();
+            Err(SinkFault::NoMemory)
+        }
+    }
+}

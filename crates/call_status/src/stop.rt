@@ -1,0 +1,52 @@
+// Why a call ends before its run.
+ghost use Rattle.std.specs.Prelude.{◌≡◌, ◌≢◌, ◌⊎◌};
+ghost use Rattle.graph_file.specs.declared.refusals.GraphError.TheVariants.{NoMemory as NoMemoryToRead};
+
+use graph_file::GraphError;
+use graph_plans::Spot;
+use outside_io::{Bytes, NoMemory};
+use std::alloc::AllocFailed;
+
+/// Why a call ends before its run. Each reason is the status of the same name.
+#[derive(Drop)]
+pub enum Stop {
+    BadGraph(GraphError),
+    NoSource(Spot),
+    NoText(Bytes),
+    LongText(Bytes),
+    ReadFault(Bytes),
+    BadJournal(u64),
+    NoMemory,
+}
+
+impl From<NoMemory> for Stop {
+    ghost use Rattle.std.specs.Prelude.{◌≡◌};
+    ghost use Rattle.call_status.specs.declared.stop.Stop.TheVariants.{NoMemory as NoMemoryStop};
+
+    ghost from_gives = { λ _ stop. stop ≡ NoMemoryStop };
+
+    fn from(_: NoMemory) -> Self {
+        Stop::NoMemory
+    }
+}
+
+impl<T: Drop> From<AllocFailed<T>> for Stop {
+    ghost use Rattle.std.specs.Prelude.{◌≡◌};
+    ghost use Rattle.call_status.specs.declared.stop.Stop.TheVariants.{NoMemory as NoMemoryStop};
+
+    ghost from_gives = { λ _ stop. stop ≡ NoMemoryStop };
+
+    fn from(_: AllocFailed<T>) -> Self {
+        Stop::NoMemory
+    }
+}
+
+/// A refusal of the bytes; a failed allocation is a reason of its own.
+pub fn refusal(error: GraphError) -> Stop
+    ensures { (result ≡ Stop.NoMemory) ⊎ ((error ≢ NoMemoryToRead) × (result ≡ Stop.BadGraph error)) }
+{
+    match error {
+        GraphError::NoMemory => Stop::NoMemory,
+        error => Stop::BadGraph(error),
+    }
+}

@@ -1,0 +1,66 @@
+// The command `check`.
+ghost use Rattle.std.specs.Prelude.{◌≡◌, map, IfOk, IfErr, Some, None, option_map, option_and_then};
+ghost use Rattle.std.specs.String.{string_bytes};
+ghost use Rattle.clap.specs.Words.{app_of, rows_of, found_of};
+ghost use Rattle.command_line.specs.Requests.{check, check_app, check_in, rows_in};
+
+use super::matches::{bare_command, matches_in};
+use super::request::ArgumentsError;
+use clap::{Arg, ArgMatches, Command};
+use std::alloc::{AllocError, Global};
+
+/// Find how the graph in a file can go wrong.
+#[derive(Clone, Copy)]
+pub struct Check<'w> {
+    /// The name of the graph file.
+    pub file: &'w str,
+}
+
+/// What the arguments after `check` ask for.
+pub(crate) fn read_check<'w>(
+    alloc: Global,
+    arguments: &'w [String],
+) -> Result<Check<'w>, ArgumentsError>
+    ensures ok { IfOk result (λ c. option_and_then check_in (rows_in check_app (map string_bytes arguments.entry.now)) ≡ Some (check c.file.now)) }
+    ensures err { IfErr result (λ error. error ≡ ArgumentsError.Refused → option_and_then check_in (rows_in check_app (map string_bytes arguments.entry.now)) ≡ None) }
+{
+    let matches = match check_matches(alloc, arguments) {
+        Ok(matches) => matches,
+        Err(error) => return Err(error),
+    };
+    match check_of(&matches) {
+        Some(check) => Ok(check),
+        None => Err(ArgumentsError::Refused),
+    }
+}
+
+// What `clap` finds among the arguments after `check`.
+fn check_matches<'w>(
+    alloc: Global,
+    arguments: &'w [String],
+) -> Result<ArgMatches<'w>, ArgumentsError>
+    ensures ok { IfOk result (λ matches. rows_in check_app (map string_bytes arguments.entry.now) ≡ Some (rows_of (found_of matches))) }
+    ensures err { IfErr result (λ error. error ≡ ArgumentsError.Refused → rows_in check_app (map string_bytes arguments.entry.now) ≡ None) }
+{
+    match check_command(alloc) {
+        Ok(command) => matches_in(command, arguments),
+        Err(_) => Err(ArgumentsError::NoMemory),
+    }
+}
+
+// `check FILE`
+fn check_command<'w>(alloc: Global) -> Result<Command<'w>, AllocError>
+    ensures { IfOk result (λ command. app_of command ≡ check_app) }
+{
+    let file = Arg::new(alloc, "file").required(true);
+    bare_command(alloc, "check").arg(file)
+}
+
+// The check that these matches ask for.
+#[tactic(auto, using(crate::proofs::Reading::first_in_rows))]
+fn check_of<'w>(matches: &ArgMatches<'w>) -> Option<Check<'w>>
+    ensures { option_map (λ c. check c.file.now) result ≡ check_in (rows_of (found_of matches.now)) }
+{
+    let file = matches.get_str("file")?;
+    Some(Check { file })
+}

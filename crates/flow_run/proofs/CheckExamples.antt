@@ -1,0 +1,220 @@
+-- What a check of a graph asks for, how it ends and what is written of it, computed on a graph file `g` of one byte.
+use Rattle.std.specs.Fmt.{digits}
+use Rattle.std.proofs.Common.{◌≡◌, ℕ, ◌≤◌, List, [], ◌∷◌, length, Option, Some, None, Ok, Err, false, inl, inr, refl, sym, ap, subst, ◌∙◌, arith, codes}
+use Rattle.std.specs.Prelude.{bytes_eq, if◌then◌else◌, Contains, IsSomeAnd}
+use Rattle.std.proofs.lemmas.Option.{none-some}
+use Rattle.graph_plans.specs.PlanRows.{PlanRows}
+use Rattle.graph_plans.specs.declared.spots.Spot.TheVariants.{File}
+use Rattle.graph_file.specs.declared.refusals.GraphError.TheVariants.{NotJson}
+use Rattle.graph_file.specs.PlanText.{PlanText, IsRefused}
+use Rattle.pitfall_check.specs.declared.finding.Finding.{Finding}
+use Rattle.pitfall_check.specs.declared.finding.Finding.TheVariants.{NoSource, Mixed, ManyConditions, StrongCycle, NeverReached}
+use Rattle.pitfall_check.specs.Findings.{AreFindings}
+use Rattle.pitfall_check.specs.Pitfalls.{IsPitfall}
+use Rattle.call_status.specs.declared.status.Status.TheVariants.{Done, WriteFault, NoText, NoMemory}
+use Rattle.call_status.specs.declared.status.Status.TheVariants as status
+use Rattle.call_status.specs.declared.stop.Stop.{Stop}
+use Rattle.call_status.specs.declared.stop.Stop.TheVariants as stop
+use Rattle.call_status.specs.Statuses.{status_of}
+use Rattle.command_line.specs.Requests.{asked_by, run as run_of, check as check_of}
+use Rattle.flow_run.specs.declared.conclusion.Conclusion.TheVariants as conclusion
+use Rattle.flow_run.specs.declared.conclusion.GraphFindings.{GraphFindings}
+use Rattle.flow_run.specs.Requests.{Held, StopsAtPlan, StopsAtBytes, file_limit}
+use Rattle.flow_run.specs.Checking.{StopsAtFile, StopsBeforeFindings, IsChecked, IsAfterFindings, EndsChecked, CheckEnds, CanBeChecked, finding_line, findings_text, count_line}
+use Rattle.flow_run.specs.Answers.{conclusion_text, wants_journal, output_of}
+use Rattle.flow_run.proofs.Completing.{one_plan}
+
+abbrev g : List ℕ
+g = 0 ∷ []
+
+-- what is held: a byte under `g`
+abbrev texts : List ℕ → Option (List ℕ)
+texts name = if bytes_eq name g then Some (1 ∷ []) else None
+
+abbrev held : Held
+held = Some texts
+
+abbrev known_length : Option (List ℕ) → ℕ
+known_length None = 0
+known_length (Some bytes) = length bytes
+
+-- what a source holds under a name, where it says so
+abbrev bytes_of : Held → List ℕ → Option (List ℕ)
+bytes_of None name = None
+bytes_of (Some text) name = text name
+
+-- Tasks by their names: task 0 is `a` and task 1 is `b`.
+abbrev names : List (List ℕ)
+names = codes "a" ∷ codes "b" ∷ []
+
+-- The lines of findings.
+no_source_line : finding_line names NoSource ≡ codes "no source\n"
+no_source_line = refl
+
+mixed_line : finding_line names (Mixed 1) ≡ codes "mixed b\n"
+mixed_line = refl
+
+many_conditions_line : finding_line names (ManyConditions 0) ≡ codes "many conditions a\n"
+many_conditions_line = refl
+
+strong_cycle_line : finding_line names (StrongCycle 1) ≡ codes "strong cycle b\n"
+strong_cycle_line = refl
+
+never_reached_line : finding_line names (NeverReached 0) ≡ codes "never reached a\n"
+never_reached_line = refl
+
+-- Two tasks that wait for each other: five findings, and their number behind them.
+circle_told : findings_text names (NoSource ∷ StrongCycle 0 ∷ StrongCycle 1 ∷ NeverReached 0 ∷ NeverReached 1 ∷ [])
+    ≡ codes "no source\nstrong cycle a\nstrong cycle b\nnever reached a\nnever reached b\nfindings 5\n"
+unfolding digits
+circle_told = refl
+
+nothing_found : findings_text names [] ≡ codes "findings 0\n"
+unfolding digits
+nothing_found = refl
+
+twelve_found : count_line 12 ≡ codes "findings 12\n"
+unfolding digits
+twelve_found = refl
+
+abbrev found : GraphFindings
+found = record { names = names; findings = Mixed 1 ∷ [] }
+
+findings_told : conclusion_text (Some (conclusion.Findings found)) ≡ codes "mixed b\nfindings 1\n"
+unfolding digits
+findings_told = refl
+
+output_of_a_check : (arguments : List (List ℕ)) → output_of arguments [] (Some (conclusion.Findings found)) ≡ codes "mixed b\nfindings 1\n"
+unfolding digits
+output_of_a_check arguments = refl
+
+check_asked_for : wants_journal (Some (check_of g)) ≡ false
+check_asked_for = refl
+
+-- With findings the status is that of a call without any, unless the output failed or memory ran out.
+after_findings : IsAfterFindings Done × IsAfterFindings WriteFault × IsAfterFindings NoMemory
+after_findings = (inl refl, inr (inl refl), inr (inr refl))
+
+no_source_told_as_a_status : ¬ IsAfterFindings (status.NoSource File)
+no_source_told_as_a_status (inl same) = absurd (cc)
+no_source_told_as_a_status (inr (inl same)) = absurd (cc)
+no_source_told_as_a_status (inr (inr same)) = absurd (cc)
+
+-- Bytes that are refused stop a check as they stop a run. A graph without a source stops a run alone.
+module _ (bytes : List ℕ) where
+  refused_bytes : IsRefused bytes NotJson → StopsAtPlan bytes (stop.BadGraph NotJson) × StopsAtBytes bytes (stop.BadGraph NotJson)
+  refused_bytes refused = (refused, refused)
+
+  memory_at_the_bytes : StopsAtPlan bytes stop.NoMemory
+  memory_at_the_bytes = tt
+
+  no_source_stops_no_check : ¬ StopsAtPlan bytes (stop.NoSource File)
+  no_source_stops_no_check is = is
+
+  no_text_at_the_bytes : ¬ StopsAtPlan bytes (stop.NoText g)
+  no_text_at_the_bytes is = is
+
+  plan_is_not_refused : (plan : PlanRows) → PlanText bytes plan → ¬ StopsAtPlan bytes (stop.BadGraph NotJson)
+  plan_is_not_refused plan stands is = let both : Ok plan ≡ Err NotJson = sym stands ∙ is in absurd (cc)
+
+missing_file : StopsBeforeFindings held (2 ∷ []) (stop.NoText (2 ∷ []))
+missing_file = inl (refl, refl)
+
+file_there : ¬ StopsBeforeFindings held g (stop.NoText g)
+file_there (inl (same, none)) = absurd (none-some (1 ∷ []) (sym none))
+file_there (inr at) = at.stops
+
+refused_file : IsRefused (1 ∷ []) NotJson → StopsBeforeFindings held g (stop.BadGraph NotJson)
+refused_file refused = inr (record { bytes = 1 ∷ []; read = (refl, omega arith); stops = refused })
+
+file_of_a_plan_is_not_refused : (plan : PlanRows) → PlanText (1 ∷ []) plan → ¬ StopsBeforeFindings held g (stop.BadGraph NotJson)
+file_of_a_plan_is_not_refused plan stands (inl at) = at
+file_of_a_plan_is_not_refused plan stands (inr at) =
+    let read : Some (1 ∷ []) ≡ Some at.bytes = at.read.0 in
+    let bytes : 1 ∷ [] ≡ at.bytes = cc in
+    plan_is_not_refused (1 ∷ []) plan stands (subst (λ b. IsRefused b NotJson) (sym bytes) at.stops)
+
+no_source_stops_no_check_of_a_file : ¬ StopsBeforeFindings held g (stop.NoSource File)
+no_source_stops_no_check_of_a_file (inl at) = at
+no_source_stops_no_check_of_a_file (inr at) = at.stops
+
+-- The findings are those on the plan that the file holds, and the names those of its tasks.
+module _ (plan : PlanRows) (stands : PlanText (1 ∷ []) plan) (findings : List Finding) (are : AreFindings plan.top.net findings) where
+  checked : IsChecked held g (record { names = plan.top.names; findings = findings })
+  checked = record { bytes = 1 ∷ []; plan = plan; read = (refl, omega arith); stands = stands; names = refl; findings = are }
+
+  checked_and_told : EndsChecked held g Done (Some (conclusion.Findings (record { names = plan.top.names; findings = findings })))
+  checked_and_told = record { found = record { names = plan.top.names; findings = findings }; only = refl; checked = checked; after = inl refl }
+
+  -- What is found has the names of the graph's tasks and all its pitfalls.
+  names_of_another_graph : ¬ IsChecked held g (record { names = codes "z" ∷ plan.top.names; findings = findings })
+  names_of_another_graph is =
+      let read : Some (1 ∷ []) ≡ Some is.bytes = is.read.0 in
+      let bytes : 1 ∷ [] ≡ is.bytes = cc in
+      let same = one_plan is.bytes is.plan plan is.stands (subst (λ b. PlanText b plan) bytes stands) in
+      let names : codes "z" ∷ plan.top.names ≡ plan.top.names = is.names ∙ ap (λ (p : PlanRows). p.top.names) same in
+      absurd (omega (arith, ap length names))
+
+  pitfall_left_out : IsPitfall plan.top.net (Mixed 1) → ¬ IsChecked held g (record { names = plan.top.names; findings = [] })
+  pitfall_left_out mixed is =
+      let read : Some (1 ∷ []) ≡ Some is.bytes = is.read.0 in
+      let bytes : 1 ∷ [] ≡ is.bytes = cc in
+      let same = one_plan is.bytes is.plan plan is.stands (subst (λ b. PlanText b plan) bytes stands) in
+      let is_one : IsPitfall is.plan.top.net (Mixed 1) = subst (λ (p : PlanRows). IsPitfall p.top.net (Mixed 1)) (sym same) mixed in
+      not_in_nothing ((is.findings.exact (Mixed 1)).1 is_one)
+    where
+      not_in_nothing : ¬ Contains [] (Mixed 1)
+      not_in_nothing is = absurd (omega arith)
+
+  told_as_another_status : ¬ EndsChecked held g (status.NoSource File) (Some (conclusion.Findings (record { names = plan.top.names; findings = findings })))
+  told_as_another_status ended = no_source_told_as_a_status ended.after
+
+  at_hand : (arguments : List (List ℕ)) → asked_by arguments ≡ Some (check_of g) → CanBeChecked held arguments
+  at_hand arguments asks = record { file = g; text = texts; plan = plan; asks = asks; specified = refl; graph = (omega arith, stands) }
+
+plan_of_a_missing_file : (found : GraphFindings) → ¬ IsChecked held (2 ∷ []) found
+plan_of_a_missing_file found is = let never : None ≡ Some is.bytes = is.read.0 in absurd (cc)
+
+-- An end before the findings has none, and isn't done.
+done_without_findings : ¬ CheckEnds held g Done None
+done_without_findings (inl stopped) = never stopped.why stopped.told
+  where
+    never : (why : Stop) → ¬ (Done ≡ status_of why)
+    never (stop.BadGraph error) same = absurd (cc)
+    never (stop.NoSource spot) same = absurd (cc)
+    never (stop.NoText name) same = absurd (cc)
+    never (stop.LongText name) same = absurd (cc)
+    never (stop.ReadFault name) same = absurd (cc)
+    never (stop.BadJournal line) same = absurd (cc)
+    never stop.NoMemory same = absurd (cc)
+done_without_findings (inr ended) = let only : None ≡ Some (conclusion.Findings ended.found) = ended.only in absurd (cc)
+
+-- Where the source doesn't specify what it holds, nothing can be said to be at hand.
+nothing_to_check : (arguments : List (List ℕ)) → ¬ CanBeChecked None arguments
+nothing_to_check arguments can = let some : None ≡ Some can.text = can.specified in absurd (cc)
+
+run_asked_for : (arguments : List (List ℕ)) → asked_by arguments ≡ Some (run_of g 9 false) → ¬ CanBeChecked held arguments
+run_asked_for arguments asks can = let never : Some (run_of g 9 false) ≡ Some (check_of can.file) = sym asks ∙ can.asks in absurd (cc)
+
+-- A file that is longer than is read stops the call, and isn't at hand; its bytes are not looked at.
+module _ (bytes : List ℕ) (long : length bytes ≡ 4194305) where
+  abbrev too_long : Held
+  too_long = Some (λ name. Some bytes)
+
+  long_file : StopsBeforeFindings too_long g (stop.LongText g)
+  long_file = inl (refl, omega (arith, long))
+
+  long_file_is_not_read : ¬ StopsAtFile too_long g stop.NoMemory
+  long_file_is_not_read at = let same : Some bytes ≡ Some at.bytes = at.read.0 in absurd (omega (arith, long, ap known_length same, at.read.1))
+
+  long_file_is_not_checked : (findings : GraphFindings) → ¬ IsChecked too_long g findings
+  long_file_is_not_checked findings is = let same : Some bytes ≡ Some is.bytes = is.read.0 in absurd (omega (arith, long, ap known_length same, is.read.1))
+
+  long_file_is_not_at_hand : (arguments : List (List ℕ)) → ¬ CanBeChecked too_long arguments
+  long_file_is_not_at_hand arguments can =
+      let same : bytes_of too_long can.file ≡ bytes_of (Some can.text) can.file = ap (λ h. bytes_of h can.file) can.specified in
+      few (can.text can.file) same can.graph
+    where
+      few : (o : Option (List ℕ)) → Some bytes ≡ o → IsSomeAnd o (λ b. (length b ≤ file_limit) × PlanText b can.plan) → ⊥
+      few None same never = never
+      few (Some b) same both = let one : bytes ≡ b = cc in absurd (omega (arith, long, ap length one, both.0))

@@ -1,4 +1,0 @@
-use Rattle.flow_run.proofs.note.add_graph_error.Goals as goal
-
-pub returns-in-NoSuchName : goal.returns-in-NoSuchName
-returns-in-NoSuchName c = rw c.in-NoSuchName.is c.add_field-in-NoSuchName.ensures
