@@ -1,8 +1,8 @@
 // The writing of a journal's text.
-ghost use Rattle.std.specs.Prelude.{◌≡◌, ◌++◌, codes, decimal, IfOk, OnOk};
+ghost use Rattle.std.specs.Prelude.{◌≡◌, ◌++◌, ◌<◌, ◌^◌, codes, decimal, All, IfOk, OnOk};
 ghost use Rattle.std.specs.List.{flat_map};
 ghost use Rattle.outside_io.specs.Sink.{Writes};
-ghost use Rattle.journal_text.specs.JournalText.{cause_field, drop_field, entry_line, fault_field, inner_field, journal_text, list_field, part_field};
+ghost use Rattle.journal_text.specs.JournalText.{FitsCause, FitsDropWhy, FitsPart, FitsWhy, HasLine, IsJournalText, cause_field, drop_field, entry_line, fault_field, inner_field, journal_text, list_field, part_field};
 ghost use Rattle.journal_text.specs.declared.version.Version.TheVariants.{Two};
 
 use itoa::Buffer;
@@ -19,7 +19,8 @@ pub fn print_journal<S: Sink>(
     journal: &[Entry],
     out: &mut S,
 ) -> Result<(), SinkFault>
-    ensures { Writes (S.state out.old) (S.state out.new) (journal_text Two journal.now) result }
+    ensures writes { Writes (S.state out.old) (S.state out.new) (journal_text Two journal.now) result }
+    ensures text { OnOk result (IsJournalText journal.now (journal_text Two journal.now)) }
 {
     if let Err(fault) = put_piece(out, b"flow journal 2\n") {
         return Err(fault);
@@ -30,7 +31,8 @@ pub fn print_journal<S: Sink>(
 // Puts the lines of these entries.
 #[tactic(auto, using(outside_io::proofs::Pieces::accepts_nothing))]
 fn put_entries<S: Sink>(alloc: Global, journal: &[Entry], out: &mut S) -> Result<(), SinkFault>
-    ensures { Writes (S.state out.old) (S.state out.new) (flat_map entry_line journal.now) result }
+    ensures writes { Writes (S.state out.old) (S.state out.new) (flat_map entry_line journal.now) result }
+    ensures fits { OnOk result (All (HasLine Two) journal.now) }
 {
     for entry in journal {
         if let Err(fault) = put_entry(alloc, entry, out) {
@@ -43,7 +45,8 @@ fn put_entries<S: Sink>(alloc: Global, journal: &[Entry], out: &mut S) -> Result
 // Puts the line of an entry.
 #[tactic(auto, using(outside_io::proofs::Pieces::writes_nothing))]
 fn put_entry<S: Sink>(alloc: Global, entry: &Entry, out: &mut S) -> Result<(), SinkFault>
-    ensures { Writes (S.state out.old) (S.state out.new) (entry_line entry.now) result }
+    ensures writes { Writes (S.state out.old) (S.state out.new) (entry_line entry.now) result }
+    ensures fits { OnOk result (HasLine Two entry.now) }
 {
     let line = line_of(alloc, entry)?;
     put_piece(out, line.as_slice())
@@ -58,7 +61,8 @@ fn put_piece<S: Sink>(out: &mut S, piece: &[u8]) -> Result<(), SinkFault>
 
 // The line of an entry.
 fn line_of(alloc: Global, entry: &Entry) -> Result<Bytes, NoMemory>
-    ensures { IfOk result (λ line. line ≡ entry_line entry.now) }
+    ensures line { IfOk result (λ line. line ≡ entry_line entry.now) }
+    ensures fits { OnOk result (HasLine Two entry.now) }
 {
     let mut line = List::with_room(alloc, LINE_ROOM)?;
     match entry {
@@ -107,7 +111,8 @@ fn add_numbered(line: &mut Bytes, word: &[u8], number: u64) -> Result<(), NoMemo
 
 // Adds what a release comes from.
 fn add_cause(line: &mut Bytes, cause: Cause) -> Result<(), NoMemory>
-    ensures { OnOk result (line.new ≡ line.old ++ cause_field cause) }
+    ensures adds { OnOk result (line.new ≡ line.old ++ cause_field cause) }
+    ensures fits { FitsCause cause }
 {
     match cause {
         Cause::Source => line.add_all(b"source"),
@@ -118,7 +123,8 @@ fn add_cause(line: &mut Bytes, cause: Cause) -> Result<(), NoMemory>
 
 // Adds what a start finds at an edge.
 fn add_part(line: &mut Bytes, part: Part) -> Result<(), NoMemory>
-    ensures { OnOk result (line.new ≡ line.old ++ part_field part) }
+    ensures adds { OnOk result (line.new ≡ line.old ++ part_field part) }
+    ensures fits { FitsPart part }
 {
     match part {
         Part::From(place) => add_numbered(line, b"", place),
@@ -129,7 +135,8 @@ fn add_part(line: &mut Bytes, part: Part) -> Result<(), NoMemory>
 
 // Adds what a start finds at its edges.
 fn add_ins(line: &mut Bytes, ins: &[Part]) -> Result<(), NoMemory>
-    ensures { OnOk result (line.new ≡ line.old ++ list_field part_field ins.now) }
+    ensures adds { OnOk result (line.new ≡ line.old ++ list_field part_field ins.now) }
+    ensures fit { OnOk result (All FitsPart ins.now) }
 {
     match ins {
         [] => line.add_all(b"-"),
@@ -146,7 +153,8 @@ fn add_ins(line: &mut Bytes, ins: &[Part]) -> Result<(), NoMemory>
 
 // Adds the edges that an end signals.
 fn add_gives(line: &mut Bytes, gives: &[u32]) -> Result<(), NoMemory>
-    ensures { OnOk result (line.new ≡ line.old ++ list_field decimal gives.now) }
+    ensures adds { OnOk result (line.new ≡ line.old ++ list_field decimal gives.now) }
+    ensures fit { All (λ edge. edge < 2 ^ 32) gives.now }
 {
     match gives {
         [] => line.add_all(b"-"),
@@ -162,7 +170,8 @@ fn add_gives(line: &mut Bytes, gives: &[u32]) -> Result<(), NoMemory>
 
 // Adds why a start faulted.
 fn add_fault_why(line: &mut Bytes, why: Why) -> Result<(), NoMemory>
-    ensures { OnOk result (line.new ≡ line.old ++ fault_field why) }
+    ensures adds { OnOk result (line.new ≡ line.old ++ fault_field why) }
+    ensures fits { FitsWhy Two why }
 {
     match why {
         Why::Long(bytes) => add_numbered(line, b"long:", bytes),
@@ -175,7 +184,8 @@ fn add_fault_why(line: &mut Bytes, why: Why) -> Result<(), NoMemory>
 
 // Adds why a release was dropped.
 fn add_drop_why(line: &mut Bytes, why: DropWhy) -> Result<(), NoMemory>
-    ensures { OnOk result (line.new ≡ line.old ++ drop_field why) }
+    ensures adds { OnOk result (line.new ≡ line.old ++ drop_field why) }
+    ensures fits { FitsDropWhy Two why }
 {
     match why {
         DropWhy::Halted => line.add_all(b"halted"),
