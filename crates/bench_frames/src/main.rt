@@ -3,6 +3,8 @@
 //! such programs at once. Otherwise it does nothing. It is no part of the product.
 #![tactic(auto)]
 
+ghost use Rattle.std.specs.Prelude.{◌<◌, ◌≤◌};
+
 mod clock;
 mod job;
 mod nets;
@@ -21,6 +23,8 @@ fn main(rt: HostRuntime) -> io::Result<()> {
     match word.as_str() {
         "measure" => measure(&rt, rt.alloc()),
         "work" => work(&rt, rt.alloc()),
+        "chain1" => chain_by(&rt, rt.alloc(), 1),
+        "chain16" => chain_by(&rt, rt.alloc(), 16),
         _ => Ok(()),
     }
 }
@@ -40,7 +44,32 @@ fn measure<R: Threads + Wait + Clock + Print + Sync>(rt: &R, alloc: Global) -> i
         let nanos = runs::working(rt, alloc, *threads)?;
         println!(rt; "tasks of 2 us, {threads} threads: {nanos} ns a start")?;
     }
+    by_workers(rt, alloc)
+}
+
+// Runs by workers that steal from each other.
+fn by_workers<R: Threads + Wait + Clock + Print + Sync>(rt: &R, alloc: Global) -> io::Result<()> {
+    for workers in [1u32, 4].iter() {
+        let nanos = runs::fan_by(rt, alloc, *workers)?;
+        println!(rt; "10,000 empty successors of a task, {workers} workers: {nanos} ns a start")?;
+    }
+    for workers in [1u32, 2, 4].iter() {
+        let nanos = runs::working_by(rt, alloc, *workers)?;
+        println!(rt; "tasks of 2 us, {workers} workers: {nanos} ns a start")?;
+    }
     Ok(())
+}
+
+// Runs of a chain of tasks that do nothing, by so many workers, for those who look at the processor time.
+fn chain_by<R: Threads + Wait + Clock + Print + Sync>(
+    rt: &R,
+    alloc: Global,
+    workers: u32,
+) -> io::Result<()>
+    requires { (0 < workers) × (workers ≤ 16) }
+{
+    let nanos = runs::chain_by(rt, alloc, workers)?;
+    println!(rt; "a chain of 10,000 empty tasks, {workers} workers: {nanos} ns a start")
 }
 
 // A run of tasks that work, by one thread.

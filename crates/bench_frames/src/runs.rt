@@ -1,4 +1,6 @@
-// Runs of jobs, alone and stepped.
+// Runs of jobs, alone, stepped and by workers.
+ghost use Rattle.std.specs.Prelude.{◌<◌, ◌≤◌};
+
 use crate::clock::nanos_since;
 use crate::job::{BusyJob, turned};
 use crate::nets;
@@ -13,6 +15,7 @@ use std::thread::Threads;
 use std::time::{Clock, Instant};
 use stepped_runs::stepped_by;
 use task_graph::{BuildError, Net};
+use thief_runs::run_by;
 
 const CHAIN: u32 = 10_000;
 
@@ -137,6 +140,83 @@ pub fn working<R: Threads + Wait + Clock + Sync>(
         let begun = Instant::now(rt)?;
         let run = stepped_by(rt, alloc, job, threads);
         least = least.min(each(rt, begun, WORKING as u64 + 1, run.unwrap_or(None))?);
+    }
+    Ok(least)
+}
+
+/// The nanoseconds a start of a chain of tasks that do nothing, by so many workers that steal from each other.
+pub fn chain_by<R: Threads + Wait + Clock + Sync>(
+    rt: &R,
+    alloc: Global,
+    workers: u32,
+) -> io::Result<u64>
+    requires { (0 < workers) × (workers ≤ 16) }
+{
+    by_workers(
+        rt,
+        alloc,
+        nets::chain(alloc, CHAIN),
+        CHAIN as u64,
+        0,
+        workers,
+    )
+}
+
+/// The same, of tasks that do nothing, which a first one precedes.
+pub fn fan_by<R: Threads + Wait + Clock + Sync>(
+    rt: &R,
+    alloc: Global,
+    workers: u32,
+) -> io::Result<u64>
+    requires { (0 < workers) × (workers ≤ 16) }
+{
+    by_workers(
+        rt,
+        alloc,
+        nets::fan(alloc, CHAIN),
+        CHAIN as u64 + 1,
+        0,
+        workers,
+    )
+}
+
+/// The same, of tasks that work.
+pub fn working_by<R: Threads + Wait + Clock + Sync>(
+    rt: &R,
+    alloc: Global,
+    workers: u32,
+) -> io::Result<u64>
+    requires { (0 < workers) × (workers ≤ 16) }
+{
+    let turns = turns_of_work(rt)?;
+    by_workers(
+        rt,
+        alloc,
+        nets::fan(alloc, WORKING),
+        WORKING as u64 + 1,
+        turns,
+        workers,
+    )
+}
+
+// The least of five runs by so many workers, of tasks that make so many turns.
+fn by_workers<R: Threads + Wait + Clock + Sync>(
+    rt: &R,
+    alloc: Global,
+    net: Result<Net, BuildError>,
+    starts: u64,
+    turns: u64,
+    workers: u32,
+) -> io::Result<u64>
+    requires { (0 < workers) × (workers ≤ 16) }
+{
+    let net = shared(alloc, net)?;
+    let mut least = u64::MAX;
+    for _ in 0..5 {
+        let job = busy(alloc, &net, turns)?;
+        let begun = Instant::now(rt)?;
+        let run = run_by(rt, alloc, job, workers);
+        least = least.min(each(rt, begun, starts, run.ok())?);
     }
     Ok(least)
 }
