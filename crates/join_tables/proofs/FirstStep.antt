@@ -1,0 +1,153 @@
+-- A table begins as its rule says, and its keeper deals out the first releases.
+use Rattle.std.proofs.Common.{◌≡◌, ◌⊎◌, inl, inr, ℕ, zero, suc, ◌+◌, ◌-◌, ◌*◌, ◌<◌, ◌≤◌, Bool, true, false, List, [], ◌∷◌, ◌++◌, length, sym, refl, ap, ◌∙◌, subst, arith, get_or}
+use Rattle.std.specs.Prelude.{slice_index, drop, nat_lt}
+use Rattle.std.specs.Option.{option_map_or}
+use Rattle.std.proofs.lemmas.Bool.Decides.{nat_tests}
+use Rattle.std.proofs.lemmas.Bool.{cases_lt}
+use mathlib.Core.Option.{some, some-injective, some-ne-none}
+use lib.ListN.{get_elem?}
+use Rattle.atomic_table.specs.Table.{opening}
+use Rattle.task_graph.specs.NetRows.{NetRows}
+use Rattle.task_graph.specs.Net.{IsNet, in_edges, strong_in}
+use Rattle.task_graph.specs.declared.net.EdgeRow.{EdgeRow}
+use Rattle.journal_rules.specs.Counts.{first_tokens}
+use Rattle.journal_rules.specs.SemaphoreRule.{max_of}
+use Rattle.join_tables.specs.declared.releases.Release.{Release}
+use Rattle.join_tables.specs.declared.view.Item.{Item}
+use Rattle.join_tables.specs.declared.view.Mark.TheVariants.{Live}
+use Rattle.join_tables.specs.declared.view.Note.{Note}
+use Rattle.join_tables.specs.Giving.{one_if}
+use Rattle.join_tables.specs.inside.Accounts.{mark, busy, resting, weigh, total, FitsPlan, ViewPart, KeepsAccounts, reading, edges_from, first_notes, opening_notes}
+use Rattle.join_tables.specs.inside.Opening.{bare, is_empty, source_items, full_items, first_items}
+use Rattle.join_tables.specs.inside.FirstReleases.{items_of, opening_word, AreOpeningWords, DealsFirst}
+use Rattle.join_tables.proofs.Counting.{get_past}
+use Rattle.join_tables.proofs.OpeningDuties.{strong_below}
+use Rattle.join_tables.proofs.Beginning.{opening_balanced, opening_view}
+
+-- THE FIRST RELEASES
+rests_none : (rs : List Release) → weigh resting (first_notes (items_of rs)) ≡ 0
+rests_none [] = refl
+rests_none (r ∷ rs) = omega (arith, rests_none rs)
+
+busy_lives : (rs : List Release) → weigh busy (first_notes (items_of rs)) ≡ weigh (mark Live) (first_notes (items_of rs))
+busy_lives [] = refl
+busy_lives (r ∷ rs) = omega (arith, busy_lives rs)
+
+drop_from : (rs : List Release) (i : ℕ) (d : Release) → i < length rs → drop i rs ≡ get_or rs i d ∷ drop (suc i) rs
+drop_from [] i d below = absurd (omega arith)
+drop_from (r ∷ rs) zero d below = cc
+drop_from (r ∷ rs) (suc i) d below = drop_from rs i d (omega arith)
+
+pub deals_first : (rs : List Release) (i : ℕ) (d : Release) (v : List Note) → i < length rs → v ≡ first_notes (items_of (drop i rs)) → DealsFirst (get_or rs i d).task (get_or rs i d).cause v
+deals_first rs i d v below is = let tail = drop (suc i) rs in
+    subst (λ w. DealsFirst (get_or rs i d).task (get_or rs i d).cause w) (sym (is ∙ ap (λ qs. first_notes (items_of qs)) (drop_from rs i d below)))
+    (refl, refl, rests_none tail, λ none. omega (arith, busy_lives tail, none))
+
+-- THE FIRST WORDS
+live_first : (xs : List Item) → weigh (mark Live) (first_notes xs) ≡ length xs
+live_first [] = refl
+live_first (x ∷ xs) = omega (arith, live_first xs)
+
+source_few : (t : ℕ) (b : Bool) → length (source_items t b) ≤ 1
+source_few t true = omega arith
+source_few t false = omega arith
+
+full_few : (t : ℕ) (es : List ℕ) (n : ℕ) → length (full_items t es n) ≤ 1
+full_few t [] n = omega arith
+full_few t (e ∷ es) zero = omega arith
+full_few t (e ∷ es) (suc n) = omega arith
+
+items_length : (xs ys : List Item) → length (xs ++ ys) ≡ length xs + length ys
+items_length [] ys = omega arith
+items_length (x ∷ xs) ys = omega (arith, items_length xs ys)
+
+first_few : (net : NetRows) (t n : ℕ) → length (first_items net t n) ≤ 2 * n
+first_few net t zero = omega arith
+first_few net t (suc n) = let a = source_items t (is_empty (in_edges net t)) in let b = full_items t (strong_in net t) (bare net (strong_in net t)) in
+    omega (arith, first_few net (suc t) n, source_few t (is_empty (in_edges net t)), full_few t (strong_in net t) (bare net (strong_in net t)), items_length (a ++ b) (first_items net (suc t) n), items_length a b)
+
+index_past : (words : List ℕ) (k : ℕ) → length words ≤ k → slice_index words k ≡ 0
+index_past [] k past = refl
+index_past (w ∷ ws) zero past = absurd (omega arith)
+index_past (w ∷ ws) (suc k) past = index_past ws k (omega arith)
+
+edge_word : (net : NetRows) (live e : ℕ) → e < length net.edges → opening_word net live (40 + e) ≡ first_tokens net e
+edge_word net live e below =
+    let a : nat_lt (40 + e) 40 ≡ false = grind (arith, nat_tests) in
+    let b : 40 + e - 40 ≡ e = omega arith in
+    let c : nat_lt (40 + e - 40) (length net.edges) ≡ true = ap (λ k. nat_lt k (length net.edges)) b ∙ grind (arith, nat_tests) in
+    rw (a, c) (ap (first_tokens net) b)
+
+join_word : (net : NetRows) (live t : ℕ) → opening_word net live (40 + length net.edges + t) ≡ bare net (strong_in net t)
+join_word net live t =
+    let k = 40 + length net.edges + t in
+    let a : nat_lt k 40 ≡ false = grind (arith, nat_tests) in
+    let b : k - 40 ≡ length net.edges + t = omega arith in
+    let c : nat_lt (k - 40) (length net.edges) ≡ false = ap (λ q. nat_lt q (length net.edges)) b ∙ grind (arith, nat_tests) in
+    let d : k - 40 - length net.edges ≡ t = omega arith in
+    rw (a, c) (ap (λ q. bare net (strong_in net q)) d)
+
+first_past : (net : NetRows) (e : ℕ) → length net.edges ≤ e → first_tokens net e ≡ 0
+first_past net e past = ap (λ o. option_map_or (λ (r : EdgeRow). one_if r.start) o 0) (get_past net.edges e past)
+
+bare_past : (net : NetRows) (t : ℕ) → IsNet net → length net.tasks ≤ t → bare net (strong_in net t) ≡ 0
+bare_past net t rows past = by_list (strong_in net t) refl
+  where
+    by_list : (es : List ℕ) → strong_in net t ≡ es → bare net es ≡ 0
+    by_list [] is = refl
+    by_list (e ∷ es) is = let below : t < length net.tasks = strong_below net rows t (λ none. let z : e ∷ es ≡ [] = sym is ∙ none in absurd (cc)) in absurd (omega (arith, below))
+
+max_none : (net : NetRows) → net.sems ≡ [] → (s : ℕ) → max_of net s ≤ 4294967295
+max_none net none s = let z : max_of net s ≡ 0 = ap (λ xs. slice_index xs s) none in omega (arith, z)
+
+pub begins_table : (net : NetRows) (limit live : ℕ) (words : List ℕ) → IsNet net → limit ≤ 2097153 → net.sems ≡ [] → live ≡ length (first_items net 0 (length net.tasks)) → AreOpeningWords net live words
+    → KeepsAccounts net limit (opening {S = Unit {0}} words [] (opening_notes net limit))
+begins_table net limit live words rows limited none live_is ws = record {
+  fits = fits;
+  size = omega (arith, ws.size, many);
+  journal = [];
+  counted = first_tokens net;
+  balanced = opening_balanced net limit (reading net words) fits
+      (ws.each 8 (omega (arith, ws.size))) (ws.each 16 (omega (arith, ws.size)) ∙ live_is) (ws.each 24 (omega (arith, ws.size))) (ws.each 32 (omega (arith, ws.size)))
+      (λ s below. absurd (omega (arith, below, many))) (λ s below. absurd (omega (arith, below, many))) edges joins;
+  few = omega (arith, live_first (first_items net 0 (length net.tasks)), first_few net 0 (length net.tasks), rows.task_count);
+  few_drops = omega arith;
+  views = each;
+}
+  where
+    many : length net.sems ≡ 0
+    many = ap length none
+
+    fits : FitsPlan net limit
+    fits = record { rows = rows; limited = limited; maxima = max_none net none }
+
+    edges : (e : ℕ) → (reading net words).edge e ≡ first_tokens net e
+    edges e = by_place (cases_lt e (length net.edges))
+      where
+        by_place : (e < length net.edges) ⊎ (length net.edges ≤ e) → (reading net words).edge e ≡ first_tokens net e
+        by_place (inl below) =
+            let is : nat_lt e (length net.edges) ≡ true = grind (arith, nat_tests) in
+            let place : edges_from net + e ≡ 40 + e = omega (arith, many) in
+            rw is (ap (slice_index words) place ∙ ws.each (40 + e) (omega (arith, ws.size)) ∙ edge_word net live e below)
+        by_place (inr past) = let is : nat_lt e (length net.edges) ≡ false = grind (arith, nat_tests) in rw is (sym (first_past net e past))
+
+    joins : (t : ℕ) → (reading net words).join t ≡ bare net (strong_in net t)
+    joins t = ap (slice_index words) place ∙ by_place (cases_lt t (length net.tasks))
+      where
+        place : edges_from net + length net.edges + t ≡ 40 + length net.edges + t
+        place = omega (arith, many)
+
+        by_place : (t < length net.tasks) ⊎ (length net.tasks ≤ t) → slice_index words (40 + length net.edges + t) ≡ bare net (strong_in net t)
+        by_place (inl below) = ws.each (40 + length net.edges + t) (omega (arith, ws.size)) ∙ join_word net live t
+        by_place (inr past) = index_past words (40 + length net.edges + t) (omega (arith, ws.size)) ∙ sym (bare_past net t rows past)
+
+    each : (id : ℕ) (v : List Note) → get_elem? (opening_notes net limit ∷ []) id ≡ some v → ViewPart net [] (λ c. total c (opening_notes net limit ∷ [])) id v
+    each zero v at = subst (λ w. ViewPart net [] (λ c. total c (opening_notes net limit ∷ [])) 0 w) (some-injective (opening_notes net limit) v at) (opening_view net (λ c. total c (opening_notes net limit ∷ [])))
+    each (suc id) v at = absurd (some-ne-none v (sym at))
+
+items_count : (rs : List Release) → length (items_of rs) ≡ length rs
+items_count [] = refl
+items_count (r ∷ rs) = omega (arith, items_count rs)
+
+pub live_is : (net : NetRows) (rs : List Release) (live : ℕ) → live ≡ length rs → items_of rs ≡ first_items net 0 (length net.tasks) → live ≡ length (first_items net 0 (length net.tasks))
+live_is net rs live is first = is ∙ sym (items_count rs) ∙ ap length first

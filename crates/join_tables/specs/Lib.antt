@@ -1,0 +1,6 @@
+pub mod Giving
+pub mod States
+pub mod Turns
+pub mod Keeping
+pub mod Openings
+pub mod inside

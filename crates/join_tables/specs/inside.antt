@@ -1,0 +1,9 @@
+-- Internal: what the seats of a table know, the accounts between words, views and journal, and the kinds of step.
+pub mod Items
+pub mod Accounts
+pub mod Kinds
+pub mod Opening
+pub mod Seated
+pub mod Collects
+pub mod FirstReleases
+pub mod Recording

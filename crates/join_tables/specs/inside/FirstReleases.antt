@@ -1,0 +1,61 @@
+-- The releases with which a run begins, and the words of its table.
+use Rattle.std.specs.Prelude.{◌≡◌, ◌<◌, ◌-◌, ◌+◌, ◌==◌, ℕ, zero, suc, Bool, true, false, nat_lt, List, [], ◌∷◌, ◌++◌, length, slice_index, map, if◌then◌else◌}
+use Rattle.task_graph.specs.NetRows.{NetRows}
+use Rattle.task_graph.specs.Net.{IsNet, in_edges, strong_in}
+use Rattle.journal_rules.specs.Counts.{first_tokens}
+use Rattle.atomic_table.specs.Seated.{TableId}
+use Rattle.journal_rules.specs.declared.entry.Cause.{Cause}
+use Rattle.join_tables.specs.declared.releases.Release.{Release}
+use Rattle.join_tables.specs.States.{FreshState, fresh_state}
+use Rattle.join_tables.specs.declared.view.Mark.TheVariants.{Live}
+use Rattle.join_tables.specs.declared.view.Note.{Note}
+use Rattle.join_tables.specs.declared.view.Note.TheVariants.{Duty, Has}
+use Rattle.join_tables.specs.declared.view.Item.{Item}
+use Rattle.join_tables.specs.declared.view.Item.TheVariants.{Fresh}
+use Rattle.join_tables.specs.inside.Opening.{bare, is_empty, source_items, full_items}
+use Rattle.join_tables.specs.inside.Accounts.{mark, busy, resting, weigh}
+
+-- whether a task has strong in-edges, and all of them begin with a token
+abbrev pub is_full : List ℕ → ℕ → Bool
+is_full [] n = false
+is_full (e ∷ es) zero = true
+is_full (e ∷ es) (suc n) = false
+
+-- the first releases of one task, and of the tasks before one
+abbrev pub task_items : NetRows → ℕ → List Item
+task_items net t = source_items t (is_empty (in_edges net t)) ++ full_items t (strong_in net t) (bare net (strong_in net t))
+
+abbrev pub items_before : NetRows → ℕ → List Item
+items_before net zero = []
+items_before net (suc t) = items_before net t ++ task_items net t
+
+-- releases as items
+abbrev pub items_of : List Release → List Item
+items_of [] = []
+items_of (r ∷ rs) = Fresh r.task r.cause ∷ items_of rs
+
+abbrev pub item_if : Bool → ℕ → Cause → List Item
+item_if true t cause = Fresh t cause ∷ []
+item_if false t cause = []
+
+-- and as turns
+abbrev pub states_of : TableId → List Release → List FreshState
+states_of n rs = map (λ (r : Release). fresh_state n r.task r.cause) rs
+
+-- what a word is at first, by its place
+abbrev pub opening_word : NetRows → ℕ → ℕ → ℕ
+opening_word net live k =
+    if nat_lt k 40 then (if k == 16 then live else 0)
+    else if nat_lt (k - 40) (length net.edges) then first_tokens net (k - 40)
+    else bare net (strong_in net (k - 40 - length net.edges))
+
+-- the words at first
+pub record AreOpeningWords (net : NetRows) (live : ℕ) (words : List ℕ) : Type 0 where
+  pub rows : IsNet net
+  pub size : length words ≡ 40 + length net.edges + length net.tasks
+  pub each : (k : ℕ) → k < length words → slice_index words k ≡ opening_word net live k
+
+-- the keeper's seat has a release to deal out next
+abbrev pub DealsFirst : ℕ → Cause → List Note → Type 0
+DealsFirst u why (Duty (Fresh t cause) ∷ Has Live ∷ rest) = (t ≡ u) × (cause ≡ why) × (weigh resting rest ≡ 0) × (weigh (mark Live) rest ≡ 0 → weigh busy rest ≡ 0)
+DealsFirst u why notes = ⊥

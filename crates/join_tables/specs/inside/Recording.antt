@@ -1,0 +1,13 @@
+-- What a keeper's seat knows: the newest entry first.
+use Rattle.std.specs.Prelude.{List, [], ◌∷◌}
+use Rattle.join_tables.specs.declared.view.Item.TheVariants.{Told}
+use Rattle.join_tables.specs.declared.view.Note.{Note}
+use Rattle.join_tables.specs.declared.view.Note.TheVariants.{Duty}
+use Rattle.join_tables.specs.declared.keeper.Recorded.{Recorded}
+
+abbrev pub told_after : List Note → List Recorded → List Note
+told_after notes [] = notes
+told_after notes (r ∷ rs) = told_after (Duty (Told r.place r.entry) ∷ notes) rs
+
+abbrev pub told_notes : List Recorded → List Note
+told_notes entries = told_after [] entries

@@ -1,0 +1,299 @@
+// The calls that take a release to its start, and a start to its end and the releases that follow. None takes
+// memory, and none waits.
+ghost use Rattle.std.specs.Prelude.{◌≡◌, ◌≢◌, ◌<◌, ◌≤◌, ◌∷◌, IfSome, IsTrue, is_some, None, [], length, slice_get, true, false, drop};
+ghost use Rattle.std.specs.Arc.{arc_value};
+ghost use Rattle.task_graph.specs.Net.{is_weak};
+ghost use Rattle.journal_rules.specs.DataRule.{edges_of};
+ghost use Rattle.journal_rules.specs.declared.entry.Cause.TheVariants.{Strong};
+ghost use Rattle.join_tables.specs.States.{fresh_state, collecting_state, running_state};
+ghost use Rattle.join_tables.specs.Turns.{CollectsFrom, GivesNext, Admits, EndsAs, cause_by};
+ghost use Rattle.join_tables.specs.Giving.{MayGive, target};
+ghost use Rattle.join_tables.specs.inside.Accounts.{FitsRelease};
+ghost use Rattle.join_tables.specs.inside.Kinds.{CountsNext, AreNoneLeft, others_of, kept_back, settled};
+ghost use Rattle.join_tables.specs.inside.Seated.{OwesFirst, paid, HasMade, collecting_view, taken_in, left_in};
+ghost use Rattle.join_tables.specs.inside.Collects.{CollectsOne};
+
+use crate::steps::Place;
+use crate::turns::{
+    Admitted, Collected, Collecting, Fresh, Gave, NetTable, Owing, Run, Running, Spent,
+    StartTicket, Turn,
+};
+use journal_rules::Cause;
+use outside_io::List;
+
+// What collecting from one edge led to: that no edge was left, or that a token was taken, with the release that this
+// made, and whether it was the last edge.
+enum Step {
+    NoneLeft,
+    Taken(Option<Fresh>, bool),
+}
+
+// The task in which an edge ends, and whether the edge is weak.
+#[derive(Clone, Copy)]
+struct Target {
+    task: u32,
+    weak: bool,
+}
+
+impl NetTable {
+    /// Takes up a release, and sets its task's join word again where its strong in-edges released it.
+    pub fn reset(&self, fresh: Fresh) -> Collecting
+        requires { fresh.table ≡ self.now.table }
+        ensures { result ≡ collecting_state self.now.table fresh.task fresh.cause (edges_of self.now.net fresh.task fresh.cause) }
+    {
+        let Fresh {
+            mut seat,
+            task,
+            cause,
+        } = fresh;
+        self.words.learn(&mut seat);
+        match cause {
+            Cause::Strong => self.words.reset_join(&mut seat, task),
+            Cause::Source | Cause::Weak(_) => self.words.take_up(&mut seat),
+        }
+        Collecting {
+            seat,
+            task,
+            cause,
+            next: 0,
+        }
+    }
+
+    /// Starts the task: draws the place of its Start.
+    pub fn start(&self, ticket: StartTicket) -> Running
+        requires { ticket.table ≡ self.now.table }
+        ensures { result ≡ running_state self.now.table ticket.task ticket.cause result.place }
+    {
+        let StartTicket {
+            mut seat,
+            task,
+            cause,
+        } = ticket;
+        let place = self.words.draw_start(&mut seat);
+        Running {
+            seat,
+            task,
+            cause,
+            place,
+        }
+    }
+
+    /// Draws an admission. `Over` comes exactly where its number is not below the limit.
+    pub fn admit(&self, turn: Turn) -> Admitted
+        requires table { turn.table ≡ self.now.table }
+        requires asked_once { turn.refused ≡ false }
+        ensures { Admits turn result }
+    {
+        let Turn {
+            mut seat,
+            task,
+            cause,
+        } = turn;
+        if self.words.draw_admission(&mut seat) < self.words.limit() {
+            Admitted::Go(StartTicket { seat, task, cause })
+        } else {
+            Admitted::Over(Turn { seat, task, cause })
+        }
+    }
+
+    /// Ends a start: draws the place of its End, which gives these edges. `inner` says that its work was a run of
+    /// its own.
+    pub fn end(&self, running: Running, gives: List<u32>, inner: bool) -> Owing
+        requires table { running.table ≡ self.now.table }
+        requires fits { MayGive self.now.net running.task gives inner }
+        ensures table { result.table ≡ self.now.table }
+        ensures run { EndsAs running gives inner result.run }
+        ensures left { result.left ≡ gives }
+    {
+        let Running {
+            mut seat,
+            task,
+            cause,
+            place: start,
+        } = running;
+        let place = self.words.draw_end(&mut seat, &gives, inner);
+        let run = Run {
+            task,
+            cause,
+            start,
+            place,
+            gives,
+            inner,
+        };
+        Owing { seat, run, next: 0 }
+    }
+
+    /// Takes a token from the next edge of a release. Where that is a strong one with another token, it counts it
+    /// again. For a release without edges it takes no step.
+    pub fn collect(&self, collecting: Collecting) -> Collected
+        requires { collecting.table ≡ self.now.table }
+        ensures { CollectsFrom collecting collecting.left result }
+    {
+        let Collecting {
+            mut seat,
+            task,
+            cause,
+            next,
+        } = collecting;
+        match self.collect_one(&mut seat, task, cause, next) {
+            Step::NoneLeft | Step::Taken(None, true) => Collected::Last(Turn { seat, task, cause }),
+            Step::Taken(None, false) => Collected::More(Collecting {
+                seat,
+                task,
+                cause,
+                next: next + 1,
+            }),
+            Step::Taken(Some(fresh), _) => Collected::LastAgain(Turn { seat, task, cause }, fresh),
+        }
+    }
+
+    /// Gives a token of the next edge that an end owes, and counts it at its target where it is the first of a strong
+    /// one.
+    pub fn give(&self, owing: Owing) -> Gave
+        requires { owing.table ≡ self.now.table }
+        ensures { GivesNext self.now.net owing owing.left result }
+    {
+        let Owing {
+            mut seat,
+            run,
+            next,
+        } = owing;
+        let Some(edge) = run.gives.get(next) else {
+            return Gave::Finished(Spent { seat, run });
+        };
+        let made = self.give_edge(&mut seat, *edge);
+        let owing = Owing {
+            seat,
+            run,
+            next: next + 1,
+        };
+        match made {
+            Some(fresh) => Gave::Released(owing, fresh),
+            None => Gave::Next(owing),
+        }
+    }
+
+    // Gives a token of an edge, and deals out the release that this makes, if it makes one.
+    fn give_edge(&self, seat: &mut Place, edge: u32) -> Option<Fresh>
+        requires table { seat.old.table_id ≡ self.now.table }
+        requires home { seat.old.me.1 ≡ [] }
+        requires ready { OwesFirst edge seat.old.me.0 }
+        ensures table { seat.new.table_id ≡ seat.old.table_id }
+        ensures view { seat.new.me ≡ (paid seat.old.me.0, []) }
+        ensures fresh { IfSome result (λ fresh. fresh ≡ fresh_state self.now.table (target self.now.net edge) (cause_by self.now.net edge)) }
+        ensures always { is_weak self.now.net edge ≡ true → IsTrue (is_some result) }
+    {
+        self.words.learn(seat);
+        let Target { task, weak } = self.target(edge);
+        let found = self.words.give_token(seat, edge);
+        if weak {
+            Some(self.deal_fresh(seat, task, Cause::Weak(edge)))
+        } else if found == 0 {
+            self.count(seat, task, edge)
+        } else {
+            None
+        }
+    }
+
+    // Counts an edge at its target, and deals out the release that this makes, if it makes one.
+    fn count(&self, seat: &mut Place, task: u32, edge: u32) -> Option<Fresh>
+        requires table { seat.old.table_id ≡ self.now.table }
+        requires home { seat.old.me.1 ≡ [] }
+        requires ready { CountsNext self.now.net task edge seat.old.me.0 }
+        requires in_range { task < length self.now.net.tasks }
+        ensures table { seat.new.table_id ≡ seat.old.table_id }
+        ensures view { seat.new.me ≡ (others_of seat.old.me.0, []) }
+        ensures fresh { IfSome result (λ fresh. fresh ≡ fresh_state self.now.table task Strong) }
+        ensures last { IsTrue (is_some result) → AreNoneLeft task (others_of seat.old.me.0) }
+    {
+        if self.words.count_edge(seat, task, edge) == 1 {
+            Some(self.deal_fresh(seat, task, Cause::Strong))
+        } else {
+            None
+        }
+    }
+
+    // Counts the turn of a release that the seat has just made, and deals it out.
+    fn deal_fresh(&self, seat: &mut Place, task: u32, cause: Cause) -> Fresh
+        requires table { seat.old.table_id ≡ self.now.table }
+        requires home { seat.old.me.1 ≡ [] }
+        requires made { HasMade task cause seat.old.me.0 }
+        ensures table { seat.new.table_id ≡ seat.old.table_id }
+        ensures view { seat.new.me ≡ (kept_back seat.old.me.0, []) }
+        ensures fresh { result ≡ fresh_state self.now.table task cause }
+    {
+        self.words.add_turn(seat);
+        let seat = self.words.deal(seat);
+        Fresh { seat, task, cause }
+    }
+
+    // Takes a token from the next edge of a release, and counts the edge again where a token remains.
+    fn collect_one(&self, seat: &mut Place, task: u32, cause: Cause, next: usize) -> Step
+        requires table { seat.old.table_id ≡ self.now.table }
+        requires view { seat.old.me ≡ (collecting_view task cause (taken_in seat.old.me.0) (left_in seat.old.me.0), []) }
+        requires next { next ≡ length (taken_in seat.old.me.0) }
+        ensures table { seat.new.table_id ≡ seat.old.table_id }
+        ensures home { seat.new.me.1 ≡ [] }
+        ensures few { next < 4294967296 }
+        ensures step { CollectsOne self.now.table task cause (taken_in seat.old.me.0) (left_in seat.old.me.0) result seat.new.me.0 }
+    {
+        self.words.learn(seat);
+        let Some(edge) = self.edge_at(task, cause, next) else {
+            return Step::NoneLeft;
+        };
+        let is_last = self.edge_at(task, cause, next + 1).is_none();
+        let found = self.words.take_token(seat, edge);
+        let made = self.count_again(seat, task, cause, edge, found);
+        Step::Taken(made, is_last)
+    }
+
+    // Counts an edge again where it is a strong one and had another token.
+    fn count_again(
+        &self,
+        seat: &mut Place,
+        task: u32,
+        cause: Cause,
+        edge: u32,
+        found: u64,
+    ) -> Option<Fresh>
+        requires table { seat.old.table_id ≡ self.now.table }
+        requires home { seat.old.me.1 ≡ [] }
+        requires ready { cause ≡ Strong → 1 < found → CountsNext self.now.net task edge seat.old.me.0 }
+        requires in_range { cause ≡ Strong → task < length self.now.net.tasks }
+        requires weak { cause ≢ Strong → settled seat.old.me.0 ≡ seat.old.me.0 }
+        requires few { found ≤ 1 → settled seat.old.me.0 ≡ seat.old.me.0 }
+        ensures table { seat.new.table_id ≡ seat.old.table_id }
+        ensures view { seat.new.me ≡ (settled seat.old.me.0, []) }
+        ensures fresh { IfSome result (λ fresh. fresh ≡ fresh_state self.now.table task Strong) }
+        ensures last { IsTrue (is_some result) → AreNoneLeft task (settled seat.old.me.0) × (cause ≡ Strong) }
+    {
+        if cause != Cause::Strong || found <= 1 {
+            return None;
+        }
+        self.count(seat, task, edge)
+    }
+
+    // Where an edge ends, and how.
+    fn target(&self, edge: u32) -> Target
+        requires { edge < length self.now.net.edges }
+        ensures task { result.task ≡ target self.now.net edge }
+        ensures in_range { result.task < length self.now.net.tasks }
+        ensures weak { result.weak ≡ is_weak self.now.net edge }
+    {
+        let task = self.words.net.edges()[edge as usize].to;
+        let weak = self.words.net.is_weak(edge);
+        Target { task, weak }
+    }
+
+    // The edge of a release at a place.
+    fn edge_at(&self, task: u32, cause: Cause, place: usize) -> Option<u32>
+        requires { FitsRelease self.now.net task cause }
+        ensures { result ≡ slice_get (edges_of self.now.net task cause) place }
+    {
+        match cause {
+            Cause::Source => None,
+            Cause::Strong => self.words.net.strong_in(task).get(place).copied(),
+            Cause::Weak(edge) => { if place == 0 { Some(edge) } else { None } }
+        }
+    }
+}

@@ -1,0 +1,106 @@
+// The releases with which a run begins, and the words of its table.
+ghost use Rattle.std.specs.Prelude.{◌≡◌, ◌<◌, ◌+◌, ◌==◌, IfOk, OnOk, All, length, [], ◌∷◌, ◌++◌};
+ghost use Rattle.task_graph.specs.Net.{in_edges, strong_in};
+ghost use Rattle.journal_rules.specs.Counts.{first_tokens};
+ghost use Rattle.join_tables.specs.inside.Opening.{bare, first_items};
+ghost use Rattle.join_tables.specs.inside.FirstReleases.{is_full, items_of, item_if, opening_word, AreOpeningWords};
+ghost use Rattle.join_tables.specs.Giving.{one_if};
+
+use crate::steps::{FIRST_EDGE, LIVE};
+use journal_rules::Cause;
+use outside_io::NoMemory;
+use std::alloc::Global;
+use task_graph::Net;
+
+/// A release of a task, by its cause.
+#[derive(Clone, Copy)]
+pub struct Release {
+    pub task: u32,
+    pub cause: Cause,
+}
+
+/// The first releases: of each source task, and of each task whose strong in-edges all begin with a token.
+pub fn first_releases(alloc: Global, net: &Net) -> Result<Vec<Release>, NoMemory>
+    ensures { IfOk result (λ releases. items_of releases.items ≡ first_items net.now 0 (length net.now.tasks)) }
+{
+    let mut releases = Vec::new(alloc);
+    for task in 0..net.tasks().len() as u32 {
+        add(&mut releases, task, Cause::Source, net.is_source(task))?;
+        add(&mut releases, task, Cause::Strong, is_full(net, task))?;
+    }
+    Ok(releases)
+}
+
+// Adds a release if there is one.
+fn add(releases: &mut Vec<Release>, task: u32, cause: Cause, is_there: bool) -> Result<(), NoMemory>
+    ensures { OnOk result (items_of releases.new.items ≡ items_of releases.old.items ++ item_if is_there task cause) }
+{
+    if is_there {
+        releases.push(Release { task, cause })?;
+    }
+    Ok(())
+}
+
+// Whether a task has strong in-edges, and all of them begin with a token.
+fn is_full(net: &Net, task: u32) -> bool
+    requires { task < length net.now.tasks }
+    ensures { result ≡ is_full (strong_in net.now task) (bare net.now (strong_in net.now task)) }
+{
+    !net.strong_in(task).is_empty() && bare_count(net, task) == 0
+}
+
+// How many strong in-edges of a task begin without a token.
+fn bare_count(net: &Net, task: u32) -> u64
+    requires { task < length net.now.tasks }
+    ensures { result ≡ bare net.now (strong_in net.now task) }
+{
+    bare_among(net, net.strong_in(task))
+}
+
+// How many of these edges begin without a token.
+fn bare_among(net: &Net, edges: &[u32]) -> u64
+    requires { All (λ e. e < length net.now.edges) edges.now }
+    ensures { result ≡ bare net.now edges.now }
+{
+    let mut found = 0;
+    for edge in edges {
+        found += u64::from(!starts_with_token(net, *edge));
+    }
+    found
+}
+
+// Whether an edge begins with a token.
+fn starts_with_token(net: &Net, edge: u32) -> bool
+    requires { edge < length net.now.edges }
+    ensures { first_tokens net.now edge ≡ one_if result }
+{
+    net.edges()[edge as usize].start
+}
+
+/// The words of a table at first, where this many turns are live.
+pub fn opening_words(alloc: Global, net: &Net, live: u64) -> Result<Vec<u64>, NoMemory>
+    ensures { IfOk result (λ words. AreOpeningWords net.now live words.items) }
+{
+    let count = FIRST_EDGE + net.edges().len() + net.tasks().len();
+    let mut words = Vec::with_capacity(alloc, count)?;
+    for word in 0..count {
+        words.push_reserved(first_word(net, live, word));
+    }
+    Ok(words)
+}
+
+// A word at first.
+fn first_word(net: &Net, live: u64, word: usize) -> u64
+    requires { word < 40 + length net.now.edges + length net.now.tasks }
+    ensures { result ≡ opening_word net.now live word }
+{
+    if word < FIRST_EDGE {
+        return if word == LIVE { live } else { 0 };
+    }
+    let place = word - FIRST_EDGE;
+    if place < net.edges().len() {
+        u64::from(starts_with_token(net, place as u32))
+    } else {
+        bare_count(net, (place - net.edges().len()) as u32)
+    }
+}
