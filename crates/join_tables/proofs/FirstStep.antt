@@ -12,6 +12,9 @@ use Rattle.task_graph.specs.Net.{IsNet, in_edges, strong_in}
 use Rattle.task_graph.specs.declared.net.EdgeRow.{EdgeRow}
 use Rattle.journal_rules.specs.Counts.{first_tokens}
 use Rattle.journal_rules.specs.SemaphoreRule.{max_of}
+use Rattle.std.specs.Prelude.{All}
+use Rattle.atomic_table.specs.Seated.{TableId}
+use Rattle.join_tables.specs.States.{FreshState}
 use Rattle.join_tables.specs.declared.releases.Release.{Release}
 use Rattle.join_tables.specs.declared.view.Item.{Item}
 use Rattle.join_tables.specs.declared.view.Mark.TheVariants.{Live}
@@ -19,7 +22,7 @@ use Rattle.join_tables.specs.declared.view.Note.{Note}
 use Rattle.join_tables.specs.Giving.{one_if}
 use Rattle.join_tables.specs.inside.Accounts.{mark, busy, resting, weigh, total, FitsPlan, ViewPart, KeepsAccounts, reading, edges_from, first_notes, opening_notes}
 use Rattle.join_tables.specs.inside.Opening.{bare, is_empty, source_items, full_items, first_items}
-use Rattle.join_tables.specs.inside.FirstReleases.{items_of, opening_word, AreOpeningWords, DealsFirst}
+use Rattle.join_tables.specs.inside.FirstReleases.{states_of, items_of, opening_word, AreOpeningWords, DealsFirst}
 use Rattle.join_tables.proofs.Counting.{get_past}
 use Rattle.join_tables.proofs.OpeningDuties.{strong_below}
 use Rattle.join_tables.proofs.Beginning.{opening_balanced, opening_view}
@@ -151,3 +154,11 @@ items_count (r ∷ rs) = omega (arith, items_count rs)
 
 pub live_is : (net : NetRows) (rs : List Release) (live : ℕ) → live ≡ length rs → items_of rs ≡ first_items net 0 (length net.tasks) → live ≡ length (first_items net 0 (length net.tasks))
 live_is net rs live is first = is ∙ sym (items_count rs) ∙ ap length first
+
+states_all : (n : TableId) (rs : List Release) → All (λ (f : FreshState). f.table ≡ n) (states_of n rs)
+states_all n [] k d below = absurd (omega arith)
+states_all n (r ∷ rs) zero d below = refl
+states_all n (r ∷ rs) (suc k) d below = states_all n rs k d (omega arith)
+
+pub all_of_table : (n : TableId) (rs : List Release) (fs : List FreshState) → fs ≡ states_of n rs → All (λ (f : FreshState). f.table ≡ n) fs
+all_of_table n rs fs is = subst (λ xs. All (λ (f : FreshState). f.table ≡ n) xs) (sym is) (states_all n rs)

@@ -1,7 +1,8 @@
 -- How a table begins.
-use Rattle.std.specs.Prelude.{◌≡◌, ℕ, List, [], length}
+use Rattle.std.specs.Prelude.{◌≡◌, ℕ, List, [], length, All}
 use Rattle.task_graph.specs.NetRows.{NetRows}
 use Rattle.join_tables.specs.declared.opening.Opening.{Opening}
+use Rattle.join_tables.specs.States.{FreshState}
 use Rattle.join_tables.specs.Keeping.{keeper_state}
 use Rattle.join_tables.specs.inside.Opening.{first_items}
 use Rattle.join_tables.specs.inside.FirstReleases.{items_of, states_of}
@@ -15,4 +16,5 @@ pub record OpensTable (net : NetRows) (limit : ℕ) (o : Opening) : Type 0 where
   pub releases : List Release
   pub first : items_of releases ≡ first_items net 0 (length net.tasks)
   pub fresh : o.fresh.items ≡ states_of o.table.table releases
+  pub of_table : All (λ (f : FreshState). f.table ≡ o.table.table) o.fresh.items
   pub keeper : o.keeper ≡ keeper_state o.table.table []

@@ -62,6 +62,13 @@ impl Keeper {
         }
     }
 
+    /// The entries, in the order in which their turns were taken in.
+    pub fn entries(&self) -> &[Recorded]
+        ensures { result.now ≡ self.now.entries }
+    {
+        self.entries.as_slice()
+    }
+
     /// Takes in a turn that is done, with its two entries. `All` comes exactly where its own step found one live
     /// turn, and the entries then tell a whole run. If an allocation fails, the turn is lost and `All` never comes.
     pub fn absorb(&mut self, table: &NetTable, spent: Spent) -> Result<Remaining, NoMemory>

@@ -1,0 +1,39 @@
+-- A task that doesn't choose may give all its edges.
+use Rattle.std.proofs.Common.{◌≡◌, ℕ, zero, suc, ◌<◌, ◌≤◌, List, [], ◌∷◌, length, Option, Some, None, true, false, sym, ap, ◌∙◌, subst, refl, inl, inr, ◌⊎◌, arith, get_or}
+use Rattle.std.specs.Prelude.{◌==◌, slice_get, IsSomeAnd}
+use Rattle.std.specs.List.{AllByRecursion}
+use Rattle.std.proofs.lemmas.List.Elements.{recursion_from_All}
+use Rattle.task_graph.specs.NetRows.{NetRows}
+use Rattle.task_graph.specs.Net.{out_edges}
+use Rattle.task_graph.specs.declared.net.EdgeRow.{EdgeRow}
+use Rattle.task_graph.specs.declared.net.TaskRow.{TaskRow}
+use Rattle.task_graph.specs.declared.net.Shape.TheVariants.{Plain}
+use Rattle.journal_rules.specs.ChoiceRule.{GivesFit, InnerFits}
+use Rattle.journal_rules.proofs.NetLemmas.{places_below, counted_once}
+use Rattle.join_tables.specs.Giving.{MayGive, times}
+use Rattle.join_tables.proofs.Counting.{times_count}
+
+pub may_give_all : (net : NetRows) (t : ℕ) (row : TaskRow) → slice_get net.tasks t ≡ Some row → row.shape ≡ Plain → MayGive net t (out_edges net t) false
+may_give_all net t row at plain = record {
+  in_range = recursion_from_All (λ e. e < length net.edges) (out_edges net t) (places_below (λ (r : EdgeRow). r.from == t) net.edges);
+  once = λ e. subst (λ n. n ≤ 1) (sym (times_count e (out_edges net t))) (counted_once (λ (r : EdgeRow). r.from == t) net.edges e);
+  fits = subst (λ o. IsSomeAnd o (λ (r : TaskRow). GivesFit r.shape (out_edges net t) (out_edges net t) × InnerFits r.shape false)) (sym at)
+      (subst (λ s. GivesFit s (out_edges net t) (out_edges net t) × InnerFits s false) (sym plain) (inl refl, refl));
+}
+
+get_some : (rows : List TaskRow) (n : ℕ) (d : TaskRow) → n < length rows → slice_get rows n ≡ Some (get_or rows n d)
+get_some [] n d below = absurd (omega arith)
+get_some (r ∷ rs) zero d below = refl
+get_some (r ∷ rs) (suc n) d below = get_some rs n d (omega arith)
+
+pub may_give : (net : NetRows) (t : ℕ) (d : TaskRow) (rows : List TaskRow) (gives : List ℕ) → rows ≡ net.tasks → gives ≡ out_edges net t → t < length net.tasks → (get_or rows t d).shape ≡ Plain → MayGive net t gives false
+may_give net t d rows gives rows_are gives_are below plain =
+    subst (λ es. MayGive net t es false) (sym gives_are) (may_give_all net t (get_or net.tasks t d) (get_some net.tasks t d below) (ap (λ rs. (get_or rs t d).shape) (sym rows_are) ∙ plain))
+
+pub may_give_none : (net : NetRows) (t : ℕ) (d : TaskRow) (rows : List TaskRow) (gives : List ℕ) → rows ≡ net.tasks → gives ≡ [] → t < length net.tasks → (get_or rows t d).shape ≡ Plain → MayGive net t gives false
+may_give_none net t d rows gives rows_are none below plain = subst (λ es. MayGive net t es false) (sym none) (record {
+  in_range = tt;
+  once = λ e. omega arith;
+  fits = subst (λ o. IsSomeAnd o (λ (r : TaskRow). GivesFit r.shape (out_edges net t) [] × InnerFits r.shape false)) (sym (get_some net.tasks t d below))
+      (subst (λ s. GivesFit s (out_edges net t) [] × InnerFits s false) (sym (ap (λ rs. (get_or rs t d).shape) (sym rows_are) ∙ plain)) (inr refl, refl));
+})

@@ -1,0 +1,10 @@
+//! Tests of `join_tables`, whose journals are held against the machine.
+#![tactic(auto)]
+
+mod gives;
+mod replay;
+#[cfg(test)]
+mod rings;
+
+pub use gives::{all_edges, no_edge};
+pub use replay::is_complete;

@@ -1,0 +1,295 @@
+// Two rings that feed one task.
+ghost use Rattle.std.specs.Prelude.{◌≡◌, ◌<◌, IfOk, IfSome, false};
+ghost use Rattle.std.specs.Arc.{arc_value};
+
+use crate::{all_edges, is_complete, no_edge};
+use join_tables::{
+    Admitted, Collected, Collecting, Fresh, Gave, Keeper, NetTable, Opening, Owing, Remaining,
+    Spent, Turn,
+};
+use outside_io::List;
+use std::alloc::Global;
+use std::process::Abort;
+use std::sync::Arc;
+use std::test::Fail;
+use task_graph::{BuildError, Net, NetBuilder, Shape};
+
+// Tasks p, q and t; edges p to t and q to t, and a ring with a token at each of p and q.
+fn two_rings(alloc: Global) -> Result<Net, BuildError> {
+    let mut builder = NetBuilder::new(alloc);
+    builder.task(Shape::Plain, List::new(alloc), List::new(alloc))?;
+    builder.task(Shape::Plain, List::new(alloc), List::new(alloc))?;
+    builder.task(Shape::Plain, List::new(alloc), List::new(alloc))?;
+    builder.edge(0, 2, false)?;
+    builder.edge(1, 2, false)?;
+    builder.edge(0, 0, true)?;
+    builder.edge(1, 1, true)?;
+    Ok(builder.finish())
+}
+
+// A release with one edge is taken up and has its token.
+fn take_up(rt: &impl Abort, table: &NetTable, fresh: Fresh) -> Result<Turn, Fail>
+    requires { fresh.table ≡ table.now.table }
+    ensures { IfOk result (λ turn. (turn.table ≡ table.now.table) × (turn.refused ≡ false)) }
+{
+    match table.collect(table.reset(fresh)) {
+        Collected::Last(turn) => Ok(turn),
+        _ => panic!(rt; "a release with another edge"),
+    }
+}
+
+// Starts a task and ends it, with all its edges or none.
+fn run(
+    rt: &impl Abort,
+    alloc: Global,
+    table: &NetTable,
+    net: &Net,
+    turn: Turn,
+    gives_all: bool,
+) -> Result<Owing, Fail>
+    requires table { (turn.table ≡ table.now.table) × (turn.refused ≡ false) }
+    requires net { table.now.net ≡ net.now }
+    ensures { IfOk result (λ owing. owing.table ≡ table.now.table) }
+{
+    let task = turn.task();
+    if task as usize >= net.tasks().len() {
+        panic!(rt; "a task past the end");
+    }
+    let gives = if gives_all {
+        all_edges(alloc, net, task)?
+    } else {
+        no_edge(alloc, net, task)
+    };
+    match (table.admit(turn), gives) {
+        (Admitted::Go(ticket), Some(gives)) => Ok(table.end(table.start(ticket), gives, false)),
+        _ => panic!(rt; "refused, or a task that chooses"),
+    }
+}
+
+// The next edge releases nothing.
+fn goes_on(rt: &impl Abort, table: &NetTable, owing: Owing) -> Result<Owing, Fail>
+    requires { owing.table ≡ table.now.table }
+    ensures { IfOk result (λ next. next.table ≡ table.now.table) }
+{
+    match table.give(owing) {
+        Gave::Next(next) => Ok(next),
+        _ => panic!(rt; "a release, or no edge"),
+    }
+}
+
+// The next edge releases a task.
+fn releases(rt: &impl Abort, table: &NetTable, owing: Owing) -> Result<(Owing, Fresh), Fail>
+    requires { owing.table ≡ table.now.table }
+    ensures { IfOk result (λ r. (r.0.table ≡ table.now.table) × (r.1.table ≡ table.now.table)) }
+{
+    match table.give(owing) {
+        Gave::Released(next, fresh) => Ok((next, fresh)),
+        _ => panic!(rt; "no release"),
+    }
+}
+
+// No edge is left.
+fn finishes(rt: &impl Abort, table: &NetTable, owing: Owing) -> Result<Spent, Fail>
+    requires { owing.table ≡ table.now.table }
+    ensures { IfOk result (λ spent. spent.table ≡ table.now.table) }
+{
+    match table.give(owing) {
+        Gave::Finished(spent) => Ok(spent),
+        _ => panic!(rt; "an edge is left"),
+    }
+}
+
+// Takes in a run that is done, and says whether it was the last.
+fn absorbed(keeper: &mut Keeper, table: &NetTable, spent: Spent) -> Result<bool, Fail>
+    requires { (keeper.old.table ≡ table.now.table) × (spent.table ≡ table.now.table) }
+    ensures { keeper.new.table ≡ keeper.old.table }
+{
+    Ok(matches!(keeper.absorb(table, spent)?, Remaining::All))
+}
+
+// The first run of p or of q, whose first edge leads to t: whether that released t.
+fn first_round(
+    rt: &impl Abort,
+    table: &NetTable,
+    owing: Owing,
+    releases_t: bool,
+) -> Result<(Option<Fresh>, Fresh, Spent), Fail>
+    requires { owing.table ≡ table.now.table }
+    ensures { IfOk result (λ r. IfSome r.0 (λ fresh. fresh.table ≡ table.now.table) × (r.1.table ≡ table.now.table) × (r.2.table ≡ table.now.table)) }
+{
+    let (owing, t) = if releases_t {
+        let (owing, t) = releases(rt, table, owing)?;
+        (owing, Some(t))
+    } else {
+        (goes_on(rt, table, owing)?, None)
+    };
+    let (owing, again) = releases(rt, table, owing)?;
+    let spent = finishes(rt, table, owing)?;
+    Ok((t, again, spent))
+}
+
+// A release with two edges has both tokens.
+fn take_both(rt: &impl Abort, table: &NetTable, fresh: Fresh) -> Result<Turn, Fail>
+    requires { fresh.table ≡ table.now.table }
+    ensures { IfOk result (λ turn. (turn.table ≡ table.now.table) × (turn.refused ≡ false)) }
+{
+    let more = match table.collect(table.reset(fresh)) {
+        Collected::More(more) => more,
+        _ => panic!(rt; "a release with one edge"),
+    };
+    match table.collect(more) {
+        Collected::Last(turn) => Ok(turn),
+        _ => panic!(rt; "another edge, or another release"),
+    }
+}
+
+// A run of p or of q that gives both its edges: whether it released t, and the next release of its own.
+fn lap(
+    rt: &impl Abort,
+    alloc: Global,
+    table: &NetTable,
+    net: &Net,
+    keeper: &mut Keeper,
+    fresh: Fresh,
+    releases_t: bool,
+) -> Result<(Option<Fresh>, Fresh), Fail>
+    requires fresh { fresh.table ≡ table.now.table }
+    requires keeper { keeper.old.table ≡ table.now.table }
+    requires net { table.now.net ≡ net.now }
+    ensures keeper { keeper.new.table ≡ keeper.old.table }
+    ensures releases { IfOk result (λ r. IfSome r.0 (λ fresh. fresh.table ≡ table.now.table) × (r.1.table ≡ table.now.table)) }
+{
+    let turn = take_up(rt, table, fresh)?;
+    let owing = run(rt, alloc, table, net, turn, true)?;
+    let (t, again, spent) = first_round(rt, table, owing, releases_t)?;
+    assert!(rt; !absorbed(keeper, table, spent)?);
+    Ok((t, again))
+}
+
+// A run that gives no edge: whether it was the last.
+fn stops(
+    rt: &impl Abort,
+    alloc: Global,
+    table: &NetTable,
+    net: &Net,
+    keeper: &mut Keeper,
+    turn: Turn,
+) -> Result<bool, Fail>
+    requires turn { (turn.table ≡ table.now.table) × (turn.refused ≡ false) }
+    requires keeper { keeper.old.table ≡ table.now.table }
+    requires net { table.now.net ≡ net.now }
+    ensures keeper { keeper.new.table ≡ keeper.old.table }
+{
+    let owing = run(rt, alloc, table, net, turn, false)?;
+    let spent = finishes(rt, table, owing)?;
+    absorbed(keeper, table, spent)
+}
+
+// t has collected from its first edge and then from its second, which releases it again.
+fn meets(rt: &impl Abort, table: &NetTable, t: Collecting) -> Result<(Turn, Fresh), Fail>
+    requires { t.table ≡ table.now.table }
+    ensures { IfOk result (λ r. (r.0.table ≡ table.now.table) × (r.0.refused ≡ false) × (r.1.table ≡ table.now.table)) }
+{
+    let t = match table.collect(t) {
+        Collected::More(t) => t,
+        _ => panic!(rt; "no edge left"),
+    };
+    match table.collect(t) {
+        Collected::LastAgain(turn, again) => Ok((turn, again)),
+        _ => panic!(rt; "t isn't released again"),
+    }
+}
+
+// The first rounds of p and q, the second of which releases t.
+fn first_rounds(
+    rt: &impl Abort,
+    alloc: Global,
+    table: &NetTable,
+    net: &Net,
+    keeper: &mut Keeper,
+    p: Fresh,
+    q: Fresh,
+) -> Result<(), Fail>
+    requires fresh { (p.table ≡ table.now.table) × (q.table ≡ table.now.table) }
+    requires keeper { keeper.old.table ≡ table.now.table }
+    requires net { table.now.net ≡ net.now }
+{
+    let (none, p) = lap(rt, alloc, table, net, keeper, p, false)?;
+    assert!(rt; none.is_none());
+    let (t, q) = lap(rt, alloc, table, net, keeper, q, true)?;
+    let Some(t) = t else {
+        panic!(rt; "no release");
+    };
+    assert_eq!(rt; t.task(), 2);
+    second_rounds(rt, alloc, table, net, keeper, (p, q, t))
+}
+
+// The second rounds of p and q, between the first release of t and its tokens.
+fn second_rounds(
+    rt: &impl Abort,
+    alloc: Global,
+    table: &NetTable,
+    net: &Net,
+    keeper: &mut Keeper,
+    fresh: (Fresh, Fresh, Fresh),
+) -> Result<(), Fail>
+    requires fresh { (fresh.0.table ≡ table.now.table) × (fresh.1.table ≡ table.now.table) × (fresh.2.table ≡ table.now.table) }
+    requires keeper { keeper.old.table ≡ table.now.table }
+    requires net { table.now.net ≡ net.now }
+{
+    let (p, q, t) = fresh;
+    let t = table.reset(t);
+    let (none, p) = lap(rt, alloc, table, net, keeper, p, false)?;
+    assert!(rt; none.is_none());
+    let (none, q) = lap(rt, alloc, table, net, keeper, q, false)?;
+    assert!(rt; none.is_none());
+    let (turn, again) = meets(rt, table, t)?;
+    assert_eq!(rt; again.task(), 2);
+    assert!(rt; !stops(rt, alloc, table, net, keeper, turn)?);
+    last_rounds(rt, alloc, table, net, keeper, (p, q, again))
+}
+
+// The last runs, which give no edge.
+fn last_rounds(
+    rt: &impl Abort,
+    alloc: Global,
+    table: &NetTable,
+    net: &Net,
+    keeper: &mut Keeper,
+    fresh: (Fresh, Fresh, Fresh),
+) -> Result<(), Fail>
+    requires fresh { (fresh.0.table ≡ table.now.table) × (fresh.1.table ≡ table.now.table) × (fresh.2.table ≡ table.now.table) }
+    requires keeper { keeper.old.table ≡ table.now.table }
+    requires net { table.now.net ≡ net.now }
+{
+    let (p, q, t) = fresh;
+    let turn = take_both(rt, table, t)?;
+    assert!(rt; !stops(rt, alloc, table, net, keeper, turn)?);
+    let turn = take_up(rt, table, p)?;
+    assert!(rt; !stops(rt, alloc, table, net, keeper, turn)?);
+    let turn = take_up(rt, table, q)?;
+    assert!(rt; stops(rt, alloc, table, net, keeper, turn)?);
+    Ok(())
+}
+
+#[test]
+fn rings_meet(rt: HostRuntime) -> Result<(), Fail> {
+    let alloc = rt.alloc();
+    let net = Arc::new(alloc, two_rings(alloc)?)?;
+    if !net.sems().is_empty() {
+        panic!(rt; "a semaphore");
+    }
+    let Opening {
+        table,
+        mut fresh,
+        mut keeper,
+    } = NetTable::new(alloc, Arc::try_clone(&net)?, 10)?;
+    let (Some(q), Some(p)) = (fresh.pop(), fresh.pop()) else {
+        panic!(rt; "no two releases");
+    };
+    assert_eq!(rt; (fresh.len(), p.task(), q.task()), (0, 0, 1));
+    first_rounds(&rt, alloc, &table, &net, &mut keeper, p, q)?;
+    assert_eq!(rt; keeper.entries().len(), 16);
+    assert!(rt; is_complete(alloc, net, 10, keeper.entries())?);
+    Ok(())
+}
