@@ -18,18 +18,18 @@ const JUDGED: u32 = 1_500_000;
 pub fn large<R: Clock>(rt: &R, alloc: Global) -> io::Result<u64> {
     let start = Instant::now(rt)?;
     let rested = run_net(alloc, nets::large(alloc))?;
-    told(rested, micros_since(rt, start)?)
+    time_if_right(rested, micros_since(rt, start)?)
 }
 
 /// The microseconds for a task with many predecessors, built and led to its rest.
 pub fn wide<R: Clock>(rt: &R, alloc: Global) -> io::Result<u64> {
     let start = Instant::now(rt)?;
     let rested = run_net(alloc, nets::wide(alloc))?;
-    told(rested, micros_since(rt, start)?)
+    time_if_right(rested, micros_since(rt, start)?)
 }
 
 // A time, unless the run went wrong.
-fn told(is_right: bool, time: u64) -> io::Result<u64> {
+fn time_if_right(is_right: bool, time: u64) -> io::Result<u64> {
     if is_right {
         Ok(time)
     } else {
@@ -74,7 +74,7 @@ pub fn looped<R: Clock>(rt: &R, alloc: Global) -> io::Result<u64> {
     let mut machine = loop_machine(alloc)?;
     let start = Instant::now(rt)?;
     let is_right = turn(&mut machine, TURNS).is_ok();
-    told(is_right, nanos_since(rt, start)? / TURNS as u64)
+    time_if_right(is_right, nanos_since(rt, start)? / TURNS as u64)
 }
 
 /// The microseconds for the judge's walk over the journal of such a loop.
@@ -87,7 +87,7 @@ pub fn judged<R: Clock>(rt: &R, alloc: Global) -> io::Result<u64> {
     let start = Instant::now(rt)?;
     let verdict = judge(alloc, &net, MAX_LIMIT, machine.journal());
     let micros = micros_since(rt, start)?;
-    told(is_run && matches!(verdict, Ok(Verdict::Legal)), micros)
+    time_if_right(is_run && matches!(verdict, Ok(Verdict::Legal)), micros)
 }
 
 fn loop_machine(alloc: Global) -> io::Result<Machine> {

@@ -84,7 +84,7 @@ impl NumberJob {
 }
 
 // The number that a task comes to.
-fn number_of(ins: &Ins<u64>) -> u64
+fn number_made(ins: &Ins<u64>) -> u64
     ensures { result ≡ number_on (map found_of (parts_of ins.now)) }
 {
     match ins.get(0) {
@@ -124,7 +124,7 @@ impl Job for NumberJob {
     }
 
     fn run(&self, alloc: Global, task: u32, ins: &Ins<u64>) -> Result<Done<NumberJob>, JobError> {
-        let number = number_of(ins);
+        let number = number_made(ins);
         if number == self.fault {
             return Err(JobError::Fault(Why::Long(number)));
         }

@@ -88,7 +88,7 @@ fn sink(alloc: Global, failing: &[FailAt]) -> Result<MemorySink, NoMemory> {
 }
 
 // Calls the program, and shows how the call ends.
-fn ended(
+fn shown_end(
     alloc: Global,
     words: &[String],
     texts: &mut MemoryTexts,
@@ -110,6 +110,6 @@ pub fn shown(alloc: Global, call: &Call<'_>) -> Result<String, NoMemory> {
     let mut texts = texts_of(alloc, call)?;
     let mut out = sink(alloc, call.failing_puts)?;
     let mut notes = sink(alloc, call.failing_notes)?;
-    let end = ended(alloc, words.as_slice(), &mut texts, &mut out, &mut notes)?;
+    let end = shown_end(alloc, words.as_slice(), &mut texts, &mut out, &mut notes)?;
     Ok(joined(alloc, end.as_str(), shown_bytes(&out), shown_bytes(&notes))?)
 }

@@ -28,7 +28,7 @@ const WITHOUT_SOURCE: [&str; 2] = [
 ];
 
 // What is seen of a call that refuses a file for this reason.
-fn refusal(alloc: Global, reason: &str) -> Result<String, AllocError> {
+fn refused_call(alloc: Global, reason: &str) -> Result<String, AllocError> {
     format!(in alloc; "3 written; ; flow: bad graph: {reason}\n")
 }
 
@@ -37,7 +37,7 @@ fn first_difference(alloc: Global, rows: &str) -> Result<String, NoMemory> {
     for row in rows.split('\n') {
         let (file, reason) = row.split_once(" -> ").unwrap_or((row, "no reason"));
         let seen = shown(alloc, &run(file.as_bytes(), b""))?;
-        if seen.as_str() != refusal(alloc, reason)?.as_str() {
+        if seen.as_str() != refused_call(alloc, reason)?.as_str() {
             return Ok(format!(in alloc; "{file}: {}", seen.as_str())?);
         }
     }
@@ -56,7 +56,7 @@ fn refuses_bytes_that_are_no_text(rt: HostRuntime) -> Result<(), Fail> {
     let brackets = [b'['; 200];
     let files: [&[u8]; 3] = [&[255], &[b'"', 192, b'"'], &brackets];
     for file in files {
-        let want = refusal(alloc, "not JSON")?;
+        let want = refused_call(alloc, "not JSON")?;
         assert_eq!(rt; shown(alloc, &run(file, b""))?.as_str(), want.as_str());
     }
     Ok(())

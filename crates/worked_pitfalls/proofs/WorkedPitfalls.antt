@@ -20,43 +20,43 @@ row shape = record { shape = shape; takes = []; puts = [] }
 abbrev edge : ℕ → ℕ → EdgeRow
 edge from to = record { from = from; to = to; start = false }
 
-abbrev net_of : List TaskRow → List EdgeRow → NetRows
-net_of tasks edges = record { tasks = tasks; edges = edges; sems = [] }
+abbrev small_net : List TaskRow → List EdgeRow → NetRows
+small_net tasks edges = record { tasks = tasks; edges = edges; sems = [] }
 
 abbrev empty : NetRows
-empty = net_of [] []
+empty = small_net [] []
 
 -- one task without edges
 abbrev lone : NetRows
-lone = net_of (row Plain ∷ []) []
+lone = small_net (row Plain ∷ []) []
 
 -- A task begins a loop of a body and its condition, which leads back or on.
 abbrev looped : NetRows
-looped = net_of (row Plain ∷ row Plain ∷ row Choice ∷ row Plain ∷ []) (edge 0 1 ∷ edge 1 2 ∷ edge 2 1 ∷ edge 2 3 ∷ [])
+looped = small_net (row Plain ∷ row Plain ∷ row Choice ∷ row Plain ∷ []) (edge 0 1 ∷ edge 1 2 ∷ edge 2 1 ∷ edge 2 3 ∷ [])
 
 -- two tasks that lead to each other
 abbrev ring : NetRows
-ring = net_of (row Plain ∷ row Plain ∷ []) (edge 0 1 ∷ edge 1 0 ∷ [])
+ring = small_net (row Plain ∷ row Plain ∷ []) (edge 0 1 ∷ edge 1 0 ∷ [])
 
 -- two such tasks beside one that leads nowhere
 abbrev beside : NetRows
-beside = net_of (row Plain ∷ row Plain ∷ row Plain ∷ []) (edge 1 2 ∷ edge 2 1 ∷ [])
+beside = small_net (row Plain ∷ row Plain ∷ row Plain ∷ []) (edge 1 2 ∷ edge 2 1 ∷ [])
 
 -- one task that leads to itself, by a strong edge or by a weak one
 abbrev to_itself : Shape → NetRows
-to_itself shape = net_of (row shape ∷ []) (edge 0 0 ∷ [])
+to_itself shape = small_net (row shape ∷ []) (edge 0 0 ∷ [])
 
 -- a task that leads to another
 abbrev pair : NetRows
-pair = net_of (row Plain ∷ row Plain ∷ []) (edge 0 1 ∷ [])
+pair = small_net (row Plain ∷ row Plain ∷ []) (edge 0 1 ∷ [])
 
 -- two tasks of a shape that lead to a third
 abbrev joined : Shape → NetRows
-joined shape = net_of (row shape ∷ row shape ∷ row Plain ∷ []) (edge 0 2 ∷ edge 1 2 ∷ [])
+joined shape = small_net (row shape ∷ row shape ∷ row Plain ∷ []) (edge 0 2 ∷ edge 1 2 ∷ [])
 
 -- a condition that leads to a task twice
 abbrev twice : NetRows
-twice = net_of (row Choice ∷ row Plain ∷ []) (edge 0 1 ∷ edge 0 1 ∷ [])
+twice = small_net (row Choice ∷ row Plain ∷ []) (edge 0 1 ∷ edge 0 1 ∷ [])
 
 -- A walk goes edge by edge, from where the last one ended.
 walk_of_no_edge : IsWalk looped 2 [] 2
@@ -155,7 +155,7 @@ no_cycle_that_does_not_close cycle = by_edges cycle.edges cycle.some cycle.close
 begins_without_tokens : BeginsWithoutTokens looped
 begins_without_tokens = All-from_recursion (λ (r : EdgeRow). r.start ≡ false) looped.edges (refl, (refl, (refl, (refl, tt))))
 
-begins_with_a_token : ¬ BeginsWithoutTokens (net_of (row Plain ∷ []) (record { from = 0; to = 0; start = true } ∷ []))
+begins_with_a_token : ¬ BeginsWithoutTokens (small_net (row Plain ∷ []) (record { from = 0; to = 0; start = true } ∷ []))
 begins_with_a_token none = absurd (let first = none 0 (edge 0 0) (omega arith) in cc)
 
 -- the task that an edge leaves
