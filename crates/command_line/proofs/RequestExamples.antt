@@ -5,7 +5,7 @@ use Rattle.command_line.specs.declared.request.Request.TheVariants.{Run, Judge, 
 use Rattle.command_line.specs.Asked.{asked}
 use Rattle.clap.proofs.OnLiterals.{clap_on_literals}
 use Rattle.command_line.specs.Numbers.{number_in}
-use Rattle.command_line.specs.Requests.{run, judge, check, asked_by, limit_asked, limit_by}
+use Rattle.command_line.specs.Requests.{run, judge, check, asked_by, limit_asked, limit_by, workers_asked, workers_by}
 
 -- Numbers have 1 to 7 digits and nothing else, and are in their range.
 least : number_in 1 1000000 (codes "1") ≡ Some 1
@@ -36,19 +36,19 @@ a_letter : number_in 1 9 (codes "1x") ≡ None
 a_letter = refl
 
 -- A run of a file, with the limit that is said or the default.
-plain : asked_by (codes "run" ∷ codes "g" ∷ []) ≡ Some (run (codes "g") 100000 false)
+plain : asked_by (codes "run" ∷ codes "g" ∷ []) ≡ Some (run (codes "g") 100000 4 false)
 unfolding clap_on_literals
 plain = refl
 
-limited : asked_by (codes "run" ∷ codes "g" ∷ codes "--limit" ∷ codes "10" ∷ []) ≡ Some (run (codes "g") 10 false)
+limited : asked_by (codes "run" ∷ codes "g" ∷ codes "--limit" ∷ codes "10" ∷ []) ≡ Some (run (codes "g") 10 4 false)
 unfolding clap_on_literals
 limited = refl
 
-limit_first : asked_by (codes "run" ∷ codes "--limit=10" ∷ codes "g" ∷ []) ≡ Some (run (codes "g") 10 false)
+limit_first : asked_by (codes "run" ∷ codes "--limit=10" ∷ codes "g" ∷ []) ≡ Some (run (codes "g") 10 4 false)
 unfolding clap_on_literals
 limit_first = refl
 
-behind_two_hyphens : asked_by (codes "run" ∷ codes "--" ∷ codes "-g" ∷ []) ≡ Some (run (codes "-g") 100000 false)
+behind_two_hyphens : asked_by (codes "run" ∷ codes "--" ∷ codes "-g" ∷ []) ≡ Some (run (codes "-g") 100000 4 false)
 unfolding clap_on_literals
 behind_two_hyphens = refl
 
@@ -68,7 +68,7 @@ two_files : asked_by (codes "run" ∷ codes "g" ∷ codes "h" ∷ []) ≡ None
 unfolding clap_on_literals
 two_files = refl
 
-unknown_option : asked_by (codes "run" ∷ codes "g" ∷ codes "--workers" ∷ codes "4" ∷ []) ≡ None
+unknown_option : asked_by (codes "run" ∷ codes "g" ∷ codes "--times" ∷ codes "4" ∷ []) ≡ None
 unfolding clap_on_literals
 unknown_option = refl
 
@@ -93,11 +93,11 @@ unfolding clap_on_literals
 bad_limit = refl
 
 -- The journal in place of the report.
-with_journal : asked_by (codes "run" ∷ codes "g" ∷ codes "--journal" ∷ []) ≡ Some (run (codes "g") 100000 true)
+with_journal : asked_by (codes "run" ∷ codes "g" ∷ codes "--journal" ∷ []) ≡ Some (run (codes "g") 100000 4 true)
 unfolding clap_on_literals
 with_journal = refl
 
-journal_first : asked_by (codes "run" ∷ codes "--journal" ∷ codes "--limit" ∷ codes "7" ∷ codes "g" ∷ []) ≡ Some (run (codes "g") 7 true)
+journal_first : asked_by (codes "run" ∷ codes "--journal" ∷ codes "--limit" ∷ codes "7" ∷ codes "g" ∷ []) ≡ Some (run (codes "g") 7 4 true)
 unfolding clap_on_literals
 journal_first = refl
 
@@ -138,6 +138,31 @@ judged_within_nothing = refl
 greatest_limit : (limit_by (Some (codes "1000000")) ≡ Some 1000000) × (limit_by (Some (codes "1000001")) ≡ None)
 greatest_limit = (refl, refl)
 
+-- The workers of a run, which are asked for beside the limit: 1 to 16, and 4 where nothing is said.
+by_workers : asked_by (codes "run" ∷ codes "g" ∷ codes "--workers" ∷ codes "16" ∷ []) ≡ Some (run (codes "g") 100000 16 false)
+unfolding clap_on_literals
+by_workers = refl
+
+by_workers_within : asked_by (codes "run" ∷ codes "--workers=2" ∷ codes "--limit" ∷ codes "3" ∷ codes "g" ∷ []) ≡ Some (run (codes "g") 3 2 false)
+unfolding clap_on_literals
+by_workers_within = refl
+
+greatest_number_of_workers : (workers_by (Some (codes "1")) ≡ Some 1) × (workers_by (Some (codes "16")) ≡ Some 16) × (workers_by (Some (codes "17")) ≡ None) × (workers_by (Some (codes "0")) ≡ None)
+greatest_number_of_workers = (refl, refl, refl, refl)
+
+four_workers : workers_by None ≡ Some 4
+four_workers = refl
+
+by_no_worker : asked_by (codes "run" ∷ codes "g" ∷ codes "--workers" ∷ codes "0" ∷ []) ≡ None
+unfolding clap_on_literals
+by_no_worker = refl
+
+workers_of_a_run : workers_asked (run (codes "g") 5 9 false) ≡ Some 9
+workers_of_a_run = refl
+
+no_workers_of_a_judgement : (workers_asked (judge (codes "g") (codes "j") 6) ≡ None) × (workers_asked (check (codes "g")) ≡ None)
+no_workers_of_a_judgement = (refl, refl)
+
 -- A check of a graph, which has a file and nothing else.
 checked : asked_by (codes "check" ∷ codes "g" ∷ []) ≡ Some (check (codes "g"))
 unfolding clap_on_literals
@@ -167,7 +192,7 @@ another_spelling : asked_by (codes "Check" ∷ codes "g" ∷ []) ≡ None
 another_spelling = refl
 
 -- A run and a journal that is judged may have so many starts.
-starts_of_a_run : limit_asked (run (codes "g") 5 false) ≡ Some 5
+starts_of_a_run : limit_asked (run (codes "g") 5 9 false) ≡ Some 5
 starts_of_a_run = refl
 
 starts_of_a_judgement : limit_asked (judge (codes "g") (codes "j") 6) ≡ Some 6
@@ -178,7 +203,7 @@ no_starts_of_a_check = refl
 
 -- What requests of the source ask for.
 module _ (file journal : Bor (List ℕ)) where
-  asks_for_a_run : asked (Run (record { file = file; limit = 5; journal = true })) ≡ run file.now 5 true
+  asks_for_a_run : asked (Run (record { file = file; limit = 5; workers = 9; journal = true })) ≡ run file.now 5 9 true
   asks_for_a_run = refl
 
   asks_for_a_judgement : asked (Judge (record { file = file; journal = journal; limit = 6 })) ≡ judge file.now journal.now 6

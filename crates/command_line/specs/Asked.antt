@@ -4,6 +4,6 @@ use Rattle.command_line.specs.declared.request.Request.TheVariants.{Run, Judge, 
 use Rattle.command_line.specs.Requests.{Asked, run, judge, check}
 
 abbrev pub asked : Request → Asked
-asked (Run r) = run r.file.now r.limit r.journal
+asked (Run r) = run r.file.now r.limit r.workers r.journal
 asked (Judge j) = judge j.file.now j.journal.now j.limit
 asked (Check c) = check c.file.now

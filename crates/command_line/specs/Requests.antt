@@ -6,22 +6,27 @@ use Rattle.clap.specs.Walk.{Row, Rule}
 use Rattle.clap.specs.Words.{App, Kinds, first_of, matches_of, fault_of, new_app, new_rule, with_rule}
 use Rattle.clap.specs.declared.builder.action.ArgAction.TheVariants.{SetTrue}
 use Rattle.clap.specs.Simple.{on_top}
-use Rattle.command_line.specs.declared.numbers.TheConstants.{DEFAULT_LIMIT, GREATEST_LIMIT}
+use Rattle.command_line.specs.declared.numbers.TheConstants.{DEFAULT_LIMIT, DEFAULT_WORKERS, GREATEST_LIMIT, GREATEST_WORKERS}
 use Rattle.command_line.specs.Numbers.{number_in}
 
--- What is asked for: to run the graph in a file, with at most so many starts, and to write its journal in place of its
--- report or not; to judge the journal in another file, which may have so many starts; or to find how the graph in a
--- file can go wrong.
+-- What is asked for: to run the graph in a file, with at most so many starts and by so many workers, and to write its
+-- journal in place of its report or not; to judge the journal in another file, which may have so many starts; or to find
+-- how the graph in a file can go wrong.
 pub data Asked : Type 0 where
-  run : List ℕ → ℕ → Bool → Asked
+  run : List ℕ → ℕ → ℕ → Bool → Asked
   judge : List ℕ → List ℕ → ℕ → Asked
   check : List ℕ → Asked
 
 -- how many starts there may be, where starts are counted
 abbrev pub limit_asked : Asked → Option ℕ
-limit_asked (run file limit journal) = Some limit
+limit_asked (run file limit workers journal) = Some limit
 limit_asked (judge file journal limit) = Some limit
 limit_asked (check file) = None
+
+-- how many workers there are to be, where there is a run
+abbrev pub workers_asked : Asked → Option ℕ
+workers_asked (run file limit workers journal) = Some workers
+workers_asked asked = None
 
 -- a command of this name that reads no name of a program, and of itself has no flag
 abbrev pub command_named : List ℕ → App
@@ -38,9 +43,9 @@ option name = record (new_rule name) { long = Some name }
 abbrev pub flag : List ℕ → Rule
 flag name = record (new_rule name) { long = Some name; action = Some SetTrue }
 
--- `run FILE [--limit N] [--journal]`
+-- `run FILE [--limit N] [--workers N] [--journal]`
 abbrev pub run_app : App
-run_app = with_rule (with_rule (with_rule (command_named (codes "run")) (required (codes "file"))) (option (codes "limit"))) (flag (codes "journal"))
+run_app = with_rule (with_rule (with_rule (with_rule (command_named (codes "run")) (required (codes "file"))) (option (codes "limit"))) (option (codes "workers"))) (flag (codes "journal"))
 
 -- `judge FILE JOURNAL [--limit N]`
 abbrev pub judge_app : App
@@ -62,6 +67,10 @@ rows_in app arguments = rows_without (fault_of app arguments) (matches_of app ar
 abbrev pub limit_by : Option (List ℕ) → Option ℕ
 limit_by text = option_map_or (number_in 1 GREATEST_LIMIT) text (Some DEFAULT_LIMIT)
 
+-- the number of workers that an option's value asks for; without the option, the default
+abbrev pub workers_by : Option (List ℕ) → Option ℕ
+workers_by text = option_map_or (number_in 1 GREATEST_WORKERS) text (Some DEFAULT_WORKERS)
+
 -- whether a flag stands there, by what `clap` says of it
 abbrev pub is_set : Option (List ℕ) → Bool
 is_set text = option_map_or (λ value. bytes_eq value (codes "true")) text false
@@ -69,7 +78,7 @@ is_set text = option_map_or (λ value. bytes_eq value (codes "true")) text false
 -- the run that is asked for
 abbrev pub run_in : List Row → Option Asked
 run_in rows =
-    option_and_then (λ file. option_map (λ limit. run file limit (is_set (first_of (codes "journal") rows))) (limit_by (first_of (codes "limit") rows))) (first_of (codes "file") rows)
+    option_and_then (λ file. option_and_then (λ limit. option_map (λ workers. run file limit workers (is_set (first_of (codes "journal") rows))) (workers_by (first_of (codes "workers") rows))) (limit_by (first_of (codes "limit") rows))) (first_of (codes "file") rows)
 
 -- the judgement that is asked for
 abbrev pub judge_in : List Row → Option Asked

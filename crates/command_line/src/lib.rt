@@ -15,6 +15,6 @@ mod run;
 
 pub use check::Check;
 pub use judge::Judge;
-pub use numbers::{DEFAULT_LIMIT, GREATEST_LIMIT};
+pub use numbers::{DEFAULT_LIMIT, DEFAULT_WORKERS, GREATEST_LIMIT, GREATEST_WORKERS};
 pub use request::{ArgumentsError, Request, read_arguments};
 pub use run::Run;

@@ -1,8 +1,8 @@
 // Numbers of a command line.
-ghost use Rattle.std.specs.Prelude.{◌≡◌, ◌↔◌, ◌≤◌, All, IsTrue, IfSome, option_map};
+ghost use Rattle.std.specs.Prelude.{◌≡◌, ◌↔◌, ◌<◌, ◌≤◌, All, IsTrue, IfSome, option_map};
 ghost use Rattle.std.specs.Char.{is_ascii_digit};
 ghost use Rattle.std.specs.Str.Parse.{digits_value};
-ghost use Rattle.command_line.specs.Requests.{limit_by};
+ghost use Rattle.command_line.specs.Requests.{limit_by, workers_by};
 ghost use Rattle.command_line.specs.Numbers.{number_in, is_short_number};
 
 /// The greatest number to which the starts of a run may be limited.
@@ -10,6 +10,12 @@ pub const GREATEST_LIMIT: u64 = 1_000_000;
 
 /// How many starts a run may have where nothing is said.
 pub const DEFAULT_LIMIT: u64 = 100_000;
+
+/// The greatest number of workers of a run.
+pub const GREATEST_WORKERS: u32 = 16;
+
+/// How many workers a run has where nothing is said.
+pub const DEFAULT_WORKERS: u32 = 4;
 
 /// The limit that an option's value asks for; without the option, the default.
 pub(crate) fn limit_of(text: Option<&str>) -> Option<u64>
@@ -22,10 +28,24 @@ pub(crate) fn limit_of(text: Option<&str>) -> Option<u64>
     }
 }
 
+/// The number of workers that an option's value asks for; without the option, the default.
+pub(crate) fn workers_of(text: Option<&str>) -> Option<u32>
+    ensures value { result ≡ workers_by (option_map (λ t. t.now) text.entry) }
+    ensures workers { IfSome result (λ workers. (0 < workers) × (workers ≤ GREATEST_WORKERS)) }
+{
+    match text {
+        Some(text) => {
+            let workers = number_in(text, 1, u64::from(GREATEST_WORKERS))?;
+            Some(workers as u32)
+        }
+        None => Some(DEFAULT_WORKERS),
+    }
+}
+
 /// The number that an argument writes: 1 to 7 ASCII digits, from `least` to `most`.
 pub(crate) fn number_in(text: &str, least: u64, most: u64) -> Option<u64>
     ensures value { result ≡ number_in least most text.now }
-    ensures most { IfSome result (λ number. number ≤ most) }
+    ensures range { IfSome result (λ number. (least ≤ number) × (number ≤ most)) }
 {
     if !is_short_number(text.as_bytes()) {
         return None;

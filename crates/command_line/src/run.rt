@@ -1,11 +1,11 @@
 // The command `run`.
-ghost use Rattle.std.specs.Prelude.{◌≡◌, ◌↔◌, ◌≤◌, map, IfOk, IfErr, IfSome, IsTrue, Some, None, option_map, option_and_then};
+ghost use Rattle.std.specs.Prelude.{◌≡◌, ◌↔◌, ◌<◌, ◌≤◌, map, IfOk, IfErr, IfSome, IsTrue, Some, None, option_map, option_and_then};
 ghost use Rattle.std.specs.String.{string_bytes};
 ghost use Rattle.clap.specs.Words.{app_of, rows_of, found_of};
 ghost use Rattle.command_line.specs.Requests.{is_set, run, run_app, run_in, rows_in};
 
 use super::matches::{bare_command, matches_in};
-use super::numbers::{GREATEST_LIMIT, limit_of};
+use super::numbers::{GREATEST_LIMIT, GREATEST_WORKERS, limit_of, workers_of};
 use super::request::ArgumentsError;
 use clap::{Arg, ArgAction, ArgMatches, Command};
 use std::alloc::{AllocError, Global};
@@ -17,6 +17,8 @@ pub struct Run<'w> {
     pub file: &'w str,
     /// How many starts the run may have, from 1 to 1,000,000.
     pub limit: u64,
+    /// By how many workers it is run, from 1 to 16.
+    pub workers: u32,
     /// Whether the run's journal is written in place of its report.
     pub journal: bool,
 }
@@ -26,8 +28,9 @@ pub(crate) fn read_run<'w>(
     alloc: Global,
     arguments: &'w [String],
 ) -> Result<Run<'w>, ArgumentsError>
-    ensures ok { IfOk result (λ r. option_and_then run_in (rows_in run_app (map string_bytes arguments.entry.now)) ≡ Some (run r.file.now r.limit r.journal)) }
+    ensures ok { IfOk result (λ r. option_and_then run_in (rows_in run_app (map string_bytes arguments.entry.now)) ≡ Some (run r.file.now r.limit r.workers r.journal)) }
     ensures limit { IfOk result (λ r. r.limit ≤ GREATEST_LIMIT) }
+    ensures workers { IfOk result (λ r. (0 < r.workers) × (r.workers ≤ GREATEST_WORKERS)) }
     ensures err { IfErr result (λ error. error ≡ ArgumentsError.Refused → option_and_then run_in (rows_in run_app (map string_bytes arguments.entry.now)) ≡ None) }
 {
     let command = run_command(alloc)?;
@@ -38,35 +41,39 @@ pub(crate) fn read_run<'w>(
     }
 }
 
-// `run FILE [--limit N] [--journal]`
+// `run FILE [--limit N] [--workers N] [--journal]`
 fn run_command<'w>(alloc: Global) -> Result<Command<'w>, AllocError>
     ensures { IfOk result (λ command. app_of command ≡ run_app) }
 {
     let file = Arg::new(alloc, "file").required(true);
     let limit = Arg::new(alloc, "limit").long("limit");
+    let workers = Arg::new(alloc, "workers").long("workers");
     let journal = Arg::new(alloc, "journal")
         .long("journal")
         .action(ArgAction::SetTrue);
     let command = bare_command(alloc, "run").arg(file)?;
     let command = command.arg(limit)?;
+    let command = command.arg(workers)?;
     command.arg(journal)
 }
 
 // The run that these matches ask for.
 #[tactic(auto, using(crate::proofs::Reading::first_in_rows))]
 fn run_of<'w>(matches: &ArgMatches<'w>) -> Option<Run<'w>>
-    ensures run { option_map (λ r. run r.file.now r.limit r.journal) result ≡ run_in (rows_of (found_of matches.now)) }
+    ensures run { option_map (λ r. run r.file.now r.limit r.workers r.journal) result ≡ run_in (rows_of (found_of matches.now)) }
     ensures limit { IfSome result (λ r. r.limit ≤ GREATEST_LIMIT) }
+    ensures workers { IfSome result (λ r. (0 < r.workers) × (r.workers ≤ GREATEST_WORKERS)) }
 {
+    let file = matches.get_str("file")?;
+    let limit = limit_of(matches.get_str("limit"))?;
+    let workers = workers_of(matches.get_str("workers"))?;
     let journal = is_set(matches.get_str("journal"));
-    match (matches.get_str("file"), limit_of(matches.get_str("limit"))) {
-        (Some(file), Some(limit)) => Some(Run {
-            file,
-            limit,
-            journal,
-        }),
-        _ => None,
-    }
+    Some(Run {
+        file,
+        limit,
+        workers,
+        journal,
+    })
 }
 
 // Whether a flag stands among the arguments, by what `clap` says of it.

@@ -3,11 +3,15 @@
 
 use call_status::{Status, put_note};
 use flow_run::flow_main;
-use outside_io::{FolderTexts, NoMemory, StdSink};
+use outside_io::{FolderTexts, NoMemory, StandardStreams, StdSink};
 use span_profile::{SpanCount, Watch};
+use std::alloc::Global;
 use std::env;
 use std::io::ErrorKind;
 use std::process::ExitCode;
+use std::rt::Files;
+use std::sync::Wait;
+use std::thread::Threads;
 
 /// How many watchers a call is handed.
 const WATCHERS: usize = 16;
@@ -22,8 +26,11 @@ fn main(rt: HostRuntime) -> ExitCode {
             return without_memory(&rt);
         }
     }
-    match call(&rt, watchers) {
-        Ok(code) => ExitCode::from(code),
+    match arguments(&rt) {
+        Ok(arguments) => {
+            let code = call(&rt, rt.alloc(), arguments.as_slice(), watchers);
+            ExitCode::from(code)
+        }
         Err(NoMemory) => without_memory(&rt),
     }
 }
@@ -40,21 +47,18 @@ fn without_memory(rt: &HostRuntime) -> ExitCode {
     ExitCode::from(status.code())
 }
 
-// Calls the program with the arguments after its name.
-fn call(rt: &HostRuntime, watchers: Vec<Box<dyn Watch + Send>>) -> Result<u8, NoMemory> {
-    let words = arguments(rt)?;
+// Calls the program with these arguments.
+fn call<R: Threads + Wait + Sync + Files + StandardStreams + Copy>(
+    rt: &R,
+    alloc: Global,
+    arguments: &[String],
+    watchers: Vec<Box<dyn Watch + Send>>,
+) -> u8 {
     let mut texts = FolderTexts::new(rt);
-    let mut out = StdSink::out(rt.alloc(), rt);
-    let mut notes = StdSink::notes(rt.alloc(), rt);
-    let outcome = flow_main(
-        rt.alloc(),
-        words.as_slice(),
-        &mut texts,
-        &mut out,
-        &mut notes,
-        watchers,
-    );
-    Ok(outcome.status.code())
+    let mut out = StdSink::out(alloc, rt);
+    let mut notes = StdSink::notes(alloc, rt);
+    let outcome = flow_main(rt, alloc, arguments, &mut texts, &mut out, &mut notes, watchers);
+    outcome.status.code()
 }
 
 // The arguments after the program's own name. Where they aren't UTF-8 there are none, which is no command.

@@ -249,16 +249,16 @@ never_bad (stop.ReadFault name) same = absurd (cc)
 never_bad (stop.BadJournal line) same = absurd (cc)
 never_bad stop.NoMemory same = absurd (cc)
 
-asked : (arguments : List (List ℕ)) → asked_by arguments ≡ Some (run_of g 77 false) → ¬ CallEnds held arguments BadWords [] None
-asked arguments asks (inl (file, limit, journal, asks_file, inl stopped, none)) = never_bad stopped.why stopped.reported
-asked arguments asks (inl (file, limit, journal, asks_file, inr ran, none)) = let only : [] ≡ ran.run ∷ [] = ran.only in absurd (cc)
-asked arguments asks (inr (inl (file, name, limit, asks_judge, ends, none))) = let never : Some (run_of g 77 false) ≡ Some (judge_of file name limit) = sym asks ∙ asks_judge in absurd (cc)
-asked arguments asks (inr (inr (inl (file, asks_check, ends, none)))) = let never : Some (run_of g 77 false) ≡ Some (check_of file) = sym asks ∙ asks_check in absurd (cc)
-asked arguments asks (inr (inr (inr (inl (same, none, nothing, refused))))) = let never : Some (run_of g 77 false) ≡ None = sym asks ∙ refused in absurd (cc)
+asked : (arguments : List (List ℕ)) → asked_by arguments ≡ Some (run_of g 77 4 false) → ¬ CallEnds held arguments BadWords [] None
+asked arguments asks (inl (file, limit, workers, journal, asks_file, inl stopped, none)) = never_bad stopped.why stopped.reported
+asked arguments asks (inl (file, limit, workers, journal, asks_file, inr ran, none)) = let only : [] ≡ ran.run ∷ [] = ran.only in absurd (cc)
+asked arguments asks (inr (inl (file, name, limit, asks_judge, ends, none))) = let never : Some (run_of g 77 4 false) ≡ Some (judge_of file name limit) = sym asks ∙ asks_judge in absurd (cc)
+asked arguments asks (inr (inr (inl (file, asks_check, ends, none)))) = let never : Some (run_of g 77 4 false) ≡ Some (check_of file) = sym asks ∙ asks_check in absurd (cc)
+asked arguments asks (inr (inr (inr (inl (same, none, nothing, refused))))) = let never : Some (run_of g 77 4 false) ≡ None = sym asks ∙ refused in absurd (cc)
 asked arguments asks (inr (inr (inr (inr (same, none, nothing))))) = absurd (cc)
 
 asked_to_judge : (arguments : List (List ℕ)) → asked_by arguments ≡ Some (judge_of g t 77) → ¬ CallEnds held arguments BadWords [] None
-asked_to_judge arguments asks (inl (file, limit, journal, asks_file, ends, none)) = let never : Some (judge_of g t 77) ≡ Some (run_of file limit journal) = sym asks ∙ asks_file in absurd (cc)
+asked_to_judge arguments asks (inl (file, limit, workers, journal, asks_file, ends, none)) = let never : Some (judge_of g t 77) ≡ Some (run_of file limit workers journal) = sym asks ∙ asks_file in absurd (cc)
 asked_to_judge arguments asks (inr (inl (file, name, limit, asks_judge, inl stopped, none))) = never_bad stopped.why stopped.reported
 asked_to_judge arguments asks (inr (inl (file, name, limit, asks_judge, inr ended, none))) = let only : None ≡ Some (conclusion.Verdict ended.verdict) = ended.only in absurd (cc)
 asked_to_judge arguments asks (inr (inr (inl (file, asks_check, ends, none)))) = let never : Some (judge_of g t 77) ≡ Some (check_of file) = sym asks ∙ asks_check in absurd (cc)
@@ -266,7 +266,7 @@ asked_to_judge arguments asks (inr (inr (inr (inl (same, none, nothing, refused)
 asked_to_judge arguments asks (inr (inr (inr (inr (same, none, nothing))))) = absurd (cc)
 
 asked_to_check : (arguments : List (List ℕ)) → asked_by arguments ≡ Some (check_of g) → ¬ CallEnds held arguments BadWords [] None
-asked_to_check arguments asks (inl (file, limit, journal, asks_file, ends, none)) = let never : Some (check_of g) ≡ Some (run_of file limit journal) = sym asks ∙ asks_file in absurd (cc)
+asked_to_check arguments asks (inl (file, limit, workers, journal, asks_file, ends, none)) = let never : Some (check_of g) ≡ Some (run_of file limit workers journal) = sym asks ∙ asks_file in absurd (cc)
 asked_to_check arguments asks (inr (inl (file, name, limit, asks_judge, ends, none))) = let never : Some (check_of g) ≡ Some (judge_of file name limit) = sym asks ∙ asks_judge in absurd (cc)
 asked_to_check arguments asks (inr (inr (inl (file, asks_check, inl stopped, none)))) = never_bad stopped.why stopped.reported
 asked_to_check arguments asks (inr (inr (inl (file, asks_check, inr ended, none)))) = let only : None ≡ Some (conclusion.Findings ended.found) = ended.only in absurd (cc)
@@ -279,14 +279,14 @@ refused arguments none = inr (inr (inr (inl (refl, refl, refl, none))))
 -- It keeps no run and comes to no conclusion, also where memory runs out.
 module _ (arguments : List (List ℕ)) (nothing : asked_by arguments ≡ None) where
   run_of_nothing : (told : Status) (run : Run) → ¬ CallEnds held arguments told (run ∷ []) None
-  run_of_nothing told run (inl (file, limit, journal, asks_file, ends, none)) = let never : None ≡ Some (run_of file limit journal) = sym nothing ∙ asks_file in absurd (cc)
+  run_of_nothing told run (inl (file, limit, workers, journal, asks_file, ends, none)) = let never : None ≡ Some (run_of file limit workers journal) = sym nothing ∙ asks_file in absurd (cc)
   run_of_nothing told run (inr (inl (file, name, limit, asks_judge, ends, none))) = let never : None ≡ Some (judge_of file name limit) = sym nothing ∙ asks_judge in absurd (cc)
   run_of_nothing told run (inr (inr (inl (file, asks_check, ends, none)))) = let never : None ≡ Some (check_of file) = sym nothing ∙ asks_check in absurd (cc)
   run_of_nothing told run (inr (inr (inr (inl (same, none, untold, refused))))) = absurd (omega (arith, ap length none))
   run_of_nothing told run (inr (inr (inr (inr (same, none, untold))))) = absurd (omega (arith, ap length none))
 
   conclusion_of_nothing : (told : Status) → ¬ CallEnds held arguments told [] (Some (conclusion.Verdict Finished))
-  conclusion_of_nothing told (inl (file, limit, journal, asks_file, ends, none)) = let never : None ≡ Some (run_of file limit journal) = sym nothing ∙ asks_file in absurd (cc)
+  conclusion_of_nothing told (inl (file, limit, workers, journal, asks_file, ends, none)) = let never : None ≡ Some (run_of file limit workers journal) = sym nothing ∙ asks_file in absurd (cc)
   conclusion_of_nothing told (inr (inl (file, name, limit, asks_judge, ends, none))) = let never : None ≡ Some (judge_of file name limit) = sym nothing ∙ asks_judge in absurd (cc)
   conclusion_of_nothing told (inr (inr (inl (file, asks_check, ends, none)))) = let never : None ≡ Some (check_of file) = sym nothing ∙ asks_check in absurd (cc)
   conclusion_of_nothing told (inr (inr (inr (inl (same, none, untold, refused))))) = absurd (cc)
@@ -294,22 +294,22 @@ module _ (arguments : List (List ℕ)) (nothing : asked_by arguments ≡ None) w
 
 -- A run has no conclusion, and a judgement and a check keep no run.
 module _ (arguments : List (List ℕ)) where
-  verdict_on_a_run : asked_by arguments ≡ Some (run_of g 77 false) → ¬ CallEnds held arguments Done [] (Some (conclusion.Verdict Finished))
-  verdict_on_a_run asks (inl (file, limit, journal, asks_file, ends, none)) = absurd (cc)
-  verdict_on_a_run asks (inr (inl (file, name, limit, asks_judge, ends, none))) = let never : Some (run_of g 77 false) ≡ Some (judge_of file name limit) = sym asks ∙ asks_judge in absurd (cc)
-  verdict_on_a_run asks (inr (inr (inl (file, asks_check, ends, none)))) = let never : Some (run_of g 77 false) ≡ Some (check_of file) = sym asks ∙ asks_check in absurd (cc)
+  verdict_on_a_run : asked_by arguments ≡ Some (run_of g 77 4 false) → ¬ CallEnds held arguments Done [] (Some (conclusion.Verdict Finished))
+  verdict_on_a_run asks (inl (file, limit, workers, journal, asks_file, ends, none)) = absurd (cc)
+  verdict_on_a_run asks (inr (inl (file, name, limit, asks_judge, ends, none))) = let never : Some (run_of g 77 4 false) ≡ Some (judge_of file name limit) = sym asks ∙ asks_judge in absurd (cc)
+  verdict_on_a_run asks (inr (inr (inl (file, asks_check, ends, none)))) = let never : Some (run_of g 77 4 false) ≡ Some (check_of file) = sym asks ∙ asks_check in absurd (cc)
   verdict_on_a_run asks (inr (inr (inr (inl (same, none, nothing, refused))))) = absurd (cc)
   verdict_on_a_run asks (inr (inr (inr (inr (same, none, nothing))))) = absurd (cc)
 
   run_of_a_judgement : (run : Run) → asked_by arguments ≡ Some (judge_of g t 77) → ¬ CallEnds held arguments Done (run ∷ []) None
-  run_of_a_judgement run asks (inl (file, limit, journal, asks_file, ends, none)) = let never : Some (judge_of g t 77) ≡ Some (run_of file limit journal) = sym asks ∙ asks_file in absurd (cc)
+  run_of_a_judgement run asks (inl (file, limit, workers, journal, asks_file, ends, none)) = let never : Some (judge_of g t 77) ≡ Some (run_of file limit workers journal) = sym asks ∙ asks_file in absurd (cc)
   run_of_a_judgement run asks (inr (inl (file, name, limit, asks_judge, ends, none))) = absurd (cc)
   run_of_a_judgement run asks (inr (inr (inl (file, asks_check, ends, none)))) = absurd (cc)
   run_of_a_judgement run asks (inr (inr (inr (inl (same, none, nothing, refused))))) = absurd (cc)
   run_of_a_judgement run asks (inr (inr (inr (inr (same, none, nothing))))) = absurd (cc)
 
   run_of_a_check : (run : Run) (found : GraphFindings) → asked_by arguments ≡ Some (check_of g) → ¬ CallEnds held arguments Done (run ∷ []) (Some (conclusion.Findings found))
-  run_of_a_check run found asks (inl (file, limit, journal, asks_file, ends, none)) = absurd (cc)
+  run_of_a_check run found asks (inl (file, limit, workers, journal, asks_file, ends, none)) = absurd (cc)
   run_of_a_check run found asks (inr (inl (file, name, limit, asks_judge, ends, none))) = absurd (cc)
   run_of_a_check run found asks (inr (inr (inl (file, asks_check, ends, none)))) = absurd (cc)
   run_of_a_check run found asks (inr (inr (inr (inl (same, none, nothing, refused))))) = absurd (cc)

@@ -193,8 +193,8 @@ done_without_findings (inr ended) = let only : None ≡ Some (conclusion.Finding
 nothing_to_check : (arguments : List (List ℕ)) → ¬ CanBeChecked None arguments
 nothing_to_check arguments can = let some : None ≡ Some can.text = can.specified in absurd (cc)
 
-run_asked_for : (arguments : List (List ℕ)) → asked_by arguments ≡ Some (run_of g 9 false) → ¬ CanBeChecked held arguments
-run_asked_for arguments asks can = let never : Some (run_of g 9 false) ≡ Some (check_of can.file) = sym asks ∙ can.asks in absurd (cc)
+run_asked_for : (arguments : List (List ℕ)) → asked_by arguments ≡ Some (run_of g 9 4 false) → ¬ CanBeChecked held arguments
+run_asked_for arguments asks can = let never : Some (run_of g 9 4 false) ≡ Some (check_of can.file) = sym asks ∙ can.asks in absurd (cc)
 
 -- A file that is longer than is read stops the call, and isn't at hand; its bytes are not looked at.
 module _ (bytes : List ℕ) (long : length bytes ≡ 4194305) where

@@ -47,8 +47,8 @@ one_request : (arguments : List (List ℕ)) (asked other : Asked) → asked_by a
 one_request arguments asked other one two = let both : Some asked ≡ Some other = sym one ∙ two in cc
 
 -- A run asks for one file.
-one_file : (file other : List ℕ) (limit most : ℕ) (journal instead : Bool) → run file limit journal ≡ run other most instead → file ≡ other
-one_file file other limit most journal instead same = cc
+one_file : (file other : List ℕ) (limit most workers hands : ℕ) (journal instead : Bool) → run file limit workers journal ≡ run other most hands instead → file ≡ other
+one_file file other limit most workers hands journal instead same = cc
 
 -- A judgement asks for one of each.
 one_judgement : (file name other others : List ℕ) (limit most : ℕ) → judge file name limit ≡ judge other others most → (file ≡ other) × (name ≡ others) × (limit ≡ most)
@@ -177,11 +177,11 @@ after_run why status fine (inr (inr memory)) written = inr memory
 
 module _ (held : Held) (arguments : List (List ℕ)) (status : Status) where
   -- No command line asks for two commands.
-  no_run_and_judgement : (file other name : List ℕ) (limit most : ℕ) (journal : Bool) → asked_by arguments ≡ Some (run file limit journal) → asked_by arguments ≡ Some (judge other name most) → ⊥
-  no_run_and_judgement file other name limit most journal one two = let both = one_request arguments (run file limit journal) (judge other name most) one two in absurd (cc)
+  no_run_and_judgement : (file other name : List ℕ) (limit most workers : ℕ) (journal : Bool) → asked_by arguments ≡ Some (run file limit workers journal) → asked_by arguments ≡ Some (judge other name most) → ⊥
+  no_run_and_judgement file other name limit most workers journal one two = let both = one_request arguments (run file limit workers journal) (judge other name most) one two in absurd (cc)
 
-  no_run_and_check : (file other : List ℕ) (limit : ℕ) (journal : Bool) → asked_by arguments ≡ Some (run file limit journal) → asked_by arguments ≡ Some (check other) → ⊥
-  no_run_and_check file other limit journal one two = let both = one_request arguments (run file limit journal) (check other) one two in absurd (cc)
+  no_run_and_check : (file other : List ℕ) (limit workers : ℕ) (journal : Bool) → asked_by arguments ≡ Some (run file limit workers journal) → asked_by arguments ≡ Some (check other) → ⊥
+  no_run_and_check file other limit workers journal one two = let both = one_request arguments (run file limit workers journal) (check other) one two in absurd (cc)
 
   no_judgement_and_check : (file name other : List ℕ) (limit : ℕ) → asked_by arguments ≡ Some (judge file name limit) → asked_by arguments ≡ Some (check other) → ⊥
   no_judgement_and_check file name other limit one two = let both = one_request arguments (judge file name limit) (check other) one two in absurd (cc)
@@ -189,13 +189,13 @@ module _ (held : Held) (arguments : List (List ℕ)) (status : Status) where
   pub completes : (runs : List Run) (concluded : Option Conclusion) → CallEnds held arguments status runs concluded → IsAtHand held arguments
       → All (λ run. run_reason text_job run ≡ Fine) runs → (IsReadFault status → ⊥) → status ≢ WriteFault → (status ≡ Done) ⊎ (status ≡ NoMemory)
   completes runs concluded (inr (inr (inr (inr (memory, none, nothing))))) hand fine read write = inr memory
-  completes runs concluded (inr (inr (inr (inl (same, none, nothing, never))))) hand fine read write = absurd (none-some (run hand.file hand.limit hand.journal) (sym never ∙ hand.asks))
-  completes runs concluded (inr (inr (inl (file, asks, ends, none)))) hand fine read write = absurd (no_run_and_check hand.file file hand.limit hand.journal hand.asks asks)
-  completes runs concluded (inr (inl (file, name, limit, asks, ends, none))) hand fine read write = absurd (no_run_and_judgement hand.file file name hand.limit limit hand.journal hand.asks asks)
-  completes runs concluded (inl (file, limit, journal, asks, inr ran, none)) hand fine read write =
+  completes runs concluded (inr (inr (inr (inl (same, none, nothing, never))))) hand fine read write = absurd (none-some (run hand.file hand.limit hand.workers hand.journal) (sym never ∙ hand.asks))
+  completes runs concluded (inr (inr (inl (file, asks, ends, none)))) hand fine read write = absurd (no_run_and_check hand.file file hand.limit hand.workers hand.journal hand.asks asks)
+  completes runs concluded (inr (inl (file, name, limit, asks, ends, none))) hand fine read write = absurd (no_run_and_judgement hand.file file name hand.limit limit hand.workers hand.journal hand.asks asks)
+  completes runs concluded (inl (file, limit, workers, journal, asks, inr ran, none)) hand fine read write =
       after_run (run_reason text_job ran.run) status (All-head (λ r. run_reason text_job r ≡ Fine) ran.run [] (subst (All (λ r. run_reason text_job r ≡ Fine)) ran.only fine)) ran.after write
-  completes runs concluded (inl (file, limit, journal, asks, inl stopped, none)) hand fine read write =
-      let same = one_file file hand.file limit hand.limit journal hand.journal (one_request arguments (run file limit journal) (run hand.file hand.limit hand.journal) asks hand.asks) in
+  completes runs concluded (inl (file, limit, workers, journal, asks, inl stopped, none)) hand fine read write =
+      let same = one_file file hand.file limit hand.limit workers hand.workers journal hand.journal (one_request arguments (run file limit workers journal) (run hand.file hand.limit hand.workers hand.journal) asks hand.asks) in
       let stops : StopsBefore (Some hand.text) hand.file stopped.why =
       subst (λ h. StopsBefore h hand.file stopped.why) hand.specified (subst (λ f. StopsBefore held f stopped.why) same stopped.stops) in
       let memory = never_before hand.text hand.file hand.plan stopped.why hand.graph hand.source hand.named stops (λ n is. read (n, stopped.reported ∙ ap status_of is)) in
@@ -215,7 +215,7 @@ module _ (held : Held) (arguments : List (List ℕ)) (status : Status) where
   judges runs concluded (inr (inr (inr (inr (memory, none, nothing))))) can read write = inr memory
   judges runs concluded (inr (inr (inr (inl (same, none, nothing, never))))) can read write = absurd (none-some (judge can.file can.name can.limit) (sym never ∙ can.asks))
   judges runs concluded (inr (inr (inl (file, asks, ends, none)))) can read write = absurd (no_judgement_and_check can.file can.name file can.limit can.asks asks)
-  judges runs concluded (inl (file, limit, journal, asks, ends, none)) can read write = absurd (no_run_and_judgement file can.file can.name limit can.limit journal asks can.asks)
+  judges runs concluded (inl (file, limit, workers, journal, asks, ends, none)) can read write = absurd (no_run_and_judgement file can.file can.name limit can.limit workers journal asks can.asks)
   judges runs concluded (inr (inl (file, name, limit, asks, inl stopped, none))) can read write =
       let same = one_judgement file name can.file can.name limit can.limit (one_request arguments (judge file name limit) (judge can.file can.name can.limit) asks can.asks) in
       let stops : StopsBeforeVerdict (Some can.text) can.file can.name stopped.why =
@@ -242,7 +242,7 @@ module _ (held : Held) (arguments : List (List ℕ)) (status : Status) where
   checks runs concluded (inr (inr (inr (inr (memory, none, nothing))))) can read write = inr memory
   checks runs concluded (inr (inr (inr (inl (same, none, nothing, never))))) can read write = absurd (none-some (check can.file) (sym never ∙ can.asks))
   checks runs concluded (inr (inl (file, name, limit, asks, ends, none))) can read write = absurd (no_judgement_and_check file name can.file limit asks can.asks)
-  checks runs concluded (inl (file, limit, journal, asks, ends, none)) can read write = absurd (no_run_and_check file can.file limit journal asks can.asks)
+  checks runs concluded (inl (file, limit, workers, journal, asks, ends, none)) can read write = absurd (no_run_and_check file can.file limit workers journal asks can.asks)
   checks runs concluded (inr (inr (inl (file, asks, inl stopped, none)))) can read write =
       let same = one_check file can.file (one_request arguments (check file) (check can.file) asks can.asks) in
       let stops : StopsBeforeFindings (Some can.text) can.file stopped.why =

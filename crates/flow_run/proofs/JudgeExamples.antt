@@ -188,10 +188,10 @@ module _ (run : Run) where
   of_two_runs : (other : Run) → run_texts true (run ∷ other ∷ []) ≡ journal_text Two (journal_of run) ++ (journal_text Two (journal_of other) ++ [])
   of_two_runs other = refl
 
-journal_asked_for : wants_journal (Some (run_of g 9 true)) ≡ true
+journal_asked_for : wants_journal (Some (run_of g 9 4 true)) ≡ true
 journal_asked_for = refl
 
-report_asked_for : wants_journal (Some (run_of g 9 false)) ≡ false
+report_asked_for : wants_journal (Some (run_of g 9 4 false)) ≡ false
 report_asked_for = refl
 
 judgement_asked_for : wants_journal (Some (judge_of g j 9)) ≡ false
@@ -204,10 +204,10 @@ output_of_a_judgement : (arguments : List (List ℕ)) → output_of arguments []
 output_of_a_judgement arguments = refl
 
 -- of a run its journal, where that is asked for, and its report else; before what is concluded
-output_with_the_journal : (arguments : List (List ℕ)) (run : Run) → asked_by arguments ≡ Some (run_of g 9 true) → output_of arguments (run ∷ []) (Some (conclusion.Verdict Legal)) ≡ run_texts true (run ∷ []) ++ codes "legal\n"
+output_with_the_journal : (arguments : List (List ℕ)) (run : Run) → asked_by arguments ≡ Some (run_of g 9 4 true) → output_of arguments (run ∷ []) (Some (conclusion.Verdict Legal)) ≡ run_texts true (run ∷ []) ++ codes "legal\n"
 output_with_the_journal arguments run asks = ap (λ asked. run_texts (wants_journal asked) (run ∷ []) ++ codes "legal\n") asks
 
-output_with_the_report : (arguments : List (List ℕ)) (run : Run) → asked_by arguments ≡ Some (run_of g 9 false) → output_of arguments (run ∷ []) None ≡ run_texts false (run ∷ []) ++ []
+output_with_the_report : (arguments : List (List ℕ)) (run : Run) → asked_by arguments ≡ Some (run_of g 9 4 false) → output_of arguments (run ∷ []) None ≡ run_texts false (run ∷ []) ++ []
 output_with_the_report arguments run asks = ap (λ asked. run_texts (wants_journal asked) (run ∷ []) ++ []) asks
 
 output_of_nothing : (arguments : List (List ℕ)) → output_of arguments [] None ≡ []
@@ -352,8 +352,8 @@ journal_behind_a_refused_graph refused (inr (inr behind)) =
 
 -- It can't be judged where a run is asked for, without the graph, without the journal, where one of them is too long, by a
 -- graph that can't begin, and where an entry breaks a rule.
-run_is_not_judged : (arguments : List (List ℕ)) → asked_by arguments ≡ Some (run_of g 9 false) → ¬ CanBeJudged held arguments
-run_is_not_judged arguments asks can = let both : Some (run_of g 9 false) ≡ Some (judge_of can.file can.name can.limit) = sym asks ∙ can.asks in absurd (cc)
+run_is_not_judged : (arguments : List (List ℕ)) → asked_by arguments ≡ Some (run_of g 9 4 false) → ¬ CanBeJudged held arguments
+run_is_not_judged arguments asks can = let both : Some (run_of g 9 4 false) ≡ Some (judge_of can.file can.name can.limit) = sym asks ∙ can.asks in absurd (cc)
 
 -- what the parts of a judgement are that can be made of these texts
 module _ (held_texts : List ℕ → Option (List ℕ)) (arguments : List (List ℕ)) (can : CanBeJudged (Some held_texts) arguments) where

@@ -243,7 +243,7 @@ work_of_another_plan plan work stands other is =
     other (cc)
 
 judgement_is_not_at_hand : (arguments : List (List ℕ)) → asked_by arguments ≡ Some (judge_of g t 9) → ¬ IsAtHand held arguments
-judgement_is_not_at_hand arguments asks is = let both : Some (judge_of g t 9) ≡ Some (run_of is.file is.limit is.journal) = sym asks ∙ is.asks in absurd (cc)
+judgement_is_not_at_hand arguments asks is = let both : Some (judge_of g t 9) ≡ Some (run_of is.file is.limit is.workers is.journal) = sym asks ∙ is.asks in absurd (cc)
 
 -- a source that holds these bytes under `g`, and these under `t`
 abbrev both_held : List ℕ → List ℕ → List ℕ → Option (List ℕ)
@@ -253,10 +253,10 @@ module _ (arguments : List (List ℕ)) (graph text : List ℕ) (at_hand : IsAtHa
   its_texts : at_hand.text ≡ both_held graph text
   its_texts = let both : Some (both_held graph text) ≡ Some at_hand.text = at_hand.specified in cc
 
-  its_graph : (file : List ℕ) (limit : ℕ) (journal : Bool) → asked_by arguments ≡ Some (run_of file limit journal)
+  its_graph : (file : List ℕ) (limit workers : ℕ) (journal : Bool) → asked_by arguments ≡ Some (run_of file limit workers journal)
       → IsSomeAnd (both_held graph text file) (λ bytes. (length bytes ≤ file_limit) × PlanText bytes at_hand.plan)
-  its_graph file limit journal asks =
-      let both : Some (run_of file limit journal) ≡ Some (run_of at_hand.file at_hand.limit at_hand.journal) = sym asks ∙ at_hand.asks in
+  its_graph file limit workers journal asks =
+      let both : Some (run_of file limit workers journal) ≡ Some (run_of at_hand.file at_hand.limit at_hand.workers at_hand.journal) = sym asks ∙ at_hand.asks in
       let same : file ≡ at_hand.file = cc in
       subst (λ f. IsSomeAnd (both_held graph text f) (λ bytes. (length bytes ≤ file_limit) × PlanText bytes at_hand.plan)) (sym same)
       (subst (λ (held_text : List ℕ → Option (List ℕ)). IsSomeAnd (held_text at_hand.file) (λ bytes. (length bytes ≤ file_limit) × PlanText bytes at_hand.plan)) its_texts at_hand.graph)
@@ -264,12 +264,13 @@ module _ (arguments : List (List ℕ)) (graph text : List ℕ) (at_hand : IsAtHa
   its_names : All (λ name. IsSomeAnd (both_held graph text name) (λ bytes. length bytes ≤ text_limit)) at_hand.plan.texts
   its_names = subst (λ (held_text : List ℕ → Option (List ℕ)). All (λ name. IsSomeAnd (held_text name) (λ bytes. length bytes ≤ text_limit)) at_hand.plan.texts) its_texts at_hand.named
 
-module _ (arguments : List (List ℕ)) (asks : asked_by arguments ≡ Some (run_of g 77 false)) (plan : PlanRows) (stands : PlanText (1 ∷ []) plan) where
+module _ (arguments : List (List ℕ)) (asks : asked_by arguments ≡ Some (run_of g 77 4 false)) (plan : PlanRows) (stands : PlanText (1 ∷ []) plan) where
   -- it can be had where the graph can begin and the text that it names is held
   at_hand_with_its_text : HasStart plan → plan.texts ≡ t ∷ [] → IsAtHand (Some (both_held (1 ∷ []) (2 ∷ 3 ∷ []))) arguments
   at_hand_with_its_text source names = record {
     file = g;
     limit = 77;
+    workers = 4;
     journal = false;
     text = both_held (1 ∷ []) (2 ∷ 3 ∷ []);
     plan = plan;
@@ -284,7 +285,7 @@ module _ (arguments : List (List ℕ)) (asks : asked_by arguments ≡ Some (run_
   -- the plan of what is at hand is this one
   its_plan : (text : List ℕ) (at_hand : IsAtHand (Some (both_held (1 ∷ []) text)) arguments) → at_hand.plan ≡ plan
   its_plan text at_hand =
-      let both : ok_plan at_hand.plan ≡ ok_plan plan = sym (its_graph arguments (1 ∷ []) text at_hand g 77 false asks).1 ∙ stands in
+      let both : ok_plan at_hand.plan ≡ ok_plan plan = sym (its_graph arguments (1 ∷ []) text at_hand g 77 4 false asks).1 ∙ stands in
       cc
 
   graph_that_can_not_begin : (text : List ℕ) → ¬ HasStart plan → ¬ IsAtHand (Some (both_held (1 ∷ []) text)) arguments
@@ -303,8 +304,8 @@ module _ (arguments : List (List ℕ)) (asks : asked_by arguments ≡ Some (run_
       (subst (All (λ name. IsSomeAnd (both_held (1 ∷ []) text name) (λ bytes. length bytes ≤ text_limit))) its (its_names arguments (1 ∷ []) text at_hand)) in
       absurd (omega (arith, long, few))
 
-graph_missing : (arguments : List (List ℕ)) (graph text : List ℕ) → asked_by arguments ≡ Some (run_of u 77 false) → ¬ IsAtHand (Some (both_held graph text)) arguments
-graph_missing arguments graph text asks at_hand = its_graph arguments graph text at_hand u 77 false asks
+graph_missing : (arguments : List (List ℕ)) (graph text : List ℕ) → asked_by arguments ≡ Some (run_of u 77 4 false) → ¬ IsAtHand (Some (both_held graph text)) arguments
+graph_missing arguments graph text asks at_hand = its_graph arguments graph text at_hand u 77 4 false asks
 
-graph_too_long : (arguments : List (List ℕ)) (graph text : List ℕ) → length graph ≡ 4194305 → asked_by arguments ≡ Some (run_of g 77 false) → ¬ IsAtHand (Some (both_held graph text)) arguments
-graph_too_long arguments graph text long asks at_hand = absurd (omega (arith, long, (its_graph arguments graph text at_hand g 77 false asks).0))
+graph_too_long : (arguments : List (List ℕ)) (graph text : List ℕ) → length graph ≡ 4194305 → asked_by arguments ≡ Some (run_of g 77 4 false) → ¬ IsAtHand (Some (both_held graph text)) arguments
+graph_too_long arguments graph text long asks at_hand = absurd (omega (arith, long, (its_graph arguments graph text at_hand g 77 4 false asks).0))

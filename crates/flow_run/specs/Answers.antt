@@ -64,7 +64,7 @@ JobEnds job status runs = StoppedBefore (λ why. why ≡ stop.NoMemory) status (
 -- graph, or for nothing, or there is no memory to read it.
 abbrev pub CallEnds : Held → List (List ℕ) → Status → List Run → Option Conclusion → Type 0
 CallEnds held arguments status runs conclusion =
-    ((file : List ℕ) × (limit : ℕ) × (journal : Bool) × (asked_by arguments ≡ Some (run file limit journal)) × RunEnds held file limit status runs × (conclusion ≡ None))
+    ((file : List ℕ) × (limit : ℕ) × (workers : ℕ) × (journal : Bool) × (asked_by arguments ≡ Some (run file limit workers journal)) × RunEnds held file limit status runs × (conclusion ≡ None))
     ⊎ ((file : List ℕ) × (name : List ℕ) × (limit : ℕ) × (asked_by arguments ≡ Some (judge file name limit)) × JudgeEnds held file name limit status conclusion × (runs ≡ []))
     ⊎ ((file : List ℕ) × (asked_by arguments ≡ Some (check file)) × CheckEnds held file status conclusion × (runs ≡ []))
     ⊎ ((status ≡ BadWords) × (runs ≡ []) × (conclusion ≡ None) × (asked_by arguments ≡ None))
@@ -86,7 +86,7 @@ run_texts journal runs = flat_map (run_text journal) runs
 
 -- whether journals are asked for in place of reports
 abbrev pub wants_journal : Option Asked → Bool
-wants_journal (Some (run file limit journal)) = journal
+wants_journal (Some (run file limit workers journal)) = journal
 wants_journal asked = false
 
 -- what is written of a conclusion, if there is one

@@ -131,10 +131,11 @@ CountsReads before after (Err stop) = CountsStop stop before after
 pub record IsAtHand (held : Held) (arguments : List (List ℕ)) : Type 0 where
   pub file : List ℕ
   pub limit : ℕ
+  pub workers : ℕ
   pub journal : Bool
   pub text : List ℕ → Option (List ℕ)
   pub plan : PlanRows
-  pub asks : asked_by arguments ≡ Some (run file limit journal)
+  pub asks : asked_by arguments ≡ Some (run file limit workers journal)
   pub specified : held ≡ Some text
   pub graph : IsSomeAnd (text file) (λ bytes. (length bytes ≤ file_limit) × PlanText bytes plan)
   pub source : HasStart plan

@@ -18,15 +18,19 @@ use super::judging::judge_file;
 use super::prepare::prepare;
 use super::report::put_report;
 use call_status::{Noted, Status, flushed, put_note};
-use command_line::{ArgumentsError, GREATEST_LIMIT, Request, Run, read_arguments};
+use command_line::{
+    ArgumentsError, GREATEST_LIMIT, GREATEST_WORKERS, Request, Run, read_arguments,
+};
 use journal_text::print_journal;
 use nested_runs::{Reason, reason_of};
 use outside_io::{Bytes, List, NoMemory, Sink, SinkFault, Texts};
-use run_frame::{FrameRun, run_alone};
+use run_frame::FrameRun;
 use span_profile::Watch;
 use std::alloc::Global;
-use std::sync::Arc;
+use std::sync::{Arc, Wait};
+use std::thread::Threads;
 use text_tasks::TextJob;
+use thief_runs::run_by;
 
 /// How a call of the program ended.
 #[derive(Drop)]
@@ -49,7 +53,8 @@ pub struct Outcome {
 /// runs the graph to its end, and writes the run's report to `out`, or with `--journal` its journal; `judge FILE JOURNAL`
 /// reads the journal file of that name besides, and writes the judge's verdict; `check FILE` writes how the graph can go
 /// wrong. The line of the status goes to `notes`, the diagnostics sink.
-pub fn flow_main<F: Texts, S: Sink, N: Sink>(
+pub fn flow_main<F: Texts, S: Sink, N: Sink, R: Threads + Wait + Sync>(
+    rt: &R,
     alloc: Global,
     words: &[String],
     texts: &mut F,
@@ -109,7 +114,7 @@ pub fn flow_main<F: Texts, S: Sink, N: Sink>(
         runs,
         conclusion,
         written,
-    } = answer(alloc, words, texts, out);
+    } = answer(rt, alloc, words, texts, out);
     let noted = put_note(alloc, notes, names_in(runs.as_slice()), &status);
     Outcome {
         status,
@@ -130,7 +135,13 @@ pub(crate) struct Ended {
 }
 
 // Does what the command line asks for.
-fn answer<F: Texts, S: Sink>(alloc: Global, words: &[String], texts: &mut F, out: &mut S) -> Ended
+fn answer<F: Texts, S: Sink, R: Threads + Wait + Sync>(
+    rt: &R,
+    alloc: Global,
+    words: &[String],
+    texts: &mut F,
+    out: &mut S,
+) -> Ended
     requires { (S.state out.old).held_back ≡ [] }
     ensures ends { CallEnds (F.held texts.old) (map string_bytes words.now) result.status result.runs result.conclusion }
     ensures output { HasWritten S.state out.old out.new result.status ((result.runs ≡ []) × (result.conclusion ≡ None)) (output_of (map string_bytes words.now) result.runs result.conclusion) result.written }
@@ -138,7 +149,7 @@ fn answer<F: Texts, S: Sink>(alloc: Global, words: &[String], texts: &mut F, out
     ensures texts_untouched { result.status ≡ Status.BadWords → texts.new ≡ texts.old }
 {
     match read_arguments(alloc, words) {
-        Ok(Request::Run(run)) => run_file(alloc, run, texts, out),
+        Ok(Request::Run(run)) => run_file(rt, alloc, run, texts, out),
         Ok(Request::Judge(judge)) => judge_file(alloc, judge, texts, out),
         Ok(Request::Check(check)) => check_file(alloc, check, texts, out),
         Err(ArgumentsError::Refused) => stopped(alloc, Status::BadWords),
@@ -147,16 +158,23 @@ fn answer<F: Texts, S: Sink>(alloc: Global, words: &[String], texts: &mut F, out
 }
 
 // The command `run`.
-fn run_file<F: Texts, S: Sink>(alloc: Global, run: Run<'_>, texts: &mut F, out: &mut S) -> Ended
+fn run_file<F: Texts, S: Sink, R: Threads + Wait + Sync>(
+    rt: &R,
+    alloc: Global,
+    run: Run<'_>,
+    texts: &mut F,
+    out: &mut S,
+) -> Ended
     requires limit { run.limit ≤ GREATEST_LIMIT }
+    requires workers { (0 < run.workers) × (run.workers ≤ GREATEST_WORKERS) }
     requires nothing_held { (S.state out.old).held_back ≡ [] }
     ensures ends { RunEnds (F.held texts.old) run.entry.file.now run.entry.limit result.status result.runs }
     ensures reported { Reported S.state out.old out.new result.status run.entry.journal result.runs result.written }
     ensures no_conclusion { result.conclusion ≡ None }
     ensures read { HaveRead F.held F.faults texts.old texts.new result.status }
 {
-    match prepare(alloc, texts, run.file.as_bytes(), run.limit) {
-        Ok(job) => run_and_report(alloc, job, run.journal, out),
+    match prepare(rt, alloc, texts, run.file.as_bytes(), run.limit) {
+        Ok(job) => run_and_report(rt, alloc, job, run.workers, run.journal, out),
         Err(stop) => stopped(alloc, Status::of(stop)),
     }
 }
@@ -174,14 +192,22 @@ pub(crate) fn stopped(alloc: Global, status: Status) -> Ended
 }
 
 // Runs the job and writes the report of its run, or its journal.
-fn run_and_report<S: Sink>(alloc: Global, job: TextJob, journal: bool, out: &mut S) -> Ended
+fn run_and_report<S: Sink, R: Threads + Wait + Sync>(
+    rt: &R,
+    alloc: Global,
+    job: TextJob,
+    workers: u32,
+    journal: bool,
+    out: &mut S,
+) -> Ended
     requires job { IsTextJob job }
+    requires workers { (0 < workers) × (workers ≤ GREATEST_WORKERS) }
     requires nothing_held { (S.state out.old).held_back ≡ [] }
     ensures ends { JobEnds job result.status result.runs }
     ensures reported { Reported S.state out.old out.new result.status journal result.runs result.written }
     ensures no_conclusion { result.conclusion ≡ None }
 {
-    let Ok(KeptRuns { runs, reason }) = kept_runs(alloc, job) else {
+    let Ok(KeptRuns { runs, reason }) = kept_runs(rt, alloc, job, workers) else {
         return stopped(alloc, Status::NoMemory);
     };
     match deliver_runs(alloc, out, runs.as_slice(), journal) {
@@ -223,13 +249,19 @@ struct KeptRuns {
     reason: Reason,
 }
 
-// The run of the job, kept in a list.
-fn kept_runs(alloc: Global, job: TextJob) -> Result<KeptRuns, NoMemory>
-    requires { IsTextJob job }
+// The run of the job by so many workers, kept in a list.
+fn kept_runs<R: Threads + Wait + Sync>(
+    rt: &R,
+    alloc: Global,
+    job: TextJob,
+    workers: u32,
+) -> Result<KeptRuns, NoMemory>
+    requires job { IsTextJob job }
+    requires workers { (0 < workers) × (workers ≤ GREATEST_WORKERS) }
     ensures { IfOk result (λ kept. KeptOnce job kept.runs kept.reason) }
 {
     let job = Arc::new(alloc, job)?;
-    let run = run_alone(alloc, job)?;
+    let run = run_by(rt, alloc, job, workers)?;
     let reason = reason_of(alloc, &run)?;
     let mut runs = List::new(alloc);
     runs.push(run)?;

@@ -11,7 +11,7 @@ use graph_file::read_graph;
 use graph_plans::{Plan, no_source};
 use outside_io::{Bytes, Found, List, Texts, TextsFault};
 use std::alloc::Global;
-use std::sync::Arc;
+use std::sync::{Arc, Wait};
 use text_ops::Text;
 use text_tasks::{TextJob, TextTable, first_job};
 
@@ -23,7 +23,8 @@ pub const TEXT_LIMIT: u64 = 16_777_215;
 
 /// The job that a graph file asks for, with its texts read in the order in which they are first named, and at most
 /// so many starts. An `Err` is the first thing that stops the call.
-pub fn prepare<F: Texts>(
+pub fn prepare<F: Texts, R: Wait>(
+    rt: &R,
     alloc: Global,
     texts: &mut F,
     file: &[u8],
@@ -38,7 +39,7 @@ pub fn prepare<F: Texts>(
 {
     let bytes = read_named(alloc, texts, file, FILE_LIMIT)?;
     let plan = read_plan(alloc, bytes.as_slice())?;
-    let table = read_texts(alloc, texts, plan.texts.as_slice())?;
+    let table = read_texts(rt, alloc, texts, plan.texts.as_slice())?;
     let plan = Arc::new(alloc, plan)?;
     let table = Arc::new(alloc, table)?;
     Ok(first_job(plan, table, limit))
@@ -93,15 +94,20 @@ pub(crate) fn plan_in(alloc: Global, bytes: &[u8]) -> Result<Plan, Stop>
 }
 
 // The texts of these names.
-fn read_texts<F: Texts>(alloc: Global, texts: &mut F, names: &[Bytes]) -> Result<TextTable, Stop>
+fn read_texts<F: Texts, R: Wait>(
+    rt: &R,
+    alloc: Global,
+    texts: &mut F,
+    names: &[Bytes],
+) -> Result<TextTable, Stop>
     ensures are { IfOk result (TextsAre (F.held texts.old) names.now) }
     ensures stops { IfErr result (StopsAtText (F.held texts.old) names.now) }
     ensures stays { F.held texts.new ≡ F.held texts.old }
     ensures counts { CountsReads (F.faults texts.old) (F.faults texts.new) result }
 {
-    let mut table = TextTable::new(alloc);
+    let mut table = TextTable::new(alloc)?;
     for name in names {
-        if let Err(stop) = add_text(alloc, texts, &mut table, name) {
+        if let Err(stop) = add_text(rt, alloc, texts, &mut table, name) {
             return Err(stop);
         }
     }
@@ -109,7 +115,8 @@ fn read_texts<F: Texts>(alloc: Global, texts: &mut F, names: &[Bytes]) -> Result
 }
 
 // Adds the text of a name, with an end to its last line.
-fn add_text<F: Texts>(
+fn add_text<F: Texts, R: Wait>(
+    rt: &R,
     alloc: Global,
     texts: &mut F,
     table: &mut TextTable,
@@ -121,6 +128,6 @@ fn add_text<F: Texts>(
     ensures counts { CountsReads (F.faults texts.old) (F.faults texts.new) result }
 {
     let bytes = read_named(alloc, texts, name.as_slice(), TEXT_LIMIT)?;
-    table.add(Text::from_bytes(alloc, bytes)?)?;
+    table.add(rt, Text::from_bytes(alloc, bytes)?)?;
     Ok(())
 }

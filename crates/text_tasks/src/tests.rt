@@ -8,6 +8,7 @@ use legal_run::Why;
 use outside_io::List;
 use run_frame::{Answer, Done, Job, JobError};
 use std::alloc::Global;
+use std::sync::Wait;
 use std::test::Fail;
 
 // The parts of a lone text, and of several.
@@ -35,8 +36,13 @@ fn chosen(answer: &Answer) -> Successors<'_> {
 
 // What the last task answers on these parts, which doesn't fault.
 #[tactic(auto, using(crate::proofs::PlanLemmas::worked_release))]
-fn answer(alloc: Global, step: Step<'_>, parts: [Part<'_>; 3]) -> Result<(Item, Answer), Fail> {
-    let job = job(alloc, op_of(alloc, step)?)?;
+fn answer<R: Wait>(
+    rt: &R,
+    alloc: Global,
+    step: Step<'_>,
+    parts: [Part<'_>; 3],
+) -> Result<(Item, Answer), Fail> {
+    let job = job(rt, alloc, op_of(alloc, step)?)?;
     match job.run(alloc, 3, &parts_of(alloc, parts)?) {
         Ok(done) => value(done),
         Err(_) => Err(Fail::new("no value")),
@@ -52,8 +58,13 @@ fn value(done: Done<TextJob>) -> Result<(Item, Answer), Fail> {
 
 // Why the last task gives no value on these parts.
 #[tactic(auto, using(crate::proofs::PlanLemmas::worked_release))]
-fn fault(alloc: Global, step: Step<'_>, parts: [Part<'_>; 3]) -> Result<JobError, Fail> {
-    let job = job(alloc, op_of(alloc, step)?)?;
+fn fault<R: Wait>(
+    rt: &R,
+    alloc: Global,
+    step: Step<'_>,
+    parts: [Part<'_>; 3],
+) -> Result<JobError, Fail> {
+    let job = job(rt, alloc, op_of(alloc, step)?)?;
     match job.run(alloc, 3, &parts_of(alloc, parts)?) {
         Ok(done) => {
             value(done)?;
@@ -196,7 +207,7 @@ fn gives_values_and_answers_written_by_hand(rt: HostRuntime) -> Result<(), Fail>
         ),
     ];
     for (step, parts, text, successors) in table {
-        let (item, answer) = answer(rt.alloc(), step, parts)?;
+        let (item, answer) = answer(&rt, rt.alloc(), step, parts)?;
         assert_eq!(rt; item.text().as_slice(), text, "{step:?} of {parts:?}");
         assert_eq!(rt; chosen(&answer), successors, "{step:?} of {parts:?}");
     }
@@ -223,15 +234,15 @@ fn faults_where_a_value_is_too_long(rt: HostRuntime) -> Result<(), Fail> {
         Step::Route(&[]),
     ];
     for step in long {
-        let error = fault(rt.alloc(), step, two)?;
+        let error = fault(&rt, rt.alloc(), step, two)?;
         assert_eq!(rt; error, JobError::Fault(Why::Long(18_874_368)), "{step:?}");
     }
-    let (item, _) = answer(rt.alloc(), Step::Head(1), two)?;
+    let (item, _) = answer(&rt, rt.alloc(), Step::Head(1), two)?;
     assert_eq!(rt; item.text().len(), 9_437_184);
-    let (item, _) = answer(rt.alloc(), Step::Count, two)?;
+    let (item, _) = answer(&rt, rt.alloc(), Step::Count, two)?;
     assert_eq!(rt; item.text().as_slice(), b"2\n".as_slice());
     // Each of the halves has the same key: the first line is joined with the rest of the second one.
-    let error = fault(rt.alloc(), Step::Match, two)?;
+    let error = fault(&rt, rt.alloc(), Step::Match, two)?;
     assert_eq!(rt; error, JobError::Fault(Why::Long(18_874_366)));
     Ok(())
 }

@@ -4,7 +4,7 @@ use std::test::Fail;
 
 #[test]
 fn refuses_words(rt: HostRuntime) -> Result<(), Fail> {
-    let refused: [&[&str]; 22] = [
+    let refused: [&[&str]; 29] = [
         &[],
         &[""],
         &["run"],
@@ -14,7 +14,14 @@ fn refuses_words(rt: HostRuntime) -> Result<(), Fail> {
         &["walk", "g"],
         &["run", "g", "g"],
         &["run", "g", "--help"],
+        &["run", "g", "--workers"],
+        &["run", "g", "--workers", ""],
         &["run", "g", "--workers", "0"],
+        &["run", "g", "--workers", "17"],
+        &["run", "g", "--workers", "+4"],
+        &["run", "g", "--workers", "00000004"],
+        &["run", "g", "--workers", "4", "--workers", "4"],
+        &["check", "g", "--workers", "4"],
         &["run", "g", "--limit"],
         &["run", "g", "--limit", ""],
         &["run", "g", "--limit", "0"],
@@ -34,7 +41,7 @@ fn refuses_words(rt: HostRuntime) -> Result<(), Fail> {
             ..run(COUNT.as_bytes(), b"")
         };
         assert_eq!(rt;
-            shown(rt.alloc(), &call)?.as_str(),
+            shown(&rt, rt.alloc(), &call)?.as_str(),
             "2 written; ; flow: bad words\n"
         );
     }

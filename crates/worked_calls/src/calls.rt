@@ -4,6 +4,8 @@ use flow_run::{Outcome, flow_main};
 use outside_io::{Bytes, FailAt, List, MemorySink, MemoryTexts, NoMemory};
 use std::alloc::{AllocError, Global};
 use std::str;
+use std::sync::Wait;
+use std::thread::Threads;
 
 // A read of the text `t` and the number of its lines.
 pub const COUNT: &str = r#"{"tasks":[
@@ -88,14 +90,15 @@ fn sink(alloc: Global, failing: &[FailAt]) -> Result<MemorySink, NoMemory> {
 }
 
 // Calls the program, and shows how the call ends.
-fn shown_end(
+fn shown_end<R: Threads + Wait + Sync>(
+    rt: &R,
     alloc: Global,
     words: &[String],
     texts: &mut MemoryTexts,
     out: &mut MemorySink,
     notes: &mut MemorySink,
 ) -> Result<String, AllocError> {
-    let outcome = flow_main(alloc, words, texts, out, notes, Vec::new(alloc));
+    let outcome = flow_main(rt, alloc, words, texts, out, notes, Vec::new(alloc));
     shown_outcome(alloc, &outcome)
 }
 
@@ -105,11 +108,22 @@ fn joined(alloc: Global, first: &str, second: &str, third: &str) -> Result<Strin
 }
 
 // How the call ends, then what the output took, then what standard error took.
-pub fn shown(alloc: Global, call: &Call<'_>) -> Result<String, NoMemory> {
+pub fn shown<R: Threads + Wait + Sync>(
+    rt: &R,
+    alloc: Global,
+    call: &Call<'_>,
+) -> Result<String, NoMemory> {
     let words = strings(alloc, call.words)?;
     let mut texts = texts_of(alloc, call)?;
     let mut out = sink(alloc, call.failing_puts)?;
     let mut notes = sink(alloc, call.failing_notes)?;
-    let end = shown_end(alloc, words.as_slice(), &mut texts, &mut out, &mut notes)?;
+    let end = shown_end(
+        rt,
+        alloc,
+        words.as_slice(),
+        &mut texts,
+        &mut out,
+        &mut notes,
+    )?;
     Ok(joined(alloc, end.as_str(), shown_bytes(&out), shown_bytes(&notes))?)
 }

@@ -55,7 +55,7 @@ fn finds_what_goes_wrong(rt: HostRuntime) -> Result<(), Fail> {
         (br#"{"tasks":[]}"#, "0 written; findings 0\n; "),
     ];
     for (graph, expected) in found {
-        assert_eq!(rt; shown(rt.alloc(), &check(graph))?.as_str(), expected);
+        assert_eq!(rt; shown(&rt, rt.alloc(), &check(graph))?.as_str(), expected);
     }
     Ok(())
 }
@@ -75,16 +75,16 @@ fn refuses_files_as_runs_do(rt: HostRuntime) -> Result<(), Fail> {
         ),
     ] {
         assert_eq!(rt;
-            shown(rt.alloc(), &run(graph.as_bytes(), b""))?.as_str(),
+            shown(&rt, rt.alloc(), &run(graph.as_bytes(), b""))?.as_str(),
             expected
         );
         assert_eq!(rt;
-            shown(rt.alloc(), &check(graph.as_bytes()))?.as_str(),
+            shown(&rt, rt.alloc(), &check(graph.as_bytes()))?.as_str(),
             expected
         );
     }
     assert_eq!(rt;
-        shown(rt.alloc(), &run(CIRCLE, b""))?.as_str(),
+        shown(&rt, rt.alloc(), &run(CIRCLE, b""))?.as_str(),
         "4 written; ; flow: no source\n"
     );
     let missing = Call {
@@ -92,7 +92,7 @@ fn refuses_files_as_runs_do(rt: HostRuntime) -> Result<(), Fail> {
         ..check(CIRCLE)
     };
     assert_eq!(rt;
-        shown(rt.alloc(), &missing)?.as_str(),
+        shown(&rt, rt.alloc(), &missing)?.as_str(),
         "5 written; ; flow: no text h\n"
     );
     let failing = Call {
@@ -100,7 +100,7 @@ fn refuses_files_as_runs_do(rt: HostRuntime) -> Result<(), Fail> {
         ..check(CIRCLE)
     };
     assert_eq!(rt;
-        shown(rt.alloc(), &failing)?.as_str(),
+        shown(&rt, rt.alloc(), &failing)?.as_str(),
         "6 written; ; flow: read fault on g\n"
     );
     Ok(())
@@ -114,7 +114,7 @@ fn reads_no_text(rt: HostRuntime) -> Result<(), Fail> {
         ..check(COUNT.as_bytes())
     };
     assert_eq!(rt;
-        shown(rt.alloc(), &call)?.as_str(),
+        shown(&rt, rt.alloc(), &call)?.as_str(),
         "0 written; findings 0\n; "
     );
     Ok(())
@@ -136,7 +136,7 @@ fn tells_failing_puts(rt: HostRuntime) -> Result<(), Fail> {
             failing_puts: &[FailAt { call, taken }],
             ..check(CIRCLE)
         };
-        assert_eq!(rt; shown(rt.alloc(), &call)?.as_str(), want);
+        assert_eq!(rt; shown(&rt, rt.alloc(), &call)?.as_str(), want);
     }
     Ok(())
 }

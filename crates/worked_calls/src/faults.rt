@@ -28,7 +28,7 @@ fn tells_missing_texts(rt: HostRuntime) -> Result<(), Fail> {
         (no_text, "5 written; ; flow: no text v\n"),
         (neither_text, "5 written; ; flow: no text w\n"),
     ] {
-        assert_eq!(rt; shown(rt.alloc(), &call)?.as_str(), want);
+        assert_eq!(rt; shown(&rt, rt.alloc(), &call)?.as_str(), want);
     }
     Ok(())
 }
@@ -44,7 +44,7 @@ fn tells_failing_reads(rt: HostRuntime) -> Result<(), Fail> {
             failing_reads: &[read],
             ..counting()
         };
-        assert_eq!(rt; shown(rt.alloc(), &call)?.as_str(), want);
+        assert_eq!(rt; shown(&rt, rt.alloc(), &call)?.as_str(), want);
     }
     Ok(())
 }
@@ -62,7 +62,7 @@ fn tells_failing_puts(rt: HostRuntime) -> Result<(), Fail> {
             failing_puts: &[FailAt { call, taken }],
             ..counting()
         };
-        assert_eq!(rt; shown(rt.alloc(), &call)?.as_str(), want);
+        assert_eq!(rt; shown(&rt, rt.alloc(), &call)?.as_str(), want);
     }
     Ok(())
 }
@@ -75,7 +75,7 @@ fn puts_no_empty_value(rt: HostRuntime) -> Result<(), Fail> {
         ..run(READ.as_bytes(), b"")
     };
     assert_eq!(rt;
-        shown(rt.alloc(), &call)?.as_str(),
+        shown(&rt, rt.alloc(), &call)?.as_str(),
         "0 written, run of 2; == a\n; "
     );
     Ok(())
@@ -100,7 +100,7 @@ fn tells_failing_notes(rt: HostRuntime) -> Result<(), Fail> {
             failing_notes: &[FailAt { call: 0, taken }],
             ..call
         };
-        assert_eq!(rt; shown(rt.alloc(), &call)?.as_str(), want);
+        assert_eq!(rt; shown(&rt, rt.alloc(), &call)?.as_str(), want);
     }
     Ok(())
 }

@@ -2,7 +2,9 @@
 use crate::calls::{COUNT, Call, run, shown};
 use outside_io::NoMemory;
 use std::alloc::Global;
+use std::sync::Wait;
 use std::test::Fail;
+use std::thread::Threads;
 
 // Five lines.
 const FIVE: &str = "1\n2\n3\n4\n5\n";
@@ -77,15 +79,24 @@ const LIMIT: &str = r#"{"tasks":[
     {"name":"c","op":"ifmore","n":2,"to":["c","d"]},
     {"name":"d","op":"pass"}]}"#;
 
-// The first of these calls that is shown in another way, or nothing.
-fn first_difference<'a>(
+// How many workers a run has.
+const WORKERS: [&str; 3] = ["1", "4", "16"];
+
+// The first of these calls that is shown in another way with some number of workers, or nothing.
+fn first_difference<'a, R: Threads + Wait + Sync>(
+    rt: &R,
     alloc: Global,
     calls: &[(&'a str, &str, &str)],
 ) -> Result<&'a str, NoMemory> {
     for (graph, text, want) in calls {
-        let seen = shown(alloc, &run(graph.as_bytes(), text.as_bytes()))?;
-        if seen.as_str() != *want {
-            return Ok(*graph);
+        for workers in WORKERS {
+            let call = Call {
+                words: &["run", "g", "--workers", workers],
+                ..run(graph.as_bytes(), text.as_bytes())
+            };
+            if shown(rt, alloc, &call)?.as_str() != *want {
+                return Ok(*graph);
+            }
         }
     }
     Ok("")
@@ -101,7 +112,7 @@ fn runs_graphs(rt: HostRuntime) -> Result<(), Fail> {
         (DIAMOND, "x\ny\n", "0 written, run of 8; == d\nx\ny\n; "),
         (DOUBLE_EDGE, "x\n", "0 written, run of 4; == b\nx\nx\n; "),
     ];
-    assert_eq!(rt; first_difference(rt.alloc(), &calls)?, "");
+    assert_eq!(rt; first_difference(&rt, rt.alloc(), &calls)?, "");
     Ok(())
 }
 
@@ -120,7 +131,25 @@ fn runs_conditions(rt: HostRuntime) -> Result<(), Fail> {
             "0 written, run of 10; == x\na\nb\n== y\na\nb\n== z\na\nb\n-- w\n; ",
         ),
     ];
-    assert_eq!(rt; first_difference(rt.alloc(), &calls)?, "");
+    assert_eq!(rt; first_difference(&rt, rt.alloc(), &calls)?, "");
+    Ok(())
+}
+
+// More workers than tasks, and a number with zeros before it.
+#[test]
+fn takes_any_number_of_workers(rt: HostRuntime) -> Result<(), Fail> {
+    for workers in ["1", "2", "7", "16", "0000016"] {
+        for (graph, want) in [
+            (EMPTY, "0 written, run of 0; ; "),
+            (COUNT, "0 written, run of 4; == b\n2\n; "),
+        ] {
+            let call = Call {
+                words: &["run", "--workers", workers, "g"],
+                ..run(graph.as_bytes(), b"x\ny\n")
+            };
+            assert_eq!(rt; shown(&rt, rt.alloc(), &call)?.as_str(), want);
+        }
+    }
     Ok(())
 }
 
@@ -140,11 +169,13 @@ fn stops_at_limits(rt: HostRuntime) -> Result<(), Fail> {
             "8 written, run of 21; -- d\n!! limit 10\n; flow: limit 10\n",
         ),
     ] {
-        let call = Call {
-            words: &["run", "g", "--limit", limit],
-            ..run(graph.as_bytes(), b"x\ny\nz\n")
-        };
-        assert_eq!(rt; shown(rt.alloc(), &call)?.as_str(), want);
+        for workers in WORKERS {
+            let call = Call {
+                words: &["run", "g", "--limit", limit, "--workers", workers],
+                ..run(graph.as_bytes(), b"x\ny\nz\n")
+            };
+            assert_eq!(rt; shown(&rt, rt.alloc(), &call)?.as_str(), want);
+        }
     }
     Ok(())
 }

@@ -22,7 +22,7 @@ fn writes_a_journal_in_place_of_a_report(rt: HostRuntime) -> Result<(), Fail> {
         ..run(COUNT.as_bytes(), b"one\ntwo\n")
     };
     assert_eq!(rt;
-        shown(rt.alloc(), &call)?.as_str(),
+        shown(&rt, rt.alloc(), &call)?.as_str(),
         "0 written, run of 4; flow journal 2\nstart 0 source -\nend 0 0 plain\nstart 1 strong 1\nend 2 - plain\n; "
     );
     Ok(())
@@ -49,7 +49,7 @@ fn judges_journals(rt: HostRuntime) -> Result<(), Fail> {
         (b"", "12 written; ; flow: bad journal line 1\n"),
     ];
     for (journal, expected) in judged {
-        assert_eq!(rt; shown(rt.alloc(), &judge(journal))?.as_str(), expected);
+        assert_eq!(rt; shown(&rt, rt.alloc(), &judge(journal))?.as_str(), expected);
     }
     Ok(())
 }
@@ -61,7 +61,7 @@ fn judges_by_the_limit(rt: HostRuntime) -> Result<(), Fail> {
         ..judge(WHOLE)
     };
     assert_eq!(rt;
-        shown(rt.alloc(), &call)?.as_str(),
+        shown(&rt, rt.alloc(), &call)?.as_str(),
         "11 written; breaks at 2: over limit\n; flow: not legal at 2\n"
     );
     Ok(())
@@ -76,7 +76,7 @@ fn tells_breaks_before_failed_writes(rt: HostRuntime) -> Result<(), Fail> {
         ..judge(WHOLE)
     };
     assert_eq!(rt;
-        shown(rt.alloc(), &complete)?.as_str(),
+        shown(&rt, rt.alloc(), &complete)?.as_str(),
         "7 cut; com; flow: write fault\n"
     );
     let broken = Call {
@@ -84,7 +84,7 @@ fn tells_breaks_before_failed_writes(rt: HostRuntime) -> Result<(), Fail> {
         ..judge(b"flow journal 2\nend 0 - plain\n")
     };
     assert_eq!(rt;
-        shown(rt.alloc(), &broken)?.as_str(),
+        shown(&rt, rt.alloc(), &broken)?.as_str(),
         "11 cut; bre; flow: not legal at 0\n"
     );
     Ok(())

@@ -25,7 +25,7 @@ fn holds_texts_to_their_limits(rt: HostRuntime) -> Result<(), Fail> {
         let graph = padded(alloc, COUNT.as_bytes(), graph_len)?;
         let text = padded(alloc, b"", text_len)?;
         let call = run(graph.as_slice(), text.as_slice());
-        assert_eq!(rt; shown(alloc, &call)?.as_str(), want);
+        assert_eq!(rt; shown(&rt, alloc, &call)?.as_str(), want);
     }
     Ok(())
 }

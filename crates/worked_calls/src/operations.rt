@@ -2,7 +2,9 @@
 use crate::calls::{Call, run, shown};
 use outside_io::{Bytes, List, NoMemory};
 use std::alloc::{AllocError, Global};
+use std::sync::Wait;
 use std::test::Fail;
+use std::thread::Threads;
 
 // Operations with their fields, the text and the value, in which `|` ends a line.
 const ON_TEXTS: &str = r#""pass" -> a|b| -> a|b|
@@ -43,20 +45,30 @@ fn wanted(alloc: Global, value: &str) -> Result<String, AllocError> {
 }
 
 // Whether the operation on a row gives the value on it.
-fn is_as_told(alloc: Global, op: &str, text: &str, value: &str) -> Result<bool, NoMemory> {
+fn is_as_told<R: Threads + Wait + Sync>(
+    rt: &R,
+    alloc: Global,
+    op: &str,
+    text: &str,
+    value: &str,
+) -> Result<bool, NoMemory> {
     let text = text.replace(alloc, "|", "\n")?;
     let value = value.replace(alloc, "|", "\n")?;
     let graph = graph(alloc, op)?;
-    let seen = shown(alloc, &run(graph.as_bytes(), text.as_bytes()))?;
+    let seen = shown(rt, alloc, &run(graph.as_bytes(), text.as_bytes()))?;
     Ok(seen.as_str() == wanted(alloc, value.as_str())?.as_str())
 }
 
 // The first row that isn't as it says, or nothing.
-fn first_difference(alloc: Global, rows: &'static str) -> Result<&'static str, NoMemory> {
+fn first_difference<R: Threads + Wait + Sync>(
+    rt: &R,
+    alloc: Global,
+    rows: &'static str,
+) -> Result<&'static str, NoMemory> {
     for row in rows.split('\n') {
         let (op, rest) = row.split_once(" -> ").unwrap_or((row, ""));
         let (text, value) = rest.split_once(" -> ").unwrap_or((rest, ""));
-        if !is_as_told(alloc, op, text, value)? {
+        if !is_as_told(rt, alloc, op, text, value)? {
             return Ok(row);
         }
     }
@@ -65,7 +77,7 @@ fn first_difference(alloc: Global, rows: &'static str) -> Result<&'static str, N
 
 #[test]
 fn does_operations(rt: HostRuntime) -> Result<(), Fail> {
-    assert_eq!(rt; first_difference(rt.alloc(), ON_TEXTS)?, "");
+    assert_eq!(rt; first_difference(&rt, rt.alloc(), ON_TEXTS)?, "");
     Ok(())
 }
 
@@ -76,7 +88,7 @@ fn matches_texts(rt: HostRuntime) -> Result<(), Fail> {
         ..run(MATCH.as_bytes(), b"10 a\n20 b\n10 c\n30\n")
     };
     assert_eq!(rt;
-        shown(rt.alloc(), &call)?.as_str(),
+        shown(&rt, rt.alloc(), &call)?.as_str(),
         "0 written, run of 6; == both\n10 a x y\n20 b\n10 c x y\n30 z\n; "
     );
     Ok(())
@@ -96,7 +108,7 @@ fn letters(alloc: Global, lines: usize) -> Result<Bytes, NoMemory> {
 fn faults_on_long_values(rt: HostRuntime) -> Result<(), Fail> {
     let text = letters(rt.alloc(), HALF)?;
     assert_eq!(rt;
-        shown(rt.alloc(), &run(TWICE.as_bytes(), text.as_slice()))?.as_str(),
+        shown(&rt, rt.alloc(), &run(TWICE.as_bytes(), text.as_slice()))?.as_str(),
         "9 written, run of 4; -- b\n!! fault b: long 18874368\n; flow: fault b: long 18874368\n"
     );
     Ok(())

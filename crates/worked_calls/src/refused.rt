@@ -3,7 +3,9 @@
 use crate::calls::{run, shown};
 use outside_io::NoMemory;
 use std::alloc::{AllocError, Global};
+use std::sync::Wait;
 use std::test::Fail;
+use std::thread::Threads;
 
 // A few of each kind of refusal.
 const FILES: &str = r#"[ -> not JSON
@@ -33,10 +35,14 @@ fn refused_call(alloc: Global, reason: &str) -> Result<String, AllocError> {
 }
 
 // The first of these files that isn't refused as its line says, with what was seen; or nothing.
-fn first_difference(alloc: Global, rows: &str) -> Result<String, NoMemory> {
+fn first_difference<R: Threads + Wait + Sync>(
+    rt: &R,
+    alloc: Global,
+    rows: &str,
+) -> Result<String, NoMemory> {
     for row in rows.split('\n') {
         let (file, reason) = row.split_once(" -> ").unwrap_or((row, "no reason"));
-        let seen = shown(alloc, &run(file.as_bytes(), b""))?;
+        let seen = shown(rt, alloc, &run(file.as_bytes(), b""))?;
         if seen.as_str() != refused_call(alloc, reason)?.as_str() {
             return Ok(format!(in alloc; "{file}: {}", seen.as_str())?);
         }
@@ -46,7 +52,7 @@ fn first_difference(alloc: Global, rows: &str) -> Result<String, NoMemory> {
 
 #[test]
 fn refuses_files(rt: HostRuntime) -> Result<(), Fail> {
-    assert_eq!(rt; first_difference(rt.alloc(), FILES)?.as_str(), "");
+    assert_eq!(rt; first_difference(&rt, rt.alloc(), FILES)?.as_str(), "");
     Ok(())
 }
 
@@ -57,7 +63,7 @@ fn refuses_bytes_that_are_no_text(rt: HostRuntime) -> Result<(), Fail> {
     let files: [&[u8]; 3] = [&[255], &[b'"', 192, b'"'], &brackets];
     for file in files {
         let want = refused_call(alloc, "not JSON")?;
-        assert_eq!(rt; shown(alloc, &run(file, b""))?.as_str(), want.as_str());
+        assert_eq!(rt; shown(&rt, alloc, &run(file, b""))?.as_str(), want.as_str());
     }
     Ok(())
 }
@@ -66,7 +72,7 @@ fn refuses_bytes_that_are_no_text(rt: HostRuntime) -> Result<(), Fail> {
 fn refuses_graphs_without_a_source(rt: HostRuntime) -> Result<(), Fail> {
     for file in WITHOUT_SOURCE {
         assert_eq!(rt;
-            shown(rt.alloc(), &run(file.as_bytes(), b""))?.as_str(),
+            shown(&rt, rt.alloc(), &run(file.as_bytes(), b""))?.as_str(),
             "4 written; ; flow: no source\n"
         );
     }

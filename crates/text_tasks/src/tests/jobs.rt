@@ -13,7 +13,7 @@ use graph_plans::{Graph, Op, Plan, TextOp};
 use join_words::{Given, Ins};
 use outside_io::{Bytes, List, NoMemory};
 use std::alloc::Global;
-use std::sync::Arc;
+use std::sync::{Arc, Wait};
 use std::test::Fail;
 use task_graph::{BuildError, Net, NetBuilder, Shape};
 use text_ops::Text;
@@ -164,12 +164,12 @@ fn given(alloc: Global, part: Part<'_>) -> Result<Given<Item>, Fail> {
 
 /// A job of which the last task has this operation.
 #[tactic(auto, using(crate::proofs::PlanLemmas::worked_is_work))]
-pub(super) fn job(alloc: Global, op: Op) -> Result<TextJob, Fail>
+pub(super) fn job<R: Wait>(rt: &R, alloc: Global, op: Op) -> Result<TextJob, Fail>
     requires { IsOp 2 op }
     ensures { IfOk result (λ job. job ≡ TextJob.Graph (worked_work op)) }
 {
     let plan = Arc::new(alloc, plan(alloc, op)?)?;
-    let texts = Arc::new(alloc, texts(alloc)?)?;
+    let texts = Arc::new(alloc, texts(rt, alloc)?)?;
     Ok(first_job(plan, texts, 10))
 }
 
@@ -221,12 +221,12 @@ fn text_names(alloc: Global) -> Result<List<Bytes>, NoMemory>
     Ok(names)
 }
 
-fn texts(alloc: Global) -> Result<TextTable, Fail>
+fn texts<R: Wait>(rt: &R, alloc: Global) -> Result<TextTable, Fail>
     ensures { IfOk result (λ texts. texts ≡ worked_texts) }
 {
-    let mut texts = TextTable::new(alloc);
-    texts.add(text_of(alloc, b"x\n")?)?;
-    texts.add(text_of(alloc, b"y\nz\n")?)?;
+    let mut texts = TextTable::new(alloc)?;
+    texts.add(rt, text_of(alloc, b"x\n")?)?;
+    texts.add(rt, text_of(alloc, b"y\nz\n")?)?;
     Ok(texts)
 }
 
