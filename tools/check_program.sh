@@ -45,12 +45,16 @@ copy_or_empty() {
 
 # Each example, called from its folder. A file that isn't there stands for no bytes, or for code 0.
 for folder in examples/*/; do
-    (cd "$folder" && call run graph.json)
     copy_or_empty "$folder/expected.txt" "$seen/wanted_out"
     copy_or_empty "$folder/expected.err" "$seen/wanted_notes"
     code=0
     if [[ -f $folder/expected.code ]]; then code=$(cat "$folder/expected.code"); fi
+    (cd "$folder" && call run graph.json)
     compare "$folder" "$code" "$seen/wanted_out" "$seen/wanted_notes"
+    for workers in 1 4 16; do
+        (cd "$folder" && call run graph.json --workers "$workers")
+        compare "$folder with $workers workers" "$code" "$seen/wanted_out" "$seen/wanted_notes"
+    done
     if [[ -f $folder/findings.txt ]]; then
         (cd "$folder" && call check graph.json)
         compare "the check of $folder" 0 "$folder/findings.txt" /dev/null
@@ -77,7 +81,13 @@ refused 2 'flow: bad words' run "$count" --limit
 refused 2 'flow: bad words' run "$count" --limit 0
 refused 2 'flow: bad words' run "$count" --limit 1x
 refused 2 'flow: bad words' run "$count" --limit 1 --limit 1
-refused 2 'flow: bad words' run "$count" --workers 4
+refused 2 'flow: bad words' run "$count" --workers
+refused 2 'flow: bad words' run "$count" --workers 0
+refused 2 'flow: bad words' run "$count" --workers 17
+refused 2 'flow: bad words' run "$count" --workers +4
+refused 2 'flow: bad words' run "$count" --workers 00000004
+refused 2 'flow: bad words' run "$count" --workers 4 --workers 4
+refused 2 'flow: bad words' check "$count" --workers 4
 refused 2 'flow: bad words' run "$count" --help
 refused 2 'flow: bad words' check
 refused 2 'flow: bad words' check "$count" "$count"
