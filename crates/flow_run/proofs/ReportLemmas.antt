@@ -16,7 +16,8 @@ use Rattle.task_graph.specs.NetRows.{NetRows}
 use Rattle.run_frame.specs.NestedRule.{job_of, journal_of}
 use Rattle.run_frame.specs.declared.run.FrameRun.{FrameRun, out-FrameRun}
 use Rattle.text_tasks.specs.declared.job.TextJob.{TextJob}
-use Rattle.text_tasks.specs.JobMeaning.{net_of, names_of}
+use Rattle.text_tasks.specs.declared.job.TextJob.TheVariants.{Graph}
+use Rattle.text_tasks.specs.JobMeaning.{IsTextJob, net_of, names_of}
 use Rattle.run_frame.specs.LastEnds.{ended_at, last_before, last_end, last_value}
 use Rattle.run_frame.proofs.EndsLemmas.{counting_more, last_before_more}
 use Rattle.flow_run.specs.Output.{task_part, task_report}
@@ -59,6 +60,10 @@ last_inside journal t (suc n) k is =
     by_test : (hit : Bool) (old : Option ℕ) → (if hit then Some n else old) ≡ Some k → (old ≡ Some k → k < n) → k < suc n
     by_test true old is inside = let same : n ≡ k = ap (λ o. option_map_or (λ place. place) o n) is in omega arith
     by_test false old is inside = omega (arith, inside is)
+
+-- Each task of a job's net has a name.
+pub named_tasks : (job : TextJob) → IsTextJob job → length (names_of job) ≡ length (net_of job).tasks
+named_tasks (Graph work) is = is.plan.names
 
 -- The last End of a task stands in the journal.
 pub end_inside : (journal : List Entry) (t count : ℕ) (end : Option ℕ) → end ≡ last_end journal t → count ≡ length journal → IfSome end (λ n. n < count)

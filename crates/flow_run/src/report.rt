@@ -57,12 +57,13 @@ fn put_tasks<S: Sink>(alloc: Global, out: &mut S, run: &FrameRun<TextJob>) -> Re
     ensures { Writes (S.state out.old) (S.state out.new) (report (names_of (job_of run.now)) (net_of (job_of run.now)) (journal_of run.now) (values_of run.now)) result }
 {
     let net = run.job.net();
+    let names = run.job.names();
     let tasks = net.tasks().len();
     let ends = last_ends(alloc, &run.journal, tasks)?;
     let values = values_by_place(alloc, run.values.as_slice(), run.journal.len())?;
     for task in 0..tasks as u32 {
         let value = last_value(&ends, &values, task);
-        if let Err(fault) = put_task(alloc, out, net, task, task_name(&run.job, task), value) {
+        if let Err(fault) = put_task(alloc, out, net, task, task_name(names, task), value) {
             return Err(fault);
         }
     }
@@ -87,13 +88,12 @@ fn last_value<'a>(
     }
 }
 
-// The name of a task of the job's net.
-fn task_name(job: &TextJob, task: u32) -> &[u8]
-    requires { task < length (net_of job.now).tasks }
-    ensures { result.now ≡ slice_index_or (names_of job.now) task [] }
+// The name of a task.
+fn task_name(names: &[Bytes], task: u32) -> &[u8]
+    requires { task < length names.now }
+    ensures { result.now ≡ slice_index_or names.now task [] }
 {
-    let TextJob::Graph(_graph) = job;
-    job.names()[task as usize].as_slice()
+    names[task as usize].as_slice()
 }
 
 // Writes what the report has of a task.

@@ -5,16 +5,24 @@ use Rattle.outside_io.specs.Sink.{Accepts, Writes}
 use Rattle.run_frame.specs.LastEnds.{last_end}
 use Rattle.run_frame.specs.NestedRule.{job_of, journal_of}
 use Rattle.run_frame.specs.Runs.{value_at, values_of}
-use Rattle.text_tasks.specs.JobMeaning.{net_of, names_of}
+use Rattle.text_tasks.specs.JobMeaning.{IsTextJob, net_of, names_of}
 use Rattle.flow_run.specs.Output.{task_part}
-use Rattle.flow_run.proofs.ReportLemmas.{end_inside, one_written, one_refused, part_is}
+use Rattle.flow_run.proofs.ReportLemmas.{end_inside, named_tasks, one_written, one_refused, part_is}
 use Rattle.flow_run.proofs.report.put_tasks.Goals as goal
 
 pub last_value-value-requires-clause-place : goal.last_value-value-requires-clause-place
 last_value-value-requires-clause-place g c =
-    let end : slice_index_or c.in_ok-ends.ends.items c.loop-task.task None ≡ last_end (journal_of c.args.run.now) c.loop-task.task = search rules in
-    let count : length c.in_ok-values.values.items ≡ length (journal_of c.args.run.now) = search rules in
+    let end : slice_index_or c.deref-in-loop-task.result.now c.loop-task.task None ≡ last_end (journal_of c.args.run.now) c.loop-task.task = search rules in
+    let count : length c.deref-in-loop-task-2.result.now ≡ length (journal_of c.args.run.now) = search rules in
     end_inside (journal_of c.args.run.now) c.loop-task.task _ _ end count
+
+pub task_name-requires : goal.task_name-requires
+task_name-requires g c =
+    let job = job_of c.args.run.now in
+    let held : IsTextJob job = search rules in
+    let counted : length (names_of job) ≡ length (net_of job).tasks = named_tasks job held in
+    let inside : c.loop-task.task < length (net_of job).tasks = search rules in
+    search (rules, counted, inside)
 
 pub loop-task-preserved : goal.loop-task-preserved
 loop-task-preserved g c =
