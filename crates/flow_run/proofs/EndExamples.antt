@@ -1,6 +1,6 @@
 -- How a call ends before and after its run, its judgement and its check, computed on a graph file `g` of one byte and a
 -- text `t` of two.
-use Rattle.std.proofs.Common.{◌≡◌, ℕ, zero, suc, ◌+◌, ◌<◌, ◌≤◌, Bool, List, [], ◌∷◌, ◌++◌, length, ◌⊎◌, Option, Some, None, true, false, inl, inr, refl, arith, ap, sym, subst, ◌∙◌, Result, Ok, Err}
+use Rattle.std.proofs.Common.{◌≡◌, ℕ, zero, suc, ◌+◌, ◌<◌, ◌≤◌, List, [], ◌∷◌, ◌++◌, length, Option, Some, None, true, false, inl, inr, refl, arith, ap, sym, subst, ◌∙◌, Result, Ok, Err}
 use Rattle.std.specs.Prelude.{if◌then◌else◌, bytes_eq, All, IsSomeAnd}
 use Rattle.std.specs.Io.KnownBytes.{append_known}
 use Rattle.std.proofs.lemmas.List.{length-append}
@@ -12,7 +12,7 @@ use Rattle.task_graph.specs.declared.net.Shape.TheVariants.{Plain}
 use Rattle.task_graph.specs.declared.net.TaskRow.{TaskRow}
 use Rattle.graph_plans.specs.PlanRows.{PlanRows}
 use Rattle.graph_plans.specs.Sources.{HasNoSource, NoSourceAnswer}
-use Rattle.graph_plans.specs.declared.spots.Spot.TheVariants.{File}
+use Rattle.graph_plans.specs.declared.spots.Spot.TheVariants.{File, Module, Task}
 use Rattle.graph_file.specs.declared.refusals.GraphError.{GraphError}
 use Rattle.graph_file.specs.declared.refusals.GraphError.TheVariants.{NotJson}
 use Rattle.graph_file.specs.PlanText.{PlanText, IsRefused}
@@ -37,7 +37,7 @@ use Rattle.command_line.specs.Requests.{asked_by, run as run_of, judge as judge_
 use Rattle.flow_run.specs.declared.conclusion.Conclusion.{Conclusion}
 use Rattle.flow_run.specs.declared.conclusion.Conclusion.TheVariants as conclusion
 use Rattle.flow_run.specs.declared.conclusion.GraphFindings.{GraphFindings}
-use Rattle.flow_run.specs.Requests.{Held, StopsAtName, IsTextOf, IsAdded, StopsAtText, HasStart, StopsAtBytes, StopsAtGraph, StopsBefore, HasPlan, IsRequestedJob, CountsReads, IsAtHand, file_limit, text_limit}
+use Rattle.flow_run.specs.Requests.{Held, StopsAtName, IsAdded, StopsAtText, HasStart, StopsAtBytes, StopsAtGraph, StopsBefore, HasPlan, IsRequestedJob, CountsReads, IsAtHand, file_limit, text_limit}
 use Rattle.flow_run.specs.Answers.{Run, IsAfterRun, RanOnce, KeptOnce, RunEnds, JobEnds, CallEnds, Reported, HaveRead, names_in, run_texts}
 use Rattle.flow_run.specs.Judging.{StopsAtJournal, StopsAtJournalText, StopsBeforeVerdict, JudgeEnds, CanBeJudged}
 use Rattle.flow_run.specs.Checking.{StopsBeforeFindings, EndsChecked, CheckEnds, CanBeChecked}
@@ -144,6 +144,12 @@ module _ (bytes : List ℕ) (plan : PlanRows) (stands : PlanText bytes plan) whe
       let both : ok_plan other ≡ ok_plan plan = sym is ∙ stands in
       let same : other ≡ plan = cc in
       source.top (subst (λ (p : PlanRows). HasNoSource p.top) same none)
+
+  stops_without_a_source_in_a_module : NoSourceAnswer plan (Some (Module 0)) → StopsAtBytes bytes (stop.NoSource (Module 0))
+  stops_without_a_source_in_a_module none = (plan, stands, none)
+
+no_source_in_a_task : (bytes : List ℕ) → ¬ StopsAtBytes bytes (stop.NoSource (Task 0))
+no_source_in_a_task bytes (plan, stands, none) = none
 
 memory_at_a_graph : (bytes : List ℕ) → StopsAtBytes bytes stop.NoMemory
 memory_at_a_graph bytes = tt

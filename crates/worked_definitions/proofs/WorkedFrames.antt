@@ -45,7 +45,7 @@ use Rattle.run_frame.specs.Runs.{IsFine}
 use Rattle.run_frame.specs.LastEnds.{last_before, last_value}
 use Rattle.run_frame.specs.WorkRule.{WorkRule}
 use Rattle.run_frame.specs.NestedRule.{NestedRule, job_of, journal_of}
-use Rattle.run_frame.specs.Duties.{IsReleaseOf, AreMadeBy, target_of}
+use Rattle.run_frame.specs.Duties.{IsReleaseOf, AreMadeBy, first_cause, target_of}
 use Rattle.run_frame.specs.Legal.{IsKept}
 use Rattle.run_frame.specs.Frames.{FrameView, IsSameRun, ComesBack, IsStarted, HasNoInner, StartsTask, DropsTask, StartDoes, MayEndWith, MayFaultWith, MayFail, EndsTask, FaultsTask, IsBegun, part_of}
 use Rattle.frame_steps.specs.Releases.{FrameKey, ReleaseView, frame_key, tickets_of, root_job, depth_of, task_of, frames_around, HasRegister, IsReleaseIn}
@@ -303,6 +303,13 @@ may_drop_at_limit = record {
 edge_that_releases_nothing : AreMadeBy {V = ℕ} flat (0 ∷ []) []
 edge_that_releases_nothing = tt
 
+-- a task waits for each of its strong edges, wherever the one stands that has no token
+abbrev one_token : NetRows
+one_token = record { tasks = free Plain ∷ free Plain ∷ []; edges = edge 0 1 ∷ record { from = 0; to = 1; start = true } ∷ []; sems = [] }
+
+waits_for_each_edge : (first_cause one_token (0 ∷ 1 ∷ []) (0 ∷ 1 ∷ []) ≡ None) × (first_cause one_token (1 ∷ 0 ∷ []) (1 ∷ 0 ∷ []) ≡ None)
+waits_for_each_edge = (refl, refl)
+
 edge_past_the_end : (target_of flat 9 ≡ 0) × (target_of flat 0 ≡ 1)
 edge_past_the_end = (refl, refl)
 
@@ -405,6 +412,9 @@ module _ (r s : TableId) (other : s ≢ r) (ins : Ins ℕ) where
 
   begins_with_another_limit : ¬ IsBegun flat_sums 2 (view [] 5 []) []
   begins_with_another_limit is = let limit = ap (λ (state : MachineState). state.limit) is.machine in absurd (omega (arith, limit))
+
+  begins_over_another_net : ¬ IsBegun sums 2 (view [] 4 (Some (Unused 0 Source) ∷ [])) (ticket 0 (Unused 0 Source) ∷ [])
+  begins_over_another_net is = let edges = ap (λ (state : MachineState). length state.net.edges) is.machine in absurd (omega (arith, edges))
 
   begins_another_job : ¬ IsBegun flat_sums 3 (view [] 5 []) []
   begins_another_job is = absurd (omega (arith, is.job_is))
