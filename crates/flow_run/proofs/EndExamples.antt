@@ -266,6 +266,10 @@ module _ (job : TextJob) where
       let same : run ≡ ran.run = cc in
       absurd (omega (arith, limit, other, ap (λ r. limit_of (job_of r)) same, ap limit_of ran.job))
 
+  two_runs_of_a_job : (run other : Run) → ¬ JobEnds job NoMemory (run ∷ other ∷ [])
+  two_runs_of_a_job run other (inl stopped) = let none : run ∷ other ∷ [] ≡ [] = stopped.none in absurd (cc)
+  two_runs_of_a_job run other (inr ran) = absurd (omega (arith, ap length ran.only))
+
 names_of_the_first_run : (run other : Run) → names_in (run ∷ other ∷ []) ≡ names_of (job_of run)
 names_of_the_first_run run other = refl
 
