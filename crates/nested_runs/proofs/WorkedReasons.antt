@@ -1,5 +1,5 @@
 -- Reasons of runs, computed on small journals.
-use Rattle.std.proofs.Common.{◌≡◌, ◌∙◌, ap, ℕ, refl, Some, None, [], ◌∷◌, List, true, false, Vec}
+use Rattle.std.proofs.Common.{◌≡◌, ◌∙◌, ap, ℕ, refl, Some, None, [], ◌∷◌, List, false, Vec}
 use Rattle.std.specs.Arc.{arc_value}
 use Rattle.std.specs.Global.{Global}
 use Rattle.std.specs.declared.sync.Arc.{Arc}
@@ -17,7 +17,7 @@ use Rattle.run_frame.specs.declared.run.FrameRun.TheBlock.{shown-the_row-InnerRo
 use Rattle.run_frame.specs.declared.run.FrameRun.TheOpen.{FrameRun-F}
 use Rattle.run_frame.specs.declared.run.FrameRun.TheFolds.{fold_out-FrameRun, fold_out-InnerRow}
 use Rattle.run_frame.specs.declared.run.InnerRow.{InnerRow', out-InnerRow}
-use Rattle.nested_runs.specs.Reasons.{first_fault, first_stuck, unfaulted, below, faulted, reason_at, reason_step, row_step, run_reason}
+use Rattle.nested_runs.specs.Reasons.{first_fault, first_stuck, unfaulted, faulted, reason_at, reason_step, row_step, run_reason}
 use Rattle.nested_runs.specs.declared.reasons.Reason.{Reason}
 use Rattle.nested_runs.specs.declared.reasons.Reason.TheVariants.{Fine, Fault, Limit, Stuck}
 

@@ -54,8 +54,8 @@ module _ (r s : TableId) (other : s ≢ r) where
 
 -- An owner of a list has its tag and counts with its word, however often it found the word 0.
 module _ {T : Type 0} {G : Ghosts T} (ready : Ready T G) where
-  owner_of_its_list : (zeros : ℕ) → IsOwnerOf ready (owner_state (tag_of ready) ready.counter.table.shared.table_id zeros)
-  owner_of_its_list zeros = (refl, refl)
+  owner_of_its_list : (count : ℕ) → IsOwnerOf ready (owner_state (tag_of ready) ready.counter.table.shared.table_id count)
+  owner_of_its_list count = (refl, refl)
 
   tag_of_its_list : ready.tag.numbers ≡ 4 ∷ 5 ∷ [] → tag_of ready ≡ 4 ∷ 5 ∷ []
   tag_of_its_list tag = tag
