@@ -4,7 +4,7 @@ use Rattle.std.specs.Fmt.{digits}
 use Rattle.graph_plans.specs.declared.spots.Spot.TheVariants.{File, Sem, Task, Module, ModuleSem, ModuleTask}
 use Rattle.graph_file.specs.declared.refusals.Kind.TheVariants as kind
 use Rattle.graph_file.specs.declared.refusals.GraphError.TheVariants as error
-use Rattle.journal_rules.specs.declared.entry.Why.TheVariants.{Long as TooLong, Wide, Unmet, OverRelease}
+use Rattle.journal_rules.specs.declared.entry.Why.TheVariants.{Long as TooLong, Wide, Unmet, Inner, OverRelease}
 use Rattle.legal_run.specs.declared.verdict.Break.TheVariants.{NotReleased}
 use Rattle.nested_runs.specs.declared.reasons.Reason.TheVariants as reason
 use Rattle.call_status.specs.Reasons.{reason_line}
@@ -109,6 +109,13 @@ whys : (note_line names (TaskFault (0 ∷ []) (Unmet 4)) ≡ codes "flow: fault 
 unfolding digits
 whys = (refl, refl)
 
+run_inside : note_line names (TaskFault (0 ∷ []) Inner) ≡ codes "flow: fault a: inner\n"
+run_inside = refl
+
+-- a task without a name, and no task
+nobody : (note_line names (TaskFault (2 ∷ []) Inner) ≡ codes "flow: fault : inner\n") × (note_line names (Stuck []) ≡ codes "flow: stuck \n")
+nobody = (refl, refl)
+
 limit : note_line names (Limit [] 10) ≡ codes "flow: limit 10\n"
 unfolding digits
 limit = refl
@@ -142,6 +149,10 @@ fault_line = refl
 limit_line : reason_line names (reason.Limit [] 10) ≡ codes "!! limit 10\n"
 unfolding digits
 limit_line = refl
+
+limit_line_of_a_run_inside : reason_line names (reason.Limit (1 ∷ 0 ∷ []) 10) ≡ codes "!! limit 10 in b/a\n"
+unfolding digits
+limit_line_of_a_run_inside = refl
 
 stuck_line : reason_line names (reason.Stuck (1 ∷ [])) ≡ codes "!! stuck b\n"
 stuck_line = refl

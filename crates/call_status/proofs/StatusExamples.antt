@@ -1,5 +1,5 @@
 -- Statuses, their codes and what a put comes to, computed.
-use Rattle.std.proofs.Common.{◌≡◌, ℕ, List, [], ◌∷◌, length, Option, Some, None, Ok, Err, refl, arith, ap, ◌∙◌}
+use Rattle.std.proofs.Common.{◌≡◌, ℕ, List, [], ◌∷◌, length, get_or, ◌++◌, Option, Some, None, Ok, Err, refl, arith, ap, ◌∙◌}
 use Rattle.outside_io.specs.Sink.{SinkState}
 use Rattle.outside_io.specs.declared.sink.SinkFault.TheVariants as fault
 use Rattle.graph_file.specs.declared.refusals.GraphError.TheVariants.{NotJson}
@@ -96,6 +96,19 @@ put_failed = (record { took = record { lost = 8 ∷ []; but = record { front = 7
 
 put_without_memory : Delivers (sink [] 0) (sink (7 ∷ []) 0) (7 ∷ 8 ∷ []) (Err fault.NoMemory)
 put_without_memory = (record { took = record { lost = 8 ∷ []; but = record { front = 7 ∷ []; parts = refl; took = refl } }; nothing_held = refl }, omega arith)
+
+other_bytes_put : ¬ Delivers (sink [] 0) (sink (9 ∷ []) 1) (7 ∷ 8 ∷ []) (Err fault.Failed)
+other_bytes_put is = not_in_front is.0.took.but.front is.0.took.lost is.0.took.but.parts is.0.took.but.took
+  where
+    not_in_front : (front lost : List ℕ) → ◌≡◌ {A = List ℕ} (7 ∷ 8 ∷ []) (front ++ lost) → ◌≡◌ {A = Option (List ℕ)} (Some (9 ∷ [])) (Some front) → ⊥
+    not_in_front [] lost parts took = let same : ◌≡◌ {A = List ℕ} (9 ∷ []) [] = cc in absurd (cc)
+    not_in_front (x ∷ front) lost parts took = let nine : ◌≡◌ {A = List ℕ} (9 ∷ []) (x ∷ front) = cc in absurd (omega (arith, ap (λ xs. get_or xs 0 0) nine, ap (λ xs. get_or xs 0 0) parts))
+
+put_held_back_without_memory : ¬ Delivers (sink [] 0) (record { taken = Some []; held_back = 7 ∷ []; faults = 0 }) (7 ∷ []) (Err fault.NoMemory)
+put_held_back_without_memory is = let none = is.0.nothing_held in absurd (cc)
+
+faults_forgotten_without_memory : ¬ Delivers (sink [] 2) (sink [] 1) (7 ∷ []) (Err fault.NoMemory)
+faults_forgotten_without_memory is = absurd (omega (arith, is.1))
 
 failed_put_held_back : ¬ Delivers (sink [] 0) (record { taken = Some []; held_back = 7 ∷ []; faults = 1 }) (7 ∷ []) (Err fault.Failed)
 failed_put_held_back is = let none = is.0.nothing_held in absurd (cc)

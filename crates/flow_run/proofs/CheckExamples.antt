@@ -63,6 +63,9 @@ strong_cycle_line = refl
 never_reached_line : finding_line names (NeverReached 0) ≡ codes "never reached a\n"
 never_reached_line = refl
 
+task_without_a_name : finding_line names (Mixed 2) ≡ codes "mixed \n"
+task_without_a_name = refl
+
 -- Two tasks that wait for each other: five findings, and their number behind them.
 circle_told : findings_text names (NoSource ∷ StrongCycle 0 ∷ StrongCycle 1 ∷ NeverReached 0 ∷ NeverReached 1 ∷ [])
     ≡ codes "no source\nstrong cycle a\nstrong cycle b\nnever reached a\nnever reached b\nfindings 5\n"
@@ -154,6 +157,11 @@ module _ (plan : PlanRows) (stands : PlanText (1 ∷ []) plan) (findings : List 
       let same = one_plan is.bytes is.plan plan is.stands (subst (λ b. PlanText b plan) bytes stands) in
       let names : codes "z" ∷ plan.top.names ≡ plan.top.names = is.names ∙ ap (λ (p : PlanRows). p.top.names) same in
       absurd (omega (arith, ap length names))
+
+  told_with_the_names_of_another_graph : ¬ EndsChecked held g Done (Some (conclusion.Findings (record { names = codes "z" ∷ plan.top.names; findings = findings })))
+  told_with_the_names_of_another_graph ended =
+      let same : ended.found ≡ record { names = codes "z" ∷ plan.top.names; findings = findings } = cc in
+      names_of_another_graph (subst (IsChecked held g) same ended.checked)
 
   pitfall_left_out : IsPitfall plan.top.net (Mixed 1) → ¬ IsChecked held g (record { names = plan.top.names; findings = [] })
   pitfall_left_out mixed is =

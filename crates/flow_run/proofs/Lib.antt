@@ -9,3 +9,4 @@ pub mod CallExamples
 pub mod StopExamples
 pub mod JudgeExamples
 pub mod CheckExamples
+pub mod EndExamples

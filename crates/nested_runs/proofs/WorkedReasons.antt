@@ -1,5 +1,5 @@
 -- Reasons of runs, computed on small journals.
-use Rattle.std.proofs.Common.{◌≡◌, ◌∙◌, ap, ℕ, refl, Some, None, [], ◌∷◌, List, true, false, Vec}
+use Rattle.std.proofs.Common.{◌≡◌, ◌∙◌, ap, ℕ, refl, Some, None, [], ◌∷◌, List, false, Vec}
 use Rattle.std.specs.Arc.{arc_value}
 use Rattle.std.specs.Global.{Global}
 use Rattle.std.specs.declared.sync.Arc.{Arc}
@@ -17,7 +17,7 @@ use Rattle.run_frame.specs.declared.run.FrameRun.TheBlock.{shown-the_row-InnerRo
 use Rattle.run_frame.specs.declared.run.FrameRun.TheOpen.{FrameRun-F}
 use Rattle.run_frame.specs.declared.run.FrameRun.TheFolds.{fold_out-FrameRun, fold_out-InnerRow}
 use Rattle.run_frame.specs.declared.run.InnerRow.{InnerRow', out-InnerRow}
-use Rattle.nested_runs.specs.Reasons.{first_fault, first_stuck, unfaulted, below, faulted, reason_at, reason_step, row_step, run_reason}
+use Rattle.nested_runs.specs.Reasons.{first_fault, first_stuck, unfaulted, faulted, reason_at, reason_step, row_step, run_reason}
 use Rattle.nested_runs.specs.declared.reasons.Reason.{Reason}
 use Rattle.nested_runs.specs.declared.reasons.Reason.TheVariants.{Fine, Fault, Limit, Stuck}
 
@@ -28,6 +28,9 @@ two_faults = Start 4 Source [] ∷ Start 7 Source [] ∷ FaultEntry 1 (Long 9) �
 -- The Fault that stands first counts, with its own start.
 first_of_two : first_fault two_faults ≡ Some (record { place = 2; start = 1; why = Long 9 })
 first_of_two = refl
+
+fault_behind_other_entries : first_fault (Start 4 Source [] ∷ End 0 [] false ∷ Drop 5 Strong AtLimit ∷ Start 7 Source [] ∷ FaultEntry 3 (Long 9) ∷ []) ≡ Some (record { place = 4; start = 3; why = Long 9 })
+fault_behind_other_entries = refl
 
 no_fault : first_fault (Start 4 Source [] ∷ End 0 [] false ∷ Drop 5 Strong AtLimit ∷ []) ≡ None
 no_fault = refl
@@ -62,12 +65,18 @@ inner_limit = refl
 inner_stuck : faulted 4 Inner (Some (Stuck (6 ∷ []))) ≡ Stuck (4 ∷ 6 ∷ [])
 inner_stuck = refl
 
+inner_fine : faulted 4 Inner (Some Fine) ≡ Fine
+inner_fine = refl
+
 inner_without_run : faulted 4 Inner None ≡ Fault (4 ∷ []) Inner
 inner_without_run = refl
 
 -- The reason inside is that of the row at the Fault's own place.
 second_row : reason_at ((1, Fine) ∷ (3, Limit [] 2) ∷ []) 3 ≡ Some (Limit [] 2)
 second_row = refl
+
+first_row_of_two : reason_at ((1, Fine) ∷ (1, Limit [] 2) ∷ []) 1 ≡ Some Fine
+first_row_of_two = refl
 
 no_row : reason_at ((1, Fine) ∷ (3, Limit [] 2) ∷ []) 2 ≡ None
 no_row = refl
@@ -76,6 +85,9 @@ no_row = refl
 module _ {J V : Type 0} (meaning : Meaning J V) (run : FrameRun-F J V Reason (ℕ × Reason)) where
   fault_of_the_second_start : reason_step meaning (record run { journal = two_faults }) ≡ Fault (7 ∷ []) (Long 9)
   fault_of_the_second_start = refl
+
+  fault_of_no_start : reason_step meaning (record run { journal = FaultEntry 9 (Long 8) ∷ [] }) ≡ Fault (0 ∷ []) (Long 8)
+  fault_of_no_start = refl
 
   own_limit : reason_step meaning (record run { journal = Drop 3 Strong AtLimit ∷ [] }) ≡ Limit [] (meaning.limit (arc_value run.job))
   own_limit = refl

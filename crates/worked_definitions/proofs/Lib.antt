@@ -7,3 +7,4 @@ pub mod WorkedRows
 pub mod WorkedGraphFiles
 pub mod WorkedGraphJson
 pub mod WorkedLines
+pub mod WorkedSeats

@@ -1,5 +1,5 @@
 -- What a run's steps do and what its works may come to, computed on small ones.
-use Rattle.std.proofs.Common.{◌≡◌, ◌≢◌, ◌⊎◌, ℕ, zero, suc, ◌+◌, true, false, List, [], ◌∷◌, ◌++◌, length, map, Option, Some, None, inl, inr, refl, ap, sym, subst, ◌∙◌, arith}
+use Rattle.std.proofs.Common.{◌≡◌, ◌≢◌, ◌⊎◌, ℕ, zero, suc, ◌+◌, ◌≤◌, true, false, List, [], ◌∷◌, ◌++◌, length, map, Option, Some, None, inl, inr, refl, ap, sym, subst, ◌∙◌, arith}
 use Rattle.std.specs.Arc.{arc_value}
 use Rattle.std.specs.Global.{Global}
 use Rattle.std.specs.declared.sync.Arc.{Arc}
@@ -40,12 +40,12 @@ use Rattle.run_frame.specs.declared.duty.Duty.TheVariants.{Unused, Running}
 use Rattle.run_frame.specs.declared.state.Started.TheVariants as started
 use Rattle.run_frame.specs.declared.run.ValueRow.{ValueRow}
 use Rattle.run_frame.specs.declared.run.FrameRun.{FrameRun}
-use Rattle.run_frame.specs.Meaning.{Meaning, IsCauseOf}
+use Rattle.run_frame.specs.Meaning.{Meaning, IsCauseOf, ErrorAllowed}
 use Rattle.run_frame.specs.Runs.{IsFine}
 use Rattle.run_frame.specs.LastEnds.{last_before, last_value}
 use Rattle.run_frame.specs.WorkRule.{WorkRule}
 use Rattle.run_frame.specs.NestedRule.{NestedRule, job_of, journal_of}
-use Rattle.run_frame.specs.Duties.{IsReleaseOf, AreMadeBy}
+use Rattle.run_frame.specs.Duties.{IsReleaseOf, AreMadeBy, first_cause, target_of}
 use Rattle.run_frame.specs.Legal.{IsKept}
 use Rattle.run_frame.specs.Frames.{FrameView, IsSameRun, ComesBack, IsStarted, HasNoInner, StartsTask, DropsTask, StartDoes, MayEndWith, MayFaultWith, MayFail, EndsTask, FaultsTask, IsBegun, part_of}
 use Rattle.frame_steps.specs.Releases.{FrameKey, ReleaseView, frame_key, tickets_of, root_job, depth_of, task_of, frames_around, HasRegister, IsReleaseIn}
@@ -111,6 +111,20 @@ finders_answer j t (x ∷ found) (InnerJob k) = ⊥
 abbrev finders : Meaning ℕ ℕ
 finders = record sums { answers = finders_answer }
 
+-- a task hands on a job where it has found something, or where its own job is 3 or more
+abbrev finders_hand_on : ℕ → ℕ → List (InputValue ℕ) → Done ℕ ℕ → Type 0
+finders_hand_on j t [] done = ⊥
+finders_hand_on j t (x ∷ found) (Value n answer) = ⊥
+finders_hand_on j t (x ∷ found) (InnerJob k) = Unit {0}
+
+abbrev later_jobs_hand_on : ℕ → ℕ → List (InputValue ℕ) → Done ℕ ℕ → Type 0
+later_jobs_hand_on j t found (Value n answer) = ⊥
+later_jobs_hand_on j t found (InnerJob k) = 3 ≤ j
+
+-- An error is one that the task may name on what it found.
+error_of_what_was_found : ErrorAllowed sums 2 1 (value 7 ∷ []) (FaultOf (Long 10)) × ¬ ErrorAllowed sums 2 1 (value 7 ∷ []) (FaultOf (Long 3))
+error_of_what_was_found = (refl, λ is. absurd (omega (arith, is)))
+
 -- gathering may name the job's number as a fault of one kind
 abbrev gathering : (ℕ → Why) → Meaning ℕ ℕ
 gathering kind = record sums { gather_faults = λ j run why. why ≡ kind j }
@@ -159,6 +173,9 @@ module _ (five ten : Arc ℕ Global) (run : FrameRun ℕ ℕ) where
   fault_of_what_was_found : arc_value five ≡ 7 → WorkRule sums 2 rows no_run second_begun (Fault 2 (Long 10)) × WorkRule sums 2 rows no_run second_begun (Fault 2 (Wide 10)) × WorkRule sums 2 rows no_run second_begun (Fault 2 (Unmet 10))
   fault_of_what_was_found seven = (omega (arith, seven), omega (arith, seven), omega (arith, seven))
 
+  fault_of_a_fault : ¬ WorkRule sums 2 rows no_run (Start 0 Source [] ∷ Fault 0 (Long 2) ∷ []) (Fault 1 (Long 2))
+  fault_of_a_fault is = is
+
   fault_of_nothing_found : arc_value five ≡ 7 → ¬ WorkRule sums 2 rows no_run second_begun (Fault 2 (Long 3))
   fault_of_nothing_found seven is = absurd (omega (arith, seven, is))
 
@@ -181,6 +198,9 @@ module _ (five ten : Arc ℕ Global) (run : FrameRun ℕ ℕ) where
 
   no_value_without_an_end : last_value twice rows 1 ≡ None
   no_value_without_an_end = refl
+
+  drop_behind_an_end : (last_before (Start 0 Source [] ∷ End 0 [] false ∷ Drop 0 Source Limit ∷ []) 0 3 ≡ Some 1) × (last_before (Drop 0 Source Limit ∷ []) 0 1 ≡ None)
+  drop_behind_an_end = (refl, refl)
 
   last_end_before : (last_before twice 0 3 ≡ Some 1) × (last_before twice 0 4 ≡ Some 3) × (last_before twice 0 1 ≡ None)
   last_end_before = (refl, refl, refl)
@@ -279,6 +299,20 @@ may_drop_at_limit = record {
   halt_limit_stuck = record { dropped = tt; after_stuck = λ other. refl };
 }
 
+-- An edge that releases nothing has no ticket, and one past the end leads to task 0.
+edge_that_releases_nothing : AreMadeBy {V = ℕ} flat (0 ∷ []) []
+edge_that_releases_nothing = tt
+
+-- a task waits for each of its strong edges, wherever the one stands that has no token
+abbrev one_token : NetRows
+one_token = record { tasks = free Plain ∷ free Plain ∷ []; edges = edge 0 1 ∷ record { from = 0; to = 1; start = true } ∷ []; sems = [] }
+
+waits_for_each_edge : (first_cause one_token (0 ∷ 1 ∷ []) (0 ∷ 1 ∷ []) ≡ None) × (first_cause one_token (1 ∷ 0 ∷ []) (1 ∷ 0 ∷ []) ≡ None)
+waits_for_each_edge = (refl, refl)
+
+edge_past_the_end : (target_of flat 9 ≡ 0) × (target_of flat 0 ≡ 1)
+edge_past_the_end = (refl, refl)
+
 -- The claims below speak of the runs of a register, and of the inputs of a start.
 module _ (r s : TableId) (other : s ≢ r) (ins : Ins ℕ) where
   abbrev ticket : ℕ → Duty ℕ → TicketState (Duty ℕ)
@@ -317,6 +351,15 @@ module _ (r s : TableId) (other : s ≢ r) (ins : Ins ℕ) where
 
   no_job_handed_on : HasNoInner flat_sums 2 (Running 0 4 ins) × HasNoInner sums 2 (Unused 0 Source)
   no_job_handed_on = (λ inner is. is, tt)
+
+  job_handed_on_by_its_task : HasNoInner first_alone 2 (Running 0 4 ins) × ¬ HasNoInner first_alone 2 (Running 1 4 ins)
+  job_handed_on_by_its_task = (λ inner is. is, λ is. is 0 tt)
+
+  job_handed_on_on_what_was_found : parts_of ins ≡ given.First ∷ [] → ¬ HasNoInner (record sums { answers = finders_hand_on }) 2 (Running 0 4 ins)
+  job_handed_on_on_what_was_found parts is = is 0 (subst (λ (found : List (Given ℕ)). finders_hand_on 2 0 (map found_of found) (InnerJob 0)) (sym parts) tt)
+
+  job_handed_on_by_a_later_job : HasNoInner (record sums { answers = later_jobs_hand_on }) 2 (Running 3 4 ins) × ¬ HasNoInner (record sums { answers = later_jobs_hand_on }) 3 (Running 1 4 ins)
+  job_handed_on_by_a_later_job = (λ inner is. omega (arith, is), λ is. is 0 (omega arith))
 
   job_handed_on : ¬ HasNoInner sums 2 (Running 0 4 ins)
   job_handed_on is = is (2 + 0 + added (map found_of (parts_of ins))) refl
@@ -369,6 +412,9 @@ module _ (r s : TableId) (other : s ≢ r) (ins : Ins ℕ) where
 
   begins_with_another_limit : ¬ IsBegun flat_sums 2 (view [] 5 []) []
   begins_with_another_limit is = let limit = ap (λ (state : MachineState). state.limit) is.machine in absurd (omega (arith, limit))
+
+  begins_over_another_net : ¬ IsBegun sums 2 (view [] 4 (Some (Unused 0 Source) ∷ [])) (ticket 0 (Unused 0 Source) ∷ [])
+  begins_over_another_net is = let edges = ap (λ (state : MachineState). length state.net.edges) is.machine in absurd (omega (arith, edges))
 
   begins_another_job : ¬ IsBegun flat_sums 3 (view [] 5 []) []
   begins_another_job is = absurd (omega (arith, is.job_is))
@@ -437,6 +483,12 @@ module _ (r s : TableId) (other : s ≢ r) (ins : Ins ℕ) where
 
   ticket_of_another_start : ¬ StartsTask flat_sums (view [] 4 both_sources) (view begun 4 (None ∷ Some (Unused 2 Source) ∷ Some (Running 0 7 ins) ∷ [])) (ticket 0 (Unused 0 Source)) (ticket 2 (Running 0 7 ins))
   ticket_of_another_start is = let item = is.item in let stands = is.entry.stands in absurd (cc)
+
+  started_in_another_register : ¬ StartsTask flat_sums (view [] 4 both_sources) (view begun 4 (None ∷ Some (Unused 2 Source) ∷ Some (Running 0 0 ins) ∷ [])) (ticket 0 (Unused 0 Source)) (record (ticket 2 (Running 0 0 ins)) { register = s })
+  started_in_another_register is = other is.register
+
+  another_task_started : ¬ StartsTask flat_sums (view [] 4 both_sources) (view begun 4 (Some (Unused 0 Source) ∷ None ∷ Some (Running 2 0 ins) ∷ [])) (ticket 1 (Unused 2 Source)) (ticket 2 (Running 2 0 ins))
+  another_task_started is = let was = is.was in let same = ap (λ (state : MachineState). state.journal) is.entry.after in absurd (cc)
 
   started_after_a_fault : ¬ StartsTask flat_sums (view faulted 4 (Some (Unused 2 Source) ∷ [])) (view (faulted ++ Start 2 Source [] ∷ []) 4 (None ∷ Some (Running 2 2 ins) ∷ [])) (ticket 0 (Unused 2 Source)) (ticket 1 (Running 2 2 ins))
   started_after_a_fault is = absurd (omega (arith, is.no_fault))

@@ -25,7 +25,8 @@ use Rattle.graph_file.specs.declared.refusals.Kind.TheVariants as kind
 use Rattle.graph_file.specs.Contents.{is_name, is_name_byte, line_count_of, whole_of}
 use Rattle.graph_file.specs.Fields.{allowed, needed, only}
 use Rattle.graph_file.specs.OpRows.{reads, does}
-use Rattle.graph_file.specs.PlanText.{DraftRows, add_edge, add_name, plan_of, with_task_text}
+use Rattle.graph_file.specs.PlanText.{DraftRows, HasFile, PlanText, add_edge, add_name, plan_of, with_task_text}
+use Rattle.graph_file.proofs.PlanLemmas.{IsPlan-read}
 use Rattle.json.specs.Print.{escape_byte}
 use Rattle.std.specs.Fmt.{digits}
 use Rattle.graph_file.specs.Steps.{walk}
@@ -355,3 +356,10 @@ file_fields = refl
 text_of_an_empty_plan : plan_text (plan_with_tasks [] [] [] []) ≡ codes "{\"modules\":[],\"semaphores\":[],\"tasks\":[],\"version\":1}"
 unfolding escape_byte digits
 text_of_an_empty_plan = refl
+
+-- A plan has a file where some bytes stand for it. One with modules has none.
+file_of_a_plan : (bytes : List ℕ) → PlanText bytes plan → HasFile plan
+file_of_a_plan bytes stands = record { bytes = bytes; stands = stands }
+
+no_file_of_modules : ¬ HasFile (record (plan_with_tasks [] [] [] []) { modules = graph [] [] ∷ [] })
+no_file_of_modules has = plan_of_modules (IsPlan-read has.bytes (record (plan_with_tasks [] [] [] []) { modules = graph [] [] ∷ [] }) has.stands)

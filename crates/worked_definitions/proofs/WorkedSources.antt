@@ -1,8 +1,9 @@
 -- What a read finds and how sources in memory count, what a start's inputs hold, and how a watcher counts, computed on
 -- small ones.
-use Rattle.std.proofs.Common.{◌≡◌, ◌⊎◌, ℕ, zero, suc, ◌<◌, [], ◌∷◌, Some, None, Ok, Err, inl, inr, refl, ap, arith}
+use Rattle.std.proofs.Common.{◌≡◌, ◌⊎◌, ℕ, zero, suc, ◌<◌, [], ◌∷◌, length, Some, None, Ok, Err, inl, inr, refl, ap, arith}
 use Rattle.std.specs.Prelude.{Contains, slice_index_or}
 use Rattle.std.specs.Arc.{arc_value}
+use Rattle.std.specs.Vec.{vec_capacity}
 use Rattle.std.specs.Global.{Global}
 use Rattle.std.specs.declared.sync.Arc.{Arc}
 use Rattle.outside_io.specs.declared.texts.Found.TheVariants.{Text, Missing, Longer}
@@ -10,7 +11,8 @@ use Rattle.outside_io.specs.declared.texts.TextsFault.TheVariants.{Failed, NoMem
 use Rattle.outside_io.specs.Texts.{Finds, IsWithin}
 use Rattle.outside_io.specs.MemoryTexts.{HeldTexts, AreNamed, text_under, CountsCall}
 use Rattle.join_words.specs.declared.ins.Given.TheVariants.{Value, First, Nothing}
-use Rattle.join_words.specs.Ins.{value, first, nothing, found_of}
+use Rattle.join_words.specs.declared.ins.Ins.{Ins}
+use Rattle.join_words.specs.Ins.{value, first, nothing, found_of, parts_of, room_of}
 use Rattle.span_profile.specs.Watch.{one_more, counted}
 
 -- A text of just the most bytes is found whole, and one of more is longer.
@@ -114,6 +116,10 @@ numbers_end : CountsCall (held 18446744073709551615 0) (held 1844674407370955161
 numbers_end = (refl, inr refl)
 
 -- What a part of a start's inputs holds, whoever shares it.
+-- There may be room for more parts than there are.
+room_without_parts : (ins : Ins ℕ) → parts_of ins ≡ [] → vec_capacity ins.parts ≡ 4 → (room_of ins ≡ 4) × (length (parts_of ins) ≡ 0)
+room_without_parts ins none four = (four, ap length none)
+
 held_by_parts : (shared : Arc ℕ Global) → (found_of (Value 3 shared) ≡ value (arc_value shared)) × (found_of {V = ℕ} First ≡ first) × (found_of {V = ℕ} Nothing ≡ nothing)
 held_by_parts shared = (refl, refl, refl)
 

@@ -8,6 +8,7 @@
 //! - `WorkedSteps`: what a machine's steps do, the break of each rule, the verdict;
 //! - `WorkedFrames`, `WorkedRows`: what a run's steps do, what its works may come to, where its inner runs stand, and
 //!   what the beginning and the steps of a frame come to;
+//! - `WorkedSeats`: which lock, register or list a pass, a book, a ticket or an owner is of;
 //! - `WorkedLines`: lines without an end, and words in them;
 //! - `WorkedGraphFiles`, `WorkedGraphJson`: which plan a graph file stands for, what is refused first, and how a plan is
 //!   written.
