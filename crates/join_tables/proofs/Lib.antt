@@ -35,3 +35,4 @@ pub mod CollectNext
 pub mod Releasing
 pub mod Recordings
 pub mod FirstStep
+pub mod FirstFresh
