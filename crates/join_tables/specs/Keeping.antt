@@ -1,5 +1,5 @@
 -- What a keeper knows, and when that is a whole run.
-use Rattle.std.specs.Prelude.{◌≡◌, ◌==◌, ◌<◌, ℕ, List, [], ◌∷◌, length, Some, slice_get, count_by, Result}
+use Rattle.std.specs.Prelude.{◌≡◌, ◌≢◌, ◌==◌, ◌<◌, ℕ, List, [], ◌∷◌, length, Some, slice_get, count_by, Option, Result}
 use Rattle.std.specs.declared.result.Result.TheVariants.{Ok}
 use Rattle.std.specs.List.{AllByRecursion}
 use Rattle.task_graph.specs.NetRows.{NetRows}
@@ -11,15 +11,17 @@ use Rattle.journal_rules.specs.Complete.{Complete}
 use Rattle.join_tables.specs.declared.turns.Run.{Run}
 use Rattle.join_tables.specs.declared.keeper.Recorded.{Recorded}
 use Rattle.join_tables.specs.declared.keeper.Remaining.{Remaining}
-use Rattle.join_tables.specs.declared.keeper.Remaining.TheVariants.{All as AllTaken}
+use Rattle.join_tables.specs.declared.keeper.Remaining.TheVariants.{More, All as AllTaken}
 
--- a keeper's table, and the entries that it has, in the order in which it took them in
+-- A keeper's table, the entries that it has, in the order in which it took them in, and how many live turns it found
+-- when it last took one off.
 pub record KeeperState : Type 0 where
   pub table : TableId
   pub entries : List Recorded
+  pub found : Option ℕ
 
-abbrev pub keeper_state : TableId → List Recorded → KeeperState
-keeper_state n entries = record { table = n; entries = entries }
+abbrev pub keeper_state : TableId → List Recorded → Option ℕ → KeeperState
+keeper_state n entries found = record { table = n; entries = entries; found = found }
 
 -- the entries of a run that ended
 abbrev pub entries_of : Run → List Recorded
@@ -33,6 +35,11 @@ pub record TellsRun (net : NetRows) (limit : ℕ) (entries : List Recorded) : Ty
   pub complete : Complete net limit journal
   pub stand : AllByRecursion (λ (r : Recorded). slice_get journal r.place ≡ Some r.entry) entries
   pub each : (m : ℕ) → m < length journal → count_by (λ (r : Recorded). r.place == m) entries ≡ 1
+
+-- what is left where a keeper has found so many live turns: nothing after the last
+abbrev pub LeavesOf : ℕ → Remaining → Type 0
+LeavesOf n AllTaken = n ≡ 1
+LeavesOf n More = n ≢ 1
 
 -- the answer is that no turn is left
 abbrev pub IsLast : {E : Type 0} → Result Remaining E → Type 0

@@ -1,5 +1,5 @@
 -- How a table begins.
-use Rattle.std.specs.Prelude.{◌≡◌, ℕ, [], length, All}
+use Rattle.std.specs.Prelude.{◌≡◌, ℕ, [], None, length, All}
 use Rattle.task_graph.specs.NetRows.{NetRows}
 use Rattle.join_tables.specs.declared.opening.Opening.{Opening}
 use Rattle.join_tables.specs.States.{FreshState}
@@ -14,4 +14,4 @@ pub record OpensTable (net : NetRows) (limit : ℕ) (o : Opening) : Type 0 where
   pub fresh : o.fresh.items ≡ first_fresh o.table.table net 0 (length net.tasks)
   pub of_table : All (λ (f : FreshState). f.table ≡ o.table.table) o.fresh.items
   pub nothing : o.fresh.items ≡ [] → TellsRun net limit []
-  pub keeper : o.keeper ≡ keeper_state o.table.table []
+  pub keeper : o.keeper ≡ keeper_state o.table.table [] None

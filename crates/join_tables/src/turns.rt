@@ -6,6 +6,10 @@ use journal_rules::Cause;
 use keyed_lock::Keyed;
 use outside_io::List;
 use std::marker::Model;
+use std::snapshot::Snapshot;
+
+/// The number that a step has found in its word, if it was a step of which contracts speak. It has no bytes.
+pub type Found = Snapshot<Option<u64>>;
 
 /// The words of a run's net, which many threads step at once.
 #[derive(Drop)]
@@ -77,6 +81,7 @@ pub struct Turn {
     pub(crate) seat: Place,
     pub(crate) task: u32,
     pub(crate) cause: Cause,
+    pub(crate) found: Found,
 }
 
 impl Model for Turn {
@@ -86,7 +91,7 @@ impl Model for Turn {
 
     ghost Value = { TurnState };
 
-    ghost view = { λ t. turn_state t.seat.table_id t.task t.cause (is_refused t.seat.me.0) };
+    ghost view = { λ t. turn_state t.seat.table_id t.task t.cause (is_refused t.seat.me.0) t.found.value };
 
     ghost invariant = { λ t. t.seat.me ≡ (turn_view t.task t.cause (taken_in t.seat.me.0) (is_refused t.seat.me.0), []) };
 }
@@ -97,6 +102,7 @@ pub struct StartTicket {
     pub(crate) seat: Place,
     pub(crate) task: u32,
     pub(crate) cause: Cause,
+    pub(crate) drawn: Snapshot<u64>,
 }
 
 impl Model for StartTicket {
@@ -106,7 +112,7 @@ impl Model for StartTicket {
 
     ghost Value = { AdmittedState };
 
-    ghost view = { λ t. admitted_state t.seat.table_id t.task t.cause };
+    ghost view = { λ t. admitted_state t.seat.table_id t.task t.cause t.drawn.value };
 
     ghost invariant = { λ t. t.seat.me ≡ (ticket_view t.task t.cause (taken_in t.seat.me.0), []) };
 }
@@ -149,6 +155,7 @@ pub struct Owing {
     pub(crate) seat: Place,
     pub(crate) run: Run,
     pub(crate) next: usize,
+    pub(crate) found: Found,
 }
 
 impl Model for Owing {
@@ -158,7 +165,7 @@ impl Model for Owing {
 
     ghost Value = { OwingState };
 
-    ghost view = { λ o. owing_state o.seat.table_id o.run (drop o.next o.run.gives) };
+    ghost view = { λ o. owing_state o.seat.table_id o.run (drop o.next o.run.gives) o.found.value };
 
     ghost invariant = { λ o. o.seat.me ≡ (owing_view o.run (drop o.next o.run.gives), []) };
 }
