@@ -107,6 +107,5 @@ nothing_runs net limit live words rs n fs rows limited sems live_len first ws is
       journal = h.journal;
       legal = h.balanced.by_journal.legal;
       complete = all_complete net limit (opening {S = Unit {0}} words [] (opening_notes net limit)) h (none_live net limit items);
-      stand = tt;
-      each = λ m below. absurd (omega (arith, below, h.balanced.by_journal.clock, clock));
+      merges = record { stand = tt; each = λ m below. absurd (omega (arith, below, h.balanced.by_journal.clock, clock)) };
     }

@@ -55,8 +55,10 @@ tells_run net limit notes rs is whole = record {
   journal = whole.journal;
   legal = whole.legal;
   complete = whole.complete;
-  stand = (told_stand net whole.journal [] rs (subst (λ v. AllStand net whole.journal v) is whole.stand)).1;
-  each = λ m below. omega (arith, whole.each m below, ap (weigh (duty (place m))) is, told_places m [] rs);
+  merges = record {
+    stand = (told_stand net whole.journal [] rs (subst (λ v. AllStand net whole.journal v) is whole.stand)).1;
+    each = λ m below. omega (arith, whole.each m below, ap (weigh (duty (place m))) is, told_places m [] rs);
+  };
 }
 
 pub found_one : (E : Type 0) (n : ℕ) (r : Remaining) → LeavesOf n r → IsLast {E = E} (Ok r) → n ≡ 1

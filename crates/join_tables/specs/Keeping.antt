@@ -27,14 +27,23 @@ keeper_state n entries found = record { table = n; entries = entries; found = fo
 abbrev pub entries_of : Run → List Recorded
 entries_of run = record { place = run.start; entry = Start run.task run.cause [] } ∷ record { place = run.place; entry = End run.start run.gives run.inner } ∷ []
 
--- These entries are those of a finished run: one journal, legal as far as the net decides and complete, has each of
--- them at its place, and each of its places is named once.
-pub record TellsRun (net : NetRows) (limit : ℕ) (entries : List Recorded) : Type 0 where
-  pub journal : List Entry
-  pub legal : ShapeLegal net limit journal
-  pub complete : Complete net limit journal
+-- A journal has each of these entries at its place, and each of its places is named once.
+pub record Merges (entries : List Recorded) (journal : List Entry) : Type 0 where
   pub stand : AllByRecursion (λ (r : Recorded). slice_get journal r.place ≡ Some r.entry) entries
   pub each : (m : ℕ) → m < length journal → count_by (λ (r : Recorded). r.place == m) entries ≡ 1
+
+-- These entries are those of a finished run: they are one journal that is legal as far as the net decides and complete.
+pub record TellsRun (net : NetRows) (limit : ℕ) (entries : List Recorded) : Type 0 where
+  pub journal : List Entry
+  pub merges : Merges entries journal
+  pub legal : ShapeLegal net limit journal
+  pub complete : Complete net limit journal
+
+-- they are those of a finished run of some net
+pub record TellsSomeRun (entries : List Recorded) : Type 0 where
+  pub net : NetRows
+  pub limit : ℕ
+  pub tells : TellsRun net limit entries
 
 -- what is left where a keeper has found so many live turns: nothing after the last
 abbrev pub LeavesOf : ℕ → Remaining → Type 0

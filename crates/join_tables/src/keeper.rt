@@ -1,12 +1,16 @@
 // The keeper of a run: it takes in the turns that are done.
-ghost use Rattle.std.specs.Prelude.{◌≡◌, ◌++◌, ◌∷◌, [], None, IsSomeAnd, IfOk, OnOk, OnErr};
+ghost use Rattle.std.specs.Prelude.{◌≡◌, ℕ, ◌++◌, ◌∷◌, [], None, IsSomeAnd, IfOk, OnOk, OnErr};
 ghost use Rattle.std.specs.Arc.{arc_value};
-ghost use Rattle.join_tables.specs.Keeping.{keeper_state, TellsRun, entries_of, LeavesOf, IsLast};
+ghost use Rattle.task_graph.specs.NetRows.{NetRows};
+ghost use Rattle.journal_rules.specs.ShapeLegal.{ShapeLegal};
+ghost use Rattle.journal_rules.specs.Complete.{Complete};
+ghost use Rattle.join_tables.specs.Keeping.{keeper_state, TellsRun, TellsSomeRun, Merges, entries_of, LeavesOf, IsLast};
 ghost use Rattle.join_tables.specs.inside.Kinds.{MayLeave, left_by, joined, IsWhole};
 
+use crate::merge::merged;
 use crate::steps::{Place, Words};
 use crate::turns::{Found, NetTable, Run, Spent};
-use journal_rules::Entry;
+use journal_rules::{Entry, Journal};
 use outside_io::{List, NoMemory};
 use std::alloc::Global;
 use std::marker::Model;
@@ -106,6 +110,17 @@ impl Keeper {
         let found = table.words.settle(&mut self.seat, seat);
         self.found = Snapshot::of(&Some(found));
         Ok(Remaining::of(found))
+    }
+
+    /// The journal of a run that is finished: `All` was answered, or there was no release at first. It has each of the
+    /// keeper's entries at its place.
+    pub fn journal(self) -> Result<Journal, NoMemory>
+        requires { TellsSomeRun self.entries }
+        ensures merges { IfOk result (Merges self.entries) }
+        ensures finished { IfOk result (λ journal. (net : NetRows) (limit : ℕ) → TellsRun net limit self.entries → ShapeLegal net limit journal × Complete net limit journal) }
+    {
+        let Keeper { alloc, entries, .. } = self;
+        merged(alloc, entries)
     }
 }
 
