@@ -20,7 +20,6 @@ use crate::turns::{
 };
 use journal_rules::Cause;
 use outside_io::List;
-use std::snapshot::Snapshot;
 
 // What an edge's count found in the join word, if the edge was counted, and the release that was made.
 #[derive(Drop)]
@@ -113,20 +112,18 @@ impl NetTable {
         } = turn;
         let number = self.words.draw_admission(&mut seat);
         if number < self.words.limit() {
-            let drawn = Snapshot::of(&number);
             Admitted::Go(StartTicket {
                 seat,
                 task,
                 cause,
-                drawn,
+                drawn: number,
             })
         } else {
-            let found = Snapshot::of(&Some(number));
             Admitted::Over(Turn {
                 seat,
                 task,
                 cause,
-                found,
+                found: Some(number),
             })
         }
     }
@@ -155,12 +152,11 @@ impl NetTable {
             gives,
             inner,
         };
-        let found = Snapshot::of(&None);
         Owing {
             seat,
             run,
             next: 0,
-            found,
+            found: None,
         }
     }
 
@@ -193,7 +189,7 @@ impl NetTable {
             seat,
             task,
             cause,
-            found: Snapshot::of(&found),
+            found,
         };
         match made {
             Some(fresh) => Collected::LastAgain(turn, fresh),
@@ -221,7 +217,7 @@ impl NetTable {
             seat,
             run,
             next: next + 1,
-            found: Snapshot::of(&found),
+            found,
         };
         match made {
             Some(fresh) => Gave::Released(owing, fresh),

@@ -9,12 +9,11 @@ ghost use Rattle.join_tables.specs.inside.Kinds.{MayLeave, left_by, joined, IsWh
 
 use crate::merge::merged;
 use crate::steps::{Place, Words};
-use crate::turns::{Found, NetTable, Run, Spent};
+use crate::turns::{NetTable, Run, Spent};
 use journal_rules::{Entry, Journal};
 use outside_io::{List, NoMemory};
 use std::alloc::Global;
 use std::marker::Model;
-use std::snapshot::Snapshot;
 
 /// An entry of the journal, and its place there.
 #[derive(Drop)]
@@ -29,7 +28,8 @@ pub struct Keeper {
     alloc: Global,
     seat: Place,
     entries: Vec<Recorded>,
-    found: Found,
+    // how many live turns it found when it last took one off, of which contracts speak
+    found: Option<u64>,
 }
 
 impl Model for Keeper {
@@ -39,7 +39,7 @@ impl Model for Keeper {
 
     ghost Value = { KeeperState };
 
-    ghost view = { λ k. keeper_state k.seat.table_id k.entries.items k.found.value };
+    ghost view = { λ k. keeper_state k.seat.table_id k.entries.items k.found };
 
     ghost invariant = { λ k. (k.seat.id ≡ 0) × (k.seat.me ≡ (told_notes k.entries.items, [])) };
 }
@@ -64,7 +64,7 @@ impl Keeper {
             alloc,
             seat,
             entries: Vec::new(alloc),
-            found: Snapshot::of(&None),
+            found: None,
         }
     }
 
@@ -108,7 +108,7 @@ impl Keeper {
         };
         self.entries.push_reserved(Recorded { place, entry });
         let found = table.words.settle(&mut self.seat, seat);
-        self.found = Snapshot::of(&Some(found));
+        self.found = Some(found);
         Ok(Remaining::of(found))
     }
 

@@ -6,10 +6,6 @@ use journal_rules::Cause;
 use keyed_lock::Keyed;
 use outside_io::List;
 use std::marker::Model;
-use std::snapshot::Snapshot;
-
-/// The number that a step has found in its word, if it was a step of which contracts speak. It has no bytes.
-pub type Found = Snapshot<Option<u64>>;
 
 /// The words of a run's net, which many threads step at once.
 #[derive(Drop)]
@@ -81,7 +77,8 @@ pub struct Turn {
     pub(crate) seat: Place,
     pub(crate) task: u32,
     pub(crate) cause: Cause,
-    pub(crate) found: Found,
+    // what its last step found in its word, of which contracts speak
+    pub(crate) found: Option<u64>,
 }
 
 impl Model for Turn {
@@ -91,7 +88,7 @@ impl Model for Turn {
 
     ghost Value = { TurnState };
 
-    ghost view = { λ t. turn_state t.seat.table_id t.task t.cause (is_refused t.seat.me.0) t.found.value };
+    ghost view = { λ t. turn_state t.seat.table_id t.task t.cause (is_refused t.seat.me.0) t.found };
 
     ghost invariant = { λ t. t.seat.me ≡ (turn_view t.task t.cause (taken_in t.seat.me.0) (is_refused t.seat.me.0), []) };
 }
@@ -102,7 +99,8 @@ pub struct StartTicket {
     pub(crate) seat: Place,
     pub(crate) task: u32,
     pub(crate) cause: Cause,
-    pub(crate) drawn: Snapshot<u64>,
+    // the number that its admission drew, of which contracts speak
+    pub(crate) drawn: u64,
 }
 
 impl Model for StartTicket {
@@ -112,7 +110,7 @@ impl Model for StartTicket {
 
     ghost Value = { AdmittedState };
 
-    ghost view = { λ t. admitted_state t.seat.table_id t.task t.cause t.drawn.value };
+    ghost view = { λ t. admitted_state t.seat.table_id t.task t.cause t.drawn };
 
     ghost invariant = { λ t. t.seat.me ≡ (ticket_view t.task t.cause (taken_in t.seat.me.0), []) };
 }
@@ -155,7 +153,8 @@ pub struct Owing {
     pub(crate) seat: Place,
     pub(crate) run: Run,
     pub(crate) next: usize,
-    pub(crate) found: Found,
+    // what its last step found in its word, of which contracts speak
+    pub(crate) found: Option<u64>,
 }
 
 impl Model for Owing {
@@ -165,7 +164,7 @@ impl Model for Owing {
 
     ghost Value = { OwingState };
 
-    ghost view = { λ o. owing_state o.seat.table_id o.run (drop o.next o.run.gives) o.found.value };
+    ghost view = { λ o. owing_state o.seat.table_id o.run (drop o.next o.run.gives) o.found };
 
     ghost invariant = { λ o. o.seat.me ≡ (owing_view o.run (drop o.next o.run.gives), []) };
 }

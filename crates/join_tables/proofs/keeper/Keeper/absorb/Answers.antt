@@ -26,4 +26,4 @@ returns-clause-all c = λ last.
     let view : c.settle-found.new.seat.me.0 ≡ told_notes c.push_reserved-2.new.self.items =
     c.settle-found.ensures.view.0 ∙ (λ i. left_by (joined (c.self.invariant.1 i).0 (c.spent.invariant i).0)) ∙ told_run c.spent.inside.run c.self.inside.entries.items ∙ ap told_notes (sym entries) in
     subst (λ (s : TableState). TellsRun s.net s.limit c.push_reserved-2.new.self.items) c.table.view_is
-    (tells_run _ _ c.settle-found.new.seat.me.0 c.push_reserved-2.new.self.items view (c.settle-found.ensures.all (found_one NoMemory c.settle-found.result c.of-2.result c.of-2.ensures last)))
+    (tells_run _ _ c.settle-found.new.seat.me.0 c.push_reserved-2.new.self.items view (c.settle-found.ensures.all (found_one NoMemory c.settle-found.result c.of.result c.of.ensures last)))

@@ -41,8 +41,8 @@ returns-in-Some-made c =
     let some : slice_get c.owing.inside.run.gives c.owing.inside.next ≡ Some c.in-Some.edge.now = search rules in
     gives_more c.args.self.now.net c.args.owing c.in-Some.edge.now c.args.owing.left (drop (c.owing.inside.next + 1) c.owing.inside.run.gives) _ _ (sym (ap (λ (o : OwingState). o.left) c.owing.view_is) ∙ drop_some c.owing.inside.run.gives c.owing.inside.next c.in-Some.edge.now some) (search rules) (search rules) (search rules)
 
-pub returns : goal.returns
-returns c =
+pub returns-in-None : goal.returns-in-None
+returns-in-None c =
     let some : slice_get c.owing.inside.run.gives c.owing.inside.next ≡ Some c.in-Some.edge.now = search rules in
     let strong : is_weak c.args.self.now.net c.in-Some.edge.now ≡ false = search rules in
     gives_on c.args.self.now.net c.args.owing c.in-Some.edge.now c.args.owing.left (drop (c.owing.inside.next + 1) c.owing.inside.run.gives) _ (sym (ap (λ (o : OwingState). o.left) c.owing.view_is) ∙ drop_some c.owing.inside.run.gives c.owing.inside.next c.in-Some.edge.now some) strong (search rules) (search rules)
