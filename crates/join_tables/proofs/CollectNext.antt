@@ -11,6 +11,7 @@ use Rattle.journal_rules.specs.declared.entry.Cause.TheVariants.{Source, Strong,
 use Rattle.journal_rules.specs.DataRule.{edges_of}
 use Rattle.journal_rules.proofs.NetLemmas.{places_length}
 use Rattle.join_tables.specs.declared.view.Note.{Note}
+use Rattle.join_tables.specs.declared.calls.Counted.{Counted}
 use Rattle.join_tables.specs.declared.calls.Step.TheVariants.{NoneLeft, Taken}
 use Rattle.atomic_table.specs.Seated.{TableId}
 use Rattle.join_tables.specs.States.{FreshState, fresh_state}
@@ -135,9 +136,9 @@ few_settled net t cause taken left f found next few = subst (λ es. settled (too
 pub collects_none : (n : TableId) (t : ℕ) (cause : Cause) (taken left : List ℕ) (v : List Note) → left ≡ [] → v ≡ collecting_view t cause taken left → CollectsOne n t cause taken left NoneLeft v
 collects_none n t cause taken left v none is = subst (λ es. CollectsOne n t cause taken es NoneLeft v) (sym none) (is ∙ ap (collecting_view t cause taken) none)
 
-pub collects_edge : (n : TableId) (net : NetRows) (t : ℕ) (cause : Cause) (taken left : List ℕ) (f : ℕ) (next : NextEdge net left f) (made : Option FreshState) (last : Bool) (v : List Note)
-    → v ≡ collecting_view t cause (taken ++ f ∷ []) next.tail → IfSome made (λ fresh. fresh ≡ fresh_state n t Strong) → (IsTrue (is_some made) → AreNoneLeft t v × (cause ≡ Strong)) → IsTrue last ↔ (next.tail ≡ []) → CollectsOne n t cause taken left (Taken made last) v
-collects_edge n net t cause taken left f next made last v is fresh none last_is = subst (λ es. CollectsOne n t cause taken es (Taken made last) v) (sym next.is) (is, by_made made fresh none, last_is)
+pub collects_edge : (n : TableId) (net : NetRows) (t : ℕ) (cause : Cause) (taken left : List ℕ) (f : ℕ) (next : NextEdge net left f) (counted : Counted) (last : Bool) (v : List Note)
+    → v ≡ collecting_view t cause (taken ++ f ∷ []) next.tail → IfSome counted.made (λ fresh. fresh ≡ fresh_state n t Strong) → (IsTrue (is_some counted.made) → AreNoneLeft t v × (cause ≡ Strong)) → IsTrue (is_some counted.made) ↔ (counted.found ≡ Some 1) → IsTrue last ↔ (next.tail ≡ []) → CollectsOne n t cause taken left (Taken counted last) v
+collects_edge n net t cause taken left f next counted last v is fresh none exact last_is = subst (λ es. CollectsOne n t cause taken es (Taken counted last) v) (sym next.is) (is, by_made counted.made fresh none, exact, last_is)
   where
     tail_none : AreNoneLeft t v × (cause ≡ Strong) → next.tail ≡ []
     tail_none h = subst (λ w. AreNoneLeft t w) (is ∙ ap (λ c. collecting_view t c (taken ++ f ∷ []) next.tail) h.1) h.0 refl

@@ -34,4 +34,6 @@ pub mod TurnSteps
 pub mod CollectNext
 pub mod Releasing
 pub mod Recordings
+pub mod Merging
 pub mod FirstStep
+pub mod FirstFresh

@@ -19,7 +19,7 @@ use Rattle.join_tables.specs.inside.Recording.{told_after, told_notes}
 use Rattle.std.specs.declared.result.Result.TheVariants.{Ok}
 use Rattle.join_tables.specs.declared.keeper.Remaining.{Remaining}
 use Rattle.join_tables.specs.declared.keeper.Remaining.TheVariants.{More, All as AllTaken}
-use Rattle.join_tables.specs.Keeping.{TellsRun, IsLast, entries_of}
+use Rattle.join_tables.specs.Keeping.{TellsRun, LeavesOf, IsLast, entries_of}
 use Rattle.join_tables.proofs.Journals.{count_cons}
 
 busy_told : (notes : List Note) (rs : List Recorded) → weigh busy (told_after notes rs) ≡ weigh busy notes
@@ -55,10 +55,12 @@ tells_run net limit notes rs is whole = record {
   journal = whole.journal;
   legal = whole.legal;
   complete = whole.complete;
-  stand = (told_stand net whole.journal [] rs (subst (λ v. AllStand net whole.journal v) is whole.stand)).1;
-  each = λ m below. omega (arith, whole.each m below, ap (weigh (duty (place m))) is, told_places m [] rs);
+  merges = record {
+    stand = (told_stand net whole.journal [] rs (subst (λ v. AllStand net whole.journal v) is whole.stand)).1;
+    each = λ m below. omega (arith, whole.each m below, ap (weigh (duty (place m))) is, told_places m [] rs);
+  };
 }
 
-pub all_taken : (E : Type 0) (r : Remaining) → IsLast {E = E} (Ok r) → r ≡ AllTaken
-all_taken E AllTaken h = refl
-all_taken E More h = absurd h
+pub found_one : (E : Type 0) (n : ℕ) (r : Remaining) → LeavesOf n r → IsLast {E = E} (Ok r) → n ≡ 1
+found_one E n AllTaken is h = is
+found_one E n More is h = absurd h

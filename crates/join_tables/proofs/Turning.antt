@@ -1,5 +1,5 @@
 -- What a turn's calls ask of its seat.
-use Rattle.std.proofs.Common.{◌≡◌, ℕ, zero, suc, ◌+◌, ◌<◌, true, false, not, ◌&&◌, eqb, List, [], ◌∷◌, ◌++◌, length, Option, Some, None, refl, sym, ap, subst, ◌∙◌, arith}
+use Rattle.std.proofs.Common.{◌≡◌, ◌≢◌, ℕ, zero, suc, ◌+◌, ◌<◌, true, false, not, ◌&&◌, eqb, List, [], ◌∷◌, ◌++◌, length, Option, Some, None, refl, sym, ap, subst, ◌∙◌, arith}
 use Rattle.std.specs.Prelude.{slice_get, ◌==◌}
 use Rattle.std.specs.Option.{option_map_or}
 use Rattle.std.proofs.lemmas.Bool.Decides.{nat_tests}
@@ -71,8 +71,8 @@ drop_none (x ∷ xs) (suc n) h = drop_none xs n h
 pub gives_none : (net : NetRows) (o : OwingState) (left : List ℕ) (spent : SpentState) → left ≡ [] → spent ≡ spent_state o.table o.run → GivesNext net o left (Finished spent)
 gives_none net o left spent none is = subst (λ es. GivesNext net o es (Finished spent)) (sym none) is
 
-pub gives_on : (net : NetRows) (o : OwingState) (e : ℕ) (left rest : List ℕ) (p : OwingState) → left ≡ e ∷ rest → is_weak net e ≡ false → p ≡ owing_state o.table o.run rest → GivesNext net o left (Next p)
-gives_on net o e left rest p some strong is = subst (λ es. GivesNext net o es (Next p)) (sym some) (strong, is)
+pub gives_on : (net : NetRows) (o : OwingState) (e : ℕ) (left rest : List ℕ) (p : OwingState) → left ≡ e ∷ rest → is_weak net e ≡ false → p ≡ owing_state o.table o.run rest p.found → p.found ≢ Some 1 → GivesNext net o left (Next p)
+gives_on net o e left rest p some strong is other = subst (λ es. GivesNext net o es (Next p)) (sym some) (strong, is, other)
 
-pub gives_more : (net : NetRows) (o : OwingState) (e : ℕ) (left rest : List ℕ) (p : OwingState) (fresh : FreshState) → left ≡ e ∷ rest → p ≡ owing_state o.table o.run rest → fresh ≡ fresh_state o.table (target net e) (cause_by net e) → GivesNext net o left (Released p fresh)
-gives_more net o e left rest p fresh some is made = subst (λ es. GivesNext net o es (Released p fresh)) (sym some) (is, made)
+pub gives_more : (net : NetRows) (o : OwingState) (e : ℕ) (left rest : List ℕ) (p : OwingState) (fresh : FreshState) → left ≡ e ∷ rest → p ≡ owing_state o.table o.run rest p.found → fresh ≡ fresh_state o.table (target net e) (cause_by net e) → (is_weak net e ≡ false → p.found ≡ Some 1) → GivesNext net o left (Released p fresh)
+gives_more net o e left rest p fresh some is made one = subst (λ es. GivesNext net o es (Released p fresh)) (sym some) (is, made, one)

@@ -1,5 +1,5 @@
 -- What a keeper knows, and when that is a whole run.
-use Rattle.std.specs.Prelude.{◌≡◌, ◌==◌, ◌<◌, ℕ, List, [], ◌∷◌, length, Some, slice_get, count_by, Result}
+use Rattle.std.specs.Prelude.{◌≡◌, ◌≢◌, ◌==◌, ◌<◌, ℕ, List, [], ◌∷◌, length, Some, slice_get, count_by, Option, Result}
 use Rattle.std.specs.declared.result.Result.TheVariants.{Ok}
 use Rattle.std.specs.List.{AllByRecursion}
 use Rattle.task_graph.specs.NetRows.{NetRows}
@@ -11,28 +11,44 @@ use Rattle.journal_rules.specs.Complete.{Complete}
 use Rattle.join_tables.specs.declared.turns.Run.{Run}
 use Rattle.join_tables.specs.declared.keeper.Recorded.{Recorded}
 use Rattle.join_tables.specs.declared.keeper.Remaining.{Remaining}
-use Rattle.join_tables.specs.declared.keeper.Remaining.TheVariants.{All as AllTaken}
+use Rattle.join_tables.specs.declared.keeper.Remaining.TheVariants.{More, All as AllTaken}
 
--- a keeper's table, and the entries that it has, in the order in which it took them in
+-- A keeper's table, the entries that it has, in the order in which it took them in, and how many live turns it found
+-- when it last took one off.
 pub record KeeperState : Type 0 where
   pub table : TableId
   pub entries : List Recorded
+  pub found : Option ℕ
 
-abbrev pub keeper_state : TableId → List Recorded → KeeperState
-keeper_state n entries = record { table = n; entries = entries }
+abbrev pub keeper_state : TableId → List Recorded → Option ℕ → KeeperState
+keeper_state n entries found = record { table = n; entries = entries; found = found }
 
 -- the entries of a run that ended
 abbrev pub entries_of : Run → List Recorded
 entries_of run = record { place = run.start; entry = Start run.task run.cause [] } ∷ record { place = run.place; entry = End run.start run.gives run.inner } ∷ []
 
--- These entries are those of a finished run: one journal, legal as far as the net decides and complete, has each of
--- them at its place, and each of its places is named once.
-pub record TellsRun (net : NetRows) (limit : ℕ) (entries : List Recorded) : Type 0 where
-  pub journal : List Entry
-  pub legal : ShapeLegal net limit journal
-  pub complete : Complete net limit journal
+-- A journal has each of these entries at its place, and each of its places is named once.
+pub record Merges (entries : List Recorded) (journal : List Entry) : Type 0 where
   pub stand : AllByRecursion (λ (r : Recorded). slice_get journal r.place ≡ Some r.entry) entries
   pub each : (m : ℕ) → m < length journal → count_by (λ (r : Recorded). r.place == m) entries ≡ 1
+
+-- These entries are those of a finished run: they are one journal that is legal as far as the net decides and complete.
+pub record TellsRun (net : NetRows) (limit : ℕ) (entries : List Recorded) : Type 0 where
+  pub journal : List Entry
+  pub merges : Merges entries journal
+  pub legal : ShapeLegal net limit journal
+  pub complete : Complete net limit journal
+
+-- they are those of a finished run of some net
+pub record TellsSomeRun (entries : List Recorded) : Type 0 where
+  pub net : NetRows
+  pub limit : ℕ
+  pub tells : TellsRun net limit entries
+
+-- what is left where a keeper has found so many live turns: nothing after the last
+abbrev pub LeavesOf : ℕ → Remaining → Type 0
+LeavesOf n AllTaken = n ≡ 1
+LeavesOf n More = n ≢ 1
 
 -- the answer is that no turn is left
 abbrev pub IsLast : {E : Type 0} → Result Remaining E → Type 0

@@ -1,5 +1,5 @@
 -- The states of a table, of its turns and of its keeper.
-use Rattle.std.specs.Prelude.{ℕ, Bool, List}
+use Rattle.std.specs.Prelude.{ℕ, Bool, List, Option}
 use Rattle.task_graph.specs.NetRows.{NetRows}
 use Rattle.atomic_table.specs.Seated.{TableId}
 use Rattle.journal_rules.specs.declared.entry.Cause.{Cause}
@@ -24,18 +24,21 @@ pub record CollectingState : Type 0 where
   pub cause : Cause
   pub left : List ℕ
 
--- one that has collected all, and whether it was refused at the limit
+-- One that has collected all, and whether it was refused at the limit. Its last step may have found a number: in the
+-- join word of its task, where it counted an edge, or in the word of starts, where it was refused.
 pub record TurnState : Type 0 where
   pub table : TableId
   pub task : ℕ
   pub cause : Cause
   pub refused : Bool
+  pub found : Option ℕ
 
--- one that may start its task
+-- one that may start its task, and the number that its admission drew
 pub record AdmittedState : Type 0 where
   pub table : TableId
   pub task : ℕ
   pub cause : Cause
+  pub drawn : ℕ
 
 -- a start that runs, and its place in the journal
 pub record RunningState : Type 0 where
@@ -44,11 +47,13 @@ pub record RunningState : Type 0 where
   pub cause : Cause
   pub place : ℕ
 
--- a run that ended, and the edges that it has still to give
+-- A run that ended, and the edges that it has still to give. Where it counted the edge that it gave last, it found a
+-- number in the join word there.
 pub record OwingState : Type 0 where
   pub table : TableId
   pub run : Run
   pub left : List ℕ
+  pub found : Option ℕ
 
 -- one that has given all
 pub record SpentState : Type 0 where
@@ -61,17 +66,17 @@ fresh_state n t cause = record { table = n; task = t; cause = cause }
 abbrev pub collecting_state : TableId → ℕ → Cause → List ℕ → CollectingState
 collecting_state n t cause left = record { table = n; task = t; cause = cause; left = left }
 
-abbrev pub turn_state : TableId → ℕ → Cause → Bool → TurnState
-turn_state n t cause refused = record { table = n; task = t; cause = cause; refused = refused }
+abbrev pub turn_state : TableId → ℕ → Cause → Bool → Option ℕ → TurnState
+turn_state n t cause refused found = record { table = n; task = t; cause = cause; refused = refused; found = found }
 
-abbrev pub admitted_state : TableId → ℕ → Cause → AdmittedState
-admitted_state n t cause = record { table = n; task = t; cause = cause }
+abbrev pub admitted_state : TableId → ℕ → Cause → ℕ → AdmittedState
+admitted_state n t cause drawn = record { table = n; task = t; cause = cause; drawn = drawn }
 
 abbrev pub running_state : TableId → ℕ → Cause → ℕ → RunningState
 running_state n t cause place = record { table = n; task = t; cause = cause; place = place }
 
-abbrev pub owing_state : TableId → Run → List ℕ → OwingState
-owing_state n run left = record { table = n; run = run; left = left }
+abbrev pub owing_state : TableId → Run → List ℕ → Option ℕ → OwingState
+owing_state n run left found = record { table = n; run = run; left = left; found = found }
 
 abbrev pub spent_state : TableId → Run → SpentState
 spent_state n run = record { table = n; run = run }

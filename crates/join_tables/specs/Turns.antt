@@ -1,5 +1,5 @@
 -- A table, its turns and its keeper, as contracts see them.
-use Rattle.std.specs.Prelude.{◌≡◌, ℕ, Bool, true, false, List, [], ◌∷◌}
+use Rattle.std.specs.Prelude.{◌≡◌, ◌≢◌, ℕ, ◌<◌, ◌≤◌, Bool, true, false, Some, None, IsSomeAnd, List, [], ◌∷◌}
 use Rattle.task_graph.specs.NetRows.{NetRows}
 use Rattle.task_graph.specs.Net.{is_weak}
 use Rattle.journal_rules.specs.declared.entry.Cause.{Cause}
@@ -14,21 +14,22 @@ use Rattle.join_tables.specs.declared.turns.Admitted.TheVariants.{Go, Over}
 use Rattle.join_tables.specs.declared.turns.Run.{Run}
 use Rattle.join_tables.specs.States.{CollectingState, TurnState, RunningState, OwingState, fresh_state, collecting_state, turn_state, admitted_state, owing_state, spent_state}
 
--- What collecting from the next edge of a release leads to: More where another is left; Last, and perhaps another
--- release of the task by its strong in-edges, where none is
+-- What collecting from the next edge of a release leads to: More where another is left. Where none is, LastAgain, with
+-- another release of the task by its strong in-edges, where the edge was counted and that count found one left in the
+-- join word; else Last.
 abbrev pub CollectsFrom : CollectingState → List ℕ → Collected → Type 0
-CollectsFrom c [] (Last turn) = turn ≡ turn_state c.table c.task c.cause false
+CollectsFrom c [] (Last turn) = turn ≡ turn_state c.table c.task c.cause false None
 CollectsFrom c [] _ = ⊥
-CollectsFrom c (e ∷ []) (Last turn) = turn ≡ turn_state c.table c.task c.cause false
-CollectsFrom c (e ∷ []) (LastAgain turn fresh) = (turn ≡ turn_state c.table c.task c.cause false) × (fresh ≡ fresh_state c.table c.task Strong)
+CollectsFrom c (e ∷ []) (Last turn) = (turn ≡ turn_state c.table c.task c.cause false turn.found) × (turn.found ≢ Some 1)
+CollectsFrom c (e ∷ []) (LastAgain turn fresh) = (turn ≡ turn_state c.table c.task c.cause false (Some 1)) × (fresh ≡ fresh_state c.table c.task Strong)
 CollectsFrom c (e ∷ []) (More d) = ⊥
 CollectsFrom c (e ∷ f ∷ left) (More d) = d ≡ collecting_state c.table c.task c.cause (f ∷ left)
 CollectsFrom c (e ∷ f ∷ left) _ = ⊥
 
--- a turn may start its task, or is refused
-abbrev pub Admits : TurnState → Admitted → Type 0
-Admits t (Go ticket) = ticket ≡ admitted_state t.table t.task t.cause
-Admits t (Over turn) = turn ≡ turn_state t.table t.task t.cause true
+-- A turn may start its task where the number that it drew is below the limit, else it is refused.
+abbrev pub Admits : ℕ → TurnState → Admitted → Type 0
+Admits limit t (Go ticket) = (ticket ≡ admitted_state t.table t.task t.cause ticket.drawn) × (ticket.drawn < limit)
+Admits limit t (Over turn) = (turn ≡ turn_state t.table t.task t.cause true turn.found) × IsSomeAnd turn.found (λ n. limit ≤ n)
 
 -- the run of a start that ended and gives these edges
 abbrev pub EndsAs : RunningState → List ℕ → Bool → Run → Type 0
@@ -42,11 +43,12 @@ cause_of false e = Strong
 abbrev pub cause_by : NetRows → ℕ → Cause
 cause_by net e = cause_of (is_weak net e) e
 
--- What giving the next edge that is owed leads to: a token of a weak edge releases its target always, and Finished
--- comes where none is left
+-- What giving the next edge that is owed leads to. A token of a weak edge always releases its target; one of a strong
+-- edge does where the edge was counted and that count found one left in the join word. Finished comes where no edge is
+-- left.
 abbrev pub GivesNext : NetRows → OwingState → List ℕ → Gave → Type 0
 GivesNext net o [] (Finished spent) = spent ≡ spent_state o.table o.run
 GivesNext net o [] _ = ⊥
-GivesNext net o (e ∷ left) (Next p) = (is_weak net e ≡ false) × (p ≡ owing_state o.table o.run left)
-GivesNext net o (e ∷ left) (Released p fresh) = (p ≡ owing_state o.table o.run left) × (fresh ≡ fresh_state o.table (target net e) (cause_by net e))
+GivesNext net o (e ∷ left) (Next p) = (is_weak net e ≡ false) × (p ≡ owing_state o.table o.run left p.found) × (p.found ≢ Some 1)
+GivesNext net o (e ∷ left) (Released p fresh) = (p ≡ owing_state o.table o.run left p.found) × (fresh ≡ fresh_state o.table (target net e) (cause_by net e)) × (is_weak net e ≡ false → p.found ≡ Some 1)
 GivesNext net o (e ∷ left) (Finished spent) = ⊥

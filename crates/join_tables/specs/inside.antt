@@ -7,3 +7,4 @@ pub mod Seated
 pub mod Collects
 pub mod FirstReleases
 pub mod Recording
+pub mod Merging

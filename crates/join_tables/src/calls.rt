@@ -1,6 +1,6 @@
 // The calls that take a release to its start, and a start to its end and the releases that follow. None takes
 // memory, and none waits.
-ghost use Rattle.std.specs.Prelude.{◌≡◌, ◌≢◌, ◌<◌, ◌≤◌, ◌∷◌, IfSome, IsTrue, is_some, None, [], length, slice_get, true, false, drop};
+ghost use Rattle.std.specs.Prelude.{◌≡◌, ◌≢◌, ◌↔◌, ◌<◌, ◌≤◌, ◌∷◌, IfSome, IsTrue, is_some, Some, None, [], length, slice_get, true, false, drop};
 ghost use Rattle.std.specs.Arc.{arc_value};
 ghost use Rattle.task_graph.specs.Net.{is_weak};
 ghost use Rattle.journal_rules.specs.DataRule.{edges_of};
@@ -21,11 +21,18 @@ use crate::turns::{
 use journal_rules::Cause;
 use outside_io::List;
 
-// What collecting from one edge led to: that no edge was left, or that a token was taken, with the release that this
-// made, and whether it was the last edge.
+// What an edge's count found in the join word, if the edge was counted, and the release that was made.
+#[derive(Drop)]
+struct Counted {
+    found: Option<u64>,
+    made: Option<Fresh>,
+}
+
+// What collecting from one edge led to: that no edge was left, or that a token was taken and perhaps counted, and
+// whether it was the last edge.
 enum Step {
     NoneLeft,
-    Taken(Option<Fresh>, bool),
+    Taken(Counted, bool),
 }
 
 // The task in which an edge ends, and whether the edge is weak.
@@ -33,6 +40,18 @@ enum Step {
 struct Target {
     task: u32,
     weak: bool,
+}
+
+impl Counted {
+    // That no edge was counted.
+    fn nothing() -> Counted
+        ensures { (result.found ≡ None) × (result.made ≡ None) }
+    {
+        Counted {
+            found: None,
+            made: None,
+        }
+    }
 }
 
 impl NetTable {
@@ -68,6 +87,7 @@ impl NetTable {
             mut seat,
             task,
             cause,
+            ..
         } = ticket;
         let place = self.words.draw_start(&mut seat);
         Running {
@@ -78,21 +98,33 @@ impl NetTable {
         }
     }
 
-    /// Draws an admission. `Over` comes exactly where its number is not below the limit.
+    /// Draws an admission. `Go` comes exactly where its number is below the limit.
     pub fn admit(&self, turn: Turn) -> Admitted
         requires table { turn.table ≡ self.now.table }
         requires asked_once { turn.refused ≡ false }
-        ensures { Admits turn result }
+        ensures { Admits self.now.limit turn result }
     {
         let Turn {
             mut seat,
             task,
             cause,
+            ..
         } = turn;
-        if self.words.draw_admission(&mut seat) < self.words.limit() {
-            Admitted::Go(StartTicket { seat, task, cause })
+        let number = self.words.draw_admission(&mut seat);
+        if number < self.words.limit() {
+            Admitted::Go(StartTicket {
+                seat,
+                task,
+                cause,
+                drawn: number,
+            })
         } else {
-            Admitted::Over(Turn { seat, task, cause })
+            Admitted::Over(Turn {
+                seat,
+                task,
+                cause,
+                found: Some(number),
+            })
         }
     }
 
@@ -120,7 +152,12 @@ impl NetTable {
             gives,
             inner,
         };
-        Owing { seat, run, next: 0 }
+        Owing {
+            seat,
+            run,
+            next: 0,
+            found: None,
+        }
     }
 
     /// Takes a token from the next edge of a release. Where that is a strong one with another token, it counts it
@@ -135,15 +172,28 @@ impl NetTable {
             cause,
             next,
         } = collecting;
-        match self.collect_one(&mut seat, task, cause, next) {
-            Step::NoneLeft | Step::Taken(None, true) => Collected::Last(Turn { seat, task, cause }),
-            Step::Taken(None, false) => Collected::More(Collecting {
+        let (counted, is_last) = match self.collect_one(&mut seat, task, cause, next) {
+            Step::NoneLeft => (Counted::nothing(), true),
+            Step::Taken(counted, is_last) => (counted, is_last),
+        };
+        if !is_last {
+            return Collected::More(Collecting {
                 seat,
                 task,
                 cause,
                 next: next + 1,
-            }),
-            Step::Taken(Some(fresh), _) => Collected::LastAgain(Turn { seat, task, cause }, fresh),
+            });
+        }
+        let Counted { found, made } = counted;
+        let turn = Turn {
+            seat,
+            task,
+            cause,
+            found,
+        };
+        match made {
+            Some(fresh) => Collected::LastAgain(turn, fresh),
+            None => Collected::Last(turn),
         }
     }
 
@@ -157,15 +207,17 @@ impl NetTable {
             mut seat,
             run,
             next,
+            ..
         } = owing;
         let Some(edge) = run.gives.get(next) else {
             return Gave::Finished(Spent { seat, run });
         };
-        let made = self.give_edge(&mut seat, *edge);
+        let Counted { found, made } = self.give_edge(&mut seat, *edge);
         let owing = Owing {
             seat,
             run,
             next: next + 1,
+            found,
         };
         match made {
             Some(fresh) => Gave::Released(owing, fresh),
@@ -174,42 +226,52 @@ impl NetTable {
     }
 
     // Gives a token of an edge, and deals out the release that this makes, if it makes one.
-    fn give_edge(&self, seat: &mut Place, edge: u32) -> Option<Fresh>
+    fn give_edge(&self, seat: &mut Place, edge: u32) -> Counted
         requires table { seat.old.table_id ≡ self.now.table }
         requires home { seat.old.me.1 ≡ [] }
         requires ready { OwesFirst edge seat.old.me.0 }
         ensures table { seat.new.table_id ≡ seat.old.table_id }
         ensures view { seat.new.me ≡ (paid seat.old.me.0, []) }
-        ensures fresh { IfSome result (λ fresh. fresh ≡ fresh_state self.now.table (target self.now.net edge) (cause_by self.now.net edge)) }
-        ensures always { is_weak self.now.net edge ≡ true → IsTrue (is_some result) }
+        ensures fresh { IfSome result.made (λ fresh. fresh ≡ fresh_state self.now.table (target self.now.net edge) (cause_by self.now.net edge)) }
+        ensures always { is_weak self.now.net edge ≡ true → IsTrue (is_some result.made) }
+        ensures exact { is_weak self.now.net edge ≡ false → (IsTrue (is_some result.made) ↔ (result.found ≡ Some 1)) }
     {
         self.words.learn(seat);
         let Target { task, weak } = self.target(edge);
         let found = self.words.give_token(seat, edge);
         if weak {
-            Some(self.deal_fresh(seat, task, Cause::Weak(edge)))
+            Counted {
+                found: None,
+                made: Some(self.deal_fresh(seat, task, Cause::Weak(edge))),
+            }
         } else if found == 0 {
             self.count(seat, task, edge)
         } else {
-            None
+            Counted::nothing()
         }
     }
 
     // Counts an edge at its target, and deals out the release that this makes, if it makes one.
-    fn count(&self, seat: &mut Place, task: u32, edge: u32) -> Option<Fresh>
+    fn count(&self, seat: &mut Place, task: u32, edge: u32) -> Counted
         requires table { seat.old.table_id ≡ self.now.table }
         requires home { seat.old.me.1 ≡ [] }
         requires ready { CountsNext self.now.net task edge seat.old.me.0 }
         requires in_range { task < length self.now.net.tasks }
         ensures table { seat.new.table_id ≡ seat.old.table_id }
         ensures view { seat.new.me ≡ (others_of seat.old.me.0, []) }
-        ensures fresh { IfSome result (λ fresh. fresh ≡ fresh_state self.now.table task Strong) }
-        ensures last { IsTrue (is_some result) → AreNoneLeft task (others_of seat.old.me.0) }
+        ensures fresh { IfSome result.made (λ fresh. fresh ≡ fresh_state self.now.table task Strong) }
+        ensures last { IsTrue (is_some result.made) → AreNoneLeft task (others_of seat.old.me.0) }
+        ensures exact { IsTrue (is_some result.made) ↔ (result.found ≡ Some 1) }
     {
-        if self.words.count_edge(seat, task, edge) == 1 {
+        let found = self.words.count_edge(seat, task, edge);
+        let made = if found == 1 {
             Some(self.deal_fresh(seat, task, Cause::Strong))
         } else {
             None
+        };
+        Counted {
+            found: Some(found),
+            made,
         }
     }
 
@@ -243,8 +305,8 @@ impl NetTable {
         };
         let is_last = self.edge_at(task, cause, next + 1).is_none();
         let found = self.words.take_token(seat, edge);
-        let made = self.count_again(seat, task, cause, edge, found);
-        Step::Taken(made, is_last)
+        let counted = self.count_again(seat, task, cause, edge, found);
+        Step::Taken(counted, is_last)
     }
 
     // Counts an edge again where it is a strong one and had another token.
@@ -255,7 +317,7 @@ impl NetTable {
         cause: Cause,
         edge: u32,
         found: u64,
-    ) -> Option<Fresh>
+    ) -> Counted
         requires table { seat.old.table_id ≡ self.now.table }
         requires home { seat.old.me.1 ≡ [] }
         requires ready { cause ≡ Strong → 1 < found → CountsNext self.now.net task edge seat.old.me.0 }
@@ -264,11 +326,12 @@ impl NetTable {
         requires few { found ≤ 1 → settled seat.old.me.0 ≡ seat.old.me.0 }
         ensures table { seat.new.table_id ≡ seat.old.table_id }
         ensures view { seat.new.me ≡ (settled seat.old.me.0, []) }
-        ensures fresh { IfSome result (λ fresh. fresh ≡ fresh_state self.now.table task Strong) }
-        ensures last { IsTrue (is_some result) → AreNoneLeft task (settled seat.old.me.0) × (cause ≡ Strong) }
+        ensures fresh { IfSome result.made (λ fresh. fresh ≡ fresh_state self.now.table task Strong) }
+        ensures last { IsTrue (is_some result.made) → AreNoneLeft task (settled seat.old.me.0) × (cause ≡ Strong) }
+        ensures exact { IsTrue (is_some result.made) ↔ (result.found ≡ Some 1) }
     {
         if cause != Cause::Strong || found <= 1 {
-            return None;
+            return Counted::nothing();
         }
         self.count(seat, task, edge)
     }

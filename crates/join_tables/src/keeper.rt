@@ -1,13 +1,16 @@
 // The keeper of a run: it takes in the turns that are done.
-ghost use Rattle.std.specs.Prelude.{◌≡◌, ◌++◌, ◌∷◌, [], OnOk, OnErr};
+ghost use Rattle.std.specs.Prelude.{◌≡◌, ℕ, ◌++◌, ◌∷◌, [], None, IsSomeAnd, IfOk, OnOk, OnErr};
 ghost use Rattle.std.specs.Arc.{arc_value};
-ghost use Rattle.join_tables.specs.declared.keeper.Remaining.TheVariants.{All};
-ghost use Rattle.join_tables.specs.Keeping.{keeper_state, TellsRun, entries_of, IsLast};
+ghost use Rattle.task_graph.specs.NetRows.{NetRows};
+ghost use Rattle.journal_rules.specs.ShapeLegal.{ShapeLegal};
+ghost use Rattle.journal_rules.specs.Complete.{Complete};
+ghost use Rattle.join_tables.specs.Keeping.{keeper_state, TellsRun, TellsSomeRun, Merges, entries_of, LeavesOf, IsLast};
 ghost use Rattle.join_tables.specs.inside.Kinds.{MayLeave, left_by, joined, IsWhole};
 
+use crate::merge::merged;
 use crate::steps::{Place, Words};
 use crate::turns::{NetTable, Run, Spent};
-use journal_rules::Entry;
+use journal_rules::{Entry, Journal};
 use outside_io::{List, NoMemory};
 use std::alloc::Global;
 use std::marker::Model;
@@ -25,6 +28,8 @@ pub struct Keeper {
     alloc: Global,
     seat: Place,
     entries: Vec<Recorded>,
+    // how many live turns it found when it last took one off, of which contracts speak
+    found: Option<u64>,
 }
 
 impl Model for Keeper {
@@ -34,7 +39,7 @@ impl Model for Keeper {
 
     ghost Value = { KeeperState };
 
-    ghost view = { λ k. keeper_state k.seat.table_id k.entries.items };
+    ghost view = { λ k. keeper_state k.seat.table_id k.entries.items k.found };
 
     ghost invariant = { λ k. (k.seat.id ≡ 0) × (k.seat.me ≡ (told_notes k.entries.items, [])) };
 }
@@ -53,12 +58,13 @@ impl Keeper {
     pub(crate) fn new(alloc: Global, seat: Place) -> Keeper
         requires keeper { seat.id ≡ 0 }
         requires view { seat.me ≡ ([], []) }
-        ensures { result ≡ keeper_state seat.table_id [] }
+        ensures { result ≡ keeper_state seat.table_id [] None }
     {
         Keeper {
             alloc,
             seat,
             entries: Vec::new(alloc),
+            found: None,
         }
     }
 
@@ -74,7 +80,8 @@ impl Keeper {
     pub fn absorb(&mut self, table: &NetTable, spent: Spent) -> Result<Remaining, NoMemory>
         requires keeper { self.old.table ≡ table.now.table }
         requires spent { spent.table ≡ table.now.table }
-        ensures ok { OnOk result (self.new ≡ keeper_state self.old.table (self.old.entries ++ entries_of spent.run)) }
+        ensures ok { OnOk result (self.new ≡ keeper_state self.old.table (self.old.entries ++ entries_of spent.run) self.new.found) }
+        ensures left { IfOk result (λ left. IsSomeAnd self.new.found (λ n. LeavesOf n left)) }
         ensures err { OnErr result (self.new ≡ self.old) }
         ensures all { IsLast result → TellsRun table.now.net table.now.limit self.new.entries }
     {
@@ -100,26 +107,48 @@ impl Keeper {
             inner,
         };
         self.entries.push_reserved(Recorded { place, entry });
-        Ok(table.words.settle(&mut self.seat, seat))
+        let found = table.words.settle(&mut self.seat, seat);
+        self.found = Some(found);
+        Ok(Remaining::of(found))
+    }
+
+    /// The journal of a run that is finished: `All` was answered, or there was no release at first. It has each of the
+    /// keeper's entries at its place.
+    pub fn journal(self) -> Result<Journal, NoMemory>
+        requires { TellsSomeRun self.entries }
+        ensures merges { IfOk result (Merges self.entries) }
+        ensures finished { IfOk result (λ journal. (net : NetRows) (limit : ℕ) → TellsRun net limit self.entries → ShapeLegal net limit journal × Complete net limit journal) }
+    {
+        let Keeper { alloc, entries, .. } = self;
+        merged(alloc, entries)
+    }
+}
+
+impl Remaining {
+    // What is left where so many live turns were found.
+    fn of(found: u64) -> Remaining
+        ensures { LeavesOf found result }
+    {
+        if found == 1 {
+            Remaining::All
+        } else {
+            Remaining::More
+        }
     }
 }
 
 impl Words {
-    // Takes a turn that is done into the keeper's seat.
-    fn settle(&self, seat: &mut Place, spent: Place) -> Remaining
+    // Takes a turn that is done into the keeper's seat, and says how many were live.
+    fn settle(&self, seat: &mut Place, spent: Place) -> u64
         requires table { (seat.old.table_id ≡ self.now.table.shared.table_id) × (spent.table_id ≡ self.now.table.shared.table_id) }
         requires keeper { seat.old.id ≡ 0 }
         requires home { (seat.old.me.1 ≡ []) × (spent.me.1 ≡ []) }
         requires ready { MayLeave (joined seat.old.me.0 spent.me.0) }
         ensures table { (seat.new.table_id ≡ seat.old.table_id) × (seat.new.id ≡ 0) }
         ensures view { (seat.new.me.0 ≡ left_by (joined seat.old.me.0 spent.me.0)) × (seat.new.me.1 ≡ []) }
-        ensures all { result ≡ All → IsWhole (arc_value self.now.net) self.now.table.shared.key.limit seat.new.me.0 }
+        ensures all { result ≡ 1 → IsWhole (arc_value self.now.net) self.now.table.shared.key.limit seat.new.me.0 }
     {
         self.take_in(seat, spent);
-        if self.leave(seat) == 1 {
-            Remaining::All
-        } else {
-            Remaining::More
-        }
+        self.leave(seat)
     }
 }

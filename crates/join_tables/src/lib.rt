@@ -50,6 +50,7 @@
 
 mod calls;
 mod keeper;
+mod merge;
 mod opening;
 mod releases;
 mod steps;

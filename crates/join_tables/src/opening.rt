@@ -30,7 +30,6 @@ pub struct Opening {
 
 impl NetTable {
     /// The table of a run of a net, which may have this many starts. It is the only call that takes memory.
-    #[tactic(auto, using(crate::proofs::FirstStep::all_of_table))]
     pub fn new(alloc: Global, net: Arc<Net>, limit: u64) -> Result<Opening, NoMemory>
         requires limit { limit ≤ 2097153 }
         requires no_semaphores { (arc_value net).sems ≡ [] }

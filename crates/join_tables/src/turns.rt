@@ -77,6 +77,8 @@ pub struct Turn {
     pub(crate) seat: Place,
     pub(crate) task: u32,
     pub(crate) cause: Cause,
+    // what its last step found in its word, of which contracts speak
+    pub(crate) found: Option<u64>,
 }
 
 impl Model for Turn {
@@ -86,7 +88,7 @@ impl Model for Turn {
 
     ghost Value = { TurnState };
 
-    ghost view = { λ t. turn_state t.seat.table_id t.task t.cause (is_refused t.seat.me.0) };
+    ghost view = { λ t. turn_state t.seat.table_id t.task t.cause (is_refused t.seat.me.0) t.found };
 
     ghost invariant = { λ t. t.seat.me ≡ (turn_view t.task t.cause (taken_in t.seat.me.0) (is_refused t.seat.me.0), []) };
 }
@@ -97,6 +99,8 @@ pub struct StartTicket {
     pub(crate) seat: Place,
     pub(crate) task: u32,
     pub(crate) cause: Cause,
+    // the number that its admission drew, of which contracts speak
+    pub(crate) drawn: u64,
 }
 
 impl Model for StartTicket {
@@ -106,7 +110,7 @@ impl Model for StartTicket {
 
     ghost Value = { AdmittedState };
 
-    ghost view = { λ t. admitted_state t.seat.table_id t.task t.cause };
+    ghost view = { λ t. admitted_state t.seat.table_id t.task t.cause t.drawn };
 
     ghost invariant = { λ t. t.seat.me ≡ (ticket_view t.task t.cause (taken_in t.seat.me.0), []) };
 }
@@ -149,6 +153,8 @@ pub struct Owing {
     pub(crate) seat: Place,
     pub(crate) run: Run,
     pub(crate) next: usize,
+    // what its last step found in its word, of which contracts speak
+    pub(crate) found: Option<u64>,
 }
 
 impl Model for Owing {
@@ -158,7 +164,7 @@ impl Model for Owing {
 
     ghost Value = { OwingState };
 
-    ghost view = { λ o. owing_state o.seat.table_id o.run (drop o.next o.run.gives) };
+    ghost view = { λ o. owing_state o.seat.table_id o.run (drop o.next o.run.gives) o.found };
 
     ghost invariant = { λ o. o.seat.me ≡ (owing_view o.run (drop o.next o.run.gives), []) };
 }

@@ -1,5 +1,7 @@
 // What tasks give in these runs.
-ghost use Rattle.std.specs.Prelude.{◌<◌, IfOk, IfSome, length, false};
+ghost use Rattle.std.specs.Prelude.{◌≡◌, ◌<◌, IfOk, IfSome, IsSomeAnd, length, slice_get, false};
+ghost use Rattle.task_graph.specs.declared.net.TaskRow.{TaskRow};
+ghost use Rattle.task_graph.specs.declared.net.Shape.TheVariants.{Choice};
 ghost use Rattle.join_tables.specs.Giving.{MayGive};
 
 use outside_io::{List, NoMemory};
@@ -15,6 +17,43 @@ pub fn all_edges(alloc: Global, net: &Net, task: u32) -> Result<Option<List<u32>
         return Ok(None);
     }
     Ok(Some(List::from_slice(alloc, net.out_edges(task))?))
+}
+
+/// What a task gives in the runs here: all its edges if it doesn't choose, the first if it is a choice, or none. It is
+/// `None` of a task of another shape.
+pub fn gives_of(
+    alloc: Global,
+    net: &Net,
+    task: u32,
+    gives: bool,
+) -> Result<Option<List<u32>>, NoMemory>
+    requires { task < length net.now.tasks }
+    ensures { IfOk result (λ edges. IfSome edges (λ gives. MayGive net.now task gives false)) }
+{
+    if net.tasks()[task as usize].shape == Shape::Choice {
+        return first_edge(alloc, net, task, gives);
+    }
+    if gives {
+        all_edges(alloc, net, task)
+    } else {
+        Ok(no_edge(alloc, net, task))
+    }
+}
+
+// The first edge out of a choice, or none.
+fn first_edge(
+    alloc: Global,
+    net: &Net,
+    task: u32,
+    gives: bool,
+) -> Result<Option<List<u32>>, NoMemory>
+    requires { IsSomeAnd (slice_get net.now.tasks task) (λ (row : TaskRow). row.shape ≡ Choice) }
+    ensures { IfOk result (λ edges. IfSome edges (λ gives. MayGive net.now task gives false)) }
+{
+    match net.out_edges(task) {
+        [first, ..] if gives => Ok(Some(List::from_slice(alloc, &[*first])?)),
+        _ => Ok(Some(List::new(alloc))),
+    }
 }
 
 /// No edge out of a task that doesn't choose, and `None` of one that does.

@@ -54,8 +54,8 @@ take_token-found-requires-clause-in_range c =
     let next = next_edge c.args.self.now.net c.args.task c.args.cause (taken_in c.args.seat.now.me.0) (left_in c.args.seat.now.me.0) c.args.next c.in-Some.edge fits.0.0 fits.0.1 c.requires.next some in
     subst (λ (n : NetRows). c.in-Some.edge < length n.edges) (sym net_is) next.below
 
-pub count_again-made-requires-clause-ready : goal.count_again-made-requires-clause-ready
-count_again-made-requires-clause-ready c =
+pub count_again-counted-requires-clause-ready : goal.count_again-counted-requires-clause-ready
+count_again-counted-requires-clause-ready c =
     let net_is : arc_value c.self.inside.words.net ≡ c.args.self.now.net = search rules in
     let net = c.args.self.now.net in let t = c.args.task in let cause = c.args.cause in let f = c.in-Some.edge in
     let taken = taken_in c.args.seat.now.me.0 in let left = left_in c.args.seat.now.me.0 in
@@ -86,9 +86,9 @@ returns-clause-step c =
     let next = next_edge net t cause taken left c.args.next f fits.0.0 fits.0.1 c.requires.next some in
     let found = c.take_token-found.result in
     let now : c.take_token-found.new.seat.me.0 ≡ took found (collecting_view t cause taken left) = c.take_token-found.ensures.view.0 ∙ ap (took found) (c.learn.ensures.view.0 ∙ view) in
-    let then : c.count_again-made.new.seat.me.0 ≡ settled c.take_token-found.new.seat.me.0 = ap (λ m. m.0) c.count_again-made.ensures.view in
+    let then : c.count_again-counted.new.seat.me.0 ≡ settled c.take_token-found.new.seat.me.0 = ap (λ m. m.0) c.count_again-counted.ensures.view in
     let last : is_some (slice_get (edges_of net t cause) (c.args.next + 1)) ≡ not c.is_none-is_last.result = search rules in
-    collects_edge c.args.self.now.table net t cause taken left f next c.count_again-made.result c.is_none-is_last.result c.count_again-made.new.seat.me.0
-    (then ∙ ap settled now ∙ settled_view net t cause taken left f found next) c.count_again-made.ensures.fresh
-    (λ some_made. subst (λ v. AreNoneLeft t v × (cause ≡ Strong)) (sym then) (c.count_again-made.ensures.last some_made))
+    collects_edge c.args.self.now.table net t cause taken left f next c.count_again-counted.result c.is_none-is_last.result c.count_again-counted.new.seat.me.0
+    (then ∙ ap settled now ∙ settled_view net t cause taken left f found next) c.count_again-counted.ensures.fresh
+    (λ some_made. subst (λ v. AreNoneLeft t v × (cause ≡ Strong)) (sym then) (c.count_again-counted.ensures.last some_made)) c.count_again-counted.ensures.exact
     (last_next net t cause taken next.tail c.args.next f c.is_none-is_last.result (ap (λ es. taken ++ es) (sym next.is) ∙ fits.0.1) c.requires.next last)

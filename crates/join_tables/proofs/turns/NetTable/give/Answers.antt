@@ -1,5 +1,6 @@
-use Rattle.std.proofs.Common.{rules, ◌≡◌, [], ◌+◌, Some, None, sym, ap, ◌∙◌, subst}
+use Rattle.std.proofs.Common.{rules, ◌≡◌, [], ◌+◌, false, Some, None, sym, ap, ◌∙◌, subst}
 use Rattle.std.specs.Prelude.{slice_get, drop}
+use Rattle.task_graph.specs.Net.{is_weak}
 use Rattle.join_tables.specs.States.{OwingState}
 use Rattle.join_tables.specs.inside.Seated.{owing_view, paid, OwesFirst}
 use Rattle.join_tables.proofs.Turning.{drop_some, drop_none, get_below, gives_none, gives_on, gives_more}
@@ -15,8 +16,8 @@ returns-in_default c =
     let none : slice_get c.owing.inside.run.gives c.owing.inside.next ≡ None = search rules in
     gives_none c.args.self.now.net c.args.owing c.args.owing.left _ (sym (ap (λ (o : OwingState). o.left) c.owing.view_is) ∙ drop_none c.owing.inside.run.gives c.owing.inside.next none) (search rules)
 
-pub give_edge-made-requires-clause-ready : goal.give_edge-made-requires-clause-ready
-give_edge-made-requires-clause-ready c =
+pub give_edge-found-requires-clause-ready : goal.give_edge-found-requires-clause-ready
+give_edge-found-requires-clause-ready c =
     let some : slice_get c.owing.inside.run.gives c.owing.inside.next ≡ Some c.in-Some.edge.now = search rules in
     subst (λ v. OwesFirst c.in-Some.edge.now v) (sym (ap (λ m. m.0) c.owing.invariant ∙ ap (λ es. owing_view c.owing.inside.run es) (drop_some c.owing.inside.run.gives c.owing.inside.next c.in-Some.edge.now some))) (search rules)
 
@@ -28,19 +29,20 @@ overflow_add-owing c =
 pub invariant_of-owing : goal.invariant_of-owing
 invariant_of-owing c =
     let some : slice_get c.owing.inside.run.gives c.owing.inside.next ≡ Some c.in-Some.edge.now = search rules in
-    c.give_edge-made.ensures.view ∙ (λ i. (paid ((ap (λ m. m.0) c.owing.invariant ∙ ap (λ es. owing_view c.owing.inside.run es) (drop_some c.owing.inside.run.gives c.owing.inside.next c.in-Some.edge.now some)) i), []))
+    c.give_edge-found.ensures.view ∙ (λ i. (paid ((ap (λ m. m.0) c.owing.invariant ∙ ap (λ es. owing_view c.owing.inside.run es) (drop_some c.owing.inside.run.gives c.owing.inside.next c.in-Some.edge.now some)) i), []))
 
 pub invariant_of-owing-in-None : goal.invariant_of-owing-in-None
 invariant_of-owing-in-None c =
     let some : slice_get c.owing.inside.run.gives c.owing.inside.next ≡ Some c.in-Some.edge.now = search rules in
-    c.give_edge-made.ensures.view ∙ (λ i. (paid ((ap (λ m. m.0) c.owing.invariant ∙ ap (λ es. owing_view c.owing.inside.run es) (drop_some c.owing.inside.run.gives c.owing.inside.next c.in-Some.edge.now some)) i), []))
+    c.give_edge-found.ensures.view ∙ (λ i. (paid ((ap (λ m. m.0) c.owing.invariant ∙ ap (λ es. owing_view c.owing.inside.run es) (drop_some c.owing.inside.run.gives c.owing.inside.next c.in-Some.edge.now some)) i), []))
 
 pub returns-in-Some-made : goal.returns-in-Some-made
 returns-in-Some-made c =
     let some : slice_get c.owing.inside.run.gives c.owing.inside.next ≡ Some c.in-Some.edge.now = search rules in
-    gives_more c.args.self.now.net c.args.owing c.in-Some.edge.now c.args.owing.left (drop (c.owing.inside.next + 1) c.owing.inside.run.gives) _ _ (sym (ap (λ (o : OwingState). o.left) c.owing.view_is) ∙ drop_some c.owing.inside.run.gives c.owing.inside.next c.in-Some.edge.now some) (search rules) (search rules)
+    gives_more c.args.self.now.net c.args.owing c.in-Some.edge.now c.args.owing.left (drop (c.owing.inside.next + 1) c.owing.inside.run.gives) _ _ (sym (ap (λ (o : OwingState). o.left) c.owing.view_is) ∙ drop_some c.owing.inside.run.gives c.owing.inside.next c.in-Some.edge.now some) (search rules) (search rules) (search rules)
 
 pub returns-in-None : goal.returns-in-None
 returns-in-None c =
     let some : slice_get c.owing.inside.run.gives c.owing.inside.next ≡ Some c.in-Some.edge.now = search rules in
-    gives_on c.args.self.now.net c.args.owing c.in-Some.edge.now c.args.owing.left (drop (c.owing.inside.next + 1) c.owing.inside.run.gives) _ (sym (ap (λ (o : OwingState). o.left) c.owing.view_is) ∙ drop_some c.owing.inside.run.gives c.owing.inside.next c.in-Some.edge.now some) (search rules) (search rules)
+    let strong : is_weak c.args.self.now.net c.in-Some.edge.now ≡ false = search rules in
+    gives_on c.args.self.now.net c.args.owing c.in-Some.edge.now c.args.owing.left (drop (c.owing.inside.next + 1) c.owing.inside.run.gives) _ (sym (ap (λ (o : OwingState). o.left) c.owing.view_is) ∙ drop_some c.owing.inside.run.gives c.owing.inside.next c.in-Some.edge.now some) strong (search rules) (search rules)

@@ -24,4 +24,4 @@ returns-then-weak-clause-fresh c = c.deal_fresh.ensures.fresh ∙ (λ i. fresh_s
 
 pub returns-then-found-eq0-clause-fresh : goal.returns-then-found-eq0-clause-fresh
 returns-then-found-eq0-clause-fresh c =
-    subst (λ (f : FreshState). IfSome c.count.result (λ fresh. fresh ≡ f)) (λ i. fresh_state c.args.self.now.table (c.target-task.ensures.task i) (cause_of ((sym c.if-weak.false ∙ c.target-task.ensures.weak) i) c.args.edge)) c.count.ensures.fresh
+    subst (λ (f : FreshState). IfSome c.count.result.made (λ fresh. fresh ≡ f)) (λ i. fresh_state c.args.self.now.table (c.target-task.ensures.task i) (cause_of ((sym c.if-weak.false ∙ c.target-task.ensures.weak) i) c.args.edge)) c.count.ensures.fresh

@@ -1,8 +1,9 @@
 use Rattle.std.proofs.Common.{rules, ◌≡◌, length}
 use Rattle.std.specs.Arc.{arc_value}
 use Rattle.join_tables.specs.inside.Opening.{first_items}
-use Rattle.join_tables.specs.inside.FirstReleases.{items_of, AreOpeningWords}
-use Rattle.join_tables.proofs.FirstStep.{begins_table, live_is}
+use Rattle.join_tables.specs.inside.FirstReleases.{items_of, states_of, AreOpeningWords}
+use Rattle.join_tables.proofs.FirstStep.{begins_table, live_is, all_of_table}
+use Rattle.join_tables.proofs.FirstFresh.{is_first_fresh, nothing_runs}
 use Rattle.join_tables.proofs.turns.NetTable.new.Goals as goal
 
 pub of_words-requires : goal.of_words-requires
@@ -12,3 +13,20 @@ of_words-requires c =
     let live : c.len.result ≡ length c.in_ok-releases.releases.items = search rules in
     let words : AreOpeningWords net c.len.result c.as_slice.result.now = search rules in
     begins_table net c.args.limit c.len.result c.as_slice.result.now words.rows c.requires.limit c.requires.no_semaphores (live_is net c.in_ok-releases.releases.items c.len.result live first) words
+
+pub returns : goal.returns
+returns c =
+    let net = arc_value c.args.net in
+    let rs = c.in_ok-releases.releases.items in
+    let first : items_of rs ≡ first_items net 0 (length net.tasks) = search rules in
+    let live : c.len.result ≡ length rs = search rules in
+    let words : AreOpeningWords net c.len.result c.as_slice.result.now = search rules in
+    let dealt : c.in_ok-fresh.fresh.items ≡ states_of c.in_ok-table.table.shared.table_id rs = search rules in
+    record {
+      net_is = search rules;
+      limit_is = search rules;
+      fresh = is_first_fresh c.in_ok-table.table.shared.table_id net rs c.in_ok-fresh.fresh.items dealt first;
+      of_table = all_of_table c.in_ok-table.table.shared.table_id rs c.in_ok-fresh.fresh.items dealt;
+      nothing = nothing_runs net c.args.limit c.len.result c.as_slice.result.now rs c.in_ok-table.table.shared.table_id c.in_ok-fresh.fresh.items words.rows c.requires.limit c.requires.no_semaphores live first words dealt;
+      keeper = search rules;
+    }

@@ -1,0 +1,177 @@
+// What the threads of a run share.
+ghost use Rattle.std.specs.Prelude.{◌≡◌, IfSome, IfOk, All, true, length};
+
+use join_tables::{Fresh, Keeper, NetTable, Remaining, Spent};
+use journal_rules::Journal;
+use keyed_lock::Keyed;
+use outside_io::NoMemory;
+use std::alloc::Global;
+use std::marker::Model;
+
+use crate::copies::copied;
+
+/// The releases that no thread has taken, and the keeper of the run.
+#[derive(Drop)]
+pub struct Shelf {
+    keeper: Keeper,
+    fresh: Vec<Fresh>,
+    // The releases that are neither done nor refused.
+    outstanding: u64,
+    refused: u64,
+    // How many runs may yet give their edges.
+    gives: u64,
+    is_over: bool,
+    is_whole: bool,
+}
+
+impl Model for Shelf {
+    ghost use Rattle.std.specs.Prelude.{◌≡◌, All, true};
+    ghost use Rattle.atomic_table.specs.Seated.{TableId};
+    ghost use Rattle.join_tables.specs.States.{FreshState};
+    ghost use Rattle.join_tables.specs.Keeping.{TellsSomeRun};
+
+    ghost Value = { TableId };
+
+    ghost view = { λ shelf. shelf.keeper.table };
+
+    ghost invariant = { λ shelf. All (λ (f : FreshState). f.table ≡ shelf.keeper.table) shelf.fresh.items × (shelf.is_whole ≡ true → TellsSomeRun shelf.keeper.entries) };
+}
+
+impl Keyed for Shelf {
+    ghost use Rattle.atomic_table.specs.Seated.{TableId};
+
+    ghost Key = { TableId };
+
+    ghost key = { λ shelf. shelf };
+}
+
+/// What a thread does next: the release that it takes up, if there is one, and whether its run gives its edges.
+#[derive(Drop)]
+pub struct Turnout {
+    pub fresh: Option<Fresh>,
+    pub gives: bool,
+    pub is_over: bool,
+}
+
+/// The journal of a run, how many of its releases were refused, and whether its keeper has answered that none is left.
+#[derive(Drop)]
+pub struct Ran {
+    pub journal: Journal,
+    pub refused: u64,
+    pub is_whole: bool,
+}
+
+impl Shelf {
+    ghost use Rattle.join_tables.specs.States.{FreshState};
+    ghost use Rattle.join_tables.specs.Keeping.{TellsSomeRun};
+
+    /// What threads share at first. So many runs give their edges.
+    pub fn new(keeper: Keeper, fresh: Vec<Fresh>, gives: u64, is_whole: bool) -> Shelf
+        requires fresh { All (λ (f : FreshState). f.table ≡ keeper.table) fresh.items }
+        requires whole { is_whole ≡ true → TellsSomeRun keeper.entries }
+        ensures { result ≡ keeper.table }
+    {
+        let outstanding = fresh.len() as u64;
+        Shelf {
+            keeper,
+            fresh,
+            outstanding,
+            refused: 0,
+            gives,
+            is_over: outstanding == 0,
+            is_whole,
+        }
+    }
+
+    /// The newest release.
+    pub fn take(&mut self) -> Turnout
+        ensures table { self.new ≡ self.old }
+        ensures fresh { IfSome result.fresh (λ fresh. fresh.table ≡ self.old) }
+    {
+        let fresh = self.fresh.pop();
+        let gives = self.gives > 0;
+        if fresh.is_some() {
+            self.gives = self.gives.saturating_sub(1);
+        }
+        Turnout {
+            fresh,
+            gives,
+            is_over: self.is_over,
+        }
+    }
+
+    /// Adds a release. If an allocation fails no more are taken.
+    pub fn add(&mut self, fresh: Fresh)
+        requires { fresh.table ≡ self.old }
+        ensures { self.new ≡ self.old }
+    {
+        self.outstanding = self.outstanding.saturating_add(1);
+        if self.fresh.push(fresh).is_err() {
+            self.is_over = true;
+        }
+    }
+
+    /// Takes in a turn that is done. If an allocation fails no more are taken.
+    pub fn finish(&mut self, table: &NetTable, spent: Spent)
+        requires { (table.now.table ≡ self.old) × (spent.table ≡ self.old) }
+        ensures { self.new ≡ self.old }
+    {
+        match self.keeper.absorb(table, spent) {
+            Ok(Remaining::All) => self.is_whole = true,
+            Ok(Remaining::More) => self.is_whole = false,
+            Err(NoMemory) => {
+                self.is_whole = false;
+                self.is_over = true;
+            }
+        }
+        self.leave();
+    }
+
+    /// A turn was refused.
+    pub fn refuse(&mut self)
+        ensures { self.new ≡ self.old }
+    {
+        self.refused = self.refused.saturating_add(1);
+        self.leave();
+    }
+
+    // One release less is outstanding.
+    fn leave(&mut self)
+        ensures { self.new ≡ self.old }
+    {
+        self.outstanding = self.outstanding.saturating_sub(1);
+        if self.outstanding == 0 {
+            self.is_over = true;
+        }
+    }
+
+    /// Takes no more releases.
+    pub fn give_up(&mut self)
+        ensures { self.new ≡ self.old }
+    {
+        self.is_over = true;
+    }
+
+    /// What came of the run, or `None` where a place of its journal has no entry.
+    pub fn ran(self, alloc: Global) -> Result<Option<Ran>, NoMemory> {
+        let Shelf {
+            keeper,
+            refused,
+            is_whole,
+            ..
+        } = self;
+        let journal = if is_whole {
+            Some(keeper.journal()?)
+        } else {
+            copied(alloc, keeper.entries())?
+        };
+        let Some(journal) = journal else {
+            return Ok(None);
+        };
+        Ok(Some(Ran {
+            journal,
+            refused,
+            is_whole,
+        }))
+    }
+}

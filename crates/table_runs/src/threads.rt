@@ -1,0 +1,136 @@
+// Runs by two and by four threads, whose journals are judged.
+ghost use Rattle.std.specs.Prelude.{◌≡◌, ◌≤◌, []};
+ghost use Rattle.std.specs.Arc.{arc_value};
+
+use crate::run_by;
+use legal_run::{Verdict, judge};
+use outside_io::List;
+use std::alloc::Global;
+use std::process::Abort;
+use std::sync::{Arc, Wait};
+use std::test::Fail;
+use std::thread::Threads;
+use task_graph::{BuildError, Net, NetBuilder, Shape};
+
+// How often each run is made by two threads, and by four.
+const TIMES: u32 = 130;
+
+// A limit that no run here comes to.
+const MANY: u64 = 10_000;
+
+/// A net by the shapes of its tasks and its edges, with the edges after them that begin with a token.
+#[derive(Clone, Copy)]
+struct Case<'c> {
+    tasks: &'c [Shape],
+    edges: &'c [(u32, u32)],
+    rings: &'c [(u32, u32)],
+}
+
+fn built(alloc: Global, case: Case<'_>) -> Result<Net, BuildError> {
+    let mut builder = NetBuilder::new(alloc);
+    for shape in case.tasks {
+        builder.task(*shape, List::new(alloc), List::new(alloc))?;
+    }
+    for (from, to) in case.edges {
+        builder.edge(*from, *to, false)?;
+    }
+    for (from, to) in case.rings {
+        builder.edge(*from, *to, true)?;
+    }
+    Ok(builder.finish())
+}
+
+// Eight tasks in a ring, with a token on every other edge.
+const RING: Case<'static> = Case {
+    tasks: &[Shape::Plain; 8],
+    edges: &[(0, 1), (2, 3), (4, 5), (6, 7)],
+    rings: &[(1, 2), (3, 4), (5, 6), (7, 0)],
+};
+
+// Six tasks, each of which turns by itself and precedes one.
+const HUB: Case<'static> = Case {
+    tasks: &[Shape::Plain; 7],
+    edges: &[(0, 6), (1, 6), (2, 6), (3, 6), (4, 6), (5, 6)],
+    rings: &[(0, 0), (1, 1), (2, 2), (3, 3), (4, 4), (5, 5)],
+};
+
+// A diamond whose last task chooses whether its first is to start again.
+const LOOP: Case<'static> = Case {
+    tasks: &[
+        Shape::Plain,
+        Shape::Plain,
+        Shape::Plain,
+        Shape::Plain,
+        Shape::Choice,
+    ],
+    edges: &[(0, 1), (1, 2), (1, 3), (2, 4), (3, 4), (4, 1)],
+    rings: &[],
+};
+
+// Makes a run by two and by four threads, in which so many runs give their edges, and judges each journal: it is
+// complete where no release was refused at the limit, and there are as many starts as the limit where one was.
+fn often<R: Threads + Wait + Abort + Sync>(
+    rt: &R,
+    alloc: Global,
+    case: Case<'_>,
+    limit: u64,
+    gives: u64,
+) -> Result<(), Fail>
+    requires { limit ≤ 2097153 }
+{
+    let net = Arc::new(alloc, built(alloc, case)?)?;
+    if !net.sems().is_empty() {
+        panic!(rt; "a semaphore");
+    }
+    for _ in 0..TIMES {
+        once(rt, alloc, &net, limit, gives, 2)?;
+        once(rt, alloc, &net, limit, gives, 4)?;
+    }
+    Ok(())
+}
+
+fn once<R: Threads + Wait + Abort + Sync>(
+    rt: &R,
+    alloc: Global,
+    net: &Arc<Net>,
+    limit: u64,
+    gives: u64,
+    threads: usize,
+) -> Result<(), Fail>
+    requires limit { limit ≤ 2097153 }
+    requires no_semaphores { (arc_value net.now).sems ≡ [] }
+{
+    let Some(ran) = run_by(rt, alloc, net, limit, gives, threads)? else {
+        panic!(rt; "a place without an entry");
+    };
+    let verdict = judge(alloc, net, limit, &ran.journal)?;
+    if ran.is_whole {
+        assert_eq!(rt; ran.refused, 0);
+        assert!(rt; matches!(verdict, Verdict::Complete));
+    } else {
+        assert!(rt; ran.refused > 0);
+        assert!(rt; matches!(verdict, Verdict::Legal));
+        assert_eq!(rt; ran.journal.len() as u64, limit.wrapping_mul(2));
+    }
+    Ok(())
+}
+
+#[test]
+fn a_ring(rt: HostRuntime) -> Result<(), Fail> {
+    often(&rt, rt.alloc(), RING, MANY, 60)
+}
+
+#[test]
+fn a_hub(rt: HostRuntime) -> Result<(), Fail> {
+    often(&rt, rt.alloc(), HUB, MANY, 60)
+}
+
+#[test]
+fn a_diamond_in_a_loop(rt: HostRuntime) -> Result<(), Fail> {
+    often(&rt, rt.alloc(), LOOP, MANY, 60)
+}
+
+#[test]
+fn a_ring_with_a_limit(rt: HostRuntime) -> Result<(), Fail> {
+    often(&rt, rt.alloc(), RING, 50, MANY)
+}
