@@ -32,8 +32,8 @@ codes_of_faults : (code_of (LongText t) ≡ 5) × (code_of (ReadFault t) ≡ 6) 
 codes_of_faults = (refl, refl, refl, refl)
 
 -- What stopped a call is told by the status of the same name.
-told : (status_of (stop.NoText t) ≡ NoText t) × (status_of (stop.LongText t) ≡ LongText t) × (status_of (stop.ReadFault t) ≡ ReadFault t) × (status_of (stop.NoSource File) ≡ NoSource File) × (status_of (stop.BadJournal 2) ≡ BadJournal 2) × (status_of stop.NoMemory ≡ NoMemory)
-told = (refl, refl, refl, refl, refl, refl)
+stops_reported : (status_of (stop.NoText t) ≡ NoText t) × (status_of (stop.LongText t) ≡ LongText t) × (status_of (stop.ReadFault t) ≡ ReadFault t) × (status_of (stop.NoSource File) ≡ NoSource File) × (status_of (stop.BadJournal 2) ≡ BadJournal 2) × (status_of stop.NoMemory ≡ NoMemory)
+stops_reported = (refl, refl, refl, refl, refl, refl)
 
 told_of_a_graph : status_of (stop.BadGraph NotJson) ≡ BadGraph NotJson
 told_of_a_graph = refl
@@ -57,13 +57,13 @@ status_of_a_break = refl
 
 -- A call that stopped has come to nothing, and its status tells why.
 stopped_at_a_text : StoppedBefore (λ why. why ≡ stop.NoText t) (NoText t) (Unit {0})
-stopped_at_a_text = record { why = stop.NoText t; stops = refl; told = refl; none = tt }
+stopped_at_a_text = record { why = stop.NoText t; stops = refl; reported = refl; none = tt }
 
 stopped_after_something : ¬ StoppedBefore (λ why. why ≡ stop.NoText t) (NoText t) ⊥
 stopped_after_something is = is.none
 
 told_for_another_reason : ¬ StoppedBefore (λ why. why ≡ stop.NoText t) (LongText t) (Unit {0})
-told_for_another_reason is = let same : LongText t ≡ NoText t = is.told ∙ ap status_of is.stops in absurd (cc)
+told_for_another_reason is = let same : LongText t ≡ NoText t = is.reported ∙ ap status_of is.stops in absurd (cc)
 
 stopped_for_nothing : ¬ StoppedBefore (λ why. ⊥) NoMemory (Unit {0})
 stopped_for_nothing is = is.stops

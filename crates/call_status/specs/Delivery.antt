@@ -1,4 +1,4 @@
--- What bytes come to that are put on a sink and flushed.
+-- What becomes of bytes that are written to a sink, which is then flushed.
 use Rattle.std.specs.Prelude.{◌≡◌, ℕ, ◌<◌, ◌≤◌, List, [], Result, Ok, Err}
 use Rattle.outside_io.specs.declared.sink.SinkFault.{SinkFault}
 use Rattle.outside_io.specs.declared.sink.SinkFault.TheVariants as fault
@@ -15,7 +15,7 @@ pub record CutShort (before after : SinkState) (bytes : List ℕ) : Type 0 where
   pub took : TookFront before.taken after.taken bytes
   pub nothing_held : after.held_back ≡ []
 
--- what bytes come to that are put on a sink which holds nothing back, and flushed
+-- what a sink that holds nothing back has taken of bytes once they are written and flushed, by the result
 abbrev pub Delivers : SinkState → SinkState → List ℕ → Result (Unit {0}) SinkFault → Type 0
 Delivers before after bytes (Ok done) = Delivered before after bytes
 Delivers before after bytes (Err fault.Failed) = CutShort before after bytes × (before.faults < after.faults)

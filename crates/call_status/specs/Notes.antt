@@ -1,4 +1,4 @@
--- The line that a status puts on the notes, as bytes.
+-- The line of a status on standard error, as bytes.
 use Rattle.std.specs.Prelude.{ℕ, List, [], ◌++◌, codes, decimal}
 use Rattle.graph_plans.specs.declared.spots.Spot.{Spot}
 use Rattle.graph_plans.specs.declared.spots.Spot.TheVariants.{File, Sem, Task, Module, ModuleSem, ModuleTask}
@@ -28,7 +28,7 @@ kind_text kind.Modules = codes "modules"
 kind_text kind.Depth = codes "depth"
 kind_text kind.Texts = codes "texts"
 
--- Why the bytes are no graph file. The field stands in it as it is.
+-- Why the bytes are no graph file. The name of the field is written as it is.
 abbrev pub graph_error_text : GraphError → List ℕ
 graph_error_text error.NotJson = codes "not JSON"
 graph_error_text (error.BadField spot field) = codes "bad field " ++ field ++ codes " in " ++ spot_text spot

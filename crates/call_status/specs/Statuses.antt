@@ -1,4 +1,4 @@
--- The status that tells what a call came to.
+-- The status of what a call came to.
 use Rattle.nested_runs.specs.declared.reasons.Reason.{Reason}
 use Rattle.nested_runs.specs.declared.reasons.Reason.TheVariants as reason
 use Rattle.legal_run.specs.declared.verdict.Verdict.{Verdict}
@@ -8,7 +8,7 @@ use Rattle.call_status.specs.declared.status.Status.TheVariants.{Done, BadGraph,
 use Rattle.call_status.specs.declared.stop.Stop.{Stop}
 use Rattle.call_status.specs.declared.stop.Stop.TheVariants as stop
 
--- the status that tells why a call stopped
+-- the status of a call that stopped for this reason
 abbrev pub status_of : Stop → Status
 status_of (stop.BadGraph error) = BadGraph error
 status_of (stop.NoSource spot) = NoSource spot

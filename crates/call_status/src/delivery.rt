@@ -1,11 +1,11 @@
-// Bytes that are put on a sink and flushed.
+// Writes that are flushed.
 ghost use Rattle.std.specs.Prelude.{◌≡◌, [], List, ℕ, IsErrOf};
 ghost use Rattle.outside_io.specs.Sink.{SinkState, Writes};
 ghost use Rattle.call_status.specs.Delivery.{Delivers};
 
 use outside_io::{Sink, SinkFault};
 
-/// Puts a line on a sink and flushes it.
+/// Writes a line to a sink and flushes it.
 #[tactic(auto, using(crate::proofs::Delivering::cut_short, crate::proofs::Delivering::flush_delivers))]
 pub fn deliver<S: Sink>(sink: &mut S, line: &[u8]) -> Result<(), SinkFault>
     requires { (S.state sink.old).held_back ≡ [] }
@@ -18,14 +18,14 @@ pub fn deliver<S: Sink>(sink: &mut S, line: &[u8]) -> Result<(), SinkFault>
     }
 }
 
-/// Flushes what was put on a sink that held nothing back before, by what the puts answered, and answers what came of
-/// all that was to be put.
+/// Flushes a sink after writes with this result in all, and returns the result of writing and flushing. The sink held
+/// nothing back before the writes.
 #[tactic(auto, using(crate::proofs::Delivering::cut_short, crate::proofs::Delivering::flush_delivers, crate::proofs::Delivering::flush_cuts))]
-pub fn flushed<S: Sink>(sink: &mut S, put: Result<(), SinkFault>) -> Result<(), SinkFault>
-    ensures { (before : SinkState) (bytes : List ℕ) → before.held_back ≡ [] → Writes before (S.state sink.old) bytes put
+pub fn flushed<S: Sink>(sink: &mut S, written: Result<(), SinkFault>) -> Result<(), SinkFault>
+    ensures { (before : SinkState) (bytes : List ℕ) → before.held_back ≡ [] → Writes before (S.state sink.old) bytes written
         → Delivers before (S.state sink.new) bytes result }
 {
-    match put {
+    match written {
         Ok(()) => sink.flush(),
         Err(SinkFault::Failed) => Err(SinkFault::Failed),
         Err(SinkFault::NoMemory) => {

@@ -1,4 +1,4 @@
-// The one line that a status puts on the notes.
+// The line of a status on standard error.
 ghost use Rattle.std.specs.Prelude.{◌≡◌, ◌<◌, ◌++◌, [], codes, decimal, IfOk, OnOk};
 ghost use Rattle.std.specs.Result.{IsOkAnd};
 ghost use Rattle.call_status.specs.Delivery.{CutShort, Delivered};
@@ -8,17 +8,18 @@ ghost use Rattle.call_status.specs.declared.status.Noted.TheVariants as noted;
 ghost use Rattle.call_status.specs.declared.status.Status.TheVariants.{Done};
 
 use super::delivery::deliver;
-use super::reasons::{add_fault, add_limit, add_numbered, add_stuck};
+use super::reasons::{add_fault, add_limit, add_stuck};
 use super::status::{Noted, Status};
 use graph_file::{GraphError, Kind};
 use graph_plans::Spot;
 use legal_run::Why;
+use line_output::add_numbered;
 use outside_io::{Bytes, List, NoMemory, Sink, SinkFault};
 use std::alloc::Global;
 
-/// Writes the line of a status on the notes, by one put, and flushes them. Where all was done there is no line, and
-/// they are left alone. Tasks are told by these names. A line that names nothing takes no memory, so that of a failed
-/// allocation can be written all the same.
+/// Writes the line of a status to `notes`, the diagnostics sink, by one write, and flushes it. With `Done` there is no
+/// line, and the sink is left alone. `names` are those of the tasks. A line that names nothing allocates nothing, so
+/// that of a failed allocation can be written all the same.
 pub fn put_note<N: Sink>(alloc: Global, notes: &mut N, names: &[Bytes], status: &Status) -> Noted
     requires { (N.state notes.old).held_back ≡ [] }
     ensures whole { result ≡ noted.Whole → Delivered (N.state notes.old) (N.state notes.new) (note_line names.now status.now) }
@@ -66,7 +67,7 @@ fn put_made<N: Sink>(notes: &mut N, line: Result<Bytes, NoMemory>) -> Noted
     }
 }
 
-// Writes a line, by one put.
+// Writes a line, by one write.
 fn put_line<N: Sink>(notes: &mut N, line: &[u8]) -> Noted
     requires { (N.state notes.old).held_back ≡ [] }
     ensures whole { result ≡ noted.Whole → Delivered (N.state notes.old) (N.state notes.new) line.now }
@@ -193,7 +194,7 @@ fn add_graph_error(line: &mut Bytes, error: &GraphError) -> Result<(), NoMemory>
     }
 }
 
-// Adds what is wrong with a field and where it stands.
+// Adds what is wrong with a field, and which field of the file it is.
 fn add_field(
     line: &mut Bytes,
     what: &[u8],

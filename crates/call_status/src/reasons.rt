@@ -2,8 +2,8 @@
 ghost use Rattle.std.specs.Prelude.{◌≡◌, ◌++◌, [], codes, decimal, OnOk, slice_index_or};
 ghost use Rattle.call_status.specs.Reasons.{fault_text, limit_text, path_text, reason_line, stuck_text, why_text, within_path};
 
-use itoa::Buffer;
 use legal_run::Why;
+use line_output::add_numbered;
 use nested_runs::Reason;
 use outside_io::{Bytes, NoMemory};
 
@@ -11,15 +11,20 @@ use outside_io::{Bytes, NoMemory};
 pub fn add_reason_line(line: &mut Bytes, names: &[Bytes], reason: &Reason) -> Result<(), NoMemory>
     ensures { OnOk result (line.new ≡ line.old ++ reason_line names.now reason.now) }
 {
-    if let Reason::Fine = reason {
-        return Ok(());
-    }
-    line.add_all(b"!! ")?;
     match reason {
         Reason::Fine => return Ok(()),
-        Reason::Fault(path, why) => add_fault(line, names, path.as_slice(), *why)?,
-        Reason::Limit(path, limit) => add_limit(line, names, path.as_slice(), *limit)?,
-        Reason::Stuck(path) => add_stuck(line, names, path.as_slice())?,
+        Reason::Fault(path, why) => {
+            line.add_all(b"!! ")?;
+            add_fault(line, names, path.as_slice(), *why)?;
+        }
+        Reason::Limit(path, limit) => {
+            line.add_all(b"!! ")?;
+            add_limit(line, names, path.as_slice(), *limit)?;
+        }
+        Reason::Stuck(path) => {
+            line.add_all(b"!! ")?;
+            add_stuck(line, names, path.as_slice())?;
+        }
     }
     line.add_all(b"\n")
 }
@@ -55,15 +60,6 @@ pub fn add_stuck(line: &mut Bytes, names: &[Bytes], path: &[u32]) -> Result<(), 
     add_path(line, names, path)
 }
 
-/// Adds a word and, in decimal, a number.
-pub fn add_numbered(line: &mut Bytes, word: &[u8], number: u64) -> Result<(), NoMemory>
-    ensures { OnOk result (line.new ≡ line.old ++ word.now ++ decimal number) }
-{
-    let mut digits = Buffer::new();
-    line.add_all(word)?;
-    line.add_all(digits.format(number).as_bytes())
-}
-
 // Adds in which run, where the path leads to one.
 fn add_within(line: &mut Bytes, names: &[Bytes], path: &[u32]) -> Result<(), NoMemory>
     ensures { OnOk result (line.new ≡ line.old ++ within_path names.now path.now) }
@@ -83,9 +79,9 @@ fn add_path(line: &mut Bytes, names: &[Bytes], path: &[u32]) -> Result<(), NoMem
 {
     match path {
         [] => Ok(()),
-        [task] => line.add_all(name_of(names, *task)),
+        [task] => line.add_all(name_or_empty(names, *task)),
         [task, rest @ ..] => {
-            line.add_all(name_of(names, *task))?;
+            line.add_all(name_or_empty(names, *task))?;
             line.add_all(b"/")?;
             add_path(line, names, rest)
         }
@@ -105,8 +101,8 @@ fn add_why(line: &mut Bytes, why: Why) -> Result<(), NoMemory>
     }
 }
 
-/// The name of a task.
-pub fn name_of(names: &[Bytes], task: u32) -> &[u8]
+// The name of a task, and an empty one where there are fewer names.
+fn name_or_empty(names: &[Bytes], task: u32) -> &[u8]
     ensures { result.now ≡ slice_index_or names.now task [] }
 {
     match names.get(task as usize) {

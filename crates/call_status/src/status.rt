@@ -10,12 +10,12 @@ use legal_run::{Break, Verdict, Why};
 use nested_runs::Reason;
 use outside_io::{Bytes, List};
 
-/// How a call ends. Each status has its code and its line on the notes.
+/// How a call ends. Each status has its exit code and its line on standard error.
 #[derive(Drop)]
 pub enum Status {
     /// The command did all that it was to do.
     Done,
-    /// The words are no command.
+    /// The command line is none of the commands.
     BadWords,
     /// The bytes that were read as the graph file are none.
     BadGraph(GraphError),
@@ -36,7 +36,7 @@ pub enum Status {
     TaskFault(List<u32>, Why),
     /// A task waited for a unit of a semaphore that never came: the tasks that lead to it.
     Stuck(List<u32>),
-    /// The entry at this place of a journal breaks a rule, and which.
+    /// The entry at this index of a journal breaks a rule, and which.
     NotLegal(u64, Break),
     /// The bytes that were read as a journal are none: the number of the first bad line, from 1.
     BadJournal(u64),
@@ -80,7 +80,7 @@ pub enum Noted {
 }
 
 impl Status {
-    /// The status that tells why a call ended before what it was to do.
+    /// The status of a call that stopped before what it was to do.
     pub fn of(stop: Stop) -> Status
         ensures { result ≡ status_of stop }
     {

@@ -1,5 +1,5 @@
 // Why a call ends before its run.
-ghost use Rattle.std.specs.Prelude.{◌≡◌, ◌≢◌, ◌⊎◌};
+ghost use Rattle.std.specs.Prelude.{◌≡◌, ◌≢◌};
 ghost use Rattle.graph_file.specs.declared.refusals.GraphError.TheVariants.{NoMemory as NoMemoryToRead};
 
 use graph_file::GraphError;
@@ -41,9 +41,10 @@ impl<T: Drop> From<AllocFailed<T>> for Stop {
     }
 }
 
-/// A refusal of the bytes; a failed allocation is a reason of its own.
-pub fn refusal(error: GraphError) -> Stop
-    ensures { (result ≡ Stop.NoMemory) ⊎ ((error ≢ NoMemoryToRead) × (result ≡ Stop.BadGraph error)) }
+/// Why bytes that were read as a graph file stop the call.
+pub fn graph_refusal(error: GraphError) -> Stop
+    ensures memory { error ≡ NoMemoryToRead → result ≡ Stop.NoMemory }
+    ensures refused { error ≢ NoMemoryToRead → result ≡ Stop.BadGraph error }
 {
     match error {
         GraphError::NoMemory => Stop::NoMemory,

@@ -4,35 +4,35 @@ use Rattle.std.specs.Borrow.{Bor}
 use Rattle.command_line.specs.declared.request.Request.TheVariants.{Run, Judge, Check}
 use Rattle.command_line.specs.Asked.{asked}
 use Rattle.clap.proofs.OnLiterals.{clap_on_literals}
-use Rattle.command_line.specs.Numbers.{number_of}
+use Rattle.command_line.specs.Numbers.{number_in}
 use Rattle.command_line.specs.Requests.{run, judge, check, asked_by, limit_asked, limit_by}
 
 -- Numbers have 1 to 7 digits and nothing else, and are in their range.
-least : number_of 1 1000000 (codes "1") ≡ Some 1
+least : number_in 1 1000000 (codes "1") ≡ Some 1
 least = refl
 
-greatest : number_of 1 1000000 (codes "1000000") ≡ Some 1000000
+greatest : number_in 1 1000000 (codes "1000000") ≡ Some 1000000
 greatest = refl
 
-zeros_in_front : number_of 1 1000000 (codes "0000012") ≡ Some 12
+zeros_in_front : number_in 1 1000000 (codes "0000012") ≡ Some 12
 zeros_in_front = refl
 
-too_low : number_of 1 1000000 (codes "0") ≡ None
+too_low : number_in 1 1000000 (codes "0") ≡ None
 too_low = refl
 
-too_high : number_of 1 1000000 (codes "1000001") ≡ None
+too_high : number_in 1 1000000 (codes "1000001") ≡ None
 too_high = refl
 
-eight_digits : number_of 1 1000000 (codes "00000001") ≡ None
+eight_digits : number_in 1 1000000 (codes "00000001") ≡ None
 eight_digits = refl
 
-no_digit : number_of 0 9 [] ≡ None
+no_digit : number_in 0 9 [] ≡ None
 no_digit = refl
 
-a_plus : number_of 1 9 (codes "+4") ≡ None
+a_plus : number_in 1 9 (codes "+4") ≡ None
 a_plus = refl
 
-a_letter : number_of 1 9 (codes "1x") ≡ None
+a_letter : number_in 1 9 (codes "1x") ≡ None
 a_letter = refl
 
 -- A run of a file, with the limit that is said or the default.

@@ -6,14 +6,8 @@ use Rattle.clap.specs.Walk.{Row, Rule}
 use Rattle.clap.specs.Words.{App, Kinds, first_of, matches_of, fault_of, new_app, new_rule, with_rule}
 use Rattle.clap.specs.declared.builder.action.ArgAction.TheVariants.{SetTrue}
 use Rattle.clap.specs.Simple.{on_top}
-use Rattle.command_line.specs.Numbers.{number_of}
-
--- the most starts that a run may be limited to, and how many it may have where nothing is said
-abbrev pub greatest_limit_option : ℕ
-greatest_limit_option = 1000000
-
-abbrev pub start_limit : ℕ
-start_limit = 100000
+use Rattle.command_line.specs.declared.numbers.TheConstants.{DEFAULT_LIMIT, GREATEST_LIMIT}
+use Rattle.command_line.specs.Numbers.{number_in}
 
 -- What is asked for: to run the graph in a file, with at most so many starts, and to write its journal in place of its
 -- report or not; to judge the journal in another file, which may have so many starts; or to find how the graph in a
@@ -64,9 +58,9 @@ rows_without (kind ∷ kinds) rows = None
 abbrev pub rows_in : App → List (List ℕ) → Option (List Row)
 rows_in app arguments = rows_without (fault_of app arguments) (matches_of app arguments)
 
--- the limit that an option's value asks for; without the option, the default
+-- the limit that an option's value asks for, from 1 to 1,000,000; without the option, 100,000
 abbrev pub limit_by : Option (List ℕ) → Option ℕ
-limit_by text = option_map_or (number_of 1 greatest_limit_option) text (Some start_limit)
+limit_by text = option_map_or (number_in 1 GREATEST_LIMIT) text (Some DEFAULT_LIMIT)
 
 -- whether a flag stands there, by what `clap` says of it
 abbrev pub is_set : Option (List ℕ) → Bool

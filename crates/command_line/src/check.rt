@@ -24,27 +24,11 @@ pub(crate) fn read_check<'w>(
     ensures ok { IfOk result (λ c. option_and_then check_in (rows_in check_app (map string_bytes arguments.entry.now)) ≡ Some (check c.file.now)) }
     ensures err { IfErr result (λ error. error ≡ ArgumentsError.Refused → option_and_then check_in (rows_in check_app (map string_bytes arguments.entry.now)) ≡ None) }
 {
-    let matches = match check_matches(alloc, arguments) {
-        Ok(matches) => matches,
-        Err(error) => return Err(error),
-    };
+    let command = check_command(alloc)?;
+    let matches = matches_in(command, arguments)?;
     match check_of(&matches) {
         Some(check) => Ok(check),
         None => Err(ArgumentsError::Refused),
-    }
-}
-
-// What `clap` finds among the arguments after `check`.
-fn check_matches<'w>(
-    alloc: Global,
-    arguments: &'w [String],
-) -> Result<ArgMatches<'w>, ArgumentsError>
-    ensures ok { IfOk result (λ matches. rows_in check_app (map string_bytes arguments.entry.now) ≡ Some (rows_of (found_of matches))) }
-    ensures err { IfErr result (λ error. error ≡ ArgumentsError.Refused → rows_in check_app (map string_bytes arguments.entry.now) ≡ None) }
-{
-    match check_command(alloc) {
-        Ok(command) => matches_in(command, arguments),
-        Err(_) => Err(ArgumentsError::NoMemory),
     }
 }
 

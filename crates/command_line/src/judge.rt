@@ -2,10 +2,10 @@
 ghost use Rattle.std.specs.Prelude.{◌≡◌, ◌≤◌, map, IfOk, IfErr, IfSome, Some, None, option_map, option_and_then};
 ghost use Rattle.std.specs.String.{string_bytes};
 ghost use Rattle.clap.specs.Words.{app_of, rows_of, found_of};
-ghost use Rattle.command_line.specs.Requests.{greatest_limit_option, judge, judge_app, judge_in, rows_in};
+ghost use Rattle.command_line.specs.Requests.{judge, judge_app, judge_in, rows_in};
 
 use super::matches::{bare_command, matches_in};
-use super::numbers::limit_of;
+use super::numbers::{GREATEST_LIMIT, limit_of};
 use super::request::ArgumentsError;
 use clap::{Arg, ArgMatches, Command};
 use std::alloc::{AllocError, Global};
@@ -27,30 +27,14 @@ pub(crate) fn read_judge<'w>(
     arguments: &'w [String],
 ) -> Result<Judge<'w>, ArgumentsError>
     ensures ok { IfOk result (λ j. option_and_then judge_in (rows_in judge_app (map string_bytes arguments.entry.now)) ≡ Some (judge j.file.now j.journal.now j.limit)) }
-    ensures limit { IfOk result (λ j. j.limit ≤ greatest_limit_option) }
+    ensures limit { IfOk result (λ j. j.limit ≤ GREATEST_LIMIT) }
     ensures err { IfErr result (λ error. error ≡ ArgumentsError.Refused → option_and_then judge_in (rows_in judge_app (map string_bytes arguments.entry.now)) ≡ None) }
 {
-    let matches = match judge_matches(alloc, arguments) {
-        Ok(matches) => matches,
-        Err(error) => return Err(error),
-    };
+    let command = judge_command(alloc)?;
+    let matches = matches_in(command, arguments)?;
     match judge_of(&matches) {
         Some(judge) => Ok(judge),
         None => Err(ArgumentsError::Refused),
-    }
-}
-
-// What `clap` finds among the arguments after `judge`.
-fn judge_matches<'w>(
-    alloc: Global,
-    arguments: &'w [String],
-) -> Result<ArgMatches<'w>, ArgumentsError>
-    ensures ok { IfOk result (λ matches. rows_in judge_app (map string_bytes arguments.entry.now) ≡ Some (rows_of (found_of matches))) }
-    ensures err { IfErr result (λ error. error ≡ ArgumentsError.Refused → rows_in judge_app (map string_bytes arguments.entry.now) ≡ None) }
-{
-    match judge_command(alloc) {
-        Ok(command) => matches_in(command, arguments),
-        Err(_) => Err(ArgumentsError::NoMemory),
     }
 }
 
@@ -70,7 +54,7 @@ fn judge_command<'w>(alloc: Global) -> Result<Command<'w>, AllocError>
 #[tactic(auto, using(crate::proofs::Reading::first_in_rows))]
 fn judge_of<'w>(matches: &ArgMatches<'w>) -> Option<Judge<'w>>
     ensures judge { option_map (λ j. judge j.file.now j.journal.now j.limit) result ≡ judge_in (rows_of (found_of matches.now)) }
-    ensures limit { IfSome result (λ j. j.limit ≤ greatest_limit_option) }
+    ensures limit { IfSome result (λ j. j.limit ≤ GREATEST_LIMIT) }
 {
     let file = matches.get_str("file")?;
     let journal = matches.get_str("journal")?;

@@ -15,6 +15,6 @@ mod run;
 
 pub use check::Check;
 pub use judge::Judge;
-pub use numbers::{LIMIT, START_LIMIT};
+pub use numbers::{DEFAULT_LIMIT, GREATEST_LIMIT};
 pub use request::{ArgumentsError, Request, read_arguments};
 pub use run::Run;

@@ -1,5 +1,5 @@
 // What `clap` finds among the arguments of a command.
-ghost use Rattle.std.specs.Prelude.{◌≡◌, map, true, IfOk, IfErr, Some, None};
+ghost use Rattle.std.specs.Prelude.{◌≡◌, ◌≢◌, map, true, IfOk, IfErr, Some, None};
 ghost use Rattle.std.specs.String.{string_bytes};
 ghost use Rattle.clap.specs.Words.{app_of, is_simple, is_simple_and_free, rows_of, found_of, kind_of};
 ghost use Rattle.command_line.specs.Requests.{command_named, rows_in};
@@ -30,13 +30,14 @@ pub(crate) fn matches_in<'w>(
 {
     match command.try_get_matches_from(arguments) {
         Ok(matches) => Ok(matches),
-        Err(error) => Err(refusal(&error)),
+        Err(error) => Err(arguments_error(&error)),
     }
 }
 
 // Why `clap` gave no matches.
-fn refusal(error: &Error) -> ArgumentsError
-    ensures { (result ≡ ArgumentsError.Refused) → (kind_of error.now ≡ ErrorKind.OutOfMemory) → ⊥ }
+fn arguments_error(error: &Error) -> ArgumentsError
+    ensures memory { kind_of error.now ≡ ErrorKind.OutOfMemory → result ≡ ArgumentsError.NoMemory }
+    ensures refused { kind_of error.now ≢ ErrorKind.OutOfMemory → result ≡ ArgumentsError.Refused }
 {
     match error.kind() {
         ErrorKind::OutOfMemory => ArgumentsError::NoMemory,

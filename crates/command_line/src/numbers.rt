@@ -2,29 +2,29 @@
 ghost use Rattle.std.specs.Prelude.{◌≡◌, ◌↔◌, ◌≤◌, All, IsTrue, IfSome, option_map};
 ghost use Rattle.std.specs.Char.{is_ascii_digit};
 ghost use Rattle.std.specs.Str.Parse.{digits_value};
-ghost use Rattle.command_line.specs.Requests.{greatest_limit_option, limit_by};
-ghost use Rattle.command_line.specs.Numbers.{number_of, is_short_number};
+ghost use Rattle.command_line.specs.Requests.{limit_by};
+ghost use Rattle.command_line.specs.Numbers.{number_in, is_short_number};
 
-/// The most starts that a run may be limited to.
-pub const LIMIT: u64 = 1_000_000;
+/// The greatest number to which the starts of a run may be limited.
+pub const GREATEST_LIMIT: u64 = 1_000_000;
 
-/// The starts that a run may have where nothing is said.
-pub const START_LIMIT: u64 = 100_000;
+/// How many starts a run may have where nothing is said.
+pub const DEFAULT_LIMIT: u64 = 100_000;
 
 /// The limit that an option's value asks for; without the option, the default.
 pub(crate) fn limit_of(text: Option<&str>) -> Option<u64>
     ensures value { result ≡ limit_by (option_map (λ t. t.now) text.entry) }
-    ensures limit { IfSome result (λ limit. limit ≤ greatest_limit_option) }
+    ensures limit { IfSome result (λ limit. limit ≤ GREATEST_LIMIT) }
 {
     match text {
-        Some(text) => number_of(text, 1, LIMIT),
-        None => Some(START_LIMIT),
+        Some(text) => number_in(text, 1, GREATEST_LIMIT),
+        None => Some(DEFAULT_LIMIT),
     }
 }
 
 /// The number that an argument writes: 1 to 7 ASCII digits, from `least` to `most`.
-pub(crate) fn number_of(text: &str, least: u64, most: u64) -> Option<u64>
-    ensures value { result ≡ number_of least most text.now }
+pub(crate) fn number_in(text: &str, least: u64, most: u64) -> Option<u64>
+    ensures value { result ≡ number_in least most text.now }
     ensures most { IfSome result (λ number. number ≤ most) }
 {
     if !is_short_number(text.as_bytes()) {

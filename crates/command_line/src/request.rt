@@ -1,11 +1,12 @@
 // Requests.
 ghost use Rattle.std.specs.Prelude.{◌≡◌, ◌≤◌, map, IfOk, IfErr, IfSome, Some, None};
 ghost use Rattle.std.specs.String.{string_bytes};
-ghost use Rattle.command_line.specs.Requests.{asked_by, greatest_limit_option, limit_asked};
+ghost use Rattle.command_line.specs.Requests.{asked_by, limit_asked};
 ghost use Rattle.command_line.specs.Asked.{asked};
 
 use super::check::{Check, read_check};
 use super::judge::{Judge, read_judge};
+use super::numbers::GREATEST_LIMIT;
 use super::run::{Run, read_run};
 use std::alloc::{AllocError, Global};
 
@@ -19,6 +20,11 @@ pub enum ArgumentsError {
 }
 
 impl From<AllocError> for ArgumentsError {
+    ghost use Rattle.std.specs.Prelude.{◌≡◌};
+    ghost use Rattle.command_line.specs.declared.request.ArgumentsError.TheVariants.{NoMemory as NoMemoryError};
+
+    ghost from_gives = { λ _ error. error ≡ NoMemoryError };
+
     fn from(_: AllocError) -> Self {
         ArgumentsError::NoMemory
     }
@@ -39,7 +45,7 @@ pub fn read_arguments<'w>(
     arguments: &'w [String],
 ) -> Result<Request<'w>, ArgumentsError>
     ensures ok { IfOk result (λ request. asked_by (map string_bytes arguments.entry.now) ≡ Some (asked request)) }
-    ensures limit { IfOk result (λ request. IfSome (limit_asked (asked request)) (λ limit. limit ≤ greatest_limit_option)) }
+    ensures limit { IfOk result (λ request. IfSome (limit_asked (asked request)) (λ limit. limit ≤ GREATEST_LIMIT)) }
     ensures refused { IfErr result (λ error. error ≡ ArgumentsError.Refused → asked_by (map string_bytes arguments.entry.now) ≡ None) }
 {
     let Some((command, rest)) = arguments.split_first() else {

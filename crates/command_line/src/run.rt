@@ -2,10 +2,10 @@
 ghost use Rattle.std.specs.Prelude.{◌≡◌, ◌↔◌, ◌≤◌, map, IfOk, IfErr, IfSome, IsTrue, Some, None, option_map, option_and_then};
 ghost use Rattle.std.specs.String.{string_bytes};
 ghost use Rattle.clap.specs.Words.{app_of, rows_of, found_of};
-ghost use Rattle.command_line.specs.Requests.{greatest_limit_option, is_set, run, run_app, run_in, rows_in};
+ghost use Rattle.command_line.specs.Requests.{is_set, run, run_app, run_in, rows_in};
 
 use super::matches::{bare_command, matches_in};
-use super::numbers::limit_of;
+use super::numbers::{GREATEST_LIMIT, limit_of};
 use super::request::ArgumentsError;
 use clap::{Arg, ArgAction, ArgMatches, Command};
 use std::alloc::{AllocError, Global};
@@ -27,27 +27,14 @@ pub(crate) fn read_run<'w>(
     arguments: &'w [String],
 ) -> Result<Run<'w>, ArgumentsError>
     ensures ok { IfOk result (λ r. option_and_then run_in (rows_in run_app (map string_bytes arguments.entry.now)) ≡ Some (run r.file.now r.limit r.journal)) }
-    ensures limit { IfOk result (λ r. r.limit ≤ greatest_limit_option) }
+    ensures limit { IfOk result (λ r. r.limit ≤ GREATEST_LIMIT) }
     ensures err { IfErr result (λ error. error ≡ ArgumentsError.Refused → option_and_then run_in (rows_in run_app (map string_bytes arguments.entry.now)) ≡ None) }
 {
-    let matches = match run_matches(alloc, arguments) {
-        Ok(matches) => matches,
-        Err(error) => return Err(error),
-    };
+    let command = run_command(alloc)?;
+    let matches = matches_in(command, arguments)?;
     match run_of(&matches) {
         Some(run) => Ok(run),
         None => Err(ArgumentsError::Refused),
-    }
-}
-
-// What `clap` finds among the arguments after `run`.
-fn run_matches<'w>(alloc: Global, arguments: &'w [String]) -> Result<ArgMatches<'w>, ArgumentsError>
-    ensures ok { IfOk result (λ matches. rows_in run_app (map string_bytes arguments.entry.now) ≡ Some (rows_of (found_of matches))) }
-    ensures err { IfErr result (λ error. error ≡ ArgumentsError.Refused → rows_in run_app (map string_bytes arguments.entry.now) ≡ None) }
-{
-    match run_command(alloc) {
-        Ok(command) => matches_in(command, arguments),
-        Err(_) => Err(ArgumentsError::NoMemory),
     }
 }
 
@@ -69,7 +56,7 @@ fn run_command<'w>(alloc: Global) -> Result<Command<'w>, AllocError>
 #[tactic(auto, using(crate::proofs::Reading::first_in_rows))]
 fn run_of<'w>(matches: &ArgMatches<'w>) -> Option<Run<'w>>
     ensures run { option_map (λ r. run r.file.now r.limit r.journal) result ≡ run_in (rows_of (found_of matches.now)) }
-    ensures limit { IfSome result (λ r. r.limit ≤ greatest_limit_option) }
+    ensures limit { IfSome result (λ r. r.limit ≤ GREATEST_LIMIT) }
 {
     let journal = is_set(matches.get_str("journal"));
     match (matches.get_str("file"), limit_of(matches.get_str("limit"))) {

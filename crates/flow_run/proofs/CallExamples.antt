@@ -231,12 +231,12 @@ never_done_before (stop.BadJournal line) same = absurd (cc)
 never_done_before stop.NoMemory same = absurd (cc)
 
 done_keeps_a_run : ¬ RunEnds held g 77 Done []
-done_keeps_a_run (inl stopped) = never_done_before stopped.why stopped.told
+done_keeps_a_run (inl stopped) = never_done_before stopped.why stopped.reported
 done_keeps_a_run (inr ran) = let only : [] ≡ ran.run ∷ [] = ran.only in absurd (cc)
 
 module _ (run other : Run) where
   one_run_is_kept : ¬ RunEnds held g 77 Done (run ∷ other ∷ [])
-  one_run_is_kept (inl stopped) = never_done_before stopped.why stopped.told
+  one_run_is_kept (inl stopped) = never_done_before stopped.why stopped.reported
   one_run_is_kept (inr ran) = let only : run ∷ other ∷ [] ≡ ran.run ∷ [] = ran.only in absurd (omega (arith, ap length only))
 
 -- A command line that asks for a run isn't refused, and one that asks for nothing is.
@@ -250,7 +250,7 @@ never_bad (stop.BadJournal line) same = absurd (cc)
 never_bad stop.NoMemory same = absurd (cc)
 
 asked : (arguments : List (List ℕ)) → asked_by arguments ≡ Some (run_of g 77 false) → ¬ CallEnds held arguments BadWords [] None
-asked arguments asks (inl (file, limit, journal, asks_file, inl stopped, none)) = never_bad stopped.why stopped.told
+asked arguments asks (inl (file, limit, journal, asks_file, inl stopped, none)) = never_bad stopped.why stopped.reported
 asked arguments asks (inl (file, limit, journal, asks_file, inr ran, none)) = let only : [] ≡ ran.run ∷ [] = ran.only in absurd (cc)
 asked arguments asks (inr (inl (file, name, limit, asks_judge, ends, none))) = let never : Some (run_of g 77 false) ≡ Some (judge_of file name limit) = sym asks ∙ asks_judge in absurd (cc)
 asked arguments asks (inr (inr (inl (file, asks_check, ends, none)))) = let never : Some (run_of g 77 false) ≡ Some (check_of file) = sym asks ∙ asks_check in absurd (cc)
@@ -259,7 +259,7 @@ asked arguments asks (inr (inr (inr (inr (same, none, nothing))))) = absurd (cc)
 
 asked_to_judge : (arguments : List (List ℕ)) → asked_by arguments ≡ Some (judge_of g t 77) → ¬ CallEnds held arguments BadWords [] None
 asked_to_judge arguments asks (inl (file, limit, journal, asks_file, ends, none)) = let never : Some (judge_of g t 77) ≡ Some (run_of file limit journal) = sym asks ∙ asks_file in absurd (cc)
-asked_to_judge arguments asks (inr (inl (file, name, limit, asks_judge, inl stopped, none))) = never_bad stopped.why stopped.told
+asked_to_judge arguments asks (inr (inl (file, name, limit, asks_judge, inl stopped, none))) = never_bad stopped.why stopped.reported
 asked_to_judge arguments asks (inr (inl (file, name, limit, asks_judge, inr ended, none))) = let only : None ≡ Some (conclusion.Verdict ended.verdict) = ended.only in absurd (cc)
 asked_to_judge arguments asks (inr (inr (inl (file, asks_check, ends, none)))) = let never : Some (judge_of g t 77) ≡ Some (check_of file) = sym asks ∙ asks_check in absurd (cc)
 asked_to_judge arguments asks (inr (inr (inr (inl (same, none, nothing, refused))))) = let never : Some (judge_of g t 77) ≡ None = sym asks ∙ refused in absurd (cc)
@@ -268,7 +268,7 @@ asked_to_judge arguments asks (inr (inr (inr (inr (same, none, nothing))))) = ab
 asked_to_check : (arguments : List (List ℕ)) → asked_by arguments ≡ Some (check_of g) → ¬ CallEnds held arguments BadWords [] None
 asked_to_check arguments asks (inl (file, limit, journal, asks_file, ends, none)) = let never : Some (check_of g) ≡ Some (run_of file limit journal) = sym asks ∙ asks_file in absurd (cc)
 asked_to_check arguments asks (inr (inl (file, name, limit, asks_judge, ends, none))) = let never : Some (check_of g) ≡ Some (judge_of file name limit) = sym asks ∙ asks_judge in absurd (cc)
-asked_to_check arguments asks (inr (inr (inl (file, asks_check, inl stopped, none)))) = never_bad stopped.why stopped.told
+asked_to_check arguments asks (inr (inr (inl (file, asks_check, inl stopped, none)))) = never_bad stopped.why stopped.reported
 asked_to_check arguments asks (inr (inr (inl (file, asks_check, inr ended, none)))) = let only : None ≡ Some (conclusion.Findings ended.found) = ended.only in absurd (cc)
 asked_to_check arguments asks (inr (inr (inr (inl (same, none, nothing, refused))))) = let never : Some (check_of g) ≡ None = sym asks ∙ refused in absurd (cc)
 asked_to_check arguments asks (inr (inr (inr (inr (same, none, nothing))))) = absurd (cc)
@@ -380,10 +380,10 @@ abbrev count : ℕ → ℕ
 count faults = faults
 
 read_well : HaveRead texts_kept count 0 0 Done
-read_well = record { stays = refl; no_fewer = omega arith; cause = λ is. absurd (cc); told = inl refl }
+read_well = record { stays = refl; no_fewer = omega arith; cause = λ is. absurd (cc); reported = inl refl }
 
 failed_read_hidden : ¬ HaveRead texts_kept count 0 1 Done
-failed_read_hidden is = by_case is.told
+failed_read_hidden is = by_case is.reported
   where
     by_case : (count 1 ≡ count 0) ⊎ IsReadFault Done ⊎ (Done ≡ NoMemory) → ⊥
     by_case (inl same) = omega arith
@@ -394,4 +394,4 @@ read_fault_of_nothing : ¬ HaveRead texts_kept count 0 0 (ReadFault t)
 read_fault_of_nothing is = absurd (omega (arith, is.cause (t, refl)))
 
 read_fault_told : HaveRead texts_kept count 0 1 (ReadFault t)
-read_fault_told = record { stays = refl; no_fewer = omega arith; cause = λ is. omega arith; told = inr (inl (t, refl)) }
+read_fault_told = record { stays = refl; no_fewer = omega arith; cause = λ is. omega arith; reported = inr (inl (t, refl)) }

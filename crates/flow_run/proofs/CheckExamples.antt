@@ -177,7 +177,7 @@ plan_of_a_missing_file found is = let never : None ≡ Some is.bytes = is.read.0
 
 -- An end before the findings has none, and isn't done.
 done_without_findings : ¬ CheckEnds held g Done None
-done_without_findings (inl stopped) = never stopped.why stopped.told
+done_without_findings (inl stopped) = never stopped.why stopped.reported
   where
     never : (why : Stop) → ¬ (Done ≡ status_of why)
     never (stop.BadGraph error) same = absurd (cc)

@@ -198,8 +198,8 @@ module _ (held : Held) (arguments : List (List ℕ)) (status : Status) where
       let same = one_file file hand.file limit hand.limit journal hand.journal (one_request arguments (run file limit journal) (run hand.file hand.limit hand.journal) asks hand.asks) in
       let stops : StopsBefore (Some hand.text) hand.file stopped.why =
       subst (λ h. StopsBefore h hand.file stopped.why) hand.specified (subst (λ f. StopsBefore held f stopped.why) same stopped.stops) in
-      let memory = never_before hand.text hand.file hand.plan stopped.why hand.graph hand.source hand.named stops (λ n is. read (n, stopped.told ∙ ap status_of is)) in
-      inr (stopped.told ∙ ap status_of memory)
+      let memory = never_before hand.text hand.file hand.plan stopped.why hand.graph hand.source hand.named stops (λ n is. read (n, stopped.reported ∙ ap status_of is)) in
+      inr (stopped.reported ∙ ap status_of memory)
 
   -- a verdict that is no break, and whose line didn't fail, is done
   after_verdict : (net : NetRows) (limit : ℕ) (journal : List Entry) (verdict : Verdict) → IsVerdict net limit journal verdict → ((place : ℕ) (why : Break) → ¬ IsVerdict net limit journal (Breaks place why))
@@ -221,8 +221,8 @@ module _ (held : Held) (arguments : List (List ℕ)) (status : Status) where
       let stops : StopsBeforeVerdict (Some can.text) can.file can.name stopped.why =
       subst (λ h. StopsBeforeVerdict h can.file can.name stopped.why) can.specified
       (subst (λ n. StopsBeforeVerdict held can.file n stopped.why) same.1 (subst (λ f. StopsBeforeVerdict held f name stopped.why) same.0 stopped.stops)) in
-      let memory = never_before_verdict can.text can.file can.plan can.name can.journal stopped.why can.graph can.source can.trace stops (λ n is. read (n, stopped.told ∙ ap status_of is)) in
-      inr (stopped.told ∙ ap status_of memory)
+      let memory = never_before_verdict can.text can.file can.plan can.name can.journal stopped.why can.graph can.source can.trace stops (λ n is. read (n, stopped.reported ∙ ap status_of is)) in
+      inr (stopped.reported ∙ ap status_of memory)
   judges runs concluded (inr (inl (file, name, limit, asks, inr ended, none))) can read write =
       let same = one_judgement file name can.file can.name limit can.limit (one_request arguments (judge file name limit) (judge can.file can.name can.limit) asks can.asks) in
       let judged : IsJudged (Some can.text) can.file can.name can.limit ended.verdict =
@@ -247,6 +247,6 @@ module _ (held : Held) (arguments : List (List ℕ)) (status : Status) where
       let same = one_check file can.file (one_request arguments (check file) (check can.file) asks can.asks) in
       let stops : StopsBeforeFindings (Some can.text) can.file stopped.why =
       subst (λ h. StopsBeforeFindings h can.file stopped.why) can.specified (subst (λ f. StopsBeforeFindings held f stopped.why) same stopped.stops) in
-      let memory = never_before_findings can.text can.file can.plan stopped.why can.graph stops (λ n is. read (n, stopped.told ∙ ap status_of is)) in
-      inr (stopped.told ∙ ap status_of memory)
+      let memory = never_before_findings can.text can.file can.plan stopped.why can.graph stops (λ n is. read (n, stopped.reported ∙ ap status_of is)) in
+      inr (stopped.reported ∙ ap status_of memory)
   checks runs concluded (inr (inr (inl (file, asks, inr ended, none)))) can read write = after_findings ended.after write

@@ -11,7 +11,7 @@ use Rattle.flow_run.specs.Answers.{IsReadFault, HaveRead}
 module _ {F : Type 0} (held : F → Held) (faults : F → ℕ) (old new : F) where
   -- Nothing failed.
   pub read_well : (status : Status) → held new ≡ held old → faults new ≡ faults old → (IsReadFault status → ⊥) → HaveRead held faults old new status
-  read_well status stays same none = record { stays = stays; no_fewer = omega (arith, same); cause = λ fault. absurd (none fault); told = inl same }
+  read_well status stays same none = record { stays = stays; no_fewer = omega (arith, same); cause = λ fault. absurd (none fault); reported = inl same }
 
   -- What stopped the reads is told.
   pub read_stopped : (why : Stop) → held new ≡ held old → CountsStop why (faults old) (faults new) → HaveRead held faults old new (status_of why)
@@ -19,6 +19,6 @@ module _ {F : Type 0} (held : F → Held) (faults : F → ℕ) (old new : F) whe
   read_stopped (stop.NoSource spot) stays same = read_well (NoSource spot) stays same (λ (name, is). absurd (cc))
   read_stopped (stop.NoText n) stays same = read_well (NoText n) stays same (λ (name, is). absurd (cc))
   read_stopped (stop.LongText n) stays same = read_well (LongText n) stays same (λ (name, is). absurd (cc))
-  read_stopped (stop.ReadFault n) stays rises = record { stays = stays; no_fewer = omega (arith, rises); cause = λ _. rises; told = inr (inl (n, refl)) }
+  read_stopped (stop.ReadFault n) stays rises = record { stays = stays; no_fewer = omega (arith, rises); cause = λ _. rises; reported = inr (inl (n, refl)) }
   read_stopped (stop.BadJournal line) stays same = read_well (BadJournal line) stays same (λ (name, is). absurd (cc))
-  read_stopped stop.NoMemory stays no_fewer = record { stays = stays; no_fewer = no_fewer; cause = λ (name, is). absurd (cc); told = inr (inr refl) }
+  read_stopped stop.NoMemory stays no_fewer = record { stays = stays; no_fewer = no_fewer; cause = λ (name, is). absurd (cc); reported = inr (inr refl) }

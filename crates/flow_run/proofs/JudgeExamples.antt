@@ -162,7 +162,7 @@ verdict_before_the_end : ¬ StoppedBefore (StopsBeforeVerdict held g j) (NoText 
 verdict_before_the_end is = absurd (let none : Some (conclusion.Verdict Legal) ≡ None = is.none in cc)
 
 done_without_a_verdict : ¬ JudgeEnds held g j 9 Done None
-done_without_a_verdict (inl stopped) = never stopped.why stopped.told
+done_without_a_verdict (inl stopped) = never stopped.why stopped.reported
   where
     never : (why : Stop) → ¬ (Done ≡ status_of why)
     never (stop.BadGraph error) same = absurd (cc)

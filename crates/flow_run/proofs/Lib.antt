@@ -3,6 +3,7 @@ pub mod ReportLemmas
 pub mod OutputExamples
 pub mod ReportRule
 pub mod Ending
+pub mod NamedLemmas
 pub mod Completing
 pub mod CallExamples
 pub mod StopExamples

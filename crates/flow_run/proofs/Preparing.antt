@@ -1,10 +1,10 @@
 -- Reading texts one after another.
-use Rattle.std.proofs.Common.{◌≡◌, ◌≢◌, ◌⊎◌, inl, inr, ℕ, zero, suc, ◌+◌, ◌<◌, ◌≤◌, Bool, true, false, cond, List, [], ◌∷◌, ◌++◌, length, sym, refl, ap, ◌∙◌, subst, arith, get_or, take, drop, length-append}
+use Rattle.std.proofs.Common.{◌≡◌, ◌≢◌, ℕ, zero, suc, ◌+◌, ◌<◌, ◌≤◌, Bool, true, false, cond, List, [], ◌∷◌, ◌++◌, length, sym, refl, ap, ◌∙◌, subst, arith, get_or, take, drop, length-append}
 use Rattle.std.specs.Prelude.{All}
 use Rattle.std.proofs.lemmas.List.{take_more}
 use Rattle.std.proofs.lemmas.List.Elements.{All-nil, All-cons}
 use Rattle.graph_file.specs.declared.refusals.GraphError.{GraphError}
-use Rattle.graph_file.specs.declared.refusals.GraphError.TheVariants.{NoMemory as NoMemoryToRead}
+use Rattle.graph_file.specs.declared.refusals.GraphError.TheVariants.{NotJson, BadField, NoSuchName, Repeated, TooMany, NoMemory as NoMemoryToRead}
 use Rattle.graph_plans.specs.PlanRows.{PlanRows, IsPlan}
 use Rattle.graph_file.specs.PlanText.{IsRefused}
 use Rattle.text_ops.specs.Lines.{normal, is_normal, line_end}
@@ -68,9 +68,20 @@ stops_at held names texts i name why below is so_far stops =
     record { before = take i names; name = name; after = drop (i + 1) names; texts = texts; parts = around names i name below ∙ ap (λ n. take i names ++ n ∷ drop (i + 1) names) (sym is); read = so_far; stops = stops }
 
 -- a refusal stops the call
-pub refused_bytes : (bytes : List ℕ) (error : GraphError) (why : Stop) → (why ≡ NoMemory) ⊎ ((error ≢ NoMemoryToRead) × (why ≡ BadGraph error)) → (error ≢ NoMemoryToRead → IsRefused bytes error) → StopsAtPlan bytes why
-refused_bytes bytes error why (inl same) refused = subst (StopsAtPlan bytes) (sym same) tt
-refused_bytes bytes error why (inr (other, same)) refused = subst (StopsAtPlan bytes) (sym same) (refused other)
+pub refused_bytes : (bytes : List ℕ) (error : GraphError) (why : Stop) → (error ≡ NoMemoryToRead → why ≡ NoMemory) → (error ≢ NoMemoryToRead → why ≡ BadGraph error)
+    → (error ≢ NoMemoryToRead → IsRefused bytes error) → StopsAtPlan bytes why
+refused_bytes bytes error why memory bad refused = by_error error refl
+  where
+    other : error ≢ NoMemoryToRead → StopsAtPlan bytes why
+    other differs = subst (StopsAtPlan bytes) (sym (bad differs)) (refused differs)
+
+    by_error : (e : GraphError) → error ≡ e → StopsAtPlan bytes why
+    by_error NotJson is = other (λ out. cc)
+    by_error (BadField spot field) is = other (λ out. cc)
+    by_error (NoSuchName spot field) is = other (λ out. cc)
+    by_error (Repeated spot field) is = other (λ out. cc)
+    by_error (TooMany kind) is = other (λ out. cc)
+    by_error NoMemoryToRead is = subst (StopsAtPlan bytes) (sym (memory is)) tt
 
 -- what stands for no plan stops a run too
 pub no_plan : (bytes : List ℕ) (why : Stop) → StopsAtPlan bytes why → StopsAtBytes bytes why

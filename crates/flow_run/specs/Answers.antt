@@ -1,4 +1,4 @@
--- How a call of the program ends: the status, what ran, and what was put.
+-- How a call of the program ends: the status, what ran, and what was written.
 use Rattle.std.specs.Prelude.{◌≡◌, ◌⊎◌, ℕ, ◌<◌, ◌≤◌, Bool, true, false, List, [], ◌∷◌, ◌++◌, Option, Some, None}
 use Rattle.std.specs.List.{flat_map}
 use Rattle.outside_io.specs.Sink.{SinkState, Took, TookFront}
@@ -30,7 +30,7 @@ use Rattle.flow_run.specs.Checking.{CheckEnds, findings_text}
 abbrev pub Run : Type 0
 Run = FrameRun TextJob Item
 
--- The status tells the run's reason; of a run that ended fine it may tell that the output failed, and of each that
+-- The status is that of the run's reason; or that writing failed, where the run ended fine; or, after any run, that
 -- memory ran out.
 abbrev pub IsAfterRun : Reason → Status → Type 0
 IsAfterRun why status = (status ≡ status_after why) ⊎ ((why ≡ reason.Fine) × (status ≡ WriteFault)) ⊎ (status ≡ NoMemory)
@@ -51,7 +51,7 @@ pub record KeptOnce (job : TextJob) (runs : List Run) (why : Reason) : Type 0 wh
   pub same : job_of run ≡ job
   pub reason : run_reason text_job run ≡ why
 
--- How a call ends that is to run a file: before a run, for a reason that the status tells, or after the run that
+-- How a call ends that is to run a file: before a run, for a reason that the status has, or after the run that
 -- the file asks for.
 abbrev pub RunEnds : Held → List ℕ → ℕ → Status → List Run → Type 0
 RunEnds held file limit status runs = StoppedBefore (StopsBefore held file) status (runs ≡ []) ⊎ RanOnce (IsRequestedJob held file limit) status runs
@@ -95,11 +95,11 @@ conclusion_text None = []
 conclusion_text (Some (Verdict verdict)) = verdict_line verdict
 conclusion_text (Some (Findings found)) = findings_text found.names found.findings
 
--- what is put on the output: what is written of the runs that are kept, and of the conclusion
+-- what is written to the output: of the runs that are kept, and of the conclusion
 abbrev pub output_of : List (List ℕ) → List Run → Option Conclusion → List ℕ
 output_of arguments runs conclusion = run_texts (wants_journal (asked_by arguments)) runs ++ conclusion_text conclusion
 
--- What a command has done to the output when it ends, on which it was to put these bytes. Where it came to nothing the
+-- What a command has done to the output when it ends, to which it was to write these bytes. Where it came to nothing the
 -- output is as it was.
 pub record HasWritten {S : Type 0} (state : S → SinkState) (old new : S) (status : Status) (Nothing : Type 0) (bytes : List ℕ) (written : Bool) : Type 0 where
   pub front : TookFront (state old).taken (state new).taken bytes
@@ -117,14 +117,14 @@ pub record HasWritten {S : Type 0} (state : S → SinkState) (old new : S) (stat
 abbrev pub Reported : {S : Type 0} → (S → SinkState) → S → S → Status → Bool → List Run → Bool → Type 0
 Reported state old new status journal runs written = HasWritten state old new status (runs ≡ []) (run_texts journal runs) written
 
--- a read failed, and the status tells on which name
+-- a read failed, and the status names the file
 abbrev pub IsReadFault : Status → Type 0
 IsReadFault status = (name : List ℕ) × (status ≡ ReadFault name)
 
--- What a command has done to the texts when it ends: what is held stays, and a failed read is told unless memory
+-- What a command has done to the texts when it ends: what is held stays, and a failed read is reported unless memory
 -- ran out.
 pub record HaveRead {F : Type 0} (held : F → Held) (faults : F → ℕ) (old new : F) (status : Status) : Type 0 where
   pub stays : held new ≡ held old
   pub no_fewer : faults old ≤ faults new
   pub cause : IsReadFault status → faults old < faults new
-  pub told : (faults new ≡ faults old) ⊎ IsReadFault status ⊎ (status ≡ NoMemory)
+  pub reported : (faults new ≡ faults old) ⊎ IsReadFault status ⊎ (status ≡ NoMemory)

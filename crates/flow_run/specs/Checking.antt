@@ -39,20 +39,20 @@ pub record IsChecked (held : Held) (file : List ℕ) (found : GraphFindings) : T
 abbrev pub IsAfterFindings : Status → Type 0
 IsAfterFindings status = (status ≡ Done) ⊎ (status ≡ WriteFault) ⊎ (status ≡ NoMemory)
 
--- there are findings, and they are told
+-- there are findings, and they are reported
 pub record EndsChecked (held : Held) (file : List ℕ) (status : Status) (concluded : Option Conclusion) : Type 0 where
   pub found : GraphFindings
   pub only : concluded ≡ Some (conclusion.Findings found)
   pub checked : IsChecked held file found
   pub after : IsAfterFindings status
 
--- How a call ends that is to check a graph: before the findings, for a reason that the status tells, or after them.
+-- How a call ends that is to check a graph: before the findings, for a reason that the status has, or after them.
 abbrev pub CheckEnds : Held → List ℕ → Status → Option Conclusion → Type 0
 CheckEnds held file status concluded = StoppedBefore (StopsBeforeFindings held file) status (concluded ≡ None) ⊎ EndsChecked held file status concluded
 
--- a line of these words and the name of a task
+-- a line of this start and the name of a task
 abbrev pub task_line : List ℕ → List (List ℕ) → ℕ → List ℕ
-task_line words names t = words ++ slice_index_or names t [] ++ codes "\n"
+task_line start names t = start ++ slice_index_or names t [] ++ codes "\n"
 
 -- the line of a finding, with its end
 abbrev pub finding_line : List (List ℕ) → Finding → List ℕ

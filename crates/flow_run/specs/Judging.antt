@@ -63,23 +63,23 @@ pub record IsJudged (held : Held) (file name : List ℕ) (limit : ℕ) (verdict 
   pub text : HasJournal held name journal
   pub is : IsVerdict plan.top.net limit journal verdict
 
--- The status tells the verdict; of a journal that breaks no rule it may tell that the output failed, and of each that
+-- The status is that of the verdict; or that writing failed, where no rule is broken; or, with any verdict, that
 -- memory ran out.
 abbrev pub IsAfterVerdict : Verdict → Status → Type 0
 IsAfterVerdict verdict status = (status ≡ status_by verdict) ⊎ ((status_by verdict ≡ Done) × (status ≡ WriteFault)) ⊎ (status ≡ NoMemory)
 
--- there is a verdict, and it is told
+-- there is a verdict, and it is reported
 pub record EndsJudged (held : Held) (file name : List ℕ) (limit : ℕ) (status : Status) (concluded : Option Conclusion) : Type 0 where
   pub verdict : Verdict
   pub only : concluded ≡ Some (conclusion.Verdict verdict)
   pub judged : IsJudged held file name limit verdict
   pub after : IsAfterVerdict verdict status
 
--- How a call ends that is to judge a journal: before the verdict, for a reason that the status tells, or after it.
+-- How a call ends that is to judge a journal: before the verdict, for a reason that the status has, or after it.
 abbrev pub JudgeEnds : Held → List ℕ → List ℕ → ℕ → Status → Option Conclusion → Type 0
 JudgeEnds held file name limit status concluded = StoppedBefore (StopsBeforeVerdict held file name) status (concluded ≡ None) ⊎ EndsJudged held file name limit status concluded
 
--- what an entry is told to break
+-- which rule an entry breaks, as text
 abbrev pub break_text : Break → List ℕ
 break_text NoSuch = codes "no such number"
 break_text AfterStuck = codes "after stuck"

@@ -3,3 +3,4 @@ pub mod Output
 pub mod Judging
 pub mod Checking
 pub mod Answers
+pub mod inside

@@ -113,7 +113,7 @@ pub record IsRequested (held : Held) (file : List ℕ) (limit : ℕ) (work : Gra
 abbrev pub IsRequestedJob : Held → List ℕ → ℕ → TextJob → Type 0
 IsRequestedJob held file limit (Graph work) = IsRequested held file limit work
 
--- How reads that stop the call for this reason count their faults: a failure that isn't told was met where an
+-- How reads that stop the call for this reason count their faults: a failure that isn't reported was met where an
 -- allocation failed too.
 abbrev pub CountsStop : Stop → ℕ → ℕ → Type 0
 CountsStop (ReadFault name) before after = before < after

@@ -5,7 +5,6 @@ ghost use Rattle.outside_io.specs.Sink.{Took, TookFront, Writes};
 ghost use Rattle.call_status.specs.Delivery.{Delivers};
 ghost use Rattle.call_status.specs.Notes.{note_line};
 ghost use Rattle.call_status.specs.Statuses.{status_after};
-ghost use Rattle.command_line.specs.Requests.{greatest_limit_option};
 ghost use Rattle.nested_runs.specs.Reasons.{run_reason};
 ghost use Rattle.text_tasks.specs.JobMeaning.{text_job, IsTextJob};
 ghost use Rattle.flow_run.specs.Requests.{IsAtHand};
@@ -19,7 +18,7 @@ use super::judging::judge_file;
 use super::prepare::prepare;
 use super::report::put_report;
 use call_status::{Noted, Status, flushed, put_note};
-use command_line::{ArgumentsError, Request, Run, read_arguments};
+use command_line::{ArgumentsError, GREATEST_LIMIT, Request, Run, read_arguments};
 use journal_text::print_journal;
 use nested_runs::{Reason, reason_of};
 use outside_io::{Bytes, List, NoMemory, Sink, SinkFault, Texts};
@@ -46,10 +45,10 @@ pub struct Outcome {
     pub noted: Noted,
 }
 
-/// Does what the words ask for: `run FILE` reads the graph file of this name and the texts that it names, runs
-/// the graph to its end, and writes the run's report on `out`, or with `--journal` its journal; `judge FILE JOURNAL` reads
-/// the journal file of that name besides, and writes the judge's verdict; `check FILE` writes how the graph can go wrong.
-/// The line of the status goes to `notes`.
+/// Does what the command line `words` asks for: `run FILE` reads the graph file of this name and the texts that it names,
+/// runs the graph to its end, and writes the run's report to `out`, or with `--journal` its journal; `judge FILE JOURNAL`
+/// reads the journal file of that name besides, and writes the judge's verdict; `check FILE` writes how the graph can go
+/// wrong. The line of the status goes to `notes`, the diagnostics sink.
 pub fn flow_main<F: Texts, S: Sink, N: Sink>(
     alloc: Global,
     words: &[String],
@@ -63,7 +62,7 @@ pub fn flow_main<F: Texts, S: Sink, N: Sink>(
     // The status has its cause; the kept run is one legal and complete run of the graph that FILE holds, the verdict
     // that on the journal that JOURNAL holds, and the findings those on the graph that FILE holds.
     ensures ends { CallEnds (F.held texts.old) (map string_bytes words.now) result.status result.runs result.conclusion }
-    // Where what the words ask for is at hand, the run ends fine and nothing fails, all is done.
+    // Where what the command line asks for is at hand, the run ends fine and nothing fails, all is done.
     ensures completes { IsAtHand (F.held texts.old) (map string_bytes words.now) → All (λ run. run_reason text_job run ≡ Reason.Fine) result.runs →
         F.faults texts.new ≡ F.faults texts.old → (S.state out.new).faults ≡ (S.state out.old).faults →
         (result.status ≡ Status.Done) ⊎ (result.status ≡ Status.NoMemory) }
@@ -88,13 +87,13 @@ pub fn flow_main<F: Texts, S: Sink, N: Sink>(
     ensures done { result.status ≡ Status.Done → result.written ≡ true }
     ensures write_fault { result.status ≡ Status.WriteFault → result.written ≡ false }
     ensures no_fewer_of_out { (S.state out.old).faults ≤ (S.state out.new).faults }
-    // A read that failed is told, unless an allocation failed. Words that are refused read nothing.
+    // A read that failed is reported, unless an allocation failed. With a command line that is refused nothing is read.
     ensures read_fault { IsReadFault result.status → F.faults texts.old < F.faults texts.new }
     ensures read_faults_told { (F.faults texts.new ≡ F.faults texts.old) ⊎ IsReadFault result.status ⊎ (result.status ≡ Status.NoMemory) }
     ensures no_fewer_of_texts { F.faults texts.old ≤ F.faults texts.new }
     ensures texts_stay { F.held texts.new ≡ F.held texts.old }
     ensures texts_untouched { result.status ≡ Status.BadWords → texts.new ≡ texts.old }
-    // The notes took the line of the status. With Done there is none, and they are left alone.
+    // The diagnostics sink took the line of the status. With Done there is none, and the sink is left alone.
     ensures noted_done { result.status ≡ Status.Done → result.noted ≡ Noted.Whole }
     ensures notes_untouched { result.status ≡ Status.Done → notes.new ≡ notes.old }
     ensures noted_whole { result.noted ≡ Noted.Whole → Took (N.state notes.old).taken (N.state notes.new).taken (note_line (names_in result.runs) result.status) }
@@ -122,7 +121,7 @@ pub fn flow_main<F: Texts, S: Sink, N: Sink>(
     }
 }
 
-// How a command ended, apart from its note.
+// How a command ended, apart from its line on standard error.
 pub(crate) struct Ended {
     pub status: Status,
     pub runs: List<FrameRun<TextJob>>,
@@ -130,11 +129,11 @@ pub(crate) struct Ended {
     pub written: bool,
 }
 
-// Does what the words ask for.
+// Does what the command line asks for.
 fn answer<F: Texts, S: Sink>(alloc: Global, words: &[String], texts: &mut F, out: &mut S) -> Ended
     requires { (S.state out.old).held_back ≡ [] }
     ensures ends { CallEnds (F.held texts.old) (map string_bytes words.now) result.status result.runs result.conclusion }
-    ensures told { HasWritten S.state out.old out.new result.status ((result.runs ≡ []) × (result.conclusion ≡ None)) (output_of (map string_bytes words.now) result.runs result.conclusion) result.written }
+    ensures output { HasWritten S.state out.old out.new result.status ((result.runs ≡ []) × (result.conclusion ≡ None)) (output_of (map string_bytes words.now) result.runs result.conclusion) result.written }
     ensures read { HaveRead F.held F.faults texts.old texts.new result.status }
     ensures texts_untouched { result.status ≡ Status.BadWords → texts.new ≡ texts.old }
 {
@@ -149,7 +148,7 @@ fn answer<F: Texts, S: Sink>(alloc: Global, words: &[String], texts: &mut F, out
 
 // The command `run`.
 fn run_file<F: Texts, S: Sink>(alloc: Global, run: Run<'_>, texts: &mut F, out: &mut S) -> Ended
-    requires limit { run.limit ≤ greatest_limit_option }
+    requires limit { run.limit ≤ GREATEST_LIMIT }
     requires nothing_held { (S.state out.old).held_back ≡ [] }
     ensures ends { RunEnds (F.held texts.old) run.entry.file.now run.entry.limit result.status result.runs }
     ensures reported { Reported S.state out.old out.new result.status run.entry.journal result.runs result.written }
@@ -207,7 +206,7 @@ fn run_and_report<S: Sink>(alloc: Global, job: TextJob, journal: bool, out: &mut
     }
 }
 
-// The status of a run whose report couldn't be written: a run that was cut short is told of before that.
+// The status of a run whose report couldn't be written: that a run was cut short is reported before that.
 fn unwritten(reason: Reason) -> Status
     ensures fine { reason ≡ Reason.Fine → result ≡ Status.WriteFault }
     ensures cut { reason ≢ Reason.Fine → result ≡ status_after reason }
@@ -257,11 +256,11 @@ fn deliver_runs<S: Sink>(
     requires { (S.state out.old).held_back ≡ [] }
     ensures { Delivers (S.state out.old) (S.state out.new) (run_texts journal runs.now) result }
 {
-    let put = put_runs(alloc, out, runs, journal);
-    flushed(out, put)
+    let written = put_runs(alloc, out, runs, journal);
+    flushed(out, written)
 }
 
-// Puts the reports of these runs, or their journals, in order.
+// Writes the reports of these runs, or their journals, in order.
 #[tactic(auto, using(outside_io::proofs::Pieces::accepts_nothing))]
 fn put_runs<S: Sink>(
     alloc: Global,
@@ -279,7 +278,7 @@ fn put_runs<S: Sink>(
     Ok(())
 }
 
-// Puts the report of a run, or its journal.
+// Writes the report of a run, or its journal.
 fn put_run<S: Sink>(
     alloc: Global,
     out: &mut S,

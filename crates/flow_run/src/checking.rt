@@ -1,18 +1,19 @@
 // The command `check`.
-ghost use Rattle.std.specs.Prelude.{◌≡◌, [], None, Some, IfErr, IfOk};
+ghost use Rattle.std.specs.Prelude.{◌≡◌, ◌<◌, [], None, Some, All, IfErr, IfOk, length};
 ghost use Rattle.std.specs.List.{flat_map};
 ghost use Rattle.outside_io.specs.Sink.{Writes};
 ghost use Rattle.call_status.specs.Delivery.{Delivers};
 ghost use Rattle.flow_run.specs.Answers.{HasWritten, HaveRead, conclusion_text};
 ghost use Rattle.flow_run.specs.Checking.{CheckEnds, IsAfterFindings, IsChecked, StopsBeforeFindings, count_line, finding_line, findings_text, task_line};
 ghost use Rattle.flow_run.specs.Requests.{CountsReads};
+ghost use Rattle.flow_run.specs.inside.Named.{IsNamed};
 
 use super::call::{Ended, stopped};
 use super::conclusion::{Conclusion, GraphFindings};
 use super::prepare::{FILE_LIMIT, plan_in, read_named};
-use super::report::put_piece;
-use call_status::{Status, Stop, add_numbered, flushed, name_of};
+use call_status::{Status, Stop, flushed};
 use command_line::Check;
+use line_output::{add_numbered, put_piece};
 use outside_io::{Bytes, List, NoMemory, Sink, SinkFault, Texts};
 use pitfall_check::{Finding, check};
 use std::alloc::Global;
@@ -27,19 +28,20 @@ pub(crate) fn check_file<F: Texts, S: Sink>(
 ) -> Ended
     requires { (S.state out.old).held_back ≡ [] }
     ensures ends { CheckEnds (F.held texts.old) asked.entry.file.now result.status result.conclusion }
-    ensures told { HasWritten S.state out.old out.new result.status (result.conclusion ≡ None) (conclusion_text result.conclusion) result.written }
+    ensures output { HasWritten S.state out.old out.new result.status (result.conclusion ≡ None) (conclusion_text result.conclusion) result.written }
     ensures no_run { result.runs ≡ [] }
     ensures read { HaveRead F.held F.faults texts.old texts.new result.status }
 {
     match findings_on(alloc, texts, asked.file.as_bytes()) {
-        Ok(found) => tell_findings(alloc, found, out),
+        Ok(found) => report_findings(alloc, found, out),
         Err(stop) => stopped(alloc, Status::of(stop)),
     }
 }
 
-// The findings on the graph in a file. An `Err` tells the first thing that stops the call.
+// The findings on the graph in a file. An `Err` is the first thing that stops the call.
 fn findings_on<F: Texts>(alloc: Global, texts: &mut F, file: &[u8]) -> Result<GraphFindings, Stop>
     ensures checked { IfOk result (IsChecked (F.held texts.old) file.now) }
+    ensures named { IfOk result (λ found. All (IsNamed found.names) found.findings) }
     ensures stops { IfErr result (StopsBeforeFindings (F.held texts.old) file.now) }
     ensures stays { F.held texts.new ≡ F.held texts.old }
     ensures counts { CountsReads (F.faults texts.old) (F.faults texts.new) result }
@@ -54,11 +56,12 @@ fn findings_on<F: Texts>(alloc: Global, texts: &mut F, file: &[u8]) -> Result<Gr
 }
 
 // Writes what was found.
-fn tell_findings<S: Sink>(alloc: Global, found: GraphFindings, out: &mut S) -> Ended
-    requires { (S.state out.old).held_back ≡ [] }
+fn report_findings<S: Sink>(alloc: Global, found: GraphFindings, out: &mut S) -> Ended
+    requires named { All (IsNamed found.names) found.findings }
+    requires nothing_held { (S.state out.old).held_back ≡ [] }
     ensures after { IsAfterFindings result.status }
     ensures conclusion { result.conclusion ≡ Some (Conclusion.Findings found) }
-    ensures told { HasWritten S.state out.old out.new result.status (result.conclusion ≡ None) (conclusion_text result.conclusion) result.written }
+    ensures output { HasWritten S.state out.old out.new result.status (result.conclusion ≡ None) (conclusion_text result.conclusion) result.written }
     ensures no_run { result.runs ≡ [] }
 {
     let (status, written) = match deliver_findings(alloc, out, &found) {
@@ -74,22 +77,24 @@ fn tell_findings<S: Sink>(alloc: Global, found: GraphFindings, out: &mut S) -> E
     }
 }
 
-// Puts what was found on the output, and flushes it.
+// Writes what was found to the output, and flushes it.
 fn deliver_findings<S: Sink>(
     alloc: Global,
     out: &mut S,
     found: &GraphFindings,
 ) -> Result<(), SinkFault>
-    requires { (S.state out.old).held_back ≡ [] }
+    requires named { All (IsNamed found.now.names) found.now.findings }
+    requires nothing_held { (S.state out.old).held_back ≡ [] }
     ensures { Delivers (S.state out.old) (S.state out.new) (findings_text found.now.names found.now.findings) result }
 {
-    let put = put_findings(alloc, out, found);
-    flushed(out, put)
+    let written = put_findings(alloc, out, found);
+    flushed(out, written)
 }
 
-// Puts a line for each finding, and a last one with their number.
+// Writes a line for each finding, and a last one with their number.
 #[tactic(auto, using(outside_io::proofs::Pieces::writes_both, outside_io::proofs::Pieces::writes_no_more))]
 fn put_findings<S: Sink>(alloc: Global, out: &mut S, found: &GraphFindings) -> Result<(), SinkFault>
+    requires { All (IsNamed found.now.names) found.now.findings }
     ensures { Writes (S.state out.old) (S.state out.new) (findings_text found.now.names found.now.findings) result }
 {
     let findings = found.findings.as_slice();
@@ -97,7 +102,7 @@ fn put_findings<S: Sink>(alloc: Global, out: &mut S, found: &GraphFindings) -> R
     put_count(alloc, out, findings.len() as u64)
 }
 
-// Puts a line for each finding.
+// Writes a line for each finding.
 #[tactic(auto, using(outside_io::proofs::Pieces::accepts_nothing))]
 fn put_lines<S: Sink>(
     alloc: Global,
@@ -105,6 +110,7 @@ fn put_lines<S: Sink>(
     names: &[Bytes],
     findings: &[Finding],
 ) -> Result<(), SinkFault>
+    requires { All (IsNamed names.now) findings.now }
     ensures { Writes (S.state out.old) (S.state out.new) (flat_map (finding_line names.now) findings.now) result }
 {
     for finding in findings {
@@ -115,7 +121,7 @@ fn put_lines<S: Sink>(
     Ok(())
 }
 
-// Puts the line of a finding.
+// Writes the line of a finding.
 #[tactic(auto, using(outside_io::proofs::Pieces::writes_nothing))]
 fn put_finding<S: Sink>(
     alloc: Global,
@@ -123,13 +129,14 @@ fn put_finding<S: Sink>(
     names: &[Bytes],
     finding: Finding,
 ) -> Result<(), SinkFault>
+    requires { IsNamed names.now finding }
     ensures { Writes (S.state out.old) (S.state out.new) (finding_line names.now finding) result }
 {
     let line = line_of_finding(alloc, names, finding)?;
     put_piece(out, line.as_slice())
 }
 
-// Puts the line that says how many findings there are.
+// Writes the line that says how many findings there are.
 #[tactic(auto, using(outside_io::proofs::Pieces::writes_nothing))]
 fn put_count<S: Sink>(alloc: Global, out: &mut S, count: u64) -> Result<(), SinkFault>
     ensures { Writes (S.state out.old) (S.state out.new) (count_line count) result }
@@ -140,6 +147,7 @@ fn put_count<S: Sink>(alloc: Global, out: &mut S, count: u64) -> Result<(), Sink
 
 // The line of a finding.
 fn line_of_finding(alloc: Global, names: &[Bytes], finding: Finding) -> Result<Bytes, NoMemory>
+    requires { IsNamed names.now finding }
     ensures { IfOk result (λ line. line ≡ finding_line names.now finding) }
 {
     match finding {
@@ -151,12 +159,13 @@ fn line_of_finding(alloc: Global, names: &[Bytes], finding: Finding) -> Result<B
     }
 }
 
-// A line of these words and the name of a task.
-fn task_line(alloc: Global, words: &[u8], names: &[Bytes], task: u32) -> Result<Bytes, NoMemory>
-    ensures { IfOk result (λ line. line ≡ task_line words.now names.now task) }
+// A line of this start and the name of a task.
+fn task_line(alloc: Global, start: &[u8], names: &[Bytes], task: u32) -> Result<Bytes, NoMemory>
+    requires { task < length names.now }
+    ensures { IfOk result (λ line. line ≡ task_line start.now names.now task) }
 {
-    let mut line = List::from_slice(alloc, words)?;
-    line.add_all(name_of(names, task))?;
+    let mut line = List::from_slice(alloc, start)?;
+    line.add_all(names[task as usize].as_slice())?;
     line.push(b'\n')?;
     Ok(line)
 }

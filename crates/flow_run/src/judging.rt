@@ -10,10 +10,11 @@ ghost use Rattle.flow_run.specs.Requests.{CountsReads};
 use super::call::{Ended, stopped};
 use super::conclusion::Conclusion;
 use super::prepare::{FILE_LIMIT, read_named, read_plan};
-use call_status::{Status, Stop, add_numbered, deliver};
+use call_status::{Status, Stop, deliver};
 use command_line::Judge;
 use journal_text::{JournalError, read_journal};
 use legal_run::{Break, Journal, Verdict, judge};
+use line_output::add_numbered;
 use outside_io::{Bytes, List, NoMemory, Sink, SinkFault, Texts};
 use std::alloc::Global;
 
@@ -29,18 +30,18 @@ pub(crate) fn judge_file<F: Texts, S: Sink>(
 ) -> Ended
     requires { (S.state out.old).held_back ≡ [] }
     ensures ends { JudgeEnds (F.held texts.old) asked.entry.file.now asked.entry.journal.now asked.entry.limit result.status result.conclusion }
-    ensures told { HasWritten S.state out.old out.new result.status (result.conclusion ≡ None) (conclusion_text result.conclusion) result.written }
+    ensures output { HasWritten S.state out.old out.new result.status (result.conclusion ≡ None) (conclusion_text result.conclusion) result.written }
     ensures no_run { result.runs ≡ [] }
     ensures read { HaveRead F.held F.faults texts.old texts.new result.status }
 {
     let (file, journal) = (asked.file.as_bytes(), asked.journal.as_bytes());
     match verdict_on(alloc, texts, file, journal, asked.limit) {
-        Ok(verdict) => tell_verdict(alloc, verdict, out),
+        Ok(verdict) => report_verdict(alloc, verdict, out),
         Err(stop) => stopped(alloc, Status::of(stop)),
     }
 }
 
-// The verdict on the journal in a file by the graph in another. An `Err` tells the first thing that stops the call.
+// The verdict on the journal in a file by the graph in another. An `Err` is the first thing that stops the call.
 fn verdict_on<F: Texts>(
     alloc: Global,
     texts: &mut F,
@@ -92,16 +93,16 @@ fn journal_refusal(error: JournalError) -> Stop
 }
 
 // Writes the line of a verdict.
-fn tell_verdict<S: Sink>(alloc: Global, verdict: Verdict, out: &mut S) -> Ended
+fn report_verdict<S: Sink>(alloc: Global, verdict: Verdict, out: &mut S) -> Ended
     requires { (S.state out.old).held_back ≡ [] }
     ensures after { IsAfterVerdict verdict result.status }
     ensures conclusion { result.conclusion ≡ Some (Conclusion.Verdict verdict) }
-    ensures told { HasWritten S.state out.old out.new result.status (result.conclusion ≡ None) (conclusion_text result.conclusion) result.written }
+    ensures output { HasWritten S.state out.old out.new result.status (result.conclusion ≡ None) (conclusion_text result.conclusion) result.written }
     ensures no_run { result.runs ≡ [] }
 {
     let (status, written) = match deliver_verdict(alloc, verdict, out) {
         Ok(()) => (Status::by(verdict), true),
-        Err(SinkFault::Failed) => (untold(verdict), false),
+        Err(SinkFault::Failed) => (unwritten_verdict(verdict), false),
         Err(SinkFault::NoMemory) => (Status::NoMemory, false),
     };
     Ended {
@@ -112,8 +113,8 @@ fn tell_verdict<S: Sink>(alloc: Global, verdict: Verdict, out: &mut S) -> Ended
     }
 }
 
-// The status of a verdict whose line couldn't be written: an entry that breaks a rule is told of before that.
-fn untold(verdict: Verdict) -> Status
+// The status of a verdict whose line couldn't be written: an entry that breaks a rule is reported before that.
+fn unwritten_verdict(verdict: Verdict) -> Status
     ensures fine { status_by verdict ≡ Status.Done → result ≡ Status.WriteFault }
     ensures breaks { status_by verdict ≢ Status.Done → result ≡ status_by verdict }
 {
@@ -123,7 +124,7 @@ fn untold(verdict: Verdict) -> Status
     }
 }
 
-// Puts the line of a verdict on the output, and flushes it.
+// Writes the line of a verdict to the output, and flushes it.
 #[tactic(auto, using(call_status::proofs::Delivering::nothing_delivered))]
 fn deliver_verdict<S: Sink>(alloc: Global, verdict: Verdict, out: &mut S) -> Result<(), SinkFault>
     requires { (S.state out.old).held_back ≡ [] }

@@ -6,7 +6,7 @@ ghost use Rattle.text_tasks.specs.GraphWork.{greatest_limit};
 ghost use Rattle.text_tasks.specs.JobMeaning.{IsTextJob};
 ghost use Rattle.flow_run.specs.Requests.{CountsReads, HasStart, IsAdded, IsHeld, IsRequestedJob, StopsAtBytes, StopsAtName, StopsAtPlan, StopsAtText, StopsBefore, TextsAre, text_limit};
 
-use call_status::{Stop, refusal};
+use call_status::{Stop, graph_refusal};
 use graph_file::read_graph;
 use graph_plans::{Plan, no_source};
 use outside_io::{Bytes, Found, List, Texts, TextsFault};
@@ -22,7 +22,7 @@ pub const FILE_LIMIT: u64 = 4_194_304;
 pub const TEXT_LIMIT: u64 = 16_777_215;
 
 /// The job that a graph file asks for, with its texts read in the order in which they are first named, and at most
-/// so many starts. An `Err` tells the first thing that stops the call.
+/// so many starts. An `Err` is the first thing that stops the call.
 pub fn prepare<F: Texts>(
     alloc: Global,
     texts: &mut F,
@@ -88,7 +88,7 @@ pub(crate) fn plan_in(alloc: Global, bytes: &[u8]) -> Result<Plan, Stop>
 {
     match read_graph(alloc, bytes) {
         Ok(plan) => Ok(plan),
-        Err(error) => Err(refusal(error)),
+        Err(error) => Err(graph_refusal(error)),
     }
 }
 

@@ -1,5 +1,5 @@
 // The report of a run: what each task that leads to no other ended with.
-ghost use Rattle.std.specs.Prelude.{◌≡◌, ◌<◌, ◌++◌, [], None, length, IfOk, slice_index_or, option_map};
+ghost use Rattle.std.specs.Prelude.{◌≡◌, ◌<◌, ◌++◌, [], None, length, IfOk, IfSome, slice_index_or, option_map};
 ghost use Rattle.std.specs.Option.{option_and_then, option_copied};
 ghost use Rattle.std.specs.Arc.{arc_value};
 ghost use Rattle.outside_io.specs.Sink.{Writes};
@@ -10,7 +10,8 @@ ghost use Rattle.nested_runs.specs.Reasons.{run_reason};
 ghost use Rattle.call_status.specs.Reasons.{reason_line};
 ghost use Rattle.flow_run.specs.Output.{ended_mark, header, outcome, report, task_report, report_of};
 
-use call_status::{add_reason_line, name_of};
+use call_status::add_reason_line;
+use line_output::put_piece;
 use nested_runs::reason_of;
 use outside_io::{Bytes, List, NoMemory, Sink, SinkFault};
 use run_frame::{FrameRun, Job, last_ends, values_by_place};
@@ -24,7 +25,7 @@ const ENDED: &[u8] = b"== ";
 
 const NOT_ENDED: &[u8] = b"-- ";
 
-/// Puts the report of a run on the sink: what each task ended with that leads to no other, and why the run was cut
+/// Writes the report of a run: what each task ended with that leads to no other, and why the run was cut
 /// short, if it was. After an `Err` the sink has a prefix of the report.
 #[tactic(auto, using(outside_io::proofs::Pieces::writes_both, outside_io::proofs::Pieces::writes_no_more))]
 pub fn put_report<S: Sink>(
@@ -38,7 +39,7 @@ pub fn put_report<S: Sink>(
     put_reason(alloc, out, run)
 }
 
-// Puts the line that tells why a run was cut short, if it was.
+// Writes the line that tells why a run was cut short, if it was.
 #[tactic(auto, using(outside_io::proofs::Pieces::writes_nothing))]
 fn put_reason<S: Sink>(alloc: Global, out: &mut S, run: &FrameRun<TextJob>) -> Result<(), SinkFault>
     ensures { Writes (S.state out.old) (S.state out.new) (reason_line (names_of (job_of run.now)) (run_reason text_job run.now)) result }
@@ -49,7 +50,7 @@ fn put_reason<S: Sink>(alloc: Global, out: &mut S, run: &FrameRun<TextJob>) -> R
     put_value(out, line.as_slice())
 }
 
-// Puts what each task ended with that leads to no other: its name on a line, and its last value below it, in the
+// Writes what each task ended with that leads to no other: its name on a line, and its last value below it, in the
 // order of the tasks' numbers. A task that hasn't ended has a line alone.
 #[tactic(auto, using(outside_io::proofs::Pieces::accepts_nothing, outside_io::proofs::Pieces::writes_nothing))]
 fn put_tasks<S: Sink>(alloc: Global, out: &mut S, run: &FrameRun<TextJob>) -> Result<(), SinkFault>
@@ -62,31 +63,40 @@ fn put_tasks<S: Sink>(alloc: Global, out: &mut S, run: &FrameRun<TextJob>) -> Re
     let values = values_by_place(alloc, run.values.as_slice(), run.journal.len())?;
     for task in 0..tasks as u32 {
         let value = last_value(&ends, &values, task);
-        if let Err(fault) = put_task(alloc, out, net, task, name_of(names, task), value) {
+        if let Err(fault) = put_task(alloc, out, net, task, task_name(names, task), value) {
             return Err(fault);
         }
     }
     Ok(())
 }
 
-// The value at the place of a task's last End.
+// The value of a task's last End.
 fn last_value<'a>(
     ends: &[Option<u64>],
     values: &'a [Option<Arc<Item>>],
     task: u32,
 ) -> Option<&'a Item>
-    requires { task < length ends.now }
+    requires task { task < length ends.now }
+    requires place { IfSome (slice_index_or ends.now task None) (λ place. place < length values.now) }
     ensures { option_copied result
         ≡ option_and_then (λ n. option_map arc_value (slice_index_or values.now n None)) (slice_index_or ends.now task None) }
 {
     let place = ends[task as usize]?;
-    match values.get(place as usize) {
-        Some(Some(value)) => Some(value),
-        _ => None,
+    match &values[place as usize] {
+        Some(value) => Some(value),
+        None => None,
     }
 }
 
-// Puts what is told of a task.
+// The name of a task.
+fn task_name(names: &[Bytes], task: u32) -> &[u8]
+    requires { task < length names.now }
+    ensures { result.now ≡ slice_index_or names.now task [] }
+{
+    names[task as usize].as_slice()
+}
+
+// Writes what the report has of a task.
 #[tactic(auto, using(outside_io::proofs::Pieces::accepts_nothing))]
 fn put_task<S: Sink>(
     alloc: Global,
@@ -106,7 +116,7 @@ fn put_task<S: Sink>(
     }
 }
 
-// Puts a task's line, and its value below it where it has one.
+// Writes a task's line, and its value below it where it has one.
 fn put_outcome<S: Sink>(
     alloc: Global,
     out: &mut S,
@@ -121,7 +131,7 @@ fn put_outcome<S: Sink>(
     }
 }
 
-// Puts the line of a task that has ended, and its value.
+// Writes the line of a task that has ended, and its value.
 #[tactic(auto, using(outside_io::proofs::Pieces::writes_nothing))]
 fn put_ended<S: Sink>(alloc: Global, out: &mut S, name: &[u8], text: &[u8]) -> Result<(), SinkFault>
     ensures { Writes (S.state out.old) (S.state out.new) (header ended_mark name.now ++ text.now) result }
@@ -130,7 +140,7 @@ fn put_ended<S: Sink>(alloc: Global, out: &mut S, name: &[u8], text: &[u8]) -> R
     put_both(out, line.as_slice(), text)
 }
 
-// Puts a line and a value.
+// Writes a line and a value.
 #[tactic(auto, using(outside_io::proofs::Pieces::writes_both, outside_io::proofs::Pieces::writes_no_more))]
 fn put_both<S: Sink>(out: &mut S, line: &[u8], text: &[u8]) -> Result<(), SinkFault>
     ensures { Writes (S.state out.old) (S.state out.new) (line.now ++ text.now) result }
@@ -139,7 +149,7 @@ fn put_both<S: Sink>(out: &mut S, line: &[u8], text: &[u8]) -> Result<(), SinkFa
     put_value(out, text)
 }
 
-// Puts a mark and a name on a line.
+// Writes a mark and a name on a line.
 #[tactic(auto, using(outside_io::proofs::Pieces::writes_nothing))]
 fn put_header<S: Sink>(
     alloc: Global,
@@ -163,7 +173,7 @@ fn header_line(alloc: Global, mark: &[u8], name: &[u8]) -> Result<Bytes, NoMemor
     Ok(line)
 }
 
-// Puts a value, where it isn't empty.
+// Writes a value, where it isn't empty.
 #[tactic(auto, using(outside_io::proofs::Pieces::accepts_nothing))]
 fn put_value<S: Sink>(out: &mut S, text: &[u8]) -> Result<(), SinkFault>
     ensures { Writes (S.state out.old) (S.state out.new) text.now result }
@@ -173,11 +183,4 @@ fn put_value<S: Sink>(out: &mut S, text: &[u8]) -> Result<(), SinkFault>
     } else {
         put_piece(out, text)
     }
-}
-
-/// Puts a piece, by one put.
-pub(crate) fn put_piece<S: Sink>(out: &mut S, piece: &[u8]) -> Result<(), SinkFault>
-    ensures { Writes (S.state out.old) (S.state out.new) piece.now result }
-{
-    out.put(piece)
 }

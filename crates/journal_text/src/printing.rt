@@ -5,8 +5,8 @@ ghost use Rattle.outside_io.specs.Sink.{Writes};
 ghost use Rattle.journal_text.specs.JournalText.{FitsCause, FitsDropWhy, FitsPart, FitsWhy, HasLine, IsJournalText, cause_field, drop_field, entry_line, fault_field, inner_field, journal_text, list_field, part_field};
 ghost use Rattle.journal_text.specs.declared.version.Version.TheVariants.{Two};
 
-use itoa::Buffer;
 use journal_rules::{Cause, DropWhy, Entry, Journal, Part, Why};
+use line_output::{add_numbered, put_piece};
 use outside_io::{Bytes, List, NoMemory, Sink, SinkFault};
 use std::alloc::Global;
 
@@ -52,13 +52,6 @@ fn put_entry<S: Sink>(alloc: Global, entry: &Entry, out: &mut S) -> Result<(), S
     put_piece(out, line.as_slice())
 }
 
-// Puts a piece, by one put.
-fn put_piece<S: Sink>(out: &mut S, piece: &[u8]) -> Result<(), SinkFault>
-    ensures { Writes (S.state out.old) (S.state out.new) piece.now result }
-{
-    out.put(piece)
-}
-
 // The line of an entry.
 fn line_of(alloc: Global, entry: &Entry) -> Result<Bytes, NoMemory>
     ensures line { IfOk result (λ line. line ≡ entry_line entry.now) }
@@ -98,15 +91,6 @@ fn line_of(alloc: Global, entry: &Entry) -> Result<Bytes, NoMemory>
     }
     line.add_all(b"\n")?;
     Ok(line)
-}
-
-// Adds a word and, in decimal, a number.
-fn add_numbered(line: &mut Bytes, word: &[u8], number: u64) -> Result<(), NoMemory>
-    ensures { OnOk result (line.new ≡ line.old ++ word.now ++ decimal number) }
-{
-    let mut digits = Buffer::new();
-    line.add_all(word)?;
-    line.add_all(digits.format(number).as_bytes())
 }
 
 // Adds what a release comes from.

@@ -16,7 +16,7 @@ use Rattle.nested_runs.specs.declared.faults.Faulted.{Faulted}
 use Rattle.nested_runs.specs.declared.reasons.Reason.{Reason}
 use Rattle.nested_runs.specs.declared.reasons.Reason.TheVariants.{Fine, Fault, Limit, Stuck}
 
--- the first Fault among entries of which the first stands at a place: where it stands, the start that it closes, and why
+-- the first Fault among entries of which the first has this index: its index, that of the start which it closes, and why
 abbrev pub first_fault_from : ℕ → List Entry → Option Faulted
 first_fault_from n [] = None
 first_fault_from n (Start task cause ins ∷ rest) = first_fault_from (suc n) rest
@@ -48,24 +48,24 @@ below task (Fault path why) = Fault (task ∷ path) why
 below task (Limit path limit) = Limit (task ∷ path) limit
 below task (Stuck path) = Stuck (task ∷ path)
 
--- A Fault is the reason by itself, unless it tells of the run that its task made: then that run's reason is.
+-- A Fault is the reason by itself, unless it is that of the run which its task made: then that run's reason is.
 abbrev pub faulted : ℕ → Why → Option Reason → Reason
 faulted task Inner (Some reason) = below task reason
 faulted task why inner = Fault (task ∷ []) why
 
--- the first of these reasons that stands at a place
+-- the first of these reasons with this index
 abbrev pub reason_at : List (ℕ × Reason) → ℕ → Option Reason
 reason_at [] n = None
 reason_at (row ∷ rows) n = if row.0 == n then Some row.1 else reason_at rows n
 
--- One run, with the reason of each run inside it beside that run's place: the first Fault counts.
+-- One run, with the reason of each run inside it beside that run's index: the first Fault counts.
 abbrev pub reason_step : {J V : Type 0} → Meaning J V → FrameRun-F J V Reason (ℕ × Reason) → Reason
 reason_step meaning run = elim (first_fault run.journal) [
   | None ↦ unfaulted (meaning.limit (arc_value run.job)) run.journal
   | Some fault ↦ faulted (unwrap_or (start_at run.journal fault.start) 0) fault.why (reason_at run.inner.items fault.place)
 ]
 
--- the reason of an inner run, beside its place
+-- the reason of an inner run, beside its index
 abbrev pub row_step : {J V : Type 0} → InnerRow-F J V Reason (ℕ × Reason) → ℕ × Reason
 row_step row = (row.place, row.run)
 

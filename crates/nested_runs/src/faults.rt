@@ -5,7 +5,7 @@ ghost use Rattle.nested_runs.specs.Reasons.{first_fault, first_stuck};
 
 use journal_rules::{DropWhy, Entry, Why};
 
-/// A Fault: where it stands in its journal, the place of the start that it closes, and why.
+/// A Fault: its index in the journal, that of the start which it closes, and why.
 #[derive(Clone, Copy)]
 pub struct Faulted {
     pub place: u64,

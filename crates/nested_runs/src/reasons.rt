@@ -25,7 +25,7 @@ pub enum Reason {
 }
 
 /// Why a run came to its end: the first Fault; else the limit, where a release was dropped at it; else the first
-/// release that was dropped for want of a unit. A Fault that tells of a run inside is told as that run's reason.
+/// release that was dropped for want of a unit. Where the Fault is that of a run inside, that run's reason is returned.
 #[cycle(reasons)]
 pub fn reason_of<J: Job>(alloc: Global, run: &FrameRun<J>) -> Result<Reason, NoMemory>
     ensures { IfOk result (λ reason. reason ≡ run_reason J.meaning run.now) }
@@ -37,7 +37,7 @@ pub fn reason_of<J: Job>(alloc: Global, run: &FrameRun<J>) -> Result<Reason, NoM
     }
 }
 
-// The reason that a Fault of a run tells of.
+// The reason of a run that has a Fault.
 #[cycle(reasons)]
 fn fault_reason<J: Job>(
     alloc: Global,
@@ -55,7 +55,7 @@ fn fault_reason<J: Job>(
     Ok(Reason::Fault(alone(alloc, task)?, fault.why))
 }
 
-// The reason of the first of these runs that stands at a place.
+// The reason of the first of these runs with this index in the journal.
 #[cycle(reasons)]
 fn inner_reason<J: Job>(
     alloc: Global,
@@ -85,7 +85,7 @@ fn unfaulted(alloc: Global, limit: u64, journal: &[Entry]) -> Result<Reason, NoM
     }
 }
 
-// The task of the start at a place, and 0 where none stands there.
+// The task of the start at an index of the journal, and 0 where there is none.
 fn started(journal: &[Entry], place: u64) -> u32
     ensures { result ≡ unwrap_or (start_at journal.now place) 0 }
 {

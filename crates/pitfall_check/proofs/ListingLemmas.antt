@@ -34,7 +34,7 @@ same_rank f g few many same = same_finding f g (kinds (finding_kind f) (finding_
     tasks k l t u few many same = omega arith
 
 -- the task that a pitfall names is a task of the net
-named_task : (net : NetRows) (f : Finding) → IsNet net → IsPitfall net f → 1 ≤ finding_kind f → finding_task f < length net.tasks
+pub named_task : (net : NetRows) (f : Finding) → IsNet net → IsPitfall net f → 1 ≤ finding_kind f → finding_task f < length net.tasks
 named_task net NoSource is holds names = absurd (omega (arith, names))
 named_task net (Mixed t) is holds names =
     let some = some_member (weak_in net t) holds.weak in into_task net some.0 t is (weak_leads net t some.0 some.1)

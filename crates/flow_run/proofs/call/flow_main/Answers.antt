@@ -8,7 +8,7 @@ returns-clause-completes g c = λ hand fine no_read_fault no_write_fault.
     let did = c.answer-status.ensures in
     completes _ _ c.answer-status.result.status _ _ did.ends hand fine
     (λ fault. let rises = did.read.cause fault in absurd (omega (arith, rises, no_read_fault)))
-    (λ same. elim (did.told.cause (did.told.write_fault same)) [
+    (λ same. elim (did.output.cause (did.output.write_fault same)) [
       | inl rises ↦ absurd (omega (arith, rises, no_write_fault))
       | inr memory ↦ absurd (let never : WriteFault ≡ NoMemory = sym same ∙ memory in cc)
     ])
@@ -18,7 +18,7 @@ returns-clause-judges g c = λ can no_read_fault no_write_fault.
     let did = c.answer-status.ensures in
     judges _ _ c.answer-status.result.status _ _ did.ends can
     (λ fault. let rises = did.read.cause fault in absurd (omega (arith, rises, no_read_fault)))
-    (λ same. elim (did.told.cause (did.told.write_fault same)) [
+    (λ same. elim (did.output.cause (did.output.write_fault same)) [
       | inl rises ↦ absurd (omega (arith, rises, no_write_fault))
       | inr memory ↦ absurd (let never : WriteFault ≡ NoMemory = sym same ∙ memory in cc)
     ])
@@ -28,7 +28,7 @@ returns-clause-checks g c = λ can no_read_fault no_write_fault.
     let did = c.answer-status.ensures in
     checks _ _ c.answer-status.result.status _ _ did.ends can
     (λ fault. let rises = did.read.cause fault in absurd (omega (arith, rises, no_read_fault)))
-    (λ same. elim (did.told.cause (did.told.write_fault same)) [
+    (λ same. elim (did.output.cause (did.output.write_fault same)) [
       | inl rises ↦ absurd (omega (arith, rises, no_write_fault))
       | inr memory ↦ absurd (let never : WriteFault ≡ NoMemory = sym same ∙ memory in cc)
     ])

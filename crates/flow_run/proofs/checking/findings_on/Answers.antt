@@ -3,7 +3,13 @@ use Rattle.graph_file.specs.PlanText.{PlanText}
 use Rattle.graph_plans.specs.PlanRows.{plan_rows}
 use Rattle.task_graph.specs.NetRows.{NetRows}
 use Rattle.pitfall_check.specs.Findings.{AreFindings}
+use Rattle.flow_run.proofs.NamedLemmas.{all_named}
 use Rattle.flow_run.proofs.checking.findings_on.Goals as goal
+
+pub returns-clause-named : goal.returns-clause-named
+returns-clause-named g c =
+    let findings = subst (λ (net : NetRows). AreFindings net c.in_ok-findings.findings) c.deref.ensures c.in_ok-findings.ensures in
+    all_named (plan_rows c.in_ok-plan.plan).top.net c.in_ok-plan.plan.top.names c.in_ok-findings.findings c.in_ok-plan.ensures.rules.net c.in_ok-plan.ensures.rules.names findings
 
 pub returns-clause-checked : goal.returns-clause-checked
 returns-clause-checked g c = record {

@@ -8,6 +8,9 @@ loop-finding-preserved g c =
     let below = c.loop-finding-test.true in
     row_written (finding_line c.args.names.now) c.args.findings.now c.loop-finding.finding-index _ _ _ _ below (get_or_default c.args.findings.now c.loop-finding.finding-index _ _ below) c.loop-finding.invariant c.in_default.ensures
 
+pub put_finding-requires : goal.put_finding-requires
+put_finding-requires g c = c.requires c.loop-finding.finding-index _ c.loop-finding-test.true
+
 pub returns-in-Err : goal.returns-in-Err
 returns-in-Err g c =
     let below = c.loop-finding-test.true in

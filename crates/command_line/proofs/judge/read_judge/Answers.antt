@@ -2,7 +2,7 @@ use Rattle.std.proofs.Common.{subst, sym, ◌≡◌, true, refl}
 use Rattle.clap.specs.Words.{App, is_simple, is_simple_and_free}
 use Rattle.clap.proofs.OnLiterals.{clap_on_literals}
 use Rattle.command_line.specs.Requests.{judge_app}
-use Rattle.command_line.proofs.judge.judge_matches.Goals as goal
+use Rattle.command_line.proofs.judge.read_judge.Goals as goal
 
 judge_is_simple : is_simple judge_app ≡ true
 unfolding clap_on_literals
@@ -13,7 +13,7 @@ unfolding clap_on_literals
 judge_is_free = refl
 
 pub matches_in-requires-clause-simple : goal.matches_in-requires-clause-simple
-matches_in-requires-clause-simple c = subst (λ (app : App). is_simple app ≡ true) (sym c.in-Ok.ensures) judge_is_simple
+matches_in-requires-clause-simple c = subst (λ (app : App). is_simple app ≡ true) (sym c.in_ok-command.ensures) judge_is_simple
 
 pub matches_in-requires-clause-free : goal.matches_in-requires-clause-free
-matches_in-requires-clause-free c = subst (λ (app : App). is_simple_and_free app ≡ true) (sym c.in-Ok.ensures) judge_is_free
+matches_in-requires-clause-free c = subst (λ (app : App). is_simple_and_free app ≡ true) (sym c.in_ok-command.ensures) judge_is_free

@@ -1,0 +1,2 @@
+-- Internal: what private functions need of their arguments.
+pub mod Named
