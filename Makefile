@@ -21,8 +21,8 @@ demo: program
 examples: program
 	@bash tools/check_program.sh
 
-# The gate: every proof, must-fail edit and test from nothing, the last line of which is 'N passed, M failed';
-# then the documents against the sources, and the program that it built on the examples.
+# The gate: every proof, must-fail edit and test that hasn't passed on this machine as it stands, whose last line is
+# 'N passed, M failed'; then the documents against the sources, and the program that it built on the examples.
 test:
 	rt ci
 	@bash tools/check_docs.sh
