@@ -28,7 +28,7 @@ fn main(rt: HostRuntime) -> ExitCode {
     }
 }
 
-// The end of a program that finds no memory for the words or the watchers.
+// The end of a program that finds no memory for the arguments or the watchers.
 fn without_memory(rt: &HostRuntime) -> ExitCode {
     let status = Status::NoMemory;
     let _noted = put_note(
@@ -40,9 +40,9 @@ fn without_memory(rt: &HostRuntime) -> ExitCode {
     ExitCode::from(status.code())
 }
 
-// Calls the program with the words after its name.
+// Calls the program with the arguments after its name.
 fn call(rt: &HostRuntime, watchers: Vec<Box<dyn Watch + Send>>) -> Result<u8, NoMemory> {
-    let words = words(rt)?;
+    let words = arguments(rt)?;
     let mut texts = FolderTexts::new(rt);
     let mut out = StdSink::out(rt.alloc(), rt);
     let mut notes = StdSink::notes(rt.alloc(), rt);
@@ -57,16 +57,16 @@ fn call(rt: &HostRuntime, watchers: Vec<Box<dyn Watch + Send>>) -> Result<u8, No
     Ok(outcome.status.code())
 }
 
-// The words after the program's own name. Where they are no text there is none, which is no command.
-fn words(rt: &HostRuntime) -> Result<Vec<String>, NoMemory> {
-    let mut words = Vec::new(rt.alloc());
-    let all_words = match env::args(rt) {
-        Ok(all_words) => all_words,
-        Err(error) if error.kind() == ErrorKind::InvalidData => return Ok(words),
+// The arguments after the program's own name. Where they aren't UTF-8 there are none, which is no command.
+fn arguments(rt: &HostRuntime) -> Result<Vec<String>, NoMemory> {
+    let mut arguments = Vec::new(rt.alloc());
+    let all = match env::args(rt) {
+        Ok(all) => all,
+        Err(error) if error.kind() == ErrorKind::InvalidData => return Ok(arguments),
         Err(_) => return Err(NoMemory),
     };
-    for word in all_words.skip(1) {
-        words.push(word)?;
+    for argument in all.skip(1) {
+        arguments.push(argument)?;
     }
-    Ok(words)
+    Ok(arguments)
 }
