@@ -29,7 +29,7 @@ fn main(rt: HostRuntime) -> io::Result<()> {
 
 fn measure(rt: &HostRuntime, name: &str, kind: Kind) -> io::Result<()> {
     let start = Instant::now(rt)?;
-    let Ok(net) = nets::net_of(rt.alloc(), kind) else {
+    let Ok(net) = nets::net_of_kind(rt.alloc(), kind) else {
         return println!(rt; "{name}: out of memory");
     };
     let built = clock::micros_since(rt, start)?;

@@ -25,7 +25,7 @@ pub enum Kind {
 }
 
 /// A net of this kind.
-pub fn net_of(alloc: Global, kind: Kind) -> Result<Net, BuildError> {
+pub fn net_of_kind(alloc: Global, kind: Kind) -> Result<Net, BuildError> {
     let mut builder = NetBuilder::new(alloc);
     for task in 0..TASKS {
         let shape = if kind == Kind::Conditions && task % 3 == 0 {
