@@ -1,0 +1,82 @@
+#!/usr/bin/env bash
+# Measures the built program by several workers: eight sorts, and eight reads with keep, sort and count each, of texts of
+# 8 MB by one worker and by four; a read and 9,999 counts of it by one and by four; a chain of 10,000 tasks by one and by
+# sixteen, in processor time as well. Seconds are the best of five. It needs python3, says the load before and after,
+# and is run as `bash bench/crews.sh`, from any folder, on a machine with four idle processors.
+set -euo pipefail
+flow=$(cd "$(dirname "${BASH_SOURCE[0]}")/.." && pwd)/crates/flow/out/flow
+[ -x "$flow" ] || { echo "build the program first: make" >&2; exit 1; }
+
+folder=$(mktemp -d)
+trap 'rm -rf "$folder"' EXIT
+cd "$folder"
+
+uptime
+python3 - "$flow" <<'PYTHON'
+import json, os, random, subprocess, sys, time
+
+FLOW = sys.argv[1]
+dice = random.Random(7)
+
+
+def write_text(name, size):
+    """Lines of about 100 bytes in no order; one in fifty has the word."""
+    lines = []
+    while size > 0:
+        word = "ERROR" if dice.random() < 0.02 else "info"
+        line = f"{dice.getrandbits(160):040x} {word} request {dice.getrandbits(160):040x}\n"
+        lines.append(line)
+        size -= len(line)
+    open(name, "w").write("".join(lines))
+
+
+def write_graph(name, tasks):
+    json.dump({"tasks": tasks}, open(name, "w"))
+
+
+for k in range(8):
+    write_text(f"text{k}.txt", 8_000_000)
+open("small.txt", "w").write("x\ny\n")
+
+sorts = []
+work = []
+for k in range(8):
+    text = f"text{k}.txt"
+    sorts += [{"name": f"r{k}", "op": "read", "text": text, "to": [f"s{k}"]},
+              {"name": f"s{k}", "op": "sort", "to": [f"n{k}"]}, {"name": f"n{k}", "op": "count"}]
+    work += [{"name": f"r{k}", "op": "read", "text": text, "to": [f"k{k}", f"s{k}", f"c{k}"]},
+             {"name": f"k{k}", "op": "keep", "word": "ERROR", "to": [f"kn{k}"]}, {"name": f"kn{k}", "op": "count"},
+             {"name": f"s{k}", "op": "sort", "to": [f"sn{k}"]}, {"name": f"sn{k}", "op": "count"},
+             {"name": f"c{k}", "op": "count"}]
+write_graph("sorts.json", sorts)
+write_graph("work.json", work)
+write_graph("fan.json", [{"name": "t", "op": "read", "text": "small.txt", "to": [f"c{k}" for k in range(9_999)]}]
+            + [{"name": f"c{k}", "op": "count"} for k in range(9_999)])
+chain = [{"name": "t0", "op": "read", "text": "small.txt"}] + [{"name": f"t{k}", "op": "keep", "word": "x"} for k in range(1, 10_000)]
+for k in range(9_999):
+    chain[k]["to"] = [f"t{k + 1}"]
+write_graph("chain.json", chain)
+
+
+def measured(graph, workers):
+    """The least seconds and the least processor seconds of five calls."""
+    best = processor = float("inf")
+    for _ in range(5):
+        start = time.perf_counter()
+        child = subprocess.Popen([FLOW, "run", graph, "--workers", str(workers)], stdout=subprocess.DEVNULL)
+        _, status, usage = os.wait4(child.pid, 0)
+        best = min(best, time.perf_counter() - start)
+        processor = min(processor, usage.ru_utime + usage.ru_stime)
+        if status:
+            sys.exit(f"{graph} by {workers} workers ended with status {status}")
+    return best, processor
+
+
+for what, graph, workers in [("eight sorts", "sorts.json", 4), ("eight reads with three tasks each", "work.json", 4),
+                             ("a read and 9,999 counts", "fan.json", 4), ("a chain of 10,000 tasks", "chain.json", 16)]:
+    one, one_processor = measured(graph, 1)
+    more, more_processor = measured(graph, workers)
+    print(f"{what}: one worker {one * 1000:.1f} ms, {workers} workers {more * 1000:.1f} ms, speed {one / more:.2f}; "
+          f"processor {one_processor * 1000:.1f} and {more_processor * 1000:.1f} ms, {more_processor / one_processor:.2f} times")
+PYTHON
+uptime
