@@ -1,5 +1,5 @@
 // From the name of a graph file to a job that is ready to run.
-ghost use Rattle.std.specs.Prelude.{◌≡◌, ◌≤◌, IfOk, IfErr};
+ghost use Rattle.std.specs.Prelude.{◌≡◌, ◌≤◌, [], IfOk, IfErr};
 ghost use Rattle.graph_plans.specs.PlanRows.{IsPlan, plan_rows};
 ghost use Rattle.graph_file.specs.PlanText.{PlanText};
 ghost use Rattle.text_tasks.specs.GraphWork.{greatest_limit};
@@ -39,7 +39,8 @@ pub fn prepare<F: Texts, R: Wait>(
 {
     let bytes = read_named(alloc, texts, file, FILE_LIMIT)?;
     let plan = read_plan(alloc, bytes.as_slice())?;
-    let table = read_texts(rt, alloc, texts, plan.texts.as_slice())?;
+    let empty = TextTable::new(alloc)?;
+    let table = read_texts(rt, alloc, texts, empty, plan.texts.as_slice())?;
     let plan = Arc::new(alloc, plan)?;
     let table = Arc::new(alloc, table)?;
     Ok(first_job(plan, table, limit))
@@ -93,19 +94,20 @@ pub(crate) fn plan_in(alloc: Global, bytes: &[u8]) -> Result<Plan, Stop>
     }
 }
 
-// The texts of these names.
+// A table without a text, filled with the texts of these names.
 fn read_texts<F: Texts, R: Wait>(
     rt: &R,
     alloc: Global,
     texts: &mut F,
+    mut table: TextTable,
     names: &[Bytes],
 ) -> Result<TextTable, Stop>
+    requires { table ≡ [] }
     ensures are { IfOk result (TextsAre (F.held texts.old) names.now) }
     ensures stops { IfErr result (StopsAtText (F.held texts.old) names.now) }
     ensures stays { F.held texts.new ≡ F.held texts.old }
     ensures counts { CountsReads (F.faults texts.old) (F.faults texts.new) result }
 {
-    let mut table = TextTable::new(alloc)?;
     for name in names {
         if let Err(stop) = add_text(rt, alloc, texts, &mut table, name) {
             return Err(stop);

@@ -3,5 +3,5 @@ use Rattle.text_tasks.specs.JobMeaning.{IsTextJob}
 use Rattle.text_tasks.specs.JobLaws.{text_job_flat}
 use Rattle.flow_run.proofs.call.kept_runs.Goals as goal
 
-pub run_by-requires-clause-flat-after_bounds : goal.run_by-requires-clause-flat-after_bounds
-run_by-requires-clause-flat-after_bounds c κs = text_job_flat _ (subst IsTextJob (sym c.in_ok-job.ensures.ok) c.requires.job)
+pub run_by-requires-clause-flat : goal.run_by-requires-clause-flat
+run_by-requires-clause-flat c = text_job_flat _ (subst IsTextJob (sym c.in_ok-job.ensures.ok) c.requires.job)
