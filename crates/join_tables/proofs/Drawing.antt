@@ -47,7 +47,7 @@ pub told : (net : NetRows) (limit : ℕ) (s : St) (h : KeepsAccounts net limit s
 told net limit s h x = told_last h.journal (slice_index s.words 8) x h.balanced.by_journal.clock
 
 -- a seat with a turn that is no rest
-unstuck : (net : NetRows) (limit : ℕ) (s : St) (h : KeepsAccounts net limit s) (id : ℕ) (v : List Note) → get_elem? s.views id ≡ some v → 1 ≤ weigh (mark Live) v → weigh resting v ≡ 0 → count_by is_stuck h.journal ≡ 0
+pub unstuck : (net : NetRows) (limit : ℕ) (s : St) (h : KeepsAccounts net limit s) (id : ℕ) (v : List Note) → get_elem? s.views id ≡ some v → 1 ≤ weigh (mark Live) v → weigh resting v ≡ 0 → count_by is_stuck h.journal ≡ 0
 unstuck net limit s h id v at lives lone = none_stuck net h.journal s.views id v h.views h.balanced.by_stuck at lives (omega (arith, lone, sticking_rests v))
 
 -- a Start

@@ -35,3 +35,8 @@ pub mod CollectNext
 pub mod Releasing
 pub mod Recordings
 pub mod FirstStep
+pub mod Within
+pub mod Halting
+pub mod Faulting
+pub mod DropAccounts
+pub mod HaltSteps

@@ -31,7 +31,7 @@ use Rattle.join_tables.proofs.Seats.{nothing_done, split_allowed, join_allowed}
 use Rattle.join_tables.proofs.FewTurns.{fits_of, room_for_turn}
 
 -- a release of the net may be used
-may_release : (net : NetRows) (t : ℕ) (cause : Cause) → IsNet net → FitsRelease net t cause → MayRelease net t cause
+pub may_release : (net : NetRows) (t : ℕ) (cause : Cause) → IsNet net → FitsRelease net t cause → MayRelease net t cause
 may_release net t Source rows fits = record { in_tasks = fits.0; in_range = tt; fits = fits.1 }
 may_release net t Strong rows fits = record { in_tasks = fits.0; in_range = tt; fits = fits.1 }
 may_release net t (Weak e) rows fits = by_row (slice_get net.edges e) refl fits.1 fits.2

@@ -14,6 +14,7 @@ use Rattle.join_tables.proofs.Counting.{times_strong_in, is_strong_into}
 use Rattle.join_tables.specs.States.{FreshState, OwingState, SpentState, fresh_state, owing_state, spent_state}
 use Rattle.join_tables.specs.Turns.{GivesNext, cause_by}
 use Rattle.join_tables.specs.declared.turns.Gave.TheVariants.{Next, Released, Finished}
+use Rattle.join_tables.specs.declared.outcomes.Outcome.TheVariants.{Ended}
 use Rattle.join_tables.specs.inside.Accounts.{AllFitNotes}
 use Rattle.join_tables.specs.inside.Kinds.{OwesNext, gave, given_notes, CountsNext}
 use Rattle.join_tables.specs.inside.Seated.{OwesFirst}
@@ -68,7 +69,7 @@ drop_none (x ∷ xs) zero h = absurd (cc)
 drop_none (x ∷ xs) (suc n) h = drop_none xs n h
 
 -- what giving led to, by what was left
-pub gives_none : (net : NetRows) (o : OwingState) (left : List ℕ) (spent : SpentState) → left ≡ [] → spent ≡ spent_state o.table o.run → GivesNext net o left (Finished spent)
+pub gives_none : (net : NetRows) (o : OwingState) (left : List ℕ) (spent : SpentState) → left ≡ [] → spent ≡ spent_state o.table (Ended o.run) → GivesNext net o left (Finished spent)
 gives_none net o left spent none is = subst (λ es. GivesNext net o es (Finished spent)) (sym none) is
 
 pub gives_on : (net : NetRows) (o : OwingState) (e : ℕ) (left rest : List ℕ) (p : OwingState) → left ≡ e ∷ rest → is_weak net e ≡ false → p ≡ owing_state o.table o.run rest → GivesNext net o left (Next p)

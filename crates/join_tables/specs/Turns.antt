@@ -1,34 +1,37 @@
 -- A table, its turns and its keeper, as contracts see them.
-use Rattle.std.specs.Prelude.{◌≡◌, ℕ, Bool, true, false, List, [], ◌∷◌}
+use Rattle.std.specs.Prelude.{◌≡◌, ℕ, Bool, true, false, List, [], ◌∷◌, Some, None}
 use Rattle.task_graph.specs.NetRows.{NetRows}
 use Rattle.task_graph.specs.Net.{is_weak}
 use Rattle.journal_rules.specs.declared.entry.Cause.{Cause}
 use Rattle.journal_rules.specs.declared.entry.Cause.TheVariants.{Strong, Weak}
+use Rattle.journal_rules.specs.declared.entry.DropWhy.TheVariants.{Limit, Halted as AfterFault}
 use Rattle.join_tables.specs.Giving.{target}
 use Rattle.join_tables.specs.declared.turns.Collected.{Collected}
 use Rattle.join_tables.specs.declared.turns.Collected.TheVariants.{More, Last, LastAgain}
 use Rattle.join_tables.specs.declared.turns.Gave.{Gave}
 use Rattle.join_tables.specs.declared.turns.Gave.TheVariants.{Next, Released, Finished}
 use Rattle.join_tables.specs.declared.turns.Admitted.{Admitted}
-use Rattle.join_tables.specs.declared.turns.Admitted.TheVariants.{Go, Over}
+use Rattle.join_tables.specs.declared.turns.Admitted.TheVariants.{Go, Over, Halted}
 use Rattle.join_tables.specs.declared.turns.Run.{Run}
+use Rattle.join_tables.specs.declared.outcomes.Outcome.TheVariants.{Ended}
 use Rattle.join_tables.specs.States.{CollectingState, TurnState, RunningState, OwingState, fresh_state, collecting_state, turn_state, admitted_state, owing_state, spent_state}
 
 -- What collecting from the next edge of a release leads to: More where another is left; Last, and perhaps another
 -- release of the task by its strong in-edges, where none is
 abbrev pub CollectsFrom : CollectingState → List ℕ → Collected → Type 0
-CollectsFrom c [] (Last turn) = turn ≡ turn_state c.table c.task c.cause false
+CollectsFrom c [] (Last turn) = turn ≡ turn_state c.table c.task c.cause None
 CollectsFrom c [] _ = ⊥
-CollectsFrom c (e ∷ []) (Last turn) = turn ≡ turn_state c.table c.task c.cause false
-CollectsFrom c (e ∷ []) (LastAgain turn fresh) = (turn ≡ turn_state c.table c.task c.cause false) × (fresh ≡ fresh_state c.table c.task Strong)
+CollectsFrom c (e ∷ []) (Last turn) = turn ≡ turn_state c.table c.task c.cause None
+CollectsFrom c (e ∷ []) (LastAgain turn fresh) = (turn ≡ turn_state c.table c.task c.cause None) × (fresh ≡ fresh_state c.table c.task Strong)
 CollectsFrom c (e ∷ []) (More d) = ⊥
 CollectsFrom c (e ∷ f ∷ left) (More d) = d ≡ collecting_state c.table c.task c.cause (f ∷ left)
 CollectsFrom c (e ∷ f ∷ left) _ = ⊥
 
--- a turn may start its task, or is refused
+-- a turn may start its task, or is refused: at the limit, or since a Fault stands
 abbrev pub Admits : TurnState → Admitted → Type 0
 Admits t (Go ticket) = ticket ≡ admitted_state t.table t.task t.cause
-Admits t (Over turn) = turn ≡ turn_state t.table t.task t.cause true
+Admits t (Over turn) = turn ≡ turn_state t.table t.task t.cause (Some Limit)
+Admits t (Halted turn) = turn ≡ turn_state t.table t.task t.cause (Some AfterFault)
 
 -- the run of a start that ended and gives these edges
 abbrev pub EndsAs : RunningState → List ℕ → Bool → Run → Type 0
@@ -45,7 +48,7 @@ cause_by net e = cause_of (is_weak net e) e
 -- What giving the next edge that is owed leads to: a token of a weak edge releases its target always, and Finished
 -- comes where none is left
 abbrev pub GivesNext : NetRows → OwingState → List ℕ → Gave → Type 0
-GivesNext net o [] (Finished spent) = spent ≡ spent_state o.table o.run
+GivesNext net o [] (Finished spent) = spent ≡ spent_state o.table (Ended o.run)
 GivesNext net o [] _ = ⊥
 GivesNext net o (e ∷ left) (Next p) = (is_weak net e ≡ false) × (p ≡ owing_state o.table o.run left)
 GivesNext net o (e ∷ left) (Released p fresh) = (p ≡ owing_state o.table o.run left) × (fresh ≡ fresh_state o.table (target net e) (cause_by net e))

@@ -6,17 +6,17 @@ ghost use Rattle.task_graph.specs.Net.{is_weak};
 ghost use Rattle.journal_rules.specs.DataRule.{edges_of};
 ghost use Rattle.journal_rules.specs.declared.entry.Cause.TheVariants.{Strong};
 ghost use Rattle.join_tables.specs.States.{fresh_state, collecting_state, running_state};
-ghost use Rattle.join_tables.specs.Turns.{CollectsFrom, GivesNext, Admits, EndsAs, cause_by};
+ghost use Rattle.join_tables.specs.Turns.{CollectsFrom, GivesNext, EndsAs, cause_by};
 ghost use Rattle.join_tables.specs.Giving.{MayGive, target};
 ghost use Rattle.join_tables.specs.inside.Accounts.{FitsRelease};
 ghost use Rattle.join_tables.specs.inside.Kinds.{CountsNext, AreNoneLeft, others_of, kept_back, settled};
 ghost use Rattle.join_tables.specs.inside.Seated.{OwesFirst, paid, HasMade, collecting_view, taken_in, left_in};
 ghost use Rattle.join_tables.specs.inside.Collects.{CollectsOne};
 
+use crate::outcomes::Outcome;
 use crate::steps::Place;
 use crate::turns::{
-    Admitted, Collected, Collecting, Fresh, Gave, NetTable, Owing, Run, Running, Spent,
-    StartTicket, Turn,
+    Collected, Collecting, Fresh, Gave, NetTable, Owing, Run, Running, Spent, StartTicket, Turn,
 };
 use journal_rules::Cause;
 use outside_io::List;
@@ -75,24 +75,6 @@ impl NetTable {
             task,
             cause,
             place,
-        }
-    }
-
-    /// Draws an admission. `Over` comes exactly where its number is not below the limit.
-    pub fn admit(&self, turn: Turn) -> Admitted
-        requires table { turn.table ≡ self.now.table }
-        requires asked_once { turn.refused ≡ false }
-        ensures { Admits turn result }
-    {
-        let Turn {
-            mut seat,
-            task,
-            cause,
-        } = turn;
-        if self.words.draw_admission(&mut seat) < self.words.limit() {
-            Admitted::Go(StartTicket { seat, task, cause })
-        } else {
-            Admitted::Over(Turn { seat, task, cause })
         }
     }
 
@@ -159,7 +141,8 @@ impl NetTable {
             next,
         } = owing;
         let Some(edge) = run.gives.get(next) else {
-            return Gave::Finished(Spent { seat, run });
+            let outcome = Outcome::Ended(run);
+            return Gave::Finished(Spent { seat, outcome });
         };
         let made = self.give_edge(&mut seat, *edge);
         let owing = Owing {

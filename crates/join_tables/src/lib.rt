@@ -8,7 +8,8 @@
 //!
 //! - The clock: the entries drawn so far. A Start or an End is one step on it, and the number that it finds is the
 //!   entry's place in the journal.
-//! - The live turns, and the starts that were admitted. The word of halts is 0 as yet.
+//! - The live turns, and the starts that were admitted.
+//! - The halt mark, which is set once a start has faulted.
 //! - Each edge's tokens, and for each task its join word: how many of its strong in-edges are not counted at it.
 //!
 //! The hot words have a cache line each. Nothing is written to the first word, which splits, joins and loads read.
@@ -17,7 +18,7 @@
 //!
 //! A turn knows what it has still to do by a seat, which has no bytes: `Fresh` is a release, `Collecting` one whose
 //! tokens are being collected, `Turn` one that has all of them, `StartTicket` one that may start, `Running` a start
-//! that runs, `Owing` an end that owes tokens, and `Spent` one that owes none. Each call takes the turn and gives
+//! that runs, `Owing` an end that owes tokens, and `Spent` a turn that owes none. Each call takes the turn and gives
 //! the next one, so no step can be made twice or left out.
 //!
 //! # The kinds of step
@@ -26,7 +27,10 @@
 //!   given, so that in a cycle the tokens of the next round are counted afresh.
 //! - `collect` takes a token off an edge (token taken). Where a strong edge has another token, it is counted again
 //!   at once (edge counted), which may release the task once more.
-//! - `admit` draws a number (admission drawn), `start` and `end` draw a place (Start drawn, End drawn).
+//! - `admit` reads the halt mark (halt load) and, where it isn't set, draws a number (admission drawn). `start` and
+//!   `end` draw a place (Start drawn, End drawn).
+//! - `fault` draws a place and then sets the mark (Fault drawn, halt mark). A release that `admit` refused, at the
+//!   limit or after a Fault, is used up by `drop_turn`, which draws a place (Drop drawn).
 //! - `give` adds a token to an edge (token given). A token of a weak edge is a release. The first token of a strong
 //!   edge lowers its target's join word (edge counted), and who finds one there has made the last count: that is
 //!   the release. A release is counted among the live turns (turn added), then goes to a seat of its own (split).
@@ -43,14 +47,18 @@
 //!
 //! What a seat knows is a list of notes; each account is an equation between a word, counts of the journal and
 //! totals of weights over all notes. `specs/` says what contracts cite, `specs/inside/` has the accounts and kinds of
-//! step, and `proofs/` shows that each kind keeps each account. The notes and accounts of semaphores, halts and drops
-//! stand there already: no call makes such a step yet, and a net with semaphores is not taken. Starts carry no
-//! inputs yet. So a journal here is legal but for the rule on what starts find.
+//! step, and `proofs/` shows that each kind keeps each account. The notes and accounts of semaphores stand there
+//! already: no call makes such a step yet, and a net with semaphores is not taken. Starts carry no inputs yet. So a
+//! journal here is legal but for the rule on what starts find.
 #![tactic(auto)]
 
 mod calls;
+mod halt_steps;
+mod halts;
 mod keeper;
 mod opening;
+mod outcomes;
+mod recording;
 mod releases;
 mod steps;
 mod turns;
@@ -58,6 +66,7 @@ mod view;
 
 pub use keeper::{Keeper, Recorded, Remaining};
 pub use opening::Opening;
+pub use outcomes::{Dropping, Failure, Outcome};
 pub use turns::{
     Admitted, Collected, Collecting, Fresh, Gave, NetTable, Owing, Run, Running, Spent,
     StartTicket, Turn,

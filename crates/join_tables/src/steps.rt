@@ -14,7 +14,7 @@ use std::marker::{Brand, PhantomData};
 use std::sync::Arc;
 use task_graph::Net;
 
-// The words of the table. Each of the first four has a cache line to itself, since eight words fill one: the others
+// The words of the table. Each of the first five has a cache line to itself, since eight words fill one: the others
 // lie eight apart. Nothing is ever written to word 0, which splits, joins and loads read.
 const UNWRITTEN: usize = 0;
 
@@ -23,6 +23,8 @@ pub const CLOCK: usize = 8;
 pub const LIVE: usize = 16;
 
 pub const STARTS: usize = 24;
+
+pub const HALT: usize = 32;
 
 pub const FIRST_EDGE: usize = 40;
 

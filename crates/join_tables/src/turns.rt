@@ -1,6 +1,7 @@
 // The turns of a table, by what they have still to do. Each knows it by a seat, which has no bytes.
 ghost use Rattle.std.specs.Prelude.{◌≡◌};
 
+use crate::outcomes::Outcome;
 use crate::steps::{Place, Words};
 use journal_rules::Cause;
 use keyed_lock::Keyed;
@@ -82,13 +83,13 @@ pub struct Turn {
 impl Model for Turn {
     ghost use Rattle.std.specs.Prelude.{◌≡◌, []};
     ghost use Rattle.join_tables.specs.States.{TurnState, turn_state};
-    ghost use Rattle.join_tables.specs.inside.Seated.{turn_view, taken_in, is_refused};
+    ghost use Rattle.join_tables.specs.inside.Seated.{turn_view, taken_in, refusal_of};
 
     ghost Value = { TurnState };
 
-    ghost view = { λ t. turn_state t.seat.table_id t.task t.cause (is_refused t.seat.me.0) };
+    ghost view = { λ t. turn_state t.seat.table_id t.task t.cause (refusal_of t.seat.me.0) };
 
-    ghost invariant = { λ t. t.seat.me ≡ (turn_view t.task t.cause (taken_in t.seat.me.0) (is_refused t.seat.me.0), []) };
+    ghost invariant = { λ t. t.seat.me ≡ (turn_view t.task t.cause (taken_in t.seat.me.0) (refusal_of t.seat.me.0), []) };
 }
 
 /// A release that may start its task.
@@ -163,23 +164,23 @@ impl Model for Owing {
     ghost invariant = { λ o. o.seat.me ≡ (owing_view o.run (drop o.next o.run.gives), []) };
 }
 
-/// A run that ended and owes nothing.
+/// A turn that is done and owes nothing.
 #[derive(Drop)]
 pub struct Spent {
     pub(crate) seat: Place,
-    pub(crate) run: Run,
+    pub(crate) outcome: Outcome,
 }
 
 impl Model for Spent {
     ghost use Rattle.std.specs.Prelude.{◌≡◌, []};
     ghost use Rattle.join_tables.specs.States.{SpentState, spent_state};
-    ghost use Rattle.join_tables.specs.inside.Seated.{owing_view};
+    ghost use Rattle.join_tables.specs.inside.Seated.{outcome_view};
 
     ghost Value = { SpentState };
 
-    ghost view = { λ s. spent_state s.seat.table_id s.run };
+    ghost view = { λ s. spent_state s.seat.table_id s.outcome };
 
-    ghost invariant = { λ s. s.seat.me ≡ (owing_view s.run [], []) };
+    ghost invariant = { λ s. s.seat.me ≡ (outcome_view s.outcome, []) };
 }
 
 /// What collecting from one edge led to.
@@ -200,6 +201,8 @@ pub enum Admitted {
     Go(StartTicket),
     /// All starts were admitted.
     Over(Turn),
+    /// A start of the run has faulted.
+    Halted(Turn),
 }
 
 /// What giving one edge led to.

@@ -1,5 +1,5 @@
 // Two rings that feed one task.
-ghost use Rattle.std.specs.Prelude.{◌≡◌, ◌<◌, IfOk, IfSome, false};
+ghost use Rattle.std.specs.Prelude.{◌≡◌, ◌<◌, IfOk, IfSome, None, false};
 ghost use Rattle.std.specs.Arc.{arc_value};
 
 use crate::{all_edges, is_complete, no_edge};
@@ -15,7 +15,7 @@ use std::test::Fail;
 use task_graph::{BuildError, Net, NetBuilder, Shape};
 
 // Tasks p, q and t; edges p to t and q to t, and a ring with a token at each of p and q.
-fn two_rings(alloc: Global) -> Result<Net, BuildError> {
+pub(crate) fn two_rings(alloc: Global) -> Result<Net, BuildError> {
     let mut builder = NetBuilder::new(alloc);
     builder.task(Shape::Plain, List::new(alloc), List::new(alloc))?;
     builder.task(Shape::Plain, List::new(alloc), List::new(alloc))?;
@@ -28,9 +28,9 @@ fn two_rings(alloc: Global) -> Result<Net, BuildError> {
 }
 
 // A release with one edge is taken up and has its token.
-fn take_up(rt: &impl Abort, table: &NetTable, fresh: Fresh) -> Result<Turn, Fail>
+pub(crate) fn take_up(rt: &impl Abort, table: &NetTable, fresh: Fresh) -> Result<Turn, Fail>
     requires { fresh.table ≡ table.now.table }
-    ensures { IfOk result (λ turn. (turn.table ≡ table.now.table) × (turn.refused ≡ false)) }
+    ensures { IfOk result (λ turn. (turn.table ≡ table.now.table) × (turn.refused ≡ None)) }
 {
     match table.collect(table.reset(fresh)) {
         Collected::Last(turn) => Ok(turn),
@@ -47,7 +47,7 @@ fn run(
     turn: Turn,
     gives_all: bool,
 ) -> Result<Owing, Fail>
-    requires table { (turn.table ≡ table.now.table) × (turn.refused ≡ false) }
+    requires table { (turn.table ≡ table.now.table) × (turn.refused ≡ None) }
     requires net { table.now.net ≡ net.now }
     ensures { IfOk result (λ owing. owing.table ≡ table.now.table) }
 {
@@ -100,7 +100,7 @@ fn finishes(rt: &impl Abort, table: &NetTable, owing: Owing) -> Result<Spent, Fa
 }
 
 // Takes in a run that is done, and says whether it was the last.
-fn absorbed(keeper: &mut Keeper, table: &NetTable, spent: Spent) -> Result<bool, Fail>
+pub(crate) fn absorbed(keeper: &mut Keeper, table: &NetTable, spent: Spent) -> Result<bool, Fail>
     requires { (keeper.old.table ≡ table.now.table) × (spent.table ≡ table.now.table) }
     ensures { keeper.new.table ≡ keeper.old.table }
 {
@@ -129,9 +129,9 @@ fn first_round(
 }
 
 // A release with two edges has both tokens.
-fn take_both(rt: &impl Abort, table: &NetTable, fresh: Fresh) -> Result<Turn, Fail>
+pub(crate) fn take_both(rt: &impl Abort, table: &NetTable, fresh: Fresh) -> Result<Turn, Fail>
     requires { fresh.table ≡ table.now.table }
-    ensures { IfOk result (λ turn. (turn.table ≡ table.now.table) × (turn.refused ≡ false)) }
+    ensures { IfOk result (λ turn. (turn.table ≡ table.now.table) × (turn.refused ≡ None)) }
 {
     let more = match table.collect(table.reset(fresh)) {
         Collected::More(more) => more,
@@ -144,7 +144,7 @@ fn take_both(rt: &impl Abort, table: &NetTable, fresh: Fresh) -> Result<Turn, Fa
 }
 
 // A run of p or of q that gives both its edges: whether it released t, and the next release of its own.
-fn lap(
+pub(crate) fn lap(
     rt: &impl Abort,
     alloc: Global,
     table: &NetTable,
@@ -167,7 +167,7 @@ fn lap(
 }
 
 // A run that gives no edge: whether it was the last.
-fn stops(
+pub(crate) fn stops(
     rt: &impl Abort,
     alloc: Global,
     table: &NetTable,
@@ -175,7 +175,7 @@ fn stops(
     keeper: &mut Keeper,
     turn: Turn,
 ) -> Result<bool, Fail>
-    requires turn { (turn.table ≡ table.now.table) × (turn.refused ≡ false) }
+    requires turn { (turn.table ≡ table.now.table) × (turn.refused ≡ None) }
     requires keeper { keeper.old.table ≡ table.now.table }
     requires net { table.now.net ≡ net.now }
     ensures keeper { keeper.new.table ≡ keeper.old.table }
@@ -188,7 +188,7 @@ fn stops(
 // t has collected from its first edge and then from its second, which releases it again.
 fn meets(rt: &impl Abort, table: &NetTable, t: Collecting) -> Result<(Turn, Fresh), Fail>
     requires { t.table ≡ table.now.table }
-    ensures { IfOk result (λ r. (r.0.table ≡ table.now.table) × (r.0.refused ≡ false) × (r.1.table ≡ table.now.table)) }
+    ensures { IfOk result (λ r. (r.0.table ≡ table.now.table) × (r.0.refused ≡ None) × (r.1.table ≡ table.now.table)) }
 {
     let t = match table.collect(t) {
         Collected::More(t) => t,

@@ -1,12 +1,16 @@
 -- What the seat of each turn knows.
-use Rattle.std.specs.Prelude.{◌≡◌, ℕ, Bool, true, false, List, [], ◌∷◌}
+use Rattle.std.specs.Prelude.{◌≡◌, ℕ, List, [], ◌∷◌, Option, Some, None}
 use Rattle.journal_rules.specs.declared.entry.Cause.{Cause}
-use Rattle.journal_rules.specs.declared.entry.Entry.TheVariants.{Start, End}
+use Rattle.journal_rules.specs.declared.entry.DropWhy.{DropWhy}
+use Rattle.journal_rules.specs.declared.entry.DropWhy.TheVariants.{Limit, Stuck, Halted as AfterFault}
+use Rattle.journal_rules.specs.declared.entry.Entry.TheVariants.{Start, End, Fault, Drop}
 use Rattle.join_tables.specs.declared.view.Item.TheVariants.{Told, Fresh, Collecting, Ticket, Open, Owes}
-use Rattle.join_tables.specs.declared.view.Mark.TheVariants.{Live, New, Over}
+use Rattle.join_tables.specs.declared.view.Mark.TheVariants.{Live, New, Over, Halted}
 use Rattle.join_tables.specs.declared.view.Note.{Note}
 use Rattle.join_tables.specs.declared.view.Note.TheVariants.{Duty, Has}
 use Rattle.join_tables.specs.declared.turns.Run.{Run}
+use Rattle.join_tables.specs.declared.outcomes.Outcome.{Outcome}
+use Rattle.join_tables.specs.declared.outcomes.Outcome.TheVariants.{Ended, Faulted, Dropped}
 use Rattle.join_tables.specs.inside.Kinds.{IsTurn}
 
 abbrev pub fresh_view : ℕ → Cause → List Note
@@ -24,17 +28,20 @@ abbrev pub left_in : List Note → List ℕ
 left_in (Duty (Collecting t cause taken left) ∷ rest) = left
 left_in _ = []
 
-abbrev pub turn_mark : Bool → Note
-turn_mark true = Has Over
-turn_mark false = Has Live
+-- what a turn knows of a refusal
+abbrev pub refusal_notes : Option DropWhy → List Note
+refusal_notes (Some Limit) = Has Over ∷ []
+refusal_notes (Some AfterFault) = Has Live ∷ Has Halted ∷ []
+refusal_notes _ = Has Live ∷ []
 
-abbrev pub turn_view : ℕ → Cause → List ℕ → Bool → List Note
-turn_view t cause taken refused = Duty (Collecting t cause taken []) ∷ turn_mark refused ∷ []
+abbrev pub turn_view : ℕ → Cause → List ℕ → Option DropWhy → List Note
+turn_view t cause taken refused = Duty (Collecting t cause taken []) ∷ refusal_notes refused
 
--- whether a turn was refused at the limit
-abbrev pub is_refused : List Note → Bool
-is_refused (x ∷ Has Over ∷ rest) = true
-is_refused _ = false
+-- why a turn was refused
+abbrev pub refusal_of : List Note → Option DropWhy
+refusal_of (x ∷ Has Over ∷ rest) = Some Limit
+refusal_of (x ∷ Has Live ∷ Has Halted ∷ rest) = Some AfterFault
+refusal_of _ = None
 
 abbrev pub ticket_view : ℕ → Cause → List ℕ → List Note
 ticket_view t cause taken = Duty (Collecting t cause taken []) ∷ Duty Ticket ∷ Has Live ∷ []
@@ -44,6 +51,12 @@ running_view t cause place = Duty (Open place t) ∷ Has Live ∷ Duty (Told pla
 
 abbrev pub owing_view : Run → List ℕ → List Note
 owing_view run left = Duty (Owes left) ∷ Has Live ∷ Duty (Told run.place (End run.start run.gives run.inner)) ∷ Duty (Told run.start (Start run.task run.cause [])) ∷ []
+
+-- one that is done
+abbrev pub outcome_view : Outcome → List Note
+outcome_view (Ended run) = owing_view run []
+outcome_view (Faulted f) = Duty (Owes []) ∷ Has Live ∷ Duty (Told f.place (Fault f.start f.why)) ∷ Duty (Told f.start (Start f.task f.cause [])) ∷ []
+outcome_view (Dropped d) = Duty (Owes []) ∷ Has Live ∷ Duty (Told d.place (Drop d.task d.cause d.why)) ∷ []
 
 -- a seat owes this edge next
 abbrev pub OwesFirst : ℕ → List Note → Type 0
