@@ -28,11 +28,12 @@ use Rattle.join_tables.specs.declared.view.Note.TheVariants.{Duty, Has}
 use Rattle.join_tables.specs.inside.Accounts.{duty, sem, mark, turning, owing, resting, weigh, total, is_drop, reading, KeepsAccounts}
 use Rattle.join_tables.specs.inside.Kinds.{MayAdmit}
 use Rattle.join_tables.specs.inside.Halts.{halt_read, MayFault, faulted, MayMark, marked, MayDrop, dropped}
-use Rattle.join_tables.proofs.Starting.{no_sem_below}
+use Rattle.join_tables.specs.Reasons.{TellsNoUnit}
+use Rattle.join_tables.specs.Holding.{PutsAll}
 use Rattle.join_tables.proofs.Views.{at_most}
 use Rattle.join_tables.proofs.Stepping.{St, Seated, own_lone, still_step, done}
 use Rattle.join_tables.proofs.Reading.{halt_word_read}
-use Rattle.join_tables.proofs.Drawing.{drawn, told, unstuck}
+use Rattle.join_tables.proofs.Drawing.{drawn, told, unstuck, none_only}
 use Rattle.join_tables.proofs.MarkSteps.{reads_same}
 use Rattle.join_tables.proofs.Seats.{nothing_done}
 use Rattle.join_tables.proofs.Marking.{alike_kept, marks_none}
@@ -63,10 +64,10 @@ halt_loaded net limit s h id carried x rest lone at found =
     (λ moved. alike_kept net limit (reading net s.words) h.counted h.journal (λ c. total c s.views) _ h.balanced (λ c a. omega (arith, moved c, marks_none c a (Has Halted ∷ []) tt)))
 
 -- a Fault drawn
-fault_drawn : (net : NetRows) (limit : ℕ) (s : St) (h : KeepsAccounts net limit s) (id m t : ℕ) (why : Why) (carried : List (ℕ × Unit {0})) (rest : List Note) → net.sems ≡ [] → WhyInRange net why → OverReleaseRule net h.journal m why
+fault_drawn : (net : NetRows) (limit : ℕ) (s : St) (h : KeepsAccounts net limit s) (id m t : ℕ) (why : Why) (carried : List (ℕ × Unit {0})) (rest : List Note) → WhyInRange net why → OverReleaseRule net h.journal m why → PutsAll net t
     → weigh resting rest ≡ 0 → get_elem? s.views id ≡ some (Duty (Open m t) ∷ Has Live ∷ rest)
     → KeepsAccounts net limit (stepped s 8 ((slice_index s.words 8 + 1) % 2 ^ 64) id carried (Duty (Owes []) ∷ Has Live ∷ Has ToMark ∷ Duty (Told (slice_index s.words 8) (Fault m why)) ∷ rest) keeps)
-fault_drawn net limit s h id m t why carried rest no_sems in_range over lone at =
+fault_drawn net limit s h id m t why carried rest in_range over puts_all lone at =
     let n = slice_index s.words 8 in let x = Fault m why in
     let old = Duty (Open m t) ∷ Has Live ∷ [] in let new = Duty (Owes []) ∷ Has Live ∷ Has ToMark ∷ Duty (Told n x) ∷ [] in
     drawn net limit s h id carried old new rest x at
@@ -80,7 +81,7 @@ fault_drawn net limit s h id m t why carried rest no_sems in_range over lone at 
       owed = λ z. omega (arith, moved (sem Owed z));
       both = λ z. omega (arith, moved (sem Both z));
       credit = λ z. omega (arith, moved (sem Credit z));
-      credited = λ z below. absurd (no_sem_below net z no_sems below);
+      credited = λ z below. omega (arith, moved (sem Credited z), none_only net z t puts_all);
       claim = λ z. omega (arith, moved (sem Claim z));
       granted = λ z. omega (arith, moved (sem Granted z));
       refusing = λ z. omega (arith, moved (sem Refusing z));
@@ -164,20 +165,20 @@ halt_allowed net limit slots id me may s h _ at small = from me.0 may at
     from v may at = absurd may
 
 -- FAULT DRAWN
-pub fault_allowed : (net : NetRows) (limit slots id : ℕ) (me : Seated) (why : Why) → net.sems ≡ [] → MayFault net why me.0 → Allows (KeepsAccounts net limit) slots id me 8 (λ n. (n + 1) % 2 ^ 64) (λ n m. (m.0 ≡ faulted why n me.0) × (m.1 ≡ me.1))
-fault_allowed net limit slots id me why no_sems may s h _ at small = from me.0 may at
+pub fault_allowed : (net : NetRows) (limit slots id : ℕ) (me : Seated) (why : Why) → MayFault net why me.0 → Allows (KeepsAccounts net limit) slots id me 8 (λ n. (n + 1) % 2 ^ 64) (λ n m. (m.0 ≡ faulted why n me.0) × (m.1 ≡ me.1))
+fault_allowed net limit slots id me why may s h _ at small = from me.0 may at
   where
-    over : (q : Why) (m : ℕ) → WhyInRange net q → OverReleaseRule net h.journal m q
-    over (Long n) m fits = tt
-    over (Wide n) m fits = tt
-    over (Unmet n) m fits = tt
-    over Inner m fits = tt
-    over (OverRelease z) m fits = absurd (no_sem_below net z no_sems fits)
+    over : (q : Why) (m : ℕ) → TellsNoUnit q → WhyInRange net q × OverReleaseRule net h.journal m q
+    over (Long n) m fits = (tt, tt)
+    over (Wide n) m fits = (tt, tt)
+    over (Unmet n) m fits = (tt, tt)
+    over Inner m fits = (tt, tt)
+    over (OverRelease z) m fits = absurd fits
 
     from : (v : List Note) → MayFault net why v → get_elem? s.views id ≡ some v
         → (u : List Note) × (z : Act (Unit {0})) × Valid s.homes me.1 z × KeepsAccounts net limit (stepped s 8 ((slice_index s.words 8 + 1) % 2 ^ 64) id me.1 u z) × ((u ≡ faulted why (slice_index s.words 8) v) × (carried_after me.1 z ≡ me.1))
     from (Duty (Open m t) ∷ Has Live ∷ rest) may at =
-        done net limit s id 8 _ me _ _ refl (fault_drawn net limit s h id m t why me.1 rest no_sems may.0 (over why m may.0) may.1 at)
+        done net limit s id 8 _ me _ _ refl (let fits = over why m may.0 in fault_drawn net limit s h id m t why me.1 rest fits.0 fits.1 may.1 may.2 at)
     from v may at = absurd may
 
 -- HALT MARK

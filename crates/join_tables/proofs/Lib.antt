@@ -40,3 +40,7 @@ pub mod Halting
 pub mod Faulting
 pub mod DropAccounts
 pub mod HaltSteps
+pub mod UnitReads
+pub mod UnitAccounts
+pub mod UnitSeats
+pub mod TurnViews

@@ -72,8 +72,8 @@ drop_none (x ∷ xs) (suc n) h = drop_none xs n h
 pub gives_none : (net : NetRows) (o : OwingState) (left : List ℕ) (spent : SpentState) → left ≡ [] → spent ≡ spent_state o.table (Ended o.run) → GivesNext net o left (Finished spent)
 gives_none net o left spent none is = subst (λ es. GivesNext net o es (Finished spent)) (sym none) is
 
-pub gives_on : (net : NetRows) (o : OwingState) (e : ℕ) (left rest : List ℕ) (p : OwingState) → left ≡ e ∷ rest → is_weak net e ≡ false → p ≡ owing_state o.table o.run rest → GivesNext net o left (Next p)
+pub gives_on : (net : NetRows) (o : OwingState) (e : ℕ) (left rest : List ℕ) (p : OwingState) → left ≡ e ∷ rest → is_weak net e ≡ false → p ≡ owing_state o.table o.run rest [] → GivesNext net o left (Next p)
 gives_on net o e left rest p some strong is = subst (λ es. GivesNext net o es (Next p)) (sym some) (strong, is)
 
-pub gives_more : (net : NetRows) (o : OwingState) (e : ℕ) (left rest : List ℕ) (p : OwingState) (fresh : FreshState) → left ≡ e ∷ rest → p ≡ owing_state o.table o.run rest → fresh ≡ fresh_state o.table (target net e) (cause_by net e) → GivesNext net o left (Released p fresh)
+pub gives_more : (net : NetRows) (o : OwingState) (e : ℕ) (left rest : List ℕ) (p : OwingState) (fresh : FreshState) → left ≡ e ∷ rest → p ≡ owing_state o.table o.run rest [] → fresh ≡ fresh_state o.table (target net e) (cause_by net e) → GivesNext net o left (Released p fresh)
 gives_more net o e left rest p fresh some is made = subst (λ es. GivesNext net o es (Released p fresh)) (sym some) (is, made)

@@ -1,6 +1,9 @@
 pub mod Giving
 pub mod States
+pub mod Holding
+pub mod Units
 pub mod Turns
+pub mod Reasons
 pub mod Outcomes
 pub mod Keeping
 pub mod Openings

@@ -1,5 +1,5 @@
 -- The states of a table, of its turns and of its keeper.
-use Rattle.std.specs.Prelude.{ℕ, List, Option}
+use Rattle.std.specs.Prelude.{ℕ, List, [], Option}
 use Rattle.task_graph.specs.NetRows.{NetRows}
 use Rattle.atomic_table.specs.Seated.{TableId}
 use Rattle.journal_rules.specs.declared.entry.Cause.{Cause}
@@ -26,31 +26,35 @@ pub record CollectingState : Type 0 where
   pub cause : Cause
   pub left : List ℕ
 
--- one that has collected all, and why it was refused, if it was
+-- one that has collected all: why it was refused, if it was, and the semaphores of the units that it holds
 pub record TurnState : Type 0 where
   pub table : TableId
   pub task : ℕ
   pub cause : Cause
   pub refused : Option DropWhy
+  pub held : List ℕ
 
 -- one that may start its task
 pub record AdmittedState : Type 0 where
   pub table : TableId
   pub task : ℕ
   pub cause : Cause
+  pub held : List ℕ
 
--- a start that runs, and its place in the journal
+-- a start that runs, its place in the journal, and the semaphores of the units that its end gives back
 pub record RunningState : Type 0 where
   pub table : TableId
   pub task : ℕ
   pub cause : Cause
   pub place : ℕ
+  pub units : List ℕ
 
--- a run that ended, and the edges that it has still to give
+-- a run that ended, the edges that it has still to give, and the semaphores of the units that it has to give back
 pub record OwingState : Type 0 where
   pub table : TableId
   pub run : Run
   pub left : List ℕ
+  pub units : List ℕ
 
 -- one that owes nothing
 pub record SpentState : Type 0 where
@@ -64,16 +68,19 @@ abbrev pub collecting_state : TableId → ℕ → Cause → List ℕ → Collect
 collecting_state n t cause left = record { table = n; task = t; cause = cause; left = left }
 
 abbrev pub turn_state : TableId → ℕ → Cause → Option DropWhy → TurnState
-turn_state n t cause refused = record { table = n; task = t; cause = cause; refused = refused }
+turn_state n t cause refused = record { table = n; task = t; cause = cause; refused = refused; held = [] }
 
-abbrev pub admitted_state : TableId → ℕ → Cause → AdmittedState
-admitted_state n t cause = record { table = n; task = t; cause = cause }
+abbrev pub turn_with : TableId → ℕ → Cause → Option DropWhy → List ℕ → TurnState
+turn_with n t cause refused held = record { table = n; task = t; cause = cause; refused = refused; held = held }
 
-abbrev pub running_state : TableId → ℕ → Cause → ℕ → RunningState
-running_state n t cause place = record { table = n; task = t; cause = cause; place = place }
+abbrev pub admitted_state : TableId → ℕ → Cause → List ℕ → AdmittedState
+admitted_state n t cause held = record { table = n; task = t; cause = cause; held = held }
 
-abbrev pub owing_state : TableId → Run → List ℕ → OwingState
-owing_state n run left = record { table = n; run = run; left = left }
+abbrev pub running_state : TableId → ℕ → Cause → ℕ → List ℕ → RunningState
+running_state n t cause place units = record { table = n; task = t; cause = cause; place = place; units = units }
+
+abbrev pub owing_state : TableId → Run → List ℕ → List ℕ → OwingState
+owing_state n run left units = record { table = n; run = run; left = left; units = units }
 
 abbrev pub spent_state : TableId → Outcome → SpentState
 spent_state n outcome = record { table = n; outcome = outcome }

@@ -14,7 +14,7 @@ use Rattle.join_tables.specs.declared.turns.Admitted.{Admitted}
 use Rattle.join_tables.specs.declared.turns.Admitted.TheVariants.{Go, Over, Halted}
 use Rattle.join_tables.specs.declared.turns.Run.{Run}
 use Rattle.join_tables.specs.declared.outcomes.Outcome.TheVariants.{Ended}
-use Rattle.join_tables.specs.States.{CollectingState, TurnState, RunningState, OwingState, fresh_state, collecting_state, turn_state, admitted_state, owing_state, spent_state}
+use Rattle.join_tables.specs.States.{CollectingState, TurnState, RunningState, OwingState, fresh_state, collecting_state, turn_state, turn_with, admitted_state, owing_state, spent_state}
 
 -- What collecting from the next edge of a release leads to: More where another is left; Last, and perhaps another
 -- release of the task by its strong in-edges, where none is
@@ -29,9 +29,9 @@ CollectsFrom c (e ∷ f ∷ left) _ = ⊥
 
 -- a turn may start its task, or is refused: at the limit, or since a Fault stands
 abbrev pub Admits : TurnState → Admitted → Type 0
-Admits t (Go ticket) = ticket ≡ admitted_state t.table t.task t.cause
-Admits t (Over turn) = turn ≡ turn_state t.table t.task t.cause (Some Limit)
-Admits t (Halted turn) = turn ≡ turn_state t.table t.task t.cause (Some AfterFault)
+Admits t (Go ticket) = ticket ≡ admitted_state t.table t.task t.cause t.held
+Admits t (Over turn) = turn ≡ turn_with t.table t.task t.cause (Some Limit) t.held
+Admits t (Halted turn) = turn ≡ turn_with t.table t.task t.cause (Some AfterFault) t.held
 
 -- the run of a start that ended and gives these edges
 abbrev pub EndsAs : RunningState → List ℕ → Bool → Run → Type 0
@@ -50,6 +50,6 @@ cause_by net e = cause_of (is_weak net e) e
 abbrev pub GivesNext : NetRows → OwingState → List ℕ → Gave → Type 0
 GivesNext net o [] (Finished spent) = spent ≡ spent_state o.table (Ended o.run)
 GivesNext net o [] _ = ⊥
-GivesNext net o (e ∷ left) (Next p) = (is_weak net e ≡ false) × (p ≡ owing_state o.table o.run left)
-GivesNext net o (e ∷ left) (Released p fresh) = (p ≡ owing_state o.table o.run left) × (fresh ≡ fresh_state o.table (target net e) (cause_by net e))
+GivesNext net o (e ∷ left) (Next p) = (is_weak net e ≡ false) × (p ≡ owing_state o.table o.run left [])
+GivesNext net o (e ∷ left) (Released p fresh) = (p ≡ owing_state o.table o.run left []) × (fresh ≡ fresh_state o.table (target net e) (cause_by net e))
 GivesNext net o (e ∷ left) (Finished spent) = ⊥

@@ -8,6 +8,7 @@ ghost use Rattle.journal_rules.specs.declared.entry.Cause.TheVariants.{Strong};
 ghost use Rattle.join_tables.specs.States.{fresh_state, collecting_state, running_state};
 ghost use Rattle.join_tables.specs.Turns.{CollectsFrom, GivesNext, EndsAs, cause_by};
 ghost use Rattle.join_tables.specs.Giving.{MayGive, target};
+ghost use Rattle.join_tables.specs.Holding.{HoldsAll, PutsAll};
 ghost use Rattle.join_tables.specs.inside.Accounts.{FitsRelease};
 ghost use Rattle.join_tables.specs.inside.Kinds.{CountsNext, AreNoneLeft, others_of, kept_back, settled};
 ghost use Rattle.join_tables.specs.inside.Seated.{OwesFirst, paid, HasMade, collecting_view, taken_in, left_in};
@@ -59,10 +60,12 @@ impl NetTable {
         }
     }
 
-    /// Starts the task: draws the place of its Start.
+    /// Starts the task: draws the place of its Start. The task puts just what it takes.
     pub fn start(&self, ticket: StartTicket) -> Running
-        requires { ticket.table ≡ self.now.table }
-        ensures { result ≡ running_state self.now.table ticket.task ticket.cause result.place }
+        requires table { ticket.table ≡ self.now.table }
+        requires units { HoldsAll self.now.net ticket.task ticket.held }
+        requires puts { PutsAll self.now.net ticket.task }
+        ensures { result ≡ running_state self.now.table ticket.task ticket.cause result.place ticket.held }
     {
         let StartTicket {
             mut seat,
@@ -83,9 +86,12 @@ impl NetTable {
     pub fn end(&self, running: Running, gives: List<u32>, inner: bool) -> Owing
         requires table { running.table ≡ self.now.table }
         requires fits { MayGive self.now.net running.task gives inner }
+        requires units { HoldsAll self.now.net running.task running.units }
+        requires puts { PutsAll self.now.net running.task }
         ensures table { result.table ≡ self.now.table }
         ensures run { EndsAs running gives inner result.run }
         ensures left { result.left ≡ gives }
+        ensures units { result.units ≡ running.units }
     {
         let Running {
             mut seat,
@@ -132,7 +138,8 @@ impl NetTable {
     /// Gives a token of the next edge that an end owes, and counts it at its target where it is the first of a strong
     /// one.
     pub fn give(&self, owing: Owing) -> Gave
-        requires { owing.table ≡ self.now.table }
+        requires table { owing.table ≡ self.now.table }
+        requires no_unit { owing.units ≡ [] }
         ensures { GivesNext self.now.net owing owing.left result }
     {
         let Owing {

@@ -1,8 +1,9 @@
 // The calls that admit a release, and those that halt a run or drop a release. None takes memory, and none waits.
-ghost use Rattle.std.specs.Prelude.{◌≡◌, Some, None};
-ghost use Rattle.journal_rules.specs.ShapeLegal.{WhyInRange};
+ghost use Rattle.std.specs.Prelude.{◌≡◌, Some, None, []};
 ghost use Rattle.join_tables.specs.Turns.{Admits};
 ghost use Rattle.join_tables.specs.Outcomes.{FaultsAs, DropsAs};
+ghost use Rattle.join_tables.specs.Reasons.{TellsNoUnit};
+ghost use Rattle.join_tables.specs.Holding.{HoldsAll, PutsAll};
 
 use crate::outcomes::{Dropping, Failure, Outcome};
 use crate::turns::{Admitted, NetTable, Running, Spent, StartTicket, Turn};
@@ -14,6 +15,7 @@ impl NetTable {
     pub fn admit(&self, turn: Turn) -> Admitted
         requires table { turn.table ≡ self.now.table }
         requires asked_once { turn.refused ≡ None }
+        requires units { HoldsAll self.now.net turn.task turn.held }
         ensures { Admits turn result }
     {
         let Turn {
@@ -35,7 +37,8 @@ impl NetTable {
     /// owed after it.
     pub fn fault(&self, running: Running, why: Why) -> Spent
         requires table { running.table ≡ self.now.table }
-        requires in_range { WhyInRange self.now.net why }
+        requires why { TellsNoUnit why }
+        requires puts { PutsAll self.now.net running.task }
         ensures table { result.table ≡ self.now.table }
         ensures outcome { FaultsAs running why result.outcome }
     {
@@ -62,6 +65,7 @@ impl NetTable {
     pub fn drop_turn(&self, turn: Turn, why: DropWhy) -> Spent
         requires table { turn.table ≡ self.now.table }
         requires refused { turn.refused ≡ Some why }
+        requires no_unit { turn.held ≡ [] }
         ensures table { result.table ≡ self.now.table }
         ensures outcome { DropsAs turn why result.outcome }
     {

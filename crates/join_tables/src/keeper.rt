@@ -31,13 +31,14 @@ pub struct Keeper {
 impl Model for Keeper {
     ghost use Rattle.std.specs.Prelude.{◌≡◌, []};
     ghost use Rattle.join_tables.specs.Keeping.{KeeperState, keeper_state};
-    ghost use Rattle.join_tables.specs.inside.Recording.{told_notes};
+    ghost use Rattle.join_tables.specs.inside.Accounts.{busy, weigh};
+    ghost use Rattle.join_tables.specs.inside.Recording.{tellings, told_notes};
 
     ghost Value = { KeeperState };
 
     ghost view = { λ k. keeper_state k.seat.table_id k.entries.items };
 
-    ghost invariant = { λ k. (k.seat.id ≡ 0) × (k.seat.me ≡ (told_notes k.entries.items, [])) };
+    ghost invariant = { λ k. (k.seat.id ≡ 0) × (k.seat.me.1 ≡ []) × (tellings k.seat.me.0 ≡ told_notes k.entries.items) × (weigh busy k.seat.me.0 ≡ 0) };
 }
 
 /// Whether turns are left.

@@ -62,6 +62,8 @@ mod recording;
 mod releases;
 mod steps;
 mod turns;
+mod unit_calls;
+mod unit_steps;
 mod view;
 
 pub use keeper::{Keeper, Recorded, Remaining};
@@ -69,5 +71,5 @@ pub use opening::Opening;
 pub use outcomes::{Dropping, Failure, Outcome};
 pub use turns::{
     Admitted, Collected, Collecting, Fresh, Gave, NetTable, Owing, Run, Running, Spent,
-    StartTicket, Turn,
+    StartTicket, Turn, UnitTake,
 };

@@ -33,7 +33,6 @@ impl NetTable {
     #[tactic(auto, using(crate::proofs::FirstStep::all_of_table))]
     pub fn new(alloc: Global, net: Arc<Net>, limit: u64) -> Result<Opening, NoMemory>
         requires limit { limit ≤ 2097153 }
-        requires no_semaphores { (arc_value net).sems ≡ [] }
         ensures { IfOk result (OpensTable (arc_value net) limit) }
     {
         let releases = first_releases(alloc, &net)?;

@@ -82,14 +82,14 @@ pub struct Turn {
 
 impl Model for Turn {
     ghost use Rattle.std.specs.Prelude.{◌≡◌, []};
-    ghost use Rattle.join_tables.specs.States.{TurnState, turn_state};
-    ghost use Rattle.join_tables.specs.inside.Seated.{turn_view, taken_in, refusal_of};
+    ghost use Rattle.join_tables.specs.States.{TurnState, turn_with};
+    ghost use Rattle.join_tables.specs.inside.Seated.{turn_view, taken_in, refusal_of, held_of};
 
     ghost Value = { TurnState };
 
-    ghost view = { λ t. turn_state t.seat.table_id t.task t.cause (refusal_of t.seat.me.0) };
+    ghost view = { λ t. turn_with t.seat.table_id t.task t.cause (refusal_of t.seat.me.0) (held_of t.seat.me.0) };
 
-    ghost invariant = { λ t. t.seat.me ≡ (turn_view t.task t.cause (taken_in t.seat.me.0) (refusal_of t.seat.me.0), []) };
+    ghost invariant = { λ t. t.seat.me ≡ (turn_view t.task t.cause (taken_in t.seat.me.0) (refusal_of t.seat.me.0) (held_of t.seat.me.0), []) };
 }
 
 /// A release that may start its task.
@@ -103,13 +103,13 @@ pub struct StartTicket {
 impl Model for StartTicket {
     ghost use Rattle.std.specs.Prelude.{◌≡◌, []};
     ghost use Rattle.join_tables.specs.States.{AdmittedState, admitted_state};
-    ghost use Rattle.join_tables.specs.inside.Seated.{ticket_view, taken_in};
+    ghost use Rattle.join_tables.specs.inside.Seated.{ticket_view, taken_in, held_of};
 
     ghost Value = { AdmittedState };
 
-    ghost view = { λ t. admitted_state t.seat.table_id t.task t.cause };
+    ghost view = { λ t. admitted_state t.seat.table_id t.task t.cause (held_of t.seat.me.0) };
 
-    ghost invariant = { λ t. t.seat.me ≡ (ticket_view t.task t.cause (taken_in t.seat.me.0), []) };
+    ghost invariant = { λ t. t.seat.me ≡ (ticket_view t.task t.cause (taken_in t.seat.me.0) (held_of t.seat.me.0), []) };
 }
 
 /// A start that runs.
@@ -124,13 +124,13 @@ pub struct Running {
 impl Model for Running {
     ghost use Rattle.std.specs.Prelude.{◌≡◌, []};
     ghost use Rattle.join_tables.specs.States.{RunningState, running_state};
-    ghost use Rattle.join_tables.specs.inside.Seated.{running_view};
+    ghost use Rattle.join_tables.specs.inside.Seated.{running_view, units_of};
 
     ghost Value = { RunningState };
 
-    ghost view = { λ r. running_state r.seat.table_id r.task r.cause r.place };
+    ghost view = { λ r. running_state r.seat.table_id r.task r.cause r.place (units_of r.seat.me.0) };
 
-    ghost invariant = { λ r. r.seat.me ≡ (running_view r.task r.cause r.place, []) };
+    ghost invariant = { λ r. r.seat.me ≡ (running_view r.task r.cause r.place (units_of r.seat.me.0), []) };
 }
 
 /// A start of a task and its end: their places in the journal, and the edges that the end gives.
@@ -155,13 +155,13 @@ pub struct Owing {
 impl Model for Owing {
     ghost use Rattle.std.specs.Prelude.{◌≡◌, [], drop};
     ghost use Rattle.join_tables.specs.States.{OwingState, owing_state};
-    ghost use Rattle.join_tables.specs.inside.Seated.{owing_view};
+    ghost use Rattle.join_tables.specs.inside.Seated.{owing_view, units_of};
 
     ghost Value = { OwingState };
 
-    ghost view = { λ o. owing_state o.seat.table_id o.run (drop o.next o.run.gives) };
+    ghost view = { λ o. owing_state o.seat.table_id o.run (drop o.next o.run.gives) (units_of o.seat.me.0) };
 
-    ghost invariant = { λ o. o.seat.me ≡ (owing_view o.run (drop o.next o.run.gives), []) };
+    ghost invariant = { λ o. o.seat.me ≡ (owing_view o.run (drop o.next o.run.gives) (units_of o.seat.me.0), []) };
 }
 
 /// A turn that is done and owes nothing.
@@ -174,13 +174,13 @@ pub struct Spent {
 impl Model for Spent {
     ghost use Rattle.std.specs.Prelude.{◌≡◌, []};
     ghost use Rattle.join_tables.specs.States.{SpentState, spent_state};
-    ghost use Rattle.join_tables.specs.inside.Seated.{outcome_view};
+    ghost use Rattle.join_tables.specs.inside.Seated.{IsSpent};
 
     ghost Value = { SpentState };
 
     ghost view = { λ s. spent_state s.seat.table_id s.outcome };
 
-    ghost invariant = { λ s. s.seat.me ≡ (outcome_view s.outcome, []) };
+    ghost invariant = { λ s. IsSpent s.outcome s.seat.me.0 × (s.seat.me.1 ≡ []) };
 }
 
 /// What collecting from one edge led to.
@@ -203,6 +203,15 @@ pub enum Admitted {
     Over(Turn),
     /// A start of the run has faulted.
     Halted(Turn),
+}
+
+/// What taking a unit led to.
+#[derive(Drop)]
+pub enum UnitTake {
+    /// The turn has the unit.
+    Got(Turn),
+    /// There was none.
+    NoUnit(Turn),
 }
 
 /// What giving one edge led to.

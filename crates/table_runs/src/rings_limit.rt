@@ -3,8 +3,8 @@ ghost use Rattle.std.specs.Prelude.{◌≡◌, IfOk, IfSome, Some, None};
 ghost use Rattle.std.specs.Arc.{arc_value};
 ghost use Rattle.journal_rules.specs.declared.entry.DropWhy.TheVariants.{Limit, Halted};
 
-use crate::is_complete;
 use crate::rings::{absorbed, lap, stops, take_both, take_up, two_rings};
+use crate::{is_complete, needs_none};
 use join_tables::{Admitted, Fresh, Keeper, NetTable, Opening};
 use journal_rules::{DropWhy, Why};
 use outside_io::List;
@@ -18,9 +18,14 @@ use task_graph::Net;
 fn drops(rt: &impl Abort, table: &NetTable, keeper: &mut Keeper, fresh: Fresh) -> Result<bool, Fail>
     requires fresh { fresh.table ≡ table.now.table }
     requires keeper { keeper.old.table ≡ table.now.table }
+    requires net { table.now.net ≡ net.now }
     ensures keeper { keeper.new.table ≡ keeper.old.table }
 {
     let turn = take_up(rt, table, fresh)?;
+    let task = turn.task();
+    if task as usize >= net.tasks().len() || !needs_none(net, task) {
+        panic!(rt; "a task past the end, or one that needs a unit");
+    }
     match table.admit(turn) {
         Admitted::Over(turn) => absorbed(keeper, table, table.drop_turn(turn, DropWhy::Limit)),
         _ => panic!(rt; "a start past the limit"),
@@ -49,8 +54,8 @@ fn three_starts(
     };
     let turn = take_both(rt, table, t)?;
     assert!(rt; !stops(rt, alloc, table, net, keeper, turn)?);
-    assert!(rt; !drops(rt, table, keeper, p)?);
-    assert!(rt; drops(rt, table, keeper, q)?);
+    assert!(rt; !drops(rt, table, net, keeper, p)?);
+    assert!(rt; drops(rt, table, net, keeper, q)?);
     Ok(())
 }
 
@@ -58,9 +63,6 @@ fn three_starts(
 fn rings_stop_at_the_limit(rt: HostRuntime) -> Result<(), Fail> {
     let alloc = rt.alloc();
     let net = Arc::new(alloc, two_rings(alloc)?)?;
-    if !net.sems().is_empty() {
-        panic!(rt; "a semaphore");
-    }
     let Opening {
         table,
         mut fresh,
@@ -79,14 +81,20 @@ fn rings_stop_at_the_limit(rt: HostRuntime) -> Result<(), Fail> {
 fn faults(
     rt: &impl Abort,
     table: &NetTable,
+    net: &Net,
     keeper: &mut Keeper,
     fresh: Fresh,
 ) -> Result<bool, Fail>
     requires fresh { fresh.table ≡ table.now.table }
     requires keeper { keeper.old.table ≡ table.now.table }
+    requires net { table.now.net ≡ net.now }
     ensures keeper { keeper.new.table ≡ keeper.old.table }
 {
     let turn = take_up(rt, table, fresh)?;
+    let task = turn.task();
+    if task as usize >= net.tasks().len() || !needs_none(net, task) {
+        panic!(rt; "a task past the end, or one that needs a unit");
+    }
     match table.admit(turn) {
         Admitted::Go(ticket) => {
             let running = table.start(ticket);
@@ -100,9 +108,14 @@ fn faults(
 fn halts(rt: &impl Abort, table: &NetTable, keeper: &mut Keeper, fresh: Fresh) -> Result<bool, Fail>
     requires fresh { fresh.table ≡ table.now.table }
     requires keeper { keeper.old.table ≡ table.now.table }
+    requires net { table.now.net ≡ net.now }
     ensures keeper { keeper.new.table ≡ keeper.old.table }
 {
     let turn = take_up(rt, table, fresh)?;
+    let task = turn.task();
+    if task as usize >= net.tasks().len() || !needs_none(net, task) {
+        panic!(rt; "a task past the end, or one that needs a unit");
+    }
     match table.admit(turn) {
         Admitted::Halted(turn) => absorbed(keeper, table, table.drop_turn(turn, DropWhy::Halted)),
         _ => panic!(rt; "a start after a Fault"),
@@ -113,9 +126,6 @@ fn halts(rt: &impl Abort, table: &NetTable, keeper: &mut Keeper, fresh: Fresh) -
 fn rings_halt(rt: HostRuntime) -> Result<(), Fail> {
     let alloc = rt.alloc();
     let net = Arc::new(alloc, two_rings(alloc)?)?;
-    if !net.sems().is_empty() {
-        panic!(rt; "a semaphore");
-    }
     let Opening {
         table,
         mut fresh,
@@ -124,8 +134,8 @@ fn rings_halt(rt: HostRuntime) -> Result<(), Fail> {
     let (Some(q), Some(p)) = (fresh.pop(), fresh.pop()) else {
         panic!(rt; "no two releases");
     };
-    assert!(rt; !faults(&rt, &table, &mut keeper, p)?);
-    assert!(rt; halts(&rt, &table, &mut keeper, q)?);
+    assert!(rt; !faults(&rt, &table, &net, &mut keeper, p)?);
+    assert!(rt; halts(&rt, &table, &net, &mut keeper, q)?);
     assert_eq!(rt; keeper.entries().len(), 3);
     assert!(rt; is_complete(alloc, net, 10, keeper.entries())?);
     Ok(())

@@ -5,7 +5,8 @@ use Rattle.journal_rules.specs.declared.entry.Entry.TheVariants.{Fault, Drop}
 use Rattle.journal_rules.specs.declared.entry.Why.{Why}
 use Rattle.journal_rules.specs.declared.entry.DropWhy.{DropWhy}
 use Rattle.journal_rules.specs.declared.entry.DropWhy.TheVariants.{Limit, Halted as AfterFault}
-use Rattle.journal_rules.specs.ShapeLegal.{WhyInRange}
+use Rattle.join_tables.specs.Reasons.{TellsNoUnit}
+use Rattle.join_tables.specs.Holding.{PutsAll}
 use Rattle.join_tables.specs.declared.view.Item.TheVariants.{Told, Collecting, Open, Owes}
 use Rattle.join_tables.specs.declared.view.Mark.TheVariants.{Live, Over, ToMark, Halted}
 use Rattle.join_tables.specs.declared.view.Note.{Note}
@@ -22,9 +23,9 @@ halt_read zero notes = notes
 halt_read (suc n) (Duty x ∷ Has Live ∷ rest) = Duty x ∷ Has Live ∷ Has Halted ∷ rest
 halt_read (suc n) notes = notes
 
--- FAULT DRAWN, of a net without semaphores. The halt mark is then to be set.
+-- FAULT DRAWN, of a task that puts just what it takes. The halt mark is then to be set.
 abbrev pub MayFault : NetRows → Why → List Note → Type 0
-MayFault net why (Duty (Open m t) ∷ Has Live ∷ rest) = WhyInRange net why × Lone rest
+MayFault net why (Duty (Open m t) ∷ Has Live ∷ rest) = TellsNoUnit why × PutsAll net t × Lone rest
 MayFault net why _ = ⊥
 
 abbrev pub faulted : Why → ℕ → List Note → List Note

@@ -12,6 +12,4 @@ fetch_add-requires g c =
     let same : arc_value c.args.self.now.net ≡ arc_value c.args.self.now.table.shared.key.net = search rules in
     let sized : c.args.self.now.table.shared.table_id.words ≡ edges_from (arc_value c.args.self.now.net) + length (arc_value c.args.self.now.net).edges + length (arc_value c.args.self.now.net).tasks = search rules in
     let net = arc_value c.args.self.now.table.shared.key.net in let me = c.args.seat.now.me in
-    let no_sems : (arc_value c.args.self.now.net).sems ≡ [] = search rules in
-    let none : (net.sems ≡ []) = ap (λ (n : NetRows). n.sems) (sym same) ∙ no_sems in
-    (search rules, omega (arith, sized), fault_allowed _ _ _ _ _ g.A.Blames.why none (subst (λ (n : NetRows). MayFault n g.A.Blames.why me.0) same c.requires.ready))
+    (search rules, omega (arith, sized), fault_allowed _ _ _ _ _ g.A.Blames.why (subst (λ (n : NetRows). MayFault n g.A.Blames.why me.0) same c.requires.ready))

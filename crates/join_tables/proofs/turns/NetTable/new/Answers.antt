@@ -11,4 +11,4 @@ of_words-requires c =
     let first : items_of c.in_ok-releases.releases.items ≡ first_items net 0 (length net.tasks) = search rules in
     let live : c.len.result ≡ length c.in_ok-releases.releases.items = search rules in
     let words : AreOpeningWords net c.len.result c.as_slice.result.now = search rules in
-    begins_table net c.args.limit c.len.result c.as_slice.result.now words.rows c.requires.limit c.requires.no_semaphores (live_is net c.in_ok-releases.releases.items c.len.result live first) words
+    begins_table net c.args.limit c.len.result c.as_slice.result.now c.requires.limit (live_is net c.in_ok-releases.releases.items c.len.result live first) words
