@@ -15,7 +15,7 @@ use std::test::Fail;
 use task_graph::Net;
 
 // A release is refused at the limit and dropped: whether it was the last.
-fn drops(rt: &impl Abort, table: &NetTable, keeper: &mut Keeper, fresh: Fresh) -> Result<bool, Fail>
+fn drops(rt: &impl Abort, table: &NetTable, net: &Net, keeper: &mut Keeper, fresh: Fresh) -> Result<bool, Fail>
     requires fresh { fresh.table ≡ table.now.table }
     requires keeper { keeper.old.table ≡ table.now.table }
     requires net { table.now.net ≡ net.now }
@@ -105,7 +105,7 @@ fn faults(
 }
 
 // A release is refused after a Fault and dropped: whether it was the last.
-fn halts(rt: &impl Abort, table: &NetTable, keeper: &mut Keeper, fresh: Fresh) -> Result<bool, Fail>
+fn halts(rt: &impl Abort, table: &NetTable, net: &Net, keeper: &mut Keeper, fresh: Fresh) -> Result<bool, Fail>
     requires fresh { fresh.table ≡ table.now.table }
     requires keeper { keeper.old.table ≡ table.now.table }
     requires net { table.now.net ≡ net.now }
