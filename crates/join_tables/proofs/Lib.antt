@@ -37,3 +37,12 @@ pub mod Recordings
 pub mod Merging
 pub mod FirstStep
 pub mod FirstFresh
+pub mod Within
+pub mod Halting
+pub mod Faulting
+pub mod DropAccounts
+pub mod HaltSteps
+pub mod UnitReads
+pub mod UnitAccounts
+pub mod UnitSeats
+pub mod TurnViews

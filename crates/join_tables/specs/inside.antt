@@ -2,6 +2,8 @@
 pub mod Items
 pub mod Accounts
 pub mod Kinds
+pub mod Halts
+pub mod UnitKinds
 pub mod Opening
 pub mod Seated
 pub mod Collects

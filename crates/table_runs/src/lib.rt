@@ -2,17 +2,23 @@
 #![tactic(auto)]
 
 mod copies;
+#[cfg(test)]
+mod crosswise;
 mod gives;
+mod needs;
 mod replay;
 #[cfg(test)]
 mod rings;
+#[cfg(test)]
+mod rings_limit;
 mod shelf;
 mod stepping;
 #[cfg(test)]
 mod threads;
 
-pub use gives::{all_edges, gives_of, no_edge};
 pub use copies::copied;
+pub use gives::{all_edges, gives_of, no_edge};
+pub use needs::{needs_both, needs_none};
 pub use replay::is_complete;
 pub use shelf::{Ran, Shelf, Turnout};
 pub use stepping::run_by;
