@@ -26,12 +26,15 @@
 //!   given, so that in a cycle the tokens of the next round are counted afresh.
 //! - `collect` takes a token off an edge (token taken). Where a strong edge has another token, it is counted again
 //!   at once (edge counted), which may release the task once more.
-//! - `admit` draws a number (admission drawn), `start` and `end` draw a place (Start drawn, End drawn).
+//! - `admit` draws a number (admission drawn): a turn may start its task where that is below the limit. `start` and
+//!   `end` draw a place (Start drawn, End drawn).
 //! - `give` adds a token to an edge (token given). A token of a weak edge is a release. The first token of a strong
 //!   edge lowers its target's join word (edge counted), and who finds one there has made the last count: that is
 //!   the release. A release is counted among the live turns (turn added), then goes to a seat of its own (split).
 //! - `absorb` gives what a turn knows to the keeper (join), and takes it off the live turns (turn taken off). Who
-//!   finds one live turn there has taken in the last.
+//!   finds one live turn there has taken in the last. `journal` then puts each entry at its place.
+//!
+//! A turn keeps the number that its last step found, so that contracts can say when each answer comes.
 //!
 //! # What holds between any two steps
 //!

@@ -66,7 +66,12 @@ fn step_together<R: Threads + Wait + Sync>(
         hands.push(hand)?;
     }
     let count = threads.max(1);
-    for_each_mut(rt, &mut hands, count, &|_, _: &mut usize| { shared.step_all(rt, alloc) });
+    for_each_mut(
+        rt,
+        &mut hands,
+        count,
+        &|_, _: &mut usize| { shared.step_all(rt, alloc) },
+    );
     Ok(())
 }
 
