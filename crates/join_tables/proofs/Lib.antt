@@ -35,5 +35,6 @@ pub mod CollectNext
 pub mod Releasing
 pub mod Recordings
 pub mod Merging
+pub mod WorkedTables
 pub mod FirstStep
 pub mod FirstFresh
