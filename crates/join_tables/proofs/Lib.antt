@@ -35,6 +35,7 @@ pub mod CollectNext
 pub mod Releasing
 pub mod Recordings
 pub mod Merging
+pub mod WorkedTables
 pub mod FirstStep
 pub mod FirstFresh
 pub mod Within

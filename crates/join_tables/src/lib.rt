@@ -39,7 +39,9 @@
 //!   edge lowers its target's join word (edge counted), and who finds one there has made the last count: that is
 //!   the release. A release is counted among the live turns (turn added), then goes to a seat of its own (split).
 //! - `absorb` gives what a turn knows to the keeper (join), and takes it off the live turns (turn taken off). Who
-//!   finds one live turn there has taken in the last.
+//!   finds one live turn there has taken in the last. `journal` then puts each entry at its place.
+//!
+//! A turn keeps the number that its last step found, so that contracts can say when each answer comes.
 //!
 //! # What holds between any two steps
 //!

@@ -1,4 +1,5 @@
-//! Tests of `join_tables`, whose journals are held against the machine.
+//! Runs of `join_tables` by one thread and by several. They are no part of a program: they serve the tests of tables,
+//! which stand here, and whose journals are held against the machine or judged.
 #![tactic(auto)]
 
 mod copies;

@@ -66,8 +66,8 @@ const LOOP: Case<'static> = Case {
     rings: &[],
 };
 
-// Makes a run by two and by four threads, in which so many runs give their edges, and judges each journal: it is
-// complete where no release was refused at the limit, and there are as many starts as the limit where one was.
+// Makes a run by two and by four threads, in which so many runs give their edges, and judges each journal. Where no run
+// comes to the limit it is complete; else it is legal as far as it goes, and has as many starts as the limit.
 fn often<R: Threads + Wait + Abort + Sync>(
     rt: &R,
     alloc: Global,
@@ -98,6 +98,7 @@ fn once<R: Threads + Wait + Abort + Sync>(
     let Some(ran) = run_by(rt, alloc, net, limit, gives, threads)? else {
         panic!(rt; "a place without an entry");
     };
+    assert_eq!(rt; ran.is_whole, limit == MANY);
     let verdict = judge(alloc, net, limit, &ran.journal)?;
     if ran.is_whole {
         assert_eq!(rt; ran.refused, 0);
