@@ -1,5 +1,5 @@
 -- A Drop drawn keeps the accounts.
-use Rattle.std.proofs.Common.{◌≡◌, ◌≢◌, ◌⊎◌, inl, inr, ℕ, zero, suc, ◌+◌, ◌<◌, ◌≤◌, Bool, true, false, ◌&&◌, eqb, List, [], ◌∷◌, ◌++◌, length, Option, None, refl, sym, ap, ◌∙◌, arith}
+use Rattle.std.proofs.Common.{◌≡◌, ◌≢◌, ◌⊎◌, inl, inr, ℕ, zero, suc, ◌+◌, ◌<◌, ◌≤◌, Bool, false, ◌&&◌, eqb, List, [], ◌∷◌, ◌++◌, length, None, refl, sym, ap, ◌∙◌, arith}
 use Rattle.std.specs.Prelude.{count_by, is_some, ◌==◌}
 use Rattle.std.specs.Option.{option_map_or}
 use Rattle.std.proofs.lemmas.Bool.{cases_eq, cases_lt}
@@ -28,8 +28,7 @@ use Rattle.join_tables.proofs.StartDuties.{one_self, below_more}
 use Rattle.join_tables.specs.declared.view.Kind.{Kind}
 use Rattle.join_tables.specs.declared.view.Kind.TheVariants.{Held, Undo, Owed, Both, Credit, Credited, Claim, Granted, Refusing, Denied}
 use Rattle.join_tables.specs.declared.view.Mark.TheVariants.{Live, New, Over, ToMark}
-use Rattle.join_tables.specs.declared.view.Note.{Note}
-use Rattle.join_tables.specs.declared.view.Note.TheVariants.{Duty, Has}
+use Rattle.join_tables.specs.declared.view.Note.TheVariants.{Duty}
 use Rattle.join_tables.specs.inside.Accounts.{Coord, duty, sem, mark, turning, owing, weigh, is_last, AdmissionPart, HaltPart, StuckPart, Readings, Balanced, with_clock, only_takes, is_drop, starts_of}
 use Rattle.join_tables.proofs.Journals.{back_push, closed_still}
 use Rattle.join_tables.proofs.Units.{Units}

@@ -1,5 +1,5 @@
 -- A Fault drawn keeps the accounts.
-use Rattle.std.proofs.Common.{◌≡◌, ℕ, zero, suc, ◌+◌, ◌<◌, ◌≤◌, Bool, true, false, ◌&&◌, eqb, List, [], ◌∷◌, ◌++◌, length, refl, sym, ap, ◌∙◌, arith}
+use Rattle.std.proofs.Common.{◌≡◌, ℕ, zero, suc, ◌+◌, ◌<◌, ◌≤◌, Bool, true, false, ◌&&◌, eqb, List, [], ◌∷◌, ◌++◌, length, refl, ap, ◌∙◌, arith}
 use Rattle.std.specs.Prelude.{count_by}
 use Rattle.std.specs.Option.{option_map_or}
 use Rattle.std.proofs.lemmas.Bool.Decides.{nat_tests}
@@ -26,7 +26,6 @@ use Rattle.join_tables.proofs.StartDuties.{below_more}
 use Rattle.join_tables.proofs.EndDuties.{Runs, runs_of}
 use Rattle.join_tables.specs.declared.view.Kind.TheVariants.{Held, Undo, Owed, Both, Credit, Credited, Claim, Granted, Refusing, Denied}
 use Rattle.join_tables.specs.declared.view.Mark.TheVariants.{Live, New, Over, ToMark}
-use Rattle.join_tables.specs.declared.view.Note.{Note}
 use Rattle.join_tables.specs.declared.view.Note.TheVariants.{Duty}
 use Rattle.join_tables.specs.inside.Accounts.{Coord, duty, sem, mark, turning, owing, weigh, is_last, HaltPart, Readings, Balanced, with_clock, only_takes, is_drop, starts_of}
 use Rattle.join_tables.proofs.Journals.{back_push, closed_more, run_close}

@@ -1,6 +1,6 @@
 -- What the steps of halts and drops ask is met.
-use Rattle.std.proofs.Common.{◌≡◌, ◌≢◌, ◌⊎◌, inl, inr, ℕ, zero, suc, ◌+◌, ◌%◌, ◌^◌, ◌<◌, ◌≤◌, List, [], ◌∷◌, ◌++◌, Some, set, refl, sym, ap, ◌∙◌, arith}
-use Rattle.std.specs.Prelude.{slice_index, slice_get, count_by}
+use Rattle.std.proofs.Common.{◌≡◌, ◌≢◌, ◌⊎◌, inl, inr, ℕ, zero, suc, ◌+◌, ◌%◌, ◌^◌, ◌≤◌, List, [], ◌∷◌, ◌++◌, refl, sym, ap, ◌∙◌, arith}
+use Rattle.std.specs.Prelude.{slice_index, count_by}
 use Rattle.std.proofs.lemmas.Bool.{cases_eq}
 use Rattle.std.proofs.lemmas.List.{append-nil}
 use mathlib.Core.Option.{some}
@@ -9,11 +9,9 @@ use Rattle.atomic_table.specs.Table.{Act, keeps, Valid, carried_after, stepped, 
 use Rattle.task_graph.specs.NetRows.{NetRows}
 use Rattle.journal_rules.specs.declared.entry.Cause.{Cause}
 use Rattle.journal_rules.specs.declared.entry.DropWhy.TheVariants.{Limit, Halted as AfterFault}
-use Rattle.journal_rules.specs.declared.entry.Entry.{Entry}
 use Rattle.journal_rules.specs.declared.entry.Entry.TheVariants.{Fault, Drop}
 use Rattle.journal_rules.specs.declared.entry.Why.{Why}
 use Rattle.journal_rules.specs.declared.entry.Why.TheVariants.{Long, Wide, Unmet, Inner, OverRelease}
-use Rattle.journal_rules.specs.Counts.{is_fault}
 use Rattle.journal_rules.specs.DataRule.{edges_of}
 use Rattle.journal_rules.specs.SemaphoreRule.{OverReleaseRule}
 use Rattle.journal_rules.specs.ShapeLegal.{WhyInRange}
@@ -30,7 +28,6 @@ use Rattle.join_tables.specs.inside.Kinds.{MayAdmit}
 use Rattle.join_tables.specs.inside.Halts.{halt_read, MayFault, faulted, MayMark, marked, MayDrop, dropped}
 use Rattle.join_tables.specs.Reasons.{TellsNoUnit}
 use Rattle.join_tables.specs.Holding.{PutsAll}
-use Rattle.join_tables.proofs.Views.{at_most}
 use Rattle.join_tables.proofs.Stepping.{St, Seated, own_lone, still_step, done}
 use Rattle.join_tables.proofs.Reading.{halt_word_read}
 use Rattle.join_tables.proofs.Drawing.{drawn, told, unstuck, none_only}
@@ -39,7 +36,7 @@ use Rattle.join_tables.proofs.Seats.{nothing_done}
 use Rattle.join_tables.proofs.Marking.{alike_kept, marks_none}
 use Rattle.join_tables.proofs.Bounds.{few_uses}
 use Rattle.join_tables.proofs.TurnSteps.{may_release}
-use Rattle.join_tables.proofs.Halting.{fault_there, marked_kept, halt_found}
+use Rattle.join_tables.proofs.Halting.{marked_kept, halt_found}
 use Rattle.join_tables.proofs.Faulting.{fault_kept}
 use Rattle.join_tables.proofs.DropAccounts.{limit_kept, halted_kept}
 

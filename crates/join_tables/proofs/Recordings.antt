@@ -4,10 +4,8 @@ use Rattle.std.specs.Prelude.{◌==◌, slice_get, count_by}
 use Rattle.std.specs.List.{AllByRecursion}
 use Rattle.task_graph.specs.NetRows.{NetRows}
 use Rattle.journal_rules.specs.declared.entry.Entry.{Entry}
-use Rattle.journal_rules.specs.declared.entry.Entry.TheVariants.{Start, End, Fault, Drop}
 use Rattle.std.proofs.lemmas.List.{append_assoc}
 use Rattle.join_tables.specs.declared.outcomes.Outcome.{Outcome}
-use Rattle.join_tables.specs.declared.outcomes.Outcome.TheVariants.{Ended, Faulted, Dropped}
 use Rattle.join_tables.specs.declared.keeper.Recorded.{Recorded}
 use Rattle.join_tables.specs.declared.view.Item.TheVariants.{Told, Fresh, Collecting, Ticket, Open, Owes, Counting}
 use Rattle.join_tables.specs.declared.view.Mark.TheVariants.{Live}
@@ -22,7 +20,7 @@ use Rattle.join_tables.proofs.Totals.{weigh_append}
 use Rattle.std.specs.declared.result.Result.TheVariants.{Ok}
 use Rattle.join_tables.specs.declared.keeper.Remaining.{Remaining}
 use Rattle.join_tables.specs.declared.keeper.Remaining.TheVariants.{More, All as AllTaken}
-use Rattle.join_tables.specs.Keeping.{TellsRun, IsLast, entries_of, start_of}
+use Rattle.join_tables.specs.Keeping.{TellsRun, IsLast, entries_of}
 use Rattle.join_tables.proofs.Journals.{count_cons}
 
 -- a seat that takes in another

@@ -1,19 +1,18 @@
 -- Units taken and given back keep the accounts.
-use Rattle.std.proofs.Common.{◌≡◌, ◌≢◌, ◌⊎◌, inl, inr, ℕ, ◌+◌, ◌<◌, ◌≤◌, true, false, eqb, List, [], ◌∷◌, length, sym, refl, ap, ◌∙◌, arith}
+use Rattle.std.proofs.Common.{◌≡◌, ◌≢◌, ◌⊎◌, inl, inr, ℕ, ◌+◌, ◌<◌, ◌≤◌, true, false, eqb, List, [], ◌∷◌, sym, refl, ap, ◌∙◌, arith}
 use Rattle.std.specs.Prelude.{◌==◌}
 use Rattle.std.proofs.lemmas.Bool.Decides.{nat_tests}
 use Rattle.std.proofs.lemmas.Bool.{cases_eq}
 use Rattle.task_graph.specs.NetRows.{NetRows}
 use Rattle.journal_rules.specs.declared.entry.Entry.{Entry}
 use Rattle.journal_rules.specs.SemaphoreRule.{max_of, taken, back}
-use Rattle.join_tables.specs.inside.Items.{DutyCoord, place, runs, running, tickets, token, source, weakly, awaits, unset, Raised}
+use Rattle.join_tables.specs.inside.Items.{DutyCoord, tickets, Raised}
 use Rattle.join_tables.specs.Giving.{one_if, times}
 use Rattle.join_tables.specs.Holding.{without}
 use Rattle.join_tables.specs.declared.view.Kind.TheVariants.{Held, Undo, Owed, Both, Credit, Credited, Claim, Granted, Refusing, Denied, Full}
 use Rattle.join_tables.specs.declared.view.Mark.TheVariants.{Live, New, Over, ToMark, Halted, Alone, Quiet, Sticking}
-use Rattle.join_tables.specs.declared.view.Note.{Note}
 use Rattle.join_tables.specs.declared.view.Note.TheVariants.{Sems, Has}
-use Rattle.join_tables.specs.inside.Accounts.{Coord, duty, sem, mark, busy, resting, turning, owing, telling, weight, weigh, UnitPart, Readings, Balanced, Moves, with_unit}
+use Rattle.join_tables.specs.inside.Accounts.{Coord, duty, sem, mark, busy, resting, turning, owing, telling, weight, weigh, Readings, Balanced, Moves, with_unit}
 use Rattle.join_tables.specs.inside.UnitKinds.{held_notes}
 use Rattle.join_tables.proofs.Still.{journal_still, edges_still, duties_still, admission_still, turns_still, credit_still, halt_still, stuck_still}
 use Rattle.join_tables.proofs.Units.{Units}

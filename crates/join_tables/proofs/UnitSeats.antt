@@ -1,5 +1,5 @@
 -- What the steps on unit words ask is met.
-use Rattle.std.proofs.Common.{◌≡◌, ◌≢◌, ◌⊎◌, inl, inr, ℕ, zero, suc, ◌+◌, ◌-◌, ◌%◌, ◌^◌, ◌<◌, ◌≤◌, Bool, true, false, List, [], ◌∷◌, ◌++◌, length, set, refl, sym, ap, ◌∙◌, subst, arith}
+use Rattle.std.proofs.Common.{◌≡◌, ◌⊎◌, inl, inr, ℕ, ◌+◌, ◌-◌, ◌%◌, ◌^◌, ◌<◌, ◌≤◌, Bool, true, false, List, [], ◌∷◌, ◌++◌, length, refl, sym, ap, ◌∙◌, arith}
 use Rattle.std.specs.Prelude.{slice_index, nat_lt}
 use Rattle.std.proofs.lemmas.Bool.Decides.{nat_tests}
 use Rattle.std.proofs.lemmas.Bool.{cases_lt}
@@ -8,15 +8,15 @@ use lib.ListN.{get_elem?}
 use Rattle.atomic_table.specs.Table.{Act, keeps, Valid, carried_after, stepped, Allows}
 use Rattle.task_graph.specs.NetRows.{NetRows}
 use Rattle.journal_rules.specs.SemaphoreRule.{max_of}
-use Rattle.join_tables.specs.Giving.{times, one_if}
+use Rattle.join_tables.specs.Giving.{times}
 use Rattle.join_tables.specs.Holding.{without}
 use Rattle.join_tables.specs.declared.view.Item.{Item}
-use Rattle.join_tables.specs.declared.view.Item.TheVariants.{Told, Fresh, Collecting, Ticket, Open, Owes, Counting}
+use Rattle.join_tables.specs.declared.view.Item.TheVariants.{Collecting, Owes}
 use Rattle.join_tables.specs.declared.view.Kind.TheVariants.{Held, Undo, Owed, Both, Credit, Credited, Claim, Granted, Refusing, Denied, Full}
 use Rattle.join_tables.specs.declared.view.Mark.TheVariants.{Live, Over, Halted}
 use Rattle.join_tables.specs.declared.view.Note.{Note}
 use Rattle.join_tables.specs.declared.view.Note.TheVariants.{Duty, Sems, Has, Unfit}
-use Rattle.join_tables.specs.inside.Accounts.{Coord, sem, mark, busy, resting, weight, weigh, total, AllStand, Moves, reading, KeepsAccounts}
+use Rattle.join_tables.specs.inside.Accounts.{sem, mark, resting, weight, weigh, total, AllStand, reading, KeepsAccounts}
 use Rattle.join_tables.specs.inside.UnitKinds.{held_notes, MayTake, after_unit, took_unit, MayUndo, undone, MayPut, put_back, MayReturn, returned}
 use Rattle.join_tables.proofs.StartDuties.{one_self}
 use Rattle.join_tables.proofs.Totals.{weigh_append}

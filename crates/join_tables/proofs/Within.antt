@@ -1,16 +1,11 @@
 -- The units of each semaphore are within their bounds, and a Fault or Drop changes none.
-use Rattle.std.proofs.Common.{◌≡◌, ℕ, ◌+◌, ◌<◌, ◌≤◌, Bool, List, [], ◌∷◌, ◌++◌, length, Option, None, refl, arith}
-use Rattle.std.specs.Prelude.{count_by}
-use Rattle.std.specs.Option.{option_map_or}
+use Rattle.std.proofs.Common.{ℕ, List, length, arith}
 use Rattle.std.specs.List.{AllByRecursion, range_with_len}
 use Rattle.task_graph.specs.NetRows.{NetRows}
 use Rattle.journal_rules.specs.declared.entry.Entry.{Entry}
-use Rattle.journal_rules.specs.Counts.{closes, started}
-use Rattle.journal_rules.specs.SemaphoreRule.{UnitsInBounds, takes, puts, gives_back, back, taken}
+use Rattle.journal_rules.specs.SemaphoreRule.{UnitsInBounds}
 use Rattle.journal_rules.proofs.Reaching.{each_below}
-use Rattle.journal_rules.proofs.Snoc.{count_by_push}
-use Rattle.join_tables.specs.Giving.{one_if}
-use Rattle.join_tables.specs.inside.Accounts.{Coord, starts_of, only_takes}
+use Rattle.join_tables.specs.inside.Accounts.{Coord}
 use Rattle.join_tables.proofs.Units.{Units}
 use Rattle.join_tables.proofs.Credits.{Credits}
 

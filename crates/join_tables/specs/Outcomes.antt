@@ -3,7 +3,7 @@ use Rattle.std.specs.Prelude.{◌≡◌}
 use Rattle.journal_rules.specs.declared.entry.Why.{Why}
 use Rattle.journal_rules.specs.declared.entry.DropWhy.{DropWhy}
 use Rattle.join_tables.specs.declared.outcomes.Outcome.{Outcome}
-use Rattle.join_tables.specs.declared.outcomes.Outcome.TheVariants.{Ended, Faulted, Dropped}
+use Rattle.join_tables.specs.declared.outcomes.Outcome.TheVariants.{Faulted, Dropped}
 use Rattle.join_tables.specs.States.{TurnState, RunningState}
 
 -- this start faulted, for this reason

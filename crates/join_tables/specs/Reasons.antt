@@ -1,6 +1,6 @@
 -- Why a start may fault.
 use Rattle.journal_rules.specs.declared.entry.Why.{Why}
-use Rattle.journal_rules.specs.declared.entry.Why.TheVariants.{Long, Wide, Unmet, Inner, OverRelease}
+use Rattle.journal_rules.specs.declared.entry.Why.TheVariants.{OverRelease}
 
 -- a reason that tells of no unit
 abbrev pub TellsNoUnit : Why → Type 0

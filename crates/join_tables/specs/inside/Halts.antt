@@ -1,9 +1,8 @@
 -- What the steps of halts and drops ask of the seat's notes, and what they leave.
-use Rattle.std.specs.Prelude.{◌≡◌, ℕ, zero, suc, List, [], ◌∷◌}
+use Rattle.std.specs.Prelude.{ℕ, zero, suc, List, [], ◌∷◌}
 use Rattle.task_graph.specs.NetRows.{NetRows}
 use Rattle.journal_rules.specs.declared.entry.Entry.TheVariants.{Fault, Drop}
 use Rattle.journal_rules.specs.declared.entry.Why.{Why}
-use Rattle.journal_rules.specs.declared.entry.DropWhy.{DropWhy}
 use Rattle.journal_rules.specs.declared.entry.DropWhy.TheVariants.{Limit, Halted as AfterFault}
 use Rattle.join_tables.specs.Reasons.{TellsNoUnit}
 use Rattle.join_tables.specs.Holding.{PutsAll}

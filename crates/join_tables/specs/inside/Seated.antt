@@ -2,8 +2,8 @@
 use Rattle.std.specs.Prelude.{◌≡◌, ℕ, List, [], ◌∷◌, ◌++◌, Option, Some, None}
 use Rattle.journal_rules.specs.declared.entry.Cause.{Cause}
 use Rattle.journal_rules.specs.declared.entry.DropWhy.{DropWhy}
-use Rattle.journal_rules.specs.declared.entry.DropWhy.TheVariants.{Limit, Stuck, Halted as AfterFault}
-use Rattle.journal_rules.specs.declared.entry.Entry.TheVariants.{Start, End, Fault, Drop}
+use Rattle.journal_rules.specs.declared.entry.DropWhy.TheVariants.{Limit, Halted as AfterFault}
+use Rattle.journal_rules.specs.declared.entry.Entry.TheVariants.{Start, End}
 use Rattle.join_tables.specs.declared.view.Item.TheVariants.{Told, Fresh, Collecting, Ticket, Open, Owes}
 use Rattle.join_tables.specs.declared.view.Mark.TheVariants.{Live, New, Over, Halted}
 use Rattle.join_tables.specs.declared.view.Note.{Note}
@@ -11,7 +11,6 @@ use Rattle.join_tables.specs.declared.view.Kind.TheVariants.{Held, Both, Owed}
 use Rattle.join_tables.specs.declared.view.Note.TheVariants.{Duty, Sems, Has}
 use Rattle.join_tables.specs.declared.turns.Run.{Run}
 use Rattle.join_tables.specs.declared.outcomes.Outcome.{Outcome}
-use Rattle.join_tables.specs.declared.outcomes.Outcome.TheVariants.{Ended, Faulted, Dropped}
 use Rattle.join_tables.specs.inside.Kinds.{IsTurn}
 use Rattle.join_tables.specs.inside.Accounts.{busy, weigh}
 use Rattle.join_tables.specs.inside.UnitKinds.{held_notes}

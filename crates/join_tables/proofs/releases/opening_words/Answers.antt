@@ -1,4 +1,4 @@
-use Rattle.std.proofs.Common.{rules, ◌≡◌, ◌+◌, ◌≤◌, ℕ, List, length, subst, arith}
+use Rattle.std.proofs.Common.{rules, ◌≡◌, ◌+◌, ◌≤◌, ℕ, List, length, subst}
 use Rattle.std.specs.Prelude.{slice_index}
 use Rattle.task_graph.specs.Net.{IsNet}
 use Rattle.join_tables.specs.inside.Accounts.{edges_from}

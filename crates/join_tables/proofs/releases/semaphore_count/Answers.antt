@@ -1,4 +1,4 @@
-use Rattle.std.proofs.Common.{◌≤◌, arith}
+use Rattle.std.proofs.Common.{arith}
 use Rattle.join_tables.proofs.releases.semaphore_count.Goals as goal
 
 pub returns-clause-fit : goal.returns-clause-fit

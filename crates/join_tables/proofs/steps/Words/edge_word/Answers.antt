@@ -1,4 +1,4 @@
-use Rattle.std.proofs.Common.{◌≡◌, arith}
+use Rattle.std.proofs.Common.{arith}
 use Rattle.join_tables.proofs.steps.Words.edge_word.Goals as goal
 
 pub overflow_add-result : goal.overflow_add-result

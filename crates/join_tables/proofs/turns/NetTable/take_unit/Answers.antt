@@ -1,8 +1,7 @@
-use Rattle.std.proofs.Common.{rules, ◌≡◌, false, None, subst, sym, ap, ◌∙◌, arith}
+use Rattle.std.proofs.Common.{rules, ◌≡◌, false, None, subst, sym, ap, ◌∙◌}
 use Rattle.std.specs.Prelude.{nat_lt}
 use Rattle.std.specs.Arc.{arc_value}
 use Rattle.std.proofs.lemmas.Bool.Decides.{nat_tests}
-use Rattle.task_graph.specs.NetRows.{NetRows}
 use Rattle.journal_rules.specs.SemaphoreRule.{max_of}
 use Rattle.join_tables.specs.States.{TurnState, turn_with}
 use Rattle.join_tables.specs.inside.Seated.{turn_view, taken_in, refusal_of, held_of}
