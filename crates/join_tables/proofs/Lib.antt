@@ -44,3 +44,6 @@ pub mod UnitReads
 pub mod UnitAccounts
 pub mod UnitSeats
 pub mod TurnViews
+pub mod CreditReads
+pub mod CreditAccounts
+pub mod CreditSeats
