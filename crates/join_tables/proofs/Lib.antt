@@ -47,3 +47,6 @@ pub mod UnitReads
 pub mod UnitAccounts
 pub mod UnitSeats
 pub mod TurnViews
+pub mod CreditReads
+pub mod CreditAccounts
+pub mod CreditSeats

@@ -4,6 +4,7 @@ pub mod Accounts
 pub mod Kinds
 pub mod Halts
 pub mod UnitKinds
+pub mod CreditKinds
 pub mod Opening
 pub mod Seated
 pub mod Collects
