@@ -21,7 +21,6 @@ use Rattle.join_tables.specs.Keeping.{TellsRun}
 use Rattle.join_tables.specs.inside.Accounts.{mark, total, opening_notes, first_notes}
 use Rattle.join_tables.specs.declared.view.Mark.TheVariants.{Live}
 use Rattle.atomic_table.specs.Table.{opening}
-use Rattle.task_graph.specs.Net.{IsNet}
 use Rattle.join_tables.proofs.FirstStep.{begins_table, live_is}
 use Rattle.join_tables.proofs.Closing.{all_complete}
 
@@ -96,10 +95,10 @@ none_live : (net : NetRows) (limit : ℕ) → first_items net 0 (length net.task
 none_live net limit none = ap (λ xs. total (mark Live) (first_notes xs ∷ [])) none
 
 -- Where nothing is released at first, the run is finished.
-pub nothing_runs : (net : NetRows) (limit live : ℕ) (words : List ℕ) (rs : List Release) (n : TableId) (fs : List FreshState) → IsNet net → limit ≤ 2097153 → net.sems ≡ []
+pub nothing_runs : (net : NetRows) (limit live : ℕ) (words : List ℕ) (rs : List Release) (n : TableId) (fs : List FreshState) → limit ≤ 2097153
     → live ≡ length rs → items_of rs ≡ first_items net 0 (length net.tasks) → AreOpeningWords net live words → fs ≡ states_of n rs → fs ≡ [] → TellsRun net limit []
-nothing_runs net limit live words rs n fs rows limited sems live_len first ws is none =
-    let h = begins_table net limit live words rows limited sems (live_is net rs live live_len first) ws in
+nothing_runs net limit live words rs n fs limited live_len first ws is none =
+    let h = begins_table net limit live words limited (live_is net rs live live_len first) ws in
     let empty : rs ≡ [] = none_at_all n rs (sym is ∙ none) in
     let items : first_items net 0 (length net.tasks) ≡ [] = sym first ∙ ap items_of empty in
     let clock : slice_index words 8 ≡ 0 = ws.each 8 (omega (arith, ws.size)) in

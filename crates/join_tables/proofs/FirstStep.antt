@@ -11,7 +11,6 @@ use Rattle.task_graph.specs.NetRows.{NetRows}
 use Rattle.task_graph.specs.Net.{IsNet, in_edges, strong_in}
 use Rattle.task_graph.specs.declared.net.EdgeRow.{EdgeRow}
 use Rattle.journal_rules.specs.Counts.{first_tokens}
-use Rattle.journal_rules.specs.SemaphoreRule.{max_of}
 use Rattle.std.specs.Prelude.{All}
 use Rattle.atomic_table.specs.Seated.{TableId}
 use Rattle.join_tables.specs.States.{FreshState}
@@ -20,7 +19,7 @@ use Rattle.join_tables.specs.declared.view.Item.{Item}
 use Rattle.join_tables.specs.declared.view.Mark.TheVariants.{Live}
 use Rattle.join_tables.specs.declared.view.Note.{Note}
 use Rattle.join_tables.specs.Giving.{one_if}
-use Rattle.join_tables.specs.inside.Accounts.{mark, busy, resting, weigh, total, FitsPlan, ViewPart, KeepsAccounts, reading, edges_from, first_notes, opening_notes}
+use Rattle.join_tables.specs.inside.Accounts.{mark, busy, resting, weigh, total, FitsPlan, ViewPart, KeepsAccounts, reading, edges_from, first_credit, first_notes, opening_notes}
 use Rattle.join_tables.specs.inside.Opening.{bare, is_empty, source_items, full_items, first_items}
 use Rattle.join_tables.specs.inside.FirstReleases.{states_of, items_of, opening_word, AreOpeningWords, DealsFirst}
 use Rattle.join_tables.proofs.Counting.{get_past}
@@ -74,21 +73,40 @@ index_past [] k past = refl
 index_past (w ∷ ws) zero past = absurd (omega arith)
 index_past (w ∷ ws) (suc k) past = index_past ws k (omega arith)
 
-edge_word : (net : NetRows) (live e : ℕ) → e < length net.edges → opening_word net live (40 + e) ≡ first_tokens net e
+edge_word : (net : NetRows) (live e : ℕ) → e < length net.edges → opening_word net live (edges_from net + e) ≡ first_tokens net e
 edge_word net live e below =
-    let a : nat_lt (40 + e) 40 ≡ false = grind (arith, nat_tests) in
-    let b : 40 + e - 40 ≡ e = omega arith in
-    let c : nat_lt (40 + e - 40) (length net.edges) ≡ true = ap (λ k. nat_lt k (length net.edges)) b ∙ grind (arith, nat_tests) in
-    rw (a, c) (ap (first_tokens net) b)
-
-join_word : (net : NetRows) (live t : ℕ) → opening_word net live (40 + length net.edges + t) ≡ bare net (strong_in net t)
-join_word net live t =
-    let k = 40 + length net.edges + t in
+    let k = edges_from net + e in
     let a : nat_lt k 40 ≡ false = grind (arith, nat_tests) in
-    let b : k - 40 ≡ length net.edges + t = omega arith in
-    let c : nat_lt (k - 40) (length net.edges) ≡ false = ap (λ q. nat_lt q (length net.edges)) b ∙ grind (arith, nat_tests) in
-    let d : k - 40 - length net.edges ≡ t = omega arith in
-    rw (a, c) (ap (λ q. bare net (strong_in net q)) d)
+    let b : nat_lt k (40 + length net.sems) ≡ false = grind (arith, nat_tests) in
+    let c : nat_lt k (edges_from net) ≡ false = grind (arith, nat_tests) in
+    let d : k - edges_from net ≡ e = omega arith in
+    let f : nat_lt (k - edges_from net) (length net.edges) ≡ true = ap (λ q. nat_lt q (length net.edges)) d ∙ grind (arith, nat_tests) in
+    rw (a, b, c, f) (ap (first_tokens net) d)
+
+join_word : (net : NetRows) (live t : ℕ) → opening_word net live (edges_from net + length net.edges + t) ≡ bare net (strong_in net t)
+join_word net live t =
+    let k = edges_from net + length net.edges + t in
+    let a : nat_lt k 40 ≡ false = grind (arith, nat_tests) in
+    let b : nat_lt k (40 + length net.sems) ≡ false = grind (arith, nat_tests) in
+    let c : nat_lt k (edges_from net) ≡ false = grind (arith, nat_tests) in
+    let d : k - edges_from net ≡ length net.edges + t = omega arith in
+    let f : nat_lt (k - edges_from net) (length net.edges) ≡ false = ap (λ q. nat_lt q (length net.edges)) d ∙ grind (arith, nat_tests) in
+    let g : k - edges_from net - length net.edges ≡ t = omega arith in
+    rw (a, b, c, f) (ap (λ q. bare net (strong_in net q)) g)
+
+unit_word : (net : NetRows) (live s : ℕ) → s < length net.sems → opening_word net live (40 + s) ≡ 0
+unit_word net live s below =
+    let a : nat_lt (40 + s) 40 ≡ false = grind (arith, nat_tests) in
+    let b : nat_lt (40 + s) (40 + length net.sems) ≡ true = grind (arith, nat_tests) in
+    rw (a, b) refl
+
+credit_word : (net : NetRows) (live s : ℕ) → s < length net.sems → opening_word net live (40 + length net.sems + s) ≡ first_credit
+credit_word net live s below =
+    let k = 40 + length net.sems + s in
+    let a : nat_lt k 40 ≡ false = grind (arith, nat_tests) in
+    let b : nat_lt k (40 + length net.sems) ≡ false = grind (arith, nat_tests) in
+    let c : nat_lt k (edges_from net) ≡ true = grind (arith, nat_tests) in
+    rw (a, b, c) refl
 
 first_past : (net : NetRows) (e : ℕ) → length net.edges ≤ e → first_tokens net e ≡ 0
 first_past net e past = ap (λ o. option_map_or (λ (r : EdgeRow). one_if r.start) o 0) (get_past net.edges e past)
@@ -100,49 +118,43 @@ bare_past net t rows past = by_list (strong_in net t) refl
     by_list [] is = refl
     by_list (e ∷ es) is = let below : t < length net.tasks = strong_below net rows t (λ none. let z : e ∷ es ≡ [] = sym is ∙ none in absurd (cc)) in absurd (omega (arith, below))
 
-max_none : (net : NetRows) → net.sems ≡ [] → (s : ℕ) → max_of net s ≤ 4294967295
-max_none net none s = let z : max_of net s ≡ 0 = ap (λ xs. slice_index xs s) none in omega (arith, z)
-
-pub begins_table : (net : NetRows) (limit live : ℕ) (words : List ℕ) → IsNet net → limit ≤ 2097153 → net.sems ≡ [] → live ≡ length (first_items net 0 (length net.tasks)) → AreOpeningWords net live words
+pub begins_table : (net : NetRows) (limit live : ℕ) (words : List ℕ) → limit ≤ 2097153 → live ≡ length (first_items net 0 (length net.tasks)) → AreOpeningWords net live words
     → KeepsAccounts net limit (opening {S = Unit {0}} words [] (opening_notes net limit))
-begins_table net limit live words rows limited none live_is ws = record {
+begins_table net limit live words limited live_is ws = record {
   fits = fits;
-  size = omega (arith, ws.size, many);
+  size = ws.size;
   journal = [];
   counted = first_tokens net;
   balanced = opening_balanced net limit (reading net words) fits
       (ws.each 8 (omega (arith, ws.size))) (ws.each 16 (omega (arith, ws.size)) ∙ live_is) (ws.each 24 (omega (arith, ws.size))) (ws.each 32 (omega (arith, ws.size)))
-      (λ s below. absurd (omega (arith, below, many))) (λ s below. absurd (omega (arith, below, many))) edges joins;
-  few = omega (arith, live_first (first_items net 0 (length net.tasks)), first_few net 0 (length net.tasks), rows.task_count);
+      units credits edges joins;
+  few = omega (arith, live_first (first_items net 0 (length net.tasks)), first_few net 0 (length net.tasks), ws.rows.task_count);
   few_drops = omega arith;
   views = each;
 }
   where
-    many : length net.sems ≡ 0
-    many = ap length none
-
     fits : FitsPlan net limit
-    fits = record { rows = rows; limited = limited; maxima = max_none net none }
+    fits = record { rows = ws.rows; limited = limited; maxima = ws.maxima }
+
+    units : (s : ℕ) → s < length net.sems → (reading net words).unit s ≡ 0
+    units s below = let is : nat_lt s (length net.sems) ≡ true = grind (arith, nat_tests) in rw is (ws.each (40 + s) (omega (arith, ws.size, below)) ∙ unit_word net live s below)
+
+    credits : (s : ℕ) → s < length net.sems → (reading net words).credit s ≡ first_credit
+    credits s below = let is : nat_lt s (length net.sems) ≡ true = grind (arith, nat_tests) in rw is (ws.each (40 + length net.sems + s) (omega (arith, ws.size, below)) ∙ credit_word net live s below)
 
     edges : (e : ℕ) → (reading net words).edge e ≡ first_tokens net e
     edges e = by_place (cases_lt e (length net.edges))
       where
         by_place : (e < length net.edges) ⊎ (length net.edges ≤ e) → (reading net words).edge e ≡ first_tokens net e
-        by_place (inl below) =
-            let is : nat_lt e (length net.edges) ≡ true = grind (arith, nat_tests) in
-            let place : edges_from net + e ≡ 40 + e = omega (arith, many) in
-            rw is (ap (slice_index words) place ∙ ws.each (40 + e) (omega (arith, ws.size)) ∙ edge_word net live e below)
+        by_place (inl below) = let is : nat_lt e (length net.edges) ≡ true = grind (arith, nat_tests) in rw is (ws.each (edges_from net + e) (omega (arith, ws.size, below)) ∙ edge_word net live e below)
         by_place (inr past) = let is : nat_lt e (length net.edges) ≡ false = grind (arith, nat_tests) in rw is (sym (first_past net e past))
 
     joins : (t : ℕ) → (reading net words).join t ≡ bare net (strong_in net t)
-    joins t = ap (slice_index words) place ∙ by_place (cases_lt t (length net.tasks))
+    joins t = by_place (cases_lt t (length net.tasks))
       where
-        place : edges_from net + length net.edges + t ≡ 40 + length net.edges + t
-        place = omega (arith, many)
-
-        by_place : (t < length net.tasks) ⊎ (length net.tasks ≤ t) → slice_index words (40 + length net.edges + t) ≡ bare net (strong_in net t)
-        by_place (inl below) = ws.each (40 + length net.edges + t) (omega (arith, ws.size)) ∙ join_word net live t
-        by_place (inr past) = index_past words (40 + length net.edges + t) (omega (arith, ws.size)) ∙ sym (bare_past net t rows past)
+        by_place : (t < length net.tasks) ⊎ (length net.tasks ≤ t) → slice_index words (edges_from net + length net.edges + t) ≡ bare net (strong_in net t)
+        by_place (inl below) = ws.each (edges_from net + length net.edges + t) (omega (arith, ws.size, below)) ∙ join_word net live t
+        by_place (inr past) = index_past words (edges_from net + length net.edges + t) (omega (arith, ws.size, past)) ∙ sym (bare_past net t ws.rows past)
 
     each : (id : ℕ) (v : List Note) → get_elem? (opening_notes net limit ∷ []) id ≡ some v → ViewPart net [] (λ c. total c (opening_notes net limit ∷ [])) id v
     each zero v at = subst (λ w. ViewPart net [] (λ c. total c (opening_notes net limit ∷ [])) 0 w) (some-injective (opening_notes net limit) v at) (opening_view net (λ c. total c (opening_notes net limit ∷ [])))

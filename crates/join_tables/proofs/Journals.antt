@@ -58,7 +58,7 @@ back_push net s journal x none = omega (arith, count_by_push (gives_back net s (
 abbrev pub starts_from : (ℕ → ℕ → Bool) → ℕ → List Entry → ℕ
 starts_from test n xs = count_by (λ p. option_map_or (test p.0) (started p.1) false) (enumerate_from n xs)
 
-from_cons : (test : ℕ → ℕ → Bool) (n : ℕ) (x : Entry) (xs : List Entry) → starts_from test n (x ∷ xs) ≡ one_if (option_map_or (test n) (started x) false) + starts_from test (n + 1) xs
+pub from_cons : (test : ℕ → ℕ → Bool) (n : ℕ) (x : Entry) (xs : List Entry) → starts_from test n (x ∷ xs) ≡ one_if (option_map_or (test n) (started x) false) + starts_from test (n + 1) xs
 from_cons test n x xs = count_cons (λ p. option_map_or (test p.0) (started p.1) false) (n, x) (enumerate_from (n + 1) xs)
 
 from_push : (test : ℕ → ℕ → Bool) (n p : ℕ) (xs : List Entry) (x : Entry) → p ≡ n + length xs → starts_from test n (xs ++ x ∷ []) ≡ starts_from test n xs + one_if (option_map_or (test p) (started x) false)
@@ -75,7 +75,7 @@ from_same test test' n (x ∷ xs) same =
     omega (arith, from_cons test n x xs, from_cons test' n x xs, ap one_if (at_some (test' n) (test n) (started x) (λ u. same n u (omega arith))), from_same test test' (n + 1) xs (λ k u le. same k u (omega arith)))
 
 -- one place more passes
-from_one : (test test' : ℕ → ℕ → Bool) (n i p t : ℕ) (xs : List Entry) → p ≡ n + i → ((k u : ℕ) → k ≢ p → test' k u ≡ test k u) → test p t ≡ false → start_at xs i ≡ Some t
+pub from_one : (test test' : ℕ → ℕ → Bool) (n i p t : ℕ) (xs : List Entry) → p ≡ n + i → ((k u : ℕ) → k ≢ p → test' k u ≡ test k u) → test p t ≡ false → start_at xs i ≡ Some t
     → starts_from test' n xs ≡ starts_from test n xs + one_if (test' p t)
 from_one test test' n i p t [] place same off there = absurd (cc)
 from_one test test' n zero p t (x ∷ xs) place same off there =
@@ -87,15 +87,15 @@ from_one test test' n (suc i) p t (x ∷ xs) place same off there =
     omega (arith, from_cons test n x xs, from_cons test' n x xs, ap one_if (at_some (test' n) (test n) (started x) (λ u. same n u (λ z. omega arith))), from_one test test' (n + 1) i p t xs (omega arith) same off there)
 
 -- CLOSED TAKERS
-and_same : (a b c d : Bool) → c ≡ d → a && b && c ≡ a && b && d
+pub and_same : (a b c d : Bool) → c ≡ d → a && b && c ≡ a && b && d
 and_same a b c d same = ap (λ e. a && b && e) same
 
-and_off : (a b : Bool) → a && b && false ≡ false
+pub and_off : (a b : Bool) → a && b && false ≡ false
 and_off true true = refl
 and_off true false = refl
 and_off false b = refl
 
-and_on : (a b : Bool) → a && b && true ≡ a && b
+pub and_on : (a b : Bool) → a && b && true ≡ a && b
 and_on true true = refl
 and_on true false = refl
 and_on false b = refl

@@ -4,7 +4,7 @@ use Rattle.std.specs.Prelude.{slice_index, nat_lt, if◌then◌else◌}
 use Rattle.std.proofs.lemmas.Bool.Decides.{nat_tests}
 use Rattle.std.proofs.lemmas.Bool.{cases_lt}
 use Rattle.task_graph.specs.NetRows.{NetRows}
-use Rattle.join_tables.specs.inside.Accounts.{Readings, reading, edges_from, with_clock, with_live, with_admitted}
+use Rattle.join_tables.specs.inside.Accounts.{Readings, reading, edges_from, with_clock, with_live, with_admitted, with_halt}
 
 -- the same in all
 pub tells_is : (w v : Readings) → w.clock ≡ v.clock → w.live ≡ v.live → w.admitted ≡ v.admitted → w.halt ≡ v.halt → ((s : ℕ) → w.unit s ≡ v.unit s) → ((s : ℕ) → w.credit s ≡ v.credit s) → ((e : ℕ) → w.edge e ≡ v.edge e) → ((t : ℕ) → w.join t ≡ v.join t) → w ≡ v
@@ -41,3 +41,7 @@ live_read net words k below = tells_is _ _ (else_word words 16 k 8 (λ z. omega 
 pub admitted_read : (net : NetRows) (words : List ℕ) (k : ℕ) → 24 < length words → reading net (set words 24 k) ≡ with_admitted (reading net words) k
 admitted_read net words k below = tells_is _ _ (else_word words 24 k 8 (λ z. omega arith)) (else_word words 24 k 16 (λ z. omega arith)) (get_or-set_same words 24 k 0 below) (else_word words 24 k 32 (λ z. omega arith)) (λ s. else_unit net words 24 k s (λ b z. omega arith)) (λ s. else_credit net words 24 k s (λ b z. omega arith))
     (λ e. else_edge net words 24 k e (λ z. omega arith)) (λ t. else_word words 24 k (edges_from net + length net.edges + t) (λ z. omega arith))
+
+pub halt_word_read : (net : NetRows) (words : List ℕ) (k : ℕ) → 32 < length words → reading net (set words 32 k) ≡ with_halt (reading net words) k
+halt_word_read net words k below = tells_is _ _ (else_word words 32 k 8 (λ z. omega arith)) (else_word words 32 k 16 (λ z. omega arith)) (else_word words 32 k 24 (λ z. omega arith)) (get_or-set_same words 32 k 0 below) (λ s. else_unit net words 32 k s (λ b z. omega arith)) (λ s. else_credit net words 32 k s (λ b z. omega arith))
+    (λ e. else_edge net words 32 k e (λ z. omega arith)) (λ t. else_word words 32 k (edges_from net + length net.edges + t) (λ z. omega arith))

@@ -4,43 +4,86 @@ use Rattle.std.specs.Prelude.{◌==◌, slice_get, count_by}
 use Rattle.std.specs.List.{AllByRecursion}
 use Rattle.task_graph.specs.NetRows.{NetRows}
 use Rattle.journal_rules.specs.declared.entry.Entry.{Entry}
-use Rattle.journal_rules.specs.declared.entry.Entry.TheVariants.{Start, End}
 use Rattle.std.proofs.lemmas.List.{append_assoc}
-use Rattle.join_tables.specs.declared.turns.Run.{Run}
+use Rattle.join_tables.specs.declared.outcomes.Outcome.{Outcome}
 use Rattle.join_tables.specs.declared.keeper.Recorded.{Recorded}
-use Rattle.join_tables.specs.declared.view.Item.TheVariants.{Told}
+use Rattle.join_tables.specs.declared.view.Item.TheVariants.{Told, Fresh, Collecting, Ticket, Open, Owes, Counting}
+use Rattle.join_tables.specs.declared.view.Mark.TheVariants.{Live}
 use Rattle.join_tables.specs.declared.view.Note.{Note}
-use Rattle.join_tables.specs.declared.view.Note.TheVariants.{Duty}
+use Rattle.join_tables.specs.declared.view.Note.TheVariants.{Duty, Sems, Has, Unfit}
 use Rattle.join_tables.specs.inside.Items.{place}
 use Rattle.join_tables.specs.inside.Accounts.{duty, busy, weigh, AllStand}
 use Rattle.join_tables.specs.inside.Kinds.{MayLeave, left_by, joined, IsWhole}
-use Rattle.join_tables.specs.inside.Seated.{owing_view}
-use Rattle.join_tables.specs.inside.Recording.{told_after, told_notes}
+use Rattle.join_tables.specs.inside.Seated.{IsSpent}
+use Rattle.join_tables.specs.inside.Recording.{tellings, told_after, told_notes}
+use Rattle.join_tables.proofs.Totals.{weigh_append}
 use Rattle.std.specs.declared.result.Result.TheVariants.{Ok}
 use Rattle.join_tables.specs.declared.keeper.Remaining.{Remaining}
 use Rattle.join_tables.specs.declared.keeper.Remaining.TheVariants.{More, All as AllTaken}
 use Rattle.join_tables.specs.Keeping.{TellsRun, LeavesOf, IsLast, entries_of}
 use Rattle.join_tables.proofs.Journals.{count_cons}
 
-busy_told : (notes : List Note) (rs : List Recorded) → weigh busy (told_after notes rs) ≡ weigh busy notes
-busy_told notes [] = refl
-busy_told notes (r ∷ rs) = omega (arith, busy_told (Duty (Told r.place r.entry) ∷ notes) rs)
+-- a seat that takes in another
+told_append : (notes : List Note) (rs : List Recorded) → told_after notes rs ≡ told_after [] rs ++ notes
+told_append notes [] = refl
+told_append notes (r ∷ rs) = told_append (Duty (Told r.place r.entry) ∷ notes) rs ∙ sym (append_assoc (told_after [] rs) (Duty (Told r.place r.entry) ∷ []) notes) ∙ ap (λ v. v ++ notes) (sym (told_append (Duty (Told r.place r.entry) ∷ []) rs))
 
-pub may_leave : (run : Run) (rs : List Recorded) → MayLeave (joined (told_notes rs) (owing_view run []))
-may_leave run rs = λ _. omega (arith, busy_told [] rs)
+told_all : (notes : List Note) (rs qs : List Recorded) → told_after notes (rs ++ qs) ≡ told_after (told_after notes rs) qs
+told_all notes [] qs = refl
+told_all notes (r ∷ rs) qs = told_all (Duty (Told r.place r.entry) ∷ notes) rs qs
 
-told_push : (notes : List Note) (rs : List Recorded) (r : Recorded) → told_after notes (rs ++ r ∷ []) ≡ Duty (Told r.place r.entry) ∷ told_after notes rs
-told_push notes [] r = refl
-told_push notes (q ∷ rs) r = told_push (Duty (Told q.place q.entry) ∷ notes) rs r
+tellings_append : (v w : List Note) → tellings (v ++ w) ≡ tellings v ++ tellings w
+tellings_append [] w = refl
+tellings_append (Duty (Told n x) ∷ v) w = ap (λ u. Duty (Told n x) ∷ u) (tellings_append v w)
+tellings_append (Duty (Fresh t cause) ∷ v) w = tellings_append v w
+tellings_append (Duty (Collecting t cause taken left) ∷ v) w = tellings_append v w
+tellings_append (Duty Ticket ∷ v) w = tellings_append v w
+tellings_append (Duty (Open n t) ∷ v) w = tellings_append v w
+tellings_append (Duty (Owes gives) ∷ v) w = tellings_append v w
+tellings_append (Duty (Counting e) ∷ v) w = tellings_append v w
+tellings_append (Sems k l ∷ v) w = tellings_append v w
+tellings_append (Has m ∷ v) w = tellings_append v w
+tellings_append (Unfit s n t ∷ v) w = tellings_append v w
 
-abbrev start_of : Run → Recorded
-start_of run = record { place = run.start; entry = Start run.task run.cause [] }
+pub may_leave : (outcome : Outcome) (v w : List Note) → IsSpent outcome w → weigh busy v ≡ 0 → MayLeave (joined v w)
+may_leave outcome v (Duty (Owes []) ∷ Has Live ∷ rest) spent idle = λ _. omega (arith, idle, spent.1, weigh_append busy rest v)
+may_leave outcome v w spent idle = absurd spent
 
-abbrev end_of : Run → Recorded
-end_of run = record { place = run.place; entry = End run.start run.gives run.inner }
+pub told_more : (outcome : Outcome) (rs : List Recorded) (v w : List Note) → IsSpent outcome w → tellings v ≡ told_notes rs → tellings (left_by (joined v w)) ≡ told_notes (rs ++ entries_of outcome)
+told_more outcome rs v (Duty (Owes []) ∷ Has Live ∷ rest) spent is =
+    tellings_append rest v ∙ ap (λ u. u ++ tellings v) spent.0 ∙ ap (λ u. told_notes (entries_of outcome) ++ u) is ∙ sym (told_append (told_notes rs) (entries_of outcome)) ∙ sym (told_all [] rs (entries_of outcome))
+told_more outcome rs v w spent is = absurd spent
 
-pub told_run : (run : Run) (rs : List Recorded) → left_by (joined (told_notes rs) (owing_view run [])) ≡ told_notes (rs ++ entries_of run)
-told_run run rs = sym (ap told_notes (sym (append_assoc rs (start_of run ∷ []) (end_of run ∷ []))) ∙ told_push [] (rs ++ start_of run ∷ []) (end_of run) ∙ ap (λ v. Duty (Told run.place (End run.start run.gives run.inner)) ∷ v) (told_push [] rs (start_of run)))
+pub idle_still : (outcome : Outcome) (v w : List Note) → IsSpent outcome w → weigh busy v ≡ 0 → weigh busy (left_by (joined v w)) ≡ 0
+idle_still outcome v (Duty (Owes []) ∷ Has Live ∷ rest) spent idle = omega (arith, idle, spent.1, weigh_append busy rest v)
+idle_still outcome v w spent idle = absurd spent
+
+-- what else a seat knows tells no entry
+place_told : (m : ℕ) (v : List Note) → weigh (duty (place m)) v ≡ weigh (duty (place m)) (tellings v)
+place_told m [] = refl
+place_told m (Duty (Told n x) ∷ v) = omega (arith, place_told m v)
+place_told m (Duty (Fresh t cause) ∷ v) = omega (arith, place_told m v)
+place_told m (Duty (Collecting t cause taken left) ∷ v) = omega (arith, place_told m v)
+place_told m (Duty Ticket ∷ v) = omega (arith, place_told m v)
+place_told m (Duty (Open n t) ∷ v) = omega (arith, place_told m v)
+place_told m (Duty (Owes gives) ∷ v) = omega (arith, place_told m v)
+place_told m (Duty (Counting e) ∷ v) = omega (arith, place_told m v)
+place_told m (Sems k l ∷ v) = omega (arith, place_told m v)
+place_told m (Has q ∷ v) = omega (arith, place_told m v)
+place_told m (Unfit s n t ∷ v) = omega (arith, place_told m v)
+
+stand_told : (net : NetRows) (journal : List Entry) (v : List Note) → AllStand net journal v → AllStand net journal (tellings v)
+stand_told net journal [] h = tt
+stand_told net journal (Duty (Told n x) ∷ v) h = (h.0, stand_told net journal v h.1)
+stand_told net journal (Duty (Fresh t cause) ∷ v) h = stand_told net journal v h.1
+stand_told net journal (Duty (Collecting t cause taken left) ∷ v) h = stand_told net journal v h.1
+stand_told net journal (Duty Ticket ∷ v) h = stand_told net journal v h.1
+stand_told net journal (Duty (Open n t) ∷ v) h = stand_told net journal v h.1
+stand_told net journal (Duty (Owes gives) ∷ v) h = stand_told net journal v h.1
+stand_told net journal (Duty (Counting e) ∷ v) h = stand_told net journal v h.1
+stand_told net journal (Sems k l ∷ v) h = stand_told net journal v h.1
+stand_told net journal (Has m ∷ v) h = stand_told net journal v h.1
+stand_told net journal (Unfit s n t ∷ v) h = stand_told net journal v h.1
 
 told_places : (m : ℕ) (notes : List Note) (rs : List Recorded) → weigh (duty (place m)) (told_after notes rs) ≡ weigh (duty (place m)) notes + count_by (λ (r : Recorded). r.place == m) rs
 told_places m notes [] = omega arith
@@ -50,14 +93,14 @@ told_stand : (net : NetRows) (journal : List Entry) (notes : List Note) (rs : Li
 told_stand net journal notes [] h = (h, tt)
 told_stand net journal notes (r ∷ rs) h = let k = told_stand net journal (Duty (Told r.place r.entry) ∷ notes) rs h in (k.0.1, (k.0.0, k.1))
 
-pub tells_run : (net : NetRows) (limit : ℕ) (notes : List Note) (rs : List Recorded) → notes ≡ told_notes rs → IsWhole net limit notes → TellsRun net limit rs
+pub tells_run : (net : NetRows) (limit : ℕ) (notes : List Note) (rs : List Recorded) → tellings notes ≡ told_notes rs → IsWhole net limit notes → TellsRun net limit rs
 tells_run net limit notes rs is whole = record {
   journal = whole.journal;
   legal = whole.legal;
   complete = whole.complete;
   merges = record {
-    stand = (told_stand net whole.journal [] rs (subst (λ v. AllStand net whole.journal v) is whole.stand)).1;
-    each = λ m below. omega (arith, whole.each m below, ap (weigh (duty (place m))) is, told_places m [] rs);
+    stand = (told_stand net whole.journal [] rs (subst (λ v. AllStand net whole.journal v) is (stand_told net whole.journal notes whole.stand))).1;
+    each = λ m below. omega (arith, whole.each m below, place_told m notes, ap (weigh (duty (place m))) is, told_places m [] rs);
   };
 }
 

@@ -19,7 +19,8 @@ use Rattle.join_tables.specs.declared.view.Item.{Item}
 use Rattle.join_tables.specs.declared.view.Item.TheVariants.{Fresh, Collecting, Ticket, Open}
 use Rattle.join_tables.specs.declared.view.Mark.TheVariants.{Live, New}
 use Rattle.join_tables.specs.declared.view.Note.{Note}
-use Rattle.join_tables.specs.declared.view.Note.TheVariants.{Duty, Has}
+use Rattle.join_tables.specs.declared.view.Kind.TheVariants.{Held, Both}
+use Rattle.join_tables.specs.declared.view.Note.TheVariants.{Duty, Sems, Has}
 use Rattle.join_tables.specs.inside.Items.{place, runs, running, tickets, token, source, weakly, awaits, unset, MayRelease}
 use Rattle.join_tables.specs.inside.Accounts.{Coord, duty, sem, mark, busy, resting, turning, owing, telling, weight, total, FitsRelease, AllFitNotes, KeepsAccounts, reading}
 use Rattle.join_tables.specs.inside.Kinds.{IsTurn, MayTakeUp, taken_up, MayAdd, added, MayDeal, dealt, kept_back, MayAdmit, admitted_notes, admitted, MayStart, started, MayEnd, ended}
@@ -31,7 +32,7 @@ use Rattle.join_tables.proofs.Seats.{nothing_done, split_allowed, join_allowed}
 use Rattle.join_tables.proofs.FewTurns.{fits_of, room_for_turn}
 
 -- a release of the net may be used
-may_release : (net : NetRows) (t : ℕ) (cause : Cause) → IsNet net → FitsRelease net t cause → MayRelease net t cause
+pub may_release : (net : NetRows) (t : ℕ) (cause : Cause) → IsNet net → FitsRelease net t cause → MayRelease net t cause
 may_release net t Source rows fits = record { in_tasks = fits.0; in_range = tt; fits = fits.1 }
 may_release net t Strong rows fits = record { in_tasks = fits.0; in_range = tt; fits = fits.1 }
 may_release net t (Weak e) rows fits = by_row (slice_get net.edges e) refl fits.1 fits.2
@@ -137,27 +138,32 @@ add_allowed net limit slots id me may s h _ at small = from me.0 may at
     from v may at = absurd may
 
 -- START DRAWN
-pub start_allowed : (net : NetRows) (limit slots id : ℕ) (me : Seated) → net.sems ≡ [] → MayStart me.0 → Allows (KeepsAccounts net limit) slots id me 8 (λ n. (n + 1) % 2 ^ 64) (λ n m. (m.0 ≡ started n me.0) × (m.1 ≡ me.1))
-start_allowed net limit slots id me no_sems may s h _ at small = from me.0 may at
+pub start_allowed : (net : NetRows) (limit slots id : ℕ) (me : Seated) → MayStart net me.0 → Allows (KeepsAccounts net limit) slots id me 8 (λ n. (n + 1) % 2 ^ 64) (λ n m. (m.0 ≡ started n me.0) × (m.1 ≡ me.1))
+start_allowed net limit slots id me may s h _ at small = from me.0 may at
   where
-    from : (v : List Note) → MayStart v → get_elem? s.views id ≡ some v
+    from : (v : List Note) → MayStart net v → get_elem? s.views id ≡ some v
         → (u : List Note) × (z : Act (Unit {0})) × Valid s.homes me.1 z × KeepsAccounts net limit (stepped s 8 ((slice_index s.words 8 + 1) % 2 ^ 64) id me.1 u z) × ((u ≡ started (slice_index s.words 8) v) × (carried_after me.1 z ≡ me.1))
-    from (Duty (Collecting t cause taken []) ∷ Duty Ticket ∷ Has Live ∷ rest) may at =
+    from (Duty (Collecting t cause taken []) ∷ Duty Ticket ∷ Has Live ∷ []) may at =
         let stand = (h.views id _ at).stand.0 in
         let all : taken ≡ edges_of net t cause = sym (append-nil taken) ∙ stand.1 in
         done net limit s id 8 _ me _ _ refl
-        (start_drawn net limit s h id t cause me.1 rest no_sems (may_release net t cause h.fits.rows stand.0) may (at ∙ ap (λ es. some (Duty (Collecting t cause es []) ∷ Duty Ticket ∷ Has Live ∷ rest)) all))
+        (start_drawn net limit s h id t cause [] me.1 [] (may_release net t cause h.fits.rows stand.0) may.0 may.1 refl (at ∙ ap (λ es. some (Duty (Collecting t cause es []) ∷ Duty Ticket ∷ Has Live ∷ [])) all))
+    from (Duty (Collecting t cause taken []) ∷ Duty Ticket ∷ Has Live ∷ Sems Held (b ∷ l) ∷ rest) may at =
+        let stand = (h.views id _ at).stand.0 in
+        let all : taken ≡ edges_of net t cause = sym (append-nil taken) ∙ stand.1 in
+        done net limit s id 8 _ me _ _ refl
+        (start_drawn net limit s h id t cause (b ∷ l) me.1 rest (may_release net t cause h.fits.rows stand.0) may.0 may.1 may.2 (at ∙ ap (λ es. some (Duty (Collecting t cause es []) ∷ Duty Ticket ∷ Has Live ∷ Sems Held (b ∷ l) ∷ rest)) all))
     from v may at = absurd may
 
 -- END DRAWN
-pub end_allowed : (net : NetRows) (limit slots id : ℕ) (me : Seated) (gives : List ℕ) (inner : Bool) → net.sems ≡ [] → MayEnd net gives inner me.0
+pub end_allowed : (net : NetRows) (limit slots id : ℕ) (me : Seated) (gives : List ℕ) (inner : Bool) → MayEnd net gives inner me.0
     → Allows (KeepsAccounts net limit) slots id me 8 (λ n. (n + 1) % 2 ^ 64) (λ n m. (m.0 ≡ ended gives inner n me.0) × (m.1 ≡ me.1))
-end_allowed net limit slots id me gives inner no_sems may s h _ at small = from me.0 may at
+end_allowed net limit slots id me gives inner may s h _ at small = from me.0 may at
   where
     from : (v : List Note) → MayEnd net gives inner v → get_elem? s.views id ≡ some v
         → (u : List Note) × (z : Act (Unit {0})) × Valid s.homes me.1 z × KeepsAccounts net limit (stepped s 8 ((slice_index s.words 8 + 1) % 2 ^ 64) id me.1 u z) × ((u ≡ ended gives inner (slice_index s.words 8) v) × (carried_after me.1 z ≡ me.1))
-    from (Duty (Open m t) ∷ Has Live ∷ rest) may at =
-        done net limit s id 8 _ me _ _ refl (end_drawn net limit s h id m t gives inner me.1 rest no_sems may.0 may.1 at)
+    from (Duty (Open m t) ∷ Has Live ∷ Sems Both l ∷ rest) may at =
+        done net limit s id 8 _ me _ _ refl (end_drawn net limit s h id m t gives inner l me.1 rest may.0 may.1 may.2 may.3 at)
     from v may at = absurd may
 
 -- SPLIT

@@ -5,10 +5,12 @@ use Rattle.std.specs.List.{AllByRecursion}
 use Rattle.task_graph.specs.NetRows.{NetRows}
 use Rattle.atomic_table.specs.Seated.{TableId}
 use Rattle.journal_rules.specs.declared.entry.Entry.{Entry}
-use Rattle.journal_rules.specs.declared.entry.Entry.TheVariants.{Start, End}
+use Rattle.journal_rules.specs.declared.entry.Cause.{Cause}
+use Rattle.journal_rules.specs.declared.entry.Entry.TheVariants.{Start, End, Fault, Drop}
 use Rattle.journal_rules.specs.ShapeLegal.{ShapeLegal}
 use Rattle.journal_rules.specs.Complete.{Complete}
-use Rattle.join_tables.specs.declared.turns.Run.{Run}
+use Rattle.join_tables.specs.declared.outcomes.Outcome.{Outcome}
+use Rattle.join_tables.specs.declared.outcomes.Outcome.TheVariants.{Ended, Faulted, Dropped}
 use Rattle.join_tables.specs.declared.keeper.Recorded.{Recorded}
 use Rattle.join_tables.specs.declared.keeper.Remaining.{Remaining}
 use Rattle.join_tables.specs.declared.keeper.Remaining.TheVariants.{More, All as AllTaken}
@@ -23,9 +25,15 @@ pub record KeeperState : Type 0 where
 abbrev pub keeper_state : TableId → List Recorded → Option ℕ → KeeperState
 keeper_state n entries found = record { table = n; entries = entries; found = found }
 
--- the entries of a run that ended
-abbrev pub entries_of : Run → List Recorded
-entries_of run = record { place = run.start; entry = Start run.task run.cause [] } ∷ record { place = run.place; entry = End run.start run.gives run.inner } ∷ []
+-- the entry of a Start, whose inputs aren't told
+abbrev pub start_of : ℕ → ℕ → Cause → Recorded
+start_of place task cause = record { place = place; entry = Start task cause [] }
+
+-- the entries of a turn that is done
+abbrev pub entries_of : Outcome → List Recorded
+entries_of (Ended run) = start_of run.start run.task run.cause ∷ record { place = run.place; entry = End run.start run.gives run.inner } ∷ []
+entries_of (Faulted f) = start_of f.start f.task f.cause ∷ record { place = f.place; entry = Fault f.start f.why } ∷ []
+entries_of (Dropped d) = record { place = d.place; entry = Drop d.task d.cause d.why } ∷ []
 
 -- A journal has each of these entries at its place, and each of its places is named once.
 pub record Merges (entries : List Recorded) (journal : List Entry) : Type 0 where

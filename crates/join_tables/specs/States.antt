@@ -1,9 +1,11 @@
 -- The states of a table, of its turns and of its keeper.
-use Rattle.std.specs.Prelude.{ℕ, Bool, List, Option}
+use Rattle.std.specs.Prelude.{ℕ, List, [], Option, None}
 use Rattle.task_graph.specs.NetRows.{NetRows}
 use Rattle.atomic_table.specs.Seated.{TableId}
 use Rattle.journal_rules.specs.declared.entry.Cause.{Cause}
+use Rattle.journal_rules.specs.declared.entry.DropWhy.{DropWhy}
 use Rattle.join_tables.specs.declared.turns.Run.{Run}
+use Rattle.join_tables.specs.declared.outcomes.Outcome.{Outcome}
 
 -- a table's name, its net, and how many starts it may have
 pub record TableState : Type 0 where
@@ -24,41 +26,48 @@ pub record CollectingState : Type 0 where
   pub cause : Cause
   pub left : List ℕ
 
--- One that has collected all, and whether it was refused at the limit. Its last step may have found a number: in the
--- join word of its task, where it counted an edge, or in the word of starts, where it was refused.
+-- One that has collected all: why it was refused, if it was, and the semaphores of the units that it holds. Then what the
+-- call that led here found: in the halt mark, if it asked for an admission, and in the word on which it counted an edge,
+-- took a unit or drew a start.
 pub record TurnState : Type 0 where
   pub table : TableId
   pub task : ℕ
   pub cause : Cause
-  pub refused : Bool
+  pub refused : Option DropWhy
+  pub held : List ℕ
+  pub halt : Option ℕ
   pub found : Option ℕ
 
--- one that may start its task, and the number that its admission drew
+-- one that may start its task, and what its admission found: in the halt mark, and the number that it drew
 pub record AdmittedState : Type 0 where
   pub table : TableId
   pub task : ℕ
   pub cause : Cause
+  pub held : List ℕ
+  pub halt : ℕ
   pub drawn : ℕ
 
--- a start that runs, and its place in the journal
+-- a start that runs, its place in the journal, and the semaphores of the units that its end gives back
 pub record RunningState : Type 0 where
   pub table : TableId
   pub task : ℕ
   pub cause : Cause
   pub place : ℕ
+  pub units : List ℕ
 
--- A run that ended, and the edges that it has still to give. Where it counted the edge that it gave last, it found a
--- number in the join word there.
+-- A run that ended, the edges that it has still to give, and the semaphores of the units that it has to give back. Where
+-- its last call counted the edge that it gave, that found a number in the join word there.
 pub record OwingState : Type 0 where
   pub table : TableId
   pub run : Run
   pub left : List ℕ
+  pub units : List ℕ
   pub found : Option ℕ
 
--- one that has given all
+-- one that owes nothing
 pub record SpentState : Type 0 where
   pub table : TableId
-  pub run : Run
+  pub outcome : Outcome
 
 abbrev pub fresh_state : TableId → ℕ → Cause → FreshState
 fresh_state n t cause = record { table = n; task = t; cause = cause }
@@ -66,17 +75,20 @@ fresh_state n t cause = record { table = n; task = t; cause = cause }
 abbrev pub collecting_state : TableId → ℕ → Cause → List ℕ → CollectingState
 collecting_state n t cause left = record { table = n; task = t; cause = cause; left = left }
 
-abbrev pub turn_state : TableId → ℕ → Cause → Bool → Option ℕ → TurnState
-turn_state n t cause refused found = record { table = n; task = t; cause = cause; refused = refused; found = found }
+abbrev pub turn_with : TableId → ℕ → Cause → Option DropWhy → List ℕ → Option ℕ → Option ℕ → TurnState
+turn_with n t cause refused held halt found = record { table = n; task = t; cause = cause; refused = refused; held = held; halt = halt; found = found }
 
-abbrev pub admitted_state : TableId → ℕ → Cause → ℕ → AdmittedState
-admitted_state n t cause drawn = record { table = n; task = t; cause = cause; drawn = drawn }
+abbrev pub turn_state : TableId → ℕ → Cause → Option ℕ → TurnState
+turn_state n t cause found = turn_with n t cause None [] None found
 
-abbrev pub running_state : TableId → ℕ → Cause → ℕ → RunningState
-running_state n t cause place = record { table = n; task = t; cause = cause; place = place }
+abbrev pub admitted_state : TableId → ℕ → Cause → List ℕ → ℕ → ℕ → AdmittedState
+admitted_state n t cause held halt drawn = record { table = n; task = t; cause = cause; held = held; halt = halt; drawn = drawn }
 
-abbrev pub owing_state : TableId → Run → List ℕ → Option ℕ → OwingState
-owing_state n run left found = record { table = n; run = run; left = left; found = found }
+abbrev pub running_state : TableId → ℕ → Cause → ℕ → List ℕ → RunningState
+running_state n t cause place units = record { table = n; task = t; cause = cause; place = place; units = units }
 
-abbrev pub spent_state : TableId → Run → SpentState
-spent_state n run = record { table = n; run = run }
+abbrev pub owing_state : TableId → Run → List ℕ → List ℕ → Option ℕ → OwingState
+owing_state n run left units found = record { table = n; run = run; left = left; units = units; found = found }
+
+abbrev pub spent_state : TableId → Outcome → SpentState
+spent_state n outcome = record { table = n; outcome = outcome }

@@ -4,32 +4,36 @@ use Rattle.task_graph.specs.NetRows.{NetRows}
 use Rattle.task_graph.specs.Net.{is_weak}
 use Rattle.journal_rules.specs.declared.entry.Cause.{Cause}
 use Rattle.journal_rules.specs.declared.entry.Cause.TheVariants.{Strong, Weak}
+use Rattle.journal_rules.specs.declared.entry.DropWhy.TheVariants.{Limit, Halted as AfterFault}
 use Rattle.join_tables.specs.Giving.{target}
 use Rattle.join_tables.specs.declared.turns.Collected.{Collected}
 use Rattle.join_tables.specs.declared.turns.Collected.TheVariants.{More, Last, LastAgain}
 use Rattle.join_tables.specs.declared.turns.Gave.{Gave}
 use Rattle.join_tables.specs.declared.turns.Gave.TheVariants.{Next, Released, Finished}
 use Rattle.join_tables.specs.declared.turns.Admitted.{Admitted}
-use Rattle.join_tables.specs.declared.turns.Admitted.TheVariants.{Go, Over}
+use Rattle.join_tables.specs.declared.turns.Admitted.TheVariants.{Go, Over, Halted}
 use Rattle.join_tables.specs.declared.turns.Run.{Run}
-use Rattle.join_tables.specs.States.{CollectingState, TurnState, RunningState, OwingState, fresh_state, collecting_state, turn_state, admitted_state, owing_state, spent_state}
+use Rattle.join_tables.specs.declared.outcomes.Outcome.TheVariants.{Ended}
+use Rattle.join_tables.specs.States.{CollectingState, TurnState, RunningState, OwingState, fresh_state, collecting_state, turn_state, turn_with, admitted_state, owing_state, spent_state}
 
 -- What collecting from the next edge of a release leads to: More where another is left. Where none is, LastAgain, with
 -- another release of the task by its strong in-edges, where the edge was counted and that count found one left in the
 -- join word; else Last.
 abbrev pub CollectsFrom : CollectingState → List ℕ → Collected → Type 0
-CollectsFrom c [] (Last turn) = turn ≡ turn_state c.table c.task c.cause false None
+CollectsFrom c [] (Last turn) = turn ≡ turn_state c.table c.task c.cause None
 CollectsFrom c [] _ = ⊥
-CollectsFrom c (e ∷ []) (Last turn) = (turn ≡ turn_state c.table c.task c.cause false turn.found) × (turn.found ≢ Some 1)
-CollectsFrom c (e ∷ []) (LastAgain turn fresh) = (turn ≡ turn_state c.table c.task c.cause false (Some 1)) × (fresh ≡ fresh_state c.table c.task Strong)
+CollectsFrom c (e ∷ []) (Last turn) = (turn ≡ turn_state c.table c.task c.cause turn.found) × (turn.found ≢ Some 1)
+CollectsFrom c (e ∷ []) (LastAgain turn fresh) = (turn ≡ turn_state c.table c.task c.cause (Some 1)) × (fresh ≡ fresh_state c.table c.task Strong)
 CollectsFrom c (e ∷ []) (More d) = ⊥
 CollectsFrom c (e ∷ f ∷ left) (More d) = d ≡ collecting_state c.table c.task c.cause (f ∷ left)
 CollectsFrom c (e ∷ f ∷ left) _ = ⊥
 
--- A turn may start its task where the number that it drew is below the limit, else it is refused.
+-- A turn is refused since a Fault stands where its load finds the halt mark set. Where it finds 0, the turn may start its
+-- task if the number that it then draws is below the limit, and is refused at the limit else.
 abbrev pub Admits : ℕ → TurnState → Admitted → Type 0
-Admits limit t (Go ticket) = (ticket ≡ admitted_state t.table t.task t.cause ticket.drawn) × (ticket.drawn < limit)
-Admits limit t (Over turn) = (turn ≡ turn_state t.table t.task t.cause true turn.found) × IsSomeAnd turn.found (λ n. limit ≤ n)
+Admits limit t (Go ticket) = (ticket ≡ admitted_state t.table t.task t.cause t.held 0 ticket.drawn) × (ticket.drawn < limit)
+Admits limit t (Over turn) = (turn ≡ turn_with t.table t.task t.cause (Some Limit) t.held (Some 0) turn.found) × IsSomeAnd turn.found (λ n. limit ≤ n)
+Admits limit t (Halted turn) = (turn ≡ turn_with t.table t.task t.cause (Some AfterFault) t.held turn.halt None) × IsSomeAnd turn.halt (λ h. h ≢ 0)
 
 -- the run of a start that ended and gives these edges
 abbrev pub EndsAs : RunningState → List ℕ → Bool → Run → Type 0
@@ -47,8 +51,8 @@ cause_by net e = cause_of (is_weak net e) e
 -- edge does where the edge was counted and that count found one left in the join word. Finished comes where no edge is
 -- left.
 abbrev pub GivesNext : NetRows → OwingState → List ℕ → Gave → Type 0
-GivesNext net o [] (Finished spent) = spent ≡ spent_state o.table o.run
+GivesNext net o [] (Finished spent) = spent ≡ spent_state o.table (Ended o.run)
 GivesNext net o [] _ = ⊥
-GivesNext net o (e ∷ left) (Next p) = (is_weak net e ≡ false) × (p ≡ owing_state o.table o.run left p.found) × (p.found ≢ Some 1)
-GivesNext net o (e ∷ left) (Released p fresh) = (p ≡ owing_state o.table o.run left p.found) × (fresh ≡ fresh_state o.table (target net e) (cause_by net e)) × (is_weak net e ≡ false → p.found ≡ Some 1)
+GivesNext net o (e ∷ left) (Next p) = (is_weak net e ≡ false) × (p ≡ owing_state o.table o.run left [] p.found) × (p.found ≢ Some 1)
+GivesNext net o (e ∷ left) (Released p fresh) = (p ≡ owing_state o.table o.run left [] p.found) × (fresh ≡ fresh_state o.table (target net e) (cause_by net e)) × (is_weak net e ≡ false → p.found ≡ Some 1)
 GivesNext net o (e ∷ left) (Finished spent) = ⊥

@@ -2,6 +2,9 @@
 pub mod Items
 pub mod Accounts
 pub mod Kinds
+pub mod Halts
+pub mod UnitKinds
+pub mod CreditKinds
 pub mod Opening
 pub mod Seated
 pub mod Collects

@@ -6,17 +6,18 @@ ghost use Rattle.task_graph.specs.Net.{is_weak};
 ghost use Rattle.journal_rules.specs.DataRule.{edges_of};
 ghost use Rattle.journal_rules.specs.declared.entry.Cause.TheVariants.{Strong};
 ghost use Rattle.join_tables.specs.States.{fresh_state, collecting_state, running_state};
-ghost use Rattle.join_tables.specs.Turns.{CollectsFrom, GivesNext, Admits, EndsAs, cause_by};
+ghost use Rattle.join_tables.specs.Turns.{CollectsFrom, GivesNext, EndsAs, cause_by};
 ghost use Rattle.join_tables.specs.Giving.{MayGive, target};
+ghost use Rattle.join_tables.specs.Holding.{HoldsAll, PutsAll};
 ghost use Rattle.join_tables.specs.inside.Accounts.{FitsRelease};
 ghost use Rattle.join_tables.specs.inside.Kinds.{CountsNext, AreNoneLeft, others_of, kept_back, settled};
 ghost use Rattle.join_tables.specs.inside.Seated.{OwesFirst, paid, HasMade, collecting_view, taken_in, left_in};
 ghost use Rattle.join_tables.specs.inside.Collects.{CollectsOne};
 
+use crate::outcomes::Outcome;
 use crate::steps::Place;
 use crate::turns::{
-    Admitted, Collected, Collecting, Fresh, Gave, NetTable, Owing, Run, Running, Spent,
-    StartTicket, Turn,
+    Collected, Collecting, Fresh, Gave, NetTable, Owing, Run, Running, Spent, StartTicket, Turn,
 };
 use journal_rules::Cause;
 use outside_io::List;
@@ -78,10 +79,12 @@ impl NetTable {
         }
     }
 
-    /// Starts the task: draws the place of its Start.
+    /// Starts the task: draws the place of its Start. The task puts just what it takes.
     pub fn start(&self, ticket: StartTicket) -> Running
-        requires { ticket.table ≡ self.now.table }
-        ensures { result ≡ running_state self.now.table ticket.task ticket.cause result.place }
+        requires table { ticket.table ≡ self.now.table }
+        requires units { HoldsAll self.now.net ticket.task ticket.held }
+        requires puts { PutsAll self.now.net ticket.task }
+        ensures { result ≡ running_state self.now.table ticket.task ticket.cause result.place ticket.held }
     {
         let StartTicket {
             mut seat,
@@ -98,44 +101,17 @@ impl NetTable {
         }
     }
 
-    /// Draws an admission. `Go` comes exactly where its number is below the limit.
-    pub fn admit(&self, turn: Turn) -> Admitted
-        requires table { turn.table ≡ self.now.table }
-        requires asked_once { turn.refused ≡ false }
-        ensures { Admits self.now.limit turn result }
-    {
-        let Turn {
-            mut seat,
-            task,
-            cause,
-            ..
-        } = turn;
-        let number = self.words.draw_admission(&mut seat);
-        if number < self.words.limit() {
-            Admitted::Go(StartTicket {
-                seat,
-                task,
-                cause,
-                drawn: number,
-            })
-        } else {
-            Admitted::Over(Turn {
-                seat,
-                task,
-                cause,
-                found: Some(number),
-            })
-        }
-    }
-
     /// Ends a start: draws the place of its End, which gives these edges. `inner` says that its work was a run of
     /// its own.
     pub fn end(&self, running: Running, gives: List<u32>, inner: bool) -> Owing
         requires table { running.table ≡ self.now.table }
         requires fits { MayGive self.now.net running.task gives inner }
+        requires units { HoldsAll self.now.net running.task running.units }
+        requires puts { PutsAll self.now.net running.task }
         ensures table { result.table ≡ self.now.table }
         ensures run { EndsAs running gives inner result.run }
         ensures left { result.left ≡ gives }
+        ensures units { result.units ≡ running.units }
     {
         let Running {
             mut seat,
@@ -189,6 +165,7 @@ impl NetTable {
             seat,
             task,
             cause,
+            halt: None,
             found,
         };
         match made {
@@ -200,7 +177,8 @@ impl NetTable {
     /// Gives a token of the next edge that an end owes, and counts it at its target where it is the first of a strong
     /// one.
     pub fn give(&self, owing: Owing) -> Gave
-        requires { owing.table ≡ self.now.table }
+        requires table { owing.table ≡ self.now.table }
+        requires no_unit { owing.units ≡ [] }
         ensures { GivesNext self.now.net owing owing.left result }
     {
         let Owing {
@@ -210,7 +188,8 @@ impl NetTable {
             ..
         } = owing;
         let Some(edge) = run.gives.get(next) else {
-            return Gave::Finished(Spent { seat, run });
+            let outcome = Outcome::Ended(run);
+            return Gave::Finished(Spent { seat, outcome });
         };
         let Counted { found, made } = self.give_edge(&mut seat, *edge);
         let owing = Owing {

@@ -8,10 +8,11 @@ ghost use Rattle.join_tables.specs.Keeping.{keeper_state, TellsRun, TellsSomeRun
 ghost use Rattle.join_tables.specs.inside.Kinds.{MayLeave, left_by, joined, IsWhole};
 
 use crate::merge::merged;
+use crate::recording::record;
 use crate::steps::{Place, Words};
-use crate::turns::{NetTable, Run, Spent};
+use crate::turns::{NetTable, Spent};
 use journal_rules::{Entry, Journal};
-use outside_io::{List, NoMemory};
+use outside_io::NoMemory;
 use std::alloc::Global;
 use std::marker::Model;
 
@@ -22,7 +23,7 @@ pub struct Recorded {
     pub entry: Entry,
 }
 
-/// The entries of the runs that are done.
+/// The entries of the turns that are done.
 #[derive(Drop)]
 pub struct Keeper {
     alloc: Global,
@@ -35,13 +36,14 @@ pub struct Keeper {
 impl Model for Keeper {
     ghost use Rattle.std.specs.Prelude.{◌≡◌, []};
     ghost use Rattle.join_tables.specs.Keeping.{KeeperState, keeper_state};
-    ghost use Rattle.join_tables.specs.inside.Recording.{told_notes};
+    ghost use Rattle.join_tables.specs.inside.Accounts.{busy, weigh};
+    ghost use Rattle.join_tables.specs.inside.Recording.{tellings, told_notes};
 
     ghost Value = { KeeperState };
 
     ghost view = { λ k. keeper_state k.seat.table_id k.entries.items k.found };
 
-    ghost invariant = { λ k. (k.seat.id ≡ 0) × (k.seat.me ≡ (told_notes k.entries.items, [])) };
+    ghost invariant = { λ k. (k.seat.id ≡ 0) × (k.seat.me.1 ≡ []) × (tellings k.seat.me.0 ≡ told_notes k.entries.items) × (weigh busy k.seat.me.0 ≡ 0) };
 }
 
 /// Whether turns are left.
@@ -75,38 +77,18 @@ impl Keeper {
         self.entries.as_slice()
     }
 
-    /// Takes in a turn that is done, with its two entries. `All` comes exactly where its own step found one live
+    /// Takes in a turn that is done, with its entries. `All` comes exactly where its own step found one live
     /// turn, and the entries then tell a whole run. If an allocation fails, the turn is lost and `All` never comes.
     pub fn absorb(&mut self, table: &NetTable, spent: Spent) -> Result<Remaining, NoMemory>
         requires keeper { self.old.table ≡ table.now.table }
         requires spent { spent.table ≡ table.now.table }
-        ensures ok { OnOk result (self.new ≡ keeper_state self.old.table (self.old.entries ++ entries_of spent.run) self.new.found) }
+        ensures ok { OnOk result (self.new ≡ keeper_state self.old.table (self.old.entries ++ entries_of spent.outcome) self.new.found) }
         ensures left { IfOk result (λ left. IsSomeAnd self.new.found (λ n. LeavesOf n left)) }
         ensures err { OnErr result (self.new ≡ self.old) }
         ensures all { IsLast result → TellsRun table.now.net table.now.limit self.new.entries }
     {
-        let Spent { seat, run } = spent;
-        self.entries.try_reserve(2)?;
-        let Run {
-            task,
-            cause,
-            start,
-            place,
-            gives,
-            inner,
-        } = run;
-        let ins = List::new(self.alloc);
-        let entry = Entry::Start { task, cause, ins };
-        self.entries.push_reserved(Recorded {
-            place: start,
-            entry,
-        });
-        let entry = Entry::End {
-            start,
-            gives,
-            inner,
-        };
-        self.entries.push_reserved(Recorded { place, entry });
+        let Spent { seat, outcome } = spent;
+        record(self.alloc, &mut self.entries, outcome)?;
         let found = table.words.settle(&mut self.seat, seat);
         self.found = Some(found);
         Ok(Remaining::of(found))

@@ -32,7 +32,6 @@ impl NetTable {
     /// The table of a run of a net, which may have this many starts. It is the only call that takes memory.
     pub fn new(alloc: Global, net: Arc<Net>, limit: u64) -> Result<Opening, NoMemory>
         requires limit { limit ≤ 2097153 }
-        requires no_semaphores { (arc_value net).sems ≡ [] }
         ensures { IfOk result (OpensTable (arc_value net) limit) }
     {
         let releases = first_releases(alloc, &net)?;

@@ -1,16 +1,20 @@
 // The releases with which a run begins, and the words of its table.
-ghost use Rattle.std.specs.Prelude.{◌≡◌, ◌<◌, ◌+◌, ◌==◌, IfOk, OnOk, All, length, [], ◌∷◌, ◌++◌};
+ghost use Rattle.std.specs.Prelude.{◌≡◌, ◌<◌, ◌≤◌, ◌+◌, ◌==◌, ℕ, IfOk, OnOk, All, length, slice_index, [], ◌∷◌, ◌++◌};
 ghost use Rattle.task_graph.specs.Net.{in_edges, strong_in};
 ghost use Rattle.journal_rules.specs.Counts.{first_tokens};
 ghost use Rattle.join_tables.specs.inside.Opening.{bare, first_items};
 ghost use Rattle.join_tables.specs.inside.FirstReleases.{is_full, items_of, item_if, opening_word, AreOpeningWords};
 ghost use Rattle.join_tables.specs.Giving.{one_if};
+ghost use Rattle.join_tables.specs.inside.Accounts.{edges_from};
 
-use crate::steps::{FIRST_EDGE, LIVE};
+use crate::steps::{FIRST_UNIT, LIVE};
 use journal_rules::Cause;
 use outside_io::NoMemory;
 use std::alloc::Global;
 use task_graph::Net;
+
+// A word of credits at first, so that a claim that is refused wraps nothing.
+const FIRST_CREDIT: u64 = 1099511627776;
 
 /// A release of a task, by its cause.
 #[derive(Clone, Copy)]
@@ -77,11 +81,27 @@ fn starts_with_token(net: &Net, edge: u32) -> bool
     net.edges()[edge as usize].start
 }
 
+// How many semaphores there are, each of which has no more units than its type allows.
+fn semaphore_count(sems: &[u32]) -> usize
+    ensures count { result ≡ length sems.now }
+    ensures fit { (s : ℕ) → slice_index sems.now s ≤ 4294967295 }
+{
+    sems.len()
+}
+
+// Where the words of tokens begin.
+fn first_edge(net: &Net) -> usize
+    ensures { result ≡ edges_from net.now }
+{
+    FIRST_UNIT + net.sems().len() + net.sems().len()
+}
+
 /// The words of a table at first, where this many turns are live.
 pub fn opening_words(alloc: Global, net: &Net, live: u64) -> Result<Vec<u64>, NoMemory>
     ensures { IfOk result (λ words. AreOpeningWords net.now live words.items) }
 {
-    let count = FIRST_EDGE + net.edges().len() + net.tasks().len();
+    let sems = semaphore_count(net.sems());
+    let count = FIRST_UNIT + sems + sems + net.edges().len() + net.tasks().len();
     let mut words = Vec::with_capacity(alloc, count)?;
     for word in 0..count {
         words.push_reserved(first_word(net, live, word));
@@ -91,13 +111,19 @@ pub fn opening_words(alloc: Global, net: &Net, live: u64) -> Result<Vec<u64>, No
 
 // A word at first.
 fn first_word(net: &Net, live: u64, word: usize) -> u64
-    requires { word < 40 + length net.now.edges + length net.now.tasks }
+    requires { word < edges_from net.now + length net.now.edges + length net.now.tasks }
     ensures { result ≡ opening_word net.now live word }
 {
-    if word < FIRST_EDGE {
+    if word < FIRST_UNIT {
         return if word == LIVE { live } else { 0 };
     }
-    let place = word - FIRST_EDGE;
+    if word < FIRST_UNIT + net.sems().len() {
+        return 0;
+    }
+    if word < first_edge(net) {
+        return FIRST_CREDIT;
+    }
+    let place = word - first_edge(net);
     if place < net.edges().len() {
         u64::from(starts_with_token(net, place as u32))
     } else {

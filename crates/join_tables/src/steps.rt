@@ -14,7 +14,7 @@ use std::marker::{Brand, PhantomData};
 use std::sync::Arc;
 use task_graph::Net;
 
-// The words of the table. Each of the first four has a cache line to itself, since eight words fill one: the others
+// The words of the table. Each of the first five has a cache line to itself, since eight words fill one: the others
 // lie eight apart. Nothing is ever written to word 0, which splits, joins and loads read.
 const UNWRITTEN: usize = 0;
 
@@ -24,7 +24,11 @@ pub const LIVE: usize = 16;
 
 pub const STARTS: usize = 24;
 
-pub const FIRST_EDGE: usize = 40;
+pub const HALT: usize = 32;
+
+// From here on each semaphore has a word of units taken, then each a word of credits, then each edge a word of tokens,
+// and each task its join word.
+pub const FIRST_UNIT: usize = 40;
 
 /// What a seat is.
 pub type Place = Seat<(), List<Note>>;
@@ -37,7 +41,6 @@ pub struct Words {
     pub limit: u64,
     ghost same_limit: { limit ≡ table.shared.key.limit },
     ghost same_net: { arc_value net ≡ arc_value table.shared.key.net },
-    ghost no_sems: { (arc_value net).sems ≡ [] },
     ghost sized: { table.shared.table_id.words ≡ edges_from (arc_value net) + length (arc_value net).edges + length (arc_value net).tasks },
 }
 
@@ -237,7 +240,23 @@ impl Words {
         requires { task < length (arc_value self.now.net).tasks }
         ensures { result ≡ edges_from (arc_value self.now.net) + length (arc_value self.now.net).edges + task }
     {
-        FIRST_EDGE + self.net.edges().len() + task as usize
+        self.first_edge() + self.net.edges().len() + task as usize
+    }
+
+    // Where the words of tokens begin.
+    fn first_edge(&self) -> usize
+        ensures place { result ≡ edges_from (arc_value self.now.net) }
+        ensures few { length (arc_value self.now.net).sems < 4294967296 }
+    {
+        FIRST_UNIT + self.net.sems().len() + self.net.sems().len()
+    }
+
+    // Where the word of an edge is.
+    fn edge_word(&self, edge: u32) -> usize
+        requires { edge < length (arc_value self.now.net).edges }
+        ensures { result ≡ edges_from (arc_value self.now.net) + edge }
+    {
+        self.first_edge() + edge as usize
     }
 
     /// Takes a token from the next edge of a release, and says how many were there.
@@ -250,7 +269,7 @@ impl Words {
     {
         self.table
             .shared
-            .fetch_sub::<Takes>(seat, FIRST_EDGE + edge as usize, 1)
+            .fetch_sub::<Takes>(seat, self.edge_word(edge), 1)
     }
 
     fn give_told<A: Told>(&self, seat: &mut Place, edge: u32) -> u64
@@ -263,7 +282,7 @@ impl Words {
     {
         self.table
             .shared
-            .fetch_add::<Gives<A>>(seat, FIRST_EDGE + edge as usize, 1)
+            .fetch_add::<Gives<A>>(seat, self.edge_word(edge), 1)
     }
 
     /// Gives a token of the next edge that is owed, and says how many were there.
@@ -352,7 +371,7 @@ impl Words {
     /// Draws the place of a Start.
     pub fn draw_start(&self, seat: &mut Place) -> u64
         requires table { seat.old.table_id ≡ self.now.table.shared.table_id }
-        requires ready { MayStart seat.old.me.0 }
+        requires ready { MayStart (arc_value self.now.net) seat.old.me.0 }
         ensures table { seat.new.table_id ≡ seat.old.table_id }
         ensures view { (seat.new.me.0 ≡ started result seat.old.me.0) × (seat.new.me.1 ≡ seat.old.me.1) }
     {

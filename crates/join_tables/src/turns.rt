@@ -1,6 +1,7 @@
 // The turns of a table, by what they have still to do. Each knows it by a seat, which has no bytes.
 ghost use Rattle.std.specs.Prelude.{◌≡◌};
 
+use crate::outcomes::Outcome;
 use crate::steps::{Place, Words};
 use journal_rules::Cause;
 use keyed_lock::Keyed;
@@ -77,20 +78,21 @@ pub struct Turn {
     pub(crate) seat: Place,
     pub(crate) task: u32,
     pub(crate) cause: Cause,
-    // what its last step found in its word, of which contracts speak
+    // what its last call found in the halt mark and in another word, of which contracts speak
+    pub(crate) halt: Option<u64>,
     pub(crate) found: Option<u64>,
 }
 
 impl Model for Turn {
     ghost use Rattle.std.specs.Prelude.{◌≡◌, []};
-    ghost use Rattle.join_tables.specs.States.{TurnState, turn_state};
-    ghost use Rattle.join_tables.specs.inside.Seated.{turn_view, taken_in, is_refused};
+    ghost use Rattle.join_tables.specs.States.{TurnState, turn_with};
+    ghost use Rattle.join_tables.specs.inside.Seated.{turn_view, taken_in, refusal_of, held_of};
 
     ghost Value = { TurnState };
 
-    ghost view = { λ t. turn_state t.seat.table_id t.task t.cause (is_refused t.seat.me.0) t.found };
+    ghost view = { λ t. turn_with t.seat.table_id t.task t.cause (refusal_of t.seat.me.0) (held_of t.seat.me.0) t.halt t.found };
 
-    ghost invariant = { λ t. t.seat.me ≡ (turn_view t.task t.cause (taken_in t.seat.me.0) (is_refused t.seat.me.0), []) };
+    ghost invariant = { λ t. t.seat.me ≡ (turn_view t.task t.cause (taken_in t.seat.me.0) (refusal_of t.seat.me.0) (held_of t.seat.me.0), []) };
 }
 
 /// A release that may start its task.
@@ -99,20 +101,21 @@ pub struct StartTicket {
     pub(crate) seat: Place,
     pub(crate) task: u32,
     pub(crate) cause: Cause,
-    // the number that its admission drew, of which contracts speak
+    // what its admission found in the halt mark, and the number that it drew, of which contracts speak
+    pub(crate) halt: u64,
     pub(crate) drawn: u64,
 }
 
 impl Model for StartTicket {
     ghost use Rattle.std.specs.Prelude.{◌≡◌, []};
     ghost use Rattle.join_tables.specs.States.{AdmittedState, admitted_state};
-    ghost use Rattle.join_tables.specs.inside.Seated.{ticket_view, taken_in};
+    ghost use Rattle.join_tables.specs.inside.Seated.{ticket_view, taken_in, held_of};
 
     ghost Value = { AdmittedState };
 
-    ghost view = { λ t. admitted_state t.seat.table_id t.task t.cause t.drawn };
+    ghost view = { λ t. admitted_state t.seat.table_id t.task t.cause (held_of t.seat.me.0) t.halt t.drawn };
 
-    ghost invariant = { λ t. t.seat.me ≡ (ticket_view t.task t.cause (taken_in t.seat.me.0), []) };
+    ghost invariant = { λ t. t.seat.me ≡ (ticket_view t.task t.cause (taken_in t.seat.me.0) (held_of t.seat.me.0), []) };
 }
 
 /// A start that runs.
@@ -127,13 +130,13 @@ pub struct Running {
 impl Model for Running {
     ghost use Rattle.std.specs.Prelude.{◌≡◌, []};
     ghost use Rattle.join_tables.specs.States.{RunningState, running_state};
-    ghost use Rattle.join_tables.specs.inside.Seated.{running_view};
+    ghost use Rattle.join_tables.specs.inside.Seated.{running_view, units_of};
 
     ghost Value = { RunningState };
 
-    ghost view = { λ r. running_state r.seat.table_id r.task r.cause r.place };
+    ghost view = { λ r. running_state r.seat.table_id r.task r.cause r.place (units_of r.seat.me.0) };
 
-    ghost invariant = { λ r. r.seat.me ≡ (running_view r.task r.cause r.place, []) };
+    ghost invariant = { λ r. r.seat.me ≡ (running_view r.task r.cause r.place (units_of r.seat.me.0), []) };
 }
 
 /// A start of a task and its end: their places in the journal, and the edges that the end gives.
@@ -153,39 +156,39 @@ pub struct Owing {
     pub(crate) seat: Place,
     pub(crate) run: Run,
     pub(crate) next: usize,
-    // what its last step found in its word, of which contracts speak
+    // what its last call found in a join word, of which contracts speak
     pub(crate) found: Option<u64>,
 }
 
 impl Model for Owing {
     ghost use Rattle.std.specs.Prelude.{◌≡◌, [], drop};
     ghost use Rattle.join_tables.specs.States.{OwingState, owing_state};
-    ghost use Rattle.join_tables.specs.inside.Seated.{owing_view};
+    ghost use Rattle.join_tables.specs.inside.Seated.{owing_view, units_of};
 
     ghost Value = { OwingState };
 
-    ghost view = { λ o. owing_state o.seat.table_id o.run (drop o.next o.run.gives) o.found };
+    ghost view = { λ o. owing_state o.seat.table_id o.run (drop o.next o.run.gives) (units_of o.seat.me.0) o.found };
 
-    ghost invariant = { λ o. o.seat.me ≡ (owing_view o.run (drop o.next o.run.gives), []) };
+    ghost invariant = { λ o. o.seat.me ≡ (owing_view o.run (drop o.next o.run.gives) (units_of o.seat.me.0), []) };
 }
 
-/// A run that ended and owes nothing.
+/// A turn that is done and owes nothing.
 #[derive(Drop)]
 pub struct Spent {
     pub(crate) seat: Place,
-    pub(crate) run: Run,
+    pub(crate) outcome: Outcome,
 }
 
 impl Model for Spent {
     ghost use Rattle.std.specs.Prelude.{◌≡◌, []};
     ghost use Rattle.join_tables.specs.States.{SpentState, spent_state};
-    ghost use Rattle.join_tables.specs.inside.Seated.{owing_view};
+    ghost use Rattle.join_tables.specs.inside.Seated.{IsSpent};
 
     ghost Value = { SpentState };
 
-    ghost view = { λ s. spent_state s.seat.table_id s.run };
+    ghost view = { λ s. spent_state s.seat.table_id s.outcome };
 
-    ghost invariant = { λ s. s.seat.me ≡ (owing_view s.run [], []) };
+    ghost invariant = { λ s. IsSpent s.outcome s.seat.me.0 × (s.seat.me.1 ≡ []) };
 }
 
 /// What collecting from one edge led to.
@@ -206,6 +209,17 @@ pub enum Admitted {
     Go(StartTicket),
     /// All starts were admitted.
     Over(Turn),
+    /// A start of the run has faulted.
+    Halted(Turn),
+}
+
+/// What taking a unit led to.
+#[derive(Drop)]
+pub enum UnitTake {
+    /// The turn has the unit.
+    Got(Turn),
+    /// There was none.
+    NoUnit(Turn),
 }
 
 /// What giving one edge led to.

@@ -1,5 +1,5 @@
 -- A task that doesn't choose may give all its edges, and a choice its first.
-use Rattle.std.proofs.Common.{◌≡◌, ℕ, zero, suc, ◌+◌, ◌<◌, ◌≤◌, Bool, List, [], ◌∷◌, length, Option, Some, None, true, false, sym, ap, ◌∙◌, subst, refl, inl, inr, ◌⊎◌, arith, get_or}
+use Rattle.std.proofs.Common.{◌≡◌, ℕ, zero, suc, ◌+◌, ◌<◌, ◌≤◌, Bool, List, [], ◌∷◌, length, Option, Some, None, true, false, sym, ap, ◌∙◌, subst, refl, inl, inr, arith, get_or}
 use Rattle.std.specs.Prelude.{◌==◌, slice_get, IsSomeAnd}
 use Rattle.std.specs.List.{AllByRecursion}
 use Rattle.std.proofs.lemmas.List.Elements.{recursion_from_All}
@@ -14,7 +14,7 @@ use Rattle.std.proofs.lemmas.Bool.Decides.{nat_tests}
 use Rattle.join_tables.specs.Giving.{one_if}
 use Rattle.journal_rules.specs.ChoiceRule.{GivesFit, InnerFits}
 use Rattle.journal_rules.proofs.NetLemmas.{places_below, counted_once}
-use Rattle.join_tables.specs.Giving.{MayGive, times}
+use Rattle.join_tables.specs.Giving.{MayGive}
 use Rattle.join_tables.proofs.Counting.{times_count}
 
 pub may_give_all : (net : NetRows) (t : ℕ) (row : TaskRow) → slice_get net.tasks t ≡ Some row → row.shape ≡ Plain → MayGive net t (out_edges net t) false

@@ -20,29 +20,37 @@ pub fn copied(alloc: Global, entries: &[Recorded]) -> Result<Option<Journal>, No
 fn copy_at(alloc: Global, entries: &[Recorded], place: u64) -> Result<Option<Entry>, NoMemory> {
     for recorded in entries {
         if recorded.place == place {
-            return copy(alloc, &recorded.entry);
+            return Ok(Some(copy(alloc, &recorded.entry)?));
         }
     }
     Ok(None)
 }
 
-// A copy of a Start or an End: a table makes no other entry.
-fn copy(alloc: Global, entry: &Entry) -> Result<Option<Entry>, NoMemory> {
-    match entry {
-        Entry::Start { task, cause, .. } => Ok(Some(Entry::Start {
+// A copy of an entry, whose inputs aren't told.
+fn copy(alloc: Global, entry: &Entry) -> Result<Entry, NoMemory> {
+    Ok(match entry {
+        Entry::Start { task, cause, .. } => Entry::Start {
             task: *task,
             cause: *cause,
             ins: List::new(alloc),
-        })),
+        },
         Entry::End {
             start,
             gives,
             inner,
-        } => Ok(Some(Entry::End {
+        } => Entry::End {
             start: *start,
             gives: gives.copy()?,
             inner: *inner,
-        })),
-        Entry::Fault { .. } | Entry::Drop { .. } => Ok(None),
-    }
+        },
+        Entry::Fault { start, why } => Entry::Fault {
+            start: *start,
+            why: *why,
+        },
+        Entry::Drop { task, cause, why } => Entry::Drop {
+            task: *task,
+            cause: *cause,
+            why: *why,
+        },
+    })
 }

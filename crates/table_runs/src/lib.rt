@@ -1,18 +1,25 @@
-//! Tests of `join_tables`, whose journals are held against the machine.
+//! Runs of `join_tables` by one thread and by several. They are no part of a program: they serve the tests of tables,
+//! which stand here, and whose journals are held against the machine or judged.
 #![tactic(auto)]
 
 mod copies;
+#[cfg(test)]
+mod crosswise;
 mod gives;
+mod needs;
 mod replay;
 #[cfg(test)]
 mod rings;
+#[cfg(test)]
+mod rings_limit;
 mod shelf;
 mod stepping;
 #[cfg(test)]
 mod threads;
 
-pub use gives::{all_edges, gives_of, no_edge};
 pub use copies::copied;
+pub use gives::{all_edges, gives_of, no_edge};
+pub use needs::{needs_both, needs_none};
 pub use replay::is_complete;
 pub use shelf::{Ran, Shelf, Turnout};
 pub use stepping::run_by;

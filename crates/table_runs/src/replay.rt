@@ -42,6 +42,7 @@ fn takes(machine: &mut Machine, entry: &Entry) -> Option<u64> {
             gives,
             inner,
         } => machine.end(*start, gives.as_slice(), *inner).ok(),
-        Entry::Fault { .. } | Entry::Drop { .. } => None,
+        Entry::Fault { start, why } => machine.fault(*start, *why).ok(),
+        Entry::Drop { task, cause, why } => machine.drop_release(*task, *cause, *why).ok(),
     }
 }

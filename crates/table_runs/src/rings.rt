@@ -1,8 +1,8 @@
 // Two rings that feed one task.
-ghost use Rattle.std.specs.Prelude.{◌≡◌, ◌<◌, IfOk, IfSome, false};
+ghost use Rattle.std.specs.Prelude.{◌≡◌, ◌<◌, IfOk, IfSome, None, [], false};
 ghost use Rattle.std.specs.Arc.{arc_value};
 
-use crate::{all_edges, is_complete, no_edge};
+use crate::{all_edges, is_complete, needs_none, no_edge};
 use join_tables::{
     Admitted, Collected, Collecting, Fresh, Gave, Keeper, NetTable, Opening, Owing, Remaining,
     Spent, Turn,
@@ -15,7 +15,7 @@ use std::test::Fail;
 use task_graph::{BuildError, Net, NetBuilder, Shape};
 
 // Tasks p, q and t; edges p to t and q to t, and a ring with a token at each of p and q.
-fn two_rings(alloc: Global) -> Result<Net, BuildError> {
+pub(crate) fn two_rings(alloc: Global) -> Result<Net, BuildError> {
     let mut builder = NetBuilder::new(alloc);
     builder.task(Shape::Plain, List::new(alloc), List::new(alloc))?;
     builder.task(Shape::Plain, List::new(alloc), List::new(alloc))?;
@@ -28,9 +28,9 @@ fn two_rings(alloc: Global) -> Result<Net, BuildError> {
 }
 
 // A release with one edge is taken up and has its token.
-fn take_up(rt: &impl Abort, table: &NetTable, fresh: Fresh) -> Result<Turn, Fail>
+pub(crate) fn take_up(rt: &impl Abort, table: &NetTable, fresh: Fresh) -> Result<Turn, Fail>
     requires { fresh.table ≡ table.now.table }
-    ensures { IfOk result (λ turn. (turn.table ≡ table.now.table) × (turn.refused ≡ false)) }
+    ensures { IfOk result (λ turn. (turn.table ≡ table.now.table) × (turn.refused ≡ None) × (turn.held ≡ [])) }
 {
     match table.collect(table.reset(fresh)) {
         Collected::Last(turn) => Ok(turn),
@@ -47,13 +47,13 @@ fn run(
     turn: Turn,
     gives_all: bool,
 ) -> Result<Owing, Fail>
-    requires table { (turn.table ≡ table.now.table) × (turn.refused ≡ false) }
+    requires table { (turn.table ≡ table.now.table) × (turn.refused ≡ None) × (turn.held ≡ []) }
     requires net { table.now.net ≡ net.now }
-    ensures { IfOk result (λ owing. owing.table ≡ table.now.table) }
+    ensures { IfOk result (λ owing. (owing.table ≡ table.now.table) × (owing.units ≡ [])) }
 {
     let task = turn.task();
-    if task as usize >= net.tasks().len() {
-        panic!(rt; "a task past the end");
+    if task as usize >= net.tasks().len() || !needs_none(net, task) {
+        panic!(rt; "a task past the end, or one that needs a unit");
     }
     let gives = if gives_all {
         all_edges(alloc, net, task)?
@@ -68,8 +68,8 @@ fn run(
 
 // The next edge releases nothing.
 fn goes_on(rt: &impl Abort, table: &NetTable, owing: Owing) -> Result<Owing, Fail>
-    requires { owing.table ≡ table.now.table }
-    ensures { IfOk result (λ next. next.table ≡ table.now.table) }
+    requires { (owing.table ≡ table.now.table) × (owing.units ≡ []) }
+    ensures { IfOk result (λ next. (next.table ≡ table.now.table) × (next.units ≡ [])) }
 {
     match table.give(owing) {
         Gave::Next(next) => Ok(next),
@@ -79,8 +79,8 @@ fn goes_on(rt: &impl Abort, table: &NetTable, owing: Owing) -> Result<Owing, Fai
 
 // The next edge releases a task.
 fn releases(rt: &impl Abort, table: &NetTable, owing: Owing) -> Result<(Owing, Fresh), Fail>
-    requires { owing.table ≡ table.now.table }
-    ensures { IfOk result (λ r. (r.0.table ≡ table.now.table) × (r.1.table ≡ table.now.table)) }
+    requires { (owing.table ≡ table.now.table) × (owing.units ≡ []) }
+    ensures { IfOk result (λ r. (r.0.table ≡ table.now.table) × (r.0.units ≡ []) × (r.1.table ≡ table.now.table)) }
 {
     match table.give(owing) {
         Gave::Released(next, fresh) => Ok((next, fresh)),
@@ -90,7 +90,7 @@ fn releases(rt: &impl Abort, table: &NetTable, owing: Owing) -> Result<(Owing, F
 
 // No edge is left.
 fn finishes(rt: &impl Abort, table: &NetTable, owing: Owing) -> Result<Spent, Fail>
-    requires { owing.table ≡ table.now.table }
+    requires { (owing.table ≡ table.now.table) × (owing.units ≡ []) }
     ensures { IfOk result (λ spent. spent.table ≡ table.now.table) }
 {
     match table.give(owing) {
@@ -100,7 +100,7 @@ fn finishes(rt: &impl Abort, table: &NetTable, owing: Owing) -> Result<Spent, Fa
 }
 
 // Takes in a run that is done, and says whether it was the last.
-fn absorbed(keeper: &mut Keeper, table: &NetTable, spent: Spent) -> Result<bool, Fail>
+pub(crate) fn absorbed(keeper: &mut Keeper, table: &NetTable, spent: Spent) -> Result<bool, Fail>
     requires { (keeper.old.table ≡ table.now.table) × (spent.table ≡ table.now.table) }
     ensures { keeper.new.table ≡ keeper.old.table }
 {
@@ -114,7 +114,7 @@ fn first_round(
     owing: Owing,
     releases_t: bool,
 ) -> Result<(Option<Fresh>, Fresh, Spent), Fail>
-    requires { owing.table ≡ table.now.table }
+    requires { (owing.table ≡ table.now.table) × (owing.units ≡ []) }
     ensures { IfOk result (λ r. IfSome r.0 (λ fresh. fresh.table ≡ table.now.table) × (r.1.table ≡ table.now.table) × (r.2.table ≡ table.now.table)) }
 {
     let (owing, t) = if releases_t {
@@ -129,9 +129,9 @@ fn first_round(
 }
 
 // A release with two edges has both tokens.
-fn take_both(rt: &impl Abort, table: &NetTable, fresh: Fresh) -> Result<Turn, Fail>
+pub(crate) fn take_both(rt: &impl Abort, table: &NetTable, fresh: Fresh) -> Result<Turn, Fail>
     requires { fresh.table ≡ table.now.table }
-    ensures { IfOk result (λ turn. (turn.table ≡ table.now.table) × (turn.refused ≡ false)) }
+    ensures { IfOk result (λ turn. (turn.table ≡ table.now.table) × (turn.refused ≡ None) × (turn.held ≡ [])) }
 {
     let more = match table.collect(table.reset(fresh)) {
         Collected::More(more) => more,
@@ -144,7 +144,7 @@ fn take_both(rt: &impl Abort, table: &NetTable, fresh: Fresh) -> Result<Turn, Fa
 }
 
 // A run of p or of q that gives both its edges: whether it released t, and the next release of its own.
-fn lap(
+pub(crate) fn lap(
     rt: &impl Abort,
     alloc: Global,
     table: &NetTable,
@@ -167,7 +167,7 @@ fn lap(
 }
 
 // A run that gives no edge: whether it was the last.
-fn stops(
+pub(crate) fn stops(
     rt: &impl Abort,
     alloc: Global,
     table: &NetTable,
@@ -175,7 +175,7 @@ fn stops(
     keeper: &mut Keeper,
     turn: Turn,
 ) -> Result<bool, Fail>
-    requires turn { (turn.table ≡ table.now.table) × (turn.refused ≡ false) }
+    requires turn { (turn.table ≡ table.now.table) × (turn.refused ≡ None) × (turn.held ≡ []) }
     requires keeper { keeper.old.table ≡ table.now.table }
     requires net { table.now.net ≡ net.now }
     ensures keeper { keeper.new.table ≡ keeper.old.table }
@@ -188,7 +188,7 @@ fn stops(
 // t has collected from its first edge and then from its second, which releases it again.
 fn meets(rt: &impl Abort, table: &NetTable, t: Collecting) -> Result<(Turn, Fresh), Fail>
     requires { t.table ≡ table.now.table }
-    ensures { IfOk result (λ r. (r.0.table ≡ table.now.table) × (r.0.refused ≡ false) × (r.1.table ≡ table.now.table)) }
+    ensures { IfOk result (λ r. (r.0.table ≡ table.now.table) × (r.0.refused ≡ None) × (r.0.held ≡ []) × (r.1.table ≡ table.now.table)) }
 {
     let t = match table.collect(t) {
         Collected::More(t) => t,
@@ -276,9 +276,6 @@ fn last_rounds(
 fn rings_meet(rt: HostRuntime) -> Result<(), Fail> {
     let alloc = rt.alloc();
     let net = Arc::new(alloc, two_rings(alloc)?)?;
-    if !net.sems().is_empty() {
-        panic!(rt; "a semaphore");
-    }
     let Opening {
         table,
         mut fresh,

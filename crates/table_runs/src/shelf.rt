@@ -1,14 +1,13 @@
 // What the threads of a run share.
 ghost use Rattle.std.specs.Prelude.{◌≡◌, IfSome, IfOk, All, true, length};
 
+use crate::copies::copied;
 use join_tables::{Fresh, Keeper, NetTable, Remaining, Spent};
 use journal_rules::Journal;
 use keyed_lock::Keyed;
 use outside_io::NoMemory;
 use std::alloc::Global;
 use std::marker::Model;
-
-use crate::copies::copied;
 
 /// The releases that no thread has taken, and the keeper of the run.
 #[derive(Drop)]

@@ -1,9 +1,10 @@
 // Threads that step a table over one list.
-ghost use Rattle.std.specs.Prelude.{◌≡◌, ◌≤◌, [], IfOk, IfSome, false};
+ghost use Rattle.std.specs.Prelude.{◌≡◌, ◌≤◌, [], None, IfOk, IfSome};
 ghost use Rattle.std.specs.Arc.{arc_value};
 ghost use Rattle.keyed_lock.specs.Locks.{made_with};
 
 use crate::gives::gives_of;
+use crate::needs::needs_none;
 use crate::shelf::{Ran, Shelf, Turnout};
 use join_tables::{
     Admitted, Collected, Collecting, Fresh, Gave, NetTable, Opening, Owing, Spent, Turn,
@@ -35,8 +36,7 @@ pub fn run_by<R: Threads + Wait + Sync>(
     gives: u64,
     threads: usize,
 ) -> Result<Option<Ran>, NoMemory>
-    requires limit { limit ≤ 2097153 }
-    requires no_semaphores { (arc_value net.now).sems ≡ [] }
+    requires { limit ≤ 2097153 }
 {
     let opening = NetTable::new(alloc, Arc::try_clone(net)?, limit)?;
     let Opening {
@@ -66,7 +66,12 @@ fn step_together<R: Threads + Wait + Sync>(
         hands.push(hand)?;
     }
     let count = threads.max(1);
-    for_each_mut(rt, &mut hands, count, &|_, _: &mut usize| { shared.step_all(rt, alloc) });
+    for_each_mut(
+        rt,
+        &mut hands,
+        count,
+        &|_, _: &mut usize| { shared.step_all(rt, alloc) },
+    );
     Ok(())
 }
 
@@ -107,7 +112,7 @@ impl Shared {
     // Collects all tokens, and adds the release that they make again.
     fn collect_all<R: Wait>(&self, rt: &R, collecting: Collecting) -> Turn
         requires { collecting.table ≡ self.now.table.table }
-        ensures { (result.table ≡ self.now.table.table) × (result.refused ≡ false) }
+        ensures { (result.table ≡ self.now.table.table) × (result.refused ≡ None) × (result.held ≡ []) }
     {
         match self.table.collect(collecting) {
             Collected::More(more) => self.collect_all(rt, more),
@@ -121,11 +126,11 @@ impl Shared {
 
     // Starts a task and ends it, or is refused.
     fn run(&self, alloc: Global, turn: Turn, gives: bool) -> Result<Option<Owing>, NoMemory>
-        requires { (turn.table ≡ self.now.table.table) × (turn.refused ≡ false) }
-        ensures { IfOk result (λ owing. IfSome owing (λ o. o.table ≡ self.now.table.table)) }
+        requires { (turn.table ≡ self.now.table.table) × (turn.refused ≡ None) × (turn.held ≡ []) }
+        ensures { IfOk result (λ owing. IfSome owing (λ o. (o.table ≡ self.now.table.table) × (o.units ≡ []))) }
     {
         let task = turn.task();
-        if task as usize >= self.net.tasks().len() {
+        if task as usize >= self.net.tasks().len() || !needs_none(&self.net, task) {
             return Err(NoMemory);
         }
         let Admitted::Go(ticket) = self.table.admit(turn) else {
@@ -140,7 +145,7 @@ impl Shared {
 
     // Gives all edges that an end owes, and adds the releases that this makes.
     fn give_all<R: Wait>(&self, rt: &R, owing: Owing) -> Spent
-        requires { owing.table ≡ self.now.table.table }
+        requires { (owing.table ≡ self.now.table.table) × (owing.units ≡ []) }
         ensures { result.table ≡ self.now.table.table }
     {
         match self.table.give(owing) {

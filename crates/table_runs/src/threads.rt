@@ -1,6 +1,5 @@
 // Runs by two and by four threads, whose journals are judged.
-ghost use Rattle.std.specs.Prelude.{◌≡◌, ◌≤◌, []};
-ghost use Rattle.std.specs.Arc.{arc_value};
+ghost use Rattle.std.specs.Prelude.{◌≤◌};
 
 use crate::run_by;
 use legal_run::{Verdict, judge};
@@ -67,8 +66,8 @@ const LOOP: Case<'static> = Case {
     rings: &[],
 };
 
-// Makes a run by two and by four threads, in which so many runs give their edges, and judges each journal: it is
-// complete where no release was refused at the limit, and there are as many starts as the limit where one was.
+// Makes a run by two and by four threads, in which so many runs give their edges, and judges each journal. Where no run
+// comes to the limit it is complete; else it is legal as far as it goes, and has as many starts as the limit.
 fn often<R: Threads + Wait + Abort + Sync>(
     rt: &R,
     alloc: Global,
@@ -79,9 +78,6 @@ fn often<R: Threads + Wait + Abort + Sync>(
     requires { limit ≤ 2097153 }
 {
     let net = Arc::new(alloc, built(alloc, case)?)?;
-    if !net.sems().is_empty() {
-        panic!(rt; "a semaphore");
-    }
     for _ in 0..TIMES {
         once(rt, alloc, &net, limit, gives, 2)?;
         once(rt, alloc, &net, limit, gives, 4)?;
@@ -97,12 +93,12 @@ fn once<R: Threads + Wait + Abort + Sync>(
     gives: u64,
     threads: usize,
 ) -> Result<(), Fail>
-    requires limit { limit ≤ 2097153 }
-    requires no_semaphores { (arc_value net.now).sems ≡ [] }
+    requires { limit ≤ 2097153 }
 {
     let Some(ran) = run_by(rt, alloc, net, limit, gives, threads)? else {
         panic!(rt; "a place without an entry");
     };
+    assert_eq!(rt; ran.is_whole, limit == MANY);
     let verdict = judge(alloc, net, limit, &ran.journal)?;
     if ran.is_whole {
         assert_eq!(rt; ran.refused, 0);

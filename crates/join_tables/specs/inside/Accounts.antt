@@ -335,5 +335,14 @@ with_live w n = record { clock = w.clock; live = n; admitted = w.admitted; halt 
 abbrev pub with_admitted : Readings → ℕ → Readings
 with_admitted w n = record { clock = w.clock; live = w.live; admitted = n; halt = w.halt; unit = w.unit; credit = w.credit; edge = w.edge; join = w.join }
 
+abbrev pub with_halt : Readings → ℕ → Readings
+with_halt w n = record { clock = w.clock; live = w.live; admitted = w.admitted; halt = n; unit = w.unit; credit = w.credit; edge = w.edge; join = w.join }
+
+abbrev pub with_unit : Readings → (ℕ → ℕ) → Readings
+with_unit w f = record { clock = w.clock; live = w.live; admitted = w.admitted; halt = w.halt; unit = f; credit = w.credit; edge = w.edge; join = w.join }
+
+abbrev pub with_credit : Readings → (ℕ → ℕ) → Readings
+with_credit w f = record { clock = w.clock; live = w.live; admitted = w.admitted; halt = w.halt; unit = w.unit; credit = f; edge = w.edge; join = w.join }
+
 abbrev pub with_tokens : Readings → (ℕ → ℕ) → (ℕ → ℕ) → Readings
 with_tokens w f g = record { clock = w.clock; live = w.live; admitted = w.admitted; halt = w.halt; unit = w.unit; credit = w.credit; edge = f; join = g }

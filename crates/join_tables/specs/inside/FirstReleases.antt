@@ -1,5 +1,5 @@
 -- The releases with which a run begins, and the words of its table.
-use Rattle.std.specs.Prelude.{◌≡◌, ◌<◌, ◌-◌, ◌+◌, ◌==◌, ℕ, zero, suc, Bool, true, false, nat_lt, List, [], ◌∷◌, ◌++◌, length, slice_index, map, if◌then◌else◌}
+use Rattle.std.specs.Prelude.{◌≡◌, ◌<◌, ◌≤◌, ◌-◌, ◌+◌, ◌==◌, ℕ, zero, suc, Bool, true, false, nat_lt, List, [], ◌∷◌, ◌++◌, length, slice_index, map, if◌then◌else◌}
 use Rattle.task_graph.specs.NetRows.{NetRows}
 use Rattle.task_graph.specs.Net.{IsNet, in_edges, strong_in}
 use Rattle.journal_rules.specs.Counts.{first_tokens}
@@ -13,7 +13,8 @@ use Rattle.join_tables.specs.declared.view.Note.TheVariants.{Duty, Has}
 use Rattle.join_tables.specs.declared.view.Item.{Item}
 use Rattle.join_tables.specs.declared.view.Item.TheVariants.{Fresh}
 use Rattle.join_tables.specs.inside.Opening.{bare, is_empty, source_items, full_items}
-use Rattle.join_tables.specs.inside.Accounts.{mark, busy, resting, weigh}
+use Rattle.journal_rules.specs.SemaphoreRule.{max_of}
+use Rattle.join_tables.specs.inside.Accounts.{mark, busy, resting, weigh, edges_from, first_credit}
 
 -- whether a task has strong in-edges, and all of them begin with a token
 abbrev pub is_full : List ℕ → ℕ → Bool
@@ -46,13 +47,16 @@ states_of n rs = map (λ (r : Release). fresh_state n r.task r.cause) rs
 abbrev pub opening_word : NetRows → ℕ → ℕ → ℕ
 opening_word net live k =
     if nat_lt k 40 then (if k == 16 then live else 0)
-    else if nat_lt (k - 40) (length net.edges) then first_tokens net (k - 40)
-    else bare net (strong_in net (k - 40 - length net.edges))
+    else if nat_lt k (40 + length net.sems) then 0
+    else if nat_lt k (edges_from net) then first_credit
+    else if nat_lt (k - edges_from net) (length net.edges) then first_tokens net (k - edges_from net)
+    else bare net (strong_in net (k - edges_from net - length net.edges))
 
 -- the words at first
 pub record AreOpeningWords (net : NetRows) (live : ℕ) (words : List ℕ) : Type 0 where
   pub rows : IsNet net
-  pub size : length words ≡ 40 + length net.edges + length net.tasks
+  pub maxima : (s : ℕ) → max_of net s ≤ 4294967295
+  pub size : length words ≡ edges_from net + length net.edges + length net.tasks
   pub each : (k : ℕ) → k < length words → slice_index words k ≡ opening_word net live k
 
 -- the keeper's seat has a release to deal out next

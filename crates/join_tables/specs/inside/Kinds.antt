@@ -9,13 +9,15 @@ use Rattle.join_tables.specs.declared.view.Item.{Item}
 use Rattle.join_tables.specs.declared.view.Item.TheVariants.{Told, Fresh, Collecting, Ticket, Open, Owes, Counting}
 use Rattle.join_tables.specs.declared.view.Mark.TheVariants.{Live, New, Over}
 use Rattle.join_tables.specs.declared.view.Note.{Note}
-use Rattle.join_tables.specs.declared.view.Note.TheVariants.{Duty, Has}
+use Rattle.join_tables.specs.declared.view.Kind.TheVariants.{Held, Both, Owed}
+use Rattle.join_tables.specs.declared.view.Note.TheVariants.{Duty, Sems, Has}
 use Rattle.join_tables.specs.inside.Accounts.{duty, mark, busy, resting, telling, weigh, AllStand}
 use Rattle.journal_rules.specs.declared.entry.Entry.{Entry}
 use Rattle.journal_rules.specs.ShapeLegal.{ShapeLegal}
 use Rattle.journal_rules.specs.Complete.{Complete}
 use Rattle.join_tables.specs.inside.Items.{place, after_take}
 use Rattle.join_tables.specs.Giving.{times, target, MayGive}
+use Rattle.join_tables.specs.Holding.{HoldsAll, PutsAll}
 
 -- the rest of a view, of a turn that is no rest
 abbrev pub Lone : List Note → Type 0
@@ -137,22 +139,24 @@ abbrev pub admitted : ℕ → ℕ → List Note → List Note
 admitted limit n (Duty x ∷ Has Live ∷ rest) = admitted_notes (nat_lt n limit) x ++ rest
 admitted limit n notes = notes
 
--- START DRAWN, of a net without semaphores
-abbrev pub MayStart : List Note → Type 0
-MayStart (Duty (Collecting t cause taken []) ∷ Duty Ticket ∷ Has Live ∷ rest) = Lone rest
-MayStart _ = ⊥
+-- START DRAWN, of a task that puts just what it takes. The units that the turn holds are out.
+abbrev pub MayStart : NetRows → List Note → Type 0
+MayStart net (Duty (Collecting t cause taken []) ∷ Duty Ticket ∷ Has Live ∷ []) = HoldsAll net t [] × PutsAll net t
+MayStart net (Duty (Collecting t cause taken []) ∷ Duty Ticket ∷ Has Live ∷ Sems Held (b ∷ l) ∷ rest) = HoldsAll net t (b ∷ l) × PutsAll net t × Lone rest
+MayStart net _ = ⊥
 
 abbrev pub started : ℕ → List Note → List Note
-started n (Duty (Collecting t cause taken left) ∷ Duty Ticket ∷ Has Live ∷ rest) = Duty (Open n t) ∷ Has Live ∷ Duty (Told n (Start t cause [])) ∷ rest
+started n (Duty (Collecting t cause taken left) ∷ Duty Ticket ∷ Has Live ∷ []) = Duty (Open n t) ∷ Has Live ∷ Sems Both [] ∷ Duty (Told n (Start t cause [])) ∷ []
+started n (Duty (Collecting t cause taken left) ∷ Duty Ticket ∷ Has Live ∷ Sems Held l ∷ rest) = Duty (Open n t) ∷ Has Live ∷ Sems Both l ∷ Duty (Told n (Start t cause [])) ∷ rest
 started n notes = notes
 
--- END DRAWN, of a net without semaphores
+-- END DRAWN, of such a task. It owes the units.
 abbrev pub MayEnd : NetRows → List ℕ → Bool → List Note → Type 0
-MayEnd net gives inner (Duty (Open m t) ∷ Has Live ∷ rest) = MayGive net t gives inner × Lone rest
+MayEnd net gives inner (Duty (Open m t) ∷ Has Live ∷ Sems Both l ∷ rest) = MayGive net t gives inner × HoldsAll net t l × PutsAll net t × Lone rest
 MayEnd net gives inner _ = ⊥
 
 abbrev pub ended : List ℕ → Bool → ℕ → List Note → List Note
-ended gives inner n (Duty (Open m t) ∷ Has Live ∷ rest) = Duty (Owes gives) ∷ Has Live ∷ Duty (Told n (End m gives inner)) ∷ rest
+ended gives inner n (Duty (Open m t) ∷ Has Live ∷ Sems Both l ∷ rest) = Duty (Owes gives) ∷ Has Live ∷ Sems Owed l ∷ Duty (Told n (End m gives inner)) ∷ rest
 ended gives inner n notes = notes
 
 -- JOIN. The keeper's seat takes in the notes of a turn.

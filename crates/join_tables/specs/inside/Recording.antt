@@ -9,5 +9,11 @@ abbrev pub told_after : List Note → List Recorded → List Note
 told_after notes [] = notes
 told_after notes (r ∷ rs) = told_after (Duty (Told r.place r.entry) ∷ notes) rs
 
+-- the entries that a seat knows, without what it knows besides
+abbrev pub tellings : List Note → List Note
+tellings [] = []
+tellings (Duty (Told n x) ∷ rest) = Duty (Told n x) ∷ tellings rest
+tellings (note ∷ rest) = tellings rest
+
 abbrev pub told_notes : List Recorded → List Note
 told_notes entries = told_after [] entries

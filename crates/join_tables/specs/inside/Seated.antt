@@ -1,13 +1,21 @@
 -- What the seat of each turn knows.
-use Rattle.std.specs.Prelude.{◌≡◌, ℕ, Bool, true, false, List, [], ◌∷◌}
+use Rattle.std.specs.Prelude.{◌≡◌, ℕ, List, [], ◌∷◌, ◌++◌, Option, Some, None}
 use Rattle.journal_rules.specs.declared.entry.Cause.{Cause}
+use Rattle.journal_rules.specs.declared.entry.DropWhy.{DropWhy}
+use Rattle.journal_rules.specs.declared.entry.DropWhy.TheVariants.{Limit, Halted as AfterFault}
 use Rattle.journal_rules.specs.declared.entry.Entry.TheVariants.{Start, End}
 use Rattle.join_tables.specs.declared.view.Item.TheVariants.{Told, Fresh, Collecting, Ticket, Open, Owes}
-use Rattle.join_tables.specs.declared.view.Mark.TheVariants.{Live, New, Over}
+use Rattle.join_tables.specs.declared.view.Mark.TheVariants.{Live, New, Over, Halted}
 use Rattle.join_tables.specs.declared.view.Note.{Note}
-use Rattle.join_tables.specs.declared.view.Note.TheVariants.{Duty, Has}
+use Rattle.join_tables.specs.declared.view.Kind.TheVariants.{Held, Both, Owed}
+use Rattle.join_tables.specs.declared.view.Note.TheVariants.{Duty, Sems, Has}
 use Rattle.join_tables.specs.declared.turns.Run.{Run}
+use Rattle.join_tables.specs.declared.outcomes.Outcome.{Outcome}
 use Rattle.join_tables.specs.inside.Kinds.{IsTurn}
+use Rattle.join_tables.specs.inside.Accounts.{busy, weigh}
+use Rattle.join_tables.specs.inside.UnitKinds.{held_notes}
+use Rattle.join_tables.specs.inside.Recording.{tellings, told_notes}
+use Rattle.join_tables.specs.Keeping.{entries_of}
 
 abbrev pub fresh_view : ℕ → Cause → List Note
 fresh_view t cause = Duty (Fresh t cause) ∷ Has Live ∷ []
@@ -24,26 +32,52 @@ abbrev pub left_in : List Note → List ℕ
 left_in (Duty (Collecting t cause taken left) ∷ rest) = left
 left_in _ = []
 
-abbrev pub turn_mark : Bool → Note
-turn_mark true = Has Over
-turn_mark false = Has Live
+-- what a turn knows of a refusal
+abbrev pub refusal_notes : Option DropWhy → List Note
+refusal_notes (Some Limit) = Has Over ∷ []
+refusal_notes (Some AfterFault) = Has Live ∷ Has Halted ∷ []
+refusal_notes _ = Has Live ∷ []
 
-abbrev pub turn_view : ℕ → Cause → List ℕ → Bool → List Note
-turn_view t cause taken refused = Duty (Collecting t cause taken []) ∷ turn_mark refused ∷ []
+abbrev pub turn_view : ℕ → Cause → List ℕ → Option DropWhy → List ℕ → List Note
+turn_view t cause taken refused held = Duty (Collecting t cause taken []) ∷ refusal_notes refused ++ held_notes held
 
--- whether a turn was refused at the limit
-abbrev pub is_refused : List Note → Bool
-is_refused (x ∷ Has Over ∷ rest) = true
-is_refused _ = false
+-- why a turn was refused
+abbrev pub refusal_of : List Note → Option DropWhy
+refusal_of (x ∷ Has Over ∷ rest) = Some Limit
+refusal_of (x ∷ Has Live ∷ Has Halted ∷ rest) = Some AfterFault
+refusal_of _ = None
 
-abbrev pub ticket_view : ℕ → Cause → List ℕ → List Note
-ticket_view t cause taken = Duty (Collecting t cause taken []) ∷ Duty Ticket ∷ Has Live ∷ []
+-- and of which semaphores it holds units
+abbrev pub first_held : List Note → List ℕ
+first_held (Sems Held l ∷ rest) = l
+first_held _ = []
 
-abbrev pub running_view : ℕ → Cause → ℕ → List Note
-running_view t cause place = Duty (Open place t) ∷ Has Live ∷ Duty (Told place (Start t cause [])) ∷ []
+abbrev pub held_of : List Note → List ℕ
+held_of (x ∷ Has Over ∷ rest) = first_held rest
+held_of (x ∷ Has Live ∷ Has Halted ∷ rest) = first_held rest
+held_of (x ∷ Has Live ∷ rest) = first_held rest
+held_of (x ∷ y ∷ Has Live ∷ rest) = first_held rest
+held_of _ = []
 
-abbrev pub owing_view : Run → List ℕ → List Note
-owing_view run left = Duty (Owes left) ∷ Has Live ∷ Duty (Told run.place (End run.start run.gives run.inner)) ∷ Duty (Told run.start (Start run.task run.cause [])) ∷ []
+abbrev pub ticket_view : ℕ → Cause → List ℕ → List ℕ → List Note
+ticket_view t cause taken held = Duty (Collecting t cause taken []) ∷ Duty Ticket ∷ Has Live ∷ held_notes held
+
+abbrev pub running_view : ℕ → Cause → ℕ → List ℕ → List Note
+running_view t cause place units = Duty (Open place t) ∷ Has Live ∷ Sems Both units ∷ Duty (Told place (Start t cause [])) ∷ []
+
+-- the semaphores of the units that a start's end gives back, or an end has to
+abbrev pub units_of : List Note → List ℕ
+units_of (x ∷ y ∷ Sems Both l ∷ rest) = l
+units_of (x ∷ y ∷ Sems Owed l ∷ rest) = l
+units_of _ = []
+
+abbrev pub owing_view : Run → List ℕ → List ℕ → List Note
+owing_view run left units = Duty (Owes left) ∷ Has Live ∷ Sems Owed units ∷ Duty (Told run.place (End run.start run.gives run.inner)) ∷ Duty (Told run.start (Start run.task run.cause [])) ∷ []
+
+-- one that is done owes nothing, and knows the entries of its outcome
+abbrev pub IsSpent : Outcome → List Note → Type 0
+IsSpent outcome (Duty (Owes []) ∷ Has Live ∷ rest) = (tellings rest ≡ told_notes (entries_of outcome)) × (weigh busy rest ≡ 0)
+IsSpent outcome _ = ⊥
 
 -- a seat owes this edge next
 abbrev pub OwesFirst : ℕ → List Note → Type 0

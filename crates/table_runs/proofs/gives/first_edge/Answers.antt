@@ -1,4 +1,4 @@
-use Rattle.std.proofs.Common.{rules, ◌≡◌, ◌≤◌, List, [], ◌∷◌, length, get_or}
+use Rattle.std.proofs.Common.{rules, ◌≡◌, ◌≤◌, [], ◌∷◌, length, get_or}
 use Rattle.task_graph.specs.Net.{out_edges}
 use Rattle.table_runs.proofs.Giving.{may_give_first}
 use Rattle.table_runs.proofs.gives.first_edge.Goals as goal

@@ -1,4 +1,4 @@
-use Rattle.std.proofs.Common.{rules, ◌≡◌, [], sym, ap, ◌∙◌}
+use Rattle.std.proofs.Common.{rules, ◌≡◌, sym, ap, ◌∙◌}
 use Rattle.task_graph.specs.declared.net.Shape.TheVariants.{Plain}
 use Rattle.task_graph.specs.declared.net.TaskRow.{TaskRow}
 use Rattle.table_runs.proofs.Giving.{may_give_none}

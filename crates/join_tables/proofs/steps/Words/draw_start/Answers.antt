@@ -1,4 +1,5 @@
-use Rattle.std.proofs.Common.{rules, ◌≡◌, sym, ap, ◌∙◌, ◌+◌, [], arith}
+use Rattle.std.proofs.Common.{rules, ◌≡◌, subst, ◌+◌, arith}
+use Rattle.join_tables.specs.inside.Kinds.{MayStart}
 use Rattle.std.specs.Prelude.{length}
 use Rattle.std.specs.Arc.{arc_value}
 use Rattle.task_graph.specs.NetRows.{NetRows}
@@ -12,7 +13,4 @@ fetch_add-requires c =
     let sized : c.args.self.now.table.shared.table_id.words ≡ edges_from (arc_value c.args.self.now.net) + length (arc_value c.args.self.now.net).edges + length (arc_value c.args.self.now.net).tasks = search rules in
     let net = arc_value c.args.self.now.table.shared.key.net in let limit = c.args.self.now.table.shared.key.limit in let me = c.args.seat.now.me in
     let slots = c.args.self.now.table.shared.table_id.slots in let id = c.args.seat.now.id in
-    let no_sems : (arc_value c.args.self.now.net).sems ≡ [] = search rules in
-    let none : (net.sems ≡ []) = ap (λ (n : NetRows). n.sems) (sym same) ∙ no_sems in
-    let many : length net.sems ≡ 0 = ap length none in
-    (search rules, omega (arith, sized), start_allowed _ _ _ _ _ none c.requires.ready)
+    (search rules, omega (arith, sized), start_allowed _ _ _ _ _ (subst (λ (n : NetRows). MayStart n me.0) same c.requires.ready))

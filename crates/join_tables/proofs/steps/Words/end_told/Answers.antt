@@ -1,4 +1,4 @@
-use Rattle.std.proofs.Common.{rules, ◌≡◌, subst, sym, ap, ◌∙◌, ◌+◌, [], arith}
+use Rattle.std.proofs.Common.{rules, ◌≡◌, subst, ◌+◌, arith}
 use Rattle.std.specs.Prelude.{length}
 use Rattle.std.specs.Arc.{arc_value}
 use Rattle.task_graph.specs.NetRows.{NetRows}
@@ -13,7 +13,4 @@ fetch_add-requires g c =
     let sized : c.args.self.now.table.shared.table_id.words ≡ edges_from (arc_value c.args.self.now.net) + length (arc_value c.args.self.now.net).edges + length (arc_value c.args.self.now.net).tasks = search rules in
     let net = arc_value c.args.self.now.table.shared.key.net in let limit = c.args.self.now.table.shared.key.limit in let me = c.args.seat.now.me in
     let slots = c.args.self.now.table.shared.table_id.slots in let id = c.args.seat.now.id in
-    let no_sems : (arc_value c.args.self.now.net).sems ≡ [] = search rules in
-    let none : (net.sems ≡ []) = ap (λ (n : NetRows). n.sems) (sym same) ∙ no_sems in
-    let many : length net.sems ≡ 0 = ap length none in
-    (search rules, omega (arith, sized), end_allowed _ _ _ _ _ g.A.Told.gives g.A.Told.inner none (subst (λ (n : NetRows). MayEnd n g.A.Told.gives g.A.Told.inner me.0) same c.requires.ready))
+    (search rules, omega (arith, sized), end_allowed _ _ _ _ _ g.A.Told.gives g.A.Told.inner (subst (λ (n : NetRows). MayEnd n g.A.Told.gives g.A.Told.inner me.0) same c.requires.ready))

@@ -12,7 +12,7 @@ of_words-requires c =
     let first : items_of c.in_ok-releases.releases.items ≡ first_items net 0 (length net.tasks) = search rules in
     let live : c.len.result ≡ length c.in_ok-releases.releases.items = search rules in
     let words : AreOpeningWords net c.len.result c.as_slice.result.now = search rules in
-    begins_table net c.args.limit c.len.result c.as_slice.result.now words.rows c.requires.limit c.requires.no_semaphores (live_is net c.in_ok-releases.releases.items c.len.result live first) words
+    begins_table net c.args.limit c.len.result c.as_slice.result.now c.requires.limit (live_is net c.in_ok-releases.releases.items c.len.result live first) words
 
 pub returns : goal.returns
 returns c =
@@ -27,6 +27,6 @@ returns c =
       limit_is = search rules;
       fresh = is_first_fresh c.in_ok-table.table.shared.table_id net rs c.in_ok-fresh.fresh.items dealt first;
       of_table = all_of_table c.in_ok-table.table.shared.table_id rs c.in_ok-fresh.fresh.items dealt;
-      nothing = nothing_runs net c.args.limit c.len.result c.as_slice.result.now rs c.in_ok-table.table.shared.table_id c.in_ok-fresh.fresh.items words.rows c.requires.limit c.requires.no_semaphores live first words dealt;
+      nothing = nothing_runs net c.args.limit c.len.result c.as_slice.result.now rs c.in_ok-table.table.shared.table_id c.in_ok-fresh.fresh.items c.requires.limit live first words dealt;
       keeper = search rules;
     }

@@ -1,0 +1,157 @@
+-- What contracts of tables say, line by line, computed on a small net.
+use Rattle.std.proofs.Common.{◌≡◌, ◌≢◌, ℕ, ◌<◌, ◌≤◌, true, false, [], ◌∷◌, Some, None, refl, ap, arith}
+use Rattle.std.specs.Prelude.{IsSomeAnd}
+use Rattle.task_graph.specs.declared.net.Shape.{Shape}
+use Rattle.task_graph.specs.declared.net.Shape.TheVariants.{Plain, Choice}
+use Rattle.task_graph.specs.declared.net.TaskRow.{TaskRow}
+use Rattle.task_graph.specs.declared.net.EdgeRow.{EdgeRow}
+use Rattle.task_graph.specs.NetRows.{NetRows}
+use Rattle.atomic_table.specs.Seated.{TableId}
+use Rattle.journal_rules.specs.declared.entry.Cause.TheVariants.{Source, Strong, Weak}
+use Rattle.journal_rules.specs.declared.entry.Entry.TheVariants.{Start, End}
+use Rattle.join_tables.specs.declared.turns.Collected.TheVariants.{More, Last, LastAgain}
+use Rattle.join_tables.specs.declared.turns.Gave.TheVariants.{Next, Released, Finished}
+use Rattle.join_tables.specs.declared.turns.Admitted.TheVariants.{Go, Over}
+use Rattle.join_tables.specs.declared.turns.Run.{Run}
+use Rattle.join_tables.specs.declared.keeper.Remaining.TheVariants.{More as TurnsLeft, All as NoneLeft}
+use Rattle.join_tables.specs.Giving.{times, target, MayGive}
+use Rattle.join_tables.specs.States.{FreshState, CollectingState, TurnState, AdmittedState, RunningState, OwingState, SpentState, fresh_state}
+use Rattle.join_tables.specs.FirstCauses.{begin_full, first_causes, first_fresh}
+use Rattle.join_tables.specs.Turns.{CollectsFrom, Admits, EndsAs, GivesNext, cause_by}
+use Rattle.join_tables.specs.Keeping.{entries_of, Merges, LeavesOf}
+
+abbrev free : Shape → TaskRow
+free shape = record { shape = shape; takes = []; puts = [] }
+
+abbrev edge : ℕ → ℕ → EdgeRow
+edge from to = record { from = from; to = to; start = false }
+
+-- Task 0 leads to task 1. Task 2 leads to itself by edge 1, which begins with a token. Task 1 leads to the Choice 3,
+-- which leads to tasks 1 and 4 by the weak edges 3 and 4.
+abbrev net : NetRows
+net = record {
+  tasks = free Plain ∷ free Plain ∷ free Plain ∷ free Choice ∷ free Plain ∷ [];
+  edges = edge 0 1 ∷ record { from = 2; to = 2; start = true } ∷ edge 1 3 ∷ edge 3 1 ∷ edge 3 4 ∷ [];
+  sems = [];
+}
+
+-- FIRST RELEASES
+source_is_first : first_causes net 0 ≡ Source ∷ []
+source_is_first = refl
+
+edge_without_a_token_waits : first_causes net 1 ≡ []
+edge_without_a_token_waits = refl
+
+edge_with_a_token_is_first : first_causes net 2 ≡ Strong ∷ []
+edge_with_a_token_is_first = refl
+
+weak_edge_is_no_first : first_causes net 4 ≡ []
+weak_edge_is_no_first = refl
+
+one_bare_edge_waits : begin_full net (1 ∷ 0 ∷ []) ≡ false
+one_bare_edge_waits = refl
+
+by_rising_task : (n : TableId) → first_fresh n net 0 5 ≡ fresh_state n 0 Source ∷ fresh_state n 2 Strong ∷ []
+by_rising_task n = refl
+
+-- WHAT ENDS GIVE
+named_often : times 2 (2 ∷ 1 ∷ 2 ∷ []) ≡ 2
+named_often = refl
+
+leads_to : target net 4 ≡ 4
+leads_to = refl
+
+no_edge_leads : target net 5 ≡ 0
+no_edge_leads = refl
+
+no_edge_twice : MayGive net 3 (3 ∷ 3 ∷ []) false → ⊥
+no_edge_twice may = omega (arith, may.once 3)
+
+no_edge_past_the_end : MayGive net 3 (5 ∷ []) false → ⊥
+no_edge_past_the_end may = omega (arith, may.in_range.0)
+
+weak_cause : cause_by net 3 ≡ Weak 3
+weak_cause = refl
+
+strong_cause : cause_by net 0 ≡ Strong
+strong_cause = refl
+
+-- COLLECTING
+more_where_one_is_left : (c d : CollectingState) → CollectsFrom c (0 ∷ 1 ∷ []) (More d) → d.left ≡ 1 ∷ []
+more_where_one_is_left c d h = ap (λ (s : CollectingState). s.left) h
+
+no_more_after_the_last : (c d : CollectingState) → CollectsFrom c (0 ∷ []) (More d) → ⊥
+no_more_after_the_last c d h = h
+
+no_last_before_the_last : (c : CollectingState) (t : TurnState) → CollectsFrom c (0 ∷ 1 ∷ []) (Last t) → ⊥
+no_last_before_the_last c t h = h
+
+not_again_before_the_last : (c : CollectingState) (t : TurnState) (f : FreshState) → CollectsFrom c (0 ∷ 1 ∷ []) (LastAgain t f) → ⊥
+not_again_before_the_last c t f h = h
+
+again_where_one_was_found : (c : CollectingState) (t : TurnState) (f : FreshState) → CollectsFrom c (0 ∷ []) (LastAgain t f) → (t.found ≡ Some 1) × (f.cause ≡ Strong) × (f.task ≡ c.task)
+again_where_one_was_found c t f h = (ap (λ (s : TurnState). s.found) h.0, ap (λ (s : FreshState). s.cause) h.1, ap (λ (s : FreshState). s.task) h.1)
+
+last_where_another_was_found : (c : CollectingState) (t : TurnState) → CollectsFrom c (0 ∷ []) (Last t) → t.found ≢ Some 1
+last_where_another_was_found c t h = h.1
+
+nothing_is_found_without_an_edge : (c : CollectingState) (t : TurnState) → CollectsFrom c [] (Last t) → t.found ≡ None
+nothing_is_found_without_an_edge c t h = ap (λ (s : TurnState). s.found) h
+
+-- ADMISSIONS
+go_below_the_limit : (t : TurnState) (ticket : AdmittedState) → Admits 5 t (Go ticket) → ticket.drawn < 5
+go_below_the_limit t ticket h = h.1
+
+over_from_the_limit_on : (t u : TurnState) → Admits 5 t (Over u) → IsSomeAnd u.found (λ n. 5 ≤ n)
+over_from_the_limit_on t u h = h.1
+
+over_is_refused : (t u : TurnState) → Admits 5 t (Over u) → u.refused ≡ true
+over_is_refused t u h = ap (λ (s : TurnState). s.refused) h.0
+
+-- ENDS
+end_of_its_start : (r : RunningState) (run : Run) → EndsAs r (3 ∷ []) false run → (run.start ≡ r.place) × (run.gives ≡ 3 ∷ [])
+end_of_its_start r run h = (h.2, h.3)
+
+-- GIVING
+next_where_another_was_found : (o p : OwingState) → GivesNext net o (0 ∷ 2 ∷ []) (Next p) → p.found ≢ Some 1
+next_where_another_was_found o p h = h.2
+
+weak_edge_always_releases : (o p : OwingState) → GivesNext net o (3 ∷ []) (Next p) → ⊥
+weak_edge_always_releases o p h = let no : true ≡ false = h.0 in absurd (cc)
+
+released_where_one_was_found : (o p : OwingState) (f : FreshState) → GivesNext net o (0 ∷ []) (Released p f) → (p.found ≡ Some 1) × (f.task ≡ 1) × (f.cause ≡ Strong)
+released_where_one_was_found o p f h = (h.2 refl, ap (λ (s : FreshState). s.task) h.1, ap (λ (s : FreshState). s.cause) h.1)
+
+released_by_a_weak_edge : (o p : OwingState) (f : FreshState) → GivesNext net o (4 ∷ []) (Released p f) → (f.task ≡ 4) × (f.cause ≡ Weak 4)
+released_by_a_weak_edge o p f h = (ap (λ (s : FreshState). s.task) h.1, ap (λ (s : FreshState). s.cause) h.1)
+
+not_finished_with_an_edge : (o : OwingState) (s : SpentState) → GivesNext net o (0 ∷ []) (Finished s) → ⊥
+not_finished_with_an_edge o s h = h
+
+no_next_without_an_edge : (o p : OwingState) → GivesNext net o [] (Next p) → ⊥
+no_next_without_an_edge o p h = h
+
+-- THE KEEPER
+all_after_the_last : LeavesOf 1 NoneLeft
+all_after_the_last = refl
+
+not_all_before_the_last : LeavesOf 2 NoneLeft → ⊥
+not_all_before_the_last h = omega (arith, h)
+
+no_more_after_the_last_turn : LeavesOf 1 TurnsLeft → ⊥
+no_more_after_the_last_turn h = h refl
+
+abbrev run : Run
+run = record { task = 0; cause = Source; start = 0; place = 1; gives = 0 ∷ []; inner = false }
+
+abbrev other_run : Run
+other_run = record { task = 0; cause = Source; start = 0; place = 0; gives = 0 ∷ []; inner = false }
+
+start_and_end : entries_of run ≡ record { place = 0; entry = Start 0 Source [] } ∷ record { place = 1; entry = End 0 (0 ∷ []) false } ∷ []
+start_and_end = refl
+
+no_place_twice : Merges (entries_of other_run) (Start 0 Source [] ∷ []) → ⊥
+no_place_twice m = omega (arith, m.each 0 (omega arith))
+
+no_place_unnamed : Merges (entries_of run) (Start 0 Source [] ∷ End 0 (0 ∷ []) false ∷ Start 2 Strong [] ∷ []) → ⊥
+no_place_unnamed m = omega (arith, m.each 2 (omega arith))

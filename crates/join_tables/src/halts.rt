@@ -1,0 +1,107 @@
+// The calls that admit a release, and those that halt a run or drop a release. None takes memory, and none waits.
+ghost use Rattle.std.specs.Prelude.{◌≡◌, Some, None, []};
+ghost use Rattle.join_tables.specs.Turns.{Admits};
+ghost use Rattle.join_tables.specs.Outcomes.{FaultsAs, DropsAs};
+ghost use Rattle.join_tables.specs.Reasons.{TellsNoUnit};
+ghost use Rattle.join_tables.specs.Holding.{HoldsAll, PutsAll};
+
+use crate::outcomes::{Dropping, Failure, Outcome};
+use crate::turns::{Admitted, NetTable, Running, Spent, StartTicket, Turn};
+use journal_rules::{DropWhy, Why};
+
+impl NetTable {
+    /// Draws an admission, unless the run is halted. `Halted` comes exactly where this call's own load finds the halt
+    /// mark, and `Over` exactly where it finds none and the number that is drawn is not below the limit.
+    pub fn admit(&self, turn: Turn) -> Admitted
+        requires table { turn.table ≡ self.now.table }
+        requires asked_once { turn.refused ≡ None }
+        requires units { HoldsAll self.now.net turn.task turn.held }
+        ensures { Admits self.now.limit turn result }
+    {
+        let Turn {
+            mut seat,
+            task,
+            cause,
+            ..
+        } = turn;
+        let halt = self.words.load_halt(&mut seat);
+        if halt != 0 {
+            return Admitted::Halted(Turn {
+                seat,
+                task,
+                cause,
+                halt: Some(halt),
+                found: None,
+            });
+        }
+        let drawn = self.words.draw_admission(&mut seat);
+        if drawn < self.words.limit() {
+            return Admitted::Go(StartTicket {
+                seat,
+                task,
+                cause,
+                halt,
+                drawn,
+            });
+        }
+        Admitted::Over(Turn {
+            seat,
+            task,
+            cause,
+            halt: Some(halt),
+            found: Some(drawn),
+        })
+    }
+
+    /// Faults a start: draws the place of its Fault, and then sets the halt mark. A Fault gives no edge, so nothing is
+    /// owed after it.
+    pub fn fault(&self, running: Running, why: Why) -> Spent
+        requires table { running.table ≡ self.now.table }
+        requires why { TellsNoUnit why }
+        requires puts { PutsAll self.now.net running.task }
+        ensures table { result.table ≡ self.now.table }
+        ensures outcome { FaultsAs running why result.outcome }
+    {
+        let Running {
+            mut seat,
+            task,
+            cause,
+            place: start,
+        } = running;
+        let place = self.words.draw_fault(&mut seat, why);
+        self.words.set_halt(&mut seat);
+        let outcome = Outcome::Faulted(Failure {
+            task,
+            cause,
+            start,
+            place,
+            why,
+        });
+        Spent { seat, outcome }
+    }
+
+    /// Drops a release for the cause for which `admit` refused it: draws the place of its Drop. Nothing is owed after
+    /// it.
+    pub fn drop_turn(&self, turn: Turn, why: DropWhy) -> Spent
+        requires table { turn.table ≡ self.now.table }
+        requires refused { turn.refused ≡ Some why }
+        requires no_unit { turn.held ≡ [] }
+        ensures table { result.table ≡ self.now.table }
+        ensures outcome { DropsAs turn why result.outcome }
+    {
+        let Turn {
+            mut seat,
+            task,
+            cause,
+            ..
+        } = turn;
+        let place = self.words.draw_drop(&mut seat);
+        let outcome = Outcome::Dropped(Dropping {
+            task,
+            cause,
+            place,
+            why,
+        });
+        Spent { seat, outcome }
+    }
+}

@@ -1,0 +1,33 @@
+// What becomes of the releases of a table.
+use crate::turns::Run;
+use journal_rules::{Cause, DropWhy, Why};
+
+/// A start of a task that faulted: its place in the journal, and that of its Fault.
+#[derive(Drop)]
+pub struct Failure {
+    pub task: u32,
+    pub cause: Cause,
+    pub start: u64,
+    pub place: u64,
+    pub why: Why,
+}
+
+/// A release that was dropped, and the place of its Drop in the journal.
+#[derive(Drop)]
+pub struct Dropping {
+    pub task: u32,
+    pub cause: Cause,
+    pub place: u64,
+    pub why: DropWhy,
+}
+
+/// What became of a release.
+#[derive(Drop)]
+pub enum Outcome {
+    /// The task started and ended.
+    Ended(Run),
+    /// The task started and faulted.
+    Faulted(Failure),
+    /// The release was dropped.
+    Dropped(Dropping),
+}
