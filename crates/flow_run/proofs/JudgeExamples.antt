@@ -230,6 +230,10 @@ texts_with bytes name = if bytes_eq name g then Some (1 ∷ []) else (if bytes_e
 abbrev held_with : List ℕ → Held
 held_with bytes = Some (texts_with bytes)
 
+-- and with any graph under `g`
+abbrev held_over : List ℕ → List ℕ → Held
+held_over graph bytes = Some (λ name. if bytes_eq name g then Some graph else (if bytes_eq name j then Some bytes else None))
+
 -- a journal of one start, and its text
 abbrev started : List Entry
 started = Start 0 Source [] ∷ []
@@ -259,8 +263,8 @@ nothing_breaks : (net : NetRows) (limit place : ℕ) (why : Break) → ¬ IsVerd
 nothing_breaks net limit place why is = is.1
 
 -- the journal that one start's text stands for
-the_start : {journal : List Entry} → HasJournal (held_with one_start) j journal → journal ≡ started
-the_start {journal} is =
+the_start : (graph : List ℕ) {journal : List Entry} → HasJournal (held_over graph one_start) j journal → journal ≡ started
+the_start graph {journal} is =
     let same : Some one_start ≡ Some is.bytes = is.read.0 in
     let bytes : one_start ≡ is.bytes = cc in
     one_journal journal started one_start (subst (IsJournalText journal) (sym bytes) is.stands) one_start_is_text
@@ -275,9 +279,9 @@ the_empty {journal} is =
 break_of_an_empty_journal : (why : Break) → ¬ IsJudged held g j 9 (Breaks 0 why)
 break_of_an_empty_journal why is = nothing_breaks is.plan.top.net 9 0 why (subst (λ journal. IsVerdict is.plan.top.net 9 journal (Breaks 0 why)) (the_empty is.text) is.is)
 
-start_beyond_the_limit : ¬ IsJudged (held_with one_start) g j 0 Legal
-start_beyond_the_limit is =
-    let verdict : IsVerdict is.plan.top.net 0 started Legal = subst (λ journal. IsVerdict is.plan.top.net 0 journal Legal) (the_start is.text) is.is in
+start_beyond_the_limit : (graph : List ℕ) → ¬ IsJudged (held_over graph one_start) g j 0 Legal
+start_beyond_the_limit graph is =
+    let verdict : IsVerdict is.plan.top.net 0 started Legal = subst (λ journal. IsVerdict is.plan.top.net 0 journal Legal) (the_start graph is.text) is.is in
     absurd (omega (arith, verdict.0.0.halt_limit_stuck.dropped))
 
 judged_by_no_graph : ¬ IsJudged held (2 ∷ []) j 9 Legal

@@ -9,10 +9,12 @@ use Rattle.task_graph.specs.NetRows.{NetRows}
 use Rattle.atomic_table.specs.Seated.{TableId}
 use Rattle.journal_rules.specs.declared.entry.Cause.TheVariants.{Source, Strong, Weak}
 use Rattle.journal_rules.specs.declared.entry.Entry.TheVariants.{Start, End}
+use Rattle.journal_rules.specs.declared.entry.DropWhy.TheVariants.{Halted as AfterFault, Limit}
 use Rattle.join_tables.specs.declared.turns.Collected.TheVariants.{More, Last, LastAgain}
 use Rattle.join_tables.specs.declared.turns.Gave.TheVariants.{Next, Released, Finished}
-use Rattle.join_tables.specs.declared.turns.Admitted.TheVariants.{Go, Over}
+use Rattle.join_tables.specs.declared.turns.Admitted.TheVariants.{Go, Over, Halted}
 use Rattle.join_tables.specs.declared.turns.Run.{Run}
+use Rattle.join_tables.specs.declared.outcomes.Outcome.TheVariants.{Ended}
 use Rattle.join_tables.specs.declared.keeper.Remaining.TheVariants.{More as TurnsLeft, All as NoneLeft}
 use Rattle.join_tables.specs.Giving.{times, target, MayGive}
 use Rattle.join_tables.specs.States.{FreshState, CollectingState, TurnState, AdmittedState, RunningState, OwingState, SpentState, fresh_state}
@@ -105,8 +107,11 @@ go_below_the_limit t ticket h = h.1
 over_from_the_limit_on : (t u : TurnState) → Admits 5 t (Over u) → IsSomeAnd u.found (λ n. 5 ≤ n)
 over_from_the_limit_on t u h = h.1
 
-over_is_refused : (t u : TurnState) → Admits 5 t (Over u) → u.refused ≡ true
+over_is_refused : (t u : TurnState) → Admits 5 t (Over u) → u.refused ≡ Some Limit
 over_is_refused t u h = ap (λ (s : TurnState). s.refused) h.0
+
+halted_by_its_mark : (t u : TurnState) → Admits 5 t (Halted u) → (u.refused ≡ Some AfterFault) × IsSomeAnd u.halt (λ n. n ≢ 0)
+halted_by_its_mark t u h = (ap (λ (s : TurnState). s.refused) h.0, h.1)
 
 -- ENDS
 end_of_its_start : (r : RunningState) (run : Run) → EndsAs r (3 ∷ []) false run → (run.start ≡ r.place) × (run.gives ≡ 3 ∷ [])
@@ -147,11 +152,11 @@ run = record { task = 0; cause = Source; start = 0; place = 1; gives = 0 ∷ [];
 abbrev other_run : Run
 other_run = record { task = 0; cause = Source; start = 0; place = 0; gives = 0 ∷ []; inner = false }
 
-start_and_end : entries_of run ≡ record { place = 0; entry = Start 0 Source [] } ∷ record { place = 1; entry = End 0 (0 ∷ []) false } ∷ []
+start_and_end : entries_of (Ended run) ≡ record { place = 0; entry = Start 0 Source [] } ∷ record { place = 1; entry = End 0 (0 ∷ []) false } ∷ []
 start_and_end = refl
 
-no_place_twice : Merges (entries_of other_run) (Start 0 Source [] ∷ []) → ⊥
+no_place_twice : Merges (entries_of (Ended other_run)) (Start 0 Source [] ∷ []) → ⊥
 no_place_twice m = omega (arith, m.each 0 (omega arith))
 
-no_place_unnamed : Merges (entries_of run) (Start 0 Source [] ∷ End 0 (0 ∷ []) false ∷ Start 2 Strong [] ∷ []) → ⊥
+no_place_unnamed : Merges (entries_of (Ended run)) (Start 0 Source [] ∷ End 0 (0 ∷ []) false ∷ Start 2 Strong [] ∷ []) → ⊥
 no_place_unnamed m = omega (arith, m.each 2 (omega arith))

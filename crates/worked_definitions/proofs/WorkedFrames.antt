@@ -129,6 +129,10 @@ error_of_what_was_found = (refl, λ is. absurd (omega (arith, is)))
 abbrev gathering : (ℕ → Why) → Meaning ℕ ℕ
 gathering kind = record sums { gather_faults = λ j run why. why ≡ kind j }
 
+-- a task may name what is its own, and what it found, as a fault of one kind
+abbrev faulting : (ℕ → Why) → Meaning ℕ ℕ
+faulting kind = record sums { faults = λ j t found why. why ≡ kind (j + t + added found) }
+
 -- the first task was started
 abbrev first_begun : List Entry
 first_begun = Start 0 Source [] ∷ []
@@ -172,6 +176,12 @@ module _ (five ten : Arc ℕ Global) (run : FrameRun ℕ ℕ) where
   -- A fault of each kind is one that the task may name on what it found.
   fault_of_what_was_found : arc_value five ≡ 7 → WorkRule sums 2 rows no_run second_begun (Fault 2 (Long 10)) × WorkRule sums 2 rows no_run second_begun (Fault 2 (Wide 10)) × WorkRule sums 2 rows no_run second_begun (Fault 2 (Unmet 10))
   fault_of_what_was_found seven = (omega (arith, seven), omega (arith, seven), omega (arith, seven))
+
+  faults_by_their_kind : WorkRule (faulting Long) 2 rows no_run first_begun (Fault 0 (Long 2)) × WorkRule (faulting Wide) 2 rows no_run first_begun (Fault 0 (Wide 2)) × WorkRule (faulting Unmet) 2 rows no_run first_begun (Fault 0 (Unmet 2))
+  faults_by_their_kind = (refl, refl, refl)
+
+  faults_of_another_kind : ¬ WorkRule (faulting Wide) 2 rows no_run first_begun (Fault 0 (Long 2)) × ¬ WorkRule (faulting Long) 2 rows no_run first_begun (Fault 0 (Wide 2)) × ¬ WorkRule (faulting Wide) 2 rows no_run first_begun (Fault 0 (Unmet 2))
+  faults_of_another_kind = (λ is. absurd (cc), λ is. absurd (cc), λ is. absurd (cc))
 
   fault_of_a_fault : ¬ WorkRule sums 2 rows no_run (Start 0 Source [] ∷ Fault 0 (Long 2) ∷ []) (Fault 1 (Long 2))
   fault_of_a_fault is = is
@@ -575,6 +585,9 @@ module _ (r s : TableId) (other : s ≢ r) (ins : Ins ℕ) where
           not_of_edge_0 : AreMadeBy flat (0 ∷ []) (ticket 1 (Unused 2 Strong) ∷ []) → ⊥
           not_of_edge_0 (inl (same, rest)) = absurd (cc)
           not_of_edge_0 (inr rest) = rest
+
+  released_by_an_edge_not_given : ¬ EndsTask flat_sums (view begun 4 (Some (Running 0 0 ins) ∷ [])) (view (begun ++ End 0 [] false ∷ []) 4 (None ∷ Some (Unused 1 Strong) ∷ [])) (ticket 0 (Running 0 0 ins)) NoneOf (ticket 1 (Unused 1 Strong) ∷ [])
+  released_by_an_edge_not_given is = is.made
 
   released_in_another_register : ¬ EndsTask flat_sums (view begun 4 (Some (Running 0 0 ins) ∷ [])) (view (begun ++ End 0 (0 ∷ []) false ∷ []) 4 (None ∷ Some (Unused 1 Strong) ∷ [])) (ticket 0 (Running 0 0 ins)) Each (record (ticket 1 (Unused 1 Strong)) { register = s } ∷ [])
   released_in_another_register is = other (All-head (IsReleaseOf r) (record (ticket 1 (Unused 1 Strong)) { register = s }) [] is.releases).0

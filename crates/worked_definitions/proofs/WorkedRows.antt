@@ -17,6 +17,8 @@ use Rattle.run_frame.specs.declared.run.FrameRun.TheBlock.{shown-the_row-InnerRo
 use Rattle.run_frame.specs.declared.run.InnerRow.{InnerRow', out-InnerRow}
 use Rattle.run_frame.specs.FlatNets.{IsFlatNet}
 use Rattle.run_frame.specs.Rows.{RowsFit}
+use Rattle.run_frame.specs.Meaning.{Meaning}
+use Rattle.run_frame.specs.Legal.{Legal, LegalRows, CompleteRun}
 
 -- A net is flat by each of its tasks.
 abbrev free : Shape → TaskRow
@@ -55,3 +57,12 @@ module _ (ptr : Ptr) (alloc : Global)
     inner_runs_fall : ¬ RowsFit (with_runs_at 3 1)
     unfolding out-FrameRun out shown-the_row-InnerRow-0 shown out-InnerRow
     inner_runs_fall is = absurd (omega (arith, is.rising 0 1 0 (omega arith) (omega arith)))
+
+-- Each inner run of a list is held to the rules, the second as well.
+second_inner_run_is_legal : (meaning : Meaning ℕ ℕ) (first second : FrameRun ℕ ℕ)
+    → LegalRows meaning (more_of-InnerRow (InnerRow' 1 first) (more_of-InnerRow (InnerRow' 3 second) end_of-InnerRow)) → Legal meaning second
+second_inner_run_is_legal meaning first second rows = rows.1.0.0
+
+second_inner_run_is_complete : (meaning : Meaning ℕ ℕ) (first second : FrameRun ℕ ℕ)
+    → LegalRows meaning (more_of-InnerRow (InnerRow' 1 first) (more_of-InnerRow (InnerRow' 3 second) end_of-InnerRow)) → CompleteRun meaning second
+second_inner_run_is_complete meaning first second rows = rows.1.0.1

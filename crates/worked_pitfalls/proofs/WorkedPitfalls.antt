@@ -197,6 +197,13 @@ one_condition_twice many = many.differ (from_first many.first many.first_in ∙ 
     from_first e (suc zero, below, is) = ap (edge_from twice) (sym is)
     from_first e (suc (suc k), below, is) = absurd (omega (arith, below))
 
+one_condition_beside_a_strong_edge : ¬ IsPitfall looped (ManyConditions 1)
+one_condition_beside_a_strong_edge many = many.differ (from_second many.first many.first_in ∙ sym (from_second many.second many.second_in))
+  where
+    from_second : (e : ℕ) → Contains (weak_in looped 1) e → edge_from looped e ≡ Some 2
+    from_second e (zero, below, is) = ap (edge_from looped) (sym is)
+    from_second e (suc k, below, is) = absurd (omega (arith, below))
+
 two_strong_edges : ¬ HasManyConditions (joined Plain) 2
 two_strong_edges many = absurd (let below = many.first_in.1 in omega (arith, below))
 
