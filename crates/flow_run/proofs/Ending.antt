@@ -1,12 +1,18 @@
--- What reads that stopped a call have done.
-use Rattle.std.proofs.Common.{◌≡◌, inl, inr, ℕ, refl, arith}
+-- What reads that stopped a call have done, and how a run that is kept ends.
+use Rattle.std.proofs.Common.{◌≡◌, inl, inr, ℕ, List, refl, arith, subst, sym}
 use Rattle.call_status.specs.declared.status.Status.{Status}
 use Rattle.call_status.specs.declared.status.Status.TheVariants.{BadGraph, NoSource, NoText, LongText, BadJournal}
 use Rattle.call_status.specs.declared.stop.Stop.{Stop}
 use Rattle.call_status.specs.declared.stop.Stop.TheVariants as stop
 use Rattle.call_status.specs.Statuses.{status_of}
 use Rattle.flow_run.specs.Requests.{Held, CountsStop}
-use Rattle.flow_run.specs.Answers.{IsReadFault, HaveRead}
+use Rattle.nested_runs.specs.declared.reasons.Reason.{Reason}
+use Rattle.text_tasks.specs.declared.job.TextJob.{TextJob}
+use Rattle.flow_run.specs.Answers.{Run, IsAfterRun, IsReadFault, HaveRead, JobEnds, KeptOnce}
+
+-- A run that is kept and reported by its reason is how its job ends.
+pub kept_ends : (job : TextJob) (status : Status) (runs : List Run) (why : Reason) → KeptOnce job runs why → IsAfterRun why status → JobEnds job status runs
+kept_ends job status runs why kept after = inr (record { run = kept.run; only = kept.only; kept = kept.kept; job = kept.same; after = subst (λ (reason : Reason). IsAfterRun reason status) (sym kept.reason) after })
 
 module _ {F : Type 0} (held : F → Held) (faults : F → ℕ) (old new : F) where
   -- Nothing failed.

@@ -8,7 +8,7 @@ ghost use Rattle.call_status.specs.Statuses.{status_after};
 ghost use Rattle.nested_runs.specs.Reasons.{run_reason};
 ghost use Rattle.text_tasks.specs.JobMeaning.{text_job, IsTextJob};
 ghost use Rattle.flow_run.specs.Requests.{IsAtHand};
-ghost use Rattle.flow_run.specs.Answers.{CallEnds, HasWritten, HaveRead, IsReadFault, JobEnds, KeptOnce, Reported, RunEnds, names_in, output_of, run_text, run_texts};
+ghost use Rattle.flow_run.specs.Answers.{CallEnds, HasWritten, HaveRead, IsAfterRun, IsReadFault, JobEnds, KeptOnce, Reported, RunEnds, names_in, output_of, run_text, run_texts};
 ghost use Rattle.flow_run.specs.Checking.{CanBeChecked};
 ghost use Rattle.flow_run.specs.Judging.{CanBeJudged};
 
@@ -192,6 +192,7 @@ pub(crate) fn stopped(alloc: Global, status: Status) -> Ended
 }
 
 // Runs the job and writes the report of its run, or its journal.
+#[tactic(auto, using(crate::proofs::Ending::kept_ends))]
 fn run_and_report<S: Sink, R: Threads + Wait + Sync>(
     rt: &R,
     alloc: Global,
@@ -236,6 +237,7 @@ fn run_and_report<S: Sink, R: Threads + Wait + Sync>(
 fn unwritten(reason: Reason) -> Status
     ensures fine { reason ≡ Reason.Fine → result ≡ Status.WriteFault }
     ensures cut { reason ≢ Reason.Fine → result ≡ status_after reason }
+    ensures after { IsAfterRun reason result }
 {
     match reason {
         Reason::Fine => Status::WriteFault,

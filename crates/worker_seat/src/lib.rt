@@ -39,8 +39,6 @@ mod place;
 mod seat;
 mod seats;
 mod steps;
-mod together;
 
 pub use crew::{Crew, CrewParts};
 pub use seat::WorkerSeat;
-pub use together::enter_all;
