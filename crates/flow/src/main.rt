@@ -57,7 +57,9 @@ fn call<R: Threads + Wait + Sync + Files + StandardStreams + Copy>(
     let mut texts = FolderTexts::new(rt);
     let mut out = StdSink::out(alloc, rt);
     let mut notes = StdSink::notes(alloc, rt);
-    let outcome = flow_main(rt, alloc, arguments, &mut texts, &mut out, &mut notes, watchers);
+    let outcome = flow_main(
+        rt, alloc, arguments, &mut texts, &mut out, &mut notes, watchers,
+    );
     outcome.status.code()
 }
 

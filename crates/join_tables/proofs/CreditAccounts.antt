@@ -126,7 +126,7 @@ pub refused_unfit : (net : NetRows) (word : ℕ) (journal : List Entry) (T : Coo
 refused_unfit net word journal T a m t k found claims_it below there puts_it =
     let whole : journal ≡ take (length journal) journal = sym (take-length journal) in
     let less : closed_takers net a journal + one_if (takes net a t) ≤ other_putters net a m journal =
-          omega (arith, k.tells, k.claims, k.takers, found, claims_it, parted net a journal, others_and_own net a journal m t there, own (puts net a t) (takes net a t) puts_it) in
+    omega (arith, k.tells, k.claims, k.takers, found, claims_it, parted net a journal, others_and_own net a journal m t there, own (puts net a t) (takes net a t) puts_it) in
     (puts_it, (length journal, below, omega arith, subst (λ j. closed_takers net a j + one_if (takes net a t) ≤ other_putters net a m j) whole less))
 
 -- a step on a credit word leaves the other accounts alone

@@ -23,4 +23,3 @@ credit_more net words a k below inside is = raised_by _ _ a (λ s other. else_cr
 pub credit_less : (net : NetRows) (words : List ℕ) (a k : ℕ) → a < length net.sems → 40 + length net.sems + a < length words → k + 1 ≡ slice_index words (40 + length net.sems + a) → Raised ((reading net (set words (40 + length net.sems + a) k)).credit) a ((reading net words).credit)
 credit_less net words a k below inside is = raised_by _ _ a (λ s other. sym (else_credit net words (40 + length net.sems + a) k s (λ b z. other (omega arith))))
     (credit_at net words a below ∙ sym is ∙ ap (λ n. n + 1) (sym (credit_at net (set words (40 + length net.sems + a) k) a below ∙ get_or-set_same words (40 + length net.sems + a) k 0 inside)))
-

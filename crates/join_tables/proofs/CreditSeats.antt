@@ -63,21 +63,21 @@ credit_allowed net limit slots id me a may s h _ at small = from me.0 may at
         let sum : (slice_index s.words (40 + length net.sems + a) + 1) % 18446744073709551616 ≡ slice_index s.words (40 + length net.sems + a) + 1 = omega (arith, credit_small net limit s h a may.1) in
         done net limit s id (40 + length net.sems + a) _ me (Sems Credit l ∷ Sems Credited (a ∷ m) ∷ rest) _ (λ j. Sems Credit l ∷ Sems Credited (sym may.0 j ∷ m) ∷ rest)
         (still_step net limit s h id (40 + length net.sems + a) _ me.1 (Sems Credit (a ∷ l) ∷ Sems Credited m ∷ []) (Sems Credit l ∷ Sems Credited (a ∷ m) ∷ []) rest _ at_a
-            (own_lone net h.journal (λ c. total c s.views) (Sems Credit (a ∷ l) ∷ Sems Credited m ∷ []) (Sems Credit l ∷ Sems Credited (a ∷ m) ∷ []) rest (tt, (tt, tt)) (omega (arith, may.2)) (omega (arith, may.2)) (omega (arith, may.2))) (omega arith)
-            (credit_read net s.words a _ may.1)
-            (λ moved. credits_kept net limit (reading net s.words) h.counted h.journal (λ c. total c s.views) _ _ h.balanced (record { duties = λ c. omega (arith, moved (duty c)); live = omega (arith, moved (mark Live)); over = omega (arith, moved (mark Over)); to_mark = omega (arith, moved (mark ToMark)); sticking = omega (arith, moved (mark Sticking)); new = omega (arith, moved (mark New)); turning_is = omega (arith, moved turning); owing_is = omega (arith, moved owing) })
-            (record { held = λ z. omega (arith, moved (sem Held z)); owed = λ z. omega (arith, moved (sem Owed z)); undo = λ z. omega (arith, moved (sem Undo z)) })
-            (credits_added net (reading net s.words).credit _ h.journal (λ c. total c s.views) _ a l m h.balanced.by_credits (credit_more net s.words a _ may.1 (omega (arith, h.size, may.1)) sum) moved)))
+        (own_lone net h.journal (λ c. total c s.views) (Sems Credit (a ∷ l) ∷ Sems Credited m ∷ []) (Sems Credit l ∷ Sems Credited (a ∷ m) ∷ []) rest (tt, (tt, tt)) (omega (arith, may.2)) (omega (arith, may.2)) (omega (arith, may.2))) (omega arith)
+        (credit_read net s.words a _ may.1)
+        (λ moved. credits_kept net limit (reading net s.words) h.counted h.journal (λ c. total c s.views) _ _ h.balanced (record { duties = λ c. omega (arith, moved (duty c)); live = omega (arith, moved (mark Live)); over = omega (arith, moved (mark Over)); to_mark = omega (arith, moved (mark ToMark)); sticking = omega (arith, moved (mark Sticking)); new = omega (arith, moved (mark New)); turning_is = omega (arith, moved turning); owing_is = omega (arith, moved owing) })
+        (record { held = λ z. omega (arith, moved (sem Held z)); owed = λ z. omega (arith, moved (sem Owed z)); undo = λ z. omega (arith, moved (sem Undo z)) })
+        (credits_added net (reading net s.words).credit _ h.journal (λ c. total c s.views) _ a l m h.balanced.by_credits (credit_more net s.words a _ may.1 (omega (arith, h.size, may.1)) sum) moved)))
     from (Sems Both (b ∷ l) ∷ Sems Claim m ∷ rest) may at =
         let at_a : get_elem? s.views id ≡ some (Sems Both (a ∷ l) ∷ Sems Claim m ∷ rest) = at ∙ ap (λ k. some (Sems Both (k ∷ l) ∷ Sems Claim m ∷ rest)) may.0 in
         let sum : (slice_index s.words (40 + length net.sems + a) + 1) % 18446744073709551616 ≡ slice_index s.words (40 + length net.sems + a) + 1 = omega (arith, credit_small net limit s h a may.1) in
         done net limit s id (40 + length net.sems + a) _ me (Sems Both l ∷ Sems Claim (a ∷ m) ∷ rest) _ (λ j. Sems Both l ∷ Sems Claim (sym may.0 j ∷ m) ∷ rest)
         (still_step net limit s h id (40 + length net.sems + a) _ me.1 (Sems Both (a ∷ l) ∷ Sems Claim m ∷ []) (Sems Both l ∷ Sems Claim (a ∷ m) ∷ []) rest _ at_a
-            (own_lone net h.journal (λ c. total c s.views) (Sems Both (a ∷ l) ∷ Sems Claim m ∷ []) (Sems Both l ∷ Sems Claim (a ∷ m) ∷ []) rest (tt, (tt, tt)) (omega (arith, may.2)) (omega (arith, may.2)) (omega (arith, may.2))) (omega arith)
-            (credit_read net s.words a _ may.1)
-            (λ moved. credits_kept net limit (reading net s.words) h.counted h.journal (λ c. total c s.views) _ _ h.balanced (record { duties = λ c. omega (arith, moved (duty c)); live = omega (arith, moved (mark Live)); over = omega (arith, moved (mark Over)); to_mark = omega (arith, moved (mark ToMark)); sticking = omega (arith, moved (mark Sticking)); new = omega (arith, moved (mark New)); turning_is = omega (arith, moved turning); owing_is = omega (arith, moved owing) })
-            (record { held = λ z. omega (arith, moved (sem Held z)); owed = λ z. omega (arith, moved (sem Owed z)); undo = λ z. omega (arith, moved (sem Undo z)) })
-            (credits_passed net (reading net s.words).credit _ h.journal (λ c. total c s.views) _ a l m h.balanced.by_credits (credit_more net s.words a _ may.1 (omega (arith, h.size, may.1)) sum) moved)))
+        (own_lone net h.journal (λ c. total c s.views) (Sems Both (a ∷ l) ∷ Sems Claim m ∷ []) (Sems Both l ∷ Sems Claim (a ∷ m) ∷ []) rest (tt, (tt, tt)) (omega (arith, may.2)) (omega (arith, may.2)) (omega (arith, may.2))) (omega arith)
+        (credit_read net s.words a _ may.1)
+        (λ moved. credits_kept net limit (reading net s.words) h.counted h.journal (λ c. total c s.views) _ _ h.balanced (record { duties = λ c. omega (arith, moved (duty c)); live = omega (arith, moved (mark Live)); over = omega (arith, moved (mark Over)); to_mark = omega (arith, moved (mark ToMark)); sticking = omega (arith, moved (mark Sticking)); new = omega (arith, moved (mark New)); turning_is = omega (arith, moved turning); owing_is = omega (arith, moved owing) })
+        (record { held = λ z. omega (arith, moved (sem Held z)); owed = λ z. omega (arith, moved (sem Owed z)); undo = λ z. omega (arith, moved (sem Undo z)) })
+        (credits_passed net (reading net s.words).credit _ h.journal (λ c. total c s.views) _ a l m h.balanced.by_credits (credit_more net s.words a _ may.1 (omega (arith, h.size, may.1)) sum) moved)))
     from v may at = absurd may
 
 -- the start of a seat runs
@@ -92,11 +92,11 @@ claim_got : (net : NetRows) (limit : ℕ) (s : St) (h : KeepsAccounts net limit 
     → KeepsAccounts net limit (stepped s (40 + length net.sems + a) k id carried (Duty (Open m t) ∷ Sems Claim l ∷ Sems Granted (a ∷ g) ∷ rest) keeps)
 claim_got net limit s h id a k m t carried l g rest below turn at less found =
     still_step net limit s h id (40 + length net.sems + a) k carried (Duty (Open m t) ∷ Sems Claim (a ∷ l) ∷ Sems Granted g ∷ []) (Duty (Open m t) ∷ Sems Claim l ∷ Sems Granted (a ∷ g) ∷ []) rest _ at
-        (own_lone net h.journal (λ c. total c s.views) (Duty (Open m t) ∷ Sems Claim (a ∷ l) ∷ Sems Granted g ∷ []) (Duty (Open m t) ∷ Sems Claim l ∷ Sems Granted (a ∷ g) ∷ []) rest (tt, (tt, (tt, tt))) (omega (arith, turn)) (omega (arith, turn)) (omega (arith, turn))) (omega arith)
-        (credit_read net s.words a k below)
-        (λ moved. credits_kept net limit (reading net s.words) h.counted h.journal (λ c. total c s.views) _ _ h.balanced (record { duties = λ c. omega (arith, moved (duty c)); live = omega (arith, moved (mark Live)); over = omega (arith, moved (mark Over)); to_mark = omega (arith, moved (mark ToMark)); sticking = omega (arith, moved (mark Sticking)); new = omega (arith, moved (mark New)); turning_is = omega (arith, moved turning); owing_is = omega (arith, moved owing) })
-            (record { held = λ z. omega (arith, moved (sem Held z)); owed = λ z. omega (arith, moved (sem Owed z)); undo = λ z. omega (arith, moved (sem Undo z)) })
-            (credits_granted net (reading net s.words).credit _ h.journal (λ c. total c s.views) _ a l g h.balanced.by_credits (credit_less net s.words a k below (omega (arith, h.size, below)) less) (omega (arith, found, credit_at net s.words a below)) (λ c. omega (arith, moved c))))
+    (own_lone net h.journal (λ c. total c s.views) (Duty (Open m t) ∷ Sems Claim (a ∷ l) ∷ Sems Granted g ∷ []) (Duty (Open m t) ∷ Sems Claim l ∷ Sems Granted (a ∷ g) ∷ []) rest (tt, (tt, (tt, tt))) (omega (arith, turn)) (omega (arith, turn)) (omega (arith, turn))) (omega arith)
+    (credit_read net s.words a k below)
+    (λ moved. credits_kept net limit (reading net s.words) h.counted h.journal (λ c. total c s.views) _ _ h.balanced (record { duties = λ c. omega (arith, moved (duty c)); live = omega (arith, moved (mark Live)); over = omega (arith, moved (mark Over)); to_mark = omega (arith, moved (mark ToMark)); sticking = omega (arith, moved (mark Sticking)); new = omega (arith, moved (mark New)); turning_is = omega (arith, moved turning); owing_is = omega (arith, moved owing) })
+    (record { held = λ z. omega (arith, moved (sem Held z)); owed = λ z. omega (arith, moved (sem Owed z)); undo = λ z. omega (arith, moved (sem Undo z)) })
+    (credits_granted net (reading net s.words).credit _ h.journal (λ c. total c s.views) _ a l g h.balanced.by_credits (credit_less net s.words a k below (omega (arith, h.size, below)) less) (omega (arith, found, credit_at net s.words a below)) (λ c. omega (arith, moved c))))
 
 claim_lost : (net : NetRows) (limit : ℕ) (s : St) (h : KeepsAccounts net limit s) (id a k m t : ℕ) (carried : List (ℕ × Unit {0})) (l g : List ℕ) (rest : List Note) → a < length net.sems → (weigh resting rest ≡ 0) × (1 ≤ weigh (mark Live) rest) → puts net a t ≡ true
     → get_elem? s.views id ≡ some (Duty (Open m t) ∷ Sems Claim (a ∷ l) ∷ Sems Granted g ∷ rest) → k + 1 ≡ slice_index s.words (40 + length net.sems + a) → slice_index s.words (40 + length net.sems + a) ≤ first_credit
@@ -105,13 +105,13 @@ claim_lost net limit s h id a k m t carried l g rest below turn puts_it at less 
     let old = Duty (Open m t) ∷ Sems Claim (a ∷ l) ∷ Sems Granted g ∷ [] in let new = Sems Refusing (a ∷ []) ∷ Unfit a m t ∷ Duty (Open m t) ∷ Sems Claim l ∷ Sems Granted g ∷ [] in
     let r = runs_seat net limit s h id m t (old ++ rest) _ refl at in
     let unfit = refused_unfit net ((reading net s.words).credit a) h.journal (λ c. total c s.views) a m t (h.balanced.by_credits a below) (omega (arith, found, credit_at net s.words a below))
-          (omega (arith, at_most (sem Claim a) s.views id (old ++ rest) at, one_self a)) r.below r.there puts_it in
+    (omega (arith, at_most (sem Claim a) s.views id (old ++ rest) at, one_self a)) r.below r.there puts_it in
     still_step net limit s h id (40 + length net.sems + a) k carried old new rest _ at
-        (own_lone net h.journal (λ c. total c s.views) old new rest (tt, ((r.there, unfit), (tt, (tt, (tt, tt))))) (omega (arith, turn)) (omega (arith, turn)) (omega (arith, turn))) (omega arith)
-        (credit_read net s.words a k below)
-        (λ moved. credits_kept net limit (reading net s.words) h.counted h.journal (λ c. total c s.views) _ _ h.balanced (record { duties = λ c. omega (arith, moved (duty c)); live = omega (arith, moved (mark Live)); over = omega (arith, moved (mark Over)); to_mark = omega (arith, moved (mark ToMark)); sticking = omega (arith, moved (mark Sticking)); new = omega (arith, moved (mark New)); turning_is = omega (arith, moved turning); owing_is = omega (arith, moved owing) })
-            (record { held = λ z. omega (arith, moved (sem Held z)); owed = λ z. omega (arith, moved (sem Owed z)); undo = λ z. omega (arith, moved (sem Undo z)) })
-            (credits_refused net (reading net s.words).credit _ h.journal (λ c. total c s.views) _ a l h.balanced.by_credits (credit_less net s.words a k below (omega (arith, h.size, below)) less) (λ c. omega (arith, moved c, free c))))
+    (own_lone net h.journal (λ c. total c s.views) old new rest (tt, ((r.there, unfit), (tt, (tt, (tt, tt))))) (omega (arith, turn)) (omega (arith, turn)) (omega (arith, turn))) (omega arith)
+    (credit_read net s.words a k below)
+    (λ moved. credits_kept net limit (reading net s.words) h.counted h.journal (λ c. total c s.views) _ _ h.balanced (record { duties = λ c. omega (arith, moved (duty c)); live = omega (arith, moved (mark Live)); over = omega (arith, moved (mark Over)); to_mark = omega (arith, moved (mark ToMark)); sticking = omega (arith, moved (mark Sticking)); new = omega (arith, moved (mark New)); turning_is = omega (arith, moved turning); owing_is = omega (arith, moved owing) })
+    (record { held = λ z. omega (arith, moved (sem Held z)); owed = λ z. omega (arith, moved (sem Owed z)); undo = λ z. omega (arith, moved (sem Undo z)) })
+    (credits_refused net (reading net s.words).credit _ h.journal (λ c. total c s.views) _ a l h.balanced.by_credits (credit_less net s.words a k below (omega (arith, h.size, below)) less) (λ c. omega (arith, moved c, free c))))
   where
     free : (c : Coord) → weight c (Unfit a m t) ≡ 0
     free (duty c) = refl
@@ -160,9 +160,9 @@ unclaim_allowed net limit slots id me a may s h _ at small = from me.0 may at
         let sum : (slice_index s.words (40 + length net.sems + a) + 1) % 18446744073709551616 ≡ slice_index s.words (40 + length net.sems + a) + 1 = omega (arith, credit_small net limit s h a may.1) in
         done net limit s id (40 + length net.sems + a) _ me (Sems Denied (a ∷ []) ∷ rest) _ (λ j. Sems Denied (sym may.0 j ∷ []) ∷ rest)
         (still_step net limit s h id (40 + length net.sems + a) _ me.1 (Sems Refusing (a ∷ []) ∷ []) (Sems Denied (a ∷ []) ∷ []) rest _ at_a
-            (own_lone net h.journal (λ c. total c s.views) (Sems Refusing (a ∷ []) ∷ []) (Sems Denied (a ∷ []) ∷ []) rest (tt, tt) (omega (arith, may.2)) (omega (arith, may.2)) (omega (arith, may.2))) (omega arith)
-            (credit_read net s.words a _ may.1)
-            (λ moved. credits_kept net limit (reading net s.words) h.counted h.journal (λ c. total c s.views) _ _ h.balanced (record { duties = λ c. omega (arith, moved (duty c)); live = omega (arith, moved (mark Live)); over = omega (arith, moved (mark Over)); to_mark = omega (arith, moved (mark ToMark)); sticking = omega (arith, moved (mark Sticking)); new = omega (arith, moved (mark New)); turning_is = omega (arith, moved turning); owing_is = omega (arith, moved owing) })
-            (record { held = λ z. omega (arith, moved (sem Held z)); owed = λ z. omega (arith, moved (sem Owed z)); undo = λ z. omega (arith, moved (sem Undo z)) })
-            (credits_undone net (reading net s.words).credit _ h.journal (λ c. total c s.views) _ a h.balanced.by_credits (credit_more net s.words a _ may.1 (omega (arith, h.size, may.1)) sum) moved)))
+        (own_lone net h.journal (λ c. total c s.views) (Sems Refusing (a ∷ []) ∷ []) (Sems Denied (a ∷ []) ∷ []) rest (tt, tt) (omega (arith, may.2)) (omega (arith, may.2)) (omega (arith, may.2))) (omega arith)
+        (credit_read net s.words a _ may.1)
+        (λ moved. credits_kept net limit (reading net s.words) h.counted h.journal (λ c. total c s.views) _ _ h.balanced (record { duties = λ c. omega (arith, moved (duty c)); live = omega (arith, moved (mark Live)); over = omega (arith, moved (mark Over)); to_mark = omega (arith, moved (mark ToMark)); sticking = omega (arith, moved (mark Sticking)); new = omega (arith, moved (mark New)); turning_is = omega (arith, moved turning); owing_is = omega (arith, moved owing) })
+        (record { held = λ z. omega (arith, moved (sem Held z)); owed = λ z. omega (arith, moved (sem Owed z)); undo = λ z. omega (arith, moved (sem Undo z)) })
+        (credits_undone net (reading net s.words).credit _ h.journal (λ c. total c s.views) _ a h.balanced.by_credits (credit_more net s.words a _ may.1 (omega (arith, h.size, may.1)) sum) moved)))
     from v may at = absurd may

@@ -41,4 +41,3 @@ MayUnclaim net a _ = ⊥
 abbrev pub unclaimed : List Note → List Note
 unclaimed (Sems Refusing (b ∷ []) ∷ rest) = Sems Denied (b ∷ []) ∷ rest
 unclaimed notes = notes
-
