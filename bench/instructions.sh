@@ -43,13 +43,13 @@ printf 'x\ny\n' > small.txt
 
 # The instructions of a call.
 instructions() {
-    valgrind --tool=callgrind --callgrind-out-file=/dev/null "$flow" run "$@" 2>&1 >/dev/null \
+    valgrind --tool=callgrind --callgrind-out-file=/dev/null "$flow" run --workers 1 "$@" 2>&1 >/dev/null \
         | awk '/Collected/ { print $4 }' || true
 }
 
 # The most memory of a call, in kilobytes.
 memory() {
-    python3 - "$flow" run "$@" <<'PYTHON'
+    python3 - "$flow" run --workers 1 "$@" <<'PYTHON'
 import os, sys
 child = os.fork()
 if child == 0:

@@ -68,12 +68,12 @@ tell() {
 }
 
 read -r grep_seconds grep_memory < <(measure grep -F ERROR log.txt)
-read -r keep_seconds keep_memory < <(measure "$flow" run keep.json)
+read -r keep_seconds keep_memory < <(measure "$flow" run --workers 1 keep.json)
 read -r wc_seconds wc_memory < <(measure wc -l log.txt)
-read -r count_seconds count_memory < <(measure "$flow" run count.json)
-read -r thousand_seconds thousand_memory < <(measure "$flow" run chain1000.json)
-read -r most_seconds most_memory < <(measure "$flow" run chain10000.json)
-read -r fan_seconds fan_memory < <(measure "$flow" run fan9999.json)
+read -r count_seconds count_memory < <(measure "$flow" run --workers 1 count.json)
+read -r thousand_seconds thousand_memory < <(measure "$flow" run --workers 1 chain1000.json)
+read -r most_seconds most_memory < <(measure "$flow" run --workers 1 chain10000.json)
+read -r fan_seconds fan_memory < <(measure "$flow" run --workers 1 fan9999.json)
 
 tell "grep -F" "$grep_seconds" "$grep_memory"
 tell "flow keep" "$keep_seconds" "$keep_memory" "$grep_seconds"
