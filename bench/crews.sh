@@ -1,8 +1,9 @@
 #!/usr/bin/env bash
 # Measures the built program by several workers: eight sorts, and eight reads with keep, sort and count each, of texts of
-# 8 MB by one worker and by four; a read and 9,999 counts of it by one and by four; a chain of 10,000 tasks by one and by
-# sixteen, in processor time as well. Seconds are the best of five. It needs python3, says the load before and after,
-# and is run as `bash bench/crews.sh`, from any folder, on a machine with four idle processors.
+# 8 MB with lines of 7 and of 100 bytes, by one worker and by four; a read and 9,999 counts of it by one and by four; a
+# chain of 10,000 tasks by one and by sixteen. Times are the best of five, with the processor time of all threads. It
+# needs python3, says the load before and after, and is run as `bash bench/crews.sh`, from any folder, on a machine with
+# four idle processors.
 set -euo pipefail
 flow=$(cd "$(dirname "${BASH_SOURCE[0]}")/.." && pwd)/crates/flow/out/flow
 [ -x "$flow" ] || { echo "build the program first: make" >&2; exit 1; }
@@ -19,37 +20,36 @@ FLOW = sys.argv[1]
 dice = random.Random(7)
 
 
-def write_text(name, size):
-    """Lines of about 100 bytes in no order; one in fifty has the word."""
-    lines = []
-    while size > 0:
-        word = "ERROR" if dice.random() < 0.02 else "info"
-        line = f"{dice.getrandbits(160):040x} {word} request {dice.getrandbits(160):040x}\n"
-        lines.append(line)
-        size -= len(line)
-    open(name, "w").write("".join(lines))
+def write_text(name, width, size):
+    """So many bytes of lines of random digits, of this width with their ends."""
+    digits = f"{dice.getrandbits(4 * size):0{size}x}"
+    open(name, "w").write("".join(digits[k:k + width - 1] + "\n" for k in range(0, size - width, width - 1)))
 
 
 def write_graph(name, tasks):
     json.dump({"tasks": tasks}, open(name, "w"))
 
 
-for k in range(8):
-    write_text(f"text{k}.txt", 8_000_000)
-open("small.txt", "w").write("x\ny\n")
+def write_graphs(width):
+    """Eight sorts, and eight reads with keep, sort and count each, of texts of 8 MB with lines of this width."""
+    sorts = []
+    work = []
+    for k in range(8):
+        text = f"text{width}-{k}.txt"
+        write_text(text, width, 8_000_000)
+        sorts += [{"name": f"r{k}", "op": "read", "text": text, "to": [f"s{k}"]},
+                  {"name": f"s{k}", "op": "sort", "to": [f"n{k}"]}, {"name": f"n{k}", "op": "count"}]
+        work += [{"name": f"r{k}", "op": "read", "text": text, "to": [f"k{k}", f"s{k}", f"c{k}"]},
+                 {"name": f"k{k}", "op": "keep", "word": "abcd", "to": [f"kn{k}"]}, {"name": f"kn{k}", "op": "count"},
+                 {"name": f"s{k}", "op": "sort", "to": [f"sn{k}"]}, {"name": f"sn{k}", "op": "count"},
+                 {"name": f"c{k}", "op": "count"}]
+    write_graph(f"sorts{width}.json", sorts)
+    write_graph(f"work{width}.json", work)
 
-sorts = []
-work = []
-for k in range(8):
-    text = f"text{k}.txt"
-    sorts += [{"name": f"r{k}", "op": "read", "text": text, "to": [f"s{k}"]},
-              {"name": f"s{k}", "op": "sort", "to": [f"n{k}"]}, {"name": f"n{k}", "op": "count"}]
-    work += [{"name": f"r{k}", "op": "read", "text": text, "to": [f"k{k}", f"s{k}", f"c{k}"]},
-             {"name": f"k{k}", "op": "keep", "word": "ERROR", "to": [f"kn{k}"]}, {"name": f"kn{k}", "op": "count"},
-             {"name": f"s{k}", "op": "sort", "to": [f"sn{k}"]}, {"name": f"sn{k}", "op": "count"},
-             {"name": f"c{k}", "op": "count"}]
-write_graph("sorts.json", sorts)
-write_graph("work.json", work)
+
+write_graphs(7)
+write_graphs(100)
+open("small.txt", "w").write("x\ny\n")
 write_graph("fan.json", [{"name": "t", "op": "read", "text": "small.txt", "to": [f"c{k}" for k in range(9_999)]}]
             + [{"name": f"c{k}", "op": "count"} for k in range(9_999)])
 chain = [{"name": "t0", "op": "read", "text": "small.txt"}] + [{"name": f"t{k}", "op": "keep", "word": "x"} for k in range(1, 10_000)]
@@ -72,7 +72,10 @@ def measured(graph, workers):
     return best, processor
 
 
-for what, graph, workers in [("eight sorts", "sorts.json", 4), ("eight reads with three tasks each", "work.json", 4),
+for what, graph, workers in [("eight sorts of lines of 7 bytes", "sorts7.json", 4),
+                             ("eight reads with three tasks each, lines of 7 bytes", "work7.json", 4),
+                             ("eight sorts of lines of 100 bytes", "sorts100.json", 4),
+                             ("eight reads with three tasks each, lines of 100 bytes", "work100.json", 4),
                              ("a read and 9,999 counts", "fan.json", 4), ("a chain of 10,000 tasks", "chain.json", 16)]:
     one, one_processor = measured(graph, 1)
     more, more_processor = measured(graph, workers)
