@@ -5,6 +5,8 @@ import re
 TOP = pathlib.Path(__file__).resolve().parent.parent
 CRATES = TOP / "crates"
 DEFINITION = re.compile(r"^\s*(?:abbrev |unfoldable )*pub (?:record |data |mutual )?([A-Za-z_][A-Za-z0-9_-]*)(?: :| [({])", re.M)
+# Definitions that cite each other, which stand indented below one line.
+MUTUAL = re.compile(r"^abbrev mutual\n((?:  .*\n|\n)*)", re.M)
 IMPORT = re.compile(r"use Rattle\.([a-z_]+)\.specs\.([A-Za-z.]+)\.\{([^}]*)\}")
 
 
@@ -20,6 +22,7 @@ def is_field(text):
 def definitions_in(path):
     """The text of each definition of a file. A field of a record belongs to the text of its record."""
     text = re.sub(r"--.*", "", path.read_text())
+    text = MUTUAL.sub(lambda block: re.sub(r"^  ", "", block.group(1), flags=re.M), text)
     starts = [(m.start(), m.group(1)) for m in DEFINITION.finditer(text) if not is_field(text[m.start() :])]
     ends = [start for start, _ in starts[1:]] + [len(text)]
     return {name: text[start:end] for (start, name), end in zip(starts, ends)}
