@@ -8,3 +8,4 @@ pub mod WorkedGraphFiles
 pub mod WorkedGraphJson
 pub mod WorkedLines
 pub mod WorkedSeats
+pub mod WorkedTurns

@@ -9,6 +9,8 @@
 //! - `WorkedFrames`, `WorkedRows`: what a run's steps do, what its works may come to, where its inner runs stand, and
 //!   what the beginning and the steps of a frame come to;
 //! - `WorkedSeats`: which lock, register or list a pass, a book, a ticket or an owner is of;
+//! - `WorkedTurns`: the units that turns of a table hold, what becomes of releases, how a table begins, and when a keeper
+//!   tells a whole run;
 //! - `WorkedLines`: lines without an end, and words in them;
 //! - `WorkedGraphFiles`, `WorkedGraphJson`: which plan a graph file stands for, what is refused first, and how a plan is
 //!   written.

@@ -1,0 +1,284 @@
+-- The units that turns of a table hold, what becomes of releases, how a table begins, and when a keeper tells a whole run.
+use Rattle.std.proofs.Common.{◌≡◌, ℕ, zero, suc, ◌+◌, ◌<◌, Bool, true, false, List, [], ◌∷◌, Some, None, refl, ap, sym, subst, ◌∙◌, inl, arith}
+use Rattle.std.specs.Prelude.{◌==◌, ◌||◌, count_by, All}
+use Rattle.std.proofs.lemmas.Bool.Decides.{nat_tests}
+use Rattle.std.specs.declared.result.Result.TheVariants.{Ok, Err}
+use Rattle.task_graph.specs.declared.net.Shape.TheVariants.{Plain}
+use Rattle.task_graph.specs.declared.net.TaskRow.{TaskRow}
+use Rattle.task_graph.specs.NetRows.{NetRows}
+use Rattle.atomic_table.specs.Seated.{TableId}
+use Rattle.journal_rules.specs.declared.entry.Cause.TheVariants.{Source, Strong}
+use Rattle.journal_rules.specs.declared.entry.Why.TheVariants.{Long, Wide, Unmet, Inner, OverRelease}
+use Rattle.journal_rules.specs.declared.entry.DropWhy.TheVariants.{Limit, Halted}
+use Rattle.journal_rules.specs.declared.entry.Entry.{Entry}
+use Rattle.journal_rules.specs.declared.entry.Entry.TheVariants.{Start, End, Fault, Drop}
+use Rattle.journal_rules.specs.ShapeLegal.{MayFollow}
+use Rattle.journal_rules.specs.Complete.{Complete}
+use Rattle.join_tables.specs.declared.turns.UnitTake.TheVariants.{Got, NoUnit}
+use Rattle.join_tables.specs.declared.turns.Run.{Run}
+use Rattle.join_tables.specs.declared.outcomes.Failure.{Failure}
+use Rattle.join_tables.specs.declared.outcomes.Dropping.{Dropping}
+use Rattle.join_tables.specs.declared.outcomes.Outcome.TheVariants.{Ended, Faulted, Dropped}
+use Rattle.join_tables.specs.declared.opening.Opening.{Opening}
+use Rattle.join_tables.specs.declared.keeper.Remaining.TheVariants.{More as TurnsLeft, All as NoneLeft}
+use Rattle.join_tables.specs.declared.keeper.Recorded.{Recorded}
+use Rattle.join_tables.specs.States.{TableState, FreshState, TurnState, fresh_state, turn_state, turn_with, running_state}
+use Rattle.join_tables.specs.Giving.{one_if}
+use Rattle.join_tables.specs.Holding.{HoldsAll, PutsAll, without}
+use Rattle.join_tables.specs.Units.{TakesUnit}
+use Rattle.join_tables.specs.Reasons.{TellsNoUnit}
+use Rattle.join_tables.specs.Outcomes.{FaultsAs, DropsAs}
+use Rattle.join_tables.specs.Openings.{OpensTable}
+use Rattle.join_tables.specs.Keeping.{KeeperState, keeper_state, entries_of, Merges, TellsRun, TellsSomeRun, IsLast}
+
+abbrev needs : List ℕ → List ℕ → TaskRow
+needs takes puts = record { shape = Plain; takes = takes; puts = puts }
+
+-- Task 0 takes and puts semaphores 0 and 2, task 1 needs none, task 2 only takes and task 3 only puts. Semaphore 0 has
+-- two units.
+abbrev net : NetRows
+net = record {
+  tasks = needs (0 ∷ 2 ∷ []) (0 ∷ 2 ∷ []) ∷ needs [] [] ∷ needs (0 ∷ []) [] ∷ needs [] (0 ∷ []) ∷ [];
+  edges = [];
+  sems = 2 ∷ 1 ∷ 1 ∷ [];
+}
+
+-- UNITS
+none_past_them : (first second : Bool) → first ≡ false → second ≡ false → one_if second + (one_if first + 0) ≡ one_if (first || (second || false))
+none_past_them false false not_first not_second = refl
+none_past_them true second not_first not_second = absurd (cc)
+none_past_them false true not_first not_second = absurd (cc)
+
+one_of_each : HoldsAll net 0 (2 ∷ 0 ∷ [])
+one_of_each zero = refl
+one_of_each (suc zero) = refl
+one_of_each (suc (suc zero)) = refl
+one_of_each (suc (suc (suc s))) = none_past_them (0 == suc (suc (suc s))) (2 == suc (suc (suc s))) (grind (arith, nat_tests)) (grind (arith, nat_tests))
+
+none_needed : HoldsAll net 1 []
+none_needed s = refl
+
+second_is_missing : ¬ HoldsAll net 0 (0 ∷ [])
+second_is_missing holds = absurd (omega (arith, holds 2))
+
+first_held_twice : ¬ HoldsAll net 0 (0 ∷ 2 ∷ 0 ∷ [])
+first_held_twice holds = absurd (omega (arith, holds 0))
+
+another_held_besides : ¬ HoldsAll net 0 (2 ∷ 1 ∷ 0 ∷ [])
+another_held_besides holds = absurd (omega (arith, holds 1))
+
+puts_what_it_takes : PutsAll net 0
+puts_what_it_takes s = refl
+
+takes_and_keeps : ¬ PutsAll net 2
+takes_and_keeps puts = let no : false ≡ true = puts 0 in absurd (cc)
+
+puts_without_taking : ¬ PutsAll net 3
+puts_without_taking puts = let no : true ≡ false = puts 0 in absurd (cc)
+
+one_unit_fewer : without 0 (2 ∷ 0 ∷ 1 ∷ 0 ∷ []) ≡ 2 ∷ 1 ∷ 0 ∷ []
+one_unit_fewer = refl
+
+no_unit_to_leave : without 1 (2 ∷ 0 ∷ []) ≡ 2 ∷ 0 ∷ []
+no_unit_to_leave = refl
+
+module _ (t u : TurnState) where
+  last_unit_is_taken : TakesUnit net t 0 (Got (turn_with t.table t.task t.cause None (0 ∷ t.held) None (Some 1)))
+  last_unit_is_taken = (refl, omega arith)
+
+  no_third_unit : ¬ TakesUnit net t 0 (Got (turn_with t.table t.task t.cause None (0 ∷ t.held) None (Some 2)))
+  no_third_unit takes = absurd (omega (arith, takes.1))
+
+  taken_unit_is_held : TakesUnit net t 0 (Got u) → (u.held ≡ 0 ∷ t.held) × (u.task ≡ t.task) × (u.refused ≡ None)
+  taken_unit_is_held takes = (ap (λ (s : TurnState). s.held) takes.0, ap (λ (s : TurnState). s.task) takes.0, ap (λ (s : TurnState). s.refused) takes.0)
+
+  no_unit_from_the_maximum_on : TakesUnit net t 0 (NoUnit (turn_with t.table t.task t.cause None t.held None (Some 2)))
+  no_unit_from_the_maximum_on = (refl, omega arith)
+
+  no_refusal_while_one_is_left : ¬ TakesUnit net t 0 (NoUnit (turn_with t.table t.task t.cause None t.held None (Some 1)))
+  no_refusal_while_one_is_left takes = absurd (omega (arith, takes.1))
+
+  refusal_takes_none : TakesUnit net t 0 (NoUnit u) → u.held ≡ t.held
+  refusal_takes_none takes = ap (λ (s : TurnState). s.held) takes.0
+
+  other_semaphore_has_one : ¬ TakesUnit net t 1 (Got (turn_with t.table t.task t.cause None (1 ∷ t.held) None (Some 1)))
+  other_semaphore_has_one takes = absurd (omega (arith, takes.1))
+
+  found_some_number : ¬ TakesUnit net t 0 (Got (turn_with t.table t.task t.cause None (0 ∷ t.held) None None))
+  found_some_number takes = takes.1
+
+-- WHAT BECOMES OF A RELEASE
+reasons_of_the_task : TellsNoUnit (Long 9) × TellsNoUnit (Wide 9) × TellsNoUnit (Unmet 9) × TellsNoUnit Inner
+reasons_of_the_task = (tt, tt, tt, tt)
+
+unit_that_is_told : ¬ TellsNoUnit (OverRelease 0)
+unit_that_is_told no_unit = no_unit
+
+abbrev failure : Failure
+failure = record { task = 3; cause = Strong; start = 4; place = 6; why = Inner }
+
+abbrev dropping : Dropping
+dropping = record { task = 3; cause = Strong; place = 6; why = Limit }
+
+abbrev ending : Run
+ending = record { task = 3; cause = Strong; start = 4; place = 6; gives = []; inner = false }
+
+module _ (n : TableId) where
+  its_start_faulted : FaultsAs (running_state n 3 Strong 4 []) Inner (Faulted failure)
+  its_start_faulted = (refl, refl, refl, refl)
+
+  another_task_faulted : ¬ FaultsAs (running_state n 2 Strong 4 []) Inner (Faulted failure)
+  another_task_faulted faults = absurd (omega (arith, faults.0))
+
+  another_cause_faulted : ¬ FaultsAs (running_state n 3 Source 4 []) Inner (Faulted failure)
+  another_cause_faulted faults = let no : Strong ≡ Source = faults.1 in absurd (cc)
+
+  another_start_faulted : ¬ FaultsAs (running_state n 3 Strong 5 []) Inner (Faulted failure)
+  another_start_faulted faults = absurd (omega (arith, faults.2))
+
+  fault_of_another_reason : ¬ FaultsAs (running_state n 3 Strong 4 []) (Long 9) (Faulted failure)
+  fault_of_another_reason faults = let no : Inner ≡ Long 9 = faults.3 in absurd (cc)
+
+  end_is_no_fault : ¬ FaultsAs (running_state n 3 Strong 4 []) Inner (Ended ending)
+  end_is_no_fault faults = faults
+
+  drop_is_no_fault : ¬ FaultsAs (running_state n 3 Strong 4 []) Inner (Dropped dropping)
+  drop_is_no_fault faults = faults
+
+  it_was_dropped : DropsAs (turn_state n 3 Strong None) Limit (Dropped dropping)
+  it_was_dropped = (refl, refl, refl)
+
+  another_task_dropped : ¬ DropsAs (turn_state n 2 Strong None) Limit (Dropped dropping)
+  another_task_dropped drops = absurd (omega (arith, drops.0))
+
+  another_cause_dropped : ¬ DropsAs (turn_state n 3 Source None) Limit (Dropped dropping)
+  another_cause_dropped drops = let no : Strong ≡ Source = drops.1 in absurd (cc)
+
+  drop_for_another_reason : ¬ DropsAs (turn_state n 3 Strong None) Halted (Dropped dropping)
+  drop_for_another_reason drops = let no : Limit ≡ Halted = drops.2 in absurd (cc)
+
+  end_is_no_drop : ¬ DropsAs (turn_state n 3 Strong None) Limit (Ended ending)
+  end_is_no_drop drops = drops
+
+  fault_is_no_drop : ¬ DropsAs (turn_state n 3 Strong None) Limit (Faulted failure)
+  fault_is_no_drop drops = drops
+
+-- WHAT A KEEPER TELLS
+start_and_fault : entries_of (Faulted failure) ≡ record { place = 4; entry = Start 3 Strong [] } ∷ record { place = 6; entry = Fault 4 Inner } ∷ []
+start_and_fault = refl
+
+drop_alone : entries_of (Dropped dropping) ≡ record { place = 6; entry = Drop 3 Strong Limit } ∷ []
+drop_alone = refl
+
+last_by_its_answer : IsLast {E = ℕ} (Ok NoneLeft)
+last_by_its_answer = tt
+
+not_last_while_turns_are_left : ¬ IsLast {E = ℕ} (Ok TurnsLeft)
+not_last_while_turns_are_left last = last
+
+not_last_by_an_error : ¬ IsLast {E = ℕ} (Err 5)
+not_last_by_an_error last = last
+
+abbrev one_task : NetRows
+one_task = record { tasks = needs [] [] ∷ []; edges = []; sems = [] }
+
+abbrev run : Run
+run = record { task = 0; cause = Source; start = 0; place = 1; gives = []; inner = false }
+
+abbrev journal : List Entry
+journal = Start 0 Source [] ∷ End 0 [] false ∷ []
+
+may_start : MayFollow one_task 5 [] (Start 0 Source [])
+may_start = record {
+  in_range = (omega arith, tt);
+  release = (refl, refl);
+  closing = tt;
+  choice = tt;
+  semaphore = record { within = tt; over = tt };
+  halt_limit_stuck = record { dropped = omega arith; after_stuck = λ other. refl };
+}
+
+may_end : MayFollow one_task 5 (Start 0 Source [] ∷ []) (End 0 [] false)
+may_end = record {
+  in_range = tt;
+  release = tt;
+  closing = refl;
+  choice = (inl refl, refl);
+  semaphore = record { within = tt; over = tt };
+  halt_limit_stuck = record { dropped = tt; after_stuck = λ other. refl };
+}
+
+each_place_once : Merges (entries_of (Ended run)) journal
+each_place_once = record { stand = (refl, (refl, tt)); each = once }
+  where
+    once : (m : ℕ) → m < 2 → count_by (λ (r : Recorded). r.place == m) (entries_of (Ended run)) ≡ 1
+    once zero below = refl
+    once (suc zero) below = refl
+    once (suc (suc m)) below = absurd (omega arith)
+
+whole_run : TellsRun one_task 5 (entries_of (Ended run))
+whole_run = record {
+  journal = journal;
+  merges = each_place_once;
+  legal = (may_start, (may_end, tt));
+  complete = record { none_open = (refl, (refl, tt)); sources = (λ is. refl, tt); weak = tt; strong = (λ some. absurd (some refl), tt); limited = λ some. absurd (some refl) };
+}
+
+run_of_some_net : TellsSomeRun (entries_of (Ended run))
+run_of_some_net = record { net = one_task; limit = 5; tells = whole_run }
+
+unused_release : (told : List Entry) → Merges [] told → ¬ Complete one_task 5 told
+unused_release [] merges complete = absurd (omega (arith, complete.sources.0 refl))
+unused_release (entry ∷ more) merges complete = absurd (omega (arith, merges.each 0 (omega arith)))
+
+no_run_without_its_start : ¬ TellsRun one_task 5 []
+no_run_without_its_start tells = unused_release tells.journal tells.merges tells.complete
+
+-- no net has a finished run whose one entry stands at a later place
+no_run_with_a_gap : ¬ TellsSomeRun (entries_of (Dropped dropping))
+no_run_with_a_gap some = gap some.tells.journal some.tells.merges
+  where
+    gap : (told : List Entry) → ¬ Merges (entries_of (Dropped dropping)) told
+    gap [] merges = let no : None ≡ Some (Drop 3 Strong Limit) = merges.stand.0 in absurd (cc)
+    gap (entry ∷ more) merges = absurd (omega (arith, merges.each 0 (omega arith)))
+
+keeper_without_entries : (n : TableId) (k : KeeperState) → k ≡ keeper_state n [] None → (k.table ≡ n) × (k.entries ≡ []) × (k.found ≡ None)
+keeper_without_entries n k is = (ap (λ (s : KeeperState). s.table) is, ap (λ (s : KeeperState). s.entries) is, ap (λ (s : KeeperState). s.found) is)
+
+-- HOW A TABLE BEGINS
+abbrev no_tasks : NetRows
+no_tasks = record { tasks = []; edges = []; sems = [] }
+
+all_one : {X : Type 0} (P : X → Type 0) (x : X) → P x → All P (x ∷ [])
+all_one P x here zero d below = here
+all_one P x here (suc k) d below = absurd (omega arith)
+
+module _ (o : Opening) where
+  of_its_net_and_limit : (t : TableState) → o.table ≡ t → OpensTable one_task 5 o → (t.net ≡ one_task) × (t.limit ≡ 5)
+  of_its_net_and_limit t is opens = (sym (ap (λ (s : TableState). s.net) is) ∙ opens.net_is, sym (ap (λ (s : TableState). s.limit) is) ∙ opens.limit_is)
+
+  with_its_first_release : OpensTable one_task 5 o → o.fresh.items ≡ fresh_state o.table.table 0 Source ∷ []
+  with_its_first_release opens = opens.fresh
+
+  no_opening_without_its_release : o.fresh.items ≡ [] → ¬ OpensTable one_task 5 o
+  no_opening_without_its_release none opens = no_run_without_its_start (opens.nothing none)
+
+  no_opening_at_another_limit : o.table.limit ≡ 4 → ¬ OpensTable one_task 5 o
+  no_opening_at_another_limit four opens = absurd (omega (arith, four, opens.limit_is))
+
+  keeper_has_nothing_at_first : OpensTable one_task 5 o → o.keeper ≡ keeper_state o.table.table [] None
+  keeper_has_nothing_at_first opens = opens.keeper
+
+  opens_with_its_parts : o.table.net ≡ one_task → o.table.limit ≡ 5 → o.fresh.items ≡ fresh_state o.table.table 0 Source ∷ [] → o.keeper ≡ keeper_state o.table.table [] None
+      → OpensTable one_task 5 o
+  opens_with_its_parts net_is limit_is fresh keeper = record {
+    net_is = net_is;
+    limit_is = limit_is;
+    fresh = fresh;
+    of_table = subst (λ items. All (λ (f : FreshState). f.table ≡ o.table.table) items) (sym fresh) (all_one (λ (f : FreshState). f.table ≡ o.table.table) (fresh_state o.table.table 0 Source) refl);
+    nothing = λ none. let no : fresh_state o.table.table 0 Source ∷ [] ≡ [] = sym fresh ∙ none in absurd (cc);
+    keeper = keeper;
+  }
+
+  finished_without_a_task : OpensTable no_tasks 5 o → TellsRun no_tasks 5 []
+  finished_without_a_task opens = opens.nothing opens.fresh
