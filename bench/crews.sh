@@ -1,9 +1,9 @@
 #!/usr/bin/env bash
 # Measures the built program by several workers: eight sorts, and eight reads with keep, sort and count each, of texts of
 # 8 MB with lines of 7 and of 100 bytes, by one worker and by four; a read and 9,999 counts of it by one and by four; a
-# chain of 10,000 tasks by one and by sixteen. Times are the best of five, with the processor time of all threads. It
-# needs python3, says the load before and after, and is run as `bash bench/crews.sh`, from any folder, on a machine with
-# four idle processors.
+# chain of 10,000 tasks by one and by sixteen. Times are the least of five calls, and so is the processor time of all
+# threads. It needs python3, says the load before and after, and is run as `bash bench/crews.sh`, from any folder, on a
+# machine with four idle processors.
 set -euo pipefail
 flow=$(cd "$(dirname "${BASH_SOURCE[0]}")/.." && pwd)/crates/flow/out/flow
 [ -x "$flow" ] || { echo "build the program first: make" >&2; exit 1; }
@@ -21,9 +21,11 @@ dice = random.Random(7)
 
 
 def write_text(name, width, size):
-    """So many bytes of lines of random digits, of this width with their ends."""
-    digits = f"{dice.getrandbits(4 * size):0{size}x}"
-    open(name, "w").write("".join(digits[k:k + width - 1] + "\n" for k in range(0, size - width, width - 1)))
+    """So many bytes of lines of random hexadecimal digits, of this width with their ends."""
+    count = size // width
+    own = width - 1
+    digits = f"{dice.getrandbits(4 * count * own):0{count * own}x}"
+    open(name, "w").write("".join(digits[k * own:(k + 1) * own] + "\n" for k in range(count)))
 
 
 def write_graph(name, tasks):
@@ -68,7 +70,7 @@ def measured(graph, workers):
         best = min(best, time.perf_counter() - start)
         processor = min(processor, usage.ru_utime + usage.ru_stime)
         if status:
-            sys.exit(f"{graph} by {workers} workers ended with status {status}")
+            sys.exit(f"{graph} by {workers} workers ended with code {os.waitstatus_to_exitcode(status)}")
     return best, processor
 
 

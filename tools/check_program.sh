@@ -1,7 +1,7 @@
 #!/usr/bin/env bash
-# Runs the built program on each of the examples, on words and files that it refuses, on outputs that fail and
-# without memory, and compares its exit code, standard output and standard error. Prints a line for each
-# difference, and ends with status 1 where there is one. Its one argument is the program; without it that of the
+# Runs the built program on each of the examples, also by 1, 4 and 16 workers, on command lines and files that it refuses,
+# on outputs that fail and without memory, and compares its exit code, standard output and standard error; and counts
+# the threads of runs by several workers. Prints a line for each difference, and ends with status 1 where there is one. Its one argument is the program; without it that of the
 # last build is run.
 set -euo pipefail
 top=$(realpath "$(dirname "${BASH_SOURCE[0]}")/..")
@@ -390,6 +390,29 @@ pipe_of 25000
 cut_short 'a pipe whose reader goes in a middle write' 25000
 pipe_of 110000
 cut_short 'a pipe whose reader goes in the last write' 110000
+
+# The threads of a run by so many workers that goes round until its limit: the most that are seen while it runs.
+echo '{"tasks":[{"name":"a","op":"input","to":["c"]},{"name":"c","op":"ifmore","n":0,"to":["d","c"]},{"name":"d","op":"pass"}]}' >"$seen/loop.json"
+threads_of() {
+    local most=0 now pid
+    "$program" run "$seen/loop.json" --limit 1000000 "${@}" >/dev/null 2>&1 &
+    pid=$!
+    for _ in {1..20000}; do
+        now=$(awk '/^State:.*Z/ { exit } /^Threads:/ { print $2 }' "/proc/$pid/status" 2>/dev/null) || break
+        [[ -n $now ]] || break
+        if ((now > most)); then most=$now; fi
+    done
+    wait "$pid" || true
+    echo "$most"
+}
+for workers in 1 2 16; do
+    cases=$((cases + 1))
+    threads=$(threads_of --workers "$workers")
+    ((threads == workers)) || fault "a run by $workers workers has $threads threads"
+done
+cases=$((cases + 1))
+threads=$(threads_of)
+((threads == 4)) || fault "a run where no number of workers is said has $threads threads"
 
 echo "program: $cases calls, $faults with a difference"
 ((faults == 0))

@@ -4,11 +4,12 @@
     many_workers.py PROGRAM [--count N] [--seed N] [--seconds N]
 
 Of a graph without conditions whose run is fine each number of workers has to print the same bytes, those of a slow
-evaluation. Of each other graph the report has to have its form. Each run is made once more with `--journal`, and its
-journal has to be judged complete. The limits of starts differ, so that runs meet them, and now and then a text is so
-long that two of them together are too long for a value. With `--seconds` graphs are made until so many seconds have
-passed. A run that takes longer than a minute counts as one that doesn't end. Prints a line for each difference and how
-many runs ended with which code, and ends with status 1 where there was a difference.
+evaluation; such a run has to be fine where no text is long and the limit isn't below the number of tasks. Of each other
+run the report has to have its form, and its last line has to be that of standard error. Each run is made once more with
+`--journal`, and its journal has to be judged complete. The limits of starts differ, so that runs meet them, and in each
+twenty-fifth graph a text is so long that two of them together are too long for a value. With `--seconds` graphs are made until
+so many seconds have passed. A call that takes longer than a minute counts as one that doesn't end. Prints a line for each
+difference and how many runs ended with which code, and ends with status 1 where there was a difference.
 """
 import argparse
 import json
@@ -19,9 +20,10 @@ import sys
 import tempfile
 import time
 
-from random_graphs import branching_graph, difference, plain_graph, random_text
+from random_graphs import branching_graph, difference, has_form, plain_graph, random_text
 
-WORKERS = (1, 4, 16)
+# None asks for no number.
+WORKERS = (1, 4, 16, None)
 LIMITS = (1, 3, 10, 40, 1_000)
 
 # More than half of the longest value.
@@ -29,8 +31,15 @@ LONG_TEXT = "a b\n" * 2_200_000
 
 
 def call(program, words, folder):
-    done = subprocess.run([program, *words], cwd=folder, capture_output=True, timeout=60)
+    try:
+        done = subprocess.run([program, *words], cwd=folder, capture_output=True, timeout=60)
+    except subprocess.TimeoutExpired:
+        return "no end", "", ""
     return done.returncode, done.stdout.decode(), done.stderr.decode()
+
+
+def options(limit, workers):
+    return ["--limit", str(limit)] + (["--workers", str(workers)] if workers else [])
 
 
 def made_case(dice, number):
@@ -38,16 +47,18 @@ def made_case(dice, number):
     has_conditions = number % 2 == 1
     graph = branching_graph(dice) if has_conditions else plain_graph(dice)
     texts = {"one.txt": random_text(dice), "two.txt": random_text(dice)}
-    if number % 97 == 50:
+    if number % 25 == 6:
         texts["one.txt"] = LONG_TEXT
+        readers = [task for task in graph["tasks"] if task.get("text") == "one.txt" and task.get("to")]
+        for task in readers:
+            task["to"].append(task["to"][0])
     return graph, texts, dice.choice(LIMITS), has_conditions
 
 
-def journal_fault(program, folder, limit, workers):
-    """What is wrong with the journal of a run by so many workers."""
-    words = ["--limit", str(limit), "--workers", str(workers)]
-    code, journal, notes = call(program, ["run", "graph.json", "--journal", *words], folder)
-    if code in (2, 3, 4):
+def journal_fault(program, folder, limit, workers, reported):
+    """What is wrong with the journal of a run by so many workers, of which the report's call ended with this code."""
+    code, journal, notes = call(program, ["run", "graph.json", "--journal", *options(limit, workers)], folder)
+    if code == 4 and reported == 4:
         return None
     if code not in (0, 8, 9):
         return f"a journal with code {code}, {notes!r}"
@@ -56,24 +67,29 @@ def journal_fault(program, folder, limit, workers):
     return None if seen == (0, "complete\n", "") else f"judged {seen}: {journal!r}"
 
 
-def report_fault(case, workers, seen, alone):
-    """What is wrong with the report of a run by so many workers; `alone` is what one worker printed."""
-    graph, texts, _, has_conditions = case
-    if seen[0] == 0 and not has_conditions and seen != alone:
-        return f"{workers} workers printed {seen!r}, one {alone!r}"
-    if seen[0] == 0 or has_conditions or seen[0] not in (8, 9):
-        return difference(graph, texts, has_conditions, seen)
-    return None
+def report_fault(case, seen, alone):
+    """What is wrong with the report of a run; `alone` is what was seen of one worker."""
+    graph, texts, limit, has_conditions = case
+    code, out, notes = seen
+    if code in (8, 9):
+        if not has_form(graph, out) or out.split("\n")[-2].replace("!!", "flow:", 1) != notes.rstrip("\n"):
+            return f"code {code}, {notes!r}, printed {out!r}"
+        if has_conditions or limit < len(graph["tasks"]) or LONG_TEXT in texts.values():
+            return None
+    if code == 0 and not has_conditions and alone[0] == 0 and seen is not alone:
+        return None if seen == alone else f"printed {seen!r}, one worker {alone!r}"
+    return difference(graph, texts, has_conditions, seen)
 
 
 def faults_of(program, case, folder, codes):
     graph, texts, limit, has_conditions = case
     alone = None
     for workers in WORKERS:
-        seen = call(program, ["run", "graph.json", "--limit", str(limit), "--workers", str(workers)], folder)
+        seen = call(program, ["run", "graph.json", *options(limit, workers)], folder)
         alone = alone or seen
-        codes[(workers, has_conditions, seen[0])] = codes.get((workers, has_conditions, seen[0]), 0) + 1
-        for what in (report_fault(case, workers, seen, alone), journal_fault(program, folder, limit, workers)):
+        key = (workers or 0, has_conditions, str(seen[0]))
+        codes[key] = codes.get(key, 0) + 1
+        for what in (report_fault(case, seen, alone), journal_fault(program, folder, limit, workers, seen[0])):
             if what:
                 yield f"{workers} workers, limit {limit}: {what[:2_000]}"
 
@@ -108,7 +124,8 @@ def main():
         number += 1
     for (workers, has_conditions, code), count in sorted(codes.items()):
         kind = "with" if has_conditions else "without"
-        print(f"{workers} workers: {count} graphs {kind} conditions ended with code {code}")
+        by = f"{workers} workers" if workers else "no number"
+        print(f"{by}: {count} graphs {kind} conditions ended with code {code}")
     print(f"{number} graphs, {faults} faults")
     sys.exit(1 if faults else 0)
 

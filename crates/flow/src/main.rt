@@ -47,7 +47,8 @@ fn without_memory(rt: &HostRuntime) -> ExitCode {
     ExitCode::from(status.code())
 }
 
-// Calls the program with these arguments.
+// Calls the program with these arguments. It asks for what it needs of the running system, since threads are to be had by a
+// type parameter alone outside `main`.
 fn call<R: Threads + Wait + Sync + Files + StandardStreams + Copy>(
     rt: &R,
     alloc: Global,

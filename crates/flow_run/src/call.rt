@@ -50,9 +50,10 @@ pub struct Outcome {
 }
 
 /// Does what the command line `words` asks for: `run FILE` reads the graph file of this name and the texts that it names,
-/// runs the graph to its end, and writes the run's report to `out`, or with `--journal` its journal; `judge FILE JOURNAL`
-/// reads the journal file of that name besides, and writes the judge's verdict; `check FILE` writes how the graph can go
-/// wrong. The line of the status goes to `notes`, the diagnostics sink.
+/// runs the graph to its end, by as many workers as it says, and writes the run's report to `out`, or with `--journal` its
+/// journal; `judge FILE JOURNAL` reads the journal file of that name besides, and writes the judge's verdict; `check FILE`
+/// writes how the graph can go wrong. The line of the status goes to `notes`, the diagnostics sink. `rt` makes the threads
+/// of several workers and waits for them, so it isn't proved that the call returns.
 pub fn flow_main<F: Texts, S: Sink, N: Sink, R: Threads + Wait + Sync>(
     rt: &R,
     alloc: Global,

@@ -94,7 +94,8 @@ pub(crate) fn plan_in(alloc: Global, bytes: &[u8]) -> Result<Plan, Stop>
     }
 }
 
-// A table without a text, filled with the texts of these names.
+// A table without a text, filled with the texts of these names. Its caller makes it, since what stops the reading of texts
+// stops it at a name.
 fn read_texts<F: Texts, R: Wait>(
     rt: &R,
     alloc: Global,

@@ -79,7 +79,7 @@ const LIMIT: &str = r#"{"tasks":[
     {"name":"c","op":"ifmore","n":2,"to":["c","d"]},
     {"name":"d","op":"pass"}]}"#;
 
-// How many workers a run has.
+// The numbers of workers by which each graph is run.
 const WORKERS: [&str; 3] = ["1", "4", "16"];
 
 // The first of these calls that is shown in another way with some number of workers, or nothing.
