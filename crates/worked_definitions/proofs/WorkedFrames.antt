@@ -417,19 +417,19 @@ module _ (r s : TableId) (other : s ≢ r) (ins : Ins ℕ) where
   begins_with_a_task_that_waits : ¬ IsBegun flat_sums 2 (view [] 4 (Some (Unused 0 Source) ∷ Some (Unused 1 Strong) ∷ Some (Unused 2 Source) ∷ [])) (ticket 0 (Unused 0 Source) ∷ ticket 1 (Unused 1 Strong) ∷ ticket 2 (Unused 2 Source) ∷ [])
   begins_with_a_task_that_waits is = let first = is.first in absurd (cc)
 
-  begins_with_a_start : ¬ IsBegun flat_sums 2 (view begun 4 []) []
+  begins_with_a_start : ¬ IsBegun flat_sums 2 (view begun 4 both_sources) (ticket 0 (Unused 0 Source) ∷ ticket 1 (Unused 2 Source) ∷ [])
   begins_with_a_start is = let longer = ap (λ (state : MachineState). length state.journal) is.machine in absurd (omega (arith, longer))
 
-  begins_with_another_limit : ¬ IsBegun flat_sums 2 (view [] 5 []) []
+  begins_with_another_limit : ¬ IsBegun flat_sums 2 (view [] 5 both_sources) (ticket 0 (Unused 0 Source) ∷ ticket 1 (Unused 2 Source) ∷ [])
   begins_with_another_limit is = let limit = ap (λ (state : MachineState). state.limit) is.machine in absurd (omega (arith, limit))
 
   begins_over_another_net : ¬ IsBegun sums 2 (view [] 4 (Some (Unused 0 Source) ∷ [])) (ticket 0 (Unused 0 Source) ∷ [])
   begins_over_another_net is = let edges = ap (λ (state : MachineState). length state.net.edges) is.machine in absurd (omega (arith, edges))
 
-  begins_another_job : ¬ IsBegun flat_sums 3 (view [] 5 []) []
+  begins_another_job : ¬ IsBegun flat_sums 3 (view [] 5 both_sources) (ticket 0 (Unused 0 Source) ∷ ticket 1 (Unused 2 Source) ∷ [])
   begins_another_job is = absurd (omega (arith, is.job_is))
 
-  begins_with_more_than_its_tickets : ¬ IsBegun flat_sums 2 (view [] 4 both_sources) (ticket 0 (Unused 0 Source) ∷ [])
+  begins_with_more_than_its_tickets : ¬ IsBegun flat_sums 2 (view [] 4 (both_sources ++ Some (Unused 1 Strong) ∷ [])) (ticket 0 (Unused 0 Source) ∷ ticket 1 (Unused 2 Source) ∷ [])
   begins_with_more_than_its_tickets is = let longer = ap length is.items in absurd (omega (arith, longer))
 
   begins_in_another_register : ¬ IsBegun flat_sums 2 (view [] 4 both_sources) (record (ticket 0 (Unused 0 Source)) { register = s } ∷ ticket 1 (Unused 2 Source) ∷ [])
@@ -500,6 +500,12 @@ module _ (r s : TableId) (other : s ≢ r) (ins : Ins ℕ) where
   another_task_started : ¬ StartsTask flat_sums (view [] 4 both_sources) (view begun 4 (Some (Unused 0 Source) ∷ None ∷ Some (Running 2 0 ins) ∷ [])) (ticket 1 (Unused 2 Source)) (ticket 2 (Running 2 0 ins))
   another_task_started is = let was = is.was in let same = ap (λ (state : MachineState). state.journal) is.entry.after in absurd (cc)
 
+  another_release_started : ¬ StartsTask flat_sums (view [] 4 both_sources) (view begun 4 (Some (Unused 0 Source) ∷ None ∷ Some (Running 0 0 ins) ∷ [])) (ticket 1 (Unused 2 Source)) (ticket 2 (Running 0 0 ins))
+  another_release_started is = let was = is.was in let item = is.item in absurd (cc)
+
+  started_without_a_release : ¬ StartsTask flat_sums (view [] 4 (None ∷ [])) (view begun 4 (None ∷ Some (Running 0 0 ins) ∷ [])) (ticket 0 (Unused 0 Source)) (ticket 1 (Running 0 0 ins))
+  started_without_a_release is = let stood = is.stood in absurd (cc)
+
   started_after_a_fault : ¬ StartsTask flat_sums (view faulted 4 (Some (Unused 2 Source) ∷ [])) (view (faulted ++ Start 2 Source [] ∷ []) 4 (None ∷ Some (Running 2 2 ins) ∷ [])) (ticket 0 (Unused 2 Source)) (ticket 1 (Running 2 2 ins))
   started_after_a_fault is = absurd (omega (arith, is.no_fault))
 
@@ -511,6 +517,16 @@ module _ (r s : TableId) (other : s ≢ r) (ins : Ins ℕ) where
     where
       job_handed_on_at_start : ¬ HasNoInner sums 2 (Running 0 0 ins)
       job_handed_on_at_start is = is (2 + 0 + added (map found_of (parts_of ins))) refl
+
+  -- Which tasks may be started, and which edges an end gives, goes by the net of the job.
+  abbrev no_tasks : Meaning ℕ ℕ
+  no_tasks = record flat_sums { net = λ j. record { tasks = []; edges = []; sems = [] } }
+
+  start_of_no_task : ¬ StartsTask no_tasks (view [] 4 both_sources) (view begun 4 (None ∷ Some (Unused 2 Source) ∷ Some (Running 0 0 ins) ∷ [])) (ticket 0 (Unused 0 Source)) (ticket 2 (Running 0 0 ins))
+  start_of_no_task is = absurd (omega (arith, is.started.in_range))
+
+  edge_of_no_task : ¬ EndsTask no_tasks (view begun 4 (Some (Running 0 0 ins) ∷ [])) (view ended 4 (None ∷ [])) (ticket 0 (Running 0 0 ins)) Each []
+  edge_of_no_task is = let same = ap (λ (state : MachineState). state.journal) is.entry.after in absurd (cc)
 
   -- It is dropped after a fault, or where all starts were made; and then it isn't outstanding any more.
   halted : StartDoes flat_sums (view faulted 4 (Some (Unused 2 Source) ∷ [])) (view (faulted ++ Drop 2 Source Halted ∷ []) 4 (None ∷ [])) (ticket 0 (Unused 2 Source)) started.Halted
@@ -781,6 +797,18 @@ module _ (r s : TableId) (other : s ≢ r) (ins : Ins ℕ) where
   faults_in_another_frame : ¬ FaultsStart flat_sums inside (ticket 2 (Running 0 0 ins)) after_fault
   faults_in_another_frame is = absurd (omega (arith, ap (λ (key : FrameKey ℕ). key.job) is.of_frame, is.same.job))
 
+  end_leaves_another_run : ¬ EndsStart flat_sums own (ticket 2 (Running 0 0 ins)) (ticket 3 (Unused 1 Strong) ∷ []) (record after_end { job = 9 })
+  end_leaves_another_run is = absurd (omega (arith, ap (λ (key : FrameKey ℕ). key.job) is.of_frame, is.same.job))
+
+  fault_leaves_another_run : ¬ FaultsStart flat_sums own (ticket 2 (Running 0 0 ins)) (record after_fault { job = 9 })
+  fault_leaves_another_run is = absurd (omega (arith, ap (λ (key : FrameKey ℕ). key.job) is.of_frame, is.same.job))
+
+  faults_without_an_entry : ¬ FaultsStart flat_sums own (ticket 2 (Running 0 0 ins)) (view [] 4 [])
+  faults_without_an_entry is = longer _ is.found.machine.journal (ap (λ (state : MachineState). state.journal) is.faults.entry.after)
+    where
+      longer : (x : Entry) (journal : List Entry) → [] ≡ journal ++ x ∷ [] → ⊥
+      longer x journal is = absurd (omega (arith, ap length is ∙ length-append journal (x ∷ [])))
+
   closes_by_its_end : parts_of ins ≡ [] → ClosesStart flat_sums own (ticket 2 (Running 0 0 ins)) (ticket 3 (Unused 1 Strong) ∷ []) after_end
   closes_by_its_end parts = inl (ends_start parts)
 
@@ -808,19 +836,19 @@ module _ (r s : TableId) (other : s ≢ r) (ins : Ins ℕ) where
 
   -- A run that is given out may be kept, is of the outermost frame's job, has the journal that was left, and leaves
   -- nothing to do.
-  closes_run : (run : FrameRun ℕ ℕ) → IsKept flat_sums run → job_of run ≡ 2 → journal_of run ≡ [] → ClosesRun flat_sums inside (view [] 4 []) run
+  closes_run : (run : FrameRun ℕ ℕ) → IsKept no_tasks run → job_of run ≡ 2 → journal_of run ≡ [] → ClosesRun no_tasks inside (view [] 4 []) run
   closes_run run kept job journal = record { kept = kept; job = ap Some (sym job); journal = journal; nothing_left = refl }
 
-  closes_an_illegal_run : (run : FrameRun ℕ ℕ) → ¬ IsKept flat_sums run → ¬ ClosesRun flat_sums own (view [] 4 []) run
+  closes_an_illegal_run : (run : FrameRun ℕ ℕ) → ¬ IsKept no_tasks run → ¬ ClosesRun no_tasks own (view [] 4 []) run
   closes_an_illegal_run run never is = never is.kept
 
-  closes_the_inner_job : (run : FrameRun ℕ ℕ) → job_of run ≡ 9 → ¬ ClosesRun flat_sums inside (view [] 4 []) run
+  closes_the_inner_job : (run : FrameRun ℕ ℕ) → job_of run ≡ 9 → ¬ ClosesRun no_tasks inside (view [] 4 []) run
   closes_the_inner_job run job is = let same : ◌≡◌ {A = Option ℕ} (Some 2) (Some 9) = is.job ∙ ap Some job in absurd (cc)
 
-  closes_with_another_journal : (run : FrameRun ℕ ℕ) → journal_of run ≡ begun → ¬ ClosesRun flat_sums own (view [] 4 []) run
+  closes_with_another_journal : (run : FrameRun ℕ ℕ) → journal_of run ≡ [] → ¬ ClosesRun no_tasks own (view begun 4 []) run
   closes_with_another_journal run journal is = absurd (omega (arith, ap length journal, ap length is.journal))
 
-  closes_before_the_end : (run : FrameRun ℕ ℕ) → ¬ ClosesRun flat_sums own (view [] 4 both_sources) run
+  closes_before_the_end : (run : FrameRun ℕ ℕ) → ¬ ClosesRun no_tasks own (view [] 4 both_sources) run
   closes_before_the_end run is = absurd (omega (arith, is.nothing_left))
 
   goes_on : IsStateAfter flat_sums own (view [] 4 both_sources) Went
@@ -832,10 +860,10 @@ module _ (r s : TableId) (other : s ≢ r) (ins : Ins ℕ) where
   parks_nothing : ¬ IsStateAfter flat_sums own (view [] 4 both_sources) Parked × ¬ IsStateAfter flat_sums own (view [] 4 both_sources) HasInner
   parks_nothing = (λ is. is, λ is. is)
 
-  gives_its_run_out : (run : FrameRun ℕ ℕ) → IsKept flat_sums run → job_of run ≡ 2 → journal_of run ≡ [] → IsStateAfter flat_sums own (view [] 4 []) (Closed run)
+  gives_its_run_out : (run : FrameRun ℕ ℕ) → IsKept no_tasks run → job_of run ≡ 2 → journal_of run ≡ [] → IsStateAfter no_tasks own (view [] 4 []) (Closed run)
   gives_its_run_out run kept job journal = record { kept = kept; job = ap Some (sym job); journal = journal; nothing_left = refl }
 
-  gives_a_run_out_before_the_end : (run : FrameRun ℕ ℕ) → ¬ IsStateAfter flat_sums own (view [] 4 both_sources) (Closed run)
+  gives_a_run_out_before_the_end : (run : FrameRun ℕ ℕ) → ¬ IsStateAfter no_tasks own (view [] 4 both_sources) (Closed run)
   gives_a_run_out_before_the_end run is = absurd (omega (arith, is.nothing_left))
 
   closed_alone : (run : FrameRun ℕ ℕ) → IsClosed (Closed run) × ¬ IsClosed {J = ℕ} {V = ℕ} Went × ¬ IsClosed {J = ℕ} {V = ℕ} Parked × ¬ IsClosed {J = ℕ} {V = ℕ} HasInner
@@ -860,6 +888,16 @@ module _ (r s : TableId) (other : s ≢ r) (ins : Ins ℕ) where
   begins_with_releases_of_a_frame_inside stepped released is =
       let frames = subst (All (λ (release : ReleaseView ℕ ℕ). release.frames ≡ frame_key is.left ∷ [])) released is.frames in
       absurd (omega (arith, ap length (All-head (λ (release : ReleaseView ℕ ℕ). release.frames ≡ frame_key is.left ∷ []) (release_in inside (ticket 0 (Unused 0 Source))) (release_in inside (ticket 1 (Unused 2 Source)) ∷ []) frames)))
+
+  begins_the_frame_of_another_job : (stepped : Stepped ℕ ℕ) → stepped.released.items ≡ both_released own → ¬ BeginsFrame flat_sums 3 stepped
+  begins_the_frame_of_another_job stepped released is =
+      let frames = subst (All (λ (release : ReleaseView ℕ ℕ). release.frames ≡ frame_key is.left ∷ [])) released is.frames in
+      let same : own ≡ frame_key is.left ∷ [] = All-head (λ (release : ReleaseView ℕ ℕ). release.frames ≡ frame_key is.left ∷ []) (release_in own (ticket 0 (Unused 0 Source))) (release_in own (ticket 1 (Unused 2 Source)) ∷ []) frames in
+      absurd (omega (arith, ap root_job_number same, is.begun.job_is))
+    where
+      root_job_number : List (FrameKey ℕ) → ℕ
+      root_job_number [] = 0
+      root_job_number (frame ∷ around) = frame.job
 
   begins_without_a_release : (stepped : Stepped ℕ ℕ) → stepped.released.items ≡ [] → ¬ BeginsFrame flat_sums 2 stepped
   begins_without_a_release stepped released is =
