@@ -296,10 +296,17 @@ sink taken faults = record { taken = Some taken; held_back = []; faults = faults
 abbrev of_memory : SinkState → SinkState
 of_memory state = state
 
-module _ (run : Run) (journal : run_texts true (run ∷ []) ≡ 7 ∷ 8 ∷ []) (report : run_texts false (run ∷ []) ≡ 7 ∷ []) where
-  journal_written : Reported of_memory (sink [] 0) (sink (7 ∷ 8 ∷ []) 0) Done true (run ∷ []) true
+-- `flow journal 2` and `-- a`, the journal and the report of a run of one task in which nothing has started
+abbrev empty_journal : List ℕ
+empty_journal = 102 ∷ 108 ∷ 111 ∷ 119 ∷ 32 ∷ 106 ∷ 111 ∷ 117 ∷ 114 ∷ 110 ∷ 97 ∷ 108 ∷ 32 ∷ 50 ∷ 10 ∷ []
+
+abbrev empty_report : List ℕ
+empty_report = 45 ∷ 45 ∷ 32 ∷ 97 ∷ 10 ∷ []
+
+module _ (run : Run) (journal : run_texts true (run ∷ []) ≡ empty_journal) (report : run_texts false (run ∷ []) ≡ empty_report) where
+  journal_written : Reported of_memory (sink [] 0) (sink empty_journal 0) Done true (run ∷ []) true
   journal_written = record {
-    front = record { lost = []; but = record { front = 7 ∷ 8 ∷ []; parts = journal; took = refl } };
+    front = record { lost = []; but = record { front = empty_journal; parts = journal; took = refl } };
     whole = λ written. ap (append_known (Some [])) (sym journal);
     nothing_held = refl;
     no_fault = λ written. refl;
@@ -311,14 +318,14 @@ module _ (run : Run) (journal : run_texts true (run ∷ []) ≡ 7 ∷ 8 ∷ []) 
     nothing_to_write = λ none. absurd (cc);
   }
 
-  report_in_place_of_the_journal : ¬ Reported of_memory (sink [] 0) (sink (7 ∷ []) 0) Done true (run ∷ []) true
+  report_in_place_of_the_journal : ¬ Reported of_memory (sink [] 0) (sink empty_report 0) Done true (run ∷ []) true
   report_in_place_of_the_journal is =
-      let whole : Some (7 ∷ []) ≡ Some (7 ∷ 8 ∷ []) = is.whole refl ∙ ap (append_known (Some [])) journal in
+      let whole : Some empty_report ≡ Some empty_journal = is.whole refl ∙ ap (append_known (Some [])) journal in
       absurd (omega (arith, ap known_length whole))
 
-  prefix_without_memory : Reported of_memory (sink [] 0) (sink (7 ∷ []) 0) NoMemory true (run ∷ []) false
+  prefix_without_memory : Reported of_memory (sink [] 0) (sink (102 ∷ []) 0) NoMemory true (run ∷ []) false
   prefix_without_memory = record {
-    front = record { lost = 8 ∷ []; but = record { front = 7 ∷ []; parts = journal; took = refl } };
+    front = record { lost = 108 ∷ 111 ∷ 119 ∷ 32 ∷ 106 ∷ 111 ∷ 117 ∷ 114 ∷ 110 ∷ 97 ∷ 108 ∷ 32 ∷ 50 ∷ 10 ∷ []; but = record { front = 102 ∷ []; parts = journal; took = refl } };
     whole = λ written. absurd (cc);
     nothing_held = refl;
     no_fault = λ written. absurd (cc);

@@ -1,4 +1,4 @@
--- Where a call stops and what it has done when it ends, computed at the limits and on a report of two bytes.
+-- Where a call stops and what it has done when it ends, computed at the limits and on a report of one line.
 use Rattle.std.proofs.Common.{◌≡◌, ℕ, ◌+◌, ◌≤◌, Bool, List, [], ◌∷◌, ◌++◌, length, Option, Some, None, true, false, inl, inr, refl, arith, ap, sym, subst, ◌∙◌, Result, Ok, Err}
 use Rattle.std.specs.Prelude.{if◌then◌else◌, bytes_eq, ◌==◌, All, IsSomeAnd}
 use Rattle.std.specs.Io.KnownBytes.{append_known}
@@ -129,7 +129,7 @@ stuck_run_called_done run stuck is =
     by_case (inr (inl (fine, told))) = absurd (cc)
     by_case (inr (inr told)) = absurd (cc)
 
--- ---- the report of a kept run, of two bytes
+-- ---- the report of a run, which says of its one task that it hasn't ended: `-- a`
 
 abbrev sink : List ℕ → ℕ → SinkState
 sink taken faults = record { taken = Some taken; held_back = []; faults = faults }
@@ -137,11 +137,14 @@ sink taken faults = record { taken = Some taken; held_back = []; faults = faults
 abbrev of_memory : SinkState → SinkState
 of_memory state = state
 
-module _ (run : Run) (two : run_texts false (run ∷ []) ≡ 7 ∷ 8 ∷ []) where
-  whole_report : Reported of_memory (sink (1 ∷ []) 0) (sink (1 ∷ 7 ∷ 8 ∷ []) 0) Done false (run ∷ []) true
+abbrev small_report : List ℕ
+small_report = 45 ∷ 45 ∷ 32 ∷ 97 ∷ 10 ∷ []
+
+module _ (run : Run) (report : run_texts false (run ∷ []) ≡ small_report) where
+  whole_report : Reported of_memory (sink (1 ∷ []) 0) (sink (1 ∷ small_report) 0) Done false (run ∷ []) true
   whole_report = record {
-    front = record { lost = []; but = record { front = 7 ∷ 8 ∷ []; parts = two; took = refl } };
-    whole = λ written. ap (append_known (Some (1 ∷ []))) (sym two);
+    front = record { lost = []; but = record { front = small_report; parts = report; took = refl } };
+    whole = λ written. ap (append_known (Some (1 ∷ []))) (sym report);
     nothing_held = refl;
     no_fault = λ written. refl;
     cause = λ failed. absurd (cc);
@@ -152,14 +155,14 @@ module _ (run : Run) (two : run_texts false (run ∷ []) ≡ 7 ∷ 8 ∷ []) whe
     nothing_to_write = λ none. absurd (cc);
   }
 
-  prefix_beside_done : ¬ Reported of_memory (sink [] 0) (sink (7 ∷ []) 0) Done false (run ∷ []) true
+  prefix_beside_done : ¬ Reported of_memory (sink [] 0) (sink (45 ∷ 45 ∷ []) 0) Done false (run ∷ []) true
   prefix_beside_done is =
-      let whole : Some (7 ∷ []) ≡ Some (7 ∷ 8 ∷ []) = is.whole refl ∙ ap (append_known (Some [])) two in
+      let whole : Some (45 ∷ 45 ∷ []) ≡ Some small_report = is.whole refl ∙ ap (append_known (Some [])) report in
       absurd (omega (arith, ap known_length whole))
 
-  prefix_beside_a_fault : Reported of_memory (sink [] 0) (sink (7 ∷ []) 1) WriteFault false (run ∷ []) false
+  prefix_beside_a_fault : Reported of_memory (sink [] 0) (sink (45 ∷ 45 ∷ []) 1) WriteFault false (run ∷ []) false
   prefix_beside_a_fault = record {
-    front = record { lost = 8 ∷ []; but = record { front = 7 ∷ []; parts = two; took = refl } };
+    front = record { lost = 32 ∷ 97 ∷ 10 ∷ []; but = record { front = 45 ∷ 45 ∷ []; parts = report; took = refl } };
     whole = λ written. absurd (cc);
     nothing_held = refl;
     no_fault = λ written. absurd (cc);
@@ -171,11 +174,11 @@ module _ (run : Run) (two : run_texts false (run ∷ []) ≡ 7 ∷ 8 ∷ []) whe
     nothing_to_write = λ none. absurd (cc);
   }
 
-  more_than_the_report : ¬ Reported of_memory (sink [] 0) (sink (7 ∷ 8 ∷ 9 ∷ []) 1) WriteFault false (run ∷ []) false
+  more_than_the_report : ¬ Reported of_memory (sink [] 0) (sink (small_report ++ 9 ∷ []) 1) WriteFault false (run ∷ []) false
   more_than_the_report is =
-      let took : Some (7 ∷ 8 ∷ 9 ∷ []) ≡ Some is.front.but.front = is.front.but.took in
-      let parts : 7 ∷ 8 ∷ [] ≡ is.front.but.front ++ is.front.lost = sym two ∙ is.front.but.parts in
-      let longer : 2 ≡ length is.front.but.front + length is.front.lost = ap length parts ∙ length-append is.front.but.front is.front.lost in
+      let took : Some (small_report ++ 9 ∷ []) ≡ Some is.front.but.front = is.front.but.took in
+      let parts : small_report ≡ is.front.but.front ++ is.front.lost = sym report ∙ is.front.but.parts in
+      let longer : 5 ≡ length is.front.but.front + length is.front.lost = ap length parts ∙ length-append is.front.but.front is.front.lost in
       absurd (omega (arith, ap known_length took, longer))
 
 -- ---- the texts stay
