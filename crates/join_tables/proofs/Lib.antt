@@ -7,3 +7,4 @@ pub mod WorkedTables
 pub mod FirstStep
 pub mod FirstFresh
 pub mod TurnViews
+pub mod RunViews
