@@ -1,4 +1,4 @@
-// Units that one task takes and another gives back, by two and by four threads, whose journals are judged.
+// Units that tasks share, by two and by four threads, whose journals are judged.
 use crate::{Ran, run_by};
 use journal_rules::{Entry, Why};
 use legal_run::{Verdict, judge};
@@ -45,6 +45,19 @@ fn over(alloc: Global) -> Result<Net, BuildError> {
     Ok(builder.finish())
 }
 
+// Six tasks that take and put a unit of each of two semaphores with one unit.
+fn crossed(alloc: Global) -> Result<Net, BuildError> {
+    let mut builder = NetBuilder::new(alloc);
+    builder.semaphore(1)?;
+    builder.semaphore(1)?;
+    for _ in 0..6 {
+        let takes = List::from_slice(alloc, &[0, 1])?;
+        let puts = List::from_slice(alloc, &[0, 1])?;
+        builder.task(Shape::Plain, takes, puts)?;
+    }
+    Ok(builder.finish())
+}
+
 // A run by so many threads, whose journal is complete.
 fn ran<R: Threads + Wait + Abort + Sync>(
     rt: &R,
@@ -84,6 +97,19 @@ fn another_gives_it_back(rt: HostRuntime) -> Result<(), Fail> {
         for threads in [2, 4] {
             let ran = ran(&rt, alloc, &net, threads)?;
             assert_eq!(rt; ran.journal.len(), 32);
+        }
+    }
+    Ok(())
+}
+
+#[test]
+fn two_are_held_crosswise(rt: HostRuntime) -> Result<(), Fail> {
+    let alloc = rt.alloc();
+    let net = Arc::new(alloc, crossed(alloc)?)?;
+    for _ in 0..TIMES {
+        for threads in [2, 4] {
+            let ran = ran(&rt, alloc, &net, threads)?;
+            assert_eq!(rt; ran.journal.len(), 12);
         }
     }
     Ok(())

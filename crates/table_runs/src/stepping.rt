@@ -7,7 +7,7 @@ ghost use Rattle.table_steps.specs.Holding.{HoldsAll, PutsAll, PutsAlone, PutsEa
 
 use crate::gives::gives_of;
 use crate::lending::{claim, lend};
-use crate::needs::{needs_none, puts_first, takes_first};
+use crate::needs::{needs_both, needs_none, puts_first, takes_first};
 use crate::shelf::{Ran, Shelf, Turnout};
 use join_tables::{
     Admitted, Collected, Collecting, Fresh, Gave, NetTable, Opening, Owing, Spent, Turn, UnitTake,
@@ -31,8 +31,8 @@ struct Shared {
 }
 
 /// The run of a net with this limit of starts, by so many threads, where so many runs give their edges. Its tasks need no
-/// unit, or one of semaphore 0 that others give back, or give back one. It is `None` where there is no thread or an
-/// allocation failed.
+/// unit, or one of each of semaphores 0 and 1, or one of semaphore 0 that others give back, or give back one. It is `None`
+/// where there is no thread or an allocation failed.
 pub fn run_by<R: Threads + Wait + Sync>(
     rt: &R,
     alloc: Global,
@@ -120,6 +120,8 @@ impl Shared {
             self.borrow(rt, turn, edges)
         } else if puts_first(&self.net, task) {
             self.give_back(rt, turn, edges)
+        } else if self.net.sems().len() > 1 && needs_both(&self.net, task) {
+            self.hold_both(rt, turn, edges)
         } else {
             self.give_up(rt)
         }
@@ -200,6 +202,43 @@ impl Shared {
             }
             Err(running) => self.finish(rt, self.table.fault(running, Why::OverRelease(0))),
         }
+    }
+
+    // Runs a task that takes and puts units of semaphores 0 and 1, the lesser first. Where one is missing, the turn waits,
+    // and holds none.
+    fn hold_both<R: Wait>(&self, rt: &R, turn: Turn, edges: List<u32>)
+        requires turn { (turn.table ≡ self.now.table.table) × (turn.refused ≡ None) × (turn.held ≡ []) }
+        requires sems { 1 < length self.now.table.net.sems }
+        requires needs { HoldsAll self.now.table.net turn.task (1 ∷ 0 ∷ []) × PutsAll self.now.table.net turn.task }
+        requires edges { MayGive self.now.table.net turn.task edges false }
+    {
+        let turn = match self.table.take_unit(turn, 0) {
+            UnitTake::Got(turn) => turn,
+            UnitTake::NoUnit(turn) => return self.wait(rt, turn),
+        };
+        let turn = match self.table.take_unit(turn, 1) {
+            UnitTake::Got(turn) => turn,
+            UnitTake::NoUnit(turn) => return self.wait(rt, self.table.put_unit(turn, 0)),
+        };
+        match self.table.admit(turn) {
+            Admitted::Go(ticket) => {
+                let owing = self.table.end(self.table.start(ticket), edges, false);
+                let owing = self.table.return_unit(owing, 1);
+                self.pay(rt, self.table.return_unit(owing, 0));
+            }
+            Admitted::Over(turn) => self.drop_both(rt, turn, DropWhy::Limit),
+            Admitted::Halted(turn) => self.drop_both(rt, turn, DropWhy::Halted),
+        }
+    }
+
+    // Puts back the units of a turn that was refused, and drops it.
+    fn drop_both<R: Wait>(&self, rt: &R, turn: Turn, why: DropWhy)
+        requires turn { (turn.table ≡ self.now.table.table) × (turn.held ≡ 1 ∷ 0 ∷ []) }
+        requires sems { 1 < length self.now.table.net.sems }
+        requires refused { turn.refused ≡ Some why }
+    {
+        let turn = self.table.put_unit(turn, 1);
+        self.drop_turn(rt, self.table.put_unit(turn, 0), why);
     }
 
     // Drops a turn that was refused.

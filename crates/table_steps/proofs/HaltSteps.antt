@@ -24,18 +24,16 @@ use Rattle.table_steps.specs.declared.view.Item.{Item}
 use Rattle.table_steps.specs.declared.view.Item.TheVariants.{Told, Collecting, Open, Owes}
 use Rattle.table_steps.specs.inside.Items.{MayRelease}
 use Rattle.table_steps.specs.declared.view.Kind.TheVariants.{Held, Undo, Owed, Both, Credit, Credited, Claim, Granted, Refusing, Denied}
-use Rattle.table_steps.specs.declared.view.Mark.TheVariants.{Live, New, Over, ToMark, Halted}
+use Rattle.table_steps.specs.declared.view.Mark.TheVariants.{Live, New, Over, ToMark, Halted, Asked}
 use Rattle.table_steps.specs.declared.view.Note.{Note}
 use Rattle.table_steps.specs.declared.view.Note.TheVariants.{Duty, Sems, Has, Unfit}
 use Rattle.table_steps.specs.inside.Accounts.{AllStand, duty, sem, mark, turning, owing, resting, weigh, total, is_drop, reading, KeepsAccounts}
-use Rattle.table_steps.specs.inside.Kinds.{MayAdmit}
-use Rattle.table_steps.specs.inside.Halts.{halt_read, KnowsWhy, MayFault, faulted, MayMark, marked, MayDrop, dropped}
+use Rattle.table_steps.specs.inside.Halts.{MayAsk, halt_read, KnowsWhy, MayFault, faulted, MayMark, marked, MayDrop, dropped}
 use Rattle.table_steps.specs.Holding.{TakesAlone}
 use Rattle.table_steps.proofs.Stepping.{St, Seated, own_lone, still_step, done}
 use Rattle.table_steps.proofs.Reading.{halt_word_read}
 use Rattle.table_steps.proofs.Drawing.{drawn, told, unstuck}
-use Rattle.table_steps.proofs.MarkSteps.{reads_same}
-use Rattle.table_steps.proofs.Seats.{nothing_done}
+use Rattle.table_steps.proofs.MarkSteps.{reads_same, asked_none}
 use Rattle.table_steps.proofs.Marking.{alike_kept, marks_none}
 use Rattle.table_steps.proofs.Bounds.{few_uses}
 use Rattle.table_steps.proofs.TurnSteps.{may_release}
@@ -62,6 +60,16 @@ halt_loaded net limit s h id carried x rest lone at found =
     (own_lone net h.journal (λ c. total c s.views) old new rest ((h.views id _ at).stand.0, (tt, (halt_found (slice_index s.words 32) h.journal (λ c. total c s.views) h.balanced.by_halt found, tt))) (omega arith) (omega arith) (omega (arith, lone))) (omega arith)
     (ap (reading net) (reads_same net s.words 32 (omega (arith, h.size))))
     (λ moved. alike_kept net limit (reading net s.words) h.counted h.journal (λ c. total c s.views) _ h.balanced (λ c a. omega (arith, moved c, marks_none c a (Has Halted ∷ []) tt)))
+
+-- and one that found none
+halt_asked : (net : NetRows) (limit : ℕ) (s : St) (h : KeepsAccounts net limit s) (id : ℕ) (carried : List (ℕ × Unit {0})) (x : Item) (rest : List Note) → weigh resting rest ≡ 0 → get_elem? s.views id ≡ some (Duty x ∷ Has Live ∷ rest)
+    → KeepsAccounts net limit (stepped s 32 (slice_index s.words 32) id carried (Duty x ∷ Has Live ∷ Has Asked ∷ rest) keeps)
+halt_asked net limit s h id carried x rest lone at =
+    let old = Duty x ∷ Has Live ∷ [] in let new = Duty x ∷ Has Live ∷ Has Asked ∷ [] in
+    still_step net limit s h id 32 _ carried old new rest (reading net s.words) at
+    (own_lone net h.journal (λ c. total c s.views) old new rest ((h.views id _ at).stand.0, (tt, (tt, tt))) (omega arith) (omega arith) (omega (arith, lone))) (omega arith)
+    (ap (reading net) (reads_same net s.words 32 (omega (arith, h.size))))
+    (λ moved. alike_kept net limit (reading net s.words) h.counted h.journal (λ c. total c s.views) _ h.balanced (λ c a. omega (arith, moved c, asked_none c)))
 
 -- a Fault drawn
 fault_drawn : (net : NetRows) (limit : ℕ) (s : St) (h : KeepsAccounts net limit s) (id m t : ℕ) (why : Why) (b d : List ℕ) (carried : List (ℕ × Unit {0})) (rest : List Note) → WhyInRange net why → OverReleaseRule net h.journal m why → TakesAlone net t d
@@ -142,13 +150,13 @@ halted_drawn net limit s h id t cause carried rest may lone at =
     }) (omega (arith, moved (mark Over))))
 
 -- HALT LOAD
-pub halt_allowed : (net : NetRows) (limit slots id : ℕ) (me : Seated) → MayAdmit me.0 → Allows (KeepsAccounts net limit) slots id me 32 (λ n. n) (λ n m. (m.0 ≡ halt_read n me.0) × (m.1 ≡ me.1))
+pub halt_allowed : (net : NetRows) (limit slots id : ℕ) (me : Seated) → MayAsk me.0 → Allows (KeepsAccounts net limit) slots id me 32 (λ n. n) (λ n m. (m.0 ≡ halt_read n me.0) × (m.1 ≡ me.1))
 halt_allowed net limit slots id me may s h _ at small = from me.0 may at
   where
     n : ℕ
     n = slice_index s.words 32
 
-    from : (v : List Note) → MayAdmit v → get_elem? s.views id ≡ some v
+    from : (v : List Note) → MayAsk v → get_elem? s.views id ≡ some v
         → (u : List Note) × (z : Act (Unit {0})) × Valid s.homes me.1 z × KeepsAccounts net limit (stepped s 32 (slice_index s.words 32) id me.1 u z) × ((u ≡ halt_read (slice_index s.words 32) v) × (carried_after me.1 z ≡ me.1))
     from (Duty (Collecting t cause taken left) ∷ Has Live ∷ rest) may at = by_zero (cases_eq n 0)
       where
@@ -160,7 +168,7 @@ halt_allowed net limit slots id me may s h _ at small = from me.0 may at
         read_is (suc k) some_there = refl
 
         by_zero : (n ≡ 0) ⊎ (n ≢ 0) → (u : List Note) × (z : Act (Unit {0})) × Valid s.homes me.1 z × KeepsAccounts net limit (stepped s 32 n id me.1 u z) × ((u ≡ halt_read n v) × (carried_after me.1 z ≡ me.1))
-        by_zero (inl none) = done net limit s id 32 _ me v _ (ap (λ k. halt_read k v) (sym none)) (nothing_done net limit s h id 32 me.1 v (omega (arith, may)) (omega arith) (omega (arith, h.size)) at)
+        by_zero (inl none) = done net limit s id 32 _ me _ _ (ap (λ k. halt_read k v) (sym none)) (halt_asked net limit s h id me.1 (Collecting t cause taken left) rest may at)
         by_zero (inr found) = done net limit s id 32 _ me _ _ (read_is n found) (halt_loaded net limit s h id me.1 (Collecting t cause taken left) rest may at found)
     from v may at = absurd may
 

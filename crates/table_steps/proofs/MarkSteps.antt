@@ -10,10 +10,10 @@ use Rattle.journal_rules.specs.declared.entry.Entry.TheVariants.{Start, End, Fau
 use Rattle.table_steps.specs.declared.view.Item.{Item}
 use Rattle.table_steps.specs.declared.view.Item.TheVariants.{Ticket, Owes}
 use Rattle.table_steps.specs.Giving.{one_if}
-use Rattle.table_steps.specs.declared.view.Mark.TheVariants.{Live, New, Over, ToMark, Halted, Alone, Quiet, Sticking}
+use Rattle.table_steps.specs.declared.view.Mark.TheVariants.{Live, New, Over, ToMark, Halted, Alone, Quiet, Sticking, Asked}
 use Rattle.table_steps.specs.declared.view.Note.{Note}
 use Rattle.table_steps.specs.declared.view.Note.TheVariants.{Duty, Sems, Has, Unfit}
-use Rattle.table_steps.specs.inside.Accounts.{mark, busy, resting, telling, weight, weigh, total, is_drop, reading, KeepsAccounts}
+use Rattle.table_steps.specs.inside.Accounts.{Coord, duty, sem, turning, owing, mark, busy, resting, telling, weight, weigh, total, is_drop, reading, KeepsAccounts}
 use Rattle.table_steps.proofs.Totals.{total_swap}
 use Rattle.table_steps.proofs.Views.{at_most}
 use Rattle.table_steps.proofs.Stepping.{St, own_lone, after_step, still_step}
@@ -36,6 +36,7 @@ over_lives (Has Halted) = omega arith
 over_lives (Has Alone) = omega arith
 over_lives (Has Quiet) = omega arith
 over_lives (Has Sticking) = omega arith
+over_lives (Has Asked) = omega arith
 over_lives (Unfit z n t) = omega arith
 
 limited_drops : (xs : List Entry) → count_by is_limited xs ≤ count_by is_drop xs
@@ -56,27 +57,46 @@ admitted_small : (net : NetRows) (limit : ℕ) (s : St) (h : KeepsAccounts net l
 admitted_small net limit s h = let a = h.balanced.by_admissions in
     omega (arith, a.drawn, a.room, h.fits.limited, h.few, h.few_drops, limited_drops h.journal, total_less (mark Over) (mark Live) over_lives s.views)
 
+-- that a turn has looked for the halt mark counts nothing
+pub asked_none : (c : Coord) → weight c (Has Asked) ≡ 0
+asked_none (duty c) = refl
+asked_none (sem k s) = refl
+asked_none (mark Live) = refl
+asked_none (mark New) = refl
+asked_none (mark Over) = refl
+asked_none (mark ToMark) = refl
+asked_none (mark Halted) = refl
+asked_none (mark Alone) = refl
+asked_none (mark Quiet) = refl
+asked_none (mark Sticking) = refl
+asked_none (mark Asked) = refl
+asked_none busy = refl
+asked_none resting = refl
+asked_none turning = refl
+asked_none owing = refl
+asked_none telling = refl
+
 -- an admission drawn
-pub admit_drawn : (net : NetRows) (limit : ℕ) (s : St) (h : KeepsAccounts net limit s) (id : ℕ) (carried : List (ℕ × Unit {0})) (x : Item) (rest : List Note) → weigh resting rest ≡ 0 → get_elem? s.views id ≡ some (Duty x ∷ Has Live ∷ rest) → slice_index s.words 24 < limit
+pub admit_drawn : (net : NetRows) (limit : ℕ) (s : St) (h : KeepsAccounts net limit s) (id : ℕ) (carried : List (ℕ × Unit {0})) (x : Item) (rest : List Note) → weigh resting rest ≡ 0 → get_elem? s.views id ≡ some (Duty x ∷ Has Live ∷ Has Asked ∷ rest) → slice_index s.words 24 < limit
     → KeepsAccounts net limit (stepped s 24 ((slice_index s.words 24 + 1) % 2 ^ 64) id carried (Duty x ∷ Duty Ticket ∷ Has Live ∷ rest) keeps)
 admit_drawn net limit s h id carried x rest lone at found =
-    let old = Duty x ∷ Has Live ∷ [] in let new = Duty x ∷ Duty Ticket ∷ Has Live ∷ [] in
+    let old = Duty x ∷ Has Live ∷ Has Asked ∷ [] in let new = Duty x ∷ Duty Ticket ∷ Has Live ∷ [] in
     let sum : (slice_index s.words 24 + 1) % 18446744073709551616 ≡ suc (slice_index s.words 24) = omega (arith, admitted_small net limit s h) in
     still_step net limit s h id 24 _ carried old new rest _ at
     (own_lone net h.journal (λ c. total c s.views) old new rest ((h.views id _ at).stand.0, (tt, (tt, tt))) (omega arith) (omega arith) (omega (arith, lone))) (omega arith)
     (admitted_read net s.words _ (omega (arith, h.size)) ∙ ap (with_admitted (reading net s.words)) sum)
-    (λ moved. admit_kept net limit (reading net s.words) h.counted h.journal (λ c. total c s.views) _ h.balanced found (λ c. omega (arith, moved c)))
+    (λ moved. admit_kept net limit (reading net s.words) h.counted h.journal (λ c. total c s.views) _ h.balanced found (λ c. omega (arith, moved c, asked_none c)))
 
 -- and one too many
-pub over_drawn : (net : NetRows) (limit : ℕ) (s : St) (h : KeepsAccounts net limit s) (id : ℕ) (carried : List (ℕ × Unit {0})) (x : Item) (rest : List Note) → weigh resting rest ≡ 0 → get_elem? s.views id ≡ some (Duty x ∷ Has Live ∷ rest) → limit ≤ slice_index s.words 24
+pub over_drawn : (net : NetRows) (limit : ℕ) (s : St) (h : KeepsAccounts net limit s) (id : ℕ) (carried : List (ℕ × Unit {0})) (x : Item) (rest : List Note) → weigh resting rest ≡ 0 → get_elem? s.views id ≡ some (Duty x ∷ Has Live ∷ Has Asked ∷ rest) → limit ≤ slice_index s.words 24
     → KeepsAccounts net limit (stepped s 24 ((slice_index s.words 24 + 1) % 2 ^ 64) id carried (Duty x ∷ Has Over ∷ rest) keeps)
 over_drawn net limit s h id carried x rest lone at found =
-    let old = Duty x ∷ Has Live ∷ [] in let new = Duty x ∷ Has Over ∷ [] in
+    let old = Duty x ∷ Has Live ∷ Has Asked ∷ [] in let new = Duty x ∷ Has Over ∷ [] in
     let sum : (slice_index s.words 24 + 1) % 18446744073709551616 ≡ suc (slice_index s.words 24) = omega (arith, admitted_small net limit s h) in
     still_step net limit s h id 24 _ carried old new rest _ at
     (own_lone net h.journal (λ c. total c s.views) old new rest ((h.views id _ at).stand.0, (tt, tt)) (omega arith) (omega arith) (omega (arith, lone))) (omega arith)
     (admitted_read net s.words _ (omega (arith, h.size)) ∙ ap (with_admitted (reading net s.words)) sum)
-    (λ moved. over_kept net limit (reading net s.words) h.counted h.journal (λ c. total c s.views) _ h.balanced found (λ c. omega (arith, moved c)))
+    (λ moved. over_kept net limit (reading net s.words) h.counted h.journal (λ c. total c s.views) _ h.balanced found (λ c. omega (arith, moved c, asked_none c)))
 
 -- a turn added
 pub turn_added : (net : NetRows) (limit : ℕ) (s : St) (h : KeepsAccounts net limit s) (id : ℕ) (carried : List (ℕ × Unit {0})) (x : Item) (rest : List Note) → weigh resting rest ≡ 0 → 1 ≤ weigh (mark Live) rest → get_elem? s.views id ≡ some (Duty x ∷ Has New ∷ rest)

@@ -10,7 +10,7 @@ use Rattle.table_steps.specs.declared.view.Item.TheVariants.{Ticket, Owes}
 use Rattle.table_steps.specs.inside.Items.{DutyCoord, place, runs, running, tickets, token, source, weakly, awaits, unset, duty_weight, DutyPart}
 use Rattle.table_steps.specs.declared.view.Kind.{Kind}
 use Rattle.table_steps.specs.declared.view.Kind.TheVariants.{Held, Undo, Owed, Both, Credit, Credited, Claim, Granted, Refusing, Denied, Full}
-use Rattle.table_steps.specs.declared.view.Mark.TheVariants.{Live, New, Over, ToMark, Halted, Alone, Quiet, Sticking}
+use Rattle.table_steps.specs.declared.view.Mark.TheVariants.{Live, New, Over, ToMark, Halted, Alone, Quiet, Sticking, Asked}
 use Rattle.table_steps.specs.declared.view.Note.{Note}
 use Rattle.table_steps.specs.declared.view.Note.TheVariants.{Duty, Sems, Has, Unfit}
 use Rattle.table_steps.specs.inside.Accounts.{Coord, duty, sem, mark, turning, owing, telling, busy, resting, weight, weigh, TurnPart, JournalPart, LivePart, Readings, Balanced, Moves, with_admitted, with_live}
@@ -252,6 +252,7 @@ one_none c a (Has New) h = absurd h
 one_none c a (Has Over) h = absurd h
 one_none c a (Has ToMark) h = absurd h
 one_none c a (Has Sticking) h = absurd h
+one_none c a (Has Asked) h = absurd h
 one_none c a (Sems Held l) h = absurd h
 one_none c a (Sems Undo l) h = absurd h
 one_none c a (Sems Owed l) h = absurd h
@@ -266,6 +267,7 @@ one_none (sem Full s) a x h = absurd a
 one_none (mark Alone) a x h = absurd a
 one_none (mark Quiet) a x h = absurd a
 one_none (mark Halted) a x h = absurd a
+one_none (mark Asked) a x h = absurd a
 one_none busy a x h = absurd a
 one_none resting a x h = absurd a
 one_none telling a x h = absurd a
@@ -282,6 +284,7 @@ rest_head (Has New) xs h = absurd h
 rest_head (Has Over) xs h = absurd h
 rest_head (Has ToMark) xs h = absurd h
 rest_head (Has Sticking) xs h = absurd h
+rest_head (Has Asked) xs h = absurd h
 rest_head (Sems Held l) xs h = absurd h
 rest_head (Sems Undo l) xs h = absurd h
 rest_head (Sems Owed l) xs h = absurd h

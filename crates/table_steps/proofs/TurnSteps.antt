@@ -17,7 +17,7 @@ use Rattle.journal_rules.specs.DataRule.{edges_of}
 use Rattle.journal_rules.proofs.NetLemmas.{at_place}
 use Rattle.table_steps.specs.declared.view.Item.{Item}
 use Rattle.table_steps.specs.declared.view.Item.TheVariants.{Fresh, Collecting, Ticket, Open}
-use Rattle.table_steps.specs.declared.view.Mark.TheVariants.{Live, New}
+use Rattle.table_steps.specs.declared.view.Mark.TheVariants.{Live, New, Asked}
 use Rattle.table_steps.specs.declared.view.Note.{Note}
 use Rattle.table_steps.specs.declared.view.Kind.TheVariants.{Held, Both, Credit, Credited, Claim, Granted}
 use Rattle.table_steps.specs.declared.view.Note.TheVariants.{Duty, Sems, Has}
@@ -112,7 +112,7 @@ admit_allowed net limit slots id me may s h _ at small = from me.0 may at
   where
     from : (v : List Note) → MayAdmit v → get_elem? s.views id ≡ some v
         → (u : List Note) × (z : Act (Unit {0})) × Valid s.homes me.1 z × KeepsAccounts net limit (stepped s 24 ((slice_index s.words 24 + 1) % 2 ^ 64) id me.1 u z) × ((u ≡ admitted limit (slice_index s.words 24) v) × (carried_after me.1 z ≡ me.1))
-    from (Duty (Collecting t cause taken left) ∷ Has Live ∷ rest) may at = by_room (cases_lt (slice_index s.words 24) limit)
+    from (Duty (Collecting t cause taken left) ∷ Has Live ∷ Has Asked ∷ rest) may at = by_room (cases_lt (slice_index s.words 24) limit)
       where
         n : ℕ
         n = slice_index s.words 24

@@ -10,7 +10,7 @@ use Rattle.table_steps.specs.inside.Items.{DutyCoord, tickets, Raised}
 use Rattle.table_steps.specs.Giving.{one_if, times}
 use Rattle.table_steps.specs.Holding.{without}
 use Rattle.table_steps.specs.declared.view.Kind.TheVariants.{Held, Undo, Owed, Both, Credit, Credited, Claim, Granted, Refusing, Denied, Full}
-use Rattle.table_steps.specs.declared.view.Mark.TheVariants.{Live, New, Over, ToMark, Halted, Alone, Quiet, Sticking}
+use Rattle.table_steps.specs.declared.view.Mark.TheVariants.{Live, New, Over, ToMark, Halted, Alone, Quiet, Sticking, Asked}
 use Rattle.table_steps.specs.declared.view.Note.TheVariants.{Sems, Has}
 use Rattle.table_steps.specs.inside.Accounts.{Coord, duty, sem, mark, busy, resting, turning, owing, telling, weight, weigh, Readings, Balanced, Moves, with_unit}
 use Rattle.table_steps.specs.inside.UnitKinds.{held_notes}
@@ -239,6 +239,7 @@ no_units (mark Halted) = refl
 no_units (mark Alone) = refl
 no_units (mark Quiet) = refl
 no_units (mark Sticking) = refl
+no_units (mark Asked) = refl
 no_units busy = refl
 no_units resting = refl
 no_units turning = refl

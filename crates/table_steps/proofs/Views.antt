@@ -15,7 +15,7 @@ use Rattle.table_steps.specs.declared.view.Item.TheVariants.{Told, Fresh, Collec
 use Rattle.table_steps.specs.Giving.{one_if, times}
 use Rattle.table_steps.specs.declared.view.Kind.{Kind}
 use Rattle.table_steps.specs.declared.view.Kind.TheVariants.{Held, Undo, Owed, Both, Credit, Credited, Claim, Granted, Refusing, Denied, Full}
-use Rattle.table_steps.specs.declared.view.Mark.TheVariants.{Live, New, Over, ToMark, Halted, Alone, Quiet, Sticking}
+use Rattle.table_steps.specs.declared.view.Mark.TheVariants.{Live, New, Over, ToMark, Halted, Alone, Quiet, Sticking, Asked}
 use Rattle.table_steps.specs.declared.view.Note.{Note}
 use Rattle.table_steps.specs.declared.view.Note.TheVariants.{Duty, Sems, Has, Unfit}
 use Rattle.table_steps.specs.inside.Accounts.{Coord, sem, mark, busy, resting, telling, weight, weigh, total, Stands, AllStand, ViewPart, StuckPart}
@@ -84,6 +84,7 @@ longer net journal x (n ∷ ns) h = (one n h.0, longer net journal x ns h.1)
     one (Has Alone) h = tt
     one (Has Quiet) h = tt
     one (Has Sticking) h = tt
+    one (Has Asked) h = tt
     one (Unfit s n t) h = (start_longer journal x n t h.0, over_longer net journal x s n t h.1)
 
 pub stand_left : (net : NetRows) (journal : List Entry) (xs ys : List Note) → AllStand net journal (xs ++ ys) → AllStand net journal xs × AllStand net journal ys
@@ -122,6 +123,7 @@ quiet_rests (x ∷ xs) = omega (arith, one x, quiet_rests xs)
     one (Has Alone) = omega arith
     one (Has Quiet) = omega arith
     one (Has Sticking) = omega arith
+    one (Has Asked) = omega arith
     one (Unfit s n t) = omega arith
 
 pub sticking_rests : (v : List Note) → weigh (mark Sticking) v ≤ weigh resting v
@@ -142,6 +144,7 @@ sticking_rests (x ∷ xs) = omega (arith, one x, sticking_rests xs)
     one (Has Alone) = omega arith
     one (Has Quiet) = omega arith
     one (Has Sticking) = omega arith
+    one (Has Asked) = omega arith
     one (Unfit s n t) = omega arith
 
 pub full_rests_too : (s : ℕ) (v : List Note) → weigh (sem Full s) v ≤ weigh resting v

@@ -2,8 +2,7 @@
 ghost use Rattle.std.specs.Prelude.{◌≡◌};
 ghost use Rattle.std.specs.Arc.{arc_value};
 ghost use Rattle.journal_rules.specs.declared.entry.Why.{Why};
-ghost use Rattle.table_steps.specs.inside.Kinds.{MayAdmit};
-ghost use Rattle.table_steps.specs.inside.Halts.{halt_read, MayFault, faulted, MayMark, marked, MayDrop, dropped};
+ghost use Rattle.table_steps.specs.inside.Halts.{MayAsk, halt_read, MayFault, faulted, MayMark, marked, MayDrop, dropped};
 
 use crate::steps::{CLOCK, HALT, Place, Words};
 use crate::view::Note;
@@ -53,7 +52,7 @@ impl Words {
     /// Loads the halt mark, which is 0 where no turn has set it.
     pub fn load_halt(&self, seat: &mut Place) -> u64
         requires table { seat.old.table_id ≡ self.now.table.shared.table_id }
-        requires ready { MayAdmit seat.old.me.0 }
+        requires ready { MayAsk seat.old.me.0 }
         ensures table { seat.new.table_id ≡ seat.old.table_id }
         ensures view { (seat.new.me.0 ≡ halt_read result seat.old.me.0) × (seat.new.me.1 ≡ seat.old.me.1) }
     {

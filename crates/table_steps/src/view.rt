@@ -69,6 +69,8 @@ pub enum Mark {
     Quiet,
     /// Besides, a Drop for want of a unit stands.
     Sticking,
+    /// It has looked at the halt mark, which wasn't set, and may draw an admission.
+    Asked,
 }
 
 /// One of the facts of which a seat's view is the list. No value of it is made.

@@ -8,20 +8,21 @@ use Rattle.journal_rules.specs.declared.entry.Why.TheVariants.{OverRelease}
 use Rattle.table_steps.specs.Holding.{TakesAlone}
 use Rattle.table_steps.specs.declared.view.Kind.TheVariants.{Both, Credit, Credited, Claim, Granted}
 use Rattle.table_steps.specs.declared.view.Item.TheVariants.{Told, Collecting, Open, Owes}
-use Rattle.table_steps.specs.declared.view.Mark.TheVariants.{Live, Over, ToMark, Halted}
+use Rattle.table_steps.specs.declared.view.Mark.TheVariants.{Live, Over, ToMark, Halted, Asked}
 use Rattle.table_steps.specs.declared.view.Note.{Note}
 use Rattle.table_steps.specs.declared.view.Note.TheVariants.{Duty, Sems, Has, Unfit}
 use Rattle.table_steps.specs.inside.Kinds.{Lone}
 
--- HALT LOAD, by a turn that asks for an admission. One that finds the mark knows that a Fault stands.
-abbrev pub halt_notes : ℕ → List Note
-halt_notes zero = []
-halt_notes (suc n) = Has Halted ∷ []
+-- HALT LOAD, by a turn that asks for an admission. One that finds the mark knows that a Fault stands; one that doesn't
+-- may draw an admission.
+abbrev pub MayAsk : List Note → Type 0
+MayAsk (Duty (Collecting t cause taken left) ∷ Has Live ∷ rest) = Lone rest
+MayAsk _ = ⊥
 
 abbrev pub halt_read : ℕ → List Note → List Note
-halt_read zero notes = notes
+halt_read zero (Duty x ∷ Has Live ∷ rest) = Duty x ∷ Has Live ∷ Has Asked ∷ rest
 halt_read (suc n) (Duty x ∷ Has Live ∷ rest) = Duty x ∷ Has Live ∷ Has Halted ∷ rest
-halt_read (suc n) notes = notes
+halt_read n notes = notes
 
 -- of an over-release a seat knows it, since it was refused the claim
 abbrev pub KnowsWhy : Why → ℕ → List Note → Type 0

@@ -9,7 +9,7 @@ use Rattle.journal_rules.specs.SemaphoreRule.{puts}
 use Rattle.task_graph.specs.NetRows.{NetRows}
 use Rattle.table_steps.specs.declared.view.Item.{Item}
 use Rattle.table_steps.specs.declared.view.Item.TheVariants.{Told, Fresh, Collecting, Ticket, Open, Owes, Counting}
-use Rattle.table_steps.specs.declared.view.Mark.TheVariants.{Live, New, Over}
+use Rattle.table_steps.specs.declared.view.Mark.TheVariants.{Live, New, Over, Asked}
 use Rattle.table_steps.specs.declared.view.Note.{Note}
 use Rattle.table_steps.specs.declared.view.Kind.TheVariants.{Held, Owed, Both, Credit, Credited, Claim, Granted}
 use Rattle.table_steps.specs.declared.view.Note.TheVariants.{Duty, Sems, Has}
@@ -128,9 +128,9 @@ abbrev pub kept_back : List Note → List Note
 kept_back (x ∷ y ∷ rest) = rest
 kept_back notes = []
 
--- ADMISSION DRAWN. A turn has a ticket, or is refused at the limit.
+-- ADMISSION DRAWN, by a turn that has looked for the halt mark. It has a ticket, or is refused at the limit.
 abbrev pub MayAdmit : List Note → Type 0
-MayAdmit (Duty (Collecting t cause taken left) ∷ Has Live ∷ rest) = Lone rest
+MayAdmit (Duty (Collecting t cause taken left) ∷ Has Live ∷ Has Asked ∷ rest) = Lone rest
 MayAdmit _ = ⊥
 
 abbrev pub admitted_notes : Bool → Item → List Note
@@ -138,7 +138,7 @@ admitted_notes true x = Duty x ∷ Duty Ticket ∷ Has Live ∷ []
 admitted_notes false x = Duty x ∷ Has Over ∷ []
 
 abbrev pub admitted : ℕ → ℕ → List Note → List Note
-admitted limit n (Duty x ∷ Has Live ∷ rest) = admitted_notes (nat_lt n limit) x ++ rest
+admitted limit n (Duty x ∷ Has Live ∷ Has Asked ∷ rest) = admitted_notes (nat_lt n limit) x ++ rest
 admitted limit n notes = notes
 
 -- START DRAWN. Of the units that the turn holds, those that the task puts are given back at its end, and the others are
