@@ -50,3 +50,6 @@ pub mod TurnViews
 pub mod CreditReads
 pub mod CreditAccounts
 pub mod CreditSeats
+pub mod RestAlone
+pub mod RestAccounts
+pub mod RestSeats
