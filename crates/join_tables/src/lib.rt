@@ -68,6 +68,7 @@ mod opening;
 mod outcomes;
 mod recording;
 mod releases;
+mod rest_steps;
 mod steps;
 mod turns;
 mod unit_calls;
