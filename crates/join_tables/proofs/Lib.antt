@@ -53,3 +53,4 @@ pub mod CreditSeats
 pub mod RestAlone
 pub mod RestAccounts
 pub mod RestSeats
+pub mod RestViews

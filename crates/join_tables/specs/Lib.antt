@@ -8,4 +8,6 @@ pub mod Reasons
 pub mod Outcomes
 pub mod Keeping
 pub mod Openings
+pub mod RestStates
+pub mod Rests
 pub mod inside

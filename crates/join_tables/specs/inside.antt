@@ -12,3 +12,4 @@ pub mod FirstReleases
 pub mod Recording
 pub mod Merging
 pub mod RestKinds
+pub mod Resting

@@ -69,6 +69,7 @@ mod outcomes;
 mod recording;
 mod releases;
 mod rest_steps;
+mod rests;
 mod steps;
 mod turns;
 mod unit_calls;
@@ -78,6 +79,7 @@ mod view;
 pub use keeper::{Keeper, Recorded, Remaining};
 pub use opening::Opening;
 pub use outcomes::{Dropping, Failure, Outcome};
+pub use rests::{Checked, Parked, Rest, RestDrop, UnitLook};
 pub use turns::{
     Admitted, Collected, Collecting, Fresh, Gave, NetTable, Owing, Run, Running, Spent,
     StartTicket, Turn, UnitTake,

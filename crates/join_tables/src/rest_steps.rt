@@ -27,8 +27,6 @@ impl Excuses for Brand {
 pub struct Parks;
 
 impl Join<List<Note>> for Parks {
-    ghost use Rattle.std.specs.Prelude.{[]};
-
     ghost both = { parked };
 
     ghost spent = { [] };
