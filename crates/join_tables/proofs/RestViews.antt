@@ -1,7 +1,9 @@
 -- What a rest's seat knows, and what it knows after each of its steps.
 use Rattle.std.proofs.Common.{◌≡◌, ◌≢◌, ◌⊎◌, inl, inr, ℕ, zero, suc, ◌+◌, ◌-◌, ◌<◌, ◌≤◌, Bool, true, false, eqb, List, [], ◌∷◌, ◌++◌, length, map, reverse, Option, Some, None, refl, sym, ap, ◌∙◌, subst, arith}
-use Rattle.std.specs.Prelude.{nat_lt, ◌==◌, IfSome, IsTrue, IsSomeAnd, slice_get}
+use Rattle.std.specs.Prelude.{nat_lt, ◌==◌, IfSome, IfNone, IsTrue, IsSomeAnd, slice_get}
 use Rattle.std.specs.List.{AllByRecursion}
+use Rattle.std.specs.Option.{option_map, option_map_or}
+use Rattle.atomic_table.specs.Seated.{TableId}
 use Rattle.std.proofs.lemmas.Bool.Decides.{nat_tests}
 use Rattle.std.proofs.lemmas.List.{append-nil, append_assoc, reverse-append, length-reverse, length_push}
 use Rattle.task_graph.specs.NetRows.{NetRows}
@@ -21,6 +23,7 @@ use Rattle.join_tables.specs.declared.view.Note.TheVariants.{Duty, Sems, Has}
 use Rattle.join_tables.specs.declared.outcomes.Dropping.{Dropping}
 use Rattle.join_tables.specs.declared.rests.Parked.{Parked}
 use Rattle.join_tables.specs.RestStates.{parked_as}
+use Rattle.join_tables.specs.Rests.{IsOfTable}
 use Rattle.join_tables.specs.inside.Items.{running}
 use Rattle.join_tables.specs.inside.Accounts.{Coord, duty, sem, mark, busy, resting, telling, weight, weigh}
 use Rattle.join_tables.specs.inside.Kinds.{IsTurn, dealt, kept_back}
@@ -170,6 +173,25 @@ hands_one turns left p v r is = from (bare_part v) (subst (λ ps. HoldsTurns ps 
     from (Duty (Collecting t cause taken []) ∷ Has Live ∷ rest) h same =
         with_bare (Duty (Collecting t cause taken []) ∷ Has Live ∷ rest) same ((holds_lone (reverse left) rest h.2, λ none. omega (arith, none, holds_live (reverse left) [] rest h.2, holds_busy (reverse left) [] rest h.2), λ none. holds_telling (reverse left) rest h.2), (λ i. turn_view (h.0 i) (h.1 i) taken None []), h.2)
     from b h same = absurd h
+
+-- the seat of what is left, if a turn is
+more_is_some : (x : Parked) (xs : List Parked) → x ∷ xs ≢ []
+more_is_some x xs is = omega (arith, ap length is)
+
+abbrev pub SeatFits : {X : Type 0} → (X → Type 0) → (X → Type 0) → Type 0 → List Parked → Option X → Type 0
+SeatFits A B C xs o = IfSome o (λ s. A s × B s × (xs ≢ [])) × IfNone o ((xs ≡ []) × C)
+
+pub left_seat : {X : Type 0} (A B : X → Type 0) (C : Type 0) (xs : List Parked) (o : Option X) (x : X) → (xs ≡ [] → o ≡ None) → (xs ≢ [] → o ≡ Some x) → A x → B x → C → SeatFits A B C xs o
+left_seat A B C [] o x none some_there a b h = subst (λ q. SeatFits A B C [] q) (sym (none refl)) (tt, (refl, h))
+left_seat A B C (y ∷ ys) o x none some_there a b h = subst (λ q. SeatFits A B C (y ∷ ys) q) (sym (some_there (more_is_some y ys))) ((a, b, more_is_some y ys), tt)
+
+pub left_known : {X : Type 0} (g : X → List Note) (xs : List Parked) (o : Option X) (x : X) → (xs ≡ [] → o ≡ None) → (xs ≢ [] → o ≡ Some x) → alone_in (g x) ≡ None → full_in (g x) ≡ [] → (alone_in (option_map_or g o []) ≡ None) × (full_in (option_map_or g o []) ≡ [])
+left_known g [] o x none some_there unknown empty = subst (λ q. (alone_in (option_map_or g q []) ≡ None) × (full_in (option_map_or g q []) ≡ [])) (sym (none refl)) (refl, refl)
+left_known g (y ∷ ys) o x none some_there unknown empty = subst (λ q. (alone_in (option_map_or g q []) ≡ None) × (full_in (option_map_or g q []) ≡ [])) (sym (some_there (more_is_some y ys))) (unknown, empty)
+
+pub left_table : {X : Type 0} (f : X → TableId) (n : TableId) (xs : List Parked) (o : Option X) (x : X) → (xs ≡ [] → o ≡ None) → (xs ≢ [] → o ≡ Some x) → f x ≡ n → IsOfTable n (option_map f o)
+left_table f n [] o x none some_there is = subst (λ q. IsOfTable n (option_map f q)) (sym (none refl)) tt
+left_table f n (y ∷ ys) o x none some_there is = subst (λ q. IsOfTable n (option_map f q)) (sym (some_there (more_is_some y ys))) is
 
 -- LOADS
 pub may_check : (turns : List Parked) (ds : List Dropping) (v : List Note) → IsRestView turns ds v → alone_in v ≡ None → turns ≢ [] → IsTurn v

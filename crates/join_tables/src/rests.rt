@@ -98,6 +98,14 @@ impl Rest {
     }
 }
 
+// The seat of a rest with these turns.
+fn seat_with(seat: Place, turns: &Vec<Parked>) -> Option<Place>
+    ensures none { turns.now.items ≡ [] → result ≡ None }
+    ensures some { turns.now.items ≢ [] → result ≡ Some seat }
+{
+    if turns.is_empty() { None } else { Some(seat) }
+}
+
 impl NetTable {
     /// Takes a turn into a rest. The turn holds no unit and was not refused, and the rest has drawn no Drop.
     pub fn rest_add(&self, rest: Rest, turn: Turn) -> Rest
@@ -165,9 +173,8 @@ impl NetTable {
             unreachable!()
         };
         let own = self.words.hand_out(&mut seat);
-        let seat = if turns.is_empty() { None } else { Some(seat) };
         let rest = Rest {
-            seat,
+            seat: seat_with(seat, &turns),
             turns,
             drops,
             room,
