@@ -54,3 +54,4 @@ pub mod RestAlone
 pub mod RestAccounts
 pub mod RestSeats
 pub mod RestViews
+pub mod RestDrops

@@ -39,10 +39,10 @@ some_map (Some x) h f = f x h
 pub held_in : {X : Type 0} (P : X → Type 0) (o : Option X) (x : X) → IfSome o P → o ≡ Some x → P x
 held_in P o x h is = subst (λ q. IfSome q P) is h
 
-reverse_last : (ps : List Parked) (p : Parked) → reverse (ps ++ p ∷ []) ≡ p ∷ reverse ps
+pub reverse_last : (ps : List Parked) (p : Parked) → reverse (ps ++ p ∷ []) ≡ p ∷ reverse ps
 reverse_last ps p = reverse-append ps (p ∷ [])
 
-some_length : {X : Type 0} (xs : List X) → xs ≢ [] → 1 ≤ length xs
+pub some_length : {X : Type 0} (xs : List X) → xs ≢ [] → 1 ≤ length xs
 some_length [] some_there = absurd (some_there refl)
 some_length (x ∷ xs) some_there = omega arith
 
@@ -52,7 +52,7 @@ turns_each c one [] ds v h = omega (arith, ap (weigh c) h)
 turns_each c one (p ∷ ps) ds (Duty (Collecting t cause taken []) ∷ Has Live ∷ rest) h = omega (arith, one t cause taken, turns_each c one ps ds rest h.2)
 turns_each c one (p ∷ ps) ds v h = absurd h
 
-turns_none : (c : Coord) → ((t : ℕ) (cause : Cause) (taken : List ℕ) → weight c (Duty (Collecting t cause taken [])) + weight c (Has Live) ≡ 0) → (ps : List Parked) (ds : List Dropping) (v : List Note) → HoldsTurns ps ds v → weigh c v ≡ weigh c (drop_notes ds)
+pub turns_none : (c : Coord) → ((t : ℕ) (cause : Cause) (taken : List ℕ) → weight c (Duty (Collecting t cause taken [])) + weight c (Has Live) ≡ 0) → (ps : List Parked) (ds : List Dropping) (v : List Note) → HoldsTurns ps ds v → weigh c v ≡ weigh c (drop_notes ds)
 turns_none c none [] ds v h = ap (weigh c) h
 turns_none c none (p ∷ ps) ds (Duty (Collecting t cause taken []) ∷ Has Live ∷ rest) h = omega (arith, none t cause taken, turns_none c none ps ds rest h.2)
 turns_none c none (p ∷ ps) ds v h = absurd h
@@ -66,10 +66,10 @@ drops_none : (c : Coord) → ((n : ℕ) (x : Entry) → weight c (Duty (Told n x
 drops_none c told sticks [] = refl
 drops_none c told sticks (d ∷ ds) = omega (arith, told d.place (Drop d.task d.cause d.why), weigh_append c (stuck_notes d.why) (drop_notes ds), stuck_none c sticks d.why, drops_none c told sticks ds)
 
-holds_live : (ps : List Parked) (ds : List Dropping) (v : List Note) → HoldsTurns ps ds v → weigh (mark Live) v ≡ length ps
+pub holds_live : (ps : List Parked) (ds : List Dropping) (v : List Note) → HoldsTurns ps ds v → weigh (mark Live) v ≡ length ps
 holds_live ps ds v h = omega (arith, turns_each (mark Live) (λ t cause taken. refl) ps ds v h, drops_none (mark Live) (λ n x. refl) refl ds)
 
-holds_busy : (ps : List Parked) (ds : List Dropping) (v : List Note) → HoldsTurns ps ds v → weigh busy v ≡ length ps
+pub holds_busy : (ps : List Parked) (ds : List Dropping) (v : List Note) → HoldsTurns ps ds v → weigh busy v ≡ length ps
 holds_busy ps ds v h = omega (arith, turns_each busy (λ t cause taken. refl) ps ds v h, drops_none busy (λ n x. refl) refl ds)
 
 holds_mark : (ps : List Parked) (ds : List Dropping) (v : List Note) → HoldsTurns ps ds v → weigh (mark ToMark) v ≡ 0
