@@ -10,12 +10,12 @@ use Rattle.journal_rules.specs.declared.entry.DropWhy.TheVariants.{Stuck, Limit,
 use Rattle.journal_rules.specs.declared.entry.Entry.TheVariants.{Drop}
 use Rattle.journal_rules.specs.SemaphoreRule.{takes}
 use Rattle.journal_rules.proofs.Snoc.{slice_get_push_last}
-use Rattle.join_tables.specs.Giving.{times}
-use Rattle.join_tables.specs.declared.view.Item.TheVariants.{Told, Collecting, Owes}
-use Rattle.join_tables.specs.declared.view.Kind.TheVariants.{Full}
-use Rattle.join_tables.specs.declared.view.Mark.TheVariants.{Live, Halted, Alone, Quiet, Sticking}
-use Rattle.join_tables.specs.declared.view.Note.{Note}
-use Rattle.join_tables.specs.declared.view.Note.TheVariants.{Duty, Sems, Has}
+use Rattle.table_steps.specs.Giving.{times}
+use Rattle.table_steps.specs.declared.view.Item.TheVariants.{Told, Collecting, Owes}
+use Rattle.table_steps.specs.declared.view.Kind.TheVariants.{Full}
+use Rattle.table_steps.specs.declared.view.Mark.TheVariants.{Live, Halted, Alone, Quiet, Sticking}
+use Rattle.table_steps.specs.declared.view.Note.{Note}
+use Rattle.table_steps.specs.declared.view.Note.TheVariants.{Duty, Sems, Has}
 use Rattle.join_tables.specs.declared.outcomes.Dropping.{Dropping}
 use Rattle.join_tables.specs.declared.outcomes.Outcome.{Outcome}
 use Rattle.join_tables.specs.declared.keeper.Recorded.{Recorded}
@@ -23,14 +23,14 @@ use Rattle.join_tables.specs.declared.rests.Parked.{Parked}
 use Rattle.join_tables.specs.Keeping.{entries_of, drop_of}
 use Rattle.join_tables.specs.RestStates.{RestState}
 use Rattle.join_tables.specs.Rests.{MayDropOf}
-use Rattle.join_tables.specs.inside.Accounts.{duty, mark, busy, weigh}
-use Rattle.join_tables.specs.inside.Items.{running}
-use Rattle.join_tables.specs.inside.Kinds.{left_by}
+use Rattle.table_steps.specs.inside.Accounts.{duty, mark, busy, weigh}
+use Rattle.table_steps.specs.inside.Items.{running}
+use Rattle.table_steps.specs.inside.Kinds.{left_by}
 use Rattle.join_tables.specs.inside.Seated.{IsSpent}
 use Rattle.join_tables.specs.inside.Recording.{tellings, told_notes, told_after}
-use Rattle.join_tables.specs.inside.RestKinds.{bare_part, MayDropLast, last_dropped, MayThin}
+use Rattle.table_steps.specs.inside.RestKinds.{bare_part, MayDropLast, last_dropped, MayThin}
 use Rattle.join_tables.specs.inside.Resting.{alone_in, full_in, known_notes, stuck_notes, drop_notes, HoldsTurns, FitsDrops, IsRestView}
-use Rattle.join_tables.proofs.Totals.{weigh_append}
+use Rattle.table_steps.proofs.Totals.{weigh_append}
 use Rattle.join_tables.proofs.Recordings.{tellings_append, told_all}
 use Rattle.join_tables.proofs.RestViews.{reverse_last, some_length, turns_none, holds_running, holds_busy, holds_live}
 

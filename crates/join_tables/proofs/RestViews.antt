@@ -13,24 +13,24 @@ use Rattle.journal_rules.specs.declared.entry.DropWhy.TheVariants.{Stuck, Limit,
 use Rattle.journal_rules.specs.declared.entry.Entry.{Entry}
 use Rattle.journal_rules.specs.declared.entry.Entry.TheVariants.{Drop}
 use Rattle.journal_rules.specs.SemaphoreRule.{takes, max_of}
-use Rattle.join_tables.specs.Giving.{times}
-use Rattle.join_tables.specs.declared.view.Item.TheVariants.{Told, Collecting, Owes}
-use Rattle.join_tables.specs.declared.view.Kind.{Kind}
-use Rattle.join_tables.specs.declared.view.Kind.TheVariants.{Held, Undo, Owed, Full}
-use Rattle.join_tables.specs.declared.view.Mark.TheVariants.{Live, ToMark, Halted, Alone, Quiet, Sticking}
-use Rattle.join_tables.specs.declared.view.Note.{Note}
-use Rattle.join_tables.specs.declared.view.Note.TheVariants.{Duty, Sems, Has}
+use Rattle.table_steps.specs.Giving.{times}
+use Rattle.table_steps.specs.declared.view.Item.TheVariants.{Told, Collecting, Owes}
+use Rattle.table_steps.specs.declared.view.Kind.{Kind}
+use Rattle.table_steps.specs.declared.view.Kind.TheVariants.{Held, Undo, Owed, Full}
+use Rattle.table_steps.specs.declared.view.Mark.TheVariants.{Live, ToMark, Halted, Alone, Quiet, Sticking}
+use Rattle.table_steps.specs.declared.view.Note.{Note}
+use Rattle.table_steps.specs.declared.view.Note.TheVariants.{Duty, Sems, Has}
 use Rattle.join_tables.specs.declared.outcomes.Dropping.{Dropping}
 use Rattle.join_tables.specs.declared.rests.Parked.{Parked}
 use Rattle.join_tables.specs.RestStates.{parked_as}
 use Rattle.join_tables.specs.Rests.{IsOfTable}
-use Rattle.join_tables.specs.inside.Items.{running}
-use Rattle.join_tables.specs.inside.Accounts.{Coord, duty, sem, mark, busy, resting, telling, weight, weigh}
-use Rattle.join_tables.specs.inside.Kinds.{IsTurn, dealt, kept_back}
+use Rattle.table_steps.specs.inside.Items.{running}
+use Rattle.table_steps.specs.inside.Accounts.{Coord, duty, sem, mark, busy, resting, telling, weight, weigh}
+use Rattle.table_steps.specs.inside.Kinds.{IsTurn, dealt, kept_back}
 use Rattle.join_tables.specs.inside.Seated.{turn_view, taken_in}
-use Rattle.join_tables.specs.inside.RestKinds.{bare_part, MayPark, parked, HasLast, MayHandOut, handed_out, left_behind, live_found, alone_notes, MayLook, looked, HasNoUnit, MayAsk, full_with, asked}
+use Rattle.table_steps.specs.inside.RestKinds.{bare_part, MayPark, parked, HasLast, MayHandOut, handed_out, left_behind, live_found, alone_notes, MayLook, looked, HasNoUnit, MayAsk, full_with, asked}
 use Rattle.join_tables.specs.inside.Resting.{alone_in, full_in, known_notes, stuck_notes, drop_notes, HoldsTurns, FitsDrops, IsRestView}
-use Rattle.join_tables.proofs.Totals.{weigh_append}
+use Rattle.table_steps.proofs.Totals.{weigh_append}
 
 pub some_map : {X : Type 0} {P Q : X → Type 0} (o : Option X) → IfSome o P → ((x : X) → P x → Q x) → IfSome o Q
 some_map None h f = tt

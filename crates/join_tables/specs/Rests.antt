@@ -5,7 +5,7 @@ use Rattle.atomic_table.specs.Seated.{TableId}
 use Rattle.journal_rules.specs.declared.entry.DropWhy.{DropWhy}
 use Rattle.journal_rules.specs.declared.entry.DropWhy.TheVariants.{Stuck, Limit, Halted as AfterFault}
 use Rattle.journal_rules.specs.SemaphoreRule.{takes, max_of}
-use Rattle.join_tables.specs.Giving.{times}
+use Rattle.table_steps.specs.Giving.{times}
 use Rattle.join_tables.specs.States.{TurnState, turn_with}
 use Rattle.join_tables.specs.RestStates.{RestState, rest_with, parked_as}
 use Rattle.join_tables.specs.declared.outcomes.Dropping.{Dropping}

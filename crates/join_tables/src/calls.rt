@@ -7,20 +7,20 @@ ghost use Rattle.journal_rules.specs.DataRule.{edges_of};
 ghost use Rattle.journal_rules.specs.declared.entry.Cause.TheVariants.{Strong};
 ghost use Rattle.join_tables.specs.States.{fresh_state, collecting_state, running_state};
 ghost use Rattle.join_tables.specs.Turns.{CollectsFrom, GivesNext, EndsAs, cause_by};
-ghost use Rattle.join_tables.specs.Giving.{MayGive, target};
-ghost use Rattle.join_tables.specs.Holding.{HoldsAll, PutsAll};
-ghost use Rattle.join_tables.specs.inside.Accounts.{FitsRelease};
-ghost use Rattle.join_tables.specs.inside.Kinds.{CountsNext, AreNoneLeft, others_of, kept_back, settled};
+ghost use Rattle.table_steps.specs.Giving.{MayGive, target};
+ghost use Rattle.table_steps.specs.Holding.{HoldsAll, PutsAll};
+ghost use Rattle.table_steps.specs.inside.Accounts.{FitsRelease};
+ghost use Rattle.table_steps.specs.inside.Kinds.{CountsNext, AreNoneLeft, others_of, kept_back, settled};
 ghost use Rattle.join_tables.specs.inside.Seated.{OwesFirst, paid, HasMade, collecting_view, taken_in, left_in};
 ghost use Rattle.join_tables.specs.inside.Collects.{CollectsOne};
 
 use crate::outcomes::Outcome;
-use crate::steps::Place;
 use crate::turns::{
     Collected, Collecting, Fresh, Gave, NetTable, Owing, Run, Running, Spent, StartTicket, Turn,
 };
 use journal_rules::Cause;
 use outside_io::List;
+use table_steps::Place;
 
 // What an edge's count found in the join word, if the edge was counted, and the release that was made.
 #[derive(Drop)]

@@ -2,8 +2,8 @@
 ghost use Rattle.std.specs.Prelude.{◌≡◌, Some, None, []};
 ghost use Rattle.join_tables.specs.Turns.{Admits};
 ghost use Rattle.join_tables.specs.Outcomes.{FaultsAs, DropsAs};
-ghost use Rattle.join_tables.specs.Reasons.{TellsNoUnit};
-ghost use Rattle.join_tables.specs.Holding.{HoldsAll, PutsAll};
+ghost use Rattle.table_steps.specs.Reasons.{TellsNoUnit};
+ghost use Rattle.table_steps.specs.Holding.{HoldsAll, PutsAll};
 
 use crate::outcomes::{Dropping, Failure, Outcome};
 use crate::turns::{Admitted, NetTable, Running, Spent, StartTicket, Turn};

@@ -3,15 +3,16 @@ ghost use Rattle.std.specs.Prelude.{◌≡◌, ◌≢◌, ◌<◌, ◌++◌, ◌
 ghost use Rattle.std.specs.Option.{option_map_or};
 ghost use Rattle.join_tables.specs.RestStates.{rest_with, parked_as};
 ghost use Rattle.join_tables.specs.Rests.{IsOfTable, HandsOut, ChecksRest, LooksForUnit, MayDropOf, DropsOf};
-ghost use Rattle.join_tables.specs.inside.RestKinds.{MayPark, parked};
+ghost use Rattle.table_steps.specs.inside.RestKinds.{MayPark, parked};
 
 use crate::outcomes::{Dropping, Outcome};
-use crate::steps::Place;
+
 use crate::turns::{NetTable, Spent, Turn};
 use journal_rules::{Cause, DropWhy};
 use outside_io::NoMemory;
 use std::alloc::Global;
 use std::marker::Model;
+use table_steps::Place;
 
 /// A turn in a rest.
 #[derive(Clone, Copy)]

@@ -2,11 +2,11 @@
 ghost use Rattle.std.specs.Prelude.{◌≡◌};
 
 use crate::outcomes::Outcome;
-use crate::steps::{Place, Words};
 use journal_rules::Cause;
 use keyed_lock::Keyed;
 use outside_io::List;
 use std::marker::Model;
+use table_steps::{Place, Words};
 
 /// The words of a run's net, which many threads step at once.
 #[derive(Drop)]

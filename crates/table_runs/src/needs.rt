@@ -1,6 +1,6 @@
 // Which units a task needs in these runs.
 ghost use Rattle.std.specs.Prelude.{◌≡◌, ◌<◌, IsTrue, [], ◌∷◌, length};
-ghost use Rattle.join_tables.specs.Holding.{HoldsAll, PutsAll};
+ghost use Rattle.table_steps.specs.Holding.{HoldsAll, PutsAll};
 
 use outside_io::List;
 use task_graph::Net;

@@ -23,10 +23,10 @@ use Rattle.join_tables.specs.declared.opening.Opening.{Opening}
 use Rattle.join_tables.specs.declared.keeper.Remaining.TheVariants.{More as TurnsLeft, All as NoneLeft}
 use Rattle.join_tables.specs.declared.keeper.Recorded.{Recorded}
 use Rattle.join_tables.specs.States.{TableState, FreshState, TurnState, fresh_state, turn_state, turn_with, running_state}
-use Rattle.join_tables.specs.Giving.{one_if}
-use Rattle.join_tables.specs.Holding.{HoldsAll, PutsAll, without}
+use Rattle.table_steps.specs.Giving.{one_if}
+use Rattle.table_steps.specs.Holding.{HoldsAll, PutsAll, without}
 use Rattle.join_tables.specs.Units.{TakesUnit}
-use Rattle.join_tables.specs.Reasons.{TellsNoUnit}
+use Rattle.table_steps.specs.Reasons.{TellsNoUnit}
 use Rattle.join_tables.specs.Outcomes.{FaultsAs, DropsAs}
 use Rattle.join_tables.specs.Openings.{OpensTable}
 use Rattle.join_tables.specs.Keeping.{KeeperState, keeper_state, entries_of, Merges, TellsRun, TellsSomeRun, IsLast}

@@ -4,14 +4,14 @@ use Rattle.std.specs.List.{AllByRecursion}
 use Rattle.journal_rules.specs.declared.entry.DropWhy.{DropWhy}
 use Rattle.journal_rules.specs.declared.entry.DropWhy.TheVariants.{Stuck, Halted as AfterFault}
 use Rattle.journal_rules.specs.declared.entry.Entry.TheVariants.{Drop}
-use Rattle.join_tables.specs.declared.view.Item.TheVariants.{Told, Collecting}
-use Rattle.join_tables.specs.declared.view.Kind.TheVariants.{Full}
-use Rattle.join_tables.specs.declared.view.Mark.TheVariants.{Live, Halted, Alone, Quiet, Sticking}
-use Rattle.join_tables.specs.declared.view.Note.{Note}
-use Rattle.join_tables.specs.declared.view.Note.TheVariants.{Duty, Sems, Has}
+use Rattle.table_steps.specs.declared.view.Item.TheVariants.{Told, Collecting}
+use Rattle.table_steps.specs.declared.view.Kind.TheVariants.{Full}
+use Rattle.table_steps.specs.declared.view.Mark.TheVariants.{Live, Halted, Alone, Quiet, Sticking}
+use Rattle.table_steps.specs.declared.view.Note.{Note}
+use Rattle.table_steps.specs.declared.view.Note.TheVariants.{Duty, Sems, Has}
 use Rattle.join_tables.specs.declared.outcomes.Dropping.{Dropping}
 use Rattle.join_tables.specs.declared.rests.Parked.{Parked}
-use Rattle.join_tables.specs.inside.RestKinds.{bare_part}
+use Rattle.table_steps.specs.inside.RestKinds.{bare_part}
 
 -- whether it is known to be alone, and then whether a Fault stands
 abbrev pub alone_in : List Note → Option Bool

@@ -4,16 +4,16 @@ use Rattle.journal_rules.specs.declared.entry.Cause.{Cause}
 use Rattle.journal_rules.specs.declared.entry.DropWhy.{DropWhy}
 use Rattle.journal_rules.specs.declared.entry.DropWhy.TheVariants.{Limit, Halted as AfterFault}
 use Rattle.journal_rules.specs.declared.entry.Entry.TheVariants.{Start, End}
-use Rattle.join_tables.specs.declared.view.Item.TheVariants.{Told, Fresh, Collecting, Ticket, Open, Owes}
-use Rattle.join_tables.specs.declared.view.Mark.TheVariants.{Live, New, Over, Halted}
-use Rattle.join_tables.specs.declared.view.Note.{Note}
-use Rattle.join_tables.specs.declared.view.Kind.TheVariants.{Held, Both, Owed}
-use Rattle.join_tables.specs.declared.view.Note.TheVariants.{Duty, Sems, Has}
+use Rattle.table_steps.specs.declared.view.Item.TheVariants.{Told, Fresh, Collecting, Ticket, Open, Owes}
+use Rattle.table_steps.specs.declared.view.Mark.TheVariants.{Live, New, Over, Halted}
+use Rattle.table_steps.specs.declared.view.Note.{Note}
+use Rattle.table_steps.specs.declared.view.Kind.TheVariants.{Held, Both, Owed}
+use Rattle.table_steps.specs.declared.view.Note.TheVariants.{Duty, Sems, Has}
 use Rattle.join_tables.specs.declared.turns.Run.{Run}
 use Rattle.join_tables.specs.declared.outcomes.Outcome.{Outcome}
-use Rattle.join_tables.specs.inside.Kinds.{IsTurn}
-use Rattle.join_tables.specs.inside.Accounts.{busy, weigh}
-use Rattle.join_tables.specs.inside.UnitKinds.{held_notes}
+use Rattle.table_steps.specs.inside.Kinds.{IsTurn}
+use Rattle.table_steps.specs.inside.Accounts.{busy, weigh}
+use Rattle.table_steps.specs.inside.UnitKinds.{held_notes}
 use Rattle.join_tables.specs.inside.Recording.{tellings, told_notes}
 use Rattle.join_tables.specs.Keeping.{entries_of}
 

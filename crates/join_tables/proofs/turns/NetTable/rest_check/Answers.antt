@@ -4,10 +4,10 @@ use Rattle.std.proofs.lemmas.Bool.Decides.{nat_tests}
 use Rattle.std.specs.Option.{option_map_or}
 use Rattle.std.specs.Vec.{vec_len, vec_capacity}
 use Rattle.join_tables.specs.RestStates.{RestState, rest_with}
-use Rattle.join_tables.specs.declared.view.Mark.TheVariants.{Alone}
-use Rattle.join_tables.specs.declared.view.Note.TheVariants.{Has}
+use Rattle.table_steps.specs.declared.view.Mark.TheVariants.{Alone}
+use Rattle.table_steps.specs.declared.view.Note.TheVariants.{Has}
 use Rattle.join_tables.specs.inside.Resting.{alone_in, full_in, IsRestView}
-use Rattle.join_tables.specs.inside.RestKinds.{MayLook, looked}
+use Rattle.table_steps.specs.inside.RestKinds.{MayLook, looked}
 use Rattle.join_tables.proofs.RestViews.{held_in, none_full, may_check, found_all, found_other, may_look, looked_view}
 use Rattle.join_tables.proofs.turns.NetTable.rest_check.Goals as goal
 

@@ -7,9 +7,9 @@ use Rattle.join_tables.specs.Keeping.{drop_of}
 use Rattle.join_tables.specs.declared.outcomes.Outcome.TheVariants.{AllDropped}
 use Rattle.join_tables.specs.RestStates.{RestState, rest_with}
 use Rattle.join_tables.specs.Rests.{MayDropOf}
-use Rattle.join_tables.specs.inside.Kinds.{left_by}
+use Rattle.table_steps.specs.inside.Kinds.{left_by}
 use Rattle.join_tables.specs.inside.Seated.{IsSpent}
-use Rattle.join_tables.specs.inside.RestKinds.{MayThin, last_dropped}
+use Rattle.table_steps.specs.inside.RestKinds.{MayThin, last_dropped}
 use Rattle.join_tables.specs.inside.Resting.{alone_in, full_in, IsRestView}
 use Rattle.join_tables.proofs.RestViews.{held_in}
 use Rattle.join_tables.proofs.RestDrops.{drops_one, may_drop_as}

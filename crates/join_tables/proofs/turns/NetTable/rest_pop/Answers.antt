@@ -4,7 +4,7 @@ use Rattle.std.specs.Option.{option_map, option_map_or}
 use Rattle.join_tables.specs.States.{turn_with}
 use Rattle.join_tables.specs.RestStates.{RestState, rest_with, parked_as}
 use Rattle.join_tables.specs.inside.Seated.{turn_view, taken_in, refusal_of, held_of}
-use Rattle.join_tables.specs.inside.RestKinds.{handed_out, left_behind}
+use Rattle.table_steps.specs.inside.RestKinds.{handed_out, left_behind}
 use Rattle.join_tables.specs.inside.Resting.{alone_in, full_in, IsRestView}
 use Rattle.join_tables.proofs.RestViews.{held_in, hands_one, left_seat, left_known, left_table}
 use Rattle.join_tables.proofs.turns.NetTable.rest_pop.Goals as goal
