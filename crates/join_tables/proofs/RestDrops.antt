@@ -1,33 +1,30 @@
 -- What a rest's seat knows after a Drop.
-use Rattle.std.proofs.Common.{◌≡◌, ◌≢◌, ℕ, ◌+◌, ◌-◌, ◌≤◌, Bool, true, false, List, [], ◌∷◌, ◌++◌, length, map, reverse, Option, Some, None, refl, sym, ap, ◌∙◌, subst, arith}
+use Rattle.std.proofs.Common.{◌≡◌, ◌≢◌, ℕ, ◌-◌, ◌≤◌, Bool, true, false, List, [], ◌∷◌, ◌++◌, length, map, reverse, Option, Some, refl, sym, ap, ◌∙◌, subst, arith}
 use Rattle.std.specs.Prelude.{IsTrue, IsSomeAnd, slice_get}
 use Rattle.std.specs.List.{AllByRecursion}
 use Rattle.std.proofs.lemmas.List.{append_assoc, reverse-append, length-reverse, length_push, map-append}
 use Rattle.task_graph.specs.NetRows.{NetRows}
-use Rattle.journal_rules.specs.declared.entry.Cause.{Cause}
 use Rattle.journal_rules.specs.declared.entry.DropWhy.{DropWhy}
 use Rattle.journal_rules.specs.declared.entry.DropWhy.TheVariants.{Stuck, Limit, Halted as AfterFault}
 use Rattle.journal_rules.specs.declared.entry.Entry.TheVariants.{Drop}
 use Rattle.journal_rules.specs.SemaphoreRule.{takes}
 use Rattle.journal_rules.proofs.Snoc.{slice_get_push_last}
 use Rattle.table_steps.specs.Giving.{times}
-use Rattle.table_steps.specs.declared.view.Item.TheVariants.{Told, Collecting, Owes}
+use Rattle.table_steps.specs.declared.view.Item.TheVariants.{Told, Collecting}
 use Rattle.table_steps.specs.declared.view.Kind.TheVariants.{Full}
 use Rattle.table_steps.specs.declared.view.Mark.TheVariants.{Live, Halted, Alone, Quiet, Sticking}
 use Rattle.table_steps.specs.declared.view.Note.{Note}
 use Rattle.table_steps.specs.declared.view.Note.TheVariants.{Duty, Sems, Has}
 use Rattle.join_tables.specs.declared.outcomes.Dropping.{Dropping}
 use Rattle.join_tables.specs.declared.outcomes.Outcome.{Outcome}
-use Rattle.join_tables.specs.declared.keeper.Recorded.{Recorded}
 use Rattle.join_tables.specs.declared.rests.Parked.{Parked}
 use Rattle.join_tables.specs.Keeping.{entries_of, drop_of}
 use Rattle.join_tables.specs.RestStates.{RestState}
 use Rattle.join_tables.specs.Rests.{MayDropOf}
-use Rattle.table_steps.specs.inside.Accounts.{duty, mark, busy, weigh}
-use Rattle.table_steps.specs.inside.Items.{running}
+use Rattle.table_steps.specs.inside.Accounts.{mark, busy, weigh}
 use Rattle.table_steps.specs.inside.Kinds.{left_by}
 use Rattle.join_tables.specs.inside.Seated.{IsSpent}
-use Rattle.join_tables.specs.inside.Recording.{tellings, told_notes, told_after}
+use Rattle.join_tables.specs.inside.Recording.{tellings, told_notes}
 use Rattle.table_steps.specs.inside.RestKinds.{bare_part, MayDropLast, last_dropped, MayThin}
 use Rattle.join_tables.specs.inside.Resting.{alone_in, full_in, known_notes, stuck_notes, drop_notes, HoldsTurns, FitsDrops, IsRestView}
 use Rattle.table_steps.proofs.Totals.{weigh_append}

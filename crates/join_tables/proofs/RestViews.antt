@@ -1,21 +1,19 @@
 -- What a rest's seat knows, and what it knows after each of its steps.
-use Rattle.std.proofs.Common.{◌≡◌, ◌≢◌, ◌⊎◌, inl, inr, ℕ, zero, suc, ◌+◌, ◌-◌, ◌<◌, ◌≤◌, Bool, true, false, eqb, List, [], ◌∷◌, ◌++◌, length, map, reverse, Option, Some, None, refl, sym, ap, ◌∙◌, subst, arith}
-use Rattle.std.specs.Prelude.{nat_lt, ◌==◌, IfSome, IfNone, IsTrue, IsSomeAnd, slice_get}
+use Rattle.std.proofs.Common.{◌≡◌, ◌≢◌, ℕ, zero, suc, ◌+◌, ◌<◌, ◌≤◌, Bool, true, false, eqb, List, [], ◌∷◌, ◌++◌, length, reverse, Option, Some, None, refl, sym, ap, ◌∙◌, subst, arith}
+use Rattle.std.specs.Prelude.{nat_lt, IfSome, IfNone}
 use Rattle.std.specs.List.{AllByRecursion}
 use Rattle.std.specs.Option.{option_map, option_map_or}
 use Rattle.atomic_table.specs.Seated.{TableId}
 use Rattle.std.proofs.lemmas.Bool.Decides.{nat_tests}
-use Rattle.std.proofs.lemmas.List.{append-nil, append_assoc, reverse-append, length-reverse, length_push}
+use Rattle.std.proofs.lemmas.List.{reverse-append, length-reverse}
 use Rattle.task_graph.specs.NetRows.{NetRows}
 use Rattle.journal_rules.specs.declared.entry.Cause.{Cause}
 use Rattle.journal_rules.specs.declared.entry.DropWhy.{DropWhy}
 use Rattle.journal_rules.specs.declared.entry.DropWhy.TheVariants.{Stuck, Limit, Halted as AfterFault}
 use Rattle.journal_rules.specs.declared.entry.Entry.{Entry}
 use Rattle.journal_rules.specs.declared.entry.Entry.TheVariants.{Drop}
-use Rattle.journal_rules.specs.SemaphoreRule.{takes, max_of}
-use Rattle.table_steps.specs.Giving.{times}
-use Rattle.table_steps.specs.declared.view.Item.TheVariants.{Told, Collecting, Owes}
-use Rattle.table_steps.specs.declared.view.Kind.{Kind}
+use Rattle.journal_rules.specs.SemaphoreRule.{max_of}
+use Rattle.table_steps.specs.declared.view.Item.TheVariants.{Told, Collecting}
 use Rattle.table_steps.specs.declared.view.Kind.TheVariants.{Held, Undo, Owed, Full}
 use Rattle.table_steps.specs.declared.view.Mark.TheVariants.{Live, ToMark, Halted, Alone, Quiet, Sticking}
 use Rattle.table_steps.specs.declared.view.Note.{Note}

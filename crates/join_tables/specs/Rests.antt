@@ -1,5 +1,5 @@
 -- Rests, as contracts see them.
-use Rattle.std.specs.Prelude.{◌≡◌, ◌≢◌, ◌↔◌, ◌-◌, ℕ, ◌<◌, ◌≤◌, Bool, true, false, IsTrue, IsSomeAnd, Option, Some, None, List, [], ◌∷◌, ◌++◌, length, slice_get}
+use Rattle.std.specs.Prelude.{◌≡◌, ◌≢◌, ◌↔◌, ◌-◌, ℕ, ◌<◌, ◌≤◌, true, false, IsTrue, IsSomeAnd, Option, Some, None, List, [], ◌∷◌, ◌++◌, length, slice_get}
 use Rattle.task_graph.specs.NetRows.{NetRows}
 use Rattle.atomic_table.specs.Seated.{TableId}
 use Rattle.journal_rules.specs.declared.entry.DropWhy.{DropWhy}

@@ -1,12 +1,11 @@
 // Rests: the turns that are parked until a unit is back, and that are dropped where none comes back.
-ghost use Rattle.std.specs.Prelude.{◌≡◌, ◌≢◌, ◌<◌, ◌++◌, ◌∷◌, IfOk, IfSome, Some, None, [], length};
-ghost use Rattle.std.specs.Option.{option_map_or};
+ghost use Rattle.std.specs.Prelude.{◌≡◌, ◌≢◌, ◌-◌, ◌<◌, ◌++◌, ◌∷◌, IfOk, IfSome, Some, None, [], length, slice_get};
+ghost use Rattle.std.specs.Option.{option_copied, option_map_or};
 ghost use Rattle.join_tables.specs.RestStates.{rest_with, parked_as};
 ghost use Rattle.join_tables.specs.Rests.{IsOfTable, HandsOut, ChecksRest, LooksForUnit, MayDropOf, DropsOf};
 ghost use Rattle.table_steps.specs.inside.RestKinds.{MayPark, parked};
 
 use crate::outcomes::{Dropping, Outcome};
-
 use crate::turns::{NetTable, Spent, Turn};
 use journal_rules::{Cause, DropWhy};
 use outside_io::NoMemory;
@@ -96,6 +95,20 @@ impl Rest {
         ensures { result ≡ length self.now.turns }
     {
         self.turns.len()
+    }
+
+    /// How many turns it has room for, with those that it has.
+    pub fn room(&self) -> usize
+        ensures { result ≡ self.now.room }
+    {
+        self.room
+    }
+
+    /// The turn that it took in last, or `None` where it has none.
+    pub fn last(&self) -> Option<&Parked>
+        ensures { option_copied result ≡ slice_get self.now.turns (length self.now.turns - 1) }
+    {
+        self.turns.as_slice().last()
     }
 }
 

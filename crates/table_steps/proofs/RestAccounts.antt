@@ -1,5 +1,5 @@
 -- What a load of the halt mark says to a rest that is alone, and that a Drop for want of a unit keeps the accounts.
-use Rattle.std.proofs.Common.{◌≡◌, ℕ, zero, suc, ◌+◌, ◌<◌, ◌≤◌, List, [], ◌∷◌, ◌++◌, length, sym, refl, arith}
+use Rattle.std.proofs.Common.{◌≡◌, ℕ, zero, suc, ◌<◌, ◌≤◌, List, [], ◌∷◌, ◌++◌, length, sym, refl, arith}
 use Rattle.std.proofs.lemmas.Bool.{false≢true}
 use Rattle.task_graph.specs.NetRows.{NetRows}
 use Rattle.journal_rules.specs.declared.entry.Cause.{Cause}
@@ -13,7 +13,7 @@ use Rattle.journal_rules.specs.HaltLimitStuckRule.{MayBeStuck}
 use Rattle.journal_rules.proofs.Tallying.{count_by_push_no}
 use Rattle.table_steps.specs.inside.Items.{tickets, MayRelease}
 use Rattle.table_steps.specs.declared.view.Mark.TheVariants.{Over, ToMark, Sticking}
-use Rattle.table_steps.specs.inside.Accounts.{Coord, duty, mark, Readings, HaltPart, Balanced, with_clock}
+use Rattle.table_steps.specs.inside.Accounts.{Coord, mark, Readings, HaltPart, Balanced, with_clock}
 use Rattle.table_steps.proofs.DropAccounts.{DropMoves, drop_kept, no_ticket}
 
 pub halt_none : (h : ℕ) (journal : List Entry) (T : Coord → ℕ) → HaltPart h journal T → h ≡ 0 → T (mark ToMark) ≡ 0 → faults journal ≡ 0

@@ -1,5 +1,5 @@
 -- What a seat knows that has all live turns.
-use Rattle.std.proofs.Common.{◌≡◌, ◌≢◌, ◌⊎◌, inl, inr, ℕ, ◌+◌, ◌<◌, List, [], ◌∷◌, length, set, sym, refl, ap, ◌∙◌, arith}
+use Rattle.std.proofs.Common.{◌≡◌, ◌≢◌, ◌⊎◌, inl, inr, ℕ, ◌+◌, ◌<◌, List, [], length, set, sym, refl, ap, ◌∙◌, arith}
 use Rattle.std.specs.Prelude.{slice_index}
 use Rattle.std.proofs.lemmas.Bool.{cases_eq}
 use mathlib.Core.Option.{some, some-injective}
@@ -7,7 +7,7 @@ use lib.ListN.{get_elem?}
 use Rattle.atomic_table.proofs.Lists.{set_else}
 use Rattle.task_graph.specs.NetRows.{NetRows}
 use Rattle.journal_rules.specs.declared.entry.Entry.{Entry}
-use Rattle.journal_rules.specs.Counts.{faults, NoneOpen}
+use Rattle.journal_rules.specs.Counts.{NoneOpen}
 use Rattle.journal_rules.specs.SemaphoreRule.{back, taken}
 use Rattle.journal_rules.proofs.Reaching.{each_below}
 use Rattle.table_steps.specs.declared.view.Item.{Item}

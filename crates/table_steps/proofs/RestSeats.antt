@@ -1,5 +1,5 @@
 -- What the steps of a rest ask is met.
-use Rattle.std.proofs.Common.{◌≡◌, ◌≢◌, ◌⊎◌, inl, inr, ℕ, zero, suc, ◌+◌, ◌-◌, ◌%◌, ◌^◌, ◌<◌, ◌≤◌, Bool, true, false, eqb, List, [], ◌∷◌, ◌++◌, length, set, refl, sym, ap, ◌∙◌, subst, arith}
+use Rattle.std.proofs.Common.{◌≡◌, ◌≢◌, ◌⊎◌, inl, inr, ℕ, zero, suc, ◌+◌, ◌-◌, ◌%◌, ◌^◌, ◌<◌, ◌≤◌, true, false, eqb, List, [], ◌∷◌, ◌++◌, length, set, refl, sym, ap, ◌∙◌, subst, arith}
 use Rattle.std.specs.Prelude.{slice_index, count_by, nat_lt, ◌==◌, IsTrue}
 use Rattle.std.proofs.lemmas.Bool.Decides.{nat_tests}
 use Rattle.std.proofs.lemmas.Bool.{cases_eq, cases_lt}
@@ -23,18 +23,18 @@ use Rattle.journal_rules.proofs.Tallying.{count_by_push_no, count_by_push_yes}
 use Rattle.journal_rules.proofs.TaskSemaphores.{takes_in_range}
 use Rattle.std.specs.Option.{option_map_or}
 use Rattle.table_steps.specs.declared.view.Item.TheVariants.{Told, Fresh, Collecting, Ticket, Open, Owes, Counting}
-use Rattle.table_steps.specs.declared.view.Kind.TheVariants.{Held, Undo, Owed, Full}
+use Rattle.table_steps.specs.declared.view.Kind.TheVariants.{Full}
 use Rattle.table_steps.specs.declared.view.Mark.TheVariants.{Live, New, Over, ToMark, Halted, Alone, Quiet, Sticking}
 use Rattle.table_steps.specs.declared.view.Note.{Note}
 use Rattle.table_steps.specs.declared.view.Note.TheVariants.{Duty, Sems, Has, Unfit}
 use Rattle.table_steps.specs.Giving.{one_if, times}
 use Rattle.table_steps.specs.inside.Items.{running, runs, MayRelease}
-use Rattle.table_steps.specs.inside.Accounts.{Coord, duty, sem, mark, turning, owing, busy, resting, telling, weight, weigh, total, AllStand, Balanced, Moves, is_drop, with_clock, reading, KeepsAccounts}
+use Rattle.table_steps.specs.inside.Accounts.{duty, sem, mark, turning, owing, resting, weigh, total, AllStand, Balanced, Moves, is_drop, with_clock, reading, KeepsAccounts}
 use Rattle.table_steps.specs.inside.Kinds.{IsTurn, dealt, kept_back, left_by}
 use Rattle.table_steps.specs.inside.RestKinds.{known_part, bare_part, MayPark, parked, HasLast, MayHandOut, handed_out, left_behind, alone_notes, live_found, MayLook, looked, HasNoUnit, MayAsk, full_with, asked, MayDropLast, last_dropped, MayThin}
 use Rattle.table_steps.proofs.Totals.{weigh_append}
 use Rattle.table_steps.proofs.Journals.{back_push}
-use Rattle.table_steps.proofs.Views.{OwnView, two_views, stand_left, stand_both, longer, none_stuck, quiet_rests, full_rests_too}
+use Rattle.table_steps.proofs.Views.{OwnView, two_views, stand_both, longer, none_stuck, quiet_rests, full_rests_too}
 use Rattle.table_steps.proofs.Stepping.{St, Seated, still_step, done}
 use Rattle.table_steps.proofs.Drawing.{drawn, told}
 use Rattle.table_steps.proofs.MarkSteps.{reads_same, turn_off}

@@ -21,7 +21,9 @@
 //! given are those used, those in its word, those owed and those collected; each release that is left is the duty
 //! of just one seat; the numbers admitted are the starts, the tickets and the refusals; a unit word is the units that
 //! are out, held, owed or to be undone; the live word is the number of turns. So when the last turn is taken off, the
-//! journal is complete (`Complete`), and the keeper has all of it.
+//! journal is complete (`Complete`), and the keeper has all of it. A rest that is alone has all live turns: so it knows
+//! that nothing runs, that no unit comes back, and, where it found no halt mark, that no start has faulted. Where a
+//! release was dropped for want of a unit, one seat knows it, and that seat has all live turns.
 //!
 //! What a seat knows is a list of notes; each account is an equation between a word, counts of the journal and
 //! totals of weights over all notes. The account of credits stands there already, for tasks that put what they don't

@@ -1,5 +1,5 @@
 -- What the seat of a rest knows.
-use Rattle.std.specs.Prelude.{◌≡◌, ◌≢◌, ℕ, Bool, true, false, List, [], ◌∷◌, ◌++◌, reverse, Option, Some, None}
+use Rattle.std.specs.Prelude.{◌≡◌, ℕ, Bool, true, false, List, [], ◌∷◌, ◌++◌, reverse, Option, Some, None}
 use Rattle.std.specs.List.{AllByRecursion}
 use Rattle.journal_rules.specs.declared.entry.DropWhy.{DropWhy}
 use Rattle.journal_rules.specs.declared.entry.DropWhy.TheVariants.{Stuck, Halted as AfterFault}

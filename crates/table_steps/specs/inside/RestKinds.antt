@@ -14,7 +14,7 @@ use Rattle.table_steps.specs.declared.view.Note.{Note}
 use Rattle.table_steps.specs.declared.view.Note.TheVariants.{Duty, Sems, Has}
 use Rattle.table_steps.specs.inside.Items.{running}
 use Rattle.table_steps.specs.inside.Accounts.{duty, sem, mark, busy, resting, telling, weigh}
-use Rattle.table_steps.specs.inside.Kinds.{Lone, IsTurn, dealt, kept_back}
+use Rattle.table_steps.specs.inside.Kinds.{Lone, dealt, kept_back}
 
 -- what is known of a rest that is alone, and the notes without that
 abbrev pub known_part : List Note → List Note

@@ -1,5 +1,4 @@
-use Rattle.std.proofs.Common.{rules, ◌≡◌, ◌∷◌, None, [], refl, sym, ap, ◌∙◌, subst}
-use Rattle.std.specs.Prelude.{IfSome}
+use Rattle.std.proofs.Common.{◌≡◌, None, [], ap, ◌∙◌}
 use Rattle.join_tables.specs.States.{TurnState}
 use Rattle.join_tables.specs.inside.Seated.{turn_view, taken_in, refusal_of, held_of}
 use Rattle.join_tables.proofs.RestViews.{some_map, may_park}

@@ -1,8 +1,7 @@
-use Rattle.std.proofs.Common.{rules, ◌≡◌, ◌≢◌, ◌∷◌, ◌<◌, ◌≤◌, not, true, false, Some, None, refl, sym, ap, ◌∙◌, subst, ℕ, zero, suc, arith}
-use Rattle.std.specs.Prelude.{IfSome, [], length, ◌==◌}
+use Rattle.std.proofs.Common.{rules, ◌≡◌, ◌≢◌, ◌∷◌, not, true, false, Some, None, sym, ap, ◌∙◌, subst, ℕ, arith}
+use Rattle.std.specs.Prelude.{[], length, ◌==◌}
 use Rattle.std.proofs.lemmas.Bool.Decides.{nat_tests}
 use Rattle.std.specs.Option.{option_map_or}
-use Rattle.std.specs.Vec.{vec_len, vec_capacity}
 use Rattle.join_tables.specs.RestStates.{RestState, rest_with}
 use Rattle.table_steps.specs.declared.view.Mark.TheVariants.{Alone}
 use Rattle.table_steps.specs.declared.view.Note.TheVariants.{Has}

@@ -1,5 +1,5 @@
-use Rattle.std.proofs.Common.{rules, ◌≡◌, ◌≢◌, ◌∷◌, ◌++◌, Some, None, refl, sym, ap, ◌∙◌, subst, map, reverse}
-use Rattle.std.specs.Prelude.{IfSome, [], length}
+use Rattle.std.proofs.Common.{rules, ◌≡◌, ◌≢◌, ◌∷◌, ◌++◌, Some, None, sym, ap, ◌∙◌, subst, map, reverse}
+use Rattle.std.specs.Prelude.{[]}
 use Rattle.std.specs.Option.{option_map_or}
 use Rattle.std.specs.Arc.{arc_value}
 use Rattle.join_tables.specs.States.{TableState}
@@ -78,8 +78,7 @@ returns c =
     let view : c.thin.new.seat.me.0 ≡ left_by (last_dropped c.args.why c.draw_last_drop-place.result v) = c.thin.ensures.view.0 ∙ ap left_by c.draw_last_drop-place.ensures.view.0 in
     let table : c.thin.new.seat.table_id ≡ c.args.self.now.table = search rules in
     let alone_is : alone_in c.thin.new.seat.me.0 ≡ c.args.rest.alone = ap alone_in view ∙ one.alone c.draw_last_drop-place.result ∙ sym alone in
-    let full_is : full_in c.thin.new.seat.me.0 ≡ c.args.rest.full = ap full_in view ∙ one.full c.draw_last_drop-place.result ∙ sym full in
-    (
+    let full_is : full_in c.thin.new.seat.me.0 ≡ c.args.rest.full = ap full_in view ∙ one.full c.draw_last_drop-place.result ∙ sym full in (
       λ i. rest_with (Some (table i)) (c.rest.view_is i).room left c.push_reserved.new.self.items (alone_is i) (full_is i) None None,
       record { last = p; place = c.draw_last_drop-place.result; turns_are = turns; dropped_are = c.push_reserved.ensures.items ∙ ap (λ (r : RestState). r.dropped ++ record { task = p.task; cause = p.cause; place = c.draw_last_drop-place.result; why = c.args.why } ∷ []) c.rest.view_is },
       some_there,

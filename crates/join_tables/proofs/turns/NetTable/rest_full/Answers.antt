@@ -1,4 +1,4 @@
-use Rattle.std.proofs.Common.{rules, ◌≡◌, ◌≢◌, Some, None, sym, ap, ◌∙◌, subst}
+use Rattle.std.proofs.Common.{rules, ◌≡◌, ◌≢◌, None, sym, ap, ◌∙◌, subst}
 use Rattle.std.specs.Prelude.{IfSome, []}
 use Rattle.std.specs.Option.{option_map_or}
 use Rattle.std.specs.Arc.{arc_value}

@@ -1,8 +1,8 @@
-use Rattle.std.proofs.Common.{rules, ◌≡◌, ◌≢◌, ◌∷◌, ◌++◌, Some, None, refl, sym, ap, ◌∙◌, subst, arith}
-use Rattle.std.specs.Prelude.{IfSome, [], length}
-use Rattle.std.specs.Option.{option_map, option_map_or}
+use Rattle.std.proofs.Common.{rules, ◌≡◌, None, sym, ap, ◌∙◌, subst}
+use Rattle.std.specs.Prelude.{[]}
+use Rattle.std.specs.Option.{option_map}
 use Rattle.join_tables.specs.States.{turn_with}
-use Rattle.join_tables.specs.RestStates.{RestState, rest_with, parked_as}
+use Rattle.join_tables.specs.RestStates.{RestState, rest_with}
 use Rattle.join_tables.specs.inside.Seated.{turn_view, taken_in, refusal_of, held_of}
 use Rattle.table_steps.specs.inside.RestKinds.{handed_out, left_behind}
 use Rattle.join_tables.specs.inside.Resting.{alone_in, full_in, IsRestView}
