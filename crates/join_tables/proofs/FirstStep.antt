@@ -19,7 +19,8 @@ use Rattle.table_steps.specs.declared.view.Item.{Item}
 use Rattle.table_steps.specs.declared.view.Mark.TheVariants.{Live}
 use Rattle.table_steps.specs.declared.view.Note.{Note}
 use Rattle.table_steps.specs.Giving.{one_if}
-use Rattle.table_steps.specs.inside.Accounts.{mark, busy, resting, weigh, total, FitsPlan, ViewPart, KeepsAccounts, reading, edges_from, first_credit, first_notes, opening_notes}
+use Rattle.table_steps.specs.inside.Accounts.{mark, busy, resting, weigh, total, FitsPlan, ViewPart, KeepsAccounts, reading, edges_from, first_notes, opening_notes}
+use Rattle.table_steps.specs.Credits.{first_credit}
 use Rattle.table_steps.specs.inside.Opening.{bare, is_empty, source_items, full_items, first_items}
 use Rattle.join_tables.specs.inside.FirstReleases.{states_of, items_of, opening_word, AreOpeningWords, DealsFirst}
 use Rattle.table_steps.proofs.Counting.{get_past}

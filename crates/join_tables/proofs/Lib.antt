@@ -7,5 +7,6 @@ pub mod WorkedTables
 pub mod FirstStep
 pub mod FirstFresh
 pub mod TurnViews
+pub mod RunViews
 pub mod RestViews
 pub mod RestDrops

@@ -1,6 +1,7 @@
 pub mod States
 pub mod FirstCauses
 pub mod Units
+pub mod Claims
 pub mod Turns
 pub mod Outcomes
 pub mod Keeping

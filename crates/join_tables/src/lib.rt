@@ -22,6 +22,10 @@
 //! - `take_unit` takes a unit of a semaphore (unit taken). Where it finds none it undoes its step (take undone).
 //!   `put_unit` puts back a unit that a turn holds, and `return_unit` one that an end owes (unit back). A task's units
 //!   go back after its End is drawn; a Fault gives none back.
+//! - `credit` adds a credit of a unit that a start took and its task doesn't put (credit added), and `claim` takes one for
+//!   a unit that the task puts and doesn't take (credit claimed). Where `claim` finds none the unit isn't out: it undoes
+//!   its step (claim undone), and the start may fault with an over-release. A unit that a task takes and puts needs
+//!   neither.
 //! - `fault` draws a place and then sets the mark (Fault drawn, halt mark). A release that `admit` refused, at the
 //!   limit or after a Fault, is used up by `drop_turn`, which draws a place (Drop drawn).
 //! - `give` adds a token to an edge (token given). A token of a weak edge is a release. The first token of a strong
@@ -43,11 +47,11 @@
 //! The words, the accounts that hold between any two steps on them, and the kinds of step are those of `table_steps`,
 //! below this crate. `specs/` says what contracts cite, `specs/inside/` what the seat of each turn knows. Whoever uses a
 //! table may know what a turn's state says and what each call answers; a journal that the keeper hands out is legal as
-//! far as the net decides, and complete. As yet a task is started only where it puts just what it takes, and starts
-//! carry no inputs.
+//! far as the net decides, and complete. As yet starts carry no inputs.
 #![tactic(auto)]
 
 mod calls;
+mod credit_calls;
 mod halts;
 mod keeper;
 mod merge;
@@ -64,6 +68,6 @@ pub use opening::Opening;
 pub use outcomes::{Dropping, Failure, Outcome};
 pub use rests::{Checked, Parked, Rest, RestDrop, UnitLook};
 pub use turns::{
-    Admitted, Collected, Collecting, Fresh, Gave, NetTable, Owing, Run, Running, Spent,
+    Admitted, Claim, Collected, Collecting, Fresh, Gave, NetTable, Owing, Run, Running, Spent,
     StartTicket, Turn, UnitTake,
 };

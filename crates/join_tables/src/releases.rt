@@ -10,11 +10,8 @@ ghost use Rattle.table_steps.specs.inside.Accounts.{edges_from};
 use journal_rules::Cause;
 use outside_io::NoMemory;
 use std::alloc::Global;
-use table_steps::{FIRST_UNIT, LIVE};
+use table_steps::{FIRST_CREDIT, FIRST_UNIT, LIVE};
 use task_graph::Net;
-
-// A word of credits at first, so that a claim that is refused wraps nothing.
-const FIRST_CREDIT: u64 = 1099511627776;
 
 /// A release of a task, by its cause.
 #[derive(Clone, Copy)]

@@ -15,7 +15,8 @@ use Rattle.table_steps.proofs.OpeningDuties.{begins}
 use Rattle.table_steps.specs.declared.view.Kind.{Kind}
 use Rattle.table_steps.specs.declared.view.Kind.TheVariants.{Held, Undo, Owed, Both, Credit, Credited, Claim, Granted, Refusing, Denied, Full}
 use Rattle.table_steps.specs.declared.view.Mark.TheVariants.{Live, New, Over, ToMark, Quiet}
-use Rattle.table_steps.specs.inside.Accounts.{Coord, duty, sem, mark, busy, resting, turning, owing, weigh, FitsRelease, AllStand, Readings, Balanced, HaltPart, FitsPlan, ViewPart, first_credit, first_notes}
+use Rattle.table_steps.specs.inside.Accounts.{Coord, duty, sem, mark, busy, resting, turning, owing, weigh, FitsRelease, AllStand, Readings, Balanced, HaltPart, FitsPlan, ViewPart, first_notes}
+use Rattle.table_steps.specs.Credits.{first_credit}
 
 -- first releases, each of the net
 abbrev pub AreFirst : NetRows → List Item → Type 0

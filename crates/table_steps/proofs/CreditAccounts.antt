@@ -10,14 +10,16 @@ use Rattle.journal_rules.specs.declared.entry.Entry.{Entry}
 use Rattle.journal_rules.specs.Counts.{start_at, started}
 use Rattle.journal_rules.specs.SemaphoreRule.{takes, puts, back, taken, closed_takers, other_putters, IsOverRelease}
 use Rattle.table_steps.specs.inside.Items.{DutyCoord, tickets, Raised}
-use Rattle.table_steps.specs.Giving.{one_if, times}
+use Rattle.table_steps.specs.Giving.{one_if}
 use Rattle.table_steps.specs.declared.view.Kind.TheVariants.{Held, Undo, Owed, Both, Credit, Credited, Claim, Granted, Refusing, Denied}
 use Rattle.table_steps.specs.declared.view.Mark.TheVariants.{Live, New, Over, ToMark, Sticking}
 use Rattle.table_steps.specs.declared.view.Note.TheVariants.{Sems}
-use Rattle.table_steps.specs.inside.Accounts.{Coord, duty, sem, mark, turning, owing, CreditPart, Readings, Balanced, Moves, with_credit, first_credit, only_puts, only_takes, starts_of}
+use Rattle.table_steps.specs.inside.Accounts.{Coord, duty, sem, mark, turning, owing, CreditPart, Readings, Balanced, Moves, with_credit, only_puts, only_takes, starts_of}
+use Rattle.table_steps.specs.Credits.{first_credit}
 use Rattle.table_steps.proofs.Still.{journal_still, edges_still, duties_still, admission_still, turns_still, unit_still, halt_still, stuck_still}
 use Rattle.table_steps.proofs.Journals.{count_cons, starts_from, from_cons, from_one, and_same, and_off, and_on}
 use Rattle.table_steps.proofs.Credits.{Credits}
+use Rattle.table_steps.proofs.UnitAccounts.{AreFewer}
 
 from_plain : (test : ℕ → Bool) (n : ℕ) (xs : List Entry) → starts_from (λ k u. test u) n xs ≡ starts_of test xs
 from_plain test n [] = refl
@@ -57,33 +59,23 @@ parted net s (x ∷ xs) =
     one None = refl
     one (Some u) = four (takes net s u) (puts net s u)
 
--- a credit added, of a task that takes the semaphore and doesn't put it
-pub credits_added : (net : NetRows) (credit credit' : ℕ → ℕ) (journal : List Entry) (T T' : Coord → ℕ) (a : ℕ) (l m : List ℕ) → Credits net credit journal T → Raised credit a credit'
-    → Moves T (Sems Credit (a ∷ l) ∷ Sems Credited m ∷ []) T' (Sems Credit l ∷ Sems Credited (a ∷ m) ∷ []) → Credits net credit' journal T'
-credits_added net credit credit' journal T T' a l m k raised moved s below = record {
-  tells = omega (arith, (k s below).tells, raised s, moved (sem Granted s), moved (sem Refusing s), moved (sem Both s), moved (sem Credit s));
-  backed = omega (arith, (k s below).backed, moved (sem Granted s), moved (sem Both s), moved (sem Credit s));
+-- a credit added, of a unit that is taken and not put
+pub credits_added : (net : NetRows) (credit credit' : ℕ → ℕ) (journal : List Entry) (T T' : Coord → ℕ) (a : ℕ) (l l' m : List ℕ) → Credits net credit journal T → Raised credit a credit' → AreFewer a l' l
+    → Moves T (Sems Credit l ∷ Sems Credited m ∷ []) T' (Sems Credit l' ∷ Sems Credited (a ∷ m) ∷ []) → Credits net credit' journal T'
+credits_added net credit credit' journal T T' a l l' m k raised fewer moved s below = record {
+  tells = omega (arith, (k s below).tells, raised s, fewer s, moved (sem Granted s), moved (sem Refusing s), moved (sem Both s), moved (sem Credit s));
+  backed = omega (arith, (k s below).backed, fewer s, moved (sem Granted s), moved (sem Both s), moved (sem Credit s));
   claims = omega (arith, (k s below).claims, moved (sem Both s), moved (sem Claim s), moved (sem Granted s), moved (sem Refusing s), moved (sem Denied s));
-  takers = omega (arith, (k s below).takers, moved (sem Credit s), moved (sem Credited s));
-}
-
--- and of one that puts it
-pub credits_passed : (net : NetRows) (credit credit' : ℕ → ℕ) (journal : List Entry) (T T' : Coord → ℕ) (a : ℕ) (l m : List ℕ) → Credits net credit journal T → Raised credit a credit'
-    → Moves T (Sems Both (a ∷ l) ∷ Sems Claim m ∷ []) T' (Sems Both l ∷ Sems Claim (a ∷ m) ∷ []) → Credits net credit' journal T'
-credits_passed net credit credit' journal T T' a l m k raised moved s below = record {
-  tells = omega (arith, (k s below).tells, raised s, moved (sem Granted s), moved (sem Refusing s), moved (sem Both s), moved (sem Credit s));
-  backed = omega (arith, (k s below).backed, moved (sem Granted s), moved (sem Both s), moved (sem Credit s));
-  claims = omega (arith, (k s below).claims, moved (sem Both s), moved (sem Claim s), moved (sem Granted s), moved (sem Refusing s), moved (sem Denied s));
-  takers = omega (arith, (k s below).takers, moved (sem Credit s), moved (sem Credited s));
+  takers = omega (arith, (k s below).takers, fewer s, moved (sem Credit s), moved (sem Credited s));
 }
 
 -- a claim granted
-pub credits_granted : (net : NetRows) (credit credit' : ℕ → ℕ) (journal : List Entry) (T T' : Coord → ℕ) (a : ℕ) (l m : List ℕ) → Credits net credit journal T → Raised credit' a credit → first_credit < credit a
-    → Moves T (Sems Claim (a ∷ l) ∷ Sems Granted m ∷ []) T' (Sems Claim l ∷ Sems Granted (a ∷ m) ∷ []) → Credits net credit' journal T'
-credits_granted net credit credit' journal T T' a l m k lowered found moved s below = record {
+pub credits_granted : (net : NetRows) (credit credit' : ℕ → ℕ) (journal : List Entry) (T T' : Coord → ℕ) (a : ℕ) (l l' m : List ℕ) → Credits net credit journal T → Raised credit' a credit → AreFewer a l' l → first_credit < credit a
+    → Moves T (Sems Claim l ∷ Sems Granted m ∷ []) T' (Sems Claim l' ∷ Sems Granted (a ∷ m) ∷ []) → Credits net credit' journal T'
+credits_granted net credit credit' journal T T' a l l' m k lowered fewer found moved s below = record {
   tells = omega (arith, (k s below).tells, lowered s, moved (sem Granted s), moved (sem Refusing s), moved (sem Both s), moved (sem Credit s));
   backed = by_eq (cases_eq a s);
-  claims = omega (arith, (k s below).claims, moved (sem Both s), moved (sem Claim s), moved (sem Granted s), moved (sem Refusing s), moved (sem Denied s));
+  claims = omega (arith, (k s below).claims, fewer s, moved (sem Both s), moved (sem Claim s), moved (sem Granted s), moved (sem Refusing s), moved (sem Denied s));
   takers = omega (arith, (k s below).takers, moved (sem Credit s), moved (sem Credited s));
 }
   where
@@ -96,12 +88,12 @@ credits_granted net credit credit' journal T T' a l m k lowered found moved s be
         omega (arith, (k s below).backed, ap one_if miss, moved (sem Granted s), moved (sem Both s), moved (sem Credit s))
 
 -- refused
-pub credits_refused : (net : NetRows) (credit credit' : ℕ → ℕ) (journal : List Entry) (T T' : Coord → ℕ) (a : ℕ) (l : List ℕ) → Credits net credit journal T → Raised credit' a credit
-    → Moves T (Sems Claim (a ∷ l) ∷ []) T' (Sems Refusing (a ∷ []) ∷ Sems Claim l ∷ []) → Credits net credit' journal T'
-credits_refused net credit credit' journal T T' a l k lowered moved s below = record {
+pub credits_refused : (net : NetRows) (credit credit' : ℕ → ℕ) (journal : List Entry) (T T' : Coord → ℕ) (a : ℕ) (l l' : List ℕ) → Credits net credit journal T → Raised credit' a credit → AreFewer a l' l
+    → Moves T (Sems Claim l ∷ []) T' (Sems Claim l' ∷ Sems Refusing (a ∷ []) ∷ []) → Credits net credit' journal T'
+credits_refused net credit credit' journal T T' a l l' k lowered fewer moved s below = record {
   tells = omega (arith, (k s below).tells, lowered s, moved (sem Granted s), moved (sem Refusing s), moved (sem Both s), moved (sem Credit s));
   backed = omega (arith, (k s below).backed, moved (sem Granted s), moved (sem Both s), moved (sem Credit s));
-  claims = omega (arith, (k s below).claims, moved (sem Both s), moved (sem Claim s), moved (sem Granted s), moved (sem Refusing s), moved (sem Denied s));
+  claims = omega (arith, (k s below).claims, fewer s, moved (sem Both s), moved (sem Claim s), moved (sem Granted s), moved (sem Refusing s), moved (sem Denied s));
   takers = omega (arith, (k s below).takers, moved (sem Credit s), moved (sem Credited s));
 }
 

@@ -1,7 +1,6 @@
 -- What the steps on the clock ask is met.
-use Rattle.std.proofs.Common.{◌≡◌, ℕ, suc, ◌+◌, ◌%◌, ◌^◌, ◌≤◌, Bool, true, false, not, ◌&&◌, List, [], ◌∷◌, ◌++◌, Some, set, refl, sym, ap, ◌∙◌, arith}
+use Rattle.std.proofs.Common.{◌≡◌, ℕ, suc, ◌+◌, ◌%◌, ◌^◌, ◌≤◌, Bool, List, [], ◌∷◌, ◌++◌, Some, set, refl, ap, ◌∙◌, arith}
 use Rattle.std.specs.Prelude.{slice_index, slice_get, count_by}
-use Rattle.std.proofs.lemmas.Bool.{false≢true}
 use mathlib.Core.Option.{some}
 use lib.ListN.{get_elem?}
 use Rattle.atomic_table.specs.Table.{keeps, stepped}
@@ -13,17 +12,19 @@ use Rattle.journal_rules.specs.DataRule.{edges_of}
 use Rattle.journal_rules.proofs.Tallying.{count_by_push_no}
 use Rattle.table_steps.specs.declared.view.Item.TheVariants.{Told, Collecting, Ticket, Open, Owes}
 use Rattle.table_steps.specs.inside.Items.{MayRelease}
-use Rattle.table_steps.specs.Giving.{one_if, MayGive}
-use Rattle.table_steps.specs.Holding.{HoldsAll, PutsAll}
-use Rattle.journal_rules.specs.SemaphoreRule.{takes, puts}
+use Rattle.table_steps.specs.Giving.{MayGive}
+use Rattle.table_steps.specs.Holding.{HoldsAll, PutsEach, TakesAlone}
 use Rattle.table_steps.specs.declared.view.Kind.TheVariants.{Held, Undo, Owed, Both, Credit, Credited, Claim, Granted, Refusing, Denied}
 use Rattle.table_steps.specs.inside.UnitKinds.{held_notes}
+use Rattle.table_steps.specs.inside.Kinds.{started_notes}
+use Rattle.table_steps.proofs.Counting.{times_append}
+use Rattle.table_steps.proofs.Sharing.{puts_back, takes_alone, puts_alone}
 use Rattle.table_steps.proofs.UnitAccounts.{held_weigh}
 use Rattle.table_steps.proofs.Raising.{told_last}
 use Rattle.table_steps.specs.declared.view.Mark.TheVariants.{Live, New, Over, ToMark}
 use Rattle.table_steps.specs.declared.view.Note.{Note}
 use Rattle.table_steps.specs.declared.view.Note.TheVariants.{Duty, Sems, Has}
-use Rattle.table_steps.specs.inside.Accounts.{duty, sem, mark, turning, owing, resting, weigh, only_takes, total, Balanced, Moves, is_drop, with_clock, reading, KeepsAccounts}
+use Rattle.table_steps.specs.inside.Accounts.{duty, sem, mark, turning, owing, resting, weigh, total, Balanced, Moves, is_drop, with_clock, reading, KeepsAccounts}
 use Rattle.table_steps.proofs.Totals.{total_swap, weigh_append}
 use Rattle.table_steps.proofs.Views.{OwnView, longer, none_stuck, sticking_rests}
 use Rattle.table_steps.proofs.Stepping.{St, own_lone, after_step}
@@ -56,28 +57,15 @@ told net limit s h x = told_last h.journal (slice_index s.words 8) x h.balanced.
 pub unstuck : (net : NetRows) (limit : ℕ) (s : St) (h : KeepsAccounts net limit s) (id : ℕ) (v : List Note) → get_elem? s.views id ≡ some v → 1 ≤ weigh (mark Live) v → weigh resting v ≡ 0 → count_by is_stuck h.journal ≡ 0
 unstuck net limit s h id v at lives lone = none_stuck net h.journal s.views id v h.views h.balanced.by_stuck at lives (omega (arith, lone, sticking_rests v))
 
--- what a task does with a semaphore, where it puts just what it takes
-all_both : (p q : Bool) → q ≡ p → one_if (p && q) ≡ one_if p
-all_both true q is = ap one_if is
-all_both false q is = refl
-
-none_alone : (p q : Bool) → q ≡ p → one_if (p && not q) ≡ 0
-none_alone true true is = refl
-none_alone true false is = absurd (false≢true is)
-none_alone false q is = refl
-
-pub none_only : (net : NetRows) (s t : ℕ) → PutsAll net t → one_if (only_takes net s t) ≡ 0
-none_only net s t puts_all = none_alone (takes net s t) (puts net s t) (puts_all s)
-
 -- a Start
-pub start_drawn : (net : NetRows) (limit : ℕ) (s : St) (h : KeepsAccounts net limit s) (id t : ℕ) (cause : Cause) (l : List ℕ) (carried : List (ℕ × Unit {0})) (rest : List Note) → MayRelease net t cause → HoldsAll net t l → PutsAll net t
+pub start_drawn : (net : NetRows) (limit : ℕ) (s : St) (h : KeepsAccounts net limit s) (id t : ℕ) (cause : Cause) (l : List ℕ) (carried : List (ℕ × Unit {0})) (rest : List Note) → MayRelease net t cause → HoldsAll net t l
     → weigh resting rest ≡ 0 → get_elem? s.views id ≡ some (Duty (Collecting t cause (edges_of net t cause) []) ∷ Duty Ticket ∷ Has Live ∷ held_notes l ++ rest)
-    → KeepsAccounts net limit (stepped s 8 ((slice_index s.words 8 + 1) % 2 ^ 64) id carried (Duty (Open (slice_index s.words 8) t) ∷ Has Live ∷ Sems Both l ∷ Duty (Told (slice_index s.words 8) (Start t cause [])) ∷ rest) keeps)
-start_drawn net limit s h id t cause l carried rest may holds puts_all lone at =
+    → KeepsAccounts net limit (stepped s 8 ((slice_index s.words 8 + 1) % 2 ^ 64) id carried (started_notes net (slice_index s.words 8) t cause l ++ rest) keeps)
+start_drawn net limit s h id t cause l carried rest may holds lone at =
     let n = slice_index s.words 8 in let x = Start t cause [] in
-    let old = Duty (Collecting t cause (edges_of net t cause) []) ∷ Duty Ticket ∷ Has Live ∷ held_notes l in let new = Duty (Open n t) ∷ Has Live ∷ Sems Both l ∷ Duty (Told n x) ∷ [] in
+    let old = Duty (Collecting t cause (edges_of net t cause) []) ∷ Duty Ticket ∷ Has Live ∷ held_notes l in let new = started_notes net n t cause l in
     drawn net limit s h id carried old new rest x at
-    (own_lone net (h.journal ++ x ∷ []) (λ c. total c s.views) old new rest (tt, (tt, (tt, (told net limit s h x, tt)))) (omega arith) (omega arith) (omega (arith, lone))) (omega (arith, held_weigh (mark Live) l))
+    (own_lone net (h.journal ++ x ∷ []) (λ c. total c s.views) old new rest (tt, (tt, (tt, (tt, (tt, (tt, (tt, (told net limit s h x, tt)))))))) (omega arith) (omega arith) (omega (arith, lone))) (omega (arith, held_weigh (mark Live) l))
     (omega (arith, count_by_push_no is_drop h.journal x refl, h.few_drops))
     (λ moved. start_kept net limit (reading net s.words) h.counted h.journal (λ c. total c s.views) _ t cause [] h.balanced may
     (unstuck net limit s h id (old ++ rest) at (omega arith) (omega (arith, lone, weigh_append resting old rest, held_weigh resting l))) (record {
@@ -85,10 +73,10 @@ start_drawn net limit s h id t cause l carried rest may holds puts_all lone at =
       held = λ z. omega (arith, moved (sem Held z), held_weigh (sem Held z) l, holds z);
       undo = λ z. omega (arith, moved (sem Undo z), held_weigh (sem Undo z) l);
       owed = λ z. omega (arith, moved (sem Owed z), held_weigh (sem Owed z) l);
-      both = λ z. omega (arith, moved (sem Both z), held_weigh (sem Both z) l, holds z, all_both (takes net z t) (puts net z t) (puts_all z));
-      credit = λ z. omega (arith, moved (sem Credit z), held_weigh (sem Credit z) l, none_only net z t puts_all);
+      both = λ z. omega (arith, moved (sem Both z), held_weigh (sem Both z) l, puts_back net t l holds z);
+      credit = λ z. omega (arith, moved (sem Credit z), held_weigh (sem Credit z) l, takes_alone net t l holds z);
       credited = λ z. omega (arith, moved (sem Credited z), held_weigh (sem Credited z) l);
-      claim = λ z. omega (arith, moved (sem Claim z), held_weigh (sem Claim z) l, none_alone (puts net z t) (takes net z t) (sym (puts_all z)));
+      claim = λ z. omega (arith, moved (sem Claim z), held_weigh (sem Claim z) l, puts_alone net t h.fits.rows z);
       granted = λ z. omega (arith, moved (sem Granted z), held_weigh (sem Granted z) l);
       refusing = λ z. omega (arith, moved (sem Refusing z), held_weigh (sem Refusing z) l);
       denied = λ z. omega (arith, moved (sem Denied z), held_weigh (sem Denied z) l);
@@ -101,24 +89,24 @@ start_drawn net limit s h id t cause l carried rest may holds puts_all lone at =
     }))
 
 -- an End
-pub end_drawn : (net : NetRows) (limit : ℕ) (s : St) (h : KeepsAccounts net limit s) (id m t : ℕ) (gives : List ℕ) (inner : Bool) (l : List ℕ) (carried : List (ℕ × Unit {0})) (rest : List Note) → MayGive net t gives inner → HoldsAll net t l → PutsAll net t
-    → weigh resting rest ≡ 0 → get_elem? s.views id ≡ some (Duty (Open m t) ∷ Has Live ∷ Sems Both l ∷ rest)
-    → KeepsAccounts net limit (stepped s 8 ((slice_index s.words 8 + 1) % 2 ^ 64) id carried (Duty (Owes gives) ∷ Has Live ∷ Sems Owed l ∷ Duty (Told (slice_index s.words 8) (End m gives inner)) ∷ rest) keeps)
-end_drawn net limit s h id m t gives inner l carried rest may holds puts_all lone at =
+pub end_drawn : (net : NetRows) (limit : ℕ) (s : St) (h : KeepsAccounts net limit s) (id m t : ℕ) (gives : List ℕ) (inner : Bool) (b d g : List ℕ) (carried : List (ℕ × Unit {0})) (rest : List Note) → MayGive net t gives inner → PutsEach net t (g ++ b) → TakesAlone net t d
+    → weigh resting rest ≡ 0 → get_elem? s.views id ≡ some (Duty (Open m t) ∷ Has Live ∷ Sems Both b ∷ Sems Credit [] ∷ Sems Credited d ∷ Sems Claim [] ∷ Sems Granted g ∷ rest)
+    → KeepsAccounts net limit (stepped s 8 ((slice_index s.words 8 + 1) % 2 ^ 64) id carried (Duty (Owes gives) ∷ Has Live ∷ Sems Owed (g ++ b) ∷ Duty (Told (slice_index s.words 8) (End m gives inner)) ∷ rest) keeps)
+end_drawn net limit s h id m t gives inner b d g carried rest may each alone lone at =
     let n = slice_index s.words 8 in let x = End m gives inner in
-    let old = Duty (Open m t) ∷ Has Live ∷ Sems Both l ∷ [] in let new = Duty (Owes gives) ∷ Has Live ∷ Sems Owed l ∷ Duty (Told n x) ∷ [] in
+    let old = Duty (Open m t) ∷ Has Live ∷ Sems Both b ∷ Sems Credit [] ∷ Sems Credited d ∷ Sems Claim [] ∷ Sems Granted g ∷ [] in let new = Duty (Owes gives) ∷ Has Live ∷ Sems Owed (g ++ b) ∷ Duty (Told n x) ∷ [] in
     drawn net limit s h id carried old new rest x at
-    (own_lone net (h.journal ++ x ∷ []) (λ c. total c s.views) old new rest (may.in_range, (tt, (tt, (told net limit s h x, tt)))) (omega arith) (omega arith) (omega (arith, lone))) refl
+    (own_lone net (h.journal ++ x ∷ []) (λ c. total c s.views) old new rest (may.in_range, (tt, (tt, (told net limit s h x, tt)))) (omega arith) (omega arith) (omega (arith, lone))) (omega arith)
     (omega (arith, count_by_push_no is_drop h.journal x refl, h.few_drops))
     (λ moved. end_kept net limit (reading net s.words) h.counted h.journal (λ c. total c s.views) _ m t gives inner h.balanced may
     (unstuck net limit s h id (old ++ rest) at (omega arith) (omega (arith, lone))) (record {
       duties = λ c. omega (arith, moved (duty c));
       held = λ z. omega (arith, moved (sem Held z));
       undo = λ z. omega (arith, moved (sem Undo z));
-      owed = λ z. omega (arith, moved (sem Owed z), holds z, ap one_if (puts_all z));
-      paid = λ z. omega (arith, moved (sem Both z), moved (sem Granted z), holds z, ap one_if (puts_all z));
+      owed = λ z. omega (arith, moved (sem Owed z), each z);
+      paid = λ z. omega (arith, moved (sem Both z), moved (sem Granted z), each z, times_append z g b);
       credit = λ z. omega (arith, moved (sem Credit z));
-      credited = λ z. omega (arith, moved (sem Credited z), none_only net z t puts_all);
+      credited = λ z. omega (arith, moved (sem Credited z), alone z);
       claim = λ z. omega (arith, moved (sem Claim z));
       refusing = λ z. omega (arith, moved (sem Refusing z));
       denied = λ z. omega (arith, moved (sem Denied z));

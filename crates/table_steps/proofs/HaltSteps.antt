@@ -1,19 +1,23 @@
 -- What the steps of halts and drops ask is met.
-use Rattle.std.proofs.Common.{◌≡◌, ◌≢◌, ◌⊎◌, inl, inr, ℕ, zero, suc, ◌+◌, ◌%◌, ◌^◌, ◌≤◌, List, [], ◌∷◌, ◌++◌, refl, sym, ap, ◌∙◌, arith}
-use Rattle.std.specs.Prelude.{slice_index, count_by}
+use Rattle.std.proofs.Common.{◌≡◌, ◌≢◌, ◌⊎◌, inl, inr, ℕ, zero, suc, ◌+◌, ◌%◌, ◌^◌, ◌<◌, ◌≤◌, List, [], ◌∷◌, ◌++◌, length, subst, refl, sym, ap, ◌∙◌, arith}
+use Rattle.std.specs.Prelude.{slice_index, count_by, IsSomeAnd, Some}
 use Rattle.std.proofs.lemmas.Bool.{cases_eq}
 use Rattle.std.proofs.lemmas.List.{append-nil}
 use mathlib.Core.Option.{some}
 use lib.ListN.{get_elem?}
 use Rattle.atomic_table.specs.Table.{Act, keeps, Valid, carried_after, stepped, Allows}
 use Rattle.task_graph.specs.NetRows.{NetRows}
+use Rattle.task_graph.specs.Net.{IsNet}
+use Rattle.journal_rules.proofs.TaskSemaphores.{puts_in_range}
 use Rattle.journal_rules.specs.declared.entry.Cause.{Cause}
 use Rattle.journal_rules.specs.declared.entry.DropWhy.TheVariants.{Limit, Halted as AfterFault}
+use Rattle.journal_rules.specs.declared.entry.Entry.{Entry}
 use Rattle.journal_rules.specs.declared.entry.Entry.TheVariants.{Fault, Drop}
 use Rattle.journal_rules.specs.declared.entry.Why.{Why}
 use Rattle.journal_rules.specs.declared.entry.Why.TheVariants.{Long, Wide, Unmet, Inner, OverRelease}
 use Rattle.journal_rules.specs.DataRule.{edges_of}
-use Rattle.journal_rules.specs.SemaphoreRule.{OverReleaseRule}
+use Rattle.journal_rules.specs.Counts.{start_at}
+use Rattle.journal_rules.specs.SemaphoreRule.{IsOverRelease, OverReleaseRule}
 use Rattle.journal_rules.specs.ShapeLegal.{WhyInRange}
 use Rattle.journal_rules.proofs.Tallying.{count_by_push_no, count_by_push_yes}
 use Rattle.table_steps.specs.declared.view.Item.{Item}
@@ -22,15 +26,14 @@ use Rattle.table_steps.specs.inside.Items.{MayRelease}
 use Rattle.table_steps.specs.declared.view.Kind.TheVariants.{Held, Undo, Owed, Both, Credit, Credited, Claim, Granted, Refusing, Denied}
 use Rattle.table_steps.specs.declared.view.Mark.TheVariants.{Live, New, Over, ToMark, Halted}
 use Rattle.table_steps.specs.declared.view.Note.{Note}
-use Rattle.table_steps.specs.declared.view.Note.TheVariants.{Duty, Has}
-use Rattle.table_steps.specs.inside.Accounts.{duty, sem, mark, turning, owing, resting, weigh, total, is_drop, reading, KeepsAccounts}
+use Rattle.table_steps.specs.declared.view.Note.TheVariants.{Duty, Sems, Has, Unfit}
+use Rattle.table_steps.specs.inside.Accounts.{AllStand, duty, sem, mark, turning, owing, resting, weigh, total, is_drop, reading, KeepsAccounts}
 use Rattle.table_steps.specs.inside.Kinds.{MayAdmit}
-use Rattle.table_steps.specs.inside.Halts.{halt_read, MayFault, faulted, MayMark, marked, MayDrop, dropped}
-use Rattle.table_steps.specs.Reasons.{TellsNoUnit}
-use Rattle.table_steps.specs.Holding.{PutsAll}
+use Rattle.table_steps.specs.inside.Halts.{halt_read, KnowsWhy, MayFault, faulted, MayMark, marked, MayDrop, dropped}
+use Rattle.table_steps.specs.Holding.{TakesAlone}
 use Rattle.table_steps.proofs.Stepping.{St, Seated, own_lone, still_step, done}
 use Rattle.table_steps.proofs.Reading.{halt_word_read}
-use Rattle.table_steps.proofs.Drawing.{drawn, told, unstuck, none_only}
+use Rattle.table_steps.proofs.Drawing.{drawn, told, unstuck}
 use Rattle.table_steps.proofs.MarkSteps.{reads_same}
 use Rattle.table_steps.proofs.Seats.{nothing_done}
 use Rattle.table_steps.proofs.Marking.{alike_kept, marks_none}
@@ -61,14 +64,14 @@ halt_loaded net limit s h id carried x rest lone at found =
     (λ moved. alike_kept net limit (reading net s.words) h.counted h.journal (λ c. total c s.views) _ h.balanced (λ c a. omega (arith, moved c, marks_none c a (Has Halted ∷ []) tt)))
 
 -- a Fault drawn
-fault_drawn : (net : NetRows) (limit : ℕ) (s : St) (h : KeepsAccounts net limit s) (id m t : ℕ) (why : Why) (carried : List (ℕ × Unit {0})) (rest : List Note) → WhyInRange net why → OverReleaseRule net h.journal m why → PutsAll net t
-    → weigh resting rest ≡ 0 → get_elem? s.views id ≡ some (Duty (Open m t) ∷ Has Live ∷ rest)
-    → KeepsAccounts net limit (stepped s 8 ((slice_index s.words 8 + 1) % 2 ^ 64) id carried (Duty (Owes []) ∷ Has Live ∷ Has ToMark ∷ Duty (Told (slice_index s.words 8) (Fault m why)) ∷ rest) keeps)
-fault_drawn net limit s h id m t why carried rest in_range over puts_all lone at =
+fault_drawn : (net : NetRows) (limit : ℕ) (s : St) (h : KeepsAccounts net limit s) (id m t : ℕ) (why : Why) (b d : List ℕ) (carried : List (ℕ × Unit {0})) (rest : List Note) → WhyInRange net why → OverReleaseRule net h.journal m why → TakesAlone net t d
+    → weigh resting rest ≡ 0 → get_elem? s.views id ≡ some (Duty (Open m t) ∷ Has Live ∷ Sems Both b ∷ Sems Credit [] ∷ Sems Credited d ∷ rest)
+    → KeepsAccounts net limit (stepped s 8 ((slice_index s.words 8 + 1) % 2 ^ 64) id carried (Duty (Owes []) ∷ Has Live ∷ Has ToMark ∷ Duty (Told (slice_index s.words 8) (Fault m why)) ∷ Sems Both b ∷ rest) keeps)
+fault_drawn net limit s h id m t why b d carried rest in_range over alone lone at =
     let n = slice_index s.words 8 in let x = Fault m why in
-    let old = Duty (Open m t) ∷ Has Live ∷ [] in let new = Duty (Owes []) ∷ Has Live ∷ Has ToMark ∷ Duty (Told n x) ∷ [] in
+    let old = Duty (Open m t) ∷ Has Live ∷ Sems Both b ∷ Sems Credit [] ∷ Sems Credited d ∷ [] in let new = Duty (Owes []) ∷ Has Live ∷ Has ToMark ∷ Duty (Told n x) ∷ Sems Both b ∷ [] in
     drawn net limit s h id carried old new rest x at
-    (own_lone net (h.journal ++ x ∷ []) (λ c. total c s.views) old new rest (tt, (tt, (tt, (told net limit s h x, tt)))) (omega arith) (omega arith) (omega (arith, lone))) refl
+    (own_lone net (h.journal ++ x ∷ []) (λ c. total c s.views) old new rest (tt, (tt, (tt, (told net limit s h x, (tt, tt))))) (omega arith) (omega arith) (omega (arith, lone))) (omega arith)
     (omega (arith, count_by_push_no is_drop h.journal x refl, h.few_drops))
     (λ moved. fault_kept net limit (reading net s.words) h.counted h.journal (λ c. total c s.views) _ m t why h.balanced in_range over
     (unstuck net limit s h id (old ++ rest) at (omega arith) (omega (arith, lone))) (record {
@@ -78,7 +81,7 @@ fault_drawn net limit s h id m t why carried rest in_range over puts_all lone at
       owed = λ z. omega (arith, moved (sem Owed z));
       both = λ z. omega (arith, moved (sem Both z));
       credit = λ z. omega (arith, moved (sem Credit z));
-      credited = λ z below. omega (arith, moved (sem Credited z), none_only net z t puts_all);
+      credited = λ z below. omega (arith, moved (sem Credited z), alone z);
       claim = λ z. omega (arith, moved (sem Claim z));
       granted = λ z. omega (arith, moved (sem Granted z));
       refusing = λ z. omega (arith, moved (sem Refusing z));
@@ -161,21 +164,31 @@ halt_allowed net limit slots id me may s h _ at small = from me.0 may at
         by_zero (inr found) = done net limit s id 32 _ me _ _ (read_is n found) (halt_loaded net limit s h id me.1 (Collecting t cause taken left) rest may at found)
     from v may at = absurd may
 
+-- what a seat knows of an over-release that it tells
+told_over : (net : NetRows) (journal : List Entry) (z m n a u : ℕ) → a ≡ z → n ≡ m → (start_at journal n ≡ Some u) × IsOverRelease net journal a n u → OverReleaseRule net journal m (OverRelease z)
+told_over net journal z m n a u same_sem same_place known =
+    subst (λ k. IsSomeAnd (start_at journal k) (IsOverRelease net journal z k)) same_place
+    (subst (λ k. IsSomeAnd (start_at journal n) (IsOverRelease net journal k n)) same_sem
+    (subst (λ o. IsSomeAnd o (IsOverRelease net journal a n)) (sym known.0) known.1))
+
+why_stands : (net : NetRows) (journal : List Entry) (q : Why) (m : ℕ) (rest : List Note) → IsNet net → KnowsWhy q m rest → AllStand net journal rest → WhyInRange net q × OverReleaseRule net journal m q
+why_stands net journal (Long n) m rest rows fits stand = (tt, tt)
+why_stands net journal (Wide n) m rest rows fits stand = (tt, tt)
+why_stands net journal (Unmet n) m rest rows fits stand = (tt, tt)
+why_stands net journal Inner m rest rows fits stand = (tt, tt)
+why_stands net journal (OverRelease z) m (Sems Claim l ∷ Sems Granted g ∷ x ∷ Unfit a n u ∷ rest) rows fits stand =
+    (subst (λ k. k < length net.sems) fits.0 (puts_in_range net a u rows stand.1.1.1.0.1.0), told_over net journal z m n a u fits.0 fits.1 stand.1.1.1.0)
+why_stands net journal (OverRelease z) m rest rows fits stand = absurd fits
+
 -- FAULT DRAWN
 pub fault_allowed : (net : NetRows) (limit slots id : ℕ) (me : Seated) (why : Why) → MayFault net why me.0 → Allows (KeepsAccounts net limit) slots id me 8 (λ n. (n + 1) % 2 ^ 64) (λ n m. (m.0 ≡ faulted why n me.0) × (m.1 ≡ me.1))
 fault_allowed net limit slots id me why may s h _ at small = from me.0 may at
   where
-    over : (q : Why) (m : ℕ) → TellsNoUnit q → WhyInRange net q × OverReleaseRule net h.journal m q
-    over (Long n) m fits = (tt, tt)
-    over (Wide n) m fits = (tt, tt)
-    over (Unmet n) m fits = (tt, tt)
-    over Inner m fits = (tt, tt)
-    over (OverRelease z) m fits = absurd fits
-
     from : (v : List Note) → MayFault net why v → get_elem? s.views id ≡ some v
         → (u : List Note) × (z : Act (Unit {0})) × Valid s.homes me.1 z × KeepsAccounts net limit (stepped s 8 ((slice_index s.words 8 + 1) % 2 ^ 64) id me.1 u z) × ((u ≡ faulted why (slice_index s.words 8) v) × (carried_after me.1 z ≡ me.1))
-    from (Duty (Open m t) ∷ Has Live ∷ rest) may at =
-        done net limit s id 8 _ me _ _ refl (let fits = over why m may.0 in fault_drawn net limit s h id m t why me.1 rest fits.0 fits.1 may.1 may.2 at)
+    from (Duty (Open m t) ∷ Has Live ∷ Sems Both b ∷ Sems Credit c ∷ Sems Credited d ∷ rest) may at =
+        let fits = why_stands net h.journal why m rest h.fits.rows may.0 (h.views id _ at).stand.1.1.1.1.1 in
+        done net limit s id 8 _ me _ _ refl (fault_drawn net limit s h id m t why b d me.1 rest fits.0 fits.1 may.2 may.3 (at ∙ ap (λ l. some (Duty (Open m t) ∷ Has Live ∷ Sems Both b ∷ Sems Credit l ∷ Sems Credited d ∷ rest)) may.1))
     from v may at = absurd may
 
 -- HALT MARK

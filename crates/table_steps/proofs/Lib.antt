@@ -38,6 +38,7 @@ pub mod HaltSteps
 pub mod UnitReads
 pub mod UnitAccounts
 pub mod UnitSeats
+pub mod Sharing
 pub mod CreditReads
 pub mod CreditAccounts
 pub mod CreditSeats

@@ -19,7 +19,7 @@ use Rattle.table_steps.specs.declared.view.Item.{Item}
 use Rattle.table_steps.specs.declared.view.Item.TheVariants.{Fresh, Collecting, Ticket, Open}
 use Rattle.table_steps.specs.declared.view.Mark.TheVariants.{Live, New}
 use Rattle.table_steps.specs.declared.view.Note.{Note}
-use Rattle.table_steps.specs.declared.view.Kind.TheVariants.{Held, Both}
+use Rattle.table_steps.specs.declared.view.Kind.TheVariants.{Held, Both, Credit, Credited, Claim, Granted}
 use Rattle.table_steps.specs.declared.view.Note.TheVariants.{Duty, Sems, Has}
 use Rattle.table_steps.specs.inside.Items.{place, runs, running, tickets, token, source, weakly, awaits, unset, MayRelease}
 use Rattle.table_steps.specs.inside.Accounts.{Coord, duty, sem, mark, busy, resting, turning, owing, telling, weight, total, FitsRelease, AllFitNotes, KeepsAccounts, reading}
@@ -138,21 +138,29 @@ add_allowed net limit slots id me may s h _ at small = from me.0 may at
     from v may at = absurd may
 
 -- START DRAWN
-pub start_allowed : (net : NetRows) (limit slots id : ℕ) (me : Seated) → MayStart net me.0 → Allows (KeepsAccounts net limit) slots id me 8 (λ n. (n + 1) % 2 ^ 64) (λ n m. (m.0 ≡ started n me.0) × (m.1 ≡ me.1))
+pub start_allowed : (net : NetRows) (limit slots id : ℕ) (me : Seated) → MayStart net me.0 → Allows (KeepsAccounts net limit) slots id me 8 (λ n. (n + 1) % 2 ^ 64) (λ n m. (m.0 ≡ started net n me.0) × (m.1 ≡ me.1) × IsNet net)
 start_allowed net limit slots id me may s h _ at small = from me.0 may at
   where
     from : (v : List Note) → MayStart net v → get_elem? s.views id ≡ some v
-        → (u : List Note) × (z : Act (Unit {0})) × Valid s.homes me.1 z × KeepsAccounts net limit (stepped s 8 ((slice_index s.words 8 + 1) % 2 ^ 64) id me.1 u z) × ((u ≡ started (slice_index s.words 8) v) × (carried_after me.1 z ≡ me.1))
+        → (u : List Note) × (z : Act (Unit {0})) × Valid s.homes me.1 z × KeepsAccounts net limit (stepped s 8 ((slice_index s.words 8 + 1) % 2 ^ 64) id me.1 u z) × ((u ≡ started net (slice_index s.words 8) v) × (carried_after me.1 z ≡ me.1) × IsNet net)
     from (Duty (Collecting t cause taken []) ∷ Duty Ticket ∷ Has Live ∷ []) may at =
         let stand = (h.views id _ at).stand.0 in
-        let all : taken ≡ edges_of net t cause = sym (append-nil taken) ∙ stand.1 in
-        done net limit s id 8 _ me _ _ refl
-        (start_drawn net limit s h id t cause [] me.1 [] (may_release net t cause h.fits.rows stand.0) may.0 may.1 refl (at ∙ ap (λ es. some (Duty (Collecting t cause es []) ∷ Duty Ticket ∷ Has Live ∷ [])) all))
+        let all : taken ≡ edges_of net t cause = sym (append-nil taken) ∙ stand.1 in (
+          _,
+          keeps,
+          tt,
+          start_drawn net limit s h id t cause [] me.1 [] (may_release net t cause h.fits.rows stand.0) may refl (at ∙ ap (λ es. some (Duty (Collecting t cause es []) ∷ Duty Ticket ∷ Has Live ∷ [])) all),
+          (refl, refl, h.fits.rows),
+        )
     from (Duty (Collecting t cause taken []) ∷ Duty Ticket ∷ Has Live ∷ Sems Held (b ∷ l) ∷ rest) may at =
         let stand = (h.views id _ at).stand.0 in
-        let all : taken ≡ edges_of net t cause = sym (append-nil taken) ∙ stand.1 in
-        done net limit s id 8 _ me _ _ refl
-        (start_drawn net limit s h id t cause (b ∷ l) me.1 rest (may_release net t cause h.fits.rows stand.0) may.0 may.1 may.2 (at ∙ ap (λ es. some (Duty (Collecting t cause es []) ∷ Duty Ticket ∷ Has Live ∷ Sems Held (b ∷ l) ∷ rest)) all))
+        let all : taken ≡ edges_of net t cause = sym (append-nil taken) ∙ stand.1 in (
+          _,
+          keeps,
+          tt,
+          start_drawn net limit s h id t cause (b ∷ l) me.1 rest (may_release net t cause h.fits.rows stand.0) may.0 may.1 (at ∙ ap (λ es. some (Duty (Collecting t cause es []) ∷ Duty Ticket ∷ Has Live ∷ Sems Held (b ∷ l) ∷ rest)) all),
+          (refl, refl, h.fits.rows),
+        )
     from v may at = absurd may
 
 -- END DRAWN
@@ -162,8 +170,9 @@ end_allowed net limit slots id me gives inner may s h _ at small = from me.0 may
   where
     from : (v : List Note) → MayEnd net gives inner v → get_elem? s.views id ≡ some v
         → (u : List Note) × (z : Act (Unit {0})) × Valid s.homes me.1 z × KeepsAccounts net limit (stepped s 8 ((slice_index s.words 8 + 1) % 2 ^ 64) id me.1 u z) × ((u ≡ ended gives inner (slice_index s.words 8) v) × (carried_after me.1 z ≡ me.1))
-    from (Duty (Open m t) ∷ Has Live ∷ Sems Both l ∷ rest) may at =
-        done net limit s id 8 _ me _ _ refl (end_drawn net limit s h id m t gives inner l me.1 rest may.0 may.1 may.2 may.3 at)
+    from (Duty (Open m t) ∷ Has Live ∷ Sems Both b ∷ Sems Credit c ∷ Sems Credited d ∷ Sems Claim l ∷ Sems Granted g ∷ rest) may at =
+        done net limit s id 8 _ me _ _ refl (end_drawn net limit s h id m t gives inner b d g me.1 rest may.0 may.4 may.2 may.5
+        (at ∙ (λ i. some (Duty (Open m t) ∷ Has Live ∷ Sems Both b ∷ Sems Credit (may.1 i) ∷ Sems Credited d ∷ Sems Claim (may.3 i) ∷ Sems Granted g ∷ rest))))
     from v may at = absurd may
 
 -- SPLIT

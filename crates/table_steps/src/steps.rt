@@ -3,7 +3,7 @@ ghost use Rattle.std.specs.Prelude.{◌≡◌, ◌+◌, ◌<◌, ℕ, List, Bool
 ghost use Rattle.std.specs.Arc.{arc_value};
 ghost use Rattle.task_graph.specs.NetRows.{NetRows};
 ghost use Rattle.table_steps.specs.inside.Accounts.{AllFitNotes, edges_from};
-ghost use Rattle.task_graph.specs.Net.{strong_in};
+ghost use Rattle.task_graph.specs.Net.{IsNet, strong_in};
 ghost use Rattle.table_steps.specs.inside.Kinds.{IsTurn, MayReset, MayTakeUp, taken_up, TakesNext, took, OwesNext, gave, CountsNext, counted_one, AreNoneLeft, others_of, MayAdd, added, MayDeal, dealt, kept_back, MayAdmit, admitted, MayStart, started, MayEnd, ended, MayLeave, left_by, IsWhole, joined};
 
 use crate::view::{AccountsHold, Note, Plan};
@@ -135,10 +135,12 @@ impl<A: Told> Play<(), List<Note>> for Admits<A> {
     ghost then = { λ _ before n after. (after.0 ≡ admitted A.limit n before.0) × (after.1 ≡ before.1) };
 }
 
-struct Starts;
+struct Starts<A> {
+    told: PhantomData<A>,
+}
 
-impl Play<(), List<Note>> for Starts {
-    ghost then = { λ _ before n after. (after.0 ≡ started n before.0) × (after.1 ≡ before.1) };
+impl<A: Told> Play<(), List<Note>> for Starts<A> {
+    ghost then = { λ _ before n after. (after.0 ≡ started A.net n before.0) × (after.1 ≡ before.1) × IsNet A.net };
 }
 
 struct Ends<A> {
@@ -368,14 +370,26 @@ impl Words {
         self.limit
     }
 
+    fn start_told<A: Told>(&self, seat: &mut Place) -> u64
+        requires table { seat.old.table_id ≡ self.now.table.shared.table_id }
+        requires ready { MayStart (arc_value self.now.net) seat.old.me.0 }
+        requires told { A.net ≡ arc_value self.now.net }
+        ensures table { seat.new.table_id ≡ seat.old.table_id }
+        ensures view { (seat.new.me.0 ≡ started A.net result seat.old.me.0) × (seat.new.me.1 ≡ seat.old.me.1) }
+        ensures net { IsNet A.net }
+    {
+        self.table.shared.fetch_add::<Starts<A>>(seat, CLOCK, 1)
+    }
+
     /// Draws the place of a Start.
     pub fn draw_start(&self, seat: &mut Place) -> u64
         requires table { seat.old.table_id ≡ self.now.table.shared.table_id }
         requires ready { MayStart (arc_value self.now.net) seat.old.me.0 }
         ensures table { seat.new.table_id ≡ seat.old.table_id }
-        ensures view { (seat.new.me.0 ≡ started result seat.old.me.0) × (seat.new.me.1 ≡ seat.old.me.1) }
+        ensures view { (seat.new.me.0 ≡ started (arc_value self.now.net) result seat.old.me.0) × (seat.new.me.1 ≡ seat.old.me.1) }
+        ensures net { IsNet (arc_value self.now.net) }
     {
-        self.table.shared.fetch_add::<Starts>(seat, CLOCK, 1)
+        self.start_told::<Brand>(seat)
     }
 
     fn end_told<A: Told>(&self, seat: &mut Place, _gives: &List<u32>, _inner: bool) -> u64

@@ -14,7 +14,8 @@ use Rattle.table_steps.specs.declared.view.Item.{Item}
 use Rattle.table_steps.specs.declared.view.Item.TheVariants.{Fresh}
 use Rattle.table_steps.specs.inside.Opening.{bare, is_empty, source_items, full_items}
 use Rattle.journal_rules.specs.SemaphoreRule.{max_of}
-use Rattle.table_steps.specs.inside.Accounts.{mark, busy, resting, weigh, edges_from, first_credit}
+use Rattle.table_steps.specs.inside.Accounts.{mark, busy, resting, weigh, edges_from}
+use Rattle.table_steps.specs.Credits.{first_credit}
 
 -- whether a task has strong in-edges, and all of them begin with a token
 abbrev pub is_full : List ℕ → ℕ → Bool

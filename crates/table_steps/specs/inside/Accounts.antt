@@ -21,6 +21,7 @@ use Rattle.table_steps.specs.declared.view.Item.{Item}
 use Rattle.table_steps.specs.declared.view.Item.TheVariants.{Told, Fresh, Collecting, Open, Owes}
 use Rattle.table_steps.specs.inside.Items.{DutyCoord, place, runs, running, tickets, duty_weight, is_run, EdgePart, DutyPart}
 use Rattle.table_steps.specs.Giving.{target, one_if, times}
+use Rattle.table_steps.specs.Credits.{first_credit}
 use Rattle.table_steps.specs.inside.Opening.{first_items}
 use Rattle.table_steps.specs.declared.view.Kind.{Kind}
 use Rattle.table_steps.specs.declared.view.Kind.TheVariants.{Held, Undo, Owed, Both, Credit, Credited, Claim, Granted, Refusing, Denied, Full}
@@ -231,9 +232,6 @@ pub record TurnPart (journal : List Entry) (T : Coord → ℕ) : Type 0 where
 pub record UnitPart (net : NetRows) (word : ℕ) (s : ℕ) (journal : List Entry) (T : Coord → ℕ) : Type 0 where
   pub tells : word + back net s journal ≡ taken net s journal + T (sem Held s) + T (sem Owed s) + T (sem Undo s)
   pub within : taken net s journal + T (sem Held s) + T (sem Owed s) ≤ back net s journal + max_of net s
-
-abbrev pub first_credit : ℕ
-first_credit = 1099511627776
 
 -- and of credits and claims
 pub record CreditPart (net : NetRows) (word : ℕ) (s : ℕ) (journal : List Entry) (T : Coord → ℕ) : Type 0 where

@@ -1,15 +1,16 @@
 -- What the steps of halts and drops ask of the seat's notes, and what they leave.
-use Rattle.std.specs.Prelude.{ℕ, zero, suc, List, [], ◌∷◌}
+use Rattle.std.specs.Prelude.{◌≡◌, ℕ, zero, suc, List, [], ◌∷◌}
 use Rattle.task_graph.specs.NetRows.{NetRows}
 use Rattle.journal_rules.specs.declared.entry.Entry.TheVariants.{Fault, Drop}
 use Rattle.journal_rules.specs.declared.entry.Why.{Why}
 use Rattle.journal_rules.specs.declared.entry.DropWhy.TheVariants.{Limit, Halted as AfterFault}
-use Rattle.table_steps.specs.Reasons.{TellsNoUnit}
-use Rattle.table_steps.specs.Holding.{PutsAll}
+use Rattle.journal_rules.specs.declared.entry.Why.TheVariants.{OverRelease}
+use Rattle.table_steps.specs.Holding.{TakesAlone}
+use Rattle.table_steps.specs.declared.view.Kind.TheVariants.{Both, Credit, Credited, Claim, Granted}
 use Rattle.table_steps.specs.declared.view.Item.TheVariants.{Told, Collecting, Open, Owes}
 use Rattle.table_steps.specs.declared.view.Mark.TheVariants.{Live, Over, ToMark, Halted}
 use Rattle.table_steps.specs.declared.view.Note.{Note}
-use Rattle.table_steps.specs.declared.view.Note.TheVariants.{Duty, Has}
+use Rattle.table_steps.specs.declared.view.Note.TheVariants.{Duty, Sems, Has, Unfit}
 use Rattle.table_steps.specs.inside.Kinds.{Lone}
 
 -- HALT LOAD, by a turn that asks for an admission. One that finds the mark knows that a Fault stands.
@@ -22,13 +23,19 @@ halt_read zero notes = notes
 halt_read (suc n) (Duty x ∷ Has Live ∷ rest) = Duty x ∷ Has Live ∷ Has Halted ∷ rest
 halt_read (suc n) notes = notes
 
--- FAULT DRAWN, of a task that puts just what it takes. The halt mark is then to be set.
+-- of an over-release a seat knows it, since it was refused the claim
+abbrev pub KnowsWhy : Why → ℕ → List Note → Type 0
+KnowsWhy (OverRelease s) m (Sems Claim l ∷ Sems Granted g ∷ x ∷ Unfit a n t ∷ rest) = (a ≡ s) × (n ≡ m)
+KnowsWhy (OverRelease s) m _ = ⊥
+KnowsWhy _ m _ = Unit {0}
+
+-- FAULT DRAWN, of a start with nothing left to credit. The halt mark is then to be set.
 abbrev pub MayFault : NetRows → Why → List Note → Type 0
-MayFault net why (Duty (Open m t) ∷ Has Live ∷ rest) = TellsNoUnit why × PutsAll net t × Lone rest
+MayFault net why (Duty (Open m t) ∷ Has Live ∷ Sems Both b ∷ Sems Credit c ∷ Sems Credited d ∷ rest) = KnowsWhy why m rest × (c ≡ []) × TakesAlone net t d × Lone rest
 MayFault net why _ = ⊥
 
 abbrev pub faulted : Why → ℕ → List Note → List Note
-faulted why n (Duty (Open m t) ∷ Has Live ∷ rest) = Duty (Owes []) ∷ Has Live ∷ Has ToMark ∷ Duty (Told n (Fault m why)) ∷ rest
+faulted why n (Duty (Open m t) ∷ Has Live ∷ Sems Both b ∷ Sems Credit c ∷ Sems Credited d ∷ rest) = Duty (Owes []) ∷ Has Live ∷ Has ToMark ∷ Duty (Told n (Fault m why)) ∷ Sems Both b ∷ rest
 faulted why n notes = notes
 
 -- HALT MARK set

@@ -1,23 +1,25 @@
 -- What each step asks of the seat's notes, and what it leaves.
-use Rattle.std.specs.Prelude.{◌≡◌, ◌≢◌, ℕ, zero, suc, ◌<◌, ◌≤◌, Bool, true, false, nat_lt, List, [], ◌∷◌, ◌++◌, length}
+use Rattle.std.specs.Prelude.{◌≡◌, ◌≢◌, ℕ, zero, suc, ◌<◌, ◌≤◌, Bool, true, false, not, nat_lt, List, [], ◌∷◌, ◌++◌, length}
 use Rattle.task_graph.specs.Net.{is_weak, strong_in}
+use Rattle.journal_rules.specs.declared.entry.Cause.{Cause}
 use Rattle.journal_rules.specs.declared.entry.Cause.TheVariants.{Source, Strong, Weak}
 use Rattle.journal_rules.specs.declared.entry.Entry.TheVariants.{Start, End}
 use Rattle.journal_rules.specs.DataRule.{edges_of}
+use Rattle.journal_rules.specs.SemaphoreRule.{puts}
 use Rattle.task_graph.specs.NetRows.{NetRows}
 use Rattle.table_steps.specs.declared.view.Item.{Item}
 use Rattle.table_steps.specs.declared.view.Item.TheVariants.{Told, Fresh, Collecting, Ticket, Open, Owes, Counting}
 use Rattle.table_steps.specs.declared.view.Mark.TheVariants.{Live, New, Over}
 use Rattle.table_steps.specs.declared.view.Note.{Note}
-use Rattle.table_steps.specs.declared.view.Kind.TheVariants.{Held, Both, Owed}
+use Rattle.table_steps.specs.declared.view.Kind.TheVariants.{Held, Owed, Both, Credit, Credited, Claim, Granted}
 use Rattle.table_steps.specs.declared.view.Note.TheVariants.{Duty, Sems, Has}
-use Rattle.table_steps.specs.inside.Accounts.{duty, mark, busy, resting, telling, weigh, AllStand}
+use Rattle.table_steps.specs.inside.Accounts.{duty, mark, busy, resting, telling, weigh, only_puts, AllStand}
 use Rattle.journal_rules.specs.declared.entry.Entry.{Entry}
 use Rattle.journal_rules.specs.ShapeLegal.{ShapeLegal}
 use Rattle.journal_rules.specs.Complete.{Complete}
 use Rattle.table_steps.specs.inside.Items.{place, after_take}
 use Rattle.table_steps.specs.Giving.{times, target, MayGive}
-use Rattle.table_steps.specs.Holding.{HoldsAll, PutsAll}
+use Rattle.table_steps.specs.Holding.{HoldsAll, PutsEach, TakesAlone}
 
 -- the rest of a view, of a turn that is no rest
 abbrev pub Lone : List Note → Type 0
@@ -139,24 +141,55 @@ abbrev pub admitted : ℕ → ℕ → List Note → List Note
 admitted limit n (Duty x ∷ Has Live ∷ rest) = admitted_notes (nat_lt n limit) x ++ rest
 admitted limit n notes = notes
 
--- START DRAWN, of a task that puts just what it takes. The units that the turn holds are out.
+-- START DRAWN. Of the units that the turn holds, those that the task puts are given back at its end, and the others are
+-- to be credited. What it puts besides is to be claimed.
+abbrev pub add_if : Bool → ℕ → List ℕ → List ℕ
+add_if true s l = s ∷ l
+add_if false s l = l
+
+-- those of a list that pass
+abbrev pub among : (ℕ → Bool) → List ℕ → List ℕ
+among test [] = []
+among test (s ∷ l) = add_if (test s) s (among test l)
+
+-- the numbers below one that pass
+abbrev pub below : (ℕ → Bool) → ℕ → List ℕ
+below test zero = []
+below test (suc k) = add_if (test k) k (below test k)
+
+abbrev pub own_units : NetRows → ℕ → List ℕ → List ℕ
+own_units net t l = among (λ s. puts net s t) l
+
+abbrev pub credits_due : NetRows → ℕ → List ℕ → List ℕ
+credits_due net t l = among (λ s. not (puts net s t)) l
+
+abbrev pub claims_due : NetRows → ℕ → List ℕ
+claims_due net t = below (λ s. only_puts net s t) (length net.sems)
+
+-- what a start knows of semaphores
+abbrev pub sems_notes : List ℕ → List ℕ → List ℕ → List ℕ → List ℕ → List Note
+sems_notes both credit credited claim granted = Sems Both both ∷ Sems Credit credit ∷ Sems Credited credited ∷ Sems Claim claim ∷ Sems Granted granted ∷ []
+
+abbrev pub started_notes : NetRows → ℕ → ℕ → Cause → List ℕ → List Note
+started_notes net n t cause l = Duty (Open n t) ∷ Has Live ∷ sems_notes (own_units net t l) (credits_due net t l) [] (claims_due net t) [] ++ Duty (Told n (Start t cause [])) ∷ []
+
 abbrev pub MayStart : NetRows → List Note → Type 0
-MayStart net (Duty (Collecting t cause taken []) ∷ Duty Ticket ∷ Has Live ∷ []) = HoldsAll net t [] × PutsAll net t
-MayStart net (Duty (Collecting t cause taken []) ∷ Duty Ticket ∷ Has Live ∷ Sems Held (b ∷ l) ∷ rest) = HoldsAll net t (b ∷ l) × PutsAll net t × Lone rest
+MayStart net (Duty (Collecting t cause taken []) ∷ Duty Ticket ∷ Has Live ∷ []) = HoldsAll net t []
+MayStart net (Duty (Collecting t cause taken []) ∷ Duty Ticket ∷ Has Live ∷ Sems Held (b ∷ l) ∷ rest) = HoldsAll net t (b ∷ l) × Lone rest
 MayStart net _ = ⊥
 
-abbrev pub started : ℕ → List Note → List Note
-started n (Duty (Collecting t cause taken left) ∷ Duty Ticket ∷ Has Live ∷ []) = Duty (Open n t) ∷ Has Live ∷ Sems Both [] ∷ Duty (Told n (Start t cause [])) ∷ []
-started n (Duty (Collecting t cause taken left) ∷ Duty Ticket ∷ Has Live ∷ Sems Held l ∷ rest) = Duty (Open n t) ∷ Has Live ∷ Sems Both l ∷ Duty (Told n (Start t cause [])) ∷ rest
-started n notes = notes
+abbrev pub started : NetRows → ℕ → List Note → List Note
+started net n (Duty (Collecting t cause taken left) ∷ Duty Ticket ∷ Has Live ∷ []) = started_notes net n t cause []
+started net n (Duty (Collecting t cause taken left) ∷ Duty Ticket ∷ Has Live ∷ Sems Held l ∷ rest) = started_notes net n t cause l ++ rest
+started net n notes = notes
 
--- END DRAWN, of such a task. It owes the units.
+-- END DRAWN, of a start with nothing left to credit and to claim. It owes the units that its task puts.
 abbrev pub MayEnd : NetRows → List ℕ → Bool → List Note → Type 0
-MayEnd net gives inner (Duty (Open m t) ∷ Has Live ∷ Sems Both l ∷ rest) = MayGive net t gives inner × HoldsAll net t l × PutsAll net t × Lone rest
+MayEnd net gives inner (Duty (Open m t) ∷ Has Live ∷ Sems Both b ∷ Sems Credit c ∷ Sems Credited d ∷ Sems Claim l ∷ Sems Granted g ∷ rest) = MayGive net t gives inner × (c ≡ []) × TakesAlone net t d × (l ≡ []) × PutsEach net t (g ++ b) × Lone rest
 MayEnd net gives inner _ = ⊥
 
 abbrev pub ended : List ℕ → Bool → ℕ → List Note → List Note
-ended gives inner n (Duty (Open m t) ∷ Has Live ∷ Sems Both l ∷ rest) = Duty (Owes gives) ∷ Has Live ∷ Sems Owed l ∷ Duty (Told n (End m gives inner)) ∷ rest
+ended gives inner n (Duty (Open m t) ∷ Has Live ∷ Sems Both b ∷ Sems Credit c ∷ Sems Credited d ∷ Sems Claim l ∷ Sems Granted g ∷ rest) = Duty (Owes gives) ∷ Has Live ∷ Sems Owed (g ++ b) ∷ Duty (Told n (End m gives inner)) ∷ rest
 ended gives inner n notes = notes
 
 -- JOIN. The keeper's seat takes in the notes of a turn.
