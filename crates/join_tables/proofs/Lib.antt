@@ -8,3 +8,5 @@ pub mod FirstStep
 pub mod FirstFresh
 pub mod TurnViews
 pub mod RunViews
+pub mod RestViews
+pub mod RestDrops

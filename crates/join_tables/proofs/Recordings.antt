@@ -28,11 +28,11 @@ told_append : (notes : List Note) (rs : List Recorded) → told_after notes rs �
 told_append notes [] = refl
 told_append notes (r ∷ rs) = told_append (Duty (Told r.place r.entry) ∷ notes) rs ∙ sym (append_assoc (told_after [] rs) (Duty (Told r.place r.entry) ∷ []) notes) ∙ ap (λ v. v ++ notes) (sym (told_append (Duty (Told r.place r.entry) ∷ []) rs))
 
-told_all : (notes : List Note) (rs qs : List Recorded) → told_after notes (rs ++ qs) ≡ told_after (told_after notes rs) qs
+pub told_all : (notes : List Note) (rs qs : List Recorded) → told_after notes (rs ++ qs) ≡ told_after (told_after notes rs) qs
 told_all notes [] qs = refl
 told_all notes (r ∷ rs) qs = told_all (Duty (Told r.place r.entry) ∷ notes) rs qs
 
-tellings_append : (v w : List Note) → tellings (v ++ w) ≡ tellings v ++ tellings w
+pub tellings_append : (v w : List Note) → tellings (v ++ w) ≡ tellings v ++ tellings w
 tellings_append [] w = refl
 tellings_append (Duty (Told n x) ∷ v) w = ap (λ u. Duty (Told n x) ∷ u) (tellings_append v w)
 tellings_append (Duty (Fresh t cause) ∷ v) w = tellings_append v w

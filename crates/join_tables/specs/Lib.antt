@@ -6,4 +6,6 @@ pub mod Turns
 pub mod Outcomes
 pub mod Keeping
 pub mod Openings
+pub mod RestStates
+pub mod Rests
 pub mod inside

@@ -4,3 +4,4 @@ pub mod Collects
 pub mod FirstReleases
 pub mod Recording
 pub mod Merging
+pub mod Resting

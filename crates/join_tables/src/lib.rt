@@ -9,7 +9,7 @@
 //! A turn knows what it has still to do by a seat, which has no bytes: `Fresh` is a release, `Collecting` one whose
 //! tokens are being collected, `Turn` one that has all of them, `StartTicket` one that may start, `Running` a start
 //! that runs, `Owing` an end that owes tokens, and `Spent` a turn that owes none. Each call takes the turn and gives
-//! the next one, so no step can be made twice or left out.
+//! the next one, so no step can be made twice or left out. A `Rest` has turns that wait for a unit.
 //!
 //! # The kinds of step
 //!
@@ -33,6 +33,12 @@
 //!   the release. A release is counted among the live turns (turn added), then goes to a seat of its own (split).
 //! - `absorb` gives what a turn knows to the keeper (join), and takes it off the live turns (turn taken off). Who
 //!   finds one live turn there has taken in the last. `journal` then puts each entry at its place.
+//! - `rest_add` gives what a turn knows to a rest (join), and `rest_pop` hands the last one out again (split).
+//!   `rest_check` reads the live turns (live load): a rest that finds the number of its own is alone, and then reads
+//!   the halt mark (halt load). `rest_full` reads for it how many units of a semaphore are taken (unit load).
+//! - `rest_drop` draws a place for the last turn of a rest that is alone (Drop drawn), after a Fault or for want of a
+//!   unit, and takes it off the live turns where it isn't the only one (turn taken off). The last one's entries, and
+//!   those of the others, go to the keeper.
 //!
 //! A turn keeps the number that its last step found, so that contracts can say when each answer comes.
 //!
@@ -53,12 +59,14 @@ mod opening;
 mod outcomes;
 mod recording;
 mod releases;
+mod rests;
 mod turns;
 mod unit_calls;
 
 pub use keeper::{Keeper, Recorded, Remaining};
 pub use opening::Opening;
 pub use outcomes::{Dropping, Failure, Outcome};
+pub use rests::{Checked, Parked, Rest, RestDrop, UnitLook};
 pub use turns::{
     Admitted, Claim, Collected, Collecting, Fresh, Gave, NetTable, Owing, Run, Running, Spent,
     StartTicket, Turn, UnitTake,

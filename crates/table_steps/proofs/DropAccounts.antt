@@ -85,7 +85,7 @@ fits_of net t Source fits = tt
 fits_of net t Strong fits = tt
 fits_of net t (Weak f) fits = fits.0
 
-no_ticket : (t : ℕ) (cause : Cause) (taken : List ℕ) → held_weight tickets t cause taken [] ≡ 0
+pub no_ticket : (t : ℕ) (cause : Cause) (taken : List ℕ) → held_weight tickets t cause taken [] ≡ 0
 no_ticket t Source taken = refl
 no_ticket t Strong taken = refl
 no_ticket t (Weak f) taken = refl

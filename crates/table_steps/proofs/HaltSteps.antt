@@ -103,7 +103,7 @@ fault_drawn net limit s h id m t why b d carried rest in_range over alone lone a
     }))
 
 -- a Drop may always be drawn
-drop_room : (net : NetRows) (limit : ℕ) (s : St) (h : KeepsAccounts net limit s) → count_by is_drop h.journal + 1 ≤ 1152921504606846976
+pub drop_room : (net : NetRows) (limit : ℕ) (s : St) (h : KeepsAccounts net limit s) → count_by is_drop h.journal + 1 ≤ 1152921504606846976
 drop_room net limit s h = omega (arith, few_uses net limit s h)
 
 -- a Drop at the limit

@@ -42,3 +42,6 @@ pub mod Sharing
 pub mod CreditReads
 pub mod CreditAccounts
 pub mod CreditSeats
+pub mod RestAlone
+pub mod RestAccounts
+pub mod RestSeats

@@ -6,3 +6,4 @@ pub mod Halts
 pub mod UnitKinds
 pub mod CreditKinds
 pub mod Opening
+pub mod RestKinds

@@ -23,7 +23,9 @@
 //! of just one seat; the numbers admitted are the starts, the tickets and the refusals; a unit word is the units that
 //! are out, held, owed or to be undone; a credit word is the units that were credited and not claimed; the live word is
 //! the number of turns. So when the last turn is taken off, the journal is complete (`Complete`), and the keeper has all
-//! of it.
+//! of it. A rest that is alone has all live turns: so it knows that nothing runs, that no unit comes back, and, where it
+//! found no halt mark, that no start has faulted. Where a release was dropped for want of a unit, one seat knows it, and
+//! that seat has all live turns.
 //!
 //! What a seat knows is a list of notes; each account is an equation between a word, counts of the journal and
 //! totals of weights over all notes. Starts carry no inputs yet. So a journal here is legal but for the rule on what
@@ -40,6 +42,7 @@
 
 mod credit_steps;
 mod halt_steps;
+mod rest_steps;
 mod steps;
 mod unit_steps;
 mod view;
