@@ -16,7 +16,7 @@ use Rattle.table_steps.specs.inside.Items.{runs, is_run}
 use Rattle.table_steps.specs.Giving.{times}
 use Rattle.table_steps.specs.declared.view.Kind.{Kind}
 use Rattle.table_steps.specs.declared.view.Kind.TheVariants.{Held, Undo, Owed, Both, Credit, Credited, Claim, Granted, Refusing, Denied, Full}
-use Rattle.table_steps.specs.declared.view.Mark.TheVariants.{Live, New, Over, ToMark, Halted, Alone, Quiet, Sticking}
+use Rattle.table_steps.specs.declared.view.Mark.TheVariants.{Live, New, Over, ToMark, Halted, Alone, Quiet, Sticking, Asked}
 use Rattle.table_steps.specs.declared.view.Note.{Note}
 use Rattle.table_steps.specs.declared.view.Note.TheVariants.{Duty, Sems, Has, Unfit}
 use Rattle.table_steps.specs.inside.Accounts.{Coord, duty, sem, mark, busy, resting, weight, weigh, total, JournalPart, KeepsAccounts}
@@ -72,6 +72,7 @@ to_mark_bound (Has Halted) z = refl
 to_mark_bound (Has Alone) z = refl
 to_mark_bound (Has Quiet) z = refl
 to_mark_bound (Has Sticking) z = refl
+to_mark_bound (Has Asked) z = refl
 to_mark_bound (Unfit n m t) z = refl
 
 -- UNITS

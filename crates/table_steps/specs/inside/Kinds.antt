@@ -141,22 +141,21 @@ abbrev pub admitted : ℕ → ℕ → List Note → List Note
 admitted limit n (Duty x ∷ Has Live ∷ Has Asked ∷ rest) = admitted_notes (nat_lt n limit) x ++ rest
 admitted limit n notes = notes
 
--- START DRAWN. Of the units that the turn holds, those that the task puts are given back at its end, and the others are
--- to be credited. What it puts besides is to be claimed.
+-- those of a list that pass, and the numbers below one that do
 abbrev pub add_if : Bool → ℕ → List ℕ → List ℕ
 add_if true s l = s ∷ l
 add_if false s l = l
 
--- those of a list that pass
 abbrev pub among : (ℕ → Bool) → List ℕ → List ℕ
 among test [] = []
 among test (s ∷ l) = add_if (test s) s (among test l)
 
--- the numbers below one that pass
 abbrev pub below : (ℕ → Bool) → ℕ → List ℕ
 below test zero = []
 below test (suc k) = add_if (test k) k (below test k)
 
+-- Of the units that a turn holds, its start gives those back at its end that the task puts, and credits the others. What
+-- the task puts besides is to be claimed.
 abbrev pub own_units : NetRows → ℕ → List ℕ → List ℕ
 own_units net t l = among (λ s. puts net s t) l
 
@@ -166,7 +165,7 @@ credits_due net t l = among (λ s. not (puts net s t)) l
 abbrev pub claims_due : NetRows → ℕ → List ℕ
 claims_due net t = below (λ s. only_puts net s t) (length net.sems)
 
--- what a start knows of semaphores
+-- START DRAWN, and what a start then knows of semaphores
 abbrev pub sems_notes : List ℕ → List ℕ → List ℕ → List ℕ → List ℕ → List Note
 sems_notes both credit credited claim granted = Sems Both both ∷ Sems Credit credit ∷ Sems Credited credited ∷ Sems Claim claim ∷ Sems Granted granted ∷ []
 
