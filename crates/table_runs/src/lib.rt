@@ -10,6 +10,8 @@ mod lending;
 #[cfg(test)]
 mod lent;
 mod needs;
+#[cfg(test)]
+mod parking;
 mod replay;
 #[cfg(test)]
 mod rings;
@@ -19,6 +21,8 @@ mod shelf;
 mod stepping;
 #[cfg(test)]
 mod threads;
+#[cfg(test)]
+mod yard;
 
 pub use copies::copied;
 pub use gives::{all_edges, gives_of, no_edge};
