@@ -36,7 +36,7 @@ fn lent(alloc: Global) -> Result<Net, BuildError> {
 }
 
 // A task that takes a unit, and two that give one back and don't wait for it.
-fn over(alloc: Global) -> Result<Net, BuildError> {
+pub(crate) fn over(alloc: Global) -> Result<Net, BuildError> {
     let mut builder = NetBuilder::new(alloc);
     builder.semaphore(1)?;
     builder.task(Shape::Plain, first(alloc)?, List::new(alloc))?;

@@ -2,6 +2,8 @@
 //! which stand here, and whose journals are held against the machine or judged.
 #![tactic(auto)]
 
+#[cfg(test)]
+mod claims;
 mod copies;
 #[cfg(test)]
 mod crosswise;
