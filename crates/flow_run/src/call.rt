@@ -6,6 +6,7 @@ ghost use Rattle.call_status.specs.Delivery.{Delivers};
 ghost use Rattle.call_status.specs.Notes.{note_line};
 ghost use Rattle.call_status.specs.Statuses.{status_after};
 ghost use Rattle.nested_runs.specs.Reasons.{run_reason};
+ghost use Rattle.run_frame.specs.Legal.{IsKept};
 ghost use Rattle.text_tasks.specs.JobMeaning.{text_job, IsTextJob};
 ghost use Rattle.flow_run.specs.Requests.{IsAtHand};
 ghost use Rattle.flow_run.specs.Answers.{CallEnds, HasWritten, HaveRead, IsAfterRun, IsReadFault, JobEnds, KeptOnce, Reported, RunEnds, names_in, output_of, run_text, run_texts};
@@ -288,7 +289,8 @@ fn deliver_runs<S: Sink>(
     runs: &[FrameRun<TextJob>],
     journal: bool,
 ) -> Result<(), SinkFault>
-    requires { (S.state out.old).held_back ≡ [] }
+    requires nothing_held { (S.state out.old).held_back ≡ [] }
+    requires kept { All (IsKept text_job) runs.now }
     ensures { Delivers (S.state out.old) (S.state out.new) (run_texts journal runs.now) result }
 {
     let written = put_runs(alloc, out, runs, journal);
@@ -303,6 +305,7 @@ fn put_runs<S: Sink>(
     runs: &[FrameRun<TextJob>],
     journal: bool,
 ) -> Result<(), SinkFault>
+    requires { All (IsKept text_job) runs.now }
     ensures { Writes (S.state out.old) (S.state out.new) (run_texts journal runs.now) result }
 {
     for run in runs {
@@ -320,6 +323,7 @@ fn put_run<S: Sink>(
     run: &FrameRun<TextJob>,
     journal: bool,
 ) -> Result<(), SinkFault>
+    requires { IsKept text_job run.now }
     ensures { Writes (S.state out.old) (S.state out.new) (run_text journal run.now) result }
 {
     if journal {
