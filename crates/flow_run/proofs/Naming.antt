@@ -1,8 +1,7 @@
 -- The tasks that the reason of a run tells of are tasks of its graph, so each has a name.
-use Rattle.std.proofs.Common.{◌≡◌, ◌≢◌, ◌⊎◌, inl, inr, ℕ, zero, suc, ◌+◌, ◌<◌, List, [], ◌∷◌, ◌++◌, length, map, Option, Some, None, refl, sym, ap, ◌∙◌, subst, arith}
-use Rattle.std.specs.Arc.{arc_value}
-use Rattle.std.specs.Prelude.{All, IsSomeAnd, slice_get, unwrap_or, count_by, ◌==◌, if◌then◌else◌}
-use Rattle.std.proofs.lemmas.List.{map-length}
+use Rattle.std.proofs.Common.{◌≡◌, ◌≢◌, ◌⊎◌, inl, inr, ℕ, suc, Bool, true, false, ◌+◌, ◌<◌, List, [], ◌∷◌, ◌++◌, length, map, Option, Some, None, refl, sym, ap, ◌∙◌, subst, arith}
+use Rattle.std.specs.Prelude.{All, IsSomeAnd, take, slice_get, unwrap_or, count_by, ◌==◌, if◌then◌else◌}
+use Rattle.std.proofs.lemmas.List.{length-map}
 use Rattle.std.proofs.lemmas.List.Elements.{All-nil, All-cons, All-head}
 use Rattle.task_graph.specs.NetRows.{NetRows}
 use Rattle.journal_rules.specs.declared.entry.DropWhy.{DropWhy}
@@ -19,20 +18,19 @@ use Rattle.journal_rules.proofs.CountLaws.{start_in_range}
 use Rattle.run_frame.specs.declared.job.Done.TheVariants.{Inner as InnerJob}
 use Rattle.run_frame.specs.declared.run.FrameRun.{FrameRun', out-FrameRun}
 use Rattle.run_frame.specs.declared.run.FrameRun.TheFolds.{fold_out-FrameRun}
-use Rattle.run_frame.specs.declared.run.FrameRun.TheOpen.{FrameRun-F}
 use Rattle.run_frame.specs.declared.run.ValueRow.{ValueRow}
 use Rattle.run_frame.specs.Legal.{IsKept, Legal, LegalJournal, inner_at}
-use Rattle.run_frame.specs.NestedRule.{InnerFault, NestedRule, job_of, journal_of}
+use Rattle.run_frame.specs.NestedRule.{InnerFault, InnerWhy, IsInnerOf, NestedRule, job_of, journal_of}
 use Rattle.run_frame.specs.WorkRule.{FaultAllowed, FaultRule, Work, WorkRule, work_at}
 use Rattle.nested_runs.specs.declared.faults.Faulted.{Faulted}
 use Rattle.nested_runs.specs.declared.reasons.Reason.{Reason}
 use Rattle.nested_runs.specs.declared.reasons.Reason.TheVariants.{Fine, Fault, Limit, Stuck}
-use Rattle.nested_runs.specs.Reasons.{faulted, first_fault, first_fault_from, first_stuck, reason_at, reason_step, row_step, run_reason, stuck_reason, unfaulted}
+use Rattle.nested_runs.specs.Reasons.{faulted, first_fault, first_fault_from, first_stuck, reason_step, row_step, run_reason, stuck_reason, unfaulted}
 use Rattle.text_tasks.specs.declared.item.Item.{Item}
 use Rattle.text_tasks.specs.declared.job.TextJob.{TextJob}
 use Rattle.text_tasks.specs.declared.job.TextJob.TheVariants.{Graph}
 use Rattle.text_tasks.specs.GraphWork.{GraphWork, IsWork, graph_of}
-use Rattle.text_tasks.specs.JobMeaning.{AnswersAs, IsTextJob, limit_of, names_of, net_of, text_job}
+use Rattle.text_tasks.specs.JobMeaning.{AnswersAs, IsTextJob, names_of, net_of, text_job}
 use Rattle.text_tasks.specs.OpMeaning.{OpMeaning, hands_over, op_meaning}
 use Rattle.call_status.specs.declared.status.Status.{Status}
 use Rattle.call_status.specs.Notes.{NamesStatus}
@@ -61,7 +59,7 @@ some_item P (x ∷ xs) n has = omega arith
 named_ops : (work : GraphWork) → IsWork work → 0 < length (graph_of work).ops → 0 < length (graph_of work).names
 named_ops work is some =
     let counted : length (graph_of work).net.tasks ≡ length (graph_of work).ops =
-    sym (map-length _ (graph_of work).net.tasks) ∙ ap length is.plan.shapes ∙ map-length _ (graph_of work).ops in
+    sym (length-map (graph_of work).net.tasks _) ∙ ap length is.plan.shapes ∙ length-map (graph_of work).ops _ in
     omega (arith, some, counted, is.plan.names)
 
 -- no operation answers a job
@@ -94,8 +92,9 @@ module _ (work : GraphWork) (is : IsWork work) (values : List (ValueRow Item)) w
       by_work (Some of) may = fault_allowed of why may
   fault_may before start why (Some run) rule nested = by_work (work_at values before start) nested
     where
-      by_work : (o : Option (Work Item)) → InnerFault text_job (Graph work) values before start why (Some run) → (0 < length (graph_of work).names) × (why ≢ Inner)
-      by_work o never = absurd never
+      by_work : (o : Option (Work Item)) → IsSomeAnd o (λ of. IsInnerOf text_job (Graph work) of run × InnerWhy text_job run why) → (0 < length (graph_of work).names) × (why ≢ Inner)
+      by_work None never = absurd never
+      by_work (Some of) made = absurd (no_run_made of (job_of run) made.0)
 
   -- The first Fault of a journal is such a one.
   first_fault_may : (inner : ℕ → Option Run) (before rest : List Entry) (n : ℕ) (fault : Faulted) → EachAfterThese (WorkRule text_job (Graph work) values inner) before rest
@@ -131,47 +130,51 @@ module _ (net : NetRows) (names : List (List ℕ)) (counted : length names ≡ l
   names_stuck None is = tt
   names_stuck (Some task) is = All-cons (HasName names) task [] (omega (arith, counted, stuck_in_range net limit [] journal task shape is)) (All-nil (HasName names))
 
-  names_unfaulted : (most limited : ℕ) → NamesReason names (if limited == 0 then stuck_reason (first_stuck journal) else Limit [] most)
-  names_unfaulted most zero = names_stuck (first_stuck journal) refl
-  names_unfaulted most (suc n) = All-nil (HasName names)
+  names_unfaulted : (most : ℕ) (within : Bool) → NamesReason names (if within then stuck_reason (first_stuck journal) else Limit [] most)
+  names_unfaulted most true = names_stuck (first_stuck journal) refl
+  names_unfaulted most false = All-nil (HasName names)
 
   -- The start that a fault closes is of a task of the net, and so is any number that stands for none where there is a task.
   start_named : (start : ℕ) (o : Option ℕ) → start_at journal start ≡ o → 0 < length names → unwrap_or o 0 < length names
   start_named start None is some = some
   start_named start (Some task) is some = omega (arith, counted, start_in_range net limit journal start task shape is)
 
--- The reason of a run, by what the reasons of the runs inside it are.
-module _ (work : GraphWork) (is : IsWork work) (run : FrameRun-F TextJob Item Reason (ℕ × Reason)) (limit : ℕ) (inner : ℕ → Option Run) (shape : ShapeLegal (graph_of work).net limit run.journal) where
-  names_step : EachAfter (WorkRule text_job (Graph work) run.values inner) run.journal → EachAfter (NestedRule text_job (Graph work) run.values inner) run.journal
-      → NamesReason (graph_of work).names (reason_step text_job run)
-  names_step works nested = by_fault (first_fault run.journal) refl
-    where
-      by_fault : (o : Option Faulted) → first_fault run.journal ≡ o → NamesReason (graph_of work).names (elim o [
-        | None ↦ unfaulted (limit_of (arc_value run.job)) run.journal
-        | Some fault ↦ faulted (unwrap_or (start_at run.journal fault.start) 0) fault.why (reason_at run.inner.items fault.place)
+-- The reason of a run, whatever the reasons of the runs inside it are.
+module _ (work : GraphWork) (is : IsWork work) (values : List (ValueRow Item)) (limit : ℕ) (inner : ℕ → Option Run) (journal : List Entry) where
+  names_step : (most : ℕ) (within : Faulted → Option Reason) → ShapeLegal (graph_of work).net limit journal → EachAfter (WorkRule text_job (Graph work) values inner) journal
+      → EachAfter (NestedRule text_job (Graph work) values inner) journal
+      → NamesReason (graph_of work).names (elim (first_fault journal) [
+        | None ↦ unfaulted most journal
+        | Some fault ↦ faulted (unwrap_or (start_at journal fault.start) 0) fault.why (within fault)
       ])
-      by_fault None none = names_unfaulted (graph_of work).net (graph_of work).names is.plan.names limit run.journal shape (limit_of (arc_value run.job)) (count_by is_limited run.journal)
+  names_step most within shape works nested = by_fault (first_fault journal) refl
+    where
+      by_fault : (o : Option Faulted) → first_fault journal ≡ o → NamesReason (graph_of work).names (elim o [
+        | None ↦ unfaulted most journal
+        | Some fault ↦ faulted (unwrap_or (start_at journal fault.start) 0) fault.why (within fault)
+      ])
+      by_fault None none = names_unfaulted (graph_of work).net (graph_of work).names is.plan.names limit journal shape most (count_by is_limited journal == 0)
       by_fault (Some fault) some =
-          let may = first_fault_may work is run.values inner [] run.journal 0 fault works nested some in
-          names_fault (graph_of work).names _ fault.why _
-          (start_named (graph_of work).net (graph_of work).names is.plan.names limit run.journal shape fault.start (start_at run.journal fault.start) refl may.0) may.1
+          let may = first_fault_may work is values inner [] journal 0 fault works nested some in
+          names_fault (graph_of work).names (unwrap_or (start_at journal fault.start) 0) fault.why (within fault)
+          (start_named (graph_of work).net (graph_of work).names is.plan.names limit journal shape fault.start (start_at journal fault.start) refl may.0) may.1
 
 legal_journal : (run : Run) → Legal text_job run → LegalJournal text_job run
 legal_journal (FrameRun' job journal values shape rows) legal = legal.0
 
+named_by_job : (run : Run) (job : TextJob) → job_of run ≡ job → IsTextJob job → LegalJournal text_job run → NamesReason (names_of job) (run_reason text_job run)
+named_by_job run (Graph work) same is legal =
+    let values = (out-FrameRun TextJob Item run).values in
+    let limit = text_job.limit (job_of run) in
+    subst (NamesReason (graph_of work).names) (sym (fold_out-FrameRun TextJob Item Reason (ℕ × Reason) (reason_step text_job) row_step run))
+    (names_step work is values limit (inner_at run) (journal_of run) limit _
+    (subst (λ j. ShapeLegal (net_of j) limit (journal_of run)) same legal.shape)
+    (subst (λ j. EachAfter (WorkRule text_job j values (inner_at run)) (journal_of run)) same legal.work)
+    (subst (λ j. EachAfter (NestedRule text_job j values (inner_at run)) (journal_of run)) same legal.nested))
+
 -- Each task that the reason of a legal run tells of has a name.
 pub reason_named : (run : Run) → IsTextJob (job_of run) → IsKept text_job run → NamesReason (names_of (job_of run)) (run_reason text_job run)
-reason_named run is kept = by_job (job_of run) refl is
-  where
-    legal : LegalJournal text_job run
-    legal = legal_journal run kept.legal
-
-    by_job : (job : TextJob) → job_of run ≡ job → IsTextJob job → NamesReason (names_of job) (run_reason text_job run)
-    by_job (Graph work) same is =
-        subst (NamesReason (graph_of work).names) (sym (fold_out-FrameRun TextJob Item Reason (ℕ × Reason) (reason_step text_job) row_step run))
-        (names_step work is _ (text_job.limit (job_of run)) (inner_at run) (subst (λ j. ShapeLegal (net_of j) (text_job.limit (job_of run)) (journal_of run)) same legal.shape)
-        (subst (λ j. EachAfter (WorkRule text_job j (out-FrameRun TextJob Item run).values (inner_at run)) (journal_of run)) same legal.work)
-        (subst (λ j. EachAfter (NestedRule text_job j (out-FrameRun TextJob Item run).values (inner_at run)) (journal_of run)) same legal.nested))
+reason_named run is kept = named_by_job run (job_of run) refl is (legal_journal run kept.legal)
 
 -- So has each task that the status after such a run tells of.
 names_after : (names : List (List ℕ)) (why : Reason) (told : Status) → NamesReason names why → IsAfterRun why told → NamesStatus names told
@@ -216,10 +219,10 @@ names_findings names told (inr (inr is)) = subst (NamesStatus names) (sym is) tt
 
 -- Each task that the status of a call tells of has a name in its run.
 pub status_named : (held : Held) (arguments : List (List ℕ)) (told : Status) (runs : List Run) (concluded : Option Conclusion) → CallEnds held arguments told runs concluded
-    → All (λ run. IsTextJob (job_of run)) runs → NamesStatus (names_in runs) told
+    → All (λ run. IsTextJob (job_of run)) (take 1 runs) → NamesStatus (names_in runs) told
 status_named held arguments told runs concluded (inl (file, limit, workers, journal, asks, inl stopped, none)) jobs = names_stopped (names_in runs) stopped.why told stopped.reported
 status_named held arguments told runs concluded (inl (file, limit, workers, journal, asks, inr ran, none)) jobs =
-    let is = All-head (λ run. IsTextJob (job_of run)) ran.run [] (subst (All (λ run. IsTextJob (job_of run))) ran.only jobs) in
+    let is = All-head (λ run. IsTextJob (job_of run)) ran.run [] (subst (λ rs. All (λ run. IsTextJob (job_of run)) (take 1 rs)) ran.only jobs) in
     subst (λ rs. NamesStatus (names_in rs) told) (sym ran.only) (names_after (names_of (job_of ran.run)) (run_reason text_job ran.run) told (reason_named ran.run is ran.kept) ran.after)
 status_named held arguments told runs concluded (inr (inl (file, name, limit, asks, inl stopped, none))) jobs = names_stopped (names_in runs) stopped.why told stopped.reported
 status_named held arguments told runs concluded (inr (inl (file, name, limit, asks, inr ended, none))) jobs = names_verdict (names_in runs) ended.verdict told ended.after
