@@ -1,10 +1,8 @@
-pub mod Giving
 pub mod States
 pub mod FirstCauses
-pub mod Holding
 pub mod Units
+pub mod Claims
 pub mod Turns
-pub mod Reasons
 pub mod Outcomes
 pub mod Keeping
 pub mod Openings

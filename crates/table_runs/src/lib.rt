@@ -6,6 +6,9 @@ mod copies;
 #[cfg(test)]
 mod crosswise;
 mod gives;
+mod lending;
+#[cfg(test)]
+mod lent;
 mod needs;
 mod replay;
 #[cfg(test)]
@@ -19,7 +22,8 @@ mod threads;
 
 pub use copies::copied;
 pub use gives::{all_edges, gives_of, no_edge};
-pub use needs::{needs_both, needs_none};
+pub use lending::{claim, lend};
+pub use needs::{needs_both, needs_none, puts_first, takes_first};
 pub use replay::is_complete;
 pub use shelf::{Ran, Shelf, Turnout};
 pub use stepping::run_by;
