@@ -10,3 +10,4 @@ pub mod TurnViews
 pub mod RunViews
 pub mod RestViews
 pub mod RestDrops
+pub mod WorkedRests

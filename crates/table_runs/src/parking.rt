@@ -323,7 +323,7 @@ fn lent(alloc: Global) -> Result<Net, BuildError> {
     Ok(builder.finish())
 }
 
-// A run by so many threads, whose journal is complete, and which ends with as many Drops for this reason.
+// A run by so many threads, whose journal is complete.
 fn ran<R: Threads + Wait + Abort + Sync>(
     rt: &R,
     alloc: Global,
