@@ -48,8 +48,8 @@ refuse_one s u = record { back = u.back; to_credit = u.to_credit; credited = u.c
 abbrev pub with_units : RunningState → StartUnits → RunningState → RunningState
 with_units r units q = running_state r.table r.task r.cause r.place units q.found
 
--- A claim is granted where its step found more in the credit word than was there at first. Else it is refused, and then
--- the journal at that moment allows a Fault of the start that tells an over-release of the semaphore.
+-- A claim is granted where its step found more in the credit word than was there at first. Else it is refused, and then a
+-- legal journal with this start at its place allows a Fault of it that tells an over-release of the semaphore.
 abbrev pub ClaimsUnit : NetRows → ℕ → RunningState → ℕ → Claim → Type 0
 ClaimsUnit net limit r s (Granted q) = (q ≡ with_units r (grant_one s r.units) q) × IsSomeAnd q.found (λ n. first_credit < n)
 ClaimsUnit net limit r s (Refused q) = (q ≡ with_units r (refuse_one s r.units) q) × IsSomeAnd q.found (λ n. n ≤ first_credit) × AllowsOver net limit s r.place r.task

@@ -34,8 +34,8 @@ impl NetTable {
     }
 
     /// Claims a unit that a start's task puts and doesn't take. `Refused` comes exactly where this call's own step finds no
-    /// credit. Then the journal at that moment allows a Fault of the start that tells an over-release, and the call
-    /// undoes its step.
+    /// credit. Then a legal journal with this start at its place allows a Fault of it that tells an over-release, and
+    /// the call undoes its step.
     pub fn claim(&self, running: Running, sem: u32) -> Claim
         requires table { running.table ≡ self.now.table }
         requires to_claim { 1 ≤ times sem running.units.to_claim }

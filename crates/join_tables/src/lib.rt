@@ -2,14 +2,14 @@
 //!
 //! Each edge of a net holds tokens, and a task is released when each of its strong in-edges holds one, or a weak
 //! edge into it does. A table counts them in words of `atomic_table`, which many threads step at once; no call
-//! waits. Whoever gives the last token that a task needs is told of the release, and nobody else is.
+//! waits. Whoever gives the last token that a task needs gets the release, and nobody else does.
 //!
 //! # The turns
 //!
 //! A turn knows what it has still to do by a seat, which has no bytes: `Fresh` is a release, `Collecting` one whose
 //! tokens are being collected, `Turn` one that has all of them, `StartTicket` one that may start, `Running` a start
 //! that runs, `Owing` an end that owes tokens, and `Spent` a turn that owes none. Each call takes the turn and gives
-//! the next one, so no step can be made twice or left out. A `Rest` has turns that wait for a unit.
+//! the next one, so no step can be made twice. A `Rest` has turns that wait for a unit.
 //!
 //! # The kinds of step
 //!
@@ -40,7 +40,8 @@
 //!   unit, and takes it off the live turns where it isn't the only one (turn taken off). The last one's entries, and
 //!   those of the others, go to the keeper.
 //!
-//! A turn keeps the number that its last step found, so that contracts can say when each answer comes.
+//! A turn keeps the number that its last step found, of which contracts speak. It is a field that the call sets; no clause
+//! ties it to the word.
 //!
 //! # Where its definitions are
 //!

@@ -28,7 +28,7 @@ pub struct Opening {
 }
 
 impl NetTable {
-    /// The table of a run of a net, which may have this many starts. It is the only call that takes memory.
+    /// The table of a run of a net, which may have this many starts. It is the only call of a table that takes memory.
     pub fn new(alloc: Global, net: Arc<Net>, limit: u64) -> Result<Opening, NoMemory>
         requires limit { limit ≤ 2097153 }
         ensures { IfOk result (OpensTable (arc_value net) limit) }

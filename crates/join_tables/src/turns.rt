@@ -285,6 +285,15 @@ impl Running {
     }
 }
 
+impl Spent {
+    /// What became of the release, with the places of its entries in the journal.
+    pub fn outcome(&self) -> &Outcome
+        ensures { result.now ≡ self.now.outcome }
+    {
+        &self.outcome
+    }
+}
+
 impl Owing {
     /// The place of its End in the journal.
     pub fn place(&self) -> u64

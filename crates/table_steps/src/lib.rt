@@ -13,7 +13,8 @@
 //!   nothing.
 //! - Each edge's tokens, and for each task its join word: how many of its strong in-edges are not counted at it.
 //!
-//! The hot words have a cache line each. Nothing is written to the first word, which splits, joins and loads read.
+//! The hot words have a cache line each. Nothing is written to the first word, which splits and joins read, and a turn that
+//! asks for what the net says of it.
 //!
 //! # What holds between any two steps
 //!
@@ -21,8 +22,8 @@
 //! drew are those of a journal that is legal as far as the net decides (`ShapeLegal`); for each edge, the tokens
 //! given are those used, those in its word, those owed and those collected; each release that is left is the duty
 //! of just one seat; the numbers admitted are the starts, the tickets and the refusals; a unit word is the units that
-//! are out, held, owed or to be undone; a credit word is the units that were credited and not claimed; the live word is
-//! the number of turns. So when the last turn is taken off, the journal is complete (`Complete`), and the keeper has all
+//! are out, held, owed or to be undone; a credit word is 2^40 and the units that were credited and not claimed, less the refused
+//! claims that are to be undone; the live word is the number of turns that are counted. So when the last turn is taken off, the journal is complete (`Complete`), and the keeper has all
 //! of it. A rest that is alone has all live turns: so it knows that nothing runs, that no unit comes back, and, where it
 //! found no halt mark, that no start has faulted. Where a release was dropped for want of a unit, one seat knows it, and
 //! that seat has all live turns.
