@@ -3,13 +3,8 @@
 use denote.RattleType.{RattleType}
 use denote.Param.Send.{IsSend, IsSync, sendable}
 use denote.Param.SendFields.{as_row_send, declared_send}
-use denote.Param.Object.{Ghosts, table_of}
-use denote.Param.Sent.{Sends}
-use Rattle.std.proofs.Crossing.{crosses, frees, dyn_box_send}
+use Rattle.std.proofs.Crossing.{crosses, frees}
 use Rattle.std.proofs.alloc.Global.TheSendSync as heap
-use Rattle.std.specs.contracts.dyn_box.DynBox as dyn_box
-use Rattle.std.specs.contracts.alloc.Global as global
-use Rattle.std.specs.contracts.impls.GlobalAllocator.TheImpl.{ghosts}
 use Rattle.std.proofs.option.Option.TheSendSync as option
 use Rattle.atomic_table.proofs.shared.Seat.TheSendSync as seat
 use Rattle.atomic_table.proofs.shared.Shared.TheSendSync as shared
@@ -98,7 +93,6 @@ module _ (T V : RattleType) (J : Job.Ghosts T.Denot V.Denot) (W : Valued.Ghosts 
   pub crew_sync : IsSync (crew.the_row T V J W)
   crew_sync = search (item_send, ready.the_send, ready.the_sync, tables) depth 60 fits 20000
 
-  -- a seat is sent, where the watchers' table says that they may be
-  pub seat_send : (D : RattleType) (g : Ghosts D.Denot) → Sends (table_of D.Denot g) → IsSend D → IsSend (worker_seat.the_row T V D J W g)
-  seat_send D g sends d = declared_send (worker_seat.the_type T V D J W g)
-      (as_row_send (dyn_box.the_field D global.the_row g ghosts) (dyn_box_send D g sends d), (as_row_send (place.the_field T V J W) place_send, tt))
+  -- a seat is sent, with a watcher that may be
+  pub seat_send : (X : RattleType) → IsSend X → IsSend (worker_seat.the_row T X V J W)
+  seat_send X x = search (place_send, tables) depth 60 fits 20000
