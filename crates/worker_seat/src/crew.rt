@@ -35,10 +35,7 @@ impl<J: Job + Drop> Crew<J> {
     ghost use Rattle.worker_seat.specs.Crews.{AreSeatsOf, IsOpen, IsRunOf, IsSeatOf, MayBegin, moved, state_of, watcher_of};
 
     /// A crew with a seat for each of 1 to 16 watchers, in their order. They come back if an allocation fails.
-    pub fn new<X: Drop>(
-        alloc: Global,
-        watchers: Vec<X>,
-    ) -> Result<CrewParts<J, X>, Back<Vec<X>>>
+    pub fn new<X: Drop>(alloc: Global, watchers: Vec<X>) -> Result<CrewParts<J, X>, Back<Vec<X>>>
         requires { (0 < length watchers.items) × (length watchers.items ≤ 16) }
         ensures crew { IfOk result (λ parts. AreSeatsOf parts.crew parts.seats.items) }
         ensures new { IfOk result (λ parts. All MayBegin parts.seats.items) }
@@ -102,7 +99,11 @@ impl<J: Job + Drop> Crew<J> {
 
     /// Hands out the run that a seat has found closed, and takes all seats away from it. `None` exactly where no seat
     /// has found it closed. Then all stay as they are.
-    pub fn finish<X, R: Wait>(&self, rt: &R, seats: &mut Vec<WorkerSeat<J, X>>) -> Option<FrameRun<J>>
+    pub fn finish<X, R: Wait>(
+        &self,
+        rt: &R,
+        seats: &mut Vec<WorkerSeat<J, X>>,
+    ) -> Option<FrameRun<J>>
         requires { AreSeatsOf self.now seats.old.items }
         ensures run { IfSome result (IsRunOf J.meaning seats.old.items) }
         ensures left { IsSome result → seats.new.items ≡ map (moved away) seats.old.items }
