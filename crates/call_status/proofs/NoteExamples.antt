@@ -1,16 +1,17 @@
 -- The line of each status, written out.
-use Rattle.std.proofs.Common.{List, ℕ, ◌≡◌, [], ◌∷◌, refl, codes}
+use Rattle.std.proofs.Common.{List, ℕ, ◌≡◌, ◌<◌, [], ◌∷◌, refl, codes, arith}
 use Rattle.std.specs.Fmt.{digits}
+use Rattle.std.proofs.lemmas.List.Elements.{All-nil, All-cons, All-head, All-tail}
 use Rattle.graph_plans.specs.declared.spots.Spot.TheVariants.{File, Sem, Task, Module, ModuleSem, ModuleTask}
 use Rattle.graph_file.specs.declared.refusals.Kind.TheVariants as kind
 use Rattle.graph_file.specs.declared.refusals.GraphError.TheVariants as error
 use Rattle.journal_rules.specs.declared.entry.Why.TheVariants.{Long as TooLong, Wide, Unmet, Inner, OverRelease}
 use Rattle.legal_run.specs.declared.verdict.Break.TheVariants.{NotReleased}
 use Rattle.nested_runs.specs.declared.reasons.Reason.TheVariants as reason
-use Rattle.call_status.specs.Reasons.{reason_line}
+use Rattle.call_status.specs.Reasons.{NamesPath, NamesReason, reason_line}
 use Rattle.call_status.specs.declared.status.Status.{Status}
 use Rattle.call_status.specs.declared.status.Status.TheVariants.{Done, BadWords, BadGraph, NoSource, NoText, LongText, ReadFault, WriteFault, Limit, TaskFault, Stuck, NotLegal, BadJournal, NoMemory}
-use Rattle.call_status.specs.Notes.{note_line, spot_text}
+use Rattle.call_status.specs.Notes.{NamesStatus, note_line, spot_text}
 
 -- the line of a status that names no task
 abbrev line : Status → List ℕ
@@ -165,3 +166,47 @@ not_legal = refl
 bad_journal_line : line (BadJournal 3) ≡ codes "flow: bad journal line 3\n"
 unfolding digits
 bad_journal_line = refl
+
+-- Tasks 0 and 1 have names, and task 2 has none, wherever it stands in a path.
+abbrev has_name : ℕ → Type 0
+has_name task = task < 2
+
+named_path : NamesPath names (1 ∷ 0 ∷ [])
+named_path = All-cons has_name 1 (0 ∷ []) (omega arith) (All-cons has_name 0 [] (omega arith) (All-nil has_name))
+
+unnamed : ¬ NamesPath names (2 ∷ [])
+unnamed is = absurd (omega (arith, All-head has_name 2 [] is))
+
+unnamed_last : ¬ NamesPath names (1 ∷ 2 ∷ [])
+unnamed_last is = unnamed (All-tail has_name 1 (2 ∷ []) is)
+
+-- Each task of a reason's path has to have one, and of a status's.
+no_task_told : NamesReason [] reason.Fine
+no_task_told = tt
+
+named_fault : NamesReason names (reason.Fault (1 ∷ 0 ∷ []) (TooLong 9))
+named_fault = named_path
+
+unnamed_fault : ¬ NamesReason names (reason.Fault (1 ∷ 2 ∷ []) (TooLong 9))
+unnamed_fault = unnamed_last
+
+unnamed_limit : ¬ NamesReason names (reason.Limit (2 ∷ []) 0)
+unnamed_limit = unnamed
+
+unnamed_stuck : ¬ NamesReason names (reason.Stuck (2 ∷ []))
+unnamed_stuck = unnamed
+
+no_task_in_status : NamesStatus [] WriteFault
+no_task_in_status = tt
+
+named_status : NamesStatus names (TaskFault (1 ∷ 0 ∷ []) (TooLong 9))
+named_status = named_path
+
+unnamed_in_fault : ¬ NamesStatus names (TaskFault (2 ∷ []) (TooLong 9))
+unnamed_in_fault = unnamed
+
+unnamed_in_limit : ¬ NamesStatus names (Limit (1 ∷ 2 ∷ []) 0)
+unnamed_in_limit = unnamed_last
+
+unnamed_in_stuck : ¬ NamesStatus names (Stuck (2 ∷ []))
+unnamed_in_stuck = unnamed

@@ -6,7 +6,7 @@ use Rattle.graph_file.specs.declared.refusals.Kind.{Kind}
 use Rattle.graph_file.specs.declared.refusals.Kind.TheVariants as kind
 use Rattle.graph_file.specs.declared.refusals.GraphError.{GraphError}
 use Rattle.graph_file.specs.declared.refusals.GraphError.TheVariants as error
-use Rattle.call_status.specs.Reasons.{fault_text, limit_text, stuck_text}
+use Rattle.call_status.specs.Reasons.{NamesPath, fault_text, limit_text, stuck_text}
 use Rattle.call_status.specs.declared.status.Status.{Status}
 use Rattle.call_status.specs.declared.status.Status.TheVariants.{Done, BadWords, BadGraph, NoSource, NoText, LongText, ReadFault, WriteFault, Limit, TaskFault, Stuck, NotLegal, BadJournal, NoMemory}
 
@@ -59,3 +59,10 @@ note_line names (Stuck path) = codes "flow: " ++ stuck_text names path ++ codes 
 note_line names (NotLegal place why) = codes "flow: not legal at " ++ decimal place ++ codes "\n"
 note_line names (BadJournal line) = codes "flow: bad journal line " ++ decimal line ++ codes "\n"
 note_line names NoMemory = codes "flow: no memory\n"
+
+-- each task that a status tells of has a name
+abbrev pub NamesStatus : List (List ℕ) → Status → Type 0
+NamesStatus names (Limit path limit) = NamesPath names path
+NamesStatus names (TaskFault path why) = NamesPath names path
+NamesStatus names (Stuck path) = NamesPath names path
+NamesStatus names status = Unit {0}

@@ -1,5 +1,5 @@
 -- The reason of a run, as text.
-use Rattle.std.specs.Prelude.{ℕ, List, [], ◌∷◌, ◌++◌, codes, decimal, slice_index_or}
+use Rattle.std.specs.Prelude.{ℕ, ◌<◌, List, [], ◌∷◌, ◌++◌, All, codes, decimal, length, slice_index_or}
 use Rattle.journal_rules.specs.declared.entry.Why.{Why}
 use Rattle.journal_rules.specs.declared.entry.Why.TheVariants.{Long, Wide, Unmet, Inner, OverRelease}
 use Rattle.nested_runs.specs.declared.reasons.Reason.{Reason}
@@ -39,3 +39,14 @@ reason_line names Fine = []
 reason_line names (Fault path why) = codes "!! " ++ fault_text names path why ++ codes "\n"
 reason_line names (Limit path limit) = codes "!! " ++ limit_text names path limit ++ codes "\n"
 reason_line names (Stuck path) = codes "!! " ++ stuck_text names path ++ codes "\n"
+
+-- each task of a path has a name
+abbrev pub NamesPath : List (List ℕ) → List ℕ → Type 0
+NamesPath names path = All (λ task. task < length names) path
+
+-- so has each task that a reason tells of
+abbrev pub NamesReason : List (List ℕ) → Reason → Type 0
+NamesReason names Fine = Unit {0}
+NamesReason names (Fault path why) = NamesPath names path
+NamesReason names (Limit path limit) = NamesPath names path
+NamesReason names (Stuck path) = NamesPath names path

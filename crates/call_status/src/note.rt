@@ -2,8 +2,8 @@
 ghost use Rattle.std.specs.Prelude.{◌≡◌, ◌<◌, ◌++◌, [], codes, decimal, IfOk, OnOk};
 ghost use Rattle.std.specs.Result.{IsOkAnd};
 ghost use Rattle.call_status.specs.Delivery.{CutShort, Delivered};
-ghost use Rattle.call_status.specs.Notes.{graph_error_text, kind_text, note_line, spot_text, within_text};
-ghost use Rattle.call_status.specs.Reasons.{fault_text, limit_text, stuck_text};
+ghost use Rattle.call_status.specs.Notes.{NamesStatus, graph_error_text, kind_text, note_line, spot_text, within_text};
+ghost use Rattle.call_status.specs.Reasons.{NamesPath, fault_text, limit_text, stuck_text};
 ghost use Rattle.call_status.specs.declared.status.Noted.TheVariants as noted;
 ghost use Rattle.call_status.specs.declared.status.Status.TheVariants.{Done};
 
@@ -18,10 +18,11 @@ use outside_io::{Bytes, List, NoMemory, Sink, SinkFault};
 use std::alloc::Global;
 
 /// Writes the line of a status to `notes`, the diagnostics sink, by one write, and flushes it. With `Done` there is no
-/// line, and the sink is left alone. `names` are those of the tasks. A line that names nothing allocates nothing, so
+/// line, and the sink is left alone. `names` are those of the tasks, by their numbers. A line that names nothing allocates nothing, so
 /// that of a failed allocation can be written all the same.
 pub fn put_note<N: Sink>(alloc: Global, notes: &mut N, names: &[Bytes], status: &Status) -> Noted
-    requires { (N.state notes.old).held_back ≡ [] }
+    requires nothing_held { (N.state notes.old).held_back ≡ [] }
+    requires named { NamesStatus names.now status.now }
     ensures whole { result ≡ noted.Whole → Delivered (N.state notes.old) (N.state notes.new) (note_line names.now status.now) }
     ensures fault { result ≡ noted.Fault → CutShort (N.state notes.old) (N.state notes.new) (note_line names.now status.now) }
     ensures cause { result ≡ noted.Fault → (N.state notes.old).faults < (N.state notes.new).faults }
@@ -89,6 +90,7 @@ fn limit_note(
     path: &List<u32>,
     limit: u64,
 ) -> Result<Bytes, NoMemory>
+    requires { NamesPath names.now path.now }
     ensures { IfOk result (λ line. line ≡ codes "flow: " ++ limit_text names.now path.now limit ++ codes "\n") }
 {
     let mut line = List::from_slice(alloc, b"flow: ")?;
@@ -99,6 +101,7 @@ fn limit_note(
 
 // The line that a task faulted.
 fn fault_note(alloc: Global, names: &[Bytes], path: &List<u32>, why: Why) -> Result<Bytes, NoMemory>
+    requires { NamesPath names.now path.now }
     ensures { IfOk result (λ line. line ≡ codes "flow: " ++ fault_text names.now path.now why ++ codes "\n") }
 {
     let mut line = List::from_slice(alloc, b"flow: ")?;
@@ -109,6 +112,7 @@ fn fault_note(alloc: Global, names: &[Bytes], path: &List<u32>, why: Why) -> Res
 
 // The line that a task waited for a unit that never came.
 fn stuck_note(alloc: Global, names: &[Bytes], path: &List<u32>) -> Result<Bytes, NoMemory>
+    requires { NamesPath names.now path.now }
     ensures { IfOk result (λ line. line ≡ codes "flow: " ++ stuck_text names.now path.now ++ codes "\n") }
 {
     let mut line = List::from_slice(alloc, b"flow: ")?;

@@ -1,6 +1,6 @@
 // The reason of a run, as text.
-ghost use Rattle.std.specs.Prelude.{◌≡◌, ◌++◌, [], codes, decimal, OnOk, slice_index_or};
-ghost use Rattle.call_status.specs.Reasons.{fault_text, limit_text, path_text, reason_line, stuck_text, why_text, within_path};
+ghost use Rattle.std.specs.Prelude.{◌≡◌, ◌<◌, ◌++◌, [], codes, decimal, length, OnOk, slice_index_or};
+ghost use Rattle.call_status.specs.Reasons.{NamesPath, NamesReason, fault_text, limit_text, path_text, reason_line, stuck_text, why_text, within_path};
 
 use legal_run::Why;
 use line_output::add_numbered;
@@ -9,6 +9,7 @@ use outside_io::{Bytes, NoMemory};
 
 /// Adds the last line of the report of a run that came to its end for this reason: none where it ended fine.
 pub fn add_reason_line(line: &mut Bytes, names: &[Bytes], reason: &Reason) -> Result<(), NoMemory>
+    requires { NamesReason names.now reason.now }
     ensures { OnOk result (line.new ≡ line.old ++ reason_line names.now reason.now) }
 {
     match reason {
@@ -31,6 +32,7 @@ pub fn add_reason_line(line: &mut Bytes, names: &[Bytes], reason: &Reason) -> Re
 
 /// Adds which task faulted, and why.
 pub fn add_fault(line: &mut Bytes, names: &[Bytes], path: &[u32], why: Why) -> Result<(), NoMemory>
+    requires { NamesPath names.now path.now }
     ensures { OnOk result (line.new ≡ line.old ++ fault_text names.now path.now why) }
 {
     line.add_all(b"fault ")?;
@@ -46,6 +48,7 @@ pub fn add_limit(
     path: &[u32],
     limit: u64,
 ) -> Result<(), NoMemory>
+    requires { NamesPath names.now path.now }
     ensures { OnOk result (line.new ≡ line.old ++ limit_text names.now path.now limit) }
 {
     add_numbered(line, b"limit ", limit)?;
@@ -54,6 +57,7 @@ pub fn add_limit(
 
 /// Adds which task waited for a unit that never came.
 pub fn add_stuck(line: &mut Bytes, names: &[Bytes], path: &[u32]) -> Result<(), NoMemory>
+    requires { NamesPath names.now path.now }
     ensures { OnOk result (line.new ≡ line.old ++ stuck_text names.now path.now) }
 {
     line.add_all(b"stuck ")?;
@@ -62,6 +66,7 @@ pub fn add_stuck(line: &mut Bytes, names: &[Bytes], path: &[u32]) -> Result<(), 
 
 // Adds in which run, where the path leads to one.
 fn add_within(line: &mut Bytes, names: &[Bytes], path: &[u32]) -> Result<(), NoMemory>
+    requires { NamesPath names.now path.now }
     ensures { OnOk result (line.new ≡ line.old ++ within_path names.now path.now) }
 {
     match path {
@@ -75,13 +80,14 @@ fn add_within(line: &mut Bytes, names: &[Bytes], path: &[u32]) -> Result<(), NoM
 
 // Adds the names of the tasks of a path, with a slash between two.
 fn add_path(line: &mut Bytes, names: &[Bytes], path: &[u32]) -> Result<(), NoMemory>
+    requires { NamesPath names.now path.now }
     ensures { OnOk result (line.new ≡ line.old ++ path_text names.now path.now) }
 {
     match path {
         [] => Ok(()),
-        [task] => line.add_all(name_or_empty(names, *task)),
+        [task] => line.add_all(name_of(names, *task)),
         [task, rest @ ..] => {
-            line.add_all(name_or_empty(names, *task))?;
+            line.add_all(name_of(names, *task))?;
             line.add_all(b"/")?;
             add_path(line, names, rest)
         }
@@ -101,12 +107,10 @@ fn add_why(line: &mut Bytes, why: Why) -> Result<(), NoMemory>
     }
 }
 
-// The name of a task, and an empty one where there are fewer names.
-fn name_or_empty(names: &[Bytes], task: u32) -> &[u8]
+// The name of a task.
+fn name_of(names: &[Bytes], task: u32) -> &[u8]
+    requires { task < length names.now }
     ensures { result.now ≡ slice_index_or names.now task [] }
 {
-    match names.get(task as usize) {
-        Some(name) => name.as_slice(),
-        None => &[],
-    }
+    names[task as usize].as_slice()
 }

@@ -4,6 +4,7 @@ pub mod OutputExamples
 pub mod ReportRule
 pub mod Ending
 pub mod NamedLemmas
+pub mod Naming
 pub mod Completing
 pub mod CallExamples
 pub mod StopExamples

@@ -1,11 +1,13 @@
 // The top call of the program.
-ghost use Rattle.std.specs.Prelude.{◌≡◌, ◌≢◌, ◌⊎◌, ◌≤◌, ◌<◌, [], true, false, map, All, IfOk};
+ghost use Rattle.std.specs.Prelude.{◌≡◌, ◌≢◌, ◌⊎◌, ◌≤◌, ◌<◌, [], true, false, map, take, All, IfOk};
 ghost use Rattle.std.specs.String.{string_bytes};
 ghost use Rattle.outside_io.specs.Sink.{Took, TookFront, Writes};
 ghost use Rattle.call_status.specs.Delivery.{Delivers};
 ghost use Rattle.call_status.specs.Notes.{note_line};
 ghost use Rattle.call_status.specs.Statuses.{status_after};
 ghost use Rattle.nested_runs.specs.Reasons.{run_reason};
+ghost use Rattle.run_frame.specs.Legal.{IsKept};
+ghost use Rattle.run_frame.specs.NestedRule.{job_of};
 ghost use Rattle.text_tasks.specs.JobMeaning.{text_job, IsTextJob};
 ghost use Rattle.flow_run.specs.Requests.{IsAtHand};
 ghost use Rattle.flow_run.specs.Answers.{CallEnds, HasWritten, HaveRead, IsAfterRun, IsReadFault, JobEnds, KeptOnce, Reported, RunEnds, names_in, output_of, run_text, run_texts};
@@ -273,7 +275,8 @@ fn kept_runs<R: Threads + Wait + Sync>(
 
 // The names of the tasks of the graph that was run.
 fn names_in(runs: &[FrameRun<TextJob>]) -> &[Bytes]
-    ensures { result.now ≡ names_in runs.now }
+    ensures names { result.now ≡ names_in runs.now }
+    ensures work { All (λ run. IsTextJob (job_of run)) (take 1 runs.now) }
 {
     match runs {
         [run, ..] => run.job.names(),
@@ -288,7 +291,8 @@ fn deliver_runs<S: Sink>(
     runs: &[FrameRun<TextJob>],
     journal: bool,
 ) -> Result<(), SinkFault>
-    requires { (S.state out.old).held_back ≡ [] }
+    requires nothing_held { (S.state out.old).held_back ≡ [] }
+    requires kept { All (IsKept text_job) runs.now }
     ensures { Delivers (S.state out.old) (S.state out.new) (run_texts journal runs.now) result }
 {
     let written = put_runs(alloc, out, runs, journal);
@@ -303,6 +307,7 @@ fn put_runs<S: Sink>(
     runs: &[FrameRun<TextJob>],
     journal: bool,
 ) -> Result<(), SinkFault>
+    requires { All (IsKept text_job) runs.now }
     ensures { Writes (S.state out.old) (S.state out.new) (run_texts journal runs.now) result }
 {
     for run in runs {
@@ -320,6 +325,7 @@ fn put_run<S: Sink>(
     run: &FrameRun<TextJob>,
     journal: bool,
 ) -> Result<(), SinkFault>
+    requires { IsKept text_job run.now }
     ensures { Writes (S.state out.old) (S.state out.new) (run_text journal run.now) result }
 {
     if journal {

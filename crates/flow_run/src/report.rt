@@ -3,6 +3,7 @@ ghost use Rattle.std.specs.Prelude.{◌≡◌, ◌<◌, ◌++◌, [], None, leng
 ghost use Rattle.std.specs.Option.{option_and_then, option_copied};
 ghost use Rattle.std.specs.Arc.{arc_value};
 ghost use Rattle.outside_io.specs.Sink.{Writes};
+ghost use Rattle.run_frame.specs.Legal.{IsKept};
 ghost use Rattle.run_frame.specs.NestedRule.{job_of, journal_of};
 ghost use Rattle.run_frame.specs.Runs.{values_of};
 ghost use Rattle.text_tasks.specs.JobMeaning.{names_of, net_of, text_job};
@@ -33,6 +34,7 @@ pub fn put_report<S: Sink>(
     out: &mut S,
     run: &FrameRun<TextJob>,
 ) -> Result<(), SinkFault>
+    requires { IsKept text_job run.now }
     ensures { Writes (S.state out.old) (S.state out.new) (report_of run.now) result }
 {
     put_tasks(alloc, out, run)?;
@@ -42,6 +44,7 @@ pub fn put_report<S: Sink>(
 // Writes the line that tells why a run was cut short, if it was.
 #[tactic(auto, using(outside_io::proofs::Pieces::writes_nothing))]
 fn put_reason<S: Sink>(alloc: Global, out: &mut S, run: &FrameRun<TextJob>) -> Result<(), SinkFault>
+    requires { IsKept text_job run.now }
     ensures { Writes (S.state out.old) (S.state out.new) (reason_line (names_of (job_of run.now)) (run_reason text_job run.now)) result }
 {
     let reason = reason_of(alloc, run)?;

@@ -10,19 +10,19 @@ use Rattle.journal_rules.specs.declared.entry.Cause.{Cause}
 use Rattle.journal_rules.specs.declared.entry.Cause.TheVariants.{Source, Strong, Weak}
 use Rattle.journal_rules.specs.DataRule.{edges_of}
 use Rattle.journal_rules.proofs.NetLemmas.{places_length}
-use Rattle.join_tables.specs.declared.view.Note.{Note}
+use Rattle.table_steps.specs.declared.view.Note.{Note}
 use Rattle.join_tables.specs.declared.calls.Counted.{Counted}
 use Rattle.join_tables.specs.declared.calls.Step.TheVariants.{NoneLeft, Taken}
 use Rattle.atomic_table.specs.Seated.{TableId}
 use Rattle.join_tables.specs.States.{FreshState, fresh_state}
-use Rattle.join_tables.specs.Giving.{times, one_if}
-use Rattle.join_tables.specs.inside.Accounts.{FitsRelease}
-use Rattle.join_tables.specs.inside.Kinds.{TakesNext, took, CountsNext, AreNoneLeft, settled}
+use Rattle.table_steps.specs.Giving.{times, one_if}
+use Rattle.table_steps.specs.inside.Accounts.{FitsRelease}
+use Rattle.table_steps.specs.inside.Kinds.{TakesNext, took, CountsNext, AreNoneLeft, settled}
 use Rattle.join_tables.specs.inside.Seated.{collecting_view}
 use Rattle.join_tables.specs.inside.Collects.{CollectsOne}
-use Rattle.join_tables.proofs.Counting.{times_append, times_strong_in, is_strong_into, is_one}
-use Rattle.join_tables.proofs.StartDuties.{one_self}
-use Rattle.join_tables.proofs.Bounds.{below_of}
+use Rattle.table_steps.proofs.Counting.{times_append, times_strong_in, is_strong_into, is_one}
+use Rattle.table_steps.proofs.StartDuties.{one_self}
+use Rattle.table_steps.proofs.Bounds.{below_of}
 
 -- PLACES
 get_after : (xs ys : List ℕ) (k : ℕ) → slice_get (xs ++ ys) (length xs + k) ≡ slice_get ys k

@@ -10,19 +10,19 @@ use Rattle.atomic_table.specs.Seated.{TableId}
 use Rattle.journal_rules.specs.Counts.{first_tokens}
 use Rattle.journal_rules.specs.declared.entry.Cause.TheVariants.{Source, Strong}
 use Rattle.join_tables.specs.declared.releases.Release.{Release}
-use Rattle.join_tables.specs.declared.view.Item.{Item}
-use Rattle.join_tables.specs.declared.view.Item.TheVariants.{Fresh}
+use Rattle.table_steps.specs.declared.view.Item.{Item}
+use Rattle.table_steps.specs.declared.view.Item.TheVariants.{Fresh}
 use Rattle.join_tables.specs.States.{FreshState, fresh_state}
 use Rattle.join_tables.specs.FirstCauses.{begin_full, cause_if, first_causes, first_fresh}
-use Rattle.join_tables.specs.inside.Items.{nil}
-use Rattle.join_tables.specs.inside.Opening.{bare, is_empty, source_items, full_items, first_items}
+use Rattle.table_steps.specs.inside.Items.{nil}
+use Rattle.table_steps.specs.inside.Opening.{bare, is_empty, source_items, full_items, first_items}
 use Rattle.join_tables.specs.inside.FirstReleases.{items_of, states_of, AreOpeningWords}
 use Rattle.join_tables.specs.Keeping.{TellsRun}
-use Rattle.join_tables.specs.inside.Accounts.{mark, total, opening_notes, first_notes}
-use Rattle.join_tables.specs.declared.view.Mark.TheVariants.{Live}
+use Rattle.table_steps.specs.inside.Accounts.{mark, total, opening_notes, first_notes}
+use Rattle.table_steps.specs.declared.view.Mark.TheVariants.{Live}
 use Rattle.atomic_table.specs.Table.{opening}
 use Rattle.join_tables.proofs.FirstStep.{begins_table, live_is}
-use Rattle.join_tables.proofs.Closing.{all_complete}
+use Rattle.table_steps.proofs.Closing.{all_complete}
 
 -- the releases among items
 abbrev fresh_of : TableId → List Item → List FreshState

@@ -15,16 +15,17 @@ use Rattle.std.specs.Prelude.{All}
 use Rattle.atomic_table.specs.Seated.{TableId}
 use Rattle.join_tables.specs.States.{FreshState}
 use Rattle.join_tables.specs.declared.releases.Release.{Release}
-use Rattle.join_tables.specs.declared.view.Item.{Item}
-use Rattle.join_tables.specs.declared.view.Mark.TheVariants.{Live}
-use Rattle.join_tables.specs.declared.view.Note.{Note}
-use Rattle.join_tables.specs.Giving.{one_if}
-use Rattle.join_tables.specs.inside.Accounts.{mark, busy, resting, weigh, total, FitsPlan, ViewPart, KeepsAccounts, reading, edges_from, first_credit, first_notes, opening_notes}
-use Rattle.join_tables.specs.inside.Opening.{bare, is_empty, source_items, full_items, first_items}
+use Rattle.table_steps.specs.declared.view.Item.{Item}
+use Rattle.table_steps.specs.declared.view.Mark.TheVariants.{Live}
+use Rattle.table_steps.specs.declared.view.Note.{Note}
+use Rattle.table_steps.specs.Giving.{one_if}
+use Rattle.table_steps.specs.inside.Accounts.{mark, busy, resting, weigh, total, FitsPlan, ViewPart, KeepsAccounts, reading, edges_from, first_notes, opening_notes}
+use Rattle.table_steps.specs.Credits.{first_credit}
+use Rattle.table_steps.specs.inside.Opening.{bare, is_empty, source_items, full_items, first_items}
 use Rattle.join_tables.specs.inside.FirstReleases.{states_of, items_of, opening_word, AreOpeningWords, DealsFirst}
-use Rattle.join_tables.proofs.Counting.{get_past}
-use Rattle.join_tables.proofs.OpeningDuties.{strong_below}
-use Rattle.join_tables.proofs.Beginning.{opening_balanced, opening_view}
+use Rattle.table_steps.proofs.Counting.{get_past}
+use Rattle.table_steps.proofs.OpeningDuties.{strong_below}
+use Rattle.table_steps.proofs.Beginning.{opening_balanced, opening_view}
 
 -- THE FIRST RELEASES
 rests_none : (rs : List Release) → weigh resting (first_notes (items_of rs)) ≡ 0

@@ -12,9 +12,9 @@ use Rattle.std.proofs.lemmas.List.{same_lists, length-set, get_or-set_same, get_
 use Rattle.journal_rules.specs.declared.entry.Entry.{Entry}
 use Rattle.join_tables.specs.declared.keeper.Recorded.{Recorded}
 use Rattle.join_tables.specs.Keeping.{Merges, TellsRun, TellsSomeRun}
-use Rattle.join_tables.specs.Giving.{one_if}
+use Rattle.table_steps.specs.Giving.{one_if}
 use Rattle.join_tables.specs.inside.Merging.{placed, somes}
-use Rattle.join_tables.proofs.Journals.{count_cons}
+use Rattle.table_steps.proofs.Journals.{count_cons}
 
 -- HOW MANY ENTRIES THERE ARE
 abbrev sums : (ℕ → ℕ) → ℕ → ℕ

@@ -7,32 +7,32 @@ use Rattle.journal_rules.specs.declared.entry.Entry.{Entry}
 use Rattle.std.proofs.lemmas.List.{append_assoc}
 use Rattle.join_tables.specs.declared.outcomes.Outcome.{Outcome}
 use Rattle.join_tables.specs.declared.keeper.Recorded.{Recorded}
-use Rattle.join_tables.specs.declared.view.Item.TheVariants.{Told, Fresh, Collecting, Ticket, Open, Owes, Counting}
-use Rattle.join_tables.specs.declared.view.Mark.TheVariants.{Live}
-use Rattle.join_tables.specs.declared.view.Note.{Note}
-use Rattle.join_tables.specs.declared.view.Note.TheVariants.{Duty, Sems, Has, Unfit}
-use Rattle.join_tables.specs.inside.Items.{place}
-use Rattle.join_tables.specs.inside.Accounts.{duty, busy, weigh, AllStand}
-use Rattle.join_tables.specs.inside.Kinds.{MayLeave, left_by, joined, IsWhole}
+use Rattle.table_steps.specs.declared.view.Item.TheVariants.{Told, Fresh, Collecting, Ticket, Open, Owes, Counting}
+use Rattle.table_steps.specs.declared.view.Mark.TheVariants.{Live}
+use Rattle.table_steps.specs.declared.view.Note.{Note}
+use Rattle.table_steps.specs.declared.view.Note.TheVariants.{Duty, Sems, Has, Unfit}
+use Rattle.table_steps.specs.inside.Items.{place}
+use Rattle.table_steps.specs.inside.Accounts.{duty, busy, weigh, AllStand}
+use Rattle.table_steps.specs.inside.Kinds.{MayLeave, left_by, joined, IsWhole}
 use Rattle.join_tables.specs.inside.Seated.{IsSpent}
 use Rattle.join_tables.specs.inside.Recording.{tellings, told_after, told_notes}
-use Rattle.join_tables.proofs.Totals.{weigh_append}
+use Rattle.table_steps.proofs.Totals.{weigh_append}
 use Rattle.std.specs.declared.result.Result.TheVariants.{Ok}
 use Rattle.join_tables.specs.declared.keeper.Remaining.{Remaining}
 use Rattle.join_tables.specs.declared.keeper.Remaining.TheVariants.{More, All as AllTaken}
 use Rattle.join_tables.specs.Keeping.{TellsRun, LeavesOf, IsLast, entries_of}
-use Rattle.join_tables.proofs.Journals.{count_cons}
+use Rattle.table_steps.proofs.Journals.{count_cons}
 
 -- a seat that takes in another
 told_append : (notes : List Note) (rs : List Recorded) → told_after notes rs ≡ told_after [] rs ++ notes
 told_append notes [] = refl
 told_append notes (r ∷ rs) = told_append (Duty (Told r.place r.entry) ∷ notes) rs ∙ sym (append_assoc (told_after [] rs) (Duty (Told r.place r.entry) ∷ []) notes) ∙ ap (λ v. v ++ notes) (sym (told_append (Duty (Told r.place r.entry) ∷ []) rs))
 
-told_all : (notes : List Note) (rs qs : List Recorded) → told_after notes (rs ++ qs) ≡ told_after (told_after notes rs) qs
+pub told_all : (notes : List Note) (rs qs : List Recorded) → told_after notes (rs ++ qs) ≡ told_after (told_after notes rs) qs
 told_all notes [] qs = refl
 told_all notes (r ∷ rs) qs = told_all (Duty (Told r.place r.entry) ∷ notes) rs qs
 
-tellings_append : (v w : List Note) → tellings (v ++ w) ≡ tellings v ++ tellings w
+pub tellings_append : (v w : List Note) → tellings (v ++ w) ≡ tellings v ++ tellings w
 tellings_append [] w = refl
 tellings_append (Duty (Told n x) ∷ v) w = ap (λ u. Duty (Told n x) ∷ u) (tellings_append v w)
 tellings_append (Duty (Fresh t cause) ∷ v) w = tellings_append v w

@@ -10,11 +10,11 @@ use Rattle.task_graph.specs.declared.net.EdgeRow.{EdgeRow}
 use Rattle.journal_rules.specs.Counts.{first_tokens}
 use Rattle.journal_rules.specs.declared.entry.Cause.TheVariants.{Source, Strong}
 use Rattle.join_tables.specs.declared.releases.Release.{Release}
-use Rattle.join_tables.specs.declared.view.Item.{Item}
-use Rattle.join_tables.specs.declared.view.Item.TheVariants.{Fresh}
-use Rattle.join_tables.specs.inside.Items.{nil}
-use Rattle.join_tables.specs.Giving.{one_if}
-use Rattle.join_tables.specs.inside.Opening.{bare, is_empty, source_items, full_items, first_items}
+use Rattle.table_steps.specs.declared.view.Item.{Item}
+use Rattle.table_steps.specs.declared.view.Item.TheVariants.{Fresh}
+use Rattle.table_steps.specs.inside.Items.{nil}
+use Rattle.table_steps.specs.Giving.{one_if}
+use Rattle.table_steps.specs.inside.Opening.{bare, is_empty, source_items, full_items, first_items}
 use Rattle.join_tables.specs.inside.FirstReleases.{task_items, items_before, items_of, item_if, is_full}
 
 nil_one : (b : Bool) (n : ℕ) → n ≡ one_if b → nil n ≡ one_if (not b)

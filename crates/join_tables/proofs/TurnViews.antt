@@ -7,14 +7,14 @@ use Rattle.journal_rules.specs.declared.entry.Cause.{Cause}
 use Rattle.journal_rules.specs.declared.entry.DropWhy.{DropWhy}
 use Rattle.journal_rules.specs.declared.entry.DropWhy.TheVariants.{Limit, Stuck, Halted as AfterFault}
 use Rattle.journal_rules.specs.SemaphoreRule.{max_of}
-use Rattle.join_tables.specs.Giving.{times}
-use Rattle.join_tables.specs.Holding.{without}
-use Rattle.join_tables.specs.declared.view.Item.TheVariants.{Collecting}
-use Rattle.join_tables.specs.declared.view.Mark.TheVariants.{Live, Over, Halted}
-use Rattle.join_tables.specs.declared.view.Note.{Note}
-use Rattle.join_tables.specs.declared.view.Note.TheVariants.{Duty, Has}
+use Rattle.table_steps.specs.Giving.{times}
+use Rattle.table_steps.specs.Holding.{without}
+use Rattle.table_steps.specs.declared.view.Item.TheVariants.{Collecting}
+use Rattle.table_steps.specs.declared.view.Mark.TheVariants.{Live, Over, Halted}
+use Rattle.table_steps.specs.declared.view.Note.{Note}
+use Rattle.table_steps.specs.declared.view.Note.TheVariants.{Duty, Has}
 use Rattle.join_tables.specs.inside.Seated.{turn_view, taken_in, refusal_of, held_of}
-use Rattle.join_tables.specs.inside.UnitKinds.{held_notes, after_unit, took_unit, undone, put_back}
+use Rattle.table_steps.specs.inside.UnitKinds.{held_notes, after_unit, took_unit, undone, put_back}
 
 -- what a view of a turn says, and that of the turn with other units
 pub record Reads (t : ℕ) (cause : Cause) (r : Option DropWhy) (h : List ℕ) (v : List Note) : Type 0 where

@@ -7,19 +7,19 @@ use Rattle.task_graph.specs.NetRows.{NetRows}
 use Rattle.task_graph.specs.Net.{is_weak, is_weak_row, strong_in}
 use Rattle.task_graph.specs.declared.net.EdgeRow.{EdgeRow}
 use Rattle.std.specs.Prelude.{drop}
-use Rattle.join_tables.specs.declared.view.Item.TheVariants.{Owes}
-use Rattle.join_tables.specs.declared.view.Note.{Note}
-use Rattle.join_tables.specs.declared.view.Note.TheVariants.{Duty}
-use Rattle.join_tables.proofs.Counting.{times_strong_in, is_strong_into}
+use Rattle.table_steps.specs.declared.view.Item.TheVariants.{Owes}
+use Rattle.table_steps.specs.declared.view.Note.{Note}
+use Rattle.table_steps.specs.declared.view.Note.TheVariants.{Duty}
+use Rattle.table_steps.proofs.Counting.{times_strong_in, is_strong_into}
 use Rattle.join_tables.specs.States.{FreshState, OwingState, SpentState, fresh_state, owing_state, spent_state}
 use Rattle.join_tables.specs.Turns.{GivesNext, cause_by}
 use Rattle.join_tables.specs.declared.turns.Gave.TheVariants.{Next, Released, Finished}
 use Rattle.join_tables.specs.declared.outcomes.Outcome.TheVariants.{Ended}
-use Rattle.join_tables.specs.inside.Accounts.{AllFitNotes}
-use Rattle.join_tables.specs.inside.Kinds.{OwesNext, gave, given_notes, CountsNext}
+use Rattle.table_steps.specs.inside.Accounts.{AllFitNotes}
+use Rattle.table_steps.specs.inside.Kinds.{OwesNext, gave, given_notes, CountsNext}
 use Rattle.join_tables.specs.inside.Seated.{OwesFirst}
-use Rattle.join_tables.specs.Giving.{times, one_if, target}
-use Rattle.join_tables.proofs.Counting.{is_strong_into}
+use Rattle.table_steps.specs.Giving.{times, one_if, target}
+use Rattle.table_steps.proofs.Counting.{is_strong_into}
 
 -- a strong edge ends strongly in its target
 target_into : (net : NetRows) (f : ℕ) → f < length net.edges → is_weak net f ≡ false → is_strong_into net (target net f) f ≡ true

@@ -16,7 +16,7 @@ use Rattle.join_tables.specs.declared.turns.Admitted.TheVariants.{Go, Over, Halt
 use Rattle.join_tables.specs.declared.turns.Run.{Run}
 use Rattle.join_tables.specs.declared.outcomes.Outcome.TheVariants.{Ended}
 use Rattle.join_tables.specs.declared.keeper.Remaining.TheVariants.{More as TurnsLeft, All as NoneLeft}
-use Rattle.join_tables.specs.Giving.{times, target, MayGive}
+use Rattle.table_steps.specs.Giving.{times, target, MayGive}
 use Rattle.join_tables.specs.States.{FreshState, CollectingState, TurnState, AdmittedState, RunningState, OwingState, SpentState, fresh_state}
 use Rattle.join_tables.specs.FirstCauses.{begin_full, first_causes, first_fresh}
 use Rattle.join_tables.specs.Turns.{CollectsFrom, Admits, EndsAs, GivesNext, cause_by}

@@ -1,5 +1,5 @@
 -- What a keeper knows, and when that is a whole run.
-use Rattle.std.specs.Prelude.{◌≡◌, ◌≢◌, ◌==◌, ◌<◌, ℕ, List, [], ◌∷◌, length, Some, slice_get, count_by, Option, Result}
+use Rattle.std.specs.Prelude.{◌≡◌, ◌≢◌, ◌==◌, ◌<◌, ℕ, List, [], ◌∷◌, map, reverse, length, Some, slice_get, count_by, Option, Result}
 use Rattle.std.specs.declared.result.Result.TheVariants.{Ok}
 use Rattle.std.specs.List.{AllByRecursion}
 use Rattle.task_graph.specs.NetRows.{NetRows}
@@ -9,8 +9,9 @@ use Rattle.journal_rules.specs.declared.entry.Cause.{Cause}
 use Rattle.journal_rules.specs.declared.entry.Entry.TheVariants.{Start, End, Fault, Drop}
 use Rattle.journal_rules.specs.ShapeLegal.{ShapeLegal}
 use Rattle.journal_rules.specs.Complete.{Complete}
+use Rattle.join_tables.specs.declared.outcomes.Dropping.{Dropping}
 use Rattle.join_tables.specs.declared.outcomes.Outcome.{Outcome}
-use Rattle.join_tables.specs.declared.outcomes.Outcome.TheVariants.{Ended, Faulted, Dropped}
+use Rattle.join_tables.specs.declared.outcomes.Outcome.TheVariants.{Ended, Faulted, Dropped, AllDropped}
 use Rattle.join_tables.specs.declared.keeper.Recorded.{Recorded}
 use Rattle.join_tables.specs.declared.keeper.Remaining.{Remaining}
 use Rattle.join_tables.specs.declared.keeper.Remaining.TheVariants.{More, All as AllTaken}
@@ -29,11 +30,16 @@ keeper_state n entries found = record { table = n; entries = entries; found = fo
 abbrev pub start_of : ℕ → ℕ → Cause → Recorded
 start_of place task cause = record { place = place; entry = Start task cause [] }
 
--- the entries of a turn that is done
+-- the entry of a Drop
+abbrev pub drop_of : Dropping → Recorded
+drop_of d = record { place = d.place; entry = Drop d.task d.cause d.why }
+
+-- the entries of a turn that is done; those of a rest begin with the newest
 abbrev pub entries_of : Outcome → List Recorded
 entries_of (Ended run) = start_of run.start run.task run.cause ∷ record { place = run.place; entry = End run.start run.gives run.inner } ∷ []
 entries_of (Faulted f) = start_of f.start f.task f.cause ∷ record { place = f.place; entry = Fault f.start f.why } ∷ []
-entries_of (Dropped d) = record { place = d.place; entry = Drop d.task d.cause d.why } ∷ []
+entries_of (Dropped d) = drop_of d ∷ []
+entries_of (AllDropped drops) = map drop_of (reverse drops.items)
 
 -- A journal has each of these entries at its place, and each of its places is named once.
 pub record Merges (entries : List Recorded) (journal : List Entry) : Type 0 where

@@ -1,11 +1,11 @@
-pub mod Giving
 pub mod States
 pub mod FirstCauses
-pub mod Holding
 pub mod Units
+pub mod Claims
 pub mod Turns
-pub mod Reasons
 pub mod Outcomes
 pub mod Keeping
 pub mod Openings
+pub mod RestStates
+pub mod Rests
 pub mod inside

@@ -47,13 +47,25 @@ pub record AdmittedState : Type 0 where
   pub halt : ℕ
   pub drawn : ℕ
 
--- a start that runs, its place in the journal, and the semaphores of the units that its end gives back
+-- The semaphores of a start: of the units that its end gives back, as far as it has them; of those that it took and its
+-- task doesn't put, which are still to be credited, and which are credited; and of those that its task puts and doesn't
+-- take, which are still to be claimed. Then the one of which a claim was refused, if one was.
+pub record StartUnits : Type 0 where
+  pub back : List ℕ
+  pub to_credit : List ℕ
+  pub credited : List ℕ
+  pub to_claim : List ℕ
+  pub refused : Option ℕ
+
+-- a start that runs, its place in the journal, its units, and what its last call found in a credit word, if that claimed
+-- a unit
 pub record RunningState : Type 0 where
   pub table : TableId
   pub task : ℕ
   pub cause : Cause
   pub place : ℕ
-  pub units : List ℕ
+  pub units : StartUnits
+  pub found : Option ℕ
 
 -- A run that ended, the edges that it has still to give, and the semaphores of the units that it has to give back. Where
 -- its last call counted the edge that it gave, that found a number in the join word there.
@@ -84,8 +96,8 @@ turn_state n t cause found = turn_with n t cause None [] None found
 abbrev pub admitted_state : TableId → ℕ → Cause → List ℕ → ℕ → ℕ → AdmittedState
 admitted_state n t cause held halt drawn = record { table = n; task = t; cause = cause; held = held; halt = halt; drawn = drawn }
 
-abbrev pub running_state : TableId → ℕ → Cause → ℕ → List ℕ → RunningState
-running_state n t cause place units = record { table = n; task = t; cause = cause; place = place; units = units }
+abbrev pub running_state : TableId → ℕ → Cause → ℕ → StartUnits → Option ℕ → RunningState
+running_state n t cause place units found = record { table = n; task = t; cause = cause; place = place; units = units; found = found }
 
 abbrev pub owing_state : TableId → Run → List ℕ → List ℕ → Option ℕ → OwingState
 owing_state n run left units found = record { table = n; run = run; left = left; units = units; found = found }

@@ -5,7 +5,7 @@ use Rattle.task_graph.specs.Net.{is_weak}
 use Rattle.journal_rules.specs.declared.entry.Cause.{Cause}
 use Rattle.journal_rules.specs.declared.entry.Cause.TheVariants.{Strong, Weak}
 use Rattle.journal_rules.specs.declared.entry.DropWhy.TheVariants.{Limit, Halted as AfterFault}
-use Rattle.join_tables.specs.Giving.{target}
+use Rattle.table_steps.specs.Giving.{target}
 use Rattle.join_tables.specs.declared.turns.Collected.{Collected}
 use Rattle.join_tables.specs.declared.turns.Collected.TheVariants.{More, Last, LastAgain}
 use Rattle.join_tables.specs.declared.turns.Gave.{Gave}

@@ -1,13 +1,7 @@
--- Internal: what the seats of a table know, the accounts between words, views and journal, and the kinds of step.
-pub mod Items
-pub mod Accounts
-pub mod Kinds
-pub mod Halts
-pub mod UnitKinds
-pub mod CreditKinds
-pub mod Opening
+-- Internal: what the seat of each turn knows, how collecting goes on, the first releases, and how entries are merged.
 pub mod Seated
 pub mod Collects
 pub mod FirstReleases
 pub mod Recording
 pub mod Merging
+pub mod Resting

@@ -7,20 +7,21 @@ ghost use Rattle.journal_rules.specs.DataRule.{edges_of};
 ghost use Rattle.journal_rules.specs.declared.entry.Cause.TheVariants.{Strong};
 ghost use Rattle.join_tables.specs.States.{fresh_state, collecting_state, running_state};
 ghost use Rattle.join_tables.specs.Turns.{CollectsFrom, GivesNext, EndsAs, cause_by};
-ghost use Rattle.join_tables.specs.Giving.{MayGive, target};
-ghost use Rattle.join_tables.specs.Holding.{HoldsAll, PutsAll};
-ghost use Rattle.join_tables.specs.inside.Accounts.{FitsRelease};
-ghost use Rattle.join_tables.specs.inside.Kinds.{CountsNext, AreNoneLeft, others_of, kept_back, settled};
+ghost use Rattle.table_steps.specs.Giving.{MayGive, target};
+ghost use Rattle.table_steps.specs.Holding.{HoldsAll, PutsAll};
+ghost use Rattle.join_tables.specs.Claims.{BeginsUnits, HasAllUnits, HasCredited, HasClaimed};
+ghost use Rattle.table_steps.specs.inside.Accounts.{FitsRelease};
+ghost use Rattle.table_steps.specs.inside.Kinds.{CountsNext, AreNoneLeft, others_of, kept_back, settled};
 ghost use Rattle.join_tables.specs.inside.Seated.{OwesFirst, paid, HasMade, collecting_view, taken_in, left_in};
 ghost use Rattle.join_tables.specs.inside.Collects.{CollectsOne};
 
 use crate::outcomes::Outcome;
-use crate::steps::Place;
 use crate::turns::{
     Collected, Collecting, Fresh, Gave, NetTable, Owing, Run, Running, Spent, StartTicket, Turn,
 };
 use journal_rules::Cause;
 use outside_io::List;
+use table_steps::Place;
 
 // What an edge's count found in the join word, if the edge was counted, and the release that was made.
 #[derive(Drop)]
@@ -79,12 +80,14 @@ impl NetTable {
         }
     }
 
-    /// Starts the task: draws the place of its Start. The task puts just what it takes.
+    /// Starts the task: draws the place of its Start. Of the units that the turn holds, the start gives those back at its
+    /// end that the task puts too. The others are to be credited, and what the task puts besides is to be claimed.
     pub fn start(&self, ticket: StartTicket) -> Running
         requires table { ticket.table ≡ self.now.table }
         requires units { HoldsAll self.now.net ticket.task ticket.held }
-        requires puts { PutsAll self.now.net ticket.task }
-        ensures { result ≡ running_state self.now.table ticket.task ticket.cause result.place ticket.held }
+        ensures state { result ≡ running_state self.now.table ticket.task ticket.cause result.place result.units None }
+        ensures units { BeginsUnits self.now.net ticket.task result.units }
+        ensures same { PutsAll self.now.net ticket.task → HasAllUnits self.now.net ticket.task ticket.held result.units }
     {
         let StartTicket {
             mut seat,
@@ -98,26 +101,28 @@ impl NetTable {
             task,
             cause,
             place,
+            found: None,
         }
     }
 
-    /// Ends a start: draws the place of its End, which gives these edges. `inner` says that its work was a run of
-    /// its own.
+    /// Ends a start that has credited and claimed all units that it had to: draws the place of its End, which gives these
+    /// edges. `inner` says that its work was a run of its own.
     pub fn end(&self, running: Running, gives: List<u32>, inner: bool) -> Owing
         requires table { running.table ≡ self.now.table }
         requires fits { MayGive self.now.net running.task gives inner }
-        requires units { HoldsAll self.now.net running.task running.units }
-        requires puts { PutsAll self.now.net running.task }
+        requires credits { HasCredited self.now.net running.task running.units }
+        requires claims { HasClaimed self.now.net running.task running.units }
         ensures table { result.table ≡ self.now.table }
         ensures run { EndsAs running gives inner result.run }
         ensures left { result.left ≡ gives }
-        ensures units { result.units ≡ running.units }
+        ensures units { result.units ≡ running.units.back }
     {
         let Running {
             mut seat,
             task,
             cause,
             place: start,
+            ..
         } = running;
         let place = self.words.draw_end(&mut seat, &gives, inner);
         let run = Run {

@@ -2,8 +2,9 @@
 ghost use Rattle.std.specs.Prelude.{◌≡◌, Some, None, []};
 ghost use Rattle.join_tables.specs.Turns.{Admits};
 ghost use Rattle.join_tables.specs.Outcomes.{FaultsAs, DropsAs};
-ghost use Rattle.join_tables.specs.Reasons.{TellsNoUnit};
-ghost use Rattle.join_tables.specs.Holding.{HoldsAll, PutsAll};
+ghost use Rattle.join_tables.specs.Claims.{HasCredited};
+ghost use Rattle.table_steps.specs.Reasons.{MayTell};
+ghost use Rattle.table_steps.specs.Holding.{HoldsAll};
 
 use crate::outcomes::{Dropping, Failure, Outcome};
 use crate::turns::{Admitted, NetTable, Running, Spent, StartTicket, Turn};
@@ -53,12 +54,13 @@ impl NetTable {
         })
     }
 
-    /// Faults a start: draws the place of its Fault, and then sets the halt mark. A Fault gives no edge, so nothing is
-    /// owed after it.
+    /// Faults a start that has credited all units that it had to: draws the place of its Fault, and then sets the halt
+    /// mark. A Fault gives no edge and no unit back, so nothing is owed after it. It may tell an over-release of a
+    /// semaphore only where the start's claim of it was refused.
     pub fn fault(&self, running: Running, why: Why) -> Spent
         requires table { running.table ≡ self.now.table }
-        requires why { TellsNoUnit why }
-        requires puts { PutsAll self.now.net running.task }
+        requires credits { HasCredited self.now.net running.task running.units }
+        requires why { MayTell why running.units.refused }
         ensures table { result.table ≡ self.now.table }
         ensures outcome { FaultsAs running why result.outcome }
     {
@@ -67,6 +69,7 @@ impl NetTable {
             task,
             cause,
             place: start,
+            ..
         } = running;
         let place = self.words.draw_fault(&mut seat, why);
         self.words.set_halt(&mut seat);

@@ -1,20 +1,18 @@
 // The keeper of a run: it takes in the turns that are done.
-ghost use Rattle.std.specs.Prelude.{◌≡◌, ℕ, ◌++◌, ◌∷◌, [], None, IsSomeAnd, IfOk, OnOk, OnErr};
-ghost use Rattle.std.specs.Arc.{arc_value};
+ghost use Rattle.std.specs.Prelude.{◌≡◌, ℕ, ◌++◌, [], None, IsSomeAnd, IfOk, OnOk, OnErr};
 ghost use Rattle.task_graph.specs.NetRows.{NetRows};
 ghost use Rattle.journal_rules.specs.ShapeLegal.{ShapeLegal};
 ghost use Rattle.journal_rules.specs.Complete.{Complete};
 ghost use Rattle.join_tables.specs.Keeping.{keeper_state, TellsRun, TellsSomeRun, Merges, entries_of, LeavesOf, IsLast};
-ghost use Rattle.join_tables.specs.inside.Kinds.{MayLeave, left_by, joined, IsWhole};
 
 use crate::merge::merged;
 use crate::recording::record;
-use crate::steps::{Place, Words};
 use crate::turns::{NetTable, Spent};
 use journal_rules::{Entry, Journal};
 use outside_io::NoMemory;
 use std::alloc::Global;
 use std::marker::Model;
+use table_steps::Place;
 
 /// An entry of the journal, and its place there.
 #[derive(Drop)]
@@ -36,7 +34,7 @@ pub struct Keeper {
 impl Model for Keeper {
     ghost use Rattle.std.specs.Prelude.{◌≡◌, []};
     ghost use Rattle.join_tables.specs.Keeping.{KeeperState, keeper_state};
-    ghost use Rattle.join_tables.specs.inside.Accounts.{busy, weigh};
+    ghost use Rattle.table_steps.specs.inside.Accounts.{busy, weigh};
     ghost use Rattle.join_tables.specs.inside.Recording.{tellings, told_notes};
 
     ghost Value = { KeeperState };
@@ -116,21 +114,5 @@ impl Remaining {
         } else {
             Remaining::More
         }
-    }
-}
-
-impl Words {
-    // Takes a turn that is done into the keeper's seat, and says how many were live.
-    fn settle(&self, seat: &mut Place, spent: Place) -> u64
-        requires table { (seat.old.table_id ≡ self.now.table.shared.table_id) × (spent.table_id ≡ self.now.table.shared.table_id) }
-        requires keeper { seat.old.id ≡ 0 }
-        requires home { (seat.old.me.1 ≡ []) × (spent.me.1 ≡ []) }
-        requires ready { MayLeave (joined seat.old.me.0 spent.me.0) }
-        ensures table { (seat.new.table_id ≡ seat.old.table_id) × (seat.new.id ≡ 0) }
-        ensures view { (seat.new.me.0 ≡ left_by (joined seat.old.me.0 spent.me.0)) × (seat.new.me.1 ≡ []) }
-        ensures all { result ≡ 1 → IsWhole (arc_value self.now.net) self.now.table.shared.key.limit seat.new.me.0 }
-    {
-        self.take_in(seat, spent);
-        self.leave(seat)
     }
 }

@@ -3,21 +3,20 @@ ghost use Rattle.std.specs.Prelude.{◌≡◌, ◌≤◌, IfOk, [], length};
 ghost use Rattle.std.specs.Arc.{arc_value};
 ghost use Rattle.join_tables.specs.Openings.{OpensTable};
 ghost use Rattle.join_tables.specs.States.{fresh_state};
-ghost use Rattle.join_tables.specs.inside.Opening.{first_items};
-ghost use Rattle.join_tables.specs.inside.Accounts.{first_notes};
+ghost use Rattle.table_steps.specs.inside.Opening.{first_items};
+ghost use Rattle.table_steps.specs.inside.Accounts.{first_notes};
 ghost use Rattle.join_tables.specs.inside.FirstReleases.{items_of, states_of, DealsFirst};
-ghost use Rattle.join_tables.specs.inside.Kinds.{kept_back};
+ghost use Rattle.table_steps.specs.inside.Kinds.{kept_back};
 
 use crate::keeper::Keeper;
 use crate::releases::{Release, first_releases, opening_words};
-use crate::steps::{Place, Words};
 use crate::turns::{Fresh, NetTable};
-use crate::view::Plan;
 use atomic_table::Table;
 use journal_rules::Cause;
 use outside_io::NoMemory;
 use std::alloc::Global;
 use std::sync::Arc;
+use table_steps::{Place, Plan, Words};
 use task_graph::Net;
 
 /// A table with its first releases, by rising task, and its keeper.
@@ -40,16 +39,15 @@ impl NetTable {
         let (table, mut seat) = Table::of_words(alloc, words.as_slice(), &plan)?;
         let Plan { net, limit } = plan;
         let words = Words { table, net, limit };
-        let fresh = words.deal_all(alloc, &mut seat, &releases)?;
+        let table = NetTable { words };
+        let fresh = table.deal_all(alloc, &mut seat, &releases)?;
         Ok(Opening {
-            table: NetTable { words },
+            table,
             fresh,
             keeper: Keeper::new(alloc, seat),
         })
     }
-}
 
-impl Words {
     // Deals each release to a seat of its own.
     fn deal_all(
         &self,
@@ -57,12 +55,12 @@ impl Words {
         seat: &mut Place,
         releases: &Vec<Release>,
     ) -> Result<Vec<Fresh>, NoMemory>
-        requires table { seat.old.table_id ≡ self.now.table.shared.table_id }
+        requires table { seat.old.table_id ≡ self.now.table }
         requires keeper { seat.old.id ≡ 0 }
         requires view { seat.old.me ≡ (first_notes (items_of releases.now.items), []) }
         ensures table { (seat.new.table_id ≡ seat.old.table_id) × (seat.new.id ≡ 0) }
         ensures view { IfOk result (λ fresh. seat.new.me ≡ ([], [])) }
-        ensures fresh { IfOk result (λ fresh. fresh.items ≡ states_of self.now.table.shared.table_id releases.now.items) }
+        ensures fresh { IfOk result (λ fresh. fresh.items ≡ states_of self.now.table releases.now.items) }
     {
         let mut fresh = Vec::with_capacity(alloc, releases.len())?;
         for release in releases {
@@ -74,15 +72,15 @@ impl Words {
 
     // Deals a release with its turn to a new seat.
     fn deal_first(&self, seat: &mut Place, task: u32, cause: Cause) -> Fresh
-        requires table { seat.old.table_id ≡ self.now.table.shared.table_id }
+        requires table { seat.old.table_id ≡ self.now.table }
         requires keeper { seat.old.id ≡ 0 }
         requires home { seat.old.me.1 ≡ [] }
         requires first { DealsFirst task cause seat.old.me.0 }
         ensures table { (seat.new.table_id ≡ seat.old.table_id) × (seat.new.id ≡ 0) }
         ensures view { seat.new.me ≡ (kept_back seat.old.me.0, []) }
-        ensures fresh { result ≡ fresh_state self.now.table.shared.table_id task cause }
+        ensures fresh { result ≡ fresh_state self.now.table task cause }
     {
-        let seat = self.deal(seat);
+        let seat = self.words.deal(seat);
         Fresh { seat, task, cause }
     }
 }

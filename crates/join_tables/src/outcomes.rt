@@ -30,4 +30,6 @@ pub enum Outcome {
     Faulted(Failure),
     /// The release was dropped.
     Dropped(Dropping),
+    /// The releases of a rest were dropped, in this order.
+    AllDropped(Vec<Dropping>),
 }

@@ -1,9 +1,10 @@
 // The entries of the turns that are done.
-ghost use Rattle.std.specs.Prelude.{◌≡◌, ◌++◌, ◌∷◌, [], OnOk, OnErr};
-ghost use Rattle.join_tables.specs.Keeping.{entries_of, start_of};
+ghost use Rattle.std.specs.Prelude.{◌≡◌, ◌+◌, ◌≤◌, ◌++◌, ◌∷◌, [], OnOk, OnErr, length, map, reverse};
+ghost use Rattle.std.specs.Vec.{vec_len, vec_capacity};
+ghost use Rattle.join_tables.specs.Keeping.{entries_of, start_of, drop_of};
 
 use crate::keeper::Recorded;
-use crate::outcomes::Outcome;
+use crate::outcomes::{Dropping, Outcome};
 use journal_rules::{Cause, Entry};
 use outside_io::{List, NoMemory};
 use std::alloc::Global;
@@ -13,7 +14,7 @@ pub fn record(alloc: Global, entries: &mut Vec<Recorded>, outcome: Outcome) -> R
     ensures ok { OnOk result (entries.new.items ≡ entries.old.items ++ entries_of outcome) }
     ensures err { OnErr result (entries.new.items ≡ entries.old.items) }
 {
-    entries.try_reserve(2)?;
+    entries.try_reserve(entry_count(&outcome))?;
     match outcome {
         Outcome::Ended(run) => {
             entries.push_reserved(start_entry(alloc, run.start, run.task, run.cause));
@@ -38,19 +39,45 @@ pub fn record(alloc: Global, entries: &mut Vec<Recorded>, outcome: Outcome) -> R
                 entry,
             });
         }
-        Outcome::Dropped(dropping) => {
-            let entry = Entry::Drop {
-                task: dropping.task,
-                cause: dropping.cause,
-                why: dropping.why,
-            };
-            entries.push_reserved(Recorded {
-                place: dropping.place,
-                entry,
-            });
-        }
+        Outcome::Dropped(dropping) => entries.push_reserved(drop_entry(dropping)),
+        Outcome::AllDropped(drops) => add_drops(entries, drops),
     }
     Ok(())
+}
+
+// How many entries a turn that is done has.
+fn entry_count(outcome: &Outcome) -> usize
+    ensures { result ≡ length (entries_of outcome.now) }
+{
+    match outcome {
+        Outcome::Ended(_) | Outcome::Faulted(_) => 2,
+        Outcome::Dropped(_) => 1,
+        Outcome::AllDropped(drops) => drops.len(),
+    }
+}
+
+// Adds the entries of Drops, the newest first.
+fn add_drops(entries: &mut Vec<Recorded>, mut drops: Vec<Dropping>)
+    requires { vec_len entries.old + vec_len drops ≤ vec_capacity entries.old }
+    ensures { entries.new.items ≡ entries.old.items ++ map drop_of (reverse drops.items) }
+{
+    while let Some(dropping) = drops.pop() {
+        entries.push_reserved(drop_entry(dropping));
+    }
+}
+
+// The entry of a Drop.
+fn drop_entry(dropping: Dropping) -> Recorded
+    ensures { result ≡ drop_of dropping }
+{
+    let Dropping {
+        task,
+        cause,
+        place,
+        why,
+    } = dropping;
+    let entry = Entry::Drop { task, cause, why };
+    Recorded { place, entry }
 }
 
 // The entry of a Start, which has no inputs.

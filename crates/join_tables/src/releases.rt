@@ -2,19 +2,16 @@
 ghost use Rattle.std.specs.Prelude.{◌≡◌, ◌<◌, ◌≤◌, ◌+◌, ◌==◌, ℕ, IfOk, OnOk, All, length, slice_index, [], ◌∷◌, ◌++◌};
 ghost use Rattle.task_graph.specs.Net.{in_edges, strong_in};
 ghost use Rattle.journal_rules.specs.Counts.{first_tokens};
-ghost use Rattle.join_tables.specs.inside.Opening.{bare, first_items};
+ghost use Rattle.table_steps.specs.inside.Opening.{bare, first_items};
 ghost use Rattle.join_tables.specs.inside.FirstReleases.{is_full, items_of, item_if, opening_word, AreOpeningWords};
-ghost use Rattle.join_tables.specs.Giving.{one_if};
-ghost use Rattle.join_tables.specs.inside.Accounts.{edges_from};
+ghost use Rattle.table_steps.specs.Giving.{one_if};
+ghost use Rattle.table_steps.specs.inside.Accounts.{edges_from};
 
-use crate::steps::{FIRST_UNIT, LIVE};
 use journal_rules::Cause;
 use outside_io::NoMemory;
 use std::alloc::Global;
+use table_steps::{FIRST_CREDIT, FIRST_UNIT, LIVE};
 use task_graph::Net;
-
-// A word of credits at first, so that a claim that is refused wraps nothing.
-const FIRST_CREDIT: u64 = 1099511627776;
 
 /// A release of a task, by its cause.
 #[derive(Clone, Copy)]

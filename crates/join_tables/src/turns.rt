@@ -2,11 +2,11 @@
 ghost use Rattle.std.specs.Prelude.{◌≡◌};
 
 use crate::outcomes::Outcome;
-use crate::steps::{Place, Words};
 use journal_rules::Cause;
 use keyed_lock::Keyed;
 use outside_io::List;
 use std::marker::Model;
+use table_steps::{Place, Words};
 
 /// The words of a run's net, which many threads step at once.
 #[derive(Drop)]
@@ -125,18 +125,20 @@ pub struct Running {
     pub(crate) task: u32,
     pub(crate) cause: Cause,
     pub(crate) place: u64,
+    // what its last call found in a credit word, of which contracts speak
+    pub(crate) found: Option<u64>,
 }
 
 impl Model for Running {
     ghost use Rattle.std.specs.Prelude.{◌≡◌, []};
     ghost use Rattle.join_tables.specs.States.{RunningState, running_state};
-    ghost use Rattle.join_tables.specs.inside.Seated.{running_view, units_of};
+    ghost use Rattle.join_tables.specs.inside.Seated.{running_view, shares_of, units_in};
 
     ghost Value = { RunningState };
 
-    ghost view = { λ r. running_state r.seat.table_id r.task r.cause r.place (units_of r.seat.me.0) };
+    ghost view = { λ r. running_state r.seat.table_id r.task r.cause r.place (units_in (shares_of r.seat.me.0)) r.found };
 
-    ghost invariant = { λ r. r.seat.me ≡ (running_view r.task r.cause r.place (units_of r.seat.me.0), []) };
+    ghost invariant = { λ r. r.seat.me ≡ (running_view r.task r.cause r.place (shares_of r.seat.me.0), []) };
 }
 
 /// A start of a task and its end: their places in the journal, and the edges that the end gives.
@@ -220,6 +222,15 @@ pub enum UnitTake {
     Got(Turn),
     /// There was none.
     NoUnit(Turn),
+}
+
+/// What claiming a unit led to.
+#[derive(Drop)]
+pub enum Claim {
+    /// The start gives the unit back at its end.
+    Granted(Running),
+    /// The unit isn't out.
+    Refused(Running),
 }
 
 /// What giving one edge led to.

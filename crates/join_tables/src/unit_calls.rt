@@ -1,8 +1,8 @@
 // The calls that take units of semaphores and give them back. None takes memory, and none waits.
 ghost use Rattle.std.specs.Prelude.{◌≡◌, ◌<◌, ◌≤◌, None, length, slice_index};
-ghost use Rattle.join_tables.specs.Giving.{times};
+ghost use Rattle.table_steps.specs.Giving.{times};
 ghost use Rattle.join_tables.specs.States.{turn_with, owing_state};
-ghost use Rattle.join_tables.specs.Holding.{without};
+ghost use Rattle.table_steps.specs.Holding.{without};
 ghost use Rattle.join_tables.specs.Units.{TakesUnit};
 
 use crate::turns::{NetTable, Owing, Turn, UnitTake};

@@ -1,3 +1,4 @@
+pub mod Sources
 pub mod Walks
 pub mod Pitfalls
 pub mod Findings

@@ -3,9 +3,10 @@ use Rattle.std.specs.Prelude.{◌≡◌, ◌≢◌, ℕ, ◌<◌, false, [], len
 use Rattle.std.specs.Option.{option_map}
 use Rattle.task_graph.specs.declared.net.EdgeRow.{EdgeRow}
 use Rattle.task_graph.specs.NetRows.{NetRows}
-use Rattle.task_graph.specs.Net.{strong_in, weak_in, IsSource}
+use Rattle.task_graph.specs.Net.{strong_in, weak_in}
 use Rattle.pitfall_check.specs.declared.finding.Finding.{Finding}
 use Rattle.pitfall_check.specs.declared.finding.Finding.TheVariants.{NoSource, Mixed, ManyConditions, StrongCycle, NeverReached}
+use Rattle.pitfall_check.specs.Sources.{IsWithoutSource}
 use Rattle.pitfall_check.specs.Walks.{IsReachable, IsOnStrongCycle}
 
 -- no edge of the net begins with a token
@@ -15,11 +16,6 @@ BeginsWithoutTokens net = All (λ (row : EdgeRow). row.start ≡ false) net.edge
 -- the task that an edge leaves
 abbrev pub edge_from : NetRows → ℕ → Option ℕ
 edge_from net e = option_map (λ (row : EdgeRow). row.from) (slice_get net.edges e)
-
--- There are tasks, and each has an in-edge.
-pub record IsWithoutSource (net : NetRows) : Type 0 where
-  pub some : 0 < length net.tasks
-  pub none : (t : ℕ) → t < length net.tasks → ¬ IsSource net t
 
 -- A task has strong and weak in-edges.
 pub record IsMixed (net : NetRows) (t : ℕ) : Type 0 where

@@ -1,7 +1,7 @@
 // Where a net begins, and what is reached from there.
 ghost use Rattle.std.specs.Prelude.{◌↔◌, ◌+◌, ◌<◌, IfOk, OnOk, IsTrue, MatchBool, SomeIndex, EachIndex, length};
 ghost use Rattle.task_graph.specs.Net.{IsSource};
-ghost use Rattle.pitfall_check.specs.Pitfalls.{IsWithoutSource};
+ghost use Rattle.pitfall_check.specs.Sources.{IsWithoutSource};
 ghost use Rattle.pitfall_check.specs.inside.Reaching.{MarksReached};
 ghost use Rattle.pitfall_check.specs.inside.Steps.{AreEnds};
 

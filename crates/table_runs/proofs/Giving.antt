@@ -11,11 +11,11 @@ use Rattle.task_graph.specs.declared.net.Shape.TheVariants.{Plain, Choice}
 use Rattle.std.specs.List.{list_any}
 use Rattle.std.specs.Prelude.{IsTrue, ◌||◌}
 use Rattle.std.proofs.lemmas.Bool.Decides.{nat_tests}
-use Rattle.join_tables.specs.Giving.{one_if}
+use Rattle.table_steps.specs.Giving.{one_if}
 use Rattle.journal_rules.specs.ChoiceRule.{GivesFit, InnerFits}
 use Rattle.journal_rules.proofs.NetLemmas.{places_below, counted_once}
-use Rattle.join_tables.specs.Giving.{MayGive}
-use Rattle.join_tables.proofs.Counting.{times_count}
+use Rattle.table_steps.specs.Giving.{MayGive}
+use Rattle.table_steps.proofs.Counting.{times_count}
 
 pub may_give_all : (net : NetRows) (t : ℕ) (row : TaskRow) → slice_get net.tasks t ≡ Some row → row.shape ≡ Plain → MayGive net t (out_edges net t) false
 may_give_all net t row at plain = record {

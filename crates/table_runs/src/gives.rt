@@ -2,7 +2,7 @@
 ghost use Rattle.std.specs.Prelude.{◌≡◌, ◌<◌, IfOk, IfSome, IsSomeAnd, length, slice_get, false};
 ghost use Rattle.task_graph.specs.declared.net.TaskRow.{TaskRow};
 ghost use Rattle.task_graph.specs.declared.net.Shape.TheVariants.{Choice};
-ghost use Rattle.join_tables.specs.Giving.{MayGive};
+ghost use Rattle.table_steps.specs.Giving.{MayGive};
 
 use outside_io::{List, NoMemory};
 use std::alloc::Global;

@@ -2,11 +2,18 @@
 //! which stand here, and whose journals are held against the machine or judged.
 #![tactic(auto)]
 
+#[cfg(test)]
+mod claims;
 mod copies;
 #[cfg(test)]
 mod crosswise;
 mod gives;
+mod lending;
+#[cfg(test)]
+mod lent;
 mod needs;
+#[cfg(test)]
+mod parking;
 mod replay;
 #[cfg(test)]
 mod rings;
@@ -16,10 +23,13 @@ mod shelf;
 mod stepping;
 #[cfg(test)]
 mod threads;
+#[cfg(test)]
+mod yard;
 
 pub use copies::copied;
 pub use gives::{all_edges, gives_of, no_edge};
-pub use needs::{needs_both, needs_none};
+pub use lending::{claim, lend};
+pub use needs::{needs_both, needs_none, puts_first, takes_first};
 pub use replay::is_complete;
 pub use shelf::{Ran, Shelf, Turnout};
 pub use stepping::run_by;

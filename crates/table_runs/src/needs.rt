@@ -1,6 +1,6 @@
 // Which units a task needs in these runs.
 ghost use Rattle.std.specs.Prelude.{◌≡◌, ◌<◌, IsTrue, [], ◌∷◌, length};
-ghost use Rattle.join_tables.specs.Holding.{HoldsAll, PutsAll};
+ghost use Rattle.table_steps.specs.Holding.{HoldsAll, PutsAll, PutsAlone, PutsEach, TakesAlone};
 
 use outside_io::List;
 use task_graph::Net;
@@ -21,6 +21,34 @@ pub fn needs_both(net: &Net, task: u32) -> bool
 {
     let row = &net.tasks()[task as usize];
     is_pair(&row.takes) && is_pair(&row.puts)
+}
+
+/// Whether a task takes a unit of semaphore 0 and no other, and puts none.
+pub fn takes_first(net: &Net, task: u32) -> bool
+    requires { task < length net.now.tasks }
+    ensures { IsTrue result → HoldsAll net.now task (0 ∷ []) × TakesAlone net.now task (0 ∷ []) × PutsAlone net.now task [] × PutsEach net.now task [] }
+{
+    let row = &net.tasks()[task as usize];
+    is_first(&row.takes) && row.puts.is_empty()
+}
+
+/// Whether a task puts a unit of semaphore 0 and no other, and takes none.
+pub fn puts_first(net: &Net, task: u32) -> bool
+    requires { task < length net.now.tasks }
+    ensures { IsTrue result → HoldsAll net.now task [] × TakesAlone net.now task [] × PutsAlone net.now task (0 ∷ []) × PutsEach net.now task (0 ∷ []) }
+{
+    let row = &net.tasks()[task as usize];
+    row.takes.is_empty() && is_first(&row.puts)
+}
+
+// Whether a list is of semaphore 0.
+fn is_first(sems: &List<u32>) -> bool
+    ensures { IsTrue result → sems.now ≡ 0 ∷ [] }
+{
+    match (sems.get(0), sems.get(1)) {
+        (Some(first), None) => *first == 0,
+        _ => false,
+    }
 }
 
 // Whether a list is of semaphore 0 and semaphore 1.

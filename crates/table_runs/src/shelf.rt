@@ -1,22 +1,22 @@
 // What the threads of a run share.
-ghost use Rattle.std.specs.Prelude.{◌≡◌, IfSome, IfOk, All, true, length};
+ghost use Rattle.std.specs.Prelude.{◌≡◌, IfSome, IfOk, All, None, [], true, length};
 
 use crate::copies::copied;
-use join_tables::{Fresh, Keeper, NetTable, Remaining, Spent};
+use join_tables::{Fresh, Keeper, NetTable, Remaining, Spent, Turn};
 use journal_rules::Journal;
 use keyed_lock::Keyed;
 use outside_io::NoMemory;
 use std::alloc::Global;
 use std::marker::Model;
 
-/// The releases that no thread has taken, and the keeper of the run.
+/// The releases that no thread has taken, the turns that found no unit, and the keeper of the run.
 #[derive(Drop)]
 pub struct Shelf {
     keeper: Keeper,
     fresh: Vec<Fresh>,
-    // The releases that are neither done nor refused.
+    waiting: Vec<Turn>,
+    // The releases that are not done.
     outstanding: u64,
-    refused: u64,
     // How many runs may yet give their edges.
     gives: u64,
     is_over: bool,
@@ -24,16 +24,16 @@ pub struct Shelf {
 }
 
 impl Model for Shelf {
-    ghost use Rattle.std.specs.Prelude.{◌≡◌, All, true};
+    ghost use Rattle.std.specs.Prelude.{◌≡◌, All, None, [], true};
     ghost use Rattle.atomic_table.specs.Seated.{TableId};
-    ghost use Rattle.join_tables.specs.States.{FreshState};
+    ghost use Rattle.join_tables.specs.States.{FreshState, TurnState};
     ghost use Rattle.join_tables.specs.Keeping.{TellsSomeRun};
 
     ghost Value = { TableId };
 
     ghost view = { λ shelf. shelf.keeper.table };
 
-    ghost invariant = { λ shelf. All (λ (f : FreshState). f.table ≡ shelf.keeper.table) shelf.fresh.items × (shelf.is_whole ≡ true → TellsSomeRun shelf.keeper.entries) };
+    ghost invariant = { λ shelf. All (λ (f : FreshState). f.table ≡ shelf.keeper.table) shelf.fresh.items × All (λ (t : TurnState). (t.table ≡ shelf.keeper.table) × (t.refused ≡ None) × (t.held ≡ [])) shelf.waiting.items × (shelf.is_whole ≡ true → TellsSomeRun shelf.keeper.entries) };
 }
 
 impl Keyed for Shelf {
@@ -44,19 +44,20 @@ impl Keyed for Shelf {
     ghost key = { λ shelf. shelf };
 }
 
-/// What a thread does next: the release that it takes up, if there is one, and whether its run gives its edges.
+/// What a thread does next: the release that it takes up, if there is one, or else the turn that it goes on with, and
+/// whether its run gives its edges.
 #[derive(Drop)]
 pub struct Turnout {
     pub fresh: Option<Fresh>,
+    pub waiting: Option<Turn>,
     pub gives: bool,
     pub is_over: bool,
 }
 
-/// The journal of a run, how many of its releases were refused, and whether its keeper has answered that none is left.
+/// The journal of a run, and whether its keeper has answered that none is left.
 #[derive(Drop)]
 pub struct Ran {
     pub journal: Journal,
-    pub refused: u64,
     pub is_whole: bool,
 }
 
@@ -65,37 +66,61 @@ impl Shelf {
     ghost use Rattle.join_tables.specs.Keeping.{TellsSomeRun};
 
     /// What threads share at first. So many runs give their edges.
-    pub fn new(keeper: Keeper, fresh: Vec<Fresh>, gives: u64, is_whole: bool) -> Shelf
+    pub fn new(
+        alloc: Global,
+        keeper: Keeper,
+        fresh: Vec<Fresh>,
+        gives: u64,
+        is_whole: bool,
+    ) -> Shelf
         requires fresh { All (λ (f : FreshState). f.table ≡ keeper.table) fresh.items }
         requires whole { is_whole ≡ true → TellsSomeRun keeper.entries }
         ensures { result ≡ keeper.table }
     {
         let outstanding = fresh.len() as u64;
         Shelf {
+            waiting: Vec::new(alloc),
             keeper,
             fresh,
             outstanding,
-            refused: 0,
             gives,
             is_over: outstanding == 0,
             is_whole,
         }
     }
 
-    /// The newest release.
+    /// The newest release, or else the turn that has waited the least. A turn that goes on gives its edges.
     pub fn take(&mut self) -> Turnout
         ensures table { self.new ≡ self.old }
         ensures fresh { IfSome result.fresh (λ fresh. fresh.table ≡ self.old) }
+        ensures waiting { IfSome result.waiting (λ t. (t.table ≡ self.old) × (t.refused ≡ None) × (t.held ≡ [])) }
     {
-        let fresh = self.fresh.pop();
+        let is_over = self.is_over;
+        let Some(fresh) = self.fresh.pop() else {
+            return Turnout {
+                fresh: None,
+                waiting: self.waiting.pop(),
+                gives: true,
+                is_over,
+            };
+        };
         let gives = self.gives > 0;
-        if fresh.is_some() {
-            self.gives = self.gives.saturating_sub(1);
-        }
+        self.gives = self.gives.saturating_sub(1);
         Turnout {
-            fresh,
+            fresh: Some(fresh),
+            waiting: None,
             gives,
-            is_over: self.is_over,
+            is_over,
+        }
+    }
+
+    /// Adds a turn that found no unit. If an allocation fails no more are taken.
+    pub fn wait(&mut self, turn: Turn)
+        requires { (turn.table ≡ self.old) × (turn.refused ≡ None) × (turn.held ≡ []) }
+        ensures { self.new ≡ self.old }
+    {
+        if self.waiting.push(turn).is_err() {
+            self.is_over = true;
         }
     }
 
@@ -126,14 +151,6 @@ impl Shelf {
         self.leave();
     }
 
-    /// A turn was refused.
-    pub fn refuse(&mut self)
-        ensures { self.new ≡ self.old }
-    {
-        self.refused = self.refused.saturating_add(1);
-        self.leave();
-    }
-
     // One release less is outstanding.
     fn leave(&mut self)
         ensures { self.new ≡ self.old }
@@ -155,7 +172,6 @@ impl Shelf {
     pub fn ran(self, alloc: Global) -> Result<Option<Ran>, NoMemory> {
         let Shelf {
             keeper,
-            refused,
             is_whole,
             ..
         } = self;
@@ -167,10 +183,6 @@ impl Shelf {
         let Some(journal) = journal else {
             return Ok(None);
         };
-        Ok(Some(Ran {
-            journal,
-            refused,
-            is_whole,
-        }))
+        Ok(Some(Ran { journal, is_whole }))
     }
 }

@@ -1,16 +1,20 @@
 // Threads that step a table over one list.
-ghost use Rattle.std.specs.Prelude.{◌≡◌, ◌≤◌, [], None, IfOk, IfSome};
+ghost use Rattle.std.specs.Prelude.{◌≡◌, ◌<◌, ◌≤◌, [], ◌∷◌, None, Some, IfSome, false, length};
 ghost use Rattle.std.specs.Arc.{arc_value};
 ghost use Rattle.keyed_lock.specs.Locks.{made_with};
+ghost use Rattle.table_steps.specs.Giving.{MayGive};
+ghost use Rattle.table_steps.specs.Holding.{HoldsAll, PutsAll, PutsAlone, PutsEach, TakesAlone};
 
 use crate::gives::gives_of;
-use crate::needs::needs_none;
+use crate::lending::{claim, lend};
+use crate::needs::{needs_both, needs_none, puts_first, takes_first};
 use crate::shelf::{Ran, Shelf, Turnout};
 use join_tables::{
-    Admitted, Collected, Collecting, Fresh, Gave, NetTable, Opening, Owing, Spent, Turn,
+    Admitted, Collected, Collecting, Fresh, Gave, NetTable, Opening, Owing, Spent, Turn, UnitTake,
 };
+use journal_rules::{DropWhy, Why};
 use keyed_lock::{Held, KeyedLock};
-use outside_io::NoMemory;
+use outside_io::{List, NoMemory};
 use std::alloc::Global;
 use std::sync::{Arc, Wait};
 use std::thread::{Threads, for_each_mut, yield_now};
@@ -26,7 +30,8 @@ struct Shared {
     ghost same_net: { table.net ≡ arc_value net },
 }
 
-/// The run of a net with this limit of starts, by so many threads, where so many runs give their edges. It is `None`
+/// The run of a net with this limit of starts, by so many threads, where so many runs give their edges. Its tasks need no
+/// unit, or one of each of semaphores 0 and 1, or one of semaphore 0 that others give back, or give back one. It is `None`
 /// where there is no thread or an allocation failed.
 pub fn run_by<R: Threads + Wait + Sync>(
     rt: &R,
@@ -44,7 +49,7 @@ pub fn run_by<R: Threads + Wait + Sync>(
         fresh,
         keeper,
     } = opening;
-    let shelf = Shelf::new(keeper, fresh, gives, false);
+    let shelf = Shelf::new(alloc, keeper, fresh, gives, false);
     let shared = Shared {
         table,
         net: Arc::try_clone(net)?,
@@ -81,32 +86,175 @@ impl Shared {
         for _ in rt.forever() {
             let Turnout {
                 fresh,
+                waiting,
                 gives,
                 is_over,
             } = self.take(rt);
             if is_over {
                 return;
             }
-            match fresh {
-                Some(fresh) => self.step(rt, alloc, fresh, gives),
-                None => yield_now(),
+            match (fresh, waiting) {
+                (Some(fresh), _) => {
+                    let turn = self.collect_all(rt, self.table.reset(fresh));
+                    self.step(rt, alloc, turn, gives);
+                }
+                (None, Some(turn)) => self.step(rt, alloc, turn, gives),
+                (None, None) => yield_now(),
             }
         }
     }
 
-    // Takes a release to the end of its run, and adds the releases that it makes.
-    fn step<R: Wait>(&self, rt: &R, alloc: Global, fresh: Fresh, gives: bool)
-        requires { fresh.table ≡ self.now.table.table }
+    // Takes a turn to the end of its run, and adds the releases that it makes.
+    fn step<R: Wait>(&self, rt: &R, alloc: Global, turn: Turn, gives: bool)
+        requires { (turn.table ≡ self.now.table.table) × (turn.refused ≡ None) × (turn.held ≡ []) }
     {
-        let turn = self.collect_all(rt, self.table.reset(fresh));
-        match self.run(alloc, turn, gives) {
-            Ok(Some(owing)) => {
-                let spent = self.give_all(rt, owing);
-                self.finish(rt, spent);
-            }
-            Ok(None) => self.refuse(rt),
-            Err(NoMemory) => self.give_up(rt),
+        let task = turn.task();
+        let Some(edges) = self.edges(alloc, task, gives) else {
+            return self.give_up(rt);
+        };
+        if needs_none(&self.net, task) {
+            self.run_alone(rt, turn, edges)
+        } else if self.net.sems().is_empty() {
+            self.give_up(rt)
+        } else if takes_first(&self.net, task) {
+            self.borrow(rt, turn, edges)
+        } else if puts_first(&self.net, task) {
+            self.give_back(rt, turn, edges)
+        } else if self.net.sems().len() > 1 && needs_both(&self.net, task) {
+            self.hold_both(rt, turn, edges)
+        } else {
+            self.give_up(rt)
         }
+    }
+
+    // What a task gives here. It is `None` of a task past the end or of another shape, or if an allocation fails.
+    fn edges(&self, alloc: Global, task: u32, gives: bool) -> Option<List<u32>>
+        ensures { IfSome result (λ edges. (task < length self.now.table.net.tasks) × MayGive self.now.table.net task edges false) }
+    {
+        if task as usize >= self.net.tasks().len() {
+            return None;
+        }
+        match gives_of(alloc, &self.net, task, gives) {
+            Ok(edges) => edges,
+            Err(NoMemory) => None,
+        }
+    }
+
+    // Runs a task that needs no unit.
+    fn run_alone<R: Wait>(&self, rt: &R, turn: Turn, edges: List<u32>)
+        requires turn { (turn.table ≡ self.now.table.table) × (turn.refused ≡ None) × (turn.held ≡ []) }
+        requires needs { HoldsAll self.now.table.net turn.task [] × PutsAll self.now.table.net turn.task }
+        requires edges { MayGive self.now.table.net turn.task edges false }
+    {
+        match self.table.admit(turn) {
+            Admitted::Go(ticket) => {
+                let running = self.table.start(ticket);
+                self.pay(rt, self.table.end(running, edges, false));
+            }
+            Admitted::Over(turn) => self.drop_turn(rt, turn, DropWhy::Limit),
+            Admitted::Halted(turn) => self.drop_turn(rt, turn, DropWhy::Halted),
+        }
+    }
+
+    // Runs a task that takes a unit of semaphore 0 and doesn't put it. Where there is none, the turn waits.
+    fn borrow<R: Wait>(&self, rt: &R, turn: Turn, edges: List<u32>)
+        requires turn { (turn.table ≡ self.now.table.table) × (turn.refused ≡ None) × (turn.held ≡ []) }
+        requires sems { 0 < length self.now.table.net.sems }
+        requires needs { HoldsAll self.now.table.net turn.task (0 ∷ []) × TakesAlone self.now.table.net turn.task (0 ∷ []) × PutsAlone self.now.table.net turn.task [] × PutsEach self.now.table.net turn.task [] }
+        requires edges { MayGive self.now.table.net turn.task edges false }
+    {
+        let turn = match self.table.take_unit(turn, 0) {
+            UnitTake::Got(turn) => turn,
+            UnitTake::NoUnit(turn) => return self.wait(rt, turn),
+        };
+        match self.table.admit(turn) {
+            Admitted::Go(ticket) => {
+                let running = lend(&self.table, ticket);
+                self.pay(rt, self.table.end(running, edges, false));
+            }
+            Admitted::Over(turn) => {
+                let turn = self.table.put_unit(turn, 0);
+                self.drop_turn(rt, turn, DropWhy::Limit);
+            }
+            Admitted::Halted(turn) => {
+                let turn = self.table.put_unit(turn, 0);
+                self.drop_turn(rt, turn, DropWhy::Halted);
+            }
+        }
+    }
+
+    // Runs a task that puts a unit of semaphore 0 and takes none. Where none is out, it faults.
+    fn give_back<R: Wait>(&self, rt: &R, turn: Turn, edges: List<u32>)
+        requires turn { (turn.table ≡ self.now.table.table) × (turn.refused ≡ None) × (turn.held ≡ []) }
+        requires sems { 0 < length self.now.table.net.sems }
+        requires needs { HoldsAll self.now.table.net turn.task [] × TakesAlone self.now.table.net turn.task [] × PutsAlone self.now.table.net turn.task (0 ∷ []) × PutsEach self.now.table.net turn.task (0 ∷ []) }
+        requires edges { MayGive self.now.table.net turn.task edges false }
+    {
+        let ticket = match self.table.admit(turn) {
+            Admitted::Go(ticket) => ticket,
+            Admitted::Over(turn) => return self.drop_turn(rt, turn, DropWhy::Limit),
+            Admitted::Halted(turn) => return self.drop_turn(rt, turn, DropWhy::Halted),
+        };
+        match claim(&self.table, ticket) {
+            Ok(running) => {
+                let owing = self.table.end(running, edges, false);
+                self.pay(rt, self.table.return_unit(owing, 0));
+            }
+            Err(running) => self.finish(rt, self.table.fault(running, Why::OverRelease(0))),
+        }
+    }
+
+    // Runs a task that takes and puts units of semaphores 0 and 1, the lesser first. Where one is missing, the turn waits,
+    // and holds none.
+    fn hold_both<R: Wait>(&self, rt: &R, turn: Turn, edges: List<u32>)
+        requires turn { (turn.table ≡ self.now.table.table) × (turn.refused ≡ None) × (turn.held ≡ []) }
+        requires sems { 1 < length self.now.table.net.sems }
+        requires needs { HoldsAll self.now.table.net turn.task (1 ∷ 0 ∷ []) × PutsAll self.now.table.net turn.task }
+        requires edges { MayGive self.now.table.net turn.task edges false }
+    {
+        let turn = match self.table.take_unit(turn, 0) {
+            UnitTake::Got(turn) => turn,
+            UnitTake::NoUnit(turn) => return self.wait(rt, turn),
+        };
+        let turn = match self.table.take_unit(turn, 1) {
+            UnitTake::Got(turn) => turn,
+            UnitTake::NoUnit(turn) => return self.wait(rt, self.table.put_unit(turn, 0)),
+        };
+        match self.table.admit(turn) {
+            Admitted::Go(ticket) => {
+                let owing = self.table.end(self.table.start(ticket), edges, false);
+                let owing = self.table.return_unit(owing, 1);
+                self.pay(rt, self.table.return_unit(owing, 0));
+            }
+            Admitted::Over(turn) => self.drop_both(rt, turn, DropWhy::Limit),
+            Admitted::Halted(turn) => self.drop_both(rt, turn, DropWhy::Halted),
+        }
+    }
+
+    // Puts back the units of a turn that was refused, and drops it.
+    fn drop_both<R: Wait>(&self, rt: &R, turn: Turn, why: DropWhy)
+        requires turn { (turn.table ≡ self.now.table.table) × (turn.held ≡ 1 ∷ 0 ∷ []) }
+        requires sems { 1 < length self.now.table.net.sems }
+        requires refused { turn.refused ≡ Some why }
+    {
+        let turn = self.table.put_unit(turn, 1);
+        self.drop_turn(rt, self.table.put_unit(turn, 0), why);
+    }
+
+    // Drops a turn that was refused.
+    fn drop_turn<R: Wait>(&self, rt: &R, turn: Turn, why: DropWhy)
+        requires turn { (turn.table ≡ self.now.table.table) × (turn.held ≡ []) }
+        requires refused { turn.refused ≡ Some why }
+    {
+        self.finish(rt, self.table.drop_turn(turn, why));
+    }
+
+    // Gives all that an end owes.
+    fn pay<R: Wait>(&self, rt: &R, owing: Owing)
+        requires { (owing.table ≡ self.now.table.table) × (owing.units ≡ []) }
+    {
+        let spent = self.give_all(rt, owing);
+        self.finish(rt, spent);
     }
 
     // Collects all tokens, and adds the release that they make again.
@@ -122,25 +270,6 @@ impl Shared {
                 turn
             }
         }
-    }
-
-    // Starts a task and ends it, or is refused.
-    fn run(&self, alloc: Global, turn: Turn, gives: bool) -> Result<Option<Owing>, NoMemory>
-        requires { (turn.table ≡ self.now.table.table) × (turn.refused ≡ None) × (turn.held ≡ []) }
-        ensures { IfOk result (λ owing. IfSome owing (λ o. (o.table ≡ self.now.table.table) × (o.units ≡ []))) }
-    {
-        let task = turn.task();
-        if task as usize >= self.net.tasks().len() || !needs_none(&self.net, task) {
-            return Err(NoMemory);
-        }
-        let Admitted::Go(ticket) = self.table.admit(turn) else {
-            return Ok(None);
-        };
-        let running = self.table.start(ticket);
-        let Some(edges) = gives_of(alloc, &self.net, task, gives)? else {
-            return Err(NoMemory);
-        };
-        Ok(Some(self.table.end(running, edges, false)))
     }
 
     // Gives all edges that an end owes, and adds the releases that this makes.
@@ -159,7 +288,8 @@ impl Shared {
     }
 
     fn take<R: Wait>(&self, rt: &R) -> Turnout
-        ensures { IfSome result.fresh (λ fresh. fresh.table ≡ self.now.table.table) }
+        ensures fresh { IfSome result.fresh (λ fresh. fresh.table ≡ self.now.table.table) }
+        ensures waiting { IfSome result.waiting (λ t. (t.table ≡ self.now.table.table) × (t.refused ≡ None) × (t.held ≡ [])) }
     {
         let Held { mut value, pass } = self.lock.take(rt);
         let turnout = value.take();
@@ -183,9 +313,11 @@ impl Shared {
         self.lock.put(Held { value, pass });
     }
 
-    fn refuse<R: Wait>(&self, rt: &R) {
+    fn wait<R: Wait>(&self, rt: &R, turn: Turn)
+        requires { (turn.table ≡ self.now.table.table) × (turn.refused ≡ None) × (turn.held ≡ []) }
+    {
         let Held { mut value, pass } = self.lock.take(rt);
-        value.refuse();
+        value.wait(turn);
         self.lock.put(Held { value, pass });
     }
 

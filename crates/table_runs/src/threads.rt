@@ -2,6 +2,7 @@
 ghost use Rattle.std.specs.Prelude.{◌≤◌};
 
 use crate::run_by;
+use journal_rules::{Entry, Journal};
 use legal_run::{Verdict, judge};
 use outside_io::List;
 use std::alloc::Global;
@@ -66,8 +67,8 @@ const LOOP: Case<'static> = Case {
     rings: &[],
 };
 
-// Makes a run by two and by four threads, in which so many runs give their edges, and judges each journal. Where no run
-// comes to the limit it is complete; else it is legal as far as it goes, and has as many starts as the limit.
+// Makes a run by two and by four threads, in which so many runs give their edges, and judges each journal. It is complete;
+// where the run comes to the limit, it has as many starts as the limit, and the releases that were refused are dropped.
 fn often<R: Threads + Wait + Abort + Sync>(
     rt: &R,
     alloc: Global,
@@ -98,17 +99,28 @@ fn once<R: Threads + Wait + Abort + Sync>(
     let Some(ran) = run_by(rt, alloc, net, limit, gives, threads)? else {
         panic!(rt; "a place without an entry");
     };
-    assert_eq!(rt; ran.is_whole, limit == MANY);
-    let verdict = judge(alloc, net, limit, &ran.journal)?;
-    if ran.is_whole {
-        assert_eq!(rt; ran.refused, 0);
-        assert!(rt; matches!(verdict, Verdict::Complete));
-    } else {
-        assert!(rt; ran.refused > 0);
-        assert!(rt; matches!(verdict, Verdict::Legal));
-        assert_eq!(rt; ran.journal.len() as u64, limit.wrapping_mul(2));
+    assert!(rt; ran.is_whole);
+    assert!(rt; matches!(judge(alloc, net, limit, &ran.journal)?, Verdict::Complete));
+    let drops = drops(&ran.journal);
+    assert_eq!(rt; drops > 0, limit < MANY);
+    if drops > 0 {
+        assert_eq!(rt;
+            ran.journal.len() as u64,
+            limit.wrapping_mul(2).wrapping_add(drops)
+        );
     }
     Ok(())
+}
+
+// How many releases were dropped.
+fn drops(journal: &Journal) -> u64 {
+    let mut count: u64 = 0;
+    for entry in journal.as_slice() {
+        if matches!(entry, Entry::Drop { .. }) {
+            count = count.wrapping_add(1);
+        }
+    }
+    count
 }
 
 #[test]

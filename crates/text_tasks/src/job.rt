@@ -80,11 +80,12 @@ impl GraphJob {
 }
 
 impl TextJob {
-    ghost use Rattle.text_tasks.specs.JobMeaning.{names_of};
+    ghost use Rattle.text_tasks.specs.JobMeaning.{names_of, IsTextJob};
 
     /// The names of the tasks, by their numbers in the net.
     pub fn names(&self) -> &[Bytes]
-        ensures { result.now ≡ names_of self.now }
+        ensures names { result.now ≡ names_of self.now }
+        ensures work { IsTextJob self.now }
     {
         match self {
             TextJob::Graph(job) => job.graph().names.as_slice(),

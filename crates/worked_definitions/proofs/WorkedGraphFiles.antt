@@ -18,7 +18,8 @@ use Rattle.std.specs.declared.sync.Arc.{Arc}
 use Rattle.task_graph.specs.NetRows.{NetRows}
 use Rattle.graph_plans.specs.declared.plans.Graph.{Graph}
 use Rattle.graph_plans.specs.PlanRows.{GraphRows, PlanRows, IsPlan, IsTextName, NeedsNoUnit, graph_rows, plan_rows}
-use Rattle.graph_plans.specs.Sources.{HasNoSource, NoSourceAnswer}
+use Rattle.pitfall_check.specs.Sources.{IsWithoutSource}
+use Rattle.graph_plans.specs.Sources.{NoSourceAnswer}
 use Rattle.graph_file.specs.declared.refusals.GraphError.{GraphError}
 use Rattle.graph_file.specs.declared.refusals.GraphError.TheVariants.{NotJson, BadField, NoSuchName, Repeated, TooMany}
 use Rattle.graph_file.specs.declared.refusals.Kind.TheVariants as kind
@@ -213,17 +214,17 @@ graph tasks edges = record { name = []; names = []; ops = []; sem_names = []; ne
 abbrev ring : GraphRows
 ring = graph (row ∷ []) (record { from = 0; to = 0; start = false } ∷ [])
 
-no_tasks_need_no_source : ¬ HasNoSource (graph [] [])
-no_tasks_need_no_source is = absurd (omega (arith, is.tasks))
+no_tasks_need_no_source : ¬ IsWithoutSource (graph [] []).net
+no_tasks_need_no_source is = absurd (omega (arith, is.some))
 
-ring_has_no_source : HasNoSource ring
-ring_has_no_source = record { tasks = omega arith; none = none }
+ring_has_no_source : IsWithoutSource ring.net
+ring_has_no_source = record { some = omega arith; none = none }
   where
     none : (t : ℕ) → t < 1 → IsSource ring.net t → ⊥
     none zero below is = absurd (cc)
     none (suc t) below is = absurd (omega (arith, below))
 
-task_without_an_in_edge : ¬ HasNoSource (graph (row ∷ []) [])
+task_without_an_in_edge : ¬ IsWithoutSource (graph (row ∷ []) []).net
 task_without_an_in_edge is = is.none 0 (omega arith) refl
 
 -- an empty top graph over two modules without a source

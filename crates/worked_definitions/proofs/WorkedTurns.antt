@@ -1,6 +1,6 @@
 -- The units that turns of a table hold, what becomes of releases, how a table begins, and when a keeper tells a whole run.
 use Rattle.std.proofs.Common.{◌≡◌, ℕ, zero, suc, ◌+◌, ◌<◌, Bool, true, false, List, [], ◌∷◌, Some, None, refl, ap, sym, subst, ◌∙◌, inl, arith}
-use Rattle.std.specs.Prelude.{◌==◌, ◌||◌, count_by, All}
+use Rattle.std.specs.Prelude.{◌==◌, ◌||◌, ◌&&◌, not, count_by, All}
 use Rattle.std.proofs.lemmas.Bool.Decides.{nat_tests}
 use Rattle.std.specs.declared.result.Result.TheVariants.{Ok, Err}
 use Rattle.task_graph.specs.declared.net.Shape.TheVariants.{Plain}
@@ -13,6 +13,7 @@ use Rattle.journal_rules.specs.declared.entry.DropWhy.TheVariants.{Limit, Halted
 use Rattle.journal_rules.specs.declared.entry.Entry.{Entry}
 use Rattle.journal_rules.specs.declared.entry.Entry.TheVariants.{Start, End, Fault, Drop}
 use Rattle.journal_rules.specs.ShapeLegal.{MayFollow}
+use Rattle.journal_rules.specs.SemaphoreRule.{takes}
 use Rattle.journal_rules.specs.Complete.{Complete}
 use Rattle.join_tables.specs.declared.turns.UnitTake.TheVariants.{Got, NoUnit}
 use Rattle.join_tables.specs.declared.turns.Run.{Run}
@@ -22,11 +23,14 @@ use Rattle.join_tables.specs.declared.outcomes.Outcome.TheVariants.{Ended, Fault
 use Rattle.join_tables.specs.declared.opening.Opening.{Opening}
 use Rattle.join_tables.specs.declared.keeper.Remaining.TheVariants.{More as TurnsLeft, All as NoneLeft}
 use Rattle.join_tables.specs.declared.keeper.Recorded.{Recorded}
-use Rattle.join_tables.specs.States.{TableState, FreshState, TurnState, fresh_state, turn_state, turn_with, running_state}
-use Rattle.join_tables.specs.Giving.{one_if}
-use Rattle.join_tables.specs.Holding.{HoldsAll, PutsAll, without}
+use Rattle.join_tables.specs.States.{TableState, FreshState, TurnState, fresh_state, turn_state, turn_with, running_state, StartUnits, RunningState}
+use Rattle.table_steps.specs.Giving.{one_if}
+use Rattle.table_steps.specs.Holding.{HoldsAll, PutsEach, PutsBack, TakesAlone, PutsAlone, PutsAll, without}
+use Rattle.table_steps.specs.Credits.{first_credit, AllowsOver}
 use Rattle.join_tables.specs.Units.{TakesUnit}
-use Rattle.join_tables.specs.Reasons.{TellsNoUnit}
+use Rattle.table_steps.specs.Reasons.{MayTell}
+use Rattle.join_tables.specs.Claims.{BeginsUnits, HasCredited, HasClaimed, HasAllUnits, credit_one, grant_one, refuse_one, with_units, ClaimsUnit}
+use Rattle.join_tables.specs.declared.turns.Claim.TheVariants.{Granted, Refused}
 use Rattle.join_tables.specs.Outcomes.{FaultsAs, DropsAs}
 use Rattle.join_tables.specs.Openings.{OpensTable}
 use Rattle.join_tables.specs.Keeping.{KeeperState, keeper_state, entries_of, Merges, TellsRun, TellsSomeRun, IsLast}
@@ -76,6 +80,42 @@ takes_and_keeps puts = let no : false ≡ true = puts 0 in absurd (cc)
 puts_without_taking : ¬ PutsAll net 3
 puts_without_taking puts = let no : true ≡ false = puts 0 in absurd (cc)
 
+one_more : (b : Bool) → one_if b + 0 ≡ one_if ((b || false) && not false)
+one_more true = refl
+one_more false = refl
+
+one_put : (b : Bool) → one_if b + 0 ≡ one_if (b || false)
+one_put true = refl
+one_put false = refl
+
+none_of_both : (b : Bool) → 0 ≡ one_if ((b || false) && false)
+none_of_both true = refl
+none_of_both false = refl
+
+puts_one : PutsEach net 3 (0 ∷ [])
+puts_one s = one_put (0 == s)
+
+one_put_is_missing : ¬ PutsEach net 0 (0 ∷ [])
+one_put_is_missing puts = absurd (omega (arith, puts 2))
+
+gives_back_none : PutsBack net 2 []
+gives_back_none s = none_of_both (0 == s)
+
+gives_back_what_it_takes : ¬ PutsBack net 0 (0 ∷ [])
+gives_back_what_it_takes puts = absurd (omega (arith, puts 2))
+
+takes_without_putting : TakesAlone net 2 (0 ∷ [])
+takes_without_putting s = one_more (0 == s)
+
+takes_and_puts_too : ¬ TakesAlone net 0 (0 ∷ [])
+takes_and_puts_too takes = absurd (omega (arith, takes 0))
+
+puts_alone : PutsAlone net 3 (0 ∷ [])
+puts_alone s = one_more (0 == s)
+
+puts_and_takes_too : ¬ PutsAlone net 0 (0 ∷ [])
+puts_and_takes_too puts = absurd (omega (arith, puts 0))
+
 one_unit_fewer : without 0 (2 ∷ 0 ∷ 1 ∷ 0 ∷ []) ≡ 2 ∷ 1 ∷ 0 ∷ []
 one_unit_fewer = refl
 
@@ -107,12 +147,91 @@ module _ (t u : TurnState) where
   found_some_number : ¬ TakesUnit net t 0 (Got (turn_with t.table t.task t.cause None (0 ∷ t.held) None None))
   found_some_number takes = takes.1
 
+-- CREDITS AND CLAIMS. The start of task 2 has a unit to credit, and that of task 3 one to claim.
+abbrev lender : StartUnits
+lender = record { back = []; to_credit = 0 ∷ []; credited = []; to_claim = []; refused = None }
+
+abbrev putter : StartUnits
+putter = record { back = []; to_credit = []; credited = []; to_claim = 0 ∷ []; refused = None }
+
+abbrev holder : StartUnits
+holder = record { back = 2 ∷ 0 ∷ []; to_credit = []; credited = []; to_claim = []; refused = None }
+
+lends_at_first : BeginsUnits net 2 lender
+lends_at_first = record { back = gives_back_none; to_credit = takes_without_putting; credited = refl; to_claim = λ s. none_claimed (0 == s); refused = refl }
+  where
+    none_claimed : (b : Bool) → 0 ≡ one_if (false && not (b || false))
+    none_claimed b = refl
+
+lends_no_more : ¬ BeginsUnits net 2 (credit_one 0 lender)
+lends_no_more begins = absurd (omega (arith, begins.to_credit 0))
+
+credits_first : ¬ HasCredited net 2 lender
+credits_first credits = let some : 0 ∷ [] ≡ [] = credits.none_left in absurd (cc)
+
+has_credited : HasCredited net 2 (credit_one 0 lender)
+has_credited = record { none_left = refl; all = takes_without_putting }
+
+nothing_credited : ¬ HasCredited net 2 (record { back = []; to_credit = []; credited = []; to_claim = []; refused = None })
+nothing_credited credits = absurd (omega (arith, credits.all 0))
+
+claims_first : ¬ HasClaimed net 3 putter
+claims_first claims = let some : 0 ∷ [] ≡ [] = claims.none_left in absurd (cc)
+
+has_claimed : HasClaimed net 3 (grant_one 0 putter)
+has_claimed = record { none_left = refl; not_refused = refl; all = puts_one }
+
+refused_has_not : ¬ HasClaimed net 3 (refuse_one 0 putter)
+refused_has_not claims = absurd (omega (arith, claims.all 0))
+
+never_alone : (b : Bool) → 0 ≡ one_if (b && not b)
+never_alone true = refl
+never_alone false = refl
+
+has_all : HasAllUnits net 0 (2 ∷ 0 ∷ []) holder
+has_all = record {
+  back = refl;
+  credited = record { none_left = refl; all = λ s. never_alone (takes net s 0) };
+  claimed = record { none_left = refl; not_refused = refl; all = one_of_each };
+}
+
+lender_has_not : (held : List ℕ) → ¬ HasAllUnits net 2 held lender
+lender_has_not held units = credits_first units.credited
+
+module _ (r q : RunningState) where
+  granted_above_the_first : ClaimsUnit net 9 r 0 (Granted (running_state r.table r.task r.cause r.place (grant_one 0 r.units) (Some 1099511627777)))
+  granted_above_the_first = (refl, omega arith)
+
+  none_granted_at_the_first : ¬ ClaimsUnit net 9 r 0 (Granted (running_state r.table r.task r.cause r.place (grant_one 0 r.units) (Some 1099511627776)))
+  none_granted_at_the_first claims = absurd (omega (arith, claims.1))
+
+  granted_is_put_back : ClaimsUnit net 9 r 0 (Granted q) → q.units ≡ grant_one 0 r.units
+  granted_is_put_back claims = ap (λ (s : RunningState). s.units) claims.0
+
+  refused_is_not_put_back : ClaimsUnit net 9 r 0 (Refused q) → q ≡ with_units r (refuse_one 0 r.units) q
+  refused_is_not_put_back claims = claims.0
+
+  none_refused_above_the_first : ¬ ClaimsUnit net 9 r 0 (Refused (running_state r.table r.task r.cause r.place (refuse_one 0 r.units) (Some 1099511627777)))
+  none_refused_above_the_first claims = absurd (omega (arith, claims.1))
+
+  refused_allows_it : ClaimsUnit net 9 r 0 (Refused q) → AllowsOver net 9 0 r.place r.task
+  refused_allows_it claims = claims.2
+
+no_over_release_of_a_taker : ¬ AllowsOver net 9 0 4 2
+no_over_release_of_a_taker allows = let no : false ≡ true = allows.over.0 in absurd (cc)
+
 -- WHAT BECOMES OF A RELEASE
-reasons_of_the_task : TellsNoUnit (Long 9) × TellsNoUnit (Wide 9) × TellsNoUnit (Unmet 9) × TellsNoUnit Inner
+reasons_of_the_task : MayTell (Long 9) None × MayTell (Wide 9) None × MayTell (Unmet 9) None × MayTell Inner None
 reasons_of_the_task = (tt, tt, tt, tt)
 
-unit_that_is_told : ¬ TellsNoUnit (OverRelease 0)
-unit_that_is_told no_unit = no_unit
+refused_claim_is_told : MayTell (OverRelease 0) (Some 0)
+refused_claim_is_told = refl
+
+unit_that_was_not_refused : ¬ MayTell (OverRelease 0) None
+unit_that_was_not_refused may = let no : None ≡ Some 0 = may in absurd (cc)
+
+another_unit_was_refused : ¬ MayTell (OverRelease 0) (Some 1)
+another_unit_was_refused may = let no : Some 1 ≡ Some 0 = may in absurd (cc)
 
 abbrev failure : Failure
 failure = record { task = 3; cause = Strong; start = 4; place = 6; why = Inner }
@@ -123,26 +242,26 @@ dropping = record { task = 3; cause = Strong; place = 6; why = Limit }
 abbrev ending : Run
 ending = record { task = 3; cause = Strong; start = 4; place = 6; gives = []; inner = false }
 
-module _ (n : TableId) where
-  its_start_faulted : FaultsAs (running_state n 3 Strong 4 []) Inner (Faulted failure)
+module _ (n : TableId) (u : StartUnits) where
+  its_start_faulted : FaultsAs (running_state n 3 Strong 4 u None) Inner (Faulted failure)
   its_start_faulted = (refl, refl, refl, refl)
 
-  another_task_faulted : ¬ FaultsAs (running_state n 2 Strong 4 []) Inner (Faulted failure)
+  another_task_faulted : ¬ FaultsAs (running_state n 2 Strong 4 u None) Inner (Faulted failure)
   another_task_faulted faults = absurd (omega (arith, faults.0))
 
-  another_cause_faulted : ¬ FaultsAs (running_state n 3 Source 4 []) Inner (Faulted failure)
+  another_cause_faulted : ¬ FaultsAs (running_state n 3 Source 4 u None) Inner (Faulted failure)
   another_cause_faulted faults = let no : Strong ≡ Source = faults.1 in absurd (cc)
 
-  another_start_faulted : ¬ FaultsAs (running_state n 3 Strong 5 []) Inner (Faulted failure)
+  another_start_faulted : ¬ FaultsAs (running_state n 3 Strong 5 u None) Inner (Faulted failure)
   another_start_faulted faults = absurd (omega (arith, faults.2))
 
-  fault_of_another_reason : ¬ FaultsAs (running_state n 3 Strong 4 []) (Long 9) (Faulted failure)
+  fault_of_another_reason : ¬ FaultsAs (running_state n 3 Strong 4 u None) (Long 9) (Faulted failure)
   fault_of_another_reason faults = let no : Inner ≡ Long 9 = faults.3 in absurd (cc)
 
-  end_is_no_fault : ¬ FaultsAs (running_state n 3 Strong 4 []) Inner (Ended ending)
+  end_is_no_fault : ¬ FaultsAs (running_state n 3 Strong 4 u None) Inner (Ended ending)
   end_is_no_fault faults = faults
 
-  drop_is_no_fault : ¬ FaultsAs (running_state n 3 Strong 4 []) Inner (Dropped dropping)
+  drop_is_no_fault : ¬ FaultsAs (running_state n 3 Strong 4 u None) Inner (Dropped dropping)
   drop_is_no_fault faults = faults
 
   it_was_dropped : DropsAs (turn_state n 3 Strong None) Limit (Dropped dropping)

@@ -11,7 +11,8 @@ use Rattle.task_graph.specs.Net.{is_weak, strong_in, weak_in, IsSource}
 use Rattle.pitfall_check.specs.declared.finding.Finding.{Finding}
 use Rattle.pitfall_check.specs.declared.finding.Finding.TheVariants.{NoSource, Mixed, ManyConditions, StrongCycle, NeverReached}
 use Rattle.pitfall_check.specs.Walks.{IsWalk, IsReachable, IsOnStrongCycle}
-use Rattle.pitfall_check.specs.Pitfalls.{BeginsWithoutTokens, edge_from, IsWithoutSource, IsMixed, HasManyConditions, IsNeverReached, IsPitfall}
+use Rattle.pitfall_check.specs.Sources.{IsWithoutSource}
+use Rattle.pitfall_check.specs.Pitfalls.{BeginsWithoutTokens, edge_from, IsMixed, HasManyConditions, IsNeverReached, IsPitfall}
 use Rattle.pitfall_check.specs.Findings.{finding_kind, finding_task, finding_key, AreFindings}
 
 abbrev row : Shape → TaskRow

@@ -3,7 +3,7 @@ use Rattle.std.specs.Prelude.{◌≡◌, ◌↔◌, ℕ, List, [], ◌∷◌, �
 use Rattle.atomic_table.specs.Seated.{TableId}
 use Rattle.journal_rules.specs.declared.entry.Cause.{Cause}
 use Rattle.journal_rules.specs.declared.entry.Cause.TheVariants.{Strong}
-use Rattle.join_tables.specs.declared.view.Note.{Note}
+use Rattle.table_steps.specs.declared.view.Note.{Note}
 use Rattle.join_tables.specs.declared.calls.Step.{Step}
 use Rattle.join_tables.specs.declared.calls.Step.TheVariants.{NoneLeft, Taken}
 use Rattle.join_tables.specs.States.{fresh_state}

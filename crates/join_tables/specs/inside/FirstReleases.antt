@@ -7,14 +7,15 @@ use Rattle.atomic_table.specs.Seated.{TableId}
 use Rattle.journal_rules.specs.declared.entry.Cause.{Cause}
 use Rattle.join_tables.specs.declared.releases.Release.{Release}
 use Rattle.join_tables.specs.States.{FreshState, fresh_state}
-use Rattle.join_tables.specs.declared.view.Mark.TheVariants.{Live}
-use Rattle.join_tables.specs.declared.view.Note.{Note}
-use Rattle.join_tables.specs.declared.view.Note.TheVariants.{Duty, Has}
-use Rattle.join_tables.specs.declared.view.Item.{Item}
-use Rattle.join_tables.specs.declared.view.Item.TheVariants.{Fresh}
-use Rattle.join_tables.specs.inside.Opening.{bare, is_empty, source_items, full_items}
+use Rattle.table_steps.specs.declared.view.Mark.TheVariants.{Live}
+use Rattle.table_steps.specs.declared.view.Note.{Note}
+use Rattle.table_steps.specs.declared.view.Note.TheVariants.{Duty, Has}
+use Rattle.table_steps.specs.declared.view.Item.{Item}
+use Rattle.table_steps.specs.declared.view.Item.TheVariants.{Fresh}
+use Rattle.table_steps.specs.inside.Opening.{bare, is_empty, source_items, full_items}
 use Rattle.journal_rules.specs.SemaphoreRule.{max_of}
-use Rattle.join_tables.specs.inside.Accounts.{mark, busy, resting, weigh, edges_from, first_credit}
+use Rattle.table_steps.specs.inside.Accounts.{mark, busy, resting, weigh, edges_from}
+use Rattle.table_steps.specs.Credits.{first_credit}
 
 -- whether a task has strong in-edges, and all of them begin with a token
 abbrev pub is_full : List ℕ → ℕ → Bool

@@ -1,8 +1,8 @@
 -- What a keeper's seat knows: the newest entry first.
 use Rattle.std.specs.Prelude.{List, [], ◌∷◌}
-use Rattle.join_tables.specs.declared.view.Item.TheVariants.{Told}
-use Rattle.join_tables.specs.declared.view.Note.{Note}
-use Rattle.join_tables.specs.declared.view.Note.TheVariants.{Duty}
+use Rattle.table_steps.specs.declared.view.Item.TheVariants.{Told}
+use Rattle.table_steps.specs.declared.view.Note.{Note}
+use Rattle.table_steps.specs.declared.view.Note.TheVariants.{Duty}
 use Rattle.join_tables.specs.declared.keeper.Recorded.{Recorded}
 
 abbrev pub told_after : List Note → List Recorded → List Note

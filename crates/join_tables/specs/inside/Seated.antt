@@ -4,16 +4,18 @@ use Rattle.journal_rules.specs.declared.entry.Cause.{Cause}
 use Rattle.journal_rules.specs.declared.entry.DropWhy.{DropWhy}
 use Rattle.journal_rules.specs.declared.entry.DropWhy.TheVariants.{Limit, Halted as AfterFault}
 use Rattle.journal_rules.specs.declared.entry.Entry.TheVariants.{Start, End}
-use Rattle.join_tables.specs.declared.view.Item.TheVariants.{Told, Fresh, Collecting, Ticket, Open, Owes}
-use Rattle.join_tables.specs.declared.view.Mark.TheVariants.{Live, New, Over, Halted}
-use Rattle.join_tables.specs.declared.view.Note.{Note}
-use Rattle.join_tables.specs.declared.view.Kind.TheVariants.{Held, Both, Owed}
-use Rattle.join_tables.specs.declared.view.Note.TheVariants.{Duty, Sems, Has}
+use Rattle.table_steps.specs.declared.view.Item.TheVariants.{Told, Fresh, Collecting, Ticket, Open, Owes}
+use Rattle.table_steps.specs.declared.view.Mark.TheVariants.{Live, New, Over, Halted}
+use Rattle.table_steps.specs.declared.view.Note.{Note}
+use Rattle.table_steps.specs.declared.view.Kind.TheVariants.{Held, Owed, Both, Credit, Credited, Claim, Granted, Denied}
+use Rattle.table_steps.specs.declared.view.Note.TheVariants.{Duty, Sems, Has, Unfit}
 use Rattle.join_tables.specs.declared.turns.Run.{Run}
 use Rattle.join_tables.specs.declared.outcomes.Outcome.{Outcome}
-use Rattle.join_tables.specs.inside.Kinds.{IsTurn}
-use Rattle.join_tables.specs.inside.Accounts.{busy, weigh}
-use Rattle.join_tables.specs.inside.UnitKinds.{held_notes}
+use Rattle.table_steps.specs.inside.Kinds.{IsTurn, sems_notes, own_units, credits_due, claims_due}
+use Rattle.task_graph.specs.NetRows.{NetRows}
+use Rattle.join_tables.specs.States.{StartUnits}
+use Rattle.table_steps.specs.inside.Accounts.{busy, weigh}
+use Rattle.table_steps.specs.inside.UnitKinds.{held_notes}
 use Rattle.join_tables.specs.inside.Recording.{tellings, told_notes}
 use Rattle.join_tables.specs.Keeping.{entries_of}
 
@@ -62,12 +64,41 @@ held_of _ = []
 abbrev pub ticket_view : ℕ → Cause → List ℕ → List ℕ → List Note
 ticket_view t cause taken held = Duty (Collecting t cause taken []) ∷ Duty Ticket ∷ Has Live ∷ held_notes held
 
-abbrev pub running_view : ℕ → Cause → ℕ → List ℕ → List Note
-running_view t cause place units = Duty (Open place t) ∷ Has Live ∷ Sems Both units ∷ Duty (Told place (Start t cause [])) ∷ []
+-- the semaphores of a start, by their notes
+pub record Shares : Type 0 where
+  pub both : List ℕ
+  pub credit : List ℕ
+  pub credited : List ℕ
+  pub claim : List ℕ
+  pub granted : List ℕ
+  pub refused : Option ℕ
 
--- the semaphores of the units that a start's end gives back, or an end has to
+-- what a start knows of a claim that was refused
+abbrev pub refused_notes : ℕ → ℕ → Option ℕ → List Note
+refused_notes place t None = []
+refused_notes place t (Some a) = Sems Denied (a ∷ []) ∷ Unfit a place t ∷ []
+
+abbrev pub running_view : ℕ → Cause → ℕ → Shares → List Note
+running_view t cause place s = Duty (Open place t) ∷ Has Live ∷ sems_notes s.both s.credit s.credited s.claim s.granted ++ refused_notes place t s.refused ++ Duty (Told place (Start t cause [])) ∷ []
+
+abbrev pub refused_of : List Note → Option ℕ
+refused_of (Sems Denied (a ∷ l) ∷ rest) = Some a
+refused_of _ = None
+
+abbrev pub shares_of : List Note → Shares
+shares_of (x ∷ y ∷ Sems Both b ∷ Sems Credit c ∷ Sems Credited d ∷ Sems Claim l ∷ Sems Granted g ∷ rest) = record { both = b; credit = c; credited = d; claim = l; granted = g; refused = refused_of rest }
+shares_of _ = record { both = []; credit = []; credited = []; claim = []; granted = []; refused = None }
+
+-- and as contracts see them
+abbrev pub units_in : Shares → StartUnits
+units_in s = record { back = s.granted ++ s.both; to_credit = s.credit; credited = s.credited; to_claim = s.claim; refused = s.refused }
+
+-- at first
+abbrev pub first_shares : NetRows → ℕ → List ℕ → Shares
+first_shares net t held = record { both = own_units net t held; credit = credits_due net t held; credited = []; claim = claims_due net t; granted = []; refused = None }
+
+-- the semaphores of the units that an end has still to give back
 abbrev pub units_of : List Note → List ℕ
-units_of (x ∷ y ∷ Sems Both l ∷ rest) = l
 units_of (x ∷ y ∷ Sems Owed l ∷ rest) = l
 units_of _ = []
 

@@ -1,6 +1,13 @@
-use Rattle.std.proofs.Common.{◌≡◌, inl, inr, sym, ◌∙◌, arith}
+use Rattle.std.proofs.Common.{rules, ◌≡◌, inl, inr, sym, ◌∙◌, arith}
 use Rattle.call_status.specs.declared.status.Status.TheVariants.{WriteFault, NoMemory}
+use Rattle.std.specs.Prelude.{All, map, take}
+use Rattle.std.specs.String.{string_bytes}
+use Rattle.run_frame.specs.NestedRule.{job_of}
+use Rattle.text_tasks.specs.JobMeaning.{IsTextJob}
+use Rattle.call_status.specs.Notes.{NamesStatus}
+use Rattle.flow_run.specs.Answers.{names_in}
 use Rattle.flow_run.proofs.Completing.{completes, judges, checks}
+use Rattle.flow_run.proofs.Naming.{status_named}
 use Rattle.flow_run.proofs.call.flow_main.Goals as goal
 
 pub returns-clause-completes : goal.returns-clause-completes
@@ -32,3 +39,11 @@ returns-clause-checks g c = λ can no_read_fault no_write_fault.
       | inl rises ↦ absurd (omega (arith, rises, no_write_fault))
       | inr memory ↦ absurd (let never : WriteFault ≡ NoMemory = sym same ∙ memory in cc)
     ])
+
+pub put_note-noted-requires-clause-named : goal.put_note-noted-requires-clause-named
+put_note-noted-requires-clause-named g c =
+    let did = c.answer-status.ensures in
+    let runs = c.answer-status.result.runs in
+    let jobs : All (λ run. IsTextJob (job_of run)) (take 1 runs) = search rules in
+    let named : NamesStatus (names_in runs) c.answer-status.result.status = status_named (g.F.Texts.held c.args.texts.now) (map string_bytes c.args.words.now) c.answer-status.result.status runs _ did.ends jobs in
+    search (rules, named)

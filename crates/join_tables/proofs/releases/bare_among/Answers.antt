@@ -1,5 +1,5 @@
 use Rattle.std.proofs.Common.{◌≡◌, not, ◌∙◌, arith}
-use Rattle.join_tables.specs.Giving.{one_if}
+use Rattle.table_steps.specs.Giving.{one_if}
 use Rattle.join_tables.proofs.Releasing.{bare_more, bit, byte_one}
 use Rattle.join_tables.proofs.releases.bare_among.Goals as goal
 

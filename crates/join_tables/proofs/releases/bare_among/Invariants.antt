@@ -1,5 +1,5 @@
 use Rattle.std.proofs.Common.{◌≡◌, ◌≤◌, take}
-use Rattle.join_tables.specs.inside.Opening.{bare}
+use Rattle.table_steps.specs.inside.Opening.{bare}
 use Rattle.join_tables.proofs.releases.bare_among.Given as goal
 
 abbrev pub invariant-loop-edge : goal.invariant-loop-edge

@@ -1,7 +1,7 @@
 use Rattle.std.proofs.Common.{rules, ◌≡◌, ◌+◌, ◌≤◌, ℕ, List, length, subst}
 use Rattle.std.specs.Prelude.{slice_index}
 use Rattle.task_graph.specs.Net.{IsNet}
-use Rattle.join_tables.specs.inside.Accounts.{edges_from}
+use Rattle.table_steps.specs.inside.Accounts.{edges_from}
 use Rattle.join_tables.proofs.releases.opening_words.Goals as goal
 
 pub returns : goal.returns

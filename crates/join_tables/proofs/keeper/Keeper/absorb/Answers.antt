@@ -2,7 +2,7 @@ use Rattle.std.proofs.Common.{rules, ◌≡◌, ◌++◌, sym, ap, ◌∙◌, su
 use Rattle.outside_io.specs.declared.list.NoMemory.{NoMemory}
 use Rattle.join_tables.specs.States.{TableState}
 use Rattle.join_tables.specs.Keeping.{TellsRun, entries_of}
-use Rattle.join_tables.specs.inside.Accounts.{busy, weigh}
+use Rattle.table_steps.specs.inside.Accounts.{busy, weigh}
 use Rattle.join_tables.specs.inside.Recording.{tellings, told_notes}
 use Rattle.join_tables.proofs.Recordings.{may_leave, told_more, idle_still, tells_run, found_one}
 use Rattle.join_tables.proofs.keeper.Keeper.absorb.Goals as goal

@@ -3,8 +3,8 @@ use Rattle.std.specs.Prelude.{slice_get}
 use Rattle.std.specs.Arc.{arc_value}
 use Rattle.task_graph.specs.NetRows.{NetRows}
 use Rattle.journal_rules.specs.DataRule.{edges_of}
-use Rattle.join_tables.specs.inside.Accounts.{AllFitNotes}
-use Rattle.join_tables.specs.inside.Kinds.{TakesNext, took, CountsNext, AreNoneLeft, settled}
+use Rattle.table_steps.specs.inside.Accounts.{AllFitNotes}
+use Rattle.table_steps.specs.inside.Kinds.{TakesNext, took, CountsNext, AreNoneLeft, settled}
 use Rattle.journal_rules.specs.declared.entry.Cause.TheVariants.{Strong}
 use Rattle.join_tables.specs.inside.Seated.{collecting_view, taken_in, left_in}
 use Rattle.join_tables.proofs.CollectNext.{next_edge, none_next, last_next, place_few, takes_next, counts_again, settled_view, collects_none, collects_edge}

@@ -1,10 +1,10 @@
 use Rattle.std.proofs.Common.{rules, ◌≡◌, IfSome, sym, ◌∙◌, subst}
 use Rattle.std.specs.Arc.{arc_value}
 use Rattle.task_graph.specs.NetRows.{NetRows}
-use Rattle.join_tables.specs.inside.Accounts.{AllFitNotes}
+use Rattle.table_steps.specs.inside.Accounts.{AllFitNotes}
 use Rattle.join_tables.specs.States.{FreshState, fresh_state}
 use Rattle.join_tables.specs.Turns.{cause_of}
-use Rattle.join_tables.specs.inside.Kinds.{CountsNext, gave}
+use Rattle.table_steps.specs.inside.Kinds.{CountsNext, gave}
 use Rattle.join_tables.proofs.Turning.{gave_counts, owes_next}
 use Rattle.join_tables.proofs.turns.NetTable.give_edge.Goals as goal
 

@@ -1,6 +1,6 @@
 use Rattle.std.proofs.Common.{rules, ◌≡◌, length}
 use Rattle.std.specs.Arc.{arc_value}
-use Rattle.join_tables.specs.inside.Opening.{first_items}
+use Rattle.table_steps.specs.inside.Opening.{first_items}
 use Rattle.join_tables.specs.inside.FirstReleases.{items_of, states_of, AreOpeningWords}
 use Rattle.join_tables.proofs.FirstStep.{begins_table, live_is, all_of_table}
 use Rattle.join_tables.proofs.FirstFresh.{is_first_fresh, nothing_runs}

@@ -1,7 +1,7 @@
 use Rattle.std.proofs.Common.{rules, ◌≡◌, ◌≤◌, None, subst, sym, ap, ◌∙◌}
 use Rattle.join_tables.specs.States.{TurnState, turn_with}
-use Rattle.join_tables.specs.Giving.{times}
-use Rattle.join_tables.specs.Holding.{without}
+use Rattle.table_steps.specs.Giving.{times}
+use Rattle.table_steps.specs.Holding.{without}
 use Rattle.join_tables.specs.inside.Seated.{held_of}
 use Rattle.join_tables.proofs.TurnViews.{put_reads}
 use Rattle.join_tables.proofs.turns.NetTable.put_unit.Goals as goal

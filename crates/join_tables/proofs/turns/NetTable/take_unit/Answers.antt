@@ -5,7 +5,7 @@ use Rattle.std.proofs.lemmas.Bool.Decides.{nat_tests}
 use Rattle.journal_rules.specs.SemaphoreRule.{max_of}
 use Rattle.join_tables.specs.States.{TurnState, turn_with}
 use Rattle.join_tables.specs.inside.Seated.{turn_view, taken_in, refusal_of, held_of}
-use Rattle.join_tables.specs.inside.UnitKinds.{undone}
+use Rattle.table_steps.specs.inside.UnitKinds.{undone}
 use Rattle.join_tables.proofs.TurnViews.{got_reads, undo_same}
 use Rattle.join_tables.proofs.turns.NetTable.take_unit.Goals as goal
 

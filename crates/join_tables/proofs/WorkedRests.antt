@@ -1,0 +1,108 @@
+-- What contracts of rests say, line by line, computed on small rests.
+use Rattle.std.proofs.Common.{◌≡◌, ℕ, true, false, List, [], ◌∷◌, length, Some, None, refl, ap, arith}
+use Rattle.std.proofs.lemmas.Bool.{false≢true}
+use Rattle.task_graph.specs.declared.net.Shape.TheVariants.{Plain}
+use Rattle.task_graph.specs.NetRows.{NetRows}
+use Rattle.atomic_table.specs.Seated.{TableId}
+use Rattle.journal_rules.specs.declared.entry.Cause.TheVariants.{Source}
+use Rattle.journal_rules.specs.declared.entry.DropWhy.TheVariants.{Stuck, Limit, Halted as AfterFault}
+use Rattle.journal_rules.specs.declared.entry.Entry.TheVariants.{Drop}
+use Rattle.join_tables.specs.declared.outcomes.Dropping.{Dropping}
+use Rattle.join_tables.specs.declared.outcomes.Outcome.TheVariants.{Dropped}
+use Rattle.join_tables.specs.declared.rests.Parked.{Parked}
+use Rattle.join_tables.specs.declared.rests.Checked.TheVariants.{Busy, Alone}
+use Rattle.join_tables.specs.declared.rests.UnitLook.TheVariants.{NoUnit, HasUnit}
+use Rattle.join_tables.specs.declared.rests.RestDrop.TheVariants.{More}
+use Rattle.join_tables.specs.States.{turn_with}
+use Rattle.join_tables.specs.Keeping.{entries_of, drop_of}
+use Rattle.join_tables.specs.RestStates.{RestState, rest_with, parked_as}
+use Rattle.join_tables.specs.Rests.{IsOfTable, HandsOut, ChecksRest, LooksForUnit, LastTakes, MayDropOf, DropsLast, IsOfDrops, DropsOf}
+
+-- Task 0 takes semaphore 0, which has two units, and task 1 takes none.
+abbrev net : NetRows
+net = record {
+  tasks = record { shape = Plain; takes = 0 ∷ []; puts = [] } ∷ record { shape = Plain; takes = []; puts = [] } ∷ [];
+  edges = [];
+  sems = 2 ∷ [];
+}
+
+-- a turn of task 1 was parked, and then one of task 0
+abbrev two : List Parked
+two = parked_as 1 Source ∷ parked_as 0 Source ∷ []
+
+abbrev resting : TableId → RestState
+resting n = rest_with (Some n) 4 two [] None [] None None
+
+abbrev stuck : ℕ → ℕ → Dropping
+stuck task place = record { task = task; cause = Source; place = place; why = Stuck 0 }
+
+-- TABLES
+no_turn_is_of_each_table : (n : TableId) → IsOfTable n None
+no_turn_is_of_each_table n = tt
+
+turns_are_of_their_table : (n : TableId) → IsOfTable n (resting n).table
+turns_are_of_their_table n = refl
+
+-- CHECKS
+busy_where_three_are_live : (n : TableId) → ChecksRest n (resting n) (Busy (rest_with (Some n) 4 two [] None [] None (Some 3)) 3)
+busy_where_three_are_live n = (refl, λ is. omega (arith, is))
+
+not_busy_where_two_are_live : (n : TableId) (s : RestState) → ChecksRest n (resting n) (Busy s 2) → ⊥
+not_busy_where_two_are_live n s checks = checks.1 refl
+
+alone_where_two_are_live : (n : TableId) → ChecksRest n (resting n) (Alone (rest_with (Some n) 4 two [] (Some true) [] (Some 1) (Some 2)) true)
+alone_where_two_are_live n = (refl, (λ is none. omega (arith, none), λ is. refl))
+
+no_fault_without_a_mark : (n : TableId) → ChecksRest n (resting n) (Alone (rest_with (Some n) 4 two [] (Some true) [] (Some 0) (Some 2)) true) → ⊥
+no_fault_without_a_mark n checks = checks.1.0 refl refl
+
+-- UNITS
+no_unit_from_two_on : (n : TableId) → LooksForUnit net n (resting n) 0 (NoUnit (rest_with (Some n) 4 two [] None (0 ∷ []) None (Some 2)))
+no_unit_from_two_on n = (refl, omega arith)
+
+a_unit_below_two : (n : TableId) → LooksForUnit net n (resting n) 0 (HasUnit (rest_with (Some n) 4 two [] None [] None (Some 1)))
+a_unit_below_two n = (refl, omega arith)
+
+no_refusal_below_two : (n : TableId) → LooksForUnit net n (resting n) 0 (NoUnit (rest_with (Some n) 4 two [] None (0 ∷ []) None (Some 1))) → ⊥
+no_refusal_below_two n looks = omega (arith, looks.1)
+
+-- TURNS HANDED OUT
+last_is_handed_out : (n : TableId) → HandsOut n (resting n) (rest_with (Some n) 4 (parked_as 1 Source ∷ []) [] None [] None None) (turn_with n 0 Source None [] None None)
+last_is_handed_out n = record { turns = refl; is = refl; left = refl; table = refl }
+
+-- DROPS
+last_turn_takes_it : LastTakes net 0 two
+last_turn_takes_it = refl
+
+first_turn_takes_none : LastTakes net 0 (parked_as 1 Source ∷ []) → ⊥
+first_turn_takes_none takes = absurd (false≢true takes)
+
+dropped_after_a_fault : (n : TableId) → MayDropOf net (rest_with (Some n) 4 two [] (Some true) [] None None) AfterFault
+dropped_after_a_fault n = refl
+
+dropped_where_none_comes_back : (n : TableId) → MayDropOf net (rest_with (Some n) 4 two [] (Some false) (0 ∷ []) None None) (Stuck 0)
+dropped_where_none_comes_back n = (refl, omega arith, refl)
+
+not_dropped_before_it_looked : (n : TableId) → MayDropOf net (rest_with (Some n) 4 two [] (Some false) [] None None) (Stuck 0) → ⊥
+not_dropped_before_it_looked n may = omega (arith, may.1)
+
+no_rest_is_dropped_at_the_limit : (r : RestState) → MayDropOf net r Limit → ⊥
+no_rest_is_dropped_at_the_limit r may = may
+
+last_is_dropped_first : (n : TableId) → DropsLast (rest_with (Some n) 4 two [] (Some false) (0 ∷ []) None None) (Stuck 0) (parked_as 1 Source ∷ []) (stuck 0 7 ∷ [])
+last_is_dropped_first n = record { last = parked_as 0 Source; place = 7; turns_are = refl; dropped_are = refl }
+
+more_where_one_is_left : (n : TableId) → DropsOf n (rest_with (Some n) 4 two [] (Some false) (0 ∷ []) None None) (Stuck 0) (More (rest_with (Some n) 4 (parked_as 1 Source ∷ []) (stuck 0 7 ∷ []) (Some false) (0 ∷ []) None None))
+more_where_one_is_left n = (refl, record { last = parked_as 0 Source; place = 7; turns_are = refl; dropped_are = refl }, λ is. omega (arith, ap length is))
+
+no_more_where_none_is_left : (n : TableId) (r s : RestState) → s.turns ≡ [] → DropsOf n r AfterFault (More s) → ⊥
+no_more_where_none_is_left n r s none drops = drops.2 none
+
+one_drop_is_of_no_rest : (d : Dropping) → IsOfDrops (Dropped d) (λ drops. Unit {0}) → ⊥
+one_drop_is_of_no_rest d is = is
+
+entry_of_a_drop : entries_of (Dropped (stuck 0 7)) ≡ drop_of (stuck 0 7) ∷ []
+entry_of_a_drop = refl
+
+drop_at_its_place : drop_of (stuck 0 7) ≡ record { place = 7; entry = Drop 0 Source (Stuck 0) }
+drop_at_its_place = refl

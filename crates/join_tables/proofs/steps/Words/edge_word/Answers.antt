@@ -1,5 +1,0 @@
-use Rattle.std.proofs.Common.{arith}
-use Rattle.join_tables.proofs.steps.Words.edge_word.Goals as goal
-
-pub overflow_add-result : goal.overflow_add-result
-overflow_add-result c = omega (arith, c.first_edge.ensures.place, c.first_edge.ensures.few, c.ranges.edge)

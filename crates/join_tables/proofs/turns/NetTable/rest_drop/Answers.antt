@@ -1,0 +1,85 @@
+use Rattle.std.proofs.Common.{rules, ◌≡◌, ◌≢◌, ◌∷◌, ◌++◌, Some, None, sym, ap, ◌∙◌, subst, map, reverse}
+use Rattle.std.specs.Prelude.{[]}
+use Rattle.std.specs.Option.{option_map_or}
+use Rattle.std.specs.Arc.{arc_value}
+use Rattle.join_tables.specs.States.{TableState}
+use Rattle.join_tables.specs.Keeping.{drop_of}
+use Rattle.join_tables.specs.declared.outcomes.Outcome.TheVariants.{AllDropped}
+use Rattle.join_tables.specs.RestStates.{RestState, rest_with}
+use Rattle.join_tables.specs.Rests.{MayDropOf}
+use Rattle.table_steps.specs.inside.Kinds.{left_by}
+use Rattle.join_tables.specs.inside.Seated.{IsSpent}
+use Rattle.table_steps.specs.inside.RestKinds.{MayThin, last_dropped}
+use Rattle.join_tables.specs.inside.Resting.{alone_in, full_in, IsRestView}
+use Rattle.join_tables.proofs.RestViews.{held_in}
+use Rattle.join_tables.proofs.RestDrops.{drops_one, may_drop_as}
+use Rattle.join_tables.proofs.turns.NetTable.rest_drop.Goals as goal
+
+pub draw_last_drop-place-requires-clause-ready : goal.draw_last_drop-place-requires-clause-ready
+draw_last_drop-place-requires-clause-ready c =
+    let drops = c.rest.inside.drops.items in let v = c.in-Some.seat.me.0 in let left = c.pop.new.self.items in let p = c.in-Some-pop.field-0 in let net = arc_value c.self.inside.words.net in
+    let holds = held_in _ c.rest.inside.seat c.in-Some.seat c.rest.invariant.0 c.in-Some.is in
+    let may : MayDropOf net c.args.rest c.args.why = subst (λ (t : TableState). MayDropOf t.net c.args.rest c.args.why) (sym c.self.view_is) c.requires.why in
+    let alone : c.args.rest.alone ≡ alone_in v = sym (ap (λ (r : RestState). r.alone) c.rest.view_is) ∙ ap (λ o. alone_in (option_map_or (λ s. s.me.0) o [])) c.in-Some.is in
+    let full : c.args.rest.full ≡ full_in v = sym (ap (λ (r : RestState). r.full) c.rest.view_is) ∙ ap (λ o. full_in (option_map_or (λ s. s.me.0) o [])) c.in-Some.is in
+    let turns : c.args.rest.turns ≡ left ++ p ∷ [] = sym (ap (λ (r : RestState). r.turns) c.rest.view_is) ∙ c.in-Some-pop.ensures.items in
+    let one = drops_one net c.args.why c.rest.inside.turns.items p left drops v holds.0 c.in-Some-pop.ensures.items (may_drop_as net c.args.rest c.args.why (alone_in v) (full_in v) left p may alone full turns) in
+    one.may
+
+pub invariant_of-result : goal.invariant_of-result
+invariant_of-result c =
+    let drops = c.rest.inside.drops.items in let v = c.in-Some.seat.me.0 in let left = c.pop.new.self.items in let p = c.in-Some-pop.field-0 in let net = arc_value c.self.inside.words.net in
+    let holds = held_in _ c.rest.inside.seat c.in-Some.seat c.rest.invariant.0 c.in-Some.is in
+    let may : MayDropOf net c.args.rest c.args.why = subst (λ (t : TableState). MayDropOf t.net c.args.rest c.args.why) (sym c.self.view_is) c.requires.why in
+    let alone : c.args.rest.alone ≡ alone_in v = sym (ap (λ (r : RestState). r.alone) c.rest.view_is) ∙ ap (λ o. alone_in (option_map_or (λ s. s.me.0) o [])) c.in-Some.is in
+    let full : c.args.rest.full ≡ full_in v = sym (ap (λ (r : RestState). r.full) c.rest.view_is) ∙ ap (λ o. full_in (option_map_or (λ s. s.me.0) o [])) c.in-Some.is in
+    let turns : c.args.rest.turns ≡ left ++ p ∷ [] = sym (ap (λ (r : RestState). r.turns) c.rest.view_is) ∙ c.in-Some-pop.ensures.items in
+    let one = drops_one net c.args.why c.rest.inside.turns.items p left drops v holds.0 c.in-Some-pop.ensures.items (may_drop_as net c.args.rest c.args.why (alone_in v) (full_in v) left p may alone full turns) in
+    let none : left ≡ [] = search rules in
+    let entries = ap (λ ds. map drop_of (reverse ds)) c.push_reserved.ensures.items in
+    (subst (λ u. IsSpent (AllDropped c.push_reserved.new.self) u) (sym c.draw_last_drop-place.ensures.view.0) (one.spent c.draw_last_drop-place.result (AllDropped c.push_reserved.new.self) none entries), c.draw_last_drop-place.ensures.view.1 ∙ holds.1)
+
+pub thin-requires-clause-ready : goal.thin-requires-clause-ready
+thin-requires-clause-ready c =
+    let drops = c.rest.inside.drops.items in let v = c.in-Some.seat.me.0 in let left = c.pop.new.self.items in let p = c.in-Some-pop.field-0 in let net = arc_value c.self.inside.words.net in
+    let holds = held_in _ c.rest.inside.seat c.in-Some.seat c.rest.invariant.0 c.in-Some.is in
+    let may : MayDropOf net c.args.rest c.args.why = subst (λ (t : TableState). MayDropOf t.net c.args.rest c.args.why) (sym c.self.view_is) c.requires.why in
+    let alone : c.args.rest.alone ≡ alone_in v = sym (ap (λ (r : RestState). r.alone) c.rest.view_is) ∙ ap (λ o. alone_in (option_map_or (λ s. s.me.0) o [])) c.in-Some.is in
+    let full : c.args.rest.full ≡ full_in v = sym (ap (λ (r : RestState). r.full) c.rest.view_is) ∙ ap (λ o. full_in (option_map_or (λ s. s.me.0) o [])) c.in-Some.is in
+    let turns : c.args.rest.turns ≡ left ++ p ∷ [] = sym (ap (λ (r : RestState). r.turns) c.rest.view_is) ∙ c.in-Some-pop.ensures.items in
+    let one = drops_one net c.args.why c.rest.inside.turns.items p left drops v holds.0 c.in-Some-pop.ensures.items (may_drop_as net c.args.rest c.args.why (alone_in v) (full_in v) left p may alone full turns) in
+    let some_there : left ≢ [] = search rules in
+    subst MayThin (sym c.draw_last_drop-place.ensures.view.0) (one.thins c.draw_last_drop-place.result some_there)
+
+pub invariant_of-result-2 : goal.invariant_of-result-2
+invariant_of-result-2 c =
+    let drops = c.rest.inside.drops.items in let v = c.in-Some.seat.me.0 in let left = c.pop.new.self.items in let p = c.in-Some-pop.field-0 in let net = arc_value c.self.inside.words.net in
+    let holds = held_in _ c.rest.inside.seat c.in-Some.seat c.rest.invariant.0 c.in-Some.is in
+    let may : MayDropOf net c.args.rest c.args.why = subst (λ (t : TableState). MayDropOf t.net c.args.rest c.args.why) (sym c.self.view_is) c.requires.why in
+    let alone : c.args.rest.alone ≡ alone_in v = sym (ap (λ (r : RestState). r.alone) c.rest.view_is) ∙ ap (λ o. alone_in (option_map_or (λ s. s.me.0) o [])) c.in-Some.is in
+    let full : c.args.rest.full ≡ full_in v = sym (ap (λ (r : RestState). r.full) c.rest.view_is) ∙ ap (λ o. full_in (option_map_or (λ s. s.me.0) o [])) c.in-Some.is in
+    let turns : c.args.rest.turns ≡ left ++ p ∷ [] = sym (ap (λ (r : RestState). r.turns) c.rest.view_is) ∙ c.in-Some-pop.ensures.items in
+    let one = drops_one net c.args.why c.rest.inside.turns.items p left drops v holds.0 c.in-Some-pop.ensures.items (may_drop_as net c.args.rest c.args.why (alone_in v) (full_in v) left p may alone full turns) in
+    let some_there : left ≢ [] = search rules in
+    let view : c.thin.new.seat.me.0 ≡ left_by (last_dropped c.args.why c.draw_last_drop-place.result v) = c.thin.ensures.view.0 ∙ ap left_by c.draw_last_drop-place.ensures.view.0 in
+    let kept = subst (λ ds. IsRestView left ds (left_by (last_dropped c.args.why c.draw_last_drop-place.result v))) (sym c.push_reserved.ensures.items) (one.rest c.draw_last_drop-place.result) in
+    ((subst (λ u. IsRestView left c.push_reserved.new.self.items u) (sym view) kept, c.thin.ensures.view.1 ∙ c.draw_last_drop-place.ensures.view.1 ∙ holds.1, some_there), tt, search rules, search rules, search rules)
+
+pub returns : goal.returns
+returns c =
+    let drops = c.rest.inside.drops.items in let v = c.in-Some.seat.me.0 in let left = c.pop.new.self.items in let p = c.in-Some-pop.field-0 in let net = arc_value c.self.inside.words.net in
+    let holds = held_in _ c.rest.inside.seat c.in-Some.seat c.rest.invariant.0 c.in-Some.is in
+    let may : MayDropOf net c.args.rest c.args.why = subst (λ (t : TableState). MayDropOf t.net c.args.rest c.args.why) (sym c.self.view_is) c.requires.why in
+    let alone : c.args.rest.alone ≡ alone_in v = sym (ap (λ (r : RestState). r.alone) c.rest.view_is) ∙ ap (λ o. alone_in (option_map_or (λ s. s.me.0) o [])) c.in-Some.is in
+    let full : c.args.rest.full ≡ full_in v = sym (ap (λ (r : RestState). r.full) c.rest.view_is) ∙ ap (λ o. full_in (option_map_or (λ s. s.me.0) o [])) c.in-Some.is in
+    let turns : c.args.rest.turns ≡ left ++ p ∷ [] = sym (ap (λ (r : RestState). r.turns) c.rest.view_is) ∙ c.in-Some-pop.ensures.items in
+    let one = drops_one net c.args.why c.rest.inside.turns.items p left drops v holds.0 c.in-Some-pop.ensures.items (may_drop_as net c.args.rest c.args.why (alone_in v) (full_in v) left p may alone full turns) in
+    let some_there : left ≢ [] = search rules in
+    let view : c.thin.new.seat.me.0 ≡ left_by (last_dropped c.args.why c.draw_last_drop-place.result v) = c.thin.ensures.view.0 ∙ ap left_by c.draw_last_drop-place.ensures.view.0 in
+    let table : c.thin.new.seat.table_id ≡ c.args.self.now.table = search rules in
+    let alone_is : alone_in c.thin.new.seat.me.0 ≡ c.args.rest.alone = ap alone_in view ∙ one.alone c.draw_last_drop-place.result ∙ sym alone in
+    let full_is : full_in c.thin.new.seat.me.0 ≡ c.args.rest.full = ap full_in view ∙ one.full c.draw_last_drop-place.result ∙ sym full in (
+      λ i. rest_with (Some (table i)) (c.rest.view_is i).room left c.push_reserved.new.self.items (alone_is i) (full_is i) None None,
+      record { last = p; place = c.draw_last_drop-place.result; turns_are = turns; dropped_are = c.push_reserved.ensures.items ∙ ap (λ (r : RestState). r.dropped ++ record { task = p.task; cause = p.cause; place = c.draw_last_drop-place.result; why = c.args.why } ∷ []) c.rest.view_is },
+      some_there,
+    )

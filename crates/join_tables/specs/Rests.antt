@@ -1,0 +1,70 @@
+-- Rests, as contracts see them.
+use Rattle.std.specs.Prelude.{◌≡◌, ◌≢◌, ◌↔◌, ◌-◌, ℕ, ◌<◌, ◌≤◌, true, false, IsTrue, IsSomeAnd, Option, Some, None, List, [], ◌∷◌, ◌++◌, length, slice_get}
+use Rattle.task_graph.specs.NetRows.{NetRows}
+use Rattle.atomic_table.specs.Seated.{TableId}
+use Rattle.journal_rules.specs.declared.entry.DropWhy.{DropWhy}
+use Rattle.journal_rules.specs.declared.entry.DropWhy.TheVariants.{Stuck, Limit, Halted as AfterFault}
+use Rattle.journal_rules.specs.SemaphoreRule.{takes, max_of}
+use Rattle.table_steps.specs.Giving.{times}
+use Rattle.join_tables.specs.States.{TurnState, turn_with}
+use Rattle.join_tables.specs.RestStates.{RestState, rest_with, parked_as}
+use Rattle.join_tables.specs.declared.outcomes.Dropping.{Dropping}
+use Rattle.join_tables.specs.declared.outcomes.Outcome.{Outcome}
+use Rattle.join_tables.specs.declared.outcomes.Outcome.TheVariants.{AllDropped}
+use Rattle.join_tables.specs.declared.rests.Parked.{Parked}
+use Rattle.join_tables.specs.declared.rests.Checked.{Checked}
+use Rattle.join_tables.specs.declared.rests.Checked.TheVariants.{Busy, Alone}
+use Rattle.join_tables.specs.declared.rests.UnitLook.{UnitLook}
+use Rattle.join_tables.specs.declared.rests.UnitLook.TheVariants.{NoUnit, HasUnit}
+use Rattle.join_tables.specs.declared.rests.RestDrop.{RestDrop}
+use Rattle.join_tables.specs.declared.rests.RestDrop.TheVariants.{More, Last}
+
+-- the turns of a rest are of this table
+abbrev pub IsOfTable : TableId → Option TableId → Type 0
+IsOfTable n None = Unit {0}
+IsOfTable n (Some m) = m ≡ n
+
+-- A rest handed out its last turn, and isn't known to be alone.
+pub record HandsOut (n : TableId) (r s : RestState) (turn : TurnState) : Type 0 where
+  pub turns : r.turns ≡ s.turns ++ parked_as turn.task turn.cause ∷ []
+  pub is : turn ≡ turn_with n turn.task turn.cause None [] None None
+  pub left : s ≡ rest_with s.table r.room s.turns [] None [] None None
+  pub table : IsOfTable n s.table
+
+-- A rest is alone where its load of the live word finds the number of its turns, and then says whether its load of the halt
+-- mark finds it set; else it is Busy, with the number that it found.
+abbrev pub ChecksRest : TableId → RestState → Checked → Type 0
+ChecksRest n r (Busy s live) = (s ≡ rest_with (Some n) r.room r.turns r.dropped None [] None (Some live)) × (live ≢ length r.turns)
+ChecksRest n r (Alone s faulted) = (s ≡ rest_with (Some n) r.room r.turns r.dropped (Some faulted) [] s.halt (Some (length r.turns))) × IsSomeAnd s.halt (λ h. IsTrue faulted ↔ (h ≢ 0))
+
+-- A semaphore has no unit where the load finds in its unit word as many takes as it has units.
+abbrev pub LooksForUnit : NetRows → TableId → RestState → ℕ → UnitLook → Type 0
+LooksForUnit net n r sem (NoUnit s) = (s ≡ rest_with (Some n) r.room r.turns r.dropped r.alone (sem ∷ r.full) None s.found) × IsSomeAnd s.found (λ k. max_of net sem ≤ k)
+LooksForUnit net n r sem (HasUnit s) = (s ≡ rest_with (Some n) r.room r.turns r.dropped r.alone r.full None s.found) × IsSomeAnd s.found (λ k. k < max_of net sem)
+
+-- the last of these turns is of a task that takes the semaphore
+abbrev pub LastTakes : NetRows → ℕ → List Parked → Type 0
+LastTakes net sem turns = IsSomeAnd (slice_get turns (length turns - 1)) (λ (p : Parked). IsTrue (takes net sem p.task))
+
+-- A rest that is alone may drop its last turn: after a Fault, or, where none stands, for want of a unit that the turn's task takes.
+abbrev pub MayDropOf : NetRows → RestState → DropWhy → Type 0
+MayDropOf net r AfterFault = r.alone ≡ Some true
+MayDropOf net r (Stuck sem) = (r.alone ≡ Some false) × (1 ≤ times sem r.full) × LastTakes net sem r.turns
+MayDropOf net r Limit = ⊥
+
+-- the last turn of a rest was dropped for this reason, and these are left
+pub record DropsLast (r : RestState) (why : DropWhy) (turns : List Parked) (dropped : List Dropping) : Type 0 where
+  pub last : Parked
+  pub place : ℕ
+  pub turns_are : r.turns ≡ turns ++ last ∷ []
+  pub dropped_are : dropped ≡ r.dropped ++ record { task = last.task; cause = last.cause; place = place; why = why } ∷ []
+
+-- an outcome is that releases were dropped, of which this is true
+abbrev pub IsOfDrops : Outcome → (List Dropping → Type 0) → Type 0
+IsOfDrops (AllDropped drops) p = p drops.items
+IsOfDrops _ p = ⊥
+
+-- Last comes where the turn was the only one.
+abbrev pub DropsOf : TableId → RestState → DropWhy → RestDrop → Type 0
+DropsOf n r why (More s) = (s ≡ rest_with (Some n) r.room s.turns s.dropped r.alone r.full None None) × DropsLast r why s.turns s.dropped × (s.turns ≢ [])
+DropsOf n r why (Last spent) = (spent.table ≡ n) × IsOfDrops spent.outcome (λ drops. DropsLast r why [] drops)

@@ -1,0 +1,73 @@
+// The calls that credit units and claim them. None takes memory, and none waits.
+ghost use Rattle.std.specs.Prelude.{◌≡◌, ◌<◌, ◌≤◌, Some, None, true, length};
+ghost use Rattle.journal_rules.specs.SemaphoreRule.{puts};
+ghost use Rattle.table_steps.specs.Giving.{times};
+ghost use Rattle.join_tables.specs.Claims.{ClaimsUnit, credit_one, with_units};
+
+use crate::turns::{Claim, NetTable, Running};
+use table_steps::FIRST_CREDIT;
+
+impl NetTable {
+    /// Credits a unit that a start took and its task doesn't put, so that another start may claim it.
+    pub fn credit(&self, running: Running, sem: u32) -> Running
+        requires table { running.table ≡ self.now.table }
+        requires to_credit { 1 ≤ times sem running.units.to_credit }
+        requires in_range { sem < length self.now.net.sems }
+        ensures state { result ≡ with_units running (credit_one sem running.units) result }
+        ensures found { result.found ≡ None }
+    {
+        let Running {
+            mut seat,
+            task,
+            cause,
+            place,
+            ..
+        } = running;
+        self.words.add_credit(&mut seat, sem);
+        Running {
+            seat,
+            task,
+            cause,
+            place,
+            found: None,
+        }
+    }
+
+    /// Claims a unit that a start's task puts and doesn't take. `Refused` comes exactly where this call's own step finds no
+    /// credit. Then the journal at that moment allows a Fault of the start that tells an over-release, and the call
+    /// undoes its step.
+    pub fn claim(&self, running: Running, sem: u32) -> Claim
+        requires table { running.table ≡ self.now.table }
+        requires to_claim { 1 ≤ times sem running.units.to_claim }
+        requires puts { puts self.now.net sem running.task ≡ true }
+        requires not_refused { running.units.refused ≡ None }
+        requires in_range { sem < length self.now.net.sems }
+        ensures { ClaimsUnit self.now.net self.now.limit running sem result }
+    {
+        let Running {
+            mut seat,
+            task,
+            cause,
+            place,
+            ..
+        } = running;
+        let found = self.words.draw_claim(&mut seat, sem);
+        if found > FIRST_CREDIT {
+            return Claim::Granted(Running {
+                seat,
+                task,
+                cause,
+                place,
+                found: Some(found),
+            });
+        }
+        self.words.undo_claim(&mut seat, sem);
+        Claim::Refused(Running {
+            seat,
+            task,
+            cause,
+            place,
+            found: Some(found),
+        })
+    }
+}

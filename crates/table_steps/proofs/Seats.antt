@@ -1,0 +1,141 @@
+-- What the steps of a rest ask is met, and splits and joins.
+use Rattle.std.proofs.Common.{◌≡◌, ◌≢◌, ◌⊎◌, inl, inr, ℕ, zero, suc, ◌+◌, ◌<◌, ◌≤◌, List, [], ◌∷◌, ◌++◌, length, set, refl, sym, ap, ◌∙◌, subst, arith}
+use Rattle.std.specs.Prelude.{slice_index}
+use mathlib.Core.Option.{some}
+use lib.ListN.{get_elem?}
+use Rattle.atomic_table.specs.Table.{keeps, stepped}
+use Rattle.task_graph.specs.NetRows.{NetRows}
+use Rattle.journal_rules.specs.Counts.{faults}
+use Rattle.journal_rules.specs.SemaphoreRule.{taken, back, max_of}
+use Rattle.table_steps.specs.declared.view.Kind.TheVariants.{Full}
+use Rattle.table_steps.specs.declared.view.Mark.TheVariants.{Live, Quiet}
+use Rattle.table_steps.specs.declared.view.Note.{Note}
+use Rattle.table_steps.specs.inside.Accounts.{Coord, sem, mark, busy, resting, telling, weigh, total, AllStand, Balanced, ViewPart, reading, KeepsAccounts}
+use Rattle.table_steps.proofs.Totals.{weigh_append}
+use Rattle.table_steps.proofs.Stepping.{St, own_lone, still_step}
+use Rattle.std.proofs.lemmas.Bool.{cases_eq}
+use Rattle.atomic_table.specs.Table.{Splits, Joins}
+use Rattle.atomic_table.proofs.Lists.{set_else}
+use mathlib.Core.Option.{some-injective, some-ne-none}
+use Rattle.table_steps.proofs.Totals.{total_set, total_push}
+use Rattle.table_steps.proofs.Views.{two_views, stand_left, stand_both, get_set, quiet_rests, full_rests_too}
+use Rattle.table_steps.proofs.Marking.{alike_kept, RestMarks, marks_none}
+use Rattle.table_steps.proofs.MarkSteps.{reads_same}
+
+-- a load of which nothing is learned
+pub nothing_done : (net : NetRows) (limit : ℕ) (s : St) (h : KeepsAccounts net limit s) (id i : ℕ) (carried : List (ℕ × Unit {0})) (rest : List Note) → weigh resting rest ≡ 0 → 1 ≤ weigh (mark Live) rest → i < length s.words → get_elem? s.views id ≡ some rest → KeepsAccounts net limit (stepped s i (slice_index s.words i) id carried rest keeps)
+nothing_done net limit s h id i carried rest lone lives below at =
+    still_step net limit s h id i _ carried [] [] rest (reading net s.words) at (own_lone net h.journal (λ c. total c s.views) [] [] rest tt lives lives lone) (omega arith) (ap (reading net) (reads_same net s.words i below))
+    (λ moved. alike_kept net limit (reading net s.words) h.counted h.journal (λ c. total c s.views) _ h.balanced (λ c a. omega (arith, moved c)))
+
+pushed : {X : Type 0} (xs : List X) (x : X) (i : ℕ) (y : X) → get_elem? (xs ++ x ∷ []) i ≡ some y → (get_elem? xs i ≡ some y) ⊎ (x ≡ y)
+pushed [] x zero y h = inr (some-injective x y h)
+pushed [] x (suc i) y h = absurd (some-ne-none y (sym h))
+pushed (z ∷ zs) x zero y h = inl h
+pushed (z ∷ zs) x (suc i) y h = pushed zs x i y h
+
+-- a seat's notes are dealt to two seats
+pub split_allowed : (net : NetRows) (limit id : ℕ) (v marks left right : List Note) → v ≡ marks ++ (right ++ left) → RestMarks marks → weigh resting left ≡ 0 → weigh resting right ≡ 0 → (weigh (mark Live) left ≡ 0 → weigh busy left ≡ 0) → (weigh (mark Live) right ≡ 0 → weigh busy right ≡ 0) → (id ≢ 0 → weigh (mark Live) left ≡ 0 → weigh telling left ≡ 0) → (weigh (mark Live) right ≡ 0 → weigh telling right ≡ 0) → Splits (KeepsAccounts net limit) id v left right
+split_allowed net limit id v marks left right is forgets none_left none_right covered_left covered_right told_left told_right s h at = record {
+  fits = h.fits;
+  size = h.size;
+  journal = h.journal;
+  counted = h.counted;
+  balanced = alike_kept net limit (reading net s.words) h.counted h.journal (λ c. total c s.views) _ h.balanced (λ c a. omega (arith, same c, marks_none c a marks forgets));
+  few = omega (arith, h.few, same (mark Live), marks_none (mark Live) tt marks forgets);
+  few_drops = h.few_drops;
+  views = each;
+}
+  where
+    same : (c : Coord) → total c (set s.views id left ++ right ∷ []) + weigh c marks ≡ total c s.views
+    same c = omega (arith, total_push c (set s.views id left) right, total_set c s.views id v left at, ap (weigh c) is, weigh_append c marks (right ++ left), weigh_append c right left)
+
+    parts : AllStand net h.journal right × AllStand net h.journal left
+    parts = stand_left net h.journal right left (stand_left net h.journal marks (right ++ left) (subst (λ u. AllStand net h.journal u) is (h.views id v at).stand)).1
+
+    lone_part : (k : ℕ) (w : List Note) → AllStand net h.journal w → (weigh (mark Live) w ≡ 0 → weigh busy w ≡ 0) → (k ≢ 0 → weigh (mark Live) w ≡ 0 → weigh telling w ≡ 0) → weigh resting w ≡ 0 → ViewPart net h.journal (λ c. total c (set s.views id left ++ right ∷ [])) k w
+    lone_part k w stand covered telling_all none = record {
+      stand = stand;
+      covered = covered;
+      told = telling_all;
+      alone = λ more. absurd (more none);
+      quiet = λ more. absurd (more (omega (arith, none, quiet_rests w)));
+      full = λ z more. absurd (more (omega (arith, none, full_rests_too z w)));
+    }
+
+    other_part : (k : ℕ) (w : List Note) → ViewPart net h.journal (λ c. total c s.views) k w → ViewPart net h.journal (λ c. total c (set s.views id left ++ right ∷ [])) k w
+    other_part k w p = record { stand = p.stand; covered = p.covered; told = p.told; alone = λ more. omega (arith, same (mark Live), marks_none (mark Live) tt marks forgets, p.alone more); quiet = p.quiet; full = p.full }
+
+    set_part : (other : ℕ) (w : List Note) → get_elem? (set s.views id left) other ≡ some w → (other ≡ id) ⊎ (other ≢ id) → ViewPart net h.journal (λ c. total c (set s.views id left ++ right ∷ [])) other w
+    set_part other w at_w (inl eq) =
+        let is_w : left ≡ w = some-injective left w (sym (get_set s.views id left v at) ∙ sym (ap (get_elem? (set s.views id left)) eq) ∙ at_w) in
+        subst (λ u. ViewPart net h.journal (λ c. total c (set s.views id left ++ right ∷ [])) other u) is_w (lone_part other left parts.1 covered_left (λ far. told_left (λ z. far (eq ∙ z))) none_left)
+    set_part other w at_w (inr apart) = other_part other w (h.views other w (sym (set_else s.views id other left apart) ∙ at_w))
+
+    each : (other : ℕ) (w : List Note) → get_elem? (set s.views id left ++ right ∷ []) other ≡ some w → ViewPart net h.journal (λ c. total c (set s.views id left ++ right ∷ [])) other w
+    each other w at_w = by_end (pushed (set s.views id left) right other w at_w)
+      where
+        by_end : (get_elem? (set s.views id left) other ≡ some w) ⊎ (right ≡ w) → ViewPart net h.journal (λ c. total c (set s.views id left ++ right ∷ [])) other w
+        by_end (inl there) = set_part other w there (cases_eq other id)
+        by_end (inr is_w) = subst (λ u. ViewPart net h.journal (λ c. total c (set s.views id left ++ right ∷ [])) other u) is_w (lone_part other right parts.0 covered_right (λ far. told_right) none_right)
+
+-- a seat takes in another's notes
+pub join_allowed : (net : NetRows) (limit id : ℕ) (v : List Note) (other : ℕ) (w : List Note) → (id ≢ 0 → 1 ≤ weigh (mark Live) v) → Joins (KeepsAccounts net limit) id v other w (w ++ v) []
+join_allowed net limit id v other w lives s h at apart at_other = record {
+  fits = h.fits;
+  size = h.size;
+  journal = h.journal;
+  counted = h.counted;
+  balanced = subst (λ (f : Coord → ℕ). Balanced net limit (reading net s.words) h.counted h.journal f) (λ i c. sym (same c) i) h.balanced;
+  few = omega (arith, h.few, same (mark Live));
+  few_drops = h.few_drops;
+  views = λ k u at_u. by_two k u at_u (cases_eq k other) (cases_eq k id);
+}
+  where
+    same : (c : Coord) → total c (set (set s.views id (w ++ v)) other []) ≡ total c s.views
+    same c = omega (arith, total_set c (set s.views id (w ++ v)) other w [] at_other, total_set c s.views id v (w ++ v) at, weigh_append c w v)
+
+    at_w : get_elem? s.views other ≡ some w
+    at_w = sym (set_else s.views id other (w ++ v) apart) ∙ at_other
+
+    either : (a b c : ℕ) → c ≡ a + b → c ≢ 0 → (a ≢ 0) ⊎ (b ≢ 0)
+    either zero b c is more = inr (λ z. more (omega (arith, is, z)))
+    either (suc a) b c is more = inl (λ z. omega arith)
+
+    together : weigh (mark Live) v + weigh (mark Live) w ≤ total (mark Live) s.views
+    together = two_views (mark Live) s.views id other v w at at_w apart
+
+    joined : (k : ℕ) → k ≡ id → ViewPart net h.journal (λ c. total c (set (set s.views id (w ++ v)) other [])) k (w ++ v)
+    joined k eq = let p = h.views id v at in let q = h.views other w at_w in record {
+      stand = stand_both net h.journal w v q.stand p.stand;
+      covered = λ none. omega (arith, weigh_append busy w v, p.covered (omega (arith, none, weigh_append (mark Live) w v)), q.covered (omega (arith, none, weigh_append (mark Live) w v)));
+      told = λ far none. absurd (omega (arith, none, weigh_append (mark Live) w v, lives (λ z. far (eq ∙ z))));
+      alone = λ more. alone_by p q (either (weigh resting w) (weigh resting v) (weigh resting (w ++ v)) (weigh_append resting w v) more);
+      quiet = λ more. quiet_by p q (either (weigh (mark Quiet) w) (weigh (mark Quiet) v) (weigh (mark Quiet) (w ++ v)) (weigh_append (mark Quiet) w v) more);
+      full = λ z more. full_by z p q (either (weigh (sem Full z) w) (weigh (sem Full z) v) (weigh (sem Full z) (w ++ v)) (weigh_append (sem Full z) w v) more);
+    }
+      where
+        alone_by : ViewPart net h.journal (λ c. total c s.views) id v → ViewPart net h.journal (λ c. total c s.views) other w → (weigh resting w ≢ 0) ⊎ (weigh resting v ≢ 0) → total (mark Live) (set (set s.views id (w ++ v)) other []) ≡ weigh (mark Live) (w ++ v)
+        alone_by p q (inl more) = omega (arith, same (mark Live), q.alone more, together, weigh_append (mark Live) w v)
+        alone_by p q (inr more) = omega (arith, same (mark Live), p.alone more, together, weigh_append (mark Live) w v)
+
+        quiet_by : ViewPart net h.journal (λ c. total c s.views) id v → ViewPart net h.journal (λ c. total c s.views) other w → (weigh (mark Quiet) w ≢ 0) ⊎ (weigh (mark Quiet) v ≢ 0) → faults h.journal ≡ 0
+        quiet_by p q (inl more) = q.quiet more
+        quiet_by p q (inr more) = p.quiet more
+
+        full_by : (z : ℕ) → ViewPart net h.journal (λ c. total c s.views) id v → ViewPart net h.journal (λ c. total c s.views) other w → (weigh (sem Full z) w ≢ 0) ⊎ (weigh (sem Full z) v ≢ 0) → back net z h.journal + max_of net z ≤ taken net z h.journal
+        full_by z p q (inl more) = q.full z more
+        full_by z p q (inr more) = p.full z more
+
+    by_two : (k : ℕ) (u : List Note) → get_elem? (set (set s.views id (w ++ v)) other []) k ≡ some u → (k ≡ other) ⊎ (k ≢ other) → (k ≡ id) ⊎ (k ≢ id) → ViewPart net h.journal (λ c. total c (set (set s.views id (w ++ v)) other [])) k u
+    by_two k u at_u (inl eq) any =
+        let is_u : [] ≡ u = some-injective [] u (sym (get_set (set s.views id (w ++ v)) other [] w at_other) ∙ sym (ap (get_elem? (set (set s.views id (w ++ v)) other [])) eq) ∙ at_u) in
+        subst (λ r. ViewPart net h.journal (λ c. total c (set (set s.views id (w ++ v)) other [])) k r) is_u
+        (record { stand = tt; covered = λ z. refl; told = λ far z. refl; alone = λ more. absurd (more refl); quiet = λ more. absurd (more refl); full = λ z more. absurd (more refl) })
+    by_two k u at_u (inr far) (inl eq) =
+        let at_set : get_elem? (set s.views id (w ++ v)) k ≡ some u = sym (set_else (set s.views id (w ++ v)) other k [] far) ∙ at_u in
+        let is_u : w ++ v ≡ u = some-injective (w ++ v) u (sym (get_set s.views id (w ++ v) v at) ∙ sym (ap (get_elem? (set s.views id (w ++ v))) eq) ∙ at_set) in
+        subst (λ r. ViewPart net h.journal (λ c. total c (set (set s.views id (w ++ v)) other [])) k r) is_u (joined k eq)
+    by_two k u at_u (inr far) (inr off) =
+        let p = h.views k u (sym (set_else s.views id k (w ++ v) off) ∙ sym (set_else (set s.views id (w ++ v)) other k [] far) ∙ at_u) in
+        record { stand = p.stand; covered = p.covered; told = p.told; alone = λ more. same (mark Live) ∙ p.alone more; quiet = p.quiet; full = p.full }

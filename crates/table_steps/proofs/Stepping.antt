@@ -1,0 +1,62 @@
+-- A step of one seat on one word.
+use Rattle.std.proofs.Common.{◌≡◌, ℕ, ◌≤◌, List, ◌++◌, set, refl, sym, ◌∙◌, subst, arith, length-set}
+use Rattle.std.specs.Prelude.{count_by}
+use mathlib.Core.Option.{some}
+use lib.ListN.{get_elem?}
+use Rattle.atomic_table.specs.Table.{State, Me, Act, keeps, Valid, carried_after, stepped}
+use Rattle.task_graph.specs.NetRows.{NetRows}
+use Rattle.journal_rules.specs.declared.entry.Entry.{Entry}
+use Rattle.table_steps.specs.declared.view.Mark.TheVariants.{Live}
+use Rattle.table_steps.specs.declared.view.Note.{Note}
+use Rattle.table_steps.specs.inside.Accounts.{Coord, mark, resting, weigh, total, AllStand, Readings, reading, is_drop, Balanced, Moves, KeepsAccounts}
+use Rattle.table_steps.proofs.Totals.{total_swap}
+use Rattle.table_steps.proofs.Views.{OwnView, views_after, quiet_rests, full_rests_too}
+
+abbrev pub St : Type 0
+St = State (Unit {0}) (List Note)
+
+abbrev pub Seated : Type 0
+Seated = Me (Unit {0}) (List Note)
+
+-- a seat that is no rest
+pub own_lone : {id : ℕ} (net : NetRows) (journal : List Entry) (T : Coord → ℕ) (old new rest : List Note) → AllStand net journal new → 1 ≤ weigh (mark Live) (old ++ rest) → 1 ≤ weigh (mark Live) (new ++ rest) → weigh resting (new ++ rest) ≡ 0
+    → OwnView net journal T id old new rest
+own_lone net journal T old new rest stand before after lone = record {
+  lives = before;
+  stand = stand;
+  covered = λ none. absurd (omega (arith, none, after));
+  told = λ far none. absurd (omega (arith, none, after));
+  alone = λ more. absurd (more lone);
+  quiet = λ more. absurd (more (omega (arith, lone, quiet_rests (new ++ rest))));
+  full = λ s more. absurd (more (omega (arith, lone, full_rests_too s (new ++ rest))));
+}
+
+-- the rule after one step that takes these notes for those
+pub after_step : (net : NetRows) (limit : ℕ) (s : St) (h : KeepsAccounts net limit s) (id i k : ℕ) (carried : List (ℕ × Unit {0})) (old new rest : List Note) (journal : List Entry) (counted : ℕ → ℕ) (w : Readings)
+    → get_elem? s.views id ≡ some (old ++ rest) → ((v : List Note) → AllStand net h.journal v → AllStand net journal v) → OwnView net journal (λ c. total c s.views) id old new rest
+    → total (mark Live) (set s.views id (new ++ rest)) ≤ 1152921504606846976 → count_by is_drop journal ≤ 1152921504606846976 → reading net (set s.words i k) ≡ w
+    → (Moves (λ c. total c s.views) old (λ c. total c (set s.views id (new ++ rest))) new → Balanced net limit w counted journal (λ c. total c (set s.views id (new ++ rest))))
+    → KeepsAccounts net limit (stepped s i k id carried (new ++ rest) keeps)
+after_step net limit s h id i k carried old new rest journal counted w at stays own few few_drops reads kept = record {
+  fits = h.fits;
+  size = length-set s.words i k ∙ h.size;
+  journal = journal;
+  counted = counted;
+  balanced = subst (λ v. Balanced net limit v counted journal (λ c. total c (set s.views id (new ++ rest)))) (sym reads) (kept (λ c. total_swap c s.views id old new rest at));
+  few = few;
+  few_drops = few_drops;
+  views = views_after net h.journal journal s.views id old new rest h.views at stays own;
+}
+
+-- one that draws nothing and adds no turn
+pub still_step : (net : NetRows) (limit : ℕ) (s : St) (h : KeepsAccounts net limit s) (id i k : ℕ) (carried : List (ℕ × Unit {0})) (old new rest : List Note) (w : Readings)
+    → get_elem? s.views id ≡ some (old ++ rest) → OwnView net h.journal (λ c. total c s.views) id old new rest → weigh (mark Live) new ≤ weigh (mark Live) old → reading net (set s.words i k) ≡ w
+    → (Moves (λ c. total c s.views) old (λ c. total c (set s.views id (new ++ rest))) new → Balanced net limit w h.counted h.journal (λ c. total c (set s.views id (new ++ rest))))
+    → KeepsAccounts net limit (stepped s i k id carried (new ++ rest) keeps)
+still_step net limit s h id i k carried old new rest w at own fewer reads kept =
+    after_step net limit s h id i k carried old new rest h.journal h.counted w at (λ v stand. stand) own (omega (arith, h.few, fewer, total_swap (mark Live) s.views id old new rest at)) h.few_drops reads kept
+
+-- what a step asks for is one view, no act, and the rule
+pub done : (net : NetRows) (limit : ℕ) (s : St) (id i k : ℕ) (me : Seated) (w w' : List Note) → w ≡ w' → KeepsAccounts net limit (stepped s i k id me.1 w keeps)
+    → (u : List Note) × (a : Act (Unit {0})) × Valid s.homes me.1 a × KeepsAccounts net limit (stepped s i k id me.1 u a) × ((u ≡ w') × (carried_after me.1 a ≡ me.1))
+done net limit s id i k me w w' is kept = (w, keeps, tt, kept, (is, refl))

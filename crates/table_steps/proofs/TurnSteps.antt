@@ -1,0 +1,186 @@
+-- What the steps on the clock and on the words of turns and starts ask is met, and so is what splits, joins and loads ask.
+use Rattle.std.proofs.Common.{◌≡◌, ◌⊎◌, inl, inr, ℕ, ◌+◌, ◌%◌, ◌^◌, ◌<◌, ◌≤◌, Bool, true, false, List, [], ◌∷◌, ◌++◌, length, Option, Some, None, sym, refl, ap, ◌∙◌, subst, arith}
+use Rattle.std.specs.Prelude.{slice_index, slice_get, nat_lt, IsSomeAnd}
+use Rattle.std.specs.Option.{option_map_or}
+use Rattle.std.proofs.lemmas.Bool.Decides.{nat_tests}
+use Rattle.std.proofs.lemmas.Bool.{cases_lt, false≢true}
+use Rattle.std.proofs.lemmas.List.{append-nil}
+use mathlib.Core.Option.{some}
+use lib.ListN.{get_elem?}
+use Rattle.atomic_table.specs.Table.{Act, keeps, Valid, carried_after, stepped, Allows, Splits, Joins}
+use Rattle.task_graph.specs.NetRows.{NetRows}
+use Rattle.task_graph.specs.Net.{IsNet, IsEdgeOf, is_weak_row}
+use Rattle.task_graph.specs.declared.net.EdgeRow.{EdgeRow}
+use Rattle.journal_rules.specs.declared.entry.Cause.{Cause}
+use Rattle.journal_rules.specs.declared.entry.Cause.TheVariants.{Source, Strong, Weak}
+use Rattle.journal_rules.specs.DataRule.{edges_of}
+use Rattle.journal_rules.proofs.NetLemmas.{at_place}
+use Rattle.table_steps.specs.declared.view.Item.{Item}
+use Rattle.table_steps.specs.declared.view.Item.TheVariants.{Fresh, Collecting, Ticket, Open}
+use Rattle.table_steps.specs.declared.view.Mark.TheVariants.{Live, New, Asked}
+use Rattle.table_steps.specs.declared.view.Note.{Note}
+use Rattle.table_steps.specs.declared.view.Kind.TheVariants.{Held, Both, Credit, Credited, Claim, Granted}
+use Rattle.table_steps.specs.declared.view.Note.TheVariants.{Duty, Sems, Has}
+use Rattle.table_steps.specs.inside.Items.{place, runs, running, tickets, token, source, weakly, awaits, unset, MayRelease}
+use Rattle.table_steps.specs.inside.Accounts.{Coord, duty, sem, mark, busy, resting, turning, owing, telling, weight, total, FitsRelease, AllFitNotes, KeepsAccounts, reading}
+use Rattle.table_steps.specs.inside.Kinds.{IsTurn, MayTakeUp, taken_up, MayAdd, added, MayDeal, dealt, kept_back, MayAdmit, admitted_notes, admitted, MayStart, started, MayEnd, ended}
+use Rattle.table_steps.proofs.Stepping.{St, Seated, own_lone, still_step, done}
+use Rattle.table_steps.proofs.Marking.{alike_kept}
+use Rattle.table_steps.proofs.MarkSteps.{admit_drawn, over_drawn, turn_added, reads_same}
+use Rattle.table_steps.proofs.Drawing.{start_drawn, end_drawn}
+use Rattle.table_steps.proofs.Seats.{nothing_done, split_allowed, join_allowed}
+use Rattle.table_steps.proofs.FewTurns.{fits_of, room_for_turn}
+
+-- a release of the net may be used
+pub may_release : (net : NetRows) (t : ℕ) (cause : Cause) → IsNet net → FitsRelease net t cause → MayRelease net t cause
+may_release net t Source rows fits = record { in_tasks = fits.0; in_range = tt; fits = fits.1 }
+may_release net t Strong rows fits = record { in_tasks = fits.0; in_range = tt; fits = fits.1 }
+may_release net t (Weak e) rows fits = by_row (slice_get net.edges e) refl fits.1 fits.2
+  where
+    by_row : (row : Option EdgeRow) → slice_get net.edges e ≡ row → option_map_or (is_weak_row net) row false ≡ true → option_map_or (λ (r : EdgeRow). r.to) row 0 ≡ t → MayRelease net t (Weak e)
+    by_row None is weak to = absurd (false≢true weak)
+    by_row (Some row) is weak to = record {
+      in_tasks = subst (λ u. u < length net.tasks) to (at_place (IsEdgeOf net) net.edges e row rows.edges is).to_in_range;
+      in_range = fits.0;
+      fits = (fits.1, subst (λ o. IsSomeAnd o (λ (r : EdgeRow). r.to ≡ t)) (sym is) to);
+    }
+
+-- LOADS
+pub learn_allowed : (net : NetRows) (limit slots id : ℕ) (me : Seated) → IsTurn me.0 → Allows (KeepsAccounts net limit) slots id me 0 (λ n. n) (λ n m. (m.0 ≡ me.0) × (m.1 ≡ me.1) × AllFitNotes net me.0 × (length net.edges < 4294967296))
+learn_allowed net limit slots id me may s h _ at small =
+    (me.0, keeps, tt, nothing_done net limit s h id 0 me.1 me.0 may.0 may.1 (omega (arith, h.size)) at, (refl, refl, fits_of net h.journal me.0 (h.views id me.0 at).stand, h.fits.rows.edge_count))
+
+source_alike : (c : Coord) (t : ℕ) → weight c (Duty (Fresh t Source)) ≡ weight c (Duty (Collecting t Source [] []))
+source_alike (duty (place m)) t = refl
+source_alike (duty (runs m u)) t = refl
+source_alike (duty running) t = refl
+source_alike (duty tickets) t = refl
+source_alike (duty (token e)) t = refl
+source_alike (duty (source u)) t = refl
+source_alike (duty (weakly e)) t = refl
+source_alike (duty (awaits e)) t = refl
+source_alike (duty (unset u)) t = refl
+source_alike (sem k s) t = refl
+source_alike (mark m) t = refl
+source_alike busy t = refl
+source_alike resting t = refl
+source_alike turning t = refl
+source_alike owing t = refl
+source_alike telling t = refl
+
+weak_alike : (c : Coord) (t e : ℕ) → weight c (Duty (Fresh t (Weak e))) ≡ weight c (Duty (Collecting t (Weak e) [] (e ∷ [])))
+weak_alike (duty (place m)) t e = refl
+weak_alike (duty (runs m u)) t e = refl
+weak_alike (duty running) t e = refl
+weak_alike (duty tickets) t e = refl
+weak_alike (duty (token f)) t e = refl
+weak_alike (duty (source u)) t e = refl
+weak_alike (duty (weakly f)) t e = omega arith
+weak_alike (duty (awaits f)) t e = refl
+weak_alike (duty (unset u)) t e = refl
+weak_alike (sem k s) t e = refl
+weak_alike (mark m) t e = refl
+weak_alike busy t e = refl
+weak_alike resting t e = refl
+weak_alike turning t e = refl
+weak_alike owing t e = refl
+weak_alike telling t e = refl
+
+-- a release taken up without a change of words
+one_alike : (net : NetRows) (limit : ℕ) (s : St) (h : KeepsAccounts net limit s) (id : ℕ) (carried : List (ℕ × Unit {0})) (t : ℕ) (cause : Cause) (rest : List Note) → IsTurn rest
+    → ((c : Coord) → weight c (Duty (Fresh t cause)) ≡ weight c (Duty (Collecting t cause [] (edges_of net t cause)))) → get_elem? s.views id ≡ some (Duty (Fresh t cause) ∷ rest)
+    → KeepsAccounts net limit (stepped s 0 (slice_index s.words 0) id carried (Duty (Collecting t cause [] (edges_of net t cause)) ∷ rest) keeps)
+one_alike net limit s h id carried t cause rest may alike at =
+    let old = Duty (Fresh t cause) ∷ [] in let new = Duty (Collecting t cause [] (edges_of net t cause)) ∷ [] in
+    still_step net limit s h id 0 _ carried old new rest (reading net s.words) at
+    (own_lone net h.journal (λ c. total c s.views) old new rest (((h.views id _ at).stand.0, refl), tt) (omega (arith, may.1)) (omega (arith, may.1)) (omega (arith, may.0))) (omega arith)
+    (ap (reading net) (reads_same net s.words 0 (omega (arith, h.size))))
+    (λ moved. alike_kept net limit (reading net s.words) h.counted h.journal (λ c. total c s.views) _ h.balanced (λ c a. omega (arith, moved c, alike c)))
+
+pub take_up_allowed : (net : NetRows) (limit slots id : ℕ) (me : Seated) → MayTakeUp me.0 → Allows (KeepsAccounts net limit) slots id me 0 (λ n. n) (λ n m. (m.0 ≡ taken_up net me.0) × (m.1 ≡ me.1))
+take_up_allowed net limit slots id me may s h _ at small = from me.0 may at
+  where
+    from : (v : List Note) → MayTakeUp v → get_elem? s.views id ≡ some v
+        → (u : List Note) × (a : Act (Unit {0})) × Valid s.homes me.1 a × KeepsAccounts net limit (stepped s 0 (slice_index s.words 0) id me.1 u a) × ((u ≡ taken_up net v) × (carried_after me.1 a ≡ me.1))
+    from (Duty (Fresh t Source) ∷ rest) may at = done net limit s id 0 _ me _ _ refl (one_alike net limit s h id me.1 t Source rest may (λ c. source_alike c t) at)
+    from (Duty (Fresh t (Weak e)) ∷ rest) may at = done net limit s id 0 _ me _ _ refl (one_alike net limit s h id me.1 t (Weak e) rest may (λ c. weak_alike c t e) at)
+    from v may at = absurd may
+
+-- ADMISSION DRAWN
+pub admit_allowed : (net : NetRows) (limit slots id : ℕ) (me : Seated) → MayAdmit me.0 → Allows (KeepsAccounts net limit) slots id me 24 (λ n. (n + 1) % 2 ^ 64) (λ n m. (m.0 ≡ admitted limit n me.0) × (m.1 ≡ me.1))
+admit_allowed net limit slots id me may s h _ at small = from me.0 may at
+  where
+    from : (v : List Note) → MayAdmit v → get_elem? s.views id ≡ some v
+        → (u : List Note) × (z : Act (Unit {0})) × Valid s.homes me.1 z × KeepsAccounts net limit (stepped s 24 ((slice_index s.words 24 + 1) % 2 ^ 64) id me.1 u z) × ((u ≡ admitted limit (slice_index s.words 24) v) × (carried_after me.1 z ≡ me.1))
+    from (Duty (Collecting t cause taken left) ∷ Has Live ∷ Has Asked ∷ rest) may at = by_room (cases_lt (slice_index s.words 24) limit)
+      where
+        n : ℕ
+        n = slice_index s.words 24
+
+        x : Item
+        x = Collecting t cause taken left
+
+        by_room : (n < limit) ⊎ (limit ≤ n) → (u : List Note) × (z : Act (Unit {0})) × Valid s.homes me.1 z × KeepsAccounts net limit (stepped s 24 ((n + 1) % 18446744073709551616) id me.1 u z) × ((u ≡ admitted_notes (nat_lt n limit) x ++ rest) × (carried_after me.1 z ≡ me.1))
+        by_room (inl room) = let is : nat_lt n limit ≡ true = grind (arith, nat_tests) in
+            done net limit s id 24 _ me _ _ (ap (λ b. admitted_notes b x ++ rest) (sym is)) (admit_drawn net limit s h id me.1 x rest may at room)
+        by_room (inr full) = let is : nat_lt n limit ≡ false = grind (arith, nat_tests) in
+            done net limit s id 24 _ me _ _ (ap (λ b. admitted_notes b x ++ rest) (sym is)) (over_drawn net limit s h id me.1 x rest may at full)
+    from v may at = absurd may
+
+-- TURN ADDED
+pub add_allowed : (net : NetRows) (limit slots id : ℕ) (me : Seated) → MayAdd me.0 → Allows (KeepsAccounts net limit) slots id me 16 (λ n. (n + 1) % 2 ^ 64) (λ n m. (m.0 ≡ added me.0) × (m.1 ≡ me.1))
+add_allowed net limit slots id me may s h _ at small = from me.0 may at
+  where
+    from : (v : List Note) → MayAdd v → get_elem? s.views id ≡ some v
+        → (u : List Note) × (z : Act (Unit {0})) × Valid s.homes me.1 z × KeepsAccounts net limit (stepped s 16 ((slice_index s.words 16 + 1) % 2 ^ 64) id me.1 u z) × ((u ≡ added v) × (carried_after me.1 z ≡ me.1))
+    from (Duty (Fresh t cause) ∷ Has New ∷ rest) may at =
+        done net limit s id 16 _ me _ _ refl (turn_added net limit s h id me.1 (Fresh t cause) rest may.0 may.1 at (room_for_turn net limit s h))
+    from v may at = absurd may
+
+-- START DRAWN
+pub start_allowed : (net : NetRows) (limit slots id : ℕ) (me : Seated) → MayStart net me.0 → Allows (KeepsAccounts net limit) slots id me 8 (λ n. (n + 1) % 2 ^ 64) (λ n m. (m.0 ≡ started net n me.0) × (m.1 ≡ me.1) × IsNet net)
+start_allowed net limit slots id me may s h _ at small = from me.0 may at
+  where
+    from : (v : List Note) → MayStart net v → get_elem? s.views id ≡ some v
+        → (u : List Note) × (z : Act (Unit {0})) × Valid s.homes me.1 z × KeepsAccounts net limit (stepped s 8 ((slice_index s.words 8 + 1) % 2 ^ 64) id me.1 u z) × ((u ≡ started net (slice_index s.words 8) v) × (carried_after me.1 z ≡ me.1) × IsNet net)
+    from (Duty (Collecting t cause taken []) ∷ Duty Ticket ∷ Has Live ∷ []) may at =
+        let stand = (h.views id _ at).stand.0 in
+        let all : taken ≡ edges_of net t cause = sym (append-nil taken) ∙ stand.1 in (
+          _,
+          keeps,
+          tt,
+          start_drawn net limit s h id t cause [] me.1 [] (may_release net t cause h.fits.rows stand.0) may refl (at ∙ ap (λ es. some (Duty (Collecting t cause es []) ∷ Duty Ticket ∷ Has Live ∷ [])) all),
+          (refl, refl, h.fits.rows),
+        )
+    from (Duty (Collecting t cause taken []) ∷ Duty Ticket ∷ Has Live ∷ Sems Held (b ∷ l) ∷ rest) may at =
+        let stand = (h.views id _ at).stand.0 in
+        let all : taken ≡ edges_of net t cause = sym (append-nil taken) ∙ stand.1 in (
+          _,
+          keeps,
+          tt,
+          start_drawn net limit s h id t cause (b ∷ l) me.1 rest (may_release net t cause h.fits.rows stand.0) may.0 may.1 (at ∙ ap (λ es. some (Duty (Collecting t cause es []) ∷ Duty Ticket ∷ Has Live ∷ Sems Held (b ∷ l) ∷ rest)) all),
+          (refl, refl, h.fits.rows),
+        )
+    from v may at = absurd may
+
+-- END DRAWN
+pub end_allowed : (net : NetRows) (limit slots id : ℕ) (me : Seated) (gives : List ℕ) (inner : Bool) → MayEnd net gives inner me.0
+    → Allows (KeepsAccounts net limit) slots id me 8 (λ n. (n + 1) % 2 ^ 64) (λ n m. (m.0 ≡ ended gives inner n me.0) × (m.1 ≡ me.1))
+end_allowed net limit slots id me gives inner may s h _ at small = from me.0 may at
+  where
+    from : (v : List Note) → MayEnd net gives inner v → get_elem? s.views id ≡ some v
+        → (u : List Note) × (z : Act (Unit {0})) × Valid s.homes me.1 z × KeepsAccounts net limit (stepped s 8 ((slice_index s.words 8 + 1) % 2 ^ 64) id me.1 u z) × ((u ≡ ended gives inner (slice_index s.words 8) v) × (carried_after me.1 z ≡ me.1))
+    from (Duty (Open m t) ∷ Has Live ∷ Sems Both b ∷ Sems Credit c ∷ Sems Credited d ∷ Sems Claim l ∷ Sems Granted g ∷ rest) may at =
+        done net limit s id 8 _ me _ _ refl (end_drawn net limit s h id m t gives inner b d g me.1 rest may.0 may.4 may.2 may.5
+        (at ∙ (λ i. some (Duty (Open m t) ∷ Has Live ∷ Sems Both b ∷ Sems Credit (may.1 i) ∷ Sems Credited d ∷ Sems Claim (may.3 i) ∷ Sems Granted g ∷ rest))))
+    from v may at = absurd may
+
+-- SPLIT
+pub deal_allowed : (net : NetRows) (limit id : ℕ) (v : List Note) → MayDeal id v → Splits (KeepsAccounts net limit) id v (kept_back v) (dealt v)
+deal_allowed net limit id (Duty (Fresh t cause) ∷ Has Live ∷ rest) may =
+    split_allowed net limit id (Duty (Fresh t cause) ∷ Has Live ∷ rest) [] rest (Duty (Fresh t cause) ∷ Has Live ∷ []) refl tt may.0 refl may.1 (λ none. absurd (omega (arith, none))) may.2 (λ none. absurd (omega (arith, none)))
+deal_allowed net limit id v may = absurd may
+
+-- JOIN, with the keeper's seat
+pub take_in_allowed : (net : NetRows) (limit id : ℕ) (v : List Note) (other : ℕ) (w : List Note) → id ≡ 0 → Joins (KeepsAccounts net limit) id v other w (w ++ v) []
+take_in_allowed net limit id v other w first = join_allowed net limit id v other w (λ far. absurd (far first))

@@ -1,0 +1,5 @@
+pub mod Giving
+pub mod Holding
+pub mod Reasons
+pub mod Credits
+pub mod inside

@@ -1,0 +1,9 @@
+-- Internal: what the seats of a table know, the accounts between words, views and journal, and the kinds of step.
+pub mod Items
+pub mod Accounts
+pub mod Kinds
+pub mod Halts
+pub mod UnitKinds
+pub mod CreditKinds
+pub mod Opening
+pub mod RestKinds

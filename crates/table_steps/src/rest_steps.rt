@@ -1,0 +1,171 @@
+// The kinds of step of a rest, each by its seat on one word, and how it takes turns in and hands them out.
+ghost use Rattle.std.specs.Prelude.{◌≡◌, ◌<◌, [], length};
+ghost use Rattle.std.specs.Arc.{arc_value};
+ghost use Rattle.journal_rules.specs.declared.entry.DropWhy.{DropWhy};
+ghost use Rattle.table_steps.specs.inside.Kinds.{IsTurn, left_by};
+ghost use Rattle.table_steps.specs.inside.RestKinds.{MayPark, parked, MayHandOut, handed_out, left_behind, live_found, MayLook, looked, MayAsk, asked, MayDropLast, last_dropped, MayThin};
+
+use crate::steps::{CLOCK, FIRST_UNIT, HALT, LIVE, Place, Words};
+use crate::unit_steps::Semaphore;
+use crate::view::Note;
+use atomic_table::{Join, Play, Split};
+use journal_rules::DropWhy;
+use outside_io::List;
+use std::marker::{Brand, PhantomData};
+
+/// Why a turn of a rest is dropped.
+pub trait Excuses {
+    ghost why: { DropWhy };
+}
+
+impl Excuses for Brand {
+    ghost use Rattle.journal_rules.specs.declared.entry.DropWhy.TheVariants.{Limit};
+
+    ghost why = { Limit };
+}
+
+pub struct Parks;
+
+impl Join<List<Note>> for Parks {
+    ghost both = { parked };
+
+    ghost spent = { [] };
+}
+
+pub struct HandsOut;
+
+impl Split<List<Note>> for HandsOut {
+    ghost left = { left_behind };
+
+    ghost right = { handed_out };
+}
+
+pub struct ReadsLive;
+
+impl Play<(), List<Note>> for ReadsLive {
+    ghost then = { λ _ before n after. (after.0 ≡ live_found n before.0) × (after.1 ≡ before.1) };
+}
+
+pub struct Looks;
+
+impl Play<(), List<Note>> for Looks {
+    ghost then = { λ _ before n after. (after.0 ≡ looked n before.0) × (after.1 ≡ before.1) };
+}
+
+pub struct Asks<A> {
+    told: PhantomData<A>,
+}
+
+impl<A: Semaphore> Play<(), List<Note>> for Asks<A> {
+    ghost then = { λ _ before n after. (after.0 ≡ asked A.net A.sem n before.0) × (after.1 ≡ before.1) };
+}
+
+pub struct DropsLast<A> {
+    told: PhantomData<A>,
+}
+
+impl<A: Excuses> Play<(), List<Note>> for DropsLast<A> {
+    ghost then = { λ _ before n after. (after.0 ≡ last_dropped A.why n before.0) × (after.1 ≡ before.1) };
+}
+
+pub struct Thins;
+
+impl Play<(), List<Note>> for Thins {
+    ghost then = { λ _ before n after. (after.0 ≡ left_by before.0) × (after.1 ≡ before.1) };
+}
+
+impl Words {
+    /// Gives what a turn's seat knows to a rest's.
+    pub fn park(&self, seat: &mut Place, other: Place)
+        requires table { (seat.old.table_id ≡ self.now.table.shared.table_id) × (other.table_id ≡ self.now.table.shared.table_id) }
+        requires home { other.me.1 ≡ [] }
+        requires ready { MayPark seat.old.me.0 other.me.0 }
+        ensures table { seat.new.table_id ≡ seat.old.table_id }
+        ensures view { seat.new.me ≡ (parked seat.old.me.0 other.me.0, seat.old.me.1) }
+    {
+        self.table.shared.join_seat::<Parks>(seat, other);
+    }
+
+    /// Deals the last turn of a rest to a new seat.
+    pub fn hand_out(&self, seat: &mut Place) -> Place
+        requires table { seat.old.table_id ≡ self.now.table.shared.table_id }
+        requires ready { MayHandOut seat.old.me.0 }
+        ensures table { (seat.new.table_id ≡ seat.old.table_id) × (result.table_id ≡ seat.old.table_id) }
+        ensures view { (seat.new.me ≡ (left_behind seat.old.me.0, seat.old.me.1)) × (result.me ≡ (handed_out seat.old.me.0, [])) }
+    {
+        self.table.shared.split_seat::<HandsOut>(seat)
+    }
+
+    /// Loads the live word, which says how many turns there are.
+    pub fn load_live(&self, seat: &mut Place) -> u64
+        requires table { seat.old.table_id ≡ self.now.table.shared.table_id }
+        requires ready { IsTurn seat.old.me.0 }
+        ensures table { seat.new.table_id ≡ seat.old.table_id }
+        ensures view { (seat.new.me.0 ≡ live_found result seat.old.me.0) × (seat.new.me.1 ≡ seat.old.me.1) }
+    {
+        self.table.shared.load::<ReadsLive>(seat, LIVE)
+    }
+
+    /// Loads the halt mark for a rest that is alone. It is 0 where no Fault stands.
+    pub fn look_for_halt(&self, seat: &mut Place) -> u64
+        requires table { seat.old.table_id ≡ self.now.table.shared.table_id }
+        requires ready { MayLook seat.old.me.0 }
+        ensures table { seat.new.table_id ≡ seat.old.table_id }
+        ensures view { (seat.new.me.0 ≡ looked result seat.old.me.0) × (seat.new.me.1 ≡ seat.old.me.1) }
+    {
+        self.table.shared.load::<Looks>(seat, HALT)
+    }
+
+    fn ask_told<A: Semaphore>(&self, seat: &mut Place, sem: u32) -> u64
+        requires table { seat.old.table_id ≡ self.now.table.shared.table_id }
+        requires ready { MayAsk (arc_value self.now.net) sem seat.old.me.0 }
+        requires in_range { sem < length (arc_value self.now.net).sems }
+        requires told { (A.net ≡ arc_value self.now.net) × (A.sem ≡ sem) }
+        ensures table { seat.new.table_id ≡ seat.old.table_id }
+        ensures view { (seat.new.me.0 ≡ asked A.net A.sem result seat.old.me.0) × (seat.new.me.1 ≡ seat.old.me.1) }
+    {
+        self.table
+            .shared
+            .load::<Asks<A>>(seat, FIRST_UNIT + sem as usize)
+    }
+
+    /// Loads the unit word of a semaphore for a rest that is alone: how many units are taken and not back.
+    pub fn load_units(&self, seat: &mut Place, sem: u32) -> u64
+        requires table { seat.old.table_id ≡ self.now.table.shared.table_id }
+        requires ready { MayAsk (arc_value self.now.net) sem seat.old.me.0 }
+        requires in_range { sem < length (arc_value self.now.net).sems }
+        ensures table { seat.new.table_id ≡ seat.old.table_id }
+        ensures view { (seat.new.me.0 ≡ asked (arc_value self.now.net) sem result seat.old.me.0) × (seat.new.me.1 ≡ seat.old.me.1) }
+    {
+        self.ask_told::<Brand>(seat, sem)
+    }
+
+    fn drop_last_told<A: Excuses>(&self, seat: &mut Place, _why: DropWhy) -> u64
+        requires table { seat.old.table_id ≡ self.now.table.shared.table_id }
+        requires ready { MayDropLast (arc_value self.now.net) A.why seat.old.me.0 }
+        ensures table { seat.new.table_id ≡ seat.old.table_id }
+        ensures view { (seat.new.me.0 ≡ last_dropped A.why result seat.old.me.0) × (seat.new.me.1 ≡ seat.old.me.1) }
+    {
+        self.table.shared.fetch_add::<DropsLast<A>>(seat, CLOCK, 1)
+    }
+
+    /// Draws the place of a Drop of a rest's last turn.
+    pub fn draw_last_drop(&self, seat: &mut Place, why: DropWhy) -> u64
+        requires table { seat.old.table_id ≡ self.now.table.shared.table_id }
+        requires ready { MayDropLast (arc_value self.now.net) why seat.old.me.0 }
+        ensures table { seat.new.table_id ≡ seat.old.table_id }
+        ensures view { (seat.new.me.0 ≡ last_dropped why result seat.old.me.0) × (seat.new.me.1 ≡ seat.old.me.1) }
+    {
+        self.drop_last_told::<Brand>(seat, why)
+    }
+
+    /// Takes a turn of a rest off, where the rest has others.
+    pub fn thin(&self, seat: &mut Place)
+        requires table { seat.old.table_id ≡ self.now.table.shared.table_id }
+        requires ready { MayThin seat.old.me.0 }
+        ensures table { seat.new.table_id ≡ seat.old.table_id }
+        ensures view { (seat.new.me.0 ≡ left_by seat.old.me.0) × (seat.new.me.1 ≡ seat.old.me.1) }
+    {
+        self.table.shared.fetch_sub::<Thins>(seat, LIVE, 1);
+    }
+}

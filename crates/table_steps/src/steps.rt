@@ -1,0 +1,462 @@
+// The kinds of step, each by one seat on one word.
+ghost use Rattle.std.specs.Prelude.{◌≡◌, ◌+◌, ◌<◌, ℕ, List, Bool, [], length};
+ghost use Rattle.std.specs.Arc.{arc_value};
+ghost use Rattle.task_graph.specs.NetRows.{NetRows};
+ghost use Rattle.table_steps.specs.inside.Accounts.{AllFitNotes, edges_from};
+ghost use Rattle.task_graph.specs.Net.{IsNet, strong_in};
+ghost use Rattle.table_steps.specs.inside.Kinds.{IsTurn, MayReset, MayTakeUp, taken_up, TakesNext, took, OwesNext, gave, CountsNext, counted_one, AreNoneLeft, others_of, MayAdd, added, MayDeal, dealt, kept_back, MayAdmit, admitted, MayStart, started, MayEnd, ended, MayLeave, left_by, IsWhole, joined};
+
+use crate::view::{AccountsHold, Note, Plan};
+use atomic_table::{Join, Play, Seat, Split, Table};
+use outside_io::List;
+use std::alloc::Global;
+use std::marker::{Brand, PhantomData};
+use std::sync::Arc;
+use task_graph::Net;
+
+// The words of the table. Each of the first five has a cache line to itself, since eight words fill one: the others
+// lie eight apart. Nothing is ever written to word 0, which splits, joins and loads read.
+const UNWRITTEN: usize = 0;
+
+pub const CLOCK: usize = 8;
+
+pub const LIVE: usize = 16;
+
+pub const STARTS: usize = 24;
+
+pub const HALT: usize = 32;
+
+// From here on each semaphore has a word of units taken, then each a word of credits, then each edge a word of tokens,
+// and each task its join word.
+pub const FIRST_UNIT: usize = 40;
+
+/// What a seat is.
+pub type Place = Seat<(), List<Note>>;
+
+/// The words of a table, with its net.
+#[derive(Drop)]
+pub struct Words {
+    pub table: Table<(), List<Note>, Plan, AccountsHold, Global>,
+    pub net: Arc<Net>,
+    pub limit: u64,
+    ghost same_limit: { limit ≡ table.shared.key.limit },
+    ghost same_net: { arc_value net ≡ arc_value table.shared.key.net },
+    ghost sized: { table.shared.table_id.words ≡ edges_from (arc_value net) + length (arc_value net).edges + length (arc_value net).tasks },
+}
+
+/// What a step is told besides.
+pub trait Told {
+    ghost net: { NetRows };
+
+    ghost limit: { ℕ };
+
+    ghost edge: { ℕ };
+
+    ghost task: { ℕ };
+
+    ghost gives: { List ℕ };
+
+    ghost inner: { Bool };
+}
+
+impl Told for Brand {
+    ghost use Rattle.std.specs.Prelude.{[], false};
+
+    ghost net = { record { tasks = []; edges = []; sems = [] } };
+
+    ghost limit = { 0 };
+
+    ghost edge = { 0 };
+
+    ghost task = { 0 };
+
+    ghost gives = { [] };
+
+    ghost inner = { false };
+}
+
+struct Learns<A> {
+    told: PhantomData<A>,
+}
+
+impl<A: Told> Play<(), List<Note>> for Learns<A> {
+    ghost then = { λ _ before n after. (after.0 ≡ before.0) × (after.1 ≡ before.1) × AllFitNotes A.net before.0 × (length A.net.edges < 4294967296) };
+}
+
+struct TakesUp<A> {
+    told: PhantomData<A>,
+}
+
+impl<A: Told> Play<(), List<Note>> for TakesUp<A> {
+    ghost then = { λ _ before n after. (after.0 ≡ taken_up A.net before.0) × (after.1 ≡ before.1) };
+}
+
+struct Takes;
+
+impl Play<(), List<Note>> for Takes {
+    ghost then = { λ _ before n after. (after.0 ≡ took n before.0) × (after.1 ≡ before.1) };
+}
+
+struct Gives<A> {
+    told: PhantomData<A>,
+}
+
+impl<A: Told> Play<(), List<Note>> for Gives<A> {
+    ghost then = { λ _ before n after. (after.0 ≡ gave A.net A.edge n before.0) × (after.1 ≡ before.1) };
+}
+
+struct Counts<A> {
+    told: PhantomData<A>,
+}
+
+impl<A: Told> Play<(), List<Note>> for Counts<A> {
+    ghost then = { λ _ before n after. (after.0 ≡ counted_one A.task n before.0) × (after.1 ≡ before.1) × (n ≡ 1 → AreNoneLeft A.task (others_of before.0)) };
+}
+
+struct Adds;
+
+impl Play<(), List<Note>> for Adds {
+    ghost then = { λ _ before n after. (after.0 ≡ added before.0) × (after.1 ≡ before.1) };
+}
+
+struct Deals;
+
+impl Split<List<Note>> for Deals {
+    ghost left = { kept_back };
+
+    ghost right = { dealt };
+}
+
+struct Admits<A> {
+    told: PhantomData<A>,
+}
+
+impl<A: Told> Play<(), List<Note>> for Admits<A> {
+    ghost then = { λ _ before n after. (after.0 ≡ admitted A.limit n before.0) × (after.1 ≡ before.1) };
+}
+
+struct Starts<A> {
+    told: PhantomData<A>,
+}
+
+impl<A: Told> Play<(), List<Note>> for Starts<A> {
+    ghost then = { λ _ before n after. (after.0 ≡ started A.net n before.0) × (after.1 ≡ before.1) × IsNet A.net };
+}
+
+struct Ends<A> {
+    told: PhantomData<A>,
+}
+
+impl<A: Told> Play<(), List<Note>> for Ends<A> {
+    ghost then = { λ _ before n after. (after.0 ≡ ended A.gives A.inner n before.0) × (after.1 ≡ before.1) };
+}
+
+struct TakesIn;
+
+impl Join<List<Note>> for TakesIn {
+    ghost both = { joined };
+
+    ghost spent = { [] };
+}
+
+struct Leaves<A> {
+    told: PhantomData<A>,
+}
+
+impl<A: Told> Play<(), List<Note>> for Leaves<A> {
+    ghost then = { λ _ before n after. (after.0 ≡ left_by before.0) × (after.1 ≡ before.1) × (n ≡ 1 → IsWhole A.net A.limit after.0) };
+}
+
+impl Words {
+    fn learn_told<A: Told>(&self, seat: &mut Place)
+        requires table { seat.old.table_id ≡ self.now.table.shared.table_id }
+        requires ready { IsTurn seat.old.me.0 }
+        requires told { A.net ≡ arc_value self.now.net }
+        ensures table { (seat.new.table_id ≡ seat.old.table_id) × (seat.new.id ≡ seat.old.id) }
+        ensures view { (seat.new.me.0 ≡ seat.old.me.0) × (seat.new.me.1 ≡ seat.old.me.1) }
+        ensures fits { AllFitNotes A.net seat.old.me.0 }
+        ensures few { length A.net.edges < 4294967296 }
+    {
+        self.table.shared.load::<Learns<A>>(seat, UNWRITTEN);
+    }
+
+    /// Learns that what the seat knows fits the net.
+    pub fn learn(&self, seat: &mut Place)
+        requires table { seat.old.table_id ≡ self.now.table.shared.table_id }
+        requires ready { IsTurn seat.old.me.0 }
+        ensures table { (seat.new.table_id ≡ seat.old.table_id) × (seat.new.id ≡ seat.old.id) }
+        ensures view { (seat.new.me.0 ≡ seat.old.me.0) × (seat.new.me.1 ≡ seat.old.me.1) }
+        ensures fits { AllFitNotes (arc_value self.now.net) seat.old.me.0 }
+        ensures few { length (arc_value self.now.net).edges < 4294967296 }
+    {
+        self.learn_told::<Brand>(seat)
+    }
+
+    fn take_up_told<A: Told>(&self, seat: &mut Place)
+        requires table { seat.old.table_id ≡ self.now.table.shared.table_id }
+        requires ready { MayTakeUp seat.old.me.0 }
+        requires told { A.net ≡ arc_value self.now.net }
+        ensures table { seat.new.table_id ≡ seat.old.table_id }
+        ensures view { (seat.new.me.0 ≡ taken_up A.net seat.old.me.0) × (seat.new.me.1 ≡ seat.old.me.1) }
+    {
+        self.table.shared.load::<TakesUp<A>>(seat, UNWRITTEN);
+    }
+
+    /// Takes up a release of a source task or by a weak edge.
+    pub fn take_up(&self, seat: &mut Place)
+        requires table { seat.old.table_id ≡ self.now.table.shared.table_id }
+        requires ready { MayTakeUp seat.old.me.0 }
+        ensures table { seat.new.table_id ≡ seat.old.table_id }
+        ensures view { (seat.new.me.0 ≡ taken_up (arc_value self.now.net) seat.old.me.0) × (seat.new.me.1 ≡ seat.old.me.1) }
+    {
+        self.take_up_told::<Brand>(seat)
+    }
+
+    fn reset_told<A: Told>(&self, seat: &mut Place, task: u32, word: usize, edges: u64)
+        requires table { seat.old.table_id ≡ self.now.table.shared.table_id }
+        requires ready { MayReset (arc_value self.now.net) task seat.old.me.0 }
+        requires in_range { task < length (arc_value self.now.net).tasks }
+        requires word { word ≡ edges_from (arc_value self.now.net) + length (arc_value self.now.net).edges + task }
+        requires edges { edges ≡ length (strong_in (arc_value self.now.net) task) }
+        requires told { A.net ≡ arc_value self.now.net }
+        ensures table { seat.new.table_id ≡ seat.old.table_id }
+        ensures view { (seat.new.me.0 ≡ taken_up A.net seat.old.me.0) × (seat.new.me.1 ≡ seat.old.me.1) }
+    {
+        self.table.shared.fetch_add::<TakesUp<A>>(seat, word, edges);
+    }
+
+    /// Sets a task's join word again, and takes up its release.
+    pub fn reset_join(&self, seat: &mut Place, task: u32)
+        requires table { seat.old.table_id ≡ self.now.table.shared.table_id }
+        requires ready { MayReset (arc_value self.now.net) task seat.old.me.0 }
+        requires in_range { task < length (arc_value self.now.net).tasks }
+        ensures table { seat.new.table_id ≡ seat.old.table_id }
+        ensures view { (seat.new.me.0 ≡ taken_up (arc_value self.now.net) seat.old.me.0) × (seat.new.me.1 ≡ seat.old.me.1) }
+    {
+        let edges = self.net.strong_in(task).len() as u64;
+        self.reset_told::<Brand>(seat, task, self.join_word(task), edges)
+    }
+
+    // Where the join word of a task is.
+    fn join_word(&self, task: u32) -> usize
+        requires { task < length (arc_value self.now.net).tasks }
+        ensures { result ≡ edges_from (arc_value self.now.net) + length (arc_value self.now.net).edges + task }
+    {
+        self.first_edge() + self.net.edges().len() + task as usize
+    }
+
+    // Where the words of tokens begin.
+    fn first_edge(&self) -> usize
+        ensures place { result ≡ edges_from (arc_value self.now.net) }
+        ensures few { length (arc_value self.now.net).sems < 4294967296 }
+    {
+        FIRST_UNIT + self.net.sems().len() + self.net.sems().len()
+    }
+
+    // Where the word of an edge is.
+    fn edge_word(&self, edge: u32) -> usize
+        requires { edge < length (arc_value self.now.net).edges }
+        ensures { result ≡ edges_from (arc_value self.now.net) + edge }
+    {
+        self.first_edge() + edge as usize
+    }
+
+    /// Takes a token from the next edge of a release, and says how many were there.
+    pub fn take_token(&self, seat: &mut Place, edge: u32) -> u64
+        requires table { seat.old.table_id ≡ self.now.table.shared.table_id }
+        requires ready { TakesNext (arc_value self.now.net) edge seat.old.me.0 }
+        requires in_range { edge < length (arc_value self.now.net).edges }
+        ensures table { seat.new.table_id ≡ seat.old.table_id }
+        ensures view { (seat.new.me.0 ≡ took result seat.old.me.0) × (seat.new.me.1 ≡ seat.old.me.1) }
+    {
+        self.table
+            .shared
+            .fetch_sub::<Takes>(seat, self.edge_word(edge), 1)
+    }
+
+    fn give_told<A: Told>(&self, seat: &mut Place, edge: u32) -> u64
+        requires table { seat.old.table_id ≡ self.now.table.shared.table_id }
+        requires ready { OwesNext (arc_value self.now.net) edge seat.old.me.0 }
+        requires in_range { edge < length (arc_value self.now.net).edges }
+        requires told { (A.net ≡ arc_value self.now.net) × (A.edge ≡ edge) }
+        ensures table { seat.new.table_id ≡ seat.old.table_id }
+        ensures view { (seat.new.me.0 ≡ gave A.net A.edge result seat.old.me.0) × (seat.new.me.1 ≡ seat.old.me.1) }
+    {
+        self.table
+            .shared
+            .fetch_add::<Gives<A>>(seat, self.edge_word(edge), 1)
+    }
+
+    /// Gives a token of the next edge that is owed, and says how many were there.
+    pub fn give_token(&self, seat: &mut Place, edge: u32) -> u64
+        requires table { seat.old.table_id ≡ self.now.table.shared.table_id }
+        requires ready { OwesNext (arc_value self.now.net) edge seat.old.me.0 }
+        requires in_range { edge < length (arc_value self.now.net).edges }
+        ensures table { seat.new.table_id ≡ seat.old.table_id }
+        ensures view { (seat.new.me.0 ≡ gave (arc_value self.now.net) edge result seat.old.me.0) × (seat.new.me.1 ≡ seat.old.me.1) }
+    {
+        self.give_told::<Brand>(seat, edge)
+    }
+
+    fn count_told<A: Told>(&self, seat: &mut Place, task: u32, edge: u32, word: usize) -> u64
+        requires table { seat.old.table_id ≡ self.now.table.shared.table_id }
+        requires ready { CountsNext (arc_value self.now.net) task edge seat.old.me.0 }
+        requires in_range { task < length (arc_value self.now.net).tasks }
+        requires word { word ≡ edges_from (arc_value self.now.net) + length (arc_value self.now.net).edges + task }
+        requires told { A.task ≡ task }
+        ensures table { seat.new.table_id ≡ seat.old.table_id }
+        ensures view { (seat.new.me.0 ≡ counted_one A.task result seat.old.me.0) × (seat.new.me.1 ≡ seat.old.me.1) }
+        ensures last { result ≡ 1 → AreNoneLeft A.task (others_of seat.old.me.0) }
+    {
+        self.table.shared.fetch_sub::<Counts<A>>(seat, word, 1)
+    }
+
+    /// Counts an edge with a token at its target, and says what the join word was.
+    pub fn count_edge(&self, seat: &mut Place, task: u32, edge: u32) -> u64
+        requires table { seat.old.table_id ≡ self.now.table.shared.table_id }
+        requires ready { CountsNext (arc_value self.now.net) task edge seat.old.me.0 }
+        requires in_range { task < length (arc_value self.now.net).tasks }
+        ensures table { seat.new.table_id ≡ seat.old.table_id }
+        ensures view { (seat.new.me.0 ≡ counted_one task result seat.old.me.0) × (seat.new.me.1 ≡ seat.old.me.1) }
+        ensures last { result ≡ 1 → AreNoneLeft task (others_of seat.old.me.0) }
+    {
+        self.count_told::<Brand>(seat, task, edge, self.join_word(task))
+    }
+
+    /// Counts the turn of a release that the seat has just made.
+    pub fn add_turn(&self, seat: &mut Place)
+        requires table { seat.old.table_id ≡ self.now.table.shared.table_id }
+        requires ready { MayAdd seat.old.me.0 }
+        ensures table { seat.new.table_id ≡ seat.old.table_id }
+        ensures view { (seat.new.me.0 ≡ added seat.old.me.0) × (seat.new.me.1 ≡ seat.old.me.1) }
+    {
+        self.table.shared.fetch_add::<Adds>(seat, LIVE, 1);
+    }
+
+    /// Deals a release with its turn to a new seat.
+    pub fn deal(&self, seat: &mut Place) -> Place
+        requires table { seat.old.table_id ≡ self.now.table.shared.table_id }
+        requires ready { MayDeal seat.old.id seat.old.me.0 }
+        ensures table { (seat.new.table_id ≡ seat.old.table_id) × (seat.new.id ≡ seat.old.id) × (result.table_id ≡ seat.old.table_id) }
+        ensures view { (seat.new.me ≡ (kept_back seat.old.me.0, seat.old.me.1)) × (result.me ≡ (dealt seat.old.me.0, [])) }
+    {
+        self.table.shared.split_seat::<Deals>(seat)
+    }
+
+    fn admit_told<A: Told>(&self, seat: &mut Place) -> u64
+        requires table { seat.old.table_id ≡ self.now.table.shared.table_id }
+        requires ready { MayAdmit seat.old.me.0 }
+        requires told { A.limit ≡ self.now.table.shared.key.limit }
+        ensures table { seat.new.table_id ≡ seat.old.table_id }
+        ensures view { (seat.new.me.0 ≡ admitted A.limit result seat.old.me.0) × (seat.new.me.1 ≡ seat.old.me.1) }
+    {
+        self.table.shared.fetch_add::<Admits<A>>(seat, STARTS, 1)
+    }
+
+    /// Draws an admission, and says how many were drawn before.
+    pub fn draw_admission(&self, seat: &mut Place) -> u64
+        requires table { seat.old.table_id ≡ self.now.table.shared.table_id }
+        requires ready { MayAdmit seat.old.me.0 }
+        ensures table { seat.new.table_id ≡ seat.old.table_id }
+        ensures view { (seat.new.me.0 ≡ admitted self.now.table.shared.key.limit result seat.old.me.0) × (seat.new.me.1 ≡ seat.old.me.1) }
+    {
+        self.admit_told::<Brand>(seat)
+    }
+
+    /// How many starts the table may have.
+    pub fn limit(&self) -> u64
+        ensures { result ≡ self.now.table.shared.key.limit }
+    {
+        self.limit
+    }
+
+    fn start_told<A: Told>(&self, seat: &mut Place) -> u64
+        requires table { seat.old.table_id ≡ self.now.table.shared.table_id }
+        requires ready { MayStart (arc_value self.now.net) seat.old.me.0 }
+        requires told { A.net ≡ arc_value self.now.net }
+        ensures table { seat.new.table_id ≡ seat.old.table_id }
+        ensures view { (seat.new.me.0 ≡ started A.net result seat.old.me.0) × (seat.new.me.1 ≡ seat.old.me.1) }
+        ensures net { IsNet A.net }
+    {
+        self.table.shared.fetch_add::<Starts<A>>(seat, CLOCK, 1)
+    }
+
+    /// Draws the place of a Start.
+    pub fn draw_start(&self, seat: &mut Place) -> u64
+        requires table { seat.old.table_id ≡ self.now.table.shared.table_id }
+        requires ready { MayStart (arc_value self.now.net) seat.old.me.0 }
+        ensures table { seat.new.table_id ≡ seat.old.table_id }
+        ensures view { (seat.new.me.0 ≡ started (arc_value self.now.net) result seat.old.me.0) × (seat.new.me.1 ≡ seat.old.me.1) }
+        ensures net { IsNet (arc_value self.now.net) }
+    {
+        self.start_told::<Brand>(seat)
+    }
+
+    fn end_told<A: Told>(&self, seat: &mut Place, _gives: &List<u32>, _inner: bool) -> u64
+        requires table { seat.old.table_id ≡ self.now.table.shared.table_id }
+        requires ready { MayEnd (arc_value self.now.net) A.gives A.inner seat.old.me.0 }
+        ensures table { seat.new.table_id ≡ seat.old.table_id }
+        ensures view { (seat.new.me.0 ≡ ended A.gives A.inner result seat.old.me.0) × (seat.new.me.1 ≡ seat.old.me.1) }
+    {
+        self.table.shared.fetch_add::<Ends<A>>(seat, CLOCK, 1)
+    }
+
+    /// Draws the place of an End that gives these edges.
+    pub fn draw_end(&self, seat: &mut Place, gives: &List<u32>, inner: bool) -> u64
+        requires table { seat.old.table_id ≡ self.now.table.shared.table_id }
+        requires ready { MayEnd (arc_value self.now.net) gives.now inner seat.old.me.0 }
+        ensures table { seat.new.table_id ≡ seat.old.table_id }
+        ensures view { (seat.new.me.0 ≡ ended gives.now inner result seat.old.me.0) × (seat.new.me.1 ≡ seat.old.me.1) }
+    {
+        self.end_told::<Brand>(seat, gives, inner)
+    }
+
+    /// Gives what a seat knows to the keeper's.
+    pub fn take_in(&self, seat: &mut Place, other: Place)
+        requires table { (seat.old.table_id ≡ self.now.table.shared.table_id) × (other.table_id ≡ self.now.table.shared.table_id) }
+        requires keeper { seat.old.id ≡ 0 }
+        requires home { other.me.1 ≡ [] }
+        ensures table { (seat.new.table_id ≡ seat.old.table_id) × (seat.new.id ≡ seat.old.id) }
+        ensures view { seat.new.me ≡ (joined seat.old.me.0 other.me.0, seat.old.me.1) }
+    {
+        self.table.shared.join_seat::<TakesIn>(seat, other);
+    }
+
+    fn leave_told<A: Told>(&self, seat: &mut Place) -> u64
+        requires table { seat.old.table_id ≡ self.now.table.shared.table_id }
+        requires keeper { seat.old.id ≡ 0 }
+        requires ready { MayLeave seat.old.me.0 }
+        requires told { (A.net ≡ arc_value self.now.net) × (A.limit ≡ self.now.table.shared.key.limit) }
+        ensures table { (seat.new.table_id ≡ seat.old.table_id) × (seat.new.id ≡ seat.old.id) }
+        ensures view { (seat.new.me.0 ≡ left_by seat.old.me.0) × (seat.new.me.1 ≡ seat.old.me.1) }
+        ensures whole { result ≡ 1 → IsWhole A.net A.limit seat.new.me.0 }
+    {
+        self.table.shared.fetch_sub::<Leaves<A>>(seat, LIVE, 1)
+    }
+
+    /// Takes a turn off, and says how many there were. After the last the keeper's seat knows a whole run.
+    pub fn leave(&self, seat: &mut Place) -> u64
+        requires table { seat.old.table_id ≡ self.now.table.shared.table_id }
+        requires keeper { seat.old.id ≡ 0 }
+        requires ready { MayLeave seat.old.me.0 }
+        ensures table { (seat.new.table_id ≡ seat.old.table_id) × (seat.new.id ≡ seat.old.id) }
+        ensures view { (seat.new.me.0 ≡ left_by seat.old.me.0) × (seat.new.me.1 ≡ seat.old.me.1) }
+        ensures whole { result ≡ 1 → IsWhole (arc_value self.now.net) self.now.table.shared.key.limit seat.new.me.0 }
+    {
+        self.leave_told::<Brand>(seat)
+    }
+
+    /// Takes a turn that is done into the keeper's seat, and says how many were live.
+    pub fn settle(&self, seat: &mut Place, spent: Place) -> u64
+        requires table { (seat.old.table_id ≡ self.now.table.shared.table_id) × (spent.table_id ≡ self.now.table.shared.table_id) }
+        requires keeper { seat.old.id ≡ 0 }
+        requires home { (seat.old.me.1 ≡ []) × (spent.me.1 ≡ []) }
+        requires ready { MayLeave (joined seat.old.me.0 spent.me.0) }
+        ensures table { (seat.new.table_id ≡ seat.old.table_id) × (seat.new.id ≡ 0) }
+        ensures view { (seat.new.me.0 ≡ left_by (joined seat.old.me.0 spent.me.0)) × (seat.new.me.1 ≡ []) }
+        ensures all { result ≡ 1 → IsWhole (arc_value self.now.net) self.now.table.shared.key.limit seat.new.me.0 }
+    {
+        self.take_in(seat, spent);
+        self.leave(seat)
+    }
+}

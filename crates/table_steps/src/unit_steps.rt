@@ -1,0 +1,143 @@
+// The kinds of step on the units of semaphores, each by one seat on one word.
+ghost use Rattle.std.specs.Prelude.{◌≡◌, ◌+◌, ◌<◌, ℕ, length};
+ghost use Rattle.std.specs.Arc.{arc_value};
+ghost use Rattle.task_graph.specs.NetRows.{NetRows};
+ghost use Rattle.table_steps.specs.inside.UnitKinds.{MayTake, took_unit, MayUndo, undone, MayPut, put_back, MayReturn, returned};
+
+use crate::steps::{FIRST_UNIT, Place, Words};
+use crate::view::Note;
+use atomic_table::Play;
+use outside_io::List;
+use std::marker::{Brand, PhantomData};
+
+/// Of which semaphore a unit is.
+pub trait Semaphore {
+    ghost net: { NetRows };
+
+    ghost sem: { ℕ };
+}
+
+impl Semaphore for Brand {
+    ghost use Rattle.std.specs.Prelude.{[]};
+
+    ghost net = { record { tasks = []; edges = []; sems = [] } };
+
+    ghost sem = { 0 };
+}
+
+pub struct TakesUnit<A> {
+    told: PhantomData<A>,
+}
+
+impl<A: Semaphore> Play<(), List<Note>> for TakesUnit<A> {
+    ghost then = { λ _ before n after. (after.0 ≡ took_unit A.net A.sem n before.0) × (after.1 ≡ before.1) };
+}
+
+pub struct Undoes;
+
+impl Play<(), List<Note>> for Undoes {
+    ghost then = { λ _ before n after. (after.0 ≡ undone before.0) × (after.1 ≡ before.1) };
+}
+
+pub struct PutsBack<A> {
+    told: PhantomData<A>,
+}
+
+impl<A: Semaphore> Play<(), List<Note>> for PutsBack<A> {
+    ghost then = { λ _ before n after. (after.0 ≡ put_back A.sem before.0) × (after.1 ≡ before.1) };
+}
+
+pub struct Returns<A> {
+    told: PhantomData<A>,
+}
+
+impl<A: Semaphore> Play<(), List<Note>> for Returns<A> {
+    ghost then = { λ _ before n after. (after.0 ≡ returned A.sem before.0) × (after.1 ≡ before.1) };
+}
+
+impl Words {
+    fn take_unit_told<A: Semaphore>(&self, seat: &mut Place, sem: u32) -> u64
+        requires table { seat.old.table_id ≡ self.now.table.shared.table_id }
+        requires ready { MayTake (arc_value self.now.net) sem seat.old.me.0 }
+        requires in_range { sem < length (arc_value self.now.net).sems }
+        requires told { (A.net ≡ arc_value self.now.net) × (A.sem ≡ sem) }
+        ensures table { seat.new.table_id ≡ seat.old.table_id }
+        ensures view { (seat.new.me.0 ≡ took_unit A.net A.sem result seat.old.me.0) × (seat.new.me.1 ≡ seat.old.me.1) }
+    {
+        self.table
+            .shared
+            .fetch_add::<TakesUnit<A>>(seat, FIRST_UNIT + sem as usize, 1)
+    }
+
+    /// Takes a unit of a semaphore, and says how many were taken.
+    pub fn draw_unit(&self, seat: &mut Place, sem: u32) -> u64
+        requires table { seat.old.table_id ≡ self.now.table.shared.table_id }
+        requires ready { MayTake (arc_value self.now.net) sem seat.old.me.0 }
+        requires in_range { sem < length (arc_value self.now.net).sems }
+        ensures table { seat.new.table_id ≡ seat.old.table_id }
+        ensures view { (seat.new.me.0 ≡ took_unit (arc_value self.now.net) sem result seat.old.me.0) × (seat.new.me.1 ≡ seat.old.me.1) }
+    {
+        self.take_unit_told::<Brand>(seat, sem)
+    }
+
+    /// Undoes a take that found no unit.
+    pub fn undo_unit(&self, seat: &mut Place, sem: u32)
+        requires table { seat.old.table_id ≡ self.now.table.shared.table_id }
+        requires ready { MayUndo (arc_value self.now.net) sem seat.old.me.0 }
+        requires in_range { sem < length (arc_value self.now.net).sems }
+        ensures table { seat.new.table_id ≡ seat.old.table_id }
+        ensures view { (seat.new.me.0 ≡ undone seat.old.me.0) × (seat.new.me.1 ≡ seat.old.me.1) }
+    {
+        self.table
+            .shared
+            .fetch_sub::<Undoes>(seat, FIRST_UNIT + sem as usize, 1);
+    }
+
+    fn put_unit_told<A: Semaphore>(&self, seat: &mut Place, sem: u32)
+        requires table { seat.old.table_id ≡ self.now.table.shared.table_id }
+        requires ready { MayPut (arc_value self.now.net) sem seat.old.me.0 }
+        requires in_range { sem < length (arc_value self.now.net).sems }
+        requires told { A.sem ≡ sem }
+        ensures table { seat.new.table_id ≡ seat.old.table_id }
+        ensures view { (seat.new.me.0 ≡ put_back A.sem seat.old.me.0) × (seat.new.me.1 ≡ seat.old.me.1) }
+    {
+        self.table
+            .shared
+            .fetch_sub::<PutsBack<A>>(seat, FIRST_UNIT + sem as usize, 1);
+    }
+
+    /// Puts a unit back that a turn holds.
+    pub fn put_unit_back(&self, seat: &mut Place, sem: u32)
+        requires table { seat.old.table_id ≡ self.now.table.shared.table_id }
+        requires ready { MayPut (arc_value self.now.net) sem seat.old.me.0 }
+        requires in_range { sem < length (arc_value self.now.net).sems }
+        ensures table { seat.new.table_id ≡ seat.old.table_id }
+        ensures view { (seat.new.me.0 ≡ put_back sem seat.old.me.0) × (seat.new.me.1 ≡ seat.old.me.1) }
+    {
+        self.put_unit_told::<Brand>(seat, sem)
+    }
+
+    fn return_told<A: Semaphore>(&self, seat: &mut Place, sem: u32)
+        requires table { seat.old.table_id ≡ self.now.table.shared.table_id }
+        requires ready { MayReturn (arc_value self.now.net) sem seat.old.me.0 }
+        requires in_range { sem < length (arc_value self.now.net).sems }
+        requires told { A.sem ≡ sem }
+        ensures table { seat.new.table_id ≡ seat.old.table_id }
+        ensures view { (seat.new.me.0 ≡ returned A.sem seat.old.me.0) × (seat.new.me.1 ≡ seat.old.me.1) }
+    {
+        self.table
+            .shared
+            .fetch_sub::<Returns<A>>(seat, FIRST_UNIT + sem as usize, 1);
+    }
+
+    /// Gives a unit back that an end owes.
+    pub fn give_unit_back(&self, seat: &mut Place, sem: u32)
+        requires table { seat.old.table_id ≡ self.now.table.shared.table_id }
+        requires ready { MayReturn (arc_value self.now.net) sem seat.old.me.0 }
+        requires in_range { sem < length (arc_value self.now.net).sems }
+        ensures table { seat.new.table_id ≡ seat.old.table_id }
+        ensures view { (seat.new.me.0 ≡ returned sem seat.old.me.0) × (seat.new.me.1 ≡ seat.old.me.1) }
+    {
+        self.return_told::<Brand>(seat, sem)
+    }
+}

@@ -1,0 +1,104 @@
+// What the seats of a table know, and its rule.
+ghost use Rattle.std.specs.Arc.{arc_value};
+
+use atomic_table::TableRule;
+use journal_rules::{Cause, Entry};
+use outside_io::List;
+use std::sync::Arc;
+use task_graph::Net;
+
+/// What a seat knows of its turn, or has still to do. No value of it is made.
+pub enum Item {
+    /// It drew this place, for this entry.
+    Told(u64, Entry),
+    /// It holds a release of a task that is not set again.
+    Fresh(u32, Cause),
+    /// It holds a release of a task: it has taken the tokens of the first edges, and those of the others not yet.
+    Collecting(u32, Cause, List<u32>, List<u32>),
+    /// It may start one task.
+    Ticket,
+    /// The start that it drew at this place, of this task, runs.
+    Open(u64, u32),
+    /// It owes these edges a token each.
+    Owes(List<u32>),
+    /// This edge has a token that is not counted yet.
+    Counting(u32),
+}
+
+/// What a list of semaphores is.
+pub enum Kind {
+    /// Units that a turn has taken for a start.
+    Held,
+    /// A take that found no unit, to be undone.
+    Undo,
+    /// Units that an end gives back.
+    Owed,
+    /// Taken and put by a start, not credited.
+    Both,
+    /// Taken and not put, not credited.
+    Credit,
+    /// Taken and not put, credited.
+    Credited,
+    /// Put, and still to be claimed.
+    Claim,
+    /// Put, and claimed.
+    Granted,
+    /// A claim that was refused, to be undone.
+    Refusing,
+    /// A claim that was refused and undone.
+    Denied,
+    /// Without a unit, as a rest knows.
+    Full,
+}
+
+/// What a seat knows besides.
+pub enum Mark {
+    /// A live turn.
+    Live,
+    /// A turn that is not counted yet.
+    New,
+    /// A turn that was refused at the limit.
+    Over,
+    /// A Fault is drawn, and the halt mark is to be set.
+    ToMark,
+    /// A Fault stands.
+    Halted,
+    /// The seat has all live turns.
+    Alone,
+    /// Besides, no Fault stands.
+    Quiet,
+    /// Besides, a Drop for want of a unit stands.
+    Sticking,
+    /// It has looked at the halt mark, which wasn't set, and may draw an admission.
+    Asked,
+}
+
+/// One of the facts of which a seat's view is the list. No value of it is made.
+pub enum Note {
+    /// What it knows of its turn, or has still to do.
+    Duty(Item),
+    /// Semaphores, and what they are to it.
+    Sems(Kind, List<u32>),
+    /// What it knows besides.
+    Has(Mark),
+    /// The start at this place, of this task, would give back a unit of this semaphore that isn't out.
+    Unfit(u32, u64, u32),
+}
+
+/// The net and the limit of a table.
+#[derive(Drop)]
+pub struct Plan {
+    pub net: Arc<Net>,
+    pub limit: u64,
+}
+
+/// The accounts hold between any two steps.
+pub struct AccountsHold;
+
+impl TableRule<(), List<Note>, Plan> for AccountsHold {
+    ghost use Rattle.table_steps.specs.inside.Accounts.{KeepsAccounts, opening_notes};
+
+    ghost holds = { λ plan. KeepsAccounts (arc_value plan.net) plan.limit };
+
+    ghost first = { λ plan. opening_notes (arc_value plan.net) plan.limit };
+}
