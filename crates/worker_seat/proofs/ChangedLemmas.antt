@@ -33,22 +33,22 @@ changed_set f zero (x ∷ xs) y lt is = ap (λ v. f v ∷ xs) is
 changed_set f (suc n) [] y lt is = absurd (omega arith)
 changed_set f (suc n) (x ∷ xs) y lt is = ap (λ ys. f x ∷ ys) (changed_set f n xs y (omega arith) is)
 
-module _ {J V X : Type 0} {W : X → Type 0} where
-  pub moved_next : (to : SeatState J → SeatState J) (n : ℕ) (xs ys : List (WorkerSeat J V X W)) (seat : WorkerSeat J V X W) (place : SeatState J)
+module _ {J V X : Type 0} where
+  pub moved_next : (to : SeatState J → SeatState J) (n : ℕ) (xs ys : List (WorkerSeat J X V)) (seat : WorkerSeat J X V) (place : SeatState J)
       → ys ≡ changed (moved to) n xs → n < length xs → seat ≡ slice_index_or ys n seat → place ≡ to (slice_index_or ys n seat).place
       → slice_set ys n record { watcher = (slice_index_or ys n seat).watcher; place = place } ≡ changed (moved to) (n + 1) xs
   moved_next to n xs ys seat place e lt is went =
       subst (λ (p : SeatState J). slice_set ys n record { watcher = (slice_index_or ys n seat).watcher; place = p } ≡ changed (moved to) (n + 1) xs) (sym went)
-      (subst (λ (s : WorkerSeat J V X W). slice_set ys n (moved to s) ≡ changed (moved to) (n + 1) xs) is
+      (subst (λ (s : WorkerSeat J X V). slice_set ys n (moved to s) ≡ changed (moved to) (n + 1) xs) is
       (rw add-one
-      (subst (λ (zs : List (WorkerSeat J V X W)). seat ≡ slice_index_or zs n seat → slice_set zs n (moved to seat) ≡ changed (moved to) (suc n) xs) (sym e)
+      (subst (λ (zs : List (WorkerSeat J X V)). seat ≡ slice_index_or zs n seat → slice_set zs n (moved to seat) ≡ changed (moved to) (suc n) xs) (sym e)
       (changed_set (moved to) n xs seat lt) is)))
 
-  pub moved_all : (to : SeatState J → SeatState J) (n : ℕ) (xs ys : List (WorkerSeat J V X W)) → ys ≡ changed (moved to) n xs → length xs ≤ n → ys ≡ map (moved to) xs
+  pub moved_all : (to : SeatState J → SeatState J) (n : ℕ) (xs ys : List (WorkerSeat J X V)) → ys ≡ changed (moved to) n xs → length xs ≤ n → ys ≡ map (moved to) xs
   moved_all to n xs ys e le = e ∙ changed_all (moved to) n xs le
 
   -- seats that were sent to a run leave it as those that were not
-  pub sent_refused : (job : J) (n : ℕ) (xs ys : List (WorkerSeat J V X W)) (seat : WorkerSeat J V X W) → ys ≡ changed (moved (at_job job)) n xs
+  pub sent_refused : (job : J) (n : ℕ) (xs ys : List (WorkerSeat J X V)) (seat : WorkerSeat J X V) → ys ≡ changed (moved (at_job job)) n xs
       → map (moved left_refused) (slice_set ys n (slice_index_or ys n seat)) ≡ map (moved left_refused) xs
   sent_refused job n xs ys seat e =
       ap (map (moved left_refused)) (set-get_or ys n seat ∙ e) ∙ changed_unseen (moved (at_job job)) (moved left_refused) (λ x. refl) n xs

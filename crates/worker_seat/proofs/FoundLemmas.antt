@@ -21,35 +21,35 @@ map_set_same f [] i y d lt e = absurd (omega arith)
 map_set_same f (x ∷ xs) zero y d lt e = ap (λ v. v ∷ map f xs) e
 map_set_same f (x ∷ xs) (suc i) y d lt e = ap (λ vs. f x ∷ vs) (map_set_same f xs i y d (omega arith) e)
 
-module _ {J V X : Type 0} {W : X → Type 0} where
-  abbrev pub has_closed : WorkerSeat J V X W → Bool
+module _ {J V X : Type 0} where
+  abbrev pub has_closed : WorkerSeat J X V → Bool
   has_closed seat = (state_of seat).closed
 
-  pub first_below : (xs : List (WorkerSeat J V X W)) (i : ℕ) (d : WorkerSeat J V X W) → Some i ≡ position has_closed xs → i < length xs
+  pub first_below : (xs : List (WorkerSeat J X V)) (i : ℕ) (d : WorkerSeat J X V) → Some i ≡ position has_closed xs → i < length xs
   first_below xs i d e = (position-Some has_closed xs i d (sym e)).0
 
-  pub first_is_closed : (xs : List (WorkerSeat J V X W)) (i : ℕ) (d : WorkerSeat J V X W) → Some i ≡ position has_closed xs → has_closed (slice_index_or xs i d) ≡ true
+  pub first_is_closed : (xs : List (WorkerSeat J X V)) (i : ℕ) (d : WorkerSeat J X V) → Some i ≡ position has_closed xs → has_closed (slice_index_or xs i d) ≡ true
   first_is_closed xs i d e = (position-Some has_closed xs i d (sym e)).1
 
-  pub none_closed : (xs : List (WorkerSeat J V X W)) → None ≡ position has_closed xs → All IsOpen xs
+  pub none_closed : (xs : List (WorkerSeat J X V)) → None ≡ position has_closed xs → All IsOpen xs
   none_closed xs e =
       let out : length xs ≤ position_or_len has_closed xs = grind (arith, common_steps) in
       λ k d lt. fails_before_first has_closed xs k d (omega arith)
 
-  pub left_all : (xs new : List (WorkerSeat J V X W)) (i : ℕ) (d : WorkerSeat J V X W) (place : SeatState J) → i < length xs → place ≡ away (slice_index_or xs i d).place
+  pub left_all : (xs new : List (WorkerSeat J X V)) (i : ℕ) (d : WorkerSeat J X V) (place : SeatState J) → i < length xs → place ≡ away (slice_index_or xs i d).place
       → new ≡ map (moved away) (slice_set xs i record { watcher = (slice_index_or xs i d).watcher; place = place }) → new ≡ map (moved away) xs
   left_all xs new i d place lt went e =
       e ∙ map_set_same (moved away) xs i record { watcher = (slice_index_or xs i d).watcher; place = place } d lt
       (ap (λ (p : SeatState J). moved away record { watcher = (slice_index_or xs i d).watcher; place = p }) went)
 
-  run_found : (meaning : Meaning J V) (xs : List (WorkerSeat J V X W)) (i : ℕ) (d : WorkerSeat J V X W) (run : FrameRun J V) → i < length xs
+  run_found : (meaning : Meaning J V) (xs : List (WorkerSeat J X V)) (i : ℕ) (d : WorkerSeat J X V) (run : FrameRun J V) → i < length xs
       → IsKept meaning run × IsClosedWith (job_of run) (slice_index_or xs i d).place → IsRunOf meaning xs run
   run_found meaning xs i d run lt got = record {
     kept = got.0;
     found = (i, slice_index_or xs i d, lt, get_or_default xs i (slice_index_or xs i d) d lt, got.1);
   }
 
-  pub run_found_if : (meaning : Meaning J V) (xs : List (WorkerSeat J V X W)) (i : ℕ) (d : WorkerSeat J V X W) (o : Option (FrameRun J V)) → i < length xs
+  pub run_found_if : (meaning : Meaning J V) (xs : List (WorkerSeat J X V)) (i : ℕ) (d : WorkerSeat J X V) (o : Option (FrameRun J V)) → i < length xs
       → IfSome o (λ run. IsKept meaning run × IsClosedWith (job_of run) (slice_index_or xs i d).place) → IfSome o (IsRunOf meaning xs)
   run_found_if meaning xs i d None lt got = tt
   run_found_if meaning xs i d (Some run) lt got = run_found meaning xs i d run lt got

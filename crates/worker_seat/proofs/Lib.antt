@@ -1,4 +1,5 @@
 mod ChangedLemmas
+pub mod Crossing
 mod FoundLemmas
 mod SeatingLemmas
 mod WorkedCrews

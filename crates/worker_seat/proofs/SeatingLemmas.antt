@@ -42,18 +42,18 @@ module _ {X Y : Type 0} (f : X → Y) where
   watchers_end seats [] all were none = sym (none_left (map f seats)) ∙ were
   watchers_end seats (w ∷ ws) all were none = absurd (omega arith)
 
-module _ {J V X : Type 0} {W : X → Type 0} where
+module _ {J V X : Type 0} where
   -- a new seat is of the list of its owner
-  pub list_more : (name counts : TableId) (seats new : List (WorkerSeat J V X W)) (seat : WorkerSeat J V X W) → All (λ (s : WorkerSeat J V X W). (state_of s).list ≡ name) seats
-      → new ≡ seats ++ seat ∷ [] → state_of seat ≡ new_seat counts → counts ≡ name → All (λ (s : WorkerSeat J V X W). (state_of s).list ≡ name) new
+  pub list_more : (name counts : TableId) (seats new : List (WorkerSeat J X V)) (seat : WorkerSeat J X V) → All (λ (s : WorkerSeat J X V). (state_of s).list ≡ name) seats
+      → new ≡ seats ++ seat ∷ [] → state_of seat ≡ new_seat counts → counts ≡ name → All (λ (s : WorkerSeat J X V). (state_of s).list ≡ name) new
   list_more name counts seats new seat all now state is =
-      let P : WorkerSeat J V X W → Type 0 = λ s. (state_of s).list ≡ name in
+      let P : WorkerSeat J X V → Type 0 = λ s. (state_of s).list ≡ name in
       let one : P seat = ap (λ (s : SeatState J). s.list) state ∙ is in
-      subst (λ (zs : List (WorkerSeat J V X W)). All P zs) (sym now) (All-push P seats seat all one)
+      subst (λ (zs : List (WorkerSeat J X V)). All P zs) (sym now) (All-push P seats seat all one)
 
   -- and may go to a run
-  pub ready_more : (counts : TableId) (seats new : List (WorkerSeat J V X W)) (seat : WorkerSeat J V X W) → All MayBegin seats
+  pub ready_more : (counts : TableId) (seats new : List (WorkerSeat J X V)) (seat : WorkerSeat J X V) → All MayBegin seats
       → new ≡ seats ++ seat ∷ [] → state_of seat ≡ new_seat counts → All MayBegin new
   ready_more counts seats new seat all now state =
       let one : MayBegin seat = record { free = ap (λ (s : SeatState J). s.job) state; served = ap (λ (s : SeatState J). s.refused) state } in
-      subst (λ (zs : List (WorkerSeat J V X W)). All MayBegin zs) (sym now) (All-push MayBegin seats seat all one)
+      subst (λ (zs : List (WorkerSeat J X V)). All MayBegin zs) (sym now) (All-push MayBegin seats seat all one)

@@ -2,8 +2,6 @@
 use Rattle.std.proofs.Common.{◌≡◌, ◌∙◌, ℕ, zero, suc, ◌<◌, true, false, [], ◌∷◌, Option, Some, None, refl, sym, ap, arith}
 use Rattle.std.specs.List.{slice_index_or}
 use Rattle.std.proofs.lemmas.List.Elements.{All-from_recursion, recursion_from_All}
-use Rattle.std.specs.Global.{Global}
-use Rattle.std.specs.declared.dyn_box.DynBox.{DynBox}
 use Rattle.atomic_table.specs.Seated.{TableId}
 use Rattle.run_frame.specs.declared.run.FrameRun.{FrameRun}
 use Rattle.run_frame.specs.Meaning.{Meaning}
@@ -73,8 +71,8 @@ a_seat_has_not_found_its_run_closed (closed, job) = cc
 a_seat_has_not_found_another_run_closed : ¬ IsClosedWith 8 found_seven
 a_seat_has_not_found_another_run_closed (closed, job) = cc
 
-module _ (V : Type 0) {X : Type 0} {W : X → Type 0} (watcher : DynBox X Global W) where
-  abbrev seat : SeatState ℕ → WorkerSeat ℕ V X W
+module _ (V : Type 0) {X : Type 0} (watcher : X) where
+  abbrev seat : SeatState ℕ → WorkerSeat ℕ X V
   seat state = record { watcher = watcher; place = state }
 
   a_seat_has_a_state : state_of (seat at_seven) ≡ at_seven
@@ -130,8 +128,8 @@ module _ (V : Type 0) {X : Type 0} {W : X → Type 0} (watcher : DynBox X Global
   found_by_none : (meaning : Meaning ℕ V) (run : FrameRun ℕ V) → ¬ IsRunOf meaning (seat at_seven ∷ []) run
   found_by_none meaning run is = by_place is.found.0 is.found.1 is.found.2 is.found.3 is.found.4
     where
-      by_place : (k : ℕ) (one : WorkerSeat ℕ V X W) → k < 1 → slice_index_or (seat at_seven ∷ []) k one ≡ one → IsClosedWith (job_of run) (state_of one) → ⊥
-      by_place zero one below at closed = let same : true ≡ false = sym closed.0 ∙ sym (ap (λ (s : WorkerSeat ℕ V X W). s.place.closed) at) in absurd (cc)
+      by_place : (k : ℕ) (one : WorkerSeat ℕ X V) → k < 1 → slice_index_or (seat at_seven ∷ []) k one ≡ one → IsClosedWith (job_of run) (state_of one) → ⊥
+      by_place zero one below at closed = let same : true ≡ false = sym closed.0 ∙ sym (ap (λ (s : WorkerSeat ℕ X V). s.place.closed) at) in absurd (cc)
       by_place (suc k) one below at closed = absurd (omega (arith, below))
 
   another_run_found : (meaning : Meaning ℕ V) (run : FrameRun ℕ V) → job_of run ≡ 8 → ¬ IsRunOf meaning (seat found_seven ∷ []) run
@@ -141,6 +139,6 @@ module _ (V : Type 0) {X : Type 0} {W : X → Type 0} (watcher : DynBox X Global
       job_of_seat None = 0
       job_of_seat (Some j) = j
 
-      by_place : (k : ℕ) (one : WorkerSeat ℕ V X W) → k < 1 → slice_index_or (seat found_seven ∷ []) k one ≡ one → IsClosedWith (job_of run) (state_of one) → ⊥
-      by_place zero one below at closed = absurd (omega (arith, job, ap (λ (s : WorkerSeat ℕ V X W). job_of_seat s.place.job) at, ap job_of_seat closed.1))
+      by_place : (k : ℕ) (one : WorkerSeat ℕ X V) → k < 1 → slice_index_or (seat found_seven ∷ []) k one ≡ one → IsClosedWith (job_of run) (state_of one) → ⊥
+      by_place zero one below at closed = absurd (omega (arith, job, ap (λ (s : WorkerSeat ℕ X V). job_of_seat s.place.job) at, ap job_of_seat closed.1))
       by_place (suc k) one below at closed = absurd (omega (arith, below))

@@ -1,7 +1,5 @@
 -- Crews and their seats, as contracts see them.
 use Rattle.std.specs.Prelude.{◌≡◌, false, List, All, Any, length, None}
-use Rattle.std.specs.Global.{Global}
-use Rattle.std.specs.declared.dyn_box.DynBox.{DynBox}
 use Rattle.run_frame.specs.declared.run.FrameRun.{FrameRun}
 use Rattle.run_frame.specs.Meaning.{Meaning}
 use Rattle.run_frame.specs.Legal.{IsKept}
@@ -11,11 +9,11 @@ use Rattle.worker_seat.specs.declared.seat.WorkerSeat.{WorkerSeat}
 use Rattle.worker_seat.specs.Seats.{CrewState, SeatState, IsClosedWith}
 
 -- where a seat is
-abbrev pub state_of : {J V X : Type 0} {W : X → Type 0} → WorkerSeat J V X W → SeatState J
+abbrev pub state_of : {J V X : Type 0} → WorkerSeat J X V → SeatState J
 state_of seat = seat.place
 
 -- its watcher
-abbrev pub watcher_of : {J V X : Type 0} {W : X → Type 0} → WorkerSeat J V X W → DynBox X Global W
+abbrev pub watcher_of : {J V X : Type 0} → WorkerSeat J X V → X
 watcher_of seat = seat.watcher
 
 -- the name of a crew's list, and how many seats it has
@@ -23,28 +21,28 @@ abbrev pub crew_of : {J V : Type 0} → Crew J V → CrewState
 crew_of crew = crew.list
 
 -- the seat somewhere else, with its watcher
-abbrev pub moved : {J V X : Type 0} {W : X → Type 0} → (SeatState J → SeatState J) → WorkerSeat J V X W → WorkerSeat J V X W
+abbrev pub moved : {J V X : Type 0} → (SeatState J → SeatState J) → WorkerSeat J X V → WorkerSeat J X V
 moved to seat = record seat { place = to seat.place }
 
 -- the seat is one of this crew
-abbrev pub IsSeatOf : {J V X : Type 0} {W : X → Type 0} → Crew J V → WorkerSeat J V X W → Type 0
+abbrev pub IsSeatOf : {J V X : Type 0} → Crew J V → WorkerSeat J X V → Type 0
 IsSeatOf crew seat = (state_of seat).list ≡ (crew_of crew).list
 
 -- These are all seats of a crew: as many as were made with it. A seat can't be copied
-pub record AreSeatsOf {J V X : Type 0} {W : X → Type 0} (crew : Crew J V) (seats : List (WorkerSeat J V X W)) : Type 0 where
+pub record AreSeatsOf {J V X : Type 0} (crew : Crew J V) (seats : List (WorkerSeat J X V)) : Type 0 where
   pub of_crew : All (IsSeatOf crew) seats
   pub count : length seats ≡ (crew_of crew).seats
 
 -- the seat may go to a run: it is at none, and no allocation has failed for it
-pub record MayBegin {J V X : Type 0} {W : X → Type 0} (seat : WorkerSeat J V X W) : Type 0 where
+pub record MayBegin {J V X : Type 0} (seat : WorkerSeat J X V) : Type 0 where
   pub free : (state_of seat).job ≡ None
   pub served : (state_of seat).refused ≡ false
 
 -- the seat hasn't found a run closed
-abbrev pub IsOpen : {J V X : Type 0} {W : X → Type 0} → WorkerSeat J V X W → Type 0
+abbrev pub IsOpen : {J V X : Type 0} → WorkerSeat J X V → Type 0
 IsOpen seat = (state_of seat).closed ≡ false
 
 -- One of the seats has found a run closed: this one, which may be kept
-pub record IsRunOf {J V X : Type 0} {W : X → Type 0} (meaning : Meaning J V) (seats : List (WorkerSeat J V X W)) (run : FrameRun J V) : Type 0 where
+pub record IsRunOf {J V X : Type 0} (meaning : Meaning J V) (seats : List (WorkerSeat J X V)) (run : FrameRun J V) : Type 0 where
   pub kept : IsKept meaning run
   pub found : Any (λ seat. IsClosedWith (job_of run) (state_of seat)) seats

@@ -13,7 +13,6 @@ use frame_steps::{Frame, State, Stepped};
 use outside_io::{Back, NoMemory};
 use ready_deques::{Ready, Shares};
 use run_frame::{FrameRun, Job};
-use span_profile::Watch;
 use std::alloc::Global;
 use std::sync::{Arc, Wait};
 
@@ -26,9 +25,9 @@ pub struct Crew<J: Job + Drop> {
 
 /// A new crew, and all its seats.
 #[derive(Drop)]
-pub struct CrewParts<J: Job + Drop> {
+pub struct CrewParts<J: Job + Drop, X> {
     pub crew: Crew<J>,
-    pub seats: Vec<WorkerSeat<J>>,
+    pub seats: Vec<WorkerSeat<J, X>>,
 }
 
 impl<J: Job + Drop> Crew<J> {
@@ -36,10 +35,7 @@ impl<J: Job + Drop> Crew<J> {
     ghost use Rattle.worker_seat.specs.Crews.{AreSeatsOf, IsOpen, IsRunOf, IsSeatOf, MayBegin, moved, state_of, watcher_of};
 
     /// A crew with a seat for each of 1 to 16 watchers, in their order. They come back if an allocation fails.
-    pub fn new(
-        alloc: Global,
-        watchers: Vec<Box<dyn Watch + Send>>,
-    ) -> Result<CrewParts<J>, Back<Vec<Box<dyn Watch + Send>>>>
+    pub fn new<X: Drop>(alloc: Global, watchers: Vec<X>) -> Result<CrewParts<J, X>, Back<Vec<X>>>
         requires { (0 < length watchers.items) × (length watchers.items ≤ 16) }
         ensures crew { IfOk result (λ parts. AreSeatsOf parts.crew parts.seats.items) }
         ensures new { IfOk result (λ parts. All MayBegin parts.seats.items) }
@@ -66,10 +62,10 @@ impl<J: Job + Drop> Crew<J> {
 
     /// Begins a run of a job, for all seats of this crew. None of them is at a run, and none was ever refused. After
     /// an `Err`, which comes only if an allocation fails, all are refused.
-    pub fn begin<R: Wait>(
+    pub fn begin<X, R: Wait>(
         &self,
         rt: &R,
-        seats: &mut Vec<WorkerSeat<J>>,
+        seats: &mut Vec<WorkerSeat<J, X>>,
         job: Arc<J>,
     ) -> Result<(), NoMemory>
         requires seats { AreSeatsOf self.now seats.old.items }
@@ -89,7 +85,7 @@ impl<J: Job + Drop> Crew<J> {
 
     /// Works on the run that the seat is at, on the caller's thread, until the run is closed. It may wait. After an
     /// `Err`, which comes only if an allocation fails here or for another seat of the crew, the seat is refused.
-    pub fn enter<R: Wait>(&self, rt: &R, seat: &mut WorkerSeat<J>) -> Result<(), NoMemory>
+    pub fn enter<X, R: Wait>(&self, rt: &R, seat: &mut WorkerSeat<J, X>) -> Result<(), NoMemory>
         requires seat { IsSeatOf self.now seat.old }
         requires busy { IsBusy (state_of seat.old).job }
         ensures ok { OnOk result (seat.new ≡ moved found_closed seat.old) }
@@ -103,7 +99,11 @@ impl<J: Job + Drop> Crew<J> {
 
     /// Hands out the run that a seat has found closed, and takes all seats away from it. `None` exactly where no seat
     /// has found it closed. Then all stay as they are.
-    pub fn finish<R: Wait>(&self, rt: &R, seats: &mut Vec<WorkerSeat<J>>) -> Option<FrameRun<J>>
+    pub fn finish<X, R: Wait>(
+        &self,
+        rt: &R,
+        seats: &mut Vec<WorkerSeat<J, X>>,
+    ) -> Option<FrameRun<J>>
         requires { AreSeatsOf self.now seats.old.items }
         ensures run { IfSome result (IsRunOf J.meaning seats.old.items) }
         ensures left { IsSome result → seats.new.items ≡ map (moved away) seats.old.items }

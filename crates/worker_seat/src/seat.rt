@@ -7,14 +7,25 @@ use ready_deques::Owner;
 use run_frame::Job;
 use span_profile::Watch;
 
-/// A worker's place in a crew, for a thread of the caller.
+/// A worker's place in a crew, for a thread of the caller, with its watcher of type `X`.
 #[derive(Drop)]
-pub struct WorkerSeat<J: Job + Drop> {
-    pub(crate) watcher: Box<dyn Watch + Send>,
+pub struct WorkerSeat<J: Job + Drop, X> {
+    pub(crate) watcher: X,
     pub(crate) place: Place<J>,
 }
 
-impl<J: Job + Drop> WorkerSeat<J> {
+impl<J: Job + Drop, X: Watch> WorkerSeat<J, X> {
+    ghost use Rattle.worker_seat.specs.Crews.{watcher_of};
+
+    /// How many spans its watcher was told.
+    pub fn watched(&self) -> u64
+        ensures { result ≡ X.told (watcher_of self.now) }
+    {
+        self.watcher.count()
+    }
+}
+
+impl<J: Job + Drop, X> WorkerSeat<J, X> {
     ghost use Rattle.worker_seat.specs.Seats.{IsBusy, new_seat};
     ghost use Rattle.worker_seat.specs.Crews.{watcher_of, state_of};
 
@@ -39,15 +50,8 @@ impl<J: Job + Drop> WorkerSeat<J> {
         self.place.is_refused()
     }
 
-    /// How many spans its watcher was told.
-    pub fn watched(&self) -> u64
-        ensures { result ≡ told (watcher_of self.now) }
-    {
-        told_by(&self.watcher)
-    }
-
     /// Its watcher.
-    pub fn into_watcher(self) -> Box<dyn Watch + Send>
+    pub fn into_watcher(self) -> X
         ensures { result ≡ watcher_of self }
     {
         let WorkerSeat { watcher, .. } = self;
@@ -55,7 +59,7 @@ impl<J: Job + Drop> WorkerSeat<J> {
     }
 
     // A seat at no run.
-    pub(crate) fn new(owner: Owner<CrewItem<J>>, watcher: Box<dyn Watch + Send>) -> WorkerSeat<J>
+    pub(crate) fn new(owner: Owner<CrewItem<J>>, watcher: X) -> WorkerSeat<J, X>
         requires { owner.tag ≡ [] }
         ensures state { state_of result ≡ new_seat owner.counts }
         ensures watcher { watcher_of result ≡ watcher }
@@ -65,11 +69,4 @@ impl<J: Job + Drop> WorkerSeat<J> {
             place: Place::new(owner),
         }
     }
-}
-
-// How many spans a watcher was told.
-fn told_by(watcher: &Box<dyn Watch + Send>) -> u64
-    ensures { result ≡ told watcher.now }
-{
-    watcher.count()
 }

@@ -12,12 +12,11 @@ use crate::seat::WorkerSeat;
 use outside_io::NoMemory;
 use ready_deques::{Owner, Ready};
 use run_frame::{FrameRun, Job};
-use span_profile::Watch;
 use std::sync::{Arc, Wait};
 
 /// Sends all seats to a run. After an `Err` all are refused.
-pub fn send_all<J: Job + Drop>(
-    seats: &mut [WorkerSeat<J>],
+pub fn send_all<J: Job + Drop, X>(
+    seats: &mut [WorkerSeat<J, X>],
     run: &Arc<CrewRun<J>>,
 ) -> Result<(), NoMemory>
     ensures ok { OnOk result (seats.new ≡ map (moved (at_job (arc_value run.now).job)) seats.old) }
@@ -33,8 +32,8 @@ pub fn send_all<J: Job + Drop>(
 }
 
 // Sends the seats to a run, until an allocation fails.
-fn try_send_all<J: Job + Drop>(
-    seats: &mut [WorkerSeat<J>],
+fn try_send_all<J: Job + Drop, X>(
+    seats: &mut [WorkerSeat<J, X>],
     run: &Arc<CrewRun<J>>,
 ) -> Result<(), NoMemory>
     ensures ok { OnOk result (seats.new ≡ map (moved (at_job (arc_value run.now).job)) seats.old) }
@@ -48,7 +47,7 @@ fn try_send_all<J: Job + Drop>(
 }
 
 /// All seats leave their run, since an allocation failed.
-pub fn refuse_all<J: Job + Drop>(seats: &mut [WorkerSeat<J>])
+pub fn refuse_all<J: Job + Drop, X>(seats: &mut [WorkerSeat<J, X>])
     ensures { seats.new ≡ map (moved left_refused) seats.old }
 {
     for seat in seats.iter_mut() {
@@ -57,7 +56,7 @@ pub fn refuse_all<J: Job + Drop>(seats: &mut [WorkerSeat<J>])
 }
 
 /// All seats leave their run.
-pub fn leave_all<J: Job + Drop>(seats: &mut [WorkerSeat<J>])
+pub fn leave_all<J: Job + Drop, X>(seats: &mut [WorkerSeat<J, X>])
     ensures { seats.new ≡ map (moved away) seats.old }
 {
     for seat in seats.iter_mut() {
@@ -66,9 +65,9 @@ pub fn leave_all<J: Job + Drop>(seats: &mut [WorkerSeat<J>])
 }
 
 /// The run that a seat has found closed. Then all seats leave it. If no seat has, all stay.
-pub fn fetch_first<J: Job + Drop, R: Wait>(
+pub fn fetch_first<J: Job + Drop, X, R: Wait>(
     rt: &R,
-    seats: &mut [WorkerSeat<J>],
+    seats: &mut [WorkerSeat<J, X>],
 ) -> Option<FrameRun<J>>
     ensures none { IsNone result → All IsOpen seats.old × (seats.new ≡ seats.old) }
     ensures run { IfSome result (IsRunOf J.meaning seats.old) }
@@ -85,23 +84,23 @@ pub fn fetch_first<J: Job + Drop, R: Wait>(
 }
 
 // The first seat that has found its run closed.
-fn first_closed<J: Job + Drop>(seats: &[WorkerSeat<J>]) -> Option<usize>
+fn first_closed<J: Job + Drop, X>(seats: &[WorkerSeat<J, X>]) -> Option<usize>
     ensures { result ≡ position (λ seat. (state_of seat).closed) seats.now }
 {
     seats.iter().position(
-        |seat: &WorkerSeat<J>| -> bool
+        |seat: &WorkerSeat<J, X>| -> bool
             ensures { result ≡ (state_of seat.now).closed }
         { seat.closed() },
     )
 }
 
 /// A seat for each watcher, in their order, in the place of those that there is room for.
-pub fn seat_all<J: Job + Drop>(
+pub fn seat_all<J: Job + Drop, X: Drop>(
     ready: &Ready<CrewItem<J>>,
-    mut seats: Vec<WorkerSeat<J>>,
+    mut seats: Vec<WorkerSeat<J, X>>,
     mut owners: Vec<Owner<CrewItem<J>>>,
-    mut watchers: Vec<Box<dyn Watch + Send>>,
-) -> Vec<WorkerSeat<J>>
+    mut watchers: Vec<X>,
+) -> Vec<WorkerSeat<J, X>>
     requires empty { seats.items ≡ [] }
     requires room { vec_capacity seats ≡ length watchers.items }
     requires list { tag_of ready.now ≡ [] }

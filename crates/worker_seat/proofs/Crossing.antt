@@ -1,0 +1,98 @@
+-- A crew may be shared by threads, and its seats may go to them: of the types that they are made of, one after the other,
+-- since a search for all at once gives up.
+use denote.RattleType.{RattleType}
+use denote.Param.Send.{IsSend, IsSync, sendable}
+use denote.Param.SendFields.{as_row_send, declared_send}
+use Rattle.std.proofs.Crossing.{crosses, frees}
+use Rattle.std.proofs.alloc.Global.TheSendSync as heap
+use Rattle.std.proofs.option.Option.TheSendSync as option
+use Rattle.atomic_table.proofs.shared.Seat.TheSendSync as seat
+use Rattle.atomic_table.proofs.shared.Shared.TheSendSync as shared
+use Rattle.atomic_table.proofs.send_lease.SendLease.TheSendSync as lease
+use Rattle.frame_steps.proofs.frame.Frame.TheLaws.TheKnot as frame_knot
+use Rattle.run_frame.proofs.run.FrameRun.TheLaws.TheKnot as run_knot
+use Rattle.run_frame.specs.declared.job.Job as Job
+use Rattle.run_frame.specs.declared.job.Valued as Valued
+use Rattle.run_frame.specs.contracts.duty.Duty as duty
+use Rattle.run_frame.specs.contracts.state.FrameState as state
+use Rattle.run_frame.specs.contracts.run.FrameRun as frame_run
+use Rattle.tickets.specs.contracts.register.Ticket as ticket
+use Rattle.tickets.specs.contracts.register.Register as register
+use Rattle.frame_steps.specs.contracts.release.Release as release
+use Rattle.frame_steps.specs.contracts.frame.Frame as frame
+use Rattle.frame_steps.specs.contracts.locked_run.LockedRun as locked
+use Rattle.ready_deques.proofs.owner.Owner.TheSendSync as owner
+use Rattle.ready_deques.specs.contracts.owner.Owner as owner_type
+use Rattle.worker_seat.specs.contracts.item.CrewItemTagged.TheImpl as tagged
+use Rattle.ready_deques.proofs.ready.Ready.TheSendSync as ready
+use Rattle.worker_seat.specs.contracts.attendance.Attendance as attendance
+use Rattle.worker_seat.specs.contracts.place.Place as place
+use Rattle.worker_seat.specs.contracts.place.Place.TheInside as place_inside
+use Rattle.worker_seat.specs.contracts.seat.WorkerSeat as worker_seat
+use Rattle.worker_seat.specs.contracts.crew.Crew as crew
+use Rattle.worker_seat.specs.contracts.item.CrewItem as item
+use Rattle.worker_seat.specs.contracts.closing.Closing as closing
+use Rattle.worker_seat.specs.contracts.crew_run.CrewRun as crew_run
+
+-- what crosses threads without regard to jobs
+ruleset tables = (crosses, frees, heap.the_field_send, heap.the_field_sync, heap.the_send, heap.the_sync, option.the_send, option.the_sync, seat.the_send, shared.the_send, shared.the_sync, lease.the_send, lease.the_sync, sendable)
+
+module _ (T V : RattleType) (J : Job.Ghosts T.Denot V.Denot) (W : Valued.Ghosts T.Denot V.Denot) (s : IsSend T) (y : IsSync T) (sv : IsSend V) (yv : IsSync V) where
+  duty_send : IsSend (duty.the_row V)
+  duty_send = search tables depth 60 fits 20000
+
+  ticket_send : IsSend (ticket.the_row (duty.the_row V))
+  ticket_send = search (duty_send, tables) depth 60 fits 20000
+
+  register_send : IsSend (register.the_row (duty.the_row V))
+  register_send = search (duty_send, tables) depth 60 fits 20000
+
+  register_sync : IsSync (register.the_row (duty.the_row V))
+  register_sync = search (duty_send, tables) depth 60 fits 20000
+
+  state_send : IsSend (state.the_row T V J)
+  state_send = search (duty_send, register_send, tables) depth 60 fits 20000
+
+  locked_send : IsSend (locked.the_row T V J)
+  locked_send = search (state_send, tables) depth 60 fits 20000
+
+  frame_send : IsSend (frame.the_row T V J W)
+  frame_send = search (locked_send, frame_knot.crosses, tables) depth 60 fits 20000
+
+  frame_sync : IsSync (frame.the_row T V J W)
+  frame_sync = search (locked_send, frame_knot.crosses, tables) depth 60 fits 20000
+
+  release_send : IsSend (release.the_row T V J W)
+  release_send = search (frame_send, frame_sync, ticket_send, tables) depth 60 fits 20000
+
+  run_send : IsSend (frame_run.the_row T V)
+  run_send = search (run_knot.crosses, tables) depth 60 fits 20000
+
+  closing_send : IsSend (closing.the_row T V J)
+  closing_send = search (run_send, tables) depth 60 fits 20000
+
+  crew_run_send : IsSend (crew_run.the_row T V J W)
+  crew_run_send = search (closing_send, tables) depth 60 fits 20000
+
+  crew_run_sync : IsSync (crew_run.the_row T V J W)
+  crew_run_sync = search (closing_send, tables) depth 60 fits 20000
+
+  item_send : IsSend (item.the_row T V J W)
+  item_send = search (crew_run_send, crew_run_sync, release_send, tables) depth 60 fits 20000
+
+  attendance_send : IsSend (attendance.the_row T V J W)
+  attendance_send = search (crew_run_send, crew_run_sync, tables) depth 60 fits 20000
+
+  place_fields : IsSend (place_inside.the_row T V J W)
+  place_fields = declared_send (place_inside.the_type T V J W) (as_row_send (owner_type.the_field (item.the_row T V J W) (tagged.ghosts T V J tagged.no_dict W tagged.no_dict tagged.no_dict)) (owner.the_send _ _ item_send), (search (attendance_send, tables) depth 60 fits 20000, (search (tables) depth 60 fits 20000, tt)))
+
+  place_send : IsSend (place.the_row T V J W)
+  place_send = search (place_fields, sendable)
+
+  -- a crew is shared
+  pub crew_sync : IsSync (crew.the_row T V J W)
+  crew_sync = search (item_send, ready.the_send, ready.the_sync, tables) depth 60 fits 20000
+
+  -- a seat is sent, with a watcher that may be
+  pub seat_send : (X : RattleType) → IsSend X → IsSend (worker_seat.the_row T X V J W)
+  seat_send X x = search (place_send, tables) depth 60 fits 20000
