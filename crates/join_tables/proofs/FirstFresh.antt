@@ -98,13 +98,13 @@ none_live net limit none = ap (λ xs. total (mark Live) (first_notes xs ∷ []))
 pub nothing_runs : (net : NetRows) (limit live : ℕ) (words : List ℕ) (rs : List Release) (n : TableId) (fs : List FreshState) → limit ≤ 2097153
     → live ≡ length rs → items_of rs ≡ first_items net 0 (length net.tasks) → AreOpeningWords net live words → fs ≡ states_of n rs → fs ≡ [] → TellsRun net limit []
 nothing_runs net limit live words rs n fs limited live_len first ws is none =
-    let h = begins_table net limit live words limited (live_is net rs live live_len first) ws in
+    let h = begins_table net limit live words net.edges refl limited (live_is net rs live live_len first) ws in
     let empty : rs ≡ [] = none_at_all n rs (sym is ∙ none) in
     let items : first_items net 0 (length net.tasks) ≡ [] = sym first ∙ ap items_of empty in
     let clock : slice_index words 8 ≡ 0 = ws.each 8 (omega (arith, ws.size)) in
     record {
       journal = h.journal;
       legal = h.balanced.by_journal.legal;
-      complete = all_complete net limit (opening {S = Unit {0}} words [] (opening_notes net limit)) h (none_live net limit items);
+      complete = all_complete net limit (opening words net.edges (opening_notes net limit)) h (none_live net limit items);
       merges = record { stand = tt; each = λ m below. absurd (omega (arith, below, h.balanced.by_journal.clock, clock)) };
     }

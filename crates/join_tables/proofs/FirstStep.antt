@@ -1,5 +1,5 @@
 -- A table begins as its rule says, and its keeper deals out the first releases.
-use Rattle.std.proofs.Common.{◌≡◌, ◌⊎◌, inl, inr, ℕ, zero, suc, ◌+◌, ◌-◌, ◌*◌, ◌<◌, ◌≤◌, Bool, true, false, List, [], ◌∷◌, ◌++◌, length, sym, refl, ap, ◌∙◌, subst, arith, get_or}
+use Rattle.std.proofs.Common.{◌≡◌, ◌⊎◌, inl, inr, ℕ, zero, suc, ◌+◌, ◌-◌, ◌*◌, ◌<◌, ◌≤◌, Bool, true, false, List, [], ◌∷◌, ◌++◌, length, sym, refl, ap, ◌∙◌, subst, arith, get_or, map}
 use Rattle.std.specs.Prelude.{slice_index, drop, nat_lt}
 use Rattle.std.specs.Option.{option_map_or}
 use Rattle.std.proofs.lemmas.Bool.Decides.{nat_tests}
@@ -19,7 +19,12 @@ use Rattle.table_steps.specs.declared.view.Item.{Item}
 use Rattle.table_steps.specs.declared.view.Mark.TheVariants.{Live}
 use Rattle.table_steps.specs.declared.view.Note.{Note}
 use Rattle.table_steps.specs.Giving.{one_if}
-use Rattle.table_steps.specs.inside.Accounts.{mark, busy, resting, weigh, total, FitsPlan, ViewPart, KeepsAccounts, reading, edges_from, first_notes, opening_notes}
+use Rattle.table_steps.specs.inside.Accounts.{mark, busy, resting, weigh, total, FitsPlan, ViewPart, KeepsAccounts, reading, edges_from, marks_from, first_notes, opening_notes}
+use Rattle.table_steps.specs.declared.view.Lot.{Lot}
+use Rattle.table_steps.specs.declared.view.Lot.TheVariants.{Putting, Taking}
+use Rattle.table_steps.specs.inside.Slots.{lot, slot_weigh}
+use Rattle.table_steps.specs.inside.SlotMarks.{HomeIs}
+use Rattle.table_steps.proofs.Homing.{lies_weigh, first_lies}
 use Rattle.table_steps.specs.Credits.{first_credit}
 use Rattle.table_steps.specs.inside.Opening.{bare, is_empty, source_items, full_items, first_items}
 use Rattle.join_tables.specs.inside.FirstReleases.{states_of, items_of, opening_word, AreOpeningWords, DealsFirst}
@@ -79,21 +84,23 @@ edge_word net live e below =
     let k = edges_from net + e in
     let a : nat_lt k 40 ≡ false = grind (arith, nat_tests) in
     let b : nat_lt k (40 + length net.sems) ≡ false = grind (arith, nat_tests) in
+    let m : nat_lt k (marks_from net) ≡ false = grind (arith, nat_tests) in
     let c : nat_lt k (edges_from net) ≡ false = grind (arith, nat_tests) in
     let d : k - edges_from net ≡ e = omega arith in
     let f : nat_lt (k - edges_from net) (length net.edges) ≡ true = ap (λ q. nat_lt q (length net.edges)) d ∙ grind (arith, nat_tests) in
-    rw (a, b, c, f) (ap (first_tokens net) d)
+    rw (a, b, m, c, f) (ap (first_tokens net) d)
 
 join_word : (net : NetRows) (live t : ℕ) → opening_word net live (edges_from net + length net.edges + t) ≡ bare net (strong_in net t)
 join_word net live t =
     let k = edges_from net + length net.edges + t in
     let a : nat_lt k 40 ≡ false = grind (arith, nat_tests) in
     let b : nat_lt k (40 + length net.sems) ≡ false = grind (arith, nat_tests) in
+    let m : nat_lt k (marks_from net) ≡ false = grind (arith, nat_tests) in
     let c : nat_lt k (edges_from net) ≡ false = grind (arith, nat_tests) in
     let d : k - edges_from net ≡ length net.edges + t = omega arith in
     let f : nat_lt (k - edges_from net) (length net.edges) ≡ false = ap (λ q. nat_lt q (length net.edges)) d ∙ grind (arith, nat_tests) in
     let g : k - edges_from net - length net.edges ≡ t = omega arith in
-    rw (a, b, c, f) (ap (λ q. bare net (strong_in net q)) g)
+    rw (a, b, m, c, f) (ap (λ q. bare net (strong_in net q)) g)
 
 unit_word : (net : NetRows) (live s : ℕ) → s < length net.sems → opening_word net live (40 + s) ≡ 0
 unit_word net live s below =
@@ -106,8 +113,26 @@ credit_word net live s below =
     let k = 40 + length net.sems + s in
     let a : nat_lt k 40 ≡ false = grind (arith, nat_tests) in
     let b : nat_lt k (40 + length net.sems) ≡ false = grind (arith, nat_tests) in
-    let c : nat_lt k (edges_from net) ≡ true = grind (arith, nat_tests) in
+    let c : nat_lt k (marks_from net) ≡ true = grind (arith, nat_tests) in
     rw (a, b, c) refl
+
+mark_word : (net : NetRows) (live e : ℕ) → e < length net.edges → opening_word net live (marks_from net + e) ≡ 0
+mark_word net live e below =
+    let k = marks_from net + e in
+    let a : nat_lt k 40 ≡ false = grind (arith, nat_tests) in
+    let b : nat_lt k (40 + length net.sems) ≡ false = grind (arith, nat_tests) in
+    let m : nat_lt k (marks_from net) ≡ false = grind (arith, nat_tests) in
+    let c : nat_lt k (edges_from net) ≡ true = grind (arith, nat_tests) in
+    rw (a, b, m, c) refl
+
+-- each slot is home at first
+home_is : {X : Type 0} (xs : List X) (e m n : ℕ) → e < length xs → m ≡ 0 → n ≡ 0 → HomeIs (get_elem? (map some xs) e) m n
+home_is [] e m n below a b = absurd (omega arith)
+home_is (x ∷ xs) zero m n below a b = (a, b)
+home_is (x ∷ xs) (suc e) m n below a b = home_is xs e m n (omega arith) a b
+
+no_lots : (k : Lot) (e : ℕ) (xs : List Item) → slot_weigh (lot k e) (first_notes xs) ≡ 0
+no_lots k e xs = lies_weigh k e (first_notes xs) ∙ ap (slot_weigh (lot k e)) (first_lies xs)
 
 first_past : (net : NetRows) (e : ℕ) → length net.edges ≤ e → first_tokens net e ≡ 0
 first_past net e past = ap (λ o. option_map_or (λ (r : EdgeRow). one_if r.start) o 0) (get_past net.edges e past)
@@ -119,9 +144,9 @@ bare_past net t rows past = by_list (strong_in net t) refl
     by_list [] is = refl
     by_list (e ∷ es) is = let below : t < length net.tasks = strong_below net rows t (λ none. let z : e ∷ es ≡ [] = sym is ∙ none in absurd (cc)) in absurd (omega (arith, below))
 
-pub begins_table : (net : NetRows) (limit live : ℕ) (words : List ℕ) → limit ≤ 2097153 → live ≡ length (first_items net 0 (length net.tasks)) → AreOpeningWords net live words
-    → KeepsAccounts net limit (opening {S = Unit {0}} words [] (opening_notes net limit))
-begins_table net limit live words limited live_is ws = record {
+pub begins_table : {X : Type 0} (net : NetRows) (limit live : ℕ) (words : List ℕ) (slots : List X) → length slots ≡ length net.edges → limit ≤ 2097153 → live ≡ length (first_items net 0 (length net.tasks)) → AreOpeningWords net live words
+    → KeepsAccounts net limit (opening words slots (opening_notes net limit))
+begins_table net limit live words slots full limited live_is ws = record {
   fits = fits;
   size = ws.size;
   journal = [];
@@ -132,6 +157,8 @@ begins_table net limit live words limited live_is ws = record {
   few = omega (arith, live_first (first_items net 0 (length net.tasks)), first_few net 0 (length net.tasks), ws.rows.task_count);
   few_drops = omega arith;
   views = each;
+  homes = λ e below. home_is slots e _ _ (omega (arith, full, below)) (ws.each (marks_from net + e) (omega (arith, ws.size, below)) ∙ mark_word net live e below)
+      (omega (arith, no_lots Putting e (first_items net 0 (length net.tasks)), no_lots Taking e (first_items net 0 (length net.tasks))));
 }
   where
     fits : FitsPlan net limit

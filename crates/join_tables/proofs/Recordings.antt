@@ -10,7 +10,7 @@ use Rattle.join_tables.specs.declared.keeper.Recorded.{Recorded}
 use Rattle.table_steps.specs.declared.view.Item.TheVariants.{Told, Fresh, Collecting, Ticket, Open, Owes, Counting}
 use Rattle.table_steps.specs.declared.view.Mark.TheVariants.{Live}
 use Rattle.table_steps.specs.declared.view.Note.{Note}
-use Rattle.table_steps.specs.declared.view.Note.TheVariants.{Duty, Sems, Has, Unfit}
+use Rattle.table_steps.specs.declared.view.Note.TheVariants.{Duty, Sems, Has, Unfit, Lies}
 use Rattle.table_steps.specs.inside.Items.{place}
 use Rattle.table_steps.specs.inside.Accounts.{duty, busy, weigh, AllStand}
 use Rattle.table_steps.specs.inside.Kinds.{MayLeave, left_by, joined, IsWhole}
@@ -44,6 +44,7 @@ tellings_append (Duty (Counting e) ∷ v) w = tellings_append v w
 tellings_append (Sems k l ∷ v) w = tellings_append v w
 tellings_append (Has m ∷ v) w = tellings_append v w
 tellings_append (Unfit s n t ∷ v) w = tellings_append v w
+tellings_append (Lies k e p ∷ v) w = tellings_append v w
 
 pub may_leave : (outcome : Outcome) (v w : List Note) → IsSpent outcome w → weigh busy v ≡ 0 → MayLeave (joined v w)
 may_leave outcome v (Duty (Owes []) ∷ Has Live ∷ rest) spent idle = λ _. omega (arith, idle, spent.1, weigh_append busy rest v)
@@ -71,6 +72,7 @@ place_told m (Duty (Counting e) ∷ v) = omega (arith, place_told m v)
 place_told m (Sems k l ∷ v) = omega (arith, place_told m v)
 place_told m (Has q ∷ v) = omega (arith, place_told m v)
 place_told m (Unfit s n t ∷ v) = omega (arith, place_told m v)
+place_told m (Lies k e p ∷ v) = omega (arith, place_told m v)
 
 stand_told : (net : NetRows) (journal : List Entry) (v : List Note) → AllStand net journal v → AllStand net journal (tellings v)
 stand_told net journal [] h = tt
@@ -84,6 +86,7 @@ stand_told net journal (Duty (Counting e) ∷ v) h = stand_told net journal v h.
 stand_told net journal (Sems k l ∷ v) h = stand_told net journal v h.1
 stand_told net journal (Has m ∷ v) h = stand_told net journal v h.1
 stand_told net journal (Unfit s n t ∷ v) h = stand_told net journal v h.1
+stand_told net journal (Lies k e p ∷ v) h = stand_told net journal v h.1
 
 told_places : (m : ℕ) (notes : List Note) (rs : List Recorded) → weigh (duty (place m)) (told_after notes rs) ≡ weigh (duty (place m)) notes + count_by (λ (r : Recorded). r.place == m) rs
 told_places m notes [] = omega arith

@@ -17,11 +17,11 @@ ghost use Rattle.join_tables.specs.inside.Collects.{CollectsOne};
 
 use crate::outcomes::Outcome;
 use crate::turns::{
-    Collected, Collecting, Fresh, Gave, NetTable, Owing, Run, Running, Spent, StartTicket, Turn,
+    Collected, Collecting, Fresh, Gave, NetTable, Owing, Place, Run, Running, Spent, StartTicket,
+    Turn,
 };
 use journal_rules::Cause;
 use outside_io::List;
-use table_steps::Place;
 
 // What an edge's count found in the join word, if the edge was counted, and the release that was made.
 #[derive(Drop)]

@@ -7,12 +7,11 @@ ghost use Rattle.join_tables.specs.Keeping.{keeper_state, TellsRun, TellsSomeRun
 
 use crate::merge::merged;
 use crate::recording::record;
-use crate::turns::{NetTable, Spent};
+use crate::turns::{NetTable, Place, Spent};
 use journal_rules::{Entry, Journal};
 use outside_io::NoMemory;
 use std::alloc::Global;
 use std::marker::Model;
-use table_steps::Place;
 
 /// An entry of the journal, and its place there.
 #[derive(Drop)]

@@ -4,19 +4,20 @@ ghost use Rattle.std.specs.Arc.{arc_value};
 ghost use Rattle.join_tables.specs.Openings.{OpensTable};
 ghost use Rattle.join_tables.specs.States.{fresh_state};
 ghost use Rattle.table_steps.specs.inside.Opening.{first_items};
-ghost use Rattle.table_steps.specs.inside.Accounts.{first_notes};
+ghost use Rattle.table_steps.specs.inside.Accounts.{KeepsAccounts, first_notes, opening_notes};
+ghost use Rattle.atomic_table.specs.Table.{opening};
 ghost use Rattle.join_tables.specs.inside.FirstReleases.{items_of, states_of, DealsFirst};
 ghost use Rattle.table_steps.specs.inside.Kinds.{kept_back};
 
 use crate::keeper::Keeper;
-use crate::releases::{Release, first_releases, opening_words};
-use crate::turns::{Fresh, NetTable};
+use crate::releases::{Release, first_parcels, first_releases, opening_words};
+use crate::turns::{Fresh, NetTable, Place};
 use atomic_table::Table;
-use journal_rules::Cause;
-use outside_io::NoMemory;
+use journal_rules::{Cause, Part};
+use outside_io::{List, NoMemory};
 use std::alloc::Global;
 use std::sync::Arc;
-use table_steps::{Place, Plan, Words};
+use table_steps::{AccountsHold, Note, Plan, Words};
 use task_graph::Net;
 
 /// A table with its first releases, by rising task, and its keeper.
@@ -35,8 +36,9 @@ impl NetTable {
     {
         let releases = first_releases(alloc, &net)?;
         let words = opening_words(alloc, &net, releases.len() as u64)?;
+        let parcels = first_parcels(alloc, &net)?;
         let plan = Plan { net, limit };
-        let (table, mut seat) = Table::of_words(alloc, words.as_slice(), &plan)?;
+        let (table, mut seat) = table_of(alloc, words.as_slice(), parcels, &plan)?;
         let Plan { net, limit } = plan;
         let words = Words { table, net, limit };
         let table = NetTable { words };
@@ -82,5 +84,22 @@ impl NetTable {
     {
         let seat = self.words.deal(seat);
         Fresh { seat, task, cause }
+    }
+}
+
+// A table of these words, with what lies in its slots, and its first seat.
+fn table_of(
+    alloc: Global,
+    words: &[u64],
+    parcels: Vec<Part>,
+    plan: &Plan,
+) -> Result<(Table<Part, List<Note>, Plan, AccountsHold, Global>, Place), NoMemory>
+    requires { KeepsAccounts (arc_value plan.now.net) plan.now.limit (opening words.now parcels.items (opening_notes (arc_value plan.now.net) plan.now.limit)) }
+    ensures table { IfOk result (λ made. (made.0.shared.table_id.words ≡ length words.now) × (made.0.shared.key ≡ plan.now)) }
+    ensures seat { IfOk result (λ made. (made.1.table_id ≡ made.0.shared.table_id) × (made.1.id ≡ 0) × (made.1.me ≡ (opening_notes (arc_value plan.now.net) plan.now.limit, []))) }
+{
+    match Table::new(alloc, words, parcels, plan) {
+        Ok(made) => Ok(made),
+        Err(_) => Err(NoMemory),
     }
 }

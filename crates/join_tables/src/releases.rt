@@ -1,13 +1,14 @@
 // The releases with which a run begins, and the words of its table.
-ghost use Rattle.std.specs.Prelude.{◌≡◌, ◌<◌, ◌≤◌, ◌+◌, ◌==◌, ℕ, IfOk, OnOk, All, length, slice_index, [], ◌∷◌, ◌++◌};
+ghost use Rattle.std.specs.Prelude.{◌≡◌, ◌<◌, ◌≤◌, ◌+◌, ◌==◌, ℕ, IfOk, OnOk, All, length, slice_index, [], ◌∷◌, ◌++◌, if◌then◌else◌};
 ghost use Rattle.task_graph.specs.Net.{in_edges, strong_in};
 ghost use Rattle.journal_rules.specs.Counts.{first_tokens};
+ghost use Rattle.journal_rules.specs.declared.entry.Part.TheVariants.{First, Nothing};
 ghost use Rattle.table_steps.specs.inside.Opening.{bare, first_items};
 ghost use Rattle.join_tables.specs.inside.FirstReleases.{is_full, items_of, item_if, opening_word, AreOpeningWords};
 ghost use Rattle.table_steps.specs.Giving.{one_if};
-ghost use Rattle.table_steps.specs.inside.Accounts.{edges_from};
+ghost use Rattle.table_steps.specs.inside.Accounts.{edges_from, marks_from};
 
-use journal_rules::Cause;
+use journal_rules::{Cause, Part};
 use outside_io::NoMemory;
 use std::alloc::Global;
 use table_steps::{FIRST_CREDIT, FIRST_UNIT, LIVE};
@@ -86,11 +87,19 @@ fn semaphore_count(sems: &[u32]) -> usize
     sems.len()
 }
 
+// Where the marks of slots begin.
+fn first_mark(net: &Net) -> usize
+    ensures place { result ≡ marks_from net.now }
+    ensures few { length net.now.sems < 4294967296 }
+{
+    FIRST_UNIT + net.sems().len() + net.sems().len()
+}
+
 // Where the words of tokens begin.
 fn first_edge(net: &Net) -> usize
     ensures { result ≡ edges_from net.now }
 {
-    FIRST_UNIT + net.sems().len() + net.sems().len()
+    first_mark(net) + net.edges().len()
 }
 
 /// The words of a table at first, where this many turns are live.
@@ -98,7 +107,12 @@ pub fn opening_words(alloc: Global, net: &Net, live: u64) -> Result<Vec<u64>, No
     ensures { IfOk result (λ words. AreOpeningWords net.now live words.items) }
 {
     let sems = semaphore_count(net.sems());
-    let count = FIRST_UNIT + sems + sems + net.edges().len() + net.tasks().len();
+    let count = FIRST_UNIT
+        + sems
+        + sems
+        + net.edges().len()
+        + net.edges().len()
+        + net.tasks().len();
     let mut words = Vec::with_capacity(alloc, count)?;
     for word in 0..count {
         words.push_reserved(first_word(net, live, word));
@@ -117,13 +131,40 @@ fn first_word(net: &Net, live: u64, word: usize) -> u64
     if word < FIRST_UNIT + net.sems().len() {
         return 0;
     }
-    if word < first_edge(net) {
+    if word < first_mark(net) {
         return FIRST_CREDIT;
+    }
+    if word < first_edge(net) {
+        return 0;
     }
     let place = word - first_edge(net);
     if place < net.edges().len() {
         u64::from(starts_with_token(net, place as u32))
     } else {
         bare_count(net, (place - net.edges().len()) as u32)
+    }
+}
+
+/// What lies in the slot of each edge at first: the token with which the edge begins, or nothing.
+pub fn first_parcels(alloc: Global, net: &Net) -> Result<Vec<Part>, NoMemory>
+    ensures { IfOk result (λ parcels. length parcels.items ≡ length net.now.edges) }
+{
+    let count = net.edges().len();
+    let mut parcels = Vec::with_capacity(alloc, count)?;
+    for edge in 0..count {
+        parcels.push_reserved(first_parcel(net, edge as u32));
+    }
+    Ok(parcels)
+}
+
+// What lies in the slot of an edge at first.
+fn first_parcel(net: &Net, edge: u32) -> Part
+    requires { edge < length net.now.edges }
+    ensures { result ≡ (if first_tokens net.now edge == 0 then Nothing else First) }
+{
+    if starts_with_token(net, edge) {
+        Part::First
+    } else {
+        Part::Nothing
     }
 }

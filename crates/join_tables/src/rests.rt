@@ -6,12 +6,11 @@ ghost use Rattle.join_tables.specs.Rests.{IsOfTable, HandsOut, ChecksRest, Looks
 ghost use Rattle.table_steps.specs.inside.RestKinds.{MayPark, parked};
 
 use crate::outcomes::{Dropping, Outcome};
-use crate::turns::{NetTable, Spent, Turn};
+use crate::turns::{NetTable, Place, Spent, Turn};
 use journal_rules::{Cause, DropWhy};
 use outside_io::NoMemory;
 use std::alloc::Global;
 use std::marker::Model;
-use table_steps::Place;
 
 /// A turn in a rest.
 #[derive(Clone, Copy)]

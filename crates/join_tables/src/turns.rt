@@ -2,16 +2,19 @@
 ghost use Rattle.std.specs.Prelude.{◌≡◌};
 
 use crate::outcomes::Outcome;
-use journal_rules::Cause;
+use journal_rules::{Cause, Part};
 use keyed_lock::Keyed;
 use outside_io::List;
 use std::marker::Model;
-use table_steps::{Place, Words};
+use table_steps::Words;
+
+// What a seat of a table is, in whose slots lie the parts that starts find.
+pub(crate) type Place = table_steps::Place<Part>;
 
 /// The words of a run's net, which many threads step at once.
 #[derive(Drop)]
 pub struct NetTable {
-    pub(crate) words: Words,
+    pub(crate) words: Words<Part>,
 }
 
 impl Model for NetTable {

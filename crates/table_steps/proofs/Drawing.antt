@@ -1,5 +1,5 @@
 -- What the steps on the clock ask is met.
-use Rattle.std.proofs.Common.{◌≡◌, ℕ, suc, ◌+◌, ◌%◌, ◌^◌, ◌≤◌, Bool, List, [], ◌∷◌, ◌++◌, Some, set, refl, ap, ◌∙◌, arith}
+use Rattle.std.proofs.Common.{◌≡◌, ℕ, suc, ◌+◌, ◌%◌, ◌^◌, ◌≤◌, Bool, List, [], ◌∷◌, ◌++◌, Some, set, refl, sym, ap, ◌∙◌, arith}
 use Rattle.std.specs.Prelude.{slice_index, slice_get, count_by}
 use mathlib.Core.Option.{some}
 use lib.ListN.{get_elem?}
@@ -25,6 +25,8 @@ use Rattle.table_steps.specs.declared.view.Mark.TheVariants.{Live, New, Over, To
 use Rattle.table_steps.specs.declared.view.Note.{Note}
 use Rattle.table_steps.specs.declared.view.Note.TheVariants.{Duty, Sems, Has}
 use Rattle.table_steps.specs.inside.Accounts.{duty, sem, mark, turning, owing, resting, weigh, total, Balanced, Moves, is_drop, with_clock, reading, KeepsAccounts}
+use Rattle.table_steps.specs.inside.Slots.{lies_in}
+use Rattle.table_steps.proofs.Homing.{held_lies}
 use Rattle.table_steps.proofs.Totals.{total_swap, weigh_append}
 use Rattle.table_steps.proofs.Views.{OwnView, longer, none_stuck, sticking_rests}
 use Rattle.table_steps.proofs.Stepping.{St, own_lone, after_step}
@@ -34,37 +36,37 @@ use Rattle.table_steps.proofs.Starting.{start_kept}
 use Rattle.table_steps.proofs.Ending.{end_kept}
 
 -- the clock is far below what a word holds
-clock_small : (net : NetRows) (limit : ℕ) (s : St) (h : KeepsAccounts net limit s) → slice_index s.words 8 ≤ 4194306 + 1152921504606846976
+clock_small : {S : Type 0} (net : NetRows) (limit : ℕ) (s : St S) (h : KeepsAccounts net limit s) → slice_index s.words 8 ≤ 4194306 + 1152921504606846976
 clock_small net limit s h = omega (arith, h.fits.limited, h.balanced.by_journal.clock, h.balanced.by_journal.size, h.balanced.by_admissions.room, h.few_drops)
 
 -- a number drawn
-pub drawn : (net : NetRows) (limit : ℕ) (s : St) (h : KeepsAccounts net limit s) (id : ℕ) (carried : List (ℕ × Unit {0})) (old new rest : List Note) (x : Entry)
-    → get_elem? s.views id ≡ some (old ++ rest) → OwnView net (h.journal ++ x ∷ []) (λ c. total c s.views) id old new rest → weigh (mark Live) new ≡ weigh (mark Live) old → count_by is_drop (h.journal ++ x ∷ []) ≤ 1152921504606846976
+pub drawn : {S : Type 0} (net : NetRows) (limit : ℕ) (s : St S) (h : KeepsAccounts net limit s) (id : ℕ) (carried : List (ℕ × S)) (old new rest : List Note) (x : Entry)
+    → get_elem? s.views id ≡ some (old ++ rest) → lies_in new ≡ lies_in old → OwnView net (h.journal ++ x ∷ []) (λ c. total c s.views) id old new rest → weigh (mark Live) new ≡ weigh (mark Live) old → count_by is_drop (h.journal ++ x ∷ []) ≤ 1152921504606846976
     → (Moves (λ c. total c s.views) old (λ c. total c (set s.views id (new ++ rest))) new
     → Balanced net limit (with_clock (reading net s.words) (suc (slice_index s.words 8))) h.counted (h.journal ++ x ∷ []) (λ c. total c (set s.views id (new ++ rest))))
     → KeepsAccounts net limit (stepped s 8 ((slice_index s.words 8 + 1) % 2 ^ 64) id carried (new ++ rest) keeps)
-drawn net limit s h id carried old new rest x at own live_is few kept =
+drawn net limit s h id carried old new rest x at same own live_is few kept =
     let n = slice_index s.words 8 in
     let sum : (n + 1) % 18446744073709551616 ≡ suc n = omega (arith, clock_small net limit s h) in
-    after_step net limit s h id 8 ((n + 1) % 18446744073709551616) carried old new rest (h.journal ++ x ∷ []) h.counted _ at (longer net h.journal x) own
+    after_step net limit s h id 8 ((n + 1) % 18446744073709551616) carried old new rest (h.journal ++ x ∷ []) h.counted _ at same (λ e b z. omega arith) (longer net h.journal x) own
     (omega (arith, h.few, live_is, total_swap (mark Live) s.views id old new rest at)) few
     (clock_read net s.words _ (omega (arith, h.size)) ∙ ap (with_clock (reading net s.words)) sum) kept
 
-pub told : (net : NetRows) (limit : ℕ) (s : St) (h : KeepsAccounts net limit s) (x : Entry) → slice_get (h.journal ++ x ∷ []) (slice_index s.words 8) ≡ Some x
+pub told : {S : Type 0} (net : NetRows) (limit : ℕ) (s : St S) (h : KeepsAccounts net limit s) (x : Entry) → slice_get (h.journal ++ x ∷ []) (slice_index s.words 8) ≡ Some x
 told net limit s h x = told_last h.journal (slice_index s.words 8) x h.balanced.by_journal.clock
 
 -- a seat with a turn that is no rest
-pub unstuck : (net : NetRows) (limit : ℕ) (s : St) (h : KeepsAccounts net limit s) (id : ℕ) (v : List Note) → get_elem? s.views id ≡ some v → 1 ≤ weigh (mark Live) v → weigh resting v ≡ 0 → count_by is_stuck h.journal ≡ 0
+pub unstuck : {S : Type 0} (net : NetRows) (limit : ℕ) (s : St S) (h : KeepsAccounts net limit s) (id : ℕ) (v : List Note) → get_elem? s.views id ≡ some v → 1 ≤ weigh (mark Live) v → weigh resting v ≡ 0 → count_by is_stuck h.journal ≡ 0
 unstuck net limit s h id v at lives lone = none_stuck net h.journal s.views id v h.views h.balanced.by_stuck at lives (omega (arith, lone, sticking_rests v))
 
 -- a Start
-pub start_drawn : (net : NetRows) (limit : ℕ) (s : St) (h : KeepsAccounts net limit s) (id t : ℕ) (cause : Cause) (l : List ℕ) (carried : List (ℕ × Unit {0})) (rest : List Note) → MayRelease net t cause → HoldsAll net t l
+pub start_drawn : {S : Type 0} (net : NetRows) (limit : ℕ) (s : St S) (h : KeepsAccounts net limit s) (id t : ℕ) (cause : Cause) (l : List ℕ) (carried : List (ℕ × S)) (rest : List Note) → MayRelease net t cause → HoldsAll net t l
     → weigh resting rest ≡ 0 → get_elem? s.views id ≡ some (Duty (Collecting t cause (edges_of net t cause) []) ∷ Duty Ticket ∷ Has Live ∷ held_notes l ++ rest)
     → KeepsAccounts net limit (stepped s 8 ((slice_index s.words 8 + 1) % 2 ^ 64) id carried (started_notes net (slice_index s.words 8) t cause l ++ rest) keeps)
 start_drawn net limit s h id t cause l carried rest may holds lone at =
     let n = slice_index s.words 8 in let x = Start t cause [] in
     let old = Duty (Collecting t cause (edges_of net t cause) []) ∷ Duty Ticket ∷ Has Live ∷ held_notes l in let new = started_notes net n t cause l in
-    drawn net limit s h id carried old new rest x at
+    drawn net limit s h id carried old new rest x at (sym (held_lies l))
     (own_lone net (h.journal ++ x ∷ []) (λ c. total c s.views) old new rest (tt, (tt, (tt, (tt, (tt, (tt, (tt, (told net limit s h x, tt)))))))) (omega arith) (omega arith) (omega (arith, lone))) (omega (arith, held_weigh (mark Live) l))
     (omega (arith, count_by_push_no is_drop h.journal x refl, h.few_drops))
     (λ moved. start_kept net limit (reading net s.words) h.counted h.journal (λ c. total c s.views) _ t cause [] h.balanced may
@@ -89,13 +91,13 @@ start_drawn net limit s h id t cause l carried rest may holds lone at =
     }))
 
 -- an End
-pub end_drawn : (net : NetRows) (limit : ℕ) (s : St) (h : KeepsAccounts net limit s) (id m t : ℕ) (gives : List ℕ) (inner : Bool) (b d g : List ℕ) (carried : List (ℕ × Unit {0})) (rest : List Note) → MayGive net t gives inner → PutsEach net t (g ++ b) → TakesAlone net t d
+pub end_drawn : {S : Type 0} (net : NetRows) (limit : ℕ) (s : St S) (h : KeepsAccounts net limit s) (id m t : ℕ) (gives : List ℕ) (inner : Bool) (b d g : List ℕ) (carried : List (ℕ × S)) (rest : List Note) → MayGive net t gives inner → PutsEach net t (g ++ b) → TakesAlone net t d
     → weigh resting rest ≡ 0 → get_elem? s.views id ≡ some (Duty (Open m t) ∷ Has Live ∷ Sems Both b ∷ Sems Credit [] ∷ Sems Credited d ∷ Sems Claim [] ∷ Sems Granted g ∷ rest)
     → KeepsAccounts net limit (stepped s 8 ((slice_index s.words 8 + 1) % 2 ^ 64) id carried (Duty (Owes gives) ∷ Has Live ∷ Sems Owed (g ++ b) ∷ Duty (Told (slice_index s.words 8) (End m gives inner)) ∷ rest) keeps)
 end_drawn net limit s h id m t gives inner b d g carried rest may each alone lone at =
     let n = slice_index s.words 8 in let x = End m gives inner in
     let old = Duty (Open m t) ∷ Has Live ∷ Sems Both b ∷ Sems Credit [] ∷ Sems Credited d ∷ Sems Claim [] ∷ Sems Granted g ∷ [] in let new = Duty (Owes gives) ∷ Has Live ∷ Sems Owed (g ++ b) ∷ Duty (Told n x) ∷ [] in
-    drawn net limit s h id carried old new rest x at
+    drawn net limit s h id carried old new rest x at refl
     (own_lone net (h.journal ++ x ∷ []) (λ c. total c s.views) old new rest (may.in_range, (tt, (tt, (told net limit s h x, tt)))) (omega arith) (omega arith) (omega (arith, lone))) (omega arith)
     (omega (arith, count_by_push_no is_drop h.journal x refl, h.few_drops))
     (λ moved. end_kept net limit (reading net s.words) h.counted h.journal (λ c. total c s.views) _ m t gives inner h.balanced may

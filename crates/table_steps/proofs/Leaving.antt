@@ -17,7 +17,7 @@ use Rattle.table_steps.proofs.Views.{get_set}
 use Rattle.table_steps.proofs.MarkSteps.{turn_off}
 use Rattle.table_steps.proofs.Closing.{all_complete, all_told}
 
-pub leave_allowed : (net : NetRows) (limit slots id : ℕ) (me : Seated) → id ≡ 0 → MayLeave me.0
+pub leave_allowed : {S : Type 0} (net : NetRows) (limit slots id : ℕ) (me : Seated S) → id ≡ 0 → MayLeave me.0
     → Allows (KeepsAccounts net limit) slots id me 16 (λ n. (n + (2 ^ 64 - 1)) % 2 ^ 64) (λ n m. (m.0 ≡ left_by me.0) × (m.1 ≡ me.1) × (n ≡ 1 → IsWhole net limit m.0))
 leave_allowed net limit slots id me first may s h _ at small = from me.0 may at
   where
@@ -28,7 +28,7 @@ leave_allowed net limit slots id me first may s h _ at small = from me.0 may at
     k = (n + 18446744073709551615) % 18446744073709551616
 
     from : (v : List Note) → MayLeave v → get_elem? s.views id ≡ some v
-        → (u : List Note) × (z : Act (Unit {0})) × Valid s.homes me.1 z × KeepsAccounts net limit (stepped s 16 k id me.1 u z) × ((u ≡ left_by v) × (carried_after me.1 z ≡ me.1) × (n ≡ 1 → IsWhole net limit u))
+        → (u : List Note) × (z : Act _) × Valid s.homes me.1 z × KeepsAccounts net limit (stepped s 16 k id me.1 u z) × ((u ≡ left_by v) × (carried_after me.1 z ≡ me.1) × (n ≡ 1 → IsWhole net limit u))
     from (Duty (Owes []) ∷ Has Live ∷ rest) may at =
         let kept = turn_off net limit s h id me.1 rest may (λ far. absurd (far first)) at small in
         (rest, keeps, tt, kept, (refl, refl, λ one. whole kept one))

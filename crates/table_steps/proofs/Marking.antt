@@ -12,7 +12,7 @@ use Rattle.table_steps.specs.declared.view.Kind.{Kind}
 use Rattle.table_steps.specs.declared.view.Kind.TheVariants.{Held, Undo, Owed, Both, Credit, Credited, Claim, Granted, Refusing, Denied, Full}
 use Rattle.table_steps.specs.declared.view.Mark.TheVariants.{Live, New, Over, ToMark, Halted, Alone, Quiet, Sticking, Asked}
 use Rattle.table_steps.specs.declared.view.Note.{Note}
-use Rattle.table_steps.specs.declared.view.Note.TheVariants.{Duty, Sems, Has, Unfit}
+use Rattle.table_steps.specs.declared.view.Note.TheVariants.{Duty, Sems, Has, Unfit, Lies}
 use Rattle.table_steps.specs.inside.Accounts.{Coord, duty, sem, mark, turning, owing, telling, busy, resting, weight, weigh, TurnPart, JournalPart, LivePart, Readings, Balanced, Moves, with_admitted, with_live}
 use Rattle.table_steps.proofs.Still.{journal_still, edges_still, duties_still, admission_still, turns_still, unit_still, credit_still, halt_still, stuck_still}
 use Rattle.table_steps.proofs.Units.{Units}
@@ -247,6 +247,7 @@ one_none owing a (Has Halted) h = refl
 one_none owing a (Sems Full l) h = refl
 one_none c a (Duty i) h = absurd h
 one_none c a (Unfit z n t) h = absurd h
+one_none c a (Lies k e p) h = absurd h
 one_none c a (Has Live) h = absurd h
 one_none c a (Has New) h = absurd h
 one_none c a (Has Over) h = absurd h
@@ -272,13 +273,14 @@ one_none busy a x h = absurd a
 one_none resting a x h = absurd a
 one_none telling a x h = absurd a
 
-rest_head : (x : Note) (xs : List Note) → RestMarks (x ∷ xs) → RestMarks (x ∷ []) × RestMarks xs
+pub rest_head : (x : Note) (xs : List Note) → RestMarks (x ∷ xs) → RestMarks (x ∷ []) × RestMarks xs
 rest_head (Has Alone) xs h = (tt, h)
 rest_head (Has Quiet) xs h = (tt, h)
 rest_head (Has Halted) xs h = (tt, h)
 rest_head (Sems Full l) xs h = (tt, h)
 rest_head (Duty i) xs h = absurd h
 rest_head (Unfit z n t) xs h = absurd h
+rest_head (Lies k e p) xs h = absurd h
 rest_head (Has Live) xs h = absurd h
 rest_head (Has New) xs h = absurd h
 rest_head (Has Over) xs h = absurd h

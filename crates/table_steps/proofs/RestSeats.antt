@@ -26,7 +26,7 @@ use Rattle.table_steps.specs.declared.view.Item.TheVariants.{Told, Fresh, Collec
 use Rattle.table_steps.specs.declared.view.Kind.TheVariants.{Full}
 use Rattle.table_steps.specs.declared.view.Mark.TheVariants.{Live, New, Over, ToMark, Halted, Alone, Quiet, Sticking}
 use Rattle.table_steps.specs.declared.view.Note.{Note}
-use Rattle.table_steps.specs.declared.view.Note.TheVariants.{Duty, Sems, Has, Unfit}
+use Rattle.table_steps.specs.declared.view.Note.TheVariants.{Duty, Sems, Has, Unfit, Lies}
 use Rattle.table_steps.specs.Giving.{one_if, times}
 use Rattle.table_steps.specs.inside.Items.{running, runs, MayRelease}
 use Rattle.table_steps.specs.inside.Accounts.{duty, sem, mark, turning, owing, resting, weigh, total, AllStand, Balanced, Moves, is_drop, with_clock, reading, KeepsAccounts}
@@ -35,6 +35,9 @@ use Rattle.table_steps.specs.inside.RestKinds.{known_part, bare_part, MayPark, p
 use Rattle.table_steps.proofs.Totals.{weigh_append}
 use Rattle.table_steps.proofs.Journals.{back_push}
 use Rattle.table_steps.proofs.Views.{OwnView, two_views, stand_both, longer, none_stuck, quiet_rests, full_rests_too}
+use Rattle.table_steps.specs.inside.Slots.{lies_in}
+use Rattle.table_steps.specs.inside.Accounts.{marks_from}
+use Rattle.table_steps.proofs.Homing.{lies_append}
 use Rattle.table_steps.proofs.Stepping.{St, Seated, still_step, done}
 use Rattle.table_steps.proofs.Drawing.{drawn, told}
 use Rattle.table_steps.proofs.MarkSteps.{reads_same, turn_off}
@@ -64,27 +67,27 @@ known_marks (Sems Full l ∷ Has Alone ∷ Has Halted ∷ rest) = tt
 known_marks v = tt
 
 -- JOIN
-pub park_allowed : (net : NetRows) (limit id : ℕ) (v : List Note) (other : ℕ) (w : List Note) → MayPark v w → Joins (KeepsAccounts net limit) id v other w (parked v w) []
-park_allowed net limit id v other w may = by_rest (cases_eq (weigh resting v) 0)
+pub park_allowed : {S : Type 0} (net : NetRows) (limit id : ℕ) (v : List Note) (other : ℕ) (w : List Note) → MayPark v w → Joins (KeepsAccounts {S = S} net limit) id v other w (parked v w) []
+park_allowed {S} net limit id v other w may = by_rest (cases_eq (weigh resting v) 0)
   where
-    by_rest : (weigh resting v ≡ 0) ⊎ (weigh resting v ≢ 0) → Joins (KeepsAccounts net limit) id v other w (w ++ bare_part v) []
-    by_rest (inl none) = subst (λ u. Joins (KeepsAccounts net limit) id v other w (w ++ u) []) (sym (bare_same v none)) (join_allowed net limit id v other w (λ _. may.rests))
+    by_rest : (weigh resting v ≡ 0) ⊎ (weigh resting v ≢ 0) → Joins (KeepsAccounts {S = S} net limit) id v other w (w ++ bare_part v) []
+    by_rest (inl none) = subst (λ u. Joins (KeepsAccounts {S = S} net limit) id v other w (w ++ u) []) (sym (bare_same v none)) (join_allowed net limit id v other w (λ _. may.rests))
     -- a rest that is alone finds no other turn
     by_rest (inr some_there) = λ s h at apart at_other.
         let at_w : get_elem? s.views other ≡ some w = sym (set_else s.views id other (w ++ bare_part v) apart) ∙ at_other in
         absurd (omega (arith, (h.views id v at).alone some_there, two_views (mark Live) s.views id other v w at at_w apart, may.lives))
 
 -- SPLIT
-pub hand_out_allowed : (net : NetRows) (limit id : ℕ) (v : List Note) → MayHandOut v → Splits (KeepsAccounts net limit) id v (left_behind v) (handed_out v)
-hand_out_allowed net limit id v may = from (bare_part v) (known_is v) may
+pub hand_out_allowed : {S : Type 0} (net : NetRows) (limit id : ℕ) (v : List Note) → MayHandOut v → Splits (KeepsAccounts {S = S} net limit) id v (left_behind v) (handed_out v)
+hand_out_allowed {S} net limit id v may = from (bare_part v) (known_is v) may
   where
-    from : (b : List Note) → v ≡ known_part v ++ b → HasLast b → Splits (KeepsAccounts net limit) id v (kept_back b) (dealt b)
+    from : (b : List Note) → v ≡ known_part v ++ b → HasLast b → Splits (KeepsAccounts {S = S} net limit) id v (kept_back b) (dealt b)
     from (Duty (Collecting t cause taken []) ∷ Has Live ∷ rest) is may =
         split_allowed net limit id v (known_part v) rest (Duty (Collecting t cause taken []) ∷ Has Live ∷ []) is (known_marks v) may.0 refl may.1 (λ none. absurd (omega (arith, none))) (λ far. may.2) (λ none. absurd (omega (arith, none)))
     from b is may = absurd may
 
 -- A step of a seat that stays a rest.
-known_own : (net : NetRows) (limit : ℕ) (s : St) (h : KeepsAccounts net limit s) (id : ℕ) (old new rest : List Note) → get_elem? s.views id ≡ some (old ++ rest) → 1 ≤ weigh (mark Live) rest → weigh resting (old ++ rest) ≢ 0 → AllStand net h.journal new
+known_own : {S : Type 0} (net : NetRows) (limit : ℕ) (s : St S) (h : KeepsAccounts net limit s) (id : ℕ) (old new rest : List Note) → get_elem? s.views id ≡ some (old ++ rest) → 1 ≤ weigh (mark Live) rest → weigh resting (old ++ rest) ≢ 0 → AllStand net h.journal new
     → (weigh (mark Quiet) (new ++ rest) ≢ 0 → faults h.journal ≡ 0) → ((z : ℕ) → weigh (sem Full z) (new ++ rest) ≢ 0 → back net z h.journal + max_of net z ≤ taken net z h.journal)
     → OwnView net h.journal (λ c. total c s.views) id old new rest
 known_own net limit s h id old new rest at lives rested stand quiet full = record {
@@ -98,16 +101,16 @@ known_own net limit s h id old new rest at lives rested stand quiet full = recor
 }
 
 -- a load of which a rest learns nothing
-known_done : (net : NetRows) (limit : ℕ) (s : St) (h : KeepsAccounts net limit s) (id i : ℕ) (carried : List (ℕ × Unit {0})) (rest : List Note) → 1 ≤ weigh (mark Live) rest → weigh resting rest ≢ 0 → i < length s.words → get_elem? s.views id ≡ some rest → KeepsAccounts net limit (stepped s i (slice_index s.words i) id carried rest keeps)
-known_done net limit s h id i carried rest lives rested below at = let p = h.views id rest at in
-    still_step net limit s h id i _ carried [] [] rest (reading net s.words) at (known_own net limit s h id [] [] rest at lives rested tt p.quiet p.full) (omega arith) (ap (reading net) (reads_same net s.words i below))
+known_done : {S : Type 0} (net : NetRows) (limit : ℕ) (s : St S) (h : KeepsAccounts net limit s) (id i : ℕ) (carried : List (ℕ × S)) (rest : List Note) → 1 ≤ weigh (mark Live) rest → weigh resting rest ≢ 0 → i < length s.words → ((e : ℕ) → e < length net.edges → i ≢ marks_from net + e) → get_elem? s.views id ≡ some rest → KeepsAccounts net limit (stepped s i (slice_index s.words i) id carried rest keeps)
+known_done net limit s h id i carried rest lives rested below apart at = let p = h.views id rest at in
+    still_step net limit s h id i _ carried [] [] rest (reading net s.words) at refl apart (known_own net limit s h id [] [] rest at lives rested tt p.quiet p.full) (omega arith) (ap (reading net) (reads_same net s.words i below))
     (λ moved. alike_kept net limit (reading net s.words) h.counted h.journal (λ c. total c s.views) _ h.balanced (λ c a. omega (arith, moved c)))
 
 -- LIVE LOAD
-found_alone : (net : NetRows) (limit : ℕ) (s : St) (h : KeepsAccounts net limit s) (id : ℕ) (carried : List (ℕ × Unit {0})) (rest : List Note) → IsTurn rest → get_elem? s.views id ≡ some rest → slice_index s.words 16 ≡ weigh (mark Live) rest
+found_alone : {S : Type 0} (net : NetRows) (limit : ℕ) (s : St S) (h : KeepsAccounts net limit s) (id : ℕ) (carried : List (ℕ × S)) (rest : List Note) → IsTurn rest → get_elem? s.views id ≡ some rest → slice_index s.words 16 ≡ weigh (mark Live) rest
     → KeepsAccounts net limit (stepped s 16 (slice_index s.words 16) id carried (Has Alone ∷ rest) keeps)
 found_alone net limit s h id carried rest may at found =
-    still_step net limit s h id 16 _ carried [] (Has Alone ∷ []) rest (reading net s.words) at
+    still_step net limit s h id 16 _ carried [] (Has Alone ∷ []) rest (reading net s.words) at refl (λ e b z. omega arith)
     (record {
       lives = may.1;
       stand = (tt, tt);
@@ -120,7 +123,7 @@ found_alone net limit s h id carried rest may at found =
     (ap (reading net) (reads_same net s.words 16 (omega (arith, h.size))))
     (λ moved. alike_kept net limit (reading net s.words) h.counted h.journal (λ c. total c s.views) _ h.balanced (λ c a. omega (arith, moved c, marks_none c a (Has Alone ∷ []) tt)))
 
-pub live_allowed : (net : NetRows) (limit slots id : ℕ) (me : Seated) → IsTurn me.0 → Allows (KeepsAccounts net limit) slots id me 16 (λ n. n) (λ n m. (m.0 ≡ live_found n me.0) × (m.1 ≡ me.1))
+pub live_allowed : {S : Type 0} (net : NetRows) (limit slots id : ℕ) (me : Seated S) → IsTurn me.0 → Allows (KeepsAccounts net limit) slots id me 16 (λ n. n) (λ n m. (m.0 ≡ live_found n me.0) × (m.1 ≡ me.1))
 live_allowed net limit slots id me may s h _ at small = by_number (cases_eq n live)
   where
     n : ℕ
@@ -129,41 +132,41 @@ live_allowed net limit slots id me may s h _ at small = by_number (cases_eq n li
     live : ℕ
     live = weigh (mark Live) me.0
 
-    by_number : (n ≡ live) ⊎ (n ≢ live) → (u : List Note) × (z : Act (Unit {0})) × Valid s.homes me.1 z × KeepsAccounts net limit (stepped s 16 n id me.1 u z) × ((u ≡ alone_notes (n == live) ++ me.0) × (carried_after me.1 z ≡ me.1))
+    by_number : (n ≡ live) ⊎ (n ≢ live) → (u : List Note) × (z : Act _) × Valid s.homes me.1 z × KeepsAccounts net limit (stepped s 16 n id me.1 u z) × ((u ≡ alone_notes (n == live) ++ me.0) × (carried_after me.1 z ≡ me.1))
     by_number (inl same) = let hit : eqb n live ≡ true = grind (arith, nat_tests) in
         done net limit s id 16 _ me (Has Alone ∷ me.0) _ (ap (λ b. alone_notes b ++ me.0) (sym hit)) (found_alone net limit s h id me.1 me.0 may at same)
     by_number (inr other) = let miss : eqb n live ≡ false = grind (arith, nat_tests) in
-        done net limit s id 16 _ me me.0 _ (ap (λ b. alone_notes b ++ me.0) (sym miss)) (nothing_done net limit s h id 16 me.1 me.0 may.0 may.1 (omega (arith, h.size)) at)
+        done net limit s id 16 _ me me.0 _ (ap (λ b. alone_notes b ++ me.0) (sym miss)) (nothing_done net limit s h id 16 me.1 me.0 may.0 may.1 (omega (arith, h.size)) (λ e b z. omega arith) at)
 
 -- HALT LOAD
-found_quiet : (net : NetRows) (limit : ℕ) (s : St) (h : KeepsAccounts net limit s) (id : ℕ) (carried : List (ℕ × Unit {0})) (rest : List Note) → weigh resting rest ≡ 0 → 1 ≤ weigh (mark Live) rest → weigh (mark ToMark) rest ≡ 0 → get_elem? s.views id ≡ some (Has Alone ∷ rest) → slice_index s.words 32 ≡ 0
+found_quiet : {S : Type 0} (net : NetRows) (limit : ℕ) (s : St S) (h : KeepsAccounts net limit s) (id : ℕ) (carried : List (ℕ × S)) (rest : List Note) → weigh resting rest ≡ 0 → 1 ≤ weigh (mark Live) rest → weigh (mark ToMark) rest ≡ 0 → get_elem? s.views id ≡ some (Has Alone ∷ rest) → slice_index s.words 32 ≡ 0
     → KeepsAccounts net limit (stepped s 32 (slice_index s.words 32) id carried (Sems Full [] ∷ Has Quiet ∷ rest) keeps)
 found_quiet net limit s h id carried rest lone lives clear at found =
     let all : total (mark Live) s.views ≡ weigh (mark Live) (Has Alone ∷ rest) = (h.views id (Has Alone ∷ rest) at).alone (λ z. omega arith) in
     let none = halt_none (slice_index s.words 32) h.journal (λ c. total c s.views) h.balanced.by_halt found (omega (arith, clear, has_all net h.journal (mark ToMark) s.views id (Has Alone ∷ rest) to_mark_bound h.views at all)) in
-    still_step net limit s h id 32 _ carried (Has Alone ∷ []) (Sems Full [] ∷ Has Quiet ∷ []) rest (reading net s.words) at
+    still_step net limit s h id 32 _ carried (Has Alone ∷ []) (Sems Full [] ∷ Has Quiet ∷ []) rest (reading net s.words) at refl (λ e b z. omega arith)
     (known_own net limit s h id (Has Alone ∷ []) (Sems Full [] ∷ Has Quiet ∷ []) rest at lives (λ z. omega arith) (tt, (tt, tt)) (λ _. none) (λ z more. absurd (more (omega (arith, lone, full_rests_too z rest))))) (omega arith)
     (ap (reading net) (reads_same net s.words 32 (omega (arith, h.size))))
     (λ moved. alike_kept net limit (reading net s.words) h.counted h.journal (λ c. total c s.views) _ h.balanced (λ c a. omega (arith, moved c, marks_none c a (Has Alone ∷ []) tt, marks_none c a (Sems Full [] ∷ Has Quiet ∷ []) tt)))
 
-found_halted : (net : NetRows) (limit : ℕ) (s : St) (h : KeepsAccounts net limit s) (id : ℕ) (carried : List (ℕ × Unit {0})) (rest : List Note) → weigh resting rest ≡ 0 → 1 ≤ weigh (mark Live) rest → get_elem? s.views id ≡ some (Has Alone ∷ rest) → slice_index s.words 32 ≢ 0
+found_halted : {S : Type 0} (net : NetRows) (limit : ℕ) (s : St S) (h : KeepsAccounts net limit s) (id : ℕ) (carried : List (ℕ × S)) (rest : List Note) → weigh resting rest ≡ 0 → 1 ≤ weigh (mark Live) rest → get_elem? s.views id ≡ some (Has Alone ∷ rest) → slice_index s.words 32 ≢ 0
     → KeepsAccounts net limit (stepped s 32 (slice_index s.words 32) id carried (Sems Full [] ∷ Has Alone ∷ Has Halted ∷ rest) keeps)
 found_halted net limit s h id carried rest lone lives at found =
     let new = Sems Full [] ∷ Has Alone ∷ Has Halted ∷ [] in
-    still_step net limit s h id 32 _ carried (Has Alone ∷ []) new rest (reading net s.words) at
+    still_step net limit s h id 32 _ carried (Has Alone ∷ []) new rest (reading net s.words) at refl (λ e b z. omega arith)
     (known_own net limit s h id (Has Alone ∷ []) new rest at lives (λ z. omega arith) (tt, (tt, (halt_found (slice_index s.words 32) h.journal (λ c. total c s.views) h.balanced.by_halt found, tt)))
     (λ more. absurd (more (omega (arith, lone, quiet_rests rest)))) (λ z more. absurd (more (omega (arith, lone, full_rests_too z rest))))) (omega arith)
     (ap (reading net) (reads_same net s.words 32 (omega (arith, h.size))))
     (λ moved. alike_kept net limit (reading net s.words) h.counted h.journal (λ c. total c s.views) _ h.balanced (λ c a. omega (arith, moved c, marks_none c a (Has Alone ∷ []) tt, marks_none c a new tt)))
 
-pub look_allowed : (net : NetRows) (limit slots id : ℕ) (me : Seated) → MayLook me.0 → Allows (KeepsAccounts net limit) slots id me 32 (λ n. n) (λ n m. (m.0 ≡ looked n me.0) × (m.1 ≡ me.1))
+pub look_allowed : {S : Type 0} (net : NetRows) (limit slots id : ℕ) (me : Seated S) → MayLook me.0 → Allows (KeepsAccounts net limit) slots id me 32 (λ n. n) (λ n m. (m.0 ≡ looked n me.0) × (m.1 ≡ me.1))
 look_allowed net limit slots id me may s h _ at small = from me.0 may at
   where
     n : ℕ
     n = slice_index s.words 32
 
     from : (v : List Note) → MayLook v → get_elem? s.views id ≡ some v
-        → (u : List Note) × (z : Act (Unit {0})) × Valid s.homes me.1 z × KeepsAccounts net limit (stepped s 32 (slice_index s.words 32) id me.1 u z) × ((u ≡ looked (slice_index s.words 32) v) × (carried_after me.1 z ≡ me.1))
+        → (u : List Note) × (z : Act _) × Valid s.homes me.1 z × KeepsAccounts net limit (stepped s 32 (slice_index s.words 32) id me.1 u z) × ((u ≡ looked (slice_index s.words 32) v) × (carried_after me.1 z ≡ me.1))
     from (Has Alone ∷ rest) may at = by_zero (cases_eq n 0)
       where
         quiet_is : (k : ℕ) → k ≡ 0 → Sems Full [] ∷ Has Quiet ∷ rest ≡ looked k (Has Alone ∷ rest)
@@ -174,19 +177,19 @@ look_allowed net limit slots id me may s h _ at small = from me.0 may at
         halted_is zero some_there = absurd (some_there refl)
         halted_is (suc k) some_there = refl
 
-        by_zero : (n ≡ 0) ⊎ (n ≢ 0) → (u : List Note) × (z : Act (Unit {0})) × Valid s.homes me.1 z × KeepsAccounts net limit (stepped s 32 n id me.1 u z) × ((u ≡ looked n (Has Alone ∷ rest)) × (carried_after me.1 z ≡ me.1))
+        by_zero : (n ≡ 0) ⊎ (n ≢ 0) → (u : List Note) × (z : Act _) × Valid s.homes me.1 z × KeepsAccounts net limit (stepped s 32 n id me.1 u z) × ((u ≡ looked n (Has Alone ∷ rest)) × (carried_after me.1 z ≡ me.1))
         by_zero (inl none) = done net limit s id 32 _ me _ _ (quiet_is n none) (found_quiet net limit s h id me.1 rest may.0 may.1 may.2 at none)
         by_zero (inr found) = done net limit s id 32 _ me _ _ (halted_is n found) (found_halted net limit s h id me.1 rest may.0 may.1 at found)
     from v may at = absurd may
 
 -- UNIT LOAD
-found_full : (net : NetRows) (limit : ℕ) (s : St) (h : KeepsAccounts net limit s) (id a : ℕ) (carried : List (ℕ × Unit {0})) (l : List ℕ) (rest : List Note) → a < length net.sems → 1 ≤ weigh (mark Live) rest → weigh resting rest ≢ 0 → HasNoUnit a rest
+found_full : {S : Type 0} (net : NetRows) (limit : ℕ) (s : St S) (h : KeepsAccounts net limit s) (id a : ℕ) (carried : List (ℕ × S)) (l : List ℕ) (rest : List Note) → a < length net.sems → 1 ≤ weigh (mark Live) rest → weigh resting rest ≢ 0 → HasNoUnit a rest
     → get_elem? s.views id ≡ some (Sems Full l ∷ rest) → max_of net a ≤ slice_index s.words (40 + a) → KeepsAccounts net limit (stepped s (40 + a) (slice_index s.words (40 + a)) id carried (Sems Full (a ∷ l) ∷ rest) keeps)
 found_full net limit s h id a carried l rest below lives rested none at found =
     let p = h.views id (Sems Full l ∷ rest) at in
     let rested_all : weigh resting (Sems Full l ∷ rest) ≢ 0 = λ z. rested (omega (arith, z)) in
     let units = units_alone net limit s h id a (Sems Full l ∷ rest) below at rested_all (record { held = omega (arith, none.held); owed = omega (arith, none.owed); undo = omega (arith, none.undo) }) in
-    still_step net limit s h id (40 + a) _ carried (Sems Full l ∷ []) (Sems Full (a ∷ l) ∷ []) rest (reading net s.words) at
+    still_step net limit s h id (40 + a) _ carried (Sems Full l ∷ []) (Sems Full (a ∷ l) ∷ []) rest (reading net s.words) at refl (λ e b z. omega (arith, below))
     (known_own net limit s h id (Sems Full l ∷ []) (Sems Full (a ∷ l) ∷ []) rest at lives rested_all (tt, tt) p.quiet (λ z more. by_eq units z more (cases_eq a z))) (omega arith)
     (ap (reading net) (reads_same net s.words (40 + a) (omega (arith, h.size, below))))
     (λ moved. alike_kept net limit (reading net s.words) h.counted h.journal (λ c. total c s.views) _ h.balanced (λ c q. omega (arith, moved c, marks_none c q (Sems Full l ∷ []) tt, marks_none c q (Sems Full (a ∷ l) ∷ []) tt)))
@@ -195,20 +198,20 @@ found_full net limit s h id a carried l rest below lives rested none at found =
     by_eq units z more (inl same) = omega (arith, units, found, ap (λ q. back net q h.journal) same, ap (max_of net) same, ap (λ q. taken net q h.journal) same)
     by_eq units z more (inr other) = let miss : eqb a z ≡ false = grind (arith, nat_tests) in (h.views id (Sems Full l ∷ rest) at).full z (λ none. more (omega (arith, none, ap one_if miss)))
 
-pub ask_allowed : (net : NetRows) (limit slots id : ℕ) (me : Seated) (a : ℕ) → MayAsk net a me.0 → Allows (KeepsAccounts net limit) slots id me (40 + a) (λ n. n) (λ n m. (m.0 ≡ asked net a n me.0) × (m.1 ≡ me.1))
+pub ask_allowed : {S : Type 0} (net : NetRows) (limit slots id : ℕ) (me : Seated S) (a : ℕ) → MayAsk net a me.0 → Allows (KeepsAccounts net limit) slots id me (40 + a) (λ n. n) (λ n m. (m.0 ≡ asked net a n me.0) × (m.1 ≡ me.1))
 ask_allowed net limit slots id me a may s h _ at small = from me.0 may at
   where
     n : ℕ
     n = slice_index s.words (40 + a)
 
     from : (v : List Note) → MayAsk net a v → get_elem? s.views id ≡ some v
-        → (u : List Note) × (z : Act (Unit {0})) × Valid s.homes me.1 z × KeepsAccounts net limit (stepped s (40 + a) (slice_index s.words (40 + a)) id me.1 u z) × ((u ≡ asked net a (slice_index s.words (40 + a)) v) × (carried_after me.1 z ≡ me.1))
+        → (u : List Note) × (z : Act _) × Valid s.homes me.1 z × KeepsAccounts net limit (stepped s (40 + a) (slice_index s.words (40 + a)) id me.1 u z) × ((u ≡ asked net a (slice_index s.words (40 + a)) v) × (carried_after me.1 z ≡ me.1))
     from (Sems Full l ∷ rest) may at = by_room (cases_lt n (max_of net a))
       where
-        by_room : (n < max_of net a) ⊎ (max_of net a ≤ n) → (u : List Note) × (z : Act (Unit {0})) × Valid s.homes me.1 z × KeepsAccounts net limit (stepped s (40 + a) n id me.1 u z) × ((u ≡ Sems Full (full_with (nat_lt n (max_of net a)) a l) ∷ rest) × (carried_after me.1 z ≡ me.1))
+        by_room : (n < max_of net a) ⊎ (max_of net a ≤ n) → (u : List Note) × (z : Act _) × Valid s.homes me.1 z × KeepsAccounts net limit (stepped s (40 + a) n id me.1 u z) × ((u ≡ Sems Full (full_with (nat_lt n (max_of net a)) a l) ∷ rest) × (carried_after me.1 z ≡ me.1))
         by_room (inl room) = let is : nat_lt n (max_of net a) ≡ true = grind (arith, nat_tests) in
             done net limit s id (40 + a) _ me (Sems Full l ∷ rest) _ (ap (λ b. Sems Full (full_with b a l) ∷ rest) (sym is))
-            (known_done net limit s h id (40 + a) me.1 (Sems Full l ∷ rest) (omega (arith, may.1)) (λ z. may.2 (omega (arith, z))) (omega (arith, h.size, may.0)) at)
+            (known_done net limit s h id (40 + a) me.1 (Sems Full l ∷ rest) (omega (arith, may.1)) (λ z. may.2 (omega (arith, z))) (omega (arith, h.size, may.0)) (λ e b z. omega (arith, may.0)) at)
         by_room (inr full) = let is : nat_lt n (max_of net a) ≡ false = grind (arith, nat_tests) in
             done net limit s id (40 + a) _ me (Sems Full (a ∷ l) ∷ rest) _ (ap (λ b. Sems Full (full_with b a l) ∷ rest) (sym is)) (found_full net limit s h id a me.1 l rest may.0 may.1 may.2 may.3 at full)
     from v may at = absurd may
@@ -226,18 +229,19 @@ runs_few m t (Duty (Counting e) ∷ v) z = omega (arith, runs_few m t v (omega a
 runs_few m t (Sems k l ∷ v) z = omega (arith, runs_few m t v (omega arith))
 runs_few m t (Has k ∷ v) z = omega (arith, runs_few m t v (omega arith))
 runs_few m t (Unfit n q u ∷ v) z = omega (arith, runs_few m t v (omega arith))
+runs_few m t (Lies k e p ∷ v) z = omega (arith, runs_few m t v (omega arith))
 
 -- a number drawn by a seat that exchanges all its notes
-drawn_all : (net : NetRows) (limit : ℕ) (s : St) (h : KeepsAccounts net limit s) (id : ℕ) (carried : List (ℕ × Unit {0})) (v v' : List Note) (x : Entry)
-    → get_elem? s.views id ≡ some v → OwnView net (h.journal ++ x ∷ []) (λ c. total c s.views) id v v' [] → weigh (mark Live) v' ≡ weigh (mark Live) v → count_by is_drop (h.journal ++ x ∷ []) ≤ 1152921504606846976
+drawn_all : {S : Type 0} (net : NetRows) (limit : ℕ) (s : St S) (h : KeepsAccounts net limit s) (id : ℕ) (carried : List (ℕ × S)) (v v' : List Note) (x : Entry)
+    → get_elem? s.views id ≡ some v → lies_in v' ≡ lies_in v → OwnView net (h.journal ++ x ∷ []) (λ c. total c s.views) id v v' [] → weigh (mark Live) v' ≡ weigh (mark Live) v → count_by is_drop (h.journal ++ x ∷ []) ≤ 1152921504606846976
     → (Moves (λ c. total c s.views) v (λ c. total c (set s.views id (v' ++ []))) v'
     → Balanced net limit (with_clock (reading net s.words) (suc (slice_index s.words 8))) h.counted (h.journal ++ x ∷ []) (λ c. total c (set s.views id (v' ++ []))))
     → KeepsAccounts net limit (stepped s 8 ((slice_index s.words 8 + 1) % 2 ^ 64) id carried v' keeps)
-drawn_all net limit s h id carried v v' x at own live_is few kept =
-    subst (λ u. KeepsAccounts net limit (stepped s 8 ((slice_index s.words 8 + 1) % 2 ^ 64) id carried u keeps)) (append-nil v') (drawn net limit s h id carried v v' [] x (at ∙ ap some (sym (append-nil v))) own live_is few kept)
+drawn_all net limit s h id carried v v' x at same own live_is few kept =
+    subst (λ u. KeepsAccounts net limit (stepped s 8 ((slice_index s.words 8 + 1) % 2 ^ 64) id carried u keeps)) (append-nil v') (drawn net limit s h id carried v v' [] x (at ∙ ap some (sym (append-nil v))) same own live_is few kept)
 
 -- for want of a unit
-stuck_drawn : (net : NetRows) (limit : ℕ) (s : St) (h : KeepsAccounts net limit s) (id t a : ℕ) (cause : Cause) (carried : List (ℕ × Unit {0})) (l : List ℕ) (rest : List Note) → MayRelease net t cause → IsTrue (takes net a t) → 1 ≤ times a l → weigh (duty running) rest ≡ 0
+stuck_drawn : {S : Type 0} (net : NetRows) (limit : ℕ) (s : St S) (h : KeepsAccounts net limit s) (id t a : ℕ) (cause : Cause) (carried : List (ℕ × S)) (l : List ℕ) (rest : List Note) → MayRelease net t cause → IsTrue (takes net a t) → 1 ≤ times a l → weigh (duty running) rest ≡ 0
     → get_elem? s.views id ≡ some (Sems Full l ∷ Has Quiet ∷ Duty (Collecting t cause (edges_of net t cause) []) ∷ Has Live ∷ rest)
     → KeepsAccounts net limit (stepped s 8 ((slice_index s.words 8 + 1) % 2 ^ 64) id carried (Duty (Owes []) ∷ Has Live ∷ Sems Full l ∷ Has Quiet ∷ rest ++ Duty (Told (slice_index s.words 8) (Drop t cause (Stuck a))) ∷ Has Sticking ∷ []) keeps)
 stuck_drawn net limit s h id t a cause carried l rest may takes_it full idle at =
@@ -254,7 +258,7 @@ stuck_drawn net limit s h id t a cause carried l rest may takes_it full idle at 
       takes_it = takes_it;
       no_unit = λ has. omega (arith, has, no_unit);
     } in
-    drawn_all net limit s h id carried old new x at
+    drawn_all net limit s h id carried old new x at (lies_append rest tail ∙ append-nil (lies_in rest))
     (record {
       lives = omega arith;
       stand = (tt, (tt, (tt, (tt, stand_both net (h.journal ++ x ∷ []) rest tail (longer net h.journal x rest p.stand.1.1.1.1) (told net limit s h x, (tt, tt))))));
@@ -281,7 +285,7 @@ stuck_drawn net limit s h id t a cause carried l rest may takes_it full idle at 
     }) (omega (arith, moved (mark Over), weigh_append (mark Over) rest tail)) (omega (arith, moved (mark Sticking), weigh_append (mark Sticking) rest tail)))
 
 -- and after a Fault
-halted_drawn : (net : NetRows) (limit : ℕ) (s : St) (h : KeepsAccounts net limit s) (id t : ℕ) (cause : Cause) (carried : List (ℕ × Unit {0})) (l : List ℕ) (rest : List Note) → MayRelease net t cause → weigh (mark Sticking) rest ≡ 0
+halted_drawn : {S : Type 0} (net : NetRows) (limit : ℕ) (s : St S) (h : KeepsAccounts net limit s) (id t : ℕ) (cause : Cause) (carried : List (ℕ × S)) (l : List ℕ) (rest : List Note) → MayRelease net t cause → weigh (mark Sticking) rest ≡ 0
     → get_elem? s.views id ≡ some (Sems Full l ∷ Has Alone ∷ Has Halted ∷ Duty (Collecting t cause (edges_of net t cause) []) ∷ Has Live ∷ rest)
     → KeepsAccounts net limit (stepped s 8 ((slice_index s.words 8 + 1) % 2 ^ 64) id carried (Duty (Owes []) ∷ Has Live ∷ Sems Full l ∷ Has Alone ∷ Has Halted ∷ rest ++ Duty (Told (slice_index s.words 8) (Drop t cause AfterFault)) ∷ []) keeps)
 halted_drawn net limit s h id t cause carried l rest may free at =
@@ -290,7 +294,7 @@ halted_drawn net limit s h id t cause carried l rest may free at =
     let old = Sems Full l ∷ Has Alone ∷ Has Halted ∷ Duty (Collecting t cause (edges_of net t cause) []) ∷ Has Live ∷ rest in let new = Duty (Owes []) ∷ Has Live ∷ Sems Full l ∷ Has Alone ∷ Has Halted ∷ rest ++ tail in
     let p = h.views id old at in
     let all : total (mark Live) s.views ≡ weigh (mark Live) old = p.alone (λ z. omega (arith, z)) in
-    drawn_all net limit s h id carried old new x at
+    drawn_all net limit s h id carried old new x at (lies_append rest tail ∙ append-nil (lies_in rest))
     (record {
       lives = omega arith;
       stand = (tt, (tt, (tt, (tt, (omega (arith, p.stand.1.1.0, count_by_push_no is_fault h.journal x refl), stand_both net (h.journal ++ x ∷ []) rest tail (longer net h.journal x rest p.stand.1.1.1.1.1) (told net limit s h x, tt))))));
@@ -317,11 +321,11 @@ halted_drawn net limit s h id t cause carried l rest may free at =
       owing_is = omega (arith, moved owing, weigh_append owing rest tail);
     }) (omega (arith, moved (mark Over), weigh_append (mark Over) rest tail)))
 
-pub drop_last_allowed : (net : NetRows) (limit slots id : ℕ) (me : Seated) (why : DropWhy) → MayDropLast net why me.0 → Allows (KeepsAccounts net limit) slots id me 8 (λ n. (n + 1) % 2 ^ 64) (λ n m. (m.0 ≡ last_dropped why n me.0) × (m.1 ≡ me.1))
+pub drop_last_allowed : {S : Type 0} (net : NetRows) (limit slots id : ℕ) (me : Seated S) (why : DropWhy) → MayDropLast net why me.0 → Allows (KeepsAccounts net limit) slots id me 8 (λ n. (n + 1) % 2 ^ 64) (λ n m. (m.0 ≡ last_dropped why n me.0) × (m.1 ≡ me.1))
 drop_last_allowed net limit slots id me why may s h _ at small = from why me.0 may at
   where
     from : (q : DropWhy) (v : List Note) → MayDropLast net q v → get_elem? s.views id ≡ some v
-        → (u : List Note) × (z : Act (Unit {0})) × Valid s.homes me.1 z × KeepsAccounts net limit (stepped s 8 ((slice_index s.words 8 + 1) % 2 ^ 64) id me.1 u z) × ((u ≡ last_dropped q (slice_index s.words 8) v) × (carried_after me.1 z ≡ me.1))
+        → (u : List Note) × (z : Act _) × Valid s.homes me.1 z × KeepsAccounts net limit (stepped s 8 ((slice_index s.words 8 + 1) % 2 ^ 64) id me.1 u z) × ((u ≡ last_dropped q (slice_index s.words 8) v) × (carried_after me.1 z ≡ me.1))
     from (Stuck a) (Sems Full l ∷ Has Quiet ∷ Duty (Collecting t cause taken []) ∷ Has Live ∷ rest) may at =
         let stand = (h.views id _ at).stand.1.1.0 in
         let all : taken ≡ edges_of net t cause = sym (append-nil taken) ∙ stand.1 in
@@ -335,11 +339,11 @@ drop_last_allowed net limit slots id me why may s h _ at small = from why me.0 m
     from q v may at = absurd may
 
 -- TURN TAKEN OFF
-pub thin_allowed : (net : NetRows) (limit slots id : ℕ) (me : Seated) → MayThin me.0 → Allows (KeepsAccounts net limit) slots id me 16 (λ n. (n + (2 ^ 64 - 1)) % 2 ^ 64) (λ n m. (m.0 ≡ left_by me.0) × (m.1 ≡ me.1))
+pub thin_allowed : {S : Type 0} (net : NetRows) (limit slots id : ℕ) (me : Seated S) → MayThin me.0 → Allows (KeepsAccounts net limit) slots id me 16 (λ n. (n + (2 ^ 64 - 1)) % 2 ^ 64) (λ n m. (m.0 ≡ left_by me.0) × (m.1 ≡ me.1))
 thin_allowed net limit slots id me may s h _ at small = from me.0 may at
   where
     from : (v : List Note) → MayThin v → get_elem? s.views id ≡ some v
-        → (u : List Note) × (z : Act (Unit {0})) × Valid s.homes me.1 z × KeepsAccounts net limit (stepped s 16 ((slice_index s.words 16 + 18446744073709551615) % 2 ^ 64) id me.1 u z) × ((u ≡ left_by v) × (carried_after me.1 z ≡ me.1))
+        → (u : List Note) × (z : Act _) × Valid s.homes me.1 z × KeepsAccounts net limit (stepped s 16 ((slice_index s.words 16 + 18446744073709551615) % 2 ^ 64) id me.1 u z) × ((u ≡ left_by v) × (carried_after me.1 z ≡ me.1))
     from (Duty (Owes []) ∷ Has Live ∷ rest) may at =
         done net limit s id 16 _ me rest _ refl (turn_off net limit s h id me.1 rest (λ none. absurd (omega (arith, none, may))) (λ far none. absurd (omega (arith, none, may))) at small)
     from v may at = absurd may

@@ -1,5 +1,5 @@
 -- A step of one seat on one word.
-use Rattle.std.proofs.Common.{◌≡◌, ℕ, ◌≤◌, List, ◌++◌, set, refl, sym, ◌∙◌, subst, arith, length-set}
+use Rattle.std.proofs.Common.{◌≡◌, ◌≢◌, ℕ, ◌+◌, ◌<◌, ◌≤◌, List, ◌++◌, length, set, refl, sym, ◌∙◌, subst, arith, length-set}
 use Rattle.std.specs.Prelude.{count_by}
 use mathlib.Core.Option.{some}
 use lib.ListN.{get_elem?}
@@ -9,14 +9,17 @@ use Rattle.journal_rules.specs.declared.entry.Entry.{Entry}
 use Rattle.table_steps.specs.declared.view.Mark.TheVariants.{Live}
 use Rattle.table_steps.specs.declared.view.Note.{Note}
 use Rattle.table_steps.specs.inside.Accounts.{Coord, mark, resting, weigh, total, AllStand, Readings, reading, is_drop, Balanced, Moves, KeepsAccounts}
+use Rattle.table_steps.specs.inside.Slots.{lies_in}
+use Rattle.table_steps.specs.inside.Accounts.{marks_from}
+use Rattle.table_steps.proofs.Homing.{homes_still}
 use Rattle.table_steps.proofs.Totals.{total_swap}
 use Rattle.table_steps.proofs.Views.{OwnView, views_after, quiet_rests, full_rests_too}
 
-abbrev pub St : Type 0
-St = State (Unit {0}) (List Note)
+abbrev pub St : Type 0 → Type 0
+St S = State S (List Note)
 
-abbrev pub Seated : Type 0
-Seated = Me (Unit {0}) (List Note)
+abbrev pub Seated : Type 0 → Type 0
+Seated S = Me S (List Note)
 
 -- a seat that is no rest
 pub own_lone : {id : ℕ} (net : NetRows) (journal : List Entry) (T : Coord → ℕ) (old new rest : List Note) → AllStand net journal new → 1 ≤ weigh (mark Live) (old ++ rest) → 1 ≤ weigh (mark Live) (new ++ rest) → weigh resting (new ++ rest) ≡ 0
@@ -32,12 +35,12 @@ own_lone net journal T old new rest stand before after lone = record {
 }
 
 -- the rule after one step that takes these notes for those
-pub after_step : (net : NetRows) (limit : ℕ) (s : St) (h : KeepsAccounts net limit s) (id i k : ℕ) (carried : List (ℕ × Unit {0})) (old new rest : List Note) (journal : List Entry) (counted : ℕ → ℕ) (w : Readings)
-    → get_elem? s.views id ≡ some (old ++ rest) → ((v : List Note) → AllStand net h.journal v → AllStand net journal v) → OwnView net journal (λ c. total c s.views) id old new rest
+pub after_step : {S : Type 0} (net : NetRows) (limit : ℕ) (s : St S) (h : KeepsAccounts net limit s) (id i k : ℕ) (carried : List (ℕ × S)) (old new rest : List Note) (journal : List Entry) (counted : ℕ → ℕ) (w : Readings)
+    → get_elem? s.views id ≡ some (old ++ rest) → lies_in new ≡ lies_in old → ((e : ℕ) → e < length net.edges → i ≢ marks_from net + e) → ((v : List Note) → AllStand net h.journal v → AllStand net journal v) → OwnView net journal (λ c. total c s.views) id old new rest
     → total (mark Live) (set s.views id (new ++ rest)) ≤ 1152921504606846976 → count_by is_drop journal ≤ 1152921504606846976 → reading net (set s.words i k) ≡ w
     → (Moves (λ c. total c s.views) old (λ c. total c (set s.views id (new ++ rest))) new → Balanced net limit w counted journal (λ c. total c (set s.views id (new ++ rest))))
     → KeepsAccounts net limit (stepped s i k id carried (new ++ rest) keeps)
-after_step net limit s h id i k carried old new rest journal counted w at stays own few few_drops reads kept = record {
+after_step net limit s h id i k carried old new rest journal counted w at same apart stays own few few_drops reads kept = record {
   fits = h.fits;
   size = length-set s.words i k ∙ h.size;
   journal = journal;
@@ -46,17 +49,18 @@ after_step net limit s h id i k carried old new rest journal counted w at stays 
   few = few;
   few_drops = few_drops;
   views = views_after net h.journal journal s.views id old new rest h.views at stays own;
+  homes = homes_still net s.words i k s.homes s.views id old new rest h.homes at same apart;
 }
 
 -- one that draws nothing and adds no turn
-pub still_step : (net : NetRows) (limit : ℕ) (s : St) (h : KeepsAccounts net limit s) (id i k : ℕ) (carried : List (ℕ × Unit {0})) (old new rest : List Note) (w : Readings)
-    → get_elem? s.views id ≡ some (old ++ rest) → OwnView net h.journal (λ c. total c s.views) id old new rest → weigh (mark Live) new ≤ weigh (mark Live) old → reading net (set s.words i k) ≡ w
+pub still_step : {S : Type 0} (net : NetRows) (limit : ℕ) (s : St S) (h : KeepsAccounts net limit s) (id i k : ℕ) (carried : List (ℕ × S)) (old new rest : List Note) (w : Readings)
+    → get_elem? s.views id ≡ some (old ++ rest) → lies_in new ≡ lies_in old → ((e : ℕ) → e < length net.edges → i ≢ marks_from net + e) → OwnView net h.journal (λ c. total c s.views) id old new rest → weigh (mark Live) new ≤ weigh (mark Live) old → reading net (set s.words i k) ≡ w
     → (Moves (λ c. total c s.views) old (λ c. total c (set s.views id (new ++ rest))) new → Balanced net limit w h.counted h.journal (λ c. total c (set s.views id (new ++ rest))))
     → KeepsAccounts net limit (stepped s i k id carried (new ++ rest) keeps)
-still_step net limit s h id i k carried old new rest w at own fewer reads kept =
-    after_step net limit s h id i k carried old new rest h.journal h.counted w at (λ v stand. stand) own (omega (arith, h.few, fewer, total_swap (mark Live) s.views id old new rest at)) h.few_drops reads kept
+still_step net limit s h id i k carried old new rest w at same apart own fewer reads kept =
+    after_step net limit s h id i k carried old new rest h.journal h.counted w at same apart (λ v stand. stand) own (omega (arith, h.few, fewer, total_swap (mark Live) s.views id old new rest at)) h.few_drops reads kept
 
 -- what a step asks for is one view, no act, and the rule
-pub done : (net : NetRows) (limit : ℕ) (s : St) (id i k : ℕ) (me : Seated) (w w' : List Note) → w ≡ w' → KeepsAccounts net limit (stepped s i k id me.1 w keeps)
-    → (u : List Note) × (a : Act (Unit {0})) × Valid s.homes me.1 a × KeepsAccounts net limit (stepped s i k id me.1 u a) × ((u ≡ w') × (carried_after me.1 a ≡ me.1))
+pub done : {S : Type 0} (net : NetRows) (limit : ℕ) (s : St S) (id i k : ℕ) (me : Seated S) (w w' : List Note) → w ≡ w' → KeepsAccounts net limit (stepped s i k id me.1 w keeps)
+    → (u : List Note) × (a : Act _) × Valid s.homes me.1 a × KeepsAccounts net limit (stepped s i k id me.1 u a) × ((u ≡ w') × (carried_after me.1 a ≡ me.1))
 done net limit s id i k me w w' is kept = (w, keeps, tt, kept, (is, refl))

@@ -31,6 +31,7 @@ use Rattle.table_steps.proofs.CountDuties.{join_above, any_most, into_strong, su
 use Rattle.table_steps.proofs.ResetDuties.{is_clear, cleared_at}
 use Rattle.table_steps.proofs.Raising.{raised_by}
 use Rattle.table_steps.proofs.Reading.{tells_is, else_word, else_edge, else_unit, else_credit}
+use Rattle.table_steps.proofs.Homing.{give_lies, wrap_lies, count_lies}
 use Rattle.table_steps.proofs.Stepping.{St, Seated, own_lone, after_step, still_step, done}
 use Rattle.table_steps.proofs.Tokens.{by_give, by_count, give_kept, count_kept, reset_kept, take_kept}
 use Rattle.table_steps.proofs.Bounds.{few_given}
@@ -92,7 +93,7 @@ give_rests true t found f gives = (refl, refl)
 give_rests false t zero f gives = (refl, refl)
 give_rests false t (suc n) f gives = (refl, refl)
 
-pub give_allowed : (net : NetRows) (limit slots id : ℕ) (me : Seated) (f : ℕ) → OwesNext net f me.0
+pub give_allowed : {S : Type 0} (net : NetRows) (limit slots id : ℕ) (me : Seated S) (f : ℕ) → OwesNext net f me.0
     → Allows (KeepsAccounts net limit) slots id me (edges_from net + f) (λ n. (n + 1) % 2 ^ 64) (λ n m. (m.0 ≡ gave net f n me.0) × (m.1 ≡ me.1))
 give_allowed net limit slots id me f may s h _ at small = from me.0 may at
   where
@@ -100,7 +101,7 @@ give_allowed net limit slots id me f may s h _ at small = from me.0 may at
     i = edges_from net + f
 
     from : (v : List Note) → OwesNext net f v → get_elem? s.views id ≡ some v
-        → (u : List Note) × (a : Act (Unit {0})) × Valid s.homes me.1 a × KeepsAccounts net limit (stepped s i ((slice_index s.words i + 1) % 2 ^ 64) id me.1 u a) × ((u ≡ gave net f (slice_index s.words i) v) × (carried_after me.1 a ≡ me.1))
+        → (u : List Note) × (a : Act _) × Valid s.homes me.1 a × KeepsAccounts net limit (stepped s i ((slice_index s.words i + 1) % 2 ^ 64) id me.1 u a) × ((u ≡ gave net f (slice_index s.words i) v) × (carried_after me.1 a ≡ me.1))
     from (Duty (Owes (g ∷ gives)) ∷ rest) may at =
         let n = slice_index s.words i in let below = may.1 in
         let at' : get_elem? s.views id ≡ some (Duty (Owes (f ∷ gives)) ∷ rest) = at ∙ ap (λ k. some (Duty (Owes (k ∷ gives)) ∷ rest)) may.0 in
@@ -110,7 +111,7 @@ give_allowed net limit slots id me f may s h _ at small = from me.0 may at
         let rests = give_rests w (target net f) n f gives in
         let inside : i < length s.words = omega (arith, h.size, below) in
         done net limit s id i _ me (new ++ rest) _ refl
-        (still_step net limit s h id i ((n + 1) % 18446744073709551616) me.1 (Duty (Owes (f ∷ gives)) ∷ []) new rest _ at'
+        (still_step net limit s h id i ((n + 1) % 18446744073709551616) me.1 (Duty (Owes (f ∷ gives)) ∷ []) new rest _ at' (give_lies w (target net f) n f gives) (λ e b z. omega arith)
         (own_lone net h.journal (λ c. total c s.views) (Duty (Owes (f ∷ gives)) ∷ []) new rest (give_stands net h.journal w n f gives refl below (h.views id _ at').stand.0.1)
         (omega (arith, may.2)) (omega (arith, may.2, weigh_append (mark Live) new rest)) (omega (arith, may.2, rests.0, weigh_append resting new rest)))
         (omega (arith, rests.1)) (tokens_read net s.words f _ below)
@@ -136,7 +137,7 @@ some_there zero h = absurd (omega arith)
 some_there (suc n) h = omega arith
 
 -- an edge from which a seat is to take has a token
-token_there : (net : NetRows) (limit : ℕ) (s : St) (h : KeepsAccounts net limit s) (id t : ℕ) (cause : Cause) (taken left : List ℕ) (f : ℕ) (rest : List Note) → TakesFrom net cause f
+token_there : {S : Type 0} (net : NetRows) (limit : ℕ) (s : St S) (h : KeepsAccounts net limit s) (id t : ℕ) (cause : Cause) (taken left : List ℕ) (f : ℕ) (rest : List Note) → TakesFrom net cause f
     → get_elem? s.views id ≡ some (Duty (Collecting t cause taken (f ∷ left)) ∷ rest) → 1 ≤ (reading net s.words).edge f
 token_there net limit s h id t Source taken left f rest takes at = absurd takes
 token_there net limit s h id t Strong taken left f rest takes at =
@@ -158,7 +159,7 @@ take_rests t Strong taken zero f left = (refl, refl)
 take_rests t Strong taken (suc zero) f left = (refl, refl)
 take_rests t Strong taken (suc (suc n)) f left = (refl, refl)
 
-pub take_allowed : (net : NetRows) (limit slots id : ℕ) (me : Seated) (f : ℕ) → TakesNext net f me.0
+pub take_allowed : {S : Type 0} (net : NetRows) (limit slots id : ℕ) (me : Seated S) (f : ℕ) → TakesNext net f me.0
     → Allows (KeepsAccounts net limit) slots id me (edges_from net + f) (λ n. (n + (2 ^ 64 - 1)) % 2 ^ 64) (λ n m. (m.0 ≡ took n me.0) × (m.1 ≡ me.1))
 take_allowed net limit slots id me f may s h _ at small = from me.0 may at
   where
@@ -166,7 +167,7 @@ take_allowed net limit slots id me f may s h _ at small = from me.0 may at
     i = edges_from net + f
 
     from : (v : List Note) → TakesNext net f v → get_elem? s.views id ≡ some v
-        → (u : List Note) × (a : Act (Unit {0})) × Valid s.homes me.1 a × KeepsAccounts net limit (stepped s i ((slice_index s.words i + (2 ^ 64 - 1)) % 2 ^ 64) id me.1 u a) × ((u ≡ took (slice_index s.words i) v) × (carried_after me.1 a ≡ me.1))
+        → (u : List Note) × (a : Act _) × Valid s.homes me.1 a × KeepsAccounts net limit (stepped s i ((slice_index s.words i + (2 ^ 64 - 1)) % 2 ^ 64) id me.1 u a) × ((u ≡ took (slice_index s.words i) v) × (carried_after me.1 a ≡ me.1))
     from (Duty (Collecting t cause taken (g ∷ left)) ∷ rest) may at =
         let n = slice_index s.words i in let below = may.1 in
         let old = Duty (Collecting t cause taken (f ∷ left)) ∷ [] in
@@ -182,7 +183,7 @@ take_allowed net limit slots id me f may s h _ at small = from me.0 may at
         let rests = take_rests t cause taken n f left in
         let inside : i < length s.words = omega (arith, h.size, below) in
         done net limit s id i _ me (new ++ rest) _ (λ j. wrap (after_take t cause taken n (sym may.0 j) left) ++ rest)
-        (still_step net limit s h id i k me.1 old new rest _ at'
+        (still_step net limit s h id i k me.1 old new rest _ at' (wrap_lies items) (λ e b z. omega arith)
         (own_lone net h.journal (λ c. total c s.views) old new rest (take_stands net h.journal t cause taken n f left stand.0 stand.1)
         (omega (arith, may.2)) (omega (arith, may.2, weigh_append (mark Live) new rest)) (omega (arith, may.2, rests.0, weigh_append resting new rest)))
         (omega (arith, rests.1)) (tokens_read net s.words f _ below)
@@ -206,7 +207,7 @@ count_rests t zero = (refl, refl)
 count_rests t (suc zero) = (refl, refl)
 count_rests t (suc (suc n)) = (refl, refl)
 
-counts_clear : (net : NetRows) (limit : ℕ) (s : St) (h : KeepsAccounts net limit s) (id f : ℕ) (rest : List Note) (t : ℕ) → is_strong_into net t f ≡ true → get_elem? s.views id ≡ some (Duty (Counting f) ∷ rest) → h.counted f ≡ 0
+counts_clear : {S : Type 0} (net : NetRows) (limit : ℕ) (s : St S) (h : KeepsAccounts net limit s) (id f : ℕ) (rest : List Note) (t : ℕ) → is_strong_into net t f ≡ true → get_elem? s.views id ≡ some (Duty (Counting f) ∷ rest) → h.counted f ≡ 0
 counts_clear net limit s h id f rest t into at =
     omega (arith, h.balanced.by_duties.states f (into_strong net t f into), any_most ((reading net s.words).edge f), one_self f, total_set (duty (awaits f)) s.views id (Duty (Counting f) ∷ rest) rest at)
 
@@ -214,7 +215,7 @@ some_strong : (net : NetRows) (t f : ℕ) → is_strong_into net t f ≡ true �
 some_strong net t f into none = let z : times f (strong_in net t) ≡ 0 = ap (times f) none in omega (arith, z, times_strong_in net t f, ap one_if into)
 
 -- A seat that has still to collect from an edge of the task doesn't make the last count.
-none_left : (net : NetRows) (limit : ℕ) (s : St) (h : KeepsAccounts net limit s) (id t f : ℕ) (rest : List Note) → is_strong_into net t f ≡ true → get_elem? s.views id ≡ some (Duty (Counting f) ∷ rest) → (reading net s.words).join t ≡ 1 → AreNoneLeft t rest
+none_left : {S : Type 0} (net : NetRows) (limit : ℕ) (s : St S) (h : KeepsAccounts net limit s) (id t f : ℕ) (rest : List Note) → is_strong_into net t f ≡ true → get_elem? s.views id ≡ some (Duty (Counting f) ∷ rest) → (reading net s.words).join t ≡ 1 → AreNoneLeft t rest
 none_left net limit s h id t f (Duty (Collecting u Strong taken left) ∷ rest) into at last = λ same. by_left same left at (h.views id _ at).stand.1.0.1
   where
     by_left : u ≡ t → (left : List ℕ) → get_elem? s.views id ≡ some (Duty (Counting f) ∷ Duty (Collecting u Strong taken left) ∷ rest) → taken ++ left ≡ strong_in net u → left ≡ []
@@ -247,7 +248,7 @@ none_left net limit s h id t f (Duty (Collecting u Strong taken left) ∷ rest) 
         raised = sum_raised h.counted counted' f (strong_in net t) (λ e. refl)
 none_left net limit s h id t f _ into at last = tt
 
-pub count_allowed : (net : NetRows) (limit slots id : ℕ) (me : Seated) (t f : ℕ) → CountsNext net t f me.0
+pub count_allowed : {S : Type 0} (net : NetRows) (limit slots id : ℕ) (me : Seated S) (t f : ℕ) → CountsNext net t f me.0
     → Allows (KeepsAccounts net limit) slots id me (edges_from net + length net.edges + t) (λ n. (n + (2 ^ 64 - 1)) % 2 ^ 64) (λ n m. (m.0 ≡ counted_one t n me.0) × (m.1 ≡ me.1) × (n ≡ 1 → AreNoneLeft t (others_of me.0)))
 count_allowed net limit slots id me t f may s h _ at small = from me.0 may at
   where
@@ -255,7 +256,7 @@ count_allowed net limit slots id me t f may s h _ at small = from me.0 may at
     i = edges_from net + length net.edges + t
 
     from : (v : List Note) → CountsNext net t f v → get_elem? s.views id ≡ some v
-        → (u : List Note) × (a : Act (Unit {0})) × Valid s.homes me.1 a × KeepsAccounts net limit (stepped s i ((slice_index s.words i + (2 ^ 64 - 1)) % 2 ^ 64) id me.1 u a) × ((u ≡ counted_one t (slice_index s.words i) v) × (carried_after me.1 a ≡ me.1) × (slice_index s.words i ≡ 1 → AreNoneLeft t (others_of v)))
+        → (u : List Note) × (a : Act _) × Valid s.homes me.1 a × KeepsAccounts net limit (stepped s i ((slice_index s.words i + (2 ^ 64 - 1)) % 2 ^ 64) id me.1 u a) × ((u ≡ counted_one t (slice_index s.words i) v) × (carried_after me.1 a ≡ me.1) × (slice_index s.words i ≡ 1 → AreNoneLeft t (others_of v)))
     from (Duty (Counting g) ∷ rest) may at =
         let n = slice_index s.words i in
         let at' : get_elem? s.views id ≡ some (Duty (Counting f) ∷ rest) = at ∙ ap (λ k. some (Duty (Counting k) ∷ rest)) may.0 in
@@ -271,7 +272,7 @@ count_allowed net limit slots id me t f may s h _ at small = from me.0 may at
           new ++ rest,
           keeps,
           tt,
-          after_step net limit s h id i k me.1 (Duty (Counting f) ∷ []) new rest h.journal counted' _ at' (λ v stand. stand)
+          after_step net limit s h id i k me.1 (Duty (Counting f) ∷ []) new rest h.journal counted' _ at' (count_lies t n) (λ e b z. omega arith) (λ v stand. stand)
               (own_lone net h.journal (λ c. total c s.views) (Duty (Counting f) ∷ []) new rest (count_stands net h.journal t n may.1 (some_strong net t f into))
               (omega (arith, may.3)) (omega (arith, may.3, weigh_append (mark Live) new rest)) (omega (arith, may.3, rests.0, weigh_append resting new rest)))
               (omega (arith, h.few, rests.1, few_after rest new at' rests.1)) h.few_drops (joins_read net s.words t _)
@@ -285,7 +286,7 @@ count_allowed net limit slots id me t f may s h _ at small = from me.0 may at
     from v may at = absurd may
 
 -- SET AGAIN
-pub reset_allowed : (net : NetRows) (limit slots id : ℕ) (me : Seated) (t : ℕ) → MayReset net t me.0
+pub reset_allowed : {S : Type 0} (net : NetRows) (limit slots id : ℕ) (me : Seated S) (t : ℕ) → MayReset net t me.0
     → Allows (KeepsAccounts net limit) slots id me (edges_from net + length net.edges + t) (λ n. (n + length (strong_in net t)) % 2 ^ 64) (λ n m. (m.0 ≡ taken_up net me.0) × (m.1 ≡ me.1))
 reset_allowed net limit slots id me t may s h _ at small = from me.0 may at
   where
@@ -293,7 +294,7 @@ reset_allowed net limit slots id me t may s h _ at small = from me.0 may at
     i = edges_from net + length net.edges + t
 
     from : (v : List Note) → MayReset net t v → get_elem? s.views id ≡ some v
-        → (u : List Note) × (a : Act (Unit {0})) × Valid s.homes me.1 a × KeepsAccounts net limit (stepped s i ((slice_index s.words i + length (strong_in net t)) % 2 ^ 64) id me.1 u a) × ((u ≡ taken_up net v) × (carried_after me.1 a ≡ me.1))
+        → (u : List Note) × (a : Act _) × Valid s.homes me.1 a × KeepsAccounts net limit (stepped s i ((slice_index s.words i + length (strong_in net t)) % 2 ^ 64) id me.1 u a) × ((u ≡ taken_up net v) × (carried_after me.1 a ≡ me.1))
     from (Duty (Fresh u Strong) ∷ rest) may at =
         let same : u ≡ t = may.0 in
         let old = Duty (Fresh t Strong) ∷ [] in
@@ -306,7 +307,7 @@ reset_allowed net limit slots id me t may s h _ at small = from me.0 may at
         let k = (slice_index s.words i + length (strong_in net t)) % 18446744073709551616 in
         let k_is : k ≡ length (strong_in net t) = omega arith in
         done net limit s id i _ me (new ++ rest) _ (λ j. Duty (Collecting (sym same j) Strong [] (strong_in net (sym same j))) ∷ rest)
-        (after_step net limit s h id i k me.1 old new rest h.journal (cleared_at net t h.counted) _ at' (λ v stand. stand)
+        (after_step net limit s h id i k me.1 old new rest h.journal (cleared_at net t h.counted) _ at' refl (λ e b z. omega arith) (λ v stand. stand)
         (own_lone net h.journal (λ c. total c s.views) old new rest ((fits, refl), tt) (omega (arith, may.1)) (omega (arith, may.1)) (omega (arith, may.1)))
         (omega (arith, h.few, total_set (mark Live) s.views id (old ++ rest) (new ++ rest) at')) h.few_drops (joins_read net s.words t _)
         (λ moved. reset_kept net limit (reading net s.words) h.counted h.journal (λ c. total c s.views) _ _ t h.balanced fits.1 (again k k_is fits.0 is_zero) (λ c. omega (arith, moved c))))

@@ -6,4 +6,8 @@ pub mod Halts
 pub mod UnitKinds
 pub mod CreditKinds
 pub mod Opening
+pub mod Parcels
+pub mod Slots
+pub mod SlotMarks
 pub mod RestKinds
+pub mod SlotKinds

@@ -37,7 +37,7 @@ pub struct Credits<A> {
     told: PhantomData<A>,
 }
 
-impl<A: Claimable> Play<(), List<Note>> for Credits<A> {
+impl<S, A: Claimable> Play<S, List<Note>> for Credits<A> {
     ghost then = { λ _ before n after. (after.0 ≡ credited A.sem before.0) × (after.1 ≡ before.1) };
 }
 
@@ -45,18 +45,18 @@ pub struct Claims<A> {
     told: PhantomData<A>,
 }
 
-impl<A: Claimable> Play<(), List<Note>> for Claims<A> {
+impl<S, A: Claimable> Play<S, List<Note>> for Claims<A> {
     ghost then = { λ _ before n after. (after.0 ≡ claimed A.sem n before.0) × (after.1 ≡ before.1) × (n ≤ first_credit → IsRefusal A.net A.limit A.sem before.0) };
 }
 
 pub struct Unclaims;
 
-impl Play<(), List<Note>> for Unclaims {
+impl<S> Play<S, List<Note>> for Unclaims {
     ghost then = { λ _ before n after. (after.0 ≡ unclaimed before.0) × (after.1 ≡ before.1) };
 }
 
-impl Words {
-    fn credit_told<A: Claimable>(&self, seat: &mut Place, sem: u32, word: usize)
+impl<S> Words<S> {
+    fn credit_told<A: Claimable>(&self, seat: &mut Place<S>, sem: u32, word: usize)
         requires table { seat.old.table_id ≡ self.now.table.shared.table_id }
         requires ready { MayCredit (arc_value self.now.net) sem seat.old.me.0 }
         requires in_range { sem < length (arc_value self.now.net).sems }
@@ -69,7 +69,7 @@ impl Words {
     }
 
     /// Adds a credit of a unit that a start took and doesn't put.
-    pub fn add_credit(&self, seat: &mut Place, sem: u32)
+    pub fn add_credit(&self, seat: &mut Place<S>, sem: u32)
         requires table { seat.old.table_id ≡ self.now.table.shared.table_id }
         requires ready { MayCredit (arc_value self.now.net) sem seat.old.me.0 }
         requires in_range { sem < length (arc_value self.now.net).sems }
@@ -87,7 +87,7 @@ impl Words {
         FIRST_UNIT + self.net.sems().len() + sem as usize
     }
 
-    fn claim_told<A: Claimable>(&self, seat: &mut Place, sem: u32, word: usize) -> u64
+    fn claim_told<A: Claimable>(&self, seat: &mut Place<S>, sem: u32, word: usize) -> u64
         requires table { seat.old.table_id ≡ self.now.table.shared.table_id }
         requires ready { MayClaim (arc_value self.now.net) sem seat.old.me.0 }
         requires in_range { sem < length (arc_value self.now.net).sems }
@@ -102,7 +102,7 @@ impl Words {
 
     /// Claims a credit of a unit that a start puts and didn't take, and says what it found in the credit word. Where that
     /// is no more than was there at first, the claim is refused.
-    pub fn draw_claim(&self, seat: &mut Place, sem: u32) -> u64
+    pub fn draw_claim(&self, seat: &mut Place<S>, sem: u32) -> u64
         requires table { seat.old.table_id ≡ self.now.table.shared.table_id }
         requires ready { MayClaim (arc_value self.now.net) sem seat.old.me.0 }
         requires in_range { sem < length (arc_value self.now.net).sems }
@@ -114,7 +114,7 @@ impl Words {
     }
 
     /// Undoes a claim that was refused.
-    pub fn undo_claim(&self, seat: &mut Place, sem: u32)
+    pub fn undo_claim(&self, seat: &mut Place<S>, sem: u32)
         requires table { seat.old.table_id ≡ self.now.table.shared.table_id }
         requires ready { MayUnclaim (arc_value self.now.net) sem seat.old.me.0 }
         requires in_range { sem < length (arc_value self.now.net).sems }

@@ -24,7 +24,7 @@ impl Blames for Brand {
 
 pub struct ReadsHalt;
 
-impl Play<(), List<Note>> for ReadsHalt {
+impl<S> Play<S, List<Note>> for ReadsHalt {
     ghost then = { λ _ before n after. (after.0 ≡ halt_read n before.0) × (after.1 ≡ before.1) };
 }
 
@@ -32,25 +32,25 @@ pub struct Faults<A> {
     told: PhantomData<A>,
 }
 
-impl<A: Blames> Play<(), List<Note>> for Faults<A> {
+impl<S, A: Blames> Play<S, List<Note>> for Faults<A> {
     ghost then = { λ _ before n after. (after.0 ≡ faulted A.why n before.0) × (after.1 ≡ before.1) };
 }
 
 pub struct Marks;
 
-impl Play<(), List<Note>> for Marks {
+impl<S> Play<S, List<Note>> for Marks {
     ghost then = { λ _ before n after. (after.0 ≡ marked before.0) × (after.1 ≡ before.1) };
 }
 
 pub struct Drops;
 
-impl Play<(), List<Note>> for Drops {
+impl<S> Play<S, List<Note>> for Drops {
     ghost then = { λ _ before n after. (after.0 ≡ dropped n before.0) × (after.1 ≡ before.1) };
 }
 
-impl Words {
+impl<S> Words<S> {
     /// Loads the halt mark, which is 0 where no turn has set it.
-    pub fn load_halt(&self, seat: &mut Place) -> u64
+    pub fn load_halt(&self, seat: &mut Place<S>) -> u64
         requires table { seat.old.table_id ≡ self.now.table.shared.table_id }
         requires ready { MayAsk seat.old.me.0 }
         ensures table { seat.new.table_id ≡ seat.old.table_id }
@@ -59,7 +59,7 @@ impl Words {
         self.table.shared.load::<ReadsHalt>(seat, HALT)
     }
 
-    fn fault_told<A: Blames>(&self, seat: &mut Place, _why: Why) -> u64
+    fn fault_told<A: Blames>(&self, seat: &mut Place<S>, _why: Why) -> u64
         requires table { seat.old.table_id ≡ self.now.table.shared.table_id }
         requires ready { MayFault (arc_value self.now.net) A.why seat.old.me.0 }
         ensures table { seat.new.table_id ≡ seat.old.table_id }
@@ -69,7 +69,7 @@ impl Words {
     }
 
     /// Draws the place of a Fault.
-    pub fn draw_fault(&self, seat: &mut Place, why: Why) -> u64
+    pub fn draw_fault(&self, seat: &mut Place<S>, why: Why) -> u64
         requires table { seat.old.table_id ≡ self.now.table.shared.table_id }
         requires ready { MayFault (arc_value self.now.net) why seat.old.me.0 }
         ensures table { seat.new.table_id ≡ seat.old.table_id }
@@ -79,7 +79,7 @@ impl Words {
     }
 
     /// Sets the halt mark.
-    pub fn set_halt(&self, seat: &mut Place)
+    pub fn set_halt(&self, seat: &mut Place<S>)
         requires table { seat.old.table_id ≡ self.now.table.shared.table_id }
         requires ready { MayMark seat.old.me.0 }
         ensures table { seat.new.table_id ≡ seat.old.table_id }
@@ -89,7 +89,7 @@ impl Words {
     }
 
     /// Draws the place of a Drop.
-    pub fn draw_drop(&self, seat: &mut Place) -> u64
+    pub fn draw_drop(&self, seat: &mut Place<S>) -> u64
         requires table { seat.old.table_id ≡ self.now.table.shared.table_id }
         requires ready { MayDrop seat.old.me.0 }
         ensures table { seat.new.table_id ≡ seat.old.table_id }

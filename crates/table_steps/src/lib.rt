@@ -11,10 +11,17 @@
 //! - The halt mark, which is set once a start has faulted.
 //! - Each semaphore's units that are taken, and its credits. These begin at 2^40, so that a claim that is refused wraps
 //!   nothing.
+//! - The mark of each edge's slot, which is set while a seat holds the slot.
 //! - Each edge's tokens, and for each task its join word: how many of its strong in-edges are not counted at it.
 //!
 //! The hot words have a cache line each. Nothing is written to the first word, which splits and joins read, and a turn that
 //! asks for what the net says of it.
+//!
+//! # The slots
+//!
+//! Each edge has a slot, where a parcel may lie: what a start finds at that edge. A seat tries once to take the slot,
+//! exchanges what lies there while it holds it, and gives it back (`slot_steps.rt`). It knows by its notes what it has
+//! still to do with a parcel (`Lot`). No start and no end has such notes yet, so no parcel moves.
 //!
 //! # What holds between any two steps
 //!
@@ -30,7 +37,9 @@
 //!
 //! What a seat knows is a list of notes; each account is an equation between a word, counts of the journal and
 //! totals of weights over all notes. Starts carry no inputs yet. So a journal here is legal but for the rule on what
-//! starts find.
+//! starts find. A slot is home where its mark is clear, and else one seat holds it. That each kind of step keeps the
+//! account of parcels too (`SlotPart`), by which starts find what they may, is proved of counts and isn't part of the
+//! rule.
 //!
 //! # Where its definitions are
 //!
@@ -44,10 +53,12 @@
 mod credit_steps;
 mod halt_steps;
 mod rest_steps;
+mod slot_steps;
 mod steps;
 mod unit_steps;
 mod view;
 
 pub use credit_steps::FIRST_CREDIT;
+pub use slot_steps::Parcel;
 pub use steps::{FIRST_UNIT, LIVE, Place, Words};
-pub use view::{AccountsHold, Item, Kind, Mark, Note, Plan};
+pub use view::{AccountsHold, Item, Kind, Lot, Mark, Note, Plan};

@@ -42,13 +42,13 @@ impl Split<List<Note>> for HandsOut {
 
 pub struct ReadsLive;
 
-impl Play<(), List<Note>> for ReadsLive {
+impl<S> Play<S, List<Note>> for ReadsLive {
     ghost then = { λ _ before n after. (after.0 ≡ live_found n before.0) × (after.1 ≡ before.1) };
 }
 
 pub struct Looks;
 
-impl Play<(), List<Note>> for Looks {
+impl<S> Play<S, List<Note>> for Looks {
     ghost then = { λ _ before n after. (after.0 ≡ looked n before.0) × (after.1 ≡ before.1) };
 }
 
@@ -56,7 +56,7 @@ pub struct Asks<A> {
     told: PhantomData<A>,
 }
 
-impl<A: Semaphore> Play<(), List<Note>> for Asks<A> {
+impl<S, A: Semaphore> Play<S, List<Note>> for Asks<A> {
     ghost then = { λ _ before n after. (after.0 ≡ asked A.net A.sem n before.0) × (after.1 ≡ before.1) };
 }
 
@@ -64,19 +64,19 @@ pub struct DropsLast<A> {
     told: PhantomData<A>,
 }
 
-impl<A: Excuses> Play<(), List<Note>> for DropsLast<A> {
+impl<S, A: Excuses> Play<S, List<Note>> for DropsLast<A> {
     ghost then = { λ _ before n after. (after.0 ≡ last_dropped A.why n before.0) × (after.1 ≡ before.1) };
 }
 
 pub struct Thins;
 
-impl Play<(), List<Note>> for Thins {
+impl<S> Play<S, List<Note>> for Thins {
     ghost then = { λ _ before n after. (after.0 ≡ left_by before.0) × (after.1 ≡ before.1) };
 }
 
-impl Words {
+impl<S> Words<S> {
     /// Gives what a turn's seat knows to a rest's.
-    pub fn park(&self, seat: &mut Place, other: Place)
+    pub fn park(&self, seat: &mut Place<S>, other: Place<S>)
         requires table { (seat.old.table_id ≡ self.now.table.shared.table_id) × (other.table_id ≡ self.now.table.shared.table_id) }
         requires home { other.me.1 ≡ [] }
         requires ready { MayPark seat.old.me.0 other.me.0 }
@@ -87,7 +87,7 @@ impl Words {
     }
 
     /// Deals the last turn of a rest to a new seat.
-    pub fn hand_out(&self, seat: &mut Place) -> Place
+    pub fn hand_out(&self, seat: &mut Place<S>) -> Place<S>
         requires table { seat.old.table_id ≡ self.now.table.shared.table_id }
         requires ready { MayHandOut seat.old.me.0 }
         ensures table { (seat.new.table_id ≡ seat.old.table_id) × (result.table_id ≡ seat.old.table_id) }
@@ -97,7 +97,7 @@ impl Words {
     }
 
     /// Loads the live word, which says how many turns there are.
-    pub fn load_live(&self, seat: &mut Place) -> u64
+    pub fn load_live(&self, seat: &mut Place<S>) -> u64
         requires table { seat.old.table_id ≡ self.now.table.shared.table_id }
         requires ready { IsTurn seat.old.me.0 }
         ensures table { seat.new.table_id ≡ seat.old.table_id }
@@ -107,7 +107,7 @@ impl Words {
     }
 
     /// Loads the halt mark for a rest that is alone. It is 0 where no Fault stands.
-    pub fn look_for_halt(&self, seat: &mut Place) -> u64
+    pub fn look_for_halt(&self, seat: &mut Place<S>) -> u64
         requires table { seat.old.table_id ≡ self.now.table.shared.table_id }
         requires ready { MayLook seat.old.me.0 }
         ensures table { seat.new.table_id ≡ seat.old.table_id }
@@ -116,7 +116,7 @@ impl Words {
         self.table.shared.load::<Looks>(seat, HALT)
     }
 
-    fn ask_told<A: Semaphore>(&self, seat: &mut Place, sem: u32) -> u64
+    fn ask_told<A: Semaphore>(&self, seat: &mut Place<S>, sem: u32) -> u64
         requires table { seat.old.table_id ≡ self.now.table.shared.table_id }
         requires ready { MayAsk (arc_value self.now.net) sem seat.old.me.0 }
         requires in_range { sem < length (arc_value self.now.net).sems }
@@ -130,7 +130,7 @@ impl Words {
     }
 
     /// Loads the unit word of a semaphore for a rest that is alone: how many units are taken and not back.
-    pub fn load_units(&self, seat: &mut Place, sem: u32) -> u64
+    pub fn load_units(&self, seat: &mut Place<S>, sem: u32) -> u64
         requires table { seat.old.table_id ≡ self.now.table.shared.table_id }
         requires ready { MayAsk (arc_value self.now.net) sem seat.old.me.0 }
         requires in_range { sem < length (arc_value self.now.net).sems }
@@ -140,7 +140,7 @@ impl Words {
         self.ask_told::<Brand>(seat, sem)
     }
 
-    fn drop_last_told<A: Excuses>(&self, seat: &mut Place, _why: DropWhy) -> u64
+    fn drop_last_told<A: Excuses>(&self, seat: &mut Place<S>, _why: DropWhy) -> u64
         requires table { seat.old.table_id ≡ self.now.table.shared.table_id }
         requires ready { MayDropLast (arc_value self.now.net) A.why seat.old.me.0 }
         ensures table { seat.new.table_id ≡ seat.old.table_id }
@@ -150,7 +150,7 @@ impl Words {
     }
 
     /// Draws the place of a Drop of a rest's last turn.
-    pub fn draw_last_drop(&self, seat: &mut Place, why: DropWhy) -> u64
+    pub fn draw_last_drop(&self, seat: &mut Place<S>, why: DropWhy) -> u64
         requires table { seat.old.table_id ≡ self.now.table.shared.table_id }
         requires ready { MayDropLast (arc_value self.now.net) why seat.old.me.0 }
         ensures table { seat.new.table_id ≡ seat.old.table_id }
@@ -160,7 +160,7 @@ impl Words {
     }
 
     /// Takes a turn of a rest off, where the rest has others.
-    pub fn thin(&self, seat: &mut Place)
+    pub fn thin(&self, seat: &mut Place<S>)
         requires table { seat.old.table_id ≡ self.now.table.shared.table_id }
         requires ready { MayThin seat.old.me.0 }
         ensures table { seat.new.table_id ≡ seat.old.table_id }

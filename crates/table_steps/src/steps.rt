@@ -2,7 +2,7 @@
 ghost use Rattle.std.specs.Prelude.{◌≡◌, ◌+◌, ◌<◌, ℕ, List, Bool, [], length};
 ghost use Rattle.std.specs.Arc.{arc_value};
 ghost use Rattle.task_graph.specs.NetRows.{NetRows};
-ghost use Rattle.table_steps.specs.inside.Accounts.{AllFitNotes, edges_from};
+ghost use Rattle.table_steps.specs.inside.Accounts.{AllFitNotes, edges_from, marks_from};
 ghost use Rattle.task_graph.specs.Net.{IsNet, strong_in};
 ghost use Rattle.table_steps.specs.inside.Kinds.{IsTurn, MayReset, MayTakeUp, taken_up, TakesNext, took, OwesNext, gave, CountsNext, counted_one, AreNoneLeft, others_of, MayAdd, added, MayDeal, dealt, kept_back, MayAdmit, admitted, MayStart, started, MayEnd, ended, MayLeave, left_by, IsWhole, joined};
 
@@ -27,17 +27,17 @@ pub const STARTS: usize = 24;
 
 pub const HALT: usize = 32;
 
-// From here on each semaphore has a word of units taken, then each a word of credits, then each edge a word of tokens,
-// and each task its join word.
+// From here on each semaphore has a word of units taken, then each a word of credits, then each edge the mark of its
+// slot, then each a word of tokens, and each task its join word.
 pub const FIRST_UNIT: usize = 40;
 
 /// What a seat is.
-pub type Place = Seat<(), List<Note>>;
+pub type Place<S> = Seat<S, List<Note>>;
 
 /// The words of a table, with its net.
 #[derive(Drop)]
-pub struct Words {
-    pub table: Table<(), List<Note>, Plan, AccountsHold, Global>,
+pub struct Words<S> {
+    pub table: Table<S, List<Note>, Plan, AccountsHold, Global>,
     pub net: Arc<Net>,
     pub limit: u64,
     ghost same_limit: { limit ≡ table.shared.key.limit },
@@ -80,7 +80,7 @@ struct Learns<A> {
     told: PhantomData<A>,
 }
 
-impl<A: Told> Play<(), List<Note>> for Learns<A> {
+impl<S, A: Told> Play<S, List<Note>> for Learns<A> {
     ghost then = { λ _ before n after. (after.0 ≡ before.0) × (after.1 ≡ before.1) × AllFitNotes A.net before.0 × (length A.net.edges < 4294967296) };
 }
 
@@ -88,13 +88,13 @@ struct TakesUp<A> {
     told: PhantomData<A>,
 }
 
-impl<A: Told> Play<(), List<Note>> for TakesUp<A> {
+impl<S, A: Told> Play<S, List<Note>> for TakesUp<A> {
     ghost then = { λ _ before n after. (after.0 ≡ taken_up A.net before.0) × (after.1 ≡ before.1) };
 }
 
 struct Takes;
 
-impl Play<(), List<Note>> for Takes {
+impl<S> Play<S, List<Note>> for Takes {
     ghost then = { λ _ before n after. (after.0 ≡ took n before.0) × (after.1 ≡ before.1) };
 }
 
@@ -102,7 +102,7 @@ struct Gives<A> {
     told: PhantomData<A>,
 }
 
-impl<A: Told> Play<(), List<Note>> for Gives<A> {
+impl<S, A: Told> Play<S, List<Note>> for Gives<A> {
     ghost then = { λ _ before n after. (after.0 ≡ gave A.net A.edge n before.0) × (after.1 ≡ before.1) };
 }
 
@@ -110,13 +110,13 @@ struct Counts<A> {
     told: PhantomData<A>,
 }
 
-impl<A: Told> Play<(), List<Note>> for Counts<A> {
+impl<S, A: Told> Play<S, List<Note>> for Counts<A> {
     ghost then = { λ _ before n after. (after.0 ≡ counted_one A.task n before.0) × (after.1 ≡ before.1) × (n ≡ 1 → AreNoneLeft A.task (others_of before.0)) };
 }
 
 struct Adds;
 
-impl Play<(), List<Note>> for Adds {
+impl<S> Play<S, List<Note>> for Adds {
     ghost then = { λ _ before n after. (after.0 ≡ added before.0) × (after.1 ≡ before.1) };
 }
 
@@ -132,7 +132,7 @@ struct Admits<A> {
     told: PhantomData<A>,
 }
 
-impl<A: Told> Play<(), List<Note>> for Admits<A> {
+impl<S, A: Told> Play<S, List<Note>> for Admits<A> {
     ghost then = { λ _ before n after. (after.0 ≡ admitted A.limit n before.0) × (after.1 ≡ before.1) };
 }
 
@@ -140,7 +140,7 @@ struct Starts<A> {
     told: PhantomData<A>,
 }
 
-impl<A: Told> Play<(), List<Note>> for Starts<A> {
+impl<S, A: Told> Play<S, List<Note>> for Starts<A> {
     ghost then = { λ _ before n after. (after.0 ≡ started A.net n before.0) × (after.1 ≡ before.1) × IsNet A.net };
 }
 
@@ -148,7 +148,7 @@ struct Ends<A> {
     told: PhantomData<A>,
 }
 
-impl<A: Told> Play<(), List<Note>> for Ends<A> {
+impl<S, A: Told> Play<S, List<Note>> for Ends<A> {
     ghost then = { λ _ before n after. (after.0 ≡ ended A.gives A.inner n before.0) × (after.1 ≡ before.1) };
 }
 
@@ -164,12 +164,12 @@ struct Leaves<A> {
     told: PhantomData<A>,
 }
 
-impl<A: Told> Play<(), List<Note>> for Leaves<A> {
+impl<S, A: Told> Play<S, List<Note>> for Leaves<A> {
     ghost then = { λ _ before n after. (after.0 ≡ left_by before.0) × (after.1 ≡ before.1) × (n ≡ 1 → IsWhole A.net A.limit after.0) };
 }
 
-impl Words {
-    fn learn_told<A: Told>(&self, seat: &mut Place)
+impl<S> Words<S> {
+    fn learn_told<A: Told>(&self, seat: &mut Place<S>)
         requires table { seat.old.table_id ≡ self.now.table.shared.table_id }
         requires ready { IsTurn seat.old.me.0 }
         requires told { A.net ≡ arc_value self.now.net }
@@ -182,7 +182,7 @@ impl Words {
     }
 
     /// Learns that what the seat knows fits the net.
-    pub fn learn(&self, seat: &mut Place)
+    pub fn learn(&self, seat: &mut Place<S>)
         requires table { seat.old.table_id ≡ self.now.table.shared.table_id }
         requires ready { IsTurn seat.old.me.0 }
         ensures table { (seat.new.table_id ≡ seat.old.table_id) × (seat.new.id ≡ seat.old.id) }
@@ -193,7 +193,7 @@ impl Words {
         self.learn_told::<Brand>(seat)
     }
 
-    fn take_up_told<A: Told>(&self, seat: &mut Place)
+    fn take_up_told<A: Told>(&self, seat: &mut Place<S>)
         requires table { seat.old.table_id ≡ self.now.table.shared.table_id }
         requires ready { MayTakeUp seat.old.me.0 }
         requires told { A.net ≡ arc_value self.now.net }
@@ -204,7 +204,7 @@ impl Words {
     }
 
     /// Takes up a release of a source task or by a weak edge.
-    pub fn take_up(&self, seat: &mut Place)
+    pub fn take_up(&self, seat: &mut Place<S>)
         requires table { seat.old.table_id ≡ self.now.table.shared.table_id }
         requires ready { MayTakeUp seat.old.me.0 }
         ensures table { seat.new.table_id ≡ seat.old.table_id }
@@ -213,7 +213,7 @@ impl Words {
         self.take_up_told::<Brand>(seat)
     }
 
-    fn reset_told<A: Told>(&self, seat: &mut Place, task: u32, word: usize, edges: u64)
+    fn reset_told<A: Told>(&self, seat: &mut Place<S>, task: u32, word: usize, edges: u64)
         requires table { seat.old.table_id ≡ self.now.table.shared.table_id }
         requires ready { MayReset (arc_value self.now.net) task seat.old.me.0 }
         requires in_range { task < length (arc_value self.now.net).tasks }
@@ -227,7 +227,7 @@ impl Words {
     }
 
     /// Sets a task's join word again, and takes up its release.
-    pub fn reset_join(&self, seat: &mut Place, task: u32)
+    pub fn reset_join(&self, seat: &mut Place<S>, task: u32)
         requires table { seat.old.table_id ≡ self.now.table.shared.table_id }
         requires ready { MayReset (arc_value self.now.net) task seat.old.me.0 }
         requires in_range { task < length (arc_value self.now.net).tasks }
@@ -250,6 +250,15 @@ impl Words {
     fn first_edge(&self) -> usize
         ensures place { result ≡ edges_from (arc_value self.now.net) }
         ensures few { length (arc_value self.now.net).sems < 4294967296 }
+        ensures room { length (arc_value self.now.net).edges < 9223372036854775808 }
+    {
+        self.first_mark() + self.net.edges().len()
+    }
+
+    // Where the marks of slots begin.
+    pub(crate) fn first_mark(&self) -> usize
+        ensures place { result ≡ marks_from (arc_value self.now.net) }
+        ensures few { length (arc_value self.now.net).sems < 4294967296 }
     {
         FIRST_UNIT + self.net.sems().len() + self.net.sems().len()
     }
@@ -263,7 +272,7 @@ impl Words {
     }
 
     /// Takes a token from the next edge of a release, and says how many were there.
-    pub fn take_token(&self, seat: &mut Place, edge: u32) -> u64
+    pub fn take_token(&self, seat: &mut Place<S>, edge: u32) -> u64
         requires table { seat.old.table_id ≡ self.now.table.shared.table_id }
         requires ready { TakesNext (arc_value self.now.net) edge seat.old.me.0 }
         requires in_range { edge < length (arc_value self.now.net).edges }
@@ -275,7 +284,7 @@ impl Words {
             .fetch_sub::<Takes>(seat, self.edge_word(edge), 1)
     }
 
-    fn give_told<A: Told>(&self, seat: &mut Place, edge: u32) -> u64
+    fn give_told<A: Told>(&self, seat: &mut Place<S>, edge: u32) -> u64
         requires table { seat.old.table_id ≡ self.now.table.shared.table_id }
         requires ready { OwesNext (arc_value self.now.net) edge seat.old.me.0 }
         requires in_range { edge < length (arc_value self.now.net).edges }
@@ -289,7 +298,7 @@ impl Words {
     }
 
     /// Gives a token of the next edge that is owed, and says how many were there.
-    pub fn give_token(&self, seat: &mut Place, edge: u32) -> u64
+    pub fn give_token(&self, seat: &mut Place<S>, edge: u32) -> u64
         requires table { seat.old.table_id ≡ self.now.table.shared.table_id }
         requires ready { OwesNext (arc_value self.now.net) edge seat.old.me.0 }
         requires in_range { edge < length (arc_value self.now.net).edges }
@@ -299,7 +308,7 @@ impl Words {
         self.give_told::<Brand>(seat, edge)
     }
 
-    fn count_told<A: Told>(&self, seat: &mut Place, task: u32, edge: u32, word: usize) -> u64
+    fn count_told<A: Told>(&self, seat: &mut Place<S>, task: u32, edge: u32, word: usize) -> u64
         requires table { seat.old.table_id ≡ self.now.table.shared.table_id }
         requires ready { CountsNext (arc_value self.now.net) task edge seat.old.me.0 }
         requires in_range { task < length (arc_value self.now.net).tasks }
@@ -313,7 +322,7 @@ impl Words {
     }
 
     /// Counts an edge with a token at its target, and says what the join word was.
-    pub fn count_edge(&self, seat: &mut Place, task: u32, edge: u32) -> u64
+    pub fn count_edge(&self, seat: &mut Place<S>, task: u32, edge: u32) -> u64
         requires table { seat.old.table_id ≡ self.now.table.shared.table_id }
         requires ready { CountsNext (arc_value self.now.net) task edge seat.old.me.0 }
         requires in_range { task < length (arc_value self.now.net).tasks }
@@ -325,7 +334,7 @@ impl Words {
     }
 
     /// Counts the turn of a release that the seat has just made.
-    pub fn add_turn(&self, seat: &mut Place)
+    pub fn add_turn(&self, seat: &mut Place<S>)
         requires table { seat.old.table_id ≡ self.now.table.shared.table_id }
         requires ready { MayAdd seat.old.me.0 }
         ensures table { seat.new.table_id ≡ seat.old.table_id }
@@ -335,7 +344,7 @@ impl Words {
     }
 
     /// Deals a release with its turn to a new seat.
-    pub fn deal(&self, seat: &mut Place) -> Place
+    pub fn deal(&self, seat: &mut Place<S>) -> Place<S>
         requires table { seat.old.table_id ≡ self.now.table.shared.table_id }
         requires ready { MayDeal seat.old.id seat.old.me.0 }
         ensures table { (seat.new.table_id ≡ seat.old.table_id) × (seat.new.id ≡ seat.old.id) × (result.table_id ≡ seat.old.table_id) }
@@ -344,7 +353,7 @@ impl Words {
         self.table.shared.split_seat::<Deals>(seat)
     }
 
-    fn admit_told<A: Told>(&self, seat: &mut Place) -> u64
+    fn admit_told<A: Told>(&self, seat: &mut Place<S>) -> u64
         requires table { seat.old.table_id ≡ self.now.table.shared.table_id }
         requires ready { MayAdmit seat.old.me.0 }
         requires told { A.limit ≡ self.now.table.shared.key.limit }
@@ -355,7 +364,7 @@ impl Words {
     }
 
     /// Draws an admission, and says how many were drawn before.
-    pub fn draw_admission(&self, seat: &mut Place) -> u64
+    pub fn draw_admission(&self, seat: &mut Place<S>) -> u64
         requires table { seat.old.table_id ≡ self.now.table.shared.table_id }
         requires ready { MayAdmit seat.old.me.0 }
         ensures table { seat.new.table_id ≡ seat.old.table_id }
@@ -371,7 +380,7 @@ impl Words {
         self.limit
     }
 
-    fn start_told<A: Told>(&self, seat: &mut Place) -> u64
+    fn start_told<A: Told>(&self, seat: &mut Place<S>) -> u64
         requires table { seat.old.table_id ≡ self.now.table.shared.table_id }
         requires ready { MayStart (arc_value self.now.net) seat.old.me.0 }
         requires told { A.net ≡ arc_value self.now.net }
@@ -383,7 +392,7 @@ impl Words {
     }
 
     /// Draws the place of a Start.
-    pub fn draw_start(&self, seat: &mut Place) -> u64
+    pub fn draw_start(&self, seat: &mut Place<S>) -> u64
         requires table { seat.old.table_id ≡ self.now.table.shared.table_id }
         requires ready { MayStart (arc_value self.now.net) seat.old.me.0 }
         ensures table { seat.new.table_id ≡ seat.old.table_id }
@@ -393,7 +402,7 @@ impl Words {
         self.start_told::<Brand>(seat)
     }
 
-    fn end_told<A: Told>(&self, seat: &mut Place, _gives: &List<u32>, _inner: bool) -> u64
+    fn end_told<A: Told>(&self, seat: &mut Place<S>, _gives: &List<u32>, _inner: bool) -> u64
         requires table { seat.old.table_id ≡ self.now.table.shared.table_id }
         requires ready { MayEnd (arc_value self.now.net) A.gives A.inner seat.old.me.0 }
         ensures table { seat.new.table_id ≡ seat.old.table_id }
@@ -403,7 +412,7 @@ impl Words {
     }
 
     /// Draws the place of an End that gives these edges.
-    pub fn draw_end(&self, seat: &mut Place, gives: &List<u32>, inner: bool) -> u64
+    pub fn draw_end(&self, seat: &mut Place<S>, gives: &List<u32>, inner: bool) -> u64
         requires table { seat.old.table_id ≡ self.now.table.shared.table_id }
         requires ready { MayEnd (arc_value self.now.net) gives.now inner seat.old.me.0 }
         ensures table { seat.new.table_id ≡ seat.old.table_id }
@@ -413,7 +422,7 @@ impl Words {
     }
 
     /// Gives what a seat knows to the keeper's.
-    pub fn take_in(&self, seat: &mut Place, other: Place)
+    pub fn take_in(&self, seat: &mut Place<S>, other: Place<S>)
         requires table { (seat.old.table_id ≡ self.now.table.shared.table_id) × (other.table_id ≡ self.now.table.shared.table_id) }
         requires keeper { seat.old.id ≡ 0 }
         requires home { other.me.1 ≡ [] }
@@ -423,7 +432,7 @@ impl Words {
         self.table.shared.join_seat::<TakesIn>(seat, other);
     }
 
-    fn leave_told<A: Told>(&self, seat: &mut Place) -> u64
+    fn leave_told<A: Told>(&self, seat: &mut Place<S>) -> u64
         requires table { seat.old.table_id ≡ self.now.table.shared.table_id }
         requires keeper { seat.old.id ≡ 0 }
         requires ready { MayLeave seat.old.me.0 }
@@ -436,7 +445,7 @@ impl Words {
     }
 
     /// Takes a turn off, and says how many there were. After the last the keeper's seat knows a whole run.
-    pub fn leave(&self, seat: &mut Place) -> u64
+    pub fn leave(&self, seat: &mut Place<S>) -> u64
         requires table { seat.old.table_id ≡ self.now.table.shared.table_id }
         requires keeper { seat.old.id ≡ 0 }
         requires ready { MayLeave seat.old.me.0 }
@@ -448,7 +457,7 @@ impl Words {
     }
 
     /// Takes a turn that is done into the keeper's seat, and says how many were live.
-    pub fn settle(&self, seat: &mut Place, spent: Place) -> u64
+    pub fn settle(&self, seat: &mut Place<S>, spent: Place<S>) -> u64
         requires table { (seat.old.table_id ≡ self.now.table.shared.table_id) × (spent.table_id ≡ self.now.table.shared.table_id) }
         requires keeper { seat.old.id ≡ 0 }
         requires home { (seat.old.me.1 ≡ []) × (spent.me.1 ≡ []) }

@@ -29,13 +29,13 @@ pub struct TakesUnit<A> {
     told: PhantomData<A>,
 }
 
-impl<A: Semaphore> Play<(), List<Note>> for TakesUnit<A> {
+impl<S, A: Semaphore> Play<S, List<Note>> for TakesUnit<A> {
     ghost then = { λ _ before n after. (after.0 ≡ took_unit A.net A.sem n before.0) × (after.1 ≡ before.1) };
 }
 
 pub struct Undoes;
 
-impl Play<(), List<Note>> for Undoes {
+impl<S> Play<S, List<Note>> for Undoes {
     ghost then = { λ _ before n after. (after.0 ≡ undone before.0) × (after.1 ≡ before.1) };
 }
 
@@ -43,7 +43,7 @@ pub struct PutsBack<A> {
     told: PhantomData<A>,
 }
 
-impl<A: Semaphore> Play<(), List<Note>> for PutsBack<A> {
+impl<S, A: Semaphore> Play<S, List<Note>> for PutsBack<A> {
     ghost then = { λ _ before n after. (after.0 ≡ put_back A.sem before.0) × (after.1 ≡ before.1) };
 }
 
@@ -51,12 +51,12 @@ pub struct Returns<A> {
     told: PhantomData<A>,
 }
 
-impl<A: Semaphore> Play<(), List<Note>> for Returns<A> {
+impl<S, A: Semaphore> Play<S, List<Note>> for Returns<A> {
     ghost then = { λ _ before n after. (after.0 ≡ returned A.sem before.0) × (after.1 ≡ before.1) };
 }
 
-impl Words {
-    fn take_unit_told<A: Semaphore>(&self, seat: &mut Place, sem: u32) -> u64
+impl<S> Words<S> {
+    fn take_unit_told<A: Semaphore>(&self, seat: &mut Place<S>, sem: u32) -> u64
         requires table { seat.old.table_id ≡ self.now.table.shared.table_id }
         requires ready { MayTake (arc_value self.now.net) sem seat.old.me.0 }
         requires in_range { sem < length (arc_value self.now.net).sems }
@@ -70,7 +70,7 @@ impl Words {
     }
 
     /// Takes a unit of a semaphore, and says how many were taken.
-    pub fn draw_unit(&self, seat: &mut Place, sem: u32) -> u64
+    pub fn draw_unit(&self, seat: &mut Place<S>, sem: u32) -> u64
         requires table { seat.old.table_id ≡ self.now.table.shared.table_id }
         requires ready { MayTake (arc_value self.now.net) sem seat.old.me.0 }
         requires in_range { sem < length (arc_value self.now.net).sems }
@@ -81,7 +81,7 @@ impl Words {
     }
 
     /// Undoes a take that found no unit.
-    pub fn undo_unit(&self, seat: &mut Place, sem: u32)
+    pub fn undo_unit(&self, seat: &mut Place<S>, sem: u32)
         requires table { seat.old.table_id ≡ self.now.table.shared.table_id }
         requires ready { MayUndo (arc_value self.now.net) sem seat.old.me.0 }
         requires in_range { sem < length (arc_value self.now.net).sems }
@@ -93,7 +93,7 @@ impl Words {
             .fetch_sub::<Undoes>(seat, FIRST_UNIT + sem as usize, 1);
     }
 
-    fn put_unit_told<A: Semaphore>(&self, seat: &mut Place, sem: u32)
+    fn put_unit_told<A: Semaphore>(&self, seat: &mut Place<S>, sem: u32)
         requires table { seat.old.table_id ≡ self.now.table.shared.table_id }
         requires ready { MayPut (arc_value self.now.net) sem seat.old.me.0 }
         requires in_range { sem < length (arc_value self.now.net).sems }
@@ -107,7 +107,7 @@ impl Words {
     }
 
     /// Puts a unit back that a turn holds.
-    pub fn put_unit_back(&self, seat: &mut Place, sem: u32)
+    pub fn put_unit_back(&self, seat: &mut Place<S>, sem: u32)
         requires table { seat.old.table_id ≡ self.now.table.shared.table_id }
         requires ready { MayPut (arc_value self.now.net) sem seat.old.me.0 }
         requires in_range { sem < length (arc_value self.now.net).sems }
@@ -117,7 +117,7 @@ impl Words {
         self.put_unit_told::<Brand>(seat, sem)
     }
 
-    fn return_told<A: Semaphore>(&self, seat: &mut Place, sem: u32)
+    fn return_told<A: Semaphore>(&self, seat: &mut Place<S>, sem: u32)
         requires table { seat.old.table_id ≡ self.now.table.shared.table_id }
         requires ready { MayReturn (arc_value self.now.net) sem seat.old.me.0 }
         requires in_range { sem < length (arc_value self.now.net).sems }
@@ -131,7 +131,7 @@ impl Words {
     }
 
     /// Gives a unit back that an end owes.
-    pub fn give_unit_back(&self, seat: &mut Place, sem: u32)
+    pub fn give_unit_back(&self, seat: &mut Place<S>, sem: u32)
         requires table { seat.old.table_id ≡ self.now.table.shared.table_id }
         requires ready { MayReturn (arc_value self.now.net) sem seat.old.me.0 }
         requires in_range { sem < length (arc_value self.now.net).sems }

@@ -2,7 +2,7 @@
 ghost use Rattle.std.specs.Arc.{arc_value};
 
 use atomic_table::TableRule;
-use journal_rules::{Cause, Entry};
+use journal_rules::{Cause, Entry, Part};
 use outside_io::List;
 use std::sync::Arc;
 use task_graph::Net;
@@ -73,6 +73,24 @@ pub enum Mark {
     Asked,
 }
 
+/// What a turn has to do with the parcel of an edge.
+pub enum Lot {
+    /// It owes the edge, and has the parcel still to put.
+    Ours,
+    /// The same, and it holds the edge's slot.
+    Putting,
+    /// It owes the edge's token alone: the parcel is put, or left away.
+    Put,
+    /// It has to collect from the edge, and to take its parcel first.
+    Awaited,
+    /// It has taken the parcel, and holds the edge's slot.
+    Taking,
+    /// It has taken the parcel, and the token not yet.
+    Fetched,
+    /// It has collected the token too.
+    Found,
+}
+
 /// One of the facts of which a seat's view is the list. No value of it is made.
 pub enum Note {
     /// What it knows of its turn, or has still to do.
@@ -83,6 +101,8 @@ pub enum Note {
     Has(Mark),
     /// The start at this place, of this task, would give back a unit of this semaphore that isn't out.
     Unfit(u32, u64, u32),
+    /// What it has to do with the parcel of this edge, and which that is.
+    Lies(Lot, u32, Part),
 }
 
 /// The net and the limit of a table.
@@ -95,7 +115,7 @@ pub struct Plan {
 /// The accounts hold between any two steps.
 pub struct AccountsHold;
 
-impl TableRule<(), List<Note>, Plan> for AccountsHold {
+impl<S> TableRule<S, List<Note>, Plan> for AccountsHold {
     ghost use Rattle.table_steps.specs.inside.Accounts.{KeepsAccounts, opening_notes};
 
     ghost holds = { λ plan. KeepsAccounts (arc_value plan.net) plan.limit };

@@ -14,7 +14,7 @@ use Rattle.table_steps.specs.declared.view.Item.{Item}
 use Rattle.table_steps.specs.declared.view.Item.TheVariants.{Fresh}
 use Rattle.table_steps.specs.inside.Opening.{bare, is_empty, source_items, full_items}
 use Rattle.journal_rules.specs.SemaphoreRule.{max_of}
-use Rattle.table_steps.specs.inside.Accounts.{mark, busy, resting, weigh, edges_from}
+use Rattle.table_steps.specs.inside.Accounts.{mark, busy, resting, weigh, marks_from, edges_from}
 use Rattle.table_steps.specs.Credits.{first_credit}
 
 -- whether a task has strong in-edges, and all of them begin with a token
@@ -49,7 +49,8 @@ abbrev pub opening_word : NetRows → ℕ → ℕ → ℕ
 opening_word net live k =
     if nat_lt k 40 then (if k == 16 then live else 0)
     else if nat_lt k (40 + length net.sems) then 0
-    else if nat_lt k (edges_from net) then first_credit
+    else if nat_lt k (marks_from net) then first_credit
+    else if nat_lt k (edges_from net) then 0
     else if nat_lt (k - edges_from net) (length net.edges) then first_tokens net (k - edges_from net)
     else bare net (strong_in net (k - edges_from net - length net.edges))
 

@@ -21,6 +21,8 @@ use Rattle.table_steps.specs.declared.view.Item.{Item}
 use Rattle.table_steps.specs.declared.view.Item.TheVariants.{Told, Fresh, Collecting, Open, Owes}
 use Rattle.table_steps.specs.inside.Items.{DutyCoord, place, runs, running, tickets, duty_weight, is_run, EdgePart, DutyPart}
 use Rattle.table_steps.specs.Giving.{target, one_if, times}
+use Rattle.table_steps.specs.inside.Slots.{slot_total, holders}
+use Rattle.table_steps.specs.inside.SlotMarks.{Homes}
 use Rattle.table_steps.specs.Credits.{first_credit}
 use Rattle.table_steps.specs.inside.Opening.{first_items}
 use Rattle.table_steps.specs.declared.view.Kind.{Kind}
@@ -277,9 +279,16 @@ pub record FitsPlan (net : NetRows) (limit : ℕ) : Type 0 where
   pub limited : limit ≤ 2097153
   pub maxima : (s : ℕ) → max_of net s ≤ 4294967295
 
--- the words: clock, live turns, starts, halt, then of each semaphore, of each edge and of each task
+-- the words: clock, live turns, starts, halt, then of each semaphore its units and its credits, of each edge its slot's
+-- mark and its tokens, and of each task its join word
+abbrev pub marks_from : NetRows → ℕ
+marks_from net = 40 + length net.sems + length net.sems
+
 abbrev pub edges_from : NetRows → ℕ
-edges_from net = 40 + length net.sems + length net.sems
+edges_from net = 40 + length net.sems + length net.sems + length net.edges
+
+abbrev pub mark_at : NetRows → List ℕ → ℕ → ℕ
+mark_at net words e = slice_index words (marks_from net + e)
 
 abbrev pub reading : NetRows → List ℕ → Readings
 reading net words = record {
@@ -304,7 +313,7 @@ pub record ViewPart (net : NetRows) (journal : List Entry) (T : Coord → ℕ) (
   pub full : (s : ℕ) → weigh (sem Full s) v ≢ 0 → back net s journal + max_of net s ≤ taken net s journal
 
 -- the rule
-pub record KeepsAccounts (net : NetRows) (limit : ℕ) (s : State (Unit {0}) (List Note)) : Type 0 where
+pub record KeepsAccounts {S : Type 0} (net : NetRows) (limit : ℕ) (s : State S (List Note)) : Type 0 where
   pub fits : FitsPlan net limit
   pub size : length s.words ≡ edges_from net + length net.edges + length net.tasks
   pub journal : List Entry
@@ -314,6 +323,8 @@ pub record KeepsAccounts (net : NetRows) (limit : ℕ) (s : State (Unit {0}) (Li
   pub few : total (mark Live) s.views ≤ 1152921504606846976
   pub few_drops : count_by is_drop journal ≤ 1152921504606846976
   pub views : (id : ℕ) (v : List Note) → get_elem? s.views id ≡ some v → ViewPart net journal (λ c. total c s.views) id v
+  -- a slot is home where its mark is clear, and else one seat holds it
+  pub homes : Homes (length net.edges) (mark_at net s.words) s.homes (holders (λ c. slot_total c s.views))
 
 -- each first release has a live turn
 abbrev pub first_notes : List Item → List Note

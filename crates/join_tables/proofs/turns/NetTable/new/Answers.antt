@@ -6,13 +6,14 @@ use Rattle.join_tables.proofs.FirstStep.{begins_table, live_is, all_of_table}
 use Rattle.join_tables.proofs.FirstFresh.{is_first_fresh, nothing_runs}
 use Rattle.join_tables.proofs.turns.NetTable.new.Goals as goal
 
-pub of_words-requires : goal.of_words-requires
-of_words-requires c =
+pub table_of-requires : goal.table_of-requires
+table_of-requires c =
     let net = arc_value c.args.net in
     let first : items_of c.in_ok-releases.releases.items ≡ first_items net 0 (length net.tasks) = search rules in
     let live : c.len.result ≡ length c.in_ok-releases.releases.items = search rules in
     let words : AreOpeningWords net c.len.result c.as_slice.result.now = search rules in
-    begins_table net c.args.limit c.len.result c.as_slice.result.now c.requires.limit (live_is net c.in_ok-releases.releases.items c.len.result live first) words
+    let full : length c.in_ok-parcels.parcels.items ≡ length net.edges = search rules in
+    begins_table net c.args.limit c.len.result c.as_slice.result.now c.in_ok-parcels.parcels.items full c.requires.limit (live_is net c.in_ok-releases.releases.items c.len.result live first) words
 
 pub returns : goal.returns
 returns c =

@@ -6,7 +6,7 @@ use Rattle.table_steps.proofs.TurnSteps.{deal_allowed}
 use Rattle.table_steps.proofs.steps.Words.deal.Goals as goal
 
 pub split_seat-requires : goal.split_seat-requires
-split_seat-requires c =
+split_seat-requires g c =
     let same : arc_value c.args.self.now.net ≡ arc_value c.args.self.now.table.shared.key.net = search rules in
     let sized : c.args.self.now.table.shared.table_id.words ≡ edges_from (arc_value c.args.self.now.net) + length (arc_value c.args.self.now.net).edges + length (arc_value c.args.self.now.net).tasks = search rules in
     let net = arc_value c.args.self.now.table.shared.key.net in let limit = c.args.self.now.table.shared.key.limit in let me = c.args.seat.now.me in

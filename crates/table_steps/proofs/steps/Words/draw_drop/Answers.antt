@@ -6,6 +6,6 @@ use Rattle.table_steps.proofs.HaltSteps.{drop_allowed}
 use Rattle.table_steps.proofs.steps.Words.draw_drop.Goals as goal
 
 pub fetch_add-requires : goal.fetch_add-requires
-fetch_add-requires c =
+fetch_add-requires g c =
     let sized : c.args.self.now.table.shared.table_id.words ≡ edges_from (arc_value c.args.self.now.net) + length (arc_value c.args.self.now.net).edges + length (arc_value c.args.self.now.net).tasks = search rules in
     (search rules, omega (arith, sized), drop_allowed _ _ _ _ _ c.requires.ready)

@@ -1,4 +1,4 @@
 use Rattle.table_steps.proofs.steps.Words.draw_last_drop.Given as goal
 
 abbrev pub ghosts-drop_last_told : goal.ghosts-drop_last_told
-ghosts-drop_last_told a = record { why = a._why }
+ghosts-drop_last_told g a = record { why = a._why }

@@ -6,6 +6,6 @@ use Rattle.table_steps.proofs.HaltSteps.{mark_allowed}
 use Rattle.table_steps.proofs.steps.Words.set_halt.Goals as goal
 
 pub swap-requires : goal.swap-requires
-swap-requires c =
+swap-requires g c =
     let sized : c.args.self.now.table.shared.table_id.words ≡ edges_from (arc_value c.args.self.now.net) + length (arc_value c.args.self.now.net).edges + length (arc_value c.args.self.now.net).tasks = search rules in
     (search rules, omega (arith, sized), mark_allowed _ _ _ _ _ c.requires.ready)

@@ -9,7 +9,7 @@ use Rattle.table_steps.proofs.TokenSteps.{take_allowed}
 use Rattle.table_steps.proofs.steps.Words.take_token.Goals as goal
 
 pub fetch_sub-requires : goal.fetch_sub-requires
-fetch_sub-requires c =
+fetch_sub-requires g c =
     let same : arc_value c.args.self.now.net ≡ arc_value c.args.self.now.table.shared.key.net = search rules in
     let sized : c.args.self.now.table.shared.table_id.words ≡ edges_from (arc_value c.args.self.now.net) + length (arc_value c.args.self.now.net).edges + length (arc_value c.args.self.now.net).tasks = search rules in
     let net = arc_value c.args.self.now.table.shared.key.net in let limit = c.args.self.now.table.shared.key.limit in let me = c.args.seat.now.me in

@@ -9,7 +9,7 @@ use Rattle.table_steps.proofs.CreditSeats.{unclaim_allowed}
 use Rattle.table_steps.proofs.steps.Words.undo_claim.Goals as goal
 
 pub fetch_add-requires : goal.fetch_add-requires
-fetch_add-requires c =
+fetch_add-requires g c =
     let same : arc_value c.args.self.now.net ≡ arc_value c.args.self.now.table.shared.key.net = search rules in
     let sized : c.args.self.now.table.shared.table_id.words ≡ edges_from (arc_value c.args.self.now.net) + length (arc_value c.args.self.now.net).edges + length (arc_value c.args.self.now.net).tasks = search rules in
     let net = arc_value c.args.self.now.table.shared.key.net in let limit = c.args.self.now.table.shared.key.limit in let me = c.args.seat.now.me in
