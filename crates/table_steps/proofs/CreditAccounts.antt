@@ -12,7 +12,7 @@ use Rattle.journal_rules.specs.SemaphoreRule.{takes, puts, back, taken, closed_t
 use Rattle.table_steps.specs.inside.Items.{DutyCoord, tickets, Raised}
 use Rattle.table_steps.specs.Giving.{one_if}
 use Rattle.table_steps.specs.declared.view.Kind.TheVariants.{Held, Undo, Owed, Both, Credit, Credited, Claim, Granted, Refusing, Denied}
-use Rattle.table_steps.specs.declared.view.Mark.TheVariants.{Live, New, Over, ToMark, Sticking, Asked}
+use Rattle.table_steps.specs.declared.view.Mark.TheVariants.{Live, New, Over, ToMark, Sticking}
 use Rattle.table_steps.specs.declared.view.Note.TheVariants.{Sems}
 use Rattle.table_steps.specs.inside.Accounts.{Coord, duty, sem, mark, turning, owing, CreditPart, Readings, Balanced, Moves, with_credit, only_puts, only_takes, starts_of}
 use Rattle.table_steps.specs.Credits.{first_credit}

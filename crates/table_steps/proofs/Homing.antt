@@ -1,22 +1,18 @@
 -- Slots are home or held by one seat, after steps that leave lots alone.
-use Rattle.std.proofs.Common.{◌≡◌, ◌≢◌, ℕ, zero, suc, ◌+◌, ◌<◌, Bool, true, false, List, [], ◌∷◌, ◌++◌, length, set, map, refl, sym, ap, ◌∙◌, subst, arith}
-use Rattle.std.specs.Prelude.{slice_index}
-use mathlib.Core.Option.{Option, none, some, some-injective, some-ne-none}
+use Rattle.std.proofs.Common.{◌≡◌, ◌≢◌, ℕ, zero, suc, ◌+◌, ◌<◌, Bool, true, false, List, [], ◌∷◌, ◌++◌, length, set, refl, sym, ap, ◌∙◌, subst, arith}
+use mathlib.Core.Option.{Option, some, some-injective, some-ne-none}
 use lib.ListN.{get_elem?}
 use Rattle.task_graph.specs.NetRows.{NetRows}
 use Rattle.table_steps.specs.declared.view.Item.{Item}
 use Rattle.table_steps.specs.declared.view.Item.TheVariants.{Told, Fresh, Collecting, Ticket, Open, Owes, Counting}
-use Rattle.journal_rules.specs.declared.entry.Cause.{Cause}
-use Rattle.journal_rules.specs.declared.entry.Cause.TheVariants.{Source, Strong, Weak}
 use Rattle.table_steps.specs.declared.view.Lot.{Lot}
 use Rattle.table_steps.specs.declared.view.Lot.TheVariants.{Putting, Taking}
 use Rattle.table_steps.specs.declared.view.Note.{Note}
 use Rattle.table_steps.specs.declared.view.Note.TheVariants.{Duty, Sems, Has, Unfit, Lies}
 use Rattle.table_steps.specs.inside.Accounts.{first_notes, marks_from, mark_at}
-use Rattle.table_steps.specs.inside.Items.{after_take}
 use Rattle.table_steps.specs.inside.Kinds.{wrap, given_notes, counted_notes}
 use Rattle.table_steps.specs.inside.UnitKinds.{held_notes}
-use Rattle.table_steps.specs.inside.Slots.{SlotCoord, lot, item_slots, slot_weight, slot_weigh, slot_total, holders, lies_in}
+use Rattle.table_steps.specs.inside.Slots.{SlotCoord, lot, item_slots, slot_weigh, slot_total, holders, lies_in}
 use Rattle.table_steps.specs.inside.SlotMarks.{HomeIs, Homes}
 use Rattle.table_steps.proofs.Lots.{slot_append}
 use Rattle.table_steps.proofs.Marking.{RestMarks, rest_head}

@@ -1,25 +1,18 @@
 -- The account of slots after an entry drawn, and after a release taken up.
-use Rattle.std.proofs.Common.{◌≡◌, ◌≢◌, ℕ, suc, ◌+◌, ◌≤◌, Bool, true, false, cond, List, [], ◌∷◌, ◌++◌, length, refl, sym, ap, ◌∙◌, arith}
-use Rattle.std.specs.Prelude.{count_by, slice_get}
-use Rattle.std.specs.Option.{option_map_or}
+use Rattle.std.proofs.Common.{◌≡◌, ℕ, ◌+◌, ◌≤◌, Bool, false, List, [], ◌∷◌, ◌++◌, length, refl, arith}
 use Rattle.task_graph.specs.NetRows.{NetRows}
 use Rattle.journal_rules.specs.declared.entry.Cause.{Cause}
 use Rattle.journal_rules.specs.declared.entry.Part.{Part}
-use Rattle.journal_rules.specs.declared.entry.Part.TheVariants.{From, First}
 use Rattle.journal_rules.specs.declared.entry.Entry.{Entry}
-use Rattle.journal_rules.specs.declared.entry.Entry.TheVariants.{Start, End, Fault, Drop}
+use Rattle.journal_rules.specs.declared.entry.Entry.TheVariants.{Start, End}
 use Rattle.journal_rules.specs.Counts.{gives_edge}
-use Rattle.journal_rules.specs.DataRule.{DataRule, edges_of, has_part, is_from, is_first}
-use Rattle.journal_rules.proofs.Snoc.{EachAfter-push, last_part_push}
-use Rattle.journal_rules.proofs.Tallying.{count_by_push_no}
-use Rattle.table_steps.specs.Giving.{one_if, times}
-use Rattle.table_steps.specs.declared.view.Item.TheVariants.{Told, Fresh, Collecting, Ticket, Open, Owes}
+use Rattle.journal_rules.specs.DataRule.{DataRule, edges_of, has_part}
+use Rattle.table_steps.specs.Giving.{times}
+use Rattle.table_steps.specs.declared.view.Item.TheVariants.{Collecting, Owes}
 use Rattle.table_steps.specs.declared.view.Lot.TheVariants.{Ours, Putting, Put, Awaited, Taking, Fetched, Found}
-use Rattle.table_steps.specs.declared.view.Note.{Note}
-use Rattle.table_steps.specs.declared.view.Note.TheVariants.{Duty, Lies}
-use Rattle.table_steps.specs.inside.Parcels.{same_part, parts_count, DataPart, Owned}
-use Rattle.table_steps.specs.inside.Slots.{SlotCoord, parcel, lot, owed, collected, left_at, slot_weigh, SlotMoves, fetched_at, SlotPart, SlotBounds, awaited_lots, found_lots, our_lots}
-use Rattle.table_steps.proofs.Calming.{calm_before}
+use Rattle.table_steps.specs.declared.view.Note.TheVariants.{Duty}
+use Rattle.table_steps.specs.inside.Parcels.{Owned}
+use Rattle.table_steps.specs.inside.Slots.{SlotCoord, parcel, lot, owed, collected, left_at, SlotMoves, fetched_at, SlotPart, SlotBounds, awaited_lots, found_lots, our_lots}
 use Rattle.table_steps.proofs.Parcels.{data_start, data_end, data_quiet}
 use Rattle.table_steps.proofs.Slots.{data_alike}
 use Rattle.table_steps.proofs.Lots.{awaited_count, awaited_none, found_count, found_parcels, found_none, our_count, our_parcels, our_none}

@@ -1,6 +1,5 @@
 -- The account of slots after each kind of step on slots and tokens.
-use Rattle.std.proofs.Common.{◌≡◌, ◌≢◌, ◌⊎◌, inl, inr, ℕ, suc, ◌+◌, ◌≤◌, Bool, true, false, ◌&&◌, cond, eqb, List, [], ◌∷◌, ◌++◌, refl, sym, ap, ◌∙◌, subst, arith}
-use Rattle.std.specs.Prelude.{◌==◌}
+use Rattle.std.proofs.Common.{◌≡◌, ◌≢◌, ℕ, ◌+◌, Bool, true, false, ◌&&◌, eqb, List, [], ◌∷◌, ◌++◌, refl, ap, arith}
 use Rattle.std.proofs.lemmas.Bool.Decides.{nat_tests}
 use Rattle.task_graph.specs.NetRows.{NetRows}
 use Rattle.journal_rules.specs.declared.entry.Cause.{Cause}
@@ -8,18 +7,17 @@ use Rattle.journal_rules.specs.declared.entry.Part.{Part}
 use Rattle.journal_rules.specs.declared.entry.Part.TheVariants.{From, Nothing}
 use Rattle.journal_rules.specs.declared.entry.Entry.{Entry}
 use Rattle.journal_rules.specs.Calm.{IsCalm}
-use Rattle.table_steps.specs.Giving.{one_if, times}
+use Rattle.table_steps.specs.Giving.{one_if}
 use Rattle.table_steps.specs.declared.view.Item.TheVariants.{Collecting, Owes}
 use Rattle.table_steps.specs.declared.view.Lot.TheVariants.{Ours, Putting, Put, Awaited, Taking, Fetched, Found}
-use Rattle.table_steps.specs.declared.view.Note.{Note}
 use Rattle.table_steps.specs.declared.view.Note.TheVariants.{Duty, Lies}
 use Rattle.table_steps.specs.inside.Items.{Raised}
 use Rattle.table_steps.specs.inside.Parcels.{same_part}
-use Rattle.table_steps.specs.inside.Slots.{SlotCoord, parcel, lot, owed, collected, left_at, slot_weigh, SlotMoves, fetched_at, holders, SlotPart, SlotBounds}
+use Rattle.table_steps.specs.inside.Slots.{SlotCoord, parcel, lot, owed, collected, left_at, SlotMoves, fetched_at, holders, SlotPart, SlotBounds}
 use Rattle.table_steps.proofs.Calming.{calm_now}
 use Rattle.table_steps.proofs.Counting.{times_append}
 use Rattle.table_steps.proofs.StartDuties.{one_self}
-use Rattle.table_steps.proofs.Slots.{at_edge, lay, data_put, data_fetch, data_token, data_clear, data_miss, data_alike}
+use Rattle.table_steps.proofs.Slots.{lay, data_put, data_fetch, data_token, data_clear, data_miss, data_alike}
 use Rattle.table_steps.proofs.Lots.{crowded}
 
 miss_is : (f e : ℕ) → f ≢ e → one_if (eqb f e) ≡ 0

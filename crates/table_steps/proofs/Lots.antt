@@ -1,9 +1,9 @@
 -- What lists of lots count, and how many tokens an edge has where a slot is held.
-use Rattle.std.proofs.Common.{◌≡◌, ◌≢◌, ◌⊎◌, inl, inr, ℕ, zero, suc, ◌+◌, ◌≤◌, Bool, true, false, ◌&&◌, cond, eqb, List, [], ◌∷◌, ◌++◌, length, refl, sym, ap, ◌∙◌, subst, arith}
+use Rattle.std.proofs.Common.{◌≡◌, ℕ, ◌+◌, ◌≤◌, Bool, true, false, ◌&&◌, cond, List, [], ◌∷◌, ◌++◌, length, refl, ap, arith}
 use Rattle.std.specs.Prelude.{◌==◌}
 use Rattle.task_graph.specs.NetRows.{NetRows}
 use Rattle.journal_rules.specs.declared.entry.Part.{Part}
-use Rattle.journal_rules.specs.declared.entry.Part.TheVariants.{From, First, Nothing}
+use Rattle.journal_rules.specs.declared.entry.Part.TheVariants.{From, Nothing}
 use Rattle.journal_rules.specs.declared.entry.Entry.{Entry}
 use Rattle.journal_rules.specs.Calm.{IsCalm}
 use Rattle.table_steps.specs.Giving.{one_if, times}
@@ -13,10 +13,10 @@ use Rattle.table_steps.specs.declared.view.Lot.{Lot}
 use Rattle.table_steps.specs.declared.view.Lot.TheVariants.{Ours, Putting, Put, Awaited, Taking, Fetched, Found}
 use Rattle.table_steps.specs.declared.view.Note.{Note}
 use Rattle.table_steps.specs.declared.view.Note.TheVariants.{Duty, Sems, Has, Unfit, Lies}
-use Rattle.table_steps.specs.inside.Items.{token, awaits, weakly, duty_weight}
-use Rattle.table_steps.specs.inside.Accounts.{duty, weigh, weight}
+use Rattle.table_steps.specs.inside.Items.{token, duty_weight}
+use Rattle.table_steps.specs.inside.Accounts.{duty, weigh}
 use Rattle.table_steps.specs.inside.Parcels.{same_part, parts_count}
-use Rattle.table_steps.specs.inside.Slots.{SlotCoord, parcel, lot, owed, collected, left_at, has_parcel, lot_weight, item_slots, slot_weight, slot_weigh, slot_total, fetched_at, holders, SlotPart, SlotBounds, awaited_lots, found_lots, our_lots}
+use Rattle.table_steps.specs.inside.Slots.{SlotCoord, parcel, lot, owed, collected, left_at, item_slots, slot_weight, slot_weigh, slot_total, SlotPart, SlotBounds, awaited_lots, found_lots, our_lots}
 use Rattle.table_steps.proofs.Calming.{calm_now}
 
 pub slot_append : (c : SlotCoord) (xs ys : List Note) → slot_weigh c (xs ++ ys) ≡ slot_weigh c xs + slot_weigh c ys

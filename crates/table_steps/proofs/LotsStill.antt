@@ -1,8 +1,7 @@
 -- The kinds of step that leave all parcels and lots as they are.
-use Rattle.std.proofs.Common.{◌≡◌, ◌≢◌, ℕ, zero, suc, ◌+◌, ◌<◌, ◌≤◌, Bool, true, false, List, [], ◌∷◌, ◌++◌, refl, sym, ap, ◌∙◌, arith}
+use Rattle.std.proofs.Common.{◌≡◌, ℕ, zero, suc, Bool, true, false, List, [], ◌∷◌, ◌++◌, refl, sym, ap, ◌∙◌, arith}
 use Rattle.std.specs.Prelude.{nat_lt}
 use Rattle.task_graph.specs.NetRows.{NetRows}
-use Rattle.journal_rules.specs.declared.entry.Cause.{Cause}
 use Rattle.journal_rules.specs.SemaphoreRule.{max_of}
 use Rattle.table_steps.specs.Credits.{first_credit}
 use Rattle.table_steps.specs.Holding.{without}
@@ -12,8 +11,8 @@ use Rattle.table_steps.specs.declared.view.Kind.TheVariants.{Held, Undo, Owed, B
 use Rattle.table_steps.specs.declared.view.Mark.TheVariants.{Live, New, Over, ToMark, Halted, Asked}
 use Rattle.table_steps.specs.declared.view.Note.{Note}
 use Rattle.table_steps.specs.declared.view.Note.TheVariants.{Duty, Sems, Has, Unfit, Lies}
-use Rattle.table_steps.specs.inside.Slots.{SlotCoord, parcel, lot, owed, collected, left_at, item_slots, slot_weight, slot_weigh, slots_of, slots_in}
-use Rattle.table_steps.specs.inside.Kinds.{MayAdd, added, MayAdmit, admitted_notes, admitted, CountsNext, counted_notes, counted_one, MayLeave, left_by, joined, MayDeal, dealt, kept_back}
+use Rattle.table_steps.specs.inside.Slots.{SlotCoord, parcel, lot, owed, collected, left_at, slot_weight, slot_weigh, slots_of, slots_in}
+use Rattle.table_steps.specs.inside.Kinds.{MayAdd, added, MayAdmit, admitted_notes, admitted, CountsNext, counted_one, MayLeave, left_by, MayDeal, dealt, kept_back}
 use Rattle.table_steps.specs.inside.UnitKinds.{held_notes, MayTake, after_unit, took_unit, MayUndo, undone, MayPut, put_back, MayReturn, returned}
 use Rattle.table_steps.specs.inside.CreditKinds.{MayCredit, credited, MayClaim, after_claim, claimed, MayUnclaim, unclaimed}
 use Rattle.table_steps.specs.inside.Halts.{MayAsk, halt_read, MayMark, marked}

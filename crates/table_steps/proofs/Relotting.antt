@@ -1,16 +1,15 @@
 -- A lot that a seat has, found in its view.
-use Rattle.std.proofs.Common.{◌≡◌, ◌≢◌, ℕ, zero, suc, ◌+◌, ◌≤◌, Bool, true, false, eqb, List, [], ◌∷◌, ◌++◌, refl, sym, ap, ◌∙◌, subst, arith}
+use Rattle.std.proofs.Common.{◌≡◌, ℕ, zero, suc, ◌≤◌, true, eqb, List, [], ◌∷◌, ◌++◌, refl, sym, ap, ◌∙◌, arith}
 use Rattle.std.specs.Prelude.{◌==◌}
 use Rattle.std.proofs.lemmas.Bool.Decides.{nat_tests}
 use Rattle.journal_rules.specs.declared.entry.Part.{Part}
 use Rattle.table_steps.specs.Giving.{one_if}
-use Rattle.table_steps.specs.declared.view.Item.{Item}
 use Rattle.table_steps.specs.declared.view.Lot.{Lot}
 use Rattle.table_steps.specs.declared.view.Lot.TheVariants.{Ours, Putting, Put, Awaited, Taking, Fetched, Found}
 use Rattle.table_steps.specs.declared.view.Note.{Note}
 use Rattle.table_steps.specs.declared.view.Note.TheVariants.{Duty, Sems, Has, Unfit, Lies}
 use Rattle.table_steps.proofs.Homing.{item_lot}
-use Rattle.table_steps.specs.inside.Slots.{SlotCoord, lot, lot_weight, slot_weight, slot_weigh, item_slots}
+use Rattle.table_steps.specs.inside.Slots.{lot, lot_weight, slot_weight, slot_weigh}
 use Rattle.atomic_table.specs.Table.{rest}
 use Rattle.table_steps.specs.inside.SlotKinds.{part_in, pick, relot, HoldsSlot}
 use Rattle.table_steps.proofs.Counting.{is_one}

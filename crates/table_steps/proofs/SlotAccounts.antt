@@ -1,9 +1,8 @@
 -- The account of slots after each step on a slot, at the table.
-use Rattle.std.proofs.Common.{◌≡◌, ◌≢◌, ◌⊎◌, inl, inr, ℕ, ◌+◌, ◌<◌, ◌≤◌, true, false, eqb, List, [], ◌∷◌, ◌++◌, length, set, refl, sym, ap, ◌∙◌, subst, arith}
-use Rattle.std.specs.Prelude.{◌==◌}
+use Rattle.std.proofs.Common.{◌≡◌, ◌≢◌, ◌⊎◌, inl, inr, ℕ, ◌<◌, true, false, eqb, List, [], ◌∷◌, length, set, refl, sym, ap, ◌∙◌, arith}
 use Rattle.std.proofs.lemmas.Bool.Decides.{nat_tests}
 use Rattle.std.proofs.lemmas.Bool.{cases_eq}
-use mathlib.Core.Option.{Option, none, some}
+use mathlib.Core.Option.{none, some}
 use lib.ListN.{get_elem?}
 use Rattle.task_graph.specs.NetRows.{NetRows}
 use Rattle.journal_rules.specs.declared.entry.Part.{Part}
@@ -16,8 +15,8 @@ use Rattle.table_steps.specs.declared.view.Lot.TheVariants.{Ours, Putting, Put, 
 use Rattle.table_steps.specs.declared.view.Note.{Note}
 use Rattle.table_steps.specs.declared.view.Note.TheVariants.{Lies}
 use Rattle.table_steps.specs.inside.Accounts.{reading, KeepsAccounts}
-use Rattle.table_steps.specs.inside.Parcels.{same_part, DataPart}
-use Rattle.table_steps.specs.inside.Slots.{SlotCoord, lot, slot_weigh, slot_total, SlotMoves, fetched_at, holders, SlotPart}
+use Rattle.table_steps.specs.inside.Parcels.{same_part}
+use Rattle.table_steps.specs.inside.Slots.{SlotCoord, slot_weigh, slot_total, SlotMoves, holders, SlotPart}
 use Rattle.table_steps.specs.inside.SlotMarks.{label_in, label_of}
 use Rattle.table_steps.specs.inside.SlotKinds.{relot}
 use Rattle.table_steps.proofs.Slots.{lay}
@@ -33,8 +32,16 @@ use Rattle.table_steps.proofs.SlotBounds.{slot_bounds}
 lot_moves : (views : List (List Note)) (id f : ℕ) (j k : Lot) (g : Part → Part) (p q : Part) (v : List Note) (r : HasLot j f v) → r.part ≡ p → g r.part ≡ q → get_elem? views id ≡ some v
     → SlotMoves (λ c. slot_total c views) (Lies j f p ∷ []) (λ c. slot_total c (set views id (relot j k g f v))) (Lies k f q ∷ [])
 lot_moves views id f j k g p q v r is becomes at c =
-    omega (arith, slot_total_set c views id v (relot j k g f v) at, ap (slot_weigh c) r.is, ap (slot_weigh c) (r.after k g), slot_append c r.front (Lies j f r.part ∷ r.rest), slot_append c r.front (Lies k f (g r.part) ∷ r.rest),
-    ap (λ z. slot_weigh c (Lies j f z ∷ [])) is, ap (λ z. slot_weigh c (Lies k f z ∷ [])) becomes)
+    omega (
+      arith,
+      slot_total_set c views id v (relot j k g f v) at,
+      ap (slot_weigh c) r.is,
+      ap (slot_weigh c) (r.after k g),
+      slot_append c r.front (Lies j f r.part ∷ r.rest),
+      slot_append c r.front (Lies k f (g r.part) ∷ r.rest),
+      ap (λ z. slot_weigh c (Lies j f z ∷ [])) is,
+      ap (λ z. slot_weigh c (Lies k f z ∷ [])) becomes,
+    )
 
 -- labels that are the same
 relabel : (net : NetRows) (journal : List Entry) (edge : ℕ → ℕ) (T : SlotCoord → ℕ) (label label' : ℕ → Part) → SlotPart net journal edge T label → ((e : ℕ) → label' e ≡ label e) → SlotPart net journal edge T label'

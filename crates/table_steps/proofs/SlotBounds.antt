@@ -1,12 +1,11 @@
 -- What the accounts of edges and of duties say of parcels.
-use Rattle.std.proofs.Common.{◌≡◌, ◌≢◌, ◌⊎◌, inl, inr, ℕ, zero, suc, ◌+◌, ◌<◌, ◌≤◌, Bool, true, false, eqb, List, [], ◌∷◌, ◌++◌, length, refl, sym, ap, ◌∙◌, subst, arith}
-use Rattle.std.specs.Prelude.{◌==◌}
+use Rattle.std.proofs.Common.{◌≡◌, ◌≢◌, ◌⊎◌, inl, inr, ℕ, zero, suc, ◌+◌, ◌≤◌, Bool, true, false, eqb, List, [], ◌∷◌, refl, sym, ap, ◌∙◌, arith}
 use Rattle.std.proofs.lemmas.Bool.Decides.{nat_tests}
 use Rattle.std.proofs.lemmas.Bool.{cases_eq, false≢true}
 use mathlib.Core.Option.{some}
 use lib.ListN.{get_elem?}
 use Rattle.task_graph.specs.NetRows.{NetRows}
-use Rattle.task_graph.specs.Net.{is_weak, strong_in}
+use Rattle.task_graph.specs.Net.{is_weak}
 use Rattle.journal_rules.specs.declared.entry.Cause.TheVariants.{Source, Strong, Weak}
 use Rattle.journal_rules.specs.declared.entry.Entry.{Entry}
 use Rattle.table_steps.specs.Giving.{one_if, times}
@@ -16,8 +15,8 @@ use Rattle.table_steps.specs.declared.view.Note.{Note}
 use Rattle.table_steps.specs.declared.view.Note.TheVariants.{Duty, Sems, Has, Unfit, Lies}
 use Rattle.table_steps.specs.inside.Items.{token, awaits, weakly, duty_weight, any}
 use Rattle.table_steps.specs.inside.Accounts.{duty, weigh, total, Stands, AllStand, reading, KeepsAccounts}
-use Rattle.table_steps.specs.inside.Slots.{SlotCoord, owed, collected, left_at, item_slots, slot_weigh, slot_total, SlotBounds}
-use Rattle.table_steps.proofs.Counting.{times_append, times_strong_in, is_strong_into, is_one}
+use Rattle.table_steps.specs.inside.Slots.{owed, collected, left_at, item_slots, slot_weigh, slot_total, SlotBounds}
+use Rattle.table_steps.proofs.Counting.{times_append, times_strong_in, is_strong_into}
 use Rattle.table_steps.proofs.CountDuties.{into_strong}
 use Rattle.table_steps.proofs.Stepping.{St}
 use Rattle.table_steps.proofs.Lots.{tokens_of, parcels_bound_all}

@@ -1,15 +1,11 @@
 -- A slot taken and given back, at the table.
-use Rattle.std.proofs.Common.{◌≡◌, ◌≢◌, ◌⊎◌, inl, inr, ℕ, zero, suc, ◌+◌, ◌<◌, Bool, true, false, cond, eqb, List, [], ◌∷◌, length, set, sym, refl, ap, ◌∙◌, subst, arith}
-use Rattle.std.specs.Prelude.{slice_index, slice_set}
+use Rattle.std.proofs.Common.{◌≡◌, ◌≢◌, ◌⊎◌, inl, inr, ℕ, ◌<◌, true, false, cond, eqb, List, length, set, sym, refl, ap, ◌∙◌, subst, arith}
 use Rattle.std.proofs.lemmas.Bool.Decides.{nat_tests}
 use Rattle.std.proofs.lemmas.Bool.{cases_eq}
 use mathlib.Core.Option.{Option, none, some}
 use lib.ListN.{get_elem?}
-use Rattle.atomic_table.specs.Table.{State, Me, Act, keeps, takes, gives, Valid, put_back, rest, stepped, Allows}
 use Rattle.atomic_table.proofs.Lists.{set_here, set_else}
 use Rattle.journal_rules.specs.declared.entry.Part.{Part}
-use Rattle.journal_rules.specs.declared.entry.Part.TheVariants.{From, First, Nothing}
-use Rattle.table_steps.specs.Giving.{one_if}
 use Rattle.table_steps.specs.inside.SlotMarks.{HomeIs, Homes, label_in, label_of}
 use Rattle.table_steps.proofs.Slots.{lay}
 

@@ -1,6 +1,6 @@
 -- What the steps on slots ask is met.
-use Rattle.std.proofs.Common.{◌≡◌, ◌≢◌, ◌⊎◌, inl, inr, ℕ, zero, suc, ◌+◌, ◌<◌, ◌≤◌, Bool, true, false, eqb, List, [], ◌∷◌, ◌++◌, length, set, refl, sym, ap, ◌∙◌, subst, arith, length-set, get_or-set_same}
-use Rattle.std.specs.Prelude.{slice_index, ◌==◌}
+use Rattle.std.proofs.Common.{◌≡◌, ◌≢◌, ◌⊎◌, inl, inr, ℕ, zero, suc, ◌+◌, ◌<◌, false, eqb, List, [], ◌∷◌, ◌++◌, length, set, refl, sym, ap, ◌∙◌, subst, arith, length-set, get_or-set_same}
+use Rattle.std.specs.Prelude.{◌==◌}
 use Rattle.std.proofs.lemmas.Bool.Decides.{nat_tests}
 use Rattle.std.proofs.lemmas.Bool.{cases_eq}
 use Rattle.std.proofs.lemmas.List.{append-nil}
@@ -8,7 +8,6 @@ use mathlib.Core.Option.{Option, none, some, some-ne-none}
 use lib.ListN.{get_elem?}
 use Rattle.atomic_table.specs.Table.{Act, keeps, takes, gives, Valid, carried_after, homes_after, rest, stepped, Allows}
 use Rattle.task_graph.specs.NetRows.{NetRows}
-use Rattle.journal_rules.specs.declared.entry.Entry.{Entry}
 use Rattle.journal_rules.specs.declared.entry.Part.{Part}
 use Rattle.journal_rules.specs.declared.entry.Part.TheVariants.{Nothing}
 use Rattle.table_steps.specs.Giving.{one_if}
@@ -19,7 +18,7 @@ use Rattle.table_steps.specs.declared.view.Note.{Note}
 use Rattle.table_steps.specs.declared.view.Note.TheVariants.{Lies}
 use Rattle.table_steps.specs.inside.Accounts.{Coord, duty, sem, mark, busy, resting, turning, owing, telling, weight, weigh, total, AllStand, reading, marks_from, edges_from, mark_at, Readings, Balanced, KeepsAccounts}
 use Rattle.table_steps.specs.inside.Kinds.{IsTurn}
-use Rattle.table_steps.specs.inside.Slots.{SlotCoord, lot, lot_weight, slot_weight, slot_weigh, slot_total, holders}
+use Rattle.table_steps.specs.inside.Slots.{lot, lot_weight, slot_weigh, slot_total, holders}
 use Rattle.table_steps.specs.inside.SlotMarks.{HomeIs, Homes}
 use Rattle.table_steps.specs.inside.SlotKinds.{relot, MayTryPut, put_tried, MayTryTake, take_tried, HoldsIf, TakesPart, TookSlot, HoldsPart, lot_part, MayPutBack, put_laid, MayTakeBack, take_laid}
 use Rattle.table_steps.proofs.Totals.{total_set, weigh_append}

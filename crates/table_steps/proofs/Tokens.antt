@@ -13,7 +13,7 @@ use Rattle.table_steps.proofs.CountDuties.{Counts, count_edges, count_duties}
 use Rattle.table_steps.proofs.ResetDuties.{cleared_at, SetAgain, reset_duties, token_taken, take_duties}
 use Rattle.table_steps.specs.declared.view.Kind.{Kind}
 use Rattle.table_steps.specs.declared.view.Mark.{Mark}
-use Rattle.table_steps.specs.declared.view.Mark.TheVariants.{Live, New, Over, ToMark, Sticking, Asked}
+use Rattle.table_steps.specs.declared.view.Mark.TheVariants.{Live, New, Over, ToMark, Sticking}
 use Rattle.table_steps.specs.inside.Accounts.{Coord, duty, sem, mark, turning, owing, weigh, Readings, Balanced, Moves, with_tokens}
 use Rattle.table_steps.specs.inside.Kinds.{wrap, news}
 use Rattle.table_steps.proofs.Still.{admission_still, halt_still, stuck_still}

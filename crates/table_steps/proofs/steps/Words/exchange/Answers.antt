@@ -1,4 +1,3 @@
-use Rattle.std.proofs.Common.{rules}
 use Rattle.table_steps.proofs.Relotting.{in_slot}
 use Rattle.table_steps.proofs.steps.Words.exchange.Goals as goal
 
