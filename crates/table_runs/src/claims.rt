@@ -7,7 +7,7 @@ use crate::lent::over;
 use crate::rings::{absorbed, take_up};
 use crate::{claim, is_complete, lend, no_edge, puts_first, takes_first};
 use join_tables::{
-    Admitted, Fresh, Gave, Keeper, NetTable, Opening, Owing, Running, StartTicket, Turn, UnitTake,
+    Admitted, Fresh, Gave, Keeper, NetTable, Opening, Owing, Running, StartTicket, UnitTake,
 };
 use journal_rules::Why;
 use std::alloc::Global;
@@ -16,19 +16,15 @@ use std::sync::Arc;
 use std::test::Fail;
 use task_graph::Net;
 
-// A turn of a task that takes a unit gets it, and is admitted.
-pub(crate) fn borrows(
-    rt: &impl Abort,
-    table: &NetTable,
-    net: &Net,
-    turn: Turn,
-) -> Result<StartTicket, Fail>
-    requires turn { (turn.table ≡ table.now.table) × (turn.refused ≡ None) × (turn.held ≡ []) }
+// A release of a task that takes a unit has it, and is admitted.
+fn borrows(rt: &impl Abort, table: &NetTable, net: &Net, fresh: Fresh) -> Result<StartTicket, Fail>
+    requires fresh { fresh.table ≡ table.now.table }
     requires net { table.now.net ≡ net.now }
     requires sems { 0 < length table.now.net.sems }
     ensures ticket { IfOk result (λ t. (t.table ≡ table.now.table) × (t.held ≡ 0 ∷ [])) }
     ensures needs { IfOk result (λ t. HoldsAll table.now.net t.task (0 ∷ []) × TakesAlone table.now.net t.task (0 ∷ []) × PutsAlone table.now.net t.task [] × PutsEach table.now.net t.task []) }
 {
+    let turn = take_up(rt, table, fresh)?;
     let task = turn.task();
     if task as usize >= net.tasks().len() || !takes_first(net, task) {
         panic!(rt; "a task past the end, or one that takes no unit");
@@ -61,7 +57,7 @@ fn puts(rt: &impl Abort, table: &NetTable, net: &Net, fresh: Fresh) -> Result<St
 }
 
 // A start that has credited and claimed all ends, without an edge.
-pub(crate) fn ends(
+fn ends(
     rt: &impl Abort,
     alloc: Global,
     table: &NetTable,
@@ -84,7 +80,7 @@ pub(crate) fn ends(
 }
 
 // An end that owes no unit owes no edge: whether its turn was the last.
-pub(crate) fn finishes(
+fn finishes(
     rt: &impl Abort,
     table: &NetTable,
     keeper: &mut Keeper,
@@ -101,7 +97,7 @@ pub(crate) fn finishes(
 }
 
 // The claim of a task is granted: it ends and gives the unit back. Whether its turn was the last.
-pub(crate) fn granted(
+fn granted(
     rt: &impl Abort,
     alloc: Global,
     table: &NetTable,
@@ -160,10 +156,7 @@ fn a_credit_is_claimed_once(rt: HostRuntime) -> Result<(), Fail> {
     let (Some(c), Some(b), Some(a)) = (fresh.pop(), fresh.pop(), fresh.pop()) else {
         panic!(rt; "no three releases");
     };
-    let running = lend(
-        &table,
-        borrows(&rt, &table, &net, take_up(&rt, &table, a)?)?,
-    );
+    let running = lend(&table, borrows(&rt, &table, &net, a)?);
     assert!(rt; !granted(&rt, alloc, &table, &net, &mut keeper, b)?);
     assert!(rt; !refused(&rt, &table, &net, &mut keeper, c)?);
     let owing = ends(&rt, alloc, &table, &net, running)?;
@@ -189,7 +182,7 @@ fn a_claim_before_the_credit_is_refused(rt: HostRuntime) -> Result<(), Fail> {
     let (Some(c), Some(b), Some(a)) = (fresh.pop(), fresh.pop(), fresh.pop()) else {
         panic!(rt; "no three releases");
     };
-    let a = borrows(&rt, &table, &net, take_up(&rt, &table, a)?)?;
+    let a = borrows(&rt, &table, &net, a)?;
     let b = puts(&rt, &table, &net, b)?;
     assert!(rt; !refused(&rt, &table, &net, &mut keeper, c)?);
     let a = ends(&rt, alloc, &table, &net, lend(&table, a))?;

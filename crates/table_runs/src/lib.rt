@@ -16,8 +16,6 @@ mod needs;
 mod parking;
 mod replay;
 #[cfg(test)]
-mod resting;
-#[cfg(test)]
 mod rings;
 #[cfg(test)]
 mod rings_limit;
