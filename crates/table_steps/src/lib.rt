@@ -29,11 +29,11 @@
 //! drew are those of a journal that is legal as far as the net decides (`ShapeLegal`); for each edge, the tokens
 //! given are those used, those in its word, those owed and those collected; each release that is left is the duty
 //! of just one seat; the numbers admitted are the starts, the tickets and the refusals; a unit word is the units that
-//! are out, held, owed or to be undone; a credit word is 2^40 and the units that were credited and not claimed, less the refused
-//! claims that are to be undone; the live word is the number of turns that are counted. So when the last turn is taken off, the journal is complete (`Complete`), and the keeper has all
-//! of it. A rest that is alone has all live turns: so it knows that nothing runs, that no unit comes back, and, where it
-//! found no halt mark, that no start has faulted. Where a release was dropped for want of a unit, one seat knows it, and
-//! that seat has all live turns.
+//! are out, held, owed or to be undone; a credit word is 2^40 and the units that were credited and not claimed, less
+//! the refused claims that are to be undone; the live word is the number of turns that are counted. So when the last
+//! turn is taken off, the journal is complete (`Complete`), and the keeper has all of it. A rest that is alone has all
+//! live turns: so it knows that nothing runs, that no unit comes back, and, where it found no halt mark, that no start
+//! has faulted. Where a release was dropped for want of a unit, one seat knows it, and that seat has all live turns.
 //!
 //! What a seat knows is a list of notes; each account is an equation between a word, counts of the journal and
 //! totals of weights over all notes. Starts carry no inputs yet. So a journal here is legal but for the rule on what
@@ -45,9 +45,9 @@
 //!
 //! `join_tables`, above this crate, makes turns of the seats: a turn's type says what its seat's notes are, and each
 //! call makes the steps that are due. It may know what `specs/` says, which its own contracts cite too: what an end may
-//! give, which units a task holds, and when a claim is refused. It relies on the notes, the accounts and the kinds of step too, which are in
-//! `specs/inside/`: a function here asks for what its kind of step asks of the seat's notes (`MayTake`, `MayEnd`), and
-//! ensures what the kind leaves of them. `proofs/` shows that each kind keeps each account.
+//! give, which units a task holds, and when a claim is refused. It relies on the notes, the accounts and the kinds of
+//! step too, which are in `specs/inside/`: a function here asks for what its kind of step asks of the seat's notes
+//! (`MayTake`, `MayEnd`), and ensures what the kind leaves of them. `proofs/` shows that each kind keeps each account.
 #![tactic(auto)]
 
 mod credit_steps;
