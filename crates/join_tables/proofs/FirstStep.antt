@@ -14,9 +14,9 @@ use Rattle.journal_rules.specs.Counts.{first_tokens}
 use Rattle.std.specs.Prelude.{All}
 use Rattle.atomic_table.specs.Seated.{TableId}
 use Rattle.join_tables.specs.States.{FreshState}
-use Rattle.join_tables.specs.declared.releases.Release.{Release}
-use Rattle.table_steps.specs.declared.view.Item.{Item}
-use Rattle.table_steps.specs.declared.view.Mark.TheVariants.{Live}
+use Rattle.join_tables.specs.declared.releases.FirstRelease.{FirstRelease}
+use Rattle.table_steps.specs.declared.view.TurnDuty.{TurnDuty}
+use Rattle.table_steps.specs.declared.view.SeatMark.TheVariants.{Live}
 use Rattle.table_steps.specs.declared.view.Note.{Note}
 use Rattle.table_steps.specs.Giving.{one_if}
 use Rattle.table_steps.specs.inside.Accounts.{mark, busy, resting, weigh, total, FitsPlan, ViewPart, KeepsAccounts, reading, edges_from, marks_from, first_notes, opening_notes}
@@ -26,53 +26,53 @@ use Rattle.table_steps.specs.inside.Slots.{lot, slot_weigh}
 use Rattle.table_steps.specs.inside.SlotMarks.{HomeIs}
 use Rattle.table_steps.proofs.Homing.{lies_weigh, first_lies}
 use Rattle.table_steps.specs.Credits.{first_credit}
-use Rattle.table_steps.specs.inside.Opening.{bare, is_empty, source_items, full_items, first_items}
-use Rattle.join_tables.specs.inside.FirstReleases.{states_of, items_of, opening_word, AreOpeningWords, DealsFirst}
+use Rattle.table_steps.specs.inside.Opening.{bare, is_empty, source_duties, full_duties, first_duties}
+use Rattle.join_tables.specs.inside.FirstReleases.{states_of, duties_of, opening_word, AreOpeningWords, DealsFirst}
 use Rattle.table_steps.proofs.Counting.{get_past}
 use Rattle.table_steps.proofs.OpeningDuties.{strong_below}
 use Rattle.table_steps.proofs.Beginning.{opening_balanced, opening_view}
 
 -- THE FIRST RELEASES
-rests_none : (rs : List Release) → weigh resting (first_notes (items_of rs)) ≡ 0
+rests_none : (rs : List FirstRelease) → weigh resting (first_notes (duties_of rs)) ≡ 0
 rests_none [] = refl
 rests_none (r ∷ rs) = omega (arith, rests_none rs)
 
-busy_lives : (rs : List Release) → weigh busy (first_notes (items_of rs)) ≡ weigh (mark Live) (first_notes (items_of rs))
+busy_lives : (rs : List FirstRelease) → weigh busy (first_notes (duties_of rs)) ≡ weigh (mark Live) (first_notes (duties_of rs))
 busy_lives [] = refl
 busy_lives (r ∷ rs) = omega (arith, busy_lives rs)
 
-drop_from : (rs : List Release) (i : ℕ) (d : Release) → i < length rs → drop i rs ≡ get_or rs i d ∷ drop (suc i) rs
+drop_from : (rs : List FirstRelease) (i : ℕ) (d : FirstRelease) → i < length rs → drop i rs ≡ get_or rs i d ∷ drop (suc i) rs
 drop_from [] i d below = absurd (omega arith)
 drop_from (r ∷ rs) zero d below = cc
 drop_from (r ∷ rs) (suc i) d below = drop_from rs i d (omega arith)
 
-pub deals_first : (rs : List Release) (i : ℕ) (d : Release) (v : List Note) → i < length rs → v ≡ first_notes (items_of (drop i rs)) → DealsFirst (get_or rs i d).task (get_or rs i d).cause v
+pub deals_first : (rs : List FirstRelease) (i : ℕ) (d : FirstRelease) (v : List Note) → i < length rs → v ≡ first_notes (duties_of (drop i rs)) → DealsFirst (get_or rs i d).task (get_or rs i d).cause v
 deals_first rs i d v below is = let tail = drop (suc i) rs in
-    subst (λ w. DealsFirst (get_or rs i d).task (get_or rs i d).cause w) (sym (is ∙ ap (λ qs. first_notes (items_of qs)) (drop_from rs i d below)))
+    subst (λ w. DealsFirst (get_or rs i d).task (get_or rs i d).cause w) (sym (is ∙ ap (λ qs. first_notes (duties_of qs)) (drop_from rs i d below)))
     (refl, refl, rests_none tail, λ none. omega (arith, busy_lives tail, none))
 
 -- THE FIRST WORDS
-live_first : (xs : List Item) → weigh (mark Live) (first_notes xs) ≡ length xs
+live_first : (xs : List TurnDuty) → weigh (mark Live) (first_notes xs) ≡ length xs
 live_first [] = refl
 live_first (x ∷ xs) = omega (arith, live_first xs)
 
-source_few : (t : ℕ) (b : Bool) → length (source_items t b) ≤ 1
+source_few : (t : ℕ) (b : Bool) → length (source_duties t b) ≤ 1
 source_few t true = omega arith
 source_few t false = omega arith
 
-full_few : (t : ℕ) (es : List ℕ) (n : ℕ) → length (full_items t es n) ≤ 1
+full_few : (t : ℕ) (es : List ℕ) (n : ℕ) → length (full_duties t es n) ≤ 1
 full_few t [] n = omega arith
 full_few t (e ∷ es) zero = omega arith
 full_few t (e ∷ es) (suc n) = omega arith
 
-items_length : (xs ys : List Item) → length (xs ++ ys) ≡ length xs + length ys
-items_length [] ys = omega arith
-items_length (x ∷ xs) ys = omega (arith, items_length xs ys)
+duties_length : (xs ys : List TurnDuty) → length (xs ++ ys) ≡ length xs + length ys
+duties_length [] ys = omega arith
+duties_length (x ∷ xs) ys = omega (arith, duties_length xs ys)
 
-first_few : (net : NetRows) (t n : ℕ) → length (first_items net t n) ≤ 2 * n
+first_few : (net : NetRows) (t n : ℕ) → length (first_duties net t n) ≤ 2 * n
 first_few net t zero = omega arith
-first_few net t (suc n) = let a = source_items t (is_empty (in_edges net t)) in let b = full_items t (strong_in net t) (bare net (strong_in net t)) in
-    omega (arith, first_few net (suc t) n, source_few t (is_empty (in_edges net t)), full_few t (strong_in net t) (bare net (strong_in net t)), items_length (a ++ b) (first_items net (suc t) n), items_length a b)
+first_few net t (suc n) = let a = source_duties t (is_empty (in_edges net t)) in let b = full_duties t (strong_in net t) (bare net (strong_in net t)) in
+    omega (arith, first_few net (suc t) n, source_few t (is_empty (in_edges net t)), full_few t (strong_in net t) (bare net (strong_in net t)), duties_length (a ++ b) (first_duties net (suc t) n), duties_length a b)
 
 index_past : (words : List ℕ) (k : ℕ) → length words ≤ k → slice_index words k ≡ 0
 index_past [] k past = refl
@@ -131,7 +131,7 @@ home_is [] e m n below a b = absurd (omega arith)
 home_is (x ∷ xs) zero m n below a b = (a, b)
 home_is (x ∷ xs) (suc e) m n below a b = home_is xs e m n (omega arith) a b
 
-no_lots : (k : Lot) (e : ℕ) (xs : List Item) → slot_weigh (lot k e) (first_notes xs) ≡ 0
+no_lots : (k : Lot) (e : ℕ) (xs : List TurnDuty) → slot_weigh (lot k e) (first_notes xs) ≡ 0
 no_lots k e xs = lies_weigh k e (first_notes xs) ∙ ap (slot_weigh (lot k e)) (first_lies xs)
 
 first_past : (net : NetRows) (e : ℕ) → length net.edges ≤ e → first_tokens net e ≡ 0
@@ -144,7 +144,7 @@ bare_past net t rows past = by_list (strong_in net t) refl
     by_list [] is = refl
     by_list (e ∷ es) is = let below : t < length net.tasks = strong_below net rows t (λ none. let z : e ∷ es ≡ [] = sym is ∙ none in absurd (cc)) in absurd (omega (arith, below))
 
-pub begins_table : {X : Type 0} (net : NetRows) (limit live : ℕ) (words : List ℕ) (slots : List X) → length slots ≡ length net.edges → limit ≤ 2097153 → live ≡ length (first_items net 0 (length net.tasks)) → AreOpeningWords net live words
+pub begins_table : {X : Type 0} (net : NetRows) (limit live : ℕ) (words : List ℕ) (slots : List X) → length slots ≡ length net.edges → limit ≤ 2097153 → live ≡ length (first_duties net 0 (length net.tasks)) → AreOpeningWords net live words
     → KeepsAccounts net limit (opening words slots (opening_notes net limit))
 begins_table net limit live words slots full limited live_is ws = record {
   fits = fits;
@@ -154,11 +154,11 @@ begins_table net limit live words slots full limited live_is ws = record {
   balanced = opening_balanced net limit (reading net words) fits
       (ws.each 8 (omega (arith, ws.size))) (ws.each 16 (omega (arith, ws.size)) ∙ live_is) (ws.each 24 (omega (arith, ws.size))) (ws.each 32 (omega (arith, ws.size)))
       units credits edges joins;
-  few = omega (arith, live_first (first_items net 0 (length net.tasks)), first_few net 0 (length net.tasks), ws.rows.task_count);
+  few = omega (arith, live_first (first_duties net 0 (length net.tasks)), first_few net 0 (length net.tasks), ws.rows.task_count);
   few_drops = omega arith;
   views = each;
   homes = λ e below. home_is slots e _ _ (omega (arith, full, below)) (ws.each (marks_from net + e) (omega (arith, ws.size, below)) ∙ mark_word net live e below)
-      (omega (arith, no_lots Putting e (first_items net 0 (length net.tasks)), no_lots Taking e (first_items net 0 (length net.tasks))));
+      (omega (arith, no_lots Putting e (first_duties net 0 (length net.tasks)), no_lots Taking e (first_duties net 0 (length net.tasks))));
 }
   where
     fits : FitsPlan net limit
@@ -188,17 +188,17 @@ begins_table net limit live words slots full limited live_is ws = record {
     each zero v at = subst (λ w. ViewPart net [] (λ c. total c (opening_notes net limit ∷ [])) 0 w) (some-injective (opening_notes net limit) v at) (opening_view net (λ c. total c (opening_notes net limit ∷ [])))
     each (suc id) v at = absurd (some-ne-none v (sym at))
 
-items_count : (rs : List Release) → length (items_of rs) ≡ length rs
-items_count [] = refl
-items_count (r ∷ rs) = omega (arith, items_count rs)
+duties_count : (rs : List FirstRelease) → length (duties_of rs) ≡ length rs
+duties_count [] = refl
+duties_count (r ∷ rs) = omega (arith, duties_count rs)
 
-pub live_is : (net : NetRows) (rs : List Release) (live : ℕ) → live ≡ length rs → items_of rs ≡ first_items net 0 (length net.tasks) → live ≡ length (first_items net 0 (length net.tasks))
-live_is net rs live is first = is ∙ sym (items_count rs) ∙ ap length first
+pub live_is : (net : NetRows) (rs : List FirstRelease) (live : ℕ) → live ≡ length rs → duties_of rs ≡ first_duties net 0 (length net.tasks) → live ≡ length (first_duties net 0 (length net.tasks))
+live_is net rs live is first = is ∙ sym (duties_count rs) ∙ ap length first
 
-states_all : (n : TableId) (rs : List Release) → All (λ (f : FreshState). f.table ≡ n) (states_of n rs)
+states_all : (n : TableId) (rs : List FirstRelease) → All (λ (f : FreshState). f.table ≡ n) (states_of n rs)
 states_all n [] k d below = absurd (omega arith)
 states_all n (r ∷ rs) zero d below = refl
 states_all n (r ∷ rs) (suc k) d below = states_all n rs k d (omega arith)
 
-pub all_of_table : (n : TableId) (rs : List Release) (fs : List FreshState) → fs ≡ states_of n rs → All (λ (f : FreshState). f.table ≡ n) fs
+pub all_of_table : (n : TableId) (rs : List FirstRelease) (fs : List FreshState) → fs ≡ states_of n rs → All (λ (f : FreshState). f.table ≡ n) fs
 all_of_table n rs fs is = subst (λ xs. All (λ (f : FreshState). f.table ≡ n) xs) (sym is) (states_all n rs)

@@ -5,13 +5,13 @@ use Rattle.std.specs.List.{AllByRecursion}
 use Rattle.task_graph.specs.NetRows.{NetRows}
 use Rattle.journal_rules.specs.declared.entry.Entry.{Entry}
 use Rattle.std.proofs.lemmas.List.{append_assoc}
-use Rattle.join_tables.specs.declared.outcomes.Outcome.{Outcome}
+use Rattle.join_tables.specs.declared.fates.Fate.{Fate}
 use Rattle.join_tables.specs.declared.keeper.Recorded.{Recorded}
-use Rattle.table_steps.specs.declared.view.Item.TheVariants.{Told, Fresh, Collecting, Ticket, Open, Owes, Counting}
-use Rattle.table_steps.specs.declared.view.Mark.TheVariants.{Live}
+use Rattle.table_steps.specs.declared.view.TurnDuty.TheVariants.{Told, Fresh, Collecting, Ticket, Open, Owes, Counting}
+use Rattle.table_steps.specs.declared.view.SeatMark.TheVariants.{Live}
 use Rattle.table_steps.specs.declared.view.Note.{Note}
 use Rattle.table_steps.specs.declared.view.Note.TheVariants.{Duty, Sems, Has, Unfit, Lies}
-use Rattle.table_steps.specs.inside.Items.{place}
+use Rattle.table_steps.specs.inside.Duties.{place}
 use Rattle.table_steps.specs.inside.Accounts.{duty, busy, weigh, AllStand}
 use Rattle.table_steps.specs.inside.Kinds.{MayLeave, left_by, joined, IsWhole}
 use Rattle.join_tables.specs.inside.Seated.{IsSpent}
@@ -46,18 +46,18 @@ tellings_append (Has m ∷ v) w = tellings_append v w
 tellings_append (Unfit s n t ∷ v) w = tellings_append v w
 tellings_append (Lies k e p ∷ v) w = tellings_append v w
 
-pub may_leave : (outcome : Outcome) (v w : List Note) → IsSpent outcome w → weigh busy v ≡ 0 → MayLeave (joined v w)
-may_leave outcome v (Duty (Owes []) ∷ Has Live ∷ rest) spent idle = λ _. omega (arith, idle, spent.1, weigh_append busy rest v)
-may_leave outcome v w spent idle = absurd spent
+pub may_leave : (fate : Fate) (v w : List Note) → IsSpent fate w → weigh busy v ≡ 0 → MayLeave (joined v w)
+may_leave fate v (Duty (Owes []) ∷ Has Live ∷ rest) spent idle = λ _. omega (arith, idle, spent.1, weigh_append busy rest v)
+may_leave fate v w spent idle = absurd spent
 
-pub told_more : (outcome : Outcome) (rs : List Recorded) (v w : List Note) → IsSpent outcome w → tellings v ≡ told_notes rs → tellings (left_by (joined v w)) ≡ told_notes (rs ++ entries_of outcome)
-told_more outcome rs v (Duty (Owes []) ∷ Has Live ∷ rest) spent is =
-    tellings_append rest v ∙ ap (λ u. u ++ tellings v) spent.0 ∙ ap (λ u. told_notes (entries_of outcome) ++ u) is ∙ sym (told_append (told_notes rs) (entries_of outcome)) ∙ sym (told_all [] rs (entries_of outcome))
-told_more outcome rs v w spent is = absurd spent
+pub told_more : (fate : Fate) (rs : List Recorded) (v w : List Note) → IsSpent fate w → tellings v ≡ told_notes rs → tellings (left_by (joined v w)) ≡ told_notes (rs ++ entries_of fate)
+told_more fate rs v (Duty (Owes []) ∷ Has Live ∷ rest) spent is =
+    tellings_append rest v ∙ ap (λ u. u ++ tellings v) spent.0 ∙ ap (λ u. told_notes (entries_of fate) ++ u) is ∙ sym (told_append (told_notes rs) (entries_of fate)) ∙ sym (told_all [] rs (entries_of fate))
+told_more fate rs v w spent is = absurd spent
 
-pub idle_still : (outcome : Outcome) (v w : List Note) → IsSpent outcome w → weigh busy v ≡ 0 → weigh busy (left_by (joined v w)) ≡ 0
-idle_still outcome v (Duty (Owes []) ∷ Has Live ∷ rest) spent idle = omega (arith, idle, spent.1, weigh_append busy rest v)
-idle_still outcome v w spent idle = absurd spent
+pub idle_still : (fate : Fate) (v w : List Note) → IsSpent fate w → weigh busy v ≡ 0 → weigh busy (left_by (joined v w)) ≡ 0
+idle_still fate v (Duty (Owes []) ∷ Has Live ∷ rest) spent idle = omega (arith, idle, spent.1, weigh_append busy rest v)
+idle_still fate v w spent idle = absurd spent
 
 -- what else a seat knows tells no entry
 place_told : (m : ℕ) (v : List Note) → weigh (duty (place m)) v ≡ weigh (duty (place m)) (tellings v)

@@ -10,13 +10,13 @@ use Rattle.journal_rules.specs.declared.entry.Entry.TheVariants.{Drop}
 use Rattle.journal_rules.specs.SemaphoreRule.{takes}
 use Rattle.journal_rules.proofs.Snoc.{slice_get_push_last}
 use Rattle.table_steps.specs.Giving.{times}
-use Rattle.table_steps.specs.declared.view.Item.TheVariants.{Told, Collecting}
-use Rattle.table_steps.specs.declared.view.Kind.TheVariants.{Full}
-use Rattle.table_steps.specs.declared.view.Mark.TheVariants.{Live, Halted, Alone, Quiet, Sticking}
+use Rattle.table_steps.specs.declared.view.TurnDuty.TheVariants.{Told, Collecting}
+use Rattle.table_steps.specs.declared.view.SemaphoreRole.TheVariants.{Full}
+use Rattle.table_steps.specs.declared.view.SeatMark.TheVariants.{Live, Halted, Alone, Quiet, Sticking}
 use Rattle.table_steps.specs.declared.view.Note.{Note}
 use Rattle.table_steps.specs.declared.view.Note.TheVariants.{Duty, Sems, Has}
-use Rattle.join_tables.specs.declared.outcomes.Dropping.{Dropping}
-use Rattle.join_tables.specs.declared.outcomes.Outcome.{Outcome}
+use Rattle.join_tables.specs.declared.fates.Dropping.{Dropping}
+use Rattle.join_tables.specs.declared.fates.Fate.{Fate}
 use Rattle.join_tables.specs.declared.rests.Parked.{Parked}
 use Rattle.join_tables.specs.Keeping.{entries_of, drop_of}
 use Rattle.join_tables.specs.RestStates.{RestState}
@@ -79,13 +79,13 @@ pub record DropsOne (net : NetRows) (why : DropWhy) (p : Parked) (left : List Pa
   pub rest : (n : ℕ) → IsRestView left (drops ++ dropping_as why n p ∷ []) (left_by (last_dropped why n v))
   pub alone : (n : ℕ) → alone_in (left_by (last_dropped why n v)) ≡ alone_in v
   pub full : (n : ℕ) → full_in (left_by (last_dropped why n v)) ≡ full_in v
-  pub spent : (n : ℕ) (outcome : Outcome) → left ≡ [] → entries_of outcome ≡ map drop_of (reverse (drops ++ dropping_as why n p ∷ [])) → IsSpent outcome (last_dropped why n v)
+  pub spent : (n : ℕ) (fate : Fate) → left ≡ [] → entries_of fate ≡ map drop_of (reverse (drops ++ dropping_as why n p ∷ [])) → IsSpent fate (last_dropped why n v)
 
 left_lives : (left : List Parked) (ds : List Dropping) (rest : List Note) → HoldsTurns (reverse left) ds rest → left ≢ [] → 1 ≤ weigh (mark Live) rest
 left_lives left ds rest h some_there = omega (arith, holds_live (reverse left) ds rest h, length-reverse left, some_length left some_there)
 
-told_all_of : (left : List Parked) (ds : List Dropping) (rest : List Note) (outcome : Outcome) → HoldsTurns (reverse left) ds rest → left ≡ [] → entries_of outcome ≡ map drop_of (reverse ds) → (tellings rest ≡ told_notes (entries_of outcome)) × (weigh busy rest ≡ 0)
-told_all_of left ds rest outcome h none is = let g = subst (λ ps. HoldsTurns (reverse ps) ds rest) none h in
+told_all_of : (left : List Parked) (ds : List Dropping) (rest : List Note) (fate : Fate) → HoldsTurns (reverse left) ds rest → left ≡ [] → entries_of fate ≡ map drop_of (reverse ds) → (tellings rest ≡ told_notes (entries_of fate)) × (weigh busy rest ≡ 0)
+told_all_of left ds rest fate h none is = let g = subst (λ ps. HoldsTurns (reverse ps) ds rest) none h in
     (ap tellings g ∙ drops_told ds ∙ ap told_notes (sym is), holds_busy [] ds rest g)
 
 -- for want of a unit
@@ -96,7 +96,7 @@ stuck_one net s p left drops l (Duty (Collecting t cause taken []) ∷ Has Live 
   rest = λ n. record { known = refl; holds = more n; fits = tt };
   alone = λ n. refl;
   full = λ n. refl;
-  spent = λ n outcome none is. let r = told_all_of left (drops ++ dropping_as (Stuck s) n p ∷ []) (rest ++ tail n) outcome (more n) none is in (r.0, omega (arith, r.1));
+  spent = λ n fate none is. let r = told_all_of left (drops ++ dropping_as (Stuck s) n p ∷ []) (rest ++ tail n) fate (more n) none is in (r.0, omega (arith, r.1));
 }
   where
     tail : ℕ → List Note
@@ -114,7 +114,7 @@ halted_one net p left drops l (Duty (Collecting t cause taken []) ∷ Has Live �
   rest = λ n. record { known = refl; holds = more n; fits = all_more drops (dropping_as AfterFault n p) all refl };
   alone = λ n. refl;
   full = λ n. refl;
-  spent = λ n outcome none is. let r = told_all_of left (drops ++ dropping_as AfterFault n p ∷ []) (rest ++ tail n) outcome (more n) none is in (r.0, omega (arith, r.1));
+  spent = λ n fate none is. let r = told_all_of left (drops ++ dropping_as AfterFault n p ∷ []) (rest ++ tail n) fate (more n) none is in (r.0, omega (arith, r.1));
 }
   where
     tail : ℕ → List Note

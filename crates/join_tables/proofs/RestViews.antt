@@ -13,16 +13,16 @@ use Rattle.journal_rules.specs.declared.entry.DropWhy.TheVariants.{Stuck, Limit,
 use Rattle.journal_rules.specs.declared.entry.Entry.{Entry}
 use Rattle.journal_rules.specs.declared.entry.Entry.TheVariants.{Drop}
 use Rattle.journal_rules.specs.SemaphoreRule.{max_of}
-use Rattle.table_steps.specs.declared.view.Item.TheVariants.{Told, Collecting}
-use Rattle.table_steps.specs.declared.view.Kind.TheVariants.{Held, Undo, Owed, Full}
-use Rattle.table_steps.specs.declared.view.Mark.TheVariants.{Live, ToMark, Halted, Alone, Quiet, Sticking}
+use Rattle.table_steps.specs.declared.view.TurnDuty.TheVariants.{Told, Collecting}
+use Rattle.table_steps.specs.declared.view.SemaphoreRole.TheVariants.{Held, Undo, Owed, Full}
+use Rattle.table_steps.specs.declared.view.SeatMark.TheVariants.{Live, ToMark, Halted, Alone, Quiet, Sticking}
 use Rattle.table_steps.specs.declared.view.Note.{Note}
 use Rattle.table_steps.specs.declared.view.Note.TheVariants.{Duty, Sems, Has}
-use Rattle.join_tables.specs.declared.outcomes.Dropping.{Dropping}
+use Rattle.join_tables.specs.declared.fates.Dropping.{Dropping}
 use Rattle.join_tables.specs.declared.rests.Parked.{Parked}
 use Rattle.join_tables.specs.RestStates.{parked_as}
 use Rattle.join_tables.specs.Rests.{IsOfTable}
-use Rattle.table_steps.specs.inside.Items.{running}
+use Rattle.table_steps.specs.inside.Duties.{running}
 use Rattle.table_steps.specs.inside.Accounts.{Coord, duty, sem, mark, busy, resting, telling, weight, weigh}
 use Rattle.table_steps.specs.inside.Kinds.{IsTurn, dealt, kept_back}
 use Rattle.join_tables.specs.inside.Seated.{turn_view, taken_in}

@@ -9,8 +9,8 @@ use Rattle.journal_rules.specs.declared.entry.DropWhy.TheVariants.{Limit, Stuck,
 use Rattle.journal_rules.specs.SemaphoreRule.{max_of}
 use Rattle.table_steps.specs.Giving.{times}
 use Rattle.table_steps.specs.Holding.{without}
-use Rattle.table_steps.specs.declared.view.Item.TheVariants.{Collecting}
-use Rattle.table_steps.specs.declared.view.Mark.TheVariants.{Live, Over, Halted}
+use Rattle.table_steps.specs.declared.view.TurnDuty.TheVariants.{Collecting}
+use Rattle.table_steps.specs.declared.view.SeatMark.TheVariants.{Live, Over, Halted}
 use Rattle.table_steps.specs.declared.view.Note.{Note}
 use Rattle.table_steps.specs.declared.view.Note.TheVariants.{Duty, Has}
 use Rattle.join_tables.specs.inside.Seated.{turn_view, taken_in, refusal_of, held_of}

@@ -7,14 +7,14 @@ use Rattle.task_graph.specs.NetRows.{NetRows}
 use Rattle.task_graph.specs.Net.{is_weak, is_weak_row, strong_in}
 use Rattle.task_graph.specs.declared.net.EdgeRow.{EdgeRow}
 use Rattle.std.specs.Prelude.{drop}
-use Rattle.table_steps.specs.declared.view.Item.TheVariants.{Owes}
+use Rattle.table_steps.specs.declared.view.TurnDuty.TheVariants.{Owes}
 use Rattle.table_steps.specs.declared.view.Note.{Note}
 use Rattle.table_steps.specs.declared.view.Note.TheVariants.{Duty}
 use Rattle.table_steps.proofs.Counting.{times_strong_in, is_strong_into}
 use Rattle.join_tables.specs.States.{FreshState, OwingState, SpentState, fresh_state, owing_state, spent_state}
 use Rattle.join_tables.specs.Turns.{GivesNext, cause_by}
 use Rattle.join_tables.specs.declared.turns.Gave.TheVariants.{Next, Released, Finished}
-use Rattle.join_tables.specs.declared.outcomes.Outcome.TheVariants.{Ended}
+use Rattle.join_tables.specs.declared.fates.Fate.TheVariants.{Ended}
 use Rattle.table_steps.specs.inside.Accounts.{AllFitNotes}
 use Rattle.table_steps.specs.inside.Kinds.{OwesNext, gave, given_notes, CountsNext}
 use Rattle.join_tables.specs.inside.Seated.{OwesFirst}
@@ -69,11 +69,11 @@ drop_none (x ∷ xs) zero h = absurd (cc)
 drop_none (x ∷ xs) (suc n) h = drop_none xs n h
 
 -- what giving led to, by what was left
-pub gives_none : (net : NetRows) (o : OwingState) (left : List ℕ) (spent : SpentState) → left ≡ [] → spent ≡ spent_state o.table (Ended o.run) → GivesNext net o left (Finished spent)
+pub gives_none : (net : NetRows) (o : OwingState) (left : List ℕ) (spent : SpentState) → left ≡ [] → spent ≡ spent_state o.table (Ended o.ended) → GivesNext net o left (Finished spent)
 gives_none net o left spent none is = subst (λ es. GivesNext net o es (Finished spent)) (sym none) is
 
-pub gives_on : (net : NetRows) (o : OwingState) (e : ℕ) (left rest : List ℕ) (p : OwingState) → left ≡ e ∷ rest → is_weak net e ≡ false → p ≡ owing_state o.table o.run rest [] p.found → p.found ≢ Some 1 → GivesNext net o left (Next p)
+pub gives_on : (net : NetRows) (o : OwingState) (e : ℕ) (left rest : List ℕ) (p : OwingState) → left ≡ e ∷ rest → is_weak net e ≡ false → p ≡ owing_state o.table o.ended rest [] p.found → p.found ≢ Some 1 → GivesNext net o left (Next p)
 gives_on net o e left rest p some strong is other = subst (λ es. GivesNext net o es (Next p)) (sym some) (strong, is, other)
 
-pub gives_more : (net : NetRows) (o : OwingState) (e : ℕ) (left rest : List ℕ) (p : OwingState) (fresh : FreshState) → left ≡ e ∷ rest → p ≡ owing_state o.table o.run rest [] p.found → fresh ≡ fresh_state o.table (target net e) (cause_by net e) → (is_weak net e ≡ false → p.found ≡ Some 1) → GivesNext net o left (Released p fresh)
+pub gives_more : (net : NetRows) (o : OwingState) (e : ℕ) (left rest : List ℕ) (p : OwingState) (fresh : FreshState) → left ≡ e ∷ rest → p ≡ owing_state o.table o.ended rest [] p.found → fresh ≡ fresh_state o.table (target net e) (cause_by net e) → (is_weak net e ≡ false → p.found ≡ Some 1) → GivesNext net o left (Released p fresh)
 gives_more net o e left rest p fresh some is made one = subst (λ es. GivesNext net o es (Released p fresh)) (sym some) (is, made, one)

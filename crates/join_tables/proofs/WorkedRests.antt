@@ -7,8 +7,8 @@ use Rattle.atomic_table.specs.Seated.{TableId}
 use Rattle.journal_rules.specs.declared.entry.Cause.TheVariants.{Source}
 use Rattle.journal_rules.specs.declared.entry.DropWhy.TheVariants.{Stuck, Limit, Halted as AfterFault}
 use Rattle.journal_rules.specs.declared.entry.Entry.TheVariants.{Drop}
-use Rattle.join_tables.specs.declared.outcomes.Dropping.{Dropping}
-use Rattle.join_tables.specs.declared.outcomes.Outcome.TheVariants.{Dropped}
+use Rattle.join_tables.specs.declared.fates.Dropping.{Dropping}
+use Rattle.join_tables.specs.declared.fates.Fate.TheVariants.{Dropped}
 use Rattle.join_tables.specs.declared.rests.Parked.{Parked}
 use Rattle.join_tables.specs.declared.rests.Checked.TheVariants.{Busy, Alone}
 use Rattle.join_tables.specs.declared.rests.UnitLook.TheVariants.{NoUnit, HasUnit}

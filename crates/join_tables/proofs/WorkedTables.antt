@@ -13,8 +13,8 @@ use Rattle.journal_rules.specs.declared.entry.DropWhy.TheVariants.{Halted as Aft
 use Rattle.join_tables.specs.declared.turns.Collected.TheVariants.{More, Last, LastAgain}
 use Rattle.join_tables.specs.declared.turns.Gave.TheVariants.{Next, Released, Finished}
 use Rattle.join_tables.specs.declared.turns.Admitted.TheVariants.{Go, Over, Halted}
-use Rattle.join_tables.specs.declared.turns.Run.{Run}
-use Rattle.join_tables.specs.declared.outcomes.Outcome.TheVariants.{Ended}
+use Rattle.join_tables.specs.declared.turns.EndedStart.{EndedStart}
+use Rattle.join_tables.specs.declared.fates.Fate.TheVariants.{Ended}
 use Rattle.join_tables.specs.declared.keeper.Remaining.TheVariants.{More as TurnsLeft, All as NoneLeft}
 use Rattle.table_steps.specs.Giving.{times, target, MayGive}
 use Rattle.join_tables.specs.States.{FreshState, CollectingState, TurnState, AdmittedState, RunningState, OwingState, SpentState, fresh_state}
@@ -114,8 +114,8 @@ halted_by_its_mark : (t u : TurnState) → Admits 5 t (Halted u) → (u.refused 
 halted_by_its_mark t u h = (ap (λ (s : TurnState). s.refused) h.0, h.1)
 
 -- ENDS
-end_of_its_start : (r : RunningState) (run : Run) → EndsAs r (3 ∷ []) false run → (run.start ≡ r.place) × (run.gives ≡ 3 ∷ [])
-end_of_its_start r run h = (h.2, h.3)
+end_of_its_start : (r : RunningState) (ended : EndedStart) → EndsAs r (3 ∷ []) false ended → (ended.start ≡ r.place) × (ended.gives ≡ 3 ∷ [])
+end_of_its_start r ended h = (h.2, h.3)
 
 -- GIVING
 next_where_another_was_found : (o p : OwingState) → GivesNext net o (0 ∷ 2 ∷ []) (Next p) → p.found ≢ Some 1
@@ -146,17 +146,17 @@ not_all_before_the_last h = omega (arith, h)
 no_more_after_the_last_turn : LeavesOf 1 TurnsLeft → ⊥
 no_more_after_the_last_turn h = h refl
 
-abbrev run : Run
-run = record { task = 0; cause = Source; start = 0; place = 1; gives = 0 ∷ []; inner = false }
+abbrev ended : EndedStart
+ended = record { task = 0; cause = Source; start = 0; place = 1; gives = 0 ∷ []; inner = false }
 
-abbrev other_run : Run
-other_run = record { task = 0; cause = Source; start = 0; place = 0; gives = 0 ∷ []; inner = false }
+abbrev other_ended : EndedStart
+other_ended = record { task = 0; cause = Source; start = 0; place = 0; gives = 0 ∷ []; inner = false }
 
-start_and_end : entries_of (Ended run) ≡ record { place = 0; entry = Start 0 Source [] } ∷ record { place = 1; entry = End 0 (0 ∷ []) false } ∷ []
+start_and_end : entries_of (Ended ended) ≡ record { place = 0; entry = Start 0 Source [] } ∷ record { place = 1; entry = End 0 (0 ∷ []) false } ∷ []
 start_and_end = refl
 
-no_place_twice : Merges (entries_of (Ended other_run)) (Start 0 Source [] ∷ []) → ⊥
+no_place_twice : Merges (entries_of (Ended other_ended)) (Start 0 Source [] ∷ []) → ⊥
 no_place_twice m = omega (arith, m.each 0 (omega arith))
 
-no_place_unnamed : Merges (entries_of (Ended run)) (Start 0 Source [] ∷ End 0 (0 ∷ []) false ∷ Start 2 Strong [] ∷ []) → ⊥
+no_place_unnamed : Merges (entries_of (Ended ended)) (Start 0 Source [] ∷ End 0 (0 ∷ []) false ∷ Start 2 Strong [] ∷ []) → ⊥
 no_place_unnamed m = omega (arith, m.each 2 (omega arith))

@@ -9,9 +9,9 @@ use Rattle.journal_rules.specs.declared.entry.Cause.{Cause}
 use Rattle.journal_rules.specs.declared.entry.Entry.TheVariants.{Start, End, Fault, Drop}
 use Rattle.journal_rules.specs.ShapeLegal.{ShapeLegal}
 use Rattle.journal_rules.specs.Complete.{Complete}
-use Rattle.join_tables.specs.declared.outcomes.Dropping.{Dropping}
-use Rattle.join_tables.specs.declared.outcomes.Outcome.{Outcome}
-use Rattle.join_tables.specs.declared.outcomes.Outcome.TheVariants.{Ended, Faulted, Dropped, AllDropped}
+use Rattle.join_tables.specs.declared.fates.Dropping.{Dropping}
+use Rattle.join_tables.specs.declared.fates.Fate.{Fate}
+use Rattle.join_tables.specs.declared.fates.Fate.TheVariants.{Ended, Faulted, Dropped, AllDropped}
 use Rattle.join_tables.specs.declared.keeper.Recorded.{Recorded}
 use Rattle.join_tables.specs.declared.keeper.Remaining.{Remaining}
 use Rattle.join_tables.specs.declared.keeper.Remaining.TheVariants.{More, All as AllTaken}
@@ -35,8 +35,8 @@ abbrev pub drop_of : Dropping → Recorded
 drop_of d = record { place = d.place; entry = Drop d.task d.cause d.why }
 
 -- the entries of a turn that is done; those of a rest begin with the newest
-abbrev pub entries_of : Outcome → List Recorded
-entries_of (Ended run) = start_of run.start run.task run.cause ∷ record { place = run.place; entry = End run.start run.gives run.inner } ∷ []
+abbrev pub entries_of : Fate → List Recorded
+entries_of (Ended ended) = start_of ended.start ended.task ended.cause ∷ record { place = ended.place; entry = End ended.start ended.gives ended.inner } ∷ []
 entries_of (Faulted f) = start_of f.start f.task f.cause ∷ record { place = f.place; entry = Fault f.start f.why } ∷ []
 entries_of (Dropped d) = drop_of d ∷ []
 entries_of (AllDropped drops) = map drop_of (reverse drops.items)

@@ -3,7 +3,7 @@ pub mod FirstCauses
 pub mod Units
 pub mod Claims
 pub mod Turns
-pub mod Outcomes
+pub mod Fates
 pub mod Keeping
 pub mod Openings
 pub mod RestStates

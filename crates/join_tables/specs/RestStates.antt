@@ -3,7 +3,7 @@ use Rattle.std.specs.Prelude.{ℕ, Bool, List, Option}
 use Rattle.atomic_table.specs.Seated.{TableId}
 use Rattle.journal_rules.specs.declared.entry.Cause.{Cause}
 use Rattle.join_tables.specs.declared.rests.Parked.{Parked}
-use Rattle.join_tables.specs.declared.outcomes.Dropping.{Dropping}
+use Rattle.join_tables.specs.declared.fates.Dropping.{Dropping}
 
 -- A rest: its table where it has a turn, how many turns it has room for, its turns in the order in which it took them in, and
 -- the Drops that it drew. Where it is known to be alone: whether a Fault stands, and which semaphores have no unit. Then what

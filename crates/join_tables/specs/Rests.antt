@@ -8,9 +8,9 @@ use Rattle.journal_rules.specs.SemaphoreRule.{takes, max_of}
 use Rattle.table_steps.specs.Giving.{times}
 use Rattle.join_tables.specs.States.{TurnState, turn_with}
 use Rattle.join_tables.specs.RestStates.{RestState, rest_with, parked_as}
-use Rattle.join_tables.specs.declared.outcomes.Dropping.{Dropping}
-use Rattle.join_tables.specs.declared.outcomes.Outcome.{Outcome}
-use Rattle.join_tables.specs.declared.outcomes.Outcome.TheVariants.{AllDropped}
+use Rattle.join_tables.specs.declared.fates.Dropping.{Dropping}
+use Rattle.join_tables.specs.declared.fates.Fate.{Fate}
+use Rattle.join_tables.specs.declared.fates.Fate.TheVariants.{AllDropped}
 use Rattle.join_tables.specs.declared.rests.Parked.{Parked}
 use Rattle.join_tables.specs.declared.rests.Checked.{Checked}
 use Rattle.join_tables.specs.declared.rests.Checked.TheVariants.{Busy, Alone}
@@ -59,12 +59,12 @@ pub record DropsLast (r : RestState) (why : DropWhy) (turns : List Parked) (drop
   pub turns_are : r.turns ≡ turns ++ last ∷ []
   pub dropped_are : dropped ≡ r.dropped ++ record { task = last.task; cause = last.cause; place = place; why = why } ∷ []
 
--- an outcome is that releases were dropped, of which this is true
-abbrev pub IsOfDrops : Outcome → (List Dropping → Type 0) → Type 0
+-- a fate is that releases were dropped, of which this is true
+abbrev pub IsOfDrops : Fate → (List Dropping → Type 0) → Type 0
 IsOfDrops (AllDropped drops) p = p drops.items
 IsOfDrops _ p = ⊥
 
 -- Last comes where the turn was the only one.
 abbrev pub DropsOf : TableId → RestState → DropWhy → RestDrop → Type 0
 DropsOf n r why (More s) = (s ≡ rest_with (Some n) r.room s.turns s.dropped r.alone r.full None None) × DropsLast r why s.turns s.dropped × (s.turns ≢ [])
-DropsOf n r why (Last spent) = (spent.table ≡ n) × IsOfDrops spent.outcome (λ drops. DropsLast r why [] drops)
+DropsOf n r why (Last spent) = (spent.table ≡ n) × IsOfDrops spent.fate (λ drops. DropsLast r why [] drops)

@@ -4,8 +4,8 @@ use Rattle.task_graph.specs.NetRows.{NetRows}
 use Rattle.atomic_table.specs.Seated.{TableId}
 use Rattle.journal_rules.specs.declared.entry.Cause.{Cause}
 use Rattle.journal_rules.specs.declared.entry.DropWhy.{DropWhy}
-use Rattle.join_tables.specs.declared.turns.Run.{Run}
-use Rattle.join_tables.specs.declared.outcomes.Outcome.{Outcome}
+use Rattle.join_tables.specs.declared.turns.EndedStart.{EndedStart}
+use Rattle.join_tables.specs.declared.fates.Fate.{Fate}
 
 -- a table's name, its net, and how many starts it may have
 pub record TableState : Type 0 where
@@ -71,7 +71,7 @@ pub record RunningState : Type 0 where
 -- its last call counted the edge that it gave, that found a number in the join word there.
 pub record OwingState : Type 0 where
   pub table : TableId
-  pub run : Run
+  pub ended : EndedStart
   pub left : List ℕ
   pub units : List ℕ
   pub found : Option ℕ
@@ -79,7 +79,7 @@ pub record OwingState : Type 0 where
 -- one that owes nothing
 pub record SpentState : Type 0 where
   pub table : TableId
-  pub outcome : Outcome
+  pub fate : Fate
 
 abbrev pub fresh_state : TableId → ℕ → Cause → FreshState
 fresh_state n t cause = record { table = n; task = t; cause = cause }
@@ -99,8 +99,8 @@ admitted_state n t cause held halt drawn = record { table = n; task = t; cause =
 abbrev pub running_state : TableId → ℕ → Cause → ℕ → StartUnits → Option ℕ → RunningState
 running_state n t cause place units found = record { table = n; task = t; cause = cause; place = place; units = units; found = found }
 
-abbrev pub owing_state : TableId → Run → List ℕ → List ℕ → Option ℕ → OwingState
-owing_state n run left units found = record { table = n; run = run; left = left; units = units; found = found }
+abbrev pub owing_state : TableId → EndedStart → List ℕ → List ℕ → Option ℕ → OwingState
+owing_state n ended left units found = record { table = n; ended = ended; left = left; units = units; found = found }
 
-abbrev pub spent_state : TableId → Outcome → SpentState
-spent_state n outcome = record { table = n; outcome = outcome }
+abbrev pub spent_state : TableId → Fate → SpentState
+spent_state n fate = record { table = n; fate = fate }

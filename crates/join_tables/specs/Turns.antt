@@ -12,8 +12,8 @@ use Rattle.join_tables.specs.declared.turns.Gave.{Gave}
 use Rattle.join_tables.specs.declared.turns.Gave.TheVariants.{Next, Released, Finished}
 use Rattle.join_tables.specs.declared.turns.Admitted.{Admitted}
 use Rattle.join_tables.specs.declared.turns.Admitted.TheVariants.{Go, Over, Halted}
-use Rattle.join_tables.specs.declared.turns.Run.{Run}
-use Rattle.join_tables.specs.declared.outcomes.Outcome.TheVariants.{Ended}
+use Rattle.join_tables.specs.declared.turns.EndedStart.{EndedStart}
+use Rattle.join_tables.specs.declared.fates.Fate.TheVariants.{Ended}
 use Rattle.join_tables.specs.States.{CollectingState, TurnState, RunningState, OwingState, fresh_state, collecting_state, turn_state, turn_with, admitted_state, owing_state, spent_state}
 
 -- What collecting from the next edge of a release leads to: More where another is left. Where none is, LastAgain, with
@@ -36,8 +36,8 @@ Admits limit t (Over turn) = (turn ≡ turn_with t.table t.task t.cause (Some Li
 Admits limit t (Halted turn) = (turn ≡ turn_with t.table t.task t.cause (Some AfterFault) t.held turn.halt None) × IsSomeAnd turn.halt (λ h. h ≢ 0)
 
 -- the run of a start that ended and gives these edges
-abbrev pub EndsAs : RunningState → List ℕ → Bool → Run → Type 0
-EndsAs r gives inner run = (run.task ≡ r.task) × (run.cause ≡ r.cause) × (run.start ≡ r.place) × (run.gives ≡ gives) × (run.inner ≡ inner)
+abbrev pub EndsAs : RunningState → List ℕ → Bool → EndedStart → Type 0
+EndsAs r gives inner ended = (ended.task ≡ r.task) × (ended.cause ≡ r.cause) × (ended.start ≡ r.place) × (ended.gives ≡ gives) × (ended.inner ≡ inner)
 
 -- the cause of the release that a token of an edge makes
 abbrev pub cause_of : Bool → ℕ → Cause
@@ -51,8 +51,8 @@ cause_by net e = cause_of (is_weak net e) e
 -- edge does where the edge was counted and that count found one left in the join word. Finished comes where no edge is
 -- left.
 abbrev pub GivesNext : NetRows → OwingState → List ℕ → Gave → Type 0
-GivesNext net o [] (Finished spent) = spent ≡ spent_state o.table (Ended o.run)
+GivesNext net o [] (Finished spent) = spent ≡ spent_state o.table (Ended o.ended)
 GivesNext net o [] _ = ⊥
-GivesNext net o (e ∷ left) (Next p) = (is_weak net e ≡ false) × (p ≡ owing_state o.table o.run left [] p.found) × (p.found ≢ Some 1)
-GivesNext net o (e ∷ left) (Released p fresh) = (p ≡ owing_state o.table o.run left [] p.found) × (fresh ≡ fresh_state o.table (target net e) (cause_by net e)) × (is_weak net e ≡ false → p.found ≡ Some 1)
+GivesNext net o (e ∷ left) (Next p) = (is_weak net e ≡ false) × (p ≡ owing_state o.table o.ended left [] p.found) × (p.found ≢ Some 1)
+GivesNext net o (e ∷ left) (Released p fresh) = (p ≡ owing_state o.table o.ended left [] p.found) × (fresh ≡ fresh_state o.table (target net e) (cause_by net e)) × (is_weak net e ≡ false → p.found ≡ Some 1)
 GivesNext net o (e ∷ left) (Finished spent) = ⊥

@@ -15,10 +15,10 @@ ghost use Rattle.table_steps.specs.inside.Kinds.{CountsNext, AreNoneLeft, others
 ghost use Rattle.join_tables.specs.inside.Seated.{OwesFirst, paid, HasMade, collecting_view, taken_in, left_in};
 ghost use Rattle.join_tables.specs.inside.Collects.{CollectsOne};
 
-use crate::outcomes::Outcome;
+use crate::fates::Fate;
 use crate::turns::{
-    Collected, Collecting, Fresh, Gave, NetTable, Owing, Place, Run, Running, Spent, StartTicket,
-    Turn,
+    Collected, Collecting, EndedStart, Fresh, Gave, NetTable, Owing, Place, Running, Spent,
+    StartTicket, Turn,
 };
 use journal_rules::Cause;
 use outside_io::List;
@@ -113,7 +113,7 @@ impl NetTable {
         requires credits { HasCredited self.now.net running.task running.units }
         requires claims { HasClaimed self.now.net running.task running.units }
         ensures table { result.table ≡ self.now.table }
-        ensures run { EndsAs running gives inner result.run }
+        ensures ended { EndsAs running gives inner result.ended }
         ensures left { result.left ≡ gives }
         ensures units { result.units ≡ running.units.back }
     {
@@ -125,7 +125,7 @@ impl NetTable {
             ..
         } = running;
         let place = self.words.draw_end(&mut seat, &gives, inner);
-        let run = Run {
+        let ended = EndedStart {
             task,
             cause,
             start,
@@ -135,7 +135,7 @@ impl NetTable {
         };
         Owing {
             seat,
-            run,
+            ended,
             next: 0,
             found: None,
         }
@@ -188,18 +188,18 @@ impl NetTable {
     {
         let Owing {
             mut seat,
-            run,
+            ended,
             next,
             ..
         } = owing;
-        let Some(edge) = run.gives.get(next) else {
-            let outcome = Outcome::Ended(run);
-            return Gave::Finished(Spent { seat, outcome });
+        let Some(edge) = ended.gives.get(next) else {
+            let fate = Fate::Ended(ended);
+            return Gave::Finished(Spent { seat, fate });
         };
         let Counted { found, made } = self.give_edge(&mut seat, *edge);
         let owing = Owing {
             seat,
-            run,
+            ended,
             next: next + 1,
             found,
         };

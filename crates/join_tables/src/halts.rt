@@ -1,12 +1,12 @@
 // The calls that admit a release, and those that halt a run or drop a release. None takes memory, and none waits.
 ghost use Rattle.std.specs.Prelude.{◌≡◌, Some, None, []};
 ghost use Rattle.join_tables.specs.Turns.{Admits};
-ghost use Rattle.join_tables.specs.Outcomes.{FaultsAs, DropsAs};
+ghost use Rattle.join_tables.specs.Fates.{FaultsAs, DropsAs};
 ghost use Rattle.join_tables.specs.Claims.{HasCredited};
 ghost use Rattle.table_steps.specs.Reasons.{MayTell};
 ghost use Rattle.table_steps.specs.Holding.{HoldsAll};
 
-use crate::outcomes::{Dropping, Failure, Outcome};
+use crate::fates::{Dropping, Failure, Fate};
 use crate::turns::{Admitted, NetTable, Running, Spent, StartTicket, Turn};
 use journal_rules::{DropWhy, Why};
 
@@ -62,7 +62,7 @@ impl NetTable {
         requires credits { HasCredited self.now.net running.task running.units }
         requires why { MayTell why running.units.refused }
         ensures table { result.table ≡ self.now.table }
-        ensures outcome { FaultsAs running why result.outcome }
+        ensures fate { FaultsAs running why result.fate }
     {
         let Running {
             mut seat,
@@ -73,14 +73,14 @@ impl NetTable {
         } = running;
         let place = self.words.draw_fault(&mut seat, why);
         self.words.set_halt(&mut seat);
-        let outcome = Outcome::Faulted(Failure {
+        let fate = Fate::Faulted(Failure {
             task,
             cause,
             start,
             place,
             why,
         });
-        Spent { seat, outcome }
+        Spent { seat, fate }
     }
 
     /// Drops a release for the cause for which `admit` refused it: draws the place of its Drop. Nothing is owed after
@@ -90,7 +90,7 @@ impl NetTable {
         requires refused { turn.refused ≡ Some why }
         requires no_unit { turn.held ≡ [] }
         ensures table { result.table ≡ self.now.table }
-        ensures outcome { DropsAs turn why result.outcome }
+        ensures fate { DropsAs turn why result.fate }
     {
         let Turn {
             mut seat,
@@ -99,12 +99,12 @@ impl NetTable {
             ..
         } = turn;
         let place = self.words.draw_drop(&mut seat);
-        let outcome = Outcome::Dropped(Dropping {
+        let fate = Fate::Dropped(Dropping {
             task,
             cause,
             place,
             why,
         });
-        Spent { seat, outcome }
+        Spent { seat, fate }
     }
 }

@@ -79,13 +79,13 @@ impl Keeper {
     pub fn absorb(&mut self, table: &NetTable, spent: Spent) -> Result<Remaining, NoMemory>
         requires keeper { self.old.table ≡ table.now.table }
         requires spent { spent.table ≡ table.now.table }
-        ensures ok { OnOk result (self.new ≡ keeper_state self.old.table (self.old.entries ++ entries_of spent.outcome) self.new.found) }
+        ensures ok { OnOk result (self.new ≡ keeper_state self.old.table (self.old.entries ++ entries_of spent.fate) self.new.found) }
         ensures left { IfOk result (λ left. IsSomeAnd self.new.found (λ n. LeavesOf n left)) }
         ensures err { OnErr result (self.new ≡ self.old) }
         ensures all { IsLast result → TellsRun table.now.net table.now.limit self.new.entries }
     {
-        let Spent { seat, outcome } = spent;
-        record(self.alloc, &mut self.entries, outcome)?;
+        let Spent { seat, fate } = spent;
+        record(self.alloc, &mut self.entries, fate)?;
         let found = table.words.settle(&mut self.seat, seat);
         self.found = Some(found);
         Ok(Remaining::of(found))

@@ -53,22 +53,22 @@
 
 mod calls;
 mod credit_calls;
+mod fates;
 mod halts;
 mod keeper;
 mod merge;
 mod opening;
-mod outcomes;
 mod recording;
 mod releases;
 mod rests;
 mod turns;
 mod unit_calls;
 
+pub use fates::{Dropping, Failure, Fate};
 pub use keeper::{Keeper, Recorded, Remaining};
 pub use opening::Opening;
-pub use outcomes::{Dropping, Failure, Outcome};
 pub use rests::{Checked, Parked, Rest, RestDrop, UnitLook};
 pub use turns::{
-    Admitted, Claim, Collected, Collecting, Fresh, Gave, NetTable, Owing, Run, Running, Spent,
-    StartTicket, Turn, UnitTake,
+    Admitted, Claim, Collected, Collecting, EndedStart, Fresh, Gave, NetTable, Owing, Running,
+    Spent, StartTicket, Turn, UnitTake,
 };

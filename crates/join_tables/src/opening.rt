@@ -3,21 +3,21 @@ ghost use Rattle.std.specs.Prelude.{◌≡◌, ◌≤◌, IfOk, [], length};
 ghost use Rattle.std.specs.Arc.{arc_value};
 ghost use Rattle.join_tables.specs.Openings.{OpensTable};
 ghost use Rattle.join_tables.specs.States.{fresh_state};
-ghost use Rattle.table_steps.specs.inside.Opening.{first_items};
+ghost use Rattle.table_steps.specs.inside.Opening.{first_duties};
 ghost use Rattle.table_steps.specs.inside.Accounts.{KeepsAccounts, first_notes, opening_notes};
 ghost use Rattle.atomic_table.specs.Table.{opening};
-ghost use Rattle.join_tables.specs.inside.FirstReleases.{items_of, states_of, DealsFirst};
+ghost use Rattle.join_tables.specs.inside.FirstReleases.{duties_of, states_of, DealsFirst};
 ghost use Rattle.table_steps.specs.inside.Kinds.{kept_back};
 
 use crate::keeper::Keeper;
-use crate::releases::{Release, first_parcels, first_releases, opening_words};
+use crate::releases::{FirstRelease, first_parcels, first_releases, opening_words};
 use crate::turns::{Fresh, NetTable, Place};
 use atomic_table::Table;
 use journal_rules::{Cause, Part};
 use outside_io::{List, NoMemory};
 use std::alloc::Global;
 use std::sync::Arc;
-use table_steps::{AccountsHold, Note, Plan, Words};
+use table_steps::{AccountsHold, LimitedNet, Note, Words};
 use task_graph::Net;
 
 /// A table with its first releases, by rising task, and its keeper.
@@ -37,9 +37,9 @@ impl NetTable {
         let releases = first_releases(alloc, &net)?;
         let words = opening_words(alloc, &net, releases.len() as u64)?;
         let parcels = first_parcels(alloc, &net)?;
-        let plan = Plan { net, limit };
-        let (table, mut seat) = table_of(alloc, words.as_slice(), parcels, &plan)?;
-        let Plan { net, limit } = plan;
+        let limited = LimitedNet { net, limit };
+        let (table, mut seat) = table_of(alloc, words.as_slice(), parcels, &limited)?;
+        let LimitedNet { net, limit } = limited;
         let words = Words { table, net, limit };
         let table = NetTable { words };
         let fresh = table.deal_all(alloc, &mut seat, &releases)?;
@@ -55,18 +55,18 @@ impl NetTable {
         &self,
         alloc: Global,
         seat: &mut Place,
-        releases: &Vec<Release>,
+        releases: &Vec<FirstRelease>,
     ) -> Result<Vec<Fresh>, NoMemory>
         requires table { seat.old.table_id ≡ self.now.table }
         requires keeper { seat.old.id ≡ 0 }
-        requires view { seat.old.me ≡ (first_notes (items_of releases.now.items), []) }
+        requires view { seat.old.me ≡ (first_notes (duties_of releases.now.items), []) }
         ensures table { (seat.new.table_id ≡ seat.old.table_id) × (seat.new.id ≡ 0) }
         ensures view { IfOk result (λ fresh. seat.new.me ≡ ([], [])) }
         ensures fresh { IfOk result (λ fresh. fresh.items ≡ states_of self.now.table releases.now.items) }
     {
         let mut fresh = Vec::with_capacity(alloc, releases.len())?;
         for release in releases {
-            let Release { task, cause } = *release;
+            let FirstRelease { task, cause } = *release;
             fresh.push_reserved(self.deal_first(seat, task, cause));
         }
         Ok(fresh)
@@ -92,13 +92,19 @@ fn table_of(
     alloc: Global,
     words: &[u64],
     parcels: Vec<Part>,
-    plan: &Plan,
-) -> Result<(Table<Part, List<Note>, Plan, AccountsHold, Global>, Place), NoMemory>
-    requires { KeepsAccounts (arc_value plan.now.net) plan.now.limit (opening words.now parcels.items (opening_notes (arc_value plan.now.net) plan.now.limit)) }
-    ensures table { IfOk result (λ made. (made.0.shared.table_id.words ≡ length words.now) × (made.0.shared.key ≡ plan.now)) }
-    ensures seat { IfOk result (λ made. (made.1.table_id ≡ made.0.shared.table_id) × (made.1.id ≡ 0) × (made.1.me ≡ (opening_notes (arc_value plan.now.net) plan.now.limit, []))) }
+    limited: &LimitedNet,
+) -> Result<
+    (
+        Table<Part, List<Note>, LimitedNet, AccountsHold, Global>,
+        Place,
+    ),
+    NoMemory,
+>
+    requires { KeepsAccounts (arc_value limited.now.net) limited.now.limit (opening words.now parcels.items (opening_notes (arc_value limited.now.net) limited.now.limit)) }
+    ensures table { IfOk result (λ made. (made.0.shared.table_id.words ≡ length words.now) × (made.0.shared.key ≡ limited.now)) }
+    ensures seat { IfOk result (λ made. (made.1.table_id ≡ made.0.shared.table_id) × (made.1.id ≡ 0) × (made.1.me ≡ (opening_notes (arc_value limited.now.net) limited.now.limit, []))) }
 {
-    match Table::new(alloc, words, parcels, plan) {
+    match Table::new(alloc, words, parcels, limited) {
         Ok(made) => Ok(made),
         Err(_) => Err(NoMemory),
     }

@@ -3,32 +3,32 @@ ghost use Rattle.std.specs.Prelude.{◌≡◌, ◌+◌, ◌≤◌, ◌++◌, ◌
 ghost use Rattle.std.specs.Vec.{vec_len, vec_capacity};
 ghost use Rattle.join_tables.specs.Keeping.{entries_of, start_of, drop_of};
 
+use crate::fates::{Dropping, Fate};
 use crate::keeper::Recorded;
-use crate::outcomes::{Dropping, Outcome};
 use journal_rules::{Cause, Entry};
 use outside_io::{List, NoMemory};
 use std::alloc::Global;
 
 /// Adds the entries of a turn that is done.
-pub fn record(alloc: Global, entries: &mut Vec<Recorded>, outcome: Outcome) -> Result<(), NoMemory>
-    ensures ok { OnOk result (entries.new.items ≡ entries.old.items ++ entries_of outcome) }
+pub fn record(alloc: Global, entries: &mut Vec<Recorded>, fate: Fate) -> Result<(), NoMemory>
+    ensures ok { OnOk result (entries.new.items ≡ entries.old.items ++ entries_of fate) }
     ensures err { OnErr result (entries.new.items ≡ entries.old.items) }
 {
-    entries.try_reserve(entry_count(&outcome))?;
-    match outcome {
-        Outcome::Ended(run) => {
-            entries.push_reserved(start_entry(alloc, run.start, run.task, run.cause));
+    entries.try_reserve(entry_count(&fate))?;
+    match fate {
+        Fate::Ended(ended) => {
+            entries.push_reserved(start_entry(alloc, ended.start, ended.task, ended.cause));
             let entry = Entry::End {
-                start: run.start,
-                gives: run.gives,
-                inner: run.inner,
+                start: ended.start,
+                gives: ended.gives,
+                inner: ended.inner,
             };
             entries.push_reserved(Recorded {
-                place: run.place,
+                place: ended.place,
                 entry,
             });
         }
-        Outcome::Faulted(failure) => {
+        Fate::Faulted(failure) => {
             entries.push_reserved(start_entry(alloc, failure.start, failure.task, failure.cause));
             let entry = Entry::Fault {
                 start: failure.start,
@@ -39,20 +39,20 @@ pub fn record(alloc: Global, entries: &mut Vec<Recorded>, outcome: Outcome) -> R
                 entry,
             });
         }
-        Outcome::Dropped(dropping) => entries.push_reserved(drop_entry(dropping)),
-        Outcome::AllDropped(drops) => add_drops(entries, drops),
+        Fate::Dropped(dropping) => entries.push_reserved(drop_entry(dropping)),
+        Fate::AllDropped(drops) => add_drops(entries, drops),
     }
     Ok(())
 }
 
 // How many entries a turn that is done has.
-fn entry_count(outcome: &Outcome) -> usize
-    ensures { result ≡ length (entries_of outcome.now) }
+fn entry_count(fate: &Fate) -> usize
+    ensures { result ≡ length (entries_of fate.now) }
 {
-    match outcome {
-        Outcome::Ended(_) | Outcome::Faulted(_) => 2,
-        Outcome::Dropped(_) => 1,
-        Outcome::AllDropped(drops) => drops.len(),
+    match fate {
+        Fate::Ended(_) | Fate::Faulted(_) => 2,
+        Fate::Dropped(_) => 1,
+        Fate::AllDropped(drops) => drops.len(),
     }
 }
 

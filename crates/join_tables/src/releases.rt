@@ -3,8 +3,8 @@ ghost use Rattle.std.specs.Prelude.{◌≡◌, ◌<◌, ◌≤◌, ◌+◌, ◌=
 ghost use Rattle.task_graph.specs.Net.{in_edges, strong_in};
 ghost use Rattle.journal_rules.specs.Counts.{first_tokens};
 ghost use Rattle.journal_rules.specs.declared.entry.Part.TheVariants.{First, Nothing};
-ghost use Rattle.table_steps.specs.inside.Opening.{bare, first_items};
-ghost use Rattle.join_tables.specs.inside.FirstReleases.{is_full, items_of, item_if, opening_word, AreOpeningWords};
+ghost use Rattle.table_steps.specs.inside.Opening.{bare, first_duties};
+ghost use Rattle.join_tables.specs.inside.FirstReleases.{is_full, duties_of, duty_if, opening_word, AreOpeningWords};
 ghost use Rattle.table_steps.specs.Giving.{one_if};
 ghost use Rattle.table_steps.specs.inside.Accounts.{edges_from, marks_from};
 
@@ -16,14 +16,14 @@ use task_graph::Net;
 
 /// A release of a task, by its cause.
 #[derive(Clone, Copy)]
-pub struct Release {
+pub struct FirstRelease {
     pub task: u32,
     pub cause: Cause,
 }
 
 /// The first releases: of each source task, and of each task whose strong in-edges all begin with a token.
-pub fn first_releases(alloc: Global, net: &Net) -> Result<Vec<Release>, NoMemory>
-    ensures { IfOk result (λ releases. items_of releases.items ≡ first_items net.now 0 (length net.now.tasks)) }
+pub fn first_releases(alloc: Global, net: &Net) -> Result<Vec<FirstRelease>, NoMemory>
+    ensures { IfOk result (λ releases. duties_of releases.items ≡ first_duties net.now 0 (length net.now.tasks)) }
 {
     let mut releases = Vec::new(alloc);
     for task in 0..net.tasks().len() as u32 {
@@ -34,11 +34,16 @@ pub fn first_releases(alloc: Global, net: &Net) -> Result<Vec<Release>, NoMemory
 }
 
 // Adds a release if there is one.
-fn add(releases: &mut Vec<Release>, task: u32, cause: Cause, is_there: bool) -> Result<(), NoMemory>
-    ensures { OnOk result (items_of releases.new.items ≡ items_of releases.old.items ++ item_if is_there task cause) }
+fn add(
+    releases: &mut Vec<FirstRelease>,
+    task: u32,
+    cause: Cause,
+    is_there: bool,
+) -> Result<(), NoMemory>
+    ensures { OnOk result (duties_of releases.new.items ≡ duties_of releases.old.items ++ duty_if is_there task cause) }
 {
     if is_there {
-        releases.push(Release { task, cause })?;
+        releases.push(FirstRelease { task, cause })?;
     }
     Ok(())
 }

@@ -5,7 +5,7 @@ ghost use Rattle.join_tables.specs.RestStates.{rest_with, parked_as};
 ghost use Rattle.join_tables.specs.Rests.{IsOfTable, HandsOut, ChecksRest, LooksForUnit, MayDropOf, DropsOf};
 ghost use Rattle.table_steps.specs.inside.RestKinds.{MayPark, parked};
 
-use crate::outcomes::{Dropping, Outcome};
+use crate::fates::{Dropping, Fate};
 use crate::turns::{NetTable, Place, Spent, Turn};
 use journal_rules::{Cause, DropWhy};
 use outside_io::NoMemory;
@@ -304,8 +304,8 @@ impl NetTable {
             why,
         });
         if turns.is_empty() {
-            let outcome = Outcome::AllDropped(drops);
-            return RestDrop::Last(Spent { seat, outcome });
+            let fate = Fate::AllDropped(drops);
+            return RestDrop::Last(Spent { seat, fate });
         }
         self.words.thin(&mut seat);
         RestDrop::More(Rest {

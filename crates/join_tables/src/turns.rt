@@ -1,7 +1,7 @@
 // The turns of a table, by what they have still to do. Each knows it by a seat, which has no bytes.
 ghost use Rattle.std.specs.Prelude.{◌≡◌};
 
-use crate::outcomes::Outcome;
+use crate::fates::Fate;
 use journal_rules::{Cause, Part};
 use keyed_lock::Keyed;
 use outside_io::List;
@@ -146,7 +146,7 @@ impl Model for Running {
 
 /// A start of a task and its end: their places in the journal, and the edges that the end gives.
 #[derive(Drop)]
-pub struct Run {
+pub struct EndedStart {
     pub task: u32,
     pub cause: Cause,
     pub start: u64,
@@ -159,7 +159,7 @@ pub struct Run {
 #[derive(Drop)]
 pub struct Owing {
     pub(crate) seat: Place,
-    pub(crate) run: Run,
+    pub(crate) ended: EndedStart,
     pub(crate) next: usize,
     // what its last call found in a join word, of which contracts speak
     pub(crate) found: Option<u64>,
@@ -172,16 +172,16 @@ impl Model for Owing {
 
     ghost Value = { OwingState };
 
-    ghost view = { λ o. owing_state o.seat.table_id o.run (drop o.next o.run.gives) (units_of o.seat.me.0) o.found };
+    ghost view = { λ o. owing_state o.seat.table_id o.ended (drop o.next o.ended.gives) (units_of o.seat.me.0) o.found };
 
-    ghost invariant = { λ o. o.seat.me ≡ (owing_view o.run (drop o.next o.run.gives) (units_of o.seat.me.0), []) };
+    ghost invariant = { λ o. o.seat.me ≡ (owing_view o.ended (drop o.next o.ended.gives) (units_of o.seat.me.0), []) };
 }
 
 /// A turn that is done and owes nothing.
 #[derive(Drop)]
 pub struct Spent {
     pub(crate) seat: Place,
-    pub(crate) outcome: Outcome,
+    pub(crate) fate: Fate,
 }
 
 impl Model for Spent {
@@ -191,9 +191,9 @@ impl Model for Spent {
 
     ghost Value = { SpentState };
 
-    ghost view = { λ s. spent_state s.seat.table_id s.outcome };
+    ghost view = { λ s. spent_state s.seat.table_id s.fate };
 
-    ghost invariant = { λ s. IsSpent s.outcome s.seat.me.0 × (s.seat.me.1 ≡ []) };
+    ghost invariant = { λ s. IsSpent s.fate s.seat.me.0 × (s.seat.me.1 ≡ []) };
 }
 
 /// What collecting from one edge led to.
@@ -290,18 +290,18 @@ impl Running {
 
 impl Spent {
     /// What became of the release, with the places of its entries in the journal.
-    pub fn outcome(&self) -> &Outcome
-        ensures { result.now ≡ self.now.outcome }
+    pub fn fate(&self) -> &Fate
+        ensures { result.now ≡ self.now.fate }
     {
-        &self.outcome
+        &self.fate
     }
 }
 
 impl Owing {
     /// The place of its End in the journal.
     pub fn place(&self) -> u64
-        ensures { result ≡ self.now.run.place }
+        ensures { result ≡ self.now.ended.place }
     {
-        self.run.place
+        self.ended.place
     }
 }

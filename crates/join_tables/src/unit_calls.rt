@@ -70,18 +70,18 @@ impl NetTable {
         requires table { owing.table ≡ self.now.table }
         requires owed { 1 ≤ times sem owing.units }
         requires in_range { sem < length self.now.net.sems }
-        ensures { result ≡ owing_state owing.table owing.run owing.left (without sem owing.units) None }
+        ensures { result ≡ owing_state owing.table owing.ended owing.left (without sem owing.units) None }
     {
         let Owing {
             mut seat,
-            run,
+            ended,
             next,
             ..
         } = owing;
         self.words.give_unit_back(&mut seat, sem);
         Owing {
             seat,
-            run,
+            ended,
             next,
             found: None,
         }

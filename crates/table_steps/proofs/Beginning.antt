@@ -6,25 +6,25 @@ use Rattle.task_graph.specs.NetRows.{NetRows}
 use Rattle.task_graph.specs.Net.{in_edges, strong_in}
 use Rattle.journal_rules.specs.declared.entry.Cause.TheVariants.{Source, Strong, Weak}
 use Rattle.journal_rules.specs.Counts.{first_tokens}
-use Rattle.table_steps.specs.declared.view.Item.{Item}
-use Rattle.table_steps.specs.declared.view.Item.TheVariants.{Told, Fresh, Collecting, Ticket, Open, Owes, Counting}
-use Rattle.table_steps.specs.inside.Items.{DutyCoord, duty_weigh, EdgePart, DutyPart, place, runs, running, tickets}
+use Rattle.table_steps.specs.declared.view.TurnDuty.{TurnDuty}
+use Rattle.table_steps.specs.declared.view.TurnDuty.TheVariants.{Told, Fresh, Collecting, Ticket, Open, Owes, Counting}
+use Rattle.table_steps.specs.inside.Duties.{DutyCoord, duty_weigh, EdgePart, DutyPart, place, runs, running, tickets}
 use Rattle.table_steps.specs.Giving.{one_if}
-use Rattle.table_steps.specs.inside.Opening.{bare, is_empty, source_items, full_items, first_items}
+use Rattle.table_steps.specs.inside.Opening.{bare, is_empty, source_duties, full_duties, first_duties}
 use Rattle.table_steps.proofs.OpeningDuties.{begins}
-use Rattle.table_steps.specs.declared.view.Kind.{Kind}
-use Rattle.table_steps.specs.declared.view.Kind.TheVariants.{Held, Undo, Owed, Both, Credit, Credited, Claim, Granted, Refusing, Denied, Full}
-use Rattle.table_steps.specs.declared.view.Mark.TheVariants.{Live, New, Over, ToMark, Quiet}
+use Rattle.table_steps.specs.declared.view.SemaphoreRole.{SemaphoreRole}
+use Rattle.table_steps.specs.declared.view.SemaphoreRole.TheVariants.{Held, Undo, Owed, Both, Credit, Credited, Claim, Granted, Refusing, Denied, Full}
+use Rattle.table_steps.specs.declared.view.SeatMark.TheVariants.{Live, New, Over, ToMark, Quiet}
 use Rattle.table_steps.specs.inside.Accounts.{Coord, duty, sem, mark, busy, resting, turning, owing, weigh, FitsRelease, AllStand, Readings, Balanced, HaltPart, FitsPlan, ViewPart, first_notes}
 use Rattle.table_steps.specs.Credits.{first_credit}
 
 -- first releases, each of the net
-abbrev pub AreFirst : NetRows → List Item → Type 0
+abbrev pub AreFirst : NetRows → List TurnDuty → Type 0
 AreFirst net [] = Unit {0}
 AreFirst net (Fresh t cause ∷ xs) = FitsRelease net t cause × AreFirst net xs
 AreFirst net _ = ⊥
 
-both_first : (net : NetRows) (xs ys : List Item) → AreFirst net xs → AreFirst net ys → AreFirst net (xs ++ ys)
+both_first : (net : NetRows) (xs ys : List TurnDuty) → AreFirst net xs → AreFirst net ys → AreFirst net (xs ++ ys)
 both_first net [] ys a b = b
 both_first net (Fresh t cause ∷ xs) ys a b = (a.0, both_first net xs ys a.1 b)
 both_first net (Told n y ∷ xs) ys a b = absurd a
@@ -34,35 +34,35 @@ both_first net (Open n t ∷ xs) ys a b = absurd a
 both_first net (Owes g ∷ xs) ys a b = absurd a
 both_first net (Counting e ∷ xs) ys a b = absurd a
 
-are_first : (net : NetRows) (t n : ℕ) → t + n ≤ length net.tasks → AreFirst net (first_items net t n)
+are_first : (net : NetRows) (t n : ℕ) → t + n ≤ length net.tasks → AreFirst net (first_duties net t n)
 are_first net t zero below = tt
 are_first net t (suc n) below =
-    both_first net (source_items t (is_empty (in_edges net t)) ++ full_items t (strong_in net t) (bare net (strong_in net t))) (first_items net (suc t) n)
-    (both_first net (source_items t (is_empty (in_edges net t))) (full_items t (strong_in net t) (bare net (strong_in net t))) (of_source (in_edges net t) refl) (of_full (strong_in net t) refl (bare net (strong_in net t))))
+    both_first net (source_duties t (is_empty (in_edges net t)) ++ full_duties t (strong_in net t) (bare net (strong_in net t))) (first_duties net (suc t) n)
+    (both_first net (source_duties t (is_empty (in_edges net t))) (full_duties t (strong_in net t) (bare net (strong_in net t))) (of_source (in_edges net t) refl) (of_full (strong_in net t) refl (bare net (strong_in net t))))
     (are_first net (suc t) n (omega arith))
   where
-    of_source : (es : List ℕ) → in_edges net t ≡ es → AreFirst net (source_items t (is_empty es))
+    of_source : (es : List ℕ) → in_edges net t ≡ es → AreFirst net (source_duties t (is_empty es))
     of_source [] is = ((omega arith, is), tt)
     of_source (e ∷ es) is = tt
 
-    of_full : (es : List ℕ) → strong_in net t ≡ es → (k : ℕ) → AreFirst net (full_items t es k)
+    of_full : (es : List ℕ) → strong_in net t ≡ es → (k : ℕ) → AreFirst net (full_duties t es k)
     of_full [] is k = tt
     of_full (e ∷ es) is zero = ((omega arith, λ none. absurd (cc)), tt)
     of_full (e ∷ es) is (suc k) = tt
 
-duty_same : (c : DutyCoord) (xs : List Item) → weigh (duty c) (first_notes xs) ≡ duty_weigh c xs
+duty_same : (c : DutyCoord) (xs : List TurnDuty) → weigh (duty c) (first_notes xs) ≡ duty_weigh c xs
 duty_same c [] = refl
 duty_same c (x ∷ xs) = omega (arith, duty_same c xs)
 
-no_sem : (k : Kind) (s : ℕ) (xs : List Item) → weigh (sem k s) (first_notes xs) ≡ 0
+no_sem : (k : SemaphoreRole) (s : ℕ) (xs : List TurnDuty) → weigh (sem k s) (first_notes xs) ≡ 0
 no_sem k s [] = refl
 no_sem k s (x ∷ xs) = omega (arith, no_sem k s xs)
 
-no_rest : (xs : List Item) → weigh resting (first_notes xs) ≡ 0
+no_rest : (xs : List TurnDuty) → weigh resting (first_notes xs) ≡ 0
 no_rest [] = refl
 no_rest (x ∷ xs) = omega (arith, no_rest xs)
 
-record Marks (net : NetRows) (xs : List Item) : Type 0 where
+record Marks (net : NetRows) (xs : List TurnDuty) : Type 0 where
   pub live : weigh (mark Live) (first_notes xs) ≡ length xs
   pub new : weigh (mark New) (first_notes xs) ≡ 0
   pub over : weigh (mark Over) (first_notes xs) ≡ 0
@@ -72,7 +72,7 @@ record Marks (net : NetRows) (xs : List Item) : Type 0 where
   pub owing_is : weigh owing (first_notes xs) ≡ 0
   pub stand : AllStand net [] (first_notes xs)
 
-marks_of : (net : NetRows) (xs : List Item) → AreFirst net xs → Marks net xs
+marks_of : (net : NetRows) (xs : List TurnDuty) → AreFirst net xs → Marks net xs
 marks_of net [] a = record { live = refl; new = refl; over = refl; to_mark = refl; quiet = refl; turning_is = refl; owing_is = refl; stand = tt }
 marks_of net (Fresh t cause ∷ xs) a = let m = marks_of net xs a.1 in record {
   live = omega (arith, m.live);
@@ -91,10 +91,10 @@ marks_of net (Open n t ∷ xs) a = absurd a
 marks_of net (Owes g ∷ xs) a = absurd a
 marks_of net (Counting e ∷ xs) a = absurd a
 
-pub opening_balanced : (net : NetRows) (limit : ℕ) (w : Readings) → FitsPlan net limit → w.clock ≡ 0 → w.live ≡ length (first_items net 0 (length net.tasks)) → w.admitted ≡ 0 → w.halt ≡ 0 → ((s : ℕ) → s < length net.sems → w.unit s ≡ 0) → ((s : ℕ) → s < length net.sems → w.credit s ≡ first_credit)
-    → ((e : ℕ) → w.edge e ≡ first_tokens net e) → ((t : ℕ) → w.join t ≡ bare net (strong_in net t)) → Balanced net limit w (first_tokens net) [] (λ c. weigh c (first_notes (first_items net 0 (length net.tasks))) + 0)
+pub opening_balanced : (net : NetRows) (limit : ℕ) (w : Readings) → FitsPlan net limit → w.clock ≡ 0 → w.live ≡ length (first_duties net 0 (length net.tasks)) → w.admitted ≡ 0 → w.halt ≡ 0 → ((s : ℕ) → s < length net.sems → w.unit s ≡ 0) → ((s : ℕ) → s < length net.sems → w.credit s ≡ first_credit)
+    → ((e : ℕ) → w.edge e ≡ first_tokens net e) → ((t : ℕ) → w.join t ≡ bare net (strong_in net t)) → Balanced net limit w (first_tokens net) [] (λ c. weigh c (first_notes (first_duties net 0 (length net.tasks))) + 0)
 opening_balanced net limit w fits clock live admitted halt units credits edges joins =
-    let xs = first_items net 0 (length net.tasks) in
+    let xs = first_duties net 0 (length net.tasks) in
     let m = marks_of net xs (are_first net 0 (length net.tasks) (omega arith)) in
     let b = begins net w.edge w.join fits.rows edges joins in
     let same : ◌≡◌ {A = DutyCoord → ℕ} (λ c. duty_weigh c xs) (λ c. weigh (duty c) (first_notes xs) + 0) = λ i c. plus_none c i in record {
@@ -122,10 +122,10 @@ opening_balanced net limit w fits clock live admitted halt units credits edges j
       by_stuck = λ more. absurd (more refl);
     }
   where
-    plus_none : (c : DutyCoord) → duty_weigh c (first_items net 0 (length net.tasks)) ≡ weigh (duty c) (first_notes (first_items net 0 (length net.tasks))) + 0
-    plus_none c = omega (arith, duty_same c (first_items net 0 (length net.tasks)))
+    plus_none : (c : DutyCoord) → duty_weigh c (first_duties net 0 (length net.tasks)) ≡ weigh (duty c) (first_notes (first_duties net 0 (length net.tasks))) + 0
+    plus_none c = omega (arith, duty_same c (first_duties net 0 (length net.tasks)))
 
-    tickets_none : (xs : List Item) → AreFirst net xs → weigh (duty tickets) (first_notes xs) ≡ 0
+    tickets_none : (xs : List TurnDuty) → AreFirst net xs → weigh (duty tickets) (first_notes xs) ≡ 0
     tickets_none [] a = refl
     tickets_none (Fresh t Source ∷ xs) a = omega (arith, tickets_none xs a.1)
     tickets_none (Fresh t Strong ∷ xs) a = omega (arith, tickets_none xs a.1)
@@ -138,8 +138,8 @@ opening_balanced net limit w fits clock live admitted halt units credits edges j
     tickets_none (Counting e ∷ xs) a = absurd a
 
 -- and the first seat is as the rule says
-pub opening_view : (net : NetRows) (T : Coord → ℕ) → ViewPart net [] T 0 (first_notes (first_items net 0 (length net.tasks)))
-opening_view net T = let xs = first_items net 0 (length net.tasks) in let m = marks_of net xs (are_first net 0 (length net.tasks) (omega arith)) in record {
+pub opening_view : (net : NetRows) (T : Coord → ℕ) → ViewPart net [] T 0 (first_notes (first_duties net 0 (length net.tasks)))
+opening_view net T = let xs = first_duties net 0 (length net.tasks) in let m = marks_of net xs (are_first net 0 (length net.tasks) (omega arith)) in record {
   stand = m.stand;
   covered = λ none. empty_busy xs (omega (arith, none, m.live));
   told = λ far none. absurd (far refl);
@@ -148,6 +148,6 @@ opening_view net T = let xs = first_items net 0 (length net.tasks) in let m = ma
   full = λ s more. absurd (more (no_sem Full s xs));
 }
   where
-    empty_busy : (xs : List Item) → length xs ≡ 0 → weigh busy (first_notes xs) ≡ 0
+    empty_busy : (xs : List TurnDuty) → length xs ≡ 0 → weigh busy (first_notes xs) ≡ 0
     empty_busy [] h = refl
     empty_busy (x ∷ xs) h = absurd (omega arith)

@@ -11,15 +11,15 @@ use Rattle.journal_rules.specs.Counts.{given, used, used_weak}
 use Rattle.journal_rules.specs.Calm.{used_at}
 use Rattle.journal_rules.specs.Complete.{Complete, least}
 use Rattle.journal_rules.proofs.Reaching.{each_below}
-use Rattle.table_steps.specs.declared.view.Item.{Item}
-use Rattle.table_steps.specs.declared.view.Item.TheVariants.{Told, Fresh, Collecting, Ticket, Open, Owes, Counting}
-use Rattle.table_steps.specs.inside.Items.{DutyCoord, place, runs, running, tickets, token, source, weakly, awaits, unset, duty_weight, is_run}
+use Rattle.table_steps.specs.declared.view.TurnDuty.{TurnDuty}
+use Rattle.table_steps.specs.declared.view.TurnDuty.TheVariants.{Told, Fresh, Collecting, Ticket, Open, Owes, Counting}
+use Rattle.table_steps.specs.inside.Duties.{DutyCoord, place, runs, running, tickets, token, source, weakly, awaits, unset, duty_weight, is_run}
 use Rattle.table_steps.specs.Giving.{one_if}
 use Rattle.table_steps.proofs.Counting.{is_one, is_strong_into, times_strong_in, used_at_strong}
 use Rattle.table_steps.proofs.CountDuties.{into_strong}
 use Rattle.table_steps.proofs.ResetDuties.{all_into}
 use Rattle.table_steps.proofs.RestDuties.{AtRest, closed_at, least_is, sum_gap, nil_pos, any_zero}
-use Rattle.table_steps.specs.declared.view.Mark.TheVariants.{Live}
+use Rattle.table_steps.specs.declared.view.SeatMark.TheVariants.{Live}
 use Rattle.table_steps.specs.declared.view.Note.{Note}
 use Rattle.table_steps.specs.declared.view.Note.TheVariants.{Duty, Sems, Has, Unfit, Lies}
 use Rattle.table_steps.specs.inside.Accounts.{Coord, duty, mark, busy, telling, weight, weigh, total, Readings, Balanced, KeepsAccounts}
@@ -60,25 +60,25 @@ complete_at_rest net limit w counted journal T b r no_ticket = record {
         (omega (arith, b.by_edges gap.at, used_at_strong net gap.at t journal into, empty, r.no_token gap.at)) gap.there
 
 -- where a seat has nothing to do, it counts only what it told
-item_none : (c : DutyCoord) (x : Item) → ((m : ℕ) → c ≢ place m) → weight busy (Duty x) ≡ 0 → duty_weight c x ≡ 0
-item_none (place m) (Told n y) apart z = absurd (apart m refl)
-item_none (runs m t) (Told n y) apart z = refl
-item_none running (Told n y) apart z = refl
-item_none tickets (Told n y) apart z = refl
-item_none (token e) (Told n y) apart z = refl
-item_none (source t) (Told n y) apart z = refl
-item_none (weakly e) (Told n y) apart z = refl
-item_none (awaits e) (Told n y) apart z = refl
-item_none (unset t) (Told n y) apart z = refl
-item_none c (Fresh t cause) apart z = absurd (omega arith)
-item_none c (Collecting t cause taken left) apart z = absurd (omega arith)
-item_none c Ticket apart z = absurd (omega arith)
-item_none c (Open n t) apart z = absurd (omega arith)
-item_none c (Owes gives) apart z = absurd (omega arith)
-item_none c (Counting e) apart z = absurd (omega arith)
+duty_none : (c : DutyCoord) (x : TurnDuty) → ((m : ℕ) → c ≢ place m) → weight busy (Duty x) ≡ 0 → duty_weight c x ≡ 0
+duty_none (place m) (Told n y) apart z = absurd (apart m refl)
+duty_none (runs m t) (Told n y) apart z = refl
+duty_none running (Told n y) apart z = refl
+duty_none tickets (Told n y) apart z = refl
+duty_none (token e) (Told n y) apart z = refl
+duty_none (source t) (Told n y) apart z = refl
+duty_none (weakly e) (Told n y) apart z = refl
+duty_none (awaits e) (Told n y) apart z = refl
+duty_none (unset t) (Told n y) apart z = refl
+duty_none c (Fresh t cause) apart z = absurd (omega arith)
+duty_none c (Collecting t cause taken left) apart z = absurd (omega arith)
+duty_none c Ticket apart z = absurd (omega arith)
+duty_none c (Open n t) apart z = absurd (omega arith)
+duty_none c (Owes gives) apart z = absurd (omega arith)
+duty_none c (Counting e) apart z = absurd (omega arith)
 
 note_none : (c : DutyCoord) → ((m : ℕ) → c ≢ place m) → (x : Note) → weight busy x ≡ 0 → weight (duty c) x ≡ 0
-note_none c apart (Duty x) z = item_none c x apart z
+note_none c apart (Duty x) z = duty_none c x apart z
 note_none c apart (Sems k l) z = refl
 note_none c apart (Has m) z = refl
 note_none c apart (Unfit s n t) z = refl

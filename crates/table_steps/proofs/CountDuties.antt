@@ -8,8 +8,8 @@ use Rattle.task_graph.specs.NetRows.{NetRows}
 use Rattle.task_graph.specs.Net.{strong_in, is_weak, is_weak_row}
 use Rattle.task_graph.specs.declared.net.EdgeRow.{EdgeRow}
 use Rattle.journal_rules.specs.declared.entry.Entry.{Entry}
-use Rattle.table_steps.specs.declared.view.Item.TheVariants.{Counting}
-use Rattle.table_steps.specs.inside.Items.{DutyCoord, token, source, weakly, awaits, unset, any, nil, sum_over, EdgePart, DutyPart, DutyMoves, Raised, after_count}
+use Rattle.table_steps.specs.declared.view.TurnDuty.TheVariants.{Counting}
+use Rattle.table_steps.specs.inside.Duties.{DutyCoord, token, source, weakly, awaits, unset, any, nil, sum_over, EdgePart, DutyPart, DutyMoves, Raised, after_count}
 use Rattle.table_steps.specs.Giving.{one_if, times}
 use Rattle.table_steps.proofs.Counting.{times_strong_in, is_strong_into}
 use Rattle.table_steps.proofs.StartDuties.{one_self}

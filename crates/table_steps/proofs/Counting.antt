@@ -20,7 +20,7 @@ use Rattle.journal_rules.specs.DataRule.{edges_of}
 use Rattle.journal_rules.proofs.Snoc.{count_by_push, is_open_push_below, start_at_push_last, start_at_push_below}
 use Rattle.journal_rules.proofs.Tallying.{count_by_push_no, count_once, and_true, and_false}
 use Rattle.journal_rules.proofs.NetLemmas.{any_place, counted_once}
-use Rattle.table_steps.specs.inside.Items.{is_run}
+use Rattle.table_steps.specs.inside.Duties.{is_run}
 use Rattle.table_steps.specs.Giving.{one_if, times}
 
 pub times_count : (e : ℕ) (es : List ℕ) → times e es ≡ count_by (λ g. g == e) es

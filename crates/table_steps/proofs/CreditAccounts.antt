@@ -9,10 +9,10 @@ use Rattle.task_graph.specs.NetRows.{NetRows}
 use Rattle.journal_rules.specs.declared.entry.Entry.{Entry}
 use Rattle.journal_rules.specs.Counts.{start_at, started}
 use Rattle.journal_rules.specs.SemaphoreRule.{takes, puts, back, taken, closed_takers, other_putters, IsOverRelease}
-use Rattle.table_steps.specs.inside.Items.{DutyCoord, tickets, Raised}
+use Rattle.table_steps.specs.inside.Duties.{DutyCoord, tickets, Raised}
 use Rattle.table_steps.specs.Giving.{one_if}
-use Rattle.table_steps.specs.declared.view.Kind.TheVariants.{Held, Undo, Owed, Both, Credit, Credited, Claim, Granted, Refusing, Denied}
-use Rattle.table_steps.specs.declared.view.Mark.TheVariants.{Live, New, Over, ToMark, Sticking}
+use Rattle.table_steps.specs.declared.view.SemaphoreRole.TheVariants.{Held, Undo, Owed, Both, Credit, Credited, Claim, Granted, Refusing, Denied}
+use Rattle.table_steps.specs.declared.view.SeatMark.TheVariants.{Live, New, Over, ToMark, Sticking}
 use Rattle.table_steps.specs.declared.view.Note.TheVariants.{Sems}
 use Rattle.table_steps.specs.inside.Accounts.{Coord, duty, sem, mark, turning, owing, CreditPart, Readings, Balanced, Moves, with_credit, only_puts, only_takes, starts_of}
 use Rattle.table_steps.specs.Credits.{first_credit}

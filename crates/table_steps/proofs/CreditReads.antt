@@ -3,7 +3,7 @@ use Rattle.std.proofs.Common.{◌≡◌, ℕ, ◌+◌, ◌<◌, true, List, leng
 use Rattle.std.specs.Prelude.{slice_index, nat_lt}
 use Rattle.std.proofs.lemmas.Bool.Decides.{nat_tests}
 use Rattle.task_graph.specs.NetRows.{NetRows}
-use Rattle.table_steps.specs.inside.Items.{Raised}
+use Rattle.table_steps.specs.inside.Duties.{Raised}
 use Rattle.table_steps.specs.inside.Accounts.{reading, edges_from, with_credit}
 use Rattle.table_steps.proofs.Reading.{tells_is, else_word, else_edge, else_unit, else_credit}
 use Rattle.table_steps.proofs.Raising.{raised_by}

@@ -11,13 +11,13 @@ use Rattle.task_graph.specs.NetRows.{NetRows}
 use Rattle.journal_rules.specs.SemaphoreRule.{puts, takes, IsOverRelease}
 use Rattle.journal_rules.specs.declared.entry.Entry.{Entry}
 use Rattle.journal_rules.specs.Counts.{start_at, started, is_start, starts}
-use Rattle.table_steps.specs.inside.Items.{runs, is_run}
+use Rattle.table_steps.specs.inside.Duties.{runs, is_run}
 use Rattle.table_steps.specs.Giving.{times, one_if}
-use Rattle.table_steps.specs.declared.view.Item.TheVariants.{Open}
+use Rattle.table_steps.specs.declared.view.TurnDuty.TheVariants.{Open}
 use Rattle.table_steps.proofs.Counting.{is_one}
 use Rattle.table_steps.proofs.EndDuties.{Runs, runs_of}
-use Rattle.table_steps.specs.declared.view.Kind.TheVariants.{Held, Undo, Owed, Both, Credit, Credited, Claim, Granted, Refusing, Denied}
-use Rattle.table_steps.specs.declared.view.Mark.TheVariants.{Live, New, Over, ToMark, Sticking}
+use Rattle.table_steps.specs.declared.view.SemaphoreRole.TheVariants.{Held, Undo, Owed, Both, Credit, Credited, Claim, Granted, Refusing, Denied}
+use Rattle.table_steps.specs.declared.view.SeatMark.TheVariants.{Live, New, Over, ToMark, Sticking}
 use Rattle.table_steps.specs.declared.view.Note.{Note}
 use Rattle.table_steps.specs.declared.view.Note.TheVariants.{Duty, Sems, Has, Unfit}
 use Rattle.table_steps.specs.inside.Accounts.{Coord, duty, sem, mark, busy, resting, turning, owing, telling, weight, weigh, total, starts_of, reading, KeepsAccounts}

@@ -10,18 +10,18 @@ use Rattle.journal_rules.specs.declared.entry.Entry.{Entry}
 use Rattle.journal_rules.specs.declared.entry.Entry.TheVariants.{Start, End}
 use Rattle.journal_rules.specs.DataRule.{edges_of}
 use Rattle.journal_rules.proofs.Tallying.{count_by_push_no}
-use Rattle.table_steps.specs.declared.view.Item.TheVariants.{Told, Collecting, Ticket, Open, Owes}
-use Rattle.table_steps.specs.inside.Items.{MayRelease}
+use Rattle.table_steps.specs.declared.view.TurnDuty.TheVariants.{Told, Collecting, Ticket, Open, Owes}
+use Rattle.table_steps.specs.inside.Duties.{MayRelease}
 use Rattle.table_steps.specs.Giving.{MayGive}
 use Rattle.table_steps.specs.Holding.{HoldsAll, PutsEach, TakesAlone}
-use Rattle.table_steps.specs.declared.view.Kind.TheVariants.{Held, Undo, Owed, Both, Credit, Credited, Claim, Granted, Refusing, Denied}
+use Rattle.table_steps.specs.declared.view.SemaphoreRole.TheVariants.{Held, Undo, Owed, Both, Credit, Credited, Claim, Granted, Refusing, Denied}
 use Rattle.table_steps.specs.inside.UnitKinds.{held_notes}
 use Rattle.table_steps.specs.inside.Kinds.{started_notes}
 use Rattle.table_steps.proofs.Counting.{times_append}
 use Rattle.table_steps.proofs.Sharing.{puts_back, takes_alone, puts_alone}
 use Rattle.table_steps.proofs.UnitAccounts.{held_weigh}
 use Rattle.table_steps.proofs.Raising.{told_last}
-use Rattle.table_steps.specs.declared.view.Mark.TheVariants.{Live, New, Over, ToMark}
+use Rattle.table_steps.specs.declared.view.SeatMark.TheVariants.{Live, New, Over, ToMark}
 use Rattle.table_steps.specs.declared.view.Note.{Note}
 use Rattle.table_steps.specs.declared.view.Note.TheVariants.{Duty, Sems, Has}
 use Rattle.table_steps.specs.inside.Accounts.{duty, sem, mark, turning, owing, resting, weigh, total, Balanced, Moves, is_drop, with_clock, reading, KeepsAccounts}

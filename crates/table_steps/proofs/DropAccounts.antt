@@ -20,14 +20,14 @@ use Rattle.journal_rules.specs.Complete.{is_limited}
 use Rattle.journal_rules.specs.ShapeLegal.{MayFollow, DropWhyInRange}
 use Rattle.journal_rules.proofs.Snoc.{count_by_push, EachAfter-push, start_at_push_below, start_at_push_last, is_open_push_below}
 use Rattle.journal_rules.proofs.Tallying.{count_by_push_no, count_by_push_yes, given_push, and_true, and_false}
-use Rattle.table_steps.specs.declared.view.Item.TheVariants.{Told, Collecting, Owes}
-use Rattle.table_steps.specs.inside.Items.{DutyCoord, place, runs, running, tickets, token, source, weakly, awaits, unset, held_weight, is_run, MayRelease, CanRelease}
+use Rattle.table_steps.specs.declared.view.TurnDuty.TheVariants.{Told, Collecting, Owes}
+use Rattle.table_steps.specs.inside.Duties.{DutyCoord, place, runs, running, tickets, token, source, weakly, awaits, unset, held_weight, is_run, MayRelease, CanRelease}
 use Rattle.table_steps.specs.Giving.{one_if, times}
 use Rattle.table_steps.proofs.Counting.{times_strong_in, used_at_more, more_source, more_strong, more_weak, run_past, CauseFits}
 use Rattle.table_steps.proofs.StartDuties.{one_self, below_more}
-use Rattle.table_steps.specs.declared.view.Kind.{Kind}
-use Rattle.table_steps.specs.declared.view.Kind.TheVariants.{Held, Undo, Owed, Both, Credit, Credited, Claim, Granted, Refusing, Denied}
-use Rattle.table_steps.specs.declared.view.Mark.TheVariants.{Live, New, Over, ToMark}
+use Rattle.table_steps.specs.declared.view.SemaphoreRole.{SemaphoreRole}
+use Rattle.table_steps.specs.declared.view.SemaphoreRole.TheVariants.{Held, Undo, Owed, Both, Credit, Credited, Claim, Granted, Refusing, Denied}
+use Rattle.table_steps.specs.declared.view.SeatMark.TheVariants.{Live, New, Over, ToMark}
 use Rattle.table_steps.specs.declared.view.Note.TheVariants.{Duty}
 use Rattle.table_steps.specs.inside.Accounts.{Coord, duty, sem, mark, turning, owing, weigh, is_last, AdmissionPart, HaltPart, StuckPart, Readings, Balanced, with_clock, only_takes, is_drop, starts_of}
 use Rattle.table_steps.proofs.Journals.{back_push, closed_still}
@@ -93,7 +93,7 @@ no_ticket t (Weak f) taken = refl
 -- what a step moves that draws a Drop: a release is used, and no unit or live turn
 pub record DropMoves (net : NetRows) (n : ℕ) (x : Entry) (t : ℕ) (cause : Cause) (T T' : Coord → ℕ) : Type 0 where
   pub duties : (c : DutyCoord) → T' (duty c) + weigh (duty c) (Duty (Collecting t cause (edges_of net t cause) []) ∷ []) ≡ T (duty c) + weigh (duty c) (Duty (Owes []) ∷ Duty (Told n x) ∷ [])
-  pub sems : (k : Kind) (s : ℕ) → T' (sem k s) ≡ T (sem k s)
+  pub sems : (k : SemaphoreRole) (s : ℕ) → T' (sem k s) ≡ T (sem k s)
   pub live : T' (mark Live) ≡ T (mark Live)
   pub to_mark : T' (mark ToMark) ≡ T (mark ToMark)
   pub new : T' (mark New) ≡ T (mark New)

@@ -10,8 +10,8 @@ use Rattle.journal_rules.specs.declared.entry.Entry.TheVariants.{End}
 use Rattle.journal_rules.specs.Counts.{uses, is_source, start_at, is_open}
 use Rattle.journal_rules.proofs.Snoc.{count_by_push}
 use Rattle.journal_rules.proofs.Tallying.{count_once, given_push}
-use Rattle.table_steps.specs.declared.view.Item.TheVariants.{Told, Open, Owes}
-use Rattle.table_steps.specs.inside.Items.{DutyCoord, token, source, weakly, awaits, unset, is_run, EdgePart, DutyPart, DutyMoves}
+use Rattle.table_steps.specs.declared.view.TurnDuty.TheVariants.{Told, Open, Owes}
+use Rattle.table_steps.specs.inside.Duties.{DutyCoord, token, source, weakly, awaits, unset, is_run, EdgePart, DutyPart, DutyMoves}
 use Rattle.table_steps.specs.Giving.{MayGive}
 use Rattle.table_steps.proofs.Counting.{times_count, used_at_end, run_past}
 

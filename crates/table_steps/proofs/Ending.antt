@@ -13,14 +13,14 @@ use Rattle.journal_rules.specs.Complete.{is_limited}
 use Rattle.journal_rules.specs.ShapeLegal.{MayFollow}
 use Rattle.journal_rules.proofs.Snoc.{count_by_push, EachAfter-push, start_at_push_below}
 use Rattle.journal_rules.proofs.Tallying.{count_by_push_no, count_by_push_yes}
-use Rattle.table_steps.specs.declared.view.Item.TheVariants.{Told, Open, Owes}
-use Rattle.table_steps.specs.inside.Items.{DutyCoord, place, runs, running, tickets, is_run, DutyMoves}
+use Rattle.table_steps.specs.declared.view.TurnDuty.TheVariants.{Told, Open, Owes}
+use Rattle.table_steps.specs.inside.Duties.{DutyCoord, place, runs, running, tickets, is_run, DutyMoves}
 use Rattle.table_steps.specs.Giving.{one_if, MayGive}
 use Rattle.table_steps.proofs.Counting.{is_one}
 use Rattle.table_steps.proofs.StartDuties.{below_more}
 use Rattle.table_steps.proofs.EndDuties.{Runs, runs_of, end_edges, end_duties}
-use Rattle.table_steps.specs.declared.view.Kind.TheVariants.{Held, Undo, Owed, Both, Credit, Credited, Claim, Granted, Refusing, Denied}
-use Rattle.table_steps.specs.declared.view.Mark.TheVariants.{Live, New, Over, ToMark}
+use Rattle.table_steps.specs.declared.view.SemaphoreRole.TheVariants.{Held, Undo, Owed, Both, Credit, Credited, Claim, Granted, Refusing, Denied}
+use Rattle.table_steps.specs.declared.view.SeatMark.TheVariants.{Live, New, Over, ToMark}
 use Rattle.table_steps.specs.declared.view.Note.TheVariants.{Duty}
 use Rattle.table_steps.specs.inside.Accounts.{Coord, duty, sem, mark, turning, owing, weigh, is_last, HaltPart, Readings, Balanced, with_clock, is_drop, only_takes, starts_of}
 use Rattle.table_steps.proofs.Journals.{back_push, closed_more, run_close}

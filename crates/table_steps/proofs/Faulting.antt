@@ -18,14 +18,14 @@ use Rattle.journal_rules.specs.Complete.{is_limited}
 use Rattle.journal_rules.specs.ShapeLegal.{MayFollow, WhyInRange}
 use Rattle.journal_rules.proofs.Snoc.{count_by_push, EachAfter-push}
 use Rattle.journal_rules.proofs.Tallying.{count_by_push_no, count_by_push_yes, given_push}
-use Rattle.table_steps.specs.declared.view.Item.TheVariants.{Told, Open, Owes}
-use Rattle.table_steps.specs.inside.Items.{DutyCoord, place, runs, running, tickets, token, source, weakly, awaits, unset, is_run}
+use Rattle.table_steps.specs.declared.view.TurnDuty.TheVariants.{Told, Open, Owes}
+use Rattle.table_steps.specs.inside.Duties.{DutyCoord, place, runs, running, tickets, token, source, weakly, awaits, unset, is_run}
 use Rattle.table_steps.specs.Giving.{one_if}
 use Rattle.table_steps.proofs.Counting.{is_one, used_at_more, more_source}
 use Rattle.table_steps.proofs.StartDuties.{below_more}
 use Rattle.table_steps.proofs.EndDuties.{Runs, runs_of}
-use Rattle.table_steps.specs.declared.view.Kind.TheVariants.{Held, Undo, Owed, Both, Credit, Credited, Claim, Granted, Refusing, Denied}
-use Rattle.table_steps.specs.declared.view.Mark.TheVariants.{Live, New, Over, ToMark}
+use Rattle.table_steps.specs.declared.view.SemaphoreRole.TheVariants.{Held, Undo, Owed, Both, Credit, Credited, Claim, Granted, Refusing, Denied}
+use Rattle.table_steps.specs.declared.view.SeatMark.TheVariants.{Live, New, Over, ToMark}
 use Rattle.table_steps.specs.declared.view.Note.TheVariants.{Duty}
 use Rattle.table_steps.specs.inside.Accounts.{Coord, duty, sem, mark, turning, owing, weigh, is_last, HaltPart, Readings, Balanced, with_clock, only_takes, is_drop, starts_of}
 use Rattle.table_steps.proofs.Journals.{back_push, closed_more, run_close}

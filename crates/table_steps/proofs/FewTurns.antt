@@ -9,13 +9,13 @@ use Rattle.journal_rules.specs.declared.entry.Cause.TheVariants.{Source, Strong,
 use Rattle.journal_rules.specs.declared.entry.Entry.{Entry}
 use Rattle.journal_rules.specs.declared.entry.Entry.TheVariants.{Start, End, Fault, Drop}
 use Rattle.journal_rules.specs.Counts.{is_start, starts}
-use Rattle.table_steps.specs.declared.view.Item.TheVariants.{Told, Fresh, Collecting, Ticket, Open, Owes, Counting}
-use Rattle.table_steps.specs.inside.Items.{running, token, source, weakly, awaits, unset, nil}
+use Rattle.table_steps.specs.declared.view.TurnDuty.TheVariants.{Told, Fresh, Collecting, Ticket, Open, Owes, Counting}
+use Rattle.table_steps.specs.inside.Duties.{running, token, source, weakly, awaits, unset, nil}
 use Rattle.table_steps.specs.Giving.{times, one_if}
 use Rattle.table_steps.proofs.Counting.{times_append, times_strong_in}
 use Rattle.table_steps.proofs.StartDuties.{one_self}
 use Rattle.table_steps.proofs.CountDuties.{into_strong, any_most}
-use Rattle.table_steps.specs.declared.view.Mark.TheVariants.{Live, New}
+use Rattle.table_steps.specs.declared.view.SeatMark.TheVariants.{Live, New}
 use Rattle.table_steps.specs.declared.view.Note.{Note}
 use Rattle.table_steps.specs.declared.view.Note.TheVariants.{Duty, Sems, Has, Unfit, Lies}
 use Rattle.table_steps.specs.inside.Accounts.{FitsNote, AllFitNotes, Stands, AllStand, Coord, duty, mark, turning, owing, weight, weigh, total, is_last, reading, KeepsAccounts}

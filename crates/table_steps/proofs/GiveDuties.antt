@@ -5,8 +5,8 @@ use Rattle.std.proofs.lemmas.Bool.{cases_eq, false≢true}
 use Rattle.task_graph.specs.NetRows.{NetRows}
 use Rattle.task_graph.specs.Net.{is_weak}
 use Rattle.journal_rules.specs.declared.entry.Entry.{Entry}
-use Rattle.table_steps.specs.declared.view.Item.TheVariants.{Owes}
-use Rattle.table_steps.specs.inside.Items.{DutyCoord, token, source, weakly, awaits, unset, any, EdgePart, DutyPart, DutyMoves, Raised, after_give}
+use Rattle.table_steps.specs.declared.view.TurnDuty.TheVariants.{Owes}
+use Rattle.table_steps.specs.inside.Duties.{DutyCoord, token, source, weakly, awaits, unset, any, EdgePart, DutyPart, DutyMoves, Raised, after_give}
 use Rattle.table_steps.specs.Giving.{one_if}
 use Rattle.table_steps.proofs.StartDuties.{one_self}
 

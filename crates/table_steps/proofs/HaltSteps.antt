@@ -20,11 +20,11 @@ use Rattle.journal_rules.specs.Counts.{start_at}
 use Rattle.journal_rules.specs.SemaphoreRule.{IsOverRelease, OverReleaseRule}
 use Rattle.journal_rules.specs.ShapeLegal.{WhyInRange}
 use Rattle.journal_rules.proofs.Tallying.{count_by_push_no, count_by_push_yes}
-use Rattle.table_steps.specs.declared.view.Item.{Item}
-use Rattle.table_steps.specs.declared.view.Item.TheVariants.{Told, Collecting, Open, Owes}
-use Rattle.table_steps.specs.inside.Items.{MayRelease}
-use Rattle.table_steps.specs.declared.view.Kind.TheVariants.{Held, Undo, Owed, Both, Credit, Credited, Claim, Granted, Refusing, Denied}
-use Rattle.table_steps.specs.declared.view.Mark.TheVariants.{Live, New, Over, ToMark, Halted, Asked}
+use Rattle.table_steps.specs.declared.view.TurnDuty.{TurnDuty}
+use Rattle.table_steps.specs.declared.view.TurnDuty.TheVariants.{Told, Collecting, Open, Owes}
+use Rattle.table_steps.specs.inside.Duties.{MayRelease}
+use Rattle.table_steps.specs.declared.view.SemaphoreRole.TheVariants.{Held, Undo, Owed, Both, Credit, Credited, Claim, Granted, Refusing, Denied}
+use Rattle.table_steps.specs.declared.view.SeatMark.TheVariants.{Live, New, Over, ToMark, Halted, Asked}
 use Rattle.table_steps.specs.declared.view.Note.{Note}
 use Rattle.table_steps.specs.declared.view.Note.TheVariants.{Duty, Sems, Has, Unfit}
 use Rattle.table_steps.specs.inside.Accounts.{AllStand, duty, sem, mark, turning, owing, resting, weigh, total, is_drop, reading, KeepsAccounts}
@@ -52,7 +52,7 @@ mark_set net limit s h id carried rest lone at =
     (λ moved. marked_kept net limit (reading net s.words) h.counted h.journal (λ c. total c s.views) _ 1 h.balanced (λ z. omega arith) (λ c. omega (arith, moved c)))
 
 -- a halt load that found the mark
-halt_loaded : {S : Type 0} (net : NetRows) (limit : ℕ) (s : St S) (h : KeepsAccounts net limit s) (id : ℕ) (carried : List (ℕ × S)) (x : Item) (rest : List Note) → weigh resting rest ≡ 0 → get_elem? s.views id ≡ some (Duty x ∷ Has Live ∷ rest) → slice_index s.words 32 ≢ 0
+halt_loaded : {S : Type 0} (net : NetRows) (limit : ℕ) (s : St S) (h : KeepsAccounts net limit s) (id : ℕ) (carried : List (ℕ × S)) (x : TurnDuty) (rest : List Note) → weigh resting rest ≡ 0 → get_elem? s.views id ≡ some (Duty x ∷ Has Live ∷ rest) → slice_index s.words 32 ≢ 0
     → KeepsAccounts net limit (stepped s 32 (slice_index s.words 32) id carried (Duty x ∷ Has Live ∷ Has Halted ∷ rest) keeps)
 halt_loaded net limit s h id carried x rest lone at found =
     let old = Duty x ∷ Has Live ∷ [] in let new = Duty x ∷ Has Live ∷ Has Halted ∷ [] in
@@ -62,7 +62,7 @@ halt_loaded net limit s h id carried x rest lone at found =
     (λ moved. alike_kept net limit (reading net s.words) h.counted h.journal (λ c. total c s.views) _ h.balanced (λ c a. omega (arith, moved c, marks_none c a (Has Halted ∷ []) tt)))
 
 -- and one that found none
-halt_asked : {S : Type 0} (net : NetRows) (limit : ℕ) (s : St S) (h : KeepsAccounts net limit s) (id : ℕ) (carried : List (ℕ × S)) (x : Item) (rest : List Note) → weigh resting rest ≡ 0 → get_elem? s.views id ≡ some (Duty x ∷ Has Live ∷ rest)
+halt_asked : {S : Type 0} (net : NetRows) (limit : ℕ) (s : St S) (h : KeepsAccounts net limit s) (id : ℕ) (carried : List (ℕ × S)) (x : TurnDuty) (rest : List Note) → weigh resting rest ≡ 0 → get_elem? s.views id ≡ some (Duty x ∷ Has Live ∷ rest)
     → KeepsAccounts net limit (stepped s 32 (slice_index s.words 32) id carried (Duty x ∷ Has Live ∷ Has Asked ∷ rest) keeps)
 halt_asked net limit s h id carried x rest lone at =
     let old = Duty x ∷ Has Live ∷ [] in let new = Duty x ∷ Has Live ∷ Has Asked ∷ [] in

@@ -3,8 +3,8 @@ use Rattle.std.proofs.Common.{◌≡◌, ◌≢◌, ℕ, zero, suc, ◌≤◌, L
 use Rattle.task_graph.specs.NetRows.{NetRows}
 use Rattle.journal_rules.specs.declared.entry.Entry.{Entry}
 use Rattle.journal_rules.specs.Counts.{faults}
-use Rattle.table_steps.specs.inside.Items.{DutyCoord, tickets}
-use Rattle.table_steps.specs.declared.view.Mark.TheVariants.{Live, New, Over, ToMark, Sticking}
+use Rattle.table_steps.specs.inside.Duties.{DutyCoord, tickets}
+use Rattle.table_steps.specs.declared.view.SeatMark.TheVariants.{Live, New, Over, ToMark, Sticking}
 use Rattle.table_steps.specs.declared.view.Note.TheVariants.{Has}
 use Rattle.table_steps.specs.inside.Accounts.{Coord, duty, sem, mark, turning, owing, HaltPart, Readings, Balanced, Moves, with_halt}
 use Rattle.table_steps.proofs.Still.{journal_still, edges_still, duties_still, admission_still, turns_still, stuck_still}

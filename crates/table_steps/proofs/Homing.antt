@@ -3,8 +3,8 @@ use Rattle.std.proofs.Common.{◌≡◌, ◌≢◌, ℕ, zero, suc, ◌+◌, ◌
 use mathlib.Core.Option.{Option, some, some-injective, some-ne-none}
 use lib.ListN.{get_elem?}
 use Rattle.task_graph.specs.NetRows.{NetRows}
-use Rattle.table_steps.specs.declared.view.Item.{Item}
-use Rattle.table_steps.specs.declared.view.Item.TheVariants.{Told, Fresh, Collecting, Ticket, Open, Owes, Counting}
+use Rattle.table_steps.specs.declared.view.TurnDuty.{TurnDuty}
+use Rattle.table_steps.specs.declared.view.TurnDuty.TheVariants.{Told, Fresh, Collecting, Ticket, Open, Owes, Counting}
 use Rattle.table_steps.specs.declared.view.Lot.{Lot}
 use Rattle.table_steps.specs.declared.view.Lot.TheVariants.{Putting, Taking}
 use Rattle.table_steps.specs.declared.view.Note.{Note}
@@ -12,7 +12,7 @@ use Rattle.table_steps.specs.declared.view.Note.TheVariants.{Duty, Sems, Has, Un
 use Rattle.table_steps.specs.inside.Accounts.{first_notes, marks_from, mark_at}
 use Rattle.table_steps.specs.inside.Kinds.{wrap, given_notes, counted_notes}
 use Rattle.table_steps.specs.inside.UnitKinds.{held_notes}
-use Rattle.table_steps.specs.inside.Slots.{SlotCoord, lot, item_slots, slot_weigh, slot_total, holders, lies_in}
+use Rattle.table_steps.specs.inside.Slots.{SlotCoord, lot, duty_slots, slot_weigh, slot_total, holders, lies_in}
 use Rattle.table_steps.specs.inside.SlotMarks.{HomeIs, Homes}
 use Rattle.table_steps.proofs.Lots.{slot_append}
 use Rattle.table_steps.proofs.Marking.{RestMarks, rest_head}
@@ -29,18 +29,18 @@ slot_total_push c [] w = omega arith
 slot_total_push c (x ∷ xs) w = omega (arith, slot_total_push c xs w)
 
 -- LOTS OF A VIEW
-pub item_lot : (k : Lot) (e : ℕ) (x : Item) → item_slots (lot k e) x ≡ 0
-item_lot k e (Told n y) = refl
-item_lot k e (Fresh t cause) = refl
-item_lot k e (Collecting t cause taken left) = refl
-item_lot k e Ticket = refl
-item_lot k e (Open n t) = refl
-item_lot k e (Owes gives) = refl
-item_lot k e (Counting f) = refl
+pub duty_lot : (k : Lot) (e : ℕ) (x : TurnDuty) → duty_slots (lot k e) x ≡ 0
+duty_lot k e (Told n y) = refl
+duty_lot k e (Fresh t cause) = refl
+duty_lot k e (Collecting t cause taken left) = refl
+duty_lot k e Ticket = refl
+duty_lot k e (Open n t) = refl
+duty_lot k e (Owes gives) = refl
+duty_lot k e (Counting f) = refl
 
 pub lies_weigh : (k : Lot) (e : ℕ) (v : List Note) → slot_weigh (lot k e) v ≡ slot_weigh (lot k e) (lies_in v)
 lies_weigh k e [] = refl
-lies_weigh k e (Duty x ∷ xs) = omega (arith, item_lot k e x, lies_weigh k e xs)
+lies_weigh k e (Duty x ∷ xs) = omega (arith, duty_lot k e x, lies_weigh k e xs)
 lies_weigh k e (Sems j l ∷ xs) = omega (arith, lies_weigh k e xs)
 lies_weigh k e (Has m ∷ xs) = omega (arith, lies_weigh k e xs)
 lies_weigh k e (Unfit s n t ∷ xs) = omega (arith, lies_weigh k e xs)
@@ -61,11 +61,11 @@ pub held_lies : (l : List ℕ) → lies_in (held_notes l) ≡ []
 held_lies [] = refl
 held_lies (s ∷ l) = refl
 
-pub wrap_lies : (xs : List Item) → lies_in (wrap xs) ≡ []
+pub wrap_lies : (xs : List TurnDuty) → lies_in (wrap xs) ≡ []
 wrap_lies [] = refl
 wrap_lies (x ∷ xs) = wrap_lies xs
 
-pub first_lies : (xs : List Item) → lies_in (first_notes xs) ≡ []
+pub first_lies : (xs : List TurnDuty) → lies_in (first_notes xs) ≡ []
 first_lies [] = refl
 first_lies (x ∷ xs) = first_lies xs
 

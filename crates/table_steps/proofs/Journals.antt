@@ -14,7 +14,7 @@ use Rattle.journal_rules.specs.Counts.{start_at, started, closes, is_open}
 use Rattle.journal_rules.specs.SemaphoreRule.{takes, puts, gives_back, back, closed_takers, other_putters, IsOverRelease}
 use Rattle.journal_rules.proofs.Snoc.{count_by_push, start_at_push_below, start_at_push_last, is_open_push_below}
 use Rattle.journal_rules.proofs.Tallying.{count_by_push_no, and_true, and_false}
-use Rattle.table_steps.specs.inside.Items.{is_run}
+use Rattle.table_steps.specs.inside.Duties.{is_run}
 use Rattle.table_steps.specs.Giving.{one_if}
 use Rattle.table_steps.proofs.Counting.{run_past}
 use Rattle.table_steps.specs.inside.Accounts.{only_takes}

@@ -5,8 +5,8 @@ use mathlib.Core.Option.{some}
 use lib.ListN.{get_elem?}
 use Rattle.atomic_table.specs.Table.{Act, keeps, Valid, carried_after, stepped, Allows}
 use Rattle.task_graph.specs.NetRows.{NetRows}
-use Rattle.table_steps.specs.declared.view.Item.TheVariants.{Owes}
-use Rattle.table_steps.specs.declared.view.Mark.TheVariants.{Live}
+use Rattle.table_steps.specs.declared.view.TurnDuty.TheVariants.{Owes}
+use Rattle.table_steps.specs.declared.view.SeatMark.TheVariants.{Live}
 use Rattle.table_steps.specs.declared.view.Note.{Note}
 use Rattle.table_steps.specs.declared.view.Note.TheVariants.{Duty, Has}
 use Rattle.table_steps.specs.inside.Accounts.{mark, total, KeepsAccounts}

@@ -8,7 +8,7 @@ use Rattle.journal_rules.specs.declared.entry.Entry.TheVariants.{Start, End}
 use Rattle.journal_rules.specs.Counts.{gives_edge}
 use Rattle.journal_rules.specs.DataRule.{DataRule, edges_of, has_part}
 use Rattle.table_steps.specs.Giving.{times}
-use Rattle.table_steps.specs.declared.view.Item.TheVariants.{Collecting, Owes}
+use Rattle.table_steps.specs.declared.view.TurnDuty.TheVariants.{Collecting, Owes}
 use Rattle.table_steps.specs.declared.view.Lot.TheVariants.{Ours, Putting, Put, Awaited, Taking, Fetched, Found}
 use Rattle.table_steps.specs.declared.view.Note.TheVariants.{Duty}
 use Rattle.table_steps.specs.inside.Parcels.{Owned}

@@ -8,10 +8,10 @@ use Rattle.journal_rules.specs.declared.entry.Part.TheVariants.{From, Nothing}
 use Rattle.journal_rules.specs.declared.entry.Entry.{Entry}
 use Rattle.journal_rules.specs.Calm.{IsCalm}
 use Rattle.table_steps.specs.Giving.{one_if}
-use Rattle.table_steps.specs.declared.view.Item.TheVariants.{Collecting, Owes}
+use Rattle.table_steps.specs.declared.view.TurnDuty.TheVariants.{Collecting, Owes}
 use Rattle.table_steps.specs.declared.view.Lot.TheVariants.{Ours, Putting, Put, Awaited, Taking, Fetched, Found}
 use Rattle.table_steps.specs.declared.view.Note.TheVariants.{Duty, Lies}
-use Rattle.table_steps.specs.inside.Items.{Raised}
+use Rattle.table_steps.specs.inside.Duties.{Raised}
 use Rattle.table_steps.specs.inside.Parcels.{same_part}
 use Rattle.table_steps.specs.inside.Slots.{SlotCoord, parcel, lot, owed, collected, left_at, SlotMoves, fetched_at, holders, SlotPart, SlotBounds}
 use Rattle.table_steps.proofs.Calming.{calm_now}

@@ -7,16 +7,16 @@ use Rattle.journal_rules.specs.declared.entry.Part.TheVariants.{From, Nothing}
 use Rattle.journal_rules.specs.declared.entry.Entry.{Entry}
 use Rattle.journal_rules.specs.Calm.{IsCalm}
 use Rattle.table_steps.specs.Giving.{one_if, times}
-use Rattle.table_steps.specs.declared.view.Item.{Item}
-use Rattle.table_steps.specs.declared.view.Item.TheVariants.{Told, Fresh, Collecting, Ticket, Open, Owes, Counting}
+use Rattle.table_steps.specs.declared.view.TurnDuty.{TurnDuty}
+use Rattle.table_steps.specs.declared.view.TurnDuty.TheVariants.{Told, Fresh, Collecting, Ticket, Open, Owes, Counting}
 use Rattle.table_steps.specs.declared.view.Lot.{Lot}
 use Rattle.table_steps.specs.declared.view.Lot.TheVariants.{Ours, Putting, Put, Awaited, Taking, Fetched, Found}
 use Rattle.table_steps.specs.declared.view.Note.{Note}
 use Rattle.table_steps.specs.declared.view.Note.TheVariants.{Duty, Sems, Has, Unfit, Lies}
-use Rattle.table_steps.specs.inside.Items.{token, duty_weight}
+use Rattle.table_steps.specs.inside.Duties.{token, duty_weight}
 use Rattle.table_steps.specs.inside.Accounts.{duty, weigh}
 use Rattle.table_steps.specs.inside.Parcels.{same_part, parts_count}
-use Rattle.table_steps.specs.inside.Slots.{SlotCoord, parcel, lot, owed, collected, left_at, item_slots, slot_weight, slot_weigh, slot_total, SlotPart, SlotBounds, awaited_lots, found_lots, our_lots}
+use Rattle.table_steps.specs.inside.Slots.{SlotCoord, parcel, lot, owed, collected, left_at, duty_slots, slot_weight, slot_weigh, slot_total, SlotPart, SlotBounds, awaited_lots, found_lots, our_lots}
 use Rattle.table_steps.proofs.Calming.{calm_now}
 
 pub slot_append : (c : SlotCoord) (xs ys : List Note) → slot_weigh c (xs ++ ys) ≡ slot_weigh c xs + slot_weigh c ys
@@ -39,19 +39,19 @@ parcel_lot e p Taking f q = omega (arith, part_bit (f == e) (same_part q p))
 parcel_lot e p Fetched f q = omega (arith, part_bit (f == e) (same_part q p))
 parcel_lot e p Found f q = omega (arith, part_bit (f == e) (same_part q p))
 
-item_parcel : (e : ℕ) (p : Part) (x : Item) → item_slots (parcel e p) x ≡ 0
-item_parcel e p (Told n y) = refl
-item_parcel e p (Fresh t cause) = refl
-item_parcel e p (Collecting t cause taken left) = refl
-item_parcel e p Ticket = refl
-item_parcel e p (Open n t) = refl
-item_parcel e p (Owes gives) = refl
-item_parcel e p (Counting f) = refl
+duty_parcel : (e : ℕ) (p : Part) (x : TurnDuty) → duty_slots (parcel e p) x ≡ 0
+duty_parcel e p (Told n y) = refl
+duty_parcel e p (Fresh t cause) = refl
+duty_parcel e p (Collecting t cause taken left) = refl
+duty_parcel e p Ticket = refl
+duty_parcel e p (Open n t) = refl
+duty_parcel e p (Owes gives) = refl
+duty_parcel e p (Counting f) = refl
 
 pub parcels_bound : (e : ℕ) (p : Part) (v : List Note) → slot_weigh (parcel e p) v
     ≤ slot_weigh (lot Ours e) v + slot_weigh (lot Putting e) v + slot_weigh (lot Taking e) v + slot_weigh (lot Fetched e) v + slot_weigh (lot Found e) v
 parcels_bound e p [] = omega arith
-parcels_bound e p (Duty x ∷ xs) = omega (arith, item_parcel e p x, parcels_bound e p xs)
+parcels_bound e p (Duty x ∷ xs) = omega (arith, duty_parcel e p x, parcels_bound e p xs)
 parcels_bound e p (Sems k l ∷ xs) = omega (arith, parcels_bound e p xs)
 parcels_bound e p (Has m ∷ xs) = omega (arith, parcels_bound e p xs)
 parcels_bound e p (Unfit s n t ∷ xs) = omega (arith, parcels_bound e p xs)
@@ -63,18 +63,18 @@ parcels_bound_all e p [] = omega arith
 parcels_bound_all e p (v ∷ vs) = omega (arith, parcels_bound e p v, parcels_bound_all e p vs)
 
 -- tokens that turns have are owed or collected
-item_tokens : (e : ℕ) (x : Item) → duty_weight (token e) x ≡ item_slots (owed e) x + item_slots (collected e) x
-item_tokens e (Told n y) = refl
-item_tokens e (Fresh t cause) = refl
-item_tokens e (Collecting t cause taken left) = omega arith
-item_tokens e Ticket = refl
-item_tokens e (Open n t) = refl
-item_tokens e (Owes gives) = omega arith
-item_tokens e (Counting f) = refl
+duty_tokens : (e : ℕ) (x : TurnDuty) → duty_weight (token e) x ≡ duty_slots (owed e) x + duty_slots (collected e) x
+duty_tokens e (Told n y) = refl
+duty_tokens e (Fresh t cause) = refl
+duty_tokens e (Collecting t cause taken left) = omega arith
+duty_tokens e Ticket = refl
+duty_tokens e (Open n t) = refl
+duty_tokens e (Owes gives) = omega arith
+duty_tokens e (Counting f) = refl
 
 pub tokens_of : (e : ℕ) (v : List Note) → weigh (duty (token e)) v ≡ slot_weigh (owed e) v + slot_weigh (collected e) v
 tokens_of e [] = refl
-tokens_of e (Duty x ∷ xs) = omega (arith, item_tokens e x, tokens_of e xs)
+tokens_of e (Duty x ∷ xs) = omega (arith, duty_tokens e x, tokens_of e xs)
 tokens_of e (Sems k l ∷ xs) = omega (arith, tokens_of e xs)
 tokens_of e (Has m ∷ xs) = omega (arith, tokens_of e xs)
 tokens_of e (Unfit s n t ∷ xs) = omega (arith, tokens_of e xs)

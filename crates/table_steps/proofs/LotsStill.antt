@@ -5,10 +5,10 @@ use Rattle.task_graph.specs.NetRows.{NetRows}
 use Rattle.journal_rules.specs.SemaphoreRule.{max_of}
 use Rattle.table_steps.specs.Credits.{first_credit}
 use Rattle.table_steps.specs.Holding.{without}
-use Rattle.table_steps.specs.declared.view.Item.{Item}
-use Rattle.table_steps.specs.declared.view.Item.TheVariants.{Told, Fresh, Collecting, Ticket, Open, Owes, Counting}
-use Rattle.table_steps.specs.declared.view.Kind.TheVariants.{Held, Undo, Owed, Both, Credit, Credited, Claim, Granted, Refusing}
-use Rattle.table_steps.specs.declared.view.Mark.TheVariants.{Live, New, Over, ToMark, Halted, Asked}
+use Rattle.table_steps.specs.declared.view.TurnDuty.{TurnDuty}
+use Rattle.table_steps.specs.declared.view.TurnDuty.TheVariants.{Told, Fresh, Collecting, Ticket, Open, Owes, Counting}
+use Rattle.table_steps.specs.declared.view.SemaphoreRole.TheVariants.{Held, Undo, Owed, Both, Credit, Credited, Claim, Granted, Refusing}
+use Rattle.table_steps.specs.declared.view.SeatMark.TheVariants.{Live, New, Over, ToMark, Halted, Asked}
 use Rattle.table_steps.specs.declared.view.Note.{Note}
 use Rattle.table_steps.specs.declared.view.Note.TheVariants.{Duty, Sems, Has, Unfit, Lies}
 use Rattle.table_steps.specs.inside.Slots.{SlotCoord, parcel, lot, owed, collected, left_at, slot_weight, slot_weigh, slots_of, slots_in}
@@ -19,46 +19,46 @@ use Rattle.table_steps.specs.inside.Halts.{MayAsk, halt_read, MayMark, marked}
 use Rattle.table_steps.proofs.Lots.{slot_append}
 
 -- all that counts is among what a view has of slots
-item_weigh : (c : SlotCoord) (x : Item) → slot_weight c (Duty x) ≡ slot_weigh c (slots_of x)
-item_weigh (parcel e p) (Told n y) = refl
-item_weigh (parcel e p) (Fresh t cause) = refl
-item_weigh (parcel e p) (Collecting t cause taken left) = refl
-item_weigh (parcel e p) Ticket = refl
-item_weigh (parcel e p) (Open n t) = refl
-item_weigh (parcel e p) (Owes gives) = refl
-item_weigh (parcel e p) (Counting f) = refl
-item_weigh (lot k e) (Told n y) = refl
-item_weigh (lot k e) (Fresh t cause) = refl
-item_weigh (lot k e) (Collecting t cause taken left) = refl
-item_weigh (lot k e) Ticket = refl
-item_weigh (lot k e) (Open n t) = refl
-item_weigh (lot k e) (Owes gives) = refl
-item_weigh (lot k e) (Counting f) = refl
-item_weigh (owed e) (Told n y) = refl
-item_weigh (owed e) (Fresh t cause) = refl
-item_weigh (owed e) (Collecting t cause taken left) = refl
-item_weigh (owed e) Ticket = refl
-item_weigh (owed e) (Open n t) = refl
-item_weigh (owed e) (Owes gives) = omega arith
-item_weigh (owed e) (Counting f) = refl
-item_weigh (collected e) (Told n y) = refl
-item_weigh (collected e) (Fresh t cause) = refl
-item_weigh (collected e) (Collecting t cause taken left) = omega arith
-item_weigh (collected e) Ticket = refl
-item_weigh (collected e) (Open n t) = refl
-item_weigh (collected e) (Owes gives) = refl
-item_weigh (collected e) (Counting f) = refl
-item_weigh (left_at e) (Told n y) = refl
-item_weigh (left_at e) (Fresh t cause) = refl
-item_weigh (left_at e) (Collecting t cause taken left) = omega arith
-item_weigh (left_at e) Ticket = refl
-item_weigh (left_at e) (Open n t) = refl
-item_weigh (left_at e) (Owes gives) = refl
-item_weigh (left_at e) (Counting f) = refl
+duty_note_weigh : (c : SlotCoord) (x : TurnDuty) → slot_weight c (Duty x) ≡ slot_weigh c (slots_of x)
+duty_note_weigh (parcel e p) (Told n y) = refl
+duty_note_weigh (parcel e p) (Fresh t cause) = refl
+duty_note_weigh (parcel e p) (Collecting t cause taken left) = refl
+duty_note_weigh (parcel e p) Ticket = refl
+duty_note_weigh (parcel e p) (Open n t) = refl
+duty_note_weigh (parcel e p) (Owes gives) = refl
+duty_note_weigh (parcel e p) (Counting f) = refl
+duty_note_weigh (lot k e) (Told n y) = refl
+duty_note_weigh (lot k e) (Fresh t cause) = refl
+duty_note_weigh (lot k e) (Collecting t cause taken left) = refl
+duty_note_weigh (lot k e) Ticket = refl
+duty_note_weigh (lot k e) (Open n t) = refl
+duty_note_weigh (lot k e) (Owes gives) = refl
+duty_note_weigh (lot k e) (Counting f) = refl
+duty_note_weigh (owed e) (Told n y) = refl
+duty_note_weigh (owed e) (Fresh t cause) = refl
+duty_note_weigh (owed e) (Collecting t cause taken left) = refl
+duty_note_weigh (owed e) Ticket = refl
+duty_note_weigh (owed e) (Open n t) = refl
+duty_note_weigh (owed e) (Owes gives) = omega arith
+duty_note_weigh (owed e) (Counting f) = refl
+duty_note_weigh (collected e) (Told n y) = refl
+duty_note_weigh (collected e) (Fresh t cause) = refl
+duty_note_weigh (collected e) (Collecting t cause taken left) = omega arith
+duty_note_weigh (collected e) Ticket = refl
+duty_note_weigh (collected e) (Open n t) = refl
+duty_note_weigh (collected e) (Owes gives) = refl
+duty_note_weigh (collected e) (Counting f) = refl
+duty_note_weigh (left_at e) (Told n y) = refl
+duty_note_weigh (left_at e) (Fresh t cause) = refl
+duty_note_weigh (left_at e) (Collecting t cause taken left) = omega arith
+duty_note_weigh (left_at e) Ticket = refl
+duty_note_weigh (left_at e) (Open n t) = refl
+duty_note_weigh (left_at e) (Owes gives) = refl
+duty_note_weigh (left_at e) (Counting f) = refl
 
 -- notes that count nothing
 sems_none : (c : SlotCoord) (x : Note) → slots_in (x ∷ []) ≡ [] → slot_weight c x ≡ 0
-sems_none c (Duty x) is = omega (arith, item_weigh c x, slot_append c (slots_of x) [], ap (slot_weigh c) is)
+sems_none c (Duty x) is = omega (arith, duty_note_weigh c x, slot_append c (slots_of x) [], ap (slot_weigh c) is)
 sems_none (parcel e p) (Sems k l) is = refl
 sems_none (parcel e p) (Has m) is = refl
 sems_none (parcel e p) (Unfit s n t) is = refl
@@ -78,7 +78,7 @@ sems_none c (Lies k e p) is = absurd (cc)
 
 pub slots_weigh : (c : SlotCoord) (v : List Note) → slot_weigh c v ≡ slot_weigh c (slots_in v)
 slots_weigh c [] = refl
-slots_weigh c (Duty x ∷ xs) = omega (arith, item_weigh c x, slot_append c (slots_of x) (slots_in xs), slots_weigh c xs)
+slots_weigh c (Duty x ∷ xs) = omega (arith, duty_note_weigh c x, slot_append c (slots_of x) (slots_in xs), slots_weigh c xs)
 slots_weigh c (Sems k l ∷ xs) = omega (arith, sems_none c (Sems k l) refl, slots_weigh c xs)
 slots_weigh c (Has m ∷ xs) = omega (arith, sems_none c (Has m) refl, slots_weigh c xs)
 slots_weigh c (Unfit s n t ∷ xs) = omega (arith, sems_none c (Unfit s n t) refl, slots_weigh c xs)

@@ -7,10 +7,10 @@ use Rattle.atomic_table.specs.Table.{keeps, stepped}
 use Rattle.task_graph.specs.NetRows.{NetRows}
 use Rattle.journal_rules.specs.declared.entry.Entry.{Entry}
 use Rattle.journal_rules.specs.declared.entry.Entry.TheVariants.{Start, End, Fault, Drop}
-use Rattle.table_steps.specs.declared.view.Item.{Item}
-use Rattle.table_steps.specs.declared.view.Item.TheVariants.{Ticket, Owes}
+use Rattle.table_steps.specs.declared.view.TurnDuty.{TurnDuty}
+use Rattle.table_steps.specs.declared.view.TurnDuty.TheVariants.{Ticket, Owes}
 use Rattle.table_steps.specs.Giving.{one_if}
-use Rattle.table_steps.specs.declared.view.Mark.TheVariants.{Live, New, Over, ToMark, Halted, Alone, Quiet, Sticking, Asked}
+use Rattle.table_steps.specs.declared.view.SeatMark.TheVariants.{Live, New, Over, ToMark, Halted, Alone, Quiet, Sticking, Asked}
 use Rattle.table_steps.specs.declared.view.Note.{Note}
 use Rattle.table_steps.specs.declared.view.Note.TheVariants.{Duty, Sems, Has, Unfit, Lies}
 use Rattle.table_steps.specs.inside.Accounts.{Coord, duty, sem, turning, owing, mark, busy, resting, telling, weight, weigh, total, is_drop, reading, KeepsAccounts}
@@ -78,7 +78,7 @@ asked_none owing = refl
 asked_none telling = refl
 
 -- an admission drawn
-pub admit_drawn : {S : Type 0} (net : NetRows) (limit : ℕ) (s : St S) (h : KeepsAccounts net limit s) (id : ℕ) (carried : List (ℕ × S)) (x : Item) (rest : List Note) → weigh resting rest ≡ 0 → get_elem? s.views id ≡ some (Duty x ∷ Has Live ∷ Has Asked ∷ rest) → slice_index s.words 24 < limit
+pub admit_drawn : {S : Type 0} (net : NetRows) (limit : ℕ) (s : St S) (h : KeepsAccounts net limit s) (id : ℕ) (carried : List (ℕ × S)) (x : TurnDuty) (rest : List Note) → weigh resting rest ≡ 0 → get_elem? s.views id ≡ some (Duty x ∷ Has Live ∷ Has Asked ∷ rest) → slice_index s.words 24 < limit
     → KeepsAccounts net limit (stepped s 24 ((slice_index s.words 24 + 1) % 2 ^ 64) id carried (Duty x ∷ Duty Ticket ∷ Has Live ∷ rest) keeps)
 admit_drawn net limit s h id carried x rest lone at found =
     let old = Duty x ∷ Has Live ∷ Has Asked ∷ [] in let new = Duty x ∷ Duty Ticket ∷ Has Live ∷ [] in
@@ -89,7 +89,7 @@ admit_drawn net limit s h id carried x rest lone at found =
     (λ moved. admit_kept net limit (reading net s.words) h.counted h.journal (λ c. total c s.views) _ h.balanced found (λ c. omega (arith, moved c, asked_none c)))
 
 -- and one too many
-pub over_drawn : {S : Type 0} (net : NetRows) (limit : ℕ) (s : St S) (h : KeepsAccounts net limit s) (id : ℕ) (carried : List (ℕ × S)) (x : Item) (rest : List Note) → weigh resting rest ≡ 0 → get_elem? s.views id ≡ some (Duty x ∷ Has Live ∷ Has Asked ∷ rest) → limit ≤ slice_index s.words 24
+pub over_drawn : {S : Type 0} (net : NetRows) (limit : ℕ) (s : St S) (h : KeepsAccounts net limit s) (id : ℕ) (carried : List (ℕ × S)) (x : TurnDuty) (rest : List Note) → weigh resting rest ≡ 0 → get_elem? s.views id ≡ some (Duty x ∷ Has Live ∷ Has Asked ∷ rest) → limit ≤ slice_index s.words 24
     → KeepsAccounts net limit (stepped s 24 ((slice_index s.words 24 + 1) % 2 ^ 64) id carried (Duty x ∷ Has Over ∷ rest) keeps)
 over_drawn net limit s h id carried x rest lone at found =
     let old = Duty x ∷ Has Live ∷ Has Asked ∷ [] in let new = Duty x ∷ Has Over ∷ [] in
@@ -100,7 +100,7 @@ over_drawn net limit s h id carried x rest lone at found =
     (λ moved. over_kept net limit (reading net s.words) h.counted h.journal (λ c. total c s.views) _ h.balanced found (λ c. omega (arith, moved c, asked_none c)))
 
 -- a turn added
-pub turn_added : {S : Type 0} (net : NetRows) (limit : ℕ) (s : St S) (h : KeepsAccounts net limit s) (id : ℕ) (carried : List (ℕ × S)) (x : Item) (rest : List Note) → weigh resting rest ≡ 0 → 1 ≤ weigh (mark Live) rest → get_elem? s.views id ≡ some (Duty x ∷ Has New ∷ rest)
+pub turn_added : {S : Type 0} (net : NetRows) (limit : ℕ) (s : St S) (h : KeepsAccounts net limit s) (id : ℕ) (carried : List (ℕ × S)) (x : TurnDuty) (rest : List Note) → weigh resting rest ≡ 0 → 1 ≤ weigh (mark Live) rest → get_elem? s.views id ≡ some (Duty x ∷ Has New ∷ rest)
     → total (mark Live) s.views + 1 ≤ 1152921504606846976 → KeepsAccounts net limit (stepped s 16 ((slice_index s.words 16 + 1) % 2 ^ 64) id carried (Duty x ∷ Has Live ∷ rest) keeps)
 turn_added net limit s h id carried x rest lone lives at few =
     let old = Duty x ∷ Has New ∷ [] in let new = Duty x ∷ Has Live ∷ [] in

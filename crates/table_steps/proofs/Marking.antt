@@ -6,11 +6,11 @@ use Rattle.task_graph.specs.NetRows.{NetRows}
 use Rattle.journal_rules.specs.declared.entry.Entry.{Entry}
 use Rattle.journal_rules.specs.Counts.{starts}
 use Rattle.journal_rules.specs.Complete.{is_limited}
-use Rattle.table_steps.specs.declared.view.Item.TheVariants.{Ticket, Owes}
-use Rattle.table_steps.specs.inside.Items.{DutyCoord, place, runs, running, tickets, token, source, weakly, awaits, unset, duty_weight, DutyPart}
-use Rattle.table_steps.specs.declared.view.Kind.{Kind}
-use Rattle.table_steps.specs.declared.view.Kind.TheVariants.{Held, Undo, Owed, Both, Credit, Credited, Claim, Granted, Refusing, Denied, Full}
-use Rattle.table_steps.specs.declared.view.Mark.TheVariants.{Live, New, Over, ToMark, Halted, Alone, Quiet, Sticking, Asked}
+use Rattle.table_steps.specs.declared.view.TurnDuty.TheVariants.{Ticket, Owes}
+use Rattle.table_steps.specs.inside.Duties.{DutyCoord, place, runs, running, tickets, token, source, weakly, awaits, unset, duty_weight, DutyPart}
+use Rattle.table_steps.specs.declared.view.SemaphoreRole.{SemaphoreRole}
+use Rattle.table_steps.specs.declared.view.SemaphoreRole.TheVariants.{Held, Undo, Owed, Both, Credit, Credited, Claim, Granted, Refusing, Denied, Full}
+use Rattle.table_steps.specs.declared.view.SeatMark.TheVariants.{Live, New, Over, ToMark, Halted, Alone, Quiet, Sticking, Asked}
 use Rattle.table_steps.specs.declared.view.Note.{Note}
 use Rattle.table_steps.specs.declared.view.Note.TheVariants.{Duty, Sems, Has, Unfit, Lies}
 use Rattle.table_steps.specs.inside.Accounts.{Coord, duty, sem, mark, turning, owing, telling, busy, resting, weight, weigh, TurnPart, JournalPart, LivePart, Readings, Balanced, Moves, with_admitted, with_live}
@@ -19,10 +19,10 @@ use Rattle.table_steps.proofs.Units.{Units}
 use Rattle.table_steps.proofs.Credits.{Credits}
 
 -- a step on no semaphore
-pub units_alike : (net : NetRows) (unit : ℕ → ℕ) (journal : List Entry) (T T' : Coord → ℕ) → ((k : Kind) (s : ℕ) → T' (sem k s) ≡ T (sem k s)) → Units net unit journal T → Units net unit journal T'
+pub units_alike : (net : NetRows) (unit : ℕ → ℕ) (journal : List Entry) (T T' : Coord → ℕ) → ((k : SemaphoreRole) (s : ℕ) → T' (sem k s) ≡ T (sem k s)) → Units net unit journal T → Units net unit journal T'
 units_alike net unit journal T T' same u s below = unit_still net (unit s) s journal T T' (same Held s) (same Owed s) (same Undo s) (u s below)
 
-pub credits_alike : (net : NetRows) (word : ℕ → ℕ) (journal : List Entry) (T T' : Coord → ℕ) → ((k : Kind) (s : ℕ) → T' (sem k s) ≡ T (sem k s)) → Credits net word journal T → Credits net word journal T'
+pub credits_alike : (net : NetRows) (word : ℕ → ℕ) (journal : List Entry) (T T' : Coord → ℕ) → ((k : SemaphoreRole) (s : ℕ) → T' (sem k s) ≡ T (sem k s)) → Credits net word journal T → Credits net word journal T'
 credits_alike net word journal T T' same k s below = credit_still net (word s) s journal T T' (same Both s) (same Credit s) (same Credited s) (same Claim s) (same Granted s) (same Refusing s) (same Denied s) (k s below)
 
 -- An admission drawn.
@@ -68,7 +68,7 @@ admit_kept net limit w counted journal T T' b found moved = let a = b.by_admissi
 -- a step on marks alone leaves these as they are
 pub record MarksAlone (T T' : Coord → ℕ) : Type 0 where
   pub duties : (c : DutyCoord) → T' (duty c) ≡ T (duty c)
-  pub sems : (k : Kind) (s : ℕ) → T' (sem k s) ≡ T (sem k s)
+  pub sems : (k : SemaphoreRole) (s : ℕ) → T' (sem k s) ≡ T (sem k s)
   pub sticking : T' (mark Sticking) ≡ T (mark Sticking)
 
 pub over_kept : (net : NetRows) (limit : ℕ) (w : Readings) (counted : ℕ → ℕ) (journal : List Entry) (T T' : Coord → ℕ) → Balanced net limit w counted journal T → limit ≤ w.admitted

@@ -5,7 +5,7 @@ use Rattle.std.proofs.lemmas.Bool.{cases_eq}
 use Rattle.std.specs.Prelude.{slice_get}
 use Rattle.journal_rules.specs.declared.entry.Entry.{Entry}
 use Rattle.journal_rules.proofs.Snoc.{slice_get_push_last}
-use Rattle.table_steps.specs.inside.Items.{Raised}
+use Rattle.table_steps.specs.inside.Duties.{Raised}
 use Rattle.table_steps.specs.Giving.{one_if}
 
 pub told_last : (journal : List Entry) (n : ℕ) (x : Entry) → n ≡ length journal → slice_get (journal ++ x ∷ []) n ≡ Some x

@@ -8,7 +8,7 @@ use Rattle.table_steps.specs.declared.view.Lot.{Lot}
 use Rattle.table_steps.specs.declared.view.Lot.TheVariants.{Ours, Putting, Put, Awaited, Taking, Fetched, Found}
 use Rattle.table_steps.specs.declared.view.Note.{Note}
 use Rattle.table_steps.specs.declared.view.Note.TheVariants.{Duty, Sems, Has, Unfit, Lies}
-use Rattle.table_steps.proofs.Homing.{item_lot}
+use Rattle.table_steps.proofs.Homing.{duty_lot}
 use Rattle.table_steps.specs.inside.Slots.{lot, lot_weight, slot_weight, slot_weigh}
 use Rattle.atomic_table.specs.Table.{rest}
 use Rattle.table_steps.specs.inside.SlotKinds.{part_in, pick, relot, HoldsSlot}
@@ -144,7 +144,7 @@ has_lot j f (x ∷ xs) h = by_weight (slot_weight (lot j f) x) refl (λ k. has_l
           is = λ i. Lies (sym kind i) (same i) p ∷ xs;
           after = λ l g. ap (λ m. pick m (Lies k e p ∷ relot j l g f xs) (Lies l f (g p) ∷ xs)) is;
         }
-    here (Duty y) n is = absurd (omega (arith, is, item_lot j f y))
+    here (Duty y) n is = absurd (omega (arith, is, duty_lot j f y))
     here (Sems k l) n is = absurd (omega (arith, is))
     here (Has m) n is = absurd (omega (arith, is))
     here (Unfit s m t) n is = absurd (omega (arith, is))

@@ -9,8 +9,8 @@ use Rattle.task_graph.specs.Net.{strong_in, is_weak}
 use Rattle.journal_rules.specs.declared.entry.Cause.{Cause}
 use Rattle.journal_rules.specs.declared.entry.Cause.TheVariants.{Source, Strong, Weak}
 use Rattle.journal_rules.specs.declared.entry.Entry.{Entry}
-use Rattle.table_steps.specs.declared.view.Item.TheVariants.{Fresh, Collecting}
-use Rattle.table_steps.specs.inside.Items.{DutyCoord, token, source, weakly, awaits, unset, any, nil, sum_over, DutyPart, DutyMoves, Raised, after_take, TakesFrom}
+use Rattle.table_steps.specs.declared.view.TurnDuty.TheVariants.{Fresh, Collecting}
+use Rattle.table_steps.specs.inside.Duties.{DutyCoord, token, source, weakly, awaits, unset, any, nil, sum_over, DutyPart, DutyMoves, Raised, after_take, TakesFrom}
 use Rattle.table_steps.specs.Giving.{one_if, times}
 use Rattle.table_steps.proofs.Counting.{times_at, times_append, times_strong_in, is_strong_into, is_one}
 use Rattle.table_steps.proofs.StartDuties.{one_self}

@@ -11,8 +11,8 @@ use Rattle.journal_rules.specs.DataRule.{edges_of}
 use Rattle.journal_rules.specs.Complete.{is_limited}
 use Rattle.journal_rules.specs.HaltLimitStuckRule.{MayBeStuck}
 use Rattle.journal_rules.proofs.Tallying.{count_by_push_no}
-use Rattle.table_steps.specs.inside.Items.{tickets, MayRelease}
-use Rattle.table_steps.specs.declared.view.Mark.TheVariants.{Over, ToMark, Sticking}
+use Rattle.table_steps.specs.inside.Duties.{tickets, MayRelease}
+use Rattle.table_steps.specs.declared.view.SeatMark.TheVariants.{Over, ToMark, Sticking}
 use Rattle.table_steps.specs.inside.Accounts.{Coord, mark, Readings, HaltPart, Balanced, with_clock}
 use Rattle.table_steps.proofs.DropAccounts.{DropMoves, drop_kept, no_ticket}
 

@@ -10,13 +10,13 @@ use Rattle.journal_rules.specs.declared.entry.Entry.{Entry}
 use Rattle.journal_rules.specs.Counts.{NoneOpen}
 use Rattle.journal_rules.specs.SemaphoreRule.{back, taken}
 use Rattle.journal_rules.proofs.Reaching.{each_below}
-use Rattle.table_steps.specs.declared.view.Item.{Item}
-use Rattle.table_steps.specs.declared.view.Item.TheVariants.{Told, Fresh, Collecting, Ticket, Open, Owes, Counting}
-use Rattle.table_steps.specs.inside.Items.{runs, is_run}
+use Rattle.table_steps.specs.declared.view.TurnDuty.{TurnDuty}
+use Rattle.table_steps.specs.declared.view.TurnDuty.TheVariants.{Told, Fresh, Collecting, Ticket, Open, Owes, Counting}
+use Rattle.table_steps.specs.inside.Duties.{runs, is_run}
 use Rattle.table_steps.specs.Giving.{times}
-use Rattle.table_steps.specs.declared.view.Kind.{Kind}
-use Rattle.table_steps.specs.declared.view.Kind.TheVariants.{Held, Undo, Owed, Both, Credit, Credited, Claim, Granted, Refusing, Denied, Full}
-use Rattle.table_steps.specs.declared.view.Mark.TheVariants.{Live, New, Over, ToMark, Halted, Alone, Quiet, Sticking, Asked}
+use Rattle.table_steps.specs.declared.view.SemaphoreRole.{SemaphoreRole}
+use Rattle.table_steps.specs.declared.view.SemaphoreRole.TheVariants.{Held, Undo, Owed, Both, Credit, Credited, Claim, Granted, Refusing, Denied, Full}
+use Rattle.table_steps.specs.declared.view.SeatMark.TheVariants.{Live, New, Over, ToMark, Halted, Alone, Quiet, Sticking, Asked}
 use Rattle.table_steps.specs.declared.view.Note.{Note}
 use Rattle.table_steps.specs.declared.view.Note.TheVariants.{Duty, Sems, Has, Unfit, Lies}
 use Rattle.table_steps.specs.inside.Accounts.{Coord, duty, sem, mark, busy, resting, weight, weigh, total, JournalPart, KeepsAccounts}
@@ -40,17 +40,17 @@ has_all net journal c views id v bound parts at all = omega (arith, total_set c 
         zero_notes c bound w ((parts other w there).covered (omega (arith, all, two_views (mark Live) views id other v w at there apart)))
 
 -- STARTS THAT RUN
-item_bound : (x : Item) → weight busy (Duty x) ≡ 0 → (m t : ℕ) → weight (duty (runs m t)) (Duty x) ≡ 0
-item_bound (Told n y) h m t = refl
-item_bound (Fresh u cause) h m t = refl
-item_bound (Collecting u cause taken left) h m t = refl
-item_bound Ticket h m t = refl
-item_bound (Open n u) h m t = absurd (omega arith)
-item_bound (Owes gives) h m t = refl
-item_bound (Counting e) h m t = refl
+duty_bound : (x : TurnDuty) → weight busy (Duty x) ≡ 0 → (m t : ℕ) → weight (duty (runs m t)) (Duty x) ≡ 0
+duty_bound (Told n y) h m t = refl
+duty_bound (Fresh u cause) h m t = refl
+duty_bound (Collecting u cause taken left) h m t = refl
+duty_bound Ticket h m t = refl
+duty_bound (Open n u) h m t = absurd (omega arith)
+duty_bound (Owes gives) h m t = refl
+duty_bound (Counting e) h m t = refl
 
 runs_bound : (m t : ℕ) (x : Note) → weight busy x ≡ 0 → weight (duty (runs m t)) x ≡ 0
-runs_bound m t (Duty x) h = item_bound x h m t
+runs_bound m t (Duty x) h = duty_bound x h m t
 runs_bound m t (Sems k l) h = refl
 runs_bound m t (Has k) h = refl
 runs_bound m t (Unfit s n u) h = refl
@@ -103,7 +103,7 @@ pub units_alone : {S : Type 0} (net : NetRows) (limit : ℕ) (s : St S) (h : Kee
     → slice_index s.words (40 + a) + back net a h.journal ≡ taken net a h.journal
 units_alone net limit s h id a v below at rested none =
     let all = (h.views id v at).alone rested in
-    let b : (k : Kind) → ((x : Note) → weight busy x ≡ 0 → weight (sem k a) x ≡ 0) → total (sem k a) s.views ≡ weigh (sem k a) v = λ k bound. has_all net h.journal (sem k a) s.views id v bound h.views at all in
+    let b : (k : SemaphoreRole) → ((x : Note) → weight busy x ≡ 0 → weight (sem k a) x ≡ 0) → total (sem k a) s.views ≡ weigh (sem k a) v = λ k bound. has_all net h.journal (sem k a) s.views id v bound h.views at all in
     omega (
       arith,
       (h.balanced.by_units a below).tells,

@@ -8,7 +8,7 @@ use Rattle.std.proofs.lemmas.Bool.{cases_eq, false≢true}
 use Rattle.journal_rules.specs.declared.entry.Entry.{Entry}
 use Rattle.journal_rules.specs.Counts.{is_open, start_at, closes}
 use Rattle.journal_rules.specs.Complete.{least}
-use Rattle.table_steps.specs.inside.Items.{DutyCoord, runs, token, source, weakly, awaits, unset, any, nil, sum_over, is_run}
+use Rattle.table_steps.specs.inside.Duties.{DutyCoord, runs, token, source, weakly, awaits, unset, any, nil, sum_over, is_run}
 use Rattle.table_steps.specs.Giving.{one_if, times}
 use Rattle.table_steps.proofs.StartDuties.{one_self}
 

@@ -22,13 +22,13 @@ use Rattle.journal_rules.proofs.Snoc.{count_by_push}
 use Rattle.journal_rules.proofs.Tallying.{count_by_push_no, count_by_push_yes}
 use Rattle.journal_rules.proofs.TaskSemaphores.{takes_in_range}
 use Rattle.std.specs.Option.{option_map_or}
-use Rattle.table_steps.specs.declared.view.Item.TheVariants.{Told, Fresh, Collecting, Ticket, Open, Owes, Counting}
-use Rattle.table_steps.specs.declared.view.Kind.TheVariants.{Full}
-use Rattle.table_steps.specs.declared.view.Mark.TheVariants.{Live, New, Over, ToMark, Halted, Alone, Quiet, Sticking}
+use Rattle.table_steps.specs.declared.view.TurnDuty.TheVariants.{Told, Fresh, Collecting, Ticket, Open, Owes, Counting}
+use Rattle.table_steps.specs.declared.view.SemaphoreRole.TheVariants.{Full}
+use Rattle.table_steps.specs.declared.view.SeatMark.TheVariants.{Live, New, Over, ToMark, Halted, Alone, Quiet, Sticking}
 use Rattle.table_steps.specs.declared.view.Note.{Note}
 use Rattle.table_steps.specs.declared.view.Note.TheVariants.{Duty, Sems, Has, Unfit, Lies}
 use Rattle.table_steps.specs.Giving.{one_if, times}
-use Rattle.table_steps.specs.inside.Items.{running, runs, MayRelease}
+use Rattle.table_steps.specs.inside.Duties.{running, runs, MayRelease}
 use Rattle.table_steps.specs.inside.Accounts.{duty, sem, mark, turning, owing, resting, weigh, total, AllStand, Balanced, Moves, is_drop, with_clock, reading, KeepsAccounts}
 use Rattle.table_steps.specs.inside.Kinds.{IsTurn, dealt, kept_back, left_by}
 use Rattle.table_steps.specs.inside.RestKinds.{known_part, bare_part, MayPark, parked, HasLast, MayHandOut, handed_out, left_behind, alone_notes, live_found, MayLook, looked, HasNoUnit, MayAsk, full_with, asked, MayDropLast, last_dropped, MayThin}

@@ -7,8 +7,8 @@ use Rattle.atomic_table.specs.Table.{keeps, stepped}
 use Rattle.task_graph.specs.NetRows.{NetRows}
 use Rattle.journal_rules.specs.Counts.{faults}
 use Rattle.journal_rules.specs.SemaphoreRule.{taken, back, max_of}
-use Rattle.table_steps.specs.declared.view.Kind.TheVariants.{Full}
-use Rattle.table_steps.specs.declared.view.Mark.TheVariants.{Live, Quiet}
+use Rattle.table_steps.specs.declared.view.SemaphoreRole.TheVariants.{Full}
+use Rattle.table_steps.specs.declared.view.SeatMark.TheVariants.{Live, Quiet}
 use Rattle.table_steps.specs.declared.view.Note.{Note}
 use Rattle.table_steps.specs.inside.Accounts.{Coord, sem, mark, busy, resting, telling, weigh, total, AllStand, Balanced, ViewPart, reading, KeepsAccounts}
 use Rattle.table_steps.proofs.Totals.{weigh_append}

@@ -9,20 +9,20 @@ use Rattle.task_graph.specs.Net.{is_weak}
 use Rattle.journal_rules.specs.declared.entry.Cause.TheVariants.{Source, Strong, Weak}
 use Rattle.journal_rules.specs.declared.entry.Entry.{Entry}
 use Rattle.table_steps.specs.Giving.{one_if, times}
-use Rattle.table_steps.specs.declared.view.Item.{Item}
-use Rattle.table_steps.specs.declared.view.Item.TheVariants.{Told, Fresh, Collecting, Ticket, Open, Owes, Counting}
+use Rattle.table_steps.specs.declared.view.TurnDuty.{TurnDuty}
+use Rattle.table_steps.specs.declared.view.TurnDuty.TheVariants.{Told, Fresh, Collecting, Ticket, Open, Owes, Counting}
 use Rattle.table_steps.specs.declared.view.Note.{Note}
 use Rattle.table_steps.specs.declared.view.Note.TheVariants.{Duty, Sems, Has, Unfit, Lies}
-use Rattle.table_steps.specs.inside.Items.{token, awaits, weakly, duty_weight, any}
+use Rattle.table_steps.specs.inside.Duties.{token, awaits, weakly, duty_weight, any}
 use Rattle.table_steps.specs.inside.Accounts.{duty, weigh, total, Stands, AllStand, reading, KeepsAccounts}
-use Rattle.table_steps.specs.inside.Slots.{owed, collected, left_at, item_slots, slot_weigh, slot_total, SlotBounds}
+use Rattle.table_steps.specs.inside.Slots.{owed, collected, left_at, duty_slots, slot_weigh, slot_total, SlotBounds}
 use Rattle.table_steps.proofs.Counting.{times_append, times_strong_in, is_strong_into}
 use Rattle.table_steps.proofs.CountDuties.{into_strong}
 use Rattle.table_steps.proofs.Stepping.{St}
 use Rattle.table_steps.proofs.Lots.{tokens_of, parcels_bound_all}
 
 -- what is still to be collected of a strong edge is awaited
-left_strong : (net : NetRows) (journal : List Entry) (e : ℕ) (x : Item) → is_weak net e ≡ false → Stands net journal (Duty x) → item_slots (left_at e) x ≤ duty_weight (awaits e) x
+left_strong : (net : NetRows) (journal : List Entry) (e : ℕ) (x : TurnDuty) → is_weak net e ≡ false → Stands net journal (Duty x) → duty_slots (left_at e) x ≤ duty_weight (awaits e) x
 left_strong net journal e (Told n y) strong stand = omega arith
 left_strong net journal e (Fresh t cause) strong stand = omega arith
 left_strong net journal e (Collecting t Source taken left) strong stand = omega (arith, times_append e taken left, ap (times e) stand.1)
@@ -38,7 +38,7 @@ left_strong net journal e (Owes gives) strong stand = omega arith
 left_strong net journal e (Counting f) strong stand = omega arith
 
 -- and of a weak one is a release by it
-left_weak : (net : NetRows) (journal : List Entry) (e : ℕ) (x : Item) → is_weak net e ≡ true → Stands net journal (Duty x) → item_slots (left_at e) x ≤ duty_weight (weakly e) x
+left_weak : (net : NetRows) (journal : List Entry) (e : ℕ) (x : TurnDuty) → is_weak net e ≡ true → Stands net journal (Duty x) → duty_slots (left_at e) x ≤ duty_weight (weakly e) x
 left_weak net journal e (Told n y) weak stand = omega arith
 left_weak net journal e (Fresh t cause) weak stand = omega arith
 left_weak net journal e (Collecting t Source taken left) weak stand = omega (arith, times_append e taken left, ap (times e) stand.1)

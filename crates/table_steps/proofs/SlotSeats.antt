@@ -13,7 +13,7 @@ use Rattle.journal_rules.specs.declared.entry.Part.TheVariants.{Nothing}
 use Rattle.table_steps.specs.Giving.{one_if}
 use Rattle.table_steps.specs.declared.view.Lot.{Lot}
 use Rattle.table_steps.specs.declared.view.Lot.TheVariants.{Ours, Putting, Put, Awaited, Taking, Fetched}
-use Rattle.table_steps.specs.declared.view.Mark.TheVariants.{Live}
+use Rattle.table_steps.specs.declared.view.SeatMark.TheVariants.{Live}
 use Rattle.table_steps.specs.declared.view.Note.{Note}
 use Rattle.table_steps.specs.declared.view.Note.TheVariants.{Lies}
 use Rattle.table_steps.specs.inside.Accounts.{Coord, duty, sem, mark, busy, resting, turning, owing, telling, weight, weigh, total, AllStand, reading, marks_from, edges_from, mark_at, Readings, Balanced, KeepsAccounts}

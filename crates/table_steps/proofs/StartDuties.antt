@@ -13,8 +13,8 @@ use Rattle.journal_rules.specs.Counts.{uses, is_source}
 use Rattle.journal_rules.specs.DataRule.{edges_of}
 use Rattle.journal_rules.proofs.Snoc.{count_by_push}
 use Rattle.journal_rules.proofs.Tallying.{and_true, and_false, given_push}
-use Rattle.table_steps.specs.declared.view.Item.TheVariants.{Told, Collecting, Ticket, Open}
-use Rattle.table_steps.specs.inside.Items.{DutyCoord, token, source, weakly, awaits, unset, EdgePart, DutyPart, DutyMoves, MayRelease, CanRelease}
+use Rattle.table_steps.specs.declared.view.TurnDuty.TheVariants.{Told, Collecting, Ticket, Open}
+use Rattle.table_steps.specs.inside.Duties.{DutyCoord, token, source, weakly, awaits, unset, EdgePart, DutyPart, DutyMoves, MayRelease, CanRelease}
 use Rattle.table_steps.specs.Giving.{one_if}
 use Rattle.table_steps.proofs.Counting.{CauseFits, used_at_start}
 

@@ -22,13 +22,13 @@ use Rattle.journal_rules.specs.Complete.{is_limited}
 use Rattle.journal_rules.specs.ShapeLegal.{MayFollow}
 use Rattle.journal_rules.proofs.Snoc.{count_by_push, EachAfter-push}
 use Rattle.journal_rules.proofs.Tallying.{count_by_push_no, count_by_push_yes}
-use Rattle.table_steps.specs.declared.view.Item.TheVariants.{Told, Collecting, Ticket, Open}
-use Rattle.table_steps.specs.inside.Items.{DutyCoord, place, runs, running, tickets, token, source, is_run, EdgePart, DutyPart, MayRelease, DutyMoves}
+use Rattle.table_steps.specs.declared.view.TurnDuty.TheVariants.{Told, Collecting, Ticket, Open}
+use Rattle.table_steps.specs.inside.Duties.{DutyCoord, place, runs, running, tickets, token, source, is_run, EdgePart, DutyPart, MayRelease, DutyMoves}
 use Rattle.table_steps.specs.Giving.{one_if, times}
 use Rattle.table_steps.proofs.Counting.{times_at, times_strong_in, is_strong_into, used_at_strong, is_one, run_start}
 use Rattle.table_steps.proofs.StartDuties.{one_self, below_more, start_edges, start_duties}
-use Rattle.table_steps.specs.declared.view.Kind.TheVariants.{Held, Undo, Owed, Both, Credit, Credited, Claim, Granted, Refusing, Denied}
-use Rattle.table_steps.specs.declared.view.Mark.TheVariants.{Live, New, Over, ToMark}
+use Rattle.table_steps.specs.declared.view.SemaphoreRole.TheVariants.{Held, Undo, Owed, Both, Credit, Credited, Claim, Granted, Refusing, Denied}
+use Rattle.table_steps.specs.declared.view.SeatMark.TheVariants.{Live, New, Over, ToMark}
 use Rattle.table_steps.specs.declared.view.Note.TheVariants.{Duty}
 use Rattle.table_steps.specs.inside.Accounts.{Coord, duty, sem, mark, turning, owing, weigh, is_last, HaltPart, Readings, Balanced, with_clock, is_drop, starts_of, only_takes, only_puts, takes_and_puts}
 use Rattle.table_steps.proofs.Journals.{back_push, closed_still}

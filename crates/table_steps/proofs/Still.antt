@@ -2,9 +2,9 @@
 use Rattle.std.proofs.Common.{◌≡◌, ℕ, zero, suc, List, sym, ◌∙◌, subst, arith}
 use Rattle.task_graph.specs.NetRows.{NetRows}
 use Rattle.journal_rules.specs.declared.entry.Entry.{Entry}
-use Rattle.table_steps.specs.inside.Items.{DutyCoord, place, runs, running, tickets, EdgePart, DutyPart}
-use Rattle.table_steps.specs.declared.view.Kind.TheVariants.{Held, Undo, Owed, Both, Credit, Credited, Claim, Granted, Refusing, Denied}
-use Rattle.table_steps.specs.declared.view.Mark.TheVariants.{Live, New, Over, ToMark, Sticking}
+use Rattle.table_steps.specs.inside.Duties.{DutyCoord, place, runs, running, tickets, EdgePart, DutyPart}
+use Rattle.table_steps.specs.declared.view.SemaphoreRole.TheVariants.{Held, Undo, Owed, Both, Credit, Credited, Claim, Granted, Refusing, Denied}
+use Rattle.table_steps.specs.declared.view.SeatMark.TheVariants.{Live, New, Over, ToMark, Sticking}
 use Rattle.table_steps.specs.inside.Accounts.{Coord, duty, sem, mark, turning, owing, TurnPart, JournalPart, AdmissionPart, UnitPart, CreditPart, HaltPart, StuckPart}
 
 pub journal_still : (net : NetRows) (limit n : ℕ) (journal : List Entry) (T T' : Coord → ℕ) → ((c : DutyCoord) → T' (duty c) ≡ T (duty c)) → JournalPart net limit n journal T → JournalPart net limit n journal T'

@@ -16,11 +16,11 @@ use Rattle.journal_rules.specs.declared.entry.Cause.TheVariants.{Source, Strong,
 use Rattle.journal_rules.specs.declared.entry.Entry.{Entry}
 use Rattle.journal_rules.specs.DataRule.{edges_of}
 use Rattle.journal_rules.proofs.NetLemmas.{places_length}
-use Rattle.table_steps.specs.declared.view.Item.TheVariants.{Fresh, Collecting, Owes, Counting}
-use Rattle.table_steps.specs.declared.view.Mark.TheVariants.{Live}
+use Rattle.table_steps.specs.declared.view.TurnDuty.TheVariants.{Fresh, Collecting, Owes, Counting}
+use Rattle.table_steps.specs.declared.view.SeatMark.TheVariants.{Live}
 use Rattle.table_steps.specs.declared.view.Note.{Note}
 use Rattle.table_steps.specs.declared.view.Note.TheVariants.{Duty}
-use Rattle.table_steps.specs.inside.Items.{awaits, weakly, unset, any, sum_over, Raised, TakesFrom, after_give, after_count, after_take}
+use Rattle.table_steps.specs.inside.Duties.{awaits, weakly, unset, any, sum_over, Raised, TakesFrom, after_give, after_count, after_take}
 use Rattle.table_steps.specs.Giving.{one_if, times, target}
 use Rattle.table_steps.specs.inside.Accounts.{Coord, duty, mark, resting, weigh, total, FitsRelease, AllStand, Moves, KeepsAccounts, reading, edges_from, with_tokens}
 use Rattle.table_steps.specs.inside.Kinds.{wrap, news, MayReset, taken_up, TakesNext, took, OwesNext, given_notes, gave, CountsNext, counted_notes, counted_one, AreNoneLeft, others_of}

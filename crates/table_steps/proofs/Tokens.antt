@@ -5,15 +5,15 @@ use Rattle.task_graph.specs.Net.{is_weak, strong_in}
 use Rattle.journal_rules.specs.declared.entry.Cause.{Cause}
 use Rattle.journal_rules.specs.declared.entry.Cause.TheVariants.{Source, Strong, Weak}
 use Rattle.journal_rules.specs.declared.entry.Entry.{Entry}
-use Rattle.table_steps.specs.declared.view.Item.{Item}
-use Rattle.table_steps.specs.declared.view.Item.TheVariants.{Told, Fresh, Collecting, Ticket, Open, Owes, Counting}
-use Rattle.table_steps.specs.inside.Items.{DutyCoord, place, runs, running, tickets, token, source, weakly, awaits, unset, duty_weight, duty_weigh, EdgePart, DutyPart, DutyMoves, Raised, after_give, after_count, after_take, TakesFrom}
+use Rattle.table_steps.specs.declared.view.TurnDuty.{TurnDuty}
+use Rattle.table_steps.specs.declared.view.TurnDuty.TheVariants.{Told, Fresh, Collecting, Ticket, Open, Owes, Counting}
+use Rattle.table_steps.specs.inside.Duties.{DutyCoord, place, runs, running, tickets, token, source, weakly, awaits, unset, duty_weight, duty_weigh, EdgePart, DutyPart, DutyMoves, Raised, after_give, after_count, after_take, TakesFrom}
 use Rattle.table_steps.proofs.GiveDuties.{give_edges, give_duties}
 use Rattle.table_steps.proofs.CountDuties.{Counts, count_edges, count_duties}
 use Rattle.table_steps.proofs.ResetDuties.{cleared_at, SetAgain, reset_duties, token_taken, take_duties}
-use Rattle.table_steps.specs.declared.view.Kind.{Kind}
-use Rattle.table_steps.specs.declared.view.Mark.{Mark}
-use Rattle.table_steps.specs.declared.view.Mark.TheVariants.{Live, New, Over, ToMark, Sticking}
+use Rattle.table_steps.specs.declared.view.SemaphoreRole.{SemaphoreRole}
+use Rattle.table_steps.specs.declared.view.SeatMark.{SeatMark}
+use Rattle.table_steps.specs.declared.view.SeatMark.TheVariants.{Live, New, Over, ToMark, Sticking}
 use Rattle.table_steps.specs.inside.Accounts.{Coord, duty, sem, mark, turning, owing, weigh, Readings, Balanced, Moves, with_tokens}
 use Rattle.table_steps.specs.inside.Kinds.{wrap, news}
 use Rattle.table_steps.proofs.Still.{admission_still, halt_still, stuck_still}
@@ -29,7 +29,7 @@ abbrev pub by_count : ℕ → ℕ
 by_count (suc zero) = 1
 by_count _ = 0
 
-wrap_duty : (c : DutyCoord) (xs : List Item) → weigh (duty c) (wrap xs) ≡ duty_weigh c xs
+wrap_duty : (c : DutyCoord) (xs : List TurnDuty) → weigh (duty c) (wrap xs) ≡ duty_weigh c xs
 wrap_duty c [] = refl
 wrap_duty c (x ∷ xs) = omega (arith, wrap_duty c xs)
 
@@ -37,15 +37,15 @@ news_none : (c : DutyCoord) (n : ℕ) → weigh (duty c) (news n) ≡ 0
 news_none c zero = refl
 news_none c (suc n) = omega (arith, news_none c n)
 
-sem_wrap : (k : Kind) (s : ℕ) (xs : List Item) → weigh (sem k s) (wrap xs) ≡ 0
+sem_wrap : (k : SemaphoreRole) (s : ℕ) (xs : List TurnDuty) → weigh (sem k s) (wrap xs) ≡ 0
 sem_wrap k s [] = refl
 sem_wrap k s (x ∷ xs) = omega (arith, sem_wrap k s xs)
 
-sem_news : (k : Kind) (s n : ℕ) → weigh (sem k s) (news n) ≡ 0
+sem_news : (k : SemaphoreRole) (s n : ℕ) → weigh (sem k s) (news n) ≡ 0
 sem_news k s zero = refl
 sem_news k s (suc n) = omega (arith, sem_news k s n)
 
-mark_wrap : (m : Mark) (xs : List Item) → weigh (mark m) (wrap xs) ≡ 0
+mark_wrap : (m : SeatMark) (xs : List TurnDuty) → weigh (mark m) (wrap xs) ≡ 0
 mark_wrap m [] = refl
 mark_wrap m (x ∷ xs) = omega (arith, mark_wrap m xs)
 
@@ -78,7 +78,7 @@ sticking_news zero = refl
 sticking_news (suc n) = omega (arith, sticking_news n)
 
 -- items that are no entry, start or ticket
-abbrev pub Idle : List Item → Type 0
+abbrev pub Idle : List TurnDuty → Type 0
 Idle [] = Unit {0}
 Idle (Told n x ∷ xs) = ⊥
 Idle (Fresh t cause ∷ xs) = Idle xs
@@ -96,42 +96,42 @@ OfRuns running = Unit {0}
 OfRuns tickets = Unit {0}
 OfRuns _ = ⊥
 
-item_none : (c : DutyCoord) → OfRuns c → (x : Item) → Idle (x ∷ []) → duty_weight c x ≡ 0
-item_none (place m) o (Fresh t cause) h = refl
-item_none (place m) o (Collecting t cause taken left) h = refl
-item_none (place m) o (Owes gives) h = refl
-item_none (place m) o (Counting e) h = refl
-item_none (place m) o (Told n y) h = absurd h
-item_none (place m) o Ticket h = absurd h
-item_none (place m) o (Open n t) h = absurd h
-item_none (runs m u) o (Fresh t cause) h = refl
-item_none (runs m u) o (Collecting t cause taken left) h = refl
-item_none (runs m u) o (Owes gives) h = refl
-item_none (runs m u) o (Counting e) h = refl
-item_none (runs m u) o (Told n y) h = absurd h
-item_none (runs m u) o Ticket h = absurd h
-item_none (runs m u) o (Open n t) h = absurd h
-item_none running o (Fresh t cause) h = refl
-item_none running o (Collecting t cause taken left) h = refl
-item_none running o (Owes gives) h = refl
-item_none running o (Counting e) h = refl
-item_none running o (Told n y) h = absurd h
-item_none running o Ticket h = absurd h
-item_none running o (Open n t) h = absurd h
-item_none tickets o (Fresh t cause) h = refl
-item_none tickets o (Collecting t cause taken left) h = refl
-item_none tickets o (Owes gives) h = refl
-item_none tickets o (Counting e) h = refl
-item_none tickets o (Told n y) h = absurd h
-item_none tickets o Ticket h = absurd h
-item_none tickets o (Open n t) h = absurd h
-item_none (token q) o x h = absurd o
-item_none (source q) o x h = absurd o
-item_none (weakly q) o x h = absurd o
-item_none (awaits q) o x h = absurd o
-item_none (unset q) o x h = absurd o
+duty_none : (c : DutyCoord) → OfRuns c → (x : TurnDuty) → Idle (x ∷ []) → duty_weight c x ≡ 0
+duty_none (place m) o (Fresh t cause) h = refl
+duty_none (place m) o (Collecting t cause taken left) h = refl
+duty_none (place m) o (Owes gives) h = refl
+duty_none (place m) o (Counting e) h = refl
+duty_none (place m) o (Told n y) h = absurd h
+duty_none (place m) o Ticket h = absurd h
+duty_none (place m) o (Open n t) h = absurd h
+duty_none (runs m u) o (Fresh t cause) h = refl
+duty_none (runs m u) o (Collecting t cause taken left) h = refl
+duty_none (runs m u) o (Owes gives) h = refl
+duty_none (runs m u) o (Counting e) h = refl
+duty_none (runs m u) o (Told n y) h = absurd h
+duty_none (runs m u) o Ticket h = absurd h
+duty_none (runs m u) o (Open n t) h = absurd h
+duty_none running o (Fresh t cause) h = refl
+duty_none running o (Collecting t cause taken left) h = refl
+duty_none running o (Owes gives) h = refl
+duty_none running o (Counting e) h = refl
+duty_none running o (Told n y) h = absurd h
+duty_none running o Ticket h = absurd h
+duty_none running o (Open n t) h = absurd h
+duty_none tickets o (Fresh t cause) h = refl
+duty_none tickets o (Collecting t cause taken left) h = refl
+duty_none tickets o (Owes gives) h = refl
+duty_none tickets o (Counting e) h = refl
+duty_none tickets o (Told n y) h = absurd h
+duty_none tickets o Ticket h = absurd h
+duty_none tickets o (Open n t) h = absurd h
+duty_none (token q) o x h = absurd o
+duty_none (source q) o x h = absurd o
+duty_none (weakly q) o x h = absurd o
+duty_none (awaits q) o x h = absurd o
+duty_none (unset q) o x h = absurd o
 
-idle_head : (x : Item) (xs : List Item) → Idle (x ∷ xs) → Idle (x ∷ []) × Idle xs
+idle_head : (x : TurnDuty) (xs : List TurnDuty) → Idle (x ∷ xs) → Idle (x ∷ []) × Idle xs
 idle_head (Told n y) xs h = absurd h
 idle_head (Fresh t cause) xs h = (tt, h)
 idle_head (Collecting t cause taken left) xs h = (tt, h)
@@ -140,18 +140,18 @@ idle_head (Open n t) xs h = absurd h
 idle_head (Owes gives) xs h = (tt, h)
 idle_head (Counting e) xs h = (tt, h)
 
-idle_none : (c : DutyCoord) → OfRuns c → (xs : List Item) → Idle xs → duty_weigh c xs ≡ 0
+idle_none : (c : DutyCoord) → OfRuns c → (xs : List TurnDuty) → Idle xs → duty_weigh c xs ≡ 0
 idle_none c o [] h = refl
-idle_none c o (x ∷ xs) h = let parts = idle_head x xs h in omega (arith, item_none c o x parts.0, idle_none c o xs parts.1)
+idle_none c o (x ∷ xs) h = let parts = idle_head x xs h in omega (arith, duty_none c o x parts.0, idle_none c o xs parts.1)
 
 -- the accounts but those of edges and duties, after such a step
-pub tokens_kept : (net : NetRows) (limit : ℕ) (w : Readings) (counted counted' : ℕ → ℕ) (journal : List Entry) (T T' : Coord → ℕ) (edge' join' : ℕ → ℕ) (xs ys : List Item) (n : ℕ) → Idle xs → Idle ys → (weigh turning (wrap ys) ≡ weigh turning (wrap xs) + n) × (weigh owing (wrap ys) ≡ weigh owing (wrap xs)) → Balanced net limit w counted journal T
+pub tokens_kept : (net : NetRows) (limit : ℕ) (w : Readings) (counted counted' : ℕ → ℕ) (journal : List Entry) (T T' : Coord → ℕ) (edge' join' : ℕ → ℕ) (xs ys : List TurnDuty) (n : ℕ) → Idle xs → Idle ys → (weigh turning (wrap ys) ≡ weigh turning (wrap xs) + n) × (weigh owing (wrap ys) ≡ weigh owing (wrap xs)) → Balanced net limit w counted journal T
     → Moves T (wrap xs) T' (wrap ys ++ news n) → (DutyMoves (λ c. T (duty c)) xs (λ c. T' (duty c)) ys → EdgePart net edge' journal (λ c. T' (duty c)) × DutyPart net edge' join' counted' journal (λ c. T' (duty c)))
     → Balanced net limit (with_tokens w edge' join') counted' journal T'
 tokens_kept net limit w counted counted' journal T T' edge' join' xs ys n idle_old idle_new made b moved parts =
     let duties : DutyMoves (λ c. T (duty c)) xs (λ c. T' (duty c)) ys = λ c. omega (arith, moved (duty c), weigh_append (duty c) (wrap ys) (news n), wrap_duty c xs, wrap_duty c ys, news_none c n) in
     let same : (c : DutyCoord) → OfRuns c → T' (duty c) ≡ T (duty c) = λ c o. omega (arith, duties c, idle_none c o xs idle_old, idle_none c o ys idle_new) in
-    let sems : (k : Kind) (s : ℕ) → T' (sem k s) ≡ T (sem k s) = λ k s. omega (arith, moved (sem k s), weigh_append (sem k s) (wrap ys) (news n), sem_wrap k s xs, sem_wrap k s ys, sem_news k s n) in
+    let sems : (k : SemaphoreRole) (s : ℕ) → T' (sem k s) ≡ T (sem k s) = λ k s. omega (arith, moved (sem k s), weigh_append (sem k s) (wrap ys) (news n), sem_wrap k s xs, sem_wrap k s ys, sem_news k s n) in
     let both = parts duties in let j = b.by_journal in record {
       by_journal = record {
         clock = j.clock;

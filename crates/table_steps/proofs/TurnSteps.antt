@@ -15,13 +15,13 @@ use Rattle.journal_rules.specs.declared.entry.Cause.{Cause}
 use Rattle.journal_rules.specs.declared.entry.Cause.TheVariants.{Source, Strong, Weak}
 use Rattle.journal_rules.specs.DataRule.{edges_of}
 use Rattle.journal_rules.proofs.NetLemmas.{at_place}
-use Rattle.table_steps.specs.declared.view.Item.{Item}
-use Rattle.table_steps.specs.declared.view.Item.TheVariants.{Fresh, Collecting, Ticket, Open}
-use Rattle.table_steps.specs.declared.view.Mark.TheVariants.{Live, New, Asked}
+use Rattle.table_steps.specs.declared.view.TurnDuty.{TurnDuty}
+use Rattle.table_steps.specs.declared.view.TurnDuty.TheVariants.{Fresh, Collecting, Ticket, Open}
+use Rattle.table_steps.specs.declared.view.SeatMark.TheVariants.{Live, New, Asked}
 use Rattle.table_steps.specs.declared.view.Note.{Note}
-use Rattle.table_steps.specs.declared.view.Kind.TheVariants.{Held, Both, Credit, Credited, Claim, Granted}
+use Rattle.table_steps.specs.declared.view.SemaphoreRole.TheVariants.{Held, Both, Credit, Credited, Claim, Granted}
 use Rattle.table_steps.specs.declared.view.Note.TheVariants.{Duty, Sems, Has}
-use Rattle.table_steps.specs.inside.Items.{place, runs, running, tickets, token, source, weakly, awaits, unset, MayRelease}
+use Rattle.table_steps.specs.inside.Duties.{place, runs, running, tickets, token, source, weakly, awaits, unset, MayRelease}
 use Rattle.table_steps.specs.inside.Accounts.{Coord, duty, sem, mark, busy, resting, turning, owing, telling, weight, total, FitsRelease, AllFitNotes, KeepsAccounts, reading}
 use Rattle.table_steps.specs.inside.Kinds.{IsTurn, MayTakeUp, taken_up, MayAdd, added, MayDeal, dealt, kept_back, MayAdmit, admitted_notes, admitted, MayStart, started, MayEnd, ended}
 use Rattle.table_steps.proofs.Stepping.{St, Seated, own_lone, still_step, done}
@@ -117,7 +117,7 @@ admit_allowed net limit slots id me may s h _ at small = from me.0 may at
         n : ℕ
         n = slice_index s.words 24
 
-        x : Item
+        x : TurnDuty
         x = Collecting t cause taken left
 
         by_room : (n < limit) ⊎ (limit ≤ n) → (u : List Note) × (z : Act _) × Valid s.homes me.1 z × KeepsAccounts net limit (stepped s 24 ((n + 1) % 18446744073709551616) id me.1 u z) × ((u ≡ admitted_notes (nat_lt n limit) x ++ rest) × (carried_after me.1 z ≡ me.1))

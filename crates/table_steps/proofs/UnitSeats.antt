@@ -10,10 +10,10 @@ use Rattle.task_graph.specs.NetRows.{NetRows}
 use Rattle.journal_rules.specs.SemaphoreRule.{max_of}
 use Rattle.table_steps.specs.Giving.{times}
 use Rattle.table_steps.specs.Holding.{without}
-use Rattle.table_steps.specs.declared.view.Item.{Item}
-use Rattle.table_steps.specs.declared.view.Item.TheVariants.{Collecting, Owes}
-use Rattle.table_steps.specs.declared.view.Kind.TheVariants.{Held, Undo, Owed, Both, Credit, Credited, Claim, Granted, Refusing, Denied, Full}
-use Rattle.table_steps.specs.declared.view.Mark.TheVariants.{Live, Over, Halted}
+use Rattle.table_steps.specs.declared.view.TurnDuty.{TurnDuty}
+use Rattle.table_steps.specs.declared.view.TurnDuty.TheVariants.{Collecting, Owes}
+use Rattle.table_steps.specs.declared.view.SemaphoreRole.TheVariants.{Held, Undo, Owed, Both, Credit, Credited, Claim, Granted, Refusing, Denied, Full}
+use Rattle.table_steps.specs.declared.view.SeatMark.TheVariants.{Live, Over, Halted}
 use Rattle.table_steps.specs.declared.view.Note.{Note}
 use Rattle.table_steps.specs.declared.view.Note.TheVariants.{Duty, Sems, Has, Unfit, Lies}
 use Rattle.table_steps.specs.inside.Accounts.{sem, mark, resting, weight, weigh, total, AllStand, reading, KeepsAccounts}
@@ -56,7 +56,7 @@ unit_there : {S : Type 0} (net : NetRows) (limit : ℕ) (s : St S) (h : KeepsAcc
 unit_there net limit s h a below = omega (arith, (h.balanced.by_units a below).tells, (h.balanced.by_credits a below).backed, unit_at net s.words a below)
 
 -- a unit taken
-take_got : {S : Type 0} (net : NetRows) (limit : ℕ) (s : St S) (h : KeepsAccounts net limit s) (id a k : ℕ) (carried : List (ℕ × S)) (x : Item) (l : List ℕ) (rest : List Note) → a < length net.sems → weigh resting rest ≡ 0 → get_elem? s.views id ≡ some (Duty x ∷ Has Live ∷ held_notes l ++ rest)
+take_got : {S : Type 0} (net : NetRows) (limit : ℕ) (s : St S) (h : KeepsAccounts net limit s) (id a k : ℕ) (carried : List (ℕ × S)) (x : TurnDuty) (l : List ℕ) (rest : List Note) → a < length net.sems → weigh resting rest ≡ 0 → get_elem? s.views id ≡ some (Duty x ∷ Has Live ∷ held_notes l ++ rest)
     → k ≡ slice_index s.words (40 + a) + 1 → slice_index s.words (40 + a) < max_of net a → KeepsAccounts net limit (stepped s (40 + a) k id carried (Duty x ∷ Has Live ∷ Sems Held (a ∷ l) ∷ rest) keeps)
 take_got net limit s h id a k carried x l rest below lone at sum room =
     let old = Duty x ∷ Has Live ∷ held_notes l in let new = Duty x ∷ Has Live ∷ Sems Held (a ∷ l) ∷ [] in
@@ -66,7 +66,7 @@ take_got net limit s h id a k carried x l rest below lone at sum room =
     (λ moved. take_kept net limit (reading net s.words) h.counted h.journal (λ c. total c s.views) _ _ a l h.balanced (unit_more net s.words a k below (omega (arith, h.size, below)) sum) (omega (arith, room, unit_at net s.words a below)) (λ c. omega (arith, moved c, held_weigh c l)))
 
 -- none found
-take_lost : {S : Type 0} (net : NetRows) (limit : ℕ) (s : St S) (h : KeepsAccounts net limit s) (id a k : ℕ) (carried : List (ℕ × S)) (x : Item) (l : List ℕ) (rest : List Note) → a < length net.sems → weigh resting (held_notes l ++ rest) ≡ 0 → get_elem? s.views id ≡ some (Duty x ∷ Has Live ∷ held_notes l ++ rest)
+take_lost : {S : Type 0} (net : NetRows) (limit : ℕ) (s : St S) (h : KeepsAccounts net limit s) (id a k : ℕ) (carried : List (ℕ × S)) (x : TurnDuty) (l : List ℕ) (rest : List Note) → a < length net.sems → weigh resting (held_notes l ++ rest) ≡ 0 → get_elem? s.views id ≡ some (Duty x ∷ Has Live ∷ held_notes l ++ rest)
     → k ≡ slice_index s.words (40 + a) + 1 → KeepsAccounts net limit (stepped s (40 + a) k id carried (Duty x ∷ Sems Undo (a ∷ []) ∷ held_notes l ++ rest) keeps)
 take_lost net limit s h id a k carried x l rest below lone at sum =
     let old = Duty x ∷ Has Live ∷ [] in let new = Duty x ∷ Sems Undo (a ∷ []) ∷ [] in
@@ -82,7 +82,7 @@ take_allowed net limit slots id me a may s h _ at small = from me.0 may at
     n : ℕ
     n = slice_index s.words (40 + a)
 
-    by_room : (x : Item) (l : List ℕ) (rest : List Note) → a < length net.sems → weigh resting rest ≡ 0 → weigh resting (held_notes l ++ rest) ≡ 0 → get_elem? s.views id ≡ some (Duty x ∷ Has Live ∷ held_notes l ++ rest) → (n < max_of net a) ⊎ (max_of net a ≤ n)
+    by_room : (x : TurnDuty) (l : List ℕ) (rest : List Note) → a < length net.sems → weigh resting rest ≡ 0 → weigh resting (held_notes l ++ rest) ≡ 0 → get_elem? s.views id ≡ some (Duty x ∷ Has Live ∷ held_notes l ++ rest) → (n < max_of net a) ⊎ (max_of net a ≤ n)
         → (u : List Note) × (z : Act _) × Valid s.homes me.1 z × KeepsAccounts net limit (stepped s (40 + a) ((n + 1) % 18446744073709551616) id me.1 u z) × ((u ≡ after_unit (nat_lt n (max_of net a)) a x l ++ rest) × (carried_after me.1 z ≡ me.1))
     by_room x l rest below lone both at (inl room) =
         let is : nat_lt n (max_of net a) ≡ true = grind (arith, nat_tests) in let sum : (n + 1) % 18446744073709551616 ≡ n + 1 = omega (arith, unit_small net limit s h a below) in

@@ -11,11 +11,11 @@ use Rattle.journal_rules.specs.Counts.{faults, is_fault, start_at}
 use Rattle.journal_rules.specs.SemaphoreRule.{back, taken, max_of}
 use Rattle.journal_rules.specs.HaltLimitStuckRule.{is_stuck}
 use Rattle.journal_rules.proofs.Snoc.{count_by_push, slice_get_push}
-use Rattle.table_steps.specs.declared.view.Item.TheVariants.{Told, Fresh, Collecting, Ticket, Open, Owes, Counting}
+use Rattle.table_steps.specs.declared.view.TurnDuty.TheVariants.{Told, Fresh, Collecting, Ticket, Open, Owes, Counting}
 use Rattle.table_steps.specs.Giving.{one_if, times}
-use Rattle.table_steps.specs.declared.view.Kind.{Kind}
-use Rattle.table_steps.specs.declared.view.Kind.TheVariants.{Held, Undo, Owed, Both, Credit, Credited, Claim, Granted, Refusing, Denied, Full}
-use Rattle.table_steps.specs.declared.view.Mark.TheVariants.{Live, New, Over, ToMark, Halted, Alone, Quiet, Sticking, Asked}
+use Rattle.table_steps.specs.declared.view.SemaphoreRole.{SemaphoreRole}
+use Rattle.table_steps.specs.declared.view.SemaphoreRole.TheVariants.{Held, Undo, Owed, Both, Credit, Credited, Claim, Granted, Refusing, Denied, Full}
+use Rattle.table_steps.specs.declared.view.SeatMark.TheVariants.{Live, New, Over, ToMark, Halted, Alone, Quiet, Sticking, Asked}
 use Rattle.table_steps.specs.declared.view.Note.{Note}
 use Rattle.table_steps.specs.declared.view.Note.TheVariants.{Duty, Sems, Has, Unfit, Lies}
 use Rattle.table_steps.specs.inside.Accounts.{Coord, sem, mark, busy, resting, telling, weight, weigh, total, Stands, AllStand, ViewPart, StuckPart}
@@ -110,7 +110,7 @@ pub quiet_rests : (v : List Note) → weigh (mark Quiet) v ≤ weigh resting v
 quiet_rests [] = omega arith
 quiet_rests (x ∷ xs) = omega (arith, one x, quiet_rests xs)
   where
-    by_kind : (k : Kind) (l : List ℕ) → weight (mark Quiet) (Sems k l) ≡ 0
+    by_kind : (k : SemaphoreRole) (l : List ℕ) → weight (mark Quiet) (Sems k l) ≡ 0
     by_kind k l = refl
 
     one : (x : Note) → weight (mark Quiet) x ≤ weight resting x
@@ -132,7 +132,7 @@ pub sticking_rests : (v : List Note) → weigh (mark Sticking) v ≤ weigh resti
 sticking_rests [] = omega arith
 sticking_rests (x ∷ xs) = omega (arith, one x, sticking_rests xs)
   where
-    by_kind : (k : Kind) (l : List ℕ) → weight (mark Sticking) (Sems k l) ≡ 0
+    by_kind : (k : SemaphoreRole) (l : List ℕ) → weight (mark Sticking) (Sems k l) ≡ 0
     by_kind k l = refl
 
     one : (x : Note) → weight (mark Sticking) x ≤ weight resting x

@@ -1,5 +1,5 @@
 -- Internal: what the seats of a table know, the accounts between words, views and journal, and the kinds of step.
-pub mod Items
+pub mod Duties
 pub mod Accounts
 pub mod Kinds
 pub mod Halts

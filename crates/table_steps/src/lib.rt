@@ -61,4 +61,4 @@ mod view;
 pub use credit_steps::FIRST_CREDIT;
 pub use slot_steps::Parcel;
 pub use steps::{FIRST_UNIT, LIVE, Place, Words};
-pub use view::{AccountsHold, Item, Kind, Lot, Mark, Note, Plan};
+pub use view::{AccountsHold, LimitedNet, Lot, Note, SeatMark, SemaphoreRole, TurnDuty};

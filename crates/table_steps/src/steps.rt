@@ -6,7 +6,7 @@ ghost use Rattle.table_steps.specs.inside.Accounts.{AllFitNotes, edges_from, mar
 ghost use Rattle.task_graph.specs.Net.{IsNet, strong_in};
 ghost use Rattle.table_steps.specs.inside.Kinds.{IsTurn, MayReset, MayTakeUp, taken_up, TakesNext, took, OwesNext, gave, CountsNext, counted_one, AreNoneLeft, others_of, MayAdd, added, MayDeal, dealt, kept_back, MayAdmit, admitted, MayStart, started, MayEnd, ended, MayLeave, left_by, IsWhole, joined};
 
-use crate::view::{AccountsHold, Note, Plan};
+use crate::view::{AccountsHold, LimitedNet, Note};
 use atomic_table::{Join, Play, Seat, Split, Table};
 use outside_io::List;
 use std::alloc::Global;
@@ -37,7 +37,7 @@ pub type Place<S> = Seat<S, List<Note>>;
 /// The words of a table, with its net.
 #[derive(Drop)]
 pub struct Words<S> {
-    pub table: Table<S, List<Note>, Plan, AccountsHold, Global>,
+    pub table: Table<S, List<Note>, LimitedNet, AccountsHold, Global>,
     pub net: Arc<Net>,
     pub limit: u64,
     ghost same_limit: { limit ≡ table.shared.key.limit },

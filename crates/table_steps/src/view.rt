@@ -8,7 +8,7 @@ use std::sync::Arc;
 use task_graph::Net;
 
 /// What a seat knows of its turn, or has still to do. No value of it is made.
-pub enum Item {
+pub enum TurnDuty {
     /// It drew this place, for this entry.
     Told(u64, Entry),
     /// It holds a release of a task that is not set again.
@@ -26,7 +26,7 @@ pub enum Item {
 }
 
 /// What a list of semaphores is.
-pub enum Kind {
+pub enum SemaphoreRole {
     /// Units that a turn has taken for a start.
     Held,
     /// A take that found no unit, to be undone.
@@ -52,7 +52,7 @@ pub enum Kind {
 }
 
 /// What a seat knows besides.
-pub enum Mark {
+pub enum SeatMark {
     /// A live turn.
     Live,
     /// A turn that is not counted yet.
@@ -94,11 +94,11 @@ pub enum Lot {
 /// One of the facts of which a seat's view is the list. No value of it is made.
 pub enum Note {
     /// What it knows of its turn, or has still to do.
-    Duty(Item),
+    Duty(TurnDuty),
     /// Semaphores, and what they are to it.
-    Sems(Kind, List<u32>),
+    Sems(SemaphoreRole, List<u32>),
     /// What it knows besides.
-    Has(Mark),
+    Has(SeatMark),
     /// The start at this place, of this task, would give back a unit of this semaphore that isn't out.
     Unfit(u32, u64, u32),
     /// What it has to do with the parcel of this edge, and which that is.
@@ -107,7 +107,7 @@ pub enum Note {
 
 /// The net and the limit of a table.
 #[derive(Drop)]
-pub struct Plan {
+pub struct LimitedNet {
     pub net: Arc<Net>,
     pub limit: u64,
 }
@@ -115,10 +115,10 @@ pub struct Plan {
 /// The accounts hold between any two steps.
 pub struct AccountsHold;
 
-impl<S> TableRule<S, List<Note>, Plan> for AccountsHold {
+impl<S> TableRule<S, List<Note>, LimitedNet> for AccountsHold {
     ghost use Rattle.table_steps.specs.inside.Accounts.{KeepsAccounts, opening_notes};
 
-    ghost holds = { λ plan. KeepsAccounts (arc_value plan.net) plan.limit };
+    ghost holds = { λ limited. KeepsAccounts (arc_value limited.net) limited.limit };
 
-    ghost first = { λ plan. opening_notes (arc_value plan.net) plan.limit };
+    ghost first = { λ limited. opening_notes (arc_value limited.net) limited.limit };
 }

@@ -5,14 +5,14 @@ use Rattle.task_graph.specs.Net.{IsNet, in_edges, strong_in}
 use Rattle.journal_rules.specs.Counts.{first_tokens}
 use Rattle.atomic_table.specs.Seated.{TableId}
 use Rattle.journal_rules.specs.declared.entry.Cause.{Cause}
-use Rattle.join_tables.specs.declared.releases.Release.{Release}
+use Rattle.join_tables.specs.declared.releases.FirstRelease.{FirstRelease}
 use Rattle.join_tables.specs.States.{FreshState, fresh_state}
-use Rattle.table_steps.specs.declared.view.Mark.TheVariants.{Live}
+use Rattle.table_steps.specs.declared.view.SeatMark.TheVariants.{Live}
 use Rattle.table_steps.specs.declared.view.Note.{Note}
 use Rattle.table_steps.specs.declared.view.Note.TheVariants.{Duty, Has}
-use Rattle.table_steps.specs.declared.view.Item.{Item}
-use Rattle.table_steps.specs.declared.view.Item.TheVariants.{Fresh}
-use Rattle.table_steps.specs.inside.Opening.{bare, is_empty, source_items, full_items}
+use Rattle.table_steps.specs.declared.view.TurnDuty.{TurnDuty}
+use Rattle.table_steps.specs.declared.view.TurnDuty.TheVariants.{Fresh}
+use Rattle.table_steps.specs.inside.Opening.{bare, is_empty, source_duties, full_duties}
 use Rattle.journal_rules.specs.SemaphoreRule.{max_of}
 use Rattle.table_steps.specs.inside.Accounts.{mark, busy, resting, weigh, marks_from, edges_from}
 use Rattle.table_steps.specs.Credits.{first_credit}
@@ -24,25 +24,25 @@ is_full (e ∷ es) zero = true
 is_full (e ∷ es) (suc n) = false
 
 -- the first releases of one task, and of the tasks before one
-abbrev pub task_items : NetRows → ℕ → List Item
-task_items net t = source_items t (is_empty (in_edges net t)) ++ full_items t (strong_in net t) (bare net (strong_in net t))
+abbrev pub task_duties : NetRows → ℕ → List TurnDuty
+task_duties net t = source_duties t (is_empty (in_edges net t)) ++ full_duties t (strong_in net t) (bare net (strong_in net t))
 
-abbrev pub items_before : NetRows → ℕ → List Item
-items_before net zero = []
-items_before net (suc t) = items_before net t ++ task_items net t
+abbrev pub duties_before : NetRows → ℕ → List TurnDuty
+duties_before net zero = []
+duties_before net (suc t) = duties_before net t ++ task_duties net t
 
--- releases as items
-abbrev pub items_of : List Release → List Item
-items_of [] = []
-items_of (r ∷ rs) = Fresh r.task r.cause ∷ items_of rs
+-- releases as duties
+abbrev pub duties_of : List FirstRelease → List TurnDuty
+duties_of [] = []
+duties_of (r ∷ rs) = Fresh r.task r.cause ∷ duties_of rs
 
-abbrev pub item_if : Bool → ℕ → Cause → List Item
-item_if true t cause = Fresh t cause ∷ []
-item_if false t cause = []
+abbrev pub duty_if : Bool → ℕ → Cause → List TurnDuty
+duty_if true t cause = Fresh t cause ∷ []
+duty_if false t cause = []
 
 -- and as turns
-abbrev pub states_of : TableId → List Release → List FreshState
-states_of n rs = map (λ (r : Release). fresh_state n r.task r.cause) rs
+abbrev pub states_of : TableId → List FirstRelease → List FreshState
+states_of n rs = map (λ (r : FirstRelease). fresh_state n r.task r.cause) rs
 
 -- what a word is at first, by its place
 abbrev pub opening_word : NetRows → ℕ → ℕ → ℕ

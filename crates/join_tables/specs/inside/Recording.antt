@@ -1,6 +1,6 @@
 -- What a keeper's seat knows: the newest entry first.
 use Rattle.std.specs.Prelude.{List, [], ◌∷◌}
-use Rattle.table_steps.specs.declared.view.Item.TheVariants.{Told}
+use Rattle.table_steps.specs.declared.view.TurnDuty.TheVariants.{Told}
 use Rattle.table_steps.specs.declared.view.Note.{Note}
 use Rattle.table_steps.specs.declared.view.Note.TheVariants.{Duty}
 use Rattle.join_tables.specs.declared.keeper.Recorded.{Recorded}

@@ -4,12 +4,12 @@ use Rattle.std.specs.List.{AllByRecursion}
 use Rattle.journal_rules.specs.declared.entry.DropWhy.{DropWhy}
 use Rattle.journal_rules.specs.declared.entry.DropWhy.TheVariants.{Stuck, Halted as AfterFault}
 use Rattle.journal_rules.specs.declared.entry.Entry.TheVariants.{Drop}
-use Rattle.table_steps.specs.declared.view.Item.TheVariants.{Told, Collecting}
-use Rattle.table_steps.specs.declared.view.Kind.TheVariants.{Full}
-use Rattle.table_steps.specs.declared.view.Mark.TheVariants.{Live, Halted, Alone, Quiet, Sticking}
+use Rattle.table_steps.specs.declared.view.TurnDuty.TheVariants.{Told, Collecting}
+use Rattle.table_steps.specs.declared.view.SemaphoreRole.TheVariants.{Full}
+use Rattle.table_steps.specs.declared.view.SeatMark.TheVariants.{Live, Halted, Alone, Quiet, Sticking}
 use Rattle.table_steps.specs.declared.view.Note.{Note}
 use Rattle.table_steps.specs.declared.view.Note.TheVariants.{Duty, Sems, Has}
-use Rattle.join_tables.specs.declared.outcomes.Dropping.{Dropping}
+use Rattle.join_tables.specs.declared.fates.Dropping.{Dropping}
 use Rattle.join_tables.specs.declared.rests.Parked.{Parked}
 use Rattle.table_steps.specs.inside.RestKinds.{bare_part}
 

@@ -4,13 +4,13 @@ use Rattle.journal_rules.specs.declared.entry.Cause.{Cause}
 use Rattle.journal_rules.specs.declared.entry.DropWhy.{DropWhy}
 use Rattle.journal_rules.specs.declared.entry.DropWhy.TheVariants.{Limit, Halted as AfterFault}
 use Rattle.journal_rules.specs.declared.entry.Entry.TheVariants.{Start, End}
-use Rattle.table_steps.specs.declared.view.Item.TheVariants.{Told, Fresh, Collecting, Ticket, Open, Owes}
-use Rattle.table_steps.specs.declared.view.Mark.TheVariants.{Live, New, Over, Halted}
+use Rattle.table_steps.specs.declared.view.TurnDuty.TheVariants.{Told, Fresh, Collecting, Ticket, Open, Owes}
+use Rattle.table_steps.specs.declared.view.SeatMark.TheVariants.{Live, New, Over, Halted}
 use Rattle.table_steps.specs.declared.view.Note.{Note}
-use Rattle.table_steps.specs.declared.view.Kind.TheVariants.{Held, Owed, Both, Credit, Credited, Claim, Granted, Denied}
+use Rattle.table_steps.specs.declared.view.SemaphoreRole.TheVariants.{Held, Owed, Both, Credit, Credited, Claim, Granted, Denied}
 use Rattle.table_steps.specs.declared.view.Note.TheVariants.{Duty, Sems, Has, Unfit}
-use Rattle.join_tables.specs.declared.turns.Run.{Run}
-use Rattle.join_tables.specs.declared.outcomes.Outcome.{Outcome}
+use Rattle.join_tables.specs.declared.turns.EndedStart.{EndedStart}
+use Rattle.join_tables.specs.declared.fates.Fate.{Fate}
 use Rattle.table_steps.specs.inside.Kinds.{IsTurn, sems_notes, own_units, credits_due, claims_due}
 use Rattle.task_graph.specs.NetRows.{NetRows}
 use Rattle.join_tables.specs.States.{StartUnits}
@@ -102,13 +102,13 @@ abbrev pub units_of : List Note → List ℕ
 units_of (x ∷ y ∷ Sems Owed l ∷ rest) = l
 units_of _ = []
 
-abbrev pub owing_view : Run → List ℕ → List ℕ → List Note
-owing_view run left units = Duty (Owes left) ∷ Has Live ∷ Sems Owed units ∷ Duty (Told run.place (End run.start run.gives run.inner)) ∷ Duty (Told run.start (Start run.task run.cause [])) ∷ []
+abbrev pub owing_view : EndedStart → List ℕ → List ℕ → List Note
+owing_view ended left units = Duty (Owes left) ∷ Has Live ∷ Sems Owed units ∷ Duty (Told ended.place (End ended.start ended.gives ended.inner)) ∷ Duty (Told ended.start (Start ended.task ended.cause [])) ∷ []
 
--- one that is done owes nothing, and knows the entries of its outcome
-abbrev pub IsSpent : Outcome → List Note → Type 0
-IsSpent outcome (Duty (Owes []) ∷ Has Live ∷ rest) = (tellings rest ≡ told_notes (entries_of outcome)) × (weigh busy rest ≡ 0)
-IsSpent outcome _ = ⊥
+-- one that is done owes nothing, and knows the entries of its fate
+abbrev pub IsSpent : Fate → List Note → Type 0
+IsSpent fate (Duty (Owes []) ∷ Has Live ∷ rest) = (tellings rest ≡ told_notes (entries_of fate)) × (weigh busy rest ≡ 0)
+IsSpent fate _ = ⊥
 
 -- a seat owes this edge next
 abbrev pub OwesFirst : ℕ → List Note → Type 0

@@ -17,26 +17,26 @@ use Rattle.journal_rules.specs.HaltLimitStuckRule.{is_stuck}
 use Rattle.journal_rules.specs.SemaphoreRule.{takes, puts, taken, back, max_of, closed_takers, IsOverRelease}
 use Rattle.journal_rules.specs.Complete.{is_limited}
 use Rattle.journal_rules.specs.ShapeLegal.{ShapeLegal}
-use Rattle.table_steps.specs.declared.view.Item.{Item}
-use Rattle.table_steps.specs.declared.view.Item.TheVariants.{Told, Fresh, Collecting, Open, Owes}
-use Rattle.table_steps.specs.inside.Items.{DutyCoord, place, runs, running, tickets, duty_weight, is_run, EdgePart, DutyPart}
+use Rattle.table_steps.specs.declared.view.TurnDuty.{TurnDuty}
+use Rattle.table_steps.specs.declared.view.TurnDuty.TheVariants.{Told, Fresh, Collecting, Open, Owes}
+use Rattle.table_steps.specs.inside.Duties.{DutyCoord, place, runs, running, tickets, duty_weight, is_run, EdgePart, DutyPart}
 use Rattle.table_steps.specs.Giving.{target, one_if, times}
 use Rattle.table_steps.specs.inside.Slots.{slot_total, holders}
 use Rattle.table_steps.specs.inside.SlotMarks.{Homes}
 use Rattle.table_steps.specs.Credits.{first_credit}
-use Rattle.table_steps.specs.inside.Opening.{first_items}
-use Rattle.table_steps.specs.declared.view.Kind.{Kind}
-use Rattle.table_steps.specs.declared.view.Kind.TheVariants.{Held, Undo, Owed, Both, Credit, Credited, Claim, Granted, Refusing, Denied, Full}
-use Rattle.table_steps.specs.declared.view.Mark.{Mark}
-use Rattle.table_steps.specs.declared.view.Mark.TheVariants.{Live, New, Over, ToMark, Halted, Alone, Quiet, Sticking}
+use Rattle.table_steps.specs.inside.Opening.{first_duties}
+use Rattle.table_steps.specs.declared.view.SemaphoreRole.{SemaphoreRole}
+use Rattle.table_steps.specs.declared.view.SemaphoreRole.TheVariants.{Held, Undo, Owed, Both, Credit, Credited, Claim, Granted, Refusing, Denied, Full}
+use Rattle.table_steps.specs.declared.view.SeatMark.{SeatMark}
+use Rattle.table_steps.specs.declared.view.SeatMark.TheVariants.{Live, New, Over, ToMark, Halted, Alone, Quiet, Sticking}
 use Rattle.table_steps.specs.declared.view.Note.{Note}
 use Rattle.table_steps.specs.declared.view.Note.TheVariants.{Duty, Sems, Has, Unfit}
 
 -- What is counted over all seats.
 pub data Coord : Type 0 where
   duty : DutyCoord → Coord
-  sem : Kind → ℕ → Coord
-  mark : Mark → Coord
+  sem : SemaphoreRole → ℕ → Coord
+  mark : SeatMark → Coord
   -- what only a live turn has
   busy : Coord
   -- what only a rest has
@@ -47,7 +47,7 @@ pub data Coord : Type 0 where
   -- entries
   telling : Coord
 
-abbrev pub sems_weight : Kind → Kind → ℕ → List ℕ → ℕ
+abbrev pub sems_weight : SemaphoreRole → SemaphoreRole → ℕ → List ℕ → ℕ
 sems_weight Held Held s l = times s l
 sems_weight Undo Undo s l = times s l
 sems_weight Owed Owed s l = times s l
@@ -61,7 +61,7 @@ sems_weight Denied Denied s l = times s l
 sems_weight Full Full s l = times s l
 sems_weight _ _ s l = 0
 
-abbrev pub mark_weight : Mark → Mark → ℕ
+abbrev pub mark_weight : SeatMark → SeatMark → ℕ
 mark_weight Live Live = 1
 -- a turn that was refused at the limit is live
 mark_weight Live Over = 1
@@ -75,65 +75,65 @@ mark_weight Sticking Sticking = 1
 mark_weight _ _ = 0
 
 -- so is one that has to undo a take
-abbrev pub lives : Mark → Kind → List ℕ → ℕ
+abbrev pub lives : SeatMark → SemaphoreRole → List ℕ → ℕ
 lives Live Undo l = length l
 lives _ _ l = 0
 
 -- a rest is alone
-abbrev pub rests : Mark → ℕ
+abbrev pub rests : SeatMark → ℕ
 rests Alone = 1
 rests Quiet = 1
 rests Sticking = 1
 rests _ = 0
 
-abbrev pub full_rests : Kind → List ℕ → ℕ
+abbrev pub full_rests : SemaphoreRole → List ℕ → ℕ
 full_rests Full l = length l
 full_rests _ l = 0
 
-abbrev pub mark_busy : Mark → ℕ
+abbrev pub mark_busy : SeatMark → ℕ
 mark_busy New = 1
 mark_busy Over = 1
 mark_busy ToMark = 1
 mark_busy _ = 0
 
 -- units and calls; claims may stay behind
-abbrev pub kind_busy : Kind → List ℕ → ℕ
+abbrev pub kind_busy : SemaphoreRole → List ℕ → ℕ
 kind_busy Held l = length l
 kind_busy Undo l = length l
 kind_busy Owed l = length l
 kind_busy _ l = 0
 
-abbrev pub item_busy : Item → ℕ
-item_busy (Told n x) = 0
-item_busy _ = 1
+abbrev pub duty_busy : TurnDuty → ℕ
+duty_busy (Told n x) = 0
+duty_busy _ = 1
 
-abbrev pub item_turns : Item → ℕ
-item_turns (Fresh t cause) = 1
-item_turns (Collecting t cause taken left) = 1
-item_turns (Open n t) = 1
-item_turns (Owes gives) = 1
-item_turns _ = 0
+abbrev pub duty_turns : TurnDuty → ℕ
+duty_turns (Fresh t cause) = 1
+duty_turns (Collecting t cause taken left) = 1
+duty_turns (Open n t) = 1
+duty_turns (Owes gives) = 1
+duty_turns _ = 0
 
-abbrev pub item_owes : Item → ℕ
-item_owes (Owes gives) = 1
-item_owes _ = 0
+abbrev pub duty_owes : TurnDuty → ℕ
+duty_owes (Owes gives) = 1
+duty_owes _ = 0
 
-abbrev pub item_tells : Item → ℕ
-item_tells (Told n x) = 1
-item_tells _ = 0
+abbrev pub duty_tells : TurnDuty → ℕ
+duty_tells (Told n x) = 1
+duty_tells _ = 0
 
 abbrev pub weight : Coord → Note → ℕ
 weight (duty c) (Duty x) = duty_weight c x
 weight (sem k s) (Sems j l) = sems_weight k j s l
 weight (mark m) (Has k) = mark_weight m k
 weight (mark m) (Sems k l) = lives m k l
-weight busy (Duty x) = item_busy x
+weight busy (Duty x) = duty_busy x
 weight busy (Sems k l) = kind_busy k l
 weight busy (Has k) = mark_busy k
 weight resting (Has k) = rests k
-weight turning (Duty x) = item_turns x
-weight owing (Duty x) = item_owes x
-weight telling (Duty x) = item_tells x
+weight turning (Duty x) = duty_turns x
+weight owing (Duty x) = duty_owes x
+weight telling (Duty x) = duty_tells x
 weight resting (Sems k l) = full_rests k l
 weight _ _ = 0
 
@@ -152,7 +152,7 @@ FitsRelease net t Strong = (t < length net.tasks) × (strong_in net t ≢ [])
 FitsRelease net t (Weak e) = (e < length net.edges) × (is_weak net e ≡ true) × (target net e ≡ t)
 
 -- what a note says of the net alone
-abbrev pub FitsItem : NetRows → Item → Type 0
+abbrev pub FitsItem : NetRows → TurnDuty → Type 0
 FitsItem net (Fresh t cause) = FitsRelease net t cause
 FitsItem net (Collecting t cause taken left) = FitsRelease net t cause × (taken ++ left ≡ edges_of net t cause)
 FitsItem net (Owes gives) = AllByRecursion (λ e. e < length net.edges) gives
@@ -327,12 +327,12 @@ pub record KeepsAccounts {S : Type 0} (net : NetRows) (limit : ℕ) (s : State S
   pub homes : Homes (length net.edges) (mark_at net s.words) s.homes (holders (λ c. slot_total c s.views))
 
 -- each first release has a live turn
-abbrev pub first_notes : List Item → List Note
+abbrev pub first_notes : List TurnDuty → List Note
 first_notes [] = []
 first_notes (x ∷ xs) = Duty x ∷ Has Live ∷ first_notes xs
 
 abbrev pub opening_notes : NetRows → ℕ → List Note
-opening_notes net limit = first_notes (first_items net 0 (length net.tasks))
+opening_notes net limit = first_notes (first_duties net 0 (length net.tasks))
 
 -- one word is another
 abbrev pub with_clock : Readings → ℕ → Readings

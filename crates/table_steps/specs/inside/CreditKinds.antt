@@ -5,9 +5,9 @@ use Rattle.journal_rules.specs.SemaphoreRule.{puts}
 use Rattle.table_steps.specs.Giving.{times}
 use Rattle.table_steps.specs.Holding.{without}
 use Rattle.table_steps.specs.Credits.{first_credit, AllowsOver}
-use Rattle.table_steps.specs.declared.view.Item.TheVariants.{Open}
-use Rattle.table_steps.specs.declared.view.Kind.TheVariants.{Both, Credit, Credited, Claim, Granted, Refusing, Denied}
-use Rattle.table_steps.specs.declared.view.Mark.TheVariants.{Live}
+use Rattle.table_steps.specs.declared.view.TurnDuty.TheVariants.{Open}
+use Rattle.table_steps.specs.declared.view.SemaphoreRole.TheVariants.{Both, Credit, Credited, Claim, Granted, Refusing, Denied}
+use Rattle.table_steps.specs.declared.view.SeatMark.TheVariants.{Live}
 use Rattle.table_steps.specs.declared.view.Note.{Note}
 use Rattle.table_steps.specs.declared.view.Note.TheVariants.{Duty, Sems, Has, Unfit}
 use Rattle.table_steps.specs.inside.Kinds.{Lone}

@@ -6,9 +6,9 @@ use Rattle.journal_rules.specs.declared.entry.Why.{Why}
 use Rattle.journal_rules.specs.declared.entry.DropWhy.TheVariants.{Limit, Halted as AfterFault}
 use Rattle.journal_rules.specs.declared.entry.Why.TheVariants.{OverRelease}
 use Rattle.table_steps.specs.Holding.{TakesAlone}
-use Rattle.table_steps.specs.declared.view.Kind.TheVariants.{Both, Credit, Credited, Claim, Granted}
-use Rattle.table_steps.specs.declared.view.Item.TheVariants.{Told, Collecting, Open, Owes}
-use Rattle.table_steps.specs.declared.view.Mark.TheVariants.{Live, Over, ToMark, Halted, Asked}
+use Rattle.table_steps.specs.declared.view.SemaphoreRole.TheVariants.{Both, Credit, Credited, Claim, Granted}
+use Rattle.table_steps.specs.declared.view.TurnDuty.TheVariants.{Told, Collecting, Open, Owes}
+use Rattle.table_steps.specs.declared.view.SeatMark.TheVariants.{Live, Over, ToMark, Halted, Asked}
 use Rattle.table_steps.specs.declared.view.Note.{Note}
 use Rattle.table_steps.specs.declared.view.Note.TheVariants.{Duty, Sems, Has, Unfit}
 use Rattle.table_steps.specs.inside.Kinds.{Lone}

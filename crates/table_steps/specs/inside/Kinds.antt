@@ -7,17 +7,17 @@ use Rattle.journal_rules.specs.declared.entry.Entry.TheVariants.{Start, End}
 use Rattle.journal_rules.specs.DataRule.{edges_of}
 use Rattle.journal_rules.specs.SemaphoreRule.{puts}
 use Rattle.task_graph.specs.NetRows.{NetRows}
-use Rattle.table_steps.specs.declared.view.Item.{Item}
-use Rattle.table_steps.specs.declared.view.Item.TheVariants.{Told, Fresh, Collecting, Ticket, Open, Owes, Counting}
-use Rattle.table_steps.specs.declared.view.Mark.TheVariants.{Live, New, Over, Asked}
+use Rattle.table_steps.specs.declared.view.TurnDuty.{TurnDuty}
+use Rattle.table_steps.specs.declared.view.TurnDuty.TheVariants.{Told, Fresh, Collecting, Ticket, Open, Owes, Counting}
+use Rattle.table_steps.specs.declared.view.SeatMark.TheVariants.{Live, New, Over, Asked}
 use Rattle.table_steps.specs.declared.view.Note.{Note}
-use Rattle.table_steps.specs.declared.view.Kind.TheVariants.{Held, Owed, Both, Credit, Credited, Claim, Granted}
+use Rattle.table_steps.specs.declared.view.SemaphoreRole.TheVariants.{Held, Owed, Both, Credit, Credited, Claim, Granted}
 use Rattle.table_steps.specs.declared.view.Note.TheVariants.{Duty, Sems, Has}
 use Rattle.table_steps.specs.inside.Accounts.{duty, mark, busy, resting, telling, weigh, only_puts, AllStand}
 use Rattle.journal_rules.specs.declared.entry.Entry.{Entry}
 use Rattle.journal_rules.specs.ShapeLegal.{ShapeLegal}
 use Rattle.journal_rules.specs.Complete.{Complete}
-use Rattle.table_steps.specs.inside.Items.{place, after_take}
+use Rattle.table_steps.specs.inside.Duties.{place, after_take}
 use Rattle.table_steps.specs.Giving.{times, target, MayGive}
 use Rattle.table_steps.specs.Holding.{HoldsAll, PutsEach, TakesAlone}
 
@@ -29,8 +29,8 @@ Lone rest = weigh resting rest ≡ 0
 abbrev pub IsTurn : List Note → Type 0
 IsTurn rest = (weigh resting rest ≡ 0) × (1 ≤ weigh (mark Live) rest)
 
--- items as notes, and turns that are still to be counted
-abbrev pub wrap : List Item → List Note
+-- duties as notes, and turns that are still to be counted
+abbrev pub wrap : List TurnDuty → List Note
 wrap [] = []
 wrap (x ∷ xs) = Duty x ∷ wrap xs
 
@@ -133,7 +133,7 @@ abbrev pub MayAdmit : List Note → Type 0
 MayAdmit (Duty (Collecting t cause taken left) ∷ Has Live ∷ Has Asked ∷ rest) = Lone rest
 MayAdmit _ = ⊥
 
-abbrev pub admitted_notes : Bool → Item → List Note
+abbrev pub admitted_notes : Bool → TurnDuty → List Note
 admitted_notes true x = Duty x ∷ Duty Ticket ∷ Has Live ∷ []
 admitted_notes false x = Duty x ∷ Has Over ∷ []
 

@@ -7,12 +7,12 @@ use Rattle.journal_rules.specs.declared.entry.DropWhy.TheVariants.{Stuck, Halted
 use Rattle.journal_rules.specs.declared.entry.Entry.TheVariants.{Drop}
 use Rattle.journal_rules.specs.SemaphoreRule.{takes, max_of}
 use Rattle.table_steps.specs.Giving.{times}
-use Rattle.table_steps.specs.declared.view.Item.TheVariants.{Told, Collecting, Owes}
-use Rattle.table_steps.specs.declared.view.Kind.TheVariants.{Held, Undo, Owed, Full}
-use Rattle.table_steps.specs.declared.view.Mark.TheVariants.{Live, ToMark, Halted, Alone, Quiet, Sticking}
+use Rattle.table_steps.specs.declared.view.TurnDuty.TheVariants.{Told, Collecting, Owes}
+use Rattle.table_steps.specs.declared.view.SemaphoreRole.TheVariants.{Held, Undo, Owed, Full}
+use Rattle.table_steps.specs.declared.view.SeatMark.TheVariants.{Live, ToMark, Halted, Alone, Quiet, Sticking}
 use Rattle.table_steps.specs.declared.view.Note.{Note}
 use Rattle.table_steps.specs.declared.view.Note.TheVariants.{Duty, Sems, Has}
-use Rattle.table_steps.specs.inside.Items.{running}
+use Rattle.table_steps.specs.inside.Duties.{running}
 use Rattle.table_steps.specs.inside.Accounts.{duty, sem, mark, busy, resting, telling, weigh}
 use Rattle.table_steps.specs.inside.Kinds.{Lone, dealt, kept_back}
 

@@ -7,8 +7,8 @@ use Rattle.journal_rules.specs.declared.entry.Entry.{Entry}
 use Rattle.journal_rules.specs.Counts.{given}
 use Rattle.journal_rules.specs.Calm.{used_at}
 use Rattle.table_steps.specs.Giving.{one_if, times}
-use Rattle.table_steps.specs.declared.view.Item.{Item}
-use Rattle.table_steps.specs.declared.view.Item.TheVariants.{Collecting, Owes}
+use Rattle.table_steps.specs.declared.view.TurnDuty.{TurnDuty}
+use Rattle.table_steps.specs.declared.view.TurnDuty.TheVariants.{Collecting, Owes}
 use Rattle.table_steps.specs.declared.view.Lot.{Lot}
 use Rattle.table_steps.specs.declared.view.Lot.TheVariants.{Ours, Putting, Put, Awaited, Taking, Fetched, Found}
 use Rattle.table_steps.specs.declared.view.Note.{Note}
@@ -42,16 +42,16 @@ lot_weight Fetched Fetched n = n
 lot_weight Found Found n = n
 lot_weight _ _ n = 0
 
-abbrev pub item_slots : SlotCoord → Item → ℕ
-item_slots (owed e) (Owes gives) = times e gives
-item_slots (collected e) (Collecting t cause taken left) = times e taken
-item_slots (left_at e) (Collecting t cause taken left) = times e left
-item_slots _ _ = 0
+abbrev pub duty_slots : SlotCoord → TurnDuty → ℕ
+duty_slots (owed e) (Owes gives) = times e gives
+duty_slots (collected e) (Collecting t cause taken left) = times e taken
+duty_slots (left_at e) (Collecting t cause taken left) = times e left
+duty_slots _ _ = 0
 
 abbrev pub slot_weight : SlotCoord → Note → ℕ
 slot_weight (parcel e p) (Lies k f q) = has_parcel k (one_if ((f == e) && same_part q p))
 slot_weight (lot j e) (Lies k f q) = lot_weight j k (one_if (f == e))
-slot_weight c (Duty x) = item_slots c x
+slot_weight c (Duty x) = duty_slots c x
 slot_weight _ _ = 0
 
 abbrev pub slot_weigh : SlotCoord → List Note → ℕ
@@ -101,7 +101,7 @@ our_lots n [] = []
 our_lots n (e ∷ es) = Lies Ours e (From n) ∷ our_lots n es
 
 -- what a view has of slots: its parcels and lots, and the tokens that it owes or collects
-abbrev pub slots_of : Item → List Note
+abbrev pub slots_of : TurnDuty → List Note
 slots_of (Collecting t cause taken left) = Duty (Collecting t cause taken left) ∷ []
 slots_of (Owes gives) = Duty (Owes gives) ∷ []
 slots_of _ = []

@@ -4,10 +4,10 @@ use Rattle.task_graph.specs.NetRows.{NetRows}
 use Rattle.journal_rules.specs.SemaphoreRule.{max_of}
 use Rattle.table_steps.specs.Giving.{times}
 use Rattle.table_steps.specs.Holding.{without}
-use Rattle.table_steps.specs.declared.view.Item.{Item}
-use Rattle.table_steps.specs.declared.view.Item.TheVariants.{Collecting, Owes}
-use Rattle.table_steps.specs.declared.view.Kind.TheVariants.{Held, Undo, Owed}
-use Rattle.table_steps.specs.declared.view.Mark.TheVariants.{Live, Over, Halted}
+use Rattle.table_steps.specs.declared.view.TurnDuty.{TurnDuty}
+use Rattle.table_steps.specs.declared.view.TurnDuty.TheVariants.{Collecting, Owes}
+use Rattle.table_steps.specs.declared.view.SemaphoreRole.TheVariants.{Held, Undo, Owed}
+use Rattle.table_steps.specs.declared.view.SeatMark.TheVariants.{Live, Over, Halted}
 use Rattle.table_steps.specs.declared.view.Note.{Note}
 use Rattle.table_steps.specs.declared.view.Note.TheVariants.{Duty, Sems, Has}
 use Rattle.table_steps.specs.inside.Kinds.{Lone}
@@ -23,7 +23,7 @@ MayTake net a (Duty (Collecting t cause taken left) ∷ Has Live ∷ []) = a < l
 MayTake net a (Duty (Collecting t cause taken left) ∷ Has Live ∷ Sems Held (b ∷ l) ∷ rest) = (a < length net.sems) × Lone rest
 MayTake net a _ = ⊥
 
-abbrev pub after_unit : Bool → ℕ → Item → List ℕ → List Note
+abbrev pub after_unit : Bool → ℕ → TurnDuty → List ℕ → List Note
 after_unit true a x l = Duty x ∷ Has Live ∷ Sems Held (a ∷ l) ∷ []
 after_unit false a x l = Duty x ∷ Sems Undo (a ∷ []) ∷ held_notes l
 

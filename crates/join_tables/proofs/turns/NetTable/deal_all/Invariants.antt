@@ -1,8 +1,8 @@
 use Rattle.std.proofs.Common.{◌≡◌, [], take}
 use Rattle.std.specs.Prelude.{drop}
 use Rattle.table_steps.specs.inside.Accounts.{first_notes}
-use Rattle.join_tables.specs.inside.FirstReleases.{items_of, states_of}
+use Rattle.join_tables.specs.inside.FirstReleases.{duties_of, states_of}
 use Rattle.join_tables.proofs.turns.NetTable.deal_all.Given as goal
 
 abbrev pub invariant-loop-release : goal.invariant-loop-release
-invariant-loop-release l = (l.seat.table_id ≡ l.self.table) × (l.seat.id ≡ 0) × (l.seat.me ≡ (first_notes (items_of (drop l.release-index l.release-items)), [])) × (l.fresh.items ≡ states_of l.self.table (take l.release-index l.release-items))
+invariant-loop-release l = (l.seat.table_id ≡ l.self.table) × (l.seat.id ≡ 0) × (l.seat.me ≡ (first_notes (duties_of (drop l.release-index l.release-items)), [])) × (l.fresh.items ≡ states_of l.self.table (take l.release-index l.release-items))

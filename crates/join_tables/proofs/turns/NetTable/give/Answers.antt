@@ -3,50 +3,50 @@ use Rattle.std.specs.Prelude.{slice_get, drop}
 use Rattle.task_graph.specs.Net.{is_weak}
 use Rattle.join_tables.specs.States.{OwingState}
 use Rattle.join_tables.specs.inside.Seated.{owing_view, units_of, IsSpent, paid, OwesFirst}
-use Rattle.join_tables.specs.declared.outcomes.Outcome.TheVariants.{Ended}
+use Rattle.join_tables.specs.declared.fates.Fate.TheVariants.{Ended}
 use Rattle.join_tables.proofs.Turning.{drop_some, drop_none, get_below, gives_none, gives_on, gives_more}
 use Rattle.join_tables.proofs.turns.NetTable.give.Goals as goal
 
 pub invariant_of-result : goal.invariant_of-result
 invariant_of-result c =
     let units : units_of c.owing.inside.seat.me.0 ≡ [] = ap (λ (o : OwingState). o.units) c.owing.view_is ∙ c.requires.no_unit in
-    let none : slice_get c.owing.inside.run.gives c.owing.inside.next ≡ None = search rules in
-    (subst (λ v. IsSpent (Ended c.owing.inside.run) v) (sym (ap (λ m. m.0) c.owing.invariant ∙ (λ i. owing_view c.owing.inside.run (drop_none c.owing.inside.run.gives c.owing.inside.next none i) (units i)))) (refl, refl), ap (λ m. m.1) c.owing.invariant)
+    let none : slice_get c.owing.inside.ended.gives c.owing.inside.next ≡ None = search rules in
+    (subst (λ v. IsSpent (Ended c.owing.inside.ended) v) (sym (ap (λ m. m.0) c.owing.invariant ∙ (λ i. owing_view c.owing.inside.ended (drop_none c.owing.inside.ended.gives c.owing.inside.next none i) (units i)))) (refl, refl), ap (λ m. m.1) c.owing.invariant)
 
 pub returns-in_default : goal.returns-in_default
 returns-in_default c =
-    let none : slice_get c.owing.inside.run.gives c.owing.inside.next ≡ None = search rules in
-    gives_none c.args.self.now.net c.args.owing c.args.owing.left _ (sym (ap (λ (o : OwingState). o.left) c.owing.view_is) ∙ drop_none c.owing.inside.run.gives c.owing.inside.next none) (search rules)
+    let none : slice_get c.owing.inside.ended.gives c.owing.inside.next ≡ None = search rules in
+    gives_none c.args.self.now.net c.args.owing c.args.owing.left _ (sym (ap (λ (o : OwingState). o.left) c.owing.view_is) ∙ drop_none c.owing.inside.ended.gives c.owing.inside.next none) (search rules)
 
 pub give_edge-found-requires-clause-ready : goal.give_edge-found-requires-clause-ready
 give_edge-found-requires-clause-ready c =
-    let some : slice_get c.owing.inside.run.gives c.owing.inside.next ≡ Some c.in-Some.edge.now = search rules in
-    subst (λ v. OwesFirst c.in-Some.edge.now v) (sym (ap (λ m. m.0) c.owing.invariant ∙ ap (λ es. owing_view c.owing.inside.run es (units_of c.owing.inside.seat.me.0)) (drop_some c.owing.inside.run.gives c.owing.inside.next c.in-Some.edge.now some))) (search rules)
+    let some : slice_get c.owing.inside.ended.gives c.owing.inside.next ≡ Some c.in-Some.edge.now = search rules in
+    subst (λ v. OwesFirst c.in-Some.edge.now v) (sym (ap (λ m. m.0) c.owing.invariant ∙ ap (λ es. owing_view c.owing.inside.ended es (units_of c.owing.inside.seat.me.0)) (drop_some c.owing.inside.ended.gives c.owing.inside.next c.in-Some.edge.now some))) (search rules)
 
 pub overflow_add-owing : goal.overflow_add-owing
 overflow_add-owing c =
-    let some : slice_get c.owing.inside.run.gives c.owing.inside.next ≡ Some c.in-Some.edge.now = search rules in
-    let below = get_below c.owing.inside.run.gives c.owing.inside.next c.in-Some.edge.now some in search rules
+    let some : slice_get c.owing.inside.ended.gives c.owing.inside.next ≡ Some c.in-Some.edge.now = search rules in
+    let below = get_below c.owing.inside.ended.gives c.owing.inside.next c.in-Some.edge.now some in search rules
 
 pub invariant_of-owing : goal.invariant_of-owing
 invariant_of-owing c =
-    let some : slice_get c.owing.inside.run.gives c.owing.inside.next ≡ Some c.in-Some.edge.now = search rules in
-    let view = ap (λ m. m.0) c.give_edge-found.ensures.view ∙ ap paid (ap (λ m. m.0) c.owing.invariant ∙ ap (λ es. owing_view c.owing.inside.run es (units_of c.owing.inside.seat.me.0)) (drop_some c.owing.inside.run.gives c.owing.inside.next c.in-Some.edge.now some)) in
-    λ i. ((view ∙ ap (owing_view c.owing.inside.run (drop (c.owing.inside.next + 1) c.owing.inside.run.gives)) (sym (ap units_of view))) i, ap (λ m. m.1) c.give_edge-found.ensures.view i)
+    let some : slice_get c.owing.inside.ended.gives c.owing.inside.next ≡ Some c.in-Some.edge.now = search rules in
+    let view = ap (λ m. m.0) c.give_edge-found.ensures.view ∙ ap paid (ap (λ m. m.0) c.owing.invariant ∙ ap (λ es. owing_view c.owing.inside.ended es (units_of c.owing.inside.seat.me.0)) (drop_some c.owing.inside.ended.gives c.owing.inside.next c.in-Some.edge.now some)) in
+    λ i. ((view ∙ ap (owing_view c.owing.inside.ended (drop (c.owing.inside.next + 1) c.owing.inside.ended.gives)) (sym (ap units_of view))) i, ap (λ m. m.1) c.give_edge-found.ensures.view i)
 
 pub invariant_of-owing-in-None : goal.invariant_of-owing-in-None
 invariant_of-owing-in-None c =
-    let some : slice_get c.owing.inside.run.gives c.owing.inside.next ≡ Some c.in-Some.edge.now = search rules in
-    let view = ap (λ m. m.0) c.give_edge-found.ensures.view ∙ ap paid (ap (λ m. m.0) c.owing.invariant ∙ ap (λ es. owing_view c.owing.inside.run es (units_of c.owing.inside.seat.me.0)) (drop_some c.owing.inside.run.gives c.owing.inside.next c.in-Some.edge.now some)) in
-    λ i. ((view ∙ ap (owing_view c.owing.inside.run (drop (c.owing.inside.next + 1) c.owing.inside.run.gives)) (sym (ap units_of view))) i, ap (λ m. m.1) c.give_edge-found.ensures.view i)
+    let some : slice_get c.owing.inside.ended.gives c.owing.inside.next ≡ Some c.in-Some.edge.now = search rules in
+    let view = ap (λ m. m.0) c.give_edge-found.ensures.view ∙ ap paid (ap (λ m. m.0) c.owing.invariant ∙ ap (λ es. owing_view c.owing.inside.ended es (units_of c.owing.inside.seat.me.0)) (drop_some c.owing.inside.ended.gives c.owing.inside.next c.in-Some.edge.now some)) in
+    λ i. ((view ∙ ap (owing_view c.owing.inside.ended (drop (c.owing.inside.next + 1) c.owing.inside.ended.gives)) (sym (ap units_of view))) i, ap (λ m. m.1) c.give_edge-found.ensures.view i)
 
 pub returns-in-Some-made : goal.returns-in-Some-made
 returns-in-Some-made c =
-    let some : slice_get c.owing.inside.run.gives c.owing.inside.next ≡ Some c.in-Some.edge.now = search rules in
-    gives_more c.args.self.now.net c.args.owing c.in-Some.edge.now c.args.owing.left (drop (c.owing.inside.next + 1) c.owing.inside.run.gives) _ _ (sym (ap (λ (o : OwingState). o.left) c.owing.view_is) ∙ drop_some c.owing.inside.run.gives c.owing.inside.next c.in-Some.edge.now some) (search rules) (search rules) (search rules)
+    let some : slice_get c.owing.inside.ended.gives c.owing.inside.next ≡ Some c.in-Some.edge.now = search rules in
+    gives_more c.args.self.now.net c.args.owing c.in-Some.edge.now c.args.owing.left (drop (c.owing.inside.next + 1) c.owing.inside.ended.gives) _ _ (sym (ap (λ (o : OwingState). o.left) c.owing.view_is) ∙ drop_some c.owing.inside.ended.gives c.owing.inside.next c.in-Some.edge.now some) (search rules) (search rules) (search rules)
 
 pub returns-in-None : goal.returns-in-None
 returns-in-None c =
-    let some : slice_get c.owing.inside.run.gives c.owing.inside.next ≡ Some c.in-Some.edge.now = search rules in
+    let some : slice_get c.owing.inside.ended.gives c.owing.inside.next ≡ Some c.in-Some.edge.now = search rules in
     let strong : is_weak c.args.self.now.net c.in-Some.edge.now ≡ false = search rules in
-    gives_on c.args.self.now.net c.args.owing c.in-Some.edge.now c.args.owing.left (drop (c.owing.inside.next + 1) c.owing.inside.run.gives) _ (sym (ap (λ (o : OwingState). o.left) c.owing.view_is) ∙ drop_some c.owing.inside.run.gives c.owing.inside.next c.in-Some.edge.now some) strong (search rules) (search rules)
+    gives_on c.args.self.now.net c.args.owing c.in-Some.edge.now c.args.owing.left (drop (c.owing.inside.next + 1) c.owing.inside.ended.gives) _ (sym (ap (λ (o : OwingState). o.left) c.owing.view_is) ∙ drop_some c.owing.inside.ended.gives c.owing.inside.next c.in-Some.edge.now some) strong (search rules) (search rules)

@@ -1,7 +1,7 @@
 use Rattle.std.proofs.Common.{rules, ◌≡◌, length}
 use Rattle.std.specs.Arc.{arc_value}
-use Rattle.table_steps.specs.inside.Opening.{first_items}
-use Rattle.join_tables.specs.inside.FirstReleases.{items_of, states_of, AreOpeningWords}
+use Rattle.table_steps.specs.inside.Opening.{first_duties}
+use Rattle.join_tables.specs.inside.FirstReleases.{duties_of, states_of, AreOpeningWords}
 use Rattle.join_tables.proofs.FirstStep.{begins_table, live_is, all_of_table}
 use Rattle.join_tables.proofs.FirstFresh.{is_first_fresh, nothing_runs}
 use Rattle.join_tables.proofs.turns.NetTable.new.Goals as goal
@@ -9,7 +9,7 @@ use Rattle.join_tables.proofs.turns.NetTable.new.Goals as goal
 pub table_of-requires : goal.table_of-requires
 table_of-requires c =
     let net = arc_value c.args.net in
-    let first : items_of c.in_ok-releases.releases.items ≡ first_items net 0 (length net.tasks) = search rules in
+    let first : duties_of c.in_ok-releases.releases.items ≡ first_duties net 0 (length net.tasks) = search rules in
     let live : c.len.result ≡ length c.in_ok-releases.releases.items = search rules in
     let words : AreOpeningWords net c.len.result c.as_slice.result.now = search rules in
     let full : length c.in_ok-parcels.parcels.items ≡ length net.edges = search rules in
@@ -19,7 +19,7 @@ pub returns : goal.returns
 returns c =
     let net = arc_value c.args.net in
     let rs = c.in_ok-releases.releases.items in
-    let first : items_of rs ≡ first_items net 0 (length net.tasks) = search rules in
+    let first : duties_of rs ≡ first_duties net 0 (length net.tasks) = search rules in
     let live : c.len.result ≡ length rs = search rules in
     let words : AreOpeningWords net c.len.result c.as_slice.result.now = search rules in
     let dealt : c.in_ok-fresh.fresh.items ≡ states_of c.in_ok-table.table.shared.table_id rs = search rules in

@@ -3,7 +3,7 @@ use Rattle.std.specs.Prelude.{[], length, ◌==◌}
 use Rattle.std.proofs.lemmas.Bool.Decides.{nat_tests}
 use Rattle.std.specs.Option.{option_map_or}
 use Rattle.join_tables.specs.RestStates.{RestState, rest_with}
-use Rattle.table_steps.specs.declared.view.Mark.TheVariants.{Alone}
+use Rattle.table_steps.specs.declared.view.SeatMark.TheVariants.{Alone}
 use Rattle.table_steps.specs.declared.view.Note.TheVariants.{Has}
 use Rattle.join_tables.specs.inside.Resting.{alone_in, full_in, IsRestView}
 use Rattle.table_steps.specs.inside.RestKinds.{MayLook, looked}

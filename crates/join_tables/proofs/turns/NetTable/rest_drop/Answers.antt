@@ -4,7 +4,7 @@ use Rattle.std.specs.Option.{option_map_or}
 use Rattle.std.specs.Arc.{arc_value}
 use Rattle.join_tables.specs.States.{TableState}
 use Rattle.join_tables.specs.Keeping.{drop_of}
-use Rattle.join_tables.specs.declared.outcomes.Outcome.TheVariants.{AllDropped}
+use Rattle.join_tables.specs.declared.fates.Fate.TheVariants.{AllDropped}
 use Rattle.join_tables.specs.RestStates.{RestState, rest_with}
 use Rattle.join_tables.specs.Rests.{MayDropOf}
 use Rattle.table_steps.specs.inside.Kinds.{left_by}

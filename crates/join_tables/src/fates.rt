@@ -1,5 +1,5 @@
 // What becomes of the releases of a table.
-use crate::turns::Run;
+use crate::turns::EndedStart;
 use journal_rules::{Cause, DropWhy, Why};
 
 /// A start of a task that faulted: its place in the journal, and that of its Fault.
@@ -23,9 +23,9 @@ pub struct Dropping {
 
 /// What became of a release.
 #[derive(Drop)]
-pub enum Outcome {
+pub enum Fate {
     /// The task started and ended.
-    Ended(Run),
+    Ended(EndedStart),
     /// The task started and faulted.
     Faulted(Failure),
     /// The release was dropped.

@@ -11,8 +11,8 @@ use Rattle.journal_rules.specs.Calm.{used_at}
 use Rattle.journal_rules.specs.ShapeLegal.{CauseInRange}
 use Rattle.task_graph.specs.declared.net.EdgeRow.{EdgeRow}
 use Rattle.table_steps.specs.Giving.{one_if, times}
-use Rattle.table_steps.specs.declared.view.Item.{Item}
-use Rattle.table_steps.specs.declared.view.Item.TheVariants.{Told, Fresh, Collecting, Ticket, Open, Owes, Counting}
+use Rattle.table_steps.specs.declared.view.TurnDuty.{TurnDuty}
+use Rattle.table_steps.specs.declared.view.TurnDuty.TheVariants.{Told, Fresh, Collecting, Ticket, Open, Owes, Counting}
 
 -- What is counted over all seats.
 pub data DutyCoord : Type 0 where
@@ -69,7 +69,7 @@ counting_weight (awaits e) f = one_if (f == e)
 counting_weight _ f = 0
 
 -- what one item counts
-abbrev pub duty_weight : DutyCoord → Item → ℕ
+abbrev pub duty_weight : DutyCoord → TurnDuty → ℕ
 duty_weight c (Told n x) = told_weight c n
 duty_weight c (Fresh t cause) = fresh_weight c t cause
 duty_weight c (Collecting t cause taken left) = held_weight c t cause taken left
@@ -78,8 +78,8 @@ duty_weight c (Open n t) = open_weight c n t
 duty_weight c (Owes gives) = owes_weight c gives
 duty_weight c (Counting e) = counting_weight c e
 
--- what a seat's items count
-abbrev pub duty_weigh : DutyCoord → List Item → ℕ
+-- what a seat's duties count
+abbrev pub duty_weigh : DutyCoord → List TurnDuty → ℕ
 duty_weigh c [] = 0
 duty_weigh c (x ∷ xs) = duty_weight c x + duty_weigh c xs
 
@@ -118,20 +118,20 @@ abbrev pub Raised : (ℕ → ℕ) → ℕ → (ℕ → ℕ) → Type 0
 Raised f at g = (k : ℕ) → g k ≡ f k + one_if (at == k)
 
 -- what is left after a token is given of an edge into task t, where this many were found
-abbrev pub after_give : Bool → ℕ → ℕ → ℕ → List ℕ → List Item
+abbrev pub after_give : Bool → ℕ → ℕ → ℕ → List ℕ → List TurnDuty
 after_give true t found f gives = Fresh t (Weak f) ∷ Owes gives ∷ []
 after_give false t zero f gives = Counting f ∷ Owes gives ∷ []
 after_give false t (suc n) f gives = Owes gives ∷ []
 
 -- and after an edge is counted
-abbrev pub after_count : ℕ → ℕ → List Item
+abbrev pub after_count : ℕ → ℕ → List TurnDuty
 after_count t zero = []
 after_count t (suc zero) = Fresh t Strong ∷ []
 after_count t (suc (suc n)) = []
 
 -- and after a token is taken
 
-abbrev pub after_take : ℕ → Cause → List ℕ → ℕ → ℕ → List ℕ → List Item
+abbrev pub after_take : ℕ → Cause → List ℕ → ℕ → ℕ → List ℕ → List TurnDuty
 after_take t Strong taken (suc (suc n)) f left = Counting f ∷ Collecting t Strong (taken ++ f ∷ []) left ∷ []
 after_take t cause taken found f left = Collecting t cause (taken ++ f ∷ []) left ∷ []
 
@@ -141,8 +141,8 @@ TakesFrom net Source f = ⊥
 TakesFrom net Strong f = is_weak net f ≡ false
 TakesFrom net (Weak h) f = is_weak net f ≡ true
 
--- One seat exchanged these items for those.
-abbrev pub DutyMoves : (DutyCoord → ℕ) → List Item → (DutyCoord → ℕ) → List Item → Type 0
+-- One seat exchanged these duties for those.
+abbrev pub DutyMoves : (DutyCoord → ℕ) → List TurnDuty → (DutyCoord → ℕ) → List TurnDuty → Type 0
 DutyMoves T old T' new = (c : DutyCoord) → T' c + duty_weigh c old ≡ T c + duty_weigh c new
 
 -- a release is one of the net's
