@@ -16,10 +16,10 @@ use Rattle.journal_rules.specs.ShapeLegal.{MayFollow}
 use Rattle.journal_rules.specs.SemaphoreRule.{takes}
 use Rattle.journal_rules.specs.Complete.{Complete}
 use Rattle.join_tables.specs.declared.turns.UnitTake.TheVariants.{Got, NoUnit}
-use Rattle.join_tables.specs.declared.turns.Run.{Run}
-use Rattle.join_tables.specs.declared.outcomes.Failure.{Failure}
-use Rattle.join_tables.specs.declared.outcomes.Dropping.{Dropping}
-use Rattle.join_tables.specs.declared.outcomes.Outcome.TheVariants.{Ended, Faulted, Dropped}
+use Rattle.join_tables.specs.declared.turns.EndedStart.{EndedStart}
+use Rattle.join_tables.specs.declared.fates.Failure.{Failure}
+use Rattle.join_tables.specs.declared.fates.Dropping.{Dropping}
+use Rattle.join_tables.specs.declared.fates.Fate.TheVariants.{Ended, Faulted, Dropped}
 use Rattle.join_tables.specs.declared.opening.Opening.{Opening}
 use Rattle.join_tables.specs.declared.keeper.Remaining.TheVariants.{More as TurnsLeft, All as NoneLeft}
 use Rattle.join_tables.specs.declared.keeper.Recorded.{Recorded}
@@ -31,7 +31,7 @@ use Rattle.join_tables.specs.Units.{TakesUnit}
 use Rattle.table_steps.specs.Reasons.{MayTell}
 use Rattle.join_tables.specs.Claims.{BeginsUnits, HasCredited, HasClaimed, HasAllUnits, credit_one, grant_one, refuse_one, with_units, ClaimsUnit}
 use Rattle.join_tables.specs.declared.turns.Claim.TheVariants.{Granted, Refused}
-use Rattle.join_tables.specs.Outcomes.{FaultsAs, DropsAs}
+use Rattle.join_tables.specs.Fates.{FaultsAs, DropsAs}
 use Rattle.join_tables.specs.Openings.{OpensTable}
 use Rattle.join_tables.specs.Keeping.{KeeperState, keeper_state, entries_of, Merges, TellsRun, TellsSomeRun, IsLast}
 
@@ -239,7 +239,7 @@ failure = record { task = 3; cause = Strong; start = 4; place = 6; why = Inner }
 abbrev dropping : Dropping
 dropping = record { task = 3; cause = Strong; place = 6; why = Limit }
 
-abbrev ending : Run
+abbrev ending : EndedStart
 ending = record { task = 3; cause = Strong; start = 4; place = 6; gives = []; inner = false }
 
 module _ (n : TableId) (u : StartUnits) where
@@ -301,8 +301,8 @@ not_last_by_an_error last = last
 abbrev one_task : NetRows
 one_task = record { tasks = needs [] [] ∷ []; edges = []; sems = [] }
 
-abbrev run : Run
-run = record { task = 0; cause = Source; start = 0; place = 1; gives = []; inner = false }
+abbrev ended : EndedStart
+ended = record { task = 0; cause = Source; start = 0; place = 1; gives = []; inner = false }
 
 abbrev journal : List Entry
 journal = Start 0 Source [] ∷ End 0 [] false ∷ []
@@ -327,15 +327,15 @@ may_end = record {
   halt_limit_stuck = record { dropped = tt; after_stuck = λ other. refl };
 }
 
-each_place_once : Merges (entries_of (Ended run)) journal
+each_place_once : Merges (entries_of (Ended ended)) journal
 each_place_once = record { stand = (refl, (refl, tt)); each = once }
   where
-    once : (m : ℕ) → m < 2 → count_by (λ (r : Recorded). r.place == m) (entries_of (Ended run)) ≡ 1
+    once : (m : ℕ) → m < 2 → count_by (λ (r : Recorded). r.place == m) (entries_of (Ended ended)) ≡ 1
     once zero below = refl
     once (suc zero) below = refl
     once (suc (suc m)) below = absurd (omega arith)
 
-whole_run : TellsRun one_task 5 (entries_of (Ended run))
+whole_run : TellsRun one_task 5 (entries_of (Ended ended))
 whole_run = record {
   journal = journal;
   merges = each_place_once;
@@ -343,7 +343,7 @@ whole_run = record {
   complete = record { none_open = (refl, (refl, tt)); sources = (λ is. refl, tt); weak = tt; strong = (λ some. absurd (some refl), tt); limited = λ some. absurd (some refl) };
 }
 
-run_of_some_net : TellsSomeRun (entries_of (Ended run))
+run_of_some_net : TellsSomeRun (entries_of (Ended ended))
 run_of_some_net = record { net = one_task; limit = 5; tells = whole_run }
 
 unused_release : (told : List Entry) → Merges [] told → ¬ Complete one_task 5 told
