@@ -118,7 +118,9 @@ fn ended(alloc: Global, table: &NetTable, net: &Net, fresh: Fresh) -> Option<Owi
     requires net { table.now.net ≡ net.now }
     ensures { IfSome result (λ owing. (owing.table ≡ table.now.table) × (owing.units ≡ [])) }
 {
-    let Collected::Last(turn) = table.collect(table.reset(fresh)) else {
+    let mut fresh = fresh;
+    let ins = table.room_for(alloc, &mut fresh).ok()?;
+    let Collected::Last(turn) = table.collect(table.reset(fresh, ins)) else {
         return None;
     };
     let task = turn.task();

@@ -11,13 +11,30 @@ use Rattle.journal_rules.specs.declared.entry.Cause.TheVariants.{Source, Strong,
 use Rattle.journal_rules.specs.DataRule.{edges_of}
 use Rattle.journal_rules.proofs.NetLemmas.{places_length}
 use Rattle.table_steps.specs.declared.view.Note.{Note}
-use Rattle.join_tables.specs.declared.calls.Counted.{Counted}
 use Rattle.join_tables.specs.declared.calls.Step.TheVariants.{NoneLeft, Taken}
 use Rattle.atomic_table.specs.Seated.{TableId}
+use Rattle.join_tables.specs.Findings.{TakesToken}
+use Rattle.std.proofs.lemmas.List.{length_push}
+use Rattle.join_tables.specs.Parts.{PartList, part_list}
 use Rattle.join_tables.specs.States.{FreshState, fresh_state}
 use Rattle.table_steps.specs.Giving.{times, one_if}
 use Rattle.table_steps.specs.inside.Accounts.{FitsRelease}
-use Rattle.table_steps.specs.inside.Kinds.{TakesNext, took, CountsNext, AreNoneLeft, settled}
+use Rattle.table_steps.specs.inside.Kinds.{IsTurn, TakesNextToken, took, CountsNext, AreNoneLeft, settled}
+use Rattle.journal_rules.specs.declared.entry.Part.{Part}
+use Rattle.journal_rules.specs.declared.entry.Part.TheVariants.{Nothing}
+use Rattle.table_steps.specs.declared.view.TurnDuty.TheVariants.{Collecting}
+use Rattle.table_steps.specs.declared.view.SemaphoreRole.TheVariants.{Held}
+use Rattle.table_steps.specs.declared.view.SeatMark.TheVariants.{Live}
+use Rattle.table_steps.specs.declared.view.Lot.{Lot}
+use Rattle.table_steps.specs.declared.view.Lot.TheVariants.{Ours, Putting, Put, Awaited, Taking, Fetched, Found}
+use Rattle.table_steps.specs.declared.view.Note.TheVariants.{Duty, Sems, Has, Lies}
+use Rattle.table_steps.specs.inside.Accounts.{resting, weigh}
+use Rattle.table_steps.specs.inside.Slots.{lot, slot_weigh, awaited_lots, found_lots, pick, relot}
+use Rattle.table_steps.specs.inside.SlotKinds.{MayTryTake}
+use Rattle.table_steps.proofs.Totals.{weigh_append}
+use Rattle.table_steps.proofs.Lots.{slot_append, awaited_none, found_none}
+use Rattle.table_steps.proofs.Relotting.{self_weight}
+use Rattle.table_steps.proofs.SlotViews.{found_weigh, awaited_weigh, found_push}
 use Rattle.join_tables.specs.inside.Seated.{collecting_view}
 use Rattle.join_tables.specs.inside.Collects.{CollectsOne}
 use Rattle.table_steps.proofs.Counting.{times_append, times_strong_in, is_strong_into, is_one}
@@ -85,47 +102,112 @@ pub place_few : (net : NetRows) (t : ℕ) (cause : Cause) (taken left : List ℕ
 place_few net t cause taken left n fits is place few = omega (arith, place, few, edges_few net t cause fits, ap length is, length_append taken left)
 
 -- VIEWS
-pub takes_next : (net : NetRows) (t : ℕ) (cause : Cause) (taken left : List ℕ) (f : ℕ) → NextEdge net left f → TakesNext net f (collecting_view t cause taken left)
-takes_next net t cause taken left f next = subst (λ es. TakesNext net f (collecting_view t cause taken es)) (sym next.is) (refl, next.below, (refl, omega arith))
+-- a release that has the next edge's lot of this kind, with this part
+abbrev pub fetching_view : ℕ → Cause → List ℕ → List Part → ℕ → List ℕ → Lot → Part → List Note
+fetching_view t cause taken parts f tail k q = Duty (Collecting t cause taken (f ∷ tail)) ∷ Has Live ∷ Sems Held [] ∷ found_lots taken parts ++ Lies k f q ∷ awaited_lots tail
+
+-- what is found comes before
+abbrev pub IsNotFound : Lot → Type 0
+IsNotFound Awaited = Unit {0}
+IsNotFound Taking = Unit {0}
+IsNotFound Fetched = Unit {0}
+IsNotFound _ = ⊥
+
+past_found : (j k : Lot) (g : Part → Part) (f : ℕ) (es : List ℕ) (ps : List Part) (v : List Note) → IsNotFound j → relot j k g f (found_lots es ps ++ v) ≡ found_lots es ps ++ relot j k g f v
+past_found j k g f [] ps v apart = refl
+past_found j k g f (e ∷ es) [] v apart = refl
+past_found Awaited k g f (e ∷ es) (p ∷ ps) v apart = ap (λ l. Lies Found e p ∷ l) (past_found Awaited k g f es ps v apart)
+past_found Taking k g f (e ∷ es) (p ∷ ps) v apart = ap (λ l. Lies Found e p ∷ l) (past_found Taking k g f es ps v apart)
+past_found Fetched k g f (e ∷ es) (p ∷ ps) v apart = ap (λ l. Lies Found e p ∷ l) (past_found Fetched k g f es ps v apart)
+past_found Ours k g f (e ∷ es) (p ∷ ps) v apart = absurd apart
+past_found Putting k g f (e ∷ es) (p ∷ ps) v apart = absurd apart
+past_found Put k g f (e ∷ es) (p ∷ ps) v apart = absurd apart
+past_found Found k g f (e ∷ es) (p ∷ ps) v apart = absurd apart
+
+found_apart : (j : Lot) (f : ℕ) (es : List ℕ) (ps : List Part) → IsNotFound j → slot_weigh (lot j f) (found_lots es ps) ≡ 0
+found_apart Awaited f es ps apart = found_none (lot Awaited f) tt es ps
+found_apart Taking f es ps apart = found_none (lot Taking f) tt es ps
+found_apart Fetched f es ps apart = found_none (lot Fetched f) tt es ps
+found_apart Ours f es ps apart = absurd apart
+found_apart Putting f es ps apart = absurd apart
+found_apart Put f es ps apart = absurd apart
+found_apart Found f es ps apart = absurd apart
+
+relot_head : (j k : Lot) (g : Part → Part) (f : ℕ) (q : Part) (v : List Note) → relot j k g f (Lies j f q ∷ v) ≡ Lies k f (g q) ∷ v
+relot_head j k g f q v = ap (λ n. pick n (Lies j f q ∷ relot j k g f v) (Lies k f (g q) ∷ v)) (self_weight j f q)
+
+relot_lots : (j k : Lot) (g : Part → Part) (f : ℕ) (es : List ℕ) (ps : List Part) (q : Part) (tail : List ℕ) → IsNotFound j → relot j k g f (found_lots es ps ++ Lies j f q ∷ awaited_lots tail) ≡ found_lots es ps ++ Lies k f (g q) ∷ awaited_lots tail
+relot_lots j k g f es ps q tail apart = past_found j k g f es ps (Lies j f q ∷ awaited_lots tail) apart ∙ ap (λ l. found_lots es ps ++ l) (relot_head j k g f q (awaited_lots tail))
+
+-- A parcel is to be taken from the next edge, and the turn holds no slot.
+pub may_fetch : (t : ℕ) (cause : Cause) (taken : List ℕ) (parts : List Part) (f : ℕ) (tail : List ℕ) → MayTryTake f (fetching_view t cause taken parts f tail Awaited Nothing) × (slot_weigh (lot Taking f) (fetching_view t cause taken parts f tail Awaited Nothing) ≡ 0)
+may_fetch t cause taken parts f tail = let rest = Lies Awaited f Nothing ∷ awaited_lots tail in (
+  record {
+    awaited = omega (arith, slot_append (lot Awaited f) (found_lots taken parts) rest, self_weight Awaited f Nothing);
+    turn = (omega (arith, weigh_append resting (found_lots taken parts) rest, found_weigh resting taken parts, awaited_weigh resting tail), omega arith);
+  },
+  omega (arith, slot_append (lot Taking f) (found_lots taken parts) rest, found_none (lot Taking f) tt taken parts, awaited_none (lot Taking f) tt tail),
+)
+
+pub fetched_view : (t : ℕ) (cause : Cause) (taken : List ℕ) (parts : List Part) (f : ℕ) (tail : List ℕ) (q : Part) → relot Awaited Fetched (λ p. q) f (fetching_view t cause taken parts f tail Awaited Nothing) ≡ fetching_view t cause taken parts f tail Fetched q
+fetched_view t cause taken parts f tail q = ap (λ l. Duty (Collecting t cause taken (f ∷ tail)) ∷ Has Live ∷ Sems Held [] ∷ l) (relot_lots Awaited Fetched (λ p. q) f taken parts Nothing tail tt)
+
+pub takes_next : (net : NetRows) (t : ℕ) (cause : Cause) (taken : List ℕ) (parts : List Part) (f : ℕ) (tail : List ℕ) (q : Part) → f < length net.edges → TakesNextToken net f (fetching_view t cause taken parts f tail Fetched q)
+takes_next net t cause taken parts f tail q below = let rest = Lies Fetched f q ∷ awaited_lots tail in
+    (refl, below, (omega (arith, weigh_append resting (found_lots taken parts) rest, found_weigh resting taken parts, awaited_weigh resting tail), omega arith), omega (arith, slot_append (lot Fetched f) (found_lots taken parts) rest, self_weight Fetched f q))
+
+-- the other notes after the token is taken
+found_more : (taken : List ℕ) (parts : List Part) (f : ℕ) (tail : List ℕ) (q : Part) → length parts ≡ length taken
+    → relot Fetched Found (λ p. p) f (Has Live ∷ Sems Held [] ∷ found_lots taken parts ++ Lies Fetched f q ∷ awaited_lots tail) ≡ Has Live ∷ Sems Held [] ∷ found_lots (taken ++ f ∷ []) (parts ++ q ∷ []) ++ awaited_lots tail
+found_more taken parts f tail q same = ap (λ l. Has Live ∷ Sems Held [] ∷ l) (relot_lots Fetched Found (λ p. p) f taken parts q tail tt ∙ sym (found_push taken parts f q (awaited_lots tail) same))
 
 -- the edge is to be counted where it is strong and another token was there
-pub counts_again : (net : NetRows) (t : ℕ) (cause : Cause) (taken left : List ℕ) (f found : ℕ) → FitsRelease net t cause → taken ++ left ≡ edges_of net t cause → NextEdge net left f → cause ≡ Strong → 1 < found
-    → CountsNext net t f (took found (collecting_view t cause taken left))
-counts_again net t Strong taken left f found fits is next strong more = subst (λ es. CountsNext net t f (took found (collecting_view t Strong taken es))) (sym next.is) (by_found found more)
+pub counts_again : (net : NetRows) (t : ℕ) (cause : Cause) (taken : List ℕ) (parts : List Part) (f : ℕ) (tail : List ℕ) (q : Part) (found : ℕ) → FitsRelease net t cause → taken ++ f ∷ tail ≡ edges_of net t cause → length parts ≡ length taken → cause ≡ Strong → 1 < found
+    → CountsNext net t f (took found (fetching_view t cause taken parts f tail Fetched q))
+counts_again net t Strong taken parts f tail q found fits is same strong more = by_found found more
   where
     once : times f (strong_in net t) ≡ 1
-    once = let has : 1 ≤ times f (strong_in net t) = omega (arith, ap (times f) is, times_append f taken left, ap (times f) next.is, one_self f) in
+    once = let has : 1 ≤ times f (strong_in net t) = omega (arith, ap (times f) is, times_append f taken (f ∷ tail), one_self f) in
         let into = is_one (is_strong_into net t f) (omega (arith, has, times_strong_in net t f)) in times_strong_in net t f ∙ ap one_if into
 
-    by_found : (k : ℕ) → 1 < k → CountsNext net t f (took k (collecting_view t Strong taken (f ∷ next.tail)))
+    lots : List Note
+    lots = found_lots (taken ++ f ∷ []) (parts ++ q ∷ []) ++ awaited_lots tail
+
+    lone : weigh resting lots ≡ 0
+    lone = omega (arith, weigh_append resting (found_lots (taken ++ f ∷ []) (parts ++ q ∷ [])) (awaited_lots tail), found_weigh resting (taken ++ f ∷ []) (parts ++ q ∷ []), awaited_weigh resting tail)
+
+    by_found : (k : ℕ) → 1 < k → CountsNext net t f (took k (fetching_view t Strong taken parts f tail Fetched q))
     by_found zero h = absurd (omega arith)
     by_found (suc zero) h = absurd (omega arith)
-    by_found (suc (suc k)) h = (refl, fits.0, once, (refl, omega arith))
-counts_again net t Source taken left f found fits is next strong more = absurd (cc)
-counts_again net t (Weak e) taken left f found fits is next strong more = absurd (cc)
+    by_found (suc (suc k)) h = (refl, fits.0, once, subst (λ l. IsTurn (Duty (Collecting t Strong (taken ++ f ∷ []) tail) ∷ l)) (sym (found_more taken parts f tail q same)) (omega (arith, lone), omega arith))
+counts_again net t Source taken parts f tail q found fits is same strong more = absurd (cc)
+counts_again net t (Weak e) taken parts f tail q found fits is same strong more = absurd (cc)
 
-pub settled_view : (net : NetRows) (t : ℕ) (cause : Cause) (taken left : List ℕ) (f found : ℕ) (next : NextEdge net left f) → settled (took found (collecting_view t cause taken left)) ≡ collecting_view t cause (taken ++ f ∷ []) next.tail
-settled_view net t cause taken left f found next = ap (λ es. settled (took found (collecting_view t cause taken es))) next.is ∙ by_cause cause found
+pub settled_view : (t : ℕ) (cause : Cause) (taken : List ℕ) (parts : List Part) (f : ℕ) (tail : List ℕ) (q : Part) (found : ℕ) → length parts ≡ length taken → settled (took found (fetching_view t cause taken parts f tail Fetched q)) ≡ collecting_view t cause (taken ++ f ∷ []) (parts ++ q ∷ []) tail
+settled_view t cause taken parts f tail q found same = by_cause cause found
   where
-    by_cause : (c : Cause) (k : ℕ) → settled (took k (collecting_view t c taken (f ∷ next.tail))) ≡ collecting_view t c (taken ++ f ∷ []) next.tail
-    by_cause Source k = refl
-    by_cause (Weak e) k = refl
-    by_cause Strong zero = refl
-    by_cause Strong (suc zero) = refl
-    by_cause Strong (suc (suc k)) = refl
+    more : (c : Cause) → Duty (Collecting t c (taken ++ f ∷ []) tail) ∷ relot Fetched Found (λ p. p) f (Has Live ∷ Sems Held [] ∷ found_lots taken parts ++ Lies Fetched f q ∷ awaited_lots tail) ≡ collecting_view t c (taken ++ f ∷ []) (parts ++ q ∷ []) tail
+    more c = ap (λ l. Duty (Collecting t c (taken ++ f ∷ []) tail) ∷ l) (found_more taken parts f tail q same)
 
-pub weak_settled : (net : NetRows) (t : ℕ) (cause : Cause) (taken left : List ℕ) (f found : ℕ) → NextEdge net left f → cause ≢ Strong → settled (took found (collecting_view t cause taken left)) ≡ took found (collecting_view t cause taken left)
-weak_settled net t cause taken left f found next other = subst (λ es. settled (took found (collecting_view t cause taken es)) ≡ took found (collecting_view t cause taken es)) (sym next.is) (by_cause cause other)
+    by_cause : (c : Cause) (k : ℕ) → settled (took k (fetching_view t c taken parts f tail Fetched q)) ≡ collecting_view t c (taken ++ f ∷ []) (parts ++ q ∷ []) tail
+    by_cause Source k = more Source
+    by_cause (Weak e) k = more (Weak e)
+    by_cause Strong zero = more Strong
+    by_cause Strong (suc zero) = more Strong
+    by_cause Strong (suc (suc k)) = more Strong
+
+pub weak_settled : (t : ℕ) (cause : Cause) (taken : List ℕ) (parts : List Part) (f : ℕ) (tail : List ℕ) (q : Part) (found : ℕ) → cause ≢ Strong → settled (took found (fetching_view t cause taken parts f tail Fetched q)) ≡ took found (fetching_view t cause taken parts f tail Fetched q)
+weak_settled t cause taken parts f tail q found other = by_cause cause other
   where
-    by_cause : (c : Cause) → c ≢ Strong → settled (took found (collecting_view t c taken (f ∷ next.tail))) ≡ took found (collecting_view t c taken (f ∷ next.tail))
+    by_cause : (c : Cause) → c ≢ Strong → settled (took found (fetching_view t c taken parts f tail Fetched q)) ≡ took found (fetching_view t c taken parts f tail Fetched q)
     by_cause Source h = refl
     by_cause (Weak e) h = refl
     by_cause Strong h = absurd (h refl)
 
-pub few_settled : (net : NetRows) (t : ℕ) (cause : Cause) (taken left : List ℕ) (f found : ℕ) → NextEdge net left f → found ≤ 1 → settled (took found (collecting_view t cause taken left)) ≡ took found (collecting_view t cause taken left)
-few_settled net t cause taken left f found next few = subst (λ es. settled (took found (collecting_view t cause taken es)) ≡ took found (collecting_view t cause taken es)) (sym next.is) (by_cause cause found few)
+pub few_settled : (t : ℕ) (cause : Cause) (taken : List ℕ) (parts : List Part) (f : ℕ) (tail : List ℕ) (q : Part) (found : ℕ) → found ≤ 1 → settled (took found (fetching_view t cause taken parts f tail Fetched q)) ≡ took found (fetching_view t cause taken parts f tail Fetched q)
+few_settled t cause taken parts f tail q found few = by_cause cause found few
   where
-    by_cause : (c : Cause) (k : ℕ) → k ≤ 1 → settled (took k (collecting_view t c taken (f ∷ next.tail))) ≡ took k (collecting_view t c taken (f ∷ next.tail))
+    by_cause : (c : Cause) (k : ℕ) → k ≤ 1 → settled (took k (fetching_view t c taken parts f tail Fetched q)) ≡ took k (fetching_view t c taken parts f tail Fetched q)
     by_cause Source k h = refl
     by_cause (Weak e) k h = refl
     by_cause Strong zero h = refl
@@ -133,15 +215,18 @@ few_settled net t cause taken left f found next few = subst (λ es. settled (too
     by_cause Strong (suc (suc k)) h = absurd (omega arith)
 
 -- WHAT IT LED TO
-pub collects_none : (n : TableId) (t : ℕ) (cause : Cause) (taken left : List ℕ) (v : List Note) → left ≡ [] → v ≡ collecting_view t cause taken left → CollectsOne n t cause taken left NoneLeft v
-collects_none n t cause taken left v none is = subst (λ es. CollectsOne n t cause taken es NoneLeft v) (sym none) (is ∙ ap (collecting_view t cause taken) none)
+pub collects_none : (n : TableId) (t : ℕ) (cause : Cause) (taken left : List ℕ) (ins : PartList) (v : List Note) (before after : List ℕ) → left ≡ [] → v ≡ collecting_view t cause taken ins.parts left → after ≡ before → CollectsOne n t cause taken left ins before NoneLeft v ins after
+collects_none n t cause taken left ins v before after none is same = subst (λ es. CollectsOne n t cause taken es ins before NoneLeft v ins after) (sym none) (is ∙ ap (collecting_view t cause taken ins.parts) none, refl, same)
 
-pub collects_edge : (n : TableId) (net : NetRows) (t : ℕ) (cause : Cause) (taken left : List ℕ) (f : ℕ) (next : NextEdge net left f) (counted : Counted) (last : Bool) (v : List Note)
-    → v ≡ collecting_view t cause (taken ++ f ∷ []) next.tail → IfSome counted.made (λ fresh. fresh ≡ fresh_state n t Strong) → (IsTrue (is_some counted.made) → AreNoneLeft t v × (cause ≡ Strong)) → IsTrue (is_some counted.made) ↔ (counted.found ≡ Some 1) → IsTrue last ↔ (next.tail ≡ []) → CollectsOne n t cause taken left (Taken counted last) v
-collects_edge n net t cause taken left f next counted last v is fresh none exact last_is = subst (λ es. CollectsOne n t cause taken es (Taken counted last) v) (sym next.is) (is, by_made counted.made fresh none, exact, last_is)
+pub collects_edge : (n : TableId) (net : NetRows) (t : ℕ) (cause : Cause) (taken left : List ℕ) (ins ins' : PartList) (q : Part) (f : ℕ) (next : NextEdge net left f) (made : Option FreshState) (last : Bool) (v : List Note) (before after : List ℕ)
+    → ins' ≡ part_list (ins.parts ++ q ∷ []) ins.room → v ≡ collecting_view t cause (taken ++ f ∷ []) (ins.parts ++ q ∷ []) next.tail → IfSome made (λ fresh. fresh ≡ fresh_state n t Strong) → (IsTrue (is_some made) → AreNoneLeft t v × (cause ≡ Strong)) → TakesToken cause (is_some made) before after → IsTrue last ↔ (next.tail ≡ [])
+    → CollectsOne n t cause taken left ins before (Taken made last) v ins' after
+collects_edge n net t cause taken left ins ins' q f next made last v before after added is fresh none found last_is =
+    subst (λ es. CollectsOne n t cause taken es ins before (Taken made last) v ins' after) (sym next.is)
+    (is ∙ ap (λ (p : PartList). collecting_view t cause (taken ++ f ∷ []) p.parts next.tail) (sym added), (ap (λ (p : PartList). length p.parts) added ∙ length_push ins.parts q, ap (λ (p : PartList). p.room) added), by_made made fresh none, found, last_is)
   where
     tail_none : AreNoneLeft t v × (cause ≡ Strong) → next.tail ≡ []
-    tail_none h = subst (λ w. AreNoneLeft t w) (is ∙ ap (λ c. collecting_view t c (taken ++ f ∷ []) next.tail) h.1) h.0 refl
+    tail_none h = subst (λ w. AreNoneLeft t w) (is ∙ ap (λ c. collecting_view t c (taken ++ f ∷ []) (ins.parts ++ q ∷ []) next.tail) h.1) h.0 refl
 
     by_made : (o : Option FreshState) → IfSome o (λ fresh. fresh ≡ fresh_state n t Strong) → (IsTrue (is_some o) → AreNoneLeft t v × (cause ≡ Strong)) → IfSome o (λ fresh. (fresh ≡ fresh_state n t Strong) × (next.tail ≡ []))
     by_made None h k = tt

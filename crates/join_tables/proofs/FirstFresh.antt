@@ -16,7 +16,8 @@ use Rattle.join_tables.specs.States.{FreshState, fresh_state}
 use Rattle.join_tables.specs.FirstCauses.{begin_full, cause_if, first_causes, first_fresh}
 use Rattle.table_steps.specs.inside.Duties.{nil}
 use Rattle.table_steps.specs.inside.Opening.{bare, is_empty, source_duties, full_duties, first_duties}
-use Rattle.join_tables.specs.inside.FirstReleases.{duties_of, states_of, AreOpeningWords}
+use Rattle.join_tables.specs.inside.FirstReleases.{duties_of, states_of, AreOpeningWords, AreFirstParcels}
+use Rattle.journal_rules.specs.declared.entry.Part.{Part}
 use Rattle.join_tables.specs.Keeping.{TellsRun}
 use Rattle.table_steps.specs.inside.Accounts.{mark, total, opening_notes, first_notes}
 use Rattle.table_steps.specs.declared.view.SeatMark.TheVariants.{Live}
@@ -95,16 +96,17 @@ none_live : (net : NetRows) (limit : ℕ) → first_duties net 0 (length net.tas
 none_live net limit none = ap (λ xs. total (mark Live) (first_notes xs ∷ [])) none
 
 -- Where nothing is released at first, the run is finished.
-pub nothing_runs : (net : NetRows) (limit live : ℕ) (words : List ℕ) (rs : List FirstRelease) (n : TableId) (fs : List FreshState) → limit ≤ 2097153
+pub nothing_runs : (net : NetRows) (limit live : ℕ) (words : List ℕ) (parcels : List Part) (rs : List FirstRelease) (n : TableId) (fs : List FreshState) → AreFirstParcels net parcels → limit ≤ 2097153
     → live ≡ length rs → duties_of rs ≡ first_duties net 0 (length net.tasks) → AreOpeningWords net live words → fs ≡ states_of n rs → fs ≡ [] → TellsRun net limit []
-nothing_runs net limit live words rs n fs limited live_len first ws is none =
-    let h = begins_table net limit live words net.edges refl limited (live_is net rs live live_len first) ws in
+nothing_runs net limit live words parcels rs n fs lie limited live_len first ws is none =
+    let h = begins_table net limit live words parcels lie limited (live_is net rs live live_len first) ws in
     let empty : rs ≡ [] = none_at_all n rs (sym is ∙ none) in
     let items : first_duties net 0 (length net.tasks) ≡ [] = sym first ∙ ap duties_of empty in
     let clock : slice_index words 8 ≡ 0 = ws.each 8 (omega (arith, ws.size)) in
     record {
       journal = h.journal;
       legal = h.balanced.by_journal.legal;
-      complete = all_complete net limit (opening words net.edges (opening_notes net limit)) h (none_live net limit items);
+      meets = h.slots.parts.meets;
+      complete = all_complete net limit (opening words parcels (opening_notes net limit)) h (none_live net limit items);
       merges = record { stand = tt; each = λ m below. absurd (omega (arith, below, h.balanced.by_journal.clock, clock)) };
     }

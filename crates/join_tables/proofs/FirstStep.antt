@@ -1,6 +1,6 @@
 -- A table begins as its rule says, and its keeper deals out the first releases.
 use Rattle.std.proofs.Common.{◌≡◌, ◌⊎◌, inl, inr, ℕ, zero, suc, ◌+◌, ◌-◌, ◌*◌, ◌<◌, ◌≤◌, Bool, true, false, List, [], ◌∷◌, ◌++◌, length, sym, refl, ap, ◌∙◌, subst, arith, get_or, map}
-use Rattle.std.specs.Prelude.{slice_index, drop, nat_lt}
+use Rattle.std.specs.Prelude.{slice_index, slice_get, Some, drop, nat_lt}
 use Rattle.std.specs.Option.{option_map_or}
 use Rattle.std.proofs.lemmas.Bool.Decides.{nat_tests}
 use Rattle.std.proofs.lemmas.Bool.{cases_lt}
@@ -19,18 +19,20 @@ use Rattle.table_steps.specs.declared.view.TurnDuty.{TurnDuty}
 use Rattle.table_steps.specs.declared.view.SeatMark.TheVariants.{Live}
 use Rattle.table_steps.specs.declared.view.Note.{Note}
 use Rattle.table_steps.specs.Giving.{one_if}
-use Rattle.table_steps.specs.inside.Accounts.{mark, busy, resting, weigh, total, FitsPlan, ViewPart, KeepsAccounts, reading, edges_from, marks_from, first_notes, opening_notes}
-use Rattle.table_steps.specs.declared.view.Lot.{Lot}
+use Rattle.table_steps.specs.inside.Accounts.{mark, busy, resting, weigh, total, FitsPlan, ViewPart, KeepsAccounts, reading, tokens_from, marks_from, first_notes, opening_notes}
+use Rattle.table_steps.specs.declared.view.TurnDuty.TheVariants.{Told, Fresh, Collecting, Ticket, Open, Owes, Counting}
 use Rattle.table_steps.specs.declared.view.Lot.TheVariants.{Putting, Taking}
-use Rattle.table_steps.specs.inside.Slots.{lot, slot_weigh}
-use Rattle.table_steps.specs.inside.SlotMarks.{HomeIs}
-use Rattle.table_steps.proofs.Homing.{lies_weigh, first_lies}
+use Rattle.table_steps.specs.inside.Slots.{SlotCoord, lot, slot_weigh, slots_in}
+use Rattle.table_steps.specs.inside.SlotMarks.{HomeIs, label_in, label_of}
+use Rattle.journal_rules.specs.declared.entry.Part.{Part}
+use Rattle.journal_rules.specs.declared.entry.Part.TheVariants.{Nothing}
+use Rattle.table_steps.proofs.SlotViews.{slots_weigh}
 use Rattle.table_steps.specs.Credits.{first_credit}
-use Rattle.table_steps.specs.inside.Opening.{bare, is_empty, source_duties, full_duties, first_duties}
-use Rattle.join_tables.specs.inside.FirstReleases.{states_of, duties_of, opening_word, AreOpeningWords, DealsFirst}
+use Rattle.table_steps.specs.inside.Opening.{bare, is_empty, source_duties, full_duties, first_duties, part_of_tokens, first_part}
+use Rattle.join_tables.specs.inside.FirstReleases.{states_of, duties_of, opening_word, AreOpeningWords, AreFirstParcels, DealsFirst}
 use Rattle.table_steps.proofs.Counting.{get_past}
 use Rattle.table_steps.proofs.OpeningDuties.{strong_below}
-use Rattle.table_steps.proofs.Beginning.{opening_balanced, opening_view}
+use Rattle.table_steps.proofs.Beginning.{AreFirst, are_first, opening_slots, opening_balanced, opening_view}
 
 -- THE FIRST RELEASES
 rests_none : (rs : List FirstRelease) → weigh resting (first_notes (duties_of rs)) ≡ 0
@@ -79,27 +81,27 @@ index_past [] k past = refl
 index_past (w ∷ ws) zero past = absurd (omega arith)
 index_past (w ∷ ws) (suc k) past = index_past ws k (omega arith)
 
-edge_word : (net : NetRows) (live e : ℕ) → e < length net.edges → opening_word net live (edges_from net + e) ≡ first_tokens net e
+edge_word : (net : NetRows) (live e : ℕ) → e < length net.edges → opening_word net live (tokens_from net + e) ≡ first_tokens net e
 edge_word net live e below =
-    let k = edges_from net + e in
+    let k = tokens_from net + e in
     let a : nat_lt k 40 ≡ false = grind (arith, nat_tests) in
     let b : nat_lt k (40 + length net.sems) ≡ false = grind (arith, nat_tests) in
     let m : nat_lt k (marks_from net) ≡ false = grind (arith, nat_tests) in
-    let c : nat_lt k (edges_from net) ≡ false = grind (arith, nat_tests) in
-    let d : k - edges_from net ≡ e = omega arith in
-    let f : nat_lt (k - edges_from net) (length net.edges) ≡ true = ap (λ q. nat_lt q (length net.edges)) d ∙ grind (arith, nat_tests) in
+    let c : nat_lt k (tokens_from net) ≡ false = grind (arith, nat_tests) in
+    let d : k - tokens_from net ≡ e = omega arith in
+    let f : nat_lt (k - tokens_from net) (length net.edges) ≡ true = ap (λ q. nat_lt q (length net.edges)) d ∙ grind (arith, nat_tests) in
     rw (a, b, m, c, f) (ap (first_tokens net) d)
 
-join_word : (net : NetRows) (live t : ℕ) → opening_word net live (edges_from net + length net.edges + t) ≡ bare net (strong_in net t)
+join_word : (net : NetRows) (live t : ℕ) → opening_word net live (tokens_from net + length net.edges + t) ≡ bare net (strong_in net t)
 join_word net live t =
-    let k = edges_from net + length net.edges + t in
+    let k = tokens_from net + length net.edges + t in
     let a : nat_lt k 40 ≡ false = grind (arith, nat_tests) in
     let b : nat_lt k (40 + length net.sems) ≡ false = grind (arith, nat_tests) in
     let m : nat_lt k (marks_from net) ≡ false = grind (arith, nat_tests) in
-    let c : nat_lt k (edges_from net) ≡ false = grind (arith, nat_tests) in
-    let d : k - edges_from net ≡ length net.edges + t = omega arith in
-    let f : nat_lt (k - edges_from net) (length net.edges) ≡ false = ap (λ q. nat_lt q (length net.edges)) d ∙ grind (arith, nat_tests) in
-    let g : k - edges_from net - length net.edges ≡ t = omega arith in
+    let c : nat_lt k (tokens_from net) ≡ false = grind (arith, nat_tests) in
+    let d : k - tokens_from net ≡ length net.edges + t = omega arith in
+    let f : nat_lt (k - tokens_from net) (length net.edges) ≡ false = ap (λ q. nat_lt q (length net.edges)) d ∙ grind (arith, nat_tests) in
+    let g : k - tokens_from net - length net.edges ≡ t = omega arith in
     rw (a, b, m, c, f) (ap (λ q. bare net (strong_in net q)) g)
 
 unit_word : (net : NetRows) (live s : ℕ) → s < length net.sems → opening_word net live (40 + s) ≡ 0
@@ -122,7 +124,7 @@ mark_word net live e below =
     let a : nat_lt k 40 ≡ false = grind (arith, nat_tests) in
     let b : nat_lt k (40 + length net.sems) ≡ false = grind (arith, nat_tests) in
     let m : nat_lt k (marks_from net) ≡ false = grind (arith, nat_tests) in
-    let c : nat_lt k (edges_from net) ≡ true = grind (arith, nat_tests) in
+    let c : nat_lt k (tokens_from net) ≡ true = grind (arith, nat_tests) in
     rw (a, b, m, c) refl
 
 -- each slot is home at first
@@ -131,8 +133,33 @@ home_is [] e m n below a b = absurd (omega arith)
 home_is (x ∷ xs) zero m n below a b = (a, b)
 home_is (x ∷ xs) (suc e) m n below a b = home_is xs e m n (omega arith) a b
 
-no_lots : (k : Lot) (e : ℕ) (xs : List TurnDuty) → slot_weigh (lot k e) (first_notes xs) ≡ 0
-no_lots k e xs = lies_weigh k e (first_notes xs) ∙ ap (slot_weigh (lot k e)) (first_lies xs)
+-- and the first releases have nothing of slots
+first_none : (net : NetRows) (xs : List TurnDuty) → AreFirst net xs → slots_in (first_notes xs) ≡ []
+first_none net [] a = refl
+first_none net (Fresh t cause ∷ xs) a = first_none net xs a.1
+first_none net (Told n y ∷ xs) a = absurd a
+first_none net (Collecting t c k l ∷ xs) a = absurd a
+first_none net (Ticket ∷ xs) a = absurd a
+first_none net (Open n t ∷ xs) a = absurd a
+first_none net (Owes g ∷ xs) a = absurd a
+first_none net (Counting e ∷ xs) a = absurd a
+
+no_slots : (net : NetRows) (limit : ℕ) (c : SlotCoord) → slot_weigh c (opening_notes net limit) ≡ 0
+no_slots net limit c = let xs = first_duties net 0 (length net.tasks) in slots_weigh c (first_notes xs) ∙ ap (slot_weigh c) (first_none net xs (are_first net 0 (length net.tasks) (omega arith)))
+
+-- what lies there
+first_lies : (xs : List Part) (e : ℕ) (p : Part) → slice_get xs e ≡ Some p → label_in (λ (q : Part). q) (get_elem? (map some xs) e) ≡ p
+first_lies [] e p is = absurd (cc)
+first_lies (x ∷ xs) zero p is = some_is x p is
+  where
+    some_is : (a b : Part) → Some a ≡ Some b → a ≡ b
+    some_is a b same = cc
+first_lies (x ∷ xs) (suc e) p is = first_lies xs e p is
+
+none_lies : (xs : List Part) (e : ℕ) → length xs ≤ e → label_in (λ (q : Part). q) (get_elem? (map some xs) e) ≡ Nothing
+none_lies [] e past = refl
+none_lies (x ∷ xs) zero past = absurd (omega arith)
+none_lies (x ∷ xs) (suc e) past = none_lies xs e (omega arith)
 
 first_past : (net : NetRows) (e : ℕ) → length net.edges ≤ e → first_tokens net e ≡ 0
 first_past net e past = ap (λ o. option_map_or (λ (r : EdgeRow). one_if r.start) o 0) (get_past net.edges e past)
@@ -144,9 +171,9 @@ bare_past net t rows past = by_list (strong_in net t) refl
     by_list [] is = refl
     by_list (e ∷ es) is = let below : t < length net.tasks = strong_below net rows t (λ none. let z : e ∷ es ≡ [] = sym is ∙ none in absurd (cc)) in absurd (omega (arith, below))
 
-pub begins_table : {X : Type 0} (net : NetRows) (limit live : ℕ) (words : List ℕ) (slots : List X) → length slots ≡ length net.edges → limit ≤ 2097153 → live ≡ length (first_duties net 0 (length net.tasks)) → AreOpeningWords net live words
-    → KeepsAccounts net limit (opening words slots (opening_notes net limit))
-begins_table net limit live words slots full limited live_is ws = record {
+pub begins_table : (net : NetRows) (limit live : ℕ) (words : List ℕ) (slots : List Part) → AreFirstParcels net slots → limit ≤ 2097153 → live ≡ length (first_duties net 0 (length net.tasks)) → AreOpeningWords net live words
+    → KeepsAccounts (λ (part : Part). part) net limit (opening words slots (opening_notes net limit))
+begins_table net limit live words slots first limited live_is ws = record {
   fits = fits;
   size = ws.size;
   journal = [];
@@ -157,8 +184,9 @@ begins_table net limit live words slots full limited live_is ws = record {
   few = omega (arith, live_first (first_duties net 0 (length net.tasks)), first_few net 0 (length net.tasks), ws.rows.task_count);
   few_drops = omega arith;
   views = each;
-  homes = λ e below. home_is slots e _ _ (omega (arith, full, below)) (ws.each (marks_from net + e) (omega (arith, ws.size, below)) ∙ mark_word net live e below)
-      (omega (arith, no_lots Putting e (first_duties net 0 (length net.tasks)), no_lots Taking e (first_duties net 0 (length net.tasks))));
+  homes = λ e below. home_is slots e _ _ (omega (arith, first.count, below)) (ws.each (marks_from net + e) (omega (arith, ws.size, below)) ∙ mark_word net live e below)
+      (omega (arith, no_slots net limit (lot Putting e), no_slots net limit (lot Taking e)));
+  slots = opening_slots net ((reading net words).edge) _ (label_of (λ (part : Part). part) (map some slots)) (λ c. omega (arith, no_slots net limit c)) edges labels;
 }
   where
     fits : FitsPlan net limit
@@ -174,15 +202,22 @@ begins_table net limit live words slots full limited live_is ws = record {
     edges e = by_place (cases_lt e (length net.edges))
       where
         by_place : (e < length net.edges) ⊎ (length net.edges ≤ e) → (reading net words).edge e ≡ first_tokens net e
-        by_place (inl below) = let is : nat_lt e (length net.edges) ≡ true = grind (arith, nat_tests) in rw is (ws.each (edges_from net + e) (omega (arith, ws.size, below)) ∙ edge_word net live e below)
+        by_place (inl below) = let is : nat_lt e (length net.edges) ≡ true = grind (arith, nat_tests) in rw is (ws.each (tokens_from net + e) (omega (arith, ws.size, below)) ∙ edge_word net live e below)
         by_place (inr past) = let is : nat_lt e (length net.edges) ≡ false = grind (arith, nat_tests) in rw is (sym (first_past net e past))
+
+    labels : (e : ℕ) → label_of (λ (part : Part). part) (map some slots) e ≡ first_part net e
+    labels e = by_place (cases_lt e (length slots))
+      where
+        by_place : (e < length slots) ⊎ (length slots ≤ e) → label_of (λ (part : Part). part) (map some slots) e ≡ first_part net e
+        by_place (inl below) = first_lies slots e (first_part net e) (first.each e below)
+        by_place (inr past) = none_lies slots e past ∙ sym (ap part_of_tokens (first_past net e (omega (arith, past, first.count))))
 
     joins : (t : ℕ) → (reading net words).join t ≡ bare net (strong_in net t)
     joins t = by_place (cases_lt t (length net.tasks))
       where
-        by_place : (t < length net.tasks) ⊎ (length net.tasks ≤ t) → slice_index words (edges_from net + length net.edges + t) ≡ bare net (strong_in net t)
-        by_place (inl below) = ws.each (edges_from net + length net.edges + t) (omega (arith, ws.size, below)) ∙ join_word net live t
-        by_place (inr past) = index_past words (edges_from net + length net.edges + t) (omega (arith, ws.size, past)) ∙ sym (bare_past net t ws.rows past)
+        by_place : (t < length net.tasks) ⊎ (length net.tasks ≤ t) → slice_index words (tokens_from net + length net.edges + t) ≡ bare net (strong_in net t)
+        by_place (inl below) = ws.each (tokens_from net + length net.edges + t) (omega (arith, ws.size, below)) ∙ join_word net live t
+        by_place (inr past) = index_past words (tokens_from net + length net.edges + t) (omega (arith, ws.size, past)) ∙ sym (bare_past net t ws.rows past)
 
     each : (id : ℕ) (v : List Note) → get_elem? (opening_notes net limit ∷ []) id ≡ some v → ViewPart net [] (λ c. total c (opening_notes net limit ∷ [])) id v
     each zero v at = subst (λ w. ViewPart net [] (λ c. total c (opening_notes net limit ∷ [])) 0 w) (some-injective (opening_notes net limit) v at) (opening_view net (λ c. total c (opening_notes net limit ∷ [])))

@@ -2,6 +2,7 @@ pub mod Turning
 pub mod CollectNext
 pub mod Releasing
 pub mod Recordings
+pub mod Lones
 pub mod Merging
 pub mod WorkedTables
 pub mod FirstStep

@@ -3,7 +3,7 @@ use Rattle.std.proofs.Common.{◌≡◌, ◌≢◌, ◌⊎◌, inl, inr, ℕ, ze
 use Rattle.std.specs.Prelude.{◌==◌, nat_lt, slice_get, count_by, IfOk, Result}
 use Rattle.std.specs.declared.result.Result.TheVariants.{Ok, Err}
 use Rattle.task_graph.specs.NetRows.{NetRows}
-use Rattle.journal_rules.specs.ShapeLegal.{ShapeLegal}
+use Rattle.journal_rules.specs.ShapeLegal.{ShapeLegal, MeetsDataRule}
 use Rattle.journal_rules.specs.Complete.{Complete}
 use Rattle.std.specs.List.{AllByRecursion}
 use Rattle.std.proofs.lemmas.Bool.Decides.{nat_tests}
@@ -132,6 +132,6 @@ told_merges E rs qs (Ok made) is told of = subst (λ j. Merges rs j) (sym (made_
 told_merges E rs qs (Err e) is told of = tt
 
 pub told_finished : (E : Type 0) (rs qs : List Recorded) (result : Result (List Entry) E) → qs ≡ rs → IfOk result (λ made. made ≡ somes (placed qs (replicate (length qs) None)))
-    → IfOk result (λ made. (net : NetRows) (limit : ℕ) → TellsRun net limit rs → ShapeLegal net limit made × Complete net limit made)
-told_finished E rs qs (Ok made) is of = λ net limit tells. subst (λ j. ShapeLegal net limit j × Complete net limit j) (sym (made_of rs qs made tells.journal is of tells.merges)) (tells.legal, tells.complete)
+    → IfOk result (λ made. (net : NetRows) (limit : ℕ) → TellsRun net limit rs → ShapeLegal net limit made × MeetsDataRule net made × Complete net limit made)
+told_finished E rs qs (Ok made) is of = λ net limit tells. subst (λ j. ShapeLegal net limit j × MeetsDataRule net j × Complete net limit j) (sym (made_of rs qs made tells.journal is of tells.merges)) (tells.legal, tells.meets, tells.complete)
 told_finished E rs qs (Err e) is of = tt

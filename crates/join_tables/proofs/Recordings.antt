@@ -100,6 +100,7 @@ pub tells_run : (net : NetRows) (limit : ℕ) (notes : List Note) (rs : List Rec
 tells_run net limit notes rs is whole = record {
   journal = whole.journal;
   legal = whole.legal;
+  meets = whole.meets;
   complete = whole.complete;
   merges = record {
     stand = (told_stand net whole.journal [] rs (subst (λ v. AllStand net whole.journal v) is (stand_told net whole.journal notes whole.stand))).1;

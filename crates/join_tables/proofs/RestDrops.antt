@@ -11,7 +11,7 @@ use Rattle.journal_rules.specs.SemaphoreRule.{takes}
 use Rattle.journal_rules.proofs.Snoc.{slice_get_push_last}
 use Rattle.table_steps.specs.Giving.{times}
 use Rattle.table_steps.specs.declared.view.TurnDuty.TheVariants.{Told, Collecting}
-use Rattle.table_steps.specs.declared.view.SemaphoreRole.TheVariants.{Full}
+use Rattle.table_steps.specs.declared.view.SemaphoreRole.TheVariants.{Held, Full}
 use Rattle.table_steps.specs.declared.view.SeatMark.TheVariants.{Live, Halted, Alone, Quiet, Sticking}
 use Rattle.table_steps.specs.declared.view.Note.{Note}
 use Rattle.table_steps.specs.declared.view.Note.TheVariants.{Duty, Sems, Has}
@@ -21,12 +21,16 @@ use Rattle.join_tables.specs.declared.rests.Parked.{Parked}
 use Rattle.join_tables.specs.Keeping.{entries_of, drop_of}
 use Rattle.join_tables.specs.RestStates.{RestState}
 use Rattle.join_tables.specs.Rests.{MayDropOf}
-use Rattle.table_steps.specs.inside.Accounts.{mark, busy, weigh}
+use Rattle.journal_rules.specs.declared.entry.Part.{Part}
+use Rattle.table_steps.specs.inside.Duties.{running}
+use Rattle.table_steps.specs.inside.Slots.{after_lots}
+use Rattle.table_steps.proofs.SlotViews.{after_weigh, after_append}
+use Rattle.table_steps.specs.inside.Accounts.{duty, mark, busy, weigh}
 use Rattle.table_steps.specs.inside.Kinds.{left_by}
 use Rattle.join_tables.specs.inside.Seated.{IsSpent}
 use Rattle.join_tables.specs.inside.Recording.{tellings, told_notes}
 use Rattle.table_steps.specs.inside.RestKinds.{bare_part, MayDropLast, last_dropped, MayThin}
-use Rattle.join_tables.specs.inside.Resting.{alone_in, full_in, known_notes, stuck_notes, drop_notes, HoldsTurns, FitsDrops, IsRestView}
+use Rattle.join_tables.specs.inside.Resting.{alone_in, full_in, known_notes, stuck_notes, drop_notes, HoldsTurns, HoldsParts, FitsDrops, IsRestView, RestParts}
 use Rattle.table_steps.proofs.Totals.{weigh_append}
 use Rattle.join_tables.proofs.Recordings.{tellings_append, told_all}
 use Rattle.join_tables.proofs.RestViews.{reverse_last, some_length, turns_none, holds_running, holds_busy, holds_live}
@@ -38,8 +42,16 @@ drop_notes_last (e ∷ ds) d = ap (λ u. Duty (Told e.place (Drop e.task e.cause
 
 holds_more : (ps : List Parked) (ds : List Dropping) (d : Dropping) (v : List Note) → HoldsTurns ps ds v → HoldsTurns ps (ds ++ d ∷ []) (v ++ drop_notes (d ∷ []))
 holds_more [] ds d v h = ap (λ u. u ++ drop_notes (d ∷ [])) h ∙ sym (drop_notes_last ds d)
-holds_more (p ∷ ps) ds d (Duty (Collecting t cause taken []) ∷ Has Live ∷ rest) h = (h.0, h.1, holds_more ps ds d rest h.2)
+holds_more (p ∷ ps) ds d (Duty (Collecting t cause taken []) ∷ Has Live ∷ Sems Held [] ∷ rest) h = let more = after_append taken rest (drop_notes (d ∷ [])) h.2 in
+    (h.0, h.1, more.0, subst (λ u. HoldsTurns ps (ds ++ d ∷ []) u) (sym more.2) (holds_more ps ds d (after_lots taken rest) h.3))
 holds_more (p ∷ ps) ds d v h = absurd h
+
+parts_more : (fs : List (List Part)) (ps : List Parked) (ds : List Dropping) (v w : List Note) → length fs ≡ length ps → HoldsTurns ps ds v → HoldsParts fs v → HoldsParts fs (v ++ w)
+parts_more [] ps ds v w same h f = tt
+parts_more (g ∷ fs) [] ds v w same h f = absurd (omega arith)
+parts_more (g ∷ fs) (p ∷ ps) ds (Duty (Collecting t cause taken []) ∷ Has Live ∷ Sems Held [] ∷ rest) w same h f = let more = after_append taken rest w h.2 in
+    (more.1 ∙ f.0, subst (λ u. HoldsParts fs u) (sym more.2) (parts_more fs ps ds (after_lots taken rest) w (omega arith) h.3 f.1))
+parts_more (g ∷ fs) (p ∷ ps) ds v w same h f = absurd h
 
 all_more : (ds : List Dropping) (d : Dropping) → AllByRecursion (λ (e : Dropping). e.why ≡ AfterFault) ds → d.why ≡ AfterFault → AllByRecursion (λ (e : Dropping). e.why ≡ AfterFault) (ds ++ d ∷ [])
 all_more [] d all is = (is, tt)
@@ -79,6 +91,7 @@ pub record DropsOne (net : NetRows) (why : DropWhy) (p : Parked) (left : List Pa
   pub rest : (n : ℕ) → IsRestView left (drops ++ dropping_as why n p ∷ []) (left_by (last_dropped why n v))
   pub alone : (n : ℕ) → alone_in (left_by (last_dropped why n v)) ≡ alone_in v
   pub full : (n : ℕ) → full_in (left_by (last_dropped why n v)) ≡ full_in v
+  pub parts : (n : ℕ) (more : List (List Part)) (found : List Part) → length more ≡ length left → RestParts (more ++ found ∷ []) v → RestParts more (left_by (last_dropped why n v))
   pub spent : (n : ℕ) (fate : Fate) → left ≡ [] → entries_of fate ≡ map drop_of (reverse (drops ++ dropping_as why n p ∷ [])) → IsSpent fate (last_dropped why n v)
 
 left_lives : (left : List Parked) (ds : List Dropping) (rest : List Note) → HoldsTurns (reverse left) ds rest → left ≢ [] → 1 ≤ weigh (mark Live) rest
@@ -90,38 +103,46 @@ told_all_of left ds rest fate h none is = let g = subst (λ ps. HoldsTurns (reve
 
 -- for want of a unit
 stuck_one : (net : NetRows) (s : ℕ) (p : Parked) (left : List Parked) (drops : List Dropping) (l : List ℕ) (b : List Note) → HoldsTurns (p ∷ reverse left) drops b → 1 ≤ times s l → IsTrue (takes net s p.task) → DropsOne net (Stuck s) p left drops (Sems Full l ∷ Has Quiet ∷ b)
-stuck_one net s p left drops l (Duty (Collecting t cause taken []) ∷ Has Live ∷ rest) h full takes_it = record {
-  may = (subst (λ u. IsTrue (takes net s u)) (sym h.0) takes_it, full, holds_running (reverse left) drops rest h.2);
+stuck_one net s p left drops l (Duty (Collecting t cause taken []) ∷ Has Live ∷ Sems Held [] ∷ found) h full takes_it = record {
+  may = (subst (λ u. IsTrue (takes net s u)) (sym h.0) takes_it, full, omega (arith, after_weigh (duty running) taken found h.2, holds_running (reverse left) drops rest h.3), h.2);
   thins = λ n some_there. omega (arith, left_lives left (drops ++ dropping_as (Stuck s) n p ∷ []) (rest ++ tail n) (more n) some_there);
   rest = λ n. record { known = refl; holds = more n; fits = tt };
   alone = λ n. refl;
   full = λ n. refl;
+  parts = λ n more g same f. let q = subst (λ fs. HoldsParts fs (Duty (Collecting t cause taken []) ∷ Has Live ∷ Sems Held [] ∷ found)) (reverse-append more (g ∷ [])) f in parts_more (reverse more) (reverse left) drops rest (tail n) (length-reverse more ∙ same ∙ sym (length-reverse left)) h.3 q.1;
   spent = λ n fate none is. let r = told_all_of left (drops ++ dropping_as (Stuck s) n p ∷ []) (rest ++ tail n) fate (more n) none is in (r.0, omega (arith, r.1));
 }
   where
+    rest : List Note
+    rest = after_lots taken found
+
     tail : ℕ → List Note
     tail n = Duty (Told n (Drop t cause (Stuck s))) ∷ Has Sticking ∷ []
 
     more : (n : ℕ) → HoldsTurns (reverse left) (drops ++ dropping_as (Stuck s) n p ∷ []) (rest ++ tail n)
-    more n = subst (λ u. HoldsTurns (reverse left) (drops ++ dropping_as (Stuck s) n p ∷ []) (rest ++ u)) (λ i. Duty (Told n (Drop (sym h.0 i) (sym h.1 i) (Stuck s))) ∷ Has Sticking ∷ []) (holds_more (reverse left) drops (dropping_as (Stuck s) n p) rest h.2)
+    more n = subst (λ u. HoldsTurns (reverse left) (drops ++ dropping_as (Stuck s) n p ∷ []) (rest ++ u)) (λ i. Duty (Told n (Drop (sym h.0 i) (sym h.1 i) (Stuck s))) ∷ Has Sticking ∷ []) (holds_more (reverse left) drops (dropping_as (Stuck s) n p) rest h.3)
 stuck_one net s p left drops l b h full takes_it = absurd h
 
 -- and after a Fault
 halted_one : (net : NetRows) (p : Parked) (left : List Parked) (drops : List Dropping) (l : List ℕ) (b : List Note) → HoldsTurns (p ∷ reverse left) drops b → AllByRecursion (λ (e : Dropping). e.why ≡ AfterFault) drops → DropsOne net AfterFault p left drops (Sems Full l ∷ Has Alone ∷ Has Halted ∷ b)
-halted_one net p left drops l (Duty (Collecting t cause taken []) ∷ Has Live ∷ rest) h all = record {
-  may = turns_none (mark Sticking) (λ u why es. refl) (reverse left) drops rest h.2 ∙ halted_free drops all;
+halted_one net p left drops l (Duty (Collecting t cause taken []) ∷ Has Live ∷ Sems Held [] ∷ found) h all = record {
+  may = (omega (arith, after_weigh (mark Sticking) taken found h.2, turns_none (mark Sticking) (λ u why es. refl) (reverse left) drops rest h.3, halted_free drops all), h.2);
   thins = λ n some_there. omega (arith, left_lives left (drops ++ dropping_as AfterFault n p ∷ []) (rest ++ tail n) (more n) some_there);
   rest = λ n. record { known = refl; holds = more n; fits = all_more drops (dropping_as AfterFault n p) all refl };
   alone = λ n. refl;
   full = λ n. refl;
+  parts = λ n more g same f. let q = subst (λ fs. HoldsParts fs (Duty (Collecting t cause taken []) ∷ Has Live ∷ Sems Held [] ∷ found)) (reverse-append more (g ∷ [])) f in parts_more (reverse more) (reverse left) drops rest (tail n) (length-reverse more ∙ same ∙ sym (length-reverse left)) h.3 q.1;
   spent = λ n fate none is. let r = told_all_of left (drops ++ dropping_as AfterFault n p ∷ []) (rest ++ tail n) fate (more n) none is in (r.0, omega (arith, r.1));
 }
   where
+    rest : List Note
+    rest = after_lots taken found
+
     tail : ℕ → List Note
     tail n = Duty (Told n (Drop t cause AfterFault)) ∷ []
 
     more : (n : ℕ) → HoldsTurns (reverse left) (drops ++ dropping_as AfterFault n p ∷ []) (rest ++ tail n)
-    more n = subst (λ u. HoldsTurns (reverse left) (drops ++ dropping_as AfterFault n p ∷ []) (rest ++ u)) (λ i. Duty (Told n (Drop (sym h.0 i) (sym h.1 i) AfterFault)) ∷ []) (holds_more (reverse left) drops (dropping_as AfterFault n p) rest h.2)
+    more n = subst (λ u. HoldsTurns (reverse left) (drops ++ dropping_as AfterFault n p ∷ []) (rest ++ u)) (λ i. Duty (Told n (Drop (sym h.0 i) (sym h.1 i) AfterFault)) ∷ []) (holds_more (reverse left) drops (dropping_as AfterFault n p) rest h.3)
 halted_one net p left drops l b h all = absurd h
 
 pub drops_one : (net : NetRows) (why : DropWhy) (turns : List Parked) (p : Parked) (left : List Parked) (drops : List Dropping) (v : List Note) → IsRestView turns drops v → turns ≡ left ++ p ∷ [] → MayDropAs net why (alone_in v) (full_in v) p.task → DropsOne net why p left drops v

@@ -11,12 +11,12 @@ use Rattle.join_tables.specs.declared.fates.Dropping.{Dropping}
 use Rattle.join_tables.specs.declared.fates.Fate.TheVariants.{Dropped}
 use Rattle.join_tables.specs.declared.rests.Parked.{Parked}
 use Rattle.join_tables.specs.declared.rests.Checked.TheVariants.{Busy, Alone}
-use Rattle.join_tables.specs.declared.rests.UnitLook.TheVariants.{NoUnit, HasUnit}
+use Rattle.join_tables.specs.declared.rests.UnitLook.TheVariants.{Exhausted, Available}
 use Rattle.join_tables.specs.declared.rests.RestDrop.TheVariants.{More}
 use Rattle.join_tables.specs.States.{turn_with}
 use Rattle.join_tables.specs.Keeping.{entries_of, drop_of}
 use Rattle.join_tables.specs.RestStates.{RestState, rest_with, parked_as}
-use Rattle.join_tables.specs.Rests.{IsOfTable, HandsOut, ChecksRest, LooksForUnit, LastTakes, MayDropOf, DropsLast, IsOfDrops, DropsOf}
+use Rattle.join_tables.specs.Rests.{IsOfTable, found_with, found_left, HandsOut, ChecksRest, LooksForUnit, LastTakes, MayDropOf, DropsLast, IsOfDrops, DropsOf}
 
 -- Task 0 takes semaphore 0, which has two units, and task 1 takes none.
 abbrev net : NetRows
@@ -31,7 +31,7 @@ abbrev two : List Parked
 two = parked_as 1 Source ∷ parked_as 0 Source ∷ []
 
 abbrev resting : TableId → RestState
-resting n = rest_with (Some n) 4 two [] None [] None None
+resting n = rest_with (Some n) 4 two [] None [] (6 ∷ [])
 
 abbrev stuck : ℕ → ℕ → Dropping
 stuck task place = record { task = task; cause = Source; place = place; why = Stuck 0 }
@@ -44,31 +44,52 @@ turns_are_of_their_table : (n : TableId) → IsOfTable n (resting n).table
 turns_are_of_their_table n = refl
 
 -- CHECKS
-busy_where_three_are_live : (n : TableId) → ChecksRest n (resting n) (Busy (rest_with (Some n) 4 two [] None [] None (Some 3)) 3)
+busy_where_three_are_live : (n : TableId) → ChecksRest n (resting n) (Busy (rest_with (Some n) 4 two [] None [] (3 ∷ 6 ∷ [])) 3)
 busy_where_three_are_live n = (refl, λ is. omega (arith, is))
 
 not_busy_where_two_are_live : (n : TableId) (s : RestState) → ChecksRest n (resting n) (Busy s 2) → ⊥
 not_busy_where_two_are_live n s checks = checks.1 refl
 
-alone_where_two_are_live : (n : TableId) → ChecksRest n (resting n) (Alone (rest_with (Some n) 4 two [] (Some true) [] (Some 1) (Some 2)) true)
-alone_where_two_are_live n = (refl, (λ is none. omega (arith, none), λ is. refl))
+alone_where_two_are_live : (n : TableId) → ChecksRest n (resting n) (Alone (rest_with (Some n) 4 two [] (Some true) [] (1 ∷ 2 ∷ 6 ∷ [])) true)
+alone_where_two_are_live n = (refl, (refl, (refl, ((λ is none. omega (arith, none)), (λ is. refl)))))
 
-no_fault_without_a_mark : (n : TableId) → ChecksRest n (resting n) (Alone (rest_with (Some n) 4 two [] (Some true) [] (Some 0) (Some 2)) true) → ⊥
-no_fault_without_a_mark n checks = checks.1.0 refl refl
+no_fault_without_a_mark : (n : TableId) → ChecksRest n (resting n) (Alone (rest_with (Some n) 4 two [] (Some true) [] (0 ∷ 2 ∷ 6 ∷ [])) true) → ⊥
+no_fault_without_a_mark n checks = checks.1.1.1.0 refl refl
+
+not_alone_where_three_are_live : (n : TableId) → ChecksRest n (resting n) (Alone (rest_with (Some n) 4 two [] (Some true) [] (1 ∷ 3 ∷ 6 ∷ [])) true) → ⊥
+not_alone_where_three_are_live n checks = omega (arith, checks.1.1.0)
+
+not_busy_without_a_look : (n : TableId) → ChecksRest n (resting n) (Busy (resting n) 3) → ⊥
+not_busy_without_a_look n checks = omega (arith, ap (λ (s : RestState). length s.found) checks.0)
 
 -- UNITS
-no_unit_from_two_on : (n : TableId) → LooksForUnit net n (resting n) 0 (NoUnit (rest_with (Some n) 4 two [] None (0 ∷ []) None (Some 2)))
-no_unit_from_two_on n = (refl, omega arith)
+no_unit_from_two_on : (n : TableId) → LooksForUnit net n (resting n) 0 (Exhausted (rest_with (Some n) 4 two [] None (0 ∷ []) (2 ∷ 6 ∷ [])))
+no_unit_from_two_on n = (refl, (refl, omega arith))
 
-a_unit_below_two : (n : TableId) → LooksForUnit net n (resting n) 0 (HasUnit (rest_with (Some n) 4 two [] None [] None (Some 1)))
-a_unit_below_two n = (refl, omega arith)
+a_unit_below_two : (n : TableId) → LooksForUnit net n (resting n) 0 (Available (rest_with (Some n) 4 two [] None [] (1 ∷ 6 ∷ [])))
+a_unit_below_two n = (refl, (refl, omega arith))
 
-no_refusal_below_two : (n : TableId) → LooksForUnit net n (resting n) 0 (NoUnit (rest_with (Some n) 4 two [] None (0 ∷ []) None (Some 1))) → ⊥
-no_refusal_below_two n looks = omega (arith, looks.1)
+no_refusal_below_two : (n : TableId) → LooksForUnit net n (resting n) 0 (Exhausted (rest_with (Some n) 4 two [] None (0 ∷ []) (1 ∷ 6 ∷ []))) → ⊥
+no_refusal_below_two n looks = omega (arith, looks.1.1)
+
+no_unit_without_a_look : (n : TableId) → LooksForUnit net n (resting n) 0 (Available (resting n)) → ⊥
+no_unit_without_a_look n looks = omega (arith, ap length looks.1.0)
 
 -- TURNS HANDED OUT
-last_is_handed_out : (n : TableId) → HandsOut n (resting n) (rest_with (Some n) 4 (parked_as 1 Source ∷ []) [] None [] None None) (turn_with n 0 Source None [] None None)
+last_is_handed_out : (n : TableId) → HandsOut n (resting n) (rest_with (Some n) 4 (parked_as 1 Source ∷ []) [] None [] (6 ∷ [])) (turn_with n 0 Source None [] [])
 last_is_handed_out n = record { turns = refl; is = refl; left = refl; table = refl }
+
+first_turn_gives_its_seat : (n : TableId) → found_with None [] (6 ∷ []) ≡ 6 ∷ []
+first_turn_gives_its_seat n = refl
+
+second_turn_does_not : (n : TableId) → found_with (Some n) (6 ∷ []) (7 ∷ []) ≡ 6 ∷ []
+second_turn_does_not n = refl
+
+seat_stays_with_a_turn : found_left two (6 ∷ []) ≡ 6 ∷ []
+seat_stays_with_a_turn = refl
+
+seat_goes_with_the_last_turn : found_left [] (6 ∷ []) ≡ []
+seat_goes_with_the_last_turn = refl
 
 -- DROPS
 last_turn_takes_it : LastTakes net 0 two
@@ -77,22 +98,22 @@ last_turn_takes_it = refl
 first_turn_takes_none : LastTakes net 0 (parked_as 1 Source ∷ []) → ⊥
 first_turn_takes_none takes = absurd (false≢true takes)
 
-dropped_after_a_fault : (n : TableId) → MayDropOf net (rest_with (Some n) 4 two [] (Some true) [] None None) AfterFault
+dropped_after_a_fault : (n : TableId) → MayDropOf net (rest_with (Some n) 4 two [] (Some true) [] []) AfterFault
 dropped_after_a_fault n = refl
 
-dropped_where_none_comes_back : (n : TableId) → MayDropOf net (rest_with (Some n) 4 two [] (Some false) (0 ∷ []) None None) (Stuck 0)
+dropped_where_none_comes_back : (n : TableId) → MayDropOf net (rest_with (Some n) 4 two [] (Some false) (0 ∷ []) []) (Stuck 0)
 dropped_where_none_comes_back n = (refl, omega arith, refl)
 
-not_dropped_before_it_looked : (n : TableId) → MayDropOf net (rest_with (Some n) 4 two [] (Some false) [] None None) (Stuck 0) → ⊥
+not_dropped_before_it_looked : (n : TableId) → MayDropOf net (rest_with (Some n) 4 two [] (Some false) [] []) (Stuck 0) → ⊥
 not_dropped_before_it_looked n may = omega (arith, may.1)
 
 no_rest_is_dropped_at_the_limit : (r : RestState) → MayDropOf net r Limit → ⊥
 no_rest_is_dropped_at_the_limit r may = may
 
-last_is_dropped_first : (n : TableId) → DropsLast (rest_with (Some n) 4 two [] (Some false) (0 ∷ []) None None) (Stuck 0) (parked_as 1 Source ∷ []) (stuck 0 7 ∷ [])
+last_is_dropped_first : (n : TableId) → DropsLast (rest_with (Some n) 4 two [] (Some false) (0 ∷ []) []) (Stuck 0) (parked_as 1 Source ∷ []) (stuck 0 7 ∷ [])
 last_is_dropped_first n = record { last = parked_as 0 Source; place = 7; turns_are = refl; dropped_are = refl }
 
-more_where_one_is_left : (n : TableId) → DropsOf n (rest_with (Some n) 4 two [] (Some false) (0 ∷ []) None None) (Stuck 0) (More (rest_with (Some n) 4 (parked_as 1 Source ∷ []) (stuck 0 7 ∷ []) (Some false) (0 ∷ []) None None))
+more_where_one_is_left : (n : TableId) → DropsOf n (rest_with (Some n) 4 two [] (Some false) (0 ∷ []) []) (Stuck 0) (More (rest_with (Some n) 4 (parked_as 1 Source ∷ []) (stuck 0 7 ∷ []) (Some false) (0 ∷ []) []))
 more_where_one_is_left n = (refl, record { last = parked_as 0 Source; place = 7; turns_are = refl; dropped_are = refl }, λ is. omega (arith, ap length is))
 
 no_more_where_none_is_left : (n : TableId) (r s : RestState) → s.turns ≡ [] → DropsOf n r AfterFault (More s) → ⊥

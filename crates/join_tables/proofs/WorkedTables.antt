@@ -1,6 +1,6 @@
 -- What contracts of tables say, line by line, computed on a small net.
-use Rattle.std.proofs.Common.{◌≡◌, ◌≢◌, ℕ, ◌<◌, ◌≤◌, true, false, [], ◌∷◌, Some, None, refl, ap, arith}
-use Rattle.std.specs.Prelude.{IsSomeAnd}
+use Rattle.std.proofs.Common.{◌≡◌, ◌≢◌, inl, inr, ℕ, ◌<◌, ◌≤◌, true, false, [], ◌∷◌, length, Some, refl, ap, arith}
+use Rattle.std.specs.Prelude.{slice_index}
 use Rattle.task_graph.specs.declared.net.Shape.{Shape}
 use Rattle.task_graph.specs.declared.net.Shape.TheVariants.{Plain, Choice}
 use Rattle.task_graph.specs.declared.net.TaskRow.{TaskRow}
@@ -16,10 +16,12 @@ use Rattle.join_tables.specs.declared.turns.Admitted.TheVariants.{Go, Over, Halt
 use Rattle.join_tables.specs.declared.turns.EndedStart.{EndedStart}
 use Rattle.join_tables.specs.declared.fates.Fate.TheVariants.{Ended}
 use Rattle.join_tables.specs.declared.keeper.Remaining.TheVariants.{More as TurnsLeft, All as NoneLeft}
-use Rattle.table_steps.specs.Giving.{times, target, MayGive}
-use Rattle.join_tables.specs.States.{FreshState, CollectingState, TurnState, AdmittedState, RunningState, OwingState, SpentState, fresh_state}
+use Rattle.table_steps.specs.Giving.{times, target, MayEndGiving}
+use Rattle.join_tables.specs.Findings.{FindsOne, FindsTwo, CountsEdge, TakesToken, GivesToken}
+use Rattle.join_tables.specs.Parts.{part_list}
+use Rattle.join_tables.specs.States.{FreshState, CollectingState, TurnState, AdmittedState, RunningState, OwingState, SpentState, fresh_state, turn_state, turn_with, admitted_state}
 use Rattle.join_tables.specs.FirstCauses.{begin_full, first_causes, first_fresh}
-use Rattle.join_tables.specs.Turns.{CollectsFrom, Admits, EndsAs, GivesNext, cause_by}
+use Rattle.join_tables.specs.Turns.{CollectsFrom, Admits, EndedAs, GivesNext, release_cause}
 use Rattle.join_tables.specs.Keeping.{entries_of, Merges, LeavesOf}
 
 abbrev free : Shape → TaskRow
@@ -66,21 +68,21 @@ leads_to = refl
 no_edge_leads : target net 5 ≡ 0
 no_edge_leads = refl
 
-no_edge_twice : MayGive net 3 (3 ∷ 3 ∷ []) false → ⊥
+no_edge_twice : MayEndGiving net 3 (3 ∷ 3 ∷ []) false → ⊥
 no_edge_twice may = omega (arith, may.once 3)
 
-no_edge_past_the_end : MayGive net 3 (5 ∷ []) false → ⊥
+no_edge_past_the_end : MayEndGiving net 3 (5 ∷ []) false → ⊥
 no_edge_past_the_end may = omega (arith, may.in_range.0)
 
-weak_cause : cause_by net 3 ≡ Weak 3
+weak_cause : release_cause net 3 ≡ Weak 3
 weak_cause = refl
 
-strong_cause : cause_by net 0 ≡ Strong
+strong_cause : release_cause net 0 ≡ Strong
 strong_cause = refl
 
 -- COLLECTING
 more_where_one_is_left : (c d : CollectingState) → CollectsFrom c (0 ∷ 1 ∷ []) (More d) → d.left ≡ 1 ∷ []
-more_where_one_is_left c d h = ap (λ (s : CollectingState). s.left) h
+more_where_one_is_left c d h = ap (λ (s : CollectingState). s.left) h.0
 
 no_more_after_the_last : (c d : CollectingState) → CollectsFrom c (0 ∷ []) (More d) → ⊥
 no_more_after_the_last c d h = h
@@ -91,41 +93,136 @@ no_last_before_the_last c t h = h
 not_again_before_the_last : (c : CollectingState) (t : TurnState) (f : FreshState) → CollectsFrom c (0 ∷ 1 ∷ []) (LastAgain t f) → ⊥
 not_again_before_the_last c t f h = h
 
-again_where_one_was_found : (c : CollectingState) (t : TurnState) (f : FreshState) → CollectsFrom c (0 ∷ []) (LastAgain t f) → (t.found ≡ Some 1) × (f.cause ≡ Strong) × (f.task ≡ c.task)
-again_where_one_was_found c t f h = (ap (λ (s : TurnState). s.found) h.0, ap (λ (s : FreshState). s.cause) h.1, ap (λ (s : FreshState). s.task) h.1)
+again_by_its_strong_edges : (c : CollectingState) (t : TurnState) (f : FreshState) → CollectsFrom c (0 ∷ []) (LastAgain t f) → TakesToken c.cause true c.found t.found × (f.cause ≡ Strong) × (f.task ≡ c.task)
+again_by_its_strong_edges c t f h = (h.2, ap (λ (s : FreshState). s.cause) h.1, ap (λ (s : FreshState). s.task) h.1)
 
-last_where_another_was_found : (c : CollectingState) (t : TurnState) → CollectsFrom c (0 ∷ []) (Last t) → t.found ≢ Some 1
-last_where_another_was_found c t h = h.1
+last_without_another : (c : CollectingState) (t : TurnState) → CollectsFrom c (0 ∷ []) (Last t) → TakesToken c.cause false c.found t.found
+last_without_another c t h = h.1
 
-nothing_is_found_without_an_edge : (c : CollectingState) (t : TurnState) → CollectsFrom c [] (Last t) → t.found ≡ None
+nothing_is_found_without_an_edge : (c : CollectingState) (t : TurnState) → CollectsFrom c [] (Last t) → t.found ≡ c.found
 nothing_is_found_without_an_edge c t h = ap (λ (s : TurnState). s.found) h
 
+-- WHAT A CALL FOUND: after a first number, 9
+one_was_found : FindsOne (λ n. n ≡ 4) (9 ∷ []) (4 ∷ 9 ∷ [])
+one_was_found = (refl, refl)
+
+not_without_a_number : FindsOne (λ n. Unit {0}) (9 ∷ []) (9 ∷ []) → ⊥
+not_without_a_number h = omega (arith, ap length h.0)
+
+not_with_two : FindsOne (λ n. Unit {0}) (9 ∷ []) (4 ∷ 5 ∷ 9 ∷ []) → ⊥
+not_with_two h = omega (arith, ap length h.0)
+
+no_first_number_is_lost : FindsOne (λ n. Unit {0}) (9 ∷ []) (4 ∷ 8 ∷ []) → ⊥
+no_first_number_is_lost h = omega (arith, ap (λ ns. slice_index ns 0) h.0)
+
+two_were_found : FindsTwo (λ m n. (m ≡ 5) × (n ≡ 4)) (9 ∷ []) (4 ∷ 5 ∷ 9 ∷ [])
+two_were_found = (refl, (refl, refl))
+
+not_two_with_one : FindsTwo (λ m n. Unit {0}) (9 ∷ []) (4 ∷ 9 ∷ []) → ⊥
+not_two_with_one h = omega (arith, ap length h.0)
+
+last_of_the_join_word_releases : CountsEdge true [] (1 ∷ [])
+last_of_the_join_word_releases = (refl, refl)
+
+no_release_is_hidden : CountsEdge false [] (1 ∷ []) → ⊥
+no_release_is_hidden h = h.1 refl
+
+no_release_before_the_last : CountsEdge true [] (2 ∷ []) → ⊥
+no_release_before_the_last h = omega (arith, h.1)
+
+last_token_is_not_counted : TakesToken Strong false [] (1 ∷ [])
+last_token_is_not_counted = inl (refl, λ is. omega arith)
+
+another_token_is_counted : TakesToken Strong false [] (2 ∷ []) → ⊥
+another_token_is_counted (inl h) = omega (arith, h.1 refl)
+another_token_is_counted (inr h) = h
+
+counted_where_two_were_left : TakesToken Strong false [] (2 ∷ 3 ∷ [])
+counted_where_two_were_left = inr (refl, (refl, omega arith, λ is. omega (arith, is)))
+
+not_last_where_it_released : TakesToken Strong false [] (1 ∷ 3 ∷ []) → ⊥
+not_last_where_it_released (inl h) = omega (arith, ap length h.0)
+not_last_where_it_released (inr h) = h.1.2 refl
+
+again_where_one_was_left : TakesToken Strong true [] (1 ∷ 3 ∷ [])
+again_where_one_was_left = (refl, (refl, omega arith, refl))
+
+not_again_where_two_were_left : TakesToken Strong true [] (2 ∷ 3 ∷ []) → ⊥
+not_again_where_two_were_left h = omega (arith, h.1.2)
+
+weak_edge_is_not_counted_again : TakesToken (Weak 3) true [] (1 ∷ 3 ∷ []) → ⊥
+weak_edge_is_not_counted_again h = let no : Weak 3 ≡ Strong = h.1.0 in absurd (cc)
+
+weak_token_releases : GivesToken true true [] (7 ∷ [])
+weak_token_releases = (refl, tt)
+
+no_weak_token_without_a_release : GivesToken true false [] (7 ∷ []) → ⊥
+no_weak_token_without_a_release h = h
+
+second_token_is_not_counted : GivesToken false false [] (1 ∷ [])
+second_token_is_not_counted = inl (refl, λ is. omega (arith, is))
+
+first_token_is_counted : GivesToken false false [] (0 ∷ []) → ⊥
+first_token_is_counted (inl h) = h.1 refl
+first_token_is_counted (inr h) = h
+
+first_token_of_a_target_with_two_left : GivesToken false false [] (2 ∷ 0 ∷ [])
+first_token_of_a_target_with_two_left = inr (refl, (refl, λ is. omega (arith, is)))
+
+first_token_releases : GivesToken false true [] (1 ∷ 0 ∷ [])
+first_token_releases = (refl, (refl, refl))
+
+no_release_by_a_first_token_is_hidden : GivesToken false false [] (1 ∷ 0 ∷ []) → ⊥
+no_release_by_a_first_token_is_hidden (inl h) = omega (arith, ap length h.0)
+no_release_by_a_first_token_is_hidden (inr h) = h.1.1 refl
+
+no_release_by_a_second_token : GivesToken false true [] (1 ∷ 1 ∷ []) → ⊥
+no_release_by_a_second_token h = omega (arith, h.1.0)
+
 -- ADMISSIONS
-go_below_the_limit : (t : TurnState) (ticket : AdmittedState) → Admits 5 t (Go ticket) → ticket.drawn < 5
+go_below_the_limit : (t : TurnState) (ticket : AdmittedState) → Admits 5 t (Go ticket) → FindsTwo (λ h n. (h ≡ 0) × (n < 5)) t.found ticket.found
 go_below_the_limit t ticket h = h.1
 
-over_from_the_limit_on : (t u : TurnState) → Admits 5 t (Over u) → IsSomeAnd u.found (λ n. 5 ≤ n)
+goes_on_without_a_fault : (n : TableId) → Admits 5 (turn_state n 1 Strong []) (Go (admitted_state n 1 Strong [] (4 ∷ 0 ∷ [])))
+goes_on_without_a_fault n = (refl, (refl, (refl, omega arith)))
+
+no_start_that_did_not_look : (n : TableId) → Admits 5 (turn_state n 1 Strong []) (Go (admitted_state n 1 Strong [] (4 ∷ []))) → ⊥
+no_start_that_did_not_look n h = h.1
+
+no_start_past_the_limit : (n : TableId) → Admits 5 (turn_state n 1 Strong []) (Go (admitted_state n 1 Strong [] (5 ∷ 0 ∷ []))) → ⊥
+no_start_past_the_limit n h = omega (arith, h.1.1.1)
+
+no_start_after_a_fault : (n : TableId) → Admits 5 (turn_state n 1 Strong []) (Go (admitted_state n 1 Strong [] (4 ∷ 1 ∷ []))) → ⊥
+no_start_after_a_fault n h = omega (arith, h.1.1.0)
+
+over_from_the_limit_on : (t u : TurnState) → Admits 5 t (Over u) → FindsTwo (λ h n. (h ≡ 0) × (5 ≤ n)) t.found u.found
 over_from_the_limit_on t u h = h.1
+
+not_over_below_the_limit : (n : TableId) → Admits 5 (turn_state n 1 Strong []) (Over (turn_with n 1 Strong (Some Limit) [] (4 ∷ 0 ∷ []))) → ⊥
+not_over_below_the_limit n h = omega (arith, h.1.1.1)
 
 over_is_refused : (t u : TurnState) → Admits 5 t (Over u) → u.refused ≡ Some Limit
 over_is_refused t u h = ap (λ (s : TurnState). s.refused) h.0
 
-halted_by_its_mark : (t u : TurnState) → Admits 5 t (Halted u) → (u.refused ≡ Some AfterFault) × IsSomeAnd u.halt (λ n. n ≢ 0)
+halted_by_its_mark : (t u : TurnState) → Admits 5 t (Halted u) → (u.refused ≡ Some AfterFault) × FindsOne (λ h. h ≢ 0) t.found u.found
 halted_by_its_mark t u h = (ap (λ (s : TurnState). s.refused) h.0, h.1)
 
+not_halted_without_a_mark : (n : TableId) → Admits 5 (turn_state n 1 Strong []) (Halted (turn_with n 1 Strong (Some AfterFault) [] (0 ∷ []))) → ⊥
+not_halted_without_a_mark n h = h.1.1 refl
+
 -- ENDS
-end_of_its_start : (r : RunningState) (ended : EndedStart) → EndsAs r (3 ∷ []) false ended → (ended.start ≡ r.place) × (ended.gives ≡ 3 ∷ [])
-end_of_its_start r ended h = (h.2, h.3)
+end_of_its_start : (r : RunningState) (ended : EndedStart) → EndedAs r (3 ∷ []) false ended → (ended.start ≡ r.place) × (ended.gives ≡ 3 ∷ [])
+end_of_its_start r ended h = (h.2, h.4)
 
 -- GIVING
-next_where_another_was_found : (o p : OwingState) → GivesNext net o (0 ∷ 2 ∷ []) (Next p) → p.found ≢ Some 1
-next_where_another_was_found o p h = h.2
+next_without_a_release : (o p : OwingState) → GivesNext net o (0 ∷ 2 ∷ []) (Next p) → GivesToken false false o.found p.found
+next_without_a_release o p h = h.1
 
 weak_edge_always_releases : (o p : OwingState) → GivesNext net o (3 ∷ []) (Next p) → ⊥
-weak_edge_always_releases o p h = let no : true ≡ false = h.0 in absurd (cc)
+weak_edge_always_releases o p h = h.1
 
-released_where_one_was_found : (o p : OwingState) (f : FreshState) → GivesNext net o (0 ∷ []) (Released p f) → (p.found ≡ Some 1) × (f.task ≡ 1) × (f.cause ≡ Strong)
-released_where_one_was_found o p f h = (h.2 refl, ap (λ (s : FreshState). s.task) h.1, ap (λ (s : FreshState). s.cause) h.1)
+released_where_one_was_found : (o p : OwingState) (f : FreshState) → GivesNext net o (0 ∷ []) (Released p f) → GivesToken false true o.found p.found × (f.task ≡ 1) × (f.cause ≡ Strong)
+released_where_one_was_found o p f h = (h.2, ap (λ (s : FreshState). s.task) h.1, ap (λ (s : FreshState). s.cause) h.1)
 
 released_by_a_weak_edge : (o p : OwingState) (f : FreshState) → GivesNext net o (4 ∷ []) (Released p f) → (f.task ≡ 4) × (f.cause ≡ Weak 4)
 released_by_a_weak_edge o p f h = (ap (λ (s : FreshState). s.task) h.1, ap (λ (s : FreshState). s.cause) h.1)
@@ -147,10 +244,10 @@ no_more_after_the_last_turn : LeavesOf 1 TurnsLeft → ⊥
 no_more_after_the_last_turn h = h refl
 
 abbrev ended : EndedStart
-ended = record { task = 0; cause = Source; start = 0; place = 1; gives = 0 ∷ []; inner = false }
+ended = record { task = 0; cause = Source; start = 0; ins = part_list [] 0; place = 1; gives = 0 ∷ []; inner = false }
 
 abbrev other_ended : EndedStart
-other_ended = record { task = 0; cause = Source; start = 0; place = 0; gives = 0 ∷ []; inner = false }
+other_ended = record { task = 0; cause = Source; start = 0; ins = part_list [] 0; place = 0; gives = 0 ∷ []; inner = false }
 
 start_and_end : entries_of (Ended ended) ≡ record { place = 0; entry = Start 0 Source [] } ∷ record { place = 1; entry = End 0 (0 ∷ []) false } ∷ []
 start_and_end = refl

@@ -1,8 +1,9 @@
 -- What a start has to do with semaphores, as contracts see it.
-use Rattle.std.specs.Prelude.{◌≡◌, ℕ, ◌<◌, ◌≤◌, List, [], ◌∷◌, Some, None, IsSomeAnd}
+use Rattle.std.specs.Prelude.{◌≡◌, ℕ, ◌<◌, ◌≤◌, List, [], ◌∷◌, Some, None}
 use Rattle.task_graph.specs.NetRows.{NetRows}
 use Rattle.table_steps.specs.Credits.{first_credit, AllowsOver}
 use Rattle.table_steps.specs.Holding.{PutsEach, PutsBack, TakesAlone, PutsAlone, without}
+use Rattle.join_tables.specs.Findings.{FindsOne}
 use Rattle.join_tables.specs.States.{StartUnits, RunningState, running_state}
 use Rattle.join_tables.specs.declared.turns.Claim.{Claim}
 use Rattle.join_tables.specs.declared.turns.Claim.TheVariants.{Granted, Refused}
@@ -46,10 +47,10 @@ refuse_one s u = record { back = u.back; to_credit = u.to_credit; credited = u.c
 
 -- the start after a call on its units
 abbrev pub with_units : RunningState → StartUnits → RunningState → RunningState
-with_units r units q = running_state r.table r.task r.cause r.place units q.found
+with_units r units q = running_state r.table r.task r.cause r.place r.ins units q.found
 
 -- A claim is granted where its step found more in the credit word than was there at first. Else it is refused, and then a
 -- legal journal with this start at its place allows a Fault of it that tells an over-release of the semaphore.
 abbrev pub ClaimsUnit : NetRows → ℕ → RunningState → ℕ → Claim → Type 0
-ClaimsUnit net limit r s (Granted q) = (q ≡ with_units r (grant_one s r.units) q) × IsSomeAnd q.found (λ n. first_credit < n)
-ClaimsUnit net limit r s (Refused q) = (q ≡ with_units r (refuse_one s r.units) q) × IsSomeAnd q.found (λ n. n ≤ first_credit) × AllowsOver net limit s r.place r.task
+ClaimsUnit net limit r s (Granted q) = (q ≡ with_units r (grant_one s r.units) q) × FindsOne (λ n. first_credit < n) r.found q.found
+ClaimsUnit net limit r s (Refused q) = (q ≡ with_units r (refuse_one s r.units) q) × FindsOne (λ n. n ≤ first_credit) r.found q.found × AllowsOver net limit s r.place r.task

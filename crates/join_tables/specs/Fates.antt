@@ -7,11 +7,11 @@ use Rattle.join_tables.specs.declared.fates.Fate.TheVariants.{Faulted, Dropped}
 use Rattle.join_tables.specs.States.{TurnState, RunningState}
 
 -- this start faulted, for this reason
-abbrev pub FaultsAs : RunningState → Why → Fate → Type 0
-FaultsAs r why (Faulted f) = (f.task ≡ r.task) × (f.cause ≡ r.cause) × (f.start ≡ r.place) × (f.why ≡ why)
-FaultsAs r why _ = ⊥
+abbrev pub FaultedAs : RunningState → Why → Fate → Type 0
+FaultedAs r why (Faulted f) = (f.task ≡ r.task) × (f.cause ≡ r.cause) × (f.start ≡ r.place) × (f.ins.parts ≡ r.ins) × (f.why ≡ why)
+FaultedAs r why _ = ⊥
 
 -- this release was dropped, for this reason
-abbrev pub DropsAs : TurnState → DropWhy → Fate → Type 0
-DropsAs t why (Dropped d) = (d.task ≡ t.task) × (d.cause ≡ t.cause) × (d.why ≡ why)
-DropsAs t why _ = ⊥
+abbrev pub DroppedAs : TurnState → DropWhy → Fate → Type 0
+DroppedAs t why (Dropped d) = (d.task ≡ t.task) × (d.cause ≡ t.cause) × (d.why ≡ why)
+DroppedAs t why _ = ⊥

@@ -1,4 +1,6 @@
+pub mod Parts
 pub mod States
+pub mod Findings
 pub mod FirstCauses
 pub mod Units
 pub mod Claims

@@ -1,8 +1,10 @@
--- The states of a table, of its turns and of its keeper.
+-- The states of a table and of its turns. Each turn but a release that is not set again, and one that owes nothing, has the
+-- numbers that its steps found, the newest first.
 use Rattle.std.specs.Prelude.{ℕ, List, [], Option, None}
 use Rattle.task_graph.specs.NetRows.{NetRows}
 use Rattle.atomic_table.specs.Seated.{TableId}
 use Rattle.journal_rules.specs.declared.entry.Cause.{Cause}
+use Rattle.journal_rules.specs.declared.entry.Part.{Part}
 use Rattle.journal_rules.specs.declared.entry.DropWhy.{DropWhy}
 use Rattle.join_tables.specs.declared.turns.EndedStart.{EndedStart}
 use Rattle.join_tables.specs.declared.fates.Fate.{Fate}
@@ -25,27 +27,24 @@ pub record CollectingState : Type 0 where
   pub task : ℕ
   pub cause : Cause
   pub left : List ℕ
+  pub found : List ℕ
 
--- One that has collected all: why it was refused, if it was, and the semaphores of the units that it holds. Then what the
--- call that led here found: in the halt mark, if it asked for an admission, and in the word on which it counted an edge,
--- took a unit or drew a start.
+-- one that has collected all: why it was refused, if it was, and the semaphores of the units that it holds
 pub record TurnState : Type 0 where
   pub table : TableId
   pub task : ℕ
   pub cause : Cause
   pub refused : Option DropWhy
   pub held : List ℕ
-  pub halt : Option ℕ
-  pub found : Option ℕ
+  pub found : List ℕ
 
--- one that may start its task, and what its admission found: in the halt mark, and the number that it drew
+-- one that may start its task
 pub record AdmittedState : Type 0 where
   pub table : TableId
   pub task : ℕ
   pub cause : Cause
   pub held : List ℕ
-  pub halt : ℕ
-  pub drawn : ℕ
+  pub found : List ℕ
 
 -- The semaphores of a start: of the units that its end gives back, as far as it has them; of those that it took and its
 -- task doesn't put, which are still to be credited, and which are credited; and of those that its task puts and doesn't
@@ -57,24 +56,23 @@ pub record StartUnits : Type 0 where
   pub to_claim : List ℕ
   pub refused : Option ℕ
 
--- a start that runs, its place in the journal, its units, and what its last call found in a credit word, if that claimed
--- a unit
+-- a start that runs, its place in the journal, the parts that it found, and its units
 pub record RunningState : Type 0 where
   pub table : TableId
   pub task : ℕ
   pub cause : Cause
   pub place : ℕ
+  pub ins : List Part
   pub units : StartUnits
-  pub found : Option ℕ
+  pub found : List ℕ
 
--- A run that ended, the edges that it has still to give, and the semaphores of the units that it has to give back. Where
--- its last call counted the edge that it gave, that found a number in the join word there.
+-- a run that ended, the edges that it has still to give, and the semaphores of the units that it has to give back
 pub record OwingState : Type 0 where
   pub table : TableId
   pub ended : EndedStart
   pub left : List ℕ
   pub units : List ℕ
-  pub found : Option ℕ
+  pub found : List ℕ
 
 -- one that owes nothing
 pub record SpentState : Type 0 where
@@ -84,22 +82,22 @@ pub record SpentState : Type 0 where
 abbrev pub fresh_state : TableId → ℕ → Cause → FreshState
 fresh_state n t cause = record { table = n; task = t; cause = cause }
 
-abbrev pub collecting_state : TableId → ℕ → Cause → List ℕ → CollectingState
-collecting_state n t cause left = record { table = n; task = t; cause = cause; left = left }
+abbrev pub collecting_state : TableId → ℕ → Cause → List ℕ → List ℕ → CollectingState
+collecting_state n t cause left found = record { table = n; task = t; cause = cause; left = left; found = found }
 
-abbrev pub turn_with : TableId → ℕ → Cause → Option DropWhy → List ℕ → Option ℕ → Option ℕ → TurnState
-turn_with n t cause refused held halt found = record { table = n; task = t; cause = cause; refused = refused; held = held; halt = halt; found = found }
+abbrev pub turn_with : TableId → ℕ → Cause → Option DropWhy → List ℕ → List ℕ → TurnState
+turn_with n t cause refused held found = record { table = n; task = t; cause = cause; refused = refused; held = held; found = found }
 
-abbrev pub turn_state : TableId → ℕ → Cause → Option ℕ → TurnState
-turn_state n t cause found = turn_with n t cause None [] None found
+abbrev pub turn_state : TableId → ℕ → Cause → List ℕ → TurnState
+turn_state n t cause found = turn_with n t cause None [] found
 
-abbrev pub admitted_state : TableId → ℕ → Cause → List ℕ → ℕ → ℕ → AdmittedState
-admitted_state n t cause held halt drawn = record { table = n; task = t; cause = cause; held = held; halt = halt; drawn = drawn }
+abbrev pub admitted_state : TableId → ℕ → Cause → List ℕ → List ℕ → AdmittedState
+admitted_state n t cause held found = record { table = n; task = t; cause = cause; held = held; found = found }
 
-abbrev pub running_state : TableId → ℕ → Cause → ℕ → StartUnits → Option ℕ → RunningState
-running_state n t cause place units found = record { table = n; task = t; cause = cause; place = place; units = units; found = found }
+abbrev pub running_state : TableId → ℕ → Cause → ℕ → List Part → StartUnits → List ℕ → RunningState
+running_state n t cause place ins units found = record { table = n; task = t; cause = cause; place = place; ins = ins; units = units; found = found }
 
-abbrev pub owing_state : TableId → EndedStart → List ℕ → List ℕ → Option ℕ → OwingState
+abbrev pub owing_state : TableId → EndedStart → List ℕ → List ℕ → List ℕ → OwingState
 owing_state n ended left units found = record { table = n; ended = ended; left = left; units = units; found = found }
 
 abbrev pub spent_state : TableId → Fate → SpentState

@@ -1,40 +1,36 @@
 // The calls that take a release to its start, and a start to its end and the releases that follow. None takes
 // memory, and none waits.
-ghost use Rattle.std.specs.Prelude.{◌≡◌, ◌≢◌, ◌↔◌, ◌<◌, ◌≤◌, ◌∷◌, IfSome, IsTrue, is_some, Some, None, [], length, slice_get, true, false, drop};
+ghost use Rattle.std.specs.Prelude.{◌≡◌, ◌≢◌, ◌↔◌, ◌<◌, ◌≤◌, ◌+◌, ◌∷◌, ℕ, List, IfOk, IfSome, IsTrue, is_some, [], length, slice_get, drop};
 ghost use Rattle.std.specs.Arc.{arc_value};
 ghost use Rattle.task_graph.specs.Net.{is_weak};
 ghost use Rattle.journal_rules.specs.DataRule.{edges_of};
 ghost use Rattle.journal_rules.specs.declared.entry.Cause.TheVariants.{Strong};
+ghost use Rattle.join_tables.specs.Findings.{CountsEdge, TakesToken, GivesToken};
 ghost use Rattle.join_tables.specs.States.{fresh_state, collecting_state, running_state};
-ghost use Rattle.join_tables.specs.Turns.{CollectsFrom, GivesNext, EndsAs, cause_by};
-ghost use Rattle.table_steps.specs.Giving.{MayGive, target};
-ghost use Rattle.table_steps.specs.Holding.{HoldsAll, PutsAll};
+ghost use Rattle.join_tables.specs.Turns.{CollectsFrom, GivesNext, EndedAs, release_cause};
+ghost use Rattle.table_steps.specs.Giving.{MayEndGiving, target};
+ghost use Rattle.table_steps.specs.Holding.{HoldsEachUnit, PutsAll};
 ghost use Rattle.join_tables.specs.Claims.{BeginsUnits, HasAllUnits, HasCredited, HasClaimed};
 ghost use Rattle.table_steps.specs.inside.Accounts.{FitsRelease};
 ghost use Rattle.table_steps.specs.inside.Kinds.{CountsNext, AreNoneLeft, others_of, kept_back, settled};
-ghost use Rattle.join_tables.specs.inside.Seated.{OwesFirst, paid, HasMade, collecting_view, taken_in, left_in};
+ghost use Rattle.join_tables.specs.inside.Seated.{OwesFirst, OwesToken, paid, paid_token, HasMade, collecting_view, taken_in, left_in};
 ghost use Rattle.join_tables.specs.inside.Collects.{CollectsOne};
 
 use crate::fates::Fate;
+use crate::parts::FoundParts;
 use crate::turns::{
-    Collected, Collecting, EndedStart, Fresh, Gave, NetTable, Owing, Place, Running, Spent,
-    StartTicket, Turn,
+    Collected, Collecting, EndedStart, Fresh, Gave, NetTable, Owing, Running, Spent, StartTicket,
+    TableSeat, Turn,
 };
-use journal_rules::Cause;
-use outside_io::List;
+use journal_rules::{Cause, Part};
+use outside_io::{List, NoMemory};
+use std::alloc::Global;
 
-// What an edge's count found in the join word, if the edge was counted, and the release that was made.
-#[derive(Drop)]
-struct Counted {
-    found: Option<u64>,
-    made: Option<Fresh>,
-}
-
-// What collecting from one edge led to: that no edge was left, or that a token was taken and perhaps counted, and
-// whether it was the last edge.
+// What collecting from one edge led to: that no edge was left, or that a token was taken, with the release that this made,
+// if it made one, and whether it was the last edge.
 enum Step {
     NoneLeft,
-    Taken(Counted, bool),
+    Taken(Option<Fresh>, bool),
 }
 
 // The task in which an edge ends, and whether the edge is weak.
@@ -44,23 +40,14 @@ struct Target {
     weak: bool,
 }
 
-impl Counted {
-    // That no edge was counted.
-    fn nothing() -> Counted
-        ensures { (result.found ≡ None) × (result.made ≡ None) }
-    {
-        Counted {
-            found: None,
-            made: None,
-        }
-    }
-}
-
 impl NetTable {
     /// Takes up a release, and sets its task's join word again where its strong in-edges released it.
-    pub fn reset(&self, fresh: Fresh) -> Collecting
-        requires { fresh.table ≡ self.now.table }
-        ensures { result ≡ collecting_state self.now.table fresh.task fresh.cause (edges_of self.now.net fresh.task fresh.cause) }
+    /// There is to be room for a part of each of its edges.
+    pub fn reset(&self, fresh: Fresh, ins: FoundParts) -> Collecting
+        requires table { fresh.table ≡ self.now.table }
+        requires empty { ins.parts ≡ [] }
+        requires room { length (edges_of self.now.net fresh.task fresh.cause) ≤ ins.room }
+        ensures { result ≡ collecting_state self.now.table fresh.task fresh.cause (edges_of self.now.net fresh.task fresh.cause) [] }
     {
         let Fresh {
             mut seat,
@@ -77,15 +64,31 @@ impl NetTable {
             task,
             cause,
             next: 0,
+            ins,
         }
+    }
+
+    /// No part yet, and room for a part of each edge of a release.
+    pub fn room_for(&self, alloc: Global, fresh: &mut Fresh) -> Result<FoundParts, NoMemory>
+        requires { fresh.old.table ≡ self.now.table }
+        ensures same { fresh.new ≡ fresh.old }
+        ensures room { IfOk result (λ ins. (ins.parts ≡ []) × (length (edges_of self.now.net fresh.old.task fresh.old.cause) ≤ ins.room)) }
+    {
+        self.words.learn(&mut fresh.seat);
+        let edges = match fresh.cause {
+            Cause::Source => 0,
+            Cause::Strong => self.words.net.strong_in(fresh.task).len(),
+            Cause::Weak(_) => 1,
+        };
+        FoundParts::with_room(alloc, edges)
     }
 
     /// Starts the task: draws the place of its Start. Of the units that the turn holds, the start gives those back at its
     /// end that the task puts too. The others are to be credited, and what the task puts besides is to be claimed.
     pub fn start(&self, ticket: StartTicket) -> Running
         requires table { ticket.table ≡ self.now.table }
-        requires units { HoldsAll self.now.net ticket.task ticket.held }
-        ensures state { result ≡ running_state self.now.table ticket.task ticket.cause result.place result.units None }
+        requires units { HoldsEachUnit self.now.net ticket.task ticket.held }
+        ensures state { result ≡ running_state self.now.table ticket.task ticket.cause result.place result.ins result.units ticket.found }
         ensures units { BeginsUnits self.now.net ticket.task result.units }
         ensures same { PutsAll self.now.net ticket.task → HasAllUnits self.now.net ticket.task ticket.held result.units }
     {
@@ -93,7 +96,7 @@ impl NetTable {
             mut seat,
             task,
             cause,
-            ..
+            ins,
         } = ticket;
         let place = self.words.draw_start(&mut seat);
         Running {
@@ -101,7 +104,7 @@ impl NetTable {
             task,
             cause,
             place,
-            found: None,
+            ins,
         }
     }
 
@@ -109,26 +112,28 @@ impl NetTable {
     /// edges. `inner` says that its work was a run of its own.
     pub fn end(&self, running: Running, gives: List<u32>, inner: bool) -> Owing
         requires table { running.table ≡ self.now.table }
-        requires fits { MayGive self.now.net running.task gives inner }
+        requires fits { MayEndGiving self.now.net running.task gives inner }
         requires credits { HasCredited self.now.net running.task running.units }
         requires claims { HasClaimed self.now.net running.task running.units }
         ensures table { result.table ≡ self.now.table }
-        ensures ended { EndsAs running gives inner result.ended }
+        ensures ended { EndedAs running gives inner result.ended }
         ensures left { result.left ≡ gives }
         ensures units { result.units ≡ running.units.back }
+        ensures found { result.found ≡ running.found }
     {
         let Running {
             mut seat,
             task,
             cause,
             place: start,
-            ..
+            ins,
         } = running;
         let place = self.words.draw_end(&mut seat, &gives, inner);
         let ended = EndedStart {
             task,
             cause,
             start,
+            ins,
             place,
             gives,
             inner,
@@ -137,11 +142,11 @@ impl NetTable {
             seat,
             ended,
             next: 0,
-            found: None,
         }
     }
 
-    /// Takes a token from the next edge of a release. Where that is a strong one with another token, it counts it
+    /// Takes the parcel from the slot of the next edge of a release, in one try, and then a token from the edge. Where
+    /// another turn holds the slot, nothing is found there. Where the edge is a strong one with another token, it counts it
     /// again. For a release without edges it takes no step.
     pub fn collect(&self, collecting: Collecting) -> Collected
         requires { collecting.table ≡ self.now.table }
@@ -152,10 +157,11 @@ impl NetTable {
             task,
             cause,
             next,
+            mut ins,
         } = collecting;
-        let (counted, is_last) = match self.collect_one(&mut seat, task, cause, next) {
-            Step::NoneLeft => (Counted::nothing(), true),
-            Step::Taken(counted, is_last) => (counted, is_last),
+        let (made, is_last) = match self.collect_one(&mut seat, task, cause, next, &mut ins) {
+            Step::NoneLeft => (None, true),
+            Step::Taken(made, is_last) => (made, is_last),
         };
         if !is_last {
             return Collected::More(Collecting {
@@ -163,15 +169,14 @@ impl NetTable {
                 task,
                 cause,
                 next: next + 1,
+                ins,
             });
         }
-        let Counted { found, made } = counted;
         let turn = Turn {
             seat,
             task,
             cause,
-            halt: None,
-            found,
+            ins,
         };
         match made {
             Some(fresh) => Collected::LastAgain(turn, fresh),
@@ -179,8 +184,9 @@ impl NetTable {
         }
     }
 
-    /// Gives a token of the next edge that an end owes, and counts it at its target where it is the first of a strong
-    /// one.
+    /// Puts the End's parcel into the slot of the next edge that it owes, in one try, and then gives the edge a token. Where
+    /// another turn holds the slot, the parcel is left away. It counts the token at its target where it is the first of a
+    /// strong edge.
     pub fn give(&self, owing: Owing) -> Gave
         requires table { owing.table ≡ self.now.table }
         requires no_unit { owing.units ≡ [] }
@@ -190,18 +196,16 @@ impl NetTable {
             mut seat,
             ended,
             next,
-            ..
         } = owing;
         let Some(edge) = ended.gives.get(next) else {
             let fate = Fate::Ended(ended);
             return Gave::Finished(Spent { seat, fate });
         };
-        let Counted { found, made } = self.give_edge(&mut seat, *edge);
+        let made = self.give_edge(&mut seat, *edge, ended.place);
         let owing = Owing {
             seat,
             ended,
             next: next + 1,
-            found,
         };
         match made {
             Some(fresh) => Gave::Released(owing, fresh),
@@ -209,99 +213,118 @@ impl NetTable {
         }
     }
 
-    // Gives a token of an edge, and deals out the release that this makes, if it makes one.
-    fn give_edge(&self, seat: &mut Place, edge: u32) -> Counted
+    // Gives an edge the parcel of the End at this place and a token, and deals out the release that this makes, if it makes
+    // one.
+    fn give_edge(&self, seat: &mut TableSeat, edge: u32, place: u64) -> Option<Fresh>
         requires table { seat.old.table_id ≡ self.now.table }
         requires home { seat.old.me.1 ≡ [] }
-        requires ready { OwesFirst edge seat.old.me.0 }
+        requires ready { OwesFirst edge place seat.old.me.0 }
         ensures table { seat.new.table_id ≡ seat.old.table_id }
         ensures view { seat.new.me ≡ (paid seat.old.me.0, []) }
-        ensures fresh { IfSome result.made (λ fresh. fresh ≡ fresh_state self.now.table (target self.now.net edge) (cause_by self.now.net edge)) }
-        ensures always { is_weak self.now.net edge ≡ true → IsTrue (is_some result.made) }
-        ensures exact { is_weak self.now.net edge ≡ false → (IsTrue (is_some result.made) ↔ (result.found ≡ Some 1)) }
+        ensures fresh { IfSome result (λ fresh. fresh ≡ fresh_state self.now.table (target self.now.net edge) (release_cause self.now.net edge)) }
+        ensures found { GivesToken (is_weak self.now.net edge) (is_some result) seat.old.found seat.new.found }
+    {
+        self.words.learn(seat);
+        self.words.deliver(seat, edge, Part::From(place));
+        self.give_token(seat, edge)
+    }
+
+    // Gives an edge a token whose parcel is put, and deals out the release that this makes, if it makes one.
+    fn give_token(&self, seat: &mut TableSeat, edge: u32) -> Option<Fresh>
+        requires table { seat.old.table_id ≡ self.now.table }
+        requires home { seat.old.me.1 ≡ [] }
+        requires ready { OwesToken edge seat.old.me.0 }
+        ensures table { seat.new.table_id ≡ seat.old.table_id }
+        ensures view { seat.new.me ≡ (paid_token seat.old.me.0, []) }
+        ensures fresh { IfSome result (λ fresh. fresh ≡ fresh_state self.now.table (target self.now.net edge) (release_cause self.now.net edge)) }
+        ensures found { GivesToken (is_weak self.now.net edge) (is_some result) seat.old.found seat.new.found }
     {
         self.words.learn(seat);
         let Target { task, weak } = self.target(edge);
         let found = self.words.give_token(seat, edge);
         if weak {
-            Counted {
-                found: None,
-                made: Some(self.deal_fresh(seat, task, Cause::Weak(edge))),
-            }
+            Some(self.deal_fresh(seat, task, Cause::Weak(edge)))
         } else if found == 0 {
             self.count(seat, task, edge)
         } else {
-            Counted::nothing()
+            None
         }
     }
 
     // Counts an edge at its target, and deals out the release that this makes, if it makes one.
-    fn count(&self, seat: &mut Place, task: u32, edge: u32) -> Counted
+    fn count(&self, seat: &mut TableSeat, task: u32, edge: u32) -> Option<Fresh>
         requires table { seat.old.table_id ≡ self.now.table }
         requires home { seat.old.me.1 ≡ [] }
         requires ready { CountsNext self.now.net task edge seat.old.me.0 }
         requires in_range { task < length self.now.net.tasks }
         ensures table { seat.new.table_id ≡ seat.old.table_id }
         ensures view { seat.new.me ≡ (others_of seat.old.me.0, []) }
-        ensures fresh { IfSome result.made (λ fresh. fresh ≡ fresh_state self.now.table task Strong) }
-        ensures last { IsTrue (is_some result.made) → AreNoneLeft task (others_of seat.old.me.0) }
-        ensures exact { IsTrue (is_some result.made) ↔ (result.found ≡ Some 1) }
+        ensures fresh { IfSome result (λ fresh. fresh ≡ fresh_state self.now.table task Strong) }
+        ensures last { IsTrue (is_some result) → AreNoneLeft task (others_of seat.old.me.0) }
+        ensures found { CountsEdge (is_some result) seat.old.found seat.new.found }
     {
         let found = self.words.count_edge(seat, task, edge);
-        let made = if found == 1 {
+        if found == 1 {
             Some(self.deal_fresh(seat, task, Cause::Strong))
         } else {
             None
-        };
-        Counted {
-            found: Some(found),
-            made,
         }
     }
 
     // Counts the turn of a release that the seat has just made, and deals it out.
-    fn deal_fresh(&self, seat: &mut Place, task: u32, cause: Cause) -> Fresh
+    fn deal_fresh(&self, seat: &mut TableSeat, task: u32, cause: Cause) -> Fresh
         requires table { seat.old.table_id ≡ self.now.table }
         requires home { seat.old.me.1 ≡ [] }
         requires made { HasMade task cause seat.old.me.0 }
         ensures table { seat.new.table_id ≡ seat.old.table_id }
         ensures view { seat.new.me ≡ (kept_back seat.old.me.0, []) }
         ensures fresh { result ≡ fresh_state self.now.table task cause }
+        ensures found { seat.new.found ≡ seat.old.found }
     {
         self.words.add_turn(seat);
         let seat = self.words.deal(seat);
         Fresh { seat, task, cause }
     }
 
-    // Takes a token from the next edge of a release, and counts the edge again where a token remains.
-    fn collect_one(&self, seat: &mut Place, task: u32, cause: Cause, next: usize) -> Step
+    // Takes the parcel and a token from the next edge of a release, and counts the edge again where a token remains.
+    fn collect_one(
+        &self,
+        seat: &mut TableSeat,
+        task: u32,
+        cause: Cause,
+        next: usize,
+        ins: &mut FoundParts,
+    ) -> Step
         requires table { seat.old.table_id ≡ self.now.table }
-        requires view { seat.old.me ≡ (collecting_view task cause (taken_in seat.old.me.0) (left_in seat.old.me.0), []) }
+        requires view { seat.old.me ≡ (collecting_view task cause (taken_in seat.old.me.0) ins.old.parts (left_in seat.old.me.0), []) }
         requires next { next ≡ length (taken_in seat.old.me.0) }
+        requires parts { length ins.old.parts ≡ length (taken_in seat.old.me.0) }
+        requires room { length ins.old.parts + length (left_in seat.old.me.0) ≤ ins.old.room }
         ensures table { seat.new.table_id ≡ seat.old.table_id }
         ensures home { seat.new.me.1 ≡ [] }
         ensures few { next < 4294967296 }
-        ensures step { CollectsOne self.now.table task cause (taken_in seat.old.me.0) (left_in seat.old.me.0) result seat.new.me.0 }
+        ensures step { CollectsOne self.now.table task cause (taken_in seat.old.me.0) (left_in seat.old.me.0) ins.old seat.old.found result seat.new.me.0 ins.new seat.new.found }
     {
         self.words.learn(seat);
         let Some(edge) = self.edge_at(task, cause, next) else {
             return Step::NoneLeft;
         };
         let is_last = self.edge_at(task, cause, next + 1).is_none();
+        ins.add(self.words.fetch(seat, edge, Part::Nothing));
         let found = self.words.take_token(seat, edge);
-        let counted = self.count_again(seat, task, cause, edge, found);
-        Step::Taken(counted, is_last)
+        let made = self.count_again(seat, task, cause, edge, found);
+        Step::Taken(made, is_last)
     }
 
     // Counts an edge again where it is a strong one and had another token.
     fn count_again(
         &self,
-        seat: &mut Place,
+        seat: &mut TableSeat,
         task: u32,
         cause: Cause,
         edge: u32,
         found: u64,
-    ) -> Counted
+    ) -> Option<Fresh>
         requires table { seat.old.table_id ≡ self.now.table }
         requires home { seat.old.me.1 ≡ [] }
         requires ready { cause ≡ Strong → 1 < found → CountsNext self.now.net task edge seat.old.me.0 }
@@ -310,12 +333,12 @@ impl NetTable {
         requires few { found ≤ 1 → settled seat.old.me.0 ≡ seat.old.me.0 }
         ensures table { seat.new.table_id ≡ seat.old.table_id }
         ensures view { seat.new.me ≡ (settled seat.old.me.0, []) }
-        ensures fresh { IfSome result.made (λ fresh. fresh ≡ fresh_state self.now.table task Strong) }
-        ensures last { IsTrue (is_some result.made) → AreNoneLeft task (settled seat.old.me.0) × (cause ≡ Strong) }
-        ensures exact { IsTrue (is_some result.made) ↔ (result.found ≡ Some 1) }
+        ensures fresh { IfSome result (λ fresh. fresh ≡ fresh_state self.now.table task Strong) }
+        ensures last { IsTrue (is_some result) → AreNoneLeft task (settled seat.old.me.0) × (cause ≡ Strong) }
+        ensures found { (before : List ℕ) → seat.old.found ≡ found ∷ before → TakesToken cause (is_some result) before seat.new.found }
     {
         if cause != Cause::Strong || found <= 1 {
-            return Counted::nothing();
+            return None;
         }
         self.count(seat, task, edge)
     }

@@ -14,14 +14,14 @@ impl NetTable {
         requires to_credit { 1 ≤ times sem running.units.to_credit }
         requires in_range { sem < length self.now.net.sems }
         ensures state { result ≡ with_units running (credit_one sem running.units) result }
-        ensures found { result.found ≡ None }
+        ensures found { result.found ≡ running.found }
     {
         let Running {
             mut seat,
             task,
             cause,
             place,
-            ..
+            ins,
         } = running;
         self.words.add_credit(&mut seat, sem);
         Running {
@@ -29,7 +29,7 @@ impl NetTable {
             task,
             cause,
             place,
-            found: None,
+            ins,
         }
     }
 
@@ -49,7 +49,7 @@ impl NetTable {
             task,
             cause,
             place,
-            ..
+            ins,
         } = running;
         let found = self.words.draw_claim(&mut seat, sem);
         if found > FIRST_CREDIT {
@@ -58,7 +58,7 @@ impl NetTable {
                 task,
                 cause,
                 place,
-                found: Some(found),
+                ins,
             });
         }
         self.words.undo_claim(&mut seat, sem);
@@ -67,7 +67,7 @@ impl NetTable {
             task,
             cause,
             place,
-            found: Some(found),
+            ins,
         })
     }
 }

@@ -1,13 +1,15 @@
 // What becomes of the releases of a table.
+use crate::parts::FoundParts;
 use crate::turns::EndedStart;
 use journal_rules::{Cause, DropWhy, Why};
 
-/// A start of a task that faulted: its place in the journal, and that of its Fault.
+/// A start of a task that faulted: its place in the journal, the parts that it found, and the place of its Fault.
 #[derive(Drop)]
 pub struct Failure {
     pub task: u32,
     pub cause: Cause,
     pub start: u64,
+    pub ins: FoundParts,
     pub place: u64,
     pub why: Why,
 }

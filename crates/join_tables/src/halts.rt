@@ -1,10 +1,10 @@
 // The calls that admit a release, and those that halt a run or drop a release. None takes memory, and none waits.
 ghost use Rattle.std.specs.Prelude.{◌≡◌, Some, None, []};
 ghost use Rattle.join_tables.specs.Turns.{Admits};
-ghost use Rattle.join_tables.specs.Fates.{FaultsAs, DropsAs};
+ghost use Rattle.join_tables.specs.Fates.{FaultedAs, DroppedAs};
 ghost use Rattle.join_tables.specs.Claims.{HasCredited};
 ghost use Rattle.table_steps.specs.Reasons.{MayTell};
-ghost use Rattle.table_steps.specs.Holding.{HoldsAll};
+ghost use Rattle.table_steps.specs.Holding.{HoldsEachUnit};
 
 use crate::fates::{Dropping, Failure, Fate};
 use crate::turns::{Admitted, NetTable, Running, Spent, StartTicket, Turn};
@@ -16,23 +16,21 @@ impl NetTable {
     pub fn admit(&self, turn: Turn) -> Admitted
         requires table { turn.table ≡ self.now.table }
         requires asked_once { turn.refused ≡ None }
-        requires units { HoldsAll self.now.net turn.task turn.held }
+        requires units { HoldsEachUnit self.now.net turn.task turn.held }
         ensures { Admits self.now.limit turn result }
     {
         let Turn {
             mut seat,
             task,
             cause,
-            ..
+            ins,
         } = turn;
-        let halt = self.words.load_halt(&mut seat);
-        if halt != 0 {
+        if self.words.load_halt(&mut seat) != 0 {
             return Admitted::Halted(Turn {
                 seat,
                 task,
                 cause,
-                halt: Some(halt),
-                found: None,
+                ins,
             });
         }
         let drawn = self.words.draw_admission(&mut seat);
@@ -41,16 +39,14 @@ impl NetTable {
                 seat,
                 task,
                 cause,
-                halt,
-                drawn,
+                ins,
             });
         }
         Admitted::Over(Turn {
             seat,
             task,
             cause,
-            halt: Some(halt),
-            found: Some(drawn),
+            ins,
         })
     }
 
@@ -62,14 +58,14 @@ impl NetTable {
         requires credits { HasCredited self.now.net running.task running.units }
         requires why { MayTell why running.units.refused }
         ensures table { result.table ≡ self.now.table }
-        ensures fate { FaultsAs running why result.fate }
+        ensures fate { FaultedAs running why result.fate }
     {
         let Running {
             mut seat,
             task,
             cause,
             place: start,
-            ..
+            ins,
         } = running;
         let place = self.words.draw_fault(&mut seat, why);
         self.words.set_halt(&mut seat);
@@ -77,6 +73,7 @@ impl NetTable {
             task,
             cause,
             start,
+            ins,
             place,
             why,
         });
@@ -90,7 +87,7 @@ impl NetTable {
         requires refused { turn.refused ≡ Some why }
         requires no_unit { turn.held ≡ [] }
         ensures table { result.table ≡ self.now.table }
-        ensures fate { DropsAs turn why result.fate }
+        ensures fate { DroppedAs turn why result.fate }
     {
         let Turn {
             mut seat,

@@ -1,13 +1,14 @@
 // The keeper of a run: it takes in the turns that are done.
-ghost use Rattle.std.specs.Prelude.{◌≡◌, ℕ, ◌++◌, [], None, IsSomeAnd, IfOk, OnOk, OnErr};
+ghost use Rattle.std.specs.Prelude.{◌≡◌, ℕ, ◌++◌, [], IfOk, OnOk, OnErr};
 ghost use Rattle.task_graph.specs.NetRows.{NetRows};
-ghost use Rattle.journal_rules.specs.ShapeLegal.{ShapeLegal};
+ghost use Rattle.journal_rules.specs.ShapeLegal.{ShapeLegal, MeetsDataRule};
 ghost use Rattle.journal_rules.specs.Complete.{Complete};
+ghost use Rattle.join_tables.specs.Findings.{FindsOne};
 ghost use Rattle.join_tables.specs.Keeping.{keeper_state, TellsRun, TellsSomeRun, Merges, entries_of, LeavesOf, IsLast};
 
 use crate::merge::merged;
 use crate::recording::record;
-use crate::turns::{NetTable, Place, Spent};
+use crate::turns::{NetTable, Spent, TableSeat};
 use journal_rules::{Entry, Journal};
 use outside_io::NoMemory;
 use std::alloc::Global;
@@ -24,10 +25,8 @@ pub struct Recorded {
 #[derive(Drop)]
 pub struct Keeper {
     alloc: Global,
-    seat: Place,
+    seat: TableSeat,
     entries: Vec<Recorded>,
-    // how many live turns it found when it last took one off, of which contracts speak
-    found: Option<u64>,
 }
 
 impl Model for Keeper {
@@ -38,7 +37,7 @@ impl Model for Keeper {
 
     ghost Value = { KeeperState };
 
-    ghost view = { λ k. keeper_state k.seat.table_id k.entries.items k.found };
+    ghost view = { λ k. keeper_state k.seat.table_id k.entries.items k.seat.found };
 
     ghost invariant = { λ k. (k.seat.id ≡ 0) × (k.seat.me.1 ≡ []) × (tellings k.seat.me.0 ≡ told_notes k.entries.items) × (weigh busy k.seat.me.0 ≡ 0) };
 }
@@ -54,16 +53,15 @@ pub enum Remaining {
 
 impl Keeper {
     // That of a table whose turns are dealt out.
-    pub(crate) fn new(alloc: Global, seat: Place) -> Keeper
+    pub(crate) fn new(alloc: Global, seat: TableSeat) -> Keeper
         requires keeper { seat.id ≡ 0 }
         requires view { seat.me ≡ ([], []) }
-        ensures { result ≡ keeper_state seat.table_id [] None }
+        ensures { result ≡ keeper_state seat.table_id [] seat.found }
     {
         Keeper {
             alloc,
             seat,
             entries: Vec::new(alloc),
-            found: None,
         }
     }
 
@@ -80,15 +78,13 @@ impl Keeper {
         requires keeper { self.old.table ≡ table.now.table }
         requires spent { spent.table ≡ table.now.table }
         ensures ok { OnOk result (self.new ≡ keeper_state self.old.table (self.old.entries ++ entries_of spent.fate) self.new.found) }
-        ensures left { IfOk result (λ left. IsSomeAnd self.new.found (λ n. LeavesOf n left)) }
+        ensures left { IfOk result (λ left. FindsOne (λ n. LeavesOf n left) self.old.found self.new.found) }
         ensures err { OnErr result (self.new ≡ self.old) }
         ensures all { IsLast result → TellsRun table.now.net table.now.limit self.new.entries }
     {
         let Spent { seat, fate } = spent;
         record(self.alloc, &mut self.entries, fate)?;
-        let found = table.words.settle(&mut self.seat, seat);
-        self.found = Some(found);
-        Ok(Remaining::of(found))
+        Ok(Remaining::of(table.words.settle(&mut self.seat, seat)))
     }
 
     /// The journal of a run that is finished: `All` was answered, or there was no release at first. It has each of the
@@ -96,7 +92,7 @@ impl Keeper {
     pub fn journal(self) -> Result<Journal, NoMemory>
         requires { TellsSomeRun self.entries }
         ensures merges { IfOk result (Merges self.entries) }
-        ensures finished { IfOk result (λ journal. (net : NetRows) (limit : ℕ) → TellsRun net limit self.entries → ShapeLegal net limit journal × Complete net limit journal) }
+        ensures finished { IfOk result (λ journal. (net : NetRows) (limit : ℕ) → TellsRun net limit self.entries → ShapeLegal net limit journal × MeetsDataRule net journal × Complete net limit journal) }
     {
         let Keeper { alloc, entries, .. } = self;
         merged(alloc, entries)

@@ -15,8 +15,9 @@
 //!
 //! - `reset` raises a task's join word by its strong in-edges (set again). It comes before the turn's tokens are
 //!   given, so that in a cycle the tokens of the next round are counted afresh.
-//! - `collect` takes a token off an edge (token taken). Where a strong edge has another token, it is counted again
-//!   at once (edge counted), which may release the task once more.
+//! - `collect` takes the parcel from an edge's slot, in one try (slot taken, slot given back), and then a token off the edge
+//!   (token taken). Where a strong edge has another token, it is counted again at once (edge counted), which may release the
+//!   task once more.
 //! - `admit` reads the halt mark (halt load) and, where it isn't set, draws a number (admission drawn). `start` and
 //!   `end` draw a place (Start drawn, End drawn).
 //! - `take_unit` takes a unit of a semaphore (unit taken). Where it finds none it undoes its step (take undone).
@@ -28,7 +29,8 @@
 //!   neither.
 //! - `fault` draws a place and then sets the mark (Fault drawn, halt mark). A release that `admit` refused, at the
 //!   limit or after a Fault, is used up by `drop_turn`, which draws a place (Drop drawn).
-//! - `give` adds a token to an edge (token given). A token of a weak edge is a release. The first token of a strong
+//! - `give` puts the place of its End into the edge's slot, in one try (slot taken, slot given back), and then adds a token to
+//!   the edge (token given). A token of a weak edge is a release. The first token of a strong
 //!   edge lowers its target's join word (edge counted), and who finds one there has made the last count: that is
 //!   the release. A release is counted among the live turns (turn added), then goes to a seat of its own (split).
 //! - `absorb` gives what a turn knows to the keeper (join), and takes it off the live turns (turn taken off). Who
@@ -40,15 +42,21 @@
 //!   unit, and takes it off the live turns where it isn't the only one (turn taken off). The last one's entries, and
 //!   those of the others, go to the keeper.
 //!
-//! A turn keeps the number that its last step found, of which contracts speak. It is a field that the call sets; no clause
-//! ties it to the word.
+//! # What the steps found
+//!
+//! A turn has the numbers that its steps found, the newest first, and each answer says which numbers its call added. They
+//! are in its seat, where no code here can put them: the step that finds a number adds it. So a call can neither claim a
+//! number without a step nor hide one. A place that a step drew is known by its entry in place of a number. A release that was
+//! dealt out, or handed out of a rest, begins without a number. A rest has those of its seat, which is that of the first turn
+//! that it took in.
 //!
 //! # Where its definitions are
 //!
 //! The words, the accounts that hold between any two steps on them, and the kinds of step are those of `table_steps`,
 //! below this crate. `specs/` says what contracts cite, `specs/inside/` what the seat of each turn knows. Whoever uses a
 //! table may know what a turn's state says and what each call answers; a journal that the keeper hands out is legal as
-//! far as the net decides, and complete. As yet starts carry no inputs.
+//! far as the net decides, its starts find what they may, and it is complete. A part of a start's inputs is the place of an
+//! End; the values themselves don't travel yet.
 #![tactic(auto)]
 
 mod calls;
@@ -58,6 +66,7 @@ mod halts;
 mod keeper;
 mod merge;
 mod opening;
+mod parts;
 mod recording;
 mod releases;
 mod rests;
@@ -67,6 +76,7 @@ mod unit_calls;
 pub use fates::{Dropping, Failure, Fate};
 pub use keeper::{Keeper, Recorded, Remaining};
 pub use opening::Opening;
+pub use parts::FoundParts;
 pub use rests::{Checked, Parked, Rest, RestDrop, UnitLook};
 pub use turns::{
     Admitted, Claim, Collected, Collecting, EndedStart, Fresh, Gave, NetTable, Owing, Running,

@@ -6,12 +6,13 @@ ghost use Rattle.join_tables.specs.States.{fresh_state};
 ghost use Rattle.table_steps.specs.inside.Opening.{first_duties};
 ghost use Rattle.table_steps.specs.inside.Accounts.{KeepsAccounts, first_notes, opening_notes};
 ghost use Rattle.atomic_table.specs.Table.{opening};
+ghost use Rattle.journal_rules.specs.declared.entry.Part.{Part};
 ghost use Rattle.join_tables.specs.inside.FirstReleases.{duties_of, states_of, DealsFirst};
 ghost use Rattle.table_steps.specs.inside.Kinds.{kept_back};
 
 use crate::keeper::Keeper;
 use crate::releases::{FirstRelease, first_parcels, first_releases, opening_words};
-use crate::turns::{Fresh, NetTable, Place};
+use crate::turns::{Fresh, NetTable, TableSeat};
 use atomic_table::Table;
 use journal_rules::{Cause, Part};
 use outside_io::{List, NoMemory};
@@ -54,14 +55,16 @@ impl NetTable {
     fn deal_all(
         &self,
         alloc: Global,
-        seat: &mut Place,
+        seat: &mut TableSeat,
         releases: &Vec<FirstRelease>,
     ) -> Result<Vec<Fresh>, NoMemory>
         requires table { seat.old.table_id ≡ self.now.table }
         requires keeper { seat.old.id ≡ 0 }
         requires view { seat.old.me ≡ (first_notes (duties_of releases.now.items), []) }
+        requires found { seat.old.found ≡ [] }
         ensures table { (seat.new.table_id ≡ seat.old.table_id) × (seat.new.id ≡ 0) }
         ensures view { IfOk result (λ fresh. seat.new.me ≡ ([], [])) }
+        ensures found { seat.new.found ≡ [] }
         ensures fresh { IfOk result (λ fresh. fresh.items ≡ states_of self.now.table releases.now.items) }
     {
         let mut fresh = Vec::with_capacity(alloc, releases.len())?;
@@ -73,13 +76,14 @@ impl NetTable {
     }
 
     // Deals a release with its turn to a new seat.
-    fn deal_first(&self, seat: &mut Place, task: u32, cause: Cause) -> Fresh
+    fn deal_first(&self, seat: &mut TableSeat, task: u32, cause: Cause) -> Fresh
         requires table { seat.old.table_id ≡ self.now.table }
         requires keeper { seat.old.id ≡ 0 }
         requires home { seat.old.me.1 ≡ [] }
         requires first { DealsFirst task cause seat.old.me.0 }
         ensures table { (seat.new.table_id ≡ seat.old.table_id) × (seat.new.id ≡ 0) }
         ensures view { seat.new.me ≡ (kept_back seat.old.me.0, []) }
+        ensures found { seat.new.found ≡ seat.old.found }
         ensures fresh { result ≡ fresh_state self.now.table task cause }
     {
         let seat = self.words.deal(seat);
@@ -96,16 +100,16 @@ fn table_of(
 ) -> Result<
     (
         Table<Part, List<Note>, LimitedNet, AccountsHold, Global>,
-        Place,
+        TableSeat,
     ),
     NoMemory,
 >
-    requires { KeepsAccounts (arc_value limited.now.net) limited.now.limit (opening words.now parcels.items (opening_notes (arc_value limited.now.net) limited.now.limit)) }
+    requires { KeepsAccounts (λ (part : Part). part) (arc_value limited.now.net) limited.now.limit (opening words.now parcels.items (opening_notes (arc_value limited.now.net) limited.now.limit)) }
     ensures table { IfOk result (λ made. (made.0.shared.table_id.words ≡ length words.now) × (made.0.shared.key ≡ limited.now)) }
-    ensures seat { IfOk result (λ made. (made.1.table_id ≡ made.0.shared.table_id) × (made.1.id ≡ 0) × (made.1.me ≡ (opening_notes (arc_value limited.now.net) limited.now.limit, []))) }
+    ensures seat { IfOk result (λ made. (made.1.table_id ≡ made.0.shared.table_id) × (made.1.id ≡ 0) × (made.1.me ≡ (opening_notes (arc_value limited.now.net) limited.now.limit, [])) × (made.1.found ≡ [])) }
 {
     match Table::new(alloc, words, parcels, limited) {
-        Ok(made) => Ok(made),
+        Ok((table, seat)) => Ok((table, TableSeat::first(seat))),
         Err(_) => Err(NoMemory),
     }
 }

@@ -1,12 +1,13 @@
 // The entries of the turns that are done.
-ghost use Rattle.std.specs.Prelude.{◌≡◌, ◌+◌, ◌≤◌, ◌++◌, ◌∷◌, [], OnOk, OnErr, length, map, reverse};
+ghost use Rattle.std.specs.Prelude.{◌≡◌, ◌+◌, ◌≤◌, ◌++◌, ◌∷◌, IfOk, OnOk, OnErr, length, map, reverse};
 ghost use Rattle.std.specs.Vec.{vec_len, vec_capacity};
 ghost use Rattle.join_tables.specs.Keeping.{entries_of, start_of, drop_of};
 
 use crate::fates::{Dropping, Fate};
 use crate::keeper::Recorded;
+use crate::parts::FoundParts;
 use journal_rules::{Cause, Entry};
-use outside_io::{List, NoMemory};
+use outside_io::NoMemory;
 use std::alloc::Global;
 
 /// Adds the entries of a turn that is done.
@@ -17,7 +18,8 @@ pub fn record(alloc: Global, entries: &mut Vec<Recorded>, fate: Fate) -> Result<
     entries.try_reserve(entry_count(&fate))?;
     match fate {
         Fate::Ended(ended) => {
-            entries.push_reserved(start_entry(alloc, ended.start, ended.task, ended.cause));
+            let start = start_entry(alloc, ended.start, ended.task, ended.cause, &ended.ins)?;
+            entries.push_reserved(start);
             let entry = Entry::End {
                 start: ended.start,
                 gives: ended.gives,
@@ -29,7 +31,14 @@ pub fn record(alloc: Global, entries: &mut Vec<Recorded>, fate: Fate) -> Result<
             });
         }
         Fate::Faulted(failure) => {
-            entries.push_reserved(start_entry(alloc, failure.start, failure.task, failure.cause));
+            let start = start_entry(
+                alloc,
+                failure.start,
+                failure.task,
+                failure.cause,
+                &failure.ins,
+            )?;
+            entries.push_reserved(start);
             let entry = Entry::Fault {
                 start: failure.start,
                 why: failure.why,
@@ -80,11 +89,17 @@ fn drop_entry(dropping: Dropping) -> Recorded
     Recorded { place, entry }
 }
 
-// The entry of a Start, which has no inputs.
-fn start_entry(alloc: Global, place: u64, task: u32, cause: Cause) -> Recorded
-    ensures { result ≡ start_of place task cause }
+// The entry of a Start.
+fn start_entry(
+    alloc: Global,
+    place: u64,
+    task: u32,
+    cause: Cause,
+    ins: &FoundParts,
+) -> Result<Recorded, NoMemory>
+    ensures { IfOk result (λ entry. entry ≡ start_of place task cause ins.now.parts) }
 {
-    let ins = List::new(alloc);
+    let ins = ins.list(alloc)?;
     let entry = Entry::Start { task, cause, ins };
-    Recorded { place, entry }
+    Ok(Recorded { place, entry })
 }

@@ -2,11 +2,10 @@
 ghost use Rattle.std.specs.Prelude.{◌≡◌, ◌<◌, ◌≤◌, ◌+◌, ◌==◌, ℕ, IfOk, OnOk, All, length, slice_index, [], ◌∷◌, ◌++◌, if◌then◌else◌};
 ghost use Rattle.task_graph.specs.Net.{in_edges, strong_in};
 ghost use Rattle.journal_rules.specs.Counts.{first_tokens};
-ghost use Rattle.journal_rules.specs.declared.entry.Part.TheVariants.{First, Nothing};
-ghost use Rattle.table_steps.specs.inside.Opening.{bare, first_duties};
-ghost use Rattle.join_tables.specs.inside.FirstReleases.{is_full, duties_of, duty_if, opening_word, AreOpeningWords};
+ghost use Rattle.table_steps.specs.inside.Opening.{bare, first_duties, first_part};
+ghost use Rattle.join_tables.specs.inside.FirstReleases.{is_full, duties_of, duty_if, opening_word, AreOpeningWords, AreFirstParcels};
 ghost use Rattle.table_steps.specs.Giving.{one_if};
-ghost use Rattle.table_steps.specs.inside.Accounts.{edges_from, marks_from};
+ghost use Rattle.table_steps.specs.inside.Accounts.{tokens_from, marks_from};
 
 use journal_rules::{Cause, Part};
 use outside_io::NoMemory;
@@ -102,7 +101,7 @@ fn first_mark(net: &Net) -> usize
 
 // Where the words of tokens begin.
 fn first_edge(net: &Net) -> usize
-    ensures { result ≡ edges_from net.now }
+    ensures { result ≡ tokens_from net.now }
 {
     first_mark(net) + net.edges().len()
 }
@@ -127,7 +126,7 @@ pub fn opening_words(alloc: Global, net: &Net, live: u64) -> Result<Vec<u64>, No
 
 // A word at first.
 fn first_word(net: &Net, live: u64, word: usize) -> u64
-    requires { word < edges_from net.now + length net.now.edges + length net.now.tasks }
+    requires { word < tokens_from net.now + length net.now.edges + length net.now.tasks }
     ensures { result ≡ opening_word net.now live word }
 {
     if word < FIRST_UNIT {
@@ -152,7 +151,7 @@ fn first_word(net: &Net, live: u64, word: usize) -> u64
 
 /// What lies in the slot of each edge at first: the token with which the edge begins, or nothing.
 pub fn first_parcels(alloc: Global, net: &Net) -> Result<Vec<Part>, NoMemory>
-    ensures { IfOk result (λ parcels. length parcels.items ≡ length net.now.edges) }
+    ensures { IfOk result (λ parcels. AreFirstParcels net.now parcels.items) }
 {
     let count = net.edges().len();
     let mut parcels = Vec::with_capacity(alloc, count)?;
@@ -165,7 +164,7 @@ pub fn first_parcels(alloc: Global, net: &Net) -> Result<Vec<Part>, NoMemory>
 // What lies in the slot of an edge at first.
 fn first_parcel(net: &Net, edge: u32) -> Part
     requires { edge < length net.now.edges }
-    ensures { result ≡ (if first_tokens net.now edge == 0 then Nothing else First) }
+    ensures { result ≡ first_part net.now edge }
 {
     if starts_with_token(net, edge) {
         Part::First

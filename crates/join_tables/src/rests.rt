@@ -2,11 +2,12 @@
 ghost use Rattle.std.specs.Prelude.{◌≡◌, ◌≢◌, ◌-◌, ◌<◌, ◌++◌, ◌∷◌, IfOk, IfSome, Some, None, [], length, slice_get};
 ghost use Rattle.std.specs.Option.{option_copied, option_map_or};
 ghost use Rattle.join_tables.specs.RestStates.{rest_with, parked_as};
-ghost use Rattle.join_tables.specs.Rests.{IsOfTable, HandsOut, ChecksRest, LooksForUnit, MayDropOf, DropsOf};
+ghost use Rattle.join_tables.specs.Rests.{IsOfTable, HandsOut, found_with, ChecksRest, LooksForUnit, MayDropOf, DropsOf};
 ghost use Rattle.table_steps.specs.inside.RestKinds.{MayPark, parked};
 
 use crate::fates::{Dropping, Fate};
-use crate::turns::{NetTable, Place, Spent, Turn};
+use crate::parts::FoundParts;
+use crate::turns::{NetTable, Spent, TableSeat, Turn};
 use journal_rules::{Cause, DropWhy};
 use outside_io::NoMemory;
 use std::alloc::Global;
@@ -24,27 +25,27 @@ pub struct Parked {
 #[derive(Drop)]
 pub struct Rest {
     // where it has a turn
-    seat: Option<Place>,
+    seat: Option<TableSeat>,
     turns: Vec<Parked>,
+    // the parts that the turns found
+    parts: Vec<FoundParts>,
     drops: Vec<Dropping>,
     room: usize,
-    // what its last call found in the halt mark and in another word, of which contracts speak
-    halt: Option<u64>,
-    found: Option<u64>,
 }
 
 impl Model for Rest {
-    ghost use Rattle.std.specs.Prelude.{◌≡◌, ◌≢◌, ◌+◌, ◌≤◌, [], IfSome, IfNone};
+    ghost use Rattle.std.specs.Prelude.{◌≡◌, ◌≢◌, ◌+◌, ◌≤◌, [], map, IfSome, IfNone};
     ghost use Rattle.std.specs.Option.{option_map, option_map_or};
     ghost use Rattle.std.specs.Vec.{vec_len, vec_capacity};
     ghost use Rattle.join_tables.specs.RestStates.{RestState, rest_with};
-    ghost use Rattle.join_tables.specs.inside.Resting.{alone_in, full_in, IsRestView};
+    ghost use Rattle.join_tables.specs.inside.Resting.{alone_in, full_in, IsRestView, RestParts};
+    ghost use Rattle.join_tables.specs.Parts.{PartList};
 
     ghost Value = { RestState };
 
-    ghost view = { λ r. rest_with (option_map (λ s. s.table_id) r.seat) r.room r.turns.items r.drops.items (alone_in (option_map_or (λ s. s.me.0) r.seat [])) (full_in (option_map_or (λ s. s.me.0) r.seat [])) r.halt r.found };
+    ghost view = { λ r. rest_with (option_map (λ s. s.table_id) r.seat) r.room r.turns.items r.drops.items (alone_in (option_map_or (λ s. s.me.0) r.seat [])) (full_in (option_map_or (λ s. s.me.0) r.seat [])) (option_map_or (λ s. s.found) r.seat []) };
 
-    ghost invariant = { λ r. IfSome r.seat (λ s. IsRestView r.turns.items r.drops.items s.me.0 × (s.me.1 ≡ []) × (r.turns.items ≢ [])) × (IfNone r.seat ((r.turns.items ≡ []) × (r.drops.items ≡ []))) × (vec_len r.turns + vec_len r.drops ≤ r.room) × (r.room ≤ vec_capacity r.turns) × (r.room ≤ vec_capacity r.drops) };
+    ghost invariant = { λ r. IfSome r.seat (λ s. IsRestView r.turns.items r.drops.items s.me.0 × (s.me.1 ≡ []) × (r.turns.items ≢ []) × RestParts (map (λ (found : PartList). found.parts) r.parts.items) s.me.0) × (IfNone r.seat ((r.turns.items ≡ []) × (r.drops.items ≡ []))) × (vec_len r.turns + vec_len r.drops ≤ r.room) × (r.room ≤ vec_capacity r.turns) × (r.room ≤ vec_capacity r.drops) × (vec_len r.parts ≡ vec_len r.turns) × (r.room ≤ vec_capacity r.parts) };
 }
 
 /// What checking a rest led to.
@@ -60,9 +61,9 @@ pub enum Checked {
 #[derive(Drop)]
 pub enum UnitLook {
     /// All units of the semaphore are taken.
-    NoUnit(Rest),
+    Exhausted(Rest),
     /// It has a unit.
-    HasUnit(Rest),
+    Available(Rest),
 }
 
 /// What dropping a turn of a rest led to.
@@ -77,15 +78,14 @@ pub enum RestDrop {
 impl Rest {
     /// A rest without turns, with room for so many.
     pub fn with_room(alloc: Global, room: usize) -> Result<Rest, NoMemory>
-        ensures { IfOk result (λ rest. rest ≡ rest_with None room [] [] None [] None None) }
+        ensures { IfOk result (λ rest. rest ≡ rest_with None room [] [] None [] []) }
     {
         Ok(Rest {
             seat: None,
             turns: Vec::with_capacity(alloc, room)?,
+            parts: Vec::with_capacity(alloc, room)?,
             drops: Vec::with_capacity(alloc, room)?,
             room,
-            halt: None,
-            found: None,
         })
     }
 
@@ -112,7 +112,7 @@ impl Rest {
 }
 
 // The seat of a rest with these turns.
-fn seat_with(seat: Place, turns: &Vec<Parked>) -> Option<Place>
+fn seat_with(seat: TableSeat, turns: &Vec<Parked>) -> Option<TableSeat>
     ensures none { turns.now.items ≡ [] → result ≡ None }
     ensures some { turns.now.items ≢ [] → result ≡ Some seat }
 {
@@ -126,40 +126,41 @@ impl NetTable {
         requires waits { (turn.refused ≡ None) × (turn.held ≡ []) }
         requires room { length rest.turns < rest.room }
         requires undropped { rest.dropped ≡ [] }
-        ensures { result ≡ rest_with (Some self.now.table) rest.room (rest.turns ++ parked_as turn.task turn.cause ∷ []) [] None [] None None }
+        ensures { result ≡ rest_with (Some self.now.table) rest.room (rest.turns ++ parked_as turn.task turn.cause ∷ []) [] None [] (found_with rest.table rest.found turn.found) }
     {
         let Turn {
             seat: own,
             task,
             cause,
-            ..
+            ins,
         } = turn;
         let Rest {
             seat,
             mut turns,
+            mut parts,
             drops,
             room,
-            ..
         } = rest;
         turns.push_reserved(Parked { task, cause });
+        parts.push_reserved(ins);
         let seat = self.gather(seat, own);
         Rest {
             seat: Some(seat),
             turns,
+            parts,
             drops,
             room,
-            halt: None,
-            found: None,
         }
     }
 
     // Gives what a turn's seat knows to the seat of a rest, which is the turn's own where the rest has none.
-    fn gather(&self, seat: Option<Place>, own: Place) -> Place
+    fn gather(&self, seat: Option<TableSeat>, own: TableSeat) -> TableSeat
         requires table { IfSome seat (λ s. s.table_id ≡ self.now.table) × (own.table_id ≡ self.now.table) }
         requires home { IfSome seat (λ s. s.me.1 ≡ []) × (own.me.1 ≡ []) }
         requires ready { IfSome seat (λ s. MayPark s.me.0 own.me.0) }
         ensures table { result.table_id ≡ self.now.table }
         ensures view { result.me ≡ (parked (option_map_or (λ s. s.me.0) seat []) own.me.0, []) }
+        ensures found { result.found ≡ option_map_or (λ s. s.found) seat own.found }
     {
         let Some(mut seat) = seat else { return own };
         self.words.park(&mut seat, own);
@@ -177,29 +178,30 @@ impl NetTable {
         let Rest {
             seat,
             mut turns,
+            mut parts,
             drops,
             room,
-            ..
         } = rest;
         let Some(mut seat) = seat else { unreachable!() };
         let Some(Parked { task, cause }) = turns.pop() else {
+            unreachable!()
+        };
+        let Some(ins) = parts.pop() else {
             unreachable!()
         };
         let own = self.words.hand_out(&mut seat);
         let rest = Rest {
             seat: seat_with(seat, &turns),
             turns,
+            parts,
             drops,
             room,
-            halt: None,
-            found: None,
         };
         let turn = Turn {
             seat: own,
             task,
             cause,
-            halt: None,
-            found: None,
+            ins,
         };
         (rest, turn)
     }
@@ -216,9 +218,9 @@ impl NetTable {
         let Rest {
             seat,
             turns,
+            parts,
             drops,
             room,
-            ..
         } = rest;
         let Some(mut seat) = seat else { unreachable!() };
         let live = self.words.load_live(&mut seat);
@@ -226,10 +228,9 @@ impl NetTable {
             let rest = Rest {
                 seat: Some(seat),
                 turns,
+                parts,
                 drops,
                 room,
-                halt: None,
-                found: Some(live),
             };
             return Checked::Busy(rest, live);
         }
@@ -237,15 +238,14 @@ impl NetTable {
         let rest = Rest {
             seat: Some(seat),
             turns,
+            parts,
             drops,
             room,
-            halt: Some(halt),
-            found: Some(live),
         };
         Checked::Alone(rest, halt != 0)
     }
 
-    /// Looks for a unit of a semaphore, for a rest that is alone. `NoUnit` comes exactly where this call's own load
+    /// Looks for a unit of a semaphore, for a rest that is alone. `Exhausted` comes exactly where this call's own load
     /// finds that as many are taken as there are. Then none comes back, since no other turn is live.
     pub fn rest_full(&self, rest: Rest, sem: u32) -> UnitLook
         requires table { IsOfTable self.now.table rest.table }
@@ -256,24 +256,23 @@ impl NetTable {
         let Rest {
             seat,
             turns,
+            parts,
             drops,
             room,
-            ..
         } = rest;
         let Some(mut seat) = seat else { unreachable!() };
         let found = self.words.load_units(&mut seat, sem);
         let rest = Rest {
             seat: Some(seat),
             turns,
+            parts,
             drops,
             room,
-            halt: None,
-            found: Some(found),
         };
         if found < u64::from(self.words.net.sems()[sem as usize]) {
-            UnitLook::HasUnit(rest)
+            UnitLook::Available(rest)
         } else {
-            UnitLook::NoUnit(rest)
+            UnitLook::Exhausted(rest)
         }
     }
 
@@ -288,12 +287,15 @@ impl NetTable {
         let Rest {
             seat,
             mut turns,
+            mut parts,
             mut drops,
             room,
-            ..
         } = rest;
         let Some(mut seat) = seat else { unreachable!() };
         let Some(Parked { task, cause }) = turns.pop() else {
+            unreachable!()
+        };
+        let Some(_ins) = parts.pop() else {
             unreachable!()
         };
         let place = self.words.draw_last_drop(&mut seat, why);
@@ -311,10 +313,9 @@ impl NetTable {
         RestDrop::More(Rest {
             seat: Some(seat),
             turns,
+            parts,
             drops,
             room,
-            halt: None,
-            found: None,
         })
     }
 }

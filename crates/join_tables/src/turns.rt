@@ -1,7 +1,9 @@
-// The turns of a table, by what they have still to do. Each knows it by a seat, which has no bytes.
+// The turns of a table, by what they have still to do. Each knows it by a seat, which has no bytes. The seat has the numbers
+// too that its steps found, of which contracts speak.
 ghost use Rattle.std.specs.Prelude.{◌≡◌};
 
 use crate::fates::Fate;
+use crate::parts::FoundParts;
 use journal_rules::{Cause, Part};
 use keyed_lock::Keyed;
 use outside_io::List;
@@ -9,7 +11,7 @@ use std::marker::Model;
 use table_steps::Words;
 
 // What a seat of a table is, in whose slots lie the parts that starts find.
-pub(crate) type Place = table_steps::Place<Part>;
+pub(crate) type TableSeat = table_steps::TableSeat<Part>;
 
 /// The words of a run's net, which many threads step at once.
 #[derive(Drop)]
@@ -37,7 +39,7 @@ impl Keyed for NetTable {
 /// A release of a task, whose join word is not set again.
 #[derive(Drop)]
 pub struct Fresh {
-    pub(crate) seat: Place,
+    pub(crate) seat: TableSeat,
     pub(crate) task: u32,
     pub(crate) cause: Cause,
 }
@@ -51,85 +53,81 @@ impl Model for Fresh {
 
     ghost view = { λ f. fresh_state f.seat.table_id f.task f.cause };
 
-    ghost invariant = { λ f. f.seat.me ≡ (fresh_view f.task f.cause, []) };
+    ghost invariant = { λ f. (f.seat.me ≡ (fresh_view f.task f.cause, [])) × (f.seat.found ≡ []) };
 }
 
 /// A release that collects a token of each of its edges.
 #[derive(Drop)]
 pub struct Collecting {
-    pub(crate) seat: Place,
+    pub(crate) seat: TableSeat,
     pub(crate) task: u32,
     pub(crate) cause: Cause,
     pub(crate) next: usize,
+    pub(crate) ins: FoundParts,
 }
 
 impl Model for Collecting {
-    ghost use Rattle.std.specs.Prelude.{◌≡◌, [], length};
+    ghost use Rattle.std.specs.Prelude.{◌≡◌, ◌+◌, ◌≤◌, [], length};
     ghost use Rattle.join_tables.specs.States.{CollectingState, collecting_state};
     ghost use Rattle.join_tables.specs.inside.Seated.{collecting_view, taken_in, left_in};
 
     ghost Value = { CollectingState };
 
-    ghost view = { λ c. collecting_state c.seat.table_id c.task c.cause (left_in c.seat.me.0) };
+    ghost view = { λ c. collecting_state c.seat.table_id c.task c.cause (left_in c.seat.me.0) c.seat.found };
 
-    ghost invariant = { λ c. (c.seat.me ≡ (collecting_view c.task c.cause (taken_in c.seat.me.0) (left_in c.seat.me.0), [])) × (c.next ≡ length (taken_in c.seat.me.0)) };
+    ghost invariant = { λ c. (c.seat.me ≡ (collecting_view c.task c.cause (taken_in c.seat.me.0) c.ins.parts (left_in c.seat.me.0), [])) × (c.next ≡ length (taken_in c.seat.me.0)) × (length c.ins.parts ≡ length (taken_in c.seat.me.0)) × (length c.ins.parts + length (left_in c.seat.me.0) ≤ c.ins.room) };
 }
 
 /// A release that has collected all its tokens.
 #[derive(Drop)]
 pub struct Turn {
-    pub(crate) seat: Place,
+    pub(crate) seat: TableSeat,
     pub(crate) task: u32,
     pub(crate) cause: Cause,
-    // what its last call found in the halt mark and in another word, of which contracts speak
-    pub(crate) halt: Option<u64>,
-    pub(crate) found: Option<u64>,
+    pub(crate) ins: FoundParts,
 }
 
 impl Model for Turn {
-    ghost use Rattle.std.specs.Prelude.{◌≡◌, []};
+    ghost use Rattle.std.specs.Prelude.{◌≡◌, [], length};
     ghost use Rattle.join_tables.specs.States.{TurnState, turn_with};
     ghost use Rattle.join_tables.specs.inside.Seated.{turn_view, taken_in, refusal_of, held_of};
 
     ghost Value = { TurnState };
 
-    ghost view = { λ t. turn_with t.seat.table_id t.task t.cause (refusal_of t.seat.me.0) (held_of t.seat.me.0) t.halt t.found };
+    ghost view = { λ t. turn_with t.seat.table_id t.task t.cause (refusal_of t.seat.me.0) (held_of t.seat.me.0) t.seat.found };
 
-    ghost invariant = { λ t. t.seat.me ≡ (turn_view t.task t.cause (taken_in t.seat.me.0) (refusal_of t.seat.me.0) (held_of t.seat.me.0), []) };
+    ghost invariant = { λ t. (t.seat.me ≡ (turn_view t.task t.cause (taken_in t.seat.me.0) t.ins.parts (refusal_of t.seat.me.0) (held_of t.seat.me.0), [])) × (length t.ins.parts ≡ length (taken_in t.seat.me.0)) };
 }
 
 /// A release that may start its task.
 #[derive(Drop)]
 pub struct StartTicket {
-    pub(crate) seat: Place,
+    pub(crate) seat: TableSeat,
     pub(crate) task: u32,
     pub(crate) cause: Cause,
-    // what its admission found in the halt mark, and the number that it drew, of which contracts speak
-    pub(crate) halt: u64,
-    pub(crate) drawn: u64,
+    pub(crate) ins: FoundParts,
 }
 
 impl Model for StartTicket {
-    ghost use Rattle.std.specs.Prelude.{◌≡◌, []};
+    ghost use Rattle.std.specs.Prelude.{◌≡◌, [], length};
     ghost use Rattle.join_tables.specs.States.{AdmittedState, admitted_state};
     ghost use Rattle.join_tables.specs.inside.Seated.{ticket_view, taken_in, held_of};
 
     ghost Value = { AdmittedState };
 
-    ghost view = { λ t. admitted_state t.seat.table_id t.task t.cause (held_of t.seat.me.0) t.halt t.drawn };
+    ghost view = { λ t. admitted_state t.seat.table_id t.task t.cause (held_of t.seat.me.0) t.seat.found };
 
-    ghost invariant = { λ t. t.seat.me ≡ (ticket_view t.task t.cause (taken_in t.seat.me.0) (held_of t.seat.me.0), []) };
+    ghost invariant = { λ t. (t.seat.me ≡ (ticket_view t.task t.cause (taken_in t.seat.me.0) t.ins.parts (held_of t.seat.me.0), [])) × (length t.ins.parts ≡ length (taken_in t.seat.me.0)) };
 }
 
 /// A start that runs.
 #[derive(Drop)]
 pub struct Running {
-    pub(crate) seat: Place,
+    pub(crate) seat: TableSeat,
     pub(crate) task: u32,
     pub(crate) cause: Cause,
     pub(crate) place: u64,
-    // what its last call found in a credit word, of which contracts speak
-    pub(crate) found: Option<u64>,
+    pub(crate) ins: FoundParts,
 }
 
 impl Model for Running {
@@ -139,17 +137,19 @@ impl Model for Running {
 
     ghost Value = { RunningState };
 
-    ghost view = { λ r. running_state r.seat.table_id r.task r.cause r.place (units_in (shares_of r.seat.me.0)) r.found };
+    ghost view = { λ r. running_state r.seat.table_id r.task r.cause r.place r.ins.parts (units_in (shares_of r.seat.me.0)) r.seat.found };
 
-    ghost invariant = { λ r. r.seat.me ≡ (running_view r.task r.cause r.place (shares_of r.seat.me.0), []) };
+    ghost invariant = { λ r. r.seat.me ≡ (running_view r.task r.cause r.place r.ins.parts (shares_of r.seat.me.0), []) };
 }
 
-/// A start of a task and its end: their places in the journal, and the edges that the end gives.
+/// A start of a task and its end: their places in the journal, the parts that the start found, and the edges that the end
+/// gives.
 #[derive(Drop)]
 pub struct EndedStart {
     pub task: u32,
     pub cause: Cause,
     pub start: u64,
+    pub ins: FoundParts,
     pub place: u64,
     pub gives: List<u32>,
     pub inner: bool,
@@ -158,11 +158,9 @@ pub struct EndedStart {
 /// A run that ended, and owes tokens.
 #[derive(Drop)]
 pub struct Owing {
-    pub(crate) seat: Place,
+    pub(crate) seat: TableSeat,
     pub(crate) ended: EndedStart,
     pub(crate) next: usize,
-    // what its last call found in a join word, of which contracts speak
-    pub(crate) found: Option<u64>,
 }
 
 impl Model for Owing {
@@ -172,7 +170,7 @@ impl Model for Owing {
 
     ghost Value = { OwingState };
 
-    ghost view = { λ o. owing_state o.seat.table_id o.ended (drop o.next o.ended.gives) (units_of o.seat.me.0) o.found };
+    ghost view = { λ o. owing_state o.seat.table_id o.ended (drop o.next o.ended.gives) (units_of o.seat.me.0) o.seat.found };
 
     ghost invariant = { λ o. o.seat.me ≡ (owing_view o.ended (drop o.next o.ended.gives) (units_of o.seat.me.0), []) };
 }
@@ -180,7 +178,7 @@ impl Model for Owing {
 /// A turn that is done and owes nothing.
 #[derive(Drop)]
 pub struct Spent {
-    pub(crate) seat: Place,
+    pub(crate) seat: TableSeat,
     pub(crate) fate: Fate,
 }
 
@@ -285,6 +283,13 @@ impl Running {
         ensures { result ≡ self.now.place }
     {
         self.place
+    }
+
+    /// The parts that it found at its edges, in their order.
+    pub fn ins(&self) -> &[Part]
+        ensures { result.now ≡ self.now.ins }
+    {
+        self.ins.as_slice()
     }
 }
 

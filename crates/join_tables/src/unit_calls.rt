@@ -20,7 +20,7 @@ impl NetTable {
             mut seat,
             task,
             cause,
-            ..
+            ins,
         } = turn;
         let found = self.words.draw_unit(&mut seat, sem);
         if found < u64::from(self.words.net.sems()[sem as usize]) {
@@ -28,8 +28,7 @@ impl NetTable {
                 seat,
                 task,
                 cause,
-                halt: None,
-                found: Some(found),
+                ins,
             });
         }
         self.words.undo_unit(&mut seat, sem);
@@ -37,8 +36,7 @@ impl NetTable {
             seat,
             task,
             cause,
-            halt: None,
-            found: Some(found),
+            ins,
         })
     }
 
@@ -47,21 +45,20 @@ impl NetTable {
         requires table { turn.table ≡ self.now.table }
         requires held { 1 ≤ times sem turn.held }
         requires in_range { sem < length self.now.net.sems }
-        ensures { result ≡ turn_with turn.table turn.task turn.cause turn.refused (without sem turn.held) None None }
+        ensures { result ≡ turn_with turn.table turn.task turn.cause turn.refused (without sem turn.held) turn.found }
     {
         let Turn {
             mut seat,
             task,
             cause,
-            ..
+            ins,
         } = turn;
         self.words.put_unit_back(&mut seat, sem);
         Turn {
             seat,
             task,
             cause,
-            halt: None,
-            found: None,
+            ins,
         }
     }
 
@@ -70,20 +67,14 @@ impl NetTable {
         requires table { owing.table ≡ self.now.table }
         requires owed { 1 ≤ times sem owing.units }
         requires in_range { sem < length self.now.net.sems }
-        ensures { result ≡ owing_state owing.table owing.ended owing.left (without sem owing.units) None }
+        ensures { result ≡ owing_state owing.table owing.ended owing.left (without sem owing.units) owing.found }
     {
         let Owing {
             mut seat,
             ended,
             next,
-            ..
         } = owing;
         self.words.give_unit_back(&mut seat, sem);
-        Owing {
-            seat,
-            ended,
-            next,
-            found: None,
-        }
+        Owing { seat, ended, next }
     }
 }

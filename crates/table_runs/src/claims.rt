@@ -1,6 +1,6 @@
 // Claims of one unit by two tasks, in both orders with its credit.
 ghost use Rattle.std.specs.Prelude.{◌≡◌, ◌<◌, IfOk, None, [], ◌∷◌, length};
-ghost use Rattle.table_steps.specs.Holding.{HoldsAll, TakesAlone, PutsAlone, PutsEach};
+ghost use Rattle.table_steps.specs.Holding.{HoldsEachUnit, TakesAlone, PutsAlone, PutsEach};
 ghost use Rattle.join_tables.specs.Claims.{HasCredited, HasClaimed};
 
 use crate::lent::over;
@@ -17,14 +17,20 @@ use std::test::Fail;
 use task_graph::Net;
 
 // A release of a task that takes a unit has it, and is admitted.
-fn borrows(rt: &impl Abort, table: &NetTable, net: &Net, fresh: Fresh) -> Result<StartTicket, Fail>
+pub(crate) fn borrows(
+    rt: &impl Abort,
+    alloc: Global,
+    table: &NetTable,
+    net: &Net,
+    fresh: Fresh,
+) -> Result<StartTicket, Fail>
     requires fresh { fresh.table ≡ table.now.table }
     requires net { table.now.net ≡ net.now }
     requires sems { 0 < length table.now.net.sems }
     ensures ticket { IfOk result (λ t. (t.table ≡ table.now.table) × (t.held ≡ 0 ∷ [])) }
-    ensures needs { IfOk result (λ t. HoldsAll table.now.net t.task (0 ∷ []) × TakesAlone table.now.net t.task (0 ∷ []) × PutsAlone table.now.net t.task [] × PutsEach table.now.net t.task []) }
+    ensures needs { IfOk result (λ t. HoldsEachUnit table.now.net t.task (0 ∷ []) × TakesAlone table.now.net t.task (0 ∷ []) × PutsAlone table.now.net t.task [] × PutsEach table.now.net t.task []) }
 {
-    let turn = take_up(rt, table, fresh)?;
+    let turn = take_up(rt, alloc, table, fresh)?;
     let task = turn.task();
     if task as usize >= net.tasks().len() || !takes_first(net, task) {
         panic!(rt; "a task past the end, or one that takes no unit");
@@ -39,13 +45,19 @@ fn borrows(rt: &impl Abort, table: &NetTable, net: &Net, fresh: Fresh) -> Result
 }
 
 // A release of a task that puts a unit is admitted.
-fn puts(rt: &impl Abort, table: &NetTable, net: &Net, fresh: Fresh) -> Result<StartTicket, Fail>
+fn puts(
+    rt: &impl Abort,
+    alloc: Global,
+    table: &NetTable,
+    net: &Net,
+    fresh: Fresh,
+) -> Result<StartTicket, Fail>
     requires fresh { fresh.table ≡ table.now.table }
     requires net { table.now.net ≡ net.now }
     ensures ticket { IfOk result (λ t. (t.table ≡ table.now.table) × (t.held ≡ [])) }
-    ensures needs { IfOk result (λ t. HoldsAll table.now.net t.task [] × TakesAlone table.now.net t.task [] × PutsAlone table.now.net t.task (0 ∷ []) × PutsEach table.now.net t.task (0 ∷ [])) }
+    ensures needs { IfOk result (λ t. HoldsEachUnit table.now.net t.task [] × TakesAlone table.now.net t.task [] × PutsAlone table.now.net t.task (0 ∷ []) × PutsEach table.now.net t.task (0 ∷ [])) }
 {
-    let turn = take_up(rt, table, fresh)?;
+    let turn = take_up(rt, alloc, table, fresh)?;
     let task = turn.task();
     if task as usize >= net.tasks().len() || !puts_first(net, task) {
         panic!(rt; "a task past the end, or one that puts no unit");
@@ -57,7 +69,7 @@ fn puts(rt: &impl Abort, table: &NetTable, net: &Net, fresh: Fresh) -> Result<St
 }
 
 // A start that has credited and claimed all ends, without an edge.
-fn ends(
+pub(crate) fn ends(
     rt: &impl Abort,
     alloc: Global,
     table: &NetTable,
@@ -80,7 +92,7 @@ fn ends(
 }
 
 // An end that owes no unit owes no edge: whether its turn was the last.
-fn finishes(
+pub(crate) fn finishes(
     rt: &impl Abort,
     table: &NetTable,
     keeper: &mut Keeper,
@@ -111,7 +123,7 @@ fn granted(
     requires sems { 0 < length table.now.net.sems }
     ensures keeper { keeper.new.table ≡ keeper.old.table }
 {
-    match claim(table, puts(rt, table, net, fresh)?) {
+    match claim(table, puts(rt, alloc, table, net, fresh)?) {
         Ok(running) => {
             let owing = ends(rt, alloc, table, net, running)?;
             finishes(rt, table, keeper, table.return_unit(owing, 0))
@@ -123,6 +135,7 @@ fn granted(
 // The claim of a task is refused: it faults. Whether its turn was the last.
 fn refused(
     rt: &impl Abort,
+    alloc: Global,
     table: &NetTable,
     net: &Net,
     keeper: &mut Keeper,
@@ -134,7 +147,7 @@ fn refused(
     requires sems { 0 < length table.now.net.sems }
     ensures keeper { keeper.new.table ≡ keeper.old.table }
 {
-    match claim(table, puts(rt, table, net, fresh)?) {
+    match claim(table, puts(rt, alloc, table, net, fresh)?) {
         Ok(_) => panic!(rt; "a claim is granted"),
         Err(running) => absorbed(keeper, table, table.fault(running, Why::OverRelease(0))),
     }
@@ -156,9 +169,9 @@ fn a_credit_is_claimed_once(rt: HostRuntime) -> Result<(), Fail> {
     let (Some(c), Some(b), Some(a)) = (fresh.pop(), fresh.pop(), fresh.pop()) else {
         panic!(rt; "no three releases");
     };
-    let running = lend(&table, borrows(&rt, &table, &net, a)?);
+    let running = lend(&table, borrows(&rt, alloc, &table, &net, a)?);
     assert!(rt; !granted(&rt, alloc, &table, &net, &mut keeper, b)?);
-    assert!(rt; !refused(&rt, &table, &net, &mut keeper, c)?);
+    assert!(rt; !refused(&rt, alloc, &table, &net, &mut keeper, c)?);
     let owing = ends(&rt, alloc, &table, &net, running)?;
     assert!(rt; finishes(&rt, &table, &mut keeper, owing)?);
     assert_eq!(rt; keeper.entries().len(), 6);
@@ -182,9 +195,9 @@ fn a_claim_before_the_credit_is_refused(rt: HostRuntime) -> Result<(), Fail> {
     let (Some(c), Some(b), Some(a)) = (fresh.pop(), fresh.pop(), fresh.pop()) else {
         panic!(rt; "no three releases");
     };
-    let a = borrows(&rt, &table, &net, a)?;
-    let b = puts(&rt, &table, &net, b)?;
-    assert!(rt; !refused(&rt, &table, &net, &mut keeper, c)?);
+    let a = borrows(&rt, alloc, &table, &net, a)?;
+    let b = puts(&rt, alloc, &table, &net, b)?;
+    assert!(rt; !refused(&rt, alloc, &table, &net, &mut keeper, c)?);
     let a = ends(&rt, alloc, &table, &net, lend(&table, a))?;
     assert!(rt; !finishes(&rt, &table, &mut keeper, a)?);
     let Ok(b) = claim(&table, b) else {

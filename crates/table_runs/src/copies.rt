@@ -26,13 +26,13 @@ fn copy_at(alloc: Global, entries: &[Recorded], place: u64) -> Result<Option<Ent
     Ok(None)
 }
 
-// A copy of an entry, whose inputs aren't told.
+// A copy of an entry.
 fn copy(alloc: Global, entry: &Entry) -> Result<Entry, NoMemory> {
     Ok(match entry {
-        Entry::Start { task, cause, .. } => Entry::Start {
+        Entry::Start { task, cause, ins } => Entry::Start {
             task: *task,
             cause: *cause,
-            ins: List::new(alloc),
+            ins: List::from_slice(alloc, ins.as_slice())?,
         },
         Entry::End {
             start,

@@ -31,11 +31,13 @@ fn crosswise(alloc: Global) -> Result<Net, BuildError> {
 }
 
 // A release of a source task, taken up.
-fn take_up(rt: &impl Abort, table: &NetTable, fresh: Fresh) -> Result<Turn, Fail>
+fn take_up(rt: &impl Abort, alloc: Global, table: &NetTable, fresh: Fresh) -> Result<Turn, Fail>
     requires { fresh.table ≡ table.now.table }
     ensures { IfOk result (λ turn. (turn.table ≡ table.now.table) × (turn.refused ≡ None) × (turn.held ≡ [])) }
 {
-    match table.collect(table.reset(fresh)) {
+    let mut fresh = fresh;
+    let ins = table.room_for(alloc, &mut fresh)?;
+    match table.collect(table.reset(fresh, ins)) {
         Collected::Last(turn) => Ok(turn),
         _ => panic!(rt; "a release with an edge"),
     }
@@ -143,8 +145,8 @@ fn cross(
     requires net { table.now.net ≡ net.now }
     requires sems { 1 < length table.now.net.sems }
 {
-    let a = takes_first(rt, table, take_up(rt, table, a)?)?;
-    let b = waits_first(rt, table, take_up(rt, table, b)?)?;
+    let a = takes_first(rt, table, take_up(rt, alloc, table, a)?)?;
+    let b = waits_first(rt, table, take_up(rt, alloc, table, b)?)?;
     let a = run(rt, alloc, table, net, takes_second(rt, table, a)?)?;
     let b = waits_first(rt, table, b)?;
     let a = table.return_unit(a, 0);

@@ -2,7 +2,7 @@
 ghost use Rattle.std.specs.Prelude.{◌≡◌, ◌<◌, IfOk, IfSome, IsSomeAnd, length, slice_get, false};
 ghost use Rattle.task_graph.specs.declared.net.TaskRow.{TaskRow};
 ghost use Rattle.task_graph.specs.declared.net.Shape.TheVariants.{Choice};
-ghost use Rattle.table_steps.specs.Giving.{MayGive};
+ghost use Rattle.table_steps.specs.Giving.{MayEndGiving};
 
 use outside_io::{List, NoMemory};
 use std::alloc::Global;
@@ -11,7 +11,7 @@ use task_graph::{Net, Shape};
 /// All edges out of a task that doesn't choose, and `None` of one that does.
 pub fn all_edges(alloc: Global, net: &Net, task: u32) -> Result<Option<List<u32>>, NoMemory>
     requires { task < length net.now.tasks }
-    ensures { IfOk result (λ edges. IfSome edges (λ gives. MayGive net.now task gives false)) }
+    ensures { IfOk result (λ edges. IfSome edges (λ gives. MayEndGiving net.now task gives false)) }
 {
     if net.tasks()[task as usize].shape != Shape::Plain {
         return Ok(None);
@@ -28,7 +28,7 @@ pub fn gives_of(
     gives: bool,
 ) -> Result<Option<List<u32>>, NoMemory>
     requires { task < length net.now.tasks }
-    ensures { IfOk result (λ edges. IfSome edges (λ gives. MayGive net.now task gives false)) }
+    ensures { IfOk result (λ edges. IfSome edges (λ gives. MayEndGiving net.now task gives false)) }
 {
     if net.tasks()[task as usize].shape == Shape::Choice {
         return first_edge(alloc, net, task, gives);
@@ -48,7 +48,7 @@ fn first_edge(
     gives: bool,
 ) -> Result<Option<List<u32>>, NoMemory>
     requires { IsSomeAnd (slice_get net.now.tasks task) (λ (row : TaskRow). row.shape ≡ Choice) }
-    ensures { IfOk result (λ edges. IfSome edges (λ gives. MayGive net.now task gives false)) }
+    ensures { IfOk result (λ edges. IfSome edges (λ gives. MayEndGiving net.now task gives false)) }
 {
     match net.out_edges(task) {
         [first, ..] if gives => Ok(Some(List::from_slice(alloc, &[*first])?)),
@@ -59,7 +59,7 @@ fn first_edge(
 /// No edge out of a task that doesn't choose, and `None` of one that does.
 pub fn no_edge(alloc: Global, net: &Net, task: u32) -> Option<List<u32>>
     requires { task < length net.now.tasks }
-    ensures { IfSome result (λ gives. MayGive net.now task gives false) }
+    ensures { IfSome result (λ gives. MayEndGiving net.now task gives false) }
 {
     if net.tasks()[task as usize].shape != Shape::Plain {
         return None;

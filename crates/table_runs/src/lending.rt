@@ -1,6 +1,6 @@
 // Starts of tasks that take a unit which others give back.
 ghost use Rattle.std.specs.Prelude.{◌≡◌, ◌<◌, [], ◌∷◌, Some, IfOk, IfErr, length};
-ghost use Rattle.table_steps.specs.Holding.{HoldsAll, TakesAlone, PutsAlone, PutsEach};
+ghost use Rattle.table_steps.specs.Holding.{HoldsEachUnit, TakesAlone, PutsAlone, PutsEach};
 ghost use Rattle.join_tables.specs.Claims.{HasCredited, HasClaimed};
 
 use join_tables::{Claim, NetTable, Running, StartTicket};
@@ -10,7 +10,7 @@ pub fn lend(table: &NetTable, ticket: StartTicket) -> Running
     requires table { ticket.table ≡ table.now.table }
     requires held { ticket.held ≡ 0 ∷ [] }
     requires sems { 0 < length table.now.net.sems }
-    requires needs { HoldsAll table.now.net ticket.task (0 ∷ []) × TakesAlone table.now.net ticket.task (0 ∷ []) × PutsAlone table.now.net ticket.task [] × PutsEach table.now.net ticket.task [] }
+    requires needs { HoldsEachUnit table.now.net ticket.task (0 ∷ []) × TakesAlone table.now.net ticket.task (0 ∷ []) × PutsAlone table.now.net ticket.task [] × PutsEach table.now.net ticket.task [] }
     ensures start { (result.table ≡ table.now.table) × (result.task ≡ ticket.task) }
     ensures units { HasCredited table.now.net result.task result.units × HasClaimed table.now.net result.task result.units × (result.units.back ≡ []) }
 {
@@ -23,7 +23,7 @@ pub fn claim(table: &NetTable, ticket: StartTicket) -> Result<Running, Running>
     requires table { ticket.table ≡ table.now.table }
     requires held { ticket.held ≡ [] }
     requires sems { 0 < length table.now.net.sems }
-    requires needs { HoldsAll table.now.net ticket.task [] × TakesAlone table.now.net ticket.task [] × PutsAlone table.now.net ticket.task (0 ∷ []) × PutsEach table.now.net ticket.task (0 ∷ []) }
+    requires needs { HoldsEachUnit table.now.net ticket.task [] × TakesAlone table.now.net ticket.task [] × PutsAlone table.now.net ticket.task (0 ∷ []) × PutsEach table.now.net ticket.task (0 ∷ []) }
     ensures granted { IfOk result (λ r. (r.table ≡ table.now.table) × (r.task ≡ ticket.task) × HasCredited table.now.net r.task r.units × HasClaimed table.now.net r.task r.units × (r.units.back ≡ 0 ∷ [])) }
     ensures refused { IfErr result (λ r. (r.table ≡ table.now.table) × (r.task ≡ ticket.task) × HasCredited table.now.net r.task r.units × (r.units.refused ≡ Some 0)) }
 {

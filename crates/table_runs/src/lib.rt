@@ -16,6 +16,8 @@ mod needs;
 mod parking;
 mod replay;
 #[cfg(test)]
+mod resting;
+#[cfg(test)]
 mod rings;
 #[cfg(test)]
 mod rings_limit;

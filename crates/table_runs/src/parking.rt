@@ -3,8 +3,8 @@
 ghost use Rattle.std.specs.Prelude.{◌≡◌, ◌<◌, ◌≤◌, [], ◌∷◌, None, Some, IfSome, false, length};
 ghost use Rattle.std.specs.Arc.{arc_value};
 ghost use Rattle.keyed_lock.specs.Locks.{made_with};
-ghost use Rattle.table_steps.specs.Giving.{MayGive};
-ghost use Rattle.table_steps.specs.Holding.{HoldsAll, PutsAlone, PutsEach, TakesAlone};
+ghost use Rattle.table_steps.specs.Giving.{MayEndGiving};
+ghost use Rattle.table_steps.specs.Holding.{HoldsEachUnit, PutsAlone, PutsEach, TakesAlone};
 
 use crate::gives::all_edges;
 use crate::lending::{claim, lend};
@@ -57,7 +57,7 @@ fn run<R: Threads + Wait + Sync>(
         fresh,
         keeper,
     } = NetTable::new(alloc, Arc::try_clone(net)?, MANY)?;
-    let shelf = Shelf::new(alloc, keeper, fresh, MANY, false);
+    let shelf = Shelf::new(alloc, keeper, fresh, MANY);
     let rest = Some(Rest::with_room(alloc, net.tasks().len())?);
     let parking = Parking {
         table,
@@ -105,14 +105,23 @@ impl Parking {
                 return;
             }
             match (fresh, waiting) {
-                (Some(fresh), _) => {
-                    let turn = self.collect_all(rt, self.table.reset(fresh));
-                    self.step(rt, alloc, turn);
-                }
+                (Some(fresh), _) => self.take_up(rt, alloc, fresh),
                 (None, Some(turn)) => self.step(rt, alloc, turn),
                 (None, None) => yield_now(),
             }
         }
+    }
+
+    // Takes a release up, collects its tokens, and takes its turn to the end of its run, or parks it.
+    fn take_up<R: Wait>(&self, rt: &R, alloc: Global, fresh: Fresh)
+        requires { fresh.table ≡ self.now.table.table }
+    {
+        let mut fresh = fresh;
+        let Ok(ins) = self.table.room_for(alloc, &mut fresh) else {
+            return self.give_up(rt);
+        };
+        let turn = self.collect_all(rt, self.table.reset(fresh, ins));
+        self.step(rt, alloc, turn);
     }
 
     // Takes a turn to the end of its run, or parks it.
@@ -136,7 +145,7 @@ impl Parking {
 
     // All edges out of a task. It is `None` of a task past the end or of another shape, or if an allocation fails.
     fn edges(&self, alloc: Global, task: u32) -> Option<List<u32>>
-        ensures { IfSome result (λ edges. (task < length self.now.table.net.tasks) × MayGive self.now.table.net task edges false) }
+        ensures { IfSome result (λ edges. (task < length self.now.table.net.tasks) × MayEndGiving self.now.table.net task edges false) }
     {
         if task as usize >= self.net.tasks().len() {
             return None;
@@ -151,8 +160,8 @@ impl Parking {
     fn borrow<R: Wait>(&self, rt: &R, turn: Turn, edges: List<u32>)
         requires turn { (turn.table ≡ self.now.table.table) × (turn.refused ≡ None) × (turn.held ≡ []) }
         requires sems { 0 < length self.now.table.net.sems }
-        requires needs { HoldsAll self.now.table.net turn.task (0 ∷ []) × TakesAlone self.now.table.net turn.task (0 ∷ []) × PutsAlone self.now.table.net turn.task [] × PutsEach self.now.table.net turn.task [] }
-        requires edges { MayGive self.now.table.net turn.task edges false }
+        requires needs { HoldsEachUnit self.now.table.net turn.task (0 ∷ []) × TakesAlone self.now.table.net turn.task (0 ∷ []) × PutsAlone self.now.table.net turn.task [] × PutsEach self.now.table.net turn.task [] }
+        requires edges { MayEndGiving self.now.table.net turn.task edges false }
     {
         let turn = match self.table.take_unit(turn, 0) {
             UnitTake::Got(turn) => turn,
@@ -175,8 +184,8 @@ impl Parking {
     fn run_lent<R: Wait>(&self, rt: &R, ticket: StartTicket, edges: List<u32>)
         requires ticket { (ticket.table ≡ self.now.table.table) × (ticket.held ≡ 0 ∷ []) }
         requires sems { 0 < length self.now.table.net.sems }
-        requires needs { HoldsAll self.now.table.net ticket.task (0 ∷ []) × TakesAlone self.now.table.net ticket.task (0 ∷ []) × PutsAlone self.now.table.net ticket.task [] × PutsEach self.now.table.net ticket.task [] }
-        requires edges { MayGive self.now.table.net ticket.task edges false }
+        requires needs { HoldsEachUnit self.now.table.net ticket.task (0 ∷ []) × TakesAlone self.now.table.net ticket.task (0 ∷ []) × PutsAlone self.now.table.net ticket.task [] × PutsEach self.now.table.net ticket.task [] }
+        requires edges { MayEndGiving self.now.table.net ticket.task edges false }
     {
         let running = lend(&self.table, ticket);
         if self.faults && running.place() == 0 {
@@ -190,8 +199,8 @@ impl Parking {
     fn give_back<R: Wait>(&self, rt: &R, turn: Turn, edges: List<u32>)
         requires turn { (turn.table ≡ self.now.table.table) × (turn.refused ≡ None) × (turn.held ≡ []) }
         requires sems { 0 < length self.now.table.net.sems }
-        requires needs { HoldsAll self.now.table.net turn.task [] × TakesAlone self.now.table.net turn.task [] × PutsAlone self.now.table.net turn.task (0 ∷ []) × PutsEach self.now.table.net turn.task (0 ∷ []) }
-        requires edges { MayGive self.now.table.net turn.task edges false }
+        requires needs { HoldsEachUnit self.now.table.net turn.task [] × TakesAlone self.now.table.net turn.task [] × PutsAlone self.now.table.net turn.task (0 ∷ []) × PutsEach self.now.table.net turn.task (0 ∷ []) }
+        requires edges { MayEndGiving self.now.table.net turn.task edges false }
     {
         let ticket = match self.table.admit(turn) {
             Admitted::Go(ticket) => ticket,

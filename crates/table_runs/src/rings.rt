@@ -28,11 +28,18 @@ pub(crate) fn two_rings(alloc: Global) -> Result<Net, BuildError> {
 }
 
 // A release with one edge is taken up and has its token.
-pub(crate) fn take_up(rt: &impl Abort, table: &NetTable, fresh: Fresh) -> Result<Turn, Fail>
+pub(crate) fn take_up(
+    rt: &impl Abort,
+    alloc: Global,
+    table: &NetTable,
+    fresh: Fresh,
+) -> Result<Turn, Fail>
     requires { fresh.table ≡ table.now.table }
     ensures { IfOk result (λ turn. (turn.table ≡ table.now.table) × (turn.refused ≡ None) × (turn.held ≡ [])) }
 {
-    match table.collect(table.reset(fresh)) {
+    let mut fresh = fresh;
+    let ins = table.room_for(alloc, &mut fresh)?;
+    match table.collect(table.reset(fresh, ins)) {
         Collected::Last(turn) => Ok(turn),
         _ => panic!(rt; "a release with another edge"),
     }
@@ -129,11 +136,18 @@ fn first_round(
 }
 
 // A release with two edges has both tokens.
-pub(crate) fn take_both(rt: &impl Abort, table: &NetTable, fresh: Fresh) -> Result<Turn, Fail>
+pub(crate) fn take_both(
+    rt: &impl Abort,
+    alloc: Global,
+    table: &NetTable,
+    fresh: Fresh,
+) -> Result<Turn, Fail>
     requires { fresh.table ≡ table.now.table }
     ensures { IfOk result (λ turn. (turn.table ≡ table.now.table) × (turn.refused ≡ None) × (turn.held ≡ [])) }
 {
-    let more = match table.collect(table.reset(fresh)) {
+    let mut fresh = fresh;
+    let ins = table.room_for(alloc, &mut fresh)?;
+    let more = match table.collect(table.reset(fresh, ins)) {
         Collected::More(more) => more,
         _ => panic!(rt; "a release with one edge"),
     };
@@ -159,7 +173,7 @@ pub(crate) fn lap(
     ensures keeper { keeper.new.table ≡ keeper.old.table }
     ensures releases { IfOk result (λ r. IfSome r.0 (λ fresh. fresh.table ≡ table.now.table) × (r.1.table ≡ table.now.table)) }
 {
-    let turn = take_up(rt, table, fresh)?;
+    let turn = take_up(rt, alloc, table, fresh)?;
     let owing = run(rt, alloc, table, net, turn, true)?;
     let (t, again, spent) = first_round(rt, table, owing, releases_t)?;
     assert!(rt; !absorbed(keeper, table, spent)?);
@@ -237,8 +251,9 @@ fn second_rounds(
     requires keeper { keeper.old.table ≡ table.now.table }
     requires net { table.now.net ≡ net.now }
 {
-    let (p, q, t) = fresh;
-    let t = table.reset(t);
+    let (p, q, mut t) = fresh;
+    let ins = table.room_for(alloc, &mut t)?;
+    let t = table.reset(t, ins);
     let (none, p) = lap(rt, alloc, table, net, keeper, p, false)?;
     assert!(rt; none.is_none());
     let (none, q) = lap(rt, alloc, table, net, keeper, q, false)?;
@@ -263,11 +278,11 @@ fn last_rounds(
     requires net { table.now.net ≡ net.now }
 {
     let (p, q, t) = fresh;
-    let turn = take_both(rt, table, t)?;
+    let turn = take_both(rt, alloc, table, t)?;
     assert!(rt; !stops(rt, alloc, table, net, keeper, turn)?);
-    let turn = take_up(rt, table, p)?;
+    let turn = take_up(rt, alloc, table, p)?;
     assert!(rt; !stops(rt, alloc, table, net, keeper, turn)?);
-    let turn = take_up(rt, table, q)?;
+    let turn = take_up(rt, alloc, table, q)?;
     assert!(rt; stops(rt, alloc, table, net, keeper, turn)?);
     Ok(())
 }

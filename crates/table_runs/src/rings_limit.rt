@@ -17,6 +17,7 @@ use task_graph::Net;
 // A release is refused at the limit and dropped: whether it was the last.
 fn drops(
     rt: &impl Abort,
+    alloc: Global,
     table: &NetTable,
     net: &Net,
     keeper: &mut Keeper,
@@ -27,7 +28,7 @@ fn drops(
     requires net { table.now.net ≡ net.now }
     ensures keeper { keeper.new.table ≡ keeper.old.table }
 {
-    let turn = take_up(rt, table, fresh)?;
+    let turn = take_up(rt, alloc, table, fresh)?;
     let task = turn.task();
     if task as usize >= net.tasks().len() || !needs_none(net, task) {
         panic!(rt; "a task past the end, or one that needs a unit");
@@ -58,10 +59,10 @@ fn three_starts(
     let Some(t) = t else {
         panic!(rt; "no release");
     };
-    let turn = take_both(rt, table, t)?;
+    let turn = take_both(rt, alloc, table, t)?;
     assert!(rt; !stops(rt, alloc, table, net, keeper, turn)?);
-    assert!(rt; !drops(rt, table, net, keeper, p)?);
-    assert!(rt; drops(rt, table, net, keeper, q)?);
+    assert!(rt; !drops(rt, alloc, table, net, keeper, p)?);
+    assert!(rt; drops(rt, alloc, table, net, keeper, q)?);
     Ok(())
 }
 
@@ -86,6 +87,7 @@ fn rings_stop_at_the_limit(rt: HostRuntime) -> Result<(), Fail> {
 // A release starts and faults: whether it was the last.
 fn faults(
     rt: &impl Abort,
+    alloc: Global,
     table: &NetTable,
     net: &Net,
     keeper: &mut Keeper,
@@ -96,7 +98,7 @@ fn faults(
     requires net { table.now.net ≡ net.now }
     ensures keeper { keeper.new.table ≡ keeper.old.table }
 {
-    let turn = take_up(rt, table, fresh)?;
+    let turn = take_up(rt, alloc, table, fresh)?;
     let task = turn.task();
     if task as usize >= net.tasks().len() || !needs_none(net, task) {
         panic!(rt; "a task past the end, or one that needs a unit");
@@ -113,6 +115,7 @@ fn faults(
 // A release is refused after a Fault and dropped: whether it was the last.
 fn halts(
     rt: &impl Abort,
+    alloc: Global,
     table: &NetTable,
     net: &Net,
     keeper: &mut Keeper,
@@ -123,7 +126,7 @@ fn halts(
     requires net { table.now.net ≡ net.now }
     ensures keeper { keeper.new.table ≡ keeper.old.table }
 {
-    let turn = take_up(rt, table, fresh)?;
+    let turn = take_up(rt, alloc, table, fresh)?;
     let task = turn.task();
     if task as usize >= net.tasks().len() || !needs_none(net, task) {
         panic!(rt; "a task past the end, or one that needs a unit");
@@ -146,8 +149,8 @@ fn rings_halt(rt: HostRuntime) -> Result<(), Fail> {
     let (Some(q), Some(p)) = (fresh.pop(), fresh.pop()) else {
         panic!(rt; "no two releases");
     };
-    assert!(rt; !faults(&rt, &table, &net, &mut keeper, p)?);
-    assert!(rt; halts(&rt, &table, &net, &mut keeper, q)?);
+    assert!(rt; !faults(&rt, alloc, &table, &net, &mut keeper, p)?);
+    assert!(rt; halts(&rt, alloc, &table, &net, &mut keeper, q)?);
     assert_eq!(rt; keeper.entries().len(), 3);
     assert!(rt; is_complete(alloc, net, 10, keeper.entries())?);
     Ok(())

@@ -63,18 +63,10 @@ pub struct Ran {
 
 impl Shelf {
     ghost use Rattle.join_tables.specs.States.{FreshState};
-    ghost use Rattle.join_tables.specs.Keeping.{TellsSomeRun};
 
     /// What threads share at first. So many runs give their edges.
-    pub fn new(
-        alloc: Global,
-        keeper: Keeper,
-        fresh: Vec<Fresh>,
-        gives: u64,
-        is_whole: bool,
-    ) -> Shelf
+    pub fn new(alloc: Global, keeper: Keeper, fresh: Vec<Fresh>, gives: u64) -> Shelf
         requires fresh { All (λ (f : FreshState). f.table ≡ keeper.table) fresh.items }
-        requires whole { is_whole ≡ true → TellsSomeRun keeper.entries }
         ensures { result ≡ keeper.table }
     {
         let outstanding = fresh.len() as u64;
@@ -85,7 +77,7 @@ impl Shelf {
             outstanding,
             gives,
             is_over: outstanding == 0,
-            is_whole,
+            is_whole: false,
         }
     }
 

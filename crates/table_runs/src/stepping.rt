@@ -2,8 +2,8 @@
 ghost use Rattle.std.specs.Prelude.{◌≡◌, ◌<◌, ◌≤◌, [], ◌∷◌, None, Some, IfSome, false, length};
 ghost use Rattle.std.specs.Arc.{arc_value};
 ghost use Rattle.keyed_lock.specs.Locks.{made_with};
-ghost use Rattle.table_steps.specs.Giving.{MayGive};
-ghost use Rattle.table_steps.specs.Holding.{HoldsAll, PutsAll, PutsAlone, PutsEach, TakesAlone};
+ghost use Rattle.table_steps.specs.Giving.{MayEndGiving};
+ghost use Rattle.table_steps.specs.Holding.{HoldsEachUnit, PutsAll, PutsAlone, PutsEach, TakesAlone};
 
 use crate::gives::gives_of;
 use crate::lending::{claim, lend};
@@ -49,7 +49,7 @@ pub fn run_by<R: Threads + Wait + Sync>(
         fresh,
         keeper,
     } = opening;
-    let shelf = Shelf::new(alloc, keeper, fresh, gives, false);
+    let shelf = Shelf::new(alloc, keeper, fresh, gives);
     let shared = Shared {
         table,
         net: Arc::try_clone(net)?,
@@ -94,14 +94,23 @@ impl Shared {
                 return;
             }
             match (fresh, waiting) {
-                (Some(fresh), _) => {
-                    let turn = self.collect_all(rt, self.table.reset(fresh));
-                    self.step(rt, alloc, turn, gives);
-                }
+                (Some(fresh), _) => self.take_up(rt, alloc, fresh, gives),
                 (None, Some(turn)) => self.step(rt, alloc, turn, gives),
                 (None, None) => yield_now(),
             }
         }
+    }
+
+    // Takes a release up, collects its tokens, and takes its turn to the end of its run.
+    fn take_up<R: Wait>(&self, rt: &R, alloc: Global, fresh: Fresh, gives: bool)
+        requires { fresh.table ≡ self.now.table.table }
+    {
+        let mut fresh = fresh;
+        let Ok(ins) = self.table.room_for(alloc, &mut fresh) else {
+            return self.give_up(rt);
+        };
+        let turn = self.collect_all(rt, self.table.reset(fresh, ins));
+        self.step(rt, alloc, turn, gives);
     }
 
     // Takes a turn to the end of its run, and adds the releases that it makes.
@@ -129,7 +138,7 @@ impl Shared {
 
     // What a task gives here. It is `None` of a task past the end or of another shape, or if an allocation fails.
     fn edges(&self, alloc: Global, task: u32, gives: bool) -> Option<List<u32>>
-        ensures { IfSome result (λ edges. (task < length self.now.table.net.tasks) × MayGive self.now.table.net task edges false) }
+        ensures { IfSome result (λ edges. (task < length self.now.table.net.tasks) × MayEndGiving self.now.table.net task edges false) }
     {
         if task as usize >= self.net.tasks().len() {
             return None;
@@ -143,8 +152,8 @@ impl Shared {
     // Runs a task that needs no unit.
     fn run_alone<R: Wait>(&self, rt: &R, turn: Turn, edges: List<u32>)
         requires turn { (turn.table ≡ self.now.table.table) × (turn.refused ≡ None) × (turn.held ≡ []) }
-        requires needs { HoldsAll self.now.table.net turn.task [] × PutsAll self.now.table.net turn.task }
-        requires edges { MayGive self.now.table.net turn.task edges false }
+        requires needs { HoldsEachUnit self.now.table.net turn.task [] × PutsAll self.now.table.net turn.task }
+        requires edges { MayEndGiving self.now.table.net turn.task edges false }
     {
         match self.table.admit(turn) {
             Admitted::Go(ticket) => {
@@ -160,8 +169,8 @@ impl Shared {
     fn borrow<R: Wait>(&self, rt: &R, turn: Turn, edges: List<u32>)
         requires turn { (turn.table ≡ self.now.table.table) × (turn.refused ≡ None) × (turn.held ≡ []) }
         requires sems { 0 < length self.now.table.net.sems }
-        requires needs { HoldsAll self.now.table.net turn.task (0 ∷ []) × TakesAlone self.now.table.net turn.task (0 ∷ []) × PutsAlone self.now.table.net turn.task [] × PutsEach self.now.table.net turn.task [] }
-        requires edges { MayGive self.now.table.net turn.task edges false }
+        requires needs { HoldsEachUnit self.now.table.net turn.task (0 ∷ []) × TakesAlone self.now.table.net turn.task (0 ∷ []) × PutsAlone self.now.table.net turn.task [] × PutsEach self.now.table.net turn.task [] }
+        requires edges { MayEndGiving self.now.table.net turn.task edges false }
     {
         let turn = match self.table.take_unit(turn, 0) {
             UnitTake::Got(turn) => turn,
@@ -187,8 +196,8 @@ impl Shared {
     fn give_back<R: Wait>(&self, rt: &R, turn: Turn, edges: List<u32>)
         requires turn { (turn.table ≡ self.now.table.table) × (turn.refused ≡ None) × (turn.held ≡ []) }
         requires sems { 0 < length self.now.table.net.sems }
-        requires needs { HoldsAll self.now.table.net turn.task [] × TakesAlone self.now.table.net turn.task [] × PutsAlone self.now.table.net turn.task (0 ∷ []) × PutsEach self.now.table.net turn.task (0 ∷ []) }
-        requires edges { MayGive self.now.table.net turn.task edges false }
+        requires needs { HoldsEachUnit self.now.table.net turn.task [] × TakesAlone self.now.table.net turn.task [] × PutsAlone self.now.table.net turn.task (0 ∷ []) × PutsEach self.now.table.net turn.task (0 ∷ []) }
+        requires edges { MayEndGiving self.now.table.net turn.task edges false }
     {
         let ticket = match self.table.admit(turn) {
             Admitted::Go(ticket) => ticket,
@@ -209,8 +218,8 @@ impl Shared {
     fn hold_both<R: Wait>(&self, rt: &R, turn: Turn, edges: List<u32>)
         requires turn { (turn.table ≡ self.now.table.table) × (turn.refused ≡ None) × (turn.held ≡ []) }
         requires sems { 1 < length self.now.table.net.sems }
-        requires needs { HoldsAll self.now.table.net turn.task (1 ∷ 0 ∷ []) × PutsAll self.now.table.net turn.task }
-        requires edges { MayGive self.now.table.net turn.task edges false }
+        requires needs { HoldsEachUnit self.now.table.net turn.task (1 ∷ 0 ∷ []) × PutsAll self.now.table.net turn.task }
+        requires edges { MayEndGiving self.now.table.net turn.task edges false }
     {
         let turn = match self.table.take_unit(turn, 0) {
             UnitTake::Got(turn) => turn,

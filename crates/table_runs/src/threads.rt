@@ -2,9 +2,10 @@
 ghost use Rattle.std.specs.Prelude.{◌≤◌};
 
 use crate::run_by;
-use journal_rules::{Entry, Journal};
+use journal_rules::{Entry, Journal, Part};
 use legal_run::{Verdict, judge};
 use outside_io::List;
+use slow_verdicts::meets_data_rule;
 use std::alloc::Global;
 use std::process::Abort;
 use std::sync::{Arc, Wait};
@@ -15,6 +16,9 @@ use task_graph::{BuildError, Net, NetBuilder, Shape};
 // How often each run is made by two threads, and by four.
 const TIMES: u32 = 130;
 
+// Of how many of these the inputs of all starts are judged by the rule, which takes long.
+const JUDGED: u32 = 3;
+
 // A limit that no run here comes to.
 const MANY: u64 = 10_000;
 
@@ -24,6 +28,8 @@ struct Case<'c> {
     tasks: &'c [Shape],
     edges: &'c [(u32, u32)],
     rings: &'c [(u32, u32)],
+    // whether no edge ever has two tokens
+    is_calm: bool,
 }
 
 fn built(alloc: Global, case: Case<'_>) -> Result<Net, BuildError> {
@@ -45,6 +51,7 @@ const RING: Case<'static> = Case {
     tasks: &[Shape::Plain; 8],
     edges: &[(0, 1), (2, 3), (4, 5), (6, 7)],
     rings: &[(1, 2), (3, 4), (5, 6), (7, 0)],
+    is_calm: false,
 };
 
 // Six tasks, each of which turns by itself and precedes one.
@@ -52,6 +59,7 @@ const HUB: Case<'static> = Case {
     tasks: &[Shape::Plain; 7],
     edges: &[(0, 6), (1, 6), (2, 6), (3, 6), (4, 6), (5, 6)],
     rings: &[(0, 0), (1, 1), (2, 2), (3, 3), (4, 4), (5, 5)],
+    is_calm: false,
 };
 
 // A diamond whose last task chooses whether its first is to start again.
@@ -65,10 +73,12 @@ const LOOP: Case<'static> = Case {
     ],
     edges: &[(0, 1), (1, 2), (1, 3), (2, 4), (3, 4), (4, 1)],
     rings: &[],
+    is_calm: true,
 };
 
 // Makes a run by two and by four threads, in which so many runs give their edges, and judges each journal. It is complete;
-// where the run comes to the limit, it has as many starts as the limit, and the releases that were refused are dropped.
+// where the run comes to the limit, it has as many starts as the limit, and the releases that were refused are dropped. Where
+// no edge ever has two tokens, each start finds a part at each of its edges.
 fn often<R: Threads + Wait + Abort + Sync>(
     rt: &R,
     alloc: Global,
@@ -79,9 +89,14 @@ fn often<R: Threads + Wait + Abort + Sync>(
     requires { limit ≤ 2097153 }
 {
     let net = Arc::new(alloc, built(alloc, case)?)?;
-    for _ in 0..TIMES {
-        once(rt, alloc, &net, limit, gives, 2)?;
-        once(rt, alloc, &net, limit, gives, 4)?;
+    for turn in 0..TIMES {
+        let by_two = once(rt, alloc, &net, limit, gives, 2)?;
+        let by_four = once(rt, alloc, &net, limit, gives, 4)?;
+        assert!(rt; !case.is_calm || finds_all(&by_two) && finds_all(&by_four));
+        if turn < JUDGED {
+            assert!(rt; meets_data_rule(&net, by_two.as_slice()));
+            assert!(rt; meets_data_rule(&net, by_four.as_slice()));
+        }
     }
     Ok(())
 }
@@ -93,7 +108,7 @@ fn once<R: Threads + Wait + Abort + Sync>(
     limit: u64,
     gives: u64,
     threads: usize,
-) -> Result<(), Fail>
+) -> Result<Journal, Fail>
     requires { limit ≤ 2097153 }
 {
     let Some(ran) = run_by(rt, alloc, net, limit, gives, threads)? else {
@@ -109,7 +124,21 @@ fn once<R: Threads + Wait + Abort + Sync>(
             limit.wrapping_mul(2).wrapping_add(drops)
         );
     }
-    Ok(())
+    Ok(ran.journal)
+}
+
+// Whether each start found a part at each of its edges.
+fn finds_all(journal: &Journal) -> bool {
+    for entry in journal.as_slice() {
+        if let Entry::Start { ins, .. } = entry {
+            for part in ins.as_slice() {
+                if *part == Part::Nothing {
+                    return false;
+                }
+            }
+        }
+    }
+    true
 }
 
 // How many releases were dropped.

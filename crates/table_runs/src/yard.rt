@@ -155,12 +155,12 @@ fn go_on(table: &NetTable, net: &Net, shelf: &mut Shelf, rest: Rest) -> Option<R
         return None;
     }
     match table.rest_full(rest, 0) {
-        UnitLook::HasUnit(rest) => {
+        UnitLook::Available(rest) => {
             let (rest, turn) = table.rest_pop(rest);
             shelf.wait(turn);
             Some(rest)
         }
-        UnitLook::NoUnit(rest) => {
+        UnitLook::Exhausted(rest) => {
             stick(table, net, shelf, rest);
             None
         }
@@ -188,8 +188,8 @@ fn stick(table: &NetTable, net: &Net, shelf: &mut Shelf, rest: Rest)
     }
 }
 
-// Whether the last turn of a rest is of a task that takes semaphore 0.
-fn waits_for_first(net: &Net, rest: &Rest) -> bool
+/// Whether the last turn of a rest is of a task that takes semaphore 0.
+pub(crate) fn waits_for_first(net: &Net, rest: &Rest) -> bool
     ensures { IsTrue result → LastTakes net.now 0 rest.now.turns }
 {
     let Some(parked) = rest.last() else {

@@ -17,6 +17,13 @@ use Rattle.table_steps.specs.declared.view.SemaphoreRole.TheVariants.{Held, Undo
 use Rattle.table_steps.specs.declared.view.SeatMark.TheVariants.{Live, New, Over, ToMark, Quiet}
 use Rattle.table_steps.specs.inside.Accounts.{Coord, duty, sem, mark, busy, resting, turning, owing, weigh, FitsRelease, AllStand, Readings, Balanced, HaltPart, FitsPlan, ViewPart, first_notes}
 use Rattle.table_steps.specs.Credits.{first_credit}
+use Rattle.journal_rules.specs.declared.entry.Part.{Part}
+use Rattle.journal_rules.specs.declared.entry.Part.TheVariants.{From, First}
+use Rattle.table_steps.specs.declared.view.Lot.TheVariants.{Ours, Putting, Put, Awaited, Taking, Fetched, Found}
+use Rattle.table_steps.specs.inside.Opening.{part_of_tokens, first_part}
+use Rattle.table_steps.specs.inside.Parcels.{same_part}
+use Rattle.table_steps.specs.inside.Slots.{SlotCoord, parcel, lot, owed, collected, left_at, SlotPart}
+use Rattle.table_steps.proofs.Parcels.{first_once}
 
 -- first releases, each of the net
 abbrev pub AreFirst : NetRows → List TurnDuty → Type 0
@@ -34,7 +41,7 @@ both_first net (Open n t ∷ xs) ys a b = absurd a
 both_first net (Owes g ∷ xs) ys a b = absurd a
 both_first net (Counting e ∷ xs) ys a b = absurd a
 
-are_first : (net : NetRows) (t n : ℕ) → t + n ≤ length net.tasks → AreFirst net (first_duties net t n)
+pub are_first : (net : NetRows) (t n : ℕ) → t + n ≤ length net.tasks → AreFirst net (first_duties net t n)
 are_first net t zero below = tt
 are_first net t (suc n) below =
     both_first net (source_duties t (is_empty (in_edges net t)) ++ full_duties t (strong_in net t) (bare net (strong_in net t))) (first_duties net (suc t) n)
@@ -151,3 +158,30 @@ opening_view net T = let xs = first_duties net 0 (length net.tasks) in let m = m
     empty_busy : (xs : List TurnDuty) → length xs ≡ 0 → weigh busy (first_notes xs) ≡ 0
     empty_busy [] h = refl
     empty_busy (x ∷ xs) h = absurd (omega arith)
+
+-- In each slot lies the token with which its edge begins, or nothing.
+pub opening_slots : (net : NetRows) (edge : ℕ → ℕ) (T : SlotCoord → ℕ) (label : ℕ → Part) → ((c : SlotCoord) → T c ≡ 0) → ((e : ℕ) → edge e ≡ first_tokens net e) → ((e : ℕ) → label e ≡ first_part net e) → SlotPart net [] edge T label
+opening_slots net edge T label none edges labels = record {
+  parts = record {
+    meets = tt;
+    froms = λ e n. omega (arith, none (parcel e (From n)), ap (λ p. one_if (same_part p (From n))) (labels e), not_from (first_tokens net e) n);
+    firsts = λ e. omega (arith, none (parcel e First), ap (λ p. one_if (same_part p First)) (labels e), is_first_one e);
+    stale = λ e calm p other. none (parcel e p);
+    due = λ e calm. omega (arith, none (lot Taking e), none (lot Fetched e), none (lot Put e), edges e, ap (λ p. one_if (same_part p First)) (labels e), is_first_one e);
+  };
+  owing = λ e. omega (arith, none (lot Ours e), none (lot Putting e), none (lot Put e), none (owed e));
+  reached = λ e. omega (arith, none (lot Awaited e), none (lot Taking e), none (lot Fetched e), none (left_at e));
+  found = λ e. omega (arith, none (lot Found e), none (collected e));
+}
+  where
+    not_from : (k n : ℕ) → one_if (same_part (part_of_tokens k) (From n)) ≡ 0
+    not_from zero n = refl
+    not_from (suc k) n = refl
+
+    by_tokens : (k : ℕ) → k ≤ 1 → one_if (same_part (part_of_tokens k) First) ≡ k
+    by_tokens zero few = refl
+    by_tokens (suc zero) few = refl
+    by_tokens (suc (suc k)) few = absurd (omega arith)
+
+    is_first_one : (e : ℕ) → one_if (same_part (first_part net e) First) ≡ first_tokens net e
+    is_first_one e = by_tokens (first_tokens net e) (first_once net e)

@@ -11,6 +11,7 @@ use Rattle.journal_rules.specs.Counts.{given, used, used_weak}
 use Rattle.journal_rules.specs.Calm.{used_at}
 use Rattle.journal_rules.specs.Complete.{Complete, least}
 use Rattle.journal_rules.proofs.Reaching.{each_below}
+use Rattle.journal_rules.specs.declared.entry.Part.{Part}
 use Rattle.table_steps.specs.declared.view.TurnDuty.{TurnDuty}
 use Rattle.table_steps.specs.declared.view.TurnDuty.TheVariants.{Told, Fresh, Collecting, Ticket, Open, Owes, Counting}
 use Rattle.table_steps.specs.inside.Duties.{DutyCoord, place, runs, running, tickets, token, source, weakly, awaits, unset, duty_weight, is_run}
@@ -85,7 +86,7 @@ note_none c apart (Unfit s n t) z = refl
 note_none c apart (Lies k e p) z = refl
 
 -- All: the step that takes off the last live turn leaves a complete journal
-pub all_complete : {S : Type 0} (net : NetRows) (limit : ℕ) (s : St S) (h : KeepsAccounts net limit s) → total (mark Live) s.views ≡ 0 → Complete net limit h.journal
+pub all_complete : {S : Type 0} {part : S → Part} (net : NetRows) (limit : ℕ) (s : St S) (h : KeepsAccounts part net limit s) → total (mark Live) s.views ≡ 0 → Complete net limit h.journal
 all_complete net limit s h none = complete_at_rest net limit _ h.counted h.journal (λ c. total c s.views) h.balanced
     (record {
       no_run = λ m t. clear (runs m t) (λ k z. cc);
@@ -118,7 +119,7 @@ tells_none : (m : ℕ) (v : List Note) → weigh telling v ≡ 0 → weigh (duty
 tells_none m [] z = refl
 tells_none m (x ∷ xs) z = omega (arith, tells_bound m x (omega arith), tells_none m xs (omega arith))
 
-pub all_told : {S : Type 0} (net : NetRows) (limit : ℕ) (s : St S) (h : KeepsAccounts net limit s) (v : List Note) → get_elem? s.views 0 ≡ some v → total (mark Live) s.views ≡ 0 → (m : ℕ) → m < length h.journal → weigh (duty (place m)) v ≡ 1
+pub all_told : {S : Type 0} {part : S → Part} (net : NetRows) (limit : ℕ) (s : St S) (h : KeepsAccounts part net limit s) (v : List Note) → get_elem? s.views 0 ≡ some v → total (mark Live) s.views ≡ 0 → (m : ℕ) → m < length h.journal → weigh (duty (place m)) v ≡ 1
 all_told net limit s h v at none m below =
     let is : nat_lt m (slice_index s.words 8) ≡ true = let c = h.balanced.by_journal.clock in grind (arith, nat_tests, c, below) in
     omega (arith, h.balanced.by_journal.places m, ap one_if is, total_set (duty (place m)) s.views 0 v [] at, each_none (duty (place m)) (set s.views 0 []) (λ id w at_w. others id w at_w (cases_eq id 0)))

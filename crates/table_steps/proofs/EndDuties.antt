@@ -12,7 +12,7 @@ use Rattle.journal_rules.proofs.Snoc.{count_by_push}
 use Rattle.journal_rules.proofs.Tallying.{count_once, given_push}
 use Rattle.table_steps.specs.declared.view.TurnDuty.TheVariants.{Told, Open, Owes}
 use Rattle.table_steps.specs.inside.Duties.{DutyCoord, token, source, weakly, awaits, unset, is_run, EdgePart, DutyPart, DutyMoves}
-use Rattle.table_steps.specs.Giving.{MayGive}
+use Rattle.table_steps.specs.Giving.{MayEndGiving}
 use Rattle.table_steps.proofs.Counting.{times_count, used_at_end, run_past}
 
 -- the Start that the seat has runs
@@ -37,7 +37,7 @@ runs_of journal m t h = let parts = and_parts (is_open journal m) (option_map_or
     by_place (inr after) = absurd (false≢true (sym (run_past journal m t after) ∙ h))
 
 pub end_edges : (net : NetRows) (n : ℕ) (edge : ℕ → ℕ) (journal : List Entry) (T T' : DutyCoord → ℕ) (m t : ℕ) (gives : List ℕ) (inner : Bool)
-    → EdgePart net edge journal T → MayGive net t gives inner → DutyMoves T (Open m t ∷ []) T' (Owes gives ∷ Told n (End m gives inner) ∷ [])
+    → EdgePart net edge journal T → MayEndGiving net t gives inner → DutyMoves T (Open m t ∷ []) T' (Owes gives ∷ Told n (End m gives inner) ∷ [])
     → EdgePart net edge (journal ++ End m gives inner ∷ []) T'
 end_edges net n edge journal T T' m t gives inner b may moved e =
     omega (arith, b e, moved (token e), given_push net e journal (End m gives inner), used_at_end net e m gives inner journal, times_count e gives, count_once (λ g. g == e) gives (omega (arith, may.once e, times_count e gives)))

@@ -15,7 +15,7 @@ use Rattle.journal_rules.proofs.Snoc.{count_by_push, EachAfter-push, start_at_pu
 use Rattle.journal_rules.proofs.Tallying.{count_by_push_no, count_by_push_yes}
 use Rattle.table_steps.specs.declared.view.TurnDuty.TheVariants.{Told, Open, Owes}
 use Rattle.table_steps.specs.inside.Duties.{DutyCoord, place, runs, running, tickets, is_run, DutyMoves}
-use Rattle.table_steps.specs.Giving.{one_if, MayGive}
+use Rattle.table_steps.specs.Giving.{one_if, MayEndGiving}
 use Rattle.table_steps.proofs.Counting.{is_one}
 use Rattle.table_steps.proofs.StartDuties.{below_more}
 use Rattle.table_steps.proofs.EndDuties.{Runs, runs_of, end_edges, end_duties}
@@ -79,7 +79,7 @@ credits_end net word n journal T T' m t gives inner unclosed r k moved s below =
     }
 
 pub end_kept : (net : NetRows) (limit : ℕ) (w : Readings) (counted : ℕ → ℕ) (journal : List Entry) (T T' : Coord → ℕ) (m t : ℕ) (gives : List ℕ) (inner : Bool)
-    → Balanced net limit w counted journal T → MayGive net t gives inner → count_by is_stuck journal ≡ 0
+    → Balanced net limit w counted journal T → MayEndGiving net t gives inner → count_by is_stuck journal ≡ 0
     → EndMoves net w.clock (End m gives inner) m t gives T T' → Balanced net limit (with_clock w (suc w.clock)) counted (journal ++ End m gives inner ∷ []) T'
 end_kept net limit w counted journal T T' m t gives inner b may none_stuck moved =
     let x = End m gives inner in let j = b.by_journal in

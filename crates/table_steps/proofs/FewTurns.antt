@@ -9,6 +9,7 @@ use Rattle.journal_rules.specs.declared.entry.Cause.TheVariants.{Source, Strong,
 use Rattle.journal_rules.specs.declared.entry.Entry.{Entry}
 use Rattle.journal_rules.specs.declared.entry.Entry.TheVariants.{Start, End, Fault, Drop}
 use Rattle.journal_rules.specs.Counts.{is_start, starts}
+use Rattle.journal_rules.specs.declared.entry.Part.{Part}
 use Rattle.table_steps.specs.declared.view.TurnDuty.TheVariants.{Told, Fresh, Collecting, Ticket, Open, Owes, Counting}
 use Rattle.table_steps.specs.inside.Duties.{running, token, source, weakly, awaits, unset, nil}
 use Rattle.table_steps.specs.Giving.{times, one_if}
@@ -138,7 +139,7 @@ nil_most zero = omega arith
 nil_most (suc n) = omega arith
 
 -- so the live turns are few
-pub few_live : {S : Type 0} (net : NetRows) (limit : ℕ) (s : St S) (h : KeepsAccounts net limit s) → EachFits net s.views → total (mark Live) s.views + total (mark New) s.views ≤ 1000000000000000000
+pub few_live : {S : Type 0} {part : S → Part} (net : NetRows) (limit : ℕ) (s : St S) (h : KeepsAccounts part net limit s) → EachFits net s.views → total (mark Live) s.views + total (mark New) s.views ≤ 1000000000000000000
 few_live net limit s h fits =
     omega (
       arith,
@@ -199,5 +200,5 @@ each_fits net [] each = tt
 each_fits net (v ∷ vs) each = (each 0 v refl, each_fits net vs (λ id w at. each (suc id) w at))
 
 -- a turn may always be added, and a Drop always be drawn
-pub room_for_turn : {S : Type 0} (net : NetRows) (limit : ℕ) (s : St S) (h : KeepsAccounts net limit s) → total (mark Live) s.views + 1 ≤ 1152921504606846976
+pub room_for_turn : {S : Type 0} {part : S → Part} (net : NetRows) (limit : ℕ) (s : St S) (h : KeepsAccounts part net limit s) → total (mark Live) s.views + 1 ≤ 1152921504606846976
 room_for_turn net limit s h = omega (arith, few_live net limit s h (each_fits net s.views (λ k v at. fits_of net h.journal v (h.views k v at).stand)))

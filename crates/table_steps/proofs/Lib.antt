@@ -24,6 +24,7 @@ pub mod Seats
 pub mod Closing
 pub mod Tokens
 pub mod Bounds
+pub mod Fetching
 pub mod FewTurns
 pub mod Beginning
 pub mod Leaving
@@ -52,9 +53,10 @@ pub mod LotEntries
 pub mod RestAlone
 pub mod RestAccounts
 pub mod RestSeats
-pub mod LotsStill
+pub mod SlotViews
 pub mod Homing
 pub mod Relotting
 pub mod SlotSeats
 pub mod SlotBounds
 pub mod SlotAccounts
+pub mod TableSeats

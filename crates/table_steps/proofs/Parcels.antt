@@ -68,7 +68,7 @@ part_apart Nothing (From b) other = refl
 part_apart Nothing First other = refl
 part_apart Nothing Nothing other = absurd (other refl)
 
-first_once : (net : NetRows) (e : ℕ) → first_tokens net e ≤ 1
+pub first_once : (net : NetRows) (e : ℕ) → first_tokens net e ≤ 1
 first_once net e = by_row (slice_get net.edges e)
   where
     at_most : (b : Bool) → one_if b ≤ 1

@@ -10,6 +10,7 @@ use Rattle.journal_rules.specs.declared.entry.Entry.{Entry}
 use Rattle.journal_rules.specs.Counts.{NoneOpen}
 use Rattle.journal_rules.specs.SemaphoreRule.{back, taken}
 use Rattle.journal_rules.proofs.Reaching.{each_below}
+use Rattle.journal_rules.specs.declared.entry.Part.{Part}
 use Rattle.table_steps.specs.declared.view.TurnDuty.{TurnDuty}
 use Rattle.table_steps.specs.declared.view.TurnDuty.TheVariants.{Told, Fresh, Collecting, Ticket, Open, Owes, Counting}
 use Rattle.table_steps.specs.inside.Duties.{runs, is_run}
@@ -99,7 +100,7 @@ held_bound a (Unfit n m t) z = refl
 held_bound a (Lies k e p) z = refl
 
 -- what a unit word says while a rest is alone
-pub units_alone : {S : Type 0} (net : NetRows) (limit : ℕ) (s : St S) (h : KeepsAccounts net limit s) (id a : ℕ) (v : List Note) → a < length net.sems → get_elem? s.views id ≡ some v → weigh resting v ≢ 0 → HasNoUnit a v
+pub units_alone : {S : Type 0} {part : S → Part} (net : NetRows) (limit : ℕ) (s : St S) (h : KeepsAccounts part net limit s) (id a : ℕ) (v : List Note) → a < length net.sems → get_elem? s.views id ≡ some v → weigh resting v ≢ 0 → HasNoUnit a v
     → slice_index s.words (40 + a) + back net a h.journal ≡ taken net a h.journal
 units_alone net limit s h id a v below at rested none =
     let all = (h.views id v at).alone rested in

@@ -7,6 +7,7 @@ use Rattle.atomic_table.specs.Table.{keeps, stepped}
 use Rattle.task_graph.specs.NetRows.{NetRows}
 use Rattle.journal_rules.specs.Counts.{faults}
 use Rattle.journal_rules.specs.SemaphoreRule.{taken, back, max_of}
+use Rattle.journal_rules.specs.declared.entry.Part.{Part}
 use Rattle.table_steps.specs.declared.view.SemaphoreRole.TheVariants.{Full}
 use Rattle.table_steps.specs.declared.view.SeatMark.TheVariants.{Live, Quiet}
 use Rattle.table_steps.specs.declared.view.Note.{Note}
@@ -21,17 +22,18 @@ use Rattle.table_steps.proofs.Totals.{total_set, total_push}
 use Rattle.table_steps.proofs.Views.{two_views, stand_left, stand_both, get_set, quiet_rests, full_rests_too}
 use Rattle.table_steps.proofs.Marking.{alike_kept, RestMarks, marks_none}
 use Rattle.table_steps.proofs.MarkSteps.{reads_same}
-use Rattle.table_steps.specs.declared.view.Lot.{Lot}
-use Rattle.table_steps.specs.inside.Slots.{lot, slot_weigh, slot_total}
+use Rattle.table_steps.specs.inside.Slots.{SlotCoord, lot, slot_weigh, slot_total}
 use Rattle.table_steps.specs.inside.Accounts.{marks_from}
 use Rattle.table_steps.proofs.Lots.{slot_append}
-use Rattle.table_steps.proofs.Homing.{slot_total_set, slot_total_push, lies_same, rest_lies, homes_alike}
+use Rattle.table_steps.proofs.LotSteps.{slots_alike}
+use Rattle.table_steps.proofs.SlotViews.{slots_same}
+use Rattle.table_steps.proofs.Homing.{slot_total_set, slot_total_push, rest_slots, homes_alike}
 
 -- a load of which nothing is learned
-pub nothing_done : {S : Type 0} (net : NetRows) (limit : ℕ) (s : St S) (h : KeepsAccounts net limit s) (id i : ℕ) (carried : List (ℕ × S)) (rest : List Note) → weigh resting rest ≡ 0 → 1 ≤ weigh (mark Live) rest → i < length s.words → ((e : ℕ) → e < length net.edges → i ≢ marks_from net + e) → get_elem? s.views id ≡ some rest → KeepsAccounts net limit (stepped s i (slice_index s.words i) id carried rest keeps)
+pub nothing_done : {S : Type 0} {part : S → Part} (net : NetRows) (limit : ℕ) (s : St S) (h : KeepsAccounts part net limit s) (id i : ℕ) (carried : List (ℕ × S)) (rest : List Note) → weigh resting rest ≡ 0 → 1 ≤ weigh (mark Live) rest → i < length s.words → ((e : ℕ) → e < length net.edges → i ≢ marks_from net + e) → get_elem? s.views id ≡ some rest → KeepsAccounts part net limit (stepped s i (slice_index s.words i) id carried rest keeps)
 nothing_done net limit s h id i carried rest lone lives below apart at =
     still_step net limit s h id i _ carried [] [] rest (reading net s.words) at refl apart (own_lone net h.journal (λ c. total c s.views) [] [] rest tt lives lives lone) (omega arith) (ap (reading net) (reads_same net s.words i below))
-    (λ moved. alike_kept net limit (reading net s.words) h.counted h.journal (λ c. total c s.views) _ h.balanced (λ c a. omega (arith, moved c)))
+    refl (λ moved. alike_kept net limit (reading net s.words) h.counted h.journal (λ c. total c s.views) _ h.balanced (λ c a. omega (arith, moved c)))
 
 pushed : {X : Type 0} (xs : List X) (x : X) (i : ℕ) (y : X) → get_elem? (xs ++ x ∷ []) i ≡ some y → (get_elem? xs i ≡ some y) ⊎ (x ≡ y)
 pushed [] x zero y h = inr (some-injective x y h)
@@ -40,7 +42,7 @@ pushed (z ∷ zs) x zero y h = inl h
 pushed (z ∷ zs) x (suc i) y h = pushed zs x i y h
 
 -- a seat's notes are dealt to two seats
-pub split_allowed : {S : Type 0} (net : NetRows) (limit id : ℕ) (v marks left right : List Note) → v ≡ marks ++ (right ++ left) → RestMarks marks → weigh resting left ≡ 0 → weigh resting right ≡ 0 → (weigh (mark Live) left ≡ 0 → weigh busy left ≡ 0) → (weigh (mark Live) right ≡ 0 → weigh busy right ≡ 0) → (id ≢ 0 → weigh (mark Live) left ≡ 0 → weigh telling left ≡ 0) → (weigh (mark Live) right ≡ 0 → weigh telling right ≡ 0) → Splits (KeepsAccounts {S = S} net limit) id v left right
+pub split_allowed : {S : Type 0} {part : S → Part} (net : NetRows) (limit id : ℕ) (v marks left right : List Note) → v ≡ marks ++ (right ++ left) → RestMarks marks → weigh resting left ≡ 0 → weigh resting right ≡ 0 → (weigh (mark Live) left ≡ 0 → weigh busy left ≡ 0) → (weigh (mark Live) right ≡ 0 → weigh busy right ≡ 0) → (id ≢ 0 → weigh (mark Live) left ≡ 0 → weigh telling left ≡ 0) → (weigh (mark Live) right ≡ 0 → weigh telling right ≡ 0) → Splits (KeepsAccounts part net limit) id v left right
 split_allowed net limit id v marks left right is forgets none_left none_right covered_left covered_right told_left told_right s h at = record {
   fits = h.fits;
   size = h.size;
@@ -50,14 +52,15 @@ split_allowed net limit id v marks left right is forgets none_left none_right co
   few = omega (arith, h.few, same (mark Live), marks_none (mark Live) tt marks forgets);
   few_drops = h.few_drops;
   views = each;
-  homes = homes_alike net s.words s.homes s.views (set s.views id left ++ right ∷ []) h.homes same_lots;
+  homes = homes_alike net s.words s.homes s.views (set s.views id left ++ right ∷ []) h.homes (λ j e. same_slots (lot j e));
+  slots = slots_alike net h.journal _ _ _ _ h.slots same_slots;
 }
   where
     same : (c : Coord) → total c (set s.views id left ++ right ∷ []) + weigh c marks ≡ total c s.views
     same c = omega (arith, total_push c (set s.views id left) right, total_set c s.views id v left at, ap (weigh c) is, weigh_append c marks (right ++ left), weigh_append c right left)
 
-    same_lots : (j : Lot) (e : ℕ) → slot_total (lot j e) (set s.views id left ++ right ∷ []) ≡ slot_total (lot j e) s.views
-    same_lots j e = omega (arith, slot_total_push (lot j e) (set s.views id left) right, slot_total_set (lot j e) s.views id v left at, ap (slot_weigh (lot j e)) is, slot_append (lot j e) marks (right ++ left), slot_append (lot j e) right left, lies_same j e [] marks (rest_lies marks forgets))
+    same_slots : (c : SlotCoord) → slot_total c (set s.views id left ++ right ∷ []) ≡ slot_total c s.views
+    same_slots c = omega (arith, slot_total_push c (set s.views id left) right, slot_total_set c s.views id v left at, ap (slot_weigh c) is, slot_append c marks (right ++ left), slot_append c right left, slots_same [] marks (rest_slots marks forgets) c)
 
     parts : AllStand net h.journal right × AllStand net h.journal left
     parts = stand_left net h.journal right left (stand_left net h.journal marks (right ++ left) (subst (λ u. AllStand net h.journal u) is (h.views id v at).stand)).1
@@ -89,7 +92,7 @@ split_allowed net limit id v marks left right is forgets none_left none_right co
         by_end (inr is_w) = subst (λ u. ViewPart net h.journal (λ c. total c (set s.views id left ++ right ∷ [])) other u) is_w (lone_part other right parts.0 covered_right (λ far. told_right) none_right)
 
 -- a seat takes in another's notes
-pub join_allowed : {S : Type 0} (net : NetRows) (limit id : ℕ) (v : List Note) (other : ℕ) (w : List Note) → (id ≢ 0 → 1 ≤ weigh (mark Live) v) → Joins (KeepsAccounts {S = S} net limit) id v other w (w ++ v) []
+pub join_allowed : {S : Type 0} {part : S → Part} (net : NetRows) (limit id : ℕ) (v : List Note) (other : ℕ) (w : List Note) → (id ≢ 0 → 1 ≤ weigh (mark Live) v) → Joins (KeepsAccounts part net limit) id v other w (w ++ v) []
 join_allowed net limit id v other w lives s h at apart at_other = record {
   fits = h.fits;
   size = h.size;
@@ -99,14 +102,15 @@ join_allowed net limit id v other w lives s h at apart at_other = record {
   few = omega (arith, h.few, same (mark Live));
   few_drops = h.few_drops;
   views = λ k u at_u. by_two k u at_u (cases_eq k other) (cases_eq k id);
-  homes = homes_alike net s.words s.homes s.views (set (set s.views id (w ++ v)) other []) h.homes same_lots;
+  homes = homes_alike net s.words s.homes s.views (set (set s.views id (w ++ v)) other []) h.homes (λ j e. same_slots (lot j e));
+  slots = slots_alike net h.journal _ _ _ _ h.slots same_slots;
 }
   where
     same : (c : Coord) → total c (set (set s.views id (w ++ v)) other []) ≡ total c s.views
     same c = omega (arith, total_set c (set s.views id (w ++ v)) other w [] at_other, total_set c s.views id v (w ++ v) at, weigh_append c w v)
 
-    same_lots : (j : Lot) (e : ℕ) → slot_total (lot j e) (set (set s.views id (w ++ v)) other []) ≡ slot_total (lot j e) s.views
-    same_lots j e = omega (arith, slot_total_set (lot j e) (set s.views id (w ++ v)) other w [] at_other, slot_total_set (lot j e) s.views id v (w ++ v) at, slot_append (lot j e) w v)
+    same_slots : (c : SlotCoord) → slot_total c (set (set s.views id (w ++ v)) other []) ≡ slot_total c s.views
+    same_slots c = omega (arith, slot_total_set c (set s.views id (w ++ v)) other w [] at_other, slot_total_set c s.views id v (w ++ v) at, slot_append c w v)
 
     at_w : get_elem? s.views other ≡ some w
     at_w = sym (set_else s.views id other (w ++ v) apart) ∙ at_other

@@ -8,7 +8,7 @@ use Rattle.task_graph.specs.Net.{IsNet}
 use Rattle.journal_rules.specs.SemaphoreRule.{takes, puts}
 use Rattle.journal_rules.proofs.TaskSemaphores.{puts_in_range}
 use Rattle.table_steps.specs.Giving.{one_if, times}
-use Rattle.table_steps.specs.Holding.{HoldsAll, PutsBack, TakesAlone, PutsAlone, PutsAll}
+use Rattle.table_steps.specs.Holding.{HoldsEachUnit, PutsBack, TakesAlone, PutsAlone, PutsAll}
 use Rattle.table_steps.specs.inside.Accounts.{only_puts}
 use Rattle.table_steps.specs.inside.Kinds.{add_if, among, below, own_units, credits_due, claims_due}
 
@@ -71,7 +71,7 @@ below_hit test z (suc k) lower hit = by_eq (cases_eq k z) (λ less. below_hit te
         omega (arith, times_added (test k) k z (below test k), one_hit test k z hit, ap one_if miss, deeper (omega (arith, lower, other)))
 
 -- those of the units held that the task puts
-pub puts_back : (net : NetRows) (t : ℕ) (l : List ℕ) → HoldsAll net t l → PutsBack net t (own_units net t l)
+pub puts_back : (net : NetRows) (t : ℕ) (l : List ℕ) → HoldsEachUnit net t l → PutsBack net t (own_units net t l)
 puts_back net t l holds s = by_put (puts net s t) refl
   where
     all : (b : Bool) → one_if b ≡ one_if (b && true)
@@ -87,7 +87,7 @@ puts_back net t l holds s = by_put (puts net s t) refl
     by_put false is = among_miss (λ z. puts net z t) s l is ∙ sym (none (takes net s t)) ∙ ap (λ b. one_if (takes net s t && b)) (sym is)
 
 -- and the others
-pub takes_alone : (net : NetRows) (t : ℕ) (l : List ℕ) → HoldsAll net t l → TakesAlone net t (credits_due net t l)
+pub takes_alone : (net : NetRows) (t : ℕ) (l : List ℕ) → HoldsEachUnit net t l → TakesAlone net t (credits_due net t l)
 takes_alone net t l holds s = by_put (puts net s t) refl
   where
     all : (b : Bool) → one_if b ≡ one_if (b && true)
@@ -112,7 +112,7 @@ puts_alone net t rows s = by_put (only_puts net s t) refl
 
 -- OF A TASK THAT PUTS JUST WHAT IT TAKES
 -- each unit that it holds is one that it puts
-held_put : (net : NetRows) (t s : ℕ) (l : List ℕ) → HoldsAll net t l → PutsAll net t → 1 ≤ times s l → puts net s t ≡ true
+held_put : (net : NetRows) (t s : ℕ) (l : List ℕ) → HoldsEachUnit net t l → PutsAll net t → 1 ≤ times s l → puts net s t ≡ true
 held_put net t s l holds same there = same s ∙ is_one (takes net s t) (omega (arith, holds s, there))
   where
     is_one : (b : Bool) → 1 ≤ one_if b → b ≡ true
@@ -135,10 +135,10 @@ below_none : (test : ℕ → Bool) (k : ℕ) → ((s : ℕ) → test s ≡ false
 below_none test zero none = refl
 below_none test (suc k) none = ap (λ b. add_if b k (below test k)) (none k) ∙ below_none test k none
 
-pub puts_all : (net : NetRows) (t : ℕ) (l : List ℕ) → HoldsAll net t l → PutsAll net t → own_units net t l ≡ l
+pub puts_all : (net : NetRows) (t : ℕ) (l : List ℕ) → HoldsEachUnit net t l → PutsAll net t → own_units net t l ≡ l
 puts_all net t l holds same = among_all (λ s. puts net s t) l (λ s there. held_put net t s l holds same there)
 
-pub credits_none : (net : NetRows) (t : ℕ) (l : List ℕ) → HoldsAll net t l → PutsAll net t → credits_due net t l ≡ []
+pub credits_none : (net : NetRows) (t : ℕ) (l : List ℕ) → HoldsEachUnit net t l → PutsAll net t → credits_due net t l ≡ []
 credits_none net t l holds same = among_none (λ s. not (puts net s t)) l (λ s there. ap not (held_put net t s l holds same there))
 
 pub claims_none : (net : NetRows) (t : ℕ) → PutsAll net t → claims_due net t ≡ []

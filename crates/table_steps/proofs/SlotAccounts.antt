@@ -16,9 +16,8 @@ use Rattle.table_steps.specs.declared.view.Note.{Note}
 use Rattle.table_steps.specs.declared.view.Note.TheVariants.{Lies}
 use Rattle.table_steps.specs.inside.Accounts.{reading, KeepsAccounts}
 use Rattle.table_steps.specs.inside.Parcels.{same_part}
-use Rattle.table_steps.specs.inside.Slots.{SlotCoord, slot_weigh, slot_total, SlotMoves, holders, SlotPart}
+use Rattle.table_steps.specs.inside.Slots.{SlotCoord, slot_weigh, slot_total, SlotMoves, holders, SlotPart, relot}
 use Rattle.table_steps.specs.inside.SlotMarks.{label_in, label_of}
-use Rattle.table_steps.specs.inside.SlotKinds.{relot}
 use Rattle.table_steps.proofs.Slots.{lay}
 use Rattle.table_steps.proofs.SlotMarks.{label_set}
 use Rattle.table_steps.proofs.Stepping.{St}
@@ -59,21 +58,21 @@ relabel net journal edge T label label' d same = record {
 }
 
 -- SLOT TAKEN, to put a parcel there
-pub put_taken_kept : {S : Type 0} (net : NetRows) (limit : ℕ) (part : S → Part) (s : St S) (h : KeepsAccounts net limit s) (id f n : ℕ) (v : List Note) (r : HasLot Ours f v) → r.part ≡ From n → get_elem? s.views id ≡ some v → f < length s.homes
+pub put_taken_kept : {S : Type 0} (net : NetRows) (limit : ℕ) (part : S → Part) (s : St S) (h : KeepsAccounts part net limit s) (id f n : ℕ) (v : List Note) (r : HasLot Ours f v) → r.part ≡ From n → get_elem? s.views id ≡ some v → f < length s.homes
     → SlotPart net h.journal ((reading net s.words).edge) (λ c. slot_total c s.views) (label_of part s.homes)
     → SlotPart net h.journal ((reading net s.words).edge) (λ c. slot_total c (set s.views id (relot Ours Putting (λ p. p) f v))) (label_of part (set s.homes f none))
 put_taken_kept net limit part s h id f n v r is at below d =
     relabel net h.journal _ _ _ (label_of part (set s.homes f none)) (put_taken net h.journal _ _ _ (label_of part s.homes) f n d (slot_bounds net limit s h) (lot_moves s.views id f Ours Putting (λ p. p) (From n) (From n) v r is is at)) (label_set part s.homes f none below)
 
 -- and found held
-pub put_left_kept : {S : Type 0} (net : NetRows) (limit : ℕ) (part : S → Part) (s : St S) (h : KeepsAccounts net limit s) (id f n : ℕ) (v : List Note) (r : HasLot Ours f v) → r.part ≡ From n → get_elem? s.views id ≡ some v → holders (λ c. slot_total c s.views) f ≡ 1
+pub put_left_kept : {S : Type 0} (net : NetRows) (limit : ℕ) (part : S → Part) (s : St S) (h : KeepsAccounts part net limit s) (id f n : ℕ) (v : List Note) (r : HasLot Ours f v) → r.part ≡ From n → get_elem? s.views id ≡ some v → holders (λ c. slot_total c s.views) f ≡ 1
     → SlotPart net h.journal ((reading net s.words).edge) (λ c. slot_total c s.views) (label_of part s.homes)
     → SlotPart net h.journal ((reading net s.words).edge) (λ c. slot_total c (set s.views id (relot Ours Put (λ p. p) f v))) (label_of part s.homes)
 put_left_kept net limit part s h id f n v r is at held d =
     put_left net h.journal _ _ _ (label_of part s.homes) f n d (slot_bounds net limit s h) held (lot_moves s.views id f Ours Put (λ p. p) (From n) (From n) v r is is at)
 
 -- SLOT GIVEN BACK, with the parcel that was put there
-pub put_back_kept : {S : Type 0} (net : NetRows) (limit : ℕ) (part : S → Part) (s : St S) (h : KeepsAccounts net limit s) (id f n : ℕ) (y : S) (v : List Note) (r : HasLot Putting f v) → r.part ≡ From n → part y ≡ From n → get_elem? s.views id ≡ some v → get_elem? s.homes f ≡ some none → f < length s.homes
+pub put_back_kept : {S : Type 0} (net : NetRows) (limit : ℕ) (part : S → Part) (s : St S) (h : KeepsAccounts part net limit s) (id f n : ℕ) (y : S) (v : List Note) (r : HasLot Putting f v) → r.part ≡ From n → part y ≡ From n → get_elem? s.views id ≡ some v → get_elem? s.homes f ≡ some none → f < length s.homes
     → SlotPart net h.journal ((reading net s.words).edge) (λ c. slot_total c s.views) (label_of part s.homes)
     → SlotPart net h.journal ((reading net s.words).edge) (λ c. slot_total c (set s.views id (relot Putting Put (λ p. p) f v))) (label_of part (set s.homes f (some y)))
 put_back_kept net limit part s h id f n y v r is lies at out below d =
@@ -82,7 +81,7 @@ put_back_kept net limit part s h id f n y v r is lies at out below d =
     (λ e. label_set part s.homes f (some y) below e ∙ ap (λ p. lay (label_of part s.homes) f p e) lies)
 
 -- SLOT TAKEN, with the parcel that lies there
-pub take_taken_kept : {S : Type 0} (net : NetRows) (limit : ℕ) (part : S → Part) (s : St S) (h : KeepsAccounts net limit s) (id f : ℕ) (y : S) (v : List Note) (r : HasLot Awaited f v) → get_elem? s.views id ≡ some v → get_elem? s.homes f ≡ some (some y) → f < length s.homes
+pub take_taken_kept : {S : Type 0} (net : NetRows) (limit : ℕ) (part : S → Part) (s : St S) (h : KeepsAccounts part net limit s) (id f : ℕ) (y : S) (v : List Note) (r : HasLot Awaited f v) → get_elem? s.views id ≡ some v → get_elem? s.homes f ≡ some (some y) → f < length s.homes
     → SlotPart net h.journal ((reading net s.words).edge) (λ c. slot_total c s.views) (label_of part s.homes)
     → SlotPart net h.journal ((reading net s.words).edge) (λ c. slot_total c (set s.views id (relot Awaited Taking (λ p. part y) f v))) (label_of part (set s.homes f none))
 take_taken_kept net limit part s h id f y v r at home below d =
@@ -91,14 +90,14 @@ take_taken_kept net limit part s h id f y v r at home below d =
     (label_set part s.homes f none below)
 
 -- and found held
-pub take_left_kept : {S : Type 0} (net : NetRows) (limit : ℕ) (part : S → Part) (s : St S) (h : KeepsAccounts net limit s) (id f : ℕ) (v : List Note) (r : HasLot Awaited f v) → get_elem? s.views id ≡ some v → holders (λ c. slot_total c s.views) f ≡ 1
+pub take_left_kept : {S : Type 0} (net : NetRows) (limit : ℕ) (part : S → Part) (s : St S) (h : KeepsAccounts part net limit s) (id f : ℕ) (v : List Note) (r : HasLot Awaited f v) → get_elem? s.views id ≡ some v → holders (λ c. slot_total c s.views) f ≡ 1
     → SlotPart net h.journal ((reading net s.words).edge) (λ c. slot_total c s.views) (label_of part s.homes)
     → SlotPart net h.journal ((reading net s.words).edge) (λ c. slot_total c (set s.views id (relot Awaited Fetched (λ p. Nothing) f v))) (label_of part s.homes)
 take_left_kept net limit part s h id f v r at held d =
     take_left net h.journal _ _ _ (label_of part s.homes) f r.part d (slot_bounds net limit s h) held (lot_moves s.views id f Awaited Fetched (λ p. Nothing) r.part Nothing v r refl refl at)
 
 -- SLOT GIVEN BACK, empty
-pub take_back_kept : {S : Type 0} (net : NetRows) (limit : ℕ) (part : S → Part) (s : St S) (h : KeepsAccounts net limit s) (id f : ℕ) (y : S) (v : List Note) (r : HasLot Taking f v) → part y ≡ Nothing → get_elem? s.views id ≡ some v → get_elem? s.homes f ≡ some none → f < length s.homes
+pub take_back_kept : {S : Type 0} (net : NetRows) (limit : ℕ) (part : S → Part) (s : St S) (h : KeepsAccounts part net limit s) (id f : ℕ) (y : S) (v : List Note) (r : HasLot Taking f v) → part y ≡ Nothing → get_elem? s.views id ≡ some v → get_elem? s.homes f ≡ some none → f < length s.homes
     → SlotPart net h.journal ((reading net s.words).edge) (λ c. slot_total c s.views) (label_of part s.homes)
     → SlotPart net h.journal ((reading net s.words).edge) (λ c. slot_total c (set s.views id (relot Taking Fetched (λ p. p) f v))) (label_of part (set s.homes f (some y)))
 take_back_kept net limit part s h id f y v r lies at out below d =

@@ -8,6 +8,7 @@ use Rattle.task_graph.specs.NetRows.{NetRows}
 use Rattle.task_graph.specs.Net.{is_weak}
 use Rattle.journal_rules.specs.declared.entry.Cause.TheVariants.{Source, Strong, Weak}
 use Rattle.journal_rules.specs.declared.entry.Entry.{Entry}
+use Rattle.journal_rules.specs.declared.entry.Part.{Part}
 use Rattle.table_steps.specs.Giving.{one_if, times}
 use Rattle.table_steps.specs.declared.view.TurnDuty.{TurnDuty}
 use Rattle.table_steps.specs.declared.view.TurnDuty.TheVariants.{Told, Fresh, Collecting, Ticket, Open, Owes, Counting}
@@ -90,7 +91,7 @@ any_below zero = omega arith
 any_below (suc n) = omega arith
 
 -- The bounds on which the account of slots relies.
-pub slot_bounds : {S : Type 0} (net : NetRows) (limit : ℕ) (s : St S) (h : KeepsAccounts net limit s) → SlotBounds net h.journal ((reading net s.words).edge) (λ c. slot_total c s.views)
+pub slot_bounds : {S : Type 0} {part : S → Part} (net : NetRows) (limit : ℕ) (s : St S) (h : KeepsAccounts part net limit s) → SlotBounds net h.journal ((reading net s.words).edge) (λ c. slot_total c s.views)
 slot_bounds net limit s h = record {
   tokens = λ e. omega (arith, h.balanced.by_edges e, all_tokens e s.views);
   within = λ e. by_kind e (is_weak net e) refl;

@@ -9,20 +9,20 @@ use lib.ListN.{get_elem?}
 use Rattle.atomic_table.specs.Table.{Act, keeps, takes, gives, Valid, carried_after, homes_after, rest, stepped, Allows}
 use Rattle.task_graph.specs.NetRows.{NetRows}
 use Rattle.journal_rules.specs.declared.entry.Part.{Part}
-use Rattle.journal_rules.specs.declared.entry.Part.TheVariants.{Nothing}
+use Rattle.journal_rules.specs.declared.entry.Part.TheVariants.{From, Nothing}
 use Rattle.table_steps.specs.Giving.{one_if}
 use Rattle.table_steps.specs.declared.view.Lot.{Lot}
 use Rattle.table_steps.specs.declared.view.Lot.TheVariants.{Ours, Putting, Put, Awaited, Taking, Fetched}
 use Rattle.table_steps.specs.declared.view.SeatMark.TheVariants.{Live}
 use Rattle.table_steps.specs.declared.view.Note.{Note}
 use Rattle.table_steps.specs.declared.view.Note.TheVariants.{Lies}
-use Rattle.table_steps.specs.inside.Accounts.{Coord, duty, sem, mark, busy, resting, turning, owing, telling, weight, weigh, total, AllStand, reading, marks_from, edges_from, mark_at, Readings, Balanced, KeepsAccounts}
+use Rattle.table_steps.specs.inside.Accounts.{Coord, mark, resting, weigh, total, AllStand, reading, marks_from, tokens_from, mark_at, Readings, Balanced, KeepsAccounts}
 use Rattle.table_steps.specs.inside.Kinds.{IsTurn}
-use Rattle.table_steps.specs.inside.Slots.{lot, lot_weight, slot_weigh, slot_total, holders}
-use Rattle.table_steps.specs.inside.SlotMarks.{HomeIs, Homes}
-use Rattle.table_steps.specs.inside.SlotKinds.{relot, MayTryPut, put_tried, MayTryTake, take_tried, HoldsIf, TakesPart, TookSlot, HoldsPart, lot_part, MayPutBack, put_laid, MayTakeBack, take_laid}
-use Rattle.table_steps.proofs.Totals.{total_set, weigh_append}
-use Rattle.table_steps.proofs.Views.{stand_left, stand_both, Views, views_after}
+use Rattle.table_steps.specs.inside.Slots.{lot, lot_weight, slot_weigh, slot_total, holders, relot, SlotPart}
+use Rattle.table_steps.specs.inside.SlotMarks.{HomeIs, Homes, label_of}
+use Rattle.table_steps.specs.inside.SlotKinds.{MayTryPut, put_tried, MayTryTake, take_tried, HoldsIf, TakesPart, TookSlot, HoldsPart, lot_part, MayPutBack, put_laid, MayTakeBack, take_laid}
+use Rattle.table_steps.proofs.Totals.{total_set}
+use Rattle.table_steps.proofs.Views.{Views, views_after}
 use Rattle.table_steps.proofs.Marking.{alike_kept}
 use Rattle.table_steps.proofs.Reading.{tells_is, else_word, else_edge, else_unit, else_credit}
 use Rattle.table_steps.proofs.Stepping.{St, Seated, own_lone}
@@ -30,24 +30,14 @@ use Rattle.table_steps.proofs.StartDuties.{one_self}
 use Rattle.table_steps.proofs.Lots.{slot_append}
 use Rattle.table_steps.proofs.Homing.{slot_total_set}
 use Rattle.table_steps.proofs.SlotMarks.{homes_set, slot_tried}
-use Rattle.table_steps.proofs.Relotting.{HasLot, has_lot}
-
--- lots count in no other account
-lies_none : (c : Coord) (k : Lot) (e : ℕ) (p : Part) → weight c (Lies k e p) ≡ 0
-lies_none (duty c) k e p = refl
-lies_none (sem z s) k e p = refl
-lies_none (mark m) k e p = refl
-lies_none busy k e p = refl
-lies_none resting k e p = refl
-lies_none turning k e p = refl
-lies_none owing k e p = refl
-lies_none telling k e p = refl
+use Rattle.table_steps.proofs.Relotting.{HasLot, has_lot, relot_weigh, relot_stand}
+use Rattle.table_steps.proofs.SlotAccounts.{put_taken_kept, put_left_kept, put_back_kept, take_taken_kept, take_left_kept, take_back_kept}
 
 -- the words but the marks are as they were
 mark_read : (net : NetRows) (words : List ℕ) (f n : ℕ) → f < length net.edges → reading net (set words (marks_from net + f) n) ≡ reading net words
 mark_read net words f n below = let i = marks_from net + f in
     tells_is _ _ (else_word words i n 8 (λ z. omega arith)) (else_word words i n 16 (λ z. omega arith)) (else_word words i n 24 (λ z. omega arith)) (else_word words i n 32 (λ z. omega arith))
-    (λ s. else_unit net words i n s (λ b z. omega arith)) (λ s. else_credit net words i n s (λ b z. omega arith)) (λ e. else_edge net words i n e (λ z. omega (arith, below))) (λ t. else_word words i n (edges_from net + length net.edges + t) (λ z. omega (arith, below)))
+    (λ s. else_unit net words i n s (λ b z. omega arith)) (λ s. else_credit net words i n s (λ b z. omega arith)) (λ e. else_edge net words i n e (λ z. omega (arith, below))) (λ t. else_word words i n (tokens_from net + length net.edges + t) (λ z. omega (arith, below)))
 
 there_is : {X : Type 0} (xs : List X) (i : ℕ) (x : X) → get_elem? xs i ≡ some x → i < length xs
 there_is [] i x h = absurd (some-ne-none x (sym h))
@@ -55,10 +45,11 @@ there_is (y ∷ ys) zero x h = omega arith
 there_is (y ∷ ys) (suc i) x h = omega (arith, there_is ys i x h)
 
 -- the rule after one lot became one of another kind, and the slots are as they should be
-lot_changed : {S : Type 0} (net : NetRows) (limit : ℕ) (s : St S) (h : KeepsAccounts net limit s) (id f n : ℕ) (carried : List (ℕ × S)) (a : Act S) (j k : Lot) (g : Part → Part) (v : List Note) → HasLot j f v → IsTurn v → f < length net.edges → get_elem? s.views id ≡ some v
+lot_changed : {S : Type 0} {part : S → Part} (net : NetRows) (limit : ℕ) (s : St S) (h : KeepsAccounts part net limit s) (id f n : ℕ) (carried : List (ℕ × S)) (a : Act S) (j k : Lot) (g : Part → Part) (v : List Note) → HasLot j f v → IsTurn v → f < length net.edges → get_elem? s.views id ≡ some v
     → Homes (length net.edges) (mark_at net (set s.words (marks_from net + f) n)) (homes_after s.homes carried a) (holders (λ c. slot_total c (set s.views id (relot j k g f v))))
-    → KeepsAccounts net limit (stepped s (marks_from net + f) n id carried (relot j k g f v) a)
-lot_changed net limit s h id f n carried a j k g v r turn below at homes = record {
+    → SlotPart net h.journal ((reading net s.words).edge) (λ c. slot_total c (set s.views id (relot j k g f v))) (label_of part (homes_after s.homes carried a))
+    → KeepsAccounts part net limit (stepped s (marks_from net + f) n id carried (relot j k g f v) a)
+lot_changed {S} {part} net limit s h id f n carried a j k g v r turn below at homes slots = record {
   fits = h.fits;
   size = length-set s.words (marks_from net + f) n ∙ h.size;
   journal = h.journal;
@@ -69,6 +60,7 @@ lot_changed net limit s h id f n carried a j k g v r turn below at homes = recor
   views = subst (λ u. Views_at u) (append-nil w) (views_after net h.journal h.journal s.views id v w [] h.views (at ∙ ap some (sym (append-nil v))) (λ u stand. stand)
       (own_lone net h.journal (λ c. total c s.views) v w [] stand_new (omega (arith, turn.1, nil_more (mark Live) v)) (omega (arith, turn.1, nil_more (mark Live) w, weigh_same (mark Live))) (omega (arith, turn.0, nil_more resting w, weigh_same resting))));
   homes = homes;
+  slots = subst (λ (q : Readings). SlotPart net h.journal q.edge (λ c. slot_total c (set s.views id w)) (label_of part (homes_after s.homes carried a))) (sym (mark_read net s.words f n below)) slots;
 }
   where
     w : List Note
@@ -84,14 +76,13 @@ lot_changed net limit s h id f n carried a j k g v r turn below at homes = recor
     nil_more c u = ap (weigh c) (append-nil u)
 
     weigh_same : (c : Coord) → weigh c w ≡ weigh c v
-    weigh_same c = omega (arith, ap (weigh c) r.is, ap (weigh c) (r.after k g), weigh_append c r.front (Lies j f r.part ∷ r.rest), weigh_append c r.front (Lies k f (g r.part) ∷ r.rest), lies_none c j f r.part, lies_none c k f (g r.part))
+    weigh_same c = relot_weigh c j k g f v r
 
     same : (c : Coord) → total c (set s.views id w) ≡ total c s.views
     same c = omega (arith, total_set c s.views id v w at, weigh_same c)
 
     stand_new : AllStand net h.journal w
-    stand_new = let parts = stand_left net h.journal r.front (Lies j f r.part ∷ r.rest) (subst (λ u. AllStand net h.journal u) r.is (h.views id v at).stand) in
-        subst (λ u. AllStand net h.journal u) (sym (r.after k g)) (stand_both net h.journal r.front (Lies k f (g r.part) ∷ r.rest) parts.0 (tt, parts.1.1))
+    stand_new = relot_stand net h.journal j k g f v r (h.views id v at).stand
 
 -- how many turns hold a slot after that
 held_after : (views : List (List Note)) (id f : ℕ) (j k : Lot) (g : Part → Part) (v : List Note) (up down : ℕ → ℕ) → HasLot j f v → get_elem? views id ≡ some v
@@ -116,84 +107,93 @@ abbrev itself : ℕ → ℕ
 itself n = n
 
 -- SLOT TAKEN, where it is home
-slot_got : {S : Type 0} (net : NetRows) (limit : ℕ) (s : St S) (h : KeepsAccounts net limit s) (id f : ℕ) (carried : List (ℕ × S)) (y : S) (j k : Lot) (g : Part → Part) (v : List Note) → HasLot j f v → IsTurn v → f < length net.edges → get_elem? s.views id ≡ some v
+slot_got : {S : Type 0} {part : S → Part} (net : NetRows) (limit : ℕ) (s : St S) (h : KeepsAccounts part net limit s) (id f : ℕ) (carried : List (ℕ × S)) (y : S) (j k : Lot) (g : Part → Part) (v : List Note) → HasLot j f v → IsTurn v → f < length net.edges → get_elem? s.views id ≡ some v
     → ((n : ℕ) → lot_weight Putting k n + lot_weight Taking k n + 0 ≡ lot_weight Putting j n + lot_weight Taking j n + n) → get_elem? s.homes f ≡ some (some y) → holders (λ c. slot_total c s.views) f ≡ 0
-    → KeepsAccounts net limit (stepped s (marks_from net + f) 1 id carried (relot j k g f v) (takes f y))
-slot_got net limit s h id f carried y j k g v r turn below at raises home free =
+    → (f < length s.homes → SlotPart net h.journal ((reading net s.words).edge) (λ c. slot_total c (set s.views id (relot j k g f v))) (label_of part (set s.homes f none)))
+    → KeepsAccounts part net limit (stepped s (marks_from net + f) 1 id carried (relot j k g f v) (takes f y))
+slot_got net limit s h id f carried y j k g v r turn below at raises home free slots =
     let held = held_after s.views id f j k g v itself nothing r at raises in
     lot_changed net limit s h id f 1 carried (takes f y) j k g v r turn below at
     (homes_set (length net.edges) (mark_at net s.words) _ s.homes _ _ f none h.homes (there_is s.homes f (some y) home) (get_or-set_same s.words (marks_from net + f) 1 0 (omega (arith, h.size, below)), omega (arith, held f, free, one_self f))
     (λ e other. else_word s.words (marks_from net + f) 1 (marks_from net + e) (λ z. other (omega arith))) (λ e other. omega (arith, held e, off_is f e other)))
+    (slots (there_is s.homes f (some y) home))
 
 -- and where another turn holds it
-slot_missed : {S : Type 0} (net : NetRows) (limit : ℕ) (s : St S) (h : KeepsAccounts net limit s) (id f : ℕ) (carried : List (ℕ × S)) (j k : Lot) (g : Part → Part) (v : List Note) → HasLot j f v → IsTurn v → f < length net.edges → get_elem? s.views id ≡ some v
+slot_missed : {S : Type 0} {part : S → Part} (net : NetRows) (limit : ℕ) (s : St S) (h : KeepsAccounts part net limit s) (id f : ℕ) (carried : List (ℕ × S)) (j k : Lot) (g : Part → Part) (v : List Note) → HasLot j f v → IsTurn v → f < length net.edges → get_elem? s.views id ≡ some v
     → ((n : ℕ) → lot_weight Putting k n + lot_weight Taking k n + 0 ≡ lot_weight Putting j n + lot_weight Taking j n + 0) → mark_at net s.words f ≡ 1
-    → KeepsAccounts net limit (stepped s (marks_from net + f) 1 id carried (relot j k g f v) keeps)
-slot_missed net limit s h id f carried j k g v r turn below at alike marked =
+    → SlotPart net h.journal ((reading net s.words).edge) (λ c. slot_total c (set s.views id (relot j k g f v))) (label_of part s.homes)
+    → KeepsAccounts part net limit (stepped s (marks_from net + f) 1 id carried (relot j k g f v) keeps)
+slot_missed net limit s h id f carried j k g v r turn below at alike marked slots =
     let held = held_after s.views id f j k g v nothing nothing r at alike in
     lot_changed net limit s h id f 1 carried keeps j k g v r turn below at
     (λ e in_range. subst (λ m. HomeIs (get_elem? s.homes e) m (holders (λ c. slot_total c (set s.views id (relot j k g f v))) e)) (sym (by_eq e (cases_eq f e))) (subst (λ m. HomeIs (get_elem? s.homes e) (mark_at net s.words e) m) (sym (omega (arith, held e))) (h.homes e in_range)))
+    slots
   where
     by_eq : (e : ℕ) → (f ≡ e) ⊎ (f ≢ e) → mark_at net (set s.words (marks_from net + f) 1) e ≡ mark_at net s.words e
     by_eq e (inl same) = ap (mark_at net (set s.words (marks_from net + f) 1)) (sym same) ∙ get_or-set_same s.words (marks_from net + f) 1 0 (omega (arith, h.size, below)) ∙ sym marked ∙ ap (mark_at net s.words) same
     by_eq e (inr other) = else_word s.words (marks_from net + f) 1 (marks_from net + e) (λ z. other (omega arith))
 
 -- SLOT GIVEN BACK
-slot_returned : {S : Type 0} (net : NetRows) (limit : ℕ) (s : St S) (h : KeepsAccounts net limit s) (id f : ℕ) (y : S) (carried : List (ℕ × S)) (j k : Lot) (g : Part → Part) (v : List Note) → HasLot j f v → IsTurn v → f < length net.edges → get_elem? s.views id ≡ some v
+slot_returned : {S : Type 0} {part : S → Part} (net : NetRows) (limit : ℕ) (s : St S) (h : KeepsAccounts part net limit s) (id f : ℕ) (y : S) (carried : List (ℕ × S)) (j k : Lot) (g : Part → Part) (v : List Note) → HasLot j f v → IsTurn v → f < length net.edges → get_elem? s.views id ≡ some v
     → ((n : ℕ) → lot_weight Putting k n + lot_weight Taking k n + n ≡ lot_weight Putting j n + lot_weight Taking j n + 0)
-    → KeepsAccounts net limit (stepped s (marks_from net + f) 0 id ((f, y) ∷ carried) (relot j k g f v) gives)
-slot_returned {S} net limit s h id f y carried j k g v r turn below at lowers =
+    → (get_elem? s.homes f ≡ some none → f < length s.homes → SlotPart net h.journal ((reading net s.words).edge) (λ c. slot_total c (set s.views id (relot j k g f v))) (label_of part (set s.homes f (some y))))
+    → KeepsAccounts part net limit (stepped s (marks_from net + f) 0 id ((f, y) ∷ carried) (relot j k g f v) gives)
+slot_returned {S} {part} net limit s h id f y carried j k g v r turn below at lowers slots =
     let held = held_after s.views id f j k g v nothing itself r at lowers in
     let out = by_home held (get_elem? s.homes f) refl (h.homes f below) in
     lot_changed net limit s h id f 0 ((f, y) ∷ carried) gives j k g v r turn below at
     (homes_set (length net.edges) (mark_at net s.words) _ s.homes _ _ f (some y) h.homes out.0 (get_or-set_same s.words (marks_from net + f) 0 0 (omega (arith, h.size, below)), omega (arith, held f, out.1, one_self f))
     (λ e other. else_word s.words (marks_from net + f) 0 (marks_from net + e) (λ z. other (omega arith))) (λ e other. omega (arith, held e, off_is f e other)))
+    (slots out.2 out.0)
   where
     by_home : ((e : ℕ) → holders (λ c. slot_total c (set s.views id (relot j k g f v))) e + itself (one_if (f == e)) ≡ holders (λ c. slot_total c s.views) e + nothing (one_if (f == e))) → (o : Option (Option S)) → get_elem? s.homes f ≡ o → HomeIs o (mark_at net s.words f) (holders (λ c. slot_total c s.views) f)
-        → (f < length s.homes) × (holders (λ c. slot_total c s.views) f ≡ 1)
+        → (f < length s.homes) × (holders (λ c. slot_total c s.views) f ≡ 1) × (get_elem? s.homes f ≡ some none)
     by_home held (some (some x)) is home = absurd (omega (arith, held f, home.1, one_self f))
-    by_home held (some none) is home = (there_is s.homes f none is, home.1)
+    by_home held (some none) is home = (there_is s.homes f none is, home.1, is)
     by_home held none is home = absurd home
 
 -- THE STEPS
-pub try_put_allowed : {S : Type 0} (net : NetRows) (limit slots id : ℕ) (me : Seated S) (f : ℕ) → f < length net.edges → MayTryPut f me.0
-    → Allows (KeepsAccounts net limit) slots id me (marks_from net + f) (λ _. 1) (λ n m. (m.0 ≡ put_tried f n me.0) × HoldsIf f n me.1 m.1)
-try_put_allowed {S} net limit slots id me f below may s h _ at small = by_mark (slot_tried (length net.edges) (mark_at net s.words) s.homes _ f h.homes below)
+pub try_put_allowed : {S : Type 0} {part : S → Part} (net : NetRows) (limit slots id : ℕ) (me : Seated S) (f : ℕ) → f < length net.edges → MayTryPut f me.0
+    → Allows (KeepsAccounts part net limit) slots id me (marks_from net + f) (λ _. 1) (λ n m. (m.0 ≡ put_tried f n me.0) × HoldsIf f n me.1 m.1)
+try_put_allowed {S} {part} net limit slots id me f below may s h _ at small = by_mark (slot_tried (length net.edges) (mark_at net s.words) s.homes _ f h.homes below)
   where
     r : HasLot Ours f me.0
     r = has_lot Ours f me.0 may.ours
 
+    from : r.part ≡ From may.from.place
+    from = sym r.tells ∙ may.from.is
+
     by_mark : ((y : S) × (get_elem? s.homes f ≡ some (some y)) × (mark_at net s.words f ≡ 0) × (holders (λ c. slot_total c s.views) f ≡ 0)) ⊎ ((mark_at net s.words f ≡ 1) × (holders (λ c. slot_total c s.views) f ≡ 1))
-        → (u : List Note) × (z : Act S) × Valid s.homes me.1 z × KeepsAccounts net limit (stepped s (marks_from net + f) 1 id me.1 u z) × ((u ≡ put_tried f (mark_at net s.words f) me.0) × HoldsIf f (mark_at net s.words f) me.1 (carried_after me.1 z))
+        → (u : List Note) × (z : Act S) × Valid s.homes me.1 z × KeepsAccounts part net limit (stepped s (marks_from net + f) 1 id me.1 u z) × ((u ≡ put_tried f (mark_at net s.words f) me.0) × HoldsIf f (mark_at net s.words f) me.1 (carried_after me.1 z))
     by_mark (inl (y, home, clear, free)) = (
       relot Ours Putting (λ p. p) f me.0,
       takes f y,
       home,
-      slot_got net limit s h id f me.1 y Ours Putting (λ p. p) me.0 r may.turn below at (λ n. omega arith) home free,
+      slot_got net limit s h id f me.1 y Ours Putting (λ p. p) me.0 r may.turn below at (λ n. omega arith) home free (λ inside. put_taken_kept net limit part s h id f may.from.place me.0 r from at inside h.slots),
       (ap (λ n. put_tried f n me.0) (sym clear), subst (λ n. HoldsIf f n me.1 ((f, y) ∷ me.1)) (sym clear) (refl, refl)),
     )
     by_mark (inr (set_is, held)) = (
       relot Ours Put (λ p. p) f me.0,
       keeps,
       tt,
-      slot_missed net limit s h id f me.1 Ours Put (λ p. p) me.0 r may.turn below at (λ n. omega arith) set_is,
+      slot_missed net limit s h id f me.1 Ours Put (λ p. p) me.0 r may.turn below at (λ n. omega arith) set_is (put_left_kept net limit part s h id f may.from.place me.0 r from at held h.slots),
       (ap (λ n. put_tried f n me.0) (sym set_is), subst (λ n. HoldsIf f n me.1 me.1) (sym set_is) refl),
     )
 
-pub try_take_allowed : {S : Type 0} (net : NetRows) (limit slots id : ℕ) (part : S → Part) (me : Seated S) (f : ℕ) → f < length net.edges → MayTryTake f me.0
-    → Allows (KeepsAccounts net limit) slots id me (marks_from net + f) (λ _. 1) (λ n m. TookSlot part f n me m)
-try_take_allowed {S} net limit slots id part me f below may s h _ at small = by_mark (slot_tried (length net.edges) (mark_at net s.words) s.homes _ f h.homes below)
+pub try_take_allowed : {S : Type 0} {part : S → Part} (net : NetRows) (limit slots id : ℕ) (me : Seated S) (f : ℕ) → f < length net.edges → MayTryTake f me.0
+    → Allows (KeepsAccounts part net limit) slots id me (marks_from net + f) (λ _. 1) (λ n m. TookSlot part f n me m)
+try_take_allowed {S} {part} net limit slots id me f below may s h _ at small = by_mark (slot_tried (length net.edges) (mark_at net s.words) s.homes _ f h.homes below)
   where
     r : HasLot Awaited f me.0
     r = has_lot Awaited f me.0 may.awaited
 
     by_mark : ((y : S) × (get_elem? s.homes f ≡ some (some y)) × (mark_at net s.words f ≡ 0) × (holders (λ c. slot_total c s.views) f ≡ 0)) ⊎ ((mark_at net s.words f ≡ 1) × (holders (λ c. slot_total c s.views) f ≡ 1))
-        → (u : List Note) × (z : Act S) × Valid s.homes me.1 z × KeepsAccounts net limit (stepped s (marks_from net + f) 1 id me.1 u z) × TookSlot part f (mark_at net s.words f) me (u, carried_after me.1 z)
+        → (u : List Note) × (z : Act S) × Valid s.homes me.1 z × KeepsAccounts part net limit (stepped s (marks_from net + f) 1 id me.1 u z) × TookSlot part f (mark_at net s.words f) me (u, carried_after me.1 z)
     by_mark (inl (y, home, clear, free)) = (
       relot Awaited Taking (λ p. part y) f me.0,
       takes f y,
       home,
-      slot_got net limit s h id f me.1 y Awaited Taking (λ p. part y) me.0 r may.turn below at (λ n. omega arith) home free,
+      slot_got net limit s h id f me.1 y Awaited Taking (λ p. part y) me.0 r may.turn below at (λ n. omega arith) home free (λ inside. take_taken_kept net limit part s h id f y me.0 r at home inside h.slots),
       record {
         part_is = part y;
         view = ap (λ n. take_tried f (part y) n me.0) (sym clear);
@@ -205,7 +205,7 @@ try_take_allowed {S} net limit slots id part me f below may s h _ at small = by_
       relot Awaited Fetched (λ p. Nothing) f me.0,
       keeps,
       tt,
-      slot_missed net limit s h id f me.1 Awaited Fetched (λ p. Nothing) me.0 r may.turn below at (λ n. omega arith) set_is,
+      slot_missed net limit s h id f me.1 Awaited Fetched (λ p. Nothing) me.0 r may.turn below at (λ n. omega arith) set_is (take_left_kept net limit part s h id f me.0 r at held h.slots),
       record {
         part_is = Nothing;
         view = ap (λ n. take_tried f Nothing n me.0) (sym set_is);
@@ -214,36 +214,39 @@ try_take_allowed {S} net limit slots id part me f below may s h _ at small = by_
       },
     )
 
-pub put_back_allowed : {S : Type 0} (net : NetRows) (limit slots id : ℕ) (part : S → Part) (me : Seated S) (f : ℕ) → f < length net.edges → MayPutBack part f me
-    → Allows (KeepsAccounts net limit) slots id me (marks_from net + f) (λ _. 0) (λ n m. (m.0 ≡ put_laid f me.0) × (m.1 ≡ rest me.1))
-put_back_allowed {S} net limit slots id part me f below may s h _ at small = from me.1 may.laid
+pub put_back_allowed : {S : Type 0} {part : S → Part} (net : NetRows) (limit slots id : ℕ) (me : Seated S) (f : ℕ) → f < length net.edges → MayPutBack part f me
+    → Allows (KeepsAccounts part net limit) slots id me (marks_from net + f) (λ _. 0) (λ n m. (m.0 ≡ put_laid f me.0) × (m.1 ≡ rest me.1))
+put_back_allowed {S} {part} net limit slots id me f below may s h _ at small = from me.1 may.laid
   where
     r : HasLot Putting f me.0
     r = has_lot Putting f me.0 may.putting
 
-    from : (c : List (ℕ × S)) → HoldsPart part f (lot_part Putting f me.0) c → (u : List Note) × (z : Act S) × Valid s.homes c z × KeepsAccounts net limit (stepped s (marks_from net + f) 0 id c u z) × ((u ≡ put_laid f me.0) × (carried_after c z ≡ rest c))
+    is_from : r.part ≡ From may.from.place
+    is_from = sym r.tells ∙ may.from.is
+
+    from : (c : List (ℕ × S)) → HoldsPart part f (lot_part Putting f me.0) c → (u : List Note) × (z : Act S) × Valid s.homes c z × KeepsAccounts part net limit (stepped s (marks_from net + f) 0 id c u z) × ((u ≡ put_laid f me.0) × (carried_after c z ≡ rest c))
     from ((k, y) ∷ more) laid = (
       put_laid f me.0,
       gives,
       tt,
-      subst (λ q. KeepsAccounts net limit (stepped s (marks_from net + f) 0 id ((q, y) ∷ more) (put_laid f me.0) gives)) (sym laid.0) (slot_returned net limit s h id f y more Putting Put (λ p. p) me.0 r may.turn below at (λ n. omega arith)),
+      subst (λ q. KeepsAccounts part net limit (stepped s (marks_from net + f) 0 id ((q, y) ∷ more) (put_laid f me.0) gives)) (sym laid.0) (slot_returned net limit s h id f y more Putting Put (λ p. p) me.0 r may.turn below at (λ n. omega arith) (λ out inside. put_back_kept net limit part s h id f may.from.place y me.0 r is_from (laid.1 ∙ may.from.is) at out inside h.slots)),
       (refl, refl),
     )
     from [] laid = absurd laid
 
-pub take_back_allowed : {S : Type 0} (net : NetRows) (limit slots id : ℕ) (part : S → Part) (me : Seated S) (f : ℕ) → f < length net.edges → MayTakeBack part f me
-    → Allows (KeepsAccounts net limit) slots id me (marks_from net + f) (λ _. 0) (λ n m. (m.0 ≡ take_laid f me.0) × (m.1 ≡ rest me.1))
-take_back_allowed {S} net limit slots id part me f below may s h _ at small = from me.1 may.laid
+pub take_back_allowed : {S : Type 0} {part : S → Part} (net : NetRows) (limit slots id : ℕ) (me : Seated S) (f : ℕ) → f < length net.edges → MayTakeBack part f me
+    → Allows (KeepsAccounts part net limit) slots id me (marks_from net + f) (λ _. 0) (λ n m. (m.0 ≡ take_laid f me.0) × (m.1 ≡ rest me.1))
+take_back_allowed {S} {part} net limit slots id me f below may s h _ at small = from me.1 may.laid
   where
     r : HasLot Taking f me.0
     r = has_lot Taking f me.0 may.taking
 
-    from : (c : List (ℕ × S)) → HoldsPart part f Nothing c → (u : List Note) × (z : Act S) × Valid s.homes c z × KeepsAccounts net limit (stepped s (marks_from net + f) 0 id c u z) × ((u ≡ take_laid f me.0) × (carried_after c z ≡ rest c))
+    from : (c : List (ℕ × S)) → HoldsPart part f Nothing c → (u : List Note) × (z : Act S) × Valid s.homes c z × KeepsAccounts part net limit (stepped s (marks_from net + f) 0 id c u z) × ((u ≡ take_laid f me.0) × (carried_after c z ≡ rest c))
     from ((k, y) ∷ more) laid = (
       take_laid f me.0,
       gives,
       tt,
-      subst (λ q. KeepsAccounts net limit (stepped s (marks_from net + f) 0 id ((q, y) ∷ more) (take_laid f me.0) gives)) (sym laid.0) (slot_returned net limit s h id f y more Taking Fetched (λ p. p) me.0 r may.turn below at (λ n. omega arith)),
+      subst (λ q. KeepsAccounts part net limit (stepped s (marks_from net + f) 0 id ((q, y) ∷ more) (take_laid f me.0) gives)) (sym laid.0) (slot_returned net limit s h id f y more Taking Fetched (λ p. p) me.0 r may.turn below at (λ n. omega arith) (λ out inside. take_back_kept net limit part s h id f y me.0 r laid.1 at out inside h.slots)),
       (refl, refl),
     )
     from [] laid = absurd laid

@@ -15,6 +15,7 @@ use Rattle.journal_rules.specs.declared.entry.Cause.{Cause}
 use Rattle.journal_rules.specs.declared.entry.Cause.TheVariants.{Source, Strong, Weak}
 use Rattle.journal_rules.specs.DataRule.{edges_of}
 use Rattle.journal_rules.proofs.NetLemmas.{at_place}
+use Rattle.journal_rules.specs.declared.entry.Part.{Part}
 use Rattle.table_steps.specs.declared.view.TurnDuty.{TurnDuty}
 use Rattle.table_steps.specs.declared.view.TurnDuty.TheVariants.{Fresh, Collecting, Ticket, Open}
 use Rattle.table_steps.specs.declared.view.SeatMark.TheVariants.{Live, New, Asked}
@@ -22,9 +23,17 @@ use Rattle.table_steps.specs.declared.view.Note.{Note}
 use Rattle.table_steps.specs.declared.view.SemaphoreRole.TheVariants.{Held, Both, Credit, Credited, Claim, Granted}
 use Rattle.table_steps.specs.declared.view.Note.TheVariants.{Duty, Sems, Has}
 use Rattle.table_steps.specs.inside.Duties.{place, runs, running, tickets, token, source, weakly, awaits, unset, MayRelease}
-use Rattle.table_steps.specs.inside.Accounts.{Coord, duty, sem, mark, busy, resting, turning, owing, telling, weight, total, FitsRelease, AllFitNotes, KeepsAccounts, reading}
-use Rattle.table_steps.specs.inside.Kinds.{IsTurn, MayTakeUp, taken_up, MayAdd, added, MayDeal, dealt, kept_back, MayAdmit, admitted_notes, admitted, MayStart, started, MayEnd, ended}
-use Rattle.table_steps.proofs.Stepping.{St, Seated, own_lone, still_step, done}
+use Rattle.table_steps.specs.inside.Accounts.{Coord, duty, sem, mark, busy, resting, turning, owing, telling, weight, weigh, total, FitsRelease, AllFitNotes, KeepsAccounts, reading}
+use Rattle.table_steps.specs.inside.Kinds.{IsTurn, MayTakeUp, collecting_notes, taken_up, MayAdd, added, MayDeal, dealt, kept_back, MayAdmit, admitted_notes, admitted, MayDrawStart, started, MayEnd, ended}
+use Rattle.table_steps.proofs.Stepping.{St, Seated, own_lone, after_step, done}
+use Rattle.table_steps.specs.declared.view.Lot.TheVariants.{Putting, Taking}
+use Rattle.table_steps.specs.inside.Slots.{lot, awaited_lots, found_lots, first_parts, after_lots}
+use Rattle.table_steps.specs.inside.SlotMarks.{label_of}
+use Rattle.table_steps.proofs.Totals.{total_swap, weigh_append}
+use Rattle.table_steps.proofs.UnitAccounts.{no_units}
+use Rattle.table_steps.proofs.Lots.{awaited_none}
+use Rattle.table_steps.proofs.LotEntries.{taken_up_slots}
+use Rattle.table_steps.proofs.SlotViews.{slots_moved, awaited_weigh, awaited_stand, first_found, after_weigh, parts_length}
 use Rattle.table_steps.proofs.Marking.{alike_kept}
 use Rattle.table_steps.proofs.MarkSteps.{admit_drawn, over_drawn, turn_added, reads_same}
 use Rattle.table_steps.proofs.Drawing.{start_drawn, end_drawn}
@@ -46,7 +55,7 @@ may_release net t (Weak e) rows fits = by_row (slice_get net.edges e) refl fits.
     }
 
 -- LOADS
-pub learn_allowed : {S : Type 0} (net : NetRows) (limit slots id : ℕ) (me : Seated S) → IsTurn me.0 → Allows (KeepsAccounts net limit) slots id me 0 (λ n. n) (λ n m. (m.0 ≡ me.0) × (m.1 ≡ me.1) × AllFitNotes net me.0 × (length net.edges < 4294967296))
+pub learn_allowed : {S : Type 0} {part : S → Part} (net : NetRows) (limit slots id : ℕ) (me : Seated S) → IsTurn me.0 → Allows (KeepsAccounts part net limit) slots id me 0 (λ n. n) (λ n m. (m.0 ≡ me.0) × (m.1 ≡ me.1) × AllFitNotes net me.0 × (length net.edges < 4294967296))
 learn_allowed net limit slots id me may s h _ at small =
     (me.0, keeps, tt, nothing_done net limit s h id 0 me.1 me.0 may.0 may.1 (omega (arith, h.size)) (λ e b z. omega arith) at, (refl, refl, fits_of net h.journal me.0 (h.views id me.0 at).stand, h.fits.rows.edge_count))
 
@@ -87,31 +96,34 @@ weak_alike owing t e = refl
 weak_alike telling t e = refl
 
 -- a release taken up without a change of words
-one_alike : {S : Type 0} (net : NetRows) (limit : ℕ) (s : St S) (h : KeepsAccounts net limit s) (id : ℕ) (carried : List (ℕ × S)) (t : ℕ) (cause : Cause) (rest : List Note) → IsTurn rest
-    → ((c : Coord) → weight c (Duty (Fresh t cause)) ≡ weight c (Duty (Collecting t cause [] (edges_of net t cause)))) → get_elem? s.views id ≡ some (Duty (Fresh t cause) ∷ rest)
-    → KeepsAccounts net limit (stepped s 0 (slice_index s.words 0) id carried (Duty (Collecting t cause [] (edges_of net t cause)) ∷ rest) keeps)
-one_alike net limit s h id carried t cause rest may alike at =
-    let old = Duty (Fresh t cause) ∷ [] in let new = Duty (Collecting t cause [] (edges_of net t cause)) ∷ [] in
-    still_step net limit s h id 0 _ carried old new rest (reading net s.words) at refl (λ e b z. omega arith)
-    (own_lone net h.journal (λ c. total c s.views) old new rest (((h.views id _ at).stand.0, refl), tt) (omega (arith, may.1)) (omega (arith, may.1)) (omega (arith, may.0))) (omega arith)
+one_alike : {S : Type 0} {part : S → Part} (net : NetRows) (limit : ℕ) (s : St S) (h : KeepsAccounts part net limit s) (id : ℕ) (carried : List (ℕ × S)) (t : ℕ) (cause : Cause) (rest : List Note) → weigh resting rest ≡ 0
+    → ((c : Coord) → weight c (Duty (Fresh t cause)) ≡ weight c (Duty (Collecting t cause [] (edges_of net t cause)))) → get_elem? s.views id ≡ some (Duty (Fresh t cause) ∷ Has Live ∷ rest)
+    → KeepsAccounts part net limit (stepped s 0 (slice_index s.words 0) id carried (collecting_notes t cause (edges_of net t cause) ++ rest) keeps)
+one_alike {S} {part} net limit s h id carried t cause rest lone alike at =
+    let es = edges_of net t cause in
+    let old = Duty (Fresh t cause) ∷ Has Live ∷ [] in let new = collecting_notes t cause es in
+    after_step net limit s h id 0 _ carried old new rest h.journal h.counted (reading net s.words) at (λ e. (omega (arith, awaited_none (lot Putting e) tt es), omega (arith, awaited_none (lot Taking e) tt es))) (λ e b z. omega arith) (λ v stand. stand)
+    (own_lone net h.journal (λ c. total c s.views) old new rest (((h.views id _ at).stand.0, refl), (tt, (tt, awaited_stand net h.journal es))) (omega arith) (omega arith) (omega (arith, lone, weigh_append resting new rest, awaited_weigh resting es)))
+    (omega (arith, h.few, total_swap (mark Live) s.views id old new rest at, awaited_weigh (mark Live) es)) h.few_drops
     (ap (reading net) (reads_same net s.words 0 (omega (arith, h.size))))
-    (λ moved. alike_kept net limit (reading net s.words) h.counted h.journal (λ c. total c s.views) _ h.balanced (λ c a. omega (arith, moved c, alike c)))
+    (λ moved. taken_up_slots net h.journal _ _ _ (label_of part s.homes) t cause es h.slots (slots_moved _ _ old new [] (Duty (Collecting t cause [] es) ∷ awaited_lots es) moved refl refl))
+    (λ moved. alike_kept net limit (reading net s.words) h.counted h.journal (λ c. total c s.views) _ h.balanced (λ c a. omega (arith, moved c, alike c, no_units c, awaited_weigh c es)))
 
-pub take_up_allowed : {S : Type 0} (net : NetRows) (limit slots id : ℕ) (me : Seated S) → MayTakeUp me.0 → Allows (KeepsAccounts net limit) slots id me 0 (λ n. n) (λ n m. (m.0 ≡ taken_up net me.0) × (m.1 ≡ me.1))
-take_up_allowed net limit slots id me may s h _ at small = from me.0 may at
+pub take_up_allowed : {S : Type 0} {part : S → Part} (net : NetRows) (limit slots id : ℕ) (me : Seated S) → MayTakeUp me.0 → Allows (KeepsAccounts part net limit) slots id me 0 (λ n. n) (λ n m. (m.0 ≡ taken_up net me.0) × (m.1 ≡ me.1))
+take_up_allowed {S} {part} net limit slots id me may s h _ at small = from me.0 may at
   where
     from : (v : List Note) → MayTakeUp v → get_elem? s.views id ≡ some v
-        → (u : List Note) × (a : Act _) × Valid s.homes me.1 a × KeepsAccounts net limit (stepped s 0 (slice_index s.words 0) id me.1 u a) × ((u ≡ taken_up net v) × (carried_after me.1 a ≡ me.1))
-    from (Duty (Fresh t Source) ∷ rest) may at = done net limit s id 0 _ me _ _ refl (one_alike net limit s h id me.1 t Source rest may (λ c. source_alike c t) at)
-    from (Duty (Fresh t (Weak e)) ∷ rest) may at = done net limit s id 0 _ me _ _ refl (one_alike net limit s h id me.1 t (Weak e) rest may (λ c. weak_alike c t e) at)
+        → (u : List Note) × (a : Act _) × Valid s.homes me.1 a × KeepsAccounts part net limit (stepped s 0 (slice_index s.words 0) id me.1 u a) × ((u ≡ taken_up net v) × (carried_after me.1 a ≡ me.1))
+    from (Duty (Fresh t Source) ∷ Has Live ∷ rest) may at = done net limit s id 0 _ me _ _ refl (one_alike net limit s h id me.1 t Source rest may (λ c. source_alike c t) at)
+    from (Duty (Fresh t (Weak e)) ∷ Has Live ∷ rest) may at = done net limit s id 0 _ me _ _ refl (one_alike net limit s h id me.1 t (Weak e) rest may (λ c. weak_alike c t e) at)
     from v may at = absurd may
 
 -- ADMISSION DRAWN
-pub admit_allowed : {S : Type 0} (net : NetRows) (limit slots id : ℕ) (me : Seated S) → MayAdmit me.0 → Allows (KeepsAccounts net limit) slots id me 24 (λ n. (n + 1) % 2 ^ 64) (λ n m. (m.0 ≡ admitted limit n me.0) × (m.1 ≡ me.1))
-admit_allowed net limit slots id me may s h _ at small = from me.0 may at
+pub admit_allowed : {S : Type 0} {part : S → Part} (net : NetRows) (limit slots id : ℕ) (me : Seated S) → MayAdmit me.0 → Allows (KeepsAccounts part net limit) slots id me 24 (λ n. (n + 1) % 2 ^ 64) (λ n m. (m.0 ≡ admitted limit n me.0) × (m.1 ≡ me.1))
+admit_allowed {S} {part} net limit slots id me may s h _ at small = from me.0 may at
   where
     from : (v : List Note) → MayAdmit v → get_elem? s.views id ≡ some v
-        → (u : List Note) × (z : Act _) × Valid s.homes me.1 z × KeepsAccounts net limit (stepped s 24 ((slice_index s.words 24 + 1) % 2 ^ 64) id me.1 u z) × ((u ≡ admitted limit (slice_index s.words 24) v) × (carried_after me.1 z ≡ me.1))
+        → (u : List Note) × (z : Act _) × Valid s.homes me.1 z × KeepsAccounts part net limit (stepped s 24 ((slice_index s.words 24 + 1) % 2 ^ 64) id me.1 u z) × ((u ≡ admitted limit (slice_index s.words 24) v) × (carried_after me.1 z ≡ me.1))
     from (Duty (Collecting t cause taken left) ∷ Has Live ∷ Has Asked ∷ rest) may at = by_room (cases_lt (slice_index s.words 24) limit)
       where
         n : ℕ
@@ -120,7 +132,7 @@ admit_allowed net limit slots id me may s h _ at small = from me.0 may at
         x : TurnDuty
         x = Collecting t cause taken left
 
-        by_room : (n < limit) ⊎ (limit ≤ n) → (u : List Note) × (z : Act _) × Valid s.homes me.1 z × KeepsAccounts net limit (stepped s 24 ((n + 1) % 18446744073709551616) id me.1 u z) × ((u ≡ admitted_notes (nat_lt n limit) x ++ rest) × (carried_after me.1 z ≡ me.1))
+        by_room : (n < limit) ⊎ (limit ≤ n) → (u : List Note) × (z : Act _) × Valid s.homes me.1 z × KeepsAccounts part net limit (stepped s 24 ((n + 1) % 18446744073709551616) id me.1 u z) × ((u ≡ admitted_notes (nat_lt n limit) x ++ rest) × (carried_after me.1 z ≡ me.1))
         by_room (inl room) = let is : nat_lt n limit ≡ true = grind (arith, nat_tests) in
             done net limit s id 24 _ me _ _ (ap (λ b. admitted_notes b x ++ rest) (sym is)) (admit_drawn net limit s h id me.1 x rest may at room)
         by_room (inr full) = let is : nat_lt n limit ≡ false = grind (arith, nat_tests) in
@@ -128,59 +140,51 @@ admit_allowed net limit slots id me may s h _ at small = from me.0 may at
     from v may at = absurd may
 
 -- TURN ADDED
-pub add_allowed : {S : Type 0} (net : NetRows) (limit slots id : ℕ) (me : Seated S) → MayAdd me.0 → Allows (KeepsAccounts net limit) slots id me 16 (λ n. (n + 1) % 2 ^ 64) (λ n m. (m.0 ≡ added me.0) × (m.1 ≡ me.1))
-add_allowed net limit slots id me may s h _ at small = from me.0 may at
+pub add_allowed : {S : Type 0} {part : S → Part} (net : NetRows) (limit slots id : ℕ) (me : Seated S) → MayAdd me.0 → Allows (KeepsAccounts part net limit) slots id me 16 (λ n. (n + 1) % 2 ^ 64) (λ n m. (m.0 ≡ added me.0) × (m.1 ≡ me.1))
+add_allowed {S} {part} net limit slots id me may s h _ at small = from me.0 may at
   where
     from : (v : List Note) → MayAdd v → get_elem? s.views id ≡ some v
-        → (u : List Note) × (z : Act _) × Valid s.homes me.1 z × KeepsAccounts net limit (stepped s 16 ((slice_index s.words 16 + 1) % 2 ^ 64) id me.1 u z) × ((u ≡ added v) × (carried_after me.1 z ≡ me.1))
+        → (u : List Note) × (z : Act _) × Valid s.homes me.1 z × KeepsAccounts part net limit (stepped s 16 ((slice_index s.words 16 + 1) % 2 ^ 64) id me.1 u z) × ((u ≡ added v) × (carried_after me.1 z ≡ me.1))
     from (Duty (Fresh t cause) ∷ Has New ∷ rest) may at =
         done net limit s id 16 _ me _ _ refl (turn_added net limit s h id me.1 (Fresh t cause) rest may.0 may.1 at (room_for_turn net limit s h))
     from v may at = absurd may
 
 -- START DRAWN
-pub start_allowed : {S : Type 0} (net : NetRows) (limit slots id : ℕ) (me : Seated S) → MayStart net me.0 → Allows (KeepsAccounts net limit) slots id me 8 (λ n. (n + 1) % 2 ^ 64) (λ n m. (m.0 ≡ started net n me.0) × (m.1 ≡ me.1) × IsNet net)
-start_allowed net limit slots id me may s h _ at small = from me.0 may at
+pub start_allowed : {S : Type 0} {part : S → Part} (net : NetRows) (limit slots id : ℕ) (me : Seated S) → MayDrawStart net me.0 → Allows (KeepsAccounts part net limit) slots id me 8 (λ n. (n + 1) % 2 ^ 64) (λ n m. (m.0 ≡ started net n me.0) × (m.1 ≡ me.1) × IsNet net)
+start_allowed {S} {part} net limit slots id me may s h _ at small = from me.0 may at
   where
-    from : (v : List Note) → MayStart net v → get_elem? s.views id ≡ some v
-        → (u : List Note) × (z : Act _) × Valid s.homes me.1 z × KeepsAccounts net limit (stepped s 8 ((slice_index s.words 8 + 1) % 2 ^ 64) id me.1 u z) × ((u ≡ started net (slice_index s.words 8) v) × (carried_after me.1 z ≡ me.1) × IsNet net)
-    from (Duty (Collecting t cause taken []) ∷ Duty Ticket ∷ Has Live ∷ []) may at =
-        let stand = (h.views id _ at).stand.0 in
+    from : (v : List Note) → MayDrawStart net v → get_elem? s.views id ≡ some v
+        → (u : List Note) × (z : Act _) × Valid s.homes me.1 z × KeepsAccounts part net limit (stepped s 8 ((slice_index s.words 8 + 1) % 2 ^ 64) id me.1 u z) × ((u ≡ started net (slice_index s.words 8) v) × (carried_after me.1 z ≡ me.1) × IsNet net)
+    from (Duty (Collecting t cause taken []) ∷ Duty Ticket ∷ Has Live ∷ Sems Held l ∷ rest) may at =
+        let stand = (h.views id _ at).stand.0 in let ins = first_parts taken rest in let more = after_lots taken rest in
         let all : taken ≡ edges_of net t cause = sym (append-nil taken) ∙ stand.1 in (
           _,
           keeps,
           tt,
-          start_drawn net limit s h id t cause [] me.1 [] (may_release net t cause h.fits.rows stand.0) may refl (at ∙ ap (λ es. some (Duty (Collecting t cause es []) ∷ Duty Ticket ∷ Has Live ∷ [])) all),
-          (refl, refl, h.fits.rows),
-        )
-    from (Duty (Collecting t cause taken []) ∷ Duty Ticket ∷ Has Live ∷ Sems Held (b ∷ l) ∷ rest) may at =
-        let stand = (h.views id _ at).stand.0 in
-        let all : taken ≡ edges_of net t cause = sym (append-nil taken) ∙ stand.1 in (
-          _,
-          keeps,
-          tt,
-          start_drawn net limit s h id t cause (b ∷ l) me.1 rest (may_release net t cause h.fits.rows stand.0) may.0 may.1 (at ∙ ap (λ es. some (Duty (Collecting t cause es []) ∷ Duty Ticket ∷ Has Live ∷ Sems Held (b ∷ l) ∷ rest)) all),
+          start_drawn net limit s h id t cause l ins me.1 more (may_release net t cause h.fits.rows stand.0) may.0 (parts_length taken rest may.1 ∙ ap length all) (omega (arith, may.2, after_weigh resting taken rest may.1))
+              (at ∙ ap (λ v. some (Duty (Collecting t cause taken []) ∷ Duty Ticket ∷ Has Live ∷ Sems Held l ∷ v)) (first_found taken rest may.1) ∙ ap (λ es. some (Duty (Collecting t cause es []) ∷ Duty Ticket ∷ Has Live ∷ Sems Held l ∷ found_lots es ins ++ more)) all),
           (refl, refl, h.fits.rows),
         )
     from v may at = absurd may
 
 -- END DRAWN
-pub end_allowed : {S : Type 0} (net : NetRows) (limit slots id : ℕ) (me : Seated S) (gives : List ℕ) (inner : Bool) → MayEnd net gives inner me.0
-    → Allows (KeepsAccounts net limit) slots id me 8 (λ n. (n + 1) % 2 ^ 64) (λ n m. (m.0 ≡ ended gives inner n me.0) × (m.1 ≡ me.1))
-end_allowed net limit slots id me gives inner may s h _ at small = from me.0 may at
+pub end_allowed : {S : Type 0} {part : S → Part} (net : NetRows) (limit slots id : ℕ) (me : Seated S) (gives : List ℕ) (inner : Bool) → MayEnd net gives inner me.0
+    → Allows (KeepsAccounts part net limit) slots id me 8 (λ n. (n + 1) % 2 ^ 64) (λ n m. (m.0 ≡ ended gives inner n me.0) × (m.1 ≡ me.1))
+end_allowed {S} {part} net limit slots id me gives inner may s h _ at small = from me.0 may at
   where
     from : (v : List Note) → MayEnd net gives inner v → get_elem? s.views id ≡ some v
-        → (u : List Note) × (z : Act _) × Valid s.homes me.1 z × KeepsAccounts net limit (stepped s 8 ((slice_index s.words 8 + 1) % 2 ^ 64) id me.1 u z) × ((u ≡ ended gives inner (slice_index s.words 8) v) × (carried_after me.1 z ≡ me.1))
+        → (u : List Note) × (z : Act _) × Valid s.homes me.1 z × KeepsAccounts part net limit (stepped s 8 ((slice_index s.words 8 + 1) % 2 ^ 64) id me.1 u z) × ((u ≡ ended gives inner (slice_index s.words 8) v) × (carried_after me.1 z ≡ me.1))
     from (Duty (Open m t) ∷ Has Live ∷ Sems Both b ∷ Sems Credit c ∷ Sems Credited d ∷ Sems Claim l ∷ Sems Granted g ∷ rest) may at =
         done net limit s id 8 _ me _ _ refl (end_drawn net limit s h id m t gives inner b d g me.1 rest may.0 may.4 may.2 may.5
         (at ∙ (λ i. some (Duty (Open m t) ∷ Has Live ∷ Sems Both b ∷ Sems Credit (may.1 i) ∷ Sems Credited d ∷ Sems Claim (may.3 i) ∷ Sems Granted g ∷ rest))))
     from v may at = absurd may
 
 -- SPLIT
-pub deal_allowed : {S : Type 0} (net : NetRows) (limit id : ℕ) (v : List Note) → MayDeal id v → Splits (KeepsAccounts {S = S} net limit) id v (kept_back v) (dealt v)
+pub deal_allowed : {S : Type 0} {part : S → Part} (net : NetRows) (limit id : ℕ) (v : List Note) → MayDeal id v → Splits (KeepsAccounts part net limit) id v (kept_back v) (dealt v)
 deal_allowed net limit id (Duty (Fresh t cause) ∷ Has Live ∷ rest) may =
     split_allowed net limit id (Duty (Fresh t cause) ∷ Has Live ∷ rest) [] rest (Duty (Fresh t cause) ∷ Has Live ∷ []) refl tt may.0 refl may.1 (λ none. absurd (omega (arith, none))) may.2 (λ none. absurd (omega (arith, none)))
 deal_allowed net limit id v may = absurd may
 
 -- JOIN, with the keeper's seat
-pub take_in_allowed : {S : Type 0} (net : NetRows) (limit id : ℕ) (v : List Note) (other : ℕ) (w : List Note) → id ≡ 0 → Joins (KeepsAccounts {S = S} net limit) id v other w (w ++ v) []
+pub take_in_allowed : {S : Type 0} {part : S → Part} (net : NetRows) (limit id : ℕ) (v : List Note) (other : ℕ) (w : List Note) → id ≡ 0 → Joins (KeepsAccounts part net limit) id v other w (w ++ v) []
 take_in_allowed net limit id v other w first = join_allowed net limit id v other w (λ far. absurd (far first))

@@ -218,7 +218,7 @@ without_fewer a (z ∷ zs) there s = by_eq (cases_eq z a) (λ h. without_fewer a
     by_eq (inr other) deeper = let miss : eqb z a ≡ false = grind (arith, nat_tests) in rw miss (omega (arith, deeper (omega (arith, there, ap one_if miss))))
 
 -- no units count nothing
-no_units : (c : Coord) → weight c (Sems Held []) ≡ 0
+pub no_units : (c : Coord) → weight c (Sems Held []) ≡ 0
 no_units (duty c) = refl
 no_units (sem Held s) = refl
 no_units (sem Undo s) = refl
@@ -247,5 +247,4 @@ no_units owing = refl
 no_units telling = refl
 
 pub held_weigh : (c : Coord) (l : List ℕ) → weigh c (held_notes l) ≡ weigh c (Sems Held l ∷ [])
-held_weigh c [] = omega (arith, no_units c)
-held_weigh c (s ∷ l) = refl
+held_weigh c l = refl

@@ -20,7 +20,7 @@ abbrev pub target : NetRows → ℕ → ℕ
 target net f = option_map_or (λ (row : EdgeRow). row.to) (slice_get net.edges f) 0
 
 -- an End of this task may give these edges
-pub record MayGive (net : NetRows) (t : ℕ) (gives : List ℕ) (inner : Bool) : Type 0 where
+pub record MayEndGiving (net : NetRows) (t : ℕ) (gives : List ℕ) (inner : Bool) : Type 0 where
   pub in_range : AllByRecursion (λ e. e < length net.edges) gives
   pub once : (e : ℕ) → times e gives ≤ 1
   pub fits : IsSomeAnd (slice_get net.tasks t) (λ (row : TaskRow). GivesFit row.shape (out_edges net t) gives × InnerFits row.shape inner)

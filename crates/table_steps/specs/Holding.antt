@@ -5,8 +5,8 @@ use Rattle.journal_rules.specs.SemaphoreRule.{takes, puts}
 use Rattle.table_steps.specs.Giving.{one_if, times}
 
 -- these are a unit of each semaphore that the task takes, and no others
-abbrev pub HoldsAll : NetRows → ℕ → List ℕ → Type 0
-HoldsAll net t units = (s : ℕ) → times s units ≡ one_if (takes net s t)
+abbrev pub HoldsEachUnit : NetRows → ℕ → List ℕ → Type 0
+HoldsEachUnit net t units = (s : ℕ) → times s units ≡ one_if (takes net s t)
 
 -- and of each that it puts
 abbrev pub PutsEach : NetRows → ℕ → List ℕ → Type 0

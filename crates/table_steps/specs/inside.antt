@@ -11,3 +11,4 @@ pub mod Slots
 pub mod SlotMarks
 pub mod RestKinds
 pub mod SlotKinds
+pub mod TableSeats

@@ -21,12 +21,23 @@
 //!
 //! Each edge has a slot, where a parcel may lie: what a start finds at that edge. A seat tries once to take the slot,
 //! exchanges what lies there while it holds it, and gives it back (`slot_steps.rt`). It knows by its notes what it has
-//! still to do with a parcel (`Lot`). No start and no end has such notes yet, so no parcel moves.
+//! still to do with a parcel (`Lot`): a release that is taken up has one to fetch of each of its edges, and an end has one to
+//! deliver to each edge that it gives. A token is taken after its parcel, and given after it. Where another seat holds the
+//! slot, nothing is fetched, or the parcel is left away; on a calm edge no other seat does.
+//!
+//! # What steps found
+//!
+//! A seat comes with the numbers that its steps found, the newest first (`TableSeat`). They have no bytes. Only this crate can add
+//! one, and a function here adds the number that its own operation returned, where an answer of `join_tables` depends on it: a
+//! load of the halt mark, of the live word or of a unit word, an admission, a token taken or given, a count, a unit taken, a
+//! claim, and a turn taken off by the keeper. The others add none: what they find is among the notes, or is of no use. A seat
+//! that is split off begins without a number, and one that is joined to another is gone with its own.
 //!
 //! # What holds between any two steps
 //!
 //! The rule of a table is a record of accounts over the words, the seats and one journal: the entries that the seats
-//! drew are those of a journal that is legal as far as the net decides (`ShapeLegal`); for each edge, the tokens
+//! drew are those of a journal that is legal as far as the net decides (`ShapeLegal`), and whose starts find what they may
+//! (`MeetsDataRule`); for each edge, the tokens
 //! given are those used, those in its word, those owed and those collected; each release that is left is the duty
 //! of just one seat; the numbers admitted are the starts, the tickets and the refusals; a unit word is the units that
 //! are out, held, owed or to be undone; a credit word is 2^40 and the units that were credited and not claimed, less
@@ -36,10 +47,10 @@
 //! has faulted. Where a release was dropped for want of a unit, one seat knows it, and that seat has all live turns.
 //!
 //! What a seat knows is a list of notes; each account is an equation between a word, counts of the journal and
-//! totals of weights over all notes. Starts carry no inputs yet. So a journal here is legal but for the rule on what
-//! starts find. A slot is home where its mark is clear, and else one seat holds it. That each kind of step keeps the
-//! account of parcels too (`SlotPart`), by which starts find what they may, is proved of counts and isn't part of the
-//! rule.
+//! totals of weights over all notes. A slot is home where its mark is clear, and else one seat holds it. The account of
+//! parcels (`SlotPart`) says of each edge: each parcel is the token with which the edge begins, or that of an end that gave
+//! it, and none is there twice; on a calm edge the last one is with the seat that owes it, in the slot, or with the seat that
+//! collects it.
 //!
 //! # Where its definitions are
 //!
@@ -55,10 +66,12 @@ mod halt_steps;
 mod rest_steps;
 mod slot_steps;
 mod steps;
+mod table_seat;
 mod unit_steps;
 mod view;
 
 pub use credit_steps::FIRST_CREDIT;
 pub use slot_steps::Parcel;
-pub use steps::{FIRST_UNIT, LIVE, Place, Words};
+pub use steps::{FIRST_UNIT, LIVE, Words};
+pub use table_seat::{NoteSeat, TableSeat};
 pub use view::{AccountsHold, LimitedNet, Lot, Note, SeatMark, SemaphoreRole, TurnDuty};

@@ -1,11 +1,13 @@
 // The kinds of step of a rest, each by its seat on one word, and how it takes turns in and hands them out.
-ghost use Rattle.std.specs.Prelude.{◌≡◌, ◌<◌, [], length};
+ghost use Rattle.std.specs.Prelude.{◌≡◌, ◌∷◌, ◌<◌, [], length};
 ghost use Rattle.std.specs.Arc.{arc_value};
 ghost use Rattle.journal_rules.specs.declared.entry.DropWhy.{DropWhy};
 ghost use Rattle.table_steps.specs.inside.Kinds.{IsTurn, left_by};
-ghost use Rattle.table_steps.specs.inside.RestKinds.{MayPark, parked, MayHandOut, handed_out, left_behind, live_found, MayLook, looked, MayAsk, asked, MayDropLast, last_dropped, MayThin};
+ghost use Rattle.table_steps.specs.inside.RestKinds.{MayPark, parked, MayHandOut, handed_out, left_behind, live_found, MayLook, looked, MayAskForUnit, asked, MayDropLast, last_dropped, MayThin};
 
-use crate::steps::{CLOCK, FIRST_UNIT, HALT, LIVE, Place, Words};
+use crate::slot_steps::Parcel;
+use crate::steps::{CLOCK, FIRST_UNIT, HALT, LIVE, Words};
+use crate::table_seat::{NoteSeat, TableSeat};
 use crate::unit_steps::Semaphore;
 use crate::view::Note;
 use atomic_table::{Join, Play, Split};
@@ -74,51 +76,61 @@ impl<S> Play<S, List<Note>> for Thins {
     ghost then = { λ _ before n after. (after.0 ≡ left_by before.0) × (after.1 ≡ before.1) };
 }
 
-impl<S> Words<S> {
+impl<S: Parcel> Words<S> {
     /// Gives what a turn's seat knows to a rest's.
-    pub fn park(&self, seat: &mut Place<S>, other: Place<S>)
+    pub fn park(&self, seat: &mut TableSeat<S>, other: TableSeat<S>)
         requires table { (seat.old.table_id ≡ self.now.table.shared.table_id) × (other.table_id ≡ self.now.table.shared.table_id) }
         requires home { other.me.1 ≡ [] }
         requires ready { MayPark seat.old.me.0 other.me.0 }
         ensures table { seat.new.table_id ≡ seat.old.table_id }
         ensures view { seat.new.me ≡ (parked seat.old.me.0 other.me.0, seat.old.me.1) }
+        ensures found { seat.new.found ≡ seat.old.found }
     {
-        self.table.shared.join_seat::<Parks>(seat, other);
+        self.table
+            .shared
+            .join_seat::<Parks>(&mut seat.seat, other.seat);
     }
 
     /// Deals the last turn of a rest to a new seat.
-    pub fn hand_out(&self, seat: &mut Place<S>) -> Place<S>
+    pub fn hand_out(&self, seat: &mut TableSeat<S>) -> TableSeat<S>
         requires table { seat.old.table_id ≡ self.now.table.shared.table_id }
         requires ready { MayHandOut seat.old.me.0 }
         ensures table { (seat.new.table_id ≡ seat.old.table_id) × (result.table_id ≡ seat.old.table_id) }
         ensures view { (seat.new.me ≡ (left_behind seat.old.me.0, seat.old.me.1)) × (result.me ≡ (handed_out seat.old.me.0, [])) }
+        ensures found { (seat.new.found ≡ seat.old.found) × (result.found ≡ []) }
     {
-        self.table.shared.split_seat::<HandsOut>(seat)
+        TableSeat::first(self.table.shared.split_seat::<HandsOut>(&mut seat.seat))
     }
 
     /// Loads the live word, which says how many turns there are.
-    pub fn load_live(&self, seat: &mut Place<S>) -> u64
+    pub fn load_live(&self, seat: &mut TableSeat<S>) -> u64
         requires table { seat.old.table_id ≡ self.now.table.shared.table_id }
         requires ready { IsTurn seat.old.me.0 }
         ensures table { seat.new.table_id ≡ seat.old.table_id }
         ensures view { (seat.new.me.0 ≡ live_found result seat.old.me.0) × (seat.new.me.1 ≡ seat.old.me.1) }
+        ensures found { seat.new.found ≡ result ∷ seat.old.found }
     {
-        self.table.shared.load::<ReadsLive>(seat, LIVE)
+        let found = self.table.shared.load::<ReadsLive>(&mut seat.seat, LIVE);
+        seat.add_found(found);
+        found
     }
 
     /// Loads the halt mark for a rest that is alone. It is 0 where no Fault stands.
-    pub fn look_for_halt(&self, seat: &mut Place<S>) -> u64
+    pub fn look_for_halt(&self, seat: &mut TableSeat<S>) -> u64
         requires table { seat.old.table_id ≡ self.now.table.shared.table_id }
         requires ready { MayLook seat.old.me.0 }
         ensures table { seat.new.table_id ≡ seat.old.table_id }
         ensures view { (seat.new.me.0 ≡ looked result seat.old.me.0) × (seat.new.me.1 ≡ seat.old.me.1) }
+        ensures found { seat.new.found ≡ result ∷ seat.old.found }
     {
-        self.table.shared.load::<Looks>(seat, HALT)
+        let found = self.table.shared.load::<Looks>(&mut seat.seat, HALT);
+        seat.add_found(found);
+        found
     }
 
-    fn ask_told<A: Semaphore>(&self, seat: &mut Place<S>, sem: u32) -> u64
+    fn ask_told<A: Semaphore>(&self, seat: &mut NoteSeat<S>, sem: u32) -> u64
         requires table { seat.old.table_id ≡ self.now.table.shared.table_id }
-        requires ready { MayAsk (arc_value self.now.net) sem seat.old.me.0 }
+        requires ready { MayAskForUnit (arc_value self.now.net) sem seat.old.me.0 }
         requires in_range { sem < length (arc_value self.now.net).sems }
         requires told { (A.net ≡ arc_value self.now.net) × (A.sem ≡ sem) }
         ensures table { seat.new.table_id ≡ seat.old.table_id }
@@ -130,17 +142,20 @@ impl<S> Words<S> {
     }
 
     /// Loads the unit word of a semaphore for a rest that is alone: how many units are taken and not back.
-    pub fn load_units(&self, seat: &mut Place<S>, sem: u32) -> u64
+    pub fn load_units(&self, seat: &mut TableSeat<S>, sem: u32) -> u64
         requires table { seat.old.table_id ≡ self.now.table.shared.table_id }
-        requires ready { MayAsk (arc_value self.now.net) sem seat.old.me.0 }
+        requires ready { MayAskForUnit (arc_value self.now.net) sem seat.old.me.0 }
         requires in_range { sem < length (arc_value self.now.net).sems }
         ensures table { seat.new.table_id ≡ seat.old.table_id }
         ensures view { (seat.new.me.0 ≡ asked (arc_value self.now.net) sem result seat.old.me.0) × (seat.new.me.1 ≡ seat.old.me.1) }
+        ensures found { seat.new.found ≡ result ∷ seat.old.found }
     {
-        self.ask_told::<Brand>(seat, sem)
+        let found = self.ask_told::<Brand>(&mut seat.seat, sem);
+        seat.add_found(found);
+        found
     }
 
-    fn drop_last_told<A: Excuses>(&self, seat: &mut Place<S>, _why: DropWhy) -> u64
+    fn drop_last_told<A: Excuses>(&self, seat: &mut NoteSeat<S>, _why: DropWhy) -> u64
         requires table { seat.old.table_id ≡ self.now.table.shared.table_id }
         requires ready { MayDropLast (arc_value self.now.net) A.why seat.old.me.0 }
         ensures table { seat.new.table_id ≡ seat.old.table_id }
@@ -150,22 +165,26 @@ impl<S> Words<S> {
     }
 
     /// Draws the place of a Drop of a rest's last turn.
-    pub fn draw_last_drop(&self, seat: &mut Place<S>, why: DropWhy) -> u64
+    pub fn draw_last_drop(&self, seat: &mut TableSeat<S>, why: DropWhy) -> u64
         requires table { seat.old.table_id ≡ self.now.table.shared.table_id }
         requires ready { MayDropLast (arc_value self.now.net) why seat.old.me.0 }
         ensures table { seat.new.table_id ≡ seat.old.table_id }
         ensures view { (seat.new.me.0 ≡ last_dropped why result seat.old.me.0) × (seat.new.me.1 ≡ seat.old.me.1) }
+        ensures found { seat.new.found ≡ seat.old.found }
     {
-        self.drop_last_told::<Brand>(seat, why)
+        self.drop_last_told::<Brand>(&mut seat.seat, why)
     }
 
     /// Takes a turn of a rest off, where the rest has others.
-    pub fn thin(&self, seat: &mut Place<S>)
+    pub fn thin(&self, seat: &mut TableSeat<S>)
         requires table { seat.old.table_id ≡ self.now.table.shared.table_id }
         requires ready { MayThin seat.old.me.0 }
         ensures table { seat.new.table_id ≡ seat.old.table_id }
         ensures view { (seat.new.me.0 ≡ left_by seat.old.me.0) × (seat.new.me.1 ≡ seat.old.me.1) }
+        ensures found { seat.new.found ≡ seat.old.found }
     {
-        self.table.shared.fetch_sub::<Thins>(seat, LIVE, 1);
+        self.table
+            .shared
+            .fetch_sub::<Thins>(&mut seat.seat, LIVE, 1);
     }
 }

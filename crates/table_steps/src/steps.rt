@@ -1,13 +1,15 @@
 // The kinds of step, each by one seat on one word.
-ghost use Rattle.std.specs.Prelude.{◌≡◌, ◌+◌, ◌<◌, ℕ, List, Bool, [], length};
+ghost use Rattle.std.specs.Prelude.{◌≡◌, ◌∷◌, ◌+◌, ◌<◌, ℕ, List, Bool, [], length};
 ghost use Rattle.std.specs.Arc.{arc_value};
 ghost use Rattle.task_graph.specs.NetRows.{NetRows};
-ghost use Rattle.table_steps.specs.inside.Accounts.{AllFitNotes, edges_from, marks_from};
+ghost use Rattle.table_steps.specs.inside.Accounts.{AllFitNotes, tokens_from, marks_from};
 ghost use Rattle.task_graph.specs.Net.{IsNet, strong_in};
-ghost use Rattle.table_steps.specs.inside.Kinds.{IsTurn, MayReset, MayTakeUp, taken_up, TakesNext, took, OwesNext, gave, CountsNext, counted_one, AreNoneLeft, others_of, MayAdd, added, MayDeal, dealt, kept_back, MayAdmit, admitted, MayStart, started, MayEnd, ended, MayLeave, left_by, IsWhole, joined};
+ghost use Rattle.table_steps.specs.inside.Kinds.{IsTurn, MayReset, MayTakeUp, taken_up, TakesNextToken, took, OwesNext, gave, CountsNext, counted_one, AreNoneLeft, others_of, MayAdd, added, MayDeal, dealt, kept_back, MayAdmit, admitted, MayDrawStart, started, MayEnd, ended, MayLeave, left_by, IsWhole, joined};
 
+use crate::slot_steps::Parcel;
+use crate::table_seat::{NoteSeat, TableSeat};
 use crate::view::{AccountsHold, LimitedNet, Note};
-use atomic_table::{Join, Play, Seat, Split, Table};
+use atomic_table::{Join, Play, Split, Table};
 use outside_io::List;
 use std::alloc::Global;
 use std::marker::{Brand, PhantomData};
@@ -31,18 +33,15 @@ pub const HALT: usize = 32;
 // slot, then each a word of tokens, and each task its join word.
 pub const FIRST_UNIT: usize = 40;
 
-/// What a seat is.
-pub type Place<S> = Seat<S, List<Note>>;
-
 /// The words of a table, with its net.
 #[derive(Drop)]
-pub struct Words<S> {
+pub struct Words<S: Parcel> {
     pub table: Table<S, List<Note>, LimitedNet, AccountsHold, Global>,
     pub net: Arc<Net>,
     pub limit: u64,
     ghost same_limit: { limit ≡ table.shared.key.limit },
     ghost same_net: { arc_value net ≡ arc_value table.shared.key.net },
-    ghost sized: { table.shared.table_id.words ≡ edges_from (arc_value net) + length (arc_value net).edges + length (arc_value net).tasks },
+    ghost sized: { table.shared.table_id.words ≡ tokens_from (arc_value net) + length (arc_value net).edges + length (arc_value net).tasks },
 }
 
 /// What a step is told besides.
@@ -168,8 +167,8 @@ impl<S, A: Told> Play<S, List<Note>> for Leaves<A> {
     ghost then = { λ _ before n after. (after.0 ≡ left_by before.0) × (after.1 ≡ before.1) × (n ≡ 1 → IsWhole A.net A.limit after.0) };
 }
 
-impl<S> Words<S> {
-    fn learn_told<A: Told>(&self, seat: &mut Place<S>)
+impl<S: Parcel> Words<S> {
+    fn learn_told<A: Told>(&self, seat: &mut NoteSeat<S>)
         requires table { seat.old.table_id ≡ self.now.table.shared.table_id }
         requires ready { IsTurn seat.old.me.0 }
         requires told { A.net ≡ arc_value self.now.net }
@@ -182,18 +181,19 @@ impl<S> Words<S> {
     }
 
     /// Learns that what the seat knows fits the net.
-    pub fn learn(&self, seat: &mut Place<S>)
+    pub fn learn(&self, seat: &mut TableSeat<S>)
         requires table { seat.old.table_id ≡ self.now.table.shared.table_id }
         requires ready { IsTurn seat.old.me.0 }
         ensures table { (seat.new.table_id ≡ seat.old.table_id) × (seat.new.id ≡ seat.old.id) }
         ensures view { (seat.new.me.0 ≡ seat.old.me.0) × (seat.new.me.1 ≡ seat.old.me.1) }
         ensures fits { AllFitNotes (arc_value self.now.net) seat.old.me.0 }
         ensures few { length (arc_value self.now.net).edges < 4294967296 }
+        ensures found { seat.new.found ≡ seat.old.found }
     {
-        self.learn_told::<Brand>(seat)
+        self.learn_told::<Brand>(&mut seat.seat)
     }
 
-    fn take_up_told<A: Told>(&self, seat: &mut Place<S>)
+    fn take_up_told<A: Told>(&self, seat: &mut NoteSeat<S>)
         requires table { seat.old.table_id ≡ self.now.table.shared.table_id }
         requires ready { MayTakeUp seat.old.me.0 }
         requires told { A.net ≡ arc_value self.now.net }
@@ -204,20 +204,21 @@ impl<S> Words<S> {
     }
 
     /// Takes up a release of a source task or by a weak edge.
-    pub fn take_up(&self, seat: &mut Place<S>)
+    pub fn take_up(&self, seat: &mut TableSeat<S>)
         requires table { seat.old.table_id ≡ self.now.table.shared.table_id }
         requires ready { MayTakeUp seat.old.me.0 }
         ensures table { seat.new.table_id ≡ seat.old.table_id }
         ensures view { (seat.new.me.0 ≡ taken_up (arc_value self.now.net) seat.old.me.0) × (seat.new.me.1 ≡ seat.old.me.1) }
+        ensures found { seat.new.found ≡ seat.old.found }
     {
-        self.take_up_told::<Brand>(seat)
+        self.take_up_told::<Brand>(&mut seat.seat)
     }
 
-    fn reset_told<A: Told>(&self, seat: &mut Place<S>, task: u32, word: usize, edges: u64)
+    fn reset_told<A: Told>(&self, seat: &mut NoteSeat<S>, task: u32, word: usize, edges: u64)
         requires table { seat.old.table_id ≡ self.now.table.shared.table_id }
         requires ready { MayReset (arc_value self.now.net) task seat.old.me.0 }
         requires in_range { task < length (arc_value self.now.net).tasks }
-        requires word { word ≡ edges_from (arc_value self.now.net) + length (arc_value self.now.net).edges + task }
+        requires word { word ≡ tokens_from (arc_value self.now.net) + length (arc_value self.now.net).edges + task }
         requires edges { edges ≡ length (strong_in (arc_value self.now.net) task) }
         requires told { A.net ≡ arc_value self.now.net }
         ensures table { seat.new.table_id ≡ seat.old.table_id }
@@ -227,28 +228,29 @@ impl<S> Words<S> {
     }
 
     /// Sets a task's join word again, and takes up its release.
-    pub fn reset_join(&self, seat: &mut Place<S>, task: u32)
+    pub fn reset_join(&self, seat: &mut TableSeat<S>, task: u32)
         requires table { seat.old.table_id ≡ self.now.table.shared.table_id }
         requires ready { MayReset (arc_value self.now.net) task seat.old.me.0 }
         requires in_range { task < length (arc_value self.now.net).tasks }
         ensures table { seat.new.table_id ≡ seat.old.table_id }
         ensures view { (seat.new.me.0 ≡ taken_up (arc_value self.now.net) seat.old.me.0) × (seat.new.me.1 ≡ seat.old.me.1) }
+        ensures found { seat.new.found ≡ seat.old.found }
     {
         let edges = self.net.strong_in(task).len() as u64;
-        self.reset_told::<Brand>(seat, task, self.join_word(task), edges)
+        self.reset_told::<Brand>(&mut seat.seat, task, self.join_word(task), edges)
     }
 
     // Where the join word of a task is.
     fn join_word(&self, task: u32) -> usize
         requires { task < length (arc_value self.now.net).tasks }
-        ensures { result ≡ edges_from (arc_value self.now.net) + length (arc_value self.now.net).edges + task }
+        ensures { result ≡ tokens_from (arc_value self.now.net) + length (arc_value self.now.net).edges + task }
     {
         self.first_edge() + self.net.edges().len() + task as usize
     }
 
     // Where the words of tokens begin.
     fn first_edge(&self) -> usize
-        ensures place { result ≡ edges_from (arc_value self.now.net) }
+        ensures place { result ≡ tokens_from (arc_value self.now.net) }
         ensures few { length (arc_value self.now.net).sems < 4294967296 }
         ensures room { length (arc_value self.now.net).edges < 9223372036854775808 }
     {
@@ -266,25 +268,29 @@ impl<S> Words<S> {
     // Where the word of an edge is.
     fn edge_word(&self, edge: u32) -> usize
         requires { edge < length (arc_value self.now.net).edges }
-        ensures { result ≡ edges_from (arc_value self.now.net) + edge }
+        ensures { result ≡ tokens_from (arc_value self.now.net) + edge }
     {
         self.first_edge() + edge as usize
     }
 
     /// Takes a token from the next edge of a release, and says how many were there.
-    pub fn take_token(&self, seat: &mut Place<S>, edge: u32) -> u64
+    pub fn take_token(&self, seat: &mut TableSeat<S>, edge: u32) -> u64
         requires table { seat.old.table_id ≡ self.now.table.shared.table_id }
-        requires ready { TakesNext (arc_value self.now.net) edge seat.old.me.0 }
+        requires ready { TakesNextToken (arc_value self.now.net) edge seat.old.me.0 }
         requires in_range { edge < length (arc_value self.now.net).edges }
         ensures table { seat.new.table_id ≡ seat.old.table_id }
         ensures view { (seat.new.me.0 ≡ took result seat.old.me.0) × (seat.new.me.1 ≡ seat.old.me.1) }
+        ensures found { seat.new.found ≡ result ∷ seat.old.found }
     {
-        self.table
+        let found = self
+            .table
             .shared
-            .fetch_sub::<Takes>(seat, self.edge_word(edge), 1)
+            .fetch_sub::<Takes>(&mut seat.seat, self.edge_word(edge), 1);
+        seat.add_found(found);
+        found
     }
 
-    fn give_told<A: Told>(&self, seat: &mut Place<S>, edge: u32) -> u64
+    fn give_told<A: Told>(&self, seat: &mut NoteSeat<S>, edge: u32) -> u64
         requires table { seat.old.table_id ≡ self.now.table.shared.table_id }
         requires ready { OwesNext (arc_value self.now.net) edge seat.old.me.0 }
         requires in_range { edge < length (arc_value self.now.net).edges }
@@ -298,21 +304,24 @@ impl<S> Words<S> {
     }
 
     /// Gives a token of the next edge that is owed, and says how many were there.
-    pub fn give_token(&self, seat: &mut Place<S>, edge: u32) -> u64
+    pub fn give_token(&self, seat: &mut TableSeat<S>, edge: u32) -> u64
         requires table { seat.old.table_id ≡ self.now.table.shared.table_id }
         requires ready { OwesNext (arc_value self.now.net) edge seat.old.me.0 }
         requires in_range { edge < length (arc_value self.now.net).edges }
         ensures table { seat.new.table_id ≡ seat.old.table_id }
         ensures view { (seat.new.me.0 ≡ gave (arc_value self.now.net) edge result seat.old.me.0) × (seat.new.me.1 ≡ seat.old.me.1) }
+        ensures found { seat.new.found ≡ result ∷ seat.old.found }
     {
-        self.give_told::<Brand>(seat, edge)
+        let found = self.give_told::<Brand>(&mut seat.seat, edge);
+        seat.add_found(found);
+        found
     }
 
-    fn count_told<A: Told>(&self, seat: &mut Place<S>, task: u32, edge: u32, word: usize) -> u64
+    fn count_told<A: Told>(&self, seat: &mut NoteSeat<S>, task: u32, edge: u32, word: usize) -> u64
         requires table { seat.old.table_id ≡ self.now.table.shared.table_id }
         requires ready { CountsNext (arc_value self.now.net) task edge seat.old.me.0 }
         requires in_range { task < length (arc_value self.now.net).tasks }
-        requires word { word ≡ edges_from (arc_value self.now.net) + length (arc_value self.now.net).edges + task }
+        requires word { word ≡ tokens_from (arc_value self.now.net) + length (arc_value self.now.net).edges + task }
         requires told { A.task ≡ task }
         ensures table { seat.new.table_id ≡ seat.old.table_id }
         ensures view { (seat.new.me.0 ≡ counted_one A.task result seat.old.me.0) × (seat.new.me.1 ≡ seat.old.me.1) }
@@ -322,38 +331,43 @@ impl<S> Words<S> {
     }
 
     /// Counts an edge with a token at its target, and says what the join word was.
-    pub fn count_edge(&self, seat: &mut Place<S>, task: u32, edge: u32) -> u64
+    pub fn count_edge(&self, seat: &mut TableSeat<S>, task: u32, edge: u32) -> u64
         requires table { seat.old.table_id ≡ self.now.table.shared.table_id }
         requires ready { CountsNext (arc_value self.now.net) task edge seat.old.me.0 }
         requires in_range { task < length (arc_value self.now.net).tasks }
         ensures table { seat.new.table_id ≡ seat.old.table_id }
         ensures view { (seat.new.me.0 ≡ counted_one task result seat.old.me.0) × (seat.new.me.1 ≡ seat.old.me.1) }
         ensures last { result ≡ 1 → AreNoneLeft task (others_of seat.old.me.0) }
+        ensures found { seat.new.found ≡ result ∷ seat.old.found }
     {
-        self.count_told::<Brand>(seat, task, edge, self.join_word(task))
+        let found = self.count_told::<Brand>(&mut seat.seat, task, edge, self.join_word(task));
+        seat.add_found(found);
+        found
     }
 
     /// Counts the turn of a release that the seat has just made.
-    pub fn add_turn(&self, seat: &mut Place<S>)
+    pub fn add_turn(&self, seat: &mut TableSeat<S>)
         requires table { seat.old.table_id ≡ self.now.table.shared.table_id }
         requires ready { MayAdd seat.old.me.0 }
         ensures table { seat.new.table_id ≡ seat.old.table_id }
         ensures view { (seat.new.me.0 ≡ added seat.old.me.0) × (seat.new.me.1 ≡ seat.old.me.1) }
+        ensures found { seat.new.found ≡ seat.old.found }
     {
-        self.table.shared.fetch_add::<Adds>(seat, LIVE, 1);
+        self.table.shared.fetch_add::<Adds>(&mut seat.seat, LIVE, 1);
     }
 
     /// Deals a release with its turn to a new seat.
-    pub fn deal(&self, seat: &mut Place<S>) -> Place<S>
+    pub fn deal(&self, seat: &mut TableSeat<S>) -> TableSeat<S>
         requires table { seat.old.table_id ≡ self.now.table.shared.table_id }
         requires ready { MayDeal seat.old.id seat.old.me.0 }
         ensures table { (seat.new.table_id ≡ seat.old.table_id) × (seat.new.id ≡ seat.old.id) × (result.table_id ≡ seat.old.table_id) }
         ensures view { (seat.new.me ≡ (kept_back seat.old.me.0, seat.old.me.1)) × (result.me ≡ (dealt seat.old.me.0, [])) }
+        ensures found { (seat.new.found ≡ seat.old.found) × (result.found ≡ []) }
     {
-        self.table.shared.split_seat::<Deals>(seat)
+        TableSeat::first(self.table.shared.split_seat::<Deals>(&mut seat.seat))
     }
 
-    fn admit_told<A: Told>(&self, seat: &mut Place<S>) -> u64
+    fn admit_told<A: Told>(&self, seat: &mut NoteSeat<S>) -> u64
         requires table { seat.old.table_id ≡ self.now.table.shared.table_id }
         requires ready { MayAdmit seat.old.me.0 }
         requires told { A.limit ≡ self.now.table.shared.key.limit }
@@ -364,13 +378,16 @@ impl<S> Words<S> {
     }
 
     /// Draws an admission, and says how many were drawn before.
-    pub fn draw_admission(&self, seat: &mut Place<S>) -> u64
+    pub fn draw_admission(&self, seat: &mut TableSeat<S>) -> u64
         requires table { seat.old.table_id ≡ self.now.table.shared.table_id }
         requires ready { MayAdmit seat.old.me.0 }
         ensures table { seat.new.table_id ≡ seat.old.table_id }
         ensures view { (seat.new.me.0 ≡ admitted self.now.table.shared.key.limit result seat.old.me.0) × (seat.new.me.1 ≡ seat.old.me.1) }
+        ensures found { seat.new.found ≡ result ∷ seat.old.found }
     {
-        self.admit_told::<Brand>(seat)
+        let found = self.admit_told::<Brand>(&mut seat.seat);
+        seat.add_found(found);
+        found
     }
 
     /// How many starts the table may have.
@@ -380,9 +397,9 @@ impl<S> Words<S> {
         self.limit
     }
 
-    fn start_told<A: Told>(&self, seat: &mut Place<S>) -> u64
+    fn start_told<A: Told>(&self, seat: &mut NoteSeat<S>) -> u64
         requires table { seat.old.table_id ≡ self.now.table.shared.table_id }
-        requires ready { MayStart (arc_value self.now.net) seat.old.me.0 }
+        requires ready { MayDrawStart (arc_value self.now.net) seat.old.me.0 }
         requires told { A.net ≡ arc_value self.now.net }
         ensures table { seat.new.table_id ≡ seat.old.table_id }
         ensures view { (seat.new.me.0 ≡ started A.net result seat.old.me.0) × (seat.new.me.1 ≡ seat.old.me.1) }
@@ -392,17 +409,18 @@ impl<S> Words<S> {
     }
 
     /// Draws the place of a Start.
-    pub fn draw_start(&self, seat: &mut Place<S>) -> u64
+    pub fn draw_start(&self, seat: &mut TableSeat<S>) -> u64
         requires table { seat.old.table_id ≡ self.now.table.shared.table_id }
-        requires ready { MayStart (arc_value self.now.net) seat.old.me.0 }
+        requires ready { MayDrawStart (arc_value self.now.net) seat.old.me.0 }
         ensures table { seat.new.table_id ≡ seat.old.table_id }
         ensures view { (seat.new.me.0 ≡ started (arc_value self.now.net) result seat.old.me.0) × (seat.new.me.1 ≡ seat.old.me.1) }
         ensures net { IsNet (arc_value self.now.net) }
+        ensures found { seat.new.found ≡ seat.old.found }
     {
-        self.start_told::<Brand>(seat)
+        self.start_told::<Brand>(&mut seat.seat)
     }
 
-    fn end_told<A: Told>(&self, seat: &mut Place<S>, _gives: &List<u32>, _inner: bool) -> u64
+    fn end_told<A: Told>(&self, seat: &mut NoteSeat<S>, _gives: &List<u32>, _inner: bool) -> u64
         requires table { seat.old.table_id ≡ self.now.table.shared.table_id }
         requires ready { MayEnd (arc_value self.now.net) A.gives A.inner seat.old.me.0 }
         ensures table { seat.new.table_id ≡ seat.old.table_id }
@@ -412,27 +430,31 @@ impl<S> Words<S> {
     }
 
     /// Draws the place of an End that gives these edges.
-    pub fn draw_end(&self, seat: &mut Place<S>, gives: &List<u32>, inner: bool) -> u64
+    pub fn draw_end(&self, seat: &mut TableSeat<S>, gives: &List<u32>, inner: bool) -> u64
         requires table { seat.old.table_id ≡ self.now.table.shared.table_id }
         requires ready { MayEnd (arc_value self.now.net) gives.now inner seat.old.me.0 }
         ensures table { seat.new.table_id ≡ seat.old.table_id }
         ensures view { (seat.new.me.0 ≡ ended gives.now inner result seat.old.me.0) × (seat.new.me.1 ≡ seat.old.me.1) }
+        ensures found { seat.new.found ≡ seat.old.found }
     {
-        self.end_told::<Brand>(seat, gives, inner)
+        self.end_told::<Brand>(&mut seat.seat, gives, inner)
     }
 
     /// Gives what a seat knows to the keeper's.
-    pub fn take_in(&self, seat: &mut Place<S>, other: Place<S>)
+    pub fn take_in(&self, seat: &mut TableSeat<S>, other: TableSeat<S>)
         requires table { (seat.old.table_id ≡ self.now.table.shared.table_id) × (other.table_id ≡ self.now.table.shared.table_id) }
         requires keeper { seat.old.id ≡ 0 }
         requires home { other.me.1 ≡ [] }
         ensures table { (seat.new.table_id ≡ seat.old.table_id) × (seat.new.id ≡ seat.old.id) }
         ensures view { seat.new.me ≡ (joined seat.old.me.0 other.me.0, seat.old.me.1) }
+        ensures found { seat.new.found ≡ seat.old.found }
     {
-        self.table.shared.join_seat::<TakesIn>(seat, other);
+        self.table
+            .shared
+            .join_seat::<TakesIn>(&mut seat.seat, other.seat);
     }
 
-    fn leave_told<A: Told>(&self, seat: &mut Place<S>) -> u64
+    fn leave_told<A: Told>(&self, seat: &mut NoteSeat<S>) -> u64
         requires table { seat.old.table_id ≡ self.now.table.shared.table_id }
         requires keeper { seat.old.id ≡ 0 }
         requires ready { MayLeave seat.old.me.0 }
@@ -445,19 +467,22 @@ impl<S> Words<S> {
     }
 
     /// Takes a turn off, and says how many there were. After the last the keeper's seat knows a whole run.
-    pub fn leave(&self, seat: &mut Place<S>) -> u64
+    pub fn leave(&self, seat: &mut TableSeat<S>) -> u64
         requires table { seat.old.table_id ≡ self.now.table.shared.table_id }
         requires keeper { seat.old.id ≡ 0 }
         requires ready { MayLeave seat.old.me.0 }
         ensures table { (seat.new.table_id ≡ seat.old.table_id) × (seat.new.id ≡ seat.old.id) }
         ensures view { (seat.new.me.0 ≡ left_by seat.old.me.0) × (seat.new.me.1 ≡ seat.old.me.1) }
         ensures whole { result ≡ 1 → IsWhole (arc_value self.now.net) self.now.table.shared.key.limit seat.new.me.0 }
+        ensures found { seat.new.found ≡ result ∷ seat.old.found }
     {
-        self.leave_told::<Brand>(seat)
+        let found = self.leave_told::<Brand>(&mut seat.seat);
+        seat.add_found(found);
+        found
     }
 
     /// Takes a turn that is done into the keeper's seat, and says how many were live.
-    pub fn settle(&self, seat: &mut Place<S>, spent: Place<S>) -> u64
+    pub fn settle(&self, seat: &mut TableSeat<S>, spent: TableSeat<S>) -> u64
         requires table { (seat.old.table_id ≡ self.now.table.shared.table_id) × (spent.table_id ≡ self.now.table.shared.table_id) }
         requires keeper { seat.old.id ≡ 0 }
         requires home { (seat.old.me.1 ≡ []) × (spent.me.1 ≡ []) }
@@ -465,6 +490,7 @@ impl<S> Words<S> {
         ensures table { (seat.new.table_id ≡ seat.old.table_id) × (seat.new.id ≡ 0) }
         ensures view { (seat.new.me.0 ≡ left_by (joined seat.old.me.0 spent.me.0)) × (seat.new.me.1 ≡ []) }
         ensures all { result ≡ 1 → IsWhole (arc_value self.now.net) self.now.table.shared.key.limit seat.new.me.0 }
+        ensures found { seat.new.found ≡ result ∷ seat.old.found }
     {
         self.take_in(seat, spent);
         self.leave(seat)

@@ -1,10 +1,12 @@
 // The kinds of step on the units of semaphores, each by one seat on one word.
-ghost use Rattle.std.specs.Prelude.{◌≡◌, ◌+◌, ◌<◌, ℕ, length};
+ghost use Rattle.std.specs.Prelude.{◌≡◌, ◌∷◌, ◌+◌, ◌<◌, ℕ, length};
 ghost use Rattle.std.specs.Arc.{arc_value};
 ghost use Rattle.task_graph.specs.NetRows.{NetRows};
 ghost use Rattle.table_steps.specs.inside.UnitKinds.{MayTake, took_unit, MayUndo, undone, MayPut, put_back, MayReturn, returned};
 
-use crate::steps::{FIRST_UNIT, Place, Words};
+use crate::slot_steps::Parcel;
+use crate::steps::{FIRST_UNIT, Words};
+use crate::table_seat::{NoteSeat, TableSeat};
 use crate::view::Note;
 use atomic_table::Play;
 use outside_io::List;
@@ -55,8 +57,8 @@ impl<S, A: Semaphore> Play<S, List<Note>> for Returns<A> {
     ghost then = { λ _ before n after. (after.0 ≡ returned A.sem before.0) × (after.1 ≡ before.1) };
 }
 
-impl<S> Words<S> {
-    fn take_unit_told<A: Semaphore>(&self, seat: &mut Place<S>, sem: u32) -> u64
+impl<S: Parcel> Words<S> {
+    fn take_unit_told<A: Semaphore>(&self, seat: &mut NoteSeat<S>, sem: u32) -> u64
         requires table { seat.old.table_id ≡ self.now.table.shared.table_id }
         requires ready { MayTake (arc_value self.now.net) sem seat.old.me.0 }
         requires in_range { sem < length (arc_value self.now.net).sems }
@@ -70,30 +72,34 @@ impl<S> Words<S> {
     }
 
     /// Takes a unit of a semaphore, and says how many were taken.
-    pub fn draw_unit(&self, seat: &mut Place<S>, sem: u32) -> u64
+    pub fn draw_unit(&self, seat: &mut TableSeat<S>, sem: u32) -> u64
         requires table { seat.old.table_id ≡ self.now.table.shared.table_id }
         requires ready { MayTake (arc_value self.now.net) sem seat.old.me.0 }
         requires in_range { sem < length (arc_value self.now.net).sems }
         ensures table { seat.new.table_id ≡ seat.old.table_id }
         ensures view { (seat.new.me.0 ≡ took_unit (arc_value self.now.net) sem result seat.old.me.0) × (seat.new.me.1 ≡ seat.old.me.1) }
+        ensures found { seat.new.found ≡ result ∷ seat.old.found }
     {
-        self.take_unit_told::<Brand>(seat, sem)
+        let found = self.take_unit_told::<Brand>(&mut seat.seat, sem);
+        seat.add_found(found);
+        found
     }
 
     /// Undoes a take that found no unit.
-    pub fn undo_unit(&self, seat: &mut Place<S>, sem: u32)
+    pub fn undo_unit(&self, seat: &mut TableSeat<S>, sem: u32)
         requires table { seat.old.table_id ≡ self.now.table.shared.table_id }
         requires ready { MayUndo (arc_value self.now.net) sem seat.old.me.0 }
         requires in_range { sem < length (arc_value self.now.net).sems }
         ensures table { seat.new.table_id ≡ seat.old.table_id }
         ensures view { (seat.new.me.0 ≡ undone seat.old.me.0) × (seat.new.me.1 ≡ seat.old.me.1) }
+        ensures found { seat.new.found ≡ seat.old.found }
     {
         self.table
             .shared
-            .fetch_sub::<Undoes>(seat, FIRST_UNIT + sem as usize, 1);
+            .fetch_sub::<Undoes>(&mut seat.seat, FIRST_UNIT + sem as usize, 1);
     }
 
-    fn put_unit_told<A: Semaphore>(&self, seat: &mut Place<S>, sem: u32)
+    fn put_unit_told<A: Semaphore>(&self, seat: &mut NoteSeat<S>, sem: u32)
         requires table { seat.old.table_id ≡ self.now.table.shared.table_id }
         requires ready { MayPut (arc_value self.now.net) sem seat.old.me.0 }
         requires in_range { sem < length (arc_value self.now.net).sems }
@@ -107,17 +113,18 @@ impl<S> Words<S> {
     }
 
     /// Puts a unit back that a turn holds.
-    pub fn put_unit_back(&self, seat: &mut Place<S>, sem: u32)
+    pub fn put_unit_back(&self, seat: &mut TableSeat<S>, sem: u32)
         requires table { seat.old.table_id ≡ self.now.table.shared.table_id }
         requires ready { MayPut (arc_value self.now.net) sem seat.old.me.0 }
         requires in_range { sem < length (arc_value self.now.net).sems }
         ensures table { seat.new.table_id ≡ seat.old.table_id }
         ensures view { (seat.new.me.0 ≡ put_back sem seat.old.me.0) × (seat.new.me.1 ≡ seat.old.me.1) }
+        ensures found { seat.new.found ≡ seat.old.found }
     {
-        self.put_unit_told::<Brand>(seat, sem)
+        self.put_unit_told::<Brand>(&mut seat.seat, sem)
     }
 
-    fn return_told<A: Semaphore>(&self, seat: &mut Place<S>, sem: u32)
+    fn return_told<A: Semaphore>(&self, seat: &mut NoteSeat<S>, sem: u32)
         requires table { seat.old.table_id ≡ self.now.table.shared.table_id }
         requires ready { MayReturn (arc_value self.now.net) sem seat.old.me.0 }
         requires in_range { sem < length (arc_value self.now.net).sems }
@@ -131,13 +138,14 @@ impl<S> Words<S> {
     }
 
     /// Gives a unit back that an end owes.
-    pub fn give_unit_back(&self, seat: &mut Place<S>, sem: u32)
+    pub fn give_unit_back(&self, seat: &mut TableSeat<S>, sem: u32)
         requires table { seat.old.table_id ≡ self.now.table.shared.table_id }
         requires ready { MayReturn (arc_value self.now.net) sem seat.old.me.0 }
         requires in_range { sem < length (arc_value self.now.net).sems }
         ensures table { seat.new.table_id ≡ seat.old.table_id }
         ensures view { (seat.new.me.0 ≡ returned sem seat.old.me.0) × (seat.new.me.1 ≡ seat.old.me.1) }
+        ensures found { seat.new.found ≡ seat.old.found }
     {
-        self.return_told::<Brand>(seat, sem)
+        self.return_told::<Brand>(&mut seat.seat, sem)
     }
 }

@@ -1,6 +1,7 @@
 // What the seats of a table know, and its rule.
 ghost use Rattle.std.specs.Arc.{arc_value};
 
+use crate::slot_steps::Parcel;
 use atomic_table::TableRule;
 use journal_rules::{Cause, Entry, Part};
 use outside_io::List;
@@ -115,10 +116,10 @@ pub struct LimitedNet {
 /// The accounts hold between any two steps.
 pub struct AccountsHold;
 
-impl<S> TableRule<S, List<Note>, LimitedNet> for AccountsHold {
+impl<S: Parcel> TableRule<S, List<Note>, LimitedNet> for AccountsHold {
     ghost use Rattle.table_steps.specs.inside.Accounts.{KeepsAccounts, opening_notes};
 
-    ghost holds = { λ limited. KeepsAccounts (arc_value limited.net) limited.limit };
+    ghost holds = { λ limited. KeepsAccounts S.part (arc_value limited.net) limited.limit };
 
     ghost first = { λ limited. opening_notes (arc_value limited.net) limited.limit };
 }

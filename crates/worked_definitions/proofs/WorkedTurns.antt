@@ -1,5 +1,5 @@
 -- The units that turns of a table hold, what becomes of releases, how a table begins, and when a keeper tells a whole run.
-use Rattle.std.proofs.Common.{◌≡◌, ℕ, zero, suc, ◌+◌, ◌<◌, Bool, true, false, List, [], ◌∷◌, Some, None, refl, ap, sym, subst, ◌∙◌, inl, arith}
+use Rattle.std.proofs.Common.{◌≡◌, ℕ, zero, suc, ◌+◌, ◌<◌, Bool, true, false, List, [], ◌∷◌, length, Some, None, refl, ap, sym, subst, ◌∙◌, inl, arith}
 use Rattle.std.specs.Prelude.{◌==◌, ◌||◌, ◌&&◌, not, count_by, All}
 use Rattle.std.proofs.lemmas.Bool.Decides.{nat_tests}
 use Rattle.std.specs.declared.result.Result.TheVariants.{Ok, Err}
@@ -12,7 +12,9 @@ use Rattle.journal_rules.specs.declared.entry.Why.TheVariants.{Long, Wide, Unmet
 use Rattle.journal_rules.specs.declared.entry.DropWhy.TheVariants.{Limit, Halted}
 use Rattle.journal_rules.specs.declared.entry.Entry.{Entry}
 use Rattle.journal_rules.specs.declared.entry.Entry.TheVariants.{Start, End, Fault, Drop}
-use Rattle.journal_rules.specs.ShapeLegal.{MayFollow}
+use Rattle.journal_rules.specs.declared.entry.Part.{Part}
+use Rattle.journal_rules.specs.declared.entry.Part.TheVariants.{From, First}
+use Rattle.journal_rules.specs.ShapeLegal.{MayFollow, MeetsDataRule}
 use Rattle.journal_rules.specs.SemaphoreRule.{takes}
 use Rattle.journal_rules.specs.Complete.{Complete}
 use Rattle.join_tables.specs.declared.turns.UnitTake.TheVariants.{Got, NoUnit}
@@ -23,15 +25,17 @@ use Rattle.join_tables.specs.declared.fates.Fate.TheVariants.{Ended, Faulted, Dr
 use Rattle.join_tables.specs.declared.opening.Opening.{Opening}
 use Rattle.join_tables.specs.declared.keeper.Remaining.TheVariants.{More as TurnsLeft, All as NoneLeft}
 use Rattle.join_tables.specs.declared.keeper.Recorded.{Recorded}
+use Rattle.join_tables.specs.Parts.{part_list}
 use Rattle.join_tables.specs.States.{TableState, FreshState, TurnState, fresh_state, turn_state, turn_with, running_state, StartUnits, RunningState}
 use Rattle.table_steps.specs.Giving.{one_if}
-use Rattle.table_steps.specs.Holding.{HoldsAll, PutsEach, PutsBack, TakesAlone, PutsAlone, PutsAll, without}
-use Rattle.table_steps.specs.Credits.{first_credit, AllowsOver}
+use Rattle.table_steps.specs.Holding.{HoldsEachUnit, PutsEach, PutsBack, TakesAlone, PutsAlone, PutsAll, without}
+use Rattle.table_steps.specs.Credits.{AllowsOver}
 use Rattle.join_tables.specs.Units.{TakesUnit}
 use Rattle.table_steps.specs.Reasons.{MayTell}
 use Rattle.join_tables.specs.Claims.{BeginsUnits, HasCredited, HasClaimed, HasAllUnits, credit_one, grant_one, refuse_one, with_units, ClaimsUnit}
 use Rattle.join_tables.specs.declared.turns.Claim.TheVariants.{Granted, Refused}
-use Rattle.join_tables.specs.Fates.{FaultsAs, DropsAs}
+use Rattle.join_tables.specs.Fates.{FaultedAs, DroppedAs}
+use Rattle.join_tables.specs.Turns.{EndedAs}
 use Rattle.join_tables.specs.Openings.{OpensTable}
 use Rattle.join_tables.specs.Keeping.{KeeperState, keeper_state, entries_of, Merges, TellsRun, TellsSomeRun, IsLast}
 
@@ -53,22 +57,22 @@ none_past_them false false not_first not_second = refl
 none_past_them true second not_first not_second = absurd (cc)
 none_past_them false true not_first not_second = absurd (cc)
 
-one_of_each : HoldsAll net 0 (2 ∷ 0 ∷ [])
+one_of_each : HoldsEachUnit net 0 (2 ∷ 0 ∷ [])
 one_of_each zero = refl
 one_of_each (suc zero) = refl
 one_of_each (suc (suc zero)) = refl
 one_of_each (suc (suc (suc s))) = none_past_them (0 == suc (suc (suc s))) (2 == suc (suc (suc s))) (grind (arith, nat_tests)) (grind (arith, nat_tests))
 
-none_needed : HoldsAll net 1 []
+none_needed : HoldsEachUnit net 1 []
 none_needed s = refl
 
-second_is_missing : ¬ HoldsAll net 0 (0 ∷ [])
+second_is_missing : ¬ HoldsEachUnit net 0 (0 ∷ [])
 second_is_missing holds = absurd (omega (arith, holds 2))
 
-first_held_twice : ¬ HoldsAll net 0 (0 ∷ 2 ∷ 0 ∷ [])
+first_held_twice : ¬ HoldsEachUnit net 0 (0 ∷ 2 ∷ 0 ∷ [])
 first_held_twice holds = absurd (omega (arith, holds 0))
 
-another_held_besides : ¬ HoldsAll net 0 (2 ∷ 1 ∷ 0 ∷ [])
+another_held_besides : ¬ HoldsEachUnit net 0 (2 ∷ 1 ∷ 0 ∷ [])
 another_held_besides holds = absurd (omega (arith, holds 1))
 
 puts_what_it_takes : PutsAll net 0
@@ -123,29 +127,32 @@ no_unit_to_leave : without 1 (2 ∷ 0 ∷ []) ≡ 2 ∷ 0 ∷ []
 no_unit_to_leave = refl
 
 module _ (t u : TurnState) where
-  last_unit_is_taken : TakesUnit net t 0 (Got (turn_with t.table t.task t.cause None (0 ∷ t.held) None (Some 1)))
-  last_unit_is_taken = (refl, omega arith)
+  last_unit_is_taken : TakesUnit net t 0 (Got (turn_with t.table t.task t.cause None (0 ∷ t.held) (1 ∷ t.found)))
+  last_unit_is_taken = (refl, (refl, omega arith))
 
-  no_third_unit : ¬ TakesUnit net t 0 (Got (turn_with t.table t.task t.cause None (0 ∷ t.held) None (Some 2)))
-  no_third_unit takes = absurd (omega (arith, takes.1))
+  no_third_unit : ¬ TakesUnit net t 0 (Got (turn_with t.table t.task t.cause None (0 ∷ t.held) (2 ∷ t.found)))
+  no_third_unit takes = absurd (omega (arith, takes.1.1))
 
   taken_unit_is_held : TakesUnit net t 0 (Got u) → (u.held ≡ 0 ∷ t.held) × (u.task ≡ t.task) × (u.refused ≡ None)
   taken_unit_is_held takes = (ap (λ (s : TurnState). s.held) takes.0, ap (λ (s : TurnState). s.task) takes.0, ap (λ (s : TurnState). s.refused) takes.0)
 
-  no_unit_from_the_maximum_on : TakesUnit net t 0 (NoUnit (turn_with t.table t.task t.cause None t.held None (Some 2)))
-  no_unit_from_the_maximum_on = (refl, omega arith)
+  no_unit_from_the_maximum_on : TakesUnit net t 0 (NoUnit (turn_with t.table t.task t.cause None t.held (2 ∷ t.found)))
+  no_unit_from_the_maximum_on = (refl, (refl, omega arith))
 
-  no_refusal_while_one_is_left : ¬ TakesUnit net t 0 (NoUnit (turn_with t.table t.task t.cause None t.held None (Some 1)))
-  no_refusal_while_one_is_left takes = absurd (omega (arith, takes.1))
+  no_refusal_while_one_is_left : ¬ TakesUnit net t 0 (NoUnit (turn_with t.table t.task t.cause None t.held (1 ∷ t.found)))
+  no_refusal_while_one_is_left takes = absurd (omega (arith, takes.1.1))
 
   refusal_takes_none : TakesUnit net t 0 (NoUnit u) → u.held ≡ t.held
   refusal_takes_none takes = ap (λ (s : TurnState). s.held) takes.0
 
-  other_semaphore_has_one : ¬ TakesUnit net t 1 (Got (turn_with t.table t.task t.cause None (1 ∷ t.held) None (Some 1)))
-  other_semaphore_has_one takes = absurd (omega (arith, takes.1))
+  other_semaphore_has_one : ¬ TakesUnit net t 1 (Got (turn_with t.table t.task t.cause None (1 ∷ t.held) (1 ∷ t.found)))
+  other_semaphore_has_one takes = absurd (omega (arith, takes.1.1))
 
-  found_some_number : ¬ TakesUnit net t 0 (Got (turn_with t.table t.task t.cause None (0 ∷ t.held) None None))
+  found_some_number : ¬ TakesUnit net t 0 (Got (turn_with t.table t.task t.cause None (0 ∷ t.held) []))
   found_some_number takes = takes.1
+
+  no_refusal_without_a_step : t.found ≡ 5 ∷ [] → ¬ TakesUnit net t 0 (NoUnit (turn_with t.table t.task t.cause None t.held (5 ∷ [])))
+  no_refusal_without_a_step before takes = absurd (omega (arith, ap length (takes.1.0 ∙ before)))
 
 -- CREDITS AND CLAIMS. The start of task 2 has a unit to credit, and that of task 3 one to claim.
 abbrev lender : StartUnits
@@ -199,11 +206,11 @@ lender_has_not : (held : List ℕ) → ¬ HasAllUnits net 2 held lender
 lender_has_not held units = credits_first units.credited
 
 module _ (r q : RunningState) where
-  granted_above_the_first : ClaimsUnit net 9 r 0 (Granted (running_state r.table r.task r.cause r.place (grant_one 0 r.units) (Some 1099511627777)))
-  granted_above_the_first = (refl, omega arith)
+  granted_above_the_first : ClaimsUnit net 9 r 0 (Granted (running_state r.table r.task r.cause r.place r.ins (grant_one 0 r.units) (1099511627777 ∷ r.found)))
+  granted_above_the_first = (refl, (refl, omega arith))
 
-  none_granted_at_the_first : ¬ ClaimsUnit net 9 r 0 (Granted (running_state r.table r.task r.cause r.place (grant_one 0 r.units) (Some 1099511627776)))
-  none_granted_at_the_first claims = absurd (omega (arith, claims.1))
+  none_granted_at_the_first : ¬ ClaimsUnit net 9 r 0 (Granted (running_state r.table r.task r.cause r.place r.ins (grant_one 0 r.units) (1099511627776 ∷ r.found)))
+  none_granted_at_the_first claims = absurd (omega (arith, claims.1.1))
 
   granted_is_put_back : ClaimsUnit net 9 r 0 (Granted q) → q.units ≡ grant_one 0 r.units
   granted_is_put_back claims = ap (λ (s : RunningState). s.units) claims.0
@@ -211,8 +218,8 @@ module _ (r q : RunningState) where
   refused_is_not_put_back : ClaimsUnit net 9 r 0 (Refused q) → q ≡ with_units r (refuse_one 0 r.units) q
   refused_is_not_put_back claims = claims.0
 
-  none_refused_above_the_first : ¬ ClaimsUnit net 9 r 0 (Refused (running_state r.table r.task r.cause r.place (refuse_one 0 r.units) (Some 1099511627777)))
-  none_refused_above_the_first claims = absurd (omega (arith, claims.1))
+  none_refused_above_the_first : ¬ ClaimsUnit net 9 r 0 (Refused (running_state r.table r.task r.cause r.place r.ins (refuse_one 0 r.units) (1099511627777 ∷ r.found)))
+  none_refused_above_the_first claims = absurd (omega (arith, claims.1.1))
 
   refused_allows_it : ClaimsUnit net 9 r 0 (Refused q) → AllowsOver net 9 0 r.place r.task
   refused_allows_it claims = claims.2
@@ -233,58 +240,89 @@ unit_that_was_not_refused may = let no : None ≡ Some 0 = may in absurd (cc)
 another_unit_was_refused : ¬ MayTell (OverRelease 0) (Some 1)
 another_unit_was_refused may = let no : Some 1 ≡ Some 0 = may in absurd (cc)
 
+-- a start that found the token of its one edge
+abbrev found : List Part
+found = First ∷ []
+
 abbrev failure : Failure
-failure = record { task = 3; cause = Strong; start = 4; place = 6; why = Inner }
+failure = record { task = 3; cause = Strong; start = 4; ins = part_list found 1; place = 6; why = Inner }
 
 abbrev dropping : Dropping
 dropping = record { task = 3; cause = Strong; place = 6; why = Limit }
 
 abbrev ending : EndedStart
-ending = record { task = 3; cause = Strong; start = 4; place = 6; gives = []; inner = false }
+ending = record { task = 3; cause = Strong; start = 4; ins = part_list found 1; place = 6; gives = []; inner = false }
 
 module _ (n : TableId) (u : StartUnits) where
-  its_start_faulted : FaultsAs (running_state n 3 Strong 4 u None) Inner (Faulted failure)
-  its_start_faulted = (refl, refl, refl, refl)
+  its_start_faulted : FaultedAs (running_state n 3 Strong 4 found u []) Inner (Faulted failure)
+  its_start_faulted = (refl, refl, refl, refl, refl)
 
-  another_task_faulted : ¬ FaultsAs (running_state n 2 Strong 4 u None) Inner (Faulted failure)
+  another_task_faulted : ¬ FaultedAs (running_state n 2 Strong 4 found u []) Inner (Faulted failure)
   another_task_faulted faults = absurd (omega (arith, faults.0))
 
-  another_cause_faulted : ¬ FaultsAs (running_state n 3 Source 4 u None) Inner (Faulted failure)
+  another_cause_faulted : ¬ FaultedAs (running_state n 3 Source 4 found u []) Inner (Faulted failure)
   another_cause_faulted faults = let no : Strong ≡ Source = faults.1 in absurd (cc)
 
-  another_start_faulted : ¬ FaultsAs (running_state n 3 Strong 5 u None) Inner (Faulted failure)
+  another_start_faulted : ¬ FaultedAs (running_state n 3 Strong 5 found u []) Inner (Faulted failure)
   another_start_faulted faults = absurd (omega (arith, faults.2))
 
-  fault_of_another_reason : ¬ FaultsAs (running_state n 3 Strong 4 u None) (Long 9) (Faulted failure)
-  fault_of_another_reason faults = let no : Inner ≡ Long 9 = faults.3 in absurd (cc)
+  fault_with_another_input : ¬ FaultedAs (running_state n 3 Strong 4 (From 2 ∷ []) u []) Inner (Faulted failure)
+  fault_with_another_input faults = let no : First ∷ [] ≡ From 2 ∷ [] = faults.3 in absurd (cc)
 
-  end_is_no_fault : ¬ FaultsAs (running_state n 3 Strong 4 u None) Inner (Ended ending)
+  fault_of_another_reason : ¬ FaultedAs (running_state n 3 Strong 4 found u []) (Long 9) (Faulted failure)
+  fault_of_another_reason faults = let no : Inner ≡ Long 9 = faults.4 in absurd (cc)
+
+  its_start_ended : EndedAs (running_state n 3 Strong 4 found u []) [] false ending
+  its_start_ended = (refl, refl, refl, refl, refl, refl)
+
+  another_task_ended : ¬ EndedAs (running_state n 2 Strong 4 found u []) [] false ending
+  another_task_ended ends = absurd (omega (arith, ends.0))
+
+  another_cause_ended : ¬ EndedAs (running_state n 3 Source 4 found u []) [] false ending
+  another_cause_ended ends = let no : Strong ≡ Source = ends.1 in absurd (cc)
+
+  another_start_ended : ¬ EndedAs (running_state n 3 Strong 5 found u []) [] false ending
+  another_start_ended ends = absurd (omega (arith, ends.2))
+
+  end_with_another_input : ¬ EndedAs (running_state n 3 Strong 4 (From 2 ∷ []) u []) [] false ending
+  end_with_another_input ends = let no : First ∷ [] ≡ From 2 ∷ [] = ends.3 in absurd (cc)
+
+  end_of_other_edges : ¬ EndedAs (running_state n 3 Strong 4 found u []) (0 ∷ []) false ending
+  end_of_other_edges ends = let no : [] ≡ 0 ∷ [] = ends.4 in absurd (cc)
+
+  end_without_its_inner_run : ¬ EndedAs (running_state n 3 Strong 4 found u []) [] true ending
+  end_without_its_inner_run ends = let no : false ≡ true = ends.5 in absurd (cc)
+
+  end_is_no_fault : ¬ FaultedAs (running_state n 3 Strong 4 found u []) Inner (Ended ending)
   end_is_no_fault faults = faults
 
-  drop_is_no_fault : ¬ FaultsAs (running_state n 3 Strong 4 u None) Inner (Dropped dropping)
+  drop_is_no_fault : ¬ FaultedAs (running_state n 3 Strong 4 found u []) Inner (Dropped dropping)
   drop_is_no_fault faults = faults
 
-  it_was_dropped : DropsAs (turn_state n 3 Strong None) Limit (Dropped dropping)
+  it_was_dropped : DroppedAs (turn_state n 3 Strong []) Limit (Dropped dropping)
   it_was_dropped = (refl, refl, refl)
 
-  another_task_dropped : ¬ DropsAs (turn_state n 2 Strong None) Limit (Dropped dropping)
+  another_task_dropped : ¬ DroppedAs (turn_state n 2 Strong []) Limit (Dropped dropping)
   another_task_dropped drops = absurd (omega (arith, drops.0))
 
-  another_cause_dropped : ¬ DropsAs (turn_state n 3 Source None) Limit (Dropped dropping)
+  another_cause_dropped : ¬ DroppedAs (turn_state n 3 Source []) Limit (Dropped dropping)
   another_cause_dropped drops = let no : Strong ≡ Source = drops.1 in absurd (cc)
 
-  drop_for_another_reason : ¬ DropsAs (turn_state n 3 Strong None) Halted (Dropped dropping)
+  drop_for_another_reason : ¬ DroppedAs (turn_state n 3 Strong []) Halted (Dropped dropping)
   drop_for_another_reason drops = let no : Limit ≡ Halted = drops.2 in absurd (cc)
 
-  end_is_no_drop : ¬ DropsAs (turn_state n 3 Strong None) Limit (Ended ending)
+  end_is_no_drop : ¬ DroppedAs (turn_state n 3 Strong []) Limit (Ended ending)
   end_is_no_drop drops = drops
 
-  fault_is_no_drop : ¬ DropsAs (turn_state n 3 Strong None) Limit (Faulted failure)
+  fault_is_no_drop : ¬ DroppedAs (turn_state n 3 Strong []) Limit (Faulted failure)
   fault_is_no_drop drops = drops
 
 -- WHAT A KEEPER TELLS
-start_and_fault : entries_of (Faulted failure) ≡ record { place = 4; entry = Start 3 Strong [] } ∷ record { place = 6; entry = Fault 4 Inner } ∷ []
+start_and_fault : entries_of (Faulted failure) ≡ record { place = 4; entry = Start 3 Strong (First ∷ []) } ∷ record { place = 6; entry = Fault 4 Inner } ∷ []
 start_and_fault = refl
+
+start_with_its_input : entries_of (Ended ending) ≡ record { place = 4; entry = Start 3 Strong (First ∷ []) } ∷ record { place = 6; entry = End 4 [] false } ∷ []
+start_with_its_input = refl
 
 drop_alone : entries_of (Dropped dropping) ≡ record { place = 6; entry = Drop 3 Strong Limit } ∷ []
 drop_alone = refl
@@ -302,7 +340,7 @@ abbrev one_task : NetRows
 one_task = record { tasks = needs [] [] ∷ []; edges = []; sems = [] }
 
 abbrev ended : EndedStart
-ended = record { task = 0; cause = Source; start = 0; place = 1; gives = []; inner = false }
+ended = record { task = 0; cause = Source; start = 0; ins = part_list [] 0; place = 1; gives = []; inner = false }
 
 abbrev journal : List Entry
 journal = Start 0 Source [] ∷ End 0 [] false ∷ []
@@ -340,6 +378,7 @@ whole_run = record {
   journal = journal;
   merges = each_place_once;
   legal = (may_start, (may_end, tt));
+  meets = (tt, (tt, tt));
   complete = record { none_open = (refl, (refl, tt)); sources = (λ is. refl, tt); weak = tt; strong = (λ some. absurd (some refl), tt); limited = λ some. absurd (some refl) };
 }
 
@@ -361,7 +400,11 @@ no_run_with_a_gap some = gap some.tells.journal some.tells.merges
     gap [] merges = let no : None ≡ Some (Drop 3 Strong Limit) = merges.stand.0 in absurd (cc)
     gap (entry ∷ more) merges = absurd (omega (arith, merges.each 0 (omega arith)))
 
-keeper_without_entries : (n : TableId) (k : KeeperState) → k ≡ keeper_state n [] None → (k.table ≡ n) × (k.entries ≡ []) × (k.found ≡ None)
+-- nor has one whose start found more than its edges
+no_run_with_an_input_of_no_edge : (told : List Entry) → told ≡ Start 0 Source (First ∷ []) ∷ [] → ¬ MeetsDataRule one_task told
+no_run_with_an_input_of_no_edge told is meets = let first : MeetsDataRule one_task (Start 0 Source (First ∷ []) ∷ []) = subst (λ j. MeetsDataRule one_task j) is meets in first.0
+
+keeper_without_entries : (n : TableId) (k : KeeperState) → k ≡ keeper_state n [] [] → (k.table ≡ n) × (k.entries ≡ []) × (k.found ≡ [])
 keeper_without_entries n k is = (ap (λ (s : KeeperState). s.table) is, ap (λ (s : KeeperState). s.entries) is, ap (λ (s : KeeperState). s.found) is)
 
 -- HOW A TABLE BEGINS
@@ -385,10 +428,10 @@ module _ (o : Opening) where
   no_opening_at_another_limit : o.table.limit ≡ 4 → ¬ OpensTable one_task 5 o
   no_opening_at_another_limit four opens = absurd (omega (arith, four, opens.limit_is))
 
-  keeper_has_nothing_at_first : OpensTable one_task 5 o → o.keeper ≡ keeper_state o.table.table [] None
+  keeper_has_nothing_at_first : OpensTable one_task 5 o → o.keeper ≡ keeper_state o.table.table [] []
   keeper_has_nothing_at_first opens = opens.keeper
 
-  opens_with_its_parts : o.table.net ≡ one_task → o.table.limit ≡ 5 → o.fresh.items ≡ fresh_state o.table.table 0 Source ∷ [] → o.keeper ≡ keeper_state o.table.table [] None
+  opens_with_its_parts : o.table.net ≡ one_task → o.table.limit ≡ 5 → o.fresh.items ≡ fresh_state o.table.table 0 Source ∷ [] → o.keeper ≡ keeper_state o.table.table [] []
       → OpensTable one_task 5 o
   opens_with_its_parts net_is limit_is fresh keeper = record {
     net_is = net_is;

@@ -1,10 +1,11 @@
 -- The releases with which a run begins, and the words of its table.
-use Rattle.std.specs.Prelude.{◌≡◌, ◌<◌, ◌≤◌, ◌-◌, ◌+◌, ◌==◌, ℕ, zero, suc, Bool, true, false, nat_lt, List, [], ◌∷◌, ◌++◌, length, slice_index, map, if◌then◌else◌}
+use Rattle.std.specs.Prelude.{◌≡◌, ◌<◌, ◌≤◌, ◌-◌, ◌+◌, ◌==◌, ℕ, zero, suc, Bool, true, false, nat_lt, List, [], ◌∷◌, ◌++◌, length, slice_index, slice_get, Some, map, if◌then◌else◌}
 use Rattle.task_graph.specs.NetRows.{NetRows}
 use Rattle.task_graph.specs.Net.{IsNet, in_edges, strong_in}
 use Rattle.journal_rules.specs.Counts.{first_tokens}
 use Rattle.atomic_table.specs.Seated.{TableId}
 use Rattle.journal_rules.specs.declared.entry.Cause.{Cause}
+use Rattle.journal_rules.specs.declared.entry.Part.{Part}
 use Rattle.join_tables.specs.declared.releases.FirstRelease.{FirstRelease}
 use Rattle.join_tables.specs.States.{FreshState, fresh_state}
 use Rattle.table_steps.specs.declared.view.SeatMark.TheVariants.{Live}
@@ -12,9 +13,9 @@ use Rattle.table_steps.specs.declared.view.Note.{Note}
 use Rattle.table_steps.specs.declared.view.Note.TheVariants.{Duty, Has}
 use Rattle.table_steps.specs.declared.view.TurnDuty.{TurnDuty}
 use Rattle.table_steps.specs.declared.view.TurnDuty.TheVariants.{Fresh}
-use Rattle.table_steps.specs.inside.Opening.{bare, is_empty, source_duties, full_duties}
+use Rattle.table_steps.specs.inside.Opening.{bare, is_empty, source_duties, full_duties, first_part}
 use Rattle.journal_rules.specs.SemaphoreRule.{max_of}
-use Rattle.table_steps.specs.inside.Accounts.{mark, busy, resting, weigh, marks_from, edges_from}
+use Rattle.table_steps.specs.inside.Accounts.{mark, busy, resting, weigh, marks_from, tokens_from}
 use Rattle.table_steps.specs.Credits.{first_credit}
 
 -- whether a task has strong in-edges, and all of them begin with a token
@@ -50,16 +51,21 @@ opening_word net live k =
     if nat_lt k 40 then (if k == 16 then live else 0)
     else if nat_lt k (40 + length net.sems) then 0
     else if nat_lt k (marks_from net) then first_credit
-    else if nat_lt k (edges_from net) then 0
-    else if nat_lt (k - edges_from net) (length net.edges) then first_tokens net (k - edges_from net)
-    else bare net (strong_in net (k - edges_from net - length net.edges))
+    else if nat_lt k (tokens_from net) then 0
+    else if nat_lt (k - tokens_from net) (length net.edges) then first_tokens net (k - tokens_from net)
+    else bare net (strong_in net (k - tokens_from net - length net.edges))
 
 -- the words at first
 pub record AreOpeningWords (net : NetRows) (live : ℕ) (words : List ℕ) : Type 0 where
   pub rows : IsNet net
   pub maxima : (s : ℕ) → max_of net s ≤ 4294967295
-  pub size : length words ≡ edges_from net + length net.edges + length net.tasks
+  pub size : length words ≡ tokens_from net + length net.edges + length net.tasks
   pub each : (k : ℕ) → k < length words → slice_index words k ≡ opening_word net live k
+
+-- what lies in the slots at first
+pub record AreFirstParcels (net : NetRows) (parcels : List Part) : Type 0 where
+  pub count : length parcels ≡ length net.edges
+  pub each : (e : ℕ) → e < length parcels → slice_get parcels e ≡ Some (first_part net e)
 
 -- the keeper's seat has a release to deal out next
 abbrev pub DealsFirst : ℕ → Cause → List Note → Type 0

@@ -1,5 +1,5 @@
 -- What the seat of each turn knows.
-use Rattle.std.specs.Prelude.{◌≡◌, ℕ, List, [], ◌∷◌, ◌++◌, Option, Some, None}
+use Rattle.std.specs.Prelude.{◌≡◌, ◌≤◌, ℕ, List, [], ◌∷◌, ◌++◌, Option, Some, None}
 use Rattle.journal_rules.specs.declared.entry.Cause.{Cause}
 use Rattle.journal_rules.specs.declared.entry.DropWhy.{DropWhy}
 use Rattle.journal_rules.specs.declared.entry.DropWhy.TheVariants.{Limit, Halted as AfterFault}
@@ -17,13 +17,19 @@ use Rattle.join_tables.specs.States.{StartUnits}
 use Rattle.table_steps.specs.inside.Accounts.{busy, weigh}
 use Rattle.table_steps.specs.inside.UnitKinds.{held_notes}
 use Rattle.join_tables.specs.inside.Recording.{tellings, told_notes}
+use Rattle.journal_rules.specs.declared.entry.Part.{Part}
+use Rattle.journal_rules.specs.declared.entry.Part.TheVariants.{From}
+use Rattle.table_steps.specs.declared.view.Lot.TheVariants.{Ours, Putting, Put}
+use Rattle.table_steps.specs.inside.Slots.{lot, slot_weigh, awaited_lots, found_lots, our_lots, unlot}
+use Rattle.table_steps.specs.inside.SlotKinds.{lot_part}
 use Rattle.join_tables.specs.Keeping.{entries_of}
 
 abbrev pub fresh_view : ℕ → Cause → List Note
 fresh_view t cause = Duty (Fresh t cause) ∷ Has Live ∷ []
 
-abbrev pub collecting_view : ℕ → Cause → List ℕ → List ℕ → List Note
-collecting_view t cause taken left = Duty (Collecting t cause taken left) ∷ Has Live ∷ []
+-- a release that has collected from the first edges, with the parts that it found there
+abbrev pub collecting_view : ℕ → Cause → List ℕ → List Part → List ℕ → List Note
+collecting_view t cause taken parts left = Duty (Collecting t cause taken left) ∷ Has Live ∷ Sems Held [] ∷ found_lots taken parts ++ awaited_lots left
 
 -- the edges of which a view has collected tokens, and those of which it has not
 abbrev pub taken_in : List Note → List ℕ
@@ -40,8 +46,8 @@ refusal_notes (Some Limit) = Has Over ∷ []
 refusal_notes (Some AfterFault) = Has Live ∷ Has Halted ∷ []
 refusal_notes _ = Has Live ∷ []
 
-abbrev pub turn_view : ℕ → Cause → List ℕ → Option DropWhy → List ℕ → List Note
-turn_view t cause taken refused held = Duty (Collecting t cause taken []) ∷ refusal_notes refused ++ held_notes held
+abbrev pub turn_view : ℕ → Cause → List ℕ → List Part → Option DropWhy → List ℕ → List Note
+turn_view t cause taken parts refused held = Duty (Collecting t cause taken []) ∷ refusal_notes refused ++ held_notes held ++ found_lots taken parts
 
 -- why a turn was refused
 abbrev pub refusal_of : List Note → Option DropWhy
@@ -61,8 +67,8 @@ held_of (x ∷ Has Live ∷ rest) = first_held rest
 held_of (x ∷ y ∷ Has Live ∷ rest) = first_held rest
 held_of _ = []
 
-abbrev pub ticket_view : ℕ → Cause → List ℕ → List ℕ → List Note
-ticket_view t cause taken held = Duty (Collecting t cause taken []) ∷ Duty Ticket ∷ Has Live ∷ held_notes held
+abbrev pub ticket_view : ℕ → Cause → List ℕ → List Part → List ℕ → List Note
+ticket_view t cause taken parts held = Duty (Collecting t cause taken []) ∷ Duty Ticket ∷ Has Live ∷ held_notes held ++ found_lots taken parts
 
 -- the semaphores of a start, by their notes
 pub record Shares : Type 0 where
@@ -78,8 +84,8 @@ abbrev pub refused_notes : ℕ → ℕ → Option ℕ → List Note
 refused_notes place t None = []
 refused_notes place t (Some a) = Sems Denied (a ∷ []) ∷ Unfit a place t ∷ []
 
-abbrev pub running_view : ℕ → Cause → ℕ → Shares → List Note
-running_view t cause place s = Duty (Open place t) ∷ Has Live ∷ sems_notes s.both s.credit s.credited s.claim s.granted ++ refused_notes place t s.refused ++ Duty (Told place (Start t cause [])) ∷ []
+abbrev pub running_view : ℕ → Cause → ℕ → List Part → Shares → List Note
+running_view t cause place ins s = Duty (Open place t) ∷ Has Live ∷ sems_notes s.both s.credit s.credited s.claim s.granted ++ refused_notes place t s.refused ++ Duty (Told place (Start t cause ins)) ∷ []
 
 abbrev pub refused_of : List Note → Option ℕ
 refused_of (Sems Denied (a ∷ l) ∷ rest) = Some a
@@ -103,22 +109,38 @@ units_of (x ∷ y ∷ Sems Owed l ∷ rest) = l
 units_of _ = []
 
 abbrev pub owing_view : EndedStart → List ℕ → List ℕ → List Note
-owing_view ended left units = Duty (Owes left) ∷ Has Live ∷ Sems Owed units ∷ Duty (Told ended.place (End ended.start ended.gives ended.inner)) ∷ Duty (Told ended.start (Start ended.task ended.cause [])) ∷ []
+owing_view ended left units = Duty (Owes left) ∷ Has Live ∷ Sems Owed units ∷ Duty (Told ended.place (End ended.start ended.gives ended.inner)) ∷ our_lots ended.place left ++ Duty (Told ended.start (Start ended.task ended.cause ended.ins.parts)) ∷ []
 
 -- one that is done owes nothing, and knows the entries of its fate
 abbrev pub IsSpent : Fate → List Note → Type 0
 IsSpent fate (Duty (Owes []) ∷ Has Live ∷ rest) = (tellings rest ≡ told_notes (entries_of fate)) × (weigh busy rest ≡ 0)
 IsSpent fate _ = ⊥
 
--- a seat owes this edge next
-abbrev pub OwesFirst : ℕ → List Note → Type 0
-OwesFirst e (Duty (Owes (f ∷ gives)) ∷ rest) = (f ≡ e) × IsTurn rest
-OwesFirst e _ = ⊥
+-- a seat has the parcel of an End still to put into the slot of an edge, and holds no slot
+pub record HasParcel (e n : ℕ) (v : List Note) : Type 0 where
+  pub ours : 1 ≤ slot_weigh (lot Ours e) v
+  pub part : lot_part Ours e v ≡ From n
+  pub none_held : slot_weigh (lot Putting e) v ≡ 0
+  pub none_put : slot_weigh (lot Put e) v ≡ 0
+
+-- a seat owes this edge next, with its parcel
+abbrev pub OwesFirst : ℕ → ℕ → List Note → Type 0
+OwesFirst e n (Duty (Owes (f ∷ gives)) ∷ rest) = (f ≡ e) × IsTurn rest × HasParcel e n rest
+OwesFirst e n _ = ⊥
 
 -- and then no more
 abbrev pub paid : List Note → List Note
-paid (Duty (Owes (f ∷ gives)) ∷ rest) = Duty (Owes gives) ∷ rest
+paid (Duty (Owes (f ∷ gives)) ∷ rest) = Duty (Owes gives) ∷ unlot Ours f rest
 paid notes = notes
+
+-- a seat owes a token to this edge next, whose parcel is put
+abbrev pub OwesToken : ℕ → List Note → Type 0
+OwesToken e (Duty (Owes (f ∷ gives)) ∷ rest) = (f ≡ e) × IsTurn rest × (1 ≤ slot_weigh (lot Put e) rest)
+OwesToken e _ = ⊥
+
+abbrev pub paid_token : List Note → List Note
+paid_token (Duty (Owes (f ∷ gives)) ∷ rest) = Duty (Owes gives) ∷ unlot Put f rest
+paid_token notes = notes
 
 -- a seat has just made this release
 abbrev pub HasMade : ℕ → Cause → List Note → Type 0

@@ -21,8 +21,9 @@ use Rattle.table_steps.specs.declared.view.TurnDuty.{TurnDuty}
 use Rattle.table_steps.specs.declared.view.TurnDuty.TheVariants.{Told, Fresh, Collecting, Open, Owes}
 use Rattle.table_steps.specs.inside.Duties.{DutyCoord, place, runs, running, tickets, duty_weight, is_run, EdgePart, DutyPart}
 use Rattle.table_steps.specs.Giving.{target, one_if, times}
-use Rattle.table_steps.specs.inside.Slots.{slot_total, holders}
-use Rattle.table_steps.specs.inside.SlotMarks.{Homes}
+use Rattle.table_steps.specs.inside.Slots.{slot_total, holders, SlotPart}
+use Rattle.table_steps.specs.inside.SlotMarks.{Homes, label_of}
+use Rattle.journal_rules.specs.declared.entry.Part.{Part}
 use Rattle.table_steps.specs.Credits.{first_credit}
 use Rattle.table_steps.specs.inside.Opening.{first_duties}
 use Rattle.table_steps.specs.declared.view.SemaphoreRole.{SemaphoreRole}
@@ -284,8 +285,8 @@ pub record FitsPlan (net : NetRows) (limit : ℕ) : Type 0 where
 abbrev pub marks_from : NetRows → ℕ
 marks_from net = 40 + length net.sems + length net.sems
 
-abbrev pub edges_from : NetRows → ℕ
-edges_from net = 40 + length net.sems + length net.sems + length net.edges
+abbrev pub tokens_from : NetRows → ℕ
+tokens_from net = 40 + length net.sems + length net.sems + length net.edges
 
 abbrev pub mark_at : NetRows → List ℕ → ℕ → ℕ
 mark_at net words e = slice_index words (marks_from net + e)
@@ -298,8 +299,8 @@ reading net words = record {
   halt = slice_index words 32;
   unit = λ s. if nat_lt s (length net.sems) then slice_index words (40 + s) else 0;
   credit = λ s. if nat_lt s (length net.sems) then slice_index words (40 + length net.sems + s) else 0;
-  edge = λ e. if nat_lt e (length net.edges) then slice_index words (edges_from net + e) else 0;
-  join = λ t. slice_index words (edges_from net + length net.edges + t);
+  edge = λ e. if nat_lt e (length net.edges) then slice_index words (tokens_from net + e) else 0;
+  join = λ t. slice_index words (tokens_from net + length net.edges + t);
 }
 
 -- What one seat has, of all: only a live turn has something to do; and a rest that is alone has all live turns.
@@ -312,10 +313,10 @@ pub record ViewPart (net : NetRows) (journal : List Entry) (T : Coord → ℕ) (
   pub quiet : weigh (mark Quiet) v ≢ 0 → faults journal ≡ 0
   pub full : (s : ℕ) → weigh (sem Full s) v ≢ 0 → back net s journal + max_of net s ≤ taken net s journal
 
--- the rule
-pub record KeepsAccounts {S : Type 0} (net : NetRows) (limit : ℕ) (s : State S (List Note)) : Type 0 where
+-- the rule, where a parcel that lies in a slot is found as this part
+pub record KeepsAccounts {S : Type 0} (part : S → Part) (net : NetRows) (limit : ℕ) (s : State S (List Note)) : Type 0 where
   pub fits : FitsPlan net limit
-  pub size : length s.words ≡ edges_from net + length net.edges + length net.tasks
+  pub size : length s.words ≡ tokens_from net + length net.edges + length net.tasks
   pub journal : List Entry
   pub counted : ℕ → ℕ
   pub balanced : Balanced net limit (reading net s.words) counted journal (λ c. total c s.views)
@@ -325,6 +326,8 @@ pub record KeepsAccounts {S : Type 0} (net : NetRows) (limit : ℕ) (s : State S
   pub views : (id : ℕ) (v : List Note) → get_elem? s.views id ≡ some v → ViewPart net journal (λ c. total c s.views) id v
   -- a slot is home where its mark is clear, and else one seat holds it
   pub homes : Homes (length net.edges) (mark_at net s.words) s.homes (holders (λ c. slot_total c s.views))
+  -- what lies in the slots, and what the seats have of it
+  pub slots : SlotPart net journal ((reading net s.words).edge) (λ c. slot_total c s.views) (label_of part s.homes)
 
 -- each first release has a live turn
 abbrev pub first_notes : List TurnDuty → List Note

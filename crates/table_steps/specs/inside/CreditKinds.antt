@@ -36,9 +36,9 @@ claimed a n (Duty (Open m t) ∷ Has Live ∷ Sems Both b ∷ Sems Credit c ∷ 
 claimed a n notes = notes
 
 -- a claim that found no credit would give back a unit that isn't out
-abbrev pub IsRefusal : NetRows → ℕ → ℕ → List Note → Type 0
-IsRefusal net limit a (Duty (Open m t) ∷ rest) = AllowsOver net limit a m t
-IsRefusal net limit a _ = ⊥
+abbrev pub RefusesClaim : NetRows → ℕ → ℕ → List Note → Type 0
+RefusesClaim net limit a (Duty (Open m t) ∷ rest) = AllowsOver net limit a m t
+RefusesClaim net limit a _ = ⊥
 
 -- CLAIM UNDONE
 abbrev pub MayUnclaim : NetRows → ℕ → List Note → Type 0

@@ -6,12 +6,13 @@ use Rattle.journal_rules.specs.declared.entry.Why.{Why}
 use Rattle.journal_rules.specs.declared.entry.DropWhy.TheVariants.{Limit, Halted as AfterFault}
 use Rattle.journal_rules.specs.declared.entry.Why.TheVariants.{OverRelease}
 use Rattle.table_steps.specs.Holding.{TakesAlone}
-use Rattle.table_steps.specs.declared.view.SemaphoreRole.TheVariants.{Both, Credit, Credited, Claim, Granted}
+use Rattle.table_steps.specs.declared.view.SemaphoreRole.TheVariants.{Held, Both, Credit, Credited, Claim, Granted}
 use Rattle.table_steps.specs.declared.view.TurnDuty.TheVariants.{Told, Collecting, Open, Owes}
 use Rattle.table_steps.specs.declared.view.SeatMark.TheVariants.{Live, Over, ToMark, Halted, Asked}
 use Rattle.table_steps.specs.declared.view.Note.{Note}
 use Rattle.table_steps.specs.declared.view.Note.TheVariants.{Duty, Sems, Has, Unfit}
 use Rattle.table_steps.specs.inside.Kinds.{Lone}
+use Rattle.table_steps.specs.inside.Slots.{FindsFirst, after_lots}
 
 -- HALT LOAD, by a turn that asks for an admission. One that finds the mark knows that a Fault stands; one that doesn't
 -- may draw an admission.
@@ -48,13 +49,14 @@ abbrev pub marked : List Note → List Note
 marked (Duty (Owes []) ∷ Has Live ∷ Has ToMark ∷ rest) = Duty (Owes []) ∷ Has Live ∷ rest
 marked notes = notes
 
--- DROP DRAWN, of a release that was refused: at the limit, or after a Fault
+-- DROP DRAWN, of a release that was refused, at the limit or after a Fault, and has put its units back. What it found falls
+-- away.
 abbrev pub MayDrop : List Note → Type 0
-MayDrop (Duty (Collecting t cause taken []) ∷ Has Over ∷ rest) = Lone rest
-MayDrop (Duty (Collecting t cause taken []) ∷ Has Live ∷ Has Halted ∷ rest) = Lone rest
+MayDrop (Duty (Collecting t cause taken []) ∷ Has Over ∷ Sems Held [] ∷ rest) = FindsFirst taken rest × Lone rest
+MayDrop (Duty (Collecting t cause taken []) ∷ Has Live ∷ Has Halted ∷ Sems Held [] ∷ rest) = FindsFirst taken rest × Lone rest
 MayDrop _ = ⊥
 
 abbrev pub dropped : ℕ → List Note → List Note
-dropped n (Duty (Collecting t cause taken left) ∷ Has Over ∷ rest) = Duty (Owes []) ∷ Has Live ∷ Duty (Told n (Drop t cause Limit)) ∷ rest
-dropped n (Duty (Collecting t cause taken left) ∷ Has Live ∷ Has Halted ∷ rest) = Duty (Owes []) ∷ Has Live ∷ Duty (Told n (Drop t cause AfterFault)) ∷ rest
+dropped n (Duty (Collecting t cause taken left) ∷ Has Over ∷ Sems Held l ∷ rest) = Duty (Owes []) ∷ Has Live ∷ Duty (Told n (Drop t cause Limit)) ∷ after_lots taken rest
+dropped n (Duty (Collecting t cause taken left) ∷ Has Live ∷ Has Halted ∷ Sems Held l ∷ rest) = Duty (Owes []) ∷ Has Live ∷ Duty (Told n (Drop t cause AfterFault)) ∷ after_lots taken rest
 dropped n notes = notes

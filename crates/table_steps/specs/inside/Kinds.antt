@@ -15,11 +15,14 @@ use Rattle.table_steps.specs.declared.view.SemaphoreRole.TheVariants.{Held, Owed
 use Rattle.table_steps.specs.declared.view.Note.TheVariants.{Duty, Sems, Has}
 use Rattle.table_steps.specs.inside.Accounts.{duty, mark, busy, resting, telling, weigh, only_puts, AllStand}
 use Rattle.journal_rules.specs.declared.entry.Entry.{Entry}
-use Rattle.journal_rules.specs.ShapeLegal.{ShapeLegal}
+use Rattle.journal_rules.specs.declared.entry.Part.{Part}
+use Rattle.table_steps.specs.declared.view.Lot.TheVariants.{Put, Fetched, Found}
+use Rattle.table_steps.specs.inside.Slots.{lot, slot_weigh, awaited_lots, our_lots, relot, unlot, FindsFirst, first_parts, after_lots}
+use Rattle.journal_rules.specs.ShapeLegal.{ShapeLegal, MeetsDataRule}
 use Rattle.journal_rules.specs.Complete.{Complete}
 use Rattle.table_steps.specs.inside.Duties.{place, after_take}
-use Rattle.table_steps.specs.Giving.{times, target, MayGive}
-use Rattle.table_steps.specs.Holding.{HoldsAll, PutsEach, TakesAlone}
+use Rattle.table_steps.specs.Giving.{times, target, MayEndGiving}
+use Rattle.table_steps.specs.Holding.{HoldsEachUnit, PutsEach, TakesAlone}
 
 -- the rest of a view, of a turn that is no rest
 abbrev pub Lone : List Note → Type 0
@@ -40,32 +43,37 @@ news (suc n) = Has New ∷ news n
 
 -- SET AGAIN. The join word of a task whose release a seat holds is raised by its strong in-edges.
 abbrev pub MayReset : NetRows → ℕ → List Note → Type 0
-MayReset net u (Duty (Fresh t Strong) ∷ rest) = (t ≡ u) × IsTurn rest
+MayReset net u (Duty (Fresh t Strong) ∷ Has Live ∷ rest) = (t ≡ u) × Lone rest
 MayReset net u _ = ⊥
 
 -- a release by another cause is taken up without a change of words
 abbrev pub MayTakeUp : List Note → Type 0
-MayTakeUp (Duty (Fresh t Source) ∷ rest) = IsTurn rest
-MayTakeUp (Duty (Fresh t (Weak e)) ∷ rest) = IsTurn rest
+MayTakeUp (Duty (Fresh t Source) ∷ Has Live ∷ rest) = Lone rest
+MayTakeUp (Duty (Fresh t (Weak e)) ∷ Has Live ∷ rest) = Lone rest
 MayTakeUp _ = ⊥
 
+-- It has a parcel to take of each edge, and holds no unit yet.
+abbrev pub collecting_notes : ℕ → Cause → List ℕ → List Note
+collecting_notes t cause es = Duty (Collecting t cause [] es) ∷ Has Live ∷ Sems Held [] ∷ awaited_lots es
+
 abbrev pub taken_up : NetRows → List Note → List Note
-taken_up net (Duty (Fresh t cause) ∷ rest) = Duty (Collecting t cause [] (edges_of net t cause)) ∷ rest
+taken_up net (Duty (Fresh t cause) ∷ Has Live ∷ rest) = collecting_notes t cause (edges_of net t cause) ++ rest
 taken_up net notes = notes
 
--- TOKEN TAKEN, from the next edge of a release. Where a token remains at a strong edge, that is to be counted.
-abbrev pub TakesNext : NetRows → ℕ → List Note → Type 0
-TakesNext net f (Duty (Collecting t cause taken (g ∷ left)) ∷ rest) = (g ≡ f) × (f < length net.edges) × IsTurn rest
-TakesNext net f _ = ⊥
+-- TOKEN TAKEN, from the next edge of a release, after its parcel. Where a token remains at a strong edge, that is to be
+-- counted.
+abbrev pub TakesNextToken : NetRows → ℕ → List Note → Type 0
+TakesNextToken net f (Duty (Collecting t cause taken (g ∷ left)) ∷ rest) = (g ≡ f) × (f < length net.edges) × IsTurn rest × (1 ≤ slot_weigh (lot Fetched f) rest)
+TakesNextToken net f _ = ⊥
 
 abbrev pub took : ℕ → List Note → List Note
-took found (Duty (Collecting t cause taken (f ∷ left)) ∷ rest) = wrap (after_take t cause taken found f left) ++ rest
+took found (Duty (Collecting t cause taken (f ∷ left)) ∷ rest) = wrap (after_take t cause taken found f left) ++ relot Fetched Found (λ p. p) f rest
 took found notes = notes
 
--- TOKEN GIVEN, to the next edge that an end owes. It releases the target of a weak edge. At a strong one the first
+-- TOKEN GIVEN, to the next edge that an end owes, after its parcel. It releases the target of a weak edge. At a strong one the first
 -- token is to be counted.
 abbrev pub OwesNext : NetRows → ℕ → List Note → Type 0
-OwesNext net f (Duty (Owes (g ∷ gives)) ∷ rest) = (g ≡ f) × (f < length net.edges) × IsTurn rest
+OwesNext net f (Duty (Owes (g ∷ gives)) ∷ rest) = (g ≡ f) × (f < length net.edges) × IsTurn rest × (1 ≤ slot_weigh (lot Put f) rest)
 OwesNext net f _ = ⊥
 
 abbrev pub given_notes : Bool → ℕ → ℕ → ℕ → List ℕ → List Note
@@ -74,7 +82,7 @@ given_notes false t zero f gives = Duty (Counting f) ∷ Duty (Owes gives) ∷ [
 given_notes false t (suc n) f gives = Duty (Owes gives) ∷ []
 
 abbrev pub gave : NetRows → ℕ → ℕ → List Note → List Note
-gave net f found (Duty (Owes (g ∷ gives)) ∷ rest) = given_notes (is_weak net f) (target net f) found f gives ++ rest
+gave net f found (Duty (Owes (g ∷ gives)) ∷ rest) = given_notes (is_weak net f) (target net f) found f gives ++ unlot Put f rest
 gave net f found notes = notes
 
 -- EDGE COUNTED, at its target. The count that finds one left releases the task.
@@ -165,30 +173,29 @@ credits_due net t l = among (λ s. not (puts net s t)) l
 abbrev pub claims_due : NetRows → ℕ → List ℕ
 claims_due net t = below (λ s. only_puts net s t) (length net.sems)
 
--- START DRAWN, and what a start then knows of semaphores
+-- START DRAWN, with the parts that were found, and what a start then knows of semaphores
 abbrev pub sems_notes : List ℕ → List ℕ → List ℕ → List ℕ → List ℕ → List Note
 sems_notes both credit credited claim granted = Sems Both both ∷ Sems Credit credit ∷ Sems Credited credited ∷ Sems Claim claim ∷ Sems Granted granted ∷ []
 
-abbrev pub started_notes : NetRows → ℕ → ℕ → Cause → List ℕ → List Note
-started_notes net n t cause l = Duty (Open n t) ∷ Has Live ∷ sems_notes (own_units net t l) (credits_due net t l) [] (claims_due net t) [] ++ Duty (Told n (Start t cause [])) ∷ []
+abbrev pub started_notes : NetRows → ℕ → ℕ → Cause → List ℕ → List Part → List Note
+started_notes net n t cause l ins = Duty (Open n t) ∷ Has Live ∷ sems_notes (own_units net t l) (credits_due net t l) [] (claims_due net t) [] ++ Duty (Told n (Start t cause ins)) ∷ []
 
-abbrev pub MayStart : NetRows → List Note → Type 0
-MayStart net (Duty (Collecting t cause taken []) ∷ Duty Ticket ∷ Has Live ∷ []) = HoldsAll net t []
-MayStart net (Duty (Collecting t cause taken []) ∷ Duty Ticket ∷ Has Live ∷ Sems Held (b ∷ l) ∷ rest) = HoldsAll net t (b ∷ l) × Lone rest
-MayStart net _ = ⊥
+abbrev pub MayDrawStart : NetRows → List Note → Type 0
+MayDrawStart net (Duty (Collecting t cause taken []) ∷ Duty Ticket ∷ Has Live ∷ Sems Held l ∷ rest) = HoldsEachUnit net t l × FindsFirst taken rest × Lone rest
+MayDrawStart net _ = ⊥
 
 abbrev pub started : NetRows → ℕ → List Note → List Note
-started net n (Duty (Collecting t cause taken left) ∷ Duty Ticket ∷ Has Live ∷ []) = started_notes net n t cause []
-started net n (Duty (Collecting t cause taken left) ∷ Duty Ticket ∷ Has Live ∷ Sems Held l ∷ rest) = started_notes net n t cause l ++ rest
+started net n (Duty (Collecting t cause taken left) ∷ Duty Ticket ∷ Has Live ∷ Sems Held l ∷ rest) = started_notes net n t cause l (first_parts taken rest) ++ after_lots taken rest
 started net n notes = notes
 
--- END DRAWN, of a start with nothing left to credit and to claim. It owes the units that its task puts.
+-- END DRAWN, of a start with nothing left to credit and to claim. It owes the units that its task puts, and a parcel to each
+-- edge that it gives.
 abbrev pub MayEnd : NetRows → List ℕ → Bool → List Note → Type 0
-MayEnd net gives inner (Duty (Open m t) ∷ Has Live ∷ Sems Both b ∷ Sems Credit c ∷ Sems Credited d ∷ Sems Claim l ∷ Sems Granted g ∷ rest) = MayGive net t gives inner × (c ≡ []) × TakesAlone net t d × (l ≡ []) × PutsEach net t (g ++ b) × Lone rest
+MayEnd net gives inner (Duty (Open m t) ∷ Has Live ∷ Sems Both b ∷ Sems Credit c ∷ Sems Credited d ∷ Sems Claim l ∷ Sems Granted g ∷ rest) = MayEndGiving net t gives inner × (c ≡ []) × TakesAlone net t d × (l ≡ []) × PutsEach net t (g ++ b) × Lone rest
 MayEnd net gives inner _ = ⊥
 
 abbrev pub ended : List ℕ → Bool → ℕ → List Note → List Note
-ended gives inner n (Duty (Open m t) ∷ Has Live ∷ Sems Both b ∷ Sems Credit c ∷ Sems Credited d ∷ Sems Claim l ∷ Sems Granted g ∷ rest) = Duty (Owes gives) ∷ Has Live ∷ Sems Owed (g ++ b) ∷ Duty (Told n (End m gives inner)) ∷ rest
+ended gives inner n (Duty (Open m t) ∷ Has Live ∷ Sems Both b ∷ Sems Credit c ∷ Sems Credited d ∷ Sems Claim l ∷ Sems Granted g ∷ rest) = Duty (Owes gives) ∷ Has Live ∷ Sems Owed (g ++ b) ∷ Duty (Told n (End m gives inner)) ∷ our_lots n gives ++ rest
 ended gives inner n notes = notes
 
 -- JOIN. The keeper's seat takes in the notes of a turn.
@@ -208,6 +215,7 @@ left_by notes = notes
 pub record IsWhole (net : NetRows) (limit : ℕ) (notes : List Note) : Type 0 where
   pub journal : List Entry
   pub legal : ShapeLegal net limit journal
+  pub meets : MeetsDataRule net journal
   pub complete : Complete net limit journal
   pub each : (m : ℕ) → m < length journal → weigh (duty (place m)) notes ≡ 1
   pub stand : AllStand net journal notes

@@ -14,7 +14,8 @@ use Rattle.table_steps.specs.declared.view.Note.{Note}
 use Rattle.table_steps.specs.declared.view.Note.TheVariants.{Duty, Sems, Has}
 use Rattle.table_steps.specs.inside.Duties.{running}
 use Rattle.table_steps.specs.inside.Accounts.{duty, sem, mark, busy, resting, telling, weigh}
-use Rattle.table_steps.specs.inside.Kinds.{Lone, dealt, kept_back}
+use Rattle.table_steps.specs.inside.Kinds.{Lone}
+use Rattle.table_steps.specs.inside.Slots.{FindsFirst, first_lots, after_lots}
 
 -- what is known of a rest that is alone, and the notes without that
 abbrev pub known_part : List Note → List Note
@@ -37,18 +38,32 @@ abbrev pub parked : List Note → List Note → List Note
 parked v w = w ++ bare_part v
 
 -- SPLIT. A rest hands its last turn out, and forgets that it is alone.
+pub record CoversItself (v : List Note) : Type 0 where
+  pub lone : weigh resting v ≡ 0
+  pub covered : weigh (mark Live) v ≡ 0 → weigh busy v ≡ 0
+  pub told : weigh (mark Live) v ≡ 0 → weigh telling v ≡ 0
+
 abbrev pub HasLast : List Note → Type 0
-HasLast (Duty (Collecting t cause taken []) ∷ Has Live ∷ rest) = (weigh resting rest ≡ 0) × (weigh (mark Live) rest ≡ 0 → weigh busy rest ≡ 0) × (weigh (mark Live) rest ≡ 0 → weigh telling rest ≡ 0)
+HasLast (Duty (Collecting t cause taken []) ∷ Has Live ∷ Sems Held [] ∷ rest) = FindsFirst taken rest × CoversItself (after_lots taken rest)
 HasLast _ = ⊥
 
 abbrev pub MayHandOut : List Note → Type 0
 MayHandOut v = HasLast (bare_part v)
 
+-- the notes of the last turn, and those of the others
+abbrev pub last_turn : List Note → List Note
+last_turn (Duty (Collecting t cause taken left) ∷ Has Live ∷ Sems Held l ∷ rest) = Duty (Collecting t cause taken left) ∷ Has Live ∷ Sems Held l ∷ first_lots taken rest
+last_turn notes = notes
+
+abbrev pub other_turns : List Note → List Note
+other_turns (Duty (Collecting t cause taken left) ∷ Has Live ∷ Sems Held l ∷ rest) = after_lots taken rest
+other_turns notes = []
+
 abbrev pub handed_out : List Note → List Note
-handed_out v = dealt (bare_part v)
+handed_out v = last_turn (bare_part v)
 
 abbrev pub left_behind : List Note → List Note
-left_behind v = kept_back (bare_part v)
+left_behind v = other_turns (bare_part v)
 
 -- LIVE LOAD. A rest that finds the number of its turns is alone.
 abbrev pub alone_notes : Bool → List Note
@@ -74,9 +89,9 @@ pub record HasNoUnit (a : ℕ) (rest : List Note) : Type 0 where
   pub owed : weigh (sem Owed a) rest ≡ 0
   pub undo : weigh (sem Undo a) rest ≡ 0
 
-abbrev pub MayAsk : NetRows → ℕ → List Note → Type 0
-MayAsk net a (Sems Full l ∷ rest) = (a < length net.sems) × (1 ≤ weigh (mark Live) rest) × (weigh resting rest ≢ 0) × HasNoUnit a rest
-MayAsk net a _ = ⊥
+abbrev pub MayAskForUnit : NetRows → ℕ → List Note → Type 0
+MayAskForUnit net a (Sems Full l ∷ rest) = (a < length net.sems) × (1 ≤ weigh (mark Live) rest) × (weigh resting rest ≢ 0) × HasNoUnit a rest
+MayAskForUnit net a _ = ⊥
 
 abbrev pub full_with : Bool → ℕ → List ℕ → List ℕ
 full_with true a l = l
@@ -88,13 +103,13 @@ asked net a n notes = notes
 
 -- DROP DRAWN, of the last turn of a rest that is alone: for want of a unit where no Fault stands, or after a Fault
 abbrev pub MayDropLast : NetRows → DropWhy → List Note → Type 0
-MayDropLast net (Stuck a) (Sems Full l ∷ Has Quiet ∷ Duty (Collecting t cause taken []) ∷ Has Live ∷ rest) = IsTrue (takes net a t) × (1 ≤ times a l) × (weigh (duty running) rest ≡ 0)
-MayDropLast net AfterFault (Sems Full l ∷ Has Alone ∷ Has Halted ∷ Duty (Collecting t cause taken []) ∷ Has Live ∷ rest) = weigh (mark Sticking) rest ≡ 0
+MayDropLast net (Stuck a) (Sems Full l ∷ Has Quiet ∷ Duty (Collecting t cause taken []) ∷ Has Live ∷ Sems Held [] ∷ rest) = IsTrue (takes net a t) × (1 ≤ times a l) × (weigh (duty running) rest ≡ 0) × FindsFirst taken rest
+MayDropLast net AfterFault (Sems Full l ∷ Has Alone ∷ Has Halted ∷ Duty (Collecting t cause taken []) ∷ Has Live ∷ Sems Held [] ∷ rest) = (weigh (mark Sticking) rest ≡ 0) × FindsFirst taken rest
 MayDropLast net why _ = ⊥
 
 abbrev pub last_dropped : DropWhy → ℕ → List Note → List Note
-last_dropped why n (Sems Full l ∷ Has Quiet ∷ Duty (Collecting t cause taken left) ∷ Has Live ∷ rest) = Duty (Owes []) ∷ Has Live ∷ Sems Full l ∷ Has Quiet ∷ rest ++ Duty (Told n (Drop t cause why)) ∷ Has Sticking ∷ []
-last_dropped why n (Sems Full l ∷ Has Alone ∷ Has Halted ∷ Duty (Collecting t cause taken left) ∷ Has Live ∷ rest) = Duty (Owes []) ∷ Has Live ∷ Sems Full l ∷ Has Alone ∷ Has Halted ∷ rest ++ Duty (Told n (Drop t cause why)) ∷ []
+last_dropped why n (Sems Full l ∷ Has Quiet ∷ Duty (Collecting t cause taken left) ∷ Has Live ∷ Sems Held h ∷ rest) = Duty (Owes []) ∷ Has Live ∷ Sems Full l ∷ Has Quiet ∷ after_lots taken rest ++ Duty (Told n (Drop t cause why)) ∷ Has Sticking ∷ []
+last_dropped why n (Sems Full l ∷ Has Alone ∷ Has Halted ∷ Duty (Collecting t cause taken left) ∷ Has Live ∷ Sems Held h ∷ rest) = Duty (Owes []) ∷ Has Live ∷ Sems Full l ∷ Has Alone ∷ Has Halted ∷ after_lots taken rest ++ Duty (Told n (Drop t cause why)) ∷ []
 last_dropped why n notes = notes
 
 -- TURN TAKEN OFF, where the rest has others

@@ -1,33 +1,33 @@
 -- What the steps on slots ask of a seat, and what they leave.
 use Rattle.std.specs.Prelude.{◌≡◌, ℕ, zero, suc, ◌≤◌, List, [], ◌∷◌}
 use Rattle.journal_rules.specs.declared.entry.Part.{Part}
-use Rattle.journal_rules.specs.declared.entry.Part.TheVariants.{Nothing}
+use Rattle.journal_rules.specs.declared.entry.Part.TheVariants.{From, Nothing}
 use Rattle.atomic_table.specs.Table.{Me}
 use Rattle.table_steps.specs.declared.view.Lot.{Lot}
 use Rattle.table_steps.specs.declared.view.Lot.TheVariants.{Ours, Putting, Put, Awaited, Taking, Fetched}
 use Rattle.table_steps.specs.declared.view.Note.{Note}
-use Rattle.table_steps.specs.declared.view.Note.TheVariants.{Lies}
-use Rattle.table_steps.specs.inside.Slots.{lot, slot_weight, slot_weigh}
+use Rattle.table_steps.specs.inside.Slots.{lot, slot_weight, slot_weigh, part_in, relot}
 use Rattle.table_steps.specs.inside.Kinds.{IsTurn}
 
--- the part that a note tells
-abbrev pub part_in : Note → Part
-part_in (Lies k e p) = p
-part_in _ = Nothing
+-- the part of the first lot of a kind at an edge
+abbrev pub pick_part : ℕ → Part → Part → Part
+pick_part zero other same = other
+pick_part (suc n) other same = same
 
-abbrev pub pick : ℕ → List Note → List Note → List Note
-pick zero other same = other
-pick (suc n) other same = same
+abbrev pub lot_part : Lot → ℕ → List Note → Part
+lot_part j f [] = Nothing
+lot_part j f (x ∷ rest) = pick_part (slot_weight (lot j f) x) (lot_part j f rest) (part_in x)
 
--- the first lot of a kind at an edge becomes one of another kind
-abbrev pub relot : Lot → Lot → (Part → Part) → ℕ → List Note → List Note
-relot j k part f [] = []
-relot j k part f (x ∷ rest) = pick (slot_weight (lot j f) x) (x ∷ relot j k part f rest) (Lies k f (part (part_in x)) ∷ rest)
+-- that is the value of an End
+pub record FromEnd (part : Part) : Type 0 where
+  pub place : ℕ
+  pub is : part ≡ From place
 
 -- SLOT TAKEN, in one try, by a turn that has a parcel to put there. Where another turn holds the slot, the parcel is left
 -- away.
 pub record MayTryPut (f : ℕ) (v : List Note) : Type 0 where
   pub ours : 1 ≤ slot_weigh (lot Ours f) v
+  pub from : FromEnd (lot_part Ours f v)
   pub turn : IsTurn v
 
 abbrev pub put_tried : ℕ → ℕ → List Note → List Note
@@ -61,15 +61,6 @@ pub record TookSlot {S : Type 0} (part : S → Part) (f n : ℕ) (before after :
   pub holds : HoldsIf f n before.1 after.1
   pub takes : TakesPart part part_is n after.1
 
--- the part of the first lot of a kind at an edge
-abbrev pub pick_part : ℕ → Part → Part → Part
-pick_part zero other same = other
-pick_part (suc n) other same = same
-
-abbrev pub lot_part : Lot → ℕ → List Note → Part
-lot_part j f [] = Nothing
-lot_part j f (x ∷ rest) = pick_part (slot_weight (lot j f) x) (lot_part j f rest) (part_in x)
-
 -- the slot that a seat took last is that of this edge, and this part lies there
 abbrev pub HoldsPart : {S : Type 0} → (S → Part) → ℕ → Part → List (ℕ × S) → Type 0
 HoldsPart part f q ((k, y) ∷ rest) = (k ≡ f) × (part y ≡ q)
@@ -83,6 +74,7 @@ HoldsSlot f [] = ⊥
 -- SLOT GIVEN BACK, after the exchange: with the parcel that was put there, or empty
 pub record MayPutBack {S : Type 0} (part : S → Part) (f : ℕ) (me : Me S (List Note)) : Type 0 where
   pub putting : 1 ≤ slot_weigh (lot Putting f) me.0
+  pub from : FromEnd (lot_part Putting f me.0)
   pub turn : IsTurn me.0
   pub laid : HoldsPart part f (lot_part Putting f me.0) me.1
 

@@ -1,5 +1,5 @@
 -- What the seats know of parcels, and the account of slots.
-use Rattle.std.specs.Prelude.{◌≡◌, ℕ, ◌+◌, ◌≤◌, ◌&&◌, ◌==◌, List, [], ◌∷◌, ◌++◌}
+use Rattle.std.specs.Prelude.{◌≡◌, ℕ, zero, suc, ◌+◌, ◌≤◌, ◌&&◌, ◌==◌, List, [], ◌∷◌, ◌++◌}
 use Rattle.task_graph.specs.NetRows.{NetRows}
 use Rattle.journal_rules.specs.declared.entry.Part.{Part}
 use Rattle.journal_rules.specs.declared.entry.Part.TheVariants.{From, Nothing}
@@ -117,3 +117,47 @@ slots_in [] = []
 slots_in (Duty x ∷ rest) = slots_of x ++ slots_in rest
 slots_in (Lies k e p ∷ rest) = Lies k e p ∷ slots_in rest
 slots_in (note ∷ rest) = slots_in rest
+
+-- A step changes no lot of a turn that holds a slot.
+abbrev pub HoldsAlike : List Note → List Note → Type 0
+HoldsAlike old new = (e : ℕ) → (slot_weigh (lot Putting e) new ≡ slot_weigh (lot Putting e) old) × (slot_weigh (lot Taking e) new ≡ slot_weigh (lot Taking e) old)
+
+-- the part that a note tells
+abbrev pub part_in : Note → Part
+part_in (Lies k e p) = p
+part_in _ = Nothing
+
+abbrev pub pick : ℕ → List Note → List Note → List Note
+pick zero other same = other
+pick (suc n) other same = same
+
+-- the first lot of a kind at an edge becomes one of another kind
+abbrev pub relot : Lot → Lot → (Part → Part) → ℕ → List Note → List Note
+relot j k part f [] = []
+relot j k part f (x ∷ rest) = pick (slot_weight (lot j f) x) (x ∷ relot j k part f rest) (Lies k f (part (part_in x)) ∷ rest)
+
+-- or is used up
+abbrev pub unlot : Lot → ℕ → List Note → List Note
+unlot j f [] = []
+unlot j f (x ∷ rest) = pick (slot_weight (lot j f) x) (x ∷ unlot j f rest) rest
+
+-- The notes begin with a lot of each of these edges, whose parcel was found; their parts, and the notes after them.
+abbrev pub FindsFirst : List ℕ → List Note → Type 0
+FindsFirst [] rest = Unit {0}
+FindsFirst (e ∷ es) (Lies Found f p ∷ rest) = (f ≡ e) × FindsFirst es rest
+FindsFirst (e ∷ es) _ = ⊥
+
+abbrev pub first_parts : List ℕ → List Note → List Part
+first_parts [] rest = []
+first_parts (e ∷ es) [] = []
+first_parts (e ∷ es) (x ∷ rest) = part_in x ∷ first_parts es rest
+
+abbrev pub first_lots : List ℕ → List Note → List Note
+first_lots [] rest = []
+first_lots (e ∷ es) [] = []
+first_lots (e ∷ es) (x ∷ rest) = x ∷ first_lots es rest
+
+abbrev pub after_lots : List ℕ → List Note → List Note
+after_lots [] rest = rest
+after_lots (e ∷ es) [] = []
+after_lots (e ∷ es) (x ∷ rest) = after_lots es rest

@@ -14,13 +14,11 @@ use Rattle.table_steps.specs.inside.Kinds.{Lone}
 
 -- the units that a turn holds, as notes
 abbrev pub held_notes : List ℕ → List Note
-held_notes [] = []
-held_notes (s ∷ l) = Sems Held (s ∷ l) ∷ []
+held_notes l = Sems Held l ∷ []
 
 -- UNIT TAKEN, or none found, which is to be undone
 abbrev pub MayTake : NetRows → ℕ → List Note → Type 0
-MayTake net a (Duty (Collecting t cause taken left) ∷ Has Live ∷ []) = a < length net.sems
-MayTake net a (Duty (Collecting t cause taken left) ∷ Has Live ∷ Sems Held (b ∷ l) ∷ rest) = (a < length net.sems) × Lone rest
+MayTake net a (Duty (Collecting t cause taken left) ∷ Has Live ∷ Sems Held l ∷ rest) = (a < length net.sems) × Lone rest
 MayTake net a _ = ⊥
 
 abbrev pub after_unit : Bool → ℕ → TurnDuty → List ℕ → List Note
@@ -28,7 +26,6 @@ after_unit true a x l = Duty x ∷ Has Live ∷ Sems Held (a ∷ l) ∷ []
 after_unit false a x l = Duty x ∷ Sems Undo (a ∷ []) ∷ held_notes l
 
 abbrev pub took_unit : NetRows → ℕ → ℕ → List Note → List Note
-took_unit net a n (Duty x ∷ Has Live ∷ []) = after_unit (nat_lt n (max_of net a)) a x []
 took_unit net a n (Duty x ∷ Has Live ∷ Sems Held l ∷ rest) = after_unit (nat_lt n (max_of net a)) a x l ++ rest
 took_unit net a n notes = notes
 

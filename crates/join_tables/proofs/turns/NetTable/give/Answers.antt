@@ -1,10 +1,9 @@
-use Rattle.std.proofs.Common.{rules, ◌≡◌, [], ◌+◌, false, Some, None, sym, refl, ap, ◌∙◌, subst}
+use Rattle.std.proofs.Common.{rules, ◌≡◌, [], ◌+◌, Some, None, sym, refl, ap, ◌∙◌, subst}
 use Rattle.std.specs.Prelude.{slice_get, drop}
-use Rattle.task_graph.specs.Net.{is_weak}
 use Rattle.join_tables.specs.States.{OwingState}
 use Rattle.join_tables.specs.inside.Seated.{owing_view, units_of, IsSpent, paid, OwesFirst}
 use Rattle.join_tables.specs.declared.fates.Fate.TheVariants.{Ended}
-use Rattle.join_tables.proofs.Turning.{drop_some, drop_none, get_below, gives_none, gives_on, gives_more}
+use Rattle.join_tables.proofs.Turning.{owes_first, paid_view, drop_some, drop_none, get_below, gives_none, gives_on, gives_more}
 use Rattle.join_tables.proofs.turns.NetTable.give.Goals as goal
 
 pub invariant_of-result : goal.invariant_of-result
@@ -18,10 +17,10 @@ returns-in_default c =
     let none : slice_get c.owing.inside.ended.gives c.owing.inside.next ≡ None = search rules in
     gives_none c.args.self.now.net c.args.owing c.args.owing.left _ (sym (ap (λ (o : OwingState). o.left) c.owing.view_is) ∙ drop_none c.owing.inside.ended.gives c.owing.inside.next none) (search rules)
 
-pub give_edge-found-requires-clause-ready : goal.give_edge-found-requires-clause-ready
-give_edge-found-requires-clause-ready c =
+pub give_edge-made-requires-clause-ready : goal.give_edge-made-requires-clause-ready
+give_edge-made-requires-clause-ready c =
     let some : slice_get c.owing.inside.ended.gives c.owing.inside.next ≡ Some c.in-Some.edge.now = search rules in
-    subst (λ v. OwesFirst c.in-Some.edge.now v) (sym (ap (λ m. m.0) c.owing.invariant ∙ ap (λ es. owing_view c.owing.inside.ended es (units_of c.owing.inside.seat.me.0)) (drop_some c.owing.inside.ended.gives c.owing.inside.next c.in-Some.edge.now some))) (search rules)
+    subst (λ v. OwesFirst c.in-Some.edge.now c.owing.inside.ended.place v) (sym (ap (λ m. m.0) c.owing.invariant ∙ ap (λ es. owing_view c.owing.inside.ended es (units_of c.owing.inside.seat.me.0)) (drop_some c.owing.inside.ended.gives c.owing.inside.next c.in-Some.edge.now some))) (owes_first c.owing.inside.ended c.in-Some.edge.now (drop (c.owing.inside.next + 1) c.owing.inside.ended.gives) (units_of c.owing.inside.seat.me.0))
 
 pub overflow_add-owing : goal.overflow_add-owing
 overflow_add-owing c =
@@ -31,14 +30,14 @@ overflow_add-owing c =
 pub invariant_of-owing : goal.invariant_of-owing
 invariant_of-owing c =
     let some : slice_get c.owing.inside.ended.gives c.owing.inside.next ≡ Some c.in-Some.edge.now = search rules in
-    let view = ap (λ m. m.0) c.give_edge-found.ensures.view ∙ ap paid (ap (λ m. m.0) c.owing.invariant ∙ ap (λ es. owing_view c.owing.inside.ended es (units_of c.owing.inside.seat.me.0)) (drop_some c.owing.inside.ended.gives c.owing.inside.next c.in-Some.edge.now some)) in
-    λ i. ((view ∙ ap (owing_view c.owing.inside.ended (drop (c.owing.inside.next + 1) c.owing.inside.ended.gives)) (sym (ap units_of view))) i, ap (λ m. m.1) c.give_edge-found.ensures.view i)
+    let view = ap (λ m. m.0) c.give_edge-made.ensures.view ∙ ap paid (ap (λ m. m.0) c.owing.invariant ∙ ap (λ es. owing_view c.owing.inside.ended es (units_of c.owing.inside.seat.me.0)) (drop_some c.owing.inside.ended.gives c.owing.inside.next c.in-Some.edge.now some)) ∙ paid_view c.owing.inside.ended c.in-Some.edge.now (drop (c.owing.inside.next + 1) c.owing.inside.ended.gives) (units_of c.owing.inside.seat.me.0) in
+    λ i. ((view ∙ ap (owing_view c.owing.inside.ended (drop (c.owing.inside.next + 1) c.owing.inside.ended.gives)) (sym (ap units_of view))) i, ap (λ m. m.1) c.give_edge-made.ensures.view i)
 
 pub invariant_of-owing-in-None : goal.invariant_of-owing-in-None
 invariant_of-owing-in-None c =
     let some : slice_get c.owing.inside.ended.gives c.owing.inside.next ≡ Some c.in-Some.edge.now = search rules in
-    let view = ap (λ m. m.0) c.give_edge-found.ensures.view ∙ ap paid (ap (λ m. m.0) c.owing.invariant ∙ ap (λ es. owing_view c.owing.inside.ended es (units_of c.owing.inside.seat.me.0)) (drop_some c.owing.inside.ended.gives c.owing.inside.next c.in-Some.edge.now some)) in
-    λ i. ((view ∙ ap (owing_view c.owing.inside.ended (drop (c.owing.inside.next + 1) c.owing.inside.ended.gives)) (sym (ap units_of view))) i, ap (λ m. m.1) c.give_edge-found.ensures.view i)
+    let view = ap (λ m. m.0) c.give_edge-made.ensures.view ∙ ap paid (ap (λ m. m.0) c.owing.invariant ∙ ap (λ es. owing_view c.owing.inside.ended es (units_of c.owing.inside.seat.me.0)) (drop_some c.owing.inside.ended.gives c.owing.inside.next c.in-Some.edge.now some)) ∙ paid_view c.owing.inside.ended c.in-Some.edge.now (drop (c.owing.inside.next + 1) c.owing.inside.ended.gives) (units_of c.owing.inside.seat.me.0) in
+    λ i. ((view ∙ ap (owing_view c.owing.inside.ended (drop (c.owing.inside.next + 1) c.owing.inside.ended.gives)) (sym (ap units_of view))) i, ap (λ m. m.1) c.give_edge-made.ensures.view i)
 
 pub returns-in-Some-made : goal.returns-in-Some-made
 returns-in-Some-made c =
@@ -48,5 +47,4 @@ returns-in-Some-made c =
 pub returns-in-None : goal.returns-in-None
 returns-in-None c =
     let some : slice_get c.owing.inside.ended.gives c.owing.inside.next ≡ Some c.in-Some.edge.now = search rules in
-    let strong : is_weak c.args.self.now.net c.in-Some.edge.now ≡ false = search rules in
-    gives_on c.args.self.now.net c.args.owing c.in-Some.edge.now c.args.owing.left (drop (c.owing.inside.next + 1) c.owing.inside.ended.gives) _ (sym (ap (λ (o : OwingState). o.left) c.owing.view_is) ∙ drop_some c.owing.inside.ended.gives c.owing.inside.next c.in-Some.edge.now some) strong (search rules) (search rules)
+    gives_on c.args.self.now.net c.args.owing c.in-Some.edge.now c.args.owing.left (drop (c.owing.inside.next + 1) c.owing.inside.ended.gives) _ (sym (ap (λ (o : OwingState). o.left) c.owing.view_is) ∙ drop_some c.owing.inside.ended.gives c.owing.inside.next c.in-Some.edge.now some) (search rules) (search rules)

@@ -1,16 +1,18 @@
-use Rattle.std.proofs.Common.{rules, ◌≡◌, ◌≢◌, ◌∷◌, ◌++◌, Some, None, sym, ap, ◌∙◌, subst, map, reverse}
+use Rattle.std.proofs.Common.{rules, length, arith, ◌≡◌, ◌≢◌, ◌∷◌, ◌++◌, Some, sym, ap, ◌∙◌, subst, map, reverse}
 use Rattle.std.specs.Prelude.{[]}
 use Rattle.std.specs.Option.{option_map_or}
 use Rattle.std.specs.Arc.{arc_value}
 use Rattle.join_tables.specs.States.{TableState}
 use Rattle.join_tables.specs.Keeping.{drop_of}
 use Rattle.join_tables.specs.declared.fates.Fate.TheVariants.{AllDropped}
+use Rattle.std.proofs.lemmas.List.{map-append, length-map, length_push}
+use Rattle.join_tables.specs.Parts.{PartList}
 use Rattle.join_tables.specs.RestStates.{RestState, rest_with}
 use Rattle.join_tables.specs.Rests.{MayDropOf}
 use Rattle.table_steps.specs.inside.Kinds.{left_by}
 use Rattle.join_tables.specs.inside.Seated.{IsSpent}
 use Rattle.table_steps.specs.inside.RestKinds.{MayThin, last_dropped}
-use Rattle.join_tables.specs.inside.Resting.{alone_in, full_in, IsRestView}
+use Rattle.join_tables.specs.inside.Resting.{RestParts, alone_in, full_in, IsRestView}
 use Rattle.join_tables.proofs.RestViews.{held_in}
 use Rattle.join_tables.proofs.RestDrops.{drops_one, may_drop_as}
 use Rattle.join_tables.proofs.turns.NetTable.rest_drop.Goals as goal
@@ -62,8 +64,12 @@ invariant_of-result-2 c =
     let one = drops_one net c.args.why c.rest.inside.turns.items p left drops v holds.0 c.in-Some-pop.ensures.items (may_drop_as net c.args.rest c.args.why (alone_in v) (full_in v) left p may alone full turns) in
     let some_there : left ≢ [] = search rules in
     let view : c.thin.new.seat.me.0 ≡ left_by (last_dropped c.args.why c.draw_last_drop-place.result v) = c.thin.ensures.view.0 ∙ ap left_by c.draw_last_drop-place.ensures.view.0 in
+    let left_parts : RestParts (map (λ (found : PartList). found.parts) c.pop-2.new.self.items) (left_by (last_dropped c.args.why c.draw_last_drop-place.result v)) =
+    one.parts c.draw_last_drop-place.result (map (λ (found : PartList). found.parts) c.pop-2.new.self.items) c.in-Some-pop-2._ins.parts
+    (length-map c.pop-2.new.self.items (λ (found : PartList). found.parts) ∙ omega (arith, c.rest.invariant.5, ap length c.in-Some-pop-2.ensures.items, ap length c.in-Some-pop.ensures.items, length_push c.pop-2.new.self.items c.in-Some-pop-2._ins, length_push left p))
+    (subst (λ fs. RestParts fs v) (ap (map (λ (found : PartList). found.parts)) c.in-Some-pop-2.ensures.items ∙ map-append (λ (found : PartList). found.parts) c.pop-2.new.self.items (c.in-Some-pop-2._ins ∷ [])) holds.3) in
     let kept = subst (λ ds. IsRestView left ds (left_by (last_dropped c.args.why c.draw_last_drop-place.result v))) (sym c.push_reserved.ensures.items) (one.rest c.draw_last_drop-place.result) in
-    ((subst (λ u. IsRestView left c.push_reserved.new.self.items u) (sym view) kept, c.thin.ensures.view.1 ∙ c.draw_last_drop-place.ensures.view.1 ∙ holds.1, some_there), tt, search rules, search rules, search rules)
+    ((subst (λ u. IsRestView left c.push_reserved.new.self.items u) (sym view) kept, c.thin.ensures.view.1 ∙ c.draw_last_drop-place.ensures.view.1 ∙ holds.1, some_there, subst (λ u. RestParts (map (λ (found : PartList). found.parts) c.pop-2.new.self.items) u) (sym view) left_parts), tt, search rules, search rules, search rules, search rules, search rules)
 
 pub returns : goal.returns
 returns c =
@@ -78,8 +84,9 @@ returns c =
     let view : c.thin.new.seat.me.0 ≡ left_by (last_dropped c.args.why c.draw_last_drop-place.result v) = c.thin.ensures.view.0 ∙ ap left_by c.draw_last_drop-place.ensures.view.0 in
     let table : c.thin.new.seat.table_id ≡ c.args.self.now.table = search rules in
     let alone_is : alone_in c.thin.new.seat.me.0 ≡ c.args.rest.alone = ap alone_in view ∙ one.alone c.draw_last_drop-place.result ∙ sym alone in
-    let full_is : full_in c.thin.new.seat.me.0 ≡ c.args.rest.full = ap full_in view ∙ one.full c.draw_last_drop-place.result ∙ sym full in (
-      λ i. rest_with (Some (table i)) (c.rest.view_is i).room left c.push_reserved.new.self.items (alone_is i) (full_is i) None None,
+    let full_is : full_in c.thin.new.seat.me.0 ≡ c.args.rest.full = ap full_in view ∙ one.full c.draw_last_drop-place.result ∙ sym full in
+    let now : c.thin.new.seat.found ≡ c.args.rest.found = c.thin.ensures.found ∙ c.draw_last_drop-place.ensures.found ∙ sym (ap (λ o. option_map_or (λ s. s.found) o []) c.in-Some.is) ∙ ap (λ (r : RestState). r.found) c.rest.view_is in (
+      λ i. rest_with (Some (table i)) (c.rest.view_is i).room left c.push_reserved.new.self.items (alone_is i) (full_is i) (now i),
       record { last = p; place = c.draw_last_drop-place.result; turns_are = turns; dropped_are = c.push_reserved.ensures.items ∙ ap (λ (r : RestState). r.dropped ++ record { task = p.task; cause = p.cause; place = c.draw_last_drop-place.result; why = c.args.why } ∷ []) c.rest.view_is },
       some_there,
     )

@@ -2,7 +2,7 @@ use Rattle.std.proofs.Common.{rules, ◌≡◌, subst, ◌+◌, arith}
 use Rattle.std.specs.Prelude.{length}
 use Rattle.std.specs.Arc.{arc_value}
 use Rattle.task_graph.specs.NetRows.{NetRows}
-use Rattle.table_steps.specs.inside.Accounts.{edges_from}
+use Rattle.table_steps.specs.inside.Accounts.{tokens_from}
 use Rattle.table_steps.specs.inside.Kinds.{MayEnd}
 use Rattle.table_steps.proofs.TurnSteps.{end_allowed}
 use Rattle.table_steps.proofs.steps.Words.end_told.Goals as goal
@@ -10,7 +10,7 @@ use Rattle.table_steps.proofs.steps.Words.end_told.Goals as goal
 pub fetch_add-requires : goal.fetch_add-requires
 fetch_add-requires g c =
     let same : arc_value c.args.self.now.net ≡ arc_value c.args.self.now.table.shared.key.net = search rules in
-    let sized : c.args.self.now.table.shared.table_id.words ≡ edges_from (arc_value c.args.self.now.net) + length (arc_value c.args.self.now.net).edges + length (arc_value c.args.self.now.net).tasks = search rules in
+    let sized : c.args.self.now.table.shared.table_id.words ≡ tokens_from (arc_value c.args.self.now.net) + length (arc_value c.args.self.now.net).edges + length (arc_value c.args.self.now.net).tasks = search rules in
     let net = arc_value c.args.self.now.table.shared.key.net in let limit = c.args.self.now.table.shared.key.limit in let me = c.args.seat.now.me in
     let slots = c.args.self.now.table.shared.table_id.slots in let id = c.args.seat.now.id in
     (search rules, omega (arith, sized), end_allowed _ _ _ _ _ g.A.Told.gives g.A.Told.inner (subst (λ (n : NetRows). MayEnd n g.A.Told.gives g.A.Told.inner me.0) same c.requires.ready))

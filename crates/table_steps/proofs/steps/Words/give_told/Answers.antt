@@ -3,7 +3,7 @@ use Rattle.std.specs.Prelude.{length}
 use Rattle.std.specs.Arc.{arc_value}
 use Rattle.task_graph.specs.NetRows.{NetRows}
 use Rattle.atomic_table.specs.Table.{Allows}
-use Rattle.table_steps.specs.inside.Accounts.{KeepsAccounts, edges_from}
+use Rattle.table_steps.specs.inside.Accounts.{KeepsAccounts, tokens_from}
 use Rattle.table_steps.specs.inside.Kinds.{gave, OwesNext}
 use Rattle.table_steps.proofs.TokenSteps.{give_allowed}
 use Rattle.table_steps.proofs.steps.Words.give_told.Goals as goal
@@ -11,15 +11,15 @@ use Rattle.table_steps.proofs.steps.Words.give_told.Goals as goal
 pub fetch_add-requires : goal.fetch_add-requires
 fetch_add-requires g c =
     let same : arc_value c.args.self.now.net ≡ arc_value c.args.self.now.table.shared.key.net = search rules in
-    let sized : c.args.self.now.table.shared.table_id.words ≡ edges_from (arc_value c.args.self.now.net) + length (arc_value c.args.self.now.net).edges + length (arc_value c.args.self.now.net).tasks = search rules in
+    let sized : c.args.self.now.table.shared.table_id.words ≡ tokens_from (arc_value c.args.self.now.net) + length (arc_value c.args.self.now.net).edges + length (arc_value c.args.self.now.net).tasks = search rules in
     let net = arc_value c.args.self.now.table.shared.key.net in let limit = c.args.self.now.table.shared.key.limit in let me = c.args.seat.now.me in
     let slots = c.args.self.now.table.shared.table_id.slots in let id = c.args.seat.now.id in
-    let found : c.edge_word.result ≡ edges_from (arc_value c.args.self.now.net) + c.args.edge = search rules in
-    let word_is : c.edge_word.result ≡ edges_from net + c.args.edge = found ∙ ap (λ (n : NetRows). edges_from n + c.args.edge) same in (
+    let found : c.edge_word.result ≡ tokens_from (arc_value c.args.self.now.net) + c.args.edge = search rules in
+    let word_is : c.edge_word.result ≡ tokens_from net + c.args.edge = found ∙ ap (λ (n : NetRows). tokens_from n + c.args.edge) same in (
       search rules,
       omega (arith, c.requires.in_range, found, sized),
-      subst (λ (w : ℕ). Allows (KeepsAccounts net limit) slots id me w (λ k. (k + 1) % 2 ^ 64) (λ k m. (m.0 ≡ gave g.A.Told.net g.A.Told.edge k me.0) × (m.1 ≡ me.1))) (sym word_is)
-          (subst (λ (n : NetRows). Allows (KeepsAccounts net limit) slots id me (edges_from net + c.args.edge) (λ k. (k + 1) % 2 ^ 64) (λ k m. (m.0 ≡ gave n g.A.Told.edge k me.0) × (m.1 ≡ me.1))) (sym (c.requires.told.0 ∙ same))
-          (subst (λ (e : ℕ). Allows (KeepsAccounts net limit) slots id me (edges_from net + c.args.edge) (λ k. (k + 1) % 2 ^ 64) (λ k m. (m.0 ≡ gave net e k me.0) × (m.1 ≡ me.1))) (sym c.requires.told.1)
+      subst (λ (w : ℕ). Allows (KeepsAccounts g.S.Parcel.part net limit) slots id me w (λ k. (k + 1) % 2 ^ 64) (λ k m. (m.0 ≡ gave g.A.Told.net g.A.Told.edge k me.0) × (m.1 ≡ me.1))) (sym word_is)
+          (subst (λ (n : NetRows). Allows (KeepsAccounts g.S.Parcel.part net limit) slots id me (tokens_from net + c.args.edge) (λ k. (k + 1) % 2 ^ 64) (λ k m. (m.0 ≡ gave n g.A.Told.edge k me.0) × (m.1 ≡ me.1))) (sym (c.requires.told.0 ∙ same))
+          (subst (λ (e : ℕ). Allows (KeepsAccounts g.S.Parcel.part net limit) slots id me (tokens_from net + c.args.edge) (λ k. (k + 1) % 2 ^ 64) (λ k m. (m.0 ≡ gave net e k me.0) × (m.1 ≡ me.1))) (sym c.requires.told.1)
           (give_allowed _ _ _ _ _ c.args.edge (subst (λ (n : NetRows). OwesNext n c.args.edge me.0) same c.requires.ready)))),
     )

@@ -3,18 +3,18 @@ use Rattle.std.specs.Prelude.{length}
 use Rattle.std.specs.Arc.{arc_value}
 use Rattle.task_graph.specs.NetRows.{NetRows}
 use Rattle.atomic_table.specs.Table.{Allows}
-use Rattle.table_steps.specs.inside.Accounts.{KeepsAccounts, AllFitNotes, edges_from}
+use Rattle.table_steps.specs.inside.Accounts.{KeepsAccounts, AllFitNotes, tokens_from}
 use Rattle.table_steps.proofs.TurnSteps.{learn_allowed}
 use Rattle.table_steps.proofs.steps.Words.learn_told.Goals as goal
 
 pub load-requires : goal.load-requires
 load-requires g c =
     let same : arc_value c.args.self.now.net ≡ arc_value c.args.self.now.table.shared.key.net = search rules in
-    let sized : c.args.self.now.table.shared.table_id.words ≡ edges_from (arc_value c.args.self.now.net) + length (arc_value c.args.self.now.net).edges + length (arc_value c.args.self.now.net).tasks = search rules in
+    let sized : c.args.self.now.table.shared.table_id.words ≡ tokens_from (arc_value c.args.self.now.net) + length (arc_value c.args.self.now.net).edges + length (arc_value c.args.self.now.net).tasks = search rules in
     let net = arc_value c.args.self.now.table.shared.key.net in let limit = c.args.self.now.table.shared.key.limit in let me = c.args.seat.now.me in
     let slots = c.args.self.now.table.shared.table_id.slots in let id = c.args.seat.now.id in (
       search rules,
       omega (arith, sized),
-      subst (λ (n : NetRows). Allows (KeepsAccounts net limit) slots id me 0 (λ k. k) (λ k m. (m.0 ≡ me.0) × (m.1 ≡ me.1) × AllFitNotes n me.0 × (length n.edges < 4294967296))) (sym (c.requires.told ∙ same))
+      subst (λ (n : NetRows). Allows (KeepsAccounts g.S.Parcel.part net limit) slots id me 0 (λ k. k) (λ k m. (m.0 ≡ me.0) × (m.1 ≡ me.1) × AllFitNotes n me.0 × (length n.edges < 4294967296))) (sym (c.requires.told ∙ same))
           (learn_allowed _ _ _ _ _ c.requires.ready),
     )
