@@ -9,6 +9,7 @@ mod clock;
 mod job;
 mod nets;
 mod runs;
+mod workers;
 
 use std::alloc::Global;
 use std::sync::Wait;

@@ -4,6 +4,7 @@ ghost use Rattle.std.specs.Prelude.{◌<◌, ◌≤◌};
 use crate::clock::nanos_since;
 use crate::job::{BusyJob, turned};
 use crate::nets;
+use crate::workers::run_by;
 use frame_steps::{Frame, State, Stepped};
 use number_jobs::{NumberJob, START_LIMIT};
 use outside_io::NoMemory;
@@ -15,7 +16,6 @@ use std::thread::Threads;
 use std::time::{Clock, Instant};
 use stepped_runs::stepped_by;
 use task_graph::{BuildError, Net};
-use thief_runs::run_by;
 
 const CHAIN: u32 = 10_000;
 

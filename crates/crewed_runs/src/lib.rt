@@ -1,7 +1,13 @@
-//! Runs of jobs of numbers by several workers. There is nothing here but tests.
+//! Runs of jobs by crews, for tests alone: two tasks that wait for each other, and the threads that enter the seats. The
+//! tests stand here.
 #![tactic(auto)]
 
 #[cfg(test)]
 mod gates;
+mod meeting;
 #[cfg(test)]
 mod runs;
+mod threads;
+
+pub use meeting::Meeting;
+pub use threads::ByThreads;

@@ -1,14 +1,15 @@
-// Small runs by one worker and by several, each a few times. Each journal is held against the judge.
+// Small runs by a crew of one worker and by larger ones, each a few times. Each journal is held against the judge.
+use crate::threads::ByThreads;
 use legal_run::{Verdict, judge};
 use number_jobs::NumberJob;
-use outside_io::List;
+use outside_io::{List, NoMemory};
 use std::alloc::Global;
 use std::process::Abort;
 use std::sync::{Arc, Wait};
 use std::test::Fail;
 use std::thread::Threads;
 use task_graph::{BuildError, Net, NetBuilder, Shape};
-use thief_runs::run_by;
+use worker_seat::{CrewRan, run_by_crew};
 
 const PLAIN: Shape = Shape::Plain;
 
@@ -19,7 +20,7 @@ const NEVER: u64 = 0;
 
 const TIMES: u32 = 20;
 
-const WORKERS: [u32; 4] = [1, 2, 4, 16];
+const WORKERS: [usize; 4] = [1, 2, 4, 16];
 
 // How many tasks follow the first of a fan.
 const FAN: u32 = 1_000;
@@ -69,7 +70,7 @@ fn once<R: Threads + Wait + Abort + Sync>(
     alloc: Global,
     net: &Arc<Net>,
     case: Case<'_>,
-    workers: u32,
+    workers: usize,
 ) -> Result<usize, Fail> {
     let Some(job) = NumberJob::new(Arc::try_clone(net)?, case.limit, case.turns, case.fault) else {
         panic!(rt; "a net that isn't flat");
@@ -77,7 +78,15 @@ fn once<R: Threads + Wait + Abort + Sync>(
     if workers == 0 || workers > 16 {
         panic!(rt; "no such crew");
     }
-    let run = run_by(rt, alloc, Arc::new(alloc, job)?, workers)?;
+    let watchers = vec![in alloc; (); workers]?;
+    let job = Arc::new(alloc, job)?;
+    let CrewRan { run, watchers } = run_by_crew::<NumberJob, (), ByThreads, R>(
+        rt, alloc, watchers, job,
+    );
+    assert_eq!(rt; watchers.len(), workers);
+    let Some(run) = run else {
+        return Err(NoMemory.into());
+    };
     let verdict = judge(alloc, net, case.limit, &run.journal)?;
     assert!(rt; matches!(verdict, Verdict::Complete));
     Ok(run.values.len())

@@ -1,3 +1,4 @@
+mod Crossing
 pub mod Preparing
 pub mod ReportLemmas
 pub mod OutputExamples

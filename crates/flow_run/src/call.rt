@@ -19,6 +19,7 @@ use super::conclusion::Conclusion;
 use super::judging::judge_file;
 use super::prepare::prepare;
 use super::report::put_report;
+use super::workers::run_by;
 use call_status::{Noted, Status, flushed, put_note};
 use command_line::{
     ArgumentsError, GREATEST_LIMIT, GREATEST_WORKERS, Request, Run, read_arguments,
@@ -32,7 +33,6 @@ use std::alloc::Global;
 use std::sync::{Arc, Wait};
 use std::thread::Threads;
 use text_tasks::TextJob;
-use thief_runs::run_by;
 
 /// How a call of the program ended.
 #[derive(Drop)]

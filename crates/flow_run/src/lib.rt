@@ -12,6 +12,7 @@ mod conclusion;
 mod judging;
 mod prepare;
 mod report;
+mod workers;
 
 pub use call::{Outcome, flow_main};
 pub use conclusion::{Conclusion, GraphFindings};

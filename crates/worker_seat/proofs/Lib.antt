@@ -1,5 +1,6 @@
 mod ChangedLemmas
 pub mod Crossing
+mod EnteredLemmas
 mod FoundLemmas
 mod SeatingLemmas
 mod WorkedCrews

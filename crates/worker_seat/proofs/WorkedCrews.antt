@@ -1,5 +1,5 @@
 -- Seats of a crew of two, one state after the other, computed; on both sides of each line of each definition.
-use Rattle.std.proofs.Common.{◌≡◌, ◌∙◌, ℕ, zero, suc, ◌<◌, true, false, [], ◌∷◌, Option, Some, None, refl, sym, ap, arith}
+use Rattle.std.proofs.Common.{◌≡◌, ◌∙◌, ℕ, zero, suc, ◌<◌, true, false, [], ◌∷◌, Option, Some, None, inl, inr, refl, sym, ap, arith}
 use Rattle.std.specs.List.{slice_index_or}
 use Rattle.std.proofs.lemmas.List.Elements.{All-from_recursion, recursion_from_All}
 use Rattle.atomic_table.specs.Seated.{TableId}
@@ -10,7 +10,7 @@ use Rattle.run_frame.specs.NestedRule.{job_of}
 use Rattle.worker_seat.specs.declared.crew.Crew.{Crew}
 use Rattle.worker_seat.specs.declared.seat.WorkerSeat.{WorkerSeat}
 use Rattle.worker_seat.specs.Seats.{CrewState, SeatState, crew_state, new_seat, IsBusy, at_job, found_closed, away, refused_seat, left_refused, IsClosedWith}
-use Rattle.worker_seat.specs.Crews.{state_of, watcher_of, crew_of, moved, IsSeatOf, AreSeatsOf, MayBegin, IsOpen, IsRunOf}
+use Rattle.worker_seat.specs.Crews.{state_of, watcher_of, crew_of, moved, IsSeatOf, AreSeatsOf, MayBegin, MayEnter, IsEntered, AreEntered, IsOpen, IsKeptOf, IsRunOf}
 
 -- two lists, which differ in their numbers of words
 abbrev here : TableId
@@ -99,6 +99,35 @@ module _ (V : Type 0) {X : Type 0} (watcher : X) where
   a_seat_that_found_it_closed_is_not : ¬ IsOpen (seat found_seven)
   a_seat_that_found_it_closed_is_not open_seat = cc
 
+  -- A seat may be entered where it is of the crew and at a run.
+  a_busy_seat_may_be_entered : (crew : Crew ℕ V) → crew_of crew ≡ crew_state here 2 → MayEnter crew (seat at_seven)
+  a_busy_seat_may_be_entered crew two = record { of_crew = sym (ap (λ (made : CrewState). made.list) two); busy = tt }
+
+  a_seat_at_no_run_may_not_be_entered : (crew : Crew ℕ V) → ¬ MayEnter crew (seat fresh)
+  a_seat_at_no_run_may_not_be_entered crew may = may.busy
+
+  a_seat_of_another_crew_may_not_be_entered : (crew : Crew ℕ V) → crew_of crew ≡ crew_state here 2 → ¬ MayEnter crew (seat (at_job 7 (new_seat there)))
+  a_seat_of_another_crew_may_not_be_entered crew two may = absurd (omega (arith, ap (λ (l : TableId). l.words) (may.of_crew ∙ ap (λ (made : CrewState). made.list) two)))
+
+  -- Once it was, it has found its run closed or is refused.
+  entered_and_found_closed : IsEntered (seat at_seven) (seat found_seven)
+  entered_and_found_closed = inl refl
+
+  entered_and_refused : IsEntered (seat at_seven) (seat refused_at_seven)
+  entered_and_refused = inr refl
+
+  not_entered : ¬ IsEntered (seat at_seven) (seat at_seven)
+  not_entered (inl closed) = let same : false ≡ true = ap (λ (s : WorkerSeat ℕ X V). s.place.closed) closed in cc
+  not_entered (inr refused) = let same : false ≡ true = ap (λ (s : WorkerSeat ℕ X V). s.place.refused) refused in cc
+
+  both_entered : AreEntered (seat at_seven ∷ seat at_seven ∷ []) (seat found_seven ∷ seat refused_at_seven ∷ [])
+  both_entered zero d below = entered_and_found_closed
+  both_entered (suc zero) d below = entered_and_refused
+  both_entered (suc (suc k)) d below = absurd (omega (arith, below))
+
+  second_not_entered : ¬ AreEntered (seat at_seven ∷ seat at_seven ∷ []) (seat found_seven ∷ seat at_seven ∷ [])
+  second_not_entered are = not_entered (are 1 (seat fresh) (omega arith))
+
   -- The seats of a crew of two: each of its list, and as many as it was made with.
   a_seat_of_its_list : (crew : Crew ℕ V) → crew_of crew ≡ crew_state here 2 → IsSeatOf crew (seat fresh)
   a_seat_of_its_list crew two = sym (ap (λ (made : CrewState). made.list) two)
@@ -142,3 +171,13 @@ module _ (V : Type 0) {X : Type 0} (watcher : X) where
       by_place : (k : ℕ) (one : WorkerSeat ℕ X V) → k < 1 → slice_index_or (seat found_seven ∷ []) k one ≡ one → IsClosedWith (job_of run) (state_of one) → ⊥
       by_place zero one below at closed = absurd (omega (arith, job, ap (λ (s : WorkerSeat ℕ X V). job_of_seat s.place.job) at, ap job_of_seat closed.1))
       by_place (suc k) one below at closed = absurd (omega (arith, below))
+
+  -- A run is a kept one of a job where it may be kept and is of that job.
+  kept_of_seven : (meaning : Meaning ℕ V) (run : FrameRun ℕ V) → IsKept meaning run → job_of run ≡ 7 → IsKeptOf meaning 7 run
+  kept_of_seven meaning run is job = record { kept = is; same = job }
+
+  kept_of_another_job : (meaning : Meaning ℕ V) (run : FrameRun ℕ V) → job_of run ≡ 8 → ¬ IsKeptOf meaning 7 run
+  kept_of_another_job meaning run job is = absurd (omega (arith, job, is.same))
+
+  of_seven_but_not_kept : (meaning : Meaning ℕ V) (run : FrameRun ℕ V) → ¬ IsKept meaning run → ¬ IsKeptOf meaning 7 run
+  of_seven_but_not_kept meaning run never is = never is.kept

@@ -1,12 +1,12 @@
 -- Crews and their seats, as contracts see them.
-use Rattle.std.specs.Prelude.{◌≡◌, false, List, All, Any, length, None}
+use Rattle.std.specs.Prelude.{◌≡◌, ◌<◌, ◌⊎◌, ℕ, false, List, All, Any, length, slice_index_or, None}
 use Rattle.run_frame.specs.declared.run.FrameRun.{FrameRun}
 use Rattle.run_frame.specs.Meaning.{Meaning}
 use Rattle.run_frame.specs.Legal.{IsKept}
 use Rattle.run_frame.specs.NestedRule.{job_of}
 use Rattle.worker_seat.specs.declared.crew.Crew.{Crew}
 use Rattle.worker_seat.specs.declared.seat.WorkerSeat.{WorkerSeat}
-use Rattle.worker_seat.specs.Seats.{CrewState, SeatState, IsClosedWith}
+use Rattle.worker_seat.specs.Seats.{CrewState, SeatState, IsBusy, IsClosedWith, found_closed, refused_seat}
 
 -- where a seat is
 abbrev pub state_of : {J V X : Type 0} → WorkerSeat J X V → SeatState J
@@ -38,9 +38,27 @@ pub record MayBegin {J V X : Type 0} (seat : WorkerSeat J X V) : Type 0 where
   pub free : (state_of seat).job ≡ None
   pub served : (state_of seat).refused ≡ false
 
+-- the seat may be entered by a thread of this crew
+pub record MayEnter {J V X : Type 0} (crew : Crew J V) (seat : WorkerSeat J X V) : Type 0 where
+  pub of_crew : IsSeatOf crew seat
+  pub busy : IsBusy (state_of seat).job
+
+-- a seat, and the same after an `enter`: it has found its run closed, or it was refused
+abbrev pub IsEntered : {J V X : Type 0} → WorkerSeat J X V → WorkerSeat J X V → Type 0
+IsEntered old new = (new ≡ moved found_closed old) ⊎ (new ≡ moved refused_seat old)
+
+-- seats, and the same after each was entered
+abbrev pub AreEntered : {J V X : Type 0} → List (WorkerSeat J X V) → List (WorkerSeat J X V) → Type 0
+AreEntered {J} {V} {X} old new = (k : ℕ) (seat : WorkerSeat J X V) → k < length old → IsEntered (slice_index_or old k seat) (slice_index_or new k seat)
+
 -- the seat hasn't found a run closed
 abbrev pub IsOpen : {J V X : Type 0} → WorkerSeat J X V → Type 0
 IsOpen seat = (state_of seat).closed ≡ false
+
+-- a run of this job that may be kept
+pub record IsKeptOf {J V : Type 0} (meaning : Meaning J V) (job : J) (run : FrameRun J V) : Type 0 where
+  pub kept : IsKept meaning run
+  pub same : job_of run ≡ job
 
 -- One of the seats has found a run closed: this one, which may be kept
 pub record IsRunOf {J V X : Type 0} (meaning : Meaning J V) (seats : List (WorkerSeat J X V)) (run : FrameRun J V) : Type 0 where

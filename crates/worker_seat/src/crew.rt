@@ -32,7 +32,7 @@ pub struct CrewParts<J: Job + Drop, X> {
 
 impl<J: Job + Drop> Crew<J> {
     ghost use Rattle.worker_seat.specs.Seats.{IsBusy, at_job, away, found_closed, left_refused, refused_seat};
-    ghost use Rattle.worker_seat.specs.Crews.{AreSeatsOf, IsOpen, IsRunOf, IsSeatOf, MayBegin, moved, state_of, watcher_of};
+    ghost use Rattle.worker_seat.specs.Crews.{AreSeatsOf, IsEntered, IsOpen, IsRunOf, IsSeatOf, MayBegin, MayEnter, moved, state_of, watcher_of};
 
     /// A crew with a seat for each of 1 to 16 watchers, in their order. They come back if an allocation fails.
     pub fn new<X: Drop>(alloc: Global, watchers: Vec<X>) -> Result<CrewParts<J, X>, Back<Vec<X>>>
@@ -95,6 +95,17 @@ impl<J: Job + Drop> Crew<J> {
             self.list.ready.close(); // the run is never closed, so nobody has to wait for it
         }
         seat.place.conclude(rt)
+    }
+
+    /// Enters a seat, and leaves it to the seat what came of that.
+    pub fn work_at<X, R: Wait>(&self, rt: &R, seat: &mut WorkerSeat<J, X>)
+        requires { MayEnter self.now seat.old }
+        ensures { IsEntered seat.old seat.new }
+    {
+        match self.enter(rt, seat) {
+            Ok(()) => (),
+            Err(NoMemory) => (),
+        }
     }
 
     /// Hands out the run that a seat has found closed, and takes all seats away from it. `None` exactly where no seat

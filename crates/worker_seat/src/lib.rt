@@ -33,6 +33,7 @@ mod attendance;
 mod closing;
 mod crew;
 mod crew_run;
+mod entering;
 mod item;
 mod list;
 mod place;
@@ -41,4 +42,5 @@ mod seats;
 mod steps;
 
 pub use crew::{Crew, CrewParts};
+pub use entering::{CrewRan, EntersEach, run_by_crew, run_by_seats};
 pub use seat::WorkerSeat;

@@ -1,0 +1,2 @@
+mod NumberCrossing
+mod MeetingCrossing

@@ -1,0 +1,58 @@
+-- What goes to the threads that enter the seats of a crew of text jobs.
+use denote.Param.Send.{IsSend, IsSync, sendable}
+use denote.Struct.Field as field
+use Rattle.std.proofs.Crossing.{crosses, frees}
+use Rattle.std.proofs.alloc.Global.TheSendSync as heap
+use Rattle.std.proofs.option.Option.TheSendSync as option
+use Rattle.boxcar.proofs.slot.OnceSlot.TheSendSync as slot
+use Rattle.boxcar.proofs.slot.Written.TheSendSync as written
+use Rattle.boxcar.proofs.tag.Tag.TheSendSync as tag
+use Rattle.worker_seat.proofs.Crossing.{seat_send, crew_sync}
+use Rattle.worker_seat.specs.contracts.seat.WorkerSeat as worker_seat
+use Rattle.worker_seat.specs.contracts.crew.Crew as crew
+use Rattle.graph_plans.specs.contracts.plans.Plan as plan
+use Rattle.text_tasks.specs.contracts.table.TextTable as text_table
+use Rattle.text_tasks.specs.contracts.job.GraphJob as graph_job
+use Rattle.text_tasks.specs.contracts.job.TextJob as text_job
+use Rattle.text_tasks.specs.contracts.item.Item as item
+use Rattle.text_tasks.specs.contracts.job.TextJobJob.TheImpl as job
+use Rattle.text_tasks.specs.contracts.job.TextJobValued.TheImpl as valued
+
+-- what crosses threads in a table of texts
+ruleset texts = (crosses, frees, heap.the_field_send, heap.the_field_sync, heap.the_send, heap.the_sync, option.the_send, option.the_sync, slot.the_send, slot.the_sync, written.the_send, written.the_sync, tag.the_send, tag.the_sync, sendable)
+
+table_send : IsSend text_table.the_row
+table_send = search texts depth 60 fits 20000
+
+table_sync : IsSync text_table.the_row
+table_sync = search texts depth 60 fits 20000
+
+plan_send : IsSend plan.the_row
+plan_send = search (crosses, frees, sendable) depth 60 fits 20000
+
+plan_sync : IsSync plan.the_row
+plan_sync = search (crosses, frees, sendable) depth 60 fits 20000
+
+graph_job_send : IsSend graph_job.the_row
+graph_job_send = search (table_send, table_sync, plan_send, plan_sync, texts) depth 60 fits 20000
+
+graph_job_sync : IsSync graph_job.the_row
+graph_job_sync = search (table_send, table_sync, plan_send, plan_sync, texts) depth 60 fits 20000
+
+job_send : IsSend text_job.the_row
+job_send = search (graph_job_send, texts) depth 60 fits 20000
+
+job_sync : IsSync text_job.the_row
+job_sync = search (graph_job_sync, texts) depth 60 fits 20000
+
+item_send : IsSend item.the_row
+item_send = search (crosses, frees, sendable) depth 60 fits 20000
+
+item_sync : IsSync item.the_row
+item_sync = search (crosses, frees, sendable) depth 60 fits 20000
+
+pub seat_crosses : IsSend (worker_seat.the_row text_job.the_row (field.unit-field).row item.the_row job.ghosts valued.ghosts)
+seat_crosses = seat_send text_job.the_row item.the_row job.ghosts valued.ghosts job_send job_sync item_send item_sync (field.unit-field).row (search sendable)
+
+pub crew_shared : IsSync (crew.the_row text_job.the_row item.the_row job.ghosts valued.ghosts)
+crew_shared = crew_sync text_job.the_row item.the_row job.ghosts valued.ghosts job_send job_sync item_send item_sync

@@ -1,0 +1,66 @@
+// Runs by so many workers.
+ghost use Rattle.std.specs.Prelude.{◌≡◌, ◌<◌, ◌≤◌, IfOk};
+ghost use Rattle.std.specs.Arc.{arc_value};
+ghost use Rattle.run_frame.specs.FlatNets.{IsFlatNet};
+ghost use Rattle.run_frame.specs.Legal.{IsKept};
+ghost use Rattle.run_frame.specs.NestedRule.{job_of};
+ghost use Rattle.text_tasks.specs.JobMeaning.{net_of, text_job};
+ghost use Rattle.worker_seat.specs.Crews.{IsEntered, MayEnter};
+
+use command_line::GREATEST_WORKERS;
+use outside_io::NoMemory;
+use run_frame::{FrameRun, run_alone};
+use std::alloc::Global;
+use std::sync::{Arc, Wait};
+use std::thread::{Threads, for_each_mut};
+use text_tasks::TextJob;
+use worker_seat::{Crew, CrewRan, EntersEach, WorkerSeat, run_by_crew};
+
+/// Runs a job to its end by so many workers. A single worker is the caller's thread, which needs no lock; several are a
+/// crew, whose seats are entered by threads. It answers `Err` only if an allocation fails.
+pub(crate) fn run_by<R: Threads + Wait + Sync>(
+    rt: &R,
+    alloc: Global,
+    job: Arc<TextJob>,
+    workers: u32,
+) -> Result<FrameRun<TextJob>, NoMemory>
+    requires workers { (0 < workers) × (workers ≤ GREATEST_WORKERS) }
+    requires flat { IsFlatNet (net_of (arc_value job)) }
+    ensures job { IfOk result (λ run. job_of run ≡ arc_value job) }
+    ensures kept { IfOk result (IsKept text_job) }
+{
+    if workers == 1 {
+        return run_alone(alloc, job);
+    }
+    let watchers = vec![in alloc; (); workers as usize]?;
+    let CrewRan { run, watchers } = run_by_crew::<TextJob, (), ByThreads, R>(
+        rt, alloc, watchers, job,
+    );
+    drop(watchers);
+    match run {
+        Some(run) => Ok(run),
+        None => Err(NoMemory),
+    }
+}
+
+// The threads of the seats.
+struct ByThreads;
+
+impl EntersEach<TextJob, ()> for ByThreads {
+    fn enter_each<R: Threads + Wait + Sync>(
+        rt: &R,
+        crew: &Crew<TextJob>,
+        seats: &mut [WorkerSeat<TextJob, ()>],
+    ) {
+        let threads = seats.len().max(1);
+        for_each_mut(
+            rt,
+            seats,
+            threads,
+            &|_, seat: &mut WorkerSeat<TextJob, ()>|
+                requires { MayEnter crew.now seat.old }
+                ensures { IsEntered seat.old seat.new }
+            { crew.work_at(rt, seat) },
+        );
+    }
+}
