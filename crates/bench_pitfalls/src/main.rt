@@ -6,7 +6,7 @@
 mod clock;
 mod nets;
 
-use nets::Kind;
+use nets::NetKind;
 use std::time::Instant;
 use std::{env, io};
 
@@ -17,17 +17,17 @@ fn main(rt: HostRuntime) -> io::Result<()> {
     if word.as_str() != "measure" {
         return Ok(());
     }
-    measure(&rt, "edges at random", Kind::Random)?;
+    measure(&rt, "edges at random", NetKind::Random)?;
     measure(
         &rt,
         "edges at random, a third of the tasks conditions",
-        Kind::Conditions,
+        NetKind::Conditions,
     )?;
-    measure(&rt, "edges to later tasks at random", Kind::Later)?;
-    measure(&rt, "edges to the next tasks, in a ring", Kind::Ring)
+    measure(&rt, "edges to later tasks at random", NetKind::Later)?;
+    measure(&rt, "edges to the next tasks, in a ring", NetKind::Ring)
 }
 
-fn measure(rt: &HostRuntime, name: &str, kind: Kind) -> io::Result<()> {
+fn measure(rt: &HostRuntime, name: &str, kind: NetKind) -> io::Result<()> {
     let start = Instant::now(rt)?;
     let Ok(net) = nets::net_of_kind(rt.alloc(), kind) else {
         return println!(rt; "{name}: out of memory");

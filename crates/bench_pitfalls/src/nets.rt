@@ -13,7 +13,7 @@ const EDGES: u32 = 8_000_000;
 
 /// Where the edges of a net lead.
 #[derive(Clone, Copy, PartialEq, Eq)]
-pub enum Kind {
+pub enum NetKind {
     /// From any task to any task.
     Random,
     /// The same, and each third task is a condition.
@@ -25,10 +25,10 @@ pub enum Kind {
 }
 
 /// A net of this kind.
-pub fn net_of_kind(alloc: Global, kind: Kind) -> Result<Net, BuildError> {
+pub fn net_of_kind(alloc: Global, kind: NetKind) -> Result<Net, BuildError> {
     let mut builder = NetBuilder::new(alloc);
     for task in 0..TASKS {
-        let shape = if kind == Kind::Conditions && task % 3 == 0 {
+        let shape = if kind == NetKind::Conditions && task % 3 == 0 {
             Shape::Choice
         } else {
             Shape::Plain
@@ -54,12 +54,12 @@ fn next(state: &mut u64) -> u64 {
 }
 
 // The ends of an edge.
-fn ends(kind: Kind, edge: u32, one: u32, other: u32) -> (u32, u32) {
+fn ends(kind: NetKind, edge: u32, one: u32, other: u32) -> (u32, u32) {
     let from = edge % TASKS;
     match kind {
-        Kind::Random | Kind::Conditions => (one, other),
-        Kind::Later => (one.min(other), one.max(other)),
-        Kind::Ring => (
+        NetKind::Random | NetKind::Conditions => (one, other),
+        NetKind::Later => (one.min(other), one.max(other)),
+        NetKind::Ring => (
             from,
             from.saturating_add(1).saturating_add(edge / TASKS) % TASKS,
         ),

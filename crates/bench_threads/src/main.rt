@@ -48,7 +48,7 @@ fn main(rt: HostRuntime) -> io::Result<()> {
     Ok(())
 }
 
-// The number that a word stands for.
+// The number that a word writes.
 fn number(word: Option<String>) -> u32 {
     word.map_or(0, |word| word.as_str().parse::<u32>().unwrap_or(0))
 }

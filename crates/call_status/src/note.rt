@@ -18,7 +18,7 @@ use outside_io::{Bytes, List, NoMemory, Sink, SinkFault};
 use std::alloc::Global;
 
 /// Writes the line of a status to `notes`, the diagnostics sink, by one write, and flushes it. With `Done` there is no
-/// line, and the sink is left alone. `names` are those of the tasks, by their numbers; each task that the status tells
+/// line, and the sink is left alone. `names` are those of the tasks, by their numbers; each task that the status names
 /// of has one. A line that names nothing allocates nothing, so that of a failed allocation can be written all the same.
 pub fn put_note<N: Sink>(alloc: Global, notes: &mut N, names: &[Bytes], status: &Status) -> Noted
     requires nothing_held { (N.state notes.old).held_back ≡ [] }

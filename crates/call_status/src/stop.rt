@@ -10,12 +10,19 @@ use std::alloc::AllocFailed;
 /// Why a call ends before its run. Each reason is the status of the same name.
 #[derive(Drop)]
 pub enum Stop {
+    /// The bytes of the graph file are refused.
     BadGraph(GraphError),
+    /// Nothing can begin in the graph of this spot.
     NoSource(Spot),
+    /// There is no file of this name.
     NoText(Bytes),
+    /// The file of this name is longer than it may be.
     LongText(Bytes),
+    /// Reading the file of this name failed.
     ReadFault(Bytes),
+    /// The line of this number, from 1, is none of a journal's.
     BadJournal(u64),
+    /// An allocation failed.
     NoMemory,
 }
 

@@ -1,7 +1,7 @@
 //! What a command line asks for.
 //!
 //! The first argument names a command of `flow`, and `clap` reads those after it, by one simple command for each of
-//! `flow`'s. The layer above sees what is asked for as plain data; which command lines ask for it stands in
+//! `flow`'s. The layer above sees what is asked for as plain data; which command lines ask for it is in
 //! `specs/Requests.antt`: `run_app`, `judge_app` and `check_app` are the commands that `clap` reads by, and `run_in`,
 //! `judge_in` and `check_in` what their matches come to.
 #![tactic(auto)]

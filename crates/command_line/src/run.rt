@@ -76,7 +76,7 @@ fn run_of<'w>(matches: &ArgMatches<'w>) -> Option<Run<'w>>
     })
 }
 
-// Whether a flag stands among the arguments, by what `clap` says of it.
+// Whether a flag is among the arguments, by what `clap` says of it.
 fn is_set(text: Option<&str>) -> bool
     ensures { result ≡ is_set (option_map (λ t. t.now) text.entry) }
 {

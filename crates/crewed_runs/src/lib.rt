@@ -1,5 +1,5 @@
 //! Runs of jobs by crews, for tests alone: two tasks that wait for each other, and the threads that enter the seats. The
-//! tests stand here.
+//! tests are here.
 #![tactic(auto)]
 
 #[cfg(test)]

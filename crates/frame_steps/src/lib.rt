@@ -10,7 +10,7 @@
 //! the state lists what is outstanding, each item of it is named by one ticket, and a ticket is redeemed once.
 //!
 //! The layer above sees a release as its ticket and the keys of its frame and of the frames around it
-//! (`specs/Releases.antt`), the last of which has the job of the whole run. What a beginning and a step do stands in
+//! (`specs/Releases.antt`), the last of which has the job of the whole run. What a beginning and a step do is in
 //! `specs/Steps.antt`. No frame is inside another yet.
 #![tactic(auto)]
 

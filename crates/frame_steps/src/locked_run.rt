@@ -16,7 +16,7 @@ use tickets::Ticket;
 
 /// The state of a run, and how many tickets for it are out.
 ///
-/// The state is boxed, since whoever takes the lock moves what is under it. The count tells whether something is left
+/// The state is boxed, since whoever takes the lock moves what is under it. The count says whether something is left
 /// to do without moving the state.
 #[derive(Drop)]
 pub struct LockedRun<J: Job> {

@@ -27,7 +27,7 @@ pub(crate) fn no_such_name(alloc: Global, spot: Spot, field: &str) -> GraphError
     }
 }
 
-/// The refusal of a name that stands before.
+/// The refusal of a name that an earlier field has.
 pub(crate) fn repeated(alloc: Global, spot: Spot, field: &str) -> GraphError
     ensures { result ≢ GraphError.NoMemory → result ≡ GraphError.Repeated spot field.now }
 {

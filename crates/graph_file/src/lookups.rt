@@ -13,7 +13,7 @@ use std::collections::HashMap;
 /// The places of names in a list.
 pub(crate) type Places<'n> = HashMap<&'n [u8], usize>;
 
-/// The first place of each of some names, and the first place at which a name stands that stood before.
+/// The first place of each of some names, and the first place of a name that is at an earlier one too.
 #[derive(Drop)]
 pub(crate) struct Named<'n> {
     pub places: Places<'n>,

@@ -7,10 +7,15 @@ use outside_io::{Back, Bytes, NoMemory};
 /// What there may be too many of.
 #[derive(Clone, Copy, Debug, PartialEq, Eq)]
 pub enum Kind {
+    /// Tasks of the file and its modules.
     Tasks,
+    /// Edges of the file and its modules.
     Edges,
+    /// Semaphores of the file and its modules.
     Semaphores,
+    /// Modules.
     Modules,
+    /// Modules inside modules.
     Depth,
     /// Different names of texts.
     Texts,
@@ -25,8 +30,9 @@ pub enum GraphError {
     BadField(Spot, Bytes),
     /// A field has a name that nothing has.
     NoSuchName(Spot, Bytes),
-    /// A field has a name that stands before.
+    /// A field has a name that an earlier one has.
     Repeated(Spot, Bytes),
+    /// There are more of these than a graph file may have.
     TooMany(Kind),
     /// Memory was refused. It says nothing of the bytes.
     NoMemory,

@@ -22,7 +22,7 @@ pub struct Graph {
 #[derive(Drop)]
 pub struct Plan {
     pub top: Graph,
-    /// The graphs that stand behind tasks, by their numbers.
+    /// The graphs of tasks that are modules, by their numbers.
     pub modules: List<Graph>,
     /// The names of the texts that the tasks read, each once, in the order in which they are first mentioned.
     pub texts: List<Bytes>,

@@ -10,7 +10,7 @@
 //! strong in-edges were given, and how many of these edges were given no more. Only where the last of them gets a token
 //! are they all walked.
 //!
-//! The rules are in `specs/`, one a file. What the counts stand for is in `specs/inside/`: of the crates above only the
+//! The rules are in `specs/`, one a file. What the counts count is in `specs/inside/`: of the crates above only the
 //! machine, the judge and lemmas cite it.
 #![tactic(auto)]
 

@@ -5,7 +5,7 @@ use outside_io::NoMemory;
 use std::alloc::Global;
 use std::marker::Model;
 
-/// A flag for each place of a journal and perhaps for some to come: whether an open Start stands there.
+/// A flag for each place of a journal and perhaps for some to come: whether an open Start is there.
 #[derive(Drop)]
 pub struct OpenStarts {
     flags: Vec<bool>,
@@ -72,7 +72,7 @@ impl OpenStarts {
         self.count -= 1;
     }
 
-    /// Whether an open Start stands at a place.
+    /// Whether there is an open Start at a place.
     pub fn is_open(&self, place: usize) -> bool
         ensures { IsTrue result ↔ (slice_get self.now place ≡ Some true) }
     {

@@ -3,7 +3,7 @@
 /// A start from its Start to its End or Fault, both by their places in the journal of its run.
 #[derive(Clone, Copy, Debug, PartialEq, Eq)]
 pub struct Span {
-    /// How many runs the run stands in: 0 for one that stands in none.
+    /// How many runs the run is inside of: 0 for one that is in none.
     pub depth: u32,
     /// The task that started.
     pub task: u32,

@@ -7,7 +7,7 @@ use outside_io::{Back, NoMemory};
 /// Why the front of the bytes wasn't read.
 #[derive(Clone, Copy, Debug, PartialEq, Eq)]
 pub(crate) enum LineFault {
-    /// Something else stands there.
+    /// Something else is there.
     Bad,
     /// An allocation failed.
     NoMemory,

@@ -10,7 +10,7 @@ use super::words::{after_word, index_at, number_at};
 use journal_rules::{Cause, Entry};
 use std::alloc::Global;
 
-/// The version that the first line names, and what stands behind that line.
+/// The version that the first line names, and what follows that line.
 #[tactic(auto, unfolding(crate::specs::inside::Reading::version_at))]
 pub(crate) fn version_at(bytes: &[u8]) -> Option<(Version, &[u8])>
     ensures { option_map (λ x. (x.0, x.1.now)) result ≡ version_at bytes.now }
@@ -22,7 +22,7 @@ pub(crate) fn version_at(bytes: &[u8]) -> Option<(Version, &[u8])>
     Some((Version::One, rest))
 }
 
-/// The entry of the line at the front, and what stands behind the line.
+/// The entry of the line at the front, and what follows the line.
 #[tactic(auto, unfolding(crate::specs::inside::Reading::entry_at))]
 pub(crate) fn entry_at(
     alloc: Global,

@@ -17,7 +17,7 @@ pub(crate) trait ListItem: Copy + Drop {
     /// How an item is read.
     ghost read_at: { List ℕ → Option (Self × List ℕ) };
 
-    /// The item at the front, and what stands behind it.
+    /// The item at the front, and what follows it.
     fn item_at(bytes: &[u8]) -> Option<(Self, &[u8])>
         ensures { option_map (λ x. (x.0, x.1.now)) result ≡ read_at bytes.now };
 }
@@ -38,7 +38,7 @@ impl ListItem for u32 {
     }
 }
 
-/// The list at the front, and what stands behind it.
+/// The list at the front, and what follows it.
 #[tactic(auto, unfolding(crate::specs::inside::Reading::list_at))]
 pub(crate) fn list_at<T: ListItem>(
     alloc: Global,
@@ -67,7 +67,7 @@ fn items_at<T: ListItem>(alloc: Global, bytes: &[u8]) -> Result<(List<T>, &[u8])
     Ok((items, rest))
 }
 
-// Puts so many items at the end, which have a comma before each, and gives what stands behind them.
+// Puts so many items at the end, which have a comma before each, and gives what follows them.
 fn more_items<'a, T: ListItem>(
     items: &mut List<T>,
     count: usize,
@@ -83,7 +83,7 @@ fn more_items<'a, T: ListItem>(
     Ok(rest)
 }
 
-// Puts the item behind a comma at the end, and gives what stands behind it.
+// Puts the item behind a comma at the end, and gives what follows it.
 fn push_next<'a, T: ListItem>(items: &mut List<T>, bytes: &'a [u8]) -> Result<&'a [u8], LineFault>
     ensures read { IfOk result (λ rest. (x : T) × (items.new ≡ items.old ++ x ∷ []) × (next_item T.read_at bytes.now ≡ Some (x, rest.now))) }
     ensures bad { IsErrOf result LineFault.Bad → next_item T.read_at bytes.now ≡ None }
@@ -102,7 +102,7 @@ fn next_item<T: ListItem>(bytes: &[u8]) -> Option<(T, &[u8])>
     T::item_at(after_word(bytes, b",")?)
 }
 
-// How many commas stand before the end of the list.
+// How many commas there are before the end of the list.
 fn comma_count(bytes: &[u8]) -> usize
     ensures value { result ≡ comma_count bytes.now }
     ensures most { result ≤ length bytes.now }

@@ -55,7 +55,7 @@ fn read_whole(alloc: Global, bytes: &[u8]) -> Result<Journal, JournalError>
     read_entries(alloc, version, rest)
 }
 
-// The entries of these lines, which stand behind the first line.
+// The entries of these lines, which follow the first line.
 fn read_entries(alloc: Global, version: Version, bytes: &[u8]) -> Result<Journal, JournalError>
     ensures journal { IfOk result (λ journal. HasRead version bytes.now journal []) }
     ensures stops { IfErr result (λ error. StopsReading version bytes.now error) }
@@ -75,7 +75,7 @@ fn read_entries(alloc: Global, version: Version, bytes: &[u8]) -> Result<Journal
     Ok(journal)
 }
 
-// Puts the entry of the line at the front at the end of the journal, and gives what stands behind the line.
+// Puts the entry of the line at the front at the end of the journal, and gives what follows the line.
 fn push_entry<'a>(
     alloc: Global,
     journal: &mut Journal,

@@ -2,7 +2,7 @@
 ghost use Rattle.std.specs.Prelude.{◌≡◌, ◌+◌, ◌-◌, ◌*◌, ◌^◌, ◌≤◌, IfSome, IfNone, nat_lt, option_copied, option_map, if◌then◌else◌};
 ghost use Rattle.journal_text.specs.inside.Reading.{number_on, index_at, named_index_at, named_number_at, number_at, begins_number, word_at};
 
-/// What stands behind this word.
+/// What follows this word.
 pub(crate) fn after_word<'a>(bytes: &'a [u8], word: &[u8]) -> Option<&'a [u8]>
     ensures { option_copied result ≡ word_at word.now bytes.now }
 {
@@ -12,7 +12,7 @@ pub(crate) fn after_word<'a>(bytes: &'a [u8], word: &[u8]) -> Option<&'a [u8]>
     Some(&bytes[word.len()..])
 }
 
-/// A number of 64 bits, without leading zeros, and what stands behind it.
+/// A number of 64 bits, without leading zeros, and what follows it.
 #[tactic(auto, unfolding(crate::specs::inside::Reading::number_at))]
 pub(crate) fn number_at(bytes: &[u8]) -> Option<(u64, &[u8])>
     ensures { option_map (λ x. (x.0, x.1.now)) result ≡ number_at bytes.now }
@@ -24,7 +24,7 @@ pub(crate) fn number_at(bytes: &[u8]) -> Option<(u64, &[u8])>
     }
 }
 
-// Whether a digit stands at the front, and no other behind a zero.
+// Whether there is a digit at the front, and no other behind a zero.
 fn begins_number(bytes: &[u8]) -> bool
     ensures { result ≡ begins_number bytes.now }
 {
@@ -35,7 +35,7 @@ fn begins_number(bytes: &[u8]) -> bool
     }
 }
 
-// The number that the digits at the front write, if it has 64 bits, and what stands behind them.
+// The number that the digits at the front write, if it has 64 bits, and what follows them.
 fn digits_at(bytes: &[u8]) -> Option<(u64, &[u8])>
     ensures { option_map (λ x. (x.0, x.1.now)) result ≡ (if nat_lt (number_on 0 bytes.now).0 (2 ^ 64) then Some (number_on 0 bytes.now) else None) }
 {
@@ -61,7 +61,7 @@ fn with_digit(value: u64, digit: u8) -> Option<u64>
     value.checked_mul(10)?.checked_add(u64::from(digit - b'0'))
 }
 
-/// A number of 32 bits, without leading zeros, and what stands behind it.
+/// A number of 32 bits, without leading zeros, and what follows it.
 #[tactic(auto, unfolding(crate::specs::inside::Reading::index_at))]
 pub(crate) fn index_at(bytes: &[u8]) -> Option<(u32, &[u8])>
     ensures { option_map (λ x. (x.0, x.1.now)) result ≡ index_at bytes.now }
@@ -73,7 +73,7 @@ pub(crate) fn index_at(bytes: &[u8]) -> Option<(u32, &[u8])>
     Some((number as u32, rest))
 }
 
-/// The number behind this word, and what stands behind it.
+/// The number after this word, and what follows it.
 #[tactic(auto, unfolding(crate::specs::inside::Reading::named_number_at))]
 pub(crate) fn named_number_at<'a>(bytes: &'a [u8], word: &[u8]) -> Option<(u64, &'a [u8])>
     ensures { option_map (λ x. (x.0, x.1.now)) result ≡ named_number_at word.now bytes.now }
@@ -81,7 +81,7 @@ pub(crate) fn named_number_at<'a>(bytes: &'a [u8], word: &[u8]) -> Option<(u64, 
     number_at(after_word(bytes, word)?)
 }
 
-/// The number of 32 bits behind this word, and what stands behind it.
+/// The number of 32 bits after this word, and what follows it.
 #[tactic(auto, unfolding(crate::specs::inside::Reading::named_index_at))]
 pub(crate) fn named_index_at<'a>(bytes: &'a [u8], word: &[u8]) -> Option<(u32, &'a [u8])>
     ensures { option_map (λ x. (x.0, x.1.now)) result ≡ named_index_at word.now bytes.now }

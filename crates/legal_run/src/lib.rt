@@ -9,7 +9,7 @@
 //! - `machine` and `walk`: check, append and count; check and count. `waiting` has what the machine's starts find.
 //!
 //! The layer above sees a machine as a `MachineState`: the net, the limit of starts and the journal. The rules of
-//! journals are those of `journal_rules`. `specs/` has what the calls do: `Refusal.antt` says which break is told of an
+//! journals are those of `journal_rules`. `specs/` has what the calls do: `Refusal.antt` says which break is reported of an
 //! entry, `Machine.antt` what a step does, `Verdict.antt` what the judge says. Invariants are in `specs/inside/`.
 #![tactic(auto)]
 

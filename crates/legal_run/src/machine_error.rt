@@ -4,7 +4,7 @@ ghost use Rattle.legal_run.specs.Machine.{break_of};
 
 use super::verdict::Break;
 
-/// Why a machine refuses an entry. Where several hold, the first in this order is told.
+/// Why a machine refuses an entry. Where several hold, the first in this order is reported.
 #[derive(Clone, Copy, Debug, PartialEq, Eq)]
 pub enum MachineError {
     /// A task, an edge or a semaphore of that number isn't there.

@@ -35,7 +35,7 @@ impl Marks {
         })
     }
 
-    /// Whether no number stands twice in a list.
+    /// Whether no number occurs twice in a list.
     pub fn are_distinct(&mut self, numbers: &[u32]) -> bool
         requires { All (λ n. n < self.old) numbers.now }
         ensures distinct { IsTrue result ↔ IsDistinct ◌==◌ numbers.now }

@@ -147,7 +147,7 @@ impl<'j> Position<'j> {
         Ok(task)
     }
 
-    // The task of the open Start at a place, if one stands there.
+    // The task of the open Start at a place, if one is there.
     fn open_task(&self, start: u64) -> Option<u32>
         ensures { MatchOption result (¬ IsTrue (is_open self.now.journal start)) (λ task. (ClosesTask self.now.journal start task × IsTrue (is_open self.now.journal start)) × (task < length self.now.net.tasks)) }
     {
@@ -346,7 +346,7 @@ impl<'j> Position<'j> {
     }
 }
 
-// The task of the Start at a place, if one stands there.
+// The task of the Start at a place, if one is there.
 fn start_at(journal: &[Entry], place: u64) -> Option<u32>
     ensures { result ≡ start_at journal.now place }
 {

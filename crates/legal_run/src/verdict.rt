@@ -1,6 +1,6 @@
 // What is wrong with an entry, and what the judge says of a journal.
 
-/// The rule that an entry breaks. Where it breaks several, the first in this order is told (`IsRefusal`).
+/// The rule that an entry breaks. Where it breaks several, the first in this order is reported (`IsRefusal`).
 #[derive(Clone, Copy, Debug, PartialEq, Eq)]
 pub enum Break {
     /// A task, an edge or a semaphore of that number isn't there.
@@ -34,6 +34,6 @@ pub enum Verdict {
     Complete,
     /// It is legal as far as the net decides, and the run isn't finished.
     Legal,
-    /// The entry at this index is the first that may not stand there, and why.
+    /// The entry at this index is the first that may not follow those before it, and why.
     Breaks(u64, Break),
 }

@@ -14,7 +14,7 @@ use std::alloc::Global;
 use task_graph::Net;
 
 /// Judges a journal in one pass: whether it is legal as far as the net decides, and that of a finished run, or which
-/// entry is the first that may not stand where it stands, and why. What the starts found isn't judged.
+/// entry is the first that may not follow those before it, and why. What the starts found isn't judged.
 pub fn judge(alloc: Global, net: &Net, limit: u64, journal: &Journal) -> Result<Verdict, NoMemory>
     ensures { IfOk result (IsVerdict net.now limit journal.now) }
 {
@@ -168,7 +168,7 @@ impl Walk {
         Ok(())
     }
 
-    // What is said of a journal of which each entry may stand where it stands.
+    // What is said of a journal of which each entry may follow those before it.
     fn end_of(&self, net: &Net, limit: u64, entries: &[Entry]) -> Verdict
         requires at { IsAt net.now limit entries.now self.now }
         requires size { length entries.now < 2 ^ 61 }

@@ -22,19 +22,19 @@ number_after (value n) = min (n + 1) 18446744073709551615
 number_after first = 1
 number_after nothing = 1
 
-abbrev pub number_on : List (InputValue ℕ) → ℕ
-number_on [] = 1
-number_on (found ∷ more) = number_after found
+abbrev pub number_from : List (InputValue ℕ) → ℕ
+number_from [] = 1
+number_from (found ∷ more) = number_after found
 
 -- A task may give that number to any of its successors.
 abbrev pub NumberAnswers : NumberWork → ℕ → List (InputValue ℕ) → Done NumberWork ℕ → Type 0
 NumberAnswers work task found (Value n answer) =
-    (n ≡ number_on found) × IfSome (slice_get work.net.tasks task) (λ (row : TaskRow). FitsShape row.shape answer)
+    (n ≡ number_from found) × IfSome (slice_get work.net.tasks task) (λ (row : TaskRow). FitsShape row.shape answer)
 NumberAnswers work task found (InnerJob inner) = ⊥
 
 -- It faults at one number alone.
 abbrev pub NumberFaults : NumberWork → ℕ → List (InputValue ℕ) → Why → Type 0
-NumberFaults work task found (Long n) = (n ≡ number_on found) × (n ≡ work.fault)
+NumberFaults work task found (Long n) = (n ≡ number_from found) × (n ≡ work.fault)
 NumberFaults work task found (Wide n) = ⊥
 NumberFaults work task found (Unmet k) = ⊥
 NumberFaults work task found Inner = ⊥

@@ -4,7 +4,7 @@ ghost use Rattle.std.specs.Arc.{arc_value};
 ghost use Rattle.task_graph.specs.declared.net.TaskRow.{TaskRow};
 ghost use Rattle.join_words.specs.Ins.{parts_of, found_of};
 ghost use Rattle.run_frame.specs.Meaning.{FitsShape};
-ghost use Rattle.number_jobs.specs.NumberMeaning.{number_after, number_on};
+ghost use Rattle.number_jobs.specs.NumberMeaning.{number_after, number_from};
 
 use super::flat::is_flat;
 use join_words::{Given, Ins};
@@ -85,7 +85,7 @@ impl NumberJob {
 
 // The number that a task comes to.
 fn number_made(ins: &Ins<u64>) -> u64
-    ensures { result ≡ number_on (map found_of (parts_of ins.now)) }
+    ensures { result ≡ number_from (map found_of (parts_of ins.now)) }
 {
     match ins.get(0) {
         Some(given) => number_after(given),

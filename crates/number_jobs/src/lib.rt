@@ -1,6 +1,6 @@
 //! Jobs whose values are numbers. They are no part of a program: they serve tests of runs and measurements.
 //!
-//! A task counts one more than the first number that it finds, so that a value tells how many starts led to it, and
+//! A task counts one more than the first number that it finds, so that a value says how many starts led to it, and
 //! a task that chooses goes by that number. The tests lead runs of such jobs in different orders, and hold their
 //! journals against the slow decisions of the rules.
 #![tactic(auto)]

@@ -1,4 +1,4 @@
-// Texts in the files of a folder. What a file holds is told by no contract.
+// Texts in the files of a folder. No contract says what a file holds.
 ghost use Rattle.std.specs.Prelude.{◌≡◌, ◌≢◌, ◌↔◌, ◌+◌, ◌-◌, ◌^◌, IfOk, IfSome, IsErrOf, IsUtf8, OnOk, None, Some, take};
 ghost use Rattle.std.specs.IoError.{error_kind};
 ghost use Rattle.outside_io.specs.Texts.{Finds, IsWithin};
@@ -13,7 +13,7 @@ use std::rt::Files;
 /// Texts in files: a name is a path, from the folder in which the program runs.
 ///
 /// A path at which nothing is found is missing. A name that isn't UTF-8, a folder in place of a file and
-/// any other failure are faults. The count of faults ends at the greatest `u64`: once it stands there,
+/// any other failure are faults. The count of faults ends at the greatest `u64`: once it is there,
 /// each read answers `NoMemory` and does nothing.
 #[derive(Drop)]
 pub struct FolderTexts<R> {
@@ -90,7 +90,7 @@ fn read_text<F: Read + OpenFile + Drop>(file: F, alloc: Global, max: u64) -> io:
     Ok(Found::Text(List::from_vec(bytes)))
 }
 
-// Reads the first `most` bytes, or all of fewer, into room that fits the length which the file tells.
+// Reads the first `most` bytes, or all of fewer, into room that fits the length which the file reports.
 fn read_front<F: Read + OpenFile + Drop>(file: F, alloc: Global, most: u64) -> io::Result<Vec<u8>>
     ensures { IfSome (F.remaining file) (λ held. IfOk result (λ bytes. bytes.items ≡ take most held)) }
 {

@@ -7,7 +7,7 @@ use crate::{Bytes, Found, List, NoMemory, Texts, TextsFault};
 use std::alloc::Global;
 use std::marker::Model;
 
-/// Texts in memory. Its calls are numbered from 0, and exactly those fail that it was told. A call that answers
+/// Texts in memory. Its calls are numbered from 0, and exactly those fail that it was given. A call that answers
 /// `NoMemory` isn't numbered. Numbers end below the greatest `u64`: a call that would have that number answers
 /// `NoMemory`.
 #[derive(Drop)]
@@ -37,7 +37,7 @@ impl Model for MemoryTexts {
 }
 
 impl MemoryTexts {
-    /// Each text is held under the name at its place. The calls whose numbers stand in `failing` fail.
+    /// Each text is held under the name at its place. The calls whose numbers are in `failing` fail.
     pub fn new(names: List<Bytes>, texts: List<Bytes>, failing: List<u64>) -> MemoryTexts
         requires { AreNamed names texts }
         ensures state { result ≡ record { names = names; texts = texts; failing = failing; calls = 0; faults = 0 } }
@@ -61,7 +61,7 @@ impl MemoryTexts {
     }
 }
 
-// Whether no name stands at two places.
+// Whether no name is at two places.
 fn all_differ(names: &[Bytes]) -> bool
     ensures { IsTrue result ↔ AllPairs (λ name other. name ≢ other) names.now }
 {

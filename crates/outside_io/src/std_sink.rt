@@ -1,4 +1,4 @@
-// The standard streams as sinks. What a stream shows is told by no contract.
+// The standard streams as sinks. No contract says what a stream shows.
 ghost use Rattle.std.specs.Prelude.{◌≡◌, ◌<◌, ◌+◌, ◌-◌, ◌^◌, ◌++◌, [], IfErr, IsTrue, MatchBool, None, OnErr, OnOk};
 ghost use Rattle.std.specs.Io.KnownBytes.{Appends};
 ghost use Rattle.outside_io.specs.StdSink.{PutsOn, WritesOn, WroteFront};

@@ -6,7 +6,7 @@ use Rattle.crossbeam_deque.specs.Tasks.{Pushes, Takes, Pops, Forks}
 use Rattle.crossbeam_deque.proofs.Lists.{at_set, at_snoc, set_again}
 use Rattle.ready_deques.specs.declared.about.About.{About}
 use Rattle.ready_deques.specs.declared.deque.Queued.{Queued}
-use Rattle.ready_deques.specs.inside.Naming.{Each, IsQueued, Named, IsKnown, KeepsIt, Holding}
+use Rattle.ready_deques.specs.inside.Naming.{Each, IsQueued, AreViewsOf, IsKnown, KeepsIt, Holding}
 
 module _ {X : Type 0} (P : X → Type 0) where
   each_left : (xs ys : List X) → Each P (xs ++ ys) → Each P xs
@@ -52,14 +52,14 @@ module _ {T : Type 0} (tag : T → List ℕ) where
 
   -- where a task is queued there is a name, and each port has it
   known : (items : List (Queued T)) (views : List (Option About)) (port : ℕ) (v : Option About) → 0 < length items → H items views → get_elem? views port ≡ some v
-      → (a : About) × (v ≡ Some a) × Each (IsQueued tag a) items × Named a views
+      → (a : About) × (v ≡ Some a) × Each (IsQueued tag a) items × AreViewsOf a views
   known items views port v few h at = ⊎_elim
       (λ (e : (items ≡ []) × (views ≡ None ∷ [])). absurd (none_left items few e.0))
-      (λ (n : (a : About) × Each (IsQueued tag a) items × Named a views). (n.0, n.2 port v at, n.1, n.2))
+      (λ (n : (a : About) × Each (IsQueued tag a) items × AreViewsOf a views). (n.0, n.2 port v at, n.1, n.2))
       h
 
-  stays : (a : About) (views : List (Option About)) (port : ℕ) (v : Option About) → get_elem? views port ≡ some v → Named a views → Named a (set views port v)
-  stays a views port v at n = subst (Named a) (sym (set_again views port v at)) n
+  stays : (a : About) (views : List (Option About)) (port : ℕ) (v : Option About) → get_elem? views port ≡ some v → AreViewsOf a views → AreViewsOf a (set views port v)
+  stays a views port v at n = subst (AreViewsOf a) (sym (set_again views port v at)) n
 
   pub takes : (port : ℕ) (v : Option About) (most : ℕ) → Takes H port v most (KeepsIt tag v)
   takes port v most xs items views some_xs few h at =
@@ -87,7 +87,7 @@ module _ {T : Type 0} (tag : T → List ℕ) where
     Some a,
     ⊎_elim
         (λ (e : (items ≡ []) × (views ≡ None ∷ [])). absurd ((alone_in views port (Some a) e.1 at).1))
-        (λ (n : (b : About) × Each (IsQueued tag b) items × Named b views).
+        (λ (n : (b : About) × Each (IsQueued tag b) items × AreViewsOf b views).
         let same : a ≡ n.0 = ap (name_or a) (n.2 port (Some a) at) in
         inr (n.0, each_append (IsQueued tag n.0) items xs n.1 (subst (λ (b : About). Each (IsQueued tag b) xs) same new), stays n.0 views port (Some a) at n.2))
         h,
@@ -107,14 +107,14 @@ module _ {T : Type 0} (tag : T → List ℕ) where
             (λ (same : Some a ≡ u). sym same)
             (at_snoc (set views port (Some a)) (Some a) u i there),
       ))
-      (λ (n : (b : About) × Each (IsQueued tag b) items × Named b views). absurd (subst IsNone (sym is ∙ n.2 port v at) tt))
+      (λ (n : (b : About) × Each (IsQueued tag b) items × AreViewsOf b views). absurd (subst IsNone (sym is ∙ n.2 port v at) tt))
       h
 
   pub copies : (port : ℕ) (v : Option About) → IsKnown tag v [] → Forks H port v v v
   copies port None may items views h at = absurd may
   copies port (Some a) may items views h at = ⊎_elim
       (λ (e : (items ≡ []) × (views ≡ None ∷ [])). absurd ((alone_in views port (Some a) e.1 at).1))
-      (λ (n : (b : About) × Each (IsQueued tag b) items × Named b views). inr (
+      (λ (n : (b : About) × Each (IsQueued tag b) items × AreViewsOf b views). inr (
         n.0,
         n.1,
         λ i u there. ⊎_elim

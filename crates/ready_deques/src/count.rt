@@ -44,9 +44,9 @@ impl TableRule<(), Counting, ()> for Counted {
 }
 
 /// A new seat holds no count and has no room.
-pub struct Enters;
+pub struct BeginsEmpty;
 
-impl Play<(), Counting> for Enters {
+impl Play<(), Counting> for BeginsEmpty {
     ghost use Rattle.ready_deques.specs.inside.Counts.{EntersIt};
 
     ghost then = { EntersIt };
@@ -116,9 +116,9 @@ impl Play<(), Counting> for Sees {
 }
 
 /// The counts go to a seat of their own.
-pub struct HandsOver;
+pub struct HandsCountsOn;
 
-impl Split<Counting> for HandsOver {
+impl Split<Counting> for HandsCountsOn {
     ghost use Rattle.ready_deques.specs.inside.Counts.{without_count, count_alone};
 
     ghost left = { without_count };
@@ -289,7 +289,7 @@ impl Counter {
         self.load(&mut account.seat) == 0
     }
 
-    /// Whether the word is 0 now, which tells a proof nothing.
+    /// Whether the word is 0 now, which is of no use to a proof.
     pub fn is_zero(&self) -> bool {
         self.table.shared.peek(WORD) == 0
     }
@@ -298,7 +298,7 @@ impl Counter {
         ensures table { result.table_id ≡ self.now.table.shared.table_id }
         ensures view { result.me ≡ (counting 0 0 0, []) }
     {
-        self.table.shared.load_new_seat::<Enters>(WORD).1
+        self.table.shared.load_new_seat::<BeginsEmpty>(WORD).1
     }
 
     fn load(&self, seat: &mut Seat<(), Counting>) -> u64
@@ -349,7 +349,7 @@ impl Counter {
         ensures kept { seat.new.me ≡ (without_count seat.old.me.0, seat.old.me.1) }
         ensures given { result.me ≡ (count_alone seat.old.me.0, []) }
     {
-        self.table.shared.split_seat::<HandsOver>(seat)
+        self.table.shared.split_seat::<HandsCountsOn>(seat)
     }
 
     // Takes one owner's spare counts out of the count word.

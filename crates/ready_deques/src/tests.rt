@@ -53,14 +53,14 @@ fn steals(rt: HostRuntime) -> Result<(), Fail> {
 
 /// An owner, the numbers that it queues, and those that it took.
 #[derive(Drop)]
-struct Hand {
+struct OwnerHand {
     owner: Owner<u32>,
     from: u32,
     taken: Vec<u32>,
 }
 
 // Queues 250 numbers, those of the last hand through the injector.
-fn queue_all<R: Wait>(rt: &R, ready: &Ready<u32>, hand: &mut Hand)
+fn queue_all<R: Wait>(rt: &R, ready: &Ready<u32>, hand: &mut OwnerHand)
     requires list { tag_of ready.now ≡ [] }
     requires owner { hand.old.owner.tag ≡ [] }
     ensures { hand.new.owner ≡ hand.old.owner }
@@ -75,7 +75,7 @@ fn queue_all<R: Wait>(rt: &R, ready: &Ready<u32>, hand: &mut Hand)
 }
 
 // Takes items until none is queued.
-fn take_all<R: Wait>(rt: &R, hand: &mut Hand) {
+fn take_all<R: Wait>(rt: &R, hand: &mut OwnerHand) {
     for _ in rt.forever() {
         let Some(item) = hand.owner.take(rt) else {
             return
@@ -84,7 +84,7 @@ fn take_all<R: Wait>(rt: &R, hand: &mut Hand) {
     }
 }
 
-fn queue_and_take<R: Wait>(rt: &R, ready: &Ready<u32>, hand: &mut Hand)
+fn queue_and_take<R: Wait>(rt: &R, ready: &Ready<u32>, hand: &mut OwnerHand)
     requires list { tag_of ready.now ≡ [] }
     requires owner { hand.old.owner.tag ≡ [] }
 {
@@ -92,7 +92,7 @@ fn queue_and_take<R: Wait>(rt: &R, ready: &Ready<u32>, hand: &mut Hand)
     take_all(rt, hand);
 }
 
-fn together<R: Threads + Wait + Sync>(rt: &R, ready: &Ready<u32>, hands: &mut [Hand])
+fn together<R: Threads + Wait + Sync>(rt: &R, ready: &Ready<u32>, hands: &mut [OwnerHand])
     requires list { tag_of ready.now ≡ [] }
     requires owners { All (λ hand. hand.owner.tag ≡ []) hands.old }
 {
@@ -106,7 +106,7 @@ fn together<R: Threads + Wait + Sync>(rt: &R, ready: &Ready<u32>, hands: &mut [H
     );
 }
 
-fn hands_of(alloc: Global, owners: &mut Vec<Owner<u32>>) -> Result<Vec<Hand>, Fail>
+fn hands_of(alloc: Global, owners: &mut Vec<Owner<u32>>) -> Result<Vec<OwnerHand>, Fail>
     requires { All (λ owner. owner.tag ≡ []) owners.old.items }
     ensures { IfOk result (λ hands. All (λ hand. hand.owner.tag ≡ []) hands.items) }
 {
@@ -118,12 +118,17 @@ fn hands_of(alloc: Global, owners: &mut Vec<Owner<u32>>) -> Result<Vec<Hand>, Fa
     Ok(hands)
 }
 
-fn add_hand(alloc: Global, hands: &mut Vec<Hand>, owner: Owner<u32>, from: u32) -> Result<(), Fail>
+fn add_hand(
+    alloc: Global,
+    hands: &mut Vec<OwnerHand>,
+    owner: Owner<u32>,
+    from: u32,
+) -> Result<(), Fail>
     requires hands { All (λ hand. hand.owner.tag ≡ []) hands.old.items }
     requires owner { owner.tag ≡ [] }
     ensures { All (λ hand. hand.owner.tag ≡ []) hands.new.items }
 {
-    hands.push(Hand {
+    hands.push(OwnerHand {
         owner,
         from,
         taken: Vec::new(alloc),

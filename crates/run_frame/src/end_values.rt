@@ -31,7 +31,7 @@ pub fn last_ends(
     Ok(ends)
 }
 
-// The task whose End stands at a place.
+// The task whose End is at a place.
 pub(crate) fn ended_task(entries: &[Entry], place: usize) -> Option<u32>
     ensures { result ≡ ended_at entries.now place }
 {
@@ -41,7 +41,7 @@ pub(crate) fn ended_task(entries: &[Entry], place: usize) -> Option<u32>
     }
 }
 
-// The task whose Start stands at a place.
+// The task whose Start is at a place.
 fn started_task(entries: &[Entry], place: u64) -> Option<u32>
     ensures { result ≡ start_at entries.now place }
 {

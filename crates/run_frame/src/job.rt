@@ -41,7 +41,7 @@ pub enum Done<J: Valued> {
 /// Why a task's work came to nothing.
 #[derive(Clone, Copy, Debug, PartialEq, Eq)]
 pub enum JobError {
-    /// A fault that the journal tells.
+    /// A fault that the journal records.
     Fault(Why),
     /// An allocation failed.
     NoMemory,
@@ -76,7 +76,7 @@ pub trait Job: Valued + Send + Sync {
     ghost answers_fit: { (job : Self) (task : ℕ) (found : List (InputValue Self.V)) (done : Done Self Self.V) →
         keeps job → meaning.answers job task found done → AnswerFits (meaning.net job) task done };
 
-    /// A fault that is allowed is the work's own: it tells neither of an inner run nor of a unit.
+    /// A fault that is allowed is the work's own: it reports neither an inner run nor a unit.
     ghost faults_own: { (job : Self) (task : ℕ) (found : List (InputValue Self.V)) (why : Why) →
         keeps job → meaning.faults job task found why → IsOwnWhy why };
 

@@ -86,7 +86,7 @@ impl<V: Drop> KeptValues<V> {
         }
     }
 
-    // What stands for a part, whose value is kept where it names an End.
+    // What a part holds, whose value is kept where it names an End.
     fn given(&self, part: Part) -> Result<Given<V>, NoMemory>
         requires { IsKeptPart self.now part }
         ensures found { IfOk result (λ given. found_of given ≡ found_at self.now part) }
@@ -99,7 +99,7 @@ impl<V: Drop> KeptValues<V> {
         }
     }
 
-    // What stands for the value of the End at an index, which is kept.
+    // The value of the End at an index, which is kept.
     fn given_value(&self, place: u64) -> Result<Given<V>, NoMemory>
         requires { IsSome (value_at self.now place) }
         ensures found { IfOk result (λ given. found_of given ≡ found_by (value_at self.now place)) }
@@ -111,7 +111,7 @@ impl<V: Drop> KeptValues<V> {
         Ok(Given::Value(place, Arc::try_clone(value)?))
     }
 
-    /// The inputs that these parts stand for. The value of each End that a part names is kept.
+    /// The inputs that these parts name. The value of each End that a part names is kept.
     pub fn inputs(&self, alloc: Global, parts: &[Part]) -> Result<Ins<V>, NoMemory>
         requires { All (IsKeptPart self.now) parts.now }
         ensures found { IfOk result (λ ins. map found_of (parts_of ins) ≡ found_ins self.now parts.now) }
@@ -135,7 +135,7 @@ fn row_value<V>(row: Option<&ValueRow<V>>, place: u64) -> Option<&Arc<V>>
     }
 }
 
-// Lengthens the numbers by those of the indexes up to one at which the next row is to stand.
+// Lengthens the numbers by those of the indexes up to that of the next row.
 fn index_up_to<V>(
     before: &mut Vec<usize>,
     rows: &[ValueRow<V>],

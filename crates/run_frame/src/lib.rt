@@ -1,13 +1,13 @@
 //! Jobs and their runs: what a job is, which runs of it are legal, and the state of a run that is under way.
 //!
 //! The layer above sees a job by its meanings (the ghost members of `Job`), and a run as plain data
-//! (`FrameRun`) with the facts `Legal` and `CompleteRun`. The definitions stand in `specs/`: `WorkRule`,
+//! (`FrameRun`) with the facts `Legal` and `CompleteRun`. The definitions are in `specs/`: `WorkRule`,
 //! `NestedRule`, `Legal`.
 //!
 //! A run comes about step by step. `FrameState` holds it between two steps, and a ticket names each thing that is left
 //! to do in it (`Duty`): a release that is to be started, a start whose work is to be done. Whoever holds a ticket may
 //! take its step, in any order, and gets tickets for what comes next. Where no ticket is left the run is complete, and
-//! `finish` gives it. The definitions stand in `specs/Frames.antt` and `specs/Duties.antt`. `run_alone` does it all on
+//! `finish` gives it. The definitions are in `specs/Frames.antt` and `specs/Duties.antt`. `run_alone` does it all on
 //! one thread.
 #![tactic(auto)]
 

@@ -129,7 +129,7 @@ fn value_of<J: Job + Drop>(
     }
 }
 
-// Records the fault that an error tells of, unless an allocation failed.
+// Records the fault that an error reports, unless an allocation failed.
 fn record_fault<J: Job + Drop>(
     state: &mut FrameState<J>,
     running: Ticket<Duty<J::V>>,

@@ -38,7 +38,7 @@ pub struct InnerRow<J: Valued> {
 }
 
 impl<J: Valued> FrameRun<J> {
-    /// The value of the End at a place, or `None` where no End stands there. It walks over the values.
+    /// The value of the End at a place, or `None` where no End is there. It walks over the values.
     pub fn value(&self, place: u64) -> Option<&J::V>
         ensures { option_copied result ≡ value_at (values_of self.now) place }
     {
@@ -86,7 +86,7 @@ fn inner_in<J: Valued>(rows: &[InnerRow<J>], place: u64) -> Option<&FrameRun<J>>
 }
 
 #[tactic(auto, using(crate::proofs::EndsLemmas::last_before_at))]
-// The last place at which an End of the task stands.
+// The last place at which there is an End of the task.
 fn last_end_in(entries: &[Entry], task: u32) -> Option<u64>
     ensures { result ≡ last_end entries.now task }
 {
@@ -99,7 +99,7 @@ fn last_end_in(entries: &[Entry], task: u32) -> Option<u64>
     last
 }
 
-// Whether an End of the task stands at a place.
+// Whether there is an End of the task at a place.
 fn is_end_of(entries: &[Entry], task: u32, place: usize) -> bool
     ensures { result ≡ is_end_of entries.now task place }
 {

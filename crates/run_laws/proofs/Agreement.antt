@@ -9,7 +9,7 @@ use Rattle.task_graph.specs.Net.{strong_in}
 use Rattle.journal_rules.specs.declared.entry.Entry.{Entry}
 use Rattle.join_words.specs.Ins.{value}
 use Rattle.run_frame.specs.declared.run.ValueRow.{ValueRow}
-use Rattle.run_laws.specs.OneThreadValue.{Ended, OneAnswer, tokens, begun, source_of, put_before, rounds_of, answers, one_thread_value}
+use Rattle.run_laws.specs.OneThreadValue.{TaskEnd, OneAnswer, tokens, begun, source_of, put_before, rounds_of, answers, one_thread_value}
 use Rattle.run_laws.proofs.Stepping.{starts_in, ends_in, tokens_in}
 use Rattle.run_laws.proofs.Values.{Kept}
 
@@ -52,9 +52,9 @@ agree_after : {X : Type 0} (zs xs ys : List X) → Agree xs ys → Agree (zs ++ 
 agree_after [] xs ys agree = agree
 agree_after (z ∷ zs) xs ys agree = (refl, agree_after zs xs ys agree)
 
-agree_tokens : {V : Type 0} (net : NetRows) (e : ℕ) (us ws : List (Ended V)) → Agree us ws → Agree (tokens net e us) (tokens net e ws)
+agree_tokens : {V : Type 0} (net : NetRows) (e : ℕ) (us ws : List (TaskEnd V)) → Agree us ws → Agree (tokens net e us) (tokens net e ws)
 agree_tokens {V} net e us ws agree =
-    agree_after (begun net e) _ _ (agree_map (λ (end : Ended V). value end.value) _ _ (agree_filter (λ (end : Ended V). list_any (λ g. g == e) end.gives) us ws agree))
+    agree_after (begun net e) _ _ (agree_map (λ (end : TaskEnd V). value end.value) _ _ (agree_filter (λ (end : TaskEnd V). list_any (λ g. g == e) end.gives) us ws agree))
 
 -- a round has an item of each list
 pub record Split {X : Type 0} (xs : List X) (rounds_of : List (List X)) (k : ℕ) (round : List X) : Type 0 where
@@ -116,12 +116,12 @@ same_items f g k (e ∷ es) (x ∷ r) (y ∷ s) agree a b = ap (λ z. z ∷ r) (
 
 -- What a task ended with in the journal and its one-thread values are the same, as far as both go.
 pub agrees : {V : Type 0} (net : NetRows) (one : OneAnswer V) (values : List (ValueRow V)) (at : ℕ → Option ℕ) (b : List Entry) → Kept net one values at b
-    → ((t : ℕ) (k : ℕ) (u : Ended V) → slice_get (ends_in values at t b) k ≡ Some u → Answered (one t) (starts_in values t b) k u)
+    → ((t : ℕ) (k : ℕ) (u : TaskEnd V) → slice_get (ends_in values at t b) k ≡ Some u → Answered (one t) (starts_in values t b) k u)
     → (n t : ℕ) → Agree (one_thread_value net one n t) (ends_in values at t b)
 agrees net one values at b kept started zero t = tt
 agrees {V} net one values at b kept started (suc n) t = agree_from _ _ (each (agrees net one values at b kept started n))
   where
-    each : ((p : ℕ) → Agree (one_thread_value net one n p) (ends_in values at p b)) → (k : ℕ) (u w : Ended V) → slice_get (one_thread_value net one (suc n) t) k ≡ Some u → slice_get (ends_in values at t b) k ≡ Some w → u ≡ w
+    each : ((p : ℕ) → Agree (one_thread_value net one n p) (ends_in values at p b)) → (k : ℕ) (u w : TaskEnd V) → slice_get (one_thread_value net one (suc n) t) k ≡ Some u → slice_get (ends_in values at t b) k ≡ Some w → u ≡ w
     each before k u w at_u at_w =
         let mine : Answered (one t) (rounds_of (map (λ e. tokens net e (one_thread_value net one n (source_of net e))) (strong_in net t))) k u = answers_at (one t) _ k u at_u in
         let told : Answered (one t) (starts_in values t b) k w = started t k w at_w in

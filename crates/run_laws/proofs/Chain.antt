@@ -18,7 +18,7 @@ use Rattle.journal_rules.proofs.Reaching.{open_stands}
 use Rattle.join_words.specs.Ins.{InputValue, value, first}
 use Rattle.run_frame.specs.declared.run.ValueRow.{ValueRow}
 use Rattle.run_frame.specs.Runs.{value_at, found_at, found_by}
-use Rattle.run_laws.specs.OneThreadValue.{Ended, OneAnswer, source_of}
+use Rattle.run_laws.specs.OneThreadValue.{TaskEnd, OneAnswer, source_of}
 use Rattle.run_laws.specs.Ends.{gather, is_task}
 use Rattle.run_laws.specs.PipeNet.{next}
 use Rattle.run_laws.specs.Cycles.{CycleEdge, LiesAt, IsCycle, uses_some, turn}
@@ -109,22 +109,22 @@ ahead net n cell among b j d e below going = by_end (eqb (j + 1) n) refl
 abbrev pub among_task : (ℕ → Bool) → Option ℕ → Bool
 among_task among started = option_map_or among started false
 
-abbrev pub ring_end_of : {V : Type 0} → List (ValueRow V) → (ℕ → Option ℕ) → (ℕ → Bool) → ℕ → Entry → List (Ended V)
+abbrev pub ring_end_of : {V : Type 0} → List (ValueRow V) → (ℕ → Option ℕ) → (ℕ → Bool) → ℕ → Entry → List (TaskEnd V)
 ring_end_of values at among n (Start task cause ins) = []
 ring_end_of values at among n (End start gives inner) =
     elim (value_at values n) [ None ↦ [] | Some v ↦ cond (among_task among (at start)) ((record { value = v; gives = gives }) ∷ []) [] ]
 ring_end_of values at among n (Fault start why) = []
 ring_end_of values at among n (Drop task cause why) = []
 
-abbrev pub ring_ends : {V : Type 0} → List (ValueRow V) → (ℕ → Option ℕ) → (ℕ → Bool) → List Entry → List (Ended V)
+abbrev pub ring_ends : {V : Type 0} → List (ValueRow V) → (ℕ → Option ℕ) → (ℕ → Bool) → List Entry → List (TaskEnd V)
 ring_ends values at among b = gather (ring_end_of values at among) 0 b
 
 -- the last value, or what was there at first
-abbrev pub last_or : {V : Type 0} → InputValue V → List (Ended V) → InputValue V
+abbrev pub last_or : {V : Type 0} → InputValue V → List (TaskEnd V) → InputValue V
 last_or f [] = f
 last_or f (u ∷ us) = last_or (value u.value) us
 
-last_or_push : {V : Type 0} (f : InputValue V) (us : List (Ended V)) (u : Ended V) → last_or f (us ++ u ∷ []) ≡ value u.value
+last_or_push : {V : Type 0} (f : InputValue V) (us : List (TaskEnd V)) (u : TaskEnd V) → last_or f (us ++ u ∷ []) ≡ value u.value
 last_or_push f [] u = refl
 last_or_push f (w ∷ us) u = last_or_push (value w.value) us u
 
@@ -153,14 +153,14 @@ chain_end {V} net one values at n cell among cycle b start gives inner a l insid
     x : Entry
     x = End start gives inner
 
-    u : Ended V
+    u : TaskEnd V
     u = record { value = a.v; gives = gives }
 
     ends_now : ring_ends values at among (b ++ x ∷ []) ≡ ring_ends values at among b ++ u ∷ []
     ends_now =
         gather_push (ring_end_of values at among) b x
         ∙ ap (λ us. ring_ends values at among b ++ us)
-        (ap (λ (o : Option V). elim o as (λ _. List (Ended V)) [ None ↦ [] | Some v ↦ cond (among_task among (at start)) ((record { value = v; gives = gives }) ∷ []) [] ]) a.value
+        (ap (λ (o : Option V). elim o as (λ _. List (TaskEnd V)) [ None ↦ [] | Some v ↦ cond (among_task among (at start)) ((record { value = v; gives = gives }) ∷ []) [] ]) a.value
         ∙ ap (λ (o : Option ℕ). cond (among_task among o) (u ∷ []) []) a.of_task ∙ ap (λ c. cond c (u ∷ []) []) inside)
 
     -- its Start is open, so fewer Starts of the task are closed than it was used

@@ -8,7 +8,7 @@ use Rattle.task_graph.specs.NetRows.{NetRows}
 use Rattle.task_graph.specs.Net.{strong_in}
 use Rattle.join_words.specs.Ins.{InputValue, value}
 use Rattle.run_laws.specs.Prefixes.{IsPrefixOf}
-use Rattle.run_laws.specs.OneThreadValue.{Ended, OneAnswer, tokens, begun, source_of, put_before, rounds_of, answers, one_thread_value}
+use Rattle.run_laws.specs.OneThreadValue.{TaskEnd, OneAnswer, tokens, begun, source_of, put_before, rounds_of, answers, one_thread_value}
 use Rattle.run_laws.proofs.Agreement.{Answered, rounds_at, answers_at}
 use Rattle.run_laws.proofs.Lists.{zip_weaken}
 
@@ -50,9 +50,9 @@ front_after : {X : Type 0} (zs xs ys : List X) → IsPrefixOf xs ys → IsPrefix
 front_after [] xs ys front = front
 front_after (z ∷ zs) xs ys front = (refl, front_after zs xs ys front)
 
-pub front_tokens : {V : Type 0} (net : NetRows) (e : ℕ) (us ws : List (Ended V)) → IsPrefixOf us ws → IsPrefixOf (tokens net e us) (tokens net e ws)
+pub front_tokens : {V : Type 0} (net : NetRows) (e : ℕ) (us ws : List (TaskEnd V)) → IsPrefixOf us ws → IsPrefixOf (tokens net e us) (tokens net e ws)
 front_tokens {V} net e us ws front =
-    front_after (begun net e) _ _ (front_map (λ (end : Ended V). value end.value) _ _ (front_filter (λ (end : Ended V). list_any (λ g. g == e) end.gives) us ws front))
+    front_after (begun net e) _ _ (front_map (λ (end : TaskEnd V). value end.value) _ _ (front_filter (λ (end : TaskEnd V). list_any (λ g. g == e) end.gives) us ws front))
 
 -- a round is there where each list has its item
 put_before_have : {X : Type 0} (xs : List X) (rs : List (List X)) (k : ℕ) (x : X) (r : List X) → slice_get xs k ≡ Some x → slice_get rs k ≡ Some r → slice_get (put_before xs rs) k ≡ Some (x ∷ r)
@@ -108,7 +108,7 @@ values_more {V} net one (suc n) t = front_answered (one t) (one_thread_value net
     now : ℕ → List (InputValue V)
     now e = tokens net e (one_thread_value net one (suc n) (source_of net e))
 
-    each : ((p : ℕ) → IsPrefixOf (one_thread_value net one n p) (one_thread_value net one (suc n) p)) → (k : ℕ) (u : Ended V) → slice_get (one_thread_value net one (suc n) t) k ≡ Some u → Answered (one t) (rounds_of (map now (strong_in net t))) k u
+    each : ((p : ℕ) → IsPrefixOf (one_thread_value net one n p) (one_thread_value net one (suc n) p)) → (k : ℕ) (u : TaskEnd V) → slice_get (one_thread_value net one (suc n) t) k ≡ Some u → Answered (one t) (rounds_of (map now (strong_in net t))) k u
     each more k u at_u =
         let a : Answered (one t) (rounds_of (map before (strong_in net t))) k u = answers_at (one t) (rounds_of (map before (strong_in net t))) k u at_u in
         record {

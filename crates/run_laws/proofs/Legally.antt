@@ -28,7 +28,7 @@ use Rattle.journal_rules.proofs.Reaching.{at_below}
 use Rattle.run_frame.specs.declared.run.ValueRow.{ValueRow}
 use Rattle.run_frame.specs.Runs.{value_at}
 use Rattle.run_frame.specs.WorkRule.{Work, work_at}
-use Rattle.run_laws.specs.OneThreadValue.{Ended, OneAnswer, one_thread_value}
+use Rattle.run_laws.specs.OneThreadValue.{TaskEnd, OneAnswer, one_thread_value}
 use Rattle.run_laws.specs.Ends.{ends}
 use Rattle.run_laws.specs.Steady.{Steady, StartRule}
 use Rattle.run_laws.proofs.Along.{along, both, weaker, each_front, Told, told_before}
@@ -184,14 +184,14 @@ kept_all net limit one values h is =
 
 -- The ends of each task are its one-thread values, as far as both go.
 pub one_thread : {V : Type 0} (net : NetRows) (limit : ℕ) (one : OneAnswer V) (values : List (ValueRow V)) (h : List Entry) → Given net limit one values h
-    → (n t k : ℕ) (u w : Ended V) → slice_get (one_thread_value net one n t) k ≡ Some u → slice_get (ends values h t) k ≡ Some w → w ≡ u
+    → (n t k : ℕ) (u w : TaskEnd V) → slice_get (one_thread_value net one n t) k ≡ Some u → slice_get (ends values h t) k ≡ Some w → w ≡ u
 one_thread {V} net limit one values h is n t k u w at_u at_w =
     sym (agree_at (one_thread_value net one n t) (ends values h t) (agrees net one values (start_at h) h kept started n t) k u w at_u at_w)
   where
     kept : Kept net one values (start_at h) h
     kept = (kept_all net limit one values h is).1
 
-    started : (s j : ℕ) (v : Ended V) → slice_get (ends_in values (start_at h) s h) j ≡ Some v → Answered (one s) (starts_in values s h) j v
+    started : (s j : ℕ) (v : TaskEnd V) → slice_get (ends_in values (start_at h) s h) j ≡ Some v → Answered (one s) (starts_in values s h) j v
     started s j v at_j =
         let ran : Ran net one values (start_at h) s h (starts_in values s h) (ends_in values (start_at h) s h) = kept.ran s in
         let few : count_by (ends_one (start_at h) s) h ≤ count_by (begins s) h = ends_few (start_at h) s h ((placed_along net limit h is.shape is.steady.single).1.phases s) in

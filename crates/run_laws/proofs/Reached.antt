@@ -18,7 +18,7 @@ use Rattle.journal_rules.proofs.Snoc.{count_by_push}
 use Rattle.journal_rules.proofs.Tallying.{count_by_push_no, count_by_push_yes}
 use Rattle.join_words.specs.Ins.{InputValue}
 use Rattle.run_frame.specs.declared.run.ValueRow.{ValueRow}
-use Rattle.run_laws.specs.OneThreadValue.{Ended, OneAnswer, tokens, source_of, rounds_of, one_thread_value}
+use Rattle.run_laws.specs.OneThreadValue.{TaskEnd, OneAnswer, tokens, source_of, rounds_of, one_thread_value}
 use Rattle.run_laws.specs.Ends.{end_of, ends}
 use Rattle.run_laws.proofs.Along.{along}
 use Rattle.run_laws.proofs.Lists.{zip_weaken}
@@ -120,7 +120,7 @@ sourced_step net one values at t b (Drop task cause why) strong step none s = by
         }
 
 -- each end is one on what a Start found
-pub answered_in : {V : Type 0} (net : NetRows) (one : OneAnswer V) (values : List (ValueRow V)) (at : ℕ → Option ℕ) (b : List Entry) (t : ℕ) → Kept net one values at b → Phase at t b → (k : ℕ) (u : Ended V) → slice_get (ends_in values at t b) k ≡ Some u → Answered (one t) (starts_in values t b) k u
+pub answered_in : {V : Type 0} (net : NetRows) (one : OneAnswer V) (values : List (ValueRow V)) (at : ℕ → Option ℕ) (b : List Entry) (t : ℕ) → Kept net one values at b → Phase at t b → (k : ℕ) (u : TaskEnd V) → slice_get (ends_in values at t b) k ≡ Some u → Answered (one t) (starts_in values t b) k u
 answered_in net one values at b t kept phase k u at_k =
     let ran : Ran net one values at t b (starts_in values t b) (ends_in values at t b) = kept.ran t in
     let below : k < length (starts_in values t b) = omega (arith, slice_get_within _ k u at_k, ran.ended, ran.begun, ends_few at t b phase) in
@@ -142,7 +142,7 @@ reach_end {V} net one values at b x strong step kept reach few no_start placed t
     now : Kept net one values at (b ++ x ∷ [])
     now = kept_step net one values at strong b x step kept
 
-    each : (k : ℕ) (u : Ended V) → slice_get (ends_in values at t (b ++ x ∷ [])) k ≡ Some u → Answered (one t) (rounds_of (map parts (strong_in net t))) k u
+    each : (k : ℕ) (u : TaskEnd V) → slice_get (ends_in values at t (b ++ x ∷ [])) k ≡ Some u → Answered (one t) (rounds_of (map parts (strong_in net t))) k u
     each k u at_u =
         let a : Answered (one t) (starts_in values t (b ++ x ∷ [])) k u = answered_in net one values at (b ++ x ∷ []) t now (placed.phases t) k u at_u in
         let before : slice_get (starts_in values t b) k ≡ Some a.item = sym (ap (λ ss. slice_get ss k) (starts_same values t b x (no_start t))) ∙ a.at_item in

@@ -13,7 +13,7 @@ use Rattle.run_frame.specs.Runs.{value_at, inner_in}
 use Rattle.run_frame.specs.WorkRule.{Work, work_at, WorkRule, Answers}
 use Rattle.run_frame.specs.NestedRule.{NestedRule, InnerEnd, job_of, journal_of}
 use Rattle.run_frame.specs.Legal.{Legal, LegalJournal, LegalRows, LegalRow, CompleteRun, inner_at}
-use Rattle.run_laws.specs.OneThreadValue.{Ended, OneAnswer, one_thread_value}
+use Rattle.run_laws.specs.OneThreadValue.{TaskEnd, OneAnswer, one_thread_value}
 use Rattle.run_laws.specs.Ends.{ends}
 use Rattle.run_laws.specs.Steady.{Steady}
 use Rattle.run_laws.specs.OneAnswer.{AllowsOne}
@@ -89,7 +89,7 @@ module _ {J V : Type 0} (meaning : Meaning J V) where
   -- element k of its one-thread values, for any n at which they have it.
   pub steady_values : (run : FrameRun J V) (one : OneAnswer V) → ((e : ℕ) → is_weak (meaning.net (job_of run)) e ≡ false) → AllowsOne meaning (job_of run) one
       → Legal meaning run → Steady (meaning.net (job_of run)) (journal_of run)
-      → (n t k : ℕ) (u w : Ended V) → slice_get (one_thread_value (meaning.net (job_of run)) one n t) k ≡ Some u → slice_get (ends (out-FrameRun J V run).values (journal_of run) t) k ≡ Some w → w ≡ u
+      → (n t k : ℕ) (u w : TaskEnd V) → slice_get (one_thread_value (meaning.net (job_of run)) one n t) k ≡ Some u → slice_get (ends (out-FrameRun J V run).values (journal_of run) t) k ≡ Some w → w ≡ u
   steady_values run one strong allows legal steady =
       one_thread (meaning.net (job_of run)) (meaning.limit (job_of run)) one (out-FrameRun J V run).values (journal_of run) (record {
         strong = strong;

@@ -13,7 +13,7 @@ use Rattle.join_words.specs.Ins.{InputValue}
 use Rattle.run_frame.specs.declared.run.ValueRow.{ValueRow}
 use Rattle.run_frame.specs.Runs.{value_at, found_ins}
 use Rattle.run_frame.specs.WorkRule.{Work, work_at}
-use Rattle.run_laws.specs.OneThreadValue.{Ended, OneAnswer, tokens, source_of}
+use Rattle.run_laws.specs.OneThreadValue.{TaskEnd, OneAnswer, tokens, source_of}
 use Rattle.run_laws.specs.Ends.{gather, end_of}
 use Rattle.run_laws.specs.Steady.{StartRule}
 use Rattle.run_laws.proofs.Along.{Told}
@@ -57,7 +57,7 @@ start_of values t n (Drop task cause why) = []
 abbrev pub starts_in : {V : Type 0} → List (ValueRow V) → ℕ → List Entry → List (List (InputValue V))
 starts_in values t b = gather (start_of values t) 0 b
 
-abbrev pub ends_in : {V : Type 0} → List (ValueRow V) → (ℕ → Option ℕ) → ℕ → List Entry → List (Ended V)
+abbrev pub ends_in : {V : Type 0} → List (ValueRow V) → (ℕ → Option ℕ) → ℕ → List Entry → List (TaskEnd V)
 ends_in values at t b = gather (end_of values at t) 0 b
 
 -- the tokens of an edge so far

@@ -30,7 +30,7 @@ use Rattle.join_words.specs.Ins.{InputValue, value, first}
 use Rattle.run_frame.specs.declared.run.ValueRow.{ValueRow}
 use Rattle.run_frame.specs.Runs.{value_at, found_at, found_by, found_ins}
 use Rattle.run_frame.specs.WorkRule.{Work, work_at, work_of}
-use Rattle.run_laws.specs.OneThreadValue.{Ended, OneAnswer, tokens, begun, source_of}
+use Rattle.run_laws.specs.OneThreadValue.{TaskEnd, OneAnswer, tokens, begun, source_of}
 use Rattle.run_laws.specs.Ends.{end_of, is_task}
 use Rattle.run_laws.specs.Steady.{runs_at, MayStart}
 use Rattle.run_laws.proofs.Along.{Told, told_before, gather_push}
@@ -43,12 +43,12 @@ pub source_strong : (net : NetRows) (t : ℕ) → IsSource net t → strong_in n
 source_strong net t source = none_strong (λ (row : EdgeRow). row.to == t) (λ (row : EdgeRow). not (is_weak_row net row)) 0 net.edges source
 
 -- a task's Starts and Ends so far
-pub record Ran {V : Type 0} (net : NetRows) (one : OneAnswer V) (values : List (ValueRow V)) (at : ℕ → Option ℕ) (t : ℕ) (b : List Entry) (S : List (List (InputValue V))) (E : List (Ended V)) : Type 0 where
+pub record Ran {V : Type 0} (net : NetRows) (one : OneAnswer V) (values : List (ValueRow V)) (at : ℕ → Option ℕ) (t : ℕ) (b : List Entry) (S : List (List (InputValue V))) (E : List (TaskEnd V)) : Type 0 where
   pub begun : length S ≡ count_by (begins t) b
   pub ended : length E ≡ count_by (ends_one at t) b
   pub used_up : count_by (stops_one at t) b ≡ 0 → strong_in net t ≢ [] → length S ≡ used t b
   pub opened : (n : ℕ) (work : Work V) → runs_at t b n ≡ true → work_at values b n ≡ Some work → (work.task ≡ t) × (slice_get S (length E) ≡ Some work.found)
-  pub answered : (k : ℕ) (ins : List (InputValue V)) (u : Ended V) → slice_get S k ≡ Some ins → slice_get E k ≡ Some u → one t ins ≡ Some u
+  pub answered : (k : ℕ) (ins : List (InputValue V)) (u : TaskEnd V) → slice_get S k ≡ Some ins → slice_get E k ≡ Some u → one t ins ≡ Some u
 
 -- the work of a Start that stands already
 work_before : {V : Type 0} (values : List (ValueRow V)) (b : List Entry) (x : Entry) (n : ℕ) → n < length b → work_at values (b ++ x ∷ []) n ≡ work_at values b n
@@ -58,7 +58,7 @@ work_last : {V : Type 0} (values : List (ValueRow V)) (b : List Entry) (x : Entr
 work_last {V} values b x = ap (λ (o : Option Entry). elim o as (λ _. Option (Work V)) [ None ↦ None | Some entry ↦ work_of values entry ]) (slice_get_push_last b x)
 
 -- an entry that is neither a Start nor an End of the task
-ran_quiet : {V : Type 0} (net : NetRows) (one : OneAnswer V) (values : List (ValueRow V)) (at : ℕ → Option ℕ) (t : ℕ) (b : List Entry) (x : Entry) (S : List (List (InputValue V))) (E : List (Ended V))
+ran_quiet : {V : Type 0} (net : NetRows) (one : OneAnswer V) (values : List (ValueRow V)) (at : ℕ → Option ℕ) (t : ℕ) (b : List Entry) (x : Entry) (S : List (List (InputValue V))) (E : List (TaskEnd V))
     → begins t x ≡ false → ends_one at t x ≡ false → (count_by (stops_one at t) (b ++ x ∷ []) ≡ 0 → used t (b ++ x ∷ []) ≡ used t b)
     → Ran net one values at t b S E → Ran net one values at t (b ++ x ∷ []) S E
 ran_quiet net one values at t b x S E none no_end used_same r = record {
@@ -73,7 +73,7 @@ ran_quiet net one values at t b x S E none no_end used_same r = record {
 }
 
 -- a Start of the task
-ran_start : {V : Type 0} (net : NetRows) (one : OneAnswer V) (values : List (ValueRow V)) (at : ℕ → Option ℕ) (t : ℕ) (b : List Entry) (cause : Cause) (ins : List Part) (S : List (List (InputValue V))) (E : List (Ended V))
+ran_start : {V : Type 0} (net : NetRows) (one : OneAnswer V) (values : List (ValueRow V)) (at : ℕ → Option ℕ) (t : ℕ) (b : List Entry) (cause : Cause) (ins : List Part) (S : List (List (InputValue V))) (E : List (TaskEnd V))
     → ((e : ℕ) → is_weak net e ≡ false) → Told at b → Behind b → MayStart t b → Phase at t b → IsReleased net b t cause
     → Ran net one values at t b S E → Ran net one values at t (b ++ Start t cause ins ∷ []) (S ++ found_ins values ins ∷ []) E
 ran_start {V} net one values at t b cause ins S E strong told behind may phase released r = record {
@@ -108,7 +108,7 @@ ran_start {V} net one values at t b cause ins S E strong told behind may phase r
 
 -- an End of the task
 ran_end : {V : Type 0} (net : NetRows) (one : OneAnswer V) (values : List (ValueRow V)) (at : ℕ → Option ℕ) (b : List Entry) (start : ℕ) (gives : List ℕ) (inner : Bool)
-    (a : EndAt net one values at b start gives) (S : List (List (InputValue V))) (E : List (Ended V))
+    (a : EndAt net one values at b start gives) (S : List (List (InputValue V))) (E : List (TaskEnd V))
     → Told at b → Phase at a.task b → is_open b start ≡ true
     → Ran net one values at a.task b S E → Ran net one values at a.task (b ++ End start gives inner ∷ []) S (E ++ (record { value = a.v; gives = gives }) ∷ [])
 ran_end {V} net one values at b start gives inner a S E told phase is_opened r = record {
@@ -122,7 +122,7 @@ ran_end {V} net one values at b start gives inner a S E told phase is_opened r =
     t : ℕ
     t = a.task
 
-    u : Ended V
+    u : TaskEnd V
     u = record { value = a.v; gives = gives }
 
     x : Entry
@@ -143,7 +143,7 @@ ran_end {V} net one values at b start gives inner a S E told phase is_opened r =
     closed : eqb start start ≡ true
     closed = grind (arith, nat_tests)
 
-    by_place : (k : ℕ) (ins : List (InputValue V)) (w : Ended V) → slice_get S k ≡ Some ins → (slice_get E k ≡ Some w) ⊎ ((k ≡ length E) × (w ≡ u)) → one t ins ≡ Some w
+    by_place : (k : ℕ) (ins : List (InputValue V)) (w : TaskEnd V) → slice_get S k ≡ Some ins → (slice_get E k ≡ Some w) ⊎ ((k ≡ length E) × (w ≡ u)) → one t ins ≡ Some w
     by_place k ins w at_k (inl old) = r.answered k ins w at_k old
     by_place k ins w at_k (inr last) =
         let was = r.opened start a.work runs a.found in
@@ -200,17 +200,17 @@ held_given net values e b x v ts gift is held =
     }
 
 -- what an End of the edge's source adds to the edge's tokens
-tokens_more : {V : Type 0} (net : NetRows) (e : ℕ) (us ws : List (Ended V)) → tokens net e (us ++ ws) ≡ tokens net e us ++ map (λ (end : Ended V). value end.value) (filter (λ (end : Ended V). list_any (λ g. g == e) end.gives) ws)
+tokens_more : {V : Type 0} (net : NetRows) (e : ℕ) (us ws : List (TaskEnd V)) → tokens net e (us ++ ws) ≡ tokens net e us ++ map (λ (end : TaskEnd V). value end.value) (filter (λ (end : TaskEnd V). list_any (λ g. g == e) end.gives) ws)
 tokens_more {V} net e us ws =
-    ap (λ zs. begun net e ++ map (λ (end : Ended V). value end.value) zs) (filter_append (λ (end : Ended V). list_any (λ g. g == e) end.gives) us ws)
-    ∙ ap (λ zs. begun net e ++ zs) (map_append (λ (end : Ended V). value end.value) (filter (λ (end : Ended V). list_any (λ g. g == e) end.gives) us) (filter (λ (end : Ended V). list_any (λ g. g == e) end.gives) ws))
+    ap (λ zs. begun net e ++ map (λ (end : TaskEnd V). value end.value) zs) (filter_append (λ (end : TaskEnd V). list_any (λ g. g == e) end.gives) us ws)
+    ∙ ap (λ zs. begun net e ++ zs) (map_append (λ (end : TaskEnd V). value end.value) (filter (λ (end : TaskEnd V). list_any (λ g. g == e) end.gives) us) (filter (λ (end : TaskEnd V). list_any (λ g. g == e) end.gives) ws))
     ∙ sym (append_assoc (begun net e) _ _)
 
 -- an End is one of its task, and none of another
 pub end_is : {V : Type 0} (net : NetRows) (one : OneAnswer V) (values : List (ValueRow V)) (at : ℕ → Option ℕ) (b : List Entry) (start : ℕ) (gives : List ℕ) (inner : Bool) (a : EndAt net one values at b start gives) (t : ℕ)
     → end_of values at t (length b) (End start gives inner) ≡ cond (a.task == t) ((record { value = a.v; gives = gives }) ∷ []) []
 end_is {V} net one values at b start gives inner a t =
-    ap (λ (o : Option V). elim o as (λ _. List (Ended V)) [ None ↦ [] | Some v ↦ cond (is_task t (at start)) ((record { value = v; gives = gives }) ∷ []) [] ]) a.value
+    ap (λ (o : Option V). elim o as (λ _. List (TaskEnd V)) [ None ↦ [] | Some v ↦ cond (is_task t (at start)) ((record { value = v; gives = gives }) ∷ []) [] ]) a.value
     ∙ ap (λ (o : Option ℕ). cond (is_task t o) ((record { value = a.v; gives = gives }) ∷ []) []) a.of_task
 
 -- an End gives edges that leave its task
@@ -247,7 +247,7 @@ kept_first net one values at = record {
 
 -- the tokens of an edge after an entry
 tokens_push : {V : Type 0} (net : NetRows) (values : List (ValueRow V)) (at : ℕ → Option ℕ) (e : ℕ) (b : List Entry) (x : Entry)
-    → tokens_in net values at e (b ++ x ∷ []) ≡ tokens_in net values at e b ++ map (λ (end : Ended V). value end.value) (filter (λ (end : Ended V). list_any (λ g. g == e) end.gives) (end_of values at (source_of net e) (length b) x))
+    → tokens_in net values at e (b ++ x ∷ []) ≡ tokens_in net values at e b ++ map (λ (end : TaskEnd V). value end.value) (filter (λ (end : TaskEnd V). list_any (λ g. g == e) end.gives) (end_of values at (source_of net e) (length b) x))
 tokens_push net values at e b x = ap (tokens net e) (gather_push (end_of values at (source_of net e)) b x) ∙ tokens_more net e (ends_in values at (source_of net e) b) (end_of values at (source_of net e) (length b) x)
 
 -- an entry that is no End leaves the tokens
@@ -255,7 +255,7 @@ held_no_end : {V : Type 0} (net : NetRows) (values : List (ValueRow V)) (at : �
     → Held net values e b (tokens_in net values at e b) → Held net values e (b ++ x ∷ []) (tokens_in net values at e (b ++ x ∷ []))
 held_no_end {V} net values at e b x no_gift no_end held =
     let same : tokens_in net values at e (b ++ x ∷ []) ≡ tokens_in net values at e b =
-    tokens_push net values at e b x ∙ ap (λ us. tokens_in net values at e b ++ map (λ (end : Ended V). value end.value) (filter (λ (end : Ended V). list_any (λ g. g == e) end.gives) us)) no_end ∙ append-nil (tokens_in net values at e b) in
+    tokens_push net values at e b x ∙ ap (λ us. tokens_in net values at e b ++ map (λ (end : TaskEnd V). value end.value) (filter (λ (end : TaskEnd V). list_any (λ g. g == e) end.gives) us)) no_end ∙ append-nil (tokens_in net values at e b) in
     subst (λ ts. Held net values e (b ++ x ∷ []) ts) (sym same) (held_still net values e b x _ no_gift held)
 
 held_end : {V : Type 0} (net : NetRows) (one : OneAnswer V) (values : List (ValueRow V)) (at : ℕ → Option ℕ) (e : ℕ) (b : List Entry) (start : ℕ) (gives : List ℕ) (inner : Bool) → EndAt net one values at b start gives
@@ -265,17 +265,17 @@ held_end {V} net one values at e b start gives inner a held = by_gift (list_any 
     x : Entry
     x = End start gives inner
 
-    u : Ended V
+    u : TaskEnd V
     u = record { value = a.v; gives = gives }
 
-    after : tokens_in net values at e (b ++ x ∷ []) ≡ tokens_in net values at e b ++ map (λ (end : Ended V). value end.value) (filter (λ (end : Ended V). list_any (λ g. g == e) end.gives) (cond (a.task == source_of net e) (u ∷ []) []))
-    after = tokens_push net values at e b x ∙ ap (λ us. tokens_in net values at e b ++ map (λ (end : Ended V). value end.value) (filter (λ (end : Ended V). list_any (λ g. g == e) end.gives) us)) (end_is net one values at b start gives inner a (source_of net e))
+    after : tokens_in net values at e (b ++ x ∷ []) ≡ tokens_in net values at e b ++ map (λ (end : TaskEnd V). value end.value) (filter (λ (end : TaskEnd V). list_any (λ g. g == e) end.gives) (cond (a.task == source_of net e) (u ∷ []) []))
+    after = tokens_push net values at e b x ∙ ap (λ us. tokens_in net values at e b ++ map (λ (end : TaskEnd V). value end.value) (filter (λ (end : TaskEnd V). list_any (λ g. g == e) end.gives) us)) (end_is net one values at b start gives inner a (source_of net e))
 
     added : (own : Bool) (gift : Bool) → list_any (λ g. g == e) gives ≡ gift → (gift ≡ true → own ≡ true)
-        → map (λ (end : Ended V). value end.value) (filter (λ (end : Ended V). list_any (λ g. g == e) end.gives) (cond own (u ∷ []) [])) ≡ cond gift (value a.v ∷ []) []
-    added true gift is its = ap (λ g. map (λ (end : Ended V). value end.value) (cond g (u ∷ []) [])) is ∙ both_ways gift
+        → map (λ (end : TaskEnd V). value end.value) (filter (λ (end : TaskEnd V). list_any (λ g. g == e) end.gives) (cond own (u ∷ []) [])) ≡ cond gift (value a.v ∷ []) []
+    added true gift is its = ap (λ g. map (λ (end : TaskEnd V). value end.value) (cond g (u ∷ []) [])) is ∙ both_ways gift
       where
-        both_ways : (g : Bool) → map (λ (end : Ended V). value end.value) (cond g (u ∷ []) []) ≡ cond g (value a.v ∷ []) []
+        both_ways : (g : Bool) → map (λ (end : TaskEnd V). value end.value) (cond g (u ∷ []) []) ≡ cond g (value a.v ∷ []) []
         both_ways true = refl
         both_ways false = refl
     added false true is its = absurd (false≢true (its refl))
@@ -293,7 +293,7 @@ held_end {V} net one values at e b start gives inner a held = by_gift (list_any 
         (held_still net values e b x _ no_gift held)
 
 -- what a task started and ended, after an entry
-ran_to : {V : Type 0} (net : NetRows) (one : OneAnswer V) (values : List (ValueRow V)) (at : ℕ → Option ℕ) (t : ℕ) (b : List Entry) (x : Entry) (S : List (List (InputValue V))) (E : List (Ended V))
+ran_to : {V : Type 0} (net : NetRows) (one : OneAnswer V) (values : List (ValueRow V)) (at : ℕ → Option ℕ) (t : ℕ) (b : List Entry) (x : Entry) (S : List (List (InputValue V))) (E : List (TaskEnd V))
     → starts_in values t (b ++ x ∷ []) ≡ S → ends_in values at t (b ++ x ∷ []) ≡ E
     → Ran net one values at t (b ++ x ∷ []) S E → Ran net one values at t (b ++ x ∷ []) (starts_in values t (b ++ x ∷ [])) (ends_in values at t (b ++ x ∷ []))
 ran_to net one values at t b x S E s e r = subst (λ S2. Ran net one values at t (b ++ x ∷ []) S2 (ends_in values at t (b ++ x ∷ []))) (sym s) (subst (λ E2. Ran net one values at t (b ++ x ∷ []) S E2) (sym e) r)
@@ -304,7 +304,7 @@ starts_more values t b x new is = gather_push (start_of values t) b x ∙ ap (λ
 pub starts_same : {V : Type 0} (values : List (ValueRow V)) (t : ℕ) (b : List Entry) (x : Entry) → start_of values t (length b) x ≡ [] → starts_in values t (b ++ x ∷ []) ≡ starts_in values t b
 starts_same values t b x none = starts_more values t b x [] none ∙ append-nil (starts_in values t b)
 
-pub ends_more : {V : Type 0} (values : List (ValueRow V)) (at : ℕ → Option ℕ) (t : ℕ) (b : List Entry) (x : Entry) (new : List (Ended V)) → end_of values at t (length b) x ≡ new → ends_in values at t (b ++ x ∷ []) ≡ ends_in values at t b ++ new
+pub ends_more : {V : Type 0} (values : List (ValueRow V)) (at : ℕ → Option ℕ) (t : ℕ) (b : List Entry) (x : Entry) (new : List (TaskEnd V)) → end_of values at t (length b) x ≡ new → ends_in values at t (b ++ x ∷ []) ≡ ends_in values at t b ++ new
 ends_more values at t b x new is = gather_push (end_of values at t) b x ∙ ap (λ us. ends_in values at t b ++ us) is
 
 pub ends_same : {V : Type 0} (values : List (ValueRow V)) (at : ℕ → Option ℕ) (t : ℕ) (b : List Entry) (x : Entry) → end_of values at t (length b) x ≡ [] → ends_in values at t (b ++ x ∷ []) ≡ ends_in values at t b
@@ -341,7 +341,7 @@ ran_step {V} net one values at t b (End start gives inner) strong step r = by_ta
     a : EndAt net one values at b start gives
     a = step.well
 
-    u : Ended V
+    u : TaskEnd V
     u = record { value = a.v; gives = gives }
 
     told : Told at b

@@ -23,7 +23,7 @@ use Rattle.join_words.specs.Ins.{InputValue}
 use Rattle.run_frame.specs.declared.run.ValueRow.{ValueRow}
 use Rattle.run_frame.specs.Runs.{IsFine}
 use Rattle.run_laws.specs.Starting.{rounds_in}
-use Rattle.run_laws.specs.OneThreadValue.{Ended, OneAnswer, tokens, source_of, one_thread_value}
+use Rattle.run_laws.specs.OneThreadValue.{TaskEnd, OneAnswer, tokens, source_of, one_thread_value}
 use Rattle.run_laws.specs.Ends.{ends, is_task}
 use Rattle.run_laws.proofs.Along.{along}
 use Rattle.run_laws.proofs.Phases.{Phase, idle, busy, faults_one, stops_one, faults_stop, and_right}
@@ -166,7 +166,7 @@ pub all_values : {V : Type 0} (net : NetRows) (limit : ℕ) (one : OneAnswer V) 
 all_values net limit one values h is done zero t below = tt
 all_values {V} net limit one values h is done (suc n) t below = front_from _ (ends values h t) (each (λ p p_below. all_values net limit one values h is done n p p_below))
   where
-    each : ((p : ℕ) → p < length net.tasks → IsPrefixOf (one_thread_value net one n p) (ends values h p)) → (k : ℕ) (u : Ended V) → slice_get (one_thread_value net one (suc n) t) k ≡ Some u → slice_get (ends values h t) k ≡ Some u
+    each : ((p : ℕ) → p < length net.tasks → IsPrefixOf (one_thread_value net one n p) (ends values h p)) → (k : ℕ) (u : TaskEnd V) → slice_get (one_thread_value net one (suc n) t) k ≡ Some u → slice_get (ends values h t) k ≡ Some u
     each before k u at_u =
         let a : Answered (one t) (rounds_in net one n t) k u = answers_at (one t) (rounds_in net one n t) k u at_u in
         let there = slice_get-get_or (ends values h t) k u (omega (arith, round_started net limit one values h is done n t below before k a.item a.at_item, all_ended net limit one values h is done t)) in
@@ -192,7 +192,7 @@ no_faults {V} net limit one values h is done n t below k r at_k fault =
     (rounds_at _ k r at_k) (kept.finds t k _ at_start) in
     no_such (slice_get (ends_in values at t h) k) refl (omega (arith, started, all_ended net limit one values h is done t)) (λ u at_u. sym fault ∙ ap (one t) same ∙ (kept.ran t).answered k _ u at_start at_u)
   where
-    no_such : (o : Option (Ended V)) → slice_get (ends_in values (start_at h) t h) k ≡ o → k < length (ends_in values (start_at h) t h) → ((u : Ended V) → slice_get (ends_in values (start_at h) t h) k ≡ Some u → None ≡ Some u) → ⊥
+    no_such : (o : Option (TaskEnd V)) → slice_get (ends_in values (start_at h) t h) k ≡ o → k < length (ends_in values (start_at h) t h) → ((u : TaskEnd V) → slice_get (ends_in values (start_at h) t h) k ≡ Some u → None ≡ Some u) → ⊥
     no_such None is2 in_list each = past (ends_in values (start_at h) t h) k is2 in_list
       where
         past : {X : Type 0} (xs : List X) (j : ℕ) → slice_get xs j ≡ None → j < length xs → ⊥

@@ -29,7 +29,7 @@ use Rattle.run_frame.specs.Meaning.{Meaning}
 use Rattle.run_frame.specs.Runs.{IsFine}
 use Rattle.run_frame.specs.NestedRule.{job_of, journal_of}
 use Rattle.run_frame.specs.WorkRule.{gives_of}
-use Rattle.run_laws.specs.OneThreadValue.{Ended, OneAnswer}
+use Rattle.run_laws.specs.OneThreadValue.{TaskEnd, OneAnswer}
 use Rattle.run_laws.specs.OneAnswer.{AllowsOne, InnerRunOf}
 use Rattle.run_laws.specs.Worked.{four_tasks, adding, added, end}
 use Rattle.run_laws.proofs.Runs.{legal_journal}
@@ -59,11 +59,11 @@ allows_one net = record {
 }
 
 -- the value of an answer, and how many edges it gives
-abbrev value_of : Option (Ended ℕ) → ℕ
+abbrev value_of : Option (TaskEnd ℕ) → ℕ
 value_of None = 0
 value_of (Some ended) = ended.value
 
-abbrev edges_given : Option (Ended ℕ) → ℕ
+abbrev edges_given : Option (TaskEnd ℕ) → ℕ
 edges_given None = 0
 edges_given (Some ended) = length ended.gives
 

@@ -27,13 +27,13 @@ use Rattle.run_frame.specs.declared.run.InnerRow.{out-InnerRow}
 use Rattle.run_frame.specs.Runs.{IsFine}
 use Rattle.run_frame.specs.NestedRule.{journal_of}
 use Rattle.run_frame.specs.Legal.{CompleteRun, Legal}
-use Rattle.run_laws.specs.OneThreadValue.{Ended, OneAnswer, one_thread_value}
+use Rattle.run_laws.specs.OneThreadValue.{TaskEnd, OneAnswer, one_thread_value}
 use Rattle.run_laws.specs.Starting.{HasFault}
 use Rattle.run_laws.specs.Prefixes.{IsPrefixOf}
 use Rattle.run_laws.specs.Steady.{Steady}
 use Rattle.run_laws.specs.PipeNet.{pipe_net}
 use Rattle.run_laws.specs.Cycles.{GoesRound}
-use Rattle.run_laws.specs.Laws.{HasNoOtherValues, HasOneThreadValues, IsDecided, IsGraphRun, IsInTurn, IsSteadyRun, PipesGoRound, RingsGoRound, ValuesGrow, ends_of}
+use Rattle.run_laws.specs.Laws.{HasNoOtherValues, HasOneThreadValues, IsDecided, IsGraphRun, IsInTurn, IsSteadyRun, PipesGoRound, RingsGoRound, ValuesGrow, run_ends}
 use Rattle.run_laws.specs.Worked.{adding, end, two_in_a_ring}
 use Rattle.run_laws.proofs.WorkedLaws.{cycle_of_two, first_two, ring_is_ringed}
 use Rattle.run_laws.proofs.WorkedMeaning.{adds_on, allows_one}
@@ -140,7 +140,7 @@ row_is_steady = record {
   single = (record { none_open = tt; none_stopped = refl }, (tt, (record { none_open = (refl, (refl, tt)); none_stopped = refl }, (tt, tt))));
 }
 
-abbrev first_value : List (Ended ℕ) → ℕ
+abbrev first_value : List (TaskEnd ℕ) → ℕ
 first_value [] = 0
 first_value (ended ∷ more) = ended.value
 
@@ -209,7 +209,7 @@ module _ (ptr : Ptr) (alloc : Global)
       values = values;
     }
       where
-        values : IsFine along_the_row → (t : ℕ) → t < 2 → ends_of row_run t ≡ one_thread_value row (adding row) 2 t
+        values : IsFine along_the_row → (t : ℕ) → t < 2 → run_ends row_run t ≡ one_thread_value row (adding row) 2 t
         values fine zero below = refl
         values fine (suc zero) below = refl
         values fine (suc (suc t)) below = absurd (omega (arith, below))
@@ -229,11 +229,11 @@ abbrev ring : NetRows
 ring = two_in_a_ring
 
 second_value_by_law : (run : FrameRun ℕ ℕ) → HasOneThreadValues (adds_on ring) run → IsSteadyRun (adds_on ring) run (adding ring)
-    → (w : Ended ℕ) → slice_get (ends_of run 0) 1 ≡ Some w → w ≡ end 3 (0 ∷ [])
+    → (w : TaskEnd ℕ) → slice_get (run_ends run 0) 1 ≡ Some w → w ≡ end 3 (0 ∷ [])
 second_value_by_law run law steady w at = law (adding ring) steady 4 0 1 (end 3 (0 ∷ [])) w refl at
 
 both_values_by_law : (run : FrameRun ℕ ℕ) → HasNoOtherValues (adds_on ring) run → IsSteadyRun (adds_on ring) run (adding ring) → CompleteRun (adds_on ring) run
-    → IsFine (journal_of run) → IsPrefixOf (end 1 (0 ∷ []) ∷ end 3 (0 ∷ []) ∷ []) (ends_of run 0)
+    → IsFine (journal_of run) → IsPrefixOf (end 1 (0 ∷ []) ∷ end 3 (0 ∷ []) ∷ []) (run_ends run 0)
 both_values_by_law run law steady complete fine = law (adding ring) steady complete fine 4 0 (omega arith)
 
 one_value_before_two : ValuesGrow ℕ → IsPrefixOf (end 1 (0 ∷ []) ∷ []) (one_thread_value ring (adding ring) 4 0)

@@ -11,7 +11,7 @@ use Rattle.run_frame.specs.Meaning.{Meaning}
 use Rattle.run_frame.specs.Runs.{IsFine}
 use Rattle.run_frame.specs.NestedRule.{job_of, journal_of}
 use Rattle.run_frame.specs.Legal.{Legal, CompleteRun}
-use Rattle.run_laws.specs.OneThreadValue.{Ended, OneAnswer, one_thread_value}
+use Rattle.run_laws.specs.OneThreadValue.{TaskEnd, OneAnswer, one_thread_value}
 use Rattle.run_laws.specs.Starting.{HasFault, tasks_started}
 use Rattle.run_laws.specs.Prefixes.{IsPrefixOf}
 use Rattle.run_laws.specs.Ends.{ends}
@@ -33,20 +33,20 @@ pub record IsSteadyRun {J V : Type 0} (meaning : Meaning J V) (run : FrameRun J 
   pub steady : Steady (meaning.net (job_of run)) (journal_of run)
 
 -- the ends of a task in a run
-abbrev pub ends_of : {J V : Type 0} → FrameRun J V → ℕ → List (Ended V)
-ends_of {J} {V} run t = ends (out-FrameRun J V run).values (journal_of run) t
+abbrev pub run_ends : {J V : Type 0} → FrameRun J V → ℕ → List (TaskEnd V)
+run_ends {J} {V} run t = ends (out-FrameRun J V run).values (journal_of run) t
 
 -- The k-th end of each task is element k of its one-thread values, for any n at which they have it.
 abbrev pub HasOneThreadValues : {J V : Type 0} → Meaning J V → FrameRun J V → Type 0
 HasOneThreadValues {J} {V} meaning run =
     (one : OneAnswer V) → IsSteadyRun meaning run one
-    → (n t k : ℕ) (u w : Ended V) → slice_get (one_thread_value (meaning.net (job_of run)) one n t) k ≡ Some u → slice_get (ends_of run t) k ≡ Some w → w ≡ u
+    → (n t k : ℕ) (u w : TaskEnd V) → slice_get (one_thread_value (meaning.net (job_of run)) one n t) k ≡ Some u → slice_get (run_ends run t) k ≡ Some w → w ≡ u
 
 -- Where the run is complete and fine, they have no others, for any n.
 abbrev pub HasNoOtherValues : {J V : Type 0} → Meaning J V → FrameRun J V → Type 0
 HasNoOtherValues {J} {V} meaning run =
     (one : OneAnswer V) → IsSteadyRun meaning run one → CompleteRun meaning run → IsFine (journal_of run)
-    → (n t : ℕ) → t < length (meaning.net (job_of run)).tasks → IsPrefixOf (one_thread_value (meaning.net (job_of run)) one n t) (ends_of run t)
+    → (n t : ℕ) → t < length (meaning.net (job_of run)).tasks → IsPrefixOf (one_thread_value (meaning.net (job_of run)) one n t) (run_ends run t)
 
 -- A larger n only makes the lists longer.
 abbrev pub ValuesGrow : Type 0 → Type 0
@@ -73,7 +73,7 @@ pub record RunsThrough {V : Type 0} (net : NetRows) (limit : ℕ) (one : OneAnsw
 -- The run is fine exactly where the one-thread values run through, and then these are its ends.
 pub record IsDecided {J V : Type 0} (meaning : Meaning J V) (run : FrameRun J V) (one : OneAnswer V) : Type 0 where
   pub fine : IsFine (journal_of run) ↔ RunsThrough (meaning.net (job_of run)) (meaning.limit (job_of run)) one
-  pub values : IsFine (journal_of run) → (t : ℕ) → t < length (meaning.net (job_of run)).tasks → ends_of run t ≡ one_thread_value (meaning.net (job_of run)) one (length (meaning.net (job_of run)).tasks) t
+  pub values : IsFine (journal_of run) → (t : ℕ) → t < length (meaning.net (job_of run)).tasks → run_ends run t ≡ one_thread_value (meaning.net (job_of run)) one (length (meaning.net (job_of run)).tasks) t
 
 -- ---- steady nets
 

@@ -8,13 +8,13 @@ use Rattle.task_graph.specs.declared.net.EdgeRow.{EdgeRow}
 use Rattle.join_words.specs.Ins.{InputValue, value, first}
 
 -- an end of a task: its value, and the edges that it gave
-pub record Ended (V : Type 0) : Type 0 where
+pub record TaskEnd (V : Type 0) : Type 0 where
   pub value : V
   pub gives : List ℕ
 
 -- What the one answer of each task is on what it finds: an end, or nothing where it is a fault.
 abbrev pub OneAnswer : Type 0 → Type 0
-OneAnswer V = ℕ → List (InputValue V) → Option (Ended V)
+OneAnswer V = ℕ → List (InputValue V) → Option (TaskEnd V)
 
 -- the task that an edge leaves
 abbrev pub source_of : NetRows → ℕ → ℕ
@@ -26,7 +26,7 @@ begun net e = option_map_or (λ (row : EdgeRow). if row.start then first ∷ [] 
 
 -- The tokens of an edge, in order: that with which it begins, and the value of each end of its source that
 -- gave it.
-abbrev pub tokens : {V : Type 0} → NetRows → ℕ → List (Ended V) → List (InputValue V)
+abbrev pub tokens : {V : Type 0} → NetRows → ℕ → List (TaskEnd V) → List (InputValue V)
 tokens net e ends = begun net e ++ map (λ end. value end.value) (filter (λ end. list_any (λ g. g == e) end.gives) ends)
 
 -- an item before each list of the other, as far as both go
@@ -49,7 +49,7 @@ answers one (x ∷ xs) = elim (one x) [ None ↦ [] | Some y ↦ y ∷ answers o
 
 -- The ends of a task, as far as n steps along the edges decide: its answers on the rounds of tokens of its
 -- in-edges. A source task, which has none, has one round, without parts.
-abbrev pub one_thread_value : {V : Type 0} → NetRows → OneAnswer V → ℕ → ℕ → List (Ended V)
+abbrev pub one_thread_value : {V : Type 0} → NetRows → OneAnswer V → ℕ → ℕ → List (TaskEnd V)
 one_thread_value net one zero t = []
 one_thread_value net one (suc n) t =
     answers (one t) (rounds_of (map (λ e. tokens net e (one_thread_value net one n (source_of net e))) (strong_in net t)))

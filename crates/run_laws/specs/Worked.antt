@@ -10,7 +10,7 @@ use Rattle.journal_rules.specs.declared.entry.DropWhy.TheVariants.{Limit}
 use Rattle.journal_rules.specs.declared.entry.Entry.{Entry}
 use Rattle.journal_rules.specs.declared.entry.Entry.TheVariants.{Start, End, Drop}
 use Rattle.join_words.specs.Ins.{InputValue, value, first, nothing}
-use Rattle.run_laws.specs.OneThreadValue.{Ended, OneAnswer}
+use Rattle.run_laws.specs.OneThreadValue.{TaskEnd, OneAnswer}
 
 abbrev task : TaskRow
 task = record { shape = Plain; takes = []; puts = [] }
@@ -37,7 +37,7 @@ added (value n ∷ found) = n + added found
 added (first ∷ found) = added found
 added (nothing ∷ found) = added found
 
-abbrev pub end : ℕ → List ℕ → Ended ℕ
+abbrev pub end : ℕ → List ℕ → TaskEnd ℕ
 end v gives = record { value = v; gives = gives }
 
 -- each task adds one to what it finds, and gives all its edges

@@ -121,7 +121,7 @@ pub fn started(entry: &Entry) -> Option<u32>
     }
 }
 
-/// The task of the Start at a place, where one stands there.
+/// The task of the Start at a place, where one is there.
 pub fn start_at(journal: &[Entry], place: u64) -> Option<u32>
     ensures { result ≡ start_at journal.now place }
 {
@@ -144,7 +144,7 @@ pub fn closings(journal: &[Entry], place: u64) -> usize
     journal.iter().filter(|entry| closes(entry, place)).count()
 }
 
-/// Whether an open Start stands at a place.
+/// Whether there is an open Start at a place.
 pub fn is_open(journal: &[Entry], place: u64) -> bool
     ensures { result ≡ is_open journal.now place }
 {

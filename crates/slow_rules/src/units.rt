@@ -144,7 +144,7 @@ fn gives_back_with(net: &Net, sem: u32, journal: &[Entry], next: &Entry, entry: 
     }
 }
 
-// How many units the Ends of a journal give back, where one more entry stands after it.
+// How many units the Ends of a journal give back, where one more entry follows it.
 fn back_before(net: &Net, sem: u32, journal: &[Entry], next: &Entry) -> usize
     ensures value { result ≡ count_by (gives_back net.now sem (journal.now ++ next.now ∷ [])) journal.now }
     ensures few { result < 2 ^ 63 }

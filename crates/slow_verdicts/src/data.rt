@@ -80,7 +80,7 @@ fn may_find(net: &Net, journal: &[Entry], edge: u32, part: Part) -> bool
     }
 }
 
-// Whether an End that gave the edge stands at a place.
+// Whether an End that gave the edge is at a place.
 fn gave_at(journal: &[Entry], place: u64, edge: u32) -> bool
     ensures { result ≡ option_map_or (gives_edge edge) (slice_get journal.now place) false }
 {
@@ -167,7 +167,7 @@ pub fn last_part(edge: u32, journal: &[Entry]) -> Part
     last_from(edge, 0, Part::First, journal)
 }
 
-// The last End that gave an edge, among entries of which the first stands at `place`, or else `part`.
+// The last End that gave an edge, among entries of which the first is at `place`, or else `part`.
 fn last_from(edge: u32, place: u64, part: Part, rest: &[Entry]) -> Part
     requires { place + length rest.now < 2 ^ 64 }
     ensures { result ≡ last_from edge place part rest.now }

@@ -12,7 +12,7 @@ use slow_rules::{
 };
 use task_graph::Net;
 
-/// The break that is told of an entry after a journal, or `None` where it breaks no rule.
+/// The break that is reported of an entry after a journal, or `None` where it breaks no rule.
 pub fn refusal(net: &Net, limit: u64, journal: &[Entry], entry: &Entry) -> Option<Break>
     ensures { MatchOption result ((break : Break) → ¬ Breaks net.now limit journal.now entry.now break)
         (IsRefusal net.now limit journal.now entry.now) }

@@ -1,5 +1,5 @@
 //! Runs that threads step over one shared list of releases. They are no part of a program: they serve the tests of
-//! frames, which stand here, and measurements.
+//! frames, which are here, and measurements.
 #![tactic(auto)]
 
 #[cfg(test)]

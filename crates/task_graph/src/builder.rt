@@ -30,11 +30,11 @@ pub enum BuildError {
     NoSuchSemaphore(u32),
     /// A semaphore without units.
     ZeroCount,
-    /// This semaphore stands twice in one list.
+    /// This semaphore is twice in one list.
     Repeated(u32),
     /// An edge out of a task that chooses its successors was to begin with a token.
     WeakStart,
-    /// So many of the kind stand already, and no more may.
+    /// There are so many of the kind already, and may be no more.
     TooMany(u32),
     /// An allocation failed.
     NoMemory,
@@ -115,7 +115,7 @@ impl NetBuilder {
     /// none twice; the net keeps them by rising number. After an `Err` the net is as it was.
     ///
     /// `NoSuchSemaphore`: the first number in `takes`, or else in `puts`, that no semaphore has. `Repeated`:
-    /// the least that stands twice in `takes`, or else in `puts`. `TooMany`: the net has `MAX_TASKS`.
+    /// the least that occurs twice in `takes`, or else in `puts`. `TooMany`: the net has `MAX_TASKS`.
     pub fn task(
         &mut self,
         shape: Shape,

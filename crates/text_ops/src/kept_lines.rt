@@ -53,7 +53,7 @@ pub fn has_word(word: &[u8], text: &Text) -> bool
     first_kept(&Finder::new(word), bytes).is_some()
 }
 
-// The lines in which the word occurs, which may stand within a line.
+// The lines in which the word occurs, at any place of the line.
 fn keep_found(alloc: Global, word: &Finder<'_>, text: &Text) -> Result<Text, ApplyError>
     requires { IsSearchWord word.now }
     ensures { Makes (keep_meaning word.now text.now) result }

@@ -14,7 +14,7 @@ pub fn lines_and_words()
     ensures plain { (text : List ℕ) → All IsPlain (lines_of text) }
     ensures only { (lines : List (List ℕ)) → All IsPlain lines → lines_of (text_of lines) ≡ lines }
 
-    // The test by which lines are kept says that the word stands somewhere in the line.
+    // The test by which lines are kept says that the word is somewhere in the line.
     ensures found { (word line : List ℕ) → IsTrue (occurs word line) ↔ OccursIn word line }
 {}
 
@@ -22,9 +22,9 @@ pub fn lines_and_words()
 pub fn shares_of_lines()
     // The first n lines and the others are the text.
     ensures cut { (n : ℕ) (text : List ℕ) → head_meaning n text ++ skip_meaning n text ≡ normal text }
-    // What stands before the last n lines and these are the text.
+    // What precedes the last n lines and these are the text.
     ensures last { (n : ℕ) (text : List ℕ) → head_meaning (length (lines_of text) - n) text ++ tail_meaning n text ≡ normal text }
-    // Each line is among those in which the word occurs or among the others, as often as it stands in the text.
+    // Each line is among those in which the word occurs or among the others, as often as it occurs in the text.
     ensures shared { (word text : List ℕ) → IsPermutation (lines_of text) (lines_of (keep_meaning word text) ++ lines_of (without_meaning word text)) }
 {}
 
@@ -33,7 +33,7 @@ pub fn order_of_lines()
     // Lines in order are the same lines, each no greater than those behind it.
     ensures same { (lines : List (List ℕ)) → IsPermutation lines (in_order lines) }
     ensures rising { (lines : List (List ℕ)) → AllPairs IsUpTo (in_order lines) }
-    // No two lines that are equal and may stand in either order differ: there is one such order.
+    // No two lines that are equal and may come in either order differ: there is one such order.
     ensures one { (a b : List ℕ) → IsUpTo a b → IsUpTo b a → a ≡ b }
 
     // No two neighbours are equal, and of lines in order each is left once, in order.

@@ -5,7 +5,7 @@
 pub(crate) enum Piece {
     /// The line.
     Whole,
-    /// What stands before the line's first space, or the whole line.
+    /// What precedes the line's first space, or the whole line.
     Key,
 }
 

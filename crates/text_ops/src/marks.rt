@@ -13,7 +13,7 @@ use outside_io::NoMemory;
 use std::alloc::Global;
 use std::cmp::Ordering;
 
-// Marks of these pieces of the lines, in the order of their bytes. Marks of equal keys stand in the order of the lines.
+// Marks of these pieces of the lines, in the order of their bytes. Marks of equal keys are in the order of the lines.
 pub(crate) fn sorted_marks(alloc: Global, text: &[u8], by: Piece) -> Result<Vec<Mark>, NoMemory>
     requires normal { IsNormal text.now }
     requires short { length text.now ≤ 2147483647 }
@@ -70,7 +70,7 @@ fn byte_at(bytes: &[u8], place: usize) -> u8
     }
 }
 
-// What stands before the first space.
+// What precedes the first space.
 pub(crate) fn match_key(line: &[u8]) -> &[u8]
     ensures { result.now ≡ match_key line.now }
 {
@@ -155,7 +155,7 @@ fn behind_lead(piece: &[u8]) -> &[u8]
     &piece[piece.len().min(8)..]
 }
 
-// Equal lines may stand in any order, since they are one and the same, and equal keys stand in the order of their lines.
+// Equal lines may come in any order, since they are one and the same, and equal keys are in the order of their lines.
 fn tie(by: Piece, mark: &Mark) -> u32
     ensures { result ≡ tie_of by mark.now }
 {

@@ -18,8 +18,8 @@ use memchr::memchr;
 use std::alloc::Global;
 use std::cmp::Ordering;
 
-/// The lines of the left whose key is that of some line of the right, each with what stands behind the key of the
-/// first such line. The key of a line is what stands before its first space, or the whole line.
+/// The lines of the left whose key is that of some line of the right, each with what follows the key of the
+/// first such line. The key of a line is what precedes its first space, or the whole line.
 pub fn match_lines(alloc: Global, left: &Text, right: &Text) -> Result<Text, ApplyError>
     ensures { Makes (match_meaning left.now right.now) result }
 {
@@ -35,7 +35,7 @@ pub fn match_lines(alloc: Global, left: &Text, right: &Text) -> Result<Text, App
     made.finish(alloc)
 }
 
-// What stands behind this key in the first line that has it.
+// What follows this key in the first line that has it.
 fn behind_first<'t>(text: &'t [u8], marks: &[Mark], key: &[u8]) -> Option<&'t [u8]>
     requires marks { AreSortedMarks KeyPiece text.now marks.now }
     requires normal { IsNormal text.now }
@@ -50,7 +50,7 @@ fn behind_first<'t>(text: &'t [u8], marks: &[Mark], key: &[u8]) -> Option<&'t [u
     Some(behind(text, mark))
 }
 
-// How many marks stand for less than the key.
+// How many marks have a key below this one.
 fn first_place(text: &[u8], marks: &[Mark], key: &[u8]) -> usize
     requires marks { AreSortedMarks KeyPiece text.now marks.now }
     requires normal { IsNormal text.now }
@@ -60,7 +60,7 @@ fn first_place(text: &[u8], marks: &[Mark], key: &[u8]) -> usize
     marks.partition_point(|mark| is_before(text, mark, lead, key))
 }
 
-// Whether a mark stands for less than the key, whose lead is given.
+// Whether a mark's key is below this one, whose lead is given.
 fn is_before(text: &[u8], mark: &Mark, lead: u64, key: &[u8]) -> bool
     requires { lead ≡ lead_of key.now }
     ensures { result ≡ is_before text.now key.now mark.now }
@@ -71,7 +71,7 @@ fn is_before(text: &[u8], mark: &Mark, lead: u64, key: &[u8]) -> bool
     }
 }
 
-// What stands behind a mark in its line.
+// What follows a mark in its line.
 fn behind<'t>(text: &'t [u8], mark: &Mark) -> &'t [u8]
     ensures value { result.now ≡ behind_mark text.now mark.now }
     ensures short { length result.now ≤ length text.now }

@@ -1,4 +1,4 @@
-// How often each line stands in a text.
+// How often each line occurs in a text.
 ghost use Rattle.std.specs.Prelude.{◌≡◌, ◌+◌, ◌<◌, ◌≤◌, ◌++◌, ◌∷◌, [], ℕ, List, length, map, decimal, slice_index_or, OnOk};
 ghost use Rattle.text_ops.specs.Lines.{ended};
 ghost use Rattle.text_ops.specs.MatchKeys.{space};
@@ -33,7 +33,7 @@ pub fn tally(alloc: Global, text: &Text) -> Result<Text, ApplyError>
     made.finish(alloc)
 }
 
-// How many marks, from the first on, stand for what the first stands for.
+// How many marks, from the first on, mark what the first marks.
 fn run_length(text: &[u8], marks: &[Mark]) -> usize
     requires { 0 < length marks.now }
     ensures { result ≡ run_of (map (marked_piece text.now) marks.now) }

@@ -13,7 +13,7 @@ use std::test::Fail;
 
 /// An operation with what it is given beside the text.
 #[derive(Clone, Copy, Debug)]
-enum Op<'w> {
+enum OpCase<'w> {
     Pass,
     Keep(&'w [u8]),
     Without(&'w [u8]),
@@ -27,19 +27,19 @@ enum Op<'w> {
     Match(&'w [u8]),
 }
 
-fn apply(alloc: Global, op: Op<'_>, text: &Text) -> Result<Text, ApplyError> {
+fn apply(alloc: Global, op: OpCase<'_>, text: &Text) -> Result<Text, ApplyError> {
     match op {
-        Op::Pass => pass(text),
-        Op::Keep(word) => keep(alloc, word, text),
-        Op::Without(word) => without(alloc, word, text),
-        Op::Head(n) => head(text, n),
-        Op::Tail(n) => tail(text, n),
-        Op::Skip(n) => skip(text, n),
-        Op::Sort => sort(alloc, text),
-        Op::Uniq => uniq(alloc, text),
-        Op::Count => count(alloc, text),
-        Op::Tally => tally(alloc, text),
-        Op::Match(right) => match_lines(alloc, text, &text_of(alloc, right)?),
+        OpCase::Pass => pass(text),
+        OpCase::Keep(word) => keep(alloc, word, text),
+        OpCase::Without(word) => without(alloc, word, text),
+        OpCase::Head(n) => head(text, n),
+        OpCase::Tail(n) => tail(text, n),
+        OpCase::Skip(n) => skip(text, n),
+        OpCase::Sort => sort(alloc, text),
+        OpCase::Uniq => uniq(alloc, text),
+        OpCase::Count => count(alloc, text),
+        OpCase::Tally => tally(alloc, text),
+        OpCase::Match(right) => match_lines(alloc, text, &text_of(alloc, right)?),
     }
 }
 
@@ -53,57 +53,61 @@ fn text_of(alloc: Global, bytes: &[u8]) -> Result<Text, NoMemory> {
 }
 
 // An operation on a text, and its value worked out by hand.
-type Row = (Op<'static>, &'static [u8], &'static [u8]);
+type Row = (OpCase<'static>, &'static [u8], &'static [u8]);
 
 // Lines that are kept, or left out.
 const KEPT: [Row; 17] = [
-    (Op::Pass, b"", b""),
-    (Op::Pass, b"\n", b"\n"),
-    (Op::Pass, b"x\ny", b"x\ny\n"),
-    (Op::Keep(b"x"), b"", b""),
-    (Op::Keep(b""), b"x\n\ny\n", b"x\n\ny\n"),
-    (Op::Keep(b""), b"", b""),
+    (OpCase::Pass, b"", b""),
+    (OpCase::Pass, b"\n", b"\n"),
+    (OpCase::Pass, b"x\ny", b"x\ny\n"),
+    (OpCase::Keep(b"x"), b"", b""),
+    (OpCase::Keep(b""), b"x\n\ny\n", b"x\n\ny\n"),
+    (OpCase::Keep(b""), b"", b""),
     (
-        Op::Keep(b"x"),
+        OpCase::Keep(b"x"),
         b"axa\nb\ncx\nxd\n\nxx\n",
         b"axa\ncx\nxd\nxx\n",
     ),
-    (Op::Keep(b"ab"), b"a\nb\nab\naab\nba\n", b"ab\naab\n"),
-    (Op::Keep(b"longer"), b"x\ny\n", b""),
-    (Op::Keep(b"x\ny"), b"x\ny\n", b""),
-    (Op::Keep(b"\n"), b"\n\n", b""),
-    (Op::Keep(&[0]), b"a\0b\nb\n\0\n", b"a\0b\n\0\n"),
-    (Op::Keep(&[255, 254]), b"\xff\xfe\n\xff\n", b"\xff\xfe\n"),
-    (Op::Without(b"x"), b"axa\nb\ncx\nxd\n\nxx\n", b"b\n\n"),
-    (Op::Without(b""), b"x\n\n", b""),
-    (Op::Without(b"x\ny"), b"x\ny\n", b"x\ny\n"),
-    (Op::Without(b"longer"), b"x\ny\n", b"x\ny\n"),
+    (OpCase::Keep(b"ab"), b"a\nb\nab\naab\nba\n", b"ab\naab\n"),
+    (OpCase::Keep(b"longer"), b"x\ny\n", b""),
+    (OpCase::Keep(b"x\ny"), b"x\ny\n", b""),
+    (OpCase::Keep(b"\n"), b"\n\n", b""),
+    (OpCase::Keep(&[0]), b"a\0b\nb\n\0\n", b"a\0b\n\0\n"),
+    (
+        OpCase::Keep(&[255, 254]),
+        b"\xff\xfe\n\xff\n",
+        b"\xff\xfe\n",
+    ),
+    (OpCase::Without(b"x"), b"axa\nb\ncx\nxd\n\nxx\n", b"b\n\n"),
+    (OpCase::Without(b""), b"x\n\n", b""),
+    (OpCase::Without(b"x\ny"), b"x\ny\n", b"x\ny\n"),
+    (OpCase::Without(b"longer"), b"x\ny\n", b"x\ny\n"),
 ];
 
 // The first lines, or the last.
 const CUT: [Row; 12] = [
-    (Op::Head(0), b"1\n2\n", b""),
-    (Op::Head(2), b"1\n2\n3\n", b"1\n2\n"),
-    (Op::Head(1), b"\n\n", b"\n"),
-    (Op::Head(u64::MAX), b"1\n2\n", b"1\n2\n"),
-    (Op::Head(1), b"", b""),
-    (Op::Tail(0), b"1\n2\n", b""),
-    (Op::Tail(2), b"1\n2\n3\n", b"2\n3\n"),
-    (Op::Tail(1), b"\n\n", b"\n"),
-    (Op::Tail(u64::MAX), b"1\n2\n", b"1\n2\n"),
-    (Op::Skip(0), b"1\n2\n", b"1\n2\n"),
-    (Op::Skip(1), b"1\n2\n3\n", b"2\n3\n"),
-    (Op::Skip(u64::MAX), b"1\n2\n", b""),
+    (OpCase::Head(0), b"1\n2\n", b""),
+    (OpCase::Head(2), b"1\n2\n3\n", b"1\n2\n"),
+    (OpCase::Head(1), b"\n\n", b"\n"),
+    (OpCase::Head(u64::MAX), b"1\n2\n", b"1\n2\n"),
+    (OpCase::Head(1), b"", b""),
+    (OpCase::Tail(0), b"1\n2\n", b""),
+    (OpCase::Tail(2), b"1\n2\n3\n", b"2\n3\n"),
+    (OpCase::Tail(1), b"\n\n", b"\n"),
+    (OpCase::Tail(u64::MAX), b"1\n2\n", b"1\n2\n"),
+    (OpCase::Skip(0), b"1\n2\n", b"1\n2\n"),
+    (OpCase::Skip(1), b"1\n2\n3\n", b"2\n3\n"),
+    (OpCase::Skip(u64::MAX), b"1\n2\n", b""),
 ];
 
 // Lines in order.
 const ORDERED: [Row; 5] = [
-    (Op::Sort, b"", b""),
-    (Op::Sort, b"b\n\na\n", b"\na\nb\n"),
-    (Op::Sort, b"b\na\nb\n", b"a\nb\nb\n"),
-    (Op::Sort, b"a\0\na\n\0\n\xff\n", b"\0\na\na\0\n\xff\n"),
+    (OpCase::Sort, b"", b""),
+    (OpCase::Sort, b"b\n\na\n", b"\na\nb\n"),
+    (OpCase::Sort, b"b\na\nb\n", b"a\nb\nb\n"),
+    (OpCase::Sort, b"a\0\na\n\0\n\xff\n", b"\0\na\na\0\n\xff\n"),
     (
-        Op::Sort,
+        OpCase::Sort,
         b"abcdefghz\nabcdefgha\nabcdefgh\n",
         b"abcdefgh\nabcdefgha\nabcdefghz\n",
     ),
@@ -111,29 +115,29 @@ const ORDERED: [Row; 5] = [
 
 // Lines that repeat.
 const COUNTED: [Row; 10] = [
-    (Op::Uniq, b"a\na\nb\na\n", b"a\nb\na\n"),
-    (Op::Uniq, b"\n\n\na\n", b"\na\n"),
-    (Op::Uniq, b"\0\n\0\n", b"\0\n"),
-    (Op::Count, b"", b"0\n"),
-    (Op::Count, b"\n", b"1\n"),
-    (Op::Count, b"\n\n\n\n\n\n\n\n\n\nx\n", b"11\n"),
-    (Op::Tally, b"", b""),
-    (Op::Tally, b"\n", b"1 \n"),
-    (Op::Tally, b"b\na\nb\n\n", b"1 \n1 a\n2 b\n"),
-    (Op::Tally, b"\xff\n\0\n\xff\n", b"1 \0\n2 \xff\n"),
+    (OpCase::Uniq, b"a\na\nb\na\n", b"a\nb\na\n"),
+    (OpCase::Uniq, b"\n\n\na\n", b"\na\n"),
+    (OpCase::Uniq, b"\0\n\0\n", b"\0\n"),
+    (OpCase::Count, b"", b"0\n"),
+    (OpCase::Count, b"\n", b"1\n"),
+    (OpCase::Count, b"\n\n\n\n\n\n\n\n\n\nx\n", b"11\n"),
+    (OpCase::Tally, b"", b""),
+    (OpCase::Tally, b"\n", b"1 \n"),
+    (OpCase::Tally, b"b\na\nb\n\n", b"1 \n1 a\n2 b\n"),
+    (OpCase::Tally, b"\xff\n\0\n\xff\n", b"1 \0\n2 \xff\n"),
 ];
 
 // Lines joined with those of another text.
 const MATCHED: [Row; 4] = [
     (
-        Op::Match(b"10 x y\n30 z\n10 q\n20\n"),
+        OpCase::Match(b"10 x y\n30 z\n10 q\n20\n"),
         b"10 a\n20 b\n10 c\n30\n",
         b"10 a x y\n20 b\n10 c x y\n30 z\n",
     ),
-    (Op::Match(b""), b"a\n", b""),
-    (Op::Match(b" x\n"), b"\n a\nb\n", b" x\n a x\n"),
+    (OpCase::Match(b""), b"a\n", b""),
+    (OpCase::Match(b" x\n"), b"\n a\nb\n", b" x\n a x\n"),
     (
-        Op::Match(b"abcdefgh1 p\nabcdefgh2 q\n"),
+        OpCase::Match(b"abcdefgh1 p\nabcdefgh2 q\n"),
         b"abcdefgh2\nabcdefgh\n",
         b"abcdefgh2 q\n",
     ),
@@ -159,21 +163,21 @@ fn gives_values_written_by_hand(rt: HostRuntime) -> Result<(), Fail> {
 
 #[test]
 fn gives_what_the_definitions_say(rt: HostRuntime) -> Result<(), Fail> {
-    let ops: [Op<'_>; 14] = [
-        Op::Pass,
-        Op::Keep(b"a"),
-        Op::Keep(b"ab"),
-        Op::Without(b"b"),
-        Op::Head(2),
-        Op::Tail(2),
-        Op::Skip(2),
-        Op::Sort,
-        Op::Uniq,
-        Op::Count,
-        Op::Tally,
-        Op::Match(b"a b\n b\nb a\nab \na a\n"),
-        Op::Match(b"aa bb\n\nb\n"),
-        Op::Match(b""),
+    let ops: [OpCase<'_>; 14] = [
+        OpCase::Pass,
+        OpCase::Keep(b"a"),
+        OpCase::Keep(b"ab"),
+        OpCase::Without(b"b"),
+        OpCase::Head(2),
+        OpCase::Tail(2),
+        OpCase::Skip(2),
+        OpCase::Sort,
+        OpCase::Uniq,
+        OpCase::Count,
+        OpCase::Tally,
+        OpCase::Match(b"a b\n b\nb a\nab \na a\n"),
+        OpCase::Match(b"aa bb\n\nb\n"),
+        OpCase::Match(b""),
     ];
     for seed in 0..200 {
         let bytes = slow::bytes(rt.alloc(), seed)?;
@@ -220,14 +224,14 @@ fn refuses_values_that_are_too_long(rt: HostRuntime) -> Result<(), Fail> {
     );
     long.add_all(line.as_slice())?;
     let lines = text_of(rt.alloc(), long.as_slice())?;
-    let ops: [(Op<'_>, u64); 7] = [
-        (Op::Pass, 33_554_431),
-        (Op::Keep(b"x"), 33_554_431),
-        (Op::Without(b"y"), 33_554_431),
-        (Op::Head(9), 33_554_431),
-        (Op::Uniq, 33_554_431),
-        (Op::Sort, 33_554_431),
-        (Op::Tally, 33_554_433),
+    let ops: [(OpCase<'_>, u64); 7] = [
+        (OpCase::Pass, 33_554_431),
+        (OpCase::Keep(b"x"), 33_554_431),
+        (OpCase::Without(b"y"), 33_554_431),
+        (OpCase::Head(9), 33_554_431),
+        (OpCase::Uniq, 33_554_431),
+        (OpCase::Sort, 33_554_431),
+        (OpCase::Tally, 33_554_433),
     ];
     for (op, bytes) in ops {
         assert_eq!(rt;

@@ -1,9 +1,9 @@
 //! The tasks of graph files: what they find, what they make of it, and the jobs that do it.
 //!
-//! The layer above sees a job by its meaning (`text_job`). The definitions stand in `specs/`: `OpMeaning` has a row for
+//! The layer above sees a job by its meaning (`text_job`). The definitions are in `specs/`: `OpMeaning` has a row for
 //! each operation, with the value that its task hands on and the successors that get it; `JobMeaning` says what a task
 //! of a graph answers, and when it faults; `FoundTexts` what the text of a task is; `GraphWork` what a job consists of.
-//! What the operations make of texts stands in `text_ops`, and the shape of each operation's task in `graph_plans`.
+//! What the operations make of texts is in `text_ops`, and the shape of each operation's task in `graph_plans`.
 #![tactic(auto)]
 
 mod feedback_text;

@@ -11,7 +11,7 @@ use text_ops::Text;
 
 /// The texts that tasks read, by number. Contracts see it as the list of them.
 ///
-/// The texts stand in a vector that only grows. Beside it stands for each number the token of its push, by which just
+/// The texts are in a vector that only grows. Beside it is for each number the token of its push, by which just
 /// that text is found. A job shares its table and never changes it, so those who work on a run read it without a lock.
 #[derive(Drop)]
 pub struct TextTable {

@@ -174,7 +174,7 @@ fn gives_values_and_answers_written_by_hand(rt: HostRuntime) -> Result<(), Fail>
             Successors::Indices(&[0]),
         ),
         (Step::IfHas(b""), NONE, b"", Successors::Indices(&[1])),
-        // Words that stand twice and that don't occur.
+        // Words that are named twice and that don't occur.
         (
             Step::Route(&[b"c", b"d", b"a", b"c"]),
             SEVERAL,

@@ -2,7 +2,7 @@
 //!
 //! A caller who lets go of a lock and takes it again must know that what it left behind is still there: that the
 //! release it was handed is unused, that the task it started is open. It can't look, since others had the lock
-//! meanwhile. So what is outstanding stands in a book, which lies under the lock, and each outstanding item is
+//! meanwhile. So what is outstanding is in a book, which lies under the lock, and each outstanding item is
 //! named by one ticket, which its owner carries. A ticket can be redeemed once, and whoever redeems it learns that
 //! its item was outstanding until now. The items mean nothing to this crate.
 //!

@@ -10,11 +10,11 @@ use std::test::Fail;
 use std::thread::{Threads, join};
 
 #[derive(Drop)]
-struct Shelf {
+struct BookShelf {
     book: Book<u32>,
 }
 
-impl Keyed for Shelf {
+impl Keyed for BookShelf {
     ghost use Rattle.atomic_table.specs.Seated.{TableId};
 
     ghost Key = { TableId };
@@ -25,7 +25,7 @@ impl Keyed for Shelf {
 fn leave<R: Wait>(
     rt: &R,
     register: &Register<u32>,
-    lock: &KeyedLock<Shelf>,
+    lock: &KeyedLock<BookShelf>,
     item: u32,
 ) -> Ticket<u32>
     requires { (made_with lock.now).book.register ≡ register.now }
@@ -41,7 +41,7 @@ fn leave<R: Wait>(
 fn fetch<R: Wait>(
     rt: &R,
     register: &Register<u32>,
-    lock: &KeyedLock<Shelf>,
+    lock: &KeyedLock<BookShelf>,
     ticket: Ticket<u32>,
 ) -> u32
     requires lock { (made_with lock.now).book.register ≡ register.now }
@@ -55,7 +55,7 @@ fn fetch<R: Wait>(
 }
 
 // How many of the items from 0 on came back as they were left.
-fn leave_and_fetch<R: Wait>(rt: &R, register: &Register<u32>, lock: &KeyedLock<Shelf>) -> u32
+fn leave_and_fetch<R: Wait>(rt: &R, register: &Register<u32>, lock: &KeyedLock<BookShelf>) -> u32
     requires { (made_with lock.now).book.register ≡ register.now }
 {
     let mut fetched = 0u32;
@@ -71,7 +71,7 @@ fn leave_and_fetch<R: Wait>(rt: &R, register: &Register<u32>, lock: &KeyedLock<S
 fn together<R: Threads + Wait + Sync>(
     rt: &R,
     register: &Register<u32>,
-    lock: &KeyedLock<Shelf>,
+    lock: &KeyedLock<BookShelf>,
 ) -> (u32, u32)
     requires { (made_with lock.now).book.register ≡ register.now }
 {
@@ -89,7 +89,7 @@ fn together<R: Threads + Wait + Sync>(
 #[test]
 fn two_threads_issue_and_redeem(rt: HostRuntime) -> Result<(), Fail> {
     let (register, book) = Register::new(rt.alloc())?;
-    let lock = KeyedLock::new(rt.alloc(), Shelf { book }).map_err(NoMemory::from)?;
+    let lock = KeyedLock::new(rt.alloc(), BookShelf { book }).map_err(NoMemory::from)?;
     assert_eq!(rt; together(&rt, &register, &lock), (10_000, 10_000));
     Ok(())
 }

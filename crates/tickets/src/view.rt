@@ -38,7 +38,7 @@ impl<X> Play<X, View<X>> for Notes {
     ghost then = { NotesItem };
 }
 
-/// The item is issued: it stands in the book, and a new seat is its ticket.
+/// The item is issued: it is in the book, and a new seat is its ticket.
 pub struct Issues;
 
 impl<X> Split<View<X>> for Issues {

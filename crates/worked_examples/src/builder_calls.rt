@@ -2,7 +2,7 @@
 ghost use Rattle.std.specs.Prelude.{◌<◌, length, IsTrue};
 ghost use Rattle.task_graph.specs.Chosen.{AnswersSoMany, IsAnswerFor};
 
-use crate::nets::{Rows, add_tasks, built_net, free};
+use crate::nets::{ExampleNet, add_tasks, built_net, free};
 use outside_io::{List, NoMemory};
 use std::alloc::Global;
 use std::test::Fail;
@@ -22,7 +22,7 @@ fn an_edge_needs_both_ends(rt: HostRuntime) -> Result<(), Fail> {
 fn a_many_chooses_each_index_once(rt: HostRuntime) -> Result<(), Fail> {
     let to_many = (0, 1);
     let from_many = (1, 0);
-    let rows = Rows {
+    let rows = ExampleNet {
         sems: &[],
         tasks: &[free(Shape::Plain), free(Shape::Many)],
         edges: &[
@@ -39,7 +39,7 @@ fn a_many_chooses_each_index_once(rt: HostRuntime) -> Result<(), Fail> {
 
 #[test]
 fn a_choice_may_choose_nothing(rt: HostRuntime) -> Result<(), Fail> {
-    let rows = Rows {
+    let rows = ExampleNet {
         sems: &[],
         tasks: &[free(Shape::Choice), free(Shape::Plain)],
         edges: &[(0, 1), (0, 1)],

@@ -1,5 +1,5 @@
 // Every state that a small net reaches within a few steps, with every next step tried at each of them.
-use crate::nets::{Rows, Task, bound, built_net, free};
+use crate::nets::{ExampleNet, Task, bound, built_net, free};
 use crate::steps::{Step, ask, compare_step, entry_of, expect_legal};
 use crate::verdicts::{Tally, compare_verdict};
 use legal_run::{Cause, DropWhy, Journal, Machine, Why};
@@ -87,7 +87,7 @@ fn walk_chooser(
         rt,
         alloc,
         tally,
-        Rows {
+        ExampleNet {
             sems: &[1],
             tasks: &tasks,
             edges: &[(0, 1), (0, 1)],
@@ -98,7 +98,7 @@ fn walk_chooser(
         rt,
         alloc,
         tally,
-        Rows {
+        ExampleNet {
             sems: &[1],
             tasks: &tasks,
             edges: &[(0, 0), (0, 1)],
@@ -110,7 +110,7 @@ fn walk_chooser(
 // Two tasks take the one unit, and none puts it back.
 fn walk_takers(rt: &impl Abort, alloc: Global, tally: &mut Tally) -> Result<(), Fail> {
     let tasks = [bound(&[0], &[]), bound(&[0], &[])];
-    let rows = Rows {
+    let rows = ExampleNet {
         sems: &[1],
         tasks: &tasks,
         edges: &[],
@@ -146,7 +146,7 @@ fn walk_both(
         rt,
         alloc,
         tally,
-        Rows {
+        ExampleNet {
             sems: &[1],
             tasks: &tasks,
             edges,
@@ -157,7 +157,7 @@ fn walk_both(
         rt,
         alloc,
         tally,
-        Rows {
+        ExampleNet {
             sems: &[1],
             tasks: &tasks,
             edges,
@@ -166,7 +166,12 @@ fn walk_both(
     )
 }
 
-fn walk(rt: &impl Abort, alloc: Global, tally: &mut Tally, rows: Rows<'_>) -> Result<(), Fail> {
+fn walk(
+    rt: &impl Abort,
+    alloc: Global,
+    tally: &mut Tally,
+    rows: ExampleNet<'_>,
+) -> Result<(), Fail> {
     let net = built_net(alloc, rows)?;
     let trial = trial_of(alloc, net)?;
     let mut path = Vec::new(alloc);

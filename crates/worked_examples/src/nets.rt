@@ -34,7 +34,7 @@ pub fn bound<'s>(takes: &'s [u32], puts: &'s [u32]) -> Task<'s> {
 /// The rows of a net: the maxima of its semaphores, its tasks, its edges, and of these the last ones that begin with
 /// a token.
 #[derive(Clone, Copy)]
-pub struct Rows<'r> {
+pub struct ExampleNet<'r> {
     pub sems: &'r [u32],
     pub tasks: &'r [Task<'r>],
     pub edges: &'r [(u32, u32)],
@@ -42,7 +42,7 @@ pub struct Rows<'r> {
 }
 
 /// The net of these rows.
-pub fn built_net(alloc: Global, rows: Rows<'_>) -> Result<Arc<Net>, Fail> {
+pub fn built_net(alloc: Global, rows: ExampleNet<'_>) -> Result<Arc<Net>, Fail> {
     let mut builder = NetBuilder::new(alloc);
     for max in rows.sems {
         builder.semaphore(*max)?;

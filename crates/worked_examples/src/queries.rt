@@ -1,7 +1,7 @@
 // What a machine says of the steps to come, and what the judge says of those that were taken.
 ghost use Rattle.std.specs.Prelude.{◌≡◌, ◌<◌, length};
 
-use crate::nets::{Rows, built_net, free};
+use crate::nets::{ExampleNet, built_net, free};
 use crate::steps::{Step, ask, end, start};
 use legal_run::{Break, Cause, Machine, Part, Ready, Verdict, judge};
 use std::alloc::Global;
@@ -15,7 +15,7 @@ use task_graph::{Net, Shape};
 fn loop_net(alloc: Global) -> Result<Arc<Net>, Fail> {
     let plain = free(Shape::Plain);
     let tasks = [plain, plain, free(Shape::Choice), plain, plain];
-    let rows = Rows {
+    let rows = ExampleNet {
         sems: &[],
         tasks: &tasks,
         edges: &[(0, 1), (1, 2), (1, 4), (2, 1), (3, 4)],

@@ -1,5 +1,5 @@
 // Small runs, step by step, with the answers that were worked out by hand.
-use crate::nets::{Rows, bound, built_net, free, plain_net};
+use crate::nets::{ExampleNet, bound, built_net, free, plain_net};
 use crate::steps::{Step, compare_step, drop_of, end, expect_legal, fault, start};
 use legal_run::{Cause, DropWhy, Machine, MachineError, Why};
 use std::alloc::Global;
@@ -8,11 +8,11 @@ use std::sync::Arc;
 use std::test::Fail;
 use task_graph::{Net, Shape};
 
-type Answer = Result<u64, MachineError>;
+type StepAnswer = Result<u64, MachineError>;
 
 // A net of so many tasks with these edges, and how many starts its run may have.
 #[derive(Clone, Copy)]
-struct Given<'e> {
+struct SmallRun<'e> {
     tasks: u32,
     edges: &'e [(u32, u32)],
     limit: u64,
@@ -22,8 +22,8 @@ struct Given<'e> {
 fn expect_run(
     rt: &impl Abort,
     alloc: Global,
-    given: Given<'_>,
-    steps: &[(Step<'_>, Answer)],
+    given: SmallRun<'_>,
+    steps: &[(Step<'_>, StepAnswer)],
     is_at_rest: bool,
 ) -> Result<(), Fail> {
     let net = plain_net(alloc, given.tasks, given.edges)?;
@@ -36,7 +36,7 @@ fn expect_run_of(
     alloc: Global,
     net: &Arc<Net>,
     limit: u64,
-    steps: &[(Step<'_>, Answer)],
+    steps: &[(Step<'_>, StepAnswer)],
     is_at_rest: bool,
 ) -> Result<(), Fail> {
     let mut machine = Machine::new(alloc, net.clone()?, limit)?;
@@ -52,7 +52,7 @@ fn expect_run_of(
 // Task 1 follows task 0.
 #[test]
 fn one_task_follows_another(rt: HostRuntime) -> Result<(), Fail> {
-    let row = Given {
+    let row = SmallRun {
         tasks: 2,
         edges: &[(0, 1)],
         limit: 10,
@@ -77,7 +77,7 @@ fn one_task_follows_another(rt: HostRuntime) -> Result<(), Fail> {
 // Tasks 1 and 2 follow task 0, and task 3 follows both.
 #[test]
 fn a_diamond_waits_for_both_sides(rt: HostRuntime) -> Result<(), Fail> {
-    let diamond = Given {
+    let diamond = SmallRun {
         tasks: 4,
         edges: &[(0, 1), (0, 2), (1, 3), (2, 3)],
         limit: 10,
@@ -102,7 +102,7 @@ fn a_diamond_waits_for_both_sides(rt: HostRuntime) -> Result<(), Fail> {
 // Two edges lead from task 0 to task 1.
 #[test]
 fn a_double_edge_releases_once(rt: HostRuntime) -> Result<(), Fail> {
-    let double = Given {
+    let double = SmallRun {
         tasks: 2,
         edges: &[(0, 1), (0, 1)],
         limit: 10,
@@ -121,7 +121,7 @@ fn a_double_edge_releases_once(rt: HostRuntime) -> Result<(), Fail> {
 // An end that gives nothing releases nothing, and the run is over.
 #[test]
 fn an_end_may_give_nothing(rt: HostRuntime) -> Result<(), Fail> {
-    let row = Given {
+    let row = SmallRun {
         tasks: 2,
         edges: &[(0, 1)],
         limit: 10,
@@ -137,7 +137,7 @@ fn an_end_may_give_nothing(rt: HostRuntime) -> Result<(), Fail> {
 // The second start would be one too many.
 #[test]
 fn a_limit_ends_a_run_early(rt: HostRuntime) -> Result<(), Fail> {
-    let row = Given {
+    let row = SmallRun {
         tasks: 2,
         edges: &[(0, 1)],
         limit: 1,
@@ -160,7 +160,7 @@ fn choosing_net(alloc: Global) -> Result<Arc<Net>, Fail> {
         free(Shape::Many),
         bound(&[0], &[]),
     ];
-    let rows = Rows {
+    let rows = ExampleNet {
         sems: &[1],
         tasks: &tasks,
         edges: &[(0, 1), (0, 2), (1, 3), (1, 3), (2, 3), (2, 3)],
@@ -216,7 +216,7 @@ fn bad_input_is_refused(rt: HostRuntime) -> Result<(), Fail> {
 #[test]
 fn a_unit_goes_from_task_to_task(rt: HostRuntime) -> Result<(), Fail> {
     let tasks = [bound(&[0], &[]), bound(&[], &[0]), bound(&[0], &[])];
-    let rows = Rows {
+    let rows = ExampleNet {
         sems: &[1],
         tasks: &tasks,
         edges: &[(0, 1)],
@@ -245,7 +245,7 @@ fn a_unit_goes_from_task_to_task(rt: HostRuntime) -> Result<(), Fail> {
 #[test]
 fn a_run_gets_stuck(rt: HostRuntime) -> Result<(), Fail> {
     let tasks = [bound(&[0], &[]), bound(&[0], &[])];
-    let rows = Rows {
+    let rows = ExampleNet {
         sems: &[1],
         tasks: &tasks,
         edges: &[],
@@ -273,7 +273,7 @@ fn a_run_gets_stuck(rt: HostRuntime) -> Result<(), Fail> {
 #[test]
 fn a_unit_too_many_is_a_fault(rt: HostRuntime) -> Result<(), Fail> {
     let tasks = [bound(&[], &[0])];
-    let rows = Rows {
+    let rows = ExampleNet {
         sems: &[1],
         tasks: &tasks,
         edges: &[],

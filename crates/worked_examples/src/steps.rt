@@ -56,7 +56,7 @@ pub fn drop_of(task: u32, cause: Cause, why: DropWhy) -> Step<'static> {
     Step::Drop { task, cause, why }
 }
 
-/// Asks for a step. The machine takes it exactly where the rules allow it, or tells which of them it breaks first, and
+/// Asks for a step. The machine takes it exactly where the rules allow it, or says which of them it breaks first, and
 /// is at rest exactly where its journal is complete.
 pub fn compare_step(
     rt: &impl Abort,

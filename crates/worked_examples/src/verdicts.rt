@@ -21,9 +21,9 @@ const BREAKS: [Break; 11] = [
     Break::NotStuck,
 ];
 
-// What an entry is, by the rules that decide whether it may stand.
+// What an entry is, by the rules that decide whether it may follow.
 #[derive(Clone, Copy, Debug, PartialEq, Eq)]
-enum Kind {
+enum EntryKind {
     SourceStart,
     StrongStart,
     WeakStart,
@@ -37,27 +37,27 @@ enum Kind {
 }
 
 // Each kind.
-const KINDS: [Kind; 10] = [
-    Kind::SourceStart,
-    Kind::StrongStart,
-    Kind::WeakStart,
-    Kind::End,
-    Kind::InnerEnd,
-    Kind::Fault,
-    Kind::OverRelease,
-    Kind::Halted,
-    Kind::AtLimit,
-    Kind::Stuck,
+const KINDS: [EntryKind; 10] = [
+    EntryKind::SourceStart,
+    EntryKind::StrongStart,
+    EntryKind::WeakStart,
+    EntryKind::End,
+    EntryKind::InnerEnd,
+    EntryKind::Fault,
+    EntryKind::OverRelease,
+    EntryKind::Halted,
+    EntryKind::AtLimit,
+    EntryKind::Stuck,
 ];
 
-/// How many journals were judged so, which breaks occurred, and of which kinds an entry was one that may stand.
+/// How many journals were judged so, which breaks occurred, and of which kinds an entry was one that may follow.
 #[derive(Drop)]
 pub struct Tally {
     complete: u64,
     legal: u64,
     broken: u64,
     breaks: Vec<Break>,
-    kinds: Vec<Kind>,
+    kinds: Vec<EntryKind>,
 }
 
 impl Tally {
@@ -86,8 +86,8 @@ impl Tally {
         Ok(())
     }
 
-    // Counts an entry that may stand.
-    fn add_kind(&mut self, kind: Kind) -> Result<(), Fail> {
+    // Counts an entry that may follow.
+    fn add_kind(&mut self, kind: EntryKind) -> Result<(), Fail> {
         if !self.kinds.contains(&kind) {
             self.kinds.push(kind)?;
         }
@@ -95,7 +95,7 @@ impl Tally {
     }
 
     /// Two hundred journals or more were complete, as many legal, and as many broken, in each way; and entries of each
-    /// kind may stand where they stood.
+    /// kind may follow where they did.
     pub fn expect_each(&self, rt: &impl Abort) {
         assert!(rt; self.complete >= 200);
         assert!(rt; self.legal >= 200);
@@ -117,7 +117,7 @@ impl Tally {
     }
 }
 
-/// The judge says of a journal, of which each entry but the last may stand where it stands, what the rules decide.
+/// The judge says of a journal, of which each entry but the last may follow those before it, what the rules decide.
 pub fn compare_verdict(
     rt: &impl Abort,
     alloc: Global,
@@ -136,33 +136,33 @@ pub fn compare_verdict(
     }
 }
 
-fn kind_of(entry: &Entry) -> Kind {
+fn kind_of(entry: &Entry) -> EntryKind {
     match entry {
         Entry::Start { cause, .. } => start_kind(*cause),
-        Entry::End { inner: true, .. } => Kind::InnerEnd,
-        Entry::End { .. } => Kind::End,
+        Entry::End { inner: true, .. } => EntryKind::InnerEnd,
+        Entry::End { .. } => EntryKind::End,
         Entry::Fault {
             why: Why::OverRelease(_),
             ..
-        } => Kind::OverRelease,
-        Entry::Fault { .. } => Kind::Fault,
+        } => EntryKind::OverRelease,
+        Entry::Fault { .. } => EntryKind::Fault,
         Entry::Drop { why, .. } => drop_kind(*why),
     }
 }
 
-fn start_kind(cause: Cause) -> Kind {
+fn start_kind(cause: Cause) -> EntryKind {
     match cause {
-        Cause::Source => Kind::SourceStart,
-        Cause::Strong => Kind::StrongStart,
-        Cause::Weak(_) => Kind::WeakStart,
+        Cause::Source => EntryKind::SourceStart,
+        Cause::Strong => EntryKind::StrongStart,
+        Cause::Weak(_) => EntryKind::WeakStart,
     }
 }
 
-fn drop_kind(why: DropWhy) -> Kind {
+fn drop_kind(why: DropWhy) -> EntryKind {
     match why {
-        DropWhy::Halted => Kind::Halted,
-        DropWhy::Limit => Kind::AtLimit,
-        DropWhy::Stuck(_) => Kind::Stuck,
+        DropWhy::Halted => EntryKind::Halted,
+        DropWhy::Limit => EntryKind::AtLimit,
+        DropWhy::Stuck(_) => EntryKind::Stuck,
     }
 }
 

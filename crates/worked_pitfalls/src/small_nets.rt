@@ -136,12 +136,12 @@ impl Small<'_> {
     }
 }
 
-// The shapes that a number stands for.
+// The shapes that a number encodes.
 fn shapes_of(code: usize) -> [Shape; 3] {
     [SHAPES[code % 3], SHAPES[code / 3 % 3], SHAPES[code / 9 % 3]]
 }
 
-// The four edges among three tasks that a number stands for.
+// The four edges among three tasks that a number encodes.
 fn edges_of(code: u32) -> [(u32, u32); 4] {
     let one = code % 9;
     let two = code / 9 % 9;

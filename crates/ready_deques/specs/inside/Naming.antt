@@ -39,8 +39,8 @@ Each P [] = Unit {0}
 Each P (x ∷ xs) = P x × Each P xs
 
 -- each view has the name a
-abbrev pub Named : About → List (Option About) → Type 0
-Named a views = (i : ℕ) (v : Option About) → get_elem? views i ≡ some v → v ≡ Some a
+abbrev pub AreViewsOf : About → List (Option About) → Type 0
+AreViewsOf a views = (i : ℕ) (v : Option About) → get_elem? views i ≡ some v → v ≡ Some a
 
 module _ {T : Type 0} (tag : T → List ℕ) where
   -- the item has the list's tag, and its seat holds one count
@@ -57,4 +57,4 @@ module _ {T : Type 0} (tag : T → List ℕ) where
 
   -- there is no item yet and one pass without a name, or all passes have one name
   abbrev pub Holding : List (Queued T) → List (Option About) → Type 0
-  Holding items views = ((items ≡ []) × (views ≡ None ∷ [])) ⊎ ((a : About) × Each (IsQueued a) items × Named a views)
+  Holding items views = ((items ≡ []) × (views ≡ None ∷ [])) ⊎ ((a : About) × Each (IsQueued a) items × AreViewsOf a views)
