@@ -21,8 +21,8 @@ use Rattle.flow_run.specs.declared.conclusion.Conclusion.TheVariants as conclusi
 use Rattle.flow_run.specs.declared.conclusion.GraphFindings.{GraphFindings}
 use Rattle.journal_rules.specs.declared.entry.Why.TheVariants.{Long as TooLong}
 use Rattle.nested_runs.specs.declared.reasons.Reason.TheVariants as reason
-use Rattle.flow_run.specs.Requests.{Held, IsHeld, StopsAtName, IsTextOf, TextsAre, StopsAtText, HasStart, StopsAtBytes, HasPlan, IsRequested, file_limit, text_limit}
-use Rattle.flow_run.specs.Answers.{Run, IsAfterRun, RunEnds, CallEnds, Reported, IsReadFault, HaveRead}
+use Rattle.flow_run.specs.Requests.{SourceTexts, IsHeld, StopsAtName, IsTextOf, TextsAre, StopsAtText, HasStart, StopsAtBytes, HasPlan, IsRequested, file_limit, text_limit}
+use Rattle.flow_run.specs.Answers.{TextRun, IsAfterRun, RunEnds, CallEnds, Reported, IsReadFault, HaveRead}
 use Rattle.call_status.specs.Statuses.{status_of}
 
 abbrev g : List ℕ
@@ -38,7 +38,7 @@ u = 2 ∷ []
 abbrev texts : List ℕ → Option (List ℕ)
 texts name = if bytes_eq name g then Some (1 ∷ []) else (if bytes_eq name t then Some (2 ∷ 3 ∷ []) else None)
 
-abbrev held : Held
+abbrev held : SourceTexts
 held = Some texts
 
 -- A name holds its own bytes, as many as may be read at most; of a source that doesn't specify what it holds only
@@ -234,7 +234,7 @@ done_keeps_a_run : ¬ RunEnds held g 77 Done []
 done_keeps_a_run (inl stopped) = never_done_before stopped.why stopped.reported
 done_keeps_a_run (inr ran) = let only : [] ≡ ran.run ∷ [] = ran.only in absurd (cc)
 
-module _ (run other : Run) where
+module _ (run other : TextRun) where
   one_run_is_kept : ¬ RunEnds held g 77 Done (run ∷ other ∷ [])
   one_run_is_kept (inl stopped) = never_done_before stopped.why stopped.reported
   one_run_is_kept (inr ran) = let only : run ∷ other ∷ [] ≡ ran.run ∷ [] = ran.only in absurd (omega (arith, ap length only))
@@ -278,7 +278,7 @@ refused arguments none = inr (inr (inr (inl (refl, refl, refl, none))))
 
 -- It keeps no run and comes to no conclusion, also where memory runs out.
 module _ (arguments : List (List ℕ)) (nothing : asked_by arguments ≡ None) where
-  run_of_nothing : (told : Status) (run : Run) → ¬ CallEnds held arguments told (run ∷ []) None
+  run_of_nothing : (told : Status) (run : TextRun) → ¬ CallEnds held arguments told (run ∷ []) None
   run_of_nothing told run (inl (file, limit, workers, journal, asks_file, ends, none)) = let never : None ≡ Some (run_of file limit workers journal) = sym nothing ∙ asks_file in absurd (cc)
   run_of_nothing told run (inr (inl (file, name, limit, asks_judge, ends, none))) = let never : None ≡ Some (judge_of file name limit) = sym nothing ∙ asks_judge in absurd (cc)
   run_of_nothing told run (inr (inr (inl (file, asks_check, ends, none)))) = let never : None ≡ Some (check_of file) = sym nothing ∙ asks_check in absurd (cc)
@@ -301,14 +301,14 @@ module _ (arguments : List (List ℕ)) where
   verdict_on_a_run asks (inr (inr (inr (inl (same, none, nothing, refused))))) = absurd (cc)
   verdict_on_a_run asks (inr (inr (inr (inr (same, none, nothing))))) = absurd (cc)
 
-  run_of_a_judgement : (run : Run) → asked_by arguments ≡ Some (judge_of g t 77) → ¬ CallEnds held arguments Done (run ∷ []) None
+  run_of_a_judgement : (run : TextRun) → asked_by arguments ≡ Some (judge_of g t 77) → ¬ CallEnds held arguments Done (run ∷ []) None
   run_of_a_judgement run asks (inl (file, limit, workers, journal, asks_file, ends, none)) = let never : Some (judge_of g t 77) ≡ Some (run_of file limit workers journal) = sym asks ∙ asks_file in absurd (cc)
   run_of_a_judgement run asks (inr (inl (file, name, limit, asks_judge, ends, none))) = absurd (cc)
   run_of_a_judgement run asks (inr (inr (inl (file, asks_check, ends, none)))) = absurd (cc)
   run_of_a_judgement run asks (inr (inr (inr (inl (same, none, nothing, refused))))) = absurd (cc)
   run_of_a_judgement run asks (inr (inr (inr (inr (same, none, nothing))))) = absurd (cc)
 
-  run_of_a_check : (run : Run) (found : GraphFindings) → asked_by arguments ≡ Some (check_of g) → ¬ CallEnds held arguments Done (run ∷ []) (Some (conclusion.Findings found))
+  run_of_a_check : (run : TextRun) (found : GraphFindings) → asked_by arguments ≡ Some (check_of g) → ¬ CallEnds held arguments Done (run ∷ []) (Some (conclusion.Findings found))
   run_of_a_check run found asks (inl (file, limit, workers, journal, asks_file, ends, none)) = absurd (cc)
   run_of_a_check run found asks (inr (inl (file, name, limit, asks_judge, ends, none))) = absurd (cc)
   run_of_a_check run found asks (inr (inr (inl (file, asks_check, ends, none)))) = absurd (cc)
@@ -349,7 +349,7 @@ bytes_without_a_run is = let stays : (sink (7 ∷ []) 0) ≡ (sink [] 0) = is.un
 written_denied_without_a_run : ¬ Reported of_memory (sink [] 0) (sink [] 0) (NoText t) false [] false
 written_denied_without_a_run is = let written : false ≡ true = is.nothing_to_write refl in absurd (cc)
 
-module _ (runs : List Run) where
+module _ (runs : List TextRun) where
   failed_write_hidden : ¬ Reported of_memory (sink [] 0) (sink [] 1) Done false runs true
   failed_write_hidden is = absurd (omega (arith, is.no_fault refl))
 
@@ -373,7 +373,7 @@ module _ (runs : List Run) where
   faults_forgotten is = absurd (omega (arith, is.no_fewer))
 
 -- A failed read is told, and a read fault isn't told of nothing.
-abbrev texts_kept : ℕ → Held
+abbrev texts_kept : ℕ → SourceTexts
 texts_kept faults = held
 
 abbrev count : ℕ → ℕ

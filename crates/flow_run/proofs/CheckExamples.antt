@@ -19,7 +19,7 @@ use Rattle.call_status.specs.Statuses.{status_of}
 use Rattle.command_line.specs.Requests.{asked_by, run as run_of, check as check_of}
 use Rattle.flow_run.specs.declared.conclusion.Conclusion.TheVariants as conclusion
 use Rattle.flow_run.specs.declared.conclusion.GraphFindings.{GraphFindings}
-use Rattle.flow_run.specs.Requests.{Held, StopsAtPlan, StopsAtBytes, file_limit}
+use Rattle.flow_run.specs.Requests.{SourceTexts, StopsAtPlan, StopsAtBytes, file_limit}
 use Rattle.flow_run.specs.Checking.{StopsAtFile, StopsBeforeFindings, IsChecked, IsAfterFindings, EndsChecked, CheckEnds, CanBeChecked, finding_line, findings_text, count_line}
 use Rattle.flow_run.specs.Answers.{conclusion_text, wants_journal, output_of}
 use Rattle.flow_run.proofs.Completing.{one_plan}
@@ -31,7 +31,7 @@ g = 0 ∷ []
 abbrev texts : List ℕ → Option (List ℕ)
 texts name = if bytes_eq name g then Some (1 ∷ []) else None
 
-abbrev held : Held
+abbrev held : SourceTexts
 held = Some texts
 
 abbrev known_length : Option (List ℕ) → ℕ
@@ -39,7 +39,7 @@ known_length None = 0
 known_length (Some bytes) = length bytes
 
 -- what a source holds under a name, where it says so
-abbrev bytes_of : Held → List ℕ → Option (List ℕ)
+abbrev bytes_of : SourceTexts → List ℕ → Option (List ℕ)
 bytes_of None name = None
 bytes_of (Some text) name = text name
 
@@ -206,7 +206,7 @@ run_asked_for arguments asks can = let never : Some (run_of g 9 4 false) ≡ Som
 
 -- A file that is longer than is read stops the call, and isn't at hand; its bytes are not looked at.
 module _ (bytes : List ℕ) (long : length bytes ≡ 4194305) where
-  abbrev too_long : Held
+  abbrev too_long : SourceTexts
   too_long = Some (λ name. Some bytes)
 
   long_file : StopsBeforeFindings too_long g (stop.LongText g)

@@ -13,7 +13,7 @@ use Rattle.call_status.specs.declared.status.Status.{Status}
 use Rattle.call_status.specs.declared.status.Status.TheVariants.{Done, WriteFault, NoMemory}
 use Rattle.call_status.specs.declared.stop.Stop.{Stop}
 use Rattle.call_status.specs.declared.stop.Stop.TheVariants as stop
-use Rattle.flow_run.specs.Requests.{Held, IsHeld, HasStart, StopsAtName, StopsAtPlan, StopsAtBytes, StopsAtText, StopsBefore, IsAtHand, file_limit, text_limit}
+use Rattle.flow_run.specs.Requests.{SourceTexts, IsHeld, HasStart, StopsAtName, StopsAtPlan, StopsAtBytes, StopsAtText, StopsBefore, IsAtHand, file_limit, text_limit}
 use Rattle.command_line.specs.Requests.{Asked, asked_by, run, judge, check}
 use Rattle.nested_runs.specs.Reasons.{run_reason}
 use Rattle.nested_runs.specs.declared.reasons.Reason.{Reason}
@@ -22,7 +22,7 @@ use Rattle.text_tasks.specs.JobMeaning.{text_job}
 use Rattle.call_status.specs.Statuses.{status_of}
 use Rattle.call_status.specs.Statuses.{status_after}
 use Rattle.flow_run.specs.declared.conclusion.Conclusion.{Conclusion}
-use Rattle.flow_run.specs.Answers.{Run, IsAfterRun, CallEnds, IsReadFault}
+use Rattle.flow_run.specs.Answers.{TextRun, IsAfterRun, CallEnds, IsReadFault}
 use Rattle.flow_run.specs.Checking.{IsAfterFindings, StopsBeforeFindings, CanBeChecked}
 use Rattle.journal_rules.specs.declared.entry.Entry.{Entry}
 use Rattle.task_graph.specs.NetRows.{NetRows}
@@ -175,7 +175,7 @@ after_run why status fine (inl told) written = inl (told ∙ ap status_after fin
 after_run why status fine (inr (inl (also, failed))) written = absurd (written failed)
 after_run why status fine (inr (inr memory)) written = inr memory
 
-module _ (held : Held) (arguments : List (List ℕ)) (status : Status) where
+module _ (held : SourceTexts) (arguments : List (List ℕ)) (status : Status) where
   -- No command line asks for two commands.
   no_run_and_judgement : (file other name : List ℕ) (limit most workers : ℕ) (journal : Bool) → asked_by arguments ≡ Some (run file limit workers journal) → asked_by arguments ≡ Some (judge other name most) → ⊥
   no_run_and_judgement file other name limit most workers journal one two = let both = one_request arguments (run file limit workers journal) (judge other name most) one two in absurd (cc)
@@ -186,7 +186,7 @@ module _ (held : Held) (arguments : List (List ℕ)) (status : Status) where
   no_judgement_and_check : (file name other : List ℕ) (limit : ℕ) → asked_by arguments ≡ Some (judge file name limit) → asked_by arguments ≡ Some (check other) → ⊥
   no_judgement_and_check file name other limit one two = let both = one_request arguments (judge file name limit) (check other) one two in absurd (cc)
 
-  pub completes : (runs : List Run) (concluded : Option Conclusion) → CallEnds held arguments status runs concluded → IsAtHand held arguments
+  pub completes : (runs : List TextRun) (concluded : Option Conclusion) → CallEnds held arguments status runs concluded → IsAtHand held arguments
       → All (λ run. run_reason text_job run ≡ Fine) runs → (IsReadFault status → ⊥) → status ≢ WriteFault → (status ≡ Done) ⊎ (status ≡ NoMemory)
   completes runs concluded (inr (inr (inr (inr (memory, none, nothing))))) hand fine read write = inr memory
   completes runs concluded (inr (inr (inr (inl (same, none, nothing, never))))) hand fine read write = absurd (none-some (run hand.file hand.limit hand.workers hand.journal) (sym never ∙ hand.asks))
@@ -210,7 +210,7 @@ module _ (held : Held) (arguments : List (List ℕ)) (status : Status) where
   after_verdict net limit journal verdict is never (inr (inl (also, failed))) written = absurd (written failed)
   after_verdict net limit journal verdict is never (inr (inr memory)) written = inr memory
 
-  pub judges : (runs : List Run) (concluded : Option Conclusion) → CallEnds held arguments status runs concluded → CanBeJudged held arguments
+  pub judges : (runs : List TextRun) (concluded : Option Conclusion) → CallEnds held arguments status runs concluded → CanBeJudged held arguments
       → (IsReadFault status → ⊥) → status ≢ WriteFault → (status ≡ Done) ⊎ (status ≡ NoMemory)
   judges runs concluded (inr (inr (inr (inr (memory, none, nothing))))) can read write = inr memory
   judges runs concluded (inr (inr (inr (inl (same, none, nothing, never))))) can read write = absurd (none-some (judge can.file can.name can.limit) (sym never ∙ can.asks))
@@ -237,7 +237,7 @@ module _ (held : Held) (arguments : List (List ℕ)) (status : Status) where
   after_findings (inr (inl failed)) written = absurd (written failed)
   after_findings (inr (inr memory)) written = inr memory
 
-  pub checks : (runs : List Run) (concluded : Option Conclusion) → CallEnds held arguments status runs concluded → CanBeChecked held arguments
+  pub checks : (runs : List TextRun) (concluded : Option Conclusion) → CallEnds held arguments status runs concluded → CanBeChecked held arguments
       → (IsReadFault status → ⊥) → status ≢ WriteFault → (status ≡ Done) ⊎ (status ≡ NoMemory)
   checks runs concluded (inr (inr (inr (inr (memory, none, nothing))))) can read write = inr memory
   checks runs concluded (inr (inr (inr (inl (same, none, nothing, never))))) can read write = absurd (none-some (check can.file) (sym never ∙ can.asks))

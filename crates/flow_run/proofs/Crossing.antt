@@ -1,6 +1,6 @@
 -- What goes to the threads that enter the seats of a crew of text jobs.
+use denote.RattleType.{RattleType}
 use denote.Param.Send.{IsSend, IsSync, sendable}
-use denote.Struct.Field as field
 use Rattle.std.proofs.Crossing.{crosses, frees}
 use Rattle.std.proofs.alloc.Global.TheSendSync as heap
 use Rattle.std.proofs.option.Option.TheSendSync as option
@@ -51,8 +51,9 @@ item_send = search (crosses, frees, sendable) depth 60 fits 20000
 item_sync : IsSync item.the_row
 item_sync = search (crosses, frees, sendable) depth 60 fits 20000
 
-pub seat_crosses : IsSend (worker_seat.the_row text_job.the_row (field.unit-field).row item.the_row job.ghosts valued.ghosts)
-seat_crosses = seat_send text_job.the_row item.the_row job.ghosts valued.ghosts job_send job_sync item_send item_sync (field.unit-field).row (search sendable)
+-- a seat with a watcher that may be sent
+pub seat_crosses : (X : RattleType) → IsSend X → IsSend (worker_seat.the_row text_job.the_row X item.the_row job.ghosts valued.ghosts)
+seat_crosses = seat_send text_job.the_row item.the_row job.ghosts valued.ghosts job_send job_sync item_send item_sync
 
 pub crew_shared : IsSync (crew.the_row text_job.the_row item.the_row job.ghosts valued.ghosts)
 crew_shared = crew_sync text_job.the_row item.the_row job.ghosts valued.ghosts job_send job_sync item_send item_sync

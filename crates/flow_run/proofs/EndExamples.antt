@@ -30,7 +30,7 @@ use Rattle.nested_runs.specs.Reasons.{run_reason}
 use Rattle.nested_runs.specs.declared.reasons.Reason.{Reason}
 use Rattle.nested_runs.specs.declared.reasons.Reason.TheVariants as reason
 use Rattle.call_status.specs.declared.status.Status.{Status}
-use Rattle.call_status.specs.declared.status.Status.TheVariants.{Done, NoText, ReadFault, NoMemory}
+use Rattle.call_status.specs.declared.status.Status.TheVariants.{Done, NoText, NoMemory}
 use Rattle.call_status.specs.declared.stop.Stop.{Stop}
 use Rattle.call_status.specs.declared.stop.Stop.TheVariants as stop
 use Rattle.call_status.specs.Statuses.{status_after, status_of}
@@ -38,8 +38,8 @@ use Rattle.command_line.specs.Requests.{asked_by, run as run_of, judge as judge_
 use Rattle.flow_run.specs.declared.conclusion.Conclusion.{Conclusion}
 use Rattle.flow_run.specs.declared.conclusion.Conclusion.TheVariants as conclusion
 use Rattle.flow_run.specs.declared.conclusion.GraphFindings.{GraphFindings}
-use Rattle.flow_run.specs.Requests.{Held, StopsAtName, IsAdded, StopsAtText, HasStart, StopsAtBytes, StopsAtGraph, StopsBefore, HasPlan, IsRequestedJob, CountsReads, IsAtHand, file_limit, text_limit}
-use Rattle.flow_run.specs.Answers.{Run, IsAfterRun, RanOnce, KeptOnce, RunEnds, JobEnds, CallEnds, Reported, HaveRead, names_in, run_texts}
+use Rattle.flow_run.specs.Requests.{SourceTexts, StopsAtName, IsAdded, StopsAtText, HasStart, StopsAtBytes, StopsAtGraph, StopsBefore, HasPlan, IsRequestedJob, CountsReads, IsAtHand, file_limit, text_limit}
+use Rattle.flow_run.specs.Answers.{TextRun, IsAfterRun, RanOnce, KeptOnce, RunEnds, JobEnds, CallEnds, Reported, HaveRead, names_in, run_texts}
 use Rattle.flow_run.specs.Judging.{StopsAtJournal, StopsAtJournalText, StopsBeforeVerdict, JudgeEnds, CanBeJudged}
 use Rattle.flow_run.specs.Checking.{StopsBeforeFindings, EndsChecked, CheckEnds, CanBeChecked}
 
@@ -56,11 +56,11 @@ u = 2 ∷ []
 abbrev texts : List ℕ → List ℕ → List ℕ → Option (List ℕ)
 texts graph text name = if bytes_eq name g then Some graph else (if bytes_eq name t then Some text else None)
 
-abbrev held : Held
+abbrev held : SourceTexts
 held = Some (texts (1 ∷ []) (2 ∷ 3 ∷ []))
 
 -- these bytes under each name
-abbrev all_hold : List ℕ → Held
+abbrev all_hold : List ℕ → SourceTexts
 all_hold bytes = Some (λ name. Some bytes)
 
 abbrev known_length : Option (List ℕ) → ℕ
@@ -217,7 +217,7 @@ never_missing why (inl same) = none why same
 never_missing why (inr (inl (fine, same))) = absurd (cc)
 never_missing why (inr (inr same)) = absurd (cc)
 
-run_beside_a_stop : (run : Run) → ¬ RunEnds held u 77 (NoText u) (run ∷ [])
+run_beside_a_stop : (run : TextRun) → ¬ RunEnds held u 77 (NoText u) (run ∷ [])
 run_beside_a_stop run (inl stopped) = let none = stopped.none in absurd (cc)
 run_beside_a_stop run (inr ran) = never_missing (run_reason text_job ran.run) ran.after
 
@@ -236,7 +236,7 @@ stop_that_is_told_of_nothing (inr ran) = let only : [] ≡ ran.run ∷ [] = ran.
 
 -- ---- a job and its run
 
-module _ (run : Run) (kept : IsKept text_job run) (fine : run_reason text_job run ≡ reason.Fine) where
+module _ (run : TextRun) (kept : IsKept text_job run) (fine : run_reason text_job run ≡ reason.Fine) where
   ran_once : RanOnce (λ job. job ≡ job_of run) Done (run ∷ [])
   ran_once = record { run = run; only = refl; kept = kept; job = refl; after = inl (ap status_after (sym fine)) }
 
@@ -261,23 +261,23 @@ module _ (job : TextJob) where
   job_done_without_its_run (inl stopped) = let same : Done ≡ NoMemory = stopped.reported ∙ ap status_of stopped.stops in absurd (cc)
   job_done_without_its_run (inr ran) = let only : [] ≡ ran.run ∷ [] = ran.only in absurd (cc)
 
-  job_ends_with_another_run : (run : Run) → limit_of (job_of run) ≡ 76 → limit_of job ≡ 77 → ¬ JobEnds job Done (run ∷ [])
+  job_ends_with_another_run : (run : TextRun) → limit_of (job_of run) ≡ 76 → limit_of job ≡ 77 → ¬ JobEnds job Done (run ∷ [])
   job_ends_with_another_run run limit other (inl stopped) = let none : run ∷ [] ≡ [] = stopped.none in absurd (cc)
   job_ends_with_another_run run limit other (inr ran) =
       let same : run ≡ ran.run = cc in
       absurd (omega (arith, limit, other, ap (λ r. limit_of (job_of r)) same, ap limit_of ran.job))
 
-  two_runs_of_a_job : (run other : Run) → ¬ JobEnds job NoMemory (run ∷ other ∷ [])
+  two_runs_of_a_job : (run other : TextRun) → ¬ JobEnds job NoMemory (run ∷ other ∷ [])
   two_runs_of_a_job run other (inl stopped) = let none : run ∷ other ∷ [] ≡ [] = stopped.none in absurd (cc)
   two_runs_of_a_job run other (inr ran) = absurd (omega (arith, ap length ran.only))
 
-names_of_the_first_run : (run other : Run) → names_in (run ∷ other ∷ []) ≡ names_of (job_of run)
+names_of_the_first_run : (run other : TextRun) → names_in (run ∷ other ∷ []) ≡ names_of (job_of run)
 names_of_the_first_run run other = refl
 
 -- ---- a call, by what its command line asks for
 
 module _ (arguments : List (List ℕ)) (status : Status) where
-  call_of_a_run : (runs : List Run) → asked_by arguments ≡ Some (run_of g 77 4 false) → RunEnds held g 77 status runs → CallEnds held arguments status runs None
+  call_of_a_run : (runs : List TextRun) → asked_by arguments ≡ Some (run_of g 77 4 false) → RunEnds held g 77 status runs → CallEnds held arguments status runs None
   call_of_a_run runs asks ends = inl (g, 77, 4, false, asks, ends, refl)
 
   call_of_a_judgement : (concluded : Option Conclusion) → asked_by arguments ≡ Some (judge_of g t 77) → JudgeEnds held g t 77 status concluded → CallEnds held arguments status [] concluded
@@ -304,7 +304,7 @@ empty_journal = 102 ∷ 108 ∷ 111 ∷ 119 ∷ 32 ∷ 106 ∷ 111 ∷ 117 ∷ 1
 abbrev empty_report : List ℕ
 empty_report = 45 ∷ 45 ∷ 32 ∷ 97 ∷ 10 ∷ []
 
-module _ (run : Run) (journal : run_texts true (run ∷ []) ≡ empty_journal) (report : run_texts false (run ∷ []) ≡ empty_report) where
+module _ (run : TextRun) (journal : run_texts true (run ∷ []) ≡ empty_journal) (report : run_texts false (run ∷ []) ≡ empty_report) where
   journal_written : Reported of_memory (sink [] 0) (sink empty_journal 0) Done true (run ∷ []) true
   journal_written = record {
     front = record { lost = []; but = record { front = empty_journal; parts = journal; took = refl } };
@@ -345,7 +345,7 @@ failed_read_behind_memory = record { stays = refl; no_fewer = omega arith; cause
 -- ---- before a verdict
 
 module _ (bytes : List ℕ) where
-  abbrev with_journal : Held
+  abbrev with_journal : SourceTexts
   with_journal = Some (texts (1 ∷ []) bytes)
 
   journal_over_its_limit : length bytes ≡ 67108865 → StopsAtJournal with_journal t (stop.LongText t)

@@ -5,16 +5,16 @@ use Rattle.call_status.specs.declared.status.Status.TheVariants.{BadGraph, NoSou
 use Rattle.call_status.specs.declared.stop.Stop.{Stop}
 use Rattle.call_status.specs.declared.stop.Stop.TheVariants as stop
 use Rattle.call_status.specs.Statuses.{status_of}
-use Rattle.flow_run.specs.Requests.{Held, CountsStop}
+use Rattle.flow_run.specs.Requests.{SourceTexts, CountsStop}
 use Rattle.nested_runs.specs.declared.reasons.Reason.{Reason}
 use Rattle.text_tasks.specs.declared.job.TextJob.{TextJob}
-use Rattle.flow_run.specs.Answers.{Run, IsAfterRun, IsReadFault, HaveRead, JobEnds, KeptOnce}
+use Rattle.flow_run.specs.Answers.{TextRun, IsAfterRun, IsReadFault, HaveRead, JobEnds, KeptOnce}
 
 -- A run that is kept and reported by its reason is how its job ends.
-pub kept_ends : (job : TextJob) (status : Status) (runs : List Run) (why : Reason) → KeptOnce job runs why → IsAfterRun why status → JobEnds job status runs
+pub kept_ends : (job : TextJob) (status : Status) (runs : List TextRun) (why : Reason) → KeptOnce job runs why → IsAfterRun why status → JobEnds job status runs
 kept_ends job status runs why kept after = inr (record { run = kept.run; only = kept.only; kept = kept.kept; job = kept.same; after = subst (λ (reason : Reason). IsAfterRun reason status) (sym kept.reason) after })
 
-module _ {F : Type 0} (held : F → Held) (faults : F → ℕ) (old new : F) where
+module _ {F : Type 0} (held : F → SourceTexts) (faults : F → ℕ) (old new : F) where
   -- Nothing failed.
   pub read_well : (status : Status) → held new ≡ held old → faults new ≡ faults old → (IsReadFault status → ⊥) → HaveRead held faults old new status
   read_well status stays same none = record { stays = stays; no_fewer = omega (arith, same); cause = λ fault. absurd (none fault); reported = inl same }

@@ -26,13 +26,13 @@ use Rattle.call_status.specs.declared.status.Status.{Status}
 use Rattle.call_status.specs.declared.status.Status.TheVariants.{Done, WriteFault, NoText, NotLegal, NoMemory}
 use Rattle.call_status.specs.declared.stop.Stop.{Stop}
 use Rattle.call_status.specs.declared.stop.Stop.TheVariants as stop
-use Rattle.flow_run.specs.Requests.{Held, HasPlan, HasStart, file_limit}
+use Rattle.flow_run.specs.Requests.{SourceTexts, HasPlan, HasStart, file_limit}
 use Rattle.call_status.specs.Statuses.{status_of}
 use Rattle.call_status.specs.Stopping.{StoppedBefore}
 use Rattle.flow_run.specs.declared.conclusion.Conclusion.TheVariants as conclusion
 use Rattle.flow_run.specs.Output.{report_of}
 use Rattle.flow_run.specs.Judging.{HasJournal, StopsAtJournalBytes, StopsAtJournal, StopsBeforeVerdict, IsJudged, IsAfterVerdict, EndsJudged, JudgeEnds, CanBeJudged, break_text, verdict_line, journal_limit}
-use Rattle.flow_run.specs.Answers.{Run, run_texts, wants_journal, conclusion_text, output_of}
+use Rattle.flow_run.specs.Answers.{TextRun, run_texts, wants_journal, conclusion_text, output_of}
 
 abbrev g : List ℕ
 g = 0 ∷ []
@@ -44,7 +44,7 @@ j = 1 ∷ []
 abbrev texts : List ℕ → Option (List ℕ)
 texts name = if bytes_eq name g then Some (1 ∷ []) else (if bytes_eq name j then Some (codes "flow journal 2\n") else None)
 
-abbrev held : Held
+abbrev held : SourceTexts
 held = Some texts
 
 -- The lines of verdicts.
@@ -178,14 +178,14 @@ verdict_that_is_another : (is : IsJudged held g j 9 Legal) → ¬ EndsJudged hel
 verdict_that_is_another is ended = let same : ended.verdict ≡ Legal = cc in legal_called_broken (subst (λ (v : Verdict). IsAfterVerdict v (NotLegal 0 NotOpen)) same ended.after)
 
 -- What is written: of a run its report or its journal, of a judgement the verdict's line.
-module _ (run : Run) where
+module _ (run : TextRun) where
   report_of_a_run : run_texts false (run ∷ []) ≡ report_of run ++ []
   report_of_a_run = refl
 
   journal_of_a_run : run_texts true (run ∷ []) ≡ journal_text Two (journal_of run) ++ []
   journal_of_a_run = refl
 
-  of_two_runs : (other : Run) → run_texts true (run ∷ other ∷ []) ≡ journal_text Two (journal_of run) ++ (journal_text Two (journal_of other) ++ [])
+  of_two_runs : (other : TextRun) → run_texts true (run ∷ other ∷ []) ≡ journal_text Two (journal_of run) ++ (journal_text Two (journal_of other) ++ [])
   of_two_runs other = refl
 
 journal_asked_for : wants_journal (Some (run_of g 9 4 true)) ≡ true
@@ -204,10 +204,10 @@ output_of_a_judgement : (arguments : List (List ℕ)) → output_of arguments []
 output_of_a_judgement arguments = refl
 
 -- of a run its journal, where that is asked for, and its report else; before what is concluded
-output_with_the_journal : (arguments : List (List ℕ)) (run : Run) → asked_by arguments ≡ Some (run_of g 9 4 true) → output_of arguments (run ∷ []) (Some (conclusion.Verdict Legal)) ≡ run_texts true (run ∷ []) ++ codes "legal\n"
+output_with_the_journal : (arguments : List (List ℕ)) (run : TextRun) → asked_by arguments ≡ Some (run_of g 9 4 true) → output_of arguments (run ∷ []) (Some (conclusion.Verdict Legal)) ≡ run_texts true (run ∷ []) ++ codes "legal\n"
 output_with_the_journal arguments run asks = ap (λ asked. run_texts (wants_journal asked) (run ∷ []) ++ codes "legal\n") asks
 
-output_with_the_report : (arguments : List (List ℕ)) (run : Run) → asked_by arguments ≡ Some (run_of g 9 4 false) → output_of arguments (run ∷ []) None ≡ run_texts false (run ∷ []) ++ []
+output_with_the_report : (arguments : List (List ℕ)) (run : TextRun) → asked_by arguments ≡ Some (run_of g 9 4 false) → output_of arguments (run ∷ []) None ≡ run_texts false (run ∷ []) ++ []
 output_with_the_report arguments run asks = ap (λ asked. run_texts (wants_journal asked) (run ∷ []) ++ []) asks
 
 output_of_nothing : (arguments : List (List ℕ)) → output_of arguments [] None ≡ []
@@ -227,11 +227,11 @@ journal_bytes = refl
 abbrev texts_with : List ℕ → List ℕ → Option (List ℕ)
 texts_with bytes name = if bytes_eq name g then Some (1 ∷ []) else (if bytes_eq name j then Some bytes else None)
 
-abbrev held_with : List ℕ → Held
+abbrev held_with : List ℕ → SourceTexts
 held_with bytes = Some (texts_with bytes)
 
 -- and with any graph under `g`
-abbrev held_over : List ℕ → List ℕ → Held
+abbrev held_over : List ℕ → List ℕ → SourceTexts
 held_over graph bytes = Some (λ name. if bytes_eq name g then Some graph else (if bytes_eq name j then Some bytes else None))
 
 -- a journal of one start, and its text

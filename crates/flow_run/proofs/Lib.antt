@@ -1,4 +1,5 @@
 mod Crossing
+pub mod RoomLemmas
 pub mod Preparing
 pub mod ReportLemmas
 pub mod OutputExamples

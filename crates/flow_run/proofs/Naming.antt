@@ -1,10 +1,9 @@
 -- The tasks that the reason of a run tells of are tasks of its graph, so each has a name.
-use Rattle.std.proofs.Common.{◌≡◌, ◌≢◌, ◌⊎◌, inl, inr, ℕ, suc, Bool, true, false, ◌+◌, ◌<◌, List, [], ◌∷◌, ◌++◌, length, map, Option, Some, None, refl, sym, ap, ◌∙◌, subst, arith}
+use Rattle.std.proofs.Common.{◌≡◌, ◌≢◌, inl, inr, ℕ, suc, Bool, true, false, ◌<◌, List, [], ◌∷◌, ◌++◌, length, Option, Some, None, refl, sym, ap, ◌∙◌, subst, arith}
 use Rattle.std.specs.Prelude.{All, IsSomeAnd, take, slice_get, unwrap_or, count_by, ◌==◌, if◌then◌else◌}
 use Rattle.std.proofs.lemmas.List.{length-map}
 use Rattle.std.proofs.lemmas.List.Elements.{All-nil, All-cons, All-head}
 use Rattle.task_graph.specs.NetRows.{NetRows}
-use Rattle.journal_rules.specs.declared.entry.DropWhy.{DropWhy}
 use Rattle.journal_rules.specs.declared.entry.DropWhy.TheVariants.{Halted, Limit as AtLimit, Stuck as WantsUnit}
 use Rattle.journal_rules.specs.declared.entry.Entry.{Entry}
 use Rattle.journal_rules.specs.declared.entry.Entry.TheVariants.{Start, End, Fault as FaultEntry, Drop}
@@ -39,10 +38,10 @@ use Rattle.call_status.specs.Statuses.{status_after, status_by, status_of}
 use Rattle.call_status.specs.declared.stop.Stop.{Stop}
 use Rattle.call_status.specs.declared.stop.Stop.TheVariants as stop
 use Rattle.flow_run.specs.declared.conclusion.Conclusion.{Conclusion}
-use Rattle.flow_run.specs.Answers.{CallEnds, IsAfterRun, Run, names_in}
+use Rattle.flow_run.specs.Answers.{CallEnds, IsAfterRun, TextRun, names_in}
 use Rattle.flow_run.specs.Checking.{IsAfterFindings}
 use Rattle.flow_run.specs.Judging.{IsAfterVerdict}
-use Rattle.flow_run.specs.Requests.{Held}
+use Rattle.flow_run.specs.Requests.{SourceTexts}
 use Rattle.legal_run.specs.declared.verdict.Verdict.{Verdict}
 use Rattle.legal_run.specs.declared.verdict.Verdict.TheVariants.{Complete as Finished, Legal as Legally, Breaks}
 
@@ -83,7 +82,7 @@ module _ (work : GraphWork) (is : IsWork work) (values : List (ValueRow Item)) w
       by_op None never = never
       by_op (Some op) answers = no_job_answered (op_meaning work of.found op) job answers
 
-  fault_may : (before : List Entry) (start : ℕ) (why : Why) (inner : Option Run) → FaultRule text_job (Graph work) values before start why inner
+  fault_may : (before : List Entry) (start : ℕ) (why : Why) (inner : Option TextRun) → FaultRule text_job (Graph work) values before start why inner
       → InnerFault text_job (Graph work) values before start why inner → (0 < length (graph_of work).names) × (why ≢ Inner)
   fault_may before start why None rule nested = by_work (work_at values before start) rule
     where
@@ -97,7 +96,7 @@ module _ (work : GraphWork) (is : IsWork work) (values : List (ValueRow Item)) w
       by_work (Some of) made = absurd (no_run_made of (job_of run) made.0)
 
   -- The first Fault of a journal is such a one.
-  first_fault_may : (inner : ℕ → Option Run) (before rest : List Entry) (n : ℕ) (fault : Faulted) → EachAfterThese (WorkRule text_job (Graph work) values inner) before rest
+  first_fault_may : (inner : ℕ → Option TextRun) (before rest : List Entry) (n : ℕ) (fault : Faulted) → EachAfterThese (WorkRule text_job (Graph work) values inner) before rest
       → EachAfterThese (NestedRule text_job (Graph work) values inner) before rest → first_fault_from n rest ≡ Some fault → (0 < length (graph_of work).names) × (fault.why ≢ Inner)
   first_fault_may inner before [] n fault works nested is = absurd (cc)
   first_fault_may inner before (Start task cause ins ∷ rest) n fault works nested is = first_fault_may inner (before ++ Start task cause ins ∷ []) rest (suc n) fault works.1 nested.1 is
@@ -140,7 +139,7 @@ module _ (net : NetRows) (names : List (List ℕ)) (counted : length names ≡ l
   start_named start (Some task) is some = omega (arith, counted, start_in_range net limit journal start task shape is)
 
 -- The reason of a run, whatever the reasons of the runs inside it are.
-module _ (work : GraphWork) (is : IsWork work) (values : List (ValueRow Item)) (limit : ℕ) (inner : ℕ → Option Run) (journal : List Entry) where
+module _ (work : GraphWork) (is : IsWork work) (values : List (ValueRow Item)) (limit : ℕ) (inner : ℕ → Option TextRun) (journal : List Entry) where
   names_step : (most : ℕ) (within : Faulted → Option Reason) → ShapeLegal (graph_of work).net limit journal → EachAfter (WorkRule text_job (Graph work) values inner) journal
       → EachAfter (NestedRule text_job (Graph work) values inner) journal
       → NamesReason (graph_of work).names (elim (first_fault journal) [
@@ -159,10 +158,10 @@ module _ (work : GraphWork) (is : IsWork work) (values : List (ValueRow Item)) (
           names_fault (graph_of work).names (unwrap_or (start_at journal fault.start) 0) fault.why (within fault)
           (start_named (graph_of work).net (graph_of work).names is.plan.names limit journal shape fault.start (start_at journal fault.start) refl may.0) may.1
 
-legal_journal : (run : Run) → Legal text_job run → LegalJournal text_job run
+legal_journal : (run : TextRun) → Legal text_job run → LegalJournal text_job run
 legal_journal (FrameRun' job journal values shape rows) legal = legal.0
 
-named_by_job : (run : Run) (job : TextJob) → job_of run ≡ job → IsTextJob job → LegalJournal text_job run → NamesReason (names_of job) (run_reason text_job run)
+named_by_job : (run : TextRun) (job : TextJob) → job_of run ≡ job → IsTextJob job → LegalJournal text_job run → NamesReason (names_of job) (run_reason text_job run)
 named_by_job run (Graph work) same is legal =
     let values = (out-FrameRun TextJob Item run).values in
     let limit = text_job.limit (job_of run) in
@@ -173,7 +172,7 @@ named_by_job run (Graph work) same is legal =
     (subst (λ j. EachAfter (NestedRule text_job j values (inner_at run)) (journal_of run)) same legal.nested))
 
 -- Each task that the reason of a legal run tells of has a name.
-pub reason_named : (run : Run) → IsTextJob (job_of run) → IsKept text_job run → NamesReason (names_of (job_of run)) (run_reason text_job run)
+pub reason_named : (run : TextRun) → IsTextJob (job_of run) → IsKept text_job run → NamesReason (names_of (job_of run)) (run_reason text_job run)
 reason_named run is kept = named_by_job run (job_of run) refl is (legal_journal run kept.legal)
 
 -- So has each task that the status after such a run tells of.
@@ -218,7 +217,7 @@ names_findings names told (inr (inl is)) = subst (NamesStatus names) (sym is) tt
 names_findings names told (inr (inr is)) = subst (NamesStatus names) (sym is) tt
 
 -- Each task that the status of a call tells of has a name in its run.
-pub status_named : (held : Held) (arguments : List (List ℕ)) (told : Status) (runs : List Run) (concluded : Option Conclusion) → CallEnds held arguments told runs concluded
+pub status_named : (held : SourceTexts) (arguments : List (List ℕ)) (told : Status) (runs : List TextRun) (concluded : Option Conclusion) → CallEnds held arguments told runs concluded
     → All (λ run. IsTextJob (job_of run)) (take 1 runs) → NamesStatus (names_in runs) told
 status_named held arguments told runs concluded (inl (file, limit, workers, journal, asks, inl stopped, none)) jobs = names_stopped (names_in runs) stopped.why told stopped.reported
 status_named held arguments told runs concluded (inl (file, limit, workers, journal, asks, inr ran, none)) jobs =

@@ -13,23 +13,23 @@ use Rattle.text_tasks.specs.ValueTexts.{IsValueText}
 use Rattle.text_tasks.specs.GraphWork.{greatest_limit, IsWork, first_work}
 use Rattle.call_status.specs.declared.stop.Stop.{Stop}
 use Rattle.call_status.specs.declared.stop.Stop.TheVariants.{BadGraph, NoSource, NoText, LongText, ReadFault, BadJournal, NoMemory}
-use Rattle.flow_run.specs.Requests.{Held, IsAdded, IsTextOf, StopsAtName, StopsAtText, StopsAtBytes, StopsAtPlan, TextsAre, text_limit}
+use Rattle.flow_run.specs.Requests.{SourceTexts, IsAdded, IsTextOf, StopsAtName, StopsAtText, StopsAtBytes, StopsAtPlan, TextsAre, text_limit}
 
 -- one text more
-pub texts_more : (held : Held) (names texts : List (List ℕ)) (name text : List ℕ) → TextsAre held names texts → IsTextOf held name text → TextsAre held (names ++ name ∷ []) (texts ++ text ∷ [])
+pub texts_more : (held : SourceTexts) (names texts : List (List ℕ)) (name text : List ℕ) → TextsAre held names texts → IsTextOf held name text → TextsAre held (names ++ name ∷ []) (texts ++ text ∷ [])
 texts_more held [] [] name text so_far is = (is, tt)
 texts_more held [] (t ∷ ts) name text so_far is = absurd so_far
 texts_more held (n ∷ ns) [] name text so_far is = absurd so_far
 texts_more held (n ∷ ns) (t ∷ ts) name text so_far is = (so_far.0, texts_more held ns ts name text so_far.1 is)
 
 -- the text of the next name
-pub read_one_more : (held : Held) (names : List (List ℕ)) (i : ℕ) (name : List ℕ) (old new : List (List ℕ)) → i < length names → name ≡ get_or names i name → TextsAre held (take i names) old → IsAdded held name old new → TextsAre held (take (i + 1) names) new
+pub read_one_more : (held : SourceTexts) (names : List (List ℕ)) (i : ℕ) (name : List ℕ) (old new : List (List ℕ)) → i < length names → name ≡ get_or names i name → TextsAre held (take i names) old → IsAdded held name old new → TextsAre held (take (i + 1) names) new
 read_one_more held names i name old new below is so_far added =
     subst (λ ns. TextsAre held ns new) (sym (take_more names i name below ∙ ap (λ n. take i names ++ n ∷ []) (sym is)))
     (subst (TextsAre held (take i names ++ name ∷ [])) (sym added.row) (texts_more held (take i names) old name added.text so_far added.read))
 
 -- there is a text for each name
-pub as_many : (held : Held) (names texts : List (List ℕ)) → TextsAre held names texts → length texts ≡ length names
+pub as_many : (held : SourceTexts) (names texts : List (List ℕ)) → TextsAre held names texts → length texts ≡ length names
 as_many held [] [] are = refl
 as_many held [] (t ∷ ts) are = absurd are
 as_many held (n ∷ ns) [] are = absurd are
@@ -43,11 +43,11 @@ normal_length bytes = by_test (is_normal bytes)
     by_test true = omega arith
     by_test false = rw (length-append bytes (line_end ∷ [])) (omega arith)
 
-value_text : (held : Held) (name text : List ℕ) → IsTextOf held name text → IsValueText text
+value_text : (held : SourceTexts) (name text : List ℕ) → IsTextOf held name text → IsValueText text
 value_text held name text is = subst IsValueText (sym is.is) (record { normal = IsNormal-normal is.bytes; short = omega (arith, normal_length is.bytes, is.read.1) })
 
 -- and each may be a value
-pub are_values : (held : Held) (names texts : List (List ℕ)) → TextsAre held names texts → All IsValueText texts
+pub are_values : (held : SourceTexts) (names texts : List (List ℕ)) → TextsAre held names texts → All IsValueText texts
 are_values held [] [] are = All-nil IsValueText
 are_values held [] (t ∷ ts) are = absurd are
 are_values held (n ∷ ns) [] are = absurd are
@@ -63,7 +63,7 @@ around (x ∷ xs) (suc i) d below =
     let two : suc (suc i) ≡ suc i + 1 = omega arith in
     ap (λ ys. x ∷ ys) (rest ∙ ap (λ n. take i xs ++ get_or xs i d ∷ drop n xs) one) ∙ ap (λ n. x ∷ (take i xs ++ get_or xs i d ∷ drop n (x ∷ xs))) two
 
-pub stops_at : (held : Held) (names texts : List (List ℕ)) (i : ℕ) (name : List ℕ) (why : Stop) → i < length names → name ≡ get_or names i name → TextsAre held (take i names) texts → StopsAtName held name text_limit why → StopsAtText held names why
+pub stops_at : (held : SourceTexts) (names texts : List (List ℕ)) (i : ℕ) (name : List ℕ) (why : Stop) → i < length names → name ≡ get_or names i name → TextsAre held (take i names) texts → StopsAtName held name text_limit why → StopsAtText held names why
 stops_at held names texts i name why below is so_far stops =
     record { before = take i names; name = name; after = drop (i + 1) names; texts = texts; parts = around names i name below ∙ ap (λ n. take i names ++ n ∷ drop (i + 1) names) (sym is); read = so_far; stops = stops }
 
@@ -94,7 +94,7 @@ no_plan bytes (BadJournal line) stops = absurd stops
 no_plan bytes NoMemory stops = stops
 
 -- the job of a plan over the texts that it names
-pub is_work : (held : Held) (plan : PlanRows) (texts : List (List ℕ)) (limit : ℕ) → limit ≤ greatest_limit → IsPlan plan → TextsAre held plan.texts texts → IsWork (first_work plan texts limit)
+pub is_work : (held : SourceTexts) (plan : PlanRows) (texts : List (List ℕ)) (limit : ℕ) → limit ≤ greatest_limit → IsPlan plan → TextsAre held plan.texts texts → IsWork (first_work plan texts limit)
 is_work held plan texts limit within is read =
     record {
       plan = is;

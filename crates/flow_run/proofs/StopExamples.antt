@@ -22,8 +22,8 @@ use Rattle.call_status.specs.declared.status.Status.TheVariants.{Done, WriteFaul
 use Rattle.command_line.specs.Requests.{asked_by, run as run_of, judge as judge_of}
 use Rattle.call_status.specs.declared.stop.Stop.{Stop}
 use Rattle.call_status.specs.declared.stop.Stop.TheVariants as stop
-use Rattle.flow_run.specs.Requests.{Held, StopsAtName, IsTextOf, TextsAre, StopsAtText, HasStart, HasPlan, StopsBefore, IsRequested, IsRequestedJob, IsAtHand, CountsReads, CountsStop, file_limit, text_limit}
-use Rattle.flow_run.specs.Answers.{Run, IsAfterRun, RanOnce, KeptOnce, names_in, RunEnds, Reported, HaveRead, run_texts}
+use Rattle.flow_run.specs.Requests.{SourceTexts, StopsAtName, IsTextOf, TextsAre, StopsAtText, HasStart, HasPlan, StopsBefore, IsRequested, IsRequestedJob, IsAtHand, CountsReads, CountsStop, file_limit, text_limit}
+use Rattle.flow_run.specs.Answers.{TextRun, IsAfterRun, RanOnce, KeptOnce, names_in, RunEnds, Reported, HaveRead, run_texts}
 
 abbrev g : List ℕ
 g = 0 ∷ []
@@ -35,7 +35,7 @@ abbrev u : List ℕ
 u = 2 ∷ []
 
 -- what is held: a byte under `g`
-abbrev held : Held
+abbrev held : SourceTexts
 held = Some (λ name. if bytes_eq name g then Some (1 ∷ []) else None)
 
 abbrev no_plan : PlanRows
@@ -46,7 +46,7 @@ known_length None = 0
 known_length (Some bytes) = length bytes
 
 -- these bytes under each name
-abbrev all_hold : List ℕ → Held
+abbrev all_hold : List ℕ → SourceTexts
 all_hold bytes = Some (λ name. Some bytes)
 
 -- ---- at the limits
@@ -112,14 +112,14 @@ good_read_counted is = absurd (omega (arith, is))
 -- ---- the run that is kept
 
 -- the call names the limit of the run that is kept
-run_of_another_limit : (run : Run) → limit_of (job_of run) ≡ 76 → ¬ RunEnds held g 77 Done (run ∷ [])
+run_of_another_limit : (run : TextRun) → limit_of (job_of run) ≡ 76 → ¬ RunEnds held g 77 Done (run ∷ [])
 run_of_another_limit run limit (inl stopped) = let none : run ∷ [] ≡ [] = stopped.none in absurd (cc)
 run_of_another_limit run limit (inr ran) = let same : run ≡ ran.run = cc in absurd (omega (arith, limit, ap (λ r. limit_of (job_of r)) same, starts (job_of ran.run) ran.job))
   where
     starts : (job : TextJob) → IsRequestedJob held g 77 job → limit_of job ≡ 77
     starts (Graph work) is = is.starts
 
-stuck_run_called_done : (run : Run) → run_reason text_job run ≡ reason.Stuck (3 ∷ []) → ¬ RanOnce (λ job. job ≡ job) Done (run ∷ [])
+stuck_run_called_done : (run : TextRun) → run_reason text_job run ≡ reason.Stuck (3 ∷ []) → ¬ RanOnce (λ job. job ≡ job) Done (run ∷ [])
 stuck_run_called_done run stuck is =
     let same : is.run ≡ run = cc in
     by_case (subst (λ why. IsAfterRun why Done) (ap (run_reason text_job) same ∙ stuck) is.after)
@@ -140,7 +140,7 @@ of_memory state = state
 abbrev small_report : List ℕ
 small_report = 45 ∷ 45 ∷ 32 ∷ 97 ∷ 10 ∷ []
 
-module _ (run : Run) (report : run_texts false (run ∷ []) ≡ small_report) where
+module _ (run : TextRun) (report : run_texts false (run ∷ []) ≡ small_report) where
   whole_report : Reported of_memory (sink (1 ∷ []) 0) (sink (1 ∷ small_report) 0) Done false (run ∷ []) true
   whole_report = record {
     front = record { lost = []; but = record { front = small_report; parts = report; took = refl } };
@@ -188,19 +188,19 @@ texts_changed is = let same : None ≡ held = is.stays in absurd (cc)
 
 -- ---- the kept run, and what can be had
 
-names_of_the_run : (run : Run) → (names_in [] ≡ []) × (names_in (run ∷ []) ≡ names_of (job_of run))
+names_of_the_run : (run : TextRun) → (names_in [] ≡ []) × (names_in (run ∷ []) ≡ names_of (job_of run))
 names_of_the_run run = (refl, refl)
 
 no_run_kept : (job : TextJob) → ¬ KeptOnce job [] reason.Fine
 no_run_kept job is = let only : [] ≡ is.run ∷ [] = is.only in absurd (cc)
 
-kept_for_another_reason : (run : Run) (job : TextJob) → run_reason text_job run ≡ reason.Stuck (3 ∷ []) → ¬ KeptOnce job (run ∷ []) reason.Fine
+kept_for_another_reason : (run : TextRun) (job : TextJob) → run_reason text_job run ≡ reason.Stuck (3 ∷ []) → ¬ KeptOnce job (run ∷ []) reason.Fine
 kept_for_another_reason run job stuck is =
     let same : is.run ≡ run = cc in
     let both : reason.Fine ≡ reason.Stuck (3 ∷ []) = sym is.reason ∙ (ap (run_reason text_job) same ∙ stuck) in
     absurd (cc)
 
-run_of_another_job : (run : Run) (job : TextJob) → limit_of (job_of run) ≡ 76 → limit_of job ≡ 77 → ¬ KeptOnce job (run ∷ []) reason.Fine
+run_of_another_job : (run : TextRun) (job : TextJob) → limit_of (job_of run) ≡ 76 → limit_of job ≡ 77 → ¬ KeptOnce job (run ∷ []) reason.Fine
 run_of_another_job run job limit other is =
     let same : is.run ≡ run = cc in
     absurd (omega (arith, limit, other, ap (λ r. limit_of (job_of r)) same, ap limit_of is.same))
@@ -210,12 +210,12 @@ nothing_at_hand arguments is = let some : None ≡ Some is.text = is.specified i
 
 -- ---- each part of an end is asked for
 
-run_that_is_not_kept : (run : Run) → ¬ IsKept text_job run → ¬ RanOnce (λ job. job ≡ job) Done (run ∷ [])
+run_that_is_not_kept : (run : TextRun) → ¬ IsKept text_job run → ¬ RanOnce (λ job. job ≡ job) Done (run ∷ [])
 run_that_is_not_kept run never is =
     let same : is.run ≡ run = cc in
     never (subst (IsKept text_job) same is.kept)
 
-reason_of_a_run_that_is_not_kept : (run : Run) (job : TextJob) → ¬ IsKept text_job run → ¬ KeptOnce job (run ∷ []) reason.Fine
+reason_of_a_run_that_is_not_kept : (run : TextRun) (job : TextJob) → ¬ IsKept text_job run → ¬ KeptOnce job (run ∷ []) reason.Fine
 reason_of_a_run_that_is_not_kept run job never is =
     let same : is.run ≡ run = cc in
     never (subst (IsKept text_job) same is.kept)

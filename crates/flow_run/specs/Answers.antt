@@ -21,14 +21,14 @@ use Rattle.nested_runs.specs.declared.reasons.Reason.{Reason}
 use Rattle.nested_runs.specs.declared.reasons.Reason.TheVariants as reason
 use Rattle.flow_run.specs.declared.conclusion.Conclusion.{Conclusion}
 use Rattle.flow_run.specs.declared.conclusion.Conclusion.TheVariants.{Verdict, Findings}
-use Rattle.flow_run.specs.Requests.{Held, IsRequestedJob, StopsBefore}
+use Rattle.flow_run.specs.Requests.{SourceTexts, IsRequestedJob, StopsBefore}
 use Rattle.flow_run.specs.Output.{report_of}
 use Rattle.flow_run.specs.Judging.{JudgeEnds, verdict_line}
 use Rattle.flow_run.specs.Checking.{CheckEnds, findings_text}
 
 -- a run of text jobs
-abbrev pub Run : Type 0
-Run = FrameRun TextJob Item
+abbrev pub TextRun : Type 0
+TextRun = FrameRun TextJob Item
 
 -- The status is that of the run's reason; or that writing failed, where the run ended fine; or, after any run, that
 -- memory ran out.
@@ -36,16 +36,16 @@ abbrev pub IsAfterRun : Reason → Status → Type 0
 IsAfterRun why status = (status ≡ status_after why) ⊎ ((why ≡ reason.Fine) × (status ≡ WriteFault)) ⊎ (status ≡ NoMemory)
 
 -- one run was run to its end, and its job is such a one
-pub record RanOnce (IsJob : TextJob → Type 0) (status : Status) (runs : List Run) : Type 0 where
-  pub run : Run
+pub record RanOnce (IsJob : TextJob → Type 0) (status : Status) (runs : List TextRun) : Type 0 where
+  pub run : TextRun
   pub only : runs ≡ run ∷ []
   pub kept : IsKept text_job run
   pub job : IsJob (job_of run)
   pub after : IsAfterRun (run_reason text_job run) status
 
 -- one run of the job is kept, which came to its end for this reason
-pub record KeptOnce (job : TextJob) (runs : List Run) (why : Reason) : Type 0 where
-  pub run : Run
+pub record KeptOnce (job : TextJob) (runs : List TextRun) (why : Reason) : Type 0 where
+  pub run : TextRun
   pub only : runs ≡ run ∷ []
   pub kept : IsKept text_job run
   pub same : job_of run ≡ job
@@ -53,16 +53,16 @@ pub record KeptOnce (job : TextJob) (runs : List Run) (why : Reason) : Type 0 wh
 
 -- How a call ends that is to run a file: before a run, for a reason that the status has, or after the run that
 -- the file asks for.
-abbrev pub RunEnds : Held → List ℕ → ℕ → Status → List Run → Type 0
+abbrev pub RunEnds : SourceTexts → List ℕ → ℕ → Status → List TextRun → Type 0
 RunEnds held file limit status runs = StoppedBefore (StopsBefore held file) status (runs ≡ []) ⊎ RanOnce (IsRequestedJob held file limit) status runs
 
 -- how a job's run ends: without memory, or after it
-abbrev pub JobEnds : TextJob → Status → List Run → Type 0
+abbrev pub JobEnds : TextJob → Status → List TextRun → Type 0
 JobEnds job status runs = StoppedBefore (λ why. why ≡ stop.NoMemory) status (runs ≡ []) ⊎ RanOnce (λ of. of ≡ job) status runs
 
 -- How a call ends: the command line asks for a run of a file, or for a judgement of a journal, or for a check of a
 -- graph, or for nothing, or there is no memory to read it.
-abbrev pub CallEnds : Held → List (List ℕ) → Status → List Run → Option Conclusion → Type 0
+abbrev pub CallEnds : SourceTexts → List (List ℕ) → Status → List TextRun → Option Conclusion → Type 0
 CallEnds held arguments status runs conclusion =
     ((file : List ℕ) × (limit : ℕ) × (workers : ℕ) × (journal : Bool) × (asked_by arguments ≡ Some (run file limit workers journal)) × RunEnds held file limit status runs × (conclusion ≡ None))
     ⊎ ((file : List ℕ) × (name : List ℕ) × (limit : ℕ) × (asked_by arguments ≡ Some (judge file name limit)) × JudgeEnds held file name limit status conclusion × (runs ≡ []))
@@ -71,17 +71,17 @@ CallEnds held arguments status runs conclusion =
     ⊎ ((status ≡ NoMemory) × (runs ≡ []) × (conclusion ≡ None))
 
 -- the names of the tasks of the graph that was run
-abbrev pub names_in : List Run → List (List ℕ)
+abbrev pub names_in : List TextRun → List (List ℕ)
 names_in [] = []
 names_in (first ∷ runs) = names_of (job_of first)
 
 -- what is written of a run: its journal in place of its report, or its report
-abbrev pub run_text : Bool → Run → List ℕ
+abbrev pub run_text : Bool → TextRun → List ℕ
 run_text true kept = journal_text Two (journal_of kept)
 run_text false kept = report_of kept
 
 -- what is written of these runs
-abbrev pub run_texts : Bool → List Run → List ℕ
+abbrev pub run_texts : Bool → List TextRun → List ℕ
 run_texts journal runs = flat_map (run_text journal) runs
 
 -- whether journals are asked for in place of reports
@@ -96,7 +96,7 @@ conclusion_text (Some (Verdict verdict)) = verdict_line verdict
 conclusion_text (Some (Findings found)) = findings_text found.names found.findings
 
 -- what is written to the output: of the runs that are kept, and of the conclusion
-abbrev pub output_of : List (List ℕ) → List Run → Option Conclusion → List ℕ
+abbrev pub output_of : List (List ℕ) → List TextRun → Option Conclusion → List ℕ
 output_of arguments runs conclusion = run_texts (wants_journal (asked_by arguments)) runs ++ conclusion_text conclusion
 
 -- What a command has done to the output when it ends, to which it was to write these bytes. Where it came to nothing the
@@ -114,7 +114,7 @@ pub record HasWritten {S : Type 0} (state : S → SinkState) (old new : S) (stat
   pub nothing_to_write : Nothing → written ≡ true
 
 -- what a command has done to the output that keeps these runs
-abbrev pub Reported : {S : Type 0} → (S → SinkState) → S → S → Status → Bool → List Run → Bool → Type 0
+abbrev pub Reported : {S : Type 0} → (S → SinkState) → S → S → Status → Bool → List TextRun → Bool → Type 0
 Reported state old new status journal runs written = HasWritten state old new status (runs ≡ []) (run_texts journal runs) written
 
 -- a read failed, and the status names the file
@@ -123,7 +123,7 @@ IsReadFault status = (name : List ℕ) × (status ≡ ReadFault name)
 
 -- What a command has done to the texts when it ends: what is held stays, and a failed read is reported unless memory
 -- ran out.
-pub record HaveRead {F : Type 0} (held : F → Held) (faults : F → ℕ) (old new : F) (status : Status) : Type 0 where
+pub record HaveRead {F : Type 0} (held : F → SourceTexts) (faults : F → ℕ) (old new : F) (status : Status) : Type 0 where
   pub stays : held new ≡ held old
   pub no_fewer : faults old ≤ faults new
   pub cause : IsReadFault status → faults old < faults new

@@ -14,20 +14,20 @@ use Rattle.command_line.specs.Requests.{asked_by, check}
 use Rattle.flow_run.specs.declared.conclusion.Conclusion.{Conclusion}
 use Rattle.flow_run.specs.declared.conclusion.Conclusion.TheVariants as conclusion
 use Rattle.flow_run.specs.declared.conclusion.GraphFindings.{GraphFindings}
-use Rattle.flow_run.specs.Requests.{Held, IsHeld, StopsAtName, StopsAtPlan, file_limit}
+use Rattle.flow_run.specs.Requests.{SourceTexts, IsHeld, StopsAtName, StopsAtPlan, file_limit}
 
 -- why the bytes held under the file's name stop a check
-pub record StopsAtFile (held : Held) (file : List ℕ) (stop : Stop) : Type 0 where
+pub record StopsAtFile (held : SourceTexts) (file : List ℕ) (stop : Stop) : Type 0 where
   pub bytes : List ℕ
   pub read : IsHeld held file file_limit bytes
   pub stops : StopsAtPlan bytes stop
 
 -- Why a call stops before its findings: at the graph file, or at what it holds. A graph without a source is checked.
-abbrev pub StopsBeforeFindings : Held → List ℕ → Stop → Type 0
+abbrev pub StopsBeforeFindings : SourceTexts → List ℕ → Stop → Type 0
 StopsBeforeFindings held file stop = StopsAtName held file file_limit stop ⊎ StopsAtFile held file stop
 
 -- the findings on the graph for which the bytes held under the file's name stand, and the names of its tasks
-pub record IsChecked (held : Held) (file : List ℕ) (found : GraphFindings) : Type 0 where
+pub record IsChecked (held : SourceTexts) (file : List ℕ) (found : GraphFindings) : Type 0 where
   pub bytes : List ℕ
   pub plan : PlanRows
   pub read : IsHeld held file file_limit bytes
@@ -40,14 +40,14 @@ abbrev pub IsAfterFindings : Status → Type 0
 IsAfterFindings status = (status ≡ Done) ⊎ (status ≡ WriteFault) ⊎ (status ≡ NoMemory)
 
 -- there are findings, and they are reported
-pub record EndsChecked (held : Held) (file : List ℕ) (status : Status) (concluded : Option Conclusion) : Type 0 where
+pub record EndsChecked (held : SourceTexts) (file : List ℕ) (status : Status) (concluded : Option Conclusion) : Type 0 where
   pub found : GraphFindings
   pub only : concluded ≡ Some (conclusion.Findings found)
   pub checked : IsChecked held file found
   pub after : IsAfterFindings status
 
 -- How a call ends that is to check a graph: before the findings, for a reason that the status has, or after them.
-abbrev pub CheckEnds : Held → List ℕ → Status → Option Conclusion → Type 0
+abbrev pub CheckEnds : SourceTexts → List ℕ → Status → Option Conclusion → Type 0
 CheckEnds held file status concluded = StoppedBefore (StopsBeforeFindings held file) status (concluded ≡ None) ⊎ EndsChecked held file status concluded
 
 -- a line of this start and the name of a task
@@ -72,7 +72,7 @@ findings_text names findings = flat_map (finding_line names) findings ++ count_l
 
 -- The graph that the command line asks to be checked can be checked whole: the source specifies what it holds, and the
 -- file has no more bytes than may be read, and stands for a plan.
-pub record CanBeChecked (held : Held) (arguments : List (List ℕ)) : Type 0 where
+pub record CanBeChecked (held : SourceTexts) (arguments : List (List ℕ)) : Type 0 where
   pub file : List ℕ
   pub text : List ℕ → Option (List ℕ)
   pub plan : PlanRows

@@ -16,7 +16,7 @@ use Rattle.call_status.specs.declared.stop.Stop.{Stop}
 use Rattle.call_status.specs.declared.stop.Stop.TheVariants as stop
 use Rattle.call_status.specs.Statuses.{status_by}
 use Rattle.call_status.specs.Stopping.{StoppedBefore}
-use Rattle.flow_run.specs.Requests.{Held, HasPlan, HasStart, IsHeld, StopsAtGraph, StopsAtName, file_limit}
+use Rattle.flow_run.specs.Requests.{SourceTexts, HasPlan, HasStart, IsHeld, StopsAtGraph, StopsAtName, file_limit}
 use Rattle.flow_run.specs.declared.conclusion.Conclusion.{Conclusion}
 use Rattle.flow_run.specs.declared.conclusion.Conclusion.TheVariants as conclusion
 
@@ -25,7 +25,7 @@ abbrev pub journal_limit : ℕ
 journal_limit = 67108864
 
 -- the bytes held under a name are the text of a journal
-pub record HasJournal (held : Held) (name : List ℕ) (journal : List Entry) : Type 0 where
+pub record HasJournal (held : SourceTexts) (name : List ℕ) (journal : List Entry) : Type 0 where
   pub bytes : List ℕ
   pub read : IsHeld held name journal_limit bytes
   pub stands : IsJournalText journal bytes
@@ -37,26 +37,26 @@ StopsAtJournalBytes bytes stop.NoMemory = Unit {0}
 StopsAtJournalBytes bytes why = ⊥
 
 -- why the text of a journal stops the call
-pub record StopsAtJournalText (held : Held) (name : List ℕ) (why : Stop) : Type 0 where
+pub record StopsAtJournalText (held : SourceTexts) (name : List ℕ) (why : Stop) : Type 0 where
   pub bytes : List ℕ
   pub read : IsHeld held name journal_limit bytes
   pub stops : StopsAtJournalBytes bytes why
 
 -- why the journal file stops the call, or memory, once there is a graph
-abbrev pub StopsAtJournal : Held → List ℕ → Stop → Type 0
+abbrev pub StopsAtJournal : SourceTexts → List ℕ → Stop → Type 0
 StopsAtJournal held name why = StopsAtName held name journal_limit why ⊎ StopsAtJournalText held name why
 
-pub record StopsBehindGraph (held : Held) (file name : List ℕ) (why : Stop) : Type 0 where
+pub record StopsBehindGraph (held : SourceTexts) (file name : List ℕ) (why : Stop) : Type 0 where
   pub plan : PlanRows
   pub has : HasPlan held file plan
   pub stops : StopsAtJournal held name why
 
 -- Why a call stops before its verdict: at the graph file, at the graph that it holds, or at the journal file.
-abbrev pub StopsBeforeVerdict : Held → List ℕ → List ℕ → Stop → Type 0
+abbrev pub StopsBeforeVerdict : SourceTexts → List ℕ → List ℕ → Stop → Type 0
 StopsBeforeVerdict held file name why = StopsAtName held file file_limit why ⊎ StopsAtGraph held file why ⊎ StopsBehindGraph held file name why
 
 -- the judge's verdict on the journal in one file by the graph in another, with at most so many starts
-pub record IsJudged (held : Held) (file name : List ℕ) (limit : ℕ) (verdict : Verdict) : Type 0 where
+pub record IsJudged (held : SourceTexts) (file name : List ℕ) (limit : ℕ) (verdict : Verdict) : Type 0 where
   pub plan : PlanRows
   pub graph : HasPlan held file plan
   pub journal : List Entry
@@ -69,14 +69,14 @@ abbrev pub IsAfterVerdict : Verdict → Status → Type 0
 IsAfterVerdict verdict status = (status ≡ status_by verdict) ⊎ ((status_by verdict ≡ Done) × (status ≡ WriteFault)) ⊎ (status ≡ NoMemory)
 
 -- there is a verdict, and it is reported
-pub record EndsJudged (held : Held) (file name : List ℕ) (limit : ℕ) (status : Status) (concluded : Option Conclusion) : Type 0 where
+pub record EndsJudged (held : SourceTexts) (file name : List ℕ) (limit : ℕ) (status : Status) (concluded : Option Conclusion) : Type 0 where
   pub verdict : Verdict
   pub only : concluded ≡ Some (conclusion.Verdict verdict)
   pub judged : IsJudged held file name limit verdict
   pub after : IsAfterVerdict verdict status
 
 -- How a call ends that is to judge a journal: before the verdict, for a reason that the status has, or after it.
-abbrev pub JudgeEnds : Held → List ℕ → List ℕ → ℕ → Status → Option Conclusion → Type 0
+abbrev pub JudgeEnds : SourceTexts → List ℕ → List ℕ → ℕ → Status → Option Conclusion → Type 0
 JudgeEnds held file name limit status concluded = StoppedBefore (StopsBeforeVerdict held file name) status (concluded ≡ None) ⊎ EndsJudged held file name limit status concluded
 
 -- which rule an entry breaks, as text
@@ -102,7 +102,7 @@ verdict_line (Breaks place why) = codes "breaks at " ++ decimal place ++ codes "
 -- What the command line asks to be judged can be judged whole, and breaks no rule: the source specifies what it holds;
 -- the graph file has no more bytes than may be read, and stands for a plan with a task to begin with, or without tasks;
 -- the journal file has no more bytes than may be read, and is the text of a journal on which the verdict is no break.
-pub record CanBeJudged (held : Held) (arguments : List (List ℕ)) : Type 0 where
+pub record CanBeJudged (held : SourceTexts) (arguments : List (List ℕ)) : Type 0 where
   pub file : List ℕ
   pub name : List ℕ
   pub limit : ℕ

@@ -12,8 +12,8 @@ use Rattle.call_status.specs.declared.stop.Stop.TheVariants.{BadGraph, NoSource,
 use Rattle.command_line.specs.Requests.{asked_by, run}
 
 -- the texts that a source holds, where it specifies them
-abbrev pub Held : Type 0
-Held = Option (List ℕ → Option (List ℕ))
+abbrev pub SourceTexts : Type 0
+SourceTexts = Option (List ℕ → Option (List ℕ))
 
 -- the most bytes of a graph file
 abbrev pub file_limit : ℕ
@@ -24,11 +24,11 @@ abbrev pub text_limit : ℕ
 text_limit = 16777215
 
 -- these bytes are held under the name, and are no more than may be read
-abbrev pub IsHeld : Held → List ℕ → ℕ → List ℕ → Type 0
+abbrev pub IsHeld : SourceTexts → List ℕ → ℕ → List ℕ → Type 0
 IsHeld held name max bytes = IfSome held (λ text. text name ≡ Some bytes) × (length bytes ≤ max)
 
 -- why the read of a name stops the call
-abbrev pub StopsAtName : Held → List ℕ → ℕ → Stop → Type 0
+abbrev pub StopsAtName : SourceTexts → List ℕ → ℕ → Stop → Type 0
 StopsAtName held name max (NoText n) = (n ≡ name) × IfSome held (λ text. text name ≡ None)
 StopsAtName held name max (LongText n) = (n ≡ name) × IfSome held (λ text. IsSomeAnd (text name) (λ bytes. max < length bytes))
 StopsAtName held name max (ReadFault n) = n ≡ name
@@ -36,26 +36,26 @@ StopsAtName held name max NoMemory = Unit {0}
 StopsAtName held name max stop = ⊥
 
 -- the text of a name: what is held under it, with an end to its last line
-pub record IsTextOf (held : Held) (name text : List ℕ) : Type 0 where
+pub record IsTextOf (held : SourceTexts) (name text : List ℕ) : Type 0 where
   pub bytes : List ℕ
   pub read : IsHeld held name text_limit bytes
   pub is : text ≡ normal bytes
 
 -- the texts of these names, in their order
-abbrev pub TextsAre : Held → List (List ℕ) → List (List ℕ) → Type 0
+abbrev pub TextsAre : SourceTexts → List (List ℕ) → List (List ℕ) → Type 0
 TextsAre held [] [] = Unit {0}
 TextsAre held [] (text ∷ texts) = ⊥
 TextsAre held (name ∷ names) [] = ⊥
 TextsAre held (name ∷ names) (text ∷ texts) = IsTextOf held name text × TextsAre held names texts
 
 -- the text of a name was read and stands behind the others
-pub record IsAdded (held : Held) (name : List ℕ) (old new : List (List ℕ)) : Type 0 where
+pub record IsAdded (held : SourceTexts) (name : List ℕ) (old new : List (List ℕ)) : Type 0 where
   pub text : List ℕ
   pub row : new ≡ old ++ text ∷ []
   pub read : IsTextOf held name text
 
 -- why reading the texts of these names stops the call: at the first that can't be read
-pub record StopsAtText (held : Held) (names : List (List ℕ)) (stop : Stop) : Type 0 where
+pub record StopsAtText (held : SourceTexts) (names : List (List ℕ)) (stop : Stop) : Type 0 where
   pub before : List (List ℕ)
   pub name : List ℕ
   pub after : List (List ℕ)
@@ -80,37 +80,37 @@ StopsAtBytes bytes (NoSource spot) = (plan : PlanRows) × PlanText bytes plan ×
 StopsAtBytes bytes stop = StopsAtPlan bytes stop
 
 -- the bytes held under the file's name stand for the plan, and the graph has a task to begin with
-pub record HasPlan (held : Held) (file : List ℕ) (plan : PlanRows) : Type 0 where
+pub record HasPlan (held : SourceTexts) (file : List ℕ) (plan : PlanRows) : Type 0 where
   pub bytes : List ℕ
   pub read : IsHeld held file file_limit bytes
   pub stands : PlanText bytes plan
   pub source : HasStart plan
 
 -- why the graph stops the call
-pub record StopsAtGraph (held : Held) (file : List ℕ) (stop : Stop) : Type 0 where
+pub record StopsAtGraph (held : SourceTexts) (file : List ℕ) (stop : Stop) : Type 0 where
   pub bytes : List ℕ
   pub read : IsHeld held file file_limit bytes
   pub stops : StopsAtBytes bytes stop
 
 -- why one of the plan's texts stops the call
-pub record StopsAtPlanText (held : Held) (file : List ℕ) (stop : Stop) : Type 0 where
+pub record StopsAtPlanText (held : SourceTexts) (file : List ℕ) (stop : Stop) : Type 0 where
   pub plan : PlanRows
   pub has : HasPlan held file plan
   pub stops : StopsAtText held plan.texts stop
 
 -- Why a call stops before its run: at the graph file, at the graph that it holds, or at a text.
-abbrev pub StopsBefore : Held → List ℕ → Stop → Type 0
+abbrev pub StopsBefore : SourceTexts → List ℕ → Stop → Type 0
 StopsBefore held file stop = StopsAtName held file file_limit stop ⊎ StopsAtGraph held file stop ⊎ StopsAtPlanText held file stop
 
 -- the job that a file asks for, over the texts as they are held, with at most so many starts
-pub record IsRequested (held : Held) (file : List ℕ) (limit : ℕ) (work : GraphWork) : Type 0 where
+pub record IsRequested (held : SourceTexts) (file : List ℕ) (limit : ℕ) (work : GraphWork) : Type 0 where
   pub plan : HasPlan held file work.plan
   pub texts : TextsAre held work.plan.texts work.texts
   pub top : work.«module» ≡ None
   pub input : work.input ≡ []
   pub starts : work.limit ≡ limit
 
-abbrev pub IsRequestedJob : Held → List ℕ → ℕ → TextJob → Type 0
+abbrev pub IsRequestedJob : SourceTexts → List ℕ → ℕ → TextJob → Type 0
 IsRequestedJob held file limit (Graph work) = IsRequested held file limit work
 
 -- How reads that stop the call for this reason count their faults: a failure that isn't reported was met where an
@@ -128,7 +128,7 @@ CountsReads before after (Err stop) = CountsStop stop before after
 -- The run that the command line asks for can be had whole: the source specifies what it holds; the file has no more bytes than may
 -- be read, and stands for a plan with a task to begin with, or without tasks; and each text that the plan names is
 -- held, with no more bytes than may be read.
-pub record IsAtHand (held : Held) (arguments : List (List ℕ)) : Type 0 where
+pub record IsAtHand (held : SourceTexts) (arguments : List (List ℕ)) : Type 0 where
   pub file : List ℕ
   pub limit : ℕ
   pub workers : ℕ

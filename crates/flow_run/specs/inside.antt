@@ -1,2 +1,3 @@
--- Internal: what private functions need of their arguments.
+-- Internal: what private functions need of their arguments, and what they do with them.
 pub mod Named
+pub mod Rooms

@@ -54,8 +54,9 @@ pub struct Outcome {
 /// Does what the command line `words` asks for: `run FILE` reads the graph file of this name and the texts that it names,
 /// runs the graph to its end, by as many workers as it says, and writes the run's report to `out`, or with `--journal` its
 /// journal; `judge FILE JOURNAL` reads the journal file of that name besides, and writes the judge's verdict; `check FILE`
-/// writes how the graph can go wrong. The line of the status goes to `notes`, the diagnostics sink. `rt` makes the threads
-/// of several workers and waits for them, so it isn't proved that the call returns.
+/// writes how the graph can go wrong. The line of the status goes to `notes`, the diagnostics sink. Of several workers
+/// each has a watcher, and there are no more of them than watchers. `rt` makes the threads of several workers and waits
+/// for them, so it isn't proved that the call returns.
 pub fn flow_main<F: Texts, S: Sink, N: Sink, R: Threads + Wait + Sync>(
     rt: &R,
     alloc: Global,
@@ -63,7 +64,7 @@ pub fn flow_main<F: Texts, S: Sink, N: Sink, R: Threads + Wait + Sync>(
     texts: &mut F,
     out: &mut S,
     notes: &mut N,
-    watchers: Vec<Box<dyn Watch + Send>>,
+    mut watchers: Vec<Box<dyn Watch + Send>>,
 ) -> Outcome
     requires nothing_held_on_out { (S.state out.old).held_back ≡ [] }
     requires nothing_held_on_notes { (N.state notes.old).held_back ≡ [] }
@@ -117,7 +118,7 @@ pub fn flow_main<F: Texts, S: Sink, N: Sink, R: Threads + Wait + Sync>(
         runs,
         conclusion,
         written,
-    } = answer(rt, alloc, words, texts, out);
+    } = answer(rt, alloc, words, texts, out, &mut watchers);
     let noted = put_note(alloc, notes, names_in(runs.as_slice()), &status);
     Outcome {
         status,
@@ -144,15 +145,17 @@ fn answer<F: Texts, S: Sink, R: Threads + Wait + Sync>(
     words: &[String],
     texts: &mut F,
     out: &mut S,
+    watchers: &mut Vec<Box<dyn Watch + Send>>,
 ) -> Ended
     requires { (S.state out.old).held_back ≡ [] }
     ensures ends { CallEnds (F.held texts.old) (map string_bytes words.now) result.status result.runs result.conclusion }
     ensures output { HasWritten S.state out.old out.new result.status ((result.runs ≡ []) × (result.conclusion ≡ None)) (output_of (map string_bytes words.now) result.runs result.conclusion) result.written }
     ensures read { HaveRead F.held F.faults texts.old texts.new result.status }
     ensures texts_untouched { result.status ≡ Status.BadWords → texts.new ≡ texts.old }
+    ensures watchers { watchers.new ≡ watchers.old }
 {
     match read_arguments(alloc, words) {
-        Ok(Request::Run(run)) => run_file(rt, alloc, run, texts, out),
+        Ok(Request::Run(run)) => run_file(rt, alloc, run, texts, out, watchers),
         Ok(Request::Judge(judge)) => judge_file(alloc, judge, texts, out),
         Ok(Request::Check(check)) => check_file(alloc, check, texts, out),
         Err(ArgumentsError::Refused) => stopped(alloc, Status::BadWords),
@@ -167,6 +170,7 @@ fn run_file<F: Texts, S: Sink, R: Threads + Wait + Sync>(
     run: Run<'_>,
     texts: &mut F,
     out: &mut S,
+    watchers: &mut Vec<Box<dyn Watch + Send>>,
 ) -> Ended
     requires limit { run.limit ≤ GREATEST_LIMIT }
     requires workers { (0 < run.workers) × (run.workers ≤ GREATEST_WORKERS) }
@@ -175,9 +179,10 @@ fn run_file<F: Texts, S: Sink, R: Threads + Wait + Sync>(
     ensures reported { Reported S.state out.old out.new result.status run.entry.journal result.runs result.written }
     ensures no_conclusion { result.conclusion ≡ None }
     ensures read { HaveRead F.held F.faults texts.old texts.new result.status }
+    ensures watchers { watchers.new ≡ watchers.old }
 {
     match prepare(rt, alloc, texts, run.file.as_bytes(), run.limit) {
-        Ok(job) => run_and_report(rt, alloc, job, run.workers, run.journal, out),
+        Ok(job) => run_and_report(rt, alloc, job, run.workers, run.journal, out, watchers),
         Err(stop) => stopped(alloc, Status::of(stop)),
     }
 }
@@ -203,6 +208,7 @@ fn run_and_report<S: Sink, R: Threads + Wait + Sync>(
     workers: u32,
     journal: bool,
     out: &mut S,
+    watchers: &mut Vec<Box<dyn Watch + Send>>,
 ) -> Ended
     requires job { IsTextJob job }
     requires workers { (0 < workers) × (workers ≤ GREATEST_WORKERS) }
@@ -210,8 +216,9 @@ fn run_and_report<S: Sink, R: Threads + Wait + Sync>(
     ensures ends { JobEnds job result.status result.runs }
     ensures reported { Reported S.state out.old out.new result.status journal result.runs result.written }
     ensures no_conclusion { result.conclusion ≡ None }
+    ensures watchers { watchers.new ≡ watchers.old }
 {
-    let Ok(KeptRuns { runs, reason }) = kept_runs(rt, alloc, job, workers) else {
+    let Ok(KeptRuns { runs, reason }) = kept_runs(rt, alloc, job, workers, watchers) else {
         return stopped(alloc, Status::NoMemory);
     };
     match deliver_runs(alloc, out, runs.as_slice(), journal) {
@@ -260,13 +267,15 @@ fn kept_runs<R: Threads + Wait + Sync>(
     alloc: Global,
     job: TextJob,
     workers: u32,
+    watchers: &mut Vec<Box<dyn Watch + Send>>,
 ) -> Result<KeptRuns, NoMemory>
     requires job { IsTextJob job }
     requires workers { (0 < workers) × (workers ≤ GREATEST_WORKERS) }
-    ensures { IfOk result (λ kept. KeptOnce job kept.runs kept.reason) }
+    ensures once { IfOk result (λ kept. KeptOnce job kept.runs kept.reason) }
+    ensures watchers { watchers.new ≡ watchers.old }
 {
     let job = Arc::new(alloc, job)?;
-    let run = run_by(rt, alloc, job, workers)?;
+    let run = run_by(rt, alloc, job, workers, watchers)?;
     let reason = reason_of(alloc, &run)?;
     let mut runs = List::new(alloc);
     runs.push(run)?;

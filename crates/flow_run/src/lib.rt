@@ -9,6 +9,7 @@
 mod call;
 mod checking;
 mod conclusion;
+mod fronts;
 mod judging;
 mod prepare;
 mod report;

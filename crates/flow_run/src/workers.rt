@@ -7,36 +7,45 @@ ghost use Rattle.run_frame.specs.NestedRule.{job_of};
 ghost use Rattle.text_tasks.specs.JobMeaning.{net_of, text_job};
 ghost use Rattle.worker_seat.specs.Crews.{IsEntered, MayEnter};
 
+use super::fronts::{put_front, take_front};
 use command_line::GREATEST_WORKERS;
 use outside_io::NoMemory;
 use run_frame::{FrameRun, run_alone};
+use span_profile::Watch;
 use std::alloc::Global;
 use std::sync::{Arc, Wait};
 use std::thread::{Threads, for_each_mut};
 use text_tasks::TextJob;
 use worker_seat::{Crew, CrewRan, EntersEach, WorkerSeat, run_by_crew};
 
-/// Runs a job to its end by so many workers. A single worker is the caller's thread, which needs no lock; several are a
-/// crew, whose seats are entered by threads. It answers `Err` only if an allocation fails.
+/// Runs a job to its end by so many workers, or by as many as there are watchers, where these are fewer. A single
+/// worker is the caller's thread, which needs no lock; several are a crew, whose seats are entered by threads. Each
+/// seat holds a watcher, the first one the first, and in the end they are where they were. It answers `Err` only if
+/// an allocation fails.
 pub(crate) fn run_by<R: Threads + Wait + Sync>(
     rt: &R,
     alloc: Global,
     job: Arc<TextJob>,
     workers: u32,
+    watchers: &mut Vec<Box<dyn Watch + Send>>,
 ) -> Result<FrameRun<TextJob>, NoMemory>
     requires workers { (0 < workers) × (workers ≤ GREATEST_WORKERS) }
     requires flat { IsFlatNet (net_of (arc_value job)) }
     ensures job { IfOk result (λ run. job_of run ≡ arc_value job) }
     ensures kept { IfOk result (IsKept text_job) }
+    ensures watchers { watchers.new ≡ watchers.old }
 {
-    if workers == 1 {
+    let seats = watchers.len().min(workers as usize);
+    if seats < 2 {
         return run_alone(alloc, job);
     }
-    let watchers = vec![in alloc; (); workers as usize]?;
-    let CrewRan { run, watchers } = run_by_crew::<TextJob, (), ByThreads, R>(
-        rt, alloc, watchers, job,
-    );
-    drop(watchers);
+    let room = Vec::with_capacity(alloc, seats)?;
+    let seated = take_front(watchers, seats, room);
+    let CrewRan {
+        run,
+        watchers: seated,
+    } = run_by_crew::<TextJob, Box<dyn Watch + Send>, ByThreads, R>(rt, alloc, seated, job);
+    put_front(watchers, seated);
     match run {
         Some(run) => Ok(run),
         None => Err(NoMemory),
@@ -46,18 +55,18 @@ pub(crate) fn run_by<R: Threads + Wait + Sync>(
 // The threads of the seats.
 struct ByThreads;
 
-impl EntersEach<TextJob, ()> for ByThreads {
+impl EntersEach<TextJob, Box<dyn Watch + Send>> for ByThreads {
     fn enter_each<R: Threads + Wait + Sync>(
         rt: &R,
         crew: &Crew<TextJob>,
-        seats: &mut [WorkerSeat<TextJob, ()>],
+        seats: &mut [WorkerSeat<TextJob, Box<dyn Watch + Send>>],
     ) {
         let threads = seats.len().max(1);
         for_each_mut(
             rt,
             seats,
             threads,
-            &|_, seat: &mut WorkerSeat<TextJob, ()>|
+            &|_, seat: &mut WorkerSeat<TextJob, Box<dyn Watch + Send>>|
                 requires { MayEnter crew.now seat.old }
                 ensures { IsEntered seat.old seat.new }
             { crew.work_at(rt, seat) },

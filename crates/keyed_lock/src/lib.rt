@@ -11,8 +11,9 @@
 //! in the slot, `TAKEN` while one caller has it, and `AWAITED` while one caller has it and others may sleep.
 //!
 //! - `take` turns `FREE` into `TAKEN` by a compare-exchange, and the caller who does so is the one who takes the
-//!   value out of the slot. Whoever finds another word looks again for a short while, then swaps in `AWAITED`: if
-//!   it finds `FREE` there the value is its own, and otherwise it sleeps on the word.
+//!   value out of the slot. Whoever finds another word looks again for a short while, while nobody sleeps, and tries
+//!   once more. Then it swaps in `AWAITED`: if it finds `FREE` there the value is its own, and otherwise it sleeps on
+//!   the word. Who has slept takes the lock by that swap alone.
 //! - `put` lays the value into the slot and swaps in `FREE`. If it finds `AWAITED` it wakes one sleeper, who swaps
 //!   in `AWAITED` again, so that no other sleeper is forgotten. Where it finds `TAKEN` it makes no call to the system.
 //!

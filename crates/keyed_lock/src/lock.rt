@@ -52,7 +52,7 @@ pub struct Held<T: Keyed + Drop> {
 
 impl<T: Keyed + Drop> KeyedLock<T> {
     ghost use Rattle.keyed_lock.specs.Locks.{made_with, IsLockPass};
-    ghost use Rattle.keyed_lock.specs.inside.Rule.{HasValue};
+    ghost use Rattle.keyed_lock.specs.inside.Rule.{HasValue, TakesIfFree};
 
     /// A lock with this value, which comes back if an allocation fails.
     pub fn new(alloc: Global, value: T) -> Result<KeyedLock<T>, Back<T>>
@@ -80,15 +80,20 @@ impl<T: Keyed + Drop> KeyedLock<T> {
     {
         let shared = &self.table.shared;
         let (_, mut seat) = shared.load_new_seat::<Enters>(WORD);
-        if shared.compare_exchange::<Takes>(&mut seat, WORD, FREE, TAKEN) == FREE {
+        if self.take_unmarked(&mut seat) == FREE {
             return self.take_out(seat);
         }
+        self.look_for_free();
+        if self.take_unmarked(&mut seat) == FREE {
+            return self.take_out(seat);
+        }
+        // Who is about to sleep marks the word, and so does who has slept, since others may sleep still.
         for _ in rt.forever() {
-            self.look_for_free();
             if shared.swap::<Takes>(&mut seat, WORD, AWAITED) == FREE {
                 return self.take_out(seat);
             }
             shared.park(rt, WORD, AWAITED as u32);
+            self.look_for_free();
         }
         unreachable!()
     }
@@ -107,6 +112,18 @@ impl<T: Keyed + Drop> KeyedLock<T> {
         }
     }
 
+    // Takes the lock if the word is `FREE`, and says what the word was. It leaves no mark, so that `put` wakes nobody.
+    fn take_unmarked(&self, seat: &mut Seat<Option<T>, Snapshot<T>>) -> u64
+        requires table { seat.old.table_id ≡ self.now.table.shared.table_id }
+        requires first { seat.old.me ≡ (self.now.table.shared.key, []) }
+        ensures table { seat.new.table_id ≡ seat.old.table_id }
+        ensures taken { TakesIfFree T.key seat.old.me result seat.new.me }
+    {
+        self.table
+            .shared
+            .compare_exchange::<Takes>(seat, WORD, FREE, TAKEN)
+    }
+
     // Empties the slot, which the seat holds.
     fn take_out(&self, mut seat: Seat<Option<T>, Snapshot<T>>) -> Held<T>
         requires table { seat.table_id ≡ self.now.table.shared.table_id }
@@ -122,10 +139,10 @@ impl<T: Keyed + Drop> KeyedLock<T> {
         }
     }
 
-    // Looks until the word is `FREE`, a few times.
+    // Looks at the word a few times, while it is taken and nobody sleeps for it.
     fn look_for_free(&self) {
         for _ in 0..LOOKS {
-            if self.table.shared.peek(WORD) == FREE {
+            if self.table.shared.peek(WORD) != TAKEN {
                 return;
             }
             spin_loop();

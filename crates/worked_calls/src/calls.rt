@@ -1,7 +1,9 @@
 // Calls of the program over texts and sinks in memory.
+use crate::watchers::{are_in_order, span_count_of};
 use call_status::Noted;
 use flow_run::{Outcome, flow_main};
 use outside_io::{Bytes, FailAt, List, MemorySink, MemoryTexts, NoMemory};
+use span_profile::Watch;
 use std::alloc::{AllocError, Global};
 use std::str;
 use std::sync::Wait;
@@ -12,7 +14,8 @@ pub const COUNT: &str = r#"{"tasks":[
     {"name":"a","op":"read","text":"t","to":["b"]},
     {"name":"b","op":"count"}]}"#;
 
-// A call that finds a graph file `g` and the texts `t` and `u`, and the calls of texts and sinks that fail in it.
+// A call that finds a graph file `g` and the texts `t` and `u`, the calls of texts and sinks that fail in it, and how
+// many watchers it is handed.
 #[derive(Clone, Copy)]
 pub struct Call<'a> {
     pub words: &'a [&'a str],
@@ -22,9 +25,10 @@ pub struct Call<'a> {
     pub failing_reads: &'a [u64],
     pub failing_puts: &'a [FailAt],
     pub failing_notes: &'a [FailAt],
+    pub watchers: u64,
 }
 
-// A call of `run g` in which no call of texts and sinks fails.
+// A call of `run g` with 16 watchers, in which no call of texts and sinks fails.
 pub fn run<'a>(graph: &'a [u8], text: &'a [u8]) -> Call<'a> {
     Call {
         words: &["run", "g"],
@@ -34,6 +38,7 @@ pub fn run<'a>(graph: &'a [u8], text: &'a [u8]) -> Call<'a> {
         failing_reads: &[],
         failing_puts: &[],
         failing_notes: &[],
+        watchers: 16,
     }
 }
 
@@ -58,8 +63,9 @@ fn shown_bytes(sink: &MemorySink) -> &str {
     str::from_utf8(sink.bytes()).unwrap_or("?")
 }
 
-// The exit code, whether all was written and noted, and how many entries each run's journal has.
-fn shown_outcome(alloc: Global, outcome: &Outcome) -> Result<String, AllocError> {
+// The exit code, whether all was written and noted, how many entries each run's journal has, and whether the watchers
+// are out of order.
+fn shown_outcome(alloc: Global, outcome: &Outcome, watchers: u64) -> Result<String, AllocError> {
     let written = if outcome.written { "written" } else { "cut" };
     let mut shown = format!(in alloc; "{} {written}", outcome.status.code())?;
     match outcome.noted {
@@ -69,6 +75,9 @@ fn shown_outcome(alloc: Global, outcome: &Outcome) -> Result<String, AllocError>
     }
     for run in &outcome.runs {
         shown.push_str(format!(in alloc; ", run of {}", run.journal.len())?.as_str())?;
+    }
+    if !are_in_order(outcome.watchers.as_slice(), watchers) {
+        shown.push_str(", watchers out of order")?;
     }
     Ok(shown)
 }
@@ -89,7 +98,7 @@ fn sink(alloc: Global, failing: &[FailAt]) -> Result<MemorySink, NoMemory> {
     Ok(MemorySink::new(alloc, List::from_slice(alloc, failing)?))
 }
 
-// Calls the program, and shows how the call ends.
+// Calls the program with so many watchers, and shows how the call ends.
 fn shown_end<R: Threads + Wait + Sync>(
     rt: &R,
     alloc: Global,
@@ -97,9 +106,14 @@ fn shown_end<R: Threads + Wait + Sync>(
     texts: &mut MemoryTexts,
     out: &mut MemorySink,
     notes: &mut MemorySink,
-) -> Result<String, AllocError> {
-    let outcome = flow_main(rt, alloc, words, texts, out, notes, Vec::new(alloc));
-    shown_outcome(alloc, &outcome)
+    count: u64,
+) -> Result<String, NoMemory> {
+    let mut watchers: Vec<Box<dyn Watch + Send>> = Vec::new(alloc);
+    for spans in 0..count {
+        watchers.push(Box::new(alloc, span_count_of(spans)?)?)?;
+    }
+    let outcome = flow_main(rt, alloc, words, texts, out, notes, watchers);
+    Ok(shown_outcome(alloc, &outcome, count)?)
 }
 
 // Three texts on a line.
@@ -124,6 +138,7 @@ pub fn shown<R: Threads + Wait + Sync>(
         &mut texts,
         &mut out,
         &mut notes,
+        call.watchers,
     )?;
     Ok(joined(alloc, end.as_str(), shown_bytes(&out), shown_bytes(&notes))?)
 }

@@ -1,7 +1,8 @@
 //! Calls of the program, worked as examples. There is nothing here but tests.
 //!
 //! Each call is one of `flow_main` over texts and sinks in memory; a test shows the exit code, how many entries the
-//! journal of each kept run has, and what both sinks took. The lines of statuses are also put by themselves.
+//! journal of each kept run has, what both sinks took, and where the watchers didn't come back in their order. The
+//! lines of statuses are also put by themselves.
 #![tactic(auto)]
 
 #[cfg(test)]
@@ -24,3 +25,5 @@ mod notes;
 mod operations;
 #[cfg(test)]
 mod refused;
+#[cfg(test)]
+mod watchers;

@@ -34,11 +34,11 @@ changed_set f (suc n) [] y lt is = absurd (omega arith)
 changed_set f (suc n) (x ∷ xs) y lt is = ap (λ ys. f x ∷ ys) (changed_set f n xs y (omega arith) is)
 
 module _ {J V X : Type 0} where
-  pub moved_next : (to : SeatState J → SeatState J) (n : ℕ) (xs ys : List (WorkerSeat J X V)) (seat : WorkerSeat J X V) (place : SeatState J)
-      → ys ≡ changed (moved to) n xs → n < length xs → seat ≡ slice_index_or ys n seat → place ≡ to (slice_index_or ys n seat).place
-      → slice_set ys n record { watcher = (slice_index_or ys n seat).watcher; place = place } ≡ changed (moved to) (n + 1) xs
-  moved_next to n xs ys seat place e lt is went =
-      subst (λ (p : SeatState J). slice_set ys n record { watcher = (slice_index_or ys n seat).watcher; place = p } ≡ changed (moved to) (n + 1) xs) (sym went)
+  pub moved_next : (to : SeatState J → SeatState J) (n : ℕ) (xs ys : List (WorkerSeat J X V)) (seat : WorkerSeat J X V) (station : SeatState J)
+      → ys ≡ changed (moved to) n xs → n < length xs → seat ≡ slice_index_or ys n seat → station ≡ to (slice_index_or ys n seat).station
+      → slice_set ys n record { watcher = (slice_index_or ys n seat).watcher; station = station } ≡ changed (moved to) (n + 1) xs
+  moved_next to n xs ys seat station e lt is went =
+      subst (λ (p : SeatState J). slice_set ys n record { watcher = (slice_index_or ys n seat).watcher; station = p } ≡ changed (moved to) (n + 1) xs) (sym went)
       (subst (λ (s : WorkerSeat J X V). slice_set ys n (moved to s) ≡ changed (moved to) (n + 1) xs) is
       (rw add-one
       (subst (λ (zs : List (WorkerSeat J X V)). seat ≡ slice_index_or zs n seat → slice_set zs n (moved to seat) ≡ changed (moved to) (suc n) xs) (sym e)

@@ -26,8 +26,8 @@ use Rattle.ready_deques.specs.contracts.owner.Owner as owner_type
 use Rattle.worker_seat.specs.contracts.item.CrewItemTagged.TheImpl as tagged
 use Rattle.ready_deques.proofs.ready.Ready.TheSendSync as ready
 use Rattle.worker_seat.specs.contracts.attendance.Attendance as attendance
-use Rattle.worker_seat.specs.contracts.place.Place as place
-use Rattle.worker_seat.specs.contracts.place.Place.TheInside as place_inside
+use Rattle.worker_seat.specs.contracts.station.Station as station
+use Rattle.worker_seat.specs.contracts.station.Station.TheInside as station_inside
 use Rattle.worker_seat.specs.contracts.seat.WorkerSeat as worker_seat
 use Rattle.worker_seat.specs.contracts.crew.Crew as crew
 use Rattle.worker_seat.specs.contracts.item.CrewItem as item
@@ -83,11 +83,11 @@ module _ (T V : RattleType) (J : Job.Ghosts T.Denot V.Denot) (W : Valued.Ghosts 
   attendance_send : IsSend (attendance.the_row T V J W)
   attendance_send = search (crew_run_send, crew_run_sync, tables) depth 60 fits 20000
 
-  place_fields : IsSend (place_inside.the_row T V J W)
-  place_fields = declared_send (place_inside.the_type T V J W) (as_row_send (owner_type.the_field (item.the_row T V J W) (tagged.ghosts T V J tagged.no_dict W tagged.no_dict tagged.no_dict)) (owner.the_send _ _ item_send), (search (attendance_send, tables) depth 60 fits 20000, (search (tables) depth 60 fits 20000, tt)))
+  station_fields : IsSend (station_inside.the_row T V J W)
+  station_fields = declared_send (station_inside.the_type T V J W) (as_row_send (owner_type.the_field (item.the_row T V J W) (tagged.ghosts T V J tagged.no_dict W tagged.no_dict tagged.no_dict)) (owner.the_send _ _ item_send), (search (attendance_send, tables) depth 60 fits 20000, (search (tables) depth 60 fits 20000, tt)))
 
-  place_send : IsSend (place.the_row T V J W)
-  place_send = search (place_fields, sendable)
+  station_send : IsSend (station.the_row T V J W)
+  station_send = search (station_fields, sendable)
 
   -- a crew is shared
   pub crew_sync : IsSync (crew.the_row T V J W)
@@ -95,4 +95,4 @@ module _ (T V : RattleType) (J : Job.Ghosts T.Denot V.Denot) (W : Valued.Ghosts 
 
   -- a seat is sent, with a watcher that may be
   pub seat_send : (X : RattleType) → IsSend X → IsSend (worker_seat.the_row T X V J W)
-  seat_send X x = search (place_send, tables) depth 60 fits 20000
+  seat_send X x = search (station_send, tables) depth 60 fits 20000

@@ -10,7 +10,7 @@ use Rattle.run_frame.specs.NestedRule.{job_of}
 use Rattle.worker_seat.specs.declared.crew.Crew.{Crew}
 use Rattle.worker_seat.specs.declared.seat.WorkerSeat.{WorkerSeat}
 use Rattle.worker_seat.specs.Seats.{SeatState, IsClosedWith, at_job, away}
-use Rattle.worker_seat.specs.Crews.{moved, state_of, watcher_of, crew_of, AreEntered, AreSeatsOf, IsEntered, IsKeptOf, IsOpen, IsRunOf, IsSeatOf, MayEnter}
+use Rattle.worker_seat.specs.Crews.{moved, state_of, watcher_of, crew_of, AreEntered, AreSeatsOf, IsEntered, IsFoundRunOf, IsKeptOf, IsOpen, IsSeatOf, MayEnter}
 
 abbrev some_or : {Y : Type 0} → Y → Option Y → Y
 some_or y None = y
@@ -39,7 +39,7 @@ module _ {J V X : Type 0} where
       subst (λ (zs : List (WorkerSeat J X V)). All P zs) (sym e) (All-map P (moved (at_job job)) xs (λ k d lt. refl))
 
   -- a seat that was entered keeps what found_closed and refused_seat leave alone
-  kept_by : {Y : Type 0} (f : WorkerSeat J X V → Y) → ((s : WorkerSeat J X V) (c r : _) → f record s { place = record s.place { closed = c; refused = r } } ≡ f s)
+  kept_by : {Y : Type 0} (f : WorkerSeat J X V → Y) → ((s : WorkerSeat J X V) (c r : _) → f record s { station = record s.station { closed = c; refused = r } } ≡ f s)
       → (old new : WorkerSeat J X V) → IsEntered old new → f new ≡ f old
   kept_by f same old new (inl closed) = ap f closed ∙ same old _ _
   kept_by f same old new (inr refused) = ap f refused ∙ same old _ _
@@ -66,14 +66,14 @@ module _ {J V X : Type 0} where
 
   -- a run that is of seats at the run of a job is of that job
   run_of_job : (meaning : Meaning J V) (job : J) (xs : List (WorkerSeat J X V)) (run : FrameRun J V)
-      → All (λ (s : WorkerSeat J X V). (state_of s).job ≡ Some job) xs → IsRunOf meaning xs run → IsKeptOf meaning job run
+      → All (λ (s : WorkerSeat J X V). (state_of s).job ≡ Some job) xs → IsFoundRunOf meaning xs run → IsKeptOf meaning job run
   run_of_job meaning job xs run all is = record { kept = is.kept; same = by_place is.found.0 is.found.1 is.found.2 is.found.3 is.found.4 }
     where
       by_place : (k : ℕ) (one : WorkerSeat J X V) → k < length xs → slice_index_or xs k one ≡ one → IsClosedWith (job_of run) (state_of one) → job_of run ≡ job
       by_place k one below at closed = ap (some_or job) (sym closed.1 ∙ ap (λ (s : WorkerSeat J X V). (state_of s).job) (sym at) ∙ all k one below)
 
   pub run_is_kept : (meaning : Meaning J V) (job : J) (xs : List (WorkerSeat J X V)) (o : Option (FrameRun J V))
-      → All (λ (s : WorkerSeat J X V). (state_of s).job ≡ Some job) xs → IfSome o (IsRunOf meaning xs) → IfSome o (IsKeptOf meaning job)
+      → All (λ (s : WorkerSeat J X V). (state_of s).job ≡ Some job) xs → IfSome o (IsFoundRunOf meaning xs) → IfSome o (IsKeptOf meaning job)
   run_is_kept meaning job xs None all is = tt
   run_is_kept meaning job xs (Some run) all is = run_of_job meaning job xs run all is
 

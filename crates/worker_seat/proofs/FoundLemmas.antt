@@ -13,7 +13,7 @@ use Rattle.run_frame.specs.Legal.{IsKept}
 use Rattle.run_frame.specs.NestedRule.{job_of}
 use Rattle.worker_seat.specs.declared.seat.WorkerSeat.{WorkerSeat}
 use Rattle.worker_seat.specs.Seats.{SeatState, IsClosedWith, away}
-use Rattle.worker_seat.specs.Crews.{moved, state_of, IsOpen, IsRunOf}
+use Rattle.worker_seat.specs.Crews.{moved, state_of, IsFoundRunOf, IsOpen}
 
 -- what can't tell an item from another sees the same list with either
 map_set_same : {X Y : Type 0} (f : X → Y) (xs : List X) (i : ℕ) (y d : X) → i < length xs → f y ≡ f (slice_index_or xs i d) → map f (slice_set xs i y) ≡ map f xs
@@ -36,21 +36,21 @@ module _ {J V X : Type 0} where
       let out : length xs ≤ position_or_len has_closed xs = grind (arith, common_steps) in
       λ k d lt. fails_before_first has_closed xs k d (omega arith)
 
-  pub left_all : (xs new : List (WorkerSeat J X V)) (i : ℕ) (d : WorkerSeat J X V) (place : SeatState J) → i < length xs → place ≡ away (slice_index_or xs i d).place
-      → new ≡ map (moved away) (slice_set xs i record { watcher = (slice_index_or xs i d).watcher; place = place }) → new ≡ map (moved away) xs
-  left_all xs new i d place lt went e =
-      e ∙ map_set_same (moved away) xs i record { watcher = (slice_index_or xs i d).watcher; place = place } d lt
-      (ap (λ (p : SeatState J). moved away record { watcher = (slice_index_or xs i d).watcher; place = p }) went)
+  pub left_all : (xs new : List (WorkerSeat J X V)) (i : ℕ) (d : WorkerSeat J X V) (station : SeatState J) → i < length xs → station ≡ away (slice_index_or xs i d).station
+      → new ≡ map (moved away) (slice_set xs i record { watcher = (slice_index_or xs i d).watcher; station = station }) → new ≡ map (moved away) xs
+  left_all xs new i d station lt went e =
+      e ∙ map_set_same (moved away) xs i record { watcher = (slice_index_or xs i d).watcher; station = station } d lt
+      (ap (λ (p : SeatState J). moved away record { watcher = (slice_index_or xs i d).watcher; station = p }) went)
 
   run_found : (meaning : Meaning J V) (xs : List (WorkerSeat J X V)) (i : ℕ) (d : WorkerSeat J X V) (run : FrameRun J V) → i < length xs
-      → IsKept meaning run × IsClosedWith (job_of run) (slice_index_or xs i d).place → IsRunOf meaning xs run
+      → IsKept meaning run × IsClosedWith (job_of run) (slice_index_or xs i d).station → IsFoundRunOf meaning xs run
   run_found meaning xs i d run lt got = record {
     kept = got.0;
     found = (i, slice_index_or xs i d, lt, get_or_default xs i (slice_index_or xs i d) d lt, got.1);
   }
 
   pub run_found_if : (meaning : Meaning J V) (xs : List (WorkerSeat J X V)) (i : ℕ) (d : WorkerSeat J X V) (o : Option (FrameRun J V)) → i < length xs
-      → IfSome o (λ run. IsKept meaning run × IsClosedWith (job_of run) (slice_index_or xs i d).place) → IfSome o (IsRunOf meaning xs)
+      → IfSome o (λ run. IsKept meaning run × IsClosedWith (job_of run) (slice_index_or xs i d).station) → IfSome o (IsFoundRunOf meaning xs)
   run_found_if meaning xs i d None lt got = tt
   run_found_if meaning xs i d (Some run) lt got = run_found meaning xs i d run lt got
 

@@ -10,7 +10,7 @@ use Rattle.run_frame.specs.NestedRule.{job_of}
 use Rattle.worker_seat.specs.declared.crew.Crew.{Crew}
 use Rattle.worker_seat.specs.declared.seat.WorkerSeat.{WorkerSeat}
 use Rattle.worker_seat.specs.Seats.{CrewState, SeatState, crew_state, new_seat, IsBusy, at_job, found_closed, away, refused_seat, left_refused, IsClosedWith}
-use Rattle.worker_seat.specs.Crews.{state_of, watcher_of, crew_of, moved, IsSeatOf, AreSeatsOf, MayBegin, MayEnter, IsEntered, AreEntered, IsOpen, IsKeptOf, IsRunOf}
+use Rattle.worker_seat.specs.Crews.{state_of, watcher_of, crew_of, moved, IsSeatOf, AreSeatsOf, MayBegin, MayEnter, IsEntered, AreEntered, IsOpen, IsKeptOf, IsFoundRunOf}
 
 -- two lists, which differ in their numbers of words
 abbrev here : TableId
@@ -73,7 +73,7 @@ a_seat_has_not_found_another_run_closed (closed, job) = cc
 
 module _ (V : Type 0) {X : Type 0} (watcher : X) where
   abbrev seat : SeatState ℕ → WorkerSeat ℕ X V
-  seat state = record { watcher = watcher; place = state }
+  seat state = record { watcher = watcher; station = state }
 
   a_seat_has_a_state : state_of (seat at_seven) ≡ at_seven
   a_seat_has_a_state = refl
@@ -117,8 +117,8 @@ module _ (V : Type 0) {X : Type 0} (watcher : X) where
   entered_and_refused = inr refl
 
   not_entered : ¬ IsEntered (seat at_seven) (seat at_seven)
-  not_entered (inl closed) = let same : false ≡ true = ap (λ (s : WorkerSeat ℕ X V). s.place.closed) closed in cc
-  not_entered (inr refused) = let same : false ≡ true = ap (λ (s : WorkerSeat ℕ X V). s.place.refused) refused in cc
+  not_entered (inl closed) = let same : false ≡ true = ap (λ (s : WorkerSeat ℕ X V). s.station.closed) closed in cc
+  not_entered (inr refused) = let same : false ≡ true = ap (λ (s : WorkerSeat ℕ X V). s.station.refused) refused in cc
 
   both_entered : AreEntered (seat at_seven ∷ seat at_seven ∷ []) (seat found_seven ∷ seat refused_at_seven ∷ [])
   both_entered zero d below = entered_and_found_closed
@@ -148,20 +148,20 @@ module _ (V : Type 0) {X : Type 0} (watcher : X) where
   second_of_another_list crew two are = a_seat_of_another_list crew two (recursion_from_All (IsSeatOf crew) (seat fresh ∷ seat (new_seat there) ∷ []) are.of_crew).1.0
 
   -- A run is handed out that may be kept, and that one of the seats, whichever, has found closed.
-  found_by_the_second : (meaning : Meaning ℕ V) (run : FrameRun ℕ V) → IsKept meaning run → job_of run ≡ 7 → IsRunOf meaning (seat fresh ∷ seat found_seven ∷ []) run
+  found_by_the_second : (meaning : Meaning ℕ V) (run : FrameRun ℕ V) → IsKept meaning run → job_of run ≡ 7 → IsFoundRunOf meaning (seat fresh ∷ seat found_seven ∷ []) run
   found_by_the_second meaning run kept job = record { kept = kept; found = (1, seat found_seven, omega arith, refl, (refl, ap Some (sym job))) }
 
-  found_but_not_kept : (meaning : Meaning ℕ V) (run : FrameRun ℕ V) → ¬ IsKept meaning run → ¬ IsRunOf meaning (seat found_seven ∷ []) run
+  found_but_not_kept : (meaning : Meaning ℕ V) (run : FrameRun ℕ V) → ¬ IsKept meaning run → ¬ IsFoundRunOf meaning (seat found_seven ∷ []) run
   found_but_not_kept meaning run never is = never is.kept
 
-  found_by_none : (meaning : Meaning ℕ V) (run : FrameRun ℕ V) → ¬ IsRunOf meaning (seat at_seven ∷ []) run
+  found_by_none : (meaning : Meaning ℕ V) (run : FrameRun ℕ V) → ¬ IsFoundRunOf meaning (seat at_seven ∷ []) run
   found_by_none meaning run is = by_place is.found.0 is.found.1 is.found.2 is.found.3 is.found.4
     where
       by_place : (k : ℕ) (one : WorkerSeat ℕ X V) → k < 1 → slice_index_or (seat at_seven ∷ []) k one ≡ one → IsClosedWith (job_of run) (state_of one) → ⊥
-      by_place zero one below at closed = let same : true ≡ false = sym closed.0 ∙ sym (ap (λ (s : WorkerSeat ℕ X V). s.place.closed) at) in absurd (cc)
+      by_place zero one below at closed = let same : true ≡ false = sym closed.0 ∙ sym (ap (λ (s : WorkerSeat ℕ X V). s.station.closed) at) in absurd (cc)
       by_place (suc k) one below at closed = absurd (omega (arith, below))
 
-  another_run_found : (meaning : Meaning ℕ V) (run : FrameRun ℕ V) → job_of run ≡ 8 → ¬ IsRunOf meaning (seat found_seven ∷ []) run
+  another_run_found : (meaning : Meaning ℕ V) (run : FrameRun ℕ V) → job_of run ≡ 8 → ¬ IsFoundRunOf meaning (seat found_seven ∷ []) run
   another_run_found meaning run job is = by_place is.found.0 is.found.1 is.found.2 is.found.3 is.found.4
     where
       job_of_seat : Option ℕ → ℕ
@@ -169,7 +169,7 @@ module _ (V : Type 0) {X : Type 0} (watcher : X) where
       job_of_seat (Some j) = j
 
       by_place : (k : ℕ) (one : WorkerSeat ℕ X V) → k < 1 → slice_index_or (seat found_seven ∷ []) k one ≡ one → IsClosedWith (job_of run) (state_of one) → ⊥
-      by_place zero one below at closed = absurd (omega (arith, job, ap (λ (s : WorkerSeat ℕ X V). job_of_seat s.place.job) at, ap job_of_seat closed.1))
+      by_place zero one below at closed = absurd (omega (arith, job, ap (λ (s : WorkerSeat ℕ X V). job_of_seat s.station.job) at, ap job_of_seat closed.1))
       by_place (suc k) one below at closed = absurd (omega (arith, below))
 
   -- A run is a kept one of a job where it may be kept and is of that job.

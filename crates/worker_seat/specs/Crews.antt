@@ -10,7 +10,7 @@ use Rattle.worker_seat.specs.Seats.{CrewState, SeatState, IsBusy, IsClosedWith, 
 
 -- where a seat is
 abbrev pub state_of : {J V X : Type 0} → WorkerSeat J X V → SeatState J
-state_of seat = seat.place
+state_of seat = seat.station
 
 -- its watcher
 abbrev pub watcher_of : {J V X : Type 0} → WorkerSeat J X V → X
@@ -22,7 +22,7 @@ crew_of crew = crew.list
 
 -- the seat somewhere else, with its watcher
 abbrev pub moved : {J V X : Type 0} → (SeatState J → SeatState J) → WorkerSeat J X V → WorkerSeat J X V
-moved to seat = record seat { place = to seat.place }
+moved to seat = record seat { station = to seat.station }
 
 -- the seat is one of this crew
 abbrev pub IsSeatOf : {J V X : Type 0} → Crew J V → WorkerSeat J X V → Type 0
@@ -61,6 +61,6 @@ pub record IsKeptOf {J V : Type 0} (meaning : Meaning J V) (job : J) (run : Fram
   pub same : job_of run ≡ job
 
 -- One of the seats has found a run closed: this one, which may be kept
-pub record IsRunOf {J V X : Type 0} (meaning : Meaning J V) (seats : List (WorkerSeat J X V)) (run : FrameRun J V) : Type 0 where
+pub record IsFoundRunOf {J V X : Type 0} (meaning : Meaning J V) (seats : List (WorkerSeat J X V)) (run : FrameRun J V) : Type 0 where
   pub kept : IsKept meaning run
   pub found : Any (λ seat. IsClosedWith (job_of run) (state_of seat)) seats

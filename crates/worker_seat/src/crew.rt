@@ -32,7 +32,7 @@ pub struct CrewParts<J: Job + Drop, X> {
 
 impl<J: Job + Drop> Crew<J> {
     ghost use Rattle.worker_seat.specs.Seats.{IsBusy, at_job, away, found_closed, left_refused, refused_seat};
-    ghost use Rattle.worker_seat.specs.Crews.{AreSeatsOf, IsEntered, IsOpen, IsRunOf, IsSeatOf, MayBegin, MayEnter, moved, state_of, watcher_of};
+    ghost use Rattle.worker_seat.specs.Crews.{AreSeatsOf, IsEntered, IsFoundRunOf, IsOpen, IsSeatOf, MayBegin, MayEnter, moved, state_of, watcher_of};
 
     /// A crew with a seat for each of 1 to 16 watchers, in their order. They come back if an allocation fails.
     pub fn new<X: Drop>(alloc: Global, watchers: Vec<X>) -> Result<CrewParts<J, X>, Back<Vec<X>>>
@@ -91,10 +91,10 @@ impl<J: Job + Drop> Crew<J> {
         ensures ok { OnOk result (seat.new ≡ moved found_closed seat.old) }
         ensures err { OnErr result (seat.new ≡ moved refused_seat seat.old) }
     {
-        if seat.place.work(rt, &self.list.ready).is_err() {
+        if seat.station.work(rt, &self.list.ready).is_err() {
             self.list.ready.close(); // the run is never closed, so nobody has to wait for it
         }
-        seat.place.conclude(rt)
+        seat.station.conclude(rt)
     }
 
     /// Enters a seat, and leaves it to the seat what came of that.
@@ -116,7 +116,7 @@ impl<J: Job + Drop> Crew<J> {
         seats: &mut Vec<WorkerSeat<J, X>>,
     ) -> Option<FrameRun<J>>
         requires { AreSeatsOf self.now seats.old.items }
-        ensures run { IfSome result (IsRunOf J.meaning seats.old.items) }
+        ensures run { IfSome result (IsFoundRunOf J.meaning seats.old.items) }
         ensures left { IsSome result → seats.new.items ≡ map (moved away) seats.old.items }
         ensures none { IsNone result → All IsOpen seats.old.items × (seats.new.items ≡ seats.old.items) }
     {

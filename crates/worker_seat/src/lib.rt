@@ -36,9 +36,9 @@ mod crew_run;
 mod entering;
 mod item;
 mod list;
-mod place;
 mod seat;
 mod seats;
+mod station;
 mod steps;
 
 pub use crew::{Crew, CrewParts};

@@ -2,16 +2,16 @@
 ghost use Rattle.std.specs.Prelude.{◌≡◌, ◌↔◌, [], IsTrue};
 
 use crate::item::CrewItem;
-use crate::place::Place;
+use crate::station::Station;
 use ready_deques::Owner;
 use run_frame::Job;
 use span_profile::Watch;
 
-/// A worker's place in a crew, for a thread of the caller, with its watcher of type `X`.
+/// A worker's seat in a crew, for a thread of the caller, with its watcher of type `X`.
 #[derive(Drop)]
 pub struct WorkerSeat<J: Job + Drop, X> {
     pub(crate) watcher: X,
-    pub(crate) place: Place<J>,
+    pub(crate) station: Station<J>,
 }
 
 impl<J: Job + Drop, X: Watch> WorkerSeat<J, X> {
@@ -33,21 +33,21 @@ impl<J: Job + Drop, X> WorkerSeat<J, X> {
     pub fn busy(&self) -> bool
         ensures { IsTrue result ↔ IsBusy (state_of self.now).job }
     {
-        self.place.is_at_run()
+        self.station.is_at_run()
     }
 
     /// Whether an `enter` has found that run closed.
     pub fn closed(&self) -> bool
         ensures { result ≡ (state_of self.now).closed }
     {
-        self.place.has_found()
+        self.station.has_found()
     }
 
     /// Whether a `begin` or an `enter` of it has ever answered NoMemory.
     pub fn refused(&self) -> bool
         ensures { result ≡ (state_of self.now).refused }
     {
-        self.place.is_refused()
+        self.station.is_refused()
     }
 
     /// Its watcher.
@@ -66,7 +66,7 @@ impl<J: Job + Drop, X> WorkerSeat<J, X> {
     {
         WorkerSeat {
             watcher,
-            place: Place::new(owner),
+            station: Station::new(owner),
         }
     }
 }

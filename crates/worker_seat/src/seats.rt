@@ -3,7 +3,7 @@ ghost use Rattle.std.specs.Prelude.{◌≡◌, [], length, map, All, IfSome, IsS
 ghost use Rattle.std.specs.Arc.{arc_value};
 ghost use Rattle.ready_deques.specs.Lists.{IsOwnerOf, tag_of};
 ghost use Rattle.worker_seat.specs.Seats.{at_job, away, left_refused};
-ghost use Rattle.worker_seat.specs.Crews.{IsOpen, IsRunOf, MayBegin, moved, state_of, watcher_of};
+ghost use Rattle.worker_seat.specs.Crews.{IsFoundRunOf, IsOpen, MayBegin, moved, state_of, watcher_of};
 ghost use Rattle.worker_seat.specs.inside.Seating.{list_name};
 
 use crate::crew_run::CrewRun;
@@ -41,7 +41,7 @@ fn try_send_all<J: Job + Drop, X>(
 {
     for seat in seats.iter_mut() {
         let run = Arc::try_clone(run)?;
-        seat.place.attend(run);
+        seat.station.attend(run);
     }
     Ok(())
 }
@@ -51,7 +51,7 @@ pub fn refuse_all<J: Job + Drop, X>(seats: &mut [WorkerSeat<J, X>])
     ensures { seats.new ≡ map (moved left_refused) seats.old }
 {
     for seat in seats.iter_mut() {
-        seat.place.refuse();
+        seat.station.refuse();
     }
 }
 
@@ -60,7 +60,7 @@ pub fn leave_all<J: Job + Drop, X>(seats: &mut [WorkerSeat<J, X>])
     ensures { seats.new ≡ map (moved away) seats.old }
 {
     for seat in seats.iter_mut() {
-        seat.place.leave();
+        seat.station.leave();
     }
 }
 
@@ -70,12 +70,12 @@ pub fn fetch_first<J: Job + Drop, X, R: Wait>(
     seats: &mut [WorkerSeat<J, X>],
 ) -> Option<FrameRun<J>>
     ensures none { IsNone result → All IsOpen seats.old × (seats.new ≡ seats.old) }
-    ensures run { IfSome result (IsRunOf J.meaning seats.old) }
+    ensures run { IfSome result (IsFoundRunOf J.meaning seats.old) }
     ensures left { IsSome result → seats.new ≡ map (moved away) seats.old }
 {
     match first_closed(seats) {
         Some(first) => {
-            let run = seats[first].place.fetch(rt);
+            let run = seats[first].station.fetch(rt);
             leave_all(seats);
             run
         }

@@ -1,5 +1,5 @@
 use Rattle.std.proofs.Common.{subst, ◌∙◌}
-use Rattle.flow_run.specs.Requests.{IsAdded, StopsAtName, Held, text_limit}
+use Rattle.flow_run.specs.Requests.{IsAdded, StopsAtName, SourceTexts, text_limit}
 use Rattle.flow_run.proofs.Preparing.{read_one_more, stops_at}
 use Rattle.flow_run.proofs.prepare.read_texts.Goals as goal
 
@@ -7,7 +7,7 @@ pub returns-in-Err-clause-stops : goal.returns-in-Err-clause-stops
 returns-in-Err-clause-stops g c =
     let so_far = c.loop-name.invariant in
     stops_at (g.F.Texts.held c.args.texts.now) c.args.names.now c.loop-name.table c.loop-name.name-index c.name-item.result c.in-Err.stop c.loop-name-test.true c.name-item.is so_far.are
-    (subst (λ (h : Held). StopsAtName h c.name-item.result text_limit c.in-Err.stop) so_far.held c.in-Err.ensures.stops)
+    (subst (λ (h : SourceTexts). StopsAtName h c.name-item.result text_limit c.in-Err.stop) so_far.held c.in-Err.ensures.stops)
 
 pub loop-name-preserved : goal.loop-name-preserved
 loop-name-preserved g c =
@@ -16,5 +16,5 @@ loop-name-preserved g c =
       held = c.add_text.ensures.stays ∙ so_far.held;
       faults = c.in_default.ensures.counts ∙ so_far.faults;
       are = read_one_more (g.F.Texts.held c.args.texts.now) c.args.names.now c.loop-name.name-index c.name-item.result c.loop-name.table c.add_text.new.table c.loop-name-test.true c.name-item.is so_far.are
-          (subst (λ (h : Held). IsAdded h c.name-item.result c.loop-name.table c.add_text.new.table) so_far.held c.in_default.ensures.added);
+          (subst (λ (h : SourceTexts). IsAdded h c.name-item.result c.loop-name.table c.add_text.new.table) so_far.held c.in_default.ensures.added);
     }

@@ -1,7 +1,6 @@
-use Rattle.std.proofs.Common.{rules, ◌≡◌, List, ℕ, subst, sym}
+use Rattle.std.proofs.Common.{rules}
 use Rattle.run_frame.specs.NestedRule.{job_of}
 use Rattle.text_tasks.specs.JobMeaning.{IsTextJob, names_of, text_job}
-use Rattle.nested_runs.specs.declared.reasons.Reason.{Reason}
 use Rattle.nested_runs.specs.Reasons.{run_reason}
 use Rattle.call_status.specs.Reasons.{NamesReason}
 use Rattle.flow_run.proofs.Naming.{reason_named}

@@ -17,13 +17,13 @@ use std::sync::{Arc, Wait};
 
 /// A seat without its watcher.
 #[derive(Drop)]
-pub struct Place<J: Job + Drop> {
+pub struct Station<J: Job + Drop> {
     owner: Owner<CrewItem<J>>,
     attendance: Attendance<J>,
     refused: bool,
 }
 
-impl<J: Job + Drop> Model for Place<J> {
+impl<J: Job + Drop> Model for Station<J> {
     ghost use Rattle.std.specs.Prelude.{◌≡◌, []};
     ghost use Rattle.worker_seat.specs.Seats.{SeatState};
 
@@ -31,20 +31,20 @@ impl<J: Job + Drop> Model for Place<J> {
 
     ghost use Rattle.worker_seat.specs.inside.Seating.{job_at, has_found, FitsRun};
 
-    ghost view = { λ place. record { list = place.owner.counts; job = job_at place.attendance; closed = has_found place.attendance; refused = place.refused } };
+    ghost view = { λ station. record { list = station.owner.counts; job = job_at station.attendance; closed = has_found station.attendance; refused = station.refused } };
 
-    ghost invariant = { λ place. (place.owner.tag ≡ []) × FitsRun place.attendance };
+    ghost invariant = { λ station. (station.owner.tag ≡ []) × FitsRun station.attendance };
 }
 
-impl<J: Job + Drop> Place<J> {
+impl<J: Job + Drop> Station<J> {
     ghost use Rattle.worker_seat.specs.Seats.{IsBusy, IsClosedWith, at_job, found_closed, away, refused_seat, left_refused, new_seat};
 
     /// At no run.
-    pub fn new(owner: Owner<CrewItem<J>>) -> Place<J>
+    pub fn new(owner: Owner<CrewItem<J>>) -> Station<J>
         requires { owner.tag ≡ [] }
         ensures { result ≡ new_seat owner.counts }
     {
-        Place {
+        Station {
             owner,
             attendance: Attendance::Away,
             refused: false,
