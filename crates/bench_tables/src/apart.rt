@@ -5,7 +5,7 @@ ghost use Rattle.join_tables.specs.States.{FreshState};
 ghost use Rattle.keyed_lock.specs.Locks.{made_with};
 
 use crate::clock::nanos_since;
-use crate::hands::Hand;
+use crate::hands::ChainHand;
 use join_tables::{Fresh, Keeper, NetTable, Opening};
 use keyed_lock::{Held, KeyedLock};
 use std::alloc::{AllocError, Global};
@@ -65,10 +65,10 @@ pub fn run_apart<R: Threads + Wait + Clock + Sync>(
 // A hand for each release.
 fn hands_of(
     alloc: Global,
-    table: &Arc<NetTable>,
+    table: &Arc<NetTable<u64>>,
     net: &Arc<Net>,
-    fresh: Vec<Fresh>,
-) -> Option<Vec<KeyedLock<Hand>>>
+    fresh: Vec<Fresh<u64>>,
+) -> Option<Vec<KeyedLock<ChainHand>>>
     requires net { (arc_value table.now).net ≡ arc_value net.now }
     requires fresh { All (λ (f : FreshState). f.table ≡ (arc_value table.now).table) fresh.items }
     ensures { IfSome result (λ hands. All (λ hand. made_with hand ≡ (arc_value table.now).table) hands.items) }
@@ -83,24 +83,24 @@ fn hands_of(
 // A hand for a release, behind a lock that one thread takes for the whole run.
 fn hand_of(
     alloc: Global,
-    table: &Arc<NetTable>,
+    table: &Arc<NetTable<u64>>,
     net: &Arc<Net>,
-    fresh: Fresh,
-) -> Option<KeyedLock<Hand>>
+    fresh: Fresh<u64>,
+) -> Option<KeyedLock<ChainHand>>
     requires net { (arc_value table.now).net ≡ arc_value net.now }
     requires fresh { fresh.table ≡ (arc_value table.now).table }
     ensures { IfSome result (λ hand. made_with hand ≡ (arc_value table.now).table) }
 {
     let table = Arc::try_clone(table).ok()?;
     let net = Arc::try_clone(net).ok()?;
-    KeyedLock::new(alloc, Hand::new(alloc, table, net, fresh)).ok()
+    KeyedLock::new(alloc, ChainHand::new(alloc, table, net, fresh)).ok()
 }
 
 // Steps the chains of all hands, each in one of so many threads.
 fn step_together<R: Threads + Wait + Sync>(
     rt: &R,
     alloc: Global,
-    hands: &Vec<KeyedLock<Hand>>,
+    hands: &Vec<KeyedLock<ChainHand>>,
     most: u32,
     threads: usize,
 ) -> Result<(), AllocError> {
@@ -122,7 +122,7 @@ fn step_together<R: Threads + Wait + Sync>(
 }
 
 // Steps the chain of a hand.
-fn step_hand<R: Wait>(rt: &R, alloc: Global, hand: &KeyedLock<Hand>, most: u32) {
+fn step_hand<R: Wait>(rt: &R, alloc: Global, hand: &KeyedLock<ChainHand>, most: u32) {
     let Held { mut value, pass } = hand.take(rt);
     let _ = value.step_all(alloc, most);
     hand.put(Held { value, pass });
@@ -131,9 +131,9 @@ fn step_hand<R: Wait>(rt: &R, alloc: Global, hand: &KeyedLock<Hand>, most: u32) 
 // Absorbs the turns of all hands: whether no turn is left.
 fn absorb_all<R: Wait>(
     rt: &R,
-    table: &Arc<NetTable>,
-    keeper: &mut Keeper,
-    hands: &Vec<KeyedLock<Hand>>,
+    table: &Arc<NetTable<u64>>,
+    keeper: &mut Keeper<u64>,
+    hands: &Vec<KeyedLock<ChainHand>>,
 ) -> Option<bool>
     requires keeper { keeper.old.table ≡ (arc_value table.now).table }
     requires hands { All (λ hand. made_with hand ≡ (arc_value table.now).table) hands.now.items }

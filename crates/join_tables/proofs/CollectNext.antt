@@ -1,5 +1,5 @@
 -- The next edge from which a release collects, and what its seat knows after the token is taken.
-use Rattle.std.proofs.Common.{◌≡◌, ◌≢◌, ◌⊎◌, inl, inr, ℕ, zero, suc, ◌+◌, ◌<◌, ◌≤◌, Bool, true, false, not, ◌&&◌, eqb, List, [], ◌∷◌, ◌++◌, length, Option, Some, None, IsTrue, is_some, IfSome, ◌↔◌, sym, refl, ap, ◌∙◌, subst, arith}
+use Rattle.std.proofs.Common.{◌≡◌, ◌≢◌, ◌⊎◌, inl, inr, ℕ, zero, suc, ◌+◌, ◌<◌, ◌≤◌, Bool, true, false, not, ◌&&◌, eqb, List, [], ◌∷◌, ◌++◌, length, map, Option, Some, None, IsTrue, is_some, IfSome, ◌↔◌, sym, refl, ap, ◌∙◌, subst, arith}
 use Rattle.std.specs.Prelude.{slice_get, ◌==◌}
 use Rattle.std.proofs.lemmas.Bool.Decides.{nat_tests}
 use Rattle.std.proofs.lemmas.Bool.{cases_eq}
@@ -14,12 +14,16 @@ use Rattle.table_steps.specs.declared.view.Note.{Note}
 use Rattle.join_tables.specs.declared.calls.Step.TheVariants.{NoneLeft, Taken}
 use Rattle.atomic_table.specs.Seated.{TableId}
 use Rattle.join_tables.specs.Findings.{TakesToken}
-use Rattle.std.proofs.lemmas.List.{length_push}
-use Rattle.join_tables.specs.Parts.{PartList, part_list}
+use Rattle.std.proofs.lemmas.List.{length_push, map-append}
+use Rattle.join_words.specs.declared.ins.Given.{Given}
+use Rattle.join_words.specs.declared.ins.Ins.{Ins}
+use Rattle.join_words.specs.Ins.{parts_of, room_of}
+use Rattle.table_steps.specs.Values.{given_part}
+use Rattle.join_tables.specs.Parts.{parts_in}
 use Rattle.join_tables.specs.States.{FreshState, fresh_state}
 use Rattle.table_steps.specs.Giving.{times, one_if}
 use Rattle.table_steps.specs.inside.Accounts.{FitsRelease}
-use Rattle.table_steps.specs.inside.Kinds.{IsTurn, TakesNextToken, took, CountsNext, AreNoneLeft, settled}
+use Rattle.table_steps.specs.inside.Kinds.{IsTurn, TakesNextToken, took, CountsNext, AreNoneLeft, without_count}
 use Rattle.journal_rules.specs.declared.entry.Part.{Part}
 use Rattle.journal_rules.specs.declared.entry.Part.TheVariants.{Nothing}
 use Rattle.table_steps.specs.declared.view.TurnDuty.TheVariants.{Collecting}
@@ -183,31 +187,31 @@ counts_again net t Strong taken parts f tail q found fits is same strong more = 
 counts_again net t Source taken parts f tail q found fits is same strong more = absurd (cc)
 counts_again net t (Weak e) taken parts f tail q found fits is same strong more = absurd (cc)
 
-pub settled_view : (t : ℕ) (cause : Cause) (taken : List ℕ) (parts : List Part) (f : ℕ) (tail : List ℕ) (q : Part) (found : ℕ) → length parts ≡ length taken → settled (took found (fetching_view t cause taken parts f tail Fetched q)) ≡ collecting_view t cause (taken ++ f ∷ []) (parts ++ q ∷ []) tail
+pub settled_view : (t : ℕ) (cause : Cause) (taken : List ℕ) (parts : List Part) (f : ℕ) (tail : List ℕ) (q : Part) (found : ℕ) → length parts ≡ length taken → without_count (took found (fetching_view t cause taken parts f tail Fetched q)) ≡ collecting_view t cause (taken ++ f ∷ []) (parts ++ q ∷ []) tail
 settled_view t cause taken parts f tail q found same = by_cause cause found
   where
     more : (c : Cause) → Duty (Collecting t c (taken ++ f ∷ []) tail) ∷ relot Fetched Found (λ p. p) f (Has Live ∷ Sems Held [] ∷ found_lots taken parts ++ Lies Fetched f q ∷ awaited_lots tail) ≡ collecting_view t c (taken ++ f ∷ []) (parts ++ q ∷ []) tail
     more c = ap (λ l. Duty (Collecting t c (taken ++ f ∷ []) tail) ∷ l) (found_more taken parts f tail q same)
 
-    by_cause : (c : Cause) (k : ℕ) → settled (took k (fetching_view t c taken parts f tail Fetched q)) ≡ collecting_view t c (taken ++ f ∷ []) (parts ++ q ∷ []) tail
+    by_cause : (c : Cause) (k : ℕ) → without_count (took k (fetching_view t c taken parts f tail Fetched q)) ≡ collecting_view t c (taken ++ f ∷ []) (parts ++ q ∷ []) tail
     by_cause Source k = more Source
     by_cause (Weak e) k = more (Weak e)
     by_cause Strong zero = more Strong
     by_cause Strong (suc zero) = more Strong
     by_cause Strong (suc (suc k)) = more Strong
 
-pub weak_settled : (t : ℕ) (cause : Cause) (taken : List ℕ) (parts : List Part) (f : ℕ) (tail : List ℕ) (q : Part) (found : ℕ) → cause ≢ Strong → settled (took found (fetching_view t cause taken parts f tail Fetched q)) ≡ took found (fetching_view t cause taken parts f tail Fetched q)
+pub weak_settled : (t : ℕ) (cause : Cause) (taken : List ℕ) (parts : List Part) (f : ℕ) (tail : List ℕ) (q : Part) (found : ℕ) → cause ≢ Strong → without_count (took found (fetching_view t cause taken parts f tail Fetched q)) ≡ took found (fetching_view t cause taken parts f tail Fetched q)
 weak_settled t cause taken parts f tail q found other = by_cause cause other
   where
-    by_cause : (c : Cause) → c ≢ Strong → settled (took found (fetching_view t c taken parts f tail Fetched q)) ≡ took found (fetching_view t c taken parts f tail Fetched q)
+    by_cause : (c : Cause) → c ≢ Strong → without_count (took found (fetching_view t c taken parts f tail Fetched q)) ≡ took found (fetching_view t c taken parts f tail Fetched q)
     by_cause Source h = refl
     by_cause (Weak e) h = refl
     by_cause Strong h = absurd (h refl)
 
-pub few_settled : (t : ℕ) (cause : Cause) (taken : List ℕ) (parts : List Part) (f : ℕ) (tail : List ℕ) (q : Part) (found : ℕ) → found ≤ 1 → settled (took found (fetching_view t cause taken parts f tail Fetched q)) ≡ took found (fetching_view t cause taken parts f tail Fetched q)
+pub few_settled : (t : ℕ) (cause : Cause) (taken : List ℕ) (parts : List Part) (f : ℕ) (tail : List ℕ) (q : Part) (found : ℕ) → found ≤ 1 → without_count (took found (fetching_view t cause taken parts f tail Fetched q)) ≡ took found (fetching_view t cause taken parts f tail Fetched q)
 few_settled t cause taken parts f tail q found few = by_cause cause found few
   where
-    by_cause : (c : Cause) (k : ℕ) → k ≤ 1 → settled (took k (fetching_view t c taken parts f tail Fetched q)) ≡ took k (fetching_view t c taken parts f tail Fetched q)
+    by_cause : (c : Cause) (k : ℕ) → k ≤ 1 → without_count (took k (fetching_view t c taken parts f tail Fetched q)) ≡ took k (fetching_view t c taken parts f tail Fetched q)
     by_cause Source k h = refl
     by_cause (Weak e) k h = refl
     by_cause Strong zero h = refl
@@ -215,18 +219,21 @@ few_settled t cause taken parts f tail q found few = by_cause cause found few
     by_cause Strong (suc (suc k)) h = absurd (omega arith)
 
 -- WHAT IT LED TO
-pub collects_none : (n : TableId) (t : ℕ) (cause : Cause) (taken left : List ℕ) (ins : PartList) (v : List Note) (before after : List ℕ) → left ≡ [] → v ≡ collecting_view t cause taken ins.parts left → after ≡ before → CollectsOne n t cause taken left ins before NoneLeft v ins after
-collects_none n t cause taken left ins v before after none is same = subst (λ es. CollectsOne n t cause taken es ins before NoneLeft v ins after) (sym none) (is ∙ ap (collecting_view t cause taken ins.parts) none, refl, same)
+pub collects_none : {V : Type 0} (n : TableId) (t : ℕ) (cause : Cause) (taken left : List ℕ) (ins : Ins V) (v : List Note) (before after : List ℕ) → left ≡ [] → v ≡ collecting_view t cause taken (parts_in ins) left → after ≡ before → CollectsOne n t cause taken left ins before NoneLeft v ins after
+collects_none n t cause taken left ins v before after none is same = subst (λ es. CollectsOne n t cause taken es ins before NoneLeft v ins after) (sym none) (is ∙ ap (collecting_view t cause taken (parts_in ins)) none, refl, same)
 
-pub collects_edge : (n : TableId) (net : NetRows) (t : ℕ) (cause : Cause) (taken left : List ℕ) (ins ins' : PartList) (q : Part) (f : ℕ) (next : NextEdge net left f) (made : Option FreshState) (last : Bool) (v : List Note) (before after : List ℕ)
-    → ins' ≡ part_list (ins.parts ++ q ∷ []) ins.room → v ≡ collecting_view t cause (taken ++ f ∷ []) (ins.parts ++ q ∷ []) next.tail → IfSome made (λ fresh. fresh ≡ fresh_state n t Strong) → (IsTrue (is_some made) → AreNoneLeft t v × (cause ≡ Strong)) → TakesToken cause (is_some made) before after → IsTrue last ↔ (next.tail ≡ [])
+pub push_part : {V : Type 0} (ins ins' : Ins V) (given : Given V) → parts_of ins' ≡ parts_of ins ++ given ∷ [] → parts_in ins' ≡ parts_in ins ++ given_part given ∷ []
+push_part ins ins' given is = ap (map given_part) is ∙ map-append given_part (parts_of ins) (given ∷ [])
+
+pub collects_edge : {V : Type 0} (n : TableId) (net : NetRows) (t : ℕ) (cause : Cause) (taken left : List ℕ) (ins ins' : Ins V) (q : Part) (f : ℕ) (next : NextEdge net left f) (made : Option FreshState) (last : Bool) (v : List Note) (before after : List ℕ)
+    → parts_in ins' ≡ parts_in ins ++ q ∷ [] → room_of ins' ≡ room_of ins → v ≡ collecting_view t cause (taken ++ f ∷ []) (parts_in ins ++ q ∷ []) next.tail → IfSome made (λ fresh. fresh ≡ fresh_state n t Strong) → (IsTrue (is_some made) → AreNoneLeft t v × (cause ≡ Strong)) → TakesToken cause (is_some made) before after → IsTrue last ↔ (next.tail ≡ [])
     → CollectsOne n t cause taken left ins before (Taken made last) v ins' after
-collects_edge n net t cause taken left ins ins' q f next made last v before after added is fresh none found last_is =
+collects_edge n net t cause taken left ins ins' q f next made last v before after added room is fresh none found last_is =
     subst (λ es. CollectsOne n t cause taken es ins before (Taken made last) v ins' after) (sym next.is)
-    (is ∙ ap (λ (p : PartList). collecting_view t cause (taken ++ f ∷ []) p.parts next.tail) (sym added), (ap (λ (p : PartList). length p.parts) added ∙ length_push ins.parts q, ap (λ (p : PartList). p.room) added), by_made made fresh none, found, last_is)
+    (is ∙ ap (λ ps. collecting_view t cause (taken ++ f ∷ []) ps next.tail) (sym added), (ap length added ∙ length_push (parts_in ins) q, room), by_made made fresh none, found, last_is)
   where
     tail_none : AreNoneLeft t v × (cause ≡ Strong) → next.tail ≡ []
-    tail_none h = subst (λ w. AreNoneLeft t w) (is ∙ ap (λ c. collecting_view t c (taken ++ f ∷ []) (ins.parts ++ q ∷ []) next.tail) h.1) h.0 refl
+    tail_none h = subst (λ w. AreNoneLeft t w) (is ∙ ap (λ c. collecting_view t c (taken ++ f ∷ []) (parts_in ins ++ q ∷ []) next.tail) h.1) h.0 refl
 
     by_made : (o : Option FreshState) → IfSome o (λ fresh. fresh ≡ fresh_state n t Strong) → (IsTrue (is_some o) → AreNoneLeft t v × (cause ≡ Strong)) → IfSome o (λ fresh. (fresh ≡ fresh_state n t Strong) × (next.tail ≡ []))
     by_made None h k = tt

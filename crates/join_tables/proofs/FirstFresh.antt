@@ -15,7 +15,7 @@ use Rattle.table_steps.specs.declared.view.TurnDuty.TheVariants.{Fresh}
 use Rattle.join_tables.specs.States.{FreshState, fresh_state}
 use Rattle.join_tables.specs.FirstCauses.{begin_full, cause_if, first_causes, first_fresh}
 use Rattle.table_steps.specs.inside.Duties.{nil}
-use Rattle.table_steps.specs.inside.Opening.{bare, is_empty, source_duties, full_duties, first_duties}
+use Rattle.table_steps.specs.inside.Opening.{count_without_token, is_empty, source_duties, full_duties, first_duties}
 use Rattle.join_tables.specs.inside.FirstReleases.{duties_of, states_of, AreOpeningWords, AreFirstParcels}
 use Rattle.journal_rules.specs.declared.entry.Part.{Part}
 use Rattle.join_tables.specs.Keeping.{TellsRun}
@@ -48,18 +48,18 @@ source_fresh n t [] rest = refl
 source_fresh n t (e ∷ es) rest = rw (not_zero (length es)) refl
 
 -- some edge begins without a token, or none
-any_bare : (net : NetRows) (es : List ℕ) → list_any (λ f. first_tokens net f == 0) es ≡ some (bare net es)
+any_bare : (net : NetRows) (es : List ℕ) → list_any (λ f. first_tokens net f == 0) es ≡ some (count_without_token net es)
 any_bare net [] = refl
 any_bare net (e ∷ es) = by_tokens (first_tokens net e) (any_bare net es)
   where
-    by_tokens : (k : ℕ) → list_any (λ f. first_tokens net f == 0) es ≡ some (bare net es) → ((k == 0) || list_any (λ f. first_tokens net f == 0) es) ≡ some (nil k + bare net es)
-    by_tokens zero h = let one : 1 + bare net es ≡ suc (bare net es) = omega arith in ap some (sym one)
-    by_tokens (suc k) h = let none : 0 + bare net es ≡ bare net es = omega arith in rw (not_zero k) (h ∙ ap some (sym none))
+    by_tokens : (k : ℕ) → list_any (λ f. first_tokens net f == 0) es ≡ some (count_without_token net es) → ((k == 0) || list_any (λ f. first_tokens net f == 0) es) ≡ some (nil k + count_without_token net es)
+    by_tokens zero h = let one : 1 + count_without_token net es ≡ suc (count_without_token net es) = omega arith in ap some (sym one)
+    by_tokens (suc k) h = let none : 0 + count_without_token net es ≡ count_without_token net es = omega arith in rw (not_zero k) (h ∙ ap some (sym none))
 
 full_fresh : (n : TableId) (net : NetRows) (t : ℕ) (es : List ℕ) (rest : List TurnDuty)
-    → fresh_of n (full_duties t es (bare net es) ++ rest) ≡ map (fresh_state n t) (cause_if (begin_full net es) Strong) ++ fresh_of n rest
+    → fresh_of n (full_duties t es (count_without_token net es) ++ rest) ≡ map (fresh_state n t) (cause_if (begin_full net es) Strong) ++ fresh_of n rest
 full_fresh n net t [] rest = refl
-full_fresh n net t (e ∷ es) rest = by_bare (bare net (e ∷ es)) ∙ ap (λ b. map (fresh_state n t) (cause_if (not b) Strong) ++ fresh_of n rest) (sym (any_bare net (e ∷ es)))
+full_fresh n net t (e ∷ es) rest = by_bare (count_without_token net (e ∷ es)) ∙ ap (λ b. map (fresh_state n t) (cause_if (not b) Strong) ++ fresh_of n rest) (sym (any_bare net (e ∷ es)))
   where
     by_bare : (k : ℕ) → fresh_of n (full_duties t (e ∷ es) k ++ rest) ≡ map (fresh_state n t) (cause_if (not (some k)) Strong) ++ fresh_of n rest
     by_bare zero = refl
@@ -77,7 +77,7 @@ fresh_firsts : (n : TableId) (net : NetRows) (t k : ℕ) → fresh_of n (first_d
 fresh_firsts n net t zero = refl
 fresh_firsts n net t (suc k) =
     let source = source_duties t (is_empty (in_edges net t)) in
-    let strong = full_duties t (strong_in net t) (bare net (strong_in net t)) in
+    let strong = full_duties t (strong_in net t) (count_without_token net (strong_in net t)) in
     let here = map (fresh_state n t) (cause_if (length (in_edges net t) == 0) Source) in
     let there = map (fresh_state n t) (cause_if (begin_full net (strong_in net t)) Strong) in
     ap (fresh_of n) (append_assoc source strong (first_duties net (suc t) k))
@@ -96,10 +96,10 @@ none_live : (net : NetRows) (limit : ℕ) → first_duties net 0 (length net.tas
 none_live net limit none = ap (λ xs. total (mark Live) (first_notes xs ∷ [])) none
 
 -- Where nothing is released at first, the run is finished.
-pub nothing_runs : (net : NetRows) (limit live : ℕ) (words : List ℕ) (parcels : List Part) (rs : List FirstRelease) (n : TableId) (fs : List FreshState) → AreFirstParcels net parcels → limit ≤ 2097153
+pub nothing_runs : {S : Type 0} (part : S → Part) (net : NetRows) (limit live : ℕ) (words : List ℕ) (parcels : List S) (rs : List FirstRelease) (n : TableId) (fs : List FreshState) → AreFirstParcels net (map part parcels) → limit ≤ 2097153
     → live ≡ length rs → duties_of rs ≡ first_duties net 0 (length net.tasks) → AreOpeningWords net live words → fs ≡ states_of n rs → fs ≡ [] → TellsRun net limit []
-nothing_runs net limit live words parcels rs n fs lie limited live_len first ws is none =
-    let h = begins_table net limit live words parcels lie limited (live_is net rs live live_len first) ws in
+nothing_runs part net limit live words parcels rs n fs lie limited live_len first ws is none =
+    let h = begins_table part net limit live words parcels lie limited (live_is net rs live live_len first) ws in
     let empty : rs ≡ [] = none_at_all n rs (sym is ∙ none) in
     let items : first_duties net 0 (length net.tasks) ≡ [] = sym first ∙ ap duties_of empty in
     let clock : slice_index words 8 ≡ 0 = ws.each 8 (omega (arith, ws.size)) in

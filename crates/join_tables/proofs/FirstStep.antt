@@ -3,6 +3,7 @@ use Rattle.std.proofs.Common.{◌≡◌, ◌⊎◌, inl, inr, ℕ, zero, suc, �
 use Rattle.std.specs.Prelude.{slice_index, slice_get, Some, drop, nat_lt}
 use Rattle.std.specs.Option.{option_map_or}
 use Rattle.std.proofs.lemmas.Bool.Decides.{nat_tests}
+use Rattle.std.proofs.lemmas.List.{length-map}
 use Rattle.std.proofs.lemmas.Bool.{cases_lt}
 use mathlib.Core.Option.{some, some-injective, some-ne-none}
 use lib.ListN.{get_elem?}
@@ -28,7 +29,7 @@ use Rattle.journal_rules.specs.declared.entry.Part.{Part}
 use Rattle.journal_rules.specs.declared.entry.Part.TheVariants.{Nothing}
 use Rattle.table_steps.proofs.SlotViews.{slots_weigh}
 use Rattle.table_steps.specs.Credits.{first_credit}
-use Rattle.table_steps.specs.inside.Opening.{bare, is_empty, source_duties, full_duties, first_duties, part_of_tokens, first_part}
+use Rattle.table_steps.specs.inside.Opening.{count_without_token, is_empty, source_duties, full_duties, first_duties, part_of_tokens, first_part}
 use Rattle.join_tables.specs.inside.FirstReleases.{states_of, duties_of, opening_word, AreOpeningWords, AreFirstParcels, DealsFirst}
 use Rattle.table_steps.proofs.Counting.{get_past}
 use Rattle.table_steps.proofs.OpeningDuties.{strong_below}
@@ -73,8 +74,8 @@ duties_length (x ∷ xs) ys = omega (arith, duties_length xs ys)
 
 first_few : (net : NetRows) (t n : ℕ) → length (first_duties net t n) ≤ 2 * n
 first_few net t zero = omega arith
-first_few net t (suc n) = let a = source_duties t (is_empty (in_edges net t)) in let b = full_duties t (strong_in net t) (bare net (strong_in net t)) in
-    omega (arith, first_few net (suc t) n, source_few t (is_empty (in_edges net t)), full_few t (strong_in net t) (bare net (strong_in net t)), duties_length (a ++ b) (first_duties net (suc t) n), duties_length a b)
+first_few net t (suc n) = let a = source_duties t (is_empty (in_edges net t)) in let b = full_duties t (strong_in net t) (count_without_token net (strong_in net t)) in
+    omega (arith, first_few net (suc t) n, source_few t (is_empty (in_edges net t)), full_few t (strong_in net t) (count_without_token net (strong_in net t)), duties_length (a ++ b) (first_duties net (suc t) n), duties_length a b)
 
 index_past : (words : List ℕ) (k : ℕ) → length words ≤ k → slice_index words k ≡ 0
 index_past [] k past = refl
@@ -92,7 +93,7 @@ edge_word net live e below =
     let f : nat_lt (k - tokens_from net) (length net.edges) ≡ true = ap (λ q. nat_lt q (length net.edges)) d ∙ grind (arith, nat_tests) in
     rw (a, b, m, c, f) (ap (first_tokens net) d)
 
-join_word : (net : NetRows) (live t : ℕ) → opening_word net live (tokens_from net + length net.edges + t) ≡ bare net (strong_in net t)
+join_word : (net : NetRows) (live t : ℕ) → opening_word net live (tokens_from net + length net.edges + t) ≡ count_without_token net (strong_in net t)
 join_word net live t =
     let k = tokens_from net + length net.edges + t in
     let a : nat_lt k 40 ≡ false = grind (arith, nat_tests) in
@@ -102,7 +103,7 @@ join_word net live t =
     let d : k - tokens_from net ≡ length net.edges + t = omega arith in
     let f : nat_lt (k - tokens_from net) (length net.edges) ≡ false = ap (λ q. nat_lt q (length net.edges)) d ∙ grind (arith, nat_tests) in
     let g : k - tokens_from net - length net.edges ≡ t = omega arith in
-    rw (a, b, m, c, f) (ap (λ q. bare net (strong_in net q)) g)
+    rw (a, b, m, c, f) (ap (λ q. count_without_token net (strong_in net q)) g)
 
 unit_word : (net : NetRows) (live s : ℕ) → s < length net.sems → opening_word net live (40 + s) ≡ 0
 unit_word net live s below =
@@ -148,32 +149,32 @@ no_slots : (net : NetRows) (limit : ℕ) (c : SlotCoord) → slot_weigh c (openi
 no_slots net limit c = let xs = first_duties net 0 (length net.tasks) in slots_weigh c (first_notes xs) ∙ ap (slot_weigh c) (first_none net xs (are_first net 0 (length net.tasks) (omega arith)))
 
 -- what lies there
-first_lies : (xs : List Part) (e : ℕ) (p : Part) → slice_get xs e ≡ Some p → label_in (λ (q : Part). q) (get_elem? (map some xs) e) ≡ p
-first_lies [] e p is = absurd (cc)
-first_lies (x ∷ xs) zero p is = some_is x p is
+first_lies : {S : Type 0} (part : S → Part) (xs : List S) (e : ℕ) (p : Part) → slice_get (map part xs) e ≡ Some p → label_in part (get_elem? (map some xs) e) ≡ p
+first_lies part [] e p is = absurd (cc)
+first_lies part (x ∷ xs) zero p is = some_is (part x) p is
   where
     some_is : (a b : Part) → Some a ≡ Some b → a ≡ b
     some_is a b same = cc
-first_lies (x ∷ xs) (suc e) p is = first_lies xs e p is
+first_lies part (x ∷ xs) (suc e) p is = first_lies part xs e p is
 
-none_lies : (xs : List Part) (e : ℕ) → length xs ≤ e → label_in (λ (q : Part). q) (get_elem? (map some xs) e) ≡ Nothing
-none_lies [] e past = refl
-none_lies (x ∷ xs) zero past = absurd (omega arith)
-none_lies (x ∷ xs) (suc e) past = none_lies xs e (omega arith)
+none_lies : {S : Type 0} (part : S → Part) (xs : List S) (e : ℕ) → length xs ≤ e → label_in part (get_elem? (map some xs) e) ≡ Nothing
+none_lies part [] e past = refl
+none_lies part (x ∷ xs) zero past = absurd (omega arith)
+none_lies part (x ∷ xs) (suc e) past = none_lies part xs e (omega arith)
 
 first_past : (net : NetRows) (e : ℕ) → length net.edges ≤ e → first_tokens net e ≡ 0
 first_past net e past = ap (λ o. option_map_or (λ (r : EdgeRow). one_if r.start) o 0) (get_past net.edges e past)
 
-bare_past : (net : NetRows) (t : ℕ) → IsNet net → length net.tasks ≤ t → bare net (strong_in net t) ≡ 0
+bare_past : (net : NetRows) (t : ℕ) → IsNet net → length net.tasks ≤ t → count_without_token net (strong_in net t) ≡ 0
 bare_past net t rows past = by_list (strong_in net t) refl
   where
-    by_list : (es : List ℕ) → strong_in net t ≡ es → bare net es ≡ 0
+    by_list : (es : List ℕ) → strong_in net t ≡ es → count_without_token net es ≡ 0
     by_list [] is = refl
     by_list (e ∷ es) is = let below : t < length net.tasks = strong_below net rows t (λ none. let z : e ∷ es ≡ [] = sym is ∙ none in absurd (cc)) in absurd (omega (arith, below))
 
-pub begins_table : (net : NetRows) (limit live : ℕ) (words : List ℕ) (slots : List Part) → AreFirstParcels net slots → limit ≤ 2097153 → live ≡ length (first_duties net 0 (length net.tasks)) → AreOpeningWords net live words
-    → KeepsAccounts (λ (part : Part). part) net limit (opening words slots (opening_notes net limit))
-begins_table net limit live words slots first limited live_is ws = record {
+pub begins_table : {S : Type 0} (part : S → Part) (net : NetRows) (limit live : ℕ) (words : List ℕ) (slots : List S) → AreFirstParcels net (map part slots) → limit ≤ 2097153 → live ≡ length (first_duties net 0 (length net.tasks)) → AreOpeningWords net live words
+    → KeepsAccounts part net limit (opening words slots (opening_notes net limit))
+begins_table {S} part net limit live words slots first limited live_is ws = record {
   fits = fits;
   size = ws.size;
   journal = [];
@@ -184,11 +185,14 @@ begins_table net limit live words slots first limited live_is ws = record {
   few = omega (arith, live_first (first_duties net 0 (length net.tasks)), first_few net 0 (length net.tasks), ws.rows.task_count);
   few_drops = omega arith;
   views = each;
-  homes = λ e below. home_is slots e _ _ (omega (arith, first.count, below)) (ws.each (marks_from net + e) (omega (arith, ws.size, below)) ∙ mark_word net live e below)
+  homes = λ e below. home_is slots e _ _ (omega (arith, count, below)) (ws.each (marks_from net + e) (omega (arith, ws.size, below)) ∙ mark_word net live e below)
       (omega (arith, no_slots net limit (lot Putting e), no_slots net limit (lot Taking e)));
-  slots = opening_slots net ((reading net words).edge) _ (label_of (λ (part : Part). part) (map some slots)) (λ c. omega (arith, no_slots net limit c)) edges labels;
+  slots = opening_slots net ((reading net words).edge) _ (label_of part (map some slots)) (λ c. omega (arith, no_slots net limit c)) edges labels;
 }
   where
+    count : length slots ≡ length net.edges
+    count = sym (length-map slots part) ∙ first.count
+
     fits : FitsPlan net limit
     fits = record { rows = ws.rows; limited = limited; maxima = ws.maxima }
 
@@ -205,17 +209,17 @@ begins_table net limit live words slots first limited live_is ws = record {
         by_place (inl below) = let is : nat_lt e (length net.edges) ≡ true = grind (arith, nat_tests) in rw is (ws.each (tokens_from net + e) (omega (arith, ws.size, below)) ∙ edge_word net live e below)
         by_place (inr past) = let is : nat_lt e (length net.edges) ≡ false = grind (arith, nat_tests) in rw is (sym (first_past net e past))
 
-    labels : (e : ℕ) → label_of (λ (part : Part). part) (map some slots) e ≡ first_part net e
+    labels : (e : ℕ) → label_of part (map some slots) e ≡ first_part net e
     labels e = by_place (cases_lt e (length slots))
       where
-        by_place : (e < length slots) ⊎ (length slots ≤ e) → label_of (λ (part : Part). part) (map some slots) e ≡ first_part net e
-        by_place (inl below) = first_lies slots e (first_part net e) (first.each e below)
-        by_place (inr past) = none_lies slots e past ∙ sym (ap part_of_tokens (first_past net e (omega (arith, past, first.count))))
+        by_place : (e < length slots) ⊎ (length slots ≤ e) → label_of part (map some slots) e ≡ first_part net e
+        by_place (inl below) = first_lies part slots e (first_part net e) (first.each e (omega (arith, below, length-map slots part)))
+        by_place (inr past) = none_lies part slots e past ∙ sym (ap part_of_tokens (first_past net e (omega (arith, past, count))))
 
-    joins : (t : ℕ) → (reading net words).join t ≡ bare net (strong_in net t)
+    joins : (t : ℕ) → (reading net words).join t ≡ count_without_token net (strong_in net t)
     joins t = by_place (cases_lt t (length net.tasks))
       where
-        by_place : (t < length net.tasks) ⊎ (length net.tasks ≤ t) → slice_index words (tokens_from net + length net.edges + t) ≡ bare net (strong_in net t)
+        by_place : (t < length net.tasks) ⊎ (length net.tasks ≤ t) → slice_index words (tokens_from net + length net.edges + t) ≡ count_without_token net (strong_in net t)
         by_place (inl below) = ws.each (tokens_from net + length net.edges + t) (omega (arith, ws.size, below)) ∙ join_word net live t
         by_place (inr past) = index_past words (tokens_from net + length net.edges + t) (omega (arith, ws.size, past)) ∙ sym (bare_past net t ws.rows past)
 

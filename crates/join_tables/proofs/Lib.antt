@@ -1,3 +1,6 @@
+pub mod GivenParts
+pub mod Knowing
+pub mod Fitting
 pub mod Turning
 pub mod CollectNext
 pub mod Releasing

@@ -24,12 +24,17 @@ use Rattle.table_steps.proofs.SlotViews.{found_weigh, awaited_weigh, our_weigh, 
 use Rattle.join_tables.specs.declared.turns.EndedStart.{EndedStart}
 use Rattle.join_tables.specs.declared.fates.Dropping.{Dropping}
 use Rattle.join_tables.specs.declared.fates.Fate.TheVariants.{Dropped}
-use Rattle.join_tables.specs.inside.Seated.{collecting_view, turn_view, owing_view, IsSpent}
+use Rattle.join_tables.specs.Parts.{parts_in}
+use Rattle.join_tables.specs.inside.Seated.{collecting_view, turn_view, ticket_view, owing_view, IsSpent}
 use Rattle.join_tables.proofs.TurnViews.{Refuses}
 
 -- one that collects is a turn
 pub collecting_turn : (t : ℕ) (cause : Cause) (taken : List ℕ) (parts : List Part) (left : List ℕ) → IsTurn (collecting_view t cause taken parts left)
 collecting_turn t cause taken parts left = (omega (arith, weigh_append resting (found_lots taken parts) (awaited_lots left), found_weigh resting taken parts, awaited_weigh resting left), omega arith)
+
+-- and so is one that may start
+pub ticket_turn : (t : ℕ) (cause : Cause) (taken : List ℕ) (parts : List Part) (held : List ℕ) → IsTurn (ticket_view t cause taken parts held)
+ticket_turn t cause taken parts held = (omega (arith, found_weigh resting taken parts), omega arith)
 
 -- HALT LOAD and ADMISSION
 pub may_ask_turn : (t : ℕ) (cause : Cause) (taken : List ℕ) (parts : List Part) (held : List ℕ) (v : List Note) → v ≡ turn_view t cause taken parts None held → MayAsk v
@@ -53,22 +58,22 @@ may_put_turn net a t cause taken parts (Some AfterFault) held v is fits there be
 may_put_turn net a t cause taken parts (Some (Stuck s)) held v is fits there below = absurd fits
 
 -- DROP DRAWN
-pub record DropsTurn (why : DropWhy) (t : ℕ) (cause : Cause) (v : List Note) : Type 0 where
+pub record DropsTurn (V : Type 0) (why : DropWhy) (t : ℕ) (cause : Cause) (v : List Note) : Type 0 where
   pub may : MayDrop v
-  pub spent : (d : Dropping) → d.task ≡ t → d.cause ≡ cause → d.why ≡ why → IsSpent (Dropped d) (dropped d.place v)
+  pub spent : (d : Dropping) → d.task ≡ t → d.cause ≡ cause → d.why ≡ why → IsSpent {V = V} (Dropped d) (dropped d.place v)
 
-pub drops_turn : (t : ℕ) (cause : Cause) (taken : List ℕ) (parts : List Part) (why : DropWhy) (v : List Note) → length parts ≡ length taken → v ≡ turn_view t cause taken parts (Some why) [] → Refuses (Some why) → DropsTurn why t cause v
-drops_turn t cause taken parts Limit v same is fits = let none = ap (after_lots taken) (sym (append-nil (found_lots taken parts))) ∙ found_after taken parts [] same in subst (λ u. DropsTurn Limit t cause u) (sym is) record {
+pub drops_turn : (V : Type 0) (t : ℕ) (cause : Cause) (taken : List ℕ) (parts : List Part) (why : DropWhy) (v : List Note) → length parts ≡ length taken → v ≡ turn_view t cause taken parts (Some why) [] → Refuses (Some why) → DropsTurn V why t cause v
+drops_turn V t cause taken parts Limit v same is fits = let none = ap (after_lots taken) (sym (append-nil (found_lots taken parts))) ∙ found_after taken parts [] same in subst (λ u. DropsTurn V Limit t cause u) (sym is) record {
   may = (subst (λ l. FindsFirst taken l) (append-nil (found_lots taken parts)) (finds_found taken parts [] same), found_weigh resting taken parts);
-  spent = λ d task_is cause_is why_is. subst (λ l. IsSpent (Dropped d) (Duty (Owes []) ∷ Has Live ∷ Duty (Told d.place (Drop t cause Limit)) ∷ l)) (sym none) (λ i. Duty (Told d.place (Drop (sym task_is i) (sym cause_is i) (sym why_is i))) ∷ [], refl);
+  spent = λ d task_is cause_is why_is. subst (λ l. IsSpent {V = V} (Dropped d) (Duty (Owes []) ∷ Has Live ∷ Duty (Told d.place (Drop t cause Limit)) ∷ l)) (sym none) (λ i. Duty (Told d.place (Drop (sym task_is i) (sym cause_is i) (sym why_is i))) ∷ [], refl);
 }
-drops_turn t cause taken parts AfterFault v same is fits = let none = ap (after_lots taken) (sym (append-nil (found_lots taken parts))) ∙ found_after taken parts [] same in subst (λ u. DropsTurn AfterFault t cause u) (sym is) record {
+drops_turn V t cause taken parts AfterFault v same is fits = let none = ap (after_lots taken) (sym (append-nil (found_lots taken parts))) ∙ found_after taken parts [] same in subst (λ u. DropsTurn V AfterFault t cause u) (sym is) record {
   may = (subst (λ l. FindsFirst taken l) (append-nil (found_lots taken parts)) (finds_found taken parts [] same), found_weigh resting taken parts);
-  spent = λ d task_is cause_is why_is. subst (λ l. IsSpent (Dropped d) (Duty (Owes []) ∷ Has Live ∷ Duty (Told d.place (Drop t cause AfterFault)) ∷ l)) (sym none) (λ i. Duty (Told d.place (Drop (sym task_is i) (sym cause_is i) (sym why_is i))) ∷ [], refl);
+  spent = λ d task_is cause_is why_is. subst (λ l. IsSpent {V = V} (Dropped d) (Duty (Owes []) ∷ Has Live ∷ Duty (Told d.place (Drop t cause AfterFault)) ∷ l)) (sym none) (λ i. Duty (Told d.place (Drop (sym task_is i) (sym cause_is i) (sym why_is i))) ∷ [], refl);
 }
-drops_turn t cause taken parts (Stuck s) v same is fits = absurd fits
+drops_turn V t cause taken parts (Stuck s) v same is fits = absurd fits
 
 -- UNIT BACK, after an End
-pub may_return_unit : (net : NetRows) (a : ℕ) (ended : EndedStart) (left units : List ℕ) (v : List Note) → v ≡ owing_view ended left units → 1 ≤ times a units → a < length net.sems → MayReturn net a v
-may_return_unit net a ended left units v is there below = let told = Duty (Told ended.start (Start ended.task ended.cause ended.ins.parts)) ∷ [] in
+pub may_return_unit : {V : Type 0} (net : NetRows) (a : ℕ) (ended : EndedStart V) (left units : List ℕ) (v : List Note) → v ≡ owing_view ended left units → 1 ≤ times a units → a < length net.sems → MayReturn net a v
+may_return_unit net a ended left units v is there below = let told = Duty (Told ended.start (Start ended.task ended.cause (parts_in ended.ins))) ∷ [] in
     subst (λ u. MayReturn net a u) (sym is) (there, below, omega (arith, weigh_append resting (our_lots ended.place left) told, our_weigh resting ended.place left))

@@ -13,7 +13,7 @@ use Rattle.table_steps.specs.declared.view.Note.{Note}
 use Rattle.table_steps.specs.declared.view.Note.TheVariants.{Duty, Sems, Has, Unfit, Lies}
 use Rattle.table_steps.specs.inside.Duties.{place}
 use Rattle.table_steps.specs.inside.Accounts.{duty, busy, weigh, AllStand}
-use Rattle.table_steps.specs.inside.Kinds.{MayLeave, left_by, joined, IsWhole}
+use Rattle.table_steps.specs.inside.Kinds.{MayLeave, left_by, views_joined, IsWhole}
 use Rattle.join_tables.specs.inside.Seated.{IsSpent}
 use Rattle.join_tables.specs.inside.Recording.{tellings, told_after, told_notes}
 use Rattle.table_steps.proofs.Totals.{weigh_append}
@@ -46,16 +46,16 @@ tellings_append (Has m ∷ v) w = tellings_append v w
 tellings_append (Unfit s n t ∷ v) w = tellings_append v w
 tellings_append (Lies k e p ∷ v) w = tellings_append v w
 
-pub may_leave : (fate : Fate) (v w : List Note) → IsSpent fate w → weigh busy v ≡ 0 → MayLeave (joined v w)
+pub may_leave : {V : Type 0} (fate : Fate V) (v w : List Note) → IsSpent fate w → weigh busy v ≡ 0 → MayLeave (views_joined v w)
 may_leave fate v (Duty (Owes []) ∷ Has Live ∷ rest) spent idle = λ _. omega (arith, idle, spent.1, weigh_append busy rest v)
 may_leave fate v w spent idle = absurd spent
 
-pub told_more : (fate : Fate) (rs : List Recorded) (v w : List Note) → IsSpent fate w → tellings v ≡ told_notes rs → tellings (left_by (joined v w)) ≡ told_notes (rs ++ entries_of fate)
+pub told_more : {V : Type 0} (fate : Fate V) (rs : List Recorded) (v w : List Note) → IsSpent fate w → tellings v ≡ told_notes rs → tellings (left_by (views_joined v w)) ≡ told_notes (rs ++ entries_of fate)
 told_more fate rs v (Duty (Owes []) ∷ Has Live ∷ rest) spent is =
     tellings_append rest v ∙ ap (λ u. u ++ tellings v) spent.0 ∙ ap (λ u. told_notes (entries_of fate) ++ u) is ∙ sym (told_append (told_notes rs) (entries_of fate)) ∙ sym (told_all [] rs (entries_of fate))
 told_more fate rs v w spent is = absurd spent
 
-pub idle_still : (fate : Fate) (v w : List Note) → IsSpent fate w → weigh busy v ≡ 0 → weigh busy (left_by (joined v w)) ≡ 0
+pub idle_still : {V : Type 0} (fate : Fate V) (v w : List Note) → IsSpent fate w → weigh busy v ≡ 0 → weigh busy (left_by (views_joined v w)) ≡ 0
 idle_still fate v (Duty (Owes []) ∷ Has Live ∷ rest) spent idle = omega (arith, idle, spent.1, weigh_append busy rest v)
 idle_still fate v w spent idle = absurd spent
 

@@ -14,7 +14,7 @@ use Rattle.table_steps.specs.declared.view.TurnDuty.{TurnDuty}
 use Rattle.table_steps.specs.declared.view.TurnDuty.TheVariants.{Fresh}
 use Rattle.table_steps.specs.inside.Duties.{nil}
 use Rattle.table_steps.specs.Giving.{one_if}
-use Rattle.table_steps.specs.inside.Opening.{bare, is_empty, source_duties, full_duties, first_duties}
+use Rattle.table_steps.specs.inside.Opening.{count_without_token, is_empty, source_duties, full_duties, first_duties}
 use Rattle.join_tables.specs.inside.FirstReleases.{task_duties, duties_before, duties_of, duty_if, is_full}
 
 nil_one : (b : Bool) (n : ℕ) → n ≡ one_if b → nil n ≡ one_if (not b)
@@ -22,10 +22,10 @@ nil_one true n is = ap nil is
 nil_one false n is = ap nil is
 
 -- one edge more
-pub bare_more : (net : NetRows) (es : List ℕ) (i : ℕ) (b : Bool) → i < length es → first_tokens net (get_or es i 0) ≡ one_if b → bare net (take (i + 1) es) ≡ bare net (take i es) + one_if (not b)
+pub bare_more : (net : NetRows) (es : List ℕ) (i : ℕ) (b : Bool) → i < length es → first_tokens net (get_or es i 0) ≡ one_if b → count_without_token net (take (i + 1) es) ≡ count_without_token net (take i es) + one_if (not b)
 bare_more net [] i b below is = absurd (omega arith)
 bare_more net (e ∷ es) zero b below is = omega (arith, nil_one b (first_tokens net e) is)
-bare_more net (e ∷ es) (suc i) b below is = let z : suc i + 1 ≡ suc (i + 1) = omega arith in ap (λ k. bare net (take k (e ∷ es))) z ∙ omega (arith, bare_more net es i b (omega arith) is)
+bare_more net (e ∷ es) (suc i) b below is = let z : suc i + 1 ≡ suc (i + 1) = omega arith in ap (λ k. count_without_token net (take k (e ∷ es))) z ∙ omega (arith, bare_more net es i b (omega arith) is)
 
 source_if : (net : NetRows) (t : ℕ) (b : Bool) → IsTrue b ↔ IsSource net t → duty_if b t Source ≡ source_duties t (is_empty (in_edges net t))
 source_if net t b is = by_edges b (in_edges net t) is
@@ -42,19 +42,19 @@ full_if t (e ∷ es) zero = refl
 full_if t (e ∷ es) (suc n) = refl
 
 -- the releases of one task more
-pub duties_more : (net : NetRows) (t : ℕ) (b f : Bool) (made : List TurnDuty) → made ≡ duties_before net t → IsTrue b ↔ IsSource net t → f ≡ is_full (strong_in net t) (bare net (strong_in net t))
+pub duties_more : (net : NetRows) (t : ℕ) (b f : Bool) (made : List TurnDuty) → made ≡ duties_before net t → IsTrue b ↔ IsSource net t → f ≡ is_full (strong_in net t) (count_without_token net (strong_in net t))
     → (made ++ duty_if b t Source) ++ duty_if f t Strong ≡ duties_before net (t + 1)
 duties_more net t b f made is source full =
     let next : suc t ≡ t + 1 = omega arith in
     append_assoc made (duty_if b t Source) (duty_if f t Strong)
-    ∙ (λ i. is i ++ (source_if net t b source i ++ (ap (λ g. duty_if g t Strong) full ∙ full_if t (strong_in net t) (bare net (strong_in net t))) i))
+    ∙ (λ i. is i ++ (source_if net t b source i ++ (ap (λ g. duty_if g t Strong) full ∙ full_if t (strong_in net t) (count_without_token net (strong_in net t))) i))
     ∙ ap (duties_before net) next
 
 -- the tasks before one, and those after it
 all_items : (net : NetRows) (t n : ℕ) → duties_before net t ++ first_duties net t n ≡ duties_before net (t + n)
 all_items net t zero = let z : t ≡ t + 0 = omega arith in append-nil (duties_before net t) ∙ ap (duties_before net) z
 all_items net t (suc n) = let z : suc t + n ≡ t + suc n = omega arith in
-    ap (λ xs. duties_before net t ++ xs) (sym (join_three (source_duties t (is_empty (in_edges net t))) (full_duties t (strong_in net t) (bare net (strong_in net t))) (first_duties net (suc t) n)))
+    ap (λ xs. duties_before net t ++ xs) (sym (join_three (source_duties t (is_empty (in_edges net t))) (full_duties t (strong_in net t) (count_without_token net (strong_in net t))) (first_duties net (suc t) n)))
     ∙ sym (append_assoc (duties_before net t) (task_duties net t) (first_duties net (suc t) n)) ∙ all_items net (suc t) n ∙ ap (duties_before net) z
   where
     join_three : (a b c : List TurnDuty) → (a ++ b) ++ c ≡ a ++ b ++ c

@@ -85,25 +85,25 @@ MayDropAs net Limit k l t = ⊥
 abbrev pub dropping_as : DropWhy → ℕ → Parked → Dropping
 dropping_as why n p = record { task = p.task; cause = p.cause; place = n; why = why }
 
-pub record DropsOne (net : NetRows) (why : DropWhy) (p : Parked) (left : List Parked) (drops : List Dropping) (v : List Note) : Type 0 where
+pub record DropsOne (V : Type 0) (net : NetRows) (why : DropWhy) (p : Parked) (left : List Parked) (drops : List Dropping) (v : List Note) : Type 0 where
   pub may : MayDropLast net why v
   pub thins : (n : ℕ) → left ≢ [] → MayThin (last_dropped why n v)
   pub rest : (n : ℕ) → IsRestView left (drops ++ dropping_as why n p ∷ []) (left_by (last_dropped why n v))
   pub alone : (n : ℕ) → alone_in (left_by (last_dropped why n v)) ≡ alone_in v
   pub full : (n : ℕ) → full_in (left_by (last_dropped why n v)) ≡ full_in v
   pub parts : (n : ℕ) (more : List (List Part)) (found : List Part) → length more ≡ length left → RestParts (more ++ found ∷ []) v → RestParts more (left_by (last_dropped why n v))
-  pub spent : (n : ℕ) (fate : Fate) → left ≡ [] → entries_of fate ≡ map drop_of (reverse (drops ++ dropping_as why n p ∷ [])) → IsSpent fate (last_dropped why n v)
+  pub spent : (n : ℕ) (fate : Fate V) → left ≡ [] → entries_of fate ≡ map drop_of (reverse (drops ++ dropping_as why n p ∷ [])) → IsSpent fate (last_dropped why n v)
 
 left_lives : (left : List Parked) (ds : List Dropping) (rest : List Note) → HoldsTurns (reverse left) ds rest → left ≢ [] → 1 ≤ weigh (mark Live) rest
 left_lives left ds rest h some_there = omega (arith, holds_live (reverse left) ds rest h, length-reverse left, some_length left some_there)
 
-told_all_of : (left : List Parked) (ds : List Dropping) (rest : List Note) (fate : Fate) → HoldsTurns (reverse left) ds rest → left ≡ [] → entries_of fate ≡ map drop_of (reverse ds) → (tellings rest ≡ told_notes (entries_of fate)) × (weigh busy rest ≡ 0)
+told_all_of : {V : Type 0} (left : List Parked) (ds : List Dropping) (rest : List Note) (fate : Fate V) → HoldsTurns (reverse left) ds rest → left ≡ [] → entries_of fate ≡ map drop_of (reverse ds) → (tellings rest ≡ told_notes (entries_of fate)) × (weigh busy rest ≡ 0)
 told_all_of left ds rest fate h none is = let g = subst (λ ps. HoldsTurns (reverse ps) ds rest) none h in
     (ap tellings g ∙ drops_told ds ∙ ap told_notes (sym is), holds_busy [] ds rest g)
 
 -- for want of a unit
-stuck_one : (net : NetRows) (s : ℕ) (p : Parked) (left : List Parked) (drops : List Dropping) (l : List ℕ) (b : List Note) → HoldsTurns (p ∷ reverse left) drops b → 1 ≤ times s l → IsTrue (takes net s p.task) → DropsOne net (Stuck s) p left drops (Sems Full l ∷ Has Quiet ∷ b)
-stuck_one net s p left drops l (Duty (Collecting t cause taken []) ∷ Has Live ∷ Sems Held [] ∷ found) h full takes_it = record {
+stuck_one : (V : Type 0) (net : NetRows) (s : ℕ) (p : Parked) (left : List Parked) (drops : List Dropping) (l : List ℕ) (b : List Note) → HoldsTurns (p ∷ reverse left) drops b → 1 ≤ times s l → IsTrue (takes net s p.task) → DropsOne V net (Stuck s) p left drops (Sems Full l ∷ Has Quiet ∷ b)
+stuck_one V net s p left drops l (Duty (Collecting t cause taken []) ∷ Has Live ∷ Sems Held [] ∷ found) h full takes_it = record {
   may = (subst (λ u. IsTrue (takes net s u)) (sym h.0) takes_it, full, omega (arith, after_weigh (duty running) taken found h.2, holds_running (reverse left) drops rest h.3), h.2);
   thins = λ n some_there. omega (arith, left_lives left (drops ++ dropping_as (Stuck s) n p ∷ []) (rest ++ tail n) (more n) some_there);
   rest = λ n. record { known = refl; holds = more n; fits = tt };
@@ -121,11 +121,11 @@ stuck_one net s p left drops l (Duty (Collecting t cause taken []) ∷ Has Live 
 
     more : (n : ℕ) → HoldsTurns (reverse left) (drops ++ dropping_as (Stuck s) n p ∷ []) (rest ++ tail n)
     more n = subst (λ u. HoldsTurns (reverse left) (drops ++ dropping_as (Stuck s) n p ∷ []) (rest ++ u)) (λ i. Duty (Told n (Drop (sym h.0 i) (sym h.1 i) (Stuck s))) ∷ Has Sticking ∷ []) (holds_more (reverse left) drops (dropping_as (Stuck s) n p) rest h.3)
-stuck_one net s p left drops l b h full takes_it = absurd h
+stuck_one V net s p left drops l b h full takes_it = absurd h
 
 -- and after a Fault
-halted_one : (net : NetRows) (p : Parked) (left : List Parked) (drops : List Dropping) (l : List ℕ) (b : List Note) → HoldsTurns (p ∷ reverse left) drops b → AllByRecursion (λ (e : Dropping). e.why ≡ AfterFault) drops → DropsOne net AfterFault p left drops (Sems Full l ∷ Has Alone ∷ Has Halted ∷ b)
-halted_one net p left drops l (Duty (Collecting t cause taken []) ∷ Has Live ∷ Sems Held [] ∷ found) h all = record {
+halted_one : (V : Type 0) (net : NetRows) (p : Parked) (left : List Parked) (drops : List Dropping) (l : List ℕ) (b : List Note) → HoldsTurns (p ∷ reverse left) drops b → AllByRecursion (λ (e : Dropping). e.why ≡ AfterFault) drops → DropsOne V net AfterFault p left drops (Sems Full l ∷ Has Alone ∷ Has Halted ∷ b)
+halted_one V net p left drops l (Duty (Collecting t cause taken []) ∷ Has Live ∷ Sems Held [] ∷ found) h all = record {
   may = (omega (arith, after_weigh (mark Sticking) taken found h.2, turns_none (mark Sticking) (λ u why es. refl) (reverse left) drops rest h.3, halted_free drops all), h.2);
   thins = λ n some_there. omega (arith, left_lives left (drops ++ dropping_as AfterFault n p ∷ []) (rest ++ tail n) (more n) some_there);
   rest = λ n. record { known = refl; holds = more n; fits = all_more drops (dropping_as AfterFault n p) all refl };
@@ -143,16 +143,16 @@ halted_one net p left drops l (Duty (Collecting t cause taken []) ∷ Has Live �
 
     more : (n : ℕ) → HoldsTurns (reverse left) (drops ++ dropping_as AfterFault n p ∷ []) (rest ++ tail n)
     more n = subst (λ u. HoldsTurns (reverse left) (drops ++ dropping_as AfterFault n p ∷ []) (rest ++ u)) (λ i. Duty (Told n (Drop (sym h.0 i) (sym h.1 i) AfterFault)) ∷ []) (holds_more (reverse left) drops (dropping_as AfterFault n p) rest h.3)
-halted_one net p left drops l b h all = absurd h
+halted_one V net p left drops l b h all = absurd h
 
-pub drops_one : (net : NetRows) (why : DropWhy) (turns : List Parked) (p : Parked) (left : List Parked) (drops : List Dropping) (v : List Note) → IsRestView turns drops v → turns ≡ left ++ p ∷ [] → MayDropAs net why (alone_in v) (full_in v) p.task → DropsOne net why p left drops v
-drops_one net (Stuck s) turns p left drops v r is may =
+pub drops_one : (V : Type 0) (net : NetRows) (why : DropWhy) (turns : List Parked) (p : Parked) (left : List Parked) (drops : List Dropping) (v : List Note) → IsRestView turns drops v → turns ≡ left ++ p ∷ [] → MayDropAs net why (alone_in v) (full_in v) p.task → DropsOne V net why p left drops v
+drops_one V net (Stuck s) turns p left drops v r is may =
     let h = subst (λ ps. HoldsTurns ps drops (bare_part v)) (ap reverse is ∙ reverse_last left p) r.holds in
-    subst (λ u. DropsOne net (Stuck s) p left drops u) (sym (r.known ∙ ap (λ k. known_notes k (full_in v) ++ bare_part v) may.0)) (stuck_one net s p left drops (full_in v) (bare_part v) h may.1 may.2)
-drops_one net AfterFault turns p left drops v r is may =
+    subst (λ u. DropsOne V net (Stuck s) p left drops u) (sym (r.known ∙ ap (λ k. known_notes k (full_in v) ++ bare_part v) may.0)) (stuck_one V net s p left drops (full_in v) (bare_part v) h may.1 may.2)
+drops_one V net AfterFault turns p left drops v r is may =
     let h = subst (λ ps. HoldsTurns ps drops (bare_part v)) (ap reverse is ∙ reverse_last left p) r.holds in
-    subst (λ u. DropsOne net AfterFault p left drops u) (sym (r.known ∙ ap (λ k. known_notes k (full_in v) ++ bare_part v) may)) (halted_one net p left drops (full_in v) (bare_part v) h (subst (λ k. FitsDrops k drops) may r.fits))
-drops_one net Limit turns p left drops v r is may = absurd may
+    subst (λ u. DropsOne V net AfterFault p left drops u) (sym (r.known ∙ ap (λ k. known_notes k (full_in v) ++ bare_part v) may)) (halted_one V net p left drops (full_in v) (bare_part v) h (subst (λ k. FitsDrops k drops) may r.fits))
+drops_one V net Limit turns p left drops v r is may = absurd may
 
 -- what a caller knows
 pub may_drop_as : (net : NetRows) (r : RestState) (why : DropWhy) (k : Option Bool) (l : List ℕ) (left : List Parked) (p : Parked) → MayDropOf net r why → r.alone ≡ k → r.full ≡ l → r.turns ≡ left ++ p ∷ [] → MayDropAs net why k l p.task

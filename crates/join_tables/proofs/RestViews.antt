@@ -21,7 +21,7 @@ use Rattle.table_steps.specs.declared.view.Note.TheVariants.{Duty, Sems, Has}
 use Rattle.join_tables.specs.declared.fates.Dropping.{Dropping}
 use Rattle.join_tables.specs.declared.rests.Parked.{Parked}
 use Rattle.join_tables.specs.RestStates.{parked_as}
-use Rattle.join_tables.specs.Rests.{IsOfTable, found_left}
+use Rattle.join_tables.specs.Rests.{IsOfTable, found_left, table_left}
 use Rattle.table_steps.specs.inside.Duties.{running}
 use Rattle.table_steps.specs.inside.Accounts.{Coord, duty, sem, mark, busy, resting, telling, weight, weigh}
 use Rattle.table_steps.specs.inside.Kinds.{IsTurn}
@@ -30,7 +30,7 @@ use Rattle.table_steps.specs.inside.Slots.{found_lots, after_lots}
 use Rattle.table_steps.proofs.UnitAccounts.{no_units}
 use Rattle.table_steps.proofs.SlotViews.{found_weigh, after_weigh, finds_found, found_parts, found_after, lots_first, parts_length}
 use Rattle.join_tables.specs.inside.Seated.{turn_view, taken_in}
-use Rattle.table_steps.specs.inside.RestKinds.{bare_part, MayPark, parked, HasLast, MayHandOut, last_turn, other_turns, handed_out, left_behind, live_found, alone_notes, MayLook, looked, HasNoUnit, MayAskForUnit, full_with, asked}
+use Rattle.table_steps.specs.inside.RestKinds.{bare_part, MayPark, parked, HasLast, MayHandOut, last_turn, other_turns, handed_out, left_behind, live_found, alone_notes, MayLook, looked, HasNoUnit, MayAskForUnit, full_with, with_unit_asked}
 use Rattle.join_tables.specs.inside.Resting.{alone_in, full_in, known_notes, stuck_notes, drop_notes, HoldsTurns, HoldsParts, FitsDrops, IsRestView, RestParts}
 use Rattle.table_steps.proofs.Totals.{weigh_append}
 
@@ -252,6 +252,14 @@ pub left_table : {X : Type 0} (f : X → TableId) (n : TableId) (xs : List Parke
 left_table f n [] o x none some_there is = subst (λ q. IsOfTable n (option_map f q)) (sym (none refl)) tt
 left_table f n (y ∷ ys) o x none some_there is = subst (λ q. IsOfTable n (option_map f q)) (sym (some_there (more_is_some y ys))) is
 
+pub left_is : {X : Type 0} (f : X → TableId) (n : TableId) (xs : List Parked) (o : Option X) (x : X) → (xs ≡ [] → o ≡ None) → (xs ≢ [] → o ≡ Some x) → f x ≡ n → option_map f o ≡ table_left n xs
+left_is f n [] o x none some_there is = ap (option_map f) (none refl)
+left_is f n (y ∷ ys) o x none some_there is = ap (option_map f) (some_there (more_is_some y ys)) ∙ ap Some is
+
+pub left_is_so : {X : Type 0} (p : X → Type 0) (xs : List Parked) (o : Option X) (x : X) → (xs ≡ [] → o ≡ None) → (xs ≢ [] → o ≡ Some x) → p x → IfSome o p
+left_is_so p [] o x none some_there is = subst (λ q. IfSome q p) (sym (none refl)) tt
+left_is_so p (y ∷ ys) o x none some_there is = subst (λ q. IfSome q p) (sym (some_there (more_is_some y ys))) is
+
 pub left_found : {X : Type 0} (g : X → List ℕ) (xs : List Parked) (o : Option X) (x : X) (before : List ℕ) → (xs ≡ [] → o ≡ None) → (xs ≢ [] → o ≡ Some x) → g x ≡ before → option_map_or g o [] ≡ found_left xs before
 left_found g [] o x before none some_there is = ap (λ q. option_map_or g q []) (none refl)
 left_found g (y ∷ ys) o x before none some_there is = ap (λ q. option_map_or g q []) (some_there (more_is_some y ys)) ∙ is
@@ -302,10 +310,10 @@ may_ask net a turns ds v r known some_there below = known_as turns ds (MayAskFor
     lives b h = omega (arith, holds_live (reverse turns) ds b h, length-reverse turns, some_length turns some_there)
 
 pub record AsksView (net : NetRows) (a n : ℕ) (turns : List Parked) (ds : List Dropping) (v : List Note) : Type 0 where
-  pub rest : IsRestView turns ds (asked net a n v)
-  pub alone : alone_in (asked net a n v) ≡ alone_in v
-  pub full : full_in (asked net a n v) ≡ full_with (nat_lt n (max_of net a)) a (full_in v)
-  pub bare : bare_part (asked net a n v) ≡ bare_part v
+  pub rest : IsRestView turns ds (with_unit_asked net a n v)
+  pub alone : alone_in (with_unit_asked net a n v) ≡ alone_in v
+  pub full : full_in (with_unit_asked net a n v) ≡ full_with (nat_lt n (max_of net a)) a (full_in v)
+  pub bare : bare_part (with_unit_asked net a n v) ≡ bare_part v
 
 pub asked_view : (net : NetRows) (a n : ℕ) (turns : List Parked) (ds : List Dropping) (v : List Note) → IsRestView turns ds v → alone_in v ≢ None → AsksView net a n turns ds v
 asked_view net a n turns ds v r known = known_as turns ds (AsksView net a n turns ds) v r known

@@ -12,6 +12,7 @@ use Rattle.table_steps.specs.declared.view.Note.{Note}
 use Rattle.table_steps.specs.declared.view.Note.TheVariants.{Duty, Sems, Has, Lies}
 use Rattle.table_steps.proofs.Counting.{times_strong_in, is_strong_into}
 use Rattle.join_tables.specs.Findings.{FindsOne, FindsTwo, CountsEdge, GivesToken}
+use Rattle.join_tables.specs.Parts.{parts_in}
 use Rattle.join_tables.specs.States.{FreshState, OwingState, SpentState, fresh_state, owing_state, spent_state}
 use Rattle.join_tables.specs.Turns.{GivesNext, release_cause}
 use Rattle.join_tables.specs.declared.turns.Gave.TheVariants.{Next, Released, Finished}
@@ -109,13 +110,13 @@ drop_none (x ∷ xs) zero h = absurd (cc)
 drop_none (x ∷ xs) (suc n) h = drop_none xs n h
 
 -- what giving led to, by what was left
-pub gives_none : (net : NetRows) (o : OwingState) (left : List ℕ) (spent : SpentState) → left ≡ [] → spent ≡ spent_state o.table (Ended o.ended) → GivesNext net o left (Finished spent)
+pub gives_none : {V : Type 0} (net : NetRows) (o : OwingState V) (left : List ℕ) (spent : SpentState V) → left ≡ [] → spent ≡ spent_state o.table (Ended o.ended) → GivesNext net o left (Finished spent)
 gives_none net o left spent none is = subst (λ es. GivesNext net o es (Finished spent)) (sym none) is
 
-pub gives_on : (net : NetRows) (o : OwingState) (e : ℕ) (left rest : List ℕ) (p : OwingState) → left ≡ e ∷ rest → p ≡ owing_state o.table o.ended rest [] p.found → GivesToken (is_weak net e) false o.found p.found → GivesNext net o left (Next p)
+pub gives_on : {V : Type 0} (net : NetRows) (o : OwingState V) (e : ℕ) (left rest : List ℕ) (p : OwingState V) → left ≡ e ∷ rest → p ≡ owing_state o.table o.ended rest [] p.found → GivesToken (is_weak net e) false o.found p.found → GivesNext net o left (Next p)
 gives_on net o e left rest p some is found = subst (λ es. GivesNext net o es (Next p)) (sym some) (is, found)
 
-pub gives_more : (net : NetRows) (o : OwingState) (e : ℕ) (left rest : List ℕ) (p : OwingState) (fresh : FreshState) → left ≡ e ∷ rest → p ≡ owing_state o.table o.ended rest [] p.found → fresh ≡ fresh_state o.table (target net e) (release_cause net e) → GivesToken (is_weak net e) true o.found p.found → GivesNext net o left (Released p fresh)
+pub gives_more : {V : Type 0} (net : NetRows) (o : OwingState V) (e : ℕ) (left rest : List ℕ) (p : OwingState V) (fresh : FreshState) → left ≡ e ∷ rest → p ≡ owing_state o.table o.ended rest [] p.found → fresh ≡ fresh_state o.table (target net e) (release_cause net e) → GivesToken (is_weak net e) true o.found p.found → GivesNext net o left (Released p fresh)
 gives_more net o e left rest p fresh some is made found = subst (λ es. GivesNext net o es (Released p fresh)) (sym some) (is, made, found)
 
 -- what giving a token found: at a weak edge, and at a strong one that was counted, or wasn't
@@ -140,7 +141,7 @@ ours_first : (e n : ℕ) (es : List ℕ) (v : List Note) → slot_weigh (lot Our
 ours_first e n es v = omega (arith, self_weight Ours e (From n))
 
 -- a view of an End that owes an edge has its parcel
-pub owes_first : (ended : EndedStart) (e : ℕ) (left units : List ℕ) → OwesFirst e ended.place (owing_view ended (e ∷ left) units)
+pub owes_first : {V : Type 0} (ended : EndedStart V) (e : ℕ) (left units : List ℕ) → OwesFirst e ended.place (owing_view ended (e ∷ left) units)
 owes_first ended e left units = (
   refl,
   (lone, omega arith),
@@ -153,16 +154,16 @@ owes_first ended e left units = (
 )
   where
     told : List Note
-    told = Duty (Told ended.start (Start ended.task ended.cause ended.ins.parts)) ∷ []
+    told = Duty (Told ended.start (Start ended.task ended.cause (parts_in ended.ins))) ∷ []
 
     lone : weigh resting (Has Live ∷ Sems Owed units ∷ Duty (Told ended.place (End ended.start ended.gives ended.inner)) ∷ our_lots ended.place (e ∷ left) ++ told) ≡ 0
     lone = omega (arith, weigh_append resting (our_lots ended.place (e ∷ left)) told, our_weigh resting ended.place (e ∷ left))
 
-pub paid_view : (ended : EndedStart) (e : ℕ) (left units : List ℕ) → paid (owing_view ended (e ∷ left) units) ≡ owing_view ended left units
+pub paid_view : {V : Type 0} (ended : EndedStart V) (e : ℕ) (left units : List ℕ) → paid (owing_view ended (e ∷ left) units) ≡ owing_view ended left units
 paid_view ended e left units = ap (λ l. Duty (Owes left) ∷ Has Live ∷ Sems Owed units ∷ Duty (Told ended.place (End ended.start ended.gives ended.inner)) ∷ l) (unlot_head)
   where
     told : List Note
-    told = Duty (Told ended.start (Start ended.task ended.cause ended.ins.parts)) ∷ []
+    told = Duty (Told ended.start (Start ended.task ended.cause (parts_in ended.ins))) ∷ []
 
     rest : List Note
     rest = our_lots ended.place left ++ told

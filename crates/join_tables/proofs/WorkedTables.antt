@@ -1,6 +1,9 @@
 -- What contracts of tables say, line by line, computed on a small net.
-use Rattle.std.proofs.Common.{◌≡◌, ◌≢◌, inl, inr, ℕ, ◌<◌, ◌≤◌, true, false, [], ◌∷◌, length, Some, refl, ap, arith}
-use Rattle.std.specs.Prelude.{slice_index}
+use Rattle.std.proofs.Common.{◌≡◌, ◌≢◌, inl, inr, ℕ, ◌<◌, ◌≤◌, true, false, [], ◌∷◌, ◌++◌, length, map, Some, refl, sym, ap, subst, arith}
+use Rattle.std.specs.Prelude.{slice_index, slice_get}
+use Rattle.std.specs.Arc.{arc_value}
+use Rattle.std.specs.Global.{Global}
+use Rattle.std.specs.declared.sync.Arc.{Arc}
 use Rattle.task_graph.specs.declared.net.Shape.{Shape}
 use Rattle.task_graph.specs.declared.net.Shape.TheVariants.{Plain, Choice}
 use Rattle.task_graph.specs.declared.net.TaskRow.{TaskRow}
@@ -9,20 +12,28 @@ use Rattle.task_graph.specs.NetRows.{NetRows}
 use Rattle.atomic_table.specs.Seated.{TableId}
 use Rattle.journal_rules.specs.declared.entry.Cause.TheVariants.{Source, Strong, Weak}
 use Rattle.journal_rules.specs.declared.entry.Entry.TheVariants.{Start, End}
+use Rattle.journal_rules.specs.declared.entry.Part.TheVariants.{From, First, Nothing}
+use Rattle.journal_rules.specs.declared.entry.Why.TheVariants.{Inner}
+use Rattle.join_words.specs.declared.ins.Given.TheVariants as given
+use Rattle.join_words.specs.declared.ins.Ins.{Ins}
+use Rattle.join_words.specs.Ins.{parts_of}
+use Rattle.table_steps.specs.Values.{given_part, values_in, AreValues}
+use Rattle.table_steps.proofs.Values.{values_agree}
 use Rattle.journal_rules.specs.declared.entry.DropWhy.TheVariants.{Halted as AfterFault, Limit}
 use Rattle.join_tables.specs.declared.turns.Collected.TheVariants.{More, Last, LastAgain}
 use Rattle.join_tables.specs.declared.turns.Gave.TheVariants.{Next, Released, Finished}
 use Rattle.join_tables.specs.declared.turns.Admitted.TheVariants.{Go, Over, Halted}
 use Rattle.join_tables.specs.declared.turns.EndedStart.{EndedStart}
-use Rattle.join_tables.specs.declared.fates.Fate.TheVariants.{Ended}
+use Rattle.join_tables.specs.declared.fates.Failure.{Failure}
+use Rattle.join_tables.specs.declared.fates.Fate.TheVariants.{Ended, Faulted}
 use Rattle.join_tables.specs.declared.keeper.Remaining.TheVariants.{More as TurnsLeft, All as NoneLeft}
 use Rattle.table_steps.specs.Giving.{times, target, MayEndGiving}
 use Rattle.join_tables.specs.Findings.{FindsOne, FindsTwo, CountsEdge, TakesToken, GivesToken}
-use Rattle.join_tables.specs.Parts.{part_list}
-use Rattle.join_tables.specs.States.{FreshState, CollectingState, TurnState, AdmittedState, RunningState, OwingState, SpentState, fresh_state, turn_state, turn_with, admitted_state}
+use Rattle.join_tables.specs.Parts.{parts_in}
+use Rattle.join_tables.specs.States.{FreshState, CollectingState, TurnState, AdmittedState, RunningState, OwingState, SpentState, fresh_state, turn_state, turn_with, admitted_state, spent_state}
 use Rattle.join_tables.specs.FirstCauses.{begin_full, first_causes, first_fresh}
 use Rattle.join_tables.specs.Turns.{CollectsFrom, Admits, EndedAs, GivesNext, release_cause}
-use Rattle.join_tables.specs.Keeping.{entries_of, Merges, LeavesOf}
+use Rattle.join_tables.specs.Keeping.{KeeperState, keeper_state, AgreeOnValues, FitsEntries, entries_of, recorded_values, found_inputs, keeper_with, Merges, LeavesOf}
 
 abbrev free : Shape → TaskRow
 free shape = record { shape = shape; takes = []; puts = [] }
@@ -81,25 +92,25 @@ strong_cause : release_cause net 0 ≡ Strong
 strong_cause = refl
 
 -- COLLECTING
-more_where_one_is_left : (c d : CollectingState) → CollectsFrom c (0 ∷ 1 ∷ []) (More d) → d.left ≡ 1 ∷ []
+more_where_one_is_left : (c d : CollectingState) → CollectsFrom {V = ℕ} c (0 ∷ 1 ∷ []) (More d) → d.left ≡ 1 ∷ []
 more_where_one_is_left c d h = ap (λ (s : CollectingState). s.left) h.0
 
-no_more_after_the_last : (c d : CollectingState) → CollectsFrom c (0 ∷ []) (More d) → ⊥
+no_more_after_the_last : (c d : CollectingState) → CollectsFrom {V = ℕ} c (0 ∷ []) (More d) → ⊥
 no_more_after_the_last c d h = h
 
-no_last_before_the_last : (c : CollectingState) (t : TurnState) → CollectsFrom c (0 ∷ 1 ∷ []) (Last t) → ⊥
+no_last_before_the_last : (c : CollectingState) (t : TurnState) → CollectsFrom {V = ℕ} c (0 ∷ 1 ∷ []) (Last t) → ⊥
 no_last_before_the_last c t h = h
 
-not_again_before_the_last : (c : CollectingState) (t : TurnState) (f : FreshState) → CollectsFrom c (0 ∷ 1 ∷ []) (LastAgain t f) → ⊥
+not_again_before_the_last : (c : CollectingState) (t : TurnState) (f : FreshState) → CollectsFrom {V = ℕ} c (0 ∷ 1 ∷ []) (LastAgain t f) → ⊥
 not_again_before_the_last c t f h = h
 
-again_by_its_strong_edges : (c : CollectingState) (t : TurnState) (f : FreshState) → CollectsFrom c (0 ∷ []) (LastAgain t f) → TakesToken c.cause true c.found t.found × (f.cause ≡ Strong) × (f.task ≡ c.task)
+again_by_its_strong_edges : (c : CollectingState) (t : TurnState) (f : FreshState) → CollectsFrom {V = ℕ} c (0 ∷ []) (LastAgain t f) → TakesToken c.cause true c.found t.found × (f.cause ≡ Strong) × (f.task ≡ c.task)
 again_by_its_strong_edges c t f h = (h.2, ap (λ (s : FreshState). s.cause) h.1, ap (λ (s : FreshState). s.task) h.1)
 
-last_without_another : (c : CollectingState) (t : TurnState) → CollectsFrom c (0 ∷ []) (Last t) → TakesToken c.cause false c.found t.found
+last_without_another : (c : CollectingState) (t : TurnState) → CollectsFrom {V = ℕ} c (0 ∷ []) (Last t) → TakesToken c.cause false c.found t.found
 last_without_another c t h = h.1
 
-nothing_is_found_without_an_edge : (c : CollectingState) (t : TurnState) → CollectsFrom c [] (Last t) → t.found ≡ c.found
+nothing_is_found_without_an_edge : (c : CollectingState) (t : TurnState) → CollectsFrom {V = ℕ} c [] (Last t) → t.found ≡ c.found
 nothing_is_found_without_an_edge c t h = ap (λ (s : TurnState). s.found) h
 
 -- WHAT A CALL FOUND: after a first number, 9
@@ -180,58 +191,64 @@ no_release_by_a_second_token : GivesToken false true [] (1 ∷ 1 ∷ []) → ⊥
 no_release_by_a_second_token h = omega (arith, h.1.0)
 
 -- ADMISSIONS
-go_below_the_limit : (t : TurnState) (ticket : AdmittedState) → Admits 5 t (Go ticket) → FindsTwo (λ h n. (h ≡ 0) × (n < 5)) t.found ticket.found
+go_below_the_limit : (t : TurnState) (ticket : AdmittedState) → Admits {V = ℕ} 5 t (Go ticket) → FindsTwo (λ h n. (h ≡ 0) × (n < 5)) t.found ticket.found
 go_below_the_limit t ticket h = h.1
 
-goes_on_without_a_fault : (n : TableId) → Admits 5 (turn_state n 1 Strong []) (Go (admitted_state n 1 Strong [] (4 ∷ 0 ∷ [])))
+goes_on_without_a_fault : (n : TableId) → Admits {V = ℕ} 5 (turn_state n 1 Strong []) (Go (admitted_state n 1 Strong [] (4 ∷ 0 ∷ [])))
 goes_on_without_a_fault n = (refl, (refl, (refl, omega arith)))
 
-no_start_that_did_not_look : (n : TableId) → Admits 5 (turn_state n 1 Strong []) (Go (admitted_state n 1 Strong [] (4 ∷ []))) → ⊥
+no_start_that_did_not_look : (n : TableId) → Admits {V = ℕ} 5 (turn_state n 1 Strong []) (Go (admitted_state n 1 Strong [] (4 ∷ []))) → ⊥
 no_start_that_did_not_look n h = h.1
 
-no_start_past_the_limit : (n : TableId) → Admits 5 (turn_state n 1 Strong []) (Go (admitted_state n 1 Strong [] (5 ∷ 0 ∷ []))) → ⊥
+no_start_past_the_limit : (n : TableId) → Admits {V = ℕ} 5 (turn_state n 1 Strong []) (Go (admitted_state n 1 Strong [] (5 ∷ 0 ∷ []))) → ⊥
 no_start_past_the_limit n h = omega (arith, h.1.1.1)
 
-no_start_after_a_fault : (n : TableId) → Admits 5 (turn_state n 1 Strong []) (Go (admitted_state n 1 Strong [] (4 ∷ 1 ∷ []))) → ⊥
+no_start_after_a_fault : (n : TableId) → Admits {V = ℕ} 5 (turn_state n 1 Strong []) (Go (admitted_state n 1 Strong [] (4 ∷ 1 ∷ []))) → ⊥
 no_start_after_a_fault n h = omega (arith, h.1.1.0)
 
-over_from_the_limit_on : (t u : TurnState) → Admits 5 t (Over u) → FindsTwo (λ h n. (h ≡ 0) × (5 ≤ n)) t.found u.found
+over_from_the_limit_on : (t u : TurnState) → Admits {V = ℕ} 5 t (Over u) → FindsTwo (λ h n. (h ≡ 0) × (5 ≤ n)) t.found u.found
 over_from_the_limit_on t u h = h.1
 
-not_over_below_the_limit : (n : TableId) → Admits 5 (turn_state n 1 Strong []) (Over (turn_with n 1 Strong (Some Limit) [] (4 ∷ 0 ∷ []))) → ⊥
+not_over_below_the_limit : (n : TableId) → Admits {V = ℕ} 5 (turn_state n 1 Strong []) (Over (turn_with n 1 Strong (Some Limit) [] (4 ∷ 0 ∷ []))) → ⊥
 not_over_below_the_limit n h = omega (arith, h.1.1.1)
 
-over_is_refused : (t u : TurnState) → Admits 5 t (Over u) → u.refused ≡ Some Limit
+over_is_refused : (t u : TurnState) → Admits {V = ℕ} 5 t (Over u) → u.refused ≡ Some Limit
 over_is_refused t u h = ap (λ (s : TurnState). s.refused) h.0
 
-halted_by_its_mark : (t u : TurnState) → Admits 5 t (Halted u) → (u.refused ≡ Some AfterFault) × FindsOne (λ h. h ≢ 0) t.found u.found
+halted_by_its_mark : (t u : TurnState) → Admits {V = ℕ} 5 t (Halted u) → (u.refused ≡ Some AfterFault) × FindsOne (λ h. h ≢ 0) t.found u.found
 halted_by_its_mark t u h = (ap (λ (s : TurnState). s.refused) h.0, h.1)
 
-not_halted_without_a_mark : (n : TableId) → Admits 5 (turn_state n 1 Strong []) (Halted (turn_with n 1 Strong (Some AfterFault) [] (0 ∷ []))) → ⊥
+not_halted_without_a_mark : (n : TableId) → Admits {V = ℕ} 5 (turn_state n 1 Strong []) (Halted (turn_with n 1 Strong (Some AfterFault) [] (0 ∷ []))) → ⊥
 not_halted_without_a_mark n h = h.1.1 refl
 
 -- ENDS
-end_of_its_start : (r : RunningState) (ended : EndedStart) → EndedAs r (3 ∷ []) false ended → (ended.start ≡ r.place) × (ended.gives ≡ 3 ∷ [])
-end_of_its_start r ended h = (h.2, h.4)
+end_of_its_start : (r : RunningState ℕ) (ended : EndedStart ℕ) → EndedAs r (3 ∷ []) 7 false ended → (ended.start ≡ r.place) × (ended.ins ≡ r.ins) × (ended.gives ≡ 3 ∷ [])
+end_of_its_start r ended h = (h.2, h.3, h.5)
+
+end_with_its_value : (r : RunningState ℕ) (ended : EndedStart ℕ) → EndedAs r (3 ∷ []) 7 false ended → arc_value ended.value ≡ 7
+end_with_its_value r ended h = h.4
 
 -- GIVING
-next_without_a_release : (o p : OwingState) → GivesNext net o (0 ∷ 2 ∷ []) (Next p) → GivesToken false false o.found p.found
+next_without_a_release : (o p : OwingState ℕ) → GivesNext net o (0 ∷ 2 ∷ []) (Next p) → GivesToken false false o.found p.found
 next_without_a_release o p h = h.1
 
-weak_edge_always_releases : (o p : OwingState) → GivesNext net o (3 ∷ []) (Next p) → ⊥
+weak_edge_always_releases : (o p : OwingState ℕ) → GivesNext net o (3 ∷ []) (Next p) → ⊥
 weak_edge_always_releases o p h = h.1
 
-released_where_one_was_found : (o p : OwingState) (f : FreshState) → GivesNext net o (0 ∷ []) (Released p f) → GivesToken false true o.found p.found × (f.task ≡ 1) × (f.cause ≡ Strong)
+released_where_one_was_found : (o p : OwingState ℕ) (f : FreshState) → GivesNext net o (0 ∷ []) (Released p f) → GivesToken false true o.found p.found × (f.task ≡ 1) × (f.cause ≡ Strong)
 released_where_one_was_found o p f h = (h.2, ap (λ (s : FreshState). s.task) h.1, ap (λ (s : FreshState). s.cause) h.1)
 
-released_by_a_weak_edge : (o p : OwingState) (f : FreshState) → GivesNext net o (4 ∷ []) (Released p f) → (f.task ≡ 4) × (f.cause ≡ Weak 4)
+released_by_a_weak_edge : (o p : OwingState ℕ) (f : FreshState) → GivesNext net o (4 ∷ []) (Released p f) → (f.task ≡ 4) × (f.cause ≡ Weak 4)
 released_by_a_weak_edge o p f h = (ap (λ (s : FreshState). s.task) h.1, ap (λ (s : FreshState). s.cause) h.1)
 
-not_finished_with_an_edge : (o : OwingState) (s : SpentState) → GivesNext net o (0 ∷ []) (Finished s) → ⊥
+not_finished_with_an_edge : (o : OwingState ℕ) (s : SpentState ℕ) → GivesNext net o (0 ∷ []) (Finished s) → ⊥
 not_finished_with_an_edge o s h = h
 
-no_next_without_an_edge : (o p : OwingState) → GivesNext net o [] (Next p) → ⊥
+no_next_without_an_edge : (o p : OwingState ℕ) → GivesNext net o [] (Next p) → ⊥
 no_next_without_an_edge o p h = h
+
+finished_without_an_edge : (o : OwingState ℕ) → GivesNext net o [] (Finished (spent_state o.table (Ended o.ended)))
+finished_without_an_edge o = refl
 
 -- THE KEEPER
 all_after_the_last : LeavesOf 1 NoneLeft
@@ -243,17 +260,65 @@ not_all_before_the_last h = omega (arith, h)
 no_more_after_the_last_turn : LeavesOf 1 TurnsLeft → ⊥
 no_more_after_the_last_turn h = h refl
 
-abbrev ended : EndedStart
-ended = record { task = 0; cause = Source; start = 0; ins = part_list [] 0; place = 1; gives = 0 ∷ []; inner = false }
+-- a start of task 0 that found these inputs, and ended with a value or faulted
+module _ (shared : Arc ℕ Global) (ins : Ins ℕ) where
+  abbrev ended : EndedStart ℕ
+  ended = record { task = 0; cause = Source; start = 0; ins = ins; value = shared; place = 1; gives = 0 ∷ []; inner = false }
 
-abbrev other_ended : EndedStart
-other_ended = record { task = 0; cause = Source; start = 0; ins = part_list [] 0; place = 0; gives = 0 ∷ []; inner = false }
+  abbrev other_ended : EndedStart ℕ
+  other_ended = record { task = 0; cause = Source; start = 0; ins = ins; value = shared; place = 0; gives = 0 ∷ []; inner = false }
 
-start_and_end : entries_of (Ended ended) ≡ record { place = 0; entry = Start 0 Source [] } ∷ record { place = 1; entry = End 0 (0 ∷ []) false } ∷ []
-start_and_end = refl
+  abbrev failure : Failure ℕ
+  failure = record { task = 0; cause = Source; start = 0; ins = ins; place = 1; why = Inner }
 
-no_place_twice : Merges (entries_of (Ended other_ended)) (Start 0 Source [] ∷ []) → ⊥
-no_place_twice m = omega (arith, m.each 0 (omega arith))
+  values_are_left_out : parts_of ins ≡ given.Value 3 shared ∷ given.First ∷ given.Nothing ∷ [] → parts_in ins ≡ From 3 ∷ First ∷ Nothing ∷ []
+  values_are_left_out is = ap (map given_part) is
 
-no_place_unnamed : Merges (entries_of (Ended ended)) (Start 0 Source [] ∷ End 0 (0 ∷ []) false ∷ Start 2 Strong [] ∷ []) → ⊥
-no_place_unnamed m = omega (arith, m.each 2 (omega arith))
+  start_and_end : entries_of (Ended ended) ≡ record { place = 0; entry = Start 0 Source (parts_in ins) } ∷ record { place = 1; entry = End 0 (0 ∷ []) false } ∷ []
+  start_and_end = refl
+
+  value_at_its_end : recorded_values (Ended ended) ≡ record { place = 1; value = shared } ∷ []
+  value_at_its_end = refl
+
+  no_value_of_a_fault : recorded_values (Faulted failure) ≡ []
+  no_value_of_a_fault = refl
+
+  inputs_at_its_start : found_inputs (Ended ended) ≡ record { place = 0; ins = ins } ∷ []
+  inputs_at_its_start = refl
+
+  inputs_of_a_fault : found_inputs (Faulted failure) ≡ record { place = 0; ins = ins } ∷ []
+  inputs_of_a_fault = refl
+
+  values_in_their_order : (k : KeeperState ℕ) → (keeper_with k (Ended ended) (2 ∷ k.found)).values ≡ k.values ++ record { place = 1; value = shared } ∷ []
+  values_in_their_order k = refl
+
+  -- the End at place 1 has the value shared, and the start at place 2 found these inputs
+  abbrev kept : TableId → KeeperState ℕ
+  kept n = keeper_state n [] (record { place = 1; value = shared } ∷ []) (record { place = 2; ins = ins } ∷ []) []
+
+  found_the_value_of_the_end : (n : TableId) → parts_of ins ≡ given.Value 1 shared ∷ [] → AgreeOnValues (kept n)
+  found_the_value_of_the_end n is = record { value_at = λ m. Some (arc_value shared); all = (refl, subst (λ l. AreValues (λ m. Some (arc_value shared)) (values_in l ++ [])) (sym is) (refl, tt)) }
+
+  found_no_other_value : (n : TableId) (other : Arc ℕ Global) → parts_of ins ≡ given.Value 1 other ∷ [] → arc_value shared ≡ 7 → arc_value other ≡ 8 → AgreeOnValues (kept n) → ⊥
+  found_no_other_value n other is seven eight agree =
+      let second : slice_get (record { place = 1; value = arc_value shared } ∷ (values_in (parts_of ins) ++ [])) 1 ≡ Some (record { place = 1; value = arc_value other }) =
+      ap (λ l. slice_get (record { place = 1; value = arc_value shared } ∷ (values_in l ++ [])) 1) is in
+      let same = values_agree _ 0 1 (record { place = 1; value = arc_value shared }) (record { place = 1; value = arc_value other }) agree refl second refl in omega (arith, same, seven, eight)
+
+  kept_for_its_entries : FitsEntries (entries_of (Ended ended)) (record { place = 1; value = shared } ∷ []) (record { place = 0; ins = ins } ∷ [])
+  kept_for_its_entries = record { values_are = refl; inputs_are = refl }
+
+  no_value_is_left_out : FitsEntries (entries_of (Ended ended)) [] (record { place = 0; ins = ins } ∷ []) → ⊥
+  no_value_is_left_out fits = omega (arith, ap length fits.values_are)
+
+  no_value_without_an_end : FitsEntries (entries_of (Faulted failure)) (record { place = 1; value = shared } ∷ []) (record { place = 0; ins = ins } ∷ []) → ⊥
+  no_value_without_an_end fits = omega (arith, ap length fits.values_are)
+
+  no_inputs_at_another_place : FitsEntries (entries_of (Ended ended)) (record { place = 1; value = shared } ∷ []) (record { place = 2; ins = ins } ∷ []) → ⊥
+  no_inputs_at_another_place fits = omega (arith, ap (λ l. slice_index (map (λ p. p.0) l) 0) fits.inputs_are)
+
+  no_place_twice : Merges (entries_of (Ended other_ended)) (Start 0 Source [] ∷ []) → ⊥
+  no_place_twice m = omega (arith, m.each 0 (omega arith))
+
+  no_place_unnamed : Merges (entries_of (Ended ended)) (Start 0 Source [] ∷ End 0 (0 ∷ []) false ∷ Start 2 Strong [] ∷ []) → ⊥
+  no_place_unnamed m = omega (arith, m.each 2 (omega arith))

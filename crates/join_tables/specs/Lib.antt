@@ -1,4 +1,5 @@
 pub mod Parts
+pub mod Values
 pub mod States
 pub mod Findings
 pub mod FirstCauses

@@ -1,11 +1,10 @@
--- The parts that a release found at its edges.
-use Rattle.std.specs.Prelude.{ℕ, List}
+-- What a release found at its edges.
+use Rattle.std.specs.Prelude.{List, map}
 use Rattle.journal_rules.specs.declared.entry.Part.{Part}
+use Rattle.join_words.specs.declared.ins.Ins.{Ins}
+use Rattle.join_words.specs.Ins.{parts_of}
+use Rattle.table_steps.specs.Values.{given_part}
 
--- the parts, and for how many there is room, with those that are there
-pub record PartList : Type 0 where
-  pub parts : List Part
-  pub room : ℕ
-
-abbrev pub part_list : List Part → ℕ → PartList
-part_list parts room = record { parts = parts; room = room }
+-- the parts that it found, without their values
+abbrev pub parts_in : {V : Type 0} → Ins V → List Part
+parts_in ins = map given_part (parts_of ins)

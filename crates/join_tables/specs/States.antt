@@ -4,8 +4,8 @@ use Rattle.std.specs.Prelude.{ℕ, List, [], Option, None}
 use Rattle.task_graph.specs.NetRows.{NetRows}
 use Rattle.atomic_table.specs.Seated.{TableId}
 use Rattle.journal_rules.specs.declared.entry.Cause.{Cause}
-use Rattle.journal_rules.specs.declared.entry.Part.{Part}
 use Rattle.journal_rules.specs.declared.entry.DropWhy.{DropWhy}
+use Rattle.join_words.specs.declared.ins.Ins.{Ins}
 use Rattle.join_tables.specs.declared.turns.EndedStart.{EndedStart}
 use Rattle.join_tables.specs.declared.fates.Fate.{Fate}
 
@@ -56,28 +56,28 @@ pub record StartUnits : Type 0 where
   pub to_claim : List ℕ
   pub refused : Option ℕ
 
--- a start that runs, its place in the journal, the parts that it found, and its units
-pub record RunningState : Type 0 where
+-- a start that runs, its place in the journal, what it found, and its units
+pub record RunningState (V : Type 0) : Type 0 where
   pub table : TableId
   pub task : ℕ
   pub cause : Cause
   pub place : ℕ
-  pub ins : List Part
+  pub ins : Ins V
   pub units : StartUnits
   pub found : List ℕ
 
 -- a run that ended, the edges that it has still to give, and the semaphores of the units that it has to give back
-pub record OwingState : Type 0 where
+pub record OwingState (V : Type 0) : Type 0 where
   pub table : TableId
-  pub ended : EndedStart
+  pub ended : EndedStart V
   pub left : List ℕ
   pub units : List ℕ
   pub found : List ℕ
 
 -- one that owes nothing
-pub record SpentState : Type 0 where
+pub record SpentState (V : Type 0) : Type 0 where
   pub table : TableId
-  pub fate : Fate
+  pub fate : Fate V
 
 abbrev pub fresh_state : TableId → ℕ → Cause → FreshState
 fresh_state n t cause = record { table = n; task = t; cause = cause }
@@ -94,11 +94,11 @@ turn_state n t cause found = turn_with n t cause None [] found
 abbrev pub admitted_state : TableId → ℕ → Cause → List ℕ → List ℕ → AdmittedState
 admitted_state n t cause held found = record { table = n; task = t; cause = cause; held = held; found = found }
 
-abbrev pub running_state : TableId → ℕ → Cause → ℕ → List Part → StartUnits → List ℕ → RunningState
+abbrev pub running_state : {V : Type 0} → TableId → ℕ → Cause → ℕ → Ins V → StartUnits → List ℕ → RunningState V
 running_state n t cause place ins units found = record { table = n; task = t; cause = cause; place = place; ins = ins; units = units; found = found }
 
-abbrev pub owing_state : TableId → EndedStart → List ℕ → List ℕ → List ℕ → OwingState
+abbrev pub owing_state : {V : Type 0} → TableId → EndedStart V → List ℕ → List ℕ → List ℕ → OwingState V
 owing_state n ended left units found = record { table = n; ended = ended; left = left; units = units; found = found }
 
-abbrev pub spent_state : TableId → Fate → SpentState
+abbrev pub spent_state : {V : Type 0} → TableId → Fate V → SpentState V
 spent_state n fate = record { table = n; fate = fate }

@@ -9,6 +9,6 @@ use Rattle.join_tables.specs.declared.turns.UnitTake.TheVariants.{Got, NoUnit}
 
 -- A turn has a unit more where its step found in the unit word fewer than the semaphore has, and else the units that it
 -- had.
-abbrev pub TakesUnit : NetRows → TurnState → ℕ → UnitTake → Type 0
+abbrev pub TakesUnit : {V : Type 0} → NetRows → TurnState → ℕ → UnitTake V → Type 0
 TakesUnit net t s (Got u) = (u ≡ turn_with t.table t.task t.cause None (s ∷ t.held) u.found) × FindsOne (λ n. n < max_of net s) t.found u.found
 TakesUnit net t s (NoUnit u) = (u ≡ turn_with t.table t.task t.cause None t.held u.found) × FindsOne (λ n. max_of net s ≤ n) t.found u.found

@@ -1,36 +1,41 @@
-// The calls that take a release to its start, and a start to its end and the releases that follow. None takes
-// memory, and none waits.
-ghost use Rattle.std.specs.Prelude.{◌≡◌, ◌≢◌, ◌↔◌, ◌<◌, ◌≤◌, ◌+◌, ◌∷◌, ℕ, List, IfOk, IfSome, IsTrue, is_some, [], length, slice_get, drop};
+// The calls that take a release to its start, and a start to its end and the releases that follow. None waits, and only
+// `room_for` takes memory.
+ghost use Rattle.std.specs.Prelude.{◌≡◌, ◌≢◌, ◌<◌, ◌≤◌, ◌+◌, ◌∷◌, ℕ, List, IfOk, IfErr, IfSome, IsTrue, is_some, [], length, slice_get};
 ghost use Rattle.std.specs.Arc.{arc_value};
 ghost use Rattle.task_graph.specs.Net.{is_weak};
+ghost use Rattle.join_words.specs.Ins.{parts_of, room_of};
 ghost use Rattle.journal_rules.specs.DataRule.{edges_of};
 ghost use Rattle.journal_rules.specs.declared.entry.Cause.TheVariants.{Strong};
 ghost use Rattle.join_tables.specs.Findings.{CountsEdge, TakesToken, GivesToken};
+ghost use Rattle.table_steps.specs.Values.{Knows, ended_with, values_in};
+ghost use Rattle.join_tables.specs.Parts.{parts_in};
 ghost use Rattle.join_tables.specs.States.{fresh_state, collecting_state, running_state};
 ghost use Rattle.join_tables.specs.Turns.{CollectsFrom, GivesNext, EndedAs, release_cause};
 ghost use Rattle.table_steps.specs.Giving.{MayEndGiving, target};
 ghost use Rattle.table_steps.specs.Holding.{HoldsEachUnit, PutsAll};
 ghost use Rattle.join_tables.specs.Claims.{BeginsUnits, HasAllUnits, HasCredited, HasClaimed};
 ghost use Rattle.table_steps.specs.inside.Accounts.{FitsRelease};
-ghost use Rattle.table_steps.specs.inside.Kinds.{CountsNext, AreNoneLeft, others_of, kept_back, settled};
+ghost use Rattle.table_steps.specs.inside.Kinds.{CountsNext, AreNoneLeft, others_of, kept_back, without_count};
 ghost use Rattle.join_tables.specs.inside.Seated.{OwesFirst, OwesToken, paid, paid_token, HasMade, collecting_view, taken_in, left_in};
 ghost use Rattle.join_tables.specs.inside.Collects.{CollectsOne};
 
 use crate::fates::Fate;
-use crate::parts::FoundParts;
 use crate::turns::{
     Collected, Collecting, EndedStart, Fresh, Gave, NetTable, Owing, Running, Spent, StartTicket,
-    TableSeat, Turn,
+    Turn,
 };
-use journal_rules::{Cause, Part};
+use join_words::{Given, Ins};
+use journal_rules::Cause;
 use outside_io::{List, NoMemory};
 use std::alloc::Global;
+use std::sync::Arc;
+use table_steps::TableSeat;
 
 // What collecting from one edge led to: that no edge was left, or that a token was taken, with the release that this made,
 // if it made one, and whether it was the last edge.
-enum Step {
+enum Step<V> {
     NoneLeft,
-    Taken(Option<Fresh>, bool),
+    Taken(Option<Fresh<V>>, bool),
 }
 
 // The task in which an edge ends, and whether the edge is weak.
@@ -40,13 +45,14 @@ struct Target {
     weak: bool,
 }
 
-impl NetTable {
+impl<V: Drop> NetTable<V> {
     /// Takes up a release, and sets its task's join word again where its strong in-edges released it.
-    /// There is to be room for a part of each of its edges.
-    pub fn reset(&self, fresh: Fresh, ins: FoundParts) -> Collecting
+    /// `ins` has no part yet, and room for a part of each of its edges.
+    #[tactic(auto, using(table_steps::proofs::Values::knows_none))]
+    pub fn reset(&self, fresh: Fresh<V>, ins: Ins<V>) -> Collecting<V>
         requires table { fresh.table ≡ self.now.table }
-        requires empty { ins.parts ≡ [] }
-        requires room { length (edges_of self.now.net fresh.task fresh.cause) ≤ ins.room }
+        requires empty { parts_of ins ≡ [] }
+        requires room { length (edges_of self.now.net fresh.task fresh.cause) ≤ room_of ins }
         ensures { result ≡ collecting_state self.now.table fresh.task fresh.cause (edges_of self.now.net fresh.task fresh.cause) [] }
     {
         let Fresh {
@@ -69,10 +75,10 @@ impl NetTable {
     }
 
     /// No part yet, and room for a part of each edge of a release.
-    pub fn room_for(&self, alloc: Global, fresh: &mut Fresh) -> Result<FoundParts, NoMemory>
+    pub fn room_for(&self, alloc: Global, fresh: &mut Fresh<V>) -> Result<Ins<V>, NoMemory>
         requires { fresh.old.table ≡ self.now.table }
         ensures same { fresh.new ≡ fresh.old }
-        ensures room { IfOk result (λ ins. (ins.parts ≡ []) × (length (edges_of self.now.net fresh.old.task fresh.old.cause) ≤ ins.room)) }
+        ensures room { IfOk result (λ ins. (parts_of ins ≡ []) × (length (edges_of self.now.net fresh.old.task fresh.old.cause) ≤ room_of ins)) }
     {
         self.words.learn(&mut fresh.seat);
         let edges = match fresh.cause {
@@ -80,15 +86,17 @@ impl NetTable {
             Cause::Strong => self.words.net.strong_in(fresh.task).len(),
             Cause::Weak(_) => 1,
         };
-        FoundParts::with_room(alloc, edges)
+        Ins::with_room(alloc, edges)
     }
 
-    /// Starts the task: draws the place of its Start. Of the units that the turn holds, the start gives those back at its
-    /// end that the task puts too. The others are to be credited, and what the task puts besides is to be claimed.
-    pub fn start(&self, ticket: StartTicket) -> Running
+    /// Starts the task: draws the place of its Start. It has found a part at each edge of its release. Of the units that the
+    /// turn holds, the start gives those back at its end that the task puts too. The others are to be credited, and what the
+    /// task puts besides is to be claimed.
+    pub fn start(&self, ticket: StartTicket<V>) -> Running<V>
         requires table { ticket.table ≡ self.now.table }
         requires units { HoldsEachUnit self.now.net ticket.task ticket.held }
         ensures state { result ≡ running_state self.now.table ticket.task ticket.cause result.place result.ins result.units ticket.found }
+        ensures parts { length (parts_in result.ins) ≡ length (edges_of self.now.net ticket.task ticket.cause) }
         ensures units { BeginsUnits self.now.net ticket.task result.units }
         ensures same { PutsAll self.now.net ticket.task → HasAllUnits self.now.net ticket.task ticket.held result.units }
     {
@@ -98,6 +106,7 @@ impl NetTable {
             cause,
             ins,
         } = ticket;
+        self.words.learn(&mut seat);
         let place = self.words.draw_start(&mut seat);
         Running {
             seat,
@@ -108,15 +117,15 @@ impl NetTable {
         }
     }
 
-    /// Ends a start that has credited and claimed all units that it had to: draws the place of its End, which gives these
-    /// edges. `inner` says that its work was a run of its own.
-    pub fn end(&self, running: Running, gives: List<u32>, inner: bool) -> Owing
+    /// Ends a start that has credited and claimed all units that it had to: draws the place of its End, which has this value
+    /// and gives these edges. `inner` says that its work was a run of its own.
+    pub fn end(&self, running: Running<V>, gives: List<u32>, value: Arc<V>, inner: bool) -> Owing<V>
         requires table { running.table ≡ self.now.table }
         requires fits { MayEndGiving self.now.net running.task gives inner }
         requires credits { HasCredited self.now.net running.task running.units }
         requires claims { HasClaimed self.now.net running.task running.units }
         ensures table { result.table ≡ self.now.table }
-        ensures ended { EndedAs running gives inner result.ended }
+        ensures ended { EndedAs running gives (arc_value value) inner result.ended }
         ensures left { result.left ≡ gives }
         ensures units { result.units ≡ running.units.back }
         ensures found { result.found ≡ running.found }
@@ -128,12 +137,13 @@ impl NetTable {
             place: start,
             ins,
         } = running;
-        let place = self.words.draw_end(&mut seat, &gives, inner);
+        let place = self.words.draw_end(&mut seat, &gives, inner, &value);
         let ended = EndedStart {
             task,
             cause,
             start,
             ins,
+            value,
             place,
             gives,
             inner,
@@ -147,8 +157,9 @@ impl NetTable {
 
     /// Takes the parcel from the slot of the next edge of a release, in one try, and then a token from the edge. Where
     /// another turn holds the slot, nothing is found there. Where the edge is a strong one with another token, it counts it
-    /// again. For a release without edges it takes no step.
-    pub fn collect(&self, collecting: Collecting) -> Collected
+    /// again. For a release without edges it changes no word and finds no number.
+    #[tactic(auto, using(table_steps::proofs::Values::knows_again))]
+    pub fn collect(&self, collecting: Collecting<V>) -> Collected<V>
         requires { collecting.table ≡ self.now.table }
         ensures { CollectsFrom collecting collecting.left result }
     {
@@ -184,58 +195,75 @@ impl NetTable {
         }
     }
 
-    /// Puts the End's parcel into the slot of the next edge that it owes, in one try, and then gives the edge a token. Where
-    /// another turn holds the slot, the parcel is left away. It counts the token at its target where it is the first of a
-    /// strong edge.
-    pub fn give(&self, owing: Owing) -> Gave
+    /// Shares the End's value with the slot of the next edge that it owes, in one try, and then gives the edge a token. Where
+    /// another turn holds the slot, the value is left away. It counts the token at its target where it is the first of a
+    /// strong edge. `Err` hands the turn back as it was, where its value can't be shared once more; as of an allocation, no
+    /// clause says when.
+    #[tactic(auto, using(table_steps::proofs::Values::knows_again))]
+    pub fn give(&self, owing: Owing<V>) -> Result<Gave<V>, Owing<V>>
         requires table { owing.table ≡ self.now.table }
         requires no_unit { owing.units ≡ [] }
-        ensures { GivesNext self.now.net owing owing.left result }
+        ensures ok { IfOk result (GivesNext self.now.net owing owing.left) }
+        ensures err { IfErr result (λ same. same ≡ owing) }
     {
         let Owing {
             mut seat,
             ended,
             next,
         } = owing;
-        let Some(edge) = ended.gives.get(next) else {
+        let Some(edge) = ended.gives.get(next).copied() else {
             let fate = Fate::Ended(ended);
-            return Gave::Finished(Spent { seat, fate });
+            return Ok(Gave::Finished(Spent { seat, fate }));
         };
-        let made = self.give_edge(&mut seat, *edge, ended.place);
+        let Ok(value) = Arc::try_clone(&ended.value) else {
+            return Err(Owing { seat, ended, next });
+        };
+        let made = self.give_edge(&mut seat, edge, ended.place, value);
         let owing = Owing {
             seat,
             ended,
             next: next + 1,
         };
         match made {
-            Some(fresh) => Gave::Released(owing, fresh),
-            None => Gave::Next(owing),
+            Some(fresh) => Ok(Gave::Released(owing, fresh)),
+            None => Ok(Gave::Next(owing)),
         }
     }
 
-    // Gives an edge the parcel of the End at this place and a token, and deals out the release that this makes, if it makes
+    // Gives an edge the value of the End at this place and a token, and deals out the release that this makes, if it makes
     // one.
-    fn give_edge(&self, seat: &mut TableSeat, edge: u32, place: u64) -> Option<Fresh>
+    #[tactic(auto, using(table_steps::proofs::Values::knows_again))]
+    fn give_edge(
+        &self,
+        seat: &mut TableSeat<V>,
+        edge: u32,
+        place: u64,
+        value: Arc<V>,
+    ) -> Option<Fresh<V>>
         requires table { seat.old.table_id ≡ self.now.table }
         requires home { seat.old.me.1 ≡ [] }
         requires ready { OwesFirst edge place seat.old.me.0 }
+        requires value { Knows seat.old.values (ended_with place (arc_value value)) }
         ensures table { seat.new.table_id ≡ seat.old.table_id }
         ensures view { seat.new.me ≡ (paid seat.old.me.0, []) }
+        ensures known { Knows seat.new.values seat.old.values }
         ensures fresh { IfSome result (λ fresh. fresh ≡ fresh_state self.now.table (target self.now.net edge) (release_cause self.now.net edge)) }
         ensures found { GivesToken (is_weak self.now.net edge) (is_some result) seat.old.found seat.new.found }
     {
         self.words.learn(seat);
-        self.words.deliver(seat, edge, Part::From(place));
+        self.words.deliver(seat, edge, Given::Value(place, value));
         self.give_token(seat, edge)
     }
 
     // Gives an edge a token whose parcel is put, and deals out the release that this makes, if it makes one.
-    fn give_token(&self, seat: &mut TableSeat, edge: u32) -> Option<Fresh>
+    #[tactic(auto, using(table_steps::proofs::Values::knows_again))]
+    fn give_token(&self, seat: &mut TableSeat<V>, edge: u32) -> Option<Fresh<V>>
         requires table { seat.old.table_id ≡ self.now.table }
         requires home { seat.old.me.1 ≡ [] }
         requires ready { OwesToken edge seat.old.me.0 }
         ensures table { seat.new.table_id ≡ seat.old.table_id }
         ensures view { seat.new.me ≡ (paid_token seat.old.me.0, []) }
+        ensures known { Knows seat.new.values seat.old.values }
         ensures fresh { IfSome result (λ fresh. fresh ≡ fresh_state self.now.table (target self.now.net edge) (release_cause self.now.net edge)) }
         ensures found { GivesToken (is_weak self.now.net edge) (is_some result) seat.old.found seat.new.found }
     {
@@ -252,13 +280,15 @@ impl NetTable {
     }
 
     // Counts an edge at its target, and deals out the release that this makes, if it makes one.
-    fn count(&self, seat: &mut TableSeat, task: u32, edge: u32) -> Option<Fresh>
+    #[tactic(auto, using(table_steps::proofs::Values::knows_again))]
+    fn count(&self, seat: &mut TableSeat<V>, task: u32, edge: u32) -> Option<Fresh<V>>
         requires table { seat.old.table_id ≡ self.now.table }
         requires home { seat.old.me.1 ≡ [] }
         requires ready { CountsNext self.now.net task edge seat.old.me.0 }
         requires in_range { task < length self.now.net.tasks }
         ensures table { seat.new.table_id ≡ seat.old.table_id }
         ensures view { seat.new.me ≡ (others_of seat.old.me.0, []) }
+        ensures known { Knows seat.new.values seat.old.values }
         ensures fresh { IfSome result (λ fresh. fresh ≡ fresh_state self.now.table task Strong) }
         ensures last { IsTrue (is_some result) → AreNoneLeft task (others_of seat.old.me.0) }
         ensures found { CountsEdge (is_some result) seat.old.found seat.new.found }
@@ -272,12 +302,14 @@ impl NetTable {
     }
 
     // Counts the turn of a release that the seat has just made, and deals it out.
-    fn deal_fresh(&self, seat: &mut TableSeat, task: u32, cause: Cause) -> Fresh
+    #[tactic(auto, using(table_steps::proofs::Values::knows_again))]
+    fn deal_fresh(&self, seat: &mut TableSeat<V>, task: u32, cause: Cause) -> Fresh<V>
         requires table { seat.old.table_id ≡ self.now.table }
         requires home { seat.old.me.1 ≡ [] }
         requires made { HasMade task cause seat.old.me.0 }
         ensures table { seat.new.table_id ≡ seat.old.table_id }
         ensures view { seat.new.me ≡ (kept_back seat.old.me.0, []) }
+        ensures known { Knows seat.new.values seat.old.values }
         ensures fresh { result ≡ fresh_state self.now.table task cause }
         ensures found { seat.new.found ≡ seat.old.found }
     {
@@ -287,21 +319,24 @@ impl NetTable {
     }
 
     // Takes the parcel and a token from the next edge of a release, and counts the edge again where a token remains.
+    #[tactic(auto, using(table_steps::proofs::Values::knows_again))]
     fn collect_one(
         &self,
-        seat: &mut TableSeat,
+        seat: &mut TableSeat<V>,
         task: u32,
         cause: Cause,
         next: usize,
-        ins: &mut FoundParts,
-    ) -> Step
+        ins: &mut Ins<V>,
+    ) -> Step<V>
         requires table { seat.old.table_id ≡ self.now.table }
-        requires view { seat.old.me ≡ (collecting_view task cause (taken_in seat.old.me.0) ins.old.parts (left_in seat.old.me.0), []) }
+        requires view { seat.old.me ≡ (collecting_view task cause (taken_in seat.old.me.0) (parts_in ins.old) (left_in seat.old.me.0), []) }
+        requires known { Knows seat.old.values (values_in (parts_of ins.old)) }
         requires next { next ≡ length (taken_in seat.old.me.0) }
-        requires parts { length ins.old.parts ≡ length (taken_in seat.old.me.0) }
-        requires room { length ins.old.parts + length (left_in seat.old.me.0) ≤ ins.old.room }
+        requires parts { length (parts_in ins.old) ≡ length (taken_in seat.old.me.0) }
+        requires room { length (parts_in ins.old) + length (left_in seat.old.me.0) ≤ room_of ins.old }
         ensures table { seat.new.table_id ≡ seat.old.table_id }
         ensures home { seat.new.me.1 ≡ [] }
+        ensures known { Knows seat.new.values (values_in (parts_of ins.new)) }
         ensures few { next < 4294967296 }
         ensures step { CollectsOne self.now.table task cause (taken_in seat.old.me.0) (left_in seat.old.me.0) ins.old seat.old.found result seat.new.me.0 ins.new seat.new.found }
     {
@@ -310,31 +345,33 @@ impl NetTable {
             return Step::NoneLeft;
         };
         let is_last = self.edge_at(task, cause, next + 1).is_none();
-        ins.add(self.words.fetch(seat, edge, Part::Nothing));
+        ins.add(self.words.fetch(seat, edge));
         let found = self.words.take_token(seat, edge);
         let made = self.count_again(seat, task, cause, edge, found);
         Step::Taken(made, is_last)
     }
 
     // Counts an edge again where it is a strong one and had another token.
+    #[tactic(auto, using(table_steps::proofs::Values::knows_again))]
     fn count_again(
         &self,
-        seat: &mut TableSeat,
+        seat: &mut TableSeat<V>,
         task: u32,
         cause: Cause,
         edge: u32,
         found: u64,
-    ) -> Option<Fresh>
+    ) -> Option<Fresh<V>>
         requires table { seat.old.table_id ≡ self.now.table }
         requires home { seat.old.me.1 ≡ [] }
         requires ready { cause ≡ Strong → 1 < found → CountsNext self.now.net task edge seat.old.me.0 }
         requires in_range { cause ≡ Strong → task < length self.now.net.tasks }
-        requires weak { cause ≢ Strong → settled seat.old.me.0 ≡ seat.old.me.0 }
-        requires few { found ≤ 1 → settled seat.old.me.0 ≡ seat.old.me.0 }
+        requires weak { cause ≢ Strong → without_count seat.old.me.0 ≡ seat.old.me.0 }
+        requires few { found ≤ 1 → without_count seat.old.me.0 ≡ seat.old.me.0 }
         ensures table { seat.new.table_id ≡ seat.old.table_id }
-        ensures view { seat.new.me ≡ (settled seat.old.me.0, []) }
+        ensures view { seat.new.me ≡ (without_count seat.old.me.0, []) }
+        ensures known { Knows seat.new.values seat.old.values }
         ensures fresh { IfSome result (λ fresh. fresh ≡ fresh_state self.now.table task Strong) }
-        ensures last { IsTrue (is_some result) → AreNoneLeft task (settled seat.old.me.0) × (cause ≡ Strong) }
+        ensures last { IsTrue (is_some result) → AreNoneLeft task (without_count seat.old.me.0) × (cause ≡ Strong) }
         ensures found { (before : List ℕ) → seat.old.found ≡ found ∷ before → TakesToken cause (is_some result) before seat.new.found }
     {
         if cause != Cause::Strong || found <= 1 {

@@ -1,5 +1,5 @@
 // The calls that credit units and claim them. None takes memory, and none waits.
-ghost use Rattle.std.specs.Prelude.{◌≡◌, ◌<◌, ◌≤◌, Some, None, true, length};
+ghost use Rattle.std.specs.Prelude.{◌≡◌, ◌<◌, ◌≤◌, None, true, length};
 ghost use Rattle.journal_rules.specs.SemaphoreRule.{puts};
 ghost use Rattle.table_steps.specs.Giving.{times};
 ghost use Rattle.join_tables.specs.Claims.{ClaimsUnit, credit_one, with_units};
@@ -7,9 +7,10 @@ ghost use Rattle.join_tables.specs.Claims.{ClaimsUnit, credit_one, with_units};
 use crate::turns::{Claim, NetTable, Running};
 use table_steps::FIRST_CREDIT;
 
-impl NetTable {
+impl<V: Drop> NetTable<V> {
     /// Credits a unit that a start took and its task doesn't put, so that another start may claim it.
-    pub fn credit(&self, running: Running, sem: u32) -> Running
+    #[tactic(auto, using(table_steps::proofs::Values::knows_again))]
+    pub fn credit(&self, running: Running<V>, sem: u32) -> Running<V>
         requires table { running.table ≡ self.now.table }
         requires to_credit { 1 ≤ times sem running.units.to_credit }
         requires in_range { sem < length self.now.net.sems }
@@ -33,10 +34,11 @@ impl NetTable {
         }
     }
 
-    /// Claims a unit that a start's task puts and doesn't take. `Refused` comes exactly where this call's own step finds no
-    /// credit. Then a legal journal with this start at its place allows a Fault of it that tells an over-release, and
-    /// the call undoes its step.
-    pub fn claim(&self, running: Running, sem: u32) -> Claim
+    /// Claims a unit that a start's task puts and doesn't take. It returns `Refused` exactly where its own step finds
+    /// no credit. Then a legal journal with this start at its place allows a Fault of it for an over-release, and the call
+    /// undoes its step.
+    #[tactic(auto, using(table_steps::proofs::Values::knows_again))]
+    pub fn claim(&self, running: Running<V>, sem: u32) -> Claim<V>
         requires table { running.table ≡ self.now.table }
         requires to_claim { 1 ≤ times sem running.units.to_claim }
         requires puts { puts self.now.net sem running.task ≡ true }

@@ -1,15 +1,15 @@
 // What becomes of the releases of a table.
-use crate::parts::FoundParts;
 use crate::turns::EndedStart;
+use join_words::Ins;
 use journal_rules::{Cause, DropWhy, Why};
 
-/// A start of a task that faulted: its place in the journal, the parts that it found, and the place of its Fault.
+/// A start of a task that faulted: its place in the journal, what it found, and the place of its Fault.
 #[derive(Drop)]
-pub struct Failure {
+pub struct Failure<V> {
     pub task: u32,
     pub cause: Cause,
     pub start: u64,
-    pub ins: FoundParts,
+    pub ins: Ins<V>,
     pub place: u64,
     pub why: Why,
 }
@@ -25,11 +25,11 @@ pub struct Dropping {
 
 /// What became of a release.
 #[derive(Drop)]
-pub enum Fate {
+pub enum Fate<V> {
     /// The task started and ended.
-    Ended(EndedStart),
+    Ended(EndedStart<V>),
     /// The task started and faulted.
-    Faulted(Failure),
+    Faulted(Failure<V>),
     /// The release was dropped.
     Dropped(Dropping),
     /// The releases of a rest were dropped, in this order.

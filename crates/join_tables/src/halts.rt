@@ -10,10 +10,11 @@ use crate::fates::{Dropping, Failure, Fate};
 use crate::turns::{Admitted, NetTable, Running, Spent, StartTicket, Turn};
 use journal_rules::{DropWhy, Why};
 
-impl NetTable {
-    /// Draws an admission, unless the run is halted. `Halted` comes exactly where this call's own load finds the halt
-    /// mark, and `Over` exactly where it finds none and the number that is drawn is not below the limit.
-    pub fn admit(&self, turn: Turn) -> Admitted
+impl<V: Drop> NetTable<V> {
+    /// Draws an admission, unless the run is halted. It returns `Halted` exactly where its own load finds the halt mark,
+    /// and `Over` exactly where it finds none and the number that is drawn is not below the limit.
+    #[tactic(auto, using(table_steps::proofs::Values::knows_again))]
+    pub fn admit(&self, turn: Turn<V>) -> Admitted<V>
         requires table { turn.table ≡ self.now.table }
         requires asked_once { turn.refused ≡ None }
         requires units { HoldsEachUnit self.now.net turn.task turn.held }
@@ -51,9 +52,10 @@ impl NetTable {
     }
 
     /// Faults a start that has credited all units that it had to: draws the place of its Fault, and then sets the halt
-    /// mark. A Fault gives no edge and no unit back, so nothing is owed after it. It may tell an over-release of a
-    /// semaphore only where the start's claim of it was refused.
-    pub fn fault(&self, running: Running, why: Why) -> Spent
+    /// mark. A Fault gives no edge and no unit back, so nothing is owed after it. Its reason may be an
+    /// over-release of a semaphore only where the start's claim of it was refused.
+    #[tactic(auto, using(table_steps::proofs::Values::knows_again))]
+    pub fn fault(&self, running: Running<V>, why: Why) -> Spent<V>
         requires table { running.table ≡ self.now.table }
         requires credits { HasCredited self.now.net running.task running.units }
         requires why { MayTell why running.units.refused }
@@ -82,7 +84,7 @@ impl NetTable {
 
     /// Drops a release for the cause for which `admit` refused it: draws the place of its Drop. Nothing is owed after
     /// it.
-    pub fn drop_turn(&self, turn: Turn, why: DropWhy) -> Spent
+    pub fn drop_turn(&self, turn: Turn<V>, why: DropWhy) -> Spent<V>
         requires table { turn.table ≡ self.now.table }
         requires refused { turn.refused ≡ Some why }
         requires no_unit { turn.held ≡ [] }

@@ -13,7 +13,7 @@
 //!
 //! # The kinds of step
 //!
-//! - `reset` raises a task's join word by its strong in-edges (set again). It comes before the turn's tokens are
+//! - `reset` raises a task's join word by its strong in-edges (set again). It is made before the turn's tokens are
 //!   given, so that in a cycle the tokens of the next round are counted afresh.
 //! - `collect` takes the parcel from an edge's slot, in one try (slot taken, slot given back), and then a token off the edge
 //!   (token taken). Where a strong edge has another token, it is counted again at once (edge counted), which may release the
@@ -29,8 +29,8 @@
 //!   neither.
 //! - `fault` draws a place and then sets the mark (Fault drawn, halt mark). A release that `admit` refused, at the
 //!   limit or after a Fault, is used up by `drop_turn`, which draws a place (Drop drawn).
-//! - `give` puts the place of its End into the edge's slot, in one try (slot taken, slot given back), and then adds a token to
-//!   the edge (token given). A token of a weak edge is a release. The first token of a strong
+//! - `give` puts its End's value into the edge's slot, in one try (slot taken, slot given back), and then adds a token to the
+//!   edge (token given). A token of a weak edge is a release. The first token of a strong
 //!   edge lowers its target's join word (edge counted), and who finds one there has made the last count: that is
 //!   the release. A release is counted among the live turns (turn added), then goes to a seat of its own (split).
 //! - `absorb` gives what a turn knows to the keeper (join), and takes it off the live turns (turn taken off). Who
@@ -45,18 +45,24 @@
 //! # What the steps found
 //!
 //! A turn has the numbers that its steps found, the newest first, and each answer says which numbers its call added. They
-//! are in its seat, where no code here can put them: the step that finds a number adds it. So a call can neither claim a
-//! number without a step nor hide one. A place that a step drew is known by its entry in place of a number. A release that was
-//! dealt out, or handed out of a rest, begins without a number. A rest has those of its seat, which is that of the first turn
-//! that it took in.
+//! are in its seat, where no code here can put them: the step that finds a number adds it. A place that a step drew is known
+//! by its entry in place of a number. A release that was dealt out, or handed out of a rest, begins without a number. A rest
+//! has those of its seat, which is that of the first turn that it took in.
+//!
+//! # The values
+//!
+//! The value of an End is shared, never copied: `end` takes it, `give` puts one more owner of it into the slot of each edge
+//! that the End gives, unless another turn holds that slot, and `collect` takes out what lies there. So a start finds at an
+//! edge the value of an End that gave it, the token with which the edge began, or nothing (`Ins`). The keeper has the value
+//! of each End that it took in, and what each start found.
 //!
 //! # Where its definitions are
 //!
 //! The words, the accounts that hold between any two steps on them, and the kinds of step are those of `table_steps`,
 //! below this crate. `specs/` says what contracts cite, `specs/inside/` what the seat of each turn knows. Whoever uses a
 //! table may know what a turn's state says and what each call answers; a journal that the keeper hands out is legal as
-//! far as the net decides, its starts find what they may, and it is complete. A part of a start's inputs is the place of an
-//! End; the values themselves don't travel yet.
+//! far as the net decides, its starts find what they may, and it is complete. An entry of a start names the Ends whose values
+//! it found, by their places.
 #![tactic(auto)]
 
 mod calls;
@@ -74,9 +80,8 @@ mod turns;
 mod unit_calls;
 
 pub use fates::{Dropping, Failure, Fate};
-pub use keeper::{Keeper, Recorded, Remaining};
+pub use keeper::{Keeper, Recorded, RecordedInputs, RecordedValue, Remaining};
 pub use opening::Opening;
-pub use parts::FoundParts;
 pub use rests::{Checked, Parked, Rest, RestDrop, UnitLook};
 pub use turns::{
     Admitted, Claim, Collected, Collecting, EndedStart, Fresh, Gave, NetTable, Owing, Running,

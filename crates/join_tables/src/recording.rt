@@ -1,61 +1,133 @@
-// The entries of the turns that are done.
-ghost use Rattle.std.specs.Prelude.{◌≡◌, ◌+◌, ◌≤◌, ◌++◌, ◌∷◌, IfOk, OnOk, OnErr, length, map, reverse};
+// What the turns that are done leave with the keeper.
+ghost use Rattle.std.specs.Prelude.{◌≡◌, ◌+◌, ◌≤◌, ◌++◌, [], IfOk, OnOk, OnErr, length, map, reverse};
 ghost use Rattle.std.specs.Vec.{vec_len, vec_capacity};
-ghost use Rattle.join_tables.specs.Keeping.{entries_of, start_of, drop_of};
+ghost use Rattle.join_tables.specs.Parts.{parts_in};
+ghost use Rattle.join_tables.specs.Keeping.{entries_of, recorded_values, found_inputs, start_of, drop_of};
+ghost use Rattle.join_tables.specs.declared.fates.Fate.TheVariants.{Ended, Faulted};
+ghost use Rattle.join_tables.specs.inside.Recording.{RecordsHaveRoom, AreSameRecords};
 
-use crate::fates::{Dropping, Fate};
-use crate::keeper::Recorded;
-use crate::parts::FoundParts;
+use crate::fates::{Dropping, Failure, Fate};
+use crate::keeper::{Recorded, RecordedInputs, RecordedValue};
+use crate::parts::found_parts;
+use crate::turns::EndedStart;
+use join_words::Ins;
 use journal_rules::{Cause, Entry};
 use outside_io::NoMemory;
 use std::alloc::Global;
 
-/// Adds the entries of a turn that is done.
-pub fn record(alloc: Global, entries: &mut Vec<Recorded>, fate: Fate) -> Result<(), NoMemory>
-    ensures ok { OnOk result (entries.new.items ≡ entries.old.items ++ entries_of fate) }
-    ensures err { OnErr result (entries.new.items ≡ entries.old.items) }
-{
-    entries.try_reserve(entry_count(&fate))?;
-    match fate {
-        Fate::Ended(ended) => {
-            let start = start_entry(alloc, ended.start, ended.task, ended.cause, &ended.ins)?;
-            entries.push_reserved(start);
-            let entry = Entry::End {
-                start: ended.start,
-                gives: ended.gives,
-                inner: ended.inner,
-            };
-            entries.push_reserved(Recorded {
-                place: ended.place,
-                entry,
-            });
+/// The entries of the turns that are done, the values of their Ends, and what their starts found.
+#[derive(Drop)]
+pub struct Records<V> {
+    pub entries: Vec<Recorded>,
+    pub values: Vec<RecordedValue<V>>,
+    pub inputs: Vec<RecordedInputs<V>>,
+}
+
+impl<V: Drop> Records<V> {
+    /// None.
+    pub fn new(alloc: Global) -> Records<V>
+        ensures { (result.entries.items ≡ []) × (result.values.items ≡ []) × (result.inputs.items ≡ []) }
+    {
+        Records {
+            entries: Vec::new(alloc),
+            values: Vec::new(alloc),
+            inputs: Vec::new(alloc),
         }
-        Fate::Faulted(failure) => {
-            let start = start_entry(
-                alloc,
-                failure.start,
-                failure.task,
-                failure.cause,
-                &failure.ins,
-            )?;
-            entries.push_reserved(start);
-            let entry = Entry::Fault {
-                start: failure.start,
-                why: failure.why,
-            };
-            entries.push_reserved(Recorded {
-                place: failure.place,
-                entry,
-            });
-        }
-        Fate::Dropped(dropping) => entries.push_reserved(drop_entry(dropping)),
-        Fate::AllDropped(drops) => add_drops(entries, drops),
     }
-    Ok(())
+
+    /// Adds what a turn that is done leaves.
+    pub fn add(&mut self, alloc: Global, fate: Fate<V>) -> Result<(), NoMemory>
+        ensures entries { OnOk result (self.new.entries.items ≡ self.old.entries.items ++ entries_of fate) }
+        ensures values { OnOk result (self.new.values.items ≡ self.old.values.items ++ recorded_values fate) }
+        ensures inputs { OnOk result (self.new.inputs.items ≡ self.old.inputs.items ++ found_inputs fate) }
+        ensures err { OnErr result (AreSameRecords self.old self.new) }
+    {
+        self.reserve(entry_count(&fate))?;
+        match fate {
+            Fate::Ended(ended) => self.add_ended(alloc, ended),
+            Fate::Faulted(failure) => self.add_failure(alloc, failure),
+            Fate::Dropped(dropping) => {
+                self.entries.push_reserved(drop_entry(dropping));
+                Ok(())
+            }
+            Fate::AllDropped(drops) => {
+                add_drops(&mut self.entries, drops);
+                Ok(())
+            }
+        }
+    }
+
+    // Makes room for so many entries, a value and the inputs of a start.
+    fn reserve(&mut self, entries: usize) -> Result<(), NoMemory>
+        ensures same { AreSameRecords self.old self.new }
+        ensures room { OnOk result (RecordsHaveRoom entries self.new) }
+    {
+        self.entries.try_reserve(entries)?;
+        self.values.try_reserve(1)?;
+        self.inputs.try_reserve(1)?;
+        Ok(())
+    }
+
+    // Adds a start that ended.
+    fn add_ended(&mut self, alloc: Global, ended: EndedStart<V>) -> Result<(), NoMemory>
+        requires { RecordsHaveRoom 2 self.old }
+        ensures entries { OnOk result (self.new.entries.items ≡ self.old.entries.items ++ entries_of (Ended ended)) }
+        ensures values { OnOk result (self.new.values.items ≡ self.old.values.items ++ recorded_values (Ended ended)) }
+        ensures inputs { OnOk result (self.new.inputs.items ≡ self.old.inputs.items ++ found_inputs (Ended ended)) }
+        ensures err { OnErr result (AreSameRecords self.old self.new) }
+    {
+        let EndedStart {
+            task,
+            cause,
+            start,
+            ins,
+            value,
+            place,
+            gives,
+            inner,
+        } = ended;
+        let entry = start_entry(alloc, start, task, cause, &ins)?;
+        self.entries.push_reserved(entry);
+        let entry = Entry::End {
+            start,
+            gives,
+            inner,
+        };
+        self.entries.push_reserved(Recorded { place, entry });
+        self.values.push_reserved(RecordedValue { place, value });
+        self.inputs
+            .push_reserved(RecordedInputs { place: start, ins });
+        Ok(())
+    }
+
+    // Adds a start that faulted.
+    fn add_failure(&mut self, alloc: Global, failure: Failure<V>) -> Result<(), NoMemory>
+        requires { RecordsHaveRoom 2 self.old }
+        ensures entries { OnOk result (self.new.entries.items ≡ self.old.entries.items ++ entries_of (Faulted failure)) }
+        ensures values { self.new.values.items ≡ self.old.values.items }
+        ensures inputs { OnOk result (self.new.inputs.items ≡ self.old.inputs.items ++ found_inputs (Faulted failure)) }
+        ensures err { OnErr result (AreSameRecords self.old self.new) }
+    {
+        let Failure {
+            task,
+            cause,
+            start,
+            ins,
+            place,
+            why,
+        } = failure;
+        let entry = start_entry(alloc, start, task, cause, &ins)?;
+        self.entries.push_reserved(entry);
+        let entry = Entry::Fault { start, why };
+        self.entries.push_reserved(Recorded { place, entry });
+        self.inputs
+            .push_reserved(RecordedInputs { place: start, ins });
+        Ok(())
+    }
 }
 
 // How many entries a turn that is done has.
-fn entry_count(fate: &Fate) -> usize
+fn entry_count<V>(fate: &Fate<V>) -> usize
     ensures { result ≡ length (entries_of fate.now) }
 {
     match fate {
@@ -90,16 +162,16 @@ fn drop_entry(dropping: Dropping) -> Recorded
 }
 
 // The entry of a Start.
-fn start_entry(
+fn start_entry<V>(
     alloc: Global,
     place: u64,
     task: u32,
     cause: Cause,
-    ins: &FoundParts,
+    ins: &Ins<V>,
 ) -> Result<Recorded, NoMemory>
-    ensures { IfOk result (λ entry. entry ≡ start_of place task cause ins.now.parts) }
+    ensures { IfOk result (λ entry. entry ≡ start_of place task cause (parts_in ins.now)) }
 {
-    let ins = ins.list(alloc)?;
+    let ins = found_parts(alloc, ins)?;
     let entry = Entry::Start { task, cause, ins };
     Ok(Recorded { place, entry })
 }

@@ -1,13 +1,15 @@
 // The releases with which a run begins, and the words of its table.
-ghost use Rattle.std.specs.Prelude.{◌≡◌, ◌<◌, ◌≤◌, ◌+◌, ◌==◌, ℕ, IfOk, OnOk, All, length, slice_index, [], ◌∷◌, ◌++◌, if◌then◌else◌};
-ghost use Rattle.task_graph.specs.Net.{in_edges, strong_in};
+ghost use Rattle.std.specs.Prelude.{◌≡◌, ◌<◌, ◌≤◌, ◌+◌, ◌==◌, ℕ, IfOk, OnOk, All, length, map, slice_index, [], ◌++◌, if◌then◌else◌};
+ghost use Rattle.task_graph.specs.Net.{strong_in};
 ghost use Rattle.journal_rules.specs.Counts.{first_tokens};
-ghost use Rattle.table_steps.specs.inside.Opening.{bare, first_duties, first_part};
+ghost use Rattle.table_steps.specs.inside.Opening.{count_without_token, first_duties, first_part};
 ghost use Rattle.join_tables.specs.inside.FirstReleases.{is_full, duties_of, duty_if, opening_word, AreOpeningWords, AreFirstParcels};
 ghost use Rattle.table_steps.specs.Giving.{one_if};
+ghost use Rattle.table_steps.specs.Values.{given_part, given_values, values_in};
 ghost use Rattle.table_steps.specs.inside.Accounts.{tokens_from, marks_from};
 
-use journal_rules::{Cause, Part};
+use join_words::Given;
+use journal_rules::Cause;
 use outside_io::NoMemory;
 use std::alloc::Global;
 use table_steps::{FIRST_CREDIT, FIRST_UNIT, LIVE};
@@ -50,7 +52,7 @@ fn add(
 // Whether a task has strong in-edges, and all of them begin with a token.
 fn is_full(net: &Net, task: u32) -> bool
     requires { task < length net.now.tasks }
-    ensures { result ≡ is_full (strong_in net.now task) (bare net.now (strong_in net.now task)) }
+    ensures { result ≡ is_full (strong_in net.now task) (count_without_token net.now (strong_in net.now task)) }
 {
     !net.strong_in(task).is_empty() && bare_count(net, task) == 0
 }
@@ -58,7 +60,7 @@ fn is_full(net: &Net, task: u32) -> bool
 // How many strong in-edges of a task begin without a token.
 fn bare_count(net: &Net, task: u32) -> u64
     requires { task < length net.now.tasks }
-    ensures { result ≡ bare net.now (strong_in net.now task) }
+    ensures { result ≡ count_without_token net.now (strong_in net.now task) }
 {
     bare_among(net, net.strong_in(task))
 }
@@ -66,7 +68,7 @@ fn bare_count(net: &Net, task: u32) -> u64
 // How many of these edges begin without a token.
 fn bare_among(net: &Net, edges: &[u32]) -> u64
     requires { All (λ e. e < length net.now.edges) edges.now }
-    ensures { result ≡ bare net.now edges.now }
+    ensures { result ≡ count_without_token net.now edges.now }
 {
     let mut found = 0;
     for edge in edges {
@@ -150,8 +152,9 @@ fn first_word(net: &Net, live: u64, word: usize) -> u64
 }
 
 /// What lies in the slot of each edge at first: the token with which the edge begins, or nothing.
-pub fn first_parcels(alloc: Global, net: &Net) -> Result<Vec<Part>, NoMemory>
-    ensures { IfOk result (λ parcels. AreFirstParcels net.now parcels.items) }
+pub fn first_parcels<V: Drop>(alloc: Global, net: &Net) -> Result<Vec<Given<V>>, NoMemory>
+    ensures parts { IfOk result (λ parcels. AreFirstParcels net.now (map given_part parcels.items)) }
+    ensures no_values { IfOk result (λ parcels. values_in parcels.items ≡ []) }
 {
     let count = net.edges().len();
     let mut parcels = Vec::with_capacity(alloc, count)?;
@@ -162,13 +165,14 @@ pub fn first_parcels(alloc: Global, net: &Net) -> Result<Vec<Part>, NoMemory>
 }
 
 // What lies in the slot of an edge at first.
-fn first_parcel(net: &Net, edge: u32) -> Part
+fn first_parcel<V>(net: &Net, edge: u32) -> Given<V>
     requires { edge < length net.now.edges }
-    ensures { result ≡ first_part net.now edge }
+    ensures part { given_part result ≡ first_part net.now edge }
+    ensures no_value { given_values result ≡ [] }
 {
     if starts_with_token(net, edge) {
-        Part::First
+        Given::First
     } else {
-        Part::Nothing
+        Given::Nothing
     }
 }

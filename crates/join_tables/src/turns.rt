@@ -1,25 +1,23 @@
 // The turns of a table, by what they have still to do. Each knows it by a seat, which has no bytes. The seat has the numbers
-// too that its steps found, of which contracts speak.
+// too that its steps found, of which contracts speak, and knows values of Ends.
 ghost use Rattle.std.specs.Prelude.{◌≡◌};
 
 use crate::fates::Fate;
-use crate::parts::FoundParts;
-use journal_rules::{Cause, Part};
+use join_words::Ins;
+use journal_rules::Cause;
 use keyed_lock::Keyed;
 use outside_io::List;
 use std::marker::Model;
-use table_steps::Words;
-
-// What a seat of a table is, in whose slots lie the parts that starts find.
-pub(crate) type TableSeat = table_steps::TableSeat<Part>;
+use std::sync::Arc;
+use table_steps::{TableSeat, Words};
 
 /// The words of a run's net, which many threads step at once.
 #[derive(Drop)]
-pub struct NetTable {
-    pub(crate) words: Words<Part>,
+pub struct NetTable<V> {
+    pub(crate) words: Words<V>,
 }
 
-impl Model for NetTable {
+impl<V> Model for NetTable<V> {
     ghost use Rattle.std.specs.Arc.{arc_value};
     ghost use Rattle.join_tables.specs.States.{TableState};
 
@@ -28,7 +26,7 @@ impl Model for NetTable {
     ghost view = { λ t. record { table = t.words.table.shared.table_id; net = arc_value t.words.net; limit = t.words.table.shared.key.limit } };
 }
 
-impl Keyed for NetTable {
+impl<V> Keyed for NetTable<V> {
     ghost use Rattle.atomic_table.specs.Seated.{TableId};
 
     ghost Key = { TableId };
@@ -38,13 +36,13 @@ impl Keyed for NetTable {
 
 /// A release of a task, whose join word is not set again.
 #[derive(Drop)]
-pub struct Fresh {
-    pub(crate) seat: TableSeat,
+pub struct Fresh<V> {
+    pub(crate) seat: TableSeat<V>,
     pub(crate) task: u32,
     pub(crate) cause: Cause,
 }
 
-impl Model for Fresh {
+impl<V> Model for Fresh<V> {
     ghost use Rattle.std.specs.Prelude.{◌≡◌, []};
     ghost use Rattle.join_tables.specs.States.{FreshState, fresh_state};
     ghost use Rattle.join_tables.specs.inside.Seated.{fresh_view};
@@ -58,16 +56,19 @@ impl Model for Fresh {
 
 /// A release that collects a token of each of its edges.
 #[derive(Drop)]
-pub struct Collecting {
-    pub(crate) seat: TableSeat,
+pub struct Collecting<V> {
+    pub(crate) seat: TableSeat<V>,
     pub(crate) task: u32,
     pub(crate) cause: Cause,
     pub(crate) next: usize,
-    pub(crate) ins: FoundParts,
+    pub(crate) ins: Ins<V>,
 }
 
-impl Model for Collecting {
+impl<V> Model for Collecting<V> {
     ghost use Rattle.std.specs.Prelude.{◌≡◌, ◌+◌, ◌≤◌, [], length};
+    ghost use Rattle.join_words.specs.Ins.{parts_of, room_of};
+    ghost use Rattle.table_steps.specs.Values.{Knows, values_in};
+    ghost use Rattle.join_tables.specs.Parts.{parts_in};
     ghost use Rattle.join_tables.specs.States.{CollectingState, collecting_state};
     ghost use Rattle.join_tables.specs.inside.Seated.{collecting_view, taken_in, left_in};
 
@@ -75,20 +76,23 @@ impl Model for Collecting {
 
     ghost view = { λ c. collecting_state c.seat.table_id c.task c.cause (left_in c.seat.me.0) c.seat.found };
 
-    ghost invariant = { λ c. (c.seat.me ≡ (collecting_view c.task c.cause (taken_in c.seat.me.0) c.ins.parts (left_in c.seat.me.0), [])) × (c.next ≡ length (taken_in c.seat.me.0)) × (length c.ins.parts ≡ length (taken_in c.seat.me.0)) × (length c.ins.parts + length (left_in c.seat.me.0) ≤ c.ins.room) };
+    ghost invariant = { λ c. (c.seat.me ≡ (collecting_view c.task c.cause (taken_in c.seat.me.0) (parts_in c.ins) (left_in c.seat.me.0), [])) × (c.next ≡ length (taken_in c.seat.me.0)) × (length (parts_in c.ins) ≡ length (taken_in c.seat.me.0)) × (length (parts_in c.ins) + length (left_in c.seat.me.0) ≤ room_of c.ins) × Knows c.seat.values (values_in (parts_of c.ins)) };
 }
 
 /// A release that has collected all its tokens.
 #[derive(Drop)]
-pub struct Turn {
-    pub(crate) seat: TableSeat,
+pub struct Turn<V> {
+    pub(crate) seat: TableSeat<V>,
     pub(crate) task: u32,
     pub(crate) cause: Cause,
-    pub(crate) ins: FoundParts,
+    pub(crate) ins: Ins<V>,
 }
 
-impl Model for Turn {
+impl<V> Model for Turn<V> {
     ghost use Rattle.std.specs.Prelude.{◌≡◌, [], length};
+    ghost use Rattle.join_words.specs.Ins.{parts_of};
+    ghost use Rattle.table_steps.specs.Values.{Knows, values_in};
+    ghost use Rattle.join_tables.specs.Parts.{parts_in};
     ghost use Rattle.join_tables.specs.States.{TurnState, turn_with};
     ghost use Rattle.join_tables.specs.inside.Seated.{turn_view, taken_in, refusal_of, held_of};
 
@@ -96,20 +100,23 @@ impl Model for Turn {
 
     ghost view = { λ t. turn_with t.seat.table_id t.task t.cause (refusal_of t.seat.me.0) (held_of t.seat.me.0) t.seat.found };
 
-    ghost invariant = { λ t. (t.seat.me ≡ (turn_view t.task t.cause (taken_in t.seat.me.0) t.ins.parts (refusal_of t.seat.me.0) (held_of t.seat.me.0), [])) × (length t.ins.parts ≡ length (taken_in t.seat.me.0)) };
+    ghost invariant = { λ t. (t.seat.me ≡ (turn_view t.task t.cause (taken_in t.seat.me.0) (parts_in t.ins) (refusal_of t.seat.me.0) (held_of t.seat.me.0), [])) × (length (parts_in t.ins) ≡ length (taken_in t.seat.me.0)) × Knows t.seat.values (values_in (parts_of t.ins)) };
 }
 
 /// A release that may start its task.
 #[derive(Drop)]
-pub struct StartTicket {
-    pub(crate) seat: TableSeat,
+pub struct StartTicket<V> {
+    pub(crate) seat: TableSeat<V>,
     pub(crate) task: u32,
     pub(crate) cause: Cause,
-    pub(crate) ins: FoundParts,
+    pub(crate) ins: Ins<V>,
 }
 
-impl Model for StartTicket {
+impl<V> Model for StartTicket<V> {
     ghost use Rattle.std.specs.Prelude.{◌≡◌, [], length};
+    ghost use Rattle.join_words.specs.Ins.{parts_of};
+    ghost use Rattle.table_steps.specs.Values.{Knows, values_in};
+    ghost use Rattle.join_tables.specs.Parts.{parts_in};
     ghost use Rattle.join_tables.specs.States.{AdmittedState, admitted_state};
     ghost use Rattle.join_tables.specs.inside.Seated.{ticket_view, taken_in, held_of};
 
@@ -117,39 +124,43 @@ impl Model for StartTicket {
 
     ghost view = { λ t. admitted_state t.seat.table_id t.task t.cause (held_of t.seat.me.0) t.seat.found };
 
-    ghost invariant = { λ t. (t.seat.me ≡ (ticket_view t.task t.cause (taken_in t.seat.me.0) t.ins.parts (held_of t.seat.me.0), [])) × (length t.ins.parts ≡ length (taken_in t.seat.me.0)) };
+    ghost invariant = { λ t. (t.seat.me ≡ (ticket_view t.task t.cause (taken_in t.seat.me.0) (parts_in t.ins) (held_of t.seat.me.0), [])) × (length (parts_in t.ins) ≡ length (taken_in t.seat.me.0)) × Knows t.seat.values (values_in (parts_of t.ins)) };
 }
 
 /// A start that runs.
 #[derive(Drop)]
-pub struct Running {
-    pub(crate) seat: TableSeat,
+pub struct Running<V> {
+    pub(crate) seat: TableSeat<V>,
     pub(crate) task: u32,
     pub(crate) cause: Cause,
     pub(crate) place: u64,
-    pub(crate) ins: FoundParts,
+    pub(crate) ins: Ins<V>,
 }
 
-impl Model for Running {
+impl<V> Model for Running<V> {
     ghost use Rattle.std.specs.Prelude.{◌≡◌, []};
+    ghost use Rattle.join_words.specs.Ins.{parts_of};
+    ghost use Rattle.table_steps.specs.Values.{Knows, values_in};
+    ghost use Rattle.join_tables.specs.Parts.{parts_in};
     ghost use Rattle.join_tables.specs.States.{RunningState, running_state};
     ghost use Rattle.join_tables.specs.inside.Seated.{running_view, shares_of, units_in};
 
-    ghost Value = { RunningState };
+    ghost Value = { RunningState V };
 
-    ghost view = { λ r. running_state r.seat.table_id r.task r.cause r.place r.ins.parts (units_in (shares_of r.seat.me.0)) r.seat.found };
+    ghost view = { λ r. running_state r.seat.table_id r.task r.cause r.place r.ins (units_in (shares_of r.seat.me.0)) r.seat.found };
 
-    ghost invariant = { λ r. r.seat.me ≡ (running_view r.task r.cause r.place r.ins.parts (shares_of r.seat.me.0), []) };
+    ghost invariant = { λ r. (r.seat.me ≡ (running_view r.task r.cause r.place (parts_in r.ins) (shares_of r.seat.me.0), [])) × Knows r.seat.values (values_in (parts_of r.ins)) };
 }
 
-/// A start of a task and its end: their places in the journal, the parts that the start found, and the edges that the end
-/// gives.
+/// A start of a task and its end: their places in the journal, what the start found, the value of the end, and the edges that
+/// it gives.
 #[derive(Drop)]
-pub struct EndedStart {
+pub struct EndedStart<V> {
     pub task: u32,
     pub cause: Cause,
     pub start: u64,
-    pub ins: FoundParts,
+    pub ins: Ins<V>,
+    pub value: Arc<V>,
     pub place: u64,
     pub gives: List<u32>,
     pub inner: bool,
@@ -157,95 +168,98 @@ pub struct EndedStart {
 
 /// A run that ended, and owes tokens.
 #[derive(Drop)]
-pub struct Owing {
-    pub(crate) seat: TableSeat,
-    pub(crate) ended: EndedStart,
+pub struct Owing<V> {
+    pub(crate) seat: TableSeat<V>,
+    pub(crate) ended: EndedStart<V>,
     pub(crate) next: usize,
 }
 
-impl Model for Owing {
+impl<V> Model for Owing<V> {
     ghost use Rattle.std.specs.Prelude.{◌≡◌, [], drop};
+    ghost use Rattle.table_steps.specs.Values.{Knows};
+    ghost use Rattle.join_tables.specs.Values.{own_values};
     ghost use Rattle.join_tables.specs.States.{OwingState, owing_state};
     ghost use Rattle.join_tables.specs.inside.Seated.{owing_view, units_of};
 
-    ghost Value = { OwingState };
+    ghost Value = { OwingState V };
 
     ghost view = { λ o. owing_state o.seat.table_id o.ended (drop o.next o.ended.gives) (units_of o.seat.me.0) o.seat.found };
 
-    ghost invariant = { λ o. o.seat.me ≡ (owing_view o.ended (drop o.next o.ended.gives) (units_of o.seat.me.0), []) };
+    ghost invariant = { λ o. (o.seat.me ≡ (owing_view o.ended (drop o.next o.ended.gives) (units_of o.seat.me.0), [])) × Knows o.seat.values (own_values o.ended) };
 }
 
 /// A turn that is done and owes nothing.
 #[derive(Drop)]
-pub struct Spent {
-    pub(crate) seat: TableSeat,
-    pub(crate) fate: Fate,
+pub struct Spent<V> {
+    pub(crate) seat: TableSeat<V>,
+    pub(crate) fate: Fate<V>,
 }
 
-impl Model for Spent {
+impl<V> Model for Spent<V> {
     ghost use Rattle.std.specs.Prelude.{◌≡◌, []};
     ghost use Rattle.join_tables.specs.States.{SpentState, spent_state};
-    ghost use Rattle.join_tables.specs.inside.Seated.{IsSpent};
+    ghost use Rattle.table_steps.specs.Values.{Knows};
+    ghost use Rattle.join_tables.specs.inside.Seated.{IsSpent, known_values};
 
-    ghost Value = { SpentState };
+    ghost Value = { SpentState V };
 
     ghost view = { λ s. spent_state s.seat.table_id s.fate };
 
-    ghost invariant = { λ s. IsSpent s.fate s.seat.me.0 × (s.seat.me.1 ≡ []) };
+    ghost invariant = { λ s. IsSpent s.fate s.seat.me.0 × (s.seat.me.1 ≡ []) × Knows s.seat.values (known_values s.fate) };
 }
 
 /// What collecting from one edge led to.
 #[derive(Drop)]
-pub enum Collected {
+pub enum Collected<V> {
     /// An edge is left.
-    More(Collecting),
+    More(Collecting<V>),
     /// None is left.
-    Last(Turn),
+    Last(Turn<V>),
     /// None is left, and tokens that are still there release the task again.
-    LastAgain(Turn, Fresh),
+    LastAgain(Turn<V>, Fresh<V>),
 }
 
 /// What an admission led to.
 #[derive(Drop)]
-pub enum Admitted {
+pub enum Admitted<V> {
     /// The task may start.
-    Go(StartTicket),
+    Go(StartTicket<V>),
     /// All starts were admitted.
-    Over(Turn),
+    Over(Turn<V>),
     /// A start of the run has faulted.
-    Halted(Turn),
+    Halted(Turn<V>),
 }
 
 /// What taking a unit led to.
 #[derive(Drop)]
-pub enum UnitTake {
+pub enum UnitTake<V> {
     /// The turn has the unit.
-    Got(Turn),
+    Got(Turn<V>),
     /// There was none.
-    NoUnit(Turn),
+    NoUnit(Turn<V>),
 }
 
 /// What claiming a unit led to.
 #[derive(Drop)]
-pub enum Claim {
+pub enum Claim<V> {
     /// The start gives the unit back at its end.
-    Granted(Running),
+    Granted(Running<V>),
     /// The unit isn't out.
-    Refused(Running),
+    Refused(Running<V>),
 }
 
 /// What giving one edge led to.
 #[derive(Drop)]
-pub enum Gave {
+pub enum Gave<V> {
     /// An edge was given.
-    Next(Owing),
+    Next(Owing<V>),
     /// An edge was given, and its target is released.
-    Released(Owing, Fresh),
+    Released(Owing<V>, Fresh<V>),
     /// No edge was left.
-    Finished(Spent),
+    Finished(Spent<V>),
 }
 
-impl Fresh {
+impl<V: Drop> Fresh<V> {
     /// The task.
     pub fn task(&self) -> u32
         ensures { result ≡ self.now.task }
@@ -261,7 +275,7 @@ impl Fresh {
     }
 }
 
-impl Turn {
+impl<V: Drop> Turn<V> {
     /// The task.
     pub fn task(&self) -> u32
         ensures { result ≡ self.now.task }
@@ -270,7 +284,7 @@ impl Turn {
     }
 }
 
-impl Running {
+impl<V: Drop> Running<V> {
     /// The task.
     pub fn task(&self) -> u32
         ensures { result ≡ self.now.task }
@@ -285,24 +299,24 @@ impl Running {
         self.place
     }
 
-    /// The parts that it found at its edges, in their order.
-    pub fn ins(&self) -> &[Part]
+    /// What it found at its edges, in their order.
+    pub fn ins(&self) -> &Ins<V>
         ensures { result.now ≡ self.now.ins }
     {
-        self.ins.as_slice()
+        &self.ins
     }
 }
 
-impl Spent {
+impl<V: Drop> Spent<V> {
     /// What became of the release, with the places of its entries in the journal.
-    pub fn fate(&self) -> &Fate
+    pub fn fate(&self) -> &Fate<V>
         ensures { result.now ≡ self.now.fate }
     {
         &self.fate
     }
 }
 
-impl Owing {
+impl<V: Drop> Owing<V> {
     /// The place of its End in the journal.
     pub fn place(&self) -> u64
         ensures { result ≡ self.now.ended.place }

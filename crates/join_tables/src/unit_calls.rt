@@ -1,5 +1,5 @@
 // The calls that take units of semaphores and give them back. None takes memory, and none waits.
-ghost use Rattle.std.specs.Prelude.{◌≡◌, ◌<◌, ◌≤◌, None, length, slice_index};
+ghost use Rattle.std.specs.Prelude.{◌≡◌, ◌<◌, ◌≤◌, None, length};
 ghost use Rattle.table_steps.specs.Giving.{times};
 ghost use Rattle.join_tables.specs.States.{turn_with, owing_state};
 ghost use Rattle.table_steps.specs.Holding.{without};
@@ -7,10 +7,10 @@ ghost use Rattle.join_tables.specs.Units.{TakesUnit};
 
 use crate::turns::{NetTable, Owing, Turn, UnitTake};
 
-impl NetTable {
-    /// Takes a unit of a semaphore. `NoUnit` comes exactly where this call's own step finds that as many are taken as
+impl<V: Drop> NetTable<V> {
+    /// Takes a unit of a semaphore. It returns `NoUnit` exactly where its own step finds that as many are taken as
     /// there are, or are still to be given back by calls that found none; it undoes its step.
-    pub fn take_unit(&self, turn: Turn, sem: u32) -> UnitTake
+    pub fn take_unit(&self, turn: Turn<V>, sem: u32) -> UnitTake<V>
         requires table { turn.table ≡ self.now.table }
         requires not_refused { turn.refused ≡ None }
         requires in_range { sem < length self.now.net.sems }
@@ -41,7 +41,7 @@ impl NetTable {
     }
 
     /// Puts a unit back that the turn holds.
-    pub fn put_unit(&self, turn: Turn, sem: u32) -> Turn
+    pub fn put_unit(&self, turn: Turn<V>, sem: u32) -> Turn<V>
         requires table { turn.table ≡ self.now.table }
         requires held { 1 ≤ times sem turn.held }
         requires in_range { sem < length self.now.net.sems }
@@ -63,7 +63,8 @@ impl NetTable {
     }
 
     /// Gives a unit back that an end owes.
-    pub fn return_unit(&self, owing: Owing, sem: u32) -> Owing
+    #[tactic(auto, using(table_steps::proofs::Values::knows_again))]
+    pub fn return_unit(&self, owing: Owing<V>, sem: u32) -> Owing<V>
         requires table { owing.table ≡ self.now.table }
         requires owed { 1 ≤ times sem owing.units }
         requires in_range { sem < length self.now.net.sems }

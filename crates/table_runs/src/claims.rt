@@ -1,11 +1,11 @@
 // Claims of one unit by two tasks, in both orders with its credit.
-ghost use Rattle.std.specs.Prelude.{◌≡◌, ◌<◌, IfOk, None, [], ◌∷◌, length};
+ghost use Rattle.std.specs.Prelude.{◌≡◌, ◌<◌, IfOk, [], ◌∷◌, length};
 ghost use Rattle.table_steps.specs.Holding.{HoldsEachUnit, TakesAlone, PutsAlone, PutsEach};
 ghost use Rattle.join_tables.specs.Claims.{HasCredited, HasClaimed};
 
 use crate::lent::over;
 use crate::rings::{absorbed, take_up};
-use crate::{claim, is_complete, lend, no_edge, puts_first, takes_first};
+use crate::{claim, is_complete, lend, no_edge, puts_first, takes_first, value_of};
 use join_tables::{
     Admitted, Fresh, Gave, Keeper, NetTable, Opening, Owing, Running, StartTicket, UnitTake,
 };
@@ -20,10 +20,10 @@ use task_graph::Net;
 pub(crate) fn borrows(
     rt: &impl Abort,
     alloc: Global,
-    table: &NetTable,
+    table: &NetTable<u64>,
     net: &Net,
-    fresh: Fresh,
-) -> Result<StartTicket, Fail>
+    fresh: Fresh<u64>,
+) -> Result<StartTicket<u64>, Fail>
     requires fresh { fresh.table ≡ table.now.table }
     requires net { table.now.net ≡ net.now }
     requires sems { 0 < length table.now.net.sems }
@@ -48,10 +48,10 @@ pub(crate) fn borrows(
 fn puts(
     rt: &impl Abort,
     alloc: Global,
-    table: &NetTable,
+    table: &NetTable<u64>,
     net: &Net,
-    fresh: Fresh,
-) -> Result<StartTicket, Fail>
+    fresh: Fresh<u64>,
+) -> Result<StartTicket<u64>, Fail>
     requires fresh { fresh.table ≡ table.now.table }
     requires net { table.now.net ≡ net.now }
     ensures ticket { IfOk result (λ t. (t.table ≡ table.now.table) × (t.held ≡ [])) }
@@ -72,10 +72,10 @@ fn puts(
 pub(crate) fn ends(
     rt: &impl Abort,
     alloc: Global,
-    table: &NetTable,
+    table: &NetTable<u64>,
     net: &Net,
-    running: Running,
-) -> Result<Owing, Fail>
+    running: Running<u64>,
+) -> Result<Owing<u64>, Fail>
     requires table { running.table ≡ table.now.table }
     requires net { table.now.net ≡ net.now }
     requires units { HasCredited table.now.net running.task running.units × HasClaimed table.now.net running.task running.units }
@@ -88,22 +88,23 @@ pub(crate) fn ends(
     let Some(gives) = no_edge(alloc, net, task) else {
         panic!(rt; "a task that chooses");
     };
-    Ok(table.end(running, gives, false))
+    let value = value_of(alloc, &running)?;
+    Ok(table.end(running, gives, value, false))
 }
 
 // An end that owes no unit owes no edge: whether its turn was the last.
 pub(crate) fn finishes(
     rt: &impl Abort,
-    table: &NetTable,
-    keeper: &mut Keeper,
-    owing: Owing,
+    table: &NetTable<u64>,
+    keeper: &mut Keeper<u64>,
+    owing: Owing<u64>,
 ) -> Result<bool, Fail>
     requires owing { (owing.table ≡ table.now.table) × (owing.units ≡ []) }
     requires keeper { keeper.old.table ≡ table.now.table }
     ensures keeper { keeper.new.table ≡ keeper.old.table }
 {
     match table.give(owing) {
-        Gave::Finished(spent) => absorbed(keeper, table, spent),
+        Ok(Gave::Finished(spent)) => absorbed(keeper, table, spent),
         _ => panic!(rt; "an edge is left"),
     }
 }
@@ -112,10 +113,10 @@ pub(crate) fn finishes(
 fn granted(
     rt: &impl Abort,
     alloc: Global,
-    table: &NetTable,
+    table: &NetTable<u64>,
     net: &Net,
-    keeper: &mut Keeper,
-    fresh: Fresh,
+    keeper: &mut Keeper<u64>,
+    fresh: Fresh<u64>,
 ) -> Result<bool, Fail>
     requires fresh { fresh.table ≡ table.now.table }
     requires keeper { keeper.old.table ≡ table.now.table }
@@ -136,10 +137,10 @@ fn granted(
 fn refused(
     rt: &impl Abort,
     alloc: Global,
-    table: &NetTable,
+    table: &NetTable<u64>,
     net: &Net,
-    keeper: &mut Keeper,
-    fresh: Fresh,
+    keeper: &mut Keeper<u64>,
+    fresh: Fresh<u64>,
 ) -> Result<bool, Fail>
     requires fresh { fresh.table ≡ table.now.table }
     requires keeper { keeper.old.table ≡ table.now.table }

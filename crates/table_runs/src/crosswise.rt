@@ -1,9 +1,8 @@
 // Two tasks that need the same two units, which each takes the lesser first.
-ghost use Rattle.std.specs.Prelude.{◌≡◌, ◌<◌, IfOk, IfSome, None, [], ◌∷◌, length};
-ghost use Rattle.std.specs.Arc.{arc_value};
+ghost use Rattle.std.specs.Prelude.{◌≡◌, ◌<◌, IfOk, None, [], ◌∷◌, length};
 
 use crate::rings::absorbed;
-use crate::{is_complete, needs_both, no_edge};
+use crate::{is_complete, needs_both, no_edge, value_of};
 use join_tables::{
     Admitted, Collected, Fresh, Gave, Keeper, NetTable, Opening, Owing, Turn, UnitTake,
 };
@@ -31,7 +30,12 @@ fn crosswise(alloc: Global) -> Result<Net, BuildError> {
 }
 
 // A release of a source task, taken up.
-fn take_up(rt: &impl Abort, alloc: Global, table: &NetTable, fresh: Fresh) -> Result<Turn, Fail>
+fn take_up(
+    rt: &impl Abort,
+    alloc: Global,
+    table: &NetTable<u64>,
+    fresh: Fresh<u64>,
+) -> Result<Turn<u64>, Fail>
     requires { fresh.table ≡ table.now.table }
     ensures { IfOk result (λ turn. (turn.table ≡ table.now.table) × (turn.refused ≡ None) × (turn.held ≡ [])) }
 {
@@ -44,7 +48,7 @@ fn take_up(rt: &impl Abort, alloc: Global, table: &NetTable, fresh: Fresh) -> Re
 }
 
 // Semaphore 0 has a unit.
-fn takes_first(rt: &impl Abort, table: &NetTable, turn: Turn) -> Result<Turn, Fail>
+fn takes_first(rt: &impl Abort, table: &NetTable<u64>, turn: Turn<u64>) -> Result<Turn<u64>, Fail>
     requires turn { (turn.table ≡ table.now.table) × (turn.refused ≡ None) × (turn.held ≡ []) }
     requires sems { 1 < length table.now.net.sems }
     ensures { IfOk result (λ turn. (turn.table ≡ table.now.table) × (turn.refused ≡ None) × (turn.held ≡ 0 ∷ [])) }
@@ -56,7 +60,7 @@ fn takes_first(rt: &impl Abort, table: &NetTable, turn: Turn) -> Result<Turn, Fa
 }
 
 // And semaphore 1.
-fn takes_second(rt: &impl Abort, table: &NetTable, turn: Turn) -> Result<Turn, Fail>
+fn takes_second(rt: &impl Abort, table: &NetTable<u64>, turn: Turn<u64>) -> Result<Turn<u64>, Fail>
     requires turn { (turn.table ≡ table.now.table) × (turn.refused ≡ None) × (turn.held ≡ 0 ∷ []) }
     requires sems { 1 < length table.now.net.sems }
     ensures { IfOk result (λ turn. (turn.table ≡ table.now.table) × (turn.refused ≡ None) × (turn.held ≡ 1 ∷ 0 ∷ [])) }
@@ -68,7 +72,7 @@ fn takes_second(rt: &impl Abort, table: &NetTable, turn: Turn) -> Result<Turn, F
 }
 
 // Semaphore 0 has none.
-fn waits_first(rt: &impl Abort, table: &NetTable, turn: Turn) -> Result<Turn, Fail>
+fn waits_first(rt: &impl Abort, table: &NetTable<u64>, turn: Turn<u64>) -> Result<Turn<u64>, Fail>
     requires turn { (turn.table ≡ table.now.table) × (turn.refused ≡ None) × (turn.held ≡ []) }
     requires sems { 1 < length table.now.net.sems }
     ensures { IfOk result (λ turn. (turn.table ≡ table.now.table) × (turn.refused ≡ None) × (turn.held ≡ [])) }
@@ -80,7 +84,7 @@ fn waits_first(rt: &impl Abort, table: &NetTable, turn: Turn) -> Result<Turn, Fa
 }
 
 // Semaphore 1 has none, and the unit of semaphore 0 is put back.
-fn waits_second(rt: &impl Abort, table: &NetTable, turn: Turn) -> Result<Turn, Fail>
+fn waits_second(rt: &impl Abort, table: &NetTable<u64>, turn: Turn<u64>) -> Result<Turn<u64>, Fail>
     requires turn { (turn.table ≡ table.now.table) × (turn.refused ≡ None) × (turn.held ≡ 0 ∷ []) }
     requires sems { 1 < length table.now.net.sems }
     ensures { IfOk result (λ turn. (turn.table ≡ table.now.table) × (turn.refused ≡ None) × (turn.held ≡ [])) }
@@ -95,10 +99,10 @@ fn waits_second(rt: &impl Abort, table: &NetTable, turn: Turn) -> Result<Turn, F
 fn run(
     rt: &impl Abort,
     alloc: Global,
-    table: &NetTable,
+    table: &NetTable<u64>,
     net: &Net,
-    turn: Turn,
-) -> Result<Owing, Fail>
+    turn: Turn<u64>,
+) -> Result<Owing<u64>, Fail>
     requires turn { (turn.table ≡ table.now.table) × (turn.refused ≡ None) × (turn.held ≡ 1 ∷ 0 ∷ []) }
     requires net { table.now.net ≡ net.now }
     ensures { IfOk result (λ owing. (owing.table ≡ table.now.table) × (owing.units ≡ 1 ∷ 0 ∷ [])) }
@@ -108,7 +112,11 @@ fn run(
         panic!(rt; "a task past the end, or one that needs other units");
     }
     match (table.admit(turn), no_edge(alloc, net, task)) {
-        (Admitted::Go(ticket), Some(gives)) => Ok(table.end(table.start(ticket), gives, false)),
+        (Admitted::Go(ticket), Some(gives)) => {
+            let running = table.start(ticket);
+            let value = value_of(alloc, &running)?;
+            Ok(table.end(running, gives, value, false))
+        }
         _ => panic!(rt; "refused, or a task that chooses"),
     }
 }
@@ -116,16 +124,16 @@ fn run(
 // An end that owes no unit owes no edge: whether its turn was the last.
 fn finishes(
     rt: &impl Abort,
-    table: &NetTable,
-    keeper: &mut Keeper,
-    owing: Owing,
+    table: &NetTable<u64>,
+    keeper: &mut Keeper<u64>,
+    owing: Owing<u64>,
 ) -> Result<bool, Fail>
     requires owing { (owing.table ≡ table.now.table) × (owing.units ≡ []) }
     requires keeper { keeper.old.table ≡ table.now.table }
     ensures keeper { keeper.new.table ≡ keeper.old.table }
 {
     match table.give(owing) {
-        Gave::Finished(spent) => absorbed(keeper, table, spent),
+        Ok(Gave::Finished(spent)) => absorbed(keeper, table, spent),
         _ => panic!(rt; "an edge is left"),
     }
 }
@@ -134,11 +142,11 @@ fn finishes(
 fn cross(
     rt: &impl Abort,
     alloc: Global,
-    table: &NetTable,
+    table: &NetTable<u64>,
     net: &Net,
-    keeper: &mut Keeper,
-    a: Fresh,
-    b: Fresh,
+    keeper: &mut Keeper<u64>,
+    a: Fresh<u64>,
+    b: Fresh<u64>,
 ) -> Result<(), Fail>
     requires fresh { (a.table ≡ table.now.table) × (b.table ≡ table.now.table) }
     requires keeper { keeper.old.table ≡ table.now.table }

@@ -6,7 +6,7 @@ ghost use Rattle.join_tables.specs.Claims.{HasCredited, HasClaimed};
 use join_tables::{Claim, NetTable, Running, StartTicket};
 
 /// Starts a task that takes a unit of semaphore 0 and puts none, and credits the unit.
-pub fn lend(table: &NetTable, ticket: StartTicket) -> Running
+pub fn lend(table: &NetTable<u64>, ticket: StartTicket<u64>) -> Running<u64>
     requires table { ticket.table ≡ table.now.table }
     requires held { ticket.held ≡ 0 ∷ [] }
     requires sems { 0 < length table.now.net.sems }
@@ -19,7 +19,7 @@ pub fn lend(table: &NetTable, ticket: StartTicket) -> Running
 
 /// Starts a task that puts a unit of semaphore 0 and takes none, and claims the unit. Where the claim is refused it is an
 /// error.
-pub fn claim(table: &NetTable, ticket: StartTicket) -> Result<Running, Running>
+pub fn claim(table: &NetTable<u64>, ticket: StartTicket<u64>) -> Result<Running<u64>, Running<u64>>
     requires table { ticket.table ≡ table.now.table }
     requires held { ticket.held ≡ [] }
     requires sems { 0 < length table.now.net.sems }

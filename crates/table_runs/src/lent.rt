@@ -68,12 +68,12 @@ fn ran<R: Threads + Wait + Abort + Sync>(
     let Some(ran) = run_by(rt, alloc, net, MANY, MANY, threads)? else {
         panic!(rt; "a place without an entry");
     };
-    assert!(rt; ran.is_whole);
+    assert!(rt; ran.is_whole && ran.has_end_values);
     assert!(rt; matches!(judge(alloc, net, MANY, &ran.journal)?, Verdict::Complete));
     Ok(ran)
 }
 
-// Whether a run has a Fault, and each tells an over-release of semaphore 0.
+// Whether a run has a Fault, and each is for an over-release of semaphore 0.
 fn is_over(ran: &Ran) -> bool {
     let mut found = false;
     for entry in ran.journal.as_slice() {

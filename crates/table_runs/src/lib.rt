@@ -1,5 +1,5 @@
 //! Runs of `join_tables` by one thread and by several. They are no part of a program: they serve the tests of tables,
-//! which stand here, and whose journals are held against the machine or judged.
+//! which are here, and whose journals are held against the machine or judged. Each end has a value of its own.
 #![tactic(auto)]
 
 #[cfg(test)]
@@ -8,6 +8,8 @@ mod copies;
 #[cfg(test)]
 mod crosswise;
 mod gives;
+#[cfg(test)]
+mod inputs;
 mod lending;
 #[cfg(test)]
 mod lent;
@@ -25,6 +27,7 @@ mod shelf;
 mod stepping;
 #[cfg(test)]
 mod threads;
+mod values;
 #[cfg(test)]
 mod yard;
 
@@ -35,3 +38,4 @@ pub use needs::{needs_both, needs_none, puts_first, takes_first};
 pub use replay::is_complete;
 pub use shelf::{Ran, Shelf, Turnout};
 pub use stepping::run_by;
+pub use values::{have_end_values, value_of};

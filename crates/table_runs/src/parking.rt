@@ -1,15 +1,17 @@
 // Runs by several threads whose turns are parked in a rest where they find no unit: the unit comes back, or never, or a
 // start faults.
-ghost use Rattle.std.specs.Prelude.{◌≡◌, ◌<◌, ◌≤◌, [], ◌∷◌, None, Some, IfSome, false, length};
+ghost use Rattle.std.specs.Prelude.{◌≡◌, ◌<◌, [], ◌∷◌, None, Some, IfSome, false, length};
 ghost use Rattle.std.specs.Arc.{arc_value};
 ghost use Rattle.keyed_lock.specs.Locks.{made_with};
 ghost use Rattle.table_steps.specs.Giving.{MayEndGiving};
+ghost use Rattle.join_tables.specs.Claims.{HasCredited, HasClaimed};
 ghost use Rattle.table_steps.specs.Holding.{HoldsEachUnit, PutsAlone, PutsEach, TakesAlone};
 
 use crate::gives::all_edges;
 use crate::lending::{claim, lend};
 use crate::needs::{puts_first, takes_first};
 use crate::shelf::{Ran, Shelf, Turnout};
+use crate::values::value_of;
 use crate::yard::Yard;
 use join_tables::{
     Admitted, Collected, Collecting, Fresh, Gave, NetTable, Opening, Owing, Rest, Running, Spent,
@@ -35,7 +37,8 @@ const MANY: u64 = 10_000;
 /// A table, its net, and what its threads share besides.
 #[derive(Drop)]
 struct Parking {
-    table: NetTable,
+    alloc: Global,
+    table: NetTable<u64>,
     net: Arc<Net>,
     lock: KeyedLock<Yard>,
     // Whether the first start faults.
@@ -60,6 +63,7 @@ fn run<R: Threads + Wait + Sync>(
     let shelf = Shelf::new(alloc, keeper, fresh, MANY);
     let rest = Some(Rest::with_room(alloc, net.tasks().len())?);
     let parking = Parking {
+        alloc,
         table,
         net: Arc::try_clone(net)?,
         lock: KeyedLock::new(alloc, Yard { shelf, rest })?,
@@ -113,7 +117,7 @@ impl Parking {
     }
 
     // Takes a release up, collects its tokens, and takes its turn to the end of its run, or parks it.
-    fn take_up<R: Wait>(&self, rt: &R, alloc: Global, fresh: Fresh)
+    fn take_up<R: Wait>(&self, rt: &R, alloc: Global, fresh: Fresh<u64>)
         requires { fresh.table ≡ self.now.table.table }
     {
         let mut fresh = fresh;
@@ -125,7 +129,7 @@ impl Parking {
     }
 
     // Takes a turn to the end of its run, or parks it.
-    fn step<R: Wait>(&self, rt: &R, alloc: Global, turn: Turn)
+    fn step<R: Wait>(&self, rt: &R, alloc: Global, turn: Turn<u64>)
         requires { (turn.table ≡ self.now.table.table) × (turn.refused ≡ None) × (turn.held ≡ []) }
     {
         let task = turn.task();
@@ -157,7 +161,7 @@ impl Parking {
     }
 
     // Runs a task that takes a unit of semaphore 0 and doesn't put it. Where there is none, the turn is parked.
-    fn borrow<R: Wait>(&self, rt: &R, turn: Turn, edges: List<u32>)
+    fn borrow<R: Wait>(&self, rt: &R, turn: Turn<u64>, edges: List<u32>)
         requires turn { (turn.table ≡ self.now.table.table) × (turn.refused ≡ None) × (turn.held ≡ []) }
         requires sems { 0 < length self.now.table.net.sems }
         requires needs { HoldsEachUnit self.now.table.net turn.task (0 ∷ []) × TakesAlone self.now.table.net turn.task (0 ∷ []) × PutsAlone self.now.table.net turn.task [] × PutsEach self.now.table.net turn.task [] }
@@ -181,7 +185,7 @@ impl Parking {
     }
 
     // Starts such a task with its unit, which the first start of the run loses where that faults.
-    fn run_lent<R: Wait>(&self, rt: &R, ticket: StartTicket, edges: List<u32>)
+    fn run_lent<R: Wait>(&self, rt: &R, ticket: StartTicket<u64>, edges: List<u32>)
         requires ticket { (ticket.table ≡ self.now.table.table) × (ticket.held ≡ 0 ∷ []) }
         requires sems { 0 < length self.now.table.net.sems }
         requires needs { HoldsEachUnit self.now.table.net ticket.task (0 ∷ []) × TakesAlone self.now.table.net ticket.task (0 ∷ []) × PutsAlone self.now.table.net ticket.task [] × PutsEach self.now.table.net ticket.task [] }
@@ -191,12 +195,14 @@ impl Parking {
         if self.faults && running.place() == 0 {
             self.finish(rt, self.table.fault(running, Why::Long(9)));
         } else {
-            self.pay(rt, self.table.end(running, edges, false));
+            if let Some(owing) = self.end(rt, running, edges) {
+                self.pay(rt, owing);
+            }
         }
     }
 
     // Runs a task that puts a unit of semaphore 0 and takes none. Where none is out, it faults.
-    fn give_back<R: Wait>(&self, rt: &R, turn: Turn, edges: List<u32>)
+    fn give_back<R: Wait>(&self, rt: &R, turn: Turn<u64>, edges: List<u32>)
         requires turn { (turn.table ≡ self.now.table.table) × (turn.refused ≡ None) × (turn.held ≡ []) }
         requires sems { 0 < length self.now.table.net.sems }
         requires needs { HoldsEachUnit self.now.table.net turn.task [] × TakesAlone self.now.table.net turn.task [] × PutsAlone self.now.table.net turn.task (0 ∷ []) × PutsEach self.now.table.net turn.task (0 ∷ []) }
@@ -209,15 +215,30 @@ impl Parking {
         };
         match claim(&self.table, ticket) {
             Ok(running) => {
-                let owing = self.table.end(running, edges, false);
-                self.pay(rt, self.table.return_unit(owing, 0));
+                if let Some(owing) = self.end(rt, running, edges) {
+                    self.pay(rt, self.table.return_unit(owing, 0));
+                }
             }
             Err(running) => self.finish(rt, self.table.fault(running, Why::OverRelease(0))),
         }
     }
 
+    // Ends a start that owes no claim and no credit, with a value of its own. It is `None` where an allocation failed.
+    fn end<R: Wait>(&self, rt: &R, running: Running<u64>, edges: List<u32>) -> Option<Owing<u64>>
+        requires running { running.table ≡ self.now.table.table }
+        requires edges { MayEndGiving self.now.table.net running.task edges false }
+        requires units { HasCredited self.now.table.net running.task running.units × HasClaimed self.now.table.net running.task running.units }
+        ensures { IfSome result (λ owing. (owing.table ≡ self.now.table.table) × (owing.units ≡ running.units.back)) }
+    {
+        let Ok(value) = value_of(self.alloc, &running) else {
+            self.give_up(rt);
+            return None;
+        };
+        Some(self.table.end(running, edges, value, false))
+    }
+
     // Drops a turn that was refused.
-    fn drop_turn<R: Wait>(&self, rt: &R, turn: Turn, why: DropWhy)
+    fn drop_turn<R: Wait>(&self, rt: &R, turn: Turn<u64>, why: DropWhy)
         requires turn { (turn.table ≡ self.now.table.table) × (turn.held ≡ []) }
         requires refused { turn.refused ≡ Some why }
     {
@@ -225,15 +246,17 @@ impl Parking {
     }
 
     // Gives all that an end owes.
-    fn pay<R: Wait>(&self, rt: &R, owing: Owing)
+    fn pay<R: Wait>(&self, rt: &R, owing: Owing<u64>)
         requires { (owing.table ≡ self.now.table.table) × (owing.units ≡ []) }
     {
-        let spent = self.give_all(rt, owing);
-        self.finish(rt, spent);
+        match self.give_all(rt, owing) {
+            Some(spent) => self.finish(rt, spent),
+            None => self.give_up(rt),
+        }
     }
 
     // Collects all tokens, and adds the release that they make again.
-    fn collect_all<R: Wait>(&self, rt: &R, collecting: Collecting) -> Turn
+    fn collect_all<R: Wait>(&self, rt: &R, collecting: Collecting<u64>) -> Turn<u64>
         requires { collecting.table ≡ self.now.table.table }
         ensures { (result.table ≡ self.now.table.table) × (result.refused ≡ None) × (result.held ≡ []) }
     {
@@ -247,18 +270,19 @@ impl Parking {
         }
     }
 
-    // Gives all edges that an end owes, and adds the releases that this makes.
-    fn give_all<R: Wait>(&self, rt: &R, owing: Owing) -> Spent
+    // Gives all edges that an end owes, and adds the releases that this makes. It is `None` where the value can't be shared
+    // once more.
+    fn give_all<R: Wait>(&self, rt: &R, owing: Owing<u64>) -> Option<Spent<u64>>
         requires { (owing.table ≡ self.now.table.table) × (owing.units ≡ []) }
-        ensures { result.table ≡ self.now.table.table }
+        ensures { IfSome result (λ spent. spent.table ≡ self.now.table.table) }
     {
-        match self.table.give(owing) {
+        match self.table.give(owing).ok()? {
             Gave::Next(next) => self.give_all(rt, next),
             Gave::Released(next, fresh) => {
                 self.add(rt, fresh);
                 self.give_all(rt, next)
             }
-            Gave::Finished(spent) => spent,
+            Gave::Finished(spent) => Some(spent),
         }
     }
 
@@ -272,7 +296,7 @@ impl Parking {
         turnout
     }
 
-    fn add<R: Wait>(&self, rt: &R, fresh: Fresh)
+    fn add<R: Wait>(&self, rt: &R, fresh: Fresh<u64>)
         requires { fresh.table ≡ self.now.table.table }
     {
         let Held { value, pass } = self.lock.take(rt);
@@ -280,7 +304,7 @@ impl Parking {
         self.lock.put(Held { value, pass });
     }
 
-    fn finish<R: Wait>(&self, rt: &R, spent: Spent)
+    fn finish<R: Wait>(&self, rt: &R, spent: Spent<u64>)
         requires { spent.table ≡ self.now.table.table }
     {
         let Held { value, pass } = self.lock.take(rt);
@@ -288,7 +312,7 @@ impl Parking {
         self.lock.put(Held { value, pass });
     }
 
-    fn park<R: Wait>(&self, rt: &R, turn: Turn)
+    fn park<R: Wait>(&self, rt: &R, turn: Turn<u64>)
         requires { (turn.table ≡ self.now.table.table) × (turn.refused ≡ None) × (turn.held ≡ []) }
     {
         let Held { value, pass } = self.lock.take(rt);
@@ -343,7 +367,7 @@ fn ran<R: Threads + Wait + Abort + Sync>(
     let Some(ran) = run(rt, alloc, net, faults, threads)? else {
         panic!(rt; "a place without an entry");
     };
-    assert!(rt; ran.is_whole);
+    assert!(rt; ran.is_whole && ran.has_end_values);
     assert!(rt; matches!(judge(alloc, net, MANY, &ran.journal)?, Verdict::Complete));
     Ok(ran)
 }

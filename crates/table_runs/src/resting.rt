@@ -1,5 +1,5 @@
 // A rest by one thread: it isn't alone while another turn lives, and then its turns are dropped for want of a unit.
-ghost use Rattle.std.specs.Prelude.{◌≡◌, ◌+◌, ◌<◌, ◌≤◌, IfOk, Some, None, [], false, length};
+ghost use Rattle.std.specs.Prelude.{◌≡◌, ◌<◌, ◌≤◌, IfOk, Some, None, [], false, length};
 ghost use Rattle.table_steps.specs.Giving.{times};
 ghost use Rattle.join_tables.specs.Rests.{IsOfTable};
 
@@ -31,10 +31,10 @@ fn hoarding(alloc: Global) -> Result<Net, BuildError> {
 fn parks(
     rt: &impl Abort,
     alloc: Global,
-    table: &NetTable,
-    rest: Rest,
-    fresh: Fresh,
-) -> Result<Rest, Fail>
+    table: &NetTable<u64>,
+    rest: Rest<u64>,
+    fresh: Fresh<u64>,
+) -> Result<Rest<u64>, Fail>
     requires fresh { fresh.table ≡ table.now.table }
     requires rest { IsOfTable table.now.table rest.table × (rest.dropped ≡ []) }
     requires sems { 0 < length table.now.net.sems }
@@ -51,7 +51,12 @@ fn parks(
 }
 
 // The rest isn't alone where so many turns live. It hands its last one out and takes it in again.
-fn waits(rt: &impl Abort, table: &NetTable, rest: Rest, lives: u64) -> Result<Rest, Fail>
+fn waits(
+    rt: &impl Abort,
+    table: &NetTable<u64>,
+    rest: Rest<u64>,
+    lives: u64,
+) -> Result<Rest<u64>, Fail>
     requires rest { (rest.table ≡ Some table.now.table) × (rest.dropped ≡ []) × (rest.alone ≡ None) }
     ensures { IfOk result (λ r. (r.table ≡ Some table.now.table) × (r.dropped ≡ []) × (r.alone ≡ None)) }
 {
@@ -74,7 +79,7 @@ fn waits(rt: &impl Abort, table: &NetTable, rest: Rest, lives: u64) -> Result<Re
 }
 
 // A rest is alone: no start has faulted, and there is no unit.
-fn is_stuck(rt: &impl Abort, table: &NetTable, rest: Rest) -> Result<Rest, Fail>
+fn is_stuck(rt: &impl Abort, table: &NetTable<u64>, rest: Rest<u64>) -> Result<Rest<u64>, Fail>
     requires rest { (rest.table ≡ Some table.now.table) × (rest.dropped ≡ []) × (rest.alone ≡ None) }
     requires sems { 0 < length table.now.net.sems }
     ensures { IfOk result (λ r. (r.table ≡ Some table.now.table) × (r.alone ≡ Some false) × (1 ≤ times 0 r.full)) }
@@ -93,7 +98,12 @@ fn is_stuck(rt: &impl Abort, table: &NetTable, rest: Rest) -> Result<Rest, Fail>
 }
 
 // The last turn of such a rest is dropped, and another is left.
-fn drops_one(rt: &impl Abort, table: &NetTable, net: &Net, rest: Rest) -> Result<Rest, Fail>
+fn drops_one(
+    rt: &impl Abort,
+    table: &NetTable<u64>,
+    net: &Net,
+    rest: Rest<u64>,
+) -> Result<Rest<u64>, Fail>
     requires rest { (rest.table ≡ Some table.now.table) × (rest.alone ≡ Some false) × (1 ≤ times 0 rest.full) }
     requires net { table.now.net ≡ net.now }
     ensures { IfOk result (λ r. (r.table ≡ Some table.now.table) × (r.alone ≡ Some false) × (1 ≤ times 0 r.full)) }
@@ -110,10 +120,10 @@ fn drops_one(rt: &impl Abort, table: &NetTable, net: &Net, rest: Rest) -> Result
 // Its only turn is dropped: whether that was the last turn.
 fn drops_last(
     rt: &impl Abort,
-    table: &NetTable,
+    table: &NetTable<u64>,
     net: &Net,
-    keeper: &mut Keeper,
-    rest: Rest,
+    keeper: &mut Keeper<u64>,
+    rest: Rest<u64>,
 ) -> Result<bool, Fail>
     requires rest { (rest.table ≡ Some table.now.table) × (rest.alone ≡ Some false) × (1 ≤ times 0 rest.full) }
     requires keeper { keeper.old.table ≡ table.now.table }
@@ -133,10 +143,10 @@ fn drops_last(
 fn rests(
     rt: &impl Abort,
     alloc: Global,
-    table: &NetTable,
+    table: &NetTable<u64>,
     net: &Net,
-    keeper: &mut Keeper,
-    fresh: (Fresh, Fresh, Fresh),
+    keeper: &mut Keeper<u64>,
+    fresh: (Fresh<u64>, Fresh<u64>, Fresh<u64>),
 ) -> Result<(), Fail>
     requires fresh { (fresh.0.table ≡ table.now.table) × (fresh.1.table ≡ table.now.table) × (fresh.2.table ≡ table.now.table) }
     requires keeper { keeper.old.table ≡ table.now.table }

@@ -1,8 +1,7 @@
 // Two rings that feed one task.
 ghost use Rattle.std.specs.Prelude.{◌≡◌, ◌<◌, IfOk, IfSome, None, [], false};
-ghost use Rattle.std.specs.Arc.{arc_value};
 
-use crate::{all_edges, is_complete, needs_none, no_edge};
+use crate::{all_edges, have_end_values, is_complete, needs_none, no_edge, value_of};
 use join_tables::{
     Admitted, Collected, Collecting, Fresh, Gave, Keeper, NetTable, Opening, Owing, Remaining,
     Spent, Turn,
@@ -31,9 +30,9 @@ pub(crate) fn two_rings(alloc: Global) -> Result<Net, BuildError> {
 pub(crate) fn take_up(
     rt: &impl Abort,
     alloc: Global,
-    table: &NetTable,
-    fresh: Fresh,
-) -> Result<Turn, Fail>
+    table: &NetTable<u64>,
+    fresh: Fresh<u64>,
+) -> Result<Turn<u64>, Fail>
     requires { fresh.table ≡ table.now.table }
     ensures { IfOk result (λ turn. (turn.table ≡ table.now.table) × (turn.refused ≡ None) × (turn.held ≡ [])) }
 {
@@ -49,11 +48,11 @@ pub(crate) fn take_up(
 fn run(
     rt: &impl Abort,
     alloc: Global,
-    table: &NetTable,
+    table: &NetTable<u64>,
     net: &Net,
-    turn: Turn,
+    turn: Turn<u64>,
     gives_all: bool,
-) -> Result<Owing, Fail>
+) -> Result<Owing<u64>, Fail>
     requires table { (turn.table ≡ table.now.table) × (turn.refused ≡ None) × (turn.held ≡ []) }
     requires net { table.now.net ≡ net.now }
     ensures { IfOk result (λ owing. (owing.table ≡ table.now.table) × (owing.units ≡ [])) }
@@ -68,46 +67,58 @@ fn run(
         no_edge(alloc, net, task)
     };
     match (table.admit(turn), gives) {
-        (Admitted::Go(ticket), Some(gives)) => Ok(table.end(table.start(ticket), gives, false)),
+        (Admitted::Go(ticket), Some(gives)) => {
+            let running = table.start(ticket);
+            let value = value_of(alloc, &running)?;
+            Ok(table.end(running, gives, value, false))
+        }
         _ => panic!(rt; "refused, or a task that chooses"),
     }
 }
 
 // The next edge releases nothing.
-fn goes_on(rt: &impl Abort, table: &NetTable, owing: Owing) -> Result<Owing, Fail>
+fn goes_on(rt: &impl Abort, table: &NetTable<u64>, owing: Owing<u64>) -> Result<Owing<u64>, Fail>
     requires { (owing.table ≡ table.now.table) × (owing.units ≡ []) }
     ensures { IfOk result (λ next. (next.table ≡ table.now.table) × (next.units ≡ [])) }
 {
     match table.give(owing) {
-        Gave::Next(next) => Ok(next),
+        Ok(Gave::Next(next)) => Ok(next),
         _ => panic!(rt; "a release, or no edge"),
     }
 }
 
 // The next edge releases a task.
-fn releases(rt: &impl Abort, table: &NetTable, owing: Owing) -> Result<(Owing, Fresh), Fail>
+fn releases(
+    rt: &impl Abort,
+    table: &NetTable<u64>,
+    owing: Owing<u64>,
+) -> Result<(Owing<u64>, Fresh<u64>), Fail>
     requires { (owing.table ≡ table.now.table) × (owing.units ≡ []) }
     ensures { IfOk result (λ r. (r.0.table ≡ table.now.table) × (r.0.units ≡ []) × (r.1.table ≡ table.now.table)) }
 {
     match table.give(owing) {
-        Gave::Released(next, fresh) => Ok((next, fresh)),
+        Ok(Gave::Released(next, fresh)) => Ok((next, fresh)),
         _ => panic!(rt; "no release"),
     }
 }
 
 // No edge is left.
-fn finishes(rt: &impl Abort, table: &NetTable, owing: Owing) -> Result<Spent, Fail>
+fn finishes(rt: &impl Abort, table: &NetTable<u64>, owing: Owing<u64>) -> Result<Spent<u64>, Fail>
     requires { (owing.table ≡ table.now.table) × (owing.units ≡ []) }
     ensures { IfOk result (λ spent. spent.table ≡ table.now.table) }
 {
     match table.give(owing) {
-        Gave::Finished(spent) => Ok(spent),
+        Ok(Gave::Finished(spent)) => Ok(spent),
         _ => panic!(rt; "an edge is left"),
     }
 }
 
 // Takes in a run that is done, and says whether it was the last.
-pub(crate) fn absorbed(keeper: &mut Keeper, table: &NetTable, spent: Spent) -> Result<bool, Fail>
+pub(crate) fn absorbed(
+    keeper: &mut Keeper<u64>,
+    table: &NetTable<u64>,
+    spent: Spent<u64>,
+) -> Result<bool, Fail>
     requires { (keeper.old.table ≡ table.now.table) × (spent.table ≡ table.now.table) }
     ensures { keeper.new.table ≡ keeper.old.table }
 {
@@ -117,10 +128,10 @@ pub(crate) fn absorbed(keeper: &mut Keeper, table: &NetTable, spent: Spent) -> R
 // The first run of p or of q, whose first edge leads to t: whether that released t.
 fn first_round(
     rt: &impl Abort,
-    table: &NetTable,
-    owing: Owing,
+    table: &NetTable<u64>,
+    owing: Owing<u64>,
     releases_t: bool,
-) -> Result<(Option<Fresh>, Fresh, Spent), Fail>
+) -> Result<(Option<Fresh<u64>>, Fresh<u64>, Spent<u64>), Fail>
     requires { (owing.table ≡ table.now.table) × (owing.units ≡ []) }
     ensures { IfOk result (λ r. IfSome r.0 (λ fresh. fresh.table ≡ table.now.table) × (r.1.table ≡ table.now.table) × (r.2.table ≡ table.now.table)) }
 {
@@ -139,9 +150,9 @@ fn first_round(
 pub(crate) fn take_both(
     rt: &impl Abort,
     alloc: Global,
-    table: &NetTable,
-    fresh: Fresh,
-) -> Result<Turn, Fail>
+    table: &NetTable<u64>,
+    fresh: Fresh<u64>,
+) -> Result<Turn<u64>, Fail>
     requires { fresh.table ≡ table.now.table }
     ensures { IfOk result (λ turn. (turn.table ≡ table.now.table) × (turn.refused ≡ None) × (turn.held ≡ [])) }
 {
@@ -161,12 +172,12 @@ pub(crate) fn take_both(
 pub(crate) fn lap(
     rt: &impl Abort,
     alloc: Global,
-    table: &NetTable,
+    table: &NetTable<u64>,
     net: &Net,
-    keeper: &mut Keeper,
-    fresh: Fresh,
+    keeper: &mut Keeper<u64>,
+    fresh: Fresh<u64>,
     releases_t: bool,
-) -> Result<(Option<Fresh>, Fresh), Fail>
+) -> Result<(Option<Fresh<u64>>, Fresh<u64>), Fail>
     requires fresh { fresh.table ≡ table.now.table }
     requires keeper { keeper.old.table ≡ table.now.table }
     requires net { table.now.net ≡ net.now }
@@ -184,10 +195,10 @@ pub(crate) fn lap(
 pub(crate) fn stops(
     rt: &impl Abort,
     alloc: Global,
-    table: &NetTable,
+    table: &NetTable<u64>,
     net: &Net,
-    keeper: &mut Keeper,
-    turn: Turn,
+    keeper: &mut Keeper<u64>,
+    turn: Turn<u64>,
 ) -> Result<bool, Fail>
     requires turn { (turn.table ≡ table.now.table) × (turn.refused ≡ None) × (turn.held ≡ []) }
     requires keeper { keeper.old.table ≡ table.now.table }
@@ -200,7 +211,11 @@ pub(crate) fn stops(
 }
 
 // t has collected from its first edge and then from its second, which releases it again.
-fn meets(rt: &impl Abort, table: &NetTable, t: Collecting) -> Result<(Turn, Fresh), Fail>
+fn meets(
+    rt: &impl Abort,
+    table: &NetTable<u64>,
+    t: Collecting<u64>,
+) -> Result<(Turn<u64>, Fresh<u64>), Fail>
     requires { t.table ≡ table.now.table }
     ensures { IfOk result (λ r. (r.0.table ≡ table.now.table) × (r.0.refused ≡ None) × (r.0.held ≡ []) × (r.1.table ≡ table.now.table)) }
 {
@@ -218,11 +233,11 @@ fn meets(rt: &impl Abort, table: &NetTable, t: Collecting) -> Result<(Turn, Fres
 fn first_rounds(
     rt: &impl Abort,
     alloc: Global,
-    table: &NetTable,
+    table: &NetTable<u64>,
     net: &Net,
-    keeper: &mut Keeper,
-    p: Fresh,
-    q: Fresh,
+    keeper: &mut Keeper<u64>,
+    p: Fresh<u64>,
+    q: Fresh<u64>,
 ) -> Result<(), Fail>
     requires fresh { (p.table ≡ table.now.table) × (q.table ≡ table.now.table) }
     requires keeper { keeper.old.table ≡ table.now.table }
@@ -242,10 +257,10 @@ fn first_rounds(
 fn second_rounds(
     rt: &impl Abort,
     alloc: Global,
-    table: &NetTable,
+    table: &NetTable<u64>,
     net: &Net,
-    keeper: &mut Keeper,
-    fresh: (Fresh, Fresh, Fresh),
+    keeper: &mut Keeper<u64>,
+    fresh: (Fresh<u64>, Fresh<u64>, Fresh<u64>),
 ) -> Result<(), Fail>
     requires fresh { (fresh.0.table ≡ table.now.table) × (fresh.1.table ≡ table.now.table) × (fresh.2.table ≡ table.now.table) }
     requires keeper { keeper.old.table ≡ table.now.table }
@@ -268,10 +283,10 @@ fn second_rounds(
 fn last_rounds(
     rt: &impl Abort,
     alloc: Global,
-    table: &NetTable,
+    table: &NetTable<u64>,
     net: &Net,
-    keeper: &mut Keeper,
-    fresh: (Fresh, Fresh, Fresh),
+    keeper: &mut Keeper<u64>,
+    fresh: (Fresh<u64>, Fresh<u64>, Fresh<u64>),
 ) -> Result<(), Fail>
     requires fresh { (fresh.0.table ≡ table.now.table) × (fresh.1.table ≡ table.now.table) × (fresh.2.table ≡ table.now.table) }
     requires keeper { keeper.old.table ≡ table.now.table }
@@ -303,5 +318,7 @@ fn rings_meet(rt: HostRuntime) -> Result<(), Fail> {
     first_rounds(&rt, alloc, &table, &net, &mut keeper, p, q)?;
     assert_eq!(rt; keeper.entries().len(), 16);
     assert!(rt; is_complete(alloc, net, 10, keeper.entries())?);
+    assert_eq!(rt; (keeper.values().len(), keeper.inputs().len()), (8, 8));
+    assert!(rt; have_end_values(alloc, &keeper)?);
     Ok(())
 }

@@ -1,6 +1,5 @@
 // Two rings that feed one task: at the limit, and after a Fault.
-ghost use Rattle.std.specs.Prelude.{◌≡◌, IfOk, IfSome, Some, None};
-ghost use Rattle.std.specs.Arc.{arc_value};
+ghost use Rattle.std.specs.Prelude.{◌≡◌, Some};
 ghost use Rattle.journal_rules.specs.declared.entry.DropWhy.TheVariants.{Limit, Halted};
 
 use crate::rings::{absorbed, lap, stops, take_both, take_up, two_rings};
@@ -18,10 +17,10 @@ use task_graph::Net;
 fn drops(
     rt: &impl Abort,
     alloc: Global,
-    table: &NetTable,
+    table: &NetTable<u64>,
     net: &Net,
-    keeper: &mut Keeper,
-    fresh: Fresh,
+    keeper: &mut Keeper<u64>,
+    fresh: Fresh<u64>,
 ) -> Result<bool, Fail>
     requires fresh { fresh.table ≡ table.now.table }
     requires keeper { keeper.old.table ≡ table.now.table }
@@ -43,11 +42,11 @@ fn drops(
 fn three_starts(
     rt: &impl Abort,
     alloc: Global,
-    table: &NetTable,
+    table: &NetTable<u64>,
     net: &Net,
-    keeper: &mut Keeper,
-    p: Fresh,
-    q: Fresh,
+    keeper: &mut Keeper<u64>,
+    p: Fresh<u64>,
+    q: Fresh<u64>,
 ) -> Result<(), Fail>
     requires fresh { (p.table ≡ table.now.table) × (q.table ≡ table.now.table) }
     requires keeper { keeper.old.table ≡ table.now.table }
@@ -88,10 +87,10 @@ fn rings_stop_at_the_limit(rt: HostRuntime) -> Result<(), Fail> {
 fn faults(
     rt: &impl Abort,
     alloc: Global,
-    table: &NetTable,
+    table: &NetTable<u64>,
     net: &Net,
-    keeper: &mut Keeper,
-    fresh: Fresh,
+    keeper: &mut Keeper<u64>,
+    fresh: Fresh<u64>,
 ) -> Result<bool, Fail>
     requires fresh { fresh.table ≡ table.now.table }
     requires keeper { keeper.old.table ≡ table.now.table }
@@ -116,10 +115,10 @@ fn faults(
 fn halts(
     rt: &impl Abort,
     alloc: Global,
-    table: &NetTable,
+    table: &NetTable<u64>,
     net: &Net,
-    keeper: &mut Keeper,
-    fresh: Fresh,
+    keeper: &mut Keeper<u64>,
+    fresh: Fresh<u64>,
 ) -> Result<bool, Fail>
     requires fresh { fresh.table ≡ table.now.table }
     requires keeper { keeper.old.table ≡ table.now.table }

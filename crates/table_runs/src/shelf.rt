@@ -1,7 +1,8 @@
 // What the threads of a run share.
-ghost use Rattle.std.specs.Prelude.{◌≡◌, IfSome, IfOk, All, None, [], true, length};
+ghost use Rattle.std.specs.Prelude.{◌≡◌, IfSome, All, None, [], true};
 
 use crate::copies::copied;
+use crate::values::have_end_values;
 use join_tables::{Fresh, Keeper, NetTable, Remaining, Spent, Turn};
 use journal_rules::Journal;
 use keyed_lock::Keyed;
@@ -12,9 +13,9 @@ use std::marker::Model;
 /// The releases that no thread has taken, the turns that found no unit, and the keeper of the run.
 #[derive(Drop)]
 pub struct Shelf {
-    keeper: Keeper,
-    fresh: Vec<Fresh>,
-    waiting: Vec<Turn>,
+    keeper: Keeper<u64>,
+    fresh: Vec<Fresh<u64>>,
+    waiting: Vec<Turn<u64>>,
     // The releases that are not done.
     outstanding: u64,
     // How many runs may yet give their edges.
@@ -48,24 +49,26 @@ impl Keyed for Shelf {
 /// whether its run gives its edges.
 #[derive(Drop)]
 pub struct Turnout {
-    pub fresh: Option<Fresh>,
-    pub waiting: Option<Turn>,
+    pub fresh: Option<Fresh<u64>>,
+    pub waiting: Option<Turn<u64>>,
     pub gives: bool,
     pub is_over: bool,
 }
 
-/// The journal of a run, and whether its keeper has answered that none is left.
+/// The journal of a run, whether its keeper has answered that none is left, and whether its inputs are the values of the
+/// ends that they name.
 #[derive(Drop)]
 pub struct Ran {
     pub journal: Journal,
     pub is_whole: bool,
+    pub has_end_values: bool,
 }
 
 impl Shelf {
     ghost use Rattle.join_tables.specs.States.{FreshState};
 
     /// What threads share at first. So many runs give their edges.
-    pub fn new(alloc: Global, keeper: Keeper, fresh: Vec<Fresh>, gives: u64) -> Shelf
+    pub fn new(alloc: Global, keeper: Keeper<u64>, fresh: Vec<Fresh<u64>>, gives: u64) -> Shelf
         requires fresh { All (λ (f : FreshState). f.table ≡ keeper.table) fresh.items }
         ensures { result ≡ keeper.table }
     {
@@ -107,7 +110,7 @@ impl Shelf {
     }
 
     /// Adds a turn that found no unit. If an allocation fails no more are taken.
-    pub fn wait(&mut self, turn: Turn)
+    pub fn wait(&mut self, turn: Turn<u64>)
         requires { (turn.table ≡ self.old) × (turn.refused ≡ None) × (turn.held ≡ []) }
         ensures { self.new ≡ self.old }
     {
@@ -117,7 +120,7 @@ impl Shelf {
     }
 
     /// Adds a release. If an allocation fails no more are taken.
-    pub fn add(&mut self, fresh: Fresh)
+    pub fn add(&mut self, fresh: Fresh<u64>)
         requires { fresh.table ≡ self.old }
         ensures { self.new ≡ self.old }
     {
@@ -128,7 +131,7 @@ impl Shelf {
     }
 
     /// Takes in a turn that is done. If an allocation fails no more are taken.
-    pub fn finish(&mut self, table: &NetTable, spent: Spent)
+    pub fn finish(&mut self, table: &NetTable<u64>, spent: Spent<u64>)
         requires { (table.now.table ≡ self.old) × (spent.table ≡ self.old) }
         ensures { self.new ≡ self.old }
     {
@@ -167,6 +170,7 @@ impl Shelf {
             is_whole,
             ..
         } = self;
+        let has_end_values = have_end_values(alloc, &keeper)?;
         let journal = if is_whole {
             Some(keeper.journal()?)
         } else {
@@ -175,6 +179,10 @@ impl Shelf {
         let Some(journal) = journal else {
             return Ok(None);
         };
-        Ok(Some(Ran { journal, is_whole }))
+        Ok(Some(Ran {
+            journal,
+            is_whole,
+            has_end_values,
+        }))
     }
 }

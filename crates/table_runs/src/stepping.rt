@@ -3,14 +3,17 @@ ghost use Rattle.std.specs.Prelude.{◌≡◌, ◌<◌, ◌≤◌, [], ◌∷◌
 ghost use Rattle.std.specs.Arc.{arc_value};
 ghost use Rattle.keyed_lock.specs.Locks.{made_with};
 ghost use Rattle.table_steps.specs.Giving.{MayEndGiving};
+ghost use Rattle.join_tables.specs.Claims.{HasCredited, HasClaimed};
 ghost use Rattle.table_steps.specs.Holding.{HoldsEachUnit, PutsAll, PutsAlone, PutsEach, TakesAlone};
 
 use crate::gives::gives_of;
 use crate::lending::{claim, lend};
 use crate::needs::{needs_both, needs_none, puts_first, takes_first};
 use crate::shelf::{Ran, Shelf, Turnout};
+use crate::values::value_of;
 use join_tables::{
-    Admitted, Collected, Collecting, Fresh, Gave, NetTable, Opening, Owing, Spent, Turn, UnitTake,
+    Admitted, Collected, Collecting, Fresh, Gave, NetTable, Opening, Owing, Running, Spent, Turn,
+    UnitTake,
 };
 use journal_rules::{DropWhy, Why};
 use keyed_lock::{Held, KeyedLock};
@@ -23,7 +26,8 @@ use task_graph::Net;
 /// A table, its net, and what its threads share besides.
 #[derive(Drop)]
 struct Shared {
-    table: NetTable,
+    alloc: Global,
+    table: NetTable<u64>,
     net: Arc<Net>,
     lock: KeyedLock<Shelf>,
     ghost same_table: { made_with lock ≡ table.table },
@@ -32,7 +36,7 @@ struct Shared {
 
 /// The run of a net with this limit of starts, by so many threads, where so many runs give their edges. Its tasks need no
 /// unit, or one of each of semaphores 0 and 1, or one of semaphore 0 that others give back, or give back one. It is `None`
-/// where there is no thread or an allocation failed.
+/// where a place of its journal has no entry, since an allocation failed.
 pub fn run_by<R: Threads + Wait + Sync>(
     rt: &R,
     alloc: Global,
@@ -51,6 +55,7 @@ pub fn run_by<R: Threads + Wait + Sync>(
     } = opening;
     let shelf = Shelf::new(alloc, keeper, fresh, gives);
     let shared = Shared {
+        alloc,
         table,
         net: Arc::try_clone(net)?,
         lock: KeyedLock::new(alloc, shelf)?,
@@ -102,7 +107,7 @@ impl Shared {
     }
 
     // Takes a release up, collects its tokens, and takes its turn to the end of its run.
-    fn take_up<R: Wait>(&self, rt: &R, alloc: Global, fresh: Fresh, gives: bool)
+    fn take_up<R: Wait>(&self, rt: &R, alloc: Global, fresh: Fresh<u64>, gives: bool)
         requires { fresh.table ≡ self.now.table.table }
     {
         let mut fresh = fresh;
@@ -114,7 +119,7 @@ impl Shared {
     }
 
     // Takes a turn to the end of its run, and adds the releases that it makes.
-    fn step<R: Wait>(&self, rt: &R, alloc: Global, turn: Turn, gives: bool)
+    fn step<R: Wait>(&self, rt: &R, alloc: Global, turn: Turn<u64>, gives: bool)
         requires { (turn.table ≡ self.now.table.table) × (turn.refused ≡ None) × (turn.held ≡ []) }
     {
         let task = turn.task();
@@ -150,7 +155,7 @@ impl Shared {
     }
 
     // Runs a task that needs no unit.
-    fn run_alone<R: Wait>(&self, rt: &R, turn: Turn, edges: List<u32>)
+    fn run_alone<R: Wait>(&self, rt: &R, turn: Turn<u64>, edges: List<u32>)
         requires turn { (turn.table ≡ self.now.table.table) × (turn.refused ≡ None) × (turn.held ≡ []) }
         requires needs { HoldsEachUnit self.now.table.net turn.task [] × PutsAll self.now.table.net turn.task }
         requires edges { MayEndGiving self.now.table.net turn.task edges false }
@@ -158,7 +163,9 @@ impl Shared {
         match self.table.admit(turn) {
             Admitted::Go(ticket) => {
                 let running = self.table.start(ticket);
-                self.pay(rt, self.table.end(running, edges, false));
+                if let Some(owing) = self.end(rt, running, edges) {
+                    self.pay(rt, owing);
+                }
             }
             Admitted::Over(turn) => self.drop_turn(rt, turn, DropWhy::Limit),
             Admitted::Halted(turn) => self.drop_turn(rt, turn, DropWhy::Halted),
@@ -166,7 +173,7 @@ impl Shared {
     }
 
     // Runs a task that takes a unit of semaphore 0 and doesn't put it. Where there is none, the turn waits.
-    fn borrow<R: Wait>(&self, rt: &R, turn: Turn, edges: List<u32>)
+    fn borrow<R: Wait>(&self, rt: &R, turn: Turn<u64>, edges: List<u32>)
         requires turn { (turn.table ≡ self.now.table.table) × (turn.refused ≡ None) × (turn.held ≡ []) }
         requires sems { 0 < length self.now.table.net.sems }
         requires needs { HoldsEachUnit self.now.table.net turn.task (0 ∷ []) × TakesAlone self.now.table.net turn.task (0 ∷ []) × PutsAlone self.now.table.net turn.task [] × PutsEach self.now.table.net turn.task [] }
@@ -179,7 +186,9 @@ impl Shared {
         match self.table.admit(turn) {
             Admitted::Go(ticket) => {
                 let running = lend(&self.table, ticket);
-                self.pay(rt, self.table.end(running, edges, false));
+                if let Some(owing) = self.end(rt, running, edges) {
+                    self.pay(rt, owing);
+                }
             }
             Admitted::Over(turn) => {
                 let turn = self.table.put_unit(turn, 0);
@@ -193,7 +202,7 @@ impl Shared {
     }
 
     // Runs a task that puts a unit of semaphore 0 and takes none. Where none is out, it faults.
-    fn give_back<R: Wait>(&self, rt: &R, turn: Turn, edges: List<u32>)
+    fn give_back<R: Wait>(&self, rt: &R, turn: Turn<u64>, edges: List<u32>)
         requires turn { (turn.table ≡ self.now.table.table) × (turn.refused ≡ None) × (turn.held ≡ []) }
         requires sems { 0 < length self.now.table.net.sems }
         requires needs { HoldsEachUnit self.now.table.net turn.task [] × TakesAlone self.now.table.net turn.task [] × PutsAlone self.now.table.net turn.task (0 ∷ []) × PutsEach self.now.table.net turn.task (0 ∷ []) }
@@ -206,8 +215,9 @@ impl Shared {
         };
         match claim(&self.table, ticket) {
             Ok(running) => {
-                let owing = self.table.end(running, edges, false);
-                self.pay(rt, self.table.return_unit(owing, 0));
+                if let Some(owing) = self.end(rt, running, edges) {
+                    self.pay(rt, self.table.return_unit(owing, 0));
+                }
             }
             Err(running) => self.finish(rt, self.table.fault(running, Why::OverRelease(0))),
         }
@@ -215,7 +225,7 @@ impl Shared {
 
     // Runs a task that takes and puts units of semaphores 0 and 1, the lesser first. Where one is missing, the turn waits,
     // and holds none.
-    fn hold_both<R: Wait>(&self, rt: &R, turn: Turn, edges: List<u32>)
+    fn hold_both<R: Wait>(&self, rt: &R, turn: Turn<u64>, edges: List<u32>)
         requires turn { (turn.table ≡ self.now.table.table) × (turn.refused ≡ None) × (turn.held ≡ []) }
         requires sems { 1 < length self.now.table.net.sems }
         requires needs { HoldsEachUnit self.now.table.net turn.task (1 ∷ 0 ∷ []) × PutsAll self.now.table.net turn.task }
@@ -231,9 +241,10 @@ impl Shared {
         };
         match self.table.admit(turn) {
             Admitted::Go(ticket) => {
-                let owing = self.table.end(self.table.start(ticket), edges, false);
-                let owing = self.table.return_unit(owing, 1);
-                self.pay(rt, self.table.return_unit(owing, 0));
+                if let Some(owing) = self.end(rt, self.table.start(ticket), edges) {
+                    let owing = self.table.return_unit(owing, 1);
+                    self.pay(rt, self.table.return_unit(owing, 0));
+                }
             }
             Admitted::Over(turn) => self.drop_both(rt, turn, DropWhy::Limit),
             Admitted::Halted(turn) => self.drop_both(rt, turn, DropWhy::Halted),
@@ -241,7 +252,7 @@ impl Shared {
     }
 
     // Puts back the units of a turn that was refused, and drops it.
-    fn drop_both<R: Wait>(&self, rt: &R, turn: Turn, why: DropWhy)
+    fn drop_both<R: Wait>(&self, rt: &R, turn: Turn<u64>, why: DropWhy)
         requires turn { (turn.table ≡ self.now.table.table) × (turn.held ≡ 1 ∷ 0 ∷ []) }
         requires sems { 1 < length self.now.table.net.sems }
         requires refused { turn.refused ≡ Some why }
@@ -250,8 +261,22 @@ impl Shared {
         self.drop_turn(rt, self.table.put_unit(turn, 0), why);
     }
 
+    // Ends a start that owes no claim and no credit, with a value of its own. It is `None` where an allocation failed.
+    fn end<R: Wait>(&self, rt: &R, running: Running<u64>, edges: List<u32>) -> Option<Owing<u64>>
+        requires running { running.table ≡ self.now.table.table }
+        requires edges { MayEndGiving self.now.table.net running.task edges false }
+        requires units { HasCredited self.now.table.net running.task running.units × HasClaimed self.now.table.net running.task running.units }
+        ensures { IfSome result (λ owing. (owing.table ≡ self.now.table.table) × (owing.units ≡ running.units.back)) }
+    {
+        let Ok(value) = value_of(self.alloc, &running) else {
+            self.give_up(rt);
+            return None;
+        };
+        Some(self.table.end(running, edges, value, false))
+    }
+
     // Drops a turn that was refused.
-    fn drop_turn<R: Wait>(&self, rt: &R, turn: Turn, why: DropWhy)
+    fn drop_turn<R: Wait>(&self, rt: &R, turn: Turn<u64>, why: DropWhy)
         requires turn { (turn.table ≡ self.now.table.table) × (turn.held ≡ []) }
         requires refused { turn.refused ≡ Some why }
     {
@@ -259,15 +284,17 @@ impl Shared {
     }
 
     // Gives all that an end owes.
-    fn pay<R: Wait>(&self, rt: &R, owing: Owing)
+    fn pay<R: Wait>(&self, rt: &R, owing: Owing<u64>)
         requires { (owing.table ≡ self.now.table.table) × (owing.units ≡ []) }
     {
-        let spent = self.give_all(rt, owing);
-        self.finish(rt, spent);
+        match self.give_all(rt, owing) {
+            Some(spent) => self.finish(rt, spent),
+            None => self.give_up(rt),
+        }
     }
 
     // Collects all tokens, and adds the release that they make again.
-    fn collect_all<R: Wait>(&self, rt: &R, collecting: Collecting) -> Turn
+    fn collect_all<R: Wait>(&self, rt: &R, collecting: Collecting<u64>) -> Turn<u64>
         requires { collecting.table ≡ self.now.table.table }
         ensures { (result.table ≡ self.now.table.table) × (result.refused ≡ None) × (result.held ≡ []) }
     {
@@ -281,18 +308,19 @@ impl Shared {
         }
     }
 
-    // Gives all edges that an end owes, and adds the releases that this makes.
-    fn give_all<R: Wait>(&self, rt: &R, owing: Owing) -> Spent
+    // Gives all edges that an end owes, and adds the releases that this makes. It is `None` where the value can't be shared
+    // once more.
+    fn give_all<R: Wait>(&self, rt: &R, owing: Owing<u64>) -> Option<Spent<u64>>
         requires { (owing.table ≡ self.now.table.table) × (owing.units ≡ []) }
-        ensures { result.table ≡ self.now.table.table }
+        ensures { IfSome result (λ spent. spent.table ≡ self.now.table.table) }
     {
-        match self.table.give(owing) {
+        match self.table.give(owing).ok()? {
             Gave::Next(next) => self.give_all(rt, next),
             Gave::Released(next, fresh) => {
                 self.add(rt, fresh);
                 self.give_all(rt, next)
             }
-            Gave::Finished(spent) => spent,
+            Gave::Finished(spent) => Some(spent),
         }
     }
 
@@ -306,7 +334,7 @@ impl Shared {
         turnout
     }
 
-    fn add<R: Wait>(&self, rt: &R, fresh: Fresh)
+    fn add<R: Wait>(&self, rt: &R, fresh: Fresh<u64>)
         requires { fresh.table ≡ self.now.table.table }
     {
         let Held { mut value, pass } = self.lock.take(rt);
@@ -314,7 +342,7 @@ impl Shared {
         self.lock.put(Held { value, pass });
     }
 
-    fn finish<R: Wait>(&self, rt: &R, spent: Spent)
+    fn finish<R: Wait>(&self, rt: &R, spent: Spent<u64>)
         requires { spent.table ≡ self.now.table.table }
     {
         let Held { mut value, pass } = self.lock.take(rt);
@@ -322,7 +350,7 @@ impl Shared {
         self.lock.put(Held { value, pass });
     }
 
-    fn wait<R: Wait>(&self, rt: &R, turn: Turn)
+    fn wait<R: Wait>(&self, rt: &R, turn: Turn<u64>)
         requires { (turn.table ≡ self.now.table.table) × (turn.refused ≡ None) × (turn.held ≡ []) }
     {
         let Held { mut value, pass } = self.lock.take(rt);

@@ -1,10 +1,11 @@
 // Runs by two and by four threads, whose journals are judged.
 ghost use Rattle.std.specs.Prelude.{◌≤◌};
 
+use crate::inputs::{finds_last_ends, finds_no_end_twice};
 use crate::run_by;
-use journal_rules::{Entry, Journal, Part};
+use journal_rules::{Entry, Journal};
 use legal_run::{Verdict, judge};
-use outside_io::List;
+use outside_io::{List, NoMemory};
 use slow_verdicts::meets_data_rule;
 use std::alloc::Global;
 use std::process::Abort;
@@ -78,7 +79,7 @@ const LOOP: Case<'static> = Case {
 
 // Makes a run by two and by four threads, in which so many runs give their edges, and judges each journal. It is complete;
 // where the run comes to the limit, it has as many starts as the limit, and the releases that were refused are dropped. Where
-// no edge ever has two tokens, each start finds a part at each of its edges.
+// no edge ever has two tokens, each start finds the last End at each of its edges, and else no End twice.
 fn often<R: Threads + Wait + Abort + Sync>(
     rt: &R,
     alloc: Global,
@@ -92,7 +93,8 @@ fn often<R: Threads + Wait + Abort + Sync>(
     for turn in 0..TIMES {
         let by_two = once(rt, alloc, &net, limit, gives, 2)?;
         let by_four = once(rt, alloc, &net, limit, gives, 4)?;
-        assert!(rt; !case.is_calm || finds_all(&by_two) && finds_all(&by_four));
+        assert!(rt; finds_ends(alloc, &net, case.is_calm, &by_two)?);
+        assert!(rt; finds_ends(alloc, &net, case.is_calm, &by_four)?);
         if turn < JUDGED {
             assert!(rt; meets_data_rule(&net, by_two.as_slice()));
             assert!(rt; meets_data_rule(&net, by_four.as_slice()));
@@ -114,7 +116,7 @@ fn once<R: Threads + Wait + Abort + Sync>(
     let Some(ran) = run_by(rt, alloc, net, limit, gives, threads)? else {
         panic!(rt; "a place without an entry");
     };
-    assert!(rt; ran.is_whole);
+    assert!(rt; ran.is_whole && ran.has_end_values);
     assert!(rt; matches!(judge(alloc, net, limit, &ran.journal)?, Verdict::Complete));
     let drops = drops(&ran.journal);
     assert_eq!(rt; drops > 0, limit < MANY);
@@ -127,18 +129,18 @@ fn once<R: Threads + Wait + Abort + Sync>(
     Ok(ran.journal)
 }
 
-// Whether each start found a part at each of its edges.
-fn finds_all(journal: &Journal) -> bool {
-    for entry in journal.as_slice() {
-        if let Entry::Start { ins, .. } = entry {
-            for part in ins.as_slice() {
-                if *part == Part::Nothing {
-                    return false;
-                }
-            }
-        }
+// Whether the starts found what they may: the last Ends, or no End twice.
+fn finds_ends(
+    alloc: Global,
+    net: &Net,
+    is_calm: bool,
+    journal: &Journal,
+) -> Result<bool, NoMemory> {
+    if is_calm {
+        finds_last_ends(alloc, net, journal)
+    } else {
+        finds_no_end_twice(alloc, net, journal)
     }
-    true
 }
 
 // How many releases were dropped.

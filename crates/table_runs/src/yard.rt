@@ -15,7 +15,7 @@ use task_graph::Net;
 #[derive(Drop)]
 pub(crate) struct Yard {
     pub(crate) shelf: Shelf,
-    pub(crate) rest: Option<Rest>,
+    pub(crate) rest: Option<Rest<u64>>,
 }
 
 impl Model for Yard {
@@ -52,7 +52,7 @@ impl Yard {
     }
 
     /// Adds a release.
-    pub(crate) fn add(self, fresh: Fresh) -> Yard
+    pub(crate) fn add(self, fresh: Fresh<u64>) -> Yard
         requires { fresh.table ≡ self }
         ensures { result ≡ self }
     {
@@ -62,7 +62,7 @@ impl Yard {
     }
 
     /// Takes in a turn that is done.
-    pub(crate) fn finish(self, table: &NetTable, net: &Net, spent: Spent) -> Yard
+    pub(crate) fn finish(self, table: &NetTable<u64>, net: &Net, spent: Spent<u64>) -> Yard
         requires table { (table.now.table ≡ self) × (spent.table ≡ self) }
         requires net { table.now.net ≡ net.now }
         ensures { result ≡ self }
@@ -73,7 +73,7 @@ impl Yard {
     }
 
     /// Parks a turn that found no unit. Where there is no room no more releases are taken.
-    pub(crate) fn park(self, table: &NetTable, net: &Net, turn: Turn) -> Yard
+    pub(crate) fn park(self, table: &NetTable<u64>, net: &Net, turn: Turn<u64>) -> Yard
         requires table { (table.now.table ≡ self) × (turn.table ≡ self) }
         requires waits { (turn.refused ≡ None) × (turn.held ≡ []) }
         requires net { table.now.net ≡ net.now }
@@ -102,7 +102,7 @@ impl Yard {
     }
 
     // Checks the rest. Where it is alone it goes on with a turn that finds a unit, or all its turns are dropped.
-    fn settle(self, table: &NetTable, net: &Net) -> Yard
+    fn settle(self, table: &NetTable<u64>, net: &Net) -> Yard
         requires table { table.now.table ≡ self }
         requires net { table.now.net ≡ net.now }
         ensures { result ≡ self }
@@ -131,7 +131,7 @@ impl Yard {
 }
 
 // Drops all turns of a rest after a Fault.
-fn drop_all(table: &NetTable, rest: Rest) -> Spent
+fn drop_all(table: &NetTable<u64>, rest: Rest<u64>) -> Spent<u64>
     requires table { IsOfTable table.now.table rest.table }
     requires halted { rest.alone ≡ Some true }
     ensures { result.table ≡ table.now.table }
@@ -143,7 +143,7 @@ fn drop_all(table: &NetTable, rest: Rest) -> Spent
 }
 
 // Hands out the last turn of a rest where semaphore 0 has a unit, and else drops all its turns.
-fn go_on(table: &NetTable, net: &Net, shelf: &mut Shelf, rest: Rest) -> Option<Rest>
+fn go_on(table: &NetTable<u64>, net: &Net, shelf: &mut Shelf, rest: Rest<u64>) -> Option<Rest<u64>>
     requires table { (table.now.table ≡ shelf.old) × IsOfTable table.now.table rest.table }
     requires quiet { (rest.alone ≡ Some false) × (rest.dropped ≡ []) × (rest.turns ≢ []) }
     requires net { table.now.net ≡ net.now }
@@ -168,7 +168,7 @@ fn go_on(table: &NetTable, net: &Net, shelf: &mut Shelf, rest: Rest) -> Option<R
 }
 
 // Drops all turns of a rest for want of a unit of semaphore 0.
-fn stick(table: &NetTable, net: &Net, shelf: &mut Shelf, rest: Rest)
+fn stick(table: &NetTable<u64>, net: &Net, shelf: &mut Shelf, rest: Rest<u64>)
     requires table { (table.now.table ≡ shelf.old) × IsOfTable table.now.table rest.table }
     requires quiet { rest.alone ≡ Some false }
     requires full { 1 ≤ times 0 rest.full }
@@ -189,7 +189,7 @@ fn stick(table: &NetTable, net: &Net, shelf: &mut Shelf, rest: Rest)
 }
 
 /// Whether the last turn of a rest is of a task that takes semaphore 0.
-pub(crate) fn waits_for_first(net: &Net, rest: &Rest) -> bool
+pub(crate) fn waits_for_first(net: &Net, rest: &Rest<u64>) -> bool
     ensures { IsTrue result → LastTakes net.now 0 rest.now.turns }
 {
     let Some(parked) = rest.last() else {

@@ -10,7 +10,7 @@ use Rattle.table_steps.specs.declared.view.TurnDuty.{TurnDuty}
 use Rattle.table_steps.specs.declared.view.TurnDuty.TheVariants.{Told, Fresh, Collecting, Ticket, Open, Owes, Counting}
 use Rattle.table_steps.specs.inside.Duties.{DutyCoord, duty_weigh, EdgePart, DutyPart, place, runs, running, tickets}
 use Rattle.table_steps.specs.Giving.{one_if}
-use Rattle.table_steps.specs.inside.Opening.{bare, is_empty, source_duties, full_duties, first_duties}
+use Rattle.table_steps.specs.inside.Opening.{count_without_token, is_empty, source_duties, full_duties, first_duties}
 use Rattle.table_steps.proofs.OpeningDuties.{begins}
 use Rattle.table_steps.specs.declared.view.SemaphoreRole.{SemaphoreRole}
 use Rattle.table_steps.specs.declared.view.SemaphoreRole.TheVariants.{Held, Undo, Owed, Both, Credit, Credited, Claim, Granted, Refusing, Denied, Full}
@@ -44,8 +44,8 @@ both_first net (Counting e ∷ xs) ys a b = absurd a
 pub are_first : (net : NetRows) (t n : ℕ) → t + n ≤ length net.tasks → AreFirst net (first_duties net t n)
 are_first net t zero below = tt
 are_first net t (suc n) below =
-    both_first net (source_duties t (is_empty (in_edges net t)) ++ full_duties t (strong_in net t) (bare net (strong_in net t))) (first_duties net (suc t) n)
-    (both_first net (source_duties t (is_empty (in_edges net t))) (full_duties t (strong_in net t) (bare net (strong_in net t))) (of_source (in_edges net t) refl) (of_full (strong_in net t) refl (bare net (strong_in net t))))
+    both_first net (source_duties t (is_empty (in_edges net t)) ++ full_duties t (strong_in net t) (count_without_token net (strong_in net t))) (first_duties net (suc t) n)
+    (both_first net (source_duties t (is_empty (in_edges net t))) (full_duties t (strong_in net t) (count_without_token net (strong_in net t))) (of_source (in_edges net t) refl) (of_full (strong_in net t) refl (count_without_token net (strong_in net t))))
     (are_first net (suc t) n (omega arith))
   where
     of_source : (es : List ℕ) → in_edges net t ≡ es → AreFirst net (source_duties t (is_empty es))
@@ -99,7 +99,7 @@ marks_of net (Owes g ∷ xs) a = absurd a
 marks_of net (Counting e ∷ xs) a = absurd a
 
 pub opening_balanced : (net : NetRows) (limit : ℕ) (w : Readings) → FitsPlan net limit → w.clock ≡ 0 → w.live ≡ length (first_duties net 0 (length net.tasks)) → w.admitted ≡ 0 → w.halt ≡ 0 → ((s : ℕ) → s < length net.sems → w.unit s ≡ 0) → ((s : ℕ) → s < length net.sems → w.credit s ≡ first_credit)
-    → ((e : ℕ) → w.edge e ≡ first_tokens net e) → ((t : ℕ) → w.join t ≡ bare net (strong_in net t)) → Balanced net limit w (first_tokens net) [] (λ c. weigh c (first_notes (first_duties net 0 (length net.tasks))) + 0)
+    → ((e : ℕ) → w.edge e ≡ first_tokens net e) → ((t : ℕ) → w.join t ≡ count_without_token net (strong_in net t)) → Balanced net limit w (first_tokens net) [] (λ c. weigh c (first_notes (first_duties net 0 (length net.tasks))) + 0)
 opening_balanced net limit w fits clock live admitted halt units credits edges joins =
     let xs = first_duties net 0 (length net.tasks) in
     let m = marks_of net xs (are_first net 0 (length net.tasks) (omega arith)) in

@@ -60,7 +60,7 @@ complete_at_rest net limit w counted journal T b r no_ticket = record {
         least_is (λ e. given net e journal) (used t journal) gap.at (strong_in net t) (all_more t (strong_in net t) (all_into net t))
         (omega (arith, b.by_edges gap.at, used_at_strong net gap.at t journal into, empty, r.no_token gap.at)) gap.there
 
--- where a seat has nothing to do, it counts only what it told
+-- where a seat has nothing to do, it counts only what it drew
 duty_none : (c : DutyCoord) (x : TurnDuty) → ((m : ℕ) → c ≢ place m) → weight busy (Duty x) ≡ 0 → duty_weight c x ≡ 0
 duty_none (place m) (Told n y) apart z = absurd (apart m refl)
 duty_none (runs m t) (Told n y) apart z = refl
@@ -101,7 +101,7 @@ all_complete net limit s h none = complete_at_rest net limit _ h.counted h.journ
     clear : (c : DutyCoord) → ((m : ℕ) → c ≢ place m) → total (duty c) s.views ≡ 0
     clear c apart = each_none (duty c) s.views (λ id v at. zero_notes (duty c) (note_none c apart) v ((h.views id v at).covered (omega (arith, none, at_most (mark Live) s.views id v at))))
 
--- and the first seat has told all of it
+-- and the first seat drew all of it
 tells_bound : (m : ℕ) (x : Note) → weight telling x ≡ 0 → weight (duty (place m)) x ≡ 0
 tells_bound m (Duty (Told n y)) z = absurd (omega arith)
 tells_bound m (Duty (Fresh t cause)) z = refl

@@ -1,4 +1,4 @@
--- How often an edge stands among those of a task, and what the counts of a journal are after one entry more.
+-- How often an edge is among those of a task, and what the counts of a journal are after one entry more.
 use Rattle.std.proofs.Common.{◌≡◌, ◌≢◌, ◌⊎◌, inl, inr, ℕ, zero, suc, ◌+◌, ◌<◌, ◌≤◌, Bool, true, false, not, ◌&&◌, cond, eqb, List, [], ◌∷◌, ◌++◌, length, Option, Some, None, sym, refl, ap, ◌∙◌, arith, get_or}
 use Rattle.std.specs.Prelude.{count_by, slice_get, ◌==◌, is_some}
 use Rattle.std.specs.Option.{option_map_or, option_and_then}
@@ -31,7 +31,7 @@ pub times_append : (e : ℕ) (es fs : List ℕ) → times e (es ++ fs) ≡ times
 times_append e [] fs = omega arith
 times_append e (g ∷ gs) fs = omega (arith, times_append e gs fs)
 
--- what stands in a list at a place stands there at least once
+-- what is in a list at a place is in it at least once
 pub times_at : (es : List ℕ) (k d : ℕ) → k < length es → 1 ≤ times (get_or es k d) es
 times_at [] k d below = absurd (omega arith)
 times_at (e ∷ es) zero d below = let hit : eqb e e ≡ true = grind (arith, nat_tests) in rw hit (omega arith)
@@ -41,7 +41,7 @@ times_at (e ∷ es) (suc k) d below = omega (arith, times_at es k d (omega arith
 abbrev pub is_strong_into : NetRows → ℕ → ℕ → Bool
 is_strong_into net t e = option_map_or (λ (r : EdgeRow). (r.to == t) && not (is_weak_row net r)) (slice_get net.edges e) false
 
--- a strong in-edge stands once among those of its task, and any other edge not at all
+-- a strong in-edge is once among those of its task, and any other edge not at all
 pub times_strong_in : (net : NetRows) (t e : ℕ) → times e (strong_in net t) ≡ one_if (is_strong_into net t e)
 times_strong_in net t e =
     times_count e (strong_in net t) ∙ count_once (λ g. g == e) (strong_in net t) (counted_once (λ (r : EdgeRow). (r.to == t) && not (is_weak_row net r)) net.edges e)
@@ -128,7 +128,7 @@ pub used_at_end : (net : NetRows) (e start : ℕ) (gives : List ℕ) (inner : Bo
 used_at_end net e start gives inner journal = let x = End start gives inner in
     used_at_more net e journal (journal ++ x ∷ []) 0 (λ _. 0) (count_by_push (uses_any (is_weak_at e)) journal x) (λ u. count_by_push (uses is_strong u) journal x) ∙ ap (λ n. used_at net e journal + n) (more_source net e) ∙ omega arith
 
--- past the end no Start stands
+-- past the end there is no Start
 pub get_past : {X : Type 0} (xs : List X) (n : ℕ) → length xs ≤ n → slice_get xs n ≡ None
 get_past [] n past = refl
 get_past (x ∷ xs) zero past = absurd (omega arith)

@@ -94,7 +94,7 @@ claim_got net limit s h id a k m t carried b c d l g rest below there lone at le
     refl (λ moved. credits_kept net limit (reading net s.words) h.counted h.journal (λ c. total c s.views) _ _ h.balanced (record { duties = λ c. omega (arith, moved (duty c)); live = omega (arith, moved (mark Live)); over = omega (arith, moved (mark Over)); to_mark = omega (arith, moved (mark ToMark)); sticking = omega (arith, moved (mark Sticking)); new = omega (arith, moved (mark New)); turning_is = omega (arith, moved turning); owing_is = omega (arith, moved owing) }) (record { held = λ z. omega (arith, moved (sem Held z)); owed = λ z. omega (arith, moved (sem Owed z)); undo = λ z. omega (arith, moved (sem Undo z)) })
     (credits_granted net (reading net s.words).credit _ h.journal (λ c. total c s.views) _ a l (without a l) g h.balanced.by_credits (credit_less net s.words a k below (omega (arith, h.size, below)) less) (without_fewer a l there) (omega (arith, found, credit_at net s.words a below)) (λ c. omega (arith, moved c))))
 
--- the journal at the moment of a claim that finds no credit allows a Fault that tells of it
+-- the journal at the moment of a claim that finds no credit allows a Fault for an over-release
 claim_over : {S : Type 0} {part : S → Part} (net : NetRows) (limit : ℕ) (s : St S) (h : KeepsAccounts part net limit s) (id a m t : ℕ) (b c d l g : List ℕ) (rest : List Note) → a < length net.sems → 1 ≤ times a l → puts net a t ≡ true
     → get_elem? s.views id ≡ some (Duty (Open m t) ∷ Has Live ∷ Sems Both b ∷ Sems Credit c ∷ Sems Credited d ∷ Sems Claim l ∷ Sems Granted g ∷ rest) → slice_index s.words (40 + length net.sems + a) ≤ first_credit → AllowsOverNow net h.journal a m t
 claim_over net limit s h id a m t b c d l g rest below there puts_it at found =

@@ -40,7 +40,7 @@ use Rattle.table_steps.proofs.Starting.{start_kept}
 use Rattle.table_steps.proofs.Ending.{end_kept}
 
 -- the clock is far below what a word holds
-clock_small : {S : Type 0} {part : S → Part} (net : NetRows) (limit : ℕ) (s : St S) (h : KeepsAccounts part net limit s) → slice_index s.words 8 ≤ 4194306 + 1152921504606846976
+pub clock_small : {S : Type 0} {part : S → Part} (net : NetRows) (limit : ℕ) (s : St S) (h : KeepsAccounts part net limit s) → slice_index s.words 8 ≤ 4194306 + 1152921504606846976
 clock_small net limit s h = omega (arith, h.fits.limited, h.balanced.by_journal.clock, h.balanced.by_journal.size, h.balanced.by_admissions.room, h.few_drops)
 
 -- a number drawn

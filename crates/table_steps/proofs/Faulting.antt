@@ -40,7 +40,7 @@ not_closed journal m h = zero_is (count_by (closes m) journal) (and_parts (is_so
     zero_is : (k : ℕ) → eqb k 0 ≡ true → k ≡ 0
     zero_is k h = grind (arith, nat_tests)
 
--- what a step moves that draws a Fault: a start is closed, the mark is to be set, and its credits are told of no more
+-- what a step moves that draws a Fault: a start is closed, the mark is to be set, and its credits are counted no more
 pub record FaultMoves (net : NetRows) (n : ℕ) (x : Entry) (m t : ℕ) (T T' : Coord → ℕ) : Type 0 where
   pub duties : (c : DutyCoord) → T' (duty c) + weigh (duty c) (Duty (Open m t) ∷ []) ≡ T (duty c) + weigh (duty c) (Duty (Owes []) ∷ Duty (Told n x) ∷ [])
   pub held : (s : ℕ) → T' (sem Held s) ≡ T (sem Held s)

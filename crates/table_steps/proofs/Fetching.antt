@@ -28,7 +28,7 @@ took_at {S} part f n before mid y none took at home = by_number n none took
 relot_turn : (j k : Lot) (g : Part → Part) (f : ℕ) (v : List Note) → HasLot j f v → IsTurn v → IsTurn (relot j k g f v)
 relot_turn j k g f v r turn = (relot_weigh resting j k g f v r ∙ turn.0, omega (arith, turn.1, relot_weigh (mark Live) j k g f v r))
 
--- it may give the slot back with a parcel that tells nothing
+-- it may give the slot back with `Nothing` in it
 pub may_take_back : {S : Type 0} (part : S → Part) (f : ℕ) (v : List Note) (y parcel : S) (me : Me S (List Note)) → MayTryTake f v → slot_weigh (lot Taking f) v ≡ 0 → part parcel ≡ Nothing → me ≡ (relot Awaited Taking (λ p. part y) f v, (f, parcel) ∷ []) → MayTakeBack part f me
 may_take_back {S} part f v y parcel me may none is_nothing is = let r = has_lot Awaited f v may.awaited in
     subst (λ (m : Me S (List Note)). MayTakeBack part f m) (sym is) (record {

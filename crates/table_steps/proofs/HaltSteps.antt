@@ -29,7 +29,7 @@ use Rattle.table_steps.specs.declared.view.SeatMark.TheVariants.{Live, New, Over
 use Rattle.table_steps.specs.declared.view.Note.{Note}
 use Rattle.table_steps.specs.declared.view.Note.TheVariants.{Duty, Sems, Has, Unfit}
 use Rattle.table_steps.specs.inside.Accounts.{AllStand, duty, sem, mark, turning, owing, resting, weigh, total, is_drop, reading, KeepsAccounts}
-use Rattle.table_steps.specs.inside.Halts.{MayAsk, halt_read, KnowsWhy, MayFault, faulted, MayMark, marked, MayDrop, dropped}
+use Rattle.table_steps.specs.inside.Halts.{MayAsk, halt_read, KnowsWhy, MayFault, with_fault_drawn, MayMark, marked, MayDrop, dropped}
 use Rattle.table_steps.specs.Holding.{TakesAlone}
 use Rattle.table_steps.proofs.Stepping.{St, Seated, own_lone, still_step, done}
 use Rattle.table_steps.proofs.Reading.{halt_word_read}
@@ -184,7 +184,7 @@ halt_allowed {S} {part} net limit slots id me may s h _ at small = from me.0 may
         by_zero (inr found) = done net limit s id 32 _ me _ _ (read_is n found) (halt_loaded net limit s h id me.1 (Collecting t cause taken left) rest may at found)
     from v may at = absurd may
 
--- what a seat knows of an over-release that it tells
+-- what a seat knows of an over-release for which it faults
 told_over : (net : NetRows) (journal : List Entry) (z m n a u : ℕ) → a ≡ z → n ≡ m → (start_at journal n ≡ Some u) × IsOverRelease net journal a n u → OverReleaseRule net journal m (OverRelease z)
 told_over net journal z m n a u same_sem same_place known =
     subst (λ k. IsSomeAnd (start_at journal k) (IsOverRelease net journal z k)) same_place
@@ -201,11 +201,11 @@ why_stands net journal (OverRelease z) m (Sems Claim l ∷ Sems Granted g ∷ x 
 why_stands net journal (OverRelease z) m rest rows fits stand = absurd fits
 
 -- FAULT DRAWN
-pub fault_allowed : {S : Type 0} {part : S → Part} (net : NetRows) (limit slots id : ℕ) (me : Seated S) (why : Why) → MayFault net why me.0 → Allows (KeepsAccounts part net limit) slots id me 8 (λ n. (n + 1) % 2 ^ 64) (λ n m. (m.0 ≡ faulted why n me.0) × (m.1 ≡ me.1))
+pub fault_allowed : {S : Type 0} {part : S → Part} (net : NetRows) (limit slots id : ℕ) (me : Seated S) (why : Why) → MayFault net why me.0 → Allows (KeepsAccounts part net limit) slots id me 8 (λ n. (n + 1) % 2 ^ 64) (λ n m. (m.0 ≡ with_fault_drawn why n me.0) × (m.1 ≡ me.1))
 fault_allowed {S} {part} net limit slots id me why may s h _ at small = from me.0 may at
   where
     from : (v : List Note) → MayFault net why v → get_elem? s.views id ≡ some v
-        → (u : List Note) × (z : Act _) × Valid s.homes me.1 z × KeepsAccounts part net limit (stepped s 8 ((slice_index s.words 8 + 1) % 2 ^ 64) id me.1 u z) × ((u ≡ faulted why (slice_index s.words 8) v) × (carried_after me.1 z ≡ me.1))
+        → (u : List Note) × (z : Act _) × Valid s.homes me.1 z × KeepsAccounts part net limit (stepped s 8 ((slice_index s.words 8 + 1) % 2 ^ 64) id me.1 u z) × ((u ≡ with_fault_drawn why (slice_index s.words 8) v) × (carried_after me.1 z ≡ me.1))
     from (Duty (Open m t) ∷ Has Live ∷ Sems Both b ∷ Sems Credit c ∷ Sems Credited d ∷ rest) may at =
         let fits = why_stands net h.journal why m rest h.fits.rows may.0 (h.views id _ at).stand.1.1.1.1.1 in
         done net limit s id 8 _ me _ _ refl (fault_drawn net limit s h id m t why b d me.1 rest fits.0 fits.1 may.2 may.3 (at ∙ ap (λ l. some (Duty (Open m t) ∷ Has Live ∷ Sems Both b ∷ Sems Credit l ∷ Sems Credited d ∷ rest)) may.1))

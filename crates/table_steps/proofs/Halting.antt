@@ -10,7 +10,7 @@ use Rattle.table_steps.specs.inside.Accounts.{Coord, duty, sem, mark, turning, o
 use Rattle.table_steps.proofs.Still.{journal_still, edges_still, duties_still, admission_still, turns_still, stuck_still}
 use Rattle.table_steps.proofs.Marking.{units_alike, credits_alike}
 
--- where a turn has still to set the mark, a Fault stands
+-- where a turn has still to set the mark, the journal has a Fault
 pub fault_there : (h : ℕ) (journal : List Entry) (T : Coord → ℕ) → HaltPart h journal T → 1 ≤ T (mark ToMark) → 1 ≤ faults journal
 fault_there zero journal T is some = omega (arith, is, some)
 fault_there (suc h) journal T is some = is

@@ -9,7 +9,7 @@ use Rattle.table_steps.specs.declared.view.Lot.{Lot}
 use Rattle.table_steps.specs.declared.view.Lot.TheVariants.{Putting, Taking}
 use Rattle.table_steps.specs.declared.view.Note.{Note}
 use Rattle.table_steps.specs.declared.view.Note.TheVariants.{Duty, Sems, Has, Unfit, Lies}
-use Rattle.table_steps.specs.inside.Accounts.{marks_from, mark_at}
+use Rattle.table_steps.specs.inside.Accounts.{marks_from, slot_mark}
 use Rattle.table_steps.specs.inside.Slots.{SlotCoord, lot, duty_slots, slot_weigh, slot_total, holders, slots_in, HoldsAlike}
 use Rattle.table_steps.specs.inside.SlotMarks.{HomeIs, Homes}
 use Rattle.table_steps.proofs.Lots.{slot_append}
@@ -52,13 +52,13 @@ homes_by : {S : Type 0} (count : ℕ) (mark mark' : ℕ → ℕ) (homes : List (
 homes_by count mark mark' homes held held' h marks helds e below = subst (λ m. HomeIs (get_elem? homes e) m (held' e)) (sym (marks e below)) (subst (λ n. HomeIs (get_elem? homes e) (mark e) n) (sym (helds e)) (h e below))
 
 -- a step on another word by a seat that keeps its lots
-pub homes_still : {S : Type 0} (net : NetRows) (words : List ℕ) (i k : ℕ) (homes : List (Option S)) (views : List (List Note)) (id : ℕ) (old new rest : List Note) → Homes (length net.edges) (mark_at net words) homes (holders (λ c. slot_total c views))
-    → get_elem? views id ≡ some (old ++ rest) → HoldsAlike old new → ((e : ℕ) → e < length net.edges → i ≢ marks_from net + e) → Homes (length net.edges) (mark_at net (set words i k)) homes (holders (λ c. slot_total c (set views id (new ++ rest))))
+pub homes_still : {S : Type 0} (net : NetRows) (words : List ℕ) (i k : ℕ) (homes : List (Option S)) (views : List (List Note)) (id : ℕ) (old new rest : List Note) → Homes (length net.edges) (slot_mark net words) homes (holders (λ c. slot_total c views))
+    → get_elem? views id ≡ some (old ++ rest) → HoldsAlike old new → ((e : ℕ) → e < length net.edges → i ≢ marks_from net + e) → Homes (length net.edges) (slot_mark net (set words i k)) homes (holders (λ c. slot_total c (set views id (new ++ rest))))
 homes_still net words i k homes views id old new rest h at same apart =
-    homes_by (length net.edges) (mark_at net words) (mark_at net (set words i k)) homes _ _ h (λ e b. else_word words i k (marks_from net + e) (apart e b))
+    homes_by (length net.edges) (slot_mark net words) (slot_mark net (set words i k)) homes _ _ h (λ e b. else_word words i k (marks_from net + e) (apart e b))
     (λ e. omega (arith, slot_total_swap (lot Putting e) views id old new rest at, slot_total_swap (lot Taking e) views id old new rest at, (same e).0, (same e).1))
 
 -- views exchanged
-pub homes_alike : {S : Type 0} (net : NetRows) (words : List ℕ) (homes : List (Option S)) (views views' : List (List Note)) → Homes (length net.edges) (mark_at net words) homes (holders (λ c. slot_total c views))
-    → ((j : Lot) (e : ℕ) → slot_total (lot j e) views' ≡ slot_total (lot j e) views) → Homes (length net.edges) (mark_at net words) homes (holders (λ c. slot_total c views'))
-homes_alike net words homes views views' h same = homes_by (length net.edges) (mark_at net words) (mark_at net words) homes _ _ h (λ e b. refl) (λ e. omega (arith, same Putting e, same Taking e))
+pub homes_alike : {S : Type 0} (net : NetRows) (words : List ℕ) (homes : List (Option S)) (views views' : List (List Note)) → Homes (length net.edges) (slot_mark net words) homes (holders (λ c. slot_total c views))
+    → ((j : Lot) (e : ℕ) → slot_total (lot j e) views' ≡ slot_total (lot j e) views) → Homes (length net.edges) (slot_mark net words) homes (holders (λ c. slot_total c views'))
+homes_alike net words homes views views' h same = homes_by (length net.edges) (slot_mark net words) (slot_mark net words) homes _ _ h (λ e b. refl) (λ e. omega (arith, same Putting e, same Taking e))

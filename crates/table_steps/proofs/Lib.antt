@@ -60,3 +60,6 @@ pub mod SlotSeats
 pub mod SlotBounds
 pub mod SlotAccounts
 pub mod TableSeats
+pub mod Values
+pub mod ValueSteps
+pub mod WorkedValues

@@ -23,7 +23,7 @@ pub slot_append : (c : SlotCoord) (xs ys : List Note) → slot_weigh c (xs ++ ys
 slot_append c [] ys = omega arith
 slot_append c (x ∷ xs) ys = omega (arith, slot_append c xs ys)
 
--- each parcel stands with a lot that has it
+-- each parcel goes with a lot that has it
 part_bit : (b c : Bool) → one_if (b && c) ≤ one_if b
 part_bit true true = omega arith
 part_bit true false = omega arith

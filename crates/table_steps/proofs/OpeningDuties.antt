@@ -15,7 +15,7 @@ use Rattle.table_steps.specs.declared.view.TurnDuty.{TurnDuty}
 use Rattle.table_steps.specs.declared.view.TurnDuty.TheVariants.{Fresh}
 use Rattle.table_steps.specs.inside.Duties.{DutyCoord, place, runs, running, tickets, token, source, weakly, awaits, unset, duty_weigh, any, nil, sum_over, EdgePart, DutyPart}
 use Rattle.table_steps.specs.Giving.{one_if, times}
-use Rattle.table_steps.specs.inside.Opening.{bare, is_empty, source_duties, full_duties, first_duties}
+use Rattle.table_steps.specs.inside.Opening.{count_without_token, is_empty, source_duties, full_duties, first_duties}
 use Rattle.table_steps.proofs.Counting.{is_one, is_strong_into, times_strong_in}
 use Rattle.table_steps.proofs.StartDuties.{one_self}
 
@@ -33,13 +33,13 @@ full_part c t [] n none = refl
 full_part c t (e ∷ es) zero none = none
 full_part c t (e ∷ es) (suc n) none = refl
 
-first_more : (net : NetRows) (c : DutyCoord) (t n : ℕ) → duty_weigh c (first_duties net t (suc n)) ≡ duty_weigh c (source_duties t (is_empty (in_edges net t))) + duty_weigh c (full_duties t (strong_in net t) (bare net (strong_in net t))) + duty_weigh c (first_duties net (suc t) n)
+first_more : (net : NetRows) (c : DutyCoord) (t n : ℕ) → duty_weigh c (first_duties net t (suc n)) ≡ duty_weigh c (source_duties t (is_empty (in_edges net t))) + duty_weigh c (full_duties t (strong_in net t) (count_without_token net (strong_in net t))) + duty_weigh c (first_duties net (suc t) n)
 first_more net c t n =
-    let a = source_duties t (is_empty (in_edges net t)) in let b = full_duties t (strong_in net t) (bare net (strong_in net t)) in omega (arith, duty_weigh_append c (a ++ b) (first_duties net (suc t) n), duty_weigh_append c a b)
+    let a = source_duties t (is_empty (in_edges net t)) in let b = full_duties t (strong_in net t) (count_without_token net (strong_in net t)) in omega (arith, duty_weigh_append c (a ++ b) (first_duties net (suc t) n), duty_weigh_append c a b)
 
 first_none : (net : NetRows) (c : DutyCoord) → ((t : ℕ) → duty_weigh c (Fresh t Source ∷ []) ≡ 0) → ((t : ℕ) → duty_weigh c (Fresh t Strong ∷ []) ≡ 0) → (t n : ℕ) → duty_weigh c (first_duties net t n) ≡ 0
 first_none net c a b t zero = refl
-first_none net c a b t (suc n) = omega (arith, first_more net c t n, source_part c t (is_empty (in_edges net t)) (a t), full_part c t (strong_in net t) (bare net (strong_in net t)) (b t), first_none net c a b (suc t) n)
+first_none net c a b t (suc n) = omega (arith, first_more net c t n, source_part c t (is_empty (in_edges net t)) (a t), full_part c t (strong_in net t) (count_without_token net (strong_in net t)) (b t), first_none net c a b (suc t) n)
 
 -- the releases of one source task
 first_before : (net : NetRows) (s t n : ℕ) → s < t → (duty_weigh (source s) (first_duties net t n) ≡ 0) × (duty_weigh (unset s) (first_duties net t n) ≡ 0)
@@ -47,8 +47,8 @@ first_before net s t zero before = (refl, refl)
 first_before net s t (suc n) before =
     let miss : one_if (eqb t s) ≡ 0 = let m : eqb t s ≡ false = grind (arith, nat_tests) in ap one_if m in
     let rest = first_before net s (suc t) n (omega arith) in (
-      omega (arith, first_more net (source s) t n, source_part (source s) t (is_empty (in_edges net t)) (omega (arith, miss)), full_part (source s) t (strong_in net t) (bare net (strong_in net t)) refl, rest.0),
-      omega (arith, first_more net (unset s) t n, source_part (unset s) t (is_empty (in_edges net t)) refl, full_part (unset s) t (strong_in net t) (bare net (strong_in net t)) (omega (arith, miss)), rest.1),
+      omega (arith, first_more net (source s) t n, source_part (source s) t (is_empty (in_edges net t)) (omega (arith, miss)), full_part (source s) t (strong_in net t) (count_without_token net (strong_in net t)) refl, rest.0),
+      omega (arith, first_more net (unset s) t n, source_part (unset s) t (is_empty (in_edges net t)) refl, full_part (unset s) t (strong_in net t) (count_without_token net (strong_in net t)) (omega (arith, miss)), rest.1),
     )
 
 full_own : (t : ℕ) (es : List ℕ) (n : ℕ) → es ≢ [] → duty_weigh (unset t) (full_duties t es n) ≡ nil n
@@ -56,30 +56,30 @@ full_own t [] n some = absurd (some refl)
 full_own t (e ∷ es) zero some = omega (arith, one_self t)
 full_own t (e ∷ es) (suc n) some = refl
 
-first_at : (net : NetRows) (s t n : ℕ) → t ≤ s → s < t + n → (IsSource net s → duty_weigh (source s) (first_duties net t n) ≡ 1) × (strong_in net s ≢ [] → duty_weigh (unset s) (first_duties net t n) ≡ nil (bare net (strong_in net s)))
+first_at : (net : NetRows) (s t n : ℕ) → t ≤ s → s < t + n → (IsSource net s → duty_weigh (source s) (first_duties net t n) ≡ 1) × (strong_in net s ≢ [] → duty_weigh (unset s) (first_duties net t n) ≡ nil (count_without_token net (strong_in net s)))
 first_at net s t zero low high = absurd (omega arith)
 first_at net s t (suc n) low high = by_eq (cases_eq t s) (λ a b. first_at net s (suc t) n a b)
   where
-    by_eq : (t ≡ s) ⊎ (t ≢ s) → (suc t ≤ s → s < suc t + n → (IsSource net s → duty_weigh (source s) (first_duties net (suc t) n) ≡ 1) × (strong_in net s ≢ [] → duty_weigh (unset s) (first_duties net (suc t) n) ≡ nil (bare net (strong_in net s))))
-        → (IsSource net s → duty_weigh (source s) (first_duties net t (suc n)) ≡ 1) × (strong_in net s ≢ [] → duty_weigh (unset s) (first_duties net t (suc n)) ≡ nil (bare net (strong_in net s)))
+    by_eq : (t ≡ s) ⊎ (t ≢ s) → (suc t ≤ s → s < suc t + n → (IsSource net s → duty_weigh (source s) (first_duties net (suc t) n) ≡ 1) × (strong_in net s ≢ [] → duty_weigh (unset s) (first_duties net (suc t) n) ≡ nil (count_without_token net (strong_in net s))))
+        → (IsSource net s → duty_weigh (source s) (first_duties net t (suc n)) ≡ 1) × (strong_in net s ≢ [] → duty_weigh (unset s) (first_duties net t (suc n)) ≡ nil (count_without_token net (strong_in net s)))
     by_eq (inl same) rest = let later = first_before net s (suc t) n (omega arith) in (
       λ is. omega (
         arith,
         first_more net (source s) t n,
-        full_part (source s) t (strong_in net t) (bare net (strong_in net t)) refl,
+        full_part (source s) t (strong_in net t) (count_without_token net (strong_in net t)) refl,
         later.0,
         ap (λ b. duty_weigh (source s) (source_duties t b)) (ap is_empty (ap (in_edges net) same ∙ is)),
         ap (λ k. one_if (eqb k s)) same,
         one_self s,
       ),
-      λ some. subst (λ k. duty_weigh (unset s) (first_duties net k (suc n)) ≡ nil (bare net (strong_in net s))) (sym same)
-          (omega (arith, first_more net (unset s) s n, source_part (unset s) s (is_empty (in_edges net s)) refl, (subst (λ k. duty_weigh (unset s) (first_duties net (suc k) n) ≡ 0) same later.1), full_own s (strong_in net s) (bare net (strong_in net s)) some)),
+      λ some. subst (λ k. duty_weigh (unset s) (first_duties net k (suc n)) ≡ nil (count_without_token net (strong_in net s))) (sym same)
+          (omega (arith, first_more net (unset s) s n, source_part (unset s) s (is_empty (in_edges net s)) refl, (subst (λ k. duty_weigh (unset s) (first_duties net (suc k) n) ≡ 0) same later.1), full_own s (strong_in net s) (count_without_token net (strong_in net s)) some)),
     )
     by_eq (inr other) rest =
         let miss : one_if (eqb t s) ≡ 0 = let m : eqb t s ≡ false = grind (arith, nat_tests) in ap one_if m in
         let later = rest (omega arith) (omega arith) in (
-          λ is. omega (arith, first_more net (source s) t n, full_part (source s) t (strong_in net t) (bare net (strong_in net t)) refl, source_part (source s) t (is_empty (in_edges net t)) (omega (arith, miss)), later.0 is),
-          λ some. omega (arith, first_more net (unset s) t n, source_part (unset s) t (is_empty (in_edges net t)) refl, full_part (unset s) t (strong_in net t) (bare net (strong_in net t)) (omega (arith, miss)), later.1 some),
+          λ is. omega (arith, first_more net (source s) t n, full_part (source s) t (strong_in net t) (count_without_token net (strong_in net t)) refl, source_part (source s) t (is_empty (in_edges net t)) (omega (arith, miss)), later.0 is),
+          λ some. omega (arith, first_more net (unset s) t n, source_part (unset s) t (is_empty (in_edges net t)) refl, full_part (unset s) t (strong_in net t) (count_without_token net (strong_in net t)) (omega (arith, miss)), later.1 some),
         )
 
 -- an edge begins with one token at most, and a weak one with none
@@ -115,7 +115,7 @@ nil_once zero h = refl
 nil_once (suc zero) h = refl
 nil_once (suc (suc n)) h = absurd (omega arith)
 
-bare_sum : (net : NetRows) (es : List ℕ) → bare net es + sum_over (first_tokens net) es ≡ length es
+bare_sum : (net : NetRows) (es : List ℕ) → count_without_token net es + sum_over (first_tokens net) es ≡ length es
 bare_sum net [] = refl
 bare_sum net (e ∷ es) = omega (arith, bare_sum net es, nil_once (first_tokens net e) (first_once net e))
 
@@ -155,7 +155,7 @@ pub record Begins (net : NetRows) (edge join : ℕ → ℕ) (T : DutyCoord → �
   pub by_edges : EdgePart net edge [] T
   pub by_duties : DutyPart net edge join (first_tokens net) [] T
 
-pub begins : (net : NetRows) (edge join : ℕ → ℕ) → IsNet net → ((e : ℕ) → edge e ≡ first_tokens net e) → ((t : ℕ) → join t ≡ bare net (strong_in net t))
+pub begins : (net : NetRows) (edge join : ℕ → ℕ) → IsNet net → ((e : ℕ) → edge e ≡ first_tokens net e) → ((t : ℕ) → join t ≡ count_without_token net (strong_in net t))
     → Begins net edge join (λ c. duty_weigh c (first_duties net 0 (length net.tasks)))
 begins net edge join rows edge_is join_is = let all = length net.tasks in record {
   no_place = λ m. first_none net (place m) (λ t. refl) (λ t. refl) 0 all;

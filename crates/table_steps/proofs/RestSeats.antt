@@ -32,7 +32,7 @@ use Rattle.table_steps.specs.Giving.{one_if, times}
 use Rattle.table_steps.specs.inside.Duties.{running, runs, MayRelease}
 use Rattle.table_steps.specs.inside.Accounts.{Coord, duty, sem, mark, turning, owing, resting, weigh, total, AllStand, Balanced, Moves, is_drop, with_clock, reading, KeepsAccounts}
 use Rattle.table_steps.specs.inside.Kinds.{IsTurn, left_by}
-use Rattle.table_steps.specs.inside.RestKinds.{known_part, bare_part, MayPark, parked, HasLast, MayHandOut, last_turn, other_turns, handed_out, left_behind, alone_notes, live_found, MayLook, looked, HasNoUnit, MayAskForUnit, full_with, asked, MayDropLast, last_dropped, MayThin}
+use Rattle.table_steps.specs.inside.RestKinds.{known_part, bare_part, MayPark, parked, HasLast, MayHandOut, last_turn, other_turns, handed_out, left_behind, alone_notes, live_found, MayLook, looked, HasNoUnit, MayAskForUnit, full_with, with_unit_asked, MayDropLast, last_dropped, MayThin}
 use Rattle.table_steps.proofs.Totals.{weigh_append}
 use Rattle.table_steps.proofs.Journals.{back_push}
 use Rattle.table_steps.proofs.Views.{OwnView, two_views, stand_left, stand_both, longer, none_stuck, quiet_rests, full_rests_too}
@@ -206,14 +206,14 @@ found_full net limit s h id a carried l rest below lives rested none at found =
     by_eq units z more (inl same) = omega (arith, units, found, ap (λ q. back net q h.journal) same, ap (max_of net) same, ap (λ q. taken net q h.journal) same)
     by_eq units z more (inr other) = let miss : eqb a z ≡ false = grind (arith, nat_tests) in (h.views id (Sems Full l ∷ rest) at).full z (λ none. more (omega (arith, none, ap one_if miss)))
 
-pub ask_allowed : {S : Type 0} {part : S → Part} (net : NetRows) (limit slots id : ℕ) (me : Seated S) (a : ℕ) → MayAskForUnit net a me.0 → Allows (KeepsAccounts part net limit) slots id me (40 + a) (λ n. n) (λ n m. (m.0 ≡ asked net a n me.0) × (m.1 ≡ me.1))
+pub ask_allowed : {S : Type 0} {part : S → Part} (net : NetRows) (limit slots id : ℕ) (me : Seated S) (a : ℕ) → MayAskForUnit net a me.0 → Allows (KeepsAccounts part net limit) slots id me (40 + a) (λ n. n) (λ n m. (m.0 ≡ with_unit_asked net a n me.0) × (m.1 ≡ me.1))
 ask_allowed {S} {part} net limit slots id me a may s h _ at small = from me.0 may at
   where
     n : ℕ
     n = slice_index s.words (40 + a)
 
     from : (v : List Note) → MayAskForUnit net a v → get_elem? s.views id ≡ some v
-        → (u : List Note) × (z : Act _) × Valid s.homes me.1 z × KeepsAccounts part net limit (stepped s (40 + a) (slice_index s.words (40 + a)) id me.1 u z) × ((u ≡ asked net a (slice_index s.words (40 + a)) v) × (carried_after me.1 z ≡ me.1))
+        → (u : List Note) × (z : Act _) × Valid s.homes me.1 z × KeepsAccounts part net limit (stepped s (40 + a) (slice_index s.words (40 + a)) id me.1 u z) × ((u ≡ with_unit_asked net a (slice_index s.words (40 + a)) v) × (carried_after me.1 z ≡ me.1))
     from (Sems Full l ∷ rest) may at = by_room (cases_lt n (max_of net a))
       where
         by_room : (n < max_of net a) ⊎ (max_of net a ≤ n) → (u : List Note) × (z : Act _) × Valid s.homes me.1 z × KeepsAccounts part net limit (stepped s (40 + a) n id me.1 u z) × ((u ≡ Sems Full (full_with (nat_lt n (max_of net a)) a l) ∷ rest) × (carried_after me.1 z ≡ me.1))

@@ -10,7 +10,7 @@ use Rattle.journal_rules.proofs.TaskSemaphores.{puts_in_range}
 use Rattle.table_steps.specs.Giving.{one_if, times}
 use Rattle.table_steps.specs.Holding.{HoldsEachUnit, PutsBack, TakesAlone, PutsAlone, PutsAll}
 use Rattle.table_steps.specs.inside.Accounts.{only_puts}
-use Rattle.table_steps.specs.inside.Kinds.{add_if, among, below, own_units, credits_due, claims_due}
+use Rattle.table_steps.specs.inside.Kinds.{add_if, among, numbers_below, own_units, credits_due, claims_due}
 
 times_added : (b : Bool) (s z : ℕ) (l : List ℕ) → times z (add_if b s l) ≡ one_if (b && (s == z)) + times z l
 times_added true s z l = refl
@@ -47,28 +47,28 @@ among_miss : (test : ℕ → Bool) (z : ℕ) (l : List ℕ) → test z ≡ false
 among_miss test z [] miss = refl
 among_miss test z (s ∷ l) miss = omega (arith, times_added (test s) s z (among test l), one_miss test s z miss, among_miss test z l miss)
 
-below_past : (test : ℕ → Bool) (z k : ℕ) → k ≤ z → times z (below test k) ≡ 0
+below_past : (test : ℕ → Bool) (z k : ℕ) → k ≤ z → times z (numbers_below test k) ≡ 0
 below_past test z zero past = refl
 below_past test z (suc k) past = let miss : eqb k z ≡ false = grind (arith, nat_tests) in
-    omega (arith, times_added (test k) k z (below test k), ap (λ b. one_if (test k && b)) miss, none (test k), below_past test z k (omega (arith, past)))
+    omega (arith, times_added (test k) k z (numbers_below test k), ap (λ b. one_if (test k && b)) miss, none (test k), below_past test z k (omega (arith, past)))
   where
     none : (b : Bool) → one_if (b && false) ≡ 0
     none true = refl
     none false = refl
 
-below_miss : (test : ℕ → Bool) (z k : ℕ) → test z ≡ false → times z (below test k) ≡ 0
+below_miss : (test : ℕ → Bool) (z k : ℕ) → test z ≡ false → times z (numbers_below test k) ≡ 0
 below_miss test z zero miss = refl
-below_miss test z (suc k) miss = omega (arith, times_added (test k) k z (below test k), one_miss test k z miss, below_miss test z k miss)
+below_miss test z (suc k) miss = omega (arith, times_added (test k) k z (numbers_below test k), one_miss test k z miss, below_miss test z k miss)
 
-below_hit : (test : ℕ → Bool) (z k : ℕ) → z < k → test z ≡ true → times z (below test k) ≡ 1
+below_hit : (test : ℕ → Bool) (z k : ℕ) → z < k → test z ≡ true → times z (numbers_below test k) ≡ 1
 below_hit test z zero lower hit = absurd (omega (arith, lower))
 below_hit test z (suc k) lower hit = by_eq (cases_eq k z) (λ less. below_hit test z k less hit)
   where
-    by_eq : (k ≡ z) ⊎ (k ≢ z) → (z < k → times z (below test k) ≡ 1) → times z (add_if (test k) k (below test k)) ≡ 1
+    by_eq : (k ≡ z) ⊎ (k ≢ z) → (z < k → times z (numbers_below test k) ≡ 1) → times z (add_if (test k) k (numbers_below test k)) ≡ 1
     by_eq (inl same) deeper = let there : eqb k z ≡ true = grind (arith, nat_tests) in
-        omega (arith, times_added (test k) k z (below test k), one_hit test k z hit, ap one_if there, below_past test z k (omega (arith, same)))
+        omega (arith, times_added (test k) k z (numbers_below test k), one_hit test k z hit, ap one_if there, below_past test z k (omega (arith, same)))
     by_eq (inr other) deeper = let miss : eqb k z ≡ false = grind (arith, nat_tests) in
-        omega (arith, times_added (test k) k z (below test k), one_hit test k z hit, ap one_if miss, deeper (omega (arith, lower, other)))
+        omega (arith, times_added (test k) k z (numbers_below test k), one_hit test k z hit, ap one_if miss, deeper (omega (arith, lower, other)))
 
 -- those of the units held that the task puts
 pub puts_back : (net : NetRows) (t : ℕ) (l : List ℕ) → HoldsEachUnit net t l → PutsBack net t (own_units net t l)
@@ -131,9 +131,9 @@ among_none test (s ∷ l) none =
     let here : test s ≡ false = none s (let hit : eqb s s ≡ true = grind (arith, nat_tests) in omega (arith, ap one_if hit)) in
     ap (λ b. add_if b s (among test l)) here ∙ among_none test l (λ z there. none z (omega (arith, there)))
 
-below_none : (test : ℕ → Bool) (k : ℕ) → ((s : ℕ) → test s ≡ false) → below test k ≡ []
+below_none : (test : ℕ → Bool) (k : ℕ) → ((s : ℕ) → test s ≡ false) → numbers_below test k ≡ []
 below_none test zero none = refl
-below_none test (suc k) none = ap (λ b. add_if b k (below test k)) (none k) ∙ below_none test k none
+below_none test (suc k) none = ap (λ b. add_if b k (numbers_below test k)) (none k) ∙ below_none test k none
 
 pub puts_all : (net : NetRows) (t : ℕ) (l : List ℕ) → HoldsEachUnit net t l → PutsAll net t → own_units net t l ≡ l
 puts_all net t l holds same = among_all (λ s. puts net s t) l (λ s there. held_put net t s l holds same there)

@@ -16,11 +16,11 @@ use Rattle.table_steps.specs.declared.view.Lot.TheVariants.{Ours, Putting, Put, 
 use Rattle.table_steps.specs.declared.view.SeatMark.TheVariants.{Live}
 use Rattle.table_steps.specs.declared.view.Note.{Note}
 use Rattle.table_steps.specs.declared.view.Note.TheVariants.{Lies}
-use Rattle.table_steps.specs.inside.Accounts.{Coord, mark, resting, weigh, total, AllStand, reading, marks_from, tokens_from, mark_at, Readings, Balanced, KeepsAccounts}
+use Rattle.table_steps.specs.inside.Accounts.{Coord, mark, resting, weigh, total, AllStand, reading, marks_from, tokens_from, slot_mark, Readings, Balanced, KeepsAccounts}
 use Rattle.table_steps.specs.inside.Kinds.{IsTurn}
 use Rattle.table_steps.specs.inside.Slots.{lot, lot_weight, slot_weigh, slot_total, holders, relot, SlotPart}
 use Rattle.table_steps.specs.inside.SlotMarks.{HomeIs, Homes, label_of}
-use Rattle.table_steps.specs.inside.SlotKinds.{MayTryPut, put_tried, MayTryTake, take_tried, HoldsIf, TakesPart, TookSlot, HoldsPart, lot_part, MayPutBack, put_laid, MayTakeBack, take_laid}
+use Rattle.table_steps.specs.inside.SlotKinds.{MayTryPut, put_tried, MayTryTake, take_tried, HoldsIf, TakesPart, TookSlot, HasLaid, lot_part, MayPutBack, put_laid, MayTakeBack, take_laid}
 use Rattle.table_steps.proofs.Totals.{total_set}
 use Rattle.table_steps.proofs.Views.{Views, views_after}
 use Rattle.table_steps.proofs.Marking.{alike_kept}
@@ -46,7 +46,7 @@ there_is (y ∷ ys) (suc i) x h = omega (arith, there_is ys i x h)
 
 -- the rule after one lot became one of another kind, and the slots are as they should be
 lot_changed : {S : Type 0} {part : S → Part} (net : NetRows) (limit : ℕ) (s : St S) (h : KeepsAccounts part net limit s) (id f n : ℕ) (carried : List (ℕ × S)) (a : Act S) (j k : Lot) (g : Part → Part) (v : List Note) → HasLot j f v → IsTurn v → f < length net.edges → get_elem? s.views id ≡ some v
-    → Homes (length net.edges) (mark_at net (set s.words (marks_from net + f) n)) (homes_after s.homes carried a) (holders (λ c. slot_total c (set s.views id (relot j k g f v))))
+    → Homes (length net.edges) (slot_mark net (set s.words (marks_from net + f) n)) (homes_after s.homes carried a) (holders (λ c. slot_total c (set s.views id (relot j k g f v))))
     → SlotPart net h.journal ((reading net s.words).edge) (λ c. slot_total c (set s.views id (relot j k g f v))) (label_of part (homes_after s.homes carried a))
     → KeepsAccounts part net limit (stepped s (marks_from net + f) n id carried (relot j k g f v) a)
 lot_changed {S} {part} net limit s h id f n carried a j k g v r turn below at homes slots = record {
@@ -114,23 +114,23 @@ slot_got : {S : Type 0} {part : S → Part} (net : NetRows) (limit : ℕ) (s : S
 slot_got net limit s h id f carried y j k g v r turn below at raises home free slots =
     let held = held_after s.views id f j k g v itself nothing r at raises in
     lot_changed net limit s h id f 1 carried (takes f y) j k g v r turn below at
-    (homes_set (length net.edges) (mark_at net s.words) _ s.homes _ _ f none h.homes (there_is s.homes f (some y) home) (get_or-set_same s.words (marks_from net + f) 1 0 (omega (arith, h.size, below)), omega (arith, held f, free, one_self f))
+    (homes_set (length net.edges) (slot_mark net s.words) _ s.homes _ _ f none h.homes (there_is s.homes f (some y) home) (get_or-set_same s.words (marks_from net + f) 1 0 (omega (arith, h.size, below)), omega (arith, held f, free, one_self f))
     (λ e other. else_word s.words (marks_from net + f) 1 (marks_from net + e) (λ z. other (omega arith))) (λ e other. omega (arith, held e, off_is f e other)))
     (slots (there_is s.homes f (some y) home))
 
 -- and where another turn holds it
 slot_missed : {S : Type 0} {part : S → Part} (net : NetRows) (limit : ℕ) (s : St S) (h : KeepsAccounts part net limit s) (id f : ℕ) (carried : List (ℕ × S)) (j k : Lot) (g : Part → Part) (v : List Note) → HasLot j f v → IsTurn v → f < length net.edges → get_elem? s.views id ≡ some v
-    → ((n : ℕ) → lot_weight Putting k n + lot_weight Taking k n + 0 ≡ lot_weight Putting j n + lot_weight Taking j n + 0) → mark_at net s.words f ≡ 1
+    → ((n : ℕ) → lot_weight Putting k n + lot_weight Taking k n + 0 ≡ lot_weight Putting j n + lot_weight Taking j n + 0) → slot_mark net s.words f ≡ 1
     → SlotPart net h.journal ((reading net s.words).edge) (λ c. slot_total c (set s.views id (relot j k g f v))) (label_of part s.homes)
     → KeepsAccounts part net limit (stepped s (marks_from net + f) 1 id carried (relot j k g f v) keeps)
 slot_missed net limit s h id f carried j k g v r turn below at alike marked slots =
     let held = held_after s.views id f j k g v nothing nothing r at alike in
     lot_changed net limit s h id f 1 carried keeps j k g v r turn below at
-    (λ e in_range. subst (λ m. HomeIs (get_elem? s.homes e) m (holders (λ c. slot_total c (set s.views id (relot j k g f v))) e)) (sym (by_eq e (cases_eq f e))) (subst (λ m. HomeIs (get_elem? s.homes e) (mark_at net s.words e) m) (sym (omega (arith, held e))) (h.homes e in_range)))
+    (λ e in_range. subst (λ m. HomeIs (get_elem? s.homes e) m (holders (λ c. slot_total c (set s.views id (relot j k g f v))) e)) (sym (by_eq e (cases_eq f e))) (subst (λ m. HomeIs (get_elem? s.homes e) (slot_mark net s.words e) m) (sym (omega (arith, held e))) (h.homes e in_range)))
     slots
   where
-    by_eq : (e : ℕ) → (f ≡ e) ⊎ (f ≢ e) → mark_at net (set s.words (marks_from net + f) 1) e ≡ mark_at net s.words e
-    by_eq e (inl same) = ap (mark_at net (set s.words (marks_from net + f) 1)) (sym same) ∙ get_or-set_same s.words (marks_from net + f) 1 0 (omega (arith, h.size, below)) ∙ sym marked ∙ ap (mark_at net s.words) same
+    by_eq : (e : ℕ) → (f ≡ e) ⊎ (f ≢ e) → slot_mark net (set s.words (marks_from net + f) 1) e ≡ slot_mark net s.words e
+    by_eq e (inl same) = ap (slot_mark net (set s.words (marks_from net + f) 1)) (sym same) ∙ get_or-set_same s.words (marks_from net + f) 1 0 (omega (arith, h.size, below)) ∙ sym marked ∙ ap (slot_mark net s.words) same
     by_eq e (inr other) = else_word s.words (marks_from net + f) 1 (marks_from net + e) (λ z. other (omega arith))
 
 -- SLOT GIVEN BACK
@@ -142,11 +142,11 @@ slot_returned {S} {part} net limit s h id f y carried j k g v r turn below at lo
     let held = held_after s.views id f j k g v nothing itself r at lowers in
     let out = by_home held (get_elem? s.homes f) refl (h.homes f below) in
     lot_changed net limit s h id f 0 ((f, y) ∷ carried) gives j k g v r turn below at
-    (homes_set (length net.edges) (mark_at net s.words) _ s.homes _ _ f (some y) h.homes out.0 (get_or-set_same s.words (marks_from net + f) 0 0 (omega (arith, h.size, below)), omega (arith, held f, out.1, one_self f))
+    (homes_set (length net.edges) (slot_mark net s.words) _ s.homes _ _ f (some y) h.homes out.0 (get_or-set_same s.words (marks_from net + f) 0 0 (omega (arith, h.size, below)), omega (arith, held f, out.1, one_self f))
     (λ e other. else_word s.words (marks_from net + f) 0 (marks_from net + e) (λ z. other (omega arith))) (λ e other. omega (arith, held e, off_is f e other)))
     (slots out.2 out.0)
   where
-    by_home : ((e : ℕ) → holders (λ c. slot_total c (set s.views id (relot j k g f v))) e + itself (one_if (f == e)) ≡ holders (λ c. slot_total c s.views) e + nothing (one_if (f == e))) → (o : Option (Option S)) → get_elem? s.homes f ≡ o → HomeIs o (mark_at net s.words f) (holders (λ c. slot_total c s.views) f)
+    by_home : ((e : ℕ) → holders (λ c. slot_total c (set s.views id (relot j k g f v))) e + itself (one_if (f == e)) ≡ holders (λ c. slot_total c s.views) e + nothing (one_if (f == e))) → (o : Option (Option S)) → get_elem? s.homes f ≡ o → HomeIs o (slot_mark net s.words f) (holders (λ c. slot_total c s.views) f)
         → (f < length s.homes) × (holders (λ c. slot_total c s.views) f ≡ 1) × (get_elem? s.homes f ≡ some none)
     by_home held (some (some x)) is home = absurd (omega (arith, held f, home.1, one_self f))
     by_home held (some none) is home = (there_is s.homes f none is, home.1, is)
@@ -155,7 +155,7 @@ slot_returned {S} {part} net limit s h id f y carried j k g v r turn below at lo
 -- THE STEPS
 pub try_put_allowed : {S : Type 0} {part : S → Part} (net : NetRows) (limit slots id : ℕ) (me : Seated S) (f : ℕ) → f < length net.edges → MayTryPut f me.0
     → Allows (KeepsAccounts part net limit) slots id me (marks_from net + f) (λ _. 1) (λ n m. (m.0 ≡ put_tried f n me.0) × HoldsIf f n me.1 m.1)
-try_put_allowed {S} {part} net limit slots id me f below may s h _ at small = by_mark (slot_tried (length net.edges) (mark_at net s.words) s.homes _ f h.homes below)
+try_put_allowed {S} {part} net limit slots id me f below may s h _ at small = by_mark (slot_tried (length net.edges) (slot_mark net s.words) s.homes _ f h.homes below)
   where
     r : HasLot Ours f me.0
     r = has_lot Ours f me.0 may.ours
@@ -163,8 +163,8 @@ try_put_allowed {S} {part} net limit slots id me f below may s h _ at small = by
     from : r.part ≡ From may.from.place
     from = sym r.tells ∙ may.from.is
 
-    by_mark : ((y : S) × (get_elem? s.homes f ≡ some (some y)) × (mark_at net s.words f ≡ 0) × (holders (λ c. slot_total c s.views) f ≡ 0)) ⊎ ((mark_at net s.words f ≡ 1) × (holders (λ c. slot_total c s.views) f ≡ 1))
-        → (u : List Note) × (z : Act S) × Valid s.homes me.1 z × KeepsAccounts part net limit (stepped s (marks_from net + f) 1 id me.1 u z) × ((u ≡ put_tried f (mark_at net s.words f) me.0) × HoldsIf f (mark_at net s.words f) me.1 (carried_after me.1 z))
+    by_mark : ((y : S) × (get_elem? s.homes f ≡ some (some y)) × (slot_mark net s.words f ≡ 0) × (holders (λ c. slot_total c s.views) f ≡ 0)) ⊎ ((slot_mark net s.words f ≡ 1) × (holders (λ c. slot_total c s.views) f ≡ 1))
+        → (u : List Note) × (z : Act S) × Valid s.homes me.1 z × KeepsAccounts part net limit (stepped s (marks_from net + f) 1 id me.1 u z) × ((u ≡ put_tried f (slot_mark net s.words f) me.0) × HoldsIf f (slot_mark net s.words f) me.1 (carried_after me.1 z))
     by_mark (inl (y, home, clear, free)) = (
       relot Ours Putting (λ p. p) f me.0,
       takes f y,
@@ -182,13 +182,13 @@ try_put_allowed {S} {part} net limit slots id me f below may s h _ at small = by
 
 pub try_take_allowed : {S : Type 0} {part : S → Part} (net : NetRows) (limit slots id : ℕ) (me : Seated S) (f : ℕ) → f < length net.edges → MayTryTake f me.0
     → Allows (KeepsAccounts part net limit) slots id me (marks_from net + f) (λ _. 1) (λ n m. TookSlot part f n me m)
-try_take_allowed {S} {part} net limit slots id me f below may s h _ at small = by_mark (slot_tried (length net.edges) (mark_at net s.words) s.homes _ f h.homes below)
+try_take_allowed {S} {part} net limit slots id me f below may s h _ at small = by_mark (slot_tried (length net.edges) (slot_mark net s.words) s.homes _ f h.homes below)
   where
     r : HasLot Awaited f me.0
     r = has_lot Awaited f me.0 may.awaited
 
-    by_mark : ((y : S) × (get_elem? s.homes f ≡ some (some y)) × (mark_at net s.words f ≡ 0) × (holders (λ c. slot_total c s.views) f ≡ 0)) ⊎ ((mark_at net s.words f ≡ 1) × (holders (λ c. slot_total c s.views) f ≡ 1))
-        → (u : List Note) × (z : Act S) × Valid s.homes me.1 z × KeepsAccounts part net limit (stepped s (marks_from net + f) 1 id me.1 u z) × TookSlot part f (mark_at net s.words f) me (u, carried_after me.1 z)
+    by_mark : ((y : S) × (get_elem? s.homes f ≡ some (some y)) × (slot_mark net s.words f ≡ 0) × (holders (λ c. slot_total c s.views) f ≡ 0)) ⊎ ((slot_mark net s.words f ≡ 1) × (holders (λ c. slot_total c s.views) f ≡ 1))
+        → (u : List Note) × (z : Act S) × Valid s.homes me.1 z × KeepsAccounts part net limit (stepped s (marks_from net + f) 1 id me.1 u z) × TookSlot part f (slot_mark net s.words f) me (u, carried_after me.1 z)
     by_mark (inl (y, home, clear, free)) = (
       relot Awaited Taking (λ p. part y) f me.0,
       takes f y,
@@ -224,7 +224,7 @@ put_back_allowed {S} {part} net limit slots id me f below may s h _ at small = f
     is_from : r.part ≡ From may.from.place
     is_from = sym r.tells ∙ may.from.is
 
-    from : (c : List (ℕ × S)) → HoldsPart part f (lot_part Putting f me.0) c → (u : List Note) × (z : Act S) × Valid s.homes c z × KeepsAccounts part net limit (stepped s (marks_from net + f) 0 id c u z) × ((u ≡ put_laid f me.0) × (carried_after c z ≡ rest c))
+    from : (c : List (ℕ × S)) → HasLaid part f (lot_part Putting f me.0) c → (u : List Note) × (z : Act S) × Valid s.homes c z × KeepsAccounts part net limit (stepped s (marks_from net + f) 0 id c u z) × ((u ≡ put_laid f me.0) × (carried_after c z ≡ rest c))
     from ((k, y) ∷ more) laid = (
       put_laid f me.0,
       gives,
@@ -241,7 +241,7 @@ take_back_allowed {S} {part} net limit slots id me f below may s h _ at small = 
     r : HasLot Taking f me.0
     r = has_lot Taking f me.0 may.taking
 
-    from : (c : List (ℕ × S)) → HoldsPart part f Nothing c → (u : List Note) × (z : Act S) × Valid s.homes c z × KeepsAccounts part net limit (stepped s (marks_from net + f) 0 id c u z) × ((u ≡ take_laid f me.0) × (carried_after c z ≡ rest c))
+    from : (c : List (ℕ × S)) → HasLaid part f Nothing c → (u : List Note) × (z : Act S) × Valid s.homes c z × KeepsAccounts part net limit (stepped s (marks_from net + f) 0 id c u z) × ((u ≡ take_laid f me.0) × (carried_after c z ≡ rest c))
     from ((k, y) ∷ more) laid = (
       take_laid f me.0,
       gives,

@@ -94,7 +94,7 @@ data_put net journal edge P P' F R R' label f n d out moved ready = record {
         let miss : eqb f e ≡ false = grind (arith, nat_tests) in
         ap (λ b. one_if (same_part (cond b (From n) (label e)) (last_part e journal)) + F e) miss ∙ omega (arith, d.due e calm, ready e, ap one_if miss)
 
--- A seat takes what lies in the slot of edge f, whose token stands in the word and which no other seat has fetched.
+-- A seat takes what lies in the slot of edge f, whose token is still in the word and which no other seat has fetched.
 pub data_fetch : (net : NetRows) (journal : List Entry) (edge : ℕ → ℕ) (P P' : ℕ → Part → ℕ) (F F' R : ℕ → ℕ) (label : ℕ → Part) (f : ℕ) → DataPart net journal edge P F R label
     → 1 ≤ edge f → (IsCalm net f journal → F f ≡ 0) → ((e : ℕ) (p : Part) → P' e p ≡ P e p + at_edge f (label f) e p) → ((e : ℕ) → F' e ≡ F e + one_if (f == e))
     → DataPart net journal edge P' F' R (lay label f Nothing)

@@ -24,7 +24,7 @@ use Rattle.table_steps.specs.declared.view.SemaphoreRole.TheVariants.{Held, Both
 use Rattle.table_steps.specs.declared.view.Note.TheVariants.{Duty, Sems, Has}
 use Rattle.table_steps.specs.inside.Duties.{place, runs, running, tickets, token, source, weakly, awaits, unset, MayRelease}
 use Rattle.table_steps.specs.inside.Accounts.{Coord, duty, sem, mark, busy, resting, turning, owing, telling, weight, weigh, total, FitsRelease, AllFitNotes, KeepsAccounts, reading}
-use Rattle.table_steps.specs.inside.Kinds.{IsTurn, MayTakeUp, collecting_notes, taken_up, MayAdd, added, MayDeal, dealt, kept_back, MayAdmit, admitted_notes, admitted, MayDrawStart, started, MayEnd, ended}
+use Rattle.table_steps.specs.inside.Kinds.{IsTurn, MayTakeUp, collecting_notes, taken_up, MayAdd, with_turn_added, MayDeal, dealt, kept_back, MayAdmit, admitted_notes, admitted, MayDrawStart, with_start_drawn, MayEnd, with_end_drawn}
 use Rattle.table_steps.proofs.Stepping.{St, Seated, own_lone, after_step, done}
 use Rattle.table_steps.specs.declared.view.Lot.TheVariants.{Putting, Taking}
 use Rattle.table_steps.specs.inside.Slots.{lot, awaited_lots, found_lots, first_parts, after_lots}
@@ -140,21 +140,21 @@ admit_allowed {S} {part} net limit slots id me may s h _ at small = from me.0 ma
     from v may at = absurd may
 
 -- TURN ADDED
-pub add_allowed : {S : Type 0} {part : S → Part} (net : NetRows) (limit slots id : ℕ) (me : Seated S) → MayAdd me.0 → Allows (KeepsAccounts part net limit) slots id me 16 (λ n. (n + 1) % 2 ^ 64) (λ n m. (m.0 ≡ added me.0) × (m.1 ≡ me.1))
+pub add_allowed : {S : Type 0} {part : S → Part} (net : NetRows) (limit slots id : ℕ) (me : Seated S) → MayAdd me.0 → Allows (KeepsAccounts part net limit) slots id me 16 (λ n. (n + 1) % 2 ^ 64) (λ n m. (m.0 ≡ with_turn_added me.0) × (m.1 ≡ me.1))
 add_allowed {S} {part} net limit slots id me may s h _ at small = from me.0 may at
   where
     from : (v : List Note) → MayAdd v → get_elem? s.views id ≡ some v
-        → (u : List Note) × (z : Act _) × Valid s.homes me.1 z × KeepsAccounts part net limit (stepped s 16 ((slice_index s.words 16 + 1) % 2 ^ 64) id me.1 u z) × ((u ≡ added v) × (carried_after me.1 z ≡ me.1))
+        → (u : List Note) × (z : Act _) × Valid s.homes me.1 z × KeepsAccounts part net limit (stepped s 16 ((slice_index s.words 16 + 1) % 2 ^ 64) id me.1 u z) × ((u ≡ with_turn_added v) × (carried_after me.1 z ≡ me.1))
     from (Duty (Fresh t cause) ∷ Has New ∷ rest) may at =
         done net limit s id 16 _ me _ _ refl (turn_added net limit s h id me.1 (Fresh t cause) rest may.0 may.1 at (room_for_turn net limit s h))
     from v may at = absurd may
 
 -- START DRAWN
-pub start_allowed : {S : Type 0} {part : S → Part} (net : NetRows) (limit slots id : ℕ) (me : Seated S) → MayDrawStart net me.0 → Allows (KeepsAccounts part net limit) slots id me 8 (λ n. (n + 1) % 2 ^ 64) (λ n m. (m.0 ≡ started net n me.0) × (m.1 ≡ me.1) × IsNet net)
+pub start_allowed : {S : Type 0} {part : S → Part} (net : NetRows) (limit slots id : ℕ) (me : Seated S) → MayDrawStart net me.0 → Allows (KeepsAccounts part net limit) slots id me 8 (λ n. (n + 1) % 2 ^ 64) (λ n m. (m.0 ≡ with_start_drawn net n me.0) × (m.1 ≡ me.1) × IsNet net)
 start_allowed {S} {part} net limit slots id me may s h _ at small = from me.0 may at
   where
     from : (v : List Note) → MayDrawStart net v → get_elem? s.views id ≡ some v
-        → (u : List Note) × (z : Act _) × Valid s.homes me.1 z × KeepsAccounts part net limit (stepped s 8 ((slice_index s.words 8 + 1) % 2 ^ 64) id me.1 u z) × ((u ≡ started net (slice_index s.words 8) v) × (carried_after me.1 z ≡ me.1) × IsNet net)
+        → (u : List Note) × (z : Act _) × Valid s.homes me.1 z × KeepsAccounts part net limit (stepped s 8 ((slice_index s.words 8 + 1) % 2 ^ 64) id me.1 u z) × ((u ≡ with_start_drawn net (slice_index s.words 8) v) × (carried_after me.1 z ≡ me.1) × IsNet net)
     from (Duty (Collecting t cause taken []) ∷ Duty Ticket ∷ Has Live ∷ Sems Held l ∷ rest) may at =
         let stand = (h.views id _ at).stand.0 in let ins = first_parts taken rest in let more = after_lots taken rest in
         let all : taken ≡ edges_of net t cause = sym (append-nil taken) ∙ stand.1 in (
@@ -169,11 +169,11 @@ start_allowed {S} {part} net limit slots id me may s h _ at small = from me.0 ma
 
 -- END DRAWN
 pub end_allowed : {S : Type 0} {part : S → Part} (net : NetRows) (limit slots id : ℕ) (me : Seated S) (gives : List ℕ) (inner : Bool) → MayEnd net gives inner me.0
-    → Allows (KeepsAccounts part net limit) slots id me 8 (λ n. (n + 1) % 2 ^ 64) (λ n m. (m.0 ≡ ended gives inner n me.0) × (m.1 ≡ me.1))
+    → Allows (KeepsAccounts part net limit) slots id me 8 (λ n. (n + 1) % 2 ^ 64) (λ n m. (m.0 ≡ with_end_drawn gives inner n me.0) × (m.1 ≡ me.1))
 end_allowed {S} {part} net limit slots id me gives inner may s h _ at small = from me.0 may at
   where
     from : (v : List Note) → MayEnd net gives inner v → get_elem? s.views id ≡ some v
-        → (u : List Note) × (z : Act _) × Valid s.homes me.1 z × KeepsAccounts part net limit (stepped s 8 ((slice_index s.words 8 + 1) % 2 ^ 64) id me.1 u z) × ((u ≡ ended gives inner (slice_index s.words 8) v) × (carried_after me.1 z ≡ me.1))
+        → (u : List Note) × (z : Act _) × Valid s.homes me.1 z × KeepsAccounts part net limit (stepped s 8 ((slice_index s.words 8 + 1) % 2 ^ 64) id me.1 u z) × ((u ≡ with_end_drawn gives inner (slice_index s.words 8) v) × (carried_after me.1 z ≡ me.1))
     from (Duty (Open m t) ∷ Has Live ∷ Sems Both b ∷ Sems Credit c ∷ Sems Credited d ∷ Sems Claim l ∷ Sems Granted g ∷ rest) may at =
         done net limit s id 8 _ me _ _ refl (end_drawn net limit s h id m t gives inner b d g me.1 rest may.0 may.4 may.2 may.5
         (at ∙ (λ i. some (Duty (Open m t) ∷ Has Live ∷ Sems Both b ∷ Sems Credit (may.1 i) ∷ Sems Credited d ∷ Sems Claim (may.3 i) ∷ Sems Granted g ∷ rest))))

@@ -10,7 +10,7 @@ use Rattle.journal_rules.specs.ShapeLegal.{ShapeLegal}
 abbrev pub first_credit : ℕ
 first_credit = 1099511627776
 
--- A journal that is legal as far as the net decides has this start of a task, and allows a Fault that tells an
+-- A journal that is legal as far as the net decides has this start of a task, and allows a Fault for an
 -- over-release of the semaphore.
 pub record AllowsOver (net : NetRows) (limit s place t : ℕ) : Type 0 where
   pub journal : List Entry

@@ -11,7 +11,7 @@ use Rattle.journal_rules.specs.ChoiceRule.{GivesFit, InnerFits}
 abbrev pub one_if : Bool → ℕ
 one_if b = if b then 1 else 0
 
--- how often a number stands in a list
+-- how often a number is in a list
 abbrev pub times : ℕ → List ℕ → ℕ
 times e [] = 0
 times e (g ∷ gs) = one_if (g == e) + times e gs

@@ -11,4 +11,6 @@ pub mod Slots
 pub mod SlotMarks
 pub mod RestKinds
 pub mod SlotKinds
+pub mod SeatViews
+pub mod ValueAccounts
 pub mod TableSeats

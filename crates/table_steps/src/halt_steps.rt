@@ -2,15 +2,16 @@
 ghost use Rattle.std.specs.Prelude.{◌≡◌, ◌∷◌};
 ghost use Rattle.std.specs.Arc.{arc_value};
 ghost use Rattle.journal_rules.specs.declared.entry.Why.{Why};
-ghost use Rattle.table_steps.specs.inside.Halts.{MayAsk, halt_read, MayFault, faulted, MayMark, marked, MayDrop, dropped};
+ghost use Rattle.table_steps.specs.inside.SeatViews.{values_held, StepsKnowing};
+ghost use Rattle.table_steps.specs.Values.{Knows};
+ghost use Rattle.table_steps.specs.inside.Halts.{MayAsk, halt_read, MayFault, with_fault_drawn, MayMark, marked, MayDrop, dropped};
 
-use crate::slot_steps::Parcel;
 use crate::steps::{CLOCK, HALT, Words};
 use crate::table_seat::{NoteSeat, TableSeat};
-use crate::view::Note;
+use crate::view::SeatView;
 use atomic_table::Play;
+use join_words::Given;
 use journal_rules::Why;
-use outside_io::List;
 use std::marker::{Brand, PhantomData};
 
 /// Why a start faults.
@@ -26,37 +27,38 @@ impl Blames for Brand {
 
 pub struct ReadsHalt;
 
-impl<S> Play<S, List<Note>> for ReadsHalt {
-    ghost then = { λ _ before n after. (after.0 ≡ halt_read n before.0) × (after.1 ≡ before.1) };
+impl<V> Play<Given<V>, SeatView<V>> for ReadsHalt {
+    ghost then = { λ _ before n after. StepsKnowing (λ k m. (m.0 ≡ halt_read k before.0.notes) × (m.1 ≡ before.1)) before n after };
 }
 
-pub struct Faults<A> {
+pub struct DrawsFault<A> {
     told: PhantomData<A>,
 }
 
-impl<S, A: Blames> Play<S, List<Note>> for Faults<A> {
-    ghost then = { λ _ before n after. (after.0 ≡ faulted A.why n before.0) × (after.1 ≡ before.1) };
+impl<V, A: Blames> Play<Given<V>, SeatView<V>> for DrawsFault<A> {
+    ghost then = { λ _ before n after. StepsKnowing (λ k m. (m.0 ≡ with_fault_drawn A.why k before.0.notes) × (m.1 ≡ before.1)) before n after };
 }
 
-pub struct Marks;
+pub struct SetsHalt;
 
-impl<S> Play<S, List<Note>> for Marks {
-    ghost then = { λ _ before n after. (after.0 ≡ marked before.0) × (after.1 ≡ before.1) };
+impl<V> Play<Given<V>, SeatView<V>> for SetsHalt {
+    ghost then = { λ _ before n after. StepsKnowing (λ k m. (m.0 ≡ marked before.0.notes) × (m.1 ≡ before.1)) before n after };
 }
 
-pub struct Drops;
+pub struct DrawsDrop;
 
-impl<S> Play<S, List<Note>> for Drops {
-    ghost then = { λ _ before n after. (after.0 ≡ dropped n before.0) × (after.1 ≡ before.1) };
+impl<V> Play<Given<V>, SeatView<V>> for DrawsDrop {
+    ghost then = { λ _ before n after. StepsKnowing (λ k m. (m.0 ≡ dropped k before.0.notes) × (m.1 ≡ before.1)) before n after };
 }
 
-impl<S: Parcel> Words<S> {
+impl<V> Words<V> {
     /// Loads the halt mark, which is 0 where no turn has set it.
-    pub fn load_halt(&self, seat: &mut TableSeat<S>) -> u64
+    pub fn load_halt(&self, seat: &mut TableSeat<V>) -> u64
         requires table { seat.old.table_id ≡ self.now.table.shared.table_id }
         requires ready { MayAsk seat.old.me.0 }
         ensures table { seat.new.table_id ≡ seat.old.table_id }
         ensures view { (seat.new.me.0 ≡ halt_read result seat.old.me.0) × (seat.new.me.1 ≡ seat.old.me.1) }
+        ensures known { Knows seat.new.values seat.old.values }
         ensures found { seat.new.found ≡ result ∷ seat.old.found }
     {
         let found = self.table.shared.load::<ReadsHalt>(&mut seat.seat, HALT);
@@ -64,47 +66,53 @@ impl<S: Parcel> Words<S> {
         found
     }
 
-    fn fault_told<A: Blames>(&self, seat: &mut NoteSeat<S>, _why: Why) -> u64
+    fn fault_told<A: Blames>(&self, seat: &mut NoteSeat<V>, _why: Why) -> u64
         requires table { seat.old.table_id ≡ self.now.table.shared.table_id }
-        requires ready { MayFault (arc_value self.now.net) A.why seat.old.me.0 }
+        requires ready { MayFault (arc_value self.now.net) A.why seat.old.me.0.notes }
+        requires held { Knows seat.old.me.0.values (values_held seat.old.me.1) }
         ensures table { seat.new.table_id ≡ seat.old.table_id }
-        ensures view { (seat.new.me.0 ≡ faulted A.why result seat.old.me.0) × (seat.new.me.1 ≡ seat.old.me.1) }
+        ensures view { (seat.new.me.0.notes ≡ with_fault_drawn A.why result seat.old.me.0.notes) × (seat.new.me.1 ≡ seat.old.me.1) }
+        ensures known { Knows seat.new.me.0.values seat.old.me.0.values }
+        ensures held { Knows seat.new.me.0.values (values_held seat.new.me.1) }
     {
-        self.table.shared.fetch_add::<Faults<A>>(seat, CLOCK, 1)
+        self.table.shared.fetch_add::<DrawsFault<A>>(seat, CLOCK, 1)
     }
 
     /// Draws the place of a Fault.
-    pub fn draw_fault(&self, seat: &mut TableSeat<S>, why: Why) -> u64
+    pub fn draw_fault(&self, seat: &mut TableSeat<V>, why: Why) -> u64
         requires table { seat.old.table_id ≡ self.now.table.shared.table_id }
         requires ready { MayFault (arc_value self.now.net) why seat.old.me.0 }
         ensures table { seat.new.table_id ≡ seat.old.table_id }
-        ensures view { (seat.new.me.0 ≡ faulted why result seat.old.me.0) × (seat.new.me.1 ≡ seat.old.me.1) }
+        ensures view { (seat.new.me.0 ≡ with_fault_drawn why result seat.old.me.0) × (seat.new.me.1 ≡ seat.old.me.1) }
+        ensures known { Knows seat.new.values seat.old.values }
         ensures found { seat.new.found ≡ seat.old.found }
     {
         self.fault_told::<Brand>(&mut seat.seat, why)
     }
 
     /// Sets the halt mark.
-    pub fn set_halt(&self, seat: &mut TableSeat<S>)
+    pub fn set_halt(&self, seat: &mut TableSeat<V>)
         requires table { seat.old.table_id ≡ self.now.table.shared.table_id }
         requires ready { MayMark seat.old.me.0 }
         ensures table { seat.new.table_id ≡ seat.old.table_id }
         ensures view { (seat.new.me.0 ≡ marked seat.old.me.0) × (seat.new.me.1 ≡ seat.old.me.1) }
+        ensures known { Knows seat.new.values seat.old.values }
         ensures found { seat.new.found ≡ seat.old.found }
     {
-        self.table.shared.swap::<Marks>(&mut seat.seat, HALT, 1);
+        self.table.shared.swap::<SetsHalt>(&mut seat.seat, HALT, 1);
     }
 
     /// Draws the place of a Drop.
-    pub fn draw_drop(&self, seat: &mut TableSeat<S>) -> u64
+    pub fn draw_drop(&self, seat: &mut TableSeat<V>) -> u64
         requires table { seat.old.table_id ≡ self.now.table.shared.table_id }
         requires ready { MayDrop seat.old.me.0 }
         ensures table { seat.new.table_id ≡ seat.old.table_id }
         ensures view { (seat.new.me.0 ≡ dropped result seat.old.me.0) × (seat.new.me.1 ≡ seat.old.me.1) }
+        ensures known { Knows seat.new.values seat.old.values }
         ensures found { seat.new.found ≡ seat.old.found }
     {
         self.table
             .shared
-            .fetch_add::<Drops>(&mut seat.seat, CLOCK, 1)
+            .fetch_add::<DrawsDrop>(&mut seat.seat, CLOCK, 1)
     }
 }

@@ -14,43 +14,52 @@
 //! - The mark of each edge's slot, which is set while a seat holds the slot.
 //! - Each edge's tokens, and for each task its join word: how many of its strong in-edges are not counted at it.
 //!
-//! The hot words have a cache line each. Nothing is written to the first word, which splits and joins read, and a turn that
-//! asks for what the net says of it.
+//! The hot words have a cache line each. Nothing is written to the first word, which splits and joins read, and a turn
+//! that asks for what the net says of it.
 //!
 //! # The slots
 //!
-//! Each edge has a slot, where a parcel may lie: what a start finds at that edge. A seat tries once to take the slot,
-//! exchanges what lies there while it holds it, and gives it back (`slot_steps.rt`). It knows by its notes what it has
-//! still to do with a parcel (`Lot`): a release that is taken up has one to fetch of each of its edges, and an end has one to
-//! deliver to each edge that it gives. A token is taken after its parcel, and given after it. Where another seat holds the
-//! slot, nothing is fetched, or the parcel is left away; on a calm edge no other seat does.
+//! Each edge has a slot, where a parcel lies (`Given` of `join_words`): what a start finds at that edge. A seat tries once
+//! to take the slot, exchanges what lies there while it holds it, and gives it back (`slot_steps.rt`). It knows by its
+//! notes what it has still to do with a parcel (`Lot`): a release that is taken up has one to fetch of each of its edges,
+//! and an end has one to deliver to each edge that it gives. A token is taken after its parcel, and given after it. Where
+//! another seat holds the slot, `Nothing` is fetched, or the parcel is dropped; on a calm edge no other seat does.
+//!
+//! # The values of Ends
+//!
+//! An End is drawn with its value, and a seat knows the values of some Ends (`EndValue`). The rule of the table is that
+//! no End has two values: what the seats know of values, and the parcel in each slot, agree. So a seat learns a value from a parcel that it fetches, and delivers a parcel only where it knows its value
+//! (`Knows`). It forgets none: a seat that is split off knows the same values, and one that is joined with another knows
+//! those of both. The keeper's seat, which takes in all turns, learns at each of them that it knows no two values of one End
+//! (`HaveOneValueEach`). So where a start found the value of an End, it is the value with which that End was
+//! drawn.
 //!
 //! # What steps found
 //!
-//! A seat comes with the numbers that its steps found, the newest first (`TableSeat`). They have no bytes. Only this crate can add
-//! one, and a function here adds the number that its own operation returned, where an answer of `join_tables` depends on it: a
-//! load of the halt mark, of the live word or of a unit word, an admission, a token taken or given, a count, a unit taken, a
-//! claim, and a turn taken off by the keeper. The others add none: what they find is among the notes, or is of no use. A seat
-//! that is split off begins without a number, and one that is joined to another is gone with its own.
+//! A seat has the numbers that its steps found, the newest first (`TableSeat`). They have no bytes. Only this crate
+//! can add one, and a function here adds the number that its own operation returned, where an answer of `join_tables`
+//! depends on it: a load of the halt mark, of the live word or of a unit word, an admission, a token taken or given, a
+//! count, a unit taken, a claim, and a turn taken off by the keeper. The others add none: what they find is among the
+//! notes, or is of no use. A seat that is split off begins without a number, and one that is joined to another is gone with
+//! its own.
 //!
 //! # What holds between any two steps
 //!
 //! The rule of a table is a record of accounts over the words, the seats and one journal: the entries that the seats
-//! drew are those of a journal that is legal as far as the net decides (`ShapeLegal`), and whose starts find what they may
-//! (`MeetsDataRule`); for each edge, the tokens
-//! given are those used, those in its word, those owed and those collected; each release that is left is the duty
-//! of just one seat; the numbers admitted are the starts, the tickets and the refusals; a unit word is the units that
-//! are out, held, owed or to be undone; a credit word is 2^40 and the units that were credited and not claimed, less
+//! drew are those of a journal that is legal as far as the net decides (`ShapeLegal`), and whose starts find what they
+//! may (`MeetsDataRule`); for each edge, the tokens given are those used, those in its word, those owed and those
+//! collected; each release that is left is the duty of just one seat; the numbers admitted are the starts, the tickets
+//! and the refusals; a unit word is the units that are out, held, owed or to be undone; a credit word is 2^40 and the units that were credited and not claimed, less
 //! the refused claims that are to be undone; the live word is the number of turns that are counted. So when the last
 //! turn is taken off, the journal is complete (`Complete`), and the keeper has all of it. A rest that is alone has all
-//! live turns: so it knows that nothing runs, that no unit comes back, and, where it found no halt mark, that no start
+//! live turns: so it knows that nothing runs, that no unit will be given back, and, where it found no halt mark, that no start
 //! has faulted. Where a release was dropped for want of a unit, one seat knows it, and that seat has all live turns.
 //!
 //! What a seat knows is a list of notes; each account is an equation between a word, counts of the journal and
 //! totals of weights over all notes. A slot is home where its mark is clear, and else one seat holds it. The account of
-//! parcels (`SlotPart`) says of each edge: each parcel is the token with which the edge begins, or that of an end that gave
-//! it, and none is there twice; on a calm edge the last one is with the seat that owes it, in the slot, or with the seat that
-//! collects it.
+//! parcels (`SlotPart`) says of each edge: each parcel is the token with which the edge begins, or that of an end that
+//! gave it, and none is there twice; on a calm edge the last one is with the seat that owes it, in the slot, or with the
+//! seat that collects it.
 //!
 //! # Where its definitions are
 //!
@@ -63,6 +72,7 @@
 
 mod credit_steps;
 mod halt_steps;
+mod opening;
 mod rest_steps;
 mod slot_steps;
 mod steps;
@@ -71,7 +81,9 @@ mod unit_steps;
 mod view;
 
 pub use credit_steps::FIRST_CREDIT;
-pub use slot_steps::Parcel;
+pub use opening::table_of;
 pub use steps::{FIRST_UNIT, LIVE, Words};
-pub use table_seat::{NoteSeat, TableSeat};
-pub use view::{AccountsHold, LimitedNet, Lot, Note, SeatMark, SemaphoreRole, TurnDuty};
+pub use table_seat::TableSeat;
+pub use view::{
+    AccountsHold, EndValue, LimitedNet, Lot, Note, SeatMark, SeatView, SemaphoreRole, TurnDuty,
+};

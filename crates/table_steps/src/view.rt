@@ -1,8 +1,8 @@
 // What the seats of a table know, and its rule.
 ghost use Rattle.std.specs.Arc.{arc_value};
 
-use crate::slot_steps::Parcel;
 use atomic_table::TableRule;
+use join_words::Given;
 use journal_rules::{Cause, Entry, Part};
 use outside_io::List;
 use std::sync::Arc;
@@ -62,13 +62,13 @@ pub enum SeatMark {
     Over,
     /// A Fault is drawn, and the halt mark is to be set.
     ToMark,
-    /// A Fault stands.
+    /// The journal has a Fault.
     Halted,
     /// The seat has all live turns.
     Alone,
-    /// Besides, no Fault stands.
+    /// Besides, the journal has no Fault.
     Quiet,
-    /// Besides, a Drop for want of a unit stands.
+    /// Besides, the journal has a Drop for want of a unit.
     Sticking,
     /// It has looked at the halt mark, which wasn't set, and may draw an admission.
     Asked,
@@ -106,6 +106,18 @@ pub enum Note {
     Lies(Lot, u32, Part),
 }
 
+/// The End at this place has this value. No value of it is made.
+pub struct EndValue<V> {
+    pub place: u64,
+    pub value: V,
+}
+
+/// What a seat knows: its notes, and the values of Ends. No value of it is made.
+pub struct SeatView<V> {
+    pub notes: List<Note>,
+    pub values: List<EndValue<V>>,
+}
+
 /// The net and the limit of a table.
 #[derive(Drop)]
 pub struct LimitedNet {
@@ -113,13 +125,15 @@ pub struct LimitedNet {
     pub limit: u64,
 }
 
-/// The accounts hold between any two steps.
+/// The accounts hold between any two steps, and no End has two values.
 pub struct AccountsHold;
 
-impl<S: Parcel> TableRule<S, List<Note>, LimitedNet> for AccountsHold {
-    ghost use Rattle.table_steps.specs.inside.Accounts.{KeepsAccounts, opening_notes};
+impl<V> TableRule<Given<V>, SeatView<V>, LimitedNet> for AccountsHold {
+    ghost use Rattle.std.specs.Prelude.{[]};
+    ghost use Rattle.table_steps.specs.inside.Accounts.{opening_notes};
+    ghost use Rattle.table_steps.specs.inside.ValueAccounts.{KeepsTable};
 
-    ghost holds = { λ limited. KeepsAccounts S.part (arc_value limited.net) limited.limit };
+    ghost holds = { λ limited. KeepsTable (arc_value limited.net) limited.limit };
 
-    ghost first = { λ limited. opening_notes (arc_value limited.net) limited.limit };
+    ghost first = { λ limited. record { notes = opening_notes (arc_value limited.net) limited.limit; values = [] } };
 }

@@ -9,3 +9,4 @@ pub mod WorkedGraphJson
 pub mod WorkedLines
 pub mod WorkedSeats
 pub mod WorkedTurns
+pub mod WorkedEndValues

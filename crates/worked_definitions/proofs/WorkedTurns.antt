@@ -1,7 +1,10 @@
 -- The units that turns of a table hold, what becomes of releases, how a table begins, and when a keeper tells a whole run.
-use Rattle.std.proofs.Common.{◌≡◌, ℕ, zero, suc, ◌+◌, ◌<◌, Bool, true, false, List, [], ◌∷◌, length, Some, None, refl, ap, sym, subst, ◌∙◌, inl, arith}
+use Rattle.std.proofs.Common.{◌≡◌, ℕ, zero, suc, ◌+◌, ◌<◌, Bool, true, false, List, [], ◌∷◌, length, map, Some, None, refl, ap, sym, subst, ◌∙◌, inl, arith}
 use Rattle.std.specs.Prelude.{◌==◌, ◌||◌, ◌&&◌, not, count_by, All}
 use Rattle.std.proofs.lemmas.Bool.Decides.{nat_tests}
+use Rattle.std.specs.Arc.{arc_with_value}
+use Rattle.std.specs.Global.{Global}
+use Rattle.std.specs.declared.sync.Arc.{Arc}
 use Rattle.std.specs.declared.result.Result.TheVariants.{Ok, Err}
 use Rattle.task_graph.specs.declared.net.Shape.TheVariants.{Plain}
 use Rattle.task_graph.specs.declared.net.TaskRow.{TaskRow}
@@ -12,11 +15,14 @@ use Rattle.journal_rules.specs.declared.entry.Why.TheVariants.{Long, Wide, Unmet
 use Rattle.journal_rules.specs.declared.entry.DropWhy.TheVariants.{Limit, Halted}
 use Rattle.journal_rules.specs.declared.entry.Entry.{Entry}
 use Rattle.journal_rules.specs.declared.entry.Entry.TheVariants.{Start, End, Fault, Drop}
-use Rattle.journal_rules.specs.declared.entry.Part.{Part}
-use Rattle.journal_rules.specs.declared.entry.Part.TheVariants.{From, First}
+use Rattle.journal_rules.specs.declared.entry.Part.TheVariants.{First}
 use Rattle.journal_rules.specs.ShapeLegal.{MayFollow, MeetsDataRule}
 use Rattle.journal_rules.specs.SemaphoreRule.{takes}
 use Rattle.journal_rules.specs.Complete.{Complete}
+use Rattle.join_words.specs.declared.ins.Given.TheVariants as given
+use Rattle.join_words.specs.declared.ins.Ins.{Ins}
+use Rattle.join_words.specs.Ins.{parts_of}
+use Rattle.table_steps.specs.Values.{given_part}
 use Rattle.join_tables.specs.declared.turns.UnitTake.TheVariants.{Got, NoUnit}
 use Rattle.join_tables.specs.declared.turns.EndedStart.{EndedStart}
 use Rattle.join_tables.specs.declared.fates.Failure.{Failure}
@@ -25,7 +31,6 @@ use Rattle.join_tables.specs.declared.fates.Fate.TheVariants.{Ended, Faulted, Dr
 use Rattle.join_tables.specs.declared.opening.Opening.{Opening}
 use Rattle.join_tables.specs.declared.keeper.Remaining.TheVariants.{More as TurnsLeft, All as NoneLeft}
 use Rattle.join_tables.specs.declared.keeper.Recorded.{Recorded}
-use Rattle.join_tables.specs.Parts.{part_list}
 use Rattle.join_tables.specs.States.{TableState, FreshState, TurnState, fresh_state, turn_state, turn_with, running_state, StartUnits, RunningState}
 use Rattle.table_steps.specs.Giving.{one_if}
 use Rattle.table_steps.specs.Holding.{HoldsEachUnit, PutsEach, PutsBack, TakesAlone, PutsAlone, PutsAll, without}
@@ -37,7 +42,7 @@ use Rattle.join_tables.specs.declared.turns.Claim.TheVariants.{Granted, Refused}
 use Rattle.join_tables.specs.Fates.{FaultedAs, DroppedAs}
 use Rattle.join_tables.specs.Turns.{EndedAs}
 use Rattle.join_tables.specs.Openings.{OpensTable}
-use Rattle.join_tables.specs.Keeping.{KeeperState, keeper_state, entries_of, Merges, TellsRun, TellsSomeRun, IsLast}
+use Rattle.join_tables.specs.Keeping.{KeeperState, keeper_state, start_of, entries_of, Merges, TellsRun, TellsSomeRun, IsLast}
 
 abbrev needs : List ℕ → List ℕ → TaskRow
 needs takes puts = record { shape = Plain; takes = takes; puts = puts }
@@ -127,31 +132,31 @@ no_unit_to_leave : without 1 (2 ∷ 0 ∷ []) ≡ 2 ∷ 0 ∷ []
 no_unit_to_leave = refl
 
 module _ (t u : TurnState) where
-  last_unit_is_taken : TakesUnit net t 0 (Got (turn_with t.table t.task t.cause None (0 ∷ t.held) (1 ∷ t.found)))
+  last_unit_is_taken : TakesUnit {V = ℕ} net t 0 (Got (turn_with t.table t.task t.cause None (0 ∷ t.held) (1 ∷ t.found)))
   last_unit_is_taken = (refl, (refl, omega arith))
 
-  no_third_unit : ¬ TakesUnit net t 0 (Got (turn_with t.table t.task t.cause None (0 ∷ t.held) (2 ∷ t.found)))
+  no_third_unit : ¬ TakesUnit {V = ℕ} net t 0 (Got (turn_with t.table t.task t.cause None (0 ∷ t.held) (2 ∷ t.found)))
   no_third_unit takes = absurd (omega (arith, takes.1.1))
 
-  taken_unit_is_held : TakesUnit net t 0 (Got u) → (u.held ≡ 0 ∷ t.held) × (u.task ≡ t.task) × (u.refused ≡ None)
+  taken_unit_is_held : TakesUnit {V = ℕ} net t 0 (Got u) → (u.held ≡ 0 ∷ t.held) × (u.task ≡ t.task) × (u.refused ≡ None)
   taken_unit_is_held takes = (ap (λ (s : TurnState). s.held) takes.0, ap (λ (s : TurnState). s.task) takes.0, ap (λ (s : TurnState). s.refused) takes.0)
 
-  no_unit_from_the_maximum_on : TakesUnit net t 0 (NoUnit (turn_with t.table t.task t.cause None t.held (2 ∷ t.found)))
+  no_unit_from_the_maximum_on : TakesUnit {V = ℕ} net t 0 (NoUnit (turn_with t.table t.task t.cause None t.held (2 ∷ t.found)))
   no_unit_from_the_maximum_on = (refl, (refl, omega arith))
 
-  no_refusal_while_one_is_left : ¬ TakesUnit net t 0 (NoUnit (turn_with t.table t.task t.cause None t.held (1 ∷ t.found)))
+  no_refusal_while_one_is_left : ¬ TakesUnit {V = ℕ} net t 0 (NoUnit (turn_with t.table t.task t.cause None t.held (1 ∷ t.found)))
   no_refusal_while_one_is_left takes = absurd (omega (arith, takes.1.1))
 
-  refusal_takes_none : TakesUnit net t 0 (NoUnit u) → u.held ≡ t.held
+  refusal_takes_none : TakesUnit {V = ℕ} net t 0 (NoUnit u) → u.held ≡ t.held
   refusal_takes_none takes = ap (λ (s : TurnState). s.held) takes.0
 
-  other_semaphore_has_one : ¬ TakesUnit net t 1 (Got (turn_with t.table t.task t.cause None (1 ∷ t.held) (1 ∷ t.found)))
+  other_semaphore_has_one : ¬ TakesUnit {V = ℕ} net t 1 (Got (turn_with t.table t.task t.cause None (1 ∷ t.held) (1 ∷ t.found)))
   other_semaphore_has_one takes = absurd (omega (arith, takes.1.1))
 
-  found_some_number : ¬ TakesUnit net t 0 (Got (turn_with t.table t.task t.cause None (0 ∷ t.held) []))
+  found_some_number : ¬ TakesUnit {V = ℕ} net t 0 (Got (turn_with t.table t.task t.cause None (0 ∷ t.held) []))
   found_some_number takes = takes.1
 
-  no_refusal_without_a_step : t.found ≡ 5 ∷ [] → ¬ TakesUnit net t 0 (NoUnit (turn_with t.table t.task t.cause None t.held (5 ∷ [])))
+  no_refusal_without_a_step : t.found ≡ 5 ∷ [] → ¬ TakesUnit {V = ℕ} net t 0 (NoUnit (turn_with t.table t.task t.cause None t.held (5 ∷ [])))
   no_refusal_without_a_step before takes = absurd (omega (arith, ap length (takes.1.0 ∙ before)))
 
 -- CREDITS AND CLAIMS. The start of task 2 has a unit to credit, and that of task 3 one to claim.
@@ -205,7 +210,7 @@ has_all = record {
 lender_has_not : (held : List ℕ) → ¬ HasAllUnits net 2 held lender
 lender_has_not held units = credits_first units.credited
 
-module _ (r q : RunningState) where
+module _ (r q : RunningState ℕ) where
   granted_above_the_first : ClaimsUnit net 9 r 0 (Granted (running_state r.table r.task r.cause r.place r.ins (grant_one 0 r.units) (1099511627777 ∷ r.found)))
   granted_above_the_first = (refl, (refl, omega arith))
 
@@ -213,7 +218,7 @@ module _ (r q : RunningState) where
   none_granted_at_the_first claims = absurd (omega (arith, claims.1.1))
 
   granted_is_put_back : ClaimsUnit net 9 r 0 (Granted q) → q.units ≡ grant_one 0 r.units
-  granted_is_put_back claims = ap (λ (s : RunningState). s.units) claims.0
+  granted_is_put_back claims = ap (λ (s : RunningState ℕ). s.units) claims.0
 
   refused_is_not_put_back : ClaimsUnit net 9 r 0 (Refused q) → q ≡ with_units r (refuse_one 0 r.units) q
   refused_is_not_put_back claims = claims.0
@@ -240,91 +245,93 @@ unit_that_was_not_refused may = let no : None ≡ Some 0 = may in absurd (cc)
 another_unit_was_refused : ¬ MayTell (OverRelease 0) (Some 1)
 another_unit_was_refused may = let no : Some 1 ≡ Some 0 = may in absurd (cc)
 
--- a start that found the token of its one edge
-abbrev found : List Part
-found = First ∷ []
-
-abbrev failure : Failure
-failure = record { task = 3; cause = Strong; start = 4; ins = part_list found 1; place = 6; why = Inner }
-
 abbrev dropping : Dropping
 dropping = record { task = 3; cause = Strong; place = 6; why = Limit }
 
-abbrev ending : EndedStart
-ending = record { task = 3; cause = Strong; start = 4; ins = part_list found 1; place = 6; gives = []; inner = false }
+-- a start that found these inputs and faulted, and one that ended with the value 7
+abbrev failure : Ins ℕ → Failure ℕ
+failure ins = record { task = 3; cause = Strong; start = 4; ins = ins; place = 6; why = Inner }
 
-module _ (n : TableId) (u : StartUnits) where
-  its_start_faulted : FaultedAs (running_state n 3 Strong 4 found u []) Inner (Faulted failure)
+abbrev ending : Arc ℕ Global → Ins ℕ → EndedStart ℕ
+ending shared ins = record { task = 3; cause = Strong; start = 4; ins = ins; value = arc_with_value shared 7; place = 6; gives = []; inner = false }
+
+-- It found the token of its one edge; another found the value of an End.
+module _ (n : TableId) (u : StartUnits) (shared : Arc ℕ Global) (found other : Ins ℕ) (token : parts_of found ≡ given.First ∷ []) (a_value : parts_of other ≡ given.Value 2 shared ∷ []) where
+  its_start_faulted : FaultedAs (running_state n 3 Strong 4 found u []) Inner (Faulted (failure found))
   its_start_faulted = (refl, refl, refl, refl, refl)
 
-  another_task_faulted : ¬ FaultedAs (running_state n 2 Strong 4 found u []) Inner (Faulted failure)
+  another_task_faulted : ¬ FaultedAs (running_state n 2 Strong 4 found u []) Inner (Faulted (failure found))
   another_task_faulted faults = absurd (omega (arith, faults.0))
 
-  another_cause_faulted : ¬ FaultedAs (running_state n 3 Source 4 found u []) Inner (Faulted failure)
+  another_cause_faulted : ¬ FaultedAs (running_state n 3 Source 4 found u []) Inner (Faulted (failure found))
   another_cause_faulted faults = let no : Strong ≡ Source = faults.1 in absurd (cc)
 
-  another_start_faulted : ¬ FaultedAs (running_state n 3 Strong 5 found u []) Inner (Faulted failure)
+  another_start_faulted : ¬ FaultedAs (running_state n 3 Strong 5 found u []) Inner (Faulted (failure found))
   another_start_faulted faults = absurd (omega (arith, faults.2))
 
-  fault_with_another_input : ¬ FaultedAs (running_state n 3 Strong 4 (From 2 ∷ []) u []) Inner (Faulted failure)
-  fault_with_another_input faults = let no : First ∷ [] ≡ From 2 ∷ [] = faults.3 in absurd (cc)
+  fault_with_another_input : ¬ FaultedAs (running_state n 3 Strong 4 other u []) Inner (Faulted (failure found))
+  fault_with_another_input faults = let no : given.First ∷ [] ≡ given.Value 2 shared ∷ [] = sym token ∙ ap parts_of faults.3 ∙ a_value in absurd (cc)
 
-  fault_of_another_reason : ¬ FaultedAs (running_state n 3 Strong 4 found u []) (Long 9) (Faulted failure)
+  fault_of_another_reason : ¬ FaultedAs (running_state n 3 Strong 4 found u []) (Long 9) (Faulted (failure found))
   fault_of_another_reason faults = let no : Inner ≡ Long 9 = faults.4 in absurd (cc)
 
-  its_start_ended : EndedAs (running_state n 3 Strong 4 found u []) [] false ending
-  its_start_ended = (refl, refl, refl, refl, refl, refl)
+  its_start_ended : EndedAs (running_state n 3 Strong 4 found u []) [] 7 false (ending shared found)
+  its_start_ended = (refl, refl, refl, refl, refl, refl, refl)
 
-  another_task_ended : ¬ EndedAs (running_state n 2 Strong 4 found u []) [] false ending
+  another_task_ended : ¬ EndedAs (running_state n 2 Strong 4 found u []) [] 7 false (ending shared found)
   another_task_ended ends = absurd (omega (arith, ends.0))
 
-  another_cause_ended : ¬ EndedAs (running_state n 3 Source 4 found u []) [] false ending
+  another_cause_ended : ¬ EndedAs (running_state n 3 Source 4 found u []) [] 7 false (ending shared found)
   another_cause_ended ends = let no : Strong ≡ Source = ends.1 in absurd (cc)
 
-  another_start_ended : ¬ EndedAs (running_state n 3 Strong 5 found u []) [] false ending
+  another_start_ended : ¬ EndedAs (running_state n 3 Strong 5 found u []) [] 7 false (ending shared found)
   another_start_ended ends = absurd (omega (arith, ends.2))
 
-  end_with_another_input : ¬ EndedAs (running_state n 3 Strong 4 (From 2 ∷ []) u []) [] false ending
-  end_with_another_input ends = let no : First ∷ [] ≡ From 2 ∷ [] = ends.3 in absurd (cc)
+  end_with_another_input : ¬ EndedAs (running_state n 3 Strong 4 other u []) [] 7 false (ending shared found)
+  end_with_another_input ends = let no : given.First ∷ [] ≡ given.Value 2 shared ∷ [] = sym token ∙ ap parts_of ends.3 ∙ a_value in absurd (cc)
 
-  end_of_other_edges : ¬ EndedAs (running_state n 3 Strong 4 found u []) (0 ∷ []) false ending
-  end_of_other_edges ends = let no : [] ≡ 0 ∷ [] = ends.4 in absurd (cc)
+  end_with_another_value : ¬ EndedAs (running_state n 3 Strong 4 found u []) [] 8 false (ending shared found)
+  end_with_another_value ends = absurd (omega (arith, ends.4))
 
-  end_without_its_inner_run : ¬ EndedAs (running_state n 3 Strong 4 found u []) [] true ending
-  end_without_its_inner_run ends = let no : false ≡ true = ends.5 in absurd (cc)
+  end_of_other_edges : ¬ EndedAs (running_state n 3 Strong 4 found u []) (0 ∷ []) 7 false (ending shared found)
+  end_of_other_edges ends = let no : [] ≡ 0 ∷ [] = ends.5 in absurd (cc)
 
-  end_is_no_fault : ¬ FaultedAs (running_state n 3 Strong 4 found u []) Inner (Ended ending)
+  end_without_its_inner_run : ¬ EndedAs (running_state n 3 Strong 4 found u []) [] 7 true (ending shared found)
+  end_without_its_inner_run ends = let no : false ≡ true = ends.6 in absurd (cc)
+
+  end_is_no_fault : ¬ FaultedAs (running_state n 3 Strong 4 found u []) Inner (Ended (ending shared found))
   end_is_no_fault faults = faults
 
   drop_is_no_fault : ¬ FaultedAs (running_state n 3 Strong 4 found u []) Inner (Dropped dropping)
   drop_is_no_fault faults = faults
 
-  it_was_dropped : DroppedAs (turn_state n 3 Strong []) Limit (Dropped dropping)
+  it_was_dropped : DroppedAs {V = ℕ} (turn_state n 3 Strong []) Limit (Dropped dropping)
   it_was_dropped = (refl, refl, refl)
 
-  another_task_dropped : ¬ DroppedAs (turn_state n 2 Strong []) Limit (Dropped dropping)
+  another_task_dropped : ¬ DroppedAs {V = ℕ} (turn_state n 2 Strong []) Limit (Dropped dropping)
   another_task_dropped drops = absurd (omega (arith, drops.0))
 
-  another_cause_dropped : ¬ DroppedAs (turn_state n 3 Source []) Limit (Dropped dropping)
+  another_cause_dropped : ¬ DroppedAs {V = ℕ} (turn_state n 3 Source []) Limit (Dropped dropping)
   another_cause_dropped drops = let no : Strong ≡ Source = drops.1 in absurd (cc)
 
-  drop_for_another_reason : ¬ DroppedAs (turn_state n 3 Strong []) Halted (Dropped dropping)
+  drop_for_another_reason : ¬ DroppedAs {V = ℕ} (turn_state n 3 Strong []) Halted (Dropped dropping)
   drop_for_another_reason drops = let no : Limit ≡ Halted = drops.2 in absurd (cc)
 
-  end_is_no_drop : ¬ DroppedAs (turn_state n 3 Strong []) Limit (Ended ending)
+  end_is_no_drop : ¬ DroppedAs {V = ℕ} (turn_state n 3 Strong []) Limit (Ended (ending shared found))
   end_is_no_drop drops = drops
 
-  fault_is_no_drop : ¬ DroppedAs (turn_state n 3 Strong []) Limit (Faulted failure)
+  fault_is_no_drop : ¬ DroppedAs {V = ℕ} (turn_state n 3 Strong []) Limit (Faulted (failure found))
   fault_is_no_drop drops = drops
 
 -- WHAT A KEEPER TELLS
-start_and_fault : entries_of (Faulted failure) ≡ record { place = 4; entry = Start 3 Strong (First ∷ []) } ∷ record { place = 6; entry = Fault 4 Inner } ∷ []
-start_and_fault = refl
+module _ (shared : Arc ℕ Global) (found : Ins ℕ) (token : parts_of found ≡ given.First ∷ []) where
+  start_and_fault : entries_of (Faulted (failure found)) ≡ record { place = 4; entry = Start 3 Strong (First ∷ []) } ∷ record { place = 6; entry = Fault 4 Inner } ∷ []
+  start_and_fault = ap (λ parts. start_of 4 3 Strong (map given_part parts) ∷ record { place = 6; entry = Fault 4 Inner } ∷ []) token
 
-start_with_its_input : entries_of (Ended ending) ≡ record { place = 4; entry = Start 3 Strong (First ∷ []) } ∷ record { place = 6; entry = End 4 [] false } ∷ []
-start_with_its_input = refl
+  start_with_its_input : entries_of (Ended (ending shared found)) ≡ record { place = 4; entry = Start 3 Strong (First ∷ []) } ∷ record { place = 6; entry = End 4 [] false } ∷ []
+  start_with_its_input = ap (λ parts. start_of 4 3 Strong (map given_part parts) ∷ record { place = 6; entry = End 4 [] false } ∷ []) token
 
-drop_alone : entries_of (Dropped dropping) ≡ record { place = 6; entry = Drop 3 Strong Limit } ∷ []
+drop_alone : entries_of {V = ℕ} (Dropped dropping) ≡ record { place = 6; entry = Drop 3 Strong Limit } ∷ []
 drop_alone = refl
 
 last_by_its_answer : IsLast {E = ℕ} (Ok NoneLeft)
@@ -338,9 +345,6 @@ not_last_by_an_error last = last
 
 abbrev one_task : NetRows
 one_task = record { tasks = needs [] [] ∷ []; edges = []; sems = [] }
-
-abbrev ended : EndedStart
-ended = record { task = 0; cause = Source; start = 0; ins = part_list [] 0; place = 1; gives = []; inner = false }
 
 abbrev journal : List Entry
 journal = Start 0 Source [] ∷ End 0 [] false ∷ []
@@ -365,25 +369,30 @@ may_end = record {
   halt_limit_stuck = record { dropped = tt; after_stuck = λ other. refl };
 }
 
-each_place_once : Merges (entries_of (Ended ended)) journal
-each_place_once = record { stand = (refl, (refl, tt)); each = once }
-  where
-    once : (m : ℕ) → m < 2 → count_by (λ (r : Recorded). r.place == m) (entries_of (Ended ended)) ≡ 1
-    once zero below = refl
-    once (suc zero) below = refl
-    once (suc (suc m)) below = absurd (omega arith)
+-- the start of the one task found no input, and ended
+module _ (shared : Arc ℕ Global) (ins : Ins ℕ) (no_input : parts_of ins ≡ []) where
+  abbrev ended : EndedStart ℕ
+  ended = record { task = 0; cause = Source; start = 0; ins = ins; value = shared; place = 1; gives = []; inner = false }
 
-whole_run : TellsRun one_task 5 (entries_of (Ended ended))
-whole_run = record {
-  journal = journal;
-  merges = each_place_once;
-  legal = (may_start, (may_end, tt));
-  meets = (tt, (tt, tt));
-  complete = record { none_open = (refl, (refl, tt)); sources = (λ is. refl, tt); weak = tt; strong = (λ some. absurd (some refl), tt); limited = λ some. absurd (some refl) };
-}
+  each_place_once : Merges (entries_of (Ended ended)) journal
+  each_place_once = record { stand = (ap (λ parts. Some (Start 0 Source (map given_part parts))) (sym no_input), (refl, tt)); each = once }
+    where
+      once : (m : ℕ) → m < 2 → count_by (λ (r : Recorded). r.place == m) (entries_of (Ended ended)) ≡ 1
+      once zero below = refl
+      once (suc zero) below = refl
+      once (suc (suc m)) below = absurd (omega arith)
 
-run_of_some_net : TellsSomeRun (entries_of (Ended ended))
-run_of_some_net = record { net = one_task; limit = 5; tells = whole_run }
+  whole_run : TellsRun one_task 5 (entries_of (Ended ended))
+  whole_run = record {
+    journal = journal;
+    merges = each_place_once;
+    legal = (may_start, (may_end, tt));
+    meets = (tt, (tt, tt));
+    complete = record { none_open = (refl, (refl, tt)); sources = (λ is. refl, tt); weak = tt; strong = (λ some. absurd (some refl), tt); limited = λ some. absurd (some refl) };
+  }
+
+  run_of_some_net : TellsSomeRun (entries_of (Ended ended))
+  run_of_some_net = record { net = one_task; limit = 5; tells = whole_run }
 
 unused_release : (told : List Entry) → Merges [] told → ¬ Complete one_task 5 told
 unused_release [] merges complete = absurd (omega (arith, complete.sources.0 refl))
@@ -393,10 +402,10 @@ no_run_without_its_start : ¬ TellsRun one_task 5 []
 no_run_without_its_start tells = unused_release tells.journal tells.merges tells.complete
 
 -- no net has a finished run whose one entry stands at a later place
-no_run_with_a_gap : ¬ TellsSomeRun (entries_of (Dropped dropping))
+no_run_with_a_gap : ¬ TellsSomeRun (entries_of {V = ℕ} (Dropped dropping))
 no_run_with_a_gap some = gap some.tells.journal some.tells.merges
   where
-    gap : (told : List Entry) → ¬ Merges (entries_of (Dropped dropping)) told
+    gap : (told : List Entry) → ¬ Merges (entries_of {V = ℕ} (Dropped dropping)) told
     gap [] merges = let no : None ≡ Some (Drop 3 Strong Limit) = merges.stand.0 in absurd (cc)
     gap (entry ∷ more) merges = absurd (omega (arith, merges.each 0 (omega arith)))
 
@@ -404,8 +413,8 @@ no_run_with_a_gap some = gap some.tells.journal some.tells.merges
 no_run_with_an_input_of_no_edge : (told : List Entry) → told ≡ Start 0 Source (First ∷ []) ∷ [] → ¬ MeetsDataRule one_task told
 no_run_with_an_input_of_no_edge told is meets = let first : MeetsDataRule one_task (Start 0 Source (First ∷ []) ∷ []) = subst (λ j. MeetsDataRule one_task j) is meets in first.0
 
-keeper_without_entries : (n : TableId) (k : KeeperState) → k ≡ keeper_state n [] [] → (k.table ≡ n) × (k.entries ≡ []) × (k.found ≡ [])
-keeper_without_entries n k is = (ap (λ (s : KeeperState). s.table) is, ap (λ (s : KeeperState). s.entries) is, ap (λ (s : KeeperState). s.found) is)
+keeper_without_entries : (n : TableId) (k : KeeperState ℕ) → k ≡ keeper_state n [] [] [] [] → (k.table ≡ n) × (k.entries ≡ []) × (k.values ≡ []) × (k.inputs ≡ []) × (k.found ≡ [])
+keeper_without_entries n k is = (ap (λ (s : KeeperState ℕ). s.table) is, ap (λ (s : KeeperState ℕ). s.entries) is, ap (λ (s : KeeperState ℕ). s.values) is, ap (λ (s : KeeperState ℕ). s.inputs) is, ap (λ (s : KeeperState ℕ). s.found) is)
 
 -- HOW A TABLE BEGINS
 abbrev no_tasks : NetRows
@@ -415,7 +424,7 @@ all_one : {X : Type 0} (P : X → Type 0) (x : X) → P x → All P (x ∷ [])
 all_one P x here zero d below = here
 all_one P x here (suc k) d below = absurd (omega arith)
 
-module _ (o : Opening) where
+module _ (o : Opening ℕ) where
   of_its_net_and_limit : (t : TableState) → o.table ≡ t → OpensTable one_task 5 o → (t.net ≡ one_task) × (t.limit ≡ 5)
   of_its_net_and_limit t is opens = (sym (ap (λ (s : TableState). s.net) is) ∙ opens.net_is, sym (ap (λ (s : TableState). s.limit) is) ∙ opens.limit_is)
 
@@ -428,10 +437,10 @@ module _ (o : Opening) where
   no_opening_at_another_limit : o.table.limit ≡ 4 → ¬ OpensTable one_task 5 o
   no_opening_at_another_limit four opens = absurd (omega (arith, four, opens.limit_is))
 
-  keeper_has_nothing_at_first : OpensTable one_task 5 o → o.keeper ≡ keeper_state o.table.table [] []
+  keeper_has_nothing_at_first : OpensTable one_task 5 o → o.keeper ≡ keeper_state o.table.table [] [] [] []
   keeper_has_nothing_at_first opens = opens.keeper
 
-  opens_with_its_parts : o.table.net ≡ one_task → o.table.limit ≡ 5 → o.fresh.items ≡ fresh_state o.table.table 0 Source ∷ [] → o.keeper ≡ keeper_state o.table.table [] []
+  opens_with_its_parts : o.table.net ≡ one_task → o.table.limit ≡ 5 → o.fresh.items ≡ fresh_state o.table.table 0 Source ∷ [] → o.keeper ≡ keeper_state o.table.table [] [] [] []
       → OpensTable one_task 5 o
   opens_with_its_parts net_is limit_is fresh keeper = record {
     net_is = net_is;

@@ -13,7 +13,7 @@ use Rattle.table_steps.specs.declared.view.Note.{Note}
 use Rattle.table_steps.specs.declared.view.Note.TheVariants.{Duty, Has}
 use Rattle.table_steps.specs.declared.view.TurnDuty.{TurnDuty}
 use Rattle.table_steps.specs.declared.view.TurnDuty.TheVariants.{Fresh}
-use Rattle.table_steps.specs.inside.Opening.{bare, is_empty, source_duties, full_duties, first_part}
+use Rattle.table_steps.specs.inside.Opening.{count_without_token, is_empty, source_duties, full_duties, first_part}
 use Rattle.journal_rules.specs.SemaphoreRule.{max_of}
 use Rattle.table_steps.specs.inside.Accounts.{mark, busy, resting, weigh, marks_from, tokens_from}
 use Rattle.table_steps.specs.Credits.{first_credit}
@@ -26,7 +26,7 @@ is_full (e ∷ es) (suc n) = false
 
 -- the first releases of one task, and of the tasks before one
 abbrev pub task_duties : NetRows → ℕ → List TurnDuty
-task_duties net t = source_duties t (is_empty (in_edges net t)) ++ full_duties t (strong_in net t) (bare net (strong_in net t))
+task_duties net t = source_duties t (is_empty (in_edges net t)) ++ full_duties t (strong_in net t) (count_without_token net (strong_in net t))
 
 abbrev pub duties_before : NetRows → ℕ → List TurnDuty
 duties_before net zero = []
@@ -53,7 +53,7 @@ opening_word net live k =
     else if nat_lt k (marks_from net) then first_credit
     else if nat_lt k (tokens_from net) then 0
     else if nat_lt (k - tokens_from net) (length net.edges) then first_tokens net (k - tokens_from net)
-    else bare net (strong_in net (k - tokens_from net - length net.edges))
+    else count_without_token net (strong_in net (k - tokens_from net - length net.edges))
 
 -- the words at first
 pub record AreOpeningWords (net : NetRows) (live : ℕ) (words : List ℕ) : Type 0 where

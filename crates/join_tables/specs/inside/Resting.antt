@@ -15,7 +15,7 @@ use Rattle.journal_rules.specs.declared.entry.Part.{Part}
 use Rattle.table_steps.specs.inside.RestKinds.{bare_part}
 use Rattle.table_steps.specs.inside.Slots.{FindsFirst, first_parts, after_lots}
 
--- whether it is known to be alone, and then whether a Fault stands
+-- whether it is known to be alone, and then whether the journal has a Fault
 abbrev pub alone_in : List Note → Option Bool
 alone_in (Sems Full l ∷ Has Quiet ∷ rest) = Some false
 alone_in (Sems Full l ∷ Has Alone ∷ Has Halted ∷ rest) = Some true

@@ -11,8 +11,14 @@ use Rattle.table_steps.specs.declared.view.SemaphoreRole.TheVariants.{Held, Owed
 use Rattle.table_steps.specs.declared.view.Note.TheVariants.{Duty, Sems, Has, Unfit}
 use Rattle.join_tables.specs.declared.turns.EndedStart.{EndedStart}
 use Rattle.join_tables.specs.declared.fates.Fate.{Fate}
+use Rattle.join_tables.specs.declared.fates.Fate.TheVariants.{Ended, Faulted}
+use Rattle.join_words.specs.Ins.{parts_of}
+use Rattle.table_steps.specs.declared.view.EndValue.{EndValue}
+use Rattle.table_steps.specs.Values.{values_in}
+use Rattle.join_tables.specs.Values.{own_values}
 use Rattle.table_steps.specs.inside.Kinds.{IsTurn, sems_notes, own_units, credits_due, claims_due}
 use Rattle.task_graph.specs.NetRows.{NetRows}
+use Rattle.join_tables.specs.Parts.{parts_in}
 use Rattle.join_tables.specs.States.{StartUnits}
 use Rattle.table_steps.specs.inside.Accounts.{busy, weigh}
 use Rattle.table_steps.specs.inside.UnitKinds.{held_notes}
@@ -71,7 +77,7 @@ abbrev pub ticket_view : ℕ → Cause → List ℕ → List Part → List ℕ �
 ticket_view t cause taken parts held = Duty (Collecting t cause taken []) ∷ Duty Ticket ∷ Has Live ∷ held_notes held ++ found_lots taken parts
 
 -- the semaphores of a start, by their notes
-pub record Shares : Type 0 where
+pub record UnitShares : Type 0 where
   pub both : List ℕ
   pub credit : List ℕ
   pub credited : List ℕ
@@ -84,23 +90,23 @@ abbrev pub refused_notes : ℕ → ℕ → Option ℕ → List Note
 refused_notes place t None = []
 refused_notes place t (Some a) = Sems Denied (a ∷ []) ∷ Unfit a place t ∷ []
 
-abbrev pub running_view : ℕ → Cause → ℕ → List Part → Shares → List Note
+abbrev pub running_view : ℕ → Cause → ℕ → List Part → UnitShares → List Note
 running_view t cause place ins s = Duty (Open place t) ∷ Has Live ∷ sems_notes s.both s.credit s.credited s.claim s.granted ++ refused_notes place t s.refused ++ Duty (Told place (Start t cause ins)) ∷ []
 
 abbrev pub refused_of : List Note → Option ℕ
 refused_of (Sems Denied (a ∷ l) ∷ rest) = Some a
 refused_of _ = None
 
-abbrev pub shares_of : List Note → Shares
+abbrev pub shares_of : List Note → UnitShares
 shares_of (x ∷ y ∷ Sems Both b ∷ Sems Credit c ∷ Sems Credited d ∷ Sems Claim l ∷ Sems Granted g ∷ rest) = record { both = b; credit = c; credited = d; claim = l; granted = g; refused = refused_of rest }
 shares_of _ = record { both = []; credit = []; credited = []; claim = []; granted = []; refused = None }
 
 -- and as contracts see them
-abbrev pub units_in : Shares → StartUnits
+abbrev pub units_in : UnitShares → StartUnits
 units_in s = record { back = s.granted ++ s.both; to_credit = s.credit; credited = s.credited; to_claim = s.claim; refused = s.refused }
 
 -- at first
-abbrev pub first_shares : NetRows → ℕ → List ℕ → Shares
+abbrev pub first_shares : NetRows → ℕ → List ℕ → UnitShares
 first_shares net t held = record { both = own_units net t held; credit = credits_due net t held; credited = []; claim = claims_due net t; granted = []; refused = None }
 
 -- the semaphores of the units that an end has still to give back
@@ -108,11 +114,17 @@ abbrev pub units_of : List Note → List ℕ
 units_of (x ∷ y ∷ Sems Owed l ∷ rest) = l
 units_of _ = []
 
-abbrev pub owing_view : EndedStart → List ℕ → List ℕ → List Note
-owing_view ended left units = Duty (Owes left) ∷ Has Live ∷ Sems Owed units ∷ Duty (Told ended.place (End ended.start ended.gives ended.inner)) ∷ our_lots ended.place left ++ Duty (Told ended.start (Start ended.task ended.cause ended.ins.parts)) ∷ []
+abbrev pub owing_view : {V : Type 0} → EndedStart V → List ℕ → List ℕ → List Note
+owing_view ended left units = Duty (Owes left) ∷ Has Live ∷ Sems Owed units ∷ Duty (Told ended.place (End ended.start ended.gives ended.inner)) ∷ our_lots ended.place left ++ Duty (Told ended.start (Start ended.task ended.cause (parts_in ended.ins))) ∷ []
+
+-- the values that a turn knows that is done
+abbrev pub known_values : {V : Type 0} → Fate V → List (EndValue V)
+known_values (Ended ended) = own_values ended
+known_values (Faulted f) = values_in (parts_of f.ins)
+known_values _ = []
 
 -- one that is done owes nothing, and knows the entries of its fate
-abbrev pub IsSpent : Fate → List Note → Type 0
+abbrev pub IsSpent : {V : Type 0} → Fate V → List Note → Type 0
 IsSpent fate (Duty (Owes []) ∷ Has Live ∷ rest) = (tellings rest ≡ told_notes (entries_of fate)) × (weigh busy rest ≡ 0)
 IsSpent fate _ = ⊥
 

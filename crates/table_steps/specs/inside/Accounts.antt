@@ -243,12 +243,12 @@ pub record CreditPart (net : NetRows) (word : ℕ) (s : ℕ) (journal : List Ent
   pub claims : T (sem Both s) + T (sem Claim s) + T (sem Granted s) + T (sem Refusing s) + T (sem Denied s) + back net s journal ≡ starts_of (puts net s) journal
   pub takers : closed_takers net s journal + T (sem Credit s) + T (sem Credited s) ≡ starts_of (only_takes net s) journal
 
--- The halt mark stands only after a Fault, and where it doesn't, each Fault's turn has still to set it.
+-- The halt mark is set only after a Fault, and where it isn't, each Fault's turn has still to set it.
 abbrev pub HaltPart : ℕ → List Entry → (Coord → ℕ) → Type 0
 HaltPart zero journal T = faults journal ≡ T (mark ToMark)
 HaltPart (suc n) journal T = 1 ≤ faults journal
 
--- A Drop for want of a unit stands only where a rest knows it.
+-- The journal has a Drop for want of a unit only where a rest knows it.
 abbrev pub StuckPart : List Entry → (Coord → ℕ) → Type 0
 StuckPart journal T = count_by is_stuck journal ≢ 0 → 1 ≤ T (mark Sticking)
 
@@ -288,8 +288,8 @@ marks_from net = 40 + length net.sems + length net.sems
 abbrev pub tokens_from : NetRows → ℕ
 tokens_from net = 40 + length net.sems + length net.sems + length net.edges
 
-abbrev pub mark_at : NetRows → List ℕ → ℕ → ℕ
-mark_at net words e = slice_index words (marks_from net + e)
+abbrev pub slot_mark : NetRows → List ℕ → ℕ → ℕ
+slot_mark net words e = slice_index words (marks_from net + e)
 
 abbrev pub reading : NetRows → List ℕ → Readings
 reading net words = record {
@@ -325,7 +325,7 @@ pub record KeepsAccounts {S : Type 0} (part : S → Part) (net : NetRows) (limit
   pub few_drops : count_by is_drop journal ≤ 1152921504606846976
   pub views : (id : ℕ) (v : List Note) → get_elem? s.views id ≡ some v → ViewPart net journal (λ c. total c s.views) id v
   -- a slot is home where its mark is clear, and else one seat holds it
-  pub homes : Homes (length net.edges) (mark_at net s.words) s.homes (holders (λ c. slot_total c s.views))
+  pub homes : Homes (length net.edges) (slot_mark net s.words) s.homes (holders (λ c. slot_total c s.views))
   -- what lies in the slots, and what the seats have of it
   pub slots : SlotPart net journal ((reading net s.words).edge) (λ c. slot_total c s.views) (label_of part s.homes)
 

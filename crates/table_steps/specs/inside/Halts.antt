@@ -14,7 +14,7 @@ use Rattle.table_steps.specs.declared.view.Note.TheVariants.{Duty, Sems, Has, Un
 use Rattle.table_steps.specs.inside.Kinds.{Lone}
 use Rattle.table_steps.specs.inside.Slots.{FindsFirst, after_lots}
 
--- HALT LOAD, by a turn that asks for an admission. One that finds the mark knows that a Fault stands; one that doesn't
+-- HALT LOAD, by a turn that asks for an admission. One that finds the mark knows that the journal has a Fault; one that doesn't
 -- may draw an admission.
 abbrev pub MayAsk : List Note → Type 0
 MayAsk (Duty (Collecting t cause taken left) ∷ Has Live ∷ rest) = Lone rest
@@ -36,9 +36,9 @@ abbrev pub MayFault : NetRows → Why → List Note → Type 0
 MayFault net why (Duty (Open m t) ∷ Has Live ∷ Sems Both b ∷ Sems Credit c ∷ Sems Credited d ∷ rest) = KnowsWhy why m rest × (c ≡ []) × TakesAlone net t d × Lone rest
 MayFault net why _ = ⊥
 
-abbrev pub faulted : Why → ℕ → List Note → List Note
-faulted why n (Duty (Open m t) ∷ Has Live ∷ Sems Both b ∷ Sems Credit c ∷ Sems Credited d ∷ rest) = Duty (Owes []) ∷ Has Live ∷ Has ToMark ∷ Duty (Told n (Fault m why)) ∷ Sems Both b ∷ rest
-faulted why n notes = notes
+abbrev pub with_fault_drawn : Why → ℕ → List Note → List Note
+with_fault_drawn why n (Duty (Open m t) ∷ Has Live ∷ Sems Both b ∷ Sems Credit c ∷ Sems Credited d ∷ rest) = Duty (Owes []) ∷ Has Live ∷ Has ToMark ∷ Duty (Told n (Fault m why)) ∷ Sems Both b ∷ rest
+with_fault_drawn why n notes = notes
 
 -- HALT MARK set
 abbrev pub MayMark : List Note → Type 0

@@ -70,8 +70,8 @@ abbrev pub took : ℕ → List Note → List Note
 took found (Duty (Collecting t cause taken (f ∷ left)) ∷ rest) = wrap (after_take t cause taken found f left) ++ relot Fetched Found (λ p. p) f rest
 took found notes = notes
 
--- TOKEN GIVEN, to the next edge that an end owes, after its parcel. It releases the target of a weak edge. At a strong one the first
--- token is to be counted.
+-- TOKEN GIVEN, to the next edge that an end owes, after its parcel. It releases the target of a weak edge. At a strong
+-- one the first token is to be counted.
 abbrev pub OwesNext : NetRows → ℕ → List Note → Type 0
 OwesNext net f (Duty (Owes (g ∷ gives)) ∷ rest) = (g ≡ f) × (f < length net.edges) × IsTurn rest × (1 ≤ slot_weigh (lot Put f) rest)
 OwesNext net f _ = ⊥
@@ -110,18 +110,18 @@ others_of [] = []
 others_of (x ∷ xs) = xs
 
 -- a seat that has nothing to count
-abbrev pub settled : List Note → List Note
-settled (Duty (Counting g) ∷ rest) = rest
-settled notes = notes
+abbrev pub without_count : List Note → List Note
+without_count (Duty (Counting g) ∷ rest) = rest
+without_count notes = notes
 
 -- TURN ADDED, for a release that a seat has just made
 abbrev pub MayAdd : List Note → Type 0
 MayAdd (Duty (Fresh t cause) ∷ Has New ∷ rest) = IsTurn rest
 MayAdd _ = ⊥
 
-abbrev pub added : List Note → List Note
-added (Duty (Fresh t cause) ∷ Has New ∷ rest) = Duty (Fresh t cause) ∷ Has Live ∷ rest
-added notes = notes
+abbrev pub with_turn_added : List Note → List Note
+with_turn_added (Duty (Fresh t cause) ∷ Has New ∷ rest) = Duty (Fresh t cause) ∷ Has Live ∷ rest
+with_turn_added notes = notes
 
 -- SPLIT. A release with its live turn goes to a new seat.
 abbrev pub MayDeal : ℕ → List Note → Type 0
@@ -158,9 +158,9 @@ abbrev pub among : (ℕ → Bool) → List ℕ → List ℕ
 among test [] = []
 among test (s ∷ l) = add_if (test s) s (among test l)
 
-abbrev pub below : (ℕ → Bool) → ℕ → List ℕ
-below test zero = []
-below test (suc k) = add_if (test k) k (below test k)
+abbrev pub numbers_below : (ℕ → Bool) → ℕ → List ℕ
+numbers_below test zero = []
+numbers_below test (suc k) = add_if (test k) k (numbers_below test k)
 
 -- Of the units that a turn holds, its start gives those back at its end that the task puts, and credits the others. What
 -- the task puts besides is to be claimed.
@@ -171,7 +171,7 @@ abbrev pub credits_due : NetRows → ℕ → List ℕ → List ℕ
 credits_due net t l = among (λ s. not (puts net s t)) l
 
 abbrev pub claims_due : NetRows → ℕ → List ℕ
-claims_due net t = below (λ s. only_puts net s t) (length net.sems)
+claims_due net t = numbers_below (λ s. only_puts net s t) (length net.sems)
 
 -- START DRAWN, with the parts that were found, and what a start then knows of semaphores
 abbrev pub sems_notes : List ℕ → List ℕ → List ℕ → List ℕ → List ℕ → List Note
@@ -184,9 +184,9 @@ abbrev pub MayDrawStart : NetRows → List Note → Type 0
 MayDrawStart net (Duty (Collecting t cause taken []) ∷ Duty Ticket ∷ Has Live ∷ Sems Held l ∷ rest) = HoldsEachUnit net t l × FindsFirst taken rest × Lone rest
 MayDrawStart net _ = ⊥
 
-abbrev pub started : NetRows → ℕ → List Note → List Note
-started net n (Duty (Collecting t cause taken left) ∷ Duty Ticket ∷ Has Live ∷ Sems Held l ∷ rest) = started_notes net n t cause l (first_parts taken rest) ++ after_lots taken rest
-started net n notes = notes
+abbrev pub with_start_drawn : NetRows → ℕ → List Note → List Note
+with_start_drawn net n (Duty (Collecting t cause taken left) ∷ Duty Ticket ∷ Has Live ∷ Sems Held l ∷ rest) = started_notes net n t cause l (first_parts taken rest) ++ after_lots taken rest
+with_start_drawn net n notes = notes
 
 -- END DRAWN, of a start with nothing left to credit and to claim. It owes the units that its task puts, and a parcel to each
 -- edge that it gives.
@@ -194,13 +194,13 @@ abbrev pub MayEnd : NetRows → List ℕ → Bool → List Note → Type 0
 MayEnd net gives inner (Duty (Open m t) ∷ Has Live ∷ Sems Both b ∷ Sems Credit c ∷ Sems Credited d ∷ Sems Claim l ∷ Sems Granted g ∷ rest) = MayEndGiving net t gives inner × (c ≡ []) × TakesAlone net t d × (l ≡ []) × PutsEach net t (g ++ b) × Lone rest
 MayEnd net gives inner _ = ⊥
 
-abbrev pub ended : List ℕ → Bool → ℕ → List Note → List Note
-ended gives inner n (Duty (Open m t) ∷ Has Live ∷ Sems Both b ∷ Sems Credit c ∷ Sems Credited d ∷ Sems Claim l ∷ Sems Granted g ∷ rest) = Duty (Owes gives) ∷ Has Live ∷ Sems Owed (g ++ b) ∷ Duty (Told n (End m gives inner)) ∷ our_lots n gives ++ rest
-ended gives inner n notes = notes
+abbrev pub with_end_drawn : List ℕ → Bool → ℕ → List Note → List Note
+with_end_drawn gives inner n (Duty (Open m t) ∷ Has Live ∷ Sems Both b ∷ Sems Credit c ∷ Sems Credited d ∷ Sems Claim l ∷ Sems Granted g ∷ rest) = Duty (Owes gives) ∷ Has Live ∷ Sems Owed (g ++ b) ∷ Duty (Told n (End m gives inner)) ∷ our_lots n gives ++ rest
+with_end_drawn gives inner n notes = notes
 
 -- JOIN. The keeper's seat takes in the notes of a turn.
-abbrev pub joined : List Note → List Note → List Note
-joined v w = w ++ v
+abbrev pub views_joined : List Note → List Note → List Note
+views_joined v w = w ++ v
 
 -- TURN TAKEN OFF, once it owes nothing
 abbrev pub MayLeave : List Note → Type 0
@@ -211,7 +211,7 @@ abbrev pub left_by : List Note → List Note
 left_by (Duty (Owes []) ∷ Has Live ∷ rest) = rest
 left_by notes = notes
 
--- The notes tell a whole run: each entry once, and nothing else.
+-- The notes have the entries of a whole run, each once.
 pub record IsWhole (net : NetRows) (limit : ℕ) (notes : List Note) : Type 0 where
   pub journal : List Entry
   pub legal : ShapeLegal net limit journal

@@ -11,9 +11,9 @@ use Rattle.table_steps.specs.declared.view.TurnDuty.TheVariants.{Fresh}
 use Rattle.table_steps.specs.inside.Duties.{nil}
 
 -- how many strong in-edges of a task begin without a token
-abbrev pub bare : NetRows → List ℕ → ℕ
-bare net [] = 0
-bare net (e ∷ es) = nil (first_tokens net e) + bare net es
+abbrev pub count_without_token : NetRows → List ℕ → ℕ
+count_without_token net [] = 0
+count_without_token net (e ∷ es) = nil (first_tokens net e) + count_without_token net es
 
 abbrev pub is_empty : List ℕ → Bool
 is_empty [] = true
@@ -32,7 +32,7 @@ full_duties t (e ∷ es) (suc n) = []
 -- the first releases of the tasks from t on, so many
 abbrev pub first_duties : NetRows → ℕ → ℕ → List TurnDuty
 first_duties net t zero = []
-first_duties net t (suc n) = source_duties t (is_empty (in_edges net t)) ++ full_duties t (strong_in net t) (bare net (strong_in net t)) ++ first_duties net (suc t) n
+first_duties net t (suc n) = source_duties t (is_empty (in_edges net t)) ++ full_duties t (strong_in net t) (count_without_token net (strong_in net t)) ++ first_duties net (suc t) n
 
 -- the part that lies in an edge's slot at first
 abbrev pub part_of_tokens : ℕ → Part

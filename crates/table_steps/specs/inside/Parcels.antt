@@ -17,13 +17,13 @@ same_part First First = true
 same_part Nothing Nothing = true
 same_part _ _ = false
 
--- how often a part stands at an edge
+-- how often a part is at an edge
 abbrev pub parts_count : ℕ → Part → List ℕ → List Part → ℕ
 parts_count e p (g ∷ es) (q ∷ ps) = one_if ((g == e) && same_part q p) + parts_count e p es ps
 parts_count e p _ _ = 0
 
 -- P e p is how many parcels p of edge e the seats have; K e the tokens of e that they owe or hold; F e how many
--- of them have a parcel of e whose token stands in the word; R e how many have put theirs and owe the token still;
+-- of them have a parcel of e whose token is still in the word; R e how many have put theirs and owe the token still;
 -- label e is the parcel in the slot of e, and Nothing where it is empty or not home.
 pub record DataPart (net : NetRows) (journal : List Entry) (edge : ℕ → ℕ) (P : ℕ → Part → ℕ) (F R : ℕ → ℕ) (label : ℕ → Part) : Type 0 where
   pub meets : MeetsDataRule net journal

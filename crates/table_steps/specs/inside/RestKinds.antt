@@ -1,5 +1,5 @@
--- What the steps of a rest ask of its seat's notes, and what they leave. What is known of the rest comes first, then its turns,
--- the last first, and then the Drops that it drew.
+-- What the steps of a rest ask of its seat's notes, and what they leave. What is known of the rest comes first, then its
+-- turns, the last first, and then the Drops that it drew.
 use Rattle.std.specs.Prelude.{◌≡◌, ◌≢◌, ◌==◌, ℕ, zero, suc, ◌<◌, ◌≤◌, Bool, true, false, nat_lt, List, [], ◌∷◌, ◌++◌, length, IsTrue}
 use Rattle.task_graph.specs.NetRows.{NetRows}
 use Rattle.journal_rules.specs.declared.entry.DropWhy.{DropWhy}
@@ -73,7 +73,7 @@ alone_notes false = []
 abbrev pub live_found : ℕ → List Note → List Note
 live_found n v = alone_notes (n == weigh (mark Live) v) ++ v
 
--- HALT LOAD, by a rest that is alone. One that finds no mark knows that no Fault stands.
+-- HALT LOAD, by a rest that is alone. One that finds no mark knows that the journal has no Fault.
 abbrev pub MayLook : List Note → Type 0
 MayLook (Has Alone ∷ rest) = Lone rest × (1 ≤ weigh (mark Live) rest) × (weigh (mark ToMark) rest ≡ 0)
 MayLook _ = ⊥
@@ -97,11 +97,12 @@ abbrev pub full_with : Bool → ℕ → List ℕ → List ℕ
 full_with true a l = l
 full_with false a l = a ∷ l
 
-abbrev pub asked : NetRows → ℕ → ℕ → List Note → List Note
-asked net a n (Sems Full l ∷ rest) = Sems Full (full_with (nat_lt n (max_of net a)) a l) ∷ rest
-asked net a n notes = notes
+abbrev pub with_unit_asked : NetRows → ℕ → ℕ → List Note → List Note
+with_unit_asked net a n (Sems Full l ∷ rest) = Sems Full (full_with (nat_lt n (max_of net a)) a l) ∷ rest
+with_unit_asked net a n notes = notes
 
--- DROP DRAWN, of the last turn of a rest that is alone: for want of a unit where no Fault stands, or after a Fault
+-- DROP DRAWN, of the last turn of a rest that is alone: for want of a unit where the journal has no Fault, or
+-- after one
 abbrev pub MayDropLast : NetRows → DropWhy → List Note → Type 0
 MayDropLast net (Stuck a) (Sems Full l ∷ Has Quiet ∷ Duty (Collecting t cause taken []) ∷ Has Live ∷ Sems Held [] ∷ rest) = IsTrue (takes net a t) × (1 ≤ times a l) × (weigh (duty running) rest ≡ 0) × FindsFirst taken rest
 MayDropLast net AfterFault (Sems Full l ∷ Has Alone ∷ Has Halted ∷ Duty (Collecting t cause taken []) ∷ Has Live ∷ Sems Held [] ∷ rest) = (weigh (mark Sticking) rest ≡ 0) × FindsFirst taken rest

@@ -62,9 +62,9 @@ pub record TookSlot {S : Type 0} (part : S → Part) (f n : ℕ) (before after :
   pub takes : TakesPart part part_is n after.1
 
 -- the slot that a seat took last is that of this edge, and this part lies there
-abbrev pub HoldsPart : {S : Type 0} → (S → Part) → ℕ → Part → List (ℕ × S) → Type 0
-HoldsPart part f q ((k, y) ∷ rest) = (k ≡ f) × (part y ≡ q)
-HoldsPart part f q [] = ⊥
+abbrev pub HasLaid : {S : Type 0} → (S → Part) → ℕ → Part → List (ℕ × S) → Type 0
+HasLaid part f q ((k, y) ∷ rest) = (k ≡ f) × (part y ≡ q)
+HasLaid part f q [] = ⊥
 
 -- the seat holds the slot
 abbrev pub HoldsSlot : {S : Type 0} → ℕ → List (ℕ × S) → Type 0
@@ -76,7 +76,7 @@ pub record MayPutBack {S : Type 0} (part : S → Part) (f : ℕ) (me : Me S (Lis
   pub putting : 1 ≤ slot_weigh (lot Putting f) me.0
   pub from : FromEnd (lot_part Putting f me.0)
   pub turn : IsTurn me.0
-  pub laid : HoldsPart part f (lot_part Putting f me.0) me.1
+  pub laid : HasLaid part f (lot_part Putting f me.0) me.1
 
 abbrev pub put_laid : ℕ → List Note → List Note
 put_laid f v = relot Putting Put (λ p. p) f v
@@ -84,7 +84,7 @@ put_laid f v = relot Putting Put (λ p. p) f v
 pub record MayTakeBack {S : Type 0} (part : S → Part) (f : ℕ) (me : Me S (List Note)) : Type 0 where
   pub taking : 1 ≤ slot_weigh (lot Taking f) me.0
   pub turn : IsTurn me.0
-  pub laid : HoldsPart part f Nothing me.1
+  pub laid : HasLaid part f Nothing me.1
 
 abbrev pub take_laid : ℕ → List Note → List Note
 take_laid f v = relot Taking Fetched (λ p. p) f v

@@ -66,7 +66,7 @@ slot_total c (v ∷ vs) = slot_weigh c v + slot_total c vs
 abbrev pub SlotMoves : (SlotCoord → ℕ) → List Note → (SlotCoord → ℕ) → List Note → Type 0
 SlotMoves T old T' new = (c : SlotCoord) → T' c + slot_weigh c old ≡ T c + slot_weigh c new
 
--- of an edge: parcels that were taken while their token stands in the word, and turns that hold its slot
+-- of an edge: parcels that were taken while their token is still in the word, and turns that hold its slot
 abbrev pub fetched_at : (SlotCoord → ℕ) → ℕ → ℕ
 fetched_at T e = T (lot Taking e) + T (lot Fetched e)
 
@@ -106,12 +106,6 @@ slots_of (Collecting t cause taken left) = Duty (Collecting t cause taken left) 
 slots_of (Owes gives) = Duty (Owes gives) ∷ []
 slots_of _ = []
 
--- and its lots alone
-abbrev pub lies_in : List Note → List Note
-lies_in [] = []
-lies_in (Lies k e p ∷ rest) = Lies k e p ∷ lies_in rest
-lies_in (note ∷ rest) = lies_in rest
-
 abbrev pub slots_in : List Note → List Note
 slots_in [] = []
 slots_in (Duty x ∷ rest) = slots_of x ++ slots_in rest
@@ -122,7 +116,7 @@ slots_in (note ∷ rest) = slots_in rest
 abbrev pub HoldsAlike : List Note → List Note → Type 0
 HoldsAlike old new = (e : ℕ) → (slot_weigh (lot Putting e) new ≡ slot_weigh (lot Putting e) old) × (slot_weigh (lot Taking e) new ≡ slot_weigh (lot Taking e) old)
 
--- the part that a note tells
+-- the part that a note names
 abbrev pub part_in : Note → Part
 part_in (Lies k e p) = p
 part_in _ = Nothing

@@ -1,4 +1,6 @@
 use Rattle.std.proofs.Common.{◌≡◌, Some, [], refl, sym, ap, ◌∙◌, subst}
+use Rattle.table_steps.proofs.Values.{knows_none}
+use Rattle.join_tables.specs.Parts.{parts_in}
 use Rattle.join_tables.specs.States.{TurnState}
 use Rattle.join_tables.specs.declared.fates.Dropping.{Dropping}
 use Rattle.join_tables.specs.declared.fates.Fate.TheVariants.{Dropped}
@@ -8,19 +10,19 @@ use Rattle.join_tables.proofs.Lones.{drops_turn}
 use Rattle.join_tables.proofs.turns.NetTable.drop_turn.Goals as goal
 
 pub draw_drop-place-requires-clause-ready : goal.draw_drop-place-requires-clause-ready
-draw_drop-place-requires-clause-ready c =
-    let v = c.turn.inside.seat.me.0 in let t = c.turn.inside.task in let cause = c.turn.inside.cause in let parts = c.turn.inside.ins.parts in
+draw_drop-place-requires-clause-ready g c =
+    let v = c.turn.inside.seat.me.0 in let t = c.turn.inside.task in let cause = c.turn.inside.cause in let parts = parts_in c.turn.inside.ins in
     let why : refusal_of v ≡ Some c.args.why = ap (λ (t : TurnState). t.refused) c.turn.view_is ∙ c.requires.refused in
     let empty : held_of v ≡ [] = ap (λ (t : TurnState). t.held) c.turn.view_is ∙ c.requires.no_unit in
     let is : v ≡ turn_view t cause (taken_in v) parts (Some c.args.why) [] = ap (λ m. m.0) c.turn.invariant.0 ∙ (λ i. turn_view t cause (taken_in v) parts (why i) (empty i)) in
-    (drops_turn t cause (taken_in v) parts c.args.why v c.turn.invariant.1 is (refuses t cause (taken_in v) parts (Some c.args.why) [] (ap refusal_of (sym is) ∙ why))).may
+    (drops_turn g.row.V.Denot t cause (taken_in v) parts c.args.why v c.turn.invariant.1 is (refuses t cause (taken_in v) parts (Some c.args.why) [] (ap refusal_of (sym is) ∙ why))).may
 
 pub invariant_of-result : goal.invariant_of-result
-invariant_of-result c =
-    let v = c.turn.inside.seat.me.0 in let t = c.turn.inside.task in let cause = c.turn.inside.cause in let parts = c.turn.inside.ins.parts in
+invariant_of-result g c =
+    let v = c.turn.inside.seat.me.0 in let t = c.turn.inside.task in let cause = c.turn.inside.cause in let parts = parts_in c.turn.inside.ins in
     let why : refusal_of v ≡ Some c.args.why = ap (λ (t : TurnState). t.refused) c.turn.view_is ∙ c.requires.refused in
     let empty : held_of v ≡ [] = ap (λ (t : TurnState). t.held) c.turn.view_is ∙ c.requires.no_unit in
     let is : v ≡ turn_view t cause (taken_in v) parts (Some c.args.why) [] = ap (λ m. m.0) c.turn.invariant.0 ∙ (λ i. turn_view t cause (taken_in v) parts (why i) (empty i)) in
-    let drops = drops_turn t cause (taken_in v) parts c.args.why v c.turn.invariant.1 is (refuses t cause (taken_in v) parts (Some c.args.why) [] (ap refusal_of (sym is) ∙ why)) in
+    let drops = drops_turn g.row.V.Denot t cause (taken_in v) parts c.args.why v c.turn.invariant.1 is (refuses t cause (taken_in v) parts (Some c.args.why) [] (ap refusal_of (sym is) ∙ why)) in
     let d : Dropping = record { task = t; cause = cause; place = c.draw_drop-place.result; why = c.args.why } in
-    (subst (λ u. IsSpent (Dropped d) u) (sym c.draw_drop-place.ensures.view.0) (drops.spent d refl refl refl), c.draw_drop-place.ensures.view.1 ∙ ap (λ m. m.1) c.turn.invariant.0)
+    (subst (λ u. IsSpent {V = g.row.V.Denot} (Dropped d) u) (sym c.draw_drop-place.ensures.view.0) (drops.spent d refl refl refl), c.draw_drop-place.ensures.view.1 ∙ ap (λ m. m.1) c.turn.invariant.0, knows_none _)

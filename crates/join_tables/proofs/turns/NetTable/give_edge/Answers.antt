@@ -8,32 +8,32 @@ use Rattle.join_tables.proofs.Turning.{may_deliver}
 use Rattle.join_tables.proofs.turns.NetTable.give_edge.Goals as goal
 
 pub deliver-requires-clause-ready : goal.deliver-requires-clause-ready
-deliver-requires-clause-ready c =
+deliver-requires-clause-ready g c =
     let m = may_deliver (arc_value c.self.inside.words.net) c.args.edge c.args.place c.args.seat.now.me.0 c.requires.ready c.learn.ensures.fits in
     subst (λ v. MayTryPut c.args.edge v) (sym c.learn.ensures.view.0) m.may
 
 pub deliver-requires-clause-free : goal.deliver-requires-clause-free
-deliver-requires-clause-free c =
+deliver-requires-clause-free g c =
     let m = may_deliver (arc_value c.self.inside.words.net) c.args.edge c.args.place c.args.seat.now.me.0 c.requires.ready c.learn.ensures.fits in
     ap (slot_weigh (lot Putting c.args.edge)) c.learn.ensures.view.0 ∙ m.free
 
 pub deliver-requires-clause-in_range : goal.deliver-requires-clause-in_range
-deliver-requires-clause-in_range c =
+deliver-requires-clause-in_range g c =
     let m = may_deliver (arc_value c.self.inside.words.net) c.args.edge c.args.place c.args.seat.now.me.0 c.requires.ready c.learn.ensures.fits in m.below
 
 pub deliver-requires-clause-parcel : goal.deliver-requires-clause-parcel
-deliver-requires-clause-parcel c =
+deliver-requires-clause-parcel g c =
     let m = may_deliver (arc_value c.self.inside.words.net) c.args.edge c.args.place c.args.seat.now.me.0 c.requires.ready c.learn.ensures.fits in
     sym (ap (lot_part Ours c.args.edge) c.learn.ensures.view.0 ∙ m.part)
 
 pub give_token-requires-clause-ready : goal.give_token-requires-clause-ready
-give_token-requires-clause-ready c =
+give_token-requires-clause-ready g c =
     let m = may_deliver (arc_value c.self.inside.words.net) c.args.edge c.args.place c.args.seat.now.me.0 c.requires.ready c.learn.ensures.fits in
     let view : c.deliver.new.seat.me.0 ≡ relot Ours Put (λ p. p) c.args.edge c.args.seat.now.me.0 = ap (λ m. m.0) c.deliver.ensures.view ∙ ap (relot Ours Put (λ p. p) c.args.edge) c.learn.ensures.view.0 in
     subst (λ v. OwesToken c.args.edge v) (sym view) m.token
 
 pub returns-clause-view : goal.returns-clause-view
-returns-clause-view c =
+returns-clause-view g c =
     let m = may_deliver (arc_value c.self.inside.words.net) c.args.edge c.args.place c.args.seat.now.me.0 c.requires.ready c.learn.ensures.fits in
     let view : c.deliver.new.seat.me.0 ≡ relot Ours Put (λ p. p) c.args.edge c.args.seat.now.me.0 = ap (λ m. m.0) c.deliver.ensures.view ∙ ap (relot Ours Put (λ p. p) c.args.edge) c.learn.ensures.view.0 in
     c.give_token.ensures.view ∙ (λ i. ((ap paid_token view ∙ m.pays) i, []))

@@ -1,48 +1,67 @@
-use Rattle.std.proofs.Common.{rules, ◌≡◌, subst, sym, ap, ◌∙◌}
+use Rattle.std.proofs.Common.{rules, ◌≡◌, length, subst, sym, ap, ◌∙◌}
+use Rattle.std.proofs.lemmas.List.{append-nil}
 use Rattle.std.specs.Arc.{arc_value}
 use Rattle.task_graph.specs.NetRows.{NetRows}
 use Rattle.task_graph.specs.Net.{IsNet}
+use Rattle.journal_rules.specs.DataRule.{edges_of}
+use Rattle.table_steps.specs.inside.Accounts.{AllFitNotes}
+use Rattle.table_steps.specs.inside.Kinds.{IsTurn, MayDrawStart, with_start_drawn}
 use Rattle.table_steps.specs.Holding.{HoldsEachUnit, PutsAll}
+use Rattle.table_steps.proofs.Values.{knows_again}
+use Rattle.join_tables.specs.Parts.{parts_in}
 use Rattle.join_tables.specs.States.{AdmittedState}
 use Rattle.join_tables.specs.Claims.{BeginsUnits, HasAllUnits}
-use Rattle.join_tables.specs.inside.Seated.{Shares, held_of, shares_of, units_in}
+use Rattle.join_tables.specs.inside.Seated.{UnitShares, taken_in, held_of, shares_of, units_in}
+use Rattle.join_tables.proofs.Lones.{ticket_turn}
 use Rattle.join_tables.proofs.RunViews.{start_reads, may_start, begins_units, has_all_units}
 use Rattle.join_tables.proofs.turns.NetTable.start.Goals as goal
 
 pub returns-clause-units : goal.returns-clause-units
-returns-clause-units c =
+returns-clause-units g c =
     let v = c.ticket.inside.seat.me.0 in let u = c.draw_start-place.new.seat.me.0 in let net = arc_value c.self.inside.words.net in
     let rows : IsNet net = c.draw_start-place.ensures.net in
     let net_is : net ≡ c.args.self.now.net = search rules in
     let holds : HoldsEachUnit net c.ticket.inside.task (held_of v) =
     subst (λ (n : NetRows). HoldsEachUnit n c.ticket.inside.task (held_of v)) (sym net_is) (subst (λ (a : AdmittedState). HoldsEachUnit c.args.self.now.net a.task a.held) (sym c.ticket.view_is) c.requires.units) in
-    let r = start_reads net c.ticket.inside.task c.ticket.inside.cause c.ticket.inside.ins.parts c.draw_start-place.result v u (ap (λ m. m.0) c.ticket.invariant.0) c.ticket.invariant.1 c.draw_start-place.ensures.view.0 in
+    let r = start_reads net c.ticket.inside.task c.ticket.inside.cause (parts_in c.ticket.inside.ins) c.draw_start-place.result v u (ap (λ m. m.0) c.ticket.invariant.0) c.ticket.invariant.1 (c.draw_start-place.ensures.view.0 ∙ ap (with_start_drawn net c.draw_start-place.result) c.learn.ensures.view.0) in
     subst (λ (n : NetRows). BeginsUnits n c.args.ticket.task (units_in (shares_of u))) net_is
     (subst (λ (a : AdmittedState). BeginsUnits net a.task (units_in (shares_of u))) c.ticket.view_is
-    (subst (λ (s : Shares). BeginsUnits net c.ticket.inside.task (units_in s)) (sym r.shares) (begins_units net c.ticket.inside.task (held_of v) rows holds)))
+    (subst (λ (s : UnitShares). BeginsUnits net c.ticket.inside.task (units_in s)) (sym r.shares) (begins_units net c.ticket.inside.task (held_of v) rows holds)))
 
 pub returns-clause-same : goal.returns-clause-same
-returns-clause-same c same =
+returns-clause-same g c same =
     let v = c.ticket.inside.seat.me.0 in let u = c.draw_start-place.new.seat.me.0 in let net = arc_value c.self.inside.words.net in
     let net_is : net ≡ c.args.self.now.net = search rules in
     let holds : HoldsEachUnit net c.ticket.inside.task (held_of v) =
     subst (λ (n : NetRows). HoldsEachUnit n c.ticket.inside.task (held_of v)) (sym net_is) (subst (λ (a : AdmittedState). HoldsEachUnit c.args.self.now.net a.task a.held) (sym c.ticket.view_is) c.requires.units) in
     let puts : PutsAll net c.ticket.inside.task = subst (λ (n : NetRows). PutsAll n c.ticket.inside.task) (sym net_is) (subst (λ (a : AdmittedState). PutsAll c.args.self.now.net a.task) (sym c.ticket.view_is) same) in
-    let r = start_reads net c.ticket.inside.task c.ticket.inside.cause c.ticket.inside.ins.parts c.draw_start-place.result v u (ap (λ m. m.0) c.ticket.invariant.0) c.ticket.invariant.1 c.draw_start-place.ensures.view.0 in
+    let r = start_reads net c.ticket.inside.task c.ticket.inside.cause (parts_in c.ticket.inside.ins) c.draw_start-place.result v u (ap (λ m. m.0) c.ticket.invariant.0) c.ticket.invariant.1 (c.draw_start-place.ensures.view.0 ∙ ap (with_start_drawn net c.draw_start-place.result) c.learn.ensures.view.0) in
     subst (λ (n : NetRows). HasAllUnits n c.args.ticket.task c.args.ticket.held (units_in (shares_of u))) net_is
     (subst (λ (a : AdmittedState). HasAllUnits net a.task a.held (units_in (shares_of u))) c.ticket.view_is
-    (subst (λ (s : Shares). HasAllUnits net c.ticket.inside.task (held_of v) (units_in s)) (sym r.shares) (has_all_units net c.ticket.inside.task (held_of v) holds puts)))
+    (subst (λ (s : UnitShares). HasAllUnits net c.ticket.inside.task (held_of v) (units_in s)) (sym r.shares) (has_all_units net c.ticket.inside.task (held_of v) holds puts)))
 
 pub draw_start-place-requires-clause-ready : goal.draw_start-place-requires-clause-ready
-draw_start-place-requires-clause-ready c =
+draw_start-place-requires-clause-ready g c =
     let v = c.ticket.inside.seat.me.0 in let net = arc_value c.self.inside.words.net in
     let net_is : net ≡ c.args.self.now.net = search rules in
     let holds : HoldsEachUnit net c.ticket.inside.task (held_of v) =
     subst (λ (n : NetRows). HoldsEachUnit n c.ticket.inside.task (held_of v)) (sym net_is) (subst (λ (a : AdmittedState). HoldsEachUnit c.args.self.now.net a.task a.held) (sym c.ticket.view_is) c.requires.units) in
-    may_start net c.ticket.inside.task c.ticket.inside.cause c.ticket.inside.ins.parts v (ap (λ m. m.0) c.ticket.invariant.0) c.ticket.invariant.1 holds
+    subst (λ w. MayDrawStart net w) (sym c.learn.ensures.view.0) (may_start net c.ticket.inside.task c.ticket.inside.cause (parts_in c.ticket.inside.ins) v (ap (λ m. m.0) c.ticket.invariant.0) c.ticket.invariant.1 holds)
 
 pub invariant_of-result : goal.invariant_of-result
-invariant_of-result c =
+invariant_of-result g c =
     let v = c.ticket.inside.seat.me.0 in let u = c.draw_start-place.new.seat.me.0 in let net = arc_value c.self.inside.words.net in
-    let r = start_reads net c.ticket.inside.task c.ticket.inside.cause c.ticket.inside.ins.parts c.draw_start-place.result v u (ap (λ m. m.0) c.ticket.invariant.0) c.ticket.invariant.1 c.draw_start-place.ensures.view.0 in
-    λ i. (r.is i, (c.draw_start-place.ensures.view.1 ∙ ap (λ m. m.1) c.ticket.invariant.0) i)
+    let r = start_reads net c.ticket.inside.task c.ticket.inside.cause (parts_in c.ticket.inside.ins) c.draw_start-place.result v u (ap (λ m. m.0) c.ticket.invariant.0) c.ticket.invariant.1 (c.draw_start-place.ensures.view.0 ∙ ap (with_start_drawn net c.draw_start-place.result) c.learn.ensures.view.0) in
+    ((λ i. (r.is i, (c.draw_start-place.ensures.view.1 ∙ c.learn.ensures.view.1 ∙ ap (λ m. m.1) c.ticket.invariant.0) i)), knows_again _ _ _ c.draw_start-place.ensures.known (knows_again _ _ _ c.learn.ensures.known c.ticket.invariant.2))
+
+pub learn-requires-clause-ready : goal.learn-requires-clause-ready
+learn-requires-clause-ready g c =
+    let v = c.ticket.inside.seat.me.0 in
+    subst IsTurn (sym (ap (λ m. m.0) c.ticket.invariant.0)) (ticket_turn c.ticket.inside.task c.ticket.inside.cause (taken_in v) (parts_in c.ticket.inside.ins) (held_of v))
+
+pub returns-clause-parts : goal.returns-clause-parts
+returns-clause-parts g c =
+    let v = c.ticket.inside.seat.me.0 in let net = arc_value c.self.inside.words.net in
+    let net_is : net ≡ c.args.self.now.net = search rules in
+    let fits = subst (λ w. AllFitNotes net w) (ap (λ m. m.0) c.ticket.invariant.0) c.learn.ensures.fits in
+    c.ticket.invariant.1 ∙ ap length (sym (append-nil (taken_in v)) ∙ fits.0.1) ∙ (λ i. length (edges_of (net_is i) (c.ticket.view_is i).task (c.ticket.view_is i).cause))

@@ -6,6 +6,9 @@ use Rattle.atomic_table.specs.Table.{Allows}
 use Rattle.table_steps.specs.inside.Accounts.{KeepsAccounts, tokens_from}
 use Rattle.table_steps.specs.inside.Kinds.{counted_one, CountsNext, AreNoneLeft, others_of}
 use Rattle.table_steps.proofs.TokenSteps.{count_allowed}
+use Rattle.table_steps.specs.Values.{given_part}
+use Rattle.table_steps.specs.inside.SeatViews.{me_of}
+use Rattle.table_steps.proofs.ValueSteps.{steps_knowing}
 use Rattle.table_steps.proofs.steps.Words.count_told.Goals as goal
 
 pub fetch_sub-requires : goal.fetch_sub-requires
@@ -17,7 +20,8 @@ fetch_sub-requires g c =
     let word_is : c.args.word ≡ tokens_from net + length net.edges + c.args.task = c.requires.word ∙ ap (λ (n : NetRows). tokens_from n + length n.edges + c.args.task) same in (
       search rules,
       omega (arith, c.requires.in_range, c.requires.word, sized),
-      subst (λ (w : ℕ). Allows (KeepsAccounts g.S.Parcel.part net limit) slots id me w (λ k. (k + (2 ^ 64 - 1)) % 2 ^ 64) (λ k m. (m.0 ≡ counted_one g.A.Told.task k me.0) × (m.1 ≡ me.1) × (k ≡ 1 → AreNoneLeft g.A.Told.task (others_of me.0)))) (sym word_is)
-          (subst (λ (t : ℕ). Allows (KeepsAccounts g.S.Parcel.part net limit) slots id me (tokens_from net + length net.edges + c.args.task) (λ k. (k + (2 ^ 64 - 1)) % 2 ^ 64) (λ k m. (m.0 ≡ counted_one t k me.0) × (m.1 ≡ me.1) × (k ≡ 1 → AreNoneLeft t (others_of me.0)))) (sym c.requires.told)
-          (count_allowed _ _ _ _ _ c.args.task c.args.edge (subst (λ (n : NetRows). CountsNext n c.args.task c.args.edge me.0) same c.requires.ready))),
+      steps_knowing net limit slots id me c.args.word (λ k. (k + (2 ^ 64 - 1)) % 2 ^ 64) (λ k m. (m.0 ≡ counted_one g.A.StepFacts.task k me.0.notes) × (m.1 ≡ me.1) × (k ≡ 1 → AreNoneLeft g.A.StepFacts.task (others_of me.0.notes))) (λ z. omega (arith, z, c.requires.word)) c.requires.held
+          (subst (λ (w : ℕ). Allows (KeepsAccounts given_part net limit) slots id (me_of me) w (λ k. (k + (2 ^ 64 - 1)) % 2 ^ 64) (λ k m. (m.0 ≡ counted_one g.A.StepFacts.task k me.0.notes) × (m.1 ≡ me.1) × (k ≡ 1 → AreNoneLeft g.A.StepFacts.task (others_of me.0.notes)))) (sym word_is)
+          (subst (λ (t : ℕ). Allows (KeepsAccounts given_part net limit) slots id (me_of me) (tokens_from net + length net.edges + c.args.task) (λ k. (k + (2 ^ 64 - 1)) % 2 ^ 64) (λ k m. (m.0 ≡ counted_one t k me.0.notes) × (m.1 ≡ me.1) × (k ≡ 1 → AreNoneLeft t (others_of me.0.notes)))) (sym c.requires.told)
+          (count_allowed net limit slots id (me_of me) c.args.task c.args.edge (subst (λ (n : NetRows). CountsNext n c.args.task c.args.edge me.0.notes) same c.requires.ready)))),
     )

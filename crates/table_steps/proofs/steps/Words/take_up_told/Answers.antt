@@ -6,6 +6,9 @@ use Rattle.atomic_table.specs.Table.{Allows}
 use Rattle.table_steps.specs.inside.Accounts.{KeepsAccounts, tokens_from}
 use Rattle.table_steps.specs.inside.Kinds.{taken_up}
 use Rattle.table_steps.proofs.TurnSteps.{take_up_allowed}
+use Rattle.table_steps.specs.Values.{given_part}
+use Rattle.table_steps.specs.inside.SeatViews.{me_of}
+use Rattle.table_steps.proofs.ValueSteps.{steps_knowing}
 use Rattle.table_steps.proofs.steps.Words.take_up_told.Goals as goal
 
 pub load-requires : goal.load-requires
@@ -16,6 +19,7 @@ load-requires g c =
     let slots = c.args.self.now.table.shared.table_id.slots in let id = c.args.seat.now.id in (
       search rules,
       omega (arith, sized),
-      subst (λ (n : NetRows). Allows (KeepsAccounts g.S.Parcel.part net limit) slots id me 0 (λ k. k) (λ k m. (m.0 ≡ taken_up n me.0) × (m.1 ≡ me.1))) (sym (c.requires.told ∙ same))
-          (take_up_allowed _ _ _ _ _ c.requires.ready),
+      steps_knowing net limit slots id me 0 (λ k. k) (λ k m. (m.0 ≡ taken_up g.A.StepFacts.net me.0.notes) × (m.1 ≡ me.1)) (λ z. omega arith) c.requires.held
+          (subst (λ (n : NetRows). Allows (KeepsAccounts given_part net limit) slots id (me_of me) 0 (λ k. k) (λ k m. (m.0 ≡ taken_up n me.0.notes) × (m.1 ≡ me.1))) (sym (c.requires.told ∙ same))
+          (take_up_allowed net limit slots id (me_of me) c.requires.ready)),
     )

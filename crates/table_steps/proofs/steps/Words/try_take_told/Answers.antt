@@ -6,6 +6,9 @@ use Rattle.atomic_table.specs.Table.{Allows}
 use Rattle.table_steps.specs.inside.Accounts.{KeepsAccounts, tokens_from, marks_from}
 use Rattle.table_steps.specs.inside.SlotKinds.{TookSlot}
 use Rattle.table_steps.proofs.SlotSeats.{try_take_allowed}
+use Rattle.table_steps.specs.Values.{given_part}
+use Rattle.table_steps.specs.inside.SeatViews.{me_of}
+use Rattle.table_steps.proofs.ValueSteps.{steps_knowing}
 use Rattle.table_steps.proofs.steps.Words.try_take_told.Goals as goal
 
 pub swap-requires : goal.swap-requires
@@ -18,7 +21,8 @@ swap-requires g c =
     let word_is : c.args.word ≡ marks_from net + c.args.edge = c.requires.word ∙ ap (λ (n : NetRows). marks_from n + c.args.edge) same in (
       search rules,
       omega (arith, c.requires.in_range, c.requires.word, sized),
-      subst (λ (w : ℕ). Allows (KeepsAccounts g.S.Parcel.part net limit) slots id me w (λ _. 1) (λ k m. TookSlot g.S.Parcel.part g.A.Edged.edge k me m)) (sym word_is)
-          (subst (λ (e : ℕ). Allows (KeepsAccounts g.S.Parcel.part net limit) slots id me (marks_from net + c.args.edge) (λ _. 1) (λ k m. TookSlot g.S.Parcel.part e k me m)) (sym c.requires.told)
-          (try_take_allowed net limit slots id me c.args.edge below c.requires.ready)),
+      steps_knowing net limit slots id me c.args.word (λ _. 1) (λ k m. TookSlot given_part g.A.Edged.edge k (me_of me) m) (λ z. omega (arith, z, c.requires.word)) c.requires.held
+          (subst (λ (w : ℕ). Allows (KeepsAccounts given_part net limit) slots id (me_of me) w (λ _. 1) (λ k m. TookSlot given_part g.A.Edged.edge k (me_of me) m)) (sym word_is)
+          (subst (λ (e : ℕ). Allows (KeepsAccounts given_part net limit) slots id (me_of me) (marks_from net + c.args.edge) (λ _. 1) (λ k m. TookSlot given_part e k (me_of me) m)) (sym c.requires.told)
+          (try_take_allowed net limit slots id (me_of me) c.args.edge below c.requires.ready))),
     )

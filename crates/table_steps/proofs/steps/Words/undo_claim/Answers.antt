@@ -8,6 +8,9 @@ use Rattle.table_steps.specs.inside.CreditKinds.{MayUnclaim, unclaimed}
 use Rattle.table_steps.proofs.CreditSeats.{unclaim_allowed}
 use Rattle.table_steps.specs.inside.TableSeats.{TableSeatState}
 use Rattle.table_steps.proofs.TableSeats.{at_seat}
+use Rattle.table_steps.specs.Values.{given_part}
+use Rattle.table_steps.specs.inside.SeatViews.{me_of}
+use Rattle.table_steps.proofs.ValueSteps.{steps_knowing}
 use Rattle.table_steps.proofs.steps.Words.undo_claim.Goals as goal
 
 pub fetch_add-requires : goal.fetch_add-requires
@@ -19,6 +22,7 @@ fetch_add-requires g c =
     let word_is : c.credit_word-word.result ≡ 40 + length net.sems + c.args.sem = c.credit_word-word.ensures ∙ ap (λ (n : NetRows). 40 + length n.sems + c.args.sem) same in (
       search rules,
       omega (arith, c.requires.in_range, c.credit_word-word.ensures, sized),
-      subst (λ (w : ℕ). Allows (KeepsAccounts g.S.Parcel.part net limit) slots id me w (λ k. (k + 1) % 2 ^ 64) (λ k m. (m.0 ≡ unclaimed me.0) × (m.1 ≡ me.1))) (sym word_is)
-          (unclaim_allowed _ _ _ _ _ c.args.sem (subst (λ (n : NetRows). MayUnclaim n c.args.sem me.0) same (at_seat (λ (p : TableSeatState _). MayUnclaim (arc_value c.args.self.now.net) c.args.sem p.me.0) c.seat.view_is c.requires.ready))),
+      steps_knowing net limit slots id me c.credit_word-word.result (λ k. (k + 1) % 2 ^ 64) (λ k m. (m.0 ≡ unclaimed me.0.notes) × (m.1 ≡ me.1)) (λ z. omega (arith, z, c.credit_word-word.ensures)) c.seat.invariant
+          (subst (λ (w : ℕ). Allows (KeepsAccounts given_part net limit) slots id (me_of me) w (λ k. (k + 1) % 2 ^ 64) (λ k m. (m.0 ≡ unclaimed me.0.notes) × (m.1 ≡ me.1))) (sym word_is)
+          (unclaim_allowed net limit slots id (me_of me) c.args.sem (subst (λ (n : NetRows). MayUnclaim n c.args.sem me.0.notes) same (at_seat (λ (p : TableSeatState _). MayUnclaim (arc_value c.args.self.now.net) c.args.sem p.me.0) c.seat.view_is c.requires.ready)))),
     )
