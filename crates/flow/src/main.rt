@@ -3,7 +3,8 @@
 
 use call_status::{Status, put_note};
 use flow_run::flow_main;
-use outside_io::{FolderTexts, NoMemory, StandardStreams, StdSink};
+use outside_io::{NoMemory, StandardStreams, StdSink};
+use shared_texts::SharedFolder;
 use span_profile::{SpanCount, Watch};
 use std::alloc::Global;
 use std::env;
@@ -55,7 +56,7 @@ fn call<R: Threads + Wait + Sync + Files + StandardStreams + Copy>(
     arguments: &[String],
     watchers: Vec<Box<dyn Watch + Send>>,
 ) -> u8 {
-    let mut texts = FolderTexts::new(rt);
+    let mut texts = SharedFolder::new(rt);
     let mut out = StdSink::out(alloc, rt);
     let mut notes = StdSink::notes(alloc, rt);
     let outcome = flow_main(

@@ -21,7 +21,7 @@ use Rattle.flow_run.specs.declared.conclusion.Conclusion.TheVariants as conclusi
 use Rattle.flow_run.specs.declared.conclusion.GraphFindings.{GraphFindings}
 use Rattle.journal_rules.specs.declared.entry.Why.TheVariants.{Long as TooLong}
 use Rattle.nested_runs.specs.declared.reasons.Reason.TheVariants as reason
-use Rattle.flow_run.specs.Requests.{SourceTexts, IsHeld, StopsAtName, IsTextOf, TextsAre, StopsAtText, HasStart, StopsAtBytes, HasPlan, IsRequested, file_limit, text_limit}
+use Rattle.flow_run.specs.Requests.{SourceTexts, StopsAtName, IsTextOf, TextsAre, StopsAtText, HasStart, StopsAtBytes, HasPlan, IsRequested, file_limit, text_limit}
 use Rattle.flow_run.specs.Answers.{TextRun, IsAfterRun, RunEnds, CallEnds, Reported, IsReadFault, HaveRead}
 use Rattle.call_status.specs.Statuses.{status_of}
 
@@ -40,23 +40,6 @@ texts name = if bytes_eq name g then Some (1 ∷ []) else (if bytes_eq name t th
 
 abbrev held : SourceTexts
 held = Some texts
-
--- A name holds its own bytes, as many as may be read at most; of a source that doesn't specify what it holds only
--- their number is told.
-own_bytes : IsHeld held t 2 (2 ∷ 3 ∷ [])
-own_bytes = (refl, omega arith)
-
-bytes_of_another : ¬ IsHeld held t 2 (1 ∷ [])
-bytes_of_another is = absurd (cc)
-
-more_than_may_be_read : ¬ IsHeld held t 1 (2 ∷ 3 ∷ [])
-more_than_may_be_read is = absurd (omega (arith, is.1))
-
-unspecified : IsHeld None t 2 (9 ∷ [])
-unspecified = (tt, omega arith)
-
-unspecified_but_too_long : ¬ IsHeld None t 0 (9 ∷ [])
-unspecified_but_too_long is = absurd (omega (arith, is.1))
 
 -- A name stops the call where nothing is held under it, or more than may be read; the answer names it.
 missing : StopsAtName held u 2 (stop.NoText u)

@@ -10,10 +10,7 @@ use Rattle.text_tasks.specs.GraphWork.{GraphWork}
 use Rattle.call_status.specs.declared.stop.Stop.{Stop}
 use Rattle.call_status.specs.declared.stop.Stop.TheVariants.{BadGraph, NoSource, NoText, LongText, ReadFault, NoMemory}
 use Rattle.command_line.specs.Requests.{asked_by, run}
-
--- the texts that a source holds, where it specifies them
-abbrev pub SourceTexts : Type 0
-SourceTexts = Option (List ℕ → Option (List ℕ))
+pub use Rattle.shared_texts.specs.HeldTexts.{SourceTexts, IsHeld}
 
 -- the most bytes of a graph file
 abbrev pub file_limit : ℕ
@@ -22,10 +19,6 @@ file_limit = 4194304
 -- the most bytes of a text that is read
 abbrev pub text_limit : ℕ
 text_limit = 16777215
-
--- these bytes are held under the name, and are no more than may be read
-abbrev pub IsHeld : SourceTexts → List ℕ → ℕ → List ℕ → Type 0
-IsHeld held name max bytes = IfSome held (λ text. text name ≡ Some bytes) × (length bytes ≤ max)
 
 -- why the read of a name stops the call
 abbrev pub StopsAtName : SourceTexts → List ℕ → ℕ → Stop → Type 0

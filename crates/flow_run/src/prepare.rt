@@ -1,7 +1,8 @@
 // From the name of a graph file to a job that is ready to run.
-ghost use Rattle.std.specs.Prelude.{◌≡◌, ◌≤◌, [], IfOk, IfErr};
+ghost use Rattle.std.specs.Prelude.{◌≡◌, ◌≤◌, [], IfOk, IfErr, IfSome};
 ghost use Rattle.graph_plans.specs.PlanRows.{IsPlan, plan_rows};
 ghost use Rattle.graph_file.specs.PlanText.{PlanText};
+ghost use Rattle.shared_texts.specs.HeldTexts.{AreAhead};
 ghost use Rattle.text_tasks.specs.GraphWork.{greatest_limit};
 ghost use Rattle.text_tasks.specs.JobMeaning.{IsTextJob};
 ghost use Rattle.flow_run.specs.Requests.{CountsReads, HasStart, IsAdded, IsHeld, IsRequestedJob, StopsAtBytes, StopsAtName, StopsAtPlan, StopsAtText, StopsBefore, TextsAre, text_limit};
@@ -10,8 +11,10 @@ use call_status::{Stop, graph_refusal};
 use graph_file::read_graph;
 use graph_plans::{Plan, no_source};
 use outside_io::{Bytes, Found, List, Texts, TextsFault};
+use shared_texts::{SharedTexts, read_ahead};
 use std::alloc::Global;
 use std::sync::{Arc, Wait};
+use std::thread::Threads;
 use text_ops::Text;
 use text_tasks::{TextJob, TextTable, first_job};
 
@@ -21,14 +24,15 @@ pub const FILE_LIMIT: u64 = 4_194_304;
 /// The most bytes of a text.
 pub const TEXT_LIMIT: u64 = 16_777_215;
 
-/// The job that a graph file asks for, with its texts read in the order in which they are first named, and at most
-/// so many starts. An `Err` is the first thing that stops the call.
-pub fn prepare<F: Texts, R: Wait>(
+/// The job that a graph file asks for, with its texts, which so many workers read, and at most so many starts. An `Err`
+/// is the first thing that stops the call, texts being taken in the order in which they are first named.
+pub fn prepare<F: SharedTexts + Sync, R: Threads + Wait + Sync>(
     rt: &R,
     alloc: Global,
     texts: &mut F,
     file: &[u8],
     limit: u64,
+    workers: u32,
 ) -> Result<TextJob, Stop>
     requires { limit ≤ greatest_limit }
     ensures job { IfOk result IsTextJob }
@@ -39,8 +43,10 @@ pub fn prepare<F: Texts, R: Wait>(
 {
     let bytes = read_named(alloc, texts, file, FILE_LIMIT)?;
     let plan = read_plan(alloc, bytes.as_slice())?;
+    let names = plan.texts.as_slice();
+    let ahead = read_ahead(rt, alloc, texts, names, TEXT_LIMIT, workers as usize)?;
     let empty = TextTable::new(alloc)?;
-    let table = read_texts(rt, alloc, texts, empty, plan.texts.as_slice())?;
+    let table = read_texts(rt, alloc, texts, empty, names, ahead)?;
     let plan = Arc::new(alloc, plan)?;
     let table = Arc::new(alloc, table)?;
     Ok(first_job(plan, table, limit))
@@ -94,43 +100,52 @@ pub(crate) fn plan_in(alloc: Global, bytes: &[u8]) -> Result<Plan, Stop>
     }
 }
 
-// A table without a text, filled with the texts of these names. Its caller makes it, since what stops the reading of texts
-// stops it at a name.
+// A table without a text, filled with the texts of these names, of which some were read ahead. Its caller makes it, since
+// what stops the reading of texts stops it at a name.
 fn read_texts<F: Texts, R: Wait>(
     rt: &R,
     alloc: Global,
     texts: &mut F,
     mut table: TextTable,
     names: &[Bytes],
+    ahead: Vec<Option<Bytes>>,
 ) -> Result<TextTable, Stop>
-    requires { table ≡ [] }
+    requires empty { table ≡ [] }
+    requires ahead { AreAhead (F.held texts.old) text_limit names.now ahead.items }
     ensures are { IfOk result (TextsAre (F.held texts.old) names.now) }
     ensures stops { IfErr result (StopsAtText (F.held texts.old) names.now) }
     ensures stays { F.held texts.new ≡ F.held texts.old }
     ensures counts { CountsReads (F.faults texts.old) (F.faults texts.new) result }
 {
+    let mut ahead = ahead.into_iter();
     for name in names {
-        if let Err(stop) = add_text(rt, alloc, texts, &mut table, name) {
+        let text = ahead.next().unwrap_or(None);
+        if let Err(stop) = add_text(rt, alloc, texts, &mut table, name, text) {
             return Err(stop);
         }
     }
     Ok(table)
 }
 
-// Adds the text of a name, with an end to its last line.
+// Adds the text of a name, which may have been read ahead, with an end to its last line.
 fn add_text<F: Texts, R: Wait>(
     rt: &R,
     alloc: Global,
     texts: &mut F,
     table: &mut TextTable,
     name: &Bytes,
+    ahead: Option<Bytes>,
 ) -> Result<(), Stop>
+    requires { IfSome ahead (IsHeld (F.held texts.old) name.now text_limit) }
     ensures added { IfOk result (λ _. IsAdded (F.held texts.old) name.now table.old table.new) }
     ensures stops { IfErr result (StopsAtName (F.held texts.old) name.now text_limit) }
     ensures stays { F.held texts.new ≡ F.held texts.old }
     ensures counts { CountsReads (F.faults texts.old) (F.faults texts.new) result }
 {
-    let bytes = read_named(alloc, texts, name.as_slice(), TEXT_LIMIT)?;
+    let bytes = match ahead {
+        Some(bytes) => bytes,
+        None => read_named(alloc, texts, name.as_slice(), TEXT_LIMIT)?,
+    };
     table.add(rt, Text::from_bytes(alloc, bytes)?)?;
     Ok(())
 }
