@@ -3,16 +3,12 @@
 
 use call_status::{Status, put_note};
 use flow_run::flow_main;
-use outside_io::{NoMemory, StandardStreams, StdSink};
+use outside_io::{NoMemory, StdSink};
 use shared_texts::SharedFolder;
 use span_profile::{SpanCount, Watch};
-use std::alloc::Global;
 use std::env;
 use std::io::ErrorKind;
 use std::process::ExitCode;
-use std::rt::Files;
-use std::sync::Wait;
-use std::thread::Threads;
 
 /// How many watchers a call is handed.
 const WATCHERS: usize = 16;
@@ -27,13 +23,19 @@ fn main(rt: HostRuntime) -> ExitCode {
             return without_memory(&rt);
         }
     }
-    match arguments(&rt) {
-        Ok(arguments) => {
-            let code = call(&rt, rt.alloc(), arguments.as_slice(), watchers);
-            ExitCode::from(code)
-        }
-        Err(NoMemory) => without_memory(&rt),
-    }
+    let Ok(arguments) = arguments(&rt) else {
+        return without_memory(&rt);
+    };
+    let outcome = flow_main(
+        &rt,
+        rt.alloc(),
+        arguments.as_slice(),
+        &mut SharedFolder::new(&rt),
+        &mut StdSink::out(rt.alloc(), &rt),
+        &mut StdSink::notes(rt.alloc(), &rt),
+        watchers,
+    );
+    ExitCode::from(outcome.status.code())
 }
 
 // The end of a program that finds no memory for the arguments or the watchers.
@@ -46,23 +48,6 @@ fn without_memory(rt: &HostRuntime) -> ExitCode {
         &status,
     );
     ExitCode::from(status.code())
-}
-
-// Calls the program with these arguments. It asks for what it needs of the running system, since threads are to be had by a
-// type parameter alone outside `main`.
-fn call<R: Threads + Wait + Sync + Files + StandardStreams + Copy>(
-    rt: &R,
-    alloc: Global,
-    arguments: &[String],
-    watchers: Vec<Box<dyn Watch + Send>>,
-) -> u8 {
-    let mut texts = SharedFolder::new(rt);
-    let mut out = StdSink::out(alloc, rt);
-    let mut notes = StdSink::notes(alloc, rt);
-    let outcome = flow_main(
-        rt, alloc, arguments, &mut texts, &mut out, &mut notes, watchers,
-    );
-    outcome.status.code()
 }
 
 // The arguments after the program's own name. Where they aren't UTF-8 there are none, which is no command.
