@@ -1,10 +1,10 @@
 -- Reading texts one after another.
 use Rattle.std.proofs.Common.{◌≡◌, ◌≢◌, ℕ, zero, suc, ◌+◌, ◌<◌, ◌≤◌, Bool, true, false, cond, List, [], ◌∷◌, ◌++◌, length, sym, refl, ap, ◌∙◌, subst, arith, get_or, take, drop, length-append}
 use Rattle.std.specs.Prelude.{All, Option, Some, None, IfSome, IsSomeAnd, MatchOption, slice_get, unwrap_or, option_to_list}
-use Rattle.std.proofs.lemmas.List.{take_more}
+use Rattle.std.proofs.lemmas.List.{drop-drop, nil_from_length, take_more}
 use Rattle.std.proofs.lemmas.List.Elements.{All-nil, All-cons}
 use Rattle.std.proofs.lemmas.Option.{slice_get_read}
-use Rattle.shared_texts.specs.HeldTexts.{AreAhead, IsAhead}
+use Rattle.shared_texts.specs.Ahead.{AreAhead, IsAhead}
 use Rattle.graph_file.specs.declared.refusals.GraphError.{GraphError}
 use Rattle.graph_file.specs.declared.refusals.GraphError.TheVariants.{NotJson, BadField, NoSuchName, Repeated, TooMany, NoMemory as NoMemoryToRead}
 use Rattle.graph_plans.specs.PlanRows.{PlanRows, IsPlan}
@@ -37,32 +37,14 @@ first_from [] (suc i) x rest is = absurd (cc)
 first_from (y ∷ ys) zero x rest is = cc
 first_from (y ∷ ys) (suc i) x rest is = first_from ys i x rest is
 
--- and those behind it, where there is one
-rest_from : {X : Type 0} (xs : List X) (i : ℕ) (x : X) (rest : List X) → drop i xs ≡ x ∷ rest → rest ≡ drop (suc i) xs
-rest_from [] zero x rest is = absurd (cc)
-rest_from [] (suc i) x rest is = absurd (cc)
-rest_from (y ∷ ys) zero x rest is = cc
-rest_from (y ∷ ys) (suc i) x rest is = rest_from ys i x rest is
-
-none_from : {X : Type 0} (xs : List X) (i : ℕ) → length (drop i xs) ≡ 0 → [] ≡ drop (suc i) xs
-none_from [] i is = refl
-none_from (y ∷ ys) zero is = absurd (omega (arith, is))
-none_from (y ∷ ys) (suc i) is = none_from ys i is
-
-no_items : {X : Type 0} (xs : List X) → length xs ≡ 0 → xs ≡ []
-no_items [] is = refl
-no_items (x ∷ xs) is = absurd (omega (arith, is))
-
 -- What an iterator still has when it has given what is at a place, or nothing, since it had nothing left.
 pub still_ahead : {X : Type 0} (xs old new : List X) (i len : ℕ) (next : Option X) (other : Type 0) (step : X → Type 0) → old ≡ drop i xs → len ≡ length old
     → MatchOption next ((len ≡ 0) × other) step → old ≡ option_to_list next ++ new → new ≡ drop (i + 1) xs
-still_ahead {X = X} xs old new i len next other step from counted stepped items =
-    let one : suc i ≡ i + 1 = omega arith in
-    by_next next stepped items ∙ ap (λ n. drop n xs) one
+still_ahead {X = X} xs old new i len next other step from counted stepped items = by_next next stepped items ∙ ap (drop 1) from ∙ drop-drop 1 i xs
   where
-    by_next : (n : Option X) → MatchOption n ((len ≡ 0) × other) step → old ≡ option_to_list n ++ new → new ≡ drop (suc i) xs
-    by_next None none is = sym is ∙ no_items old (sym counted ∙ none.0) ∙ none_from xs i (ap length (sym from) ∙ sym counted ∙ none.0)
-    by_next (Some x) some is = rest_from xs i x new (sym from ∙ is)
+    by_next : (n : Option X) → MatchOption n ((len ≡ 0) × other) step → old ≡ option_to_list n ++ new → new ≡ drop 1 old
+    by_next None none is = let empty = nil_from_length old (sym counted ∙ none.0) in sym is ∙ empty ∙ sym (ap (drop 1) empty)
+    by_next (Some x) some is = ap (drop 1) (sym is)
 
 -- the text that was read ahead for the next name, if one was
 pub text_ahead : (held : SourceTexts) (names : List (List ℕ)) (found old new : List (Option (List ℕ))) (i : ℕ) (name : List ℕ) (next : Option (Option (List ℕ)))

@@ -10,7 +10,7 @@ use Rattle.text_tasks.specs.GraphWork.{GraphWork}
 use Rattle.call_status.specs.declared.stop.Stop.{Stop}
 use Rattle.call_status.specs.declared.stop.Stop.TheVariants.{BadGraph, NoSource, NoText, LongText, ReadFault, NoMemory}
 use Rattle.command_line.specs.Requests.{asked_by, run}
-pub use Rattle.shared_texts.specs.HeldTexts.{SourceTexts, IsHeld}
+pub use Rattle.shared_texts.specs.SourceTexts.{SourceTexts, IsHeld}
 
 -- the most bytes of a graph file
 abbrev pub file_limit : ℕ

@@ -58,7 +58,7 @@ pub struct Outcome {
 /// writes how the graph can go wrong. The line of the status goes to `notes`, the diagnostics sink. Of several workers
 /// each has a watcher, and there are no more of them than watchers. `rt` makes the threads of several workers and waits
 /// for them, so it isn't proved that the call returns.
-pub fn flow_main<F: SharedTexts + Sync, S: Sink, N: Sink, R: Threads + Wait + Sync>(
+pub fn flow_main<F: SharedTexts, S: Sink, N: Sink, R: Threads + Wait + Sync>(
     rt: &R,
     alloc: Global,
     words: &[String],
@@ -140,7 +140,7 @@ pub(crate) struct Ended {
 }
 
 // Does what the command line asks for.
-fn answer<F: SharedTexts + Sync, S: Sink, R: Threads + Wait + Sync>(
+fn answer<F: SharedTexts, S: Sink, R: Threads + Wait + Sync>(
     rt: &R,
     alloc: Global,
     words: &[String],
@@ -165,7 +165,7 @@ fn answer<F: SharedTexts + Sync, S: Sink, R: Threads + Wait + Sync>(
 }
 
 // The command `run`.
-fn run_file<F: SharedTexts + Sync, S: Sink, R: Threads + Wait + Sync>(
+fn run_file<F: SharedTexts, S: Sink, R: Threads + Wait + Sync>(
     rt: &R,
     alloc: Global,
     run: Run<'_>,
@@ -182,7 +182,8 @@ fn run_file<F: SharedTexts + Sync, S: Sink, R: Threads + Wait + Sync>(
     ensures read { HaveRead F.held F.faults texts.old texts.new result.status }
     ensures watchers { watchers.new ≡ watchers.old }
 {
-    match prepare(rt, alloc, texts, run.file.as_bytes(), run.limit, run.workers) {
+    let threads = watchers.len().min(run.workers as usize);
+    match prepare(rt, alloc, texts, run.file.as_bytes(), run.limit, threads) {
         Ok(job) => run_and_report(rt, alloc, job, run.workers, run.journal, out, watchers),
         Err(stop) => stopped(alloc, Status::of(stop)),
     }

@@ -2,7 +2,7 @@
 ghost use Rattle.std.specs.Prelude.{◌≡◌, ◌≤◌, [], IfOk, IfErr, IfSome};
 ghost use Rattle.graph_plans.specs.PlanRows.{IsPlan, plan_rows};
 ghost use Rattle.graph_file.specs.PlanText.{PlanText};
-ghost use Rattle.shared_texts.specs.HeldTexts.{AreAhead};
+ghost use Rattle.shared_texts.specs.Ahead.{AreAhead};
 ghost use Rattle.text_tasks.specs.GraphWork.{greatest_limit};
 ghost use Rattle.text_tasks.specs.JobMeaning.{IsTextJob};
 ghost use Rattle.flow_run.specs.Requests.{CountsReads, HasStart, IsAdded, IsHeld, IsRequestedJob, StopsAtBytes, StopsAtName, StopsAtPlan, StopsAtText, StopsBefore, TextsAre, text_limit};
@@ -24,15 +24,15 @@ pub const FILE_LIMIT: u64 = 4_194_304;
 /// The most bytes of a text.
 pub const TEXT_LIMIT: u64 = 16_777_215;
 
-/// The job that a graph file asks for, with its texts, which so many workers read, and at most so many starts. An `Err`
-/// is the first thing that stops the call, texts being taken in the order in which they are first named.
-pub fn prepare<F: SharedTexts + Sync, R: Threads + Wait + Sync>(
+/// The job that a graph file asks for, with its texts, which so many threads read ahead, and at most so many starts. An
+/// `Err` is the first thing that stops the call, texts being taken in the order in which they are first named.
+pub fn prepare<F: SharedTexts, R: Threads + Wait + Sync>(
     rt: &R,
     alloc: Global,
     texts: &mut F,
     file: &[u8],
     limit: u64,
-    workers: u32,
+    threads: usize,
 ) -> Result<TextJob, Stop>
     requires { limit ≤ greatest_limit }
     ensures job { IfOk result IsTextJob }
@@ -44,7 +44,7 @@ pub fn prepare<F: SharedTexts + Sync, R: Threads + Wait + Sync>(
     let bytes = read_named(alloc, texts, file, FILE_LIMIT)?;
     let plan = read_plan(alloc, bytes.as_slice())?;
     let names = plan.texts.as_slice();
-    let ahead = read_ahead(rt, alloc, texts, names, TEXT_LIMIT, workers as usize)?;
+    let ahead = read_ahead(rt, alloc, texts, names, TEXT_LIMIT, threads)?;
     let empty = TextTable::new(alloc)?;
     let table = read_texts(rt, alloc, texts, empty, names, ahead)?;
     let plan = Arc::new(alloc, plan)?;

@@ -1,1 +1,1 @@
-pub mod HeldExamples
+pub mod AheadExamples

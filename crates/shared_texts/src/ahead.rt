@@ -1,6 +1,6 @@
 // Texts that are read before they are asked for one by one.
 ghost use Rattle.std.specs.Prelude.{◌≡◌, All, IfOk, None, length};
-ghost use Rattle.shared_texts.specs.HeldTexts.{AreAhead, IsAhead};
+ghost use Rattle.shared_texts.specs.Ahead.{AreAhead, IsAhead};
 
 use crate::SharedTexts;
 use outside_io::{Bytes, NoMemory};
@@ -10,7 +10,7 @@ use std::thread::{Threads, for_each_mut};
 /// Reads the texts of these names, of at most `max` bytes each, by at most so many threads. For each name there is its
 /// text, where it could be read beside the others. With fewer than two threads or names none is read, and no thread is
 /// made. It answers `Err` only if an allocation fails.
-pub fn read_ahead<F: SharedTexts + Sync, R: Threads + Sync>(
+pub fn read_ahead<F: SharedTexts, R: Threads + Sync>(
     rt: &R,
     alloc: Global,
     texts: &F,

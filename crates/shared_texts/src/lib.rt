@@ -1,7 +1,7 @@
-//! Sources of texts of which several threads read at once, and texts that are read ahead by them.
+//! Sources of texts from which several threads may read at once, and the reading ahead of texts by several threads.
 //!
-//! The layer above sees for each name the text that was read ahead, if it was, as what the source holds under that name,
-//! and nothing of the threads. The definitions are in `specs/`.
+//! For each name the layer above gets nothing, or what the source holds under that name; how many threads read doesn't
+//! show. The definitions are in `specs/`.
 #![tactic(auto)]
 
 mod ahead;

@@ -1,4 +1,4 @@
-// Texts in the files of a folder, for several threads.
+// Texts in the files of a folder, read by several threads.
 ghost use Rattle.std.specs.Prelude.{◌≡◌, ◌≢◌, ◌+◌, ◌-◌, ◌^◌, ◌≤◌, IfOk, IfSome, IsErrOf, IsUtf8, OnOk, None, length};
 ghost use Rattle.outside_io.specs.Texts.{IsWithin};
 
@@ -9,7 +9,8 @@ use std::marker::Model;
 use std::path::Path;
 use std::rt::Files;
 
-/// Texts in files, of which several threads may read at once: those of `FolderTexts`, with its answers and its count of faults.
+/// Texts in files, from which several threads may read at once: those of `FolderTexts`, with its answers and its count of
+/// faults. What is read beside other texts counts no fault.
 #[derive(Drop)]
 pub struct SharedFolder<R> {
     rt: R,
@@ -52,8 +53,8 @@ impl<R: Files + Copy> Texts for SharedFolder<R> {
     }
 }
 
-impl<R: Files + Copy> SharedTexts for SharedFolder<R> {
-    /// The text of a regular file. What else a path may name, as a pipe, may give its bytes once, so it is left to `read`.
+impl<R: Files + Copy + Sync> SharedTexts for SharedFolder<R> {
+    /// The text of a regular file. Anything else, such as a pipe, may give its bytes only once, so it is left to `read`.
     fn read_beside(&self, alloc: Global, name: &[u8], max: u64) -> Option<Bytes>
         ensures within { IfSome result (λ bytes. length bytes ≤ max) }
     {

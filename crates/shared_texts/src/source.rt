@@ -1,14 +1,14 @@
-// Sources of which several threads read at once.
+// Sources from which several threads read at once.
 ghost use Rattle.std.specs.Prelude.{IfSome};
-ghost use Rattle.shared_texts.specs.HeldTexts.{IsHeld};
+ghost use Rattle.shared_texts.specs.SourceTexts.{IsHeld};
 
 use outside_io::{Bytes, MemoryTexts, Texts};
 use std::alloc::Global;
 
-/// A source of texts of which several threads may read at once.
-pub trait SharedTexts: Texts {
-    /// The text under `name`, if it has at most `max` bytes and can be read while other texts are. `None` doesn't tell why
-    /// it wasn't read: `read` tells that, and counts what fails.
+/// A source of texts from which several threads may read at once.
+pub trait SharedTexts: Texts + Sync {
+    /// The text under `name`, if it has at most `max` bytes and can be read beside other texts. `None` doesn't say why:
+    /// `read` says it, and counts a failure.
     fn read_beside(&self, alloc: Global, name: &[u8], max: u64) -> Option<Bytes>
         ensures held { IfSome result (IsHeld (Self.held self.now) name.now max) };
 }

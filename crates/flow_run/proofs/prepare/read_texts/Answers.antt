@@ -8,7 +8,7 @@ pub add_text-requires : goal.add_text-requires
 add_text-requires g c =
     let so_far = c.loop-name.invariant in
     let ahead = text_ahead (g.F.Texts.held c.args.texts.now) c.args.names.now c.args.ahead.items c.loop-name.ahead.rest.items c.next.new.self.rest.items c.loop-name.name-index c.name-item.result c.next.result
-        c.requires.ahead c.loop-name-test.true c.name-item.is so_far.ahead c.next.ensures.items in
+    c.requires.ahead c.loop-name-test.true c.name-item.is so_far.ahead c.next.ensures.items in
     subst (λ text. IfSome text (IsHeld (g.F.Texts.held c.loop-name.texts) c.name-item.result text_limit)) (sym c.unwrap_or-text.ensures)
     (subst (λ (h : SourceTexts). IfSome (unwrap_or c.next.result None) (IsHeld h c.name-item.result text_limit)) (sym so_far.held) ahead)
 

@@ -1,7 +1,8 @@
 -- What is held and what is read ahead, computed on a source with two texts.
 use Rattle.std.proofs.Common.{ℕ, zero, suc, List, [], ◌∷◌, Some, None, refl, arith}
 use Rattle.std.specs.Prelude.{if◌then◌else◌, bytes_eq}
-use Rattle.shared_texts.specs.HeldTexts.{SourceTexts, IsHeld, IsAhead, AreAhead}
+use Rattle.shared_texts.specs.SourceTexts.{SourceTexts, IsHeld}
+use Rattle.shared_texts.specs.Ahead.{IsAhead, AreAhead}
 
 abbrev g : List ℕ
 g = 0 ∷ []
@@ -14,7 +15,7 @@ abbrev held : SourceTexts
 held = Some (λ name. if bytes_eq name g then Some (1 ∷ []) else (if bytes_eq name t then Some (2 ∷ 3 ∷ []) else None))
 
 -- A name holds its own bytes, as many as may be read at most; of a source that doesn't specify what it holds only
--- their number is told.
+-- their number is said.
 own_bytes : IsHeld held t 2 (2 ∷ 3 ∷ [])
 own_bytes = (refl, omega arith)
 
