@@ -7,7 +7,7 @@ The program is loaded over a `malloc` that counts the calls for memory and refus
 second, and so on; with `--all-later` that one and each after it. Which call is the Nth differs between runs by several
 workers, so the runs end only after so many (`--past`) that came to no Nth call. A run has to end within ten seconds
 with what it prints with ample memory, or with code 13 and the line of it, or without that line where each later
-allocation fails, and a prefix of the output. Without an example it takes three. It needs a C compiler and prints for
+allocation fails, and a prefix of the output. Without an example it takes five. It needs a C compiler and prints for
 each example how many runs ended in which way, and ends with status 1 where one ended in another.
 """
 import argparse
@@ -19,7 +19,7 @@ import sys
 import tempfile
 
 EXAMPLES = pathlib.Path(__file__).resolve().parent.parent / "examples"
-CHOSEN = ("count-lines", "log-triage", "trim-until-it-fits")
+CHOSEN = ("count-lines", "log-triage", "trim-until-it-fits", "words-by-file", "join-orders")
 NO_MEMORY = (13, b"flow: no memory\n")
 
 # The calls for memory, all of which the C library's own names serve. The refused one leaves a byte in a pipe.
