@@ -13,6 +13,7 @@ pub mod MarkLemmas
 pub mod OrderLemmas
 pub mod LeadLemmas
 pub mod SortedMarks
+pub mod ShortLines
 pub mod SortLemmas
 pub mod TallyLemmas
 pub mod TallySteps

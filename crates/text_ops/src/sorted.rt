@@ -1,11 +1,17 @@
 // The lines in order.
+ghost use Rattle.std.specs.Prelude.{◌≡◌, ◌+◌, ◌<◌, ◌^◌, ◌++◌, ℕ, List, length, OnOk};
+ghost use Rattle.text_ops.specs.Lines.{ended};
 ghost use Rattle.text_ops.specs.TextMeaning.{sort_meaning};
 ghost use Rattle.text_ops.specs.Values.{Makes};
+ghost use Rattle.text_ops.specs.inside.Gathering.{IsGathered};
+ghost use Rattle.text_ops.specs.inside.Marks.{marked_piece};
+ghost use Rattle.text_ops.specs.inside.Sorting.{IsLineMark};
 
 use crate::gathered::{ApplyError, Gathered, VALUE_LIMIT};
-use crate::mark::Piece;
+use crate::mark::{Mark, Piece};
 use crate::marks::{marked_with_end, sorted_marks};
 use crate::text::Text;
+use outside_io::NoMemory;
 use std::alloc::Global;
 
 /// The lines in the order of their bytes.
@@ -20,7 +26,24 @@ pub fn sort(alloc: Global, text: &Text) -> Result<Text, ApplyError>
     let marks = sorted_marks(alloc, bytes, Piece::Whole)?;
     let mut made = Gathered::with_room(alloc, bytes.len())?;
     for mark in marks.as_slice() {
-        made.add(marked_with_end(bytes, mark))?;
+        add_line(&mut made, bytes, mark)?;
     }
     made.finish(alloc)
+}
+
+// Adds the line of a mark, with its end. One of at most seven bytes is in the mark, and isn't looked up in the text, in
+// which neighbours in order stand far from each other.
+fn add_line(made: &mut Gathered, text: &[u8], mark: &Mark) -> Result<(), NoMemory>
+    requires line { IsLineMark text.now mark.now }
+    requires total { made.old.total + length text.now < 2 ^ 64 }
+    ensures gathered { (all : List ℕ) → IsGathered all made.old → OnOk result (IsGathered (all ++ ended (marked_piece text.now mark.now)) made.new) }
+    ensures total { OnOk result (made.new.total ≡ made.old.total + length (ended (marked_piece text.now mark.now))) }
+{
+    let len = mark.len as usize;
+    if len > 7 {
+        return made.add(marked_with_end(text, mark));
+    }
+    let mut line = mark.lead.to_be_bytes();
+    line[len] = b'\n';
+    made.add(&line[..len + 1])
 }

@@ -101,11 +101,16 @@ const CUT: [Row; 12] = [
 ];
 
 // Lines in order.
-const ORDERED: [Row; 5] = [
+const ORDERED: [Row; 6] = [
     (OpCase::Sort, b"", b""),
     (OpCase::Sort, b"b\n\na\n", b"\na\nb\n"),
     (OpCase::Sort, b"b\na\nb\n", b"a\nb\nb\n"),
     (OpCase::Sort, b"a\0\na\n\0\n\xff\n", b"\0\na\na\0\n\xff\n"),
+    (
+        OpCase::Sort,
+        b"abcdefg\nabcdefgh\nabcdef\n\0\0\0\0\0\0\0\n",
+        b"\0\0\0\0\0\0\0\nabcdef\nabcdefg\nabcdefgh\n",
+    ),
     (
         OpCase::Sort,
         b"abcdefghz\nabcdefgha\nabcdefgh\n",
