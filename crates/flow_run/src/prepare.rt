@@ -24,9 +24,9 @@ pub const FILE_LIMIT: u64 = 4_194_304;
 /// The most bytes of a text.
 pub const TEXT_LIMIT: u64 = 16_777_215;
 
-/// The job that a graph file asks for, with its texts, which at most so many threads read ahead, and with at most so
-/// many starts. An `Err` is the first thing that stops the call, texts being taken in the order in which they are first
-/// named.
+/// The job that a graph file asks for, with at most `limit` starts, and with its texts, of which at most `threads` threads
+/// read ahead what they can. An `Err` is the first thing that stops the call, texts being taken in the order in which
+/// they are first named.
 pub fn prepare<F: SharedTexts, R: Threads + Wait + Sync>(
     rt: &R,
     alloc: Global,

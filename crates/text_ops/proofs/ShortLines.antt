@@ -1,7 +1,8 @@
--- A line of at most seven bytes is its mark's lead.
-use Rattle.std.proofs.Common.{◌≡◌, ℕ, zero, suc, ◌+◌, ◌<◌, ◌≤◌, List, [], ◌∷◌, length, take, get_or, refl, sym, ap, ◌∙◌, arith}
+-- The lead of a piece that has less than eight bytes begins with the piece, and has room for a line end behind it.
+use Rattle.std.proofs.Common.{◌≡◌, ℕ, zero, suc, ◌+◌, ◌<◌, ◌≤◌, List, [], ◌∷◌, ◌++◌, length, take, get_or, refl, sym, ap, ◌∙◌, arith}
 use Rattle.std.specs.Prelude.{slice_set}
 use Rattle.std.specs.Int.{w64, to_be_bytes, from_be_bytes}
+use Rattle.std.proofs.lemmas.List.{take_more_set}
 use Rattle.std.proofs.lemmas.Nat.{be_bytes_8}
 use Rattle.text_ops.specs.Lines.{line_end, ended}
 use Rattle.text_ops.specs.inside.Marks.{lead_of}
@@ -33,22 +34,22 @@ first_eight-bytes piece bytes (suc (suc (suc (suc (suc (suc zero)))))) = bytes 6
 first_eight-bytes piece bytes (suc (suc (suc (suc (suc (suc (suc zero))))))) = bytes 7
 first_eight-bytes piece bytes (suc (suc (suc (suc (suc (suc (suc (suc k)))))))) = omega arith
 
--- a piece of at most seven bytes, with a line end put behind it
-ended_is : (piece : List ℕ) → length piece ≤ 7 → take (length piece + 1) (slice_set (first_eight piece) (length piece) line_end) ≡ ended piece
-ended_is [] short = refl
-ended_is (a ∷ []) short = refl
-ended_is (a ∷ b ∷ []) short = refl
-ended_is (a ∷ b ∷ c ∷ []) short = refl
-ended_is (a ∷ b ∷ c ∷ d ∷ []) short = refl
-ended_is (a ∷ b ∷ c ∷ d ∷ e ∷ []) short = refl
-ended_is (a ∷ b ∷ c ∷ d ∷ e ∷ f ∷ []) short = refl
-ended_is (a ∷ b ∷ c ∷ d ∷ e ∷ f ∷ g ∷ []) short = refl
-ended_is (a ∷ b ∷ c ∷ d ∷ e ∷ f ∷ g ∷ h ∷ rest) short = absurd (omega (arith, short))
+-- a piece of at most eight bytes is a prefix of them
+prefix : (piece : List ℕ) → length piece ≤ 8 → take (length piece) (first_eight piece) ≡ piece
+prefix [] short = refl
+prefix (a ∷ []) short = refl
+prefix (a ∷ b ∷ []) short = refl
+prefix (a ∷ b ∷ c ∷ []) short = refl
+prefix (a ∷ b ∷ c ∷ d ∷ []) short = refl
+prefix (a ∷ b ∷ c ∷ d ∷ e ∷ []) short = refl
+prefix (a ∷ b ∷ c ∷ d ∷ e ∷ f ∷ []) short = refl
+prefix (a ∷ b ∷ c ∷ d ∷ e ∷ f ∷ g ∷ []) short = refl
+prefix (a ∷ b ∷ c ∷ d ∷ e ∷ f ∷ g ∷ h ∷ []) short = refl
+prefix (a ∷ b ∷ c ∷ d ∷ e ∷ f ∷ g ∷ h ∷ i ∷ rest) short = absurd (omega (arith, short))
 
--- so the lead's bytes, with a line end behind as many as the line has, begin with the line and its end
-pub short_line : (piece digits : List ℕ) (lead len : ℕ) → ((k : ℕ) → get_or piece k 0 < 256) → lead ≡ lead_of piece → length piece ≡ len → len ≤ 7 → digits ≡ to_be_bytes w64 lead → take (len + 1) (slice_set digits len line_end) ≡ ended piece
-short_line piece digits lead len bytes is same short shown =
-    let first = be_bytes_8 (first_eight piece) lead refl (first_eight-bytes piece bytes) (is ∙ lead_is piece) in
-    ap (λ d. take (len + 1) (slice_set d len line_end)) (shown ∙ first)
-    ∙ ap (λ n. take (n + 1) (slice_set (first_eight piece) n line_end)) (sym same)
-    ∙ ended_is piece (omega (arith, same, short))
+-- A line end is put behind as many bytes of the lead as the piece has, where there is room for it.
+pub ended_from_lead : (piece digits : List ℕ) (lead len : ℕ) → ((k : ℕ) → get_or piece k 0 < 256) → lead ≡ lead_of piece → length piece ≡ len → len < 8 → digits ≡ to_be_bytes w64 lead → take (len + 1) (slice_set digits len line_end) ≡ ended piece
+ended_from_lead piece digits lead len bytes is same short shown =
+    let first = shown ∙ be_bytes_8 (first_eight piece) lead refl (first_eight-bytes piece bytes) (is ∙ lead_is piece) in
+    take_more_set digits len line_end (omega (arith, short, ap length first))
+    ∙ ap (λ l. l ++ line_end ∷ []) (ap (take len) first ∙ ap (λ n. take n (first_eight piece)) (sym same) ∙ prefix piece (omega (arith, same, short)))

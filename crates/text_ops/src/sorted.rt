@@ -4,8 +4,7 @@ ghost use Rattle.text_ops.specs.Lines.{ended};
 ghost use Rattle.text_ops.specs.TextMeaning.{sort_meaning};
 ghost use Rattle.text_ops.specs.Values.{Makes};
 ghost use Rattle.text_ops.specs.inside.Gathering.{IsGathered};
-ghost use Rattle.text_ops.specs.inside.Marks.{marked_piece};
-ghost use Rattle.text_ops.specs.inside.Sorting.{IsLineMark};
+ghost use Rattle.text_ops.specs.inside.Marks.{marked_piece, IsEndedMark};
 
 use crate::gathered::{ApplyError, Gathered, VALUE_LIMIT};
 use crate::mark::{Mark, Piece};
@@ -26,24 +25,24 @@ pub fn sort(alloc: Global, text: &Text) -> Result<Text, ApplyError>
     let marks = sorted_marks(alloc, bytes, Piece::Whole)?;
     let mut made = Gathered::with_room(alloc, bytes.len())?;
     for mark in marks.as_slice() {
-        add_line(&mut made, bytes, mark)?;
+        add_marked_line(&mut made, bytes, mark)?;
     }
     made.finish(alloc)
 }
 
-// Adds the line of a mark, with its end. One of at most seven bytes is in the mark, and isn't looked up in the text, in
-// which neighbours in order stand far from each other.
-fn add_line(made: &mut Gathered, text: &[u8], mark: &Mark) -> Result<(), NoMemory>
-    requires line { IsLineMark text.now mark.now }
+// Adds the line of a mark, with its end. The lead has eight bytes, so that a line of at most seven and its end fit there.
+// Such a line isn't read from the text again, in which lines that are neighbours in order lie far apart.
+fn add_marked_line(made: &mut Gathered, text: &[u8], mark: &Mark) -> Result<(), NoMemory>
+    requires mark { IsEndedMark text.now mark.now }
     requires total { made.old.total + length text.now < 2 ^ 64 }
     ensures gathered { (all : List ℕ) → IsGathered all made.old → OnOk result (IsGathered (all ++ ended (marked_piece text.now mark.now)) made.new) }
     ensures total { OnOk result (made.new.total ≡ made.old.total + length (ended (marked_piece text.now mark.now))) }
 {
     let len = mark.len as usize;
-    if len > 7 {
+    let mut line = mark.lead.to_be_bytes();
+    if len >= line.len() {
         return made.add(marked_with_end(text, mark));
     }
-    let mut line = mark.lead.to_be_bytes();
     line[len] = b'\n';
     made.add(&line[..len + 1])
 }

@@ -1,15 +1,12 @@
 use Rattle.std.proofs.Common.{◌∙◌, Some, sym, ap, arith}
 use Rattle.std.specs.Option.{option_map, option_copied}
 use Rattle.text_ops.specs.MatchKeys.{behind_key}
-use Rattle.text_ops.specs.declared.mark.Mark.{Mark}
 use Rattle.text_ops.specs.inside.Marks.{marked_piece}
 use Rattle.text_ops.specs.inside.Matching.{behind_mark}
+use Rattle.text_ops.proofs.MarkLemmas.{no_mark}
 use Rattle.text_ops.proofs.FoundKeys.{found_key, no_key}
 use Rattle.text_ops.proofs.TallySteps.{differs, equal}
 use Rattle.text_ops.proofs.matched.behind_first.Goals as goal
-
-abbrev no_mark : Mark
-no_mark = record { lead = 0; start = 0; len = 0 }
 
 pub returns-in_err-mark-clause-value : goal.returns-in_err-mark-clause-value
 returns-in_err-mark-clause-value c =

@@ -1,16 +1,13 @@
 use Rattle.std.proofs.Common.{◌≤◌, ◌+◌, sym, ap, subst, arith, rules, length, get_or}
-use Rattle.text_ops.specs.declared.mark.Mark.{Mark}
 use Rattle.text_ops.specs.declared.mark.Piece.TheVariants.{Whole}
 use Rattle.text_ops.specs.Lines.{IsNormal}
 use Rattle.text_ops.specs.Values.{Makes}
+use Rattle.text_ops.proofs.MarkLemmas.{no_mark}
 use Rattle.text_ops.proofs.SortLemmas.{gathered_normal}
 use Rattle.text_ops.specs.inside.Marks.{AreSortedMarks}
 use Rattle.text_ops.proofs.TallyLemmas.{TallySoFar-start}
 use Rattle.text_ops.proofs.TallySteps.{ordered_is, few_marks, short_line, run_some, run_inside, next_tally, tally_end, IsNormal-tally}
 use Rattle.text_ops.proofs.tallied.tally.Goals as goal
-
-abbrev no_mark : Mark
-no_mark = record { lead = 0; start = 0; len = 0 }
 
 pub loop-at-init : goal.loop-at-init
 loop-at-init c =
