@@ -6,8 +6,11 @@
 # that share nothing. The kinds of calls are taken in turn, fifteen of each or as many as the first argument says; a second
 # argument runs only the rows whose names contain it. Of times and of the processor time of all threads it prints the
 # median and the least, of speeds the median of the turns and the ratio of the least times, and how much of the time for
-# which its processors had work the host of a virtual machine kept them. It needs python3, says the load before and after,
-# and is run as `bash bench/crews.sh`, from any folder, on a machine with four idle processors.
+# which its processors had work the host of a virtual machine kept them. Where that is more than two in a hundred in a
+# call, its turn is left out of a second line, of the quiet turns. With a third argument, `steady`, each processor has a
+# loop of the idle class beside the calls, which runs where nothing else does: a processor that shares a core or the power
+# with others is faster while these are idle, and with the loops its speed is the same in all calls. It needs python3, says
+# the load before and after, and is run as `bash bench/crews.sh`, from any folder, on a machine with four idle processors.
 set -euo pipefail
 flow=$(cd "$(dirname "${BASH_SOURCE[0]}")/.." && pwd)/crates/flow/out/flow
 [ -x "$flow" ] || { echo "build the program first: make" >&2; exit 1; }
@@ -17,12 +20,13 @@ trap 'rm -rf "$folder"' EXIT
 cd "$folder"
 
 uptime
-python3 - "$flow" "${1:-15}" "${2:-}" <<'PYTHON'
-import json, os, random, statistics, subprocess, sys, time
+python3 - "$flow" "${1:-15}" "${2:-}" "${3:-}" <<'PYTHON'
+import json, multiprocessing, os, random, statistics, subprocess, sys, time
 
 FLOW = sys.argv[1]
 CALLS = int(sys.argv[2])
 PICKED = sys.argv[3]
+STEADY = sys.argv[4] == "steady"
 dice = random.Random(7)
 
 
@@ -79,6 +83,13 @@ def processor_ticks():
     return user + nice + system + irq + softirq + stolen, stolen
 
 
+def turn_idly():
+    """A loop that runs while its processor has nothing else to do."""
+    os.sched_setscheduler(0, os.SCHED_IDLE, os.sched_param(0))
+    while True:
+        pass
+
+
 class Call:
     """Programs that are started at once, one for each graph."""
 
@@ -102,15 +113,15 @@ def milliseconds(seconds):
     return f"{statistics.median(seconds) * 1000:.1f} ms (least {min(seconds) * 1000:.1f})"
 
 
-def measure(what, graph, workers, programs):
-    """A row: calls by one worker and by so many, and so many programs at once where there are graphs of parts."""
-    kinds = [("1 worker", [graph], 1), (f"{workers} workers", [graph], workers)]
-    if programs:
-        kinds.append((f"{programs} programs at once", [f"{graph}-{part}" for part in range(programs)], 1))
-    turns = [[Call(graphs, count) for _, graphs, count in kinds] for _ in range(CALLS)]
-    print(what)
+def is_quiet(turn):
+    """Whether the host kept the processors for no more than two in a hundred of any call's time, or for a tick."""
+    return all(call.stolen <= max(1, call.worked // 50) for call in turn)
+
+
+def print_kinds(names, turns):
+    """A line for each kind of call: its times, and how they compare with those of the first kind in the same turns."""
     ones = [turn[0] for turn in turns]
-    for place, (name, _, _) in enumerate(kinds):
+    for place, name in enumerate(names):
         calls = [turn[place] for turn in turns]
         seconds = [call.seconds for call in calls]
         speed = statistics.median(one.seconds / call.seconds for one, call in zip(ones, calls))
@@ -122,6 +133,21 @@ def measure(what, graph, workers, programs):
               flush=True)
 
 
+def measure(what, graph, workers, programs):
+    """A row: calls by one worker and by so many, and so many programs at once where there are graphs of parts."""
+    kinds = [("1 worker", [graph], 1), (f"{workers} workers", [graph], workers)]
+    if programs:
+        kinds.append((f"{programs} programs at once", [f"{graph}-{part}" for part in range(programs)], 1))
+    names = [name for name, _, _ in kinds]
+    turns = [[Call(graphs, count) for _, graphs, count in kinds] for _ in range(CALLS)]
+    print(f"{what}, {CALLS} turns")
+    print_kinds(names, turns)
+    quiet = [turn for turn in turns if is_quiet(turn)]
+    if quiet and len(quiet) < CALLS:
+        print(f" the {len(quiet)} quiet ones of them")
+        print_kinds(names, quiet)
+
+
 ROWS = [("eight reads alone", "reads", 4, 0), ("eight sorts of lines of 7 bytes", "sorts7", 4, 4),
         ("eight reads with three tasks each, lines of 7 bytes", "work7", 4, 0),
         ("eight sorts of lines of 100 bytes", "sorts100", 4, 4),
@@ -130,6 +156,10 @@ ROWS = [("eight reads alone", "reads", 4, 0), ("eight sorts of lines of 7 bytes"
 picked = [row for row in ROWS if PICKED in row[0]]
 if not picked:
     sys.exit(f"no row has a name that contains {PICKED}")
+if STEADY:
+    for _ in range(os.cpu_count()):
+        multiprocessing.get_context("fork").Process(target=turn_idly, daemon=True).start()
+    print("each processor has a loop of the idle class")
 for row in picked:
     measure(*row)
 PYTHON
