@@ -1,15 +1,15 @@
 #!/usr/bin/env bash
 # Runs the built program on each of the examples, also by 1, 4 and 16 workers, on command lines and files that it refuses,
-# on outputs that fail and without memory, and compares its exit code, standard output and standard error; and counts
-# the threads of runs by several workers. Prints a line for each difference, and ends with status 1 where there is one. Its one argument is the program; without it that of the
-# last build is run.
+# on texts of which one can't be read, on outputs that fail and without memory, and compares its exit code, standard output
+# and standard error; and counts the threads of runs by several workers. Prints a line for each difference, and ends with
+# status 1 where there is one. Its one argument is the program; without it that of the last build is run.
 set -euo pipefail
 top=$(realpath "$(dirname "${BASH_SOURCE[0]}")/..")
 program=$(realpath "${1:-$top/crates/flow/out/flow}")
 cd "$top"
 
 seen=$(mktemp -d)
-trap 'rm -rf "$seen"' EXIT
+trap 'chmod -R u+rwX "$seen" || true; rm -rf "$seen"' EXIT
 
 cases=0
 faults=0
@@ -27,13 +27,14 @@ compare() {
     cmp -s "$seen/notes" "$notes" || fault "$what notes: $(cat "$seen/notes")"
 }
 
-# Calls the program with these words, and with so many kilobytes of memory.
+# Calls the program with these words, with so many kilobytes of memory, and behind this command if there is one.
 memory=unlimited
+behind=()
 call() {
     local code=0
     (
         ulimit -v "$memory"
-        exec "$program" "$@" >"$seen/out" 2>"$seen/notes"
+        exec "${behind[@]}" "$program" "$@" >"$seen/out" 2>"$seen/notes"
     ) || code=$?
     echo "$code" >"$seen/code"
 }
@@ -297,6 +298,169 @@ reading long.txt
 memory=16384
 refused 13 'flow: no memory' run graph.json
 memory=unlimited
+cd "$top"
+
+# Two and three texts of which one can't be read, at each place, by 1 and by 4 workers: the call stops at the first of them,
+# in the order of the file. A pipe NAME.pipe gets the bytes of NAME.txt, and standard input those of other.txt. What hangs
+# is ended, with a code of its own, as what opens the pipe to which nobody writes.
+mkdir "$seen/inputs" "$seen/inputs/folder" "$seen/inputs/locked"
+cd "$seen/inputs"
+printf 'x\ny\n' >good.txt
+printf 'z\n' >other.txt
+truncate -s 16777216 long.txt
+mkfifo good.pipe long.pipe nobody
+echo x | tee locked.txt >locked/inside.txt
+chmod 000 locked.txt locked
+behind=(timeout 20)
+
+# A user for whom modes count: this one, or where that is root another one. He has the program where he may read it.
+built=$program
+chmod 755 "$seen"
+install -m 755 "$program" "$seen/flow"
+other_user=()
+if ((EUID == 0)); then other_user=(setpriv --reuid=65534 --regid=65534 --clear-groups); fi
+other_user_calls() {
+    local code=0
+    "${other_user[@]}" "$seen/flow" >"$seen/out" 2>&1 || code=$?
+    ((code == 2))
+}
+
+# A graph whose tasks read these texts.
+reads() {
+    local tasks=() text
+    for text in "$@"; do tasks+=("$(task "t${#tasks[@]}" read "\"text\":\"$text\"")"); done
+    (IFS=, && echo "{\"tasks\":[${tasks[*]}]}") >graph.json
+}
+
+# Calls the program with these words on that graph, while each of these pipes is written to.
+call_beside() {
+    local pipes=$1 writers=() pipe writer
+    shift
+    for pipe in $pipes; do
+        timeout 20 tee "$pipe" <"${pipe%.pipe}.txt" >/dev/null 2>&1 &
+        writers+=("$!")
+    done
+    call "$@" <other.txt
+    for writer in "${writers[@]}"; do
+        kill "$writer" 2>/dev/null || true
+        wait "$writer" || true
+    done
+}
+
+# The pipes among these texts, each once.
+pipes_of() {
+    tr ' ' '\n' <<<"$*" | grep '\.pipe$' | sort -u || true
+}
+
+stops_at() {
+    local code=$1 line=$2 workers
+    shift 2
+    reads "$@"
+    echo "flow: $line" >"$seen/wanted_notes"
+    for workers in 1 4; do
+        call_beside "$(pipes_of "$@")" run graph.json --workers "$workers"
+        compare "a run by $workers workers over $*" "$code" /dev/null "$seen/wanted_notes"
+    done
+}
+
+prints_texts() {
+    local text number=0 workers
+    reads "$@"
+    for text in "$@"; do
+        echo "== t$number"
+        case $text in
+            *.pipe) cat "${text%.pipe}.txt" ;;
+            /dev/stdin) cat other.txt ;;
+            *) cat "$text" ;;
+        esac
+        number=$((number + 1))
+    done >"$seen/wanted_out"
+    for workers in 1 4; do
+        call_beside "$(pipes_of "$@")" run graph.json --workers "$workers"
+        compare "a run by $workers workers over $*" 0 "$seen/wanted_out" /dev/null
+    done
+}
+
+# The code, the line but for the name, and the name; `@` stands for it among the texts.
+bad_texts=(
+    '5|no text|nowhere.txt'
+    '6|read fault on|folder'
+    '6|read fault on|good.txt/below'
+    '5|text too long|long.txt'
+    '5|text too long|long.pipe'
+    '6|read fault on|locked.txt'
+    '6|read fault on|locked/inside.txt'
+)
+bad_places=(
+    '@ good.txt'
+    'good.txt @'
+    '@ good.txt other.txt'
+    'good.txt @ other.txt'
+    'good.txt other.txt @'
+    '@ @ good.txt'
+    'good.txt @ @'
+    'good.pipe @'
+    '@ nobody'
+    '/dev/stdin @'
+)
+for bad in "${bad_texts[@]}"; do
+    IFS='|' read -r code line text <<<"$bad"
+    if [[ $text == locked* ]]; then
+        if ! other_user_calls; then
+            echo "program: no other user can be had here, so $text isn't tried"
+            continue
+        fi
+        behind=(timeout 20 "${other_user[@]}")
+        program=$seen/flow
+    fi
+    for place in "${bad_places[@]}"; do
+        read -ra texts <<<"${place//@/$text}"
+        stops_at "$code" "$line $text" "${texts[@]}"
+    done
+done
+behind=(timeout 20)
+program=$built
+stops_at 5 'no text nowhere.txt' nowhere.txt folder long.txt
+stops_at 6 'read fault on folder' folder long.txt nowhere.txt
+stops_at 5 'text too long long.txt' good.txt long.txt folder
+good_places=(
+    'good.txt good.txt'
+    'good.txt other.txt good.txt'
+    'good.txt ./good.txt'
+    'good.pipe good.txt'
+    'good.txt good.pipe'
+    'good.txt good.pipe other.txt'
+    'good.pipe good.pipe'
+    '/dev/stdin good.txt'
+    'good.txt /dev/stdin other.txt'
+    '/dev/stdin /dev/stdin'
+    'good.pipe /dev/stdin'
+)
+for place in "${good_places[@]}"; do
+    read -ra texts <<<"$place"
+    prints_texts "${texts[@]}"
+done
+
+# The graph file and the journal from standard input, and names that aren't UTF-8, which a JSON string can't have.
+reads good.txt
+printf '== t0\nx\ny\n' >"$seen/wanted_out"
+call run /dev/stdin <graph.json
+compare 'a run of the graph on standard input' 0 "$seen/wanted_out" /dev/null
+call run graph.json --journal
+cp "$seen/out" journal.txt
+echo complete >"$seen/wanted_out"
+call judge graph.json /dev/stdin <journal.txt
+compare 'the judgement of the journal on standard input' 0 "$seen/wanted_out" /dev/null
+for workers in 1 4; do
+    refused 2 'flow: bad words' run $'\xff' --workers "$workers"
+done
+refused 2 'flow: bad words' judge graph.json $'\xff'
+refused 2 'flow: bad words' check $'\xff'
+reads $'\xff' good.txt
+refused 3 'flow: bad graph: not JSON' run graph.json
+reads 'good.txt' '\ud800'
+refused 3 'flow: bad graph: not JSON' run graph.json
+behind=()
 cd "$top"
 
 # A call of this command whose output took no more than these first bytes of what it is to print.
