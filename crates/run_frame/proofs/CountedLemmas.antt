@@ -1,12 +1,22 @@
 -- The counts of what is outstanding, after one item more and one less.
 use Rattle.std.proofs.Common.{◌≡◌, ⊎_elim, ℕ, ◌+◌, ◌-◌, ◌<◌, List, [], ◌∷◌, ◌++◌, length, set, Option, Some, None, refl, sym, subst, arith}
 use Rattle.std.specs.Prelude.{slice_get, slice_index, is_some}
+use Rattle.std.proofs.Math.ListN.{replicate}
+use Rattle.std.proofs.lemmas.List.{get_or-replicate, length-replicate}
+use Rattle.std.proofs.lemmas.Option.{none-some}
 use Rattle.run_frame.specs.declared.duty.Duty.{Duty}
 use Rattle.run_frame.specs.Duties.{is_unused, as_strong, outstanding_count}
 use Rattle.run_frame.specs.inside.Outstanding.{IsBelow, CountsStrong, IsAmongStrong, CountsOutstanding}
 use Rattle.run_frame.proofs.DutyLemmas.{get_push, get_cleared, count_cleared, count_pushed, count_below}
 
 module _ {V : Type 0} where
+  pub nothing_counted : (tasks : ℕ) (strong : List ℕ) → strong ≡ replicate tasks 0 → CountsOutstanding {V = V} [] strong 0
+  nothing_counted tasks strong are = record {
+    all = refl;
+    each = λ t inside. let below : t < tasks = omega (arith, subst (λ xs. t < length xs) are inside, length-replicate {A = ℕ} tasks 0) in subst (λ xs. slice_index xs t ≡ 0) (sym are) (get_or-replicate tasks t 0 0 below);
+    below = λ n duty is. absurd (none-some (Some duty) is);
+  }
+
   pub counted_issued : (items : List (Option (Duty V))) (strong strong' : List ℕ) (total : ℕ) (duty : Duty V) → CountsOutstanding items strong total → CountsStrong strong duty strong' → IsBelow (length strong) duty
       → CountsOutstanding (items ++ Some duty ∷ []) strong' (total + 1)
   counted_issued items strong strong' total duty counted more below = record {

@@ -1,0 +1,5 @@
+pub mod LastEnds
+pub mod Reasons
+pub mod Through
+pub mod Depth
+pub mod TextPlain

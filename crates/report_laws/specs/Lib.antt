@@ -1,0 +1,5 @@
+pub mod PlainJobs
+pub mod PlainLaws
+pub mod Output
+pub mod PlainReport
+pub mod Worked

@@ -1,0 +1,49 @@
+-- Small plans, to be worked out.
+use Rattle.std.specs.Prelude.{ℕ, false, List, [], ◌∷◌, codes}
+use Rattle.task_graph.specs.NetRows.{NetRows}
+use Rattle.task_graph.specs.declared.net.EdgeRow.{EdgeRow}
+use Rattle.task_graph.specs.declared.net.Shape.{Shape}
+use Rattle.task_graph.specs.declared.net.Shape.TheVariants.{Plain, Choice}
+use Rattle.task_graph.specs.declared.net.TaskRow.{TaskRow}
+use Rattle.graph_plans.specs.declared.ops.Op.{Op}
+use Rattle.graph_plans.specs.declared.ops.Op.TheVariants.{Read, IfMore, Text as OnText}
+use Rattle.graph_plans.specs.declared.ops.TextOp.TheVariants.{Head, Keep}
+use Rattle.graph_plans.specs.PlanRows.{PlanRows}
+use Rattle.text_tasks.specs.declared.job.TextJob.{TextJob}
+use Rattle.text_tasks.specs.declared.job.TextJob.TheVariants.{Graph}
+use Rattle.text_tasks.specs.GraphWork.{first_work}
+
+abbrev task : Shape → TaskRow
+task shape = record { shape = shape; takes = []; puts = [] }
+
+abbrev edge : ℕ → ℕ → EdgeRow
+edge from to = record { from = from; to = to; start = false }
+
+-- a plan of one graph over two texts
+abbrev plan_of : List (List ℕ) → List Op → NetRows → PlanRows
+plan_of names ops net = record {
+  top = record { name = []; names = names; ops = ops; sem_names = []; net = net };
+  modules = [];
+  texts = codes "p" ∷ codes "q" ∷ [];
+}
+
+-- two texts, of which the lines with an `a` are kept together; one of them is handed to another task besides
+abbrev pub kept_together : PlanRows
+kept_together = plan_of (codes "p" ∷ codes "q" ∷ codes "k" ∷ codes "h" ∷ [])
+    (Read 0 ∷ Read 1 ∷ OnText (Keep (codes "a")) ∷ OnText (Head 1) ∷ [])
+    (record { tasks = task Plain ∷ task Plain ∷ task Plain ∷ task Plain ∷ []; edges = edge 0 2 ∷ edge 1 2 ∷ edge 1 3 ∷ []; sems = [] })
+
+-- a text of more lines than one goes to one task, else to another
+abbrev pub chooses_a_branch : PlanRows
+chooses_a_branch = plan_of (codes "m" ∷ codes "k" ∷ codes "h" ∷ [])
+    (IfMore 1 ∷ OnText (Keep (codes "a")) ∷ OnText (Head 1) ∷ [])
+    (record { tasks = task Choice ∷ task Plain ∷ task Plain ∷ []; edges = edge 0 1 ∷ edge 0 2 ∷ []; sems = [] })
+
+-- a task takes a unit that it doesn't put back
+abbrev pub takes_and_keeps : PlanRows
+takes_and_keeps = plan_of (codes "p" ∷ []) (Read 0 ∷ [])
+    (record { tasks = record { shape = Plain; takes = 0 ∷ []; puts = [] } ∷ []; edges = []; sems = 1 ∷ [] })
+
+-- a job of such a plan, with at most so many starts
+abbrev pub worked_job : PlanRows → ℕ → TextJob
+worked_job plan limit = Graph (first_work plan (codes "a1\nb\n" ∷ codes "b\na2\n" ∷ []) limit)
