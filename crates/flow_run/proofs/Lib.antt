@@ -2,6 +2,7 @@ mod Crossing
 pub mod RoomLemmas
 pub mod Preparing
 pub mod ReportLemmas
+pub mod ValueSearch
 pub mod OutputExamples
 pub mod ReportRule
 pub mod Ending
