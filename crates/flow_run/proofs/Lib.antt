@@ -14,3 +14,4 @@ pub mod StopExamples
 pub mod JudgeExamples
 pub mod CheckExamples
 pub mod EndExamples
+pub mod ReadExamples
