@@ -1,11 +1,15 @@
--- What a flush makes of what was put, and a line of what was made.
+-- What a flush makes of what was put, and what was done with the line of a status.
 use Rattle.std.proofs.Common.{◌≡◌, ℕ, ◌<◌, ◌≤◌, List, [], ◌++◌, Option, Result, Ok, Err, OnOk, OnErr, IfErr, refl, sym, ap, ◌∙◌, subst, arith, append-nil, append_assoc}
 use Rattle.outside_io.specs.declared.sink.SinkFault.{SinkFault}
 use Rattle.outside_io.specs.declared.sink.SinkFault.TheVariants as fault
 use Rattle.outside_io.specs.Sink.{SinkState, Took, TookFront, Accepts, FailsOn, AcceptsFront}
 use Rattle.outside_io.proofs.Pieces.{took_all, took_nothing, writes_both}
-use Rattle.std.specs.Result.{IsOkAnd, IfOk}
+use Rattle.call_status.specs.declared.status.Status.{Status}
+use Rattle.call_status.specs.declared.status.Status.TheVariants.{Done}
+use Rattle.call_status.specs.declared.status.Noted.{Noted}
 use Rattle.call_status.specs.Delivery.{Delivered, CutShort, Delivers}
+use Rattle.call_status.specs.Notes.{note_line}
+use Rattle.call_status.specs.Noting.{HasNoted, TakesLine}
 
 -- Bytes that were taken where nothing was held back before.
 front_taken : (before after : SinkState) (bytes : List ℕ) → before.held_back ≡ [] → TookFront before.taken after.taken (before.held_back ++ bytes) → TookFront before.taken after.taken bytes
@@ -75,7 +79,11 @@ flush_cuts before between after bytes result none part flush = by_result result 
     by_result (Err fault.Failed) failed = (cut failed.0.took, omega (arith, failed.1))
     by_result (Err fault.NoMemory) failed = (cut failed.0.took, failed.1)
 
--- What holds of a line that was made holds of what it says.
-pub made_line : {E : Type 0} (line : Result (List ℕ) E) (text : List ℕ) (P : List ℕ → Type 0) → IfOk line (λ made. made ≡ text) → IsOkAnd line P → P text
-made_line (Ok made) text P says holds = subst P says holds
-made_line (Err error) text P says holds = absurd holds
+-- What was done with the line of a status that has one.
+pub noted_line : {N : Type 0} (state : N → SinkState) (old new : N) (names : List (List ℕ)) (status told : Status) (noted : Noted) → status ≡ told → (told ≡ Done → ⊥)
+    → TakesLine (state old) (state new) (note_line names told) noted → (state new).held_back ≡ [] → HasNoted state old new (note_line names status) status noted
+noted_line state old new names status told noted is other takes none = record {
+  takes = subst (λ (s : Status). TakesLine (state old) (state new) (note_line names s) noted) (sym is) takes;
+  nothing_held = none;
+  done = λ done. absurd (other (sym is ∙ done));
+}

@@ -4,3 +4,4 @@ pub mod Stopping
 pub mod Reasons
 pub mod Notes
 pub mod Delivery
+pub mod Noting

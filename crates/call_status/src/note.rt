@@ -1,11 +1,8 @@
 // The line of a status on standard error.
-ghost use Rattle.std.specs.Prelude.{◌≡◌, ◌<◌, ◌++◌, [], codes, decimal, IfOk, OnOk};
-ghost use Rattle.std.specs.Result.{IsOkAnd};
-ghost use Rattle.call_status.specs.Delivery.{CutShort, Delivered};
+ghost use Rattle.std.specs.Prelude.{◌≡◌, ◌++◌, [], List, ℕ, codes, decimal, IfOk, OnOk};
 ghost use Rattle.call_status.specs.Notes.{NamesStatus, graph_error_text, kind_text, note_line, spot_text, within_text};
+ghost use Rattle.call_status.specs.Noting.{HasNoted, TakesLine};
 ghost use Rattle.call_status.specs.Reasons.{NamesPath, fault_text, limit_text, stuck_text};
-ghost use Rattle.call_status.specs.declared.status.Noted.TheVariants as noted;
-ghost use Rattle.call_status.specs.declared.status.Status.TheVariants.{Done};
 
 use super::delivery::deliver;
 use super::reasons::{add_fault, add_limit, add_stuck};
@@ -23,12 +20,7 @@ use std::alloc::Global;
 pub fn put_note<N: Sink>(alloc: Global, notes: &mut N, names: &[Bytes], status: &Status) -> Noted
     requires nothing_held { (N.state notes.old).held_back ≡ [] }
     requires named { NamesStatus names.now status.now }
-    ensures whole { result ≡ noted.Whole → Delivered (N.state notes.old) (N.state notes.new) (note_line names.now status.now) }
-    ensures fault { result ≡ noted.Fault → CutShort (N.state notes.old) (N.state notes.new) (note_line names.now status.now) }
-    ensures cause { result ≡ noted.Fault → (N.state notes.old).faults < (N.state notes.new).faults }
-    ensures no_memory { result ≡ noted.NoMemory → N.state notes.new ≡ N.state notes.old }
-    ensures done { status.now ≡ Done → result ≡ noted.Whole }
-    ensures untouched { status.now ≡ Done → notes.new ≡ notes.old }
+    ensures { HasNoted N.state notes.old notes.new (note_line names.now status.now) status.now result }
 {
     match status {
         Status::Done => Noted::Whole,
@@ -57,10 +49,8 @@ pub fn put_note<N: Sink>(alloc: Global, notes: &mut N, names: &[Bytes], status: 
 // Writes a line where there was memory to make it.
 fn put_made<N: Sink>(notes: &mut N, line: Result<Bytes, NoMemory>) -> Noted
     requires { (N.state notes.old).held_back ≡ [] }
-    ensures whole { result ≡ noted.Whole → IsOkAnd line (Delivered (N.state notes.old) (N.state notes.new)) }
-    ensures fault { result ≡ noted.Fault → IsOkAnd line (CutShort (N.state notes.old) (N.state notes.new)) }
-    ensures cause { result ≡ noted.Fault → (N.state notes.old).faults < (N.state notes.new).faults }
-    ensures no_memory { result ≡ noted.NoMemory → N.state notes.new ≡ N.state notes.old }
+    ensures takes { (text : List ℕ) → IfOk line (λ made. made ≡ text) → TakesLine (N.state notes.old) (N.state notes.new) text result }
+    ensures nothing_held { (N.state notes.new).held_back ≡ [] }
 {
     match line {
         Ok(line) => put_line(notes, line.as_slice()),
@@ -71,10 +61,8 @@ fn put_made<N: Sink>(notes: &mut N, line: Result<Bytes, NoMemory>) -> Noted
 // Writes a line, by one write.
 fn put_line<N: Sink>(notes: &mut N, line: &[u8]) -> Noted
     requires { (N.state notes.old).held_back ≡ [] }
-    ensures whole { result ≡ noted.Whole → Delivered (N.state notes.old) (N.state notes.new) line.now }
-    ensures fault { result ≡ noted.Fault → CutShort (N.state notes.old) (N.state notes.new) line.now }
-    ensures cause { result ≡ noted.Fault → (N.state notes.old).faults < (N.state notes.new).faults }
-    ensures no_memory { result ≡ noted.NoMemory → N.state notes.new ≡ N.state notes.old }
+    ensures takes { TakesLine (N.state notes.old) (N.state notes.new) line.now result }
+    ensures nothing_held { (N.state notes.new).held_back ≡ [] }
 {
     match deliver(notes, line) {
         Ok(()) => Noted::Whole,

@@ -1,11 +1,11 @@
 -- Command lines and what they ask for, computed.
-use Rattle.std.proofs.Common.{◌≡◌, refl, codes, Some, None, [], ◌∷◌, List, ℕ, true, false}
+use Rattle.std.proofs.Common.{◌≡◌, refl, arith, codes, Some, None, [], ◌∷◌, List, ℕ, true, false}
 use Rattle.std.specs.Borrow.{Bor}
 use Rattle.command_line.specs.declared.request.Request.TheVariants.{Run, Judge, Check}
 use Rattle.command_line.specs.Asked.{asked}
 use Rattle.clap.proofs.OnLiterals.{clap_on_literals}
 use Rattle.command_line.specs.Numbers.{number_in}
-use Rattle.command_line.specs.Requests.{run, judge, check, asked_by, limit_asked, limit_by, workers_asked, workers_by}
+use Rattle.command_line.specs.Requests.{run, judge, check, asked_by, limit_by, workers_by}
 
 -- Numbers have 1 to 7 digits and nothing else, and are in their range.
 least : number_in 1 1000000 (codes "1") ≡ Some 1
@@ -157,12 +157,6 @@ by_no_worker : asked_by (codes "run" ∷ codes "g" ∷ codes "--workers" ∷ cod
 unfolding clap_on_literals
 by_no_worker = refl
 
-workers_of_a_run : workers_asked (run (codes "g") 5 9 false) ≡ Some 9
-workers_of_a_run = refl
-
-no_workers_of_a_judgement : (workers_asked (judge (codes "g") (codes "j") 6) ≡ None) × (workers_asked (check (codes "g")) ≡ None)
-no_workers_of_a_judgement = (refl, refl)
-
 -- A check of a graph, which has a file and nothing else.
 checked : asked_by (codes "check" ∷ codes "g" ∷ []) ≡ Some (check (codes "g"))
 unfolding clap_on_literals
@@ -191,22 +185,12 @@ help_on_a_check = refl
 another_spelling : asked_by (codes "Check" ∷ codes "g" ∷ []) ≡ None
 another_spelling = refl
 
--- A run and a journal that is judged may have so many starts.
-starts_of_a_run : limit_asked (run (codes "g") 5 9 false) ≡ Some 5
-starts_of_a_run = refl
-
-starts_of_a_judgement : limit_asked (judge (codes "g") (codes "j") 6) ≡ Some 6
-starts_of_a_judgement = refl
-
-no_starts_of_a_check : limit_asked (check (codes "g")) ≡ None
-no_starts_of_a_check = refl
-
 -- What requests of the source ask for.
 module _ (file journal : Bor (List ℕ)) where
-  asks_for_a_run : asked (Run (record { file = file; limit = 5; workers = 9; journal = true })) ≡ run file.now 5 9 true
+  asks_for_a_run : asked (Run (record { file = file; limit = 5; workers = 9; journal = true; within_limit = omega arith; some_workers = (omega arith, omega arith) })) ≡ run file.now 5 9 true
   asks_for_a_run = refl
 
-  asks_for_a_judgement : asked (Judge (record { file = file; journal = journal; limit = 6 })) ≡ judge file.now journal.now 6
+  asks_for_a_judgement : asked (Judge (record { file = file; journal = journal; limit = 6; within_limit = omega arith })) ≡ judge file.now journal.now 6
   asks_for_a_judgement = refl
 
   asks_for_a_check : asked (Check (record { file = file })) ≡ check file.now

@@ -17,17 +17,6 @@ pub data Asked : Type 0 where
   judge : List ℕ → List ℕ → ℕ → Asked
   check : List ℕ → Asked
 
--- how many starts there may be, where starts are counted
-abbrev pub limit_asked : Asked → Option ℕ
-limit_asked (run file limit workers journal) = Some limit
-limit_asked (judge file journal limit) = Some limit
-limit_asked (check file) = None
-
--- how many workers there are to be, where there is a run
-abbrev pub workers_asked : Asked → Option ℕ
-workers_asked (run file limit workers journal) = Some workers
-workers_asked asked = None
-
 -- a command of this name that reads no name of a program, and of itself has no flag
 abbrev pub command_named : List ℕ → App
 command_named name = on_top (λ s. record s { no_binary_name = true; disable_help_flag = true }) (new_app name)

@@ -1,8 +1,9 @@
 // The command `judge`.
-ghost use Rattle.std.specs.Prelude.{◌≡◌, ◌≤◌, map, IfOk, IfErr, IfSome, Some, None, option_map, option_and_then};
+ghost use Rattle.std.specs.Prelude.{◌≡◌, ◌≤◌, map, IfOk, IfErr, Some, None, option_map, option_and_then};
 ghost use Rattle.std.specs.String.{string_bytes};
 ghost use Rattle.clap.specs.Words.{app_of, rows_of, found_of};
 ghost use Rattle.command_line.specs.Requests.{judge, judge_app, judge_in, rows_in};
+ghost use Rattle.command_line.specs.declared.numbers.TheConstants.{GREATEST_LIMIT};
 
 use super::matches::{bare_command, matches_in};
 use super::numbers::{GREATEST_LIMIT, limit_of};
@@ -19,6 +20,7 @@ pub struct Judge<'w> {
     pub journal: &'w str,
     /// How many starts the journal may have, from 1 to 1,000,000.
     pub limit: u64,
+    pub ghost within_limit: { limit ≤ GREATEST_LIMIT },
 }
 
 /// What the arguments after `judge` ask for.
@@ -27,7 +29,6 @@ pub(crate) fn read_judge<'w>(
     arguments: &'w [String],
 ) -> Result<Judge<'w>, ArgumentsError>
     ensures ok { IfOk result (λ j. option_and_then judge_in (rows_in judge_app (map string_bytes arguments.entry.now)) ≡ Some (judge j.file.now j.journal.now j.limit)) }
-    ensures limit { IfOk result (λ j. j.limit ≤ GREATEST_LIMIT) }
     ensures err { IfErr result (λ error. error ≡ ArgumentsError.Refused → option_and_then judge_in (rows_in judge_app (map string_bytes arguments.entry.now)) ≡ None) }
 {
     let command = judge_command(alloc)?;
@@ -53,8 +54,7 @@ fn judge_command<'w>(alloc: Global) -> Result<Command<'w>, AllocError>
 // The judgement that these matches ask for.
 #[tactic(auto, using(crate::proofs::Reading::first_in_rows))]
 fn judge_of<'w>(matches: &ArgMatches<'w>) -> Option<Judge<'w>>
-    ensures judge { option_map (λ j. judge j.file.now j.journal.now j.limit) result ≡ judge_in (rows_of (found_of matches.now)) }
-    ensures limit { IfSome result (λ j. j.limit ≤ GREATEST_LIMIT) }
+    ensures { option_map (λ j. judge j.file.now j.journal.now j.limit) result ≡ judge_in (rows_of (found_of matches.now)) }
 {
     let file = matches.get_str("file")?;
     let journal = matches.get_str("journal")?;

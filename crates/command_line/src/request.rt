@@ -1,12 +1,11 @@
 // Requests.
-ghost use Rattle.std.specs.Prelude.{◌≡◌, ◌<◌, ◌≤◌, map, IfOk, IfErr, IfSome, Some, None};
+ghost use Rattle.std.specs.Prelude.{◌≡◌, map, IfOk, IfErr, Some, None};
 ghost use Rattle.std.specs.String.{string_bytes};
-ghost use Rattle.command_line.specs.Requests.{asked_by, limit_asked, workers_asked};
+ghost use Rattle.command_line.specs.Requests.{asked_by};
 ghost use Rattle.command_line.specs.Asked.{asked};
 
 use super::check::{Check, read_check};
 use super::judge::{Judge, read_judge};
-use super::numbers::{GREATEST_LIMIT, GREATEST_WORKERS};
 use super::run::{Run, read_run};
 use std::alloc::{AllocError, Global};
 
@@ -45,8 +44,6 @@ pub fn read_arguments<'w>(
     arguments: &'w [String],
 ) -> Result<Request<'w>, ArgumentsError>
     ensures ok { IfOk result (λ request. asked_by (map string_bytes arguments.entry.now) ≡ Some (asked request)) }
-    ensures limit { IfOk result (λ request. IfSome (limit_asked (asked request)) (λ limit. limit ≤ GREATEST_LIMIT)) }
-    ensures workers { IfOk result (λ request. IfSome (workers_asked (asked request)) (λ workers. (0 < workers) × (workers ≤ GREATEST_WORKERS))) }
     ensures refused { IfErr result (λ error. error ≡ ArgumentsError.Refused → asked_by (map string_bytes arguments.entry.now) ≡ None) }
 {
     let Some((command, rest)) = arguments.split_first() else {

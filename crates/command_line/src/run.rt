@@ -1,8 +1,9 @@
 // The command `run`.
-ghost use Rattle.std.specs.Prelude.{◌≡◌, ◌↔◌, ◌<◌, ◌≤◌, map, IfOk, IfErr, IfSome, IsTrue, Some, None, option_map, option_and_then};
+ghost use Rattle.std.specs.Prelude.{◌≡◌, ◌<◌, ◌≤◌, map, IfOk, IfErr, Some, None, option_map, option_and_then};
 ghost use Rattle.std.specs.String.{string_bytes};
 ghost use Rattle.clap.specs.Words.{app_of, rows_of, found_of};
 ghost use Rattle.command_line.specs.Requests.{is_set, run, run_app, run_in, rows_in};
+ghost use Rattle.command_line.specs.declared.numbers.TheConstants.{GREATEST_LIMIT, GREATEST_WORKERS};
 
 use super::matches::{bare_command, matches_in};
 use super::numbers::{GREATEST_LIMIT, GREATEST_WORKERS, limit_of, workers_of};
@@ -21,6 +22,8 @@ pub struct Run<'w> {
     pub workers: u32,
     /// Whether the run's journal is written in place of its report.
     pub journal: bool,
+    pub ghost within_limit: { limit ≤ GREATEST_LIMIT },
+    pub ghost some_workers: { (0 < workers) × (workers ≤ GREATEST_WORKERS) },
 }
 
 /// What the arguments after `run` ask for.
@@ -29,8 +32,6 @@ pub(crate) fn read_run<'w>(
     arguments: &'w [String],
 ) -> Result<Run<'w>, ArgumentsError>
     ensures ok { IfOk result (λ r. option_and_then run_in (rows_in run_app (map string_bytes arguments.entry.now)) ≡ Some (run r.file.now r.limit r.workers r.journal)) }
-    ensures limit { IfOk result (λ r. r.limit ≤ GREATEST_LIMIT) }
-    ensures workers { IfOk result (λ r. (0 < r.workers) × (r.workers ≤ GREATEST_WORKERS)) }
     ensures err { IfErr result (λ error. error ≡ ArgumentsError.Refused → option_and_then run_in (rows_in run_app (map string_bytes arguments.entry.now)) ≡ None) }
 {
     let command = run_command(alloc)?;
@@ -60,9 +61,7 @@ fn run_command<'w>(alloc: Global) -> Result<Command<'w>, AllocError>
 // The run that these matches ask for.
 #[tactic(auto, using(crate::proofs::Reading::first_in_rows))]
 fn run_of<'w>(matches: &ArgMatches<'w>) -> Option<Run<'w>>
-    ensures run { option_map (λ r. run r.file.now r.limit r.workers r.journal) result ≡ run_in (rows_of (found_of matches.now)) }
-    ensures limit { IfSome result (λ r. r.limit ≤ GREATEST_LIMIT) }
-    ensures workers { IfSome result (λ r. (0 < r.workers) × (r.workers ≤ GREATEST_WORKERS)) }
+    ensures { option_map (λ r. run r.file.now r.limit r.workers r.journal) result ≡ run_in (rows_of (found_of matches.now)) }
 {
     let file = matches.get_str("file")?;
     let limit = limit_of(matches.get_str("limit"))?;

@@ -3,8 +3,7 @@
 
 use call_status::{Status, put_note};
 use flow_run::flow_main;
-use outside_io::{NoMemory, StdSink};
-use shared_texts::SharedFolder;
+use outside_io::{FolderTexts, NoMemory, StdSink};
 use span_profile::{SpanCount, Watch};
 use std::env;
 use std::io::ErrorKind;
@@ -30,7 +29,7 @@ fn main(rt: HostRuntime) -> ExitCode {
         &rt,
         rt.alloc(),
         arguments.as_slice(),
-        &mut SharedFolder::new(&rt),
+        &mut FolderTexts::new(&rt),
         &mut StdSink::out(rt.alloc(), &rt),
         &mut StdSink::notes(rt.alloc(), &rt),
         watchers,

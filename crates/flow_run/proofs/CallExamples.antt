@@ -22,7 +22,7 @@ use Rattle.flow_run.specs.declared.conclusion.GraphFindings.{GraphFindings}
 use Rattle.journal_rules.specs.declared.entry.Why.TheVariants.{Long as TooLong}
 use Rattle.nested_runs.specs.declared.reasons.Reason.TheVariants as reason
 use Rattle.flow_run.specs.Requests.{SourceTexts, StopsAtName, IsTextOf, TextsAre, StopsAtText, HasStart, StopsAtBytes, HasPlan, IsRequested, file_limit, text_limit}
-use Rattle.flow_run.specs.Answers.{TextRun, IsAfterRun, RunEnds, CallEnds, Reported, IsReadFault, HaveRead}
+use Rattle.flow_run.specs.Answers.{TextRun, IsAfterRun, RunEnds, CallEnds, Reported}
 use Rattle.call_status.specs.Statuses.{status_of}
 
 abbrev g : List ℕ
@@ -354,27 +354,3 @@ module _ (runs : List TextRun) where
 
   faults_forgotten : ¬ Reported of_memory (sink [] 2) (sink [] 1) NoMemory false runs false
   faults_forgotten is = absurd (omega (arith, is.no_fewer))
-
--- A failed read is told, and a read fault isn't told of nothing.
-abbrev texts_kept : ℕ → SourceTexts
-texts_kept faults = held
-
-abbrev count : ℕ → ℕ
-count faults = faults
-
-read_well : HaveRead texts_kept count 0 0 Done
-read_well = record { stays = refl; no_fewer = omega arith; cause = λ is. absurd (cc); reported = inl refl }
-
-failed_read_hidden : ¬ HaveRead texts_kept count 0 1 Done
-failed_read_hidden is = by_case is.reported
-  where
-    by_case : (count 1 ≡ count 0) ⊎ IsReadFault Done ⊎ (Done ≡ NoMemory) → ⊥
-    by_case (inl same) = omega arith
-    by_case (inr (inl (name, is))) = absurd (cc)
-    by_case (inr (inr is)) = absurd (cc)
-
-read_fault_of_nothing : ¬ HaveRead texts_kept count 0 0 (ReadFault t)
-read_fault_of_nothing is = absurd (omega (arith, is.cause (t, refl)))
-
-read_fault_told : HaveRead texts_kept count 0 1 (ReadFault t)
-read_fault_told = record { stays = refl; no_fewer = omega arith; cause = λ is. omega arith; reported = inr (inl (t, refl)) }

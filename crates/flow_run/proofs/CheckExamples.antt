@@ -177,8 +177,8 @@ module _ (plan : PlanRows) (stands : PlanText (1 ∷ []) plan) (findings : List 
   told_as_another_status : ¬ EndsChecked held g (status.NoSource File) (Some (conclusion.Findings (record { names = plan.top.names; findings = findings })))
   told_as_another_status ended = no_source_told_as_a_status ended.after
 
-  at_hand : (arguments : List (List ℕ)) → asked_by arguments ≡ Some (check_of g) → CanBeChecked held arguments
-  at_hand arguments asks = record { file = g; text = texts; plan = plan; asks = asks; specified = refl; graph = (omega arith, stands) }
+  at_hand : CanBeChecked texts g
+  at_hand = record { plan = plan; graph = (omega arith, stands) }
 
 plan_of_a_missing_file : (found : GraphFindings) → ¬ IsChecked held (2 ∷ []) found
 plan_of_a_missing_file found is = let never : None ≡ Some is.bytes = is.read.0 in absurd (cc)
@@ -197,13 +197,6 @@ done_without_findings (inl stopped) = never stopped.why stopped.reported
     never stop.NoMemory same = absurd (cc)
 done_without_findings (inr ended) = let only : None ≡ Some (conclusion.Findings ended.found) = ended.only in absurd (cc)
 
--- Where the source doesn't specify what it holds, nothing can be said to be at hand.
-nothing_to_check : (arguments : List (List ℕ)) → ¬ CanBeChecked None arguments
-nothing_to_check arguments can = let some : None ≡ Some can.text = can.specified in absurd (cc)
-
-run_asked_for : (arguments : List (List ℕ)) → asked_by arguments ≡ Some (run_of g 9 4 false) → ¬ CanBeChecked held arguments
-run_asked_for arguments asks can = let never : Some (run_of g 9 4 false) ≡ Some (check_of can.file) = sym asks ∙ can.asks in absurd (cc)
-
 -- A file that is longer than is read stops the call, and isn't at hand; its bytes are not looked at.
 module _ (bytes : List ℕ) (long : length bytes ≡ 4194305) where
   abbrev too_long : SourceTexts
@@ -218,11 +211,5 @@ module _ (bytes : List ℕ) (long : length bytes ≡ 4194305) where
   long_file_is_not_checked : (findings : GraphFindings) → ¬ IsChecked too_long g findings
   long_file_is_not_checked findings is = let same : Some bytes ≡ Some is.bytes = is.read.0 in absurd (omega (arith, long, ap known_length same, is.read.1))
 
-  long_file_is_not_at_hand : (arguments : List (List ℕ)) → ¬ CanBeChecked too_long arguments
-  long_file_is_not_at_hand arguments can =
-      let same : bytes_of too_long can.file ≡ bytes_of (Some can.text) can.file = ap (λ h. bytes_of h can.file) can.specified in
-      few (can.text can.file) same can.graph
-    where
-      few : (o : Option (List ℕ)) → Some bytes ≡ o → IsSomeAnd o (λ b. (length b ≤ file_limit) × PlanText b can.plan) → ⊥
-      few None same never = never
-      few (Some b) same both = let one : bytes ≡ b = cc in absurd (omega (arith, long, ap length one, both.0))
+  long_file_is_not_at_hand : ¬ CanBeChecked (λ name. Some bytes) g
+  long_file_is_not_at_hand can = absurd (omega (arith, long, can.graph.0))

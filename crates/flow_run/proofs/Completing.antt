@@ -10,11 +10,11 @@ use Rattle.graph_plans.specs.PlanRows.{PlanRows}
 use Rattle.graph_file.specs.PlanText.{PlanText, IsRefused}
 use Rattle.graph_plans.specs.Sources.{NoSourceAnswer}
 use Rattle.call_status.specs.declared.status.Status.{Status}
-use Rattle.call_status.specs.declared.status.Status.TheVariants.{Done, WriteFault, NoMemory}
+use Rattle.call_status.specs.declared.status.Status.TheVariants.{Done, ReadFault, WriteFault, NoMemory}
 use Rattle.call_status.specs.declared.stop.Stop.{Stop}
 use Rattle.call_status.specs.declared.stop.Stop.TheVariants as stop
-use Rattle.flow_run.specs.Requests.{SourceTexts, IsHeld, HasStart, StopsAtName, StopsAtPlan, StopsAtBytes, StopsAtText, StopsBefore, IsAtHand, file_limit, text_limit}
-use Rattle.command_line.specs.Requests.{Asked, asked_by, run, judge, check}
+use Rattle.flow_run.specs.Requests.{SourceTexts, IsHeld, HasStart, StopsAtName, StopsAtPlan, StopsAtBytes, StopsAtText, StopsBefore, CanBeRun, file_limit, text_limit}
+use Rattle.command_line.specs.Requests.{asked_by}
 use Rattle.nested_runs.specs.Reasons.{run_reason}
 use Rattle.nested_runs.specs.declared.reasons.Reason.{Reason}
 use Rattle.nested_runs.specs.declared.reasons.Reason.TheVariants.{Fine}
@@ -22,8 +22,9 @@ use Rattle.text_tasks.specs.JobMeaning.{text_job}
 use Rattle.call_status.specs.Statuses.{status_of}
 use Rattle.call_status.specs.Statuses.{status_after}
 use Rattle.flow_run.specs.declared.conclusion.Conclusion.{Conclusion}
-use Rattle.flow_run.specs.Answers.{TextRun, IsAfterRun, CallEnds, IsReadFault}
-use Rattle.flow_run.specs.Checking.{IsAfterFindings, StopsBeforeFindings, CanBeChecked}
+use Rattle.flow_run.specs.Answers.{TextRun, IsAfterRun, RunEnds, CallEnds}
+use Rattle.flow_run.specs.Completing.{IsAtHand}
+use Rattle.flow_run.specs.Checking.{IsAfterFindings, StopsBeforeFindings, CheckEnds, CanBeChecked}
 use Rattle.journal_rules.specs.declared.entry.Entry.{Entry}
 use Rattle.task_graph.specs.NetRows.{NetRows}
 use Rattle.legal_run.specs.declared.verdict.Break.{Break}
@@ -32,7 +33,7 @@ use Rattle.legal_run.specs.declared.verdict.Verdict.TheVariants.{Complete as Fin
 use Rattle.legal_run.specs.Verdict.{IsVerdict}
 use Rattle.journal_text.specs.JournalText.{IsJournalText}
 use Rattle.journal_text.proofs.TextLemmas.{one_journal}
-use Rattle.flow_run.specs.Judging.{IsJudged, IsAfterVerdict, StopsAtJournalBytes, StopsAtJournal, StopsBeforeVerdict, CanBeJudged, journal_limit}
+use Rattle.flow_run.specs.Judging.{IsJudged, IsAfterVerdict, StopsAtJournalBytes, StopsAtJournal, StopsBeforeVerdict, JudgeEnds, CanBeJudged, journal_limit}
 
 -- Bytes stand for one plan at most.
 pub one_plan : (bytes : List ℕ) (plan other : PlanRows) → PlanText bytes plan → PlanText bytes other → plan ≡ other
@@ -41,22 +42,6 @@ one_plan bytes plan other one two = let both : Ok plan ≡ Ok other = sym one �
 -- Bytes that stand for a plan aren't refused.
 not_refused : (bytes : List ℕ) (plan : PlanRows) (error : GraphError) → PlanText bytes plan → IsRefused bytes error → ⊥
 not_refused bytes plan error stands refused = let both : Ok plan ≡ Err error = sym stands ∙ refused in absurd (cc)
-
--- A command line asks for one thing at most.
-one_request : (arguments : List (List ℕ)) (asked other : Asked) → asked_by arguments ≡ Some asked → asked_by arguments ≡ Some other → asked ≡ other
-one_request arguments asked other one two = let both : Some asked ≡ Some other = sym one ∙ two in cc
-
--- A run asks for one file.
-one_file : (file other : List ℕ) (limit most workers hands : ℕ) (journal instead : Bool) → run file limit workers journal ≡ run other most hands instead → file ≡ other
-one_file file other limit most workers hands journal instead same = cc
-
--- A judgement asks for one of each.
-one_judgement : (file name other others : List ℕ) (limit most : ℕ) → judge file name limit ≡ judge other others most → (file ≡ other) × (name ≡ others) × (limit ≡ most)
-one_judgement file name other others limit most same = (cc, cc, cc)
-
--- And so does a check.
-one_check : (file other : List ℕ) → check file ≡ check other → file ≡ other
-one_check file other same = cc
 
 -- A plan that has a start has no graph without a source.
 has_source : (plan : PlanRows) (at : Spot) → HasStart plan → NoSourceAnswer plan (Some at) → ⊥
@@ -175,78 +160,59 @@ after_run why status fine (inl told) written = inl (told ∙ ap status_after fin
 after_run why status fine (inr (inl (also, failed))) written = absurd (written failed)
 after_run why status fine (inr (inr memory)) written = inr memory
 
-module _ (held : SourceTexts) (arguments : List (List ℕ)) (status : Status) where
-  -- No command line asks for two commands.
-  no_run_and_judgement : (file other name : List ℕ) (limit most workers : ℕ) (journal : Bool) → asked_by arguments ≡ Some (run file limit workers journal) → asked_by arguments ≡ Some (judge other name most) → ⊥
-  no_run_and_judgement file other name limit most workers journal one two = let both = one_request arguments (run file limit workers journal) (judge other name most) one two in absurd (cc)
+module _ (status : Status) (read : (n : List ℕ) → status ≢ ReadFault n) (write : status ≢ WriteFault) where
+  -- A call that stopped stopped at no read.
+  not_at_read : (why : Stop) → status ≡ status_of why → (n : List ℕ) → why ≢ stop.ReadFault n
+  not_at_read why reported n is = read n (reported ∙ ap status_of is)
 
-  no_run_and_check : (file other : List ℕ) (limit workers : ℕ) (journal : Bool) → asked_by arguments ≡ Some (run file limit workers journal) → asked_by arguments ≡ Some (check other) → ⊥
-  no_run_and_check file other limit workers journal one two = let both = one_request arguments (run file limit workers journal) (check other) one two in absurd (cc)
-
-  no_judgement_and_check : (file name other : List ℕ) (limit : ℕ) → asked_by arguments ≡ Some (judge file name limit) → asked_by arguments ≡ Some (check other) → ⊥
-  no_judgement_and_check file name other limit one two = let both = one_request arguments (judge file name limit) (check other) one two in absurd (cc)
-
-  pub completes : (runs : List TextRun) (concluded : Option Conclusion) → CallEnds held arguments status runs concluded → IsAtHand held arguments
-      → All (λ run. run_reason text_job run ≡ Fine) runs → (IsReadFault status → ⊥) → status ≢ WriteFault → (status ≡ Done) ⊎ (status ≡ NoMemory)
-  completes runs concluded (inr (inr (inr (inr (memory, none, nothing))))) hand fine read write = inr memory
-  completes runs concluded (inr (inr (inr (inl (same, none, nothing, never))))) hand fine read write = absurd (none-some (run hand.file hand.limit hand.workers hand.journal) (sym never ∙ hand.asks))
-  completes runs concluded (inr (inr (inl (file, asks, ends, none)))) hand fine read write = absurd (no_run_and_check hand.file file hand.limit hand.workers hand.journal hand.asks asks)
-  completes runs concluded (inr (inl (file, name, limit, asks, ends, none))) hand fine read write = absurd (no_run_and_judgement hand.file file name hand.limit limit hand.workers hand.journal hand.asks asks)
-  completes runs concluded (inl (file, limit, workers, journal, asks, inr ran, none)) hand fine read write =
+  run_completes : (held : SourceTexts) (file : List ℕ) (limit : ℕ) (runs : List TextRun) → IsSomeAnd held (λ text. CanBeRun text file)
+      → All (λ run. run_reason text_job run ≡ Fine) runs → RunEnds held file limit status runs → (status ≡ Done) ⊎ (status ≡ NoMemory)
+  run_completes None file limit runs can fine ends = absurd can
+  run_completes (Some text) file limit runs can fine (inl stopped) =
+      inr (stopped.reported ∙ ap status_of (never_before text file can.plan stopped.why can.graph can.source can.named stopped.stops (not_at_read stopped.why stopped.reported)))
+  run_completes (Some text) file limit runs can fine (inr ran) =
       after_run (run_reason text_job ran.run) status (All-head (λ r. run_reason text_job r ≡ Fine) ran.run [] (subst (All (λ r. run_reason text_job r ≡ Fine)) ran.only fine)) ran.after write
-  completes runs concluded (inl (file, limit, workers, journal, asks, inl stopped, none)) hand fine read write =
-      let same = one_file file hand.file limit hand.limit workers hand.workers journal hand.journal (one_request arguments (run file limit workers journal) (run hand.file hand.limit hand.workers hand.journal) asks hand.asks) in
-      let stops : StopsBefore (Some hand.text) hand.file stopped.why =
-      subst (λ h. StopsBefore h hand.file stopped.why) hand.specified (subst (λ f. StopsBefore held f stopped.why) same stopped.stops) in
-      let memory = never_before hand.text hand.file hand.plan stopped.why hand.graph hand.source hand.named stops (λ n is. read (n, stopped.reported ∙ ap status_of is)) in
-      inr (stopped.reported ∙ ap status_of memory)
 
   -- a verdict that is no break, and whose line didn't fail, is done
   after_verdict : (net : NetRows) (limit : ℕ) (journal : List Entry) (verdict : Verdict) → IsVerdict net limit journal verdict → ((place : ℕ) (why : Break) → ¬ IsVerdict net limit journal (Breaks place why))
-      → IsAfterVerdict verdict status → status ≢ WriteFault → (status ≡ Done) ⊎ (status ≡ NoMemory)
-  after_verdict net limit journal Finished is never (inl told) written = inl told
-  after_verdict net limit journal Legal is never (inl told) written = inl told
-  after_verdict net limit journal (Breaks place why) is never (inl told) written = absurd (never place why is)
-  after_verdict net limit journal verdict is never (inr (inl (also, failed))) written = absurd (written failed)
-  after_verdict net limit journal verdict is never (inr (inr memory)) written = inr memory
+      → IsAfterVerdict verdict status → (status ≡ Done) ⊎ (status ≡ NoMemory)
+  after_verdict net limit journal Finished is never (inl told) = inl told
+  after_verdict net limit journal Legal is never (inl told) = inl told
+  after_verdict net limit journal (Breaks place why) is never (inl told) = absurd (never place why is)
+  after_verdict net limit journal verdict is never (inr (inl (also, failed))) = absurd (write failed)
+  after_verdict net limit journal verdict is never (inr (inr memory)) = inr memory
 
-  pub judges : (runs : List TextRun) (concluded : Option Conclusion) → CallEnds held arguments status runs concluded → CanBeJudged held arguments
-      → (IsReadFault status → ⊥) → status ≢ WriteFault → (status ≡ Done) ⊎ (status ≡ NoMemory)
-  judges runs concluded (inr (inr (inr (inr (memory, none, nothing))))) can read write = inr memory
-  judges runs concluded (inr (inr (inr (inl (same, none, nothing, never))))) can read write = absurd (none-some (judge can.file can.name can.limit) (sym never ∙ can.asks))
-  judges runs concluded (inr (inr (inl (file, asks, ends, none)))) can read write = absurd (no_judgement_and_check can.file can.name file can.limit can.asks asks)
-  judges runs concluded (inl (file, limit, workers, journal, asks, ends, none)) can read write = absurd (no_run_and_judgement file can.file can.name limit can.limit workers journal asks can.asks)
-  judges runs concluded (inr (inl (file, name, limit, asks, inl stopped, none))) can read write =
-      let same = one_judgement file name can.file can.name limit can.limit (one_request arguments (judge file name limit) (judge can.file can.name can.limit) asks can.asks) in
-      let stops : StopsBeforeVerdict (Some can.text) can.file can.name stopped.why =
-      subst (λ h. StopsBeforeVerdict h can.file can.name stopped.why) can.specified
-      (subst (λ n. StopsBeforeVerdict held can.file n stopped.why) same.1 (subst (λ f. StopsBeforeVerdict held f name stopped.why) same.0 stopped.stops)) in
-      let memory = never_before_verdict can.text can.file can.plan can.name can.journal stopped.why can.graph can.source can.trace stops (λ n is. read (n, stopped.reported ∙ ap status_of is)) in
-      inr (stopped.reported ∙ ap status_of memory)
-  judges runs concluded (inr (inl (file, name, limit, asks, inr ended, none))) can read write =
-      let same = one_judgement file name can.file can.name limit can.limit (one_request arguments (judge file name limit) (judge can.file can.name can.limit) asks can.asks) in
-      let judged : IsJudged (Some can.text) can.file can.name can.limit ended.verdict =
-      subst (λ h. IsJudged h can.file can.name can.limit ended.verdict) can.specified
-      (subst (λ l. IsJudged held can.file can.name l ended.verdict) same.2 (subst (λ n. IsJudged held can.file n limit ended.verdict) same.1 (subst (λ f. IsJudged held f name limit ended.verdict) same.0 ended.judged))) in
-      let is = judged_well can.text can.file can.plan can.name can.journal can.limit ended.verdict can.graph can.trace judged in
-      after_verdict can.plan.top.net can.limit can.journal ended.verdict is can.stands ended.after write
+  judge_completes : (held : SourceTexts) (file name : List ℕ) (limit : ℕ) (concluded : Option Conclusion) → IsSomeAnd held (λ text. CanBeJudged text file name limit)
+      → JudgeEnds held file name limit status concluded → (status ≡ Done) ⊎ (status ≡ NoMemory)
+  judge_completes None file name limit concluded can ends = absurd can
+  judge_completes (Some text) file name limit concluded can (inl stopped) =
+      inr (stopped.reported ∙ ap status_of (never_before_verdict text file can.plan name can.journal stopped.why can.graph can.source can.trace stopped.stops (not_at_read stopped.why stopped.reported)))
+  judge_completes (Some text) file name limit concluded can (inr ended) =
+      after_verdict can.plan.top.net limit can.journal ended.verdict (judged_well text file can.plan name can.journal limit ended.verdict can.graph can.trace ended.judged) can.stands ended.after
 
   -- findings whose lines didn't fail are done
-  after_findings : IsAfterFindings status → status ≢ WriteFault → (status ≡ Done) ⊎ (status ≡ NoMemory)
-  after_findings (inl told) written = inl told
-  after_findings (inr (inl failed)) written = absurd (written failed)
-  after_findings (inr (inr memory)) written = inr memory
+  after_findings : IsAfterFindings status → (status ≡ Done) ⊎ (status ≡ NoMemory)
+  after_findings (inl told) = inl told
+  after_findings (inr (inl failed)) = absurd (write failed)
+  after_findings (inr (inr memory)) = inr memory
 
-  pub checks : (runs : List TextRun) (concluded : Option Conclusion) → CallEnds held arguments status runs concluded → CanBeChecked held arguments
-      → (IsReadFault status → ⊥) → status ≢ WriteFault → (status ≡ Done) ⊎ (status ≡ NoMemory)
-  checks runs concluded (inr (inr (inr (inr (memory, none, nothing))))) can read write = inr memory
-  checks runs concluded (inr (inr (inr (inl (same, none, nothing, never))))) can read write = absurd (none-some (check can.file) (sym never ∙ can.asks))
-  checks runs concluded (inr (inl (file, name, limit, asks, ends, none))) can read write = absurd (no_judgement_and_check file name can.file limit asks can.asks)
-  checks runs concluded (inl (file, limit, workers, journal, asks, ends, none)) can read write = absurd (no_run_and_check file can.file limit workers journal asks can.asks)
-  checks runs concluded (inr (inr (inl (file, asks, inl stopped, none)))) can read write =
-      let same = one_check file can.file (one_request arguments (check file) (check can.file) asks can.asks) in
-      let stops : StopsBeforeFindings (Some can.text) can.file stopped.why =
-      subst (λ h. StopsBeforeFindings h can.file stopped.why) can.specified (subst (λ f. StopsBeforeFindings held f stopped.why) same stopped.stops) in
-      let memory = never_before_findings can.text can.file can.plan stopped.why can.graph stops (λ n is. read (n, stopped.reported ∙ ap status_of is)) in
-      inr (stopped.reported ∙ ap status_of memory)
-  checks runs concluded (inr (inr (inl (file, asks, inr ended, none)))) can read write = after_findings ended.after write
+  check_completes : (held : SourceTexts) (file : List ℕ) (concluded : Option Conclusion) → IsSomeAnd held (λ text. CanBeChecked text file)
+      → CheckEnds held file status concluded → (status ≡ Done) ⊎ (status ≡ NoMemory)
+  check_completes None file concluded can ends = absurd can
+  check_completes (Some text) file concluded can (inl stopped) =
+      inr (stopped.reported ∙ ap status_of (never_before_findings text file can.plan stopped.why can.graph stopped.stops (not_at_read stopped.why stopped.reported)))
+  check_completes (Some text) file concluded can (inr ended) = after_findings ended.after
+
+  -- Where nothing is asked for, nothing is at hand.
+  none_at_hand : (held : SourceTexts) → IsAtHand held None → ⊥
+  none_at_hand None hand = hand
+  none_at_hand (Some text) hand = hand
+
+  -- What is at hand and meets no failure is done.
+  pub completes : (held : SourceTexts) (arguments : List (List ℕ)) (runs : List TextRun) (concluded : Option Conclusion) → CallEnds held arguments status runs concluded
+      → IsAtHand held (asked_by arguments) → All (λ run. run_reason text_job run ≡ Fine) runs → (status ≡ Done) ⊎ (status ≡ NoMemory)
+  completes held arguments runs concluded (inl (file, limit, workers, journal, asks, ends, none)) hand fine = run_completes held file limit runs (subst (IsAtHand held) asks hand) fine ends
+  completes held arguments runs concluded (inr (inl (file, name, limit, asks, ends, none))) hand fine = judge_completes held file name limit concluded (subst (IsAtHand held) asks hand) ends
+  completes held arguments runs concluded (inr (inr (inl (file, asks, ends, none)))) hand fine = check_completes held file concluded (subst (IsAtHand held) asks hand) ends
+  completes held arguments runs concluded (inr (inr (inr (inl (same, none, nothing, never))))) hand fine = absurd (none_at_hand held (subst (IsAtHand held) never hand))
+  completes held arguments runs concluded (inr (inr (inr (inr (memory, none, nothing))))) hand fine = inr memory

@@ -38,8 +38,8 @@ use Rattle.command_line.specs.Requests.{asked_by, run as run_of, judge as judge_
 use Rattle.flow_run.specs.declared.conclusion.Conclusion.{Conclusion}
 use Rattle.flow_run.specs.declared.conclusion.Conclusion.TheVariants as conclusion
 use Rattle.flow_run.specs.declared.conclusion.GraphFindings.{GraphFindings}
-use Rattle.flow_run.specs.Requests.{SourceTexts, StopsAtName, IsAdded, StopsAtText, HasStart, StopsAtBytes, StopsAtGraph, StopsBefore, HasPlan, IsRequestedJob, CountsReads, IsAtHand, file_limit, text_limit}
-use Rattle.flow_run.specs.Answers.{TextRun, IsAfterRun, RanOnce, KeptOnce, RunEnds, JobEnds, CallEnds, Reported, HaveRead, names_in, run_texts}
+use Rattle.flow_run.specs.Requests.{SourceTexts, StopsAtName, IsAdded, StopsAtText, HasStart, StopsAtBytes, StopsAtGraph, StopsBefore, HasPlan, IsRequestedJob, CanBeRun, file_limit, text_limit}
+use Rattle.flow_run.specs.Answers.{TextRun, IsAfterRun, RanOnce, KeptOnce, RunEnds, JobEnds, CallEnds, Reported, names_in, run_texts}
 use Rattle.flow_run.specs.Judging.{StopsAtJournal, StopsAtJournalText, StopsBeforeVerdict, JudgeEnds, CanBeJudged}
 use Rattle.flow_run.specs.Checking.{StopsBeforeFindings, EndsChecked, CheckEnds, CanBeChecked}
 
@@ -190,18 +190,6 @@ text_that_is_there (inr (inr behind)) =
     let none : Some (2 ∷ 3 ∷ []) ≡ None = subst (λ name. texts (1 ∷ []) (2 ∷ 3 ∷ []) name ≡ None) (sym behind.stops.stops.0) behind.stops.stops.1 in
     absurd (cc)
 
-abbrev read_all : Result ℕ Stop
-read_all = Ok 0
-
-abbrev read_failed : Result ℕ Stop
-read_failed = Err (stop.ReadFault t)
-
-reads_counted : CountsReads 1 1 read_all × CountsReads 1 2 read_failed
-reads_counted = (refl, omega arith)
-
-failed_read_not_counted : ¬ CountsReads 1 1 read_failed
-failed_read_not_counted is = absurd (omega (arith, is))
-
 stopped_before_its_run : RunEnds held u 77 (NoText u) []
 stopped_before_its_run = inl (record { why = stop.NoText u; stops = missing_graph; reported = refl; none = refl })
 
@@ -338,10 +326,6 @@ module _ (run : TextRun) (journal : run_texts true (run ∷ []) ≡ empty_journa
     nothing_to_write = λ none. absurd (cc);
   }
 
--- A failed read isn't told where memory ran out as well.
-failed_read_behind_memory : HaveRead (λ n. held) (λ (n : ℕ). n) 0 1 NoMemory
-failed_read_behind_memory = record { stays = refl; no_fewer = omega arith; cause = λ is. absurd (cc); reported = inr (inr refl) }
-
 -- ---- before a verdict
 
 module _ (bytes : List ℕ) where
@@ -416,28 +400,15 @@ verdict_of_a_check (inr ended) = let only = ended.only in absurd (cc)
 ends_with_its_findings : (concluded : Option Conclusion) → EndsChecked held g Done concluded → CheckEnds held g Done concluded
 ends_with_its_findings concluded ended = inr ended
 
-missing_file_can_not_be_checked : (arguments : List (List ℕ)) → asked_by arguments ≡ Some (check_of u) → ¬ CanBeChecked held arguments
-missing_file_can_not_be_checked arguments asks can =
-    let both : Some (check_of u) ≡ Some (check_of can.file) = sym asks ∙ can.asks in
-    let file : u ≡ can.file = cc in
-    let specified : held ≡ Some can.text = can.specified in
-    let text : texts (1 ∷ []) (2 ∷ 3 ∷ []) ≡ can.text = cc in
-    let graph : IsSomeAnd (can.text u) (λ bytes. (length bytes ≤ file_limit) × PlanText bytes can.plan) = subst (λ f. IsSomeAnd (can.text f) (λ bytes. (length bytes ≤ file_limit) × PlanText bytes can.plan)) (sym file) can.graph in
-    subst (λ (h : List ℕ → Option (List ℕ)). IsSomeAnd (h u) (λ bytes. (length bytes ≤ file_limit) × PlanText bytes can.plan)) (sym text) graph
+missing_file_can_not_be_checked : ¬ CanBeChecked (texts (1 ∷ []) (2 ∷ 3 ∷ [])) u
+missing_file_can_not_be_checked can = can.graph
 
 -- ---- at the limits, what is asked for can be had
 
-module _ (arguments : List (List ℕ)) (graph text : List ℕ) (plan : PlanRows) (stands : PlanText graph plan) (source : HasStart plan) (most : length graph ≡ 4194304) where
-  at_hand_at_its_limits : length text ≡ 16777215 → plan.texts ≡ t ∷ [] → asked_by arguments ≡ Some (run_of g 77 4 false) → IsAtHand (Some (texts graph text)) arguments
-  at_hand_at_its_limits long names asks = record {
-    file = g;
-    limit = 77;
-    workers = 4;
-    journal = false;
-    text = texts graph text;
+module _ (graph text : List ℕ) (plan : PlanRows) (stands : PlanText graph plan) (source : HasStart plan) (most : length graph ≡ 4194304) where
+  at_hand_at_its_limits : length text ≡ 16777215 → plan.texts ≡ t ∷ [] → CanBeRun (texts graph text) g
+  at_hand_at_its_limits long names = record {
     plan = plan;
-    asks = asks;
-    specified = refl;
     graph = (omega (arith, most), stands);
     source = source;
     named = subst (All (λ name. IsSomeAnd (texts graph text name) (λ bytes. length bytes ≤ text_limit))) (sym names)
@@ -445,21 +416,15 @@ module _ (arguments : List (List ℕ)) (graph text : List ℕ) (plan : PlanRows)
   }
 
   can_be_judged_at_its_limits : (journal : List Entry) → length text ≡ 67108864 → IsJournalText journal text → ((place : ℕ) (why : Break) → ¬ IsVerdict plan.top.net 9 journal (Breaks place why))
-      → asked_by arguments ≡ Some (judge_of g t 9) → CanBeJudged (Some (texts graph text)) arguments
-  can_be_judged_at_its_limits journal long is never asks = record {
-    file = g;
-    name = t;
-    limit = 9;
-    text = texts graph text;
+      → CanBeJudged (texts graph text) g t 9
+  can_be_judged_at_its_limits journal long is never = record {
     plan = plan;
     journal = journal;
-    asks = asks;
-    specified = refl;
     graph = (omega (arith, most), stands);
     source = source;
     trace = (omega (arith, long), is);
     stands = never;
   }
 
-  can_be_checked_at_its_limit : asked_by arguments ≡ Some (check_of g) → CanBeChecked (Some (texts graph text)) arguments
-  can_be_checked_at_its_limit asks = record { file = g; text = texts graph text; plan = plan; asks = asks; specified = refl; graph = (omega (arith, most), stands) }
+  can_be_checked_at_its_limit : CanBeChecked (texts graph text) g
+  can_be_checked_at_its_limit = record { plan = plan; graph = (omega (arith, most), stands) }

@@ -213,10 +213,6 @@ output_with_the_report arguments run asks = ap (λ asked. run_texts (wants_journ
 output_of_nothing : (arguments : List (List ℕ)) → output_of arguments [] None ≡ []
 output_of_nothing arguments = refl
 
--- Where the source doesn't specify what it holds, nothing can be judged by what it holds; nor what breaks a rule.
-nothing_to_judge : (arguments : List (List ℕ)) → ¬ CanBeJudged None arguments
-nothing_to_judge arguments can = let some : None ≡ Some can.text = can.specified in absurd (cc)
-
 -- The most bytes of a journal file: 64 MiB.
 journal_bytes : journal_limit ≡ 64 * 1024 * 1024
 journal_bytes = refl
@@ -324,16 +320,10 @@ module _ (plan : PlanRows) (stands : PlanText (1 ∷ []) plan) (source : HasStar
   }))
 
   -- What is asked to be judged can be: an empty journal by this graph.
-  can_be_judged : (arguments : List (List ℕ)) → asked_by arguments ≡ Some (judge_of g j 9) → CanBeJudged held arguments
-  can_be_judged arguments asks = record {
-    file = g;
-    name = j;
-    limit = 9;
-    text = texts;
+  can_be_judged : CanBeJudged texts g j 9
+  can_be_judged = record {
     plan = plan;
     journal = [];
-    asks = asks;
-    specified = refl;
     graph = (omega arith, stands);
     source = source;
     trace = (omega arith, record { version = Two; lines = tt; text = refl });
@@ -354,63 +344,32 @@ journal_behind_a_refused_graph refused (inr (inr behind)) =
     let both : ok_plan behind.plan ≡ Err NotJson = sym (subst (λ read. PlanText read behind.plan) (sym bytes) behind.has.stands) ∙ refused in
     absurd (cc)
 
--- It can't be judged where a run is asked for, without the graph, without the journal, where one of them is too long, by a
--- graph that can't begin, and where an entry breaks a rule.
-run_is_not_judged : (arguments : List (List ℕ)) → asked_by arguments ≡ Some (run_of g 9 4 false) → ¬ CanBeJudged held arguments
-run_is_not_judged arguments asks can = let both : Some (run_of g 9 4 false) ≡ Some (judge_of can.file can.name can.limit) = sym asks ∙ can.asks in absurd (cc)
+-- It can't be judged without the graph, without the journal, where one of them is too long, by a graph that can't begin,
+-- and where an entry breaks a rule.
+no_graph_to_judge_by : ¬ CanBeJudged texts (2 ∷ []) j 9
+no_graph_to_judge_by can = can.graph
 
--- what the parts of a judgement are that can be made of these texts
-module _ (held_texts : List ℕ → Option (List ℕ)) (arguments : List (List ℕ)) (can : CanBeJudged (Some held_texts) arguments) where
-  its_text : can.text ≡ held_texts
-  its_text = let both : Some held_texts ≡ Some can.text = can.specified in cc
+no_journal_to_judge : ¬ CanBeJudged texts g (2 ∷ []) 9
+no_journal_to_judge can = can.trace
 
-  its_graph : (file name : List ℕ) (limit : ℕ) → asked_by arguments ≡ Some (judge_of file name limit) → IsSomeAnd (held_texts file) (λ bytes. (length bytes ≤ file_limit) × PlanText bytes can.plan)
-  its_graph file name limit asks =
-      let both : Some (judge_of file name limit) ≡ Some (judge_of can.file can.name can.limit) = sym asks ∙ can.asks in
-      let same : file ≡ can.file = cc in
-      subst (λ f. IsSomeAnd (held_texts f) (λ bytes. (length bytes ≤ file_limit) × PlanText bytes can.plan)) (sym same)
-      (subst (λ (text : List ℕ → Option (List ℕ)). IsSomeAnd (text can.file) (λ bytes. (length bytes ≤ file_limit) × PlanText bytes can.plan)) its_text can.graph)
+graph_too_long_to_judge_by : (bytes : List ℕ) → length bytes ≡ 4194305 → ¬ CanBeJudged (texts_with bytes) j g 9
+graph_too_long_to_judge_by bytes long can = absurd (omega (arith, long, can.graph.0))
 
-  its_trace : (file name : List ℕ) (limit : ℕ) → asked_by arguments ≡ Some (judge_of file name limit) → IsSomeAnd (held_texts name) (λ bytes. (length bytes ≤ journal_limit) × IsJournalText can.journal bytes)
-  its_trace file name limit asks =
-      let both : Some (judge_of file name limit) ≡ Some (judge_of can.file can.name can.limit) = sym asks ∙ can.asks in
-      let same : name ≡ can.name = cc in
-      subst (λ f. IsSomeAnd (held_texts f) (λ bytes. (length bytes ≤ journal_limit) × IsJournalText can.journal bytes)) (sym same)
-      (subst (λ (text : List ℕ → Option (List ℕ)). IsSomeAnd (text can.name) (λ bytes. (length bytes ≤ journal_limit) × IsJournalText can.journal bytes)) its_text can.trace)
+journal_too_long_to_judge : (bytes : List ℕ) → length bytes ≡ 67108865 → ¬ CanBeJudged (texts_with bytes) g j 9
+journal_too_long_to_judge bytes long can = absurd (omega (arith, long, can.trace.0))
 
-  its_limit : (file name : List ℕ) (limit : ℕ) → asked_by arguments ≡ Some (judge_of file name limit) → can.limit ≡ limit
-  its_limit file name limit asks =
-      let both : Some (judge_of file name limit) ≡ Some (judge_of can.file can.name can.limit) = sym asks ∙ can.asks in
-      cc
-
-module _ (arguments : List (List ℕ)) where
-  no_graph_to_judge_by : asked_by arguments ≡ Some (judge_of (2 ∷ []) j 9) → ¬ CanBeJudged held arguments
-  no_graph_to_judge_by asks can = its_graph texts arguments can (2 ∷ []) j 9 asks
-
-  no_journal_to_judge : asked_by arguments ≡ Some (judge_of g (2 ∷ []) 9) → ¬ CanBeJudged held arguments
-  no_journal_to_judge asks can = its_trace texts arguments can g (2 ∷ []) 9 asks
-
-  graph_too_long_to_judge_by : (bytes : List ℕ) → length bytes ≡ 4194305 → asked_by arguments ≡ Some (judge_of j g 9) → ¬ CanBeJudged (held_with bytes) arguments
-  graph_too_long_to_judge_by bytes long asks can =
-      absurd (omega (arith, long, (its_graph (texts_with bytes) arguments can j g 9 asks).0))
-
-  journal_too_long_to_judge : (bytes : List ℕ) → length bytes ≡ 67108865 → asked_by arguments ≡ Some (judge_of g j 9) → ¬ CanBeJudged (held_with bytes) arguments
-  journal_too_long_to_judge bytes long asks can =
-      absurd (omega (arith, long, (its_trace (texts_with bytes) arguments can g j 9 asks).0))
-
-module _ (arguments : List (List ℕ)) (plan : PlanRows) (stands : PlanText (1 ∷ []) plan) (asks : asked_by arguments ≡ Some (judge_of g j 9)) where
-  graph_that_can_not_begin : ¬ HasStart plan → ¬ CanBeJudged held arguments
+module _ (plan : PlanRows) (stands : PlanText (1 ∷ []) plan) where
+  graph_that_can_not_begin : ¬ HasStart plan → ¬ CanBeJudged texts g j 9
   graph_that_can_not_begin none can =
-      let both : ok_plan can.plan ≡ ok_plan plan = sym (its_graph texts arguments can g j 9 asks).1 ∙ stands in
+      let both : ok_plan can.plan ≡ ok_plan plan = sym can.graph.1 ∙ stands in
       let same : can.plan ≡ plan = cc in
       none (subst HasStart same can.source)
 
-  journal_that_breaks : IsVerdict plan.top.net 9 started (Breaks 0 NotReleased) → ¬ CanBeJudged (held_with one_start) arguments
+  journal_that_breaks : IsVerdict plan.top.net 9 started (Breaks 0 NotReleased) → ¬ CanBeJudged (texts_with one_start) g j 9
   journal_that_breaks breaks can =
-      let both : ok_plan can.plan ≡ ok_plan plan = sym (its_graph (texts_with one_start) arguments can g j 9 asks).1 ∙ stands in
+      let both : ok_plan can.plan ≡ ok_plan plan = sym can.graph.1 ∙ stands in
       let same : can.plan ≡ plan = cc in
-      let journal : can.journal ≡ started = one_journal can.journal started one_start (its_trace (texts_with one_start) arguments can g j 9 asks).1 one_start_is_text in
+      let journal : can.journal ≡ started = one_journal can.journal started one_start can.trace.1 one_start_is_text in
       can.stands 0 NotReleased
-      (subst (λ limit. IsVerdict can.plan.top.net limit can.journal (Breaks 0 NotReleased)) (sym (its_limit (texts_with one_start) arguments can g j 9 asks))
       (subst (λ entries. IsVerdict can.plan.top.net 9 entries (Breaks 0 NotReleased)) (sym journal)
-      (subst (λ (p : PlanRows). IsVerdict p.top.net 9 started (Breaks 0 NotReleased)) (sym same) breaks)))
+      (subst (λ (p : PlanRows). IsVerdict p.top.net 9 started (Breaks 0 NotReleased)) (sym same) breaks))

@@ -2,6 +2,7 @@ mod Crossing
 pub mod RoomLemmas
 pub mod Preparing
 pub mod ReportLemmas
+pub mod ValueSearch
 pub mod OutputExamples
 pub mod ReportRule
 pub mod Ending
@@ -13,3 +14,4 @@ pub mod StopExamples
 pub mod JudgeExamples
 pub mod CheckExamples
 pub mod EndExamples
+pub mod ReadExamples

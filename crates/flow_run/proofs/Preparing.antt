@@ -1,10 +1,8 @@
 -- Reading texts one after another.
 use Rattle.std.proofs.Common.{◌≡◌, ◌≢◌, ℕ, zero, suc, ◌+◌, ◌<◌, ◌≤◌, Bool, true, false, cond, List, [], ◌∷◌, ◌++◌, length, sym, refl, ap, ◌∙◌, subst, arith, get_or, take, drop, length-append}
-use Rattle.std.specs.Prelude.{All, Option, Some, None, IfSome, IsSomeAnd, MatchOption, slice_get, unwrap_or, option_to_list}
-use Rattle.std.proofs.lemmas.List.{drop-drop, nil_from_length, take_more}
+use Rattle.std.specs.Prelude.{All}
+use Rattle.std.proofs.lemmas.List.{take_more}
 use Rattle.std.proofs.lemmas.List.Elements.{All-nil, All-cons}
-use Rattle.std.proofs.lemmas.Option.{slice_get_read}
-use Rattle.shared_texts.specs.Ahead.{AreAhead, IsAhead}
 use Rattle.graph_file.specs.declared.refusals.GraphError.{GraphError}
 use Rattle.graph_file.specs.declared.refusals.GraphError.TheVariants.{NotJson, BadField, NoSuchName, Repeated, TooMany, NoMemory as NoMemoryToRead}
 use Rattle.graph_plans.specs.PlanRows.{PlanRows, IsPlan}
@@ -29,32 +27,6 @@ pub read_one_more : (held : SourceTexts) (names : List (List ℕ)) (i : ℕ) (na
 read_one_more held names i name old new below is so_far added =
     subst (λ ns. TextsAre held ns new) (sym (take_more names i name below ∙ ap (λ n. take i names ++ n ∷ []) (sym is)))
     (subst (TextsAre held (take i names ++ name ∷ [])) (sym added.row) (texts_more held (take i names) old name added.text so_far added.read))
-
--- the first of the items of a list from a place on
-first_from : {X : Type 0} (xs : List X) (i : ℕ) (x : X) (rest : List X) → drop i xs ≡ x ∷ rest → slice_get xs i ≡ Some x
-first_from [] zero x rest is = absurd (cc)
-first_from [] (suc i) x rest is = absurd (cc)
-first_from (y ∷ ys) zero x rest is = cc
-first_from (y ∷ ys) (suc i) x rest is = first_from ys i x rest is
-
--- What an iterator still has when it has given what is at a place, or nothing, since it had nothing left.
-pub still_ahead : {X : Type 0} (xs old new : List X) (i len : ℕ) (next : Option X) (other : Type 0) (step : X → Type 0) → old ≡ drop i xs → len ≡ length old
-    → MatchOption next ((len ≡ 0) × other) step → old ≡ option_to_list next ++ new → new ≡ drop (i + 1) xs
-still_ahead {X = X} xs old new i len next other step from counted stepped items = by_next next stepped items ∙ ap (drop 1) from ∙ drop-drop 1 i xs
-  where
-    by_next : (n : Option X) → MatchOption n ((len ≡ 0) × other) step → old ≡ option_to_list n ++ new → new ≡ drop 1 old
-    by_next None none is = let empty = nil_from_length old (sym counted ∙ none.0) in sym is ∙ empty ∙ sym (ap (drop 1) empty)
-    by_next (Some x) some is = ap (drop 1) (sym is)
-
--- the text that was read ahead for the next name, if one was
-pub text_ahead : (held : SourceTexts) (names : List (List ℕ)) (found old new : List (Option (List ℕ))) (i : ℕ) (name : List ℕ) (next : Option (Option (List ℕ)))
-    → AreAhead held text_limit names found → i < length names → name ≡ get_or names i name → old ≡ drop i found → old ≡ option_to_list next ++ new
-    → IfSome (unwrap_or next None) (IsHeld held name text_limit)
-text_ahead held names found old new i name None are below is from items = tt
-text_ahead held names found old new i name (Some None) are below is from items = tt
-text_ahead held names found old new i name (Some (Some bytes)) are below is from items =
-    let here = subst (λ o. IfSome o (IsAhead held text_limit names i)) (first_from found i (Some bytes) new (sym from ∙ items)) (are i) in
-    subst (λ o. IsSomeAnd o (λ n. IsHeld held n text_limit bytes)) (slice_get_read names (length names) i name refl below is) here
 
 -- there is a text for each name
 pub as_many : (held : SourceTexts) (names texts : List (List ℕ)) → TextsAre held names texts → length texts ≡ length names

@@ -22,8 +22,8 @@ use Rattle.call_status.specs.declared.status.Status.TheVariants.{Done, WriteFaul
 use Rattle.command_line.specs.Requests.{asked_by, run as run_of, judge as judge_of}
 use Rattle.call_status.specs.declared.stop.Stop.{Stop}
 use Rattle.call_status.specs.declared.stop.Stop.TheVariants as stop
-use Rattle.flow_run.specs.Requests.{SourceTexts, StopsAtName, IsTextOf, TextsAre, StopsAtText, HasStart, HasPlan, StopsBefore, IsRequested, IsRequestedJob, IsAtHand, CountsReads, CountsStop, file_limit, text_limit}
-use Rattle.flow_run.specs.Answers.{TextRun, IsAfterRun, RanOnce, KeptOnce, names_in, RunEnds, Reported, HaveRead, run_texts}
+use Rattle.flow_run.specs.Requests.{SourceTexts, StopsAtName, IsTextOf, TextsAre, StopsAtText, HasStart, HasPlan, StopsBefore, IsRequested, IsRequestedJob, CanBeRun, file_limit, text_limit}
+use Rattle.flow_run.specs.Answers.{TextRun, IsAfterRun, RanOnce, KeptOnce, names_in, RunEnds, Reported, run_texts}
 
 abbrev g : List ℕ
 g = 0 ∷ []
@@ -88,26 +88,6 @@ later_missing is = none is.before is.name is.after is.texts is.parts is.read is.
 -- The job of a plan has the limit that is asked for.
 limit_of_first_work : (first_work no_plan [] 76).limit ≡ 76
 limit_of_first_work = refl
-
--- ---- how reads count
-
-counted : CountsStop (stop.ReadFault t) 1 2 × CountsStop stop.NoMemory 1 1 × CountsStop stop.NoMemory 1 2 × CountsStop (stop.NoText t) 1 1
-counted = (omega arith, omega arith, omega arith, refl)
-
-fault_not_counted : ¬ CountsStop (stop.ReadFault t) 1 1
-fault_not_counted is = absurd (omega (arith, is))
-
-count_lost : ¬ CountsStop stop.NoMemory 1 0
-count_lost is = absurd (omega (arith, is))
-
-missing_text_counted : ¬ CountsStop (stop.NoText t) 1 2
-missing_text_counted is = absurd (omega (arith, is))
-
-abbrev read_all : Result ℕ Stop
-read_all = Ok 0
-
-good_read_counted : ¬ CountsReads 1 2 read_all
-good_read_counted is = absurd (omega (arith, is))
 
 -- ---- the run that is kept
 
@@ -181,11 +161,6 @@ module _ (run : TextRun) (report : run_texts false (run ∷ []) ≡ small_report
       let longer : 5 ≡ length is.front.but.front + length is.front.lost = ap length parts ∙ length-append is.front.but.front is.front.lost in
       absurd (omega (arith, ap known_length took, longer))
 
--- ---- the texts stay
-
-texts_changed : ¬ HaveRead (λ n. if n == 0 then held else None) (λ n. 0) 0 1 Done
-texts_changed is = let same : None ≡ held = is.stays in absurd (cc)
-
 -- ---- the kept run, and what can be had
 
 names_of_the_run : (run : TextRun) → (names_in [] ≡ []) × (names_in (run ∷ []) ≡ names_of (job_of run))
@@ -205,9 +180,6 @@ run_of_another_job run job limit other is =
     let same : is.run ≡ run = cc in
     absurd (omega (arith, limit, other, ap (λ r. limit_of (job_of r)) same, ap limit_of is.same))
 
-nothing_at_hand : (arguments : List (List ℕ)) → ¬ IsAtHand None arguments
-nothing_at_hand arguments is = let some : None ≡ Some is.text = is.specified in absurd (cc)
-
 -- ---- each part of an end is asked for
 
 run_that_is_not_kept : (run : TextRun) → ¬ IsKept text_job run → ¬ RanOnce (λ job. job ≡ job) Done (run ∷ [])
@@ -219,9 +191,6 @@ reason_of_a_run_that_is_not_kept : (run : TextRun) (job : TextJob) → ¬ IsKept
 reason_of_a_run_that_is_not_kept run job never is =
     let same : is.run ≡ run = cc in
     never (subst (IsKept text_job) same is.kept)
-
-read_faults_forgotten : ¬ HaveRead (λ n. held) (λ (n : ℕ). n) 2 1 NoMemory
-read_faults_forgotten is = absurd (omega (arith, is.no_fewer))
 
 -- ---- what is asked for, and what can be had of it: a graph file `g` that names no text, or the text `t`
 
@@ -245,40 +214,15 @@ work_of_another_plan plan work stands other is =
     let both : ok_plan work.plan ≡ ok_plan plan = sym (subst (λ read. PlanText read work.plan) (sym bytes) is.plan.stands) ∙ stands in
     other (cc)
 
-judgement_is_not_at_hand : (arguments : List (List ℕ)) → asked_by arguments ≡ Some (judge_of g t 9) → ¬ IsAtHand held arguments
-judgement_is_not_at_hand arguments asks is = let both : Some (judge_of g t 9) ≡ Some (run_of is.file is.limit is.workers is.journal) = sym asks ∙ is.asks in absurd (cc)
-
 -- a source that holds these bytes under `g`, and these under `t`
 abbrev both_held : List ℕ → List ℕ → List ℕ → Option (List ℕ)
 both_held graph text name = if bytes_eq name g then Some graph else (if bytes_eq name t then Some text else None)
 
-module _ (arguments : List (List ℕ)) (graph text : List ℕ) (at_hand : IsAtHand (Some (both_held graph text)) arguments) where
-  its_texts : at_hand.text ≡ both_held graph text
-  its_texts = let both : Some (both_held graph text) ≡ Some at_hand.text = at_hand.specified in cc
-
-  its_graph : (file : List ℕ) (limit workers : ℕ) (journal : Bool) → asked_by arguments ≡ Some (run_of file limit workers journal)
-      → IsSomeAnd (both_held graph text file) (λ bytes. (length bytes ≤ file_limit) × PlanText bytes at_hand.plan)
-  its_graph file limit workers journal asks =
-      let both : Some (run_of file limit workers journal) ≡ Some (run_of at_hand.file at_hand.limit at_hand.workers at_hand.journal) = sym asks ∙ at_hand.asks in
-      let same : file ≡ at_hand.file = cc in
-      subst (λ f. IsSomeAnd (both_held graph text f) (λ bytes. (length bytes ≤ file_limit) × PlanText bytes at_hand.plan)) (sym same)
-      (subst (λ (held_text : List ℕ → Option (List ℕ)). IsSomeAnd (held_text at_hand.file) (λ bytes. (length bytes ≤ file_limit) × PlanText bytes at_hand.plan)) its_texts at_hand.graph)
-
-  its_names : All (λ name. IsSomeAnd (both_held graph text name) (λ bytes. length bytes ≤ text_limit)) at_hand.plan.texts
-  its_names = subst (λ (held_text : List ℕ → Option (List ℕ)). All (λ name. IsSomeAnd (held_text name) (λ bytes. length bytes ≤ text_limit)) at_hand.plan.texts) its_texts at_hand.named
-
-module _ (arguments : List (List ℕ)) (asks : asked_by arguments ≡ Some (run_of g 77 4 false)) (plan : PlanRows) (stands : PlanText (1 ∷ []) plan) where
+module _ (plan : PlanRows) (stands : PlanText (1 ∷ []) plan) where
   -- it can be had where the graph can begin and the text that it names is held
-  at_hand_with_its_text : HasStart plan → plan.texts ≡ t ∷ [] → IsAtHand (Some (both_held (1 ∷ []) (2 ∷ 3 ∷ []))) arguments
+  at_hand_with_its_text : HasStart plan → plan.texts ≡ t ∷ [] → CanBeRun (both_held (1 ∷ []) (2 ∷ 3 ∷ [])) g
   at_hand_with_its_text source names = record {
-    file = g;
-    limit = 77;
-    workers = 4;
-    journal = false;
-    text = both_held (1 ∷ []) (2 ∷ 3 ∷ []);
     plan = plan;
-    asks = asks;
-    specified = refl;
     graph = (omega arith, stands);
     source = source;
     named = subst (All (λ name. IsSomeAnd (both_held (1 ∷ []) (2 ∷ 3 ∷ []) name) (λ bytes. length bytes ≤ text_limit))) (sym names)
@@ -286,29 +230,29 @@ module _ (arguments : List (List ℕ)) (asks : asked_by arguments ≡ Some (run_
   }
 
   -- the plan of what is at hand is this one
-  its_plan : (text : List ℕ) (at_hand : IsAtHand (Some (both_held (1 ∷ []) text)) arguments) → at_hand.plan ≡ plan
-  its_plan text at_hand =
-      let both : ok_plan at_hand.plan ≡ ok_plan plan = sym (its_graph arguments (1 ∷ []) text at_hand g 77 4 false asks).1 ∙ stands in
-      cc
+  its_plan : (text : List ℕ) (can : CanBeRun (both_held (1 ∷ []) text) g) → can.plan ≡ plan
+  its_plan text can = let both : ok_plan can.plan ≡ ok_plan plan = sym can.graph.1 ∙ stands in cc
 
-  graph_that_can_not_begin : (text : List ℕ) → ¬ HasStart plan → ¬ IsAtHand (Some (both_held (1 ∷ []) text)) arguments
-  graph_that_can_not_begin text none at_hand = none (subst HasStart (its_plan text at_hand) at_hand.source)
+  graph_that_can_not_begin : (text : List ℕ) → ¬ HasStart plan → ¬ CanBeRun (both_held (1 ∷ []) text) g
+  graph_that_can_not_begin text none can = none (subst HasStart (its_plan text can) can.source)
 
-  named_text_missing : (text : List ℕ) → plan.texts ≡ u ∷ [] → ¬ IsAtHand (Some (both_held (1 ∷ []) text)) arguments
-  named_text_missing text names at_hand =
-      let its : at_hand.plan.texts ≡ u ∷ [] = ap (λ (p : PlanRows). p.texts) (its_plan text at_hand) ∙ names in
-      All-head (λ name. IsSomeAnd (both_held (1 ∷ []) text name) (λ bytes. length bytes ≤ text_limit)) u []
-      (subst (All (λ name. IsSomeAnd (both_held (1 ∷ []) text name) (λ bytes. length bytes ≤ text_limit))) its (its_names arguments (1 ∷ []) text at_hand))
+  -- the first of the texts that it names
+  its_name : (text name : List ℕ) → plan.texts ≡ name ∷ [] → CanBeRun (both_held (1 ∷ []) text) g → IsSomeAnd (both_held (1 ∷ []) text name) (λ bytes. length bytes ≤ text_limit)
+  its_name text name names can =
+      let its : can.plan.texts ≡ name ∷ [] = ap (λ (p : PlanRows). p.texts) (its_plan text can) ∙ names in
+      All-head (λ n. IsSomeAnd (both_held (1 ∷ []) text n) (λ bytes. length bytes ≤ text_limit)) name []
+      (subst (All (λ n. IsSomeAnd (both_held (1 ∷ []) text n) (λ bytes. length bytes ≤ text_limit))) its can.named)
 
-  named_text_too_long : (text : List ℕ) → length text ≡ 16777216 → plan.texts ≡ t ∷ [] → ¬ IsAtHand (Some (both_held (1 ∷ []) text)) arguments
-  named_text_too_long text long names at_hand =
-      let its : at_hand.plan.texts ≡ t ∷ [] = ap (λ (p : PlanRows). p.texts) (its_plan text at_hand) ∙ names in
-      let few : length text ≤ 16777215 = All-head (λ name. IsSomeAnd (both_held (1 ∷ []) text name) (λ bytes. length bytes ≤ text_limit)) t []
-      (subst (All (λ name. IsSomeAnd (both_held (1 ∷ []) text name) (λ bytes. length bytes ≤ text_limit))) its (its_names arguments (1 ∷ []) text at_hand)) in
+  named_text_missing : (text : List ℕ) → plan.texts ≡ u ∷ [] → ¬ CanBeRun (both_held (1 ∷ []) text) g
+  named_text_missing text names can = its_name text u names can
+
+  named_text_too_long : (text : List ℕ) → length text ≡ 16777216 → plan.texts ≡ t ∷ [] → ¬ CanBeRun (both_held (1 ∷ []) text) g
+  named_text_too_long text long names can =
+      let few : length text ≤ 16777215 = its_name text t names can in
       absurd (omega (arith, long, few))
 
-graph_missing : (arguments : List (List ℕ)) (graph text : List ℕ) → asked_by arguments ≡ Some (run_of u 77 4 false) → ¬ IsAtHand (Some (both_held graph text)) arguments
-graph_missing arguments graph text asks at_hand = its_graph arguments graph text at_hand u 77 4 false asks
+graph_missing : (graph text : List ℕ) → ¬ CanBeRun (both_held graph text) u
+graph_missing graph text can = can.graph
 
-graph_too_long : (arguments : List (List ℕ)) (graph text : List ℕ) → length graph ≡ 4194305 → asked_by arguments ≡ Some (run_of g 77 4 false) → ¬ IsAtHand (Some (both_held graph text)) arguments
-graph_too_long arguments graph text long asks at_hand = absurd (omega (arith, long, (its_graph arguments graph text at_hand g 77 4 false asks).0))
+graph_too_long : (graph text : List ℕ) → length graph ≡ 4194305 → ¬ CanBeRun (both_held graph text) g
+graph_too_long graph text long can = absurd (omega (arith, long, can.graph.0))

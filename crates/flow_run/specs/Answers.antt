@@ -9,7 +9,7 @@ use Rattle.text_tasks.specs.declared.item.Item.{Item}
 use Rattle.text_tasks.specs.declared.job.TextJob.{TextJob}
 use Rattle.text_tasks.specs.JobMeaning.{names_of, text_job}
 use Rattle.call_status.specs.declared.status.Status.{Status}
-use Rattle.call_status.specs.declared.status.Status.TheVariants.{Done, BadWords, ReadFault, WriteFault, NoMemory}
+use Rattle.call_status.specs.declared.status.Status.TheVariants.{Done, BadWords, WriteFault, NoMemory}
 use Rattle.call_status.specs.declared.stop.Stop.TheVariants as stop
 use Rattle.call_status.specs.Statuses.{status_after}
 use Rattle.call_status.specs.Stopping.{StoppedBefore}
@@ -116,15 +116,3 @@ pub record HasWritten {S : Type 0} (state : S → SinkState) (old new : S) (stat
 -- what a command has done to the output that keeps these runs
 abbrev pub Reported : {S : Type 0} → (S → SinkState) → S → S → Status → Bool → List TextRun → Bool → Type 0
 Reported state old new status journal runs written = HasWritten state old new status (runs ≡ []) (run_texts journal runs) written
-
--- a read failed, and the status names the file
-abbrev pub IsReadFault : Status → Type 0
-IsReadFault status = (name : List ℕ) × (status ≡ ReadFault name)
-
--- What a command has done to the texts when it ends: what is held stays, and a failed read is reported unless memory
--- ran out.
-pub record HaveRead {F : Type 0} (held : F → SourceTexts) (faults : F → ℕ) (old new : F) (status : Status) : Type 0 where
-  pub stays : held new ≡ held old
-  pub no_fewer : faults old ≤ faults new
-  pub cause : IsReadFault status → faults old < faults new
-  pub reported : (faults new ≡ faults old) ⊎ IsReadFault status ⊎ (status ≡ NoMemory)

@@ -10,7 +10,6 @@ use Rattle.call_status.specs.declared.status.Status.{Status}
 use Rattle.call_status.specs.declared.status.Status.TheVariants.{Done, WriteFault, NoMemory}
 use Rattle.call_status.specs.declared.stop.Stop.{Stop}
 use Rattle.call_status.specs.Stopping.{StoppedBefore}
-use Rattle.command_line.specs.Requests.{asked_by, check}
 use Rattle.flow_run.specs.declared.conclusion.Conclusion.{Conclusion}
 use Rattle.flow_run.specs.declared.conclusion.Conclusion.TheVariants as conclusion
 use Rattle.flow_run.specs.declared.conclusion.GraphFindings.{GraphFindings}
@@ -70,12 +69,7 @@ count_line count = codes "findings " ++ decimal count ++ codes "\n"
 abbrev pub findings_text : List (List ℕ) → List Finding → List ℕ
 findings_text names findings = flat_map (finding_line names) findings ++ count_line (length findings)
 
--- The graph that the command line asks to be checked can be checked whole: the source specifies what it holds, and the
--- file has no more bytes than may be read, and stands for a plan.
-pub record CanBeChecked (held : SourceTexts) (arguments : List (List ℕ)) : Type 0 where
-  pub file : List ℕ
-  pub text : List ℕ → Option (List ℕ)
+-- What a check needs is held: the file has no more bytes than may be read, and stands for a plan.
+pub record CanBeChecked (text : List ℕ → Option (List ℕ)) (file : List ℕ) : Type 0 where
   pub plan : PlanRows
-  pub asks : asked_by arguments ≡ Some (check file)
-  pub specified : held ≡ Some text
   pub graph : IsSomeAnd (text file) (λ bytes. (length bytes ≤ file_limit) × PlanText bytes plan)

@@ -9,7 +9,6 @@ use Rattle.legal_run.specs.declared.verdict.Verdict.{Verdict}
 use Rattle.legal_run.specs.declared.verdict.Verdict.TheVariants.{Complete as Finished, Legal, Breaks}
 use Rattle.legal_run.specs.Verdict.{IsVerdict}
 use Rattle.journal_text.specs.JournalText.{IsBadLine, IsJournalText}
-use Rattle.command_line.specs.Requests.{asked_by, judge}
 use Rattle.call_status.specs.declared.status.Status.{Status}
 use Rattle.call_status.specs.declared.status.Status.TheVariants.{Done, WriteFault, NoMemory}
 use Rattle.call_status.specs.declared.stop.Stop.{Stop}
@@ -99,18 +98,12 @@ verdict_line Finished = codes "complete\n"
 verdict_line Legal = codes "legal\n"
 verdict_line (Breaks place why) = codes "breaks at " ++ decimal place ++ codes ": " ++ break_text why ++ codes "\n"
 
--- What the command line asks to be judged can be judged whole, and breaks no rule: the source specifies what it holds;
--- the graph file has no more bytes than may be read, and stands for a plan with a task to begin with, or without tasks;
--- the journal file has no more bytes than may be read, and is the text of a journal on which the verdict is no break.
-pub record CanBeJudged (held : SourceTexts) (arguments : List (List ℕ)) : Type 0 where
-  pub file : List ℕ
-  pub name : List ℕ
-  pub limit : ℕ
-  pub text : List ℕ → Option (List ℕ)
+-- What a judgement needs is held, and the journal breaks no rule: the graph file has no more bytes than may be read, and
+-- stands for a plan with a task to begin with, or without tasks; the journal file has no more bytes than may be read, and
+-- is the text of a journal on which the verdict is no break.
+pub record CanBeJudged (text : List ℕ → Option (List ℕ)) (file name : List ℕ) (limit : ℕ) : Type 0 where
   pub plan : PlanRows
   pub journal : List Entry
-  pub asks : asked_by arguments ≡ Some (judge file name limit)
-  pub specified : held ≡ Some text
   pub graph : IsSomeAnd (text file) (λ bytes. (length bytes ≤ file_limit) × PlanText bytes plan)
   pub source : HasStart plan
   pub trace : IsSomeAnd (text name) (λ bytes. (length bytes ≤ journal_limit) × IsJournalText journal bytes)

@@ -1,5 +1,5 @@
 -- What a call of the program asks for, and why it stops before a run.
-use Rattle.std.specs.Prelude.{◌≡◌, ◌⊎◌, ℕ, ◌<◌, ◌≤◌, Bool, List, [], ◌∷◌, ◌++◌, length, All, Option, Some, None, IfSome, IsSomeAnd, Result, Ok, Err}
+use Rattle.std.specs.Prelude.{◌≡◌, ◌⊎◌, ℕ, ◌<◌, ◌≤◌, List, [], ◌∷◌, ◌++◌, length, All, Option, Some, None, IfSome, IsSomeAnd}
 use Rattle.graph_plans.specs.PlanRows.{PlanRows}
 use Rattle.graph_file.specs.PlanText.{PlanText, IsRefused}
 use Rattle.graph_plans.specs.Sources.{NoSourceAnswer}
@@ -9,8 +9,7 @@ use Rattle.text_tasks.specs.declared.job.TextJob.TheVariants.{Graph}
 use Rattle.text_tasks.specs.GraphWork.{GraphWork}
 use Rattle.call_status.specs.declared.stop.Stop.{Stop}
 use Rattle.call_status.specs.declared.stop.Stop.TheVariants.{BadGraph, NoSource, NoText, LongText, ReadFault, NoMemory}
-use Rattle.command_line.specs.Requests.{asked_by, run}
-pub use Rattle.shared_texts.specs.SourceTexts.{SourceTexts, IsHeld}
+pub use Rattle.outside_io.specs.Texts.{SourceTexts, IsHeld}
 
 -- the most bytes of a graph file
 abbrev pub file_limit : ℕ
@@ -106,30 +105,10 @@ pub record IsRequested (held : SourceTexts) (file : List ℕ) (limit : ℕ) (wor
 abbrev pub IsRequestedJob : SourceTexts → List ℕ → ℕ → TextJob → Type 0
 IsRequestedJob held file limit (Graph work) = IsRequested held file limit work
 
--- How reads that stop the call for this reason count their faults: a failure that isn't reported was met where an
--- allocation failed too.
-abbrev pub CountsStop : Stop → ℕ → ℕ → Type 0
-CountsStop (ReadFault name) before after = before < after
-CountsStop NoMemory before after = before ≤ after
-CountsStop stop before after = after ≡ before
-
--- how reads count their faults
-abbrev pub CountsReads : {A : Type 0} → ℕ → ℕ → Result A Stop → Type 0
-CountsReads before after (Ok read) = after ≡ before
-CountsReads before after (Err stop) = CountsStop stop before after
-
--- The run that the command line asks for can be had whole: the source specifies what it holds; the file has no more bytes than may
--- be read, and stands for a plan with a task to begin with, or without tasks; and each text that the plan names is
--- held, with no more bytes than may be read.
-pub record IsAtHand (held : SourceTexts) (arguments : List (List ℕ)) : Type 0 where
-  pub file : List ℕ
-  pub limit : ℕ
-  pub workers : ℕ
-  pub journal : Bool
-  pub text : List ℕ → Option (List ℕ)
+-- What the run of a file needs is held: the file has no more bytes than may be read, and stands for a plan with a task to
+-- begin with, or without tasks; and each text that the plan names is held, with no more bytes than may be read.
+pub record CanBeRun (text : List ℕ → Option (List ℕ)) (file : List ℕ) : Type 0 where
   pub plan : PlanRows
-  pub asks : asked_by arguments ≡ Some (run file limit workers journal)
-  pub specified : held ≡ Some text
   pub graph : IsSomeAnd (text file) (λ bytes. (length bytes ≤ file_limit) × PlanText bytes plan)
   pub source : HasStart plan
   pub named : All (λ name. IsSomeAnd (text name) (λ bytes. length bytes ≤ text_limit)) plan.texts

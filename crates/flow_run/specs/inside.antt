@@ -1,3 +1,4 @@
 -- Internal: what private functions need of their arguments, and what they do with them.
 pub mod Named
 pub mod Rooms
+pub mod Rising

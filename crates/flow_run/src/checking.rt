@@ -3,9 +3,9 @@ ghost use Rattle.std.specs.Prelude.{◌≡◌, ◌<◌, [], None, Some, All, IfE
 ghost use Rattle.std.specs.List.{flat_map};
 ghost use Rattle.outside_io.specs.Sink.{Writes};
 ghost use Rattle.call_status.specs.Delivery.{Delivers};
-ghost use Rattle.flow_run.specs.Answers.{HasWritten, HaveRead, conclusion_text};
+ghost use Rattle.flow_run.specs.Answers.{HasWritten, conclusion_text};
 ghost use Rattle.flow_run.specs.Checking.{CheckEnds, IsAfterFindings, IsChecked, StopsBeforeFindings, count_line, finding_line, findings_text, task_line};
-ghost use Rattle.flow_run.specs.Requests.{CountsReads};
+ghost use Rattle.flow_run.specs.Reading.{FailsBy, HaveRead};
 ghost use Rattle.flow_run.specs.inside.Named.{IsNamed};
 
 use super::call::{Ended, stopped};
@@ -30,7 +30,7 @@ pub(crate) fn check_file<F: Texts, S: Sink>(
     ensures ends { CheckEnds (F.held texts.old) asked.entry.file.now result.status result.conclusion }
     ensures output { HasWritten S.state out.old out.new result.status (result.conclusion ≡ None) (conclusion_text result.conclusion) result.written }
     ensures no_run { result.runs ≡ [] }
-    ensures read { HaveRead F.held F.faults texts.old texts.new result.status }
+    ensures read { HaveRead F.held F.failed texts.old texts.new result.status }
 {
     match findings_on(alloc, texts, asked.file.as_bytes()) {
         Ok(found) => report_findings(alloc, found, out),
@@ -44,7 +44,7 @@ fn findings_on<F: Texts>(alloc: Global, texts: &mut F, file: &[u8]) -> Result<Gr
     ensures named { IfOk result (λ found. All (IsNamed found.names) found.findings) }
     ensures stops { IfErr result (StopsBeforeFindings (F.held texts.old) file.now) }
     ensures stays { F.held texts.new ≡ F.held texts.old }
-    ensures counts { CountsReads (F.faults texts.old) (F.faults texts.new) result }
+    ensures fails { FailsBy result (F.failed texts.old) (F.failed texts.new) }
 {
     let bytes = read_named(alloc, texts, file, FILE_LIMIT)?;
     let plan = plan_in(alloc, bytes.as_slice())?;

@@ -3,9 +3,9 @@ ghost use Rattle.std.specs.Prelude.{◌≡◌, ◌≢◌, ◌++◌, [], ℕ, Lis
 ghost use Rattle.journal_text.specs.JournalText.{IsJournalText, RefusesJournal};
 ghost use Rattle.call_status.specs.Delivery.{Delivers};
 ghost use Rattle.call_status.specs.Statuses.{status_by};
-ghost use Rattle.flow_run.specs.Answers.{HasWritten, HaveRead, conclusion_text};
+ghost use Rattle.flow_run.specs.Answers.{HasWritten, conclusion_text};
 ghost use Rattle.flow_run.specs.Judging.{HasJournal, IsAfterVerdict, IsJudged, JudgeEnds, StopsAtJournal, StopsAtJournalBytes, StopsBeforeVerdict, break_text, verdict_line};
-ghost use Rattle.flow_run.specs.Requests.{CountsReads};
+ghost use Rattle.flow_run.specs.Reading.{FailsBy, HaveRead};
 
 use super::call::{Ended, stopped};
 use super::conclusion::Conclusion;
@@ -32,7 +32,7 @@ pub(crate) fn judge_file<F: Texts, S: Sink>(
     ensures ends { JudgeEnds (F.held texts.old) asked.entry.file.now asked.entry.journal.now asked.entry.limit result.status result.conclusion }
     ensures output { HasWritten S.state out.old out.new result.status (result.conclusion ≡ None) (conclusion_text result.conclusion) result.written }
     ensures no_run { result.runs ≡ [] }
-    ensures read { HaveRead F.held F.faults texts.old texts.new result.status }
+    ensures read { HaveRead F.held F.failed texts.old texts.new result.status }
 {
     let (file, journal) = (asked.file.as_bytes(), asked.journal.as_bytes());
     match verdict_on(alloc, texts, file, journal, asked.limit) {
@@ -52,7 +52,7 @@ fn verdict_on<F: Texts>(
     ensures judged { IfOk result (IsJudged (F.held texts.old) file.now journal.now limit) }
     ensures stops { IfErr result (StopsBeforeVerdict (F.held texts.old) file.now journal.now) }
     ensures stays { F.held texts.new ≡ F.held texts.old }
-    ensures counts { CountsReads (F.faults texts.old) (F.faults texts.new) result }
+    ensures fails { FailsBy result (F.failed texts.old) (F.failed texts.new) }
 {
     let bytes = read_named(alloc, texts, file, FILE_LIMIT)?;
     let plan = read_plan(alloc, bytes.as_slice())?;
@@ -65,7 +65,7 @@ fn read_journal_file<F: Texts>(alloc: Global, texts: &mut F, name: &[u8]) -> Res
     ensures journal { IfOk result (HasJournal (F.held texts.old) name.now) }
     ensures stops { IfErr result (StopsAtJournal (F.held texts.old) name.now) }
     ensures stays { F.held texts.new ≡ F.held texts.old }
-    ensures counts { CountsReads (F.faults texts.old) (F.faults texts.new) result }
+    ensures fails { FailsBy result (F.failed texts.old) (F.failed texts.new) }
 {
     let bytes = read_named(alloc, texts, name, JOURNAL_LIMIT)?;
     journal_in(alloc, bytes.as_slice())

@@ -1,23 +1,22 @@
 // The report of a run: what each task that leads to no other ended with.
-ghost use Rattle.std.specs.Prelude.{◌≡◌, ◌<◌, ◌++◌, [], None, length, IfOk, IfSome, slice_index_or, option_map};
+ghost use Rattle.std.specs.Prelude.{◌≡◌, ◌<◌, ◌++◌, [], None, length, IfOk, slice_index_or};
 ghost use Rattle.std.specs.Option.{option_and_then, option_copied};
-ghost use Rattle.std.specs.Arc.{arc_value};
 ghost use Rattle.outside_io.specs.Sink.{Writes};
 ghost use Rattle.run_frame.specs.Legal.{IsKept};
 ghost use Rattle.run_frame.specs.NestedRule.{job_of, journal_of};
-ghost use Rattle.run_frame.specs.Runs.{values_of};
+ghost use Rattle.run_frame.specs.Runs.{value_at, values_of};
 ghost use Rattle.text_tasks.specs.JobMeaning.{names_of, net_of, text_job};
 ghost use Rattle.nested_runs.specs.Reasons.{run_reason};
-ghost use Rattle.call_status.specs.Reasons.{reason_line};
+ghost use Rattle.call_status.specs.Reasons.{NamesReason, reason_line};
 ghost use Rattle.flow_run.specs.Output.{ended_mark, header, outcome, report, task_report, report_of};
+ghost use Rattle.flow_run.specs.inside.Rising.{AreRising};
 
 use call_status::add_reason_line;
 use line_output::put_piece;
-use nested_runs::reason_of;
+use nested_runs::Reason;
 use outside_io::{Bytes, List, NoMemory, Sink, SinkFault};
-use run_frame::{FrameRun, Job, last_ends, values_by_place};
+use run_frame::{FrameRun, Job, ValueRow, last_ends};
 use std::alloc::Global;
-use std::sync::Arc;
 use task_graph::Net;
 use text_tasks::{Item, TextJob};
 
@@ -26,30 +25,36 @@ const ENDED: &[u8] = b"== ";
 
 const NOT_ENDED: &[u8] = b"-- ";
 
-/// Writes the report of a run: what each task ended with that leads to no other, and why the run was cut
-/// short, if it was. After an `Err` the sink has a prefix of the report.
+/// Writes the report of a run that came to its end for this reason: what each task ended with that leads to no other, and
+/// why the run was cut short, if it was. After an `Err` the sink has a prefix of the report.
 #[tactic(auto, using(outside_io::proofs::Pieces::writes_both, outside_io::proofs::Pieces::writes_no_more))]
 pub fn put_report<S: Sink>(
     alloc: Global,
     out: &mut S,
     run: &FrameRun<TextJob>,
+    reason: &Reason,
 ) -> Result<(), SinkFault>
-    requires { IsKept text_job run.now }
+    requires kept { IsKept text_job run.now }
+    requires reason { run_reason text_job run.now ≡ reason.now }
     ensures { Writes (S.state out.old) (S.state out.new) (report_of run.now) result }
 {
     put_tasks(alloc, out, run)?;
-    put_reason(alloc, out, run)
+    put_reason(alloc, out, run.job.names(), reason)
 }
 
 // Writes the line that tells why a run was cut short, if it was.
 #[tactic(auto, using(outside_io::proofs::Pieces::writes_nothing))]
-fn put_reason<S: Sink>(alloc: Global, out: &mut S, run: &FrameRun<TextJob>) -> Result<(), SinkFault>
-    requires { IsKept text_job run.now }
-    ensures { Writes (S.state out.old) (S.state out.new) (reason_line (names_of (job_of run.now)) (run_reason text_job run.now)) result }
+fn put_reason<S: Sink>(
+    alloc: Global,
+    out: &mut S,
+    names: &[Bytes],
+    reason: &Reason,
+) -> Result<(), SinkFault>
+    requires { NamesReason names.now reason.now }
+    ensures { Writes (S.state out.old) (S.state out.new) (reason_line names.now reason.now) result }
 {
-    let reason = reason_of(alloc, run)?;
     let mut line = List::new(alloc);
-    add_reason_line(&mut line, run.job.names(), &reason)?;
+    add_reason_line(&mut line, names, reason)?;
     put_value(out, line.as_slice())
 }
 
@@ -57,15 +62,15 @@ fn put_reason<S: Sink>(alloc: Global, out: &mut S, run: &FrameRun<TextJob>) -> R
 // order of the tasks' numbers. A task that hasn't ended has a line alone.
 #[tactic(auto, using(outside_io::proofs::Pieces::accepts_nothing, outside_io::proofs::Pieces::writes_nothing))]
 fn put_tasks<S: Sink>(alloc: Global, out: &mut S, run: &FrameRun<TextJob>) -> Result<(), SinkFault>
+    requires { IsKept text_job run.now }
     ensures { Writes (S.state out.old) (S.state out.new) (report (names_of (job_of run.now)) (net_of (job_of run.now)) (journal_of run.now) (values_of run.now)) result }
 {
     let net = run.job.net();
     let names = run.job.names();
     let tasks = net.tasks().len();
     let ends = last_ends(alloc, &run.journal, tasks)?;
-    let values = values_by_place(alloc, run.values.as_slice(), run.journal.len())?;
     for task in 0..tasks as u32 {
-        let value = last_value(&ends, &values, task);
+        let value = last_value(&ends, run.values.as_slice(), task);
         if let Err(fault) = put_task(alloc, out, net, task, task_name(names, task), value) {
             return Err(fault);
         }
@@ -76,18 +81,24 @@ fn put_tasks<S: Sink>(alloc: Global, out: &mut S, run: &FrameRun<TextJob>) -> Re
 // The value of a task's last End.
 fn last_value<'a>(
     ends: &[Option<u64>],
-    values: &'a [Option<Arc<Item>>],
+    values: &'a [ValueRow<Item>],
     task: u32,
 ) -> Option<&'a Item>
     requires task { task < length ends.now }
-    requires place { IfSome (slice_index_or ends.now task None) (λ place. place < length values.now) }
-    ensures { option_copied result
-        ≡ option_and_then (λ n. option_map arc_value (slice_index_or values.now n None)) (slice_index_or ends.now task None) }
+    requires rising { AreRising values.now }
+    ensures { option_copied result ≡ option_and_then (value_at values.now) (slice_index_or ends.now task None) }
 {
-    let place = ends[task as usize]?;
-    match &values[place as usize] {
-        Some(value) => Some(value),
-        None => None,
+    value_in(values, ends[task as usize]?)
+}
+
+// The value of the row with this place, where one has it.
+fn value_in(rows: &[ValueRow<Item>], place: u64) -> Option<&Item>
+    requires { AreRising rows.now }
+    ensures { option_copied result ≡ value_at rows.now place }
+{
+    match rows.binary_search_by_key(&place, |row| row.place) {
+        Ok(at) => Some(&rows[at].value),
+        Err(_) => None,
     }
 }
 

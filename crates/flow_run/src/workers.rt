@@ -1,5 +1,5 @@
 // Runs by so many workers.
-ghost use Rattle.std.specs.Prelude.{◌≡◌, ◌<◌, ◌≤◌, IfOk};
+ghost use Rattle.std.specs.Prelude.{◌≡◌, IfOk};
 ghost use Rattle.std.specs.Arc.{arc_value};
 ghost use Rattle.run_frame.specs.FlatNets.{IsFlatNet};
 ghost use Rattle.run_frame.specs.Legal.{IsKept};
@@ -8,7 +8,7 @@ ghost use Rattle.text_tasks.specs.JobMeaning.{net_of, text_job};
 ghost use Rattle.worker_seat.specs.Crews.{IsEntered, MayEnter};
 
 use super::fronts::{put_front, take_front};
-use command_line::GREATEST_WORKERS;
+use command_line::Run;
 use outside_io::NoMemory;
 use run_frame::{FrameRun, run_alone};
 use span_profile::Watch;
@@ -18,24 +18,23 @@ use std::thread::{Threads, for_each_mut};
 use text_tasks::TextJob;
 use worker_seat::{Crew, CrewRan, EntersEach, WorkerSeat, run_by_crew};
 
-/// Runs a job to its end by so many workers, or by as many as there are watchers, where these are fewer. A single
+/// Runs a job to its end by as many workers as are asked for, or by as many as there are watchers, where these are fewer. A single
 /// worker is the caller's thread, which needs no lock; several are a crew, whose seats are entered by threads. Each
 /// seat holds a watcher, the first one the first, and in the end they are where they were. It answers `Err` only if
 /// an allocation fails.
 pub(crate) fn run_by<R: Threads + Wait + Sync>(
     rt: &R,
     alloc: Global,
+    asked: Run<'_>,
     job: Arc<TextJob>,
-    workers: u32,
     watchers: &mut Vec<Box<dyn Watch + Send>>,
 ) -> Result<FrameRun<TextJob>, NoMemory>
-    requires workers { (0 < workers) × (workers ≤ GREATEST_WORKERS) }
-    requires flat { IsFlatNet (net_of (arc_value job)) }
+    requires { IsFlatNet (net_of (arc_value job)) }
     ensures job { IfOk result (λ run. job_of run ≡ arc_value job) }
     ensures kept { IfOk result (IsKept text_job) }
     ensures watchers { watchers.new ≡ watchers.old }
 {
-    let seats = watchers.len().min(workers as usize);
+    let seats = watchers.len().min(asked.workers as usize);
     if seats < 2 {
         return run_alone(alloc, job);
     }

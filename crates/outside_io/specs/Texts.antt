@@ -1,7 +1,17 @@
--- What a read of a named text finds.
-use Rattle.std.specs.Prelude.{◌≡◌, ℕ, ◌<◌, ◌≤◌, List, length, Option, Some, None, IsSomeAnd}
+-- What a source of named texts holds, what a read of one finds, and which reads have failed.
+use Rattle.std.specs.Prelude.{◌≡◌, ℕ, ◌<◌, ◌≤◌, List, [], ◌∷◌, ◌++◌, length, Option, Some, None, IfSome, IsSomeAnd, Result, Err}
 use Rattle.outside_io.specs.declared.texts.Found.{Found}
 use Rattle.outside_io.specs.declared.texts.Found.TheVariants.{Text, Missing, Longer}
+use Rattle.outside_io.specs.declared.texts.TextsFault.{TextsFault}
+use Rattle.outside_io.specs.declared.texts.TextsFault.TheVariants.{Failed}
+
+-- the texts that a source holds, where it specifies them
+abbrev pub SourceTexts : Type 0
+SourceTexts = Option (List ℕ → Option (List ℕ))
+
+-- these bytes are held under the name, and are no more than may be read
+abbrev pub IsHeld : SourceTexts → List ℕ → ℕ → List ℕ → Type 0
+IsHeld held name max bytes = IfSome held (λ text. text name ≡ Some bytes) × (length bytes ≤ max)
 
 -- What a read of at most `max` bytes finds under a name, where `held` is the text under that name.
 abbrev pub Finds : Option (List ℕ) → ℕ → Found → Type 0
@@ -14,3 +24,8 @@ abbrev pub IsWithin : ℕ → Found → Type 0
 IsWithin max (Text bytes) = length bytes ≤ max
 IsWithin max Missing = Unit {0}
 IsWithin max Longer = Unit {0}
+
+-- the names whose reads have failed, once a read of this name has answered so
+abbrev pub failed_after : List (List ℕ) → List ℕ → Result Found TextsFault → List (List ℕ)
+failed_after failed name (Err Failed) = failed ++ name ∷ []
+failed_after failed name answer = failed

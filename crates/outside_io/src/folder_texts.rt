@@ -1,9 +1,10 @@
 // Texts in the files of a folder. No contract says what a file holds.
-ghost use Rattle.std.specs.Prelude.{◌≡◌, ◌≢◌, ◌↔◌, ◌+◌, ◌-◌, ◌^◌, IfOk, IfSome, IsErrOf, IsUtf8, OnOk, None, Some, take};
+ghost use Rattle.std.specs.Prelude.{◌≡◌, ◌↔◌, [], IfOk, IfSome, IsErr, IsErrOf, IsUtf8, None, Some, take};
 ghost use Rattle.std.specs.IoError.{error_kind};
-ghost use Rattle.outside_io.specs.Texts.{Finds, IsWithin};
+ghost use Rattle.outside_io.specs.Texts.{Finds, IsWithin, failed_after};
 
-use crate::{Found, List, Texts, TextsFault};
+use crate::texts::failed_read;
+use crate::{Bytes, Found, List, Texts, TextsFault};
 use std::alloc::Global;
 use std::fs::{self, OpenFile};
 use std::io::{self, ErrorKind, Read};
@@ -12,52 +13,49 @@ use std::rt::Files;
 
 /// Texts in files: a name is a path, from the folder in which the program runs.
 ///
-/// A path at which nothing is found is missing. A name that isn't UTF-8, a folder in place of a file and
-/// any other failure are faults. The count of faults ends at the greatest `u64`: once it is there,
-/// each read answers `NoMemory` and does nothing.
+/// A path at which nothing is found is missing. A read of a name that isn't UTF-8 fails, and so does one of a folder in
+/// place of a file and one with any other failure.
 #[derive(Drop)]
 pub struct FolderTexts<R> {
     rt: R,
-    faults: u64,
+    failed: List<Bytes>,
 }
 
 impl<R> Model for FolderTexts<R> {
+    ghost use Rattle.std.specs.Prelude as std;
     ghost use Rattle.std.specs.Prelude.{ℕ};
 
-    ghost Value = { ℕ };
+    ghost Value = { std.List (std.List ℕ) };
 
-    ghost view = { λ texts. texts.faults };
+    ghost view = { λ texts. texts.failed };
 }
 
-impl<R: Files + Copy> FolderTexts<R> {
-    /// The files that `rt` reaches. There was no fault yet.
+impl<R: Files + AllocGlobal + Copy> FolderTexts<R> {
+    /// The files that `rt` reaches. No read has failed yet.
     pub fn new(rt: &R) -> FolderTexts<R>
-        ensures { result ≡ 0 }
+        ensures { result ≡ [] }
     {
-        FolderTexts { rt: *rt, faults: 0 }
+        FolderTexts {
+            rt: *rt,
+            failed: List::new(rt.alloc()),
+        }
     }
 }
 
 impl<R: Files + Copy> Texts for FolderTexts<R> {
     ghost held = { λ _. None };
 
-    ghost faults = { λ faults. faults };
+    ghost failed = { λ failed. failed };
 
     fn read(&mut self, alloc: Global, name: &[u8], max: u64) -> Result<Found, TextsFault>
         ensures within { IfOk result (IsWithin max) }
-        ensures counted { IsErrOf result TextsFault.Failed → self.new ≡ self.old + 1 }
-        ensures ok_faults { OnOk result (self.new ≡ self.old) }
-        ensures no_memory_faults { IsErrOf result TextsFault.NoMemory → self.new ≡ self.old }
-        ensures not_utf8 { ¬ IsUtf8 name.now → self.old ≢ 2 ^ 64 - 1 → IsErrOf result TextsFault.Failed }
+        ensures failed { self.new ≡ failed_after self.old name.now result }
+        ensures not_utf8 { ¬ IsUtf8 name.now → IsErr result }
     {
-        if self.faults == u64::MAX {
-            return Err(TextsFault::NoMemory);
+        match read_file(&self.rt, alloc, name, max) {
+            Err(TextsFault::Failed) => Err(failed_read(alloc, &mut self.failed, name)),
+            found => found,
         }
-        let outcome = read_file(&self.rt, alloc, name, max);
-        if let Err(TextsFault::Failed) = outcome {
-            self.faults += 1;
-        }
-        outcome
     }
 }
 

@@ -2,7 +2,7 @@
 //! bytes are put on.
 //!
 //! The layer above sees a `List` as the list of its items, a source of texts as the map of what it holds
-//! with a count of its faults, and a sink as the bytes that it took with a count of its faults. What a
+//! with the names whose reads failed, and a sink as the bytes that it took with a count of its faults. What a
 //! folder or a terminal holds is said by no contract. The definitions are in `specs/`.
 #![tactic(auto)]
 

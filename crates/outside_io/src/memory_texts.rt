@@ -3,24 +3,24 @@ ghost use Rattle.std.specs.Prelude.{◌≡◌, ◌≢◌, ◌↔◌, [], AllPair
 ghost use Rattle.outside_io.specs.Texts.{Finds, IsWithin};
 ghost use Rattle.outside_io.specs.MemoryTexts.{AreNamed, text_under, CountsCall};
 
+use crate::texts::failed_read;
 use crate::{Bytes, Found, List, NoMemory, Texts, TextsFault};
 use std::alloc::Global;
 use std::marker::Model;
 
 /// Texts in memory. Its calls are numbered from 0, and exactly those fail that it was given. A call that answers
-/// `NoMemory` isn't numbered. Numbers end below the greatest `u64`: a call that would have that number answers
-/// `NoMemory`.
+/// `NoMemory` isn't numbered; that comes also where a call is to fail and there is no room for its name. Numbers end
+/// below the greatest `u64`: a call that would have that number answers `NoMemory`.
 #[derive(Drop)]
 pub struct MemoryTexts {
     names: List<Bytes>,
     texts: List<Bytes>,
     failing: List<u64>,
     calls: u64,
-    faults: u64,
+    failed: List<Bytes>,
 }
 
 impl Model for MemoryTexts {
-    ghost use Rattle.std.specs.Prelude.{◌≤◌};
     ghost use Rattle.outside_io.specs.MemoryTexts.{HeldTexts};
 
     ghost Value = { HeldTexts };
@@ -30,17 +30,20 @@ impl Model for MemoryTexts {
       texts = m.texts;
       failing = m.failing;
       calls = m.calls;
-      faults = m.faults;
+      failed = m.failed;
     } };
-
-    ghost invariant = { λ m. m.faults ≤ m.calls };
 }
 
 impl MemoryTexts {
     /// Each text is held under the name at its place. The calls whose numbers are in `failing` fail.
-    pub fn new(names: List<Bytes>, texts: List<Bytes>, failing: List<u64>) -> MemoryTexts
+    pub fn new(
+        alloc: Global,
+        names: List<Bytes>,
+        texts: List<Bytes>,
+        failing: List<u64>,
+    ) -> MemoryTexts
         requires { AreNamed names texts }
-        ensures state { result ≡ record { names = names; texts = texts; failing = failing; calls = 0; faults = 0 } }
+        ensures state { result ≡ record { names = names; texts = texts; failing = failing; calls = 0; failed = [] } }
         ensures each { EachIndex names (λ place.
             text_under names texts (slice_index_or names place []) ≡ slice_get texts place) }
     {
@@ -49,7 +52,7 @@ impl MemoryTexts {
             texts,
             failing,
             calls: 0,
-            faults: 0,
+            failed: List::new(alloc),
         }
     }
 
@@ -82,20 +85,22 @@ fn has(names: &[Bytes], name: &[u8]) -> bool
 impl Texts for MemoryTexts {
     ghost held = { λ m. Some (text_under m.names m.texts) };
 
-    ghost faults = { λ m. m.faults };
+    ghost failed = { λ m. m.failed };
 
     fn read(&mut self, alloc: Global, name: &[u8], max: u64) -> Result<Found, TextsFault>
         ensures found { IfOk result (Finds (text_under self.old.names self.old.texts name.now) max) }
         ensures within { IfOk result (IsWithin max) }
-        ensures counts { CountsCall self.old self.new result }
+        ensures counts { CountsCall self.old self.new name.now result }
     {
         if self.calls == u64::MAX {
             return Err(TextsFault::NoMemory);
         }
         if self.failing.contains(&self.calls) {
-            self.calls += 1;
-            self.faults += 1;
-            return Err(TextsFault::Failed);
+            let fault = failed_read(alloc, &mut self.failed, name);
+            if let TextsFault::Failed = fault {
+                self.calls += 1;
+            }
+            return Err(fault);
         }
         let found = find_text(
             alloc,
@@ -161,7 +166,8 @@ mod tests {
         let names = lists(alloc, &[b"g", b"e", b"t"])?;
         let texts = lists(alloc, &[b"{}", b"", b"x\ny\n"])?;
         assert!(rt; MemoryTexts::are_named(&names, &texts));
-        let mut held = MemoryTexts::new(names, texts, List::from_slice(alloc, &[2, 4])?);
+        let failing = List::from_slice(alloc, &[2, 4])?;
+        let mut held = MemoryTexts::new(alloc, names, texts, failing);
         let reads: [(&[u8], u64, Seen<'_>); 8] = [
             (b"t", 4, Seen::Text(b"x\ny\n")),
             (b"t", 3, Seen::Longer),

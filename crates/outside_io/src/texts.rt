@@ -1,9 +1,9 @@
 // Named texts that can be read, as the layers above see them.
-ghost use Rattle.std.specs.Prelude.{◌≡◌, ℕ, ◌<◌, List, Option, IfSome, IfOk, OnOk, IsErrOf};
+ghost use Rattle.std.specs.Prelude.{◌≡◌, ℕ, List, IfSome, IfOk, Err};
 ghost use Rattle.outside_io.specs.declared.texts.TextsFault.TheVariants.{NoMemory as NoMemoryFault};
-ghost use Rattle.outside_io.specs.Texts.{Finds, IsWithin};
+ghost use Rattle.outside_io.specs.Texts.{Finds, IsWithin, SourceTexts, failed_after};
 
-use crate::{Bytes, NoMemory};
+use crate::{Bytes, List, NoMemory};
 use std::alloc::Global;
 
 /// What a read found under a name.
@@ -20,9 +20,9 @@ pub enum Found {
 /// Why a read gave no answer.
 #[derive(Clone, Copy, Debug, PartialEq, Eq)]
 pub enum TextsFault {
-    /// The source failed, and its count of faults has risen.
+    /// The source failed: the name is the last of those whose reads have failed.
     Failed,
-    /// An allocation failed. What is held stays, and so does the count of faults.
+    /// An allocation failed. What is held stays, and so do the names whose reads have failed.
     NoMemory,
 }
 
@@ -37,20 +37,32 @@ impl From<NoMemory> for TextsFault {
 /// A source of texts that have names.
 pub trait Texts {
     /// The text under each name, as far as there is one; `None` where the source doesn't specify what it holds.
-    ghost held: { Self → Option (List ℕ → Option (List ℕ)) };
+    ghost held: { Self → SourceTexts };
 
-    /// How often the source has failed.
-    ghost faults: { Self → ℕ };
+    /// The names whose reads have failed, one for each such read, in order.
+    ghost failed: { Self → List (List ℕ) };
 
     /// Reads the text under `name`, of at most `max` bytes. What the source holds stays.
     fn read(&mut self, alloc: Global, name: &[u8], max: u64) -> Result<Found, TextsFault>
         ensures found { IfSome (held self.old) (λ held. IfOk result (Finds (held name.now) max)) }
         ensures within { IfOk result (IsWithin max) }
         ensures stays { held self.new ≡ held self.old }
-        // A failure is counted, and nothing else is.
-        ensures failed { IsErrOf result TextsFault.Failed → faults self.old < faults self.new }
-        ensures ok_faults { OnOk result (faults self.new ≡ faults self.old) }
-        ensures no_memory_faults { IsErrOf result TextsFault.NoMemory → faults self.new ≡ faults self.old };
+        // The name of a read that fails is added, and no other.
+        ensures failed { failed self.new ≡ failed_after (failed self.old) name.now result };
+}
+
+/// The answer of a read that failed, whose name is added to those of failed reads: `NoMemory` where there is no room
+/// for it.
+pub(crate) fn failed_read(alloc: Global, failed: &mut List<Bytes>, name: &[u8]) -> TextsFault
+    ensures { failed.new ≡ failed_after failed.old name.now (Err result) }
+{
+    let Ok(name) = List::from_slice(alloc, name) else {
+        return TextsFault::NoMemory;
+    };
+    match failed.push(name) {
+        Ok(()) => TextsFault::Failed,
+        Err(_) => TextsFault::NoMemory,
+    }
 }
 
 // What a read answered, to be compared.

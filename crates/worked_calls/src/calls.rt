@@ -1,8 +1,9 @@
-// Calls of the program over texts and sinks in memory.
+// Calls of the program over texts and sinks in memory, each a row of a table.
+use crate::texts::text_of;
 use crate::watchers::{are_in_order, span_count_of};
 use call_status::Noted;
 use flow_run::{Outcome, flow_main};
-use outside_io::{Bytes, FailAt, List, MemorySink, MemoryTexts, NoMemory};
+use outside_io::{FailAt, List, MemorySink, MemoryTexts, NoMemory};
 use span_profile::Watch;
 use std::alloc::{AllocError, Global};
 use std::str;
@@ -14,48 +15,221 @@ pub const COUNT: &str = r#"{"tasks":[
     {"name":"a","op":"read","text":"t","to":["b"]},
     {"name":"b","op":"count"}]}"#;
 
-// A call that finds a graph file `g` and the texts `t` and `u`, the calls of texts and sinks that fail in it, and how
-// many watchers it is handed.
+// A call: its words, with a space between two, or `-` for none, where `''` is the empty word; the texts `t`, `u` and `v`
+// that it finds, with ` / ` between two, where `-` is none; what fails in it (`read CALL`, `put CALL TAKEN`,
+// `note CALL TAKEN`) or how many watchers it has in place of 16 (`watchers COUNT`), or `-`; and what is seen of it: the
+// exit code, whether all was written and noted, the entries of each run, then what the output took, then what standard
+// error took. `|` ends a line of a text.
 #[derive(Clone, Copy)]
-pub struct Call<'a> {
-    pub words: &'a [&'a str],
-    pub graph: &'a [u8],
-    pub text: &'a [u8],
-    pub other: &'a [u8],
-    pub failing_reads: &'a [u64],
-    pub failing_puts: &'a [FailAt],
-    pub failing_notes: &'a [FailAt],
-    pub watchers: u64,
+pub struct Row<'r> {
+    pub words: &'r str,
+    pub texts: &'r str,
+    pub failing: &'r str,
+    pub seen: &'r str,
 }
 
-// A call of `run g` with 16 watchers, in which no call of texts and sinks fails.
-pub fn run<'a>(graph: &'a [u8], text: &'a [u8]) -> Call<'a> {
-    Call {
-        words: &["run", "g"],
-        graph,
-        text,
-        other: b"",
-        failing_reads: &[],
-        failing_puts: &[],
-        failing_notes: &[],
-        watchers: 16,
+// A row is a line of a table, with ` -> ` between two parts.
+fn row_of(line: &str) -> Row<'_> {
+    let (words, rest) = line.split_once(" -> ").unwrap_or((line, ""));
+    let (texts, rest) = rest.split_once(" -> ").unwrap_or((rest, ""));
+    let (failing, seen) = rest.split_once(" -> ").unwrap_or((rest, ""));
+    Row {
+        words,
+        texts,
+        failing,
+        seen,
     }
 }
 
-fn strings(alloc: Global, words: &[&str]) -> Result<Vec<String>, AllocError> {
+// The numbers of workers that a star in the words stands for, one after the other.
+const WORKERS: [&str; 3] = ["1", "4", "16"];
+
+// The first row of these tables that isn't as it says, with what was seen; or nothing. A table is a graph and rows of calls
+// that find it as `g`.
+pub fn first_difference<R: Threads + Wait + Sync>(
+    rt: &R,
+    alloc: Global,
+    tables: &[(&str, &str)],
+) -> Result<String, NoMemory> {
+    for (graph, rows) in tables {
+        let difference = first_in_table(rt, alloc, graph, rows)?;
+        if !difference.is_empty() {
+            return Ok(difference);
+        }
+    }
+    Ok(String::new(alloc))
+}
+
+fn first_in_table<R: Threads + Wait + Sync>(
+    rt: &R,
+    alloc: Global,
+    graph: &str,
+    rows: &str,
+) -> Result<String, NoMemory> {
+    for line in rows.split('\n') {
+        let difference = first_by_workers(rt, alloc, graph, row_of(line))?;
+        if !difference.is_empty() {
+            return Ok(difference);
+        }
+    }
+    Ok(String::new(alloc))
+}
+
+fn first_by_workers<R: Threads + Wait + Sync>(
+    rt: &R,
+    alloc: Global,
+    graph: &str,
+    row: Row<'_>,
+) -> Result<String, NoMemory> {
+    for workers in WORKERS {
+        let words = row.words.replace(alloc, "*", workers)?;
+        let call = Row {
+            words: words.as_str(),
+            ..row
+        };
+        let difference = difference(rt, alloc, graph.as_bytes(), call)?;
+        if !difference.is_empty() || !row.words.contains('*') {
+            return Ok(difference);
+        }
+    }
+    Ok(String::new(alloc))
+}
+
+// What is seen of a call, if it isn't as its row says; or nothing.
+pub fn difference<R: Threads + Wait + Sync>(
+    rt: &R,
+    alloc: Global,
+    graph: &[u8],
+    row: Row<'_>,
+) -> Result<String, NoMemory> {
+    let seen = shown(rt, alloc, graph, row)?;
+    let wanted = row.seen.replace(alloc, "|", "\n")?;
+    if seen.as_str() == wanted.as_str() {
+        return Ok(String::new(alloc));
+    }
+    Ok(format!(in alloc;
+        "{} -> {} -> {}: {}",
+        row.words,
+        row.texts,
+        row.failing,
+        seen.as_str()
+    )?)
+}
+
+fn words_of(alloc: Global, words: &str) -> Result<Vec<String>, AllocError> {
     let mut strings = Vec::new(alloc);
-    for word in words {
+    if words == "-" {
+        return Ok(strings);
+    }
+    for word in words.split(' ') {
+        let word = if word == "''" { "" } else { word };
         strings.push(String::from_str(alloc, word)?)?;
     }
     Ok(strings)
 }
 
-fn list(alloc: Global, items: &[&[u8]]) -> Result<List<Bytes>, NoMemory> {
-    let mut list = List::new(alloc);
-    for item in items {
-        list.push(List::from_slice(alloc, item)?)?;
+// The texts that a call finds, of which these reads fail.
+fn texts_of(
+    alloc: Global,
+    graph: &[u8],
+    texts: &str,
+    failing: List<u64>,
+) -> Result<MemoryTexts, NoMemory> {
+    let mut names = List::new(alloc);
+    let mut held = List::new(alloc);
+    names.push(List::from_slice(alloc, b"g")?)?;
+    held.push(List::from_slice(alloc, graph)?)?;
+    for (name, text) in ["t", "u", "v"].iter().zip(texts.split(" / ")) {
+        if text != "-" {
+            names.push(List::from_slice(alloc, name.as_bytes())?)?;
+            held.push(text_of(alloc, text)?)?;
+        }
     }
-    Ok(list)
+    if !MemoryTexts::are_named(&names, &held) {
+        return Err(NoMemory);
+    }
+    Ok(MemoryTexts::new(alloc, names, held, failing))
+}
+
+// The calls of texts and sinks that fail, and how many watchers there are.
+#[derive(Drop)]
+struct Failing {
+    reads: List<u64>,
+    puts: List<FailAt>,
+    notes: List<FailAt>,
+    watchers: u64,
+}
+
+fn failing_of(alloc: Global, text: &str) -> Result<Failing, NoMemory> {
+    let (what, numbers) = text.split_once(' ').unwrap_or((text, ""));
+    let (call, taken) = numbers.split_once(' ').unwrap_or((numbers, ""));
+    let at = FailAt {
+        call: number_of(call),
+        taken: number_of(taken),
+    };
+    let mut failing = Failing {
+        reads: List::new(alloc),
+        puts: List::new(alloc),
+        notes: List::new(alloc),
+        watchers: 16,
+    };
+    match what {
+        "read" => failing.reads.push(at.call)?,
+        "put" => failing.puts.push(at)?,
+        "note" => failing.notes.push(at)?,
+        "watchers" => failing.watchers = at.call,
+        _ => (),
+    }
+    Ok(failing)
+}
+
+fn number_of(text: &str) -> u64 {
+    text.parse::<u64>().unwrap_or(0)
+}
+
+// What is seen of a call.
+fn shown<R: Threads + Wait + Sync>(
+    rt: &R,
+    alloc: Global,
+    graph: &[u8],
+    row: Row<'_>,
+) -> Result<String, NoMemory> {
+    let words = words_of(alloc, row.words)?;
+    let Failing {
+        reads,
+        puts,
+        notes,
+        watchers: count,
+    } = failing_of(alloc, row.failing)?;
+    let mut texts = texts_of(alloc, graph, row.texts, reads)?;
+    let mut out = MemorySink::new(alloc, puts);
+    let mut notes = MemorySink::new(alloc, notes);
+    let watchers = watchers_of(alloc, count)?;
+    let outcome = flow_main(
+        rt,
+        alloc,
+        words.as_slice(),
+        &mut texts,
+        &mut out,
+        &mut notes,
+        watchers,
+    );
+    let end = shown_outcome(alloc, &outcome, count)?;
+    Ok(format!(in alloc;
+        "{} [{}] [{}]",
+        end.as_str(),
+        shown_bytes(&out),
+        shown_bytes(&notes)
+    )?)
+}
+
+// So many watchers, each of which was told as many spans as there are watchers before it.
+fn watchers_of(alloc: Global, count: u64) -> Result<Vec<Box<dyn Watch + Send>>, NoMemory> {
+    let mut watchers: Vec<Box<dyn Watch + Send>> = Vec::new(alloc);
+    for spans in 0..count {
+        watchers.push(Box::new(alloc, span_count_of(spans)?)?)?;
+    }
+    Ok(watchers)
 }
 
 // What the sink took, or a question mark where that is no text.
@@ -80,65 +254,4 @@ fn shown_outcome(alloc: Global, outcome: &Outcome, watchers: u64) -> Result<Stri
         shown.push_str(", watchers out of order")?;
     }
     Ok(shown)
-}
-
-// The texts that a call finds.
-fn texts_of(alloc: Global, call: &Call<'_>) -> Result<MemoryTexts, NoMemory> {
-    let names = list(alloc, &[b"g", b"t", b"u"])?;
-    let held = list(alloc, &[call.graph, call.text, call.other])?;
-    let failing = List::from_slice(alloc, call.failing_reads)?;
-    if !MemoryTexts::are_named(&names, &held) {
-        return Err(NoMemory);
-    }
-    Ok(MemoryTexts::new(names, held, failing))
-}
-
-// A sink in which these puts fail.
-fn sink(alloc: Global, failing: &[FailAt]) -> Result<MemorySink, NoMemory> {
-    Ok(MemorySink::new(alloc, List::from_slice(alloc, failing)?))
-}
-
-// Calls the program with so many watchers, and shows how the call ends.
-fn shown_end<R: Threads + Wait + Sync>(
-    rt: &R,
-    alloc: Global,
-    words: &[String],
-    texts: &mut MemoryTexts,
-    out: &mut MemorySink,
-    notes: &mut MemorySink,
-    count: u64,
-) -> Result<String, NoMemory> {
-    let mut watchers: Vec<Box<dyn Watch + Send>> = Vec::new(alloc);
-    for spans in 0..count {
-        watchers.push(Box::new(alloc, span_count_of(spans)?)?)?;
-    }
-    let outcome = flow_main(rt, alloc, words, texts, out, notes, watchers);
-    Ok(shown_outcome(alloc, &outcome, count)?)
-}
-
-// Three texts on a line.
-fn joined(alloc: Global, first: &str, second: &str, third: &str) -> Result<String, AllocError> {
-    format!(in alloc; "{first}; {second}; {third}")
-}
-
-// How the call ends, then what the output took, then what standard error took.
-pub fn shown<R: Threads + Wait + Sync>(
-    rt: &R,
-    alloc: Global,
-    call: &Call<'_>,
-) -> Result<String, NoMemory> {
-    let words = strings(alloc, call.words)?;
-    let mut texts = texts_of(alloc, call)?;
-    let mut out = sink(alloc, call.failing_puts)?;
-    let mut notes = sink(alloc, call.failing_notes)?;
-    let end = shown_end(
-        rt,
-        alloc,
-        words.as_slice(),
-        &mut texts,
-        &mut out,
-        &mut notes,
-        call.watchers,
-    )?;
-    Ok(joined(alloc, end.as_str(), shown_bytes(&out), shown_bytes(&notes))?)
 }

@@ -1,106 +1,74 @@
-// Texts that aren't there, and reads and puts that fail.
-use crate::calls::{COUNT, Call, run, shown};
-use outside_io::FailAt;
+// Texts that aren't there, or are too long, and reads and writes that fail.
+use crate::calls::{COUNT, first_difference};
 use std::test::Fail;
 
-const READ: &str = r#"{"tasks":[{"name":"a","op":"read","text":"t"}]}"#;
-
-const READ_OTHER: &str = r#"{"tasks":[{"name":"a","op":"read","text":"v"}]}"#;
-
-const READ_TWO_OTHERS: &str = r#"{"tasks":[
-    {"name":"a","op":"read","text":"w"},
-    {"name":"b","op":"read","text":"v"}]}"#;
-
-fn counting<'a>() -> Call<'a> {
-    run(COUNT.as_bytes(), b"x\ny")
-}
-
-#[test]
-fn tells_missing_texts(rt: HostRuntime) -> Result<(), Fail> {
-    let no_graph = Call {
-        words: &["run", "h"],
-        ..counting()
-    };
-    let no_text = run(READ_OTHER.as_bytes(), b"");
-    let neither_text = run(READ_TWO_OTHERS.as_bytes(), b"");
-    for (call, want) in [
-        (no_graph, "5 written; ; flow: no text h\n"),
-        (no_text, "5 written; ; flow: no text v\n"),
-        (neither_text, "5 written; ; flow: no text w\n"),
-    ] {
-        assert_eq!(rt; shown(&rt, rt.alloc(), &call)?.as_str(), want);
-    }
-    Ok(())
-}
-
-#[test]
-fn tells_failing_reads(rt: HostRuntime) -> Result<(), Fail> {
-    for (read, want) in [
-        (0, "6 written; ; flow: read fault on g\n"),
-        (1, "6 written; ; flow: read fault on t\n"),
-        (2, "0 written, run of 4; == b\n2\n; "),
-    ] {
-        let call = Call {
-            failing_reads: &[read],
-            ..counting()
-        };
-        assert_eq!(rt; shown(&rt, rt.alloc(), &call)?.as_str(), want);
-    }
-    Ok(())
-}
-
-#[test]
-fn tells_failing_puts(rt: HostRuntime) -> Result<(), Fail> {
-    for (call, taken, want) in [
-        (0, 0, "7 cut, run of 4; ; flow: write fault\n"),
-        (0, 3, "7 cut, run of 4; == ; flow: write fault\n"),
-        (1, 1, "7 cut, run of 4; == b\n2; flow: write fault\n"),
-        (1, 9, "7 cut, run of 4; == b\n2\n; flow: write fault\n"),
-        (2, 0, "0 written, run of 4; == b\n2\n; "),
-    ] {
-        let call = Call {
-            failing_puts: &[FailAt { call, taken }],
-            ..counting()
-        };
-        assert_eq!(rt; shown(&rt, rt.alloc(), &call)?.as_str(), want);
-    }
-    Ok(())
-}
-
-// The value of a text without a line is no put, so the put after the line of its task can't fail.
-#[test]
-fn puts_no_empty_value(rt: HostRuntime) -> Result<(), Fail> {
-    let call = Call {
-        failing_puts: &[FailAt { call: 1, taken: 0 }],
-        ..run(READ.as_bytes(), b"")
-    };
-    assert_eq!(rt;
-        shown(&rt, rt.alloc(), &call)?.as_str(),
-        "0 written, run of 2; == a\n; "
-    );
-    Ok(())
-}
-
 // A refused note changes neither the status nor the output.
+const COUNTING: (&str, &str) = (
+    COUNT,
+    "run h -> x|y -> - -> 5 written [] [flow: no text h|]
+run g -> x|y -> read 0 -> 6 written [] [flow: read fault on g|]
+run g -> x|y -> read 1 -> 6 written [] [flow: read fault on t|]
+run g -> x|y -> read 2 -> 0 written, run of 4 [== b|2|] []
+run g -> x|y -> put 0 0 -> 7 cut, run of 4 [] [flow: write fault|]
+run g -> x|y -> put 0 3 -> 7 cut, run of 4 [== ] [flow: write fault|]
+run g -> x|y -> put 1 1 -> 7 cut, run of 4 [== b|2] [flow: write fault|]
+run g -> x|y -> put 1 9 -> 7 cut, run of 4 [== b|2|] [flow: write fault|]
+run g -> x|y -> put 2 0 -> 0 written, run of 4 [== b|2|] []
+- -> x|y -> note 0 4 -> 2 written, note refused [] [flow]
+run g -> x|y -> note 0 0 -> 0 written, run of 4 [== b|2|] []",
+);
+
+// The value of a text without a line is no write, so the one after the line of its task can't fail.
+const READ: (&str, &str) = (
+    r#"{"tasks":[{"name":"a","op":"read","text":"t"}]}"#,
+    "run g ->  -> put 1 0 -> 0 written, run of 2 [== a|] []
+run g -> - -> - -> 5 written [] [flow: no text t|]
+run g -> - -> note 0 0 -> 5 written, note refused [] []
+run g -> - -> note 0 7 -> 5 written, note refused [] [flow: n]
+run g -> - -> note 0 99 -> 5 written, note refused [] [flow: no text t|]",
+);
+
+const READ_TWO: (&str, &str) = (
+    r#"{"tasks":[
+    {"name":"a","op":"read","text":"t"},
+    {"name":"b","op":"read","text":"u"}]}"#,
+    "run g --workers * -> x| / y| -> - -> 0 written, run of 4 [== a|x|== b|y|] []
+run g --workers * -> - / y| -> - -> 5 written [] [flow: no text t|]
+run g --workers * -> x| / - -> - -> 5 written [] [flow: no text u|]
+run g --workers * -> - / - -> - -> 5 written [] [flow: no text t|]
+run g --workers * -> LONG / y| -> - -> 5 written [] [flow: text too long t|]
+run g --workers * -> x| / LONG -> - -> 5 written [] [flow: text too long u|]
+run g --workers * -> LONG / - -> - -> 5 written [] [flow: text too long t|]
+run g --workers * -> x| / y| -> read 1 -> 6 written [] [flow: read fault on t|]
+run g --workers * -> x| / y| -> read 2 -> 6 written [] [flow: read fault on u|]
+run g --workers * -> - / y| -> read 2 -> 5 written [] [flow: no text t|]
+run g --workers * -> x| / - -> read 1 -> 6 written [] [flow: read fault on t|]",
+);
+
+// The texts are read in the order in which they are first named: `u`, `t`, `v`, each once.
+const READ_THREE: (&str, &str) = (
+    r#"{"tasks":[
+    {"name":"a","op":"read","text":"u"},
+    {"name":"b","op":"read","text":"t"},
+    {"name":"c","op":"read","text":"u"},
+    {"name":"d","op":"read","text":"v"}]}"#,
+    "run g --workers * -> x| / y| / z| -> - -> 0 written, run of 8 [== a|y|== b|x|== c|y|== d|z|] []
+run g --workers * -> x| / - / z| -> - -> 5 written [] [flow: no text u|]
+run g --workers * -> - / y| / z| -> - -> 5 written [] [flow: no text t|]
+run g --workers * -> x| / y| / - -> - -> 5 written [] [flow: no text v|]
+run g --workers * -> - / - / - -> - -> 5 written [] [flow: no text u|]
+run g --workers * -> x| / LONG / z| -> - -> 5 written [] [flow: text too long u|]
+run g --workers * -> LONG / y| / z| -> - -> 5 written [] [flow: text too long t|]
+run g --workers * -> x| / y| / LONG -> - -> 5 written [] [flow: text too long v|]
+run g --workers * -> x| / y| / z| -> read 1 -> 6 written [] [flow: read fault on u|]
+run g --workers * -> x| / y| / z| -> read 2 -> 6 written [] [flow: read fault on t|]
+run g --workers * -> x| / y| / z| -> read 3 -> 6 written [] [flow: read fault on v|]
+run g --workers * -> x| / y| / z| -> read 4 -> 0 written, run of 8 [== a|y|== b|x|== c|y|== d|z|] []",
+);
+
 #[test]
-fn tells_failing_notes(rt: HostRuntime) -> Result<(), Fail> {
-    let no_text = run(READ_OTHER.as_bytes(), b"");
-    let no_words = Call {
-        words: &[],
-        ..counting()
-    };
-    for (call, taken, want) in [
-        (no_text, 0, "5 written, note refused; ; "),
-        (no_text, 7, "5 written, note refused; ; flow: n"),
-        (no_text, 99, "5 written, note refused; ; flow: no text v\n"),
-        (no_words, 4, "2 written, note refused; ; flow"),
-        (counting(), 0, "0 written, run of 4; == b\n2\n; "),
-    ] {
-        let call = Call {
-            failing_notes: &[FailAt { call: 0, taken }],
-            ..call
-        };
-        assert_eq!(rt; shown(&rt, rt.alloc(), &call)?.as_str(), want);
-    }
+fn tells_faults(rt: HostRuntime) -> Result<(), Fail> {
+    let tables = [COUNTING, READ, READ_TWO, READ_THREE];
+    assert_eq!(rt; first_difference(&rt, rt.alloc(), &tables)?.as_str(), "");
     Ok(())
 }

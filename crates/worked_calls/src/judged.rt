@@ -1,91 +1,31 @@
-// Journals in place of reports, and judgements of journals: of the row of two tasks, in both versions, with a last line
-// left out, two lines exchanged, and the last byte cut off.
-use crate::calls::{COUNT, Call, run, shown};
-use outside_io::FailAt;
+// Judgements of journals: whole and unfinished ones, one whose entries are out of order, one that is cut off, and one that
+// breaks a rule whose line couldn't be written; files that aren't there, and reads that fail.
+use crate::calls::{COUNT, first_difference};
 use std::test::Fail;
 
-const WHOLE: &[u8] =
-    b"flow journal 2\nstart 0 source -\nend 0 0 plain\nstart 1 strong 1\nend 2 - plain\n";
-
-// A judgement of this journal by the graph that counts lines.
-fn judge<'a>(journal: &'a [u8]) -> Call<'a> {
-    Call {
-        words: &["judge", "g", "t"],
-        ..run(COUNT.as_bytes(), journal)
-    }
-}
-
-#[test]
-fn writes_a_journal_in_place_of_a_report(rt: HostRuntime) -> Result<(), Fail> {
-    let call = Call {
-        words: &["run", "g", "--journal"],
-        ..run(COUNT.as_bytes(), b"one\ntwo\n")
-    };
-    assert_eq!(rt;
-        shown(&rt, rt.alloc(), &call)?.as_str(),
-        "0 written, run of 4; flow journal 2\nstart 0 source -\nend 0 0 plain\nstart 1 strong 1\nend 2 - plain\n; "
-    );
-    Ok(())
-}
+const COUNTING: (&str, &str) = (
+    COUNT,
+    "judge g t -> flow journal 2|start 0 source -|end 0 0 plain|start 1 strong 1|end 2 - plain| -> - -> 0 written [complete|] []
+judge g t -> flow journal 1|start 0 source -|end 0 0 plain|start 1 strong 1|end 2 - plain| -> - -> 0 written [complete|] []
+judge g t -> flow journal 2|start 0 source -|end 0 0 plain|start 1 strong 1| -> - -> 0 written [legal|] []
+judge g t -> flow journal 2|start 0 source -|start 1 strong 1|end 0 0 plain|end 2 - plain| -> - -> 11 written [breaks at 1: not released|] [flow: not legal at 1|]
+judge g t -> flow journal 2|start 0 source -|end 0 0 plain|start 1 strong 1|end 2 - plain -> - -> 12 written [] [flow: bad journal line 5|]
+judge g t ->  -> - -> 12 written [] [flow: bad journal line 1|]
+judge g t --limit 1 -> flow journal 2|start 0 source -|end 0 0 plain|start 1 strong 1|end 2 - plain| -> - -> 11 written [breaks at 2: over limit|] [flow: not legal at 2|]
+judge g t -> flow journal 2|start 0 source -|end 0 0 plain|start 1 strong 1|end 2 - plain| -> put 0 3 -> 7 cut [com] [flow: write fault|]
+judge g t -> flow journal 2|end 0 - plain| -> put 0 3 -> 11 cut [bre] [flow: not legal at 0|]
+judge g t -> - -> - -> 5 written [] [flow: no text t|]
+judge h t -> flow journal 2|start 0 source -|end 0 0 plain|start 1 strong 1|end 2 - plain| -> - -> 5 written [] [flow: no text h|]
+judge g t -> flow journal 2|start 0 source -|end 0 0 plain|start 1 strong 1|end 2 - plain| -> read 0 -> 6 written [] [flow: read fault on g|]
+judge g t -> flow journal 2|start 0 source -|end 0 0 plain|start 1 strong 1|end 2 - plain| -> read 1 -> 6 written [] [flow: read fault on t|]
+judge g t -> flow journal 2|start 0 source -|end 0 0 plain|start 1 strong 1|end 2 - plain| -> read 2 -> 0 written [complete|] []",
+);
 
 #[test]
 fn judges_journals(rt: HostRuntime) -> Result<(), Fail> {
-    let first: &[u8] =
-        b"flow journal 1\nstart 0 source -\nend 0 0 plain\nstart 1 strong 1\nend 2 - plain\n";
-    let unfinished: &[u8] = b"flow journal 2\nstart 0 source -\nend 0 0 plain\nstart 1 strong 1\n";
-    let exchanged: &[u8] =
-        b"flow journal 2\nstart 0 source -\nstart 1 strong 1\nend 0 0 plain\nend 2 - plain\n";
-    let cut: &[u8] =
-        b"flow journal 2\nstart 0 source -\nend 0 0 plain\nstart 1 strong 1\nend 2 - plain";
-    let judged: [(&[u8], &str); 6] = [
-        (WHOLE, "0 written; complete\n; "),
-        (first, "0 written; complete\n; "),
-        (unfinished, "0 written; legal\n; "),
-        (
-            exchanged,
-            "11 written; breaks at 1: not released\n; flow: not legal at 1\n",
-        ),
-        (cut, "12 written; ; flow: bad journal line 5\n"),
-        (b"", "12 written; ; flow: bad journal line 1\n"),
-    ];
-    for (journal, expected) in judged {
-        assert_eq!(rt; shown(&rt, rt.alloc(), &judge(journal))?.as_str(), expected);
-    }
-    Ok(())
-}
-
-#[test]
-fn judges_by_the_limit(rt: HostRuntime) -> Result<(), Fail> {
-    let call = Call {
-        words: &["judge", "g", "t", "--limit", "1"],
-        ..judge(WHOLE)
-    };
     assert_eq!(rt;
-        shown(&rt, rt.alloc(), &call)?.as_str(),
-        "11 written; breaks at 2: over limit\n; flow: not legal at 2\n"
-    );
-    Ok(())
-}
-
-// A verdict whose line couldn't be written: that a journal breaks a rule is told before that.
-#[test]
-fn tells_breaks_before_failed_writes(rt: HostRuntime) -> Result<(), Fail> {
-    let failing = [FailAt { call: 0, taken: 3 }];
-    let complete = Call {
-        failing_puts: &failing,
-        ..judge(WHOLE)
-    };
-    assert_eq!(rt;
-        shown(&rt, rt.alloc(), &complete)?.as_str(),
-        "7 cut; com; flow: write fault\n"
-    );
-    let broken = Call {
-        failing_puts: &failing,
-        ..judge(b"flow journal 2\nend 0 - plain\n")
-    };
-    assert_eq!(rt;
-        shown(&rt, rt.alloc(), &broken)?.as_str(),
-        "11 cut; bre; flow: not legal at 0\n"
+        first_difference(&rt, rt.alloc(), &[COUNTING])?.as_str(),
+        ""
     );
     Ok(())
 }

@@ -1,12 +1,11 @@
 //! Calls of the program, worked as examples. There is nothing here but tests.
 //!
-//! Each call is one of `flow_main` over texts and sinks in memory; a test shows the exit code, how many entries the
-//! journal of each kept run has, what both sinks took, and where the watchers didn't come back in their order. The
-//! lines of statuses are also put by themselves.
+//! Each call is one of `flow_main` over texts and sinks in memory, and a row of a table (`calls.rt` says how one is
+//! written): its words, the texts that it finds, what fails in it, and what is seen of it, which is the exit code, how many
+//! entries the journal of each kept run has, what both sinks took, and whether the watchers didn't come back in their
+//! order. The line of a status that no call here ends with is written by itself.
 #![tactic(auto)]
 
-#[cfg(test)]
-mod arguments;
 #[cfg(test)]
 mod calls;
 #[cfg(test)]
@@ -14,11 +13,9 @@ mod checked;
 #[cfg(test)]
 mod faults;
 #[cfg(test)]
-mod graphs;
-#[cfg(test)]
 mod judged;
 #[cfg(test)]
-mod limits;
+mod lengths;
 #[cfg(test)]
 mod notes;
 #[cfg(test)]
@@ -26,4 +23,10 @@ mod operations;
 #[cfg(test)]
 mod refused;
 #[cfg(test)]
+mod runs;
+#[cfg(test)]
+mod texts;
+#[cfg(test)]
 mod watchers;
+#[cfg(test)]
+mod words;

@@ -2,7 +2,7 @@
 use call_status::{Noted, Status, put_note};
 use graph_file::GraphError;
 use graph_plans::Spot;
-use outside_io::{FailAt, List, MemorySink};
+use outside_io::{List, MemorySink};
 use std::test::Fail;
 
 #[test]
@@ -21,18 +21,5 @@ fn puts_the_line_and_for_done_nothing(rt: HostRuntime) -> Result<(), Fail> {
     );
     let line = b"flow: bad graph: no such name in sem of module 12 task 4294967295\n";
     assert_eq!(rt; notes.bytes(), line.as_slice());
-    Ok(())
-}
-
-#[test]
-fn tells_a_fault(rt: HostRuntime) -> Result<(), Fail> {
-    let mut failing = List::new(rt.alloc());
-    failing.push(FailAt { call: 0, taken: 7 })?;
-    let mut notes = MemorySink::new(rt.alloc(), failing);
-    assert_eq!(rt;
-        put_note(rt.alloc(), &mut notes, &[], &Status::WriteFault),
-        Noted::Fault
-    );
-    assert_eq!(rt; notes.bytes(), b"flow: w".as_slice());
     Ok(())
 }

@@ -1,8 +1,8 @@
 // Graph files that are refused, each with what standard error says of it after `flow: bad graph: `. A file stands on a
 // line with its reason behind an arrow.
-use crate::calls::{run, shown};
+use crate::calls::{Row, difference};
 use outside_io::NoMemory;
-use std::alloc::{AllocError, Global};
+use std::alloc::Global;
 use std::sync::Wait;
 use std::test::Fail;
 use std::thread::Threads;
@@ -23,28 +23,30 @@ const FILES: &str = r#"[ -> not JSON
 {"tasks":[{"name":"a","op":"count"},{"name":"a","op":"count"}]} -> repeated name in name of task 1
 {"tasks":[{"name":"a","op":"count"},{"name":"a","op":"count","to":["z"]}]} -> no such name in to of task 1"#;
 
-// Graphs in which no task can begin.
-const WITHOUT_SOURCE: [&str; 2] = [
-    r#"{"tasks":[{"name":"a","op":"count","to":["a"]}]}"#,
-    r#"{"tasks":[{"name":"a","op":"count","to":["b"]},{"name":"b","op":"count","to":["a"]}]}"#,
-];
-
-// What is seen of a call that refuses a file for this reason.
-fn refused_call(alloc: Global, reason: &str) -> Result<String, AllocError> {
-    format!(in alloc; "3 written; ; flow: bad graph: {reason}\n")
-}
-
-// The first of these files that isn't refused as its line says, with what was seen; or nothing.
-fn first_difference<R: Threads + Wait + Sync>(
+// What is seen of a run of this file, if it isn't refused for this reason; or nothing.
+fn refused_otherwise<R: Threads + Wait + Sync>(
     rt: &R,
     alloc: Global,
-    rows: &str,
+    file: &[u8],
+    reason: &str,
 ) -> Result<String, NoMemory> {
-    for row in rows.split('\n') {
-        let (file, reason) = row.split_once(" -> ").unwrap_or((row, "no reason"));
-        let seen = shown(rt, alloc, &run(file.as_bytes(), b""))?;
-        if seen.as_str() != refused_call(alloc, reason)?.as_str() {
-            return Ok(format!(in alloc; "{file}: {}", seen.as_str())?);
+    let seen = format!(in alloc; "3 written [] [flow: bad graph: {reason}|]")?;
+    let call = Row {
+        words: "run g",
+        texts: "-",
+        failing: "-",
+        seen: seen.as_str(),
+    };
+    difference(rt, alloc, file, call)
+}
+
+// What is seen of the first of these files that isn't refused as its line says; or nothing.
+fn first_in_files<R: Threads + Wait + Sync>(rt: &R, alloc: Global) -> Result<String, NoMemory> {
+    for line in FILES.split('\n') {
+        let (file, reason) = line.split_once(" -> ").unwrap_or((line, "no reason"));
+        let difference = refused_otherwise(rt, alloc, file.as_bytes(), reason)?;
+        if !difference.is_empty() {
+            return Ok(difference);
         }
     }
     Ok(String::new(alloc))
@@ -52,28 +54,14 @@ fn first_difference<R: Threads + Wait + Sync>(
 
 #[test]
 fn refuses_files(rt: HostRuntime) -> Result<(), Fail> {
-    assert_eq!(rt; first_difference(&rt, rt.alloc(), FILES)?.as_str(), "");
-    Ok(())
-}
-
-#[test]
-fn refuses_bytes_that_are_no_text(rt: HostRuntime) -> Result<(), Fail> {
     let alloc = rt.alloc();
+    assert_eq!(rt; first_in_files(&rt, alloc)?.as_str(), "");
     let brackets = [b'['; 200];
     let files: [&[u8]; 3] = [&[255], &[b'"', 192, b'"'], &brackets];
     for file in files {
-        let want = refused_call(alloc, "not JSON")?;
-        assert_eq!(rt; shown(&rt, alloc, &run(file, b""))?.as_str(), want.as_str());
-    }
-    Ok(())
-}
-
-#[test]
-fn refuses_graphs_without_a_source(rt: HostRuntime) -> Result<(), Fail> {
-    for file in WITHOUT_SOURCE {
         assert_eq!(rt;
-            shown(&rt, rt.alloc(), &run(file.as_bytes(), b""))?.as_str(),
-            "4 written; ; flow: no source\n"
+            refused_otherwise(&rt, alloc, file, "not JSON")?.as_str(),
+            ""
         );
     }
     Ok(())

@@ -1,5 +1,4 @@
 // The watchers that a call is handed, and how they come back: in their order, whatever the number of workers.
-use crate::calls::{COUNT, Call, run, shown};
 use legal_run::Span;
 use outside_io::NoMemory;
 use span_profile::{SpanCount, Watch};
@@ -30,26 +29,7 @@ pub fn are_in_order(watchers: &[Box<dyn Watch + Send>], count: u64) -> bool {
             .all(|(place, watcher)| watcher.count() == place as u64)
 }
 
-// With more workers than watchers, as many workers as watchers.
-#[test]
-fn come_back_in_their_order(rt: HostRuntime) -> Result<(), Fail> {
-    for watchers in [0, 1, 2, 3, 4, 16] {
-        for workers in ["1", "2", "4", "16"] {
-            let call = Call {
-                words: &["run", "g", "--workers", workers],
-                watchers,
-                ..run(COUNT.as_bytes(), b"x\ny\n")
-            };
-            assert_eq!(rt;
-                shown(&rt, rt.alloc(), &call)?.as_str(),
-                "0 written, run of 4; == b\n2\n; "
-            );
-        }
-    }
-    Ok(())
-}
-
-// Watchers out of their order are seen: the test above would tell.
+// Watchers out of their order are seen: the rows of calls would tell.
 #[test]
 fn exchanged_watchers_are_seen(rt: HostRuntime) -> Result<(), Fail> {
     let alloc = rt.alloc();

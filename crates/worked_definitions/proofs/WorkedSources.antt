@@ -1,14 +1,14 @@
 -- What a read finds and how sources in memory count, what a start's inputs hold, and how a watcher counts, computed on
 -- small ones.
-use Rattle.std.proofs.Common.{◌≡◌, ◌⊎◌, ℕ, zero, suc, ◌<◌, [], ◌∷◌, length, Some, None, Ok, Err, inl, inr, refl, ap, arith}
-use Rattle.std.specs.Prelude.{Contains, slice_index_or}
+use Rattle.std.proofs.Common.{◌≡◌, ℕ, zero, suc, ◌<◌, List, [], ◌∷◌, length, Some, None, Ok, Err, refl, ap, arith}
+use Rattle.std.specs.Prelude.{Contains, slice_index_or, if◌then◌else◌, bytes_eq}
 use Rattle.std.specs.Arc.{arc_value}
 use Rattle.std.specs.Vec.{vec_capacity}
 use Rattle.std.specs.Global.{Global}
 use Rattle.std.specs.declared.sync.Arc.{Arc}
 use Rattle.outside_io.specs.declared.texts.Found.TheVariants.{Text, Missing, Longer}
 use Rattle.outside_io.specs.declared.texts.TextsFault.TheVariants.{Failed, NoMemory}
-use Rattle.outside_io.specs.Texts.{Finds, IsWithin}
+use Rattle.outside_io.specs.Texts.{Finds, IsHeld, IsWithin, SourceTexts, failed_after}
 use Rattle.outside_io.specs.MemoryTexts.{HeldTexts, AreNamed, text_under, CountsCall}
 use Rattle.join_words.specs.declared.ins.Given.TheVariants.{Value, First, Nothing}
 use Rattle.join_words.specs.declared.ins.Ins.{Ins}
@@ -49,6 +49,32 @@ within = (omega arith, tt, tt)
 not_within : ¬ IsWithin 1 (Text (1 ∷ 2 ∷ []))
 not_within is = absurd (omega (arith, is))
 
+-- A name holds its own bytes, as many as may be read at most; of a source that doesn't specify what it holds only
+-- their number is said.
+abbrev two_texts : SourceTexts
+two_texts = Some (λ name. if bytes_eq name (0 ∷ []) then Some (1 ∷ []) else (if bytes_eq name (1 ∷ []) then Some (2 ∷ 3 ∷ []) else None))
+
+own_bytes : IsHeld two_texts (1 ∷ []) 2 (2 ∷ 3 ∷ [])
+own_bytes = (refl, omega arith)
+
+bytes_of_another : ¬ IsHeld two_texts (1 ∷ []) 2 (1 ∷ [])
+bytes_of_another is = absurd (cc)
+
+more_than_may_be_read : ¬ IsHeld two_texts (1 ∷ []) 1 (2 ∷ 3 ∷ [])
+more_than_may_be_read is = absurd (omega (arith, is.1))
+
+unspecified : IsHeld None (1 ∷ []) 2 (9 ∷ [])
+unspecified = (tt, omega arith)
+
+unspecified_but_too_long : ¬ IsHeld None (1 ∷ []) 0 (9 ∷ [])
+unspecified_but_too_long is = absurd (omega (arith, is.1))
+
+-- The name of a read that fails comes behind those of earlier ones, and no other read changes them.
+failed_reads : (failed_after ((7 ∷ []) ∷ []) (8 ∷ []) (Err Failed) ≡ (7 ∷ []) ∷ (8 ∷ []) ∷ [])
+    × (failed_after ((7 ∷ []) ∷ []) (8 ∷ []) (Err NoMemory) ≡ (7 ∷ []) ∷ [])
+    × (failed_after ((7 ∷ []) ∷ []) (8 ∷ []) (Ok Missing) ≡ (7 ∷ []) ∷ [])
+failed_reads = (refl, refl, refl)
+
 -- Each text stands under the name at its place, and names differ.
 two_names : (text_under ((1 ∷ []) ∷ (1 ∷ 2 ∷ []) ∷ []) ((7 ∷ []) ∷ (8 ∷ []) ∷ []) (1 ∷ 2 ∷ []) ≡ Some (8 ∷ [])) × (text_under ((1 ∷ []) ∷ (1 ∷ 2 ∷ []) ∷ []) ((7 ∷ []) ∷ (8 ∷ []) ∷ []) (1 ∷ []) ≡ Some (7 ∷ []))
 two_names = (refl, refl)
@@ -66,14 +92,20 @@ one_name_twice : ¬ AreNamed ((1 ∷ []) ∷ (1 ∷ []) ∷ []) ([] ∷ [] ∷ [
 one_name_twice is = is.differ 0 1 [] (omega arith) (omega arith) refl
 
 -- The calls that are named fail, and no other.
-abbrev held : ℕ → ℕ → HeldTexts
-held calls faults = record { names = []; texts = []; failing = 2 ∷ 4 ∷ 18446744073709551615 ∷ []; calls = calls; faults = faults }
+abbrev held : ℕ → List (List ℕ) → HeldTexts
+held calls failed = record { names = []; texts = []; failing = 2 ∷ 4 ∷ 18446744073709551615 ∷ []; calls = calls; failed = failed }
 
-named_call_fails : CountsCall (held 4 0) (held 5 1) (Err Failed)
+abbrev a_name : List ℕ
+a_name = 7 ∷ []
+
+named_call_fails : CountsCall (held 4 []) (held 5 (a_name ∷ [])) a_name (Err Failed)
 named_call_fails = ((1, omega arith, refl), refl)
 
-failure_uncounted : ¬ CountsCall (held 4 0) (held 5 0) (Err Failed)
-failure_uncounted is = let faults = ap (λ (texts : HeldTexts). texts.faults) is.1 in absurd (omega (arith, faults))
+failure_unnamed : ¬ CountsCall (held 4 []) (held 5 []) a_name (Err Failed)
+failure_unnamed is = let failed = ap (λ (texts : HeldTexts). length texts.failed) is.1 in absurd (omega (arith, failed))
+
+failure_under_another_name : ¬ CountsCall (held 4 []) (held 5 ([] ∷ [])) a_name (Err Failed)
+failure_under_another_name is = let failed : [] ∷ [] ≡ a_name ∷ [] = ap (λ (texts : HeldTexts). texts.failed) is.1 in absurd (cc)
 
 abbrev is_named : ℕ → Type 0
 is_named call = Contains (2 ∷ 4 ∷ 18446744073709551615 ∷ []) call
@@ -87,33 +119,23 @@ not_named is = never is.0 is.1 is.2
     never (suc (suc zero)) below at = absurd (omega (arith, at))
     never (suc (suc (suc k))) below at = absurd (omega (arith, below))
 
-unnamed_call_fails : ¬ CountsCall (held 3 0) (held 4 1) (Err Failed)
+unnamed_call_fails : ¬ CountsCall (held 3 []) (held 4 (a_name ∷ [])) a_name (Err Failed)
 unnamed_call_fails is = not_named is.0
 
-unnamed_call : CountsCall (held 3 0) (held 4 0) (Ok Missing)
+unnamed_call : CountsCall (held 3 []) (held 4 []) a_name (Ok Missing)
 unnamed_call = (not_named, refl)
 
-named_call_succeeds : ¬ CountsCall (held 4 0) (held 5 0) (Ok Missing)
+named_call_succeeds : ¬ CountsCall (held 4 []) (held 5 []) a_name (Ok Missing)
 named_call_succeeds is = is.0 (1, omega arith, refl)
 
-call_without_a_number : ¬ CountsCall (held 3 0) (held 3 0) (Ok Missing)
+call_without_a_number : ¬ CountsCall (held 3 []) (held 3 []) a_name (Ok Missing)
 call_without_a_number is = let calls = ap (λ (texts : HeldTexts). texts.calls) is.1 in absurd (omega (arith, calls))
 
-memory_ends : CountsCall (held 3 0) (held 3 0) (Err NoMemory)
-memory_ends = (refl, inl not_named)
+memory_ends : CountsCall (held 3 []) (held 3 []) a_name (Err NoMemory)
+memory_ends = refl
 
-memory_ends_in_a_named_call : ¬ CountsCall (held 4 0) (held 4 0) (Err NoMemory)
-memory_ends_in_a_named_call is = never is.1
-  where
-    never : (¬ is_named 4) ⊎ ◌≡◌ {A = ℕ} 4 18446744073709551615 → ⊥
-    never (inl unnamed) = unnamed (1, omega arith, refl)
-    never (inr full) = absurd (omega (arith, full))
-
-memory_ends_and_is_numbered : ¬ CountsCall (held 3 0) (held 4 0) (Err NoMemory)
-memory_ends_and_is_numbered is = let calls = ap (λ (texts : HeldTexts). texts.calls) is.0 in absurd (omega (arith, calls))
-
-numbers_end : CountsCall (held 18446744073709551615 0) (held 18446744073709551615 0) (Err NoMemory)
-numbers_end = (refl, inr refl)
+memory_ends_and_is_numbered : ¬ CountsCall (held 3 []) (held 4 []) a_name (Err NoMemory)
+memory_ends_and_is_numbered is = let calls = ap (λ (texts : HeldTexts). texts.calls) is in absurd (omega (arith, calls))
 
 -- What a part of a start's inputs holds, whoever shares it.
 -- There may be room for more parts than there are.

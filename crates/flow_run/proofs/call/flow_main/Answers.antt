@@ -1,4 +1,5 @@
-use Rattle.std.proofs.Common.{rules, ◌≡◌, inl, inr, sym, ◌∙◌, arith}
+use Rattle.std.proofs.Common.{rules, ◌≡◌, List, inl, inr, refl, sym, ap, ◌∙◌, subst, arith, length-append}
+use Rattle.call_status.specs.declared.status.Status.{Status}
 use Rattle.call_status.specs.declared.status.Status.TheVariants.{WriteFault, NoMemory}
 use Rattle.std.specs.Prelude.{All, map, take}
 use Rattle.std.specs.String.{string_bytes}
@@ -6,39 +7,21 @@ use Rattle.run_frame.specs.NestedRule.{job_of}
 use Rattle.text_tasks.specs.JobMeaning.{IsTextJob}
 use Rattle.call_status.specs.Notes.{NamesStatus}
 use Rattle.flow_run.specs.Answers.{names_in}
-use Rattle.flow_run.proofs.Completing.{completes, judges, checks}
+use Rattle.flow_run.specs.Reading.{FailsWith}
+use Rattle.flow_run.proofs.Completing.{completes}
+use Rattle.flow_run.proofs.Ending.{no_read_fault}
 use Rattle.flow_run.proofs.Naming.{status_named}
 use Rattle.flow_run.proofs.call.flow_main.Goals as goal
 
 pub returns-clause-completes : goal.returns-clause-completes
-returns-clause-completes g c = λ hand fine no_read_fault no_write_fault.
+returns-clause-completes g c = λ hand well fine.
     let did = c.answer-status.ensures in
-    completes _ _ c.answer-status.result.status _ _ did.ends hand fine
-    (λ fault. let rises = did.read.cause fault in absurd (omega (arith, rises, no_read_fault)))
+    completes c.answer-status.result.status (no_read_fault g.F.Texts.held g.F.Texts.failed _ _ c.answer-status.result.status did.read well.reads)
     (λ same. elim (did.output.cause (did.output.write_fault same)) [
-      | inl rises ↦ absurd (omega (arith, rises, no_write_fault))
+      | inl rises ↦ absurd (omega (arith, rises, well.writes))
       | inr memory ↦ absurd (let never : WriteFault ≡ NoMemory = sym same ∙ memory in cc)
     ])
-
-pub returns-clause-judges : goal.returns-clause-judges
-returns-clause-judges g c = λ can no_read_fault no_write_fault.
-    let did = c.answer-status.ensures in
-    judges _ _ c.answer-status.result.status _ _ did.ends can
-    (λ fault. let rises = did.read.cause fault in absurd (omega (arith, rises, no_read_fault)))
-    (λ same. elim (did.output.cause (did.output.write_fault same)) [
-      | inl rises ↦ absurd (omega (arith, rises, no_write_fault))
-      | inr memory ↦ absurd (let never : WriteFault ≡ NoMemory = sym same ∙ memory in cc)
-    ])
-
-pub returns-clause-checks : goal.returns-clause-checks
-returns-clause-checks g c = λ can no_read_fault no_write_fault.
-    let did = c.answer-status.ensures in
-    checks _ _ c.answer-status.result.status _ _ did.ends can
-    (λ fault. let rises = did.read.cause fault in absurd (omega (arith, rises, no_read_fault)))
-    (λ same. elim (did.output.cause (did.output.write_fault same)) [
-      | inl rises ↦ absurd (omega (arith, rises, no_write_fault))
-      | inr memory ↦ absurd (let never : WriteFault ≡ NoMemory = sym same ∙ memory in cc)
-    ])
+    _ _ _ _ did.ends hand fine
 
 pub put_note-noted-requires-clause-named : goal.put_note-noted-requires-clause-named
 put_note-noted-requires-clause-named g c =

@@ -1,7 +1,6 @@
-use Rattle.std.proofs.Common.{inl, subst, sym, ◌∙◌, ap}
+use Rattle.std.proofs.Common.{inl, subst, ◌∙◌, ap}
 use Rattle.flow_run.specs.declared.call.Ended.{Ended}
 use Rattle.flow_run.specs.Requests.{StopsBefore}
-use Rattle.flow_run.specs.Answers.{HaveRead}
 use Rattle.flow_run.proofs.Ending.{read_stopped}
 use Rattle.flow_run.proofs.call.run_file.Goals as goal
 
@@ -12,5 +11,4 @@ returns-in-Err-clause-ends g c =
 
 pub returns-in-Err-clause-read : goal.returns-in-Err-clause-read
 returns-in-Err-clause-read g c =
-    let status = ap (λ (e : Ended). e.status) c.stopped.ensures ∙ c.of.ensures in
-    subst (HaveRead g.F.Texts.held g.F.Texts.faults c.args.texts.now c.prepare.new.texts) (sym status) (read_stopped g.F.Texts.held g.F.Texts.faults _ _ c.in-Err.stop c.prepare.ensures.stays c.in-Err.ensures.counts)
+    read_stopped g.F.Texts.held g.F.Texts.failed _ _ c.in-Err.stop _ (ap (λ (e : Ended). e.status) c.stopped.ensures ∙ c.of.ensures) c.prepare.ensures.stays c.in-Err.ensures.fails

@@ -1,2 +1,0 @@
-pub mod SourceTexts
-pub mod Ahead
