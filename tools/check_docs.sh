@@ -1,6 +1,6 @@
 #!/usr/bin/env bash
 # Holds README.md and docs/ against the sources. Prints nothing where they agree; else a line for each
-# difference, and ends with status 1.
+# difference, and ends with status 1. A check that finds nothing to look at is a difference too.
 set -euo pipefail
 cd "$(dirname "${BASH_SOURCE[0]}")/.."
 
@@ -15,6 +15,12 @@ has() {
     grep -qF -- "$2" "$1"
 }
 
+# The lines of standard input go into `found`, what there is to check. There has to be something.
+find_each() {
+    mapfile -t found
+    ((${#found[@]} > 0)) || fault "there is nothing to check: $1"
+}
+
 documents=(README.md docs/THEOREM.md docs/PROVED.md docs/ARCHITECTURE.md docs/DEFINITIONS.md docs/FORMATS.md docs/DECISIONS.md docs/TESTING.md)
 for document in "${documents[@]}"; do
     if [[ ! -f $document ]]; then
@@ -23,34 +29,54 @@ for document in "${documents[@]}"; do
     fi
 done
 
-# Each crate of crates.txt is described, and each crate that is described is there.
+# What follows a document's name and a space, for each match of a pattern in a document.
+matches() {
+    grep -oE "$1" "${documents[@]}" /dev/null | sed 's/:/ /' | sort -u
+}
+
+# Each crate of crates.txt is there and described, and each that is there or described is in crates.txt.
 crates=$(sed -E 's/#.*//; s/[ :].*//; /^$/d' crates.txt)
-for crate in $crates; do
+find_each "crates in crates.txt" < <(printf '%s' "$crates")
+for crate in "${found[@]}"; do
     [[ -d crates/$crate/src ]] || fault "crates.txt names $crate, which crates/ hasn't"
     for document in docs/PROVED.md docs/ARCHITECTURE.md docs/TESTING.md; do
         has "$document" "\`$crate\`" || fault "$document doesn't name the crate $crate"
     done
 done
-for folder in crates/*/; do
-    crate=$(basename "$folder")
+find_each "folders in crates/" < <(ls crates)
+for crate in "${found[@]}"; do
     grep -qx -- "$crate" <<<"$crates" || fault "crates/$crate isn't in crates.txt"
+done
+find_each "headings of crates in docs/PROVED.md" < <(grep -E '^## `' docs/PROVED.md | grep -oE '`[a-z_]+`' | tr -d '`')
+for crate in "${found[@]}"; do
+    grep -qx -- "$crate" <<<"$crates" || fault "docs/PROVED.md has a heading for $crate, which crates.txt hasn't"
+done
+find_each "the table of crates in docs/ARCHITECTURE.md" < <(sed -n '/^| Crate |/,/^$/p' docs/ARCHITECTURE.md | sed -nE 's/^\| (`[a-z_`, ]+`) \|.*/\1/p' | grep -oE '[a-z_]+')
+for crate in "${found[@]}"; do
+    grep -qx -- "$crate" <<<"$crates" || fault "docs/ARCHITECTURE.md describes $crate, which crates.txt hasn't"
+done
+find_each "the table of crates in docs/TESTING.md" < <(sed -n '/^| Crate | Functions |/,/^$/p' docs/TESTING.md | sed -nE 's/^\| `([a-z_]+)` \|.*/\1/p')
+for crate in "${found[@]}"; do
+    grep -qx -- "$crate" <<<"$crates" || fault "docs/TESTING.md counts the functions of $crate, which crates.txt hasn't"
 done
 
 # Each file of definitions that public clauses cite is explained, and each that is named is there.
-for file in crates/*/specs/*.antt; do
-    [[ $(basename "$file") == Lib.antt || $(basename "$file") == [a-z]*.antt ]] && continue
-    has docs/DEFINITIONS.md "\`${file#crates/}\`" || fault "docs/DEFINITIONS.md doesn't name ${file#crates/}"
+find_each "files of definitions" < <(find crates/*/specs -maxdepth 1 -name '[A-Z]*.antt' ! -name Lib.antt | sed 's/^crates.//' | sort)
+for file in "${found[@]}"; do
+    has docs/DEFINITIONS.md "\`$file\`" || fault "docs/DEFINITIONS.md doesn't name $file"
 done
-while read -r file; do
-    [[ -f crates/$file ]] || fault "docs/DEFINITIONS.md names $file, which isn't there"
-done < <(grep -ohE '`[a-z_]+/specs/[A-Za-z/]+\.antt`' docs/DEFINITIONS.md docs/THEOREM.md | tr -d '`' | sort -u)
+for document in docs/DEFINITIONS.md docs/THEOREM.md; do
+    find_each "files that $document names" < <(grep -ohE '`[a-z_]+/specs/[A-Za-z/]+\.antt`' "$document" | tr -d '`' | sort -u)
+    for file in "${found[@]}"; do
+        [[ -f crates/$file ]] || fault "$document names $file, which isn't there"
+    done
+done
 
 # The theorem's page has the length of each file that it names.
-while IFS='|' read -r _ _ file lines _; do
-    file=$(tr -d '` ' <<<"$file")
-    lines=$(tr -d ' ' <<<"$lines")
-    [[ $(wc -l <"crates/$file") == "$lines" ]] || fault "docs/THEOREM.md says $lines lines of $file"
-done < <(grep -E '\.antt` \| [0-9]+ \|$' docs/THEOREM.md)
+find_each "lengths of files in docs/THEOREM.md" < <(sed -nE 's/.*`([a-z_]+\/specs\/[A-Za-z\/]+\.antt)` \| ([0-9]+) \|$/\1 \2/p' docs/THEOREM.md)
+for row in "${found[@]}"; do
+    [[ ! -f crates/${row% *} || $(wc -l <"crates/${row% *}") == "${row#* }" ]] || fault "docs/THEOREM.md says ${row#* } lines of ${row% *}"
+done
 
 # It names the files of the definitions that the clauses of flow_main rest on, and no others.
 python3 -B tools/list_theorem.py --check || fault "docs/THEOREM.md names other definitions than the clauses of flow_main cite"
@@ -59,50 +85,53 @@ python3 -B tools/list_theorem.py --check || fault "docs/THEOREM.md names other d
 python3 -B tools/list_claims.py --check || fault "docs/DEFINITIONS.md lists other claims than tools/list_claims.py --write would"
 
 # Each file of the repository that a document links to or names in code letters is there.
-for document in "${documents[@]}"; do
-    folder=$(dirname "$document")
-    while read -r link; do
-        [[ -e $folder/$link ]] || fault "$document links to $link, which isn't there"
-    done < <(grep -oE '\]\([^)#: ]+' "$document" | sed 's/^](//' | sort -u || true)
-    while read -r path; do
-        [[ -e $path ]] || fault "$document names $path, which isn't there"
-    done < <(grep -oE '`(crates|docs|tools|examples|bench|\.ci)/[A-Za-z0-9_./-]+`' "$document" | tr -d '`' | sort -u || true)
+find_each "links" < <(matches '\]\([^)#: ]+' | sed 's/ ](/ /')
+for match in "${found[@]}"; do
+    document=${match%% *} link=${match#* }
+    [[ -e $(dirname "$document")/$link ]] || fault "$document links to $link, which isn't there"
+done
+find_each "paths in code letters" < <(matches '`(crates|docs|tools|examples|bench|\.ci)/[A-Za-z0-9_./-]+`' | tr -d '`')
+for match in "${found[@]}"; do
+    [[ -e ${match#* } ]] || fault "${match%% *} names ${match#* }, which isn't there"
 done
 
 # docs/FORMATS.md is where limits stand: README.md's table has no other number.
-while read -r number; do
+find_each "numbers in README.md's table of limits" < <(sed -n '/^| Limit/,/^$/p' README.md | grep -oE '[0-9]{1,3}(,[0-9]{3})+' | sort -u)
+for number in "${found[@]}"; do
     has docs/FORMATS.md "$number" || fault "README.md has a limit of $number, which docs/FORMATS.md hasn't"
-done < <(sed -n '/^| Limit/,/^$/p' README.md | grep -oE '[0-9]{1,3}(,[0-9]{3})+' | sort -u)
+done
 
 # It is where exit codes stand, with the numbers of the definition. README.md has no other number.
-codes=$(sed -nE 's/^code_of .* = ([0-9]+)$/\1/p' crates/call_status/specs/Codes.antt | sort -nu)
+codes=$(sed -nE 's/^code_of .* = ([0-9]+)$/\1/p' crates/call_status/specs/Codes.antt | sort -nu || true)
+find_each "exit codes in crates/call_status/specs/Codes.antt" < <(printf '%s' "$codes")
 listed=$(sed -n '/^## Exit codes/,/^They are tried/p' docs/FORMATS.md | sed -nE 's/^\| [A-Z][A-Za-z]* \| ([0-9]+) \|.*/\1/p' | sort -nu)
 [[ $listed == "$codes" ]] || fault "docs/FORMATS.md has other exit codes than crates/call_status/specs/Codes.antt"
-while read -r code; do
+find_each "exit codes in README.md, behind 'exit code ..: 0'" < <(grep -oE 'exit code[^.:]*: *0 [^.]*' README.md | grep -oE '[0-9]+' | sort -nu)
+for code in "${found[@]}"; do
     grep -qx -- "$code" <<<"$codes" || fault "README.md tells of the exit code $code, which there isn't"
-done < <(grep -oE 'the exit code tells the kind:[^.]*' README.md | grep -oE '[0-9]+' | sort -nu)
+done
 
 # Each command of the Makefile that README.md tells is a target.
-while read -r target; do
+find_each "commands of the Makefile in README.md" < <(grep -oE '(`|^    )make [a-z]+' README.md | sed -E 's/.*make //' | sort -u)
+for target in "${found[@]}"; do
     grep -qE "^$target:" Makefile || fault "README.md tells 'make $target', which isn't a target"
-done < <(grep -oE '`make [a-z]+`' README.md | tr -d '`' | sed 's/make //' | sort -u || true)
+done
 
 # Each example has a graph and what the program is to print, and README.md tells of it. What the gate runs is one.
-for folder in examples/*/; do
+find_each "examples" < <(ls examples)
+for example in "${found[@]}"; do
     for file in graph.json expected.txt; do
-        [[ -f $folder$file ]] || fault "$folder has no $file"
+        [[ -f examples/$example/$file ]] || fault "examples/$example has no $file"
     done
-    has README.md "\`${folder%/}\`" || fault "README.md doesn't name $folder"
+    has README.md "\`examples/$example\`" || fault "README.md doesn't name examples/$example"
 done
 for pair in graph.json:data/graph.json t.txt:data/t.txt expected.txt:stdout; do
     cmp -s "examples/count-lines/${pair%:*}" "crates/flow/${pair#*:}" || fault "crates/flow/${pair#*:} isn't the example's ${pair%:*}"
 done
 
 # No document names a path of one machine.
-for document in "${documents[@]}"; do
-    if grep -nE '(^|[^A-Za-z0-9_.])/(opt|work|home|root|tmp|usr)/' "$document" >&2; then
-        fault "$document names a path of one machine"
-    fi
-done
+if grep -nE '(^|[^A-Za-z0-9_.])/(opt|work|home|root|tmp|usr)/' "${documents[@]}" >&2; then
+    fault "a document names a path of one machine"
+fi
 
 ((faults == 0))
