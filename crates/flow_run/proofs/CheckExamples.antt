@@ -1,7 +1,7 @@
 -- What a check of a graph asks for, how it ends and what is written of it, computed on a graph file `g` of one byte.
 use Rattle.std.specs.Fmt.{digits}
-use Rattle.std.proofs.Common.{◌≡◌, ℕ, ◌≤◌, List, [], ◌∷◌, length, Option, Some, None, Ok, Err, false, inl, inr, refl, sym, ap, subst, ◌∙◌, arith, codes}
-use Rattle.std.specs.Prelude.{bytes_eq, if◌then◌else◌, Contains, IsSomeAnd}
+use Rattle.std.proofs.Common.{◌≡◌, ℕ, List, [], ◌∷◌, length, Option, Some, None, Ok, Err, false, inl, inr, refl, sym, ap, subst, ◌∙◌, arith, codes}
+use Rattle.std.specs.Prelude.{bytes_eq, if◌then◌else◌, Contains}
 use Rattle.std.proofs.lemmas.Option.{none-some}
 use Rattle.graph_plans.specs.PlanRows.{PlanRows}
 use Rattle.graph_plans.specs.declared.spots.Spot.TheVariants.{File}
@@ -16,10 +16,10 @@ use Rattle.call_status.specs.declared.status.Status.TheVariants as status
 use Rattle.call_status.specs.declared.stop.Stop.{Stop}
 use Rattle.call_status.specs.declared.stop.Stop.TheVariants as stop
 use Rattle.call_status.specs.Statuses.{status_of}
-use Rattle.command_line.specs.Requests.{asked_by, run as run_of, check as check_of}
+use Rattle.command_line.specs.Requests.{check as check_of}
 use Rattle.flow_run.specs.declared.conclusion.Conclusion.TheVariants as conclusion
 use Rattle.flow_run.specs.declared.conclusion.GraphFindings.{GraphFindings}
-use Rattle.flow_run.specs.Requests.{SourceTexts, StopsAtPlan, StopsAtBytes, file_limit}
+use Rattle.flow_run.specs.Requests.{SourceTexts, StopsAtPlan, StopsAtBytes}
 use Rattle.flow_run.specs.Checking.{StopsAtFile, StopsBeforeFindings, IsChecked, IsAfterFindings, EndsChecked, CheckEnds, CanBeChecked, finding_line, findings_text, count_line}
 use Rattle.flow_run.specs.Answers.{conclusion_text, wants_journal, output_of}
 use Rattle.flow_run.proofs.Completing.{one_plan}

@@ -1,10 +1,11 @@
 -- How a call ends before and after its run, its judgement and its check, computed on a graph file `g` of one byte and a
 -- text `t` of two.
-use Rattle.std.proofs.Common.{◌≡◌, ℕ, zero, suc, ◌+◌, ◌<◌, ◌≤◌, List, [], ◌∷◌, ◌++◌, length, Option, Some, None, true, false, inl, inr, refl, arith, ap, sym, subst, ◌∙◌, Result, Ok, Err}
+use Rattle.std.proofs.Common.{◌≡◌, ℕ, zero, suc, ◌+◌, ◌<◌, ◌≤◌, List, [], ◌∷◌, ◌++◌, length, Option, Some, None, true, false, inl, inr, refl, arith, ap, sym, subst, ◌∙◌, Result, Ok}
 use Rattle.std.specs.Prelude.{if◌then◌else◌, bytes_eq, All, IsSomeAnd}
 use Rattle.std.specs.Io.KnownBytes.{append_known}
 use Rattle.std.proofs.lemmas.List.{length-append}
 use Rattle.std.proofs.lemmas.List.Elements.{All-from_recursion}
+use Rattle.std.proofs.lemmas.Option.{none-some}
 use Rattle.outside_io.specs.Sink.{SinkState}
 use Rattle.task_graph.specs.NetRows.{NetRows}
 use Rattle.task_graph.specs.Net.{IsSource}
@@ -38,7 +39,7 @@ use Rattle.command_line.specs.Requests.{asked_by, run as run_of, judge as judge_
 use Rattle.flow_run.specs.declared.conclusion.Conclusion.{Conclusion}
 use Rattle.flow_run.specs.declared.conclusion.Conclusion.TheVariants as conclusion
 use Rattle.flow_run.specs.declared.conclusion.GraphFindings.{GraphFindings}
-use Rattle.flow_run.specs.Requests.{SourceTexts, StopsAtName, IsAdded, StopsAtText, HasStart, StopsAtBytes, StopsAtGraph, StopsBefore, HasPlan, IsRequestedJob, CanBeRun, file_limit, text_limit}
+use Rattle.flow_run.specs.Requests.{SourceTexts, StopsAtName, IsAdded, StopsAtText, HasStart, StopsAtBytes, StopsAtGraph, StopsBefore, HasPlan, IsRequestedJob, CanBeRun, text_limit}
 use Rattle.flow_run.specs.Answers.{TextRun, IsAfterRun, RanOnce, KeptOnce, RunEnds, JobEnds, CallEnds, Reported, names_in, run_texts}
 use Rattle.flow_run.specs.Judging.{StopsAtJournal, StopsAtJournalText, StopsBeforeVerdict, JudgeEnds, CanBeJudged}
 use Rattle.flow_run.specs.Checking.{StopsBeforeFindings, EndsChecked, CheckEnds, CanBeChecked}
@@ -188,7 +189,7 @@ text_that_is_there (inl at) = let same = at.0 in absurd (cc)
 text_that_is_there (inr (inl at)) = at.stops
 text_that_is_there (inr (inr behind)) =
     let none : Some (2 ∷ 3 ∷ []) ≡ None = subst (λ name. texts (1 ∷ []) (2 ∷ 3 ∷ []) name ≡ None) (sym behind.stops.stops.0) behind.stops.stops.1 in
-    absurd (cc)
+    absurd (none-some (2 ∷ 3 ∷ []) (sym none))
 
 stopped_before_its_run : RunEnds held u 77 (NoText u) []
 stopped_before_its_run = inl (record { why = stop.NoText u; stops = missing_graph; reported = refl; none = refl })

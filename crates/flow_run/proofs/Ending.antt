@@ -1,5 +1,5 @@
 -- What reads that stopped a call have done, and how a run that is kept ends.
-use Rattle.std.proofs.Common.{◌≡◌, ℕ, ◌+◌, inr, List, [], ◌∷◌, ◌++◌, length, ap, ◌∙◌, arith, subst, sym, length-append}
+use Rattle.std.proofs.Common.{◌≡◌, ℕ, inr, List, [], ◌∷◌, ◌++◌, length, ap, ◌∙◌, arith, subst, sym, length-append}
 use Rattle.call_status.specs.declared.status.Status.{Status}
 use Rattle.call_status.specs.declared.status.Status.TheVariants.{BadWords, ReadFault}
 use Rattle.call_status.specs.declared.stop.Stop.{Stop}

@@ -1,7 +1,7 @@
 -- What a judgement asks for and how it ends, computed on a graph file `g` of one byte and a journal file `j`.
 use Rattle.std.specs.Fmt.{digits}
-use Rattle.std.proofs.Common.{◌≡◌, ℕ, ◌*◌, ◌≤◌, List, [], ◌∷◌, ◌++◌, length, Option, Some, None, true, false, inl, inr, refl, arith, codes, ap, sym, subst, ◌∙◌, Result, Ok, Err}
-use Rattle.std.specs.Prelude.{bytes_eq, if◌then◌else◌, IsSomeAnd}
+use Rattle.std.proofs.Common.{◌≡◌, ℕ, ◌*◌, List, [], ◌∷◌, ◌++◌, length, Option, Some, None, true, false, inl, inr, refl, arith, codes, ap, sym, subst, ◌∙◌, Result, Ok, Err}
+use Rattle.std.specs.Prelude.{bytes_eq, if◌then◌else◌}
 use Rattle.task_graph.specs.NetRows.{NetRows}
 use Rattle.graph_plans.specs.PlanRows.{PlanRows}
 use Rattle.graph_file.specs.declared.refusals.GraphError.{GraphError}
@@ -26,7 +26,7 @@ use Rattle.call_status.specs.declared.status.Status.{Status}
 use Rattle.call_status.specs.declared.status.Status.TheVariants.{Done, WriteFault, NoText, NotLegal, NoMemory}
 use Rattle.call_status.specs.declared.stop.Stop.{Stop}
 use Rattle.call_status.specs.declared.stop.Stop.TheVariants as stop
-use Rattle.flow_run.specs.Requests.{SourceTexts, HasPlan, HasStart, file_limit}
+use Rattle.flow_run.specs.Requests.{SourceTexts, HasPlan, HasStart}
 use Rattle.call_status.specs.Statuses.{status_of}
 use Rattle.call_status.specs.Stopping.{StoppedBefore}
 use Rattle.flow_run.specs.declared.conclusion.Conclusion.TheVariants as conclusion

@@ -6,14 +6,16 @@ use Rattle.std.proofs.lemmas.List.Elements.{All-nil, All-cons}
 use Rattle.graph_file.specs.declared.refusals.GraphError.{GraphError}
 use Rattle.graph_file.specs.declared.refusals.GraphError.TheVariants.{NotJson, BadField, NoSuchName, Repeated, TooMany, NoMemory as NoMemoryToRead}
 use Rattle.graph_plans.specs.PlanRows.{PlanRows, IsPlan}
-use Rattle.graph_file.specs.PlanText.{IsRefused}
+use Rattle.graph_file.specs.PlanText.{PlanText, IsRefused}
 use Rattle.text_ops.specs.Lines.{normal, is_normal, line_end}
 use Rattle.text_ops.proofs.LineLemmas.{IsNormal-normal}
 use Rattle.text_tasks.specs.ValueTexts.{IsValueText}
 use Rattle.text_tasks.specs.GraphWork.{greatest_limit, IsWork, first_work}
+use Rattle.text_tasks.specs.declared.job.TextJob.{TextJob}
+use Rattle.text_tasks.specs.declared.job.TextJob.TheVariants.{Graph}
 use Rattle.call_status.specs.declared.stop.Stop.{Stop}
 use Rattle.call_status.specs.declared.stop.Stop.TheVariants.{BadGraph, NoSource, NoText, LongText, ReadFault, BadJournal, NoMemory}
-use Rattle.flow_run.specs.Requests.{SourceTexts, IsAdded, IsHeld, IsTextOf, StopsAtName, StopsAtText, StopsAtBytes, StopsAtPlan, TextsAre, text_limit}
+use Rattle.flow_run.specs.Requests.{SourceTexts, HasStart, IsAdded, IsHeld, IsRequestedJob, IsTextOf, StopsAtName, StopsAtText, StopsAtBytes, StopsAtPlan, TextsAre, file_limit, text_limit}
 
 -- one text more
 pub texts_more : (held : SourceTexts) (names texts : List (List ℕ)) (name text : List ℕ) → TextsAre held names texts → IsTextOf held name text → TextsAre held (names ++ name ∷ []) (texts ++ text ∷ [])
@@ -104,3 +106,9 @@ is_work held plan texts limit within is read =
       top = refl;
       starts = within;
     }
+
+-- and it is the one that is asked for
+pub requested_job : (held : SourceTexts) (file : List ℕ) (limit : ℕ) (bytes : List ℕ) (plan : PlanRows) (texts : List (List ℕ)) (job : TextJob) → IsHeld held file file_limit bytes → PlanText bytes plan → HasStart plan → TextsAre held plan.texts texts
+    → job ≡ Graph (first_work plan texts limit) → IsRequestedJob held file limit job
+requested_job held file limit bytes plan texts job read stands source are is =
+    subst (IsRequestedJob held file limit) (sym is) (record { plan = record { bytes = bytes; read = read; stands = stands; source = source }; texts = are; top = refl; input = refl; starts = refl })

@@ -1,6 +1,6 @@
 -- What a call has done to the texts when it ends, and what it needs in order to do all that it is asked for, computed on a
 -- source whose state is the names of its failed reads.
-use Rattle.std.proofs.Common.{◌≡◌, ℕ, List, [], ◌∷◌, length, Option, Some, None, false, inl, inr, refl, arith, ap, sym, ◌∙◌, Result, Ok, Err}
+use Rattle.std.proofs.Common.{◌≡◌, ℕ, List, [], ◌∷◌, length, Option, Some, None, false, inl, inr, refl, arith, ap, Result, Ok, Err}
 use Rattle.std.specs.Prelude.{◌==◌, if◌then◌else◌}
 use Rattle.outside_io.specs.Sink.{SinkState}
 use Rattle.call_status.specs.declared.status.Status.TheVariants.{Done, BadWords, NoText, ReadFault, NoMemory}
@@ -69,8 +69,11 @@ failed_reads_forgotten : ¬ FailsOnce (t ∷ []) none
 failed_reads_forgotten (inl same) = absurd (omega (arith, ap length same))
 failed_reads_forgotten (inr (name, same)) = absurd (omega (arith, ap length same))
 
-texts_changed : ¬ HaveRead (λ (n : ℕ). if n == 0 then Some (λ name. None) else None) (λ n. none) 0 1 Done
-texts_changed is = let same : None ≡ Some (λ name. None) = is.stays in absurd (cc)
+abbrev changes : ℕ → SourceTexts
+changes n = if n == 0 then Some (λ name. None) else None
+
+texts_changed : ¬ HaveRead changes (λ n. none) 0 1 Done
+texts_changed is = let same : changes 1 ≡ changes 0 = is.stays in absurd (cc)
 
 -- Where nothing is asked for the source is as it was.
 read_for_bad_words : ¬ HaveRead (λ (n : ℕ). None) (λ n. none) 0 1 BadWords

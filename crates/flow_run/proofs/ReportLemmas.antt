@@ -1,25 +1,22 @@
 -- The report of a run, one task after another.
-use Rattle.std.proofs.Common.{Ok, Err, append-nil, ◌≡◌, ℕ, zero, suc, ◌+◌, ◌-◌, ◌<◌, Bool, true, false, List, [], ◌∷◌, ◌++◌, length, Option, Some, None, sym, refl, ap, ◌∙◌, subst, arith, slice_index_or}
-use Rattle.std.specs.Prelude.{◌==◌, IfSome, if◌then◌else◌}
+use Rattle.std.proofs.Common.{Ok, Err, append-nil, ◌≡◌, ℕ, zero, suc, ◌+◌, ◌-◌, ◌<◌, List, [], ◌∷◌, ◌++◌, length, Option, sym, ap, ◌∙◌, subst, arith, slice_index_or}
 use Rattle.std.specs.List.{range_with_len, flat_map}
-use Rattle.std.specs.Option.{option_map_or, option_and_then}
-use Rattle.std.proofs.lemmas.Option.{none-some}
+use Rattle.std.specs.Option.{option_and_then}
 use Rattle.std.proofs.lemmas.Grind.{flat_map-append}
-use Rattle.journal_rules.specs.declared.entry.Entry.{Entry}
 use Rattle.run_frame.specs.declared.run.ValueRow.{ValueRow}
-use Rattle.run_frame.specs.Runs.{value_at}
+use Rattle.run_frame.specs.Runs.{value_at, values_of}
 use Rattle.text_tasks.specs.declared.item.Item.{Item}
 use Rattle.outside_io.specs.declared.sink.SinkFault.{SinkFault}
 use Rattle.outside_io.specs.Sink.{SinkState, Accepts, Writes}
 use Rattle.outside_io.proofs.Pieces.{writes_both, writes_no_more}
 use Rattle.task_graph.specs.NetRows.{NetRows}
 use Rattle.run_frame.specs.NestedRule.{job_of, journal_of}
-use Rattle.run_frame.specs.declared.run.FrameRun.{FrameRun, out-FrameRun}
+use Rattle.run_frame.specs.declared.run.FrameRun.{FrameRun}
 use Rattle.text_tasks.specs.declared.job.TextJob.{TextJob}
 use Rattle.text_tasks.specs.declared.job.TextJob.TheVariants.{Graph}
 use Rattle.text_tasks.specs.JobMeaning.{IsTextJob, net_of, names_of}
-use Rattle.run_frame.specs.LastEnds.{ended_at, last_before, last_end, last_value}
-use Rattle.run_frame.proofs.EndsLemmas.{counting_more, last_before_more}
+use Rattle.run_frame.specs.LastEnds.{last_end}
+use Rattle.run_frame.proofs.EndsLemmas.{counting_more}
 use Rattle.flow_run.specs.Output.{task_part, task_report}
 
 -- The texts of one number more.
@@ -49,42 +46,16 @@ one_refused text n all before between after fault inside whole part =
     (no_further text (n + 1) (all - (n + 1)) before after fault
     (subst (λ bytes. Writes before after bytes (Err fault)) (sym (texts_more text n)) (writes_both before between after _ _ (Err fault) whole part)))
 
--- The last End before a place stands before it.
-last_inside : (journal : List Entry) (t n k : ℕ) → last_before journal t n ≡ Some k → k < n
-last_inside journal t zero k is = absurd (none-some k is)
-last_inside journal t (suc n) k is =
-    let next : n + 1 ≡ suc n = omega arith in
-    by_test (option_map_or (λ task. task == t) (ended_at journal n) false) (last_before journal t n)
-    (sym (last_before_more journal t n (ended_at journal n) refl) ∙ ap (last_before journal t) next ∙ is) (last_inside journal t n k)
-  where
-    by_test : (hit : Bool) (old : Option ℕ) → (if hit then Some n else old) ≡ Some k → (old ≡ Some k → k < n) → k < suc n
-    by_test true old is inside = let same : n ≡ k = ap (λ o. option_map_or (λ place. place) o n) is in omega arith
-    by_test false old is inside = omega (arith, inside is)
-
 -- Each task of a job's net has a name.
 pub named_tasks : (job : TextJob) → IsTextJob job → length (names_of job) ≡ length (net_of job).tasks
 named_tasks (Graph work) is = is.plan.names
 
--- The last End of a task stands in the journal.
-pub end_inside : (journal : List Entry) (t count : ℕ) (end : Option ℕ) → end ≡ last_end journal t → count ≡ length journal → IfSome end (λ n. n < count)
-end_inside journal t count None is counted = tt
-end_inside journal t count (Some n) is counted = omega (arith, counted, last_inside journal t (length journal) n (sym is))
-
--- Values that are held by place give the last value of a task.
-pub value_found : (journal : List Entry) (values : List (ValueRow Item)) (t : ℕ) (held : ℕ → Option Item) → ((n : ℕ) → n < length journal → held n ≡ value_at values n) → option_and_then held (last_end journal t) ≡ last_value journal values t
-value_found journal values t held each = by_end (last_end journal t) (λ n is. each n (last_inside journal t (length journal) n is))
-  where
-    by_end : (end : Option ℕ) → ((n : ℕ) → end ≡ Some n → held n ≡ value_at values n) → option_and_then held end ≡ option_and_then (value_at values) end
-    by_end None same = refl
-    by_end (Some n) same = same n refl
-
 -- What the looked-up parts of a task's report come to is what the report tells of it.
-pub part_is : (run : FrameRun TextJob Item) (net : NetRows) (t : ℕ) (name : List ℕ) (end : Option ℕ) (held : ℕ → Option Item) (value : Option Item)
-    → net ≡ net_of (job_of run) → name ≡ slice_index_or (names_of (job_of run)) t [] → end ≡ last_end (journal_of run) t
-    → ((n : ℕ) → n < length (journal_of run) → held n ≡ value_at (out-FrameRun TextJob Item run).values n) → value ≡ option_and_then held end
-    → task_report net t name value ≡ task_part (names_of (job_of run)) (net_of (job_of run)) (journal_of run) (out-FrameRun TextJob Item run).values t
-part_is run net t name end held value net_is name_is end_is each value_is =
+pub part_is : (run : FrameRun TextJob Item) (net : NetRows) (t : ℕ) (name : List ℕ) (end : Option ℕ) (values : List (ValueRow Item)) (value : Option Item)
+    → net ≡ net_of (job_of run) → name ≡ slice_index_or (names_of (job_of run)) t [] → end ≡ last_end (journal_of run) t → values ≡ values_of run → value ≡ option_and_then (value_at values) end
+    → task_report net t name value ≡ task_part (names_of (job_of run)) (net_of (job_of run)) (journal_of run) (values_of run) t
+part_is run net t name end values value net_is name_is end_is values_are value_is =
     ap (λ n. task_report n t name value) net_is
     ∙ ap (λ n. task_report (net_of (job_of run)) t n value) name_is
     ∙ ap (task_report (net_of (job_of run)) t (slice_index_or (names_of (job_of run)) t []))
-    (value_is ∙ ap (option_and_then held) end_is ∙ value_found (journal_of run) (out-FrameRun TextJob Item run).values t held each)
+    (value_is ∙ ap (option_and_then (value_at values)) end_is ∙ ap (λ rows. option_and_then (value_at rows) (last_end (journal_of run) t)) values_are)

@@ -1,6 +1,6 @@
 -- Where a call stops and what it has done when it ends, computed at the limits and on a report of one line.
-use Rattle.std.proofs.Common.{◌≡◌, ℕ, ◌+◌, ◌≤◌, Bool, List, [], ◌∷◌, ◌++◌, length, Option, Some, None, true, false, inl, inr, refl, arith, ap, sym, subst, ◌∙◌, Result, Ok, Err}
-use Rattle.std.specs.Prelude.{if◌then◌else◌, bytes_eq, ◌==◌, All, IsSomeAnd}
+use Rattle.std.proofs.Common.{◌≡◌, ℕ, ◌+◌, ◌≤◌, List, [], ◌∷◌, ◌++◌, length, Option, Some, None, true, false, inl, inr, refl, arith, ap, sym, subst, ◌∙◌, Result, Ok, Err}
+use Rattle.std.specs.Prelude.{if◌then◌else◌, bytes_eq, All, IsSomeAnd}
 use Rattle.std.specs.Io.KnownBytes.{append_known}
 use Rattle.std.proofs.lemmas.List.{length-append}
 use Rattle.std.proofs.lemmas.List.Elements.{All-from_recursion, All-head}
@@ -18,11 +18,9 @@ use Rattle.run_frame.specs.NestedRule.{job_of}
 use Rattle.nested_runs.specs.Reasons.{run_reason}
 use Rattle.nested_runs.specs.declared.reasons.Reason.TheVariants as reason
 use Rattle.text_ops.specs.Lines.{normal}
-use Rattle.call_status.specs.declared.status.Status.TheVariants.{Done, WriteFault, NoMemory}
-use Rattle.command_line.specs.Requests.{asked_by, run as run_of, judge as judge_of}
-use Rattle.call_status.specs.declared.stop.Stop.{Stop}
+use Rattle.call_status.specs.declared.status.Status.TheVariants.{Done, WriteFault}
 use Rattle.call_status.specs.declared.stop.Stop.TheVariants as stop
-use Rattle.flow_run.specs.Requests.{SourceTexts, StopsAtName, IsTextOf, TextsAre, StopsAtText, HasStart, HasPlan, StopsBefore, IsRequested, IsRequestedJob, CanBeRun, file_limit, text_limit}
+use Rattle.flow_run.specs.Requests.{SourceTexts, StopsAtName, IsTextOf, TextsAre, StopsAtText, HasStart, HasPlan, StopsBefore, IsRequested, IsRequestedJob, CanBeRun, text_limit}
 use Rattle.flow_run.specs.Answers.{TextRun, IsAfterRun, RanOnce, KeptOnce, names_in, RunEnds, Reported, run_texts}
 
 abbrev g : List ℕ

@@ -1,17 +1,17 @@
 -- A value that is looked up among rows that stand by rising place.
-use Rattle.std.proofs.Common.{◌≡◌, ◌≢◌, ℕ, zero, suc, ◌+◌, ◌-◌, ◌<◌, ◌≤◌, Bool, true, false, cond, eqb, List, [], ◌∷◌, length, map, get_or, Option, Some, None, Result, Ok, Err, inl, inr, refl, sym, ap, ◌∙◌, subst, arith}
+use Rattle.std.proofs.Common.{◌≡◌, ◌≢◌, ℕ, zero, suc, ◌<◌, ◌≤◌, List, [], ◌∷◌, length, map, get_or, Some, None, Ok, Err, inl, inr, refl, sym, ap, ◌∙◌, arith}
 use Rattle.std.specs.Arc.{arc_value}
 use Rattle.std.specs.Ordering.{nat_cmp, ordering_index}
-use Rattle.std.specs.List.Sorted.{IsBinarySearchResult, IsNonDecreasingBy, IsSearchInRange}
+use Rattle.std.specs.List.Sorted.{IsBinarySearchResult, IsNonDecreasingBy}
 use Rattle.std.proofs.lemmas.Bool.Decides.{nat_tests}
 use Rattle.std.proofs.lemmas.Cmp.{ranked}
 use Rattle.std.proofs.str.Laws.{order}
 use Rattle.journal_rules.specs.declared.entry.Entry.{Entry}
 use Rattle.journal_rules.specs.declared.entry.Entry.TheVariants.{Start, End, Fault, Drop}
 use Rattle.run_frame.specs.declared.run.ValueRow.{ValueRow}
-use Rattle.run_frame.specs.declared.run.FrameRun.{FrameRun, FrameRun', out-FrameRun}
+use Rattle.run_frame.specs.declared.run.FrameRun.{FrameRun, FrameRun'}
 use Rattle.run_frame.specs.Legal.{IsKept, Legal}
-use Rattle.run_frame.specs.Rows.{RowsFit, ends_from}
+use Rattle.run_frame.specs.Rows.{ends_from}
 use Rattle.run_frame.specs.NestedRule.{journal_of}
 use Rattle.run_frame.specs.Runs.{value_at, values_of}
 use Rattle.text_tasks.specs.declared.item.Item.{Item}
@@ -85,7 +85,7 @@ module _ {V : Type 0} where
       let up : (get_or rows i d).place ≤ (get_or rows j d).place = grind (arith, rising i j d, λ (same : i ≡ j). ap (λ k. (get_or rows k d).place) same) in
       grind (arith, nat_tests)
 
-  pub found_row : (rows : List (ValueRow V)) (n k : ℕ) (d : ValueRow V) → AreRising rows → IsSearchInRange (Ok {E = ℕ} k) (length rows) → IsBinarySearchResult (λ row. nat_cmp row.place n) rows (Ok k) → value_at rows n ≡ Some (arc_value (get_or rows k d).value)
+  pub found_row : (rows : List (ValueRow V)) (n k : ℕ) (d : ValueRow V) → AreRising rows → k < length rows → IsBinarySearchResult (λ row. nat_cmp row.place n) rows (Ok k) → value_at rows n ≡ Some (arc_value (get_or rows k d).value)
   found_row rows n k d rising below equal = value_of_row rows n k d rising below (ranked _ n _ (sym (equal d)))
 
   pub found_none : (rows : List (ValueRow V)) (n k : ℕ) → AreRising rows → IsBinarySearchResult (λ row. nat_cmp row.place n) rows (Err k) → value_at rows n ≡ None

@@ -1,5 +1,5 @@
 // The top call of the program.
-ghost use Rattle.std.specs.Prelude.{◌≡◌, ◌≢◌, ◌⊎◌, [], map, take, All, IfOk};
+ghost use Rattle.std.specs.Prelude.{◌≡◌, ◌≢◌, ◌⊎◌, [], true, map, take, All, IfOk};
 ghost use Rattle.std.specs.String.{string_bytes};
 ghost use Rattle.outside_io.specs.Sink.{Writes};
 ghost use Rattle.call_status.specs.Delivery.{Delivers};
@@ -185,12 +185,17 @@ fn run_and_report<S: Sink, R: Threads + Wait + Sync>(
     let Ok(KeptRuns { runs, reason }) = kept_runs(rt, alloc, asked, job, watchers) else {
         return stopped(alloc, Status::NoMemory);
     };
-    let delivered = deliver_runs(alloc, out, runs.as_slice(), &reason, asked.journal);
-    let (status, written) = match delivered {
-        Ok(()) => (Status::after(reason), true),
-        Err(SinkFault::Failed) => (unwritten(reason), false),
-        Err(SinkFault::NoMemory) => (Status::NoMemory, false),
-    };
+    match deliver_runs(alloc, out, runs.as_slice(), &reason, asked.journal) {
+        Ok(()) => after_runs(runs, Status::after(reason), true),
+        Err(SinkFault::Failed) => after_runs(runs, unwritten(reason), false),
+        Err(SinkFault::NoMemory) => after_runs(runs, Status::NoMemory, false),
+    }
+}
+
+// An end after these runs.
+fn after_runs(runs: List<FrameRun<TextJob>>, status: Status, written: bool) -> Ended
+    ensures { result ≡ record { status = status; runs = runs; conclusion = None; written = written } }
+{
     Ended {
         status,
         runs,

@@ -79,11 +79,7 @@ fn put_tasks<S: Sink>(alloc: Global, out: &mut S, run: &FrameRun<TextJob>) -> Re
 }
 
 // The value of a task's last End.
-fn last_value<'a>(
-    ends: &[Option<u64>],
-    values: &'a [ValueRow<Item>],
-    task: u32,
-) -> Option<&'a Item>
+fn last_value<'a>(ends: &[Option<u64>], values: &'a [ValueRow<Item>], task: u32) -> Option<&'a Item>
     requires task { task < length ends.now }
     requires rising { AreRising values.now }
     ensures { option_copied result ≡ option_and_then (value_at values.now) (slice_index_or ends.now task None) }

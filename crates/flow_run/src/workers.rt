@@ -29,7 +29,7 @@ pub(crate) fn run_by<R: Threads + Wait + Sync>(
     job: Arc<TextJob>,
     watchers: &mut Vec<Box<dyn Watch + Send>>,
 ) -> Result<FrameRun<TextJob>, NoMemory>
-    requires { IsFlatNet (net_of (arc_value job)) }
+    requires flat { IsFlatNet (net_of (arc_value job)) }
     ensures job { IfOk result (λ run. job_of run ≡ arc_value job) }
     ensures kept { IfOk result (IsKept text_job) }
     ensures watchers { watchers.new ≡ watchers.old }

@@ -1,5 +1,4 @@
-use Rattle.std.proofs.Common.{rules, ◌≡◌, List, inl, inr, refl, sym, ap, ◌∙◌, subst, arith, length-append}
-use Rattle.call_status.specs.declared.status.Status.{Status}
+use Rattle.std.proofs.Common.{rules, ◌≡◌, inl, inr, sym, ◌∙◌, arith}
 use Rattle.call_status.specs.declared.status.Status.TheVariants.{WriteFault, NoMemory}
 use Rattle.std.specs.Prelude.{All, map, take}
 use Rattle.std.specs.String.{string_bytes}
@@ -7,7 +6,6 @@ use Rattle.run_frame.specs.NestedRule.{job_of}
 use Rattle.text_tasks.specs.JobMeaning.{IsTextJob}
 use Rattle.call_status.specs.Notes.{NamesStatus}
 use Rattle.flow_run.specs.Answers.{names_in}
-use Rattle.flow_run.specs.Reading.{FailsWith}
 use Rattle.flow_run.proofs.Completing.{completes}
 use Rattle.flow_run.proofs.Ending.{no_read_fault}
 use Rattle.flow_run.proofs.Naming.{status_named}
@@ -21,7 +19,7 @@ returns-clause-completes g c = λ hand well fine.
       | inl rises ↦ absurd (omega (arith, rises, well.writes))
       | inr memory ↦ absurd (let never : WriteFault ≡ NoMemory = sym same ∙ memory in cc)
     ])
-    _ _ _ _ did.ends hand fine
+    (g.F.Texts.held c.args.texts.now) (map string_bytes c.args.words.now) _ _ did.ends hand fine
 
 pub put_note-noted-requires-clause-named : goal.put_note-noted-requires-clause-named
 put_note-noted-requires-clause-named g c =
