@@ -2,7 +2,7 @@
 """Lists the files of the definitions that the clauses of flow_main cite, and those that these cite.
 
 With --check compares them with the files that docs/THEOREM.md names, and the lengths and sums of lines there with the
-files, and prints a line for each difference. With --write writes those lengths and sums.
+files, and prints a line for each difference. It is one that there are none. With --write writes those lengths and sums.
 """
 import re
 import sys
@@ -69,11 +69,11 @@ def main():
         print(f"docs/THEOREM.md doesn't name {file}, whose definitions the clauses of flow_main cite")
     for file in sorted(named - files):
         print(f"docs/THEOREM.md names {file}, of which the clauses of flow_main cite nothing")
+    if not files:
+        print("the clauses of flow_main cite no definitions")
     same = SUMS.search(page) is not None and measured(page) == page
     if not same:
         print("docs/THEOREM.md has other lengths or sums of lines than tools/list_theorem.py --write would")
-    if not files:
-        print("the clauses of flow_main cite no definitions")
     sys.exit(0 if files and files == named and same else 1)
 
 
