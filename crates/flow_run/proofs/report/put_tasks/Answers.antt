@@ -6,7 +6,7 @@ use Rattle.run_frame.specs.LastEnds.{last_end}
 use Rattle.run_frame.specs.NestedRule.{job_of, journal_of}
 use Rattle.run_frame.specs.Runs.{value_at, values_of}
 use Rattle.text_tasks.specs.JobMeaning.{IsTextJob, net_of, names_of}
-use Rattle.flow_run.specs.Output.{task_part}
+use Rattle.report_laws.specs.Output.{task_part}
 use Rattle.flow_run.proofs.ReportLemmas.{end_inside, named_tasks, one_written, one_refused, part_is}
 use Rattle.flow_run.proofs.report.put_tasks.Goals as goal
 
