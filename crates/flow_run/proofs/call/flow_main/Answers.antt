@@ -23,7 +23,7 @@ returns-clause-completes g c = λ hand well fine.
       | inl rises ↦ absurd (omega (arith, rises, well.writes))
       | inr memory ↦ absurd (let never : WriteFault ≡ NoMemory = sym same ∙ memory in cc)
     ])
-    _ _ _ _ did.ends hand fine
+    (g.F.Texts.held c.args.texts.now) (map string_bytes c.args.words.now) _ _ did.ends hand fine
 
 pub returns-clause-kept_plainly : goal.returns-clause-kept_plainly
 returns-clause-kept_plainly g c =
@@ -32,12 +32,15 @@ returns-clause-kept_plainly g c =
 pub returns-clause-plainly : goal.returns-clause-plainly
 returns-clause-plainly g c = λ job asks.
     let did = c.answer-status.ensures in
+    let held = g.F.Texts.held c.args.texts.now in
+    let arguments = map string_bytes c.args.words.now in
+    let status = c.answer-status.result.status in
     record {
-      well = λ done. (plain_done _ _ c.answer-status.result.status job asks _ _ did.ends done).1;
-      report = λ done. subst (Took _ _) (plain_done _ _ c.answer-status.result.status job asks _ _ did.ends done).0 (did.output.whole (did.output.done done));
+      well = λ done. (plain_done held arguments status job asks _ _ did.ends done).1;
+      report = λ done. subst (Took _ _) (plain_done held arguments status job asks _ _ did.ends done).0 (did.output.whole (did.output.done done));
       done = λ well nothing.
-          plain_completes _ _ c.answer-status.result.status job asks _ _ did.ends well
-          (no_read_fault g.F.Texts.held g.F.Texts.failed _ _ c.answer-status.result.status did.read nothing.reads)
+          plain_completes held arguments status job asks _ _ did.ends well
+          (no_read_fault g.F.Texts.held g.F.Texts.failed _ _ status did.read nothing.reads)
           (λ same. elim (did.output.cause (did.output.write_fault same)) [
             | inl rises ↦ absurd (omega (arith, rises, nothing.writes))
             | inr memory ↦ absurd (let never : WriteFault ≡ NoMemory = sym same ∙ memory in cc)
