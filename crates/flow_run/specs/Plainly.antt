@@ -28,7 +28,7 @@ pub record AsksPlainly (held : SourceTexts) (asked : Option Asked) (job : TextJo
 
 -- The call is done exactly where the job's values by one thread run through, unless a read, a write or an allocation
 -- fails; and when it is done the output has taken the report by one thread, and nothing else.
-pub record ReportsPlainly (job : TextJob) (before after : Option (List ℕ)) (NothingFailed : Type 0) (status : Status) : Type 0 where
+pub record EndsPlainly (job : TextJob) (before after : Option (List ℕ)) (NothingFailed : Type 0) (status : Status) : Type 0 where
   pub well : status ≡ Done → RunsWell job
   pub report : status ≡ Done → Took before after (plain_report job)
   pub done : RunsWell job → NothingFailed → (status ≡ Done) ⊎ (status ≡ NoMemory)
