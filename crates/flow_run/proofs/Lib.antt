@@ -4,11 +4,11 @@ pub mod Preparing
 pub mod ReportLemmas
 pub mod ValueSearch
 pub mod OutputExamples
-pub mod ReportRule
 pub mod Ending
 pub mod NamedLemmas
 pub mod Naming
 pub mod Completing
+pub mod Plainly
 pub mod CallExamples
 pub mod StopExamples
 pub mod JudgeExamples

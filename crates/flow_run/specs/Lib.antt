@@ -1,8 +1,8 @@
 pub mod Requests
 pub mod Reading
-pub mod Output
 pub mod Judging
 pub mod Checking
 pub mod Answers
 pub mod Completing
+pub mod Plainly
 pub mod inside

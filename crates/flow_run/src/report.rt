@@ -8,7 +8,7 @@ ghost use Rattle.run_frame.specs.Runs.{value_at, values_of};
 ghost use Rattle.text_tasks.specs.JobMeaning.{names_of, net_of, text_job};
 ghost use Rattle.nested_runs.specs.Reasons.{run_reason};
 ghost use Rattle.call_status.specs.Reasons.{NamesReason, reason_line};
-ghost use Rattle.flow_run.specs.Output.{ended_mark, header, outcome, report, task_report, report_of};
+ghost use Rattle.report_laws.specs.Output.{ended_mark, header, outcome, report, task_report, report_of};
 ghost use Rattle.flow_run.specs.inside.Rising.{AreRising};
 
 use call_status::add_reason_line;

@@ -37,7 +37,7 @@ use Rattle.nested_runs.specs.declared.reasons.Reason.TheVariants.{Fine}
 use Rattle.report_laws.specs.Output.{report, task_report}
 use Rattle.report_laws.specs.PlainJobs.{IsPlainly, plain_value}
 use Rattle.report_laws.specs.PlainLaws.{IsPlainRun}
-use Rattle.report_laws.specs.PlainReport.{HasSameReport, IsPlainGraph, IsPlainJob, IsPlanned, ReportsAlike, ReportsPlainly, RunsWell, done_by, plain_feedback, plain_next, plain_report, text_answer, text_does, text_plain}
+use Rattle.report_laws.specs.PlainReport.{HasSameReport, IsPlainJob, IsPlanned, ReportsAlike, ReportsPlainly, RunsWell, done_by, plain_feedback, plain_next, plain_report, text_answer, text_does, text_plain}
 use Rattle.report_laws.proofs.Depth.{runs_plainly}
 use Rattle.report_laws.proofs.LastEnds.{flat_map_below}
 

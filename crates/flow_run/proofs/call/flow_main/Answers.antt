@@ -7,6 +7,8 @@ use Rattle.text_tasks.specs.JobMeaning.{IsTextJob}
 use Rattle.call_status.specs.Notes.{NamesStatus}
 use Rattle.flow_run.specs.Answers.{names_in}
 use Rattle.flow_run.proofs.Completing.{completes}
+use Rattle.flow_run.proofs.Plainly.{kept_plainly, plain_completes, plain_done}
+use Rattle.outside_io.specs.Sink.{Took}
 use Rattle.flow_run.proofs.Ending.{no_read_fault}
 use Rattle.flow_run.proofs.Naming.{status_named}
 use Rattle.flow_run.proofs.call.flow_main.Goals as goal
@@ -20,6 +22,28 @@ returns-clause-completes g c = λ hand well fine.
       | inr memory ↦ absurd (let never : WriteFault ≡ NoMemory = sym same ∙ memory in cc)
     ])
     (g.F.Texts.held c.args.texts.now) (map string_bytes c.args.words.now) _ _ did.ends hand fine
+
+pub returns-clause-kept_plainly : goal.returns-clause-kept_plainly
+returns-clause-kept_plainly g c =
+    kept_plainly (g.F.Texts.held c.args.texts.now) (map string_bytes c.args.words.now) c.answer-status.result.status c.answer-status.result.runs _ c.answer-status.ensures.ends
+
+pub returns-clause-plainly : goal.returns-clause-plainly
+returns-clause-plainly g c = λ job asks.
+    let did = c.answer-status.ensures in
+    let held = g.F.Texts.held c.args.texts.now in
+    let arguments = map string_bytes c.args.words.now in
+    let status = c.answer-status.result.status in
+    record {
+      well = λ done. (plain_done held arguments status job asks _ _ did.ends done).1;
+      report = λ done. subst (Took _ _) (plain_done held arguments status job asks _ _ did.ends done).0 (did.output.whole (did.output.done done));
+      done = λ well nothing.
+          plain_completes held arguments status job asks _ _ did.ends well
+          (no_read_fault g.F.Texts.held g.F.Texts.failed _ _ status did.read nothing.reads)
+          (λ same. elim (did.output.cause (did.output.write_fault same)) [
+            | inl rises ↦ absurd (omega (arith, rises, nothing.writes))
+            | inr memory ↦ absurd (let never : WriteFault ≡ NoMemory = sym same ∙ memory in cc)
+          ]);
+    }
 
 pub put_note-noted-requires-clause-named : goal.put_note-noted-requires-clause-named
 put_note-noted-requires-clause-named g c =
