@@ -34,7 +34,7 @@ fn main(rt: HostRuntime) -> ExitCode {
         &mut StdSink::notes(rt.alloc(), &rt),
         watchers,
     );
-    ExitCode::from(outcome.status.code())
+    ExitCode::from(outcome.into_code())
 }
 
 // The end of a program that finds no memory for the arguments or the watchers.

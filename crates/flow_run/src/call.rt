@@ -2,6 +2,7 @@
 ghost use Rattle.std.specs.Prelude.{◌≡◌, ◌≢◌, ◌⊎◌, [], true, map, take, All, IfOk};
 ghost use Rattle.std.specs.String.{string_bytes};
 ghost use Rattle.outside_io.specs.Sink.{Writes};
+ghost use Rattle.call_status.specs.Codes.{code_of};
 ghost use Rattle.call_status.specs.Delivery.{Delivers};
 ghost use Rattle.call_status.specs.Notes.{note_line};
 ghost use Rattle.call_status.specs.Noting.{HasNoted};
@@ -50,6 +51,15 @@ pub struct Outcome {
     pub written: bool,
     /// Whether the line of the status was written.
     pub noted: Noted,
+}
+
+impl Outcome {
+    /// The exit code of a program that ends so. The runs and all else are let go.
+    pub fn into_code(self) -> u8
+        ensures { result ≡ code_of self.status }
+    {
+        self.status.code()
+    }
 }
 
 /// Does what the command line `words` asks for: `run FILE` reads the graph file of this name and then, in order of first

@@ -214,7 +214,9 @@ fn shown<R: Threads + Wait + Sync>(
         &mut notes,
         watchers,
     );
-    let end = shown_outcome(alloc, &outcome, count)?;
+    let end = shown_outcome(alloc, &outcome, count);
+    let _code = outcome.into_code();
+    let end = end?;
     Ok(format!(in alloc;
         "{} [{}] [{}]",
         end.as_str(),

@@ -20,17 +20,12 @@ pub fn text_of(alloc: Global, text: &str) -> Result<Bytes, NoMemory> {
     }
 }
 
-// So many spaces at once.
-const SPACES: [u8; 1024] = [b' '; 1024];
-
 // So many bytes: these, and spaces after them.
 pub fn padded(alloc: Global, front: &[u8], len: u64) -> Result<Bytes, NoMemory> {
     let mut padded = List::from_slice(alloc, front)?;
-    let spaces = (len as usize).saturating_sub(front.len());
-    for _block in 0..spaces / SPACES.len() {
-        padded.add_all(&SPACES)?;
+    for _place in front.len()..len as usize {
+        padded.push(b' ')?;
     }
-    padded.add_all(&SPACES[..spaces % SPACES.len()])?;
     Ok(padded)
 }
 
