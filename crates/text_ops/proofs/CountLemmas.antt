@@ -1,5 +1,5 @@
 -- What holds of counts of lines.
-use Rattle.std.proofs.Common.{◌≡◌, ℕ, ◌≤◌, List, length, drop, sym, ap, ◌∙◌, arith, append-nil, decimal}
+use Rattle.std.proofs.Common.{◌≡◌, ℕ, ◌<◌, ◌≤◌, ◌^◌, List, length, drop, sym, ap, ◌∙◌, arith, append-nil, decimal}
 use Rattle.std.specs.List.{between}
 use Rattle.std.proofs.lemmas.Fmt.{length-decimal-le}
 use Rattle.std.proofs.lemmas.List.{length_push}
@@ -25,7 +25,7 @@ counted_line text buffer lines start counted written short =
     between_to_end buffer start 21 short ∙ written ∙ ap (λ n. ended (decimal n)) counted ∙ sym (append-nil (ended (decimal (length (lines_of text)))))
 
 -- the line of a count is short
-pub length-count_meaning-le : (text : List ℕ) → length (lines_of text) ≤ 2147483647 → length (count_meaning text) ≤ 21
+pub length-count_meaning-le : (text : List ℕ) → length (lines_of text) < 2 ^ 64 → length (count_meaning text) ≤ 21
 length-count_meaning-le text few =
     let lines = length (lines_of text) in
     let digits = length-decimal-le 20 lines (omega arith) (omega arith) (omega arith) in

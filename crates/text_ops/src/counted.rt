@@ -1,5 +1,5 @@
 // The number of lines.
-ghost use Rattle.std.specs.Prelude.{◌≡◌, ◌≤◌, length};
+ghost use Rattle.std.specs.Prelude.{◌≡◌, length};
 ghost use Rattle.text_ops.specs.Lines.{lines_of};
 ghost use Rattle.text_ops.specs.TextMeaning.{count_meaning};
 ghost use Rattle.text_ops.specs.Values.{Makes};
@@ -13,8 +13,7 @@ use std::alloc::Global;
 
 /// How many lines the text has.
 pub fn line_count(text: &Text) -> u64
-    ensures value { result ≡ length (lines_of text.now) }
-    ensures small { result ≤ 2147483647 }
+    ensures { result ≡ length (lines_of text.now) }
 {
     memchr_iter(b'\n', text.as_slice()).count() as u64
 }

@@ -45,11 +45,7 @@ fn apply(alloc: Global, op: OpCase<'_>, text: &Text) -> Result<Text, ApplyError>
 
 // The text of these bytes.
 fn text_of(alloc: Global, bytes: &[u8]) -> Result<Text, NoMemory> {
-    let bytes = List::from_slice(alloc, bytes)?;
-    if bytes.as_slice().len() > 2_000_000_000 {
-        return Err(NoMemory);
-    }
-    Text::from_bytes(alloc, bytes)
+    Text::from_bytes(alloc, List::from_slice(alloc, bytes)?)
 }
 
 // An operation on a text, and its value worked out by hand.
