@@ -1,6 +1,5 @@
 // The texts that a task finds at its edges.
-ghost use Rattle.std.specs.Prelude.{◌≡◌, ◌<◌, ◌≤◌, ◌^◌, [], length, IfOk, MatchOption};
-ghost use Rattle.join_words.specs.Ins.{parts_of};
+ghost use Rattle.std.specs.Prelude.{◌≡◌, [], length, IfOk, IsErrOf, OnOk, MatchOption};
 ghost use Rattle.text_ops.specs.Lines.{IsNormal};
 ghost use Rattle.text_ops.specs.Values.{Makes};
 ghost use Rattle.text_tasks.specs.inside.Finding.{StartsText, text_of_edge, text_from};
@@ -11,16 +10,12 @@ use outside_io::{List, NoMemory};
 use std::alloc::Global;
 use text_ops::{ApplyError, Text, VALUE_LIMIT};
 
-// The most bytes of a text.
-const TEXT_LIMIT: u64 = 2_147_483_647;
-
 // The text of a task, as a value. Where it is too long it isn't put together.
 pub(crate) fn whole_text(alloc: Global, ins: &Ins<Item>) -> Result<Text, ApplyError>
-    requires { length (parts_of ins.now) < 2 ^ 32 }
     ensures value { Makes (text_from ins.now 0) result }
-    ensures normal { IsNormal (text_from ins.now 0) }
+    ensures normal { ¬ IsErrOf result ApplyError.NoMemory → IsNormal (text_from ins.now 0) }
 {
-    let len = found_len(ins, 0);
+    let len = found_len(ins, 0)?;
     if len > VALUE_LIMIT {
         return Err(ApplyError::Long(len));
     }
@@ -29,18 +24,14 @@ pub(crate) fn whole_text(alloc: Global, ins: &Ins<Item>) -> Result<Text, ApplyEr
 
 // The texts at the edges from a place on, one behind the other. Where all but one are empty its bytes are shared.
 pub(crate) fn text_from(alloc: Global, ins: &Ins<Item>, from: usize) -> Result<Text, NoMemory>
-    requires { length (parts_of ins.now) < 2 ^ 32 }
     ensures { IfOk result (λ text. text ≡ text_from ins.now from) }
 {
     let Some(first) = first_text(ins, from) else {
         return Ok(Text::new());
     };
-    let len = found_len(ins, from);
+    let len = found_len(ins, from)?;
     if len == first.len() as u64 {
         return first.share();
-    }
-    if len > TEXT_LIMIT {
-        return Err(NoMemory);
     }
     put_together(alloc, ins, from, len as usize)
 }
@@ -63,7 +54,6 @@ pub(crate) fn text_of_edge(ins: &Ins<Item>, place: usize) -> Option<&Text>
 fn bytes_at(ins: &Ins<Item>, place: usize) -> &[u8]
     ensures value { result.now ≡ text_of_edge ins.now place }
     ensures normal { IsNormal result.now }
-    ensures short { length result.now ≤ 2147483647 }
 {
     match text_of_edge(ins, place) {
         Some(text) => text.as_slice(),
@@ -84,25 +74,25 @@ fn first_text(ins: &Ins<Item>, from: usize) -> Option<&Text>
     None
 }
 
-// How many bytes the texts from a place on have. They are counted from the last one on.
+// How many bytes the texts from a place on have, if they can be counted. They are counted from the last one on.
 #[tactic(auto, using(crate::proofs::FoundLemmas::text_from_next, crate::proofs::FoundLemmas::text_from_end))]
-fn found_len(ins: &Ins<Item>, from: usize) -> u64
-    requires { length (parts_of ins.now) < 2 ^ 32 }
-    ensures len { result ≡ length (text_from ins.now from) }
-    ensures normal { IsNormal (text_from ins.now from) }
+fn found_len(ins: &Ins<Item>, from: usize) -> Result<u64, NoMemory>
+    ensures len { IfOk result (λ len. len ≡ length (text_from ins.now from)) }
+    ensures normal { OnOk result (IsNormal (text_from ins.now from)) }
 {
-    let mut len = 0;
+    let mut len = 0u64;
     for place in (from..ins.len()).rev() {
-        len += bytes_at(ins, place).len() as u64;
+        let Some(more) = len.checked_add(bytes_at(ins, place).len() as u64) else {
+            return Err(NoMemory);
+        };
+        len = more;
     }
-    len
+    Ok(len)
 }
 
 // A copy of the texts from a place on, which have so many bytes.
 #[tactic(auto, using(crate::proofs::FoundLemmas::text_from_next, crate::proofs::FoundLemmas::text_from_end))]
 fn put_together(alloc: Global, ins: &Ins<Item>, from: usize, len: usize) -> Result<Text, NoMemory>
-    requires len { len ≡ length (text_from ins.now from) }
-    requires short { len ≤ 2147483647 }
     ensures { IfOk result (λ text. text ≡ text_from ins.now from) }
 {
     let mut bytes = List::with_room(alloc, len)?;

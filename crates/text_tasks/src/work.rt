@@ -1,7 +1,6 @@
 // The work of each operation.
-ghost use Rattle.std.specs.Prelude.{◌≡◌, ◌<◌, ◌≤◌, ◌^◌, [], length, if◌then◌else◌, slice_index_or, IfOk};
+ghost use Rattle.std.specs.Prelude.{◌≡◌, ◌<◌, ◌≤◌, [], length, if◌then◌else◌, slice_index_or, IfOk};
 ghost use Rattle.graph_plans.specs.Operations.{IsOp};
-ghost use Rattle.join_words.specs.Ins.{parts_of};
 ghost use Rattle.text_ops.specs.TextMeaning.{match_meaning, sort_meaning};
 ghost use Rattle.text_ops.specs.Values.{Makes};
 ghost use Rattle.text_tasks.specs.FoundTexts.{left_found, right_found};
@@ -30,8 +29,7 @@ impl GraphJob {
         op: &Op,
         ins: &Ins<Item>,
     ) -> Result<(Text, Answer), ApplyError>
-        requires op { IsOp (length self.now.texts) op.now }
-        requires parts { length (parts_of ins.now) < 2 ^ 32 }
+        requires { IsOp (length self.now.texts) op.now }
         ensures { HandsOver (op_meaning self.now (founds ins.now) op.now) result }
     {
         match op {
@@ -72,7 +70,6 @@ impl GraphJob {
 
 // What an operation on one text makes of the text of a task.
 fn apply_to_found(alloc: Global, op: &TextOp, ins: &Ins<Item>) -> Result<Text, ApplyError>
-    requires { length (parts_of ins.now) < 2 ^ 32 }
     ensures { Makes (text_op_value op.now (text_from ins.now 0)) result }
 {
     match op {
@@ -85,7 +82,6 @@ fn apply_to_found(alloc: Global, op: &TextOp, ins: &Ins<Item>) -> Result<Text, A
 // The lines of the text of a task in order. They are as long as the text, so one that is too long isn't put together.
 #[tactic(auto, using(crate::proofs::WorkLemmas::sort_refuses))]
 fn sort_found(alloc: Global, ins: &Ins<Item>) -> Result<Text, ApplyError>
-    requires { length (parts_of ins.now) < 2 ^ 32 }
     ensures { Makes (sort_meaning (text_from ins.now 0)) result }
 {
     let text = whole_text(alloc, ins)?;
@@ -114,7 +110,6 @@ pub fn apply(alloc: Global, op: &TextOp, text: &Text) -> Result<Text, ApplyError
 
 // The lines of the text at the first edge, matched with those of the others.
 fn match_found(alloc: Global, ins: &Ins<Item>) -> Result<Text, ApplyError>
-    requires { length (parts_of ins.now) < 2 ^ 32 }
     ensures { Makes (match_meaning (left_found (founds ins.now)) (right_found (founds ins.now))) result }
 {
     let Some(left) = text_of_edge(ins, 0) else {
