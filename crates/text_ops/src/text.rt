@@ -48,12 +48,15 @@ impl Text {
         Text::from_lines(alloc, into_normal(bytes)?)
     }
 
-    /// The text of these bytes, which aren't copied.
+    /// The text of these bytes, which aren't copied. The empty text takes no memory.
     pub fn from_lines(alloc: Global, lines: Bytes) -> Result<Text, NoMemory>
         requires { IsNormal lines }
         ensures { IfOk result (λ text. text ≡ lines) }
     {
         let end = lines.len();
+        if end == 0 {
+            return Ok(Text::new());
+        }
         let bytes = Arc::new(alloc, lines)?;
         Ok(Text {
             bytes: Some(bytes),

@@ -1,8 +1,8 @@
 // The texts that a task finds at its edges.
-ghost use Rattle.std.specs.Prelude.{◌≡◌, [], length, IfOk, IsErrOf, OnOk, MatchOption};
+ghost use Rattle.std.specs.Prelude.{◌≡◌, [], length, IfOk, IfSome, IsErrOf, OnOk, MatchOption};
 ghost use Rattle.text_ops.specs.Lines.{IsNormal};
 ghost use Rattle.text_ops.specs.Values.{Makes};
-ghost use Rattle.text_tasks.specs.inside.Finding.{StartsText, text_of_edge, text_from};
+ghost use Rattle.text_tasks.specs.inside.Finding.{text_of_edge, text_from};
 
 use crate::item::Item;
 use join_words::{Given, Ins};
@@ -26,25 +26,23 @@ pub(crate) fn whole_text(alloc: Global, ins: &Ins<Item>) -> Result<Text, ApplyEr
 pub(crate) fn text_from(alloc: Global, ins: &Ins<Item>, from: usize) -> Result<Text, NoMemory>
     ensures { IfOk result (λ text. text ≡ text_from ins.now from) }
 {
-    let Some(first) = first_text(ins, from) else {
-        return Ok(Text::new());
-    };
-    let len = found_len(ins, from)?;
-    if len == first.len() as u64 {
-        return first.share();
+    if let Some(text) = lone_text(ins, from) {
+        return text.share();
     }
+    let len = found_len(ins, from)?;
     put_together(alloc, ins, from, len as usize)
 }
 
 // The text at an edge, unless it is empty.
 pub(crate) fn text_of_edge(ins: &Ins<Item>, place: usize) -> Option<&Text>
-    ensures { MatchOption result (text_of_edge ins.now place ≡ []) (λ text. text.now ≡ text_of_edge ins.now place) }
+    ensures value { MatchOption result (text_of_edge ins.now place ≡ []) (λ text. text.now ≡ text_of_edge ins.now place) }
+    ensures normal { IsNormal (text_of_edge ins.now place) }
 {
     let Some(Given::Value(_, item)) = ins.get(place) else {
         return None;
     };
     let text = item.text();
-    if text.len() == 0 {
+    if text.as_slice().is_empty() {
         return None;
     }
     Some(text)
@@ -61,17 +59,21 @@ fn bytes_at(ins: &Ins<Item>, place: usize) -> &[u8]
     }
 }
 
-// The first text from a place on that isn't empty.
+// The one text from a place on that isn't empty, if there is just one.
 #[tactic(auto, using(crate::proofs::FoundLemmas::text_from_next, crate::proofs::FoundLemmas::text_from_end))]
-fn first_text(ins: &Ins<Item>, from: usize) -> Option<&Text>
-    ensures { MatchOption result (text_from ins.now from ≡ []) (λ text. StartsText text.now (text_from ins.now from)) }
+pub(crate) fn lone_text(ins: &Ins<Item>, from: usize) -> Option<&Text>
+    ensures { IfSome result (λ text. text.now ≡ text_from ins.now from) }
 {
+    let mut lone = None;
     for place in from..ins.len() {
         if let Some(text) = text_of_edge(ins, place) {
-            return Some(text);
+            if lone.is_some() {
+                return None;
+            }
+            lone = Some(text);
         }
     }
-    None
+    lone
 }
 
 // How many bytes the texts from a place on have, if they can be counted. They are counted from the last one on.

@@ -8,17 +8,18 @@ ghost use Rattle.text_tasks.specs.OpMeaning.{first_one, occurring, op_meaning, s
 ghost use Rattle.text_tasks.specs.inside.Finding.{founds, text_from};
 ghost use Rattle.text_tasks.specs.inside.Working.{HandsOver};
 
-use crate::found::{text_from, text_of_edge, whole_text};
+use crate::found::{lone_text, text_from, text_of_edge, whole_text};
 use crate::item::Item;
 use crate::job::GraphJob;
+use crate::one_by_one::{filtered, first_lines, found_lines, last_lines, later_lines};
 use graph_plans::{Op, TextOp};
 use join_words::Ins;
 use outside_io::{Bytes, List, NoMemory};
 use run_frame::Answer;
 use std::alloc::Global;
 use text_ops::{
-    ApplyError, Text, count, has_word, head, keep, line_count, match_lines, pass, skip, sort, tail,
-    tally, uniq, without,
+    ApplyError, Text, count, count_line, has_word, head, keep, line_count, match_lines, pass, skip,
+    sort, tail, tally, uniq, without,
 };
 
 impl GraphJob {
@@ -72,10 +73,18 @@ impl GraphJob {
 fn apply_to_found(alloc: Global, op: &TextOp, ins: &Ins<Item>) -> Result<Text, ApplyError>
     ensures { Makes (text_op_value op.now (text_from ins.now 0)) result }
 {
+    if let Some(text) = lone_text(ins, 0) {
+        return apply(alloc, op, text);
+    }
     match op {
         TextOp::Pass => whole_text(alloc, ins),
+        TextOp::Keep(_) | TextOp::Without(_) => filtered(alloc, op, ins),
+        TextOp::Head(n) => first_lines(alloc, *n, ins),
+        TextOp::Tail(n) => last_lines(alloc, *n, ins),
+        TextOp::Skip(n) => later_lines(alloc, *n, ins),
         TextOp::Sort => sort_found(alloc, ins),
-        op => apply(alloc, op, &text_from(alloc, ins, 0)?),
+        TextOp::Count => count_line(alloc, found_lines(ins)?),
+        TextOp::Uniq | TextOp::Tally => apply(alloc, op, &text_from(alloc, ins, 0)?),
     }
 }
 
