@@ -14,12 +14,11 @@ use Rattle.std.proofs.lemmas.List.{get_or_default, get_or-map, length-map}
 use Rattle.std.proofs.lemmas.List.Elements.{All-nil, All-cons, All-head, All-tail, Contains-get_or}
 use Rattle.std.proofs.lemmas.List.Sorted.{All-permutation, Contains-permutation, IsPermutation-sym, sorted_far, ranks_by}
 use Rattle.std.proofs.lemmas.Slice.Eq.{bytes_eq-Decides}
-use Rattle.text_ops.specs.declared.mark.Mark.{Mark}
 use Rattle.text_ops.specs.declared.mark.Piece.TheVariants.{Key}
 use Rattle.text_ops.specs.Lines.{lines_of, text_of, IsNormal, IsPlain}
 use Rattle.text_ops.specs.LineOrder.{line_cmp, IsUpTo}
 use Rattle.text_ops.specs.MatchKeys.{match_key, behind_key, first_with}
-use Rattle.text_ops.specs.inside.Marks.{lead_of, behind_leads_cmp, marked_piece, mark_cmp, mark_at, marks_of, AreSortedMarks}
+use Rattle.text_ops.specs.inside.Marks.{MarkRow, lead_of, behind_leads_cmp, marked_piece, mark_cmp, mark_at, marks_of, AreSortedMarks}
 use Rattle.text_ops.specs.inside.Matching.{behind_mark, is_before, IsFirstPlace}
 use Rattle.text_ops.proofs.KeepLemmas.{lines_plain}
 use Rattle.text_ops.proofs.LineSteps.{text_is, next_rest}
@@ -29,19 +28,19 @@ use Rattle.text_ops.proofs.OrderLemmas.{IsUpTo-refl, IsUpTo-antisym}
 use Rattle.text_ops.proofs.SortedMarks.{leads, pieces_rise, marked_piece-mark_at, bytes_marked}
 
 -- marks stand from their place on
-starts : (from at : ℕ) (lines : List (List ℕ)) → from ≤ at → All (λ (m : Mark). from ≤ m.start) (marks_of Key at lines)
-starts from at [] le = All-nil (λ (m : Mark). from ≤ m.start)
+starts : (from at : ℕ) (lines : List (List ℕ)) → from ≤ at → All (λ (m : MarkRow). from ≤ m.start) (marks_of Key at lines)
+starts from at [] le = All-nil (λ (m : MarkRow). from ≤ m.start)
 starts from at (line ∷ lines) le =
-    All-cons (λ (m : Mark). from ≤ m.start) (mark_at Key at line) (marks_of Key (at + (length line + 1)) lines) le (starts from (at + (length line + 1)) lines (omega arith))
+    All-cons (λ (m : MarkRow). from ≤ m.start) (mark_at Key at line) (marks_of Key (at + (length line + 1)) lines) le (starts from (at + (length line + 1)) lines (omega arith))
 
 next : (text : List ℕ) (at : ℕ) (line : List ℕ) (lines : List (List ℕ)) → drop at text ≡ text_of (line ∷ lines) → drop (at + (length line + 1)) text ≡ text_of lines
 next text at line lines rest = let place : at + length line + 1 ≡ at + (length line + 1) = omega arith in ap (λ n. drop n text) (sym place) ∙ next_rest text at line lines rest
 
 -- the line of the first mark with the key
-abbrev NotBefore : List ℕ → List ℕ → Mark → Mark → Type 0
+abbrev NotBefore : List ℕ → List ℕ → MarkRow → MarkRow → Type 0
 NotBefore text key mark other = marked_piece text other ≡ key → mark.start ≤ other.start
 
-find_first : (text key : List ℕ) (mark : Mark) (at : ℕ) (lines : List (List ℕ)) → drop at text ≡ text_of lines → AllByRecursion IsPlain lines → marked_piece text mark ≡ key → All (NotBefore text key mark) (marks_of Key at lines) → Contains (marks_of Key at lines) mark → option_map behind_key (first_with key lines) ≡ Some (behind_mark text mark)
+find_first : (text key : List ℕ) (mark : MarkRow) (at : ℕ) (lines : List (List ℕ)) → drop at text ≡ text_of lines → AllByRecursion IsPlain lines → marked_piece text mark ≡ key → All (NotBefore text key mark) (marks_of Key at lines) → Contains (marks_of Key at lines) mark → option_map behind_key (first_with key lines) ≡ Some (behind_mark text mark)
 find_first text key mark at [] rest plain is least has = absurd (omega (arith, has.1))
 find_first text key mark at (line ∷ lines) rest plain is least has =
     let m0 = mark_at Key at line in
@@ -64,7 +63,7 @@ find_first text key mark at (line ∷ lines) rest plain is least has =
     here zero low one early = sym (behind-mark_at text at line lines rest plain.0) ∙ ap (behind_mark text) one
     here (suc k) low one early =
         let late = starts (at + (length line + 1)) (at + (length line + 1)) lines (omega arith) k mark (omega arith) in
-        absurd (omega (arith, late, ap (λ (m : Mark). m.start) one))
+        absurd (omega (arith, late, ap (λ (m : MarkRow). m.start) one))
 
     behind : (k : ℕ) → k < length (marks_of Key at (line ∷ lines)) → get_or (marks_of Key at (line ∷ lines)) k mark ≡ mark → mark_at Key at line ≢ mark → Contains (marks_of Key (at + (length line + 1)) lines) mark
     behind zero low one differs = absurd (differs one)
@@ -84,8 +83,8 @@ find_none text key at (line ∷ lines) rest none =
 lt_itself : (a : List ℕ) → is_lt (line_cmp a a) ≡ true → true ≡ false
 lt_itself a lt = sym lt ∙ ap is_lt (tied_itself nat_list_cmp_total a)
 
-module _ (text key : List ℕ) (marks : List Mark) (are : AreSortedMarks Key text marks) (is : IsNormal text) where
-  rises : (i j : ℕ) (d : Mark) → i ≤ j → j < length marks → IsUpTo (marked_piece text (get_or marks i d)) (marked_piece text (get_or marks j d))
+module _ (text key : List ℕ) (marks : List MarkRow) (are : AreSortedMarks Key text marks) (is : IsNormal text) where
+  rises : (i j : ℕ) (d : MarkRow) → i ≤ j → j < length marks → IsUpTo (marked_piece text (get_or marks i d)) (marked_piece text (get_or marks j d))
   rises i j d before low =
       ⊎_elim
       (λ less.
@@ -105,7 +104,7 @@ module _ (text key : List ℕ) (marks : List Mark) (are : AreSortedMarks Key tex
       ∙ less_from (marked_piece text a) (marked_piece text b) key up
       (sym (before_is text key b (leads Key text marks is are j d low) (bytes_marked text b are.bytes) key_bytes) ∙ passes)
 
-  pub first_place : ((k : ℕ) → get_or key k 0 < 256) → (place : ℕ) → place ≤ length marks → ((k : ℕ) (d : Mark) → 0 ≤ k → k < place → is_before text key (get_or marks k d) ≡ true) → ((k : ℕ) (d : Mark) → place ≤ k → k < length marks → is_before text key (get_or marks k d) ≡ false) → IsFirstPlace text key marks place
+  pub first_place : ((k : ℕ) → get_or key k 0 < 256) → (place : ℕ) → place ≤ length marks → ((k : ℕ) (d : MarkRow) → 0 ≤ k → k < place → is_before text key (get_or marks k d) ≡ true) → ((k : ℕ) (d : MarkRow) → place ≤ k → k < length marks → is_before text key (get_or marks k d) ≡ false) → IsFirstPlace text key marks place
   first_place key_bytes place within below above =
       record {
         within = within;
@@ -115,7 +114,7 @@ module _ (text key : List ℕ) (marks : List Mark) (are : AreSortedMarks Key tex
 
   -- the mark at the first place, if it stands for the key
   module _ (place : ℕ) (first : IsFirstPlace text key marks place) where
-    by_start : (a b : Mark) → a.lead ≡ b.lead → marked_piece text a ≡ marked_piece text b → is_lt (mark_cmp Key text a b) ≡ false → b.start ≤ a.start
+    by_start : (a b : MarkRow) → a.lead ≡ b.lead → marked_piece text a ≡ marked_piece text b → is_lt (mark_cmp Key text a b) ≡ false → b.start ≤ a.start
     by_start a b level same not_less =
         let leads_tie : nat_cmp a.lead b.lead ≡ Equal = ap (λ n. nat_cmp n b.lead) level ∙ tied_itself nat_cmp_total b.lead in
         let pieces_tie : behind_leads_cmp (marked_piece text a) (marked_piece text b) ≡ Equal = ap (λ p. behind_leads_cmp p (marked_piece text b)) same ∙ tied_itself behind_leads_total (marked_piece text b) in
@@ -127,21 +126,21 @@ module _ (text key : List ℕ) (marks : List Mark) (are : AreSortedMarks Key tex
         (λ o level. omega arith)
         (λ o more. omega arith)
 
-    least : (mark d : Mark) → mark ≡ get_or marks place d → place < length marks → marked_piece text mark ≡ key → All (NotBefore text key mark) marks
+    least : (mark d : MarkRow) → mark ≡ get_or marks place d → place < length marks → marked_piece text mark ≡ key → All (NotBefore text key mark) marks
     least mark d one inside same k e low other =
         let m = get_or marks k e in
         ⊎_elim
         (λ before. let never = lt_itself key (subst (λ p. is_lt (line_cmp p key) ≡ true) other (first.before k e before)) in cc)
         (λ from.
         let lead_m = leads Key text marks is are k e low ∙ ap lead_of other in
-        let lead_mark = ap (λ (x : Mark). x.lead) one ∙ leads Key text marks is are place d inside ∙ ap (λ (x : Mark). lead_of (marked_piece text x)) (sym one) ∙ ap lead_of same in
-        let far = sorted_far (λ (x : Mark) (y : Mark). is_lt (mark_cmp Key text x y)) (ranks_by (mark_total Key text) (λ (x : Mark). x)) marks are.sorted place k e from low in
+        let lead_mark = ap (λ (x : MarkRow). x.lead) one ∙ leads Key text marks is are place d inside ∙ ap (λ (x : MarkRow). lead_of (marked_piece text x)) (sym one) ∙ ap lead_of same in
+        let far = sorted_far (λ (x : MarkRow) (y : MarkRow). is_lt (mark_cmp Key text x y)) (ranks_by (mark_total Key text) (λ (x : MarkRow). x)) marks are.sorted place k e from low in
         let one_e = one ∙ get_or_default marks place d e inside in
         let not_less = ap (λ x. is_lt (mark_cmp Key text m x)) one_e ∙ far in
         by_start m mark (lead_m ∙ sym lead_mark) (other ∙ sym same) not_less)
         (cases_lt k place)
 
-    pub found_key : (d : Mark) → place < length marks → marked_piece text (get_or marks place d) ≡ key → option_map behind_key (first_with key (lines_of text)) ≡ Some (behind_mark text (get_or marks place d))
+    pub found_key : (d : MarkRow) → place < length marks → marked_piece text (get_or marks place d) ≡ key → option_map behind_key (first_with key (lines_of text)) ≡ Some (behind_mark text (get_or marks place d))
     found_key d inside same =
         let mark = get_or marks place d in
         let all = marks_of Key 0 (lines_of text) in
@@ -158,7 +157,7 @@ module _ (text key : List ℕ) (marks : List Mark) (are : AreSortedMarks Key tex
         by_order Equal h = refl
         by_order Greater h = refl
 
-    none : (d : Mark) → (place < length marks → marked_piece text (get_or marks place d) ≢ key) → All (λ m. marked_piece text m ≢ key) marks
+    none : (d : MarkRow) → (place < length marks → marked_piece text (get_or marks place d) ≢ key) → All (λ m. marked_piece text m ≢ key) marks
     none d differs k e low same =
         ⊎_elim
         (λ before. let never = lt_itself key (subst (λ p. is_lt (line_cmp p key) ≡ true) same (first.before k e before)) in cc)
@@ -169,7 +168,7 @@ module _ (text key : List ℕ) (marks : List Mark) (are : AreSortedMarks Key tex
         differs inside (IsUpTo-antisym piece key up (not_less_up piece key (first.behind place d (omega arith) inside))))
         (cases_lt k place)
 
-    pub no_key : (d : Mark) → (place < length marks → marked_piece text (get_or marks place d) ≢ key) → first_with key (lines_of text) ≡ None
+    pub no_key : (d : MarkRow) → (place < length marks → marked_piece text (get_or marks place d) ≢ key) → first_with key (lines_of text) ≡ None
     no_key d differs =
         let all = marks_of Key 0 (lines_of text) in
         find_none text key 0 (lines_of text) (text_is text is)

@@ -4,10 +4,9 @@ use Rattle.std.specs.Ordering.{is_le, is_lt, ordering_reverse, ordering_then, na
 use Rattle.std.specs.declared.cmp.Ordering.{Ordering}
 use Rattle.std.specs.declared.cmp.Ordering.TheVariants.{Less, Equal, Greater}
 use Rattle.std.proofs.lemmas.Cmp.{ranked, by_ranked, nat_list_cmp_total}
-use Rattle.text_ops.specs.declared.mark.Mark.{Mark}
 use Rattle.text_ops.specs.declared.mark.Piece.{Piece}
 use Rattle.text_ops.specs.LineOrder.{line_cmp, IsUpTo}
-use Rattle.text_ops.specs.inside.Marks.{digits_on, lead_of, behind_leads_cmp, tie_of, marked_piece, mark_cmp}
+use Rattle.text_ops.specs.inside.Marks.{MarkRow, digits_on, lead_of, behind_leads_cmp, tie_of, marked_piece, mark_cmp}
 
 AreBytes-rest : (byte : ℕ) (rest : List ℕ) → ((k : ℕ) → get_or (byte ∷ rest) k 0 < 256) → (k : ℕ) → get_or rest k 0 < 256
 AreBytes-rest byte rest bytes k = bytes (suc k)
@@ -85,7 +84,7 @@ lead_of-behind a b bytes others same = digits_on-behind 8 0 a b bytes others sam
 reversed : (a b : List ℕ) → line_cmp a b ≡ ordering_reverse (line_cmp b a)
 reversed a b = nat_list_cmp_total.antisymm a b
 
-pub marked_piece-up_to : (by : Piece) (text : List ℕ) (a b : Mark) → a.lead ≡ lead_of (marked_piece text a) → b.lead ≡ lead_of (marked_piece text b) → ((k : ℕ) → get_or (marked_piece text a) k 0 < 256) → ((k : ℕ) → get_or (marked_piece text b) k 0 < 256) → is_lt (mark_cmp by text b a) ≡ false → IsUpTo (marked_piece text a) (marked_piece text b)
+pub marked_piece-up_to : (by : Piece) (text : List ℕ) (a b : MarkRow) → a.lead ≡ lead_of (marked_piece text a) → b.lead ≡ lead_of (marked_piece text b) → ((k : ℕ) → get_or (marked_piece text a) k 0 < 256) → ((k : ℕ) → get_or (marked_piece text b) k 0 < 256) → is_lt (mark_cmp by text b a) ≡ false → IsUpTo (marked_piece text a) (marked_piece text b)
 marked_piece-up_to by text a b lead_a lead_b others bytes not = ap is_le (reversed (marked_piece text a) (marked_piece text b)) ∙ by_order (line_cmp (marked_piece text b) (marked_piece text a)) refl
   where
     shown : b.lead ≡ a.lead → behind_leads_cmp (marked_piece text b) (marked_piece text a) ≡ line_cmp (marked_piece text b) (marked_piece text a)

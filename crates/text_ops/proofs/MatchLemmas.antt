@@ -10,12 +10,11 @@ use Rattle.std.proofs.lemmas.List.{drop-drop, drop-append-le, take_all, append_a
 use Rattle.std.proofs.lemmas.List.Sums.{prefix_len_is}
 use Rattle.std.proofs.lemmas.Slice.{between_to_end}
 use Rattle.memchr.specs.Find.{IsFirstByte, is_byte}
-use Rattle.text_ops.specs.declared.mark.Mark.{Mark}
 use Rattle.text_ops.specs.declared.mark.Piece.TheVariants.{Key}
 use Rattle.text_ops.specs.Lines.{line_end, text_of, IsPlain}
 use Rattle.text_ops.specs.LineOrder.{line_cmp, IsUpTo}
 use Rattle.text_ops.specs.MatchKeys.{match_key, behind_key}
-use Rattle.text_ops.specs.inside.Marks.{lead_of, marked_piece, mark_at}
+use Rattle.text_ops.specs.inside.Marks.{MarkRow, lead_of, marked_piece, mark_at}
 use Rattle.text_ops.specs.inside.Matching.{behind_mark, is_before}
 use Rattle.text_ops.proofs.LeadLemmas.{lead_of-up_to}
 use Rattle.text_ops.proofs.MarkLemmas.{length-match_key-le}
@@ -70,7 +69,7 @@ behind-mark_at text at line lines rest plain =
 reversed : (a b : List ℕ) → line_cmp a b ≡ ordering_reverse (line_cmp b a)
 reversed a b = nat_list_cmp_total.antisymm a b
 
-pub before_is : (text key : List ℕ) (mark : Mark) → mark.lead ≡ lead_of (marked_piece text mark) → ((k : ℕ) → get_or (marked_piece text mark) k 0 < 256) → ((k : ℕ) → get_or key k 0 < 256) → is_before text key mark ≡ is_lt (line_cmp (marked_piece text mark) key)
+pub before_is : (text key : List ℕ) (mark : MarkRow) → mark.lead ≡ lead_of (marked_piece text mark) → ((k : ℕ) → get_or (marked_piece text mark) k 0 < 256) → ((k : ℕ) → get_or key k 0 < 256) → is_before text key mark ≡ is_lt (line_cmp (marked_piece text mark) key)
 before_is text key mark lead bytes key_bytes = by_order (line_cmp (marked_piece text mark) key) refl
   where
     by_order : (o : Ordering) → line_cmp (marked_piece text mark) key ≡ o → is_before text key mark ≡ is_lt (line_cmp (marked_piece text mark) key)

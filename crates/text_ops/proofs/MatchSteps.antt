@@ -1,25 +1,20 @@
 -- Steps of the loop that matches lines.
-use Rattle.std.proofs.Common.{◌≡◌, ℕ, ◌+◌, ◌<◌, ◌≤◌, List, [], ◌∷◌, ◌++◌, length, Option, Some, None, refl, sym, ap, ◌∙◌, arith, append_assoc, append-nil, length-append}
+use Rattle.std.proofs.Common.{◌≡◌, ℕ, List, [], ◌∷◌, ◌++◌, Option, Some, None, refl, sym, ap, ◌∙◌, append_assoc, append-nil}
 use Rattle.std.specs.List.{cons_option}
 use Rattle.std.specs.Option.{option_map}
-use Rattle.std.proofs.lemmas.List.{length_push}
 use Rattle.text_ops.specs.declared.gathered.Gathered.{Gathered}
-use Rattle.text_ops.specs.Lines.{line_end, lines_of, text_of, ended, IsNormal}
+use Rattle.text_ops.specs.Lines.{line_end, lines_of, text_of, ended}
 use Rattle.text_ops.specs.MatchKeys.{match_key, behind_key, first_with, joined, matched}
 use Rattle.text_ops.specs.TextMeaning.{match_meaning}
 use Rattle.text_ops.specs.inside.Gathering.{IsGathered}
 use Rattle.text_ops.specs.inside.Matching.{MatchSoFar}
-use Rattle.text_ops.proofs.CountLemmas.{length-lines_of-le}
-use Rattle.text_ops.proofs.LineSteps.{text_is}
 
-pub MatchSoFar-start : (left right bytes : List ℕ) (lines : List (List ℕ)) (made : Gathered) → bytes ≡ left → IsNormal left → length left ≤ 2147483647 → lines ≡ lines_of bytes → IsGathered [] made → made.total ≡ 0 → MatchSoFar left right lines made
-MatchSoFar-start left right bytes lines made same is short are gathered none =
+pub MatchSoFar-start : (left right bytes : List ℕ) (lines : List (List ℕ)) (made : Gathered) → bytes ≡ left → lines ≡ lines_of bytes → IsGathered [] made → MatchSoFar left right lines made
+MatchSoFar-start left right bytes lines made same are gathered =
     let all = are ∙ ap lines_of same in
     record {
       all = [];
       gathered = gathered;
-      fits = omega (arith, ap (λ l. length (text_of l)) all, ap length (text_is left is));
-      total = omega (arith, none, ap length all);
       same = ap (λ l. text_of (matched l (lines_of right))) all;
     }
 
@@ -38,20 +33,12 @@ module _ (left right others : List ℕ) (line key : List ℕ) (lines more : List
       ∙ ap (option_map (λ rest. line ++ rest)) (sym (value ∙ ap (λ k. option_map behind_key (first_with k (lines_of others))) key_is ∙ ap (λ r. option_map behind_key (first_with (match_key line) (lines_of r))) same_right)) in
       ap (λ l. matched l (lines_of right)) is ∙ ap (λ j. cons_option j (matched more (lines_of right))) here
 
-  length_here : length (text_of lines) ≡ length line + 1 + length (text_of more)
-  length_here = ap (λ l. length (text_of l)) is ∙ length-append (ended line) (text_of more) ∙ ap (λ n. n + length (text_of more)) (length_push line line_end)
-
-  pub match_countable : (rest : List ℕ) → length rest ≤ 2147483647 → IsNormal left → length left ≤ 2147483647 → made.total + length line + length rest + 1 < 18446744073709551616
-  match_countable rest short normal few = omega (arith, so_far.total, so_far.fits, length_here, ap length is, length-lines_of-le left normal)
-
-  pub MatchSoFar-found : (next : Gathered) (rest : List ℕ) → Some rest ≡ option_map behind_key (first_with key (lines_of others)) → length rest ≤ 2147483647 → ((all : List ℕ) → IsGathered all made → IsGathered (all ++ (line ++ (rest ++ line_end ∷ []))) next) → next.total ≡ made.total + (length line + length rest + 1) → MatchSoFar left right more next
-  MatchSoFar-found next rest value short put total =
+  pub MatchSoFar-found : (next : Gathered) (rest : List ℕ) → Some rest ≡ option_map behind_key (first_with key (lines_of others)) → ((all : List ℕ) → IsGathered all made → IsGathered (all ++ (line ++ (rest ++ line_end ∷ []))) next) → MatchSoFar left right more next
+  MatchSoFar-found next rest value put =
       let further = text_of (matched more (lines_of right)) in
       record {
         all = so_far.all ++ (line ++ (rest ++ line_end ∷ []));
         gathered = put so_far.all so_far.gathered;
-        fits = omega (arith, so_far.fits, length_here);
-        total = omega (arith, so_far.total, so_far.fits, length_here, total, ap length is);
         same =
             ap (λ l. so_far.all ++ l ++ further) (sym (append_assoc line rest (line_end ∷ [])))
             ∙ append_assoc so_far.all (ended (line ++ rest)) further
@@ -64,8 +51,6 @@ module _ (left right others : List ℕ) (line key : List ℕ) (lines more : List
       record {
         all = so_far.all;
         gathered = so_far.gathered;
-        fits = omega (arith, so_far.fits, length_here);
-        total = omega (arith, so_far.total, ap length is);
         same = ap (λ l. so_far.all ++ text_of l) (sym (found None value)) ∙ so_far.same;
       }
 

@@ -137,13 +137,12 @@ run_marks f (mark ∷ marks) n d some within same differs =
     (λ yes. differs inside (sym ((bytes_eq-Decides (f mark) (get_or (map f all) n [])).0 yes ∙ get_or-map f all n d [] inside)))))
 
 -- Steps of the loop.
-pub TallySoFar-start : (text : List ℕ) (ordered : List (List ℕ)) (made : Gathered) → ordered ≡ in_order (lines_of text) → IsGathered [] made → made.total ≡ 0 → TallySoFar text ordered 0 made
-TallySoFar-start text ordered made are gathered none =
+pub TallySoFar-start : (text : List ℕ) (ordered : List (List ℕ)) (made : Gathered) → ordered ≡ in_order (lines_of text) → IsGathered [] made → TallySoFar text ordered 0 made
+TallySoFar-start text ordered made are gathered =
     record {
       all = [];
       gathered = gathered;
       within = omega arith;
-      total = omega arith;
       apart = λ v some. refl;
       same = ap (λ l. text_of (map (tally_line (lines_of text)) (without_repeats l))) are;
     }
@@ -158,8 +157,8 @@ module _ (text : List ℕ) (ordered : List (List ℕ)) (place : ℕ) (made : Gat
       let before = so_far.apart line (omega (arith, here, run_is line rest rises)) in
       omega (arith, whole, parts, here, before)
 
-  pub TallySoFar-next : (next : Gathered) → IsGathered (so_far.all ++ ended (decimal (run_of (line ∷ rest)) ++ space ∷ line)) next → next.total ≤ made.total + length line + 22 → length line ≤ 2147483647 → TallySoFar text ordered (place + run_of (line ∷ rest)) next
-  TallySoFar-next next gathered total short =
+  pub TallySoFar-next : (next : Gathered) → IsGathered (so_far.all ++ ended (decimal (run_of (line ∷ rest)) ++ space ∷ line)) next → TallySoFar text ordered (place + run_of (line ∷ rest)) next
+  TallySoFar-next next gathered =
       let n = run_of (line ∷ rest) in
       let tally = tally_line (lines_of text) in
       let left = drop-drop n place ordered in
@@ -170,7 +169,6 @@ module _ (text : List ℕ) (ordered : List (List ℕ)) (place : ℕ) (made : Gat
         all = so_far.all ++ ended (decimal n ++ space ∷ line);
         gathered = gathered;
         within = omega (arith, run-le line rest rises, ap length is, length-drop place ordered, so_far.within);
-        total = omega (arith, so_far.total, run_is line rest rises);
         apart = λ v some.
             let here : 1 ≤ count_of v (drop n (line ∷ rest)) = omega (arith, ap (count_of v) left_is) in
             let whole = sym (count_of-append v (take n (line ∷ rest)) (drop n (line ∷ rest))) ∙ ap (count_of v) (take-append-drop n (line ∷ rest)) in

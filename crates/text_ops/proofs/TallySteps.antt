@@ -6,7 +6,6 @@ use Rattle.std.proofs.lemmas.List.{drop_more, get_or-map, length-map, drop-map, 
 use Rattle.std.proofs.lemmas.Slice.{between_to_end}
 use Rattle.std.proofs.lemmas.Slice.Eq.{bytes_eq-Decides}
 use Rattle.text_ops.specs.declared.gathered.Gathered.{Gathered}
-use Rattle.text_ops.specs.declared.mark.Mark.{Mark}
 use Rattle.text_ops.specs.declared.mark.Piece.TheVariants.{Whole}
 use Rattle.text_ops.specs.Lines.{lines_of, ended, IsNormal}
 use Rattle.text_ops.specs.LineOrder.{in_order}
@@ -15,12 +14,10 @@ use Rattle.text_ops.specs.Repeats.{without_repeats}
 use Rattle.text_ops.specs.TextMeaning.{tally_line, tally_meaning}
 use Rattle.text_ops.proofs.LineLemmas.{IsNormal-text_of}
 use Rattle.text_ops.specs.inside.Gathering.{IsGathered}
-use Rattle.text_ops.specs.inside.Marks.{marked_piece, AreSortedMarks}
+use Rattle.text_ops.specs.inside.Marks.{MarkRow, marked_piece, AreSortedMarks}
 use Rattle.text_ops.specs.inside.Tallying.{run_of, TallySoFar}
-use Rattle.text_ops.proofs.CountLemmas.{length-lines_of-le}
 use Rattle.text_ops.proofs.OrderLemmas.{Rises, Rises-drop, Rises-in_order}
-use Rattle.text_ops.proofs.SortedMarks.{lines_in_order, length_marks}
-use Rattle.text_ops.proofs.SortLemmas.{length-marked_piece-le}
+use Rattle.text_ops.proofs.SortedMarks.{lines_in_order}
 use Rattle.text_ops.proofs.TallyLemmas.{run_is, run-le, TallySoFar-next, TallySoFar-end}
 
 -- what a test for a difference says
@@ -34,21 +31,15 @@ equal a b r is fails = (bytes_eq-Decides a b).0 (by_test (bytes_eq a b) (sym is 
     by_test true h = refl
     by_test false h = cc
 
-module _ (text bytes : List ℕ) (marks : List Mark) (same : bytes ≡ text) (is : IsNormal text) (short : length text ≤ 2147483647) (sorted : AreSortedMarks Whole bytes marks) where
+module _ (text bytes : List ℕ) (marks : List MarkRow) (same : bytes ≡ text) (is : IsNormal text) (sorted : AreSortedMarks Whole bytes marks) where
   normal : IsNormal bytes
   normal = subst IsNormal (sym same) is
 
   pub ordered_is : map (marked_piece bytes) marks ≡ in_order (lines_of text)
   ordered_is = lines_in_order bytes marks normal sorted ∙ ap (λ b. in_order (lines_of b)) same
 
-  pub few_marks : length marks ≤ 2147483647
-  few_marks = omega (arith, length_marks bytes marks Whole normal sorted, length-lines_of-le bytes normal, ap length same)
-
-  pub short_line : (mark : Mark) → length (marked_piece bytes mark) ≤ 2147483647
-  short_line mark = omega (arith, length-marked_piece-le bytes mark, ap length same)
-
   -- the run at a place
-  module _ (at : ℕ) (inside : at < length marks) (d : Mark) where
+  module _ (at : ℕ) (inside : at < length marks) (d : MarkRow) where
     pub here : drop at (map (marked_piece bytes) marks) ≡ marked_piece bytes (get_or marks at d) ∷ drop (at + 1) (map (marked_piece bytes) marks)
     here =
         drop_more (map (marked_piece bytes) marks) at [] (omega (arith, length-map marks (marked_piece bytes)))
@@ -76,14 +67,14 @@ module _ (text bytes : List ℕ) (marks : List Mark) (same : bytes ≡ text) (is
           length-map marks (marked_piece bytes),
         )
 
-    pub next_tally : (made next : Gathered) (piece : List ℕ) (run : ℕ) → (so_far : TallySoFar text (map (marked_piece bytes) marks) at made) → run ≡ run_of (map (marked_piece bytes) (between at (length marks) marks)) → piece ≡ marked_piece bytes (get_or marks at d) → ((all : List ℕ) → IsGathered all made → IsGathered (all ++ ended (decimal run ++ space ∷ piece)) next) → next.total ≤ made.total + length piece + 22 → TallySoFar text (map (marked_piece bytes) marks) (at + run) next
-    next_tally made next piece run so_far is_run piece_is put total =
+    pub next_tally : (made next : Gathered) (piece : List ℕ) (run : ℕ) → (so_far : TallySoFar text (map (marked_piece bytes) marks) at made) → run ≡ run_of (map (marked_piece bytes) (between at (length marks) marks)) → piece ≡ marked_piece bytes (get_or marks at d) → ((all : List ℕ) → IsGathered all made → IsGathered (all ++ ended (decimal run ++ space ∷ piece)) next) → TallySoFar text (map (marked_piece bytes) marks) (at + run) next
+    next_tally made next piece run so_far is_run piece_is put =
         let l = marked_piece bytes (get_or marks at d) in
         let more = drop (at + 1) (map (marked_piece bytes) marks) in
         let n = run_here run is_run in
         let gathered = subst (λ k. IsGathered (so_far.all ++ ended (decimal k ++ space ∷ l)) next) n (subst (λ p. IsGathered (so_far.all ++ ended (decimal run ++ space ∷ p)) next) piece_is (put so_far.all so_far.gathered)) in
         subst (λ k. TallySoFar text (map (marked_piece bytes) marks) (at + k) next) (sym n)
-        (TallySoFar-next text (map (marked_piece bytes) marks) at made so_far ordered_is l more here rises_here next gathered (omega (arith, total, ap length piece_is)) (short_line (get_or marks at d)))
+        (TallySoFar-next text (map (marked_piece bytes) marks) at made so_far ordered_is l more here rises_here next gathered)
 
   pub tally_end : (at : ℕ) (made : Gathered) (so_far : TallySoFar text (map (marked_piece bytes) marks) at made) → length marks ≤ at → so_far.all ≡ tally_meaning text
   tally_end at made so_far past = TallySoFar-end text (map (marked_piece bytes) marks) at made so_far (drop_all at (map (marked_piece bytes) marks) (omega (arith, length-map marks (marked_piece bytes))))

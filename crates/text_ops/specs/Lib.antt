@@ -4,4 +4,5 @@ pub mod Repeats
 pub mod MatchKeys
 pub mod TextMeaning
 pub mod Values
+pub mod Joining
 pub mod inside

@@ -3,7 +3,6 @@ pub mod SharedText
 pub mod Gathering
 pub mod Keeping
 pub mod Marks
-pub mod Sorting
 pub mod Matching
 pub mod Tallying
 pub mod Repeating

@@ -1,6 +1,6 @@
 // The number of lines.
-ghost use Rattle.std.specs.Prelude.{◌≡◌, ◌≤◌, length};
-ghost use Rattle.text_ops.specs.Lines.{lines_of};
+ghost use Rattle.std.specs.Prelude.{◌≡◌, ◌∷◌, [], decimal, length};
+ghost use Rattle.text_ops.specs.Lines.{lines_of, text_of};
 ghost use Rattle.text_ops.specs.TextMeaning.{count_meaning};
 ghost use Rattle.text_ops.specs.Values.{Makes};
 
@@ -13,8 +13,7 @@ use std::alloc::Global;
 
 /// How many lines the text has.
 pub fn line_count(text: &Text) -> u64
-    ensures value { result ≡ length (lines_of text.now) }
-    ensures small { result ≤ 2147483647 }
+    ensures { result ≡ length (lines_of text.now) }
 {
     memchr_iter(b'\n', text.as_slice()).count() as u64
 }
@@ -23,8 +22,15 @@ pub fn line_count(text: &Text) -> u64
 pub fn count(alloc: Global, text: &Text) -> Result<Text, ApplyError>
     ensures { Makes (count_meaning text.now) result }
 {
+    count_line(alloc, line_count(text))
+}
+
+/// One line, this number in decimal.
+pub fn count_line(alloc: Global, lines: u64) -> Result<Text, ApplyError>
+    ensures { Makes (text_of (decimal lines ∷ [])) result }
+{
     let mut line = [b'\n'; 21];
-    let start = write_digits(line_count(text), &mut line, 20);
+    let start = write_digits(lines, &mut line, 20);
     let line = List::from_slice(alloc, &line[start..])?;
     Ok(Text::from_lines(alloc, line)?)
 }

@@ -11,7 +11,7 @@ pub const VALUE_LIMIT: u64 = 16_777_216;
 pub enum ApplyError {
     /// The value would have so many bytes, which are more than `VALUE_LIMIT`.
     Long(u64),
-    /// An allocation failed.
+    /// An allocation failed, or the value would have 2^64 bytes or more.
     NoMemory,
 }
 

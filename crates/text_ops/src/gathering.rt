@@ -1,5 +1,5 @@
 // How values are gathered.
-ghost use Rattle.std.specs.Prelude.{◌≡◌, ◌+◌, ◌<◌, ◌≤◌, ◌^◌, ◌++◌, ◌∷◌, ℕ, List, [], length, IfOk, OnOk, OnErr};
+ghost use Rattle.std.specs.Prelude.{◌≡◌, ◌+◌, ◌<◌, ◌≤◌, ◌++◌, ◌∷◌, ℕ, List, [], length, IfOk, OnOk, OnErr};
 ghost use Rattle.text_ops.specs.Lines.{line_end, IsNormal};
 ghost use Rattle.text_ops.specs.Values.{Makes, value_limit};
 ghost use Rattle.text_ops.specs.inside.Gathering.{IsGathered};
@@ -30,15 +30,21 @@ impl Gathered {
         })
     }
 
+    // How many bytes there are with so many more, if they can be counted.
+    fn total_with(&self, more: u64) -> Result<u64, NoMemory>
+        ensures { IfOk result (λ total. total ≡ self.now.total + more) }
+    {
+        self.total.checked_add(more).ok_or(NoMemory)
+    }
+
     // Adds bytes. After an `Err` nothing was added.
     pub(crate) fn add(&mut self, piece: &[u8]) -> Result<(), NoMemory>
-        requires { self.old.total + length piece.now < 2 ^ 64 }
         ensures gathered { (all : List ℕ) → IsGathered all self.old → OnOk result (IsGathered (all ++ piece.now) self.new) }
         ensures total { OnOk result (self.new.total ≡ self.old.total + length piece.now) }
         ensures err { OnErr result (self.new.total ≡ self.old.total) }
         ensures lines { IsNormal self.old.bytes → IsNormal piece.now → IsNormal self.new.bytes }
     {
-        let total = self.total + piece.len() as u64;
+        let total = self.total_with(piece.len() as u64)?;
         if total > VALUE_LIMIT {
             self.total = total;
             return Ok(());
@@ -48,13 +54,21 @@ impl Gathered {
         Ok(())
     }
 
+    // Counts bytes that are too many to be held. After an `Err` nothing was counted.
+    pub(crate) fn count(&mut self, bytes: u64) -> Result<(), NoMemory>
+        ensures gathered { (all more : List ℕ) → length more ≡ bytes → value_limit < bytes → IsGathered all self.old → OnOk result (IsGathered (all ++ more) self.new) }
+        ensures held { self.new.bytes ≡ self.old.bytes }
+    {
+        self.total = self.total_with(bytes)?;
+        Ok(())
+    }
+
     // Adds a line of two parts. After an `Err` a part of it may be added.
     pub(crate) fn add_line(&mut self, front: &[u8], back: &[u8]) -> Result<(), NoMemory>
-        requires { self.old.total + length front.now + length back.now + 1 < 2 ^ 64 }
         ensures gathered { (all : List ℕ) → IsGathered all self.old → OnOk result (IsGathered (all ++ (front.now ++ (back.now ++ line_end ∷ []))) self.new) }
         ensures total { OnOk result (self.new.total ≡ self.old.total + (length front.now + length back.now + 1)) }
     {
-        self.total += front.len() as u64 + back.len() as u64 + 1;
+        self.total = self.total_with((front.len() + back.len() + 1) as u64)?;
         if self.total <= VALUE_LIMIT {
             self.bytes.add_all(front)?;
             self.bytes.add_all(back)?;

@@ -1,4 +1,7 @@
 // Pieces of a text.
+ghost use Rattle.std.specs.Prelude.{◌≡◌, ◌≤◌, ◌-◌, ◌^◌, ℕ};
+
+use std::marker::Model;
 
 /// Which piece of each line is meant.
 #[derive(Clone, Copy)]
@@ -9,11 +12,104 @@ pub(crate) enum Piece {
     Key,
 }
 
+// A number of bytes, as marks keep it. Marks of texts below 4 GiB are shorter than others.
+pub(crate) trait Offset: Copy + Drop {
+    ghost value: { Self → ℕ };
+
+    // The greatest number that can be kept.
+    ghost most: { ℕ };
+
+    fn new(bytes: usize) -> Self
+        requires { bytes ≤ most }
+        ensures { value result ≡ bytes };
+
+    fn get(self) -> usize
+        ensures { result ≡ value self };
+}
+
+impl Offset for u32 {
+    ghost value = { λ bytes. bytes };
+
+    ghost most = { 2 ^ 32 - 1 };
+
+    #[inline]
+    fn new(bytes: usize) -> u32 {
+        bytes as u32
+    }
+
+    #[inline]
+    fn get(self) -> usize {
+        self as usize
+    }
+}
+
+impl Offset for usize {
+    ghost value = { λ bytes. bytes };
+
+    ghost most = { 2 ^ 64 - 1 };
+
+    #[inline]
+    fn new(bytes: usize) -> usize {
+        bytes
+    }
+
+    #[inline]
+    fn get(self) -> usize {
+        self
+    }
+}
+
 // So many bytes of a text from a place on. `lead` is the number that the first eight of them are, the first byte
 // first, with zeros for those that aren't there: pieces whose leads differ compare as these do.
-#[derive(Clone, Copy)]
-pub(crate) struct Mark {
-    pub(crate) lead: u64,
-    pub(crate) start: u32,
-    pub(crate) len: u32,
+#[derive(Drop)]
+pub(crate) struct Mark<O: Offset> {
+    lead: u64,
+    start: O,
+    len: O,
+}
+
+impl<O: Offset> Model for Mark<O> {
+    ghost use Rattle.text_ops.specs.inside.Marks.{MarkRow};
+
+    ghost Value = { MarkRow };
+
+    ghost view = { λ mark. record { lead = mark.lead; start = O.value mark.start; len = O.value mark.len } };
+}
+
+impl<O: Offset> Mark<O> {
+    ghost use Rattle.text_ops.specs.inside.Marks.{MarkRow};
+
+    #[inline]
+    pub(crate) fn new(lead: u64, start: usize, len: usize) -> Mark<O>
+        requires start { start ≤ O.most }
+        requires len { len ≤ O.most }
+        ensures { result ≡ record { lead = lead; start = start; len = len } }
+    {
+        Mark {
+            lead,
+            start: O::new(start),
+            len: O::new(len),
+        }
+    }
+
+    #[inline]
+    pub(crate) fn lead(&self) -> u64
+        ensures { result ≡ self.now.lead }
+    {
+        self.lead
+    }
+
+    #[inline]
+    pub(crate) fn start(&self) -> usize
+        ensures { result ≡ self.now.start }
+    {
+        self.start.get()
+    }
+
+    #[inline]
+    pub(crate) fn len(&self) -> usize
+        ensures { result ≡ self.now.len }
+    {
+        self.len.get()
+    }
 }

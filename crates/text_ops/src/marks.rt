@@ -7,16 +7,20 @@ ghost use Rattle.text_ops.specs.MatchKeys.{match_key};
 ghost use Rattle.text_ops.specs.inside.Marks.{AreSortedMarks, behind_leads_cmp, lead_of, mark_cmp, marked_piece, marked_with_end, marks_of, piece_of, tie_of};
 
 use crate::line_walk::Lines;
-use crate::mark::{Mark, Piece};
+use crate::mark::{Mark, Offset, Piece};
 use memchr::{memchr, memchr_iter};
 use outside_io::NoMemory;
 use std::alloc::Global;
 use std::cmp::Ordering;
 
 // Marks of these pieces of the lines, in the order of their bytes. Marks of equal keys are in the order of the lines.
-pub(crate) fn sorted_marks(alloc: Global, text: &[u8], by: Piece) -> Result<Vec<Mark>, NoMemory>
+pub(crate) fn sorted_marks<O: Offset>(
+    alloc: Global,
+    text: &[u8],
+    by: Piece,
+) -> Result<Vec<Mark<O>>, NoMemory>
     requires normal { IsNormal text.now }
-    requires short { length text.now ≤ 2147483647 }
+    requires short { length text.now ≤ O.most }
     ensures { IfOk result (λ marks. AreSortedMarks by text.now marks.items) }
 {
     let mut marks = marks_of(alloc, text, by)?;
@@ -25,22 +29,22 @@ pub(crate) fn sorted_marks(alloc: Global, text: &[u8], by: Piece) -> Result<Vec<
 }
 
 // The bytes of the piece, as far as the text has them.
-pub(crate) fn marked_piece<'t>(text: &'t [u8], mark: &Mark) -> &'t [u8]
+pub(crate) fn marked_piece<'t, O: Offset>(text: &'t [u8], mark: &Mark<O>) -> &'t [u8]
     ensures { result.now ≡ marked_piece text.now mark.now }
 {
-    let start = (mark.start as usize).min(text.len());
+    let start = mark.start().min(text.len());
     let rest = &text[start..];
-    let end = (mark.len as usize).min(rest.len());
+    let end = mark.len().min(rest.len());
     &rest[..end]
 }
 
 // The bytes of the piece and the one behind it.
-pub(crate) fn marked_with_end<'t>(text: &'t [u8], mark: &Mark) -> &'t [u8]
+pub(crate) fn marked_with_end<'t, O: Offset>(text: &'t [u8], mark: &Mark<O>) -> &'t [u8]
     ensures { result.now ≡ marked_with_end text.now mark.now }
 {
-    let start = (mark.start as usize).min(text.len());
+    let start = mark.start().min(text.len());
     let rest = &text[start..];
-    let end = (mark.len as usize + 1).min(rest.len());
+    let end = mark.len().saturating_add(1).min(rest.len());
     &rest[..end]
 }
 
@@ -91,9 +95,9 @@ fn piece_of(by: Piece, line: &[u8]) -> &[u8]
 }
 
 // The marks in the order of the lines.
-fn marks_of(alloc: Global, text: &[u8], by: Piece) -> Result<Vec<Mark>, NoMemory>
+fn marks_of<O: Offset>(alloc: Global, text: &[u8], by: Piece) -> Result<Vec<Mark<O>>, NoMemory>
     requires normal { IsNormal text.now }
-    requires short { length text.now ≤ 2147483647 }
+    requires short { length text.now ≤ O.most }
     ensures { IfOk result (λ marks. marks.items ≡ marks_of by 0 (lines_of text.now)) }
 {
     let count = memchr_iter(b'\n', text).count();
@@ -101,17 +105,13 @@ fn marks_of(alloc: Global, text: &[u8], by: Piece) -> Result<Vec<Mark>, NoMemory
     let mut start = 0;
     for line in Lines::new(text) {
         let piece = piece_of(by, line);
-        marks.push(Mark {
-            lead: lead(piece),
-            start: start as u32,
-            len: piece.len() as u32,
-        })?;
+        marks.push(Mark::new(lead(piece), start, piece.len()))?;
         start += line.len() + 1;
     }
     Ok(marks)
 }
 
-fn sort_marks(text: &[u8], by: Piece, marks: &mut Vec<Mark>)
+fn sort_marks<O: Offset>(text: &[u8], by: Piece, marks: &mut Vec<Mark<O>>)
     ensures permutation { IsPermutation marks.old.items marks.new.items }
     ensures sorted { IsSortedBy (λ a b. is_lt (mark_cmp by text.now a b)) marks.new.items }
 {
@@ -119,17 +119,17 @@ fn sort_marks(text: &[u8], by: Piece, marks: &mut Vec<Mark>)
 }
 
 // By the leads, then by what these don't show.
-fn compare(text: &[u8], by: Piece, a: &Mark, b: &Mark) -> Ordering
+fn compare<O: Offset>(text: &[u8], by: Piece, a: &Mark<O>, b: &Mark<O>) -> Ordering
     ensures { result ≡ mark_cmp by text.now a.now b.now }
 {
-    match a.lead.cmp(&b.lead) {
+    match a.lead().cmp(&b.lead()) {
         Ordering::Equal => compare_pieces(text, by, a, b),
         other => other,
     }
 }
 
 // The order of marks with equal leads.
-fn compare_pieces(text: &[u8], by: Piece, a: &Mark, b: &Mark) -> Ordering
+fn compare_pieces<O: Offset>(text: &[u8], by: Piece, a: &Mark<O>, b: &Mark<O>) -> Ordering
     ensures { result ≡ ordering_then (behind_leads_cmp (marked_piece text.now a.now) (marked_piece text.now b.now)) (nat_cmp (tie_of by a.now) (tie_of by b.now)) }
 {
     match compare_behind_leads(marked_piece(text, a), marked_piece(text, b)) {
@@ -156,11 +156,11 @@ fn behind_lead(piece: &[u8]) -> &[u8]
 }
 
 // Equal lines may come in any order, since they are one and the same, and equal keys are in the order of their lines.
-fn tie(by: Piece, mark: &Mark) -> u32
+fn tie<O: Offset>(by: Piece, mark: &Mark<O>) -> usize
     ensures { result ≡ tie_of by mark.now }
 {
     match by {
         Piece::Whole => 0,
-        Piece::Key => mark.start,
+        Piece::Key => mark.start(),
     }
 }

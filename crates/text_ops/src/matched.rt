@@ -1,5 +1,5 @@
 // Lines joined with what others have behind the same key.
-ghost use Rattle.std.specs.Prelude.{◌≡◌, ◌≤◌, length, IfSome};
+ghost use Rattle.std.specs.Prelude.{◌≡◌, ◌≤◌, length};
 ghost use Rattle.std.specs.Option.{option_copied, option_map};
 ghost use Rattle.text_ops.specs.Lines.{IsNormal, lines_of};
 ghost use Rattle.text_ops.specs.MatchKeys.{behind_key, first_with};
@@ -11,7 +11,7 @@ ghost use Rattle.text_ops.specs.inside.Matching.{IsFirstPlace, behind_mark, is_b
 
 use crate::gathered::{ApplyError, Gathered};
 use crate::line_walk::Lines;
-use crate::mark::{Mark, Piece};
+use crate::mark::{Mark, Offset, Piece};
 use crate::marks::{lead, marked_piece, match_key, sorted_marks};
 use crate::text::Text;
 use memchr::memchr;
@@ -23,12 +23,24 @@ use std::cmp::Ordering;
 pub fn match_lines(alloc: Global, left: &Text, right: &Text) -> Result<Text, ApplyError>
     ensures { Makes (match_meaning left.now right.now) result }
 {
-    let others = right.as_slice();
-    let marks = sorted_marks(alloc, others, Piece::Key)?;
+    let (lines, others) = (left.as_slice(), right.as_slice());
+    if others.len() <= u32::MAX as usize {
+        return match_by_marks::<u32>(alloc, lines, others);
+    }
+    match_by_marks::<usize>(alloc, lines, others)
+}
+
+fn match_by_marks<O: Offset>(alloc: Global, left: &[u8], right: &[u8]) -> Result<Text, ApplyError>
+    requires left { IsNormal left.now }
+    requires right { IsNormal right.now }
+    requires short { length right.now ≤ O.most }
+    ensures { Makes (match_meaning left.now right.now) result }
+{
+    let marks = sorted_marks::<O>(alloc, right, Piece::Key)?;
     let marks = marks.as_slice();
     let mut made = Gathered::new(alloc);
-    for line in Lines::new(left.as_slice()) {
-        if let Some(rest) = behind_first(others, marks, match_key(line)) {
+    for line in Lines::new(left) {
+        if let Some(rest) = behind_first(right, marks, match_key(line)) {
             made.add_line(line, rest)?;
         }
     }
@@ -36,11 +48,10 @@ pub fn match_lines(alloc: Global, left: &Text, right: &Text) -> Result<Text, App
 }
 
 // What follows this key in the first line that has it.
-fn behind_first<'t>(text: &'t [u8], marks: &[Mark], key: &[u8]) -> Option<&'t [u8]>
+fn behind_first<'t, O: Offset>(text: &'t [u8], marks: &[Mark<O>], key: &[u8]) -> Option<&'t [u8]>
     requires marks { AreSortedMarks KeyPiece text.now marks.now }
     requires normal { IsNormal text.now }
-    ensures value { option_copied result ≡ option_map behind_key (first_with key.now (lines_of text.now)) }
-    ensures short { IfSome result (λ rest. length rest.now ≤ length text.now) }
+    ensures { option_copied result ≡ option_map behind_key (first_with key.now (lines_of text.now)) }
 {
     let place = first_place(text, marks, key);
     let mark = marks.get(place)?;
@@ -51,7 +62,7 @@ fn behind_first<'t>(text: &'t [u8], marks: &[Mark], key: &[u8]) -> Option<&'t [u
 }
 
 // How many marks have a key below this one.
-fn first_place(text: &[u8], marks: &[Mark], key: &[u8]) -> usize
+fn first_place<O: Offset>(text: &[u8], marks: &[Mark<O>], key: &[u8]) -> usize
     requires marks { AreSortedMarks KeyPiece text.now marks.now }
     requires normal { IsNormal text.now }
     ensures { IsFirstPlace text.now key.now marks.now result }
@@ -61,22 +72,21 @@ fn first_place(text: &[u8], marks: &[Mark], key: &[u8]) -> usize
 }
 
 // Whether a mark's key is below this one, whose lead is given.
-fn is_before(text: &[u8], mark: &Mark, lead: u64, key: &[u8]) -> bool
+fn is_before<O: Offset>(text: &[u8], mark: &Mark<O>, lead: u64, key: &[u8]) -> bool
     requires { lead ≡ lead_of key.now }
     ensures { result ≡ is_before text.now key.now mark.now }
 {
-    match mark.lead.cmp(&lead) {
+    match mark.lead().cmp(&lead) {
         Ordering::Equal => marked_piece(text, mark).cmp(key).is_lt(),
         order => order.is_lt(),
     }
 }
 
 // What follows a mark in its line.
-fn behind<'t>(text: &'t [u8], mark: &Mark) -> &'t [u8]
-    ensures value { result.now ≡ behind_mark text.now mark.now }
-    ensures short { length result.now ≤ length text.now }
+fn behind<'t, O: Offset>(text: &'t [u8], mark: &Mark<O>) -> &'t [u8]
+    ensures { result.now ≡ behind_mark text.now mark.now }
 {
-    let start = (mark.start as usize + mark.len as usize).min(text.len());
+    let start = mark.start().saturating_add(mark.len()).min(text.len());
     let rest = &text[start..];
     match memchr(b'\n', rest) {
         Some(end) => &rest[..end],

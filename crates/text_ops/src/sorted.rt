@@ -1,5 +1,5 @@
 // The lines in order.
-ghost use Rattle.std.specs.Prelude.{◌≡◌, ◌+◌, ◌<◌, ◌^◌, ◌++◌, ℕ, List, length, OnOk};
+ghost use Rattle.std.specs.Prelude.{◌++◌, ℕ, List, OnOk};
 ghost use Rattle.text_ops.specs.Lines.{ended};
 ghost use Rattle.text_ops.specs.TextMeaning.{sort_meaning};
 ghost use Rattle.text_ops.specs.Values.{Makes};
@@ -7,7 +7,7 @@ ghost use Rattle.text_ops.specs.inside.Gathering.{IsGathered};
 ghost use Rattle.text_ops.specs.inside.Marks.{marked_piece, IsEndedMark};
 
 use crate::gathered::{ApplyError, Gathered, VALUE_LIMIT};
-use crate::mark::{Mark, Piece};
+use crate::mark::{Mark, Offset, Piece};
 use crate::marks::{marked_with_end, sorted_marks};
 use crate::text::Text;
 use outside_io::NoMemory;
@@ -22,7 +22,7 @@ pub fn sort(alloc: Global, text: &Text) -> Result<Text, ApplyError>
     if len > VALUE_LIMIT {
         return Err(ApplyError::Long(len));
     }
-    let marks = sorted_marks(alloc, bytes, Piece::Whole)?;
+    let marks = sorted_marks::<u32>(alloc, bytes, Piece::Whole)?;
     let mut made = Gathered::with_room(alloc, bytes.len())?;
     for mark in marks.as_slice() {
         add_marked_line(&mut made, bytes, mark)?;
@@ -32,14 +32,16 @@ pub fn sort(alloc: Global, text: &Text) -> Result<Text, ApplyError>
 
 // Adds the line of a mark, with its end. The lead has eight bytes, so that a line of at most seven and its end fit there.
 // Such a line isn't read from the text again, in which lines that are neighbours in order lie far apart.
-fn add_marked_line(made: &mut Gathered, text: &[u8], mark: &Mark) -> Result<(), NoMemory>
-    requires mark { IsEndedMark text.now mark.now }
-    requires total { made.old.total + length text.now < 2 ^ 64 }
-    ensures gathered { (all : List ℕ) → IsGathered all made.old → OnOk result (IsGathered (all ++ ended (marked_piece text.now mark.now)) made.new) }
-    ensures total { OnOk result (made.new.total ≡ made.old.total + length (ended (marked_piece text.now mark.now))) }
+fn add_marked_line<O: Offset>(
+    made: &mut Gathered,
+    text: &[u8],
+    mark: &Mark<O>,
+) -> Result<(), NoMemory>
+    requires { IsEndedMark text.now mark.now }
+    ensures { (all : List ℕ) → IsGathered all made.old → OnOk result (IsGathered (all ++ ended (marked_piece text.now mark.now)) made.new) }
 {
-    let len = mark.len as usize;
-    let mut line = mark.lead.to_be_bytes();
+    let len = mark.len();
+    let mut line = mark.lead().to_be_bytes();
     if len >= line.len() {
         return made.add(marked_with_end(text, mark));
     }

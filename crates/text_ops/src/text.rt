@@ -1,5 +1,5 @@
 // Texts that share their bytes.
-ghost use Rattle.std.specs.Prelude.{◌≡◌, ◌≤◌, ◌+◌, [], length, slice_range, IfOk};
+ghost use Rattle.std.specs.Prelude.{◌≡◌, ◌≤◌, [], length, slice_range, IfOk};
 ghost use Rattle.text_ops.specs.Lines.{IsNormal, normal};
 
 use crate::normal_text::into_normal;
@@ -8,13 +8,13 @@ use std::alloc::Global;
 use std::marker::Model;
 use std::sync::Arc;
 
-/// A text that is empty or ends with a line end, of less than 2 GiB. Its bytes may be shared with other texts, and
-/// don't change: another text of the same bytes, or of a part of them, costs no copy. Contracts see it as its bytes.
+/// A text that is empty or ends with a line end. Its bytes may be shared with other texts, and don't change: another
+/// text of the same bytes, or of a part of them, costs no copy. Contracts see it as its bytes.
 #[derive(Drop)]
 pub struct Text {
     bytes: Option<Arc<Bytes>>,
-    start: u32,
-    end: u32,
+    start: usize,
+    end: usize,
 }
 
 impl Model for Text {
@@ -43,19 +43,20 @@ impl Text {
 
     /// The text of these bytes, which aren't copied, with byte 10 put after a last line that lacks it.
     pub fn from_bytes(alloc: Global, bytes: Bytes) -> Result<Text, NoMemory>
-        requires { length bytes + 1 ≤ 2147483647 }
         ensures { IfOk result (λ text. text ≡ normal bytes) }
     {
         Text::from_lines(alloc, into_normal(bytes)?)
     }
 
-    /// The text of these bytes, which aren't copied.
+    /// The text of these bytes, which aren't copied. The empty text takes no memory.
     pub fn from_lines(alloc: Global, lines: Bytes) -> Result<Text, NoMemory>
-        requires normal { IsNormal lines }
-        requires short { length lines ≤ 2147483647 }
+        requires { IsNormal lines }
         ensures { IfOk result (λ text. text ≡ lines) }
     {
-        let end = lines.len() as u32;
+        let end = lines.len();
+        if end == 0 {
+            return Ok(Text::new());
+        }
         let bytes = Arc::new(alloc, lines)?;
         Ok(Text {
             bytes: Some(bytes),
@@ -68,10 +69,9 @@ impl Text {
     pub fn as_slice(&self) -> &[u8]
         ensures value { result.now ≡ self.now }
         ensures normal { IsNormal self.now }
-        ensures short { length self.now ≤ 2147483647 }
     {
         match &self.bytes {
-            Some(bytes) => &bytes.as_slice()[self.start as usize..self.end as usize],
+            Some(bytes) => &bytes.as_slice()[self.start..self.end],
             None => &[],
         }
     }
@@ -107,8 +107,8 @@ impl Text {
         let bytes = Arc::try_clone(bytes)?;
         Ok(Text {
             bytes: Some(bytes),
-            start: self.start + start as u32,
-            end: self.start + end as u32,
+            start: self.start + start,
+            end: self.start + end,
         })
     }
 }

@@ -1,4 +1,5 @@
 pub mod FoundLemmas
+pub mod OneByOneLemmas
 pub mod WorkLemmas
 pub mod PlanLemmas
 pub mod WorkedJobs

@@ -1,17 +1,10 @@
 -- What operations make of what is found.
-use Rattle.std.proofs.Common.{◌≡◌, ℕ, suc, ◌+◌, ◌<◌, ◌≤◌, ℤ, pos, Bool, true, false, cond, List, [], ◌∷◌, ◌++◌, length, map, drop, get_or, Some, None, sym, ap, ◌∙◌, arith, drop-cons, append_assoc}
-use Rattle.std.specs.Prelude.{if◌then◌else◌, filter, ◌==◌, ◌&&◌, not}
+use Rattle.std.proofs.Common.{◌≡◌, ℕ, suc, ◌+◌, ◌<◌, ℤ, pos, Bool, true, false, cond, List, [], ◌∷◌, ◌++◌, length, map, drop, get_or, Some, None, sym, ap, ◌∙◌, arith, drop-cons, append_assoc}
+use Rattle.std.specs.Prelude.{◌≢◌, if◌then◌else◌, filter}
 use Rattle.std.specs.List.{range_with_len, last_or}
 use Rattle.std.proofs.lemmas.List.Elements.{filter-append}
 use Rattle.task_graph.specs.NetRows.{NetRows}
-use Rattle.task_graph.specs.Net.{is_weak_row}
-use Rattle.task_graph.specs.declared.net.EdgeRow.{EdgeRow}
 use Rattle.task_graph.specs.Places.{places_from}
-use Rattle.journal_rules.specs.declared.entry.Cause.{Cause}
-use Rattle.journal_rules.specs.declared.entry.Cause.TheVariants.{Source, Strong, Weak}
-use Rattle.journal_rules.specs.DataRule.{edges_of}
-use Rattle.journal_rules.proofs.NetLemmas.{places_length}
-use Rattle.run_frame.specs.Meaning.{IsRelease}
 use Rattle.run_frame.proofs.EndsLemmas.{counting_more, last_put}
 use Rattle.std.proofs.lemmas.List.{append-nil}
 use Rattle.text_ops.specs.declared.gathered.ApplyError.{ApplyError}
@@ -21,15 +14,6 @@ use Rattle.text_ops.specs.TextMeaning.{has_word, sort_meaning}
 use Rattle.text_ops.specs.Values.{MayRefuse}
 use Rattle.text_ops.proofs.SortLemmas.{length-sort_meaning}
 use Rattle.text_tasks.specs.JobMeaning.{is_sink, last_sink_below}
-
--- A release has no more parts than there are edges, or one.
-pub release_parts : (net : NetRows) (task parts : ℕ) → IsRelease net task parts → parts ≤ length net.edges + 1
-release_parts net task parts release = by_cause release.cause release.size
-  where
-    by_cause : (cause : Cause) → parts ≡ length (edges_of net task cause) → parts ≤ length net.edges + 1
-    by_cause Source size = omega (arith, size)
-    by_cause Strong size = omega (arith, size, places_length (λ (row : EdgeRow). (row.to == task) && not (is_weak_row net row)) net.edges)
-    by_cause (Weak e) size = omega (arith, size)
 
 last_kept : (ts : List ℕ) (n : ℕ) (is : Bool) → last_or None (ts ++ cond is (n ∷ []) []) ≡ (if is then Some n else last_or None ts)
 last_kept ts n true = last_put None ts n
@@ -60,6 +44,6 @@ occurring_next words text chosen i d is below same = by_test is (ap (λ found. c
     by_test false step = sym step
 
 -- a text in order is as long as the text
-pub sort_refuses : (text : List ℕ) (error : ApplyError) → IsNormal text → MayRefuse text error → MayRefuse (sort_meaning text) error
-sort_refuses text (Long n) is refused = (refused.0 ∙ sym (length-sort_meaning text is), refused.1)
+pub sort_refuses : (text : List ℕ) (error : ApplyError) → (error ≢ NoMemory → IsNormal text) → MayRefuse text error → MayRefuse (sort_meaning text) error
+sort_refuses text (Long n) is refused = (refused.0 ∙ sym (length-sort_meaning text (is (λ same. cc))), refused.1)
 sort_refuses text NoMemory is refused = tt

@@ -3,3 +3,4 @@ pub mod Works
 pub mod Finding
 pub mod Working
 pub mod WorkedPlans
+pub mod OneByOne

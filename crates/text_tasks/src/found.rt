@@ -1,9 +1,8 @@
 // The texts that a task finds at its edges.
-ghost use Rattle.std.specs.Prelude.{◌≡◌, ◌<◌, ◌≤◌, ◌^◌, [], length, IfOk, MatchOption};
-ghost use Rattle.join_words.specs.Ins.{parts_of};
+ghost use Rattle.std.specs.Prelude.{◌≡◌, [], length, IfOk, IfSome, IsErrOf, OnOk, MatchOption};
 ghost use Rattle.text_ops.specs.Lines.{IsNormal};
 ghost use Rattle.text_ops.specs.Values.{Makes};
-ghost use Rattle.text_tasks.specs.inside.Finding.{StartsText, text_of_edge, text_from};
+ghost use Rattle.text_tasks.specs.inside.Finding.{text_of_edge, text_from};
 
 use crate::item::Item;
 use join_words::{Given, Ins};
@@ -11,16 +10,12 @@ use outside_io::{List, NoMemory};
 use std::alloc::Global;
 use text_ops::{ApplyError, Text, VALUE_LIMIT};
 
-// The most bytes of a text.
-const TEXT_LIMIT: u64 = 2_147_483_647;
-
 // The text of a task, as a value. Where it is too long it isn't put together.
 pub(crate) fn whole_text(alloc: Global, ins: &Ins<Item>) -> Result<Text, ApplyError>
-    requires { length (parts_of ins.now) < 2 ^ 32 }
     ensures value { Makes (text_from ins.now 0) result }
-    ensures normal { IsNormal (text_from ins.now 0) }
+    ensures normal { ¬ IsErrOf result ApplyError.NoMemory → IsNormal (text_from ins.now 0) }
 {
-    let len = found_len(ins, 0);
+    let len = found_len(ins, 0)?;
     if len > VALUE_LIMIT {
         return Err(ApplyError::Long(len));
     }
@@ -29,31 +24,25 @@ pub(crate) fn whole_text(alloc: Global, ins: &Ins<Item>) -> Result<Text, ApplyEr
 
 // The texts at the edges from a place on, one behind the other. Where all but one are empty its bytes are shared.
 pub(crate) fn text_from(alloc: Global, ins: &Ins<Item>, from: usize) -> Result<Text, NoMemory>
-    requires { length (parts_of ins.now) < 2 ^ 32 }
     ensures { IfOk result (λ text. text ≡ text_from ins.now from) }
 {
-    let Some(first) = first_text(ins, from) else {
-        return Ok(Text::new());
-    };
-    let len = found_len(ins, from);
-    if len == first.len() as u64 {
-        return first.share();
+    if let Some(text) = lone_text(ins, from) {
+        return text.share();
     }
-    if len > TEXT_LIMIT {
-        return Err(NoMemory);
-    }
+    let len = found_len(ins, from)?;
     put_together(alloc, ins, from, len as usize)
 }
 
 // The text at an edge, unless it is empty.
 pub(crate) fn text_of_edge(ins: &Ins<Item>, place: usize) -> Option<&Text>
-    ensures { MatchOption result (text_of_edge ins.now place ≡ []) (λ text. text.now ≡ text_of_edge ins.now place) }
+    ensures value { MatchOption result (text_of_edge ins.now place ≡ []) (λ text. text.now ≡ text_of_edge ins.now place) }
+    ensures normal { IsNormal (text_of_edge ins.now place) }
 {
     let Some(Given::Value(_, item)) = ins.get(place) else {
         return None;
     };
     let text = item.text();
-    if text.len() == 0 {
+    if text.as_slice().is_empty() {
         return None;
     }
     Some(text)
@@ -63,7 +52,6 @@ pub(crate) fn text_of_edge(ins: &Ins<Item>, place: usize) -> Option<&Text>
 fn bytes_at(ins: &Ins<Item>, place: usize) -> &[u8]
     ensures value { result.now ≡ text_of_edge ins.now place }
     ensures normal { IsNormal result.now }
-    ensures short { length result.now ≤ 2147483647 }
 {
     match text_of_edge(ins, place) {
         Some(text) => text.as_slice(),
@@ -71,38 +59,42 @@ fn bytes_at(ins: &Ins<Item>, place: usize) -> &[u8]
     }
 }
 
-// The first text from a place on that isn't empty.
+// The one text from a place on that isn't empty, if there is just one.
 #[tactic(auto, using(crate::proofs::FoundLemmas::text_from_next, crate::proofs::FoundLemmas::text_from_end))]
-fn first_text(ins: &Ins<Item>, from: usize) -> Option<&Text>
-    ensures { MatchOption result (text_from ins.now from ≡ []) (λ text. StartsText text.now (text_from ins.now from)) }
+pub(crate) fn lone_text(ins: &Ins<Item>, from: usize) -> Option<&Text>
+    ensures { IfSome result (λ text. text.now ≡ text_from ins.now from) }
 {
+    let mut lone = None;
     for place in from..ins.len() {
         if let Some(text) = text_of_edge(ins, place) {
-            return Some(text);
+            if lone.is_some() {
+                return None;
+            }
+            lone = Some(text);
         }
     }
-    None
+    lone
 }
 
-// How many bytes the texts from a place on have. They are counted from the last one on.
+// How many bytes the texts from a place on have, if they can be counted. They are counted from the last one on.
 #[tactic(auto, using(crate::proofs::FoundLemmas::text_from_next, crate::proofs::FoundLemmas::text_from_end))]
-fn found_len(ins: &Ins<Item>, from: usize) -> u64
-    requires { length (parts_of ins.now) < 2 ^ 32 }
-    ensures len { result ≡ length (text_from ins.now from) }
-    ensures normal { IsNormal (text_from ins.now from) }
+fn found_len(ins: &Ins<Item>, from: usize) -> Result<u64, NoMemory>
+    ensures len { IfOk result (λ len. len ≡ length (text_from ins.now from)) }
+    ensures normal { OnOk result (IsNormal (text_from ins.now from)) }
 {
-    let mut len = 0;
+    let mut len = 0u64;
     for place in (from..ins.len()).rev() {
-        len += bytes_at(ins, place).len() as u64;
+        let Some(more) = len.checked_add(bytes_at(ins, place).len() as u64) else {
+            return Err(NoMemory);
+        };
+        len = more;
     }
-    len
+    Ok(len)
 }
 
 // A copy of the texts from a place on, which have so many bytes.
 #[tactic(auto, using(crate::proofs::FoundLemmas::text_from_next, crate::proofs::FoundLemmas::text_from_end))]
 fn put_together(alloc: Global, ins: &Ins<Item>, from: usize, len: usize) -> Result<Text, NoMemory>
-    requires len { len ≡ length (text_from ins.now from) }
-    requires short { len ≤ 2147483647 }
     ensures { IfOk result (λ text. text ≡ text_from ins.now from) }
 {
     let mut bytes = List::with_room(alloc, len)?;

@@ -118,8 +118,7 @@ impl Job for TextJob {
     }
 
     /// Does the work of a task's operation. It faults with `Long` where the value would have more than 16,777,216
-    /// bytes. That is found without putting the value together where it is the task's whole text. A task that has to
-    /// look into a text of 2 GiB or more, put together of several ones, answers that memory was refused.
+    /// bytes. That is found without putting the value together where it is the task's whole text.
     fn run(&self, alloc: Global, task: u32, ins: &Ins<Item>) -> Result<Done<TextJob>, JobError> {
         match self {
             TextJob::Graph(job) => job.answer(alloc, task, ins),

@@ -10,6 +10,7 @@ mod feedback_text;
 mod found;
 mod item;
 mod job;
+mod one_by_one;
 mod table;
 #[cfg(test)]
 mod tests;

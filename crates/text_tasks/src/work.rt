@@ -1,7 +1,6 @@
 // The work of each operation.
-ghost use Rattle.std.specs.Prelude.{◌≡◌, ◌<◌, ◌≤◌, ◌^◌, [], length, if◌then◌else◌, slice_index_or, IfOk};
+ghost use Rattle.std.specs.Prelude.{◌≡◌, ◌<◌, ◌≤◌, [], length, if◌then◌else◌, slice_index_or, IfOk};
 ghost use Rattle.graph_plans.specs.Operations.{IsOp};
-ghost use Rattle.join_words.specs.Ins.{parts_of};
 ghost use Rattle.text_ops.specs.TextMeaning.{match_meaning, sort_meaning};
 ghost use Rattle.text_ops.specs.Values.{Makes};
 ghost use Rattle.text_tasks.specs.FoundTexts.{left_found, right_found};
@@ -9,17 +8,18 @@ ghost use Rattle.text_tasks.specs.OpMeaning.{first_one, occurring, op_meaning, s
 ghost use Rattle.text_tasks.specs.inside.Finding.{founds, text_from};
 ghost use Rattle.text_tasks.specs.inside.Working.{HandsOver};
 
-use crate::found::{text_from, text_of_edge, whole_text};
+use crate::found::{lone_text, text_from, text_of_edge, whole_text};
 use crate::item::Item;
 use crate::job::GraphJob;
+use crate::one_by_one::{filtered, first_lines, found_lines, last_lines, later_lines};
 use graph_plans::{Op, TextOp};
 use join_words::Ins;
 use outside_io::{Bytes, List, NoMemory};
 use run_frame::Answer;
 use std::alloc::Global;
 use text_ops::{
-    ApplyError, Text, count, has_word, head, keep, line_count, match_lines, pass, skip, sort, tail,
-    tally, uniq, without,
+    ApplyError, Text, count, count_line, has_word, head, keep, line_count, match_lines, pass, skip,
+    sort, tail, tally, uniq, without,
 };
 
 impl GraphJob {
@@ -30,8 +30,7 @@ impl GraphJob {
         op: &Op,
         ins: &Ins<Item>,
     ) -> Result<(Text, Answer), ApplyError>
-        requires op { IsOp (length self.now.texts) op.now }
-        requires parts { length (parts_of ins.now) < 2 ^ 32 }
+        requires { IsOp (length self.now.texts) op.now }
         ensures { HandsOver (op_meaning self.now (founds ins.now) op.now) result }
     {
         match op {
@@ -72,20 +71,26 @@ impl GraphJob {
 
 // What an operation on one text makes of the text of a task.
 fn apply_to_found(alloc: Global, op: &TextOp, ins: &Ins<Item>) -> Result<Text, ApplyError>
-    requires { length (parts_of ins.now) < 2 ^ 32 }
     ensures { Makes (text_op_value op.now (text_from ins.now 0)) result }
 {
+    if let Some(text) = lone_text(ins, 0) {
+        return apply(alloc, op, text);
+    }
     match op {
         TextOp::Pass => whole_text(alloc, ins),
+        TextOp::Keep(_) | TextOp::Without(_) => filtered(alloc, op, ins),
+        TextOp::Head(n) => first_lines(alloc, *n, ins),
+        TextOp::Tail(n) => last_lines(alloc, *n, ins),
+        TextOp::Skip(n) => later_lines(alloc, *n, ins),
         TextOp::Sort => sort_found(alloc, ins),
-        op => apply(alloc, op, &text_from(alloc, ins, 0)?),
+        TextOp::Count => count_line(alloc, found_lines(ins)?),
+        TextOp::Uniq | TextOp::Tally => apply(alloc, op, &text_from(alloc, ins, 0)?),
     }
 }
 
 // The lines of the text of a task in order. They are as long as the text, so one that is too long isn't put together.
 #[tactic(auto, using(crate::proofs::WorkLemmas::sort_refuses))]
 fn sort_found(alloc: Global, ins: &Ins<Item>) -> Result<Text, ApplyError>
-    requires { length (parts_of ins.now) < 2 ^ 32 }
     ensures { Makes (sort_meaning (text_from ins.now 0)) result }
 {
     let text = whole_text(alloc, ins)?;
@@ -114,7 +119,6 @@ pub fn apply(alloc: Global, op: &TextOp, text: &Text) -> Result<Text, ApplyError
 
 // The lines of the text at the first edge, matched with those of the others.
 fn match_found(alloc: Global, ins: &Ins<Item>) -> Result<Text, ApplyError>
-    requires { length (parts_of ins.now) < 2 ^ 32 }
     ensures { Makes (match_meaning (left_found (founds ins.now)) (right_found (founds ins.now))) result }
 {
     let Some(left) = text_of_edge(ins, 0) else {

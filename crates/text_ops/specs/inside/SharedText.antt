@@ -1,5 +1,5 @@
 -- What a text is made of.
-use Rattle.std.specs.Prelude.{ℕ, ◌≤◌, List, [], length, slice_range}
+use Rattle.std.specs.Prelude.{ℕ, ◌<◌, ◌≤◌, ◌^◌, List, [], length, slice_range}
 use Rattle.std.specs.Option.{option_map_or}
 use Rattle.std.specs.Arc.{arc_value}
 use Rattle.text_ops.specs.declared.text.Text.TheInside.{Inside}
@@ -16,5 +16,5 @@ shown t = slice_range (shared t) t.start t.end
 pub record IsShown (t : Inside) : Type 0 where
   pub rising : t.start ≤ t.end
   pub within : t.end ≤ length (shared t)
-  pub short : t.end ≤ 2147483647
+  pub fits : t.end < 2 ^ 64
   pub normal : IsNormal (shown t)

@@ -1,5 +1,5 @@
 -- A loop over lines in order that counts equal ones.
-use Rattle.std.specs.Prelude.{◌≡◌, ℕ, ◌*◌, ◌≤◌, List, [], ◌∷◌, ◌++◌, length, map, take, drop}
+use Rattle.std.specs.Prelude.{◌≡◌, ℕ, ◌≤◌, List, [], ◌∷◌, ◌++◌, length, map, take, drop}
 use Rattle.std.specs.List.{prefix_len}
 use Rattle.std.specs.Str.{bytes_eq}
 use Rattle.text_ops.specs.declared.gathered.Gathered.{Gathered}
@@ -19,6 +19,5 @@ pub record TallySoFar (text : List ℕ) (ordered : List (List ℕ)) (place : ℕ
   pub all : List ℕ
   pub gathered : IsGathered all made
   pub within : place ≤ length ordered
-  pub total : made.total ≤ 2147483680 * place
   pub apart : (v : List ℕ) → 1 ≤ count_of v (drop place ordered) → count_of v (take place ordered) ≡ 0
   pub same : all ++ text_of (map (tally_line (lines_of text)) (without_repeats (drop place ordered))) ≡ tally_meaning text

@@ -1,5 +1,5 @@
 -- The texts at a task's edges, by place.
-use Rattle.std.specs.Prelude.{◌≡◌, ℕ, List, [], ◌++◌, drop, map, slice_get}
+use Rattle.std.specs.Prelude.{ℕ, List, [], drop, map, slice_get}
 use Rattle.std.specs.Option.{option_map_or}
 use Rattle.join_words.specs.declared.ins.Ins.{Ins}
 use Rattle.join_words.specs.Ins.{InputValue, parts_of, found_of}
@@ -17,7 +17,3 @@ text_of_edge ins place = option_map_or found_text (slice_get (founds ins) place)
 -- the texts from an edge on, one behind the other
 abbrev pub text_from : Ins Item → ℕ → List ℕ
 text_from ins from = text_found (drop from (founds ins))
-
--- the one text is the beginning of the other
-abbrev pub StartsText : List ℕ → List ℕ → Type 0
-StartsText front text = (rest : List ℕ) × (text ≡ front ++ rest)

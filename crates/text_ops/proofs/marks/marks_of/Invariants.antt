@@ -2,4 +2,4 @@ use Rattle.text_ops.specs.inside.Marks.{MarkedSoFar}
 use Rattle.text_ops.proofs.marks.marks_of.Given as goal
 
 abbrev pub invariant-loop-line : goal.invariant-loop-line
-invariant-loop-line l = MarkedSoFar l.by l.text l.marks.items l.start l.line-iterator
+invariant-loop-line g l = MarkedSoFar l.by l.text l.marks.items l.start l.line-iterator

@@ -12,14 +12,13 @@ loop-place-preserved c =
     let text = c.bytes_at.result.now in
     let whole = text_from_before ins c.loop-place.place (omega (arith, c.loop-place-test.true)) ∙ ap (λ front. front ++ behind) (sym c.bytes_at.ensures.value) in
     let len = ap length whole ∙ length-append text behind in (
-      omega (arith, len, c.loop-place.invariant.0),
+      omega (arith, len, c.in-Some.ensures.1, c.loop-place.invariant.0),
       subst IsNormal (sym whole) (IsNormal-append text behind c.bytes_at.ensures.normal c.loop-place.invariant.1),
-      omega (arith, c.loop-place.invariant.2, c.bytes_at.ensures.short, c.loop-place-test.true),
-      omega (arith, c.loop-place.invariant.3, c.loop-place-test.true),
+      omega (arith, c.loop-place.invariant.2, c.loop-place-test.true),
     )
 
 pub returns-clause-len : goal.returns-clause-len
-returns-clause-len c = c.loop-place.invariant.0 ∙ ap length (text_from_same c.args.ins.now c.args.from c.loop-place.place (omega (arith, c.loop-place-test.false)) c.loop-place.invariant.3)
+returns-clause-len c = c.loop-place.invariant.0 ∙ ap length (text_from_same c.args.ins.now c.args.from c.loop-place.place (omega (arith, c.loop-place-test.false)) c.loop-place.invariant.2)
 
 pub returns-clause-normal : goal.returns-clause-normal
-returns-clause-normal c = subst IsNormal (text_from_same c.args.ins.now c.args.from c.loop-place.place (omega (arith, c.loop-place-test.false)) c.loop-place.invariant.3) c.loop-place.invariant.1
+returns-clause-normal c = subst IsNormal (text_from_same c.args.ins.now c.args.from c.loop-place.place (omega (arith, c.loop-place-test.false)) c.loop-place.invariant.2) c.loop-place.invariant.1

@@ -1,4 +1,4 @@
-use Rattle.std.proofs.Common.{◌≡◌, ◌≤◌, ◌+◌, ◌*◌, min, length}
+use Rattle.std.proofs.Common.{◌≡◌, ◌≤◌, min, length}
 use Rattle.join_words.specs.Ins.{parts_of}
 use Rattle.text_ops.specs.Lines.{IsNormal}
 use Rattle.text_tasks.specs.inside.Finding.{text_from}
@@ -8,5 +8,4 @@ abbrev pub invariant-loop-place : goal.invariant-loop-place
 invariant-loop-place l =
     (l.len ≡ length (text_from l.ins l.place))
     × IsNormal (text_from l.ins l.place)
-    × (l.len + l.place * 2147483647 ≤ length (parts_of l.ins) * 2147483647)
     × (min l.from (length (parts_of l.ins)) ≤ l.place)

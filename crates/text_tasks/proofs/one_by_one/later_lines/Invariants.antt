@@ -1,0 +1,7 @@
+use Rattle.text_ops.specs.TextMeaning.{skip_meaning}
+use Rattle.text_tasks.specs.inside.Finding.{text_from}
+use Rattle.text_tasks.specs.inside.OneByOne.{JoinedSoFar}
+use Rattle.text_tasks.proofs.one_by_one.later_lines.Given as goal
+
+abbrev pub invariant-loop-place : goal.invariant-loop-place
+invariant-loop-place l = JoinedSoFar (skip_meaning l.left (text_from l.ins l.place)) (skip_meaning l.n (text_from l.ins 0)) l.made
