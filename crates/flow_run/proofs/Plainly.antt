@@ -157,15 +157,14 @@ module _ (held : SourceTexts) (arguments : List (List ℕ)) (status : Status) (j
   plain_done runs concluded (inl (file, limit, workers, journal, asked, inr ran, none)) done =
       let same : job_of ran.run ≡ job = kept_job ran.run file limit (same_file file asks.file limit asks.limit workers asks.workers journal false (sym asked ∙ asks.asks)) ran.job in
       let law : HasSameReport ran.run = kept_same ran.run same ran.kept in
-      let fine : run_reason text_job ran.run ≡ Fine = done_fine (run_reason text_job ran.run) (subst (IsAfterRun (run_reason text_job ran.run)) done ran.after) in
-      (
+      let fine : run_reason text_job ran.run ≡ Fine = done_fine (run_reason text_job ran.run) (subst (IsAfterRun (run_reason text_job ran.run)) done ran.after) in (
         ap (λ asked. run_texts (wants_journal asked) runs ++ conclusion_text concluded) asks.asks
-        ∙ ap (λ rs. run_texts false rs ++ conclusion_text concluded) ran.only
-        ∙ ap (λ c. run_texts false (ran.run ∷ []) ++ conclusion_text c) none
-        ∙ append-nil _
-        ∙ append-nil _
-        ∙ law.report fine
-        ∙ ap plain_report same,
+            ∙ ap (λ rs. run_texts false rs ++ conclusion_text concluded) ran.only
+            ∙ ap (λ c. run_texts false (ran.run ∷ []) ++ conclusion_text c) none
+            ∙ append-nil _
+            ∙ append-nil _
+            ∙ law.report fine
+            ∙ ap plain_report same,
         subst RunsWell same (law.fine.0 fine),
       )
   plain_done runs concluded (inr (inl (file, name, limit, asked, ends, none))) done = absurd (no_run_and_judgement asks.file file name asks.limit limit asks.workers false (sym asks.asks ∙ asked))
