@@ -55,9 +55,9 @@ find_each "the table of crates in docs/ARCHITECTURE.md" < <(sed -n '/^| Crate |/
 for crate in "${found[@]}"; do
     grep -qx -- "$crate" <<<"$crates" || fault "docs/ARCHITECTURE.md describes $crate, which crates.txt hasn't"
 done
-find_each "the table of crates in docs/TESTING.md" < <(sed -n '/^| Crate | Functions |/,/^$/p' docs/TESTING.md | sed -nE 's/^\| `([a-z_]+)` \|.*/\1/p')
+find_each "the table of times in docs/TESTING.md" < <(sed -n '/^<!-- gate times -->/,/^<!-- end/p' docs/TESTING.md | sed -nE 's/^\| `([a-z_]+)` \|.*/\1/p')
 for crate in "${found[@]}"; do
-    grep -qx -- "$crate" <<<"$crates" || fault "docs/TESTING.md counts the functions of $crate, which crates.txt hasn't"
+    grep -qx -- "$crate" <<<"$crates" || fault "docs/TESTING.md has times of $crate, which crates.txt hasn't"
 done
 
 # Each file of definitions that public clauses cite is explained, and each that is named is there.
