@@ -5,6 +5,7 @@
 mod gives;
 mod lending;
 mod needs;
+mod shared;
 mod shelf;
 mod stages;
 mod stepping;

@@ -141,7 +141,9 @@ impl Shelf {
     /// The journal of the run, or `None` where it isn't finished.
     pub(crate) fn journal(self) -> Result<Option<Journal>, NoMemory> {
         let Shelf {
-            keeper, is_whole, ..
+            keeper,
+            is_whole,
+            ..
         } = self;
         if is_whole {
             Ok(Some(keeper.journal()?))

@@ -1,5 +1,5 @@
 // The steps of a turn, one at a time.
-ghost use Rattle.std.specs.Prelude.{◌≡◌, ◌<◌, None, Some, IfSome, IfOk, [], ◌∷◌, length};
+ghost use Rattle.std.specs.Prelude.{◌≡◌, ◌≤◌, IfSome, IfOk, [], ◌∷◌};
 ghost use Rattle.std.specs.Arc.{arc_value};
 ghost use Rattle.table_runs.specs.declared.needs.Need.TheVariants.{Hold};
 ghost use Rattle.table_runs.specs.Needs.{HasNeed};
@@ -8,10 +8,11 @@ ghost use Rattle.table_runs.specs.Stages.{HasUnits, IsAdvanced, IsOverdrawn, IsR
 use crate::gives::gives_of;
 use crate::lending::{claim, lend};
 use crate::needs::{Need, Units, need_of};
+use crate::shelf::Shelf;
 use crate::values::value_of;
 use join_tables::{
-    Admitted, Collected, Collecting, Fresh, Gave, NetTable, Owing, Running, Spent, StartTicket,
-    Turn, UnitTake,
+    Admitted, Collected, Collecting, Fresh, Gave, NetTable, Opening, Owing, Running, Spent,
+    StartTicket, Turn, UnitTake,
 };
 use journal_rules::{DropWhy, Why};
 use outside_io::NoMemory;
@@ -75,6 +76,33 @@ pub(crate) struct Steps {
 }
 
 impl Steps {
+    /// A table of a net, and a shelf with its first releases.
+    pub(crate) fn opened(
+        alloc: Global,
+        net: &Arc<Net>,
+        limit: u64,
+        endings: Endings,
+    ) -> Result<(Steps, Shelf), NoMemory>
+        requires { limit ≤ 2097153 }
+        ensures { IfOk result (λ r. r.1 ≡ r.0.table.table) }
+    {
+        let net = Arc::try_clone(net)?;
+        let opening = NetTable::new(alloc, Arc::try_clone(&net)?, limit)?;
+        let Opening {
+            table,
+            fresh,
+            keeper,
+        } = opening;
+        let shelf = Shelf::new(alloc, keeper, fresh);
+        let steps = Steps {
+            alloc,
+            table,
+            net,
+            endings,
+        };
+        Ok((steps, shelf))
+    }
+
     /// A step of a turn. It is `None` where an allocation failed, or the task is of no kind that these runs know. One that
     /// owes nothing stays as it is.
     pub(crate) fn advance(&self, stage: Stage) -> Option<Advanced>
@@ -212,10 +240,7 @@ impl Steps {
         let gives = place < self.endings.gives_before;
         let edges = gives_of(self.alloc, &self.net, running.task(), gives).ok()??;
         let value = value_of(self.alloc, &running).ok()?;
-        Some(Stage::Owing(
-            self.table.end(running, edges, value, false),
-            units,
-        ))
+        Some(Stage::Owing(self.table.end(running, edges, value, false), units))
     }
 
     // Gives back a unit that an end owes, or gives the next edge.

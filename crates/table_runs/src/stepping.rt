@@ -1,15 +1,14 @@
-// Threads that step a table over one list.
-ghost use Rattle.std.specs.Prelude.{◌≡◌, ◌≤◌, IfSome};
-ghost use Rattle.std.specs.Arc.{arc_value};
-ghost use Rattle.keyed_lock.specs.Locks.{made_with};
-ghost use Rattle.table_runs.specs.Items.{IsItem, IsNext, Waits};
+// Threads that step a table together.
+ghost use Rattle.std.specs.Prelude.{◌≡◌, ◌≤◌};
+ghost use Rattle.join_tables.specs.States.{TableState};
+ghost use Rattle.table_runs.specs.Items.{IsItem, IsNext, IsStepped, Waits};
 ghost use Rattle.table_runs.specs.Stages.{IsStage};
 
-use crate::shelf::{Item, Next, Shelf};
+use crate::shared::Shared;
+use crate::shelf::{Item, Next};
 use crate::stages::{Advanced, Endings, Stage, Steps};
-use join_tables::{NetTable, Opening, Turn};
+use join_tables::Turn;
 use journal_rules::Journal;
-use keyed_lock::{Held, KeyedLock};
 use outside_io::NoMemory;
 use std::alloc::Global;
 use std::sync::{Arc, Wait};
@@ -22,17 +21,30 @@ pub struct Ran {
     pub journal: Journal,
 }
 
-/// What several threads do at once until a run is over.
-pub(crate) trait Crew: Sync {
-    fn work<R: Wait>(&self, rt: &R);
+/// A table, and what its threads share besides.
+pub(crate) trait Board: Sync {
+    ghost table: { Self → TableState };
+
+    /// The steps of its turns.
+    fn steps(&self) -> &Steps
+        ensures { result.now.table ≡ table self.now };
+
+    /// What a thread does next.
+    fn take<R: Wait>(&self, rt: &R) -> Next
+        ensures { IsNext (table self.now).table result };
+
+    /// Hands something in.
+    fn put<R: Wait>(&self, rt: &R, item: Item)
+        requires { IsItem (table self.now).table item };
 }
 
-/// A table, and what its threads share besides.
+/// Where a turn is after a step of a thread.
 #[derive(Drop)]
-pub(crate) struct Shared {
-    pub(crate) steps: Steps,
-    lock: KeyedLock<Shelf>,
-    ghost same_table: { made_with lock ≡ steps.table.table },
+pub(crate) enum Stepped {
+    /// It goes on.
+    Goes(Stage),
+    /// The thread has handed it in.
+    HandedIn,
 }
 
 /// The run of a net with this limit of starts, by so many threads, where the starts at the first so many places of the
@@ -60,11 +72,11 @@ pub fn run_by<R: Threads + Wait + Sync>(
     }
 }
 
-/// Works with so many threads.
-pub(crate) fn work_together<C: Crew, R: Threads + Wait + Sync>(
+/// Steps a table by so many threads until its run is over.
+pub(crate) fn work_together<B: Board, R: Threads + Wait + Sync>(
     rt: &R,
     alloc: Global,
-    crew: &C,
+    board: &B,
     threads: usize,
 ) -> Result<(), NoMemory> {
     let mut hands = Vec::with_capacity(alloc, threads)?;
@@ -76,125 +88,75 @@ pub(crate) fn work_together<C: Crew, R: Threads + Wait + Sync>(
         rt,
         &mut hands,
         count,
-        &|_, _: &mut usize| { crew.work(rt) },
+        &|_, _: &mut usize| { work(rt, board) },
     );
     Ok(())
 }
 
-impl Crew for Shared {
-    fn work<R: Wait>(&self, rt: &R) {
-        for _ in rt.forever() {
-            let lacking = match self.take(rt) {
-                Next::Released(fresh) => self.run(rt, Stage::Released(fresh)),
-                Next::Lacking(turn) => self.go_on(rt, turn),
-                Next::Look => {
-                    yield_now();
-                    None
-                }
-                Next::Leave => return,
-            };
-            if let Some(turn) = lacking {
-                self.put(rt, Item::Lacking(turn));
-            }
+// Takes turns until the run is over.
+fn work<B: Board, R: Wait>(rt: &R, board: &B) {
+    for _ in rt.forever() {
+        match board.take(rt) {
+            Next::Released(fresh) => run(rt, board, Stage::Released(fresh)),
+            Next::Lacking(turn) => go_on(rt, board, turn),
+            Next::Look => yield_now(),
+            Next::Leave => return,
         }
     }
 }
 
-impl Shared {
-    /// A table of a net, with its first releases on the shelf.
-    pub(crate) fn new(
-        alloc: Global,
-        net: &Arc<Net>,
-        limit: u64,
-        endings: Endings,
-    ) -> Result<Shared, NoMemory>
-        requires { limit ≤ 2097153 }
-    {
-        let opening = NetTable::new(alloc, Arc::try_clone(net)?, limit)?;
-        let Opening {
-            table,
-            fresh,
-            keeper,
-        } = opening;
-        let lock = KeyedLock::new(alloc, Shelf::new(alloc, keeper, fresh))?;
-        let net = Arc::try_clone(net)?;
-        Ok(Shared {
-            steps: Steps {
-                alloc,
-                table,
-                net,
-                endings,
-            },
-            lock,
-        })
+// Goes on with a turn that has found no unit.
+fn go_on<B: Board, R: Wait>(rt: &R, board: &B, turn: Turn<u64>)
+    requires { Waits (B.table board.now).table turn }
+{
+    match board.steps().collected(turn) {
+        Some(stage) => run(rt, board, stage),
+        None => board.put(rt, Item::Stop),
     }
+}
 
-    /// The shelf at the end of a run.
-    pub(crate) fn into_shelf<R: Wait>(self, rt: &R) -> Shelf {
-        let Held { value, .. } = self.lock.take(rt);
-        value
+// Takes a turn to its end, or to where it finds no unit.
+fn run<B: Board, R: Wait>(rt: &R, board: &B, stage: Stage)
+    requires { IsStage (B.table board.now) stage }
+{
+    let mut stage = stage;
+    for _ in rt.forever() {
+        stage = match step(rt, board, stage) {
+            Stepped::Goes(stage) => stage,
+            Stepped::HandedIn => return,
+        };
     }
+}
 
-    /// Takes a turn to its end, or to where it finds no unit: that turn, if it does.
-    pub(crate) fn run<R: Wait>(&self, rt: &R, stage: Stage) -> Option<Turn<u64>>
-        requires { IsStage self.now.steps.table stage }
-        ensures { IfSome result (Waits self.now.steps.table.table) }
-    {
-        let mut stage = stage;
-        for _ in rt.forever() {
-            let Some(Advanced {
-                stage: next,
-                released,
-            }) = self.steps.advance(stage)
-            else {
-                self.put(rt, Item::Stop);
-                return None;
-            };
+// A step of a turn. A release that it makes is handed in at once.
+fn step<B: Board, R: Wait>(rt: &R, board: &B, stage: Stage) -> Stepped
+    requires { IsStage (B.table board.now) stage }
+    ensures { IsStepped (B.table board.now) result }
+{
+    match board.steps().advance(stage) {
+        Some(Advanced { stage, released }) => {
             if let Some(fresh) = released {
-                self.put(rt, Item::Released(fresh));
+                board.put(rt, Item::Released(fresh));
             }
-            stage = match next {
-                Stage::Lacking(turn, _) => return Some(turn),
-                Stage::Spent(spent) => {
-                    self.put(rt, Item::Spent(spent));
-                    return None;
-                }
-                next => next,
-            };
+            hand_in(rt, board, stage)
         }
-        None
-    }
-
-    /// Goes on with a turn that has found no unit.
-    pub(crate) fn go_on<R: Wait>(&self, rt: &R, turn: Turn<u64>) -> Option<Turn<u64>>
-        requires { Waits self.now.steps.table.table turn }
-        ensures { IfSome result (Waits self.now.steps.table.table) }
-    {
-        match self.steps.collected(turn) {
-            Some(stage) => self.run(rt, stage),
-            None => {
-                self.put(rt, Item::Stop);
-                None
-            }
+        None => {
+            board.put(rt, Item::Stop);
+            Stepped::HandedIn
         }
     }
+}
 
-    /// What a thread does next.
-    pub(crate) fn take<R: Wait>(&self, rt: &R) -> Next
-        ensures { IsNext self.now.steps.table.table result }
-    {
-        let Held { mut value, pass } = self.lock.take(rt);
-        let next = value.take();
-        self.lock.put(Held { value, pass });
-        next
-    }
-
-    /// Hands something in.
-    pub(crate) fn put<R: Wait>(&self, rt: &R, item: Item)
-        requires { IsItem self.now.steps.table.table item }
-    {
-        let Held { mut value, pass } = self.lock.take(rt);
-        value.put(&self.steps.table, item);
-        self.lock.put(Held { value, pass });
-    }
+// Hands in a turn that is done, or that found no unit.
+fn hand_in<B: Board, R: Wait>(rt: &R, board: &B, stage: Stage) -> Stepped
+    requires { IsStage (B.table board.now) stage }
+    ensures { IsStepped (B.table board.now) result }
+{
+    let item = match stage {
+        Stage::Lacking(turn, _) => Item::Lacking(turn),
+        Stage::Spent(spent) => Item::Spent(spent),
+        stage => return Stepped::Goes(stage),
+    };
+    board.put(rt, item);
+    Stepped::HandedIn
 }
