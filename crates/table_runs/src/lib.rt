@@ -3,13 +3,29 @@
 #![tactic(auto)]
 
 mod gives;
+#[cfg(test)]
+mod inputs;
+#[cfg(test)]
+mod judging;
 mod lending;
 mod needs;
+#[cfg(test)]
+mod nets;
+#[cfg(test)]
+mod orders;
+#[cfg(test)]
+mod parking;
+#[cfg(test)]
+mod rests;
 mod shared;
 mod shelf;
 mod stages;
 mod stepping;
+#[cfg(test)]
+mod threads;
 mod values;
+#[cfg(test)]
+mod walks;
 
 pub use gives::all_edges;
 pub use needs::needs_none;
