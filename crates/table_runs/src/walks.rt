@@ -117,17 +117,17 @@ impl Walk {
             idle: None,
         };
         for _ in 0..net.tasks().len() {
-            walk.take_up()?;
+            walk.take_up().ok_or(NoMemory)?;
         }
         Ok(walk)
     }
 
     // Takes the next release from the shelf, if there is one.
-    fn take_up(&mut self) -> Result<(), NoMemory> {
+    fn take_up(&mut self) -> Option<()> {
         if let Next::Released(fresh) = self.shelf.take() {
-            self.turns.push(Some(Stage::Released(fresh)))?;
+            self.add(Stage::Released(fresh))?;
         }
-        Ok(())
+        Some(())
     }
 
     /// Makes a move. It is `None` where that can't be made.
@@ -145,9 +145,9 @@ impl Walk {
         self.shelf
     }
 
-    // A turn takes a step, and then the keeper takes it in if it is done.
+    // A turn takes a step, or the keeper takes it in if it is done.
     fn step(&mut self, number: usize) -> Option<Reached> {
-        match self.turns.get_mut(number)?.take()? {
+        match self.turn(number)? {
             Stage::Spent(spent) => Some(self.absorb(spent)),
             stage => self.advance(number, stage),
         }
@@ -157,12 +157,38 @@ impl Walk {
         requires { IsStage self.old stage }
     {
         let Advanced { stage, released } = self.steps.advance(stage)?;
-        let mut reached = name_of(&stage);
-        *self.turns.get_mut(number)? = Some(stage);
-        if let Some(fresh) = released {
-            reached = Reached::Released(fresh.task());
-            self.turns.push(Some(Stage::Released(fresh))).ok()?;
+        let reached = name_of(&stage);
+        self.put(number, stage)?;
+        match released {
+            Some(fresh) => self.add(Stage::Released(fresh)),
+            None => Some(reached),
         }
+    }
+
+    // Takes a turn out.
+    fn turn(&mut self, number: usize) -> Option<Stage>
+        ensures same { self.new ≡ self.old }
+        ensures stage { IfSome result (IsStage self.old) }
+    {
+        self.turns.get_mut(number)?.take()
+    }
+
+    // And puts it back.
+    fn put(&mut self, number: usize, stage: Stage) -> Option<()>
+        requires { IsStage self.old stage }
+        ensures { self.new ≡ self.old }
+    {
+        *self.turns.get_mut(number)? = Some(stage);
+        Some(())
+    }
+
+    // Adds a turn: what it has reached.
+    fn add(&mut self, stage: Stage) -> Option<Reached>
+        requires { IsStage self.old stage }
+        ensures { self.new ≡ self.old }
+    {
+        let reached = name_of(&stage);
+        self.turns.push(Some(stage)).ok()?;
         Some(reached)
     }
 
@@ -178,25 +204,16 @@ impl Walk {
 
     // A turn that found no unit is parked.
     fn park(&mut self, number: usize) -> Option<Reached> {
+        let Stage::Lacking(turn, _) = self.turn(number)? else {
+            return None;
+        };
         let rest = self.open_rest()?;
-        match self.turns.get_mut(number)?.take()? {
-            Stage::Lacking(turn, _) if rest.len() < rest.room() => {
-                self.rest = Some(self.steps.table.rest_add(rest, turn));
-                Some(Reached::Parked)
-            }
-            _ => None,
-        }
-    }
-
-    // The rest, where it isn't known to be alone.
-    fn open_rest(&mut self) -> Option<Rest<u64>>
-        ensures same { self.new ≡ self.old }
-        ensures rest { IfSome result (IsOpen self.old) }
-    {
-        if self.idle.is_some() {
+        if rest.len() >= rest.room() {
             return None;
         }
-        self.rest.take()
+        let rest = self.steps.table.rest_add(rest, turn);
+        self.open(rest);
+        Some(Reached::Parked)
     }
 
     // The rest hands out its last turn.
@@ -206,24 +223,44 @@ impl Walk {
             return None;
         }
         let (rest, turn) = self.steps.table.rest_pop(rest);
+        self.open(rest);
         let task = turn.task();
         let stage = self.steps.collected(turn)?;
-        self.rest = Some(rest);
-        self.turns.push(Some(stage)).ok()?;
+        self.add(stage)?;
         Some(Reached::Served(task))
+    }
+
+    // The rest, where it isn't known to be alone.
+    fn open_rest(&mut self) -> Option<Rest<u64>>
+        ensures same { self.new ≡ self.old }
+        ensures rest { IfSome result (IsOpen self.old) }
+    {
+        match self.idle {
+            Some(_) => None,
+            None => self.rest.take(),
+        }
+    }
+
+    // A rest may take turns in.
+    fn open(&mut self, rest: Rest<u64>)
+        requires { IsOpen self.old rest }
+        ensures { self.new ≡ self.old }
+    {
+        self.rest = Some(rest);
+        self.idle = None;
     }
 
     fn look(&mut self) -> Option<Reached> {
         if self.idle.is_some() {
             return self.drop_one();
         }
-        let rest = self.rest.take()?;
+        let rest = self.open_rest()?;
         if rest.len() == 0 || self.steps.net.sems().is_empty() {
             return None;
         }
         match self.steps.table.rest_check(rest) {
             Checked::Busy(rest, live) => {
-                self.rest = Some(rest);
+                self.open(rest);
                 Some(Reached::Busy(live))
             }
             Checked::Alone(rest, false) => self.look_for_unit(rest),
