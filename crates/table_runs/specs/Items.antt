@@ -1,14 +1,11 @@
 -- What threads hand to one another over the shelf of a table.
 use Rattle.std.specs.Prelude.{◌≡◌, None, []}
 use Rattle.atomic_table.specs.Seated.{TableId}
-use Rattle.join_tables.specs.States.{TableState, TurnState}
-use Rattle.table_runs.specs.Stages.{IsStage}
+use Rattle.join_tables.specs.States.{TurnState}
 use Rattle.table_runs.specs.declared.shelf.Item.{Item}
 use Rattle.table_runs.specs.declared.shelf.Item.TheVariants as item
 use Rattle.table_runs.specs.declared.shelf.Next.{Next}
 use Rattle.table_runs.specs.declared.shelf.Next.TheVariants as next
-use Rattle.table_runs.specs.declared.stepping.Stepped.{Stepped}
-use Rattle.table_runs.specs.declared.stepping.Stepped.TheVariants as stepped
 
 -- a turn of this table that wasn't refused and holds no unit
 abbrev pub Waits : TableId → TurnState → Type 0
@@ -27,8 +24,3 @@ IsNext n (next.Released fresh) = fresh.table ≡ n
 IsNext n (next.Lacking turn) = Waits n turn
 IsNext n next.Look = Unit {0}
 IsNext n next.Leave = Unit {0}
-
--- a turn that goes on is of this table
-abbrev pub IsStepped : TableState → Stepped → Type 0
-IsStepped t (stepped.Goes stage) = IsStage t stage
-IsStepped t stepped.HandedIn = Unit {0}

@@ -46,7 +46,7 @@ Owes t owing units = (owing.table ≡ t.table) × (owing.units ≡ list_of units
 -- a turn is of a table, and of its net
 abbrev pub IsStage : TableState → Stage → Type 0
 IsStage t (stage.Released fresh) = fresh.table ≡ t.table
-IsStage t (stage.Collecting collecting) = collecting.table ≡ t.table
+IsStage t (stage.Collecting collecting need) = (collecting.table ≡ t.table) × HasNeed t.net collecting.task need
 IsStage t (stage.Needing turn need) = Lacks t turn need
 IsStage t (stage.Lacking turn need) = Lacks t turn need
 IsStage t (stage.Half turn) = HasUnits t turn (0 ∷ []) × HasNeed t.net turn.task Hold
@@ -57,6 +57,7 @@ IsStage t (stage.Running running units) = MayEnd t running units
 IsStage t (stage.Overdrawn running) = IsOverdrawn t running
 IsStage t (stage.Owing owing units) = Owes t owing units
 IsStage t (stage.Spent spent) = spent.table ≡ t.table
+IsStage t stage.Lost = Unit {0}
 
 -- and so is a release that a step made
 abbrev pub IsAdvanced : TableState → Advanced → Type 0

@@ -21,6 +21,7 @@ mod shared;
 mod shelf;
 mod stages;
 mod stepping;
+mod steps;
 #[cfg(test)]
 mod threads;
 mod values;

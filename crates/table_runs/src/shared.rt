@@ -3,8 +3,8 @@ ghost use Rattle.std.specs.Prelude.{◌≡◌, ◌≤◌};
 ghost use Rattle.keyed_lock.specs.Locks.{made_with};
 
 use crate::shelf::{Item, Next, Shelf};
-use crate::stages::{Endings, Steps};
 use crate::stepping::Board;
+use crate::steps::{Endings, Steps};
 use join_tables::{NetTable, Opening};
 use keyed_lock::{Held, KeyedLock};
 use outside_io::NoMemory;

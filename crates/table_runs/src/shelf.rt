@@ -10,7 +10,6 @@ use std::alloc::Global;
 use std::marker::Model;
 
 /// The releases that no thread has taken, the turns that found no unit, and the keeper of the run.
-#[derive(Drop)]
 pub(crate) struct Shelf {
     keeper: Keeper<u64>,
     fresh: Vec<Fresh<u64>>,
@@ -31,6 +30,19 @@ impl Model for Shelf {
     ghost view = { λ shelf. shelf.keeper.table };
 
     ghost invariant = { λ shelf. All (λ (f : FreshState). f.table ≡ shelf.keeper.table) shelf.fresh.items × All (Waits shelf.keeper.table) shelf.lacking.items × (shelf.is_whole ≡ true → TellsSomeRun shelf.keeper.entries) };
+}
+
+impl Drop for Shelf {
+    fn drop(self) {
+        let Shelf {
+            keeper,
+            fresh,
+            lacking,
+            is_over: _,
+            is_whole: _,
+        } = self;
+        drop((keeper, fresh, lacking));
+    }
 }
 
 impl Keyed for Shelf {
@@ -142,12 +154,16 @@ impl Shelf {
     pub(crate) fn journal(self) -> Result<Option<Journal>, NoMemory> {
         let Shelf {
             keeper,
+            fresh,
+            lacking,
+            is_over: _,
             is_whole,
-            ..
         } = self;
+        drop((fresh, lacking));
         if is_whole {
             Ok(Some(keeper.journal()?))
         } else {
+            drop(keeper);
             Ok(None)
         }
     }

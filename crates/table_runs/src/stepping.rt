@@ -1,12 +1,13 @@
 // Threads that step a table together.
 ghost use Rattle.std.specs.Prelude.{◌≡◌, ◌≤◌};
 ghost use Rattle.join_tables.specs.States.{TableState};
-ghost use Rattle.table_runs.specs.Items.{IsItem, IsNext, IsStepped, Waits};
+ghost use Rattle.table_runs.specs.Items.{IsItem, IsNext, Waits};
 ghost use Rattle.table_runs.specs.Stages.{IsStage};
 
 use crate::shared::Shared;
 use crate::shelf::{Item, Next};
-use crate::stages::{Advanced, Endings, Stage, Steps};
+use crate::stages::Stage;
+use crate::steps::{Endings, Steps};
 use join_tables::Turn;
 use journal_rules::Journal;
 use outside_io::NoMemory;
@@ -38,15 +39,6 @@ pub(crate) trait Board: Sync {
         requires { IsItem (table self.now).table item };
 }
 
-/// Where a turn is after a step of a thread.
-#[derive(Drop)]
-pub(crate) enum Stepped {
-    /// It goes on.
-    Goes(Stage),
-    /// The thread has handed it in.
-    HandedIn,
-}
-
 /// The run of a net with this limit of starts, by so many threads, where the starts at the first so many places of the
 /// journal give their edges. Its tasks need no unit, or one of each of semaphores 0 and 1, or one of semaphore 0 that others
 /// give back, or give back one. It is `None` where the run isn't finished, since an allocation failed.
@@ -62,7 +54,7 @@ pub fn run_by<R: Threads + Wait + Sync>(
 {
     let endings = Endings {
         gives_before: gives,
-        fault_at: None,
+        first_faults: false,
     };
     let shared = Shared::new(alloc, net, limit, endings)?;
     work_together(rt, alloc, &shared, threads)?;
@@ -109,10 +101,7 @@ fn work<B: Board, R: Wait>(rt: &R, board: &B) {
 fn go_on<B: Board, R: Wait>(rt: &R, board: &B, turn: Turn<u64>)
     requires { Waits (B.table board.now).table turn }
 {
-    match board.steps().collected(turn) {
-        Some(stage) => run(rt, board, stage),
-        None => board.put(rt, Item::Stop),
-    }
+    run(rt, board, board.steps().collected(turn));
 }
 
 // Takes a turn to its end, or to where it finds no unit.
@@ -121,42 +110,9 @@ fn run<B: Board, R: Wait>(rt: &R, board: &B, stage: Stage)
 {
     let mut stage = stage;
     for _ in rt.forever() {
-        stage = match step(rt, board, stage) {
-            Stepped::Goes(stage) => stage,
-            Stepped::HandedIn => return,
-        };
-    }
-}
-
-// A step of a turn. A release that it makes is handed in at once.
-fn step<B: Board, R: Wait>(rt: &R, board: &B, stage: Stage) -> Stepped
-    requires { IsStage (B.table board.now) stage }
-    ensures { IsStepped (B.table board.now) result }
-{
-    match board.steps().advance(stage) {
-        Some(Advanced { stage, released }) => {
-            if let Some(fresh) = released {
-                board.put(rt, Item::Released(fresh));
-            }
-            hand_in(rt, board, stage)
-        }
-        None => {
-            board.put(rt, Item::Stop);
-            Stepped::HandedIn
+        match stage.step(rt, board) {
+            Some(next) => stage = next,
+            None => return,
         }
     }
-}
-
-// Hands in a turn that is done, or that found no unit.
-fn hand_in<B: Board, R: Wait>(rt: &R, board: &B, stage: Stage) -> Stepped
-    requires { IsStage (B.table board.now) stage }
-    ensures { IsStepped (B.table board.now) result }
-{
-    let item = match stage {
-        Stage::Lacking(turn, _) => Item::Lacking(turn),
-        Stage::Spent(spent) => Item::Spent(spent),
-        stage => return Stepped::Goes(stage),
-    };
-    board.put(rt, item);
-    Stepped::HandedIn
 }
