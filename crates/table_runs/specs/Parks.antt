@@ -9,20 +9,15 @@ use Rattle.join_tables.specs.declared.rests.RestDrop.{RestDrop}
 use Rattle.join_tables.specs.declared.rests.RestDrop.TheVariants as drop
 use Rattle.table_steps.specs.Giving.{times}
 
--- a rest may take in turns of this table
-abbrev pub IsOpen : TableState → RestState → Type 0
-IsOpen t rest = IsOfTable t.table rest.table × (rest.dropped ≡ []) × (rest.alone ≡ None)
+-- a rest that has taken no turn in
+abbrev pub IsUnused : RestState → Type 0
+IsUnused rest = (rest.table ≡ None) × (rest.dropped ≡ []) × (rest.alone ≡ None)
 
 -- a rest is alone, and its turns may be dropped for this reason if their tasks take semaphore 0
 abbrev pub IsIdle : TableState → RestState → DropWhy → Type 0
 IsIdle t rest why.Halted = IsOfTable t.table rest.table × (rest.alone ≡ Some true)
 IsIdle t rest (why.Stuck sem) = IsOfTable t.table rest.table × (rest.alone ≡ Some false) × (1 ≤ times sem rest.full) × (sem ≡ 0)
 IsIdle t rest why.Limit = ⊥
-
--- it takes turns in, or drops them
-abbrev pub AreParked : TableState → RestState → Option DropWhy → Type 0
-AreParked t rest None = IsOpen t rest
-AreParked t rest (Some why) = IsIdle t rest why
 
 -- what is left of it after a drop
 abbrev pub IsLeft : TableState → DropWhy → RestDrop ℕ → Type 0

@@ -1,6 +1,6 @@
 // What the tests ask of a run: that its journal is judged complete, and that inputs are the values of their Ends.
 use crate::shelf::Shelf;
-use crate::stages::Endings;
+use crate::steps::Endings;
 use join_tables::{Keeper, Recorded, RecordedInputs, RecordedValue};
 use join_words::{Given, Ins};
 use journal_rules::{DropWhy, Entry, Journal, Why};
@@ -16,11 +16,11 @@ pub(crate) const MANY: u64 = 10_000;
 /// All starts give their edges.
 pub(crate) const GIVE_ALL: Endings = Endings {
     gives_before: MANY,
-    fault_at: None,
+    first_faults: false,
 };
 
 /// What comes of a run.
-#[derive(Clone, Copy, Debug)]
+#[derive(Clone, Copy)]
 pub(crate) enum Outcome {
     /// All that is released starts and ends.
     Ends,
@@ -37,7 +37,7 @@ pub(crate) enum Outcome {
 }
 
 /// How many entries of each kind a journal has.
-#[derive(Clone, Copy, Debug)]
+#[derive(Clone, Copy)]
 pub(crate) struct Counts {
     starts: u64,
     ends: u64,
@@ -143,7 +143,7 @@ pub(crate) fn judged(
         (inputs as u64, values as u64),
         (counts.starts, counts.ends)
     );
-    assert!(rt; counts.are(outcome), "{counts:?}, not {outcome:?}");
+    assert!(rt; counts.are(outcome), "another outcome");
     Ok(journal)
 }
 

@@ -15,8 +15,6 @@ mod nets;
 mod orders;
 #[cfg(test)]
 mod parking;
-#[cfg(test)]
-mod rests;
 mod shared;
 mod shelf;
 mod stages;
@@ -27,6 +25,8 @@ mod threads;
 mod values;
 #[cfg(test)]
 mod walks;
+#[cfg(test)]
+mod yard;
 
 pub use gives::all_edges;
 pub use needs::needs_none;

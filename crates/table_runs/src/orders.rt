@@ -1,17 +1,17 @@
 // The written orders of runs by one thread.
 use crate::judging::{GIVE_ALL, MANY, Outcome, judged};
 use crate::nets::{CROSSWISE, HOARDED, NetCase, OVER, TWO_RINGS};
-use crate::stages::Endings;
-use crate::walks::Move::{HandOut, Look, Park, Step};
+use crate::steps::Endings;
+use crate::walks::Move::{HandOut, Park, Step};
 use crate::walks::Reached::{
-    Absorbed, Admitted, Busy, Collecting, Dropped, Finished, Half, Idle, Lacking, Needing,
-    Overdrawn, Owing, Parked, Ready, Refused, Released, Running, Served, Spent,
+    Admitted, Collecting, Half, HandedIn, Lacking, Needing, Over, Overdrawn, Owing, Ready, Refused,
+    Released, Running, Spent,
 };
 use crate::walks::{Move, Reached, Walk};
 use slow_verdicts::meets_data_rule;
 use std::alloc::Global;
 use std::process::Abort;
-use std::sync::Arc;
+use std::sync::{Arc, Wait};
 use std::test::Fail;
 
 /// A run by one thread: its moves, each made as often as it leads to something, and what comes of it.
@@ -31,7 +31,7 @@ struct Order {
 const TAKEN_UP: &[Reached] = &[Collecting, Ready, Admitted];
 
 // It is taken up and refused.
-const REFUSED: &[Reached] = &[Collecting, Ready, Refused, Spent, Absorbed];
+const REFUSED: &[Reached] = &[Collecting, Ready, Refused, Spent, HandedIn(0)];
 
 // It is taken up and takes the one unit that it needs.
 const BORROWS: &[Reached] = &[Collecting, Needing, Ready, Admitted];
@@ -40,18 +40,25 @@ const BORROWS: &[Reached] = &[Collecting, Needing, Ready, Admitted];
 const FINDS_NONE: &[Reached] = &[Collecting, Needing, Lacking];
 
 // A task that owes nothing starts and ends.
-const RUNS: &[Reached] = &[Running, Owing, Spent, Absorbed];
+const RUNS: &[Reached] = &[Running, Owing, Spent, HandedIn(0)];
 
 // A task gives back a unit that isn't out.
-const OVER_RELEASES: &[Reached] = &[Overdrawn, Spent, Absorbed];
+const OVER_RELEASES: &[Reached] = &[Overdrawn, Spent, HandedIn(0)];
 
 // A task of a ring gives its first edge, which releases nothing, and then its own, which releases it again.
-const LAP_OF_0: &[Reached] = &[Running, Owing, Owing, Released(0), Spent, Absorbed];
+const LAP_OF_0: &[Reached] = &[Running, Owing, Owing, Released(0), Spent, HandedIn(0)];
 
-const LAP_OF_1: &[Reached] = &[Running, Owing, Owing, Released(1), Spent, Absorbed];
+const LAP_OF_1: &[Reached] = &[Running, Owing, Owing, Released(1), Spent, HandedIn(0)];
 
 // Its first edge releases the task that both rings feed.
-const FEEDING_LAP_OF_1: &[Reached] = &[Running, Owing, Released(2), Released(1), Spent, Absorbed];
+const FEEDING_LAP_OF_1: &[Reached] = &[
+    Running,
+    Owing,
+    Released(2),
+    Released(1),
+    Spent,
+    HandedIn(0),
+];
 
 // The turns of the rings are first 1 and 0, then 2 and 4, then 5 and 6. The task that they feed has turn 3, which is taken up
 // before the second round of its tokens comes, and finds it: the task is released again, to turn 7.
@@ -61,7 +68,7 @@ const RINGS_MEET: Order = Order {
     limit: 10,
     endings: Endings {
         gives_before: 8,
-        fault_at: None,
+        first_faults: false,
     },
     moves: &[
         (Step(1), TAKEN_UP),
@@ -80,7 +87,7 @@ const RINGS_MEET: Order = Order {
         (Step(5), TAKEN_UP),
         (Step(5), RUNS),
         (Step(6), TAKEN_UP),
-        (Step(6), &[Running, Owing, Spent, Finished]),
+        (Step(6), &[Running, Owing, Spent, Over]),
     ],
     outcome: Outcome::EndsAll(8),
     entries: 16,
@@ -100,7 +107,7 @@ const RINGS_STOP_AT_THE_LIMIT: Order = Order {
         (Step(3), &[Collecting, Collecting, Ready, Admitted]),
         (Step(3), RUNS),
         (Step(2), REFUSED),
-        (Step(4), &[Collecting, Ready, Refused, Spent, Finished]),
+        (Step(4), &[Collecting, Ready, Refused, Spent, Over]),
     ],
     outcome: Outcome::Limit(3),
     entries: 8,
@@ -113,12 +120,12 @@ const RINGS_HALT: Order = Order {
     limit: 10,
     endings: Endings {
         gives_before: 10,
-        fault_at: Some(0),
+        first_faults: true,
     },
     moves: &[
         (Step(1), TAKEN_UP),
-        (Step(1), &[Running, Spent, Absorbed]),
-        (Step(0), &[Collecting, Ready, Refused, Spent, Finished]),
+        (Step(1), &[Running, Spent, HandedIn(0)]),
+        (Step(0), &[Collecting, Ready, Refused, Spent, Over]),
     ],
     outcome: Outcome::Halted(1),
     entries: 3,
@@ -138,9 +145,9 @@ const UNITS_CROSS: Order = Order {
         (Step(1), &[Lacking]),
         (Step(0), &[Owing]),
         (Step(1), &[Half, Lacking]),
-        (Step(0), &[Owing, Spent, Absorbed]),
+        (Step(0), &[Owing, Spent, HandedIn(0)]),
         (Step(1), &[Half, Ready, Admitted, Running]),
-        (Step(1), &[Owing, Owing, Owing, Spent, Finished]),
+        (Step(1), &[Owing, Owing, Owing, Spent, Over]),
     ],
     outcome: Outcome::EndsAll(2),
     entries: 4,
@@ -156,10 +163,10 @@ const A_CREDIT_IS_CLAIMED_ONCE: Order = Order {
         (Step(2), BORROWS),
         (Step(2), &[Running]),
         (Step(1), TAKEN_UP),
-        (Step(1), &[Running, Owing, Owing, Spent, Absorbed]),
+        (Step(1), &[Running, Owing, Owing, Spent, HandedIn(0)]),
         (Step(0), TAKEN_UP),
         (Step(0), OVER_RELEASES),
-        (Step(2), &[Owing, Spent, Finished]),
+        (Step(2), &[Owing, Spent, Over]),
     ],
     outcome: Outcome::OverReleases,
     entries: 6,
@@ -177,7 +184,7 @@ const A_CLAIM_BEFORE_THE_CREDIT_IS_REFUSED: Order = Order {
         (Step(0), TAKEN_UP),
         (Step(0), OVER_RELEASES),
         (Step(2), RUNS),
-        (Step(1), &[Running, Owing, Owing, Spent, Finished]),
+        (Step(1), &[Running, Owing, Owing, Spent, Over]),
     ],
     outcome: Outcome::OverReleases,
     entries: 6,
@@ -194,15 +201,13 @@ const TWO_TURNS_ARE_STUCK: Order = Order {
         (Step(2), BORROWS),
         (Step(2), &[Running]),
         (Step(1), FINDS_NONE),
-        (Park(1), &[Parked]),
+        (Park(1), &[HandedIn(1)]),
         (Step(0), FINDS_NONE),
-        (Park(0), &[Parked]),
-        (Look, &[Busy(3)]),
-        (HandOut, &[Served(2)]),
+        (Park(0), &[HandedIn(2)]),
+        (HandOut, &[Needing]),
         (Step(3), &[Lacking]),
-        (Park(3), &[Parked]),
-        (Step(2), &[Owing, Spent, Absorbed]),
-        (Look, &[Idle, Dropped, Finished]),
+        (Park(3), &[HandedIn(2)]),
+        (Step(2), &[Owing, Spent, Over]),
     ],
     outcome: Outcome::Stuck(1, 2),
     entries: 4,
@@ -219,33 +224,23 @@ const ORDERS: [Order; 7] = [
 ];
 
 // Makes a move as often as it is to lead to something.
-fn make(rt: &impl Abort, walk: &mut Walk, next: Move, expected: &[Reached]) {
+fn make<R: Wait + Abort>(rt: &R, walk: &mut Walk, next: Move, expected: &[Reached], name: &str) {
     for reached in expected {
-        assert_eq!(rt; walk.make(next), Some(*reached), "after {next:?}");
+        assert!(rt; walk.make(rt, next) == *reached, "{name}");
     }
 }
 
 // A run whose moves are made in this order.
-fn walk(rt: &impl Abort, alloc: Global, order: &Order) -> Result<(), Fail> {
+fn walk<R: Wait + Abort>(rt: &R, alloc: Global, order: &Order) -> Result<(), Fail> {
     let net = Arc::new(alloc, order.net.built(alloc)?)?;
-    let mut walk = Walk::new(alloc, &net, order.limit.min(MANY), order.endings)?;
+    let mut walk = Walk::new(rt, alloc, &net, order.limit.min(MANY), order.endings)?;
     for (next, expected) in order.moves {
-        make(rt, &mut walk, *next, expected);
+        make(rt, &mut walk, *next, expected, order.name);
     }
-    let journal = judged(
-        rt,
-        alloc,
-        &net,
-        order.limit,
-        order.outcome,
-        walk.into_shelf(),
-    )?;
-    assert_eq!(rt; journal.len(), order.entries);
-    assert!(rt;
-        meets_data_rule(&net, journal.as_slice()),
-        "in {}",
-        order.name
-    );
+    let shelf = walk.into_parking().into_shelf(rt);
+    let journal = judged(rt, alloc, &net, order.limit, order.outcome, shelf)?;
+    assert_eq!(rt; journal.len(), order.entries, "{}", order.name);
+    assert!(rt; meets_data_rule(&net, journal.as_slice()), "{}", order.name);
     Ok(())
 }
 

@@ -108,8 +108,8 @@ impl Stage {
         stage.hand_in(rt, board)
     }
 
-    // Hands in a turn that is done, or that found no unit or can't go on, and keeps any other.
-    fn hand_in<B: Board, R: Wait>(self, rt: &R, board: &B) -> Option<Stage>
+    /// Hands in a turn that is done, or that found no unit or can't go on, and keeps any other.
+    pub(crate) fn hand_in<B: Board, R: Wait>(self, rt: &R, board: &B) -> Option<Stage>
         requires { IsStage (B.table board.now) self }
         ensures { IfSome result (IsStage (B.table board.now)) }
     {

@@ -5,8 +5,8 @@ use crate::nets::{CROSSED, HUB, KEPT, LENT, LOOP, NetCase, OVER, RING};
 use crate::parking::Parking;
 use crate::shared::Shared;
 use crate::shelf::Shelf;
-use crate::stages::Endings;
 use crate::stepping::work_together;
+use crate::steps::Endings;
 use journal_rules::Journal;
 use outside_io::NoMemory;
 use slow_verdicts::meets_data_rule;
@@ -41,13 +41,13 @@ enum Waits {
 // Some sixty starts give their edges.
 const GIVE_SOME: Endings = Endings {
     gives_before: 120,
-    fault_at: None,
+    first_faults: false,
 };
 
 // The first start faults.
 const FAULT_FIRST: Endings = Endings {
     gives_before: MANY,
-    fault_at: Some(0),
+    first_faults: true,
 };
 
 const A_RING: Case = Case {

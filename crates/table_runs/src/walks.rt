@@ -1,22 +1,21 @@
 // Runs by one thread, whose turns take their steps in a written order.
-ghost use Rattle.std.specs.Prelude.{◌≡◌, ◌<◌, ◌≤◌, IfSome, Some, false, length};
-ghost use Rattle.join_tables.specs.Rests.{IsOfTable};
-ghost use Rattle.table_runs.specs.Parks.{IsOpen};
+ghost use Rattle.std.specs.Prelude.{◌≡◌, ◌≤◌};
 ghost use Rattle.table_runs.specs.Stages.{IsStage};
 
-use crate::rests::drop_last;
-use crate::shelf::{Item, Next, Shelf};
-use crate::stages::{Advanced, Endings, Stage, Steps};
-use join_tables::{Checked, Rest, RestDrop, Spent, UnitLook};
-use journal_rules::DropWhy;
+use crate::parking::Parking;
+use crate::shelf::Next;
+use crate::stages::{Advanced, Stage};
+use crate::stepping::Board;
+use crate::steps::Endings;
 use outside_io::NoMemory;
 use std::alloc::Global;
 use std::marker::Model;
-use std::sync::Arc;
+use std::mem;
+use std::sync::{Arc, Wait};
 use task_graph::Net;
 
 /// What a move led to.
-#[derive(Clone, Copy, PartialEq, Eq, Debug)]
+#[derive(Clone, Copy, PartialEq, Eq)]
 pub(crate) enum Reached {
     /// A turn collects its tokens.
     Collecting,
@@ -42,64 +41,55 @@ pub(crate) enum Reached {
     Released(u32),
     /// It owes nothing.
     Spent,
-    /// The keeper has taken it in, and others live.
-    Absorbed,
-    /// The keeper has taken it in, and the run is over.
-    Finished,
-    /// It is in the rest.
-    Parked,
-    /// So many turns live beside the rest, with its own.
-    Busy(u64),
-    /// The rest has handed a turn of this task out.
-    Served(u32),
-    /// The rest is alone, and its turns are dropped.
-    Idle,
-    /// The rest has dropped a turn, and has another.
-    Dropped,
+    /// It is done or parked, and so many turns are parked.
+    HandedIn(usize),
+    /// The run is over.
+    Over,
+    /// Nothing: there is no such move.
+    Lost,
 }
 
 /// A move of the thread.
-#[derive(Clone, Copy, Debug)]
+#[derive(Clone, Copy)]
 pub(crate) enum Move {
-    /// The turn with this number takes a step.
+    /// The turn with this number takes a step, or is handed in if it is done.
     Step(usize),
-    /// It is parked.
+    /// It is handed in where it found no unit, and is parked.
     Park(usize),
-    /// The rest hands its last turn out.
+    /// The last turn that was parked goes on.
     HandOut,
-    /// The rest is looked at, or drops its last turn once it is known to be alone.
-    Look,
 }
 
 /// The turns of a run, each with a number: first those of the first releases, by falling task, and then each that a step
 /// releases or the rest hands out.
-#[derive(Drop)]
 pub(crate) struct Walk {
-    steps: Steps,
-    shelf: Shelf,
-    turns: Vec<Option<Stage>>,
-    rest: Option<Rest<u64>>,
-    // Why the rest drops its turns, once it is known to be alone.
-    idle: Option<DropWhy>,
+    parking: Parking,
+    turns: Vec<Stage>,
 }
 
 impl Model for Walk {
-    ghost use Rattle.std.specs.Prelude.{◌≡◌, All, IfSome};
-    ghost use Rattle.join_tables.specs.RestStates.{RestState};
+    ghost use Rattle.std.specs.Prelude.{◌≡◌, All};
     ghost use Rattle.join_tables.specs.States.{TableState};
     ghost use Rattle.table_runs.specs.Stages.{IsStage};
-    ghost use Rattle.table_runs.specs.Parks.{AreParked};
 
     ghost Value = { TableState };
 
-    ghost view = { λ walk. walk.steps.table };
+    ghost view = { λ walk. walk.parking.steps.table };
 
-    ghost invariant = { λ walk. (walk.shelf ≡ walk.steps.table.table) × All (λ turn. IfSome turn (IsStage walk.steps.table)) walk.turns.items × IfSome walk.rest (λ (r : RestState). AreParked walk.steps.table r walk.idle) };
+    ghost invariant = { λ walk. All (IsStage walk.parking.steps.table) walk.turns.items };
+}
+
+impl Drop for Walk {
+    fn drop(self) {
+        let Walk { parking, turns } = self;
+        drop((parking, turns));
+    }
 }
 
 impl Walk {
     /// A run that has taken no step.
-    pub(crate) fn new(
+    pub(crate) fn new<R: Wait>(
+        rt: &R,
         alloc: Global,
         net: &Arc<Net>,
         limit: u64,
@@ -107,192 +97,116 @@ impl Walk {
     ) -> Result<Walk, NoMemory>
         requires { limit ≤ 2097153 }
     {
-        let (steps, shelf) = Steps::opened(alloc, net, limit, endings)?;
-        let rest = Rest::with_room(alloc, net.tasks().len())?;
         let mut walk = Walk {
-            steps,
-            shelf,
+            parking: Parking::new(alloc, net, limit, endings)?,
             turns: Vec::new(alloc),
-            rest: Some(rest),
-            idle: None,
         };
         for _ in 0..net.tasks().len() {
-            walk.take_up().ok_or(NoMemory)?;
+            walk.take_up(rt);
         }
         Ok(walk)
     }
 
-    // Takes the next release from the shelf, if there is one.
-    fn take_up(&mut self) -> Option<()> {
-        if let Next::Released(fresh) = self.shelf.take() {
-            self.add(Stage::Released(fresh))?;
+    // Takes the next release, if there is one.
+    fn take_up<R: Wait>(&mut self, rt: &R) {
+        if let Next::Released(fresh) = self.parking.take(rt) {
+            let _ = self.add(Stage::Released(fresh));
         }
-        Some(())
     }
 
-    /// Makes a move. It is `None` where that can't be made.
-    pub(crate) fn make(&mut self, next: Move) -> Option<Reached> {
+    /// Makes a move.
+    pub(crate) fn make<R: Wait>(&mut self, rt: &R, next: Move) -> Reached {
         match next {
-            Move::Step(number) => self.step(number),
-            Move::Park(number) => self.park(number),
-            Move::HandOut => self.hand_out(),
-            Move::Look => self.look(),
+            Move::Step(number) => self.step(rt, number),
+            Move::Park(number) => {
+                let stage = self.turn(number);
+                self.hand_in(rt, stage)
+            }
+            Move::HandOut => self.hand_out(rt),
         }
     }
 
-    /// The shelf at the end of a run.
-    pub(crate) fn into_shelf(self) -> Shelf {
-        self.shelf
+    /// The table at the end of a run.
+    pub(crate) fn into_parking(self) -> Parking {
+        let Walk { parking, turns } = self;
+        drop(turns);
+        parking
     }
 
-    // A turn takes a step, or the keeper takes it in if it is done.
-    fn step(&mut self, number: usize) -> Option<Reached> {
-        match self.turn(number)? {
-            Stage::Spent(spent) => Some(self.absorb(spent)),
-            stage => self.advance(number, stage),
+    fn step<R: Wait>(&mut self, rt: &R, number: usize) -> Reached {
+        let stage = self.turn(number);
+        if let Stage::Spent(..) = &stage {
+            self.hand_in(rt, stage)
+        } else {
+            self.advance(number, stage)
         }
     }
 
-    fn advance(&mut self, number: usize, stage: Stage) -> Option<Reached>
+    fn advance(&mut self, number: usize, stage: Stage) -> Reached
         requires { IsStage self.old stage }
     {
-        let Advanced { stage, released } = self.steps.advance(stage)?;
-        let reached = name_of(&stage);
-        self.put(number, stage)?;
+        let Advanced { stage, released } = stage.advance(self.parking.steps());
+        let reached = self.lay(number, stage);
         match released {
             Some(fresh) => self.add(Stage::Released(fresh)),
-            None => Some(reached),
+            None => reached,
+        }
+    }
+
+    fn hand_in<R: Wait>(&mut self, rt: &R, stage: Stage) -> Reached
+        requires { IsStage self.old stage }
+    {
+        match stage.hand_in(rt, &self.parking) {
+            None => self.parking.reached(rt),
+            Some(stage) => {
+                drop(stage);
+                Reached::Lost
+            }
+        }
+    }
+
+    fn hand_out<R: Wait>(&mut self, rt: &R) -> Reached {
+        match self.parking.hand_out(rt) {
+            Some(turn) => {
+                let stage = self.parking.steps().collected(turn);
+                self.add(stage)
+            }
+            None => Reached::Lost,
         }
     }
 
     // Takes a turn out.
-    fn turn(&mut self, number: usize) -> Option<Stage>
+    fn turn(&mut self, number: usize) -> Stage
         ensures same { self.new ≡ self.old }
-        ensures stage { IfSome result (IsStage self.old) }
+        ensures stage { IsStage self.old result }
     {
-        self.turns.get_mut(number)?.take()
+        match self.turns.get_mut(number) {
+            Some(turn) => mem::replace(turn, Stage::Lost),
+            None => Stage::Lost,
+        }
     }
 
-    // And puts it back.
-    fn put(&mut self, number: usize, stage: Stage) -> Option<()>
-        requires { IsStage self.old stage }
-        ensures { self.new ≡ self.old }
-    {
-        *self.turns.get_mut(number)? = Some(stage);
-        Some(())
-    }
-
-    // Adds a turn: what it has reached.
-    fn add(&mut self, stage: Stage) -> Option<Reached>
+    // Puts a turn back: what it has reached.
+    fn lay(&mut self, number: usize, stage: Stage) -> Reached
         requires { IsStage self.old stage }
         ensures { self.new ≡ self.old }
     {
         let reached = name_of(&stage);
-        self.turns.push(Some(stage)).ok()?;
-        Some(reached)
-    }
-
-    fn absorb(&mut self, spent: Spent<u64>) -> Reached
-        requires { spent.table ≡ self.old.table }
-    {
-        self.shelf.put(&self.steps.table, Item::Spent(spent));
-        match self.shelf.take() {
-            Next::Leave => Reached::Finished,
-            _ => Reached::Absorbed,
+        if let Some(turn) = self.turns.get_mut(number) {
+            *turn = stage;
         }
+        reached
     }
 
-    // A turn that found no unit is parked.
-    fn park(&mut self, number: usize) -> Option<Reached> {
-        let Stage::Lacking(turn, _) = self.turn(number)? else {
-            return None;
-        };
-        let rest = self.open_rest()?;
-        if rest.len() >= rest.room() {
-            return None;
-        }
-        let rest = self.steps.table.rest_add(rest, turn);
-        self.open(rest);
-        Some(Reached::Parked)
-    }
-
-    // The rest hands out its last turn.
-    fn hand_out(&mut self) -> Option<Reached> {
-        let rest = self.open_rest()?;
-        if rest.len() == 0 {
-            return None;
-        }
-        let (rest, turn) = self.steps.table.rest_pop(rest);
-        self.open(rest);
-        let task = turn.task();
-        let stage = self.steps.collected(turn)?;
-        self.add(stage)?;
-        Some(Reached::Served(task))
-    }
-
-    // The rest, where it isn't known to be alone.
-    fn open_rest(&mut self) -> Option<Rest<u64>>
-        ensures same { self.new ≡ self.old }
-        ensures rest { IfSome result (IsOpen self.old) }
-    {
-        match self.idle {
-            Some(_) => None,
-            None => self.rest.take(),
-        }
-    }
-
-    // A rest may take turns in.
-    fn open(&mut self, rest: Rest<u64>)
-        requires { IsOpen self.old rest }
+    // Adds a turn: what it has reached.
+    fn add(&mut self, stage: Stage) -> Reached
+        requires { IsStage self.old stage }
         ensures { self.new ≡ self.old }
     {
-        self.rest = Some(rest);
-        self.idle = None;
-    }
-
-    fn look(&mut self) -> Option<Reached> {
-        if self.idle.is_some() {
-            return self.drop_one();
-        }
-        let rest = self.open_rest()?;
-        if rest.len() == 0 || self.steps.net.sems().is_empty() {
-            return None;
-        }
-        match self.steps.table.rest_check(rest) {
-            Checked::Busy(rest, live) => {
-                self.open(rest);
-                Some(Reached::Busy(live))
-            }
-            Checked::Alone(rest, false) => self.look_for_unit(rest),
-            Checked::Alone(_, true) => None,
-        }
-    }
-
-    // Semaphore 0 has no unit for a rest that is alone.
-    fn look_for_unit(&mut self, rest: Rest<u64>) -> Option<Reached>
-        requires table { IsOfTable self.old.table rest.table }
-        requires alone { rest.alone ≡ Some false }
-        requires sems { 0 < length self.old.net.sems }
-    {
-        match self.steps.table.rest_full(rest, 0) {
-            UnitLook::Exhausted(rest) => {
-                self.rest = Some(rest);
-                self.idle = Some(DropWhy::Stuck(0));
-                Some(Reached::Idle)
-            }
-            UnitLook::Available(_) => None,
-        }
-    }
-
-    // A rest that is alone drops its last turn.
-    fn drop_one(&mut self) -> Option<Reached> {
-        let why = self.idle?;
-        match drop_last(&self.steps, self.rest.take()?, why)? {
-            RestDrop::More(rest) => {
-                self.rest = Some(rest);
-                Some(Reached::Dropped)
-            }
-            RestDrop::Last(spent) => Some(self.absorb(spent)),
+        let reached = name_of(&stage);
+        match self.turns.push(stage) {
+            Ok(()) => reached,
+            Err(_) => Reached::Lost,
         }
     }
 }
@@ -301,7 +215,7 @@ impl Walk {
 fn name_of(stage: &Stage) -> Reached {
     match stage {
         Stage::Released(fresh) => Reached::Released(fresh.task()),
-        Stage::Collecting(_) => Reached::Collecting,
+        Stage::Collecting(..) => Reached::Collecting,
         Stage::Needing(..) => Reached::Needing,
         Stage::Lacking(..) => Reached::Lacking,
         Stage::Half(_) => Reached::Half,
@@ -312,5 +226,6 @@ fn name_of(stage: &Stage) -> Reached {
         Stage::Overdrawn(_) => Reached::Overdrawn,
         Stage::Owing(..) => Reached::Owing,
         Stage::Spent(_) => Reached::Spent,
+        Stage::Lost => Reached::Lost,
     }
 }
