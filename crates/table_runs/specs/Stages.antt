@@ -46,7 +46,7 @@ Owes t owing units = (owing.table ≡ t.table) × (owing.units ≡ list_of units
 -- a turn is of a table, and of its net
 abbrev pub IsStage : TableState → Stage → Type 0
 IsStage t (stage.Released fresh) = fresh.table ≡ t.table
-IsStage t (stage.Collecting collecting need) = (collecting.table ≡ t.table) × HasNeed t.net collecting.task need
+IsStage t (stage.Collecting collecting) = collecting.table ≡ t.table
 IsStage t (stage.Needing turn need) = Lacks t turn need
 IsStage t (stage.Lacking turn need) = Lacks t turn need
 IsStage t (stage.Half turn) = HasUnits t turn (0 ∷ []) × HasNeed t.net turn.task Hold

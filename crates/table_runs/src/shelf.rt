@@ -120,8 +120,18 @@ impl Shelf {
         ensures { self.new ≡ self.old }
     {
         match item {
-            Item::Released(fresh) => self.is_over |= self.fresh.push(fresh).is_err(),
-            Item::Lacking(turn) => self.is_over |= self.lacking.push(turn).is_err(),
+            Item::Released(fresh) => {
+                if let Err(back) = self.fresh.push(fresh) {
+                    drop(back);
+                    self.is_over = true;
+                }
+            }
+            Item::Lacking(turn) => {
+                if let Err(back) = self.lacking.push(turn) {
+                    drop(back);
+                    self.is_over = true;
+                }
+            }
             Item::Spent(spent) => self.absorb(table, spent),
             Item::Stop => self.is_over = true,
         }

@@ -15,7 +15,7 @@ pub(crate) enum Stage {
     /// A release.
     Released(Fresh<u64>),
     /// A release that collects its tokens.
-    Collecting(Collecting<u64>, Need),
+    Collecting(Collecting<u64>),
     /// It has its tokens, and needs units.
     Needing(Turn<u64>, Need),
     /// It found no unit, and holds none.
@@ -44,7 +44,7 @@ impl Drop for Stage {
     fn drop(self) {
         match self {
             Stage::Released(fresh) => drop(fresh),
-            Stage::Collecting(collecting, _) => drop(collecting),
+            Stage::Collecting(collecting) => drop(collecting),
             Stage::Needing(turn, _)
             | Stage::Lacking(turn, _)
             | Stage::Half(turn)
@@ -66,7 +66,7 @@ impl Stage {
         ensures { IsAdvanced steps.now.table result }
     {
         match self {
-            Stage::Collecting(collecting, need) => steps.collect(collecting, need),
+            Stage::Collecting(collecting) => steps.collect(collecting),
             Stage::Owing(owing, units) => steps.pay(owing, units),
             stage => Advanced {
                 stage: stage.advance_alone(steps),

@@ -91,23 +91,9 @@ impl Steps {
         requires { fresh.table ≡ self.now.table.table }
         ensures { IsStage self.now.table result }
     {
-        match need_of(&self.net, fresh.task()) {
-            Some(need) => self.reset_as(fresh, need),
-            None => {
-                drop(fresh);
-                Stage::Lost
-            }
-        }
-    }
-
-    fn reset_as(&self, fresh: Fresh<u64>, need: Need) -> Stage
-        requires table { fresh.table ≡ self.now.table.table }
-        requires need { HasNeed self.now.table.net fresh.task need }
-        ensures { IsStage self.now.table result }
-    {
         let mut fresh = fresh;
         match self.table.room_for(self.alloc, &mut fresh) {
-            Ok(ins) => Stage::Collecting(self.table.reset(fresh, ins), need),
+            Ok(ins) => Stage::Collecting(self.table.reset(fresh, ins)),
             Err(NoMemory) => {
                 drop(fresh);
                 Stage::Lost
@@ -115,22 +101,21 @@ impl Steps {
         }
     }
 
-    pub(crate) fn collect(&self, collecting: Collecting<u64>, need: Need) -> Advanced
-        requires table { collecting.table ≡ self.now.table.table }
-        requires need { HasNeed self.now.table.net collecting.task need }
+    pub(crate) fn collect(&self, collecting: Collecting<u64>) -> Advanced
+        requires { collecting.table ≡ self.now.table.table }
         ensures { IsAdvanced self.now.table result }
     {
         match self.table.collect(collecting) {
             Collected::More(more) => Advanced {
-                stage: Stage::Collecting(more, need),
+                stage: Stage::Collecting(more),
                 released: None,
             },
             Collected::Last(turn) => Advanced {
-                stage: self.stage_of(turn, need),
+                stage: self.collected(turn),
                 released: None,
             },
             Collected::LastAgain(turn, fresh) => Advanced {
-                stage: self.stage_of(turn, need),
+                stage: self.collected(turn),
                 released: Some(fresh),
             },
         }
@@ -142,22 +127,13 @@ impl Steps {
         ensures { IsStage self.now.table result }
     {
         match need_of(&self.net, turn.task()) {
-            Some(need) => self.stage_of(turn, need),
+            Some(Need::Nothing) => Stage::Ready(turn, Need::Nothing),
+            Some(Need::Repay) => Stage::Ready(turn, Need::Repay),
+            Some(need) => Stage::Needing(turn, need),
             None => {
                 drop(turn);
                 Stage::Lost
             }
-        }
-    }
-
-    fn stage_of(&self, turn: Turn<u64>, need: Need) -> Stage
-        requires turn { HasUnits self.now.table turn [] }
-        requires need { HasNeed self.now.table.net turn.task need }
-        ensures { IsStage self.now.table result }
-    {
-        match need {
-            Need::Nothing | Need::Repay => Stage::Ready(turn, need),
-            Need::Hold | Need::Borrow => Stage::Needing(turn, need),
         }
     }
 

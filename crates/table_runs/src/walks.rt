@@ -180,10 +180,10 @@ impl Walk {
         ensures same { self.new ≡ self.old }
         ensures stage { IsStage self.old result }
     {
-        match self.turns.get_mut(number) {
-            Some(turn) => mem::replace(turn, Stage::Lost),
-            None => Stage::Lost,
-        }
+        let Some(turn) = self.turns.get_mut(number) else {
+            return Stage::Lost;
+        };
+        mem::replace(turn, Stage::Lost)
     }
 
     // Puts a turn back: what it has reached.
