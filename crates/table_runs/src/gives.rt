@@ -20,49 +20,33 @@ pub fn all_edges(alloc: Global, net: &Net, task: u32) -> Result<Option<List<u32>
 }
 
 /// What a task gives in the runs here: all its edges if it doesn't choose, the first if it is a choice, or none. It is
-/// `None` of a task of another shape.
-pub fn gives_of(
+/// `None` of a task past the end or of another shape.
+pub(crate) fn gives_of(
     alloc: Global,
     net: &Net,
     task: u32,
     gives: bool,
 ) -> Result<Option<List<u32>>, NoMemory>
-    requires { task < length net.now.tasks }
     ensures { IfOk result (λ edges. IfSome edges (λ gives. MayEndGiving net.now task gives false)) }
 {
-    if net.tasks()[task as usize].shape == Shape::Choice {
-        return first_edge(alloc, net, task, gives);
-    }
-    if gives {
-        all_edges(alloc, net, task)
-    } else {
-        Ok(no_edge(alloc, net, task))
+    let Some(row) = net.tasks().get(task as usize) else {
+        return Ok(None);
+    };
+    match row.shape {
+        Shape::Plain if gives => all_edges(alloc, net, task),
+        Shape::Choice if gives => first_edge(alloc, net, task),
+        Shape::Plain | Shape::Choice => Ok(Some(List::new(alloc))),
+        Shape::Many | Shape::Nested => Ok(None),
     }
 }
 
-// The first edge out of a choice, or none.
-fn first_edge(
-    alloc: Global,
-    net: &Net,
-    task: u32,
-    gives: bool,
-) -> Result<Option<List<u32>>, NoMemory>
+// The first edge out of a choice, if there is one.
+fn first_edge(alloc: Global, net: &Net, task: u32) -> Result<Option<List<u32>>, NoMemory>
     requires { IsSomeAnd (slice_get net.now.tasks task) (λ (row : TaskRow). row.shape ≡ Choice) }
     ensures { IfOk result (λ edges. IfSome edges (λ gives. MayEndGiving net.now task gives false)) }
 {
     match net.out_edges(task) {
-        [first, ..] if gives => Ok(Some(List::from_slice(alloc, &[*first])?)),
-        _ => Ok(Some(List::new(alloc))),
+        [first, ..] => Ok(Some(List::from_slice(alloc, &[*first])?)),
+        [] => Ok(Some(List::new(alloc))),
     }
-}
-
-/// No edge out of a task that doesn't choose, and `None` of one that does.
-pub fn no_edge(alloc: Global, net: &Net, task: u32) -> Option<List<u32>>
-    requires { task < length net.now.tasks }
-    ensures { IfSome result (λ gives. MayEndGiving net.now task gives false) }
-{
-    if net.tasks()[task as usize].shape != Shape::Plain {
-        return None;
-    }
-    Some(List::new(alloc))
 }

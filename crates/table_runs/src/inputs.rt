@@ -4,33 +4,40 @@ use outside_io::NoMemory;
 use std::alloc::Global;
 use task_graph::Net;
 
-// What was found at an edge: the End at this place.
-#[derive(Clone, Copy, PartialEq, Eq)]
-struct FoundEnd {
-    edge: u32,
-    end: u64,
+/// What the entries so far gave to the edges, and what was found at them.
+#[derive(Drop)]
+struct Edges {
+    // For each edge the last End that gave it, or else the token with which it begins.
+    last: Vec<Part>,
+    // The Ends that were found, each with the edge.
+    found: Vec<(u32, Part)>,
 }
 
-/// Whether each start found at each of its edges the last End that gave it, or else the token with which the edge began.
-pub(crate) fn finds_last_ends(
+/// Whether no End was found twice at an edge, and, where no edge ever has two tokens, each start found the last End at each
+/// of its edges.
+pub(crate) fn finds_ends(
     alloc: Global,
     net: &Net,
+    is_calm: bool,
     journal: &Journal,
 ) -> Result<bool, NoMemory> {
-    let mut last = vec![in alloc; None; net.edges().len()]?;
+    let mut edges = Edges {
+        last: vec![in alloc; Part::First; net.edges().len()]?,
+        found: Vec::new(alloc),
+    };
     for (place, entry) in journal.as_slice().iter().enumerate() {
         match entry {
             Entry::Start { task, cause, ins } => {
-                let is_last = match cause {
+                let finds = match cause {
                     Cause::Source => ins.is_empty(),
-                    Cause::Strong => are_last(&last, strong_in(net, *task), ins.as_slice()),
-                    Cause::Weak(edge) => are_last(&last, &[*edge], ins.as_slice()),
+                    Cause::Strong => edges.find(strong_in(net, *task), ins.as_slice(), is_calm)?,
+                    Cause::Weak(edge) => edges.find(&[*edge], ins.as_slice(), is_calm)?,
                 };
-                if !is_last {
+                if !finds {
                     return Ok(false);
                 }
             }
-            Entry::End { gives, .. } => give(&mut last, gives.as_slice(), place as u64),
+            Entry::End { gives, .. } => edges.give(gives.as_slice(), Part::From(place as u64)),
             Entry::Fault { .. } | Entry::Drop { .. } => {}
         }
     }
@@ -46,64 +53,28 @@ fn strong_in(net: &Net, task: u32) -> &[u32] {
     }
 }
 
-// Whether these parts are the last Ends of these edges, where `last` has the place of that of each edge.
-fn are_last(last: &[Option<u64>], edges: &[u32], parts: &[Part]) -> bool {
-    for (edge, part) in edges.iter().zip(parts) {
-        let expected = match last.get(*edge as usize) {
-            Some(Some(end)) => Part::From(*end),
-            _ => Part::First,
-        };
-        if *part != expected {
-            return false;
-        }
-    }
-    edges.len() == parts.len()
-}
-
-// The End at a place gives these edges.
-fn give(last: &mut [Option<u64>], edges: &[u32], place: u64) {
-    for edge in edges {
-        if let Some(end) = last.get_mut(*edge as usize) {
-            *end = Some(place);
-        }
-    }
-}
-
-/// Whether no End was found twice at an edge.
-pub(crate) fn finds_no_end_twice(
-    alloc: Global,
-    net: &Net,
-    journal: &Journal,
-) -> Result<bool, NoMemory> {
-    let mut found = Vec::new(alloc);
-    for entry in journal.as_slice() {
-        if let Entry::Start { task, cause, ins } = entry {
-            let is_new = match cause {
-                Cause::Source => true,
-                Cause::Strong => are_new(&mut found, strong_in(net, *task), ins.as_slice())?,
-                Cause::Weak(edge) => are_new(&mut found, &[*edge], ins.as_slice())?,
-            };
-            if !is_new {
+impl Edges {
+    // Adds what a start found at these edges: whether it found what it may.
+    fn find(&mut self, edges: &[u32], parts: &[Part], is_calm: bool) -> Result<bool, NoMemory> {
+        for (edge, part) in edges.iter().zip(parts) {
+            let one = (*edge, *part);
+            let is_last = self.last.get(*edge as usize) == Some(part);
+            if is_calm && !is_last || self.found.as_slice().contains(&one) {
                 return Ok(false);
+            }
+            if let Part::From(_) = part {
+                self.found.push(one)?;
+            }
+        }
+        Ok(edges.len() == parts.len())
+    }
+
+    // The last End of these edges is this one.
+    fn give(&mut self, edges: &[u32], end: Part) {
+        for edge in edges {
+            if let Some(last) = self.last.get_mut(*edge as usize) {
+                *last = end;
             }
         }
     }
-    Ok(true)
-}
-
-// Adds what was found at these edges: whether no End among it was found there before.
-fn are_new(found: &mut Vec<FoundEnd>, edges: &[u32], parts: &[Part]) -> Result<bool, NoMemory> {
-    for (edge, part) in edges.iter().zip(parts) {
-        if let Part::From(end) = part {
-            let one = FoundEnd {
-                edge: *edge,
-                end: *end,
-            };
-            if found.as_slice().contains(&one) {
-                return Ok(false);
-            }
-            found.push(one)?;
-        }
-    }
-    Ok(true)
 }

@@ -1,9 +1,59 @@
 // Which units a task needs in these runs.
-ghost use Rattle.std.specs.Prelude.{◌≡◌, ◌<◌, IsTrue, [], ◌∷◌, length};
-ghost use Rattle.table_steps.specs.Holding.{HoldsEachUnit, PutsAll, PutsAlone, PutsEach, TakesAlone};
+ghost use Rattle.std.specs.Prelude.{◌≡◌, ◌<◌, IsTrue, IfSome, [], length};
+ghost use Rattle.table_steps.specs.Holding.{HoldsEachUnit, PutsAll};
+ghost use Rattle.table_runs.specs.Needs.{HasNeed, NextOf, listed, taken_for};
 
 use outside_io::List;
 use task_graph::Net;
+
+/// Units of semaphores 0 and 1.
+#[derive(Clone, Copy)]
+pub(crate) enum Units {
+    Empty,
+    First,
+    Second,
+    Both,
+}
+
+/// The units that a task takes before its start and puts after its end.
+#[derive(Clone, Copy)]
+pub(crate) enum Need {
+    /// None.
+    Nothing,
+    /// It takes and puts one of semaphore 0 and one of semaphore 1.
+    Hold,
+    /// It takes one of semaphore 0 and puts none.
+    Borrow,
+    /// It puts one of semaphore 0 and takes none.
+    Repay,
+}
+
+impl Units {
+    /// One of the units, the lesser semaphore first, and what is left without it.
+    pub(crate) fn next(self) -> Option<(u32, Units)>
+        ensures { NextOf self result }
+    {
+        match self {
+            Units::Empty => None,
+            Units::First => Some((0, Units::Empty)),
+            Units::Second => Some((1, Units::Empty)),
+            Units::Both => Some((0, Units::Second)),
+        }
+    }
+}
+
+impl Need {
+    /// The units that it takes.
+    pub(crate) fn taken(self) -> Units
+        ensures { result ≡ taken_for self }
+    {
+        match self {
+            Need::Hold => Units::Both,
+            Need::Borrow => Units::First,
+            Need::Nothing | Need::Repay => Units::Empty,
+        }
+    }
+}
 
 /// Whether a task takes and puts no unit.
 pub fn needs_none(net: &Net, task: u32) -> bool
@@ -14,49 +64,29 @@ pub fn needs_none(net: &Net, task: u32) -> bool
     row.takes.is_empty() && row.puts.is_empty()
 }
 
-/// Whether a task takes and puts a unit of semaphore 0 and one of semaphore 1, and no others.
-pub fn needs_both(net: &Net, task: u32) -> bool
-    requires { task < length net.now.tasks }
-    ensures { IsTrue result → HoldsEachUnit net.now task (1 ∷ 0 ∷ []) × PutsAll net.now task }
+/// What a task needs, or `None` where it is past the end or needs something else.
+pub(crate) fn need_of(net: &Net, task: u32) -> Option<Need>
+    ensures { IfSome result (HasNeed net.now task) }
 {
-    let row = &net.tasks()[task as usize];
-    is_pair(&row.takes) && is_pair(&row.puts)
-}
-
-/// Whether a task takes a unit of semaphore 0 and no other, and puts none.
-pub fn takes_first(net: &Net, task: u32) -> bool
-    requires { task < length net.now.tasks }
-    ensures { IsTrue result → HoldsEachUnit net.now task (0 ∷ []) × TakesAlone net.now task (0 ∷ []) × PutsAlone net.now task [] × PutsEach net.now task [] }
-{
-    let row = &net.tasks()[task as usize];
-    is_first(&row.takes) && row.puts.is_empty()
-}
-
-/// Whether a task puts a unit of semaphore 0 and no other, and takes none.
-pub fn puts_first(net: &Net, task: u32) -> bool
-    requires { task < length net.now.tasks }
-    ensures { IsTrue result → HoldsEachUnit net.now task [] × TakesAlone net.now task [] × PutsAlone net.now task (0 ∷ []) × PutsEach net.now task (0 ∷ []) }
-{
-    let row = &net.tasks()[task as usize];
-    row.takes.is_empty() && is_first(&row.puts)
-}
-
-// Whether a list is of semaphore 0.
-fn is_first(sems: &List<u32>) -> bool
-    ensures { IsTrue result → sems.now ≡ 0 ∷ [] }
-{
-    match (sems.get(0), sems.get(1)) {
-        (Some(first), None) => *first == 0,
-        _ => false,
+    let row = net.tasks().get(task as usize)?;
+    let sems = net.sems().len();
+    match (units_in(&row.takes)?, units_in(&row.puts)?) {
+        (Units::Empty, Units::Empty) => Some(Need::Nothing),
+        (Units::Both, Units::Both) if sems > 1 => Some(Need::Hold),
+        (Units::First, Units::Empty) if sems > 0 => Some(Need::Borrow),
+        (Units::Empty, Units::First) if sems > 0 => Some(Need::Repay),
+        _ => None,
     }
 }
 
-// Whether a list is of semaphore 0 and semaphore 1.
-fn is_pair(sems: &List<u32>) -> bool
-    ensures { IsTrue result → sems.now ≡ 0 ∷ 1 ∷ [] }
+// The units of a row, or `None` where it has other semaphores.
+fn units_in(sems: &List<u32>) -> Option<Units>
+    ensures { IfSome result (λ units. sems.now ≡ listed units) }
 {
     match (sems.get(0), sems.get(1), sems.get(2)) {
-        (Some(first), Some(second), None) => *first == 0 && *second == 1,
-        _ => false,
+        (None, _, _) => Some(Units::Empty),
+        (Some(0), None, _) => Some(Units::First),
+        (Some(0), Some(1), None) => Some(Units::Both),
+        _ => None,
     }
 }

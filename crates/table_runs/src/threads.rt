@@ -1,175 +1,206 @@
-// Runs by two and by four threads, whose journals are judged.
-ghost use Rattle.std.specs.Prelude.{◌≤◌};
-
-use crate::inputs::{finds_last_ends, finds_no_end_twice};
-use crate::run_by;
-use journal_rules::{Entry, Journal};
-use legal_run::{Verdict, judge};
-use outside_io::{List, NoMemory};
+// Runs by one, by two and by four threads, whose journals are judged.
+use crate::inputs::finds_ends;
+use crate::judging::{GIVE_ALL, MANY, Outcome, judged};
+use crate::nets::{CROSSED, HUB, KEPT, LENT, LOOP, NetCase, OVER, RING};
+use crate::parking::Parking;
+use crate::shared::Shared;
+use crate::shelf::Shelf;
+use crate::stepping::work_together;
+use crate::steps::Endings;
+use journal_rules::Journal;
+use outside_io::NoMemory;
 use slow_verdicts::meets_data_rule;
 use std::alloc::Global;
 use std::process::Abort;
 use std::sync::{Arc, Wait};
 use std::test::Fail;
 use std::thread::Threads;
-use task_graph::{BuildError, Net, NetBuilder, Shape};
+use task_graph::Net;
 
-// How often each run is made by two threads, and by four.
-const TIMES: u32 = 130;
-
-// Of how many of these the inputs of all starts are judged by the rule, which takes long.
-const JUDGED: u32 = 3;
-
-// A limit that no run here comes to.
-const MANY: u64 = 10_000;
-
-/// A net by the shapes of its tasks and its edges, with the edges after them that begin with a token.
+/// A net that is run so often by each number of threads, and what comes of each run.
 #[derive(Clone, Copy)]
-struct Case<'c> {
-    tasks: &'c [Shape],
-    edges: &'c [(u32, u32)],
-    rings: &'c [(u32, u32)],
-    // whether no edge ever has two tokens
-    is_calm: bool,
+struct Case {
+    name: &'static str,
+    net: NetCase,
+    limit: u64,
+    endings: Endings,
+    waits: Waits,
+    times: u32,
+    outcome: Outcome,
 }
 
-fn built(alloc: Global, case: Case<'_>) -> Result<Net, BuildError> {
-    let mut builder = NetBuilder::new(alloc);
-    for shape in case.tasks {
-        builder.task(*shape, List::new(alloc), List::new(alloc))?;
-    }
-    for (from, to) in case.edges {
-        builder.edge(*from, *to, false)?;
-    }
-    for (from, to) in case.rings {
-        builder.edge(*from, *to, true)?;
-    }
-    Ok(builder.finish())
+/// What becomes of a turn that finds no unit.
+#[derive(Clone, Copy)]
+enum Waits {
+    /// It looks again.
+    Again,
+    /// It is parked.
+    Parked,
 }
 
-// Eight tasks in a ring, with a token on every other edge.
-const RING: Case<'static> = Case {
-    tasks: &[Shape::Plain; 8],
-    edges: &[(0, 1), (2, 3), (4, 5), (6, 7)],
-    rings: &[(1, 2), (3, 4), (5, 6), (7, 0)],
-    is_calm: false,
+// Some sixty starts give their edges.
+const GIVE_SOME: Endings = Endings {
+    gives_before: 120,
+    first_faults: false,
 };
 
-// Six tasks, each of which turns by itself and precedes one.
-const HUB: Case<'static> = Case {
-    tasks: &[Shape::Plain; 7],
-    edges: &[(0, 6), (1, 6), (2, 6), (3, 6), (4, 6), (5, 6)],
-    rings: &[(0, 0), (1, 1), (2, 2), (3, 3), (4, 4), (5, 5)],
-    is_calm: false,
+// The first start faults.
+const FAULT_FIRST: Endings = Endings {
+    gives_before: MANY,
+    first_faults: true,
 };
 
-// A diamond whose last task chooses whether its first is to start again.
-const LOOP: Case<'static> = Case {
-    tasks: &[
-        Shape::Plain,
-        Shape::Plain,
-        Shape::Plain,
-        Shape::Plain,
-        Shape::Choice,
-    ],
-    edges: &[(0, 1), (1, 2), (1, 3), (2, 4), (3, 4), (4, 1)],
-    rings: &[],
-    is_calm: true,
+const A_RING: Case = Case {
+    name: "a ring",
+    net: RING,
+    limit: MANY,
+    endings: GIVE_SOME,
+    waits: Waits::Again,
+    times: 130,
+    outcome: Outcome::Ends,
 };
 
-// Makes a run by two and by four threads, in which so many runs give their edges, and judges each journal. It is complete;
-// where the run comes to the limit, it has as many starts as the limit, and the releases that were refused are dropped. Where
-// no edge ever has two tokens, each start finds the last End at each of its edges, and else no End twice.
-fn often<R: Threads + Wait + Abort + Sync>(
+const TOKENS: [Case; 4] = [
+    A_RING,
+    Case {
+        name: "a hub",
+        net: HUB,
+        ..A_RING
+    },
+    Case {
+        name: "a diamond in a loop",
+        net: LOOP,
+        ..A_RING
+    },
+    Case {
+        name: "a ring with a limit",
+        limit: 50,
+        endings: GIVE_ALL,
+        outcome: Outcome::Limit(50),
+        ..A_RING
+    },
+];
+
+const LENT_UNITS: Case = Case {
+    name: "another gives it back",
+    net: LENT,
+    limit: MANY,
+    endings: GIVE_ALL,
+    waits: Waits::Again,
+    times: 60,
+    outcome: Outcome::EndsAll(16),
+};
+
+const UNITS: [Case; 3] = [
+    LENT_UNITS,
+    Case {
+        name: "two are held crosswise",
+        net: CROSSED,
+        outcome: Outcome::EndsAll(6),
+        ..LENT_UNITS
+    },
+    Case {
+        name: "over-releases fault",
+        net: OVER,
+        outcome: Outcome::OverReleases,
+        ..LENT_UNITS
+    },
+];
+
+const PARKED: [Case; 3] = [
+    Case {
+        name: "parked turns go on",
+        waits: Waits::Parked,
+        ..LENT_UNITS
+    },
+    Case {
+        name: "parked turns stick",
+        net: KEPT,
+        waits: Waits::Parked,
+        outcome: Outcome::Stuck(3, 13),
+        ..LENT_UNITS
+    },
+    Case {
+        name: "parked turns are halted",
+        net: KEPT,
+        endings: FAULT_FIRST,
+        waits: Waits::Parked,
+        outcome: Outcome::Halted(13),
+        ..LENT_UNITS
+    },
+];
+
+// The shelf at the end of a run by so many threads.
+fn run<R: Threads + Wait + Sync>(
     rt: &R,
     alloc: Global,
-    case: Case<'_>,
-    limit: u64,
-    gives: u64,
-) -> Result<(), Fail>
-    requires { limit ≤ 2097153 }
-{
-    let net = Arc::new(alloc, built(alloc, case)?)?;
-    for turn in 0..TIMES {
-        let by_two = once(rt, alloc, &net, limit, gives, 2)?;
-        let by_four = once(rt, alloc, &net, limit, gives, 4)?;
-        assert!(rt; finds_ends(alloc, &net, case.is_calm, &by_two)?);
-        assert!(rt; finds_ends(alloc, &net, case.is_calm, &by_four)?);
-        if turn < JUDGED {
-            assert!(rt; meets_data_rule(&net, by_two.as_slice()));
-            assert!(rt; meets_data_rule(&net, by_four.as_slice()));
+    net: &Arc<Net>,
+    case: &Case,
+    threads: usize,
+) -> Result<Shelf, NoMemory> {
+    let limit = case.limit.min(MANY);
+    match case.waits {
+        Waits::Again => {
+            let shared = Shared::new(alloc, net, limit, case.endings)?;
+            work_together(rt, alloc, &shared, threads)?;
+            Ok(shared.into_shelf(rt))
+        }
+        Waits::Parked => {
+            let parking = Parking::new(alloc, net, limit, case.endings)?;
+            work_together(rt, alloc, &parking, threads)?;
+            Ok(parking.into_shelf(rt))
         }
     }
-    Ok(())
 }
 
+// Runs a case by so many threads, and judges its journal.
 fn once<R: Threads + Wait + Abort + Sync>(
     rt: &R,
     alloc: Global,
     net: &Arc<Net>,
-    limit: u64,
-    gives: u64,
+    case: &Case,
     threads: usize,
-) -> Result<Journal, Fail>
-    requires { limit ≤ 2097153 }
-{
-    let Some(ran) = run_by(rt, alloc, net, limit, gives, threads)? else {
-        panic!(rt; "a place without an entry");
-    };
-    assert!(rt; ran.is_whole && ran.has_end_values);
-    assert!(rt; matches!(judge(alloc, net, limit, &ran.journal)?, Verdict::Complete));
-    let drops = drops(&ran.journal);
-    assert_eq!(rt; drops > 0, limit < MANY);
-    if drops > 0 {
-        assert_eq!(rt;
-            ran.journal.len() as u64,
-            limit.wrapping_mul(2).wrapping_add(drops)
-        );
+) -> Result<Journal, Fail> {
+    let shelf = run(rt, alloc, net, case, threads)?;
+    let journal = judged(rt, alloc, net, case.limit, case.outcome, shelf)?;
+    let finds = finds_ends(alloc, net, case.net.is_calm, &journal)?;
+    assert!(rt; finds, "{} by {threads} threads", case.name);
+    Ok(journal)
+}
+
+// Runs a case as often as it says by one, by two and by four threads. The rule that takes long judges the last journal.
+fn often<R: Threads + Wait + Abort + Sync>(rt: &R, alloc: Global, case: &Case) -> Result<(), Fail> {
+    let net = Arc::new(alloc, case.net.built(alloc)?)?;
+    for _ in 0..case.times {
+        once(rt, alloc, &net, case, 1)?;
+        once(rt, alloc, &net, case, 2)?;
+        once(rt, alloc, &net, case, 4)?;
     }
-    Ok(ran.journal)
+    let journal = once(rt, alloc, &net, case, 4)?;
+    assert!(rt; meets_data_rule(&net, journal.as_slice()), "{}", case.name);
+    Ok(())
 }
 
-// Whether the starts found what they may: the last Ends, or no End twice.
-fn finds_ends(
-    alloc: Global,
-    net: &Net,
-    is_calm: bool,
-    journal: &Journal,
-) -> Result<bool, NoMemory> {
-    if is_calm {
-        finds_last_ends(alloc, net, journal)
-    } else {
-        finds_no_end_twice(alloc, net, journal)
+#[test]
+fn tokens_go_round(rt: HostRuntime) -> Result<(), Fail> {
+    for case in &TOKENS {
+        often(&rt, rt.alloc(), case)?;
     }
+    Ok(())
 }
 
-// How many releases were dropped.
-fn drops(journal: &Journal) -> u64 {
-    let mut count: u64 = 0;
-    for entry in journal.as_slice() {
-        if matches!(entry, Entry::Drop { .. }) {
-            count = count.wrapping_add(1);
-        }
+#[test]
+fn units_are_shared(rt: HostRuntime) -> Result<(), Fail> {
+    for case in &UNITS {
+        often(&rt, rt.alloc(), case)?;
     }
-    count
+    Ok(())
 }
 
 #[test]
-fn a_ring(rt: HostRuntime) -> Result<(), Fail> {
-    often(&rt, rt.alloc(), RING, MANY, 60)
-}
-
-#[test]
-fn a_hub(rt: HostRuntime) -> Result<(), Fail> {
-    often(&rt, rt.alloc(), HUB, MANY, 60)
-}
-
-#[test]
-fn a_diamond_in_a_loop(rt: HostRuntime) -> Result<(), Fail> {
-    often(&rt, rt.alloc(), LOOP, MANY, 60)
-}
-
-#[test]
-fn a_ring_with_a_limit(rt: HostRuntime) -> Result<(), Fail> {
-    often(&rt, rt.alloc(), RING, 50, MANY)
+fn turns_are_parked(rt: HostRuntime) -> Result<(), Fail> {
+    for case in &PARKED {
+        often(&rt, rt.alloc(), case)?;
+    }
+    Ok(())
 }

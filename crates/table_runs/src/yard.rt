@@ -1,21 +1,23 @@
-// What the threads of a run share where turns that find no unit are parked in a rest.
-ghost use Rattle.std.specs.Prelude.{◌≡◌, ◌≢◌, ◌≤◌, IfSome, IsTrue, None, Some, [], true, false};
-ghost use Rattle.table_steps.specs.Giving.{times};
-ghost use Rattle.join_tables.specs.Rests.{IsOfTable, LastTakes};
+// A shelf beside a rest, in which turns that find no unit are parked.
+ghost use Rattle.std.specs.Prelude.{◌≡◌, ◌≢◌, ◌<◌, IfSome, IsTrue, Some, [], false, length};
+ghost use Rattle.journal_rules.specs.SemaphoreRule.{takes};
+ghost use Rattle.join_tables.specs.Rests.{IsOfTable};
+ghost use Rattle.table_runs.specs.Items.{IsItem, IsNext, Waits};
+ghost use Rattle.table_runs.specs.Parks.{IsIdle, IsLeft, IsUnused};
 
-use crate::needs::takes_first;
-use crate::shelf::{Shelf, Turnout};
-use join_tables::{Checked, Fresh, NetTable, Rest, RestDrop, Spent, Turn, UnitLook};
+use crate::needs::{Need, need_of};
+use crate::shelf::{Item, Next, Shelf};
+use crate::steps::Steps;
+use join_tables::{Checked, Rest, RestDrop, Turn, UnitLook};
 use journal_rules::DropWhy;
 use keyed_lock::Keyed;
 use std::marker::Model;
 use task_graph::Net;
 
-/// The releases, the keeper and the rest of a run. The rest is gone once all its turns were dropped.
-#[derive(Drop)]
+/// A shelf, and a rest for the turns that find no unit. The rest is gone once its turns were dropped.
 pub(crate) struct Yard {
-    pub(crate) shelf: Shelf,
-    pub(crate) rest: Option<Rest<u64>>,
+    shelf: Shelf,
+    rest: Option<Rest<u64>>,
 }
 
 impl Model for Yard {
@@ -39,162 +41,162 @@ impl Keyed for Yard {
     ghost key = { λ yard. yard };
 }
 
+impl Drop for Yard {
+    fn drop(self) {
+        let Yard { shelf, rest } = self;
+        drop((shelf, rest));
+    }
+}
+
 impl Yard {
-    /// The newest release, or else a turn that was handed out of the rest.
-    pub(crate) fn take(self) -> (Yard, Turnout)
-        ensures table { result.0 ≡ self }
-        ensures fresh { IfSome result.1.fresh (λ fresh. fresh.table ≡ self) }
-        ensures waiting { IfSome result.1.waiting (λ t. (t.table ≡ self) × (t.refused ≡ None) × (t.held ≡ [])) }
+    /// A yard where no turn is parked.
+    pub(crate) fn new(shelf: Shelf, rest: Rest<u64>) -> Yard
+        requires { IsUnused rest }
+        ensures { result ≡ shelf }
     {
-        let Yard { mut shelf, rest } = self;
-        let turnout = shelf.take();
-        (Yard { shelf, rest }, turnout)
-    }
-
-    /// Adds a release.
-    pub(crate) fn add(self, fresh: Fresh<u64>) -> Yard
-        requires { fresh.table ≡ self }
-        ensures { result ≡ self }
-    {
-        let Yard { mut shelf, rest } = self;
-        shelf.add(fresh);
-        Yard { shelf, rest }
-    }
-
-    /// Takes in a turn that is done.
-    pub(crate) fn finish(self, table: &NetTable<u64>, net: &Net, spent: Spent<u64>) -> Yard
-        requires table { (table.now.table ≡ self) × (spent.table ≡ self) }
-        requires net { table.now.net ≡ net.now }
-        ensures { result ≡ self }
-    {
-        let Yard { mut shelf, rest } = self;
-        shelf.finish(table, spent);
-        Yard { shelf, rest }.settle(table, net)
-    }
-
-    /// Parks a turn that found no unit. Where there is no room no more releases are taken.
-    pub(crate) fn park(self, table: &NetTable<u64>, net: &Net, turn: Turn<u64>) -> Yard
-        requires table { (table.now.table ≡ self) × (turn.table ≡ self) }
-        requires waits { (turn.refused ≡ None) × (turn.held ≡ []) }
-        requires net { table.now.net ≡ net.now }
-        ensures { result ≡ self }
-    {
-        let Yard { mut shelf, rest } = self;
-        let Some(rest) = rest else {
-            shelf.give_up();
-            return Yard { shelf, rest: None };
-        };
-        if rest.len() >= rest.room() {
-            shelf.give_up();
-            return Yard { shelf, rest: None };
+        Yard {
+            shelf,
+            rest: Some(rest),
         }
-        let rest = Some(table.rest_add(rest, turn));
-        Yard { shelf, rest }.settle(table, net)
     }
 
-    /// Takes no more releases.
-    pub(crate) fn give_up(self) -> Yard
-        ensures { result ≡ self }
+    /// What a thread does next.
+    pub(crate) fn take(&mut self) -> Next
+        ensures same { self.new ≡ self.old }
+        ensures next { IsNext self.old result }
     {
-        let Yard { mut shelf, rest } = self;
-        shelf.give_up();
-        Yard { shelf, rest }
+        self.shelf.take()
     }
 
-    // Checks the rest. Where it is alone it goes on with a turn that finds a unit, or all its turns are dropped.
-    fn settle(self, table: &NetTable<u64>, net: &Net) -> Yard
-        requires table { table.now.table ≡ self }
-        requires net { table.now.net ≡ net.now }
-        ensures { result ≡ self }
+    /// The shelf at the end of a run.
+    pub(crate) fn into_shelf(self) -> Shelf {
+        let Yard { shelf, rest } = self;
+        drop(rest);
+        shelf
+    }
+
+    /// How many turns are parked, or `None` where the run is over.
+    pub(crate) fn parked(&self) -> Option<usize> {
+        match &self.rest {
+            Some(rest) if !self.shelf.is_over() => Some(rest.len()),
+            _ => None,
+        }
+    }
+
+    /// Hands out the last turn that was parked.
+    pub(crate) fn hand_out(&mut self, steps: &Steps) -> Option<Turn<u64>>
+        requires { steps.now.table.table ≡ self.old }
+        ensures same { self.new ≡ self.old }
+        ensures turn { IfSome result (Waits self.old) }
     {
-        let Yard { mut shelf, rest } = self;
-        let Some(rest) = rest else {
-            return Yard { shelf, rest: None };
-        };
+        let rest = self.rest.take()?;
         if rest.len() == 0 {
-            return Yard {
-                shelf,
-                rest: Some(rest),
-            };
+            self.rest = Some(rest);
+            return None;
         }
-        let rest = match table.rest_check(rest) {
-            Checked::Busy(rest, _) => Some(rest),
-            Checked::Alone(rest, true) => {
-                shelf.finish(table, drop_all(table, rest));
-                shelf.give_up();
-                None
+        let (rest, turn) = steps.table.rest_pop(rest);
+        self.rest = Some(rest);
+        Some(turn)
+    }
+
+    /// Takes something in, and looks at the rest.
+    pub(crate) fn put(&mut self, steps: &Steps, item: Item)
+        requires table { steps.now.table.table ≡ self.old }
+        requires item { IsItem self.old item }
+        ensures { self.new ≡ self.old }
+    {
+        match item {
+            Item::Lacking(turn) => self.park(steps, turn),
+            item => self.shelf.put(&steps.table, item),
+        }
+        self.look(steps);
+    }
+
+    // Parks a turn that found no unit. Where there is no room the run is over.
+    fn park(&mut self, steps: &Steps, turn: Turn<u64>)
+        requires table { steps.now.table.table ≡ self.old }
+        requires turn { Waits self.old turn }
+        ensures { self.new ≡ self.old }
+    {
+        match self.rest.take() {
+            Some(rest) if rest.len() < rest.room() => {
+                self.rest = Some(steps.table.rest_add(rest, turn));
             }
-            Checked::Alone(rest, false) => go_on(table, net, &mut shelf, rest),
+            _ => self.shelf.put(&steps.table, Item::Stop),
+        }
+    }
+
+    // Looks at the rest. Where it is alone it goes on with a turn that finds a unit, or all its turns are dropped.
+    fn look(&mut self, steps: &Steps)
+        requires { steps.now.table.table ≡ self.old }
+        ensures { self.new ≡ self.old }
+    {
+        let Some(rest) = self.rest.take() else {
+            return;
         };
-        Yard { shelf, rest }
-    }
-}
-
-// Drops all turns of a rest after a Fault.
-fn drop_all(table: &NetTable<u64>, rest: Rest<u64>) -> Spent<u64>
-    requires table { IsOfTable table.now.table rest.table }
-    requires halted { rest.alone ≡ Some true }
-    ensures { result.table ≡ table.now.table }
-{
-    match table.rest_drop(rest, DropWhy::Halted) {
-        RestDrop::More(rest) => drop_all(table, rest),
-        RestDrop::Last(spent) => spent,
-    }
-}
-
-// Hands out the last turn of a rest where semaphore 0 has a unit, and else drops all its turns.
-fn go_on(table: &NetTable<u64>, net: &Net, shelf: &mut Shelf, rest: Rest<u64>) -> Option<Rest<u64>>
-    requires table { (table.now.table ≡ shelf.old) × IsOfTable table.now.table rest.table }
-    requires quiet { (rest.alone ≡ Some false) × (rest.dropped ≡ []) × (rest.turns ≢ []) }
-    requires net { table.now.net ≡ net.now }
-    ensures shelf { shelf.new ≡ shelf.old }
-    ensures rest { IfSome result (λ r. IsOfTable table.now.table r.table × (r.dropped ≡ []) × (r.alone ≡ None)) }
-{
-    if net.sems().is_empty() {
-        shelf.give_up();
-        return None;
-    }
-    match table.rest_full(rest, 0) {
-        UnitLook::Available(rest) => {
-            let (rest, turn) = table.rest_pop(rest);
-            shelf.wait(turn);
-            Some(rest)
+        if rest.len() == 0 || steps.net.sems().is_empty() {
+            self.rest = Some(rest);
+            return;
         }
-        UnitLook::Exhausted(rest) => {
-            stick(table, net, shelf, rest);
-            None
+        match steps.table.rest_check(rest) {
+            Checked::Busy(rest, _) => self.rest = Some(rest),
+            Checked::Alone(rest, false) => self.look_for_unit(steps, rest),
+            Checked::Alone(rest, true) => {
+                self.shelf
+                    .put(&steps.table, drop_all(steps, rest, DropWhy::Halted));
+            }
+        }
+    }
+
+    // Hands out the last turn of a rest that is alone where semaphore 0 has a unit, and else drops all its turns.
+    fn look_for_unit(&mut self, steps: &Steps, rest: Rest<u64>)
+        requires table { (steps.now.table.table ≡ self.old) × IsOfTable self.old rest.table }
+        requires quiet { (rest.alone ≡ Some false) × (rest.dropped ≡ []) × (rest.turns ≢ []) }
+        requires sems { 0 < length steps.now.table.net.sems }
+        ensures { self.new ≡ self.old }
+    {
+        match steps.table.rest_full(rest, 0) {
+            UnitLook::Available(rest) => {
+                let (rest, turn) = steps.table.rest_pop(rest);
+                self.rest = Some(rest);
+                self.shelf.put(&steps.table, Item::Lacking(turn));
+            }
+            UnitLook::Exhausted(rest) => {
+                self.shelf
+                    .put(&steps.table, drop_all(steps, rest, DropWhy::Stuck(0)));
+            }
         }
     }
 }
 
-// Drops all turns of a rest for want of a unit of semaphore 0.
-fn stick(table: &NetTable<u64>, net: &Net, shelf: &mut Shelf, rest: Rest<u64>)
-    requires table { (table.now.table ≡ shelf.old) × IsOfTable table.now.table rest.table }
-    requires quiet { rest.alone ≡ Some false }
-    requires full { 1 ≤ times 0 rest.full }
-    requires net { table.now.net ≡ net.now }
-    ensures { shelf.new ≡ shelf.old }
+// Drops all turns of a rest that is alone: the turn that is done, or a stop where a task takes no unit.
+fn drop_all(steps: &Steps, rest: Rest<u64>, why: DropWhy) -> Item
+    requires { IsIdle steps.now.table rest why }
+    ensures { IsItem steps.now.table.table result }
 {
-    if !waits_for_first(net, &rest) {
-        shelf.give_up();
-        return;
-    }
-    match table.rest_drop(rest, DropWhy::Stuck(0)) {
-        RestDrop::More(rest) => stick(table, net, shelf, rest),
-        RestDrop::Last(spent) => {
-            shelf.finish(table, spent);
-            shelf.give_up();
-        }
+    match drop_last(steps, rest, why) {
+        Some(RestDrop::More(rest)) => drop_all(steps, rest, why),
+        Some(RestDrop::Last(spent)) => Item::Spent(spent),
+        None => Item::Stop,
     }
 }
 
-/// Whether the last turn of a rest is of a task that takes semaphore 0.
-pub(crate) fn waits_for_first(net: &Net, rest: &Rest<u64>) -> bool
-    ensures { IsTrue result → LastTakes net.now 0 rest.now.turns }
+// Drops the last turn of a rest that is alone. It is `None` where its task takes no unit of semaphore 0.
+fn drop_last(steps: &Steps, rest: Rest<u64>, why: DropWhy) -> Option<RestDrop<u64>>
+    requires { IsIdle steps.now.table rest why }
+    ensures { IfSome result (IsLeft steps.now.table why) }
 {
-    let Some(parked) = rest.last() else {
-        return false;
-    };
-    let task = parked.task;
-    (task as usize) < net.tasks().len() && takes_first(net, task)
+    let task = rest.last()?.task;
+    if takes_first(&steps.net, task) {
+        Some(steps.table.rest_drop(rest, why))
+    } else {
+        None
+    }
+}
+
+// Whether a task takes a unit of semaphore 0.
+fn takes_first(net: &Net, task: u32) -> bool
+    ensures { IsTrue result → IsTrue (takes net.now 0 task) }
+{
+    matches!(need_of(net, task), Some(Need::Borrow | Need::Hold))
 }

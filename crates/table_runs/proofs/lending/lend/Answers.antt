@@ -4,13 +4,15 @@ use Rattle.join_tables.specs.Claims.{HasCredited, HasClaimed, credit_one}
 use Rattle.table_runs.proofs.Borrowing.{lends}
 use Rattle.table_runs.proofs.lending.lend.Goals as goal
 
-pub returns-clause-units : goal.returns-clause-units
-returns-clause-units c =
-    let net = c.args.table.now.net in let u = c.start.result.units in
-    let l = lends net c.args.ticket.task u c.start.ensures.units c.requires.needs.1 c.requires.needs.2 c.requires.needs.3 in
+pub returns : goal.returns
+returns c =
+    let net = c.args.table.now.net in let u = c.start.result.units in let need = c.requires.2 in
+    let l = lends net c.args.ticket.task u c.start.ensures.units need.keeps.0 need.keeps.1 need.puts in
     let task_is : c.credit.result.task ≡ c.args.ticket.task = ap (λ (r : RunningState ℕ). r.task) c.credit.ensures.state ∙ ap (λ (r : RunningState ℕ). r.task) c.start.ensures.state in
     let units_is : c.credit.result.units ≡ credit_one 0 u = ap (λ (r : RunningState ℕ). r.units) c.credit.ensures.state in (
+      ap (λ (r : RunningState ℕ). r.table) c.credit.ensures.state ∙ ap (λ (r : RunningState ℕ). r.table) c.start.ensures.state,
       subst (λ t. HasCredited net t c.credit.result.units) (sym task_is) (subst (λ (w : StartUnits). HasCredited net c.args.ticket.task w) (sym units_is) l.credited),
       subst (λ t. HasClaimed net t c.credit.result.units) (sym task_is) (subst (λ (w : StartUnits). HasClaimed net c.args.ticket.task w) (sym units_is) l.claimed),
       ap (λ (w : StartUnits). w.back) units_is ∙ l.back,
+      tt,
     )

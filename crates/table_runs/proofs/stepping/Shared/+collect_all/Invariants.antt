@@ -1,5 +1,0 @@
-use Rattle.std.proofs.Common.{length}
-use Rattle.table_runs.proofs.stepping.Shared.+collect_all.Given as goal
-
-abbrev pub decreases-collect_all : goal.decreases-collect_all
-decreases-collect_all g l = length l.collecting.left

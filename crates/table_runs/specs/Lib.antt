@@ -1,0 +1,4 @@
+pub mod Needs
+pub mod Stages
+pub mod Items
+pub mod Parks
