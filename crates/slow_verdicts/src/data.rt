@@ -8,8 +8,9 @@ ghost use Rattle.journal_rules.specs.DataRule.{edges_of, has_part, last_from, la
 ghost use Rattle.journal_rules.specs.ShapeLegal.{MeetsDataRule};
 ghost use Rattle.slow_verdicts.specs.Parts.{is_same_find, is_found_among};
 
-use legal_run::{Cause, Entry, Part};
-use slow_rules::{first_tokens, given, gives_edge, is_weak, prefix, strong_in, used, used_weak};
+use crate::counts::{first_tokens, given, gives_edge, prefix, used, used_weak};
+use crate::nets::{is_weak, strong_in};
+use journal_rules::{Cause, Entry, Part};
 use task_graph::Net;
 
 /// Whether each Start of a journal finds what it may.
@@ -29,8 +30,8 @@ fn finds_at(net: &Net, journal: &[Entry], place: usize) -> bool
     }
 }
 
-/// Whether an entry after a journal, if it is a Start, finds what it may.
-pub fn finds_what_it_may(net: &Net, journal: &[Entry], entry: &Entry) -> bool
+// Whether an entry after a journal, if it is a Start, finds what it may.
+fn finds_what_it_may(net: &Net, journal: &[Entry], entry: &Entry) -> bool
     ensures { IsTrue result ↔ DataRule net.now journal.now entry.now }
 {
     match entry {
@@ -160,8 +161,8 @@ fn is_same_find(part: Part, found: Part) -> bool
     }
 }
 
-/// The last End that gave an edge, or the token with which it began.
-pub fn last_part(edge: u32, journal: &[Entry]) -> Part
+// The last End that gave an edge, or the token with which it began.
+fn last_part(edge: u32, journal: &[Entry]) -> Part
     ensures { result ≡ last_part edge journal.now }
 {
     last_from(edge, 0, Part::First, journal)
@@ -185,8 +186,8 @@ fn last_from(edge: u32, place: u64, part: Part, rest: &[Entry]) -> Part
     }
 }
 
-/// Whether in each prefix at most one token of an edge is given and not used.
-pub fn is_calm(net: &Net, edge: u32, journal: &[Entry]) -> bool
+// Whether in each prefix at most one token of an edge is given and not used.
+fn is_calm(net: &Net, edge: u32, journal: &[Entry]) -> bool
     ensures { IsTrue result ↔ IsCalm net.now edge journal.now }
 {
     (0..journal.len() + 1).all(|n| is_calm_at(net, edge, prefix(journal, n)))

@@ -1,14 +1,11 @@
-//! What is to be said of a journal as a whole, decided by walking lists.
+//! Whether each start of a journal found what it may, decided by walking lists.
 //!
-//! `meets_data_rule` says whether each start of a journal found what it may, `is_complete` whether a run is finished,
-//! and `refusal` which break is reported of an entry after a journal. Like the rules of `slow_rules`, on which they are
-//! built, they keep no counts and allocate nothing, and their contracts are the definitions themselves.
+//! `meets_data_rule` keeps no counts and allocates nothing, and its contract is the definition itself. It looks at the
+//! whole journal again for each entry, so it is for journals of tests.
 #![tactic(auto)]
 
-mod complete;
+mod counts;
 mod data;
-mod refusals;
+mod nets;
 
-pub use complete::is_complete;
-pub use data::{finds_what_it_may, is_calm, last_part, meets_data_rule};
-pub use refusals::refusal;
+pub use data::meets_data_rule;

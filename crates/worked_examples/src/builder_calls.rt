@@ -2,53 +2,69 @@
 ghost use Rattle.std.specs.Prelude.{◌<◌, length, IsTrue};
 ghost use Rattle.task_graph.specs.Chosen.{AnswersSoMany, IsAnswerFor};
 
-use crate::nets::{ExampleNet, add_tasks, built_net, free};
+use crate::nets::{CHOICE, ExampleNet, MANY, PLAIN, add_task, built_net};
 use outside_io::{List, NoMemory};
 use std::alloc::Global;
 use std::test::Fail;
 use task_graph::{BuildError, Net, NetBuilder, Shape};
 
-#[test]
-fn an_edge_needs_both_ends(rt: HostRuntime) -> Result<(), Fail> {
-    let mut builder = NetBuilder::new(rt.alloc());
-    add_tasks(rt.alloc(), &mut builder, 1)?;
-    assert_eq!(rt; builder.edge(0, 5, false), Err(BuildError::NoSuchTask(5)));
-    assert_eq!(rt; builder.edge(0, 0, false), Ok(0));
-    Ok(())
+// A net of two tasks, the indices by which one of them chooses, and the edges that it chooses by them.
+#[derive(Clone, Copy)]
+struct Chosen<'r> {
+    net: ExampleNet<'r>,
+    task: u32,
+    indices: &'r [i64],
+    edges: &'r [u32],
 }
 
 // The Many 1 has the out-edges 4, 7 and 9.
-#[test]
-fn a_many_chooses_each_index_once(rt: HostRuntime) -> Result<(), Fail> {
-    let to_many = (0, 1);
-    let from_many = (1, 0);
-    let rows = ExampleNet {
-        sems: &[],
-        tasks: &[free(Shape::Plain), free(Shape::Many)],
+const BY_MANY: Chosen<'static> = Chosen {
+    net: ExampleNet {
+        tasks: &[PLAIN, MANY],
         edges: &[
-            to_many, to_many, to_many, to_many, from_many, to_many, to_many, from_many, to_many,
-            from_many,
+            (0, 1),
+            (0, 1),
+            (0, 1),
+            (0, 1),
+            (1, 0),
+            (0, 1),
+            (0, 1),
+            (1, 0),
+            (0, 1),
+            (1, 0),
         ],
         rings: &[],
-    };
-    let net = built_net(rt.alloc(), rows)?;
-    let edges = edges_chosen(rt.alloc(), &net, 1, &[1, 1, 0, 7, -1])?;
-    assert_eq!(rt; edges.as_slice(), &[7, 4][..]);
-    Ok(())
-}
+    },
+    task: 1,
+    indices: &[1, 1, 0, 7, -1],
+    edges: &[7, 4],
+};
 
-#[test]
-fn a_choice_may_choose_nothing(rt: HostRuntime) -> Result<(), Fail> {
-    let rows = ExampleNet {
-        sems: &[],
-        tasks: &[free(Shape::Choice), free(Shape::Plain)],
+// A Choice with two edges may choose nothing.
+const BY_CHOICE: Chosen<'static> = Chosen {
+    net: ExampleNet {
+        tasks: &[CHOICE, PLAIN],
         edges: &[(0, 1), (0, 1)],
         rings: &[],
-    };
-    let net = built_net(rt.alloc(), rows)?;
-    assert_eq!(rt; edges_chosen(rt.alloc(), &net, 0, &[3])?.len(), 0);
-    let edges = edges_chosen(rt.alloc(), &net, 0, &[1])?;
-    assert_eq!(rt; edges.as_slice(), &[1][..]);
+    },
+    task: 0,
+    indices: &[1],
+    edges: &[1],
+};
+
+const BY_CHOICE_NOTHING: Chosen<'static> = Chosen {
+    indices: &[3],
+    edges: &[],
+    ..BY_CHOICE
+};
+
+#[test]
+fn indices_choose_edges(rt: HostRuntime) -> Result<(), Fail> {
+    for row in [BY_MANY, BY_CHOICE, BY_CHOICE_NOTHING] {
+        let net = built_net(rt.alloc(), row.net)?;
+        let edges = edges_chosen(rt.alloc(), &net, row.task, row.indices)?;
+        assert_eq!(rt; edges.as_slice(), row.edges);
+    }
     Ok(())
 }
 
@@ -87,4 +103,18 @@ fn fits_shape(shape: Shape, count: usize) -> bool
         Shape::Many => true,
         Shape::Nested => false,
     }
+}
+
+// What a builder with one task answers to an edge from it to this one.
+fn edge_to(alloc: Global, to: u32) -> Result<Result<u32, BuildError>, BuildError> {
+    let mut builder = NetBuilder::new(alloc);
+    add_task(alloc, &mut builder, PLAIN)?;
+    Ok(builder.edge(0, to, false))
+}
+
+#[test]
+fn an_edge_needs_both_ends(rt: HostRuntime) -> Result<(), Fail> {
+    assert_eq!(rt; edge_to(rt.alloc(), 5)?, Err(BuildError::NoSuchTask(5)));
+    assert_eq!(rt; edge_to(rt.alloc(), 0)?, Ok(0));
+    Ok(())
 }

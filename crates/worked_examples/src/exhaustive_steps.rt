@@ -1,301 +1,224 @@
-// Every state that a small net reaches within a few steps, with every next step tried at each of them.
-use crate::nets::{ExampleNet, Task, bound, built_net, free};
-use crate::steps::{Step, ask, compare_step, entry_of, expect_legal};
-use crate::verdicts::{Tally, compare_verdict};
-use legal_run::{Cause, DropWhy, Journal, Machine, Why};
-use outside_io::{List, NoMemory};
+// Every run of a few steps of small nets, with every next step tried at each of its states.
+use crate::nets::{ExampleNet, HOLDER, PLAIN, TAKER, Task, Units, built_net};
+use crate::plain_rules::Taken;
+use crate::steps::{Step, answered, judged};
+use crate::tally::Tally;
+use legal_run::{Cause, DropWhy, MachineError, Verdict, Why};
 use std::alloc::Global;
 use std::process::Abort;
 use std::sync::Arc;
 use std::test::Fail;
 use task_graph::{Net, Shape};
 
-// How many steps a walk takes at most.
-const DEPTH: u8 = 4;
+// How many steps a run takes at most.
+const DEPTH: u8 = 5;
 
 // The most starts of a run.
 const LIMIT: u64 = 2;
 
-// A step, with an End's edges by their index in a list of such lists.
+type Rows<'r> = (&'r [Task], &'r [(u32, u32)], &'r [(u32, u32)]);
+
+// The edges of a net, and its tasks beside the one that its row tells.
 #[derive(Clone, Copy)]
-enum Move {
-    Start(u32, Cause),
-    End(u64, usize, bool),
-    Fault(u64, Why),
-    Drop(u32, Cause, DropWhy),
+enum Links {
+    /// The task follows a source, and one that holds the unit follows it.
+    Chain,
+    /// The same where the first task begins with a token.
+    BegunChain,
+    /// The same two where the task may choose itself.
+    Loop,
+    BegunLoop,
+    /// The task chooses among two edges to one that holds the unit.
+    Pair,
+    /// The same where one of the edges leads to itself, and it begins with a token.
+    BegunPair,
+    /// Another task that takes the unit is beside it.
+    Beside,
 }
 
-// A net, and the steps that are tried at each of its states.
-#[derive(Drop)]
-struct Trial {
-    net: Arc<Net>,
-    gives: Vec<List<u32>>,
-    moves: Vec<Move>,
+// The nets: the shape of a task, what it does with the unit, and what is around it.
+const NETS: [(Shape, Units, Links); 22] = [
+    (Shape::Plain, Units::None, Links::Chain),
+    (Shape::Plain, Units::Taken, Links::BegunChain),
+    (Shape::Plain, Units::Put, Links::Chain),
+    (Shape::Plain, Units::Held, Links::BegunChain),
+    (Shape::Nested, Units::None, Links::BegunChain),
+    (Shape::Nested, Units::Taken, Links::Chain),
+    (Shape::Nested, Units::Put, Links::BegunChain),
+    (Shape::Nested, Units::Held, Links::Chain),
+    (Shape::Choice, Units::None, Links::Loop),
+    (Shape::Choice, Units::Taken, Links::BegunLoop),
+    (Shape::Choice, Units::Put, Links::Loop),
+    (Shape::Choice, Units::Held, Links::BegunLoop),
+    (Shape::Many, Units::None, Links::BegunLoop),
+    (Shape::Many, Units::Taken, Links::Loop),
+    (Shape::Many, Units::Put, Links::BegunLoop),
+    (Shape::Many, Units::Held, Links::Loop),
+    (Shape::Choice, Units::None, Links::Pair),
+    (Shape::Choice, Units::Taken, Links::BegunPair),
+    (Shape::Choice, Units::Put, Links::BegunPair),
+    (Shape::Choice, Units::Held, Links::Pair),
+    (Shape::Many, Units::None, Links::BegunPair),
+    (Shape::Plain, Units::Taken, Links::Beside),
+];
+
+// Each net has at most three tasks and four edges, so that no task has the number 3, and no edge the number 4.
+const TASKS: usize = 4;
+
+const CAUSES: [Cause; 7] = [
+    Cause::Source,
+    Cause::Strong,
+    Cause::Weak(0),
+    Cause::Weak(1),
+    Cause::Weak(2),
+    Cause::Weak(3),
+    Cause::Weak(4),
+];
+
+// No edge, each alone, some twice, and the edges out of each task in both orders.
+const GIVES: [&[u32]; 17] = [
+    &[],
+    &[0],
+    &[1],
+    &[2],
+    &[3],
+    &[4],
+    &[0, 0],
+    &[1, 1],
+    &[2, 2],
+    &[0, 1],
+    &[1, 0],
+    &[0, 2],
+    &[2, 0],
+    &[0, 3],
+    &[3, 0],
+    &[1, 2],
+    &[2, 1],
+];
+
+// How many steps use a release, how many close a start, and the ways to do either.
+const RELEASES: usize = TASKS * 7 * 5;
+
+const CLOSINGS: usize = DEPTH as usize * 21;
+
+// The step of a number.
+fn step_of(number: usize) -> Step<'static> {
+    if number < RELEASES {
+        release_step(number)
+    } else {
+        closing_step(number - RELEASES)
+    }
 }
 
-// Task 1 follows task 0, and task 2, which takes and puts a unit, follows task 1, which is of each shape and takes or
-// puts that unit or not. A task that chooses may choose itself. Task 0 is a source, or begins with a token. Since the
-// release by a weak edge of task 1 comes at the last step, there are nets whose task 0 chooses, too.
+fn release_step(number: usize) -> Step<'static> {
+    let task = (number % TASKS) as u32;
+    let cause = CAUSES[number / TASKS % 7];
+    match number / (TASKS * 7) {
+        0 => Step::Start(task, cause),
+        1 => Step::Drop(task, cause, DropWhy::Halted),
+        2 => Step::Drop(task, cause, DropWhy::Limit),
+        3 => Step::Drop(task, cause, DropWhy::Stuck(0)),
+        _ => Step::Drop(task, cause, DropWhy::Stuck(1)),
+    }
+}
+
+fn closing_step(number: usize) -> Step<'static> {
+    let start = (number % DEPTH as usize) as u64;
+    match number / DEPTH as usize {
+        0 => Step::Fault(start, Why::Inner),
+        1 => Step::Fault(start, Why::OverRelease(0)),
+        2 => Step::Fault(start, Why::OverRelease(1)),
+        3 => Step::InnerEnd(start, &[]),
+        list => Step::End(start, GIVES[(list - 4) % 17]),
+    }
+}
+
 #[test]
 fn machines_and_rules_agree(rt: HostRuntime) -> Result<(), Fail> {
     let mut tally = Tally::new(rt.alloc());
-    for shape in [Shape::Plain, Shape::Nested, Shape::Choice, Shape::Many] {
-        let own: &[(u32, u32)] = &[(0, 1), (1, 2)];
-        let looped: &[(u32, u32)] = &[(0, 1), (1, 2), (1, 1)];
-        let edges = if matches!(shape, Shape::Plain | Shape::Nested) {
-            own
-        } else {
-            looped
-        };
-        for (takes, puts) in [(false, false), (true, false), (false, true), (true, true)] {
-            walk_both(&rt, rt.alloc(), &mut tally, shape, takes, puts, edges)?;
-        }
+    for (shape, units, links) in NETS {
+        walk(&rt, rt.alloc(), &mut tally, Task { shape, units }, links)?;
     }
-    walk_choosers(&rt, rt.alloc(), &mut tally)?;
-    walk_takers(&rt, rt.alloc(), &mut tally)?;
     tally.expect_each(&rt);
     Ok(())
 }
 
-// The nets whose task 0 chooses.
-fn walk_choosers(rt: &impl Abort, alloc: Global, tally: &mut Tally) -> Result<(), Fail> {
-    for (takes, puts) in [(false, false), (true, false), (false, true), (true, true)] {
-        walk_chooser(rt, alloc, tally, Shape::Choice, takes, puts)?;
-    }
-    walk_chooser(rt, alloc, tally, Shape::Many, false, false)
-}
-
-// Task 0 chooses. It is a source with two edges to task 1; or it begins with a token, and may choose itself. Task 1
-// takes and puts a unit.
-fn walk_chooser(
-    rt: &impl Abort,
-    alloc: Global,
-    tally: &mut Tally,
-    shape: Shape,
-    takes: bool,
-    puts: bool,
-) -> Result<(), Fail> {
-    let unit: &[u32] = &[0];
-    let none: &[u32] = &[];
-    let first = Task {
-        shape,
-        takes: if takes { unit } else { none },
-        puts: if puts { unit } else { none },
-    };
-    let tasks = [first, bound(unit, unit)];
-    walk(
-        rt,
-        alloc,
-        tally,
-        ExampleNet {
-            sems: &[1],
-            tasks: &tasks,
-            edges: &[(0, 1), (0, 1)],
-            rings: &[],
-        },
-    )?;
-    walk(
-        rt,
-        alloc,
-        tally,
-        ExampleNet {
-            sems: &[1],
-            tasks: &tasks,
-            edges: &[(0, 0), (0, 1)],
-            rings: &[(1, 0)],
-        },
-    )
-}
-
-// Two tasks take the one unit, and none puts it back.
-fn walk_takers(rt: &impl Abort, alloc: Global, tally: &mut Tally) -> Result<(), Fail> {
-    let tasks = [bound(&[0], &[]), bound(&[0], &[])];
-    let rows = ExampleNet {
-        sems: &[1],
-        tasks: &tasks,
-        edges: &[],
-        rings: &[],
-    };
-    walk(rt, alloc, tally, rows)
-}
-
-// The net with a source, and with a token at the beginning.
-fn walk_both(
-    rt: &impl Abort,
-    alloc: Global,
-    tally: &mut Tally,
-    shape: Shape,
-    takes: bool,
-    puts: bool,
-    edges: &[(u32, u32)],
-) -> Result<(), Fail> {
-    let unit: &[u32] = &[0];
-    let none: &[u32] = &[];
-    let middle = Task {
-        shape,
-        takes: if takes { unit } else { none },
-        puts: if puts { unit } else { none },
-    };
-    let last = Task {
-        shape: Shape::Plain,
-        takes: unit,
-        puts: unit,
-    };
-    let tasks = [free(Shape::Plain), middle, last];
-    walk(
-        rt,
-        alloc,
-        tally,
-        ExampleNet {
-            sems: &[1],
-            tasks: &tasks,
-            edges,
-            rings: &[],
-        },
-    )?;
-    walk(
-        rt,
-        alloc,
-        tally,
-        ExampleNet {
-            sems: &[1],
-            tasks: &tasks,
-            edges,
-            rings: &[(0, 0)],
-        },
-    )
-}
-
+// Takes all runs of the net of a task.
 fn walk(
     rt: &impl Abort,
     alloc: Global,
     tally: &mut Tally,
-    rows: ExampleNet<'_>,
+    task: Task,
+    links: Links,
 ) -> Result<(), Fail> {
+    let chain = [PLAIN, task, HOLDER];
+    let pair = [task, HOLDER];
+    let takers = [task, TAKER];
+    let (tasks, edges, rings): Rows<'_> = match links {
+        Links::Chain => (&chain, &[(0, 1), (1, 2)], &[]),
+        Links::BegunChain => (&chain, &[(0, 1), (1, 2)], &[(0, 0)]),
+        Links::Loop => (&chain, &[(0, 1), (1, 2), (1, 1)], &[]),
+        Links::BegunLoop => (&chain, &[(0, 1), (1, 2), (1, 1)], &[(0, 0)]),
+        Links::Pair => (&pair, &[(0, 1), (0, 1)], &[]),
+        Links::BegunPair => (&pair, &[(0, 0), (0, 1)], &[(1, 0)]),
+        Links::Beside => (&takers, &[], &[]),
+    };
+    let rows = ExampleNet {
+        tasks,
+        edges,
+        rings,
+    };
     let net = built_net(alloc, rows)?;
-    let trial = trial_of(alloc, net)?;
     let mut path = Vec::new(alloc);
-    explore(rt, alloc, tally, &trial, &mut path, DEPTH)
+    explore(rt, alloc, tally, rows, &net, &mut path, DEPTH)
 }
 
-// Tries each step at the state after a path, and goes on from each that is taken.
+// Tries each step after those of a path, and goes on from each that is taken.
 fn explore(
     rt: &impl Abort,
     alloc: Global,
     tally: &mut Tally,
-    trial: &Trial,
-    path: &mut Vec<Move>,
+    rows: ExampleNet<'_>,
+    net: &Arc<Net>,
+    path: &mut Vec<Step<'static>>,
     depth: u8,
 ) -> Result<(), Fail> {
-    let mut machine = replay(alloc, trial, path.as_slice())?;
-    expect_legal(rt, &trial.net, LIMIT, &machine);
-    if depth == 0 {
-        return Ok(());
-    }
-    for next in &trial.moves {
-        path.push(*next)?;
-        let journal = journal_of(alloc, trial, path.as_slice())?;
-        compare_verdict(rt, alloc, tally, &trial.net, LIMIT, &journal)?;
-        let step = step_of(trial, *next);
-        if compare_step(rt, alloc, &trial.net, LIMIT, &mut machine, step)?.is_ok() {
-            explore(rt, alloc, tally, trial, path, depth - 1)?;
-            path.pop();
-            machine = replay(alloc, trial, path.as_slice())?;
-        } else {
-            path.pop();
+    for number in 0..RELEASES + CLOSINGS {
+        path.push(step_of(number))?;
+        if is_taken(rt, alloc, tally, rows, net, path.as_slice())? && depth > 1 {
+            explore(rt, alloc, tally, rows, net, path, depth - 1)?;
         }
+        path.pop();
     }
     Ok(())
 }
 
-// The entries of steps, of which perhaps the last may not be taken.
-fn journal_of(alloc: Global, trial: &Trial, path: &[Move]) -> Result<Journal, NoMemory> {
-    let mut journal = List::new(alloc);
-    for step in path {
-        journal.push(entry_of(alloc, step_of(trial, *step))?)?;
-    }
-    Ok(journal)
+// Whether the last of these steps is taken, each before which was. The machine and the judge say what the rules say.
+fn is_taken(
+    rt: &impl Abort,
+    alloc: Global,
+    tally: &mut Tally,
+    rows: ExampleNet<'_>,
+    net: &Arc<Net>,
+    steps: &[Step<'_>],
+) -> Result<bool, Fail> {
+    let run = Taken {
+        net: rows,
+        limit: LIMIT,
+        steps,
+    };
+    let verdict = run.verdict();
+    assert_eq!(rt; judged(alloc, net, LIMIT, steps)?, verdict);
+    assert_eq!(rt; answered(alloc, net, LIMIT, steps)?, answer_of(verdict));
+    tally.add(verdict, steps)?;
+    Ok(!matches!(verdict, Verdict::Breaks(_, _)))
 }
 
-fn replay(alloc: Global, trial: &Trial, path: &[Move]) -> Result<Machine, Fail> {
-    let mut machine = Machine::new(alloc, Arc::try_clone(&trial.net)?, LIMIT)?;
-    for step in path {
-        let _ = ask(&mut machine, step_of(trial, *step));
+// What a machine answers to the last step: whether it is at rest then, or why it refuses it.
+fn answer_of(verdict: Verdict) -> Result<bool, MachineError> {
+    match verdict {
+        Verdict::Complete => Ok(true),
+        Verdict::Legal => Ok(false),
+        Verdict::Breaks(_, broken) => Err(broken.into()),
     }
-    Ok(machine)
-}
-
-fn step_of(trial: &Trial, step: Move) -> Step<'_> {
-    match step {
-        Move::Start(task, cause) => Step::Start { task, cause },
-        Move::End(start, gives, inner) => Step::End {
-            start,
-            gives: match trial.gives.get(gives) {
-                Some(list) => list.as_slice(),
-                None => &[],
-            },
-            inner,
-        },
-        Move::Fault(start, why) => Step::Fault { start, why },
-        Move::Drop(task, cause, why) => Step::Drop { task, cause, why },
-    }
-}
-
-// Each number that the net has, and one that it hasn't.
-fn trial_of(alloc: Global, net: Arc<Net>) -> Result<Trial, Fail> {
-    let gives = gives_of(alloc, &net)?;
-    let mut moves = Vec::new(alloc);
-    for task in 0..=net.tasks().len() as u32 {
-        add_releases(&mut moves, task, Cause::Source)?;
-        add_releases(&mut moves, task, Cause::Strong)?;
-        for edge in 0..=net.edges().len() as u32 {
-            add_releases(&mut moves, task, Cause::Weak(edge))?;
-        }
-    }
-    for start in 0..DEPTH as u64 {
-        moves.push(Move::Fault(start, Why::Inner))?;
-        moves.push(Move::Fault(start, Why::OverRelease(0)))?;
-        moves.push(Move::Fault(start, Why::OverRelease(1)))?;
-        for list in 0..gives.len() {
-            moves.push(Move::End(start, list, false))?;
-        }
-        moves.push(Move::End(start, 0, true))?;
-    }
-    Ok(Trial { net, gives, moves })
-}
-
-fn add_releases(moves: &mut Vec<Move>, task: u32, cause: Cause) -> Result<(), Fail> {
-    moves.push(Move::Start(task, cause))?;
-    for why in [
-        DropWhy::Halted,
-        DropWhy::Limit,
-        DropWhy::Stuck(0),
-        DropWhy::Stuck(1),
-    ] {
-        moves.push(Move::Drop(task, cause, why))?;
-    }
-    Ok(())
-}
-
-// None, each edge alone and twice, and the edges out of each task in both orders.
-fn gives_of(alloc: Global, net: &Net) -> Result<Vec<List<u32>>, Fail> {
-    let mut lists = Vec::new(alloc);
-    lists.push(List::new(alloc))?;
-    for edge in 0..=net.edges().len() as u32 {
-        lists.push(List::from_slice(alloc, &[edge])?)?;
-        lists.push(List::from_slice(alloc, &[edge, edge])?)?;
-    }
-    for task in 0..net.tasks().len() as u32 {
-        lists.push(List::from_slice(alloc, net.out_edges(task))?)?;
-        lists.push(backwards(alloc, net.out_edges(task))?)?;
-    }
-    Ok(lists)
-}
-
-fn backwards(alloc: Global, edges: &[u32]) -> Result<List<u32>, Fail> {
-    let mut list = List::new(alloc);
-    for edge in edges.iter().rev() {
-        list.push(*edge)?;
-    }
-    Ok(list)
 }

@@ -1,6 +1,7 @@
 // A run of many tasks.
-use crate::nets::add_tasks;
+use crate::nets::{PLAIN, add_task};
 use legal_run::{Cause, MAX_LIMIT, Machine, MachineError};
+use outside_io::NoMemory;
 use std::alloc::Global;
 use std::sync::Arc;
 use std::test::Fail;
@@ -9,6 +10,20 @@ use task_graph::{BuildError, Net, NetBuilder};
 const TASKS: u32 = 10_000;
 
 const EDGES: u32 = 100_000;
+
+fn large_net(alloc: Global) -> Result<Arc<Net>, Fail> {
+    let mut builder = NetBuilder::new(alloc);
+    add_tasks(alloc, &mut builder)?;
+    add_edges(&mut builder)?;
+    Ok(Arc::new(alloc, builder.finish())?)
+}
+
+fn add_tasks(alloc: Global, builder: &mut NetBuilder) -> Result<(), BuildError> {
+    for _ in 0..TASKS {
+        add_task(alloc, builder, PLAIN)?;
+    }
+    Ok(())
+}
 
 // The source of an edge is never the last task, and its target is a later task, at most ten tasks on.
 fn add_edges(builder: &mut NetBuilder) -> Result<(), BuildError> {
@@ -20,11 +35,11 @@ fn add_edges(builder: &mut NetBuilder) -> Result<(), BuildError> {
     Ok(())
 }
 
-fn large_net(alloc: Global) -> Result<Arc<Net>, Fail> {
-    let mut builder = NetBuilder::new(alloc);
-    add_tasks(alloc, &mut builder, TASKS)?;
-    add_edges(&mut builder)?;
-    Ok(Arc::new(alloc, builder.finish())?)
+// How many entries the run of a net has, and whether it is at rest then.
+fn run_of(alloc: Global, net: Arc<Net>) -> Result<(usize, bool), NoMemory> {
+    let mut machine = Machine::new(alloc, Arc::try_clone(&net)?, MAX_LIMIT)?;
+    let is_run = run_in_order(&mut machine, &net).is_ok();
+    Ok((machine.journal().len(), is_run && machine.at_rest()))
 }
 
 // Starts and ends each task, in order of their numbers. Each edge leads to a later task, so that each task is
@@ -45,11 +60,6 @@ fn run_in_order(machine: &mut Machine, net: &Net) -> Result<(), MachineError> {
 #[test]
 fn runs_ten_thousand_tasks(rt: HostRuntime) -> Result<(), Fail> {
     let net = large_net(rt.alloc())?;
-    assert_eq!(rt; net.tasks().len(), 10_000);
-    assert_eq!(rt; net.edges().len(), 100_000);
-    let mut machine = Machine::new(rt.alloc(), net.clone()?, MAX_LIMIT)?;
-    run_in_order(&mut machine, &net)?;
-    assert!(rt; machine.at_rest());
-    assert_eq!(rt; machine.journal().len(), 20_000);
+    assert_eq!(rt; run_of(rt.alloc(), net)?, (2 * TASKS as usize, true));
     Ok(())
 }

@@ -1,7 +1,7 @@
 //! Runs over the crates below, worked as examples. There is nothing here but tests.
 //!
-//! A machine is compared with the slow decisions of the rules at each step, right and wrong ones, of small
-//! runs; and a run of many tasks is led from its first start to its last end.
+//! The machine and the judge are held against runs that were worked out by hand, and on a table of small nets, at each
+//! step, right or wrong, against plain rules that look through the steps before it.
 #![tactic(auto)]
 
 #[cfg(test)]
@@ -9,13 +9,17 @@ mod builder_calls;
 #[cfg(test)]
 mod exhaustive_steps;
 #[cfg(test)]
-mod greedy_runs;
-#[cfg(test)]
 mod journals;
 #[cfg(test)]
 mod large_run;
 #[cfg(test)]
 mod nets;
+#[cfg(test)]
+mod plain_nets;
+#[cfg(test)]
+mod plain_rules;
+#[cfg(test)]
+mod plain_units;
 #[cfg(test)]
 mod queries;
 #[cfg(test)]
@@ -23,4 +27,4 @@ mod small_runs;
 #[cfg(test)]
 mod steps;
 #[cfg(test)]
-mod verdicts;
+mod tally;

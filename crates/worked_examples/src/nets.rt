@@ -1,42 +1,80 @@
 // Small nets.
-use outside_io::List;
+use outside_io::{List, NoMemory};
 use std::alloc::Global;
 use std::sync::Arc;
 use std::test::Fail;
 use task_graph::{BuildError, Net, NetBuilder, Shape};
 
-/// A task: its shape, and the semaphores that it takes and puts.
+/// What a task does with the one semaphore of its net.
 #[derive(Clone, Copy)]
-pub struct Task<'s> {
+pub enum Units {
+    /// Nothing.
+    None,
+    /// It takes a unit, and keeps it.
+    Taken,
+    /// It puts a unit that it didn't take.
+    Put,
+    /// It takes a unit and puts it back.
+    Held,
+}
+
+/// A task: its shape, and what it does with units.
+#[derive(Clone, Copy)]
+pub struct Task {
     pub shape: Shape,
-    pub takes: &'s [u32],
-    pub puts: &'s [u32],
+    pub units: Units,
 }
 
-/// A task that needs no semaphore.
-pub fn free(shape: Shape) -> Task<'static> {
-    Task {
-        shape,
-        takes: &[],
-        puts: &[],
+impl Task {
+    /// Whether it takes a unit.
+    pub fn takes(&self) -> bool {
+        matches!(self.units, Units::Taken | Units::Held)
+    }
+
+    /// Whether it puts one.
+    pub fn puts(&self) -> bool {
+        matches!(self.units, Units::Put | Units::Held)
     }
 }
 
-/// A plain task that takes and puts these semaphores.
-pub fn bound<'s>(takes: &'s [u32], puts: &'s [u32]) -> Task<'s> {
-    Task {
-        shape: Shape::Plain,
-        takes,
-        puts,
-    }
-}
+/// A plain task that needs no unit.
+pub const PLAIN: Task = Task {
+    shape: Shape::Plain,
+    units: Units::None,
+};
 
-/// The rows of a net: the maxima of its semaphores, its tasks, its edges, and of these the last ones that begin with
-/// a token.
+/// A task that chooses an edge.
+pub const CHOICE: Task = Task {
+    shape: Shape::Choice,
+    units: Units::None,
+};
+
+/// A task that chooses any of its edges.
+pub const MANY: Task = Task {
+    shape: Shape::Many,
+    units: Units::None,
+};
+
+/// Plain tasks that take a unit, put one, or hold one as they run.
+pub const TAKER: Task = Task {
+    shape: Shape::Plain,
+    units: Units::Taken,
+};
+
+pub const PUTTER: Task = Task {
+    shape: Shape::Plain,
+    units: Units::Put,
+};
+
+pub const HOLDER: Task = Task {
+    shape: Shape::Plain,
+    units: Units::Held,
+};
+
+/// The rows of a net with one semaphore, of one unit: its tasks, its edges, and those after them that begin with a token.
 #[derive(Clone, Copy)]
 pub struct ExampleNet<'r> {
-    pub sems: &'r [u32],
-    pub tasks: &'r [Task<'r>],
+    pub tasks: &'r [Task],
     pub edges: &'r [(u32, u32)],
     pub rings: &'r [(u32, u32)],
 }
@@ -44,37 +82,34 @@ pub struct ExampleNet<'r> {
 /// The net of these rows.
 pub fn built_net(alloc: Global, rows: ExampleNet<'_>) -> Result<Arc<Net>, Fail> {
     let mut builder = NetBuilder::new(alloc);
-    for max in rows.sems {
-        builder.semaphore(*max)?;
-    }
-    for task in rows.tasks {
-        add_task(alloc, &mut builder, *task)?;
-    }
-    add_edges(&mut builder, rows.edges, false)?;
-    add_edges(&mut builder, rows.rings, true)?;
+    add_rows(alloc, &mut builder, rows)?;
     Ok(Arc::new(alloc, builder.finish())?)
 }
 
-fn add_task(alloc: Global, builder: &mut NetBuilder, task: Task<'_>) -> Result<u32, BuildError> {
-    let takes = List::from_slice(alloc, task.takes)?;
-    let puts = List::from_slice(alloc, task.puts)?;
+fn add_rows(
+    alloc: Global,
+    builder: &mut NetBuilder,
+    rows: ExampleNet<'_>,
+) -> Result<(), BuildError> {
+    builder.semaphore(1)?;
+    for task in rows.tasks {
+        add_task(alloc, builder, *task)?;
+    }
+    add_edges(builder, rows.edges, false)?;
+    add_edges(builder, rows.rings, true)
+}
+
+/// Adds a task.
+pub fn add_task(alloc: Global, builder: &mut NetBuilder, task: Task) -> Result<u32, BuildError> {
+    let takes = semaphores(alloc, task.takes())?;
+    let puts = semaphores(alloc, task.puts())?;
     builder.task(task.shape, takes, puts)
 }
 
-/// A net of so many plain tasks, with these edges, each from the first task to the second.
-pub fn plain_net(alloc: Global, tasks: u32, edges: &[(u32, u32)]) -> Result<Arc<Net>, Fail> {
-    let mut builder = NetBuilder::new(alloc);
-    add_tasks(alloc, &mut builder, tasks)?;
-    add_edges(&mut builder, edges, false)?;
-    Ok(Arc::new(alloc, builder.finish())?)
-}
-
-/// Adds plain tasks that need no semaphore.
-pub fn add_tasks(alloc: Global, builder: &mut NetBuilder, count: u32) -> Result<(), BuildError> {
-    for _ in 0..count {
-        builder.task(Shape::Plain, List::new(alloc), List::new(alloc))?;
-    }
-    Ok(())
+// The one semaphore, or none.
+fn semaphores(alloc: Global, one: bool) -> Result<List<u32>, NoMemory> {
+    let numbers: &[u32] = if one { &[0] } else { &[] };
+    List::from_slice(alloc, numbers)
 }
 
 fn add_edges(

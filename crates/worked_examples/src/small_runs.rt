@@ -1,290 +1,393 @@
 // Small runs, step by step, with the answers that were worked out by hand.
-use crate::nets::{ExampleNet, bound, built_net, free, plain_net};
-use crate::steps::{Step, compare_step, drop_of, end, expect_legal, fault, start};
+use crate::nets::{CHOICE, ExampleNet, MANY, PLAIN, PUTTER, TAKER, built_net};
+use crate::plain_rules::Taken;
+use crate::steps::{Step, ask};
 use legal_run::{Cause, DropWhy, Machine, MachineError, Why};
+use outside_io::NoMemory;
 use std::alloc::Global;
 use std::process::Abort;
-use std::sync::Arc;
 use std::test::Fail;
-use task_graph::{Net, Shape};
+
+const SOURCE: Cause = Cause::Source;
+
+const STRONG: Cause = Cause::Strong;
+
+const HALTED: DropWhy = DropWhy::Halted;
+
+const STUCK: DropWhy = DropWhy::Stuck(0);
 
 type StepAnswer = Result<u64, MachineError>;
 
-// A net of so many tasks with these edges, and how many starts its run may have.
+const NOT_RELEASED: StepAnswer = Err(MachineError::NotReleased);
+
+const NOT_OPEN: StepAnswer = Err(MachineError::NotOpen);
+
+const NOT_CHOSEN: StepAnswer = Err(MachineError::NotChosen);
+
+const NO_SUCH: StepAnswer = Err(MachineError::NoSuch);
+
+const AFTER_STUCK: StepAnswer = Err(MachineError::AfterStuck);
+
+// A net and how many starts its run may have, what is answered to each step, and whether the machine is at rest then.
 #[derive(Clone, Copy)]
-struct SmallRun<'e> {
-    tasks: u32,
-    edges: &'e [(u32, u32)],
+struct SmallRun<'r> {
+    net: ExampleNet<'r>,
     limit: u64,
+    steps: &'r [(Step<'r>, StepAnswer)],
+    is_at_rest: bool,
 }
 
-// Each step is answered so, and in the end the machine is at rest or not.
-fn expect_run(
-    rt: &impl Abort,
-    alloc: Global,
-    given: SmallRun<'_>,
-    steps: &[(Step<'_>, StepAnswer)],
-    is_at_rest: bool,
-) -> Result<(), Fail> {
-    let net = plain_net(alloc, given.tasks, given.edges)?;
-    expect_run_of(rt, alloc, &net, given.limit, steps, is_at_rest)
-}
+const RUNS: [SmallRun<'static>; 16] = [
+    // No task at all.
+    SmallRun {
+        net: ExampleNet {
+            tasks: &[],
+            edges: &[],
+            rings: &[],
+        },
+        limit: 10,
+        steps: &[(Step::Start(0, SOURCE), NO_SUCH)],
+        is_at_rest: true,
+    },
+    // Task 1 follows task 0.
+    SmallRun {
+        net: ExampleNet {
+            tasks: &[PLAIN; 2],
+            edges: &[(0, 1)],
+            rings: &[],
+        },
+        limit: 10,
+        steps: &[
+            (Step::Start(1, STRONG), NOT_RELEASED),
+            (Step::Start(0, SOURCE), Ok(0)),
+            (Step::Start(0, SOURCE), NOT_RELEASED),
+            (Step::Start(1, STRONG), NOT_RELEASED),
+            (Step::End(0, &[0]), Ok(1)),
+            (Step::End(0, &[0]), NOT_OPEN),
+            (Step::Start(1, SOURCE), NOT_RELEASED),
+            (Step::Start(1, STRONG), Ok(2)),
+            (Step::End(2, &[0]), NOT_CHOSEN),
+            (Step::End(1, &[]), NOT_OPEN),
+            (Step::End(2, &[]), Ok(3)),
+            (Step::Start(1, STRONG), NOT_RELEASED),
+        ],
+        is_at_rest: true,
+    },
+    // An end that gives nothing releases nothing, and the run is over.
+    SmallRun {
+        net: ExampleNet {
+            tasks: &[PLAIN; 2],
+            edges: &[(0, 1)],
+            rings: &[],
+        },
+        limit: 10,
+        steps: &[
+            (Step::Start(0, SOURCE), Ok(0)),
+            (Step::End(0, &[]), Ok(1)),
+            (Step::Start(1, STRONG), NOT_RELEASED),
+        ],
+        is_at_rest: true,
+    },
+    // The second start would be one too many.
+    SmallRun {
+        net: ExampleNet {
+            tasks: &[PLAIN; 2],
+            edges: &[(0, 1)],
+            rings: &[],
+        },
+        limit: 1,
+        steps: &[
+            (Step::Start(0, SOURCE), Ok(0)),
+            (Step::End(0, &[0]), Ok(1)),
+            (Step::Start(1, SOURCE), NOT_RELEASED),
+            (Step::Start(1, STRONG), Err(MachineError::AtLimit)),
+        ],
+        is_at_rest: false,
+    },
+    // Tasks 1 and 2 follow task 0, and task 3 follows both.
+    SmallRun {
+        net: ExampleNet {
+            tasks: &[PLAIN; 4],
+            edges: &[(0, 1), (0, 2), (1, 3), (2, 3)],
+            rings: &[],
+        },
+        limit: 10,
+        steps: &[
+            (Step::Start(0, SOURCE), Ok(0)),
+            (Step::End(0, &[1, 0]), NOT_CHOSEN),
+            (Step::End(0, &[1]), NOT_CHOSEN),
+            (Step::End(0, &[0, 1]), Ok(1)),
+            (Step::Start(2, STRONG), Ok(2)),
+            (Step::Start(1, STRONG), Ok(3)),
+            (Step::End(2, &[3]), Ok(4)),
+            (Step::Start(3, STRONG), NOT_RELEASED),
+            (Step::End(3, &[3]), NOT_CHOSEN),
+            (Step::End(3, &[2]), Ok(5)),
+            (Step::Start(3, STRONG), Ok(6)),
+            (Step::End(6, &[]), Ok(7)),
+        ],
+        is_at_rest: true,
+    },
+    // The last task of a diamond is the fourth start, and only three are allowed.
+    SmallRun {
+        net: ExampleNet {
+            tasks: &[PLAIN; 4],
+            edges: &[(0, 1), (0, 2), (1, 3), (2, 3)],
+            rings: &[],
+        },
+        limit: 3,
+        steps: &[
+            (Step::Start(0, SOURCE), Ok(0)),
+            (Step::End(0, &[0, 1]), Ok(1)),
+            (Step::Start(1, STRONG), Ok(2)),
+            (Step::Start(2, STRONG), Ok(3)),
+            (Step::End(2, &[2]), Ok(4)),
+            (Step::End(3, &[3]), Ok(5)),
+            (Step::Start(3, STRONG), Err(MachineError::AtLimit)),
+        ],
+        is_at_rest: false,
+    },
+    // Two edges lead from task 0 to task 1, which is released once.
+    SmallRun {
+        net: ExampleNet {
+            tasks: &[PLAIN; 2],
+            edges: &[(0, 1), (0, 1)],
+            rings: &[],
+        },
+        limit: 10,
+        steps: &[
+            (Step::Start(0, SOURCE), Ok(0)),
+            (Step::End(0, &[0]), NOT_CHOSEN),
+            (Step::End(0, &[0, 1]), Ok(1)),
+            (Step::Start(1, STRONG), Ok(2)),
+            (Step::Start(1, STRONG), NOT_RELEASED),
+            (Step::End(2, &[]), Ok(3)),
+        ],
+        is_at_rest: true,
+    },
+    // Two sources precede task 2.
+    SmallRun {
+        net: ExampleNet {
+            tasks: &[PLAIN; 3],
+            edges: &[(0, 2), (1, 2)],
+            rings: &[],
+        },
+        limit: 10,
+        steps: &[
+            (Step::Start(1, SOURCE), Ok(0)),
+            (Step::Start(0, SOURCE), Ok(1)),
+            (Step::Start(2, SOURCE), NOT_RELEASED),
+            (Step::End(0, &[1]), Ok(2)),
+            (Step::Start(2, STRONG), NOT_RELEASED),
+            (Step::End(1, &[0]), Ok(3)),
+            (Step::Start(2, STRONG), Ok(4)),
+            (Step::End(4, &[]), Ok(5)),
+        ],
+        is_at_rest: true,
+    },
+    // Tasks that wait for each other never begin, so that the run is over before its first step.
+    SmallRun {
+        net: ExampleNet {
+            tasks: &[PLAIN; 2],
+            edges: &[(0, 1), (1, 0)],
+            rings: &[],
+        },
+        limit: 10,
+        steps: &[
+            (Step::Start(0, SOURCE), NOT_RELEASED),
+            (Step::Start(0, STRONG), NOT_RELEASED),
+            (Step::Start(1, STRONG), NOT_RELEASED),
+        ],
+        is_at_rest: true,
+    },
+    // Nor does a task that waits for itself; task 1 is beside it.
+    SmallRun {
+        net: ExampleNet {
+            tasks: &[PLAIN; 2],
+            edges: &[(0, 0)],
+            rings: &[],
+        },
+        limit: 10,
+        steps: &[
+            (Step::Start(0, SOURCE), NOT_RELEASED),
+            (Step::Start(0, STRONG), NOT_RELEASED),
+            (Step::Start(1, SOURCE), Ok(0)),
+            (Step::End(0, &[]), Ok(1)),
+        ],
+        is_at_rest: true,
+    },
+    // Nor do tasks 1 and 2, of which one waits for task 0, too.
+    SmallRun {
+        net: ExampleNet {
+            tasks: &[PLAIN; 3],
+            edges: &[(0, 1), (1, 2), (2, 1)],
+            rings: &[],
+        },
+        limit: 10,
+        steps: &[
+            (Step::Start(0, SOURCE), Ok(0)),
+            (Step::End(0, &[0]), Ok(1)),
+            (Step::Start(1, STRONG), NOT_RELEASED),
+            (Step::Start(2, STRONG), NOT_RELEASED),
+        ],
+        is_at_rest: true,
+    },
+    // After a fault the other releases are dropped, each once.
+    SmallRun {
+        net: ExampleNet {
+            tasks: &[PLAIN; 2],
+            edges: &[],
+            rings: &[],
+        },
+        limit: 10,
+        steps: &[
+            (Step::Start(0, SOURCE), Ok(0)),
+            (Step::Drop(1, SOURCE, HALTED), Err(MachineError::NotHalted)),
+            (Step::Fault(0, Why::Long(20_000_000)), Ok(1)),
+            (Step::Drop(1, SOURCE, HALTED), Ok(2)),
+            (Step::Drop(1, SOURCE, HALTED), NOT_RELEASED),
+            (Step::Start(1, SOURCE), NOT_RELEASED),
+        ],
+        is_at_rest: true,
+    },
+    // Task 1 chooses one edge of two, task 2 some of two, and task 3 takes the one unit. Each number that the net
+    // hasn't is refused, each choice of edges that the shape of the task doesn't allow, and each entry after a drop for
+    // want of a unit.
+    SmallRun {
+        net: ExampleNet {
+            tasks: &[PLAIN, CHOICE, MANY, TAKER],
+            edges: &[(0, 1), (0, 2), (1, 3), (1, 3), (2, 3), (2, 3)],
+            rings: &[],
+        },
+        limit: 10,
+        steps: &[
+            (Step::Start(4, SOURCE), NO_SUCH),
+            (Step::Start(0, Cause::Weak(6)), NO_SUCH),
+            (Step::Drop(4, SOURCE, HALTED), NO_SUCH),
+            (Step::Drop(0, Cause::Weak(6), HALTED), NO_SUCH),
+            (Step::Drop(0, SOURCE, DropWhy::Stuck(1)), NO_SUCH),
+            (Step::End(0, &[6]), NO_SUCH),
+            (Step::Fault(0, Why::OverRelease(1)), NO_SUCH),
+            (Step::Start(0, SOURCE), Ok(0)),
+            (Step::End(0, &[2]), NOT_CHOSEN),
+            (Step::End(0, &[0, 0]), NOT_CHOSEN),
+            (Step::End(0, &[1, 0]), NOT_CHOSEN),
+            (Step::End(0, &[0, 1]), Ok(1)),
+            (Step::Start(1, STRONG), Ok(2)),
+            (Step::End(2, &[4]), NOT_CHOSEN),
+            (Step::End(2, &[2, 2]), NOT_CHOSEN),
+            (Step::End(2, &[2, 3]), NOT_CHOSEN),
+            (Step::End(2, &[3]), Ok(3)),
+            (Step::Start(2, STRONG), Ok(4)),
+            (Step::End(4, &[4, 3]), NOT_CHOSEN),
+            (Step::End(4, &[4, 4]), NOT_CHOSEN),
+            (Step::End(4, &[5, 4]), Ok(5)),
+            (Step::Start(3, Cause::Weak(3)), Ok(6)),
+            (Step::End(6, &[]), Ok(7)),
+            (Step::Drop(3, Cause::Weak(4), STUCK), Ok(8)),
+            (Step::Start(3, Cause::Weak(5)), AFTER_STUCK),
+            (Step::End(6, &[]), AFTER_STUCK),
+            (Step::Fault(6, Why::Inner), AFTER_STUCK),
+            (Step::Drop(3, Cause::Weak(5), DropWhy::Limit), AFTER_STUCK),
+            (Step::Drop(3, Cause::Weak(5), STUCK), Ok(9)),
+        ],
+        is_at_rest: true,
+    },
+    // Task 0 takes the one unit, task 1 after it puts it back, and task 2 takes it.
+    SmallRun {
+        net: ExampleNet {
+            tasks: &[TAKER, PUTTER, TAKER],
+            edges: &[(0, 1)],
+            rings: &[],
+        },
+        limit: 10,
+        steps: &[
+            (Step::Start(0, SOURCE), Ok(0)),
+            (Step::Drop(2, SOURCE, STUCK), Err(MachineError::NotStuck)),
+            (Step::End(0, &[0]), Ok(1)),
+            (Step::Start(2, SOURCE), Err(MachineError::NoUnit(0))),
+            (Step::Start(1, STRONG), Ok(2)),
+            (
+                Step::Fault(2, Why::OverRelease(0)),
+                Err(MachineError::NotOver),
+            ),
+            (Step::End(2, &[]), Ok(3)),
+            (Step::Start(2, SOURCE), Ok(4)),
+            (Step::End(4, &[]), Ok(5)),
+        ],
+        is_at_rest: true,
+    },
+    // Two tasks take the one unit, and none puts it back.
+    SmallRun {
+        net: ExampleNet {
+            tasks: &[TAKER; 2],
+            edges: &[],
+            rings: &[],
+        },
+        limit: 10,
+        steps: &[
+            (Step::Start(0, SOURCE), Ok(0)),
+            (Step::End(0, &[]), Ok(1)),
+            (Step::Drop(1, SOURCE, HALTED), Err(MachineError::NotHalted)),
+            (Step::Drop(1, SOURCE, DropWhy::Stuck(1)), NO_SUCH),
+            (Step::Drop(1, SOURCE, STUCK), Ok(2)),
+            (Step::Start(1, SOURCE), AFTER_STUCK),
+        ],
+        is_at_rest: true,
+    },
+    // The one task puts a unit that nobody took.
+    SmallRun {
+        net: ExampleNet {
+            tasks: &[PUTTER],
+            edges: &[],
+            rings: &[],
+        },
+        limit: 10,
+        steps: &[
+            (Step::Start(0, SOURCE), Ok(0)),
+            (Step::End(0, &[]), Err(MachineError::NothingOut(0))),
+            (Step::Fault(0, Why::OverRelease(1)), NO_SUCH),
+            (Step::Fault(0, Why::OverRelease(0)), Ok(1)),
+        ],
+        is_at_rest: true,
+    },
+];
 
-// The same of any net.
-fn expect_run_of(
-    rt: &impl Abort,
-    alloc: Global,
-    net: &Arc<Net>,
-    limit: u64,
-    steps: &[(Step<'_>, StepAnswer)],
-    is_at_rest: bool,
-) -> Result<(), Fail> {
-    let mut machine = Machine::new(alloc, net.clone()?, limit)?;
-    for (place, (step, expected)) in steps.iter().enumerate() {
-        let answer = compare_step(rt, alloc, net, limit, &mut machine, *step)?;
-        assert_eq!(rt; answer, *expected, "step {place}");
+#[test]
+fn machines_answer_as_worked_out(rt: HostRuntime) -> Result<(), Fail> {
+    for run in &RUNS {
+        expect_answers(&rt, rt.alloc(), run)?;
+        expect_rules(&rt, rt.alloc(), run)?;
     }
-    expect_legal(rt, net, limit, &machine);
-    assert_eq!(rt; machine.at_rest(), is_at_rest);
     Ok(())
 }
 
-// Task 1 follows task 0.
-#[test]
-fn one_task_follows_another(rt: HostRuntime) -> Result<(), Fail> {
-    let row = SmallRun {
-        tasks: 2,
-        edges: &[(0, 1)],
-        limit: 10,
-    };
-    let steps = [
-        (start(1, Cause::Strong), Err(MachineError::NotReleased)),
-        (start(0, Cause::Source), Ok(0)),
-        (start(0, Cause::Source), Err(MachineError::NotReleased)),
-        (start(1, Cause::Strong), Err(MachineError::NotReleased)),
-        (end(0, &[0]), Ok(1)),
-        (end(0, &[0]), Err(MachineError::NotOpen)),
-        (start(1, Cause::Source), Err(MachineError::NotReleased)),
-        (start(1, Cause::Strong), Ok(2)),
-        (end(2, &[0]), Err(MachineError::NotChosen)),
-        (end(1, &[]), Err(MachineError::NotOpen)),
-        (end(2, &[]), Ok(3)),
-        (start(1, Cause::Strong), Err(MachineError::NotReleased)),
-    ];
-    expect_run(&rt, rt.alloc(), row, &steps, true)
+fn expect_answers(rt: &impl Abort, alloc: Global, run: &SmallRun<'_>) -> Result<(), Fail> {
+    let mut machine = Machine::new(alloc, built_net(alloc, run.net)?, run.limit)?;
+    expect_each(rt, &mut machine, run.steps);
+    assert_eq!(rt; machine.at_rest(), run.is_at_rest);
+    Ok(())
 }
 
-// Tasks 1 and 2 follow task 0, and task 3 follows both.
-#[test]
-fn a_diamond_waits_for_both_sides(rt: HostRuntime) -> Result<(), Fail> {
-    let diamond = SmallRun {
-        tasks: 4,
-        edges: &[(0, 1), (0, 2), (1, 3), (2, 3)],
-        limit: 10,
-    };
-    let steps = [
-        (start(0, Cause::Source), Ok(0)),
-        (end(0, &[1, 0]), Err(MachineError::NotChosen)),
-        (end(0, &[1]), Err(MachineError::NotChosen)),
-        (end(0, &[0, 1]), Ok(1)),
-        (start(2, Cause::Strong), Ok(2)),
-        (start(1, Cause::Strong), Ok(3)),
-        (end(2, &[3]), Ok(4)),
-        (start(3, Cause::Strong), Err(MachineError::NotReleased)),
-        (end(3, &[3]), Err(MachineError::NotChosen)),
-        (end(3, &[2]), Ok(5)),
-        (start(3, Cause::Strong), Ok(6)),
-        (end(6, &[]), Ok(7)),
-    ];
-    expect_run(&rt, rt.alloc(), diamond, &steps, true)
+fn expect_each(rt: &impl Abort, machine: &mut Machine, steps: &[(Step<'_>, StepAnswer)]) {
+    for (place, (step, answer)) in steps.iter().enumerate() {
+        assert!(rt; ask(machine, *step) == *answer, "step {place}");
+    }
 }
 
-// Two edges lead from task 0 to task 1.
-#[test]
-fn a_double_edge_releases_once(rt: HostRuntime) -> Result<(), Fail> {
-    let double = SmallRun {
-        tasks: 2,
-        edges: &[(0, 1), (0, 1)],
-        limit: 10,
-    };
-    let steps = [
-        (start(0, Cause::Source), Ok(0)),
-        (end(0, &[0]), Err(MachineError::NotChosen)),
-        (end(0, &[0, 1]), Ok(1)),
-        (start(1, Cause::Strong), Ok(2)),
-        (start(1, Cause::Strong), Err(MachineError::NotReleased)),
-        (end(2, &[]), Ok(3)),
-    ];
-    expect_run(&rt, rt.alloc(), double, &steps, true)
-}
-
-// An end that gives nothing releases nothing, and the run is over.
-#[test]
-fn an_end_may_give_nothing(rt: HostRuntime) -> Result<(), Fail> {
-    let row = SmallRun {
-        tasks: 2,
-        edges: &[(0, 1)],
-        limit: 10,
-    };
-    let steps = [
-        (start(0, Cause::Source), Ok(0)),
-        (end(0, &[]), Ok(1)),
-        (start(1, Cause::Strong), Err(MachineError::NotReleased)),
-    ];
-    expect_run(&rt, rt.alloc(), row, &steps, true)
-}
-
-// The second start would be one too many.
-#[test]
-fn a_limit_ends_a_run_early(rt: HostRuntime) -> Result<(), Fail> {
-    let row = SmallRun {
-        tasks: 2,
-        edges: &[(0, 1)],
-        limit: 1,
-    };
-    let steps = [
-        (start(0, Cause::Source), Ok(0)),
-        (end(0, &[0]), Ok(1)),
-        (start(1, Cause::Source), Err(MachineError::NotReleased)),
-        (start(1, Cause::Strong), Err(MachineError::AtLimit)),
-    ];
-    expect_run(&rt, rt.alloc(), row, &steps, false)
-}
-
-// Task 1 chooses one edge of two, task 2 some of two, and task 3 takes the one unit.
-fn choosing_net(alloc: Global) -> Result<Arc<Net>, Fail> {
-    let plain = free(Shape::Plain);
-    let tasks = [
-        plain,
-        free(Shape::Choice),
-        free(Shape::Many),
-        bound(&[0], &[]),
-    ];
-    let rows = ExampleNet {
-        sems: &[1],
-        tasks: &tasks,
-        edges: &[(0, 1), (0, 2), (1, 3), (1, 3), (2, 3), (2, 3)],
-        rings: &[],
-    };
-    built_net(alloc, rows)
-}
-
-// Each number that the net hasn't, each choice of edges that the shape of the task doesn't allow, and each entry after
-// a drop for want of a unit.
-#[test]
-fn bad_input_is_refused(rt: HostRuntime) -> Result<(), Fail> {
-    let net = choosing_net(rt.alloc())?;
-    let no_such = Err(MachineError::NoSuch);
-    let not_chosen = Err(MachineError::NotChosen);
-    let after_stuck = Err(MachineError::AfterStuck);
-    let stuck = DropWhy::Stuck(0);
-    let steps = [
-        (start(4, Cause::Source), no_such),
-        (start(0, Cause::Weak(6)), no_such),
-        (drop_of(4, Cause::Source, DropWhy::Halted), no_such),
-        (drop_of(0, Cause::Weak(6), DropWhy::Halted), no_such),
-        (drop_of(0, Cause::Source, DropWhy::Stuck(1)), no_such),
-        (end(0, &[6]), no_such),
-        (fault(0, Why::OverRelease(1)), no_such),
-        (start(0, Cause::Source), Ok(0)),
-        (end(0, &[2]), not_chosen),
-        (end(0, &[0, 0]), not_chosen),
-        (end(0, &[1, 0]), not_chosen),
-        (end(0, &[0, 1]), Ok(1)),
-        (start(1, Cause::Strong), Ok(2)),
-        (end(2, &[4]), not_chosen),
-        (end(2, &[2, 2]), not_chosen),
-        (end(2, &[2, 3]), not_chosen),
-        (end(2, &[3]), Ok(3)),
-        (start(2, Cause::Strong), Ok(4)),
-        (end(4, &[4, 3]), not_chosen),
-        (end(4, &[4, 4]), not_chosen),
-        (end(4, &[5, 4]), Ok(5)),
-        (start(3, Cause::Weak(3)), Ok(6)),
-        (end(6, &[]), Ok(7)),
-        (drop_of(3, Cause::Weak(4), stuck), Ok(8)),
-        (start(3, Cause::Weak(5)), after_stuck),
-        (end(6, &[]), after_stuck),
-        (fault(6, Why::Inner), after_stuck),
-        (drop_of(3, Cause::Weak(5), DropWhy::Limit), after_stuck),
-        (drop_of(3, Cause::Weak(5), stuck), Ok(9)),
-    ];
-    expect_run_of(&rt, rt.alloc(), &net, 10, &steps, true)
-}
-
-// Task 0 takes the one unit, task 1 after it puts it back, and task 2 takes it.
-#[test]
-fn a_unit_goes_from_task_to_task(rt: HostRuntime) -> Result<(), Fail> {
-    let tasks = [bound(&[0], &[]), bound(&[], &[0]), bound(&[0], &[])];
-    let rows = ExampleNet {
-        sems: &[1],
-        tasks: &tasks,
-        edges: &[(0, 1)],
-        rings: &[],
-    };
-    let net = built_net(rt.alloc(), rows)?;
-    let stuck = DropWhy::Stuck(0);
-    let steps = [
-        (start(0, Cause::Source), Ok(0)),
-        (
-            drop_of(2, Cause::Source, stuck),
-            Err(MachineError::NotStuck),
-        ),
-        (end(0, &[0]), Ok(1)),
-        (start(2, Cause::Source), Err(MachineError::NoUnit(0))),
-        (start(1, Cause::Strong), Ok(2)),
-        (fault(2, Why::OverRelease(0)), Err(MachineError::NotOver)),
-        (end(2, &[]), Ok(3)),
-        (start(2, Cause::Source), Ok(4)),
-        (end(4, &[]), Ok(5)),
-    ];
-    expect_run_of(&rt, rt.alloc(), &net, 10, &steps, true)
-}
-
-// Two tasks take the one unit, and none puts it back.
-#[test]
-fn a_run_gets_stuck(rt: HostRuntime) -> Result<(), Fail> {
-    let tasks = [bound(&[0], &[]), bound(&[0], &[])];
-    let rows = ExampleNet {
-        sems: &[1],
-        tasks: &tasks,
-        edges: &[],
-        rings: &[],
-    };
-    let net = built_net(rt.alloc(), rows)?;
-    let steps = [
-        (start(0, Cause::Source), Ok(0)),
-        (end(0, &[]), Ok(1)),
-        (
-            drop_of(1, Cause::Source, DropWhy::Halted),
-            Err(MachineError::NotHalted),
-        ),
-        (
-            drop_of(1, Cause::Source, DropWhy::Stuck(1)),
-            Err(MachineError::NoSuch),
-        ),
-        (drop_of(1, Cause::Source, DropWhy::Stuck(0)), Ok(2)),
-        (start(1, Cause::Source), Err(MachineError::AfterStuck)),
-    ];
-    expect_run_of(&rt, rt.alloc(), &net, 10, &steps, true)
-}
-
-// The one task puts a unit that nobody took.
-#[test]
-fn a_unit_too_many_is_a_fault(rt: HostRuntime) -> Result<(), Fail> {
-    let tasks = [bound(&[], &[0])];
-    let rows = ExampleNet {
-        sems: &[1],
-        tasks: &tasks,
-        edges: &[],
-        rings: &[],
-    };
-    let net = built_net(rt.alloc(), rows)?;
-    let steps = [
-        (start(0, Cause::Source), Ok(0)),
-        (end(0, &[]), Err(MachineError::NothingOut(0))),
-        (fault(0, Why::OverRelease(1)), Err(MachineError::NoSuch)),
-        (fault(0, Why::OverRelease(0)), Ok(1)),
-    ];
-    expect_run_of(&rt, rt.alloc(), &net, 10, &steps, true)
+// The plain rules say the same, with which the machine is compared elsewhere.
+fn expect_rules(rt: &impl Abort, alloc: Global, run: &SmallRun<'_>) -> Result<(), NoMemory> {
+    let mut taken = Vec::new(alloc);
+    for (step, answer) in run.steps {
+        let so_far = Taken {
+            net: run.net,
+            limit: run.limit,
+            steps: taken.as_slice(),
+        };
+        assert_eq!(rt; so_far.refusal(*step).map(MachineError::from), answer.err());
+        if answer.is_ok() {
+            taken.push(*step)?;
+        }
+    }
+    Ok(())
 }

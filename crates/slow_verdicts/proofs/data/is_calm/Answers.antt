@@ -2,7 +2,7 @@ use Rattle.std.proofs.Common.{ℕ, ◌+◌, ◌≤◌, length, take, refl, arith
 use Rattle.std.proofs.lemmas.Iterator.{cases_from_all, YieldsList-from_range}
 use Rattle.journal_rules.specs.Counts.{given}
 use Rattle.journal_rules.specs.Calm.{used_at}
-use Rattle.slow_rules.proofs.Walks.{decides_all}
+use Rattle.slow_verdicts.proofs.Walks.{decides_all}
 use Rattle.slow_verdicts.proofs.data.is_calm.Goals as goal
 
 pub returns : goal.returns

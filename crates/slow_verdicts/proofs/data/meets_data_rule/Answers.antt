@@ -1,7 +1,7 @@
 use Rattle.std.proofs.Common.{ℕ, length, take, slice_get, IsSomeAnd, refl, arith, rules, tests}
 use Rattle.std.proofs.lemmas.Iterator.{cases_from_all, YieldsList-from_range}
 use Rattle.journal_rules.specs.DataRule.{DataRule}
-use Rattle.slow_rules.proofs.Walks.{decides_all, decides_each_after}
+use Rattle.slow_verdicts.proofs.Walks.{decides_all, decides_each_after}
 use Rattle.slow_verdicts.proofs.data.meets_data_rule.Goals as goal
 
 pub returns : goal.returns

@@ -5,7 +5,7 @@ use Rattle.std.proofs.lemmas.List.Elements.{recursion_from_All}
 use Rattle.std.proofs.lemmas.Bool.Decides.{nat_tests}
 use Rattle.task_graph.specs.NetRows.{NetRows}
 use Rattle.task_graph.specs.Places.{places_from}
-use Rattle.task_graph.specs.Net.{IsNet, IsEdgeOf, is_weak_row, in_edges, strong_in}
+use Rattle.task_graph.specs.Net.{IsNet, IsEdgeOf, is_weak_row, strong_in}
 use Rattle.task_graph.specs.declared.net.EdgeRow.{EdgeRow}
 
 -- where no item passes there is no place
@@ -27,11 +27,7 @@ elsewhere net t Q f ok past =
     (λ row is_edge. let within : row.to < length net.tasks = is_edge.to_in_range in f row (grind (arith, nat_tests)))
     (recursion_from_All _ net.edges ok.edges)
 
--- no edge leads to a number that is no task's
-pub no_in_edges : (net : NetRows) (t : ℕ) → IsNet net → length net.tasks ≤ t → in_edges net t ≡ []
-no_in_edges net t ok past = no_places (λ (row : EdgeRow). row.to == t) 0 net.edges (elsewhere net t _ (λ row other. other) ok past)
-
--- nor does a strong one
+-- no strong edge leads to a number that is no task's
 pub no_strong_in : (net : NetRows) (t : ℕ) → IsNet net → length net.tasks ≤ t → strong_in net t ≡ []
 no_strong_in net t ok past =
     no_places (λ (row : EdgeRow). (row.to == t) && not (is_weak_row net row)) 0 net.edges

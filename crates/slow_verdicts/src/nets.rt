@@ -1,21 +1,8 @@
 // Look-ups in a net that also answer for numbers that are no task's or no edge's.
-ghost use Rattle.std.specs.Prelude.{◌≡◌, ◌↔◌, ◌<◌, slice_get, IsSomeAnd, IsTrue};
-ghost use Rattle.task_graph.specs.declared.net.EdgeRow.{EdgeRow};
-ghost use Rattle.task_graph.specs.Net.{IsSource, chooses, task_chooses, is_weak, strong_in};
+ghost use Rattle.std.specs.Prelude.{◌≡◌};
+ghost use Rattle.task_graph.specs.Net.{chooses, task_chooses, is_weak, strong_in};
 
 use task_graph::{Net, Shape};
-
-/// Whether no edge leads into a task.
-#[tactic(auto, using(crate::proofs::Ends::no_in_edges))]
-pub fn is_source(net: &Net, task: u32) -> bool
-    ensures { IsTrue result ↔ IsSource net.now task }
-{
-    if (task as usize) < net.tasks().len() {
-        net.is_source(task)
-    } else {
-        true
-    }
-}
 
 /// The strong edges into a task, by rising number.
 #[tactic(auto, using(crate::proofs::Ends::no_strong_in))]
@@ -50,17 +37,6 @@ pub fn is_weak(net: &Net, edge: u32) -> bool
 {
     match net.edges().get(edge as usize) {
         Some(row) => task_chooses(net, row.from),
-        None => false,
-    }
-}
-
-/// Whether an edge leads into a task.
-pub fn leads_to(net: &Net, edge: u32, task: u32) -> bool
-    ensures { IsTrue result
-        ↔ IsSomeAnd (slice_get net.now.edges edge) (λ (row : EdgeRow). row.to ≡ task) }
-{
-    match net.edges().get(edge as usize) {
-        Some(row) => row.to == task,
         None => false,
     }
 }

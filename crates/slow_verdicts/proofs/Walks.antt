@@ -1,16 +1,11 @@
 -- What a walk over a list or over places decides.
-use Rattle.std.proofs.Common.{◌≡◌, ℕ, ◌+◌, ◌<◌, ◌≤◌, Bool, true, false, List, [], ◌∷◌, ◌++◌, length, take, slice_get, IsTrue, IsSomeAnd, MatchBool, arith, suc, zero, ◌↔◌, ap, subst, sym, nat_eq, refl, append_assoc}
-use Rattle.std.specs.declared.ops.Range.{Range}
+use Rattle.std.proofs.Common.{◌≡◌, ℕ, ◌+◌, ◌<◌, ◌≤◌, Bool, true, false, List, [], ◌∷◌, ◌++◌, length, take, slice_get, IsTrue, IsSomeAnd, MatchBool, arith, suc, zero, ◌↔◌, subst, sym, nat_eq, refl, append_assoc}
 use Rattle.std.proofs.lemmas.List.{append-nil}
 use Rattle.journal_rules.specs.Entries.{EachAfterThese, EachAfter}
 use Rattle.std.specs.List.{All, AllByRecursion, AllWithin, HoldsAt, range_with_len}
 use Rattle.std.proofs.lemmas.Bool.{eqb-true}
 use Rattle.std.proofs.lemmas.Bool.Decides.{nat_tests}
 use Rattle.std.proofs.lemmas.List.Elements.{recursion_from_All, All-from_recursion, All-from_all_within}
-
--- the numbers of the rows of two equal lists
-pub same_rows : {X : Type 0} (xs ys : List X) → xs ≡ ys → ◌≡◌ {A = Range ℕ} (record { start = 0; end = length xs }) (record { start = 0; end = length ys })
-same_rows xs ys same = ap (λ zs. record { start = 0; end = length zs }) same
 
 -- an item that fails, and what holds of each
 fails_where : {X : Type 0} (P : X → Type 0) (xs : List X) → (k : ℕ) × (k < length xs) × HoldsAt (λ x. ¬ P x) xs k → All P xs → ⊥
@@ -39,32 +34,6 @@ from_each P a (suc n) h k low high =
       | true ↦ λ e. subst P (sym (eqb-true k a e)) h.0
       | false ↦ λ e. from_each P (a + 1) n h.1 k (grind (arith, nat_tests)) (omega arith)
     ] refl
-
--- a number from a on, n in all, that passes, where one of their list does
-abbrev PassesAt : (ℕ → Type 0) → ℕ → ℕ → ℕ → Type 0
-PassesAt P a n i = (i < length (range_with_len a n)) × HoldsAt P (range_with_len a n) i
-
-abbrev SomePasses : (ℕ → Type 0) → ℕ → ℕ → Type 0
-SomePasses P a n = (k : ℕ) × (a ≤ k) × (k < a + n) × P k
-
-passes_where : (P : ℕ → Type 0) (a n i : ℕ) → PassesAt P a n i → SomePasses P a n
-passes_where P a zero i h = absurd (omega (arith, h.0))
-passes_where P a (suc n) zero h = (a, omega arith, omega arith, h.1 0)
-passes_where P a (suc n) (suc i) h =
-    let more = passes_where P (a + 1) n i (omega (arith, h.0), h.1) in (more.0, omega arith, omega arith, more.3)
-
--- what `any` answers over the numbers below n
-pub decides_some_below :
-    (P : ℕ → Type 0) (r : Bool) (n : ℕ)
-    → MatchBool r
-    ((k : ℕ) × (k < length (range_with_len 0 n)) × HoldsAt P (range_with_len 0 n) k)
-    (AllWithin (λ k. ¬ P k) (range_with_len 0 n) 0 (length (range_with_len 0 n)))
-    → (IsTrue r ↔ ((k : ℕ) × (k < n) × P k))
-decides_some_below P true n h =
-    (λ t. let some = passes_where P 0 n h.0 (h.1, h.2) in (some.0, omega arith, some.3), λ some. refl)
-decides_some_below P false n h =
-    let none = recursion_from_All (λ k. ¬ P k) _ (All-from_all_within (λ k. ¬ P k) _ h) in
-    (λ t. absurd (cc), λ some. absurd (from_each (λ k. ¬ P k) 0 n none some.0 (omega arith) (omega arith) some.2))
 
 -- a rule of items at a place of a list, where other items stand before the list
 abbrev HoldsAtPlace : {X : Type 0} → (List X → X → Type 0) → List X → List X → ℕ → Type 0
