@@ -1,15 +1,17 @@
 # The README's commands. They need the kit's command `rt` on the path.
 SHELL := bash
 .SHELLFLAGS := -euo pipefail -c
-.PHONY: all program demo examples test docs
+.PHONY: all program demo examples test docs fuzz
 
 # Proves every crate, the lowest first, and builds the program.
 all:
 	rt all check
 	@$(MAKE) --no-print-directory program
 
-# The executable crates/flow/out/flow. Only `rt run` links it, so it runs on a graph without a task.
+# The executable crates/flow/out/flow, over the libraries below it, of which as many are proved side by side as there
+# are processors. Only `rt run` links it, so it runs on a graph without a task.
 program:
+	@python3 -B tools/build_libraries.py flow
 	cd crates/flow && rt run -- run ../../examples/empty-graph/graph.json
 
 # The program on one of the examples. Names of files are looked up from the folder that it is called in.
@@ -27,6 +29,11 @@ test:
 	rt ci
 	@bash tools/check_docs.sh
 	@bash tools/check_program.sh
+
+# Random graphs, journals and failing allocations on the built program, five minutes of each of four tools; no part of
+# the gate. `make fuzz SEED=N` makes the cases of an earlier call again.
+fuzz: program
+	@bash tools/fuzz.sh $(SEED)
 
 # Whether the documents name what there is. It says nothing where they do.
 docs:

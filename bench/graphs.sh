@@ -1,13 +1,13 @@
 #!/usr/bin/env bash
-# Measures the reading and the writing of graph files, by the program `bench_graphs`. First the instructions, counted
+# Measures the reading and the writing of graph files, by `bench graphs`. First the instructions, counted
 # by valgrind, of the JSON alone, of reading a graph with its JSON, and of writing it after that: of a chain, of a read
 # with counts behind it, and of tasks with ten edges each, as many a task with its edges. Then the seconds of reading
 # beside those of `jq -c .`, the best of seven. It builds the program first, and needs python3, valgrind and jq. Run it
 # as `bash bench/graphs.sh`, from any folder.
 set -euo pipefail
-crate=$(cd "$(dirname "${BASH_SOURCE[0]}")/.." && pwd)/crates/bench_graphs
+crate=$(cd "$(dirname "${BASH_SOURCE[0]}")/.." && pwd)/crates/bench
 (cd "$crate" && rt run > /dev/null)
-program=$crate/out/bench_graphs
+program=$crate/out/bench
 
 folder=$(mktemp -d)
 trap 'rm -rf "$folder"' EXIT
@@ -39,7 +39,7 @@ PYTHON
 
 # The instructions of a run with this word.
 instructions() {
-    valgrind --tool=callgrind --callgrind-out-file=/dev/null "$program" "$1" "$2" 2>&1 | sed -n 's/.*Collected : //p'
+    valgrind --tool=callgrind --callgrind-out-file=/dev/null "$program" graphs "$1" "$2" 2>&1 | sed -n 's/.*Collected : //p'
 }
 
 for name in chain fan ten; do
@@ -69,7 +69,7 @@ PYTHON
 
 for name in chain fan ten; do
     file=$name-10000.json
-    awk -v name="$name of 10000 tasks" -v read="$(seconds "$program" read $file)" -v write="$(seconds "$program" write $file)" -v jq="$(seconds jq -c . $file)" 'BEGIN {
+    awk -v name="$name of 10000 tasks" -v read="$(seconds "$program" graphs read $file)" -v write="$(seconds "$program" graphs write $file)" -v jq="$(seconds jq -c . $file)" 'BEGIN {
         printf "%s: read %.1f ms, read and written %.1f ms, jq %.1f ms, ratio %.2f\n", name, read * 1000, write * 1000, jq * 1000, read / jq
     }'
 done

@@ -1,12 +1,12 @@
 #!/usr/bin/env bash
-# Measures the reading and the writing of a journal's text, by the program `bench_journals`, on a journal of nearly
+# Measures the reading and the writing of a journal's text, by `bench journals`, on a journal of nearly
 # 67,108,864 bytes: the seconds of reading beside those of `wc -w` on the same file, the bytes of memory an entry besides
 # the file's own, and the megabytes that are written in a second into a file. The best of seven. It builds the program
 # first, and needs python3 and GNU time. Run it as `bash bench/journal.sh`, from any folder.
 set -euo pipefail
-crate=$(cd "$(dirname "${BASH_SOURCE[0]}")/.." && pwd)/crates/bench_journals
+crate=$(cd "$(dirname "${BASH_SOURCE[0]}")/.." && pwd)/crates/bench
 (cd "$crate" && rt run > /dev/null)
-program=$crate/out/bench_journals
+program=$crate/out/bench
 
 folder=$(mktemp -d)
 trap 'rm -rf "$folder"' EXIT
@@ -48,12 +48,12 @@ PYTHON
 
 # The peak of memory, in kilobytes.
 peak() {
-    /usr/bin/time -f %M "$program" "$1" journal.txt 2>&1 >/dev/null | tail -n 1
+    /usr/bin/time -f %M "$program" journals "$1" journal.txt 2>&1 >/dev/null | tail -n 1
 }
 
 read -r words _ <<<"$(best wc -w journal.txt)"
-read -r whole micros <<<"$(best "$program" read journal.txt)"
-read -r _ written <<<"$(best "$program" print journal.txt)"
+read -r whole micros <<<"$(best "$program" journals read journal.txt)"
+read -r _ written <<<"$(best "$program" journals print journal.txt)"
 cmp journal.txt printed.txt
 awk -v words="$words" -v whole="$whole" -v micros="$micros" -v written="$written" -v entries="$entries" \
     -v none="$(peak none)" -v all="$(peak read)" -v size="$(wc -c <journal.txt)" 'BEGIN {

@@ -1,28 +1,17 @@
 #!/usr/bin/env bash
-# Measures the steps of a machine, the judge and runs by one thread: five runs of the program `bench_machine`, of which
-# the least figure of each line counts; then the memory and, where valgrind is there, the instructions of a start of
-# one task that starts itself again and again, as the difference of a run of 1,000,000 starts and one of 500,000. It
-# builds the program first, and needs python3. Run it as `bash bench/machine.sh`, from any folder, on a machine with
-# an idle processor.
+# Measures parts of the program by themselves: five calls of `bench SUBJECT`, each with a line for each figure, of which the
+# least of the five counts. The subjects are the arguments, without any `machine` (steps of a machine, the judge), `frames`
+# (runs of jobs by one thread and by crews), `tables` (starts on a table of atomic words) and `pitfalls` (the check of large
+# nets). It builds the program first, and says the load before and after. Run it as `bash bench/parts.sh`, from any
+# folder, on a machine with four idle processors.
 set -euo pipefail
-cd "$(dirname "${BASH_SOURCE[0]}")/../crates/bench_machine"
+cd "$(dirname "${BASH_SOURCE[0]}")/../crates/bench"
 rt run > /dev/null
-for _ in 1 2 3 4 5; do
-    ./out/bench_machine measure
+(($# > 0)) || set -- machine frames tables pitfalls
+uptime
+for subject in "$@"; do
+    for _ in 1 2 3 4 5; do
+        ./out/bench "$subject"
+    done
 done
-
-# The greatest memory of a run, in KiB.
-kib() {
-    python3 -c 'import resource, subprocess, sys
-subprocess.run(sys.argv[1:], stdout=subprocess.DEVNULL, check=True)
-print(resource.getrusage(resource.RUSAGE_CHILDREN).ru_maxrss)' ./out/bench_machine "$1"
-}
-echo "a task that starts itself: $((($(kib loop) - $(kib half)) * 1024 / 500000)) bytes a start"
-
-# The instructions of a run.
-instructions() {
-    valgrind --tool=callgrind --callgrind-out-file=/dev/null ./out/bench_machine "$1" 2>&1 | sed -n 's/.*Collected : //p'
-}
-if command -v valgrind > /dev/null; then
-    echo "a task that starts itself: $((($(instructions loop) - $(instructions half)) / 500000)) instructions a start"
-fi
+uptime

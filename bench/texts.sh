@@ -1,13 +1,13 @@
 #!/usr/bin/env bash
-# Measures the operations on texts, each alone: `bench_texts` reads a text of 16 MB once and applies the operation
+# Measures the operations on texts, each alone: `bench texts` reads a text of 16 MB once and applies the operation
 # eight times. Beside it stand GNU sort, an awk program that matches lines, `grep -F`, and the copy of as many bytes
 # as the operation gives into memory that wasn't used before. The best of three runs counts; a tool's time is that of
 # its whole run. It builds the program first. Run it as `bash bench/texts.sh`, from any folder, on a machine with an
 # idle processor.
 set -euo pipefail
-crate=$(cd "$(dirname "${BASH_SOURCE[0]}")/.." && pwd)/crates/bench_texts
+crate=$(cd "$(dirname "${BASH_SOURCE[0]}")/.." && pwd)/crates/bench
 (cd "$crate" && rt run > /dev/null)
-program=$crate/out/bench_texts
+program=$crate/out/bench
 
 folder=$(mktemp -d)
 trap 'rm -rf "$folder"' EXIT
@@ -59,7 +59,7 @@ AWK
 
 # The least microseconds, how many bytes come of it, and the most memory in use, of the program.
 measure() {
-    python3 - "$program" "$@" <<'PYTHON'
+    python3 - "$program" texts "$@" <<'PYTHON'
 import resource, subprocess, sys
 runs = [subprocess.run(sys.argv[1:], capture_output=True, check=True).stdout.split() for _ in range(3)]
 micros, size = min(runs, key=lambda run: int(run[0]))

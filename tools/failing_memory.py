@@ -2,13 +2,16 @@
 """Runs the program on examples with one allocation failing, each in turn, until a run needs no more.
 
     failing_memory.py PROGRAM [EXAMPLE..] [--workers N] [--all-later] [--past N]
+    failing_memory.py PROGRAM --seconds N [--seed N] [--past N]
 
 The program is loaded over a `malloc` that counts the calls for memory and refuses one of them: the first, then the
 second, and so on; with `--all-later` that one and each after it. Which call is the Nth differs between runs by several
 workers, so the runs end only after so many (`--past`) that came to no Nth call. A run has to end within ten seconds
 with what it prints with ample memory, or with code 13 and the line of it, or without that line where each later
-allocation fails, and a prefix of the output. Without an example it takes five. It needs a C compiler and prints for
-each example how many runs ended in which way, and ends with status 1 where one ended in another.
+allocation fails, and a prefix of the output. Without an example it takes five. With `--seconds` it takes random graphs
+in their place, those with conditions by one worker and others by 1, 4 or 16, until so many seconds have passed or a run
+ended in another way. It needs a C compiler and prints for each example how many runs ended in which way, of random
+graphs for all together, and ends with status 1 where one ended in another.
 """
 import argparse
 import collections
@@ -17,6 +20,9 @@ import pathlib
 import subprocess
 import sys
 import tempfile
+import time
+
+from random_graphs import add_extent, branching_graph, cases, folder_of, plain_graph, random_text
 
 EXAMPLES = pathlib.Path(__file__).resolve().parent.parent / "examples"
 CHOSEN = ("count-lines", "log-triage", "trim-until-it-fits", "words-by-file", "join-orders")
@@ -113,42 +119,84 @@ def kind_of(ended, ample, all_later):
     return None
 
 
-def tried(program, example, words, library, asked):
-    """Prints what came of the runs of an example, and answers how many ended in a way that they must not."""
-    folder = EXAMPLES / example
-    ample, _ = call(program, words, folder, library, 0, 0)
-    kinds = collections.Counter()
+class Trial:
+    """What came of runs in which allocations failed."""
+
+    def __init__(self, program, library, past, until):
+        self.program = program
+        self.library = library
+        self.past = past
+        self.until = until
+        self.kinds = collections.Counter()
+
+    def runs(self):
+        return sum(self.kinds.values())
+
+    def faults(self):
+        return self.kinds["in another way"]
+
+    def run(self, what, folder, words, all_later):
+        """Has each allocation of a call fail in turn, and tells the code with ample memory and the last that came."""
+        ample, _ = call(self.program, words, folder, self.library, 0, 0)
+        number = greatest = 0
+        while number < greatest + self.past and time.monotonic() < self.until:
+            number += 1
+            ended, refused = call(self.program, words, folder, self.library, number, NEVER if all_later else number)
+            if refused:
+                greatest = number
+            kind = kind_of(ended, ample, all_later)
+            self.kinds[kind or "in another way"] += 1
+            if kind is None:
+                print(f"{what}, allocation {number}: {ended!r}", file=sys.stderr)
+        return ample[0], greatest
+
+    def ways(self):
+        return ", ".join(f"{count} times {kind}" for kind, count in sorted(self.kinds.items()))
+
+
+def try_examples(asked, library):
+    """Prints what came of the runs of each example, and answers how many ended in a way that they must not."""
+    words = ["run", "graph.json", "--workers", str(asked.workers)]
     faults = 0
-    number = greatest = 0
-    while number < greatest + asked.past:
-        number += 1
-        ended, refused = call(program, words, folder, library, number, NEVER if asked.all_later else number)
-        if refused:
-            greatest = number
-        kind = kind_of(ended, ample, asked.all_later)
-        kinds[kind or "in another way"] += 1
-        if kind is None:
-            faults += 1
-            print(f"{example}, allocation {number}: {ended!r}", file=sys.stderr)
-    ways = ", ".join(f"{count} times {kind}" for kind, count in sorted(kinds.items()))
-    print(f"{example}: code {ample[0]} with ample memory; {number} runs, none of which came to a call after {greatest}: "
-          f"{ways}")
+    for example in asked.examples:
+        trial = Trial(asked.program, library, asked.past, float("inf"))
+        code, greatest = trial.run(example, EXAMPLES / example, words, asked.all_later)
+        print(f"{example}: code {code} with ample memory; {trial.runs()} runs, none of which came to a call after "
+              f"{greatest}: {trial.ways()}")
+        faults += trial.faults()
     return faults
+
+
+def try_random_graphs(asked, library):
+    """The same of random graphs."""
+    trial = Trial(asked.program, library, asked.past, time.monotonic() + asked.seconds)
+    graphs = 0
+    for number, dice in cases(asked, lambda: trial.faults() > 0):
+        has_conditions = number % 2 == 1
+        graph = branching_graph(dice) if has_conditions else plain_graph(dice)
+        texts = {"one.txt": random_text(dice), "two.txt": random_text(dice)}
+        workers = 1 if has_conditions else dice.choice((1, 4, 16))
+        all_later = dice.random() < 0.5
+        words = ["run", "graph.json", "--limit", "30", "--workers", str(workers)]
+        with folder_of(graph, texts) as folder:
+            graphs += 1
+            what = f"graph {number} of seed {asked.seed}, {workers} workers{', each later' * all_later}"
+            trial.run(what, folder, words, all_later)
+    print(f"{graphs} graphs, {trial.runs()} runs: {trial.ways()}")
+    return trial.faults()
 
 
 def main():
     words = argparse.ArgumentParser(description=__doc__, formatter_class=argparse.RawDescriptionHelpFormatter)
-    words.add_argument("program", type=pathlib.Path)
+    add_extent(words, count=None)
     words.add_argument("examples", nargs="*", default=CHOSEN)
     words.add_argument("--workers", type=int, default=4)
     words.add_argument("--all-later", action="store_true")
     words.add_argument("--past", type=int, default=20)
     asked = words.parse_intermixed_args()
-    program = asked.program.resolve()
     with tempfile.TemporaryDirectory() as folder:
         library = built_malloc(folder)
-        run = ["run", "graph.json", "--workers", str(asked.workers)]
-        faults = sum(tried(program, example, run, library, asked) for example in asked.examples)
+        faults = try_examples(asked, library) if asked.seconds is None else try_random_graphs(asked, library)
     sys.exit(1 if faults else 0)
 
 

@@ -1,13 +1,14 @@
 #!/usr/bin/env python3
 """Gives the journals that the program prints to its judge, as they are and with one line changed.
 
-    judged_journals.py PROGRAM [--count N] [--seed N]
+    judged_journals.py PROGRAM [--count N | --seconds N] [--seed N]
 
 Runs each of the examples and random graphs with `--journal`, and judges each journal: that of a run that was kept must
 be complete, with the first line of either version. Then one line at a time is changed: two neighbours exchanged, a line
-left out or put twice, a number made another, a word made another. What the judge says of it is compared with a slow judge, which is written here from the
-rules alone, for nets without semaphores, and with the slow reading of a line by a regular expression. Prints a line for
-each difference and how many journals were judged and what was said, and ends with status 1 where there was a
+left out or put twice, a number made another, a word made another. What the judge says of it is compared with a slow
+judge, which is written here from the rules alone, for nets without semaphores, and with the slow reading of a line by a
+regular expression. With `--seconds` graphs are made until so many seconds have passed or there is a difference. Prints a
+line for each difference and how many journals were judged and what was said, and ends with status 1 where there was a
 difference.
 """
 import argparse
@@ -16,11 +17,10 @@ import pathlib
 import random
 import re
 import shutil
-import subprocess
 import sys
 import tempfile
 
-from random_graphs import branching_graph, plain_graph, random_text
+from random_graphs import add_extent, branching_graph, call, cases, folder_of, plain_graph, random_text
 
 TOP = pathlib.Path(__file__).resolve().parent.parent
 
@@ -230,11 +230,6 @@ def at_some(dice, pattern, line, other):
 
 # ---- the program
 
-def call(program, folder, *words):
-    done = subprocess.run([program, *words], cwd=folder, capture_output=True, timeout=60)
-    return done.returncode, done.stdout.decode(), done.stderr.decode()
-
-
 def judged(program, folder, text):
     pathlib.Path(folder, "journal.txt").write_text(text)
     return call(program, folder, "judge", "graph.json", "journal.txt", "--limit", str(LIMIT))
@@ -275,26 +270,19 @@ def hold(program, folder, graph, dice, what, seen):
 
 def main():
     words = argparse.ArgumentParser(description=__doc__, formatter_class=argparse.RawDescriptionHelpFormatter)
-    words.add_argument("program", type=pathlib.Path)
-    words.add_argument("--count", type=int, default=200)
-    words.add_argument("--seed", type=int, default=1)
+    add_extent(words)
     asked = words.parse_args()
-    program = asked.program.resolve()
     seen = Seen()
     for example in sorted((TOP / "examples").iterdir()):
         with tempfile.TemporaryDirectory() as folder:
             shutil.copytree(example, folder, dirs_exist_ok=True)
             graph = json.loads(pathlib.Path(folder, "graph.json").read_text())
-            hold(program, folder, graph, random.Random(asked.seed), example.name, seen)
-    for number in range(asked.count):
-        dice = random.Random(asked.seed * 1_000_003 + number)
+            hold(asked.program, folder, graph, random.Random(asked.seed), example.name, seen)
+    for number, dice in cases(asked, lambda: seen.faults > 0):
         graph = branching_graph(dice) if number % 2 == 1 else plain_graph(dice)
         texts = {"one.txt": random_text(dice), "two.txt": random_text(dice)}
-        with tempfile.TemporaryDirectory() as folder:
-            for name, text in texts.items():
-                pathlib.Path(folder, name).write_text(text)
-            pathlib.Path(folder, "graph.json").write_text(json.dumps(graph))
-            hold(program, folder, graph, dice, f"graph {number} of seed {asked.seed}", seen)
+        with folder_of(graph, texts) as folder:
+            hold(asked.program, folder, graph, dice, f"graph {number} of seed {asked.seed}", seen)
     for what, count in sorted(seen.counts.items()):
         print(f"{count} {what}")
     sys.exit(1 if seen.faults else 0)

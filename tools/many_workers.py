@@ -1,26 +1,23 @@
 #!/usr/bin/env python3
 """Runs random graphs by 1, 4 and 16 workers, and has the program's judge look at each journal.
 
-    many_workers.py PROGRAM [--count N] [--seed N] [--seconds N]
+    many_workers.py PROGRAM [--count N | --seconds N] [--seed N]
 
 Of a graph without conditions whose run is fine each number of workers has to print the same bytes, those of a slow
 evaluation; such a run has to be fine where no text is long and the limit isn't below the number of tasks. Of each other
 run the report has to have its form, and its last line has to be that of standard error. Each run is made once more with
 `--journal`, and its journal has to be judged complete. The limits of starts differ, so that runs meet them, and in each
 twenty-fifth graph a text is so long that two of them together are too long for a value. With `--seconds` graphs are made until
-so many seconds have passed. A call that takes longer than a minute counts as one that doesn't end. Prints a line for each
-difference and how many runs ended with which code, and ends with status 1 where there was a difference.
+so many seconds have passed or there is a difference. A call that takes longer than a minute counts as one that doesn't
+end. Prints a line for each difference and how many runs ended with which code, and ends with status 1 where there was a
+difference.
 """
 import argparse
 import json
 import pathlib
-import random
-import subprocess
 import sys
-import tempfile
-import time
 
-from random_graphs import branching_graph, difference, has_form, plain_graph, random_text
+from random_graphs import add_extent, branching_graph, call, cases, difference, folder_of, has_form, plain_graph, random_text
 
 # None asks for no number.
 WORKERS = (1, 4, 16, None)
@@ -28,14 +25,6 @@ LIMITS = (1, 3, 10, 40, 1_000)
 
 # More than half of the longest value.
 LONG_TEXT = "a b\n" * 2_200_000
-
-
-def call(program, words, folder):
-    try:
-        done = subprocess.run([program, *words], cwd=folder, capture_output=True, timeout=60)
-    except subprocess.TimeoutExpired:
-        return "no end", "", ""
-    return done.returncode, done.stdout.decode(), done.stderr.decode()
 
 
 def options(limit, workers):
@@ -57,13 +46,13 @@ def made_case(dice, number):
 
 def journal_fault(program, folder, limit, workers, reported):
     """What is wrong with the journal of a run by so many workers, of which the report's call ended with this code."""
-    code, journal, notes = call(program, ["run", "graph.json", "--journal", *options(limit, workers)], folder)
+    code, journal, notes = call(program, folder, "run", "graph.json", "--journal", *options(limit, workers))
     if code == 4 and reported == 4:
         return None
     if code not in (0, 8, 9):
         return f"a journal with code {code}, {notes!r}"
     pathlib.Path(folder, "journal.txt").write_text(journal)
-    seen = call(program, ["judge", "graph.json", "journal.txt", "--limit", str(limit)], folder)
+    seen = call(program, folder, "judge", "graph.json", "journal.txt", "--limit", str(limit))
     return None if seen == (0, "complete\n", "") else f"judged {seen}: {journal!r}"
 
 
@@ -85,7 +74,7 @@ def faults_of(program, case, folder, codes):
     graph, texts, limit, has_conditions = case
     alone = None
     for workers in WORKERS:
-        seen = call(program, ["run", "graph.json", *options(limit, workers)], folder)
+        seen = call(program, folder, "run", "graph.json", *options(limit, workers))
         alone = alone or seen
         key = (workers or 0, has_conditions, str(seen[0]))
         codes[key] = codes.get(key, 0) + 1
@@ -94,39 +83,30 @@ def faults_of(program, case, folder, codes):
                 yield f"{workers} workers, limit {limit}: {what[:2_000]}"
 
 
-def run_case(program, case, number, seed, codes):
+def run_case(program, case, what, codes):
+    """How many faults the runs of a graph have."""
     graph, texts, _, _ = case
-    with tempfile.TemporaryDirectory() as folder:
-        for name, text in texts.items():
-            pathlib.Path(folder, name).write_text(text)
-        pathlib.Path(folder, "graph.json").write_text(json.dumps(graph))
+    with folder_of(graph, texts) as folder:
         faults = list(faults_of(program, case, folder, codes))
-    for what in faults:
-        print(f"graph {number} of seed {seed}: {what}\n{json.dumps(graph)}", file=sys.stderr)
+    for fault in faults:
+        print(f"{what}: {fault}\n{json.dumps(graph)}", file=sys.stderr)
     return len(faults)
 
 
 def main():
     words = argparse.ArgumentParser(description=__doc__, formatter_class=argparse.RawDescriptionHelpFormatter)
-    words.add_argument("program", type=pathlib.Path)
-    words.add_argument("--count", type=int, default=200)
-    words.add_argument("--seed", type=int, default=1)
-    words.add_argument("--seconds", type=float, default=None)
+    add_extent(words)
     asked = words.parse_args()
-    program = asked.program.resolve()
-    until = None if asked.seconds is None else time.monotonic() + asked.seconds
-    faults = 0
+    graphs = faults = 0
     codes = {}
-    number = 0
-    while number < asked.count if until is None else time.monotonic() < until:
-        case = made_case(random.Random(asked.seed * 1_000_003 + number), number)
-        faults += run_case(program, case, number, asked.seed, codes)
-        number += 1
+    for number, dice in cases(asked, lambda: faults > 0):
+        graphs += 1
+        faults += run_case(asked.program, made_case(dice, number), f"graph {number} of seed {asked.seed}", codes)
     for (workers, has_conditions, code), count in sorted(codes.items()):
         kind = "with" if has_conditions else "without"
         by = f"{workers} workers" if workers else "no number"
         print(f"{by}: {count} graphs {kind} conditions ended with code {code}")
-    print(f"{number} graphs, {faults} faults")
+    print(f"{graphs} graphs, {faults} faults")
     sys.exit(1 if faults else 0)
 
 

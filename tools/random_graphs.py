@@ -1,20 +1,24 @@
 #!/usr/bin/env python3
 """Runs the program on random graphs and compares what it prints with a slow evaluation of the same graphs.
 
-    random_graphs.py PROGRAM [--count N] [--seed N] [-- OPTION ...]
+    random_graphs.py PROGRAM [--count N | --seconds N] [--seed N] [-- OPTION ...]
 
 Half of the graphs have no conditions: what they print is computed here, task by task, from the definitions of the
 operations alone. The others have conditions and loops, whose values depend on the order of the run: of these the
-exit code and the form of the report are checked. Prints a line for each difference and how many graphs of each kind
-were run, and ends with status 1 where there was a difference.
+exit code and the form of the report are checked. With `--seconds` graphs are made until so many seconds have passed or
+there is a difference. A call that takes longer than a minute counts as one that doesn't end. Prints a line for each
+difference and how many graphs of each kind were run, and ends with status 1 where there was a difference.
 """
 import argparse
+import contextlib
+import itertools
 import json
 import pathlib
 import random
 import subprocess
 import sys
 import tempfile
+import time
 
 WORDS = ["", "a", "b", "error", "10", " x"]
 ON_TEXT = ["pass", "keep", "without", "head", "tail", "skip", "sort", "uniq", "count", "tally"]
@@ -143,11 +147,47 @@ def slow_report(graph, texts):
     return "".join(f"== {name}\n{values[name]}" if name in values else f"-- {name}\n" for name in sinks)
 
 
-# ---- the program
+# ---- cases, also for the other tools
 
-def run_program(program, options, folder):
-    done = subprocess.run([program, "run", "graph.json", *options], cwd=folder, capture_output=True, timeout=60)
+def add_extent(words, count=200):
+    """The program, and the options that say how many cases there are, and which."""
+    words.add_argument("program", type=lambda name: pathlib.Path(name).resolve())
+    if count:
+        words.add_argument("--count", type=int, default=count)
+    words.add_argument("--seconds", type=float)
+    words.add_argument("--seed", type=int, default=1)
+
+
+def cases(asked, has_fault):
+    """The number of each case with dice of its own."""
+    begun = time.monotonic()
+    for number in itertools.count():
+        is_over = number >= asked.count if asked.seconds is None else has_fault() or time.monotonic() - begun >= asked.seconds
+        if is_over:
+            return
+        yield number, random.Random(asked.seed * 1_000_003 + number)
+
+
+@contextlib.contextmanager
+def folder_of(graph, texts):
+    """A folder with a graph and its texts."""
+    with tempfile.TemporaryDirectory() as folder:
+        for name, text in texts.items():
+            pathlib.Path(folder, name).write_text(text)
+        pathlib.Path(folder, "graph.json").write_text(json.dumps(graph))
+        yield folder
+
+
+def call(program, folder, *words):
+    """The code, the output and the notes of a call."""
+    try:
+        done = subprocess.run([program, *words], cwd=folder, capture_output=True, timeout=60)
+    except subprocess.TimeoutExpired:
+        return "no end", "", ""
     return done.returncode, done.stdout.decode(), done.stderr.decode()
+
+
+# ---- the program
 
 
 def has_form(graph, out):
@@ -170,30 +210,23 @@ def difference(graph, texts, has_conditions, seen):
 
 def main():
     words = argparse.ArgumentParser(description=__doc__, formatter_class=argparse.RawDescriptionHelpFormatter)
-    words.add_argument("program", type=pathlib.Path)
-    words.add_argument("--count", type=int, default=200)
-    words.add_argument("--seed", type=int, default=1)
+    add_extent(words)
     words.add_argument("options", nargs="*", help="options of the program, behind --")
     asked = words.parse_args()
-    program = asked.program.resolve()
     faults = 0
     codes = {}
-    for number in range(asked.count):
-        dice = random.Random(asked.seed * 1_000_003 + number)
+    for number, dice in cases(asked, lambda: faults > 0):
         has_conditions = number % 2 == 1
         graph = branching_graph(dice) if has_conditions else plain_graph(dice)
         texts = {"one.txt": random_text(dice), "two.txt": random_text(dice)}
-        with tempfile.TemporaryDirectory() as folder:
-            for name, text in texts.items():
-                pathlib.Path(folder, name).write_text(text)
-            pathlib.Path(folder, "graph.json").write_text(json.dumps(graph))
-            seen = run_program(program, asked.options, folder)
+        with folder_of(graph, texts) as folder:
+            seen = call(asked.program, folder, "run", "graph.json", *asked.options)
         codes[(has_conditions, seen[0])] = codes.get((has_conditions, seen[0]), 0) + 1
         what = difference(graph, texts, has_conditions, seen)
         if what:
             faults += 1
             print(f"graph {number} of seed {asked.seed}: {what}\n{json.dumps(graph)}\n{texts}", file=sys.stderr)
-    for (has_conditions, code), count in sorted(codes.items()):
+    for (has_conditions, code), count in sorted(codes.items(), key=str):
         print(f"{count} graphs {'with' if has_conditions else 'without'} conditions ended with code {code}")
     sys.exit(1 if faults else 0)
 

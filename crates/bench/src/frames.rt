@@ -1,10 +1,7 @@
-// Runs of jobs, alone, stepped and by workers.
-ghost use Rattle.std.specs.Prelude.{◌<◌, ◌≤◌};
-
+// Runs of jobs of numbers: by one thread without a lock, by the steps of a frame, and by crews.
 use crate::clock::nanos_since;
-use crate::job::{BusyJob, turned};
 use crate::nets;
-use crate::workers::run_by;
+use crewed_runs::ByThreads;
 use frame_steps::{Frame, State, Stepped};
 use number_jobs::{NumberJob, START_LIMIT};
 use outside_io::NoMemory;
@@ -14,238 +11,185 @@ use std::io;
 use std::sync::{Arc, Wait};
 use std::thread::Threads;
 use std::time::{Clock, Instant};
-use stepped_runs::stepped_by;
-use task_graph::{BuildError, Net};
+use task_graph::Net;
+use worker_seat::{CrewRan, run_by_crew};
 
-const CHAIN: u32 = 10_000;
+// How many tasks each net has.
+const TASKS: u32 = 10_000;
 
-const FAN: u32 = 100_000;
+// How often a task adds to a word that works, for some two microseconds.
+const ADDITIONS: u64 = 400;
 
-// How many tasks work, and how many nanoseconds each.
-const WORKING: u32 = 20_000;
+// How often each run is made, of which the least time counts.
+const TIMES: u32 = 5;
 
-const WORK: u64 = 2_000;
+// A number that no task comes to, so that none faults.
+const NEVER: u64 = 0;
 
-// How many turns are made to learn how long one lasts.
-const TRIED: u64 = 10_000_000;
-
-/// The nanoseconds a start, by `run_alone` and by the steps of a frame on one thread.
+/// Who makes a run.
 #[derive(Clone, Copy)]
-pub struct Pair {
-    pub alone: u64,
-    pub stepped: u64,
+pub enum By {
+    /// One thread that needs no lock.
+    Alone,
+    /// One thread, by the steps of a frame.
+    Steps,
+    /// So many workers that steal from each other, 16 at most.
+    Crew(usize),
 }
 
-/// A chain of tasks that do nothing.
-pub fn chain<R: Wait + Clock>(rt: &R, alloc: Global) -> io::Result<Pair> {
-    least_pair(rt, alloc, nets::chain(alloc, CHAIN), CHAIN as u64)
+// Which tasks precede which.
+#[derive(Clone, Copy)]
+enum Order {
+    Chain,
+    Join,
+    Fan,
 }
 
-/// Tasks that do nothing, which a first one precedes.
-pub fn fan<R: Wait + Clock>(rt: &R, alloc: Global) -> io::Result<Pair> {
-    least_pair(rt, alloc, nets::fan(alloc, FAN), FAN as u64 + 1)
+// A job, as its tasks and what each does.
+#[derive(Clone, Copy)]
+struct Work {
+    name: &'static str,
+    order: Order,
+    additions: u64,
 }
 
-// The least of five runs of each kind.
-fn least_pair<R: Wait + Clock>(
+const WORKS: [Work; 4] = [
+    Work {
+        name: "a chain of empty tasks",
+        order: Order::Chain,
+        additions: 0,
+    },
+    Work {
+        name: "empty tasks before the last",
+        order: Order::Join,
+        additions: 0,
+    },
+    Work {
+        name: "empty tasks behind the first",
+        order: Order::Fan,
+        additions: 0,
+    },
+    Work {
+        name: "tasks of 400 additions behind the first",
+        order: Order::Fan,
+        additions: ADDITIONS,
+    },
+];
+
+/// Prints the nanoseconds a start of each job, by each who may run it.
+pub fn measure<R: Threads + Wait + Clock + Print + Sync>(rt: &R, alloc: Global) -> io::Result<()> {
+    for work in WORKS {
+        measure_work(rt, alloc, work, "alone", By::Alone)?;
+        measure_work(rt, alloc, work, "by steps", By::Steps)?;
+        measure_work(rt, alloc, work, "2 workers", By::Crew(2))?;
+        measure_work(rt, alloc, work, "4 workers", By::Crew(4))?;
+        measure_work(rt, alloc, work, "16 workers", By::Crew(16))?;
+    }
+    Ok(())
+}
+
+fn measure_work<R: Threads + Wait + Clock + Print + Sync>(
     rt: &R,
     alloc: Global,
-    net: Result<Net, BuildError>,
-    starts: u64,
-) -> io::Result<Pair> {
-    let net = shared(alloc, net)?;
-    let mut least = Pair {
-        alone: u64::MAX,
-        stepped: u64::MAX,
+    work: Work,
+    who: &str,
+    by: By,
+) -> io::Result<()> {
+    let net = match work.order {
+        Order::Chain => nets::chains(alloc, TASKS, TASKS),
+        Order::Join => nets::join(alloc, TASKS),
+        Order::Fan => nets::fan(alloc, TASKS),
     };
-    for _ in 0..5 {
-        let alone = alone(rt, alloc, busy(alloc, &net, 0)?, starts)?;
-        let stepped = stepped(rt, alloc, busy(alloc, &net, 0)?, starts)?;
-        least.alone = least.alone.min(alone);
-        least.stepped = least.stepped.min(stepped);
+    let nanos = nanos_a_start(rt, alloc, &nets::shared(alloc, net)?, work.additions, by)?;
+    println!(rt; "{}, {who}: {nanos} ns a start", work.name)
+}
+
+/// The nanoseconds a start, the least of five runs. Each task is to be started once.
+pub fn nanos_a_start<R: Threads + Wait + Clock + Sync>(
+    rt: &R,
+    alloc: Global,
+    net: &Arc<Net>,
+    additions: u64,
+    by: By,
+) -> io::Result<u64> {
+    let starts = net.tasks().len() as u64;
+    let mut least = u64::MAX;
+    for _ in 0..TIMES {
+        let job = job_on(net, additions)?;
+        let begun = Instant::now(rt)?;
+        let made = starts_made(rt, alloc, job, by).unwrap_or(0);
+        let nanos = nanos_since(rt, begun)?;
+        if made != starts {
+            return Err(AllocError.into());
+        }
+        least = least.min(nanos / starts.max(1));
     }
     Ok(least)
 }
 
-// The nanoseconds a start of a run that needs no lock.
-fn alone<R: Clock>(rt: &R, alloc: Global, job: Arc<BusyJob>, starts: u64) -> io::Result<u64> {
-    let begun = Instant::now(rt)?;
-    let run = run_alone(alloc, job);
-    each(rt, begun, starts, run.ok())
-}
-
-// The nanoseconds a start of a run that one thread steps.
-fn stepped<R: Wait + Clock>(
-    rt: &R,
-    alloc: Global,
-    job: Arc<BusyJob>,
-    starts: u64,
-) -> io::Result<u64> {
-    let begun = Instant::now(rt)?;
-    let run = all_steps(rt, alloc, job);
-    each(rt, begun, starts, run.unwrap_or(None))
-}
-
-// The nanoseconds for each of so many starts, unless the run went wrong.
-fn each<R: Clock>(
-    rt: &R,
-    begun: Instant,
-    starts: u64,
-    run: Option<FrameRun<BusyJob>>,
-) -> io::Result<u64> {
-    let nanos = nanos_since(rt, begun)?;
-    match run {
-        Some(run) if run.values.len() as u64 == starts => Ok(nanos / starts.max(1)),
-        _ => Err(AllocError.into()),
+// A job on a net, whose tasks make so many additions.
+fn job_on(net: &Arc<Net>, additions: u64) -> io::Result<NumberJob> {
+    match NumberJob::new(Arc::try_clone(net)?, START_LIMIT, 0, NEVER) {
+        Some(job) => Ok(job.with_additions(additions)),
+        None => Err(AllocError.into()),
     }
 }
 
-// A run that one thread steps, the newest release first.
-fn all_steps<R: Wait>(
+// How many starts the run of a job has.
+fn starts_made<R: Threads + Wait + Sync>(
     rt: &R,
     alloc: Global,
-    job: Arc<BusyJob>,
-) -> Result<Option<FrameRun<BusyJob>>, NoMemory> {
+    job: NumberJob,
+    by: By,
+) -> Result<u64, NoMemory> {
+    let run = match by {
+        By::Alone => run_alone(alloc, Arc::new(alloc, job)?)?,
+        By::Steps => run_by_steps(rt, alloc, job)?,
+        By::Crew(workers) => run_by_workers(rt, alloc, job, workers)?,
+    };
+    Ok(run.values.len() as u64)
+}
+
+// The newest release first.
+fn run_by_steps<R: Wait>(
+    rt: &R,
+    alloc: Global,
+    job: NumberJob,
+) -> Result<FrameRun<NumberJob>, NoMemory> {
     let Stepped {
         released: mut ready,
         ..
-    } = Frame::begin(alloc, job)?;
+    } = Frame::begin(alloc, Arc::new(alloc, job)?)?;
     for _ in rt.forever() {
         let Some(release) = ready.pop() else {
-            return Ok(None);
+            return Err(NoMemory);
         };
         let Stepped {
             mut released,
             state,
         } = Frame::step(rt, release)?;
         if let State::Closed(run) = state {
-            return Ok(Some(run));
+            return Ok(run);
         }
         ready.append(&mut released)?;
     }
     unreachable!()
 }
 
-/// The nanoseconds a start of tasks that work, stepped by so many threads over one list.
-pub fn working<R: Threads + Wait + Clock + Sync>(
+fn run_by_workers<R: Threads + Wait + Sync>(
     rt: &R,
     alloc: Global,
-    threads: usize,
-) -> io::Result<u64> {
-    let turns = turns_of_work(rt)?;
-    let net = shared(alloc, nets::fan(alloc, WORKING))?;
-    let mut least = u64::MAX;
-    for _ in 0..5 {
-        let job = busy(alloc, &net, turns)?;
-        let begun = Instant::now(rt)?;
-        let run = stepped_by(rt, alloc, job, threads);
-        least = least.min(each(rt, begun, WORKING as u64 + 1, run.unwrap_or(None))?);
+    job: NumberJob,
+    workers: usize,
+) -> Result<FrameRun<NumberJob>, NoMemory> {
+    if workers == 0 || workers > 16 {
+        return Err(NoMemory);
     }
-    Ok(least)
-}
-
-/// The nanoseconds a start of a chain of tasks that do nothing, by so many workers that steal from each other.
-pub fn chain_by<R: Threads + Wait + Clock + Sync>(
-    rt: &R,
-    alloc: Global,
-    workers: u32,
-) -> io::Result<u64>
-    requires { (0 < workers) × (workers ≤ 16) }
-{
-    by_workers(
-        rt,
-        alloc,
-        nets::chain(alloc, CHAIN),
-        CHAIN as u64,
-        0,
-        workers,
-    )
-}
-
-/// The same, of tasks that do nothing, which a first one precedes.
-pub fn fan_by<R: Threads + Wait + Clock + Sync>(
-    rt: &R,
-    alloc: Global,
-    workers: u32,
-) -> io::Result<u64>
-    requires { (0 < workers) × (workers ≤ 16) }
-{
-    by_workers(
-        rt,
-        alloc,
-        nets::fan(alloc, CHAIN),
-        CHAIN as u64 + 1,
-        0,
-        workers,
-    )
-}
-
-/// The same, of tasks that work.
-pub fn working_by<R: Threads + Wait + Clock + Sync>(
-    rt: &R,
-    alloc: Global,
-    workers: u32,
-) -> io::Result<u64>
-    requires { (0 < workers) × (workers ≤ 16) }
-{
-    let turns = turns_of_work(rt)?;
-    by_workers(
-        rt,
-        alloc,
-        nets::fan(alloc, WORKING),
-        WORKING as u64 + 1,
-        turns,
-        workers,
-    )
-}
-
-// The least of five runs by so many workers, of tasks that make so many turns.
-fn by_workers<R: Threads + Wait + Clock + Sync>(
-    rt: &R,
-    alloc: Global,
-    net: Result<Net, BuildError>,
-    starts: u64,
-    turns: u64,
-    workers: u32,
-) -> io::Result<u64>
-    requires { (0 < workers) × (workers ≤ 16) }
-{
-    let net = shared(alloc, net)?;
-    let mut least = u64::MAX;
-    for _ in 0..5 {
-        let job = busy(alloc, &net, turns)?;
-        let begun = Instant::now(rt)?;
-        let run = run_by(rt, alloc, job, workers);
-        least = least.min(each(rt, begun, starts, run.ok())?);
-    }
-    Ok(least)
-}
-
-// How many turns a task makes that works as long as it is to.
-fn turns_of_work<R: Clock>(rt: &R) -> io::Result<u64> {
-    let mut least = u64::MAX;
-    for _ in 0..5 {
-        let begun = Instant::now(rt)?;
-        let number = turned(TRIED);
-        let nanos = nanos_since(rt, begun)?;
-        if number != 0 {
-            least = least.min(nanos);
-        }
-    }
-    Ok(WORK.saturating_mul(TRIED) / least.max(1))
-}
-
-fn shared(alloc: Global, net: Result<Net, BuildError>) -> io::Result<Arc<Net>> {
-    match net {
-        Ok(net) => Ok(Arc::new(alloc, net)?),
-        Err(_) => Err(AllocError.into()),
-    }
-}
-
-// A job on a net, whose tasks make so many turns.
-fn busy(alloc: Global, net: &Arc<Net>, turns: u64) -> io::Result<Arc<BusyJob>> {
-    match NumberJob::new(Arc::try_clone(net)?, START_LIMIT, 0, 0) {
-        Some(numbers) => Ok(Arc::new(alloc, BusyJob { numbers, turns })?),
-        None => Err(AllocError.into()),
-    }
+    let watchers = vec![in alloc; (); workers]?;
+    let job = Arc::new(alloc, job)?;
+    let CrewRan { run, watchers } = run_by_crew::<NumberJob, (), ByThreads, R>(
+        rt, alloc, watchers, job,
+    );
+    drop(watchers);
+    run.ok_or(NoMemory)
 }

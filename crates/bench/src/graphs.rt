@@ -1,33 +1,29 @@
-//! How long a graph file lasts. Called with a word and the name of a file it reads the bytes; with the word `json` it
-//! reads them as JSON besides, with `read` as a graph, and with `write` it writes that graph again. It prints the
-//! microseconds of what it did besides. Without these words it does nothing. It is no part of the product.
-#![tactic(auto)]
-
-mod clock;
-
+// The reading and writing of graph files.
+use crate::clock::micros_since;
+use crate::files::{bytes_of, next_word};
 use graph_file::{read_graph, write_graph};
-use outside_io::{FolderTexts, Found, Texts};
 use serde_json::Value;
 use std::alloc::Global;
+use std::env::Args;
+use std::io;
 use std::time::Instant;
-use std::{env, io};
 
-/// The most bytes of a file.
+// The most bytes of a file.
 const MOST: u64 = 16_777_216;
 
-fn main(rt: HostRuntime) -> io::Result<()> {
-    let mut args = env::args(&rt)?;
-    let _program = args.next();
-    let (Some(word), Some(file)) = (args.next(), args.next()) else {
-        return Ok(());
-    };
-    let name = file.as_str().as_bytes();
-    let Ok(Found::Text(bytes)) = FolderTexts::new(&rt).read(rt.alloc(), name, MOST) else {
-        return println!(rt; "no file");
-    };
-    let start = Instant::now(&rt)?;
-    let done = does(rt.alloc(), word.as_str(), bytes.as_slice());
-    let micros = clock::micros_since(&rt, start)?;
+/// Takes a word and the name of a file, and reads the bytes; with the word `json` it reads them as JSON besides, with
+/// `read` as a graph, and with `write` it writes that graph again. Prints the microseconds of what it did besides.
+pub fn measure(rt: &HostRuntime, mut words: Args) -> io::Result<()> {
+    let word = next_word(rt, &mut words);
+    let file = next_word(rt, &mut words);
+    let bytes = bytes_of(rt, file.as_str(), MOST)?;
+    print_micros(rt, word.as_str(), bytes.as_slice())
+}
+
+fn print_micros(rt: &HostRuntime, word: &str, bytes: &[u8]) -> io::Result<()> {
+    let start = Instant::now(rt)?;
+    let done = does(rt.alloc(), word, bytes);
+    let micros = micros_since(rt, start)?;
     println!(rt; "{micros} {}", if done { "done" } else { "refused" })
 }
 

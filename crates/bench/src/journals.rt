@@ -1,48 +1,51 @@
-//! How long a journal's text lasts. Called with a word and the name of a file it reads the bytes; with the word `read`
-//! it reads their journal besides, and with `print` it prints that journal again on standard output, and flushes it.
-//! On standard error it prints the microseconds of the last of these, and what it did. Without these words it does
-//! nothing. It is no part of the product.
-#![tactic(auto)]
-
-mod clock;
-
+// The reading and writing of a journal's text.
+use crate::clock::micros_since;
+use crate::files::{bytes_of, next_word};
+use journal_rules::Entry;
 use journal_text::{print_journal, read_journal};
-use outside_io::{FolderTexts, Found, Sink, StdSink, Texts};
+use outside_io::{Sink, SinkFault, StdSink};
+use std::env::Args;
+use std::io;
 use std::time::Instant;
-use std::{env, io};
 
-/// The most bytes of a file.
+// The most bytes of a file.
 const MOST: u64 = 67_108_864;
 
-fn main(rt: HostRuntime) -> io::Result<()> {
-    let mut args = env::args(&rt)?;
-    let _program = args.next();
-    let (Some(word), Some(file)) = (args.next(), args.next()) else {
-        return Ok(());
-    };
-    let name = file.as_str().as_bytes();
-    let start = Instant::now(&rt)?;
-    let Ok(Found::Text(bytes)) = FolderTexts::new(&rt).read(rt.alloc(), name, MOST) else {
-        return eprintln!(rt; "no file");
-    };
-    if word.as_str() == "none" {
-        return eprintln!(rt; "{} file", clock::micros_since(&rt, start)?);
+/// Takes a word and the name of a file, and reads the bytes; with the word `read` it reads their journal besides, and with
+/// `print` it prints that journal again on standard output, and flushes it. On standard error it prints the microseconds
+/// of the last of these, and whether it could.
+pub fn measure(rt: &HostRuntime, mut words: Args) -> io::Result<()> {
+    let word = next_word(rt, &mut words);
+    let file = next_word(rt, &mut words);
+    let bytes = bytes_of(rt, file.as_str(), MOST)?;
+    match word.as_str() {
+        "read" => measure_reading(rt, bytes.as_slice()),
+        "print" => measure_printing(rt, bytes.as_slice()),
+        _ => Ok(()),
     }
-    let start = Instant::now(&rt)?;
-    let Ok(journal) = read_journal(rt.alloc(), bytes.as_slice()) else {
-        return eprintln!(rt; "{} refused", clock::micros_since(&rt, start)?);
-    };
-    if word.as_str() == "read" {
-        return eprintln!(rt;
-            "{} read {}",
-            clock::micros_since(&rt, start)?,
-            journal.len()
-        );
+}
+
+fn measure_reading(rt: &HostRuntime, bytes: &[u8]) -> io::Result<()> {
+    let start = Instant::now(rt)?;
+    let is_read = read_journal(rt.alloc(), bytes).is_ok();
+    eprintln!(rt; "{} {is_read}", micros_since(rt, start)?)
+}
+
+fn measure_printing(rt: &HostRuntime, bytes: &[u8]) -> io::Result<()> {
+    match read_journal(rt.alloc(), bytes) {
+        Ok(journal) => measure_journal(rt, journal.as_slice()),
+        Err(_) => Err(io::ErrorKind::InvalidData.into()),
     }
-    let start = Instant::now(&rt)?;
-    let mut out = StdSink::out(rt.alloc(), &rt);
-    let printed = print_journal(rt.alloc(), journal.as_slice(), &mut out).is_ok()
-        && out.flush().is_ok();
-    let micros = clock::micros_since(&rt, start)?;
-    eprintln!(rt; "{micros} {}", if printed { "printed" } else { "failed" })
+}
+
+fn measure_journal(rt: &HostRuntime, journal: &[Entry]) -> io::Result<()> {
+    let start = Instant::now(rt)?;
+    let is_printed = printed(rt, journal).is_ok();
+    eprintln!(rt; "{} {is_printed}", micros_since(rt, start)?)
+}
+
+fn printed(rt: &HostRuntime, journal: &[Entry]) -> Result<(), SinkFault> {
+    let mut out = StdSink::out(rt.alloc(), rt);
+    print_journal(rt.alloc(), journal, &mut out)?;
+    out.flush()
 }

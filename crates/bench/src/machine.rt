@@ -1,59 +1,65 @@
-// Runs of these nets.
+// Runs of a machine, and the judge's walk over a journal.
 use crate::clock::{micros_since, nanos_since};
-use crate::nets::{self, CHOICES};
-use legal_run::{Cause, MAX_LIMIT, Machine, MachineError, Verdict, judge};
+use crate::nets;
+use legal_run::{Cause, Journal, MAX_LIMIT, Machine, MachineError, Verdict, judge};
+use outside_io::List;
 use std::alloc::{AllocError, Global};
 use std::io;
 use std::sync::Arc;
-use std::time::{Clock, Instant};
-use task_graph::{BuildError, Net};
+use std::time::Instant;
+use task_graph::{BuildError, Net, NetBuilder, Shape};
 
-// How many starts of Choice tasks are measured.
-const TURNS: u32 = 1_000_000;
+// How many tasks a large net has, and how many edges.
+const TASKS: u32 = 10_000;
 
-// How many starts the judged journal has, each with its end.
-const JUDGED: u32 = 1_500_000;
+const EDGES: u32 = 100_000;
 
-/// The microseconds for a net of many tasks and edges, built and led to its rest.
-pub fn large<R: Clock>(rt: &R, alloc: Global) -> io::Result<u64> {
-    let start = Instant::now(rt)?;
-    let rested = run_net(alloc, nets::large(alloc))?;
-    time_if_right(rested, micros_since(rt, start)?)
+// How many tasks a loop has behind its source.
+const CHOICES: u32 = 1_000;
+
+// How many starts the run of a loop has, each with its end.
+const STARTS: u32 = 1_500_000;
+
+/// Prints how long runs and the judge take.
+pub fn measure(rt: &HostRuntime) -> io::Result<()> {
+    let large = micros_to_rest(rt, large(rt.alloc()))?;
+    println!(rt; "10,000 tasks, 100,000 edges: led to rest in {large} us")?;
+    let join = micros_to_rest(rt, nets::join(rt.alloc(), EDGES))?;
+    println!(rt; "100,000 tasks that all precede the last: led to rest in {join} us")?;
+    measure_loop(rt, &nets::shared(rt.alloc(), looped(rt.alloc()))?)
 }
 
-/// The microseconds for a task with many predecessors, built and led to its rest.
-pub fn wide<R: Clock>(rt: &R, alloc: Global) -> io::Result<u64> {
-    let start = Instant::now(rt)?;
-    let rested = run_net(alloc, nets::wide(alloc))?;
-    time_if_right(rested, micros_since(rt, start)?)
-}
-
-// A time, unless the run went wrong.
-fn time_if_right(is_right: bool, time: u64) -> io::Result<u64> {
-    if is_right {
-        Ok(time)
-    } else {
-        Err(AllocError.into())
+// Each task has edges to later ones, at most ten tasks on.
+fn large(alloc: Global) -> Result<Net, BuildError> {
+    let mut builder = nets::plain_tasks(alloc, TASKS)?;
+    for edge in 0..EDGES {
+        let from = edge % (TASKS - 1);
+        let to = (from + 1 + edge / TASKS).min(TASKS - 1);
+        builder.edge(from, to, false)?;
     }
+    Ok(builder.finish())
 }
 
-// Whether the run of a net of plain tasks, in order of their numbers, is at rest in the end.
-fn run_net(alloc: Global, net: Result<Net, BuildError>) -> io::Result<bool> {
-    let net = shared(alloc, net)?;
-    let Ok(mut machine) = Machine::new(alloc, net.clone()?, MAX_LIMIT) else {
-        return Err(AllocError.into());
-    };
-    Ok(run_in_order(&mut machine, &net).is_ok() && machine.at_rest())
+fn micros_to_rest(rt: &HostRuntime, net: Result<Net, BuildError>) -> io::Result<u64> {
+    let net = nets::shared(rt.alloc(), net)?;
+    let mut machine = machine_on(rt.alloc(), &net)?;
+    micros_of_run(rt, &mut machine, &net)
 }
 
-fn shared(alloc: Global, net: Result<Net, BuildError>) -> io::Result<Arc<Net>> {
-    let Ok(net) = net else {
-        return Err(AllocError.into());
-    };
-    match Arc::new(alloc, net) {
-        Ok(net) => Ok(net),
+fn machine_on(alloc: Global, net: &Arc<Net>) -> io::Result<Machine> {
+    match Machine::new(alloc, Arc::try_clone(net)?, MAX_LIMIT) {
+        Ok(machine) => Ok(machine),
         Err(_) => Err(AllocError.into()),
     }
+}
+
+// The microseconds of a run that starts each task in the order of their numbers.
+fn micros_of_run(rt: &HostRuntime, machine: &mut Machine, net: &Net) -> io::Result<u64> {
+    let begun = Instant::now(rt)?;
+    if run_in_order(machine, net).is_err() || !machine.at_rest() {
+        return Err(AllocError.into());
+    }
+    micros_since(rt, begun)
 }
 
 fn run_in_order(machine: &mut Machine, net: &Net) -> Result<(), MachineError> {
@@ -69,42 +75,40 @@ fn run_in_order(machine: &mut Machine, net: &Net) -> Result<(), MachineError> {
     Ok(())
 }
 
-/// The nanoseconds for a start of a Choice task with its end, in a loop of them.
-pub fn looped<R: Clock>(rt: &R, alloc: Global) -> io::Result<u64> {
-    let mut machine = loop_machine(alloc)?;
-    let start = Instant::now(rt)?;
-    let is_right = turn(&mut machine, TURNS).is_ok();
-    time_if_right(is_right, nanos_since(rt, start)? / TURNS as u64)
-}
-
-/// The microseconds for the judge's walk over the journal of such a loop.
-pub fn judged<R: Clock>(rt: &R, alloc: Global) -> io::Result<u64> {
-    let mut machine = loop_machine(alloc)?;
-    let is_run = turn(&mut machine, JUDGED).is_ok();
-    let Ok(net) = nets::looped(alloc) else {
-        return Err(AllocError.into());
-    };
-    let start = Instant::now(rt)?;
-    let verdict = judge(alloc, &net, MAX_LIMIT, machine.journal());
-    let micros = micros_since(rt, start)?;
-    time_if_right(is_run && matches!(verdict, Ok(Verdict::Legal)), micros)
-}
-
-fn loop_machine(alloc: Global) -> io::Result<Machine> {
-    let net = shared(alloc, nets::looped(alloc))?;
-    match Machine::new(alloc, net, MAX_LIMIT) {
-        Ok(machine) => Ok(machine),
-        Err(_) => Err(AllocError.into()),
+// Task 0, and then Choice tasks, of which each precedes the next and the last one the first: task k has edge k.
+fn looped(alloc: Global) -> Result<Net, BuildError> {
+    let mut builder = nets::plain_tasks(alloc, 1)?;
+    for from in 0..CHOICES {
+        builder.task(Shape::Choice, List::new(alloc), List::new(alloc))?;
+        builder.edge(from, from + 1, false)?;
     }
+    builder.edge(CHOICES, 1, false)?;
+    Ok(builder.finish())
 }
 
-// So many starts, each with its end, of which the first is the source's.
-fn turn(machine: &mut Machine, starts: u32) -> Result<(), MachineError> {
+// Measures a start of a condition with its end, and the judge on the journal of many.
+fn measure_loop(rt: &HostRuntime, net: &Arc<Net>) -> io::Result<()> {
+    let mut machine = machine_on(rt.alloc(), net)?;
+    measure_turns(rt, &mut machine)?;
+    measure_judge(rt, net, machine.journal())
+}
+
+fn measure_turns(rt: &HostRuntime, machine: &mut Machine) -> io::Result<()> {
+    let begun = Instant::now(rt)?;
+    if turn(machine).is_err() {
+        return Err(AllocError.into());
+    }
+    let nanos = nanos_since(rt, begun)? / STARTS as u64;
+    println!(rt; "1,000 Choice tasks in a loop: {nanos} ns a start with its end")
+}
+
+// All starts, each with its end, of which the first is the source's.
+fn turn(machine: &mut Machine) -> Result<(), MachineError> {
     let first = machine.start(0, Cause::Source)?;
     machine.end(first, &[0], false)?;
     let next = machine.start(1, Cause::Strong)?;
     machine.end(next, &[1], false)?;
-    for done in 2..starts {
+    for done in 2..STARTS {
         choose_next(machine, (done - 1) % CHOICES + 1)?;
     }
     Ok(())
@@ -120,4 +124,16 @@ fn choose_next(machine: &mut Machine, task: u32) -> Result<(), MachineError> {
     let start = machine.start(task, Cause::Weak(edge))?;
     machine.end(start, &[task], false)?;
     Ok(())
+}
+
+fn measure_judge(rt: &HostRuntime, net: &Net, journal: &Journal) -> io::Result<()> {
+    let begun = Instant::now(rt)?;
+    if !matches!(
+        judge(rt.alloc(), net, MAX_LIMIT, journal),
+        Ok(Verdict::Legal)
+    ) {
+        return Err(AllocError.into());
+    }
+    let micros = micros_since(rt, begun)?;
+    println!(rt; "its journal of 3,000,000 entries: judged in {micros} us")
 }

@@ -1,89 +1,61 @@
-// The nets that are run.
+// Nets of plain tasks that several subjects run.
 use outside_io::List;
-use std::alloc::Global;
+use std::alloc::{AllocError, Global};
+use std::io;
+use std::sync::Arc;
 use task_graph::{BuildError, Net, NetBuilder, Shape};
 
-/// How many tasks a large net has, and how many edges.
-pub const TASKS: u32 = 10_000;
-
-const EDGES: u32 = 100_000;
-
-/// How many tasks precede the last one of a wide net.
-pub const PREDECESSORS: u32 = 100_000;
-
-/// How many tasks a loop has behind its source.
-pub const CHOICES: u32 = 1_000;
-
-/// Plain tasks, of which each has edges to later ones, at most ten tasks on.
-pub fn large(alloc: Global) -> Result<Net, BuildError> {
-    let mut builder = NetBuilder::new(alloc);
-    add_tasks(alloc, &mut builder, Shape::Plain, TASKS)?;
-    for edge in 0..EDGES {
-        let from = edge % (TASKS - 1);
-        let to = (from + 1 + edge / TASKS).min(TASKS - 1);
-        builder.edge(from, to, false)?;
+/// Chains of so many tasks each, one after another: each task precedes the next one of its chain.
+pub fn chains(alloc: Global, each: u32, tasks: u32) -> Result<Net, BuildError> {
+    let mut builder = plain_tasks(alloc, tasks)?;
+    for to in 1..tasks {
+        if to % each.max(1) != 0 {
+            builder.edge(to - 1, to, false)?;
+        }
     }
     Ok(builder.finish())
 }
 
-/// Plain tasks that all precede a last one.
-pub fn wide(alloc: Global) -> Result<Net, BuildError> {
-    let mut builder = NetBuilder::new(alloc);
-    add_tasks(alloc, &mut builder, Shape::Plain, PREDECESSORS + 1)?;
-    for from in 0..PREDECESSORS {
-        builder.edge(from, PREDECESSORS, false)?;
+/// So many chains whose tasks take turns: each task precedes the one so many places on.
+pub fn chains_in_turn(alloc: Global, chains: u32, tasks: u32) -> Result<Net, BuildError> {
+    let mut builder = plain_tasks(alloc, tasks)?;
+    for to in chains..tasks {
+        builder.edge(to - chains, to, false)?;
     }
     Ok(builder.finish())
 }
 
-/// Plain tasks that a first one precedes.
-pub fn fan(alloc: Global) -> Result<Net, BuildError> {
-    let mut builder = NetBuilder::new(alloc);
-    add_tasks(alloc, &mut builder, Shape::Plain, PREDECESSORS + 1)?;
-    for to in 0..PREDECESSORS {
-        builder.edge(0, to + 1, false)?;
+/// A task that precedes all others.
+pub fn fan(alloc: Global, tasks: u32) -> Result<Net, BuildError> {
+    let mut builder = plain_tasks(alloc, tasks)?;
+    for to in 1..tasks {
+        builder.edge(0, to, false)?;
     }
     Ok(builder.finish())
 }
 
-/// Plain tasks, of which each precedes the next.
-pub fn chain(alloc: Global) -> Result<Net, BuildError> {
-    let mut builder = NetBuilder::new(alloc);
-    add_tasks(alloc, &mut builder, Shape::Plain, TASKS)?;
-    for from in 0..TASKS - 1 {
-        builder.edge(from, from + 1, false)?;
+/// A last task that all others precede.
+pub fn join(alloc: Global, tasks: u32) -> Result<Net, BuildError> {
+    let mut builder = plain_tasks(alloc, tasks)?;
+    for to in 1..tasks {
+        builder.edge(to - 1, tasks - 1, false)?;
     }
     Ok(builder.finish())
 }
 
-/// One task with an edge to itself that begins with a token.
-pub fn self_loop(alloc: Global) -> Result<Net, BuildError> {
+/// Tasks without edges.
+pub fn plain_tasks(alloc: Global, count: u32) -> Result<NetBuilder, BuildError> {
     let mut builder = NetBuilder::new(alloc);
-    add_tasks(alloc, &mut builder, Shape::Plain, 1)?;
-    builder.edge(0, 0, true)?;
-    Ok(builder.finish())
-}
-
-/// Task 0, and then Choice tasks, of which each precedes the next and the last one the first: task k has edge k.
-pub fn looped(alloc: Global) -> Result<Net, BuildError> {
-    let mut builder = NetBuilder::new(alloc);
-    add_tasks(alloc, &mut builder, Shape::Plain, 1)?;
-    add_tasks(alloc, &mut builder, Shape::Choice, CHOICES)?;
-    for from in 0..CHOICES {
-        builder.edge(from, from + 1, false)?;
-    }
-    builder.edge(CHOICES, 1, false)?;
-    Ok(builder.finish())
-}
-
-fn add_tasks(
-    alloc: Global,
-    builder: &mut NetBuilder,
-    shape: Shape,
-    count: u32,
-) -> Result<(), BuildError> {
     for _ in 0..count {
-        builder.task(shape, List::new(alloc), List::new(alloc))?;
+        builder.task(Shape::Plain, List::new(alloc), List::new(alloc))?;
     }
-    Ok(())
+    Ok(builder)
+}
+
+/// A net that several runs share.
+pub fn shared(alloc: Global, net: Result<Net, BuildError>) -> io::Result<Arc<Net>> {
+    match net {
+        Ok(net) => Ok(Arc::new(alloc, net)?),
+        Err(_) => Err(AllocError.into()),
+    }
 }

@@ -1,19 +1,22 @@
-// Nets of 1,000,000 tasks and 8,000,000 edges.
+// The pitfall check of nets of 1,000,000 tasks and 8,000,000 edges.
 ghost use Rattle.std.specs.Prelude.{IsTrue};
 ghost use Rattle.pitfall_check.specs.Pitfalls.{BeginsWithoutTokens};
 
-use outside_io::{List, NoMemory};
+use crate::clock::micros_since;
+use outside_io::List;
 use pitfall_check::check;
-use std::alloc::Global;
+use std::alloc::{AllocError, Global};
+use std::io;
+use std::time::Instant;
 use task_graph::{BuildError, Net, NetBuilder, Shape};
 
 const TASKS: u32 = 1_000_000;
 
 const EDGES: u32 = 8_000_000;
 
-/// Where the edges of a net lead.
+// Where the edges of a net lead.
 #[derive(Clone, Copy, PartialEq, Eq)]
-pub enum NetKind {
+enum NetKind {
     /// From any task to any task.
     Random,
     /// The same, and each third task is a condition.
@@ -24,8 +27,31 @@ pub enum NetKind {
     Ring,
 }
 
-/// A net of this kind.
-pub fn net_of_kind(alloc: Global, kind: NetKind) -> Result<Net, BuildError> {
+/// Prints how long the building and the check of each kind of net take.
+pub fn measure(rt: &HostRuntime) -> io::Result<()> {
+    measure_kind(rt, "edges at random", NetKind::Random)?;
+    measure_kind(rt, "a third of the tasks conditions", NetKind::Conditions)?;
+    measure_kind(rt, "edges to later tasks at random", NetKind::Later)?;
+    measure_kind(rt, "edges to the next tasks, in a ring", NetKind::Ring)
+}
+
+fn measure_kind(rt: &HostRuntime, name: &str, kind: NetKind) -> io::Result<()> {
+    let start = Instant::now(rt)?;
+    match net_of_kind(rt.alloc(), kind) {
+        Ok(net) => measure_check(rt, name, micros_since(rt, start)?, &net),
+        Err(_) => Err(AllocError.into()),
+    }
+}
+
+fn measure_check(rt: &HostRuntime, name: &str, built: u64, net: &Net) -> io::Result<()> {
+    let start = Instant::now(rt)?;
+    let count = count_findings(rt.alloc(), net)?;
+    let checked = micros_since(rt, start)?;
+    println!(rt; "{name}: built in {built} us, {count} findings in {checked} us")
+}
+
+// A net of this kind.
+fn net_of_kind(alloc: Global, kind: NetKind) -> Result<Net, BuildError> {
     let mut builder = NetBuilder::new(alloc);
     for task in 0..TASKS {
         let shape = if kind == NetKind::Conditions && task % 3 == 0 {
@@ -66,12 +92,14 @@ fn ends(kind: NetKind, edge: u32, one: u32, other: u32) -> (u32, u32) {
     }
 }
 
-/// How many findings a net has; 0 where an edge begins with a token.
-pub fn count_findings(alloc: Global, net: &Net) -> Result<usize, NoMemory> {
-    if begins_without_tokens(net) {
-        Ok(check(alloc, net)?.len())
-    } else {
-        Ok(0)
+// How many findings a net has; 0 where an edge begins with a token.
+fn count_findings(alloc: Global, net: &Net) -> io::Result<usize> {
+    if !begins_without_tokens(net) {
+        return Ok(0);
+    }
+    match check(alloc, net) {
+        Ok(findings) => Ok(findings.len()),
+        Err(_) => Err(AllocError.into()),
     }
 }
 

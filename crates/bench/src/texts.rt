@@ -1,46 +1,40 @@
-//! How long an operation on a text lasts, alone. Called with the name of an operation, a file and an operand it
-//! reads the file once, applies the operation eight times and prints the microseconds of one; with the name `copy` it
-//! copies as many bytes of the file as the operand says, each time to memory that wasn't used before. Without these
-//! words it does nothing. It is no part of the product.
-#![tactic(auto)]
-
-mod clock;
+// The operations on texts, each alone.
 mod ops;
 
-use outside_io::{FolderTexts, Found, List, Texts};
+use crate::clock::micros_since;
+use crate::files::{bytes_of, next_word};
+use outside_io::List;
+use std::alloc::AllocError;
+use std::env::Args;
+use std::io;
 use std::time::Instant;
-use std::{env, io};
 use text_ops::Text;
 
-/// How often an operation is applied.
-const TIMES: u8 = 8;
-
-/// The most bytes of a text.
+// The most bytes of a text.
 const MOST: u64 = 16_777_215;
 
-fn main(rt: HostRuntime) -> io::Result<()> {
-    let mut args = env::args(&rt)?;
-    let _program = args.next();
-    let (Some(name), Some(file)) = (args.next(), args.next()) else {
-        return Ok(());
-    };
-    let operand = args.next();
-    let operand = operand.as_ref().map_or("", |word| word.as_str());
-    let Ok(Found::Text(bytes)) = FolderTexts::new(&rt).read(
-        rt.alloc(),
-        file.as_str().as_bytes(),
-        MOST,
-    ) else {
-        return println!(rt; "no text");
-    };
-    let text = Text::from_bytes(rt.alloc(), bytes);
-    let Ok(text) = text else {
-        return println!(rt; "no memory");
-    };
+// How often an operation is applied.
+const TIMES: u8 = 8;
+
+/// Takes the name of an operation, a file and an operand, reads the file once, applies the operation eight times and
+/// prints the microseconds of one. With the name `copy` it copies as many bytes of the file as the operand says, each time
+/// to memory that wasn't used before.
+pub fn measure(rt: &HostRuntime, mut words: Args) -> io::Result<()> {
+    let name = next_word(rt, &mut words);
+    let file = next_word(rt, &mut words);
+    let operand = next_word(rt, &mut words);
+    let text = text_of(rt, file.as_str())?;
     if name.as_str() == "copy" {
-        copies(&rt, operand, &text)
+        copies(rt, operand.as_str(), &text)
     } else {
-        applies(&rt, name.as_str(), operand, &text)
+        applies(rt, name.as_str(), operand.as_str(), &text)
+    }
+}
+
+fn text_of(rt: &HostRuntime, file: &str) -> io::Result<Text> {
+    match Text::from_bytes(rt.alloc(), bytes_of(rt, file, MOST)?) {
+        Ok(text) => Ok(text),
+        Err(_) => Err(AllocError.into()),
     }
 }
 
@@ -52,7 +46,7 @@ fn applies(rt: &HostRuntime, name: &str, operand: &str, text: &Text) -> io::Resu
         let made = ops::apply(rt.alloc(), name, operand, text);
         bytes = made.map_or(0, |made| made.len());
     }
-    let micros = clock::micros_since(rt, start)? / u64::from(TIMES);
+    let micros = micros_since(rt, start)? / u64::from(TIMES);
     println!(rt; "{micros} {bytes}")
 }
 
@@ -66,6 +60,6 @@ fn copies(rt: &HostRuntime, operand: &str, text: &Text) -> io::Result<()> {
         let copy = List::from_slice(rt.alloc(), part);
         kept.push(copy)?;
     }
-    let micros = clock::micros_since(rt, start)? / u64::from(TIMES);
+    let micros = micros_since(rt, start)? / u64::from(TIMES);
     println!(rt; "{micros} {}", part.len())
 }

@@ -1,54 +1,37 @@
-//! How long the calls of `keyed_lock`, `tickets` and `ready_deques` last. It measures if it is called with a word,
-//! and otherwise does nothing; with `own` or `apart` and numbers of owners it makes one measurement of the ready list
-//! alone, for those who count its processor time. It is no part of the product.
-#![tactic(auto)]
-
-mod clock;
+// The calls of `keyed_lock`, `tickets` and `ready_deques`.
 mod deques;
 mod locks;
 mod register;
 
-use outside_io::NoMemory;
-use std::{env, io};
+use crate::clock::nanos_since;
+use std::alloc::Global;
+use std::io;
+use std::sync::Wait;
+use std::thread::Threads;
+use std::time::{Clock, Instant};
 
-fn main(rt: HostRuntime) -> io::Result<()> {
-    let mut args = env::args(&rt)?;
-    let _program = args.next();
-    let Some(word) = args.next() else {
-        return Ok(());
-    };
-    let (owners, at_work) = (number(args.next()), number(args.next()));
-    if word.as_str() == "own" {
-        let nanos = deques::own(&rt, rt.alloc(), owners, at_work as usize)?;
-        return println!(rt; "{owners} owners, {at_work} at work: {nanos} ns");
+// How often each call is made.
+const TURNS: u32 = 1_000_000;
+
+// How many threads make calls side by side.
+const THREADS: usize = 4;
+
+/// Prints how long each call lasts, by one thread and by four side by side.
+pub fn measure<R: Threads + Wait + Clock + Print + Sync>(rt: &R, alloc: Global) -> io::Result<()> {
+    let nanos = register::issues(rt, alloc)?;
+    println!(rt; "issue and redeem: {nanos} ns")?;
+    for threads in [1, THREADS].iter() {
+        let adds = locks::adds(rt, *threads)?;
+        let takes = locks::takes(rt, alloc, *threads)?;
+        let pushes = deques::pushes(rt, alloc, *threads)?;
+        println!(rt;
+            "{threads} threads: two fetch_adds {adds} ns, take and put {takes} ns, push and take_own {pushes} ns"
+        )?;
     }
-    if word.as_str() == "apart" {
-        let nanos = deques::apart(&rt, rt.alloc(), owners)?;
-        return println!(rt; "{owners} lists of one owner: {nanos} ns");
-    }
-    for threads in [1, clock::THREADS].iter() {
-        let adds = locks::adds(&rt, *threads)?;
-        let takes = locks::takes(&rt, rt.alloc(), *threads)?;
-        println!(rt; "{threads} threads: two fetch_adds {adds} ns, take and put {takes} ns")?;
-    }
-    for others in [0, 10_000].iter() {
-        let nanos = register::issues(&rt, rt.alloc(), *others)?;
-        println!(rt; "{others} outstanding: issue and redeem {nanos} ns")?;
-    }
-    for workers in [1, 4, 16].iter() {
-        let nanos = deques::own(&rt, rt.alloc(), *workers, 1)?;
-        println!(rt; "{workers} owners, one at work: push and take_own {nanos} ns")?;
-    }
-    let nanos = deques::own(&rt, rt.alloc(), 4, 4)?;
-    println!(rt; "4 owners, all at work: push and take_own {nanos} ns")?;
-    let nanos = deques::apart(&rt, rt.alloc(), 4)?;
-    println!(rt; "4 lists of one owner, all at work: push and take_own {nanos} ns")?;
-    let nanos = deques::stolen(&rt, rt.alloc())?;
-    println!(rt; "three thieves: an item stolen each {nanos} ns")?;
     Ok(())
 }
 
-// The number that a word writes.
-fn number(word: Option<String>) -> u32 {
-    word.map_or(0, |word| word.as_str().parse::<u32>().unwrap_or(0))
+// The nanoseconds since `start`, for each of the turns.
+fn nanos_each<R: Clock>(rt: &R, start: Instant) -> io::Result<u64> {
+    Ok(nanos_since(rt, start)? / TURNS as u64)
 }

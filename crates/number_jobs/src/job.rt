@@ -14,6 +14,8 @@ use run_frame::{Answer, Done, Job, JobError, Valued};
 use std::alloc::Global;
 use std::marker::Model;
 use std::sync::Arc;
+use std::sync::atomic::AtomicU64;
+use std::sync::atomic::Ordering::SeqCst;
 use task_graph::{Net, Shape};
 
 /// The most starts that a run may have.
@@ -26,6 +28,7 @@ pub struct NumberJob {
     limit: u64,
     turns: u64,
     fault: u64,
+    additions: u64,
 }
 
 impl Model for NumberJob {
@@ -56,7 +59,16 @@ impl NumberJob {
             limit,
             turns,
             fault,
+            additions: 0,
         })
+    }
+
+    /// The same job, of which each task first adds so often to an atomic word of its own. That takes time, for
+    /// measurements, and nothing comes of it.
+    pub fn with_additions(self, additions: u64) -> NumberJob
+        ensures { result ≡ self }
+    {
+        NumberJob { additions, ..self }
     }
 
     // Which edges a task signals that comes to a number.
@@ -80,6 +92,14 @@ impl NumberJob {
             Shape::Many => Ok(Answer::Indices(List::from_slice(alloc, &[first, 2])?)),
             Shape::Nested => Ok(Answer::All),
         }
+    }
+}
+
+// Adds so often to an atomic word, which no compiler leaves out.
+fn add_often(additions: u64) {
+    let word = AtomicU64::new(0);
+    for _ in 0..additions {
+        word.fetch_add(1, SeqCst);
     }
 }
 
@@ -124,6 +144,7 @@ impl Job for NumberJob {
     }
 
     fn run(&self, alloc: Global, task: u32, ins: &Ins<u64>) -> Result<Done<NumberJob>, JobError> {
+        add_often(self.additions);
         let number = number_made(ins);
         if number == self.fault {
             return Err(JobError::Fault(Why::Long(number)));

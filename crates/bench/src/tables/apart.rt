@@ -4,8 +4,8 @@ ghost use Rattle.std.specs.Arc.{arc_value};
 ghost use Rattle.join_tables.specs.States.{FreshState};
 ghost use Rattle.keyed_lock.specs.Locks.{made_with};
 
+use super::hands::ChainHand;
 use crate::clock::nanos_since;
-use crate::hands::ChainHand;
 use join_tables::{Fresh, Keeper, NetTable, Opening};
 use keyed_lock::{Held, KeyedLock};
 use std::alloc::{AllocError, Global};
@@ -15,6 +15,12 @@ use std::thread::{Threads, for_each_mut};
 use std::time::{Clock, Instant};
 use task_graph::Net;
 
+// How often each run is made, of which the least time counts.
+const TIMES: u32 = 5;
+
+// More starts than any net here has.
+const LIMIT: u64 = 1_000_000;
+
 /// The nanoseconds of a run: those in which threads stepped it, and those in which one thread absorbed its turns after
 /// that.
 #[derive(Clone, Copy)]
@@ -23,8 +29,28 @@ pub struct Nanos {
     pub absorbing: u64,
 }
 
-/// A run of chains by so many threads, each of which steps chains of its own and keeps the turns that are done.
-pub fn run_apart<R: Threads + Wait + Clock + Sync>(
+/// The nanoseconds a start of chains by so many threads, the least of five runs.
+pub fn nanos_a_start<R: Threads + Wait + Clock + Sync>(
+    rt: &R,
+    alloc: Global,
+    net: &Arc<Net>,
+    threads: usize,
+) -> io::Result<Nanos> {
+    let starts = (net.tasks().len() as u64).max(1);
+    let mut least = Nanos {
+        stepping: u64::MAX,
+        absorbing: u64::MAX,
+    };
+    for _ in 0..TIMES {
+        let nanos = run_apart(rt, alloc, net, LIMIT, threads)?;
+        least.stepping = least.stepping.min(nanos.stepping / starts);
+        least.absorbing = least.absorbing.min(nanos.absorbing / starts);
+    }
+    Ok(least)
+}
+
+// A run of chains by so many threads, each of which steps chains of its own and keeps the turns that are done.
+fn run_apart<R: Threads + Wait + Clock + Sync>(
     rt: &R,
     alloc: Global,
     net: &Arc<Net>,

@@ -1,5 +1,5 @@
 // `take` and `put` of a lock, and two `fetch_add`s.
-use crate::clock::{THREADS, TURNS, nanos_each};
+use super::{THREADS, TURNS, nanos_each};
 use keyed_lock::{Held, KeyedLock};
 use std::alloc::{AllocError, Global};
 use std::io;

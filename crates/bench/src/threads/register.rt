@@ -1,7 +1,7 @@
 // `issue` and `redeem` at one register.
 ghost use Rattle.std.specs.Prelude.{◌≡◌};
 
-use crate::clock::{TURNS, nanos_each};
+use super::{TURNS, nanos_each};
 use std::alloc::{AllocError, Global};
 use std::io;
 use std::time::{Clock, Instant};
@@ -23,21 +23,11 @@ fn issue_often(register: &Register<u32>, book: &mut Book<u32>)
     }
 }
 
-fn issue_others(register: &Register<u32>, book: &mut Book<u32>, others: u32)
-    requires { book.old.register ≡ register.now }
-    ensures { book.new.register ≡ register.now }
-{
-    for item in 0..others {
-        let _ = register.issue(book, item);
-    }
-}
-
-/// An `issue` with its `redeem`, where so many other items are outstanding.
-pub fn issues<R: Clock>(rt: &R, alloc: Global, others: u32) -> io::Result<u64> {
+/// An `issue` with its `redeem`.
+pub fn issues<R: Clock>(rt: &R, alloc: Global) -> io::Result<u64> {
     let Ok((register, mut book)) = Register::new(alloc) else {
         return Err(AllocError.into());
     };
-    issue_others(&register, &mut book, others);
     let start = Instant::now(rt)?;
     issue_often(&register, &mut book);
     nanos_each(rt, start)
