@@ -2,8 +2,8 @@
 use crate::nets::{Rows, built_net};
 use crate::orders::{Order, led};
 use crate::{NumberJob, START_LIMIT};
-use slow_rules::{is_shape_legal, starts};
-use slow_verdicts::{is_complete, meets_data_rule};
+use legal_run::{Entry, Verdict, judge};
+use slow_verdicts::meets_data_rule;
 use std::alloc::Global;
 use std::process::Abort;
 use std::sync::Arc;
@@ -269,11 +269,14 @@ fn run_case(rt: &impl Abort, alloc: Global, case: Case<'_>, order: Order) -> Res
     let Some(run) = led(alloc, job_of(rt, &net, case)?, order)? else {
         panic!(rt; "a run that doesn't end");
     };
+    let verdict = judge(alloc, &net, case.limit, &run.journal)?;
+    assert_eq!(rt; verdict, Verdict::Complete);
     let journal = run.journal.as_slice();
-    assert!(rt; is_shape_legal(&net, case.limit, journal));
     assert!(rt; meets_data_rule(&net, journal));
-    assert!(rt; is_complete(&net, case.limit, journal));
-    Ok(starts(journal))
+    let starts = journal
+        .iter()
+        .filter(|entry| matches!(entry, Entry::Start { .. }));
+    Ok(starts.count())
 }
 
 fn job_of(rt: &impl Abort, net: &Arc<Net>, case: Case<'_>) -> Result<NumberJob, Fail> {
