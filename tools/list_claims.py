@@ -14,7 +14,7 @@ from spec_files import CRATES, TOP, definitions_in, imported, name_of, words
 CLAIM = re.compile(r"^\s*(?:pub )?([a-z_][a-z0-9_-]*) : (.*)$")
 CLAUSE = re.compile(r"ensures ([a-z_0-9]+) \{((?:[^{}]|\{[^{}]*\})*)\}")
 # Crates whose definitions are the claims' own nets and journals, or serve the slow decisions alone.
-EXAMPLES = ("slow_rules", "slow_verdicts", "worked_journals", "number_jobs")
+EXAMPLES = ("table_runs", "slow_verdicts", "worked_journals", "number_jobs")
 BEGIN = "<!-- claims: made by tools/list_claims.py -->"
 END = "<!-- end of claims -->"
 
