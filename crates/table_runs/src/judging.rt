@@ -1,6 +1,7 @@
 // What the tests ask of a run: that its journal is judged complete, and that inputs are the values of their Ends.
+use crate::plays::Case;
 use crate::shelf::Shelf;
-use crate::steps::Endings;
+use crate::steps::Terms;
 use join_tables::{Keeper, Recorded, RecordedInputs, RecordedValue};
 use join_words::{Given, Ins};
 use journal_rules::{DropWhy, Entry, Journal, Why};
@@ -14,7 +15,8 @@ use task_graph::Net;
 pub(crate) const MANY: u64 = 10_000;
 
 /// All starts give their edges.
-pub(crate) const GIVE_ALL: Endings = Endings {
+pub(crate) const GIVE_ALL: Terms = Terms {
+    limit: MANY,
     gives_before: MANY,
     first_faults: false,
 };
@@ -124,8 +126,7 @@ pub(crate) fn judged(
     rt: &impl Abort,
     alloc: Global,
     net: &Net,
-    limit: u64,
-    outcome: Outcome,
+    case: &Case,
     shelf: Shelf,
 ) -> Result<Journal, Fail> {
     let keeper = shelf.keeper();
@@ -135,15 +136,14 @@ pub(crate) fn judged(
         "another value than that of an End"
     );
     let Some(journal) = shelf.journal()? else {
-        panic!(rt; "a run that isn't finished");
+        panic!(rt; "{} isn't finished", case.name);
     };
-    assert!(rt; matches!(judge(alloc, net, limit, &journal)?, Verdict::Complete));
+    let verdict = judge(alloc, net, case.terms.limit, &journal)?;
+    assert!(rt; matches!(verdict, Verdict::Complete), "{}", case.name);
     let counts = Counts::of(&journal);
-    assert_eq!(rt;
-        (inputs as u64, values as u64),
-        (counts.starts, counts.ends)
-    );
-    assert!(rt; counts.are(outcome), "another outcome");
+    let are_all = inputs as u64 == counts.starts && values as u64 == counts.ends;
+    assert!(rt; are_all, "{}", case.name);
+    assert!(rt; counts.are(case.outcome), "{}", case.name);
     Ok(journal)
 }
 

@@ -15,6 +15,8 @@ mod nets;
 mod orders;
 #[cfg(test)]
 mod parking;
+#[cfg(test)]
+mod plays;
 mod shared;
 mod shelf;
 mod stages;
@@ -25,8 +27,6 @@ mod threads;
 mod values;
 #[cfg(test)]
 mod walks;
-#[cfg(test)]
-mod yard;
 
 pub use gives::all_edges;
 pub use needs::needs_none;

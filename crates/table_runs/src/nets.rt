@@ -106,7 +106,7 @@ pub(crate) const LENT: NetCase = NetCase {
         (7, 15),
     ],
     rings: &[],
-    is_calm: false,
+    is_calm: true,
 };
 
 /// A task that takes a unit, and two that give one back and don't wait for it.
@@ -115,7 +115,7 @@ pub(crate) const OVER: NetCase = NetCase {
     tasks: &[BORROW, REPAY, REPAY],
     edges: &[],
     rings: &[],
-    is_calm: false,
+    is_calm: true,
 };
 
 /// Six tasks that take and put a unit of each of two semaphores with one unit.
@@ -124,7 +124,7 @@ pub(crate) const CROSSED: NetCase = NetCase {
     tasks: &[HOLD; 6],
     edges: &[],
     rings: &[],
-    is_calm: false,
+    is_calm: true,
 };
 
 /// Two such tasks.
@@ -133,7 +133,7 @@ pub(crate) const CROSSWISE: NetCase = NetCase {
     tasks: &[HOLD; 2],
     edges: &[],
     rings: &[],
-    is_calm: false,
+    is_calm: true,
 };
 
 /// Sixteen tasks that take one of three units, which no task gives back.
@@ -142,7 +142,16 @@ pub(crate) const KEPT: NetCase = NetCase {
     tasks: &[BORROW; 16],
     edges: &[],
     rings: &[],
-    is_calm: false,
+    is_calm: true,
+};
+
+/// Two tasks that take the one unit, each of which precedes one that gives it back.
+pub(crate) const PAIRS: NetCase = NetCase {
+    units: &[1],
+    tasks: &[BORROW, BORROW, REPAY, REPAY],
+    edges: &[(0, 2), (1, 3)],
+    rings: &[],
+    is_calm: true,
 };
 
 /// Three tasks that take the one unit, which none gives back.
@@ -151,7 +160,7 @@ pub(crate) const HOARDED: NetCase = NetCase {
     tasks: &[BORROW; 3],
     edges: &[],
     rings: &[],
-    is_calm: false,
+    is_calm: true,
 };
 
 impl NetCase {

@@ -4,7 +4,7 @@ ghost use Rattle.keyed_lock.specs.Locks.{made_with};
 
 use crate::shelf::{Item, Next, Shelf};
 use crate::stepping::Board;
-use crate::steps::{Endings, Steps};
+use crate::steps::{Steps, Terms};
 use join_tables::{NetTable, Opening};
 use keyed_lock::{Held, KeyedLock};
 use outside_io::NoMemory;
@@ -13,11 +13,17 @@ use std::sync::{Arc, Wait};
 use task_graph::Net;
 
 /// A table, and its shelf.
-#[derive(Drop)]
 pub(crate) struct Shared {
     steps: Steps,
     lock: KeyedLock<Shelf>,
     ghost same_table: { made_with lock ≡ steps.table.table },
+}
+
+impl Drop for Shared {
+    fn drop(self) {
+        let Shared { steps, lock } = self;
+        drop((steps, lock));
+    }
 }
 
 impl Board for Shared {
@@ -43,22 +49,18 @@ impl Board for Shared {
 
 impl Shared {
     /// A table of a net, with its first releases on the shelf.
-    pub(crate) fn new(
-        alloc: Global,
-        net: &Arc<Net>,
-        limit: u64,
-        endings: Endings,
-    ) -> Result<Shared, NoMemory>
-        requires { limit ≤ 2097153 }
+    pub(crate) fn new(alloc: Global, net: &Arc<Net>, terms: Terms) -> Result<Shared, NoMemory>
+        requires { terms.limit ≤ 2097153 }
     {
-        let (steps, shelf) = Steps::opened(alloc, net, limit, endings)?;
+        let (steps, shelf) = Steps::opened(alloc, net, terms)?;
         let lock = KeyedLock::new(alloc, shelf)?;
         Ok(Shared { steps, lock })
     }
 
     /// The shelf at the end of a run.
     pub(crate) fn into_shelf<R: Wait>(self, rt: &R) -> Shelf {
-        let Held { value, .. } = self.lock.take(rt);
+        let Held { value, pass } = self.lock.take(rt);
+        drop(pass);
         value
     }
 }

@@ -155,12 +155,6 @@ impl Shelf {
         }
     }
 
-    /// Whether no more is to be done.
-    #[cfg(test)]
-    pub(crate) fn is_over(&self) -> bool {
-        self.is_over
-    }
-
     /// The keeper of the run.
     #[cfg(test)]
     pub(crate) fn keeper(&self) -> &Keeper<u64> {

@@ -7,7 +7,7 @@ ghost use Rattle.table_runs.specs.Stages.{IsStage};
 use crate::shared::Shared;
 use crate::shelf::{Item, Next};
 use crate::stages::Stage;
-use crate::steps::{Endings, Steps};
+use crate::steps::{Steps, Terms};
 use join_tables::Turn;
 use journal_rules::Journal;
 use outside_io::NoMemory;
@@ -52,11 +52,12 @@ pub fn run_by<R: Threads + Wait + Sync>(
 ) -> Result<Option<Ran>, NoMemory>
     requires { limit ≤ 2097153 }
 {
-    let endings = Endings {
+    let terms = Terms {
+        limit,
         gives_before: gives,
         first_faults: false,
     };
-    let shared = Shared::new(alloc, net, limit, endings)?;
+    let shared = Shared::new(alloc, net, terms)?;
     work_together(rt, alloc, &shared, threads)?;
     match shared.into_shelf(rt).journal()? {
         Some(journal) => Ok(Some(Ran { journal })),

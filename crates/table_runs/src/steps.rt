@@ -22,10 +22,11 @@ use std::alloc::Global;
 use std::sync::Arc;
 use task_graph::Net;
 
-/// How the starts of a run end.
+/// How many starts a run may have, and how they end.
 #[derive(Clone, Copy)]
-pub(crate) struct Endings {
-    /// Those at places before this one give their edges.
+pub(crate) struct Terms {
+    pub(crate) limit: u64,
+    /// Starts at places before this one give their edges.
     pub(crate) gives_before: u64,
     /// The first one faults.
     pub(crate) first_faults: bool,
@@ -43,7 +44,7 @@ pub(crate) struct Steps {
     pub(crate) alloc: Global,
     pub(crate) table: NetTable<u64>,
     pub(crate) net: Arc<Net>,
-    pub(crate) endings: Endings,
+    terms: Terms,
     ghost same_net: { table.net ≡ arc_value net },
 }
 
@@ -53,7 +54,7 @@ impl Drop for Steps {
             alloc: _,
             table,
             net,
-            endings: _,
+            terms: _,
         } = self;
         drop((table, net));
     }
@@ -64,14 +65,13 @@ impl Steps {
     pub(crate) fn opened(
         alloc: Global,
         net: &Arc<Net>,
-        limit: u64,
-        endings: Endings,
+        terms: Terms,
     ) -> Result<(Steps, Shelf), NoMemory>
-        requires { limit ≤ 2097153 }
+        requires { terms.limit ≤ 2097153 }
         ensures { IfOk result (λ r. r.1 ≡ r.0.table.table) }
     {
         let net = Arc::try_clone(net)?;
-        let opening = NetTable::new(alloc, Arc::try_clone(&net)?, limit)?;
+        let opening = NetTable::new(alloc, Arc::try_clone(&net)?, terms.limit)?;
         let Opening {
             table,
             fresh,
@@ -82,7 +82,7 @@ impl Steps {
             alloc,
             table,
             net,
-            endings,
+            terms,
         };
         Ok((steps, shelf))
     }
@@ -201,7 +201,7 @@ impl Steps {
         requires { MayEnd self.now.table running units }
         ensures { IsStage self.now.table result }
     {
-        if self.endings.first_faults && running.place() == 0 {
+        if self.terms.first_faults && running.place() == 0 {
             return Stage::Spent(self.table.fault(running, Why::Long(9)));
         }
         match self.ending(&running) {
@@ -219,7 +219,7 @@ impl Steps {
     fn ending(&self, running: &Running<u64>) -> Option<Ending>
         ensures { IfSome result (λ ending. MayEndGiving self.now.table.net running.now.task ending.edges false) }
     {
-        let gives = running.place() < self.endings.gives_before;
+        let gives = running.place() < self.terms.gives_before;
         let Ok(value) = value_of(self.alloc, running) else {
             return None;
         };
