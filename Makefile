@@ -1,7 +1,7 @@
 # The README's commands. They need the kit's command `rt` on the path.
 SHELL := bash
 .SHELLFLAGS := -euo pipefail -c
-.PHONY: all program demo examples test docs fuzz
+.PHONY: all program demo examples test docs fuzz gate-times
 
 # Proves every crate, the lowest first, and builds the program.
 all:
@@ -29,6 +29,11 @@ test:
 	rt ci
 	@bash tools/check_docs.sh
 	@bash tools/check_program.sh
+
+# What each step of the gate takes, into docs/TESTING.md. What an earlier run on this machine has passed isn't measured.
+gate-times:
+	python3 -B tools/gate_times.py rt ci
+	python3 -B tools/gate_times.py --table --write docs/TESTING.md
 
 # Random graphs, journals and failing allocations on the built program, five minutes of each of four tools; no part of
 # the gate. `make fuzz SEED=N` makes the cases of an earlier call again.
