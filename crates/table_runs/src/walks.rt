@@ -104,9 +104,10 @@ fn exchanged(steps: &Steps, turns: &mut [Stage], place: usize, stage: Stage) -> 
     ensures turns { All (IsStage steps.now.table) turns.new }
     ensures stage { IsStage steps.now.table result }
 {
-    match turns.get_mut(place) {
-        Some(turn) => mem::replace(turn, stage),
-        None => stage,
+    if place < turns.len() {
+        mem::replace(&mut turns[place], stage)
+    } else {
+        stage
     }
 }
 

@@ -1,4 +1,3 @@
-use Rattle.std.proofs.Common.{◌≡◌}
 use Rattle.table_runs.specs.Stages.{IsStage}
 use Rattle.table_runs.proofs.stepping.run.Given as goal
 
