@@ -1,6 +1,7 @@
 #!/usr/bin/env bash
 # Runs the tools that make cases at random on the built program, five minutes of each or as many seconds as the second
-# argument says. The first argument is the seed; without one it is drawn. Stops at the first fault, with status 1.
+# argument says. The first argument is a number of which the cases follow; without one it is drawn. Stops at the first
+# fault, with status 1.
 set -euo pipefail
 cd "$(dirname "${BASH_SOURCE[0]}")/.."
 flow=crates/flow/out/flow

@@ -14,6 +14,8 @@ use Rattle.call_status.specs.Codes.{code_of}
 use Rattle.call_status.specs.Statuses.{status_after, status_by, status_of}
 use Rattle.call_status.specs.Stopping.{StoppedBefore}
 use Rattle.call_status.specs.Delivery.{Delivers}
+use Rattle.call_status.specs.declared.status.Noted.TheVariants.{Whole, Fault as NotedFault, NoMemory as NotedNothing}
+use Rattle.call_status.specs.Noting.{HasNoted, TakesLine}
 
 abbrev t : List ℕ
 t = 1 ∷ []
@@ -112,3 +114,28 @@ faults_forgotten_without_memory is = absurd (omega (arith, is.1))
 
 failed_put_held_back : ¬ Delivers (sink [] 0) (record { taken = Some []; held_back = 7 ∷ []; faults = 1 }) (7 ∷ []) (Err fault.Failed)
 failed_put_held_back is = let none = is.0.nothing_held in absurd (cc)
+
+-- What becomes of the line of a status.
+line_taken : HasNoted {N = SinkState} (λ s. s) (sink [] 0) (sink (7 ∷ 8 ∷ []) 0) (7 ∷ 8 ∷ []) (NoText t) Whole
+line_taken = record { takes = put_whole; nothing_held = refl; done = λ (same : NoText t ≡ Done). absurd (cc) }
+
+line_in_part : ¬ TakesLine (sink [] 0) (sink (7 ∷ []) 0) (7 ∷ 8 ∷ []) Whole
+line_in_part = put_in_part
+
+line_failed : TakesLine (sink [] 0) (sink (7 ∷ []) 1) (7 ∷ 8 ∷ []) NotedFault
+line_failed = put_failed
+
+line_failed_not_counted : ¬ TakesLine (sink [] 0) (sink (7 ∷ []) 0) (7 ∷ 8 ∷ []) NotedFault
+line_failed_not_counted = failed_put_not_counted
+
+line_without_memory : ¬ TakesLine (sink [] 0) (sink (7 ∷ []) 0) (7 ∷ 8 ∷ []) NotedNothing
+line_without_memory same = let bytes : Some (7 ∷ []) ≡ Some [] = ap (λ (s : SinkState). s.taken) same in absurd (omega (arith, ap known_length bytes))
+
+line_held_back : ¬ HasNoted {N = SinkState} (λ s. s) (sink [] 0) (record { taken = Some []; held_back = 7 ∷ []; faults = 0 }) (7 ∷ []) (NoText t) Whole
+line_held_back noted = let none = noted.nothing_held in absurd (cc)
+
+line_of_done : ¬ HasNoted {N = SinkState} (λ s. s) (sink [] 0) (sink (7 ∷ []) 0) (7 ∷ []) Done Whole
+line_of_done noted = let bytes : Some (7 ∷ []) ≡ Some [] = ap (λ (s : SinkState). s.taken) ((noted.done refl).1) in absurd (omega (arith, ap known_length bytes))
+
+nothing_noted_of_done : ¬ HasNoted {N = SinkState} (λ s. s) (sink [] 0) (sink [] 0) [] Done NotedNothing
+nothing_noted_of_done noted = let same : NotedNothing ≡ Whole = (noted.done refl).0 in absurd (cc)

@@ -14,7 +14,7 @@ use line_output::add_numbered;
 use outside_io::{Bytes, List, NoMemory, Sink, SinkFault};
 use std::alloc::Global;
 
-/// Writes the line of a status to `notes`, the diagnostics sink, by one write, and flushes it. With `Done` there is no
+/// Writes the line of a status to `notes`, the diagnostics sink, and flushes it. With `Done` there is no
 /// line, and the sink is left alone. `names` are those of the tasks, by their numbers; each task that the status names
 /// of has one. A line that names nothing allocates nothing, so that of a failed allocation can be written all the same.
 pub fn put_note<N: Sink>(alloc: Global, notes: &mut N, names: &[Bytes], status: &Status) -> Noted
@@ -58,7 +58,7 @@ fn put_made<N: Sink>(notes: &mut N, line: Result<Bytes, NoMemory>) -> Noted
     }
 }
 
-// Writes a line, by one write.
+// Writes a line, and flushes it.
 fn put_line<N: Sink>(notes: &mut N, line: &[u8]) -> Noted
     requires { (N.state notes.old).held_back ≡ [] }
     ensures takes { TakesLine (N.state notes.old) (N.state notes.new) line.now result }

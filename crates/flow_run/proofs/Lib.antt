@@ -15,3 +15,4 @@ pub mod JudgeExamples
 pub mod CheckExamples
 pub mod EndExamples
 pub mod ReadExamples
+pub mod PlainExamples

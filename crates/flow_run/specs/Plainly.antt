@@ -14,8 +14,8 @@ use Rattle.flow_run.specs.Answers.{TextRun}
 abbrev pub IsReportedPlainly : TextRun → Type 0
 IsReportedPlainly kept = IsPlainJob (job_of kept) → HasSameReport kept
 
--- The report of a run of a file is asked for; the source specifies its texts, and holds the file and the texts of this
--- job, whose plan has no conditions.
+-- The report of a run of a file is asked for, and not its journal; the source specifies its texts, and holds, within their
+-- limits, the file and the texts of this job, whose plan can begin or has no tasks, and has no conditions.
 pub record AsksPlainly (held : SourceTexts) (asked : Option Asked) (job : TextJob) : Type 0 where
   pub file : List ℕ
   pub limit : ℕ

@@ -23,7 +23,7 @@ FailsBy (Ok read) before after = after ≡ before
 FailsBy (Err stop) before after = FailsWith (status_of stop) before after
 
 -- What a call has done to the texts when it ends: what is held stays; the reads that failed are those that its status
--- says; and nothing was read for a command line that asks for nothing.
+-- says; and a command line that asks for nothing leaves the source as it was.
 pub record HaveRead {F : Type 0} (held : F → SourceTexts) (failed : F → List (List ℕ)) (old new : F) (status : Status) : Type 0 where
   pub stays : held new ≡ held old
   pub fails : FailsWith status (failed old) (failed new)

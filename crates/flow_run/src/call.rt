@@ -88,8 +88,8 @@ pub fn flow_main<F: Texts, S: Sink, N: Sink, R: Threads + Wait + Sync>(
     // Whatever the number of workers: the kept run of a plan without conditions is fine exactly where its values by one
     // thread run through, and its report is then theirs.
     ensures kept_plainly { All IsReportedPlainly result.runs }
-    // Where such a plan's report is asked for, the call is done exactly then, unless something fails, and the output has
-    // taken just that report.
+    // Where the report of such a plan is asked for, and the source specifies the file and the texts, and holds them within
+    // their limits, the call is done exactly then, unless something fails, and the output has taken just that report.
     ensures plainly { (job : TextJob) → AsksPlainly (F.held texts.old) (asked_by (map string_bytes words.now)) job
         → EndsPlainly job (S.state out.old).taken (S.state out.new).taken (NothingFails F.failed S.state texts.old texts.new out.old out.new) result.status }
     // The output took the report or the journal of the kept run, or the verdict's line, or the findings; where it failed or

@@ -14,8 +14,7 @@ pub fn add_numbered(line: &mut Bytes, word: &[u8], number: u64) -> Result<(), No
     line.add_all(digits.format(number).as_bytes())
 }
 
-/// Writes a piece by one call of the sink: the whole of it; or, after `Failed`, a prefix; or nothing, where an
-/// allocation failed.
+/// Writes a piece: the whole of it; or, after `Failed`, a prefix; or nothing, where an allocation failed.
 pub fn put_piece<S: Sink>(out: &mut S, piece: &[u8]) -> Result<(), SinkFault>
     ensures { Writes (S.state out.old) (S.state out.new) piece.now result }
 {

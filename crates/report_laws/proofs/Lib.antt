@@ -1,4 +1,5 @@
 pub mod LastEnds
+pub mod Judging
 pub mod Reasons
 pub mod Through
 pub mod Depth

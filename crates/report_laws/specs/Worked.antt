@@ -33,6 +33,12 @@ kept_together = plan_of (codes "p" ∷ codes "q" ∷ codes "k" ∷ codes "h" ∷
     (Read 0 ∷ Read 1 ∷ OnText (Keep (codes "a")) ∷ OnText (Head 1) ∷ [])
     (record { tasks = task Plain ∷ task Plain ∷ task Plain ∷ task Plain ∷ []; edges = edge 0 2 ∷ edge 1 2 ∷ edge 1 3 ∷ []; sems = [] })
 
+-- two tasks on a circle and one behind it, beside a source
+abbrev pub behind_a_circle : PlanRows
+behind_a_circle = plan_of (codes "p" ∷ codes "m" ∷ codes "n" ∷ codes "h" ∷ [])
+    (Read 0 ∷ OnText (Head 1) ∷ OnText (Head 1) ∷ OnText (Keep (codes "a")) ∷ [])
+    (record { tasks = task Plain ∷ task Plain ∷ task Plain ∷ task Plain ∷ []; edges = edge 1 2 ∷ edge 2 1 ∷ edge 2 3 ∷ []; sems = [] })
+
 -- a text of more lines than one goes to one task, else to another
 abbrev pub chooses_a_branch : PlanRows
 chooses_a_branch = plan_of (codes "m" ∷ codes "k" ∷ codes "h" ∷ [])

@@ -1,4 +1,5 @@
 // The laws, each the contract of a function that does nothing.
+ghost use Rattle.report_laws.specs.Judged.{JudgesKept};
 ghost use Rattle.report_laws.specs.PlainJobs.{PlainJobs, IsPlainly};
 ghost use Rattle.report_laws.specs.PlainLaws.{RunsPlainly};
 ghost use Rattle.report_laws.specs.PlainReport.{ReportsAlike, ReportsPlainly};
@@ -30,4 +31,9 @@ pub fn same_report(run: &FrameRun<TextJob>)
 /// Two kept runs of one such job report the same, where one of them is fine.
 pub fn reports_are_alike(one: &FrameRun<TextJob>, other: &FrameRun<TextJob>)
     ensures { ReportsAlike one.now other.now }
+{}
+
+/// The judge finds the journal of a kept run complete, by the net and the limit of its job.
+pub fn judged_complete<J: Job>(run: &FrameRun<J>)
+    ensures { JudgesKept J.meaning run.now }
 {}

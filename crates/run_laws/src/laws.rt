@@ -25,8 +25,9 @@ pub fn values_grow<J: Job>()
     ensures { ValuesGrow J.V }
 {}
 
-/// A complete run of a graph without conditions, whose tasks put just what they take, is fine exactly where none of
-/// its one-thread values is a fault and no more tasks start than its limit. Then its values are those of one thread.
+/// A legal and complete run of a graph without conditions, whose tasks put just what they take and whose job allows one
+/// answer, is fine exactly where none of its one-thread values is a fault and no more tasks start than its limit. Then
+/// its values are those of one thread.
 pub fn graph_runs_are_decided<J: Job>(run: &FrameRun<J>)
     ensures { (one : OneAnswer J.V) → IsGraphRun J.meaning run.now one → IsDecided J.meaning run.now one }
 {}
