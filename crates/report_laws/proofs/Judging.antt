@@ -1,7 +1,7 @@
 -- The journal of a kept run has one verdict.
 use Rattle.std.proofs.Common.{◌≡◌, ℕ, zero, suc, List, [], ◌∷◌, ◌++◌, Option, Some, None, refl, sym, subst}
 use Rattle.std.specs.Prelude.{slice_get, take, IsSomeAnd}
-use Rattle.std.proofs.lemmas.List.{append-nil, append-assoc}
+use Rattle.std.proofs.lemmas.List.{append-nil, append_assoc}
 use Rattle.std.proofs.lemmas.Option.{none-some}
 use Rattle.task_graph.specs.NetRows.{NetRows}
 use Rattle.task_graph.specs.Net.{IsNet}
@@ -29,7 +29,7 @@ met_after Rule before [] n x each is = absurd (none-some x is)
 met_after Rule before (y ∷ ys) zero x each is = (tt, subst (λ b. Rule b x) (sym (append-nil before)) (subst (λ z. Rule before z) (let e : y ≡ x = cc in e) each.0))
 met_after Rule before (y ∷ ys) (suc n) x each is =
     let met = met_after Rule (before ++ y ∷ []) ys n x each.1 is in
-    ((each.0, met.0), subst (λ b. Rule b x) (append-assoc before (y ∷ []) (take n ys)) met.1)
+    ((each.0, met.0), subst (λ b. Rule b x) (append_assoc before (y ∷ []) (take n ys)) met.1)
 
 -- a legal journal has no entry that is refused
 no_break : (net : NetRows) (limit : ℕ) (journal : List Entry) (n : ℕ) (why : Break) → IsNet net → ShapeLegal net limit journal → (o : Option Entry) → slice_get journal n ≡ o → ¬ IsSomeAnd o (λ entry. IsRefusal net limit (take n journal) entry why)
