@@ -1,14 +1,14 @@
 #!/usr/bin/env python3
 """What the operations make of small texts, computed by this program alone.
 
-It prints the table in crates/text_ops/src/tests/cases.rt: each line has a text and what each of the operations makes of
+It prints the table in crates/test_texts/src/operation_cases.rt: each line has a text and what each of the operations makes of
 it, in their order. `~` stands for a line feed and `_` for a space. `--check` says whether that file has this table.
 """
 import os
 import random
 import sys
 
-FILE = os.path.join(os.path.dirname(__file__), "..", "crates/text_ops/src/tests/cases.rt")
+FILE = os.path.join(os.path.dirname(__file__), "..", "crates/test_texts/src/operation_cases.rt")
 
 OPS = [
     "pass", "keep a", "keep ab", "without b", "head 2", "tail 2", "skip 2", "sort", "uniq", "count", "tally", "has b",
@@ -72,7 +72,7 @@ def main():
     if "--check" in sys.argv:
         with open(FILE, encoding="utf-8") as file:
             held = file.read()
-        return 0 if all(row in held for row in ["|".join(OPS), *rows]) else "cases.rt has another table"
+        return 0 if all(row in held for row in ["|".join(OPS), *rows]) else "operation_cases.rt has another table"
     print("\n".join(rows))
     return 0
 

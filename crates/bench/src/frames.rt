@@ -1,16 +1,16 @@
-// Runs of jobs of numbers: by one thread without a lock, by the steps of a frame, and by crews.
+// Runs of jobs of numbers: by one thread without a lock, and by crews.
 use crate::clock::nanos_since;
 use crate::nets;
 use crewed_runs::ByThreads;
-use frame_steps::{Frame, State, Stepped};
 use number_jobs::{NumberJob, START_LIMIT};
 use outside_io::NoMemory;
-use run_frame::{FrameRun, run_alone};
+use run_frame::FrameRun;
 use std::alloc::{AllocError, Global};
 use std::io;
 use std::sync::{Arc, Wait};
 use std::thread::Threads;
 use std::time::{Clock, Instant};
+use table_frames::run_alone;
 use task_graph::Net;
 use worker_seat::{CrewRan, run_by_crew};
 
@@ -26,14 +26,12 @@ const TIMES: u32 = 5;
 // A number that no task comes to, so that none faults.
 const NEVER: u64 = 0;
 
-/// Who makes a run.
+// Who makes a run.
 #[derive(Clone, Copy)]
-pub enum By {
-    /// One thread that needs no lock.
+enum By {
+    // One thread that needs no lock.
     Alone,
-    /// One thread, by the steps of a frame.
-    Steps,
-    /// So many workers that steal from each other, 16 at most.
+    // So many workers that steal from each other, 16 at most.
     Crew(usize),
 }
 
@@ -80,7 +78,7 @@ const WORKS: [Work; 4] = [
 pub fn measure<R: Threads + Wait + Clock + Print + Sync>(rt: &R, alloc: Global) -> io::Result<()> {
     for work in WORKS {
         measure_work(rt, alloc, work, "alone", By::Alone)?;
-        measure_work(rt, alloc, work, "by steps", By::Steps)?;
+        measure_work(rt, alloc, work, "1 worker", By::Crew(1))?;
         measure_work(rt, alloc, work, "2 workers", By::Crew(2))?;
         measure_work(rt, alloc, work, "4 workers", By::Crew(4))?;
         measure_work(rt, alloc, work, "16 workers", By::Crew(16))?;
@@ -96,7 +94,7 @@ fn measure_work<R: Threads + Wait + Clock + Print + Sync>(
     by: By,
 ) -> io::Result<()> {
     let net = match work.order {
-        Order::Chain => nets::chains(alloc, TASKS, TASKS),
+        Order::Chain => nets::chain(alloc, TASKS),
         Order::Join => nets::join(alloc, TASKS),
         Order::Fan => nets::fan(alloc, TASKS),
     };
@@ -104,8 +102,8 @@ fn measure_work<R: Threads + Wait + Clock + Print + Sync>(
     println!(rt; "{}, {who}: {nanos} ns a start", work.name)
 }
 
-/// The nanoseconds a start, the least of five runs. Each task is to be started once.
-pub fn nanos_a_start<R: Threads + Wait + Clock + Sync>(
+// The nanoseconds a start, the least of five runs. Each task is to be started once.
+fn nanos_a_start<R: Threads + Wait + Clock + Sync>(
     rt: &R,
     alloc: Global,
     net: &Arc<Net>,
@@ -143,37 +141,10 @@ fn starts_made<R: Threads + Wait + Sync>(
     by: By,
 ) -> Result<u64, NoMemory> {
     let run = match by {
-        By::Alone => run_alone(alloc, Arc::new(alloc, job)?)?,
-        By::Steps => run_by_steps(rt, alloc, job)?,
+        By::Alone => run_alone(rt, alloc, Arc::new(alloc, job)?)?,
         By::Crew(workers) => run_by_workers(rt, alloc, job, workers)?,
     };
     Ok(run.values.len() as u64)
-}
-
-// The newest release first.
-fn run_by_steps<R: Wait>(
-    rt: &R,
-    alloc: Global,
-    job: NumberJob,
-) -> Result<FrameRun<NumberJob>, NoMemory> {
-    let Stepped {
-        released: mut ready,
-        ..
-    } = Frame::begin(alloc, Arc::new(alloc, job)?)?;
-    for _ in rt.forever() {
-        let Some(release) = ready.pop() else {
-            return Err(NoMemory);
-        };
-        let Stepped {
-            mut released,
-            state,
-        } = Frame::step(rt, release)?;
-        if let State::Closed(run) = state {
-            return Ok(run);
-        }
-        ready.append(&mut released)?;
-    }
-    unreachable!()
 }
 
 fn run_by_workers<R: Threads + Wait + Sync>(

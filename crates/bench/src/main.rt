@@ -10,7 +10,6 @@ mod journals;
 mod machine;
 mod nets;
 mod pitfalls;
-mod tables;
 mod texts;
 mod threads;
 
@@ -28,7 +27,6 @@ fn main(rt: HostRuntime) -> io::Result<()> {
         "journals" => journals::measure(&rt, words),
         "machine" => machine::measure(&rt),
         "pitfalls" => pitfalls::measure(&rt),
-        "tables" => tables::measure(&rt, rt.alloc()),
         "texts" => texts::measure(&rt, words),
         "threads" => threads::measure(&rt, rt.alloc()),
         _ => println!(rt; "no such subject"),

@@ -5,22 +5,11 @@ use std::io;
 use std::sync::Arc;
 use task_graph::{BuildError, Net, NetBuilder, Shape};
 
-/// Chains of so many tasks each, one after another: each task precedes the next one of its chain.
-pub fn chains(alloc: Global, each: u32, tasks: u32) -> Result<Net, BuildError> {
+/// Tasks of which each precedes the next.
+pub fn chain(alloc: Global, tasks: u32) -> Result<Net, BuildError> {
     let mut builder = plain_tasks(alloc, tasks)?;
     for to in 1..tasks {
-        if to % each.max(1) != 0 {
-            builder.edge(to - 1, to, false)?;
-        }
-    }
-    Ok(builder.finish())
-}
-
-/// So many chains whose tasks take turns: each task precedes the one so many places on.
-pub fn chains_in_turn(alloc: Global, chains: u32, tasks: u32) -> Result<Net, BuildError> {
-    let mut builder = plain_tasks(alloc, tasks)?;
-    for to in chains..tasks {
-        builder.edge(to - chains, to, false)?;
+        builder.edge(to - 1, to, false)?;
     }
     Ok(builder.finish())
 }

@@ -9,7 +9,7 @@ use super::reasons::{add_fault, add_limit, add_stuck};
 use super::status::{Noted, Status};
 use graph_file::{GraphError, Kind};
 use graph_plans::Spot;
-use legal_run::Why;
+use journal_rules::Why;
 use line_output::add_numbered;
 use outside_io::{Bytes, List, NoMemory, Sink, SinkFault};
 use std::alloc::Global;

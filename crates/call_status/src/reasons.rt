@@ -2,7 +2,7 @@
 ghost use Rattle.std.specs.Prelude.{◌≡◌, ◌<◌, ◌++◌, [], codes, decimal, length, OnOk, slice_index_or};
 ghost use Rattle.call_status.specs.Reasons.{NamesPath, NamesReason, fault_text, limit_text, path_text, reason_line, stuck_text, why_text, within_path};
 
-use legal_run::Why;
+use journal_rules::Why;
 use line_output::add_numbered;
 use nested_runs::Reason;
 use outside_io::{Bytes, NoMemory};

@@ -1,2 +1,1 @@
 mod NumberCrossing
-mod MeetingCrossing

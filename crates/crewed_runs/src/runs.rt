@@ -26,7 +26,8 @@ const WORKERS: [usize; 4] = [1, 2, 4, 16];
 const FAN: u32 = 1_000;
 
 // A net by the shapes of its tasks and its edges, with the edges after them that begin with a token; how many starts
-// its run may have; the number of turns of its loops, and the number at which a task faults.
+// its run may have; the number of turns of its loops, and the number at which a task faults; and how many values the run is to
+// have at least and at most.
 #[derive(Clone, Copy)]
 struct Case<'c> {
     tasks: &'c [Shape],
@@ -35,6 +36,8 @@ struct Case<'c> {
     limit: u64,
     turns: u64,
     fault: u64,
+    least: usize,
+    most: usize,
 }
 
 fn built(alloc: Global, case: Case<'_>) -> Result<Net, BuildError> {
@@ -64,7 +67,7 @@ fn fan(alloc: Global) -> Result<Net, BuildError> {
     Ok(builder.finish())
 }
 
-// Runs a job of a net by so many workers. The journal is complete, and the run has so many values.
+// Runs a job of a net by so many workers: how many values the run has. Its journal is complete.
 fn once<R: Threads + Wait + Abort + Sync>(
     rt: &R,
     alloc: Global,
@@ -92,102 +95,92 @@ fn once<R: Threads + Wait + Abort + Sync>(
     Ok(run.values.len())
 }
 
-// Runs a job of a net by each number of workers. No run has fewer values or more than these.
+// Runs a case by each number of workers.
 fn often<R: Threads + Wait + Abort + Sync>(
     rt: &R,
     alloc: Global,
-    net: Net,
+    net: &Arc<Net>,
     case: Case<'_>,
-    least: usize,
-    most: usize,
 ) -> Result<(), Fail> {
-    let net = Arc::new(alloc, net)?;
     for workers in WORKERS {
         for _ in 0..TIMES {
-            let values = once(rt, alloc, &net, case, workers)?;
-            assert!(rt; least <= values && values <= most);
+            let values = once(rt, alloc, net, case, workers)?;
+            assert!(rt; case.least <= values && values <= case.most);
         }
     }
     Ok(())
 }
 
-// A diamond.
-const DIAMOND: Case<'_> = Case {
-    tasks: &[PLAIN; 4],
-    edges: &[(0, 1), (0, 2), (1, 3), (2, 3)],
+// No task.
+const EMPTY: Case<'static> = Case {
+    tasks: &[],
+    edges: &[],
     rings: &[],
     limit: 10_000,
     turns: 0,
     fault: NEVER,
+    least: 0,
+    most: 0,
 };
 
 // Two loops beside each other, each with a condition that is started nine times between two tasks.
-const LOOPS: Case<'_> = Case {
+const LOOPS: Case<'static> = Case {
     tasks: &[PLAIN, CHOICE, PLAIN, PLAIN, CHOICE, PLAIN],
     edges: &[(0, 1), (1, 1), (1, 2), (3, 4), (4, 4), (4, 5)],
     turns: 10,
-    ..DIAMOND
+    least: 22,
+    most: 22,
+    ..EMPTY
 };
 
-// Tokens that wait for another edge, one that is there from the beginning, and some that stay.
-const KEPT_TOKENS: Case<'_> = Case {
-    tasks: &[PLAIN, PLAIN, PLAIN, CHOICE, PLAIN, PLAIN, PLAIN],
-    edges: &[(0, 1), (1, 2), (3, 4), (3, 5), (0, 6), (4, 6)],
-    rings: &[(1, 1)],
-    ..DIAMOND
-};
-
-#[test]
-fn no_task(rt: HostRuntime) -> Result<(), Fail> {
-    let case = Case {
-        tasks: &[],
-        edges: &[],
-        ..DIAMOND
-    };
-    often(&rt, rt.alloc(), built(rt.alloc(), case)?, case, 0, 0)
-}
-
-#[test]
-fn a_diamond(rt: HostRuntime) -> Result<(), Fail> {
-    often(&rt, rt.alloc(), built(rt.alloc(), DIAMOND)?, DIAMOND, 4, 4)
-}
-
-#[test]
-fn a_fan_of_a_thousand(rt: HostRuntime) -> Result<(), Fail> {
-    often(&rt, rt.alloc(), fan(rt.alloc())?, DIAMOND, 1_002, 1_002)
-}
-
-#[test]
-fn loops_with_conditions(rt: HostRuntime) -> Result<(), Fail> {
-    often(&rt, rt.alloc(), built(rt.alloc(), LOOPS)?, LOOPS, 22, 22)
-}
-
-#[test]
-fn kept_tokens(rt: HostRuntime) -> Result<(), Fail> {
-    often(
-        &rt,
-        rt.alloc(),
-        built(rt.alloc(), KEPT_TOKENS)?,
-        KEPT_TOKENS,
-        5,
-        5,
-    )
-}
-
-// One of the two loops faults at its third turn, while the other runs.
-#[test]
-fn a_fault_while_others_run(rt: HostRuntime) -> Result<(), Fail> {
-    let case = Case { fault: 3, ..LOOPS };
-    often(&rt, rt.alloc(), built(rt.alloc(), case)?, case, 0, 20)
-}
-
-// Both loops go on until together they have all starts that the run may have.
-#[test]
-fn a_limit_that_several_meet(rt: HostRuntime) -> Result<(), Fail> {
-    let case = Case {
+const CASES: [Case<'static>; 6] = [
+    EMPTY,
+    // A diamond.
+    Case {
+        tasks: &[PLAIN; 4],
+        edges: &[(0, 1), (0, 2), (1, 3), (2, 3)],
+        least: 4,
+        most: 4,
+        ..EMPTY
+    },
+    LOOPS,
+    // Tokens that wait for another edge, one that is there from the beginning, and some that stay.
+    Case {
+        tasks: &[PLAIN, PLAIN, PLAIN, CHOICE, PLAIN, PLAIN, PLAIN],
+        edges: &[(0, 1), (1, 2), (3, 4), (3, 5), (0, 6), (4, 6)],
+        rings: &[(1, 1)],
+        least: 5,
+        most: 5,
+        ..EMPTY
+    },
+    // One of the two loops faults at its third turn, while the other runs.
+    Case {
+        fault: 3,
+        least: 0,
+        most: 20,
+        ..LOOPS
+    },
+    // Both loops go on until together they have all starts that the run may have.
+    Case {
         limit: 100,
         turns: 1_000,
+        least: 100,
+        most: 100,
         ..LOOPS
+    },
+];
+
+#[test]
+fn runs_by_crews(rt: HostRuntime) -> Result<(), Fail> {
+    for case in CASES {
+        let net = Arc::new(rt.alloc(), built(rt.alloc(), case)?)?;
+        often(&rt, rt.alloc(), &net, case)?;
+    }
+    let net = Arc::new(rt.alloc(), fan(rt.alloc())?)?;
+    let case = Case {
+        least: 1_002,
+        most: 1_002,
+        ..EMPTY
     };
-    often(&rt, rt.alloc(), built(rt.alloc(), case)?, case, 100, 100)
+    often(&rt, rt.alloc(), &net, case)
 }

@@ -10,11 +10,12 @@ ghost use Rattle.worker_seat.specs.Crews.{IsEntered, MayEnter};
 use super::fronts::{put_front, take_front};
 use command_line::Run;
 use outside_io::NoMemory;
-use run_frame::{FrameRun, run_alone};
+use run_frame::FrameRun;
 use span_profile::Watch;
 use std::alloc::Global;
 use std::sync::{Arc, Wait};
 use std::thread::{Threads, for_each_mut};
+use table_frames::run_alone;
 use text_tasks::TextJob;
 use worker_seat::{Crew, CrewRan, EntersEach, WorkerSeat, run_by_crew};
 
@@ -36,7 +37,7 @@ pub(crate) fn run_by<R: Threads + Wait + Sync>(
 {
     let seats = watchers.len().min(asked.workers as usize);
     if seats < 2 {
-        return run_alone(alloc, job);
+        return run_alone(rt, alloc, job);
     }
     let room = Vec::with_capacity(alloc, seats)?;
     let seated = take_front(watchers, seats, room);

@@ -10,19 +10,19 @@ use Rattle.journal_rules.specs.declared.entry.Cause.{Cause}
 use Rattle.journal_rules.specs.declared.entry.Cause.TheVariants.{Source, Strong, Weak}
 use Rattle.journal_rules.specs.DataRule.{edges_of}
 use Rattle.journal_rules.proofs.NetLemmas.{places_length}
+use Rattle.table_steps.specs.Releases.{MayBeReleased}
 use Rattle.table_steps.specs.declared.view.Note.{Note}
+use Rattle.join_tables.specs.declared.calls.Step.{Step}
 use Rattle.join_tables.specs.declared.calls.Step.TheVariants.{NoneLeft, Taken}
 use Rattle.atomic_table.specs.Seated.{TableId}
 use Rattle.join_tables.specs.Findings.{TakesToken}
-use Rattle.std.proofs.lemmas.List.{length_push, map-append}
+use Rattle.std.proofs.lemmas.List.{append-nil, length_push, map-append}
 use Rattle.join_words.specs.declared.ins.Given.{Given}
-use Rattle.join_words.specs.declared.ins.Ins.{Ins}
-use Rattle.join_words.specs.Ins.{parts_of, room_of}
+use Rattle.join_tables.specs.declared.parts.Inputs.{Inputs}
+use Rattle.join_tables.specs.Inputs.{given_in, parts_found, room_in}
 use Rattle.table_steps.specs.Values.{given_part}
-use Rattle.join_tables.specs.Parts.{parts_in}
 use Rattle.join_tables.specs.States.{FreshState, fresh_state}
 use Rattle.table_steps.specs.Giving.{times, one_if}
-use Rattle.table_steps.specs.inside.Accounts.{FitsRelease}
 use Rattle.table_steps.specs.inside.Kinds.{IsTurn, TakesNextToken, took, CountsNext, AreNoneLeft, without_count}
 use Rattle.journal_rules.specs.declared.entry.Part.{Part}
 use Rattle.journal_rules.specs.declared.entry.Part.TheVariants.{Nothing}
@@ -39,7 +39,7 @@ use Rattle.table_steps.proofs.Totals.{weigh_append}
 use Rattle.table_steps.proofs.Lots.{slot_append, awaited_none, found_none}
 use Rattle.table_steps.proofs.Relotting.{self_weight}
 use Rattle.table_steps.proofs.SlotViews.{found_weigh, awaited_weigh, found_push}
-use Rattle.join_tables.specs.inside.Seated.{collecting_view}
+use Rattle.join_tables.specs.inside.Seated.{collecting_view, turn_view, taken_in, refusal_of, held_of}
 use Rattle.join_tables.specs.inside.Collects.{CollectsOne}
 use Rattle.table_steps.proofs.Counting.{times_append, times_strong_in, is_strong_into, is_one}
 use Rattle.table_steps.proofs.StartDuties.{one_self}
@@ -56,13 +56,13 @@ pub record NextEdge (net : NetRows) (left : List ℕ) (f : ℕ) : Type 0 where
   pub is : left ≡ f ∷ tail
   pub below : f < length net.edges
 
-edge_below : (net : NetRows) (t : ℕ) (cause : Cause) (taken tail : List ℕ) (f : ℕ) → FitsRelease net t cause → taken ++ f ∷ tail ≡ edges_of net t cause → f < length net.edges
+edge_below : (net : NetRows) (t : ℕ) (cause : Cause) (taken tail : List ℕ) (f : ℕ) → MayBeReleased net t cause → taken ++ f ∷ tail ≡ edges_of net t cause → f < length net.edges
 edge_below net t Source taken tail f fits is = absurd (omega (arith, ap (times f) is, times_append f taken (f ∷ tail), one_self f))
 edge_below net t Strong taken tail f fits is = below_of net t f (is_one (is_strong_into net t f) (omega (arith, ap (times f) is, times_append f taken (f ∷ tail), one_self f, times_strong_in net t f)))
 edge_below net t (Weak e) taken tail f fits is = by_eq (cases_eq e f)
   where
     by_eq : (e ≡ f) ⊎ (e ≢ f) → f < length net.edges
-    by_eq (inl same) = subst (λ k. k < length net.edges) same fits.0
+    by_eq (inl same) = subst (λ k. k < length net.edges) same fits.in_range
     by_eq (inr other) =
         let miss : one_if (eqb e f) ≡ 0 = let m : eqb e f ≡ false = grind (arith, nat_tests) in ap one_if m in
         absurd (omega (arith, miss, ap (times f) is, times_append f taken (f ∷ tail), one_self f))
@@ -70,7 +70,7 @@ edge_below net t (Weak e) taken tail f fits is = by_eq (cases_eq e f)
 at_next : (net : NetRows) (t : ℕ) (cause : Cause) (taken left : List ℕ) (n k : ℕ) → taken ++ left ≡ edges_of net t cause → n ≡ length taken + k → slice_get (edges_of net t cause) n ≡ slice_get left k
 at_next net t cause taken left n k is place = ap (λ es. slice_get es n) (sym is) ∙ ap (slice_get (taken ++ left)) place ∙ get_after taken left k
 
-pub next_edge : (net : NetRows) (t : ℕ) (cause : Cause) (taken left : List ℕ) (n f : ℕ) → FitsRelease net t cause → taken ++ left ≡ edges_of net t cause → n ≡ length taken → slice_get (edges_of net t cause) n ≡ Some f → NextEdge net left f
+pub next_edge : (net : NetRows) (t : ℕ) (cause : Cause) (taken left : List ℕ) (n f : ℕ) → MayBeReleased net t cause → taken ++ left ≡ edges_of net t cause → n ≡ length taken → slice_get (edges_of net t cause) n ≡ Some f → NextEdge net left f
 next_edge net t cause taken left n f fits is place found = by_left left is (sym (at_next net t cause taken left n 0 is (omega (arith, place))) ∙ found)
   where
     by_left : (es : List ℕ) → taken ++ es ≡ edges_of net t cause → slice_get es 0 ≡ Some f → NextEdge net es f
@@ -97,12 +97,12 @@ length_append : (xs ys : List ℕ) → length (xs ++ ys) ≡ length xs + length 
 length_append [] ys = omega arith
 length_append (x ∷ xs) ys = omega (arith, length_append xs ys)
 
-edges_few : (net : NetRows) (t : ℕ) (cause : Cause) → FitsRelease net t cause → length (edges_of net t cause) ≤ length net.edges
+edges_few : (net : NetRows) (t : ℕ) (cause : Cause) → MayBeReleased net t cause → length (edges_of net t cause) ≤ length net.edges
 edges_few net t Source fits = omega arith
 edges_few net t Strong fits = places_length (λ (r : EdgeRow). (r.to == t) && not (is_weak_row net r)) net.edges
-edges_few net t (Weak e) fits = omega (arith, fits.0)
+edges_few net t (Weak e) fits = omega (arith, fits.in_range)
 
-pub place_few : (net : NetRows) (t : ℕ) (cause : Cause) (taken left : List ℕ) (n : ℕ) → FitsRelease net t cause → taken ++ left ≡ edges_of net t cause → n ≡ length taken → length net.edges < 4294967296 → n < 4294967296
+pub place_few : (net : NetRows) (t : ℕ) (cause : Cause) (taken left : List ℕ) (n : ℕ) → MayBeReleased net t cause → taken ++ left ≡ edges_of net t cause → n ≡ length taken → length net.edges < 4294967296 → n < 4294967296
 place_few net t cause taken left n fits is place few = omega (arith, place, few, edges_few net t cause fits, ap length is, length_append taken left)
 
 -- VIEWS
@@ -166,7 +166,7 @@ found_more : (taken : List ℕ) (parts : List Part) (f : ℕ) (tail : List ℕ) 
 found_more taken parts f tail q same = ap (λ l. Has Live ∷ Sems Held [] ∷ l) (relot_lots Fetched Found (λ p. p) f taken parts q tail tt ∙ sym (found_push taken parts f q (awaited_lots tail) same))
 
 -- the edge is to be counted where it is strong and another token was there
-pub counts_again : (net : NetRows) (t : ℕ) (cause : Cause) (taken : List ℕ) (parts : List Part) (f : ℕ) (tail : List ℕ) (q : Part) (found : ℕ) → FitsRelease net t cause → taken ++ f ∷ tail ≡ edges_of net t cause → length parts ≡ length taken → cause ≡ Strong → 1 < found
+pub counts_again : (net : NetRows) (t : ℕ) (cause : Cause) (taken : List ℕ) (parts : List Part) (f : ℕ) (tail : List ℕ) (q : Part) (found : ℕ) → MayBeReleased net t cause → taken ++ f ∷ tail ≡ edges_of net t cause → length parts ≡ length taken → cause ≡ Strong → 1 < found
     → CountsNext net t f (took found (fetching_view t cause taken parts f tail Fetched q))
 counts_again net t Strong taken parts f tail q found fits is same strong more = by_found found more
   where
@@ -183,7 +183,7 @@ counts_again net t Strong taken parts f tail q found fits is same strong more = 
     by_found : (k : ℕ) → 1 < k → CountsNext net t f (took k (fetching_view t Strong taken parts f tail Fetched q))
     by_found zero h = absurd (omega arith)
     by_found (suc zero) h = absurd (omega arith)
-    by_found (suc (suc k)) h = (refl, fits.0, once, subst (λ l. IsTurn (Duty (Collecting t Strong (taken ++ f ∷ []) tail) ∷ l)) (sym (found_more taken parts f tail q same)) (omega (arith, lone), omega arith))
+    by_found (suc (suc k)) h = (refl, fits.in_tasks, once, subst (λ l. IsTurn (Duty (Collecting t Strong (taken ++ f ∷ []) tail) ∷ l)) (sym (found_more taken parts f tail q same)) (omega (arith, lone), omega arith))
 counts_again net t Source taken parts f tail q found fits is same strong more = absurd (cc)
 counts_again net t (Weak e) taken parts f tail q found fits is same strong more = absurd (cc)
 
@@ -219,22 +219,41 @@ few_settled t cause taken parts f tail q found few = by_cause cause found few
     by_cause Strong (suc (suc k)) h = absurd (omega arith)
 
 -- WHAT IT LED TO
-pub collects_none : {V : Type 0} (n : TableId) (t : ℕ) (cause : Cause) (taken left : List ℕ) (ins : Ins V) (v : List Note) (before after : List ℕ) → left ≡ [] → v ≡ collecting_view t cause taken (parts_in ins) left → after ≡ before → CollectsOne n t cause taken left ins before NoneLeft v ins after
-collects_none n t cause taken left ins v before after none is same = subst (λ es. CollectsOne n t cause taken es ins before NoneLeft v ins after) (sym none) (is ∙ ap (collecting_view t cause taken (parts_in ins)) none, refl, same)
+pub collects_none : {V : Type 0} (n : TableId) (t : ℕ) (cause : Cause) (taken left : List ℕ) (ins : Inputs V) (v : List Note) (before after : List ℕ) → left ≡ [] → v ≡ collecting_view t cause taken (parts_found ins) left → after ≡ before → CollectsOne n t cause taken left ins before NoneLeft v ins after
+collects_none n t cause taken left ins v before after none is same = subst (λ es. CollectsOne n t cause taken es ins before NoneLeft v ins after) (sym none) (is ∙ ap (collecting_view t cause taken (parts_found ins)) none, refl, same)
 
-pub push_part : {V : Type 0} (ins ins' : Ins V) (given : Given V) → parts_of ins' ≡ parts_of ins ++ given ∷ [] → parts_in ins' ≡ parts_in ins ++ given_part given ∷ []
-push_part ins ins' given is = ap (map given_part) is ∙ map-append given_part (parts_of ins) (given ∷ [])
+pub push_part : {V : Type 0} (ins ins' : Inputs V) (given : Given V) → given_in ins' ≡ given_in ins ++ given ∷ [] → parts_found ins' ≡ parts_found ins ++ given_part given ∷ []
+push_part ins ins' given is = ap (map given_part) is ∙ map-append given_part (given_in ins) (given ∷ [])
 
-pub collects_edge : {V : Type 0} (n : TableId) (net : NetRows) (t : ℕ) (cause : Cause) (taken left : List ℕ) (ins ins' : Ins V) (q : Part) (f : ℕ) (next : NextEdge net left f) (made : Option FreshState) (last : Bool) (v : List Note) (before after : List ℕ)
-    → parts_in ins' ≡ parts_in ins ++ q ∷ [] → room_of ins' ≡ room_of ins → v ≡ collecting_view t cause (taken ++ f ∷ []) (parts_in ins ++ q ∷ []) next.tail → IfSome made (λ fresh. fresh ≡ fresh_state n t Strong) → (IsTrue (is_some made) → AreNoneLeft t v × (cause ≡ Strong)) → TakesToken cause (is_some made) before after → IsTrue last ↔ (next.tail ≡ [])
+pub collects_edge : {V : Type 0} (n : TableId) (net : NetRows) (t : ℕ) (cause : Cause) (taken left : List ℕ) (ins ins' : Inputs V) (q : Part) (f : ℕ) (next : NextEdge net left f) (made : Option FreshState) (last : Bool) (v : List Note) (before after : List ℕ)
+    → parts_found ins' ≡ parts_found ins ++ q ∷ [] → room_in ins' ≡ room_in ins → v ≡ collecting_view t cause (taken ++ f ∷ []) (parts_found ins ++ q ∷ []) next.tail → IfSome made (λ fresh. fresh ≡ fresh_state n t Strong) → (IsTrue (is_some made) → AreNoneLeft t v × (cause ≡ Strong)) → TakesToken cause (is_some made) before after → IsTrue last ↔ (next.tail ≡ [])
     → CollectsOne n t cause taken left ins before (Taken made last) v ins' after
 collects_edge n net t cause taken left ins ins' q f next made last v before after added room is fresh none found last_is =
     subst (λ es. CollectsOne n t cause taken es ins before (Taken made last) v ins' after) (sym next.is)
-    (is ∙ ap (λ ps. collecting_view t cause (taken ++ f ∷ []) ps next.tail) (sym added), (ap length added ∙ length_push (parts_in ins) q, room), by_made made fresh none, found, last_is)
+    (is ∙ ap (λ ps. collecting_view t cause (taken ++ f ∷ []) ps next.tail) (sym added), (ap length added ∙ length_push (parts_found ins) q, room), by_made made fresh none, found, last_is)
   where
     tail_none : AreNoneLeft t v × (cause ≡ Strong) → next.tail ≡ []
-    tail_none h = subst (λ w. AreNoneLeft t w) (is ∙ ap (λ c. collecting_view t c (taken ++ f ∷ []) (parts_in ins ++ q ∷ []) next.tail) h.1) h.0 refl
+    tail_none h = subst (λ w. AreNoneLeft t w) (is ∙ ap (λ c. collecting_view t c (taken ++ f ∷ []) (parts_found ins ++ q ∷ []) next.tail) h.1) h.0 refl
 
     by_made : (o : Option FreshState) → IfSome o (λ fresh. fresh ≡ fresh_state n t Strong) → (IsTrue (is_some o) → AreNoneLeft t v × (cause ≡ Strong)) → IfSome o (λ fresh. (fresh ≡ fresh_state n t Strong) × (next.tail ≡ []))
     by_made None h k = tt
     by_made (Some x) h k = (h, tail_none (k refl))
+
+-- a step after which nothing is left to collect
+abbrev pub IsLastStep : {V : Type 0} → Step V → Type 0
+IsLastStep NoneLeft = Unit {0}
+IsLastStep (Taken made last) = last ≡ true
+
+pub record HasAll {V : Type 0} (t : ℕ) (cause : Cause) (inputs : Inputs V) (v : List Note) : Type 0 where
+  pub view : v ≡ turn_view t cause (taken_in v) (parts_found inputs) (refusal_of v) (held_of v)
+  pub count : length (parts_found inputs) ≡ length (taken_in v)
+
+has_all : {V : Type 0} (t : ℕ) (cause : Cause) (taken left : List ℕ) (inputs : Inputs V) (v : List Note) → left ≡ [] → length (parts_found inputs) ≡ length taken → v ≡ collecting_view t cause taken (parts_found inputs) left → HasAll t cause inputs v
+has_all t cause taken left inputs v none count is =
+    subst (HasAll t cause inputs) (sym (is ∙ ap (collecting_view t cause taken (parts_found inputs)) none ∙ ap (λ l. Duty (Collecting t cause taken []) ∷ Has Live ∷ Sems Held [] ∷ l) (append-nil (found_lots taken (parts_found inputs))))) (record { view = refl; count = count })
+
+pub last_has_all : {V : Type 0} (n : TableId) (t : ℕ) (cause : Cause) (taken left : List ℕ) (inputs inputs' : Inputs V) (before after : List ℕ) (step : Step V) (v : List Note) → length (parts_found inputs) ≡ length taken → IsLastStep step → CollectsOne n t cause taken left inputs before step v inputs' after → HasAll t cause inputs' v
+last_has_all n t cause taken [] inputs inputs' before after NoneLeft v count last one = subst (λ i. HasAll t cause i v) (sym one.1) (has_all t cause taken [] inputs v refl count one.0)
+last_has_all n t cause taken [] inputs inputs' before after (Taken made b) v count last one = absurd one
+last_has_all n t cause taken (f ∷ left) inputs inputs' before after NoneLeft v count last one = absurd one
+last_has_all n t cause taken (f ∷ left) inputs inputs' before after (Taken made b) v count last one = has_all t cause (taken ++ f ∷ []) left inputs' v (one.4.0 last) (omega (arith, count, one.1.0, length_push taken f)) one.0

@@ -1,18 +1,10 @@
--- The parts of what was found, or lies in slots, after one more.
-use Rattle.std.proofs.Common.{◌≡◌, ◌⊎◌, inl, inr, ℕ, zero, suc, ◌+◌, ◌<◌, ◌≤◌, List, [], ◌∷◌, ◌++◌, length, map, take, Some, ap, ◌∙◌, arith}
+-- The parts of what lies in slots, after one more.
+use Rattle.std.proofs.Common.{◌≡◌, ◌⊎◌, inl, inr, ℕ, ◌+◌, ◌<◌, ◌≤◌, List, [], ◌∷◌, ◌++◌, length, map, Some, ap, ◌∙◌, arith}
 use Rattle.std.specs.Prelude.{slice_get}
 use Rattle.std.proofs.lemmas.Bool.{cases_lt}
 use Rattle.std.proofs.lemmas.List.{map-append, length-map, length_push}
 use Rattle.journal_rules.specs.declared.entry.Part.{Part}
 use Rattle.journal_rules.proofs.Snoc.{slice_get_push_last, slice_get_push_below}
-
-pub take_next : {X : Type 0} (xs : List X) (i : ℕ) (x : X) → slice_get xs i ≡ Some x → take (suc i) xs ≡ take i xs ++ x ∷ []
-take_next [] i x is = absurd (cc)
-take_next (y ∷ ys) zero x is = ap (λ z. z ∷ []) (some_is y x is)
-  where
-    some_is : {X : Type 0} (a b : X) → Some a ≡ Some b → a ≡ b
-    some_is a b same = cc
-take_next (y ∷ ys) (suc i) x is = ap (λ zs. y ∷ zs) (take_next ys i x is)
 
 -- in the slots, whose parts are these
 pub first_more : {S : Type 0} (part : S → Part) (want : ℕ → Part) (xs ys : List S) (x : S) (n : ℕ) → ys ≡ xs ++ x ∷ [] → length xs ≡ n

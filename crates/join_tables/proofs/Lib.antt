@@ -1,12 +1,14 @@
 pub mod GivenParts
 pub mod Knowing
-pub mod Fitting
 pub mod Turning
 pub mod CollectNext
 pub mod Releasing
 pub mod Recordings
 pub mod Lones
+pub mod Drawn
+pub mod Sharing
 pub mod Merging
+pub mod Valuing
 pub mod WorkedTables
 pub mod FirstStep
 pub mod FirstFresh
@@ -15,3 +17,4 @@ pub mod RunViews
 pub mod RestViews
 pub mod RestDrops
 pub mod WorkedRests
+pub mod Crossing

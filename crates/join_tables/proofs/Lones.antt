@@ -23,8 +23,7 @@ use Rattle.table_steps.proofs.Totals.{weigh_append}
 use Rattle.table_steps.proofs.SlotViews.{found_weigh, awaited_weigh, our_weigh, finds_found, found_after}
 use Rattle.join_tables.specs.declared.turns.EndedStart.{EndedStart}
 use Rattle.join_tables.specs.declared.fates.Dropping.{Dropping}
-use Rattle.join_tables.specs.declared.fates.Fate.TheVariants.{Dropped}
-use Rattle.join_tables.specs.Parts.{parts_in}
+use Rattle.join_tables.specs.Keeping.{drop_of}
 use Rattle.join_tables.specs.inside.Seated.{collecting_view, turn_view, ticket_view, owing_view, IsSpent}
 use Rattle.join_tables.proofs.TurnViews.{Refuses}
 
@@ -58,22 +57,25 @@ may_put_turn net a t cause taken parts (Some AfterFault) held v is fits there be
 may_put_turn net a t cause taken parts (Some (Stuck s)) held v is fits there below = absurd fits
 
 -- DROP DRAWN
-pub record DropsTurn (V : Type 0) (why : DropWhy) (t : ℕ) (cause : Cause) (v : List Note) : Type 0 where
+pub record DropsTurn (why : DropWhy) (t : ℕ) (cause : Cause) (v : List Note) : Type 0 where
   pub may : MayDrop v
-  pub spent : (d : Dropping) → d.task ≡ t → d.cause ≡ cause → d.why ≡ why → IsSpent {V = V} (Dropped d) (dropped d.place v)
+  pub turn : (n : ℕ) → IsTurn (dropped n v)
+  pub spent : (d : Dropping) → d.task ≡ t → d.cause ≡ cause → d.why ≡ why → IsSpent (drop_of d ∷ []) (dropped d.place v)
 
-pub drops_turn : (V : Type 0) (t : ℕ) (cause : Cause) (taken : List ℕ) (parts : List Part) (why : DropWhy) (v : List Note) → length parts ≡ length taken → v ≡ turn_view t cause taken parts (Some why) [] → Refuses (Some why) → DropsTurn V why t cause v
-drops_turn V t cause taken parts Limit v same is fits = let none = ap (after_lots taken) (sym (append-nil (found_lots taken parts))) ∙ found_after taken parts [] same in subst (λ u. DropsTurn V Limit t cause u) (sym is) record {
+pub drops_turn : (t : ℕ) (cause : Cause) (taken : List ℕ) (parts : List Part) (why : DropWhy) (v : List Note) → length parts ≡ length taken → v ≡ turn_view t cause taken parts (Some why) [] → Refuses (Some why) → DropsTurn why t cause v
+drops_turn t cause taken parts Limit v same is fits = let none = ap (after_lots taken) (sym (append-nil (found_lots taken parts))) ∙ found_after taken parts [] same in subst (λ u. DropsTurn Limit t cause u) (sym is) record {
   may = (subst (λ l. FindsFirst taken l) (append-nil (found_lots taken parts)) (finds_found taken parts [] same), found_weigh resting taken parts);
-  spent = λ d task_is cause_is why_is. subst (λ l. IsSpent {V = V} (Dropped d) (Duty (Owes []) ∷ Has Live ∷ Duty (Told d.place (Drop t cause Limit)) ∷ l)) (sym none) (λ i. Duty (Told d.place (Drop (sym task_is i) (sym cause_is i) (sym why_is i))) ∷ [], refl);
+  turn = λ n. subst (λ l. IsTurn (Duty (Owes []) ∷ Has Live ∷ Duty (Told n (Drop t cause Limit)) ∷ l)) (sym none) (refl, omega arith);
+  spent = λ d task_is cause_is why_is. subst (λ l. IsSpent (drop_of d ∷ []) (Duty (Owes []) ∷ Has Live ∷ Duty (Told d.place (Drop t cause Limit)) ∷ l)) (sym none) (λ i. Duty (Told d.place (Drop (sym task_is i) (sym cause_is i) (sym why_is i))) ∷ [], refl);
 }
-drops_turn V t cause taken parts AfterFault v same is fits = let none = ap (after_lots taken) (sym (append-nil (found_lots taken parts))) ∙ found_after taken parts [] same in subst (λ u. DropsTurn V AfterFault t cause u) (sym is) record {
+drops_turn t cause taken parts AfterFault v same is fits = let none = ap (after_lots taken) (sym (append-nil (found_lots taken parts))) ∙ found_after taken parts [] same in subst (λ u. DropsTurn AfterFault t cause u) (sym is) record {
   may = (subst (λ l. FindsFirst taken l) (append-nil (found_lots taken parts)) (finds_found taken parts [] same), found_weigh resting taken parts);
-  spent = λ d task_is cause_is why_is. subst (λ l. IsSpent {V = V} (Dropped d) (Duty (Owes []) ∷ Has Live ∷ Duty (Told d.place (Drop t cause AfterFault)) ∷ l)) (sym none) (λ i. Duty (Told d.place (Drop (sym task_is i) (sym cause_is i) (sym why_is i))) ∷ [], refl);
+  turn = λ n. subst (λ l. IsTurn (Duty (Owes []) ∷ Has Live ∷ Duty (Told n (Drop t cause AfterFault)) ∷ l)) (sym none) (refl, omega arith);
+  spent = λ d task_is cause_is why_is. subst (λ l. IsSpent (drop_of d ∷ []) (Duty (Owes []) ∷ Has Live ∷ Duty (Told d.place (Drop t cause AfterFault)) ∷ l)) (sym none) (λ i. Duty (Told d.place (Drop (sym task_is i) (sym cause_is i) (sym why_is i))) ∷ [], refl);
 }
-drops_turn V t cause taken parts (Stuck s) v same is fits = absurd fits
+drops_turn t cause taken parts (Stuck s) v same is fits = absurd fits
 
 -- UNIT BACK, after an End
 pub may_return_unit : {V : Type 0} (net : NetRows) (a : ℕ) (ended : EndedStart V) (left units : List ℕ) (v : List Note) → v ≡ owing_view ended left units → 1 ≤ times a units → a < length net.sems → MayReturn net a v
-may_return_unit net a ended left units v is there below = let told = Duty (Told ended.start (Start ended.task ended.cause (parts_in ended.ins))) ∷ [] in
+may_return_unit net a ended left units v is there below = let told = Duty (Told ended.start (Start ended.task ended.cause ended.found.parts)) ∷ [] in
     subst (λ u. MayReturn net a u) (sym is) (there, below, omega (arith, weigh_append resting (our_lots ended.place left) told, our_weigh resting ended.place left))

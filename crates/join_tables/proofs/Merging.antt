@@ -1,19 +1,22 @@
 -- Entries that are put at their places make the journal that they tell.
-use Rattle.std.proofs.Common.{◌≡◌, ◌≢◌, ◌⊎◌, inl, inr, ℕ, zero, suc, ◌+◌, ◌<◌, ◌≤◌, true, false, List, [], ◌∷◌, length, map, Option, Some, None, set, get_or, replicate, refl, sym, ap, ◌∙◌, subst, arith}
-use Rattle.std.specs.Prelude.{◌==◌, nat_lt, slice_get, count_by, IfOk, Result}
-use Rattle.std.specs.declared.result.Result.TheVariants.{Ok, Err}
-use Rattle.task_graph.specs.NetRows.{NetRows}
+use Rattle.std.proofs.Common.{◌≡◌, ◌≢◌, ◌⊎◌, inl, inr, ℕ, zero, suc, ◌+◌, ◌<◌, ◌≤◌, true, false, List, [], ◌∷◌, ◌++◌, length, map, reverse, Option, Some, None, set, get_or, replicate, refl, sym, ap, ◌∙◌, subst, arith}
+use Rattle.std.specs.Prelude.{◌==◌, nat_lt, slice_get, count_by}
 use Rattle.journal_rules.specs.ShapeLegal.{ShapeLegal, MeetsDataRule}
 use Rattle.journal_rules.specs.Complete.{Complete}
 use Rattle.std.specs.List.{AllByRecursion}
 use Rattle.std.proofs.lemmas.Bool.Decides.{nat_tests}
 use Rattle.std.proofs.lemmas.Bool.{cases_eq}
-use Rattle.std.proofs.lemmas.List.{same_lists, length-set, get_or-set_same, get_or-set_other, length-replicate}
+use Rattle.std.proofs.lemmas.List.{same_lists, length-set, get_or-set_same, get_or-set_other, length-replicate, map-append, reverse-append}
 use Rattle.journal_rules.specs.declared.entry.Entry.{Entry}
 use Rattle.join_tables.specs.declared.keeper.Recorded.{Recorded}
-use Rattle.join_tables.specs.Keeping.{Merges, TellsRun, TellsSomeRun}
+use Rattle.join_tables.specs.Keeping.{drop_of, entries_of, entries_told, Merges, TellsSomeRun}
+use Rattle.join_tables.specs.Finishing.{IsRunTold}
 use Rattle.table_steps.specs.Giving.{one_if}
-use Rattle.join_tables.specs.inside.Merging.{placed, somes}
+use Rattle.join_tables.specs.declared.fates.Dropping.{Dropping}
+use Rattle.join_tables.specs.declared.fates.Fate.{Fate}
+use Rattle.join_tables.specs.declared.fates.Fate.TheVariants.{Ended, Faulted, Dropped, AllDropped}
+use Rattle.join_tables.specs.declared.filed.Filed.{Filed}
+use Rattle.join_tables.specs.inside.Merging.{filed_drop, filed_of, all_filed, placed, journal_in}
 use Rattle.table_steps.proofs.Journals.{count_cons}
 
 -- HOW MANY ENTRIES THERE ARE
@@ -58,7 +61,18 @@ as_many : (rs : List Recorded) (journal : List Entry) → Merges rs journal → 
 as_many rs journal m = sym (sums_one (λ k. count_by (λ (r : Recorded). r.place == k) rs) (length journal) m.each) ∙ sums_below rs (length journal) ∙ all_below journal rs m.stand
 
 -- WHAT STANDS AT EACH PLACE
-placed_length : (rs : List Recorded) (places : List (Option Entry)) → length (placed rs places) ≡ length places
+-- each entry is put at its place
+abbrev pub put_entries : List Recorded → List (Option Entry) → List (Option Entry)
+put_entries [] places = places
+put_entries (r ∷ rs) places = put_entries rs (set places r.place (Some r.entry))
+
+-- the entries that are there
+abbrev pub somes : List (Option Entry) → List Entry
+somes [] = []
+somes (Some x ∷ xs) = x ∷ somes xs
+somes (None ∷ xs) = somes xs
+
+placed_length : (rs : List Recorded) (places : List (Option Entry)) → length (put_entries rs places) ≡ length places
 placed_length [] places = refl
 placed_length (r ∷ rs) places = placed_length rs (set places r.place (Some r.entry)) ∙ length-set places r.place (Some r.entry)
 
@@ -73,7 +87,7 @@ get_mapped (y ∷ ys) zero x d h = h
 get_mapped (y ∷ ys) (suc n) x d h = get_mapped ys n x d h
 
 placed_at : (journal : List Entry) (rs : List Recorded) (places : List (Option Entry)) (m : ℕ) (x : Entry) (d : Option Entry) → slice_get journal m ≡ Some x → m < length places
-    → AllByRecursion (λ (r : Recorded). slice_get journal r.place ≡ Some r.entry) rs → (1 ≤ count_by (λ (r : Recorded). r.place == m) rs) ⊎ (get_or places m d ≡ Some x) → get_or (placed rs places) m d ≡ Some x
+    → AllByRecursion (λ (r : Recorded). slice_get journal r.place ≡ Some r.entry) rs → (1 ≤ count_by (λ (r : Recorded). r.place == m) rs) ⊎ (get_or places m d ≡ Some x) → get_or (put_entries rs places) m d ≡ Some x
 placed_at journal [] places m x d is below stand (inl named) = absurd (omega (arith, named))
 placed_at journal [] places m x d is below stand (inr there) = there
 placed_at journal (r ∷ rs) places m x d is below stand named = by_place (cases_eq r.place m)
@@ -82,7 +96,7 @@ placed_at journal (r ∷ rs) places m x d is below stand named = by_place (cases
     after : List (Option Entry)
     after = set places r.place (Some r.entry)
 
-    by_place : (r.place ≡ m) ⊎ (r.place ≢ m) → ((1 ≤ count_by (λ (q : Recorded). q.place == m) rs) ⊎ (get_or after m d ≡ Some x) → get_or (placed rs after) m d ≡ Some x) → get_or (placed rs after) m d ≡ Some x
+    by_place : (r.place ≡ m) ⊎ (r.place ≢ m) → ((1 ≤ count_by (λ (q : Recorded). q.place == m) rs) ⊎ (get_or after m d ≡ Some x) → get_or (put_entries rs after) m d ≡ Some x) → get_or (put_entries rs after) m d ≡ Some x
     by_place (inl here) go = go (inr (ap (λ k. get_or (set places k (Some r.entry)) m d) here ∙ get_or-set_same places m (Some r.entry) d below ∙ sym stand.0 ∙ ap (slice_get journal) here ∙ is))
     by_place (inr other) go = go (still named)
       where
@@ -98,16 +112,16 @@ map_length : (xs : List Entry) → length (map Some xs) ≡ length xs
 map_length [] = refl
 map_length (x ∷ xs) = ap suc (map_length xs)
 
-pub merges_all : (rs : List Recorded) (journal : List Entry) → Merges rs journal → somes (placed rs (replicate (length rs) None)) ≡ journal
-merges_all rs journal m = ap somes (same_lists (placed rs empty) (map Some journal) size each) ∙ somes_map journal
+entries_placed : (rs : List Recorded) (journal : List Entry) → Merges rs journal → put_entries rs (replicate (length rs) None) ≡ map Some journal
+entries_placed rs journal m = same_lists (put_entries rs empty) (map Some journal) size each
   where
     empty : List (Option Entry)
     empty = replicate (length rs) None
 
-    size : length (placed rs empty) ≡ length (map Some journal)
+    size : length (put_entries rs empty) ≡ length (map Some journal)
     size = placed_length rs empty ∙ length-replicate (length rs) None ∙ sym (as_many rs journal m) ∙ sym (map_length journal)
 
-    each : (k : ℕ) (d : Option Entry) → k < length (placed rs empty) → get_or (placed rs empty) k d ≡ get_or (map Some journal) k d
+    each : (k : ℕ) (d : Option Entry) → k < length (put_entries rs empty) → get_or (put_entries rs empty) k d ≡ get_or (map Some journal) k d
     each k d below =
         let long : k < length journal = omega (arith, below, size, map_length journal) in
         let there = get_there journal k long in
@@ -124,14 +138,101 @@ places_below rs journal m = all rs m.stand
 pub told_below : (rs qs : List Recorded) → qs ≡ rs → TellsSomeRun rs → AllByRecursion (λ (r : Recorded). r.place < length qs) qs
 told_below rs qs is told = subst (λ xs. AllByRecursion (λ (r : Recorded). r.place < length xs) xs) (sym is) (places_below rs told.tells.journal told.tells.merges)
 
-made_of : (rs qs : List Recorded) (made journal : List Entry) → qs ≡ rs → made ≡ somes (placed qs (replicate (length qs) None)) → Merges rs journal → made ≡ journal
-made_of rs qs made journal is of m = of ∙ ap (λ xs. somes (placed xs (replicate (length xs) None))) is ∙ merges_all rs journal m
+-- the entry that is put at a place
+abbrev pub entry_of : {V : Type 0} → ℕ × Filed V → Recorded
+entry_of x = record { place = x.0; entry = x.1.entry }
 
-pub told_merges : (E : Type 0) (rs qs : List Recorded) (result : Result (List Entry) E) → qs ≡ rs → TellsSomeRun rs → IfOk result (λ made. made ≡ somes (placed qs (replicate (length qs) None))) → IfOk result (Merges rs)
-told_merges E rs qs (Ok made) is told of = subst (λ j. Merges rs j) (sym (made_of rs qs made told.tells.journal is of told.tells.merges)) told.tells.merges
-told_merges E rs qs (Err e) is told of = tt
+drops_entries : (V : Type 0) (ds : List Dropping) → map (entry_of {V = V}) (map filed_drop ds) ≡ map drop_of ds
+drops_entries V [] = refl
+drops_entries V (d ∷ ds) = ap (λ rs. drop_of d ∷ rs) (drops_entries V ds)
 
-pub told_finished : (E : Type 0) (rs qs : List Recorded) (result : Result (List Entry) E) → qs ≡ rs → IfOk result (λ made. made ≡ somes (placed qs (replicate (length qs) None)))
-    → IfOk result (λ made. (net : NetRows) (limit : ℕ) → TellsRun net limit rs → ShapeLegal net limit made × MeetsDataRule net made × Complete net limit made)
-told_finished E rs qs (Ok made) is of = λ net limit tells. subst (λ j. ShapeLegal net limit j × MeetsDataRule net j × Complete net limit j) (sym (made_of rs qs made tells.journal is of tells.merges)) (tells.legal, tells.meets, tells.complete)
-told_finished E rs qs (Err e) is of = tt
+-- the entries that lie at the places
+abbrev pub shown : {V : Type 0} → List (Option (Filed V)) → List (Option Entry)
+shown [] = []
+shown (None ∷ fs) = None ∷ shown fs
+shown (Some f ∷ fs) = Some f.entry ∷ shown fs
+
+shown_none : (V : Type 0) (n : ℕ) → shown {V = V} (replicate n None) ≡ replicate n None
+shown_none V zero = refl
+shown_none V (suc n) = ap (λ xs. None ∷ xs) (shown_none V n)
+
+module _ {V : Type 0} where
+  filed_entries : (fate : Fate V) → map entry_of (filed_of fate) ≡ entries_of fate
+  filed_entries (Ended e) = refl
+  filed_entries (Faulted f) = refl
+  filed_entries (Dropped d) = refl
+  filed_entries (AllDropped drops) = drops_entries V (reverse drops.items)
+
+  all_entries : (fates : List (Fate V)) → map entry_of (all_filed fates) ≡ entries_told fates
+  all_entries [] = refl
+  all_entries (fate ∷ fates) = map-append entry_of (filed_of fate) (all_filed fates) ∙ (λ i. filed_entries fate i ++ all_entries fates i)
+
+  -- the places of the entries are those of what is put
+  filed_below : (n : ℕ) (xs : List (ℕ × Filed V)) → AllByRecursion (λ (r : Recorded). r.place < n) (map entry_of xs) → AllByRecursion (λ x. x.0 < n) xs
+  filed_below n [] h = tt
+  filed_below n (x ∷ xs) h = (h.0, filed_below n xs h.1)
+
+  pub all_below_filed : (n : ℕ) (fates : List (Fate V)) → AllByRecursion (λ (r : Recorded). r.place < n) (entries_told fates) → AllByRecursion (λ x. x.0 < n) (all_filed fates)
+  all_below_filed n fates h = filed_below n (all_filed fates) (subst (AllByRecursion (λ (r : Recorded). r.place < n)) (sym (all_entries fates)) h)
+
+  shown_set : (fs : List (Option (Filed V))) (n : ℕ) (f : Filed V) → shown (set fs n (Some f)) ≡ set (shown fs) n (Some f.entry)
+  shown_set [] n f = refl
+  shown_set (None ∷ fs) zero f = refl
+  shown_set (Some g ∷ fs) zero f = refl
+  shown_set (None ∷ fs) (suc n) f = ap (λ xs. None ∷ xs) (shown_set fs n f)
+  shown_set (Some g ∷ fs) (suc n) f = ap (λ xs. Some g.entry ∷ xs) (shown_set fs n f)
+
+  shown_placed : (xs : List (ℕ × Filed V)) (fs : List (Option (Filed V))) → shown (placed xs fs) ≡ put_entries (map entry_of xs) (shown fs)
+  shown_placed [] fs = refl
+  shown_placed (x ∷ xs) fs = shown_placed xs (set fs x.0 (Some x.1)) ∙ ap (put_entries (map entry_of xs)) (shown_set fs x.0 x.1)
+
+  journal_shown : (fs : List (Option (Filed V))) → journal_in fs ≡ somes (shown fs)
+  journal_shown [] = refl
+  journal_shown (None ∷ fs) = journal_shown fs
+  journal_shown (Some f ∷ fs) = ap (λ xs. f.entry ∷ xs) (journal_shown fs)
+
+  module _ (fates : List (Fate V)) where
+    -- where all entries are put
+    abbrev pub places_of : List (Option (Filed V))
+    places_of = placed (all_filed fates) (replicate (length (entries_told fates)) None)
+
+    pub shown_all : (journal : List Entry) → Merges (entries_told fates) journal → shown places_of ≡ map Some journal
+    shown_all journal m = let none : List (Option (Filed V)) = replicate (length (entries_told fates)) None in
+        shown_placed (all_filed fates) none ∙ (λ i. put_entries (all_entries fates i) (shown_none V (length (entries_told fates)) i)) ∙ entries_placed (entries_told fates) journal m
+
+    journal_of_all : (journal : List Entry) → Merges (entries_told fates) journal → journal_in places_of ≡ journal
+    journal_of_all journal m = journal_shown places_of ∙ ap somes (shown_all journal m) ∙ somes_map journal
+
+    pub all_merge : (made : List Entry) → made ≡ journal_in places_of → TellsSomeRun (entries_told fates) → Merges (entries_told fates) made
+    all_merge made is told = subst (Merges (entries_told fates)) (sym (is ∙ journal_of_all told.tells.journal told.tells.merges)) told.tells.merges
+
+    pub all_finished : (made : List Entry) → made ≡ journal_in places_of → IsRunTold fates made
+    all_finished made is = λ net limit tells. subst (λ j. ShapeLegal net limit j × MeetsDataRule net j × Complete net limit j) (sym (is ∙ journal_of_all tells.journal tells.merges)) (tells.legal, tells.meets, tells.complete)
+
+  -- MANY AT ONCE
+  pub placed_both : (xs ys : List (ℕ × Filed V)) (fs : List (Option (Filed V))) → placed (xs ++ ys) fs ≡ placed ys (placed xs fs)
+  placed_both [] ys fs = refl
+  placed_both (x ∷ xs) ys fs = placed_both xs ys (set fs x.0 (Some x.1))
+
+  pub placed_size : (xs : List (ℕ × Filed V)) (fs : List (Option (Filed V))) → length (placed xs fs) ≡ length fs
+  placed_size [] fs = refl
+  placed_size (x ∷ xs) fs = placed_size xs (set fs x.0 (Some x.1)) ∙ length-set fs x.0 (Some x.1)
+
+  pub below_both : (n : ℕ) (xs ys : List (ℕ × Filed V)) → AllByRecursion (λ x. x.0 < n) (xs ++ ys) → AllByRecursion (λ x. x.0 < n) xs × AllByRecursion (λ x. x.0 < n) ys
+  below_both n [] ys h = (tt, h)
+  below_both n (x ∷ xs) ys h = let more = below_both n xs ys h.1 in ((h.0, more.0), more.1)
+
+  pub record NextDrop (fs new : List (Option (Filed V))) (left all : List Dropping) (d : Dropping) : Type 0 where
+    pub here : d.place < length fs
+    pub rest : placed (map filed_drop (reverse left)) new ≡ placed (map filed_drop (reverse all)) fs
+    pub below : AllByRecursion (λ (x : ℕ × Filed V). x.0 < length new) (map filed_drop (reverse left))
+
+  pub next_drop : (fs new : List (Option (Filed V))) (left all : List Dropping) (d : Dropping) → all ≡ left ++ d ∷ [] → new ≡ placed (filed_drop d ∷ []) fs → AllByRecursion (λ (x : ℕ × Filed V). x.0 < length fs) (map filed_drop (reverse all)) → NextDrop fs new left all d
+  next_drop fs new left all d is put below =
+      let order : reverse all ≡ d ∷ reverse left = ap reverse is ∙ reverse-append left (d ∷ []) in
+      let each = subst (λ ds. AllByRecursion (λ (x : ℕ × Filed V). x.0 < length fs) (map filed_drop ds)) order below in
+      record {
+        here = each.0;
+        rest = ap (placed (map filed_drop (reverse left))) put ∙ ap (λ ds. placed (map filed_drop ds) fs) (sym order);
+        below = subst (λ n. AllByRecursion (λ (x : ℕ × Filed V). x.0 < n) (map filed_drop (reverse left))) (sym (ap length put ∙ placed_size (filed_drop d ∷ []) fs)) each.1;
+      }

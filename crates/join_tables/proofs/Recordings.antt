@@ -1,10 +1,12 @@
 -- What the keeper's seat knows is what the keeper has.
-use Rattle.std.proofs.Common.{◌≡◌, ℕ, ◌+◌, List, [], ◌∷◌, ◌++◌, Some, sym, refl, ap, ◌∙◌, subst, arith}
+use Rattle.std.proofs.Common.{◌≡◌, ℕ, ◌+◌, List, [], ◌∷◌, ◌++◌, Option, Some, None, IfSome, IfNone, sym, refl, ap, ◌∙◌, subst, arith}
 use Rattle.std.specs.Prelude.{◌==◌, slice_get, count_by}
+use Rattle.std.specs.Option.{option_map_or}
 use Rattle.std.specs.List.{AllByRecursion}
 use Rattle.task_graph.specs.NetRows.{NetRows}
 use Rattle.journal_rules.specs.declared.entry.Entry.{Entry}
-use Rattle.std.proofs.lemmas.List.{append_assoc}
+use Rattle.std.proofs.lemmas.List.{append_assoc, append-nil}
+use Rattle.std.proofs.lemmas.Grind.{flat_map-append}
 use Rattle.join_tables.specs.declared.fates.Fate.{Fate}
 use Rattle.join_tables.specs.declared.keeper.Recorded.{Recorded}
 use Rattle.table_steps.specs.declared.view.TurnDuty.TheVariants.{Told, Fresh, Collecting, Ticket, Open, Owes, Counting}
@@ -20,7 +22,7 @@ use Rattle.table_steps.proofs.Totals.{weigh_append}
 use Rattle.std.specs.declared.result.Result.TheVariants.{Ok}
 use Rattle.join_tables.specs.declared.keeper.Remaining.{Remaining}
 use Rattle.join_tables.specs.declared.keeper.Remaining.TheVariants.{More, All as AllTaken}
-use Rattle.join_tables.specs.Keeping.{TellsRun, LeavesOf, IsLast, entries_of}
+use Rattle.join_tables.specs.Keeping.{TellsRun, LeavesOf, IsLast, entries_of, entries_told}
 use Rattle.table_steps.proofs.Journals.{count_cons}
 
 -- a seat that takes in another
@@ -46,18 +48,37 @@ tellings_append (Has m ∷ v) w = tellings_append v w
 tellings_append (Unfit s n t ∷ v) w = tellings_append v w
 tellings_append (Lies k e p ∷ v) w = tellings_append v w
 
-pub may_leave : {V : Type 0} (fate : Fate V) (v w : List Note) → IsSpent fate w → weigh busy v ≡ 0 → MayLeave (views_joined v w)
-may_leave fate v (Duty (Owes []) ∷ Has Live ∷ rest) spent idle = λ _. omega (arith, idle, spent.1, weigh_append busy rest v)
-may_leave fate v w spent idle = absurd spent
+pub may_leave : (es : List Recorded) (v w : List Note) → IsSpent es w → weigh busy v ≡ 0 → MayLeave (views_joined v w)
+may_leave es v (Duty (Owes []) ∷ Has Live ∷ rest) spent idle = λ _. omega (arith, idle, spent.1, weigh_append busy rest v)
+may_leave es v w spent idle = absurd spent
 
-pub told_more : {V : Type 0} (fate : Fate V) (rs : List Recorded) (v w : List Note) → IsSpent fate w → tellings v ≡ told_notes rs → tellings (left_by (views_joined v w)) ≡ told_notes (rs ++ entries_of fate)
-told_more fate rs v (Duty (Owes []) ∷ Has Live ∷ rest) spent is =
-    tellings_append rest v ∙ ap (λ u. u ++ tellings v) spent.0 ∙ ap (λ u. told_notes (entries_of fate) ++ u) is ∙ sym (told_append (told_notes rs) (entries_of fate)) ∙ sym (told_all [] rs (entries_of fate))
-told_more fate rs v w spent is = absurd spent
+-- one that takes in a turn knows the entries of both
+both_told : (es fs : List Recorded) (v w : List Note) → tellings v ≡ told_notes es → tellings w ≡ told_notes fs → tellings (w ++ v) ≡ told_notes (es ++ fs)
+both_told es fs v w is new = tellings_append w v ∙ ap (λ u. u ++ tellings v) new ∙ ap (λ u. told_notes fs ++ u) is ∙ sym (told_append (told_notes es) fs) ∙ sym (told_all [] es fs)
 
-pub idle_still : {V : Type 0} (fate : Fate V) (v w : List Note) → IsSpent fate w → weigh busy v ≡ 0 → weigh busy (left_by (views_joined v w)) ≡ 0
-idle_still fate v (Duty (Owes []) ∷ Has Live ∷ rest) spent idle = omega (arith, idle, spent.1, weigh_append busy rest v)
-idle_still fate v w spent idle = absurd spent
+pub told_more : (es rs : List Recorded) (v w : List Note) → IsSpent es w → tellings v ≡ told_notes rs → tellings (left_by (views_joined v w)) ≡ told_notes (rs ++ es)
+told_more es rs v (Duty (Owes []) ∷ Has Live ∷ rest) spent is = both_told rs es v rest is spent.0
+told_more es rs v w spent is = absurd spent
+
+pub idle_still : (es : List Recorded) (v w : List Note) → IsSpent es w → weigh busy v ≡ 0 → weigh busy (left_by (views_joined v w)) ≡ 0
+idle_still es v (Duty (Owes []) ∷ Has Live ∷ rest) spent idle = omega (arith, idle, spent.1, weigh_append busy rest v)
+idle_still es v w spent idle = absurd spent
+
+-- a turn that is done takes in another
+spent_both : (es fs : List Recorded) (v w : List Note) → IsSpent es v → IsSpent fs w → IsSpent (es ++ fs) (w ++ left_by v)
+spent_both es fs (Duty (Owes []) ∷ Has Live ∷ rest) (Duty (Owes []) ∷ Has Live ∷ more) spent new = (both_told es fs rest more spent.0 new.0, omega (arith, spent.1, new.1, weigh_append busy more rest))
+spent_both es fs (Duty (Owes []) ∷ Has Live ∷ rest) w spent new = absurd new
+spent_both es fs v w spent new = absurd spent
+
+-- the entries of a turn more
+entries_more : {V : Type 0} (fates : List (Fate V)) (fate : Fate V) → entries_told (fates ++ fate ∷ []) ≡ entries_told fates ++ entries_of fate
+entries_more fates fate = flat_map-append entries_of fates (fate ∷ []) ∙ ap (λ es. entries_told fates ++ es) (append-nil (entries_of fate))
+
+-- where the turn is added to a batch, which may have none yet
+pub spent_more : {V S : Type 0} (me : S → List Note) (seat : Option S) (fates : List (Fate V)) (fate : Fate V) (w : List Note) → IfSome seat (λ s. IsSpent (entries_told fates) (me s)) → IfNone seat (fates ≡ []) → IsSpent (entries_of fate) w
+    → IsSpent (entries_told (fates ++ fate ∷ [])) (w ++ option_map_or (λ s. left_by (me s)) seat [])
+spent_more me None fates fate w before none new = subst (λ fs. IsSpent (entries_told (fs ++ fate ∷ [])) (w ++ [])) (sym none) (subst (λ es. IsSpent es (w ++ [])) (sym (append-nil (entries_of fate))) (subst (IsSpent (entries_of fate)) (sym (append-nil w)) new))
+spent_more me (Some s) fates fate w before none new = subst (λ es. IsSpent es (w ++ left_by (me s))) (sym (entries_more fates fate)) (spent_both (entries_told fates) (entries_of fate) (me s) w before new)
 
 -- what else a seat knows tells no entry
 place_told : (m : ℕ) (v : List Note) → weigh (duty (place m)) v ≡ weigh (duty (place m)) (tellings v)

@@ -92,7 +92,7 @@ pub record DropsOne (V : Type 0) (net : NetRows) (why : DropWhy) (p : Parked) (l
   pub alone : (n : ℕ) → alone_in (left_by (last_dropped why n v)) ≡ alone_in v
   pub full : (n : ℕ) → full_in (left_by (last_dropped why n v)) ≡ full_in v
   pub parts : (n : ℕ) (more : List (List Part)) (found : List Part) → length more ≡ length left → RestParts (more ++ found ∷ []) v → RestParts more (left_by (last_dropped why n v))
-  pub spent : (n : ℕ) (fate : Fate V) → left ≡ [] → entries_of fate ≡ map drop_of (reverse (drops ++ dropping_as why n p ∷ [])) → IsSpent fate (last_dropped why n v)
+  pub spent : (n : ℕ) (fate : Fate V) → left ≡ [] → entries_of fate ≡ map drop_of (reverse (drops ++ dropping_as why n p ∷ [])) → IsSpent (entries_of fate) (last_dropped why n v)
 
 left_lives : (left : List Parked) (ds : List Dropping) (rest : List Note) → HoldsTurns (reverse left) ds rest → left ≢ [] → 1 ≤ weigh (mark Live) rest
 left_lives left ds rest h some_there = omega (arith, holds_live (reverse left) ds rest h, length-reverse left, some_length left some_there)

@@ -12,7 +12,6 @@ use Rattle.table_steps.specs.declared.view.Note.{Note}
 use Rattle.table_steps.specs.declared.view.Note.TheVariants.{Duty, Sems, Has, Lies}
 use Rattle.table_steps.proofs.Counting.{times_strong_in, is_strong_into}
 use Rattle.join_tables.specs.Findings.{FindsOne, FindsTwo, CountsEdge, GivesToken}
-use Rattle.join_tables.specs.Parts.{parts_in}
 use Rattle.join_tables.specs.States.{FreshState, OwingState, SpentState, fresh_state, owing_state, spent_state}
 use Rattle.join_tables.specs.Turns.{GivesNext, release_cause}
 use Rattle.join_tables.specs.declared.turns.Gave.TheVariants.{Next, Released, Finished}
@@ -154,7 +153,7 @@ owes_first ended e left units = (
 )
   where
     told : List Note
-    told = Duty (Told ended.start (Start ended.task ended.cause (parts_in ended.ins))) ∷ []
+    told = Duty (Told ended.start (Start ended.task ended.cause ended.found.parts)) ∷ []
 
     lone : weigh resting (Has Live ∷ Sems Owed units ∷ Duty (Told ended.place (End ended.start ended.gives ended.inner)) ∷ our_lots ended.place (e ∷ left) ++ told) ≡ 0
     lone = omega (arith, weigh_append resting (our_lots ended.place (e ∷ left)) told, our_weigh resting ended.place (e ∷ left))
@@ -163,7 +162,7 @@ pub paid_view : {V : Type 0} (ended : EndedStart V) (e : ℕ) (left units : List
 paid_view ended e left units = ap (λ l. Duty (Owes left) ∷ Has Live ∷ Sems Owed units ∷ Duty (Told ended.place (End ended.start ended.gives ended.inner)) ∷ l) (unlot_head)
   where
     told : List Note
-    told = Duty (Told ended.start (Start ended.task ended.cause (parts_in ended.ins))) ∷ []
+    told = Duty (Told ended.start (Start ended.task ended.cause ended.found.parts)) ∷ []
 
     rest : List Note
     rest = our_lots ended.place left ++ told

@@ -1,6 +1,7 @@
 -- What contracts of tables say, line by line, computed on a small net.
-use Rattle.std.proofs.Common.{◌≡◌, ◌≢◌, inl, inr, ℕ, ◌<◌, ◌≤◌, true, false, [], ◌∷◌, ◌++◌, length, map, Some, refl, sym, ap, subst, arith}
-use Rattle.std.specs.Prelude.{slice_index, slice_get}
+use Rattle.std.proofs.Common.{◌≡◌, ◌≢◌, inl, inr, ℕ, zero, suc, ◌<◌, ◌≤◌, true, false, List, [], ◌∷◌, ◌++◌, length, map, Some, Contains, refl, sym, ap, ◌∙◌, subst, arith}
+use Rattle.std.specs.Prelude.{slice_index, slice_index_or, slice_get}
+use Rattle.std.proofs.lemmas.List.Elements.{All-from_recursion}
 use Rattle.std.specs.Arc.{arc_value}
 use Rattle.std.specs.Global.{Global}
 use Rattle.std.specs.declared.sync.Arc.{Arc}
@@ -11,11 +12,10 @@ use Rattle.task_graph.specs.declared.net.EdgeRow.{EdgeRow}
 use Rattle.task_graph.specs.NetRows.{NetRows}
 use Rattle.atomic_table.specs.Seated.{TableId}
 use Rattle.journal_rules.specs.declared.entry.Cause.TheVariants.{Source, Strong, Weak}
-use Rattle.journal_rules.specs.declared.entry.Entry.TheVariants.{Start, End}
+use Rattle.journal_rules.specs.declared.entry.Entry.TheVariants.{Start, End, Fault}
 use Rattle.journal_rules.specs.declared.entry.Part.TheVariants.{From, First, Nothing}
 use Rattle.journal_rules.specs.declared.entry.Why.TheVariants.{Inner}
 use Rattle.join_words.specs.declared.ins.Given.TheVariants as given
-use Rattle.join_words.specs.declared.ins.Ins.{Ins}
 use Rattle.join_words.specs.Ins.{parts_of}
 use Rattle.table_steps.specs.Values.{given_part, values_in, AreValues}
 use Rattle.table_steps.proofs.Values.{values_agree}
@@ -25,15 +25,19 @@ use Rattle.join_tables.specs.declared.turns.Gave.TheVariants.{Next, Released, Fi
 use Rattle.join_tables.specs.declared.turns.Admitted.TheVariants.{Go, Over, Halted}
 use Rattle.join_tables.specs.declared.turns.EndedStart.{EndedStart}
 use Rattle.join_tables.specs.declared.fates.Failure.{Failure}
+use Rattle.join_tables.specs.declared.fates.Fate.{Fate}
 use Rattle.join_tables.specs.declared.fates.Fate.TheVariants.{Ended, Faulted}
+use Rattle.join_tables.specs.declared.keeper.Recorded.{Recorded}
+use Rattle.join_tables.specs.declared.keeper.RecordedValue.{RecordedValue}
 use Rattle.join_tables.specs.declared.keeper.Remaining.TheVariants.{More as TurnsLeft, All as NoneLeft}
 use Rattle.table_steps.specs.Giving.{times, target, MayEndGiving}
 use Rattle.join_tables.specs.Findings.{FindsOne, FindsTwo, CountsEdge, TakesToken, GivesToken}
-use Rattle.join_tables.specs.Parts.{parts_in}
+use Rattle.join_tables.specs.declared.parts.FoundParts.{FoundParts}
 use Rattle.join_tables.specs.States.{FreshState, CollectingState, TurnState, AdmittedState, RunningState, OwingState, SpentState, fresh_state, turn_state, turn_with, admitted_state, spent_state}
 use Rattle.join_tables.specs.FirstCauses.{begin_full, first_causes, first_fresh}
 use Rattle.join_tables.specs.Turns.{CollectsFrom, Admits, EndedAs, GivesNext, release_cause}
-use Rattle.join_tables.specs.Keeping.{KeeperState, keeper_state, AgreeOnValues, FitsEntries, entries_of, recorded_values, found_inputs, keeper_with, Merges, LeavesOf}
+use Rattle.join_tables.specs.Finishing.{AreEndValues, recorded_values, values_told}
+use Rattle.join_tables.specs.Keeping.{KeeperState, AgreeOnValues, entries_of, entries_told, keeper_with, Merges, LeavesOf}
 
 abbrev free : Shape → TaskRow
 free shape = record { shape = shape; takes = []; puts = [] }
@@ -222,7 +226,7 @@ not_halted_without_a_mark : (n : TableId) → Admits {V = ℕ} 5 (turn_state n 1
 not_halted_without_a_mark n h = h.1.1 refl
 
 -- ENDS
-end_of_its_start : (r : RunningState ℕ) (ended : EndedStart ℕ) → EndedAs r (3 ∷ []) 7 false ended → (ended.start ≡ r.place) × (ended.ins ≡ r.ins) × (ended.gives ≡ 3 ∷ [])
+end_of_its_start : (r : RunningState ℕ) (ended : EndedStart ℕ) → EndedAs r (3 ∷ []) 7 false ended → (ended.start ≡ r.place) × (ended.found.ins.value ≡ r.ins) × (ended.gives ≡ 3 ∷ [])
 end_of_its_start r ended h = (h.2, h.3, h.5)
 
 end_with_its_value : (r : RunningState ℕ) (ended : EndedStart ℕ) → EndedAs r (3 ∷ []) 7 false ended → arc_value ended.value ≡ 7
@@ -260,21 +264,21 @@ not_all_before_the_last h = omega (arith, h)
 no_more_after_the_last_turn : LeavesOf 1 TurnsLeft → ⊥
 no_more_after_the_last_turn h = h refl
 
--- a start of task 0 that found these inputs, and ended with a value or faulted
-module _ (shared : Arc ℕ Global) (ins : Ins ℕ) where
+-- a start of task 0 that found these parts, and ended with a value or faulted, and one at place 2 that found others
+module _ (shared : Arc ℕ Global) (found later : FoundParts ℕ) where
   abbrev ended : EndedStart ℕ
-  ended = record { task = 0; cause = Source; start = 0; ins = ins; value = shared; place = 1; gives = 0 ∷ []; inner = false }
+  ended = record { task = 0; cause = Source; start = 0; found = found; value = shared; place = 1; gives = 0 ∷ []; inner = false }
 
   abbrev other_ended : EndedStart ℕ
-  other_ended = record { task = 0; cause = Source; start = 0; ins = ins; value = shared; place = 0; gives = 0 ∷ []; inner = false }
+  other_ended = record { task = 0; cause = Source; start = 0; found = found; value = shared; place = 0; gives = 0 ∷ []; inner = false }
 
   abbrev failure : Failure ℕ
-  failure = record { task = 0; cause = Source; start = 0; ins = ins; place = 1; why = Inner }
+  failure = record { task = 1; cause = Strong; start = 2; found = later; place = 3; why = Inner }
 
-  values_are_left_out : parts_of ins ≡ given.Value 3 shared ∷ given.First ∷ given.Nothing ∷ [] → parts_in ins ≡ From 3 ∷ First ∷ Nothing ∷ []
-  values_are_left_out is = ap (map given_part) is
+  values_are_left_out : parts_of later.ins.value ≡ given.Value 3 shared ∷ given.First ∷ given.Nothing ∷ [] → later.parts ≡ From 3 ∷ First ∷ Nothing ∷ []
+  values_are_left_out is = later.same ∙ ap (map given_part) is
 
-  start_and_end : entries_of (Ended ended) ≡ record { place = 0; entry = Start 0 Source (parts_in ins) } ∷ record { place = 1; entry = End 0 (0 ∷ []) false } ∷ []
+  start_and_end : entries_of (Ended ended) ≡ record { place = 0; entry = Start 0 Source found.parts } ∷ record { place = 1; entry = End 0 (0 ∷ []) false } ∷ []
   start_and_end = refl
 
   value_at_its_end : recorded_values (Ended ended) ≡ record { place = 1; value = shared } ∷ []
@@ -283,39 +287,54 @@ module _ (shared : Arc ℕ Global) (ins : Ins ℕ) where
   no_value_of_a_fault : recorded_values (Faulted failure) ≡ []
   no_value_of_a_fault = refl
 
-  inputs_at_its_start : found_inputs (Ended ended) ≡ record { place = 0; ins = ins } ∷ []
-  inputs_at_its_start = refl
+  taken_in_their_order : (k : KeeperState ℕ) → (keeper_with k (Ended ended ∷ []) (2 ∷ k.found)).fates ≡ k.fates ++ Ended ended ∷ []
+  taken_in_their_order k = refl
 
-  inputs_of_a_fault : found_inputs (Faulted failure) ≡ record { place = 0; ins = ins } ∷ []
-  inputs_of_a_fault = refl
+  -- the End at place 1 has the value shared, and the start at place 2 found these parts
+  abbrev kept : List (Fate ℕ)
+  kept = Ended ended ∷ Faulted failure ∷ []
 
-  values_in_their_order : (k : KeeperState ℕ) → (keeper_with k (Ended ended) (2 ∷ k.found)).values ≡ k.values ++ record { place = 1; value = shared } ∷ []
-  values_in_their_order k = refl
+  entries_in_their_order : map (λ (r : Recorded). r.place) (entries_told kept) ≡ 0 ∷ 1 ∷ 2 ∷ 3 ∷ []
+  entries_in_their_order = refl
 
-  -- the End at place 1 has the value shared, and the start at place 2 found these inputs
-  abbrev kept : TableId → KeeperState ℕ
-  kept n = keeper_state n [] (record { place = 1; value = shared } ∷ []) (record { place = 2; ins = ins } ∷ []) []
+  found_the_value_of_the_end : parts_of found.ins.value ≡ [] → parts_of later.ins.value ≡ given.Value 1 shared ∷ [] → AgreeOnValues kept
+  found_the_value_of_the_end none is = record {
+    value_at = λ m. Some (arc_value shared);
+    all = (
+      refl,
+      subst (λ l. AreValues (λ m. Some (arc_value shared)) (values_in l ++ (values_in (parts_of later.ins.value) ++ []))) (sym none)
+          (subst (λ l. AreValues (λ m. Some (arc_value shared)) (values_in l ++ [])) (sym is) (refl, tt)),
+    );
+  }
 
-  found_the_value_of_the_end : (n : TableId) → parts_of ins ≡ given.Value 1 shared ∷ [] → AgreeOnValues (kept n)
-  found_the_value_of_the_end n is = record { value_at = λ m. Some (arc_value shared); all = (refl, subst (λ l. AreValues (λ m. Some (arc_value shared)) (values_in l ++ [])) (sym is) (refl, tt)) }
-
-  found_no_other_value : (n : TableId) (other : Arc ℕ Global) → parts_of ins ≡ given.Value 1 other ∷ [] → arc_value shared ≡ 7 → arc_value other ≡ 8 → AgreeOnValues (kept n) → ⊥
-  found_no_other_value n other is seven eight agree =
-      let second : slice_get (record { place = 1; value = arc_value shared } ∷ (values_in (parts_of ins) ++ [])) 1 ≡ Some (record { place = 1; value = arc_value other }) =
-      ap (λ l. slice_get (record { place = 1; value = arc_value shared } ∷ (values_in l ++ [])) 1) is in
+  found_no_other_value : (other : Arc ℕ Global) → parts_of found.ins.value ≡ [] → parts_of later.ins.value ≡ given.Value 1 other ∷ [] → arc_value shared ≡ 7 → arc_value other ≡ 8 → AgreeOnValues kept → ⊥
+  found_no_other_value other none is seven eight agree =
+      let second : slice_get (record { place = 1; value = arc_value shared } ∷ values_in (parts_of found.ins.value) ++ (values_in (parts_of later.ins.value) ++ [])) 1 ≡ Some (record { place = 1; value = arc_value other }) =
+      (λ i. slice_get (record { place = 1; value = arc_value shared } ∷ values_in (none i) ++ (values_in (is i) ++ [])) 1) in
       let same = values_agree _ 0 1 (record { place = 1; value = arc_value shared }) (record { place = 1; value = arc_value other }) agree refl second refl in omega (arith, same, seven, eight)
 
-  kept_for_its_entries : FitsEntries (entries_of (Ended ended)) (record { place = 1; value = shared } ∷ []) (record { place = 0; ins = ins } ∷ [])
-  kept_for_its_entries = record { values_are = refl; inputs_are = refl }
+  -- A FINISHED RUN
+  a_value_for_its_end : AreEndValues (Ended ended ∷ []) (Start 0 Source [] ∷ End 0 (0 ∷ []) false ∷ []) (record { place = 1; value = shared } ∷ [])
+  a_value_for_its_end = let rows : List (RecordedValue ℕ) = record { place = 1; value = shared } ∷ [] in record { places = refl; told = All-from_recursion (Contains rows) rows ((0, omega arith, refl), tt) }
 
-  no_value_is_left_out : FitsEntries (entries_of (Ended ended)) [] (record { place = 0; ins = ins } ∷ []) → ⊥
-  no_value_is_left_out fits = omega (arith, ap length fits.values_are)
+  no_value_is_left_out : AreEndValues (Ended ended ∷ []) (Start 0 Source [] ∷ End 0 (0 ∷ []) false ∷ []) [] → ⊥
+  no_value_is_left_out are = omega (arith, ap length are.places)
 
-  no_value_without_an_end : FitsEntries (entries_of (Faulted failure)) (record { place = 1; value = shared } ∷ []) (record { place = 0; ins = ins } ∷ []) → ⊥
-  no_value_without_an_end fits = omega (arith, ap length fits.values_are)
+  no_value_without_an_end : AreEndValues (Ended ended ∷ []) (Start 0 Source [] ∷ Fault 0 Inner ∷ []) (record { place = 1; value = shared } ∷ []) → ⊥
+  no_value_without_an_end are = omega (arith, ap length are.places)
 
-  no_inputs_at_another_place : FitsEntries (entries_of (Ended ended)) (record { place = 1; value = shared } ∷ []) (record { place = 2; ins = ins } ∷ []) → ⊥
-  no_inputs_at_another_place fits = omega (arith, ap (λ l. slice_index (map (λ p. p.0) l) 0) fits.inputs_are)
+  no_value_at_another_place : AreEndValues (Ended ended ∷ []) (Start 0 Source [] ∷ End 0 (0 ∷ []) false ∷ []) (record { place = 0; value = shared } ∷ []) → ⊥
+  no_value_at_another_place are = omega (arith, ap (λ l. slice_index l 0) are.places)
+
+  no_value_of_another_end : (other : Arc ℕ Global) → AreEndValues (Ended ended ∷ []) (Start 0 Source [] ∷ End 0 (0 ∷ []) false ∷ []) (record { place = 1; value = other } ∷ []) → shared ≡ other
+  no_value_of_another_end other are = let there = are.told 0 (record { place = 1; value = other }) (omega arith) in by_place there.0 there.1 there.2
+    where
+      row : RecordedValue ℕ
+      row = record { place = 1; value = other }
+
+      by_place : (k : ℕ) → k < 1 → slice_index_or (values_told (Ended ended ∷ [])) k row ≡ row → shared ≡ other
+      by_place zero below is = ap (λ (r : RecordedValue ℕ). r.value) is
+      by_place (suc k) below is = absurd (omega (arith, below))
 
   no_place_twice : Merges (entries_of (Ended other_ended)) (Start 0 Source [] ∷ []) → ⊥
   no_place_twice m = omega (arith, m.each 0 (omega arith))

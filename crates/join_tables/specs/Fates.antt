@@ -8,7 +8,7 @@ use Rattle.join_tables.specs.States.{TurnState, RunningState}
 
 -- this start faulted, for this reason
 abbrev pub FaultedAs : {V : Type 0} → RunningState V → Why → Fate V → Type 0
-FaultedAs r why (Faulted f) = (f.task ≡ r.task) × (f.cause ≡ r.cause) × (f.start ≡ r.place) × (f.ins ≡ r.ins) × (f.why ≡ why)
+FaultedAs r why (Faulted f) = (f.task ≡ r.task) × (f.cause ≡ r.cause) × (f.start ≡ r.place) × (f.found.ins.value ≡ r.ins) × (f.why ≡ why)
 FaultedAs r why _ = ⊥
 
 -- this release was dropped, for this reason

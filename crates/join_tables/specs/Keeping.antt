@@ -11,28 +11,23 @@ use Rattle.journal_rules.specs.declared.entry.Entry.TheVariants.{Start, End, Fau
 use Rattle.journal_rules.specs.ShapeLegal.{ShapeLegal, MeetsDataRule}
 use Rattle.journal_rules.specs.Complete.{Complete}
 use Rattle.table_steps.specs.Values.{HaveOneValueEach}
-use Rattle.join_tables.specs.Parts.{parts_in}
-use Rattle.join_tables.specs.Values.{end_values, input_values}
+use Rattle.join_tables.specs.Values.{values_known}
 use Rattle.join_tables.specs.declared.fates.Dropping.{Dropping}
 use Rattle.join_tables.specs.declared.fates.Fate.{Fate}
 use Rattle.join_tables.specs.declared.fates.Fate.TheVariants.{Ended, Faulted, Dropped, AllDropped}
 use Rattle.join_tables.specs.declared.keeper.Recorded.{Recorded}
-use Rattle.join_tables.specs.declared.keeper.RecordedValue.{RecordedValue}
-use Rattle.join_tables.specs.declared.keeper.RecordedInputs.{RecordedInputs}
 use Rattle.join_tables.specs.declared.keeper.Remaining.{Remaining}
 use Rattle.join_tables.specs.declared.keeper.Remaining.TheVariants.{More, All as AllTaken}
 
--- a keeper's table, the entries, the values of Ends and the inputs of starts that it has, in the order in which it took them
--- in, and how many live turns it found each time that it took one off, the newest first
+-- a keeper's table, the fates of the turns that it took in, in that order, and how many live turns it found each time that it
+-- took one off, the newest first
 pub record KeeperState (V : Type 0) : Type 0 where
   pub table : TableId
-  pub entries : List Recorded
-  pub values : List (RecordedValue V)
-  pub inputs : List (RecordedInputs V)
+  pub fates : List (Fate V)
   pub found : List ℕ
 
-abbrev pub keeper_state : {V : Type 0} → TableId → List Recorded → List (RecordedValue V) → List (RecordedInputs V) → List ℕ → KeeperState V
-keeper_state n entries values inputs found = record { table = n; entries = entries; values = values; inputs = inputs; found = found }
+abbrev pub keeper_state : {V : Type 0} → TableId → List (Fate V) → List ℕ → KeeperState V
+keeper_state n fates found = record { table = n; fates = fates; found = found }
 
 -- the entry of a Start
 abbrev pub start_of : ℕ → ℕ → Cause → List Part → Recorded
@@ -44,50 +39,26 @@ drop_of d = record { place = d.place; entry = Drop d.task d.cause d.why }
 
 -- the entries of a turn that is done; those of a rest begin with the newest
 abbrev pub entries_of : {V : Type 0} → Fate V → List Recorded
-entries_of (Ended ended) = start_of ended.start ended.task ended.cause (parts_in ended.ins) ∷ record { place = ended.place; entry = End ended.start ended.gives ended.inner } ∷ []
-entries_of (Faulted f) = start_of f.start f.task f.cause (parts_in f.ins) ∷ record { place = f.place; entry = Fault f.start f.why } ∷ []
+entries_of (Ended ended) = start_of ended.start ended.task ended.cause ended.found.parts ∷ record { place = ended.place; entry = End ended.start ended.gives ended.inner } ∷ []
+entries_of (Faulted f) = start_of f.start f.task f.cause f.found.parts ∷ record { place = f.place; entry = Fault f.start f.why } ∷ []
 entries_of (Dropped d) = drop_of d ∷ []
 entries_of (AllDropped drops) = map drop_of (reverse drops.items)
 
--- the value of its End, if it has one
-abbrev pub recorded_values : {V : Type 0} → Fate V → List (RecordedValue V)
-recorded_values (Ended ended) = record { place = ended.place; value = ended.value } ∷ []
-recorded_values _ = []
+-- and those of several turns
+abbrev pub entries_told : {V : Type 0} → List (Fate V) → List Recorded
+entries_told fates = flat_map entries_of fates
 
--- what its start found, if it has one
-abbrev pub found_inputs : {V : Type 0} → Fate V → List (RecordedInputs V)
-found_inputs (Ended ended) = record { place = ended.start; ins = ended.ins } ∷ []
-found_inputs (Faulted f) = record { place = f.start; ins = f.ins } ∷ []
-found_inputs _ = []
+-- Where a start found the value of an End that is told too, it is the value with which that End was ended.
+abbrev pub AgreeOnValues : {V : Type 0} → List (Fate V) → Type 0
+AgreeOnValues fates = HaveOneValueEach (values_known fates)
 
--- the places of the Starts among these entries, with the parts that they found
-abbrev pub start_if : ℕ → Entry → List (ℕ × List Part)
-start_if n (Start t cause ins) = (n, ins) ∷ []
-start_if n _ = []
+-- a keeper that took in the turns that these fates are of, and has then found these numbers
+abbrev pub keeper_with : {V : Type 0} → KeeperState V → List (Fate V) → List ℕ → KeeperState V
+keeper_with k fates found = keeper_state k.table (k.fates ++ fates) found
 
-abbrev pub starts_in : List Recorded → List (ℕ × List Part)
-starts_in entries = flat_map (λ (r : Recorded). start_if r.place r.entry) entries
-
--- and those of the Ends
-abbrev pub end_if : ℕ → Entry → List ℕ
-end_if n (End start gives inner) = n ∷ []
-end_if n _ = []
-
-abbrev pub ends_in : List Recorded → List ℕ
-ends_in entries = flat_map (λ (r : Recorded). end_if r.place r.entry) entries
-
--- A keeper has the inputs of each Start among its entries, and the value of each End.
-pub record FitsEntries {V : Type 0} (entries : List Recorded) (values : List (RecordedValue V)) (inputs : List (RecordedInputs V)) : Type 0 where
-  pub values_are : map (λ (r : RecordedValue V). r.place) values ≡ ends_in entries
-  pub inputs_are : map (λ (r : RecordedInputs V). (r.place, parts_in r.ins)) inputs ≡ starts_in entries
-
--- Where a start found the value of an End that the keeper has too, it is the value with which that End was ended.
-abbrev pub AgreeOnValues : {V : Type 0} → KeeperState V → Type 0
-AgreeOnValues k = HaveOneValueEach (end_values k.values ++ input_values k.inputs)
-
--- a keeper that took in a turn that is done, and has then found these numbers
-abbrev pub keeper_with : {V : Type 0} → KeeperState V → Fate V → List ℕ → KeeperState V
-keeper_with k fate found = keeper_state k.table (k.entries ++ entries_of fate) (k.values ++ recorded_values fate) (k.inputs ++ found_inputs fate) found
+-- entries as pairs, each with its place
+abbrev pub with_places : List Recorded → List (ℕ × Entry)
+with_places entries = map (λ (r : Recorded). (r.place, r.entry)) entries
 
 -- A journal has each of these entries at its place, and each of its places is named once.
 pub record Merges (entries : List Recorded) (journal : List Entry) : Type 0 where

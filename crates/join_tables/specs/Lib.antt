@@ -1,4 +1,5 @@
 pub mod Parts
+pub mod Inputs
 pub mod Values
 pub mod States
 pub mod Findings
@@ -8,6 +9,9 @@ pub mod Claims
 pub mod Turns
 pub mod Fates
 pub mod Keeping
+pub mod Finishing
+pub mod Batches
+pub mod Shares
 pub mod Openings
 pub mod RestStates
 pub mod Rests

@@ -39,7 +39,7 @@ Admits limit t (Halted turn) = (turn ≡ turn_with t.table t.task t.cause (Some 
 
 -- the run of a start that ended with this value and gives these edges
 abbrev pub EndedAs : {V : Type 0} → RunningState V → List ℕ → V → Bool → EndedStart V → Type 0
-EndedAs r gives value inner ended = (ended.task ≡ r.task) × (ended.cause ≡ r.cause) × (ended.start ≡ r.place) × (ended.ins ≡ r.ins) × (arc_value ended.value ≡ value) × (ended.gives ≡ gives) × (ended.inner ≡ inner)
+EndedAs r gives value inner ended = (ended.task ≡ r.task) × (ended.cause ≡ r.cause) × (ended.start ≡ r.place) × (ended.found.ins.value ≡ r.ins) × (arc_value ended.value ≡ value) × (ended.gives ≡ gives) × (ended.inner ≡ inner)
 
 -- the cause of the release that a token of an edge makes
 abbrev pub cause_of : Bool → ℕ → Cause

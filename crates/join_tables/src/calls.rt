@@ -1,30 +1,35 @@
 // The calls that take a release to its start, and a start to its end and the releases that follow. None waits, and only
 // `room_for` takes memory.
-ghost use Rattle.std.specs.Prelude.{◌≡◌, ◌≢◌, ◌<◌, ◌≤◌, ◌+◌, ◌∷◌, ℕ, List, IfOk, IfErr, IfSome, IsTrue, is_some, [], length, slice_get};
+ghost use Rattle.std.specs.Prelude.{◌≡◌, ◌≢◌, ◌<◌, ◌≤◌, ◌+◌, ◌∷◌, ℕ, List, IfOk, IfSome, IsTrue, is_some, [], length, slice_get};
 ghost use Rattle.std.specs.Arc.{arc_value};
 ghost use Rattle.task_graph.specs.Net.{is_weak};
-ghost use Rattle.join_words.specs.Ins.{parts_of, room_of};
+ghost use Rattle.join_tables.specs.Inputs.{given_in, parts_found, room_in};
 ghost use Rattle.journal_rules.specs.DataRule.{edges_of};
 ghost use Rattle.journal_rules.specs.declared.entry.Cause.TheVariants.{Strong};
 ghost use Rattle.join_tables.specs.Findings.{CountsEdge, TakesToken, GivesToken};
+ghost use Rattle.table_steps.specs.OneJournal.{AreInOneJournal};
+ghost use Rattle.table_steps.specs.Releases.{MayBeReleased};
 ghost use Rattle.table_steps.specs.Values.{Knows, ended_with, values_in};
 ghost use Rattle.join_tables.specs.Parts.{parts_in};
 ghost use Rattle.join_tables.specs.States.{fresh_state, collecting_state, running_state};
+ghost use Rattle.join_tables.specs.declared.fates.Fate.TheVariants.{Ended};
+ghost use Rattle.join_tables.specs.Keeping.{entries_of, start_of, with_places};
 ghost use Rattle.join_tables.specs.Turns.{CollectsFrom, GivesNext, EndedAs, release_cause};
 ghost use Rattle.table_steps.specs.Giving.{MayEndGiving, target};
 ghost use Rattle.table_steps.specs.Holding.{HoldsEachUnit, PutsAll};
 ghost use Rattle.join_tables.specs.Claims.{BeginsUnits, HasAllUnits, HasCredited, HasClaimed};
-ghost use Rattle.table_steps.specs.inside.Accounts.{FitsRelease};
 ghost use Rattle.table_steps.specs.inside.Kinds.{CountsNext, AreNoneLeft, others_of, kept_back, without_count};
 ghost use Rattle.join_tables.specs.inside.Seated.{OwesFirst, OwesToken, paid, paid_token, HasMade, collecting_view, taken_in, left_in};
 ghost use Rattle.join_tables.specs.inside.Collects.{CollectsOne};
 
 use crate::fates::Fate;
+use crate::parts::Inputs;
+use crate::shares::SharedValue;
 use crate::turns::{
     Collected, Collecting, EndedStart, Fresh, Gave, NetTable, Owing, Running, Spent, StartTicket,
     Turn,
 };
-use join_words::{Given, Ins};
+use join_words::Given;
 use journal_rules::Cause;
 use outside_io::{List, NoMemory};
 use std::alloc::Global;
@@ -47,12 +52,12 @@ struct Target {
 
 impl<V: Drop> NetTable<V> {
     /// Takes up a release, and sets its task's join word again where its strong in-edges released it.
-    /// `ins` has no part yet, and room for a part of each of its edges.
+    /// `inputs` has nothing yet, and room for what is found at each of its edges.
     #[tactic(auto, using(table_steps::proofs::Values::knows_none))]
-    pub fn reset(&self, fresh: Fresh<V>, ins: Ins<V>) -> Collecting<V>
+    pub fn reset(&self, fresh: Fresh<V>, inputs: Inputs<V>) -> Collecting<V>
         requires table { fresh.table ≡ self.now.table }
-        requires empty { parts_of ins ≡ [] }
-        requires room { length (edges_of self.now.net fresh.task fresh.cause) ≤ room_of ins }
+        requires empty { given_in inputs ≡ [] }
+        requires room { length (edges_of self.now.net fresh.task fresh.cause) ≤ room_in inputs }
         ensures { result ≡ collecting_state self.now.table fresh.task fresh.cause (edges_of self.now.net fresh.task fresh.cause) [] }
     {
         let Fresh {
@@ -70,15 +75,15 @@ impl<V: Drop> NetTable<V> {
             task,
             cause,
             next: 0,
-            ins,
+            inputs,
         }
     }
 
-    /// No part yet, and room for a part of each edge of a release.
-    pub fn room_for(&self, alloc: Global, fresh: &mut Fresh<V>) -> Result<Ins<V>, NoMemory>
+    /// Nothing found yet, and room for what is found at each edge of a release.
+    pub fn room_for(&self, alloc: Global, fresh: &mut Fresh<V>) -> Result<Inputs<V>, NoMemory>
         requires { fresh.old.table ≡ self.now.table }
         ensures same { fresh.new ≡ fresh.old }
-        ensures room { IfOk result (λ ins. (parts_of ins ≡ []) × (length (edges_of self.now.net fresh.old.task fresh.old.cause) ≤ room_of ins)) }
+        ensures room { IfOk result (λ inputs. (given_in inputs ≡ []) × (length (edges_of self.now.net fresh.old.task fresh.old.cause) ≤ room_in inputs)) }
     {
         self.words.learn(&mut fresh.seat);
         let edges = match fresh.cause {
@@ -86,16 +91,19 @@ impl<V: Drop> NetTable<V> {
             Cause::Strong => self.words.net.strong_in(fresh.task).len(),
             Cause::Weak(_) => 1,
         };
-        Ins::with_room(alloc, edges)
+        Inputs::with_room(alloc, edges)
     }
 
-    /// Starts the task: draws the place of its Start. It has found a part at each edge of its release. Of the units that the
-    /// turn holds, the start gives those back at its end that the task puts too. The others are to be credited, and what the
-    /// task puts besides is to be claimed.
+    /// Starts the task: draws the place of its Start, which is then in a journal that is legal as far as the net decides. The
+    /// task is one of the net's, the cause may release it, and the start has found a part at each edge of its release. Of the
+    /// units that the turn holds, the start gives those back at its end that the task puts too. The others are to be credited,
+    /// and what the task puts besides is to be claimed.
     pub fn start(&self, ticket: StartTicket<V>) -> Running<V>
         requires table { ticket.table ≡ self.now.table }
         requires units { HoldsEachUnit self.now.net ticket.task ticket.held }
         ensures state { result ≡ running_state self.now.table ticket.task ticket.cause result.place result.ins result.units ticket.found }
+        ensures release { MayBeReleased self.now.net ticket.task ticket.cause }
+        ensures journal { AreInOneJournal self.now.net self.now.limit (with_places (start_of result.place ticket.task ticket.cause (parts_in result.ins) ∷ [])) }
         ensures parts { length (parts_in result.ins) ≡ length (edges_of self.now.net ticket.task ticket.cause) }
         ensures units { BeginsUnits self.now.net ticket.task result.units }
         ensures same { PutsAll self.now.net ticket.task → HasAllUnits self.now.net ticket.task ticket.held result.units }
@@ -104,28 +112,38 @@ impl<V: Drop> NetTable<V> {
             mut seat,
             task,
             cause,
-            ins,
+            inputs,
         } = ticket;
         self.words.learn(&mut seat);
         let place = self.words.draw_start(&mut seat);
+        self.words.learn(&mut seat);
         Running {
             seat,
             task,
             cause,
             place,
-            ins,
+            inputs,
         }
     }
 
     /// Ends a start that has credited and claimed all units that it had to: draws the place of its End, which has this value
-    /// and gives these edges. `inner` says that its work was a run of its own.
-    pub fn end(&self, running: Running<V>, gives: List<u32>, value: Arc<V>, inner: bool) -> Owing<V>
+    /// and gives these edges. Its Start and its End are then in a journal that is legal as far as the net decides. `inner`
+    /// says that its work was a run of its own.
+    pub fn end(
+        &self,
+        running: Running<V>,
+        gives: List<u32>,
+        value: SharedValue<V>,
+        inner: bool,
+    ) -> Owing<V>
         requires table { running.table ≡ self.now.table }
         requires fits { MayEndGiving self.now.net running.task gives inner }
+        requires shares { value.edges ≡ length gives }
         requires credits { HasCredited self.now.net running.task running.units }
         requires claims { HasClaimed self.now.net running.task running.units }
         ensures table { result.table ≡ self.now.table }
-        ensures ended { EndedAs running gives (arc_value value) inner result.ended }
+        ensures ended { EndedAs running gives value.value inner result.ended }
+        ensures journal { AreInOneJournal self.now.net self.now.limit (with_places (entries_of (Ended result.ended))) }
         ensures left { result.left ≡ gives }
         ensures units { result.units ≡ running.units.back }
         ensures found { result.found ≡ running.found }
@@ -135,14 +153,17 @@ impl<V: Drop> NetTable<V> {
             task,
             cause,
             place: start,
-            ins,
+            inputs,
         } = running;
+        let SharedValue { value, shares } = value;
+        let found = inputs.without_values();
         let place = self.words.draw_end(&mut seat, &gives, inner, &value);
+        self.words.learn(&mut seat);
         let ended = EndedStart {
             task,
             cause,
             start,
-            ins,
+            found,
             value,
             place,
             gives,
@@ -152,6 +173,7 @@ impl<V: Drop> NetTable<V> {
             seat,
             ended,
             next: 0,
+            shares,
         }
     }
 
@@ -168,9 +190,9 @@ impl<V: Drop> NetTable<V> {
             task,
             cause,
             next,
-            mut ins,
+            mut inputs,
         } = collecting;
-        let (made, is_last) = match self.collect_one(&mut seat, task, cause, next, &mut ins) {
+        let (made, is_last) = match self.collect_one(&mut seat, task, cause, next, &mut inputs) {
             Step::NoneLeft => (None, true),
             Step::Taken(made, is_last) => (made, is_last),
         };
@@ -180,14 +202,14 @@ impl<V: Drop> NetTable<V> {
                 task,
                 cause,
                 next: next + 1,
-                ins,
+                inputs,
             });
         }
         let turn = Turn {
             seat,
             task,
             cause,
-            ins,
+            inputs,
         };
         match made {
             Some(fresh) => Collected::LastAgain(turn, fresh),
@@ -195,38 +217,38 @@ impl<V: Drop> NetTable<V> {
         }
     }
 
-    /// Shares the End's value with the slot of the next edge that it owes, in one try, and then gives the edge a token. Where
-    /// another turn holds the slot, the value is left away. It counts the token at its target where it is the first of a
-    /// strong edge. `Err` hands the turn back as it was, where its value can't be shared once more; as of an allocation, no
-    /// clause says when.
+    /// Gives the slot of the next edge that it owes an owner of the End's value, in one try, and then gives the edge a token.
+    /// Where another turn holds the slot, the value is left away. It counts the token at its target where it is the first of
+    /// a strong edge.
     #[tactic(auto, using(table_steps::proofs::Values::knows_again))]
-    pub fn give(&self, owing: Owing<V>) -> Result<Gave<V>, Owing<V>>
+    pub fn give(&self, owing: Owing<V>) -> Gave<V>
         requires table { owing.table ≡ self.now.table }
         requires no_unit { owing.units ≡ [] }
-        ensures ok { IfOk result (GivesNext self.now.net owing owing.left) }
-        ensures err { IfErr result (λ same. same ≡ owing) }
+        ensures { GivesNext self.now.net owing owing.left result }
     {
         let Owing {
             mut seat,
             ended,
             next,
+            mut shares,
         } = owing;
         let Some(edge) = ended.gives.get(next).copied() else {
             let fate = Fate::Ended(ended);
-            return Ok(Gave::Finished(Spent { seat, fate }));
+            return Gave::Finished(Spent { seat, fate });
         };
-        let Ok(value) = Arc::try_clone(&ended.value) else {
-            return Err(Owing { seat, ended, next });
+        let Some(value) = shares.pop() else {
+            unreachable!()
         };
         let made = self.give_edge(&mut seat, edge, ended.place, value);
         let owing = Owing {
             seat,
             ended,
             next: next + 1,
+            shares,
         };
         match made {
-            Some(fresh) => Ok(Gave::Released(owing, fresh)),
-            None => Ok(Gave::Next(owing)),
+            Some(fresh) => Gave::Released(owing, fresh),
+            None => Gave::Next(owing),
         }
     }
 
@@ -326,26 +348,26 @@ impl<V: Drop> NetTable<V> {
         task: u32,
         cause: Cause,
         next: usize,
-        ins: &mut Ins<V>,
+        inputs: &mut Inputs<V>,
     ) -> Step<V>
         requires table { seat.old.table_id ≡ self.now.table }
-        requires view { seat.old.me ≡ (collecting_view task cause (taken_in seat.old.me.0) (parts_in ins.old) (left_in seat.old.me.0), []) }
-        requires known { Knows seat.old.values (values_in (parts_of ins.old)) }
+        requires view { seat.old.me ≡ (collecting_view task cause (taken_in seat.old.me.0) (parts_found inputs.old) (left_in seat.old.me.0), []) }
+        requires known { Knows seat.old.values (values_in (given_in inputs.old)) }
         requires next { next ≡ length (taken_in seat.old.me.0) }
-        requires parts { length (parts_in ins.old) ≡ length (taken_in seat.old.me.0) }
-        requires room { length (parts_in ins.old) + length (left_in seat.old.me.0) ≤ room_of ins.old }
+        requires parts { length (parts_found inputs.old) ≡ length (taken_in seat.old.me.0) }
+        requires room { length (parts_found inputs.old) + length (left_in seat.old.me.0) ≤ room_in inputs.old }
         ensures table { seat.new.table_id ≡ seat.old.table_id }
         ensures home { seat.new.me.1 ≡ [] }
-        ensures known { Knows seat.new.values (values_in (parts_of ins.new)) }
+        ensures known { Knows seat.new.values (values_in (given_in inputs.new)) }
         ensures few { next < 4294967296 }
-        ensures step { CollectsOne self.now.table task cause (taken_in seat.old.me.0) (left_in seat.old.me.0) ins.old seat.old.found result seat.new.me.0 ins.new seat.new.found }
+        ensures step { CollectsOne self.now.table task cause (taken_in seat.old.me.0) (left_in seat.old.me.0) inputs.old seat.old.found result seat.new.me.0 inputs.new seat.new.found }
     {
         self.words.learn(seat);
         let Some(edge) = self.edge_at(task, cause, next) else {
             return Step::NoneLeft;
         };
         let is_last = self.edge_at(task, cause, next + 1).is_none();
-        ins.add(self.words.fetch(seat, edge));
+        inputs.add(self.words.fetch(seat, edge));
         let found = self.words.take_token(seat, edge);
         let made = self.count_again(seat, task, cause, edge, found);
         Step::Taken(made, is_last)
@@ -394,7 +416,7 @@ impl<V: Drop> NetTable<V> {
 
     // The edge of a release at a place.
     fn edge_at(&self, task: u32, cause: Cause, place: usize) -> Option<u32>
-        requires { FitsRelease self.now.net task cause }
+        requires { MayBeReleased self.now.net task cause }
         ensures { result ≡ slice_get (edges_of self.now.net task cause) place }
     {
         match cause {

@@ -22,7 +22,7 @@ impl<V: Drop> NetTable<V> {
             task,
             cause,
             place,
-            ins,
+            inputs,
         } = running;
         self.words.add_credit(&mut seat, sem);
         Running {
@@ -30,7 +30,7 @@ impl<V: Drop> NetTable<V> {
             task,
             cause,
             place,
-            ins,
+            inputs,
         }
     }
 
@@ -51,7 +51,7 @@ impl<V: Drop> NetTable<V> {
             task,
             cause,
             place,
-            ins,
+            inputs,
         } = running;
         let found = self.words.draw_claim(&mut seat, sem);
         if found > FIRST_CREDIT {
@@ -60,7 +60,7 @@ impl<V: Drop> NetTable<V> {
                 task,
                 cause,
                 place,
-                ins,
+                inputs,
             });
         }
         self.words.undo_claim(&mut seat, sem);
@@ -69,7 +69,7 @@ impl<V: Drop> NetTable<V> {
             task,
             cause,
             place,
-            ins,
+            inputs,
         })
     }
 }

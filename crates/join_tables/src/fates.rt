@@ -1,6 +1,6 @@
 // What becomes of the releases of a table.
+use crate::parts::FoundParts;
 use crate::turns::EndedStart;
-use join_words::Ins;
 use journal_rules::{Cause, DropWhy, Why};
 
 /// A start of a task that faulted: its place in the journal, what it found, and the place of its Fault.
@@ -9,7 +9,7 @@ pub struct Failure<V> {
     pub task: u32,
     pub cause: Cause,
     pub start: u64,
-    pub ins: Ins<V>,
+    pub found: FoundParts<V>,
     pub place: u64,
     pub why: Why,
 }

@@ -3,6 +3,8 @@ ghost use Rattle.std.specs.Prelude.{◌≡◌, Some, None, []};
 ghost use Rattle.join_tables.specs.Turns.{Admits};
 ghost use Rattle.join_tables.specs.Fates.{FaultedAs, DroppedAs};
 ghost use Rattle.join_tables.specs.Claims.{HasCredited};
+ghost use Rattle.join_tables.specs.Keeping.{entries_of, with_places};
+ghost use Rattle.table_steps.specs.OneJournal.{AreInOneJournal};
 ghost use Rattle.table_steps.specs.Reasons.{MayTell};
 ghost use Rattle.table_steps.specs.Holding.{HoldsEachUnit};
 
@@ -24,14 +26,14 @@ impl<V: Drop> NetTable<V> {
             mut seat,
             task,
             cause,
-            ins,
+            inputs,
         } = turn;
         if self.words.load_halt(&mut seat) != 0 {
             return Admitted::Halted(Turn {
                 seat,
                 task,
                 cause,
-                ins,
+                inputs,
             });
         }
         let drawn = self.words.draw_admission(&mut seat);
@@ -40,20 +42,21 @@ impl<V: Drop> NetTable<V> {
                 seat,
                 task,
                 cause,
-                ins,
+                inputs,
             });
         }
         Admitted::Over(Turn {
             seat,
             task,
             cause,
-            ins,
+            inputs,
         })
     }
 
     /// Faults a start that has credited all units that it had to: draws the place of its Fault, and then sets the halt
-    /// mark. A Fault gives no edge and no unit back, so nothing is owed after it. Its reason may be an
-    /// over-release of a semaphore only where the start's claim of it was refused.
+    /// mark. Its Start and its Fault are then in a journal that is legal as far as the net decides. A Fault gives no edge and
+    /// no unit back, so nothing is owed after it. Its reason may be an over-release of a semaphore only where the start's
+    /// claim of it was refused.
     #[tactic(auto, using(table_steps::proofs::Values::knows_again))]
     pub fn fault(&self, running: Running<V>, why: Why) -> Spent<V>
         requires table { running.table ≡ self.now.table }
@@ -61,35 +64,38 @@ impl<V: Drop> NetTable<V> {
         requires why { MayTell why running.units.refused }
         ensures table { result.table ≡ self.now.table }
         ensures fate { FaultedAs running why result.fate }
+        ensures journal { AreInOneJournal self.now.net self.now.limit (with_places (entries_of result.fate)) }
     {
         let Running {
             mut seat,
             task,
             cause,
             place: start,
-            ins,
+            inputs,
         } = running;
         let place = self.words.draw_fault(&mut seat, why);
         self.words.set_halt(&mut seat);
+        self.words.learn(&mut seat);
         let fate = Fate::Faulted(Failure {
             task,
             cause,
             start,
-            ins,
+            found: inputs.without_values(),
             place,
             why,
         });
         Spent { seat, fate }
     }
 
-    /// Drops a release for the cause for which `admit` refused it: draws the place of its Drop. Nothing is owed after
-    /// it.
+    /// Drops a release for the cause for which `admit` refused it: draws the place of its Drop, which is then in a journal
+    /// that is legal as far as the net decides. Nothing is owed after it.
     pub fn drop_turn(&self, turn: Turn<V>, why: DropWhy) -> Spent<V>
         requires table { turn.table ≡ self.now.table }
         requires refused { turn.refused ≡ Some why }
         requires no_unit { turn.held ≡ [] }
         ensures table { result.table ≡ self.now.table }
         ensures fate { DroppedAs turn why result.fate }
+        ensures journal { AreInOneJournal self.now.net self.now.limit (with_places (entries_of result.fate)) }
     {
         let Turn {
             mut seat,
@@ -98,6 +104,7 @@ impl<V: Drop> NetTable<V> {
             ..
         } = turn;
         let place = self.words.draw_drop(&mut seat);
+        self.words.learn(&mut seat);
         let fate = Fate::Dropped(Dropping {
             task,
             cause,

@@ -1,16 +1,17 @@
 // The keeper of a run: it takes in the turns that are done.
-ghost use Rattle.std.specs.Prelude.{◌≡◌, ℕ, [], IfOk, OnOk, OnErr};
-ghost use Rattle.task_graph.specs.NetRows.{NetRows};
-ghost use Rattle.journal_rules.specs.ShapeLegal.{ShapeLegal, MeetsDataRule};
-ghost use Rattle.journal_rules.specs.Complete.{Complete};
+ghost use Rattle.std.specs.Prelude.{◌≡◌, Some, None, [], IfOk, OnOk, OnErr};
+ghost use Rattle.table_steps.specs.OneJournal.{AreInOneJournal};
+ghost use Rattle.join_tables.specs.Batches.{batch_state};
 ghost use Rattle.join_tables.specs.Findings.{FindsOne};
-ghost use Rattle.join_tables.specs.Keeping.{AgreeOnValues, FitsEntries, keeper_state, keeper_with, TellsRun, TellsSomeRun, Merges, LeavesOf, IsLast};
+ghost use Rattle.join_tables.specs.Finishing.{AreEndValues, IsRunTold};
+ghost use Rattle.join_tables.specs.Keeping.{AgreeOnValues, entries_told, keeper_state, keeper_with, with_places, TellsRun, TellsSomeRun, Merges, LeavesOf, IsLast};
 
+use crate::batch::SpentBatch;
+use crate::fates::Fate;
 use crate::merge::merged;
-use crate::recording::Records;
-use crate::turns::{NetTable, Spent};
-use join_words::Ins;
+use crate::turns::NetTable;
 use journal_rules::{Entry, Journal};
+use keyed_lock::Keyed;
 use outside_io::NoMemory;
 use std::alloc::Global;
 use std::marker::Model;
@@ -31,34 +32,42 @@ pub struct RecordedValue<V> {
     pub value: Arc<V>,
 }
 
-/// What the start found whose Start is at a place of the journal.
+/// The journal of a run that is finished, and the values of its Ends, in their order.
 #[derive(Drop)]
-pub struct RecordedInputs<V> {
-    pub place: u64,
-    pub ins: Ins<V>,
+pub struct FinishedRun<V> {
+    pub journal: Journal,
+    pub values: Vec<RecordedValue<V>>,
 }
 
-/// The entries of the turns that are done, with the values of the Ends and what the starts found.
+/// The fates of the turns that are done.
 #[derive(Drop)]
 pub struct Keeper<V> {
     alloc: Global,
     seat: TableSeat<V>,
-    records: Records<V>,
+    fates: Vec<Fate<V>>,
 }
 
 impl<V> Model for Keeper<V> {
-    ghost use Rattle.std.specs.Prelude.{◌≡◌, ◌++◌, []};
+    ghost use Rattle.std.specs.Prelude.{◌≡◌, []};
     ghost use Rattle.table_steps.specs.Values.{Knows, HaveOneValueEach};
-    ghost use Rattle.join_tables.specs.Values.{end_values, input_values};
-    ghost use Rattle.join_tables.specs.Keeping.{FitsEntries, KeeperState, keeper_state};
+    ghost use Rattle.join_tables.specs.Values.{values_known};
+    ghost use Rattle.join_tables.specs.Keeping.{KeeperState, keeper_state, entries_told};
     ghost use Rattle.table_steps.specs.inside.Accounts.{busy, weigh};
     ghost use Rattle.join_tables.specs.inside.Recording.{tellings, told_notes};
 
     ghost Value = { KeeperState V };
 
-    ghost view = { λ k. keeper_state k.seat.table_id k.records.entries.items k.records.values.items k.records.inputs.items k.seat.found };
+    ghost view = { λ k. keeper_state k.seat.table_id k.fates.items k.seat.found };
 
-    ghost invariant = { λ k. (k.seat.id ≡ 0) × (k.seat.me.1 ≡ []) × (tellings k.seat.me.0 ≡ told_notes k.records.entries.items) × (weigh busy k.seat.me.0 ≡ 0) × Knows k.seat.values (end_values k.records.values.items ++ input_values k.records.inputs.items) × HaveOneValueEach k.seat.values × FitsEntries k.records.entries.items k.records.values.items k.records.inputs.items };
+    ghost invariant = { λ k. (k.seat.id ≡ 0) × (k.seat.me.1 ≡ []) × (tellings k.seat.me.0 ≡ told_notes (entries_told k.fates.items)) × (weigh busy k.seat.me.0 ≡ 0) × Knows k.seat.values (values_known k.fates.items) × HaveOneValueEach k.seat.values };
+}
+
+impl<V> Keyed for Keeper<V> {
+    ghost use Rattle.atomic_table.specs.Seated.{TableId};
+
+    ghost Key = { TableId };
+
+    ghost key = { λ k. k.table };
 }
 
 /// Whether turns are left.
@@ -66,7 +75,7 @@ impl<V> Model for Keeper<V> {
 pub enum Remaining {
     /// Turns are left.
     More,
-    /// No turn was left but the one that was taken in: the run is finished.
+    /// No turn was left but those that were taken in: the run is finished.
     All,
 }
 
@@ -76,68 +85,59 @@ impl<V: Drop> Keeper<V> {
         requires keeper { seat.id ≡ 0 }
         requires view { seat.me ≡ ([], []) }
         requires values { seat.values ≡ [] }
-        ensures { result ≡ keeper_state seat.table_id [] [] [] seat.found }
+        ensures { result ≡ keeper_state seat.table_id [] seat.found }
     {
         Keeper {
             alloc,
             seat,
-            records: Records::new(alloc),
+            fates: Vec::new(alloc),
         }
     }
 
-    /// The entries, in the order in which their turns were taken in.
-    pub fn entries(&self) -> &[Recorded]
-        ensures { result.now ≡ self.now.entries }
+    /// The fates, in the order in which their turns were taken in.
+    pub fn fates(&self) -> &[Fate<V>]
+        ensures { result.now ≡ self.now.fates }
     {
-        self.records.entries.as_slice()
+        self.fates.as_slice()
     }
 
-    /// The values of the Ends, in the same order.
-    pub fn values(&self) -> &[RecordedValue<V>]
-        ensures { result.now ≡ self.now.values }
-    {
-        self.records.values.as_slice()
-    }
-
-    /// What the starts found, in the same order.
-    pub fn inputs(&self) -> &[RecordedInputs<V>]
-        ensures { result.now ≡ self.now.inputs }
-    {
-        self.records.inputs.as_slice()
-    }
-
-    /// Takes in a turn that is done, with its entries, the value of its End and what its start found. It answers `All` where
-    /// its own step found one live turn, and the entries are then those of a whole run. If an allocation fails, the keeper
-    /// stays as it was and the turn is lost: it is never taken off the live turns. It has the inputs of each Start and the
-    /// value of each End, and where a start found the value of an End that was taken in too, it is the value with which that
-    /// End was ended.
-    pub fn absorb(&mut self, table: &NetTable<V>, spent: Spent<V>) -> Result<Remaining, NoMemory>
+    /// Takes in the turns of a batch, which isn't empty. It answers `All` where its own step found one live turn, and the
+    /// fates are then those of a whole run. If an allocation fails, the keeper and the batch stay as they were. Whatever its
+    /// step found, the entries of all turns that it has taken in are in one journal that is legal as far as the net decides.
+    /// Where a start found the value of an End that was taken in too, it is the value with which that End was ended.
+    pub fn absorb(
+        &mut self,
+        table: &NetTable<V>,
+        batch: &mut SpentBatch<V>,
+    ) -> Result<Remaining, NoMemory>
         requires keeper { self.old.table ≡ table.now.table }
-        requires spent { spent.table ≡ table.now.table }
-        ensures ok { OnOk result (self.new ≡ keeper_with self.old spent.fate self.new.found) }
+        requires batch { batch.old.table ≡ Some table.now.table }
+        ensures ok { OnOk result (self.new ≡ keeper_with self.old batch.old.fates self.new.found) }
+        ensures taken { OnOk result (batch.new ≡ batch_state None [] batch.old.room) }
         ensures left { IfOk result (λ left. FindsOne (λ n. LeavesOf n left) self.old.found self.new.found) }
-        ensures err { OnErr result (self.new ≡ self.old) }
-        ensures fits { FitsEntries self.new.entries self.new.values self.new.inputs }
-        ensures agree { AgreeOnValues self.new }
-        ensures all { IsLast result → TellsRun table.now.net table.now.limit self.new.entries }
+        ensures err { OnErr result ((self.new ≡ self.old) × (batch.new ≡ batch.old)) }
+        ensures journal { OnOk result (AreInOneJournal table.now.net table.now.limit (with_places (entries_told self.new.fates))) }
+        ensures agree { AgreeOnValues self.new.fates }
+        ensures all { IsLast result → TellsRun table.now.net table.now.limit (entries_told self.new.fates) }
     {
-        let Spent { seat, fate } = spent;
-        self.records.add(self.alloc, fate)?;
-        Ok(Remaining::of(table.words.settle(&mut self.seat, seat)))
+        self.fates.append(&mut batch.fates)?;
+        let Some(spent) = batch.seat.take() else {
+            unreachable!()
+        };
+        Ok(Remaining::of(table.words.settle(&mut self.seat, spent)))
     }
 
-    /// The journal of a run that is finished: `All` was answered, or there was no release at first. It has each of the
-    /// keeper's entries at its place.
-    pub fn journal(self) -> Result<Journal, NoMemory>
-        requires { TellsSomeRun self.entries }
-        ensures merges { IfOk result (Merges self.entries) }
-        ensures fits { FitsEntries self.entries self.values self.inputs }
-        ensures agree { AgreeOnValues self }
-        ensures finished { IfOk result (λ journal. (net : NetRows) (limit : ℕ) → TellsRun net limit self.entries → ShapeLegal net limit journal × MeetsDataRule net journal × Complete net limit journal) }
+    /// The journal of a run that is finished, with the values of its Ends: `All` was answered, or there was no release at
+    /// first. The journal has each entry that the fates tell at its place. Nothing is copied.
+    pub fn finish(self) -> Result<FinishedRun<V>, NoMemory>
+        requires { TellsSomeRun (entries_told self.fates) }
+        ensures merges { IfOk result (λ run. Merges (entries_told self.fates) run.journal) }
+        ensures finished { IfOk result (λ run. IsRunTold self.fates run.journal) }
+        ensures values { IfOk result (λ run. AreEndValues self.fates run.journal run.values.items) }
+        ensures agree { AgreeOnValues self.fates }
     {
-        let Keeper { alloc, records, .. } = self;
-        let Records { entries, .. } = records;
-        merged(alloc, entries)
+        let Keeper { alloc, fates, .. } = self;
+        merged(alloc, fates)
     }
 }
 

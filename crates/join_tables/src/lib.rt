@@ -9,7 +9,14 @@
 //! A turn knows what it has still to do by a seat, which has no bytes: `Fresh` is a release, `Collecting` one whose
 //! tokens are being collected, `Turn` one that has all of them, `StartTicket` one that may start, `Running` a start
 //! that runs, `Owing` an end that owes tokens, and `Spent` a turn that owes none. Each call takes the turn and gives
-//! the next one, so no step can be made twice. A `Rest` has turns that wait for a unit.
+//! the next one, so no step can be made twice. A `Rest` has turns that wait for a unit, and a `SpentBatch` turns that owe
+//! none and are not yet with the keeper.
+//!
+//! # Memory
+//!
+//! Only `new`, `absorb`, `finish` and the calls that make what a turn needs take memory: `room_for` makes room for what the
+//! turn will find (`Inputs`), `SharedValue::new` an owner of its value for each edge that it will give, `SpentBatch::make_room`
+//! room for its fate, and `Rest::with_room` room for turns that wait. So from `reset` to `gather` no call can be refused.
 //!
 //! # The kinds of step
 //!
@@ -33,8 +40,10 @@
 //!   edge (token given). A token of a weak edge is a release. The first token of a strong
 //!   edge lowers its target's join word (edge counted), and who finds one there has made the last count: that is
 //!   the release. A release is counted among the live turns (turn added), then goes to a seat of its own (split).
-//! - `absorb` gives what a turn knows to the keeper (join), and takes it off the live turns (turn taken off). Who
-//!   finds one live turn there has taken in the last. `journal` then puts each entry at its place.
+//! - `gather` gives what a turn knows to another one's seat, that of a batch (join), and takes one of the two off the live
+//!   turns (turn taken off). It touches neither keeper nor lock, and never takes off the last.
+//! - `absorb` gives what the turns of a batch know to the keeper (join), and takes the one that is live off (turn taken
+//!   off). Who finds one live turn there has taken in the last. `finish` then puts each entry at its place.
 //! - `rest_add` gives what a turn knows to a rest (join), and `rest_pop` hands the last one out again (split).
 //!   `rest_check` reads the live turns (live load): a rest that finds the number of its own is alone, and then reads
 //!   the halt mark (halt load). `rest_full` reads for it how many units of a semaphore are taken (unit load).
@@ -51,10 +60,18 @@
 //!
 //! # The values
 //!
-//! The value of an End is shared, never copied: `end` takes it, `give` puts one more owner of it into the slot of each edge
+//! The value of an End is shared, never copied: `end` takes its owners, `give` puts one of them into the slot of each edge
 //! that the End gives, unless another turn holds that slot, and `collect` takes out what lies there. So a start finds at an
-//! edge the value of an End that gave it, the token with which the edge began, or nothing (`Ins`). The keeper has the value
-//! of each End that it took in, and what each start found.
+//! edge the value of an End that gave it, the token with which the edge began, or nothing (`Ins`). When it has ended only the
+//! parts are left of what it found (`FoundParts`), and contracts alone still know the values. The keeper has the value of
+//! each End that it took in.
+//!
+//! # The journal
+//!
+//! Nobody has the journal while a run goes on: each turn knows its own entries, and the keeper those of the turns that it
+//! took in. But there is one at each moment. `start`, `end`, `fault` and `drop_turn` ensure that the turn's entries are in one
+//! journal that is legal as far as the net decides and whose starts find what they may (`AreInOneJournal`), and `absorb`
+//! ensures it, where it takes the turns in, of all entries that the keeper has, the Drops of a rest among them.
 //!
 //! # Where its definitions are
 //!
@@ -65,24 +82,29 @@
 //! it found, by their places.
 #![tactic(auto)]
 
+mod batch;
 mod calls;
 mod credit_calls;
 mod fates;
+mod filed;
 mod halts;
 mod keeper;
 mod merge;
 mod opening;
 mod parts;
-mod recording;
 mod releases;
 mod rests;
+mod shares;
 mod turns;
 mod unit_calls;
 
+pub use batch::SpentBatch;
 pub use fates::{Dropping, Failure, Fate};
-pub use keeper::{Keeper, Recorded, RecordedInputs, RecordedValue, Remaining};
+pub use keeper::{FinishedRun, Keeper, Recorded, RecordedValue, Remaining};
 pub use opening::Opening;
+pub use parts::{FoundParts, Inputs};
 pub use rests::{Checked, Parked, Rest, RestDrop, UnitLook};
+pub use shares::SharedValue;
 pub use turns::{
     Admitted, Claim, Collected, Collecting, EndedStart, Fresh, Gave, NetTable, Owing, Running,
     Spent, StartTicket, Turn, UnitTake,

@@ -7,9 +7,10 @@ ghost use Rattle.table_steps.specs.inside.RestKinds.{MayPark, parked};
 ghost use Rattle.table_steps.specs.Values.{Knows};
 
 use crate::fates::{Dropping, Fate};
+use crate::parts::Inputs;
 use crate::turns::{NetTable, Spent, Turn};
-use join_words::Ins;
 use journal_rules::{Cause, DropWhy};
+use keyed_lock::Keyed;
 use outside_io::NoMemory;
 use std::alloc::Global;
 use std::marker::Model;
@@ -30,7 +31,7 @@ pub struct Rest<V> {
     seat: Option<TableSeat<V>>,
     turns: Vec<Parked>,
     // what the turns found
-    parts: Vec<Ins<V>>,
+    parts: Vec<Inputs<V>>,
     drops: Vec<Dropping>,
     room: usize,
 }
@@ -42,14 +43,23 @@ impl<V> Model for Rest<V> {
     ghost use Rattle.join_tables.specs.RestStates.{RestState, rest_with};
     ghost use Rattle.join_tables.specs.inside.Resting.{alone_in, full_in, IsRestView, RestParts};
     ghost use Rattle.table_steps.specs.Values.{Knows};
-    ghost use Rattle.join_tables.specs.Parts.{parts_in};
+    ghost use Rattle.join_tables.specs.Inputs.{parts_found};
     ghost use Rattle.join_tables.specs.Values.{found_values};
 
     ghost Value = { RestState };
 
     ghost view = { λ r. rest_with (option_map (λ s. s.table_id) r.seat) r.room r.turns.items r.drops.items (alone_in (option_map_or (λ s. s.me.0) r.seat [])) (full_in (option_map_or (λ s. s.me.0) r.seat [])) (option_map_or (λ s. s.found) r.seat []) };
 
-    ghost invariant = { λ r. IfSome r.seat (λ s. IsRestView r.turns.items r.drops.items s.me.0 × (s.me.1 ≡ []) × (r.turns.items ≢ []) × RestParts (map parts_in r.parts.items) s.me.0) × (IfNone r.seat ((r.turns.items ≡ []) × (r.drops.items ≡ []))) × (vec_len r.turns + vec_len r.drops ≤ r.room) × (r.room ≤ vec_capacity r.turns) × (r.room ≤ vec_capacity r.drops) × (vec_len r.parts ≡ vec_len r.turns) × (r.room ≤ vec_capacity r.parts) × (IfSome r.seat (λ s. Knows s.values (found_values r.parts.items))) };
+    ghost invariant = { λ r. IfSome r.seat (λ s. IsRestView r.turns.items r.drops.items s.me.0 × (s.me.1 ≡ []) × (r.turns.items ≢ []) × RestParts (map parts_found r.parts.items) s.me.0) × (IfNone r.seat ((r.turns.items ≡ []) × (r.drops.items ≡ []))) × (vec_len r.turns + vec_len r.drops ≤ r.room) × (r.room ≤ vec_capacity r.turns) × (r.room ≤ vec_capacity r.drops) × (vec_len r.parts ≡ vec_len r.turns) × (r.room ≤ vec_capacity r.parts) × (IfSome r.seat (λ s. Knows s.values (found_values r.parts.items))) };
+}
+
+impl<V> Keyed for Rest<V> {
+    ghost use Rattle.std.specs.Prelude.{Option};
+    ghost use Rattle.atomic_table.specs.Seated.{TableId};
+
+    ghost Key = { Option TableId };
+
+    ghost key = { λ r. r.table };
 }
 
 /// What checking a rest led to.
@@ -136,7 +146,7 @@ impl<V: Drop> NetTable<V> {
             seat: own,
             task,
             cause,
-            ins,
+            inputs,
         } = turn;
         let Rest {
             seat,
@@ -146,8 +156,8 @@ impl<V: Drop> NetTable<V> {
             room,
         } = rest;
         turns.push_reserved(Parked { task, cause });
-        parts.push_reserved(ins);
-        let seat = self.gather(seat, own);
+        parts.push_reserved(inputs);
+        let seat = self.join_rest(seat, own);
         Rest {
             seat: Some(seat),
             turns,
@@ -159,7 +169,7 @@ impl<V: Drop> NetTable<V> {
 
     // Gives what a turn's seat knows to the seat of a rest, which is the turn's own where the rest has none.
     #[tactic(auto, using(table_steps::proofs::Values::knows_self, table_steps::proofs::Values::knows_none))]
-    fn gather(&self, seat: Option<TableSeat<V>>, own: TableSeat<V>) -> TableSeat<V>
+    fn join_rest(&self, seat: Option<TableSeat<V>>, own: TableSeat<V>) -> TableSeat<V>
         requires table { IfSome seat (λ s. s.table_id ≡ self.now.table) × (own.table_id ≡ self.now.table) }
         requires home { IfSome seat (λ s. s.me.1 ≡ []) × (own.me.1 ≡ []) }
         requires ready { IfSome seat (λ s. MayPark s.me.0 own.me.0) }
@@ -192,7 +202,7 @@ impl<V: Drop> NetTable<V> {
         let Some(Parked { task, cause }) = turns.pop() else {
             unreachable!()
         };
-        let Some(ins) = parts.pop() else {
+        let Some(inputs) = parts.pop() else {
             unreachable!()
         };
         let own = self.words.hand_out(&mut seat);
@@ -207,7 +217,7 @@ impl<V: Drop> NetTable<V> {
             seat: own,
             task,
             cause,
-            ins,
+            inputs,
         };
         (rest, turn)
     }
@@ -301,7 +311,7 @@ impl<V: Drop> NetTable<V> {
         let Some(Parked { task, cause }) = turns.pop() else {
             unreachable!()
         };
-        let Some(_ins) = parts.pop() else {
+        let Some(_inputs) = parts.pop() else {
             unreachable!()
         };
         let place = self.words.draw_last_drop(&mut seat, why);

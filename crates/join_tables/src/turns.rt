@@ -3,6 +3,7 @@
 ghost use Rattle.std.specs.Prelude.{◌≡◌};
 
 use crate::fates::Fate;
+use crate::parts::{FoundParts, Inputs};
 use join_words::Ins;
 use journal_rules::Cause;
 use keyed_lock::Keyed;
@@ -61,14 +62,13 @@ pub struct Collecting<V> {
     pub(crate) task: u32,
     pub(crate) cause: Cause,
     pub(crate) next: usize,
-    pub(crate) ins: Ins<V>,
+    pub(crate) inputs: Inputs<V>,
 }
 
 impl<V> Model for Collecting<V> {
     ghost use Rattle.std.specs.Prelude.{◌≡◌, ◌+◌, ◌≤◌, [], length};
-    ghost use Rattle.join_words.specs.Ins.{parts_of, room_of};
     ghost use Rattle.table_steps.specs.Values.{Knows, values_in};
-    ghost use Rattle.join_tables.specs.Parts.{parts_in};
+    ghost use Rattle.join_tables.specs.Inputs.{given_in, parts_found, room_in};
     ghost use Rattle.join_tables.specs.States.{CollectingState, collecting_state};
     ghost use Rattle.join_tables.specs.inside.Seated.{collecting_view, taken_in, left_in};
 
@@ -76,7 +76,7 @@ impl<V> Model for Collecting<V> {
 
     ghost view = { λ c. collecting_state c.seat.table_id c.task c.cause (left_in c.seat.me.0) c.seat.found };
 
-    ghost invariant = { λ c. (c.seat.me ≡ (collecting_view c.task c.cause (taken_in c.seat.me.0) (parts_in c.ins) (left_in c.seat.me.0), [])) × (c.next ≡ length (taken_in c.seat.me.0)) × (length (parts_in c.ins) ≡ length (taken_in c.seat.me.0)) × (length (parts_in c.ins) + length (left_in c.seat.me.0) ≤ room_of c.ins) × Knows c.seat.values (values_in (parts_of c.ins)) };
+    ghost invariant = { λ c. (c.seat.me ≡ (collecting_view c.task c.cause (taken_in c.seat.me.0) (parts_found c.inputs) (left_in c.seat.me.0), [])) × (c.next ≡ length (taken_in c.seat.me.0)) × (length (parts_found c.inputs) ≡ length (taken_in c.seat.me.0)) × (length (parts_found c.inputs) + length (left_in c.seat.me.0) ≤ room_in c.inputs) × Knows c.seat.values (values_in (given_in c.inputs)) };
 }
 
 /// A release that has collected all its tokens.
@@ -85,14 +85,13 @@ pub struct Turn<V> {
     pub(crate) seat: TableSeat<V>,
     pub(crate) task: u32,
     pub(crate) cause: Cause,
-    pub(crate) ins: Ins<V>,
+    pub(crate) inputs: Inputs<V>,
 }
 
 impl<V> Model for Turn<V> {
     ghost use Rattle.std.specs.Prelude.{◌≡◌, [], length};
-    ghost use Rattle.join_words.specs.Ins.{parts_of};
     ghost use Rattle.table_steps.specs.Values.{Knows, values_in};
-    ghost use Rattle.join_tables.specs.Parts.{parts_in};
+    ghost use Rattle.join_tables.specs.Inputs.{given_in, parts_found};
     ghost use Rattle.join_tables.specs.States.{TurnState, turn_with};
     ghost use Rattle.join_tables.specs.inside.Seated.{turn_view, taken_in, refusal_of, held_of};
 
@@ -100,7 +99,15 @@ impl<V> Model for Turn<V> {
 
     ghost view = { λ t. turn_with t.seat.table_id t.task t.cause (refusal_of t.seat.me.0) (held_of t.seat.me.0) t.seat.found };
 
-    ghost invariant = { λ t. (t.seat.me ≡ (turn_view t.task t.cause (taken_in t.seat.me.0) (parts_in t.ins) (refusal_of t.seat.me.0) (held_of t.seat.me.0), [])) × (length (parts_in t.ins) ≡ length (taken_in t.seat.me.0)) × Knows t.seat.values (values_in (parts_of t.ins)) };
+    ghost invariant = { λ t. (t.seat.me ≡ (turn_view t.task t.cause (taken_in t.seat.me.0) (parts_found t.inputs) (refusal_of t.seat.me.0) (held_of t.seat.me.0), [])) × (length (parts_found t.inputs) ≡ length (taken_in t.seat.me.0)) × Knows t.seat.values (values_in (given_in t.inputs)) };
+}
+
+impl<V> Keyed for Turn<V> {
+    ghost use Rattle.atomic_table.specs.Seated.{TableId};
+
+    ghost Key = { TableId };
+
+    ghost key = { λ t. t.table };
 }
 
 /// A release that may start its task.
@@ -109,14 +116,13 @@ pub struct StartTicket<V> {
     pub(crate) seat: TableSeat<V>,
     pub(crate) task: u32,
     pub(crate) cause: Cause,
-    pub(crate) ins: Ins<V>,
+    pub(crate) inputs: Inputs<V>,
 }
 
 impl<V> Model for StartTicket<V> {
     ghost use Rattle.std.specs.Prelude.{◌≡◌, [], length};
-    ghost use Rattle.join_words.specs.Ins.{parts_of};
     ghost use Rattle.table_steps.specs.Values.{Knows, values_in};
-    ghost use Rattle.join_tables.specs.Parts.{parts_in};
+    ghost use Rattle.join_tables.specs.Inputs.{given_in, parts_found};
     ghost use Rattle.join_tables.specs.States.{AdmittedState, admitted_state};
     ghost use Rattle.join_tables.specs.inside.Seated.{ticket_view, taken_in, held_of};
 
@@ -124,7 +130,7 @@ impl<V> Model for StartTicket<V> {
 
     ghost view = { λ t. admitted_state t.seat.table_id t.task t.cause (held_of t.seat.me.0) t.seat.found };
 
-    ghost invariant = { λ t. (t.seat.me ≡ (ticket_view t.task t.cause (taken_in t.seat.me.0) (parts_in t.ins) (held_of t.seat.me.0), [])) × (length (parts_in t.ins) ≡ length (taken_in t.seat.me.0)) × Knows t.seat.values (values_in (parts_of t.ins)) };
+    ghost invariant = { λ t. (t.seat.me ≡ (ticket_view t.task t.cause (taken_in t.seat.me.0) (parts_found t.inputs) (held_of t.seat.me.0), [])) × (length (parts_found t.inputs) ≡ length (taken_in t.seat.me.0)) × Knows t.seat.values (values_in (given_in t.inputs)) };
 }
 
 /// A start that runs.
@@ -134,22 +140,21 @@ pub struct Running<V> {
     pub(crate) task: u32,
     pub(crate) cause: Cause,
     pub(crate) place: u64,
-    pub(crate) ins: Ins<V>,
+    pub(crate) inputs: Inputs<V>,
 }
 
 impl<V> Model for Running<V> {
     ghost use Rattle.std.specs.Prelude.{◌≡◌, []};
-    ghost use Rattle.join_words.specs.Ins.{parts_of};
     ghost use Rattle.table_steps.specs.Values.{Knows, values_in};
-    ghost use Rattle.join_tables.specs.Parts.{parts_in};
+    ghost use Rattle.join_tables.specs.Inputs.{given_in, parts_found};
     ghost use Rattle.join_tables.specs.States.{RunningState, running_state};
     ghost use Rattle.join_tables.specs.inside.Seated.{running_view, shares_of, units_in};
 
     ghost Value = { RunningState V };
 
-    ghost view = { λ r. running_state r.seat.table_id r.task r.cause r.place r.ins (units_in (shares_of r.seat.me.0)) r.seat.found };
+    ghost view = { λ r. running_state r.seat.table_id r.task r.cause r.place r.inputs.ins (units_in (shares_of r.seat.me.0)) r.seat.found };
 
-    ghost invariant = { λ r. (r.seat.me ≡ (running_view r.task r.cause r.place (parts_in r.ins) (shares_of r.seat.me.0), [])) × Knows r.seat.values (values_in (parts_of r.ins)) };
+    ghost invariant = { λ r. (r.seat.me ≡ (running_view r.task r.cause r.place (parts_found r.inputs) (shares_of r.seat.me.0), [])) × Knows r.seat.values (values_in (given_in r.inputs)) };
 }
 
 /// A start of a task and its end: their places in the journal, what the start found, the value of the end, and the edges that
@@ -159,7 +164,7 @@ pub struct EndedStart<V> {
     pub task: u32,
     pub cause: Cause,
     pub start: u64,
-    pub ins: Ins<V>,
+    pub found: FoundParts<V>,
     pub value: Arc<V>,
     pub place: u64,
     pub gives: List<u32>,
@@ -172,20 +177,24 @@ pub struct Owing<V> {
     pub(crate) seat: TableSeat<V>,
     pub(crate) ended: EndedStart<V>,
     pub(crate) next: usize,
+    // An owner of its value for each edge that it has still to give.
+    pub(crate) shares: Vec<Arc<V>>,
 }
 
 impl<V> Model for Owing<V> {
-    ghost use Rattle.std.specs.Prelude.{◌≡◌, [], drop};
+    ghost use Rattle.std.specs.Prelude.{◌≡◌, [], drop, length};
+    ghost use Rattle.std.specs.Arc.{arc_value};
     ghost use Rattle.table_steps.specs.Values.{Knows};
     ghost use Rattle.join_tables.specs.Values.{own_values};
     ghost use Rattle.join_tables.specs.States.{OwingState, owing_state};
     ghost use Rattle.join_tables.specs.inside.Seated.{owing_view, units_of};
+    ghost use Rattle.join_tables.specs.inside.Sharing.{AreSharesOf};
 
     ghost Value = { OwingState V };
 
     ghost view = { λ o. owing_state o.seat.table_id o.ended (drop o.next o.ended.gives) (units_of o.seat.me.0) o.seat.found };
 
-    ghost invariant = { λ o. (o.seat.me ≡ (owing_view o.ended (drop o.next o.ended.gives) (units_of o.seat.me.0), [])) × Knows o.seat.values (own_values o.ended) };
+    ghost invariant = { λ o. (o.seat.me ≡ (owing_view o.ended (drop o.next o.ended.gives) (units_of o.seat.me.0), [])) × Knows o.seat.values (own_values o.ended) × (length o.shares.items ≡ length (drop o.next o.ended.gives)) × AreSharesOf (arc_value o.ended.value) o.shares.items };
 }
 
 /// A turn that is done and owes nothing.
@@ -199,13 +208,15 @@ impl<V> Model for Spent<V> {
     ghost use Rattle.std.specs.Prelude.{◌≡◌, []};
     ghost use Rattle.join_tables.specs.States.{SpentState, spent_state};
     ghost use Rattle.table_steps.specs.Values.{Knows};
-    ghost use Rattle.join_tables.specs.inside.Seated.{IsSpent, known_values};
+    ghost use Rattle.join_tables.specs.Values.{known_values};
+    ghost use Rattle.join_tables.specs.Keeping.{entries_of};
+    ghost use Rattle.join_tables.specs.inside.Seated.{IsSpent};
 
     ghost Value = { SpentState V };
 
     ghost view = { λ s. spent_state s.seat.table_id s.fate };
 
-    ghost invariant = { λ s. IsSpent s.fate s.seat.me.0 × (s.seat.me.1 ≡ []) × Knows s.seat.values (known_values s.fate) };
+    ghost invariant = { λ s. IsSpent (entries_of s.fate) s.seat.me.0 × (s.seat.me.1 ≡ []) × Knows s.seat.values (known_values s.fate) };
 }
 
 /// What collecting from one edge led to.
@@ -282,6 +293,13 @@ impl<V: Drop> Turn<V> {
     {
         self.task
     }
+
+    /// What released it.
+    pub fn cause(&self) -> Cause
+        ensures { result ≡ self.now.cause }
+    {
+        self.cause
+    }
 }
 
 impl<V: Drop> Running<V> {
@@ -303,7 +321,7 @@ impl<V: Drop> Running<V> {
     pub fn ins(&self) -> &Ins<V>
         ensures { result.now ≡ self.now.ins }
     {
-        &self.ins
+        &self.inputs.ins
     }
 }
 

@@ -20,7 +20,7 @@ impl<V: Drop> NetTable<V> {
             mut seat,
             task,
             cause,
-            ins,
+            inputs,
         } = turn;
         let found = self.words.draw_unit(&mut seat, sem);
         if found < u64::from(self.words.net.sems()[sem as usize]) {
@@ -28,7 +28,7 @@ impl<V: Drop> NetTable<V> {
                 seat,
                 task,
                 cause,
-                ins,
+                inputs,
             });
         }
         self.words.undo_unit(&mut seat, sem);
@@ -36,7 +36,7 @@ impl<V: Drop> NetTable<V> {
             seat,
             task,
             cause,
-            ins,
+            inputs,
         })
     }
 
@@ -51,14 +51,14 @@ impl<V: Drop> NetTable<V> {
             mut seat,
             task,
             cause,
-            ins,
+            inputs,
         } = turn;
         self.words.put_unit_back(&mut seat, sem);
         Turn {
             seat,
             task,
             cause,
-            ins,
+            inputs,
         }
     }
 
@@ -74,8 +74,14 @@ impl<V: Drop> NetTable<V> {
             mut seat,
             ended,
             next,
+            shares,
         } = owing;
         self.words.give_unit_back(&mut seat, sem);
-        Owing { seat, ended, next }
+        Owing {
+            seat,
+            ended,
+            next,
+            shares,
+        }
     }
 }

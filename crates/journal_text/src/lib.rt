@@ -15,8 +15,6 @@ mod lines;
 mod lists;
 mod printing;
 mod reading;
-#[cfg(test)]
-mod tests;
 mod version;
 mod words;
 

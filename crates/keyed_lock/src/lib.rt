@@ -1,7 +1,7 @@
 //! A lock whose value keeps its key.
 //!
 //! A `Mutex` gives out a value that is known by its type alone. Where several locks have values of one type, as
-//! each run of a graph has a state, whoever takes a lock has to know that what it gets belongs there. So a value
+//! each run of a graph has a keeper, whoever takes a lock has to know that what it gets belongs there. So a value
 //! has a key (`Keyed`), plain data that says where it belongs: a lock gives out only values with its key, and
 //! takes back no other.
 //!
@@ -27,8 +27,6 @@
 mod keyed;
 mod lock;
 mod rule;
-#[cfg(test)]
-mod tests;
 
 pub use keyed::Keyed;
 pub use lock::{Held, KeyedLock, LockPass};

@@ -1,2 +1,1 @@
 pub mod NumberMeaning
-pub mod inside

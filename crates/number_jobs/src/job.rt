@@ -8,7 +8,7 @@ ghost use Rattle.number_jobs.specs.NumberMeaning.{number_after, number_from};
 
 use super::flat::is_flat;
 use join_words::{Given, Ins};
-use legal_run::Why;
+use journal_rules::Why;
 use outside_io::{List, NoMemory};
 use run_frame::{Answer, Done, Job, JobError, Valued};
 use std::alloc::Global;

@@ -108,34 +108,3 @@ fn fault_of(error: &io::Error) -> TextsFault
         _ => TextsFault::Failed,
     }
 }
-
-#[cfg(test)]
-mod tests {
-    use super::*;
-    use crate::texts::{Seen, as_seen};
-    use std::test::Fail;
-
-    #[test]
-    fn reads_files(rt: HostRuntime) -> Result<(), Fail> {
-        fs::write(&rt, "lines.txt", "x\ny\n")?;
-        fs::write(&rt, "empty.txt", "")?;
-        let mut texts = FolderTexts::new(&rt);
-        let reads: [(&[u8], u64, Seen<'_>); 8] = [
-            (b"lines.txt", 100, Seen::Text(b"x\ny\n")),
-            (b"lines.txt", 4, Seen::Text(b"x\ny\n")),
-            (b"lines.txt", 3, Seen::Longer),
-            (b"empty.txt", 0, Seen::Text(b"")),
-            (b"absent.txt", 100, Seen::Missing),
-            (b".", 100, Seen::Failed),
-            (b"lines.txt/below", 100, Seen::Failed),
-            (b"\xff", 100, Seen::Failed),
-        ];
-        for (name, max, expected) in reads {
-            let found = texts.read(rt.alloc(), name, max);
-            assert_eq!(rt; as_seen(&found), expected, "{name:?} up to {max}");
-        }
-        fs::remove_file(&rt, "lines.txt")?;
-        fs::remove_file(&rt, "empty.txt")?;
-        Ok(())
-    }
-}

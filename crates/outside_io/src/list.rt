@@ -72,8 +72,8 @@ impl<T> List<T> {
         Ok(List { items })
     }
 
-    // The list of a vector's items, which are not copied.
-    pub(crate) fn from_vec(items: Vec<T>) -> List<T>
+    /// The list of a vector's items, which are not copied. It takes no memory.
+    pub fn from_vec(items: Vec<T>) -> List<T>
         ensures { result ≡ items.items }
     {
         List { items }
@@ -175,34 +175,5 @@ impl<'a, T> IntoIterator for &'a List<T> {
 
     fn into_iter(self) -> slice::Iter<'a, T> {
         self.as_slice().iter()
-    }
-}
-
-#[cfg(test)]
-mod tests {
-    use super::*;
-    use std::test::Fail;
-
-    #[test]
-    fn grows_and_copies(rt: HostRuntime) -> Result<(), Fail> {
-        let mut list = List::with_room(rt.alloc(), 2)?;
-        assert!(rt; list.is_empty());
-        list.push(7u8)?;
-        list.add_all(b"ab")?;
-        let other = List::from_slice(rt.alloc(), &[7, 97, 98])?;
-        assert_eq!(rt; list.copy()?.as_slice(), other.as_slice());
-        assert_eq!(rt; list.len(), 3);
-        assert_eq!(rt; list.get(2).copied(), Some(98));
-        assert_eq!(rt; list.get(3).copied(), None);
-        assert!(rt; list.contains(&97));
-        let mut sum = 0u64;
-        for item in &list {
-            sum = sum.wrapping_add(u64::from(*item));
-        }
-        assert_eq!(rt; sum, 202);
-        assert_eq!(rt; list.iter().filter(|item| **item > 90).count(), 2);
-        assert_eq!(rt; list.pop(), Some(98));
-        assert_eq!(rt; list.len(), 2);
-        Ok(())
     }
 }

@@ -118,32 +118,3 @@ fn front_of(piece: &[u8], count: u64) -> &[u8]
         _ => piece,
     }
 }
-
-#[cfg(test)]
-mod tests {
-    use super::*;
-    use std::test::Fail;
-
-    #[test]
-    fn takes_and_fails_at_its_calls(rt: HostRuntime) -> Result<(), Fail> {
-        let alloc = rt.alloc();
-        let failing = [
-            FailAt { call: 1, taken: 2 },
-            FailAt { call: 1, taken: 0 },
-            FailAt { call: 3, taken: 9 },
-        ];
-        let mut sink = MemorySink::new(alloc, List::from_slice(alloc, &failing)?);
-        let puts: [(&[u8], Result<(), SinkFault>, &[u8]); 5] = [
-            (b"ab", Ok(()), b"ab"),
-            (b"cde", Err(SinkFault::Failed), b"abcd"),
-            (b"", Ok(()), b"abcd"),
-            (b"fg", Err(SinkFault::Failed), b"abcdfg"),
-            (b"h", Ok(()), b"abcdfgh"),
-        ];
-        for (call, (piece, expected, bytes)) in puts.iter().enumerate() {
-            assert_eq!(rt; sink.put(piece), *expected, "call {call}");
-            assert_eq!(rt; sink.bytes(), *bytes, "call {call}");
-        }
-        Ok(())
-    }
-}

@@ -64,25 +64,3 @@ pub(crate) fn failed_read(alloc: Global, failed: &mut List<Bytes>, name: &[u8]) 
         Err(_) => TextsFault::NoMemory,
     }
 }
-
-// What a read answered, to be compared.
-#[cfg(test)]
-#[derive(Clone, Copy, Debug, PartialEq, Eq)]
-pub(crate) enum Seen<'t> {
-    Text(&'t [u8]),
-    Missing,
-    Longer,
-    Failed,
-    NoMemory,
-}
-
-#[cfg(test)]
-pub(crate) fn as_seen(found: &Result<Found, TextsFault>) -> Seen<'_> {
-    match found {
-        Ok(Found::Text(text)) => Seen::Text(text.as_slice()),
-        Ok(Found::Missing) => Seen::Missing,
-        Ok(Found::Longer) => Seen::Longer,
-        Err(TextsFault::Failed) => Seen::Failed,
-        Err(TextsFault::NoMemory) => Seen::NoMemory,
-    }
-}

@@ -62,8 +62,6 @@ mod ready;
 mod shares;
 mod sleepers;
 mod tagged;
-#[cfg(test)]
-mod tests;
 mod thief;
 
 pub use owner::Owner;

@@ -31,12 +31,6 @@ impl Sleepers {
         self.asleep.fetch_and(!bit, SeqCst);
     }
 
-    /// Whether an owner sleeps, or is about to.
-    #[cfg(test)]
-    pub fn is_any_asleep(&self) -> bool {
-        self.asleep.load(SeqCst) != 0
-    }
-
     /// Wakes one owner, if any sleeps.
     pub fn wake_one(&self) {
         let asleep = self

@@ -6,6 +6,3 @@ pub mod Legal
 pub mod Rows
 pub mod LastEnds
 pub mod FlatNets
-pub mod Duties
-pub mod Frames
-pub mod inside

@@ -7,7 +7,7 @@ ghost use Rattle.run_frame.specs.Runs.{value_at};
 ghost use Rattle.run_frame.specs.LastEnds.{ended_at, last_end};
 
 use super::run::ValueRow;
-use legal_run::{Entry, Journal};
+use journal_rules::{Entry, Journal};
 use outside_io::NoMemory;
 use std::alloc::Global;
 use std::sync::Arc;

@@ -8,7 +8,7 @@ ghost use Rattle.run_frame.specs.declared.job.Done.{Done};
 ghost use Rattle.run_frame.specs.declared.run.FrameRun.{FrameRun};
 
 use join_words::Ins;
-use legal_run::Why;
+use journal_rules::Why;
 use outside_io::List;
 use std::alloc::Global;
 use std::sync::Arc;

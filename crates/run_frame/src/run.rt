@@ -7,7 +7,7 @@ ghost use Rattle.run_frame.specs.Runs.{value_at, values_of, inner_in};
 
 use super::end_values::ended_task;
 use super::job::Valued;
-use legal_run::{Entry, Journal};
+use journal_rules::{Entry, Journal};
 use outside_io::List;
 use std::sync::Arc;
 

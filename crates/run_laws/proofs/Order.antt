@@ -16,9 +16,8 @@ use Rattle.journal_rules.specs.Entries.{EachAfter}
 use Rattle.journal_rules.specs.ShapeLegal.{ShapeLegal, MayFollow}
 use Rattle.journal_rules.proofs.Snoc.{count_by_push}
 use Rattle.journal_rules.proofs.Tallying.{count_by_push_no, count_by_push_yes}
-use Rattle.run_laws.specs.OneThreadValue.{source_of}
+use Rattle.run_laws.specs.OneThreadValue.{source_of, target_of}
 use Rattle.run_laws.specs.Rings.{IsRinged}
-use Rattle.run_frame.specs.Duties.{target_of}
 use Rattle.run_laws.specs.PipeNet.{next}
 use Rattle.run_laws.specs.Cycles.{CycleEdge, LiesAt, IsCycle, uses_some, turn, GoesRound}
 use Rattle.run_laws.proofs.Along.{along, weaker, Told, told_before}

@@ -18,9 +18,8 @@ use Rattle.task_graph.specs.declared.net.TaskRow.{TaskRow}
 use Rattle.task_graph.specs.declared.net.EdgeRow.{EdgeRow}
 use Rattle.journal_rules.specs.Counts.{first_tokens}
 use Rattle.journal_rules.proofs.NetLemmas.{any_place}
-use Rattle.run_laws.specs.OneThreadValue.{source_of}
+use Rattle.run_laws.specs.OneThreadValue.{source_of, target_of}
 use Rattle.run_laws.specs.Rings.{IsRing, RingOf, IsRinged}
-use Rattle.run_frame.specs.Duties.{target_of}
 use Rattle.run_laws.specs.PipeNet.{PipeEdge, next, line_edge, serial_edge, cell_edges, edges_from, line_edges, pipe_edges, pipe_net}
 use Rattle.run_laws.specs.Steady.{Steady}
 use Rattle.run_laws.proofs.Lists.{all_places}

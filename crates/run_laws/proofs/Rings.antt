@@ -27,11 +27,10 @@ use Rattle.journal_rules.proofs.Snoc.{count_by_push}
 use Rattle.journal_rules.proofs.Tallying.{count_by_push_no, given_push}
 use Rattle.journal_rules.proofs.NetLemmas.{any_place}
 use Rattle.journal_rules.proofs.Reaching.{each_below}
-use Rattle.run_laws.specs.OneThreadValue.{source_of}
+use Rattle.run_laws.specs.OneThreadValue.{source_of, target_of}
 use Rattle.run_laws.specs.Ends.{is_task}
 use Rattle.run_laws.specs.Steady.{Steady, StartRule}
 use Rattle.run_laws.specs.Rings.{IsRing, RingOf, IsRinged}
-use Rattle.run_frame.specs.Duties.{target_of}
 use Rattle.run_laws.proofs.Along.{along, both, weaker, each_front, Told, told_before}
 use Rattle.run_laws.proofs.Lists.{all_places, all_weaken}
 use Rattle.run_laws.proofs.Phases.{rests_when, may_start, begins, ends_one, faults_one, stops_one, closed, closed_few, and_left, and_both}

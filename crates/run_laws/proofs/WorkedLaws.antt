@@ -22,8 +22,7 @@ use Rattle.journal_rules.specs.SemaphoreRule.{takes, puts, max_of}
 use Rattle.journal_rules.specs.ShapeLegal.{MayFollow}
 use Rattle.join_words.specs.Ins.{InputValue, value, first}
 use Rattle.run_frame.specs.declared.run.ValueRow.{ValueRow}
-use Rattle.run_frame.specs.Duties.{target_of}
-use Rattle.run_laws.specs.OneThreadValue.{OneAnswer, source_of, begun, tokens, put_before, rounds_of, answers}
+use Rattle.run_laws.specs.OneThreadValue.{OneAnswer, source_of, begun, tokens, put_before, rounds_of, answers, target_of}
 use Rattle.run_laws.specs.Starting.{rounds_in, has_item, starts_once, tasks_started, HasFault}
 use Rattle.run_laws.specs.Prefixes.{IsPrefixOf}
 use Rattle.run_laws.specs.Ends.{is_task, ends}

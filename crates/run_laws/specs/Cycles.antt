@@ -5,8 +5,7 @@ use Rattle.task_graph.specs.NetRows.{NetRows}
 use Rattle.journal_rules.specs.declared.entry.Entry.{Entry}
 use Rattle.journal_rules.specs.declared.entry.Entry.TheVariants.{Start, End, Fault, Drop}
 use Rattle.journal_rules.specs.Counts.{first_tokens}
-use Rattle.run_laws.specs.OneThreadValue.{source_of}
-use Rattle.run_frame.specs.Duties.{target_of}
+use Rattle.run_laws.specs.OneThreadValue.{source_of, target_of}
 use Rattle.run_laws.specs.PipeNet.{next}
 
 -- an edge from a task of the ring to the next

@@ -20,6 +20,10 @@ OneAnswer V = ℕ → List (InputValue V) → Option (TaskEnd V)
 abbrev pub source_of : NetRows → ℕ → ℕ
 source_of net e = option_map_or (λ (row : EdgeRow). row.from) (slice_get net.edges e) 0
 
+-- the task that it leads to
+abbrev pub target_of : NetRows → ℕ → ℕ
+target_of net e = option_map_or (λ (row : EdgeRow). row.to) (slice_get net.edges e) 0
+
 -- the token with which an edge begins, if it does
 abbrev pub begun : {V : Type 0} → NetRows → ℕ → List (InputValue V)
 begun net e = option_map_or (λ (row : EdgeRow). if row.start then first ∷ [] else []) (slice_get net.edges e) []

@@ -4,8 +4,7 @@ use Rattle.std.specs.List.{AllByRecursion, list_any}
 use Rattle.task_graph.specs.NetRows.{NetRows}
 use Rattle.task_graph.specs.Net.{is_weak, strong_in}
 use Rattle.journal_rules.specs.Counts.{first_tokens}
-use Rattle.run_frame.specs.Duties.{target_of}
-use Rattle.run_laws.specs.OneThreadValue.{source_of}
+use Rattle.run_laws.specs.OneThreadValue.{source_of, target_of}
 
 -- A ring of edges: each task has as many of them in as out, or more, and they begin with one token or none in all.
 pub record IsRing (net : NetRows) (ring : List ℕ) : Type 0 where

@@ -1,13 +1,12 @@
 // What comes after a fault.
-use frame_steps::{Frame, Release, State, Stepped};
 use legal_run::{Cause, DropWhy, Entry, Why};
 use number_jobs::NumberJob;
 use outside_io::List;
-use run_frame::FrameRun;
 use std::alloc::Global;
 use std::process::Abort;
 use std::sync::{Arc, Wait};
 use std::test::Fail;
+use table_frames::{Backlog, Frame, Release, State, Stepped};
 use task_graph::{BuildError, Net, NetBuilder, Shape};
 
 // The number to which a source task comes, at which it faults.
@@ -28,33 +27,35 @@ fn begun(rt: &impl Abort, alloc: Global) -> Result<Stepped<NumberJob>, Fail> {
     }
 }
 
-// Steps a release after which the run goes on.
-fn goes_on<R: Wait + Abort>(rt: &R, release: Release<NumberJob>) -> Result<(), Fail> {
-    let Stepped { released, state } = Frame::step(rt, release)?;
+// Steps a release, which makes no other, and has recorded what came of it.
+fn stepped<R: Wait + Abort>(
+    rt: &R,
+    alloc: Global,
+    release: Release<NumberJob>,
+) -> Result<State<NumberJob>, Fail> {
+    let mut backlog = Backlog::new(alloc);
+    let Stepped { released, state } = Frame::step(release, &mut backlog)?;
     assert!(rt; released.is_empty());
     assert!(rt; matches!(state, State::Went));
-    Ok(())
-}
-
-// Steps a release that closes the run.
-fn closes<R: Wait + Abort>(
-    rt: &R,
-    release: Release<NumberJob>,
-) -> Result<FrameRun<NumberJob>, Fail> {
-    let Stepped { released, state } = Frame::step(rt, release)?;
+    assert!(rt; !backlog.is_empty());
+    let Stepped { released, state } = Frame::bring(rt, &mut backlog)?;
     assert!(rt; released.is_empty());
-    match state {
-        State::Closed(run) => Ok(run),
-        _ => panic!(rt; "a run that isn't closed"),
-    }
+    assert!(rt; backlog.is_empty());
+    Ok(state)
 }
 
 #[test]
-fn halts(rt: HostRuntime) -> Result<(), Fail> {
+fn stepped_by_hand(rt: HostRuntime) -> Result<(), Fail> {
+    closes_without_a_release(&rt, rt.alloc())?;
+    halts(&rt, rt.alloc())
+}
+
+// The first source faults, and the second is dropped.
+fn halts<R: Wait + Abort>(rt: &R, alloc: Global) -> Result<(), Fail> {
     let Stepped {
         mut released,
         state,
-    } = begun(&rt, rt.alloc())?;
+    } = begun(rt, alloc)?;
     assert!(rt; matches!(state, State::Went));
     let (Some(second), Some(first)) = (released.pop(), released.pop()) else {
         panic!(rt; "no two releases");
@@ -64,8 +65,10 @@ fn halts(rt: HostRuntime) -> Result<(), Fail> {
         (0, Cause::Source, 0)
     );
     assert_eq!(rt; second.task(), 1);
-    goes_on(&rt, first)?;
-    let run = closes(&rt, second)?;
+    assert!(rt; matches!(stepped(rt, alloc, first)?, State::Went));
+    let State::Closed(run) = stepped(rt, alloc, second)? else {
+        panic!(rt; "a run that isn't closed");
+    };
     let journal = run.journal.as_slice();
     assert_eq!(rt; journal.len(), 3);
     assert!(rt; matches!(&journal[0], Entry::Start { task: 0, .. }));
@@ -91,13 +94,13 @@ fn halts(rt: HostRuntime) -> Result<(), Fail> {
     Ok(())
 }
 
-#[test]
-fn closes_without_a_release(rt: HostRuntime) -> Result<(), Fail> {
-    let net = NetBuilder::new(rt.alloc()).finish();
-    let Some(job) = NumberJob::new(Arc::new(rt.alloc(), net)?, 10, 0, FIRST) else {
+// A run of no task is over as it begins.
+fn closes_without_a_release(rt: &impl Abort, alloc: Global) -> Result<(), Fail> {
+    let net = NetBuilder::new(alloc).finish();
+    let Some(job) = NumberJob::new(Arc::new(alloc, net)?, 10, 0, FIRST) else {
         panic!(rt; "a net that isn't flat");
     };
-    let Stepped { released, state } = Frame::begin(rt.alloc(), Arc::new(rt.alloc(), job)?)?;
+    let Stepped { released, state } = Frame::begin(alloc, Arc::new(alloc, job)?)?;
     assert!(rt; released.is_empty());
     assert!(rt; matches!(state, State::Closed(_)));
     Ok(())

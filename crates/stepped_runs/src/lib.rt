@@ -1,13 +1,18 @@
-//! Runs that threads step over one shared list of releases. They are no part of a program: they serve the tests of
-//! frames, which are here, and measurements.
+//! Runs over the frames of `table_frames`: led by one thread in several orders, and stepped by threads over one shared list
+//! of releases. There is nothing here but tests.
 #![tactic(auto)]
 
 #[cfg(test)]
+mod cases;
+#[cfg(test)]
 mod halts;
+#[cfg(test)]
+mod led_runs;
 #[cfg(test)]
 mod meeting;
 #[cfg(test)]
-mod runs;
+mod orders;
+#[cfg(test)]
 mod shared;
-
-pub use shared::{Hand, stepped_by};
+#[cfg(test)]
+mod shared_runs;

@@ -1,5 +1,5 @@
 // Two tasks that wait for each other while they work.
-use crate::stepped_by;
+use crate::shared::stepped_by;
 use join_words::Ins;
 use number_jobs::NumberJob;
 use outside_io::List;
@@ -81,9 +81,9 @@ fn two_tasks(alloc: Global) -> Result<Net, BuildError> {
     Ok(builder.finish())
 }
 
-#[test]
-fn tasks_work_side_by_side(rt: HostRuntime) -> Result<(), Fail> {
-    let net = Arc::new(rt.alloc(), two_tasks(rt.alloc())?)?;
+/// Steps a run of the two tasks by two threads. Each of them saw the other.
+pub fn tasks_meet<R: Threads + Wait + Abort + Sync>(rt: &R, alloc: Global) -> Result<(), Fail> {
+    let net = Arc::new(alloc, two_tasks(alloc)?)?;
     let Some(numbers) = NumberJob::new(net, 10, 0, 0) else {
         panic!(rt; "a net that isn't flat");
     };
@@ -92,7 +92,7 @@ fn tasks_work_side_by_side(rt: HostRuntime) -> Result<(), Fail> {
         first: AtomicBool::new(false),
         second: AtomicBool::new(false),
     };
-    let Some(run) = stepped_by(&rt, rt.alloc(), Arc::new(rt.alloc(), job)?, 2)? else {
+    let Some(run) = stepped_by(rt, alloc, Arc::new(alloc, job)?, 2)? else {
         panic!(rt; "a run that isn't closed");
     };
     assert_eq!(rt; run.values.len(), 2);

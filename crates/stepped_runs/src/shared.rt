@@ -4,12 +4,12 @@ ghost use Rattle.std.specs.Arc.{arc_value};
 ghost use Rattle.run_frame.specs.Legal.{IsKept};
 ghost use Rattle.run_frame.specs.FlatNets.{IsFlatNet};
 
-use frame_steps::{Frame, Release, State, Stepped};
 use outside_io::NoMemory;
 use run_frame::{FrameRun, Job};
 use std::alloc::Global;
 use std::sync::{Arc, Mutex, Wait};
 use std::thread::{Threads, for_each_mut, yield_now};
+use table_frames::{Backlog, Frame, Release, State, Stepped};
 
 /// The releases that nobody steps yet.
 #[derive(Drop)]
@@ -28,6 +28,7 @@ enum Next<J: Job> {
 /// A thread, and the run that it closed.
 #[derive(Drop)]
 pub struct Hand<J: Job> {
+    alloc: Global,
     run: Option<FrameRun<J>>,
 }
 
@@ -73,7 +74,7 @@ pub fn stepped_by<J: Job + Drop, R: Threads + Wait + Sync>(
     });
     let mut hands = Vec::with_capacity(alloc, threads)?;
     for _ in 0..threads {
-        hands.push(Hand { run: None })?;
+        hands.push(Hand { alloc, run: None })?;
     }
     step_together(rt, &list, &mut hands);
     Ok(run_of(hands))
@@ -94,26 +95,26 @@ fn step_together<J: Job + Drop, R: Threads + Wait + Sync>(
         threads,
         &|_, hand: &mut Hand<J>|
             ensures { IfSome hand.exit.now.run (IsKept J.meaning) }
-        { hand.run = steps(rt, list) },
+        { hand.run = steps(rt, hand.alloc, list) },
     );
 }
 
-// Takes steps until the run is closed, and gives the run if it closed in one of them.
-fn steps<J: Job + Drop, R: Wait>(rt: &R, list: &Mutex<ReadyReleases<J>>) -> Option<FrameRun<J>>
+// Takes steps until the run is closed, and gives the run if it closed with one of them.
+fn steps<J: Job + Drop, R: Wait>(
+    rt: &R,
+    alloc: Global,
+    list: &Mutex<ReadyReleases<J>>,
+) -> Option<FrameRun<J>>
     ensures { IfSome result (IsKept J.meaning) }
 {
     for _ in rt.forever() {
         match take_next(rt, list) {
-            Next::Step(release) => match Frame::step(rt, release) {
-                Ok(Stepped { released, state }) => match state {
-                    State::Went => add(rt, list, released),
-                    State::Closed(run) => {
-                        end(rt, list);
-                        return Some(run);
-                    }
-                    State::Parked => unreachable!(),
-                    State::Inner => unreachable!(),
-                },
+            Next::Step(release) => match step(rt, alloc, list, release) {
+                Ok(None) => (),
+                Ok(Some(run)) => {
+                    end(rt, list);
+                    return Some(run);
+                }
                 Err(NoMemory) => end(rt, list),
             },
             Next::Look => yield_now(),
@@ -121,6 +122,25 @@ fn steps<J: Job + Drop, R: Wait>(rt: &R, list: &Mutex<ReadyReleases<J>>) -> Opti
         }
     }
     unreachable!()
+}
+
+// Takes the step of a release, lists what it releases, and has it recorded at once. It gives the run if that closes it.
+fn step<J: Job + Drop, R: Wait>(
+    rt: &R,
+    alloc: Global,
+    list: &Mutex<ReadyReleases<J>>,
+    release: Release<J>,
+) -> Result<Option<FrameRun<J>>, NoMemory>
+    ensures { IfOk result (λ run. IfSome run (IsKept J.meaning)) }
+{
+    let mut backlog = Backlog::new(alloc);
+    let Stepped { released, .. } = Frame::step(release, &mut backlog)?;
+    add(rt, list, released);
+    let Stepped { state, .. } = Frame::bring(rt, &mut backlog)?;
+    match state {
+        State::Closed(run) => Ok(Some(run)),
+        _ => Ok(None),
+    }
 }
 
 fn take_next<J: Job + Drop, R: Wait>(rt: &R, list: &Mutex<ReadyReleases<J>>) -> Next<J> {

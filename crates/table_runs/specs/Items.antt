@@ -2,10 +2,10 @@
 use Rattle.std.specs.Prelude.{◌≡◌, None, []}
 use Rattle.atomic_table.specs.Seated.{TableId}
 use Rattle.join_tables.specs.States.{TurnState}
-use Rattle.table_runs.specs.declared.shelf.Item.{Item}
-use Rattle.table_runs.specs.declared.shelf.Item.TheVariants as item
-use Rattle.table_runs.specs.declared.shelf.Next.{Next}
-use Rattle.table_runs.specs.declared.shelf.Next.TheVariants as next
+use Rattle.table_runs.specs.declared.states.Item.{Item}
+use Rattle.table_runs.specs.declared.states.Item.TheVariants as item
+use Rattle.table_runs.specs.declared.states.Next.{Next}
+use Rattle.table_runs.specs.declared.states.Next.TheVariants as next
 
 -- a turn of this table that wasn't refused and holds no unit
 abbrev pub Waits : TableId → TurnState → Type 0

@@ -3,10 +3,10 @@ use Rattle.std.specs.Prelude.{◌≡◌, ℕ, ◌<◌, ◌≤◌, Option, Some, 
 use Rattle.task_graph.specs.NetRows.{NetRows}
 use Rattle.table_steps.specs.Giving.{times}
 use Rattle.table_steps.specs.Holding.{HoldsEachUnit, PutsAll, PutsAlone, PutsEach, TakesAlone, without}
-use Rattle.table_runs.specs.declared.needs.Units.{Units}
-use Rattle.table_runs.specs.declared.needs.Units.TheVariants.{Empty, First, Second, Both}
-use Rattle.table_runs.specs.declared.needs.Need.{Need}
-use Rattle.table_runs.specs.declared.needs.Need.TheVariants.{Nothing, Hold, Borrow, Repay}
+use Rattle.table_runs.specs.declared.states.Units.{Units}
+use Rattle.table_runs.specs.declared.states.Units.TheVariants.{Empty, First, Second, Both}
+use Rattle.table_runs.specs.declared.states.Need.{Need}
+use Rattle.table_runs.specs.declared.states.Need.TheVariants.{Nothing, Hold, Borrow, Repay}
 
 -- the semaphores of units
 abbrev pub list_of : Units → List ℕ

@@ -4,12 +4,12 @@ use Rattle.journal_rules.specs.declared.entry.DropWhy.{DropWhy}
 use Rattle.join_tables.specs.States.{TableState, FreshState, TurnState, AdmittedState, RunningState, OwingState}
 use Rattle.join_tables.specs.Claims.{HasCredited, HasClaimed}
 use Rattle.table_runs.specs.Needs.{list_of, AreAmong, taken_for, HasNeed, TakesUnits}
-use Rattle.table_runs.specs.declared.needs.Units.{Units}
-use Rattle.table_runs.specs.declared.needs.Need.{Need}
-use Rattle.table_runs.specs.declared.needs.Need.TheVariants.{Hold}
-use Rattle.table_runs.specs.declared.stages.Stage.{Stage}
-use Rattle.table_runs.specs.declared.stages.Stage.TheVariants as stage
-use Rattle.table_runs.specs.declared.stages.Advanced.{Advanced}
+use Rattle.table_runs.specs.declared.states.Units.{Units}
+use Rattle.table_runs.specs.declared.states.Need.{Need}
+use Rattle.table_runs.specs.declared.states.Need.TheVariants.{Hold}
+use Rattle.table_runs.specs.declared.states.Stage.{Stage}
+use Rattle.table_runs.specs.declared.states.Stage.TheVariants as stage
+use Rattle.table_runs.specs.declared.states.Advanced.{Advanced}
 
 -- a turn that wasn't refused, with units of these semaphores
 abbrev pub HasUnits : TableState → TurnState → List ℕ → Type 0

@@ -8,17 +8,6 @@ use outside_io::{List, NoMemory};
 use std::alloc::Global;
 use task_graph::{Net, Shape};
 
-/// All edges out of a task that doesn't choose, and `None` of one that does.
-pub fn all_edges(alloc: Global, net: &Net, task: u32) -> Result<Option<List<u32>>, NoMemory>
-    requires { task < length net.now.tasks }
-    ensures { IfOk result (λ edges. IfSome edges (λ gives. MayEndGiving net.now task gives false)) }
-{
-    if net.tasks()[task as usize].shape != Shape::Plain {
-        return Ok(None);
-    }
-    Ok(Some(List::from_slice(alloc, net.out_edges(task))?))
-}
-
 /// What a task gives in the runs here: all its edges if it doesn't choose, the first if it is a choice, or none. It is
 /// `None` of a task past the end or of another shape.
 pub(crate) fn gives_of(
@@ -38,6 +27,17 @@ pub(crate) fn gives_of(
         Shape::Plain | Shape::Choice => Ok(Some(List::new(alloc))),
         Shape::Many | Shape::Nested => Ok(None),
     }
+}
+
+// All edges out of a task that doesn't choose, and `None` of one that does.
+fn all_edges(alloc: Global, net: &Net, task: u32) -> Result<Option<List<u32>>, NoMemory>
+    requires { task < length net.now.tasks }
+    ensures { IfOk result (λ edges. IfSome edges (λ gives. MayEndGiving net.now task gives false)) }
+{
+    if net.tasks()[task as usize].shape != Shape::Plain {
+        return Ok(None);
+    }
+    Ok(Some(List::from_slice(alloc, net.out_edges(task))?))
 }
 
 // The first edge out of a choice, if there is one.

@@ -2,10 +2,11 @@
 use crate::plays::Case;
 use crate::shelf::Shelf;
 use crate::steps::Terms;
-use join_tables::{Keeper, Recorded, RecordedInputs, RecordedValue};
-use join_words::{Given, Ins};
-use journal_rules::{DropWhy, Entry, Journal, Why};
+use crate::values::{with_found, with_sum};
+use join_tables::{FinishedRun, RecordedValue};
+use journal_rules::{DropWhy, Entry, Journal, Part, Why};
 use legal_run::{Verdict, judge};
+use outside_io::NoMemory;
 use std::alloc::Global;
 use std::process::Abort;
 use std::test::Fail;
@@ -120,8 +121,8 @@ impl Counts {
     }
 }
 
-/// The journal of a run of which this comes: it is judged complete, and the keeper has the value of each End, and the inputs
-/// of each Start, each of which is the value of its End.
+/// The journal of a run of which this comes: it is judged complete, and there is the value of each End, which its start made
+/// of the values that it found.
 pub(crate) fn judged(
     rt: &impl Abort,
     alloc: Global,
@@ -129,57 +130,64 @@ pub(crate) fn judged(
     case: &Case,
     shelf: Shelf,
 ) -> Result<Journal, Fail> {
-    let keeper = shelf.keeper();
-    let (inputs, values) = (keeper.inputs().len(), keeper.values().len());
-    assert!(rt;
-        have_end_values(keeper),
-        "another value than that of an End"
-    );
-    let Some(journal) = shelf.journal()? else {
+    let Some(FinishedRun { journal, values }) = shelf.finish()? else {
         panic!(rt; "{} isn't finished", case.name);
     };
     let verdict = judge(alloc, net, case.terms.limit, &journal)?;
     assert!(rt; matches!(verdict, Verdict::Complete), "{}", case.name);
     let counts = Counts::of(&journal);
-    let are_all = inputs as u64 == counts.starts && values as u64 == counts.ends;
-    assert!(rt; are_all, "{}", case.name);
+    assert!(rt; values.len() as u64 == counts.ends, "{}", case.name);
+    assert!(rt;
+        have_end_values(alloc, &journal, values.as_slice())?,
+        "another value than that of an End"
+    );
     assert!(rt; counts.are(case.outcome), "{}", case.name);
     Ok(journal)
 }
 
-// Whether each value is that of its End, and each input too.
-fn have_end_values(keeper: &Keeper<u64>) -> bool {
-    for RecordedValue { place, value } in keeper.values() {
-        if !is_end(keeper.entries(), *place, **value) {
-            return false;
+// Whether each value is that of its End.
+fn have_end_values(
+    alloc: Global,
+    journal: &Journal,
+    values: &[RecordedValue<u64>],
+) -> Result<bool, NoMemory> {
+    let at = values_at(alloc, journal.len(), values)?;
+    for RecordedValue { place, value } in values {
+        let Some(Entry::End { start, .. }) = journal.get(*place as usize) else {
+            return Ok(false);
+        };
+        if expected_value(journal, &at, *start) != Some(**value) {
+            return Ok(false);
         }
     }
-    for RecordedInputs { ins, .. } in keeper.inputs() {
-        if !are_found(keeper.entries(), ins) {
-            return false;
-        }
-    }
-    true
+    Ok(true)
 }
 
-// Whether each value that a start found is that of its End.
-fn are_found(entries: &[Recorded], ins: &Ins<u64>) -> bool {
-    for index in 0..ins.len() {
-        if let Some(Given::Value(end, value)) = ins.get(index) {
-            if !is_end(entries, *end, **value) {
-                return false;
-            }
+// The value at each of so many places, and 0 where there is none.
+fn values_at(
+    alloc: Global,
+    places: usize,
+    values: &[RecordedValue<u64>],
+) -> Result<Vec<u64>, NoMemory> {
+    let mut at = vec![in alloc; 0; places]?;
+    for RecordedValue { place, value } in values {
+        if let Some(there) = at.get_mut(*place as usize) {
+            *there = **value;
         }
     }
-    true
+    Ok(at)
 }
 
-// Whether the End at a place ends the Start at this place, which is its value.
-fn is_end(entries: &[Recorded], end: u64, value: u64) -> bool {
-    for Recorded { place, entry } in entries {
-        if *place == end {
-            return matches!(entry, Entry::End { start, .. } if *start == value);
+// The value with which the start at a place is to end.
+fn expected_value(journal: &Journal, at: &Vec<u64>, start: u64) -> Option<u64> {
+    let Entry::Start { ins, .. } = journal.get(start as usize)? else {
+        return None;
+    };
+    let mut sum = 0;
+    for part in ins.as_slice() {
+        if let Part::From(end) = part {
+            sum = with_found(sum, *end, *at.get(*end as usize)?);
         }
     }
-    false
+    Some(with_sum(start, sum))
 }

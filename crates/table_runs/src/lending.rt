@@ -1,7 +1,7 @@
 // Starts of tasks that take a unit which others give back.
 ghost use Rattle.std.specs.Prelude.{IfOk, IfErr};
-ghost use Rattle.table_runs.specs.declared.needs.Need.TheVariants.{Borrow, Repay};
-ghost use Rattle.table_runs.specs.declared.needs.Units.TheVariants.{Empty, First};
+ghost use Rattle.table_runs.specs.declared.states.Need.TheVariants.{Borrow, Repay};
+ghost use Rattle.table_runs.specs.declared.states.Units.TheVariants.{Empty, First};
 ghost use Rattle.table_runs.specs.Stages.{IsOverdrawn, MayEnd, MayStart};
 
 use join_tables::{Claim, NetTable, Running, StartTicket};

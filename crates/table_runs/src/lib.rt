@@ -1,13 +1,16 @@
-//! Runs of `join_tables` by one thread and by several. They are no part of a program: they serve the tests of tables,
-//! which are here and whose journals are judged, and measurements. Each end has a value of its own.
+//! Runs of `join_tables` by one thread and by several, whose journals are judged. Each end has a value of its own. There is
+//! nothing here but tests, and the types of which their definitions in `specs/` speak.
 #![tactic(auto)]
 
+#[cfg(test)]
 mod gives;
 #[cfg(test)]
 mod inputs;
 #[cfg(test)]
 mod judging;
+#[cfg(test)]
 mod lending;
+#[cfg(test)]
 mod needs;
 #[cfg(test)]
 mod nets;
@@ -17,18 +20,20 @@ mod orders;
 mod parking;
 #[cfg(test)]
 mod plays;
+#[cfg(test)]
 mod shared;
+#[cfg(test)]
 mod shelf;
+#[cfg(test)]
 mod stages;
+mod states;
+#[cfg(test)]
 mod stepping;
+#[cfg(test)]
 mod steps;
 #[cfg(test)]
 mod threads;
+#[cfg(test)]
 mod values;
 #[cfg(test)]
 mod walks;
-
-pub use gives::all_edges;
-pub use needs::needs_none;
-pub use stepping::{Ran, run_by};
-pub use values::value_of;

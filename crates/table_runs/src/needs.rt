@@ -1,32 +1,10 @@
 // Which units a task needs in these runs.
-ghost use Rattle.std.specs.Prelude.{◌≡◌, ◌<◌, IsTrue, IfSome, [], length};
-ghost use Rattle.table_steps.specs.Holding.{HoldsEachUnit, PutsAll};
+ghost use Rattle.std.specs.Prelude.{◌≡◌, IfSome};
 ghost use Rattle.table_runs.specs.Needs.{HasNeed, NextOf, listed, taken_for};
 
+use crate::states::{Need, Units};
 use outside_io::List;
 use task_graph::Net;
-
-/// Units of semaphores 0 and 1.
-#[derive(Clone, Copy)]
-pub(crate) enum Units {
-    Empty,
-    First,
-    Second,
-    Both,
-}
-
-/// The units that a task takes before its start and puts after its end.
-#[derive(Clone, Copy)]
-pub(crate) enum Need {
-    /// None.
-    Nothing,
-    /// It takes and puts one of semaphore 0 and one of semaphore 1.
-    Hold,
-    /// It takes one of semaphore 0 and puts none.
-    Borrow,
-    /// It puts one of semaphore 0 and takes none.
-    Repay,
-}
 
 impl Units {
     /// One of the units, the lesser semaphore first, and what is left without it.
@@ -53,15 +31,6 @@ impl Need {
             Need::Nothing | Need::Repay => Units::Empty,
         }
     }
-}
-
-/// Whether a task takes and puts no unit.
-pub fn needs_none(net: &Net, task: u32) -> bool
-    requires { task < length net.now.tasks }
-    ensures { IsTrue result → HoldsEachUnit net.now task [] × PutsAll net.now task }
-{
-    let row = &net.tasks()[task as usize];
-    row.takes.is_empty() && row.puts.is_empty()
 }
 
 /// What a task needs, or `None` where it is past the end or needs something else.

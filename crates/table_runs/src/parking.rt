@@ -6,8 +6,9 @@ ghost use Rattle.keyed_lock.specs.Locks.{made_with};
 ghost use Rattle.table_runs.specs.Items.{IsItem, Waits};
 ghost use Rattle.table_runs.specs.Parks.{IsIdle, IsLeft};
 
-use crate::needs::{Need, need_of};
-use crate::shelf::{Item, Next, Shelf};
+use crate::needs::need_of;
+use crate::shelf::Shelf;
+use crate::states::{Item, Need, Next};
 use crate::stepping::Board;
 use crate::steps::{Steps, Terms};
 use join_tables::{Checked, Rest, RestDrop, Turn, UnitLook};
@@ -117,12 +118,14 @@ impl Yard {
         self.look(steps);
     }
 
-    // Parks a turn that found no unit. Where there is no room the run is over.
+    // Parks a turn that found no unit, after the turns that are done are with the keeper. Where there is no room the run is
+    // over.
     fn park(&mut self, steps: &Steps, turn: Turn<u64>)
         requires table { steps.now.table.table ≡ self.old }
         requires turn { Waits self.old turn }
         ensures { self.new ≡ self.old }
     {
+        self.shelf.bring(&steps.table);
         match self.rest.take() {
             Some(rest) if rest.len() < rest.room() => {
                 self.rest = Some(steps.table.rest_add(rest, turn));

@@ -7,7 +7,7 @@ use crate::nets::NetCase;
 use crate::parking::Parking;
 use crate::shared::Shared;
 use crate::shelf::Shelf;
-use crate::stages::Stage;
+use crate::states::Stage;
 use crate::stepping::{Board, work_together};
 use crate::steps::Terms;
 use crate::walks::{Move, Reached, moved};

@@ -2,7 +2,8 @@
 ghost use Rattle.std.specs.Prelude.{◌≡◌, ◌≤◌};
 ghost use Rattle.keyed_lock.specs.Locks.{made_with};
 
-use crate::shelf::{Item, Next, Shelf};
+use crate::shelf::Shelf;
+use crate::states::{Item, Next};
 use crate::stepping::Board;
 use crate::steps::{Steps, Terms};
 use join_tables::{NetTable, Opening};

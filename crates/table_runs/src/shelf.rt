@@ -2,18 +2,20 @@
 ghost use Rattle.std.specs.Prelude.{◌≡◌, All};
 ghost use Rattle.table_runs.specs.Items.{IsItem, IsNext};
 
-use join_tables::{Fresh, Keeper, NetTable, Remaining, Spent, Turn};
-use journal_rules::Journal;
+use crate::states::{Item, Next};
+use join_tables::{FinishedRun, Fresh, Keeper, NetTable, Remaining, Spent, SpentBatch, Turn};
 use keyed_lock::Keyed;
 use outside_io::NoMemory;
 use std::alloc::Global;
 use std::marker::Model;
 
-/// The releases that no thread has taken, the turns that found no unit, and the keeper of the run.
+/// The releases that no thread has taken, the turns that found no unit, those that are done and not yet with the keeper, and
+/// the keeper of the run.
 pub(crate) struct Shelf {
     keeper: Keeper<u64>,
     fresh: Vec<Fresh<u64>>,
     lacking: Vec<Turn<u64>>,
+    done: SpentBatch<u64>,
     is_over: bool,
     is_whole: bool,
 }
@@ -22,14 +24,15 @@ impl Model for Shelf {
     ghost use Rattle.std.specs.Prelude.{◌≡◌, All, true};
     ghost use Rattle.atomic_table.specs.Seated.{TableId};
     ghost use Rattle.join_tables.specs.States.{FreshState};
-    ghost use Rattle.join_tables.specs.Keeping.{TellsSomeRun};
+    ghost use Rattle.join_tables.specs.Keeping.{TellsSomeRun, entries_told};
+    ghost use Rattle.join_tables.specs.Rests.{IsOfTable};
     ghost use Rattle.table_runs.specs.Items.{Waits};
 
     ghost Value = { TableId };
 
     ghost view = { λ shelf. shelf.keeper.table };
 
-    ghost invariant = { λ shelf. All (λ (f : FreshState). f.table ≡ shelf.keeper.table) shelf.fresh.items × All (Waits shelf.keeper.table) shelf.lacking.items × (shelf.is_whole ≡ true → TellsSomeRun shelf.keeper.entries) };
+    ghost invariant = { λ shelf. All (λ (f : FreshState). f.table ≡ shelf.keeper.table) shelf.fresh.items × All (Waits shelf.keeper.table) shelf.lacking.items × IsOfTable shelf.keeper.table shelf.done.table × (shelf.is_whole ≡ true → TellsSomeRun (entries_told shelf.keeper.fates)) };
 }
 
 impl Drop for Shelf {
@@ -38,10 +41,11 @@ impl Drop for Shelf {
             keeper,
             fresh,
             lacking,
+            done,
             is_over: _,
             is_whole: _,
         } = self;
-        drop((keeper, fresh, lacking));
+        drop((keeper, fresh, lacking, done));
     }
 }
 
@@ -51,32 +55,6 @@ impl Keyed for Shelf {
     ghost Key = { TableId };
 
     ghost key = { λ shelf. shelf };
-}
-
-/// What a thread hands in.
-#[derive(Drop)]
-pub(crate) enum Item {
-    /// A release that it made.
-    Released(Fresh<u64>),
-    /// A turn that found no unit.
-    Lacking(Turn<u64>),
-    /// A turn that is done.
-    Spent(Spent<u64>),
-    /// It can't go on.
-    Stop,
-}
-
-/// What a thread does next.
-#[derive(Drop)]
-pub(crate) enum Next {
-    /// It takes up a release.
-    Released(Fresh<u64>),
-    /// It goes on with a turn that found no unit.
-    Lacking(Turn<u64>),
-    /// It looks again.
-    Look,
-    /// The run is over.
-    Leave,
 }
 
 impl Shelf {
@@ -92,6 +70,7 @@ impl Shelf {
             keeper,
             fresh,
             lacking: Vec::new(alloc),
+            done: SpentBatch::new(alloc),
             is_whole: false,
         }
     }
@@ -132,17 +111,36 @@ impl Shelf {
                     self.is_over = true;
                 }
             }
-            Item::Spent(spent) => self.absorb(table, spent),
+            Item::Spent(spent) => self.gather(table, spent),
             Item::Stop => self.is_over = true,
         }
     }
 
-    // Takes in a turn that is done.
-    fn absorb(&mut self, table: &NetTable<u64>, spent: Spent<u64>)
+    // Takes in a turn that is done. While there are releases it isn't given to the keeper.
+    fn gather(&mut self, table: &NetTable<u64>, spent: Spent<u64>)
         requires { (table.now.table ≡ self.old) × (spent.table ≡ self.old) }
         ensures { self.new ≡ self.old }
     {
-        match self.keeper.absorb(table, spent) {
+        if self.done.make_room().is_err() {
+            drop(spent);
+            self.is_over = true;
+            return;
+        }
+        table.gather(&mut self.done, spent);
+        if self.fresh.is_empty() {
+            self.bring(table);
+        }
+    }
+
+    /// Gives the turns that are done to the keeper. If an allocation fails the run is over.
+    pub(crate) fn bring(&mut self, table: &NetTable<u64>)
+        requires { table.now.table ≡ self.old }
+        ensures { self.new ≡ self.old }
+    {
+        if self.done.is_empty() {
+            return;
+        }
+        match self.keeper.absorb(table, &mut self.done) {
             Ok(Remaining::More) => self.is_whole = false,
             Ok(Remaining::All) => {
                 self.is_whole = true;
@@ -155,24 +153,19 @@ impl Shelf {
         }
     }
 
-    /// The keeper of the run.
-    #[cfg(test)]
-    pub(crate) fn keeper(&self) -> &Keeper<u64> {
-        &self.keeper
-    }
-
-    /// The journal of the run, or `None` where it isn't finished.
-    pub(crate) fn journal(self) -> Result<Option<Journal>, NoMemory> {
+    /// The journal of the run with its values, or `None` where it isn't finished.
+    pub(crate) fn finish(self) -> Result<Option<FinishedRun<u64>>, NoMemory> {
         let Shelf {
             keeper,
             fresh,
             lacking,
+            done,
             is_over: _,
             is_whole,
         } = self;
-        drop((fresh, lacking));
+        drop((fresh, lacking, done));
         if is_whole {
-            Ok(Some(keeper.journal()?))
+            Ok(Some(keeper.finish()?))
         } else {
             drop(keeper);
             Ok(None)

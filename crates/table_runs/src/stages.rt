@@ -1,63 +1,12 @@
-// A turn between two of its steps.
+// The steps of turns.
 ghost use Rattle.std.specs.Prelude.{◌≡◌, IfSome};
 ghost use Rattle.table_runs.specs.Stages.{IsAdvanced, IsStage};
 
-use crate::needs::{Need, Units};
-use crate::shelf::Item;
+use crate::states::{Advanced, Item, Stage};
 use crate::stepping::Board;
 use crate::steps::Steps;
-use join_tables::{Collecting, Fresh, Owing, Running, Spent, StartTicket, Turn};
-use journal_rules::{DropWhy, Why};
+use journal_rules::Why;
 use std::sync::Wait;
-
-/// A turn between two of its steps.
-pub(crate) enum Stage {
-    /// A release.
-    Released(Fresh<u64>),
-    /// A release that collects its tokens.
-    Collecting(Collecting<u64>),
-    /// It has its tokens, and needs units.
-    Needing(Turn<u64>, Need),
-    /// It found no unit, and holds none.
-    Lacking(Turn<u64>, Need),
-    /// It has a unit of semaphore 0, and needs one of semaphore 1.
-    Half(Turn<u64>),
-    /// It has all that its task needs.
-    Ready(Turn<u64>, Need),
-    /// It was refused, and holds these units.
-    Refused(Turn<u64>, Units, DropWhy),
-    /// It may start.
-    Admitted(StartTicket<u64>, Need),
-    /// It has started, and gives back these units.
-    Running(Running<u64>, Units),
-    /// It has started, and gives back a unit that isn't out.
-    Overdrawn(Running<u64>),
-    /// It has ended, and owes these units.
-    Owing(Owing<u64>, Units),
-    /// It owes nothing.
-    Spent(Spent<u64>),
-    /// It can't go on: an allocation failed, or its task is of no kind that these runs know.
-    Lost,
-}
-
-impl Drop for Stage {
-    fn drop(self) {
-        match self {
-            Stage::Released(fresh) => drop(fresh),
-            Stage::Collecting(collecting) => drop(collecting),
-            Stage::Needing(turn, _)
-            | Stage::Lacking(turn, _)
-            | Stage::Half(turn)
-            | Stage::Ready(turn, _)
-            | Stage::Refused(turn, _, _) => drop(turn),
-            Stage::Admitted(ticket, _) => drop(ticket),
-            Stage::Running(running, _) | Stage::Overdrawn(running) => drop(running),
-            Stage::Owing(owing, _) => drop(owing),
-            Stage::Spent(spent) => drop(spent),
-            Stage::Lost => {}
-        }
-    }
-}
 
 impl Stage {
     /// A step of a turn. One that owes nothing, or can't go on, stays as it is.
@@ -122,11 +71,4 @@ impl Stage {
         board.put(rt, item);
         None
     }
-}
-
-/// A turn after a step, and the release that the step made.
-#[derive(Drop)]
-pub(crate) struct Advanced {
-    pub(crate) stage: Stage,
-    pub(crate) released: Option<Fresh<u64>>,
 }

@@ -1,26 +1,16 @@
 // Threads that step a table together.
-ghost use Rattle.std.specs.Prelude.{◌≡◌, ◌≤◌};
+ghost use Rattle.std.specs.Prelude.{◌≡◌};
 ghost use Rattle.join_tables.specs.States.{TableState};
 ghost use Rattle.table_runs.specs.Items.{IsItem, IsNext, Waits};
 ghost use Rattle.table_runs.specs.Stages.{IsStage};
 
-use crate::shared::Shared;
-use crate::shelf::{Item, Next};
-use crate::stages::Stage;
-use crate::steps::{Steps, Terms};
+use crate::states::{Item, Next, Stage};
+use crate::steps::Steps;
 use join_tables::Turn;
-use journal_rules::Journal;
 use outside_io::NoMemory;
 use std::alloc::Global;
-use std::sync::{Arc, Wait};
+use std::sync::Wait;
 use std::thread::{Threads, for_each_mut, yield_now};
-use task_graph::Net;
-
-/// The journal of a run.
-#[derive(Drop)]
-pub struct Ran {
-    pub journal: Journal,
-}
 
 /// A table, and what its threads share besides.
 pub(crate) trait Board: Sync {
@@ -37,32 +27,6 @@ pub(crate) trait Board: Sync {
     /// Hands something in.
     fn put<R: Wait>(&self, rt: &R, item: Item)
         requires { IsItem (table self.now).table item };
-}
-
-/// The run of a net with this limit of starts, by so many threads, where the starts at the first so many places of the
-/// journal give their edges. Its tasks need no unit, or one of each of semaphores 0 and 1, or one of semaphore 0 that others
-/// give back, or give back one. It is `None` where the run isn't finished, since an allocation failed.
-pub fn run_by<R: Threads + Wait + Sync>(
-    rt: &R,
-    alloc: Global,
-    net: &Arc<Net>,
-    limit: u64,
-    gives: u64,
-    threads: usize,
-) -> Result<Option<Ran>, NoMemory>
-    requires { limit ≤ 2097153 }
-{
-    let terms = Terms {
-        limit,
-        gives_before: gives,
-        first_faults: false,
-    };
-    let shared = Shared::new(alloc, net, terms)?;
-    work_together(rt, alloc, &shared, threads)?;
-    match shared.into_shelf(rt).journal()? {
-        Some(journal) => Ok(Some(Ran { journal })),
-        None => Ok(None),
-    }
 }
 
 /// Steps a table by so many threads until its run is over.

@@ -1,20 +1,20 @@
 // A table, and the steps that its turns take.
-ghost use Rattle.std.specs.Prelude.{◌≡◌, ◌≤◌, IfSome, IfOk, [], ◌∷◌, false};
+ghost use Rattle.std.specs.Prelude.{◌≡◌, ◌≤◌, IfSome, IfOk, [], ◌∷◌, false, length};
 ghost use Rattle.std.specs.Arc.{arc_value};
-ghost use Rattle.table_runs.specs.declared.needs.Need.TheVariants.{Hold};
+ghost use Rattle.table_runs.specs.declared.states.Need.TheVariants.{Hold};
 ghost use Rattle.table_steps.specs.Giving.{MayEndGiving};
 ghost use Rattle.table_runs.specs.Needs.{HasNeed};
 ghost use Rattle.table_runs.specs.Stages.{HasUnits, IsAdvanced, IsReady, IsRefused, IsStage, Lacks, MayEnd, MayStart, Owes};
 
 use crate::gives::gives_of;
 use crate::lending::{claim, lend};
-use crate::needs::{Need, Units, need_of};
+use crate::needs::need_of;
 use crate::shelf::Shelf;
-use crate::stages::{Advanced, Stage};
+use crate::states::{Advanced, Need, Stage, Units};
 use crate::values::value_of;
 use join_tables::{
-    Admitted, Collected, Collecting, Fresh, Gave, NetTable, Opening, Owing, Running, StartTicket,
-    Turn, UnitTake,
+    Admitted, Collected, Collecting, Fresh, Gave, NetTable, Opening, Owing, Running, SharedValue,
+    StartTicket, Turn, UnitTake,
 };
 use journal_rules::{DropWhy, Why};
 use outside_io::{List, NoMemory};
@@ -36,7 +36,7 @@ pub(crate) struct Terms {
 #[derive(Drop)]
 struct Ending {
     edges: List<u32>,
-    value: Arc<u64>,
+    value: SharedValue<u64>,
 }
 
 /// A table, its net, and how starts end.
@@ -93,7 +93,7 @@ impl Steps {
     {
         let mut fresh = fresh;
         match self.table.room_for(self.alloc, &mut fresh) {
-            Ok(ins) => Stage::Collecting(self.table.reset(fresh, ins)),
+            Ok(inputs) => Stage::Collecting(self.table.reset(fresh, inputs)),
             Err(NoMemory) => {
                 drop(fresh);
                 Stage::Lost
@@ -217,15 +217,16 @@ impl Steps {
 
     // What a start ends with.
     fn ending(&self, running: &Running<u64>) -> Option<Ending>
-        ensures { IfSome result (λ ending. MayEndGiving self.now.table.net running.now.task ending.edges false) }
+        ensures gives { IfSome result (λ ending. MayEndGiving self.now.table.net running.now.task ending.edges false) }
+        ensures shares { IfSome result (λ ending. ending.value.edges ≡ length ending.edges) }
     {
         let gives = running.place() < self.terms.gives_before;
-        let Ok(value) = value_of(self.alloc, running) else {
+        let Ok(Some(edges)) = gives_of(self.alloc, &self.net, running.task(), gives) else {
             return None;
         };
-        match gives_of(self.alloc, &self.net, running.task(), gives) {
-            Ok(Some(edges)) => Some(Ending { edges, value }),
-            _ => None,
+        match value_of(self.alloc, running, edges.len()) {
+            Ok(value) => Some(Ending { edges, value }),
+            Err(NoMemory) => None,
         }
     }
 
@@ -248,25 +249,18 @@ impl Steps {
         ensures { IsAdvanced self.now.table result }
     {
         match self.table.give(owing) {
-            Ok(Gave::Next(owing)) => Advanced {
+            Gave::Next(owing) => Advanced {
                 stage: Stage::Owing(owing, Units::Empty),
                 released: None,
             },
-            Ok(Gave::Released(owing, fresh)) => Advanced {
+            Gave::Released(owing, fresh) => Advanced {
                 stage: Stage::Owing(owing, Units::Empty),
                 released: Some(fresh),
             },
-            Ok(Gave::Finished(spent)) => Advanced {
+            Gave::Finished(spent) => Advanced {
                 stage: Stage::Spent(spent),
                 released: None,
             },
-            Err(owing) => {
-                drop(owing);
-                Advanced {
-                    stage: Stage::Lost,
-                    released: None,
-                }
-            }
         }
     }
 }

@@ -2,8 +2,7 @@
 ghost use Rattle.std.specs.Prelude.{All, IfOk};
 ghost use Rattle.table_runs.specs.Stages.{IsStage};
 
-use crate::shelf::Next;
-use crate::stages::Stage;
+use crate::states::{Next, Stage};
 use crate::stepping::Board;
 use crate::steps::Steps;
 use std::mem;

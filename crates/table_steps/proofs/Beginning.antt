@@ -6,6 +6,7 @@ use Rattle.task_graph.specs.NetRows.{NetRows}
 use Rattle.task_graph.specs.Net.{in_edges, strong_in}
 use Rattle.journal_rules.specs.declared.entry.Cause.TheVariants.{Source, Strong, Weak}
 use Rattle.journal_rules.specs.Counts.{first_tokens}
+use Rattle.table_steps.specs.Releases.{MayBeReleased}
 use Rattle.table_steps.specs.declared.view.TurnDuty.{TurnDuty}
 use Rattle.table_steps.specs.declared.view.TurnDuty.TheVariants.{Told, Fresh, Collecting, Ticket, Open, Owes, Counting}
 use Rattle.table_steps.specs.inside.Duties.{DutyCoord, duty_weigh, EdgePart, DutyPart, place, runs, running, tickets}
@@ -15,7 +16,7 @@ use Rattle.table_steps.proofs.OpeningDuties.{begins}
 use Rattle.table_steps.specs.declared.view.SemaphoreRole.{SemaphoreRole}
 use Rattle.table_steps.specs.declared.view.SemaphoreRole.TheVariants.{Held, Undo, Owed, Both, Credit, Credited, Claim, Granted, Refusing, Denied, Full}
 use Rattle.table_steps.specs.declared.view.SeatMark.TheVariants.{Live, New, Over, ToMark, Quiet}
-use Rattle.table_steps.specs.inside.Accounts.{Coord, duty, sem, mark, busy, resting, turning, owing, weigh, FitsRelease, AllStand, Readings, Balanced, HaltPart, FitsPlan, ViewPart, first_notes}
+use Rattle.table_steps.specs.inside.Accounts.{Coord, duty, sem, mark, busy, resting, turning, owing, weigh, AllStand, Readings, Balanced, HaltPart, FitsPlan, ViewPart, first_notes}
 use Rattle.table_steps.specs.Credits.{first_credit}
 use Rattle.journal_rules.specs.declared.entry.Part.{Part}
 use Rattle.journal_rules.specs.declared.entry.Part.TheVariants.{From, First}
@@ -28,7 +29,7 @@ use Rattle.table_steps.proofs.Parcels.{first_once}
 -- first releases, each of the net
 abbrev pub AreFirst : NetRows → List TurnDuty → Type 0
 AreFirst net [] = Unit {0}
-AreFirst net (Fresh t cause ∷ xs) = FitsRelease net t cause × AreFirst net xs
+AreFirst net (Fresh t cause ∷ xs) = MayBeReleased net t cause × AreFirst net xs
 AreFirst net _ = ⊥
 
 both_first : (net : NetRows) (xs ys : List TurnDuty) → AreFirst net xs → AreFirst net ys → AreFirst net (xs ++ ys)
@@ -49,12 +50,12 @@ are_first net t (suc n) below =
     (are_first net (suc t) n (omega arith))
   where
     of_source : (es : List ℕ) → in_edges net t ≡ es → AreFirst net (source_duties t (is_empty es))
-    of_source [] is = ((omega arith, is), tt)
+    of_source [] is = (record { in_tasks = omega arith; in_range = tt; fits = is }, tt)
     of_source (e ∷ es) is = tt
 
     of_full : (es : List ℕ) → strong_in net t ≡ es → (k : ℕ) → AreFirst net (full_duties t es k)
     of_full [] is k = tt
-    of_full (e ∷ es) is zero = ((omega arith, λ none. absurd (cc)), tt)
+    of_full (e ∷ es) is zero = (record { in_tasks = omega arith; in_range = tt; fits = λ none. absurd (cc) }, tt)
     of_full (e ∷ es) is (suc k) = tt
 
 duty_same : (c : DutyCoord) (xs : List TurnDuty) → weigh (duty c) (first_notes xs) ≡ duty_weigh c xs

@@ -11,8 +11,8 @@ use Rattle.journal_rules.specs.declared.entry.Entry.TheVariants.{Start, End}
 use Rattle.journal_rules.specs.DataRule.{edges_of}
 use Rattle.journal_rules.proofs.Tallying.{count_by_push_no}
 use Rattle.journal_rules.specs.declared.entry.Part.{Part}
+use Rattle.table_steps.specs.Releases.{MayBeReleased}
 use Rattle.table_steps.specs.declared.view.TurnDuty.TheVariants.{Told, Collecting, Ticket, Open, Owes}
-use Rattle.table_steps.specs.inside.Duties.{MayRelease}
 use Rattle.table_steps.specs.Giving.{MayEndGiving}
 use Rattle.table_steps.specs.Holding.{HoldsEachUnit, PutsEach, TakesAlone}
 use Rattle.table_steps.specs.declared.view.SemaphoreRole.TheVariants.{Held, Undo, Owed, Both, Credit, Credited, Claim, Granted, Refusing, Denied}
@@ -65,7 +65,7 @@ pub unstuck : {S : Type 0} {part : S → Part} (net : NetRows) (limit : ℕ) (s 
 unstuck net limit s h id v at lives lone = none_stuck net h.journal s.views id v h.views h.balanced.by_stuck at lives (omega (arith, lone, sticking_rests v))
 
 -- a Start
-pub start_drawn : {S : Type 0} {part : S → Part} (net : NetRows) (limit : ℕ) (s : St S) (h : KeepsAccounts part net limit s) (id t : ℕ) (cause : Cause) (l : List ℕ) (ins : List Part) (carried : List (ℕ × S)) (rest : List Note) → MayRelease net t cause → HoldsEachUnit net t l → length ins ≡ length (edges_of net t cause)
+pub start_drawn : {S : Type 0} {part : S → Part} (net : NetRows) (limit : ℕ) (s : St S) (h : KeepsAccounts part net limit s) (id t : ℕ) (cause : Cause) (l : List ℕ) (ins : List Part) (carried : List (ℕ × S)) (rest : List Note) → MayBeReleased net t cause → HoldsEachUnit net t l → length ins ≡ length (edges_of net t cause)
     → weigh resting rest ≡ 0 → get_elem? s.views id ≡ some (Duty (Collecting t cause (edges_of net t cause) []) ∷ Duty Ticket ∷ Has Live ∷ Sems Held l ∷ found_lots (edges_of net t cause) ins ++ rest)
     → KeepsAccounts part net limit (stepped s 8 ((slice_index s.words 8 + 1) % 2 ^ 64) id carried (started_notes net (slice_index s.words 8) t cause l ins ++ rest) keeps)
 start_drawn {S} {part} net limit s h id t cause l ins carried rest may holds full lone at =

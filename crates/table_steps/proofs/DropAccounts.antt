@@ -20,8 +20,9 @@ use Rattle.journal_rules.specs.Complete.{is_limited}
 use Rattle.journal_rules.specs.ShapeLegal.{MayFollow, DropWhyInRange}
 use Rattle.journal_rules.proofs.Snoc.{count_by_push, EachAfter-push, start_at_push_below, start_at_push_last, is_open_push_below}
 use Rattle.journal_rules.proofs.Tallying.{count_by_push_no, count_by_push_yes, given_push, and_true, and_false}
+use Rattle.table_steps.specs.Releases.{CanRelease, MayBeReleased}
 use Rattle.table_steps.specs.declared.view.TurnDuty.TheVariants.{Told, Collecting, Owes}
-use Rattle.table_steps.specs.inside.Duties.{DutyCoord, place, runs, running, tickets, token, source, weakly, awaits, unset, held_weight, is_run, MayRelease, CanRelease}
+use Rattle.table_steps.specs.inside.Duties.{DutyCoord, place, runs, running, tickets, token, source, weakly, awaits, unset, held_weight, is_run}
 use Rattle.table_steps.specs.Giving.{one_if, times}
 use Rattle.table_steps.proofs.Counting.{times_strong_in, used_at_more, more_source, more_strong, more_weak, run_past, CauseFits}
 use Rattle.table_steps.proofs.StartDuties.{one_self, below_more}
@@ -102,7 +103,7 @@ pub record DropMoves (net : NetRows) (n : ℕ) (x : Entry) (t : ℕ) (cause : Ca
 
 -- a Drop drawn, with what its reason needs
 pub drop_kept : (net : NetRows) (limit : ℕ) (w : Readings) (counted : ℕ → ℕ) (journal : List Entry) (T T' : Coord → ℕ) (t : ℕ) (cause : Cause) (why : DropWhy)
-    → Balanced net limit w counted journal T → MayRelease net t cause → DropWhyInRange net why → DropRule net journal t why → (is_stuck_why why ≡ false → count_by is_stuck journal ≡ 0)
+    → Balanced net limit w counted journal T → MayBeReleased net t cause → DropWhyInRange net why → DropRule net journal t why → (is_stuck_why why ≡ false → count_by is_stuck journal ≡ 0)
     → DropMoves net w.clock (Drop t cause why) t cause T T' → AdmissionPart limit w.admitted (journal ++ Drop t cause why ∷ []) T' → StuckPart (journal ++ Drop t cause why ∷ []) T'
     → Balanced net limit (with_clock w (suc w.clock)) counted (journal ++ Drop t cause why ∷ []) T'
 drop_kept net limit w counted journal T T' t cause why b may in_range rule none_stuck moved admissions stuck =
@@ -163,7 +164,7 @@ drop_kept net limit w counted journal T T' t cause why b may in_range rule none_
     halt_same (suc h) is = omega (arith, is, count_by_push_no is_fault journal (Drop t cause why) refl)
 
 -- a Drop at the limit
-pub limit_kept : (net : NetRows) (limit : ℕ) (w : Readings) (counted : ℕ → ℕ) (journal : List Entry) (T T' : Coord → ℕ) (t : ℕ) (cause : Cause) → Balanced net limit w counted journal T → MayRelease net t cause → count_by is_stuck journal ≡ 0
+pub limit_kept : (net : NetRows) (limit : ℕ) (w : Readings) (counted : ℕ → ℕ) (journal : List Entry) (T T' : Coord → ℕ) (t : ℕ) (cause : Cause) → Balanced net limit w counted journal T → MayBeReleased net t cause → count_by is_stuck journal ≡ 0
     → DropMoves net w.clock (Drop t cause Limit) t cause T T' → T' (mark Over) + 1 ≡ T (mark Over) → Balanced net limit (with_clock w (suc w.clock)) counted (journal ++ Drop t cause Limit ∷ []) T'
 limit_kept net limit w counted journal T T' t cause b may none_stuck moved over_is = let x = Drop t cause Limit in let a = b.by_admissions in
     let limited_more = count_by_push_yes is_limited journal x refl in let starts_same = count_by_push_no is_start journal x refl in
@@ -176,7 +177,7 @@ limit_kept net limit w counted journal T T' t cause b may none_stuck moved over_
     (λ some. absurd (some (count_by_push_no is_stuck journal x refl ∙ none_stuck)))
 
 -- one after a Fault
-pub halted_kept : (net : NetRows) (limit : ℕ) (w : Readings) (counted : ℕ → ℕ) (journal : List Entry) (T T' : Coord → ℕ) (t : ℕ) (cause : Cause) → Balanced net limit w counted journal T → MayRelease net t cause → count_by is_stuck journal ≡ 0 → 1 ≤ faults journal
+pub halted_kept : (net : NetRows) (limit : ℕ) (w : Readings) (counted : ℕ → ℕ) (journal : List Entry) (T T' : Coord → ℕ) (t : ℕ) (cause : Cause) → Balanced net limit w counted journal T → MayBeReleased net t cause → count_by is_stuck journal ≡ 0 → 1 ≤ faults journal
     → DropMoves net w.clock (Drop t cause Halted) t cause T T' → T' (mark Over) ≡ T (mark Over) → Balanced net limit (with_clock w (suc w.clock)) counted (journal ++ Drop t cause Halted ∷ []) T'
 halted_kept net limit w counted journal T T' t cause b may none_stuck faulted moved over_is = let x = Drop t cause Halted in let a = b.by_admissions in
     let limited_same = count_by_push_no is_limited journal x refl in let starts_same = count_by_push_no is_start journal x refl in

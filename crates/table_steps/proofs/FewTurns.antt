@@ -90,19 +90,19 @@ strong_held net T e below is h = by_edge net T e below (omega (arith, h, ap (λ 
 
 one_held : (net : NetRows) (x : Note) → FitsNote net x → weight turning x ≤ weight (duty running) x + weight owing x + held_by net (λ c. weight c x)
 one_held net (Duty (Told n y)) fits = omega arith
-one_held net (Duty (Fresh t Source)) fits = omega (arith, source_held net (λ c. weight c (Duty (Fresh t Source))) t fits.0 fits.1 (omega (arith, one_self t)))
-one_held net (Duty (Fresh t Strong)) fits = omega (arith, unset_held net (λ c. weight c (Duty (Fresh t Strong))) t fits.0 fits.1 (omega (arith, one_self t)))
-one_held net (Duty (Fresh t (Weak e))) fits = omega (arith, weak_held net (λ c. weight c (Duty (Fresh t (Weak e)))) e fits.0 fits.1 (omega (arith, one_self e)))
-one_held net (Duty (Collecting t Source taken left)) fits = omega (arith, source_held net (λ c. weight c (Duty (Collecting t Source taken left))) t fits.0.0 fits.0.1 (omega (arith, one_self t)))
+one_held net (Duty (Fresh t Source)) fits = omega (arith, source_held net (λ c. weight c (Duty (Fresh t Source))) t fits.in_tasks fits.fits (omega (arith, one_self t)))
+one_held net (Duty (Fresh t Strong)) fits = omega (arith, unset_held net (λ c. weight c (Duty (Fresh t Strong))) t fits.in_tasks fits.fits (omega (arith, one_self t)))
+one_held net (Duty (Fresh t (Weak e))) fits = omega (arith, weak_held net (λ c. weight c (Duty (Fresh t (Weak e)))) e fits.in_range fits.fits.0 (omega (arith, one_self e)))
+one_held net (Duty (Collecting t Source taken left)) fits = omega (arith, source_held net (λ c. weight c (Duty (Collecting t Source taken left))) t fits.0.in_tasks fits.0.fits (omega (arith, one_self t)))
 one_held net (Duty (Collecting t Strong taken left)) fits =
-    let f = first_in net t fits.0.1 in
+    let f = first_in net t fits.0.fits in
     omega (
       arith,
       strong_held net (λ c. weight c (Duty (Collecting t Strong taken left))) f.edge (below_of net t f.edge f.into) (into_strong net t f.edge f.into)
           (omega (arith, times_append f.edge taken left, ap (times f.edge) fits.1, times_strong_in net t f.edge, ap one_if f.into)),
     )
 one_held net (Duty (Collecting t (Weak e) taken left)) fits =
-    omega (arith, weak_held net (λ c. weight c (Duty (Collecting t (Weak e) taken left))) e fits.0.0 fits.0.1 (omega (arith, times_append e taken left, ap (times e) fits.1, one_self e)))
+    omega (arith, weak_held net (λ c. weight c (Duty (Collecting t (Weak e) taken left))) e fits.0.in_range fits.0.fits.0 (omega (arith, times_append e taken left, ap (times e) fits.1, one_self e)))
 one_held net (Duty Ticket) fits = omega arith
 one_held net (Duty (Open n t)) fits = omega arith
 one_held net (Duty (Owes gives)) fits = omega arith

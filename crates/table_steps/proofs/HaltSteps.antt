@@ -21,9 +21,9 @@ use Rattle.journal_rules.specs.SemaphoreRule.{IsOverRelease, OverReleaseRule}
 use Rattle.journal_rules.specs.ShapeLegal.{WhyInRange}
 use Rattle.journal_rules.proofs.Tallying.{count_by_push_no, count_by_push_yes}
 use Rattle.journal_rules.specs.declared.entry.Part.{Part}
+use Rattle.table_steps.specs.Releases.{MayBeReleased}
 use Rattle.table_steps.specs.declared.view.TurnDuty.{TurnDuty}
 use Rattle.table_steps.specs.declared.view.TurnDuty.TheVariants.{Told, Collecting, Open, Owes}
-use Rattle.table_steps.specs.inside.Duties.{MayRelease}
 use Rattle.table_steps.specs.declared.view.SemaphoreRole.TheVariants.{Held, Undo, Owed, Both, Credit, Credited, Claim, Granted, Refusing, Denied}
 use Rattle.table_steps.specs.declared.view.SeatMark.TheVariants.{Live, New, Over, ToMark, Halted, Asked}
 use Rattle.table_steps.specs.declared.view.Note.{Note}
@@ -37,7 +37,6 @@ use Rattle.table_steps.proofs.Drawing.{drawn, told, unstuck}
 use Rattle.table_steps.proofs.MarkSteps.{reads_same, asked_none}
 use Rattle.table_steps.proofs.Marking.{alike_kept, marks_none}
 use Rattle.table_steps.proofs.Bounds.{few_uses}
-use Rattle.table_steps.proofs.TurnSteps.{may_release}
 use Rattle.table_steps.proofs.Halting.{marked_kept, halt_found}
 use Rattle.table_steps.proofs.Faulting.{fault_kept}
 use Rattle.table_steps.proofs.DropAccounts.{limit_kept, halted_kept}
@@ -117,7 +116,7 @@ pub drop_room : {S : Type 0} {part : S → Part} (net : NetRows) (limit : ℕ) (
 drop_room net limit s h = omega (arith, few_uses net limit s h)
 
 -- a Drop at the limit
-limit_drawn : {S : Type 0} {part : S → Part} (net : NetRows) (limit : ℕ) (s : St S) (h : KeepsAccounts part net limit s) (id t : ℕ) (cause : Cause) (ps : List Part) (carried : List (ℕ × S)) (rest : List Note) → MayRelease net t cause → length ps ≡ length (edges_of net t cause)
+limit_drawn : {S : Type 0} {part : S → Part} (net : NetRows) (limit : ℕ) (s : St S) (h : KeepsAccounts part net limit s) (id t : ℕ) (cause : Cause) (ps : List Part) (carried : List (ℕ × S)) (rest : List Note) → MayBeReleased net t cause → length ps ≡ length (edges_of net t cause)
     → weigh resting rest ≡ 0 → get_elem? s.views id ≡ some (Duty (Collecting t cause (edges_of net t cause) []) ∷ Has Over ∷ Sems Held [] ∷ found_lots (edges_of net t cause) ps ++ rest)
     → KeepsAccounts part net limit (stepped s 8 ((slice_index s.words 8 + 1) % 2 ^ 64) id carried (Duty (Owes []) ∷ Has Live ∷ Duty (Told (slice_index s.words 8) (Drop t cause Limit)) ∷ rest) keeps)
 limit_drawn {S} {part} net limit s h id t cause ps carried rest may full lone at =
@@ -139,7 +138,7 @@ limit_drawn {S} {part} net limit s h id t cause ps carried rest may full lone at
     }) (omega (arith, moved (mark Over), found_weigh (mark Over) es ps)))
 
 -- and one after a Fault
-halted_drawn : {S : Type 0} {part : S → Part} (net : NetRows) (limit : ℕ) (s : St S) (h : KeepsAccounts part net limit s) (id t : ℕ) (cause : Cause) (ps : List Part) (carried : List (ℕ × S)) (rest : List Note) → MayRelease net t cause → length ps ≡ length (edges_of net t cause)
+halted_drawn : {S : Type 0} {part : S → Part} (net : NetRows) (limit : ℕ) (s : St S) (h : KeepsAccounts part net limit s) (id t : ℕ) (cause : Cause) (ps : List Part) (carried : List (ℕ × S)) (rest : List Note) → MayBeReleased net t cause → length ps ≡ length (edges_of net t cause)
     → weigh resting rest ≡ 0 → get_elem? s.views id ≡ some (Duty (Collecting t cause (edges_of net t cause) []) ∷ Has Live ∷ Has Halted ∷ Sems Held [] ∷ found_lots (edges_of net t cause) ps ++ rest)
     → KeepsAccounts part net limit (stepped s 8 ((slice_index s.words 8 + 1) % 2 ^ 64) id carried (Duty (Owes []) ∷ Has Live ∷ Duty (Told (slice_index s.words 8) (Drop t cause AfterFault)) ∷ rest) keeps)
 halted_drawn {S} {part} net limit s h id t cause ps carried rest may full lone at =
@@ -230,12 +229,12 @@ drop_allowed {S} {part} net limit slots id me may s h _ at small = from me.0 may
         let stand = (h.views id _ at).stand.0 in let ps = first_parts taken rest in let more = after_lots taken rest in
         let all : taken ≡ edges_of net t cause = sym (append-nil taken) ∙ stand.1 in
         done net limit s id 8 _ me _ _ refl
-        (limit_drawn net limit s h id t cause ps me.1 more (may_release net t cause h.fits.rows stand.0) (parts_length taken rest may.0 ∙ ap length all) (omega (arith, may.1, after_weigh resting taken rest may.0))
+        (limit_drawn net limit s h id t cause ps me.1 more stand.0 (parts_length taken rest may.0 ∙ ap length all) (omega (arith, may.1, after_weigh resting taken rest may.0))
         (at ∙ ap (λ v. some (Duty (Collecting t cause taken []) ∷ Has Over ∷ Sems Held [] ∷ v)) (first_found taken rest may.0) ∙ ap (λ es. some (Duty (Collecting t cause es []) ∷ Has Over ∷ Sems Held [] ∷ found_lots es ps ++ more)) all))
     from (Duty (Collecting t cause taken []) ∷ Has Live ∷ Has Halted ∷ Sems Held [] ∷ rest) may at =
         let stand = (h.views id _ at).stand.0 in let ps = first_parts taken rest in let more = after_lots taken rest in
         let all : taken ≡ edges_of net t cause = sym (append-nil taken) ∙ stand.1 in
         done net limit s id 8 _ me _ _ refl
-        (halted_drawn net limit s h id t cause ps me.1 more (may_release net t cause h.fits.rows stand.0) (parts_length taken rest may.0 ∙ ap length all) (omega (arith, may.1, after_weigh resting taken rest may.0))
+        (halted_drawn net limit s h id t cause ps me.1 more stand.0 (parts_length taken rest may.0 ∙ ap length all) (omega (arith, may.1, after_weigh resting taken rest may.0))
         (at ∙ ap (λ v. some (Duty (Collecting t cause taken []) ∷ Has Live ∷ Has Halted ∷ Sems Held [] ∷ v)) (first_found taken rest may.0) ∙ ap (λ es. some (Duty (Collecting t cause es []) ∷ Has Live ∷ Has Halted ∷ Sems Held [] ∷ found_lots es ps ++ more)) all))
     from v may at = absurd may

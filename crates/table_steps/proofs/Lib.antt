@@ -63,3 +63,4 @@ pub mod TableSeats
 pub mod Values
 pub mod ValueSteps
 pub mod WorkedValues
+pub mod OneJournal

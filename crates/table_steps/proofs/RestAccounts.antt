@@ -11,7 +11,8 @@ use Rattle.journal_rules.specs.DataRule.{edges_of}
 use Rattle.journal_rules.specs.Complete.{is_limited}
 use Rattle.journal_rules.specs.HaltLimitStuckRule.{MayBeStuck}
 use Rattle.journal_rules.proofs.Tallying.{count_by_push_no}
-use Rattle.table_steps.specs.inside.Duties.{tickets, MayRelease}
+use Rattle.table_steps.specs.Releases.{MayBeReleased}
+use Rattle.table_steps.specs.inside.Duties.{tickets}
 use Rattle.table_steps.specs.declared.view.SeatMark.TheVariants.{Over, ToMark, Sticking}
 use Rattle.table_steps.specs.inside.Accounts.{Coord, mark, Readings, HaltPart, Balanced, with_clock}
 use Rattle.table_steps.proofs.DropAccounts.{DropMoves, drop_kept, no_ticket}
@@ -20,7 +21,7 @@ pub halt_none : (h : ℕ) (journal : List Entry) (T : Coord → ℕ) → HaltPar
 halt_none zero journal T is none clear = omega (arith, is, clear)
 halt_none (suc h) journal T is none clear = absurd (omega (arith, none))
 
-pub stuck_kept : (net : NetRows) (limit : ℕ) (w : Readings) (counted : ℕ → ℕ) (journal : List Entry) (T T' : Coord → ℕ) (t s : ℕ) (cause : Cause) → Balanced net limit w counted journal T → MayRelease net t cause → s < length net.sems → MayBeStuck net journal t s
+pub stuck_kept : (net : NetRows) (limit : ℕ) (w : Readings) (counted : ℕ → ℕ) (journal : List Entry) (T T' : Coord → ℕ) (t s : ℕ) (cause : Cause) → Balanced net limit w counted journal T → MayBeReleased net t cause → s < length net.sems → MayBeStuck net journal t s
     → DropMoves net w.clock (Drop t cause (Stuck s)) t cause T T' → T' (mark Over) ≡ T (mark Over) → 1 ≤ T' (mark Sticking) → Balanced net limit (with_clock w (suc w.clock)) counted (journal ++ Drop t cause (Stuck s) ∷ []) T'
 stuck_kept net limit w counted journal T T' t s cause b may below stuck moved over_is sticks = let x = Drop t cause (Stuck s) in let a = b.by_admissions in
     let limited_same = count_by_push_no is_limited journal x refl in let starts_same = count_by_push_no is_start journal x refl in

@@ -23,13 +23,14 @@ use Rattle.journal_rules.proofs.Tallying.{count_by_push_no, count_by_push_yes}
 use Rattle.journal_rules.proofs.TaskSemaphores.{takes_in_range}
 use Rattle.std.specs.Option.{option_map_or}
 use Rattle.journal_rules.specs.declared.entry.Part.{Part}
+use Rattle.table_steps.specs.Releases.{MayBeReleased}
 use Rattle.table_steps.specs.declared.view.TurnDuty.TheVariants.{Told, Fresh, Collecting, Ticket, Open, Owes, Counting}
 use Rattle.table_steps.specs.declared.view.SemaphoreRole.TheVariants.{Held, Full}
 use Rattle.table_steps.specs.declared.view.SeatMark.TheVariants.{Live, New, Over, ToMark, Halted, Alone, Quiet, Sticking}
 use Rattle.table_steps.specs.declared.view.Note.{Note}
 use Rattle.table_steps.specs.declared.view.Note.TheVariants.{Duty, Sems, Has, Unfit, Lies}
 use Rattle.table_steps.specs.Giving.{one_if, times}
-use Rattle.table_steps.specs.inside.Duties.{running, runs, MayRelease}
+use Rattle.table_steps.specs.inside.Duties.{running, runs}
 use Rattle.table_steps.specs.inside.Accounts.{Coord, duty, sem, mark, turning, owing, resting, weigh, total, AllStand, Balanced, Moves, is_drop, with_clock, reading, KeepsAccounts}
 use Rattle.table_steps.specs.inside.Kinds.{IsTurn, left_by}
 use Rattle.table_steps.specs.inside.RestKinds.{known_part, bare_part, MayPark, parked, HasLast, MayHandOut, last_turn, other_turns, handed_out, left_behind, alone_notes, live_found, MayLook, looked, HasNoUnit, MayAskForUnit, full_with, with_unit_asked, MayDropLast, last_dropped, MayThin}
@@ -51,7 +52,6 @@ use Rattle.table_steps.proofs.Marking.{alike_kept, RestMarks, marks_none}
 use Rattle.table_steps.proofs.Halting.{halt_found}
 use Rattle.table_steps.proofs.HaltSteps.{drop_room}
 use Rattle.table_steps.proofs.Seats.{nothing_done, split_allowed, join_allowed}
-use Rattle.table_steps.proofs.TurnSteps.{may_release}
 use Rattle.table_steps.proofs.DropAccounts.{halted_kept}
 use Rattle.table_steps.proofs.RestAlone.{has_all, none_open, to_mark_bound, units_alone}
 use Rattle.table_steps.proofs.RestAccounts.{stuck_kept, halt_none}
@@ -250,7 +250,7 @@ drawn_all {S} {part} net limit s h id carried v v' x at same own live_is few slo
     subst (λ u. KeepsAccounts part net limit (stepped s 8 ((slice_index s.words 8 + 1) % 2 ^ 64) id carried u keeps)) (append-nil v') (drawn net limit s h id carried v v' [] x (at ∙ ap some (sym (append-nil v))) same own live_is few slots kept)
 
 -- for want of a unit
-stuck_drawn : {S : Type 0} {part : S → Part} (net : NetRows) (limit : ℕ) (s : St S) (h : KeepsAccounts part net limit s) (id t a : ℕ) (cause : Cause) (carried : List (ℕ × S)) (l : List ℕ) (ps : List Part) (rest : List Note) → MayRelease net t cause → length ps ≡ length (edges_of net t cause) → IsTrue (takes net a t) → 1 ≤ times a l → weigh (duty running) rest ≡ 0
+stuck_drawn : {S : Type 0} {part : S → Part} (net : NetRows) (limit : ℕ) (s : St S) (h : KeepsAccounts part net limit s) (id t a : ℕ) (cause : Cause) (carried : List (ℕ × S)) (l : List ℕ) (ps : List Part) (rest : List Note) → MayBeReleased net t cause → length ps ≡ length (edges_of net t cause) → IsTrue (takes net a t) → 1 ≤ times a l → weigh (duty running) rest ≡ 0
     → get_elem? s.views id ≡ some (Sems Full l ∷ Has Quiet ∷ Duty (Collecting t cause (edges_of net t cause) []) ∷ Has Live ∷ Sems Held [] ∷ found_lots (edges_of net t cause) ps ++ rest)
     → KeepsAccounts part net limit (stepped s 8 ((slice_index s.words 8 + 1) % 2 ^ 64) id carried (Duty (Owes []) ∷ Has Live ∷ Sems Full l ∷ Has Quiet ∷ rest ++ Duty (Told (slice_index s.words 8) (Drop t cause (Stuck a))) ∷ Has Sticking ∷ []) keeps)
 stuck_drawn {S} {part} net limit s h id t a cause carried l ps rest may each takes_it full idle at =
@@ -300,7 +300,7 @@ stuck_drawn {S} {part} net limit s h id t a cause carried l ps rest may each tak
     }) (omega (arith, moved (mark Over), none (mark Over), weigh_append (mark Over) rest tail)) (omega (arith, moved (mark Sticking), none (mark Sticking), weigh_append (mark Sticking) rest tail)))
 
 -- and after a Fault
-halted_drawn : {S : Type 0} {part : S → Part} (net : NetRows) (limit : ℕ) (s : St S) (h : KeepsAccounts part net limit s) (id t : ℕ) (cause : Cause) (carried : List (ℕ × S)) (l : List ℕ) (ps : List Part) (rest : List Note) → MayRelease net t cause → length ps ≡ length (edges_of net t cause) → weigh (mark Sticking) rest ≡ 0
+halted_drawn : {S : Type 0} {part : S → Part} (net : NetRows) (limit : ℕ) (s : St S) (h : KeepsAccounts part net limit s) (id t : ℕ) (cause : Cause) (carried : List (ℕ × S)) (l : List ℕ) (ps : List Part) (rest : List Note) → MayBeReleased net t cause → length ps ≡ length (edges_of net t cause) → weigh (mark Sticking) rest ≡ 0
     → get_elem? s.views id ≡ some (Sems Full l ∷ Has Alone ∷ Has Halted ∷ Duty (Collecting t cause (edges_of net t cause) []) ∷ Has Live ∷ Sems Held [] ∷ found_lots (edges_of net t cause) ps ++ rest)
     → KeepsAccounts part net limit (stepped s 8 ((slice_index s.words 8 + 1) % 2 ^ 64) id carried (Duty (Owes []) ∷ Has Live ∷ Sems Full l ∷ Has Alone ∷ Has Halted ∷ rest ++ Duty (Told (slice_index s.words 8) (Drop t cause AfterFault)) ∷ []) keeps)
 halted_drawn {S} {part} net limit s h id t cause carried l ps rest may each free at =
@@ -351,13 +351,13 @@ drop_last_allowed {S} {part} net limit slots id me why may s h _ at small = from
         let stand = (h.views id _ at).stand.1.1.0 in let ps = first_parts taken rest in let more = after_lots taken rest in
         let all : taken ≡ edges_of net t cause = sym (append-nil taken) ∙ stand.1 in
         done net limit s id 8 _ me _ _ refl
-        (stuck_drawn net limit s h id t a cause me.1 l ps more (may_release net t cause h.fits.rows stand.0) (parts_length taken rest may.3 ∙ ap length all) may.0 may.1 (omega (arith, may.2, after_weigh (duty running) taken rest may.3))
+        (stuck_drawn net limit s h id t a cause me.1 l ps more stand.0 (parts_length taken rest may.3 ∙ ap length all) may.0 may.1 (omega (arith, may.2, after_weigh (duty running) taken rest may.3))
         (at ∙ ap (λ v. some (Sems Full l ∷ Has Quiet ∷ Duty (Collecting t cause taken []) ∷ Has Live ∷ Sems Held [] ∷ v)) (first_found taken rest may.3) ∙ ap (λ es. some (Sems Full l ∷ Has Quiet ∷ Duty (Collecting t cause es []) ∷ Has Live ∷ Sems Held [] ∷ found_lots es ps ++ more)) all))
     from AfterFault (Sems Full l ∷ Has Alone ∷ Has Halted ∷ Duty (Collecting t cause taken []) ∷ Has Live ∷ Sems Held [] ∷ rest) may at =
         let stand = (h.views id _ at).stand.1.1.1.0 in let ps = first_parts taken rest in let more = after_lots taken rest in
         let all : taken ≡ edges_of net t cause = sym (append-nil taken) ∙ stand.1 in
         done net limit s id 8 _ me _ _ refl
-        (halted_drawn net limit s h id t cause me.1 l ps more (may_release net t cause h.fits.rows stand.0) (parts_length taken rest may.1 ∙ ap length all) (omega (arith, may.0, after_weigh (mark Sticking) taken rest may.1))
+        (halted_drawn net limit s h id t cause me.1 l ps more stand.0 (parts_length taken rest may.1 ∙ ap length all) (omega (arith, may.0, after_weigh (mark Sticking) taken rest may.1))
         (at ∙ ap (λ v. some (Sems Full l ∷ Has Alone ∷ Has Halted ∷ Duty (Collecting t cause taken []) ∷ Has Live ∷ Sems Held [] ∷ v)) (first_found taken rest may.1) ∙ ap (λ es. some (Sems Full l ∷ Has Alone ∷ Has Halted ∷ Duty (Collecting t cause es []) ∷ Has Live ∷ Sems Held [] ∷ found_lots es ps ++ more)) all))
     from q v may at = absurd may
 

@@ -5,6 +5,7 @@ use mathlib.Core.Option.{some}
 use lib.ListN.{get_elem?}
 use Rattle.atomic_table.specs.Table.{keeps, stepped}
 use Rattle.task_graph.specs.NetRows.{NetRows}
+use Rattle.journal_rules.specs.declared.entry.Entry.{Entry}
 use Rattle.journal_rules.specs.Counts.{faults}
 use Rattle.journal_rules.specs.SemaphoreRule.{taken, back, max_of}
 use Rattle.journal_rules.specs.declared.entry.Part.{Part}
@@ -91,9 +92,10 @@ split_allowed net limit id v marks left right is forgets none_left none_right co
         by_end (inl there) = set_part other w there (cases_eq other id)
         by_end (inr is_w) = subst (λ u. ViewPart net h.journal (λ c. total c (set s.views id left ++ right ∷ [])) other u) is_w (lone_part other right parts.0 covered_right (λ far. told_right) none_right)
 
--- a seat takes in another's notes
-pub join_allowed : {S : Type 0} {part : S → Part} (net : NetRows) (limit id : ℕ) (v : List Note) (other : ℕ) (w : List Note) → (id ≢ 0 → 1 ≤ weigh (mark Live) v) → Joins (KeepsAccounts part net limit) id v other w (w ++ v) []
-join_allowed net limit id v other w lives s h at apart at_other = record {
+-- a seat takes in another's notes, in any order of all of them
+pub join_as : {S : Type 0} {part : S → Part} (net : NetRows) (limit id : ℕ) (v : List Note) (other : ℕ) (w both : List Note) → ((c : Coord) → weigh c both ≡ weigh c w + weigh c v) → ((c : SlotCoord) → slot_weigh c both ≡ slot_weigh c w + slot_weigh c v)
+    → ((journal : List Entry) → AllStand net journal w → AllStand net journal v → AllStand net journal both) → (id ≢ 0 → 1 ≤ weigh (mark Live) v) → Joins (KeepsAccounts part net limit) id v other w both []
+join_as net limit id v other w both sums slot_sums stands lives s h at apart at_other = record {
   fits = h.fits;
   size = h.size;
   journal = h.journal;
@@ -102,18 +104,18 @@ join_allowed net limit id v other w lives s h at apart at_other = record {
   few = omega (arith, h.few, same (mark Live));
   few_drops = h.few_drops;
   views = λ k u at_u. by_two k u at_u (cases_eq k other) (cases_eq k id);
-  homes = homes_alike net s.words s.homes s.views (set (set s.views id (w ++ v)) other []) h.homes (λ j e. same_slots (lot j e));
+  homes = homes_alike net s.words s.homes s.views (set (set s.views id both) other []) h.homes (λ j e. same_slots (lot j e));
   slots = slots_alike net h.journal _ _ _ _ h.slots same_slots;
 }
   where
-    same : (c : Coord) → total c (set (set s.views id (w ++ v)) other []) ≡ total c s.views
-    same c = omega (arith, total_set c (set s.views id (w ++ v)) other w [] at_other, total_set c s.views id v (w ++ v) at, weigh_append c w v)
+    same : (c : Coord) → total c (set (set s.views id both) other []) ≡ total c s.views
+    same c = omega (arith, total_set c (set s.views id both) other w [] at_other, total_set c s.views id v both at, sums c)
 
-    same_slots : (c : SlotCoord) → slot_total c (set (set s.views id (w ++ v)) other []) ≡ slot_total c s.views
-    same_slots c = omega (arith, slot_total_set c (set s.views id (w ++ v)) other w [] at_other, slot_total_set c s.views id v (w ++ v) at, slot_append c w v)
+    same_slots : (c : SlotCoord) → slot_total c (set (set s.views id both) other []) ≡ slot_total c s.views
+    same_slots c = omega (arith, slot_total_set c (set s.views id both) other w [] at_other, slot_total_set c s.views id v both at, slot_sums c)
 
     at_w : get_elem? s.views other ≡ some w
-    at_w = sym (set_else s.views id other (w ++ v) apart) ∙ at_other
+    at_w = sym (set_else s.views id other both apart) ∙ at_other
 
     either : (a b c : ℕ) → c ≡ a + b → c ≢ 0 → (a ≢ 0) ⊎ (b ≢ 0)
     either zero b c is more = inr (λ z. more (omega (arith, is, z)))
@@ -122,19 +124,19 @@ join_allowed net limit id v other w lives s h at apart at_other = record {
     together : weigh (mark Live) v + weigh (mark Live) w ≤ total (mark Live) s.views
     together = two_views (mark Live) s.views id other v w at at_w apart
 
-    joined : (k : ℕ) → k ≡ id → ViewPart net h.journal (λ c. total c (set (set s.views id (w ++ v)) other [])) k (w ++ v)
+    joined : (k : ℕ) → k ≡ id → ViewPart net h.journal (λ c. total c (set (set s.views id both) other [])) k both
     joined k eq = let p = h.views id v at in let q = h.views other w at_w in record {
-      stand = stand_both net h.journal w v q.stand p.stand;
-      covered = λ none. omega (arith, weigh_append busy w v, p.covered (omega (arith, none, weigh_append (mark Live) w v)), q.covered (omega (arith, none, weigh_append (mark Live) w v)));
-      told = λ far none. absurd (omega (arith, none, weigh_append (mark Live) w v, lives (λ z. far (eq ∙ z))));
-      alone = λ more. alone_by p q (either (weigh resting w) (weigh resting v) (weigh resting (w ++ v)) (weigh_append resting w v) more);
-      quiet = λ more. quiet_by p q (either (weigh (mark Quiet) w) (weigh (mark Quiet) v) (weigh (mark Quiet) (w ++ v)) (weigh_append (mark Quiet) w v) more);
-      full = λ z more. full_by z p q (either (weigh (sem Full z) w) (weigh (sem Full z) v) (weigh (sem Full z) (w ++ v)) (weigh_append (sem Full z) w v) more);
+      stand = stands h.journal q.stand p.stand;
+      covered = λ none. omega (arith, sums busy, p.covered (omega (arith, none, sums (mark Live))), q.covered (omega (arith, none, sums (mark Live))));
+      told = λ far none. absurd (omega (arith, none, sums (mark Live), lives (λ z. far (eq ∙ z))));
+      alone = λ more. alone_by p q (either (weigh resting w) (weigh resting v) (weigh resting both) (sums resting) more);
+      quiet = λ more. quiet_by p q (either (weigh (mark Quiet) w) (weigh (mark Quiet) v) (weigh (mark Quiet) both) (sums (mark Quiet)) more);
+      full = λ z more. full_by z p q (either (weigh (sem Full z) w) (weigh (sem Full z) v) (weigh (sem Full z) both) (sums (sem Full z)) more);
     }
       where
-        alone_by : ViewPart net h.journal (λ c. total c s.views) id v → ViewPart net h.journal (λ c. total c s.views) other w → (weigh resting w ≢ 0) ⊎ (weigh resting v ≢ 0) → total (mark Live) (set (set s.views id (w ++ v)) other []) ≡ weigh (mark Live) (w ++ v)
-        alone_by p q (inl more) = omega (arith, same (mark Live), q.alone more, together, weigh_append (mark Live) w v)
-        alone_by p q (inr more) = omega (arith, same (mark Live), p.alone more, together, weigh_append (mark Live) w v)
+        alone_by : ViewPart net h.journal (λ c. total c s.views) id v → ViewPart net h.journal (λ c. total c s.views) other w → (weigh resting w ≢ 0) ⊎ (weigh resting v ≢ 0) → total (mark Live) (set (set s.views id both) other []) ≡ weigh (mark Live) both
+        alone_by p q (inl more) = omega (arith, same (mark Live), q.alone more, together, sums (mark Live))
+        alone_by p q (inr more) = omega (arith, same (mark Live), p.alone more, together, sums (mark Live))
 
         quiet_by : ViewPart net h.journal (λ c. total c s.views) id v → ViewPart net h.journal (λ c. total c s.views) other w → (weigh (mark Quiet) w ≢ 0) ⊎ (weigh (mark Quiet) v ≢ 0) → faults h.journal ≡ 0
         quiet_by p q (inl more) = q.quiet more
@@ -144,15 +146,19 @@ join_allowed net limit id v other w lives s h at apart at_other = record {
         full_by z p q (inl more) = q.full z more
         full_by z p q (inr more) = p.full z more
 
-    by_two : (k : ℕ) (u : List Note) → get_elem? (set (set s.views id (w ++ v)) other []) k ≡ some u → (k ≡ other) ⊎ (k ≢ other) → (k ≡ id) ⊎ (k ≢ id) → ViewPart net h.journal (λ c. total c (set (set s.views id (w ++ v)) other [])) k u
+    by_two : (k : ℕ) (u : List Note) → get_elem? (set (set s.views id both) other []) k ≡ some u → (k ≡ other) ⊎ (k ≢ other) → (k ≡ id) ⊎ (k ≢ id) → ViewPart net h.journal (λ c. total c (set (set s.views id both) other [])) k u
     by_two k u at_u (inl eq) any =
-        let is_u : [] ≡ u = some-injective [] u (sym (get_set (set s.views id (w ++ v)) other [] w at_other) ∙ sym (ap (get_elem? (set (set s.views id (w ++ v)) other [])) eq) ∙ at_u) in
-        subst (λ r. ViewPart net h.journal (λ c. total c (set (set s.views id (w ++ v)) other [])) k r) is_u
+        let is_u : [] ≡ u = some-injective [] u (sym (get_set (set s.views id both) other [] w at_other) ∙ sym (ap (get_elem? (set (set s.views id both) other [])) eq) ∙ at_u) in
+        subst (λ r. ViewPart net h.journal (λ c. total c (set (set s.views id both) other [])) k r) is_u
         (record { stand = tt; covered = λ z. refl; told = λ far z. refl; alone = λ more. absurd (more refl); quiet = λ more. absurd (more refl); full = λ z more. absurd (more refl) })
     by_two k u at_u (inr far) (inl eq) =
-        let at_set : get_elem? (set s.views id (w ++ v)) k ≡ some u = sym (set_else (set s.views id (w ++ v)) other k [] far) ∙ at_u in
-        let is_u : w ++ v ≡ u = some-injective (w ++ v) u (sym (get_set s.views id (w ++ v) v at) ∙ sym (ap (get_elem? (set s.views id (w ++ v))) eq) ∙ at_set) in
-        subst (λ r. ViewPart net h.journal (λ c. total c (set (set s.views id (w ++ v)) other [])) k r) is_u (joined k eq)
+        let at_set : get_elem? (set s.views id both) k ≡ some u = sym (set_else (set s.views id both) other k [] far) ∙ at_u in
+        let is_u : both ≡ u = some-injective both u (sym (get_set s.views id both v at) ∙ sym (ap (get_elem? (set s.views id both)) eq) ∙ at_set) in
+        subst (λ r. ViewPart net h.journal (λ c. total c (set (set s.views id both) other [])) k r) is_u (joined k eq)
     by_two k u at_u (inr far) (inr off) =
-        let p = h.views k u (sym (set_else s.views id k (w ++ v) off) ∙ sym (set_else (set s.views id (w ++ v)) other k [] far) ∙ at_u) in
+        let p = h.views k u (sym (set_else s.views id k both off) ∙ sym (set_else (set s.views id both) other k [] far) ∙ at_u) in
         record { stand = p.stand; covered = p.covered; told = p.told; alone = λ more. same (mark Live) ∙ p.alone more; quiet = p.quiet; full = p.full }
+
+-- that seat's first
+pub join_allowed : {S : Type 0} {part : S → Part} (net : NetRows) (limit id : ℕ) (v : List Note) (other : ℕ) (w : List Note) → (id ≢ 0 → 1 ≤ weigh (mark Live) v) → Joins (KeepsAccounts part net limit) id v other w (w ++ v) []
+join_allowed net limit id v other w lives = join_as net limit id v other w (w ++ v) (λ c. weigh_append c w v) (λ c. slot_append c w v) (λ journal. stand_both net journal w v) lives

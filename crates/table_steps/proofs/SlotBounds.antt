@@ -31,7 +31,7 @@ left_strong net journal e (Collecting t Strong taken left) strong stand = omega 
 left_strong net journal e (Collecting t (Weak f) taken left) strong stand = by_eq (cases_eq f e)
   where
     by_eq : (f ≡ e) ⊎ (f ≢ e) → times e left ≤ 0
-    by_eq (inl same) = absurd (false≢true (sym strong ∙ sym (ap (is_weak net) same) ∙ stand.0.1))
+    by_eq (inl same) = absurd (false≢true (sym strong ∙ sym (ap (is_weak net) same) ∙ stand.0.fits.0))
     by_eq (inr other) = let miss : eqb f e ≡ false = grind (arith, nat_tests) in omega (arith, times_append e taken left, ap (times e) stand.1, ap one_if miss)
 left_strong net journal e Ticket strong stand = omega arith
 left_strong net journal e (Open n t) strong stand = omega arith

@@ -13,8 +13,9 @@ use Rattle.journal_rules.specs.Counts.{uses, is_source}
 use Rattle.journal_rules.specs.DataRule.{edges_of}
 use Rattle.journal_rules.proofs.Snoc.{count_by_push}
 use Rattle.journal_rules.proofs.Tallying.{and_true, and_false, given_push}
+use Rattle.table_steps.specs.Releases.{CanRelease, MayBeReleased}
 use Rattle.table_steps.specs.declared.view.TurnDuty.TheVariants.{Told, Collecting, Ticket, Open}
-use Rattle.table_steps.specs.inside.Duties.{DutyCoord, token, source, weakly, awaits, unset, EdgePart, DutyPart, DutyMoves, MayRelease, CanRelease}
+use Rattle.table_steps.specs.inside.Duties.{DutyCoord, token, source, weakly, awaits, unset, EdgePart, DutyPart, DutyMoves}
 use Rattle.table_steps.specs.Giving.{one_if}
 use Rattle.table_steps.proofs.Counting.{CauseFits, used_at_start}
 
@@ -37,7 +38,7 @@ below_more n m = by_place (cases_lt m n) (cases_eq n m)
         rw (a, b, c) (omega arith)
 
 pub start_edges : (net : NetRows) (n : ℕ) (edge : ℕ → ℕ) (journal : List Entry) (T T' : DutyCoord → ℕ) (t : ℕ) (cause : Cause) (ins : List Part)
-    → EdgePart net edge journal T → MayRelease net t cause
+    → EdgePart net edge journal T → MayBeReleased net t cause
     → DutyMoves T (Collecting t cause (edges_of net t cause) [] ∷ Ticket ∷ []) T' (Open n t ∷ Told n (Start t cause ins) ∷ [])
     → EdgePart net edge (journal ++ Start t cause ins ∷ []) T'
 start_edges net n edge journal T T' t cause ins b may moved e =

@@ -22,8 +22,9 @@ use Rattle.journal_rules.specs.Complete.{is_limited}
 use Rattle.journal_rules.specs.ShapeLegal.{MayFollow}
 use Rattle.journal_rules.proofs.Snoc.{count_by_push, EachAfter-push}
 use Rattle.journal_rules.proofs.Tallying.{count_by_push_no, count_by_push_yes}
+use Rattle.table_steps.specs.Releases.{MayBeReleased}
 use Rattle.table_steps.specs.declared.view.TurnDuty.TheVariants.{Told, Collecting, Ticket, Open}
-use Rattle.table_steps.specs.inside.Duties.{DutyCoord, place, runs, running, tickets, token, source, is_run, EdgePart, DutyPart, MayRelease, DutyMoves}
+use Rattle.table_steps.specs.inside.Duties.{DutyCoord, place, runs, running, tickets, token, source, is_run, EdgePart, DutyPart, DutyMoves}
 use Rattle.table_steps.specs.Giving.{one_if, times}
 use Rattle.table_steps.proofs.Counting.{times_at, times_strong_in, is_strong_into, used_at_strong, is_one, run_start}
 use Rattle.table_steps.proofs.StartDuties.{one_self, below_more, start_edges, start_duties}
@@ -88,7 +89,7 @@ credits_start net word n journal T T' t cause ins unclosed k moved s below = let
     }
 
 -- what the seat holds is a release that may be used
-pub released : (net : NetRows) (edge join counted : ℕ → ℕ) (journal : List Entry) (T : DutyCoord → ℕ) (t : ℕ) (cause : Cause) → EdgePart net edge journal T → DutyPart net edge join counted journal T → MayRelease net t cause
+pub released : (net : NetRows) (edge join counted : ℕ → ℕ) (journal : List Entry) (T : DutyCoord → ℕ) (t : ℕ) (cause : Cause) → EdgePart net edge journal T → DutyPart net edge join counted journal T → MayBeReleased net t cause
     → ((e : ℕ) → times e (edges_of net t cause) ≤ T (token e)) → (cause ≡ Source → 1 ≤ T (source t)) → IsReleased net journal t cause
 released net edge join counted journal T t Source b d may has own = (may.fits, omega (arith, d.sources t may.fits may.in_tasks, own refl))
 released net edge join counted journal T t Strong b d may has own = (may.fits, recursion_from_All _ (strong_in net t) each)
@@ -103,7 +104,7 @@ released net edge join counted journal T t (Weak e) b d may has own =
     (may.fits.0, may.fits.1, omega (arith, b e, has e, one_self e))
 
 pub start_kept : (net : NetRows) (limit : ℕ) (w : Readings) (counted : ℕ → ℕ) (journal : List Entry) (T T' : Coord → ℕ) (t : ℕ) (cause : Cause) (ins : List Part)
-    → Balanced net limit w counted journal T → MayRelease net t cause → count_by is_stuck journal ≡ 0
+    → Balanced net limit w counted journal T → MayBeReleased net t cause → count_by is_stuck journal ≡ 0
     → StartMoves net w.clock (Start t cause ins) t cause T T' → Balanced net limit (with_clock w (suc w.clock)) counted (journal ++ Start t cause ins ∷ []) T'
 start_kept net limit w counted journal T T' t cause ins b may none_stuck moved =
     let x = Start t cause ins in let j = b.by_journal in

@@ -1,29 +1,31 @@
 -- What the steps on edges' and join words ask is met.
-use Rattle.std.proofs.Common.{◌≡◌, ◌≢◌, ◌⊎◌, inl, inr, ℕ, zero, suc, ◌+◌, ◌-◌, ◌%◌, ◌^◌, ◌<◌, ◌≤◌, Bool, true, false, not, ◌&&◌, cond, List, [], ◌∷◌, ◌++◌, length, eqb, set, sym, refl, ap, ◌∙◌, arith, get_or-set_same}
-use Rattle.std.specs.Prelude.{slice_index, ◌==◌, nat_lt}
+use Rattle.std.proofs.Common.{◌≡◌, ◌≢◌, ◌⊎◌, inl, inr, ℕ, zero, suc, ◌+◌, ◌-◌, ◌%◌, ◌^◌, ◌<◌, ◌≤◌, Bool, true, false, not, ◌&&◌, cond, List, [], ◌∷◌, ◌++◌, length, Option, Some, None, eqb, set, sym, refl, ap, ◌∙◌, subst, arith, get_or-set_same}
+use Rattle.std.specs.Prelude.{slice_index, slice_get, ◌==◌, nat_lt, IsSomeAnd}
+use Rattle.std.specs.Option.{option_map_or}
 use Rattle.std.specs.List.{AllByRecursion}
 use Rattle.std.proofs.lemmas.Bool.Decides.{nat_tests}
-use Rattle.std.proofs.lemmas.Bool.{cases_eq, cases_lt}
+use Rattle.std.proofs.lemmas.Bool.{cases_eq, cases_lt, false≢true}
 use Rattle.std.proofs.lemmas.List.{append_assoc}
 use mathlib.Core.Option.{some}
 use lib.ListN.{get_elem?}
 use Rattle.atomic_table.specs.Table.{Act, keeps, Valid, carried_after, stepped, Allows}
 use Rattle.task_graph.specs.NetRows.{NetRows}
-use Rattle.task_graph.specs.Net.{is_weak, is_weak_row, strong_in}
+use Rattle.task_graph.specs.Net.{IsNet, IsEdgeOf, is_weak, is_weak_row, strong_in}
 use Rattle.task_graph.specs.declared.net.EdgeRow.{EdgeRow}
 use Rattle.journal_rules.specs.declared.entry.Cause.{Cause}
 use Rattle.journal_rules.specs.declared.entry.Cause.TheVariants.{Source, Strong, Weak}
 use Rattle.journal_rules.specs.declared.entry.Entry.{Entry}
 use Rattle.journal_rules.specs.DataRule.{edges_of}
-use Rattle.journal_rules.proofs.NetLemmas.{places_length}
+use Rattle.journal_rules.proofs.NetLemmas.{at_place, places_length}
 use Rattle.journal_rules.specs.declared.entry.Part.{Part}
+use Rattle.table_steps.specs.Releases.{MayBeReleased}
 use Rattle.table_steps.specs.declared.view.TurnDuty.TheVariants.{Fresh, Collecting, Owes, Counting}
 use Rattle.table_steps.specs.declared.view.SeatMark.TheVariants.{Live}
 use Rattle.table_steps.specs.declared.view.Note.{Note}
 use Rattle.table_steps.specs.declared.view.Note.TheVariants.{Duty, Has, Lies}
 use Rattle.table_steps.specs.inside.Duties.{awaits, weakly, unset, any, sum_over, Raised, TakesFrom, after_give, after_count, after_take}
 use Rattle.table_steps.specs.Giving.{one_if, times, target}
-use Rattle.table_steps.specs.inside.Accounts.{Coord, duty, mark, resting, weigh, total, FitsRelease, AllStand, Moves, KeepsAccounts, reading, tokens_from, with_tokens}
+use Rattle.table_steps.specs.inside.Accounts.{Coord, duty, mark, resting, weigh, total, AllStand, Moves, KeepsAccounts, reading, tokens_from, with_tokens}
 use Rattle.table_steps.specs.inside.Kinds.{wrap, news, collecting_notes, MayReset, taken_up, TakesNextToken, took, OwesNext, given_notes, gave, CountsNext, counted_notes, counted_one, AreNoneLeft, others_of}
 use Rattle.table_steps.proofs.Totals.{weigh_append, total_set}
 use Rattle.table_steps.proofs.Counting.{times_append, times_strong_in, is_strong_into, is_one}
@@ -93,10 +95,22 @@ give_moves T T' true t found f gives moved c = omega (arith, moved c)
 give_moves T T' false t zero f gives moved c = omega (arith, moved c)
 give_moves T T' false t (suc n) f gives moved c = omega (arith, moved c)
 
-give_stands : (net : NetRows) (journal : List Entry) (w : Bool) (found f : ℕ) (gives : List ℕ) → is_weak net f ≡ w → f < length net.edges → AllByRecursion (λ e. e < length net.edges) gives → AllStand net journal (given_notes w (target net f) found f gives)
-give_stands net journal true found f gives weak below rest = ((below, weak, refl), (tt, (rest, tt)))
-give_stands net journal false zero f gives weak below rest = (tt, (rest, tt))
-give_stands net journal false (suc n) f gives weak below rest = (rest, tt)
+-- a token on a weak edge releases the task to which it leads
+weak_release : (net : NetRows) (e : ℕ) → IsNet net → e < length net.edges → is_weak net e ≡ true → MayBeReleased net (target net e) (Weak e)
+weak_release net e rows below weak = by_row (slice_get net.edges e) refl weak
+  where
+    by_row : (row : Option EdgeRow) → slice_get net.edges e ≡ row → option_map_or (is_weak_row net) row false ≡ true → MayBeReleased net (target net e) (Weak e)
+    by_row None is is_so = absurd (false≢true is_so)
+    by_row (Some row) is is_so = let to : target net e ≡ row.to = ap (λ o. option_map_or (λ (r : EdgeRow). r.to) o 0) is in record {
+      in_tasks = subst (λ u. u < length net.tasks) (sym to) (at_place (IsEdgeOf net) net.edges e row rows.edges is).to_in_range;
+      in_range = below;
+      fits = (weak, subst (λ o. IsSomeAnd o (λ (r : EdgeRow). r.to ≡ target net e)) (sym is) (sym to));
+    }
+
+give_stands : (net : NetRows) (journal : List Entry) (w : Bool) (found f : ℕ) (gives : List ℕ) → IsNet net → is_weak net f ≡ w → f < length net.edges → AllByRecursion (λ e. e < length net.edges) gives → AllStand net journal (given_notes w (target net f) found f gives)
+give_stands net journal true found f gives rows weak below rest = (weak_release net f rows below weak, (tt, (rest, tt)))
+give_stands net journal false zero f gives rows weak below rest = (tt, (rest, tt))
+give_stands net journal false (suc n) f gives rows weak below rest = (rest, tt)
 
 give_rests : (w : Bool) (t found f : ℕ) (gives : List ℕ) → (weigh resting (given_notes w t found f gives) ≡ 0) × (weigh (mark Live) (given_notes w t found f gives) ≡ 0)
 give_rests true t found f gives = (refl, refl)
@@ -131,7 +145,7 @@ give_allowed {S} {part} net limit slots id me f may s h _ at small = from me.0 m
         λ c. omega (arith, slot_append c new left, unlot_slots c Put f rest r, slots_same (Duty (Owes gives) ∷ []) new (give_slots w (target net f) n f gives) c) in
         done net limit s id i _ me v' _ refl
         (after_all net limit s h id i ((n + 1) % 18446744073709551616) me.1 v v' h.journal h.counted _ at' (λ e. (omega (arith, slots (lot Putting e)), omega (arith, slots (lot Taking e)))) (λ e b z. omega arith) (λ u stand. stand)
-        (own_lone net h.journal (λ c. total c s.views) v v' [] (stand_both net h.journal new left (give_stands net h.journal w n f gives refl below (h.views id v at').stand.0.1) (unlot_stand net h.journal Put f rest r (h.views id v at').stand.1))
+        (own_lone net h.journal (λ c. total c s.views) v v' [] (stand_both net h.journal new left (give_stands net h.journal w n f gives h.fits.rows refl below (h.views id v at').stand.0.1) (unlot_stand net h.journal Put f rest r (h.views id v at').stand.1))
         (omega (arith, may.2, weigh_append (mark Live) v [])) (omega (arith, may.2, weigh_append (mark Live) v' [], weigh_append (mark Live) new left, unlot_weigh (mark Live) Put f rest r)) (omega (arith, may.2, rests.0, weigh_append resting v' [], weigh_append resting new left, unlot_weigh resting Put f rest r)))
         (omega (arith, h.few, rests.1, total_set (mark Live) s.views id v v' at', weigh_append (mark Live) new left, unlot_weigh (mark Live) Put f rest r)) h.few_drops (tokens_read net s.words f _ below)
         (λ moved. token_given net h.journal _ _ _ _ (label_of part s.homes) f r.part gives h.slots (edge_raised net s.words f _ below inside sum) (λ c. omega (arith, moved c, slots c)))
@@ -140,14 +154,14 @@ give_allowed {S} {part} net limit slots id me f may s h _ at small = from me.0 m
     from v may at = absurd may
 
 -- TOKEN TAKEN
-takes_from : (net : NetRows) (t : ℕ) (cause : Cause) (taken left : List ℕ) (f : ℕ) → FitsRelease net t cause → taken ++ f ∷ left ≡ edges_of net t cause → TakesFrom net cause f
+takes_from : (net : NetRows) (t : ℕ) (cause : Cause) (taken left : List ℕ) (f : ℕ) → MayBeReleased net t cause → taken ++ f ∷ left ≡ edges_of net t cause → TakesFrom net cause f
 takes_from net t Source taken left f fits is = let many : times f (taken ++ f ∷ left) ≡ 0 = ap (times f) is in omega (arith, many, times_append f taken (f ∷ left), one_self f)
 takes_from net t Strong taken left f fits is =
     into_strong net t f (is_one (is_strong_into net t f) (omega (arith, ap (times f) is, times_append f taken (f ∷ left), one_self f, times_strong_in net t f)))
 takes_from net t (Weak e) taken left f fits is = by_eq (cases_eq e f)
   where
     by_eq : (e ≡ f) ⊎ (e ≢ f) → is_weak net f ≡ true
-    by_eq (inl same) = ap (is_weak net) (sym same) ∙ fits.1
+    by_eq (inl same) = ap (is_weak net) (sym same) ∙ fits.fits.0
     by_eq (inr other) =
         let miss : one_if (eqb e f) ≡ 0 = let m : eqb e f ≡ false = grind (arith, nat_tests) in ap one_if m in
         absurd (omega (arith, miss, ap (times f) is, times_append f taken (f ∷ left), one_self f))
@@ -165,7 +179,7 @@ token_there net limit s h id t Strong taken left f rest takes at =
 token_there net limit s h id t (Weak e) taken left f rest takes at =
     omega (arith, h.balanced.by_duties.weaks f takes, one_self f, total_set (duty (weakly f)) s.views id (Duty (Collecting t (Weak e) taken (f ∷ left)) ∷ rest) rest at)
 
-take_stands : (net : NetRows) (journal : List Entry) (t : ℕ) (cause : Cause) (taken : List ℕ) (found f : ℕ) (left : List ℕ) → FitsRelease net t cause → taken ++ f ∷ left ≡ edges_of net t cause → AllStand net journal (wrap (after_take t cause taken found f left))
+take_stands : (net : NetRows) (journal : List Entry) (t : ℕ) (cause : Cause) (taken : List ℕ) (found f : ℕ) (left : List ℕ) → MayBeReleased net t cause → taken ++ f ∷ left ≡ edges_of net t cause → AllStand net journal (wrap (after_take t cause taken found f left))
 take_stands net journal t Source taken found f left fits is = ((fits, append_assoc taken (f ∷ []) left ∙ is), tt)
 take_stands net journal t (Weak e) taken found f left fits is = ((fits, append_assoc taken (f ∷ []) left ∙ is), tt)
 take_stands net journal t Strong taken zero f left fits is = ((fits, append_assoc taken (f ∷ []) left ∙ is), tt)
@@ -231,7 +245,7 @@ count_moves T T' t (suc (suc n)) f moved c = omega (arith, moved c)
 
 count_stands : (net : NetRows) (journal : List Entry) (t found : ℕ) → t < length net.tasks → strong_in net t ≢ [] → AllStand net journal (counted_notes t found)
 count_stands net journal t zero below some_in = tt
-count_stands net journal t (suc zero) below some_in = ((below, some_in), (tt, tt))
+count_stands net journal t (suc zero) below some_in = (record { in_tasks = below; in_range = tt; fits = some_in }, (tt, tt))
 count_stands net journal t (suc (suc n)) below some_in = tt
 
 count_rests : (t found : ℕ) → (weigh resting (counted_notes t found) ≡ 0) × (weigh (mark Live) (counted_notes t found) ≡ 0)
@@ -340,7 +354,7 @@ reset_allowed {S} {part} net limit slots id me t may s h _ at small = from me.0 
         let fits = (h.views id (old ++ rest) at').stand.0 in
         let new = collecting_notes t Strong es in
         let few : length es ≤ length net.edges = places_length (λ (r : EdgeRow). (r.to == t) && not (is_weak_row net r)) net.edges in
-        let is_zero : slice_index s.words i ≡ 0 = is_clear (slice_index s.words i) (omega (arith, h.balanced.by_duties.unsets t fits.1, one_self t, total_set (duty (unset t)) s.views id (old ++ rest) rest at')) in
+        let is_zero : slice_index s.words i ≡ 0 = is_clear (slice_index s.words i) (omega (arith, h.balanced.by_duties.unsets t fits.fits, one_self t, total_set (duty (unset t)) s.views id (old ++ rest) rest at')) in
         let edges_few : length net.edges < 4294967296 = h.fits.rows.edge_count in
         let k = (slice_index s.words i + length es) % 18446744073709551616 in
         let k_is : k ≡ length es = omega arith in
@@ -349,7 +363,7 @@ reset_allowed {S} {part} net limit slots id me t may s h _ at small = from me.0 
         (own_lone net h.journal (λ c. total c s.views) old new rest ((fits, refl), (tt, (tt, awaited_stand net h.journal es))) (omega arith) (omega arith) (omega (arith, may.1, weigh_append resting new rest, awaited_weigh resting es)))
         (omega (arith, h.few, total_set (mark Live) s.views id (old ++ rest) (new ++ rest) at', weigh_append (mark Live) new rest, awaited_weigh (mark Live) es)) h.few_drops (joins_read net s.words t _)
         (λ moved. taken_up_slots net h.journal _ _ _ (label_of part s.homes) t Strong es h.slots (slots_moved _ _ old new [] (Duty (Collecting t Strong [] es) ∷ awaited_lots es) moved refl refl))
-        (λ moved. reset_kept net limit (reading net s.words) h.counted h.journal (λ c. total c s.views) _ _ t h.balanced fits.1 (again k k_is fits.0 is_zero) (λ c. omega (arith, moved c, no_units c, awaited_weigh c es))))
+        (λ moved. reset_kept net limit (reading net s.words) h.counted h.journal (λ c. total c s.views) _ _ t h.balanced fits.fits (again k k_is fits.in_tasks is_zero) (λ c. omega (arith, moved c, no_units c, awaited_weigh c es))))
       where
         again : (k : ℕ) → k ≡ length (strong_in net t) → t < length net.tasks → slice_index s.words i ≡ 0 → (r : ℕ) → (reading net (set s.words i k)).join r ≡ (reading net s.words).join r + cond (eqb t r) (length (strong_in net r)) 0
         again k k_is below is_zero r = by_eq (cases_eq t r)

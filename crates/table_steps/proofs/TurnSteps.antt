@@ -1,63 +1,50 @@
 -- What the steps on the clock and on the words of turns and starts ask is met, and so is what splits, joins and loads ask.
-use Rattle.std.proofs.Common.{◌≡◌, ◌⊎◌, inl, inr, ℕ, ◌+◌, ◌%◌, ◌^◌, ◌<◌, ◌≤◌, Bool, true, false, List, [], ◌∷◌, ◌++◌, length, Option, Some, None, sym, refl, ap, ◌∙◌, subst, arith}
-use Rattle.std.specs.Prelude.{slice_index, slice_get, nat_lt, IsSomeAnd}
-use Rattle.std.specs.Option.{option_map_or}
+use Rattle.std.proofs.Common.{◌≡◌, ◌⊎◌, inl, inr, ℕ, ◌+◌, ◌%◌, ◌^◌, ◌<◌, ◌≤◌, Bool, true, false, List, [], ◌∷◌, ◌++◌, length, sym, refl, ap, ◌∙◌, arith}
+use Rattle.std.specs.Prelude.{slice_index, nat_lt}
 use Rattle.std.proofs.lemmas.Bool.Decides.{nat_tests}
-use Rattle.std.proofs.lemmas.Bool.{cases_lt, false≢true}
+use Rattle.std.proofs.lemmas.Bool.{cases_lt}
 use Rattle.std.proofs.lemmas.List.{append-nil}
 use mathlib.Core.Option.{some}
 use lib.ListN.{get_elem?}
 use Rattle.atomic_table.specs.Table.{Act, keeps, Valid, carried_after, stepped, Allows, Splits, Joins}
 use Rattle.task_graph.specs.NetRows.{NetRows}
-use Rattle.task_graph.specs.Net.{IsNet, IsEdgeOf, is_weak_row}
-use Rattle.task_graph.specs.declared.net.EdgeRow.{EdgeRow}
+use Rattle.task_graph.specs.Net.{IsNet}
 use Rattle.journal_rules.specs.declared.entry.Cause.{Cause}
-use Rattle.journal_rules.specs.declared.entry.Cause.TheVariants.{Source, Strong, Weak}
+use Rattle.journal_rules.specs.declared.entry.Cause.TheVariants.{Source, Weak}
 use Rattle.journal_rules.specs.DataRule.{edges_of}
-use Rattle.journal_rules.proofs.NetLemmas.{at_place}
 use Rattle.journal_rules.specs.declared.entry.Part.{Part}
+use Rattle.table_steps.specs.OneJournal.{entries_in, AreInOneJournal}
 use Rattle.table_steps.specs.declared.view.TurnDuty.{TurnDuty}
-use Rattle.table_steps.specs.declared.view.TurnDuty.TheVariants.{Fresh, Collecting, Ticket, Open}
+use Rattle.table_steps.specs.declared.view.TurnDuty.TheVariants.{Fresh, Collecting, Ticket, Open, Owes}
 use Rattle.table_steps.specs.declared.view.SeatMark.TheVariants.{Live, New, Asked}
 use Rattle.table_steps.specs.declared.view.Note.{Note}
 use Rattle.table_steps.specs.declared.view.SemaphoreRole.TheVariants.{Held, Both, Credit, Credited, Claim, Granted}
 use Rattle.table_steps.specs.declared.view.Note.TheVariants.{Duty, Sems, Has}
-use Rattle.table_steps.specs.inside.Duties.{place, runs, running, tickets, token, source, weakly, awaits, unset, MayRelease}
-use Rattle.table_steps.specs.inside.Accounts.{Coord, duty, sem, mark, busy, resting, turning, owing, telling, weight, weigh, total, FitsRelease, AllFitNotes, KeepsAccounts, reading}
-use Rattle.table_steps.specs.inside.Kinds.{IsTurn, MayTakeUp, collecting_notes, taken_up, MayAdd, with_turn_added, MayDeal, dealt, kept_back, MayAdmit, admitted_notes, admitted, MayDrawStart, with_start_drawn, MayEnd, with_end_drawn}
+use Rattle.table_steps.specs.inside.Duties.{place, runs, running, tickets, token, source, weakly, awaits, unset}
+use Rattle.table_steps.specs.inside.Accounts.{Coord, duty, sem, mark, busy, resting, turning, owing, telling, weight, weigh, total, AllFitNotes, KeepsAccounts, reading}
+use Rattle.table_steps.specs.inside.Kinds.{IsTurn, MayTakeUp, collecting_notes, taken_up, MayAdd, with_turn_added, MayDeal, dealt, kept_back, MayAdmit, admitted_notes, admitted, MayDrawStart, with_start_drawn, MayEnd, with_end_drawn, left_by, MayGather, both_turns}
+use Rattle.table_steps.specs.inside.RestKinds.{MayThin}
 use Rattle.table_steps.proofs.Stepping.{St, Seated, own_lone, after_step, done}
 use Rattle.table_steps.specs.declared.view.Lot.TheVariants.{Putting, Taking}
 use Rattle.table_steps.specs.inside.Slots.{lot, awaited_lots, found_lots, first_parts, after_lots}
 use Rattle.table_steps.specs.inside.SlotMarks.{label_of}
 use Rattle.table_steps.proofs.Totals.{total_swap, weigh_append}
 use Rattle.table_steps.proofs.UnitAccounts.{no_units}
-use Rattle.table_steps.proofs.Lots.{awaited_none}
+use Rattle.table_steps.proofs.Lots.{awaited_none, slot_append}
 use Rattle.table_steps.proofs.LotEntries.{taken_up_slots}
 use Rattle.table_steps.proofs.SlotViews.{slots_moved, awaited_weigh, awaited_stand, first_found, after_weigh, parts_length}
 use Rattle.table_steps.proofs.Marking.{alike_kept}
 use Rattle.table_steps.proofs.MarkSteps.{admit_drawn, over_drawn, turn_added, reads_same}
 use Rattle.table_steps.proofs.Drawing.{start_drawn, end_drawn}
-use Rattle.table_steps.proofs.Seats.{nothing_done, split_allowed, join_allowed}
+use Rattle.table_steps.proofs.Seats.{nothing_done, split_allowed, join_allowed, join_as}
+use Rattle.table_steps.proofs.Views.{stand_both}
 use Rattle.table_steps.proofs.FewTurns.{fits_of, room_for_turn}
-
--- a release of the net may be used
-pub may_release : (net : NetRows) (t : ℕ) (cause : Cause) → IsNet net → FitsRelease net t cause → MayRelease net t cause
-may_release net t Source rows fits = record { in_tasks = fits.0; in_range = tt; fits = fits.1 }
-may_release net t Strong rows fits = record { in_tasks = fits.0; in_range = tt; fits = fits.1 }
-may_release net t (Weak e) rows fits = by_row (slice_get net.edges e) refl fits.1 fits.2
-  where
-    by_row : (row : Option EdgeRow) → slice_get net.edges e ≡ row → option_map_or (is_weak_row net) row false ≡ true → option_map_or (λ (r : EdgeRow). r.to) row 0 ≡ t → MayRelease net t (Weak e)
-    by_row None is weak to = absurd (false≢true weak)
-    by_row (Some row) is weak to = record {
-      in_tasks = subst (λ u. u < length net.tasks) to (at_place (IsEdgeOf net) net.edges e row rows.edges is).to_in_range;
-      in_range = fits.0;
-      fits = (fits.1, subst (λ o. IsSomeAnd o (λ (r : EdgeRow). r.to ≡ t)) (sym is) to);
-    }
+use Rattle.table_steps.proofs.OneJournal.{in_journal}
 
 -- LOADS
-pub learn_allowed : {S : Type 0} {part : S → Part} (net : NetRows) (limit slots id : ℕ) (me : Seated S) → IsTurn me.0 → Allows (KeepsAccounts part net limit) slots id me 0 (λ n. n) (λ n m. (m.0 ≡ me.0) × (m.1 ≡ me.1) × AllFitNotes net me.0 × (length net.edges < 4294967296))
+pub learn_allowed : {S : Type 0} {part : S → Part} (net : NetRows) (limit slots id : ℕ) (me : Seated S) → IsTurn me.0 → Allows (KeepsAccounts part net limit) slots id me 0 (λ n. n) (λ n m. (m.0 ≡ me.0) × (m.1 ≡ me.1) × AllFitNotes net me.0 × (length net.edges < 4294967296) × AreInOneJournal net limit (entries_in me.0))
 learn_allowed net limit slots id me may s h _ at small =
-    (me.0, keeps, tt, nothing_done net limit s h id 0 me.1 me.0 may.0 may.1 (omega (arith, h.size)) (λ e b z. omega arith) at, (refl, refl, fits_of net h.journal me.0 (h.views id me.0 at).stand, h.fits.rows.edge_count))
+    (me.0, keeps, tt, nothing_done net limit s h id 0 me.1 me.0 may.0 may.1 (omega (arith, h.size)) (λ e b z. omega arith) at, (refl, refl, fits_of net h.journal me.0 (h.views id me.0 at).stand, h.fits.rows.edge_count, in_journal net limit s h id me.0 at))
 
 source_alike : (c : Coord) (t : ℕ) → weight c (Duty (Fresh t Source)) ≡ weight c (Duty (Collecting t Source [] []))
 source_alike (duty (place m)) t = refl
@@ -161,7 +148,7 @@ start_allowed {S} {part} net limit slots id me may s h _ at small = from me.0 ma
           _,
           keeps,
           tt,
-          start_drawn net limit s h id t cause l ins me.1 more (may_release net t cause h.fits.rows stand.0) may.0 (parts_length taken rest may.1 ∙ ap length all) (omega (arith, may.2, after_weigh resting taken rest may.1))
+          start_drawn net limit s h id t cause l ins me.1 more stand.0 may.0 (parts_length taken rest may.1 ∙ ap length all) (omega (arith, may.2, after_weigh resting taken rest may.1))
               (at ∙ ap (λ v. some (Duty (Collecting t cause taken []) ∷ Duty Ticket ∷ Has Live ∷ Sems Held l ∷ v)) (first_found taken rest may.1) ∙ ap (λ es. some (Duty (Collecting t cause es []) ∷ Duty Ticket ∷ Has Live ∷ Sems Held l ∷ found_lots es ins ++ more)) all),
           (refl, refl, h.fits.rows),
         )
@@ -188,3 +175,15 @@ deal_allowed net limit id v may = absurd may
 -- JOIN, with the keeper's seat
 pub take_in_allowed : {S : Type 0} {part : S → Part} (net : NetRows) (limit id : ℕ) (v : List Note) (other : ℕ) (w : List Note) → id ≡ 0 → Joins (KeepsAccounts part net limit) id v other w (w ++ v) []
 take_in_allowed net limit id v other w first = join_allowed net limit id v other w (λ far. absurd (far first))
+
+-- JOIN, of two turns that are done
+pub gather_allowed : {S : Type 0} {part : S → Part} (net : NetRows) (limit id : ℕ) (v : List Note) (other : ℕ) (w : List Note) → MayGather v w → Joins (KeepsAccounts part net limit) id v other w (both_turns v w) []
+gather_allowed net limit id (Duty (Owes []) ∷ Has Live ∷ rest) other w may =
+    join_as net limit id (Duty (Owes []) ∷ Has Live ∷ rest) other w (Duty (Owes []) ∷ Has Live ∷ w ++ rest) (λ c. omega (arith, weigh_append c w rest)) (λ c. omega (arith, slot_append c w rest))
+    (λ journal taken own. (own.0, (own.1.0, stand_both net journal w rest taken own.1.1))) (λ far. omega arith)
+gather_allowed net limit id v other w may = absurd may
+
+-- then the turn that stays in front may be taken off
+pub both_thin : (v w : List Note) → MayGather v w → MayThin (both_turns v w) × (left_by (both_turns v w) ≡ w ++ left_by v)
+both_thin (Duty (Owes []) ∷ Has Live ∷ rest) w may = (omega (arith, may, weigh_append (mark Live) w rest), refl)
+both_thin v w may = absurd may

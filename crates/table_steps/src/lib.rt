@@ -43,6 +43,12 @@
 //! notes, or is of no use. A seat that is split off begins without a number, and one that is joined to another is gone with
 //! its own.
 //!
+//! # Turns that are done
+//!
+//! What a turn that owes nothing knows goes to the keeper's seat, and its turn is taken off (`settle`): who finds one live
+//! turn there has taken in the last. Or another turn that is done takes it in, and one of the two is taken off
+//! (`gather`). The other stays live, so this is never the last, and needs no keeper.
+//!
 //! # What holds between any two steps
 //!
 //! The rule of a table is a record of accounts over the words, the seats and one journal: the entries that the seats
@@ -55,6 +61,11 @@
 //! live turns: so it knows that nothing runs, that no unit will be given back, and, where it found no halt mark, that no start
 //! has faulted. Where a release was dropped for want of a unit, one seat knows it, and that seat has all live turns.
 //!
+//! Of the journal this is said in public: in each state that the rule allows, the entries that the seats have are one
+//! journal, each once (`one_journal_at_every_step`). By a step nobody learns more than what concerns its own seat: `learn`
+//! says it of the entries of any live turn, and `settle` of all of the keeper's, whatever number it found
+//! (`AreInOneJournal`).
+//!
 //! What a seat knows is a list of notes; each account is an equation between a word, counts of the journal and
 //! totals of weights over all notes. A slot is home where its mark is clear, and else one seat holds it. The account of
 //! parcels (`SlotPart`) says of each edge: each parcel is the token with which the edge begins, or that of an end that
@@ -65,13 +76,16 @@
 //!
 //! `join_tables`, above this crate, makes turns of the seats: a turn's type says what its seat's notes are, and each
 //! call makes the steps that are due. It may know what `specs/` says, which its own contracts cite too: what an end may
-//! give, which units a task holds, and when a claim is refused. It relies on the notes, the accounts and the kinds of
+//! give, which units a task holds, when a claim is refused, by which causes a task may be released, and what is known of
+//! the journal between any two steps. It relies on the notes, the accounts and the kinds of
 //! step too, which are in `specs/inside/`: a function here asks for what its kind of step asks of the seat's notes
 //! (`MayTake`, `MayEnd`), and ensures what the kind leaves of them. `proofs/` shows that each kind keeps each account.
 #![tactic(auto)]
 
 mod credit_steps;
+mod gather_steps;
 mod halt_steps;
+mod laws;
 mod opening;
 mod rest_steps;
 mod slot_steps;
@@ -81,6 +95,7 @@ mod unit_steps;
 mod view;
 
 pub use credit_steps::FIRST_CREDIT;
+pub use laws::one_journal_at_every_step;
 pub use opening::table_of;
 pub use steps::{FIRST_UNIT, LIVE, Words};
 pub use table_seat::TableSeat;

@@ -6,6 +6,7 @@ ghost use Rattle.table_steps.specs.inside.Accounts.{AllFitNotes, tokens_from, ma
 ghost use Rattle.task_graph.specs.Net.{IsNet, strong_in};
 ghost use Rattle.table_steps.specs.inside.SeatViews.{drawn_values, values_held, with_notes, both_views, nothing_known, StepsKnowing};
 ghost use Rattle.table_steps.specs.Values.{ended_with, Knows, HaveOneValueEach};
+ghost use Rattle.table_steps.specs.OneJournal.{entries_in, AreInOneJournal};
 ghost use Rattle.table_steps.specs.inside.Kinds.{IsTurn, MayReset, MayTakeUp, taken_up, TakesNextToken, took, OwesNext, gave, CountsNext, counted_one, AreNoneLeft, others_of, MayAdd, with_turn_added, MayDeal, dealt, kept_back, MayAdmit, admitted, MayDrawStart, with_start_drawn, MayEnd, with_end_drawn, MayLeave, left_by, IsWhole, views_joined};
 
 use crate::table_seat::{NoteSeat, TableSeat};
@@ -93,7 +94,7 @@ struct Learns<A> {
 }
 
 impl<V, A: StepFacts> Play<Given<V>, SeatView<V>> for Learns<A> {
-    ghost then = { λ _ before n after. StepsKnowing (λ k m. (m.0 ≡ before.0.notes) × (m.1 ≡ before.1) × AllFitNotes A.net before.0.notes × (length A.net.edges < 4294967296)) before n after };
+    ghost then = { λ _ before n after. StepsKnowing (λ k m. (m.0 ≡ before.0.notes) × (m.1 ≡ before.1) × AllFitNotes A.net before.0.notes × (length A.net.edges < 4294967296) × AreInOneJournal A.net A.limit (entries_in before.0.notes)) before n after };
 }
 
 struct TakesUp<A> {
@@ -177,7 +178,7 @@ struct Leaves<A> {
 }
 
 impl<V, A: StepFacts> Play<Given<V>, SeatView<V>> for Leaves<A> {
-    ghost then = { λ _ before n after. StepsKnowing (λ k m. (m.0 ≡ left_by before.0.notes) × (m.1 ≡ before.1) × (k ≡ 1 → IsWhole A.net A.limit m.0)) before n after };
+    ghost then = { λ _ before n after. StepsKnowing (λ k m. (m.0 ≡ left_by before.0.notes) × (m.1 ≡ before.1) × (k ≡ 1 → IsWhole A.net A.limit m.0) × AreInOneJournal A.net A.limit (entries_in m.0)) before n after };
 }
 
 impl<V> Words<V> {
@@ -185,18 +186,19 @@ impl<V> Words<V> {
         requires table { seat.old.table_id ≡ self.now.table.shared.table_id }
         requires ready { IsTurn seat.old.me.0.notes }
         requires held { Knows seat.old.me.0.values (values_held seat.old.me.1) }
-        requires told { A.net ≡ arc_value self.now.net }
+        requires told { (A.net ≡ arc_value self.now.net) × (A.limit ≡ self.now.table.shared.key.limit) }
         ensures table { (seat.new.table_id ≡ seat.old.table_id) × (seat.new.id ≡ seat.old.id) }
         ensures view { (seat.new.me.0.notes ≡ seat.old.me.0.notes) × (seat.new.me.1 ≡ seat.old.me.1) }
         ensures known { Knows seat.new.me.0.values seat.old.me.0.values }
         ensures held { Knows seat.new.me.0.values (values_held seat.new.me.1) }
         ensures fits { AllFitNotes A.net seat.old.me.0.notes }
         ensures few { length A.net.edges < 4294967296 }
+        ensures journal { AreInOneJournal A.net A.limit (entries_in seat.old.me.0.notes) }
     {
         self.table.shared.load::<Learns<A>>(seat, UNWRITTEN);
     }
 
-    /// Learns that what the seat knows fits the net.
+    /// Learns that what the seat knows fits the net, and that the entries that it has are in one journal.
     pub fn learn(&self, seat: &mut TableSeat<V>)
         requires table { seat.old.table_id ≡ self.now.table.shared.table_id }
         requires ready { IsTurn seat.old.me.0 }
@@ -205,6 +207,7 @@ impl<V> Words<V> {
         ensures known { Knows seat.new.values seat.old.values }
         ensures fits { AllFitNotes (arc_value self.now.net) seat.old.me.0 }
         ensures few { length (arc_value self.now.net).edges < 4294967296 }
+        ensures journal { AreInOneJournal (arc_value self.now.net) self.now.table.shared.key.limit (entries_in seat.old.me.0) }
         ensures found { seat.new.found ≡ seat.old.found }
     {
         self.learn_told::<Brand>(&mut seat.seat)
@@ -541,6 +544,7 @@ impl<V> Words<V> {
         ensures held { Knows seat.new.me.0.values (values_held seat.new.me.1) }
         ensures one { HaveOneValueEach seat.new.me.0.values }
         ensures whole { result ≡ 1 → IsWhole A.net A.limit seat.new.me.0.notes }
+        ensures journal { AreInOneJournal A.net A.limit (entries_in seat.new.me.0.notes) }
     {
         self.table.shared.fetch_sub::<Leaves<A>>(seat, LIVE, 1)
     }
@@ -555,6 +559,7 @@ impl<V> Words<V> {
         ensures known { Knows seat.new.values seat.old.values }
         ensures one { HaveOneValueEach seat.new.values }
         ensures whole { result ≡ 1 → IsWhole (arc_value self.now.net) self.now.table.shared.key.limit seat.new.me.0 }
+        ensures journal { AreInOneJournal (arc_value self.now.net) self.now.table.shared.key.limit (entries_in seat.new.me.0) }
         ensures found { seat.new.found ≡ result ∷ seat.old.found }
     {
         let found = self.leave_told::<Brand>(&mut seat.seat);
@@ -563,7 +568,7 @@ impl<V> Words<V> {
     }
 
     /// Takes a turn that is done into the keeper's seat, and says how many were live. The keeper then knows the values
-    /// that either seat knew, no two of one End.
+    /// that either seat knew, no two of one End. Whatever it finds, the entries that it has are in one journal.
     pub fn settle(&self, seat: &mut TableSeat<V>, spent: TableSeat<V>) -> u64
         requires table { (seat.old.table_id ≡ self.now.table.shared.table_id) × (spent.table_id ≡ self.now.table.shared.table_id) }
         requires keeper { seat.old.id ≡ 0 }
@@ -574,6 +579,7 @@ impl<V> Words<V> {
         ensures known { Knows seat.new.values seat.old.values × Knows seat.new.values spent.values }
         ensures one { HaveOneValueEach seat.new.values }
         ensures all { result ≡ 1 → IsWhole (arc_value self.now.net) self.now.table.shared.key.limit seat.new.me.0 }
+        ensures journal { AreInOneJournal (arc_value self.now.net) self.now.table.shared.key.limit (entries_in seat.new.me.0) }
         ensures found { seat.new.found ≡ result ∷ seat.old.found }
     {
         self.take_in(seat, spent);

@@ -19,8 +19,6 @@ mod index;
 mod net;
 mod semaphores;
 mod side;
-#[cfg(test)]
-mod tests;
 
 pub use builder::{BuildError, MAX_EDGES, MAX_SEMAPHORES, MAX_TASKS, NetBuilder};
 pub use net::{EdgeRow, Net, Shape, TaskRow};

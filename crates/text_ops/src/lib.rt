@@ -29,8 +29,6 @@ mod part;
 mod repeats;
 mod sorted;
 mod tallied;
-#[cfg(test)]
-mod tests;
 mod text;
 
 pub use counted::{count, count_line, line_count};

@@ -12,7 +12,7 @@ use crate::item::Item;
 use crate::table::TextTable;
 use graph_plans::{Graph, Plan};
 use join_words::Ins;
-use legal_run::Why;
+use journal_rules::Why;
 use outside_io::Bytes;
 use run_frame::{Done, Job, JobError, Valued};
 use std::alloc::Global;

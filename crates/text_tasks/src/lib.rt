@@ -12,8 +12,6 @@ mod item;
 mod job;
 mod one_by_one;
 mod table;
-#[cfg(test)]
-mod tests;
 mod work;
 
 pub use feedback_text::feedback;

@@ -1,10 +1,10 @@
 //! Tickets for what is outstanding under a lock.
 //!
-//! A caller who lets go of a lock and takes it again must know that what it left behind is still there: that the
-//! release it was handed is unused, that the task it started is open. It can't look, since others had the lock
-//! meanwhile. So what is outstanding is in a book, which lies under the lock, and each outstanding item is
-//! named by one ticket, which its owner carries. A ticket can be redeemed once, and whoever redeems it learns that
-//! its item was outstanding until now. The items mean nothing to this crate.
+//! A caller who lets go of a lock and takes it again must know that what it left behind is still there: that a run which
+//! it found closed hasn't been handed out, say. It can't look, since others had the lock meanwhile. So what is outstanding
+//! is in a book, which lies under the lock, and each outstanding item is named by one ticket, which its owner carries. A
+//! ticket can be redeemed once, and whoever redeems it learns that its item was outstanding until now. The items mean
+//! nothing to this crate.
 //!
 //! # The protocol
 //!
@@ -26,8 +26,6 @@
 #![tactic(auto)]
 
 mod register;
-#[cfg(test)]
-mod tests;
 mod view;
 
 pub use register::{Book, Register, Ticket};

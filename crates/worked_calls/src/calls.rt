@@ -1,5 +1,5 @@
 // Calls of the program over texts and sinks in memory, each a row of a table.
-use crate::texts::text_of;
+use crate::texts::{graph_of, text_of};
 use crate::watchers::{are_in_order, span_count_of};
 use call_status::Noted;
 use flow_run::{Outcome, flow_main};
@@ -44,15 +44,26 @@ fn row_of(line: &str) -> Row<'_> {
 // The numbers of workers that a star in the words stands for, one after the other.
 const WORKERS: [&str; 3] = ["1", "4", "16"];
 
-// The first row of these tables that isn't as it says, with what was seen; or nothing. A table is a graph and rows of calls
-// that find it as `g`.
+// The call of a table whose rows are whole calls.
+pub const CALL: &str = "@1 -> @2 -> @3 -> @4";
+
+// A table of calls: a graph, which is found as `g`, a call of it, and rows. In the graph and in the call `@1`, `@2` and
+// so on stand for the parts of a row, which have ` -> ` between them.
+#[derive(Clone, Copy)]
+pub struct Table {
+    pub graph: &'static str,
+    pub call: &'static str,
+    pub rows: &'static str,
+}
+
+// The first call of these tables that isn't as it says, with what was seen; or nothing.
 pub fn first_difference<R: Threads + Wait + Sync>(
     rt: &R,
     alloc: Global,
-    tables: &[(&str, &str)],
+    tables: &[Table],
 ) -> Result<String, NoMemory> {
-    for (graph, rows) in tables {
-        let difference = first_in_table(rt, alloc, graph, rows)?;
+    for table in tables {
+        let difference = first_in_table(rt, alloc, table)?;
         if !difference.is_empty() {
             return Ok(difference);
         }
@@ -63,16 +74,26 @@ pub fn first_difference<R: Threads + Wait + Sync>(
 fn first_in_table<R: Threads + Wait + Sync>(
     rt: &R,
     alloc: Global,
-    graph: &str,
-    rows: &str,
+    table: &Table,
 ) -> Result<String, NoMemory> {
-    for line in rows.split('\n') {
-        let difference = first_by_workers(rt, alloc, graph, row_of(line))?;
+    for row in table.rows.split('\n') {
+        let graph = filled(alloc, table.graph, row)?;
+        let call = filled(alloc, table.call, row)?;
+        let difference = first_by_workers(rt, alloc, graph.as_str(), row_of(call.as_str()))?;
         if !difference.is_empty() {
             return Ok(difference);
         }
     }
     Ok(String::new(alloc))
+}
+
+// A pattern with the parts of a row in it.
+fn filled(alloc: Global, pattern: &str, row: &str) -> Result<String, AllocError> {
+    let mut filled = String::from_str(alloc, pattern)?;
+    for (sign, part) in ["@1", "@2", "@3", "@4"].iter().zip(row.split(" -> ")) {
+        filled = filled.replace(alloc, *sign, part)?;
+    }
+    Ok(filled)
 }
 
 fn first_by_workers<R: Threads + Wait + Sync>(
@@ -87,7 +108,7 @@ fn first_by_workers<R: Threads + Wait + Sync>(
             words: words.as_str(),
             ..row
         };
-        let difference = difference(rt, alloc, graph.as_bytes(), call)?;
+        let difference = difference(rt, alloc, graph, call)?;
         if !difference.is_empty() || !row.words.contains('*') {
             return Ok(difference);
         }
@@ -96,10 +117,10 @@ fn first_by_workers<R: Threads + Wait + Sync>(
 }
 
 // What is seen of a call, if it isn't as its row says; or nothing.
-pub fn difference<R: Threads + Wait + Sync>(
+fn difference<R: Threads + Wait + Sync>(
     rt: &R,
     alloc: Global,
-    graph: &[u8],
+    graph: &str,
     row: Row<'_>,
 ) -> Result<String, NoMemory> {
     let seen = shown(rt, alloc, graph, row)?;
@@ -131,14 +152,14 @@ fn words_of(alloc: Global, words: &str) -> Result<Vec<String>, AllocError> {
 // The texts that a call finds, of which these reads fail.
 fn texts_of(
     alloc: Global,
-    graph: &[u8],
+    graph: &str,
     texts: &str,
     failing: List<u64>,
 ) -> Result<MemoryTexts, NoMemory> {
     let mut names = List::new(alloc);
     let mut held = List::new(alloc);
     names.push(List::from_slice(alloc, b"g")?)?;
-    held.push(List::from_slice(alloc, graph)?)?;
+    held.push(graph_of(alloc, graph)?)?;
     for (name, text) in ["t", "u", "v"].iter().zip(texts.split(" / ")) {
         if text != "-" {
             names.push(List::from_slice(alloc, name.as_bytes())?)?;
@@ -187,13 +208,18 @@ fn number_of(text: &str) -> u64 {
     text.parse::<u64>().unwrap_or(0)
 }
 
-// What is seen of a call.
-fn shown<R: Threads + Wait + Sync>(
-    rt: &R,
-    alloc: Global,
-    graph: &[u8],
-    row: Row<'_>,
-) -> Result<String, NoMemory> {
+// The inputs of a call, and how many watchers it has.
+#[derive(Drop)]
+struct CallInputs {
+    words: Vec<String>,
+    texts: MemoryTexts,
+    out: MemorySink,
+    notes: MemorySink,
+    watchers: Vec<Box<dyn Watch + Send>>,
+    count: u64,
+}
+
+fn inputs_of(alloc: Global, graph: &str, row: Row<'_>) -> Result<CallInputs, NoMemory> {
     let words = words_of(alloc, row.words)?;
     let Failing {
         reads,
@@ -201,10 +227,33 @@ fn shown<R: Threads + Wait + Sync>(
         notes,
         watchers: count,
     } = failing_of(alloc, row.failing)?;
-    let mut texts = texts_of(alloc, graph, row.texts, reads)?;
-    let mut out = MemorySink::new(alloc, puts);
-    let mut notes = MemorySink::new(alloc, notes);
+    let texts = texts_of(alloc, graph, row.texts, reads)?;
     let watchers = watchers_of(alloc, count)?;
+    Ok(CallInputs {
+        words,
+        texts,
+        out: MemorySink::new(alloc, puts),
+        notes: MemorySink::new(alloc, notes),
+        watchers,
+        count,
+    })
+}
+
+// What is seen of a call.
+fn shown<R: Threads + Wait + Sync>(
+    rt: &R,
+    alloc: Global,
+    graph: &str,
+    row: Row<'_>,
+) -> Result<String, NoMemory> {
+    let CallInputs {
+        words,
+        mut texts,
+        mut out,
+        mut notes,
+        watchers,
+        count,
+    } = inputs_of(alloc, graph, row)?;
     let outcome = flow_main(
         rt,
         alloc,
@@ -216,13 +265,22 @@ fn shown<R: Threads + Wait + Sync>(
     );
     let end = shown_outcome(alloc, &outcome, count);
     let _code = outcome.into_code();
+    Ok(shown_end(alloc, end, &out, &notes)?)
+}
+
+fn shown_end(
+    alloc: Global,
+    end: Result<String, AllocError>,
+    out: &MemorySink,
+    notes: &MemorySink,
+) -> Result<String, AllocError> {
     let end = end?;
-    Ok(format!(in alloc;
+    format!(in alloc;
         "{} [{}] [{}]",
         end.as_str(),
-        shown_bytes(&out),
-        shown_bytes(&notes)
-    )?)
+        shown_bytes(out),
+        shown_bytes(notes)
+    )
 }
 
 // So many watchers, each of which was told as many spans as there are watchers before it.

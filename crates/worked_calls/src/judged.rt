@@ -1,11 +1,11 @@
 // Judgements of journals: whole and unfinished ones, one whose entries are out of order, one that is cut off, and one that
 // breaks a rule whose line couldn't be written; files that aren't there, and reads that fail.
-use crate::calls::{COUNT, first_difference};
-use std::test::Fail;
+use crate::calls::{CALL, COUNT, Table};
 
-const COUNTING: (&str, &str) = (
-    COUNT,
-    "judge g t -> flow journal 2|start 0 source -|end 0 0 plain|start 1 strong 1|end 2 - plain| -> - -> 0 written [complete|] []
+const COUNTING: Table = Table {
+    graph: COUNT,
+    call: CALL,
+    rows: "judge g t -> flow journal 2|start 0 source -|end 0 0 plain|start 1 strong 1|end 2 - plain| -> - -> 0 written [complete|] []
 judge g t -> flow journal 1|start 0 source -|end 0 0 plain|start 1 strong 1|end 2 - plain| -> - -> 0 written [complete|] []
 judge g t -> flow journal 2|start 0 source -|end 0 0 plain|start 1 strong 1| -> - -> 0 written [legal|] []
 judge g t -> flow journal 2|start 0 source -|start 1 strong 1|end 0 0 plain|end 2 - plain| -> - -> 11 written [breaks at 1: not released|] [flow: not legal at 1|]
@@ -19,13 +19,6 @@ judge h t -> flow journal 2|start 0 source -|end 0 0 plain|start 1 strong 1|end 
 judge g t -> flow journal 2|start 0 source -|end 0 0 plain|start 1 strong 1|end 2 - plain| -> read 0 -> 6 written [] [flow: read fault on g|]
 judge g t -> flow journal 2|start 0 source -|end 0 0 plain|start 1 strong 1|end 2 - plain| -> read 1 -> 6 written [] [flow: read fault on t|]
 judge g t -> flow journal 2|start 0 source -|end 0 0 plain|start 1 strong 1|end 2 - plain| -> read 2 -> 0 written [complete|] []",
-);
+};
 
-#[test]
-fn judges_journals(rt: HostRuntime) -> Result<(), Fail> {
-    assert_eq!(rt;
-        first_difference(&rt, rt.alloc(), &[COUNTING])?.as_str(),
-        ""
-    );
-    Ok(())
-}
+pub const TABLES: [Table; 1] = [COUNTING];

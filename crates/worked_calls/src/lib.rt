@@ -3,7 +3,8 @@
 //! Each call is one of `flow_main` over texts and sinks in memory, and a row of a table (`calls.rt` says how one is
 //! written): its words, the texts that it finds, what fails in it, and what is seen of it, which is the exit code, how many
 //! entries the journal of each kept run has, what both sinks took, and whether the watchers didn't come back in their
-//! order. The line of a status that no call here ends with is written by itself.
+//! order. `tables.rt` walks the tables of all other modules. The line of a status that no call here ends with is written
+//! by itself.
 #![tactic(auto)]
 
 #[cfg(test)]
@@ -24,6 +25,8 @@ mod operations;
 mod refused;
 #[cfg(test)]
 mod runs;
+#[cfg(test)]
+mod tables;
 #[cfg(test)]
 mod texts;
 #[cfg(test)]

@@ -1,5 +1,6 @@
-// The texts of calls.
-use flow_run::TEXT_LIMIT;
+// The texts of calls, and their graph files.
+use crate::calls::COUNT;
+use flow_run::{FILE_LIMIT, TEXT_LIMIT};
 use outside_io::{Bytes, List, NoMemory};
 use std::alloc::Global;
 
@@ -20,8 +21,21 @@ pub fn text_of(alloc: Global, text: &str) -> Result<Bytes, NoMemory> {
     }
 }
 
+// The graph file that a table names: one of the greatest length, one that is longer by a byte, one of brackets, two with
+// bytes that are no UTF-8; or what it is.
+pub fn graph_of(alloc: Global, graph: &str) -> Result<Bytes, NoMemory> {
+    match graph {
+        "MOST" => padded(alloc, COUNT.as_bytes(), FILE_LIMIT),
+        "LONG" => padded(alloc, COUNT.as_bytes(), FILE_LIMIT + 1),
+        "BRACKETS" => List::from_slice(alloc, &[b'['; 200]),
+        "NO UTF-8" => List::from_slice(alloc, &[255]),
+        "NO UTF-8 IN A WORD" => List::from_slice(alloc, &[b'"', 192, b'"']),
+        graph => List::from_slice(alloc, graph.as_bytes()),
+    }
+}
+
 // So many bytes: these, and spaces after them.
-pub fn padded(alloc: Global, front: &[u8], len: u64) -> Result<Bytes, NoMemory> {
+fn padded(alloc: Global, front: &[u8], len: u64) -> Result<Bytes, NoMemory> {
     let mut padded = List::from_slice(alloc, front)?;
     for _place in front.len()..len as usize {
         padded.push(b' ')?;

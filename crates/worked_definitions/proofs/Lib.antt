@@ -10,3 +10,4 @@ pub mod WorkedLines
 pub mod WorkedSeats
 pub mod WorkedTurns
 pub mod WorkedEndValues
+pub mod WorkedEntries

@@ -12,7 +12,6 @@ use Rattle.journal_rules.specs.declared.entry.DropWhy.TheVariants.{Limit}
 use Rattle.journal_rules.specs.declared.entry.Part.{Part}
 use Rattle.journal_rules.specs.declared.entry.Part.TheVariants.{From, First, Nothing}
 use Rattle.join_words.specs.declared.ins.Given.TheVariants.{Value, First as FirstToken, Nothing as NoValue}
-use Rattle.join_words.specs.declared.ins.Ins.{Ins}
 use Rattle.join_words.specs.Ins.{parts_of}
 use Rattle.table_steps.specs.declared.view.EndValue.{EndValue}
 use Rattle.table_steps.specs.Values.{given_part, ended_with, given_values, values_in, AreValues, Knows, HaveOneValueEach}
@@ -20,11 +19,14 @@ use Rattle.join_tables.specs.declared.turns.EndedStart.{EndedStart}
 use Rattle.join_tables.specs.declared.fates.Failure.{Failure}
 use Rattle.join_tables.specs.declared.fates.Dropping.{Dropping}
 use Rattle.join_tables.specs.declared.fates.Fate.TheVariants.{Ended, Faulted, Dropped, AllDropped}
+use Rattle.join_tables.specs.declared.fates.Fate.{Fate}
 use Rattle.join_tables.specs.declared.keeper.RecordedValue.{RecordedValue}
-use Rattle.join_tables.specs.declared.keeper.RecordedInputs.{RecordedInputs}
-use Rattle.join_tables.specs.Parts.{parts_in}
-use Rattle.join_tables.specs.Values.{end_values, input_values, own_values, found_values}
-use Rattle.join_tables.specs.Keeping.{KeeperState, keeper_state, keeper_with, drop_of, entries_of, recorded_values, found_inputs, AgreeOnValues}
+use Rattle.join_tables.specs.declared.parts.FoundParts.{FoundParts}
+use Rattle.join_tables.specs.declared.parts.Inputs.{Inputs}
+use Rattle.join_tables.specs.Inputs.{given_in}
+use Rattle.join_tables.specs.Values.{own_values, known_values, values_known, found_values}
+use Rattle.join_tables.specs.Finishing.{recorded_values, values_told}
+use Rattle.join_tables.specs.Keeping.{KeeperState, keeper_state, keeper_with, drop_of, entries_of, entries_told, AgreeOnValues}
 
 -- the place and the value of the first of these
 abbrev first_place : List (EndValue ℕ) → ℕ
@@ -35,14 +37,14 @@ abbrev first_value : List (EndValue ℕ) → ℕ
 first_value [] = 0
 first_value (e ∷ more) = e.value
 
--- the place of the End that a part names, and that of the first of these starts
+-- the place of the End that a part names, and that of the first of these values
 abbrev end_place : Part → ℕ
 end_place (From place) = place
 end_place part = 0
 
-abbrev start_place : List (RecordedInputs ℕ) → ℕ
-start_place [] = 0
-start_place (row ∷ more) = row.place
+abbrev row_place : List (RecordedValue ℕ) → ℕ
+row_place [] = 0
+row_place (row ∷ more) = row.place
 
 -- the End at place 3 has the value 7, that at place 5 the value 8, and there is no other
 abbrev two_ends_at : ℕ → Option ℕ
@@ -74,9 +76,9 @@ known_twice = record { value_at = two_ends_at; all = (refl, (refl, tt)) }
 same_of_one_end : (v w : ℕ) → HaveOneValueEach (ended_with 3 v ++ ended_with 3 w) → v ≡ w
 same_of_one_end v w one = ap (λ o. unwrap_or o 0) (sym one.all.0 ∙ one.all.1.0)
 
--- A start found the value 7 of the End at place 3 and the token with which an edge began, and another one the value 8 of the
--- End at place 5.
-module _ (shared : Arc ℕ Global) (ins other : Ins ℕ) (found : parts_of ins ≡ Value 3 (arc_with_value shared 7) ∷ FirstToken ∷ []) (other_found : parts_of other ≡ Value 5 (arc_with_value shared 8) ∷ []) where
+-- A start found the value 7 of the End at place 3 and the token with which an edge began, another one the value 8 of the End
+-- at place 5, and a third one nothing.
+module _ (shared : Arc ℕ Global) (this other nothing : FoundParts ℕ) (found : parts_of this.ins.value ≡ Value 3 (arc_with_value shared 7) ∷ FirstToken ∷ []) (other_found : parts_of other.ins.value ≡ Value 5 (arc_with_value shared 8) ∷ []) (none_found : parts_of nothing.ins.value ≡ []) where
   abbrev seven : Arc ℕ Global
   seven = arc_with_value shared 7
 
@@ -111,38 +113,25 @@ module _ (shared : Arc ℕ Global) (ins other : Ins ℕ) (found : parts_of ins �
   values_in_the_order_of_the_parts : ¬ (values_in (Value 3 seven ∷ Value 5 eight ∷ []) ≡ ended_with 5 8 ++ ended_with 3 7)
   values_in_the_order_of_the_parts is = omega (arith, ap first_place is)
 
-  token_is_a_part : ¬ (parts_in ins ≡ From 3 ∷ [])
-  token_is_a_part is = omega (arith, ap length (sym (ap (map given_part) found) ∙ is))
+  token_is_a_part : ¬ (this.parts ≡ From 3 ∷ [])
+  token_is_a_part is = omega (arith, ap length (sym (this.same ∙ ap (map given_part) found) ∙ is))
 
   -- ENDS AND STARTS
   abbrev ending : EndedStart ℕ
-  ending = record { task = 0; cause = Strong; start = 4; ins = ins; value = eight; place = 6; gives = []; inner = false }
+  ending = record { task = 0; cause = Strong; start = 4; found = this; value = eight; place = 6; gives = []; inner = false }
 
   abbrev failure : Failure ℕ
-  failure = record { task = 0; cause = Strong; start = 4; ins = ins; place = 6; why = Inner }
+  failure = record { task = 0; cause = Strong; start = 4; found = this; place = 6; why = Inner }
 
   abbrev dropping : Dropping
   dropping = record { task = 0; cause = Strong; place = 2; why = Limit }
 
-  -- what a keeper records: Ends at a place with a value, and what the start at a place found
+  -- an End at a place with a value, and what is handed out of it
+  abbrev ended_at : ℕ → ℕ → Fate ℕ
+  ended_at place v = Ended (record { task = 0; cause = Strong; start = 0; found = nothing; value = arc_with_value shared v; place = place; gives = []; inner = false })
+
   abbrev with_value : ℕ → ℕ → List (RecordedValue ℕ)
   with_value place v = record { place = place; value = arc_with_value shared v } ∷ []
-
-  abbrev with_inputs : ℕ → Ins ℕ → List (RecordedInputs ℕ)
-  with_inputs place parts = record { place = place; ins = parts } ∷ []
-
-  values_of_ends : end_values (with_value 3 7 ++ with_value 5 8) ≡ ended_with 3 7 ++ ended_with 5 8
-  values_of_ends = refl
-
-  no_value_of_another_end : ¬ (end_values (with_value 3 7) ≡ ended_with 5 7)
-  no_value_of_another_end is = omega (arith, ap first_place is)
-
-  values_of_inputs : input_values (with_inputs 4 ins ++ with_inputs 9 other) ≡ ended_with 3 7 ++ ended_with 5 8
-  values_of_inputs = ap (λ parts. values_in parts ++ (values_in (parts_of other) ++ [])) found ∙ ap (λ parts. ended_with 3 7 ++ (values_in parts ++ [])) other_found
-
-  -- a value is that of the End, and not of the start that found it
-  no_value_of_the_start : ¬ (input_values (with_inputs 4 ins) ≡ ended_with 4 7)
-  no_value_of_the_start is = omega (arith, ap first_place (sym (ap (λ parts. values_in parts ++ []) found) ∙ is))
 
   values_of_an_end_and_its_start : own_values ending ≡ ended_with 6 8 ++ ended_with 3 7
   values_of_an_end_and_its_start = ap (λ parts. ended_with 6 8 ++ values_in parts) found
@@ -153,18 +142,32 @@ module _ (shared : Arc ℕ Global) (ins other : Ins ℕ) (found : parts_of ins �
   value_not_at_its_start : ¬ (own_values ending ≡ ended_with 4 8 ++ ended_with 3 7)
   value_not_at_its_start is = omega (arith, ap first_place is)
 
-  values_of_two_starts : found_values (ins ∷ other ∷ []) ≡ ended_with 3 7 ++ ended_with 5 8
-  values_of_two_starts = ap (λ parts. values_in parts ++ (values_in (parts_of other) ++ [])) found ∙ ap (λ parts. ended_with 3 7 ++ (values_in parts ++ [])) other_found
+  values_of_a_fault : known_values (Faulted failure) ≡ ended_with 3 7
+  values_of_a_fault = ap values_in found
 
-  not_those_of_the_first_alone : ¬ (found_values (ins ∷ other ∷ []) ≡ ended_with 3 7)
-  not_those_of_the_first_alone is = omega (arith, ap length (sym values_of_two_starts ∙ is))
+  -- a value is that of the End, and not of the start that found it
+  no_value_of_the_start : ¬ (known_values (Faulted failure) ≡ ended_with 4 7)
+  no_value_of_the_start is = omega (arith, ap first_place (sym values_of_a_fault ∙ is))
 
-  -- WHAT A KEEPER TAKES IN
+  no_value_known_of_a_drop : known_values {V = ℕ} (Dropped dropping) ≡ []
+  no_value_known_of_a_drop = refl
+
+  module _ (first second : Inputs ℕ) (first_found : given_in first ≡ Value 3 seven ∷ FirstToken ∷ []) (second_found : given_in second ≡ Value 5 eight ∷ []) where
+    values_of_two_turns : found_values (first ∷ second ∷ []) ≡ ended_with 3 7 ++ ended_with 5 8
+    values_of_two_turns = (λ i. values_in (first_found i) ++ (values_in (second_found i) ++ []))
+
+    not_those_of_the_first_alone : ¬ (found_values (first ∷ second ∷ []) ≡ ended_with 3 7)
+    not_those_of_the_first_alone is = omega (arith, ap length (sym values_of_two_turns ∙ is))
+
+  -- WHAT A KEEPER HANDS OUT
   end_has_its_value : recorded_values (Ended ending) ≡ with_value 6 8
   end_has_its_value = refl
 
   no_value_at_the_start : ¬ (recorded_values (Ended ending) ≡ with_value 4 8)
-  no_value_at_the_start is = omega (arith, ap first_place (ap end_values is))
+  no_value_at_the_start is = omega (arith, ap row_place is)
+
+  no_value_of_a_fault : recorded_values (Faulted failure) ≡ []
+  no_value_of_a_fault = refl
 
   no_value_of_a_drop : recorded_values {V = ℕ} (Dropped dropping) ≡ []
   no_value_of_a_drop = refl
@@ -172,54 +175,50 @@ module _ (shared : Arc ℕ Global) (ins other : Ins ℕ) (found : parts_of ins �
   no_value_of_drops : (drops : Vec Dropping Global) → recorded_values {V = ℕ} (AllDropped drops) ≡ []
   no_value_of_drops drops = refl
 
-  start_has_its_inputs : found_inputs (Ended ending) ≡ with_inputs 4 ins
-  start_has_its_inputs = refl
+  values_of_two_ends : values_told (ended_at 3 7 ∷ Faulted failure ∷ Ended ending ∷ []) ≡ with_value 3 7 ++ with_value 6 8
+  values_of_two_ends = refl
 
-  no_inputs_at_the_end : ¬ (found_inputs (Ended ending) ≡ with_inputs 6 ins)
-  no_inputs_at_the_end is = omega (arith, ap start_place is)
-
-  no_other_inputs : ¬ (found_inputs (Faulted failure) ≡ with_inputs 4 other)
-  no_other_inputs is = omega (arith, ap first_place (sym (ap (λ parts. values_in parts ++ []) found) ∙ ap input_values is ∙ ap (λ parts. values_in parts ++ []) other_found))
-
-  no_inputs_of_a_drop : found_inputs {V = ℕ} (Dropped dropping) ≡ []
-  no_inputs_of_a_drop = refl
-
-  no_inputs_of_drops : (drops : Vec Dropping Global) → found_inputs {V = ℕ} (AllDropped drops) ≡ []
-  no_inputs_of_drops drops = refl
-
-  -- a keeper that took in the dropped release, and then these values and inputs
+  -- WHAT A KEEPER TAKES IN
+  -- a keeper that took in the dropped release, and then these turns
   module _ (n : TableId) where
-    abbrev kept : List (RecordedValue ℕ) → List (RecordedInputs ℕ) → KeeperState ℕ
-    kept values inputs = keeper_state n (drop_of dropping ∷ []) values inputs (2 ∷ [])
+    abbrev kept : List (Fate ℕ) → KeeperState ℕ
+    kept fates = keeper_state n (Dropped dropping ∷ fates) (2 ∷ [])
 
-    end_taken_in : keeper_with (kept (with_value 3 7) (with_inputs 1 other)) (Ended ending) (1 ∷ []) ≡ keeper_state n (drop_of dropping ∷ entries_of (Ended ending)) (with_value 3 7 ++ with_value 6 8) (with_inputs 1 other ++ with_inputs 4 ins) (1 ∷ [])
+    end_taken_in : keeper_with (kept (ended_at 3 7 ∷ [])) (Ended ending ∷ []) (1 ∷ []) ≡ keeper_state n (Dropped dropping ∷ ended_at 3 7 ∷ Ended ending ∷ []) (1 ∷ [])
     end_taken_in = refl
 
-    no_end_in_front : ¬ ((keeper_with (kept (with_value 3 7) []) (Ended ending) (1 ∷ [])).values ≡ with_value 6 8 ++ with_value 3 7)
-    no_end_in_front is = omega (arith, ap first_place (ap end_values is))
+    two_taken_in : keeper_with (kept []) (Faulted failure ∷ Ended ending ∷ []) (1 ∷ []) ≡ keeper_state n (Dropped dropping ∷ Faulted failure ∷ Ended ending ∷ []) (1 ∷ [])
+    two_taken_in = refl
 
-    fault_taken_in : keeper_with (kept (with_value 3 7) []) (Faulted failure) (1 ∷ []) ≡ keeper_state n (drop_of dropping ∷ entries_of (Faulted failure)) (with_value 3 7) (with_inputs 4 ins) (1 ∷ [])
-    fault_taken_in = refl
+    entries_of_all : entries_told (kept (Ended ending ∷ [])).fates ≡ drop_of dropping ∷ entries_of (Ended ending)
+    entries_of_all = refl
 
-    no_turn_is_left_out : ¬ (keeper_with (kept [] []) (Faulted failure) (1 ∷ []) ≡ kept [] [])
-    no_turn_is_left_out is = omega (arith, ap (λ (k : KeeperState ℕ). length k.inputs) is)
+    no_end_in_front : ¬ (values_told (keeper_with (kept (ended_at 3 7 ∷ [])) (Ended ending ∷ []) (1 ∷ [])).fates ≡ with_value 6 8 ++ with_value 3 7)
+    no_end_in_front is = omega (arith, ap row_place is)
 
-    numbers_are_those_of_the_call : ¬ ((keeper_with (kept [] []) (Faulted failure) (1 ∷ [])).found ≡ 1 ∷ 2 ∷ [])
+    no_turn_is_left_out : ¬ (keeper_with (kept []) (Faulted failure ∷ []) (1 ∷ []) ≡ kept [])
+    no_turn_is_left_out is = omega (arith, ap (λ (k : KeeperState ℕ). length k.fates) is)
+
+    numbers_are_those_of_the_call : ¬ ((keeper_with (kept []) (Faulted failure ∷ []) (1 ∷ [])).found ≡ 1 ∷ 2 ∷ [])
     numbers_are_those_of_the_call is = omega (arith, ap length is)
 
-    -- AGREEMENT
-    found_as_ended : AgreeOnValues (kept (with_value 3 7) (with_inputs 4 ins))
-    found_as_ended = subst HaveOneValueEach (sym (ap (λ parts. ended_with 3 7 ++ (values_in parts ++ [])) found)) known_twice
+  -- AGREEMENT
+  -- an End at a place with a value, and the start that found the value 7 of the End at place 3
+  end_and_start : (place v : ℕ) → values_known (ended_at place v ∷ Faulted failure ∷ []) ≡ ended_with place v ++ ended_with 3 7
+  end_and_start place v = (λ i. (ended_with place v ++ values_in (none_found i)) ++ (values_in (found i) ++ []))
 
-    found_with_another_value : ¬ AgreeOnValues (kept (with_value 3 8) (with_inputs 4 ins))
-    found_with_another_value agree = omega (arith, same_of_one_end 8 7 (subst HaveOneValueEach (ap (λ parts. ended_with 3 8 ++ (values_in parts ++ [])) found) agree))
+  found_as_ended : AgreeOnValues (ended_at 3 7 ∷ Faulted failure ∷ [])
+  found_as_ended = subst HaveOneValueEach (sym (end_and_start 3 7)) known_twice
 
-    another_end_has_another_value : AgreeOnValues (kept (with_value 5 8) (with_inputs 4 ins))
-    another_end_has_another_value = subst HaveOneValueEach (sym (ap (λ parts. ended_with 5 8 ++ (values_in parts ++ [])) found)) (record { value_at = two_ends_at; all = (refl, (refl, tt)) })
+  found_with_another_value : ¬ AgreeOnValues (ended_at 3 8 ∷ Faulted failure ∷ [])
+  found_with_another_value agree = omega (arith, same_of_one_end 8 7 (subst HaveOneValueEach (end_and_start 3 8) agree))
 
-    one_end_with_two_values : ¬ AgreeOnValues (kept (with_value 3 7 ++ with_value 3 8) [])
-    one_end_with_two_values agree = omega (arith, same_of_one_end 7 8 agree)
+  another_end_has_another_value : AgreeOnValues (ended_at 5 8 ∷ Faulted failure ∷ [])
+  another_end_has_another_value = subst HaveOneValueEach (sym (end_and_start 5 8)) (record { value_at = two_ends_at; all = (refl, (refl, tt)) })
 
-    -- also where the End isn't kept yet
-    two_starts_found_two_values : (third : Ins ℕ) → parts_of third ≡ Value 3 eight ∷ [] → ¬ AgreeOnValues (kept [] (with_inputs 4 ins ++ with_inputs 9 third))
-    two_starts_found_two_values third third_found agree = omega (arith, same_of_one_end 7 8 (subst HaveOneValueEach (ap (λ parts. values_in parts ++ (values_in (parts_of third) ++ [])) found ∙ ap (λ parts. ended_with 3 7 ++ (values_in parts ++ [])) third_found) agree))
+  one_end_with_two_values : ¬ AgreeOnValues (ended_at 3 7 ∷ ended_at 3 8 ∷ [])
+  one_end_with_two_values agree = omega (arith, same_of_one_end 7 8 (subst HaveOneValueEach (λ i. (ended_with 3 7 ++ values_in (none_found i)) ++ ((ended_with 3 8 ++ values_in (none_found i)) ++ [])) agree))
+
+  -- also where the End isn't kept yet
+  two_starts_found_two_values : (third : FoundParts ℕ) → parts_of third.ins.value ≡ Value 3 eight ∷ [] → ¬ AgreeOnValues (Faulted failure ∷ Faulted (record { task = 0; cause = Strong; start = 9; found = third; place = 10; why = Inner }) ∷ [])
+  two_starts_found_two_values third third_found agree = omega (arith, same_of_one_end 7 8 (subst HaveOneValueEach (λ i. values_in (found i) ++ (values_in (third_found i) ++ [])) agree))

@@ -42,7 +42,8 @@ use Rattle.join_tables.specs.declared.turns.Claim.TheVariants.{Granted, Refused}
 use Rattle.join_tables.specs.Fates.{FaultedAs, DroppedAs}
 use Rattle.join_tables.specs.Turns.{EndedAs}
 use Rattle.join_tables.specs.Openings.{OpensTable}
-use Rattle.join_tables.specs.Keeping.{KeeperState, keeper_state, start_of, entries_of, Merges, TellsRun, TellsSomeRun, IsLast}
+use Rattle.join_tables.specs.declared.parts.FoundParts.{FoundParts}
+use Rattle.join_tables.specs.Keeping.{KeeperState, keeper_state, start_of, entries_of, entries_told, with_places, Merges, TellsRun, TellsSomeRun, IsLast}
 
 abbrev needs : List ℕ → List ℕ → TaskRow
 needs takes puts = record { shape = Plain; takes = takes; puts = puts }
@@ -248,58 +249,61 @@ another_unit_was_refused may = let no : Some 1 ≡ Some 0 = may in absurd (cc)
 abbrev dropping : Dropping
 dropping = record { task = 3; cause = Strong; place = 6; why = Limit }
 
--- a start that found these inputs and faulted, and one that ended with the value 7
-abbrev failure : Ins ℕ → Failure ℕ
-failure ins = record { task = 3; cause = Strong; start = 4; ins = ins; place = 6; why = Inner }
+-- a start that found these parts and faulted, and one that ended with the value 7
+abbrev failure : FoundParts ℕ → Failure ℕ
+failure parts = record { task = 3; cause = Strong; start = 4; found = parts; place = 6; why = Inner }
 
-abbrev ending : Arc ℕ Global → Ins ℕ → EndedStart ℕ
-ending shared ins = record { task = 3; cause = Strong; start = 4; ins = ins; value = arc_with_value shared 7; place = 6; gives = []; inner = false }
+abbrev ending : Arc ℕ Global → FoundParts ℕ → EndedStart ℕ
+ending shared parts = record { task = 3; cause = Strong; start = 4; found = parts; value = arc_with_value shared 7; place = 6; gives = []; inner = false }
 
 -- It found the token of its one edge; another found the value of an End.
-module _ (n : TableId) (u : StartUnits) (shared : Arc ℕ Global) (found other : Ins ℕ) (token : parts_of found ≡ given.First ∷ []) (a_value : parts_of other ≡ given.Value 2 shared ∷ []) where
-  its_start_faulted : FaultedAs (running_state n 3 Strong 4 found u []) Inner (Faulted (failure found))
+module _ (n : TableId) (u : StartUnits) (shared : Arc ℕ Global) (this : FoundParts ℕ) (other : Ins ℕ) (token : parts_of this.ins.value ≡ given.First ∷ []) (a_value : parts_of other ≡ given.Value 2 shared ∷ []) where
+  abbrev found : Ins ℕ
+  found = this.ins.value
+
+  its_start_faulted : FaultedAs (running_state n 3 Strong 4 found u []) Inner (Faulted (failure this))
   its_start_faulted = (refl, refl, refl, refl, refl)
 
-  another_task_faulted : ¬ FaultedAs (running_state n 2 Strong 4 found u []) Inner (Faulted (failure found))
+  another_task_faulted : ¬ FaultedAs (running_state n 2 Strong 4 found u []) Inner (Faulted (failure this))
   another_task_faulted faults = absurd (omega (arith, faults.0))
 
-  another_cause_faulted : ¬ FaultedAs (running_state n 3 Source 4 found u []) Inner (Faulted (failure found))
+  another_cause_faulted : ¬ FaultedAs (running_state n 3 Source 4 found u []) Inner (Faulted (failure this))
   another_cause_faulted faults = let no : Strong ≡ Source = faults.1 in absurd (cc)
 
-  another_start_faulted : ¬ FaultedAs (running_state n 3 Strong 5 found u []) Inner (Faulted (failure found))
+  another_start_faulted : ¬ FaultedAs (running_state n 3 Strong 5 found u []) Inner (Faulted (failure this))
   another_start_faulted faults = absurd (omega (arith, faults.2))
 
-  fault_with_another_input : ¬ FaultedAs (running_state n 3 Strong 4 other u []) Inner (Faulted (failure found))
+  fault_with_another_input : ¬ FaultedAs (running_state n 3 Strong 4 other u []) Inner (Faulted (failure this))
   fault_with_another_input faults = let no : given.First ∷ [] ≡ given.Value 2 shared ∷ [] = sym token ∙ ap parts_of faults.3 ∙ a_value in absurd (cc)
 
-  fault_of_another_reason : ¬ FaultedAs (running_state n 3 Strong 4 found u []) (Long 9) (Faulted (failure found))
+  fault_of_another_reason : ¬ FaultedAs (running_state n 3 Strong 4 found u []) (Long 9) (Faulted (failure this))
   fault_of_another_reason faults = let no : Inner ≡ Long 9 = faults.4 in absurd (cc)
 
-  its_start_ended : EndedAs (running_state n 3 Strong 4 found u []) [] 7 false (ending shared found)
+  its_start_ended : EndedAs (running_state n 3 Strong 4 found u []) [] 7 false (ending shared this)
   its_start_ended = (refl, refl, refl, refl, refl, refl, refl)
 
-  another_task_ended : ¬ EndedAs (running_state n 2 Strong 4 found u []) [] 7 false (ending shared found)
+  another_task_ended : ¬ EndedAs (running_state n 2 Strong 4 found u []) [] 7 false (ending shared this)
   another_task_ended ends = absurd (omega (arith, ends.0))
 
-  another_cause_ended : ¬ EndedAs (running_state n 3 Source 4 found u []) [] 7 false (ending shared found)
+  another_cause_ended : ¬ EndedAs (running_state n 3 Source 4 found u []) [] 7 false (ending shared this)
   another_cause_ended ends = let no : Strong ≡ Source = ends.1 in absurd (cc)
 
-  another_start_ended : ¬ EndedAs (running_state n 3 Strong 5 found u []) [] 7 false (ending shared found)
+  another_start_ended : ¬ EndedAs (running_state n 3 Strong 5 found u []) [] 7 false (ending shared this)
   another_start_ended ends = absurd (omega (arith, ends.2))
 
-  end_with_another_input : ¬ EndedAs (running_state n 3 Strong 4 other u []) [] 7 false (ending shared found)
+  end_with_another_input : ¬ EndedAs (running_state n 3 Strong 4 other u []) [] 7 false (ending shared this)
   end_with_another_input ends = let no : given.First ∷ [] ≡ given.Value 2 shared ∷ [] = sym token ∙ ap parts_of ends.3 ∙ a_value in absurd (cc)
 
-  end_with_another_value : ¬ EndedAs (running_state n 3 Strong 4 found u []) [] 8 false (ending shared found)
+  end_with_another_value : ¬ EndedAs (running_state n 3 Strong 4 found u []) [] 8 false (ending shared this)
   end_with_another_value ends = absurd (omega (arith, ends.4))
 
-  end_of_other_edges : ¬ EndedAs (running_state n 3 Strong 4 found u []) (0 ∷ []) 7 false (ending shared found)
+  end_of_other_edges : ¬ EndedAs (running_state n 3 Strong 4 found u []) (0 ∷ []) 7 false (ending shared this)
   end_of_other_edges ends = let no : [] ≡ 0 ∷ [] = ends.5 in absurd (cc)
 
-  end_without_its_inner_run : ¬ EndedAs (running_state n 3 Strong 4 found u []) [] 7 true (ending shared found)
+  end_without_its_inner_run : ¬ EndedAs (running_state n 3 Strong 4 found u []) [] 7 true (ending shared this)
   end_without_its_inner_run ends = let no : false ≡ true = ends.6 in absurd (cc)
 
-  end_is_no_fault : ¬ FaultedAs (running_state n 3 Strong 4 found u []) Inner (Ended (ending shared found))
+  end_is_no_fault : ¬ FaultedAs (running_state n 3 Strong 4 found u []) Inner (Ended (ending shared this))
   end_is_no_fault faults = faults
 
   drop_is_no_fault : ¬ FaultedAs (running_state n 3 Strong 4 found u []) Inner (Dropped dropping)
@@ -317,19 +321,25 @@ module _ (n : TableId) (u : StartUnits) (shared : Arc ℕ Global) (found other :
   drop_for_another_reason : ¬ DroppedAs {V = ℕ} (turn_state n 3 Strong []) Halted (Dropped dropping)
   drop_for_another_reason drops = let no : Limit ≡ Halted = drops.2 in absurd (cc)
 
-  end_is_no_drop : ¬ DroppedAs {V = ℕ} (turn_state n 3 Strong []) Limit (Ended (ending shared found))
+  end_is_no_drop : ¬ DroppedAs {V = ℕ} (turn_state n 3 Strong []) Limit (Ended (ending shared this))
   end_is_no_drop drops = drops
 
-  fault_is_no_drop : ¬ DroppedAs {V = ℕ} (turn_state n 3 Strong []) Limit (Faulted (failure found))
+  fault_is_no_drop : ¬ DroppedAs {V = ℕ} (turn_state n 3 Strong []) Limit (Faulted (failure this))
   fault_is_no_drop drops = drops
 
 -- WHAT A KEEPER TELLS
-module _ (shared : Arc ℕ Global) (found : Ins ℕ) (token : parts_of found ≡ given.First ∷ []) where
-  start_and_fault : entries_of (Faulted (failure found)) ≡ record { place = 4; entry = Start 3 Strong (First ∷ []) } ∷ record { place = 6; entry = Fault 4 Inner } ∷ []
-  start_and_fault = ap (λ parts. start_of 4 3 Strong (map given_part parts) ∷ record { place = 6; entry = Fault 4 Inner } ∷ []) token
+module _ (shared : Arc ℕ Global) (this : FoundParts ℕ) (token : parts_of this.ins.value ≡ given.First ∷ []) where
+  its_part : this.parts ≡ First ∷ []
+  its_part = this.same ∙ ap (map given_part) token
 
-  start_with_its_input : entries_of (Ended (ending shared found)) ≡ record { place = 4; entry = Start 3 Strong (First ∷ []) } ∷ record { place = 6; entry = End 4 [] false } ∷ []
-  start_with_its_input = ap (λ parts. start_of 4 3 Strong (map given_part parts) ∷ record { place = 6; entry = End 4 [] false } ∷ []) token
+  start_and_fault : entries_of (Faulted (failure this)) ≡ record { place = 4; entry = Start 3 Strong (First ∷ []) } ∷ record { place = 6; entry = Fault 4 Inner } ∷ []
+  start_and_fault = ap (λ parts. start_of 4 3 Strong parts ∷ record { place = 6; entry = Fault 4 Inner } ∷ []) its_part
+
+  start_with_its_input : entries_of (Ended (ending shared this)) ≡ record { place = 4; entry = Start 3 Strong (First ∷ []) } ∷ record { place = 6; entry = End 4 [] false } ∷ []
+  start_with_its_input = ap (λ parts. start_of 4 3 Strong parts ∷ record { place = 6; entry = End 4 [] false } ∷ []) its_part
+
+  entries_of_two_turns : with_places (entries_told (Dropped dropping ∷ Faulted (failure this) ∷ [])) ≡ (6, Drop 3 Strong Limit) ∷ (4, Start 3 Strong this.parts) ∷ (6, Fault 4 Inner) ∷ []
+  entries_of_two_turns = refl
 
 drop_alone : entries_of {V = ℕ} (Dropped dropping) ≡ record { place = 6; entry = Drop 3 Strong Limit } ∷ []
 drop_alone = refl
@@ -343,13 +353,13 @@ not_last_while_turns_are_left last = last
 not_last_by_an_error : ¬ IsLast {E = ℕ} (Err 5)
 not_last_by_an_error last = last
 
-abbrev one_task : NetRows
+abbrev pub one_task : NetRows
 one_task = record { tasks = needs [] [] ∷ []; edges = []; sems = [] }
 
-abbrev journal : List Entry
+abbrev pub journal : List Entry
 journal = Start 0 Source [] ∷ End 0 [] false ∷ []
 
-may_start : MayFollow one_task 5 [] (Start 0 Source [])
+pub may_start : MayFollow one_task 5 [] (Start 0 Source [])
 may_start = record {
   in_range = (omega arith, tt);
   release = (refl, refl);
@@ -359,7 +369,7 @@ may_start = record {
   halt_limit_stuck = record { dropped = omega arith; after_stuck = λ other. refl };
 }
 
-may_end : MayFollow one_task 5 (Start 0 Source [] ∷ []) (End 0 [] false)
+pub may_end : MayFollow one_task 5 (Start 0 Source [] ∷ []) (End 0 [] false)
 may_end = record {
   in_range = tt;
   release = tt;
@@ -370,19 +380,19 @@ may_end = record {
 }
 
 -- the start of the one task found no input, and ended
-module _ (shared : Arc ℕ Global) (ins : Ins ℕ) (no_input : parts_of ins ≡ []) where
-  abbrev ended : EndedStart ℕ
-  ended = record { task = 0; cause = Source; start = 0; ins = ins; value = shared; place = 1; gives = []; inner = false }
+module _ (shared : Arc ℕ Global) (parts : FoundParts ℕ) (no_input : parts.parts ≡ []) where
+  abbrev pub ended : EndedStart ℕ
+  ended = record { task = 0; cause = Source; start = 0; found = parts; value = shared; place = 1; gives = []; inner = false }
 
-  each_place_once : Merges (entries_of (Ended ended)) journal
-  each_place_once = record { stand = (ap (λ parts. Some (Start 0 Source (map given_part parts))) (sym no_input), (refl, tt)); each = once }
+  pub each_place_once : Merges (entries_of (Ended ended)) journal
+  each_place_once = record { stand = (ap (λ found. Some (Start 0 Source found)) (sym no_input), (refl, tt)); each = once }
     where
       once : (m : ℕ) → m < 2 → count_by (λ (r : Recorded). r.place == m) (entries_of (Ended ended)) ≡ 1
       once zero below = refl
       once (suc zero) below = refl
       once (suc (suc m)) below = absurd (omega arith)
 
-  whole_run : TellsRun one_task 5 (entries_of (Ended ended))
+  pub whole_run : TellsRun one_task 5 (entries_of (Ended ended))
   whole_run = record {
     journal = journal;
     merges = each_place_once;
@@ -413,8 +423,8 @@ no_run_with_a_gap some = gap some.tells.journal some.tells.merges
 no_run_with_an_input_of_no_edge : (told : List Entry) → told ≡ Start 0 Source (First ∷ []) ∷ [] → ¬ MeetsDataRule one_task told
 no_run_with_an_input_of_no_edge told is meets = let first : MeetsDataRule one_task (Start 0 Source (First ∷ []) ∷ []) = subst (λ j. MeetsDataRule one_task j) is meets in first.0
 
-keeper_without_entries : (n : TableId) (k : KeeperState ℕ) → k ≡ keeper_state n [] [] [] [] → (k.table ≡ n) × (k.entries ≡ []) × (k.values ≡ []) × (k.inputs ≡ []) × (k.found ≡ [])
-keeper_without_entries n k is = (ap (λ (s : KeeperState ℕ). s.table) is, ap (λ (s : KeeperState ℕ). s.entries) is, ap (λ (s : KeeperState ℕ). s.values) is, ap (λ (s : KeeperState ℕ). s.inputs) is, ap (λ (s : KeeperState ℕ). s.found) is)
+keeper_without_turns : (n : TableId) (k : KeeperState ℕ) → k ≡ keeper_state n [] [] → (k.table ≡ n) × (k.fates ≡ []) × (k.found ≡ [])
+keeper_without_turns n k is = (ap (λ (s : KeeperState ℕ). s.table) is, ap (λ (s : KeeperState ℕ). s.fates) is, ap (λ (s : KeeperState ℕ). s.found) is)
 
 -- HOW A TABLE BEGINS
 abbrev no_tasks : NetRows
@@ -437,10 +447,10 @@ module _ (o : Opening ℕ) where
   no_opening_at_another_limit : o.table.limit ≡ 4 → ¬ OpensTable one_task 5 o
   no_opening_at_another_limit four opens = absurd (omega (arith, four, opens.limit_is))
 
-  keeper_has_nothing_at_first : OpensTable one_task 5 o → o.keeper ≡ keeper_state o.table.table [] [] [] []
+  keeper_has_nothing_at_first : OpensTable one_task 5 o → o.keeper ≡ keeper_state o.table.table [] []
   keeper_has_nothing_at_first opens = opens.keeper
 
-  opens_with_its_parts : o.table.net ≡ one_task → o.table.limit ≡ 5 → o.fresh.items ≡ fresh_state o.table.table 0 Source ∷ [] → o.keeper ≡ keeper_state o.table.table [] [] [] []
+  opens_with_its_parts : o.table.net ≡ one_task → o.table.limit ≡ 5 → o.fresh.items ≡ fresh_state o.table.table 0 Source ∷ [] → o.keeper ≡ keeper_state o.table.table [] []
       → OpensTable one_task 5 o
   opens_with_its_parts net_is limit_is fresh keeper = record {
     net_is = net_is;

@@ -1,5 +1,5 @@
 -- Lists of which the first items are changed, and seats that are moved one after the other.
-use Rattle.std.proofs.Common.{◌≡◌, ℕ, zero, suc, ◌+◌, ◌<◌, ◌≤◌, List, [], ◌∷◌, length, map, refl, ap, sym, subst, ◌∙◌, arith, add-one}
+use Rattle.std.proofs.Common.{◌≡◌, ℕ, zero, suc, ◌+◌, ◌<◌, ◌≤◌, List, [], ◌∷◌, All, length, map, refl, ap, sym, subst, ◌∙◌, arith, add-one}
 use Rattle.std.proofs.lemmas.List.{set-get_or}
 use Rattle.std.specs.Prelude.{slice_set, slice_index_or, Result, Ok, Err, OnErr}
 use Rattle.worker_seat.specs.declared.seat.WorkerSeat.{WorkerSeat}
@@ -32,6 +32,17 @@ changed_set f zero [] y lt is = absurd (omega arith)
 changed_set f zero (x ∷ xs) y lt is = ap (λ v. f v ∷ xs) is
 changed_set f (suc n) [] y lt is = absurd (omega arith)
 changed_set f (suc n) (x ∷ xs) y lt is = ap (λ ys. f x ∷ ys) (changed_set f n xs y (omega arith) is)
+
+-- which was as it had been
+changed_next : {X : Type 0} (f : X → X) (n : ℕ) (xs : List X) (d : X) → slice_index_or (changed f n xs) n d ≡ slice_index_or xs n d
+changed_next f zero xs d = refl
+changed_next f (suc n) [] d = refl
+changed_next f (suc n) (x ∷ xs) d = changed_next f n xs d
+
+-- so that it has what each had
+pub next_has : {X : Type 0} (P : X → Type 0) (f : X → X) (n : ℕ) (xs ys : List X) (d : X) → All P xs → ys ≡ changed f n xs → n < length xs → P (slice_index_or ys n d)
+next_has P f n xs ys d all e lt =
+    subst P (sym (ap (λ zs. slice_index_or zs n d) e ∙ changed_next f n xs d)) (all n d lt)
 
 module _ {J V X : Type 0} where
   pub moved_next : (to : SeatState J → SeatState J) (n : ℕ) (xs ys : List (WorkerSeat J X V)) (seat : WorkerSeat J X V) (station : SeatState J)

@@ -1,31 +1,39 @@
 -- A crew may be shared by threads, and its seats may go to them: of the types that they are made of, one after the other,
 -- since a search for all at once gives up.
 use denote.RattleType.{RattleType}
+use denote.Hole.{as_row}
 use denote.Param.Send.{IsSend, IsSync, sendable}
-use denote.Param.SendFields.{as_row_send, declared_send}
+use denote.Param.SendFields.{as_row_send, as_row_sync, declared_send}
 use Rattle.std.proofs.Crossing.{crosses, frees}
 use Rattle.std.proofs.alloc.Global.TheSendSync as heap
 use Rattle.std.proofs.option.Option.TheSendSync as option
 use Rattle.atomic_table.proofs.shared.Seat.TheSendSync as seat
 use Rattle.atomic_table.proofs.shared.Shared.TheSendSync as shared
 use Rattle.atomic_table.proofs.send_lease.SendLease.TheSendSync as lease
-use Rattle.frame_steps.proofs.frame.Frame.TheLaws.TheKnot as frame_knot
+use Rattle.boxcar.proofs.slot.OnceSlot.TheSendSync as slot
+use Rattle.boxcar.proofs.slot.Written.TheSendSync as written
+use Rattle.boxcar.proofs.tag.Tag.TheSendSync as tag
+use Rattle.table_frames.proofs.frame.Frame.TheLaws.TheKnot as frame_knot
 use Rattle.run_frame.proofs.run.FrameRun.TheLaws.TheKnot as run_knot
 use Rattle.run_frame.specs.declared.job.Job as Job
 use Rattle.run_frame.specs.declared.job.Valued as Valued
-use Rattle.run_frame.specs.contracts.duty.Duty as duty
-use Rattle.run_frame.specs.contracts.state.FrameState as state
 use Rattle.run_frame.specs.contracts.run.FrameRun as frame_run
-use Rattle.tickets.specs.contracts.register.Ticket as ticket
-use Rattle.tickets.specs.contracts.register.Register as register
-use Rattle.frame_steps.specs.contracts.release.Release as release
-use Rattle.frame_steps.specs.contracts.frame.Frame as frame
-use Rattle.frame_steps.specs.contracts.locked_run.LockedRun as locked
+use Rattle.task_graph.specs.contracts.net.Net as net
+use Rattle.join_words.specs.contracts.ins.Given as given
+use Rattle.table_steps.specs.contracts.table_seat.TableSeat as table_seat
+use Rattle.join_tables.specs.contracts.fates.Fate as fate
+use Rattle.table_frames.specs.contracts.table_run.TableRun as table_run
+use Rattle.table_frames.specs.contracts.kept.KeptRun as kept
+use Rattle.table_frames.specs.contracts.frame.Frame as frame
+use Rattle.table_frames.specs.contracts.release.Release as release
 use Rattle.ready_deques.proofs.owner.Owner.TheSendSync as owner
 use Rattle.ready_deques.specs.contracts.owner.Owner as owner_type
 use Rattle.worker_seat.specs.contracts.item.CrewItemTagged.TheImpl as tagged
 use Rattle.ready_deques.proofs.ready.Ready.TheSendSync as ready
 use Rattle.worker_seat.specs.contracts.attendance.Attendance as attendance
+use Rattle.worker_seat.specs.contracts.begun.RunFrames as run_frames
+use Rattle.worker_seat.specs.contracts.begun.BegunRuns as begun_runs
+use Rattle.worker_seat.specs.contracts.begun.RunNumber as run_number
 use Rattle.worker_seat.specs.contracts.station.Station as station
 use Rattle.worker_seat.specs.contracts.station.Station.TheInside as station_inside
 use Rattle.worker_seat.specs.contracts.seat.WorkerSeat as worker_seat
@@ -35,35 +43,52 @@ use Rattle.worker_seat.specs.contracts.closing.Closing as closing
 use Rattle.worker_seat.specs.contracts.crew_run.CrewRun as crew_run
 
 -- what crosses threads without regard to jobs
-ruleset tables = (crosses, frees, heap.the_field_send, heap.the_field_sync, heap.the_send, heap.the_sync, option.the_send, option.the_sync, seat.the_send, shared.the_send, shared.the_sync, lease.the_send, lease.the_sync, sendable)
+ruleset tables = (crosses, frees, heap.the_field_send, heap.the_field_sync, heap.the_send, heap.the_sync, option.the_send, option.the_sync, seat.the_send, shared.the_send, shared.the_sync, lease.the_send, lease.the_sync, slot.the_send, slot.the_sync, written.the_send, written.the_sync, tag.the_send, tag.the_sync, sendable)
+
+net_send : IsSend net.the_row
+net_send = search tables depth 60 fits 20000
+
+net_sync : IsSync net.the_row
+net_sync = search tables depth 60 fits 20000
 
 module _ (T V : RattleType) (J : Job.Ghosts T.Denot V.Denot) (W : Valued.Ghosts T.Denot V.Denot) (s : IsSend T) (y : IsSync T) (sv : IsSend V) (yv : IsSync V) where
-  duty_send : IsSend (duty.the_row V)
-  duty_send = search tables depth 60 fits 20000
+  given_send : IsSend (given.the_row V)
+  given_send = search tables depth 60 fits 20000
 
-  ticket_send : IsSend (ticket.the_row (duty.the_row V))
-  ticket_send = search (duty_send, tables) depth 60 fits 20000
+  seat_of_table_send : IsSend (table_seat.the_row V)
+  seat_of_table_send = search (given_send, tables) depth 60 fits 20000
 
-  register_send : IsSend (register.the_row (duty.the_row V))
-  register_send = search (duty_send, tables) depth 60 fits 20000
+  table_run_send : IsSend (table_run.the_row T V J)
+  table_run_send = search tables depth 60 fits 20000
 
-  register_sync : IsSync (register.the_row (duty.the_row V))
-  register_sync = search (duty_send, tables) depth 60 fits 20000
+  table_run_sync : IsSync (table_run.the_row T V J)
+  table_run_sync = search tables depth 60 fits 20000
 
-  state_send : IsSend (state.the_row T V J)
-  state_send = search (duty_send, register_send, tables) depth 60 fits 20000
+  fate_send : IsSend (fate.the_row V)
+  fate_send = search tables depth 60 fits 20000
 
-  locked_send : IsSend (locked.the_row T V J)
-  locked_send = search (state_send, tables) depth 60 fits 20000
+  kept_send : IsSend (kept.the_row T V J)
+  kept_send = search (fate_send, seat_of_table_send, tables) depth 60 fits 20000
 
+  run_field_send : IsSend (as_row (table_run.the_field T V J))
+  run_field_send = as_row_send (table_run.the_field T V J) table_run_send
+
+  run_field_sync : IsSync (as_row (table_run.the_field T V J))
+  run_field_sync = as_row_sync (table_run.the_field T V J) table_run_sync
+
+  -- A frame has its run, the lock with its keeper, and the frame around it, which crosses where frames do.
   frame_send : IsSend (frame.the_row T V J W)
-  frame_send = search (locked_send, frame_knot.crosses, tables) depth 60 fits 20000
+  frame_send = frame_knot.both_send-Frame T V J W
+      (search tables depth 60 fits 20000) run_field_send (search (kept_send, tables) depth 60 fits 20000) (search tables depth 60 fits 20000) (λ h s y. search tables depth 60 fits 20000)
+      (search tables depth 60 fits 20000) run_field_sync (search (kept_send, tables) depth 60 fits 20000) (search tables depth 60 fits 20000) (λ h s y. search tables depth 60 fits 20000)
 
   frame_sync : IsSync (frame.the_row T V J W)
-  frame_sync = search (locked_send, frame_knot.crosses, tables) depth 60 fits 20000
+  frame_sync = frame_knot.both_sync-Frame T V J W
+      (search tables depth 60 fits 20000) run_field_send (search (kept_send, tables) depth 60 fits 20000) (search tables depth 60 fits 20000) (λ h s y. search tables depth 60 fits 20000)
+      (search tables depth 60 fits 20000) run_field_sync (search (kept_send, tables) depth 60 fits 20000) (search tables depth 60 fits 20000) (λ h s y. search tables depth 60 fits 20000)
 
   release_send : IsSend (release.the_row T V J W)
-  release_send = search (frame_send, frame_sync, ticket_send, tables) depth 60 fits 20000
+  release_send = search (frame_send, frame_sync, seat_of_table_send, tables) depth 60 fits 20000
 
   run_send : IsSend (frame_run.the_row T V)
   run_send = search (run_knot.crosses, tables) depth 60 fits 20000
@@ -71,14 +96,32 @@ module _ (T V : RattleType) (J : Job.Ghosts T.Denot V.Denot) (W : Valued.Ghosts 
   closing_send : IsSend (closing.the_row T V J)
   closing_send = search (run_send, tables) depth 60 fits 20000
 
+  run_frames_send : IsSend (run_frames.the_row T V J W)
+  run_frames_send = search tables depth 60 fits 20000
+
+  run_frames_sync : IsSync (run_frames.the_row T V J W)
+  run_frames_sync = search tables depth 60 fits 20000
+
+  number_send : IsSend (run_number.the_row T V J W)
+  number_send = search tables depth 60 fits 20000
+
+  number_sync : IsSync (run_number.the_row T V J W)
+  number_sync = search tables depth 60 fits 20000
+
+  begun_send : IsSend (begun_runs.the_row T V J W)
+  begun_send = search (run_frames_send, tables) depth 60 fits 20000
+
+  begun_sync : IsSync (begun_runs.the_row T V J W)
+  begun_sync = search (run_frames_send, run_frames_sync, tables) depth 60 fits 20000
+
   crew_run_send : IsSend (crew_run.the_row T V J W)
-  crew_run_send = search (closing_send, tables) depth 60 fits 20000
+  crew_run_send = search (closing_send, number_send, tables) depth 60 fits 20000
 
   crew_run_sync : IsSync (crew_run.the_row T V J W)
-  crew_run_sync = search (closing_send, tables) depth 60 fits 20000
+  crew_run_sync = search (closing_send, number_sync, tables) depth 60 fits 20000
 
   item_send : IsSend (item.the_row T V J W)
-  item_send = search (crew_run_send, crew_run_sync, release_send, tables) depth 60 fits 20000
+  item_send = search (number_send, release_send, tables) depth 60 fits 20000
 
   attendance_send : IsSend (attendance.the_row T V J W)
   attendance_send = search (crew_run_send, crew_run_sync, tables) depth 60 fits 20000
@@ -91,7 +134,7 @@ module _ (T V : RattleType) (J : Job.Ghosts T.Denot V.Denot) (W : Valued.Ghosts 
 
   -- a crew is shared
   pub crew_sync : IsSync (crew.the_row T V J W)
-  crew_sync = search (item_send, ready.the_send, ready.the_sync, tables) depth 60 fits 20000
+  crew_sync = search (item_send, begun_sync, ready.the_send, ready.the_sync, tables) depth 60 fits 20000
 
   -- a seat is sent, with a watcher that may be
   pub seat_send : (X : RattleType) → IsSend X → IsSend (worker_seat.the_row T X V J W)

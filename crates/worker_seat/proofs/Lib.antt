@@ -2,5 +2,6 @@ mod ChangedLemmas
 pub mod Crossing
 mod EnteredLemmas
 mod FoundLemmas
+mod NumberLemmas
 mod SeatingLemmas
 mod WorkedCrews

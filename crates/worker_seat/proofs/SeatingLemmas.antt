@@ -1,13 +1,19 @@
 -- Seats that are made one after the other, each of the last owner that is left and of the first watcher.
-use Rattle.std.proofs.Common.{◌≡◌, ◌<◌, List, [], ◌∷◌, ◌++◌, All, length, map, refl, ap, sym, subst, ◌∙◌, arith}
+use Rattle.std.proofs.Common.{◌≡◌, ℕ, ◌<◌, List, [], ◌∷◌, ◌++◌, All, length, map, refl, ap, sym, subst, ◌∙◌, arith}
 use Rattle.std.proofs.lemmas.Grind.{common_steps}
 use Rattle.std.proofs.lemmas.List.Elements.{All-push}
 use Rattle.std.specs.Prelude.{slice_index_or}
 use Rattle.std.specs.List.{remove}
 use Rattle.atomic_table.specs.Seated.{TableId}
+use Rattle.ready_deques.specs.Lists.{OwnerState, IsOwnerOf, tag_of}
+use Rattle.ready_deques.specs.declared.ready.Ready.{Ready}
+use Rattle.ready_deques.specs.declared.tagged.Tagged.{Ghosts}
+use Rattle.worker_seat.specs.declared.crew.Crew.{Crew}
 use Rattle.worker_seat.specs.declared.seat.WorkerSeat.{WorkerSeat}
-use Rattle.worker_seat.specs.Seats.{SeatState, new_seat}
-use Rattle.worker_seat.specs.Crews.{MayBegin, state_of}
+use Rattle.worker_seat.specs.Seats.{ListName, SeatState, new_seat}
+use Rattle.worker_seat.specs.Crews.{IsSeatOf, MayBegin, crew_of, state_of}
+use Rattle.worker_seat.specs.inside.Runs.{RunView}
+use Rattle.worker_seat.specs.inside.Seating.{IsRunOn, list_name, owner_list}
 
 module _ {X : Type 0} (P : X → Type 0) where
   pub last_is : (xs ys : List X) (y : X) → All P xs → xs ≡ ys ++ y ∷ [] → P y
@@ -42,18 +48,33 @@ module _ {X Y : Type 0} (f : X → Y) where
   watchers_end seats [] all were none = sym (none_left (map f seats)) ∙ were
   watchers_end seats (w ∷ ws) all were none = absurd (omega arith)
 
+abbrev named : List ℕ → TableId → ListName
+named begun counts = record { begun = begun; counts = counts }
+
+-- an owner of a list is of the list of its name
+pub same_list : {T : Type 0} {G : Ghosts T} (ready : Ready T G) (owner : OwnerState) → IsOwnerOf ready owner → owner_list owner ≡ list_name ready
+same_list ready owner is = ap (λ (begun : List ℕ). named begun owner.counts) is.0 ∙ ap (named (tag_of ready)) is.1
+
 module _ {J V X : Type 0} where
   -- a new seat is of the list of its owner
-  pub list_more : (name counts : TableId) (seats new : List (WorkerSeat J X V)) (seat : WorkerSeat J X V) → All (λ (s : WorkerSeat J X V). (state_of s).list ≡ name) seats
-      → new ≡ seats ++ seat ∷ [] → state_of seat ≡ new_seat counts → counts ≡ name → All (λ (s : WorkerSeat J X V). (state_of s).list ≡ name) new
-  list_more name counts seats new seat all now state is =
+  pub list_more : (name : ListName) (owner : OwnerState) (seats new : List (WorkerSeat J X V)) (seat : WorkerSeat J X V) → All (λ (s : WorkerSeat J X V). (state_of s).list ≡ name) seats
+      → new ≡ seats ++ seat ∷ [] → state_of seat ≡ new_seat (owner_list owner) → owner_list owner ≡ name → All (λ (s : WorkerSeat J X V). (state_of s).list ≡ name) new
+  list_more name owner seats new seat all now state is =
       let P : WorkerSeat J X V → Type 0 = λ s. (state_of s).list ≡ name in
       let one : P seat = ap (λ (s : SeatState J). s.list) state ∙ is in
       subst (λ (zs : List (WorkerSeat J X V)). All P zs) (sym now) (All-push P seats seat all one)
 
   -- and may go to a run
-  pub ready_more : (counts : TableId) (seats new : List (WorkerSeat J X V)) (seat : WorkerSeat J X V) → All MayBegin seats
-      → new ≡ seats ++ seat ∷ [] → state_of seat ≡ new_seat counts → All MayBegin new
-  ready_more counts seats new seat all now state =
+  pub ready_more : (owner : OwnerState) (seats new : List (WorkerSeat J X V)) (seat : WorkerSeat J X V) → All MayBegin seats
+      → new ≡ seats ++ seat ∷ [] → state_of seat ≡ new_seat (owner_list owner) → All MayBegin new
+  ready_more owner seats new seat all now state =
       let one : MayBegin seat = record { free = ap (λ (s : SeatState J). s.job) state; served = ap (λ (s : SeatState J). s.refused) state } in
       subst (λ (zs : List (WorkerSeat J X V)). All MayBegin zs) (sym now) (All-push MayBegin seats seat all one)
+
+  -- a run of the crew's list is one of the list of each of its seats
+  pub all_on : (crew : Crew J V) (run : RunView J) (seats lent : List (WorkerSeat J X V)) → All (IsSeatOf crew) seats → IsRunOn (crew_of crew).list run
+      → lent ≡ seats → All (λ (s : WorkerSeat J X V). IsRunOn (state_of s).list run) lent
+  all_on crew run seats lent all on same =
+      let P : WorkerSeat J X V → Type 0 = λ s. IsRunOn (state_of s).list run in
+      let each : All P seats = λ k d lt. subst (λ (l : ListName). IsRunOn l run) (sym (all k d lt)) on in
+      subst (λ (zs : List (WorkerSeat J X V)). All P zs) (sym same) each

@@ -9,15 +9,18 @@ use Rattle.run_frame.specs.Legal.{IsKept}
 use Rattle.run_frame.specs.NestedRule.{job_of}
 use Rattle.worker_seat.specs.declared.crew.Crew.{Crew}
 use Rattle.worker_seat.specs.declared.seat.WorkerSeat.{WorkerSeat}
-use Rattle.worker_seat.specs.Seats.{CrewState, SeatState, crew_state, new_seat, IsBusy, at_job, found_closed, away, refused_seat, left_refused, IsClosedWith}
+use Rattle.worker_seat.specs.Seats.{ListName, CrewState, SeatState, crew_state, new_seat, IsBusy, at_job, found_closed, away, refused_seat, left_refused, IsClosedWith}
 use Rattle.worker_seat.specs.Crews.{state_of, watcher_of, crew_of, moved, IsSeatOf, AreSeatsOf, MayBegin, MayEnter, IsEntered, AreEntered, IsOpen, IsKeptOf, IsFoundRunOf}
 
--- two lists, which differ in their numbers of words
-abbrev here : TableId
-here = record { words = 1; slots = 0; views_name = 0; atom = 0; block = 0; offset = 0; slot_names = [] }
+-- two lists, which differ in the words of their tables
+abbrev table : ℕ → TableId
+table n = record { words = n; slots = 0; views_name = 0; atom = 0; block = 0; offset = 0; slot_names = [] }
 
-abbrev there : TableId
-there = record { words = 2; slots = 0; views_name = 0; atom = 0; block = 0; offset = 0; slot_names = [] }
+abbrev here : ListName
+here = record { begun = 3 ∷ []; counts = table 1 }
+
+abbrev there : ListName
+there = record { begun = 3 ∷ []; counts = table 2 }
 
 -- jobs are numbers here
 abbrev fresh : SeatState ℕ
@@ -107,7 +110,7 @@ module _ (V : Type 0) {X : Type 0} (watcher : X) where
   a_seat_at_no_run_may_not_be_entered crew may = may.busy
 
   a_seat_of_another_crew_may_not_be_entered : (crew : Crew ℕ V) → crew_of crew ≡ crew_state here 2 → ¬ MayEnter crew (seat (at_job 7 (new_seat there)))
-  a_seat_of_another_crew_may_not_be_entered crew two may = absurd (omega (arith, ap (λ (l : TableId). l.words) (may.of_crew ∙ ap (λ (made : CrewState). made.list) two)))
+  a_seat_of_another_crew_may_not_be_entered crew two may = absurd (omega (arith, ap (λ (l : ListName). l.counts.words) (may.of_crew ∙ ap (λ (made : CrewState). made.list) two)))
 
   -- Once it was, it has found its run closed or is refused.
   entered_and_found_closed : IsEntered (seat at_seven) (seat found_seven)
@@ -133,7 +136,7 @@ module _ (V : Type 0) {X : Type 0} (watcher : X) where
   a_seat_of_its_list crew two = sym (ap (λ (made : CrewState). made.list) two)
 
   a_seat_of_another_list : (crew : Crew ℕ V) → crew_of crew ≡ crew_state here 2 → ¬ IsSeatOf crew (seat (new_seat there))
-  a_seat_of_another_list crew two is = absurd (omega (arith, ap (λ (l : TableId). l.words) (is ∙ ap (λ (made : CrewState). made.list) two)))
+  a_seat_of_another_list crew two is = absurd (omega (arith, ap (λ (l : ListName). l.counts.words) (is ∙ ap (λ (made : CrewState). made.list) two)))
 
   both_seats : (crew : Crew ℕ V) → crew_of crew ≡ crew_state here 2 → AreSeatsOf crew (seat found_seven ∷ seat fresh ∷ [])
   both_seats crew two = record {

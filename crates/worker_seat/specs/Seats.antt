@@ -1,24 +1,29 @@
 -- Where a seat of a crew is.
-use Rattle.std.specs.Prelude.{◌≡◌, ℕ, Bool, true, false, Option, Some, None}
+use Rattle.std.specs.Prelude.{◌≡◌, ℕ, List, Bool, true, false, Option, Some, None}
 use Rattle.atomic_table.specs.Seated.{TableId}
+
+-- what names the list of a crew: the numbers that name the crew's runs, and the table of the list's count word
+pub record ListName : Type 0 where
+  pub begun : List ℕ
+  pub counts : TableId
 
 -- the name of a crew's list, and how many seats the crew has
 pub record CrewState : Type 0 where
-  pub list : TableId
+  pub list : ListName
   pub seats : ℕ
 
-abbrev pub crew_state : TableId → ℕ → CrewState
+abbrev pub crew_state : ListName → ℕ → CrewState
 crew_state l n = record { list = l; seats = n }
 
 -- The list of the seat's crew; the job of the run that the seat is at, if it is at one; whether it has found that run closed; and whether an allocation has ever failed for it
 pub record SeatState (J : Type 0) : Type 0 where
-  pub list : TableId
+  pub list : ListName
   pub job : Option J
   pub closed : Bool
   pub refused : Bool
 
 -- a seat that is at no run
-abbrev pub new_seat : {J : Type 0} → TableId → SeatState J
+abbrev pub new_seat : {J : Type 0} → ListName → SeatState J
 new_seat l = record { list = l; job = None; closed = false; refused = false }
 
 -- whether a seat is at a run, by the run's job

@@ -1,3 +1,4 @@
--- Internal: runs that a crew is at, and where a seat is.
+-- Internal: the runs of a crew and their numbers, and where a seat is.
+pub mod Numbers
 pub mod Runs
 pub mod Seating

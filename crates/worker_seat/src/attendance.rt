@@ -2,8 +2,8 @@
 ghost use Rattle.std.specs.Prelude.{◌≡◌, ◌↔◌, true, IfSome, IsSome, IsTrue};
 ghost use Rattle.run_frame.specs.Legal.{IsKept};
 ghost use Rattle.run_frame.specs.NestedRule.{job_of};
-ghost use Rattle.worker_seat.specs.Seats.{IsBusy};
-ghost use Rattle.worker_seat.specs.inside.Seating.{job_at, has_found, FitsRun};
+ghost use Rattle.worker_seat.specs.Seats.{IsBusy, ListName};
+ghost use Rattle.worker_seat.specs.inside.Seating.{job_at, has_found, FitsRun, IsAtRunOn};
 
 use crate::crew_run::CrewRun;
 use run_frame::{FrameRun, Job};
@@ -28,6 +28,7 @@ impl<J: Job + Drop> Attendance<J> {
         ensures fits { FitsRun result }
         ensures job { job_at result ≡ job_at self }
         ensures found { has_found self ≡ true → has_found result ≡ true }
+        ensures list { (list : ListName) → IsAtRunOn list self → IsAtRunOn list result }
     {
         match self {
             Attendance::At(run) => match run.find(rt) {
@@ -48,6 +49,17 @@ impl<J: Job + Drop> Attendance<J> {
         match self {
             Attendance::Found(run, ticket) => Some(run.fetch(rt, ticket)),
             Attendance::At(_) => None,
+            Attendance::Away => None,
+        }
+    }
+
+    /// The run that it is at, unless it has found it closed.
+    pub fn open_run(&self) -> Option<&Arc<CrewRun<J>>>
+        ensures { IfSome result (λ run. self.now ≡ Attendance.At run.now) }
+    {
+        match self {
+            Attendance::At(run) => Some(run),
+            Attendance::Found(_, _) => None,
             Attendance::Away => None,
         }
     }

@@ -1,26 +1,29 @@
 // Crews.
-ghost use Rattle.std.specs.Prelude.{◌≡◌, ◌<◌, ◌≤◌, [], length, map, All, IfOk, IfErr, IfSome, IsSome, IsNone, OnOk, OnErr};
+ghost use Rattle.std.specs.Prelude.{◌≡◌, ◌≢◌, ◌<◌, ◌≤◌, [], length, map, All, IfOk, IfErr, IfSome, IsSome, IsNone, OnOk, OnErr};
 ghost use Rattle.std.specs.Arc.{arc_value};
 ghost use Rattle.run_frame.specs.FlatNets.{IsFlatNet};
+ghost use Rattle.run_frame.specs.Legal.{IsKept};
+ghost use Rattle.run_frame.specs.NestedRule.{job_of};
+ghost use Rattle.worker_seat.specs.inside.Runs.{AreOfRun};
+ghost use Rattle.worker_seat.specs.inside.Seating.{IsRunOn};
 
+use crate::begun::BegunRuns;
 use crate::crew_run::CrewRun;
-use crate::item::{CrewItem, OfCrews};
-use crate::list::CrewList;
+use crate::list::{CrewList, RunsList};
 use crate::seat::WorkerSeat;
 use crate::seats::{fetch_first, refuse_all, seat_all, send_all};
-use crate::steps::inject_all;
-use frame_steps::{Frame, State, Stepped};
 use outside_io::{Back, NoMemory};
 use ready_deques::{Ready, Shares};
 use run_frame::{FrameRun, Job};
 use std::alloc::Global;
 use std::sync::{Arc, Wait};
+use table_frames::{Frame, Release, State, Stepped};
 
 /// What the seats of a crew share.
 #[derive(Drop)]
 pub struct Crew<J: Job + Drop> {
     pub(crate) alloc: Global,
-    pub(crate) list: CrewList<CrewItem<J>>,
+    pub(crate) list: RunsList<J>,
 }
 
 /// A new crew, and all its seats.
@@ -32,7 +35,7 @@ pub struct CrewParts<J: Job + Drop, X> {
 
 impl<J: Job + Drop> Crew<J> {
     ghost use Rattle.worker_seat.specs.Seats.{IsBusy, at_job, away, found_closed, left_refused, refused_seat};
-    ghost use Rattle.worker_seat.specs.Crews.{AreSeatsOf, IsEntered, IsFoundRunOf, IsOpen, IsSeatOf, MayBegin, MayEnter, moved, state_of, watcher_of};
+    ghost use Rattle.worker_seat.specs.Crews.{AreSeatsOf, IsEntered, IsFoundRunOf, IsOpen, IsSeatOf, MayBegin, MayEnter, crew_of, moved, state_of, watcher_of};
 
     /// A crew with a seat for each of 1 to 16 watchers, in their order. They come back if an allocation fails.
     pub fn new<X: Drop>(alloc: Global, watchers: Vec<X>) -> Result<CrewParts<J, X>, Back<Vec<X>>>
@@ -43,7 +46,10 @@ impl<J: Job + Drop> Crew<J> {
         ensures back { IfErr result (λ back. back.item ≡ watchers) }
     {
         let count = watchers.len();
-        let Ok(Shares { ready, owners }) = Ready::new(alloc, count as u32, &OfCrews) else {
+        let Ok(begun) = BegunRuns::new(alloc) else {
+            return Err(Back { item: watchers });
+        };
+        let Ok(Shares { ready, owners }) = Ready::new(alloc, count as u32, &begun) else {
             return Err(Back { item: watchers });
         };
         let Ok(room) = Vec::with_capacity(alloc, count) else {
@@ -52,6 +58,7 @@ impl<J: Job + Drop> Crew<J> {
         let seats = seat_all(&ready, room, owners, watchers);
         let list = CrewList {
             ready,
+            begun,
             owners: count,
         };
         Ok(CrewParts {
@@ -74,7 +81,7 @@ impl<J: Job + Drop> Crew<J> {
         ensures ok { OnOk result (seats.new.items ≡ map (moved (at_job (arc_value job))) seats.old.items) }
         ensures err { OnErr result (seats.new.items ≡ map (moved left_refused) seats.old.items) }
     {
-        match self.begun(rt, job) {
+        match self.begun(rt, &job) {
             Ok(run) => send_all(seats.as_mut_slice(), &run),
             Err(NoMemory) => {
                 refuse_all(seats.as_mut_slice());
@@ -91,8 +98,8 @@ impl<J: Job + Drop> Crew<J> {
         ensures ok { OnOk result (seat.new ≡ moved found_closed seat.old) }
         ensures err { OnErr result (seat.new ≡ moved refused_seat seat.old) }
     {
-        if seat.station.work(rt, &self.list.ready).is_err() {
-            self.list.ready.close(); // the run is never closed, so nobody has to wait for it
+        if seat.station.work(rt, self.alloc, &self.list).is_err() {
+            self.list.close(); // the run is never closed, so nobody has to wait for it
         }
         seat.station.conclude(rt)
     }
@@ -125,19 +132,52 @@ impl<J: Job + Drop> Crew<J> {
     }
 
     // A run of a job, whose first releases are on the list. If it has none it is closed, and so is the list.
-    fn begun<R: Wait>(&self, rt: &R, job: Arc<J>) -> Result<Arc<CrewRun<J>>, NoMemory>
-        requires { IsFlatNet (J.meaning.net (arc_value job)) }
-        ensures { IfOk result (λ run. (arc_value run).job ≡ arc_value job) }
+    fn begun<R: Wait>(&self, rt: &R, job: &Arc<J>) -> Result<Arc<CrewRun<J>>, NoMemory>
+        requires { IsFlatNet (J.meaning.net (arc_value job.now)) }
+        ensures job { IfOk result (λ run. (arc_value run).job ≡ arc_value job.now) }
+        ensures list { IfOk result (λ run. IsRunOn (crew_of self.now).list (arc_value run)) }
     {
-        let run = Arc::new(self.alloc, CrewRun::new(self.alloc, &job)?)?;
-        let Stepped { released, state } = Frame::begin(self.alloc, job)?;
-        if let State::Closed(closed) = state {
-            run.close(rt, closed);
-            self.list.ready.close();
-            return Ok(run);
+        let Stepped { released, state } = Frame::begin(self.alloc, Arc::try_clone(job)?)?;
+        match state {
+            State::Closed(closed) => self.closed_run(rt, job, closed),
+            _ => self.open_run(rt, job, released),
         }
-        inject_all(rt, &self.list.ready, &run, released)?;
-        self.list.ready.reopen();
+    }
+
+    // A run that was closed as it began.
+    fn closed_run<R: Wait>(
+        &self,
+        rt: &R,
+        job: &Arc<J>,
+        closed: FrameRun<J>,
+    ) -> Result<Arc<CrewRun<J>>, NoMemory>
+        requires kept { IsKept J.meaning closed }
+        requires job { job_of closed ≡ arc_value job.now }
+        ensures job { IfOk result (λ run. (arc_value run).job ≡ arc_value job.now) }
+        ensures list { IfOk result (λ run. IsRunOn (crew_of self.now).list (arc_value run)) }
+    {
+        let run = Arc::new(self.alloc, CrewRun::new(self.alloc, job, None)?)?;
+        run.close(rt, closed);
+        self.list.close();
         Ok(run)
+    }
+
+    // A run that has begun with these releases, which go on the list.
+    fn open_run<R: Wait>(
+        &self,
+        rt: &R,
+        job: &Arc<J>,
+        released: Vec<Release<J>>,
+    ) -> Result<Arc<CrewRun<J>>, NoMemory>
+        requires some { released.items ≢ [] }
+        requires run { AreOfRun (arc_value job.now) released.items }
+        ensures job { IfOk result (λ run. (arc_value run).job ≡ arc_value job.now) }
+        ensures list { IfOk result (λ run. IsRunOn (crew_of self.now).list (arc_value run)) }
+    {
+        let number = self.list.begun.add(rt, &released[0])?;
+        self.list.inject_all(rt, &number, released)?;
+        self.list.reopen();
+        let run = CrewRun::new(self.alloc, job, Some(number))?;
+        Ok(Arc::new(self.alloc, run)?)
     }
 }

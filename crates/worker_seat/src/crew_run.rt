@@ -1,9 +1,12 @@
 // A run that a crew is at.
 ghost use Rattle.std.specs.Prelude.{◌≡◌, IfOk, IfSome};
+ghost use Rattle.std.specs.Option.{option_copied};
 ghost use Rattle.std.specs.Arc.{arc_value};
 ghost use Rattle.run_frame.specs.Legal.{IsKept};
 ghost use Rattle.run_frame.specs.NestedRule.{job_of};
+ghost use Rattle.worker_seat.specs.inside.Runs.{IsNumberOf};
 
+use crate::begun::RunNumber;
 use crate::closing::Closing;
 use keyed_lock::{Held, KeyedLock};
 use outside_io::NoMemory;
@@ -13,34 +16,54 @@ use std::marker::Model;
 use std::sync::{Arc, Wait};
 use tickets::{Register, Ticket};
 
-/// What the seats at a run share, and each of its releases that is on the list.
+/// What the seats at a run share.
 #[derive(Drop)]
 pub struct CrewRun<J: Job> {
     register: Register<()>,
     closing: KeyedLock<Closing<J>>,
+    // `None` of a run that was closed as it began.
+    number: Option<RunNumber<J>>,
 }
 
 impl<J: Job> Model for CrewRun<J> {
-    ghost use Rattle.std.specs.Prelude.{◌≡◌};
-    ghost use Rattle.worker_seat.specs.inside.Runs.{RunKey};
+    ghost use Rattle.std.specs.Prelude.{◌≡◌, IfSome};
+    ghost use Rattle.worker_seat.specs.inside.Runs.{RunView, IsNumberOf};
 
-    ghost Value = { RunKey J };
+    ghost Value = { RunView J };
 
     ghost use Rattle.keyed_lock.specs.Locks.{made_with};
 
-    ghost view = { λ run. made_with run.closing };
+    ghost view = { λ run. record { register = run.register; job = (made_with run.closing).job; number = run.number } };
 
-    ghost invariant = { λ run. (made_with run.closing).register ≡ run.register };
+    ghost invariant = { λ run. ((made_with run.closing).register ≡ run.register) × IfSome run.number (IsNumberOf (made_with run.closing).job) };
 }
 
 impl<J: Job + Drop> CrewRun<J> {
-    /// A run of a job that isn't closed.
-    pub fn new(alloc: Global, job: &Arc<J>) -> Result<CrewRun<J>, NoMemory>
-        ensures { IfOk result (λ run. run.job ≡ arc_value job.now) }
+    /// A run of a job that isn't closed, with its number, if it has one.
+    pub fn new(
+        alloc: Global,
+        job: &Arc<J>,
+        number: Option<RunNumber<J>>,
+    ) -> Result<CrewRun<J>, NoMemory>
+        requires { IfSome number (IsNumberOf (arc_value job.now)) }
+        ensures job { IfOk result (λ run. run.job ≡ arc_value job.now) }
+        ensures number { IfOk result (λ run. run.number ≡ number) }
     {
         let (register, found) = Register::new(alloc)?;
         let closing = KeyedLock::new(alloc, Closing::new(job, found))?;
-        Ok(CrewRun { register, closing })
+        Ok(CrewRun {
+            register,
+            closing,
+            number,
+        })
+    }
+
+    /// Its number, if it has one.
+    pub fn number(&self) -> Option<&RunNumber<J>>
+        ensures number { option_copied result ≡ self.now.number }
+        ensures job { IfSome result (λ number. IsNumberOf self.now.job number.now) }
+    {
+        self.number.as_ref()
     }
 
     /// Leaves the closed run for those who are at it.

@@ -1,17 +1,28 @@
 //! Crews: threads of the caller that work on one run together.
 //!
 //! A crew has a list of ready releases (`ready_deques`) and a seat for each of its workers. `begin` begins a run of a
-//! job (`frame_steps`) for all seats. Each seat is entered by a thread of the caller, which works until the run is
+//! job (`table_frames`) for all seats. Each seat is entered by a thread of the caller, which works until the run is
 //! closed: it takes a release from the list, takes its step, goes on with the first release that the step made and
-//! puts the others on the list. Who finds nothing there sleeps until something is pushed. The one whose step closes
-//! the run leaves it for the others and closes the list, which wakes all. `finish` hands the run out.
+//! puts the others on the list. A step takes no lock, and what became of its release the worker gathers. Where it finds
+//! nothing on the list it gives the run what it has gathered, and then sleeps until something is pushed. Who gives the
+//! last of it gets the closed run, leaves it for the others and closes the list, which wakes all. `finish` hands the
+//! run out.
+//!
+//! # Runs by number
+//!
+//! What a worker has gathered is of one run, and only what is of that run may be added. A release that is taken from a
+//! list is known by the list's tag alone. So a crew numbers the runs that it begins (`BegunRuns`, over a vector that
+//! only grows). A release on the list has the number of its run along, and the list's tag is the name of that vector.
+//! Where two numbers of one vector are equal, they are of one run. A worker steps the releases that have the number of
+//! its seat's run. There are others only after a run for which an allocation failed, and such a crew takes no further
+//! run.
 //!
 //! # The run that is handed out
 //!
 //! What the seats at a run share is a `CrewRun`, made by `begin`: under a `KeyedLock` lies the run once it is closed,
-//! with the book of a register (`tickets`). The job of the run is in the lock's key. A release on the list has its
-//! `CrewRun` along, whose job is the job of the release's own run, and a worker leaves a closed run with the `CrewRun`
-//! of the release that it stepped. So the run that is found with a `CrewRun` is of its job.
+//! with the book of a register (`tickets`). The job of the run is in the lock's key, and the run's number is one of a
+//! run of that job. A worker leaves a closed run with the `CrewRun` of its seat. So the run that is found with a
+//! `CrewRun` is of its job.
 //!
 //! An `enter` that finds the run there takes a ticket, and answers Ok. The value under the lock keeps that tickets are
 //! out only where the run is there. So a seat with a ticket knows that the run is still there, whatever others did
@@ -30,6 +41,7 @@
 #![tactic(auto)]
 
 mod attendance;
+mod begun;
 mod closing;
 mod crew;
 mod crew_run;

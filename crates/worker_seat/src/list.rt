@@ -1,17 +1,29 @@
 // The list of a crew.
-use ready_deques::{Ready, Tagged};
-use std::marker::Model;
-use std::sync::Arc;
+ghost use Rattle.std.specs.Prelude.{◌≡◌, All, IfSome};
+ghost use Rattle.worker_seat.specs.inside.Runs.{AreIn};
 
-/// A list of items without a tag, and how many owners it has.
+use crate::begun::{BegunRuns, RunNumber};
+use crate::item::CrewItem;
+use outside_io::NoMemory;
+use ready_deques::{Ready, Tagged};
+use run_frame::Job;
+use std::marker::Model;
+use std::sync::{Arc, Wait};
+use table_frames::Release;
+
+/// A list, what its items have their tag of, and how many owners it has.
 #[derive(Drop)]
-pub struct CrewList<T: Tagged + Drop> {
+pub struct CrewList<T: Tagged + Drop, K: Tagged> {
     pub ready: Arc<Ready<T>>,
+    pub begun: K,
     pub owners: usize,
 }
 
-impl<T: Tagged + Drop> Model for CrewList<T> {
-    ghost use Rattle.std.specs.Prelude.{◌≡◌, []};
+/// The list of what is ready in the runs that a crew has begun.
+pub type RunsList<J> = CrewList<CrewItem<J>, BegunRuns<J>>;
+
+impl<T: Tagged + Drop, K: Tagged> Model for CrewList<T, K> {
+    ghost use Rattle.std.specs.Prelude.{◌≡◌};
     ghost use Rattle.worker_seat.specs.Seats.{CrewState, crew_state};
 
     ghost Value = { CrewState };
@@ -22,5 +34,67 @@ impl<T: Tagged + Drop> Model for CrewList<T> {
 
     ghost view = { λ list. crew_state (list_name (arc_value list.ready)) list.owners };
 
-    ghost invariant = { λ list. tag_of (arc_value list.ready) ≡ [] };
+    ghost invariant = { λ list. tag_of (arc_value list.ready) ≡ K.tag list.begun };
+}
+
+impl<T: Tagged + Drop, K: Tagged> CrewList<T, K> {
+    /// From now on nobody sleeps, and those who do are woken.
+    pub fn close(&self) {
+        self.ready.close();
+    }
+
+    /// From now on its owners may sleep.
+    pub fn reopen(&self) {
+        self.ready.reopen();
+    }
+
+    /// Whether it was closed at a step of this call.
+    pub fn is_closed(&self) -> bool {
+        self.ready.is_closed()
+    }
+}
+
+impl<J: Job + Drop> CrewList<CrewItem<J>, BegunRuns<J>> {
+    /// Puts the first releases of a run on the list, from outside.
+    pub fn inject_all<R: Wait>(
+        &self,
+        rt: &R,
+        number: &RunNumber<J>,
+        released: Vec<Release<J>>,
+    ) -> Result<(), NoMemory>
+        requires list { number.now.begun ≡ self.now.list.begun }
+        requires run { AreIn number.now.frames released.items }
+    {
+        for release in released {
+            self.inject(rt, number, release)?;
+        }
+        Ok(())
+    }
+
+    fn inject<R: Wait>(
+        &self,
+        rt: &R,
+        number: &RunNumber<J>,
+        release: Release<J>,
+    ) -> Result<(), NoMemory>
+        requires list { number.now.begun ≡ self.now.list.begun }
+        requires run { release.frames ≡ number.now.frames }
+    {
+        let run = number.again();
+        self.ready.inject(rt, CrewItem { release, run })?;
+        Ok(())
+    }
+
+    /// The release of an item, if the item is of the run of this number.
+    pub fn release_in(&self, number: &RunNumber<J>, item: CrewItem<J>) -> Option<Release<J>>
+        requires number { number.now.begun ≡ self.now.list.begun }
+        requires item { item.run.begun ≡ self.now.list.begun }
+        ensures { IfSome result (λ release. release.frames ≡ number.now.frames) }
+    {
+        let CrewItem { release, run } = item;
+        if self.begun.is_same(&run, number) {
+            return Some(release);
+        }
+        None
+    }
 }

@@ -1,5 +1,6 @@
 // Seats.
-ghost use Rattle.std.specs.Prelude.{◌≡◌, ◌↔◌, [], IsTrue};
+ghost use Rattle.std.specs.Prelude.{◌≡◌, ◌↔◌, IsTrue};
+ghost use Rattle.worker_seat.specs.inside.Seating.{owner_list};
 
 use crate::item::CrewItem;
 use crate::station::Station;
@@ -60,8 +61,7 @@ impl<J: Job + Drop, X> WorkerSeat<J, X> {
 
     // A seat at no run.
     pub(crate) fn new(owner: Owner<CrewItem<J>>, watcher: X) -> WorkerSeat<J, X>
-        requires { owner.tag ≡ [] }
-        ensures state { state_of result ≡ new_seat owner.counts }
+        ensures state { state_of result ≡ new_seat (owner_list owner) }
         ensures watcher { watcher_of result ≡ watcher }
     {
         WorkerSeat {

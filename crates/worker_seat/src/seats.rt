@@ -1,10 +1,10 @@
 // What is done with all seats of a crew.
 ghost use Rattle.std.specs.Prelude.{◌≡◌, [], length, map, All, IfSome, IsSome, IsNone, OnOk, OnErr, position, vec_capacity};
 ghost use Rattle.std.specs.Arc.{arc_value};
-ghost use Rattle.ready_deques.specs.Lists.{IsOwnerOf, tag_of};
+ghost use Rattle.ready_deques.specs.Lists.{IsOwnerOf};
 ghost use Rattle.worker_seat.specs.Seats.{at_job, away, left_refused};
 ghost use Rattle.worker_seat.specs.Crews.{IsFoundRunOf, IsOpen, MayBegin, moved, state_of, watcher_of};
-ghost use Rattle.worker_seat.specs.inside.Seating.{list_name};
+ghost use Rattle.worker_seat.specs.inside.Seating.{list_name, IsRunOn};
 
 use crate::crew_run::CrewRun;
 use crate::item::CrewItem;
@@ -14,11 +14,12 @@ use ready_deques::{Owner, Ready};
 use run_frame::{FrameRun, Job};
 use std::sync::{Arc, Wait};
 
-/// Sends all seats to a run. After an `Err` all are refused.
+/// Sends all seats to a run of their list. After an `Err` all are refused.
 pub fn send_all<J: Job + Drop, X>(
     seats: &mut [WorkerSeat<J, X>],
     run: &Arc<CrewRun<J>>,
 ) -> Result<(), NoMemory>
+    requires { All (λ seat. IsRunOn (state_of seat).list (arc_value run.now)) seats.old }
     ensures ok { OnOk result (seats.new ≡ map (moved (at_job (arc_value run.now).job)) seats.old) }
     ensures err { OnErr result (seats.new ≡ map (moved left_refused) seats.old) }
 {
@@ -36,6 +37,7 @@ fn try_send_all<J: Job + Drop, X>(
     seats: &mut [WorkerSeat<J, X>],
     run: &Arc<CrewRun<J>>,
 ) -> Result<(), NoMemory>
+    requires { All (λ seat. IsRunOn (state_of seat).list (arc_value run.now)) seats.old }
     ensures ok { OnOk result (seats.new ≡ map (moved (at_job (arc_value run.now).job)) seats.old) }
     ensures err { OnErr result (map (moved left_refused) seats.new ≡ map (moved left_refused) seats.old) }
 {
@@ -103,7 +105,6 @@ pub fn seat_all<J: Job + Drop, X: Drop>(
 ) -> Vec<WorkerSeat<J, X>>
     requires empty { seats.items ≡ [] }
     requires room { vec_capacity seats ≡ length watchers.items }
-    requires list { tag_of ready.now ≡ [] }
     requires owners { All (IsOwnerOf ready.now) owners.items }
     requires count { length owners.items ≡ length watchers.items }
     ensures watchers { map watcher_of result.items ≡ watchers.items }

@@ -1,16 +1,19 @@
 // Where a worker is, and what it takes its work from.
-ghost use Rattle.std.specs.Prelude.{◌≡◌, ◌↔◌, [], true, false, IsTrue, IfSome, IsSome, OnOk, OnErr};
+ghost use Rattle.std.specs.Prelude.{◌≡◌, ◌↔◌, true, false, IsTrue, IfSome, IsSome, OnOk, OnErr};
 ghost use Rattle.std.specs.Arc.{arc_value};
 ghost use Rattle.run_frame.specs.Legal.{IsKept};
 ghost use Rattle.run_frame.specs.NestedRule.{job_of};
+ghost use Rattle.worker_seat.specs.inside.Seating.{owner_list, IsRunOn};
 
 use crate::attendance::Attendance;
 use crate::crew_run::CrewRun;
 use crate::item::CrewItem;
-use crate::steps::work;
+use crate::list::RunsList;
+use crate::steps::Shift;
 use outside_io::NoMemory;
-use ready_deques::{Owner, Ready};
+use ready_deques::Owner;
 use run_frame::{FrameRun, Job};
+use std::alloc::Global;
 use std::marker::Model;
 use std::mem;
 use std::sync::{Arc, Wait};
@@ -24,16 +27,16 @@ pub struct Station<J: Job + Drop> {
 }
 
 impl<J: Job + Drop> Model for Station<J> {
-    ghost use Rattle.std.specs.Prelude.{◌≡◌, []};
+    ghost use Rattle.std.specs.Prelude.{◌≡◌};
     ghost use Rattle.worker_seat.specs.Seats.{SeatState};
 
     ghost Value = { SeatState J };
 
-    ghost use Rattle.worker_seat.specs.inside.Seating.{job_at, has_found, FitsRun};
+    ghost use Rattle.worker_seat.specs.inside.Seating.{job_at, has_found, owner_list, FitsRun, IsAtRunOn};
 
-    ghost view = { λ station. record { list = station.owner.counts; job = job_at station.attendance; closed = has_found station.attendance; refused = station.refused } };
+    ghost view = { λ station. record { list = owner_list station.owner; job = job_at station.attendance; closed = has_found station.attendance; refused = station.refused } };
 
-    ghost invariant = { λ station. (station.owner.tag ≡ []) × FitsRun station.attendance };
+    ghost invariant = { λ station. FitsRun station.attendance × IsAtRunOn (owner_list station.owner) station.attendance };
 }
 
 impl<J: Job + Drop> Station<J> {
@@ -41,8 +44,7 @@ impl<J: Job + Drop> Station<J> {
 
     /// At no run.
     pub fn new(owner: Owner<CrewItem<J>>) -> Station<J>
-        requires { owner.tag ≡ [] }
-        ensures { result ≡ new_seat owner.counts }
+        ensures { result ≡ new_seat (owner_list owner) }
     {
         Station {
             owner,
@@ -72,8 +74,9 @@ impl<J: Job + Drop> Station<J> {
         self.refused
     }
 
-    /// Goes to a run.
+    /// Goes to a run of its list.
     pub fn attend(&mut self, run: Arc<CrewRun<J>>)
+        requires { IsRunOn self.old.list (arc_value run) }
         ensures { self.new ≡ at_job (arc_value run).job self.old }
     {
         self.attendance = Attendance::At(run);
@@ -94,11 +97,23 @@ impl<J: Job + Drop> Station<J> {
         self.refused = true;
     }
 
-    /// Works until the list is closed.
-    pub fn work<R: Wait>(&mut self, rt: &R, ready: &Ready<CrewItem<J>>) -> Result<(), NoMemory>
+    /// Works until its list is closed.
+    pub fn work<R: Wait>(
+        &mut self,
+        rt: &R,
+        alloc: Global,
+        list: &RunsList<J>,
+    ) -> Result<(), NoMemory>
+        requires { self.old.list ≡ list.now.list }
         ensures { self.new ≡ self.old }
     {
-        work(rt, ready, &mut self.owner)
+        let Some(run) = self.attendance.open_run() else {
+            return Ok(());
+        };
+        match run.number() {
+            Some(number) => Shift { list, run, number }.work(rt, alloc, &mut self.owner),
+            None => Ok(()), // it was closed as it began
+        }
     }
 
     /// Looks whether its run is closed. It answers `Err` if it isn't.

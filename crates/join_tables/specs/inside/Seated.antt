@@ -10,15 +10,9 @@ use Rattle.table_steps.specs.declared.view.Note.{Note}
 use Rattle.table_steps.specs.declared.view.SemaphoreRole.TheVariants.{Held, Owed, Both, Credit, Credited, Claim, Granted, Denied}
 use Rattle.table_steps.specs.declared.view.Note.TheVariants.{Duty, Sems, Has, Unfit}
 use Rattle.join_tables.specs.declared.turns.EndedStart.{EndedStart}
-use Rattle.join_tables.specs.declared.fates.Fate.{Fate}
-use Rattle.join_tables.specs.declared.fates.Fate.TheVariants.{Ended, Faulted}
-use Rattle.join_words.specs.Ins.{parts_of}
-use Rattle.table_steps.specs.declared.view.EndValue.{EndValue}
-use Rattle.table_steps.specs.Values.{values_in}
-use Rattle.join_tables.specs.Values.{own_values}
+use Rattle.join_tables.specs.declared.keeper.Recorded.{Recorded}
 use Rattle.table_steps.specs.inside.Kinds.{IsTurn, sems_notes, own_units, credits_due, claims_due}
 use Rattle.task_graph.specs.NetRows.{NetRows}
-use Rattle.join_tables.specs.Parts.{parts_in}
 use Rattle.join_tables.specs.States.{StartUnits}
 use Rattle.table_steps.specs.inside.Accounts.{busy, weigh}
 use Rattle.table_steps.specs.inside.UnitKinds.{held_notes}
@@ -28,7 +22,6 @@ use Rattle.journal_rules.specs.declared.entry.Part.TheVariants.{From}
 use Rattle.table_steps.specs.declared.view.Lot.TheVariants.{Ours, Putting, Put}
 use Rattle.table_steps.specs.inside.Slots.{lot, slot_weigh, awaited_lots, found_lots, our_lots, unlot}
 use Rattle.table_steps.specs.inside.SlotKinds.{lot_part}
-use Rattle.join_tables.specs.Keeping.{entries_of}
 
 abbrev pub fresh_view : ℕ → Cause → List Note
 fresh_view t cause = Duty (Fresh t cause) ∷ Has Live ∷ []
@@ -115,18 +108,12 @@ units_of (x ∷ y ∷ Sems Owed l ∷ rest) = l
 units_of _ = []
 
 abbrev pub owing_view : {V : Type 0} → EndedStart V → List ℕ → List ℕ → List Note
-owing_view ended left units = Duty (Owes left) ∷ Has Live ∷ Sems Owed units ∷ Duty (Told ended.place (End ended.start ended.gives ended.inner)) ∷ our_lots ended.place left ++ Duty (Told ended.start (Start ended.task ended.cause (parts_in ended.ins))) ∷ []
+owing_view ended left units = Duty (Owes left) ∷ Has Live ∷ Sems Owed units ∷ Duty (Told ended.place (End ended.start ended.gives ended.inner)) ∷ our_lots ended.place left ++ Duty (Told ended.start (Start ended.task ended.cause ended.found.parts)) ∷ []
 
--- the values that a turn knows that is done
-abbrev pub known_values : {V : Type 0} → Fate V → List (EndValue V)
-known_values (Ended ended) = own_values ended
-known_values (Faulted f) = values_in (parts_of f.ins)
-known_values _ = []
-
--- one that is done owes nothing, and knows the entries of its fate
-abbrev pub IsSpent : {V : Type 0} → Fate V → List Note → Type 0
-IsSpent fate (Duty (Owes []) ∷ Has Live ∷ rest) = (tellings rest ≡ told_notes (entries_of fate)) × (weigh busy rest ≡ 0)
-IsSpent fate _ = ⊥
+-- one that is done owes nothing, and knows these entries
+abbrev pub IsSpent : List Recorded → List Note → Type 0
+IsSpent entries (Duty (Owes []) ∷ Has Live ∷ rest) = (tellings rest ≡ told_notes entries) × (weigh busy rest ≡ 0)
+IsSpent entries _ = ⊥
 
 -- a seat has the parcel of an End still to put into the slot of an edge, and holds no slot
 pub record HasParcel (e n : ℕ) (v : List Note) : Type 0 where

@@ -7,9 +7,7 @@ use Rattle.atomic_table.specs.Table.{State}
 use Rattle.std.specs.List.{AllByRecursion}
 use Rattle.journal_rules.specs.DataRule.{edges_of}
 use Rattle.task_graph.specs.NetRows.{NetRows}
-use Rattle.task_graph.specs.Net.{IsNet, IsSource, is_weak, strong_in}
-use Rattle.journal_rules.specs.declared.entry.Cause.{Cause}
-use Rattle.journal_rules.specs.declared.entry.Cause.TheVariants.{Source, Strong, Weak}
+use Rattle.task_graph.specs.Net.{IsNet}
 use Rattle.journal_rules.specs.declared.entry.Entry.{Entry}
 use Rattle.journal_rules.specs.declared.entry.Entry.TheVariants.{Start, Drop}
 use Rattle.journal_rules.specs.Counts.{start_at, started, closes, starts, faults}
@@ -17,10 +15,11 @@ use Rattle.journal_rules.specs.HaltLimitStuckRule.{is_stuck}
 use Rattle.journal_rules.specs.SemaphoreRule.{takes, puts, taken, back, max_of, closed_takers, IsOverRelease}
 use Rattle.journal_rules.specs.Complete.{is_limited}
 use Rattle.journal_rules.specs.ShapeLegal.{ShapeLegal}
+use Rattle.table_steps.specs.Releases.{MayBeReleased}
 use Rattle.table_steps.specs.declared.view.TurnDuty.{TurnDuty}
 use Rattle.table_steps.specs.declared.view.TurnDuty.TheVariants.{Told, Fresh, Collecting, Open, Owes}
 use Rattle.table_steps.specs.inside.Duties.{DutyCoord, place, runs, running, tickets, duty_weight, is_run, EdgePart, DutyPart}
-use Rattle.table_steps.specs.Giving.{target, one_if, times}
+use Rattle.table_steps.specs.Giving.{one_if, times}
 use Rattle.table_steps.specs.inside.Slots.{slot_total, holders, SlotPart}
 use Rattle.table_steps.specs.inside.SlotMarks.{Homes, label_of}
 use Rattle.journal_rules.specs.declared.entry.Part.{Part}
@@ -146,16 +145,10 @@ abbrev pub total : Coord → List (List Note) → ℕ
 total c [] = 0
 total c (v ∷ vs) = weigh c v + total c vs
 
--- what a release is of
-abbrev pub FitsRelease : NetRows → ℕ → Cause → Type 0
-FitsRelease net t Source = (t < length net.tasks) × IsSource net t
-FitsRelease net t Strong = (t < length net.tasks) × (strong_in net t ≢ [])
-FitsRelease net t (Weak e) = (e < length net.edges) × (is_weak net e ≡ true) × (target net e ≡ t)
-
 -- what a note says of the net alone
 abbrev pub FitsItem : NetRows → TurnDuty → Type 0
-FitsItem net (Fresh t cause) = FitsRelease net t cause
-FitsItem net (Collecting t cause taken left) = FitsRelease net t cause × (taken ++ left ≡ edges_of net t cause)
+FitsItem net (Fresh t cause) = MayBeReleased net t cause
+FitsItem net (Collecting t cause taken left) = MayBeReleased net t cause × (taken ++ left ≡ edges_of net t cause)
 FitsItem net (Owes gives) = AllByRecursion (λ e. e < length net.edges) gives
 FitsItem net _ = Unit {0}
 
@@ -170,8 +163,8 @@ AllFitNotes net (x ∷ xs) = FitsNote net x × AllFitNotes net xs
 -- facts of the journal and the net that stay
 abbrev pub Stands : NetRows → List Entry → Note → Type 0
 Stands net journal (Duty (Told n x)) = slice_get journal n ≡ Some x
-Stands net journal (Duty (Fresh t cause)) = FitsRelease net t cause
-Stands net journal (Duty (Collecting t cause taken left)) = FitsRelease net t cause × (taken ++ left ≡ edges_of net t cause)
+Stands net journal (Duty (Fresh t cause)) = MayBeReleased net t cause
+Stands net journal (Duty (Collecting t cause taken left)) = MayBeReleased net t cause × (taken ++ left ≡ edges_of net t cause)
 Stands net journal (Duty (Owes gives)) = AllByRecursion (λ e. e < length net.edges) gives
 Stands net journal (Has Halted) = 1 ≤ faults journal
 Stands net journal (Unfit s n t) = (start_at journal n ≡ Some t) × IsOverRelease net journal s n t

@@ -1,5 +1,5 @@
 -- What the words, the seats and the journal of a run have to do with each other.
-use Rattle.std.specs.Prelude.{◌≡◌, ◌≢◌, ℕ, zero, suc, ◌+◌, ◌<◌, ◌≤◌, Bool, true, false, ◌&&◌, ◌==◌, IsTrue, IsSomeAnd, List, [], ◌∷◌, ◌++◌, length, slice_get}
+use Rattle.std.specs.Prelude.{◌≡◌, ◌≢◌, ℕ, zero, suc, ◌+◌, ◌<◌, ◌≤◌, Bool, true, false, ◌&&◌, ◌==◌, List, [], ◌∷◌, ◌++◌, length}
 use Rattle.std.specs.Option.{option_map_or}
 use Rattle.task_graph.specs.NetRows.{NetRows}
 use Rattle.task_graph.specs.Net.{IsSource, strong_in, is_weak}
@@ -8,8 +8,6 @@ use Rattle.journal_rules.specs.declared.entry.Cause.TheVariants.{Source, Strong,
 use Rattle.journal_rules.specs.declared.entry.Entry.{Entry}
 use Rattle.journal_rules.specs.Counts.{given, used_source, is_open, start_at}
 use Rattle.journal_rules.specs.Calm.{used_at}
-use Rattle.journal_rules.specs.ShapeLegal.{CauseInRange}
-use Rattle.task_graph.specs.declared.net.EdgeRow.{EdgeRow}
 use Rattle.table_steps.specs.Giving.{one_if, times}
 use Rattle.table_steps.specs.declared.view.TurnDuty.{TurnDuty}
 use Rattle.table_steps.specs.declared.view.TurnDuty.TheVariants.{Told, Fresh, Collecting, Ticket, Open, Owes, Counting}
@@ -144,14 +142,3 @@ TakesFrom net (Weak h) f = is_weak net f ≡ true
 -- One seat exchanged these duties for those.
 abbrev pub DutyMoves : (DutyCoord → ℕ) → List TurnDuty → (DutyCoord → ℕ) → List TurnDuty → Type 0
 DutyMoves T old T' new = (c : DutyCoord) → T' c + duty_weigh c old ≡ T c + duty_weigh c new
-
--- a release is one of the net's
-abbrev pub CanRelease : NetRows → ℕ → Cause → Type 0
-CanRelease net t Source = IsSource net t
-CanRelease net t Strong = strong_in net t ≢ []
-CanRelease net t (Weak e) = IsTrue (is_weak net e) × IsSomeAnd (slice_get net.edges e) (λ (row : EdgeRow). row.to ≡ t)
-
-pub record MayRelease (net : NetRows) (t : ℕ) (cause : Cause) : Type 0 where
-  pub in_tasks : t < length net.tasks
-  pub in_range : CauseInRange net cause
-  pub fits : CanRelease net t cause

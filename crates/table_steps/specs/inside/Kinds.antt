@@ -211,6 +211,15 @@ abbrev pub left_by : List Note → List Note
 left_by (Duty (Owes []) ∷ Has Live ∷ rest) = rest
 left_by notes = notes
 
+-- JOIN. A turn that owes nothing takes in a live one, and its own live turn stays in front, to be taken off.
+abbrev pub MayGather : List Note → List Note → Type 0
+MayGather (Duty (Owes []) ∷ Has Live ∷ rest) w = 1 ≤ weigh (mark Live) w
+MayGather _ w = ⊥
+
+abbrev pub both_turns : List Note → List Note → List Note
+both_turns (Duty (Owes []) ∷ Has Live ∷ rest) w = Duty (Owes []) ∷ Has Live ∷ w ++ rest
+both_turns v w = w ++ v
+
 -- The notes have the entries of a whole run, each once.
 pub record IsWhole (net : NetRows) (limit : ℕ) (notes : List Note) : Type 0 where
   pub journal : List Entry

@@ -1,7 +1,8 @@
 -- What tells a run of a crew from others, and which releases are of it.
-use Rattle.std.specs.Prelude.{◌≡◌, List, All, Some}
+use Rattle.std.specs.Prelude.{◌≡◌, List, All, Option, Some}
 use Rattle.atomic_table.specs.Seated.{TableId}
-use Rattle.frame_steps.specs.Releases.{ReleaseView, root_job}
+use Rattle.table_frames.specs.Frames.{FrameKey, ReleaseView, root_job}
+use Rattle.worker_seat.specs.inside.Numbers.{NumberView}
 
 -- the name of the register of those who found the run closed, and its job
 pub record RunKey (J : Type 0) : Type 0 where
@@ -11,9 +12,22 @@ pub record RunKey (J : Type 0) : Type 0 where
 abbrev pub run_key : {J : Type 0} → TableId → J → RunKey J
 run_key r j = record { register = r; job = j }
 
--- a release of a run of this job
-abbrev pub IsOfRun : {J V : Type 0} → RunKey J → ReleaseView J V → Type 0
-IsOfRun run release = root_job release.frames ≡ Some run.job
+-- the same with the run's number, if it has one
+pub record RunView (J : Type 0) : Type 0 where
+  pub register : TableId
+  pub job : J
+  pub number : Option (NumberView J)
 
-abbrev pub AreOfRun : {J V : Type 0} → RunKey J → List (ReleaseView J V) → Type 0
-AreOfRun run releases = All (IsOfRun run) releases
+-- the number is of a run of this job
+abbrev pub IsNumberOf : {J : Type 0} → J → NumberView J → Type 0
+IsNumberOf job number = root_job number.frames ≡ Some job
+
+-- releases of one frame
+abbrev pub AreIn : {J : Type 0} → List (FrameKey J) → List (ReleaseView J) → Type 0
+AreIn {J} frames releases = All (λ (release : ReleaseView J). release.frames ≡ frames) releases
+
+-- releases of one frame, of a run of this job
+pub record AreOfRun {J : Type 0} (job : J) (releases : List (ReleaseView J)) : Type 0 where
+  pub frames : List (FrameKey J)
+  pub root : root_job frames ≡ Some job
+  pub each : AreIn frames releases

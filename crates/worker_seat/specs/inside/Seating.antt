@@ -1,10 +1,11 @@
 -- Where a seat is, and what stays of an owner.
-use Rattle.std.specs.Prelude.{◌≡◌, ℕ, zero, suc, Bool, true, false, List, [], ◌∷◌, Option, Some, None}
+use Rattle.std.specs.Prelude.{◌≡◌, ℕ, zero, suc, Bool, true, false, List, [], ◌∷◌, Option, Some, None, IfSome}
 use Rattle.std.specs.Arc.{arc_value}
-use Rattle.atomic_table.specs.Seated.{TableId}
-use Rattle.ready_deques.specs.Lists.{OwnerState}
+use Rattle.ready_deques.specs.Lists.{OwnerState, tag_of}
 use Rattle.ready_deques.specs.declared.ready.Ready.{Ready}
 use Rattle.ready_deques.specs.declared.tagged.Tagged.{Ghosts}
+use Rattle.worker_seat.specs.Seats.{ListName}
+use Rattle.worker_seat.specs.inside.Runs.{RunView}
 use Rattle.worker_seat.specs.declared.attendance.Attendance.{Attendance}
 use Rattle.worker_seat.specs.declared.attendance.Attendance.TheVariants.{Away, At, Found}
 
@@ -26,13 +27,26 @@ FitsRun Away = Unit {0}
 FitsRun (At run) = Unit {0}
 FitsRun (Found run ticket) = ticket.register ≡ (arc_value run).register
 
+-- the run has its number, if it has one, among the runs of this list
+abbrev pub IsRunOn : {J : Type 0} → ListName → RunView J → Type 0
+IsRunOn list run = IfSome run.number (λ number. number.begun ≡ list.begun)
+
+-- the seat is at no run but one of this list
+abbrev pub IsAtRunOn : {J V : Type 0} → ListName → Attendance J V → Type 0
+IsAtRunOn list Away = Unit {0}
+IsAtRunOn list (At run) = IsRunOn list (arc_value run)
+IsAtRunOn list (Found run ticket) = IsRunOn list (arc_value run)
+
 -- an owner of the same list, after some calls
 abbrev pub IsSameOwner : OwnerState → OwnerState → Type 0
 IsSameOwner old new = (new.tag ≡ old.tag) × (new.counts ≡ old.counts)
 
--- the name of a list
-abbrev pub list_name : {T : Type 0} {G : Ghosts T} → Ready T G → TableId
-list_name ready = ready.counter.table.shared.table_id
+-- the name of a list, and of an owner's
+abbrev pub list_name : {T : Type 0} {G : Ghosts T} → Ready T G → ListName
+list_name ready = record { begun = tag_of ready; counts = ready.counter.table.shared.table_id }
+
+abbrev pub owner_list : OwnerState → ListName
+owner_list owner = record { begun = owner.tag; counts = owner.counts }
 
 -- the items of a list, of which the first n are changed
 abbrev pub changed : {X : Type 0} → (X → X) → ℕ → List X → List X

@@ -2,7 +2,7 @@ use Rattle.std.proofs.Common.{rules, ◌≡◌, sym, ap, ◌∙◌}
 use Rattle.task_graph.specs.Net.{out_edges}
 use Rattle.task_graph.specs.declared.net.Shape.TheVariants.{Plain}
 use Rattle.task_graph.specs.declared.net.TaskRow.{TaskRow}
-use Rattle.table_runs.proofs.Giving.{may_give}
+use Rattle.table_runs.proofs.gives.Giving.{may_give}
 use Rattle.table_runs.proofs.gives.all_edges.Goals as goal
 
 pub returns : goal.returns

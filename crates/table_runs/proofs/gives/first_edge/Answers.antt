@@ -1,6 +1,6 @@
 use Rattle.std.proofs.Common.{rules, ◌≡◌, ◌≤◌, [], ◌∷◌, length, get_or}
 use Rattle.task_graph.specs.Net.{out_edges}
-use Rattle.table_runs.proofs.Giving.{may_give_first}
+use Rattle.table_runs.proofs.gives.Giving.{may_give_first}
 use Rattle.table_runs.proofs.gives.first_edge.Goals as goal
 
 pub returns-in_ok-from_slice-in-len1-up : goal.returns-in_ok-from_slice-in-len1-up

@@ -1,7 +1,7 @@
 use Rattle.std.proofs.Common.{◌≡◌, ℕ, sym, ap, ◌∙◌, subst}
 use Rattle.join_tables.specs.States.{StartUnits, RunningState}
 use Rattle.join_tables.specs.Claims.{HasCredited, HasClaimed, grant_one, refuse_one}
-use Rattle.table_runs.proofs.Borrowing.{puts_one}
+use Rattle.table_runs.proofs.lending.Borrowing.{puts_one}
 use Rattle.table_runs.proofs.lending.claim.Goals as goal
 
 pub returns-in-Granted-clause-granted : goal.returns-in-Granted-clause-granted

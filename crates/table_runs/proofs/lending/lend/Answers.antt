@@ -1,7 +1,7 @@
 use Rattle.std.proofs.Common.{◌≡◌, ℕ, sym, ap, ◌∙◌, subst}
 use Rattle.join_tables.specs.States.{StartUnits, RunningState}
 use Rattle.join_tables.specs.Claims.{HasCredited, HasClaimed, credit_one}
-use Rattle.table_runs.proofs.Borrowing.{lends}
+use Rattle.table_runs.proofs.lending.Borrowing.{lends}
 use Rattle.table_runs.proofs.lending.lend.Goals as goal
 
 pub returns : goal.returns

@@ -1,6 +1,6 @@
 use denote.Exit.{no}
 use denote.Param.Send.{IsSync, param_send, arg_send, param_sync}
-use Rattle.crewed_runs.proofs.MeetingCrossing.{seat_crosses, crew_shared}
+use Rattle.crewed_runs.proofs.meeting.MeetingCrossing.{seat_crosses, crew_shared}
 use Rattle.crewed_runs.proofs.meeting.ByThreadsEntersEachMeetingUnit.enter_each.Goals as goal
 
 pub for_each_mut-requires-send-T : goal.for_each_mut-requires-send-T
@@ -12,4 +12,4 @@ for_each_mut-requires-sync-R g c κs within = param_sync 0 g.row.R (record { sha
 -- The thread's closure has a crew and the handle by reference.
 pub for_each_mut-requires-sync-F : goal.for_each_mut-requires-sync-F
 for_each_mut-requires-sync-F g c κs within =
-    record { shared = λ x b o κ. ((((λ q. tt), crew_shared.shared _ _ _ κ), (((λ q. tt), c.requires.sync.shared _ _ _ _), tt)), λ q. tt) }
+    record { shared = λ x b o κ. ((((λ q. tt), crew_shared.shared x.0.now _ _ _), (((λ q. tt), c.requires.sync.shared _ _ _ _), tt)), λ q. tt) }

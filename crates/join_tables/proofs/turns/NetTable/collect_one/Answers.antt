@@ -2,7 +2,6 @@ use Rattle.std.proofs.Common.{rules, ◌≡◌, ◌<◌, ◌+◌, ◌++◌, ◌�
 use Rattle.std.specs.Prelude.{slice_get}
 use Rattle.std.specs.Arc.{arc_value}
 use Rattle.std.proofs.lemmas.List.{length-map}
-use Rattle.join_words.specs.Ins.{parts_of}
 use Rattle.table_steps.specs.Values.{Knows, given_part, values_in}
 use Rattle.table_steps.proofs.Values.{knows_again, knows_more}
 use Rattle.task_graph.specs.NetRows.{NetRows}
@@ -10,7 +9,7 @@ use Rattle.journal_rules.specs.DataRule.{edges_of}
 use Rattle.table_steps.specs.inside.Accounts.{AllFitNotes}
 use Rattle.table_steps.specs.inside.Kinds.{IsTurn, TakesNextToken, took, CountsNext, AreNoneLeft, without_count}
 use Rattle.journal_rules.specs.declared.entry.Cause.TheVariants.{Strong}
-use Rattle.join_tables.specs.Parts.{parts_in}
+use Rattle.join_tables.specs.Inputs.{given_in, parts_found}
 use Rattle.join_tables.specs.inside.Seated.{collecting_view, taken_in, left_in}
 use Rattle.journal_rules.specs.declared.entry.Part.TheVariants.{Nothing}
 use Rattle.table_steps.specs.declared.view.Lot.TheVariants.{Awaited, Taking, Fetched}
@@ -24,7 +23,7 @@ pub returns-in_default-clause-few : goal.returns-in_default-clause-few
 returns-in_default-clause-few g c =
     let net_is : arc_value c.self.inside.words.net ≡ c.args.self.now.net = search rules in
     let net = c.args.self.now.net in let t = c.args.task in let cause = c.args.cause in
-    let taken = taken_in c.args.seat.now.me.0 in let left = left_in c.args.seat.now.me.0 in let parts = parts_in c.args.ins.now in
+    let taken = taken_in c.args.seat.now.me.0 in let left = left_in c.args.seat.now.me.0 in let parts = parts_found c.args.inputs.now in
     let view : c.args.seat.now.me.0 ≡ collecting_view t cause taken parts left = ap (λ m. m.0) c.requires.view in
     let fits = subst (λ v. AllFitNotes net v) view (subst (λ (n : NetRows). AllFitNotes n c.args.seat.now.me.0) net_is c.learn.ensures.fits) in
     let few = subst (λ (n : NetRows). length n.edges < 4294967296) net_is c.learn.ensures.few in
@@ -34,17 +33,17 @@ pub returns-in_default-clause-step : goal.returns-in_default-clause-step
 returns-in_default-clause-step g c =
     let net_is : arc_value c.self.inside.words.net ≡ c.args.self.now.net = search rules in
     let net = c.args.self.now.net in let t = c.args.task in let cause = c.args.cause in
-    let taken = taken_in c.args.seat.now.me.0 in let left = left_in c.args.seat.now.me.0 in let parts = parts_in c.args.ins.now in
+    let taken = taken_in c.args.seat.now.me.0 in let left = left_in c.args.seat.now.me.0 in let parts = parts_found c.args.inputs.now in
     let view : c.args.seat.now.me.0 ≡ collecting_view t cause taken parts left = ap (λ m. m.0) c.requires.view in
     let fits = subst (λ v. AllFitNotes net v) view (subst (λ (n : NetRows). AllFitNotes n c.args.seat.now.me.0) net_is c.learn.ensures.fits) in
     let none : slice_get (edges_of net t cause) c.args.next ≡ None = search rules in
-    collects_none _ _ _ _ _ c.args.ins.now _ _ _ (none_next net t cause taken left c.args.next fits.0.1 c.requires.next none) (c.learn.ensures.view.0 ∙ view) c.learn.ensures.found
+    collects_none _ _ _ _ _ c.args.inputs.now _ _ _ (none_next net t cause taken left c.args.next fits.0.1 c.requires.next none) (c.learn.ensures.view.0 ∙ view) c.learn.ensures.found
 
 pub overflow_add-next : goal.overflow_add-next
 overflow_add-next g c =
     let net_is : arc_value c.self.inside.words.net ≡ c.args.self.now.net = search rules in
     let net = c.args.self.now.net in let t = c.args.task in let cause = c.args.cause in
-    let taken = taken_in c.args.seat.now.me.0 in let left = left_in c.args.seat.now.me.0 in let parts = parts_in c.args.ins.now in
+    let taken = taken_in c.args.seat.now.me.0 in let left = left_in c.args.seat.now.me.0 in let parts = parts_found c.args.inputs.now in
     let view : c.args.seat.now.me.0 ≡ collecting_view t cause taken parts left = ap (λ m. m.0) c.requires.view in
     let fits = subst (λ v. AllFitNotes net v) view (subst (λ (n : NetRows). AllFitNotes n c.args.seat.now.me.0) net_is c.learn.ensures.fits) in
     let few = subst (λ (n : NetRows). length n.edges < 4294967296) net_is c.learn.ensures.few in
@@ -55,7 +54,7 @@ pub fetch-requires-clause-ready : goal.fetch-requires-clause-ready
 fetch-requires-clause-ready g c =
     let net_is : arc_value c.self.inside.words.net ≡ c.args.self.now.net = search rules in
     let net = c.args.self.now.net in let t = c.args.task in let cause = c.args.cause in
-    let taken = taken_in c.args.seat.now.me.0 in let left = left_in c.args.seat.now.me.0 in let parts = parts_in c.args.ins.now in
+    let taken = taken_in c.args.seat.now.me.0 in let left = left_in c.args.seat.now.me.0 in let parts = parts_found c.args.inputs.now in
     let view : c.args.seat.now.me.0 ≡ collecting_view t cause taken parts left = ap (λ m. m.0) c.requires.view in
     let fits = subst (λ v. AllFitNotes net v) view (subst (λ (n : NetRows). AllFitNotes n c.args.seat.now.me.0) net_is c.learn.ensures.fits) in
     let f = c.in-Some.edge in
@@ -68,7 +67,7 @@ pub fetch-requires-clause-free : goal.fetch-requires-clause-free
 fetch-requires-clause-free g c =
     let net_is : arc_value c.self.inside.words.net ≡ c.args.self.now.net = search rules in
     let net = c.args.self.now.net in let t = c.args.task in let cause = c.args.cause in
-    let taken = taken_in c.args.seat.now.me.0 in let left = left_in c.args.seat.now.me.0 in let parts = parts_in c.args.ins.now in
+    let taken = taken_in c.args.seat.now.me.0 in let left = left_in c.args.seat.now.me.0 in let parts = parts_found c.args.inputs.now in
     let view : c.args.seat.now.me.0 ≡ collecting_view t cause taken parts left = ap (λ m. m.0) c.requires.view in
     let fits = subst (λ v. AllFitNotes net v) view (subst (λ (n : NetRows). AllFitNotes n c.args.seat.now.me.0) net_is c.learn.ensures.fits) in
     let f = c.in-Some.edge in
@@ -81,7 +80,7 @@ pub fetch-requires-clause-in_range : goal.fetch-requires-clause-in_range
 fetch-requires-clause-in_range g c =
     let net_is : arc_value c.self.inside.words.net ≡ c.args.self.now.net = search rules in
     let net = c.args.self.now.net in let t = c.args.task in let cause = c.args.cause in
-    let taken = taken_in c.args.seat.now.me.0 in let left = left_in c.args.seat.now.me.0 in let parts = parts_in c.args.ins.now in
+    let taken = taken_in c.args.seat.now.me.0 in let left = left_in c.args.seat.now.me.0 in let parts = parts_found c.args.inputs.now in
     let view : c.args.seat.now.me.0 ≡ collecting_view t cause taken parts left = ap (λ m. m.0) c.requires.view in
     let fits = subst (λ v. AllFitNotes net v) view (subst (λ (n : NetRows). AllFitNotes n c.args.seat.now.me.0) net_is c.learn.ensures.fits) in
     let f = c.in-Some.edge in
@@ -94,20 +93,20 @@ pub add-requires : goal.add-requires
 add-requires g c =
     let net_is : arc_value c.self.inside.words.net ≡ c.args.self.now.net = search rules in
     let net = c.args.self.now.net in let t = c.args.task in let cause = c.args.cause in
-    let taken = taken_in c.args.seat.now.me.0 in let left = left_in c.args.seat.now.me.0 in let parts = parts_in c.args.ins.now in
+    let taken = taken_in c.args.seat.now.me.0 in let left = left_in c.args.seat.now.me.0 in let parts = parts_found c.args.inputs.now in
     let view : c.args.seat.now.me.0 ≡ collecting_view t cause taken parts left = ap (λ m. m.0) c.requires.view in
     let fits = subst (λ v. AllFitNotes net v) view (subst (λ (n : NetRows). AllFitNotes n c.args.seat.now.me.0) net_is c.learn.ensures.fits) in
     let f = c.in-Some.edge in
     let some : slice_get (edges_of net t cause) c.args.next ≡ Some f = search rules in
     let next = next_edge net t cause taken left c.args.next f fits.0.0 fits.0.1 c.requires.next some in
     let here : c.learn.new.seat.me.0 ≡ fetching_view t cause taken parts f next.tail Awaited Nothing = c.learn.ensures.view.0 ∙ view ∙ ap (collecting_view t cause taken parts) next.is in
-    omega (arith, c.requires.room, ap length next.is, length-map (parts_of c.args.ins.now) given_part)
+    omega (arith, c.requires.room, ap length next.is, length-map (given_in c.args.inputs.now) given_part)
 
 pub take_token-found-requires-clause-ready : goal.take_token-found-requires-clause-ready
 take_token-found-requires-clause-ready g c =
     let net_is : arc_value c.self.inside.words.net ≡ c.args.self.now.net = search rules in
     let net = c.args.self.now.net in let t = c.args.task in let cause = c.args.cause in
-    let taken = taken_in c.args.seat.now.me.0 in let left = left_in c.args.seat.now.me.0 in let parts = parts_in c.args.ins.now in
+    let taken = taken_in c.args.seat.now.me.0 in let left = left_in c.args.seat.now.me.0 in let parts = parts_found c.args.inputs.now in
     let view : c.args.seat.now.me.0 ≡ collecting_view t cause taken parts left = ap (λ m. m.0) c.requires.view in
     let fits = subst (λ v. AllFitNotes net v) view (subst (λ (n : NetRows). AllFitNotes n c.args.seat.now.me.0) net_is c.learn.ensures.fits) in
     let f = c.in-Some.edge in
@@ -122,7 +121,7 @@ pub take_token-found-requires-clause-in_range : goal.take_token-found-requires-c
 take_token-found-requires-clause-in_range g c =
     let net_is : arc_value c.self.inside.words.net ≡ c.args.self.now.net = search rules in
     let net = c.args.self.now.net in let t = c.args.task in let cause = c.args.cause in
-    let taken = taken_in c.args.seat.now.me.0 in let left = left_in c.args.seat.now.me.0 in let parts = parts_in c.args.ins.now in
+    let taken = taken_in c.args.seat.now.me.0 in let left = left_in c.args.seat.now.me.0 in let parts = parts_found c.args.inputs.now in
     let view : c.args.seat.now.me.0 ≡ collecting_view t cause taken parts left = ap (λ m. m.0) c.requires.view in
     let fits = subst (λ v. AllFitNotes net v) view (subst (λ (n : NetRows). AllFitNotes n c.args.seat.now.me.0) net_is c.learn.ensures.fits) in
     let f = c.in-Some.edge in
@@ -135,7 +134,7 @@ pub count_again-made-requires-clause-ready : goal.count_again-made-requires-clau
 count_again-made-requires-clause-ready g c =
     let net_is : arc_value c.self.inside.words.net ≡ c.args.self.now.net = search rules in
     let net = c.args.self.now.net in let t = c.args.task in let cause = c.args.cause in
-    let taken = taken_in c.args.seat.now.me.0 in let left = left_in c.args.seat.now.me.0 in let parts = parts_in c.args.ins.now in
+    let taken = taken_in c.args.seat.now.me.0 in let left = left_in c.args.seat.now.me.0 in let parts = parts_found c.args.inputs.now in
     let view : c.args.seat.now.me.0 ≡ collecting_view t cause taken parts left = ap (λ m. m.0) c.requires.view in
     let fits = subst (λ v. AllFitNotes net v) view (subst (λ (n : NetRows). AllFitNotes n c.args.seat.now.me.0) net_is c.learn.ensures.fits) in
     let f = c.in-Some.edge in
@@ -152,7 +151,7 @@ pub returns-clause-few : goal.returns-clause-few
 returns-clause-few g c =
     let net_is : arc_value c.self.inside.words.net ≡ c.args.self.now.net = search rules in
     let net = c.args.self.now.net in let t = c.args.task in let cause = c.args.cause in
-    let taken = taken_in c.args.seat.now.me.0 in let left = left_in c.args.seat.now.me.0 in let parts = parts_in c.args.ins.now in
+    let taken = taken_in c.args.seat.now.me.0 in let left = left_in c.args.seat.now.me.0 in let parts = parts_found c.args.inputs.now in
     let view : c.args.seat.now.me.0 ≡ collecting_view t cause taken parts left = ap (λ m. m.0) c.requires.view in
     let fits = subst (λ v. AllFitNotes net v) view (subst (λ (n : NetRows). AllFitNotes n c.args.seat.now.me.0) net_is c.learn.ensures.fits) in
     let few = subst (λ (n : NetRows). length n.edges < 4294967296) net_is c.learn.ensures.few in
@@ -162,7 +161,7 @@ pub returns-clause-step : goal.returns-clause-step
 returns-clause-step g c =
     let net_is : arc_value c.self.inside.words.net ≡ c.args.self.now.net = search rules in
     let net = c.args.self.now.net in let t = c.args.task in let cause = c.args.cause in
-    let taken = taken_in c.args.seat.now.me.0 in let left = left_in c.args.seat.now.me.0 in let parts = parts_in c.args.ins.now in
+    let taken = taken_in c.args.seat.now.me.0 in let left = left_in c.args.seat.now.me.0 in let parts = parts_found c.args.inputs.now in
     let view : c.args.seat.now.me.0 ≡ collecting_view t cause taken parts left = ap (λ m. m.0) c.requires.view in
     let fits = subst (λ v. AllFitNotes net v) view (subst (λ (n : NetRows). AllFitNotes n c.args.seat.now.me.0) net_is c.learn.ensures.fits) in
     let f = c.in-Some.edge in
@@ -175,8 +174,8 @@ returns-clause-step g c =
     let now : c.take_token-found.new.seat.me.0 ≡ took found (fetching_view t cause taken parts f next.tail Fetched q) = c.take_token-found.ensures.view.0 ∙ ap (took found) fetched in
     let then : c.count_again-made.new.seat.me.0 ≡ without_count c.take_token-found.new.seat.me.0 = ap (λ m. m.0) c.count_again-made.ensures.view in
     let last : is_some (slice_get (edges_of net t cause) (c.args.next + 1)) ≡ not c.is_none-is_last.result = search rules in
-    collects_edge c.args.self.now.table net t cause taken left c.args.ins.now c.add.new.self q f next c.count_again-made.result c.is_none-is_last.result c.count_again-made.new.seat.me.0 c.args.seat.now.found c.count_again-made.new.seat.found
-    (push_part c.args.ins.now c.add.new.self c.fetch.result c.add.ensures.parts) c.add.ensures.room (then ∙ ap without_count now ∙ settled_view t cause taken parts f next.tail q found c.requires.parts) c.count_again-made.ensures.fresh
+    collects_edge c.args.self.now.table net t cause taken left c.args.inputs.now c.add.new.self q f next c.count_again-made.result c.is_none-is_last.result c.count_again-made.new.seat.me.0 c.args.seat.now.found c.count_again-made.new.seat.found
+    (push_part c.args.inputs.now c.add.new.self c.fetch.result c.add.ensures.given) c.add.ensures.room (then ∙ ap without_count now ∙ settled_view t cause taken parts f next.tail q found c.requires.parts) c.count_again-made.ensures.fresh
     (λ some_made. subst (λ v. AreNoneLeft t v × (cause ≡ Strong)) (sym then) (c.count_again-made.ensures.last some_made)) (c.count_again-made.ensures.found c.args.seat.now.found (c.take_token-found.ensures.found ∙ ap (λ ns. found ∷ ns) (c.fetch.ensures.found ∙ c.learn.ensures.found)))
     (last_next net t cause taken next.tail c.args.next f c.is_none-is_last.result (ap (λ es. taken ++ es) (sym next.is) ∙ fits.0.1) c.requires.next last)
 
@@ -184,7 +183,7 @@ pub count_again-made-requires-clause-weak : goal.count_again-made-requires-claus
 count_again-made-requires-clause-weak g c =
     let net_is : arc_value c.self.inside.words.net ≡ c.args.self.now.net = search rules in
     let net = c.args.self.now.net in let t = c.args.task in let cause = c.args.cause in
-    let taken = taken_in c.args.seat.now.me.0 in let left = left_in c.args.seat.now.me.0 in let parts = parts_in c.args.ins.now in
+    let taken = taken_in c.args.seat.now.me.0 in let left = left_in c.args.seat.now.me.0 in let parts = parts_found c.args.inputs.now in
     let view : c.args.seat.now.me.0 ≡ collecting_view t cause taken parts left = ap (λ m. m.0) c.requires.view in
     let fits = subst (λ v. AllFitNotes net v) view (subst (λ (n : NetRows). AllFitNotes n c.args.seat.now.me.0) net_is c.learn.ensures.fits) in
     let f = c.in-Some.edge in
@@ -201,7 +200,7 @@ pub count_again-made-requires-clause-few : goal.count_again-made-requires-clause
 count_again-made-requires-clause-few g c =
     let net_is : arc_value c.self.inside.words.net ≡ c.args.self.now.net = search rules in
     let net = c.args.self.now.net in let t = c.args.task in let cause = c.args.cause in
-    let taken = taken_in c.args.seat.now.me.0 in let left = left_in c.args.seat.now.me.0 in let parts = parts_in c.args.ins.now in
+    let taken = taken_in c.args.seat.now.me.0 in let left = left_in c.args.seat.now.me.0 in let parts = parts_found c.args.inputs.now in
     let view : c.args.seat.now.me.0 ≡ collecting_view t cause taken parts left = ap (λ m. m.0) c.requires.view in
     let fits = subst (λ v. AllFitNotes net v) view (subst (λ (n : NetRows). AllFitNotes n c.args.seat.now.me.0) net_is c.learn.ensures.fits) in
     let f = c.in-Some.edge in
@@ -215,10 +214,10 @@ count_again-made-requires-clause-few g c =
     λ few. subst (λ v. without_count v ≡ v) (sym now) (few_settled t cause taken parts f next.tail q found few)
 
 pub learn-requires-clause-ready : goal.learn-requires-clause-ready
-learn-requires-clause-ready g c = subst IsTurn (sym (ap (λ m. m.0) c.requires.view)) (collecting_turn c.args.task c.args.cause (taken_in c.args.seat.now.me.0) (parts_in c.args.ins.now) (left_in c.args.seat.now.me.0))
+learn-requires-clause-ready g c = subst IsTurn (sym (ap (λ m. m.0) c.requires.view)) (collecting_turn c.args.task c.args.cause (taken_in c.args.seat.now.me.0) (parts_found c.args.inputs.now) (left_in c.args.seat.now.me.0))
 
 pub returns-clause-known : goal.returns-clause-known
 returns-clause-known g c =
     let after = knows_again _ _ _ c.count_again-made.ensures.known c.take_token-found.ensures.known in
     let before = knows_again _ _ _ after (knows_again _ _ _ c.fetch.ensures.known (knows_again _ _ _ c.learn.ensures.known c.requires.known)) in
-    subst (λ ps. Knows c.count_again-made.new.seat.values (values_in ps)) (sym c.add.ensures.parts) (knows_more _ (parts_of c.args.ins.now) c.fetch.result before (knows_again _ _ _ after c.fetch.ensures.learnt))
+    subst (λ ps. Knows c.count_again-made.new.seat.values (values_in ps)) (sym c.add.ensures.given) (knows_more _ (given_in c.args.inputs.now) c.fetch.result before (knows_again _ _ _ after c.fetch.ensures.learnt))

@@ -4,7 +4,7 @@ use Rattle.std.proofs.lemmas.Bool.Decides.{nat_tests}
 use Rattle.std.specs.Option.{option_map_or}
 use Rattle.table_steps.proofs.Values.{knows_again}
 use Rattle.join_tables.specs.Findings.{FindsTwo}
-use Rattle.join_tables.specs.Parts.{parts_in}
+use Rattle.join_tables.specs.Inputs.{parts_found}
 use Rattle.join_tables.specs.RestStates.{RestState, rest_with}
 use Rattle.table_steps.specs.declared.view.SeatMark.TheVariants.{Alone}
 use Rattle.table_steps.specs.declared.view.Note.TheVariants.{Has}
@@ -33,7 +33,7 @@ invariant_of-rest g c =
     let none : alone_in v ≡ None = sym (ap (λ o. alone_in (option_map_or (λ s. s.me.0) o [])) c.in-Some.is) ∙ ap (λ (r : RestState). r.alone) c.rest.view_is ∙ c.requires.unknown in
     let other : c.load_live-live.result ≢ length turns = search rules in
     let is : c.load_live-live.new.seat.me.0 ≡ v = c.load_live-live.ensures.view.0 ∙ found_other turns drops v c.load_live-live.result holds.0 other in
-    ((subst (λ u. IsRestView turns drops u) (sym is) holds.0, c.load_live-live.ensures.view.1 ∙ holds.1, holds.2, subst (λ u. RestParts (map parts_in c.rest.inside.parts.items) u) (sym is) holds.3), tt, c.rest.invariant.2, c.rest.invariant.3, c.rest.invariant.4, c.rest.invariant.5, c.rest.invariant.6, knows_again _ _ _ c.load_live-live.ensures.known (held_in _ c.rest.inside.seat c.in-Some.seat c.rest.invariant.7 c.in-Some.is))
+    ((subst (λ u. IsRestView turns drops u) (sym is) holds.0, c.load_live-live.ensures.view.1 ∙ holds.1, holds.2, subst (λ u. RestParts (map parts_found c.rest.inside.parts.items) u) (sym is) holds.3), tt, c.rest.invariant.2, c.rest.invariant.3, c.rest.invariant.4, c.rest.invariant.5, c.rest.invariant.6, knows_again _ _ _ c.load_live-live.ensures.known (held_in _ c.rest.inside.seat c.in-Some.seat c.rest.invariant.7 c.in-Some.is))
 
 pub returns-then-live-len : goal.returns-then-live-len
 returns-then-live-len g c =
@@ -66,7 +66,7 @@ invariant_of-rest-2 g c =
     let is : c.load_live-live.new.seat.me.0 ≡ Has Alone ∷ v = c.load_live-live.ensures.view.0 ∙ found_all turns drops v c.load_live-live.result holds.0 all in
     let looked_is : c.look_for_halt-halt.new.seat.me.0 ≡ looked c.look_for_halt-halt.result (Has Alone ∷ v) = c.look_for_halt-halt.ensures.view.0 ∙ ap (looked c.look_for_halt-halt.result) is in
     let r = looked_view turns drops v c.look_for_halt-halt.result (not (c.look_for_halt-halt.result == 0)) holds.0 none (test_some c.look_for_halt-halt.result) (test_none c.look_for_halt-halt.result) in
-    ((subst (λ u. IsRestView turns drops u) (sym looked_is) r.0, c.look_for_halt-halt.ensures.view.1 ∙ c.load_live-live.ensures.view.1 ∙ holds.1, holds.2, subst (λ u. RestParts (map parts_in c.rest.inside.parts.items) u) (sym looked_is) (looked_parts turns drops (map parts_in c.rest.inside.parts.items) v c.look_for_halt-halt.result holds.0 none holds.3)), tt, c.rest.invariant.2, c.rest.invariant.3, c.rest.invariant.4, c.rest.invariant.5, c.rest.invariant.6, knows_again _ _ _ c.look_for_halt-halt.ensures.known (knows_again _ _ _ c.load_live-live.ensures.known (held_in _ c.rest.inside.seat c.in-Some.seat c.rest.invariant.7 c.in-Some.is)))
+    ((subst (λ u. IsRestView turns drops u) (sym looked_is) r.0, c.look_for_halt-halt.ensures.view.1 ∙ c.load_live-live.ensures.view.1 ∙ holds.1, holds.2, subst (λ u. RestParts (map parts_found c.rest.inside.parts.items) u) (sym looked_is) (looked_parts turns drops (map parts_found c.rest.inside.parts.items) v c.look_for_halt-halt.result holds.0 none holds.3)), tt, c.rest.invariant.2, c.rest.invariant.3, c.rest.invariant.4, c.rest.invariant.5, c.rest.invariant.6, knows_again _ _ _ c.look_for_halt-halt.ensures.known (knows_again _ _ _ c.load_live-live.ensures.known (held_in _ c.rest.inside.seat c.in-Some.seat c.rest.invariant.7 c.in-Some.is)))
 
 pub returns : goal.returns
 returns g c =

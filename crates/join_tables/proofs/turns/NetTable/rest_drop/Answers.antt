@@ -5,10 +5,10 @@ use Rattle.std.specs.Arc.{arc_value}
 use Rattle.table_steps.proofs.Values.{knows_none, knows_again}
 use Rattle.join_tables.proofs.Knowing.{knows_left}
 use Rattle.join_tables.specs.States.{TableState}
-use Rattle.join_tables.specs.Keeping.{drop_of}
+use Rattle.join_tables.specs.Keeping.{drop_of, entries_of}
 use Rattle.join_tables.specs.declared.fates.Fate.TheVariants.{AllDropped}
 use Rattle.std.proofs.lemmas.List.{map-append, length-map, length_push}
-use Rattle.join_tables.specs.Parts.{parts_in}
+use Rattle.join_tables.specs.Inputs.{parts_found}
 use Rattle.join_tables.specs.RestStates.{RestState, rest_with}
 use Rattle.join_tables.specs.Rests.{MayDropOf}
 use Rattle.table_steps.specs.inside.Kinds.{left_by}
@@ -41,7 +41,7 @@ invariant_of-result g c =
     let one = drops_one g.row.V.Denot net c.args.why c.rest.inside.turns.items p left drops v holds.0 c.in-Some-pop.ensures.items (may_drop_as net c.args.rest c.args.why (alone_in v) (full_in v) left p may alone full turns) in
     let none : left ≡ [] = search rules in
     let entries = ap (λ ds. map drop_of (reverse ds)) c.push_reserved.ensures.items in
-    (subst (λ u. IsSpent {V = g.row.V.Denot} (AllDropped c.push_reserved.new.self) u) (sym c.draw_last_drop-place.ensures.view.0) (one.spent c.draw_last_drop-place.result (AllDropped c.push_reserved.new.self) none entries), c.draw_last_drop-place.ensures.view.1 ∙ holds.1, knows_none _)
+    (subst (λ u. IsSpent (entries_of {V = g.row.V.Denot} (AllDropped c.push_reserved.new.self)) u) (sym c.draw_last_drop-place.ensures.view.0) (one.spent c.draw_last_drop-place.result (AllDropped c.push_reserved.new.self) none entries), c.draw_last_drop-place.ensures.view.1 ∙ holds.1, knows_none _)
 
 pub thin-requires-clause-ready : goal.thin-requires-clause-ready
 thin-requires-clause-ready g c =
@@ -66,13 +66,13 @@ invariant_of-result-2 g c =
     let one = drops_one g.row.V.Denot net c.args.why c.rest.inside.turns.items p left drops v holds.0 c.in-Some-pop.ensures.items (may_drop_as net c.args.rest c.args.why (alone_in v) (full_in v) left p may alone full turns) in
     let some_there : left ≢ [] = search rules in
     let view : c.thin.new.seat.me.0 ≡ left_by (last_dropped c.args.why c.draw_last_drop-place.result v) = c.thin.ensures.view.0 ∙ ap left_by c.draw_last_drop-place.ensures.view.0 in
-    let left_parts : RestParts (map parts_in c.pop-2.new.self.items) (left_by (last_dropped c.args.why c.draw_last_drop-place.result v)) =
-    one.parts c.draw_last_drop-place.result (map parts_in c.pop-2.new.self.items) (parts_in c.in-Some-pop-2._ins)
-    (length-map c.pop-2.new.self.items parts_in ∙ omega (arith, c.rest.invariant.5, ap length c.in-Some-pop-2.ensures.items, ap length c.in-Some-pop.ensures.items, length_push c.pop-2.new.self.items c.in-Some-pop-2._ins, length_push left p))
-    (subst (λ fs. RestParts fs v) (ap (map parts_in) c.in-Some-pop-2.ensures.items ∙ map-append parts_in c.pop-2.new.self.items (c.in-Some-pop-2._ins ∷ [])) holds.3) in
-    let two = knows_left _ c.rest.inside.parts.items c.pop-2.new.self.items c.in-Some-pop-2._ins c.in-Some-pop-2.ensures.items (held_in _ c.rest.inside.seat c.in-Some.seat c.rest.invariant.7 c.in-Some.is) in
+    let left_parts : RestParts (map parts_found c.pop-2.new.self.items) (left_by (last_dropped c.args.why c.draw_last_drop-place.result v)) =
+    one.parts c.draw_last_drop-place.result (map parts_found c.pop-2.new.self.items) (parts_found c.in-Some-pop-2._inputs)
+    (length-map c.pop-2.new.self.items parts_found ∙ omega (arith, c.rest.invariant.5, ap length c.in-Some-pop-2.ensures.items, ap length c.in-Some-pop.ensures.items, length_push c.pop-2.new.self.items c.in-Some-pop-2._inputs, length_push left p))
+    (subst (λ fs. RestParts fs v) (ap (map parts_found) c.in-Some-pop-2.ensures.items ∙ map-append parts_found c.pop-2.new.self.items (c.in-Some-pop-2._inputs ∷ [])) holds.3) in
+    let two = knows_left _ c.rest.inside.parts.items c.pop-2.new.self.items c.in-Some-pop-2._inputs c.in-Some-pop-2.ensures.items (held_in _ c.rest.inside.seat c.in-Some.seat c.rest.invariant.7 c.in-Some.is) in
     let kept = subst (λ ds. IsRestView left ds (left_by (last_dropped c.args.why c.draw_last_drop-place.result v))) (sym c.push_reserved.ensures.items) (one.rest c.draw_last_drop-place.result) in
-    ((subst (λ u. IsRestView left c.push_reserved.new.self.items u) (sym view) kept, c.thin.ensures.view.1 ∙ c.draw_last_drop-place.ensures.view.1 ∙ holds.1, some_there, subst (λ u. RestParts (map parts_in c.pop-2.new.self.items) u) (sym view) left_parts), tt, search rules, search rules, search rules, search rules, search rules, knows_again _ _ _ c.thin.ensures.known (knows_again _ _ _ c.draw_last_drop-place.ensures.known two.0))
+    ((subst (λ u. IsRestView left c.push_reserved.new.self.items u) (sym view) kept, c.thin.ensures.view.1 ∙ c.draw_last_drop-place.ensures.view.1 ∙ holds.1, some_there, subst (λ u. RestParts (map parts_found c.pop-2.new.self.items) u) (sym view) left_parts), tt, search rules, search rules, search rules, search rules, search rules, knows_again _ _ _ c.thin.ensures.known (knows_again _ _ _ c.draw_last_drop-place.ensures.known two.0))
 
 pub returns : goal.returns
 returns g c =

@@ -4,7 +4,7 @@ use Rattle.std.specs.Option.{option_map_or}
 use Rattle.std.specs.Arc.{arc_value}
 use Rattle.table_steps.specs.inside.RestKinds.{bare_part}
 use Rattle.table_steps.proofs.Values.{knows_again}
-use Rattle.join_tables.specs.Parts.{parts_in}
+use Rattle.join_tables.specs.Inputs.{parts_found}
 use Rattle.join_tables.specs.RestStates.{RestState}
 use Rattle.join_tables.specs.inside.Resting.{alone_in, HoldsParts, IsRestView}
 use Rattle.join_tables.proofs.RestViews.{held_in, may_ask, asked_view}
@@ -23,7 +23,7 @@ invariant_of-rest g c =
     let some_there : alone_in v ≢ None = λ none. c.requires.alone (sym (ap (λ (r : RestState). r.alone) c.rest.view_is) ∙ ap (λ o. alone_in (option_map_or (λ s. s.me.0) o [])) c.in-Some.is ∙ none) in
     let a = asked_view (arc_value c.self.inside.words.net) c.args.sem c.load_units-found.result turns drops v holds.0 some_there in
     let is = c.load_units-found.ensures.view.0 in
-    let parts_are = subst (λ b. HoldsParts (reverse (map parts_in c.rest.inside.parts.items)) b) (sym (ap bare_part is ∙ a.bare)) holds.3 in
+    let parts_are = subst (λ b. HoldsParts (reverse (map parts_found c.rest.inside.parts.items)) b) (sym (ap bare_part is ∙ a.bare)) holds.3 in
     let known = knows_again _ _ _ c.load_units-found.ensures.known (held_in _ c.rest.inside.seat c.in-Some.seat c.rest.invariant.7 c.in-Some.is) in
     ((subst (λ u. IsRestView turns drops u) (sym is) a.rest, c.load_units-found.ensures.view.1 ∙ holds.1, holds.2, parts_are), tt, c.rest.invariant.2, c.rest.invariant.3, c.rest.invariant.4, c.rest.invariant.5, c.rest.invariant.6, known)
 
@@ -34,6 +34,6 @@ invariant_of-rest-else-found-from g c =
     let some_there : alone_in v ≢ None = λ none. c.requires.alone (sym (ap (λ (r : RestState). r.alone) c.rest.view_is) ∙ ap (λ o. alone_in (option_map_or (λ s. s.me.0) o [])) c.in-Some.is ∙ none) in
     let a = asked_view (arc_value c.self.inside.words.net) c.args.sem c.load_units-found.result turns drops v holds.0 some_there in
     let is = c.load_units-found.ensures.view.0 in
-    let parts_are = subst (λ b. HoldsParts (reverse (map parts_in c.rest.inside.parts.items)) b) (sym (ap bare_part is ∙ a.bare)) holds.3 in
+    let parts_are = subst (λ b. HoldsParts (reverse (map parts_found c.rest.inside.parts.items)) b) (sym (ap bare_part is ∙ a.bare)) holds.3 in
     let known = knows_again _ _ _ c.load_units-found.ensures.known (held_in _ c.rest.inside.seat c.in-Some.seat c.rest.invariant.7 c.in-Some.is) in
     ((subst (λ u. IsRestView turns drops u) (sym is) a.rest, c.load_units-found.ensures.view.1 ∙ holds.1, holds.2, parts_are), tt, c.rest.invariant.2, c.rest.invariant.3, c.rest.invariant.4, c.rest.invariant.5, c.rest.invariant.6, known)

@@ -1,4 +1,4 @@
-use Rattle.std.proofs.Common.{rules, ◌≡◌, subst, sym, ◌∙◌, ◌+◌, ◌<◌, arith}
+use Rattle.std.proofs.Common.{rules, ◌≡◌, subst, sym, ◌∙◌, ℕ, ◌+◌, ◌<◌, arith}
 use Rattle.std.specs.Prelude.{length}
 use Rattle.std.specs.Arc.{arc_value}
 use Rattle.task_graph.specs.NetRows.{NetRows}
@@ -6,6 +6,7 @@ use Rattle.atomic_table.specs.Table.{Allows}
 use Rattle.table_steps.specs.inside.Accounts.{KeepsAccounts, AllFitNotes, tokens_from}
 use Rattle.table_steps.proofs.TurnSteps.{learn_allowed}
 use Rattle.table_steps.specs.Values.{given_part}
+use Rattle.table_steps.specs.OneJournal.{entries_in, AreInOneJournal}
 use Rattle.table_steps.specs.inside.SeatViews.{me_of}
 use Rattle.table_steps.proofs.ValueSteps.{steps_knowing}
 use Rattle.table_steps.proofs.steps.Words.learn_told.Goals as goal
@@ -18,7 +19,8 @@ load-requires g c =
     let slots = c.args.self.now.table.shared.table_id.slots in let id = c.args.seat.now.id in (
       search rules,
       omega (arith, sized),
-      steps_knowing net limit slots id me 0 (λ k. k) (λ k m. (m.0 ≡ me.0.notes) × (m.1 ≡ me.1) × AllFitNotes g.A.StepFacts.net me.0.notes × (length g.A.StepFacts.net.edges < 4294967296)) (λ z. omega arith) c.requires.held
-          (subst (λ (n : NetRows). Allows (KeepsAccounts given_part net limit) slots id (me_of me) 0 (λ k. k) (λ k m. (m.0 ≡ me.0.notes) × (m.1 ≡ me.1) × AllFitNotes n me.0.notes × (length n.edges < 4294967296))) (sym (c.requires.told ∙ same))
-          (learn_allowed net limit slots id (me_of me) c.requires.ready)),
+      steps_knowing net limit slots id me 0 (λ k. k) (λ k m. (m.0 ≡ me.0.notes) × (m.1 ≡ me.1) × AllFitNotes g.A.StepFacts.net me.0.notes × (length g.A.StepFacts.net.edges < 4294967296) × AreInOneJournal g.A.StepFacts.net g.A.StepFacts.limit (entries_in me.0.notes)) (λ z. omega arith) c.requires.held
+          (subst (λ (n : NetRows). Allows (KeepsAccounts given_part net limit) slots id (me_of me) 0 (λ k. k) (λ k m. (m.0 ≡ me.0.notes) × (m.1 ≡ me.1) × AllFitNotes n me.0.notes × (length n.edges < 4294967296) × AreInOneJournal n g.A.StepFacts.limit (entries_in me.0.notes))) (sym (c.requires.told.0 ∙ same))
+          (subst (λ (l : ℕ). Allows (KeepsAccounts given_part net limit) slots id (me_of me) 0 (λ k. k) (λ k m. (m.0 ≡ me.0.notes) × (m.1 ≡ me.1) × AllFitNotes net me.0.notes × (length net.edges < 4294967296) × AreInOneJournal net l (entries_in me.0.notes))) (sym c.requires.told.1)
+          (learn_allowed net limit slots id (me_of me) c.requires.ready))),
     )

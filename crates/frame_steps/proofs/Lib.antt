@@ -1,4 +1,0 @@
-mod CountLemmas
-mod ReleaseLemmas
-mod SessionLemmas
-mod BeginLemmas

@@ -1,3 +1,0 @@
-pub mod Releases
-pub mod Steps
-pub mod inside

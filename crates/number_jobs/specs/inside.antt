@@ -1,2 +1,0 @@
--- Internal: what the tests' runs hold between two steps.
-pub mod Orders

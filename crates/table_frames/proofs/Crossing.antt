@@ -1,0 +1,71 @@
+-- What of frames may go to other threads, and what threads may share: of the types that it is made of, one after the other,
+-- since a search for all at once gives up.
+use denote.RattleType.{RattleType}
+use denote.Param.Send.{IsSend, IsSync, sendable}
+use Rattle.std.proofs.Crossing.{crosses, frees}
+use Rattle.std.proofs.alloc.Global.TheSendSync as heap
+use Rattle.std.proofs.option.Option.TheSendSync as option
+use Rattle.atomic_table.proofs.shared.Seat.TheSendSync as seat
+use Rattle.atomic_table.proofs.shared.Shared.TheSendSync as shared
+use Rattle.atomic_table.proofs.send_lease.SendLease.TheSendSync as lease
+use Rattle.boxcar.proofs.tag.Tag.TheSendSync as tag
+use Rattle.run_frame.specs.declared.job.Job as Job
+use Rattle.run_frame.specs.declared.job.Valued as Valued
+use Rattle.join_tables.specs.contracts.turns.Fresh as fresh
+use Rattle.join_tables.specs.contracts.turns.NetTable as table
+use Rattle.join_tables.specs.contracts.fates.Fate as fate
+use Rattle.join_tables.specs.contracts.batch.SpentBatch as batch
+use Rattle.join_tables.specs.contracts.keeper.Keeper as keeper
+use Rattle.table_frames.specs.contracts.table_run.TableRun as table_run
+use Rattle.table_frames.specs.contracts.kept.KeptRun as kept
+use Rattle.table_frames.specs.contracts.frame.Frame as frame
+use Rattle.table_frames.specs.contracts.gathered.Gathered as gathered
+use Rattle.table_frames.specs.contracts.release.Release as release
+use Rattle.table_frames.specs.contracts.backlog.Backlog as backlog
+use Rattle.table_frames.proofs.frame.Frame.TheLaws.TheKnot as frame_knot
+
+-- what crosses threads without regard to jobs
+ruleset tables = (crosses, frees, heap.the_field_send, heap.the_field_sync, heap.the_send, heap.the_sync, option.the_send, option.the_sync, seat.the_send, shared.the_send, shared.the_sync, lease.the_send, lease.the_sync, tag.the_send, tag.the_sync, sendable)
+
+module _ (T V : RattleType) (J : Job.Ghosts T.Denot V.Denot) (W : Valued.Ghosts T.Denot V.Denot) (s : IsSend T) (y : IsSync T) (sv : IsSend V) (yv : IsSync V) where
+  pub fresh_send : IsSend (fresh.the_row V)
+  fresh_send = search tables depth 60 fits 20000
+
+  fate_send : IsSend (fate.the_row V)
+  fate_send = search tables depth 60 fits 20000
+
+  batch_send : IsSend (batch.the_row V)
+  batch_send = search (fate_send, tables) depth 60 fits 20000
+
+  keeper_send : IsSend (keeper.the_row V)
+  keeper_send = search (fate_send, tables) depth 60 fits 20000
+
+  table_send : IsSend (table.the_row V)
+  table_send = search tables depth 60 fits 20000
+
+  table_sync : IsSync (table.the_row V)
+  table_sync = search tables depth 60 fits 20000
+
+  kept_send : IsSend (kept.the_row T V J)
+  kept_send = search (keeper_send, tables) depth 60 fits 20000
+
+  run_send : IsSend (table_run.the_row T V J)
+  run_send = search (table_send, tables) depth 60 fits 20000
+
+  run_sync : IsSync (table_run.the_row T V J)
+  run_sync = search (table_sync, tables) depth 60 fits 20000
+
+  pub frame_send : IsSend (frame.the_row T V J W)
+  frame_send = search (kept_send, run_send, run_sync, frame_knot.crosses, tables) depth 60 fits 20000
+
+  pub frame_sync : IsSync (frame.the_row T V J W)
+  frame_sync = search (kept_send, run_send, run_sync, frame_knot.crosses, tables) depth 60 fits 20000
+
+  pub release_send : IsSend (release.the_row T V J W)
+  release_send = search (frame_send, frame_sync, fresh_send, tables) depth 60 fits 20000
+
+  gathered_send : IsSend (gathered.the_row T V J W)
+  gathered_send = search (frame_send, frame_sync, batch_send, tables) depth 60 fits 20000
+
+  pub backlog_send : IsSend (backlog.the_row T V J W)
+  backlog_send = search (gathered_send, fresh_send, tables) depth 60 fits 20000

@@ -1,0 +1,9 @@
+pub mod Rows
+pub mod Working
+pub mod Finishing
+pub mod Starting
+pub mod Keeping
+pub mod Making
+pub mod Handing
+pub mod Concluding
+pub mod Crossing

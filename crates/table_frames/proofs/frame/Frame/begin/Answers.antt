@@ -1,0 +1,33 @@
+use Rattle.std.proofs.Common.{◌≡◌, ◌∷◌, [], Some, length, map, sym, ap, ◌∙◌, subst, arith}
+use Rattle.std.specs.Arc.{arc_value}
+use Rattle.std.proofs.lemmas.List.{length-map}
+use Rattle.table_frames.specs.Frames.{FrameKey, release_in}
+use Rattle.table_frames.specs.declared.stepped.State.TheVariants.{Closed, Went}
+use Rattle.table_frames.proofs.Concluding.{begins_frame}
+use Rattle.table_frames.proofs.Handing.{none_in}
+use Rattle.table_frames.proofs.frame.Frame.begin.Goals as goal
+
+pub returns-then-count-eq0-clause-begins : goal.returns-then-count-eq0-clause-begins
+returns-then-count-eq0-clause-begins g c =
+    let meaning = g.J.Job.meaning in
+    let begun = c.in_ok-run.field-0 in
+    let none = none_in begun.fresh.items (omega (arith, begun.fresh.ok.0, c.len-count.ensures, c.if-count-eq0.true)) in
+    let key = c.in_ok-run.ensures.kept in
+    begins_frame meaning (arc_value c.args.job) begun (record { released = c.new.result; state = Closed c.in_ok-finish.field-0 }) c.in_ok-run.ensures
+    (c.new.ensures.items ∙ ap (map (release_in (begun.run ∷ []))) (sym none))
+    (record { kept = c.in_ok-finish.ensures.kept; job = ap (λ (k : FrameKey g.row.J.Denot). Some k.job) (sym key) ∙ ap Some (sym c.in_ok-finish.ensures.job) })
+
+pub returns-clause-begins : goal.returns-clause-begins
+returns-clause-begins g c =
+    let meaning = g.J.Job.meaning in
+    let begun = c.in_ok-run.field-0 in
+    begins_frame meaning (arc_value c.args.job) begun (record { released = c.hand_out.result; state = Went }) c.in_ok-run.ensures
+    (subst (λ ks. c.hand_out.result.items ≡ map (release_in ks) begun.fresh.items) c.in_ok-frame.ensures c.hand_out.ensures.releases) tt
+
+pub returns-clause-closed : goal.returns-clause-closed
+returns-clause-closed g c =
+    let fresh = c.in_ok-run.field-0.fresh in
+    let same : length c.hand_out.result.items ≡ length fresh.items = ap length c.hand_out.ensures.releases ∙ length-map fresh.items (release_in (arc_value c.in_ok-frame.frame)) in (
+      λ never. absurd never,
+      λ none. c.if-count-eq0.false (omega (arith, fresh.ok.0, c.len-count.ensures, same, ap length none)),
+    )

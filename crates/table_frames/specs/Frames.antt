@@ -1,0 +1,72 @@
+-- Frames, their releases and what was done in them, as contracts see them.
+use Rattle.std.specs.Prelude.{◌≡◌, ◌⊎◌, ℕ, min, List, [], ◌∷◌, length, Option, Some, None}
+use Rattle.std.specs.Arc.{arc_value}
+use Rattle.std.specs.Global.{Global}
+use Rattle.std.specs.declared.sync.Arc.{Arc}
+use Rattle.atomic_table.specs.Seated.{TableId}
+use Rattle.journal_rules.specs.declared.entry.Cause.{Cause}
+use Rattle.join_tables.specs.States.{FreshState}
+use Rattle.join_tables.specs.Keeping.{KeeperState}
+use Rattle.join_tables.specs.declared.fates.Fate.{Fate}
+
+-- what tells a frame from others: the name of its table, and its job
+pub record FrameKey (J : Type 0) : Type 0 where
+  pub table : TableId
+  pub job : J
+
+-- a release: the keys of its frame and of the frames around that one, its task, and what released it
+pub record ReleaseView (J : Type 0) : Type 0 where
+  pub frames : List (FrameKey J)
+  pub task : ℕ
+  pub cause : Cause
+
+-- a release of a frame's table
+abbrev pub release_in : {J : Type 0} → List (FrameKey J) → FreshState → ReleaseView J
+release_in frames fresh = record { frames = frames; task = fresh.task; cause = fresh.cause }
+
+-- the job of the frame that is in no other
+abbrev pub root_job : {J : Type 0} → List (FrameKey J) → Option J
+root_job [] = None
+root_job (frame ∷ []) = Some frame.job
+root_job (frame ∷ around ∷ more) = root_job (around ∷ more)
+
+-- how many frames a frame is inside, up to the greatest u32
+abbrev pub depth_of : {J : Type 0} → List (FrameKey J) → ℕ
+depth_of [] = 0
+depth_of (frame ∷ around) = min (length around) 4294967295
+
+-- the keys of a frame and of the frames around it
+abbrev pub frames_around : {J : Type 0} → Option (Arc (List (FrameKey J)) Global) → List (FrameKey J)
+frames_around None = []
+frames_around (Some frame) = arc_value frame
+
+-- the first of these frames
+abbrev pub IsInnermost : {J : Type 0} → FrameKey J → List (FrameKey J) → Type 0
+IsInnermost key [] = ⊥
+IsInnermost key (frame ∷ around) = frame ≡ key
+
+-- the table of a frame
+abbrev pub HasTable : {J : Type 0} → List (FrameKey J) → TableId → Type 0
+HasTable [] n = ⊥
+HasTable (frame ∷ around) n = n ≡ frame.table
+
+-- what was done in a frame and isn't recorded yet: the keys of the frame and of those around it, and what became of releases
+-- of it, in the order of the steps; no keys where there is no such frame
+pub record BacklogView (J V : Type 0) : Type 0 where
+  pub frames : List (FrameKey J)
+  pub fates : List (Fate V)
+
+abbrev pub backlog_view : {J V : Type 0} → List (FrameKey J) → List (Fate V) → BacklogView J V
+backlog_view frames fates = record { frames = frames; fates = fates }
+
+-- A step of a frame may add to the backlog: it is of this frame, or of none.
+abbrev pub MayTake : {J V : Type 0} → BacklogView J V → List (FrameKey J) → Type 0
+MayTake backlog frames = (backlog.frames ≡ []) ⊎ (backlog.frames ≡ frames)
+
+-- what is under a frame's lock
+pub record KeptView (J V : Type 0) : Type 0 where
+  pub job : J
+  pub keeper : KeeperState V
+
+abbrev pub key_of : {J V : Type 0} → KeptView J V → FrameKey J
+key_of kept = record { table = kept.keeper.table; job = kept.job }

@@ -1,0 +1,6 @@
+pub mod Allowed
+pub mod Frames
+pub mod Held
+pub mod Making
+pub mod Steps
+pub mod inside

@@ -1,0 +1,84 @@
+-- What a release has come to, of which nothing but its Start is in the journal yet.
+use Rattle.std.specs.Prelude.{◌≡◌, ℕ, ◌+◌, false, List, [], ◌∷◌, length, Option, Some, None}
+use Rattle.atomic_table.specs.Seated.{TableId}
+use Rattle.journal_rules.specs.declared.entry.Cause.{Cause}
+use Rattle.journal_rules.specs.declared.entry.Cause.TheVariants.{Strong}
+use Rattle.journal_rules.specs.declared.entry.Why.{Why}
+use Rattle.journal_rules.specs.declared.entry.DropWhy.{DropWhy}
+use Rattle.table_steps.specs.Giving.{MayEndGiving}
+use Rattle.table_steps.specs.Reasons.{MayTell}
+use Rattle.join_tables.specs.States.{FreshState, TurnState, RunningState, fresh_state}
+use Rattle.run_frame.specs.Meaning.{Meaning}
+use Rattle.run_frame.specs.WorkRule.{Answers, FaultAllowed}
+use Rattle.table_frames.specs.Allowed.{work_with}
+use Rattle.table_frames.specs.Frames.{FrameKey}
+use Rattle.table_frames.specs.inside.Runs.{MayWork}
+use Rattle.table_frames.specs.declared.attempt.Attempt.{Attempt}
+use Rattle.table_frames.specs.declared.attempt.Ending.{Ending}
+use Rattle.table_frames.specs.declared.attempt.Outcome.{Outcome}
+use Rattle.table_frames.specs.declared.attempt.Outcome.TheVariants.{Ends, Faults, Drops}
+
+-- the release
+abbrev pub release_tried : {V : Type 0} → TableId → Outcome V → FreshState
+release_tried n (Ends ending) = fresh_state n ending.running.task ending.running.cause
+release_tried n (Faults running why) = fresh_state n running.task running.cause
+release_tried n (Drops turn why) = fresh_state n turn.task turn.cause
+
+-- how many edges are to be given
+abbrev pub edges_due : {V : Type 0} → Outcome V → ℕ
+edges_due (Ends ending) = length ending.gives
+edges_due _ = 0
+
+abbrev pub count_of : {X : Type 0} → Option X → ℕ
+count_of None = 0
+count_of (Some x) = 1
+
+-- how many releases can come of it
+abbrev pub room_due : {V : Type 0} → Attempt V → ℕ
+room_due attempt = edges_due attempt.outcome + count_of attempt.again
+
+-- A start may end with this value, which its job allows with these edges, and which has an owner for each of them.
+pub record MayEnd {J V : Type 0} (meaning : Meaning J V) (frame : FrameKey J) (ending : Ending V) : Type 0 where
+  pub table : ending.running.table ≡ frame.table
+  pub may : MayWork (meaning.net frame.job) ending.running
+  pub fits : MayEndGiving (meaning.net frame.job) ending.running.task ending.gives false
+  pub shares : ending.value.edges ≡ length ending.gives
+  pub answers : Answers meaning frame.job (work_with ending.running.task ending.running.ins) ending.value.value ending.gives
+
+-- It may fault for this reason.
+pub record MayFault {J V : Type 0} (meaning : Meaning J V) (frame : FrameKey J) (running : RunningState V) (why : Why) : Type 0 where
+  pub table : running.table ≡ frame.table
+  pub may : MayWork (meaning.net frame.job) running
+  pub tells : MayTell why running.units.refused
+  pub allowed : FaultAllowed meaning frame.job (work_with running.task running.ins) why
+
+-- A release may be dropped for this reason.
+pub record MayDrop {J : Type 0} (frame : FrameKey J) (turn : TurnState) (why : DropWhy) : Type 0 where
+  pub table : turn.table ≡ frame.table
+  pub refused : turn.refused ≡ Some why
+  pub held : turn.held ≡ []
+
+abbrev pub IsOutcomeIn : {J V : Type 0} → Meaning J V → FrameKey J → Outcome V → Type 0
+IsOutcomeIn meaning frame (Ends ending) = MayEnd meaning frame ending
+IsOutcomeIn meaning frame (Faults running why) = MayFault meaning frame running why
+IsOutcomeIn meaning frame (Drops turn why) = MayDrop frame turn why
+
+-- another release of the task, if there is one
+abbrev pub IsAgain : TableId → ℕ → Cause → Option FreshState → Type 0
+IsAgain n t cause None = Unit {0}
+IsAgain n t cause (Some again) = (cause ≡ Strong) × (again ≡ fresh_state n t Strong)
+
+-- A release of a frame was taken up, and its work is done where it had to be.
+pub record IsAttemptIn {J V : Type 0} (meaning : Meaning J V) (frame : FrameKey J) (attempt : Attempt V) : Type 0 where
+  pub outcome : IsOutcomeIn meaning frame attempt.outcome
+  pub again : IsAgain frame.table (release_tried frame.table attempt.outcome).task (release_tried frame.table attempt.outcome).cause attempt.again
+
+-- the same in the first of these frames
+abbrev pub IsAttemptAt : {J V : Type 0} → Meaning J V → List (FrameKey J) → Attempt V → Type 0
+IsAttemptAt meaning [] attempt = ⊥
+IsAttemptAt meaning (frame ∷ around) attempt = IsAttemptIn meaning frame attempt
+
+-- the release that was taken up
+abbrev pub TriesRelease : {J V : Type 0} → List (FrameKey J) → Attempt V → FreshState → Type 0
+TriesRelease [] attempt fresh = ⊥
+TriesRelease (frame ∷ around) attempt fresh = release_tried frame.table attempt.outcome ≡ fresh

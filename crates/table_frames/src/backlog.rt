@@ -1,0 +1,51 @@
+// What a worker's steps have done and no keeper has recorded yet.
+ghost use Rattle.std.specs.Prelude.{◌≡◌, ◌↔◌, [], IsTrue};
+
+use super::gathered::Gathered;
+use join_tables::Fresh;
+use run_frame::Job;
+use std::alloc::Global;
+use std::marker::Model;
+
+/// What the steps of a worker have done in a frame and the frame hasn't recorded yet. While something is in it the run of the
+/// frame isn't over. A backlog that is dropped is never recorded, so that the run is never closed.
+#[derive(Drop)]
+pub struct Backlog<J: Job> {
+    pub(crate) alloc: Global,
+    pub(crate) gathered: Gathered<J>,
+    // Room for what a step makes. Nothing is in it between two steps.
+    pub(crate) made: Vec<Fresh<J::V>>,
+}
+
+impl<J: Job> Model for Backlog<J> {
+    ghost use Rattle.std.specs.Prelude.{◌≡◌, []};
+    ghost use Rattle.table_frames.specs.Frames.{BacklogView};
+
+    ghost Value = { BacklogView J J.V };
+
+    ghost view = { λ backlog. backlog.gathered.backlog };
+
+    ghost invariant = { λ backlog. backlog.made.items ≡ [] };
+}
+
+impl<J: Job + Drop> Backlog<J> {
+    ghost use Rattle.table_frames.specs.Frames.{backlog_view};
+
+    /// An empty backlog, of no frame. It takes no memory.
+    pub fn new(alloc: Global) -> Backlog<J>
+        ensures { result ≡ backlog_view [] [] }
+    {
+        Backlog {
+            alloc,
+            gathered: Gathered::new(alloc),
+            made: Vec::new(alloc),
+        }
+    }
+
+    /// Whether nothing is in it.
+    pub fn is_empty(&self) -> bool
+        ensures { IsTrue result ↔ (self.now.fates ≡ []) }
+    {
+        self.gathered.is_empty()
+    }
+}

@@ -1,0 +1,45 @@
+//! Runs over a table of atomic words, by one thread and by many.
+//!
+//! A `Frame` is a run of a job. What is left to do in it is handed out as `Release`s, and whoever has one may take its step
+//! on any thread, side by side with the others: it is taken from its tokens to the releases that follow, through admission,
+//! Start, the task's work, and End, Fault or Drop. No step waits or takes a lock (`join_tables`). Before a step draws the
+//! place of an End it has all memory that it needs from there on.
+//!
+//! What became of the releases is for the frame's keeper, which stands behind a lock. A worker needn't take that lock for
+//! each step: its `Backlog` has what its steps have done, and `Frame::bring` hands it to the keeper, at the latest where
+//! the worker has nothing else to do. While something is in a backlog the run isn't over. Whoever brings the last of it gets
+//! the run, with its journal and values.
+//!
+//! `run_alone` runs a job on the caller's thread by the same steps, with the keeper in hand.
+//!
+//! # The parts
+//!
+//! A `TableRun` is a job with the table of its net. It takes up a release and does its work (`attempt`), which leaves nothing
+//! but the Start in the journal, and then draws the End, Fault or Drop (`conclude`). A `KeptRun` has the keeper of a run; all
+//! that it took in is allowed by the job, so that the run that it hands out may be kept. `Gathered` is the part of a backlog
+//! that is brought.
+//!
+//! # What the layer above may know
+//!
+//! The layer above sees a release as the keys of its frame and of the frames around it, its task and its cause
+//! (`specs/Frames.antt`). The last of these frames has the job of the whole run. What a beginning, a step and a bringing come
+//! to is in `specs/Steps.antt`: which fate a release came to, that its job allows it, and which releases it made. Which edges
+//! made none is known to the table alone. No frame is inside another yet, and no release is parked.
+#![tactic(auto)]
+
+mod alone;
+mod attempt;
+mod backlog;
+mod frame;
+mod gathered;
+mod gives;
+mod kept;
+mod release;
+mod stepped;
+mod table_run;
+
+pub use alone::run_alone;
+pub use backlog::Backlog;
+pub use frame::Frame;
+pub use release::{HeldBy, Release};
+pub use stepped::{State, Stepped};
