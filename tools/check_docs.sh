@@ -4,6 +4,9 @@
 set -euo pipefail
 cd "$(dirname "${BASH_SOURCE[0]}")/.."
 
+differences=$(mktemp)
+trap 'rm -f "$differences"' EXIT
+
 faults=0
 fault() {
     echo "docs: $1" >&2
@@ -34,42 +37,65 @@ matches() {
     grep -oE "$1" "${documents[@]}" /dev/null | sed 's/:/ /' | sort -u
 }
 
-# Each crate of crates.txt is there and described, and each that is there or described is in crates.txt.
+# Each crate of crates.txt is there, and the first line of its root says what it is for. Each folder in crates/ is one.
 crates=$(sed -E 's/#.*//; s/[ :].*//; /^$/d' crates.txt)
 find_each "crates in crates.txt" < <(printf '%s' "$crates")
 for crate in "${found[@]}"; do
-    [[ -d crates/$crate/src ]] || fault "crates.txt names $crate, which crates/ hasn't"
-    for document in docs/PROVED.md docs/ARCHITECTURE.md docs/TESTING.md; do
-        has "$document" "\`$crate\`" || fault "$document doesn't name the crate $crate"
-    done
+    root=crates/$crate/src/lib.rt
+    [[ -f $root ]] || root=crates/$crate/src/main.rt
+    if [[ ! -f $root ]]; then
+        fault "crates.txt names $crate, which has no root file in crates/$crate/src"
+    elif ! head -n 1 "$root" | grep -qE '^//! .'; then
+        fault "$root doesn't begin with a line that says what the crate is for"
+    fi
 done
 find_each "folders in crates/" < <(ls crates)
 for crate in "${found[@]}"; do
     grep -qx -- "$crate" <<<"$crates" || fault "crates/$crate isn't in crates.txt"
 done
-find_each "headings of crates in docs/PROVED.md" < <(grep -E '^## `' docs/PROVED.md | grep -oE '`[a-z_]+`' | tr -d '`')
+
+# The crates in the picture of docs/ARCHITECTURE.md and in the tables of docs/TESTING.md are in crates.txt.
+find_each "the picture of crates in docs/ARCHITECTURE.md" < <(sed -n '/^## The crates/,/^## /p' docs/ARCHITECTURE.md | grep -E '^    ' | sed 's/ -- .*//' | grep -owE '[a-z_]+')
 for crate in "${found[@]}"; do
-    grep -qx -- "$crate" <<<"$crates" || fault "docs/PROVED.md has a heading for $crate, which crates.txt hasn't"
-done
-find_each "the table of crates in docs/ARCHITECTURE.md" < <(sed -n '/^| Crate |/,/^$/p' docs/ARCHITECTURE.md | sed -nE 's/^\| (`[a-z_`, ]+`) \|.*/\1/p' | grep -oE '[a-z_]+')
-for crate in "${found[@]}"; do
-    grep -qx -- "$crate" <<<"$crates" || fault "docs/ARCHITECTURE.md describes $crate, which crates.txt hasn't"
+    grep -qx -- "$crate" <<<"$crates" || fault "docs/ARCHITECTURE.md pictures $crate, which crates.txt hasn't"
 done
 find_each "the table of times in docs/TESTING.md" < <(sed -n '/^<!-- gate times -->/,/^<!-- end/p' docs/TESTING.md | sed -nE 's/^\| `([a-z_]+)` \|.*/\1/p')
 for crate in "${found[@]}"; do
     grep -qx -- "$crate" <<<"$crates" || fault "docs/TESTING.md has times of $crate, which crates.txt hasn't"
 done
 
-# Each file of definitions that public clauses cite is explained, and each that is named is there.
-find_each "files of definitions" < <(find crates/*/specs -maxdepth 1 -name '[A-Z]*.antt' ! -name Lib.antt | sed 's/^crates.//' | sort)
-for file in "${found[@]}"; do
-    has docs/DEFINITIONS.md "\`$file\`" || fault "docs/DEFINITIONS.md doesn't name $file"
+# A row of the table of must-fail edits has as many, with semicolons between them, as the crate's folder.
+find_each "the table of must-fail edits in docs/TESTING.md" < <(sed -n '/^| Crate | Its edits |/,/^$/p' docs/TESTING.md | sed -nE 's/^\| `([a-z_]+)` \| (.*) \|$/\1 \2/p')
+for row in "${found[@]}"; do
+    crate=${row%% *} semicolons=${row//[^;]/}
+    edits=$(find "crates/$crate/must-fail" -name '*.edit' 2>/dev/null | wc -l || true)
+    ((edits == ${#semicolons} + 1)) || fault "docs/TESTING.md tells of $((${#semicolons} + 1)) must-fail edits of $crate, which has $edits"
 done
+
+# Each name in code letters, of a crate, a function, a type or a definition, is a word of the sources.
+source_words=$(find crates tools bench examples crates.txt Makefile HANDLES -name out -prune -o -type f -print0 | xargs -0 grep -ohE '[A-Za-z_]+' | LC_ALL=C sort -u)
+find_each "names in code letters" < <(matches '`([A-Za-z_]+::)*[A-Za-z_]+`' | tr -d '`')
+for match in "${found[@]}"; do
+    name=${match##*[ :]}
+    printf '%s %s\n' "$name" "${match%% *}"
+done | LC_ALL=C sort | LC_ALL=C join -v 1 - <(printf '%s\n' "$source_words") >"$differences"
+while read -r name document; do
+    fault "$document names $name, a word that no source has"
+done <"$differences"
+
+# Each file of definitions that public clauses cite says what it defines, and each that a document names is there.
+python3 -B tools/list_definitions.py --check || fault "a file of definitions doesn't say what it defines"
 for document in docs/DEFINITIONS.md docs/THEOREM.md; do
     find_each "files that $document names" < <(grep -ohE '`[a-z_]+/specs/[A-Za-z/]+\.antt`' "$document" | tr -d '`' | sort -u)
     for file in "${found[@]}"; do
         [[ -f crates/$file ]] || fault "$document names $file, which isn't there"
     done
+done
+
+# Each method that docs/PROVED.md names is there.
+find_each "methods in docs/PROVED.md" < <(grep -oE '`[A-Z][A-Za-z]*::[a-z_]+`' docs/PROVED.md | tr -d '`' | sort -u)
+for method in "${found[@]}"; do
+    grep -rqE "fn ${method#*::}\b" crates/*/src --include='*.rt' || fault "docs/PROVED.md names $method, which isn't there"
 done
 
 # The theorem's page has the length of each file that it names.
@@ -81,8 +107,8 @@ done
 # It names the files of the definitions that the clauses of flow_main rest on, and no others.
 python3 -B tools/list_theorem.py --check || fault "docs/THEOREM.md names other definitions than the clauses of flow_main cite"
 
-# The claims that the page of definitions lists are those of the sources.
-python3 -B tools/list_claims.py --check || fault "docs/DEFINITIONS.md lists other claims than tools/list_claims.py --write would"
+# Each definition that public clauses cite has a claim, or the tool has the reason why it has none.
+python3 -B tools/list_claims.py --check || fault "tools/list_claims.py finds definitions without a claim, or reasons that aren't needed"
 
 # Each file of the repository that a document links to or names in code letters is there.
 find_each "links" < <(matches '\]\([^)#: ]+' | sed 's/ ](/ /')
@@ -90,13 +116,25 @@ for match in "${found[@]}"; do
     document=${match%% *} link=${match#* }
     [[ -e $(dirname "$document")/$link ]] || fault "$document links to $link, which isn't there"
 done
+# So is each heading to which a link leads, behind '#' in small letters with '-' between its words.
+headings_of() {
+    sed -nE 's/^#+ +//p' "$1" | tr -d '`' | tr 'A-Z ' 'a-z-' | tr -cd 'a-z0-9_\n-'
+}
+find_each "links to headings" < <(matches '\]\([^)#: ]*#[^) ]+' | sed 's/ ](/ /')
+for match in "${found[@]}"; do
+    document=${match%% *} link=${match#* }
+    target=$document
+    [[ -z ${link%%#*} ]] || target=$(dirname "$document")/${link%%#*}
+    [[ -f $target ]] || continue
+    headings_of "$target" | grep -qx -- "${link#*#}" || fault "$document links to $link, a heading that isn't there"
+done
 find_each "paths in code letters" < <(matches '`(crates|docs|tools|examples|bench|\.ci)/[A-Za-z0-9_./-]+`' | tr -d '`')
 for match in "${found[@]}"; do
     [[ -e ${match#* } ]] || fault "${match%% *} names ${match#* }, which isn't there"
 done
 
-# docs/FORMATS.md is where limits stand: README.md's table has no other number.
-find_each "numbers in README.md's table of limits" < <(sed -n '/^| Limit/,/^$/p' README.md | grep -oE '[0-9]{1,3}(,[0-9]{3})+' | sort -u)
+# docs/FORMATS.md is where limits stand: README.md has no other number of thousands.
+find_each "numbers of thousands in README.md" < <(grep -oE '[0-9]{1,3}(,[0-9]{3})+' README.md | sort -u)
 for number in "${found[@]}"; do
     has docs/FORMATS.md "$number" || fault "README.md has a limit of $number, which docs/FORMATS.md hasn't"
 done
@@ -106,7 +144,7 @@ codes=$(sed -nE 's/^code_of .* = ([0-9]+)$/\1/p' crates/call_status/specs/Codes.
 find_each "exit codes in crates/call_status/specs/Codes.antt" < <(printf '%s' "$codes")
 listed=$(sed -n '/^## Exit codes/,/^They are tried/p' docs/FORMATS.md | sed -nE 's/^\| [A-Z][A-Za-z]* \| ([0-9]+) \|.*/\1/p' | sort -nu)
 [[ $listed == "$codes" ]] || fault "docs/FORMATS.md has other exit codes than crates/call_status/specs/Codes.antt"
-find_each "exit codes in README.md, behind 'exit code ..: 0'" < <(grep -oE 'exit code[^.:]*: *0 [^.]*' README.md | grep -oE '[0-9]+' | sort -nu)
+find_each "exit codes in README.md" < <(sed -n '/^## Exit codes/,/^## [^E]/p' README.md | sed -nE 's/^    ([0-9, ]+) .*/\1/p' | grep -oE '[0-9]+' | sort -nu)
 for code in "${found[@]}"; do
     grep -qx -- "$code" <<<"$codes" || fault "README.md tells of the exit code $code, which there isn't"
 done

@@ -3,20 +3,39 @@
 
 A claim is a lemma of a crate's proofs/Worked*.antt or proofs/*Examples.antt, or a clause of an empty function of
 worked_journals or of a file worked.rt. It belongs to each definition that its statement names. A definition that no
-statement names is shown by the definitions that cite it, or by none. Prints the table of docs/DEFINITIONS.md; with
---check compares it with the one there. A table without claims is another one.
+statement names is computed by the claims of the definitions that cite it, or by none. Prints a table of definitions
+and claims; after a crate's name, that crate's. With --check it prints each definition that no claim computes and that
+UNCLAIMED doesn't give a reason for, and each reason that isn't needed.
 """
 import re
 import sys
 
-from spec_files import CRATES, TOP, definitions_in, imported, name_of, words
+from spec_files import CRATES, definitions_in, imported, name_of, words
 
 CLAIM = re.compile(r"^\s*(?:pub )?([a-z_][a-z0-9_-]*) : (.*)$")
 CLAUSE = re.compile(r"ensures ([a-z_0-9]+) \{((?:[^{}]|\{[^{}]*\})*)\}")
 # Crates whose definitions are the claims' own nets and journals, or serve the slow decisions alone.
 EXAMPLES = ("table_runs", "slow_verdicts", "worked_journals", "number_jobs")
-BEGIN = "<!-- claims: made by tools/list_claims.py -->"
-END = "<!-- end of claims -->"
+# The definitions without a claim, by the reason.
+UNCLAIMED = {
+    "what a law says of every run, where no run can fail it; the law's proof ties it": (
+        "flow_run/specs/Plainly.antt: IsReportedPlainly",
+        "report_laws/specs/Judged.antt: IsJudgedComplete JudgesKept",
+        "report_laws/specs/PlainLaws.antt: IsPlainRun RunsPlainly",
+        "report_laws/specs/PlainReport.antt: HasSameReport ReportsAlike ReportsPlainly",
+    ),
+    "cited only by such a law": (
+        "report_laws/specs/PlainJobs.antt: task_values",
+        "report_laws/specs/PlainReport.antt: plain_next",
+    ),
+    "on runs inside runs, which no job makes yet": (
+        "report_laws/specs/PlainJobs.antt: IsGraphJob IsInside IsPlainly LeadsTo",
+    ),
+    "a proof itself: a law that the trait Job asks of text jobs": (
+        "text_tasks/specs/JobLaws.antt: text_answers_fit text_faults_own text_gather_faults_own text_job_flat",
+    ),
+    "over a value with private fields, which only running code makes": ("text_ops/specs/Joining.antt: IsJoined",),
+}
 
 
 def definitions():
@@ -59,7 +78,8 @@ def cited(file, text, home, texts):
     return {key for key in keys if key in texts}
 
 
-def table():
+def collected():
+    """The claims that name each definition, the definitions that each cites, and those that some claim computes."""
     stated = claims()
     texts = {(file, name): text for file, names in definitions().items() for name, text in names.items()}
     homes = {file: imported((CRATES / file).read_text()) for file, _ in texts}
@@ -73,10 +93,18 @@ def table():
         if key not in shown:
             shown.add(key)
             waiting.extend(cites[key])
+    return own, cites, shown
+
+
+def table(crates):
+    """A row for each file of these crates, or of all if none is named."""
+    own, cites, shown = collected()
     rows = {}
-    for key in texts:
+    for key in own:
         file, name = key
-        citing = [other for other in texts if key in cites[other] and other in shown]
+        if crates and file.split("/")[0] not in crates:
+            continue
+        citing = [other for other in own if key in cites[other] and other in shown]
         by = [other for _, other in citing if (file, other) in citing] or list(dict.fromkeys(other for _, other in citing))
         said = ", ".join(own[key]) if own[key] else "those of " + ", ".join(f"`{other}`" for other in by) if by else "none"
         rows.setdefault(file, []).append(f"`{name}`: {said}")
@@ -84,18 +112,25 @@ def table():
     return "\n".join(["| File | Definitions and their claims |", "|---|---|", *lines])
 
 
+def differences():
+    """A line for each definition without a claim and without a reason, and for each reason that isn't needed."""
+    own, _, shown = collected()
+    excused = {(file, name) for rows in UNCLAIMED.values() for row in rows for file, names in [row.split(": ")] for name in names.split()}
+    for file, name in sorted(set(own) - shown - excused):
+        yield f"crates/{file}: no claim computes {name}, and tools/list_claims.py has no reason for it"
+    for file, name in sorted(excused - (set(own) - shown)):
+        yield f"tools/list_claims.py: {name} of {file} needs no reason: it has a claim, or isn't there"
+    if not shown:
+        yield "no claims were found"
+
+
 def main():
-    document = TOP / "docs/DEFINITIONS.md"
-    text = document.read_text()
-    if "--write" in sys.argv[1:]:
-        before, _, rest = text.partition(BEGIN)
-        _, _, after = rest.partition(END)
-        document.write_text(f"{before}{BEGIN}\n{table()}\n{END}{after}")
-    elif "--check" in sys.argv[1:]:
-        held = text.partition(BEGIN)[2].partition(END)[0].strip()
-        sys.exit(0 if claims() and held == table().strip() else 1)
-    else:
-        print(table())
+    if "--check" in sys.argv[1:]:
+        found = list(differences())
+        for line in found:
+            print(line, file=sys.stderr)
+        sys.exit(1 if found else 0)
+    print(table(sys.argv[1:]))
 
 
 main()
