@@ -55,11 +55,11 @@ fn serve<R: Wait>(rt: &R, ready: &Ready<Number>, mut owner: Owner<Number>, shown
     }
 }
 
-// Pushes an item and closes the list, two hundred times, each as soon as the other thread has seen the last and sleeps.
+// Pushes an item and closes the list, a thousand times, each as soon as the other thread has seen the last and sleeps.
 fn wake<R: Wait>(rt: &R, ready: &Ready<Number>, mut owner: Owner<Number>, shown: &Shown) -> bool
     requires { owner.tag ≡ [] }
 {
-    for round in 0..200u64 {
+    for round in 0..1000u64 {
         await_word(rt, &shown.idle, 1);
         if owner.push(rt, Number(1)).is_err() {
             return false;
