@@ -42,6 +42,7 @@ steps_release {J} meaning frames fresh attempt old mid new made stepped has same
       fate = concludes.fate;
       made = made;
       allowed = concludes.allowed;
+      journal = concludes.journal;
       uses = subst (λ n. Uses (meaning.net frame.job) (fresh_state n fresh.task fresh.cause) concludes.fate [] made) table uses;
       released = released;
       frames = subst (All (λ (next : ReleaseView J). next.frames ≡ frames)) (sym released) (all_in frames made);

@@ -1,6 +1,7 @@
 pub mod Rows
 pub mod Working
-pub mod Finishing
+pub mod Entries
+mod Finishing
 pub mod Starting
 pub mod Keeping
 pub mod Making

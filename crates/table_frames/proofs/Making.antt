@@ -1,26 +1,33 @@
 -- What the calls of a step make.
-use Rattle.std.proofs.Common.{◌≡◌, inl, inr, ℕ, ◌+◌, true, List, [], ◌∷◌, ◌++◌, length, map, Some, None, append-nil, append_assoc, refl, sym, ap, ◌∙◌, subst, arith}
+use Rattle.std.proofs.Common.{◌≡◌, inl, inr, ℕ, ◌+◌, Bool, true, false, List, [], ◌∷◌, ◌++◌, length, map, Some, None, append-nil, append_assoc, refl, sym, ap, ◌∙◌, subst, arith}
 use Rattle.task_graph.specs.NetRows.{NetRows}
+use Rattle.task_graph.specs.Net.{is_weak}
 use Rattle.atomic_table.specs.Seated.{TableId}
 use Rattle.journal_rules.specs.declared.entry.Cause.{Cause}
 use Rattle.journal_rules.specs.declared.entry.Cause.TheVariants.{Strong}
 use Rattle.journal_rules.specs.declared.entry.DropWhy.{DropWhy}
-use Rattle.join_tables.specs.States.{FreshState, CollectingState, TurnState, OwingState, RunningState, fresh_state}
-use Rattle.join_tables.specs.Findings.{TakesToken}
+use Rattle.join_tables.specs.States.{FreshState, CollectingState, TurnState, OwingState, RunningState, SpentState, fresh_state}
+use Rattle.join_tables.specs.Findings.{TakesToken, GivesToken}
 use Rattle.join_tables.specs.Turns.{CollectsFrom, GivesNext}
 use Rattle.join_tables.specs.Fates.{FaultedAs, DroppedAs}
 use Rattle.join_tables.specs.declared.turns.Collected.{Collected}
 use Rattle.join_tables.specs.declared.turns.Collected.TheVariants.{LastAgain}
 use Rattle.join_tables.specs.declared.turns.Gave.{Gave}
-use Rattle.join_tables.specs.declared.turns.Gave.TheVariants.{Next, Released}
+use Rattle.join_tables.specs.declared.turns.Gave.TheVariants.{Next, Released, Finished}
 use Rattle.join_tables.specs.declared.fates.Fate.{Fate}
 use Rattle.join_tables.specs.declared.fates.Fate.TheVariants.{Ended, Faulted, Dropped, AllDropped}
-use Rattle.table_frames.specs.Making.{GivesEdges, IsFateOf, MayRelease, given_by, release_of, IsThinned}
+use Rattle.table_frames.specs.Making.{AreMadeBy, GivesEdges, IsFateOf, MayRelease, given_by}
 use Rattle.table_frames.specs.inside.Attempts.{IsAgain}
 
-thinned_skip : {X : Type 0} (xs ys : List X) (y : X) → IsThinned xs ys → IsThinned xs (y ∷ ys)
-thinned_skip [] ys y thin = tt
-thinned_skip (x ∷ xs) ys y thin = inr thin
+-- a strong edge more, which makes none
+made_by_more : (net : NetRows) (n : TableId) (e : ℕ) (edges : List ℕ) (made : List FreshState) → is_weak net e ≡ false → AreMadeBy net n edges made → AreMadeBy net n (e ∷ edges) made
+made_by_more net n e edges [] strong by = (strong, by)
+made_by_more net n e edges (fresh ∷ more) strong by = inr (strong, by)
+
+-- an edge that makes none is strong
+strong_edge : (weak : Bool) (before after : List ℕ) → GivesToken weak false before after → weak ≡ false
+strong_edge true before after gives = absurd gives
+strong_edge false before after gives = refl
 
 -- COLLECTING
 strong_again : (cause : Cause) (before after : List ℕ) → TakesToken cause true before after → cause ≡ Strong
@@ -58,13 +65,21 @@ last_again c (e ∷ f ∷ left) turn fresh what is does = absurd (subst (Collect
 pub record PaidSoFar (net : NetRows) (n : TableId) (all left : List ℕ) (before made : List FreshState) : Type 0 where
   pub given : List FreshState
   pub made_is : made ≡ before ++ given
-  pub thins : (more : List FreshState) → IsThinned more (map (release_of net n) left) → IsThinned (given ++ more) (map (release_of net n) all)
+  pub by : (more : List FreshState) → AreMadeBy net n left more → AreMadeBy net n all (given ++ more)
 
 pub paid_none : (net : NetRows) (n : TableId) (all : List ℕ) (made : List FreshState) → PaidSoFar net n all all made made
-paid_none net n all made = record { given = []; made_is = sym (append-nil made); thins = λ more thin. thin }
+paid_none net n all made = record { given = []; made_is = sym (append-nil made); by = λ more by. by }
 
-pub paid_all : (net : NetRows) (n : TableId) (all left : List ℕ) (before made : List FreshState) → PaidSoFar net n all left before made → GivesEdges net n all before made
-paid_all net n all left before made paid = record { more = paid.given; after_is = paid.made_is; thins = subst (λ xs. IsThinned xs (map (release_of net n) all)) (append-nil paid.given) (paid.thins [] tt) }
+pub paid_all : (net : NetRows) (n : TableId) (all left : List ℕ) (before made : List FreshState) → left ≡ [] → PaidSoFar net n all left before made → GivesEdges net n all before made
+paid_all net n all left before made none paid = record { more = paid.given; after_is = paid.made_is; made = subst (AreMadeBy net n all) (append-nil paid.given) (paid.by [] (subst (λ l. AreMadeBy net n l []) (sym none) tt)) }
+
+-- an end that is finished owes no edge
+pub none_left : {V : Type 0} (net : NetRows) (o : OwingState V) (spent : SpentState V) (what : Gave V) → what ≡ Finished spent → GivesNext net o o.left what → o.left ≡ []
+none_left {V} net o spent what is gives = by_left o.left (subst (GivesNext net o o.left) is gives)
+  where
+    by_left : (left : List ℕ) → GivesNext net o left (Finished spent) → left ≡ []
+    by_left [] g = refl
+    by_left (e ∷ left) g = absurd g
 
 -- the end after an edge was given
 pub record IsPaidOnce {V : Type 0} (o p : OwingState V) : Type 0 where
@@ -105,7 +120,7 @@ paid_next {V} net o p [] all before made what is gives paid = absurd (subst (Giv
 paid_next {V} net o p (e ∷ left) all before made what is gives paid =
     let g = subst (GivesNext net o (e ∷ left)) is gives in
     subst (λ l. PaidSoFar net o.table all l before made) (sym (ap (λ (q : OwingState V). q.left) g.0))
-    (record { given = paid.given; made_is = paid.made_is; thins = λ more thin. paid.thins more (thinned_skip more _ _ thin) })
+    (record { given = paid.given; made_is = paid.made_is; by = λ more by. paid.by more (made_by_more net o.table e left more (strong_edge (is_weak net e) o.found p.found g.1) by) })
 
 pub paid_released : {V : Type 0} (net : NetRows) (o p : OwingState V) (fresh : FreshState) (left : List ℕ) (all : List ℕ) (before made made' : List FreshState) (what : Gave V) → what ≡ Released p fresh → GivesNext net o left what → made' ≡ made ++ fresh ∷ []
     → PaidSoFar net o.table all left before made → PaidSoFar net o.table all p.left before made'
@@ -116,12 +131,12 @@ paid_released {V} net o p fresh (e ∷ left) all before made made' what is gives
     (record {
       given = paid.given ++ fresh ∷ [];
       made_is = push ∙ ap (λ xs. xs ++ fresh ∷ []) paid.made_is ∙ append_assoc before paid.given (fresh ∷ []);
-      thins = λ more thin. subst (λ xs. IsThinned xs (map (release_of net o.table) all)) (sym (append_assoc paid.given (fresh ∷ []) more)) (paid.thins (fresh ∷ more) (inl (g.1, thin)));
+      by = λ more by. subst (AreMadeBy net o.table all) (sym (append_assoc paid.given (fresh ∷ []) more)) (paid.by (fresh ∷ more) (inl (g.1, by)));
     })
 
 -- ONE MORE
 pub gives_none : (net : NetRows) (n : TableId) (made : List FreshState) → GivesEdges net n [] made made
-gives_none net n made = record { more = []; after_is = sym (append-nil made); thins = tt }
+gives_none net n made = record { more = []; after_is = sym (append-nil made); made = tt }
 
 pub none_again : (n : TableId) (t : ℕ) (cause : Cause) (made : List FreshState) → MayRelease n t cause made made
 none_again n t cause made = record { again = []; after_is = sym (append-nil made); is = inl refl }

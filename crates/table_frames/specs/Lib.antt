@@ -2,5 +2,6 @@ pub mod Allowed
 pub mod Frames
 pub mod Held
 pub mod Making
+pub mod Telling
 pub mod Steps
 pub mod inside

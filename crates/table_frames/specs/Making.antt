@@ -1,6 +1,7 @@
 -- What a step makes of its release.
-use Rattle.std.specs.Prelude.{◌≡◌, ◌⊎◌, ℕ, List, [], ◌∷◌, ◌++◌, map}
+use Rattle.std.specs.Prelude.{◌≡◌, ◌⊎◌, ℕ, false, List, [], ◌∷◌, ◌++◌}
 use Rattle.task_graph.specs.NetRows.{NetRows}
+use Rattle.task_graph.specs.Net.{is_weak}
 use Rattle.atomic_table.specs.Seated.{TableId}
 use Rattle.journal_rules.specs.declared.entry.Cause.{Cause}
 use Rattle.journal_rules.specs.declared.entry.Cause.TheVariants.{Strong}
@@ -26,17 +27,18 @@ given_by _ = []
 abbrev pub release_of : NetRows → TableId → ℕ → FreshState
 release_of net n e = fresh_state n (target net e) (release_cause net e)
 
--- the one list is the other, of which items may be left out
-abbrev pub IsThinned : {X : Type 0} → List X → List X → Type 0
-IsThinned [] ys = Unit {0}
-IsThinned (x ∷ xs) [] = ⊥
-IsThinned (x ∷ xs) (y ∷ ys) = ((x ≡ y) × IsThinned xs ys) ⊎ IsThinned (x ∷ xs) ys
+-- These edges made these releases, in their order: a weak edge always one, and a strong edge one or none.
+abbrev pub AreMadeBy : NetRows → TableId → List ℕ → List FreshState → Type 0
+AreMadeBy net n [] [] = Unit {0}
+AreMadeBy net n [] (fresh ∷ more) = ⊥
+AreMadeBy net n (e ∷ edges) [] = (is_weak net e ≡ false) × AreMadeBy net n edges []
+AreMadeBy net n (e ∷ edges) (fresh ∷ more) = ((fresh ≡ release_of net n e) × AreMadeBy net n edges more) ⊎ ((is_weak net e ≡ false) × AreMadeBy net n edges (fresh ∷ more))
 
--- Releases were made by these edges, in their order, each by one edge, and not each edge made one.
+-- Releases that these edges made were added.
 pub record GivesEdges (net : NetRows) (n : TableId) (edges : List ℕ) (before after : List FreshState) : Type 0 where
   pub more : List FreshState
   pub after_is : after ≡ before ++ more
-  pub thins : IsThinned more (map (release_of net n) edges)
+  pub made : AreMadeBy net n edges more
 
 -- The task was released once more by tokens that were left on its strong in-edges, or it wasn't.
 pub record MayRelease (n : TableId) (t : ℕ) (cause : Cause) (before after : List FreshState) : Type 0 where

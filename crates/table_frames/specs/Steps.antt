@@ -9,6 +9,7 @@ use Rattle.run_frame.specs.NestedRule.{job_of}
 use Rattle.run_frame.specs.declared.run.FrameRun.{FrameRun}
 use Rattle.table_frames.specs.Allowed.{IsAllowed}
 use Rattle.table_frames.specs.Making.{Uses}
+use Rattle.table_frames.specs.Telling.{IsInJournal, HasEntriesOf}
 use Rattle.table_frames.specs.Frames.{FrameKey, ReleaseView, BacklogView, backlog_view, root_job, release_in}
 use Rattle.table_frames.specs.declared.stepped.State.{State}
 use Rattle.table_frames.specs.declared.stepped.State.TheVariants.{Went, Parked, Inner, Closed}
@@ -41,8 +42,8 @@ pub record BeginsFrame {J V : Type 0} (meaning : Meaning J V) (job : J) (stepped
   pub frames : All (λ (release : ReleaseView J). release.frames ≡ frame ∷ []) stepped.released.items
   pub state : IsStateOf meaning (frame ∷ []) stepped.state
 
--- A step was taken. The release was used up by one fate, which the job of its frame allows, and which is in the backlog now.
--- It made these releases, and the run goes on as far as is known.
+-- A step was taken. The release was used up by one fate, which the job of its frame allows, whose entries are in one legal
+-- journal, and which is in the backlog now. It made these releases, and the run goes on as far as is known.
 pub record StepsRelease {J V : Type 0} (meaning : Meaning J V) (release : ReleaseView J) (old new : BacklogView J V) (stepped : Stepped J V) : Type 0 where
   pub frame : FrameKey J
   pub around : List (FrameKey J)
@@ -50,13 +51,16 @@ pub record StepsRelease {J V : Type 0} (meaning : Meaning J V) (release : Releas
   pub fate : Fate V
   pub made : List FreshState
   pub allowed : IsAllowed meaning frame.job fate
+  pub journal : IsInJournal meaning frame.job fate
   pub uses : Uses (meaning.net frame.job) (fresh_state frame.table release.task release.cause) fate [] made
   pub released : stepped.released.items ≡ map (release_in release.frames) made
   pub frames : All (λ (next : ReleaseView J). next.frames ≡ release.frames) stepped.released.items
   pub state : stepped.state ≡ Went
   pub backlog : new ≡ backlog_view release.frames (old.fates ++ fate ∷ [])
 
--- A backlog was brought to its frame. No release comes of that, but with the last turn of the frame the run is given out.
-pub record BringsBacklog {J V : Type 0} (meaning : Meaning J V) (frames : List (FrameKey J)) (stepped : Stepped J V) : Type 0 where
+-- A backlog was brought to its frame. No release comes of that, but with the last turn of the frame the run is given out. It
+-- has the entries of the backlog's fates.
+pub record BringsBacklog {J V : Type 0} (meaning : Meaning J V) (backlog : BacklogView J V) (stepped : Stepped J V) : Type 0 where
   pub released : stepped.released.items ≡ []
-  pub state : IsStateOf meaning frames stepped.state
+  pub state : IsStateOf meaning backlog.frames stepped.state
+  pub entries : HasEntriesOf stepped.state backlog.fates

@@ -52,6 +52,7 @@ impl<J: Job> Model for Frame<J> {
 impl<J: Job + Drop> Frame<J> {
     ghost use Rattle.table_frames.specs.Frames.{HasTable, MayTake, backlog_view, key_of};
     ghost use Rattle.table_frames.specs.Steps.{IsClosed, IsStateOf, BeginsFrame, BringsBacklog, StepsRelease};
+    ghost use Rattle.table_frames.specs.Telling.{HasEntriesOf};
     ghost use Rattle.table_frames.specs.inside.Attempts.{IsAttemptAt, TriesRelease, room_due};
     ghost use Rattle.table_frames.specs.inside.Concluding.{Concludes};
     ghost use Rattle.table_frames.specs.inside.Runs.{IsBatchIn, IsNoBatch};
@@ -85,11 +86,12 @@ impl<J: Job + Drop> Frame<J> {
 
     /// Takes the step of a release: drops it, or starts its task, does its work and ends the start or records its fault.
     /// What became of it is then in the backlog, which was of this frame or of none. It waits for nobody. If an allocation
-    /// fails the release is given up, so that the run is never closed; from the End's place on none is needed.
+    /// fails the release is given up, so that the run is never closed, and the backlog has what it had; from the End's place
+    /// on no memory is needed.
     pub fn step(release: Release<J>, backlog: &mut Backlog<J>) -> Result<Stepped<J>, NoMemory>
         requires { MayTake backlog.old release.frames }
         ensures ok { IfOk result (StepsRelease J.meaning release backlog.old backlog.new) }
-        ensures err { OnErr result (backlog.new.fates ≡ backlog.old.fates) }
+        ensures err { OnErr result ((backlog.new ≡ backlog.old) ⊎ (backlog.new ≡ backlog_view release.frames backlog.old.fates)) }
     {
         let Release { frame, fresh } = release;
         backlog.gathered.make_room(&frame)?;
@@ -108,9 +110,9 @@ impl<J: Job + Drop> Frame<J> {
     /// the last turn of the frame the run is closed. An `Err` comes only if an allocation fails. Then the backlog stays as it
     /// was, or it is empty and the run is never closed.
     pub fn bring<R: Wait>(rt: &R, backlog: &mut Backlog<J>) -> Result<Stepped<J>, NoMemory>
-        ensures ok { IfOk result (BringsBacklog J.meaning backlog.old.frames) }
+        ensures ok { IfOk result (BringsBacklog J.meaning backlog.old) }
         ensures empty { OnOk result (backlog.new ≡ backlog_view [] []) }
-        ensures err { OnErr result ((backlog.new ≡ backlog.old) ⊎ (backlog.new.fates ≡ [])) }
+        ensures err { OnErr result ((backlog.new ≡ backlog.old) ⊎ (backlog.new ≡ backlog_view [] [])) }
     {
         let state = backlog.gathered.bring(rt)?;
         Ok(Stepped {
@@ -173,6 +175,7 @@ impl<J: Job + Drop> Frame<J> {
     ) -> Result<State<J>, NoMemory>
         requires { IsBatchIn J.meaning self.now batch.old }
         ensures state { IfOk result (IsStateOf J.meaning self.now) }
+        ensures entries { IfOk result (λ state. HasEntriesOf state batch.old.fates) }
         ensures taken { OnOk result (IsNoBatch batch.new) }
         ensures err { OnErr result ((batch.new ≡ batch.old) ⊎ IsNoBatch batch.new) }
     {

@@ -39,6 +39,7 @@ impl<J: Job> Model for Gathered<J> {
 impl<J: Job + Drop> Gathered<J> {
     ghost use Rattle.table_frames.specs.Frames.{MayTake, backlog_view};
     ghost use Rattle.table_frames.specs.Steps.{IsStateOf};
+    ghost use Rattle.table_frames.specs.Telling.{HasEntriesOf};
 
     /// No turn, of no frame. It takes no memory.
     pub fn new(alloc: Global) -> Gathered<J>
@@ -85,8 +86,9 @@ impl<J: Job + Drop> Gathered<J> {
     /// only if an allocation fails. Then all stays as it was, or the run is never closed.
     pub fn bring<R: Wait>(&mut self, rt: &R) -> Result<State<J>, NoMemory>
         ensures state { IfOk result (IsStateOf J.meaning self.old.backlog.frames) }
+        ensures entries { IfOk result (λ state. HasEntriesOf state self.old.backlog.fates) }
         ensures ok { OnOk result (self.new.backlog ≡ backlog_view [] []) }
-        ensures err { OnErr result ((self.new.backlog ≡ self.old.backlog) ⊎ (self.new.backlog.fates ≡ [])) }
+        ensures err { OnErr result ((self.new.backlog ≡ self.old.backlog) ⊎ (self.new.backlog ≡ backlog_view [] [])) }
     {
         let Some(frame) = self.frame.take() else {
             return Ok(State::Went);
@@ -94,7 +96,9 @@ impl<J: Job + Drop> Gathered<J> {
         match frame.keep(rt, &mut self.batch) {
             Ok(state) => Ok(state),
             Err(NoMemory) => {
-                self.frame = Some(frame);
+                if !self.batch.is_empty() {
+                    self.frame = Some(frame);
+                }
                 Err(NoMemory)
             }
         }

@@ -1,5 +1,5 @@
 // What has the keeper of a run.
-ghost use Rattle.std.specs.Prelude.{◌≡◌, [], IfOk, OnOk, OnErr, None, Some};
+ghost use Rattle.std.specs.Prelude.{◌≡◌, ◌++◌, [], IfOk, OnOk, OnErr, None, Some};
 ghost use Rattle.std.specs.Arc.{arc_value};
 ghost use Rattle.join_tables.specs.Batches.{batch_state};
 ghost use Rattle.join_tables.specs.Keeping.{IsLast, TellsRun, entries_told};
@@ -7,6 +7,7 @@ ghost use Rattle.run_frame.specs.Legal.{IsKept};
 ghost use Rattle.run_frame.specs.NestedRule.{job_of};
 ghost use Rattle.table_frames.specs.Allowed.{AreAllowed};
 ghost use Rattle.table_frames.specs.Frames.{key_of};
+ghost use Rattle.table_frames.specs.Telling.{HasEntries};
 ghost use Rattle.table_frames.specs.inside.Rows.{rows_of};
 
 use join_tables::{FinishedRun, Keeper, NetTable, RecordedValue, Remaining, SpentBatch};
@@ -66,6 +67,7 @@ impl<J: Job + Drop> KeptRun<J> {
         requires batch { batch.old.table ≡ Some table.now.table }
         requires allowed { AreAllowed J.meaning self.old.job batch.old.fates }
         ensures same { key_of self.new ≡ key_of self.old }
+        ensures fates { OnOk result (self.new.keeper.fates ≡ self.old.keeper.fates ++ batch.old.fates) }
         ensures taken { OnOk result (batch.new ≡ batch_state None [] batch.old.room) }
         ensures err { OnErr result (batch.new ≡ batch.old) }
         ensures all { IsLast result → TellsRun table.now.net table.now.limit (entries_told self.new.keeper.fates) }
@@ -78,6 +80,7 @@ impl<J: Job + Drop> KeptRun<J> {
         requires { TellsRun (J.meaning.net self.job) (J.meaning.limit self.job) (entries_told self.keeper.fates) }
         ensures kept { IfOk result (IsKept J.meaning) }
         ensures job { IfOk result (λ run. job_of run ≡ self.job) }
+        ensures entries { IfOk result (λ run. HasEntries run self.keeper.fates) }
     {
         let KeptRun { alloc, job, keeper } = self;
         let FinishedRun { journal, values } = keeper.finish()?;

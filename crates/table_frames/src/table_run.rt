@@ -139,6 +139,7 @@ impl<J: Job + Drop> TableRun<J> {
         requires batch { IsBatchOf J.meaning self.now batch.old }
         requires some { batch.old.table ≡ Some self.now.table }
         ensures same { key_of kept.new ≡ self.now }
+        ensures fates { OnOk result (kept.new.keeper.fates ≡ kept.old.keeper.fates ++ batch.old.fates) }
         ensures taken { OnOk result (IsNoBatch batch.new) }
         ensures err { OnErr result (batch.new ≡ batch.old) }
         ensures all { IsLast result → TellsRun (J.meaning.net kept.new.job) (J.meaning.limit kept.new.job) (entries_told kept.new.keeper.fates) }

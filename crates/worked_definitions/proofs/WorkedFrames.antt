@@ -46,7 +46,8 @@ use Rattle.run_frame.specs.Legal.{IsKept}
 use Rattle.table_frames.specs.Allowed.{IsAllowed, AreAllowed, work_with}
 use Rattle.table_frames.specs.Frames.{FrameKey, ReleaseView, BacklogView, release_in, root_job, depth_of, frames_around, IsInnermost, HasTable, backlog_view, MayTake, key_of}
 use Rattle.table_frames.specs.Held.{HoldsRelease}
-use Rattle.table_frames.specs.Making.{IsFateOf, given_by, release_of, GivesEdges, MayRelease, Uses, IsThinned}
+use Rattle.table_frames.specs.Making.{IsFateOf, given_by, release_of, AreMadeBy, GivesEdges, MayRelease, Uses}
+use Rattle.table_frames.specs.Telling.{IsInJournal, HasEntriesOf}
 use Rattle.table_frames.specs.Steps.{IsRootRun, IsStateOf, IsClosed, BeginsFrame, StepsRelease, BringsBacklog}
 use Rattle.table_frames.specs.declared.release.HeldBy.TheVariants as held
 use Rattle.table_frames.specs.declared.stepped.State.TheVariants.{Went, Parked, Inner as HasInner, Closed}
@@ -220,14 +221,9 @@ flat_sums = record sums { net = λ j. flat; answers = flat_answer }
 abbrev mute : Meaning ℕ ℕ
 mute = record flat_sums { answers = λ j t found done. ⊥; faults = λ j t found why. ⊥ }
 
--- a list of which items are left out, in its order
-some_left_out : IsThinned {X = ℕ} (2 ∷ []) (1 ∷ 2 ∷ 3 ∷ []) × IsThinned {X = ℕ} [] (1 ∷ []) × ¬ IsThinned {X = ℕ} (2 ∷ 1 ∷ []) (1 ∷ 2 ∷ []) × ¬ IsThinned {X = ℕ} (1 ∷ []) []
-some_left_out = (inr (inl (refl, tt)), tt, out_of_order, λ is. is)
-  where
-    out_of_order : ¬ IsThinned {X = ℕ} (2 ∷ 1 ∷ []) (1 ∷ 2 ∷ [])
-    out_of_order (inl (same, rest)) = absurd (omega (arith, same))
-    out_of_order (inr (inl (same, rest))) = rest
-    out_of_order (inr (inr rest)) = rest
+-- A condition that leads to two tasks, of which the first leads to the second.
+abbrev fork : NetRows
+fork = record { tasks = free Choice ∷ free Plain ∷ free Plain ∷ []; edges = edge 0 1 ∷ edge 0 2 ∷ edge 1 2 ∷ []; sems = [] }
 
 -- Frames of two tables: one in no other, and one of another job inside it.
 module _ (n m : TableId) (other : m ≢ n) where
@@ -366,10 +362,21 @@ module _ (n m : TableId) (other : m ≢ n) where
   release_by_its_edge = refl
 
   gives_its_edge : GivesEdges flat n (0 ∷ []) [] (first ∷ []) × GivesEdges flat n (0 ∷ []) (second ∷ []) (second ∷ first ∷ [])
-  gives_its_edge = (record { more = first ∷ []; after_is = refl; thins = inl (refl, tt) }, record { more = first ∷ []; after_is = refl; thins = inl (refl, tt) })
+  gives_its_edge = (record { more = first ∷ []; after_is = refl; made = inl (refl, tt) }, record { more = first ∷ []; after_is = refl; made = inl (refl, tt) })
 
   gives_and_releases_nothing : GivesEdges flat n (0 ∷ []) [] []
-  gives_and_releases_nothing = record { more = []; after_is = refl; thins = tt }
+  gives_and_releases_nothing = record { more = []; after_is = refl; made = (refl, tt) }
+
+  -- a weak edge always makes a release, a strong one may make none, and the releases are in the order of the edges
+  made_by_each : AreMadeBy fork n (0 ∷ 2 ∷ []) (release_of fork n 0 ∷ release_of fork n 2 ∷ []) × AreMadeBy fork n (0 ∷ 2 ∷ []) (release_of fork n 0 ∷ [])
+  made_by_each = (inl (refl, inl (refl, tt)), inl (refl, (refl, tt)))
+
+  made_by_a_weak_edge_alone : ¬ AreMadeBy fork n (0 ∷ []) []
+  made_by_a_weak_edge_alone by = let no : true ≡ false = by.0 in absurd (cc)
+
+  made_in_another_order : ¬ AreMadeBy fork n (0 ∷ 1 ∷ []) (release_of fork n 1 ∷ release_of fork n 0 ∷ [])
+  made_in_another_order (inl (same, by)) = absurd (omega (arith, ap (λ (f : FreshState). f.task) same))
+  made_in_another_order (inr (strong, by)) = let no : true ≡ false = strong in absurd (cc)
 
   gives_before_what_was_there : ¬ GivesEdges flat n (0 ∷ []) (second ∷ []) (first ∷ second ∷ [])
   gives_before_what_was_there is = absurd (omega (arith, ap first_task is.after_is))
@@ -379,7 +386,7 @@ module _ (n m : TableId) (other : m ≢ n) where
       first_task (f ∷ more) = f.task
 
   releases_without_an_edge : ¬ GivesEdges flat n [] [] (first ∷ [])
-  releases_without_an_edge is = subst (λ more. IsThinned more []) (sym is.after_is) is.thins
+  releases_without_an_edge is = subst (AreMadeBy flat n []) (sym is.after_is) is.made
 
   released_again : MayRelease n 1 Strong [] (first ∷ []) × MayRelease n 1 Strong [] []
   released_again = (record { again = first ∷ []; after_is = refl; is = inr (refl, refl) }, record { again = []; after_is = refl; is = inl refl })
@@ -456,15 +463,16 @@ module _ (n m : TableId) (other : m ≢ n) where
     uses_another_release : ¬ Uses flat second end_of_the_first [] (first ∷ [])
     uses_another_release is = absurd (omega (arith, is.of.0))
 
-    steps_release : (stepped : Stepped ℕ ℕ) → stepped.released.items ≡ release_in own first ∷ [] → stepped.state ≡ Went
+    steps_release : IsInJournal flat_sums 2 end_of_the_first → (stepped : Stepped ℕ ℕ) → stepped.released.items ≡ release_in own first ∷ [] → stepped.state ≡ Went
         → StepsRelease flat_sums (release_in own zeroth) (backlog_view [] []) (backlog_view own (end_of_the_first ∷ [])) stepped
-    steps_release stepped released went = record {
+    steps_release within stepped released went = record {
       frame = key;
       around = [];
       frames_are = refl;
       fate = end_of_the_first;
       made = first ∷ [];
       allowed = allowed;
+      journal = within;
       uses = uses;
       released = released;
       frames = subst (All (λ (next : ReleaseView ℕ). next.frames ≡ own)) (sym released) (All-from_recursion (λ (next : ReleaseView ℕ). next.frames ≡ own) (release_in own first ∷ []) (refl, tt));
@@ -493,11 +501,11 @@ module _ (n m : TableId) (other : m ≢ n) where
     steps_to_a_park : (stepped : Stepped ℕ ℕ) (new : BacklogView ℕ ℕ) → stepped.state ≡ Parked → ¬ StepsRelease flat_sums (release_in own zeroth) (backlog_view [] []) new stepped
     steps_to_a_park stepped new parked is = let no = sym parked ∙ is.state in absurd (cc)
 
-  brings_backlog : (stepped : Stepped ℕ ℕ) → stepped.released.items ≡ [] → stepped.state ≡ Went → BringsBacklog flat_sums own stepped
-  brings_backlog stepped none went = record { released = none; state = subst (IsStateOf flat_sums own) (sym went) tt }
+  brings_backlog : (stepped : Stepped ℕ ℕ) → stepped.released.items ≡ [] → stepped.state ≡ Went → BringsBacklog flat_sums (backlog_view own []) stepped
+  brings_backlog stepped none went = record { released = none; state = subst (IsStateOf flat_sums own) (sym went) tt; entries = subst (λ state. HasEntriesOf state []) (sym went) tt }
 
-  brings_a_release : (stepped : Stepped ℕ ℕ) → stepped.released.items ≡ release_in own zeroth ∷ [] → ¬ BringsBacklog flat_sums own stepped
+  brings_a_release : (stepped : Stepped ℕ ℕ) → stepped.released.items ≡ release_in own zeroth ∷ [] → ¬ BringsBacklog flat_sums (backlog_view own []) stepped
   brings_a_release stepped one is = absurd (omega (arith, ap length one, ap length is.released))
 
-  brings_and_closes_the_inner_job : (stepped : Stepped ℕ ℕ) (run : FrameRun ℕ ℕ) → stepped.state ≡ Closed run → job_of run ≡ 9 → ¬ BringsBacklog flat_sums inside stepped
+  brings_and_closes_the_inner_job : (stepped : Stepped ℕ ℕ) (run : FrameRun ℕ ℕ) → stepped.state ≡ Closed run → job_of run ≡ 9 → ¬ BringsBacklog flat_sums (backlog_view inside []) stepped
   brings_and_closes_the_inner_job stepped run closed job is = closes_the_inner_job run job (subst (IsStateOf flat_sums inside) closed is.state)

@@ -6,6 +6,7 @@ use Rattle.run_frame.specs.Meaning.{Meaning}
 use Rattle.table_frames.specs.Allowed.{IsAllowed}
 use Rattle.table_frames.specs.Frames.{FrameKey, BacklogView, backlog_view}
 use Rattle.table_frames.specs.Making.{Uses}
+use Rattle.table_frames.specs.Telling.{IsInJournal}
 use Rattle.table_frames.specs.inside.Attempts.{release_tried}
 use Rattle.table_frames.specs.declared.attempt.Attempt.{Attempt}
 
@@ -16,5 +17,6 @@ pub record Concludes {J V : Type 0} (meaning : Meaning J V) (frames : List (Fram
   pub frames_are : frames ≡ frame ∷ around
   pub fate : Fate V
   pub allowed : IsAllowed meaning frame.job fate
+  pub journal : IsInJournal meaning frame.job fate
   pub uses : Uses (meaning.net frame.job) (release_tried frame.table attempt.outcome) fate [] made
   pub backlog : new ≡ backlog_view frames (old.fates ++ fate ∷ [])

@@ -12,6 +12,7 @@ use Rattle.join_tables.specs.States.{FreshState, TableState, RunningState, Spent
 use Rattle.run_frame.specs.Meaning.{Meaning}
 use Rattle.run_frame.specs.FlatNets.{IsFlatNet}
 use Rattle.table_frames.specs.Allowed.{IsAllowed, AreAllowed}
+use Rattle.table_frames.specs.Telling.{IsInJournal}
 use Rattle.table_frames.specs.Frames.{FrameKey}
 
 -- these releases are of a table
@@ -32,10 +33,11 @@ pub record MayWork {V : Type 0} (net : NetRows) (r : RunningState V) : Type 0 wh
   pub credited : HasCredited net r.task r.units
   pub claimed : HasClaimed net r.task r.units
 
--- a turn of a frame that is done, as its job allows
+-- a turn of a frame that is done, as its job allows, and whose entries are in one journal that is legal as far as the net decides
 pub record IsDone {J V : Type 0} (meaning : Meaning J V) (frame : FrameKey J) (spent : SpentState V) : Type 0 where
   pub table : spent.table ≡ frame.table
   pub allowed : IsAllowed meaning frame.job spent.fate
+  pub journal : IsInJournal meaning frame.job spent.fate
 
 -- turns of a frame that are done, as its job allows
 pub record IsBatchOf {J V : Type 0} (meaning : Meaning J V) (frame : FrameKey J) (batch : BatchState V) : Type 0 where

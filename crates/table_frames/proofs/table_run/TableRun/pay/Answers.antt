@@ -5,7 +5,7 @@ use Rattle.join_tables.specs.States.{FreshState}
 use Rattle.table_frames.specs.Frames.{FrameKey}
 use Rattle.table_frames.specs.Making.{GivesEdges}
 use Rattle.table_frames.specs.inside.Runs.{AreOf}
-use Rattle.table_frames.proofs.Making.{PaidSoFar, next_is, released_is, paid_next, paid_released, paid_all}
+use Rattle.table_frames.proofs.Making.{PaidSoFar, next_is, released_is, paid_next, paid_released, paid_all, none_left}
 use Rattle.table_frames.proofs.table_run.TableRun.pay.Goals as goal
 
 pub loop-next-preserved-in-Next : goal.loop-next-preserved-in-Next
@@ -49,6 +49,7 @@ pub returns-in-Finished-clause-gives : goal.returns-in-Finished-clause-gives
 returns-in-Finished-clause-gives g c =
     let i = c.loop-next.invariant in
     let same = ap (λ (k : FrameKey g.row.J.Denot). k.job) c.self.view_is in
-    let paid = paid_all c.self.inside.table.net c.loop-next.owing.table c.args.owing.left c.loop-next.owing.left c.args.made.now.items c.loop-next.made.items i.paid in
+    let none = none_left c.self.inside.table.net c.loop-next.owing c.in-Finished.spent c.give.result c.in-Finished.is c.give.ensures in
+    let paid = paid_all c.self.inside.table.net c.loop-next.owing.table c.args.owing.left c.loop-next.owing.left c.args.made.now.items c.loop-next.made.items none i.paid in
     subst (λ n. GivesEdges (g.J.Job.meaning.net c.args.self.now.job) n c.args.owing.left c.args.made.now.items c.loop-next.made.items) i.table
     (subst (λ (n : NetRows). GivesEdges n c.loop-next.owing.table c.args.owing.left c.args.made.now.items c.loop-next.made.items) (c.self.invariant.0.net ∙ ap g.J.Job.meaning.net same) paid)
