@@ -1,12 +1,17 @@
 # The README's commands. They need the kit's command `rt` on the path.
 SHELL := bash
+PREFIX ?= /usr/local
 .SHELLFLAGS := -euo pipefail -c
-.PHONY: all program demo examples test docs fuzz gate-times
+.PHONY: all program install demo examples test docs fuzz gate-times
 
 # Proves every crate, the lowest first, and builds the program.
 all:
 	rt all check
 	@$(MAKE) --no-print-directory program
+
+# The program in PREFIX/bin. DESTDIR goes before it, for packages.
+install: program
+	install -D -m 755 crates/flow/out/flow $(DESTDIR)$(PREFIX)/bin/flow
 
 # The executable crates/flow/out/flow, over the libraries below it, of which as many are proved side by side as there
 # are processors. Only `rt run` links it, so it runs on a graph without a task.
@@ -30,12 +35,12 @@ test:
 	@bash tools/check_docs.sh
 	@bash tools/check_program.sh
 
-# What each step of the gate takes, into docs/TESTING.md. What an earlier run on this machine has passed isn't measured.
+# What each step of the gate takes, into bench/RESULTS.md. What an earlier run on this machine has passed isn't measured.
 gate-times:
 	python3 -B tools/gate_times.py rt ci
-	python3 -B tools/gate_times.py --table --write docs/TESTING.md
+	python3 -B tools/gate_times.py --table --write bench/RESULTS.md
 
-# Random graphs, journals and failing allocations on the built program, five minutes of each of four tools; no part of
+# Random graphs, journals and failing allocations on the built program, five minutes of each of five tools; no part of
 # the gate. `make fuzz SEED=N` makes the cases of an earlier call again.
 fuzz: program
 	@bash tools/fuzz.sh $(SEED)

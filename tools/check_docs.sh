@@ -54,22 +54,14 @@ for crate in "${found[@]}"; do
     grep -qx -- "$crate" <<<"$crates" || fault "crates/$crate isn't in crates.txt"
 done
 
-# The crates in the picture of docs/ARCHITECTURE.md and in the tables of docs/TESTING.md are in crates.txt.
+# The crates in the picture of docs/ARCHITECTURE.md are in crates.txt, and those of crates.txt are in the picture.
 find_each "the picture of crates in docs/ARCHITECTURE.md" < <(sed -n '/^## The crates/,/^## /p' docs/ARCHITECTURE.md | grep -E '^    ' | sed 's/ -- .*//' | grep -owE '[a-z_]+')
 for crate in "${found[@]}"; do
     grep -qx -- "$crate" <<<"$crates" || fault "docs/ARCHITECTURE.md pictures $crate, which crates.txt hasn't"
 done
-find_each "the table of times in docs/TESTING.md" < <(sed -n '/^<!-- gate times -->/,/^<!-- end/p' docs/TESTING.md | sed -nE 's/^\| `([a-z_]+)` \|.*/\1/p')
-for crate in "${found[@]}"; do
-    grep -qx -- "$crate" <<<"$crates" || fault "docs/TESTING.md has times of $crate, which crates.txt hasn't"
-done
-
-# A row of the table of must-fail edits has as many, with semicolons between them, as the crate's folder.
-find_each "the table of must-fail edits in docs/TESTING.md" < <(sed -n '/^| Crate | Its edits |/,/^$/p' docs/TESTING.md | sed -nE 's/^\| `([a-z_]+)` \| (.*) \|$/\1 \2/p')
-for row in "${found[@]}"; do
-    crate=${row%% *} semicolons=${row//[^;]/}
-    edits=$(find "crates/$crate/must-fail" -name '*.edit' 2>/dev/null | wc -l || true)
-    ((edits == ${#semicolons} + 1)) || fault "docs/TESTING.md tells of $((${#semicolons} + 1)) must-fail edits of $crate, which has $edits"
+pictured=$(printf '%s\n' "${found[@]}")
+for crate in $crates; do
+    grep -qx -- "$crate" <<<"$pictured" || fault "docs/ARCHITECTURE.md doesn't picture $crate"
 done
 
 # Each name in code letters, of a crate, a function, a type or a definition, is a word of the sources.

@@ -4,11 +4,13 @@
 `gate_times.py [-o RECORD] COMMAND..` runs the command (`rt ci`, or `rt ci NAME..` for some crates), looks twice a second
 at the checks that it has started, and adds a line for each that has ended to RECORD (gate-times.jsonl). What the command
 takes from an earlier run isn't measured: a whole record wants a machine on which nothing is kept, or several runs.
-`gate_times.py [-o RECORD] --table` prints the table of a record, of each step as it was measured last; with
-`--write FILE` it replaces the table in FILE, between the lines `<!-- gate times -->` and `<!-- end of gate times -->`.
+`gate_times.py [-o RECORD] --table` prints the table of a record, of each step as it was measured last, below a line with
+the day and the machine; with `--write FILE` it replaces the table in FILE, between the lines `<!-- gate times -->` and
+`<!-- end of gate times -->`.
 """
 import argparse
 import dataclasses
+import datetime
 import json
 import os
 import pathlib
@@ -157,9 +159,17 @@ def cell(steps, step):
     return "{:.1f} / {:.1f}".format(*steps[step]) if step in steps else ""
 
 
+def machine():
+    """The day, the processors and the commit that were measured, as far as the system tells."""
+    models = {line.partition(":")[2].strip() for line in pathlib.Path("/proc/cpuinfo").read_text().splitlines() if line.startswith("model name")}
+    commit = subprocess.run(["git", "rev-parse", "--short", "HEAD"], capture_output=True, text=True, cwd=CRATES).stdout.strip()
+    processors = f"{os.cpu_count()} processors" + "".join(f", {model}" for model in sorted(models))
+    return f"{datetime.date.today()}; {processors}; commit {commit or 'unknown'}"
+
+
 def table(crates):
     """The table's lines, the crate that takes most first."""
-    lines = ["| Crate | Its proof | Its tests | What its edits begin with | Its edits, each | Sum of processor time |", "|---|---|---|---|---|---|"]
+    lines = [f"Measured on {machine()}.", "", "| Crate | Its proof | Its tests | What its edits begin with | Its edits, each | Sum of processor time |", "|---|---|---|---|---|---|"]
     total = lambda steps: sum(processor for processor, _ in steps.values())
     sums = dict.fromkeys(("proof", "tests", "edits"), 0.0)
     for crate, steps in sorted(crates.items(), key=lambda it: -total(it[1])):

@@ -2,7 +2,7 @@
 """Lists, for each definition of a crate's specs/, the claims that compute it on small examples.
 
 A claim is a lemma of a crate's proofs/Worked*.antt or proofs/*Examples.antt, or a clause of an empty function of
-worked_journals or of a file worked.rt. It belongs to each definition that its statement names. A definition that no
+claims or of a file examples.rt. It belongs to each definition that its statement names. A definition that no
 statement names is computed by the claims of the definitions that cite it, or by none. Prints a table of definitions
 and claims; after a crate's name, that crate's. With --check it prints each definition that no claim computes and that
 UNCLAIMED doesn't give a reason for, and each reason that isn't needed.
@@ -15,21 +15,21 @@ from spec_files import CRATES, definitions_in, imported, name_of, words
 CLAIM = re.compile(r"^\s*(?:pub )?([a-z_][a-z0-9_-]*) : (.*)$")
 CLAUSE = re.compile(r"ensures ([a-z_0-9]+) \{((?:[^{}]|\{[^{}]*\})*)\}")
 # Crates whose definitions are the claims' own nets and journals, or serve the slow decisions alone.
-EXAMPLES = ("table_runs", "slow_verdicts", "worked_journals", "number_jobs")
+EXAMPLES = ("table_runs", "slow_verdicts", "claims", "number_jobs")
 # The definitions without a claim, by the reason.
 UNCLAIMED = {
     "what a law says of every run, where no run can fail it; the law's proof ties it": (
         "flow_run/specs/Plainly.antt: IsReportedPlainly",
-        "report_laws/specs/Judged.antt: IsJudgedComplete JudgesKept",
-        "report_laws/specs/PlainLaws.antt: IsPlainRun RunsPlainly",
-        "report_laws/specs/PlainReport.antt: HasSameReport ReportsAlike ReportsPlainly",
+        "run_laws/specs/JudgeLaw.antt: IsJudgedComplete JudgesKept",
+        "run_laws/specs/PlainLaws.antt: IsPlainRun RunsPlainly",
+        "run_laws/specs/PlainReport.antt: HasSameReport ReportsAlike ReportsPlainly",
     ),
     "cited only by such a law": (
-        "report_laws/specs/PlainJobs.antt: task_values",
-        "report_laws/specs/PlainReport.antt: plain_next",
+        "run_laws/specs/PlainJobs.antt: task_values",
+        "run_laws/specs/PlainReport.antt: plain_next",
     ),
     "on runs inside runs, which no job makes yet": (
-        "report_laws/specs/PlainJobs.antt: IsGraphJob IsInside IsPlainly LeadsTo",
+        "run_laws/specs/PlainJobs.antt: IsGraphJob IsInside IsPlainly LeadsTo",
     ),
     "a proof itself: a law that the trait Job asks of text jobs": (
         "text_tasks/specs/JobLaws.antt: text_answers_fit text_faults_own text_gather_faults_own text_job_flat",
@@ -65,7 +65,7 @@ def claims():
                 statement += " " + lines[j].strip()
                 j += 1
             found.append((match.group(1), {home[word] for word in words(statement) if word in home}))
-    for path in sorted([*CRATES.glob("worked_journals/src/*.rt"), *CRATES.glob("*/src/worked.rt")]):
+    for path in sorted([*CRATES.glob("claims/src/*.rt"), *CRATES.glob("*/src/examples.rt")]):
         home = imported(path.read_text())
         for name, statement in CLAUSE.findall(path.read_text()):
             found.append((name, {home[word] for word in words(statement) if word in home}))

@@ -1,7 +1,8 @@
 // Runs of a machine, and the judge's walk over a journal.
 use crate::clock::{micros_since, nanos_since};
 use crate::nets;
-use legal_run::{Cause, Journal, MAX_LIMIT, Machine, MachineError, Verdict, judge};
+use journal_rules::{Cause, Journal, MAX_LIMIT};
+use legal_run::{Machine, MachineError, Verdict, judge};
 use outside_io::List;
 use std::alloc::{AllocError, Global};
 use std::io;

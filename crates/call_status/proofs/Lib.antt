@@ -1,3 +1,3 @@
-pub mod Delivering
+pub mod Deliveries
 mod NoteExamples
 mod StatusExamples

@@ -1,7 +1,7 @@
 -- What becomes of bytes that are written to a sink, which is then flushed.
 use Rattle.std.specs.Prelude.{◌≡◌, ℕ, ◌<◌, ◌≤◌, List, [], Result, Ok, Err}
-use Rattle.outside_io.specs.declared.sink.SinkFault.{SinkFault}
-use Rattle.outside_io.specs.declared.sink.SinkFault.TheVariants as fault
+use Rattle.outside_io.specs.declared.ports.sink.SinkFault.{SinkFault}
+use Rattle.outside_io.specs.declared.ports.sink.SinkFault.TheVariants as fault
 use Rattle.outside_io.specs.Sink.{SinkState, Took, TookFront}
 
 -- the whole of these bytes was taken, and nothing is held back

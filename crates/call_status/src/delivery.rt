@@ -6,7 +6,7 @@ ghost use Rattle.call_status.specs.Delivery.{Delivers};
 use outside_io::{Sink, SinkFault};
 
 /// Writes a line to a sink and flushes it.
-#[tactic(auto, using(crate::proofs::Delivering::cut_short, crate::proofs::Delivering::flush_delivers))]
+#[tactic(auto, using(crate::proofs::Deliveries::cut_short, crate::proofs::Deliveries::flush_delivers))]
 pub fn deliver<S: Sink>(sink: &mut S, line: &[u8]) -> Result<(), SinkFault>
     requires { (S.state sink.old).held_back ≡ [] }
     ensures delivers { Delivers (S.state sink.old) (S.state sink.new) line.now result }
@@ -20,9 +20,10 @@ pub fn deliver<S: Sink>(sink: &mut S, line: &[u8]) -> Result<(), SinkFault>
 
 /// Flushes a sink after writes with this result in all, and returns the result of writing and flushing. The sink held
 /// nothing back before the writes.
-#[tactic(auto, using(crate::proofs::Delivering::cut_short, crate::proofs::Delivering::flush_delivers, crate::proofs::Delivering::flush_cuts))]
+#[tactic(auto, using(crate::proofs::Deliveries::cut_short, crate::proofs::Deliveries::flush_delivers, crate::proofs::Deliveries::flush_cuts))]
 pub fn flushed<S: Sink>(sink: &mut S, written: Result<(), SinkFault>) -> Result<(), SinkFault>
-    ensures { (before : SinkState) (bytes : List ℕ) → before.held_back ≡ [] → Writes before (S.state sink.old) bytes written
+    ensures { (before : SinkState) (bytes : List ℕ) → before.held_back ≡ []
+        → Writes before (S.state sink.old) bytes written
         → Delivers before (S.state sink.new) bytes result }
 {
     match written {

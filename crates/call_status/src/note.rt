@@ -10,8 +10,7 @@ use super::status::{Noted, Status};
 use graph_file::{GraphError, Kind};
 use graph_plans::Spot;
 use journal_rules::Why;
-use line_output::add_numbered;
-use outside_io::{Bytes, List, NoMemory, Sink, SinkFault};
+use outside_io::{Bytes, List, NoMemory, Sink, SinkFault, add_numbered};
 use std::alloc::Global;
 
 /// Writes the line of a status to `notes`, the diagnostics sink, and flushes it. With `Done` there is no
@@ -20,7 +19,8 @@ use std::alloc::Global;
 pub fn put_note<N: Sink>(alloc: Global, notes: &mut N, names: &[Bytes], status: &Status) -> Noted
     requires nothing_held { (N.state notes.old).held_back ≡ [] }
     requires named { NamesStatus names.now status.now }
-    ensures { HasNoted N.state notes.old notes.new (note_line names.now status.now) status.now result }
+    ensures { HasNoted N.state notes.old notes.new
+        (note_line names.now status.now) status.now result }
 {
     match status {
         Status::Done => Noted::Whole,
@@ -49,7 +49,8 @@ pub fn put_note<N: Sink>(alloc: Global, notes: &mut N, names: &[Bytes], status: 
 // Writes a line where there was memory to make it.
 fn put_made<N: Sink>(notes: &mut N, line: Result<Bytes, NoMemory>) -> Noted
     requires { (N.state notes.old).held_back ≡ [] }
-    ensures takes { (text : List ℕ) → IfOk line (λ made. made ≡ text) → TakesLine (N.state notes.old) (N.state notes.new) text result }
+    ensures takes { (text : List ℕ) → IfOk line (λ made. made ≡ text)
+        → TakesLine (N.state notes.old) (N.state notes.new) text result }
     ensures nothing_held { (N.state notes.new).held_back ≡ [] }
 {
     match line {
@@ -79,7 +80,8 @@ fn limit_note(
     limit: u64,
 ) -> Result<Bytes, NoMemory>
     requires { NamesPath names.now path.now }
-    ensures { IfOk result (λ line. line ≡ codes "flow: " ++ limit_text names.now path.now limit ++ codes "\n") }
+    ensures { IfOk result
+        (λ line. line ≡ codes "flow: " ++ limit_text names.now path.now limit ++ codes "\n") }
 {
     let mut line = List::from_slice(alloc, b"flow: ")?;
     add_limit(&mut line, names, path.as_slice(), limit)?;
@@ -90,7 +92,8 @@ fn limit_note(
 // The line that a task faulted.
 fn fault_note(alloc: Global, names: &[Bytes], path: &List<u32>, why: Why) -> Result<Bytes, NoMemory>
     requires { NamesPath names.now path.now }
-    ensures { IfOk result (λ line. line ≡ codes "flow: " ++ fault_text names.now path.now why ++ codes "\n") }
+    ensures { IfOk result
+        (λ line. line ≡ codes "flow: " ++ fault_text names.now path.now why ++ codes "\n") }
 {
     let mut line = List::from_slice(alloc, b"flow: ")?;
     add_fault(&mut line, names, path.as_slice(), why)?;
@@ -101,7 +104,8 @@ fn fault_note(alloc: Global, names: &[Bytes], path: &List<u32>, why: Why) -> Res
 // The line that a task waited for a unit that never came.
 fn stuck_note(alloc: Global, names: &[Bytes], path: &List<u32>) -> Result<Bytes, NoMemory>
     requires { NamesPath names.now path.now }
-    ensures { IfOk result (λ line. line ≡ codes "flow: " ++ stuck_text names.now path.now ++ codes "\n") }
+    ensures { IfOk result
+        (λ line. line ≡ codes "flow: " ++ stuck_text names.now path.now ++ codes "\n") }
 {
     let mut line = List::from_slice(alloc, b"flow: ")?;
     add_stuck(&mut line, names, path.as_slice())?;

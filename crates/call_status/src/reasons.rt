@@ -3,9 +3,8 @@ ghost use Rattle.std.specs.Prelude.{◌≡◌, ◌<◌, ◌++◌, [], codes, dec
 ghost use Rattle.call_status.specs.Reasons.{NamesPath, NamesReason, fault_text, limit_text, path_text, reason_line, stuck_text, why_text, within_path};
 
 use journal_rules::Why;
-use line_output::add_numbered;
 use nested_runs::Reason;
-use outside_io::{Bytes, NoMemory};
+use outside_io::{Bytes, NoMemory, add_numbered};
 
 /// Adds the last line of the report of a run that came to its end for this reason: none where it ended fine.
 pub fn add_reason_line(line: &mut Bytes, names: &[Bytes], reason: &Reason) -> Result<(), NoMemory>

@@ -6,7 +6,8 @@ ghost use Rattle.call_status.specs.Statuses.{status_after, status_by, status_of}
 use super::stop::Stop;
 use graph_file::GraphError;
 use graph_plans::Spot;
-use legal_run::{Break, Verdict, Why};
+use journal_rules::Why;
+use legal_run::{Break, Verdict};
 use nested_runs::Reason;
 use outside_io::{Bytes, List};
 

@@ -33,15 +33,15 @@ abbrev pub flag : List ℕ → Rule
 flag name = record (new_rule name) { long = Some name; action = Some SetTrue }
 
 -- `run FILE [--limit N] [--workers N] [--journal]`
-abbrev pub run_app : App
+unfoldable pub run_app : App
 run_app = with_rule (with_rule (with_rule (with_rule (command_named (codes "run")) (required (codes "file"))) (option (codes "limit"))) (option (codes "workers"))) (flag (codes "journal"))
 
 -- `judge FILE JOURNAL [--limit N]`
-abbrev pub judge_app : App
+unfoldable pub judge_app : App
 judge_app = with_rule (with_rule (with_rule (command_named (codes "judge")) (required (codes "file"))) (required (codes "journal"))) (option (codes "limit"))
 
 -- `check FILE`
-abbrev pub check_app : App
+unfoldable pub check_app : App
 check_app = with_rule (command_named (codes "check")) (required (codes "file"))
 
 -- what a command finds among the arguments, where it finds no fault with them

@@ -4,9 +4,10 @@ ghost use Rattle.std.specs.String.{string_bytes};
 ghost use Rattle.clap.specs.Words.{app_of, rows_of, found_of};
 ghost use Rattle.command_line.specs.Requests.{check, check_app, check_in, rows_in};
 
-use super::matches::{bare_command, matches_in};
+use super::commands::{bare_command, with_required};
+use super::matches::matches_in;
 use super::request::ArgumentsError;
-use clap::{Arg, ArgMatches, Command};
+use clap::{ArgMatches, Command};
 use std::alloc::{AllocError, Global};
 
 /// Find how the graph in a file can go wrong.
@@ -26,18 +27,15 @@ pub(crate) fn read_check<'w>(
 {
     let command = check_command(alloc)?;
     let matches = matches_in(command, arguments)?;
-    match check_of(&matches) {
-        Some(check) => Ok(check),
-        None => Err(ArgumentsError::Refused),
-    }
+    check_of(&matches).ok_or(ArgumentsError::Refused)
 }
 
 // `check FILE`
+#[tactic(auto, unfolding(crate::specs::Requests::check_app))]
 fn check_command<'w>(alloc: Global) -> Result<Command<'w>, AllocError>
     ensures { IfOk result (λ command. app_of command ≡ check_app) }
 {
-    let file = Arg::new(alloc, "file").required(true);
-    bare_command(alloc, "check").arg(file)
+    with_required(alloc, bare_command(alloc, "check"), "file")
 }
 
 // The check that these matches ask for.

@@ -5,10 +5,11 @@ ghost use Rattle.clap.specs.Words.{app_of, rows_of, found_of};
 ghost use Rattle.command_line.specs.Requests.{judge, judge_app, judge_in, rows_in};
 ghost use Rattle.command_line.specs.declared.numbers.TheConstants.{GREATEST_LIMIT};
 
-use super::matches::{bare_command, matches_in};
+use super::commands::{bare_command, with_option, with_required};
+use super::matches::matches_in;
 use super::numbers::{GREATEST_LIMIT, limit_of};
 use super::request::ArgumentsError;
-use clap::{Arg, ArgMatches, Command};
+use clap::{ArgMatches, Command};
 use std::alloc::{AllocError, Global};
 
 /// Judge the journal in a file by the graph in another.
@@ -33,22 +34,17 @@ pub(crate) fn read_judge<'w>(
 {
     let command = judge_command(alloc)?;
     let matches = matches_in(command, arguments)?;
-    match judge_of(&matches) {
-        Some(judge) => Ok(judge),
-        None => Err(ArgumentsError::Refused),
-    }
+    judge_of(&matches).ok_or(ArgumentsError::Refused)
 }
 
 // `judge FILE JOURNAL [--limit N]`
+#[tactic(auto, unfolding(crate::specs::Requests::judge_app))]
 fn judge_command<'w>(alloc: Global) -> Result<Command<'w>, AllocError>
     ensures { IfOk result (λ command. app_of command ≡ judge_app) }
 {
-    let file = Arg::new(alloc, "file").required(true);
-    let journal = Arg::new(alloc, "journal").required(true);
-    let limit = Arg::new(alloc, "limit").long("limit");
-    let command = bare_command(alloc, "judge").arg(file)?;
-    let command = command.arg(journal)?;
-    command.arg(limit)
+    let command = with_required(alloc, bare_command(alloc, "judge"), "file")?;
+    let command = with_required(alloc, command, "journal")?;
+    with_option(alloc, command, "limit")
 }
 
 // The judgement that these matches ask for.

@@ -7,6 +7,7 @@
 #![tactic(auto)]
 
 mod check;
+mod commands;
 mod judge;
 mod matches;
 mod numbers;

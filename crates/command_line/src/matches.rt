@@ -2,21 +2,11 @@
 ghost use Rattle.std.specs.Prelude.{◌≡◌, ◌≢◌, map, true, IfOk, IfErr, Some, None};
 ghost use Rattle.std.specs.String.{string_bytes};
 ghost use Rattle.clap.specs.Words.{app_of, is_simple, is_simple_and_free, rows_of, found_of, kind_of};
-ghost use Rattle.command_line.specs.Requests.{command_named, rows_in};
+ghost use Rattle.command_line.specs.Requests.{rows_in};
 
 use super::request::ArgumentsError;
 use clap::error::ErrorKind;
 use clap::{ArgMatches, Command, Error};
-use std::alloc::Global;
-
-/// A command of this name that reads no name of a program, and of itself has no flag.
-pub(crate) fn bare_command<'w>(alloc: Global, name: &'w str) -> Command<'w>
-    ensures { app_of result ≡ command_named name.entry.now }
-{
-    Command::new(alloc, name)
-        .no_binary_name(true)
-        .disable_help_flag(true)
-}
 
 /// What a command finds among the arguments behind its name.
 pub(crate) fn matches_in<'w>(

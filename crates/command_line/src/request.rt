@@ -10,7 +10,7 @@ use super::run::{Run, read_run};
 use std::alloc::{AllocError, Global};
 
 /// Why arguments give no request.
-#[derive(Clone, Copy, Debug, PartialEq, Eq)]
+#[derive(Clone, Copy)]
 pub enum ArgumentsError {
     /// They ask for nothing that there is.
     Refused,

@@ -5,10 +5,11 @@ ghost use Rattle.clap.specs.Words.{app_of, rows_of, found_of};
 ghost use Rattle.command_line.specs.Requests.{is_set, run, run_app, run_in, rows_in};
 ghost use Rattle.command_line.specs.declared.numbers.TheConstants.{GREATEST_LIMIT, GREATEST_WORKERS};
 
-use super::matches::{bare_command, matches_in};
+use super::commands::{bare_command, with_flag, with_option, with_required};
+use super::matches::matches_in;
 use super::numbers::{GREATEST_LIMIT, GREATEST_WORKERS, limit_of, workers_of};
 use super::request::ArgumentsError;
-use clap::{Arg, ArgAction, ArgMatches, Command};
+use clap::{ArgMatches, Command};
 use std::alloc::{AllocError, Global};
 
 /// Run the graph in a file.
@@ -36,26 +37,18 @@ pub(crate) fn read_run<'w>(
 {
     let command = run_command(alloc)?;
     let matches = matches_in(command, arguments)?;
-    match run_of(&matches) {
-        Some(run) => Ok(run),
-        None => Err(ArgumentsError::Refused),
-    }
+    run_of(&matches).ok_or(ArgumentsError::Refused)
 }
 
 // `run FILE [--limit N] [--workers N] [--journal]`
+#[tactic(auto, unfolding(crate::specs::Requests::run_app))]
 fn run_command<'w>(alloc: Global) -> Result<Command<'w>, AllocError>
     ensures { IfOk result (λ command. app_of command ≡ run_app) }
 {
-    let file = Arg::new(alloc, "file").required(true);
-    let limit = Arg::new(alloc, "limit").long("limit");
-    let workers = Arg::new(alloc, "workers").long("workers");
-    let journal = Arg::new(alloc, "journal")
-        .long("journal")
-        .action(ArgAction::SetTrue);
-    let command = bare_command(alloc, "run").arg(file)?;
-    let command = command.arg(limit)?;
-    let command = command.arg(workers)?;
-    command.arg(journal)
+    let command = with_required(alloc, bare_command(alloc, "run"), "file")?;
+    let command = with_option(alloc, command, "limit")?;
+    let command = with_option(alloc, command, "workers")?;
+    with_flag(alloc, command, "journal")
 }
 
 // The run that these matches ask for.

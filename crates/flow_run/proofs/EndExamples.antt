@@ -12,7 +12,7 @@ use Rattle.task_graph.specs.Net.{IsSource}
 use Rattle.task_graph.specs.declared.net.Shape.TheVariants.{Plain}
 use Rattle.task_graph.specs.declared.net.TaskRow.{TaskRow}
 use Rattle.graph_plans.specs.PlanRows.{PlanRows}
-use Rattle.pitfall_check.specs.Sources.{IsWithoutSource}
+use Rattle.task_graph.specs.Sources.{HasNoSource}
 use Rattle.graph_plans.specs.Sources.{NoSourceAnswer}
 use Rattle.graph_plans.specs.declared.spots.Spot.TheVariants.{File, Module, Task}
 use Rattle.graph_file.specs.declared.refusals.GraphError.{GraphError}
@@ -121,7 +121,7 @@ alone = record { tasks = task ∷ []; edges = []; sems = [] }
 abbrev ring : NetRows
 ring = record { tasks = task ∷ []; edges = record { from = 0; to = 0; start = false } ∷ []; sems = [] }
 
-ring_has_no_source : IsWithoutSource ring
+ring_has_no_source : HasNoSource ring
 ring_has_no_source = record { some = omega arith; none = never }
   where
     never : (n : ℕ) → n < 1 → IsSource ring n → ⊥
@@ -138,14 +138,14 @@ ring_does_not_begin : ¬ HasStart (plan_of ring)
 ring_does_not_begin is = is.top ring_has_no_source
 
 module _ (bytes : List ℕ) (plan : PlanRows) (stands : PlanText bytes plan) where
-  stops_without_a_source : IsWithoutSource plan.top.net → StopsAtBytes bytes (stop.NoSource File)
+  stops_without_a_source : HasNoSource plan.top.net → StopsAtBytes bytes (stop.NoSource File)
   stops_without_a_source none = (plan, stands, none)
 
   source_does_not_stop : HasStart plan → ¬ StopsAtBytes bytes (stop.NoSource File)
   source_does_not_stop source (other, is, none) =
       let both : ok_plan other ≡ ok_plan plan = sym is ∙ stands in
       let same : other ≡ plan = cc in
-      source.top (subst (λ (p : PlanRows). IsWithoutSource p.top.net) same none)
+      source.top (subst (λ (p : PlanRows). HasNoSource p.top.net) same none)
 
   stops_without_a_source_in_a_module : NoSourceAnswer plan (Some (Module 0)) → StopsAtBytes bytes (stop.NoSource (Module 0))
   stops_without_a_source_in_a_module none = (plan, stands, none)

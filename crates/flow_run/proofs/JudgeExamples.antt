@@ -30,7 +30,7 @@ use Rattle.flow_run.specs.Requests.{SourceTexts, HasPlan, HasStart}
 use Rattle.call_status.specs.Statuses.{status_of}
 use Rattle.call_status.specs.Stopping.{StoppedBefore}
 use Rattle.flow_run.specs.declared.conclusion.Conclusion.TheVariants as conclusion
-use Rattle.report_laws.specs.Output.{report_of}
+use Rattle.run_laws.specs.Output.{report_of}
 use Rattle.flow_run.specs.Judging.{HasJournal, StopsAtJournalBytes, StopsAtJournal, StopsBeforeVerdict, IsJudged, IsAfterVerdict, EndsJudged, JudgeEnds, CanBeJudged, break_text, verdict_line, journal_limit}
 use Rattle.flow_run.specs.Answers.{TextRun, run_texts, wants_journal, conclusion_text, output_of}
 

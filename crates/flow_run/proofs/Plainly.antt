@@ -22,8 +22,8 @@ use Rattle.text_tasks.specs.declared.job.TextJob.{TextJob}
 use Rattle.text_tasks.specs.declared.job.TextJob.TheVariants.{Graph}
 use Rattle.text_tasks.specs.GraphWork.{GraphWork, IsWork, greatest_limit, first_work}
 use Rattle.text_tasks.specs.JobMeaning.{IsTextJob, net_of, text_job}
-use Rattle.report_laws.specs.PlainReport.{HasSameReport, IsPlainJob, IsPlanned, RunsWell, plain_report}
-use Rattle.report_laws.proofs.TextPlain.{same_report}
+use Rattle.run_laws.specs.PlainReport.{HasSameReport, IsPlainJob, IsPlanned, RunsWell, plain_report}
+use Rattle.run_laws.proofs.TextPlain.{same_report}
 use Rattle.flow_run.specs.declared.conclusion.Conclusion.{Conclusion}
 use Rattle.flow_run.specs.Requests.{SourceTexts, CanBeRun, HasPlan, IsHeld, IsRequested, IsRequestedJob, IsTextOf, StopsBefore, TextsAre, file_limit, text_limit}
 use Rattle.flow_run.specs.Answers.{CallEnds, IsAfterRun, RanOnce, RunEnds, TextRun, conclusion_text, output_of, run_texts, wants_journal}

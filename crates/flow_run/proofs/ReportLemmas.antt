@@ -6,7 +6,7 @@ use Rattle.std.proofs.lemmas.Grind.{flat_map-append}
 use Rattle.run_frame.specs.declared.run.ValueRow.{ValueRow}
 use Rattle.run_frame.specs.Runs.{value_at, values_of}
 use Rattle.text_tasks.specs.declared.item.Item.{Item}
-use Rattle.outside_io.specs.declared.sink.SinkFault.{SinkFault}
+use Rattle.outside_io.specs.declared.ports.sink.SinkFault.{SinkFault}
 use Rattle.outside_io.specs.Sink.{SinkState, Accepts, Writes}
 use Rattle.outside_io.proofs.Pieces.{writes_both, writes_no_more}
 use Rattle.task_graph.specs.NetRows.{NetRows}
@@ -17,7 +17,7 @@ use Rattle.text_tasks.specs.declared.job.TextJob.TheVariants.{Graph}
 use Rattle.text_tasks.specs.JobMeaning.{IsTextJob, net_of, names_of}
 use Rattle.run_frame.specs.LastEnds.{last_end}
 use Rattle.run_frame.proofs.EndsLemmas.{counting_more}
-use Rattle.report_laws.specs.Output.{task_part, task_report}
+use Rattle.run_laws.specs.Output.{task_part, task_report}
 
 -- The texts of one number more.
 pub texts_more : (text : ℕ → List ℕ) (n : ℕ) → flat_map text (range_with_len 0 (n + 1)) ≡ flat_map text (range_with_len 0 n) ++ text n

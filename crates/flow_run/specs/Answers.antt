@@ -22,7 +22,7 @@ use Rattle.nested_runs.specs.declared.reasons.Reason.TheVariants as reason
 use Rattle.flow_run.specs.declared.conclusion.Conclusion.{Conclusion}
 use Rattle.flow_run.specs.declared.conclusion.Conclusion.TheVariants.{Verdict, Findings}
 use Rattle.flow_run.specs.Requests.{SourceTexts, IsRequestedJob, StopsBefore}
-use Rattle.report_laws.specs.Output.{report_of}
+use Rattle.run_laws.specs.Output.{report_of}
 use Rattle.flow_run.specs.Judging.{JudgeEnds, verdict_line}
 use Rattle.flow_run.specs.Checking.{CheckEnds, findings_text}
 

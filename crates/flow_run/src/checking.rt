@@ -13,8 +13,7 @@ use super::conclusion::{Conclusion, GraphFindings};
 use super::prepare::{FILE_LIMIT, plan_in, read_named};
 use call_status::{Status, Stop, flushed};
 use command_line::Check;
-use line_output::{add_numbered, put_piece};
-use outside_io::{Bytes, List, NoMemory, Sink, SinkFault, Texts};
+use outside_io::{Bytes, List, NoMemory, Sink, SinkFault, Texts, add_numbered, put_piece};
 use pitfall_check::{Finding, check};
 use std::alloc::Global;
 

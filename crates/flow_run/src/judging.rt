@@ -12,10 +12,10 @@ use super::conclusion::Conclusion;
 use super::prepare::{FILE_LIMIT, read_named, read_plan};
 use call_status::{Status, Stop, deliver};
 use command_line::Judge;
+use journal_rules::Journal;
 use journal_text::{JournalError, read_journal};
-use legal_run::{Break, Journal, Verdict, judge};
-use line_output::add_numbered;
-use outside_io::{Bytes, List, NoMemory, Sink, SinkFault, Texts};
+use legal_run::{Break, Verdict, judge};
+use outside_io::{Bytes, List, NoMemory, Sink, SinkFault, Texts, add_numbered};
 use std::alloc::Global;
 
 /// The most bytes of a journal file.
@@ -125,7 +125,7 @@ fn unwritten_verdict(verdict: Verdict) -> Status
 }
 
 // Writes the line of a verdict to the output, and flushes it.
-#[tactic(auto, using(call_status::proofs::Delivering::nothing_delivered))]
+#[tactic(auto, using(call_status::proofs::Deliveries::nothing_delivered))]
 fn deliver_verdict<S: Sink>(alloc: Global, verdict: Verdict, out: &mut S) -> Result<(), SinkFault>
     requires { (S.state out.old).held_back ≡ [] }
     ensures { Delivers (S.state out.old) (S.state out.new) (verdict_line verdict) result }

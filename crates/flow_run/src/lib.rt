@@ -4,7 +4,7 @@
 //! stand in `specs/`: `Requests` says what a graph file asks for and why a call stops before its run, `Reading` which
 //! reads failed, `Judging` what a judgement of a journal comes to, `Checking` what a check of a graph comes to, `Answers`
 //! how a call ends, `Completing` what it needs to do all that it is asked for, and `Plainly` what it does with a plan
-//! without conditions. What a command line asks for is said by `command_line`, what a report is by `report_laws`.
+//! without conditions. What a command line asks for is said by `command_line`, what a report is by `run_laws`.
 #![tactic(auto)]
 
 mod call;

@@ -8,13 +8,12 @@ ghost use Rattle.run_frame.specs.Runs.{value_at, values_of};
 ghost use Rattle.text_tasks.specs.JobMeaning.{names_of, net_of, text_job};
 ghost use Rattle.nested_runs.specs.Reasons.{run_reason};
 ghost use Rattle.call_status.specs.Reasons.{NamesReason, reason_line};
-ghost use Rattle.report_laws.specs.Output.{ended_mark, header, outcome, report, task_report, report_of};
+ghost use Rattle.run_laws.specs.Output.{ended_mark, header, outcome, report, task_report, report_of};
 ghost use Rattle.flow_run.specs.inside.Rising.{AreRising};
 
 use call_status::add_reason_line;
-use line_output::put_piece;
 use nested_runs::Reason;
-use outside_io::{Bytes, List, NoMemory, Sink, SinkFault};
+use outside_io::{Bytes, List, NoMemory, Sink, SinkFault, put_piece};
 use run_frame::{FrameRun, Job, ValueRow, last_ends};
 use std::alloc::Global;
 use task_graph::Net;

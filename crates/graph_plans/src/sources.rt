@@ -5,7 +5,7 @@ ghost use Rattle.graph_plans.specs.Sources.{NoSourceAnswer};
 
 use crate::plans::Plan;
 use crate::spots::Spot;
-use pitfall_check::has_no_source;
+use task_graph::has_no_source;
 
 /// The first graph, the top one first, that has tasks each with an in-edge: `File` for the top graph, or its
 /// `Module`.

@@ -94,13 +94,6 @@ impl<V: Drop> Keeper<V> {
         }
     }
 
-    /// The fates, in the order in which their turns were taken in.
-    pub fn fates(&self) -> &[Fate<V>]
-        ensures { result.now ≡ self.now.fates }
-    {
-        self.fates.as_slice()
-    }
-
     /// Takes in the turns of a batch, which isn't empty. It answers `All` where its own step found one live turn, and the
     /// fates are then those of a whole run. If an allocation fails, the keeper and the batch stay as they were. Whatever its
     /// step found, the entries of all turns that it has taken in are in one journal that is legal as far as the net decides.

@@ -1,6 +1,7 @@
 // A table with its first turns and its keeper.
 ghost use Rattle.std.specs.Prelude.{◌≡◌, ◌≤◌, IfOk, []};
 ghost use Rattle.std.specs.Arc.{arc_value};
+ghost use Rattle.journal_rules.specs.Limits.{max_limit};
 ghost use Rattle.join_tables.specs.Openings.{OpensTable};
 ghost use Rattle.join_tables.specs.States.{fresh_state};
 ghost use Rattle.table_steps.specs.inside.Accounts.{first_notes};
@@ -28,7 +29,7 @@ pub struct Opening<V> {
 impl<V: Drop> NetTable<V> {
     /// The table of a run of a net, which may have this many starts.
     pub fn new(alloc: Global, net: Arc<Net>, limit: u64) -> Result<Opening<V>, NoMemory>
-        requires limit { limit ≤ 2097153 }
+        requires limit { limit ≤ max_limit }
         ensures { IfOk result (OpensTable (arc_value net) limit) }
     {
         let releases = first_releases(alloc, &net)?;

@@ -22,6 +22,7 @@ use Rattle.journal_rules.specs.ShapeLegal.{IsInRange, ShapeLegal}
 use Rattle.journal_rules.specs.Calm.{used_at, IsCalm}
 use Rattle.journal_rules.specs.DataRule.{edges_of, last_part, MayFind, IsPartAt, DataRule}
 use Rattle.journal_rules.specs.Complete.{least, Complete}
+use Rattle.journal_rules.specs.Limits.{max_limit}
 
 abbrev free : Shape → TaskRow
 free shape = record { shape = shape; takes = []; puts = [] }
@@ -633,3 +634,7 @@ end_first is = absurd (cc)
 
 second_entry_too : ¬ ShapeLegal joined 9 (Start 0 Source [] ∷ Start 0 Source [] ∷ [])
 second_entry_too is = absurd (omega (arith, is.1.0.release.1))
+
+-- the greatest limit of a job, one more than 2 ^ 21
+greatest_limit : max_limit ≡ 2097153
+greatest_limit = refl

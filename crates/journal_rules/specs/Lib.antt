@@ -12,4 +12,5 @@ pub mod ShapeLegal
 pub mod Complete
 pub mod Waiting
 pub mod TimesLeft
+pub mod Limits
 pub mod inside

@@ -53,8 +53,10 @@ impl Counts {
         requires cause { CauseInRange net.now cause }
         requires grow { CanGrow net.now self.old }
         requires room { slice_get self.old.open_starts place ≡ Some false }
-        ensures counted { (limit : ℕ) (journal : List Entry) (ins : List Part) → IsReached net.now limit journal → place ≡ length journal
-            → IsCounted net.now journal self.old → IsCounted net.now (journal ++ Start task cause ins ∷ []) self.new }
+        ensures counted { (limit : ℕ) (journal : List Entry) (ins : List Part)
+            → IsReached net.now limit journal → place ≡ length journal
+            → IsCounted net.now journal self.old
+            → IsCounted net.now (journal ++ Start task cause ins ∷ []) self.new }
         ensures room { length self.new.open_starts ≡ length self.old.open_starts }
     {
         self.releases.use_release(net, task, cause);
@@ -70,8 +72,11 @@ impl Counts {
         requires once { (e : ℕ) → count_by (λ g. g == e) gives.now ≤ 1 }
         requires grow { CanGrow net.now self.old }
         requires opened { slice_get self.old.open_starts start ≡ Some true }
-        ensures counted { (limit : ℕ) (journal : List Entry) (inner : Bool) → IsReached net.now limit journal → place ≡ length journal → length journal < length self.old.open_starts
-            → ClosesTask journal start task → IsCounted net.now journal self.old → IsCounted net.now (journal ++ End start gives.now inner ∷ []) self.new }
+        ensures counted { (limit : ℕ) (journal : List Entry) (inner : Bool)
+            → IsReached net.now limit journal → place ≡ length journal
+            → length journal < length self.old.open_starts → ClosesTask journal start task
+            → IsCounted net.now journal self.old
+            → IsCounted net.now (journal ++ End start gives.now inner ∷ []) self.new }
         ensures room { length self.new.open_starts ≡ length self.old.open_starts }
     {
         self.releases.give(net, gives);
@@ -84,8 +89,11 @@ impl Counts {
         requires task { task < length net.now.tasks }
         requires grow { CanGrow net.now self.old }
         requires opened { slice_get self.old.open_starts start ≡ Some true }
-        ensures counted { (limit : ℕ) (journal : List Entry) (why : Why) → IsReached net.now limit journal → place ≡ length journal → length journal < length self.old.open_starts
-            → ClosesTask journal start task → IsCounted net.now journal self.old → IsCounted net.now (journal ++ Fault start why ∷ []) self.new }
+        ensures counted { (limit : ℕ) (journal : List Entry) (why : Why)
+            → IsReached net.now limit journal → place ≡ length journal
+            → length journal < length self.old.open_starts → ClosesTask journal start task
+            → IsCounted net.now journal self.old
+            → IsCounted net.now (journal ++ Fault start why ∷ []) self.new }
         ensures room { length self.new.open_starts ≡ length self.old.open_starts }
     {
         self.units.fault(net, task, place);
@@ -98,8 +106,9 @@ impl Counts {
         requires task { task < length net.now.tasks }
         requires cause { CauseInRange net.now cause }
         requires grow { CanGrow net.now self.old }
-        ensures counted { (limit : ℕ) (journal : List Entry) → IsReached net.now limit journal → length journal < length self.old.open_starts
-            → IsCounted net.now journal self.old → IsCounted net.now (journal ++ Drop task cause why ∷ []) self.new }
+        ensures counted { (limit : ℕ) (journal : List Entry) → IsReached net.now limit journal
+            → length journal < length self.old.open_starts → IsCounted net.now journal self.old
+            → IsCounted net.now (journal ++ Drop task cause why ∷ []) self.new }
         ensures room { length self.new.open_starts ≡ length self.old.open_starts }
     {
         self.releases.use_release(net, task, cause);

@@ -12,8 +12,9 @@ ghost use Rattle.journal_rules.specs.Waiting.{waiting, waiting_after};
 /// What waits at an edge after one entry more: the entry itself where it is an End that gave the edge, nothing where
 /// it used the edge, and else what waited before.
 pub fn what_waits_after_an_entry()
-    ensures { (net : NetRows) (e : ℕ) (journal : List Entry) (entry : Entry) →
-        waiting net e (journal ++ entry ∷ []) ≡ waiting_after net e (length journal) (waiting net e journal) entry }
+    ensures { (net : NetRows) (e : ℕ) (journal : List Entry) (entry : Entry)
+        → waiting net e (journal ++ entry ∷ [])
+        ≡ waiting_after net e (length journal) (waiting net e journal) entry }
 {}
 
 /// A release of a task can be used at least once more exactly where the rule of releases allows it now: as a source, by

@@ -17,6 +17,7 @@
 mod counts;
 mod entry;
 mod laws;
+mod limits;
 mod open_starts;
 mod releases;
 mod rounds;
@@ -27,6 +28,7 @@ mod units;
 pub use counts::Counts;
 pub use entry::{Cause, DropWhy, Entry, Journal, Part, Why};
 pub use laws::{releases_left_are_allowed, what_waits_after_an_entry};
+pub use limits::MAX_LIMIT;
 pub use open_starts::OpenStarts;
 pub use releases::Releases;
 pub use rounds::{Round, Rounds};

@@ -51,7 +51,8 @@ impl Releases {
         requires task { task < length net.now.tasks }
         requires cause { CauseInRange net.now cause }
         requires few { AreFew net.now self.old }
-        ensures { (journal : List Entry) (entry : Entry) → IsUseOf task cause entry → CountsReleases net.now journal self.old
+        ensures { (journal : List Entry) (entry : Entry) → IsUseOf task cause entry
+            → CountsReleases net.now journal self.old
             → CountsReleases net.now (journal ++ entry ∷ []) self.new }
     {
         match cause {
@@ -66,7 +67,8 @@ impl Releases {
         requires edges { All (λ e. e < length net.now.edges) gives.now }
         requires few { AreFew net.now self.old }
         requires once { (e : ℕ) → count_by (λ g. g == e) gives.now ≤ 1 }
-        ensures { (journal : List Entry) (start : ℕ) (inner : Bool) → CountsReleases net.now journal self.old
+        ensures { (journal : List Entry) (start : ℕ) (inner : Bool)
+            → CountsReleases net.now journal self.old
             → CountsReleases net.now (journal ++ End start gives.now inner ∷ []) self.new }
     {
         self.rounds.give(net, gives);
@@ -77,7 +79,8 @@ impl Releases {
         requires task { task < length net.now.tasks }
         requires cause { CauseInRange net.now cause }
         requires few { AreFew net.now self.now }
-        ensures { (journal : List Entry) → CountsReleases net.now journal self.now → (IsTrue result ↔ IsReleased net.now journal task cause) }
+        ensures { (journal : List Entry) → CountsReleases net.now journal self.now
+            → (IsTrue result ↔ IsReleased net.now journal task cause) }
     {
         match cause {
             Cause::Source => net.is_source(task) && self.used_source[task as usize] == 0,
@@ -90,7 +93,8 @@ impl Releases {
     fn is_weakly_released(&self, net: &Net, task: u32, edge: u32) -> bool
         requires edge { edge < length net.now.edges }
         requires few { AreFew net.now self.now }
-        ensures { (journal : List Entry) → CountsReleases net.now journal self.now → (IsTrue result ↔ IsReleased net.now journal task (Weak edge)) }
+        ensures { (journal : List Entry) → CountsReleases net.now journal self.now
+            → (IsTrue result ↔ IsReleased net.now journal task (Weak edge)) }
     {
         net.is_weak(edge)
             && net.edges()[edge as usize].to == task
@@ -101,8 +105,10 @@ impl Releases {
     pub fn rounds_left(&self, net: &Net, task: u32) -> u64
         requires task { task < length net.now.tasks }
         requires few { AreFew net.now self.now }
-        ensures { (journal : List Entry) → CountsReleases net.now journal self.now →
-            result ≡ least (map (λ e. given net.now e journal) (strong_in net.now task)) - used task journal }
+        ensures { (journal : List Entry) → CountsReleases net.now journal self.now
+            → result
+            ≡ least (map (λ e. given net.now e journal) (strong_in net.now task))
+            - used task journal }
     {
         self.rounds.by_task[task as usize]
             .least
@@ -113,7 +119,8 @@ impl Releases {
     pub fn source_left(&self, net: &Net, task: u32) -> u64
         requires task { task < length net.now.tasks }
         requires few { AreFew net.now self.now }
-        ensures { (journal : List Entry) → CountsReleases net.now journal self.now → result ≡ times_left net.now journal task Source }
+        ensures { (journal : List Entry) → CountsReleases net.now journal self.now
+            → result ≡ times_left net.now journal task Source }
     {
         if net.is_source(task) {
             1u64.saturating_sub(self.used_source[task as usize])
@@ -126,7 +133,8 @@ impl Releases {
     pub fn tokens_left(&self, net: &Net, edge: u32) -> u64
         requires edge { edge < length net.now.edges }
         requires few { AreFew net.now self.now }
-        ensures { (journal : List Entry) → CountsReleases net.now journal self.now → result ≡ given net.now edge journal - used_weak edge journal }
+        ensures { (journal : List Entry) → CountsReleases net.now journal self.now
+            → result ≡ given net.now edge journal - used_weak edge journal }
     {
         self.rounds.given[edge as usize].saturating_sub(self.used_weak[edge as usize])
     }
@@ -142,7 +150,8 @@ impl Releases {
     // Whether each source task's one release is used.
     fn are_sources_used(&self, net: &Net) -> bool
         requires few { AreFew net.now self.now }
-        ensures { IsTrue result ↔ ((t : ℕ) → t < length net.now.tasks → SourceUsed net.now self.now t) }
+        ensures { IsTrue result
+            ↔ ((t : ℕ) → t < length net.now.tasks → SourceUsed net.now self.now t) }
     {
         for task in 0..net.tasks().len() as u32 {
             if !self.is_source_used(net, task) {
@@ -176,7 +185,8 @@ impl Releases {
     // Whether each token of a weak edge is used.
     fn are_weak_edges_used(&self, net: &Net) -> bool
         requires few { AreFew net.now self.now }
-        ensures { IsTrue result ↔ ((e : ℕ) → e < length net.now.edges → WeakUsed net.now self.now e) }
+        ensures { IsTrue result
+            ↔ ((e : ℕ) → e < length net.now.edges → WeakUsed net.now self.now e) }
     {
         for edge in 0..net.edges().len() as u32 {
             if !self.is_weak_edge_used(net, edge) {

@@ -35,8 +35,8 @@ impl Round {
         requires edges { All (λ e. e < length given.now) edges.now }
         requires reached { 1 ≤ self.old.at_least }
         requires room { self.old.least < 2 ^ 63 }
-        ensures { (old : List ℕ) (e : ℕ) → IsRound old edges.now self.old → GivenOnce old given.now edges.now e before
-            → IsRound given.now edges.now self.new }
+        ensures { (old : List ℕ) (e : ℕ) → IsRound old edges.now self.old
+            → GivenOnce old given.now edges.now e before → IsRound given.now edges.now self.new }
     {
         if before == self.least {
             self.at_least -= 1;
@@ -62,7 +62,8 @@ impl Rounds {
     /// Those of a run that hasn't begun.
     pub fn new(alloc: Global, net: &Net) -> Result<Rounds, NoMemory>
         ensures rounds { IfOk result (AreRounds net.now) }
-        ensures given { IfOk result (λ rounds. Tells (first_tokens net.now) rounds.given.items (length net.now.edges)) }
+        ensures given { IfOk result
+            (λ rounds. Tells (first_tokens net.now) rounds.given.items (length net.now.edges)) }
     {
         let given = first_given(alloc, net)?;
         let by_task = first_rounds(alloc, net, given.as_slice())?;
@@ -75,8 +76,9 @@ impl Rounds {
         requires rounds { AreRounds net.now self.old }
         requires room { All (λ n. n + length edges.now < 2 ^ 63) self.old.given.items }
         ensures rounds { AreRounds net.now self.new }
-        ensures each { (k d : ℕ) → k < length self.old.given.items →
-            slice_index_or self.new.given.items k d ≡ slice_index_or self.old.given.items k d + count_by (λ e. e == k) edges.now }
+        ensures each { (k d : ℕ) → k < length self.old.given.items
+            → slice_index_or self.new.given.items k d
+            ≡ slice_index_or self.old.given.items k d + count_by (λ e. e == k) edges.now }
     {
         for edge in edges {
             self.give_one(net, *edge);
@@ -89,7 +91,8 @@ impl Rounds {
         requires rounds { AreRounds net.now self.old }
         requires room { All (λ n. n < 2 ^ 63) self.old.given.items }
         ensures rounds { AreRounds net.now self.new }
-        ensures given { self.new.given.items ≡ slice_set self.old.given.items edge (slice_index self.old.given.items edge + 1) }
+        ensures given { self.new.given.items
+            ≡ slice_set self.old.given.items edge (slice_index self.old.given.items edge + 1) }
     {
         let before = self.given[edge as usize];
         self.given[edge as usize] = before + 1;
@@ -103,7 +106,8 @@ impl Rounds {
 
 // The tokens with which the edges begin.
 fn first_given(alloc: Global, net: &Net) -> Result<Vec<u64>, NoMemory>
-    ensures { IfOk result (λ given. Tells (first_tokens net.now) given.items (length net.now.edges)) }
+    ensures { IfOk result
+        (λ given. Tells (first_tokens net.now) given.items (length net.now.edges)) }
 {
     let mut given = Vec::with_capacity(alloc, net.edges().len())?;
     for row in net.edges() {
@@ -116,7 +120,9 @@ fn first_given(alloc: Global, net: &Net) -> Result<Vec<u64>, NoMemory>
 fn first_rounds(alloc: Global, net: &Net, given: &[u64]) -> Result<Vec<Round>, NoMemory>
     requires { length given.now ≡ length net.now.edges }
     ensures len { IfOk result (λ rounds. length rounds.items ≡ length net.now.tasks) }
-    ensures each { IfOk result (λ rounds. (t : ℕ) (d : Round) → t < length net.now.tasks → IsRound given.now (strong_in net.now t) (slice_index_or rounds.items t d)) }
+    ensures each { IfOk result
+        (λ rounds. (t : ℕ) (d : Round) → t < length net.now.tasks
+        → IsRound given.now (strong_in net.now t) (slice_index_or rounds.items t d)) }
 {
     let tasks = net.tasks().len();
     let mut rounds = Vec::with_capacity(alloc, tasks)?;

@@ -6,7 +6,8 @@ ghost use Rattle.journal_rules.specs.Complete.{least};
 pub fn add_one(counts: &mut Vec<u64>, at: usize)
     requires place { at < length counts.old.items }
     requires room { slice_index counts.old.items at < 2 ^ 63 }
-    ensures { counts.new.items ≡ slice_set counts.old.items at (slice_index counts.old.items at + 1) }
+    ensures { counts.new.items
+        ≡ slice_set counts.old.items at (slice_index counts.old.items at + 1) }
 {
     counts[at] += 1;
 }

@@ -40,7 +40,8 @@ pub struct UnitCount {
 impl UnitCount {
     // Whether `putters` was above `closed_takers` after the entry at a place.
     fn was_over(&self, place: u64) -> bool
-        ensures { IsTrue result ↔ ((place < self.now.last_over) ⊎ (self.now.closed_takers < self.now.putters)) }
+        ensures { IsTrue result
+            ↔ ((place < self.now.last_over) ⊎ (self.now.closed_takers < self.now.putters)) }
     {
         place < self.last_over || self.closed_takers < self.putters
     }
@@ -87,7 +88,8 @@ impl Units {
         requires len { length self.now.counts.items ≡ length net.now.sems }
         requires small { AreSmall self.now.counts.items }
         ensures { (journal : List Entry) → CountsUnits net.now journal self.now.counts.items
-            → MatchOption result ((s : ℕ) → ¬ WantsUnit net.now journal task s) (λ s. IsLeast (WantsUnit net.now journal task) s) }
+            → MatchOption result ((s : ℕ) → ¬ WantsUnit net.now journal task s)
+            (λ s. IsLeast (WantsUnit net.now journal task) s) }
     {
         let row = task_row(net, task);
         self.first_without(net.sems(), row.takes.as_slice())
@@ -113,7 +115,8 @@ impl Units {
         requires task { task < length net.now.tasks }
         requires len { length self.now.counts.items ≡ length net.now.sems }
         ensures { (journal : List Entry) → CountsUnits net.now journal self.now.counts.items
-            → MatchOption result ((s : ℕ) → ¬ PutsWithNothingOut net.now journal task s) (λ s. IsLeast (PutsWithNothingOut net.now journal task) s) }
+            → MatchOption result ((s : ℕ) → ¬ PutsWithNothingOut net.now journal task s)
+            (λ s. IsLeast (PutsWithNothingOut net.now journal task) s) }
     {
         let row = task_row(net, task);
         self.first_not_out(row.puts.as_slice())
@@ -138,7 +141,8 @@ impl Units {
         requires task { task < length net.now.tasks }
         requires sem { sem < length net.now.sems }
         requires len { length self.now.counts.items ≡ length net.now.sems }
-        ensures { (journal : List Entry) → CountsUnits net.now journal self.now.counts.items → start_at journal place ≡ Some task
+        ensures { (journal : List Entry) → CountsUnits net.now journal self.now.counts.items
+            → start_at journal place ≡ Some task
             → (IsTrue result ↔ IsOverRelease net.now journal sem place task) }
     {
         is_listed(task_row(net, task).puts.as_slice(), sem)
@@ -150,8 +154,9 @@ impl Units {
         requires task { task < length net.now.tasks }
         requires len { length self.old.counts.items ≡ length net.now.sems }
         requires small { AreSmall self.old.counts.items }
-        ensures { (limit : ℕ) (journal : List Entry) (cause : Cause) (ins : List Part) → IsReached net.now limit journal
-            → CountsUnits net.now journal self.old.counts.items → CountsUnits net.now (journal ++ Start task cause ins ∷ []) self.new.counts.items }
+        ensures { (limit : ℕ) (journal : List Entry) (cause : Cause) (ins : List Part)
+            → IsReached net.now limit journal → CountsUnits net.now journal self.old.counts.items
+            → CountsUnits net.now (journal ++ Start task cause ins ∷ []) self.new.counts.items }
     {
         let row = task_row(net, task);
         let takes = row.takes.as_slice();
@@ -164,8 +169,10 @@ impl Units {
         requires task { task < length net.now.tasks }
         requires len { length self.old.counts.items ≡ length net.now.sems }
         requires small { AreSmall self.old.counts.items }
-        ensures { (limit : ℕ) (journal : List Entry) (start : ℕ) (gives : List ℕ) (inner : Bool) → IsReached net.now limit journal → ClosesTask journal start task → place ≡ length journal
-            → CountsUnits net.now journal self.old.counts.items → CountsUnits net.now (journal ++ End start gives inner ∷ []) self.new.counts.items }
+        ensures { (limit : ℕ) (journal : List Entry) (start : ℕ) (gives : List ℕ) (inner : Bool)
+            → IsReached net.now limit journal → ClosesTask journal start task
+            → place ≡ length journal → CountsUnits net.now journal self.old.counts.items
+            → CountsUnits net.now (journal ++ End start gives inner ∷ []) self.new.counts.items }
     {
         let row = task_row(net, task);
         let puts = row.puts.as_slice();
@@ -178,8 +185,10 @@ impl Units {
         requires task { task < length net.now.tasks }
         requires len { length self.old.counts.items ≡ length net.now.sems }
         requires small { AreSmall self.old.counts.items }
-        ensures { (limit : ℕ) (journal : List Entry) (start : ℕ) (why : Why) → IsReached net.now limit journal → ClosesTask journal start task → place ≡ length journal
-            → CountsUnits net.now journal self.old.counts.items → CountsUnits net.now (journal ++ Fault start why ∷ []) self.new.counts.items }
+        ensures { (limit : ℕ) (journal : List Entry) (start : ℕ) (why : Why)
+            → IsReached net.now limit journal → ClosesTask journal start task
+            → place ≡ length journal → CountsUnits net.now journal self.old.counts.items
+            → CountsUnits net.now (journal ++ Fault start why ∷ []) self.new.counts.items }
     {
         let row = task_row(net, task);
         close_takers(
@@ -260,7 +269,8 @@ fn close_takers(counts: &mut Vec<UnitCount>, takes: &[u32], puts: &[u32], place:
     requires puts_rising { IsStrictlyIncreasing puts.now }
     requires in_range { All (λ s. s < length counts.old.items) takes.now }
     requires room { All (λ (u : UnitCount). u.closed_takers < 2 ^ 63) counts.old.items }
-    ensures { Changed (with_closed place) (is_other puts.now) counts.old.items counts.new.items takes.now }
+    ensures { Changed (with_closed place) (is_other puts.now)
+        counts.old.items counts.new.items takes.now }
 {
     for sem in takes {
         if !is_listed(puts, *sem) {

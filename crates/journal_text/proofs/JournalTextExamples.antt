@@ -8,7 +8,7 @@ use Rattle.journal_rules.specs.declared.entry.DropWhy.TheVariants.{Halted, Limit
 use Rattle.journal_rules.specs.declared.entry.Entry.{Entry}
 use Rattle.journal_rules.specs.declared.entry.Entry.TheVariants.{Start, End, Fault, Drop}
 use Rattle.journal_text.specs.declared.version.Version.TheVariants.{One, Two}
-use Rattle.journal_text.specs.declared.reading.JournalError.TheVariants.{BadLine, NoMemory}
+use Rattle.journal_text.specs.declared.reader.JournalError.TheVariants.{BadLine, NoMemory}
 use Rattle.journal_text.specs.JournalText.{entry_line, journal_text, FitsCause, FitsPart, FitsWhy, FitsDropWhy, HasLine, IsJournalText, BeginsWithText, IsBadLine, RefusesJournal}
 use Rattle.journal_text.specs.inside.Reading.{version_at, entry_at, unlisted_at, start_line_at, end_line_at, fault_line_at, place_at, task_at, release_at, why_at, number_at, index_at, named_number_at, named_index_at}
 use Rattle.journal_text.proofs.TextLemmas.{no_first_line, bad_line, one_line, one_journal}

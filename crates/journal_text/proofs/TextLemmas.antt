@@ -5,8 +5,8 @@ use Rattle.journal_rules.specs.declared.entry.Entry.{Entry}
 use Rattle.journal_rules.specs.declared.entry.Entry.TheVariants.{Start, End, Fault, Drop}
 use Rattle.journal_text.specs.declared.version.Version.{Version}
 use Rattle.journal_text.specs.JournalText.{HasLine, entry_line, version_line, journal_text, IsJournalText, BeginsWithText, IsBadLine, RefusesJournal}
-use Rattle.journal_text.specs.declared.reading.JournalError.{JournalError}
-use Rattle.journal_text.specs.declared.reading.JournalError.TheVariants.{BadLine, NoMemory}
+use Rattle.journal_text.specs.declared.reader.JournalError.{JournalError}
+use Rattle.journal_text.specs.declared.reader.JournalError.TheVariants.{BadLine, NoMemory}
 use Rattle.std.proofs.lemmas.Bool.{cases_Bool, ltb-true, ltb-false}
 use Rattle.std.proofs.lemmas.Grind.{flat_map-append}
 use Rattle.std.proofs.lemmas.List.{length_push, length-take-le, take-append-drop}

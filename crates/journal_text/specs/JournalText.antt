@@ -13,8 +13,8 @@ use Rattle.journal_rules.specs.declared.entry.Entry.{Entry}
 use Rattle.journal_rules.specs.declared.entry.Entry.TheVariants.{Start, End, Fault, Drop}
 use Rattle.journal_text.specs.declared.version.Version.{Version}
 use Rattle.journal_text.specs.declared.version.Version.TheVariants.{One, Two}
-use Rattle.journal_text.specs.declared.reading.JournalError.{JournalError}
-use Rattle.journal_text.specs.declared.reading.JournalError.TheVariants.{BadLine, NoMemory}
+use Rattle.journal_text.specs.declared.reader.JournalError.{JournalError}
+use Rattle.journal_text.specs.declared.reader.JournalError.TheVariants.{BadLine, NoMemory}
 
 -- The fields of a line.
 

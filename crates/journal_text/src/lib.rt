@@ -13,12 +13,12 @@ mod laws;
 mod line_fault;
 mod lines;
 mod lists;
-mod printing;
-mod reading;
+mod printer;
+mod reader;
 mod version;
 mod words;
 
 pub use laws::{one_bad_line, one_journal};
-pub use printing::print_journal;
-pub use reading::{JournalError, read_journal};
+pub use printer::print_journal;
+pub use reader::{JournalError, read_journal};
 pub use version::Version;

@@ -5,7 +5,7 @@ ghost use Rattle.journal_text.specs.declared.line_fault.LineFault.TheVariants.{N
 use outside_io::{Back, NoMemory};
 
 /// Why the front of the bytes wasn't read.
-#[derive(Clone, Copy, Debug, PartialEq, Eq)]
+#[derive(Clone, Copy)]
 pub(crate) enum LineFault {
     /// Something else is there.
     Bad,

@@ -73,7 +73,9 @@ fn more_items<'a, T: ListItem>(
     count: usize,
     bytes: &'a [u8],
 ) -> Result<&'a [u8], LineFault>
-    ensures read { IfOk result (λ rest. (more : List T) × (items.new ≡ items.old ++ more) × (items_on T.read_at count bytes.now ≡ Some (more, rest.now))) }
+    ensures read { IfOk result
+        (λ rest. (more : List T) × (items.new ≡ items.old ++ more)
+        × (items_on T.read_at count bytes.now ≡ Some (more, rest.now))) }
     ensures bad { IsErrOf result LineFault.Bad → items_on T.read_at count bytes.now ≡ None }
 {
     let mut rest = bytes;
@@ -85,7 +87,9 @@ fn more_items<'a, T: ListItem>(
 
 // Puts the item behind a comma at the end, and gives what follows it.
 fn push_next<'a, T: ListItem>(items: &mut List<T>, bytes: &'a [u8]) -> Result<&'a [u8], LineFault>
-    ensures read { IfOk result (λ rest. (x : T) × (items.new ≡ items.old ++ x ∷ []) × (next_item T.read_at bytes.now ≡ Some (x, rest.now))) }
+    ensures read { IfOk result
+        (λ rest. (x : T) × (items.new ≡ items.old ++ x ∷ [])
+        × (next_item T.read_at bytes.now ≡ Some (x, rest.now))) }
     ensures bad { IsErrOf result LineFault.Bad → next_item T.read_at bytes.now ≡ None }
 {
     let Some((item, rest)) = next_item(bytes) else {

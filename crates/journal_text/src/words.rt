@@ -37,7 +37,9 @@ fn begins_number(bytes: &[u8]) -> bool
 
 // The number that the digits at the front write, if it has 64 bits, and what follows them.
 fn digits_at(bytes: &[u8]) -> Option<(u64, &[u8])>
-    ensures { option_map (λ x. (x.0, x.1.now)) result ≡ (if nat_lt (number_on 0 bytes.now).0 (2 ^ 64) then Some (number_on 0 bytes.now) else None) }
+    ensures { option_map (λ x. (x.0, x.1.now)) result
+        ≡ (if nat_lt (number_on 0 bytes.now).0 (2 ^ 64)
+            then Some (number_on 0 bytes.now) else None) }
 {
     let mut value = 0u64;
     for (i, byte) in bytes.iter().enumerate() {

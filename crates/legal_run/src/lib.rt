@@ -24,9 +24,8 @@ mod verdict;
 mod waiting;
 mod walk;
 
-pub use journal_rules::{Cause, DropWhy, Entry, Journal, Part, Span, Why};
 pub use laws::one_refusal_or_none;
-pub use machine::{MAX_LIMIT, Machine};
+pub use machine::Machine;
 pub use machine_error::MachineError;
 pub use ready::Ready;
 pub use verdict::{Break, Verdict};

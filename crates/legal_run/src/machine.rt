@@ -3,7 +3,7 @@ ghost use Rattle.std.specs.Prelude.{◌≡◌, ◌↔◌, ◌≤◌, ◌<◌, �
 ghost use Rattle.std.specs.Arc.{arc_value};
 ghost use Rattle.task_graph.specs.Net.{strong_in};
 ghost use Rattle.journal_rules.specs.declared.entry.Entry.TheVariants.{End, Fault, Drop};
-ghost use Rattle.journal_rules.specs.Counts.{given, used, is_open, starts, faults};
+ghost use Rattle.journal_rules.specs.Counts.{given, used, is_open};
 ghost use Rattle.journal_rules.specs.ShapeLegal.{ShapeLegal, MeetsDataRule, CauseInRange};
 ghost use Rattle.journal_rules.specs.Complete.{Complete, least};
 ghost use Rattle.journal_rules.specs.Waiting.{waiting_parts};
@@ -22,9 +22,6 @@ use std::alloc::Global;
 use std::marker::Model;
 use std::sync::Arc;
 use task_graph::Net;
-
-/// The greatest limit of starts that a job may have. A machine takes any limit.
-pub const MAX_LIMIT: u64 = 2_097_153;
 
 /// A run of a net by one thread, as far as it has come.
 ///
@@ -57,7 +54,8 @@ impl Model for Machine {
 impl Machine {
     /// A run that hasn't begun.
     pub fn new(alloc: Global, net: Arc<Net>, limit: u64) -> Result<Machine, NoMemory>
-        ensures { IfOk result (λ m. m ≡ record { net = arc_value net; limit = limit; journal = [] }) }
+        ensures { IfOk result
+            (λ m. m ≡ record { net = arc_value net; limit = limit; journal = [] }) }
     {
         let _rows = net.tasks();
         let counts = Counts::new(alloc, &net, 0)?;
@@ -81,15 +79,6 @@ impl Machine {
         ensures data_rule { MeetsDataRule self.now.net self.now.journal }
     {
         &self.journal
-    }
-
-    /// The journal of a run that takes no more steps.
-    pub fn into_journal(self) -> Journal
-        ensures journal { result ≡ self.journal }
-        ensures legal { ShapeLegal self.net self.limit self.journal }
-        ensures data_rule { MeetsDataRule self.net self.journal }
-    {
-        self.journal
     }
 
     /// Starts a task by a release, and gives the index of the Start. Its parts are what waits at the edges that
@@ -208,7 +197,8 @@ impl Machine {
     pub fn parts(&self, task: u32, cause: Cause) -> Result<List<Part>, NoMemory>
         requires task { task < length self.now.net.tasks }
         requires cause { CauseInRange self.now.net cause }
-        ensures { IfOk result (λ parts. parts ≡ waiting_parts self.now.net task cause self.now.journal) }
+        ensures { IfOk result
+            (λ parts. parts ≡ waiting_parts self.now.net task cause self.now.journal) }
     {
         self.waiting.parts_of(self.alloc, &self.net, task, cause)
     }
@@ -216,23 +206,11 @@ impl Machine {
     /// How many rounds of tokens the strong in-edges of a task hold: how often it can be started by them.
     pub fn rounds(&self, task: u32) -> u64
         requires { task < length self.now.net.tasks }
-        ensures { result ≡ least (map (λ e. given self.now.net e self.now.journal) (strong_in self.now.net task)) - used task self.now.journal }
+        ensures { result ≡ least
+            (map (λ e. given self.now.net e self.now.journal) (strong_in self.now.net task))
+            - used task self.now.journal }
     {
         self.position().rounds(task)
-    }
-
-    /// How many starts there are.
-    pub fn starts(&self) -> u64
-        ensures { result ≡ starts self.now.journal }
-    {
-        self.counts.starts
-    }
-
-    /// How many starts have faulted.
-    pub fn faults(&self) -> u64
-        ensures { result ≡ faults self.now.journal }
-    {
-        self.counts.faults
     }
 
     // The position after the journal.

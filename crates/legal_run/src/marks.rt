@@ -53,7 +53,8 @@ fn mark_each(flags: &mut Vec<bool>, numbers: &[u32]) -> bool
     requires clear { AreClear flags.old.items }
     ensures distinct { IsTrue result ↔ IsDistinct ◌==◌ numbers.now }
     ensures len { length flags.new.items ≡ length flags.old.items }
-    ensures each { (k : ℕ) (d : Bool) → k < length flags.old.items → slice_index_or flags.new.items k d ≡ list_any (λ n. n == k) numbers.now }
+    ensures each { (k : ℕ) (d : Bool) → k < length flags.old.items
+        → slice_index_or flags.new.items k d ≡ list_any (λ n. n == k) numbers.now }
 {
     let mut distinct = true;
     for number in numbers {

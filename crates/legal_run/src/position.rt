@@ -66,8 +66,10 @@ impl<'j> Position<'j> {
 
     /// Which rule a Start breaks, if any. What it finds doesn't matter.
     pub fn check_start(&self, task: u32, cause: Cause) -> Result<(), Break>
-        ensures { (ins : List Part) → MatchResult result (λ _. MayFollow self.now.net self.now.limit self.now.journal (Start task cause ins))
-            (λ break. IsRefusal self.now.net self.now.limit self.now.journal (Start task cause ins) break) }
+        ensures { (ins : List Part) → MatchResult result
+            (λ _. MayFollow self.now.net self.now.limit self.now.journal (Start task cause ins))
+            (λ break. IsRefusal self.now.net self.now.limit self.now.journal
+            (Start task cause ins) break) }
     {
         if !self.names(task, cause) {
             return Err(Break::NoSuch);
@@ -89,7 +91,8 @@ impl<'j> Position<'j> {
 
     // Whether a release names a task and an edge of the net.
     fn names(&self, task: u32, cause: Cause) -> bool
-        ensures { IsTrue result ↔ ((task < length self.now.net.tasks) × CauseInRange self.now.net cause) }
+        ensures { IsTrue result
+            ↔ ((task < length self.now.net.tasks) × CauseInRange self.now.net cause) }
     {
         let is_task = (task as usize) < self.net.tasks().len();
         match cause {
@@ -110,7 +113,8 @@ impl<'j> Position<'j> {
     // The least semaphore that a task takes and that has no unit.
     fn wanted(&self, task: u32) -> Option<u32>
         requires { task < length self.now.net.tasks }
-        ensures { MatchOption result ((s : ℕ) → ¬ WantsUnit self.now.net self.now.journal task s) (λ s. IsLeast (WantsUnit self.now.net self.now.journal task) s) }
+        ensures { MatchOption result ((s : ℕ) → ¬ WantsUnit self.now.net self.now.journal task s)
+            (λ s. IsLeast (WantsUnit self.now.net self.now.journal task) s) }
     {
         self.counts.units.wanted(self.net, task)
     }
@@ -124,8 +128,11 @@ impl<'j> Position<'j> {
         inner: bool,
     ) -> Result<u32, Break>
         requires { marks.old ≡ length self.now.net.edges }
-        ensures checked { MatchResult result (λ task. MayFollow self.now.net self.now.limit self.now.journal (End start gives.now inner) × ClosesTask self.now.journal start task)
-            (λ break. IsRefusal self.now.net self.now.limit self.now.journal (End start gives.now inner) break) }
+        ensures checked { MatchResult result
+            (λ task. MayFollow self.now.net self.now.limit self.now.journal (End start gives.now inner)
+            × ClosesTask self.now.journal start task)
+            (λ break. IsRefusal self.now.net self.now.limit self.now.journal
+            (End start gives.now inner) break) }
         ensures task { IfOk result (λ task. task < length self.now.net.tasks) }
         ensures marks { marks.new ≡ marks.old }
     {
@@ -149,7 +156,9 @@ impl<'j> Position<'j> {
 
     // The task of the open Start at a place, if one is there.
     fn open_task(&self, start: u64) -> Option<u32>
-        ensures { MatchOption result (¬ IsTrue (is_open self.now.journal start)) (λ task. (ClosesTask self.now.journal start task × IsTrue (is_open self.now.journal start)) × (task < length self.now.net.tasks)) }
+        ensures { MatchOption result (¬ IsTrue (is_open self.now.journal start))
+            (λ task. (ClosesTask self.now.journal start task × IsTrue (is_open self.now.journal start))
+            × (task < length self.now.net.tasks)) }
     {
         if !self.counts.open_starts.is_open(start as usize) {
             return None;
@@ -162,7 +171,10 @@ impl<'j> Position<'j> {
         requires task { task < length self.now.net.tasks }
         requires edges { All (λ e. e < length self.now.net.edges) gives.now }
         requires marks { marks.old ≡ length self.now.net.edges }
-        ensures fits { IsTrue result ↔ IsSomeAnd (slice_get self.now.net.tasks task) (λ (row : TaskRow). GivesFit row.shape (out_edges self.now.net task) gives.now × InnerFits row.shape inner) }
+        ensures fits { IsTrue result
+            ↔ IsSomeAnd (slice_get self.now.net.tasks task)
+            (λ (row : TaskRow). GivesFit row.shape (out_edges self.now.net task) gives.now
+            × InnerFits row.shape inner) }
         ensures marks { marks.new ≡ marks.old }
     {
         let shape = task_row(self.net, task).shape;
@@ -172,15 +184,20 @@ impl<'j> Position<'j> {
     // The least semaphore that a task puts and of which nothing is out.
     fn not_out(&self, task: u32) -> Option<u32>
         requires { task < length self.now.net.tasks }
-        ensures { MatchOption result ((s : ℕ) → ¬ PutsWithNothingOut self.now.net self.now.journal task s) (λ s. IsLeast (PutsWithNothingOut self.now.net self.now.journal task) s) }
+        ensures { MatchOption result
+            ((s : ℕ) → ¬ PutsWithNothingOut self.now.net self.now.journal task s)
+            (λ s. IsLeast (PutsWithNothingOut self.now.net self.now.journal task) s) }
     {
         self.counts.units.not_out(self.net, task)
     }
 
     /// Which rule a Fault breaks, if any; else the task of the start that it closes.
     pub fn check_fault(&self, start: u64, why: Why) -> Result<u32, Break>
-        ensures checked { MatchResult result (λ task. MayFollow self.now.net self.now.limit self.now.journal (Fault start why) × ClosesTask self.now.journal start task)
-            (λ break. IsRefusal self.now.net self.now.limit self.now.journal (Fault start why) break) }
+        ensures checked { MatchResult result
+            (λ task. MayFollow self.now.net self.now.limit self.now.journal (Fault start why)
+            × ClosesTask self.now.journal start task)
+            (λ break. IsRefusal self.now.net self.now.limit self.now.journal
+            (Fault start why) break) }
         ensures task { IfOk result (λ task. task < length self.now.net.tasks) }
     {
         if !self.has_why(why) {
@@ -227,8 +244,10 @@ impl<'j> Position<'j> {
 
     /// Which rule a Drop breaks, if any.
     pub fn check_drop(&self, task: u32, cause: Cause, why: DropWhy) -> Result<(), Break>
-        ensures { MatchResult result (λ _. MayFollow self.now.net self.now.limit self.now.journal (Drop task cause why))
-            (λ break. IsRefusal self.now.net self.now.limit self.now.journal (Drop task cause why) break) }
+        ensures { MatchResult result
+            (λ _. MayFollow self.now.net self.now.limit self.now.journal (Drop task cause why))
+            (λ break. IsRefusal self.now.net self.now.limit self.now.journal
+            (Drop task cause why) break) }
     {
         if !self.names(task, cause) || !self.has_drop_why(why) {
             return Err(Break::NoSuch);
@@ -256,7 +275,8 @@ impl<'j> Position<'j> {
     fn check_why(&self, task: u32, why: DropWhy) -> Result<(), Break>
         requires task { task < length self.now.net.tasks }
         requires why { DropWhyInRange self.now.net why }
-        ensures { MatchResult result (λ _. DropRule self.now.net self.now.journal task why) (λ break. BreaksWhy self.now.net self.now.journal task why break) }
+        ensures { MatchResult result (λ _. DropRule self.now.net self.now.journal task why)
+            (λ break. BreaksWhy self.now.net self.now.journal task why break) }
     {
         match why {
             DropWhy::Halted if self.has_no_fault() => Err(Break::NotHalted),
@@ -319,7 +339,9 @@ impl<'j> Position<'j> {
     /// How many rounds of tokens the strong in-edges of a task hold.
     pub fn rounds(&self, task: u32) -> u64
         requires { task < length self.now.net.tasks }
-        ensures { result ≡ least (map (λ e. given self.now.net e self.now.journal) (strong_in self.now.net task)) - used task self.now.journal }
+        ensures { result ≡ least
+            (map (λ e. given self.now.net e self.now.journal) (strong_in self.now.net task))
+            - used task self.now.journal }
     {
         self.counts.releases.rounds_left(self.net, task)
     }
@@ -340,7 +362,9 @@ impl<'j> Position<'j> {
 
     // Whether all the starts were made, if a release was dropped at the limit.
     fn reaches_limit(&self) -> bool
-        ensures { IsTrue result ↔ (count_by is_limited self.now.journal ≢ 0 → starts self.now.journal ≡ self.now.limit) }
+        ensures { IsTrue result
+            ↔ (count_by is_limited self.now.journal ≢ 0
+            → starts self.now.journal ≡ self.now.limit) }
     {
         !self.counts.is_limited || self.counts.starts == self.limit
     }

@@ -24,7 +24,8 @@ pub struct Ready {
 /// in-edges in order.
 pub fn ready_list(alloc: Global, net: &Net, releases: &Releases) -> Result<List<Ready>, NoMemory>
     requires few { AreFew net.now releases.now }
-    ensures { (journal : List Entry) → CountsReleases net.now journal releases.now → IfOk result (λ list. list ≡ ready_list net.now journal) }
+    ensures { (journal : List Entry) → CountsReleases net.now journal releases.now
+        → IfOk result (λ list. list ≡ ready_list net.now journal) }
 {
     let mut list = List::new(alloc);
     for task in 0..net.tasks().len() as u32 {
@@ -42,7 +43,8 @@ fn add_task(
 ) -> Result<(), NoMemory>
     requires task { task < length net.now.tasks }
     requires few { AreFew net.now releases.now }
-    ensures { (journal : List Entry) → CountsReleases net.now journal releases.now → OnOk result (list.new ≡ list.old ++ ready_of net.now journal task) }
+    ensures { (journal : List Entry) → CountsReleases net.now journal releases.now
+        → OnOk result (list.new ≡ list.old ++ ready_of net.now journal task) }
 {
     add_row(list, task, Cause::Source, releases.source_left(net, task))?;
     add_row(list, task, Cause::Strong, releases.rounds_left(net, task))?;
@@ -59,7 +61,8 @@ fn add_weak(
 ) -> Result<(), NoMemory>
     requires edges { All (λ e. e < length net.now.edges) edges.now }
     requires few { AreFew net.now releases.now }
-    ensures { (journal : List Entry) → CountsReleases net.now journal releases.now → OnOk result (list.new ≡ list.old ++ ready_weak net.now journal task edges.now) }
+    ensures { (journal : List Entry) → CountsReleases net.now journal releases.now
+        → OnOk result (list.new ≡ list.old ++ ready_weak net.now journal task edges.now) }
 {
     for edge in edges {
         add_row(

@@ -44,7 +44,8 @@ impl Waiting {
         requires task { task < length net.now.tasks }
         requires cause { CauseInRange net.now cause }
         requires len { length self.old.parts.items ≡ length net.now.edges }
-        ensures { (journal : List Entry) (entry : Entry) → IsUseOf task cause entry → TellsWaiting net.now journal self.old.parts.items
+        ensures { (journal : List Entry) (entry : Entry) → IsUseOf task cause entry
+            → TellsWaiting net.now journal self.old.parts.items
             → TellsWaiting net.now (journal ++ entry ∷ []) self.new.parts.items }
     {
         match cause {
@@ -59,7 +60,8 @@ impl Waiting {
     /// Puts an End at a place to the edges that it gives.
     pub fn give(&mut self, gives: &[u32], place: u64)
         requires { All (λ e. e < length self.old.parts.items) gives.now }
-        ensures { (net : NetRows) (journal : List Entry) (start : ℕ) (inner : Bool) → TellsWaiting net journal self.old.parts.items → place ≡ length journal
+        ensures { (net : NetRows) (journal : List Entry) (start : ℕ) (inner : Bool)
+            → TellsWaiting net journal self.old.parts.items → place ≡ length journal
             → TellsWaiting net (journal ++ End start gives.now inner ∷ []) self.new.parts.items }
     {
         put_each(&mut self.parts, gives, Part::From(place));
@@ -102,7 +104,8 @@ fn put_each(parts: &mut Vec<Part>, places: &[u32], part: Part)
 // The parts at these places, in order.
 fn parts_at(alloc: Global, parts: &[Part], places: &[u32]) -> Result<List<Part>, NoMemory>
     requires { All (λ at. at < length parts.now) places.now }
-    ensures { IfOk result (λ list. list ≡ map (λ at. slice_index_or parts.now at Nothing) places.now) }
+    ensures { IfOk result
+        (λ list. list ≡ map (λ at. slice_index_or parts.now at Nothing) places.now) }
 {
     let mut list = List::new(alloc);
     for at in places {

@@ -52,24 +52,41 @@ impl Walk {
         requires at { IsAt net.now limit (take place entries.now) self.old }
         requires room { length self.old.counts.open_starts ≡ length entries.now }
         requires size { length entries.now < 2 ^ 61 }
-        ensures walks { IsSomeAnd (slice_get entries.now place) (λ entry. Walks net.now limit self.new (take place entries.now) entry result) }
+        ensures walks { IsSomeAnd (slice_get entries.now place)
+            (λ entry. Walks net.now limit self.new (take place entries.now) entry result) }
         ensures room { length self.new.counts.open_starts ≡ length self.old.counts.open_starts }
     {
-        let before = &entries[..place];
         match entries.get(place) {
-            Some(Entry::Start { task, cause, .. }) => self.start(net, limit, before, *task, *cause),
-            Some(
-                Entry::End {
-                    start,
-                    gives,
-                    inner,
-                },
-            ) => self.end(net, limit, before, *start, gives.as_slice(), *inner),
-            Some(Entry::Fault { start, why }) => self.fault(net, limit, before, *start, *why),
-            Some(Entry::Drop { task, cause, why }) => self.drop_release(
-                net, limit, before, *task, *cause, *why,
-            ),
+            Some(entry) => self.count_entry(net, limit, &entries[..place], entry),
             None => unreachable!(),
+        }
+    }
+
+    // Counts an entry behind others, or says which rule it breaks.
+    fn count_entry(
+        &mut self,
+        net: &Net,
+        limit: u64,
+        before: &[Entry],
+        entry: &Entry,
+    ) -> Result<(), Break>
+        requires at { IsAt net.now limit before.now self.old }
+        requires room { length before.now < length self.old.counts.open_starts }
+        requires size { length before.now < 2 ^ 61 }
+        ensures walks { Walks net.now limit self.new before.now entry.now result }
+        ensures room { length self.new.counts.open_starts ≡ length self.old.counts.open_starts }
+    {
+        match entry {
+            Entry::Start { task, cause, .. } => self.start(net, limit, before, *task, *cause),
+            Entry::End {
+                start,
+                gives,
+                inner,
+            } => self.end(net, limit, before, *start, gives.as_slice(), *inner),
+            Entry::Fault { start, why } => self.fault(net, limit, before, *start, *why),
+            Entry::Drop { task, cause, why } => {
+                self.drop_release(net, limit, before, *task, *cause, *why)
+            }
         }
     }
 
@@ -84,7 +101,8 @@ impl Walk {
         requires at { IsAt net.now limit before.now self.old }
         requires room { length before.now < length self.old.counts.open_starts }
         requires size { length before.now < 2 ^ 61 }
-        ensures walks { (ins : List Part) → Walks net.now limit self.new before.now (Start task cause ins) result }
+        ensures walks { (ins : List Part)
+            → Walks net.now limit self.new before.now (Start task cause ins) result }
         ensures room { length self.new.counts.open_starts ≡ length self.old.counts.open_starts }
     {
         let position = Position::new(net, limit, before, &self.counts);

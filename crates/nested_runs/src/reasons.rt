@@ -44,7 +44,10 @@ fn fault_reason<J: Job>(
     run: &FrameRun<J>,
     fault: Faulted,
 ) -> Result<Reason, NoMemory>
-    ensures { IfOk result (λ reason. reason ≡ faulted (unwrap_or (start_at (journal_of run.now) fault.start) 0) fault.why (inner_reason_at J.meaning run.now fault.place)) }
+    ensures { IfOk result
+        (λ reason. reason
+        ≡ faulted (unwrap_or (start_at (journal_of run.now) fault.start) 0) fault.why
+        (inner_reason_at J.meaning run.now fault.place)) }
 {
     let task = started(run.journal.as_slice(), fault.start);
     if fault.why == Why::Inner {
@@ -62,7 +65,8 @@ fn inner_reason<J: Job>(
     rows: &[InnerRow<J>],
     place: u64,
 ) -> Result<Option<Reason>, NoMemory>
-    ensures { IfOk result (λ reason. reason ≡ reason_at (map (row_reason J.meaning) rows.now) place) }
+    ensures { IfOk result
+        (λ reason. reason ≡ reason_at (map (row_reason J.meaning) rows.now) place) }
 {
     for row in rows {
         if row.place == place {

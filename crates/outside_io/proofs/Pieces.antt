@@ -4,8 +4,8 @@ use Rattle.std.specs.List.{flat_map}
 use Rattle.std.proofs.lemmas.List.{take_more, take-append-drop}
 use Rattle.std.proofs.lemmas.Grind.{flat_map-append}
 use Rattle.std.specs.Io.KnownBytes.{append_known}
-use Rattle.outside_io.specs.declared.sink.SinkFault.{SinkFault}
-use Rattle.outside_io.specs.declared.sink.SinkFault.TheVariants.{Failed, NoMemory}
+use Rattle.outside_io.specs.declared.ports.sink.SinkFault.{SinkFault}
+use Rattle.outside_io.specs.declared.ports.sink.SinkFault.TheVariants.{Failed, NoMemory}
 use Rattle.outside_io.specs.Sink.{SinkState, Took, TookBut, Accepts, FailsOn, Writes}
 
 -- Known bytes followed by these and then by those are followed by both.

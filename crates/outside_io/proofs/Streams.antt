@@ -3,8 +3,8 @@ use Rattle.std.proofs.Common.{◌≡◌, ℕ, ◌+◌, ◌-◌, Result, Ok, Err,
 use Rattle.std.proofs.lemmas.List.{take_rest}
 use Rattle.std.specs.Io.KnownBytes.{Appends, Keeps}
 use Rattle.std.proofs.KnownBytes.{Appends-nil, Appends-trans, Appends-kept}
-use Rattle.outside_io.specs.declared.sink.SinkFault.{SinkFault}
-use Rattle.outside_io.specs.declared.sink.SinkFault.TheVariants.{Failed, NoMemory}
+use Rattle.outside_io.specs.declared.ports.sink.SinkFault.{SinkFault}
+use Rattle.outside_io.specs.declared.ports.sink.SinkFault.TheVariants.{Failed, NoMemory}
 use Rattle.outside_io.specs.StdSink.{OpenStream, WroteBut, PutsOn, WritesOn}
 
 -- Before the first write all is left.

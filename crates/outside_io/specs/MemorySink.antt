@@ -1,9 +1,9 @@
 -- Bytes that were put on a sink in memory.
 use Rattle.std.specs.Prelude.{◌≡◌, ◌⊎◌, ℕ, ◌+◌, ◌-◌, ◌^◌, ◌==◌, List, [], ◌++◌, take, find, Option, Some, None, IsSomeAnd, Result, Ok, Err}
-use Rattle.outside_io.specs.declared.memory_sink.FailAt.{FailAt}
+use Rattle.outside_io.specs.declared.for_tests.memory_sink.FailAt.{FailAt}
 use Rattle.outside_io.specs.Sink.{SinkState}
-use Rattle.outside_io.specs.declared.sink.SinkFault.{SinkFault}
-use Rattle.outside_io.specs.declared.sink.SinkFault.TheVariants.{Failed, NoMemory}
+use Rattle.outside_io.specs.declared.ports.sink.SinkFault.{SinkFault}
+use Rattle.outside_io.specs.declared.ports.sink.SinkFault.TheVariants.{Failed, NoMemory}
 
 -- The bytes taken, the puts that are to fail, and how many puts and faults there were.
 pub record TakenBytes : Type 0 where

@@ -1,8 +1,8 @@
 -- Named texts in memory.
 use Rattle.std.specs.Prelude.{◌≡◌, ◌≢◌, ℕ, ◌+◌, List, [], ◌∷◌, ◌++◌, length, AllPairs, Option, option_and_then, position, bytes_eq, slice_get, Contains, Result, Ok, Err}
-use Rattle.outside_io.specs.declared.texts.Found.{Found}
-use Rattle.outside_io.specs.declared.texts.TextsFault.{TextsFault}
-use Rattle.outside_io.specs.declared.texts.TextsFault.TheVariants.{Failed, NoMemory}
+use Rattle.outside_io.specs.declared.ports.texts.Found.{Found}
+use Rattle.outside_io.specs.declared.ports.texts.TextsFault.{TextsFault}
+use Rattle.outside_io.specs.declared.ports.texts.TextsFault.TheVariants.{Failed, NoMemory}
 
 -- The texts under their names, the numbers of the calls that are to fail, how many calls there were, and the names of
 -- those that failed.

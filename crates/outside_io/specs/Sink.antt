@@ -1,8 +1,8 @@
 -- What a sink does with the bytes that it is given.
 use Rattle.std.specs.Prelude.{◌≡◌, ℕ, ◌<◌, List, [], ◌++◌, Option, Result, Ok, Err}
 use Rattle.std.specs.Io.KnownBytes.{append_known}
-use Rattle.outside_io.specs.declared.sink.SinkFault.{SinkFault}
-use Rattle.outside_io.specs.declared.sink.SinkFault.TheVariants.{Failed, NoMemory}
+use Rattle.outside_io.specs.declared.ports.sink.SinkFault.{SinkFault}
+use Rattle.outside_io.specs.declared.ports.sink.SinkFault.TheVariants.{Failed, NoMemory}
 
 -- What a sink is to its callers: the bytes that it has passed on, where it specifies them (else `None`); the
 -- bytes that it has accepted and not passed on yet; and how often it has failed.

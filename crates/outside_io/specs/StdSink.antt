@@ -1,8 +1,8 @@
 -- A stream to write on as a sink.
 use Rattle.std.specs.Prelude.{◌≡◌, ℕ, ◌+◌, ◌-◌, ◌^◌, List, [], ◌++◌, Option, Result, Ok, Err}
 use Rattle.std.specs.Io.KnownBytes.{Appends}
-use Rattle.outside_io.specs.declared.sink.SinkFault.{SinkFault}
-use Rattle.outside_io.specs.declared.sink.SinkFault.TheVariants.{Failed, NoMemory}
+use Rattle.outside_io.specs.declared.ports.sink.SinkFault.{SinkFault}
+use Rattle.outside_io.specs.declared.ports.sink.SinkFault.TheVariants.{Failed, NoMemory}
 
 -- The stream, the bytes held back from it, and how often it has failed.
 pub record OpenStream (W : Type 0) : Type 0 where

@@ -1,9 +1,9 @@
 -- What a source of named texts holds, what a read of one finds, and which reads have failed.
 use Rattle.std.specs.Prelude.{◌≡◌, ℕ, ◌<◌, ◌≤◌, List, [], ◌∷◌, ◌++◌, length, Option, Some, None, IfSome, IsSomeAnd, Result, Err}
-use Rattle.outside_io.specs.declared.texts.Found.{Found}
-use Rattle.outside_io.specs.declared.texts.Found.TheVariants.{Text, Missing, Longer}
-use Rattle.outside_io.specs.declared.texts.TextsFault.{TextsFault}
-use Rattle.outside_io.specs.declared.texts.TextsFault.TheVariants.{Failed}
+use Rattle.outside_io.specs.declared.ports.texts.Found.{Found}
+use Rattle.outside_io.specs.declared.ports.texts.Found.TheVariants.{Text, Missing, Longer}
+use Rattle.outside_io.specs.declared.ports.texts.TextsFault.{TextsFault}
+use Rattle.outside_io.specs.declared.ports.texts.TextsFault.TheVariants.{Failed}
 
 -- the texts that a source holds, where it specifies them
 abbrev pub SourceTexts : Type 0

@@ -170,7 +170,8 @@ impl<'a, T> IntoIterator for &'a List<T> {
 
     type IntoIter = slice::Iter<'a, T>;
 
-    ghost into_iter_gives = { λ list it. (iter_rest it ≡ list.now) × (length (iter_rest it) < 2 ^ 64)
+    ghost into_iter_gives = { λ list it. (iter_rest it ≡ list.now)
+        × (length (iter_rest it) < 2 ^ 64)
         × EveryRun (iter_steps {A = T}) (λ p. ItemsMapTo p (λ x. x.now) (iter_rest p.from)) };
 
     fn into_iter(self) -> slice::Iter<'a, T> {

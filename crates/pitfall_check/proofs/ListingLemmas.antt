@@ -12,7 +12,7 @@ use Rattle.pitfall_check.specs.declared.finding.Finding.{Finding}
 use Rattle.pitfall_check.specs.declared.finding.Finding.TheVariants.{NoSource, Mixed, ManyConditions, StrongCycle, NeverReached}
 use Rattle.pitfall_check.specs.Pitfalls.{IsPitfall}
 use Rattle.pitfall_check.specs.Findings.{finding_kind, finding_task, finding_key, AreFindings}
-use Rattle.pitfall_check.specs.inside.Listing.{AreFindingsBelow}
+use Rattle.pitfall_check.specs.inside.PartialFindings.{AreFindingsBelow}
 
 -- two findings of one kind with one task are one
 same_finding : (f g : Finding) → finding_kind f ≡ finding_kind g → finding_task f ≡ finding_task g → f ≡ g
@@ -23,9 +23,9 @@ same_finding (StrongCycle t) (StrongCycle u) kind task = ap StrongCycle task
 same_finding (NeverReached t) (NeverReached u) kind task = ap NeverReached task
 same_finding f g kind task = absurd (omega (arith, kind))
 
--- two findings of one rank are one, where both name tasks
-same_rank : (f g : Finding) → finding_task f < 2 ^ 32 → finding_task g < 2 ^ 32 → finding_key f ≡ finding_key g → f ≡ g
-same_rank f g few many same = same_finding f g (kinds (finding_kind f) (finding_kind g) (finding_task f) (finding_task g) few many same) (tasks (finding_kind f) (finding_kind g) (finding_task f) (finding_task g) few many same)
+-- two findings of one key are one, where both name tasks
+same_key : (f g : Finding) → finding_task f < 2 ^ 32 → finding_task g < 2 ^ 32 → finding_key f ≡ finding_key g → f ≡ g
+same_key f g few many same = same_finding f g (kinds (finding_kind f) (finding_kind g) (finding_task f) (finding_task g) few many same) (tasks (finding_kind f) (finding_kind g) (finding_task f) (finding_task g) few many same)
   where
     kinds : (k l t u : ℕ) → t < 2 ^ 32 → u < 2 ^ 32 → k * 2 ^ 32 + t ≡ l * 2 ^ 32 + u → k ≡ l
     kinds k l t u few many same = omega arith
@@ -49,56 +49,56 @@ task_in_range net (ManyConditions t) is holds = omega (arith, is.task_count, nam
 task_in_range net (StrongCycle t) is holds = omega (arith, is.task_count, named_task net (StrongCycle t) is holds (omega arith))
 task_in_range net (NeverReached t) is holds = omega (arith, is.task_count, holds.in_range)
 
--- one finding more, of the next rank
-pub AreFindingsBelow-more : (net : NetRows) (old : List Finding) (f : Finding) (rank : ℕ)
-    → AreFindingsBelow net rank old → IsNet net → rank ≡ finding_key f → IsPitfall net f → AreFindingsBelow net (rank + 1) (old ++ f ∷ [])
-AreFindingsBelow-more net old f rank so_far is at holds = record {
+-- one finding more, of the next key
+pub AreFindingsBelow-more : (net : NetRows) (old : List Finding) (f : Finding) (key : ℕ)
+    → AreFindingsBelow net key old → IsNet net → key ≡ finding_key f → IsPitfall net f → AreFindingsBelow net (key + 1) (old ++ f ∷ [])
+AreFindingsBelow-more net old f key so_far is at holds = record {
   ordered = all_pairs_push (λ f g. finding_key f < finding_key g) old f so_far.ordered (λ k d below. let low = ((so_far.exact (get_or old k d)).0 (Contains-get_or old k d below)).0 in omega (arith, low, at));
   exact = λ g. (there g, back g);
 }
   where
-    there : (g : Finding) → Contains (old ++ f ∷ []) g → (finding_key g < rank + 1) × IsPitfall net g
+    there : (g : Finding) → Contains (old ++ f ∷ []) g → (finding_key g < key + 1) × IsPitfall net g
     there g here = elim (Contains-push_cases old f g here) [
       | inl before ↦ let known = (so_far.exact g).0 before in (omega (arith, known.0), known.1)
-      | inr same ↦ (let ranks = ap finding_key same in omega (arith, ranks, at), subst (IsPitfall net) same holds)
+      | inr same ↦ (let keys = ap finding_key same in omega (arith, keys, at), subst (IsPitfall net) same holds)
     ]
 
-    back : (g : Finding) → (finding_key g < rank + 1) × IsPitfall net g → Contains (old ++ f ∷ []) g
-    back g (low, is_one) = elim (order (finding_key g) rank) [
+    back : (g : Finding) → (finding_key g < key + 1) × IsPitfall net g → Contains (old ++ f ∷ []) g
+    back g (low, is_one) = elim (order (finding_key g) key) [
       | inl before ↦ Contains-append_left old (f ∷ []) g ((so_far.exact g).1 (before, is_one))
       | inr not_before ↦
-          let ranks : finding_key f ≡ finding_key g = omega (arith, low, not_before, at) in
-          let same = same_rank f g (task_in_range net f is holds) (task_in_range net g is is_one) ranks in
+          let keys : finding_key f ≡ finding_key g = omega (arith, low, not_before, at) in
+          let same = same_key f g (task_in_range net f is holds) (task_in_range net g is is_one) keys in
           subst (Contains (old ++ f ∷ [])) same (Contains-push old f)
     ]
 
--- no finding of the next rank
-pub AreFindingsBelow-none : (net : NetRows) (old : List Finding) (f : Finding) (rank : ℕ)
-    → AreFindingsBelow net rank old → IsNet net → rank ≡ finding_key f → finding_task f < 2 ^ 32 → ¬ IsPitfall net f → AreFindingsBelow net (rank + 1) old
-AreFindingsBelow-none net old f rank so_far is at few fails = record {
+-- no finding of the next key
+pub AreFindingsBelow-none : (net : NetRows) (old : List Finding) (f : Finding) (key : ℕ)
+    → AreFindingsBelow net key old → IsNet net → key ≡ finding_key f → finding_task f < 2 ^ 32 → ¬ IsPitfall net f → AreFindingsBelow net (key + 1) old
+AreFindingsBelow-none net old f key so_far is at few fails = record {
   ordered = so_far.ordered;
   exact = λ g. (λ here. let known = (so_far.exact g).0 here in (omega (arith, known.0), known.1), back g);
 }
   where
-    back : (g : Finding) → (finding_key g < rank + 1) × IsPitfall net g → Contains old g
-    back g (low, is_one) = elim (order (finding_key g) rank) [
+    back : (g : Finding) → (finding_key g < key + 1) × IsPitfall net g → Contains old g
+    back g (low, is_one) = elim (order (finding_key g) key) [
       | inl before ↦ (so_far.exact g).1 (before, is_one)
       | inr not_before ↦
-          let ranks : finding_key f ≡ finding_key g = omega (arith, low, not_before, at) in
-          let same = same_rank f g few (task_in_range net g is is_one) ranks in
+          let keys : finding_key f ≡ finding_key g = omega (arith, low, not_before, at) in
+          let same = same_key f g few (task_in_range net g is is_one) keys in
           absurd (fails (subst (IsPitfall net) (sym same) is_one))
     ]
 
 -- a finding was looked at, and listed where it is one
-pub AreFindingsBelow-step : (net : NetRows) (old : List Finding) (f : Finding) (holds : Bool) (rank next : ℕ)
-    → AreFindingsBelow net rank old → IsNet net → rank ≡ finding_key f → next ≡ finding_key f + 1 → finding_task f < 2 ^ 32 → (IsTrue holds ↔ IsPitfall net f)
+pub AreFindingsBelow-step : (net : NetRows) (old : List Finding) (f : Finding) (holds : Bool) (key next : ℕ)
+    → AreFindingsBelow net key old → IsNet net → key ≡ finding_key f → next ≡ finding_key f + 1 → finding_task f < 2 ^ 32 → (IsTrue holds ↔ IsPitfall net f)
     → AreFindingsBelow net next (if holds then old ++ f ∷ [] else old)
-AreFindingsBelow-step net old f true rank next so_far is at after few tells =
-    let same : rank + 1 ≡ next = omega (arith, at, after) in
-    subst (λ n. AreFindingsBelow net n (old ++ f ∷ [])) same (AreFindingsBelow-more net old f rank so_far is at (tells.0 refl))
-AreFindingsBelow-step net old f false rank next so_far is at after few tells =
-    let same : rank + 1 ≡ next = omega (arith, at, after) in
-    subst (λ n. AreFindingsBelow net n old) same (AreFindingsBelow-none net old f rank so_far is at few (λ holds. absurd (let wrong = tells.1 holds in cc)))
+AreFindingsBelow-step net old f true key next so_far is at after few tells =
+    let same : key + 1 ≡ next = omega (arith, at, after) in
+    subst (λ n. AreFindingsBelow net n (old ++ f ∷ [])) same (AreFindingsBelow-more net old f key so_far is at (tells.0 refl))
+AreFindingsBelow-step net old f false key next so_far is at after few tells =
+    let same : key + 1 ≡ next = omega (arith, at, after) in
+    subst (λ n. AreFindingsBelow net n old) same (AreFindingsBelow-none net old f key so_far is at few (λ holds. absurd (let wrong = tells.1 holds in cc)))
 
 -- past the tasks of one kind come the findings of the next
 pub AreFindingsBelow-next : (net : NetRows) (fs : List Finding) (kind count : ℕ)
@@ -114,7 +114,7 @@ AreFindingsBelow-next net fs kind count so_far is names counted = record {
       | inr later ↦ let below = named later in omega (arith, below, counted)
     ]
 
--- below the rank past all kinds are all findings
+-- below the key past all kinds are all findings
 pub AreFindings-below : (net : NetRows) (fs : List Finding) → IsNet net → AreFindingsBelow net (5 * 2 ^ 32) fs → AreFindings net fs
 AreFindings-below net fs is below = record {
   ordered = below.ordered;
@@ -128,7 +128,7 @@ AreFindings-below net fs is below = record {
     all_below (StrongCycle t) few = omega (arith, few)
     all_below (NeverReached t) few = omega (arith, few)
 
--- without findings none of rank 0 is left out
+-- without findings none of key 0 is left out
 pub AreFindingsBelow-nil : (net : NetRows) → AreFindingsBelow net 0 []
 AreFindingsBelow-nil net = record {
   ordered = λ i j d before below. absurd (omega (arith, below));

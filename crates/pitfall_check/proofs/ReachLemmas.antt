@@ -8,8 +8,8 @@ use Rattle.pitfall_check.specs.declared.way.Way.TheVariants.{Ahead}
 use Rattle.pitfall_check.specs.Walks.{IsReachable}
 use Rattle.pitfall_check.specs.Pitfalls.{IsNeverReached}
 use Rattle.pitfall_check.specs.inside.Steps.{IsStep}
-use Rattle.pitfall_check.specs.inside.Spreading.{IsSpread, FreshStep}
-use Rattle.pitfall_check.specs.inside.Reaching.{MarksReached}
+use Rattle.pitfall_check.specs.inside.MarkSpread.{IsSpread, FreshStep}
+use Rattle.pitfall_check.specs.inside.ReachMarks.{MarksReached}
 use Rattle.pitfall_check.proofs.SpreadLemmas.{same_or_not}
 use Rattle.pitfall_check.proofs.WalkLemmas.{reach_by, walk_of_steps, walk_keeps}
 

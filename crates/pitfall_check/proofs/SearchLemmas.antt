@@ -12,7 +12,7 @@ use Rattle.task_graph.specs.Net.{is_weak, out_edges}
 use Rattle.pitfall_check.specs.declared.progress.Progress.{Progress}
 use Rattle.pitfall_check.specs.declared.progress.Progress.TheVariants.{Unseen, Open, Done}
 use Rattle.pitfall_check.specs.inside.Steps.{IsStrongStep, stays, onward, edge_to}
-use Rattle.pitfall_check.specs.inside.Searching.{progress_of, is_unseen, leads_to_unseen, NoneLeadsToUnseen, Precedes, IsFinishOrder, IsSearch, FindsNext, OnlySeesMore, IsFullOrder}
+use Rattle.pitfall_check.specs.inside.SearchRules.{progress_of, is_unseen, leads_to_unseen, NoneLeadsToUnseen, Precedes, IsFinishOrder, IsSearch, FindsNext, OnlySeesMore, IsFullOrder}
 use Rattle.pitfall_check.proofs.PlaceLemmas.{passing_listed, member_cases, member_first, member_later, no_member}
 use Rattle.pitfall_check.proofs.EdgeLemmas.{both}
 use Rattle.pitfall_check.proofs.StepLemmas.{out_passes, not_true, same_value}

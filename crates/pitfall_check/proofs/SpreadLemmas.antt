@@ -9,7 +9,7 @@ use Rattle.std.proofs.lemmas.List.Elements.{All-nil, All-cons, All-append, All-c
 use Rattle.task_graph.specs.NetRows.{NetRows}
 use Rattle.pitfall_check.specs.declared.way.Way.{Way}
 use Rattle.pitfall_check.specs.inside.Steps.{StepsBy, stays, onward, edges_by, end_by}
-use Rattle.pitfall_check.specs.inside.Spreading.{Adds, unmarked_count, EndIsMarked, EndsAreMarked, FreshReach, IsSpreading, IsSpread}
+use Rattle.pitfall_check.specs.inside.MarkSpread.{Adds, unmarked_count, EndIsMarked, EndsAreMarked, FreshReach, IsSpreading, IsSpread}
 use Rattle.pitfall_check.proofs.PlaceLemmas.{member_first}
 use Rattle.pitfall_check.proofs.StepLemmas.{edge_of_step, same_value}
 

@@ -1,4 +1,3 @@
-pub mod Sources
 pub mod Walks
 pub mod Pitfalls
 pub mod Findings

@@ -6,7 +6,7 @@ use Rattle.task_graph.specs.NetRows.{NetRows}
 use Rattle.task_graph.specs.Net.{strong_in, weak_in}
 use Rattle.pitfall_check.specs.declared.finding.Finding.{Finding}
 use Rattle.pitfall_check.specs.declared.finding.Finding.TheVariants.{NoSource, Mixed, ManyConditions, StrongCycle, NeverReached}
-use Rattle.pitfall_check.specs.Sources.{IsWithoutSource}
+use Rattle.task_graph.specs.Sources.{HasNoSource}
 use Rattle.pitfall_check.specs.Walks.{IsReachable, IsOnStrongCycle}
 
 -- no edge of the net begins with a token
@@ -37,7 +37,7 @@ pub record IsNeverReached (net : NetRows) (t : ℕ) : Type 0 where
 
 -- what a finding says of a net
 abbrev pub IsPitfall : NetRows → Finding → Type 0
-IsPitfall net NoSource = IsWithoutSource net
+IsPitfall net NoSource = HasNoSource net
 IsPitfall net (Mixed t) = IsMixed net t
 IsPitfall net (ManyConditions t) = HasManyConditions net t
 IsPitfall net (StrongCycle t) = IsOnStrongCycle net t

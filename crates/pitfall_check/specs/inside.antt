@@ -1,8 +1,8 @@
 -- Invariants, and relations between private functions.
-pub mod Listing
+pub mod PartialFindings
 pub mod Steps
-pub mod Spreading
-pub mod Reaching
-pub mod Searching
+pub mod MarkSpread
+pub mod ReachMarks
+pub mod SearchRules
 pub mod SearchState
 pub mod Components

@@ -1,7 +1,7 @@
 // The strongly connected components of the strong edges, and the tasks on cycles of them.
 ghost use Rattle.std.specs.Prelude.{◌≡◌, ℕ, List, ◌+◌, ◌∷◌, ◌++◌, [], ◌<◌, ◌≤◌, ◌↔◌, IfOk, IsTrue, OnOk, All, length, reverse};
-ghost use Rattle.pitfall_check.specs.inside.Components.{IsRanking, IsRankingUpTo, KeepsRank};
-ghost use Rattle.pitfall_check.specs.inside.Searching.{IsFinishOrder};
+ghost use Rattle.pitfall_check.specs.inside.Components.{AreComponents, AreComponentsUpTo, StaysInComponent};
+ghost use Rattle.pitfall_check.specs.inside.SearchRules.{IsFinishOrder};
 ghost use Rattle.pitfall_check.specs.inside.Steps.{AreEnds};
 ghost use Rattle.pitfall_check.specs.Walks.{IsOnStrongCycle};
 
@@ -12,71 +12,86 @@ use outside_io::NoMemory;
 use std::alloc::Global;
 use task_graph::Net;
 
-/// A rank for each task, the same for those that reach each other along strong edges. No strong edge leads to a
-/// lower rank.
-pub fn rank_components(alloc: Global, net: &Net, heads: &[u32]) -> Result<Vec<u32>, NoMemory>
+/// A component for each task, the same for those that reach each other along strong edges. No strong edge leads to a
+/// lower component.
+pub fn number_components(alloc: Global, net: &Net, heads: &[u32]) -> Result<Vec<u32>, NoMemory>
     requires { AreEnds Way.Ahead net.now heads.now }
-    ensures { IfOk result (λ ranks. IsRanking net.now ranks.items) }
+    ensures { IfOk result (λ components. AreComponents net.now components.items) }
 {
     let mut left = finish_order(alloc, net, heads)?;
     let tails = Way::StrongBack.ends(alloc, net)?;
-    let mut ranks = vec![in alloc; 0u32; net.tasks().len()]?;
+    let mut components = vec![in alloc; 0u32; net.tasks().len()]?;
     let mut queue = Vec::new(alloc);
-    let mut rank = 0;
+    let mut component = 0;
     while let Some(root) = left.pop() {
-        rank += 1;
-        rank_component(net, tails.as_slice(), root, rank, &mut ranks, &mut queue)?;
+        component += 1;
+        number_component(
+            net,
+            tails.as_slice(),
+            root,
+            component,
+            &mut components,
+            &mut queue,
+        )?;
     }
-    Ok(ranks)
+    Ok(components)
 }
 
-// Ranks the tasks without a rank that reach the root along strong edges.
-fn rank_component(
+// Numbers the tasks without a component that reach the root along strong edges.
+fn number_component(
     net: &Net,
     tails: &[u32],
     root: u32,
-    rank: u32,
-    ranks: &mut [u32],
+    component: u32,
+    components: &mut [u32],
     queue: &mut Vec<u32>,
 ) -> Result<(), NoMemory>
     requires tails { AreEnds Way.StrongBack net.now tails.now }
     requires root { root < length net.now.tasks }
-    requires size { length ranks.old ≡ length net.now.tasks }
-    requires rank { 0 < rank }
-    ensures { OnOk result ((before : ℕ) (left : List ℕ) → rank ≡ before + 1
+    requires size { length components.old ≡ length net.now.tasks }
+    requires component { 0 < component }
+    ensures { OnOk result ((before : ℕ) (left : List ℕ) → component ≡ before + 1
         → IsFinishOrder net.now (reverse (left ++ root ∷ []))
-        → IsRankingUpTo net.now ranks.old before (left ++ root ∷ [])
-        → IsRankingUpTo net.now ranks.new rank left) }
+        → AreComponentsUpTo net.now components.old before (left ++ root ∷ [])
+        → AreComponentsUpTo net.now components.new component left) }
 {
-    if ranks[root as usize] != 0 {
+    if components[root as usize] != 0 {
         return Ok(());
     }
-    spread(net, Way::StrongBack, tails, root, rank, ranks, queue)?;
+    spread(
+        net,
+        Way::StrongBack,
+        tails,
+        root,
+        component,
+        components,
+        queue,
+    )?;
     Ok(())
 }
 
-/// Whether a task is on a cycle of strong edges, by the ranks.
-pub fn is_on_cycle(net: &Net, heads: &[u32], ranks: &[u32], task: u32) -> bool
+/// Whether a task is on a cycle of strong edges, by the components.
+pub fn is_on_cycle(net: &Net, heads: &[u32], components: &[u32], task: u32) -> bool
     requires heads { AreEnds Way.Ahead net.now heads.now }
     requires task { task < length net.now.tasks }
-    requires ranks { IsRanking net.now ranks.now }
+    requires components { AreComponents net.now components.now }
     ensures { IsTrue result ↔ IsOnStrongCycle net.now task }
 {
     for edge in net.out_edges(task) {
-        if keeps_rank(net, heads, ranks, task, *edge) {
+        if stays_in_component(net, heads, components, task, *edge) {
             return true;
         }
     }
     false
 }
 
-// Whether an edge is strong and leads to a task of the rank of another.
-fn keeps_rank(net: &Net, heads: &[u32], ranks: &[u32], task: u32, edge: u32) -> bool
+// Whether an edge is strong and leads to a task of the component of another.
+fn stays_in_component(net: &Net, heads: &[u32], components: &[u32], task: u32, edge: u32) -> bool
     requires heads { AreEnds Way.Ahead net.now heads.now }
     requires edge { edge < length net.now.edges }
     requires task { task < length net.now.tasks }
-    requires size { length ranks.now ≡ length net.now.tasks }
-    ensures { IsTrue result ↔ KeepsRank net.now ranks.now task edge }
+    requires size { length components.now ≡ length net.now.tasks }
+    ensures { IsTrue result ↔ StaysInComponent net.now components.now task edge }
 {
-    ranks[heads[edge as usize] as usize] == ranks[task as usize] && !net.is_weak(edge)
+    components[heads[edge as usize] as usize] == components[task as usize] && !net.is_weak(edge)
 }

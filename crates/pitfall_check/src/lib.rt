@@ -1,11 +1,10 @@
 //! The check of task graphs with conditions: how a graph can go wrong whatever its tasks do, found by its shape alone.
 //!
 //! The layer above calls `check` on a net whose edges begin without tokens and knows that the findings are exactly the
-//! pitfalls of the net, in a fixed order; `has_no_source` looks for one of them alone. They take time and memory in
-//! proportion to tasks and edges, and no call calls itself. The definitions are in `specs/`: `Sources` says in which nets
-//! nothing can begin, `Walks` what a walk reaches, `Pitfalls` what each finding says of a net, and `Findings` in which
-//! order they come. They are computed on small nets in the crate `worked_pitfalls`, which also holds the check against
-//! plain loops.
+//! pitfalls of the net, in a fixed order. The check takes time and memory in proportion to tasks and edges, and no call
+//! calls itself. The definitions are in `specs/`: `Walks` says what a walk reaches, `Pitfalls` what each finding says of a
+//! net, and `Findings` in which order they come. They are computed on small nets in the crate `worked_pitfalls`, which
+//! also holds the check against plain loops.
 //!
 //! Tasks on cycles are found by Kosaraju's two passes: a depth-first search along the strong edges notes the order in
 //! which it finishes tasks, and from the last one on marks spread against the strong edges, one for each component. A
@@ -16,13 +15,12 @@ mod components;
 mod conditions;
 mod ends;
 mod finding;
-mod listing;
+mod findings;
 mod progress;
+mod reach;
 mod search;
-mod sources;
 mod spread;
 mod way;
 
 pub use finding::Finding;
-pub use listing::check;
-pub use sources::has_no_source;
+pub use findings::check;

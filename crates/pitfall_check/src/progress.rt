@@ -1,6 +1,6 @@
 // How far a search is with a task.
 ghost use Rattle.std.specs.Prelude.{◌≡◌};
-ghost use Rattle.pitfall_check.specs.inside.Searching.{is_unseen};
+ghost use Rattle.pitfall_check.specs.inside.SearchRules.{is_unseen};
 
 /// How far a depth-first search is with a task.
 #[derive(Clone, Copy, PartialEq, Eq)]

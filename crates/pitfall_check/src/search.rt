@@ -2,7 +2,7 @@
 ghost use Rattle.std.specs.Prelude.{◌≡◌, ◌+◌, ◌*◌, ◌<◌, ◌^◌, ◌++◌, ◌∷◌, [], true, false, IfOk, IfNone, IfSome, OnOk, length, count_by, slice_index, slice_set};
 ghost use Rattle.task_graph.specs.Net.{out_edges};
 ghost use Rattle.pitfall_check.specs.inside.Steps.{AreEnds};
-ghost use Rattle.pitfall_check.specs.inside.Searching.{IsSearch, IsFullOrder, FindsNext, NoneLeadsToUnseen, OnlySeesMore, is_unseen, leads_to_unseen, progress_of};
+ghost use Rattle.pitfall_check.specs.inside.SearchRules.{IsSearch, IsFullOrder, FindsNext, NoneLeadsToUnseen, OnlySeesMore, is_unseen, leads_to_unseen, progress_of};
 
 use crate::progress::Progress;
 use crate::way::Way;
@@ -125,7 +125,8 @@ fn next_unseen(
     requires states { length states.now ≡ length net.now.tasks }
     requires passed { NoneLeadsToUnseen net.now states.now task from }
     ensures some { IfSome result (FindsNext net.now states.now task) }
-    ensures none { IfNone result (NoneLeadsToUnseen net.now states.now task (length (out_edges net.now task))) }
+    ensures none { IfNone result
+        (NoneLeadsToUnseen net.now states.now task (length (out_edges net.now task))) }
 {
     let edges = net.out_edges(task);
     for place in from..edges.len() {

@@ -1,7 +1,7 @@
 // Marks that spread over a net.
 ghost use Rattle.std.specs.Prelude.{◌≡◌, ◌≢◌, ◌<◌, [], length, slice_index, Contains, OnOk};
 ghost use Rattle.pitfall_check.specs.inside.Steps.{AreEnds, StepsBy};
-ghost use Rattle.pitfall_check.specs.inside.Spreading.{Adds, EndsAreMarked, IsSpread};
+ghost use Rattle.pitfall_check.specs.inside.MarkSpread.{Adds, EndsAreMarked, IsSpread};
 
 use crate::way::Way;
 use outside_io::NoMemory;

@@ -4,6 +4,7 @@ ghost use Rattle.std.specs.Arc.{arc_value};
 ghost use Rattle.join_words.specs.Ins.{InputValue, parts_of, found_of};
 ghost use Rattle.run_frame.specs.Meaning.{Meaning, IsRelease, ErrorAllowed, AnswerFits, IsOwnWhy};
 ghost use Rattle.journal_rules.specs.declared.entry.Why.{Why};
+ghost use Rattle.journal_rules.specs.Limits.{max_limit};
 ghost use Rattle.run_frame.specs.declared.job.Done.{Done};
 ghost use Rattle.run_frame.specs.declared.run.FrameRun.{FrameRun};
 
@@ -63,7 +64,7 @@ pub trait Job: Valued + Send + Sync {
     /// How many starts a run of it may have.
     fn limit(&self) -> u64
         ensures value { result ≡ meaning.limit self.now }
-        ensures small { result ≤ 2097153 };
+        ensures small { result ≤ max_limit };
 
     /// Does the work of a task on the inputs of a start, which are as many as the edges of some cause by which
     /// the task can be released.

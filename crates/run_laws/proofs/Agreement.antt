@@ -10,7 +10,7 @@ use Rattle.journal_rules.specs.declared.entry.Entry.{Entry}
 use Rattle.join_words.specs.Ins.{value}
 use Rattle.run_frame.specs.declared.run.ValueRow.{ValueRow}
 use Rattle.run_laws.specs.OneThreadValue.{TaskEnd, OneAnswer, tokens, begun, source_of, put_before, rounds_of, answers, one_thread_value}
-use Rattle.run_laws.proofs.Stepping.{starts_in, ends_in, tokens_in}
+use Rattle.run_laws.proofs.Steps.{starts_in, ends_in, tokens_in}
 use Rattle.run_laws.proofs.Values.{Kept}
 
 -- two lists are the same as far as both go

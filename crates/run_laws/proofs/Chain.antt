@@ -24,7 +24,7 @@ use Rattle.run_laws.specs.PipeNet.{next}
 use Rattle.run_laws.specs.Cycles.{CycleEdge, LiesAt, IsCycle, uses_some, turn}
 use Rattle.run_laws.proofs.Along.{Told, gather_push}
 use Rattle.run_laws.proofs.Phases.{Phase, begins, ends_one, closed_few, idle, busy, and_both}
-use Rattle.run_laws.proofs.Stepping.{EndAt}
+use Rattle.run_laws.proofs.Steps.{EndAt}
 use Rattle.run_laws.proofs.Rings.{Turning}
 use Rattle.run_laws.proofs.Order.{Passing, Going}
 

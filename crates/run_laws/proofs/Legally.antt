@@ -33,7 +33,7 @@ use Rattle.run_laws.specs.Ends.{ends}
 use Rattle.run_laws.specs.Steady.{Steady, StartRule}
 use Rattle.run_laws.proofs.Along.{along, both, weaker, each_front, Told, told_before}
 use Rattle.run_laws.proofs.Phases.{Phase, Behind, idle, phase_step, behind_step, ends_few, begins, ends_one}
-use Rattle.run_laws.proofs.Stepping.{EndAt, EndsWell, StepAt, starts_in, ends_in}
+use Rattle.run_laws.proofs.Steps.{EndAt, EndsWell, StepAt, starts_in, ends_in}
 use Rattle.run_laws.proofs.Values.{Kept, Ran, kept_first, kept_step}
 use Rattle.run_laws.proofs.Agreement.{Answered, agrees, agree_at}
 

@@ -1,7 +1,7 @@
 pub mod Along
 pub mod Phases
 pub mod Lists
-pub mod Stepping
+pub mod Steps
 pub mod Values
 pub mod Agreement
 pub mod Legally
@@ -10,9 +10,9 @@ pub mod Runs
 pub mod Rings
 pub mod Pipes
 pub mod Fronts
-pub mod Reached
+pub mod Reaches
 pub mod Whole
-pub mod Faulted
+pub mod Faults
 pub mod Order
 pub mod Tasks
 pub mod Limits
@@ -23,3 +23,9 @@ pub mod Chain
 pub mod WorkedMeaning
 pub mod WorkedLaws
 pub mod WorkedRunLaws
+pub mod LastEnds
+pub mod JudgeLaws
+pub mod Reasons
+pub mod Through
+pub mod Depth
+pub mod TextPlain

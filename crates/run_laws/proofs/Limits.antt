@@ -23,23 +23,23 @@ use Rattle.journal_rules.proofs.Tallying.{count_by_push_no, count_by_push_yes}
 use Rattle.join_words.specs.Ins.{InputValue}
 use Rattle.run_frame.specs.declared.run.ValueRow.{ValueRow}
 use Rattle.run_frame.specs.Runs.{IsFine}
-use Rattle.run_laws.specs.Starting.{has_item, starts_once, tasks_started}
+use Rattle.run_laws.specs.Starts.{has_item, starts_once, tasks_started}
 use Rattle.run_laws.specs.OneThreadValue.{OneAnswer, tokens, source_of, put_before, rounds_of, one_thread_value}
 use Rattle.run_laws.proofs.Along.{along}
 use Rattle.run_laws.proofs.Lists.{all_weaken, zip_weaken}
 use Rattle.run_laws.proofs.Phases.{begins}
-use Rattle.run_laws.proofs.Stepping.{starts_in, ends_in, tokens_in}
+use Rattle.run_laws.proofs.Steps.{starts_in, ends_in, tokens_in}
 use Rattle.run_laws.proofs.Values.{Kept, Ran, source_strong}
 use Rattle.run_laws.proofs.Legally.{Given, Known, kept_all}
 use Rattle.run_laws.proofs.Fronts.{front_get, front_tokens, rounds_have, rounds_parts, values_more}
 use Rattle.run_laws.specs.Prefixes.{IsPrefixOf}
-use Rattle.run_laws.proofs.Reached.{is_end, Reach, reach_along}
+use Rattle.run_laws.proofs.Reaches.{is_end, Reach, reach_along}
 use Rattle.run_laws.proofs.Whole.{Finished, round_started, all_values}
-use Rattle.run_laws.specs.Starting.{rounds_in}
+use Rattle.run_laws.specs.Starts.{rounds_in}
 use Rattle.run_laws.proofs.Once.{uses_one, used_once}
 use Rattle.run_laws.specs.Graphs.{IsOnceNet}
-use Rattle.run_laws.proofs.Faulted.{IsOneFault, is_own_fault, fault_later, fault_shown}
-use Rattle.run_laws.specs.Starting.{HasFault}
+use Rattle.run_laws.proofs.Faults.{IsOneFault, is_own_fault, fault_later, fault_shown}
+use Rattle.run_laws.specs.Starts.{HasFault}
 use Rattle.run_laws.proofs.Tasks.{sum_plus, sum_same, sum_zero, sum_less, pick, count_tasks, each_entry, starts_tasks, ends_once}
 use Rattle.run_laws.proofs.Along.{weaker}
 

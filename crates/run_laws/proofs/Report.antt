@@ -31,14 +31,14 @@ use Rattle.run_laws.proofs.Along.{both, weaker}
 use Rattle.run_laws.proofs.Legally.{Given}
 use Rattle.run_laws.proofs.Once.{steady_once}
 use Rattle.run_laws.proofs.Runs.{inner_sound, legal_journal, one_end}
-use Rattle.run_laws.proofs.Reached.{is_end}
+use Rattle.run_laws.proofs.Reaches.{is_end}
 use Rattle.run_laws.proofs.Whole.{Finished, all_values, whole_values, no_faults}
-use Rattle.run_laws.proofs.Faulted.{IsOneFault, own_why}
-use Rattle.run_laws.specs.Starting.{HasFault}
+use Rattle.run_laws.proofs.Faults.{IsOneFault, own_why}
+use Rattle.run_laws.specs.Starts.{HasFault}
 use Rattle.run_laws.proofs.Tasks.{ends_once}
 use Rattle.run_laws.proofs.Limits.{fine_within, within_fine}
-use Rattle.run_laws.specs.Starting.{tasks_started}
-use Rattle.run_laws.specs.Starting.{starts_once}
+use Rattle.run_laws.specs.Starts.{tasks_started}
+use Rattle.run_laws.specs.Starts.{starts_once}
 use Rattle.run_laws.proofs.Units.{no_unit_trouble}
 
 -- the source of an edge is a task, in a net that has tasks

@@ -18,7 +18,7 @@ use Rattle.run_laws.proofs.Phases.{begins, ends_one, ends_few, and_left}
 use Rattle.run_laws.proofs.Legally.{placed_along}
 use Rattle.run_laws.proofs.Once.{steady_once, begun_once}
 use Rattle.run_laws.specs.Graphs.{IsOnceNet}
-use Rattle.run_laws.proofs.Reached.{is_end}
+use Rattle.run_laws.proofs.Reaches.{is_end}
 
 abbrev one_if : Bool → ℕ
 one_if b = cond b 1 0

@@ -28,7 +28,7 @@ use Rattle.run_laws.specs.Steady.{Steady, StartRule}
 use Rattle.run_laws.proofs.Along.{along, both, each_front}
 use Rattle.run_laws.proofs.Phases.{Phase, idle, busy, begins, ends_one, faults_one, and_right}
 use Rattle.run_laws.proofs.Legally.{Placed, placed_along}
-use Rattle.run_laws.proofs.Faulted.{is_own_fault}
+use Rattle.run_laws.proofs.Faults.{is_own_fault}
 use Rattle.run_laws.proofs.Tasks.{sum_same, sum_zero, pick, count_tasks, InTasks, in_tasks, start_in}
 use Rattle.run_laws.proofs.Limits.{NoUnitTrouble}
 

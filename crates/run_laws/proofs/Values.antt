@@ -36,7 +36,7 @@ use Rattle.run_laws.specs.Steady.{runs_at, MayStart}
 use Rattle.run_laws.proofs.Along.{Told, told_before, gather_push}
 use Rattle.run_laws.proofs.Lists.{get_append, get_push, get_front, zip_weaken, zip_mapped, all_weaken, all_both, all_places, filter_append, map_append, none_strong}
 use Rattle.run_laws.proofs.Phases.{Phase, Behind, RunsAt, begins, ends_one, stops_one, and_left, and_right, and_both, runs_old, runs_was, runs_last, rests_closed, idle_before, busy_with}
-use Rattle.run_laws.proofs.Stepping.{EndAt, StepAt, start_of, starts_in, ends_in, tokens_in}
+use Rattle.run_laws.proofs.Steps.{EndAt, StepAt, start_of, starts_in, ends_in, tokens_in}
 
 -- a source task has no strong in-edge
 pub source_strong : (net : NetRows) (t : ℕ) → IsSource net t → strong_in net t ≡ []

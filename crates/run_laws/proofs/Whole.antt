@@ -22,18 +22,18 @@ use Rattle.journal_rules.proofs.Reaching.{at_below}
 use Rattle.join_words.specs.Ins.{InputValue}
 use Rattle.run_frame.specs.declared.run.ValueRow.{ValueRow}
 use Rattle.run_frame.specs.Runs.{IsFine}
-use Rattle.run_laws.specs.Starting.{rounds_in}
+use Rattle.run_laws.specs.Starts.{rounds_in}
 use Rattle.run_laws.specs.OneThreadValue.{TaskEnd, OneAnswer, tokens, source_of, one_thread_value}
 use Rattle.run_laws.specs.Ends.{ends, is_task}
 use Rattle.run_laws.proofs.Along.{along}
 use Rattle.run_laws.proofs.Phases.{Phase, idle, busy, faults_one, stops_one, faults_stop, and_right}
-use Rattle.run_laws.proofs.Stepping.{starts_in, ends_in, tokens_in}
+use Rattle.run_laws.proofs.Steps.{starts_in, ends_in, tokens_in}
 use Rattle.run_laws.proofs.Values.{Kept, Ran}
 use Rattle.run_laws.proofs.Agreement.{Answered, answers_at, agree_from, same_items, rounds_at}
 use Rattle.run_laws.proofs.Legally.{Given, kept_all, placed_along, one_thread}
 use Rattle.run_laws.proofs.Fronts.{front_get, front_from, front_same, front_tokens, rounds_parts, only_round}
 use Rattle.run_laws.specs.Prefixes.{IsPrefixOf}
-use Rattle.run_laws.proofs.Reached.{is_end, ends_reached, Sourced, reach_all}
+use Rattle.run_laws.proofs.Reaches.{is_end, ends_reached, Sourced, reach_all}
 
 -- Without a Fault and a Drop at the limit or for want of a unit there is no Drop at all.
 Unstopped : (ℕ → Option ℕ) → List Entry → Type 0

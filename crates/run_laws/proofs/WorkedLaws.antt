@@ -23,7 +23,7 @@ use Rattle.journal_rules.specs.ShapeLegal.{MayFollow}
 use Rattle.join_words.specs.Ins.{InputValue, value, first}
 use Rattle.run_frame.specs.declared.run.ValueRow.{ValueRow}
 use Rattle.run_laws.specs.OneThreadValue.{OneAnswer, source_of, begun, tokens, put_before, rounds_of, answers, target_of}
-use Rattle.run_laws.specs.Starting.{rounds_in, has_item, starts_once, tasks_started, HasFault}
+use Rattle.run_laws.specs.Starts.{rounds_in, has_item, starts_once, tasks_started, HasFault}
 use Rattle.run_laws.specs.Prefixes.{IsPrefixOf}
 use Rattle.run_laws.specs.Ends.{is_task, ends}
 use Rattle.run_laws.specs.Steady.{runs_at, stops, MayStart, StartRule, Steady}
@@ -32,7 +32,7 @@ use Rattle.run_laws.specs.Rings.{IsRing, IsRinged, RingOf}
 use Rattle.run_laws.specs.PipeNet.{next, cell, pipe_net}
 use Rattle.run_laws.specs.Cycles.{CycleEdge, LiesAt, IsCycle, is_one_of, uses_some, turn, GoesRound}
 use Rattle.run_laws.specs.Laws.{IsInTurn, KeepsSteady, RunsThrough}
-use Rattle.run_laws.specs.Worked.{four_tasks, two_in_a_ring, adding, failing_on_2, end}
+use Rattle.run_laws.specs.SmallNets.{four_tasks, two_in_a_ring, adding, failing_on_2, end}
 
 -- ---- tokens and rounds
 

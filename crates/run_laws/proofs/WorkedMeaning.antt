@@ -31,7 +31,7 @@ use Rattle.run_frame.specs.NestedRule.{job_of, journal_of}
 use Rattle.run_frame.specs.WorkRule.{gives_of}
 use Rattle.run_laws.specs.OneThreadValue.{TaskEnd, OneAnswer}
 use Rattle.run_laws.specs.OneAnswer.{AllowsOne, InnerRunOf}
-use Rattle.run_laws.specs.Worked.{four_tasks, adding, added, end}
+use Rattle.run_laws.specs.SmallNets.{four_tasks, adding, added, end}
 use Rattle.run_laws.proofs.Runs.{legal_journal}
 
 abbrev may_answer : ℕ → ℕ → List (InputValue ℕ) → Done ℕ ℕ → Type 0

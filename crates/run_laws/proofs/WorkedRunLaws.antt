@@ -28,13 +28,13 @@ use Rattle.run_frame.specs.Runs.{IsFine}
 use Rattle.run_frame.specs.NestedRule.{journal_of}
 use Rattle.run_frame.specs.Legal.{CompleteRun, Legal}
 use Rattle.run_laws.specs.OneThreadValue.{TaskEnd, OneAnswer, one_thread_value}
-use Rattle.run_laws.specs.Starting.{HasFault}
+use Rattle.run_laws.specs.Starts.{HasFault}
 use Rattle.run_laws.specs.Prefixes.{IsPrefixOf}
 use Rattle.run_laws.specs.Steady.{Steady}
 use Rattle.run_laws.specs.PipeNet.{pipe_net}
 use Rattle.run_laws.specs.Cycles.{GoesRound}
 use Rattle.run_laws.specs.Laws.{HasNoOtherValues, HasOneThreadValues, IsDecided, IsGraphRun, IsInTurn, IsSteadyRun, PipesGoRound, RingsGoRound, ValuesGrow, run_ends}
-use Rattle.run_laws.specs.Worked.{adding, end, two_in_a_ring}
+use Rattle.run_laws.specs.SmallNets.{adding, end, two_in_a_ring}
 use Rattle.run_laws.proofs.WorkedLaws.{cycle_of_two, first_two, ring_is_ringed}
 use Rattle.run_laws.proofs.WorkedMeaning.{adds_on, allows_one}
 

@@ -12,7 +12,7 @@ use Rattle.run_frame.specs.Runs.{IsFine}
 use Rattle.run_frame.specs.NestedRule.{job_of, journal_of}
 use Rattle.run_frame.specs.Legal.{Legal, CompleteRun}
 use Rattle.run_laws.specs.OneThreadValue.{TaskEnd, OneAnswer, one_thread_value}
-use Rattle.run_laws.specs.Starting.{HasFault, tasks_started}
+use Rattle.run_laws.specs.Starts.{HasFault, tasks_started}
 use Rattle.run_laws.specs.Prefixes.{IsPrefixOf}
 use Rattle.run_laws.specs.Ends.{ends}
 use Rattle.run_laws.specs.Steady.{Steady}

@@ -1,5 +1,5 @@
 pub mod OneThreadValue
-pub mod Starting
+pub mod Starts
 pub mod Prefixes
 pub mod Ends
 pub mod Steady
@@ -9,4 +9,10 @@ pub mod Rings
 pub mod PipeNet
 pub mod Cycles
 pub mod Laws
-pub mod Worked
+pub mod SmallNets
+pub mod PlainJobs
+pub mod PlainLaws
+pub mod JudgeLaw
+pub mod Output
+pub mod PlainReport
+pub mod SmallPlans

@@ -1,4 +1,4 @@
-// The laws, each the contract of a function that does nothing.
+// The laws of runs, each the contract of a function that does nothing.
 ghost use Rattle.std.specs.Prelude.{ℕ, Bool, List};
 ghost use Rattle.task_graph.specs.NetRows.{NetRows};
 ghost use Rattle.run_laws.specs.OneThreadValue.{OneAnswer};
@@ -29,7 +29,8 @@ pub fn values_grow<J: Job>()
 /// answer, is fine exactly where none of its one-thread values is a fault and no more tasks start than its limit. Then
 /// its values are those of one thread.
 pub fn graph_runs_are_decided<J: Job>(run: &FrameRun<J>)
-    ensures { (one : OneAnswer J.V) → IsGraphRun J.meaning run.now one → IsDecided J.meaning run.now one }
+    ensures { (one : OneAnswer J.V) → IsGraphRun J.meaning run.now one
+        → IsDecided J.meaning run.now one }
 {}
 
 /// Journals of nets without weak edges and first tokens are steady.

@@ -1,18 +1,32 @@
-//! What a run without conditions computes, whatever the order in which threads ran: the laws of journals.
+//! What a run without conditions computes and reports, whatever the number of workers and the order in which they start
+//! and end tasks: the second theorem.
 //!
-//! There is no code here but laws, each the contract of an empty function. `one_thread_value` works the values of a
-//! net's tasks out by a recursion over the net, with no journal and no order of tasks; the laws say when the values in
-//! a run's journal are these. A journal is steady where no token is overtaken (`specs/Steady.antt`), and each journal
-//! of some nets is. The definitions are in `specs/`, in this order: `OneThreadValue`, `Starting`, `OneAnswer`, `Ends`,
-//! `Steady`, `Graphs`, `Rings`, `PipeNet`, `Cycles`, `Laws`.
+//! There is no code here but laws, each the contract of an empty function, in two steps.
+//!
+//! - Runs (`laws.rt`): `one_thread_value` works the values of a net's tasks out by a recursion over the net, with no
+//!   journal and no order of tasks. The laws say when the values in a run's journal are these. A journal is steady where
+//!   no token is overtaken (`specs/Steady.antt`), and each journal of some nets is. The definitions are in `specs/`, in
+//!   this order: `OneThreadValue`, `Starts`, `OneAnswer`, `Ends`, `Steady`, `Graphs`, `Rings`, `PipeNet`, `Cycles`,
+//!   `Laws`.
+//! - Reports (`reports.rt`): `plain_report` works the report of a plan out by a recursion over its net. `same_report` says
+//!   that each kept run of such a plan comes to its end fine exactly where that recursion runs through, and then reports
+//!   just that. The definitions, in this order: `Output` (the report of a run), `PlainJobs` (what jobs come to whose tasks
+//!   each come to one thing, with runs inside runs), `PlainLaws`, `PlainReport` (text jobs). `JudgeLaw` says of the journal
+//!   of each kept run that the judge finds it complete.
+//!
+//! The layer above cites these words in its clauses.
 #![tactic(auto)]
 
+mod examples;
 mod laws;
-mod worked;
+mod reports;
 
+pub use examples::{
+    circle_reports, kept_together_reports, plain_plans, small_values, steady_runs, unsteady_runs,
+};
 pub use laws::{
     all_values_of_steady_runs, graph_runs_are_decided, nets_of_rings_are_steady,
     once_nets_are_steady, pipe_nets_are_steady, pipe_nets_go_round, rings_go_round, values_grow,
     values_of_steady_runs,
 };
-pub use worked::{small_values, steady_runs, unsteady_runs};
+pub use reports::{PlainJob, judged_complete, plain_runs, reports_are_alike, same_report};

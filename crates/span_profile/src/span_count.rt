@@ -3,7 +3,7 @@ ghost use Rattle.std.specs.Prelude.{◌≡◌, None, IsOk};
 ghost use Rattle.span_profile.specs.Watch.{one_more, counted};
 
 use super::watch::Watch;
-use legal_run::Span;
+use journal_rules::Span;
 use outside_io::NoMemory;
 
 /// A watcher that counts the spans and keeps none. It takes no memory.

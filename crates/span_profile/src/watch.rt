@@ -3,7 +3,7 @@ ghost use Rattle.std.specs.Prelude.{◌≡◌, ◌++◌, ◌∷◌, ◌-◌, ◌
 ghost use Rattle.journal_rules.specs.declared.span.Span.{Span};
 ghost use Rattle.span_profile.specs.Watch.{one_more};
 
-use legal_run::Span;
+use journal_rules::Span;
 use outside_io::NoMemory;
 
 /// What is told each span that ends.
@@ -15,12 +15,14 @@ pub trait Watch: Drop {
     ghost seen: { Self → Option (List Span) };
 
     /// Where the spans are specified, the count is how many they are, or the greatest u64 where they are more.
-    ghost counts_spans: { (watcher : Self) → IfSome (seen watcher) (λ spans. told watcher ≡ min (length spans) (2 ^ 64 - 1)) };
+    ghost counts_spans: { (watcher : Self)
+        → IfSome (seen watcher) (λ spans. told watcher ≡ min (length spans) (2 ^ 64 - 1)) };
 
     /// Tells it a span. After an `Err` nothing has changed.
     fn span(&mut self, span: Span) -> Result<(), NoMemory>
         ensures count { OnOk result (told self.new ≡ one_more (told self.old)) }
-        ensures list { OnOk result (seen self.new ≡ option_map (λ spans. spans ++ span ∷ []) (seen self.old)) }
+        ensures list { OnOk result
+            (seen self.new ≡ option_map (λ spans. spans ++ span ∷ []) (seen self.old)) }
         ensures err_count { OnErr result (told self.new ≡ told self.old) }
         ensures err_list { OnErr result (seen self.new ≡ seen self.old) };
 

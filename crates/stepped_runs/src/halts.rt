@@ -1,12 +1,12 @@
 // What comes after a fault.
-use legal_run::{Cause, DropWhy, Entry, Why};
+use journal_rules::{Cause, DropWhy, Entry, Why};
 use number_jobs::NumberJob;
 use outside_io::List;
 use std::alloc::Global;
 use std::process::Abort;
 use std::sync::{Arc, Wait};
 use std::test::Fail;
-use table_frames::{Backlog, Frame, Release, State, Stepped};
+use table_frames::{Backlog, Brought, Frame, Release, State, Stepped};
 use task_graph::{BuildError, Net, NetBuilder, Shape};
 
 // The number to which a source task comes, at which it faults.
@@ -38,8 +38,7 @@ fn stepped<R: Wait + Abort>(
     assert!(rt; released.is_empty());
     assert!(rt; matches!(state, State::Went));
     assert!(rt; !backlog.is_empty());
-    let Stepped { released, state } = Frame::bring(rt, &mut backlog)?;
-    assert!(rt; released.is_empty());
+    let Brought { state, .. } = Frame::bring(rt, &mut backlog)?;
     assert!(rt; backlog.is_empty());
     Ok(state)
 }

@@ -1,7 +1,8 @@
 // Small runs, each in ten orders, and recorded at once, after some steps or at the end; and each by `run_alone`.
 use crate::cases::{CHOSEN, CONDITIONS, Case, FAULTS, JOINS, KEPT, LIMITS, job_of, net_of};
 use crate::orders::{Order, led};
-use legal_run::{Entry, Verdict, judge};
+use journal_rules::Entry;
+use legal_run::{Verdict, judge};
 use number_jobs::NumberJob;
 use run_frame::FrameRun;
 use slow_verdicts::meets_data_rule;

@@ -7,7 +7,7 @@ use outside_io::NoMemory;
 use run_frame::FrameRun;
 use std::alloc::Global;
 use std::sync::{Arc, Wait};
-use table_frames::{Backlog, Frame, Release, State, Stepped};
+use table_frames::{Backlog, Brought, Frame, Release, State, Stepped};
 
 // The most steps of a run.
 const STEPS: u32 = 1_000;
@@ -109,7 +109,7 @@ fn record<R: Wait>(
     ensures { OnOk result (IsUnderWay pending.now.items backlog.new) }
 {
     let _ = pending;
-    let Stepped { state, .. } = Frame::bring(rt, backlog)?;
+    let Brought { state, .. } = Frame::bring(rt, backlog)?;
     match state {
         State::Closed(run) => Ok(Some(run)),
         _ => Ok(None),

@@ -9,7 +9,7 @@ use run_frame::{FrameRun, Job};
 use std::alloc::Global;
 use std::sync::{Arc, Mutex, Wait};
 use std::thread::{Threads, for_each_mut, yield_now};
-use table_frames::{Backlog, Frame, Release, State, Stepped};
+use table_frames::{Backlog, Brought, Frame, Release, State, Stepped};
 
 /// The releases that nobody steps yet.
 #[derive(Drop)]
@@ -136,7 +136,7 @@ fn step<J: Job + Drop, R: Wait>(
     let mut backlog = Backlog::new(alloc);
     let Stepped { released, .. } = Frame::step(release, &mut backlog)?;
     add(rt, list, released);
-    let Stepped { state, .. } = Frame::bring(rt, &mut backlog)?;
+    let Brought { state, .. } = Frame::bring(rt, &mut backlog)?;
     match state {
         State::Closed(run) => Ok(Some(run)),
         _ => Ok(None),

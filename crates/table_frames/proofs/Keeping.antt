@@ -1,8 +1,9 @@
--- What a keeper and a batch have taken in is allowed.
-use Rattle.std.proofs.Common.{◌≡◌, ◌⊎◌, inl, inr, List, [], ◌∷◌, ◌++◌, sym, ap, subst}
+-- What a keeper and a batch have taken in is allowed, and what a keeper has found.
+use Rattle.std.proofs.Common.{◌≡◌, ◌⊎◌, inl, inr, ℕ, List, [], ◌∷◌, ◌++◌, sym, ap, subst}
 use Rattle.std.specs.Prelude.{OnOk, OnErr, Result}
 use Rattle.std.specs.declared.result.Result.TheVariants.{Ok, Err}
 use Rattle.join_tables.specs.Batches.{BatchState}
+use Rattle.join_tables.specs.Findings.{FindsOne}
 use Rattle.join_tables.specs.Rests.{IsOfTable}
 use Rattle.join_tables.specs.declared.fates.Fate.{Fate}
 use Rattle.join_tables.specs.Keeping.{KeeperState, keeper_with}
@@ -37,3 +38,8 @@ none_in meaning (frame ∷ around) batch none = record {
 pub same_frames : {J V : Type 0} (meaning : Meaning J V) (frames frames' : List (FrameKey J)) (batch : BatchState V) → IsBatchIn meaning frames batch → (batch.fates ≡ [] → ⊥) → (frames ≡ []) ⊎ (frames ≡ frames') → frames ≡ frames'
 same_frames meaning frames frames' batch is some (inr same) = same
 same_frames meaning frames frames' batch is some (inl none) = absurd (some (subst (λ fs. IsBatchIn meaning fs batch) none is).fates)
+
+-- of the number that was found
+pub finds_so : (p q : ℕ → Type 0) (before after : List ℕ) → ((n : ℕ) → p n → q n) → FindsOne p before after → FindsOne q before after
+finds_so p q before [] so finds = absurd finds
+finds_so p q before (n ∷ rest) so finds = (finds.0, so n finds.1)

@@ -4,4 +4,5 @@ pub mod Held
 pub mod Making
 pub mod Telling
 pub mod Steps
+pub mod Bringing
 pub mod inside

@@ -1,4 +1,4 @@
--- What a beginning and a step of a frame come to.
+-- What a beginning and a step of a frame come to, and what is then with its run.
 use Rattle.std.specs.Prelude.{◌≡◌, List, [], ◌∷◌, ◌++◌, length, map, All, Some}
 use Rattle.join_tables.specs.States.{FreshState, fresh_state}
 use Rattle.join_tables.specs.FirstCauses.{first_fresh}
@@ -9,7 +9,7 @@ use Rattle.run_frame.specs.NestedRule.{job_of}
 use Rattle.run_frame.specs.declared.run.FrameRun.{FrameRun}
 use Rattle.table_frames.specs.Allowed.{IsAllowed}
 use Rattle.table_frames.specs.Making.{Uses}
-use Rattle.table_frames.specs.Telling.{IsInJournal, HasEntriesOf}
+use Rattle.table_frames.specs.Telling.{IsInJournal}
 use Rattle.table_frames.specs.Frames.{FrameKey, ReleaseView, BacklogView, backlog_view, root_job, release_in}
 use Rattle.table_frames.specs.declared.stepped.State.{State}
 use Rattle.table_frames.specs.declared.stepped.State.TheVariants.{Went, Parked, Inner, Closed}
@@ -57,10 +57,3 @@ pub record StepsRelease {J V : Type 0} (meaning : Meaning J V) (release : Releas
   pub frames : All (λ (next : ReleaseView J). next.frames ≡ release.frames) stepped.released.items
   pub state : stepped.state ≡ Went
   pub backlog : new ≡ backlog_view release.frames (old.fates ++ fate ∷ [])
-
--- A backlog was brought to its frame. No release comes of that, but with the last turn of the frame the run is given out. It
--- has the entries of the backlog's fates.
-pub record BringsBacklog {J V : Type 0} (meaning : Meaning J V) (backlog : BacklogView J V) (stepped : Stepped J V) : Type 0 where
-  pub released : stepped.released.items ≡ []
-  pub state : IsStateOf meaning backlog.frames stepped.state
-  pub entries : HasEntriesOf stepped.state backlog.fates

@@ -11,7 +11,7 @@ use super::backlog::Backlog;
 use super::gathered::Gathered;
 use super::kept::KeptRun;
 use super::release::{Release, ReleaseRoom};
-use super::stepped::{State, Stepped};
+use super::stepped::{Brought, State, Stepped};
 use super::table_run::{Begun, TableRun};
 use join_tables::{Fresh, Remaining, SpentBatch};
 use keyed_lock::{Held, KeyedLock};
@@ -51,8 +51,8 @@ impl<J: Job> Model for Frame<J> {
 
 impl<J: Job + Drop> Frame<J> {
     ghost use Rattle.table_frames.specs.Frames.{HasTable, MayTake, backlog_view, key_of};
-    ghost use Rattle.table_frames.specs.Steps.{IsClosed, IsStateOf, BeginsFrame, BringsBacklog, StepsRelease};
-    ghost use Rattle.table_frames.specs.Telling.{HasEntriesOf};
+    ghost use Rattle.table_frames.specs.Bringing.{BringsFates};
+    ghost use Rattle.table_frames.specs.Steps.{IsClosed, BeginsFrame, StepsRelease};
     ghost use Rattle.table_frames.specs.inside.Attempts.{IsAttemptAt, TriesRelease, room_due};
     ghost use Rattle.table_frames.specs.inside.Concluding.{Concludes};
     ghost use Rattle.table_frames.specs.inside.Runs.{IsBatchIn, IsNoBatch};
@@ -107,18 +107,15 @@ impl<J: Job + Drop> Frame<J> {
     }
 
     /// Gives what is in a backlog to the keeper of its frame, for whose lock it may wait, and leaves the backlog empty. With
-    /// the last turn of the frame the run is closed. An `Err` comes only if an allocation fails. Then the backlog stays as it
-    /// was, or it is empty and the run is never closed.
-    pub fn bring<R: Wait>(rt: &R, backlog: &mut Backlog<J>) -> Result<Stepped<J>, NoMemory>
-        ensures ok { IfOk result (BringsBacklog J.meaning backlog.old) }
+    /// the last turn of the frame the run is closed: exactly where the keeper found one live turn as it took the backlog in.
+    /// An `Err` comes only if an allocation fails. Then the backlog stays as it was, or it is empty and the run is never
+    /// closed.
+    pub fn bring<R: Wait>(rt: &R, backlog: &mut Backlog<J>) -> Result<Brought<J>, NoMemory>
+        ensures ok { IfOk result (BringsFates J.meaning backlog.old.frames backlog.old.fates) }
         ensures empty { OnOk result (backlog.new ≡ backlog_view [] []) }
         ensures err { OnErr result ((backlog.new ≡ backlog.old) ⊎ (backlog.new ≡ backlog_view [] [])) }
     {
-        let state = backlog.gathered.bring(rt)?;
-        Ok(Stepped {
-            released: Vec::new(backlog.alloc),
-            state,
-        })
+        backlog.gathered.bring(rt)
     }
 
     // A frame in no other.
@@ -172,25 +169,33 @@ impl<J: Job + Drop> Frame<J> {
         &self,
         rt: &R,
         batch: &mut SpentBatch<J::V>,
-    ) -> Result<State<J>, NoMemory>
+    ) -> Result<Brought<J>, NoMemory>
         requires { IsBatchIn J.meaning self.now batch.old }
-        ensures state { IfOk result (IsStateOf J.meaning self.now) }
-        ensures entries { IfOk result (λ state. HasEntriesOf state batch.old.fates) }
+        ensures brings { IfOk result (BringsFates J.meaning self.now batch.old.fates) }
         ensures taken { OnOk result (IsNoBatch batch.new) }
         ensures err { OnErr result ((batch.new ≡ batch.old) ⊎ IsNoBatch batch.new) }
     {
         if batch.is_empty() {
-            return Ok(State::Went);
+            return Ok(Brought {
+                state: State::Went,
+                keeper: None,
+            });
         }
         let Held {
             value: mut kept,
             pass,
         } = self.lock.take(rt);
         match self.run.keep(&mut kept, batch) {
-            Ok(Remaining::All) => Ok(State::Closed(kept.finish()?)),
+            Ok(Remaining::All) => {
+                let keeper = Some(kept.keeper_now());
+                let state = State::Closed(kept.finish()?);
+                Ok(Brought { state, keeper })
+            }
             Ok(Remaining::More) => {
+                let keeper = Some(kept.keeper_now());
                 self.lock.put(Held { value: kept, pass });
-                Ok(State::Went)
+                let state = State::Went;
+                Ok(Brought { state, keeper })
             }
             Err(NoMemory) => {
                 self.lock.put(Held { value: kept, pass });

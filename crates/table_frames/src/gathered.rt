@@ -5,7 +5,7 @@ ghost use Rattle.table_frames.specs.Frames.{IsInnermost};
 ghost use Rattle.table_frames.specs.inside.Runs.{IsDone};
 
 use super::frame::Frame;
-use super::stepped::State;
+use super::stepped::{Brought, State};
 use super::table_run::TableRun;
 use join_tables::{Spent, SpentBatch};
 use outside_io::NoMemory;
@@ -38,8 +38,7 @@ impl<J: Job> Model for Gathered<J> {
 
 impl<J: Job + Drop> Gathered<J> {
     ghost use Rattle.table_frames.specs.Frames.{MayTake, backlog_view};
-    ghost use Rattle.table_frames.specs.Steps.{IsStateOf};
-    ghost use Rattle.table_frames.specs.Telling.{HasEntriesOf};
+    ghost use Rattle.table_frames.specs.Bringing.{BringsFates};
 
     /// No turn, of no frame. It takes no memory.
     pub fn new(alloc: Global) -> Gathered<J>
@@ -84,17 +83,19 @@ impl<J: Job + Drop> Gathered<J> {
 
     /// Gives the turns to the keeper of their frame. With the last turn of the frame its run is given out. An `Err` comes
     /// only if an allocation fails. Then all stays as it was, or the run is never closed.
-    pub fn bring<R: Wait>(&mut self, rt: &R) -> Result<State<J>, NoMemory>
-        ensures state { IfOk result (IsStateOf J.meaning self.old.backlog.frames) }
-        ensures entries { IfOk result (λ state. HasEntriesOf state self.old.backlog.fates) }
+    pub fn bring<R: Wait>(&mut self, rt: &R) -> Result<Brought<J>, NoMemory>
+        ensures brings { IfOk result (BringsFates J.meaning self.old.backlog.frames self.old.backlog.fates) }
         ensures ok { OnOk result (self.new.backlog ≡ backlog_view [] []) }
         ensures err { OnErr result ((self.new.backlog ≡ self.old.backlog) ⊎ (self.new.backlog ≡ backlog_view [] [])) }
     {
         let Some(frame) = self.frame.take() else {
-            return Ok(State::Went);
+            return Ok(Brought {
+                state: State::Went,
+                keeper: None,
+            });
         };
         match frame.keep(rt, &mut self.batch) {
-            Ok(state) => Ok(state),
+            Ok(brought) => Ok(brought),
             Err(NoMemory) => {
                 if !self.batch.is_empty() {
                     self.frame = Some(frame);

@@ -2,7 +2,8 @@
 ghost use Rattle.std.specs.Prelude.{◌≡◌, ◌++◌, [], IfOk, OnOk, OnErr, None, Some};
 ghost use Rattle.std.specs.Arc.{arc_value};
 ghost use Rattle.join_tables.specs.Batches.{batch_state};
-ghost use Rattle.join_tables.specs.Keeping.{IsLast, TellsRun, entries_told};
+ghost use Rattle.join_tables.specs.Findings.{FindsOne};
+ghost use Rattle.join_tables.specs.Keeping.{IsLast, LeavesOf, TellsRun, entries_told};
 ghost use Rattle.run_frame.specs.Legal.{IsKept};
 ghost use Rattle.run_frame.specs.NestedRule.{job_of};
 ghost use Rattle.table_frames.specs.Allowed.{AreAllowed};
@@ -16,6 +17,7 @@ use outside_io::{List, NoMemory};
 use run_frame::{FrameRun, Job, ValueRow};
 use std::alloc::Global;
 use std::marker::Model;
+use std::snapshot::Snapshot;
 use std::sync::Arc;
 
 /// The keeper of a run of a job. The job allows what became of each turn that it has taken in.
@@ -69,10 +71,18 @@ impl<J: Job + Drop> KeptRun<J> {
         ensures same { key_of self.new ≡ key_of self.old }
         ensures fates { OnOk result (self.new.keeper.fates ≡ self.old.keeper.fates ++ batch.old.fates) }
         ensures taken { OnOk result (batch.new ≡ batch_state None [] batch.old.room) }
+        ensures found { IfOk result (λ left. FindsOne (λ n. LeavesOf n left) self.old.keeper.found self.new.keeper.found) }
         ensures err { OnErr result (batch.new ≡ batch.old) }
         ensures all { IsLast result → TellsRun table.now.net table.now.limit (entries_told self.new.keeper.fates) }
     {
         self.keeper.absorb(table, batch)
+    }
+
+    /// The keeper as it is now, for clauses.
+    pub fn keeper_now(&self) -> Snapshot<Keeper<J::V>>
+        ensures { result.value ≡ self.now.keeper }
+    {
+        Snapshot::of(&self.keeper)
     }
 
     /// The run, where the last turn was taken in, or there was no release at first.

@@ -22,9 +22,10 @@
 //! # What the layer above may know
 //!
 //! The layer above sees a release as the keys of its frame and of the frames around it, its task and its cause
-//! (`specs/Frames.antt`). The last of these frames has the job of the whole run. What a beginning, a step and a bringing come
-//! to is in `specs/Steps.antt`: which fate a release came to, that its job allows it, and which releases it made. Which edges
-//! made none is known to the table alone. No frame is inside another yet, and no release is parked.
+//! (`specs/Frames.antt`). The last of these frames has the job of the whole run. What a beginning and a step come to is in
+//! `specs/Steps.antt`: which fate a release came to, that its job allows it, and which releases it made. Which edges made none
+//! is known to the table alone. What a bringing comes to is in `specs/Bringing.antt`: the run is closed exactly where the
+//! keeper found one live turn. No frame is inside another yet, and no release is parked.
 #![tactic(auto)]
 
 mod alone;
@@ -42,4 +43,4 @@ pub use alone::run_alone;
 pub use backlog::Backlog;
 pub use frame::Frame;
 pub use release::{HeldBy, Release};
-pub use stepped::{State, Stepped};
+pub use stepped::{Brought, State, Stepped};

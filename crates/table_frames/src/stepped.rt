@@ -1,12 +1,22 @@
-// What a beginning and a step come to.
+// What a beginning, a step and a bringing come to.
 use super::release::Release;
+use join_tables::Keeper;
 use run_frame::{FrameRun, Job};
+use std::snapshot::Snapshot;
 
 /// The releases that a beginning or a step has made, and what is now with the run.
 #[derive(Drop)]
 pub struct Stepped<J: Job> {
     pub released: Vec<Release<J>>,
     pub state: State<J>,
+}
+
+/// What is with the run of a backlog that was brought.
+#[derive(Drop)]
+pub struct Brought<J: Job> {
+    pub state: State<J>,
+    /// For clauses alone: the keeper of the run when it had taken the backlog in, or `None` where nothing was in the backlog.
+    pub keeper: Option<Snapshot<Keeper<J::V>>>,
 }
 
 /// What is with a run after a step.

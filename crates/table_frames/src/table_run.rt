@@ -5,8 +5,9 @@ ghost use Rattle.std.specs.Arc.{arc_value};
 ghost use Rattle.join_words.specs.Ins.{found_of, parts_of};
 ghost use Rattle.join_tables.specs.Batches.{batch_state};
 ghost use Rattle.join_tables.specs.declared.fates.Fate.TheVariants.{Ended};
+ghost use Rattle.join_tables.specs.Findings.{FindsOne};
 ghost use Rattle.join_tables.specs.States.{fresh_state};
-ghost use Rattle.join_tables.specs.Keeping.{IsLast, TellsRun, entries_told};
+ghost use Rattle.join_tables.specs.Keeping.{IsLast, LeavesOf, TellsRun, entries_told};
 ghost use Rattle.run_frame.specs.FlatNets.{IsFlatNet};
 ghost use Rattle.run_frame.specs.declared.job.Done.{Done as DoneBy};
 ghost use Rattle.table_frames.specs.Making.{GivesEdges, IsFateOf, Uses, given_by};
@@ -141,6 +142,7 @@ impl<J: Job + Drop> TableRun<J> {
         ensures same { key_of kept.new ≡ self.now }
         ensures fates { OnOk result (kept.new.keeper.fates ≡ kept.old.keeper.fates ++ batch.old.fates) }
         ensures taken { OnOk result (IsNoBatch batch.new) }
+        ensures found { IfOk result (λ left. FindsOne (λ n. LeavesOf n left) kept.old.keeper.found kept.new.keeper.found) }
         ensures err { OnErr result (batch.new ≡ batch.old) }
         ensures all { IsLast result → TellsRun (J.meaning.net kept.new.job) (J.meaning.limit kept.new.job) (entries_told kept.new.keeper.fates) }
     {

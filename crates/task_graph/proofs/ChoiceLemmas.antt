@@ -8,7 +8,7 @@ use Rattle.std.proofs.lemmas.List.Elements.{filter-append}
 use Rattle.std.proofs.lemmas.List.Folds.{list_any-append}
 use Rattle.std.proofs.lemmas.List.Kept.{AllPairs-from_increasing}
 use Rattle.task_graph.specs.Chosen.{edge_at, first_of, chosen_edges}
-use Rattle.task_graph.specs.inside.Choosing.{HasChosen}
+use Rattle.task_graph.specs.inside.Choices.{HasChosen}
 use Rattle.task_graph.specs.Places.{places_from}
 use Rattle.task_graph.specs.declared.net.EdgeRow.{EdgeRow}
 use Rattle.task_graph.specs.NetRows.{NetRows}

@@ -2,7 +2,7 @@
 pub mod Side
 pub mod Groups
 pub mod EdgeIndex
-pub mod Indexed
-pub mod Building
-pub mod Counting
-pub mod Choosing
+pub mod NetState
+pub mod BuilderState
+pub mod KeyCounts
+pub mod Choices

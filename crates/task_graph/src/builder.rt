@@ -12,10 +12,10 @@ use std::alloc::Global;
 use std::marker::Model;
 
 /// How many tasks a net may have.
-pub const MAX_TASKS: u32 = 4_000_000;
+pub const MAX_NET_TASKS: u32 = 4_000_000;
 
 /// How many edges a net may have.
-pub const MAX_EDGES: u32 = 8_000_000;
+pub const MAX_NET_EDGES: u32 = 8_000_000;
 
 /// How many semaphores a net may have.
 pub const MAX_SEMAPHORES: u32 = 256;
@@ -71,7 +71,7 @@ impl Model for NetBuilder {
 
     ghost Value = { NetRows };
 
-    ghost use Rattle.task_graph.specs.inside.Building.{built_rows, IsBuilding};
+    ghost use Rattle.task_graph.specs.inside.BuilderState.{built_rows, IsBuilding};
 
     ghost view = { built_rows };
 
@@ -115,7 +115,7 @@ impl NetBuilder {
     /// none twice; the net keeps them by rising number. After an `Err` the net is as it was.
     ///
     /// `NoSuchSemaphore`: the first number in `takes`, or else in `puts`, that no semaphore has. `Repeated`:
-    /// the least that occurs twice in `takes`, or else in `puts`. `TooMany`: the net has `MAX_TASKS`.
+    /// the least that occurs twice in `takes`, or else in `puts`. `TooMany`: the net has `MAX_NET_TASKS`.
     pub fn task(
         &mut self,
         shape: Shape,
@@ -125,11 +125,12 @@ impl NetBuilder {
         ensures answer { TaskAnswer self.old (record { shape = shape; takes = takes; puts = puts })
             result self.new }
         ensures plain { IsPlainNet self.old
-            → IsPlainTask (record { shape = shape; takes = takes; puts = puts }) → IsPlainNet self.new }
+            → IsPlainTask (record { shape = shape; takes = takes; puts = puts })
+            → IsPlainNet self.new }
     {
         self.check_lists(takes.as_slice(), puts.as_slice())?;
-        if self.tasks.len() == MAX_TASKS as usize {
-            return Err(BuildError::TooMany(MAX_TASKS));
+        if self.tasks.len() == MAX_NET_TASKS as usize {
+            return Err(BuildError::TooMany(MAX_NET_TASKS));
         }
         let row = self.settled(shape, takes.as_slice(), puts.as_slice())?;
         Ok(self.append_task(row)?)
@@ -182,15 +183,15 @@ impl NetBuilder {
     /// it was.
     ///
     /// `NoSuchTask`: the first end that is no task, `from` before `to`. `WeakStart`: the edge would be weak,
-    /// and was to begin with a token. `TooMany`: the net has `MAX_EDGES`.
+    /// and was to begin with a token. `TooMany`: the net has `MAX_NET_EDGES`.
     pub fn edge(&mut self, from: u32, to: u32, start: bool) -> Result<u32, BuildError>
         ensures answer { EdgeAnswer self.old (record { from = from; to = to; start = start })
             result self.new }
         ensures plain { IsPlainNet self.old → start ≡ false → IsPlainNet self.new }
     {
         self.check_ends(EdgeRow { from, to, start })?;
-        if self.edges.len() == MAX_EDGES as usize {
-            return Err(BuildError::TooMany(MAX_EDGES));
+        if self.edges.len() == MAX_NET_EDGES as usize {
+            return Err(BuildError::TooMany(MAX_NET_EDGES));
         }
         let id = self.edges.len() as u32;
         self.index

@@ -2,7 +2,7 @@
 ghost use Rattle.std.specs.Prelude.{◌≡◌, ◌<◌, ◌∷◌, [], ◌++◌, length, slice_index, IfOk, List, MatchOption, None, OnOk, Some, ℤ};
 ghost use Rattle.std.specs.List.Sorted.{IsStrictlyIncreasing};
 ghost use Rattle.task_graph.specs.Chosen.{chosen_edges, edge_at};
-ghost use Rattle.task_graph.specs.inside.Choosing.{HasChosen};
+ghost use Rattle.task_graph.specs.inside.Choices.{HasChosen};
 
 use outside_io::{List, NoMemory};
 use std::alloc::Global;
@@ -43,7 +43,8 @@ fn choose_at(
 // The place in `out` that an index names, if it names one.
 fn place_in_range(out: &[u32], index: &i64) -> Option<usize>
     ensures { MatchOption result (edge_at out.now index.now ≡ None)
-        (λ place. (place < length out.now) × (edge_at out.now index.now ≡ Some (slice_index out.now place))) }
+        (λ place. (place < length out.now)
+        × (edge_at out.now index.now ≡ Some (slice_index out.now place))) }
 {
     match usize::try_from(*index) {
         Ok(place) if place < out.len() => Some(place),
@@ -61,7 +62,8 @@ fn choose_edge(
     requires rising { IsStrictlyIncreasing out.now }
     requires seen { length seen.old ≡ length out.now }
     requires place { place < length out.now }
-    ensures { OnOk result ((answer : List ℤ) (index : ℤ) → edge_at out.now index ≡ Some (slice_index out.now place)
+    ensures { OnOk result
+        ((answer : List ℤ) (index : ℤ) → edge_at out.now index ≡ Some (slice_index out.now place)
         → HasChosen out.now answer seen.old chosen.old
         → HasChosen out.now (answer ++ index ∷ []) seen.new chosen.new) }
 {

@@ -69,7 +69,7 @@ impl Model for Net {
 
     ghost Value = { NetRows };
 
-    ghost use Rattle.task_graph.specs.inside.Indexed.{net_rows, IsIndexed};
+    ghost use Rattle.task_graph.specs.inside.NetState.{net_rows, IsIndexed};
 
     ghost view = { net_rows };
 

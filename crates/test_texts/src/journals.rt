@@ -2,7 +2,8 @@
 use crate::fields::{are_bytes_of, bytes_of};
 use journal_rules::{Cause, DropWhy, Entry, Journal, Part, Why};
 use journal_text::{JournalError, print_journal, read_journal};
-use outside_io::{FailAt, List, MemorySink, NoMemory, Sink, SinkFault};
+use outside_io::for_tests::{FailAt, MemorySink};
+use outside_io::{List, NoMemory, Sink, SinkFault};
 use std::alloc::Global;
 use std::test::Fail;
 

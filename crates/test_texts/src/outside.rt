@@ -1,8 +1,8 @@
 // `outside_io`: lists, and sources of texts and sinks that fail at the calls that were named. The texts of a folder are
 // in files.
+use outside_io::for_tests::{FailAt, MemorySink, MemoryTexts};
 use outside_io::{
-    Bytes, FailAt, FolderTexts, Found, List, MemorySink, MemoryTexts, NoMemory, Sink, SinkFault,
-    StdSink, Texts, TextsFault,
+    Bytes, FolderTexts, Found, List, NoMemory, Sink, SinkFault, StdSink, Texts, TextsFault,
 };
 use std::alloc::Global;
 use std::fs;

@@ -21,11 +21,15 @@ pub fn lines_and_words()
 /// Laws of the operations that cut a text between lines or share its lines out.
 pub fn shares_of_lines()
     // The first n lines and the others are the text.
-    ensures cut { (n : ℕ) (text : List ℕ) → head_meaning n text ++ skip_meaning n text ≡ normal text }
+    ensures cut { (n : ℕ) (text : List ℕ)
+        → head_meaning n text ++ skip_meaning n text ≡ normal text }
     // What precedes the last n lines and these are the text.
-    ensures last { (n : ℕ) (text : List ℕ) → head_meaning (length (lines_of text) - n) text ++ tail_meaning n text ≡ normal text }
+    ensures last { (n : ℕ) (text : List ℕ)
+        → head_meaning (length (lines_of text) - n) text ++ tail_meaning n text ≡ normal text }
     // Each line is among those in which the word occurs or among the others, as often as it occurs in the text.
-    ensures shared { (word text : List ℕ) → IsPermutation (lines_of text) (lines_of (keep_meaning word text) ++ lines_of (without_meaning word text)) }
+    ensures shared { (word text : List ℕ)
+        → IsPermutation (lines_of text)
+        (lines_of (keep_meaning word text) ++ lines_of (without_meaning word text)) }
 {}
 
 /// Laws of lines in order and of those that repeat.
@@ -39,9 +43,12 @@ pub fn order_of_lines()
     // No two neighbours are equal, and of lines in order each is left once, in order.
     ensures differ { (lines : List (List ℕ)) → NeighboursDiffer (without_repeats lines) }
     ensures ordered { (lines : List (List ℕ)) → AllPairs IsUpTo (without_repeats (in_order lines)) }
-    ensures once { (lines : List (List ℕ)) → AllPairs (λ a b. a ≢ b) (without_repeats (in_order lines)) }
-    ensures each { (line : List ℕ) (lines : List (List ℕ)) → Contains lines line ↔ Contains (without_repeats (in_order lines)) line }
+    ensures once { (lines : List (List ℕ))
+        → AllPairs (λ a b. a ≢ b) (without_repeats (in_order lines)) }
+    ensures each { (line : List ℕ) (lines : List (List ℕ))
+        → Contains lines line ↔ Contains (without_repeats (in_order lines)) line }
 
     // The counts of the different lines add up to the number of lines.
-    ensures counts { (lines : List (List ℕ)) → sum_by (λ line. count_of line lines) (without_repeats (in_order lines)) ≡ length lines }
+    ensures counts { (lines : List (List ℕ))
+        → sum_by (λ line. count_of line lines) (without_repeats (in_order lines)) ≡ length lines }
 {}

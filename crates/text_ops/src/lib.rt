@@ -9,38 +9,35 @@
 //! that are equal, `specs/MatchKeys.antt` how lines of two texts match, `specs/Values.antt` what an operation answers.
 #![tactic(auto)]
 
-mod counted;
+mod counts;
 mod cuts;
 mod found_line;
 mod gathered;
-mod gathering;
 mod joined;
-mod joining;
-mod keeping;
 mod kept_lines;
 mod laws;
 mod line_runs;
 mod line_walk;
 mod mark;
 mod marks;
-mod matched;
+mod matches;
 mod normal_text;
+mod order;
 mod part;
 mod repeats;
-mod sorted;
-mod tallied;
+mod tallies;
 mod text;
 
-pub use counted::{count, count_line, line_count};
+pub use counts::{count, count_line, line_count};
 pub use cuts::{head, skip, tail};
 pub use gathered::{ApplyError, VALUE_LIMIT};
 pub use joined::Joined;
 pub use kept_lines::{has_word, keep, without};
 pub use laws::{lines_and_words, order_of_lines, shares_of_lines};
-pub use matched::match_lines;
+pub use matches::match_lines;
 pub use normal_text::{into_normal, is_normal};
+pub use order::sort;
 pub use part::pass;
 pub use repeats::uniq;
-pub use sorted::sort;
-pub use tallied::tally;
+pub use tallies::tally;
 pub use text::Text;

@@ -130,7 +130,9 @@ fn compare<O: Offset>(text: &[u8], by: Piece, a: &Mark<O>, b: &Mark<O>) -> Order
 
 // The order of marks with equal leads.
 fn compare_pieces<O: Offset>(text: &[u8], by: Piece, a: &Mark<O>, b: &Mark<O>) -> Ordering
-    ensures { result ≡ ordering_then (behind_leads_cmp (marked_piece text.now a.now) (marked_piece text.now b.now)) (nat_cmp (tie_of by a.now) (tie_of by b.now)) }
+    ensures { result ≡ ordering_then
+        (behind_leads_cmp (marked_piece text.now a.now) (marked_piece text.now b.now))
+        (nat_cmp (tie_of by a.now) (tie_of by b.now)) }
 {
     match compare_behind_leads(marked_piece(text, a), marked_piece(text, b)) {
         Ordering::Equal => tie(by, a).cmp(&tie(by, b)),

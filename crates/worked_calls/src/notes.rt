@@ -2,7 +2,8 @@
 use call_status::{Noted, Status, put_note};
 use graph_file::GraphError;
 use graph_plans::Spot;
-use outside_io::{List, MemorySink};
+use outside_io::List;
+use outside_io::for_tests::MemorySink;
 use std::test::Fail;
 
 #[test]

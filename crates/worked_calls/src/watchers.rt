@@ -1,5 +1,5 @@
 // The watchers that a call is handed, and how they come back: in their order, whatever the number of workers.
-use legal_run::Span;
+use journal_rules::Span;
 use outside_io::NoMemory;
 use span_profile::{SpanCount, Watch};
 use std::test::Fail;

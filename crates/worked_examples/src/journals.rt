@@ -1,7 +1,7 @@
 // What the starts of journals find, judged with the answers that were worked out by hand.
 use crate::nets::{ExampleNet, PLAIN, built_net};
 use crate::steps::{Step, journal_of};
-use legal_run::{Cause, Entry, Journal, Part};
+use journal_rules::{Cause, Entry, Journal, Part};
 use outside_io::{List, NoMemory};
 use slow_verdicts::meets_data_rule;
 use std::alloc::Global;

@@ -1,6 +1,7 @@
 // A run of many tasks.
 use crate::nets::{PLAIN, add_task};
-use legal_run::{Cause, MAX_LIMIT, Machine, MachineError};
+use journal_rules::{Cause, MAX_LIMIT};
+use legal_run::{Machine, MachineError};
 use outside_io::NoMemory;
 use std::alloc::Global;
 use std::sync::Arc;

@@ -2,7 +2,8 @@
 // nothing is counted ahead, and no clause says what is decided: these are the rules in other words than the definitions.
 use crate::nets::ExampleNet;
 use crate::steps::Step;
-use legal_run::{Break, Cause, DropWhy, Verdict, Why};
+use journal_rules::{Cause, DropWhy, Why};
+use legal_run::{Break, Verdict};
 
 /// The steps that a run of a net has taken, and the most starts that it may have.
 #[derive(Clone, Copy)]

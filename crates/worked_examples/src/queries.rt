@@ -3,7 +3,8 @@ ghost use Rattle.std.specs.Prelude.{◌≡◌, ◌<◌, length};
 
 use crate::nets::{CHOICE, ExampleNet, PLAIN, built_net};
 use crate::steps::{Step, ask, judged};
-use legal_run::{Break, Cause, Machine, Part, Ready, Verdict};
+use journal_rules::{Cause, Part};
+use legal_run::{Break, Machine, Ready, Verdict};
 use outside_io::NoMemory;
 use std::test::Fail;
 

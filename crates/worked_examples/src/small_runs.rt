@@ -2,7 +2,8 @@
 use crate::nets::{CHOICE, ExampleNet, MANY, PLAIN, PUTTER, TAKER, built_net};
 use crate::plain_rules::Taken;
 use crate::steps::{Step, ask};
-use legal_run::{Cause, DropWhy, Machine, MachineError, Why};
+use journal_rules::{Cause, DropWhy, Why};
+use legal_run::{Machine, MachineError};
 use outside_io::NoMemory;
 use std::alloc::Global;
 use std::process::Abort;

@@ -1,7 +1,8 @@
 // Steps of a run.
 ghost use Rattle.std.specs.Prelude.{◌≡◌};
 
-use legal_run::{Cause, DropWhy, Entry, Journal, Machine, MachineError, Verdict, Why, judge};
+use journal_rules::{Cause, DropWhy, Entry, Journal, Why};
+use legal_run::{Machine, MachineError, Verdict, judge};
 use outside_io::{List, NoMemory};
 use std::alloc::Global;
 use std::sync::Arc;

@@ -1,6 +1,7 @@
 // Which verdicts occurred, and of which steps.
 use crate::steps::Step;
-use legal_run::{Break, Cause, DropWhy, Verdict, Why};
+use journal_rules::{Cause, DropWhy, Why};
+use legal_run::{Break, Verdict};
 use std::alloc::Global;
 use std::process::Abort;
 use std::test::Fail;

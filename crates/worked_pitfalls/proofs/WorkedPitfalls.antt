@@ -11,7 +11,7 @@ use Rattle.task_graph.specs.Net.{is_weak, strong_in, weak_in, IsSource}
 use Rattle.pitfall_check.specs.declared.finding.Finding.{Finding}
 use Rattle.pitfall_check.specs.declared.finding.Finding.TheVariants.{NoSource, Mixed, ManyConditions, StrongCycle, NeverReached}
 use Rattle.pitfall_check.specs.Walks.{IsWalk, IsReachable, IsOnStrongCycle}
-use Rattle.pitfall_check.specs.Sources.{IsWithoutSource}
+use Rattle.task_graph.specs.Sources.{HasNoSource}
 use Rattle.pitfall_check.specs.Pitfalls.{BeginsWithoutTokens, edge_from, IsMixed, HasManyConditions, IsNeverReached, IsPitfall}
 use Rattle.pitfall_check.specs.Findings.{finding_kind, finding_task, finding_key, AreFindings}
 
@@ -173,7 +173,7 @@ no_source = record { some = omega arith; none = ring_has_no_source }
 some_source : ¬ IsPitfall looped NoSource
 some_source without = without.none 0 (omega arith) refl
 
-no_task : ¬ IsWithoutSource empty
+no_task : ¬ HasNoSource empty
 no_task without = absurd (omega (arith, without.some))
 
 -- Mixed in-edges are strong and weak ones.

@@ -1,9 +1,8 @@
 -- A crew may be shared by threads, and its seats may go to them: of the types that they are made of, one after the other,
 -- since a search for all at once gives up.
 use denote.RattleType.{RattleType}
-use denote.Hole.{as_row}
 use denote.Param.Send.{IsSend, IsSync, sendable}
-use denote.Param.SendFields.{as_row_send, as_row_sync, declared_send}
+use denote.Param.SendFields.{as_row_send, declared_send}
 use Rattle.std.proofs.Crossing.{crosses, frees}
 use Rattle.std.proofs.alloc.Global.TheSendSync as heap
 use Rattle.std.proofs.option.Option.TheSendSync as option
@@ -13,18 +12,11 @@ use Rattle.atomic_table.proofs.send_lease.SendLease.TheSendSync as lease
 use Rattle.boxcar.proofs.slot.OnceSlot.TheSendSync as slot
 use Rattle.boxcar.proofs.slot.Written.TheSendSync as written
 use Rattle.boxcar.proofs.tag.Tag.TheSendSync as tag
-use Rattle.table_frames.proofs.frame.Frame.TheLaws.TheKnot as frame_knot
 use Rattle.run_frame.proofs.run.FrameRun.TheLaws.TheKnot as run_knot
 use Rattle.run_frame.specs.declared.job.Job as Job
 use Rattle.run_frame.specs.declared.job.Valued as Valued
 use Rattle.run_frame.specs.contracts.run.FrameRun as frame_run
-use Rattle.task_graph.specs.contracts.net.Net as net
-use Rattle.join_words.specs.contracts.ins.Given as given
-use Rattle.table_steps.specs.contracts.table_seat.TableSeat as table_seat
-use Rattle.join_tables.specs.contracts.fates.Fate as fate
-use Rattle.table_frames.specs.contracts.table_run.TableRun as table_run
-use Rattle.table_frames.specs.contracts.kept.KeptRun as kept
-use Rattle.table_frames.specs.contracts.frame.Frame as frame
+use Rattle.table_frames.proofs.Crossing as frames
 use Rattle.table_frames.specs.contracts.release.Release as release
 use Rattle.ready_deques.proofs.owner.Owner.TheSendSync as owner
 use Rattle.ready_deques.specs.contracts.owner.Owner as owner_type
@@ -45,50 +37,9 @@ use Rattle.worker_seat.specs.contracts.crew_run.CrewRun as crew_run
 -- what crosses threads without regard to jobs
 ruleset tables = (crosses, frees, heap.the_field_send, heap.the_field_sync, heap.the_send, heap.the_sync, option.the_send, option.the_sync, seat.the_send, shared.the_send, shared.the_sync, lease.the_send, lease.the_sync, slot.the_send, slot.the_sync, written.the_send, written.the_sync, tag.the_send, tag.the_sync, sendable)
 
-net_send : IsSend net.the_row
-net_send = search tables depth 60 fits 20000
-
-net_sync : IsSync net.the_row
-net_sync = search tables depth 60 fits 20000
-
 module _ (T V : RattleType) (J : Job.Ghosts T.Denot V.Denot) (W : Valued.Ghosts T.Denot V.Denot) (s : IsSend T) (y : IsSync T) (sv : IsSend V) (yv : IsSync V) where
-  given_send : IsSend (given.the_row V)
-  given_send = search tables depth 60 fits 20000
-
-  seat_of_table_send : IsSend (table_seat.the_row V)
-  seat_of_table_send = search (given_send, tables) depth 60 fits 20000
-
-  table_run_send : IsSend (table_run.the_row T V J)
-  table_run_send = search tables depth 60 fits 20000
-
-  table_run_sync : IsSync (table_run.the_row T V J)
-  table_run_sync = search tables depth 60 fits 20000
-
-  fate_send : IsSend (fate.the_row V)
-  fate_send = search tables depth 60 fits 20000
-
-  kept_send : IsSend (kept.the_row T V J)
-  kept_send = search (fate_send, seat_of_table_send, tables) depth 60 fits 20000
-
-  run_field_send : IsSend (as_row (table_run.the_field T V J))
-  run_field_send = as_row_send (table_run.the_field T V J) table_run_send
-
-  run_field_sync : IsSync (as_row (table_run.the_field T V J))
-  run_field_sync = as_row_sync (table_run.the_field T V J) table_run_sync
-
-  -- A frame has its run, the lock with its keeper, and the frame around it, which crosses where frames do.
-  frame_send : IsSend (frame.the_row T V J W)
-  frame_send = frame_knot.both_send-Frame T V J W
-      (search tables depth 60 fits 20000) run_field_send (search (kept_send, tables) depth 60 fits 20000) (search tables depth 60 fits 20000) (λ h s y. search tables depth 60 fits 20000)
-      (search tables depth 60 fits 20000) run_field_sync (search (kept_send, tables) depth 60 fits 20000) (search tables depth 60 fits 20000) (λ h s y. search tables depth 60 fits 20000)
-
-  frame_sync : IsSync (frame.the_row T V J W)
-  frame_sync = frame_knot.both_sync-Frame T V J W
-      (search tables depth 60 fits 20000) run_field_send (search (kept_send, tables) depth 60 fits 20000) (search tables depth 60 fits 20000) (λ h s y. search tables depth 60 fits 20000)
-      (search tables depth 60 fits 20000) run_field_sync (search (kept_send, tables) depth 60 fits 20000) (search tables depth 60 fits 20000) (λ h s y. search tables depth 60 fits 20000)
-
   release_send : IsSend (release.the_row T V J W)
-  release_send = search (frame_send, frame_sync, seat_of_table_send, tables) depth 60 fits 20000
+  release_send = frames.release_send T V J W s y sv yv
 
   run_send : IsSend (frame_run.the_row T V)
   run_send = search (run_knot.crosses, tables) depth 60 fits 20000

@@ -13,7 +13,7 @@ use ready_deques::Owner;
 use run_frame::Job;
 use std::alloc::Global;
 use std::sync::Wait;
-use table_frames::{Backlog, Frame, Release, State, Stepped};
+use table_frames::{Backlog, Brought, Frame, Release, State, Stepped};
 
 /// The run that a worker is at, and the list of its crew.
 #[derive(Drop)]
@@ -73,7 +73,7 @@ impl<J: Job + Drop> Shift<'_, J> {
         requires { MayTake backlog.old self.now.number.now.frames }
         ensures { OnOk result (MayTake backlog.new self.now.number.now.frames) }
     {
-        let Stepped { state, .. } = Frame::bring(rt, backlog)?;
+        let Brought { state, .. } = Frame::bring(rt, backlog)?;
         if let State::Closed(closed) = state {
             self.run.close(rt, closed);
             self.list.close();

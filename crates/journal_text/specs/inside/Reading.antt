@@ -17,9 +17,9 @@ use Rattle.journal_text.specs.declared.version.Version.{Version}
 use Rattle.journal_text.specs.declared.version.Version.TheVariants.{One, Two}
 use Rattle.journal_text.specs.declared.line_fault.LineFault.{LineFault}
 use Rattle.journal_text.specs.declared.line_fault.LineFault.TheVariants.{Bad, NoMemory}
-use Rattle.journal_text.specs.declared.reading.JournalError.{JournalError}
-use Rattle.journal_text.specs.declared.reading.JournalError.TheVariants.{BadLine}
-use Rattle.journal_text.specs.declared.reading.JournalError.TheVariants as error
+use Rattle.journal_text.specs.declared.reader.JournalError.{JournalError}
+use Rattle.journal_text.specs.declared.reader.JournalError.TheVariants.{BadLine}
+use Rattle.journal_text.specs.declared.reader.JournalError.TheVariants as error
 use Rattle.journal_text.specs.JournalText.{HasLine, entry_line}
 
 abbrev pub ReadFront : Type 0 → Type 0

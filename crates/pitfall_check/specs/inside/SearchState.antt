@@ -3,7 +3,7 @@ use Rattle.std.specs.Prelude.{◌≡◌, ℕ, ◌++◌, ◌∷◌, [], slice_set
 use Rattle.task_graph.specs.NetRows.{NetRows}
 use Rattle.pitfall_check.specs.declared.search.Search.{Search}
 use Rattle.pitfall_check.specs.declared.progress.Progress.TheVariants.{Open}
-use Rattle.pitfall_check.specs.inside.Searching.{IsSearch}
+use Rattle.pitfall_check.specs.inside.SearchRules.{IsSearch}
 
 abbrev pub HoldsSearch : NetRows → Search → Type 0
 HoldsSearch net search = IsSearch net search.states.items search.cursors.items search.path.items search.order.items

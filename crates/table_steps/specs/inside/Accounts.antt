@@ -14,6 +14,7 @@ use Rattle.journal_rules.specs.Counts.{start_at, started, closes, starts, faults
 use Rattle.journal_rules.specs.HaltLimitStuckRule.{is_stuck}
 use Rattle.journal_rules.specs.SemaphoreRule.{takes, puts, taken, back, max_of, closed_takers, IsOverRelease}
 use Rattle.journal_rules.specs.Complete.{is_limited}
+use Rattle.journal_rules.specs.Limits.{max_limit}
 use Rattle.journal_rules.specs.ShapeLegal.{ShapeLegal}
 use Rattle.table_steps.specs.Releases.{MayBeReleased}
 use Rattle.table_steps.specs.declared.view.TurnDuty.{TurnDuty}
@@ -270,7 +271,7 @@ pub record Balanced (net : NetRows) (limit : ℕ) (w : Readings) (counted : ℕ 
 
 pub record FitsPlan (net : NetRows) (limit : ℕ) : Type 0 where
   pub rows : IsNet net
-  pub limited : limit ≤ 2097153
+  pub limited : limit ≤ max_limit
   pub maxima : (s : ℕ) → max_of net s ≤ 4294967295
 
 -- the words: clock, live turns, starts, halt, then of each semaphore its units and its credits, of each edge its slot's

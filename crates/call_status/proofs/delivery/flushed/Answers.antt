@@ -1,7 +1,7 @@
 use Rattle.std.proofs.Common.{subst, Result}
-use Rattle.outside_io.specs.declared.sink.SinkFault.{SinkFault}
+use Rattle.outside_io.specs.declared.ports.sink.SinkFault.{SinkFault}
 use Rattle.outside_io.specs.Sink.{Writes}
-use Rattle.call_status.proofs.Delivering.{flush_delivers}
+use Rattle.call_status.proofs.Deliveries.{flush_delivers}
 use Rattle.call_status.proofs.delivery.flushed.Goals as goal
 
 pub returns-in-Ok : goal.returns-in-Ok

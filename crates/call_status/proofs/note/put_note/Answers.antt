@@ -1,4 +1,4 @@
-use Rattle.call_status.proofs.Delivering.{noted_line}
+use Rattle.call_status.proofs.Deliveries.{noted_line}
 use Rattle.call_status.proofs.note.put_note.Goals as goal
 
 pub returns-in-BadWords : goal.returns-in-BadWords

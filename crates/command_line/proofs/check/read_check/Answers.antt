@@ -1,15 +1,18 @@
-use Rattle.std.proofs.Common.{subst, sym, ◌≡◌, true, refl}
-use Rattle.clap.specs.Words.{App, is_simple, is_simple_and_free}
+use Rattle.std.proofs.Common.{map, subst, sym, ◌≡◌, ◌∙◌, true, refl}
+use Rattle.std.specs.String.{string_bytes}
+use Rattle.clap.specs.Words.{App, app_of, found_of, is_simple, is_simple_and_free, rows_of}
 use Rattle.clap.proofs.OnLiterals.{clap_on_literals}
-use Rattle.command_line.specs.Requests.{check_app}
+use Rattle.command_line.specs.declared.check.Check.{Check}
+use Rattle.command_line.specs.Requests.{check, check_app, check_in}
+use Rattle.command_line.proofs.Reading.{asks, request_err, request_ok}
 use Rattle.command_line.proofs.check.read_check.Goals as goal
 
 check_is_simple : is_simple check_app ≡ true
-unfolding clap_on_literals
+unfolding clap_on_literals check_app
 check_is_simple = refl
 
 check_is_free : is_simple_and_free check_app ≡ true
-unfolding clap_on_literals
+unfolding clap_on_literals check_app
 check_is_free = refl
 
 pub matches_in-requires-clause-simple : goal.matches_in-requires-clause-simple
@@ -17,3 +20,13 @@ matches_in-requires-clause-simple c = subst (λ (app : App). is_simple app ≡ t
 
 pub matches_in-requires-clause-free : goal.matches_in-requires-clause-free
 matches_in-requires-clause-free c = subst (λ (app : App). is_simple_and_free app ≡ true) (sym c.in_ok-command.ensures) check_is_free
+
+pub returns-clause-ok : goal.returns-clause-ok
+returns-clause-ok c =
+    let wanted = asks check_in check_app (app_of c.in_ok-command.command) (map string_bytes c.args.arguments.now) (rows_of (found_of c.in_ok-matches.matches)) c.in_ok-command.ensures c.in_ok-matches.ensures.ok in
+    request_ok (λ (r : Check). check r.file.now) _ c.check_of.result c.ok_or.result c.ok_or.ensures.value (c.check_of.ensures ∙ sym wanted)
+
+pub returns-clause-err : goal.returns-clause-err
+returns-clause-err c =
+    let wanted = asks check_in check_app (app_of c.in_ok-command.command) (map string_bytes c.args.arguments.now) (rows_of (found_of c.in_ok-matches.matches)) c.in_ok-command.ensures c.in_ok-matches.ensures.ok in
+    request_err (λ (r : Check). check r.file.now) _ c.check_of.result c.ok_or.result c.ok_or.ensures.value (c.check_of.ensures ∙ sym wanted)

@@ -1,15 +1,18 @@
-use Rattle.std.proofs.Common.{subst, sym, ◌≡◌, true, refl}
-use Rattle.clap.specs.Words.{App, is_simple, is_simple_and_free}
+use Rattle.std.proofs.Common.{map, subst, sym, ◌≡◌, ◌∙◌, true, refl}
+use Rattle.std.specs.String.{string_bytes}
+use Rattle.clap.specs.Words.{App, app_of, found_of, is_simple, is_simple_and_free, rows_of}
 use Rattle.clap.proofs.OnLiterals.{clap_on_literals}
-use Rattle.command_line.specs.Requests.{judge_app}
+use Rattle.command_line.specs.declared.judge.Judge.{Judge}
+use Rattle.command_line.specs.Requests.{judge, judge_app, judge_in}
+use Rattle.command_line.proofs.Reading.{asks, request_err, request_ok}
 use Rattle.command_line.proofs.judge.read_judge.Goals as goal
 
 judge_is_simple : is_simple judge_app ≡ true
-unfolding clap_on_literals
+unfolding clap_on_literals judge_app
 judge_is_simple = refl
 
 judge_is_free : is_simple_and_free judge_app ≡ true
-unfolding clap_on_literals
+unfolding clap_on_literals judge_app
 judge_is_free = refl
 
 pub matches_in-requires-clause-simple : goal.matches_in-requires-clause-simple
@@ -17,3 +20,13 @@ matches_in-requires-clause-simple c = subst (λ (app : App). is_simple app ≡ t
 
 pub matches_in-requires-clause-free : goal.matches_in-requires-clause-free
 matches_in-requires-clause-free c = subst (λ (app : App). is_simple_and_free app ≡ true) (sym c.in_ok-command.ensures) judge_is_free
+
+pub returns-clause-ok : goal.returns-clause-ok
+returns-clause-ok c =
+    let wanted = asks judge_in judge_app (app_of c.in_ok-command.command) (map string_bytes c.args.arguments.now) (rows_of (found_of c.in_ok-matches.matches)) c.in_ok-command.ensures c.in_ok-matches.ensures.ok in
+    request_ok (λ (r : Judge). judge r.file.now r.journal.now r.limit) _ c.judge_of.result c.ok_or.result c.ok_or.ensures.value (c.judge_of.ensures ∙ sym wanted)
+
+pub returns-clause-err : goal.returns-clause-err
+returns-clause-err c =
+    let wanted = asks judge_in judge_app (app_of c.in_ok-command.command) (map string_bytes c.args.arguments.now) (rows_of (found_of c.in_ok-matches.matches)) c.in_ok-command.ensures c.in_ok-matches.ensures.ok in
+    request_err (λ (r : Judge). judge r.file.now r.journal.now r.limit) _ c.judge_of.result c.ok_or.result c.ok_or.ensures.value (c.judge_of.ensures ∙ sym wanted)

@@ -1,5 +1,5 @@
 use Rattle.std.proofs.Common.{◌≡◌, ℕ, ◌<◌, [], false}
-use Rattle.pitfall_check.specs.inside.Searching.{IsSearch, is_unseen, progress_of}
+use Rattle.pitfall_check.specs.inside.SearchRules.{IsSearch, is_unseen, progress_of}
 use Rattle.pitfall_check.proofs.search.finish_order.Given as goal
 
 abbrev pub invariant-loop-task : goal.invariant-loop-task

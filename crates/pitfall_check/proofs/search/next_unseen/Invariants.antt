@@ -1,4 +1,4 @@
-use Rattle.pitfall_check.specs.inside.Searching.{NoneLeadsToUnseen}
+use Rattle.pitfall_check.specs.inside.SearchRules.{NoneLeadsToUnseen}
 use Rattle.pitfall_check.proofs.search.next_unseen.Given as goal
 
 abbrev pub invariant-loop-place : goal.invariant-loop-place

@@ -1,6 +1,6 @@
 use Rattle.std.proofs.Common.{ℕ, ◌<◌, get_or}
 use Rattle.pitfall_check.specs.inside.Steps.{StepsBy}
-use Rattle.pitfall_check.specs.inside.Spreading.{Adds, EndIsMarked}
+use Rattle.pitfall_check.specs.inside.MarkSpread.{Adds, EndIsMarked}
 use Rattle.pitfall_check.proofs.spread.mark_ends.Given as goal
 
 abbrev pub invariant-loop-edge : goal.invariant-loop-edge

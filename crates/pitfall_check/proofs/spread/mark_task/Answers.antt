@@ -1,5 +1,5 @@
 use Rattle.std.proofs.Common.{◌≡◌, sym, subst, slice_set}
-use Rattle.pitfall_check.specs.inside.Spreading.{Adds}
+use Rattle.pitfall_check.specs.inside.MarkSpread.{Adds}
 use Rattle.pitfall_check.proofs.SpreadLemmas.{Adds-one}
 use Rattle.pitfall_check.proofs.spread.mark_task.Goals as goal
 

@@ -1,7 +1,7 @@
 use Rattle.std.proofs.Common.{◌≡◌, ℕ, ◌<◌, ◌≤◌, List, length, ◌∙◌, subst, arith}
 use Rattle.std.proofs.lemmas.List.{get_or_default}
 use Rattle.pitfall_check.specs.inside.Steps.{StepsBy}
-use Rattle.pitfall_check.specs.inside.Spreading.{Adds, EndsAreMarked}
+use Rattle.pitfall_check.specs.inside.MarkSpread.{Adds, EndsAreMarked}
 use Rattle.pitfall_check.proofs.SpreadLemmas.{IsSpreading-begin, IsSpreading-next, IsSpread-end, queue_in_range}
 use Rattle.pitfall_check.proofs.spread.spread.Goals as goal
 

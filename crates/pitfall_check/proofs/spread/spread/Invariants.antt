@@ -1,5 +1,5 @@
 use Rattle.std.proofs.Common.{◌+◌, ◌-◌, length}
-use Rattle.pitfall_check.specs.inside.Spreading.{IsSpreading, unmarked_count}
+use Rattle.pitfall_check.specs.inside.MarkSpread.{IsSpreading, unmarked_count}
 use Rattle.pitfall_check.proofs.spread.spread.Given as goal
 
 abbrev pub invariant-loop-next : goal.invariant-loop-next

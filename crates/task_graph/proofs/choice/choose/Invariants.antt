@@ -1,5 +1,5 @@
 use Rattle.std.proofs.Common.{take}
-use Rattle.task_graph.specs.inside.Choosing.{HasChosen}
+use Rattle.task_graph.specs.inside.Choices.{HasChosen}
 use Rattle.task_graph.proofs.choice.choose.Given as goal
 
 abbrev pub invariant-loop-index : goal.invariant-loop-index

@@ -6,7 +6,7 @@ use Rattle.pitfall_check.specs.declared.way.Way.TheVariants.{Ahead}
 use Rattle.pitfall_check.specs.declared.progress.Progress.{Progress}
 use Rattle.pitfall_check.specs.declared.progress.Progress.TheVariants.{Open, Done}
 use Rattle.pitfall_check.specs.inside.Steps.{edge_to}
-use Rattle.pitfall_check.specs.inside.Searching.{IsSearch, FindsNext, NoneLeadsToUnseen, is_unseen}
+use Rattle.pitfall_check.specs.inside.SearchRules.{IsSearch, FindsNext, NoneLeadsToUnseen, is_unseen}
 use Rattle.pitfall_check.proofs.PlaceLemmas.{listed_length}
 use Rattle.pitfall_check.proofs.StepLemmas.{edges_by_in_range}
 use Rattle.pitfall_check.proofs.SearchLemmas.{path_task_in_range, IsSearch-finish, IsSearch-go_on, found_step, fewer_unseen, IsSearch-same}

@@ -2,7 +2,7 @@ use Rattle.std.proofs.Common.{◌≡◌, ◌∷◌, [], ◌++◌, List, true, re
 use Rattle.std.proofs.lemmas.List.{get_or-set_same, get_or_default}
 use Rattle.pitfall_check.specs.declared.progress.Progress.{Progress}
 use Rattle.pitfall_check.specs.declared.progress.Progress.TheVariants.{Open, Unseen}
-use Rattle.pitfall_check.specs.inside.Searching.{progress_of, is_unseen, OnlySeesMore}
+use Rattle.pitfall_check.specs.inside.SearchRules.{progress_of, is_unseen, OnlySeesMore}
 use Rattle.pitfall_check.proofs.SearchLemmas.{IsSearch-begin, IsSearch-same, seen_after}
 use Rattle.pitfall_check.proofs.search.Search.visit.Goals as goal
 

@@ -1,6 +1,6 @@
 use Rattle.std.proofs.Common.{◌≡◌, ◌+◌, ◌*◌, false, length}
 use Rattle.std.specs.List.{count_by}
-use Rattle.pitfall_check.specs.inside.Searching.{IsSearch, OnlySeesMore, is_unseen, progress_of}
+use Rattle.pitfall_check.specs.inside.SearchRules.{IsSearch, OnlySeesMore, is_unseen, progress_of}
 use Rattle.pitfall_check.proofs.search.Search.visit.Given as goal
 
 abbrev pub invariant-loop-task : goal.invariant-loop-task

@@ -1,0 +1,14 @@
+pub mod WorkedSinks
+pub mod WorkedBuilder
+pub mod WorkedSteps
+pub mod WorkedFrames
+pub mod WorkedSources
+pub mod WorkedRows
+pub mod WorkedGraphFiles
+pub mod WorkedGraphJson
+pub mod WorkedLines
+pub mod WorkedSeats
+pub mod WorkedTurns
+pub mod WorkedEndValues
+pub mod WorkedEntries
+pub mod WorkedMachine

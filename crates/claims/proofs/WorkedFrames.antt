@@ -1,0 +1,537 @@
+-- What works may come to, and what the steps of frames do, computed on small ones.
+use Rattle.std.proofs.Common.{◌≡◌, ◌≢◌, ℕ, zero, suc, ◌+◌, true, false, List, [], ◌∷◌, ◌++◌, length, map, Option, Some, None, inl, inr, refl, ap, sym, subst, ◌∙◌, arith}
+use Rattle.std.specs.Arc.{arc_value, arc_with_value}
+use Rattle.std.specs.Borrow.{Bor}
+use Rattle.std.specs.Global.{Global}
+use Rattle.std.specs.declared.sync.Arc.{Arc}
+use Rattle.std.specs.declared.vec.Vec.{Vec}
+use Rattle.std.specs.Prelude.{◌⊎◌, min, All, slice_get}
+use Rattle.std.proofs.lemmas.List.Elements.{All-from_recursion, All-head}
+use Rattle.atomic_table.specs.Seated.{TableId}
+use Rattle.task_graph.specs.NetRows.{NetRows}
+use Rattle.task_graph.specs.declared.net.Shape.{Shape}
+use Rattle.task_graph.specs.declared.net.Shape.TheVariants.{Plain, Nested}
+use Rattle.task_graph.specs.declared.net.TaskRow.{TaskRow}
+use Rattle.task_graph.specs.declared.net.EdgeRow.{EdgeRow}
+use Rattle.journal_rules.specs.declared.entry.Cause.TheVariants.{Source, Strong}
+use Rattle.journal_rules.specs.declared.entry.Part.TheVariants.{From}
+use Rattle.journal_rules.specs.declared.entry.Why.{Why}
+use Rattle.journal_rules.specs.declared.entry.Why.TheVariants.{Long, Wide, Unmet, Inner, OverRelease}
+use Rattle.journal_rules.specs.declared.entry.DropWhy.TheVariants.{Halted, Limit}
+use Rattle.journal_rules.specs.declared.entry.Entry.{Entry}
+use Rattle.journal_rules.specs.declared.entry.Entry.TheVariants.{Start, End, Fault, Drop}
+use Rattle.join_words.specs.Ins.{InputValue, value, parts_of, found_of}
+use Rattle.join_words.specs.declared.ins.Given.{Given}
+use Rattle.join_words.specs.declared.ins.Given.TheVariants as given
+use Rattle.join_tables.specs.States.{FreshState, TurnState, fresh_state}
+use Rattle.join_tables.specs.Keeping.{KeeperState, keeper_state, drop_of}
+use Rattle.join_tables.specs.declared.parts.FoundParts.{FoundParts}
+use Rattle.join_tables.specs.declared.turns.EndedStart.{EndedStart}
+use Rattle.join_tables.specs.declared.fates.Failure.{Failure}
+use Rattle.join_tables.specs.declared.fates.Dropping.{Dropping}
+use Rattle.join_tables.specs.declared.fates.Fate.{Fate}
+use Rattle.join_tables.specs.declared.fates.Fate.TheVariants.{Ended, Faulted, Dropped, AllDropped}
+use Rattle.run_frame.specs.declared.job.Answer.TheVariants.{All as Each}
+use Rattle.run_frame.specs.declared.job.Done.{Done}
+use Rattle.run_frame.specs.declared.job.Done.TheVariants.{Value, Inner as InnerJob}
+use Rattle.run_frame.specs.declared.job.JobError.TheVariants.{Fault as FaultOf}
+use Rattle.run_frame.specs.declared.run.ValueRow.{ValueRow}
+use Rattle.run_frame.specs.declared.run.FrameRun.{FrameRun}
+use Rattle.run_frame.specs.Meaning.{Meaning, ErrorAllowed}
+use Rattle.run_frame.specs.Runs.{IsFine}
+use Rattle.run_frame.specs.LastEnds.{last_before, last_value}
+use Rattle.run_frame.specs.WorkRule.{WorkRule, gives_of}
+use Rattle.run_frame.specs.NestedRule.{NestedRule, job_of, journal_of}
+use Rattle.run_frame.specs.Legal.{IsKept}
+use Rattle.table_frames.specs.Allowed.{IsAllowed, AreAllowed, work_with}
+use Rattle.table_frames.specs.Frames.{FrameKey, ReleaseView, BacklogView, release_in, root_job, depth_of, frames_around, IsInnermost, HasTable, backlog_view, MayTake, key_of}
+use Rattle.table_frames.specs.Held.{HoldsRelease}
+use Rattle.table_frames.specs.Making.{IsFateOf, given_by, release_of, AreMadeBy, GivesEdges, MayRelease, Uses}
+use Rattle.table_frames.specs.Telling.{IsInJournal, HasEntriesOf}
+use Rattle.table_frames.specs.Steps.{IsRootRun, IsStateOf, IsClosed, BeginsFrame, StepsRelease}
+use Rattle.table_frames.specs.Bringing.{TakesIn, MayTakeIn, BringsFates}
+use Rattle.table_frames.specs.declared.release.HeldBy.TheVariants as held
+use Rattle.table_frames.specs.declared.stepped.Brought.{Brought}
+use Rattle.table_frames.specs.declared.stepped.State.TheVariants.{Went, Parked, Inner as HasInner, Closed}
+use Rattle.table_frames.specs.declared.stepped.Stepped.{Stepped}
+
+abbrev free : Shape → TaskRow
+free shape = record { shape = shape; takes = []; puts = [] }
+
+abbrev edge : ℕ → ℕ → EdgeRow
+edge from to = record { from = from; to = to; start = false }
+
+-- a plain task that leads to a nested one, and that to a plain one
+abbrev line : NetRows
+line = record { tasks = free Plain ∷ free Nested ∷ free Plain ∷ []; edges = edge 0 1 ∷ edge 1 2 ∷ []; sems = [] }
+
+-- Jobs that are numbers. What a task of a job comes to is the number of the job, that of the task, and all that it has
+-- found, added up: as a value, as a job that it hands on, or as the number of a fault.
+abbrev added : List (InputValue ℕ) → ℕ
+added [] = 0
+added (value n ∷ found) = n + added found
+added (none ∷ found) = added found
+
+abbrev may_answer : ℕ → ℕ → List (InputValue ℕ) → Done ℕ ℕ → Type 0
+may_answer j t found (Value n answer) = (n ≡ j + t + added found) × (answer ≡ Each)
+may_answer j t found (InnerJob k) = k ≡ j + t + added found
+
+abbrev may_fault : ℕ → ℕ → List (InputValue ℕ) → Why → Type 0
+may_fault j t found (Long n) = n ≡ j + t + added found
+may_fault j t found (Wide n) = n ≡ j + t + added found
+may_fault j t found (Unmet n) = n ≡ j + t + added found
+may_fault j t found Inner = ⊥
+may_fault j t found (OverRelease s) = ⊥
+
+abbrev sums : Meaning ℕ ℕ
+sums = record {
+  net = λ j. line;
+  limit = λ j. j + 2;
+  answers = may_answer;
+  faults = may_fault;
+  gathers = λ j run n. n ≡ j;
+  gather_faults = λ j run why. may_fault j 0 [] why;
+  follows = λ j run k. k ≡ j + 1;
+}
+
+-- the same, but that task 0 answers a value and each other task a job; or that a task answers a value where it has
+-- found something, and nothing else
+abbrev first_answers : ℕ → ℕ → List (InputValue ℕ) → Done ℕ ℕ → Type 0
+first_answers j zero found (Value n answer) = Unit {0}
+first_answers j zero found (InnerJob k) = ⊥
+first_answers j (suc t) found (Value n answer) = ⊥
+first_answers j (suc t) found (InnerJob k) = Unit {0}
+
+abbrev first_alone : Meaning ℕ ℕ
+first_alone = record sums { answers = first_answers }
+
+abbrev finders_answer : ℕ → ℕ → List (InputValue ℕ) → Done ℕ ℕ → Type 0
+finders_answer j t [] done = ⊥
+finders_answer j t (x ∷ found) (Value n answer) = Unit {0}
+finders_answer j t (x ∷ found) (InnerJob k) = ⊥
+
+abbrev finders : Meaning ℕ ℕ
+finders = record sums { answers = finders_answer }
+
+-- An error is one that the task may name on what it found.
+error_of_what_was_found : ErrorAllowed sums 2 1 (value 7 ∷ []) (FaultOf (Long 10)) × ¬ ErrorAllowed sums 2 1 (value 7 ∷ []) (FaultOf (Long 3))
+error_of_what_was_found = (refl, λ is. absurd (omega (arith, is)))
+
+-- gathering may name the job's number as a fault of one kind
+abbrev gathering : (ℕ → Why) → Meaning ℕ ℕ
+gathering kind = record sums { gather_faults = λ j run why. why ≡ kind j }
+
+-- a task may name what is its own, and what it found, as a fault of one kind
+abbrev faulting : (ℕ → Why) → Meaning ℕ ℕ
+faulting kind = record sums { faults = λ j t found why. why ≡ kind (j + t + added found) }
+
+-- the first task was started
+abbrev first_begun : List Entry
+first_begun = Start 0 Source [] ∷ []
+
+-- the nested task was started, and found the value of the first
+abbrev second_begun : List Entry
+second_begun = Start 0 Source [] ∷ End 0 (0 ∷ []) false ∷ Start 1 Strong (From 1 ∷ []) ∷ []
+
+-- The claims below speak of two values, at the places 1 and 3, and of a run that some start made.
+module _ (five ten : Arc ℕ Global) (run : FrameRun ℕ ℕ) where
+  abbrev rows : List (ValueRow ℕ)
+  rows = record { place = 1; value = five } ∷ record { place = 3; value = ten } ∷ []
+
+  abbrev no_run : ℕ → Option (FrameRun ℕ ℕ)
+  no_run n = None
+
+  abbrev the_run : ℕ → Option (FrameRun ℕ ℕ)
+  the_run n = Some run
+
+  -- The run beside an end is of the job that its task answers on what was found, and the end signals the edges of its
+  -- own task.
+  second_inner_end : job_of run ≡ 3 + (arc_value five + 0) → IsFine (journal_of run) → arc_value ten ≡ job_of run → NestedRule sums 2 rows the_run second_begun (End 2 (1 ∷ []) true)
+  second_inner_end job fine gathered = record { answered = job; fine = fine; gathered = gathered; all_edges = refl }
+
+  edges_of_the_first : ¬ NestedRule sums 2 rows the_run second_begun (End 2 (0 ∷ []) true)
+  edges_of_the_first is = let same = is.all_edges in absurd (cc)
+
+  nothing_found_by_the_second : arc_value five ≡ 7 → job_of run ≡ 3 → ¬ NestedRule sums 2 rows the_run second_begun (End 2 (1 ∷ []) true)
+  nothing_found_by_the_second seven job is = absurd (omega (arith, seven, job, is.answered))
+
+  run_of_what_was_found : arc_value five ≡ 7 → job_of run ≡ 3 → ¬ NestedRule sums 2 rows the_run second_begun (Fault 2 Inner)
+  run_of_what_was_found seven job is = absurd (omega (arith, seven, job, is.0))
+
+  -- Of a run that is fine a fault is of the kind that gathering it may name.
+  gathered_to_its_kind : job_of run ≡ 2 → IsFine (journal_of run) → NestedRule (gathering Long) 2 rows the_run first_begun (Fault 0 (Long 2)) × NestedRule (gathering Unmet) 2 rows the_run first_begun (Fault 0 (Unmet 2))
+  gathered_to_its_kind job fine = ((job, (fine, cc)), (job, (fine, cc)))
+
+  gathered_to_another_kind : ¬ NestedRule (gathering Wide) 2 rows the_run first_begun (Fault 0 (Long 2)) × ¬ NestedRule (gathering Wide) 2 rows the_run first_begun (Fault 0 (Unmet 2)) × ¬ NestedRule (gathering Long) 2 rows the_run first_begun (Fault 0 (Wide 2))
+  gathered_to_another_kind = (λ is. let same = is.1.1 in absurd (cc), λ is. let same = is.1.1 in absurd (cc), λ is. let same = is.1.1 in absurd (cc))
+
+  -- A fault of each kind is one that the task may name on what it found.
+  fault_of_what_was_found : arc_value five ≡ 7 → WorkRule sums 2 rows no_run second_begun (Fault 2 (Long 10)) × WorkRule sums 2 rows no_run second_begun (Fault 2 (Wide 10)) × WorkRule sums 2 rows no_run second_begun (Fault 2 (Unmet 10))
+  fault_of_what_was_found seven = (omega (arith, seven), omega (arith, seven), omega (arith, seven))
+
+  faults_by_their_kind : WorkRule (faulting Long) 2 rows no_run first_begun (Fault 0 (Long 2)) × WorkRule (faulting Wide) 2 rows no_run first_begun (Fault 0 (Wide 2)) × WorkRule (faulting Unmet) 2 rows no_run first_begun (Fault 0 (Unmet 2))
+  faults_by_their_kind = (refl, refl, refl)
+
+  faults_of_another_kind : ¬ WorkRule (faulting Wide) 2 rows no_run first_begun (Fault 0 (Long 2)) × ¬ WorkRule (faulting Long) 2 rows no_run first_begun (Fault 0 (Wide 2)) × ¬ WorkRule (faulting Wide) 2 rows no_run first_begun (Fault 0 (Unmet 2))
+  faults_of_another_kind = (λ is. absurd (cc), λ is. absurd (cc), λ is. absurd (cc))
+
+  fault_of_a_fault : ¬ WorkRule sums 2 rows no_run (Start 0 Source [] ∷ Fault 0 (Long 2) ∷ []) (Fault 1 (Long 2))
+  fault_of_a_fault is = is
+
+  fault_of_nothing_found : arc_value five ≡ 7 → ¬ WorkRule sums 2 rows no_run second_begun (Fault 2 (Long 3))
+  fault_of_nothing_found seven is = absurd (omega (arith, seven, is))
+
+  -- A fault that tells of a unit stands in place of a value that this task may answer, on what it found.
+  unit_fault_of_the_second : ¬ WorkRule first_alone 2 rows no_run second_begun (Fault 2 (OverRelease 0))
+  unit_fault_of_the_second is = is.allowed
+
+  unit_fault_of_a_finder : WorkRule finders 2 rows no_run second_begun (Fault 2 (OverRelease 0))
+  unit_fault_of_a_finder = record { value = 0; answer = Each; allowed = tt }
+
+  unit_fault_without_inputs : ¬ WorkRule finders 2 rows no_run (Start 0 Source [] ∷ []) (Fault 0 (OverRelease 0))
+  unit_fault_without_inputs is = is.allowed
+
+  -- The value of a task's last end; and the last end before some place.
+  abbrev twice : List Entry
+  twice = Start 0 Source [] ∷ End 0 [] false ∷ Start 0 Source [] ∷ End 2 [] false ∷ Start 1 Strong [] ∷ []
+
+  value_of_the_last_end : last_value twice rows 0 ≡ Some (arc_value ten)
+  value_of_the_last_end = refl
+
+  no_value_without_an_end : last_value twice rows 1 ≡ None
+  no_value_without_an_end = refl
+
+  drop_behind_an_end : (last_before (Start 0 Source [] ∷ End 0 [] false ∷ Drop 0 Source Limit ∷ []) 0 3 ≡ Some 1) × (last_before (Drop 0 Source Limit ∷ []) 0 1 ≡ None)
+  drop_behind_an_end = (refl, refl)
+
+  last_end_before : (last_before twice 0 3 ≡ Some 1) × (last_before twice 0 4 ≡ Some 3) × (last_before twice 0 1 ≡ None)
+  last_end_before = (refl, refl, refl)
+
+-- Two sources, of which the first leads to another task.
+abbrev flat : NetRows
+flat = record { tasks = free Plain ∷ free Plain ∷ free Plain ∷ []; edges = edge 0 1 ∷ []; sems = [] }
+
+-- the jobs above, over this net and without jobs that are handed on
+abbrev flat_answer : ℕ → ℕ → List (InputValue ℕ) → Done ℕ ℕ → Type 0
+flat_answer j t found (Value n answer) = (n ≡ j + t + added found) × (answer ≡ Each)
+flat_answer j t found (InnerJob k) = ⊥
+
+abbrev flat_sums : Meaning ℕ ℕ
+flat_sums = record sums { net = λ j. flat; answers = flat_answer }
+
+-- no answer and no fault
+abbrev mute : Meaning ℕ ℕ
+mute = record flat_sums { answers = λ j t found done. ⊥; faults = λ j t found why. ⊥ }
+
+-- A condition that leads to two tasks, of which the first leads to the second.
+abbrev fork : NetRows
+fork = record { tasks = free Choice ∷ free Plain ∷ free Plain ∷ []; edges = edge 0 1 ∷ edge 0 2 ∷ edge 1 2 ∷ []; sems = [] }
+
+-- Frames of two tables: one in no other, and one of another job inside it.
+module _ (n m : TableId) (other : m ≢ n) where
+  abbrev key : FrameKey ℕ
+  key = record { table = n; job = 2 }
+
+  abbrev own : List (FrameKey ℕ)
+  own = key ∷ []
+
+  abbrev inside : List (FrameKey ℕ)
+  inside = record { table = m; job = 9 } ∷ own
+
+  job_of_the_outermost : (root_job inside ≡ Some 2) × (root_job own ≡ Some 2) × (root_job {J = ℕ} [] ≡ None)
+  job_of_the_outermost = (refl, refl, refl)
+
+  depths : (depth_of {J = ℕ} [] ≡ 0) × (depth_of own ≡ 0) × (depth_of inside ≡ 1)
+  depths = (refl, refl, refl)
+
+  deepest : (around : List (FrameKey ℕ)) → length around ≡ 4294967296 → depth_of (key ∷ around) ≡ 4294967295
+  deepest around long = ap (λ k. min k 4294967295) long
+
+  no_frame_around : frames_around {J = ℕ} None ≡ []
+  no_frame_around = refl
+
+  frames_of_the_parent : (parent : Arc (List (FrameKey ℕ)) Global) → arc_value parent ≡ inside → frames_around (Some parent) ≡ inside
+  frames_of_the_parent parent is = is
+
+  table_of_the_inmost : HasTable inside m × ¬ HasTable inside n × ¬ HasTable {J = ℕ} [] n
+  table_of_the_inmost = (refl, (λ is. other (sym is)), λ is. is)
+
+  inmost : IsInnermost key own × ¬ IsInnermost key inside × ¬ IsInnermost key []
+  inmost = (refl, (λ is. other (ap (λ (k : FrameKey ℕ). k.table) is)), λ is. is)
+
+  release_of_a_frame : release_in own (fresh_state n 1 Strong) ≡ record { frames = own; task = 1; cause = Strong }
+  release_of_a_frame = refl
+
+  key_of_a_keeper : (keeper : KeeperState ℕ) → keeper.table ≡ n → key_of record { job = 2; keeper = keeper } ≡ key
+  key_of_a_keeper keeper is = ap (λ (t : TableId). record key { table = t }) is
+
+  -- What holds a release is a turn of its frame's own table, with its task and its cause.
+  abbrev own_release : ReleaseView ℕ
+  own_release = release_in own (fresh_state n 1 Strong)
+
+  held_by_its_turn : (turn : Bor FreshState) → turn.now ≡ fresh_state n 1 Strong → HoldsRelease {V = ℕ} own_release (held.Fresh turn)
+  held_by_its_turn turn is = (ap (λ (f : FreshState). f.table) is, ap (λ (f : FreshState). f.task) is, ap (λ (f : FreshState). f.cause) is)
+
+  held_by_a_turn_of_another_task : (turn : Bor FreshState) → turn.now ≡ fresh_state n 2 Strong → ¬ HoldsRelease {V = ℕ} own_release (held.Fresh turn)
+  held_by_a_turn_of_another_task turn is holds = absurd (omega (arith, ap (λ (f : FreshState). f.task) is, holds.1))
+
+  held_by_a_turn_of_another_cause : (turn : Bor FreshState) → turn.now ≡ fresh_state n 1 Source → ¬ HoldsRelease {V = ℕ} own_release (held.Fresh turn)
+  held_by_a_turn_of_another_cause turn is holds = let no : Source ≡ Strong = sym (ap (λ (f : FreshState). f.cause) is) ∙ holds.2 in absurd (cc)
+
+  held_by_a_turn_of_another_table : (turn : Bor FreshState) → turn.now ≡ fresh_state m 1 Strong → ¬ HoldsRelease {V = ℕ} own_release (held.Fresh turn)
+  held_by_a_turn_of_another_table turn is holds = other (sym (ap (λ (f : FreshState). f.table) is) ∙ holds.0)
+
+  held_by_a_parked_turn : (turn : Bor TurnState) → ¬ HoldsRelease {V = ℕ} own_release (held.Turn turn)
+  held_by_a_parked_turn turn holds = holds
+
+  -- A backlog takes what is done in its own frame, and an empty one what is done in any.
+  takes_of_its_frame : MayTake {V = ℕ} (backlog_view own []) own × MayTake {V = ℕ} (backlog_view [] []) own
+  takes_of_its_frame = (inr refl, inl refl)
+
+  takes_of_no_other : ¬ MayTake {V = ℕ} (backlog_view inside []) own
+  takes_of_no_other (inl none) = absurd (omega (arith, ap length none))
+  takes_of_no_other (inr same) = absurd (omega (arith, ap length same))
+
+  -- ---- What became of releases. A start of task 1 found the value 7.
+  module _ (five : Arc ℕ Global) (this : FoundParts ℕ) (found : parts_of this.ins.value ≡ given.Value 1 (arc_with_value five 7) ∷ []) where
+    abbrev ended : ℕ → ℕ → EndedStart ℕ
+    ended v t = record { task = t; cause = Strong; start = 2; found = this; value = arc_with_value five v; place = 3; gives = []; inner = false }
+
+    abbrev failed : Why → Failure ℕ
+    failed why = record { task = 1; cause = Strong; start = 2; found = this; place = 3; why = why }
+
+    abbrev dropped : Dropping
+    dropped = record { task = 2; cause = Source; place = 4; why = Halted }
+
+    found_seven : (work_with 1 this.ins.value).found ≡ value 7 ∷ []
+    found_seven = ap (map found_of) found
+
+    sum_found : (2 + 1 + added (work_with 1 this.ins.value).found) ≡ 10
+    sum_found = ap (λ got. 2 + 1 + added got) found_seven
+
+    ends_with_its_sum : IsAllowed flat_sums 2 (Ended (ended 10 1))
+    ends_with_its_sum = (record { answer = Each; allowed = (sym sum_found, refl); chosen = refl }, refl)
+
+    ends_with_another_sum : ¬ IsAllowed flat_sums 2 (Ended (ended 3 1))
+    ends_with_another_sum is = of_answer is.0.answer is.0.allowed
+      where
+        of_answer : (answer : _) → flat_answer 2 1 (work_with 1 this.ins.value).found (Value 3 answer) → ⊥
+        of_answer answer allowed = absurd (omega (arith, sum_found, allowed.0))
+
+    ends_with_an_edge_not_chosen : ¬ IsAllowed flat_sums 2 (Ended (record (ended 10 1) { gives = 0 ∷ [] }))
+    ends_with_an_edge_not_chosen is = let edges : 0 ∷ [] ≡ [] = is.0.chosen ∙ ap (gives_of []) is.0.allowed.1 in absurd (cc)
+
+    ends_with_an_inner_run : ¬ IsAllowed flat_sums 2 (Ended (record (ended 10 1) { inner = true }))
+    ends_with_an_inner_run is = let no : true ≡ false = is.1 in absurd (cc)
+
+    faults_with_its_sum : IsAllowed flat_sums 2 (Faulted (failed (Long 10))) × ¬ IsAllowed flat_sums 2 (Faulted (failed (Long 3))) × ¬ IsAllowed flat_sums 2 (Faulted (failed Inner))
+    faults_with_its_sum = (sym sum_found, (λ is. absurd (omega (arith, sum_found, is))), λ is. is)
+
+    each_drop_is_allowed : IsAllowed mute 2 (Dropped dropped)
+    each_drop_is_allowed = tt
+
+    each_is_allowed : AreAllowed flat_sums 2 (Ended (ended 10 1) ∷ Dropped dropped ∷ [])
+    each_is_allowed = (ends_with_its_sum, (tt, tt))
+
+    second_is_not_allowed : ¬ AreAllowed flat_sums 2 (Dropped dropped ∷ Ended (ended 3 1) ∷ [])
+    second_is_not_allowed are = ends_with_another_sum are.1.0
+
+    fate_of_its_release : IsFateOf 1 Strong (Ended (ended 10 1)) × IsFateOf 1 Strong (Faulted (failed (Long 10))) × IsFateOf {V = ℕ} 2 Source (Dropped dropped)
+    fate_of_its_release = ((refl, refl), (refl, refl), (refl, refl))
+
+    fate_of_another_release : ¬ IsFateOf 0 Strong (Ended (ended 10 1)) × ¬ IsFateOf 1 Source (Faulted (failed (Long 10))) × ¬ IsFateOf {V = ℕ} 0 Source (Dropped dropped)
+    fate_of_another_release = ((λ is. absurd (omega (arith, is.0))), (λ is. let no = is.1 in absurd (cc)), λ is. absurd (omega (arith, is.0)))
+
+    -- a release becomes a Drop of its own, and not those of a rest
+    drops_of_a_rest : (drops : Vec Dropping Global) → IsAllowed mute 2 (AllDropped drops) × ¬ IsFateOf {V = ℕ} 2 Source (AllDropped drops) × (given_by {V = ℕ} (AllDropped drops) ≡ [])
+    drops_of_a_rest drops = (tt, (λ is. is), refl)
+
+    edges_that_were_given : (given_by (Ended (record (ended 10 0) { gives = 0 ∷ [] })) ≡ 0 ∷ []) × (given_by (Faulted (failed (Long 10))) ≡ []) × (given_by {V = ℕ} (Dropped dropped) ≡ [])
+    edges_that_were_given = (refl, refl, refl)
+
+  -- ---- Releases that a step makes: by the edges that were given, in their order, behind those that were there, and then the
+  -- task itself once more where strong edges released it.
+  abbrev zeroth : FreshState
+  zeroth = fresh_state n 0 Source
+
+  abbrev first : FreshState
+  first = fresh_state n 1 Strong
+
+  abbrev second : FreshState
+  second = fresh_state n 2 Source
+
+  release_by_its_edge : release_of flat n 0 ≡ first
+  release_by_its_edge = refl
+
+  gives_its_edge : GivesEdges flat n (0 ∷ []) [] (first ∷ []) × GivesEdges flat n (0 ∷ []) (second ∷ []) (second ∷ first ∷ [])
+  gives_its_edge = (record { more = first ∷ []; after_is = refl; made = inl (refl, tt) }, record { more = first ∷ []; after_is = refl; made = inl (refl, tt) })
+
+  gives_and_releases_nothing : GivesEdges flat n (0 ∷ []) [] []
+  gives_and_releases_nothing = record { more = []; after_is = refl; made = (refl, tt) }
+
+  -- a weak edge always makes a release, a strong one may make none, and the releases are in the order of the edges
+  made_by_each : AreMadeBy fork n (0 ∷ 2 ∷ []) (release_of fork n 0 ∷ release_of fork n 2 ∷ []) × AreMadeBy fork n (0 ∷ 2 ∷ []) (release_of fork n 0 ∷ [])
+  made_by_each = (inl (refl, inl (refl, tt)), inl (refl, (refl, tt)))
+
+  made_by_a_weak_edge_alone : ¬ AreMadeBy fork n (0 ∷ []) []
+  made_by_a_weak_edge_alone by = let no : true ≡ false = by.0 in absurd (cc)
+
+  made_in_another_order : ¬ AreMadeBy fork n (0 ∷ 1 ∷ []) (release_of fork n 1 ∷ release_of fork n 0 ∷ [])
+  made_in_another_order (inl (same, by)) = absurd (omega (arith, ap (λ (f : FreshState). f.task) same))
+  made_in_another_order (inr (strong, by)) = let no : true ≡ false = strong in absurd (cc)
+
+  gives_before_what_was_there : ¬ GivesEdges flat n (0 ∷ []) (second ∷ []) (first ∷ second ∷ [])
+  gives_before_what_was_there is = absurd (omega (arith, ap first_task is.after_is))
+    where
+      first_task : List FreshState → ℕ
+      first_task [] = 0
+      first_task (f ∷ more) = f.task
+
+  releases_without_an_edge : ¬ GivesEdges flat n [] [] (first ∷ [])
+  releases_without_an_edge is = subst (AreMadeBy flat n []) (sym is.after_is) is.made
+
+  released_again : MayRelease n 1 Strong [] (first ∷ []) × MayRelease n 1 Strong [] []
+  released_again = (record { again = first ∷ []; after_is = refl; is = inr (refl, refl) }, record { again = []; after_is = refl; is = inl refl })
+
+  source_again : ¬ MayRelease n 0 Source [] (zeroth ∷ [])
+  source_again is = never is.again is.after_is is.is
+    where
+      never : (again : List FreshState) → zeroth ∷ [] ≡ again → ((again ≡ []) ⊎ ((Source ≡ Strong) × (again ≡ fresh_state n 0 Strong ∷ []))) → ⊥
+      never again after (inl none) = absurd (omega (arith, ap length (after ∙ none)))
+      never again after (inr (cause, same)) = absurd (cc)
+
+  -- ---- Runs that are given out.
+  closes_run : (run : FrameRun ℕ ℕ) → IsKept flat_sums run → job_of run ≡ 2 → IsRootRun flat_sums inside run
+  closes_run run kept job = record { kept = kept; job = ap Some (sym job) }
+
+  closes_an_illegal_run : (run : FrameRun ℕ ℕ) → ¬ IsKept flat_sums run → ¬ IsRootRun flat_sums own run
+  closes_an_illegal_run run never is = never is.kept
+
+  closes_the_inner_job : (run : FrameRun ℕ ℕ) → job_of run ≡ 9 → ¬ IsRootRun flat_sums inside run
+  closes_the_inner_job run job is = let same : ◌≡◌ {A = Option ℕ} (Some 2) (Some 9) = is.job ∙ ap Some job in absurd (cc)
+
+  goes_on : IsStateOf flat_sums own Went × ¬ IsStateOf flat_sums own Parked × ¬ IsStateOf flat_sums own HasInner
+  goes_on = (tt, (λ is. is), λ is. is)
+
+  gives_its_run_out : (run : FrameRun ℕ ℕ) → IsKept flat_sums run → job_of run ≡ 2 → IsStateOf flat_sums own (Closed run)
+  gives_its_run_out run kept job = record { kept = kept; job = ap Some (sym job) }
+
+  closed_alone : (run : FrameRun ℕ ℕ) → IsClosed (Closed run) × ¬ IsClosed {J = ℕ} {V = ℕ} Went × ¬ IsClosed {J = ℕ} {V = ℕ} Parked × ¬ IsClosed {J = ℕ} {V = ℕ} HasInner
+  closed_alone run = (tt, (λ is. is), (λ is. is), λ is. is)
+
+  -- ---- A beginning, a step and a bringing as a whole.
+  abbrev both_released : List (FrameKey ℕ) → List (ReleaseView ℕ)
+  both_released frames = release_in frames zeroth ∷ release_in frames second ∷ []
+
+  begins_frame : (stepped : Stepped ℕ ℕ) → stepped.released.items ≡ both_released own → stepped.state ≡ Went → BeginsFrame flat_sums 2 stepped
+  begins_frame stepped released went = record {
+    frame = key;
+    job_is = refl;
+    released = released;
+    frames = subst (All (λ (release : ReleaseView ℕ). release.frames ≡ own)) (sym released) (All-from_recursion (λ (release : ReleaseView ℕ). release.frames ≡ own) (both_released own) (refl, (refl, tt)));
+    state = subst (IsStateOf flat_sums own) (sym went) tt;
+  }
+
+  begins_without_the_second_source : (stepped : Stepped ℕ ℕ) → stepped.released.items ≡ release_in own zeroth ∷ [] → ¬ BeginsFrame flat_sums 2 stepped
+  begins_without_the_second_source stepped released is = absurd (omega (arith, ap length released, ap length is.released))
+
+  begins_the_frame_of_another_job : (stepped : Stepped ℕ ℕ) → stepped.released.items ≡ both_released own → ¬ BeginsFrame flat_sums 3 stepped
+  begins_the_frame_of_another_job stepped released is =
+      let frames = subst (All (λ (release : ReleaseView ℕ). release.frames ≡ is.frame ∷ [])) released is.frames in
+      let same : own ≡ is.frame ∷ [] = All-head (λ (release : ReleaseView ℕ). release.frames ≡ is.frame ∷ []) (release_in own zeroth) (release_in own second ∷ []) frames in
+      absurd (omega (arith, ap root_job_number same, is.job_is))
+    where
+      root_job_number : List (FrameKey ℕ) → ℕ
+      root_job_number [] = 0
+      root_job_number (frame ∷ around) = frame.job
+
+  begins_parked : (stepped : Stepped ℕ ℕ) → stepped.state ≡ Parked → ¬ BeginsFrame flat_sums 2 stepped
+  begins_parked stepped parked is = subst (IsStateOf flat_sums (is.frame ∷ [])) parked is.state
+
+  -- The first task starts without inputs, ends with the value 2 and gives its edge.
+  module _ (five : Arc ℕ Global) (nothing : FoundParts ℕ) (found : parts_of nothing.ins.value ≡ []) where
+    abbrev end_of_the_first : Fate ℕ
+    end_of_the_first = Ended (record { task = 0; cause = Source; start = 0; found = nothing; value = arc_with_value five 2; place = 1; gives = 0 ∷ []; inner = false })
+
+    nothing_found : (2 + 0 + added (work_with 0 nothing.ins.value).found) ≡ 2
+    nothing_found = ap (λ (got : List (Given ℕ)). 2 + 0 + added (map found_of got)) found
+
+    allowed : IsAllowed flat_sums 2 end_of_the_first
+    allowed = (record { answer = Each; allowed = (sym nothing_found, refl); chosen = refl }, refl)
+
+    uses : Uses flat zeroth end_of_the_first [] (first ∷ [])
+    uses = record { of = (refl, refl); makes = record { between = first ∷ []; gives = gives_its_edge.0; again = record { again = []; after_is = refl; is = inl refl } } }
+
+    uses_another_release : ¬ Uses flat second end_of_the_first [] (first ∷ [])
+    uses_another_release is = absurd (omega (arith, is.of.0))
+
+    steps_release : IsInJournal flat_sums 2 end_of_the_first → (stepped : Stepped ℕ ℕ) → stepped.released.items ≡ release_in own first ∷ [] → stepped.state ≡ Went
+        → StepsRelease flat_sums (release_in own zeroth) (backlog_view [] []) (backlog_view own (end_of_the_first ∷ [])) stepped
+    steps_release within stepped released went = record {
+      frame = key;
+      around = [];
+      frames_are = refl;
+      fate = end_of_the_first;
+      made = first ∷ [];
+      allowed = allowed;
+      journal = within;
+      uses = uses;
+      released = released;
+      frames = subst (All (λ (next : ReleaseView ℕ). next.frames ≡ own)) (sym released) (All-from_recursion (λ (next : ReleaseView ℕ). next.frames ≡ own) (release_in own first ∷ []) (refl, tt));
+      state = went;
+      backlog = refl;
+    }
+
+    steps_and_keeps_no_fate : (stepped : Stepped ℕ ℕ) → ¬ StepsRelease flat_sums (release_in own zeroth) (backlog_view [] []) (backlog_view own []) stepped
+    steps_and_keeps_no_fate stepped is = absurd (omega (arith, ap (λ (b : BacklogView ℕ ℕ). length b.fates) is.backlog))
+
+    steps_to_releases_of_another_frame : (stepped : Stepped ℕ ℕ) (new : BacklogView ℕ ℕ) → stepped.released.items ≡ release_in inside first ∷ []
+        → ¬ StepsRelease flat_sums (release_in own zeroth) (backlog_view [] []) new stepped
+    steps_to_releases_of_another_frame stepped new released is =
+        let frames = subst (All (λ (next : ReleaseView ℕ). next.frames ≡ own)) released is.frames in
+        absurd (omega (arith, ap length (All-head (λ (next : ReleaseView ℕ). next.frames ≡ own) (release_in inside first) [] frames)))
+
+    steps_as_its_work_may_not : (stepped : Stepped ℕ ℕ) → ¬ StepsRelease mute (release_in own zeroth) (backlog_view [] []) (backlog_view own (end_of_the_first ∷ [])) stepped
+    steps_as_its_work_may_not stepped is =
+        let fate : end_of_the_first ≡ is.fate = ap (λ (b : BacklogView ℕ ℕ). first_fate b.fates) is.backlog in
+        (subst (IsAllowed mute is.frame.job) (sym fate) is.allowed).0.allowed
+      where
+        first_fate : List (Fate ℕ) → Fate ℕ
+        first_fate [] = end_of_the_first
+        first_fate (f ∷ more) = f
+
+    steps_to_a_park : (stepped : Stepped ℕ ℕ) (new : BacklogView ℕ ℕ) → stepped.state ≡ Parked → ¬ StepsRelease flat_sums (release_in own zeroth) (backlog_view [] []) new stepped
+    steps_to_a_park stepped new parked is = let no = sym parked ∙ is.state in absurd (cc)
+
+  -- What is brought is with the keeper, which found how many turns were live: the run is closed where that was one.
+  module _ (fate : Fate ℕ) (before : List ℕ) where
+    abbrev keeper_that_found : ℕ → KeeperState ℕ
+    keeper_that_found k = keeper_state n (fate ∷ []) (k ∷ before)
+
+    goes_on : TakesIn own (fate ∷ []) Went (keeper_that_found 2)
+    goes_on = record { table = refl; earlier = []; fates_are = refl; before = before; found = (refl, (λ closed. absurd closed, λ two. absurd (omega (arith, two)))) }
+
+    goes_on_after_the_last : ¬ TakesIn own (fate ∷ []) Went (keeper_that_found 1)
+    goes_on_after_the_last is = is.found.1.1 refl
+
+    closes_before_the_last : (run : FrameRun ℕ ℕ) → ¬ TakesIn own (fate ∷ []) (Closed run) (keeper_that_found 2)
+    closes_before_the_last run is = absurd (omega (arith, is.found.1.0 tt))
+
+    taken_in_by_another_keeper : ¬ TakesIn inside (fate ∷ []) Went (keeper_that_found 2)
+    taken_in_by_another_keeper is = other (sym is.table)
+
+    not_taken_in : ¬ TakesIn own (fate ∷ []) Went (keeper_state n [] (2 ∷ before))
+    not_taken_in is = by_earlier is.earlier is.fates_are
+      where
+        by_earlier : (earlier : List (Fate ℕ)) → [] ≡ earlier ++ fate ∷ [] → ⊥
+        by_earlier [] same = absurd (cc)
+        by_earlier (first_of ∷ more) same = absurd (cc)
+
+    nothing_to_take_in : MayTakeIn {J = ℕ} {V = ℕ} own [] Went None × ¬ MayTakeIn {J = ℕ} {V = ℕ} own (fate ∷ []) Went None
+    nothing_to_take_in = ((refl, refl), λ is. let none = is.0 in absurd (cc))
+
+  closed_without_an_entry : (d : Dropping) (run : FrameRun ℕ ℕ) → journal_of run ≡ [] → ¬ HasEntriesOf (Closed run) (Dropped d ∷ [])
+  closed_without_an_entry d run none has = let got = subst (λ (h : List Entry). slice_get h d.place ≡ Some (drop_of d).entry) none has.0 in absurd (cc)
+
+  brings_and_closes_the_inner_job : (brought : Brought ℕ ℕ) (run : FrameRun ℕ ℕ) → brought.state ≡ Closed run → job_of run ≡ 9 → ¬ BringsFates flat_sums inside [] brought
+  brings_and_closes_the_inner_job brought run closed job is = closes_the_inner_job run job (subst (IsStateOf flat_sums inside) closed is.state)

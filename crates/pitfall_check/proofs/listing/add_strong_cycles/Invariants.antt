@@ -1,6 +1,0 @@
-use Rattle.std.proofs.Common.{◌*◌, ◌+◌, ◌^◌}
-use Rattle.pitfall_check.specs.inside.Listing.{AreFindingsBelow}
-use Rattle.pitfall_check.proofs.listing.add_strong_cycles.Given as goal
-
-abbrev pub invariant-loop-task : goal.invariant-loop-task
-invariant-loop-task l = AreFindingsBelow l.net (3 * 2 ^ 32 + l.task) l.findings

@@ -1,6 +1,0 @@
-use Rattle.std.proofs.Common.{ℕ, ◌<◌}
-use Rattle.task_graph.specs.Net.{IsSource}
-use Rattle.pitfall_check.proofs.sources.has_source.Given as goal
-
-abbrev pub invariant-loop-task : goal.invariant-loop-task
-invariant-loop-task l = (t : ℕ) → t < l.task → IsSource l.net t → ⊥

@@ -1,5 +1,0 @@
-use Rattle.pitfall_check.specs.inside.Reaching.{MarksReached}
-use Rattle.pitfall_check.proofs.sources.mark_reached.Given as goal
-
-abbrev pub invariant-loop-task : goal.invariant-loop-task
-invariant-loop-task l = MarksReached l.net l.marks.items l.task

@@ -1,0 +1,59 @@
+// The definitions, computed on small nets, journals and plans.
+ghost use Rattle.std.specs.Prelude.{[], ◌∷◌, ◌≡◌, codes};
+ghost use Rattle.run_laws.specs.OneThreadValue.{one_thread_value};
+ghost use Rattle.run_laws.specs.Steady.{Steady};
+ghost use Rattle.run_laws.specs.SmallNets.{four_tasks, two_in_a_ring, adding, adding_to_3, failing_on_2, end, run_of_the_ring, run_of_four, open_twice, after_drop, given_twice};
+ghost use Rattle.run_laws.specs.PlainReport.{IsPlainPlan, OpensNoRun, RunsWell, plain_feedback, plain_report};
+ghost use Rattle.run_laws.specs.SmallPlans.{behind_a_circle, chooses_a_branch, kept_together, takes_and_keeps, worked_job};
+
+/// The values of tasks.
+pub fn small_values()
+    ensures no_steps { one_thread_value four_tasks (adding four_tasks) 0 0 ≡ [] }
+    ensures source { one_thread_value four_tasks (adding four_tasks) 1 0 ≡ end 1 (0 ∷ 1 ∷ []) ∷ [] }
+    ensures not_yet { one_thread_value four_tasks (adding four_tasks) 2 3 ≡ [] }
+    ensures last { one_thread_value four_tasks (adding four_tasks) 3 3 ≡ end 5 [] ∷ [] }
+    ensures more { one_thread_value four_tasks (adding four_tasks) 7 3 ≡ end 5 [] ∷ [] }
+    ensures ring { one_thread_value two_in_a_ring (adding two_in_a_ring) 4 0
+        ≡ end 1 (0 ∷ []) ∷ end 3 (0 ∷ []) ∷ [] }
+    ensures ring_stops { one_thread_value two_in_a_ring (adding_to_3 two_in_a_ring) 9 0
+        ≡ end 1 (0 ∷ []) ∷ end 3 [] ∷ [] }
+    ensures ring_fails { one_thread_value two_in_a_ring (failing_on_2 two_in_a_ring) 9 0
+        ≡ end 1 (0 ∷ []) ∷ [] }
+{}
+
+/// Steady journals.
+pub fn steady_runs()
+    ensures ring { Steady two_in_a_ring run_of_the_ring }
+    ensures diamond { Steady four_tasks run_of_four }
+{}
+
+/// Journals that aren't.
+pub fn unsteady_runs()
+    ensures twice { ¬ Steady two_in_a_ring open_twice }
+    ensures after_drop { ¬ Steady two_in_a_ring after_drop }
+    ensures given_twice { ¬ Steady two_in_a_ring given_twice }
+{}
+
+/// The report of two texts whose lines with an `a` are kept together, of which one goes to another task besides. A run
+/// of at most four starts isn't cut short, and one of three is.
+pub fn kept_together_reports()
+    ensures report { plain_report (worked_job kept_together 4) ≡ codes "== k\na1\na2\n== h\nb\n" }
+    ensures enough { RunsWell (worked_job kept_together 4) }
+    ensures too_few { ¬ RunsWell (worked_job kept_together 3) }
+    ensures feedback { plain_feedback (worked_job kept_together 4) ≡ codes "b\n" }
+{}
+
+/// Tasks on a circle, and the one behind it, don't start and have no value: one start is enough.
+pub fn circle_reports()
+    ensures report { plain_report (worked_job behind_a_circle 1) ≡ codes "== p\na1\nb\n-- h\n" }
+    ensures enough { RunsWell (worked_job behind_a_circle 1) }
+    ensures too_few { ¬ RunsWell (worked_job behind_a_circle 0) }
+{}
+
+/// Of the plans below the first is plain; one with a condition isn't, nor is one of whose tasks one takes a unit that it
+/// doesn't put.
+pub fn plain_plans()
+    ensures plain { IsPlainPlan kept_together × OpensNoRun kept_together }
+    ensures condition { ¬ IsPlainPlan chooses_a_branch }
+    ensures unit { ¬ IsPlainPlan takes_and_keeps }
+{}
