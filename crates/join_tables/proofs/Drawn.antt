@@ -10,7 +10,7 @@ use Rattle.table_steps.specs.declared.view.TurnDuty.TheVariants.{Told, Fresh, Co
 use Rattle.table_steps.specs.declared.view.SeatMark.TheVariants.{Live}
 use Rattle.table_steps.specs.declared.view.SemaphoreRole.TheVariants.{Owed}
 use Rattle.table_steps.specs.declared.view.Note.{Note}
-use Rattle.table_steps.specs.declared.view.Note.TheVariants.{Duty, Sems, Has, Unfit, Lies}
+use Rattle.table_steps.specs.declared.view.Note.TheVariants.{Duty, Sems, Has, Unfit, Lies, Queued}
 use Rattle.table_steps.specs.OneJournal.{entries_in, HasEntry, AreInOneJournal}
 use Rattle.table_steps.specs.inside.Accounts.{resting, weigh}
 use Rattle.table_steps.specs.inside.Kinds.{IsTurn, with_end_drawn}
@@ -38,6 +38,7 @@ entries_tellings (Sems k l ∷ v) = entries_tellings v
 entries_tellings (Has m ∷ v) = entries_tellings v
 entries_tellings (Unfit s n t ∷ v) = entries_tellings v
 entries_tellings (Lies k e p ∷ v) = entries_tellings v
+entries_tellings (Queued q qs ∷ v) = entries_tellings v
 
 told_there : (journal : List Entry) (notes : List Note) (rs : List Recorded) → AllByRecursion (HasEntry journal) (entries_in (told_after notes rs)) → AllByRecursion (HasEntry journal) (entries_in notes) × AllByRecursion (HasEntry journal) (with_places rs)
 told_there journal notes [] h = (h, tt)

@@ -96,7 +96,7 @@ none_live : (net : NetRows) (limit : ℕ) → first_duties net 0 (length net.tas
 none_live net limit none = ap (λ xs. total (mark Live) (first_notes xs ∷ [])) none
 
 -- Where nothing is released at first, the run is finished.
-pub nothing_runs : {S : Type 0} (part : S → Part) (net : NetRows) (limit live : ℕ) (words : List ℕ) (parcels : List S) (rs : List FirstRelease) (n : TableId) (fs : List FreshState) → AreFirstParcels net (map part parcels) → limit ≤ 2097153
+pub nothing_runs : {S : Type 0} (part : S → List Part) (net : NetRows) (limit live : ℕ) (words : List ℕ) (parcels : List S) (rs : List FirstRelease) (n : TableId) (fs : List FreshState) → AreFirstParcels net (map part parcels) → limit ≤ 2097153
     → live ≡ length rs → duties_of rs ≡ first_duties net 0 (length net.tasks) → AreOpeningWords net live words → fs ≡ states_of n rs → fs ≡ [] → TellsRun net limit []
 nothing_runs part net limit live words parcels rs n fs lie limited live_len first ws is none =
     let h = begins_table part net limit live words parcels lie limited (live_is net rs live live_len first) ws in

@@ -29,7 +29,7 @@ use Rattle.journal_rules.specs.declared.entry.Part.{Part}
 use Rattle.journal_rules.specs.declared.entry.Part.TheVariants.{Nothing}
 use Rattle.table_steps.proofs.SlotViews.{slots_weigh}
 use Rattle.table_steps.specs.Credits.{first_credit}
-use Rattle.table_steps.specs.inside.Opening.{count_without_token, is_empty, source_duties, full_duties, first_duties, part_of_tokens, first_part}
+use Rattle.table_steps.specs.inside.Opening.{count_without_token, is_empty, source_duties, full_duties, first_duties, parts_of_tokens, first_queue}
 use Rattle.join_tables.specs.inside.FirstReleases.{states_of, duties_of, opening_word, AreOpeningWords, AreFirstParcels, DealsFirst}
 use Rattle.table_steps.proofs.Counting.{get_past}
 use Rattle.table_steps.proofs.OpeningDuties.{strong_below}
@@ -149,15 +149,15 @@ no_slots : (net : NetRows) (limit : ℕ) (c : SlotCoord) → slot_weigh c (openi
 no_slots net limit c = let xs = first_duties net 0 (length net.tasks) in slots_weigh c (first_notes xs) ∙ ap (slot_weigh c) (first_none net xs (are_first net 0 (length net.tasks) (omega arith)))
 
 -- what lies there
-first_lies : {S : Type 0} (part : S → Part) (xs : List S) (e : ℕ) (p : Part) → slice_get (map part xs) e ≡ Some p → label_in part (get_elem? (map some xs) e) ≡ p
-first_lies part [] e p is = absurd (cc)
-first_lies part (x ∷ xs) zero p is = some_is (part x) p is
+first_lies : {S : Type 0} (part : S → List Part) (xs : List S) (e : ℕ) (qs : List Part) → slice_get (map part xs) e ≡ Some qs → label_in part (get_elem? (map some xs) e) ≡ qs
+first_lies part [] e qs is = absurd (cc)
+first_lies part (x ∷ xs) zero qs is = some_is (part x) qs is
   where
-    some_is : (a b : Part) → Some a ≡ Some b → a ≡ b
+    some_is : (a b : List Part) → Some a ≡ Some b → a ≡ b
     some_is a b same = cc
-first_lies part (x ∷ xs) (suc e) p is = first_lies part xs e p is
+first_lies part (x ∷ xs) (suc e) qs is = first_lies part xs e qs is
 
-none_lies : {S : Type 0} (part : S → Part) (xs : List S) (e : ℕ) → length xs ≤ e → label_in part (get_elem? (map some xs) e) ≡ Nothing
+none_lies : {S : Type 0} (part : S → List Part) (xs : List S) (e : ℕ) → length xs ≤ e → label_in part (get_elem? (map some xs) e) ≡ []
 none_lies part [] e past = refl
 none_lies part (x ∷ xs) zero past = absurd (omega arith)
 none_lies part (x ∷ xs) (suc e) past = none_lies part xs e (omega arith)
@@ -172,7 +172,7 @@ bare_past net t rows past = by_list (strong_in net t) refl
     by_list [] is = refl
     by_list (e ∷ es) is = let below : t < length net.tasks = strong_below net rows t (λ none. let z : e ∷ es ≡ [] = sym is ∙ none in absurd (cc)) in absurd (omega (arith, below))
 
-pub begins_table : {S : Type 0} (part : S → Part) (net : NetRows) (limit live : ℕ) (words : List ℕ) (slots : List S) → AreFirstParcels net (map part slots) → limit ≤ 2097153 → live ≡ length (first_duties net 0 (length net.tasks)) → AreOpeningWords net live words
+pub begins_table : {S : Type 0} (part : S → List Part) (net : NetRows) (limit live : ℕ) (words : List ℕ) (slots : List S) → AreFirstParcels net (map part slots) → limit ≤ 2097153 → live ≡ length (first_duties net 0 (length net.tasks)) → AreOpeningWords net live words
     → KeepsAccounts part net limit (opening words slots (opening_notes net limit))
 begins_table {S} part net limit live words slots first limited live_is ws = record {
   fits = fits;
@@ -209,12 +209,12 @@ begins_table {S} part net limit live words slots first limited live_is ws = reco
         by_place (inl below) = let is : nat_lt e (length net.edges) ≡ true = grind (arith, nat_tests) in rw is (ws.each (tokens_from net + e) (omega (arith, ws.size, below)) ∙ edge_word net live e below)
         by_place (inr past) = let is : nat_lt e (length net.edges) ≡ false = grind (arith, nat_tests) in rw is (sym (first_past net e past))
 
-    labels : (e : ℕ) → label_of part (map some slots) e ≡ first_part net e
+    labels : (e : ℕ) → label_of part (map some slots) e ≡ first_queue net e
     labels e = by_place (cases_lt e (length slots))
       where
-        by_place : (e < length slots) ⊎ (length slots ≤ e) → label_of part (map some slots) e ≡ first_part net e
-        by_place (inl below) = first_lies part slots e (first_part net e) (first.each e (omega (arith, below, length-map slots part)))
-        by_place (inr past) = none_lies part slots e past ∙ sym (ap part_of_tokens (first_past net e (omega (arith, past, count))))
+        by_place : (e < length slots) ⊎ (length slots ≤ e) → label_of part (map some slots) e ≡ first_queue net e
+        by_place (inl below) = first_lies part slots e (first_queue net e) (first.each e (omega (arith, below, length-map slots part)))
+        by_place (inr past) = none_lies part slots e past ∙ sym (ap parts_of_tokens (first_past net e (omega (arith, past, count))))
 
     joins : (t : ℕ) → (reading net words).join t ≡ count_without_token net (strong_in net t)
     joins t = by_place (cases_lt t (length net.tasks))

@@ -7,7 +7,7 @@ use Rattle.journal_rules.specs.declared.entry.Part.{Part}
 use Rattle.journal_rules.proofs.Snoc.{slice_get_push_last, slice_get_push_below}
 
 -- in the slots, whose parts are these
-pub first_more : {S : Type 0} (part : S → Part) (want : ℕ → Part) (xs ys : List S) (x : S) (n : ℕ) → ys ≡ xs ++ x ∷ [] → length xs ≡ n
+pub first_more : {S : Type 0} (part : S → List Part) (want : ℕ → List Part) (xs ys : List S) (x : S) (n : ℕ) → ys ≡ xs ++ x ∷ [] → length xs ≡ n
     → ((e : ℕ) → e < length xs → slice_get (map part xs) e ≡ Some (want e)) → part x ≡ want n → (length ys ≡ n + 1) × ((e : ℕ) → e < length ys → slice_get (map part ys) e ≡ Some (want e))
 first_more part want xs ys x n is len each here = (ap length is ∙ length_push xs x ∙ ap (λ k. k + 1) len, now)
   where

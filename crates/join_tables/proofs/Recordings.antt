@@ -12,7 +12,7 @@ use Rattle.join_tables.specs.declared.keeper.Recorded.{Recorded}
 use Rattle.table_steps.specs.declared.view.TurnDuty.TheVariants.{Told, Fresh, Collecting, Ticket, Open, Owes, Counting}
 use Rattle.table_steps.specs.declared.view.SeatMark.TheVariants.{Live}
 use Rattle.table_steps.specs.declared.view.Note.{Note}
-use Rattle.table_steps.specs.declared.view.Note.TheVariants.{Duty, Sems, Has, Unfit, Lies}
+use Rattle.table_steps.specs.declared.view.Note.TheVariants.{Duty, Sems, Has, Unfit, Lies, Queued}
 use Rattle.table_steps.specs.inside.Duties.{place}
 use Rattle.table_steps.specs.inside.Accounts.{duty, busy, weigh, AllStand}
 use Rattle.table_steps.specs.inside.Kinds.{MayLeave, left_by, views_joined, IsWhole}
@@ -47,6 +47,7 @@ tellings_append (Sems k l ∷ v) w = tellings_append v w
 tellings_append (Has m ∷ v) w = tellings_append v w
 tellings_append (Unfit s n t ∷ v) w = tellings_append v w
 tellings_append (Lies k e p ∷ v) w = tellings_append v w
+tellings_append (Queued q qs ∷ v) w = tellings_append v w
 
 pub may_leave : (es : List Recorded) (v w : List Note) → IsSpent es w → weigh busy v ≡ 0 → MayLeave (views_joined v w)
 may_leave es v (Duty (Owes []) ∷ Has Live ∷ rest) spent idle = λ _. omega (arith, idle, spent.1, weigh_append busy rest v)
@@ -94,6 +95,7 @@ place_told m (Sems k l ∷ v) = omega (arith, place_told m v)
 place_told m (Has q ∷ v) = omega (arith, place_told m v)
 place_told m (Unfit s n t ∷ v) = omega (arith, place_told m v)
 place_told m (Lies k e p ∷ v) = omega (arith, place_told m v)
+place_told m (Queued q qs ∷ v) = omega (arith, place_told m v)
 
 stand_told : (net : NetRows) (journal : List Entry) (v : List Note) → AllStand net journal v → AllStand net journal (tellings v)
 stand_told net journal [] h = tt
@@ -108,6 +110,7 @@ stand_told net journal (Sems k l ∷ v) h = stand_told net journal v h.1
 stand_told net journal (Has m ∷ v) h = stand_told net journal v h.1
 stand_told net journal (Unfit s n t ∷ v) h = stand_told net journal v h.1
 stand_told net journal (Lies k e p ∷ v) h = stand_told net journal v h.1
+stand_told net journal (Queued q qs ∷ v) h = stand_told net journal v h.1
 
 told_places : (m : ℕ) (notes : List Note) (rs : List Recorded) → weigh (duty (place m)) (told_after notes rs) ≡ weigh (duty (place m)) notes + count_by (λ (r : Recorded). r.place == m) rs
 told_places m notes [] = omega arith

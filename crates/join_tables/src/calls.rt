@@ -21,20 +21,19 @@ ghost use Rattle.join_tables.specs.Claims.{BeginsUnits, HasAllUnits, HasCredited
 ghost use Rattle.table_steps.specs.inside.Kinds.{CountsNext, AreNoneLeft, others_of, kept_back, without_count};
 ghost use Rattle.join_tables.specs.inside.Seated.{OwesFirst, OwesToken, paid, paid_token, HasMade, collecting_view, taken_in, left_in};
 ghost use Rattle.join_tables.specs.inside.Collects.{CollectsOne};
+ghost use Rattle.join_tables.specs.inside.Sharing.{KnowsShare};
 
 use crate::fates::Fate;
 use crate::parts::Inputs;
-use crate::shares::SharedValue;
+use crate::shares::{SharedValue, placed};
 use crate::turns::{
     Collected, Collecting, EndedStart, Fresh, Gave, NetTable, Owing, Running, Spent, StartTicket,
     Turn,
 };
-use join_words::Given;
 use journal_rules::Cause;
 use outside_io::{List, NoMemory};
 use std::alloc::Global;
-use std::sync::Arc;
-use table_steps::TableSeat;
+use table_steps::{Parcels, TableSeat};
 
 // What collecting from one edge led to: that no edge was left, or that a token was taken, with the release that this made,
 // if it made one, and whether it was the last edge.
@@ -177,8 +176,8 @@ impl<V: Drop> NetTable<V> {
         }
     }
 
-    /// Takes the parcel from the slot of the next edge of a release, in one try, and then a token from the edge. Where
-    /// another turn holds the slot, nothing is found there. Where the edge is a strong one with another token, it counts it
+    /// Takes the oldest parcel from the slot of the next edge of a release, and then a token from the edge. Where other turns
+    /// hold the slot at each of a million tries, nothing is found there. Where the edge is a strong one with another token, it counts it
     /// again. For a release without edges it changes no word and finds no number.
     #[tactic(auto, using(table_steps::proofs::Values::knows_again))]
     pub fn collect(&self, collecting: Collecting<V>) -> Collected<V>
@@ -217,8 +216,8 @@ impl<V: Drop> NetTable<V> {
         }
     }
 
-    /// Gives the slot of the next edge that it owes an owner of the End's value, in one try, and then gives the edge a token.
-    /// Where another turn holds the slot, the value is left away. It counts the token at its target where it is the first of
+    /// Puts an owner of the End's value behind those in the slot of the next edge that it owes, and then gives the edge a token.
+    /// Where other turns hold the slot at each of a million tries, the value is left away. It counts the token at its target where it is the first of
     /// a strong edge.
     #[tactic(auto, using(table_steps::proofs::Values::knows_again))]
     pub fn give(&self, owing: Owing<V>) -> Gave<V>
@@ -236,10 +235,10 @@ impl<V: Drop> NetTable<V> {
             let fate = Fate::Ended(ended);
             return Gave::Finished(Spent { seat, fate });
         };
-        let Some(value) = shares.pop() else {
+        let Some(share) = shares.pop() else {
             unreachable!()
         };
-        let made = self.give_edge(&mut seat, edge, ended.place, value);
+        let made = self.give_edge(&mut seat, edge, ended.place, share);
         let owing = Owing {
             seat,
             ended,
@@ -260,12 +259,12 @@ impl<V: Drop> NetTable<V> {
         seat: &mut TableSeat<V>,
         edge: u32,
         place: u64,
-        value: Arc<V>,
+        share: Parcels<V>,
     ) -> Option<Fresh<V>>
         requires table { seat.old.table_id ≡ self.now.table }
         requires home { seat.old.me.1 ≡ [] }
         requires ready { OwesFirst edge place seat.old.me.0 }
-        requires value { Knows seat.old.values (ended_with place (arc_value value)) }
+        requires share { KnowsShare place share seat.old.values }
         ensures table { seat.new.table_id ≡ seat.old.table_id }
         ensures view { seat.new.me ≡ (paid seat.old.me.0, []) }
         ensures known { Knows seat.new.values seat.old.values }
@@ -273,7 +272,7 @@ impl<V: Drop> NetTable<V> {
         ensures found { GivesToken (is_weak self.now.net edge) (is_some result) seat.old.found seat.new.found }
     {
         self.words.learn(seat);
-        self.words.deliver(seat, edge, Given::Value(place, value));
+        self.words.deliver(seat, edge, placed(share, place));
         self.give_token(seat, edge)
     }
 

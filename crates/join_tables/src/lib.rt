@@ -22,8 +22,8 @@
 //!
 //! - `reset` raises a task's join word by its strong in-edges (set again). It is made before the turn's tokens are
 //!   given, so that in a cycle the tokens of the next round are counted afresh.
-//! - `collect` takes the parcel from an edge's slot, in one try (slot taken, slot given back), and then a token off the edge
-//!   (token taken). Where a strong edge has another token, it is counted again at once (edge counted), which may release the
+//! - `collect` takes the oldest parcel from an edge's slot (slot taken, slot given back), and then a token off the edge (token
+//!   taken). Where a strong edge has another token, it is counted again at once (edge counted), which may release the
 //!   task once more.
 //! - `admit` reads the halt mark (halt load) and, where it isn't set, draws a number (admission drawn). `start` and
 //!   `end` draw a place (Start drawn, End drawn).
@@ -36,7 +36,7 @@
 //!   neither.
 //! - `fault` draws a place and then sets the mark (Fault drawn, halt mark). A release that `admit` refused, at the
 //!   limit or after a Fault, is used up by `drop_turn`, which draws a place (Drop drawn).
-//! - `give` puts its End's value into the edge's slot, in one try (slot taken, slot given back), and then adds a token to the
+//! - `give` puts its End's value behind those in the edge's slot (slot taken, slot given back), and then adds a token to the
 //!   edge (token given). A token of a weak edge is a release. The first token of a strong
 //!   edge lowers its target's join word (edge counted), and who finds one there has made the last count: that is
 //!   the release. A release is counted among the live turns (turn added), then goes to a seat of its own (split).
@@ -60,9 +60,10 @@
 //!
 //! # The values
 //!
-//! The value of an End is shared, never copied: `end` takes its owners, `give` puts one of them into the slot of each edge
-//! that the End gives, unless another turn holds that slot, and `collect` takes out what lies there. So a start finds at an
-//! edge the value of an End that gave it, the token with which the edge began, or nothing (`Ins`). When it has ended only the
+//! The value of an End is shared, never copied: `end` takes its owners, each in a parcel that was made before, `give` puts
+//! one of them behind those in the slot of each edge that the End gives, and `collect` takes out the oldest that lies there.
+//! So a start finds at an edge the value of an End that gave it or the token with which the edge began, in the order in
+//! which they were put, or nothing where the slot was held at each of many tries (`Ins`). When it has ended only the
 //! parts are left of what it found (`FoundParts`), and contracts alone still know the values. The keeper has the value of
 //! each End that it took in.
 //!

@@ -38,7 +38,12 @@ impl<V: Drop> NetTable<V> {
         let limited = LimitedNet { net, limit };
         let (table, mut seat) = table_of(alloc, words.as_slice(), parcels, &limited)?;
         let LimitedNet { net, limit } = limited;
-        let words = Words { table, net, limit };
+        let words = Words {
+            table,
+            net,
+            limit,
+            alloc,
+        };
         let table = NetTable { words };
         let fresh = table.deal_all(alloc, &mut seat, &releases)?;
         Ok(Opening {

@@ -1,18 +1,19 @@
 // The releases with which a run begins, and the words of its table.
-ghost use Rattle.std.specs.Prelude.{◌≡◌, ◌<◌, ◌≤◌, ◌+◌, ◌==◌, ℕ, IfOk, OnOk, All, length, map, slice_index, [], ◌++◌, if◌then◌else◌};
+ghost use Rattle.std.specs.Prelude.{◌≡◌, ◌<◌, ◌≤◌, ◌+◌, ◌==◌, ℕ, IfOk, OnOk, All, length, map, flat_map, slice_index, [], ◌++◌, if◌then◌else◌};
 ghost use Rattle.task_graph.specs.Net.{strong_in};
 ghost use Rattle.journal_rules.specs.Counts.{first_tokens};
-ghost use Rattle.table_steps.specs.inside.Opening.{count_without_token, first_duties, first_part};
+ghost use Rattle.table_steps.specs.inside.Opening.{count_without_token, first_duties, first_queue};
 ghost use Rattle.join_tables.specs.inside.FirstReleases.{is_full, duties_of, duty_if, opening_word, AreOpeningWords, AreFirstParcels};
 ghost use Rattle.table_steps.specs.Giving.{one_if};
-ghost use Rattle.table_steps.specs.Values.{given_part, given_values, values_in};
+ghost use Rattle.table_steps.specs.Values.{given_parts, values_in};
 ghost use Rattle.table_steps.specs.inside.Accounts.{tokens_from, marks_from};
 
 use join_words::Given;
 use journal_rules::Cause;
 use outside_io::NoMemory;
 use std::alloc::Global;
-use table_steps::{FIRST_CREDIT, FIRST_UNIT, LIVE};
+use std::collections::LinkedList;
+use table_steps::{FIRST_CREDIT, FIRST_UNIT, LIVE, Parcels};
 use task_graph::Net;
 
 /// A release of a task, by its cause.
@@ -151,28 +152,28 @@ fn first_word(net: &Net, live: u64, word: usize) -> u64
     }
 }
 
-/// What lies in the slot of each edge at first: the token with which the edge begins, or nothing.
-pub fn first_parcels<V: Drop>(alloc: Global, net: &Net) -> Result<Vec<Given<V>>, NoMemory>
-    ensures parts { IfOk result (λ parcels. AreFirstParcels net.now (map given_part parcels.items)) }
-    ensures no_values { IfOk result (λ parcels. values_in parcels.items ≡ []) }
+/// The parcels in the slot of each edge at first: the token with which the edge begins, or none.
+pub fn first_parcels<V: Drop>(alloc: Global, net: &Net) -> Result<Vec<Parcels<V>>, NoMemory>
+    ensures parts { IfOk result (λ parcels. AreFirstParcels net.now (map given_parts parcels.items)) }
+    ensures no_values { IfOk result (λ parcels. flat_map values_in parcels.items ≡ []) }
 {
     let count = net.edges().len();
     let mut parcels = Vec::with_capacity(alloc, count)?;
     for edge in 0..count {
-        parcels.push_reserved(first_parcel(net, edge as u32));
+        parcels.push_reserved(first_parcel(alloc, net, edge as u32)?);
     }
     Ok(parcels)
 }
 
-// What lies in the slot of an edge at first.
-fn first_parcel<V>(net: &Net, edge: u32) -> Given<V>
+// The parcels in the slot of an edge at first.
+fn first_parcel<V: Drop>(alloc: Global, net: &Net, edge: u32) -> Result<Parcels<V>, NoMemory>
     requires { edge < length net.now.edges }
-    ensures part { given_part result ≡ first_part net.now edge }
-    ensures no_value { given_values result ≡ [] }
+    ensures parts { IfOk result (λ parcels. given_parts parcels ≡ first_queue net.now edge) }
+    ensures no_value { IfOk result (λ parcels. values_in parcels ≡ []) }
 {
-    if starts_with_token(net, edge) {
-        Given::First
-    } else {
-        Given::Nothing
+    let mut parcels = LinkedList::new(alloc);
+    if starts_with_token(net, edge) && parcels.push_back(Given::First).is_err() {
+        return Err(NoMemory);
     }
+    Ok(parcels)
 }

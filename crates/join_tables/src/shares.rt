@@ -1,18 +1,23 @@
 // The values of Ends, shared by the journal and the edges.
 ghost use Rattle.std.specs.Prelude.{◌≡◌, IfOk};
+ghost use Rattle.std.specs.Arc.{arc_value};
 ghost use Rattle.join_tables.specs.Shares.{shared_state};
+ghost use Rattle.join_tables.specs.inside.Sharing.{IsShareOf, placed};
 
+use join_words::Given;
 use outside_io::NoMemory;
 use std::alloc::Global;
+use std::collections::LinkedList;
 use std::marker::Model;
 use std::sync::Arc;
+use table_steps::Parcels;
 
-/// The value of an End, with an owner for the journal and one for each edge that the End gives, so that giving it takes no
-/// memory.
+/// The value of an End, with an owner for the journal and a parcel for each edge that the End gives, in a list of one, so
+/// that giving it takes no memory. The place of the End, which isn't drawn yet, is still to be written on the parcels.
 #[derive(Drop)]
 pub struct SharedValue<V> {
     pub(crate) value: Arc<V>,
-    pub(crate) shares: Vec<Arc<V>>,
+    pub(crate) shares: Vec<Parcels<V>>,
 }
 
 impl<V> Model for SharedValue<V> {
@@ -37,8 +42,29 @@ impl<V: Drop> SharedValue<V> {
         let value = Arc::new(alloc, value)?;
         let mut shares = Vec::with_capacity(alloc, edges)?;
         for _ in 0..edges {
-            shares.push_reserved(Arc::try_clone(&value)?);
+            shares.push_reserved(share_of(alloc, &value)?);
         }
         Ok(SharedValue { value, shares })
     }
+}
+
+// A parcel with an owner of a value, in a list of one, without its place.
+fn share_of<V: Drop>(alloc: Global, value: &Arc<V>) -> Result<Parcels<V>, NoMemory>
+    ensures { IfOk result (IsShareOf (arc_value value.now)) }
+{
+    let mut share = LinkedList::new(alloc);
+    match share.push_back(Given::Value(0, Arc::try_clone(value)?)) {
+        Ok(()) => Ok(share),
+        Err(_) => Err(NoMemory),
+    }
+}
+
+// The parcel with this place.
+pub(crate) fn placed<V>(mut share: Parcels<V>, place: u64) -> Parcels<V>
+    ensures { result ≡ placed place share }
+{
+    if let Some(Given::Value(at, _)) = share.front_mut() {
+        *at = place;
+    }
+    share
 }

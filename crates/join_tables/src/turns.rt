@@ -10,7 +10,7 @@ use keyed_lock::Keyed;
 use outside_io::List;
 use std::marker::Model;
 use std::sync::Arc;
-use table_steps::{TableSeat, Words};
+use table_steps::{Parcels, TableSeat, Words};
 
 /// The words of a run's net, which many threads step at once.
 #[derive(Drop)]
@@ -177,8 +177,8 @@ pub struct Owing<V> {
     pub(crate) seat: TableSeat<V>,
     pub(crate) ended: EndedStart<V>,
     pub(crate) next: usize,
-    // An owner of its value for each edge that it has still to give.
-    pub(crate) shares: Vec<Arc<V>>,
+    // A parcel with an owner of its value for each edge that it has still to give.
+    pub(crate) shares: Vec<Parcels<V>>,
 }
 
 impl<V> Model for Owing<V> {

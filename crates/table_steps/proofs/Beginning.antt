@@ -1,5 +1,5 @@
 -- The accounts hold when a table begins.
-use Rattle.std.proofs.Common.{◌≡◌, ℕ, zero, suc, ◌+◌, ◌<◌, ◌≤◌, List, [], ◌∷◌, ◌++◌, length, refl, sym, ap, subst, arith}
+use Rattle.std.proofs.Common.{◌≡◌, ◌≢◌, ℕ, zero, suc, ◌+◌, ◌<◌, ◌≤◌, List, [], ◌∷◌, ◌++◌, length, refl, sym, ap, subst, arith}
 use Rattle.std.specs.Prelude.{nat_lt, false}
 use Rattle.std.proofs.lemmas.Bool.Decides.{nat_tests}
 use Rattle.task_graph.specs.NetRows.{NetRows}
@@ -21,10 +21,10 @@ use Rattle.table_steps.specs.Credits.{first_credit}
 use Rattle.journal_rules.specs.declared.entry.Part.{Part}
 use Rattle.journal_rules.specs.declared.entry.Part.TheVariants.{From, First}
 use Rattle.table_steps.specs.declared.view.Lot.TheVariants.{Ours, Putting, Put, Awaited, Taking, Fetched, Found}
-use Rattle.table_steps.specs.inside.Opening.{part_of_tokens, first_part}
-use Rattle.table_steps.specs.inside.Parcels.{same_part}
-use Rattle.table_steps.specs.inside.Slots.{SlotCoord, parcel, lot, owed, collected, left_at, SlotPart}
-use Rattle.table_steps.proofs.Parcels.{first_once}
+use Rattle.table_steps.specs.inside.Opening.{parts_of_tokens, first_queue}
+use Rattle.table_steps.specs.inside.Parcels.{part_times}
+use Rattle.table_steps.specs.inside.Slots.{SlotCoord, parcel, lot, queue, owed, collected, left_at, lying, SlotPart}
+use Rattle.table_steps.proofs.Parcels.{part_apart, first_once}
 
 -- first releases, each of the net
 abbrev pub AreFirst : NetRows → List TurnDuty → Type 0
@@ -161,28 +161,42 @@ opening_view net T = let xs = first_duties net 0 (length net.tasks) in let m = m
     empty_busy (x ∷ xs) h = absurd (omega arith)
 
 -- In each slot lies the token with which its edge begins, or nothing.
-pub opening_slots : (net : NetRows) (edge : ℕ → ℕ) (T : SlotCoord → ℕ) (label : ℕ → Part) → ((c : SlotCoord) → T c ≡ 0) → ((e : ℕ) → edge e ≡ first_tokens net e) → ((e : ℕ) → label e ≡ first_part net e) → SlotPart net [] edge T label
+pub opening_slots : (net : NetRows) (edge : ℕ → ℕ) (T : SlotCoord → ℕ) (label : ℕ → List Part) → ((c : SlotCoord) → T c ≡ 0) → ((e : ℕ) → edge e ≡ first_tokens net e) → ((e : ℕ) → label e ≡ first_queue net e) → SlotPart net [] edge T label
 opening_slots net edge T label none edges labels = record {
   parts = record {
     meets = tt;
-    froms = λ e n. omega (arith, none (parcel e (From n)), ap (λ p. one_if (same_part p (From n))) (labels e), not_from (first_tokens net e) n);
-    firsts = λ e. omega (arith, none (parcel e First), ap (λ p. one_if (same_part p First)) (labels e), is_first_one e);
-    stale = λ e calm p other. none (parcel e p);
-    due = λ e calm. omega (arith, none (lot Taking e), none (lot Fetched e), none (lot Put e), edges e, ap (λ p. one_if (same_part p First)) (labels e), is_first_one e);
+    froms = λ e n. omega (arith, none (parcel e (From n)), lie e (From n), not_from (first_tokens net e) n);
+    firsts = λ e. omega (arith, none (parcel e First), lie e First, are_first_tokens e);
+    stale = λ e calm p other. omega (arith, none (parcel e p), lie e p, first_alone (first_tokens net e) p other);
+    due = λ e calm. omega (arith, none (lot Fetched e), none (lot Put e), edges e, lie e First, are_first_tokens e);
   };
   owing = λ e. omega (arith, none (lot Ours e), none (lot Putting e), none (lot Put e), none (owed e));
   reached = λ e. omega (arith, none (lot Awaited e), none (lot Taking e), none (lot Fetched e), none (left_at e));
   found = λ e. omega (arith, none (lot Found e), none (collected e));
+  held = λ e. omega (arith, none (queue (λ qs. 1) e), none (lot Putting e), none (lot Taking e));
+  few = λ e. omega (arith, none (queue length e), none (lot Ours e), none (lot Putting e), ap length (labels e), as_many (first_tokens net e) (first_once net e));
 }
   where
-    not_from : (k n : ℕ) → one_if (same_part (part_of_tokens k) (From n)) ≡ 0
+    lie : (e : ℕ) (p : Part) → lying T label e p ≡ part_times p (first_queue net e)
+    lie e p = omega (arith, none (queue (part_times p) e), ap (part_times p) (labels e))
+
+    not_from : (k n : ℕ) → part_times (From n) (parts_of_tokens k) ≡ 0
     not_from zero n = refl
     not_from (suc k) n = refl
 
-    by_tokens : (k : ℕ) → k ≤ 1 → one_if (same_part (part_of_tokens k) First) ≡ k
+    first_alone : (k : ℕ) (p : Part) → p ≢ First → part_times p (parts_of_tokens k) ≡ 0
+    first_alone zero p other = refl
+    first_alone (suc k) p other = omega (arith, ap one_if (part_apart First p (λ is. other (sym is))))
+
+    as_many : (k : ℕ) → k ≤ 1 → length (parts_of_tokens k) ≡ k
+    as_many zero few = refl
+    as_many (suc zero) few = refl
+    as_many (suc (suc k)) few = absurd (omega arith)
+
+    by_tokens : (k : ℕ) → k ≤ 1 → part_times First (parts_of_tokens k) ≡ k
     by_tokens zero few = refl
     by_tokens (suc zero) few = refl
     by_tokens (suc (suc k)) few = absurd (omega arith)
 
-    is_first_one : (e : ℕ) → one_if (same_part (first_part net e) First) ≡ first_tokens net e
-    is_first_one e = by_tokens (first_tokens net e) (first_once net e)
+    are_first_tokens : (e : ℕ) → part_times First (first_queue net e) ≡ first_tokens net e
+    are_first_tokens e = by_tokens (first_tokens net e) (first_once net e)

@@ -242,7 +242,7 @@ uses_are (x ∷ xs) = omega (arith, uses_are xs, one x, count_cons is_use x xs, 
     one (Drop t c w) = refl
 
 -- an edge is given few tokens
-pub few_given : {S : Type 0} {part : S → Part} (net : NetRows) (limit : ℕ) (s : St S) (h : KeepsAccounts part net limit s) (e : ℕ) → given net e h.journal ≤ 2097154
+pub few_given : {S : Type 0} {part : S → List Part} (net : NetRows) (limit : ℕ) (s : St S) (h : KeepsAccounts part net limit s) (e : ℕ) → given net e h.journal ≤ 2097154
 few_given net limit s h e = omega (arith, given_ends e h.journal, by_row (slice_get net.edges e), parts_of h.journal, h.balanced.by_journal.size, h.balanced.by_admissions.room, h.fits.limited)
   where
     by_row : (row : Option EdgeRow) → option_map_or (λ (r : EdgeRow). one_if r.start) row 0 ≤ 1
@@ -250,7 +250,7 @@ few_given net limit s h e = omega (arith, given_ends e h.journal, by_row (slice_
     by_row (Some row) = bit row.start
 
 -- so the starts and drops of a run are few
-pub few_uses : {S : Type 0} {part : S → Part} (net : NetRows) (limit : ℕ) (s : St S) (h : KeepsAccounts part net limit s) → starts h.journal + count_by is_drop h.journal ≤ 9007300000000000
+pub few_uses : {S : Type 0} {part : S → List Part} (net : NetRows) (limit : ℕ) (s : St S) (h : KeepsAccounts part net limit s) → starts h.journal + count_by is_drop h.journal ≤ 9007300000000000
 few_uses net limit s h =
     let fit = legal_fits net limit [] h.journal h.balanced.by_journal.legal in
     omega (

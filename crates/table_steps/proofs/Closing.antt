@@ -22,7 +22,7 @@ use Rattle.table_steps.proofs.ResetDuties.{all_into}
 use Rattle.table_steps.proofs.RestDuties.{AtRest, closed_at, least_is, sum_gap, nil_pos, any_zero}
 use Rattle.table_steps.specs.declared.view.SeatMark.TheVariants.{Live}
 use Rattle.table_steps.specs.declared.view.Note.{Note}
-use Rattle.table_steps.specs.declared.view.Note.TheVariants.{Duty, Sems, Has, Unfit, Lies}
+use Rattle.table_steps.specs.declared.view.Note.TheVariants.{Duty, Sems, Has, Unfit, Lies, Queued}
 use Rattle.table_steps.specs.inside.Accounts.{Coord, duty, mark, busy, telling, weight, weigh, total, Readings, Balanced, KeepsAccounts}
 use Rattle.table_steps.proofs.Journals.{none_of}
 use Rattle.std.specs.Prelude.{nat_lt, slice_index}
@@ -84,9 +84,10 @@ note_none c apart (Sems k l) z = refl
 note_none c apart (Has m) z = refl
 note_none c apart (Unfit s n t) z = refl
 note_none c apart (Lies k e p) z = refl
+note_none c apart (Queued q qs) z = refl
 
 -- All: the step that takes off the last live turn leaves a complete journal
-pub all_complete : {S : Type 0} {part : S → Part} (net : NetRows) (limit : ℕ) (s : St S) (h : KeepsAccounts part net limit s) → total (mark Live) s.views ≡ 0 → Complete net limit h.journal
+pub all_complete : {S : Type 0} {part : S → List Part} (net : NetRows) (limit : ℕ) (s : St S) (h : KeepsAccounts part net limit s) → total (mark Live) s.views ≡ 0 → Complete net limit h.journal
 all_complete net limit s h none = complete_at_rest net limit _ h.counted h.journal (λ c. total c s.views) h.balanced
     (record {
       no_run = λ m t. clear (runs m t) (λ k z. cc);
@@ -114,12 +115,13 @@ tells_bound m (Sems k l) z = refl
 tells_bound m (Has q) z = refl
 tells_bound m (Unfit s n t) z = refl
 tells_bound m (Lies k e p) z = refl
+tells_bound m (Queued q qs) z = refl
 
 tells_none : (m : ℕ) (v : List Note) → weigh telling v ≡ 0 → weigh (duty (place m)) v ≡ 0
 tells_none m [] z = refl
 tells_none m (x ∷ xs) z = omega (arith, tells_bound m x (omega arith), tells_none m xs (omega arith))
 
-pub all_told : {S : Type 0} {part : S → Part} (net : NetRows) (limit : ℕ) (s : St S) (h : KeepsAccounts part net limit s) (v : List Note) → get_elem? s.views 0 ≡ some v → total (mark Live) s.views ≡ 0 → (m : ℕ) → m < length h.journal → weigh (duty (place m)) v ≡ 1
+pub all_told : {S : Type 0} {part : S → List Part} (net : NetRows) (limit : ℕ) (s : St S) (h : KeepsAccounts part net limit s) (v : List Note) → get_elem? s.views 0 ≡ some v → total (mark Live) s.views ≡ 0 → (m : ℕ) → m < length h.journal → weigh (duty (place m)) v ≡ 1
 all_told net limit s h v at none m below =
     let is : nat_lt m (slice_index s.words 8) ≡ true = let c = h.balanced.by_journal.clock in grind (arith, nat_tests, c, below) in
     omega (arith, h.balanced.by_journal.places m, ap one_if is, total_set (duty (place m)) s.views 0 v [] at, each_none (duty (place m)) (set s.views 0 []) (λ id w at_w. others id w at_w (cases_eq id 0)))

@@ -51,15 +51,15 @@ few_starts test (x ∷ xs) = omega (arith, few_starts test xs, count_cons (λ e.
     one (Some t) = bit (test t)
 
 -- a credit word is near the first credit
-pub credit_small : {S : Type 0} {part : S → Part} (net : NetRows) (limit : ℕ) (s : St S) (h : KeepsAccounts part net limit s) (a : ℕ) → a < length net.sems → slice_index s.words (40 + length net.sems + a) ≤ first_credit + 2097153
+pub credit_small : {S : Type 0} {part : S → List Part} (net : NetRows) (limit : ℕ) (s : St S) (h : KeepsAccounts part net limit s) (a : ℕ) → a < length net.sems → slice_index s.words (40 + length net.sems + a) ≤ first_credit + 2097153
 credit_small net limit s h a below = omega (arith, (h.balanced.by_credits a below).tells, credit_at net s.words a below, few_starts (takes net a) h.journal, h.balanced.by_admissions.room, h.fits.limited)
 
-pub credit_there : {S : Type 0} {part : S → Part} (net : NetRows) (limit : ℕ) (s : St S) (h : KeepsAccounts part net limit s) (a : ℕ) → a < length net.sems → 1 ≤ slice_index s.words (40 + length net.sems + a)
+pub credit_there : {S : Type 0} {part : S → List Part} (net : NetRows) (limit : ℕ) (s : St S) (h : KeepsAccounts part net limit s) (a : ℕ) → a < length net.sems → 1 ≤ slice_index s.words (40 + length net.sems + a)
 credit_there net limit s h a below = let k = h.balanced.by_credits a below in
     omega (arith, k.tells, k.backed, k.claims, credit_at net s.words a below, few_starts (puts net a) h.journal, h.balanced.by_admissions.room, h.fits.limited)
 
 -- a credit added
-pub credit_allowed : {S : Type 0} {part : S → Part} (net : NetRows) (limit slots id : ℕ) (me : Seated S) (a : ℕ) → MayCredit net a me.0
+pub credit_allowed : {S : Type 0} {part : S → List Part} (net : NetRows) (limit slots id : ℕ) (me : Seated S) (a : ℕ) → MayCredit net a me.0
     → Allows (KeepsAccounts part net limit) slots id me (40 + length net.sems + a) (λ n. (n + 1) % 2 ^ 64) (λ n m. (m.0 ≡ credited a me.0) × (m.1 ≡ me.1))
 credit_allowed {S} {part} net limit slots id me a may s h _ at small = from me.0 may at
   where
@@ -77,13 +77,13 @@ credit_allowed {S} {part} net limit slots id me a may s h _ at small = from me.0
     from v may at = absurd may
 
 -- the start of a seat runs
-pub runs_seat : {S : Type 0} {part : S → Part} (net : NetRows) (limit : ℕ) (s : St S) (h : KeepsAccounts part net limit s) (id m t : ℕ) (v rest : List Note) → v ≡ Duty (Open m t) ∷ rest → get_elem? s.views id ≡ some v → Runs h.journal m t
+pub runs_seat : {S : Type 0} {part : S → List Part} (net : NetRows) (limit : ℕ) (s : St S) (h : KeepsAccounts part net limit s) (id m t : ℕ) (v rest : List Note) → v ≡ Duty (Open m t) ∷ rest → get_elem? s.views id ≡ some v → Runs h.journal m t
 runs_seat net limit s h id m t v rest is at =
     let hit : eqb m m ≡ true = grind (arith, nat_tests) in let hit_t : eqb t t ≡ true = grind (arith, nat_tests) in
     let self : one_if (eqb m m && eqb t t) ≡ 1 = rw (hit, hit_t) refl in
     runs_of h.journal m t (is_one (is_run h.journal m t) (omega (arith, h.balanced.by_journal.opens m t, at_most (duty (runs m t)) s.views id v at, ap (weigh (duty (runs m t))) is, self)))
 
-claim_got : {S : Type 0} {part : S → Part} (net : NetRows) (limit : ℕ) (s : St S) (h : KeepsAccounts part net limit s) (id a k m t : ℕ) (carried : List (ℕ × S)) (b c d l g : List ℕ) (rest : List Note) → a < length net.sems → 1 ≤ times a l → weigh resting rest ≡ 0
+claim_got : {S : Type 0} {part : S → List Part} (net : NetRows) (limit : ℕ) (s : St S) (h : KeepsAccounts part net limit s) (id a k m t : ℕ) (carried : List (ℕ × S)) (b c d l g : List ℕ) (rest : List Note) → a < length net.sems → 1 ≤ times a l → weigh resting rest ≡ 0
     → get_elem? s.views id ≡ some (Duty (Open m t) ∷ Has Live ∷ Sems Both b ∷ Sems Credit c ∷ Sems Credited d ∷ Sems Claim l ∷ Sems Granted g ∷ rest) → k + 1 ≡ slice_index s.words (40 + length net.sems + a) → first_credit < slice_index s.words (40 + length net.sems + a)
     → KeepsAccounts part net limit (stepped s (40 + length net.sems + a) k id carried (Duty (Open m t) ∷ Has Live ∷ Sems Both b ∷ Sems Credit c ∷ Sems Credited d ∷ Sems Claim (without a l) ∷ Sems Granted (a ∷ g) ∷ rest) keeps)
 claim_got net limit s h id a k m t carried b c d l g rest below there lone at less found =
@@ -95,7 +95,7 @@ claim_got net limit s h id a k m t carried b c d l g rest below there lone at le
     (credits_granted net (reading net s.words).credit _ h.journal (λ c. total c s.views) _ a l (without a l) g h.balanced.by_credits (credit_less net s.words a k below (omega (arith, h.size, below)) less) (without_fewer a l there) (omega (arith, found, credit_at net s.words a below)) (λ c. omega (arith, moved c))))
 
 -- the journal at the moment of a claim that finds no credit allows a Fault for an over-release
-claim_over : {S : Type 0} {part : S → Part} (net : NetRows) (limit : ℕ) (s : St S) (h : KeepsAccounts part net limit s) (id a m t : ℕ) (b c d l g : List ℕ) (rest : List Note) → a < length net.sems → 1 ≤ times a l → puts net a t ≡ true
+claim_over : {S : Type 0} {part : S → List Part} (net : NetRows) (limit : ℕ) (s : St S) (h : KeepsAccounts part net limit s) (id a m t : ℕ) (b c d l g : List ℕ) (rest : List Note) → a < length net.sems → 1 ≤ times a l → puts net a t ≡ true
     → get_elem? s.views id ≡ some (Duty (Open m t) ∷ Has Live ∷ Sems Both b ∷ Sems Credit c ∷ Sems Credited d ∷ Sems Claim l ∷ Sems Granted g ∷ rest) → slice_index s.words (40 + length net.sems + a) ≤ first_credit → AllowsOverNow net h.journal a m t
 claim_over net limit s h id a m t b c d l g rest below there puts_it at found =
     let v = Duty (Open m t) ∷ Has Live ∷ Sems Both b ∷ Sems Credit c ∷ Sems Credited d ∷ Sems Claim l ∷ Sems Granted g ∷ rest in
@@ -105,7 +105,7 @@ claim_over net limit s h id a m t b c d l g rest below there puts_it at found =
           (omega (arith, at_most (sem Claim a) s.views id v at, there)) r.below r.there puts_it,
     )
 
-claim_lost : {S : Type 0} {part : S → Part} (net : NetRows) (limit : ℕ) (s : St S) (h : KeepsAccounts part net limit s) (id a k m t : ℕ) (carried : List (ℕ × S)) (b c d l g : List ℕ) (rest : List Note) → a < length net.sems → 1 ≤ times a l → weigh resting rest ≡ 0 → AllowsOverNow net h.journal a m t
+claim_lost : {S : Type 0} {part : S → List Part} (net : NetRows) (limit : ℕ) (s : St S) (h : KeepsAccounts part net limit s) (id a k m t : ℕ) (carried : List (ℕ × S)) (b c d l g : List ℕ) (rest : List Note) → a < length net.sems → 1 ≤ times a l → weigh resting rest ≡ 0 → AllowsOverNow net h.journal a m t
     → get_elem? s.views id ≡ some (Duty (Open m t) ∷ Has Live ∷ Sems Both b ∷ Sems Credit c ∷ Sems Credited d ∷ Sems Claim l ∷ Sems Granted g ∷ rest) → k + 1 ≡ slice_index s.words (40 + length net.sems + a)
     → KeepsAccounts part net limit (stepped s (40 + length net.sems + a) k id carried (Duty (Open m t) ∷ Has Live ∷ Sems Both b ∷ Sems Credit c ∷ Sems Credited d ∷ Sems Claim (without a l) ∷ Sems Granted g ∷ Sems Refusing (a ∷ []) ∷ Unfit a m t ∷ rest) keeps)
 claim_lost net limit s h id a k m t carried b c d l g rest below there lone over at less =
@@ -127,7 +127,7 @@ claim_lost net limit s h id a k m t carried b c d l g rest below there lone over
     free telling = refl
 
 -- a claim
-pub claim_allowed : {S : Type 0} {part : S → Part} (net : NetRows) (limit slots id : ℕ) (me : Seated S) (a : ℕ) → MayClaim net a me.0
+pub claim_allowed : {S : Type 0} {part : S → List Part} (net : NetRows) (limit slots id : ℕ) (me : Seated S) (a : ℕ) → MayClaim net a me.0
     → Allows (KeepsAccounts part net limit) slots id me (40 + length net.sems + a) (λ n. (n + (2 ^ 64 - 1)) % 2 ^ 64) (λ n m. (m.0 ≡ claimed a n me.0) × (m.1 ≡ me.1) × (n ≤ first_credit → RefusesClaim net limit a me.0))
 claim_allowed {S} {part} net limit slots id me a may s h _ at small = from me.0 may at
   where
@@ -154,7 +154,7 @@ claim_allowed {S} {part} net limit slots id me a may s h _ at small = from me.0 
     from v may at = absurd may
 
 -- a claim undone
-pub unclaim_allowed : {S : Type 0} {part : S → Part} (net : NetRows) (limit slots id : ℕ) (me : Seated S) (a : ℕ) → MayUnclaim net a me.0
+pub unclaim_allowed : {S : Type 0} {part : S → List Part} (net : NetRows) (limit slots id : ℕ) (me : Seated S) (a : ℕ) → MayUnclaim net a me.0
     → Allows (KeepsAccounts part net limit) slots id me (40 + length net.sems + a) (λ n. (n + 1) % 2 ^ 64) (λ n m. (m.0 ≡ unclaimed me.0) × (m.1 ≡ me.1))
 unclaim_allowed {S} {part} net limit slots id me a may s h _ at small = from me.0 may at
   where

@@ -40,11 +40,11 @@ use Rattle.table_steps.proofs.Starting.{start_kept}
 use Rattle.table_steps.proofs.Ending.{end_kept}
 
 -- the clock is far below what a word holds
-pub clock_small : {S : Type 0} {part : S → Part} (net : NetRows) (limit : ℕ) (s : St S) (h : KeepsAccounts part net limit s) → slice_index s.words 8 ≤ 4194306 + 1152921504606846976
+pub clock_small : {S : Type 0} {part : S → List Part} (net : NetRows) (limit : ℕ) (s : St S) (h : KeepsAccounts part net limit s) → slice_index s.words 8 ≤ 4194306 + 1152921504606846976
 clock_small net limit s h = omega (arith, h.fits.limited, h.balanced.by_journal.clock, h.balanced.by_journal.size, h.balanced.by_admissions.room, h.few_drops)
 
 -- a number drawn
-pub drawn : {S : Type 0} {part : S → Part} (net : NetRows) (limit : ℕ) (s : St S) (h : KeepsAccounts part net limit s) (id : ℕ) (carried : List (ℕ × S)) (old new rest : List Note) (x : Entry)
+pub drawn : {S : Type 0} {part : S → List Part} (net : NetRows) (limit : ℕ) (s : St S) (h : KeepsAccounts part net limit s) (id : ℕ) (carried : List (ℕ × S)) (old new rest : List Note) (x : Entry)
     → get_elem? s.views id ≡ some (old ++ rest) → HoldsAlike old new → OwnView net (h.journal ++ x ∷ []) (λ c. total c s.views) id old new rest → weigh (mark Live) new ≡ weigh (mark Live) old → count_by is_drop (h.journal ++ x ∷ []) ≤ 1152921504606846976
     → (SlotMoves (λ c. slot_total c s.views) old (λ c. slot_total c (set s.views id (new ++ rest))) new → SlotPart net (h.journal ++ x ∷ []) ((reading net s.words).edge) (λ c. slot_total c (set s.views id (new ++ rest))) (label_of part s.homes))
     → (Moves (λ c. total c s.views) old (λ c. total c (set s.views id (new ++ rest))) new
@@ -57,15 +57,15 @@ drawn net limit s h id carried old new rest x at same own live_is few slots kept
     (omega (arith, h.few, live_is, total_swap (mark Live) s.views id old new rest at)) few
     (clock_read net s.words _ (omega (arith, h.size)) ∙ ap (with_clock (reading net s.words)) sum) slots kept
 
-pub told : {S : Type 0} {part : S → Part} (net : NetRows) (limit : ℕ) (s : St S) (h : KeepsAccounts part net limit s) (x : Entry) → slice_get (h.journal ++ x ∷ []) (slice_index s.words 8) ≡ Some x
+pub told : {S : Type 0} {part : S → List Part} (net : NetRows) (limit : ℕ) (s : St S) (h : KeepsAccounts part net limit s) (x : Entry) → slice_get (h.journal ++ x ∷ []) (slice_index s.words 8) ≡ Some x
 told net limit s h x = told_last h.journal (slice_index s.words 8) x h.balanced.by_journal.clock
 
 -- a seat with a turn that is no rest
-pub unstuck : {S : Type 0} {part : S → Part} (net : NetRows) (limit : ℕ) (s : St S) (h : KeepsAccounts part net limit s) (id : ℕ) (v : List Note) → get_elem? s.views id ≡ some v → 1 ≤ weigh (mark Live) v → weigh resting v ≡ 0 → count_by is_stuck h.journal ≡ 0
+pub unstuck : {S : Type 0} {part : S → List Part} (net : NetRows) (limit : ℕ) (s : St S) (h : KeepsAccounts part net limit s) (id : ℕ) (v : List Note) → get_elem? s.views id ≡ some v → 1 ≤ weigh (mark Live) v → weigh resting v ≡ 0 → count_by is_stuck h.journal ≡ 0
 unstuck net limit s h id v at lives lone = none_stuck net h.journal s.views id v h.views h.balanced.by_stuck at lives (omega (arith, lone, sticking_rests v))
 
 -- a Start
-pub start_drawn : {S : Type 0} {part : S → Part} (net : NetRows) (limit : ℕ) (s : St S) (h : KeepsAccounts part net limit s) (id t : ℕ) (cause : Cause) (l : List ℕ) (ins : List Part) (carried : List (ℕ × S)) (rest : List Note) → MayBeReleased net t cause → HoldsEachUnit net t l → length ins ≡ length (edges_of net t cause)
+pub start_drawn : {S : Type 0} {part : S → List Part} (net : NetRows) (limit : ℕ) (s : St S) (h : KeepsAccounts part net limit s) (id t : ℕ) (cause : Cause) (l : List ℕ) (ins : List Part) (carried : List (ℕ × S)) (rest : List Note) → MayBeReleased net t cause → HoldsEachUnit net t l → length ins ≡ length (edges_of net t cause)
     → weigh resting rest ≡ 0 → get_elem? s.views id ≡ some (Duty (Collecting t cause (edges_of net t cause) []) ∷ Duty Ticket ∷ Has Live ∷ Sems Held l ∷ found_lots (edges_of net t cause) ins ++ rest)
     → KeepsAccounts part net limit (stepped s 8 ((slice_index s.words 8 + 1) % 2 ^ 64) id carried (started_notes net (slice_index s.words 8) t cause l ins ++ rest) keeps)
 start_drawn {S} {part} net limit s h id t cause l ins carried rest may holds full lone at =
@@ -97,7 +97,7 @@ start_drawn {S} {part} net limit s h id t cause l ins carried rest may holds ful
     }))
 
 -- an End
-pub end_drawn : {S : Type 0} {part : S → Part} (net : NetRows) (limit : ℕ) (s : St S) (h : KeepsAccounts part net limit s) (id m t : ℕ) (gives : List ℕ) (inner : Bool) (b d g : List ℕ) (carried : List (ℕ × S)) (rest : List Note) → MayEndGiving net t gives inner → PutsEach net t (g ++ b) → TakesAlone net t d
+pub end_drawn : {S : Type 0} {part : S → List Part} (net : NetRows) (limit : ℕ) (s : St S) (h : KeepsAccounts part net limit s) (id m t : ℕ) (gives : List ℕ) (inner : Bool) (b d g : List ℕ) (carried : List (ℕ × S)) (rest : List Note) → MayEndGiving net t gives inner → PutsEach net t (g ++ b) → TakesAlone net t d
     → weigh resting rest ≡ 0 → get_elem? s.views id ≡ some (Duty (Open m t) ∷ Has Live ∷ Sems Both b ∷ Sems Credit [] ∷ Sems Credited d ∷ Sems Claim [] ∷ Sems Granted g ∷ rest)
     → KeepsAccounts part net limit (stepped s 8 ((slice_index s.words 8 + 1) % 2 ^ 64) id carried (Duty (Owes gives) ∷ Has Live ∷ Sems Owed (g ++ b) ∷ Duty (Told (slice_index s.words 8) (End m gives inner)) ∷ our_lots (slice_index s.words 8) gives ++ rest) keeps)
 end_drawn {S} {part} net limit s h id m t gives inner b d g carried rest may each alone lone at =

@@ -18,7 +18,7 @@ use Rattle.table_steps.proofs.StartDuties.{one_self}
 use Rattle.table_steps.proofs.CountDuties.{into_strong, any_most}
 use Rattle.table_steps.specs.declared.view.SeatMark.TheVariants.{Live, New}
 use Rattle.table_steps.specs.declared.view.Note.{Note}
-use Rattle.table_steps.specs.declared.view.Note.TheVariants.{Duty, Sems, Has, Unfit, Lies}
+use Rattle.table_steps.specs.declared.view.Note.TheVariants.{Duty, Sems, Has, Unfit, Lies, Queued}
 use Rattle.table_steps.specs.inside.Accounts.{FitsNote, AllFitNotes, Stands, AllStand, Coord, duty, mark, turning, owing, weight, weigh, total, is_last, reading, KeepsAccounts}
 use Rattle.table_steps.proofs.Journals.{count_cons}
 use Rattle.table_steps.proofs.Stepping.{St}
@@ -111,6 +111,7 @@ one_held net (Sems k l) fits = omega arith
 one_held net (Has m) fits = omega arith
 one_held net (Unfit s n t) fits = omega arith
 one_held net (Lies k e p) fits = omega arith
+one_held net (Queued q qs) fits = omega arith
 
 view_held : (net : NetRows) (v : List Note) → AllFitNotes net v → weigh turning v ≤ weigh (duty running) v + weigh owing v + held_by net (λ c. weigh c v)
 view_held net [] fits = omega arith
@@ -139,7 +140,7 @@ nil_most zero = omega arith
 nil_most (suc n) = omega arith
 
 -- so the live turns are few
-pub few_live : {S : Type 0} {part : S → Part} (net : NetRows) (limit : ℕ) (s : St S) (h : KeepsAccounts part net limit s) → EachFits net s.views → total (mark Live) s.views + total (mark New) s.views ≤ 1000000000000000000
+pub few_live : {S : Type 0} {part : S → List Part} (net : NetRows) (limit : ℕ) (s : St S) (h : KeepsAccounts part net limit s) → EachFits net s.views → total (mark Live) s.views + total (mark New) s.views ≤ 1000000000000000000
 few_live net limit s h fits =
     omega (
       arith,
@@ -194,11 +195,12 @@ fits_of net journal (x ∷ xs) h = (one x h.0, fits_of net journal xs h.1)
     one (Has m) h = tt
     one (Unfit s n t) h = tt
     one (Lies k e p) h = tt
+    one (Queued q qs) h = tt
 
 each_fits : (net : NetRows) (views : List (List Note)) → ((id : ℕ) (v : List Note) → get_elem? views id ≡ some v → AllFitNotes net v) → EachFits net views
 each_fits net [] each = tt
 each_fits net (v ∷ vs) each = (each 0 v refl, each_fits net vs (λ id w at. each (suc id) w at))
 
 -- a turn may always be added, and a Drop always be drawn
-pub room_for_turn : {S : Type 0} {part : S → Part} (net : NetRows) (limit : ℕ) (s : St S) (h : KeepsAccounts part net limit s) → total (mark Live) s.views + 1 ≤ 1152921504606846976
+pub room_for_turn : {S : Type 0} {part : S → List Part} (net : NetRows) (limit : ℕ) (s : St S) (h : KeepsAccounts part net limit s) → total (mark Live) s.views + 1 ≤ 1152921504606846976
 room_for_turn net limit s h = omega (arith, few_live net limit s h (each_fits net s.views (λ k v at. fits_of net h.journal v (h.views k v at).stand)))

@@ -50,7 +50,7 @@ use Rattle.table_steps.proofs.LotEntries.{drop_slots, quiet_slots}
 use Rattle.table_steps.proofs.SlotViews.{slots_moved, owes_none, found_weigh, first_found, after_weigh, parts_length}
 
 -- the halt mark set
-mark_set : {S : Type 0} {part : S → Part} (net : NetRows) (limit : ℕ) (s : St S) (h : KeepsAccounts part net limit s) (id : ℕ) (carried : List (ℕ × S)) (rest : List Note) → weigh resting rest ≡ 0 → get_elem? s.views id ≡ some (Duty (Owes []) ∷ Has Live ∷ Has ToMark ∷ rest)
+mark_set : {S : Type 0} {part : S → List Part} (net : NetRows) (limit : ℕ) (s : St S) (h : KeepsAccounts part net limit s) (id : ℕ) (carried : List (ℕ × S)) (rest : List Note) → weigh resting rest ≡ 0 → get_elem? s.views id ≡ some (Duty (Owes []) ∷ Has Live ∷ Has ToMark ∷ rest)
     → KeepsAccounts part net limit (stepped s 32 1 id carried (Duty (Owes []) ∷ Has Live ∷ rest) keeps)
 mark_set net limit s h id carried rest lone at =
     let old = Duty (Owes []) ∷ Has Live ∷ Has ToMark ∷ [] in let new = Duty (Owes []) ∷ Has Live ∷ [] in
@@ -60,7 +60,7 @@ mark_set net limit s h id carried rest lone at =
     refl (λ moved. marked_kept net limit (reading net s.words) h.counted h.journal (λ c. total c s.views) _ 1 h.balanced (λ z. omega arith) (λ c. omega (arith, moved c)))
 
 -- a halt load that found the mark
-halt_loaded : {S : Type 0} {part : S → Part} (net : NetRows) (limit : ℕ) (s : St S) (h : KeepsAccounts part net limit s) (id : ℕ) (carried : List (ℕ × S)) (x : TurnDuty) (rest : List Note) → weigh resting rest ≡ 0 → get_elem? s.views id ≡ some (Duty x ∷ Has Live ∷ rest) → slice_index s.words 32 ≢ 0
+halt_loaded : {S : Type 0} {part : S → List Part} (net : NetRows) (limit : ℕ) (s : St S) (h : KeepsAccounts part net limit s) (id : ℕ) (carried : List (ℕ × S)) (x : TurnDuty) (rest : List Note) → weigh resting rest ≡ 0 → get_elem? s.views id ≡ some (Duty x ∷ Has Live ∷ rest) → slice_index s.words 32 ≢ 0
     → KeepsAccounts part net limit (stepped s 32 (slice_index s.words 32) id carried (Duty x ∷ Has Live ∷ Has Halted ∷ rest) keeps)
 halt_loaded net limit s h id carried x rest lone at found =
     let old = Duty x ∷ Has Live ∷ [] in let new = Duty x ∷ Has Live ∷ Has Halted ∷ [] in
@@ -70,7 +70,7 @@ halt_loaded net limit s h id carried x rest lone at found =
     refl (λ moved. alike_kept net limit (reading net s.words) h.counted h.journal (λ c. total c s.views) _ h.balanced (λ c a. omega (arith, moved c, marks_none c a (Has Halted ∷ []) tt)))
 
 -- and one that found none
-halt_asked : {S : Type 0} {part : S → Part} (net : NetRows) (limit : ℕ) (s : St S) (h : KeepsAccounts part net limit s) (id : ℕ) (carried : List (ℕ × S)) (x : TurnDuty) (rest : List Note) → weigh resting rest ≡ 0 → get_elem? s.views id ≡ some (Duty x ∷ Has Live ∷ rest)
+halt_asked : {S : Type 0} {part : S → List Part} (net : NetRows) (limit : ℕ) (s : St S) (h : KeepsAccounts part net limit s) (id : ℕ) (carried : List (ℕ × S)) (x : TurnDuty) (rest : List Note) → weigh resting rest ≡ 0 → get_elem? s.views id ≡ some (Duty x ∷ Has Live ∷ rest)
     → KeepsAccounts part net limit (stepped s 32 (slice_index s.words 32) id carried (Duty x ∷ Has Live ∷ Has Asked ∷ rest) keeps)
 halt_asked net limit s h id carried x rest lone at =
     let old = Duty x ∷ Has Live ∷ [] in let new = Duty x ∷ Has Live ∷ Has Asked ∷ [] in
@@ -80,7 +80,7 @@ halt_asked net limit s h id carried x rest lone at =
     refl (λ moved. alike_kept net limit (reading net s.words) h.counted h.journal (λ c. total c s.views) _ h.balanced (λ c a. omega (arith, moved c, asked_none c)))
 
 -- a Fault drawn
-fault_drawn : {S : Type 0} {part : S → Part} (net : NetRows) (limit : ℕ) (s : St S) (h : KeepsAccounts part net limit s) (id m t : ℕ) (why : Why) (b d : List ℕ) (carried : List (ℕ × S)) (rest : List Note) → WhyInRange net why → OverReleaseRule net h.journal m why → TakesAlone net t d
+fault_drawn : {S : Type 0} {part : S → List Part} (net : NetRows) (limit : ℕ) (s : St S) (h : KeepsAccounts part net limit s) (id m t : ℕ) (why : Why) (b d : List ℕ) (carried : List (ℕ × S)) (rest : List Note) → WhyInRange net why → OverReleaseRule net h.journal m why → TakesAlone net t d
     → weigh resting rest ≡ 0 → get_elem? s.views id ≡ some (Duty (Open m t) ∷ Has Live ∷ Sems Both b ∷ Sems Credit [] ∷ Sems Credited d ∷ rest)
     → KeepsAccounts part net limit (stepped s 8 ((slice_index s.words 8 + 1) % 2 ^ 64) id carried (Duty (Owes []) ∷ Has Live ∷ Has ToMark ∷ Duty (Told (slice_index s.words 8) (Fault m why)) ∷ Sems Both b ∷ rest) keeps)
 fault_drawn {S} {part} net limit s h id m t why b d carried rest in_range over alone lone at =
@@ -112,11 +112,11 @@ fault_drawn {S} {part} net limit s h id m t why b d carried rest in_range over a
     }))
 
 -- a Drop may always be drawn
-pub drop_room : {S : Type 0} {part : S → Part} (net : NetRows) (limit : ℕ) (s : St S) (h : KeepsAccounts part net limit s) → count_by is_drop h.journal + 1 ≤ 1152921504606846976
+pub drop_room : {S : Type 0} {part : S → List Part} (net : NetRows) (limit : ℕ) (s : St S) (h : KeepsAccounts part net limit s) → count_by is_drop h.journal + 1 ≤ 1152921504606846976
 drop_room net limit s h = omega (arith, few_uses net limit s h)
 
 -- a Drop at the limit
-limit_drawn : {S : Type 0} {part : S → Part} (net : NetRows) (limit : ℕ) (s : St S) (h : KeepsAccounts part net limit s) (id t : ℕ) (cause : Cause) (ps : List Part) (carried : List (ℕ × S)) (rest : List Note) → MayBeReleased net t cause → length ps ≡ length (edges_of net t cause)
+limit_drawn : {S : Type 0} {part : S → List Part} (net : NetRows) (limit : ℕ) (s : St S) (h : KeepsAccounts part net limit s) (id t : ℕ) (cause : Cause) (ps : List Part) (carried : List (ℕ × S)) (rest : List Note) → MayBeReleased net t cause → length ps ≡ length (edges_of net t cause)
     → weigh resting rest ≡ 0 → get_elem? s.views id ≡ some (Duty (Collecting t cause (edges_of net t cause) []) ∷ Has Over ∷ Sems Held [] ∷ found_lots (edges_of net t cause) ps ++ rest)
     → KeepsAccounts part net limit (stepped s 8 ((slice_index s.words 8 + 1) % 2 ^ 64) id carried (Duty (Owes []) ∷ Has Live ∷ Duty (Told (slice_index s.words 8) (Drop t cause Limit)) ∷ rest) keeps)
 limit_drawn {S} {part} net limit s h id t cause ps carried rest may full lone at =
@@ -138,7 +138,7 @@ limit_drawn {S} {part} net limit s h id t cause ps carried rest may full lone at
     }) (omega (arith, moved (mark Over), found_weigh (mark Over) es ps)))
 
 -- and one after a Fault
-halted_drawn : {S : Type 0} {part : S → Part} (net : NetRows) (limit : ℕ) (s : St S) (h : KeepsAccounts part net limit s) (id t : ℕ) (cause : Cause) (ps : List Part) (carried : List (ℕ × S)) (rest : List Note) → MayBeReleased net t cause → length ps ≡ length (edges_of net t cause)
+halted_drawn : {S : Type 0} {part : S → List Part} (net : NetRows) (limit : ℕ) (s : St S) (h : KeepsAccounts part net limit s) (id t : ℕ) (cause : Cause) (ps : List Part) (carried : List (ℕ × S)) (rest : List Note) → MayBeReleased net t cause → length ps ≡ length (edges_of net t cause)
     → weigh resting rest ≡ 0 → get_elem? s.views id ≡ some (Duty (Collecting t cause (edges_of net t cause) []) ∷ Has Live ∷ Has Halted ∷ Sems Held [] ∷ found_lots (edges_of net t cause) ps ++ rest)
     → KeepsAccounts part net limit (stepped s 8 ((slice_index s.words 8 + 1) % 2 ^ 64) id carried (Duty (Owes []) ∷ Has Live ∷ Duty (Told (slice_index s.words 8) (Drop t cause AfterFault)) ∷ rest) keeps)
 halted_drawn {S} {part} net limit s h id t cause ps carried rest may full lone at =
@@ -161,7 +161,7 @@ halted_drawn {S} {part} net limit s h id t cause ps carried rest may full lone a
     }) (omega (arith, moved (mark Over), found_weigh (mark Over) es ps)))
 
 -- HALT LOAD
-pub halt_allowed : {S : Type 0} {part : S → Part} (net : NetRows) (limit slots id : ℕ) (me : Seated S) → MayAsk me.0 → Allows (KeepsAccounts part net limit) slots id me 32 (λ n. n) (λ n m. (m.0 ≡ halt_read n me.0) × (m.1 ≡ me.1))
+pub halt_allowed : {S : Type 0} {part : S → List Part} (net : NetRows) (limit slots id : ℕ) (me : Seated S) → MayAsk me.0 → Allows (KeepsAccounts part net limit) slots id me 32 (λ n. n) (λ n m. (m.0 ≡ halt_read n me.0) × (m.1 ≡ me.1))
 halt_allowed {S} {part} net limit slots id me may s h _ at small = from me.0 may at
   where
     n : ℕ
@@ -200,7 +200,7 @@ why_stands net journal (OverRelease z) m (Sems Claim l ∷ Sems Granted g ∷ x 
 why_stands net journal (OverRelease z) m rest rows fits stand = absurd fits
 
 -- FAULT DRAWN
-pub fault_allowed : {S : Type 0} {part : S → Part} (net : NetRows) (limit slots id : ℕ) (me : Seated S) (why : Why) → MayFault net why me.0 → Allows (KeepsAccounts part net limit) slots id me 8 (λ n. (n + 1) % 2 ^ 64) (λ n m. (m.0 ≡ with_fault_drawn why n me.0) × (m.1 ≡ me.1))
+pub fault_allowed : {S : Type 0} {part : S → List Part} (net : NetRows) (limit slots id : ℕ) (me : Seated S) (why : Why) → MayFault net why me.0 → Allows (KeepsAccounts part net limit) slots id me 8 (λ n. (n + 1) % 2 ^ 64) (λ n m. (m.0 ≡ with_fault_drawn why n me.0) × (m.1 ≡ me.1))
 fault_allowed {S} {part} net limit slots id me why may s h _ at small = from me.0 may at
   where
     from : (v : List Note) → MayFault net why v → get_elem? s.views id ≡ some v
@@ -211,7 +211,7 @@ fault_allowed {S} {part} net limit slots id me why may s h _ at small = from me.
     from v may at = absurd may
 
 -- HALT MARK
-pub mark_allowed : {S : Type 0} {part : S → Part} (net : NetRows) (limit slots id : ℕ) (me : Seated S) → MayMark me.0 → Allows (KeepsAccounts part net limit) slots id me 32 (λ n. 1) (λ n m. (m.0 ≡ marked me.0) × (m.1 ≡ me.1))
+pub mark_allowed : {S : Type 0} {part : S → List Part} (net : NetRows) (limit slots id : ℕ) (me : Seated S) → MayMark me.0 → Allows (KeepsAccounts part net limit) slots id me 32 (λ n. 1) (λ n m. (m.0 ≡ marked me.0) × (m.1 ≡ me.1))
 mark_allowed {S} {part} net limit slots id me may s h _ at small = from me.0 may at
   where
     from : (v : List Note) → MayMark v → get_elem? s.views id ≡ some v
@@ -220,7 +220,7 @@ mark_allowed {S} {part} net limit slots id me may s h _ at small = from me.0 may
     from v may at = absurd may
 
 -- DROP DRAWN
-pub drop_allowed : {S : Type 0} {part : S → Part} (net : NetRows) (limit slots id : ℕ) (me : Seated S) → MayDrop me.0 → Allows (KeepsAccounts part net limit) slots id me 8 (λ n. (n + 1) % 2 ^ 64) (λ n m. (m.0 ≡ dropped n me.0) × (m.1 ≡ me.1))
+pub drop_allowed : {S : Type 0} {part : S → List Part} (net : NetRows) (limit slots id : ℕ) (me : Seated S) → MayDrop me.0 → Allows (KeepsAccounts part net limit) slots id me 8 (λ n. (n + 1) % 2 ^ 64) (λ n m. (m.0 ≡ dropped n me.0) × (m.1 ≡ me.1))
 drop_allowed {S} {part} net limit slots id me may s h _ at small = from me.0 may at
   where
     from : (v : List Note) → MayDrop v → get_elem? s.views id ≡ some v

@@ -8,7 +8,7 @@ use Rattle.table_steps.specs.declared.view.TurnDuty.TheVariants.{Told, Fresh, Co
 use Rattle.table_steps.specs.declared.view.Lot.{Lot}
 use Rattle.table_steps.specs.declared.view.Lot.TheVariants.{Putting, Taking}
 use Rattle.table_steps.specs.declared.view.Note.{Note}
-use Rattle.table_steps.specs.declared.view.Note.TheVariants.{Duty, Sems, Has, Unfit, Lies}
+use Rattle.table_steps.specs.declared.view.Note.TheVariants.{Duty, Sems, Has, Unfit, Lies, Queued}
 use Rattle.table_steps.specs.inside.Accounts.{marks_from, slot_mark}
 use Rattle.table_steps.specs.inside.Slots.{SlotCoord, lot, duty_slots, slot_weigh, slot_total, holders, slots_in, HoldsAlike}
 use Rattle.table_steps.specs.inside.SlotMarks.{HomeIs, Homes}
@@ -43,6 +43,7 @@ rest_slots (Sems k l ∷ xs) h = rest_slots xs (rest_head (Sems k l) xs h).1
 rest_slots (Has m ∷ xs) h = rest_slots xs (rest_head (Has m) xs h).1
 rest_slots (Unfit s n t ∷ xs) h = absurd h
 rest_slots (Lies k e p ∷ xs) h = absurd h
+rest_slots (Queued q qs ∷ xs) h = absurd h
 
 pub slot_total_swap : (c : SlotCoord) (views : List (List Note)) (id : ℕ) (old new rest : List Note) → get_elem? views id ≡ some (old ++ rest) → slot_total c (set views id (new ++ rest)) + slot_weigh c old ≡ slot_total c views + slot_weigh c new
 slot_total_swap c views id old new rest at = omega (arith, slot_total_set c views id (old ++ rest) (new ++ rest) at, slot_append c old rest, slot_append c new rest)

@@ -20,7 +20,7 @@ use Rattle.table_steps.proofs.MarkSteps.{turn_off}
 use Rattle.table_steps.proofs.Closing.{all_complete, all_told}
 use Rattle.table_steps.proofs.OneJournal.{in_journal}
 
-pub leave_allowed : {S : Type 0} {part : S → Part} (net : NetRows) (limit slots id : ℕ) (me : Seated S) → id ≡ 0 → MayLeave me.0
+pub leave_allowed : {S : Type 0} {part : S → List Part} (net : NetRows) (limit slots id : ℕ) (me : Seated S) → id ≡ 0 → MayLeave me.0
     → Allows (KeepsAccounts part net limit) slots id me 16 (λ n. (n + (2 ^ 64 - 1)) % 2 ^ 64) (λ n m. (m.0 ≡ left_by me.0) × (m.1 ≡ me.1) × (n ≡ 1 → IsWhole net limit m.0) × AreInOneJournal net limit (entries_in m.0))
 leave_allowed {S} {part} net limit slots id me first may s h _ at small = from me.0 may at
   where

@@ -12,11 +12,11 @@ use Rattle.table_steps.specs.declared.view.TurnDuty.TheVariants.{Told, Fresh, Co
 use Rattle.table_steps.specs.declared.view.Lot.{Lot}
 use Rattle.table_steps.specs.declared.view.Lot.TheVariants.{Ours, Putting, Put, Awaited, Taking, Fetched, Found}
 use Rattle.table_steps.specs.declared.view.Note.{Note}
-use Rattle.table_steps.specs.declared.view.Note.TheVariants.{Duty, Sems, Has, Unfit, Lies}
+use Rattle.table_steps.specs.declared.view.Note.TheVariants.{Duty, Sems, Has, Unfit, Lies, Queued}
 use Rattle.table_steps.specs.inside.Duties.{token, duty_weight}
 use Rattle.table_steps.specs.inside.Accounts.{duty, weigh}
 use Rattle.table_steps.specs.inside.Parcels.{same_part, parts_count}
-use Rattle.table_steps.specs.inside.Slots.{SlotCoord, parcel, lot, owed, collected, left_at, duty_slots, slot_weight, slot_weigh, slot_total, SlotPart, SlotBounds, awaited_lots, found_lots, our_lots}
+use Rattle.table_steps.specs.inside.Slots.{SlotCoord, parcel, lot, queue, owed, collected, left_at, duty_slots, slot_weight, slot_weigh, slot_total, SlotPart, SlotBounds, awaited_lots, found_lots, our_lots}
 use Rattle.table_steps.proofs.Calming.{calm_now}
 
 pub slot_append : (c : SlotCoord) (xs ys : List Note) → slot_weigh c (xs ++ ys) ≡ slot_weigh c xs + slot_weigh c ys
@@ -30,12 +30,12 @@ part_bit true false = omega arith
 part_bit false c = omega arith
 
 parcel_lot : (e : ℕ) (p : Part) (k : Lot) (f : ℕ) (q : Part) → slot_weight (parcel e p) (Lies k f q)
-    ≤ slot_weight (lot Ours e) (Lies k f q) + slot_weight (lot Putting e) (Lies k f q) + slot_weight (lot Taking e) (Lies k f q) + slot_weight (lot Fetched e) (Lies k f q) + slot_weight (lot Found e) (Lies k f q)
+    ≤ slot_weight (lot Ours e) (Lies k f q) + slot_weight (lot Putting e) (Lies k f q) + slot_weight (lot Fetched e) (Lies k f q) + slot_weight (lot Found e) (Lies k f q)
 parcel_lot e p Ours f q = omega (arith, part_bit (f == e) (same_part q p))
 parcel_lot e p Putting f q = omega (arith, part_bit (f == e) (same_part q p))
 parcel_lot e p Put f q = omega arith
 parcel_lot e p Awaited f q = omega arith
-parcel_lot e p Taking f q = omega (arith, part_bit (f == e) (same_part q p))
+parcel_lot e p Taking f q = omega arith
 parcel_lot e p Fetched f q = omega (arith, part_bit (f == e) (same_part q p))
 parcel_lot e p Found f q = omega (arith, part_bit (f == e) (same_part q p))
 
@@ -49,16 +49,17 @@ duty_parcel e p (Owes gives) = refl
 duty_parcel e p (Counting f) = refl
 
 pub parcels_bound : (e : ℕ) (p : Part) (v : List Note) → slot_weigh (parcel e p) v
-    ≤ slot_weigh (lot Ours e) v + slot_weigh (lot Putting e) v + slot_weigh (lot Taking e) v + slot_weigh (lot Fetched e) v + slot_weigh (lot Found e) v
+    ≤ slot_weigh (lot Ours e) v + slot_weigh (lot Putting e) v + slot_weigh (lot Fetched e) v + slot_weigh (lot Found e) v
 parcels_bound e p [] = omega arith
 parcels_bound e p (Duty x ∷ xs) = omega (arith, duty_parcel e p x, parcels_bound e p xs)
 parcels_bound e p (Sems k l ∷ xs) = omega (arith, parcels_bound e p xs)
 parcels_bound e p (Has m ∷ xs) = omega (arith, parcels_bound e p xs)
 parcels_bound e p (Unfit s n t ∷ xs) = omega (arith, parcels_bound e p xs)
 parcels_bound e p (Lies k f q ∷ xs) = omega (arith, parcel_lot e p k f q, parcels_bound e p xs)
+parcels_bound e p (Queued q qs ∷ xs) = omega (arith, parcels_bound e p xs)
 
 pub parcels_bound_all : (e : ℕ) (p : Part) (vs : List (List Note)) → slot_total (parcel e p) vs
-    ≤ slot_total (lot Ours e) vs + slot_total (lot Putting e) vs + slot_total (lot Taking e) vs + slot_total (lot Fetched e) vs + slot_total (lot Found e) vs
+    ≤ slot_total (lot Ours e) vs + slot_total (lot Putting e) vs + slot_total (lot Fetched e) vs + slot_total (lot Found e) vs
 parcels_bound_all e p [] = omega arith
 parcels_bound_all e p (v ∷ vs) = omega (arith, parcels_bound e p v, parcels_bound_all e p vs)
 
@@ -79,6 +80,7 @@ tokens_of e (Sems k l ∷ xs) = omega (arith, tokens_of e xs)
 tokens_of e (Has m ∷ xs) = omega (arith, tokens_of e xs)
 tokens_of e (Unfit s n t ∷ xs) = omega (arith, tokens_of e xs)
 tokens_of e (Lies k f q ∷ xs) = omega (arith, tokens_of e xs)
+tokens_of e (Queued q qs ∷ xs) = omega (arith, tokens_of e xs)
 
 -- lists of lots
 pub awaited_count : (e : ℕ) (es : List ℕ) → slot_weigh (lot Awaited e) (awaited_lots es) ≡ times e es
@@ -102,6 +104,7 @@ awaited_none c apart (e ∷ es) = omega (arith, one c apart, awaited_none c apar
     one (lot Taking f) o = refl
     one (lot Fetched f) o = refl
     one (lot Found f) o = refl
+    one (queue m f) o = refl
     one (owed f) o = refl
     one (collected f) o = refl
     one (left_at f) o = refl
@@ -136,6 +139,7 @@ found_none c apart (e ∷ es) (p ∷ ps) = omega (arith, one c apart, found_none
     one (lot Taking f) o = refl
     one (lot Fetched f) o = refl
     one (lot Found f) o = absurd o
+    one (queue m f) o = refl
     one (owed f) o = refl
     one (collected f) o = refl
     one (left_at f) o = refl
@@ -179,11 +183,12 @@ our_none c apart n (e ∷ es) = omega (arith, one c apart, our_none c apart n es
     one (lot Taking f) o = refl
     one (lot Fetched f) o = refl
     one (lot Found f) o = refl
+    one (queue m f) o = refl
     one (owed f) o = refl
     one (collected f) o = refl
     one (left_at f) o = refl
 
 -- A turn that has still to put or to take a parcel has a token, and so has a turn that holds the slot.
-pub crowded : (net : NetRows) (journal : List Entry) (edge : ℕ → ℕ) (T : SlotCoord → ℕ) (label : ℕ → Part) (f : ℕ) → SlotPart net journal edge T label → SlotBounds net journal edge T
+pub crowded : (net : NetRows) (journal : List Entry) (edge : ℕ → ℕ) (T : SlotCoord → ℕ) (label : ℕ → List Part) (f : ℕ) → SlotPart net journal edge T label → SlotBounds net journal edge T
     → 2 ≤ T (lot Ours f) + T (lot Putting f) + T (lot Awaited f) + T (lot Taking f) → ¬ IsCalm net f journal
 crowded net journal edge T label f d b two calm = omega (arith, two, calm_now net f journal calm, b.tokens f, b.within f, d.owing f, d.reached f)

@@ -13,7 +13,7 @@ use Rattle.table_steps.specs.declared.view.TurnDuty.TheVariants.{Ticket, Owes}
 use Rattle.table_steps.specs.Giving.{one_if}
 use Rattle.table_steps.specs.declared.view.SeatMark.TheVariants.{Live, New, Over, ToMark, Halted, Alone, Quiet, Sticking, Asked}
 use Rattle.table_steps.specs.declared.view.Note.{Note}
-use Rattle.table_steps.specs.declared.view.Note.TheVariants.{Duty, Sems, Has, Unfit, Lies}
+use Rattle.table_steps.specs.declared.view.Note.TheVariants.{Duty, Sems, Has, Unfit, Lies, Queued}
 use Rattle.table_steps.specs.inside.Accounts.{Coord, duty, sem, turning, owing, mark, busy, resting, telling, weight, weigh, total, is_drop, reading, KeepsAccounts}
 use Rattle.table_steps.proofs.Totals.{total_swap}
 use Rattle.table_steps.proofs.Views.{at_most}
@@ -41,6 +41,7 @@ over_lives (Has Sticking) = omega arith
 over_lives (Has Asked) = omega arith
 over_lives (Unfit z n t) = omega arith
 over_lives (Lies k e p) = omega arith
+over_lives (Queued q qs) = omega arith
 
 limited_drops : (xs : List Entry) → count_by is_limited xs ≤ count_by is_drop xs
 limited_drops [] = omega arith
@@ -56,7 +57,7 @@ limited_drops (x ∷ xs) = omega (arith, limited_drops xs, count_cons is_limited
     one (Fault n w) = omega arith
     one (Drop t c w) = bit (is_limited (Drop t c w))
 
-admitted_small : {S : Type 0} {part : S → Part} (net : NetRows) (limit : ℕ) (s : St S) (h : KeepsAccounts part net limit s) → slice_index s.words 24 ≤ 2097153 + 1152921504606846976 + 1152921504606846976
+admitted_small : {S : Type 0} {part : S → List Part} (net : NetRows) (limit : ℕ) (s : St S) (h : KeepsAccounts part net limit s) → slice_index s.words 24 ≤ 2097153 + 1152921504606846976 + 1152921504606846976
 admitted_small net limit s h = let a = h.balanced.by_admissions in
     omega (arith, a.drawn, a.room, h.fits.limited, h.few, h.few_drops, limited_drops h.journal, total_less (mark Over) (mark Live) over_lives s.views)
 
@@ -80,7 +81,7 @@ asked_none owing = refl
 asked_none telling = refl
 
 -- an admission drawn
-pub admit_drawn : {S : Type 0} {part : S → Part} (net : NetRows) (limit : ℕ) (s : St S) (h : KeepsAccounts part net limit s) (id : ℕ) (carried : List (ℕ × S)) (x : TurnDuty) (rest : List Note) → weigh resting rest ≡ 0 → get_elem? s.views id ≡ some (Duty x ∷ Has Live ∷ Has Asked ∷ rest) → slice_index s.words 24 < limit
+pub admit_drawn : {S : Type 0} {part : S → List Part} (net : NetRows) (limit : ℕ) (s : St S) (h : KeepsAccounts part net limit s) (id : ℕ) (carried : List (ℕ × S)) (x : TurnDuty) (rest : List Note) → weigh resting rest ≡ 0 → get_elem? s.views id ≡ some (Duty x ∷ Has Live ∷ Has Asked ∷ rest) → slice_index s.words 24 < limit
     → KeepsAccounts part net limit (stepped s 24 ((slice_index s.words 24 + 1) % 2 ^ 64) id carried (Duty x ∷ Duty Ticket ∷ Has Live ∷ rest) keeps)
 admit_drawn net limit s h id carried x rest lone at found =
     let old = Duty x ∷ Has Live ∷ Has Asked ∷ [] in let new = Duty x ∷ Duty Ticket ∷ Has Live ∷ [] in
@@ -91,7 +92,7 @@ admit_drawn net limit s h id carried x rest lone at found =
     refl (λ moved. admit_kept net limit (reading net s.words) h.counted h.journal (λ c. total c s.views) _ h.balanced found (λ c. omega (arith, moved c, asked_none c)))
 
 -- and one too many
-pub over_drawn : {S : Type 0} {part : S → Part} (net : NetRows) (limit : ℕ) (s : St S) (h : KeepsAccounts part net limit s) (id : ℕ) (carried : List (ℕ × S)) (x : TurnDuty) (rest : List Note) → weigh resting rest ≡ 0 → get_elem? s.views id ≡ some (Duty x ∷ Has Live ∷ Has Asked ∷ rest) → limit ≤ slice_index s.words 24
+pub over_drawn : {S : Type 0} {part : S → List Part} (net : NetRows) (limit : ℕ) (s : St S) (h : KeepsAccounts part net limit s) (id : ℕ) (carried : List (ℕ × S)) (x : TurnDuty) (rest : List Note) → weigh resting rest ≡ 0 → get_elem? s.views id ≡ some (Duty x ∷ Has Live ∷ Has Asked ∷ rest) → limit ≤ slice_index s.words 24
     → KeepsAccounts part net limit (stepped s 24 ((slice_index s.words 24 + 1) % 2 ^ 64) id carried (Duty x ∷ Has Over ∷ rest) keeps)
 over_drawn net limit s h id carried x rest lone at found =
     let old = Duty x ∷ Has Live ∷ Has Asked ∷ [] in let new = Duty x ∷ Has Over ∷ [] in
@@ -102,7 +103,7 @@ over_drawn net limit s h id carried x rest lone at found =
     refl (λ moved. over_kept net limit (reading net s.words) h.counted h.journal (λ c. total c s.views) _ h.balanced found (λ c. omega (arith, moved c, asked_none c)))
 
 -- a turn added
-pub turn_added : {S : Type 0} {part : S → Part} (net : NetRows) (limit : ℕ) (s : St S) (h : KeepsAccounts part net limit s) (id : ℕ) (carried : List (ℕ × S)) (x : TurnDuty) (rest : List Note) → weigh resting rest ≡ 0 → 1 ≤ weigh (mark Live) rest → get_elem? s.views id ≡ some (Duty x ∷ Has New ∷ rest)
+pub turn_added : {S : Type 0} {part : S → List Part} (net : NetRows) (limit : ℕ) (s : St S) (h : KeepsAccounts part net limit s) (id : ℕ) (carried : List (ℕ × S)) (x : TurnDuty) (rest : List Note) → weigh resting rest ≡ 0 → 1 ≤ weigh (mark Live) rest → get_elem? s.views id ≡ some (Duty x ∷ Has New ∷ rest)
     → total (mark Live) s.views + 1 ≤ 1152921504606846976 → KeepsAccounts part net limit (stepped s 16 ((slice_index s.words 16 + 1) % 2 ^ 64) id carried (Duty x ∷ Has Live ∷ rest) keeps)
 turn_added net limit s h id carried x rest lone lives at few =
     let old = Duty x ∷ Has New ∷ [] in let new = Duty x ∷ Has Live ∷ [] in
@@ -115,7 +116,7 @@ turn_added net limit s h id carried x rest lone lives at few =
     (λ moved. added_kept net limit (reading net s.words) h.counted h.journal (λ c. total c s.views) _ h.balanced (λ c. omega (arith, moved c)))
 
 -- a turn taken off
-pub turn_off : {S : Type 0} {part : S → Part} (net : NetRows) (limit : ℕ) (s : St S) (h : KeepsAccounts part net limit s) (id : ℕ) (carried : List (ℕ × S)) (rest : List Note) → (weigh (mark Live) rest ≡ 0 → weigh busy rest ≡ 0) → (id ≢ 0 → weigh (mark Live) rest ≡ 0 → weigh telling rest ≡ 0) → get_elem? s.views id ≡ some (Duty (Owes []) ∷ Has Live ∷ rest) → slice_index s.words 16 < 18446744073709551616
+pub turn_off : {S : Type 0} {part : S → List Part} (net : NetRows) (limit : ℕ) (s : St S) (h : KeepsAccounts part net limit s) (id : ℕ) (carried : List (ℕ × S)) (rest : List Note) → (weigh (mark Live) rest ≡ 0 → weigh busy rest ≡ 0) → (id ≢ 0 → weigh (mark Live) rest ≡ 0 → weigh telling rest ≡ 0) → get_elem? s.views id ≡ some (Duty (Owes []) ∷ Has Live ∷ rest) → slice_index s.words 16 < 18446744073709551616
     → KeepsAccounts part net limit (stepped s 16 ((slice_index s.words 16 + 18446744073709551615) % 2 ^ 64) id carried rest keeps)
 turn_off net limit s h id carried rest covered telling_all at small =
     let p = h.views id (Duty (Owes []) ∷ Has Live ∷ rest) at in

@@ -12,7 +12,7 @@ use Rattle.table_steps.specs.declared.view.SemaphoreRole.{SemaphoreRole}
 use Rattle.table_steps.specs.declared.view.SemaphoreRole.TheVariants.{Held, Undo, Owed, Both, Credit, Credited, Claim, Granted, Refusing, Denied, Full}
 use Rattle.table_steps.specs.declared.view.SeatMark.TheVariants.{Live, New, Over, ToMark, Halted, Alone, Quiet, Sticking, Asked}
 use Rattle.table_steps.specs.declared.view.Note.{Note}
-use Rattle.table_steps.specs.declared.view.Note.TheVariants.{Duty, Sems, Has, Unfit, Lies}
+use Rattle.table_steps.specs.declared.view.Note.TheVariants.{Duty, Sems, Has, Unfit, Lies, Queued}
 use Rattle.table_steps.specs.inside.Accounts.{Coord, duty, sem, mark, turning, owing, telling, busy, resting, weight, weigh, TurnPart, JournalPart, LivePart, Readings, Balanced, Moves, with_admitted, with_live}
 use Rattle.table_steps.proofs.Still.{journal_still, edges_still, duties_still, admission_still, turns_still, unit_still, credit_still, halt_still, stuck_still}
 use Rattle.table_steps.proofs.Units.{Units}
@@ -248,6 +248,7 @@ one_none owing a (Sems Full l) h = refl
 one_none c a (Duty i) h = absurd h
 one_none c a (Unfit z n t) h = absurd h
 one_none c a (Lies k e p) h = absurd h
+one_none c a (Queued q qs) h = absurd h
 one_none c a (Has Live) h = absurd h
 one_none c a (Has New) h = absurd h
 one_none c a (Has Over) h = absurd h
@@ -281,6 +282,7 @@ rest_head (Sems Full l) xs h = (tt, h)
 rest_head (Duty i) xs h = absurd h
 rest_head (Unfit z n t) xs h = absurd h
 rest_head (Lies k e p) xs h = absurd h
+rest_head (Queued q qs) xs h = absurd h
 rest_head (Has Live) xs h = absurd h
 rest_head (Has New) xs h = absurd h
 rest_head (Has Over) xs h = absurd h

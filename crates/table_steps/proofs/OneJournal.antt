@@ -16,7 +16,7 @@ use Rattle.table_steps.specs.Giving.{one_if}
 use Rattle.table_steps.specs.OneJournal.{told_by, entries_in, HasEntry, AreInOneJournal, AreOneJournal, drawn_count, seats_entries}
 use Rattle.table_steps.specs.declared.view.TurnDuty.TheVariants.{Told, Fresh, Collecting, Ticket, Open, Owes, Counting}
 use Rattle.table_steps.specs.declared.view.Note.{Note}
-use Rattle.table_steps.specs.declared.view.Note.TheVariants.{Duty, Sems, Has, Unfit, Lies}
+use Rattle.table_steps.specs.declared.view.Note.TheVariants.{Duty, Sems, Has, Unfit, Lies, Queued}
 use Rattle.table_steps.specs.declared.view.SeatView.{SeatView}
 use Rattle.table_steps.specs.inside.Duties.{place}
 use Rattle.table_steps.specs.inside.Accounts.{duty, weight, weigh, total, Stands, AllStand, KeepsAccounts}
@@ -41,13 +41,14 @@ told_there net journal (Sems k l) stands = tt
 told_there net journal (Has k) stands = tt
 told_there net journal (Unfit s n t) stands = tt
 told_there net journal (Lies k e p) stands = tt
+told_there net journal (Queued q qs) stands = tt
 
 entries_there : (net : NetRows) (journal : List Entry) (v : List Note) → AllStand net journal v → AllByRecursion (HasEntry journal) (entries_in v)
 entries_there net journal [] stand = tt
 entries_there net journal (x ∷ xs) stand = both_there journal (told_by x) (entries_in xs) (told_there net journal x stand.0) (entries_there net journal xs stand.1)
 
 -- those of one seat
-pub in_journal : {S : Type 0} {part : S → Part} (net : NetRows) (limit : ℕ) (s : St S) (h : KeepsAccounts part net limit s) (id : ℕ) (v : List Note) → get_elem? s.views id ≡ some v → AreInOneJournal net limit (entries_in v)
+pub in_journal : {S : Type 0} {part : S → List Part} (net : NetRows) (limit : ℕ) (s : St S) (h : KeepsAccounts part net limit s) (id : ℕ) (v : List Note) → get_elem? s.views id ≡ some v → AreInOneJournal net limit (entries_in v)
 in_journal net limit s h id v at = record { journal = h.journal; legal = h.balanced.by_journal.legal; meets = h.slots.parts.meets; stand = entries_there net h.journal v (h.views id v at).stand }
 
 -- EACH ONCE
@@ -69,6 +70,7 @@ told_count m (Sems k l) = refl
 told_count m (Has k) = refl
 told_count m (Unfit s n t) = refl
 told_count m (Lies k e p) = refl
+told_count m (Queued q qs) = refl
 
 seat_count : (m : ℕ) (v : List Note) → count_by (is_at m) (entries_in v) ≡ weigh (duty (place m)) v
 seat_count m [] = refl
@@ -85,7 +87,7 @@ module _ {V : Type 0} where
   seats_there journal (v ∷ vs) each = both_there journal (entries_in v.notes) (flat_map (λ (u : SeatView V). entries_in u.notes) vs) (each 0 v refl) (seats_there journal vs (λ id w at. each (suc id) w at))
 
   -- those of all seats
-  pub entries_are_one : (net : NetRows) (limit : ℕ) (s : State (Given V) (SeatView V)) → KeepsTable net limit s → AreOneJournal net limit (drawn_count s) (seats_entries s)
+  pub entries_are_one : (net : NetRows) (limit : ℕ) (s : State (List (Given V)) (SeatView V)) → KeepsTable net limit s → AreOneJournal net limit (drawn_count s) (seats_entries s)
   entries_are_one net limit s h = let a = h.accounts in let j = a.balanced.by_journal in record {
     within = record {
       journal = a.journal;

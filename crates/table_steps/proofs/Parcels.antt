@@ -81,8 +81,8 @@ first_once net e = by_row (slice_get net.edges e)
 
 -- A Start.
 -- what a seat has of an edge may be found there
-may_have : (net : NetRows) (journal : List Entry) (edge : ℕ → ℕ) (P : ℕ → Part → ℕ) (F R : ℕ → ℕ) (label : ℕ → Part) (e : ℕ) (p : Part) → DataPart net journal edge P F R label → 1 ≤ P e p → IsPartAt net journal e p
-may_have net journal edge P F R label e p d some = record {
+may_have : (net : NetRows) (journal : List Entry) (edge : ℕ → ℕ) (P Q : ℕ → Part → ℕ) (F R : ℕ → ℕ) (e : ℕ) (p : Part) → DataPart net journal edge P Q F R → 1 ≤ P e p → IsPartAt net journal e p
+may_have net journal edge P Q F R e p d some = record {
   found = found_at p some;
   last = λ calm. by_eq (cases_part p (last_part e journal)) calm;
 }
@@ -99,15 +99,15 @@ may_have net journal edge P F R label e p d some = record {
     by_eq (inl same) calm = same
     by_eq (inr other) calm = absurd (omega (arith, d.stale e calm p other))
 
-parts_may : (net : NetRows) (journal : List Entry) (edge : ℕ → ℕ) (P : ℕ → Part → ℕ) (F R : ℕ → ℕ) (label : ℕ → Part) (es : List ℕ) (ps : List Part) → DataPart net journal edge P F R label → length ps ≡ length es
+parts_may : (net : NetRows) (journal : List Entry) (edge : ℕ → ℕ) (P Q : ℕ → Part → ℕ) (F R : ℕ → ℕ) (es : List ℕ) (ps : List Part) → DataPart net journal edge P Q F R → length ps ≡ length es
     → ((e : ℕ) (p : Part) → parts_count e p es ps ≤ P e p) → AllZip (IsPartAt net journal) es ps
-parts_may net journal edge P F R label [] [] d same each = tt
-parts_may net journal edge P F R label [] (p ∷ ps) d same each = absurd (omega arith)
-parts_may net journal edge P F R label (e ∷ es) [] d same each = absurd (omega arith)
-parts_may net journal edge P F R label (e ∷ es) (p ∷ ps) d same each =
+parts_may net journal edge P Q F R [] [] d same each = tt
+parts_may net journal edge P Q F R [] (p ∷ ps) d same each = absurd (omega arith)
+parts_may net journal edge P Q F R (e ∷ es) [] d same each = absurd (omega arith)
+parts_may net journal edge P Q F R (e ∷ es) (p ∷ ps) d same each =
     let hit : eqb e e ≡ true = grind (arith, nat_tests) in
     let here : one_if (eqb e e && same_part p p) ≡ 1 = rw (hit, part_self p) refl in
-    (may_have net journal edge P F R label e p d (omega (arith, each e p, here)), parts_may net journal edge P F R label es ps d (omega arith) (λ g q. omega (arith, each g q)))
+    (may_have net journal edge P Q F R e p d (omega (arith, each e p, here)), parts_may net journal edge P Q F R es ps d (omega arith) (λ g q. omega (arith, each g q)))
 
 -- a part that a Start has is counted among its parts
 part_counted : (e : ℕ) (p : Part) (test : Part → Bool) → ((q : Part) → test q ≡ same_part q p) → (es : List ℕ) (ps : List Part) → one_if (list_any (λ x. (x.0 == e) && test x.1) (zip es ps)) ≤ parts_count e p es ps
@@ -138,21 +138,21 @@ gives_below e n [] x not_given = by_place n
 gives_below e zero (y ∷ ys) x not_given = refl
 gives_below e (suc n) (y ∷ ys) x not_given = gives_below e n ys x not_given
 
-pub data_start : (net : NetRows) (journal : List Entry) (edge : ℕ → ℕ) (P P' : ℕ → Part → ℕ) (F R : ℕ → ℕ) (label : ℕ → Part) (t : ℕ) (cause : Cause) (ins : List Part) → DataPart net journal edge P F R label
-    → length ins ≡ length (edges_of net t cause) → ((e : ℕ) (p : Part) → P' e p + parts_count e p (edges_of net t cause) ins ≡ P e p) → DataPart net (journal ++ Start t cause ins ∷ []) edge P' F R label
-data_start net journal edge P P' F R label t cause ins d same less = let x = Start t cause ins in let es = edges_of net t cause in record {
-  meets = EachAfter-push (DataRule net) journal x d.meets (parts_may net journal edge P F R label es ins d same (λ e p. omega (arith, less e p)));
+pub data_start : (net : NetRows) (journal : List Entry) (edge : ℕ → ℕ) (P P' Q : ℕ → Part → ℕ) (F R : ℕ → ℕ) (t : ℕ) (cause : Cause) (ins : List Part) → DataPart net journal edge P Q F R
+    → length ins ≡ length (edges_of net t cause) → ((e : ℕ) (p : Part) → P' e p + parts_count e p (edges_of net t cause) ins ≡ P e p) → DataPart net (journal ++ Start t cause ins ∷ []) edge P' Q F R
+data_start net journal edge P P' Q F R t cause ins d same less = let x = Start t cause ins in let es = edges_of net t cause in record {
+  meets = EachAfter-push (DataRule net) journal x d.meets (parts_may net journal edge P Q F R es ins d same (λ e p. omega (arith, less e p)));
   froms = λ e n. omega (arith, d.froms e n, less e (From n), count_by_push (has_part net e (is_from n)) journal x, part_counted e (From n) (is_from n) (is_from_same n) es ins, gives_below e n journal x refl);
   firsts = λ e. omega (arith, d.firsts e, less e First, count_by_push (has_part net e is_first) journal x, part_counted e First is_first is_first_same es ins);
   stale = λ e calm p other. omega (arith, less e p, d.stale e (calm_before net e journal x calm) p (λ is. other (is ∙ sym (last_part_push e journal x))));
-  due = λ e calm. ap (λ p. one_if (same_part (label e) p) + F e) (last_part_push e journal x) ∙ d.due e (calm_before net e journal x calm);
+  due = λ e calm. ap (λ p. Q e p + F e) (last_part_push e journal x) ∙ d.due e (calm_before net e journal x calm);
 }
 
 -- An End.
-pub data_end : (net : NetRows) (journal : List Entry) (edge K : ℕ → ℕ) (P P' : ℕ → Part → ℕ) (F R : ℕ → ℕ) (label : ℕ → Part) (m : ℕ) (gives : List ℕ) (inner : Bool) → DataPart net journal edge P F R label
+pub data_end : (net : NetRows) (journal : List Entry) (edge K : ℕ → ℕ) (P P' Q : ℕ → Part → ℕ) (F R : ℕ → ℕ) (m : ℕ) (gives : List ℕ) (inner : Bool) → DataPart net journal edge P Q F R
     → Owned K edge P F R → ((e : ℕ) → given net e journal ≡ used_at net e journal + edge e + K e) → ((e : ℕ) → times e gives ≤ 1)
-    → ((e : ℕ) (p : Part) → P' e p ≡ P e p + cond (same_part (From (length journal)) p) (times e gives) 0) → DataPart net (journal ++ End m gives inner ∷ []) edge P' F R label
-data_end net journal edge K P P' F R label m gives inner d o tokens once more = let x = End m gives inner in record {
+    → ((e : ℕ) (p : Part) → P' e p ≡ P e p + cond (same_part (From (length journal)) p) (times e gives) 0) → DataPart net (journal ++ End m gives inner ∷ []) edge P' Q F R
+data_end net journal edge K P P' Q F R m gives inner d o tokens once more = let x = End m gives inner in record {
   meets = EachAfter-push (DataRule net) journal x d.meets tt;
   froms = λ e n. froms_at e n (cases_eq (length journal) n);
   firsts = λ e. omega (arith, d.firsts e, more e First, count_by_push_no (has_part net e is_first) journal x refl);
@@ -169,7 +169,7 @@ data_end net journal edge K P P' F R label m gives inner d o tokens once more = 
     some_is : (e : ℕ) → times e gives ≡ one_if (list_any (λ g. g == e) gives)
     some_is e = times_count e gives ∙ count_once (λ g. g == e) gives (omega (arith, once e, times_count e gives))
 
-    froms_at : (e k : ℕ) → (length journal ≡ k) ⊎ (length journal ≢ k) → P' e (From k) + one_if (same_part (label e) (From k)) + count_by (has_part net e (is_from k)) (journal ++ x ∷ []) ≤ one_if (option_map_or (gives_edge e) (slice_get (journal ++ x ∷ []) k) false)
+    froms_at : (e k : ℕ) → (length journal ≡ k) ⊎ (length journal ≢ k) → P' e (From k) + Q e (From k) + count_by (has_part net e (is_from k)) (journal ++ x ∷ []) ≤ one_if (option_map_or (gives_edge e) (slice_get (journal ++ x ∷ []) k) false)
     froms_at e k (inl same) =
         let hit : eqb (length journal) k ≡ true = grind (arith, nat_tests) in
         let gone : one_if (option_map_or (gives_edge e) (slice_get journal k) false) ≡ 0 = ap (λ o. one_if (option_map_or (gives_edge e) o false)) (slice_get_past journal k (omega arith)) in
@@ -192,12 +192,20 @@ data_end net journal edge K P P' F R label m gives inner d o tokens once more = 
         let same = used_at_end net e m gives inner journal in
         (omega (arith, now, one, same, tokens e), omega (arith, now, one, same, tokens e), omega (arith, now, one, same, tokens e, o.fetched e), omega (arith, now, one, same, tokens e, o.owing e))
 
-    stale_at : (e : ℕ) → IsCalm net e (journal ++ x ∷ []) → (p : Part) → p ≢ last_part e (journal ++ x ∷ []) → (b : Bool) → list_any (λ g. g == e) gives ≡ b → P' e p ≡ 0
+    -- nor lay one there
+    none_lay : (e : ℕ) (p : Part) → IsCalm net e journal → (edge e ≡ 0) × (K e ≡ 0) × (F e ≡ 0) × (R e ≡ 0) → Q e p ≡ 0
+    none_lay e p calm none = by_part (cases_part p (last_part e journal))
+      where
+        by_part : (p ≡ last_part e journal) ⊎ (p ≢ last_part e journal) → Q e p ≡ 0
+        by_part (inl is) = ap (Q e) is ∙ omega (arith, d.due e calm, none.0, none.3)
+        by_part (inr other) = omega (arith, d.stale e calm p other)
+
+    stale_at : (e : ℕ) → IsCalm net e (journal ++ x ∷ []) → (p : Part) → p ≢ last_part e (journal ++ x ∷ []) → (b : Bool) → list_any (λ g. g == e) gives ≡ b → P' e p + Q e p ≡ 0
     stale_at e calm p other true is =
         let last_is : last_part e (journal ++ x ∷ []) ≡ From (length journal) = last_part_push e journal x ∙ rw is refl in
         let none = none_held e calm is in
         let miss : same_part (From (length journal)) p ≡ false = part_apart (From (length journal)) p (λ s. other (sym s ∙ sym last_is)) in
-        omega (arith, more e p, ap (λ b. cond b (times e gives) 0) miss, o.owned e p, none.1, none.2)
+        omega (arith, more e p, ap (λ b. cond b (times e gives) 0) miss, o.owned e p, none.1, none.2, none_lay e p (calm_before net e journal x calm) none)
     stale_at e calm p other false is =
         let last_is : last_part e (journal ++ x ∷ []) ≡ last_part e journal = last_part_push e journal x ∙ rw is refl in
         let zero_times : times e gives ≡ 0 = some_is e ∙ ap one_if is in
@@ -207,25 +215,25 @@ data_end net journal edge K P P' F R label m gives inner d o tokens once more = 
         at_none true = refl
         at_none false = refl
 
-    due_at : (e : ℕ) → IsCalm net e (journal ++ x ∷ []) → (b : Bool) → list_any (λ g. g == e) gives ≡ b → one_if (same_part (label e) (last_part e (journal ++ x ∷ []))) + F e ≡ edge e + R e
+    due_at : (e : ℕ) → IsCalm net e (journal ++ x ∷ []) → (b : Bool) → list_any (λ g. g == e) gives ≡ b → Q e (last_part e (journal ++ x ∷ [])) + F e ≡ edge e + R e
     due_at e calm true is =
         let last_is : last_part e (journal ++ x ∷ []) ≡ From (length journal) = last_part_push e journal x ∙ rw is refl in
         let none = none_held e calm is in
         let gone : one_if (option_map_or (gives_edge e) (slice_get journal (length journal)) false) ≡ 0 = ap (λ o. one_if (option_map_or (gives_edge e) o false)) (slice_get_past journal (length journal) (omega arith)) in
-        let no_label : one_if (same_part (label e) (From (length journal))) ≡ 0 = omega (arith, d.froms e (length journal), gone) in
-        ap (λ p. one_if (same_part (label e) p) + F e) last_is ∙ omega (arith, no_label, none.0, none.2, none.3)
-    due_at e calm false is = ap (λ p. one_if (same_part (label e) p) + F e) (last_part_push e journal x ∙ rw is refl) ∙ d.due e (calm_before net e journal x calm)
+        let no_label : Q e (From (length journal)) ≡ 0 = omega (arith, d.froms e (length journal), gone) in
+        ap (λ p. Q e p + F e) last_is ∙ omega (arith, no_label, none.0, none.2, none.3)
+    due_at e calm false is = ap (λ p. Q e p + F e) (last_part_push e journal x ∙ rw is refl) ∙ d.due e (calm_before net e journal x calm)
 
 -- An entry that gives no edge and finds no part.
-pub data_quiet : (net : NetRows) (journal : List Entry) (edge : ℕ → ℕ) (P P' : ℕ → Part → ℕ) (F F' R R' : ℕ → ℕ) (label : ℕ → Part) (x : Entry) → DataPart net journal edge P F R label
+pub data_quiet : (net : NetRows) (journal : List Entry) (edge : ℕ → ℕ) (P P' Q : ℕ → Part → ℕ) (F F' R R' : ℕ → ℕ) (x : Entry) → DataPart net journal edge P Q F R
     → DataRule net journal x → ((e : ℕ) → gives_edge e x ≡ false) → ((e : ℕ) (test : Part → Bool) → has_part net e test x ≡ false)
-    → ((e : ℕ) (p : Part) → P' e p ≤ P e p) → ((e : ℕ) → F' e ≡ F e) → ((e : ℕ) → R' e ≡ R e) → DataPart net (journal ++ x ∷ []) edge P' F' R' label
-data_quiet net journal edge P P' F F' R R' label x d rule gives_none finds_none fewer fs rs = record {
+    → ((e : ℕ) (p : Part) → P' e p ≤ P e p) → ((e : ℕ) → F' e ≡ F e) → ((e : ℕ) → R' e ≡ R e) → DataPart net (journal ++ x ∷ []) edge P' Q F' R'
+data_quiet net journal edge P P' Q F F' R R' x d rule gives_none finds_none fewer fs rs = record {
   meets = EachAfter-push (DataRule net) journal x d.meets rule;
   froms = λ e n. omega (arith, d.froms e n, fewer e (From n), count_by_push_no (has_part net e (is_from n)) journal x (finds_none e (is_from n)), gives_below e n journal x (gives_none e));
   firsts = λ e. omega (arith, d.firsts e, fewer e First, count_by_push_no (has_part net e is_first) journal x (finds_none e is_first));
   stale = λ e calm p other. omega (arith, fewer e p, d.stale e (calm_before net e journal x calm) p (λ is. other (is ∙ sym (last_same e))));
-  due = λ e calm. ap (λ p. one_if (same_part (label e) p) + F' e) (last_same e) ∙ omega (arith, d.due e (calm_before net e journal x calm), fs e, rs e);
+  due = λ e calm. ap (λ p. Q e p + F' e) (last_same e) ∙ omega (arith, d.due e (calm_before net e journal x calm), fs e, rs e);
 }
   where
     last_same : (e : ℕ) → last_part e (journal ++ x ∷ []) ≡ last_part e journal

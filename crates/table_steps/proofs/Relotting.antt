@@ -7,7 +7,7 @@ use Rattle.table_steps.specs.Giving.{one_if}
 use Rattle.table_steps.specs.declared.view.Lot.{Lot}
 use Rattle.table_steps.specs.declared.view.Lot.TheVariants.{Ours, Putting, Put, Awaited, Taking, Fetched, Found}
 use Rattle.table_steps.specs.declared.view.Note.{Note}
-use Rattle.table_steps.specs.declared.view.Note.TheVariants.{Duty, Sems, Has, Unfit, Lies}
+use Rattle.table_steps.specs.declared.view.Note.TheVariants.{Duty, Sems, Has, Unfit, Lies, Queued}
 use Rattle.table_steps.proofs.Homing.{duty_lot}
 use Rattle.table_steps.specs.inside.Slots.{SlotCoord, lot, lot_weight, slot_weight, slot_weigh, part_in, pick, relot, unlot}
 use Rattle.atomic_table.specs.Table.{rest}
@@ -159,6 +159,7 @@ has_lot j f (x ∷ xs) h = by_weight (slot_weight (lot j f) x) refl (λ k. has_l
     here (Sems k l) n is = absurd (omega (arith, is))
     here (Has m) n is = absurd (omega (arith, is))
     here (Unfit s m t) n is = absurd (omega (arith, is))
+    here (Queued q qs) n is = absurd (omega (arith, is))
 
     by_weight : (m : ℕ) → slot_weight (lot j f) x ≡ m → (1 ≤ slot_weigh (lot j f) xs → HasLot j f xs) → HasLot j f (x ∷ xs)
     by_weight zero is deeper = let r = deeper (omega (arith, h, is)) in record {

@@ -19,7 +19,7 @@ use Rattle.table_steps.specs.declared.view.SemaphoreRole.{SemaphoreRole}
 use Rattle.table_steps.specs.declared.view.SemaphoreRole.TheVariants.{Held, Undo, Owed, Both, Credit, Credited, Claim, Granted, Refusing, Denied, Full}
 use Rattle.table_steps.specs.declared.view.SeatMark.TheVariants.{Live, New, Over, ToMark, Halted, Alone, Quiet, Sticking, Asked}
 use Rattle.table_steps.specs.declared.view.Note.{Note}
-use Rattle.table_steps.specs.declared.view.Note.TheVariants.{Duty, Sems, Has, Unfit, Lies}
+use Rattle.table_steps.specs.declared.view.Note.TheVariants.{Duty, Sems, Has, Unfit, Lies, Queued}
 use Rattle.table_steps.specs.inside.Accounts.{Coord, duty, sem, mark, busy, resting, weight, weigh, total, JournalPart, KeepsAccounts}
 use Rattle.table_steps.specs.inside.RestKinds.{HasNoUnit}
 use Rattle.table_steps.proofs.Totals.{total_set}
@@ -56,6 +56,7 @@ runs_bound m t (Sems k l) h = refl
 runs_bound m t (Has k) h = refl
 runs_bound m t (Unfit s n u) h = refl
 runs_bound m t (Lies k e p) h = refl
+runs_bound m t (Queued q qs) h = refl
 
 pub none_open : (net : NetRows) (limit n : ℕ) (journal : List Entry) (views : List (List Note)) (id : ℕ) (v : List Note) → JournalPart net limit n journal (λ c. total c views) → Views net journal views → get_elem? views id ≡ some v
     → total (mark Live) views ≡ weigh (mark Live) v → ((m t : ℕ) → weigh (duty (runs m t)) v ≡ 0) → NoneOpen journal
@@ -77,6 +78,7 @@ to_mark_bound (Has Sticking) z = refl
 to_mark_bound (Has Asked) z = refl
 to_mark_bound (Unfit n m t) z = refl
 to_mark_bound (Lies k e p) z = refl
+to_mark_bound (Queued q qs) z = refl
 
 -- UNITS
 short : (a : ℕ) (l : List ℕ) → length l ≡ 0 → times a l ≡ 0
@@ -98,9 +100,10 @@ held_bound a (Sems Full l) z = refl
 held_bound a (Has m) z = refl
 held_bound a (Unfit n m t) z = refl
 held_bound a (Lies k e p) z = refl
+held_bound a (Queued q qs) z = refl
 
 -- what a unit word says while a rest is alone
-pub units_alone : {S : Type 0} {part : S → Part} (net : NetRows) (limit : ℕ) (s : St S) (h : KeepsAccounts part net limit s) (id a : ℕ) (v : List Note) → a < length net.sems → get_elem? s.views id ≡ some v → weigh resting v ≢ 0 → HasNoUnit a v
+pub units_alone : {S : Type 0} {part : S → List Part} (net : NetRows) (limit : ℕ) (s : St S) (h : KeepsAccounts part net limit s) (id a : ℕ) (v : List Note) → a < length net.sems → get_elem? s.views id ≡ some v → weigh resting v ≢ 0 → HasNoUnit a v
     → slice_index s.words (40 + a) + back net a h.journal ≡ taken net a h.journal
 units_alone net limit s h id a v below at rested none =
     let all = (h.views id v at).alone rested in

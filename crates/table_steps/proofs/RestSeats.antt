@@ -28,7 +28,7 @@ use Rattle.table_steps.specs.declared.view.TurnDuty.TheVariants.{Told, Fresh, Co
 use Rattle.table_steps.specs.declared.view.SemaphoreRole.TheVariants.{Held, Full}
 use Rattle.table_steps.specs.declared.view.SeatMark.TheVariants.{Live, New, Over, ToMark, Halted, Alone, Quiet, Sticking}
 use Rattle.table_steps.specs.declared.view.Note.{Note}
-use Rattle.table_steps.specs.declared.view.Note.TheVariants.{Duty, Sems, Has, Unfit, Lies}
+use Rattle.table_steps.specs.declared.view.Note.TheVariants.{Duty, Sems, Has, Unfit, Lies, Queued}
 use Rattle.table_steps.specs.Giving.{one_if, times}
 use Rattle.table_steps.specs.inside.Duties.{running, runs}
 use Rattle.table_steps.specs.inside.Accounts.{Coord, duty, sem, mark, turning, owing, resting, weigh, total, AllStand, Balanced, Moves, is_drop, with_clock, reading, KeepsAccounts}
@@ -73,7 +73,7 @@ known_marks (Sems Full l ∷ Has Alone ∷ Has Halted ∷ rest) = tt
 known_marks v = tt
 
 -- JOIN
-pub park_allowed : {S : Type 0} {part : S → Part} (net : NetRows) (limit id : ℕ) (v : List Note) (other : ℕ) (w : List Note) → MayPark v w → Joins (KeepsAccounts part net limit) id v other w (parked v w) []
+pub park_allowed : {S : Type 0} {part : S → List Part} (net : NetRows) (limit id : ℕ) (v : List Note) (other : ℕ) (w : List Note) → MayPark v w → Joins (KeepsAccounts part net limit) id v other w (parked v w) []
 park_allowed {S} {part} net limit id v other w may = by_rest (cases_eq (weigh resting v) 0)
   where
     by_rest : (weigh resting v ≡ 0) ⊎ (weigh resting v ≢ 0) → Joins (KeepsAccounts part net limit) id v other w (w ++ bare_part v) []
@@ -84,7 +84,7 @@ park_allowed {S} {part} net limit id v other w may = by_rest (cases_eq (weigh re
         absurd (omega (arith, (h.views id v at).alone some_there, two_views (mark Live) s.views id other v w at at_w apart, may.lives))
 
 -- SPLIT
-pub hand_out_allowed : {S : Type 0} {part : S → Part} (net : NetRows) (limit id : ℕ) (v : List Note) → MayHandOut v → Splits (KeepsAccounts part net limit) id v (left_behind v) (handed_out v)
+pub hand_out_allowed : {S : Type 0} {part : S → List Part} (net : NetRows) (limit id : ℕ) (v : List Note) → MayHandOut v → Splits (KeepsAccounts part net limit) id v (left_behind v) (handed_out v)
 hand_out_allowed {S} {part} net limit id v may = from (bare_part v) (known_is v) may
   where
     from : (b : List Note) → v ≡ known_part v ++ b → HasLast b → Splits (KeepsAccounts part net limit) id v (other_turns b) (last_turn b)
@@ -95,7 +95,7 @@ hand_out_allowed {S} {part} net limit id v may = from (bare_part v) (known_is v)
     from b is may = absurd may
 
 -- A step of a seat that stays a rest.
-known_own : {S : Type 0} {part : S → Part} (net : NetRows) (limit : ℕ) (s : St S) (h : KeepsAccounts part net limit s) (id : ℕ) (old new rest : List Note) → get_elem? s.views id ≡ some (old ++ rest) → 1 ≤ weigh (mark Live) rest → weigh resting (old ++ rest) ≢ 0 → AllStand net h.journal new
+known_own : {S : Type 0} {part : S → List Part} (net : NetRows) (limit : ℕ) (s : St S) (h : KeepsAccounts part net limit s) (id : ℕ) (old new rest : List Note) → get_elem? s.views id ≡ some (old ++ rest) → 1 ≤ weigh (mark Live) rest → weigh resting (old ++ rest) ≢ 0 → AllStand net h.journal new
     → (weigh (mark Quiet) (new ++ rest) ≢ 0 → faults h.journal ≡ 0) → ((z : ℕ) → weigh (sem Full z) (new ++ rest) ≢ 0 → back net z h.journal + max_of net z ≤ taken net z h.journal)
     → OwnView net h.journal (λ c. total c s.views) id old new rest
 known_own net limit s h id old new rest at lives rested stand quiet full = record {
@@ -109,13 +109,13 @@ known_own net limit s h id old new rest at lives rested stand quiet full = recor
 }
 
 -- a load of which a rest learns nothing
-known_done : {S : Type 0} {part : S → Part} (net : NetRows) (limit : ℕ) (s : St S) (h : KeepsAccounts part net limit s) (id i : ℕ) (carried : List (ℕ × S)) (rest : List Note) → 1 ≤ weigh (mark Live) rest → weigh resting rest ≢ 0 → i < length s.words → ((e : ℕ) → e < length net.edges → i ≢ marks_from net + e) → get_elem? s.views id ≡ some rest → KeepsAccounts part net limit (stepped s i (slice_index s.words i) id carried rest keeps)
+known_done : {S : Type 0} {part : S → List Part} (net : NetRows) (limit : ℕ) (s : St S) (h : KeepsAccounts part net limit s) (id i : ℕ) (carried : List (ℕ × S)) (rest : List Note) → 1 ≤ weigh (mark Live) rest → weigh resting rest ≢ 0 → i < length s.words → ((e : ℕ) → e < length net.edges → i ≢ marks_from net + e) → get_elem? s.views id ≡ some rest → KeepsAccounts part net limit (stepped s i (slice_index s.words i) id carried rest keeps)
 known_done net limit s h id i carried rest lives rested below apart at = let p = h.views id rest at in
     still_step net limit s h id i _ carried [] [] rest (reading net s.words) at refl apart (known_own net limit s h id [] [] rest at lives rested tt p.quiet p.full) (omega arith) (ap (reading net) (reads_same net s.words i below))
     refl (λ moved. alike_kept net limit (reading net s.words) h.counted h.journal (λ c. total c s.views) _ h.balanced (λ c a. omega (arith, moved c)))
 
 -- LIVE LOAD
-found_alone : {S : Type 0} {part : S → Part} (net : NetRows) (limit : ℕ) (s : St S) (h : KeepsAccounts part net limit s) (id : ℕ) (carried : List (ℕ × S)) (rest : List Note) → IsTurn rest → get_elem? s.views id ≡ some rest → slice_index s.words 16 ≡ weigh (mark Live) rest
+found_alone : {S : Type 0} {part : S → List Part} (net : NetRows) (limit : ℕ) (s : St S) (h : KeepsAccounts part net limit s) (id : ℕ) (carried : List (ℕ × S)) (rest : List Note) → IsTurn rest → get_elem? s.views id ≡ some rest → slice_index s.words 16 ≡ weigh (mark Live) rest
     → KeepsAccounts part net limit (stepped s 16 (slice_index s.words 16) id carried (Has Alone ∷ rest) keeps)
 found_alone net limit s h id carried rest may at found =
     still_step net limit s h id 16 _ carried [] (Has Alone ∷ []) rest (reading net s.words) at refl (λ e b z. omega arith)
@@ -131,7 +131,7 @@ found_alone net limit s h id carried rest may at found =
     (ap (reading net) (reads_same net s.words 16 (omega (arith, h.size))))
     refl (λ moved. alike_kept net limit (reading net s.words) h.counted h.journal (λ c. total c s.views) _ h.balanced (λ c a. omega (arith, moved c, marks_none c a (Has Alone ∷ []) tt)))
 
-pub live_allowed : {S : Type 0} {part : S → Part} (net : NetRows) (limit slots id : ℕ) (me : Seated S) → IsTurn me.0 → Allows (KeepsAccounts part net limit) slots id me 16 (λ n. n) (λ n m. (m.0 ≡ live_found n me.0) × (m.1 ≡ me.1))
+pub live_allowed : {S : Type 0} {part : S → List Part} (net : NetRows) (limit slots id : ℕ) (me : Seated S) → IsTurn me.0 → Allows (KeepsAccounts part net limit) slots id me 16 (λ n. n) (λ n m. (m.0 ≡ live_found n me.0) × (m.1 ≡ me.1))
 live_allowed {S} {part} net limit slots id me may s h _ at small = by_number (cases_eq n live)
   where
     n : ℕ
@@ -147,7 +147,7 @@ live_allowed {S} {part} net limit slots id me may s h _ at small = by_number (ca
         done net limit s id 16 _ me me.0 _ (ap (λ b. alone_notes b ++ me.0) (sym miss)) (nothing_done net limit s h id 16 me.1 me.0 may.0 may.1 (omega (arith, h.size)) (λ e b z. omega arith) at)
 
 -- HALT LOAD
-found_quiet : {S : Type 0} {part : S → Part} (net : NetRows) (limit : ℕ) (s : St S) (h : KeepsAccounts part net limit s) (id : ℕ) (carried : List (ℕ × S)) (rest : List Note) → weigh resting rest ≡ 0 → 1 ≤ weigh (mark Live) rest → weigh (mark ToMark) rest ≡ 0 → get_elem? s.views id ≡ some (Has Alone ∷ rest) → slice_index s.words 32 ≡ 0
+found_quiet : {S : Type 0} {part : S → List Part} (net : NetRows) (limit : ℕ) (s : St S) (h : KeepsAccounts part net limit s) (id : ℕ) (carried : List (ℕ × S)) (rest : List Note) → weigh resting rest ≡ 0 → 1 ≤ weigh (mark Live) rest → weigh (mark ToMark) rest ≡ 0 → get_elem? s.views id ≡ some (Has Alone ∷ rest) → slice_index s.words 32 ≡ 0
     → KeepsAccounts part net limit (stepped s 32 (slice_index s.words 32) id carried (Sems Full [] ∷ Has Quiet ∷ rest) keeps)
 found_quiet net limit s h id carried rest lone lives clear at found =
     let all : total (mark Live) s.views ≡ weigh (mark Live) (Has Alone ∷ rest) = (h.views id (Has Alone ∷ rest) at).alone (λ z. omega arith) in
@@ -157,7 +157,7 @@ found_quiet net limit s h id carried rest lone lives clear at found =
     (ap (reading net) (reads_same net s.words 32 (omega (arith, h.size))))
     refl (λ moved. alike_kept net limit (reading net s.words) h.counted h.journal (λ c. total c s.views) _ h.balanced (λ c a. omega (arith, moved c, marks_none c a (Has Alone ∷ []) tt, marks_none c a (Sems Full [] ∷ Has Quiet ∷ []) tt)))
 
-found_halted : {S : Type 0} {part : S → Part} (net : NetRows) (limit : ℕ) (s : St S) (h : KeepsAccounts part net limit s) (id : ℕ) (carried : List (ℕ × S)) (rest : List Note) → weigh resting rest ≡ 0 → 1 ≤ weigh (mark Live) rest → get_elem? s.views id ≡ some (Has Alone ∷ rest) → slice_index s.words 32 ≢ 0
+found_halted : {S : Type 0} {part : S → List Part} (net : NetRows) (limit : ℕ) (s : St S) (h : KeepsAccounts part net limit s) (id : ℕ) (carried : List (ℕ × S)) (rest : List Note) → weigh resting rest ≡ 0 → 1 ≤ weigh (mark Live) rest → get_elem? s.views id ≡ some (Has Alone ∷ rest) → slice_index s.words 32 ≢ 0
     → KeepsAccounts part net limit (stepped s 32 (slice_index s.words 32) id carried (Sems Full [] ∷ Has Alone ∷ Has Halted ∷ rest) keeps)
 found_halted net limit s h id carried rest lone lives at found =
     let new = Sems Full [] ∷ Has Alone ∷ Has Halted ∷ [] in
@@ -167,7 +167,7 @@ found_halted net limit s h id carried rest lone lives at found =
     (ap (reading net) (reads_same net s.words 32 (omega (arith, h.size))))
     refl (λ moved. alike_kept net limit (reading net s.words) h.counted h.journal (λ c. total c s.views) _ h.balanced (λ c a. omega (arith, moved c, marks_none c a (Has Alone ∷ []) tt, marks_none c a new tt)))
 
-pub look_allowed : {S : Type 0} {part : S → Part} (net : NetRows) (limit slots id : ℕ) (me : Seated S) → MayLook me.0 → Allows (KeepsAccounts part net limit) slots id me 32 (λ n. n) (λ n m. (m.0 ≡ looked n me.0) × (m.1 ≡ me.1))
+pub look_allowed : {S : Type 0} {part : S → List Part} (net : NetRows) (limit slots id : ℕ) (me : Seated S) → MayLook me.0 → Allows (KeepsAccounts part net limit) slots id me 32 (λ n. n) (λ n m. (m.0 ≡ looked n me.0) × (m.1 ≡ me.1))
 look_allowed {S} {part} net limit slots id me may s h _ at small = from me.0 may at
   where
     n : ℕ
@@ -191,7 +191,7 @@ look_allowed {S} {part} net limit slots id me may s h _ at small = from me.0 may
     from v may at = absurd may
 
 -- UNIT LOAD
-found_full : {S : Type 0} {part : S → Part} (net : NetRows) (limit : ℕ) (s : St S) (h : KeepsAccounts part net limit s) (id a : ℕ) (carried : List (ℕ × S)) (l : List ℕ) (rest : List Note) → a < length net.sems → 1 ≤ weigh (mark Live) rest → weigh resting rest ≢ 0 → HasNoUnit a rest
+found_full : {S : Type 0} {part : S → List Part} (net : NetRows) (limit : ℕ) (s : St S) (h : KeepsAccounts part net limit s) (id a : ℕ) (carried : List (ℕ × S)) (l : List ℕ) (rest : List Note) → a < length net.sems → 1 ≤ weigh (mark Live) rest → weigh resting rest ≢ 0 → HasNoUnit a rest
     → get_elem? s.views id ≡ some (Sems Full l ∷ rest) → max_of net a ≤ slice_index s.words (40 + a) → KeepsAccounts part net limit (stepped s (40 + a) (slice_index s.words (40 + a)) id carried (Sems Full (a ∷ l) ∷ rest) keeps)
 found_full net limit s h id a carried l rest below lives rested none at found =
     let p = h.views id (Sems Full l ∷ rest) at in
@@ -206,7 +206,7 @@ found_full net limit s h id a carried l rest below lives rested none at found =
     by_eq units z more (inl same) = omega (arith, units, found, ap (λ q. back net q h.journal) same, ap (max_of net) same, ap (λ q. taken net q h.journal) same)
     by_eq units z more (inr other) = let miss : eqb a z ≡ false = grind (arith, nat_tests) in (h.views id (Sems Full l ∷ rest) at).full z (λ none. more (omega (arith, none, ap one_if miss)))
 
-pub ask_allowed : {S : Type 0} {part : S → Part} (net : NetRows) (limit slots id : ℕ) (me : Seated S) (a : ℕ) → MayAskForUnit net a me.0 → Allows (KeepsAccounts part net limit) slots id me (40 + a) (λ n. n) (λ n m. (m.0 ≡ with_unit_asked net a n me.0) × (m.1 ≡ me.1))
+pub ask_allowed : {S : Type 0} {part : S → List Part} (net : NetRows) (limit slots id : ℕ) (me : Seated S) (a : ℕ) → MayAskForUnit net a me.0 → Allows (KeepsAccounts part net limit) slots id me (40 + a) (λ n. n) (λ n m. (m.0 ≡ with_unit_asked net a n me.0) × (m.1 ≡ me.1))
 ask_allowed {S} {part} net limit slots id me a may s h _ at small = from me.0 may at
   where
     n : ℕ
@@ -238,9 +238,10 @@ runs_few m t (Sems k l ∷ v) z = omega (arith, runs_few m t v (omega arith))
 runs_few m t (Has k ∷ v) z = omega (arith, runs_few m t v (omega arith))
 runs_few m t (Unfit n q u ∷ v) z = omega (arith, runs_few m t v (omega arith))
 runs_few m t (Lies k e p ∷ v) z = omega (arith, runs_few m t v (omega arith))
+runs_few m t (Queued q qs ∷ v) z = omega (arith, runs_few m t v (omega arith))
 
 -- a number drawn by a seat that exchanges all its notes
-drawn_all : {S : Type 0} {part : S → Part} (net : NetRows) (limit : ℕ) (s : St S) (h : KeepsAccounts part net limit s) (id : ℕ) (carried : List (ℕ × S)) (v v' : List Note) (x : Entry)
+drawn_all : {S : Type 0} {part : S → List Part} (net : NetRows) (limit : ℕ) (s : St S) (h : KeepsAccounts part net limit s) (id : ℕ) (carried : List (ℕ × S)) (v v' : List Note) (x : Entry)
     → get_elem? s.views id ≡ some v → HoldsAlike v v' → OwnView net (h.journal ++ x ∷ []) (λ c. total c s.views) id v v' [] → weigh (mark Live) v' ≡ weigh (mark Live) v → count_by is_drop (h.journal ++ x ∷ []) ≤ 1152921504606846976
     → (SlotMoves (λ c. slot_total c s.views) v (λ c. slot_total c (set s.views id (v' ++ []))) v' → SlotPart net (h.journal ++ x ∷ []) ((reading net s.words).edge) (λ c. slot_total c (set s.views id (v' ++ []))) (label_of part s.homes))
     → (Moves (λ c. total c s.views) v (λ c. total c (set s.views id (v' ++ []))) v'
@@ -250,7 +251,7 @@ drawn_all {S} {part} net limit s h id carried v v' x at same own live_is few slo
     subst (λ u. KeepsAccounts part net limit (stepped s 8 ((slice_index s.words 8 + 1) % 2 ^ 64) id carried u keeps)) (append-nil v') (drawn net limit s h id carried v v' [] x (at ∙ ap some (sym (append-nil v))) same own live_is few slots kept)
 
 -- for want of a unit
-stuck_drawn : {S : Type 0} {part : S → Part} (net : NetRows) (limit : ℕ) (s : St S) (h : KeepsAccounts part net limit s) (id t a : ℕ) (cause : Cause) (carried : List (ℕ × S)) (l : List ℕ) (ps : List Part) (rest : List Note) → MayBeReleased net t cause → length ps ≡ length (edges_of net t cause) → IsTrue (takes net a t) → 1 ≤ times a l → weigh (duty running) rest ≡ 0
+stuck_drawn : {S : Type 0} {part : S → List Part} (net : NetRows) (limit : ℕ) (s : St S) (h : KeepsAccounts part net limit s) (id t a : ℕ) (cause : Cause) (carried : List (ℕ × S)) (l : List ℕ) (ps : List Part) (rest : List Note) → MayBeReleased net t cause → length ps ≡ length (edges_of net t cause) → IsTrue (takes net a t) → 1 ≤ times a l → weigh (duty running) rest ≡ 0
     → get_elem? s.views id ≡ some (Sems Full l ∷ Has Quiet ∷ Duty (Collecting t cause (edges_of net t cause) []) ∷ Has Live ∷ Sems Held [] ∷ found_lots (edges_of net t cause) ps ++ rest)
     → KeepsAccounts part net limit (stepped s 8 ((slice_index s.words 8 + 1) % 2 ^ 64) id carried (Duty (Owes []) ∷ Has Live ∷ Sems Full l ∷ Has Quiet ∷ rest ++ Duty (Told (slice_index s.words 8) (Drop t cause (Stuck a))) ∷ Has Sticking ∷ []) keeps)
 stuck_drawn {S} {part} net limit s h id t a cause carried l ps rest may each takes_it full idle at =
@@ -300,7 +301,7 @@ stuck_drawn {S} {part} net limit s h id t a cause carried l ps rest may each tak
     }) (omega (arith, moved (mark Over), none (mark Over), weigh_append (mark Over) rest tail)) (omega (arith, moved (mark Sticking), none (mark Sticking), weigh_append (mark Sticking) rest tail)))
 
 -- and after a Fault
-halted_drawn : {S : Type 0} {part : S → Part} (net : NetRows) (limit : ℕ) (s : St S) (h : KeepsAccounts part net limit s) (id t : ℕ) (cause : Cause) (carried : List (ℕ × S)) (l : List ℕ) (ps : List Part) (rest : List Note) → MayBeReleased net t cause → length ps ≡ length (edges_of net t cause) → weigh (mark Sticking) rest ≡ 0
+halted_drawn : {S : Type 0} {part : S → List Part} (net : NetRows) (limit : ℕ) (s : St S) (h : KeepsAccounts part net limit s) (id t : ℕ) (cause : Cause) (carried : List (ℕ × S)) (l : List ℕ) (ps : List Part) (rest : List Note) → MayBeReleased net t cause → length ps ≡ length (edges_of net t cause) → weigh (mark Sticking) rest ≡ 0
     → get_elem? s.views id ≡ some (Sems Full l ∷ Has Alone ∷ Has Halted ∷ Duty (Collecting t cause (edges_of net t cause) []) ∷ Has Live ∷ Sems Held [] ∷ found_lots (edges_of net t cause) ps ++ rest)
     → KeepsAccounts part net limit (stepped s 8 ((slice_index s.words 8 + 1) % 2 ^ 64) id carried (Duty (Owes []) ∷ Has Live ∷ Sems Full l ∷ Has Alone ∷ Has Halted ∷ rest ++ Duty (Told (slice_index s.words 8) (Drop t cause AfterFault)) ∷ []) keeps)
 halted_drawn {S} {part} net limit s h id t cause carried l ps rest may each free at =
@@ -342,7 +343,7 @@ halted_drawn {S} {part} net limit s h id t cause carried l ps rest may each free
       owing_is = omega (arith, moved owing, none owing, weigh_append owing rest tail);
     }) (omega (arith, moved (mark Over), none (mark Over), weigh_append (mark Over) rest tail)))
 
-pub drop_last_allowed : {S : Type 0} {part : S → Part} (net : NetRows) (limit slots id : ℕ) (me : Seated S) (why : DropWhy) → MayDropLast net why me.0 → Allows (KeepsAccounts part net limit) slots id me 8 (λ n. (n + 1) % 2 ^ 64) (λ n m. (m.0 ≡ last_dropped why n me.0) × (m.1 ≡ me.1))
+pub drop_last_allowed : {S : Type 0} {part : S → List Part} (net : NetRows) (limit slots id : ℕ) (me : Seated S) (why : DropWhy) → MayDropLast net why me.0 → Allows (KeepsAccounts part net limit) slots id me 8 (λ n. (n + 1) % 2 ^ 64) (λ n m. (m.0 ≡ last_dropped why n me.0) × (m.1 ≡ me.1))
 drop_last_allowed {S} {part} net limit slots id me why may s h _ at small = from why me.0 may at
   where
     from : (q : DropWhy) (v : List Note) → MayDropLast net q v → get_elem? s.views id ≡ some v
@@ -362,7 +363,7 @@ drop_last_allowed {S} {part} net limit slots id me why may s h _ at small = from
     from q v may at = absurd may
 
 -- TURN TAKEN OFF
-pub thin_allowed : {S : Type 0} {part : S → Part} (net : NetRows) (limit slots id : ℕ) (me : Seated S) → MayThin me.0 → Allows (KeepsAccounts part net limit) slots id me 16 (λ n. (n + (2 ^ 64 - 1)) % 2 ^ 64) (λ n m. (m.0 ≡ left_by me.0) × (m.1 ≡ me.1))
+pub thin_allowed : {S : Type 0} {part : S → List Part} (net : NetRows) (limit slots id : ℕ) (me : Seated S) → MayThin me.0 → Allows (KeepsAccounts part net limit) slots id me 16 (λ n. (n + (2 ^ 64 - 1)) % 2 ^ 64) (λ n m. (m.0 ≡ left_by me.0) × (m.1 ≡ me.1))
 thin_allowed {S} {part} net limit slots id me may s h _ at small = from me.0 may at
   where
     from : (v : List Note) → MayThin v → get_elem? s.views id ≡ some v

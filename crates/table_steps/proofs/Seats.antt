@@ -31,7 +31,7 @@ use Rattle.table_steps.proofs.SlotViews.{slots_same}
 use Rattle.table_steps.proofs.Homing.{slot_total_set, slot_total_push, rest_slots, homes_alike}
 
 -- a load of which nothing is learned
-pub nothing_done : {S : Type 0} {part : S → Part} (net : NetRows) (limit : ℕ) (s : St S) (h : KeepsAccounts part net limit s) (id i : ℕ) (carried : List (ℕ × S)) (rest : List Note) → weigh resting rest ≡ 0 → 1 ≤ weigh (mark Live) rest → i < length s.words → ((e : ℕ) → e < length net.edges → i ≢ marks_from net + e) → get_elem? s.views id ≡ some rest → KeepsAccounts part net limit (stepped s i (slice_index s.words i) id carried rest keeps)
+pub nothing_done : {S : Type 0} {part : S → List Part} (net : NetRows) (limit : ℕ) (s : St S) (h : KeepsAccounts part net limit s) (id i : ℕ) (carried : List (ℕ × S)) (rest : List Note) → weigh resting rest ≡ 0 → 1 ≤ weigh (mark Live) rest → i < length s.words → ((e : ℕ) → e < length net.edges → i ≢ marks_from net + e) → get_elem? s.views id ≡ some rest → KeepsAccounts part net limit (stepped s i (slice_index s.words i) id carried rest keeps)
 nothing_done net limit s h id i carried rest lone lives below apart at =
     still_step net limit s h id i _ carried [] [] rest (reading net s.words) at refl apart (own_lone net h.journal (λ c. total c s.views) [] [] rest tt lives lives lone) (omega arith) (ap (reading net) (reads_same net s.words i below))
     refl (λ moved. alike_kept net limit (reading net s.words) h.counted h.journal (λ c. total c s.views) _ h.balanced (λ c a. omega (arith, moved c)))
@@ -43,7 +43,7 @@ pushed (z ∷ zs) x zero y h = inl h
 pushed (z ∷ zs) x (suc i) y h = pushed zs x i y h
 
 -- a seat's notes are dealt to two seats
-pub split_allowed : {S : Type 0} {part : S → Part} (net : NetRows) (limit id : ℕ) (v marks left right : List Note) → v ≡ marks ++ (right ++ left) → RestMarks marks → weigh resting left ≡ 0 → weigh resting right ≡ 0 → (weigh (mark Live) left ≡ 0 → weigh busy left ≡ 0) → (weigh (mark Live) right ≡ 0 → weigh busy right ≡ 0) → (id ≢ 0 → weigh (mark Live) left ≡ 0 → weigh telling left ≡ 0) → (weigh (mark Live) right ≡ 0 → weigh telling right ≡ 0) → Splits (KeepsAccounts part net limit) id v left right
+pub split_allowed : {S : Type 0} {part : S → List Part} (net : NetRows) (limit id : ℕ) (v marks left right : List Note) → v ≡ marks ++ (right ++ left) → RestMarks marks → weigh resting left ≡ 0 → weigh resting right ≡ 0 → (weigh (mark Live) left ≡ 0 → weigh busy left ≡ 0) → (weigh (mark Live) right ≡ 0 → weigh busy right ≡ 0) → (id ≢ 0 → weigh (mark Live) left ≡ 0 → weigh telling left ≡ 0) → (weigh (mark Live) right ≡ 0 → weigh telling right ≡ 0) → Splits (KeepsAccounts part net limit) id v left right
 split_allowed net limit id v marks left right is forgets none_left none_right covered_left covered_right told_left told_right s h at = record {
   fits = h.fits;
   size = h.size;
@@ -93,7 +93,7 @@ split_allowed net limit id v marks left right is forgets none_left none_right co
         by_end (inr is_w) = subst (λ u. ViewPart net h.journal (λ c. total c (set s.views id left ++ right ∷ [])) other u) is_w (lone_part other right parts.0 covered_right (λ far. told_right) none_right)
 
 -- a seat takes in another's notes, in any order of all of them
-pub join_as : {S : Type 0} {part : S → Part} (net : NetRows) (limit id : ℕ) (v : List Note) (other : ℕ) (w both : List Note) → ((c : Coord) → weigh c both ≡ weigh c w + weigh c v) → ((c : SlotCoord) → slot_weigh c both ≡ slot_weigh c w + slot_weigh c v)
+pub join_as : {S : Type 0} {part : S → List Part} (net : NetRows) (limit id : ℕ) (v : List Note) (other : ℕ) (w both : List Note) → ((c : Coord) → weigh c both ≡ weigh c w + weigh c v) → ((c : SlotCoord) → slot_weigh c both ≡ slot_weigh c w + slot_weigh c v)
     → ((journal : List Entry) → AllStand net journal w → AllStand net journal v → AllStand net journal both) → (id ≢ 0 → 1 ≤ weigh (mark Live) v) → Joins (KeepsAccounts part net limit) id v other w both []
 join_as net limit id v other w both sums slot_sums stands lives s h at apart at_other = record {
   fits = h.fits;
@@ -160,5 +160,5 @@ join_as net limit id v other w both sums slot_sums stands lives s h at apart at_
         record { stand = p.stand; covered = p.covered; told = p.told; alone = λ more. same (mark Live) ∙ p.alone more; quiet = p.quiet; full = p.full }
 
 -- that seat's first
-pub join_allowed : {S : Type 0} {part : S → Part} (net : NetRows) (limit id : ℕ) (v : List Note) (other : ℕ) (w : List Note) → (id ≢ 0 → 1 ≤ weigh (mark Live) v) → Joins (KeepsAccounts part net limit) id v other w (w ++ v) []
+pub join_allowed : {S : Type 0} {part : S → List Part} (net : NetRows) (limit id : ℕ) (v : List Note) (other : ℕ) (w : List Note) → (id ≢ 0 → 1 ≤ weigh (mark Live) v) → Joins (KeepsAccounts part net limit) id v other w (w ++ v) []
 join_allowed net limit id v other w lives = join_as net limit id v other w (w ++ v) (λ c. weigh_append c w v) (λ c. slot_append c w v) (λ journal. stand_both net journal w v) lives

@@ -13,7 +13,7 @@ use Rattle.table_steps.specs.Giving.{one_if, times}
 use Rattle.table_steps.specs.declared.view.TurnDuty.{TurnDuty}
 use Rattle.table_steps.specs.declared.view.TurnDuty.TheVariants.{Told, Fresh, Collecting, Ticket, Open, Owes, Counting}
 use Rattle.table_steps.specs.declared.view.Note.{Note}
-use Rattle.table_steps.specs.declared.view.Note.TheVariants.{Duty, Sems, Has, Unfit, Lies}
+use Rattle.table_steps.specs.declared.view.Note.TheVariants.{Duty, Sems, Has, Unfit, Lies, Queued}
 use Rattle.table_steps.specs.inside.Duties.{token, awaits, weakly, duty_weight, any}
 use Rattle.table_steps.specs.inside.Accounts.{duty, weigh, total, Stands, AllStand, reading, KeepsAccounts}
 use Rattle.table_steps.specs.inside.Slots.{owed, collected, left_at, duty_slots, slot_weigh, slot_total, SlotBounds}
@@ -61,6 +61,7 @@ view_strong net journal e (Sems k l ∷ xs) strong stand = omega (arith, view_st
 view_strong net journal e (Has m ∷ xs) strong stand = omega (arith, view_strong net journal e xs strong stand.1)
 view_strong net journal e (Unfit s n t ∷ xs) strong stand = omega (arith, view_strong net journal e xs strong stand.1)
 view_strong net journal e (Lies k f p ∷ xs) strong stand = omega (arith, view_strong net journal e xs strong stand.1)
+view_strong net journal e (Queued q qs ∷ xs) strong stand = omega (arith, view_strong net journal e xs strong stand.1)
 
 view_weak : (net : NetRows) (journal : List Entry) (e : ℕ) (v : List Note) → is_weak net e ≡ true → AllStand net journal v → slot_weigh (left_at e) v ≤ weigh (duty (weakly e)) v
 view_weak net journal e [] weak stand = omega arith
@@ -69,6 +70,7 @@ view_weak net journal e (Sems k l ∷ xs) weak stand = omega (arith, view_weak n
 view_weak net journal e (Has m ∷ xs) weak stand = omega (arith, view_weak net journal e xs weak stand.1)
 view_weak net journal e (Unfit s n t ∷ xs) weak stand = omega (arith, view_weak net journal e xs weak stand.1)
 view_weak net journal e (Lies k f p ∷ xs) weak stand = omega (arith, view_weak net journal e xs weak stand.1)
+view_weak net journal e (Queued q qs ∷ xs) weak stand = omega (arith, view_weak net journal e xs weak stand.1)
 
 -- sums over all views
 all_tokens : (e : ℕ) (vs : List (List Note)) → total (duty (token e)) vs ≡ slot_total (owed e) vs + slot_total (collected e) vs
@@ -91,7 +93,7 @@ any_below zero = omega arith
 any_below (suc n) = omega arith
 
 -- The bounds on which the account of slots relies.
-pub slot_bounds : {S : Type 0} {part : S → Part} (net : NetRows) (limit : ℕ) (s : St S) (h : KeepsAccounts part net limit s) → SlotBounds net h.journal ((reading net s.words).edge) (λ c. slot_total c s.views)
+pub slot_bounds : {S : Type 0} {part : S → List Part} (net : NetRows) (limit : ℕ) (s : St S) (h : KeepsAccounts part net limit s) → SlotBounds net h.journal ((reading net s.words).edge) (λ c. slot_total c s.views)
 slot_bounds net limit s h = record {
   tokens = λ e. omega (arith, h.balanced.by_edges e, all_tokens e s.views);
   within = λ e. by_kind e (is_weak net e) refl;

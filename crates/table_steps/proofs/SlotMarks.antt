@@ -10,7 +10,7 @@ use Rattle.table_steps.specs.inside.SlotMarks.{HomeIs, Homes, label_in, label_of
 use Rattle.table_steps.proofs.Slots.{lay}
 
 -- the labels after one slot is changed
-pub label_set : {S : Type 0} (part : S → Part) (homes : List (Option S)) (f : ℕ) (h : Option S) → f < length homes → (e : ℕ) → label_of part (set homes f h) e ≡ lay (label_of part homes) f (label_in part (some h)) e
+pub label_set : {S : Type 0} (part : S → List Part) (homes : List (Option S)) (f : ℕ) (h : Option S) → f < length homes → (e : ℕ) → label_of part (set homes f h) e ≡ lay (label_of part homes) f (label_in part (some h)) e
 label_set part homes f h below e = by_eq (cases_eq f e)
   where
     by_eq : (f ≡ e) ⊎ (f ≢ e) → label_of part (set homes f h) e ≡ lay (label_of part homes) f (label_in part (some h)) e

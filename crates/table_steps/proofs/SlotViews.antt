@@ -9,9 +9,9 @@ use Rattle.table_steps.specs.declared.view.TurnDuty.TheVariants.{Told, Fresh, Co
 use Rattle.table_steps.specs.declared.view.Lot.{Lot}
 use Rattle.table_steps.specs.declared.view.Lot.TheVariants.{Ours, Putting, Awaited, Taking, Found}
 use Rattle.table_steps.specs.declared.view.Note.{Note}
-use Rattle.table_steps.specs.declared.view.Note.TheVariants.{Duty, Sems, Has, Unfit, Lies}
+use Rattle.table_steps.specs.declared.view.Note.TheVariants.{Duty, Sems, Has, Unfit, Lies, Queued}
 use Rattle.table_steps.specs.inside.Accounts.{Coord, duty, sem, mark, busy, resting, turning, owing, telling, weight, weigh, AllStand}
-use Rattle.table_steps.specs.inside.Slots.{SlotCoord, parcel, lot, owed, collected, left_at, slot_weight, slot_weigh, SlotMoves, slots_of, slots_in, HoldsAlike, awaited_lots, found_lots, our_lots, FindsFirst, first_parts, first_lots, after_lots}
+use Rattle.table_steps.specs.inside.Slots.{SlotCoord, parcel, lot, queue, owed, collected, left_at, slot_weight, slot_weigh, SlotMoves, slots_of, slots_in, HoldsAlike, awaited_lots, found_lots, our_lots, FindsFirst, first_parts, first_lots, after_lots}
 use Rattle.table_steps.proofs.Totals.{weigh_append}
 use Rattle.table_steps.proofs.Lots.{slot_append}
 
@@ -31,6 +31,13 @@ duty_note_weigh (lot k e) Ticket = refl
 duty_note_weigh (lot k e) (Open n t) = refl
 duty_note_weigh (lot k e) (Owes gives) = refl
 duty_note_weigh (lot k e) (Counting f) = refl
+duty_note_weigh (queue m e) (Told n y) = refl
+duty_note_weigh (queue m e) (Fresh t cause) = refl
+duty_note_weigh (queue m e) (Collecting t cause taken left) = refl
+duty_note_weigh (queue m e) Ticket = refl
+duty_note_weigh (queue m e) (Open n t) = refl
+duty_note_weigh (queue m e) (Owes gives) = refl
+duty_note_weigh (queue m e) (Counting f) = refl
 duty_note_weigh (owed e) (Told n y) = refl
 duty_note_weigh (owed e) (Fresh t cause) = refl
 duty_note_weigh (owed e) (Collecting t cause taken left) = refl
@@ -53,6 +60,16 @@ duty_note_weigh (left_at e) (Open n t) = refl
 duty_note_weigh (left_at e) (Owes gives) = refl
 duty_note_weigh (left_at e) (Counting f) = refl
 
+-- duties say nothing of what lay in slots
+pub duty_queue : (m : List Part → ℕ) (e : ℕ) (x : TurnDuty) → slot_weight (queue m e) (Duty x) ≡ 0
+duty_queue m e (Told n y) = refl
+duty_queue m e (Fresh t cause) = refl
+duty_queue m e (Collecting t cause taken left) = refl
+duty_queue m e Ticket = refl
+duty_queue m e (Open n t) = refl
+duty_queue m e (Owes gives) = refl
+duty_queue m e (Counting f) = refl
+
 -- notes that count nothing
 sems_none : (c : SlotCoord) (x : Note) → slots_in (x ∷ []) ≡ [] → slot_weight c x ≡ 0
 sems_none c (Duty x) is = omega (arith, duty_note_weigh c x, slot_append c (slots_of x) [], ap (slot_weigh c) is)
@@ -62,6 +79,9 @@ sems_none (parcel e p) (Unfit s n t) is = refl
 sems_none (lot k e) (Sems j l) is = refl
 sems_none (lot k e) (Has m) is = refl
 sems_none (lot k e) (Unfit s n t) is = refl
+sems_none (queue m e) (Sems j l) is = refl
+sems_none (queue m e) (Has k) is = refl
+sems_none (queue m e) (Unfit s n t) is = refl
 sems_none (owed e) (Sems k l) is = refl
 sems_none (owed e) (Has m) is = refl
 sems_none (owed e) (Unfit s n t) is = refl
@@ -72,6 +92,7 @@ sems_none (left_at e) (Sems k l) is = refl
 sems_none (left_at e) (Has m) is = refl
 sems_none (left_at e) (Unfit s n t) is = refl
 sems_none c (Lies k e p) is = absurd (cc)
+sems_none c (Queued q qs) is = absurd (cc)
 
 pub slots_weigh : (c : SlotCoord) (v : List Note) → slot_weigh c v ≡ slot_weigh c (slots_in v)
 slots_weigh c [] = refl
@@ -80,6 +101,7 @@ slots_weigh c (Sems k l ∷ xs) = omega (arith, sems_none c (Sems k l) refl, slo
 slots_weigh c (Has m ∷ xs) = omega (arith, sems_none c (Has m) refl, slots_weigh c xs)
 slots_weigh c (Unfit s n t ∷ xs) = omega (arith, sems_none c (Unfit s n t) refl, slots_weigh c xs)
 slots_weigh c (Lies k e p ∷ xs) = omega (arith, slots_weigh c xs)
+slots_weigh c (Queued q qs ∷ xs) = omega (arith, slots_weigh c xs)
 
 pub slots_same : (v w : List Note) → slots_in w ≡ slots_in v → (c : SlotCoord) → slot_weigh c w ≡ slot_weigh c v
 slots_same v w same c = slots_weigh c w ∙ ap (slot_weigh c) same ∙ sym (slots_weigh c v)
@@ -96,6 +118,7 @@ slots_append (Sems k l ∷ xs) w = slots_append xs w
 slots_append (Has m ∷ xs) w = slots_append xs w
 slots_append (Unfit s n t ∷ xs) w = slots_append xs w
 slots_append (Lies k e p ∷ xs) w = ap (λ l. Lies k e p ∷ l) (slots_append xs w)
+slots_append (Queued q qs ∷ xs) w = ap (λ l. Queued q qs ∷ l) (slots_append xs w)
 
 -- a step that changes nothing of slots changes no lot of a turn that holds one
 pub holds_same : (old new : List Note) → slots_in new ≡ slots_in old → HoldsAlike old new
@@ -109,6 +132,7 @@ slots_moved T T' old new old' new' moved olds news c = omega (arith, moved c, sl
 pub owes_none : (c : SlotCoord) → slot_weigh c (Duty (Owes []) ∷ []) ≡ 0
 owes_none (parcel e p) = refl
 owes_none (lot k e) = refl
+owes_none (queue m e) = refl
 owes_none (owed e) = refl
 owes_none (collected e) = refl
 owes_none (left_at e) = refl

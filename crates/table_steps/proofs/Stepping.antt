@@ -40,7 +40,7 @@ own_lone net journal T old new rest stand before after lone = record {
 }
 
 -- the rule after one step that takes these notes for those
-pub after_step : {S : Type 0} {part : S → Part} (net : NetRows) (limit : ℕ) (s : St S) (h : KeepsAccounts part net limit s) (id i k : ℕ) (carried : List (ℕ × S)) (old new rest : List Note) (journal : List Entry) (counted : ℕ → ℕ) (w : Readings)
+pub after_step : {S : Type 0} {part : S → List Part} (net : NetRows) (limit : ℕ) (s : St S) (h : KeepsAccounts part net limit s) (id i k : ℕ) (carried : List (ℕ × S)) (old new rest : List Note) (journal : List Entry) (counted : ℕ → ℕ) (w : Readings)
     → get_elem? s.views id ≡ some (old ++ rest) → HoldsAlike old new → ((e : ℕ) → e < length net.edges → i ≢ marks_from net + e) → ((v : List Note) → AllStand net h.journal v → AllStand net journal v) → OwnView net journal (λ c. total c s.views) id old new rest
     → total (mark Live) (set s.views id (new ++ rest)) ≤ 1152921504606846976 → count_by is_drop journal ≤ 1152921504606846976 → reading net (set s.words i k) ≡ w
     → (SlotMoves (λ c. slot_total c s.views) old (λ c. slot_total c (set s.views id (new ++ rest))) new → SlotPart net journal w.edge (λ c. slot_total c (set s.views id (new ++ rest))) (label_of part s.homes))
@@ -60,7 +60,7 @@ after_step {S} {part} net limit s h id i k carried old new rest journal counted 
 }
 
 -- of a seat that exchanges all its notes
-pub after_all : {S : Type 0} {part : S → Part} (net : NetRows) (limit : ℕ) (s : St S) (h : KeepsAccounts part net limit s) (id i k : ℕ) (carried : List (ℕ × S)) (v v' : List Note) (journal : List Entry) (counted : ℕ → ℕ) (w : Readings)
+pub after_all : {S : Type 0} {part : S → List Part} (net : NetRows) (limit : ℕ) (s : St S) (h : KeepsAccounts part net limit s) (id i k : ℕ) (carried : List (ℕ × S)) (v v' : List Note) (journal : List Entry) (counted : ℕ → ℕ) (w : Readings)
     → get_elem? s.views id ≡ some v → HoldsAlike v v' → ((e : ℕ) → e < length net.edges → i ≢ marks_from net + e) → ((u : List Note) → AllStand net h.journal u → AllStand net journal u) → OwnView net journal (λ c. total c s.views) id v v' []
     → total (mark Live) (set s.views id v') ≤ 1152921504606846976 → count_by is_drop journal ≤ 1152921504606846976 → reading net (set s.words i k) ≡ w
     → (SlotMoves (λ c. slot_total c s.views) v (λ c. slot_total c (set s.views id v')) v' → SlotPart net journal w.edge (λ c. slot_total c (set s.views id v')) (label_of part s.homes))
@@ -74,12 +74,12 @@ after_all {S} {part} net limit s h id i k carried v v' journal counted w at same
     (λ moved. subst (λ u. Balanced net limit w counted journal (λ c. total c (set s.views id u))) (sym (append-nil v')) (kept (subst (λ u. Moves (λ c. total c s.views) v (λ c. total c (set s.views id u)) v') (append-nil v') moved))))
 
 -- one that draws nothing, and changes no token, parcel or lot
-pub still_slots : {S : Type 0} {part : S → Part} (net : NetRows) (limit : ℕ) (s : St S) (h : KeepsAccounts part net limit s) (edge : ℕ → ℕ) (T : SlotCoord → ℕ) (old new : List Note) → ((c : SlotCoord) → slot_weigh c new ≡ slot_weigh c old) → edge ≡ (reading net s.words).edge
+pub still_slots : {S : Type 0} {part : S → List Part} (net : NetRows) (limit : ℕ) (s : St S) (h : KeepsAccounts part net limit s) (edge : ℕ → ℕ) (T : SlotCoord → ℕ) (old new : List Note) → ((c : SlotCoord) → slot_weigh c new ≡ slot_weigh c old) → edge ≡ (reading net s.words).edge
     → SlotMoves (λ c. slot_total c s.views) old T new → SlotPart net h.journal edge T (label_of part s.homes)
 still_slots {S} {part} net limit s h edge T old new same is moved = subst (λ (f : ℕ → ℕ). SlotPart net h.journal f T (label_of part s.homes)) (sym is) (slots_alike net h.journal _ _ _ (label_of part s.homes) h.slots (λ c. omega (arith, moved c, same c)))
 
 -- and adds no turn
-pub still_step : {S : Type 0} {part : S → Part} (net : NetRows) (limit : ℕ) (s : St S) (h : KeepsAccounts part net limit s) (id i k : ℕ) (carried : List (ℕ × S)) (old new rest : List Note) (w : Readings)
+pub still_step : {S : Type 0} {part : S → List Part} (net : NetRows) (limit : ℕ) (s : St S) (h : KeepsAccounts part net limit s) (id i k : ℕ) (carried : List (ℕ × S)) (old new rest : List Note) (w : Readings)
     → get_elem? s.views id ≡ some (old ++ rest) → slots_in new ≡ slots_in old → ((e : ℕ) → e < length net.edges → i ≢ marks_from net + e) → OwnView net h.journal (λ c. total c s.views) id old new rest → weigh (mark Live) new ≤ weigh (mark Live) old → reading net (set s.words i k) ≡ w → w.edge ≡ (reading net s.words).edge
     → (Moves (λ c. total c s.views) old (λ c. total c (set s.views id (new ++ rest))) new → Balanced net limit w h.counted h.journal (λ c. total c (set s.views id (new ++ rest))))
     → KeepsAccounts part net limit (stepped s i k id carried (new ++ rest) keeps)
@@ -88,6 +88,6 @@ still_step net limit s h id i k carried old new rest w at same apart own fewer r
     (still_slots net limit s h w.edge _ old new (slots_same old new same) edges) kept
 
 -- what a step asks for is one view, no act, and the rule
-pub done : {S : Type 0} {part : S → Part} (net : NetRows) (limit : ℕ) (s : St S) (id i k : ℕ) (me : Seated S) (w w' : List Note) → w ≡ w' → KeepsAccounts part net limit (stepped s i k id me.1 w keeps)
+pub done : {S : Type 0} {part : S → List Part} (net : NetRows) (limit : ℕ) (s : St S) (id i k : ℕ) (me : Seated S) (w w' : List Note) → w ≡ w' → KeepsAccounts part net limit (stepped s i k id me.1 w keeps)
     → (u : List Note) × (a : Act _) × Valid s.homes me.1 a × KeepsAccounts part net limit (stepped s i k id me.1 u a) × ((u ≡ w') × (carried_after me.1 a ≡ me.1))
 done net limit s id i k me w w' is kept = (w, keeps, tt, kept, (is, refl))

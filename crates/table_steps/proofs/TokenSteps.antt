@@ -122,7 +122,7 @@ give_slots true t found f gives = refl
 give_slots false t zero f gives = refl
 give_slots false t (suc n) f gives = refl
 
-pub give_allowed : {S : Type 0} {part : S → Part} (net : NetRows) (limit slots id : ℕ) (me : Seated S) (f : ℕ) → OwesNext net f me.0
+pub give_allowed : {S : Type 0} {part : S → List Part} (net : NetRows) (limit slots id : ℕ) (me : Seated S) (f : ℕ) → OwesNext net f me.0
     → Allows (KeepsAccounts part net limit) slots id me (tokens_from net + f) (λ n. (n + 1) % 2 ^ 64) (λ n m. (m.0 ≡ gave net f n me.0) × (m.1 ≡ me.1))
 give_allowed {S} {part} net limit slots id me f may s h _ at small = from me.0 may at
   where
@@ -171,7 +171,7 @@ some_there zero h = absurd (omega arith)
 some_there (suc n) h = omega arith
 
 -- an edge from which a seat is to take has a token
-token_there : {S : Type 0} {part : S → Part} (net : NetRows) (limit : ℕ) (s : St S) (h : KeepsAccounts part net limit s) (id t : ℕ) (cause : Cause) (taken left : List ℕ) (f : ℕ) (rest : List Note) → TakesFrom net cause f
+token_there : {S : Type 0} {part : S → List Part} (net : NetRows) (limit : ℕ) (s : St S) (h : KeepsAccounts part net limit s) (id t : ℕ) (cause : Cause) (taken left : List ℕ) (f : ℕ) (rest : List Note) → TakesFrom net cause f
     → get_elem? s.views id ≡ some (Duty (Collecting t cause taken (f ∷ left)) ∷ rest) → 1 ≤ (reading net s.words).edge f
 token_there net limit s h id t Source taken left f rest takes at = absurd takes
 token_there net limit s h id t Strong taken left f rest takes at =
@@ -200,7 +200,7 @@ take_slots t Strong taken zero f left = refl
 take_slots t Strong taken (suc zero) f left = refl
 take_slots t Strong taken (suc (suc n)) f left = refl
 
-pub take_allowed : {S : Type 0} {part : S → Part} (net : NetRows) (limit slots id : ℕ) (me : Seated S) (f : ℕ) → TakesNextToken net f me.0
+pub take_allowed : {S : Type 0} {part : S → List Part} (net : NetRows) (limit slots id : ℕ) (me : Seated S) (f : ℕ) → TakesNextToken net f me.0
     → Allows (KeepsAccounts part net limit) slots id me (tokens_from net + f) (λ n. (n + (2 ^ 64 - 1)) % 2 ^ 64) (λ n m. (m.0 ≡ took n me.0) × (m.1 ≡ me.1))
 take_allowed {S} {part} net limit slots id me f may s h _ at small = from me.0 may at
   where
@@ -253,7 +253,7 @@ count_rests t zero = (refl, refl)
 count_rests t (suc zero) = (refl, refl)
 count_rests t (suc (suc n)) = (refl, refl)
 
-counts_clear : {S : Type 0} {part : S → Part} (net : NetRows) (limit : ℕ) (s : St S) (h : KeepsAccounts part net limit s) (id f : ℕ) (rest : List Note) (t : ℕ) → is_strong_into net t f ≡ true → get_elem? s.views id ≡ some (Duty (Counting f) ∷ rest) → h.counted f ≡ 0
+counts_clear : {S : Type 0} {part : S → List Part} (net : NetRows) (limit : ℕ) (s : St S) (h : KeepsAccounts part net limit s) (id f : ℕ) (rest : List Note) (t : ℕ) → is_strong_into net t f ≡ true → get_elem? s.views id ≡ some (Duty (Counting f) ∷ rest) → h.counted f ≡ 0
 counts_clear net limit s h id f rest t into at =
     omega (arith, h.balanced.by_duties.states f (into_strong net t f into), any_most ((reading net s.words).edge f), one_self f, total_set (duty (awaits f)) s.views id (Duty (Counting f) ∷ rest) rest at)
 
@@ -261,7 +261,7 @@ some_strong : (net : NetRows) (t f : ℕ) → is_strong_into net t f ≡ true �
 some_strong net t f into none = let z : times f (strong_in net t) ≡ 0 = ap (times f) none in omega (arith, z, times_strong_in net t f, ap one_if into)
 
 -- A seat that has still to collect from an edge of the task doesn't make the last count.
-none_left : {S : Type 0} {part : S → Part} (net : NetRows) (limit : ℕ) (s : St S) (h : KeepsAccounts part net limit s) (id t f : ℕ) (rest : List Note) → is_strong_into net t f ≡ true → get_elem? s.views id ≡ some (Duty (Counting f) ∷ rest) → (reading net s.words).join t ≡ 1 → AreNoneLeft t rest
+none_left : {S : Type 0} {part : S → List Part} (net : NetRows) (limit : ℕ) (s : St S) (h : KeepsAccounts part net limit s) (id t f : ℕ) (rest : List Note) → is_strong_into net t f ≡ true → get_elem? s.views id ≡ some (Duty (Counting f) ∷ rest) → (reading net s.words).join t ≡ 1 → AreNoneLeft t rest
 none_left net limit s h id t f (Duty (Collecting u Strong taken left) ∷ rest) into at last = λ same. by_left same left at (h.views id _ at).stand.1.0.1
   where
     by_left : u ≡ t → (left : List ℕ) → get_elem? s.views id ≡ some (Duty (Counting f) ∷ Duty (Collecting u Strong taken left) ∷ rest) → taken ++ left ≡ strong_in net u → left ≡ []
@@ -299,7 +299,7 @@ count_slots t zero = refl
 count_slots t (suc zero) = refl
 count_slots t (suc (suc n)) = refl
 
-pub count_allowed : {S : Type 0} {part : S → Part} (net : NetRows) (limit slots id : ℕ) (me : Seated S) (t f : ℕ) → CountsNext net t f me.0
+pub count_allowed : {S : Type 0} {part : S → List Part} (net : NetRows) (limit slots id : ℕ) (me : Seated S) (t f : ℕ) → CountsNext net t f me.0
     → Allows (KeepsAccounts part net limit) slots id me (tokens_from net + length net.edges + t) (λ n. (n + (2 ^ 64 - 1)) % 2 ^ 64) (λ n m. (m.0 ≡ counted_one t n me.0) × (m.1 ≡ me.1) × (n ≡ 1 → AreNoneLeft t (others_of me.0)))
 count_allowed {S} {part} net limit slots id me t f may s h _ at small = from me.0 may at
   where
@@ -338,7 +338,7 @@ count_allowed {S} {part} net limit slots id me t f may s h _ at small = from me.
     from v may at = absurd may
 
 -- SET AGAIN
-pub reset_allowed : {S : Type 0} {part : S → Part} (net : NetRows) (limit slots id : ℕ) (me : Seated S) (t : ℕ) → MayReset net t me.0
+pub reset_allowed : {S : Type 0} {part : S → List Part} (net : NetRows) (limit slots id : ℕ) (me : Seated S) (t : ℕ) → MayReset net t me.0
     → Allows (KeepsAccounts part net limit) slots id me (tokens_from net + length net.edges + t) (λ n. (n + length (strong_in net t)) % 2 ^ 64) (λ n m. (m.0 ≡ taken_up net me.0) × (m.1 ≡ me.1))
 reset_allowed {S} {part} net limit slots id me t may s h _ at small = from me.0 may at
   where

@@ -42,7 +42,7 @@ use Rattle.table_steps.proofs.FewTurns.{fits_of, room_for_turn}
 use Rattle.table_steps.proofs.OneJournal.{in_journal}
 
 -- LOADS
-pub learn_allowed : {S : Type 0} {part : S → Part} (net : NetRows) (limit slots id : ℕ) (me : Seated S) → IsTurn me.0 → Allows (KeepsAccounts part net limit) slots id me 0 (λ n. n) (λ n m. (m.0 ≡ me.0) × (m.1 ≡ me.1) × AllFitNotes net me.0 × (length net.edges < 4294967296) × AreInOneJournal net limit (entries_in me.0))
+pub learn_allowed : {S : Type 0} {part : S → List Part} (net : NetRows) (limit slots id : ℕ) (me : Seated S) → IsTurn me.0 → Allows (KeepsAccounts part net limit) slots id me 0 (λ n. n) (λ n m. (m.0 ≡ me.0) × (m.1 ≡ me.1) × AllFitNotes net me.0 × (length net.edges < 4294967296) × AreInOneJournal net limit (entries_in me.0))
 learn_allowed net limit slots id me may s h _ at small =
     (me.0, keeps, tt, nothing_done net limit s h id 0 me.1 me.0 may.0 may.1 (omega (arith, h.size)) (λ e b z. omega arith) at, (refl, refl, fits_of net h.journal me.0 (h.views id me.0 at).stand, h.fits.rows.edge_count, in_journal net limit s h id me.0 at))
 
@@ -83,7 +83,7 @@ weak_alike owing t e = refl
 weak_alike telling t e = refl
 
 -- a release taken up without a change of words
-one_alike : {S : Type 0} {part : S → Part} (net : NetRows) (limit : ℕ) (s : St S) (h : KeepsAccounts part net limit s) (id : ℕ) (carried : List (ℕ × S)) (t : ℕ) (cause : Cause) (rest : List Note) → weigh resting rest ≡ 0
+one_alike : {S : Type 0} {part : S → List Part} (net : NetRows) (limit : ℕ) (s : St S) (h : KeepsAccounts part net limit s) (id : ℕ) (carried : List (ℕ × S)) (t : ℕ) (cause : Cause) (rest : List Note) → weigh resting rest ≡ 0
     → ((c : Coord) → weight c (Duty (Fresh t cause)) ≡ weight c (Duty (Collecting t cause [] (edges_of net t cause)))) → get_elem? s.views id ≡ some (Duty (Fresh t cause) ∷ Has Live ∷ rest)
     → KeepsAccounts part net limit (stepped s 0 (slice_index s.words 0) id carried (collecting_notes t cause (edges_of net t cause) ++ rest) keeps)
 one_alike {S} {part} net limit s h id carried t cause rest lone alike at =
@@ -96,7 +96,7 @@ one_alike {S} {part} net limit s h id carried t cause rest lone alike at =
     (λ moved. taken_up_slots net h.journal _ _ _ (label_of part s.homes) t cause es h.slots (slots_moved _ _ old new [] (Duty (Collecting t cause [] es) ∷ awaited_lots es) moved refl refl))
     (λ moved. alike_kept net limit (reading net s.words) h.counted h.journal (λ c. total c s.views) _ h.balanced (λ c a. omega (arith, moved c, alike c, no_units c, awaited_weigh c es)))
 
-pub take_up_allowed : {S : Type 0} {part : S → Part} (net : NetRows) (limit slots id : ℕ) (me : Seated S) → MayTakeUp me.0 → Allows (KeepsAccounts part net limit) slots id me 0 (λ n. n) (λ n m. (m.0 ≡ taken_up net me.0) × (m.1 ≡ me.1))
+pub take_up_allowed : {S : Type 0} {part : S → List Part} (net : NetRows) (limit slots id : ℕ) (me : Seated S) → MayTakeUp me.0 → Allows (KeepsAccounts part net limit) slots id me 0 (λ n. n) (λ n m. (m.0 ≡ taken_up net me.0) × (m.1 ≡ me.1))
 take_up_allowed {S} {part} net limit slots id me may s h _ at small = from me.0 may at
   where
     from : (v : List Note) → MayTakeUp v → get_elem? s.views id ≡ some v
@@ -106,7 +106,7 @@ take_up_allowed {S} {part} net limit slots id me may s h _ at small = from me.0 
     from v may at = absurd may
 
 -- ADMISSION DRAWN
-pub admit_allowed : {S : Type 0} {part : S → Part} (net : NetRows) (limit slots id : ℕ) (me : Seated S) → MayAdmit me.0 → Allows (KeepsAccounts part net limit) slots id me 24 (λ n. (n + 1) % 2 ^ 64) (λ n m. (m.0 ≡ admitted limit n me.0) × (m.1 ≡ me.1))
+pub admit_allowed : {S : Type 0} {part : S → List Part} (net : NetRows) (limit slots id : ℕ) (me : Seated S) → MayAdmit me.0 → Allows (KeepsAccounts part net limit) slots id me 24 (λ n. (n + 1) % 2 ^ 64) (λ n m. (m.0 ≡ admitted limit n me.0) × (m.1 ≡ me.1))
 admit_allowed {S} {part} net limit slots id me may s h _ at small = from me.0 may at
   where
     from : (v : List Note) → MayAdmit v → get_elem? s.views id ≡ some v
@@ -127,7 +127,7 @@ admit_allowed {S} {part} net limit slots id me may s h _ at small = from me.0 ma
     from v may at = absurd may
 
 -- TURN ADDED
-pub add_allowed : {S : Type 0} {part : S → Part} (net : NetRows) (limit slots id : ℕ) (me : Seated S) → MayAdd me.0 → Allows (KeepsAccounts part net limit) slots id me 16 (λ n. (n + 1) % 2 ^ 64) (λ n m. (m.0 ≡ with_turn_added me.0) × (m.1 ≡ me.1))
+pub add_allowed : {S : Type 0} {part : S → List Part} (net : NetRows) (limit slots id : ℕ) (me : Seated S) → MayAdd me.0 → Allows (KeepsAccounts part net limit) slots id me 16 (λ n. (n + 1) % 2 ^ 64) (λ n m. (m.0 ≡ with_turn_added me.0) × (m.1 ≡ me.1))
 add_allowed {S} {part} net limit slots id me may s h _ at small = from me.0 may at
   where
     from : (v : List Note) → MayAdd v → get_elem? s.views id ≡ some v
@@ -137,7 +137,7 @@ add_allowed {S} {part} net limit slots id me may s h _ at small = from me.0 may 
     from v may at = absurd may
 
 -- START DRAWN
-pub start_allowed : {S : Type 0} {part : S → Part} (net : NetRows) (limit slots id : ℕ) (me : Seated S) → MayDrawStart net me.0 → Allows (KeepsAccounts part net limit) slots id me 8 (λ n. (n + 1) % 2 ^ 64) (λ n m. (m.0 ≡ with_start_drawn net n me.0) × (m.1 ≡ me.1) × IsNet net)
+pub start_allowed : {S : Type 0} {part : S → List Part} (net : NetRows) (limit slots id : ℕ) (me : Seated S) → MayDrawStart net me.0 → Allows (KeepsAccounts part net limit) slots id me 8 (λ n. (n + 1) % 2 ^ 64) (λ n m. (m.0 ≡ with_start_drawn net n me.0) × (m.1 ≡ me.1) × IsNet net)
 start_allowed {S} {part} net limit slots id me may s h _ at small = from me.0 may at
   where
     from : (v : List Note) → MayDrawStart net v → get_elem? s.views id ≡ some v
@@ -155,7 +155,7 @@ start_allowed {S} {part} net limit slots id me may s h _ at small = from me.0 ma
     from v may at = absurd may
 
 -- END DRAWN
-pub end_allowed : {S : Type 0} {part : S → Part} (net : NetRows) (limit slots id : ℕ) (me : Seated S) (gives : List ℕ) (inner : Bool) → MayEnd net gives inner me.0
+pub end_allowed : {S : Type 0} {part : S → List Part} (net : NetRows) (limit slots id : ℕ) (me : Seated S) (gives : List ℕ) (inner : Bool) → MayEnd net gives inner me.0
     → Allows (KeepsAccounts part net limit) slots id me 8 (λ n. (n + 1) % 2 ^ 64) (λ n m. (m.0 ≡ with_end_drawn gives inner n me.0) × (m.1 ≡ me.1))
 end_allowed {S} {part} net limit slots id me gives inner may s h _ at small = from me.0 may at
   where
@@ -167,17 +167,17 @@ end_allowed {S} {part} net limit slots id me gives inner may s h _ at small = fr
     from v may at = absurd may
 
 -- SPLIT
-pub deal_allowed : {S : Type 0} {part : S → Part} (net : NetRows) (limit id : ℕ) (v : List Note) → MayDeal id v → Splits (KeepsAccounts part net limit) id v (kept_back v) (dealt v)
+pub deal_allowed : {S : Type 0} {part : S → List Part} (net : NetRows) (limit id : ℕ) (v : List Note) → MayDeal id v → Splits (KeepsAccounts part net limit) id v (kept_back v) (dealt v)
 deal_allowed net limit id (Duty (Fresh t cause) ∷ Has Live ∷ rest) may =
     split_allowed net limit id (Duty (Fresh t cause) ∷ Has Live ∷ rest) [] rest (Duty (Fresh t cause) ∷ Has Live ∷ []) refl tt may.0 refl may.1 (λ none. absurd (omega (arith, none))) may.2 (λ none. absurd (omega (arith, none)))
 deal_allowed net limit id v may = absurd may
 
 -- JOIN, with the keeper's seat
-pub take_in_allowed : {S : Type 0} {part : S → Part} (net : NetRows) (limit id : ℕ) (v : List Note) (other : ℕ) (w : List Note) → id ≡ 0 → Joins (KeepsAccounts part net limit) id v other w (w ++ v) []
+pub take_in_allowed : {S : Type 0} {part : S → List Part} (net : NetRows) (limit id : ℕ) (v : List Note) (other : ℕ) (w : List Note) → id ≡ 0 → Joins (KeepsAccounts part net limit) id v other w (w ++ v) []
 take_in_allowed net limit id v other w first = join_allowed net limit id v other w (λ far. absurd (far first))
 
 -- JOIN, of two turns that are done
-pub gather_allowed : {S : Type 0} {part : S → Part} (net : NetRows) (limit id : ℕ) (v : List Note) (other : ℕ) (w : List Note) → MayGather v w → Joins (KeepsAccounts part net limit) id v other w (both_turns v w) []
+pub gather_allowed : {S : Type 0} {part : S → List Part} (net : NetRows) (limit id : ℕ) (v : List Note) (other : ℕ) (w : List Note) → MayGather v w → Joins (KeepsAccounts part net limit) id v other w (both_turns v w) []
 gather_allowed net limit id (Duty (Owes []) ∷ Has Live ∷ rest) other w may =
     join_as net limit id (Duty (Owes []) ∷ Has Live ∷ rest) other w (Duty (Owes []) ∷ Has Live ∷ w ++ rest) (λ c. omega (arith, weigh_append c w rest)) (λ c. omega (arith, slot_append c w rest))
     (λ journal taken own. (own.0, (own.1.0, stand_both net journal w rest taken own.1.1))) (λ far. omega arith)

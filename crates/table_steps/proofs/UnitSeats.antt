@@ -16,7 +16,7 @@ use Rattle.table_steps.specs.declared.view.TurnDuty.TheVariants.{Collecting, Owe
 use Rattle.table_steps.specs.declared.view.SemaphoreRole.TheVariants.{Held, Undo, Owed, Both, Credit, Credited, Claim, Granted, Refusing, Denied, Full}
 use Rattle.table_steps.specs.declared.view.SeatMark.TheVariants.{Live, Over, Halted}
 use Rattle.table_steps.specs.declared.view.Note.{Note}
-use Rattle.table_steps.specs.declared.view.Note.TheVariants.{Duty, Sems, Has, Unfit, Lies}
+use Rattle.table_steps.specs.declared.view.Note.TheVariants.{Duty, Sems, Has, Unfit, Lies, Queued}
 use Rattle.table_steps.specs.inside.Accounts.{sem, mark, resting, weight, weigh, total, AllStand, reading, KeepsAccounts}
 use Rattle.table_steps.specs.inside.UnitKinds.{held_notes, MayTake, after_unit, took_unit, MayUndo, undone, MayPut, put_back, MayReturn, returned}
 use Rattle.table_steps.proofs.StartDuties.{one_self}
@@ -45,18 +45,19 @@ undo_lives s (Sems Full l) = omega arith
 undo_lives s (Has m) = omega arith
 undo_lives s (Unfit z n t) = omega arith
 undo_lives s (Lies k e p) = omega arith
+undo_lives s (Queued q qs) = omega arith
 
 -- a unit word is far below what a word holds
-unit_small : {S : Type 0} {part : S → Part} (net : NetRows) (limit : ℕ) (s : St S) (h : KeepsAccounts part net limit s) (a : ℕ) → a < length net.sems → slice_index s.words (40 + a) ≤ 1152921504606846976 + 4294967296
+unit_small : {S : Type 0} {part : S → List Part} (net : NetRows) (limit : ℕ) (s : St S) (h : KeepsAccounts part net limit s) (a : ℕ) → a < length net.sems → slice_index s.words (40 + a) ≤ 1152921504606846976 + 4294967296
 unit_small net limit s h a below = let u = h.balanced.by_units a below in
     omega (arith, u.tells, u.within, unit_at net s.words a below, h.fits.maxima a, h.few, total_less (sem Undo a) (mark Live) (undo_lives a) s.views)
 
 -- and not below the units that a seat has
-unit_there : {S : Type 0} {part : S → Part} (net : NetRows) (limit : ℕ) (s : St S) (h : KeepsAccounts part net limit s) (a : ℕ) → a < length net.sems → total (sem Held a) s.views + total (sem Owed a) s.views + total (sem Undo a) s.views ≤ slice_index s.words (40 + a)
+unit_there : {S : Type 0} {part : S → List Part} (net : NetRows) (limit : ℕ) (s : St S) (h : KeepsAccounts part net limit s) (a : ℕ) → a < length net.sems → total (sem Held a) s.views + total (sem Owed a) s.views + total (sem Undo a) s.views ≤ slice_index s.words (40 + a)
 unit_there net limit s h a below = omega (arith, (h.balanced.by_units a below).tells, (h.balanced.by_credits a below).backed, unit_at net s.words a below)
 
 -- a unit taken
-take_got : {S : Type 0} {part : S → Part} (net : NetRows) (limit : ℕ) (s : St S) (h : KeepsAccounts part net limit s) (id a k : ℕ) (carried : List (ℕ × S)) (x : TurnDuty) (l : List ℕ) (rest : List Note) → a < length net.sems → weigh resting rest ≡ 0 → get_elem? s.views id ≡ some (Duty x ∷ Has Live ∷ held_notes l ++ rest)
+take_got : {S : Type 0} {part : S → List Part} (net : NetRows) (limit : ℕ) (s : St S) (h : KeepsAccounts part net limit s) (id a k : ℕ) (carried : List (ℕ × S)) (x : TurnDuty) (l : List ℕ) (rest : List Note) → a < length net.sems → weigh resting rest ≡ 0 → get_elem? s.views id ≡ some (Duty x ∷ Has Live ∷ held_notes l ++ rest)
     → k ≡ slice_index s.words (40 + a) + 1 → slice_index s.words (40 + a) < max_of net a → KeepsAccounts part net limit (stepped s (40 + a) k id carried (Duty x ∷ Has Live ∷ Sems Held (a ∷ l) ∷ rest) keeps)
 take_got net limit s h id a k carried x l rest below lone at sum room =
     let old = Duty x ∷ Has Live ∷ held_notes l in let new = Duty x ∷ Has Live ∷ Sems Held (a ∷ l) ∷ [] in
@@ -66,7 +67,7 @@ take_got net limit s h id a k carried x l rest below lone at sum room =
     refl (λ moved. take_kept net limit (reading net s.words) h.counted h.journal (λ c. total c s.views) _ _ a l h.balanced (unit_more net s.words a k below (omega (arith, h.size, below)) sum) (omega (arith, room, unit_at net s.words a below)) (λ c. omega (arith, moved c, held_weigh c l)))
 
 -- none found
-take_lost : {S : Type 0} {part : S → Part} (net : NetRows) (limit : ℕ) (s : St S) (h : KeepsAccounts part net limit s) (id a k : ℕ) (carried : List (ℕ × S)) (x : TurnDuty) (l : List ℕ) (rest : List Note) → a < length net.sems → weigh resting (held_notes l ++ rest) ≡ 0 → get_elem? s.views id ≡ some (Duty x ∷ Has Live ∷ held_notes l ++ rest)
+take_lost : {S : Type 0} {part : S → List Part} (net : NetRows) (limit : ℕ) (s : St S) (h : KeepsAccounts part net limit s) (id a k : ℕ) (carried : List (ℕ × S)) (x : TurnDuty) (l : List ℕ) (rest : List Note) → a < length net.sems → weigh resting (held_notes l ++ rest) ≡ 0 → get_elem? s.views id ≡ some (Duty x ∷ Has Live ∷ held_notes l ++ rest)
     → k ≡ slice_index s.words (40 + a) + 1 → KeepsAccounts part net limit (stepped s (40 + a) k id carried (Duty x ∷ Sems Undo (a ∷ []) ∷ held_notes l ++ rest) keeps)
 take_lost net limit s h id a k carried x l rest below lone at sum =
     let old = Duty x ∷ Has Live ∷ [] in let new = Duty x ∷ Sems Undo (a ∷ []) ∷ [] in
@@ -75,7 +76,7 @@ take_lost net limit s h id a k carried x l rest below lone at sum =
     (unit_read net s.words a k below)
     refl (λ moved. refuse_kept net limit (reading net s.words) h.counted h.journal (λ c. total c s.views) _ _ a h.balanced (unit_more net s.words a k below (omega (arith, h.size, below)) sum) (λ c. omega (arith, moved c)))
 
-pub take_allowed : {S : Type 0} {part : S → Part} (net : NetRows) (limit slots id : ℕ) (me : Seated S) (a : ℕ) → MayTake net a me.0
+pub take_allowed : {S : Type 0} {part : S → List Part} (net : NetRows) (limit slots id : ℕ) (me : Seated S) (a : ℕ) → MayTake net a me.0
     → Allows (KeepsAccounts part net limit) slots id me (40 + a) (λ n. (n + 1) % 2 ^ 64) (λ n m. (m.0 ≡ took_unit net a n me.0) × (m.1 ≡ me.1))
 take_allowed {S} {part} net limit slots id me a may s h _ at small = from me.0 may at
   where
@@ -97,7 +98,7 @@ take_allowed {S} {part} net limit slots id me a may s h _ at small = from me.0 m
     from v may at = absurd may
 
 -- a take undone
-pub undo_allowed : {S : Type 0} {part : S → Part} (net : NetRows) (limit slots id : ℕ) (me : Seated S) (a : ℕ) → MayUndo net a me.0
+pub undo_allowed : {S : Type 0} {part : S → List Part} (net : NetRows) (limit slots id : ℕ) (me : Seated S) (a : ℕ) → MayUndo net a me.0
     → Allows (KeepsAccounts part net limit) slots id me (40 + a) (λ n. (n + (2 ^ 64 - 1)) % 2 ^ 64) (λ n m. (m.0 ≡ undone me.0) × (m.1 ≡ me.1))
 undo_allowed {S} {part} net limit slots id me a may s h _ at small = from me.0 may at
   where
@@ -116,7 +117,7 @@ undo_allowed {S} {part} net limit slots id me a may s h _ at small = from me.0 m
     from v may at = absurd may
 
 -- a unit back, after these notes
-put_at : {S : Type 0} {part : S → Part} (net : NetRows) (limit : ℕ) (s : St S) (h : KeepsAccounts part net limit s) (id a k : ℕ) (carried : List (ℕ × S)) (front : List Note) (l : List ℕ) (rest : List Note) → a < length net.sems → 1 ≤ times a l → 1 ≤ weigh (mark Live) front → weigh resting front ≡ 0 → weigh resting rest ≡ 0
+put_at : {S : Type 0} {part : S → List Part} (net : NetRows) (limit : ℕ) (s : St S) (h : KeepsAccounts part net limit s) (id a k : ℕ) (carried : List (ℕ × S)) (front : List Note) (l : List ℕ) (rest : List Note) → a < length net.sems → 1 ≤ times a l → 1 ≤ weigh (mark Live) front → weigh resting front ≡ 0 → weigh resting rest ≡ 0
     → get_elem? s.views id ≡ some ((front ++ Sems Held l ∷ []) ++ rest) → k + 1 ≡ slice_index s.words (40 + a) → KeepsAccounts part net limit (stepped s (40 + a) k id carried ((front ++ held_notes (without a l)) ++ rest) keeps)
 put_at net limit s h id a k carried front l rest below there lives none lone at less =
     let m = without a l in let old = front ++ Sems Held l ∷ [] in let new = front ++ held_notes m in
@@ -135,12 +136,12 @@ put_at net limit s h id a k carried front l rest below there lives none lone at 
     units_stand m = (tt, tt)
 
 -- a seat that holds a unit finds one
-put_there : {S : Type 0} {part : S → Part} (net : NetRows) (limit : ℕ) (s : St S) (h : KeepsAccounts part net limit s) (id a : ℕ) (front : List Note) (l : List ℕ) (rest : List Note) → a < length net.sems → 1 ≤ times a l → get_elem? s.views id ≡ some ((front ++ Sems Held l ∷ []) ++ rest) → slice_index s.words (40 + a) < 18446744073709551616
+put_there : {S : Type 0} {part : S → List Part} (net : NetRows) (limit : ℕ) (s : St S) (h : KeepsAccounts part net limit s) (id a : ℕ) (front : List Note) (l : List ℕ) (rest : List Note) → a < length net.sems → 1 ≤ times a l → get_elem? s.views id ≡ some ((front ++ Sems Held l ∷ []) ++ rest) → slice_index s.words (40 + a) < 18446744073709551616
     → (slice_index s.words (40 + a) + 18446744073709551615) % 18446744073709551616 + 1 ≡ slice_index s.words (40 + a)
 put_there net limit s h id a front l rest below there at small =
     lowered (slice_index s.words (40 + a)) 0 (omega (arith, unit_there net limit s h a below, at_most (sem Held a) s.views id _ at, weigh_append (sem Held a) (front ++ Sems Held l ∷ []) rest, weigh_append (sem Held a) front (Sems Held l ∷ []), there)) small
 
-pub put_allowed : {S : Type 0} {part : S → Part} (net : NetRows) (limit slots id : ℕ) (me : Seated S) (a : ℕ) → MayPut net a me.0
+pub put_allowed : {S : Type 0} {part : S → List Part} (net : NetRows) (limit slots id : ℕ) (me : Seated S) (a : ℕ) → MayPut net a me.0
     → Allows (KeepsAccounts part net limit) slots id me (40 + a) (λ n. (n + (2 ^ 64 - 1)) % 2 ^ 64) (λ n m. (m.0 ≡ put_back a me.0) × (m.1 ≡ me.1))
 put_allowed {S} {part} net limit slots id me a may s h _ at small = from me.0 may at
   where
@@ -155,7 +156,7 @@ put_allowed {S} {part} net limit slots id me a may s h _ at small = from me.0 ma
     from v may at = absurd may
 
 -- and after the End
-pub return_allowed : {S : Type 0} {part : S → Part} (net : NetRows) (limit slots id : ℕ) (me : Seated S) (a : ℕ) → MayReturn net a me.0
+pub return_allowed : {S : Type 0} {part : S → List Part} (net : NetRows) (limit slots id : ℕ) (me : Seated S) (a : ℕ) → MayReturn net a me.0
     → Allows (KeepsAccounts part net limit) slots id me (40 + a) (λ n. (n + (2 ^ 64 - 1)) % 2 ^ 64) (λ n m. (m.0 ≡ returned a me.0) × (m.1 ≡ me.1))
 return_allowed {S} {part} net limit slots id me a may s h _ at small = from me.0 may at
   where

@@ -1,5 +1,5 @@
 -- A step that keeps the accounts of notes keeps the rule of the table.
-use Rattle.std.proofs.Common.{◌≡◌, ◌≢◌, ◌⊎◌, inl, inr, ℕ, zero, suc, ◌+◌, ◌%◌, ◌^◌, ◌≤◌, cond, eqb, true, false, List, [], ◌∷◌, ◌++◌, map, set, Option, Some, None, sym, refl, ap, ◌∙◌, subst, arith, get_or-set_same}
+use Rattle.std.proofs.Common.{◌≡◌, ◌≢◌, ◌⊎◌, inl, inr, ℕ, zero, suc, ◌+◌, ◌%◌, ◌^◌, ◌≤◌, cond, eqb, true, false, List, [], ◌∷◌, ◌++◌, map, flat_map, set, Option, Some, None, sym, refl, ap, ◌∙◌, subst, arith, get_or-set_same}
 use Rattle.std.specs.Prelude.{slice_index, ◌==◌}
 use Rattle.std.proofs.lemmas.Bool.Decides.{nat_tests}
 use Rattle.std.proofs.lemmas.Bool.{cases_eq}
@@ -13,7 +13,7 @@ use Rattle.join_words.specs.declared.ins.Given.{Given}
 use Rattle.table_steps.specs.declared.view.Note.{Note}
 use Rattle.table_steps.specs.declared.view.EndValue.{EndValue}
 use Rattle.table_steps.specs.declared.view.SeatView.{SeatView}
-use Rattle.table_steps.specs.Values.{given_part, given_values, values_in, AreValues, Knows, HaveOneValueEach}
+use Rattle.table_steps.specs.Values.{given_parts, values_in, AreValues, Knows, HaveOneValueEach}
 use Rattle.table_steps.specs.inside.SeatViews.{drawn_values, me_of, values_held, with_notes, both_views, nothing_known, StepsKnowing, notes_alone}
 use Rattle.table_steps.specs.inside.Accounts.{KeepsAccounts}
 use Rattle.table_steps.specs.inside.ValueAccounts.{KeepsTable}
@@ -22,26 +22,26 @@ use Rattle.table_steps.proofs.Reading.{else_word}
 use Rattle.table_steps.proofs.Values.{are_both, are_front, are_back, are_still, knows_self, knows_front, knows_back}
 
 abbrev Knowing : Type 0 → Type 0
-Knowing V = State (Given V) (SeatView V)
+Knowing V = State (List (Given V)) (SeatView V)
 
 -- PARCELS
-abbrev ParcelsAre : {V : Type 0} → (ℕ → Option V) → List (Perhaps (Given V)) → Type 0
-ParcelsAre {V} value_at homes = (e : ℕ) (y : Given V) → get_elem? homes e ≡ some (some y) → AreValues value_at (given_values y)
+abbrev ParcelsAre : {V : Type 0} → (ℕ → Option V) → List (Perhaps (List (Given V))) → Type 0
+ParcelsAre {V} value_at homes = (e : ℕ) (y : List (Given V)) → get_elem? homes e ≡ some (some y) → AreValues value_at (values_in y)
 
 -- each parcel in a slot or with the seat after an act was in a slot or with the seat before
-acted : {V : Type 0} (value_at : ℕ → Option V) (homes : List (Perhaps (Given V))) (carried : List (ℕ × Given V)) (a : Act (Given V)) → Valid homes carried a → ParcelsAre value_at homes → AreValues value_at (values_held carried)
+acted : {V : Type 0} (value_at : ℕ → Option V) (homes : List (Perhaps (List (Given V)))) (carried : List (ℕ × List (Given V))) (a : Act (List (Given V))) → Valid homes carried a → ParcelsAre value_at homes → AreValues value_at (values_held carried)
     → ParcelsAre value_at (homes_after homes carried a) × AreValues value_at (values_held (carried_after carried a))
 acted value_at homes carried keeps valid home held = (home, held)
-acted {V} value_at homes carried (takes k y) valid home held = (λ e z at. by_place e z (at_set homes k e none (some z) at), are_both value_at (given_values y) (values_held carried) (home k y valid) held)
+acted {V} value_at homes carried (takes k y) valid home held = (λ e z at. by_place e z (at_set homes k e none (some z) at), are_both value_at (values_in y) (values_held carried) (home k y valid) held)
   where
-    by_place : (e : ℕ) (z : Given V) → ((e ≡ k) × (none ≡ some z)) ⊎ ((e ≢ k) × (get_elem? homes e ≡ some (some z))) → AreValues value_at (given_values z)
+    by_place : (e : ℕ) (z : List (Given V)) → ((e ≡ k) × (none ≡ some z)) ⊎ ((e ≢ k) × (get_elem? homes e ≡ some (some z))) → AreValues value_at (values_in z)
     by_place e z (inl gone) = absurd (some-ne-none z (sym gone.1))
     by_place e z (inr still) = home e z still.1
 acted value_at homes [] gives valid home held = (home, held)
-acted {V} value_at homes (x ∷ xs) gives valid home held = (λ e z at. by_place e z (at_set homes x.0 e (some x.1) (some z) at), are_back value_at (given_values x.1) (values_held xs) held)
+acted {V} value_at homes (x ∷ xs) gives valid home held = (λ e z at. by_place e z (at_set homes x.0 e (some x.1) (some z) at), are_back value_at (values_in x.1) (values_held xs) held)
   where
-    by_place : (e : ℕ) (z : Given V) → ((e ≡ x.0) × (some x.1 ≡ some z)) ⊎ ((e ≢ x.0) × (get_elem? homes e ≡ some (some z))) → AreValues value_at (given_values z)
-    by_place e z (inl here) = subst (λ (y : Given V). AreValues value_at (given_values y)) (some-injective x.1 z here.1) (are_front value_at (given_values x.1) (values_held xs) held)
+    by_place : (e : ℕ) (z : List (Given V)) → ((e ≡ x.0) × (some x.1 ≡ some z)) ⊎ ((e ≢ x.0) × (get_elem? homes e ≡ some (some z))) → AreValues value_at (values_in z)
+    by_place e z (inl here) = subst (λ (y : List (Given V)). AreValues value_at (values_in y)) (some-injective x.1 z here.1) (are_front value_at (values_in x.1) (values_held xs) held)
     by_place e z (inr still) = home e z still.1
 acted value_at homes carried (chain a b) valid home held =
     let first = acted value_at homes carried a valid.0 home held in acted value_at (homes_after homes carried a) (carried_after carried a) b valid.1 first.0 first.1
@@ -58,12 +58,12 @@ stepped_alone : {V : Type 0} (views : List (SeatView V)) (id : ℕ) (v : SeatVie
 stepped_alone views id v = map-set (λ u. u.notes) views id v
 
 -- the view and the act of a step that keeps the accounts, and what it says
-stepped_on : {V : Type 0} (net : NetRows) (limit id : ℕ) (me : Me (Given V) (SeatView V)) (i k : ℕ) (told : List (EndValue V)) (s : Knowing V) (h : KeepsTable net limit s) (g : Grown (set s.words i k) h.values.value_at told) → Knows me.0.values (values_held me.1) → get_elem? s.views id ≡ some me.0
-    → (w : List Note) (a : Act (Given V)) → Valid s.homes me.1 a → KeepsAccounts given_part net limit (stepped (notes_alone s) i k id me.1 w a)
+stepped_on : {V : Type 0} (net : NetRows) (limit id : ℕ) (me : Me (List (Given V)) (SeatView V)) (i k : ℕ) (told : List (EndValue V)) (s : Knowing V) (h : KeepsTable net limit s) (g : Grown (set s.words i k) h.values.value_at told) → Knows me.0.values (values_held me.1) → get_elem? s.views id ≡ some me.0
+    → (w : List Note) (a : Act (List (Given V))) → Valid s.homes me.1 a → KeepsAccounts given_parts net limit (stepped (notes_alone s) i k id me.1 w a)
     → KeepsTable net limit (stepped s i k id me.1 (record { notes = w; values = told ++ (values_held (carried_after me.1 a) ++ me.0.values) }) a) × HaveOneValueEach (told ++ (values_held (carried_after me.1 a) ++ me.0.values))
 stepped_on {V} net limit id me i k told s h g knows at w a valid keeps_notes = (
   record {
-    accounts = subst (λ (views : List (List Note)). KeepsAccounts (given_part {V = V}) net limit (record { words = set s.words i k; homes = homes_after s.homes me.1 a; views = views })) (sym (stepped_alone s.views id view)) keeps_notes;
+    accounts = subst (λ (views : List (List Note)). KeepsAccounts (given_parts {V = V}) net limit (record { words = set s.words i k; homes = homes_after s.homes me.1 a; views = views })) (sym (stepped_alone s.views id view)) keeps_notes;
     values = record {
       value_at = g.after;
       views = λ j v there. by_seat j v (at_set s.views id j view v there);
@@ -84,7 +84,7 @@ stepped_on {V} net limit id me i k told s h g knows at w a valid keeps_notes = (
     known = h.values.views id me.0 at
 
     both : ParcelsAre g.after (homes_after s.homes me.1 a) × AreValues g.after (values_held (carried_after me.1 a))
-    both = acted g.after s.homes me.1 a valid (λ e y there. still (given_values y) (h.values.parcels e y there)) (still (values_held me.1) (knows.follow h.values.value_at known))
+    both = acted g.after s.homes me.1 a valid (λ e y there. still (values_in y) (h.values.parcels e y there)) (still (values_held me.1) (knows.follow h.values.value_at known))
 
     own : AreValues g.after view.values
     own = are_both g.after told (values_held (carried_after me.1 a) ++ me.0.values) g.are (are_both g.after (values_held (carried_after me.1 a)) me.0.values both.1 (still me.0.values known))
@@ -93,16 +93,16 @@ stepped_on {V} net limit id me i k told s h g knows at w a valid keeps_notes = (
     by_seat j v (inl here) = subst (λ (u : SeatView V). AreValues g.after u.values) here.1 own
     by_seat j v (inr there) = still v.values (h.values.views j v there.1)
 
-lifted : {V : Type 0} (net : NetRows) (limit slots id : ℕ) (me : Me (Given V) (SeatView V)) (i : ℕ) (f : ℕ → ℕ) (then : ℕ → Me (Given V) (List Note) → Type 0) (told : ℕ → List (EndValue V))
+lifted : {V : Type 0} (net : NetRows) (limit slots id : ℕ) (me : Me (List (Given V)) (SeatView V)) (i : ℕ) (f : ℕ → ℕ) (then : ℕ → Me (List (Given V)) (List Note) → Type 0) (told : ℕ → List (EndValue V))
     → ((s : Knowing V) (h : KeepsTable net limit s) → Grown (set s.words i (f (slice_index s.words i))) h.values.value_at (told (slice_index s.words i))) → Knows me.0.values (values_held me.1)
-    → Allows (KeepsAccounts given_part net limit) slots id (me_of me) i f then → Allows (KeepsTable net limit) slots id me i f (λ n after. StepsKnowing then me n after × Knows after.0.values (told n))
+    → Allows (KeepsAccounts given_parts net limit) slots id (me_of me) i f then → Allows (KeepsTable net limit) slots id me i f (λ n after. StepsKnowing then me n after × Knows after.0.values (told n))
 lifted {V} net limit slots id me i f then told grows knows allows s h sized at small = from (allows (notes_alone s) h.accounts sized (at_map (λ (v : SeatView V). v.notes) s.views id me.0 at) small)
   where
     n : ℕ
     n = slice_index s.words i
 
-    from : ((w : List Note) × (a : Act (Given V)) × Valid s.homes me.1 a × KeepsAccounts given_part net limit (stepped (notes_alone s) i (f n) id me.1 w a) × then n (w, carried_after me.1 a))
-        → (v : SeatView V) × (a : Act (Given V)) × Valid s.homes me.1 a × KeepsTable net limit (stepped s i (f n) id me.1 v a) × (StepsKnowing then me n (v, carried_after me.1 a) × Knows v.values (told n))
+    from : ((w : List Note) × (a : Act (List (Given V))) × Valid s.homes me.1 a × KeepsAccounts given_parts net limit (stepped (notes_alone s) i (f n) id me.1 w a) × then n (w, carried_after me.1 a))
+        → (v : SeatView V) × (a : Act (List (Given V))) × Valid s.homes me.1 a × KeepsTable net limit (stepped s i (f n) id me.1 v a) × (StepsKnowing then me n (v, carried_after me.1 a) × Knows v.values (told n))
     from (w, a, valid, keeps_notes, is) =
         let held = values_held (carried_after me.1 a) in let all = told n ++ (held ++ me.0.values) in
         let new = stepped_on net limit id me i (f n) (told n) s h (grows s h) knows at w a valid keeps_notes in
@@ -110,8 +110,8 @@ lifted {V} net limit slots id me i f then told grows knows allows s h sized at s
         (record { notes = w; values = all }, a, valid, new.0, ((is, knows_back all held me.0.values later, knows_front all held me.0.values later, new.1), knows_front all (told n) (held ++ me.0.values) (knows_self all)))
 
 -- A step on another word than the clock, that leaves the notes as `then` says
-pub steps_knowing : {V : Type 0} (net : NetRows) (limit slots id : ℕ) (me : Me (Given V) (SeatView V)) (i : ℕ) (f : ℕ → ℕ) (then : ℕ → Me (Given V) (List Note) → Type 0) → i ≢ 8 → Knows me.0.values (values_held me.1)
-    → Allows (KeepsAccounts given_part net limit) slots id (me_of me) i f then → Allows (KeepsTable net limit) slots id me i f (StepsKnowing then me)
+pub steps_knowing : {V : Type 0} (net : NetRows) (limit slots id : ℕ) (me : Me (List (Given V)) (SeatView V)) (i : ℕ) (f : ℕ → ℕ) (then : ℕ → Me (List (Given V)) (List Note) → Type 0) → i ≢ 8 → Knows me.0.values (values_held me.1)
+    → Allows (KeepsAccounts given_parts net limit) slots id (me_of me) i f then → Allows (KeepsTable net limit) slots id me i f (StepsKnowing then me)
 steps_knowing net limit slots id me i f then apart knows allows s h sized at small =
     let t = lifted net limit slots id me i f then (λ n. []) (λ u k. record {
       after = k.values.value_at;
@@ -126,8 +126,8 @@ later_is net limit s h n past =
     omega (arith, past, sum, get_or-set_same s.words 8 ((slice_index s.words 8 + 1) % 18446744073709551616) 0 (omega (arith, h.accounts.size)))
 
 -- an entry drawn that is no End
-pub draws_knowing : {V : Type 0} (net : NetRows) (limit slots id : ℕ) (me : Me (Given V) (SeatView V)) (then : ℕ → Me (Given V) (List Note) → Type 0) → Knows me.0.values (values_held me.1)
-    → Allows (KeepsAccounts given_part net limit) slots id (me_of me) 8 (λ n. (n + 1) % 2 ^ 64) then → Allows (KeepsTable net limit) slots id me 8 (λ n. (n + 1) % 2 ^ 64) (StepsKnowing then me)
+pub draws_knowing : {V : Type 0} (net : NetRows) (limit slots id : ℕ) (me : Me (List (Given V)) (SeatView V)) (then : ℕ → Me (List (Given V)) (List Note) → Type 0) → Knows me.0.values (values_held me.1)
+    → Allows (KeepsAccounts given_parts net limit) slots id (me_of me) 8 (λ n. (n + 1) % 2 ^ 64) then → Allows (KeepsTable net limit) slots id me 8 (λ n. (n + 1) % 2 ^ 64) (StepsKnowing then me)
 draws_knowing net limit slots id me then knows allows s h sized at small =
     let t = lifted net limit slots id me 8 (λ n. (n + 1) % 2 ^ 64) then (λ n. []) (λ u k. record {
       after = k.values.value_at;
@@ -167,14 +167,14 @@ end_grown {V} net limit s h (x ∷ xs) = record {
     more_at m v is (inl same) = let none_yet : h.values.value_at m ≡ None = h.values.later m (omega (arith, same)) in absurd cc
     more_at m v is (inr other) = else_at m other ∙ is
 
-pub ends_knowing : {V : Type 0} (net : NetRows) (limit slots id : ℕ) (me : Me (Given V) (SeatView V)) (then : ℕ → Me (Given V) (List Note) → Type 0) (values : List V) → Knows me.0.values (values_held me.1)
-    → Allows (KeepsAccounts given_part net limit) slots id (me_of me) 8 (λ n. (n + 1) % 2 ^ 64) then → Allows (KeepsTable net limit) slots id me 8 (λ n. (n + 1) % 2 ^ 64) (λ n after. StepsKnowing then me n after × Knows after.0.values (drawn_values n values))
+pub ends_knowing : {V : Type 0} (net : NetRows) (limit slots id : ℕ) (me : Me (List (Given V)) (SeatView V)) (then : ℕ → Me (List (Given V)) (List Note) → Type 0) (values : List V) → Knows me.0.values (values_held me.1)
+    → Allows (KeepsAccounts given_parts net limit) slots id (me_of me) 8 (λ n. (n + 1) % 2 ^ 64) then → Allows (KeepsTable net limit) slots id me 8 (λ n. (n + 1) % 2 ^ 64) (λ n after. StepsKnowing then me n after × Knows after.0.values (drawn_values n values))
 ends_knowing net limit slots id me then values knows allows = lifted net limit slots id me 8 (λ n. (n + 1) % 2 ^ 64) then (λ n. drawn_values n values) (λ s h. end_grown net limit s h values) knows allows
 
 -- SPLIT
-pub split_knowing : {V : Type 0} (net : NetRows) (limit id : ℕ) (v : SeatView V) (left right : List Note → List Note) → Splits (KeepsAccounts (given_part {V = V}) net limit) id v.notes (left v.notes) (right v.notes) → Splits (KeepsTable net limit) id v (with_notes left v) (with_notes right v)
+pub split_knowing : {V : Type 0} (net : NetRows) (limit id : ℕ) (v : SeatView V) (left right : List Note → List Note) → Splits (KeepsAccounts (given_parts {V = V}) net limit) id v.notes (left v.notes) (right v.notes) → Splits (KeepsTable net limit) id v (with_notes left v) (with_notes right v)
 split_knowing {V} net limit id v left right splits s h at = record {
-  accounts = subst (λ (views : List (List Note)). KeepsAccounts (given_part {V = V}) net limit (record { words = s.words; homes = s.homes; views = views })) (sym alone) (splits (notes_alone s) h.accounts (at_map (λ (u : SeatView V). u.notes) s.views id v at));
+  accounts = subst (λ (views : List (List Note)). KeepsAccounts (given_parts {V = V}) net limit (record { words = s.words; homes = s.homes; views = views })) (sym alone) (splits (notes_alone s) h.accounts (at_map (λ (u : SeatView V). u.notes) s.views id v at));
   values = record {
     value_at = h.values.value_at;
     views = λ j u there. by_last j u (at_snoc (set s.views id (with_notes left v)) (with_notes right v) u j there);
@@ -198,10 +198,10 @@ split_knowing {V} net limit id v left right splits s h at = record {
     by_last j u (inr is) = subst (λ (w : SeatView V). AreValues h.values.value_at w.values) is known
 
 -- JOIN
-pub join_knowing : {V : Type 0} (net : NetRows) (limit id : ℕ) (v : SeatView V) (other : ℕ) (w : SeatView V) (both : List Note → List Note → List Note) → Joins (KeepsAccounts (given_part {V = V}) net limit) id v.notes other w.notes (both v.notes w.notes) []
+pub join_knowing : {V : Type 0} (net : NetRows) (limit id : ℕ) (v : SeatView V) (other : ℕ) (w : SeatView V) (both : List Note → List Note → List Note) → Joins (KeepsAccounts (given_parts {V = V}) net limit) id v.notes other w.notes (both v.notes w.notes) []
     → Joins (KeepsTable net limit) id v other w (both_views both v w) nothing_known
 join_knowing {V} net limit id v other w both joins s h at apart there = record {
-  accounts = subst (λ (views : List (List Note)). KeepsAccounts (given_part {V = V}) net limit (record { words = s.words; homes = s.homes; views = views })) (sym alone)
+  accounts = subst (λ (views : List (List Note)). KeepsAccounts (given_parts {V = V}) net limit (record { words = s.words; homes = s.homes; views = views })) (sym alone)
       (joins (notes_alone s) h.accounts (at_map (λ (u : SeatView V). u.notes) s.views id v at) apart (ap (λ l. get_elem? l other) (sym first_alone) ∙ at_map (λ (u : SeatView V). u.notes) first other w there));
   values = record {
     value_at = h.values.value_at;
@@ -240,12 +240,12 @@ both_empty : {A : Type 0} (xs ys : List A) → xs ++ ys ≡ [] → (xs ≡ []) �
 both_empty [] ys is = (refl, is)
 both_empty (x ∷ xs) ys is = absurd cc
 
-no_value : {V : Type 0} (parcels : List (Given V)) (e : ℕ) (y : Given V) → values_in parcels ≡ [] → get_elem? (map some parcels) e ≡ some (some y) → given_values y ≡ []
+no_value : {V : Type 0} (parcels : List (List (Given V))) (e : ℕ) (y : List (Given V)) → flat_map values_in parcels ≡ [] → get_elem? (map some parcels) e ≡ some (some y) → values_in y ≡ []
 no_value [] e y none_there at = absurd (some-ne-none (some y) (sym at))
-no_value (x ∷ xs) zero y none_there at = ap given_values (sym (some-injective x y (some-injective (some x) (some y) at))) ∙ (both_empty (given_values x) (values_in xs) none_there).0
-no_value (x ∷ xs) (suc e) y none_there at = no_value xs e y (both_empty (given_values x) (values_in xs) none_there).1 at
+no_value (x ∷ xs) zero y none_there at = ap values_in (sym (some-injective x y (some-injective (some x) (some y) at))) ∙ (both_empty (values_in x) (flat_map values_in xs) none_there).0
+no_value (x ∷ xs) (suc e) y none_there at = no_value xs e y (both_empty (values_in x) (flat_map values_in xs) none_there).1 at
 
-pub opens_knowing : {V : Type 0} (net : NetRows) (limit : ℕ) (words : List ℕ) (parcels : List (Given V)) (notes : List Note) → KeepsAccounts given_part net limit (opening words parcels notes) → values_in parcels ≡ [] → KeepsTable net limit (opening words parcels (record { notes = notes; values = [] }))
+pub opens_knowing : {V : Type 0} (net : NetRows) (limit : ℕ) (words : List ℕ) (parcels : List (List (Given V))) (notes : List Note) → KeepsAccounts given_parts net limit (opening words parcels notes) → flat_map values_in parcels ≡ [] → KeepsTable net limit (opening words parcels (record { notes = notes; values = [] }))
 opens_knowing {V} net limit words parcels notes accounts none_there = record {
   accounts = accounts;
   values = record {

@@ -9,6 +9,7 @@ use Rattle.table_steps.specs.declared.view.EndValue.{EndValue}
 use Rattle.table_steps.specs.declared.view.SeatView.{SeatView}
 use Rattle.table_steps.specs.Values.{given_values, values_in, AreValues, Knows, HaveOneValueEach}
 use Rattle.table_steps.specs.inside.SeatViews.{values_held, both_views}
+use Rattle.table_steps.specs.inside.SlotKinds.{IsOldest}
 
 module _ {V : Type 0} where
   pub are_both : (value_at : ℕ → Option V) (xs ys : List (EndValue V)) → AreValues value_at xs → AreValues value_at ys → AreValues value_at (xs ++ ys)
@@ -64,20 +65,30 @@ module _ {V : Type 0} where
   pub knows_more : (known : List (EndValue V)) (parcels : List (Given V)) (parcel : Given V) → Knows known (values_in parcels) → Knows known (given_values parcel) → Knows known (values_in (parcels ++ parcel ∷ []))
   knows_more known parcels parcel before new = subst (Knows known) (sym (flat_map-append given_values parcels (parcel ∷ []))) (knows_both known (values_in parcels) (values_in (parcel ∷ [])) before (knows_both known (given_values parcel) [] new (knows_none known)))
 
-  pub knows_held : (known : List (EndValue V)) (slots : List (ℕ × Given V)) (edge : ℕ) (lay : Given V) → slots ≡ (edge, lay) ∷ rest slots → Knows known (values_held slots) → Knows known (given_values lay)
-  knows_held known slots edge lay is held = knows_front known (given_values lay) (values_held (rest slots)) (subst (λ (l : List (ℕ × Given V)). Knows known (values_held l)) is held)
+  -- those of two lists
+  pub knows_appended : (known : List (EndValue V)) (parcels more : List (Given V)) → Knows known (values_in parcels) → Knows known (values_in more) → Knows known (values_in (parcels ++ more))
+  knows_appended known parcels more before new = subst (Knows known) (sym (flat_map-append given_values parcels more)) (knows_both known (values_in parcels) (values_in more) before new)
 
-  pub knows_exchanged : (me me' : Me (Given V) (SeatView V)) (edge : ℕ) (lay parcel : Given V) → me.1 ≡ (edge, lay) ∷ rest me.1 → me' ≡ (me.0, (edge, parcel) ∷ rest me.1) → Knows me.0.values (values_held me.1) → Knows me.0.values (given_values parcel) → Knows me'.0.values (values_held me'.1)
-  knows_exchanged me me' edge lay parcel is after held new = let known = me.0.values in let others = values_held (rest me.1) in
-      subst (λ (m : Me (Given V) (SeatView V)). Knows m.0.values (values_held m.1)) (sym after)
-      (knows_both known (given_values parcel) others new (knows_back known (given_values lay) others (subst (λ (l : List (ℕ × Given V)). Knows known (values_held l)) is held)))
+  -- the oldest of a list, and the others
+  pub knows_oldest : (known : List (EndValue V)) (parcels : List (Given V)) (given : Given V) (others : List (Given V)) → IsOldest parcels given others → Knows known (values_in parcels) → Knows known (given_values given) × Knows known (values_in others)
+  knows_oldest known [] given others is known_all = (subst (λ g. Knows known (given_values g)) (sym is.0) (knows_none known), subst (λ (l : List (Given V)). Knows known (values_in l)) (sym is.1) (knows_none known))
+  knows_oldest known (y ∷ ys) given others is known_all =
+      (subst (λ g. Knows known (given_values g)) (sym is.0) (knows_front known (given_values y) (values_in ys) known_all), subst (λ (l : List (Given V)). Knows known (values_in l)) (sym is.1) (knows_back known (given_values y) (values_in ys) known_all))
+
+  pub knows_held : (known : List (EndValue V)) (slots : List (ℕ × List (Given V))) (edge : ℕ) (lay : List (Given V)) → slots ≡ (edge, lay) ∷ rest slots → Knows known (values_held slots) → Knows known (values_in lay)
+  knows_held known slots edge lay is held = knows_front known (values_in lay) (values_held (rest slots)) (subst (λ (l : List (ℕ × List (Given V))). Knows known (values_held l)) is held)
+
+  pub knows_exchanged : (me me' : Me (List (Given V)) (SeatView V)) (edge : ℕ) (lay parcels : List (Given V)) → me.1 ≡ (edge, lay) ∷ rest me.1 → me' ≡ (me.0, (edge, parcels) ∷ rest me.1) → Knows me.0.values (values_held me.1) → Knows me.0.values (values_in parcels) → Knows me'.0.values (values_held me'.1)
+  knows_exchanged me me' edge lay parcels is after held new = let known = me.0.values in let others = values_held (rest me.1) in
+      subst (λ (m : Me (List (Given V)) (SeatView V)). Knows m.0.values (values_held m.1)) (sym after)
+      (knows_both known (values_in parcels) others new (knows_back known (values_in lay) others (subst (λ (l : List (ℕ × List (Given V))). Knows known (values_held l)) is held)))
 
   -- A JOIN
-  pub knows_joined : (me me' : Me (Given V) (SeatView V)) (w : SeatView V) (both : List Note → List Note → List Note) → me' ≡ (both_views both me.0 w, me.1) → Knows me.0.values (values_held me.1) → Knows me'.0.values (values_held me'.1)
+  pub knows_joined : (me me' : Me (List (Given V)) (SeatView V)) (w : SeatView V) (both : List Note → List Note → List Note) → me' ≡ (both_views both me.0 w, me.1) → Knows me.0.values (values_held me.1) → Knows me'.0.values (values_held me'.1)
   knows_joined me me' w both after held = let all = w.values ++ me.0.values in
-      subst (λ (m : Me (Given V) (SeatView V)). Knows m.0.values (values_held m.1)) (sym after) (knows_again all me.0.values (values_held me.1) (knows_back all w.values me.0.values (knows_self all)) held)
+      subst (λ (m : Me (List (Given V)) (SeatView V)). Knows m.0.values (values_held m.1)) (sym after) (knows_again all me.0.values (values_held me.1) (knows_back all w.values me.0.values (knows_self all)) held)
 
-  pub knows_two : (me me' : Me (Given V) (SeatView V)) (w : SeatView V) (both : List Note → List Note → List Note) (xs ys : List (EndValue V)) → me' ≡ (both_views both me.0 w, me.1) → me.0.values ≡ xs → w.values ≡ ys → Knows me'.0.values xs × Knows me'.0.values ys
+  pub knows_two : (me me' : Me (List (Given V)) (SeatView V)) (w : SeatView V) (both : List Note → List Note → List Note) (xs ys : List (EndValue V)) → me' ≡ (both_views both me.0 w, me.1) → me.0.values ≡ xs → w.values ≡ ys → Knows me'.0.values xs × Knows me'.0.values ys
   knows_two me me' w both xs ys after first second = let all = w.values ++ me.0.values in
-      subst (λ (m : Me (Given V) (SeatView V)). Knows m.0.values xs × Knows m.0.values ys) (sym after)
+      subst (λ (m : Me (List (Given V)) (SeatView V)). Knows m.0.values xs × Knows m.0.values ys) (sym after)
       (subst (Knows all) first (knows_back all w.values me.0.values (knows_self all)), subst (Knows all) second (knows_front all w.values me.0.values (knows_self all)))

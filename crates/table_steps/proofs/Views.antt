@@ -17,7 +17,7 @@ use Rattle.table_steps.specs.declared.view.SemaphoreRole.{SemaphoreRole}
 use Rattle.table_steps.specs.declared.view.SemaphoreRole.TheVariants.{Held, Undo, Owed, Both, Credit, Credited, Claim, Granted, Refusing, Denied, Full}
 use Rattle.table_steps.specs.declared.view.SeatMark.TheVariants.{Live, New, Over, ToMark, Halted, Alone, Quiet, Sticking, Asked}
 use Rattle.table_steps.specs.declared.view.Note.{Note}
-use Rattle.table_steps.specs.declared.view.Note.TheVariants.{Duty, Sems, Has, Unfit, Lies}
+use Rattle.table_steps.specs.declared.view.Note.TheVariants.{Duty, Sems, Has, Unfit, Lies, Queued}
 use Rattle.table_steps.specs.inside.Accounts.{Coord, sem, mark, busy, resting, telling, weight, weigh, total, Stands, AllStand, ViewPart, StuckPart}
 use Rattle.table_steps.proofs.Totals.{total_set, total_swap, weigh_append}
 use Rattle.table_steps.proofs.Journals.{over_longer}
@@ -87,6 +87,7 @@ longer net journal x (n ∷ ns) h = (one n h.0, longer net journal x ns h.1)
     one (Has Asked) h = tt
     one (Unfit s n t) h = (start_longer journal x n t h.0, over_longer net journal x s n t h.1)
     one (Lies k e p) h = tt
+    one (Queued q qs) h = tt
 
 pub stand_left : (net : NetRows) (journal : List Entry) (xs ys : List Note) → AllStand net journal (xs ++ ys) → AllStand net journal xs × AllStand net journal ys
 stand_left net journal [] ys h = (tt, h)
@@ -127,6 +128,7 @@ quiet_rests (x ∷ xs) = omega (arith, one x, quiet_rests xs)
     one (Has Asked) = omega arith
     one (Unfit s n t) = omega arith
     one (Lies k e p) = omega arith
+    one (Queued q qs) = omega arith
 
 pub sticking_rests : (v : List Note) → weigh (mark Sticking) v ≤ weigh resting v
 sticking_rests [] = omega arith
@@ -149,6 +151,7 @@ sticking_rests (x ∷ xs) = omega (arith, one x, sticking_rests xs)
     one (Has Asked) = omega arith
     one (Unfit s n t) = omega arith
     one (Lies k e p) = omega arith
+    one (Queued q qs) = omega arith
 
 pub full_rests_too : (s : ℕ) (v : List Note) → weigh (sem Full s) v ≤ weigh resting v
 full_rests_too s [] = omega arith
@@ -170,6 +173,7 @@ full_rests_too s (x ∷ xs) = omega (arith, one x, full_rests_too s xs)
     one (Has m) = omega arith
     one (Unfit z n t) = omega arith
     one (Lies k e p) = omega arith
+    one (Queued q qs) = omega arith
 
 -- what a step makes of its seat's own view
 pub record OwnView (net : NetRows) (journal : List Entry) (T : Coord → ℕ) (id : ℕ) (old new rest : List Note) : Type 0 where

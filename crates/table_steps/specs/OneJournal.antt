@@ -38,8 +38,8 @@ pub record AreOneJournal (net : NetRows) (limit n : ℕ) (entries : List (ℕ ×
   pub once : (m : ℕ) → m < n → count_by (λ (e : ℕ × Entry). e.0 == m) entries ≡ 1
 
 -- how many entries were drawn, as the clock says, and those that the seats have
-abbrev pub drawn_count : {V : Type 0} → State (Given V) (SeatView V) → ℕ
+abbrev pub drawn_count : {V : Type 0} → State (List (Given V)) (SeatView V) → ℕ
 drawn_count s = slice_index s.words 8
 
-abbrev pub seats_entries : {V : Type 0} → State (Given V) (SeatView V) → List (ℕ × Entry)
+abbrev pub seats_entries : {V : Type 0} → State (List (Given V)) (SeatView V) → List (ℕ × Entry)
 seats_entries {V} s = flat_map (λ (v : SeatView V). entries_in v.notes) s.views

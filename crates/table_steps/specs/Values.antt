@@ -1,5 +1,5 @@
 -- What is known of the values of Ends.
-use Rattle.std.specs.Prelude.{◌≡◌, ℕ, Option, Some, List, [], ◌∷◌, flat_map}
+use Rattle.std.specs.Prelude.{◌≡◌, ℕ, Option, Some, List, [], ◌∷◌, map, flat_map}
 use Rattle.std.specs.Arc.{arc_value}
 use Rattle.join_words.specs.declared.ins.Given.{Given}
 use Rattle.join_words.specs.declared.ins.Given.TheVariants.{Value, First as FirstToken, Nothing as NoValue}
@@ -12,6 +12,10 @@ abbrev pub given_part : {V : Type 0} → Given V → Part
 given_part (Value place shared) = From place
 given_part FirstToken = First
 given_part NoValue = Nothing
+
+-- and those of parcels
+abbrev pub given_parts : {V : Type 0} → List (Given V) → List Part
+given_parts parcels = map given_part parcels
 
 -- the End at this place has this value
 abbrev pub ended_with : {V : Type 0} → ℕ → V → List (EndValue V)

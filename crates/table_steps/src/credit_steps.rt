@@ -9,9 +9,8 @@ ghost use Rattle.table_steps.specs.inside.CreditKinds.{MayCredit, credited, MayC
 
 use crate::steps::{FIRST_UNIT, Words};
 use crate::table_seat::{NoteSeat, TableSeat};
-use crate::view::SeatView;
+use crate::view::{Parcels, SeatView};
 use atomic_table::Play;
-use join_words::Given;
 use std::marker::{Brand, PhantomData};
 
 /// A word of credits at first, so that a claim that is refused wraps nothing.
@@ -40,7 +39,7 @@ pub struct Credits<A> {
     told: PhantomData<A>,
 }
 
-impl<V, A: Claimable> Play<Given<V>, SeatView<V>> for Credits<A> {
+impl<V, A: Claimable> Play<Parcels<V>, SeatView<V>> for Credits<A> {
     ghost then = { λ _ before n after. StepsKnowing (λ k m. (m.0 ≡ credited A.sem before.0.notes) × (m.1 ≡ before.1)) before n after };
 }
 
@@ -48,13 +47,13 @@ pub struct Claims<A> {
     told: PhantomData<A>,
 }
 
-impl<V, A: Claimable> Play<Given<V>, SeatView<V>> for Claims<A> {
+impl<V, A: Claimable> Play<Parcels<V>, SeatView<V>> for Claims<A> {
     ghost then = { λ _ before n after. StepsKnowing (λ k m. (m.0 ≡ claimed A.sem k before.0.notes) × (m.1 ≡ before.1) × (k ≤ first_credit → RefusesClaim A.net A.limit A.sem before.0.notes)) before n after };
 }
 
 pub struct Unclaims;
 
-impl<V> Play<Given<V>, SeatView<V>> for Unclaims {
+impl<V> Play<Parcels<V>, SeatView<V>> for Unclaims {
     ghost then = { λ _ before n after. StepsKnowing (λ k m. (m.0 ≡ unclaimed before.0.notes) × (m.1 ≡ before.1)) before n after };
 }
 

@@ -8,9 +8,8 @@ ghost use Rattle.table_steps.specs.inside.Halts.{MayAsk, halt_read, MayFault, wi
 
 use crate::steps::{CLOCK, HALT, Words};
 use crate::table_seat::{NoteSeat, TableSeat};
-use crate::view::SeatView;
+use crate::view::{Parcels, SeatView};
 use atomic_table::Play;
-use join_words::Given;
 use journal_rules::Why;
 use std::marker::{Brand, PhantomData};
 
@@ -27,7 +26,7 @@ impl Blames for Brand {
 
 pub struct ReadsHalt;
 
-impl<V> Play<Given<V>, SeatView<V>> for ReadsHalt {
+impl<V> Play<Parcels<V>, SeatView<V>> for ReadsHalt {
     ghost then = { λ _ before n after. StepsKnowing (λ k m. (m.0 ≡ halt_read k before.0.notes) × (m.1 ≡ before.1)) before n after };
 }
 
@@ -35,19 +34,19 @@ pub struct DrawsFault<A> {
     told: PhantomData<A>,
 }
 
-impl<V, A: Blames> Play<Given<V>, SeatView<V>> for DrawsFault<A> {
+impl<V, A: Blames> Play<Parcels<V>, SeatView<V>> for DrawsFault<A> {
     ghost then = { λ _ before n after. StepsKnowing (λ k m. (m.0 ≡ with_fault_drawn A.why k before.0.notes) × (m.1 ≡ before.1)) before n after };
 }
 
 pub struct SetsHalt;
 
-impl<V> Play<Given<V>, SeatView<V>> for SetsHalt {
+impl<V> Play<Parcels<V>, SeatView<V>> for SetsHalt {
     ghost then = { λ _ before n after. StepsKnowing (λ k m. (m.0 ≡ marked before.0.notes) × (m.1 ≡ before.1)) before n after };
 }
 
 pub struct DrawsDrop;
 
-impl<V> Play<Given<V>, SeatView<V>> for DrawsDrop {
+impl<V> Play<Parcels<V>, SeatView<V>> for DrawsDrop {
     ghost then = { λ _ before n after. StepsKnowing (λ k m. (m.0 ≡ dropped k before.0.notes) × (m.1 ≡ before.1)) before n after };
 }
 

@@ -19,17 +19,20 @@
 //!
 //! # The slots
 //!
-//! Each edge has a slot, where a parcel lies (`Given` of `join_words`): what a start finds at that edge. A seat tries once
-//! to take the slot, exchanges what lies there while it holds it, and gives it back (`slot_steps.rt`). It knows by its
-//! notes what it has still to do with a parcel (`Lot`): a release that is taken up has one to fetch of each of its edges,
-//! and an end has one to deliver to each edge that it gives. A token is taken after its parcel, and given after it. Where
-//! another seat holds the slot, `Nothing` is fetched, or the parcel is dropped; on a calm edge no other seat does.
+//! Each edge has a slot, a queue of parcels: what its starts will find there (`Given` of `join_words`). A seat takes the
+//! slot, exchanges the queue for an empty one, puts a parcel behind the others or takes the oldest, exchanges again, and
+//! gives the slot back (`slot_steps.rt`). So parcels are found in the order in which they were put, each once. A seat
+//! knows by its notes what it has still to do with a parcel (`Lot`): a release that is taken up has one to fetch of each
+//! of its edges, and an end has one to deliver to each edge that it gives. A token is taken after its parcel, and given
+//! after it. A seat that finds the slot held tries again, up to a bound (`TRIES`) that is longer than a thread that was
+//! put aside waits for a processor. Only if the slot is held at each try does it give up: then `Nothing` is fetched, or
+//! the parcel is dropped. On a calm edge no other seat holds the slot.
 //!
 //! # The values of Ends
 //!
 //! An End is drawn with its value, and a seat knows the values of some Ends (`EndValue`). The rule of the table is that
-//! no End has two values: what the seats know of values, and the parcel in each slot, agree. So a seat learns a value from a parcel that it fetches, and delivers a parcel only where it knows its value
-//! (`Knows`). It forgets none: a seat that is split off knows the same values, and one that is joined with another knows
+//! no End has two values: what the seats know of values, and the parcels in each slot, agree. So a seat learns a value
+//! from a parcel that it fetches, and delivers a parcel only where it knows its value (`Knows`). It forgets none: a seat that is split off knows the same values, and one that is joined with another knows
 //! those of both. The keeper's seat, which takes in all turns, learns at each of them that it knows no two values of one End
 //! (`HaveOneValueEach`). So where a start found the value of an End, it is the value with which that End was
 //! drawn.
@@ -69,8 +72,9 @@
 //! What a seat knows is a list of notes; each account is an equation between a word, counts of the journal and
 //! totals of weights over all notes. A slot is home where its mark is clear, and else one seat holds it. The account of
 //! parcels (`SlotPart`) says of each edge: each parcel is the token with which the edge begins, or that of an end that
-//! gave it, and none is there twice; on a calm edge the last one is with the seat that owes it, in the slot, or with the
-//! seat that collects it.
+//! gave it, and none is there twice, in the slot, with the seat that holds it, or with others; they are no more than the
+//! tokens that were given. On a calm edge there is no parcel but the last one, which is with the seat that owes it, in the
+//! slot, or with the seat that collects it.
 //!
 //! # Where its definitions are
 //!
@@ -100,5 +104,5 @@ pub use opening::table_of;
 pub use steps::{FIRST_UNIT, LIVE, Words};
 pub use table_seat::TableSeat;
 pub use view::{
-    AccountsHold, EndValue, LimitedNet, Lot, Note, SeatMark, SeatView, SemaphoreRole, TurnDuty,
+    AccountsHold, EndValue, LimitedNet, Lot, Note, Parcels, SeatMark, SeatView, SemaphoreRole, TurnDuty,
 };

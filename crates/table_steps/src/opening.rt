@@ -1,14 +1,13 @@
 // A table with its first seat.
-ghost use Rattle.std.specs.Prelude.{◌≡◌, IfOk, [], length};
+ghost use Rattle.std.specs.Prelude.{◌≡◌, IfOk, [], length, flat_map};
 ghost use Rattle.std.specs.Arc.{arc_value};
 ghost use Rattle.atomic_table.specs.Table.{opening};
-ghost use Rattle.table_steps.specs.Values.{given_part, values_in};
+ghost use Rattle.table_steps.specs.Values.{given_parts, values_in};
 ghost use Rattle.table_steps.specs.inside.Accounts.{KeepsAccounts, opening_notes};
 
 use crate::table_seat::TableSeat;
-use crate::view::{AccountsHold, LimitedNet, SeatView};
+use crate::view::{AccountsHold, LimitedNet, Parcels, SeatView};
 use atomic_table::Table;
-use join_words::Given;
 use outside_io::NoMemory;
 use std::alloc::Global;
 
@@ -16,17 +15,17 @@ use std::alloc::Global;
 pub fn table_of<V: Drop>(
     alloc: Global,
     words: &[u64],
-    parcels: Vec<Given<V>>,
+    parcels: Vec<Parcels<V>>,
     limited: &LimitedNet,
 ) -> Result<
     (
-        Table<Given<V>, SeatView<V>, LimitedNet, AccountsHold, Global>,
+        Table<Parcels<V>, SeatView<V>, LimitedNet, AccountsHold, Global>,
         TableSeat<V>,
     ),
     NoMemory,
 >
-    requires accounts { KeepsAccounts given_part (arc_value limited.now.net) limited.now.limit (opening words.now parcels.items (opening_notes (arc_value limited.now.net) limited.now.limit)) }
-    requires no_values { values_in parcels.items ≡ [] }
+    requires accounts { KeepsAccounts given_parts (arc_value limited.now.net) limited.now.limit (opening words.now parcels.items (opening_notes (arc_value limited.now.net) limited.now.limit)) }
+    requires no_values { flat_map values_in parcels.items ≡ [] }
     ensures table { IfOk result (λ made. (made.0.shared.table_id.words ≡ length words.now) × (made.0.shared.key ≡ limited.now)) }
     ensures seat { IfOk result (λ made. (made.1.table_id ≡ made.0.shared.table_id) × (made.1.id ≡ 0) × (made.1.me ≡ (opening_notes (arc_value limited.now.net) limited.now.limit, []))) }
     ensures values { IfOk result (λ made. (made.1.values ≡ []) × (made.1.found ≡ [])) }

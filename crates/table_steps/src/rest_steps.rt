@@ -10,9 +10,8 @@ ghost use Rattle.table_steps.specs.inside.RestKinds.{MayPark, parked, MayHandOut
 use crate::steps::{CLOCK, FIRST_UNIT, HALT, LIVE, Words};
 use crate::table_seat::{NoteSeat, TableSeat};
 use crate::unit_steps::Semaphore;
-use crate::view::SeatView;
+use crate::view::{Parcels, SeatView};
 use atomic_table::{Join, Play, Split};
-use join_words::Given;
 use journal_rules::DropWhy;
 use std::marker::{Brand, PhantomData};
 
@@ -45,13 +44,13 @@ impl<V> Split<SeatView<V>> for DealsFromRest {
 
 pub struct ReadsLive;
 
-impl<V> Play<Given<V>, SeatView<V>> for ReadsLive {
+impl<V> Play<Parcels<V>, SeatView<V>> for ReadsLive {
     ghost then = { λ _ before n after. StepsKnowing (λ k m. (m.0 ≡ live_found k before.0.notes) × (m.1 ≡ before.1)) before n after };
 }
 
 pub struct Looks;
 
-impl<V> Play<Given<V>, SeatView<V>> for Looks {
+impl<V> Play<Parcels<V>, SeatView<V>> for Looks {
     ghost then = { λ _ before n after. StepsKnowing (λ k m. (m.0 ≡ looked k before.0.notes) × (m.1 ≡ before.1)) before n after };
 }
 
@@ -59,7 +58,7 @@ pub struct Asks<A> {
     told: PhantomData<A>,
 }
 
-impl<V, A: Semaphore> Play<Given<V>, SeatView<V>> for Asks<A> {
+impl<V, A: Semaphore> Play<Parcels<V>, SeatView<V>> for Asks<A> {
     ghost then = { λ _ before n after. StepsKnowing (λ k m. (m.0 ≡ with_unit_asked A.net A.sem k before.0.notes) × (m.1 ≡ before.1)) before n after };
 }
 
@@ -67,13 +66,13 @@ pub struct DrawsLastDrop<A> {
     told: PhantomData<A>,
 }
 
-impl<V, A: Excuses> Play<Given<V>, SeatView<V>> for DrawsLastDrop<A> {
+impl<V, A: Excuses> Play<Parcels<V>, SeatView<V>> for DrawsLastDrop<A> {
     ghost then = { λ _ before n after. StepsKnowing (λ k m. (m.0 ≡ last_dropped A.why k before.0.notes) × (m.1 ≡ before.1)) before n after };
 }
 
 pub struct Thins;
 
-impl<V> Play<Given<V>, SeatView<V>> for Thins {
+impl<V> Play<Parcels<V>, SeatView<V>> for Thins {
     ghost then = { λ _ before n after. StepsKnowing (λ k m. (m.0 ≡ left_by before.0.notes) × (m.1 ≡ before.1)) before n after };
 }
 

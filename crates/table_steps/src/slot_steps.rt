@@ -1,20 +1,53 @@
 // The kinds of step on the slots of edges, each by one seat on one word, and the exchange between them.
-ghost use Rattle.std.specs.Prelude.{◌≡◌, ◌+◌, ◌<◌, ◌∷◌, ℕ, [], length};
+ghost use Rattle.std.specs.Prelude.{◌≡◌, ◌+◌, ◌<◌, ◌∷◌, ◌↔◌, ℕ, Bool, true, false, [], length, map};
 ghost use Rattle.std.specs.Arc.{arc_value};
 ghost use Rattle.atomic_table.specs.Table.{rest};
 ghost use Rattle.table_steps.specs.inside.Accounts.{marks_from};
 ghost use Rattle.table_steps.specs.inside.SeatViews.{me_of, values_held, StepsKnowing};
-ghost use Rattle.table_steps.specs.Values.{given_part, given_values, Knows};
+ghost use Rattle.table_steps.specs.Values.{given_part, given_parts, given_values, values_in, Knows};
 ghost use Rattle.table_steps.specs.declared.view.Lot.TheVariants.{Ours, Putting, Put, Awaited, Taking, Fetched};
 ghost use Rattle.table_steps.specs.inside.Slots.{lot, slot_weigh, relot};
-ghost use Rattle.table_steps.specs.inside.SlotKinds.{MayTryPut, put_tried, MayTryTake, HoldsIf, TookSlot, lot_part, HoldsSlot, MayPutBack, put_laid, MayTakeBack, take_laid};
+ghost use Rattle.table_steps.specs.inside.SlotKinds.{MayTryPut, MayTryTake, MayTry, TriedSlot, lot_part, HoldsSlot, MayPutBack, put_laid, MayTakeBack, take_laid, IsOldest};
 
 use crate::steps::Words;
 use crate::table_seat::{NoteSeat, TableSeat};
-use crate::view::SeatView;
+use crate::view::{Parcels, SeatView};
 use atomic_table::Play;
 use join_words::Given;
+use std::collections::LinkedList;
+use std::hint::spin_loop;
 use std::marker::{Brand, PhantomData};
+
+// How often a seat tries again for a slot that another seat holds, which does so for a few instructions: for longer than
+// a thread that was put aside has to wait for a processor.
+const TRIES: u32 = 1_000_000;
+
+/// A try for the slot of an edge: to put a parcel there, or to take one; and whether it is the last.
+pub trait SlotTry {
+    ghost edge: { ℕ };
+
+    ghost puts: { Bool };
+
+    ghost last: { Bool };
+}
+
+impl SlotTry for Brand {
+    ghost use Rattle.std.specs.Prelude.{false};
+
+    ghost edge = { 0 };
+
+    ghost puts = { false };
+
+    ghost last = { false };
+}
+
+pub struct TriesSlot<A> {
+    told: PhantomData<A>,
+}
+
+impl<V, A: SlotTry> Play<Parcels<V>, SeatView<V>> for TriesSlot<A> {
+    ghost then = { λ _ before n after. StepsKnowing (λ k m. TriedSlot given_parts A.last A.puts A.edge k (me_of before) m) before n after };
+}
 
 /// Of which edge a slot is.
 pub trait Edged {
@@ -25,35 +58,19 @@ impl Edged for Brand {
     ghost edge = { 0 };
 }
 
-pub struct TriesPut<A> {
-    told: PhantomData<A>,
-}
-
-impl<V, A: Edged> Play<Given<V>, SeatView<V>> for TriesPut<A> {
-    ghost then = { λ _ before n after. StepsKnowing (λ k m. (m.0 ≡ put_tried A.edge k before.0.notes) × HoldsIf A.edge k before.1 m.1) before n after };
-}
-
-pub struct TriesTake<A> {
-    told: PhantomData<A>,
-}
-
-impl<V, A: Edged> Play<Given<V>, SeatView<V>> for TriesTake<A> {
-    ghost then = { λ _ before n after. StepsKnowing (λ k m. TookSlot given_part A.edge k (me_of before) m) before n after };
-}
-
 pub struct PutsDown<A> {
     told: PhantomData<A>,
 }
 
-impl<V, A: Edged> Play<Given<V>, SeatView<V>> for PutsDown<A> {
+impl<V, A: Edged> Play<Parcels<V>, SeatView<V>> for PutsDown<A> {
     ghost then = { λ _ before n after. StepsKnowing (λ k m. (m.0 ≡ put_laid A.edge before.0.notes) × (m.1 ≡ rest before.1)) before n after };
 }
 
-pub struct LeavesEmpty<A> {
+pub struct LeavesLess<A> {
     told: PhantomData<A>,
 }
 
-impl<V, A: Edged> Play<Given<V>, SeatView<V>> for LeavesEmpty<A> {
+impl<V, A: Edged> Play<Parcels<V>, SeatView<V>> for LeavesLess<A> {
     ghost then = { λ _ before n after. StepsKnowing (λ k m. (m.0 ≡ take_laid A.edge before.0.notes) × (m.1 ≡ rest before.1)) before n after };
 }
 
@@ -61,91 +78,88 @@ impl<V> Words<V> {
     // The word of a slot's mark.
     fn mark_word(&self, edge: u32) -> usize
         requires { edge < length (arc_value self.now.net).edges }
-        ensures { result ≡ marks_from (arc_value self.now.net) + edge }
+        ensures word { result ≡ marks_from (arc_value self.now.net) + edge }
+        ensures in_range { result < self.now.table.shared.table_id.words }
     {
         self.first_mark() + edge as usize
     }
 
-    fn try_put_told<A: Edged>(&self, seat: &mut NoteSeat<V>, edge: u32, word: usize) -> u64
+    fn try_told<A: SlotTry>(
+        &self,
+        seat: &mut NoteSeat<V>,
+        edge: u32,
+        word: usize,
+        _puts: bool,
+        _last: bool,
+    ) -> u64
         requires table { seat.old.table_id ≡ self.now.table.shared.table_id }
-        requires ready { MayTryPut edge seat.old.me.0.notes }
+        requires ready { MayTry A.puts edge seat.old.me.0.notes }
         requires held { Knows seat.old.me.0.values (values_held seat.old.me.1) }
         requires in_range { edge < length (arc_value self.now.net).edges }
         requires word { word ≡ marks_from (arc_value self.now.net) + edge }
         requires told { A.edge ≡ edge }
         ensures table { seat.new.table_id ≡ seat.old.table_id }
-        ensures view { seat.new.me.0.notes ≡ put_tried A.edge result seat.old.me.0.notes }
-        ensures known { Knows seat.new.me.0.values seat.old.me.0.values }
-        ensures held { Knows seat.new.me.0.values (values_held seat.new.me.1) }
-        ensures slot { HoldsIf A.edge result seat.old.me.1 seat.new.me.1 }
-    {
-        self.table.shared.swap::<TriesPut<A>>(seat, word, 1)
-    }
-
-    // Tries once to take the slot of an edge, to put a parcel there, and says what its mark was: where that was 0, the
-    // seat holds the slot.
-    fn try_put(&self, seat: &mut TableSeat<V>, edge: u32) -> u64
-        requires table { seat.old.table_id ≡ self.now.table.shared.table_id }
-        requires ready { MayTryPut edge seat.old.me.0 }
-        requires in_range { edge < length (arc_value self.now.net).edges }
-        ensures table { seat.new.table_id ≡ seat.old.table_id }
-        ensures view { seat.new.me.0 ≡ put_tried edge result seat.old.me.0 }
-        ensures known { Knows seat.new.values seat.old.values }
-        ensures slot { HoldsIf edge result seat.old.me.1 seat.new.me.1 }
-        ensures found { seat.new.found ≡ seat.old.found }
-    {
-        self.try_put_told::<Brand>(&mut seat.seat, edge, self.mark_word(edge))
-    }
-
-    fn try_take_told<A: Edged>(&self, seat: &mut NoteSeat<V>, edge: u32, word: usize) -> u64
-        requires table { seat.old.table_id ≡ self.now.table.shared.table_id }
-        requires ready { MayTryTake edge seat.old.me.0.notes }
-        requires held { Knows seat.old.me.0.values (values_held seat.old.me.1) }
-        requires in_range { edge < length (arc_value self.now.net).edges }
-        requires word { word ≡ marks_from (arc_value self.now.net) + edge }
-        requires told { A.edge ≡ edge }
-        ensures table { seat.new.table_id ≡ seat.old.table_id }
-        ensures view { TookSlot given_part A.edge result (me_of seat.old.me) (me_of seat.new.me) }
+        ensures view { TriedSlot given_parts A.last A.puts A.edge result (me_of seat.old.me) (me_of seat.new.me) }
         ensures known { Knows seat.new.me.0.values seat.old.me.0.values }
         ensures held { Knows seat.new.me.0.values (values_held seat.new.me.1) }
     {
-        self.table.shared.swap::<TriesTake<A>>(seat, word, 1)
+        self.table.shared.swap::<TriesSlot<A>>(seat, word, 1)
     }
 
-    // Tries once to take the slot of an edge with the parcel that lies there, and says what its mark was: where that was
-    // 0, the seat holds the slot.
-    fn try_take(&self, seat: &mut TableSeat<V>, edge: u32) -> u64
+    // Tries once to take the slot of an edge, to put a parcel there or to take one, and says what its mark was: where
+    // that was 0, the seat holds the slot. Else nothing has changed, but after the last try: then the seat gives up.
+    fn try_slot(&self, seat: &mut TableSeat<V>, edge: u32, puts: bool, last: bool) -> u64
         requires table { seat.old.table_id ≡ self.now.table.shared.table_id }
-        requires ready { MayTryTake edge seat.old.me.0 }
+        requires ready { MayTry puts edge seat.old.me.0 }
         requires in_range { edge < length (arc_value self.now.net).edges }
         ensures table { seat.new.table_id ≡ seat.old.table_id }
-        ensures view { TookSlot given_part edge result seat.old.me seat.new.me }
+        ensures view { TriedSlot given_parts last puts edge result seat.old.me seat.new.me }
         ensures known { Knows seat.new.values seat.old.values }
         ensures found { seat.new.found ≡ seat.old.found }
     {
-        self.try_take_told::<Brand>(&mut seat.seat, edge, self.mark_word(edge))
+        self.try_told::<Brand>(&mut seat.seat, edge, self.mark_word(edge), puts, last)
+    }
+
+    // Takes the slot of an edge, to put a parcel there or to take one, and says what its mark was at the last try: where
+    // that was 0, the seat holds the slot. Else another seat held it at each of many tries, and the seat gives up.
+    fn hold_slot(&self, seat: &mut TableSeat<V>, edge: u32, puts: bool) -> u64
+        requires table { seat.old.table_id ≡ self.now.table.shared.table_id }
+        requires ready { MayTry puts edge seat.old.me.0 }
+        requires in_range { edge < length (arc_value self.now.net).edges }
+        ensures table { seat.new.table_id ≡ seat.old.table_id }
+        ensures view { TriedSlot given_parts true puts edge result seat.old.me seat.new.me }
+        ensures known { Knows seat.new.values seat.old.values }
+        ensures found { seat.new.found ≡ seat.old.found }
+    {
+        for _ in 0..TRIES {
+            if self.try_slot(seat, edge, puts, false) == 0 {
+                return 0;
+            }
+            spin_loop();
+        }
+        self.try_slot(seat, edge, puts, true)
     }
 
     // Exchanges what lies in the slot that the seat holds.
-    fn exchange(&self, seat: &mut TableSeat<V>, edge: u32, parcel: Given<V>) -> Given<V>
+    fn exchange(&self, seat: &mut TableSeat<V>, edge: u32, parcels: Parcels<V>) -> Parcels<V>
         requires table { seat.old.table_id ≡ self.now.table.shared.table_id }
         requires holds { HoldsSlot edge seat.old.me.1 }
-        requires knows { Knows seat.old.values (given_values parcel) }
+        requires knows { Knows seat.old.values (values_in parcels) }
         ensures table { seat.new.table_id ≡ seat.old.table_id }
         ensures lay { seat.old.me.1 ≡ (edge, result) ∷ rest seat.old.me.1 }
-        ensures view { seat.new.me ≡ (seat.old.me.0, (edge, parcel) ∷ rest seat.old.me.1) }
+        ensures view { seat.new.me ≡ (seat.old.me.0, (edge, parcels) ∷ rest seat.old.me.1) }
         ensures values { seat.new.values ≡ seat.old.values }
-        ensures knows_lay { Knows seat.old.values (given_values result) }
+        ensures knows_lay { Knows seat.old.values (values_in result) }
         ensures found { seat.new.found ≡ seat.old.found }
     {
         self.table
             .shared
-            .exchange(&mut seat.seat, edge as usize, parcel)
+            .exchange(&mut seat.seat, edge as usize, parcels)
     }
 
     fn put_back_told<A: Edged>(&self, seat: &mut NoteSeat<V>, edge: u32, word: usize)
         requires table { seat.old.table_id ≡ self.now.table.shared.table_id }
-        requires ready { MayPutBack given_part edge (me_of seat.old.me) }
+        requires ready { MayPutBack given_parts edge (me_of seat.old.me) }
         requires held { Knows seat.old.me.0.values (values_held seat.old.me.1) }
         requires in_range { edge < length (arc_value self.now.net).edges }
         requires word { word ≡ marks_from (arc_value self.now.net) + edge }
@@ -158,10 +172,10 @@ impl<V> Words<V> {
         self.table.shared.swap::<PutsDown<A>>(seat, word, 0);
     }
 
-    // Gives a slot back in which the seat has put its parcel.
+    // Gives a slot back in which the seat has put its parcel behind the others.
     fn put_slot_back(&self, seat: &mut TableSeat<V>, edge: u32)
         requires table { seat.old.table_id ≡ self.now.table.shared.table_id }
-        requires ready { MayPutBack given_part edge seat.old.me }
+        requires ready { MayPutBack given_parts edge seat.old.me }
         requires in_range { edge < length (arc_value self.now.net).edges }
         ensures table { seat.new.table_id ≡ seat.old.table_id }
         ensures view { (seat.new.me.0 ≡ put_laid edge seat.old.me.0) × (seat.new.me.1 ≡ rest seat.old.me.1) }
@@ -173,7 +187,7 @@ impl<V> Words<V> {
 
     fn take_back_told<A: Edged>(&self, seat: &mut NoteSeat<V>, edge: u32, word: usize)
         requires table { seat.old.table_id ≡ self.now.table.shared.table_id }
-        requires ready { MayTakeBack given_part edge (me_of seat.old.me) }
+        requires ready { MayTakeBack given_parts edge (me_of seat.old.me) }
         requires held { Knows seat.old.me.0.values (values_held seat.old.me.1) }
         requires in_range { edge < length (arc_value self.now.net).edges }
         requires word { word ≡ marks_from (arc_value self.now.net) + edge }
@@ -183,13 +197,13 @@ impl<V> Words<V> {
         ensures known { Knows seat.new.me.0.values seat.old.me.0.values }
         ensures held { Knows seat.new.me.0.values (values_held seat.new.me.1) }
     {
-        self.table.shared.swap::<LeavesEmpty<A>>(seat, word, 0);
+        self.table.shared.swap::<LeavesLess<A>>(seat, word, 0);
     }
 
-    // Gives a slot back that the seat has emptied.
+    // Gives a slot back from which the seat has taken the oldest parcel, if there was one.
     fn take_slot_back(&self, seat: &mut TableSeat<V>, edge: u32)
         requires table { seat.old.table_id ≡ self.now.table.shared.table_id }
-        requires ready { MayTakeBack given_part edge seat.old.me }
+        requires ready { MayTakeBack given_parts edge seat.old.me }
         requires in_range { edge < length (arc_value self.now.net).edges }
         ensures table { seat.new.table_id ≡ seat.old.table_id }
         ensures view { (seat.new.me.0 ≡ take_laid edge seat.old.me.0) × (seat.new.me.1 ≡ rest seat.old.me.1) }
@@ -198,9 +212,11 @@ impl<V> Words<V> {
     {
         self.take_back_told::<Brand>(&mut seat.seat, edge, self.mark_word(edge))
     }
+}
 
-    /// Takes the parcel that lies in the slot of an edge, and leaves `Nothing` there. The seat learns the value that the
-    /// parcel has. Where another seat holds the slot, it finds `Nothing`.
+impl<V: Drop> Words<V> {
+    /// Takes the oldest parcel out of the slot of an edge. The seat learns the value that the parcel has. It finds
+    /// `Nothing` where the slot is empty, and where other seats hold it at each of a million tries.
     pub fn fetch(&self, seat: &mut TableSeat<V>, edge: u32) -> Given<V>
         requires table { seat.old.table_id ≡ self.now.table.shared.table_id }
         requires home { seat.old.me.1 ≡ [] }
@@ -213,35 +229,50 @@ impl<V> Words<V> {
         ensures learnt { Knows seat.new.values (given_values result) }
         ensures found { seat.new.found ≡ seat.old.found }
     {
-        if self.try_take(seat, edge) != 0 {
+        if self.hold_slot(seat, edge, false) != 0 {
             return Given::Nothing;
         }
-        let parcel = self.exchange(seat, edge, Given::Nothing);
+        let mut parcels = self.exchange(seat, edge, LinkedList::new(self.alloc));
+        let oldest = take_oldest(&mut parcels);
+        self.exchange(seat, edge, parcels);
         self.take_slot_back(seat, edge);
-        parcel
+        oldest
     }
-}
 
-impl<V: Drop> Words<V> {
-    /// Puts a parcel into the slot of an edge, and drops what lay there. Where another seat holds the slot, the parcel is
-    /// dropped. The seat has to know that the value which the parcel has is that of its End.
-    pub fn deliver(&self, seat: &mut TableSeat<V>, edge: u32, parcel: Given<V>)
+    /// Puts a parcel, which comes as a list of one, behind the others in the slot of an edge. Where other seats hold the
+    /// slot at each of a million tries, the parcel is dropped. The seat has to know that the value which the parcel has is
+    /// that of its End. It takes no memory.
+    pub fn deliver(&self, seat: &mut TableSeat<V>, edge: u32, mut parcel: Parcels<V>)
         requires table { seat.old.table_id ≡ self.now.table.shared.table_id }
         requires home { seat.old.me.1 ≡ [] }
         requires ready { MayTryPut edge seat.old.me.0 }
         requires free { slot_weigh (lot Putting edge) seat.old.me.0 ≡ 0 }
         requires in_range { edge < length (arc_value self.now.net).edges }
-        requires parcel { given_part parcel ≡ lot_part Ours edge seat.old.me.0 }
-        requires knows { Knows seat.old.values (given_values parcel) }
+        requires parcel { given_parts parcel ≡ lot_part Ours edge seat.old.me.0 ∷ [] }
+        requires knows { Knows seat.old.values (values_in parcel) }
         ensures table { seat.new.table_id ≡ seat.old.table_id }
         ensures view { seat.new.me ≡ (relot Ours Put (λ p. p) edge seat.old.me.0, []) }
         ensures known { Knows seat.new.values seat.old.values }
         ensures found { seat.new.found ≡ seat.old.found }
     {
-        if self.try_put(seat, edge) != 0 {
+        if self.hold_slot(seat, edge, true) != 0 {
             return;
         }
-        self.exchange(seat, edge, parcel);
+        let mut parcels = self.exchange(seat, edge, LinkedList::new(self.alloc));
+        if parcels.append(&mut parcel).is_err() {
+            unreachable!()
+        }
+        self.exchange(seat, edge, parcels);
         self.put_slot_back(seat, edge);
+    }
+}
+
+// Takes the first parcel of a list, or `Nothing` where it is empty.
+fn take_oldest<V>(parcels: &mut Parcels<V>) -> Given<V>
+    ensures { IsOldest parcels.old result parcels.new }
+{
+    match parcels.pop_front() {
+        Some(parcel) => parcel,
+        None => Given::Nothing,
     }
 }

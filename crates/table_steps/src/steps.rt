@@ -10,9 +10,8 @@ ghost use Rattle.table_steps.specs.OneJournal.{entries_in, AreInOneJournal};
 ghost use Rattle.table_steps.specs.inside.Kinds.{IsTurn, MayReset, MayTakeUp, taken_up, TakesNextToken, took, OwesNext, gave, CountsNext, counted_one, AreNoneLeft, others_of, MayAdd, with_turn_added, MayDeal, dealt, kept_back, MayAdmit, admitted, MayDrawStart, with_start_drawn, MayEnd, with_end_drawn, MayLeave, left_by, IsWhole, views_joined};
 
 use crate::table_seat::{NoteSeat, TableSeat};
-use crate::view::{AccountsHold, LimitedNet, SeatView};
+use crate::view::{AccountsHold, LimitedNet, Parcels, SeatView};
 use atomic_table::{Join, Play, Split, Table};
-use join_words::Given;
 use outside_io::List;
 use std::alloc::Global;
 use std::marker::{Brand, PhantomData};
@@ -39,9 +38,11 @@ pub const FIRST_UNIT: usize = 40;
 /// The words of a table, with its net.
 #[derive(Drop)]
 pub struct Words<V> {
-    pub table: Table<Given<V>, SeatView<V>, LimitedNet, AccountsHold, Global>,
+    pub table: Table<Parcels<V>, SeatView<V>, LimitedNet, AccountsHold, Global>,
     pub net: Arc<Net>,
     pub limit: u64,
+    // For lists without a parcel, which take no memory.
+    pub alloc: Global,
     ghost same_limit: { limit ≡ table.shared.key.limit },
     ghost same_net: { arc_value net ≡ arc_value table.shared.key.net },
     ghost sized: { table.shared.table_id.words ≡ tokens_from (arc_value net) + length (arc_value net).edges + length (arc_value net).tasks },
@@ -93,7 +94,7 @@ struct Learns<A> {
     told: PhantomData<A>,
 }
 
-impl<V, A: StepFacts> Play<Given<V>, SeatView<V>> for Learns<A> {
+impl<V, A: StepFacts> Play<Parcels<V>, SeatView<V>> for Learns<A> {
     ghost then = { λ _ before n after. StepsKnowing (λ k m. (m.0 ≡ before.0.notes) × (m.1 ≡ before.1) × AllFitNotes A.net before.0.notes × (length A.net.edges < 4294967296) × AreInOneJournal A.net A.limit (entries_in before.0.notes)) before n after };
 }
 
@@ -101,13 +102,13 @@ struct TakesUp<A> {
     told: PhantomData<A>,
 }
 
-impl<V, A: StepFacts> Play<Given<V>, SeatView<V>> for TakesUp<A> {
+impl<V, A: StepFacts> Play<Parcels<V>, SeatView<V>> for TakesUp<A> {
     ghost then = { λ _ before n after. StepsKnowing (λ k m. (m.0 ≡ taken_up A.net before.0.notes) × (m.1 ≡ before.1)) before n after };
 }
 
 struct TakesOneToken;
 
-impl<V> Play<Given<V>, SeatView<V>> for TakesOneToken {
+impl<V> Play<Parcels<V>, SeatView<V>> for TakesOneToken {
     ghost then = { λ _ before n after. StepsKnowing (λ k m. (m.0 ≡ took k before.0.notes) × (m.1 ≡ before.1)) before n after };
 }
 
@@ -115,7 +116,7 @@ struct GivesOneToken<A> {
     told: PhantomData<A>,
 }
 
-impl<V, A: StepFacts> Play<Given<V>, SeatView<V>> for GivesOneToken<A> {
+impl<V, A: StepFacts> Play<Parcels<V>, SeatView<V>> for GivesOneToken<A> {
     ghost then = { λ _ before n after. StepsKnowing (λ k m. (m.0 ≡ gave A.net A.edge k before.0.notes) × (m.1 ≡ before.1)) before n after };
 }
 
@@ -123,13 +124,13 @@ struct CountsOneEdge<A> {
     told: PhantomData<A>,
 }
 
-impl<V, A: StepFacts> Play<Given<V>, SeatView<V>> for CountsOneEdge<A> {
+impl<V, A: StepFacts> Play<Parcels<V>, SeatView<V>> for CountsOneEdge<A> {
     ghost then = { λ _ before n after. StepsKnowing (λ k m. (m.0 ≡ counted_one A.task k before.0.notes) × (m.1 ≡ before.1) × (k ≡ 1 → AreNoneLeft A.task (others_of before.0.notes))) before n after };
 }
 
 struct AddsTurn;
 
-impl<V> Play<Given<V>, SeatView<V>> for AddsTurn {
+impl<V> Play<Parcels<V>, SeatView<V>> for AddsTurn {
     ghost then = { λ _ before n after. StepsKnowing (λ k m. (m.0 ≡ with_turn_added before.0.notes) × (m.1 ≡ before.1)) before n after };
 }
 
@@ -145,7 +146,7 @@ struct DrawsAdmission<A> {
     told: PhantomData<A>,
 }
 
-impl<V, A: StepFacts> Play<Given<V>, SeatView<V>> for DrawsAdmission<A> {
+impl<V, A: StepFacts> Play<Parcels<V>, SeatView<V>> for DrawsAdmission<A> {
     ghost then = { λ _ before n after. StepsKnowing (λ k m. (m.0 ≡ admitted A.limit k before.0.notes) × (m.1 ≡ before.1)) before n after };
 }
 
@@ -153,7 +154,7 @@ struct DrawsStart<A> {
     told: PhantomData<A>,
 }
 
-impl<V, A: StepFacts> Play<Given<V>, SeatView<V>> for DrawsStart<A> {
+impl<V, A: StepFacts> Play<Parcels<V>, SeatView<V>> for DrawsStart<A> {
     ghost then = { λ _ before n after. StepsKnowing (λ k m. (m.0 ≡ with_start_drawn A.net k before.0.notes) × (m.1 ≡ before.1) × IsNet A.net) before n after };
 }
 
@@ -161,7 +162,7 @@ struct DrawsEnd<A> {
     told: PhantomData<A>,
 }
 
-impl<V, A: EndFacts<V>> Play<Given<V>, SeatView<V>> for DrawsEnd<A> {
+impl<V, A: EndFacts<V>> Play<Parcels<V>, SeatView<V>> for DrawsEnd<A> {
     ghost then = { λ _ before n after. StepsKnowing (λ k m. (m.0 ≡ with_end_drawn A.gives A.inner k before.0.notes) × (m.1 ≡ before.1)) before n after × Knows after.0.values (drawn_values n A.values) };
 }
 
@@ -177,7 +178,7 @@ struct Leaves<A> {
     told: PhantomData<A>,
 }
 
-impl<V, A: StepFacts> Play<Given<V>, SeatView<V>> for Leaves<A> {
+impl<V, A: StepFacts> Play<Parcels<V>, SeatView<V>> for Leaves<A> {
     ghost then = { λ _ before n after. StepsKnowing (λ k m. (m.0 ≡ left_by before.0.notes) × (m.1 ≡ before.1) × (k ≡ 1 → IsWhole A.net A.limit m.0) × AreInOneJournal A.net A.limit (entries_in m.0)) before n after };
 }
 

@@ -1,15 +1,14 @@
 // The seat of a turn, with the numbers that its steps found.
 ghost use Rattle.std.specs.Prelude.{◌≡◌, ◌∷◌, []};
 
-use crate::view::SeatView;
+use crate::view::{Parcels, SeatView};
 use atomic_table::Seat;
 use boxcar::tag::{Names, Tag};
-use join_words::Given;
 use std::marker::Model;
 use std::mem;
 
 // A seat of the table, by which steps are made.
-pub(crate) type NoteSeat<V> = Seat<Given<V>, SeatView<V>>;
+pub(crate) type NoteSeat<V> = Seat<Parcels<V>, SeatView<V>>;
 
 /// A seat of the table with the numbers that its steps found. It has no bytes. A number is added only by the step that
 /// found it, so whoever has a seat can neither claim a number that no step found nor hide one. It knows the values of the

@@ -8,9 +8,8 @@ ghost use Rattle.table_steps.specs.inside.UnitKinds.{MayTake, took_unit, MayUndo
 
 use crate::steps::{FIRST_UNIT, Words};
 use crate::table_seat::{NoteSeat, TableSeat};
-use crate::view::SeatView;
+use crate::view::{Parcels, SeatView};
 use atomic_table::Play;
-use join_words::Given;
 use std::marker::{Brand, PhantomData};
 
 /// Of which semaphore a unit is.
@@ -32,13 +31,13 @@ pub struct TakesOneUnit<A> {
     told: PhantomData<A>,
 }
 
-impl<V, A: Semaphore> Play<Given<V>, SeatView<V>> for TakesOneUnit<A> {
+impl<V, A: Semaphore> Play<Parcels<V>, SeatView<V>> for TakesOneUnit<A> {
     ghost then = { λ _ before n after. StepsKnowing (λ k m. (m.0 ≡ took_unit A.net A.sem k before.0.notes) × (m.1 ≡ before.1)) before n after };
 }
 
 pub struct Undoes;
 
-impl<V> Play<Given<V>, SeatView<V>> for Undoes {
+impl<V> Play<Parcels<V>, SeatView<V>> for Undoes {
     ghost then = { λ _ before n after. StepsKnowing (λ k m. (m.0 ≡ undone before.0.notes) × (m.1 ≡ before.1)) before n after };
 }
 
@@ -46,7 +45,7 @@ pub struct PutsUnitBack<A> {
     told: PhantomData<A>,
 }
 
-impl<V, A: Semaphore> Play<Given<V>, SeatView<V>> for PutsUnitBack<A> {
+impl<V, A: Semaphore> Play<Parcels<V>, SeatView<V>> for PutsUnitBack<A> {
     ghost then = { λ _ before n after. StepsKnowing (λ k m. (m.0 ≡ put_back A.sem before.0.notes) × (m.1 ≡ before.1)) before n after };
 }
 
@@ -54,7 +53,7 @@ pub struct GivesUnitBack<A> {
     told: PhantomData<A>,
 }
 
-impl<V, A: Semaphore> Play<Given<V>, SeatView<V>> for GivesUnitBack<A> {
+impl<V, A: Semaphore> Play<Parcels<V>, SeatView<V>> for GivesUnitBack<A> {
     ghost then = { λ _ before n after. StepsKnowing (λ k m. (m.0 ≡ returned A.sem before.0.notes) × (m.1 ≡ before.1)) before n after };
 }
 

@@ -5,6 +5,7 @@ use atomic_table::TableRule;
 use join_words::Given;
 use journal_rules::{Cause, Entry, Part};
 use outside_io::List;
+use std::collections::LinkedList;
 use std::sync::Arc;
 use task_graph::Net;
 
@@ -74,6 +75,9 @@ pub enum SeatMark {
     Asked,
 }
 
+/// The parcels in the slot of an edge, the oldest first.
+pub type Parcels<V> = LinkedList<Given<V>>;
+
 /// What a turn has to do with the parcel of an edge.
 pub enum Lot {
     /// It owes the edge, and has the parcel still to put.
@@ -82,9 +86,9 @@ pub enum Lot {
     Putting,
     /// It owes the edge's token alone: the parcel is put, or left away.
     Put,
-    /// It has to collect from the edge, and to take its parcel first.
+    /// It has to collect from the edge, and to take a parcel first.
     Awaited,
-    /// It has taken the parcel, and holds the edge's slot.
+    /// The same, and it holds the edge's slot.
     Taking,
     /// It has taken the parcel, and the token not yet.
     Fetched,
@@ -104,6 +108,8 @@ pub enum Note {
     Unfit(u32, u64, u32),
     /// What it has to do with the parcel of this edge, and which that is.
     Lies(Lot, u32, Part),
+    /// It holds the slot of this edge, in which these parcels lay, the oldest first.
+    Queued(u32, List<Part>),
 }
 
 /// The End at this place has this value. No value of it is made.
@@ -128,7 +134,7 @@ pub struct LimitedNet {
 /// The accounts hold between any two steps, and no End has two values.
 pub struct AccountsHold;
 
-impl<V> TableRule<Given<V>, SeatView<V>, LimitedNet> for AccountsHold {
+impl<V> TableRule<Parcels<V>, SeatView<V>, LimitedNet> for AccountsHold {
     ghost use Rattle.std.specs.Prelude.{[]};
     ghost use Rattle.table_steps.specs.inside.Accounts.{opening_notes};
     ghost use Rattle.table_steps.specs.inside.ValueAccounts.{KeepsTable};

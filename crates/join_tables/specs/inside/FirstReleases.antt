@@ -13,7 +13,7 @@ use Rattle.table_steps.specs.declared.view.Note.{Note}
 use Rattle.table_steps.specs.declared.view.Note.TheVariants.{Duty, Has}
 use Rattle.table_steps.specs.declared.view.TurnDuty.{TurnDuty}
 use Rattle.table_steps.specs.declared.view.TurnDuty.TheVariants.{Fresh}
-use Rattle.table_steps.specs.inside.Opening.{count_without_token, is_empty, source_duties, full_duties, first_part}
+use Rattle.table_steps.specs.inside.Opening.{count_without_token, is_empty, source_duties, full_duties, first_queue}
 use Rattle.journal_rules.specs.SemaphoreRule.{max_of}
 use Rattle.table_steps.specs.inside.Accounts.{mark, busy, resting, weigh, marks_from, tokens_from}
 use Rattle.table_steps.specs.Credits.{first_credit}
@@ -63,9 +63,9 @@ pub record AreOpeningWords (net : NetRows) (live : ℕ) (words : List ℕ) : Typ
   pub each : (k : ℕ) → k < length words → slice_index words k ≡ opening_word net live k
 
 -- what lies in the slots at first
-pub record AreFirstParcels (net : NetRows) (parcels : List Part) : Type 0 where
+pub record AreFirstParcels (net : NetRows) (parcels : List (List Part)) : Type 0 where
   pub count : length parcels ≡ length net.edges
-  pub each : (e : ℕ) → e < length parcels → slice_get parcels e ≡ Some (first_part net e)
+  pub each : (e : ℕ) → e < length parcels → slice_get parcels e ≡ Some (first_queue net e)
 
 -- the keeper's seat has a release to deal out next
 abbrev pub DealsFirst : ℕ → Cause → List Note → Type 0

@@ -307,8 +307,8 @@ pub record ViewPart (net : NetRows) (journal : List Entry) (T : Coord → ℕ) (
   pub quiet : weigh (mark Quiet) v ≢ 0 → faults journal ≡ 0
   pub full : (s : ℕ) → weigh (sem Full s) v ≢ 0 → back net s journal + max_of net s ≤ taken net s journal
 
--- the rule, where a parcel that lies in a slot is found as this part
-pub record KeepsAccounts {S : Type 0} (part : S → Part) (net : NetRows) (limit : ℕ) (s : State S (List Note)) : Type 0 where
+-- the rule, where what lies in a slot is found as these parts
+pub record KeepsAccounts {S : Type 0} (parts : S → List Part) (net : NetRows) (limit : ℕ) (s : State S (List Note)) : Type 0 where
   pub fits : FitsPlan net limit
   pub size : length s.words ≡ tokens_from net + length net.edges + length net.tasks
   pub journal : List Entry
@@ -321,7 +321,7 @@ pub record KeepsAccounts {S : Type 0} (part : S → Part) (net : NetRows) (limit
   -- a slot is home where its mark is clear, and else one seat holds it
   pub homes : Homes (length net.edges) (slot_mark net s.words) s.homes (holders (λ c. slot_total c s.views))
   -- what lies in the slots, and what the seats have of it
-  pub slots : SlotPart net journal ((reading net s.words).edge) (λ c. slot_total c s.views) (label_of part s.homes)
+  pub slots : SlotPart net journal ((reading net s.words).edge) (λ c. slot_total c s.views) (label_of parts s.homes)
 
 -- each first release has a live turn
 abbrev pub first_notes : List TurnDuty → List Note

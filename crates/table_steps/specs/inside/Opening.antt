@@ -4,7 +4,7 @@ use Rattle.task_graph.specs.NetRows.{NetRows}
 use Rattle.task_graph.specs.Net.{in_edges, strong_in}
 use Rattle.journal_rules.specs.declared.entry.Cause.TheVariants.{Source, Strong}
 use Rattle.journal_rules.specs.declared.entry.Part.{Part}
-use Rattle.journal_rules.specs.declared.entry.Part.TheVariants.{First, Nothing}
+use Rattle.journal_rules.specs.declared.entry.Part.TheVariants.{First}
 use Rattle.journal_rules.specs.Counts.{first_tokens}
 use Rattle.table_steps.specs.declared.view.TurnDuty.{TurnDuty}
 use Rattle.table_steps.specs.declared.view.TurnDuty.TheVariants.{Fresh}
@@ -34,10 +34,10 @@ abbrev pub first_duties : NetRows → ℕ → ℕ → List TurnDuty
 first_duties net t zero = []
 first_duties net t (suc n) = source_duties t (is_empty (in_edges net t)) ++ full_duties t (strong_in net t) (count_without_token net (strong_in net t)) ++ first_duties net (suc t) n
 
--- the part that lies in an edge's slot at first
-abbrev pub part_of_tokens : ℕ → Part
-part_of_tokens zero = Nothing
-part_of_tokens (suc n) = First
+-- the parts that lie in an edge's slot at first
+abbrev pub parts_of_tokens : ℕ → List Part
+parts_of_tokens zero = []
+parts_of_tokens (suc n) = First ∷ []
 
-abbrev pub first_part : NetRows → ℕ → Part
-first_part net e = part_of_tokens (first_tokens net e)
+abbrev pub first_queue : NetRows → ℕ → List Part
+first_queue net e = parts_of_tokens (first_tokens net e)

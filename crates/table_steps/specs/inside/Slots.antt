@@ -1,5 +1,5 @@
 -- What the seats know of parcels, and the account of slots.
-use Rattle.std.specs.Prelude.{◌≡◌, ℕ, zero, suc, ◌+◌, ◌≤◌, ◌&&◌, ◌==◌, List, [], ◌∷◌, ◌++◌}
+use Rattle.std.specs.Prelude.{◌≡◌, ℕ, zero, suc, ◌+◌, ◌≤◌, ◌&&◌, ◌==◌, List, [], ◌∷◌, ◌++◌, length, cond}
 use Rattle.task_graph.specs.NetRows.{NetRows}
 use Rattle.journal_rules.specs.declared.entry.Part.{Part}
 use Rattle.journal_rules.specs.declared.entry.Part.TheVariants.{From, Nothing}
@@ -12,8 +12,8 @@ use Rattle.table_steps.specs.declared.view.TurnDuty.TheVariants.{Collecting, Owe
 use Rattle.table_steps.specs.declared.view.Lot.{Lot}
 use Rattle.table_steps.specs.declared.view.Lot.TheVariants.{Ours, Putting, Put, Awaited, Taking, Fetched, Found}
 use Rattle.table_steps.specs.declared.view.Note.{Note}
-use Rattle.table_steps.specs.declared.view.Note.TheVariants.{Duty, Lies}
-use Rattle.table_steps.specs.inside.Parcels.{same_part, DataPart}
+use Rattle.table_steps.specs.declared.view.Note.TheVariants.{Duty, Lies, Queued}
+use Rattle.table_steps.specs.inside.Parcels.{same_part, part_times, DataPart}
 
 -- What is counted over all seats.
 pub data SlotCoord : Type 0 where
@@ -21,6 +21,8 @@ pub data SlotCoord : Type 0 where
   parcel : ℕ → Part → SlotCoord
   -- what turns have to do with parcels of this edge
   lot : Lot → ℕ → SlotCoord
+  -- parcels that lay in the slot of this edge, which a turn holds, by a measure of lists of parts
+  queue : (List Part → ℕ) → ℕ → SlotCoord
   -- tokens of this edge that are owed, that are collected and not used, and that are still to be collected
   owed : ℕ → SlotCoord
   collected : ℕ → SlotCoord
@@ -30,6 +32,7 @@ pub data SlotCoord : Type 0 where
 abbrev pub has_parcel : Lot → ℕ → ℕ
 has_parcel Put n = 0
 has_parcel Awaited n = 0
+has_parcel Taking n = 0
 has_parcel _ n = n
 
 abbrev pub lot_weight : Lot → Lot → ℕ → ℕ
@@ -51,6 +54,7 @@ duty_slots _ _ = 0
 abbrev pub slot_weight : SlotCoord → Note → ℕ
 slot_weight (parcel e p) (Lies k f q) = has_parcel k (one_if ((f == e) && same_part q p))
 slot_weight (lot j e) (Lies k f q) = lot_weight j k (one_if (f == e))
+slot_weight (queue measure e) (Queued f qs) = cond (f == e) (measure qs) 0
 slot_weight c (Duty x) = duty_slots c x
 slot_weight _ _ = 0
 
@@ -66,26 +70,30 @@ slot_total c (v ∷ vs) = slot_weigh c v + slot_total c vs
 abbrev pub SlotMoves : (SlotCoord → ℕ) → List Note → (SlotCoord → ℕ) → List Note → Type 0
 SlotMoves T old T' new = (c : SlotCoord) → T' c + slot_weigh c old ≡ T c + slot_weigh c new
 
--- of an edge: parcels that were taken while their token is still in the word, and turns that hold its slot
-abbrev pub fetched_at : (SlotCoord → ℕ) → ℕ → ℕ
-fetched_at T e = T (lot Taking e) + T (lot Fetched e)
-
+-- turns that hold the slot of an edge
 abbrev pub holders : (SlotCoord → ℕ) → ℕ → ℕ
 holders T e = T (lot Putting e) + T (lot Taking e)
 
+-- a part in the slot of an edge, or in it when it was taken
+abbrev pub lying : (SlotCoord → ℕ) → (ℕ → List Part) → ℕ → Part → ℕ
+lying T label e p = part_times p (label e) + T (queue (part_times p) e)
+
 -- The account of slots: of each token that is owed the parcel is still to be put, or it is put; of each that is still to
--- be collected the parcel is still to be taken, or it is taken; and each that is collected has its parcel.
-pub record SlotPart (net : NetRows) (journal : List Entry) (edge : ℕ → ℕ) (T : SlotCoord → ℕ) (label : ℕ → Part) : Type 0 where
-  pub parts : DataPart net journal edge (λ e p. T (parcel e p)) (fetched_at T) (λ e. T (lot Put e)) label
+-- be collected the parcel is still to be taken, or it is taken; and each that is collected has its parcel. Who holds a
+-- slot knows what lay there. There are no more parcels than tokens were given.
+pub record SlotPart (net : NetRows) (journal : List Entry) (edge : ℕ → ℕ) (T : SlotCoord → ℕ) (label : ℕ → List Part) : Type 0 where
+  pub parts : DataPart net journal edge (λ e p. T (parcel e p)) (lying T label) (λ e. T (lot Fetched e)) (λ e. T (lot Put e))
   pub owing : (e : ℕ) → T (lot Ours e) + T (lot Putting e) + T (lot Put e) ≡ T (owed e)
   pub reached : (e : ℕ) → T (lot Awaited e) + T (lot Taking e) + T (lot Fetched e) ≡ T (left_at e)
   pub found : (e : ℕ) → T (lot Found e) ≡ T (collected e)
+  pub held : (e : ℕ) → T (queue (λ qs. 1) e) ≡ holders T e
+  pub few : (e : ℕ) → length (label e) + T (queue length e) + T (lot Ours e) + T (lot Putting e) ≤ given net e journal
 
 -- what the other accounts say of these
 pub record SlotBounds (net : NetRows) (journal : List Entry) (edge : ℕ → ℕ) (T : SlotCoord → ℕ) : Type 0 where
   pub tokens : (e : ℕ) → given net e journal ≡ used_at net e journal + edge e + (T (owed e) + T (collected e))
   pub within : (e : ℕ) → T (left_at e) ≤ edge e
-  pub each : (e : ℕ) (p : Part) → T (parcel e p) ≤ T (lot Ours e) + T (lot Putting e) + T (lot Taking e) + T (lot Fetched e) + T (lot Found e)
+  pub each : (e : ℕ) (p : Part) → T (parcel e p) ≤ T (lot Ours e) + T (lot Putting e) + T (lot Fetched e) + T (lot Found e)
 
 -- lots as notes: of a release that is taken up, of one whose tokens are collected, and of an End
 abbrev pub awaited_lots : List ℕ → List Note
@@ -110,6 +118,7 @@ abbrev pub slots_in : List Note → List Note
 slots_in [] = []
 slots_in (Duty x ∷ rest) = slots_of x ++ slots_in rest
 slots_in (Lies k e p ∷ rest) = Lies k e p ∷ slots_in rest
+slots_in (Queued e ps ∷ rest) = Queued e ps ∷ slots_in rest
 slots_in (note ∷ rest) = slots_in rest
 
 -- A step changes no lot of a turn that holds a slot.

@@ -11,6 +11,6 @@ use Rattle.table_steps.specs.declared.view.EndValue.{EndValue}
 pub record TableSeatState (V : Type 0) : Type 0 where
   pub table_id : TableId
   pub id : ℕ
-  pub me : Me (Given V) (List Note)
+  pub me : Me (List (Given V)) (List Note)
   pub values : List (EndValue V)
   pub found : List ℕ

@@ -1,12 +1,12 @@
-use Rattle.std.proofs.Common.{rules, ◌≡◌, [], ◌∷◌, ◌++◌, ap, ◌∙◌}
+use Rattle.std.proofs.Common.{rules, ◌≡◌, [], ◌∷◌, ◌++◌, flat_map, ap, ◌∙◌}
 use Rattle.std.proofs.lemmas.Grind.{flat_map-append}
-use Rattle.table_steps.specs.Values.{given_part, given_values, values_in}
-use Rattle.table_steps.specs.inside.Opening.{first_part}
+use Rattle.table_steps.specs.Values.{given_parts, values_in}
+use Rattle.table_steps.specs.inside.Opening.{first_queue}
 use Rattle.join_tables.proofs.GivenParts.{first_more}
 use Rattle.join_tables.proofs.releases.first_parcels.Goals as goal
 
 pub loop-edge-preserved : goal.loop-edge-preserved
 loop-edge-preserved g c =
-    let here : given_part c.first_parcel.result ≡ first_part c.args.net.now c.loop-edge.edge = search rules in
-    let more = first_more given_part (first_part c.args.net.now) c.loop-edge.parcels.items c.push_reserved.new.self.items c.first_parcel.result c.loop-edge.edge c.push_reserved.ensures.items c.loop-edge.invariant.0 c.loop-edge.invariant.1 here in
-    (more.0, more.1, ap values_in c.push_reserved.ensures.items ∙ flat_map-append given_values c.loop-edge.parcels.items (c.first_parcel.result ∷ []) ∙ (λ i. c.loop-edge.invariant.2 i ++ (c.first_parcel.ensures.no_value i ++ [])))
+    let here : given_parts c.first_parcel.result ≡ first_queue c.args.net.now c.loop-edge.edge = search rules in
+    let more = first_more given_parts (first_queue c.args.net.now) c.loop-edge.parcels.items c.push_reserved.new.self.items c.first_parcel.result c.loop-edge.edge c.push_reserved.ensures.items c.loop-edge.invariant.0 c.loop-edge.invariant.1 here in
+    (more.0, more.1, ap (flat_map values_in) c.push_reserved.ensures.items ∙ flat_map-append values_in c.loop-edge.parcels.items (c.first_parcel.result ∷ []) ∙ (λ i. c.loop-edge.invariant.2 i ++ (c.first_parcel.ensures.no_value i ++ [])))

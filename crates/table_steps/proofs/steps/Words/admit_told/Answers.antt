@@ -5,7 +5,7 @@ use Rattle.atomic_table.specs.Table.{Allows}
 use Rattle.table_steps.specs.inside.Accounts.{KeepsAccounts, tokens_from}
 use Rattle.table_steps.specs.inside.Kinds.{admitted}
 use Rattle.table_steps.proofs.TurnSteps.{admit_allowed}
-use Rattle.table_steps.specs.Values.{given_part}
+use Rattle.table_steps.specs.Values.{given_parts}
 use Rattle.table_steps.specs.inside.SeatViews.{me_of}
 use Rattle.table_steps.proofs.ValueSteps.{steps_knowing}
 use Rattle.table_steps.proofs.steps.Words.admit_told.Goals as goal
@@ -19,6 +19,6 @@ fetch_add-requires g c =
       search rules,
       omega (arith, sized),
       steps_knowing net limit slots id me 24 (λ k. (k + 1) % 2 ^ 64) (λ k m. (m.0 ≡ admitted g.A.StepFacts.limit k me.0.notes) × (m.1 ≡ me.1)) (λ z. omega arith) c.requires.held
-          (subst (λ (l : ℕ). Allows (KeepsAccounts given_part net limit) slots id (me_of me) 24 (λ k. (k + 1) % 2 ^ 64) (λ k m. (m.0 ≡ admitted l k me.0.notes) × (m.1 ≡ me.1))) (sym c.requires.told)
+          (subst (λ (l : ℕ). Allows (KeepsAccounts given_parts net limit) slots id (me_of me) 24 (λ k. (k + 1) % 2 ^ 64) (λ k m. (m.0 ≡ admitted l k me.0.notes) × (m.1 ≡ me.1))) (sym c.requires.told)
           (admit_allowed net limit slots id (me_of me) c.requires.ready)),
     )

@@ -6,7 +6,7 @@ use Rattle.atomic_table.specs.Table.{Allows}
 use Rattle.table_steps.specs.inside.Accounts.{KeepsAccounts, tokens_from}
 use Rattle.table_steps.specs.inside.RestKinds.{with_unit_asked, MayAskForUnit}
 use Rattle.table_steps.proofs.RestSeats.{ask_allowed}
-use Rattle.table_steps.specs.Values.{given_part}
+use Rattle.table_steps.specs.Values.{given_parts}
 use Rattle.table_steps.specs.inside.SeatViews.{me_of}
 use Rattle.table_steps.proofs.ValueSteps.{steps_knowing}
 use Rattle.table_steps.proofs.steps.Words.ask_told.Goals as goal
@@ -20,7 +20,7 @@ load-requires g c =
       search rules,
       omega (arith, c.requires.in_range, sized),
       steps_knowing net limit slots id me (40 + c.args.sem) (λ k. k) (λ k m. (m.0 ≡ with_unit_asked g.A.Semaphore.net g.A.Semaphore.sem k me.0.notes) × (m.1 ≡ me.1)) (λ z. omega arith) c.requires.held
-          (subst (λ (n : NetRows). Allows (KeepsAccounts given_part net limit) slots id (me_of me) (40 + c.args.sem) (λ k. k) (λ k m. (m.0 ≡ with_unit_asked n g.A.Semaphore.sem k me.0.notes) × (m.1 ≡ me.1))) (sym (c.requires.told.0 ∙ same))
-          (subst (λ (e : ℕ). Allows (KeepsAccounts given_part net limit) slots id (me_of me) (40 + c.args.sem) (λ k. k) (λ k m. (m.0 ≡ with_unit_asked net e k me.0.notes) × (m.1 ≡ me.1))) (sym c.requires.told.1)
+          (subst (λ (n : NetRows). Allows (KeepsAccounts given_parts net limit) slots id (me_of me) (40 + c.args.sem) (λ k. k) (λ k m. (m.0 ≡ with_unit_asked n g.A.Semaphore.sem k me.0.notes) × (m.1 ≡ me.1))) (sym (c.requires.told.0 ∙ same))
+          (subst (λ (e : ℕ). Allows (KeepsAccounts given_parts net limit) slots id (me_of me) (40 + c.args.sem) (λ k. k) (λ k m. (m.0 ≡ with_unit_asked net e k me.0.notes) × (m.1 ≡ me.1))) (sym c.requires.told.1)
           (ask_allowed net limit slots id (me_of me) c.args.sem (subst (λ (n : NetRows). MayAskForUnit n c.args.sem me.0.notes) same c.requires.ready)))),
     )

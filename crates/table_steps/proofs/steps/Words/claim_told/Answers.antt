@@ -7,7 +7,7 @@ use Rattle.table_steps.specs.Credits.{first_credit}
 use Rattle.table_steps.specs.inside.Accounts.{KeepsAccounts, tokens_from}
 use Rattle.table_steps.specs.inside.CreditKinds.{MayClaim, claimed, RefusesClaim}
 use Rattle.table_steps.proofs.CreditSeats.{claim_allowed}
-use Rattle.table_steps.specs.Values.{given_part}
+use Rattle.table_steps.specs.Values.{given_parts}
 use Rattle.table_steps.specs.inside.SeatViews.{me_of}
 use Rattle.table_steps.proofs.ValueSteps.{steps_knowing}
 use Rattle.table_steps.proofs.steps.Words.claim_told.Goals as goal
@@ -22,9 +22,9 @@ fetch_sub-requires g c =
       search rules,
       omega (arith, c.requires.in_range, c.requires.word, sized),
       steps_knowing net limit slots id me c.args.word (λ k. (k + (2 ^ 64 - 1)) % 2 ^ 64) (λ k m. (m.0 ≡ claimed g.A.Claimable.sem k me.0.notes) × (m.1 ≡ me.1) × (k ≤ first_credit → RefusesClaim g.A.Claimable.net g.A.Claimable.limit g.A.Claimable.sem me.0.notes)) (λ z. omega (arith, z, c.requires.word)) c.requires.held
-          (subst (λ (w : ℕ). Allows (KeepsAccounts given_part net limit) slots id (me_of me) w (λ k. (k + (2 ^ 64 - 1)) % 2 ^ 64) (λ k m. (m.0 ≡ claimed g.A.Claimable.sem k me.0.notes) × (m.1 ≡ me.1) × (k ≤ first_credit → RefusesClaim g.A.Claimable.net g.A.Claimable.limit g.A.Claimable.sem me.0.notes))) (sym word_is)
-          (subst (λ (n : NetRows). Allows (KeepsAccounts given_part net limit) slots id (me_of me) (40 + length net.sems + c.args.sem) (λ k. (k + (2 ^ 64 - 1)) % 2 ^ 64) (λ k m. (m.0 ≡ claimed g.A.Claimable.sem k me.0.notes) × (m.1 ≡ me.1) × (k ≤ first_credit → RefusesClaim n g.A.Claimable.limit g.A.Claimable.sem me.0.notes))) (sym (c.requires.told.0 ∙ same))
-          (subst (λ (l : ℕ). Allows (KeepsAccounts given_part net limit) slots id (me_of me) (40 + length net.sems + c.args.sem) (λ k. (k + (2 ^ 64 - 1)) % 2 ^ 64) (λ k m. (m.0 ≡ claimed g.A.Claimable.sem k me.0.notes) × (m.1 ≡ me.1) × (k ≤ first_credit → RefusesClaim net l g.A.Claimable.sem me.0.notes))) (sym c.requires.told.1)
-          (subst (λ (e : ℕ). Allows (KeepsAccounts given_part net limit) slots id (me_of me) (40 + length net.sems + c.args.sem) (λ k. (k + (2 ^ 64 - 1)) % 2 ^ 64) (λ k m. (m.0 ≡ claimed e k me.0.notes) × (m.1 ≡ me.1) × (k ≤ first_credit → RefusesClaim net limit e me.0.notes))) (sym c.requires.told.2)
+          (subst (λ (w : ℕ). Allows (KeepsAccounts given_parts net limit) slots id (me_of me) w (λ k. (k + (2 ^ 64 - 1)) % 2 ^ 64) (λ k m. (m.0 ≡ claimed g.A.Claimable.sem k me.0.notes) × (m.1 ≡ me.1) × (k ≤ first_credit → RefusesClaim g.A.Claimable.net g.A.Claimable.limit g.A.Claimable.sem me.0.notes))) (sym word_is)
+          (subst (λ (n : NetRows). Allows (KeepsAccounts given_parts net limit) slots id (me_of me) (40 + length net.sems + c.args.sem) (λ k. (k + (2 ^ 64 - 1)) % 2 ^ 64) (λ k m. (m.0 ≡ claimed g.A.Claimable.sem k me.0.notes) × (m.1 ≡ me.1) × (k ≤ first_credit → RefusesClaim n g.A.Claimable.limit g.A.Claimable.sem me.0.notes))) (sym (c.requires.told.0 ∙ same))
+          (subst (λ (l : ℕ). Allows (KeepsAccounts given_parts net limit) slots id (me_of me) (40 + length net.sems + c.args.sem) (λ k. (k + (2 ^ 64 - 1)) % 2 ^ 64) (λ k m. (m.0 ≡ claimed g.A.Claimable.sem k me.0.notes) × (m.1 ≡ me.1) × (k ≤ first_credit → RefusesClaim net l g.A.Claimable.sem me.0.notes))) (sym c.requires.told.1)
+          (subst (λ (e : ℕ). Allows (KeepsAccounts given_parts net limit) slots id (me_of me) (40 + length net.sems + c.args.sem) (λ k. (k + (2 ^ 64 - 1)) % 2 ^ 64) (λ k m. (m.0 ≡ claimed e k me.0.notes) × (m.1 ≡ me.1) × (k ≤ first_credit → RefusesClaim net limit e me.0.notes))) (sym c.requires.told.2)
           (claim_allowed net limit slots id (me_of me) c.args.sem (subst (λ (n : NetRows). MayClaim n c.args.sem me.0.notes) same c.requires.ready)))))),
     )

@@ -6,7 +6,7 @@ use Rattle.atomic_table.specs.Table.{Allows}
 use Rattle.table_steps.specs.inside.Accounts.{KeepsAccounts, tokens_from}
 use Rattle.table_steps.specs.inside.Kinds.{counted_one, CountsNext, AreNoneLeft, others_of}
 use Rattle.table_steps.proofs.TokenSteps.{count_allowed}
-use Rattle.table_steps.specs.Values.{given_part}
+use Rattle.table_steps.specs.Values.{given_parts}
 use Rattle.table_steps.specs.inside.SeatViews.{me_of}
 use Rattle.table_steps.proofs.ValueSteps.{steps_knowing}
 use Rattle.table_steps.proofs.steps.Words.count_told.Goals as goal
@@ -21,7 +21,7 @@ fetch_sub-requires g c =
       search rules,
       omega (arith, c.requires.in_range, c.requires.word, sized),
       steps_knowing net limit slots id me c.args.word (λ k. (k + (2 ^ 64 - 1)) % 2 ^ 64) (λ k m. (m.0 ≡ counted_one g.A.StepFacts.task k me.0.notes) × (m.1 ≡ me.1) × (k ≡ 1 → AreNoneLeft g.A.StepFacts.task (others_of me.0.notes))) (λ z. omega (arith, z, c.requires.word)) c.requires.held
-          (subst (λ (w : ℕ). Allows (KeepsAccounts given_part net limit) slots id (me_of me) w (λ k. (k + (2 ^ 64 - 1)) % 2 ^ 64) (λ k m. (m.0 ≡ counted_one g.A.StepFacts.task k me.0.notes) × (m.1 ≡ me.1) × (k ≡ 1 → AreNoneLeft g.A.StepFacts.task (others_of me.0.notes)))) (sym word_is)
-          (subst (λ (t : ℕ). Allows (KeepsAccounts given_part net limit) slots id (me_of me) (tokens_from net + length net.edges + c.args.task) (λ k. (k + (2 ^ 64 - 1)) % 2 ^ 64) (λ k m. (m.0 ≡ counted_one t k me.0.notes) × (m.1 ≡ me.1) × (k ≡ 1 → AreNoneLeft t (others_of me.0.notes)))) (sym c.requires.told)
+          (subst (λ (w : ℕ). Allows (KeepsAccounts given_parts net limit) slots id (me_of me) w (λ k. (k + (2 ^ 64 - 1)) % 2 ^ 64) (λ k m. (m.0 ≡ counted_one g.A.StepFacts.task k me.0.notes) × (m.1 ≡ me.1) × (k ≡ 1 → AreNoneLeft g.A.StepFacts.task (others_of me.0.notes)))) (sym word_is)
+          (subst (λ (t : ℕ). Allows (KeepsAccounts given_parts net limit) slots id (me_of me) (tokens_from net + length net.edges + c.args.task) (λ k. (k + (2 ^ 64 - 1)) % 2 ^ 64) (λ k m. (m.0 ≡ counted_one t k me.0.notes) × (m.1 ≡ me.1) × (k ≡ 1 → AreNoneLeft t (others_of me.0.notes)))) (sym c.requires.told)
           (count_allowed net limit slots id (me_of me) c.args.task c.args.edge (subst (λ (n : NetRows). CountsNext n c.args.task c.args.edge me.0.notes) same c.requires.ready)))),
     )

@@ -6,7 +6,7 @@ use Rattle.atomic_table.specs.Table.{Allows}
 use Rattle.table_steps.specs.inside.Accounts.{KeepsAccounts, tokens_from}
 use Rattle.table_steps.specs.inside.CreditKinds.{MayCredit, credited}
 use Rattle.table_steps.proofs.CreditSeats.{credit_allowed}
-use Rattle.table_steps.specs.Values.{given_part}
+use Rattle.table_steps.specs.Values.{given_parts}
 use Rattle.table_steps.specs.inside.SeatViews.{me_of}
 use Rattle.table_steps.proofs.ValueSteps.{steps_knowing}
 use Rattle.table_steps.proofs.steps.Words.credit_told.Goals as goal
@@ -21,7 +21,7 @@ fetch_add-requires g c =
       search rules,
       omega (arith, c.requires.in_range, c.requires.word, sized),
       steps_knowing net limit slots id me c.args.word (λ k. (k + 1) % 2 ^ 64) (λ k m. (m.0 ≡ credited g.A.Claimable.sem me.0.notes) × (m.1 ≡ me.1)) (λ z. omega (arith, z, c.requires.word)) c.requires.held
-          (subst (λ (w : ℕ). Allows (KeepsAccounts given_part net limit) slots id (me_of me) w (λ k. (k + 1) % 2 ^ 64) (λ k m. (m.0 ≡ credited g.A.Claimable.sem me.0.notes) × (m.1 ≡ me.1))) (sym word_is)
-          (subst (λ (e : ℕ). Allows (KeepsAccounts given_part net limit) slots id (me_of me) (40 + length net.sems + c.args.sem) (λ k. (k + 1) % 2 ^ 64) (λ k m. (m.0 ≡ credited e me.0.notes) × (m.1 ≡ me.1))) (sym c.requires.told)
+          (subst (λ (w : ℕ). Allows (KeepsAccounts given_parts net limit) slots id (me_of me) w (λ k. (k + 1) % 2 ^ 64) (λ k m. (m.0 ≡ credited g.A.Claimable.sem me.0.notes) × (m.1 ≡ me.1))) (sym word_is)
+          (subst (λ (e : ℕ). Allows (KeepsAccounts given_parts net limit) slots id (me_of me) (40 + length net.sems + c.args.sem) (λ k. (k + 1) % 2 ^ 64) (λ k m. (m.0 ≡ credited e me.0.notes) × (m.1 ≡ me.1))) (sym c.requires.told)
           (credit_allowed net limit slots id (me_of me) c.args.sem (subst (λ (n : NetRows). MayCredit n c.args.sem me.0.notes) same c.requires.ready)))),
     )

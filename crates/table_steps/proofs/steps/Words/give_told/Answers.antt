@@ -6,7 +6,7 @@ use Rattle.atomic_table.specs.Table.{Allows}
 use Rattle.table_steps.specs.inside.Accounts.{KeepsAccounts, tokens_from}
 use Rattle.table_steps.specs.inside.Kinds.{gave, OwesNext}
 use Rattle.table_steps.proofs.TokenSteps.{give_allowed}
-use Rattle.table_steps.specs.Values.{given_part}
+use Rattle.table_steps.specs.Values.{given_parts}
 use Rattle.table_steps.specs.inside.SeatViews.{me_of}
 use Rattle.table_steps.proofs.ValueSteps.{steps_knowing}
 use Rattle.table_steps.proofs.steps.Words.give_told.Goals as goal
@@ -22,8 +22,8 @@ fetch_add-requires g c =
       search rules,
       omega (arith, c.requires.in_range, found, sized),
       steps_knowing net limit slots id me c.edge_word.result (λ k. (k + 1) % 2 ^ 64) (λ k m. (m.0 ≡ gave g.A.StepFacts.net g.A.StepFacts.edge k me.0.notes) × (m.1 ≡ me.1)) (λ z. omega (arith, z, found)) c.requires.held
-          (subst (λ (w : ℕ). Allows (KeepsAccounts given_part net limit) slots id (me_of me) w (λ k. (k + 1) % 2 ^ 64) (λ k m. (m.0 ≡ gave g.A.StepFacts.net g.A.StepFacts.edge k me.0.notes) × (m.1 ≡ me.1))) (sym word_is)
-          (subst (λ (n : NetRows). Allows (KeepsAccounts given_part net limit) slots id (me_of me) (tokens_from net + c.args.edge) (λ k. (k + 1) % 2 ^ 64) (λ k m. (m.0 ≡ gave n g.A.StepFacts.edge k me.0.notes) × (m.1 ≡ me.1))) (sym (c.requires.told.0 ∙ same))
-          (subst (λ (e : ℕ). Allows (KeepsAccounts given_part net limit) slots id (me_of me) (tokens_from net + c.args.edge) (λ k. (k + 1) % 2 ^ 64) (λ k m. (m.0 ≡ gave net e k me.0.notes) × (m.1 ≡ me.1))) (sym c.requires.told.1)
+          (subst (λ (w : ℕ). Allows (KeepsAccounts given_parts net limit) slots id (me_of me) w (λ k. (k + 1) % 2 ^ 64) (λ k m. (m.0 ≡ gave g.A.StepFacts.net g.A.StepFacts.edge k me.0.notes) × (m.1 ≡ me.1))) (sym word_is)
+          (subst (λ (n : NetRows). Allows (KeepsAccounts given_parts net limit) slots id (me_of me) (tokens_from net + c.args.edge) (λ k. (k + 1) % 2 ^ 64) (λ k m. (m.0 ≡ gave n g.A.StepFacts.edge k me.0.notes) × (m.1 ≡ me.1))) (sym (c.requires.told.0 ∙ same))
+          (subst (λ (e : ℕ). Allows (KeepsAccounts given_parts net limit) slots id (me_of me) (tokens_from net + c.args.edge) (λ k. (k + 1) % 2 ^ 64) (λ k m. (m.0 ≡ gave net e k me.0.notes) × (m.1 ≡ me.1))) (sym c.requires.told.1)
           (give_allowed net limit slots id (me_of me) c.args.edge (subst (λ (n : NetRows). OwesNext n c.args.edge me.0.notes) same c.requires.ready))))),
     )

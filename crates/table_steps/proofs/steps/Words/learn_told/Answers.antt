@@ -5,7 +5,7 @@ use Rattle.task_graph.specs.NetRows.{NetRows}
 use Rattle.atomic_table.specs.Table.{Allows}
 use Rattle.table_steps.specs.inside.Accounts.{KeepsAccounts, AllFitNotes, tokens_from}
 use Rattle.table_steps.proofs.TurnSteps.{learn_allowed}
-use Rattle.table_steps.specs.Values.{given_part}
+use Rattle.table_steps.specs.Values.{given_parts}
 use Rattle.table_steps.specs.OneJournal.{entries_in, AreInOneJournal}
 use Rattle.table_steps.specs.inside.SeatViews.{me_of}
 use Rattle.table_steps.proofs.ValueSteps.{steps_knowing}
@@ -20,7 +20,7 @@ load-requires g c =
       search rules,
       omega (arith, sized),
       steps_knowing net limit slots id me 0 (λ k. k) (λ k m. (m.0 ≡ me.0.notes) × (m.1 ≡ me.1) × AllFitNotes g.A.StepFacts.net me.0.notes × (length g.A.StepFacts.net.edges < 4294967296) × AreInOneJournal g.A.StepFacts.net g.A.StepFacts.limit (entries_in me.0.notes)) (λ z. omega arith) c.requires.held
-          (subst (λ (n : NetRows). Allows (KeepsAccounts given_part net limit) slots id (me_of me) 0 (λ k. k) (λ k m. (m.0 ≡ me.0.notes) × (m.1 ≡ me.1) × AllFitNotes n me.0.notes × (length n.edges < 4294967296) × AreInOneJournal n g.A.StepFacts.limit (entries_in me.0.notes))) (sym (c.requires.told.0 ∙ same))
-          (subst (λ (l : ℕ). Allows (KeepsAccounts given_part net limit) slots id (me_of me) 0 (λ k. k) (λ k m. (m.0 ≡ me.0.notes) × (m.1 ≡ me.1) × AllFitNotes net me.0.notes × (length net.edges < 4294967296) × AreInOneJournal net l (entries_in me.0.notes))) (sym c.requires.told.1)
+          (subst (λ (n : NetRows). Allows (KeepsAccounts given_parts net limit) slots id (me_of me) 0 (λ k. k) (λ k m. (m.0 ≡ me.0.notes) × (m.1 ≡ me.1) × AllFitNotes n me.0.notes × (length n.edges < 4294967296) × AreInOneJournal n g.A.StepFacts.limit (entries_in me.0.notes))) (sym (c.requires.told.0 ∙ same))
+          (subst (λ (l : ℕ). Allows (KeepsAccounts given_parts net limit) slots id (me_of me) 0 (λ k. k) (λ k m. (m.0 ≡ me.0.notes) × (m.1 ≡ me.1) × AllFitNotes net me.0.notes × (length net.edges < 4294967296) × AreInOneJournal net l (entries_in me.0.notes))) (sym c.requires.told.1)
           (learn_allowed net limit slots id (me_of me) c.requires.ready))),
     )

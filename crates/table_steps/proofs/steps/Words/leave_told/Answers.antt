@@ -6,7 +6,7 @@ use Rattle.atomic_table.specs.Table.{Allows}
 use Rattle.table_steps.specs.inside.Accounts.{KeepsAccounts, tokens_from}
 use Rattle.table_steps.specs.inside.Kinds.{left_by, IsWhole}
 use Rattle.table_steps.proofs.Leaving.{leave_allowed}
-use Rattle.table_steps.specs.Values.{given_part}
+use Rattle.table_steps.specs.Values.{given_parts}
 use Rattle.table_steps.specs.OneJournal.{entries_in, AreInOneJournal}
 use Rattle.table_steps.specs.inside.SeatViews.{me_of}
 use Rattle.table_steps.proofs.ValueSteps.{steps_knowing}
@@ -21,7 +21,7 @@ fetch_sub-requires g c =
       search rules,
       omega (arith, sized),
       steps_knowing net limit slots id me 16 (λ k. (k + (2 ^ 64 - 1)) % 2 ^ 64) (λ k m. (m.0 ≡ left_by me.0.notes) × (m.1 ≡ me.1) × (k ≡ 1 → IsWhole g.A.StepFacts.net g.A.StepFacts.limit m.0) × AreInOneJournal g.A.StepFacts.net g.A.StepFacts.limit (entries_in m.0)) (λ z. omega arith) c.requires.held
-          (subst (λ (n : NetRows). Allows (KeepsAccounts given_part net limit) slots id (me_of me) 16 (λ k. (k + (2 ^ 64 - 1)) % 2 ^ 64) (λ k m. (m.0 ≡ left_by me.0.notes) × (m.1 ≡ me.1) × (k ≡ 1 → IsWhole n g.A.StepFacts.limit m.0) × AreInOneJournal n g.A.StepFacts.limit (entries_in m.0))) (sym (c.requires.told.0 ∙ same))
-          (subst (λ (l : ℕ). Allows (KeepsAccounts given_part net limit) slots id (me_of me) 16 (λ k. (k + (2 ^ 64 - 1)) % 2 ^ 64) (λ k m. (m.0 ≡ left_by me.0.notes) × (m.1 ≡ me.1) × (k ≡ 1 → IsWhole net l m.0) × AreInOneJournal net l (entries_in m.0))) (sym c.requires.told.1)
+          (subst (λ (n : NetRows). Allows (KeepsAccounts given_parts net limit) slots id (me_of me) 16 (λ k. (k + (2 ^ 64 - 1)) % 2 ^ 64) (λ k m. (m.0 ≡ left_by me.0.notes) × (m.1 ≡ me.1) × (k ≡ 1 → IsWhole n g.A.StepFacts.limit m.0) × AreInOneJournal n g.A.StepFacts.limit (entries_in m.0))) (sym (c.requires.told.0 ∙ same))
+          (subst (λ (l : ℕ). Allows (KeepsAccounts given_parts net limit) slots id (me_of me) 16 (λ k. (k + (2 ^ 64 - 1)) % 2 ^ 64) (λ k m. (m.0 ≡ left_by me.0.notes) × (m.1 ≡ me.1) × (k ≡ 1 → IsWhole net l m.0) × AreInOneJournal net l (entries_in m.0))) (sym c.requires.told.1)
           (leave_allowed net limit slots id (me_of me) c.requires.keeper c.requires.ready))),
     )

@@ -6,7 +6,7 @@ use Rattle.atomic_table.specs.Table.{Allows, rest}
 use Rattle.table_steps.specs.inside.Accounts.{KeepsAccounts, tokens_from, marks_from}
 use Rattle.table_steps.specs.inside.SlotKinds.{put_laid}
 use Rattle.table_steps.proofs.SlotSeats.{put_back_allowed}
-use Rattle.table_steps.specs.Values.{given_part}
+use Rattle.table_steps.specs.Values.{given_parts}
 use Rattle.table_steps.specs.inside.SeatViews.{me_of}
 use Rattle.table_steps.proofs.ValueSteps.{steps_knowing}
 use Rattle.table_steps.proofs.steps.Words.put_back_told.Goals as goal
@@ -22,7 +22,7 @@ swap-requires g c =
       search rules,
       omega (arith, c.requires.in_range, c.requires.word, sized),
       steps_knowing net limit slots id me c.args.word (λ _. 0) (λ k m. (m.0 ≡ put_laid g.A.Edged.edge me.0.notes) × (m.1 ≡ rest me.1)) (λ z. omega (arith, z, c.requires.word)) c.requires.held
-          (subst (λ (w : ℕ). Allows (KeepsAccounts given_part net limit) slots id (me_of me) w (λ _. 0) (λ k m. (m.0 ≡ put_laid g.A.Edged.edge me.0.notes) × (m.1 ≡ rest me.1))) (sym word_is)
-          (subst (λ (e : ℕ). Allows (KeepsAccounts given_part net limit) slots id (me_of me) (marks_from net + c.args.edge) (λ _. 0) (λ k m. (m.0 ≡ put_laid e me.0.notes) × (m.1 ≡ rest me.1))) (sym c.requires.told)
+          (subst (λ (w : ℕ). Allows (KeepsAccounts given_parts net limit) slots id (me_of me) w (λ _. 0) (λ k m. (m.0 ≡ put_laid g.A.Edged.edge me.0.notes) × (m.1 ≡ rest me.1))) (sym word_is)
+          (subst (λ (e : ℕ). Allows (KeepsAccounts given_parts net limit) slots id (me_of me) (marks_from net + c.args.edge) (λ _. 0) (λ k m. (m.0 ≡ put_laid e me.0.notes) × (m.1 ≡ rest me.1))) (sym c.requires.told)
           (put_back_allowed net limit slots id (me_of me) c.args.edge below c.requires.ready))),
     )

@@ -7,7 +7,7 @@ use Rattle.atomic_table.specs.Table.{Allows}
 use Rattle.table_steps.specs.inside.Accounts.{KeepsAccounts, tokens_from}
 use Rattle.table_steps.specs.inside.Kinds.{taken_up, MayReset}
 use Rattle.table_steps.proofs.TokenSteps.{reset_allowed}
-use Rattle.table_steps.specs.Values.{given_part}
+use Rattle.table_steps.specs.Values.{given_parts}
 use Rattle.table_steps.specs.inside.SeatViews.{me_of}
 use Rattle.table_steps.proofs.ValueSteps.{steps_knowing}
 use Rattle.table_steps.proofs.steps.Words.reset_told.Goals as goal
@@ -23,8 +23,8 @@ fetch_add-requires g c =
       search rules,
       omega (arith, c.requires.in_range, c.requires.word, sized),
       steps_knowing net limit slots id me c.args.word (λ k. (k + c.args.edges) % 2 ^ 64) (λ k m. (m.0 ≡ taken_up g.A.StepFacts.net me.0.notes) × (m.1 ≡ me.1)) (λ z. omega (arith, z, c.requires.word)) c.requires.held
-          (subst (λ (w : ℕ). Allows (KeepsAccounts given_part net limit) slots id (me_of me) w (λ k. (k + c.args.edges) % 2 ^ 64) (λ k m. (m.0 ≡ taken_up g.A.StepFacts.net me.0.notes) × (m.1 ≡ me.1))) (sym word_is)
-          (subst (λ (q : ℕ). Allows (KeepsAccounts given_part net limit) slots id (me_of me) (tokens_from net + length net.edges + c.args.task) (λ k. (k + q) % 2 ^ 64) (λ k m. (m.0 ≡ taken_up g.A.StepFacts.net me.0.notes) × (m.1 ≡ me.1))) (sym edges_are)
-          (subst (λ (n : NetRows). Allows (KeepsAccounts given_part net limit) slots id (me_of me) (tokens_from net + length net.edges + c.args.task) (λ k. (k + length (strong_in net c.args.task)) % 2 ^ 64) (λ k m. (m.0 ≡ taken_up n me.0.notes) × (m.1 ≡ me.1))) (sym (c.requires.told ∙ same))
+          (subst (λ (w : ℕ). Allows (KeepsAccounts given_parts net limit) slots id (me_of me) w (λ k. (k + c.args.edges) % 2 ^ 64) (λ k m. (m.0 ≡ taken_up g.A.StepFacts.net me.0.notes) × (m.1 ≡ me.1))) (sym word_is)
+          (subst (λ (q : ℕ). Allows (KeepsAccounts given_parts net limit) slots id (me_of me) (tokens_from net + length net.edges + c.args.task) (λ k. (k + q) % 2 ^ 64) (λ k m. (m.0 ≡ taken_up g.A.StepFacts.net me.0.notes) × (m.1 ≡ me.1))) (sym edges_are)
+          (subst (λ (n : NetRows). Allows (KeepsAccounts given_parts net limit) slots id (me_of me) (tokens_from net + length net.edges + c.args.task) (λ k. (k + length (strong_in net c.args.task)) % 2 ^ 64) (λ k m. (m.0 ≡ taken_up n me.0.notes) × (m.1 ≡ me.1))) (sym (c.requires.told ∙ same))
           (reset_allowed net limit slots id (me_of me) c.args.task (subst (λ (n : NetRows). MayReset n c.args.task me.0.notes) same c.requires.ready))))),
     )

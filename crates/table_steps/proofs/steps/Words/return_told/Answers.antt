@@ -6,7 +6,7 @@ use Rattle.atomic_table.specs.Table.{Allows}
 use Rattle.table_steps.specs.inside.Accounts.{KeepsAccounts, tokens_from}
 use Rattle.table_steps.specs.inside.UnitKinds.{returned, MayReturn}
 use Rattle.table_steps.proofs.UnitSeats.{return_allowed}
-use Rattle.table_steps.specs.Values.{given_part}
+use Rattle.table_steps.specs.Values.{given_parts}
 use Rattle.table_steps.specs.inside.SeatViews.{me_of}
 use Rattle.table_steps.proofs.ValueSteps.{steps_knowing}
 use Rattle.table_steps.proofs.steps.Words.return_told.Goals as goal
@@ -20,6 +20,6 @@ fetch_sub-requires g c =
       search rules,
       omega (arith, c.requires.in_range, sized),
       steps_knowing net limit slots id me (40 + c.args.sem) (λ k. (k + (2 ^ 64 - 1)) % 2 ^ 64) (λ k m. (m.0 ≡ returned g.A.Semaphore.sem me.0.notes) × (m.1 ≡ me.1)) (λ z. omega arith) c.requires.held
-          (subst (λ (e : ℕ). Allows (KeepsAccounts given_part net limit) slots id (me_of me) (40 + c.args.sem) (λ k. (k + (2 ^ 64 - 1)) % 2 ^ 64) (λ k m. (m.0 ≡ returned e me.0.notes) × (m.1 ≡ me.1))) (sym c.requires.told)
+          (subst (λ (e : ℕ). Allows (KeepsAccounts given_parts net limit) slots id (me_of me) (40 + c.args.sem) (λ k. (k + (2 ^ 64 - 1)) % 2 ^ 64) (λ k m. (m.0 ≡ returned e me.0.notes) × (m.1 ≡ me.1))) (sym c.requires.told)
           (return_allowed net limit slots id (me_of me) c.args.sem (subst (λ (n : NetRows). MayReturn n c.args.sem me.0.notes) same c.requires.ready))),
     )

@@ -7,7 +7,7 @@ use Rattle.atomic_table.specs.Table.{Allows}
 use Rattle.table_steps.specs.inside.Accounts.{KeepsAccounts, tokens_from}
 use Rattle.table_steps.specs.inside.Kinds.{MayDrawStart, with_start_drawn}
 use Rattle.table_steps.proofs.TurnSteps.{start_allowed}
-use Rattle.table_steps.specs.Values.{given_part}
+use Rattle.table_steps.specs.Values.{given_parts}
 use Rattle.table_steps.specs.inside.SeatViews.{me_of}
 use Rattle.table_steps.proofs.ValueSteps.{draws_knowing}
 use Rattle.table_steps.proofs.steps.Words.start_told.Goals as goal
@@ -21,6 +21,6 @@ fetch_add-requires g c =
       search rules,
       omega (arith, sized),
       draws_knowing net limit slots id me (λ k m. (m.0 ≡ with_start_drawn g.A.StepFacts.net k me.0.notes) × (m.1 ≡ me.1) × IsNet g.A.StepFacts.net) c.requires.held
-          (subst (λ (n : NetRows). Allows (KeepsAccounts given_part net limit) slots id (me_of me) 8 (λ k. (k + 1) % 2 ^ 64) (λ k m. (m.0 ≡ with_start_drawn n k me.0.notes) × (m.1 ≡ me.1) × IsNet n)) (sym (c.requires.told ∙ same))
+          (subst (λ (n : NetRows). Allows (KeepsAccounts given_parts net limit) slots id (me_of me) 8 (λ k. (k + 1) % 2 ^ 64) (λ k m. (m.0 ≡ with_start_drawn n k me.0.notes) × (m.1 ≡ me.1) × IsNet n)) (sym (c.requires.told ∙ same))
           (start_allowed net limit slots id (me_of me) (subst (λ (n : NetRows). MayDrawStart n me.0.notes) same c.requires.ready))),
     )

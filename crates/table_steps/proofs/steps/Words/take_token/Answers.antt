@@ -8,7 +8,7 @@ use Rattle.table_steps.specs.inside.Kinds.{took, TakesNextToken}
 use Rattle.table_steps.proofs.TokenSteps.{take_allowed}
 use Rattle.table_steps.specs.inside.TableSeats.{TableSeatState}
 use Rattle.table_steps.proofs.TableSeats.{at_seat}
-use Rattle.table_steps.specs.Values.{given_part}
+use Rattle.table_steps.specs.Values.{given_parts}
 use Rattle.table_steps.specs.inside.SeatViews.{me_of}
 use Rattle.table_steps.proofs.ValueSteps.{steps_knowing}
 use Rattle.table_steps.proofs.steps.Words.take_token.Goals as goal
@@ -24,6 +24,6 @@ fetch_sub-found-requires g c =
       search rules,
       omega (arith, c.requires.in_range, found, sized),
       steps_knowing net limit slots id me c.edge_word.result (λ k. (k + (2 ^ 64 - 1)) % 2 ^ 64) (λ k m. (m.0 ≡ took k me.0.notes) × (m.1 ≡ me.1)) (λ z. omega (arith, z, found)) c.seat.invariant
-          (subst (λ (w : ℕ). Allows (KeepsAccounts given_part net limit) slots id (me_of me) w (λ k. (k + (2 ^ 64 - 1)) % 2 ^ 64) (λ k m. (m.0 ≡ took k me.0.notes) × (m.1 ≡ me.1))) (sym word_is)
+          (subst (λ (w : ℕ). Allows (KeepsAccounts given_parts net limit) slots id (me_of me) w (λ k. (k + (2 ^ 64 - 1)) % 2 ^ 64) (λ k m. (m.0 ≡ took k me.0.notes) × (m.1 ≡ me.1))) (sym word_is)
           (take_allowed net limit slots id (me_of me) c.args.edge (subst (λ (n : NetRows). TakesNextToken n c.args.edge me.0.notes) same (at_seat (λ (p : TableSeatState _). TakesNextToken (arc_value c.args.self.now.net) c.args.edge p.me.0) c.seat.view_is c.requires.ready)))),
     )

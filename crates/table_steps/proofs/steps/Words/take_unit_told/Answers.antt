@@ -6,7 +6,7 @@ use Rattle.atomic_table.specs.Table.{Allows}
 use Rattle.table_steps.specs.inside.Accounts.{KeepsAccounts, tokens_from}
 use Rattle.table_steps.specs.inside.UnitKinds.{took_unit, MayTake}
 use Rattle.table_steps.proofs.UnitSeats.{take_allowed}
-use Rattle.table_steps.specs.Values.{given_part}
+use Rattle.table_steps.specs.Values.{given_parts}
 use Rattle.table_steps.specs.inside.SeatViews.{me_of}
 use Rattle.table_steps.proofs.ValueSteps.{steps_knowing}
 use Rattle.table_steps.proofs.steps.Words.take_unit_told.Goals as goal
@@ -20,7 +20,7 @@ fetch_add-requires g c =
       search rules,
       omega (arith, c.requires.in_range, sized),
       steps_knowing net limit slots id me (40 + c.args.sem) (λ k. (k + 1) % 2 ^ 64) (λ k m. (m.0 ≡ took_unit g.A.Semaphore.net g.A.Semaphore.sem k me.0.notes) × (m.1 ≡ me.1)) (λ z. omega arith) c.requires.held
-          (subst (λ (n : NetRows). Allows (KeepsAccounts given_part net limit) slots id (me_of me) (40 + c.args.sem) (λ k. (k + 1) % 2 ^ 64) (λ k m. (m.0 ≡ took_unit n g.A.Semaphore.sem k me.0.notes) × (m.1 ≡ me.1))) (sym (c.requires.told.0 ∙ same))
-          (subst (λ (e : ℕ). Allows (KeepsAccounts given_part net limit) slots id (me_of me) (40 + c.args.sem) (λ k. (k + 1) % 2 ^ 64) (λ k m. (m.0 ≡ took_unit net e k me.0.notes) × (m.1 ≡ me.1))) (sym c.requires.told.1)
+          (subst (λ (n : NetRows). Allows (KeepsAccounts given_parts net limit) slots id (me_of me) (40 + c.args.sem) (λ k. (k + 1) % 2 ^ 64) (λ k m. (m.0 ≡ took_unit n g.A.Semaphore.sem k me.0.notes) × (m.1 ≡ me.1))) (sym (c.requires.told.0 ∙ same))
+          (subst (λ (e : ℕ). Allows (KeepsAccounts given_parts net limit) slots id (me_of me) (40 + c.args.sem) (λ k. (k + 1) % 2 ^ 64) (λ k m. (m.0 ≡ took_unit net e k me.0.notes) × (m.1 ≡ me.1))) (sym c.requires.told.1)
           (take_allowed net limit slots id (me_of me) c.args.sem (subst (λ (n : NetRows). MayTake n c.args.sem me.0.notes) same c.requires.ready)))),
     )

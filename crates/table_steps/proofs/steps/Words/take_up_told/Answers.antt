@@ -6,7 +6,7 @@ use Rattle.atomic_table.specs.Table.{Allows}
 use Rattle.table_steps.specs.inside.Accounts.{KeepsAccounts, tokens_from}
 use Rattle.table_steps.specs.inside.Kinds.{taken_up}
 use Rattle.table_steps.proofs.TurnSteps.{take_up_allowed}
-use Rattle.table_steps.specs.Values.{given_part}
+use Rattle.table_steps.specs.Values.{given_parts}
 use Rattle.table_steps.specs.inside.SeatViews.{me_of}
 use Rattle.table_steps.proofs.ValueSteps.{steps_knowing}
 use Rattle.table_steps.proofs.steps.Words.take_up_told.Goals as goal
@@ -20,6 +20,6 @@ load-requires g c =
       search rules,
       omega (arith, sized),
       steps_knowing net limit slots id me 0 (λ k. k) (λ k m. (m.0 ≡ taken_up g.A.StepFacts.net me.0.notes) × (m.1 ≡ me.1)) (λ z. omega arith) c.requires.held
-          (subst (λ (n : NetRows). Allows (KeepsAccounts given_part net limit) slots id (me_of me) 0 (λ k. k) (λ k m. (m.0 ≡ taken_up n me.0.notes) × (m.1 ≡ me.1))) (sym (c.requires.told ∙ same))
+          (subst (λ (n : NetRows). Allows (KeepsAccounts given_parts net limit) slots id (me_of me) 0 (λ k. k) (λ k m. (m.0 ≡ taken_up n me.0.notes) × (m.1 ≡ me.1))) (sym (c.requires.told ∙ same))
           (take_up_allowed net limit slots id (me_of me) c.requires.ready)),
     )

@@ -8,7 +8,7 @@ use Rattle.table_steps.specs.inside.CreditKinds.{MayUnclaim, unclaimed}
 use Rattle.table_steps.proofs.CreditSeats.{unclaim_allowed}
 use Rattle.table_steps.specs.inside.TableSeats.{TableSeatState}
 use Rattle.table_steps.proofs.TableSeats.{at_seat}
-use Rattle.table_steps.specs.Values.{given_part}
+use Rattle.table_steps.specs.Values.{given_parts}
 use Rattle.table_steps.specs.inside.SeatViews.{me_of}
 use Rattle.table_steps.proofs.ValueSteps.{steps_knowing}
 use Rattle.table_steps.proofs.steps.Words.undo_claim.Goals as goal
@@ -23,6 +23,6 @@ fetch_add-requires g c =
       search rules,
       omega (arith, c.requires.in_range, c.credit_word-word.ensures, sized),
       steps_knowing net limit slots id me c.credit_word-word.result (λ k. (k + 1) % 2 ^ 64) (λ k m. (m.0 ≡ unclaimed me.0.notes) × (m.1 ≡ me.1)) (λ z. omega (arith, z, c.credit_word-word.ensures)) c.seat.invariant
-          (subst (λ (w : ℕ). Allows (KeepsAccounts given_part net limit) slots id (me_of me) w (λ k. (k + 1) % 2 ^ 64) (λ k m. (m.0 ≡ unclaimed me.0.notes) × (m.1 ≡ me.1))) (sym word_is)
+          (subst (λ (w : ℕ). Allows (KeepsAccounts given_parts net limit) slots id (me_of me) w (λ k. (k + 1) % 2 ^ 64) (λ k m. (m.0 ≡ unclaimed me.0.notes) × (m.1 ≡ me.1))) (sym word_is)
           (unclaim_allowed net limit slots id (me_of me) c.args.sem (subst (λ (n : NetRows). MayUnclaim n c.args.sem me.0.notes) same (at_seat (λ (p : TableSeatState _). MayUnclaim (arc_value c.args.self.now.net) c.args.sem p.me.0) c.seat.view_is c.requires.ready)))),
     )

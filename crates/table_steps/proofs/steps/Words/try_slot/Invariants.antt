@@ -1,0 +1,4 @@
+use Rattle.table_steps.proofs.steps.Words.try_slot.Given as goal
+
+abbrev pub ghosts-try_told : goal.ghosts-try_told
+ghosts-try_told g a = record { edge = a.edge; puts = a._puts; last = a._last }
