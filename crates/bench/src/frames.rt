@@ -1,10 +1,7 @@
 // Runs of jobs of numbers: by one thread without a lock, and by crews.
 use crate::clock::nanos_since;
-use crate::nets;
-use crewed_runs::ByThreads;
-use number_jobs::{NumberJob, START_LIMIT};
+use crate::nets::{Kind, net_of};
 use outside_io::NoMemory;
-use run_frame::FrameRun;
 use std::alloc::{AllocError, Global};
 use std::io;
 use std::sync::{Arc, Wait};
@@ -12,13 +9,10 @@ use std::thread::Threads;
 use std::time::{Clock, Instant};
 use table_frames::run_alone;
 use task_graph::Net;
-use worker_seat::{CrewRan, run_by_crew};
+use test_jobs::{NumberJob, START_LIMIT, run_by_workers};
 
 // How many tasks each net has.
 const TASKS: u32 = 10_000;
-
-// How often a task adds to a word that works, for some two microseconds.
-const ADDITIONS: u64 = 400;
 
 // How often each run is made, of which the least time counts.
 const TIMES: u32 = 5;
@@ -26,80 +20,27 @@ const TIMES: u32 = 5;
 // A number that no task comes to, so that none faults.
 const NEVER: u64 = 0;
 
-// Who makes a run.
-#[derive(Clone, Copy)]
-enum By {
-    // One thread that needs no lock.
-    Alone,
-    // So many workers that steal from each other, 16 at most.
-    Crew(usize),
-}
-
-// Which tasks precede which.
-#[derive(Clone, Copy)]
-enum Order {
-    Chain,
-    Join,
-    Fan,
-}
-
-// A job, as its tasks and what each does.
-#[derive(Clone, Copy)]
-struct Work {
-    name: &'static str,
-    order: Order,
-    additions: u64,
-}
-
-const WORKS: [Work; 4] = [
-    Work {
-        name: "a chain of empty tasks",
-        order: Order::Chain,
-        additions: 0,
-    },
-    Work {
-        name: "empty tasks before the last",
-        order: Order::Join,
-        additions: 0,
-    },
-    Work {
-        name: "empty tasks behind the first",
-        order: Order::Fan,
-        additions: 0,
-    },
-    Work {
-        name: "tasks of 400 additions behind the first",
-        order: Order::Fan,
-        additions: ADDITIONS,
-    },
+// Jobs: which tasks precede which, and how often each task adds to a word. Four hundred additions take some two microseconds.
+const WORKS: [(Kind, u64, &str); 4] = [
+    (Kind::Chain, 0, "a chain of empty tasks"),
+    (Kind::Join, 0, "empty tasks before the last"),
+    (Kind::Fan, 0, "empty tasks behind the first"),
+    (Kind::Fan, 400, "tasks of 400 additions behind the first"),
 ];
+
+// Crews of so many workers, and one thread that needs no lock in place of none.
+const CREWS: [usize; 5] = [0, 1, 2, 4, 16];
 
 /// Prints the nanoseconds a start of each job, by each who may run it.
 pub fn measure<R: Threads + Wait + Clock + Print + Sync>(rt: &R, alloc: Global) -> io::Result<()> {
-    for work in WORKS {
-        measure_work(rt, alloc, work, "alone", By::Alone)?;
-        measure_work(rt, alloc, work, "1 worker", By::Crew(1))?;
-        measure_work(rt, alloc, work, "2 workers", By::Crew(2))?;
-        measure_work(rt, alloc, work, "4 workers", By::Crew(4))?;
-        measure_work(rt, alloc, work, "16 workers", By::Crew(16))?;
+    for (kind, additions, name) in WORKS {
+        let net = net_of(alloc, kind, TASKS, TASKS - 1)?;
+        for workers in CREWS {
+            let nanos = nanos_a_start(rt, alloc, &net, additions, workers)?;
+            println!(rt; "{name}, {workers} workers: {nanos} ns a start")?;
+        }
     }
     Ok(())
-}
-
-fn measure_work<R: Threads + Wait + Clock + Print + Sync>(
-    rt: &R,
-    alloc: Global,
-    work: Work,
-    who: &str,
-    by: By,
-) -> io::Result<()> {
-    let net = match work.order {
-        Order::Chain => nets::chain(alloc, TASKS),
-        Order::Join => nets::join(alloc, TASKS),
-        Order::Fan => nets::fan(alloc, TASKS),
-    };
-    let nanos = nanos_a_start(rt, alloc, &nets::shared(alloc, net)?, work.additions, by)?;
-    println!(rt; "{}, {who}: {nanos} ns a start", work.name)
 }
 
 // The nanoseconds a start, the least of five runs. Each task is to be started once.
@@ -108,16 +49,18 @@ fn nanos_a_start<R: Threads + Wait + Clock + Sync>(
     alloc: Global,
     net: &Arc<Net>,
     additions: u64,
-    by: By,
+    workers: usize,
 ) -> io::Result<u64> {
     let starts = net.tasks().len() as u64;
     let mut least = u64::MAX;
     for _ in 0..TIMES {
-        let job = job_on(net, additions)?;
+        let Some(job) = NumberJob::new(Arc::try_clone(net)?, START_LIMIT, 0, NEVER) else {
+            return Err(AllocError.into());
+        };
         let begun = Instant::now(rt)?;
-        let made = starts_made(rt, alloc, job, by).unwrap_or(0);
+        let made = starts_made(rt, alloc, job.with_additions(additions), workers);
         let nanos = nanos_since(rt, begun)?;
-        if made != starts {
+        if made != Ok(starts) {
             return Err(AllocError.into());
         }
         least = least.min(nanos / starts.max(1));
@@ -125,42 +68,17 @@ fn nanos_a_start<R: Threads + Wait + Clock + Sync>(
     Ok(least)
 }
 
-// A job on a net, whose tasks make so many additions.
-fn job_on(net: &Arc<Net>, additions: u64) -> io::Result<NumberJob> {
-    match NumberJob::new(Arc::try_clone(net)?, START_LIMIT, 0, NEVER) {
-        Some(job) => Ok(job.with_additions(additions)),
-        None => Err(AllocError.into()),
-    }
-}
-
 // How many starts the run of a job has.
 fn starts_made<R: Threads + Wait + Sync>(
     rt: &R,
     alloc: Global,
     job: NumberJob,
-    by: By,
+    workers: usize,
 ) -> Result<u64, NoMemory> {
-    let run = match by {
-        By::Alone => run_alone(rt, alloc, Arc::new(alloc, job)?)?,
-        By::Crew(workers) => run_by_workers(rt, alloc, job, workers)?,
+    let run = if workers == 0 || workers > 16 {
+        run_alone(rt, alloc, Arc::new(alloc, job)?)?
+    } else {
+        run_by_workers(rt, alloc, job, workers)?
     };
     Ok(run.values.len() as u64)
-}
-
-fn run_by_workers<R: Threads + Wait + Sync>(
-    rt: &R,
-    alloc: Global,
-    job: NumberJob,
-    workers: usize,
-) -> Result<FrameRun<NumberJob>, NoMemory> {
-    if workers == 0 || workers > 16 {
-        return Err(NoMemory);
-    }
-    let watchers = vec![in alloc; (); workers]?;
-    let job = Arc::new(alloc, job)?;
-    let CrewRan { run, watchers } = run_by_crew::<NumberJob, (), ByThreads, R>(
-        rt, alloc, watchers, job,
-    );
-    drop(watchers);
-    run.ok_or(NoMemory)
 }

@@ -17,12 +17,8 @@ pub fn measure(rt: &HostRuntime, mut words: Args) -> io::Result<()> {
     let word = next_word(rt, &mut words);
     let file = next_word(rt, &mut words);
     let bytes = bytes_of(rt, file.as_str(), MOST)?;
-    print_micros(rt, word.as_str(), bytes.as_slice())
-}
-
-fn print_micros(rt: &HostRuntime, word: &str, bytes: &[u8]) -> io::Result<()> {
     let start = Instant::now(rt)?;
-    let done = does(rt.alloc(), word, bytes);
+    let done = does(rt.alloc(), word.as_str(), bytes.as_slice());
     let micros = micros_since(rt, start)?;
     println!(rt; "{micros} {}", if done { "done" } else { "refused" })
 }
@@ -32,14 +28,10 @@ fn does(alloc: Global, word: &str, bytes: &[u8]) -> bool {
     match word {
         "json" => Value::from_slice(alloc, bytes).is_ok(),
         "read" => read_graph(alloc, bytes).is_ok(),
-        "write" => rewrites(alloc, bytes),
+        "write" => match read_graph(alloc, bytes) {
+            Ok(plan) => write_graph(alloc, &plan).is_ok(),
+            Err(_) => false,
+        },
         _ => true,
-    }
-}
-
-fn rewrites(alloc: Global, bytes: &[u8]) -> bool {
-    match read_graph(alloc, bytes) {
-        Ok(plan) => write_graph(alloc, &plan).is_ok(),
-        Err(_) => false,
     }
 }

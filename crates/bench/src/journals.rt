@@ -18,29 +18,18 @@ pub fn measure(rt: &HostRuntime, mut words: Args) -> io::Result<()> {
     let word = next_word(rt, &mut words);
     let file = next_word(rt, &mut words);
     let bytes = bytes_of(rt, file.as_str(), MOST)?;
-    match word.as_str() {
-        "read" => measure_reading(rt, bytes.as_slice()),
-        "print" => measure_printing(rt, bytes.as_slice()),
-        _ => Ok(()),
+    let (reads, prints) = (word.as_str() == "read", word.as_str() == "print");
+    if !reads && !prints {
+        return Ok(());
     }
-}
-
-fn measure_reading(rt: &HostRuntime, bytes: &[u8]) -> io::Result<()> {
     let start = Instant::now(rt)?;
-    let is_read = read_journal(rt.alloc(), bytes).is_ok();
-    eprintln!(rt; "{} {is_read}", micros_since(rt, start)?)
-}
-
-fn measure_printing(rt: &HostRuntime, bytes: &[u8]) -> io::Result<()> {
-    match read_journal(rt.alloc(), bytes) {
-        Ok(journal) => measure_journal(rt, journal.as_slice()),
-        Err(_) => Err(io::ErrorKind::InvalidData.into()),
+    let journal = read_journal(rt.alloc(), bytes.as_slice());
+    if reads {
+        return eprintln!(rt; "{} {}", micros_since(rt, start)?, journal.is_ok());
     }
-}
-
-fn measure_journal(rt: &HostRuntime, journal: &[Entry]) -> io::Result<()> {
+    let journal = journal.map_err(|_| io::ErrorKind::InvalidData)?;
     let start = Instant::now(rt)?;
-    let is_printed = printed(rt, journal).is_ok();
+    let is_printed = printed(rt, journal.as_slice()).is_ok();
     eprintln!(rt; "{} {is_printed}", micros_since(rt, start)?)
 }
 

@@ -1,14 +1,14 @@
 // The operations on texts, each alone.
-mod ops;
-
 use crate::clock::micros_since;
 use crate::files::{bytes_of, next_word};
 use outside_io::List;
-use std::alloc::AllocError;
+use std::alloc::{AllocError, Global};
 use std::env::Args;
 use std::io;
 use std::time::Instant;
-use text_ops::Text;
+use text_ops::{
+    ApplyError, Text, count, head, keep, match_lines, pass, skip, sort, tail, tally, uniq, without,
+};
 
 // The most bytes of a text.
 const MOST: u64 = 16_777_215;
@@ -23,18 +23,12 @@ pub fn measure(rt: &HostRuntime, mut words: Args) -> io::Result<()> {
     let name = next_word(rt, &mut words);
     let file = next_word(rt, &mut words);
     let operand = next_word(rt, &mut words);
-    let text = text_of(rt, file.as_str())?;
+    let bytes = bytes_of(rt, file.as_str(), MOST)?;
+    let text = Text::from_bytes(rt.alloc(), bytes).map_err(|_| AllocError)?;
     if name.as_str() == "copy" {
         copies(rt, operand.as_str(), &text)
     } else {
         applies(rt, name.as_str(), operand.as_str(), &text)
-    }
-}
-
-fn text_of(rt: &HostRuntime, file: &str) -> io::Result<Text> {
-    match Text::from_bytes(rt.alloc(), bytes_of(rt, file, MOST)?) {
-        Ok(text) => Ok(text),
-        Err(_) => Err(AllocError.into()),
     }
 }
 
@@ -43,7 +37,7 @@ fn applies(rt: &HostRuntime, name: &str, operand: &str, text: &Text) -> io::Resu
     let start = Instant::now(rt)?;
     let mut bytes = 0;
     for _ in 0..TIMES {
-        let made = ops::apply(rt.alloc(), name, operand, text);
+        let made = apply(rt.alloc(), name, operand, text);
         bytes = made.map_or(0, |made| made.len());
     }
     let micros = micros_since(rt, start)? / u64::from(TIMES);
@@ -62,4 +56,23 @@ fn copies(rt: &HostRuntime, operand: &str, text: &Text) -> io::Result<()> {
     }
     let micros = micros_since(rt, start)? / u64::from(TIMES);
     println!(rt; "{micros} {}", part.len())
+}
+
+// What the operation of this name makes of the text. The operand is its word; numbers are in decimal. No such
+// operation passes the text on.
+fn apply(alloc: Global, name: &str, operand: &str, text: &Text) -> Result<Text, ApplyError> {
+    let number = operand.parse::<u64>().unwrap_or(0);
+    match name {
+        "keep" => keep(alloc, operand.as_bytes(), text),
+        "without" => without(alloc, operand.as_bytes(), text),
+        "head" => head(text, number),
+        "tail" => tail(text, number),
+        "skip" => skip(text, number),
+        "sort" => sort(alloc, text),
+        "uniq" => uniq(alloc, text),
+        "count" => count(alloc, text),
+        "tally" => tally(alloc, text),
+        "match" => match_lines(alloc, text, text),
+        _ => pass(text),
+    }
 }

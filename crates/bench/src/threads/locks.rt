@@ -9,17 +9,13 @@ use std::sync::atomic::Ordering::SeqCst;
 use std::thread::{Threads, for_each_mut};
 use std::time::{Clock, Instant};
 
-fn take_and_put<R: Wait>(rt: &R, lock: &KeyedLock<u64>) {
-    let Held { value, pass } = lock.take(rt);
-    lock.put(Held {
-        value: value.wrapping_add(1),
-        pass,
-    });
-}
-
 fn take_often<R: Wait>(rt: &R, lock: &KeyedLock<u64>) {
     for _ in 0..TURNS {
-        take_and_put(rt, lock);
+        let Held { value, pass } = lock.take(rt);
+        lock.put(Held {
+            value: value.wrapping_add(1),
+            pass,
+        });
     }
 }
 

@@ -1,0 +1,51 @@
+// What becomes of a file, in words.
+use graph_file::{GraphError, Kind, read_graph, write_graph};
+use graph_plans::Spot;
+use outside_io::{Bytes, NoMemory};
+use std::alloc::{AllocError, Global};
+use std::str;
+
+/// The refusal of a file, or the text that is written for its plan, if that is asked for, or else `plan`.
+pub(crate) fn answer(alloc: Global, file: &[u8], writes: bool) -> Result<String, AllocError> {
+    let plan = match read_graph(alloc, file) {
+        Ok(plan) => plan,
+        Err(refusal) => return refusal_text(alloc, &refusal),
+    };
+    if !writes {
+        return format!(in alloc; "plan");
+    }
+    match write_graph(alloc, &plan) {
+        Ok(text) => String::from_str(alloc, text_of(&text)),
+        Err(NoMemory) => format!(in alloc; "no memory"),
+    }
+}
+
+fn refusal_text(alloc: Global, refusal: &GraphError) -> Result<String, AllocError> {
+    let (what, at, spot, field) = match refusal {
+        GraphError::NotJson => return format!(in alloc; "not JSON"),
+        GraphError::BadField(spot, field) => ("bad field", "in", spot, field),
+        GraphError::NoSuchName(spot, field) => ("no such name in", "of", spot, field),
+        GraphError::Repeated(spot, field) => ("repeated name in", "of", spot, field),
+        GraphError::TooMany(kind) => return format!(in alloc; "too many {}", kind_text(*kind)),
+        GraphError::NoMemory => return format!(in alloc; "no memory"),
+    };
+    let field = text_of(field);
+    match spot {
+        Spot::File => format!(in alloc; "{what} {field} {at} file"),
+        Spot::Task(task) => format!(in alloc; "{what} {field} {at} task {task}"),
+        other => format!(in alloc; "{what} {field} {at} {other:?}"),
+    }
+}
+
+fn text_of(bytes: &Bytes) -> &str {
+    str::from_utf8(bytes.as_slice()).unwrap_or("?")
+}
+
+fn kind_text(kind: Kind) -> &'static str {
+    match kind {
+        Kind::Tasks => "tasks",
+        Kind::Edges => "edges",
+        Kind::Texts => "texts",
+        Kind::Semaphores | Kind::Modules | Kind::Depth => "of another kind",
+    }
+}

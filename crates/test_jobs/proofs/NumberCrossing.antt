@@ -1,0 +1,22 @@
+-- What goes to the threads that enter the seats of a crew of jobs of numbers.
+use denote.Param.Send.{IsSend, IsSync, sendable}
+use denote.Struct.Field as field
+use Rattle.std.proofs.Crossing.{crosses, frees}
+use Rattle.worker_seat.proofs.Crossing.{seat_send, crew_sync}
+use Rattle.worker_seat.specs.contracts.seat.WorkerSeat as worker_seat
+use Rattle.worker_seat.specs.contracts.crew.Crew as crew
+use Rattle.test_jobs.specs.contracts.job.NumberJob as number_job
+use Rattle.test_jobs.specs.contracts.job.NumberJobJob.TheImpl as job
+use Rattle.test_jobs.specs.contracts.job.NumberJobValued.TheImpl as valued
+
+job_send : IsSend number_job.the_row
+job_send = search (crosses, frees, sendable) depth 60 fits 20000
+
+job_sync : IsSync number_job.the_row
+job_sync = search (crosses, frees, sendable) depth 60 fits 20000
+
+pub seat_crosses : IsSend (worker_seat.the_row number_job.the_row (field.unit-field).row (field.u64-field).row job.ghosts valued.ghosts)
+seat_crosses = seat_send number_job.the_row (field.u64-field).row job.ghosts valued.ghosts job_send job_sync (search sendable) (search sendable) (field.unit-field).row (search sendable)
+
+pub crew_shared : IsSync (crew.the_row number_job.the_row (field.u64-field).row job.ghosts valued.ghosts)
+crew_shared = crew_sync number_job.the_row (field.u64-field).row job.ghosts valued.ghosts job_send job_sync (search sendable) (search sendable)

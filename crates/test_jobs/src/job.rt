@@ -1,0 +1,205 @@
+// Jobs of numbers.
+ghost use Rattle.std.specs.Prelude.{◌≡◌, ◌≤◌, ◌<◌, [], length, map, IfOk, IfErr, IfSome, slice_get};
+ghost use Rattle.std.specs.Arc.{arc_value};
+ghost use Rattle.task_graph.specs.declared.net.TaskRow.{TaskRow};
+ghost use Rattle.join_words.specs.Ins.{parts_of, found_of};
+ghost use Rattle.run_frame.specs.Meaning.{FitsShape};
+ghost use Rattle.test_jobs.specs.NumberMeaning.{number_after, number_from};
+
+use super::flat::is_flat;
+use join_words::{Given, Ins};
+use journal_rules::Why;
+use outside_io::{List, NoMemory};
+use run_frame::{Answer, Done, Job, JobError, Valued};
+use std::alloc::Global;
+use std::marker::Model;
+use std::sync::Arc;
+use std::sync::atomic::AtomicU64;
+use std::sync::atomic::Ordering::SeqCst;
+use std::thread::yield_now;
+use task_graph::{Net, Shape};
+
+/// The most starts that a run may have.
+pub const START_LIMIT: u64 = 2_097_152;
+
+// How often a task looks for the others that it is to meet.
+const LOOKS: u32 = 10_000_000;
+
+/// A job of numbers.
+#[derive(Drop)]
+pub struct NumberJob {
+    net: Arc<Net>,
+    limit: u64,
+    turns: u64,
+    fault: u64,
+    // What a task does besides, of which nothing comes.
+    additions: u64,
+    // How many tasks are to meet, how many have begun, and how many of these have seen that so many had.
+    meeting: u64,
+    begun: AtomicU64,
+    met: AtomicU64,
+}
+
+impl Model for NumberJob {
+    ghost use Rattle.std.specs.Prelude.{◌≤◌};
+    ghost use Rattle.std.specs.Arc.{arc_value};
+    ghost use Rattle.test_jobs.specs.NumberMeaning.{NumberWork};
+    ghost use Rattle.run_frame.specs.FlatNets.{IsFlatNet};
+
+    ghost Value = { NumberWork };
+
+    ghost view = { λ job. record { net = arc_value job.net; limit = job.limit; turns = job.turns; fault = job.fault } };
+
+    ghost invariant = { λ job. IsFlatNet (arc_value job.net) × (job.limit ≤ 2097152) };
+}
+
+impl NumberJob {
+    /// A job of a net without units and inner graphs, with at most `limit` starts, no more than `START_LIMIT`; else
+    /// `None`. A task that comes to the number `fault` faults. Below `turns` a Choice chooses its first edge and from
+    /// there its second; a Many chooses the same, and its third.
+    pub fn new(net: Arc<Net>, limit: u64, turns: u64, fault: u64) -> Option<NumberJob>
+        ensures { IfSome result (λ job. job ≡ record { net = arc_value net; limit = limit; turns = turns; fault = fault }) }
+    {
+        if limit > START_LIMIT || !is_flat(&net) {
+            return None;
+        }
+        Some(NumberJob {
+            net,
+            limit,
+            turns,
+            fault,
+            additions: 0,
+            meeting: 0,
+            begun: AtomicU64::new(0),
+            met: AtomicU64::new(0),
+        })
+    }
+
+    /// The same job, of which each task first adds so often to an atomic word of its own. That takes time, for
+    /// measurements, and nothing comes of it.
+    pub fn with_additions(self, additions: u64) -> NumberJob
+        ensures { result ≡ self }
+    {
+        NumberJob { additions, ..self }
+    }
+
+    /// The same job, of which each task first waits a long while until so many tasks have begun.
+    pub fn with_meeting(self, tasks: u64) -> NumberJob
+        ensures { result ≡ self }
+    {
+        NumberJob {
+            meeting: tasks,
+            ..self
+        }
+    }
+
+    /// How many tasks have seen that as many had begun as were to meet.
+    pub fn met(&self) -> u64 {
+        self.met.load(SeqCst)
+    }
+
+    // Waits until as many tasks have begun as are to meet.
+    fn meet(&self) {
+        self.begun.fetch_add(1, SeqCst);
+        for _ in 0..LOOKS {
+            if self.begun.load(SeqCst) >= self.meeting {
+                self.met.fetch_add(1, SeqCst);
+                return;
+            }
+            yield_now();
+        }
+    }
+
+    // Which edges a task signals that comes to a number.
+    fn answer(&self, alloc: Global, task: u32, number: u64) -> Result<Answer, NoMemory>
+        ensures { IfOk result (λ answer. IfSome (slice_get self.now.net.tasks task) (λ (row : TaskRow). FitsShape row.shape answer)) }
+    {
+        match self.net.tasks().get(task as usize) {
+            Some(row) => self.answer_of(alloc, row.shape, number),
+            None => Ok(Answer::None),
+        }
+    }
+
+    // Which edges a task of this shape signals.
+    fn answer_of(&self, alloc: Global, shape: Shape, number: u64) -> Result<Answer, NoMemory>
+        ensures { IfOk result (FitsShape shape) }
+    {
+        let first = if number < self.turns { 0 } else { 1 };
+        match shape {
+            Shape::Plain => Ok(Answer::All),
+            Shape::Choice => Ok(Answer::Indices(List::from_slice(alloc, &[first])?)),
+            Shape::Many => Ok(Answer::Indices(List::from_slice(alloc, &[first, 2])?)),
+            Shape::Nested => Ok(Answer::All),
+        }
+    }
+}
+
+// Adds so often to an atomic word, which no compiler leaves out.
+fn add_often(additions: u64) {
+    let word = AtomicU64::new(0);
+    for _ in 0..additions {
+        word.fetch_add(1, SeqCst);
+    }
+}
+
+// The number that a task comes to.
+fn number_made(ins: &Ins<u64>) -> u64
+    ensures { result ≡ number_from (map found_of (parts_of ins.now)) }
+{
+    match ins.get(0) {
+        Some(given) => number_after(given),
+        None => 1,
+    }
+}
+
+// One more than the number that is given.
+fn number_after(given: &Given<u64>) -> u64
+    ensures { result ≡ number_after (found_of given.now) }
+{
+    match given {
+        Given::Value(_, number) => number.saturating_add(1),
+        Given::First => 1,
+        Given::Nothing => 1,
+    }
+}
+
+impl Valued for NumberJob {
+    type V = u64;
+}
+
+impl Job for NumberJob {
+    ghost use Rattle.test_jobs.specs.NumberMeaning.{number_job, IsNumberJob, number_answers_fit, number_faults_own, number_gather_faults_own};
+
+    ghost meaning = { number_job };
+
+    ghost keeps = { IsNumberJob };
+
+    fn net(&self) -> &Arc<Net> {
+        &self.net
+    }
+
+    fn limit(&self) -> u64 {
+        self.limit
+    }
+
+    fn run(&self, alloc: Global, task: u32, ins: &Ins<u64>) -> Result<Done<NumberJob>, JobError> {
+        add_often(self.additions);
+        if self.meeting > 0 {
+            self.meet();
+        }
+        let number = number_made(ins);
+        if number == self.fault {
+            return Err(JobError::Fault(Why::Long(number)));
+        }
+        match self.answer(alloc, task, number) {
+            Ok(answer) => Ok(Done::Value(number, answer)),
+            Err(NoMemory) => Err(JobError::NoMemory),
+        }
+    }
+
+    ghost answers_fit = { number_answers_fit };
+
+    ghost faults_own = { number_faults_own };
+
+    ghost gather_faults_own = { number_gather_faults_own };
+}

@@ -1,0 +1,156 @@
+// Calls of a net's builder, what a net lists, and what a task chooses, with the answers that were worked out by hand.
+ghost use Rattle.std.specs.Prelude.{◌<◌, length, IsTrue};
+ghost use Rattle.task_graph.specs.Chosen.{AnswersSoMany, IsAnswerFor};
+
+use crate::nets::{CHOICE, MANY, NetCase, PLAIN, built};
+use outside_io::List;
+use std::process::Abort;
+use std::test::Fail;
+use task_graph::{BuildError, MAX_SEMAPHORES, Net, NetBuilder, Shape};
+
+#[test]
+fn a_double_edge_is_listed_twice(rt: HostRuntime) -> Result<(), Fail> {
+    let rows = NetCase {
+        tasks: &[PLAIN; 3],
+        edges: &[(0, 1), (1, 2), (0, 1)],
+        rings: &[],
+    };
+    let net = built(rt.alloc(), rows)?;
+    assert!(rt; net.tasks().len() == 3);
+    assert_eq!(rt; net.out_edges(0), [0, 2].as_slice());
+    assert_eq!(rt; net.strong_in(1), [0, 2].as_slice());
+    assert_eq!(rt; net.strong_in(2), [1].as_slice());
+    assert!(rt; net.is_source(0) && !net.is_source(1) && net.weak_in(1).is_empty());
+    Ok(())
+}
+
+// Edges that are added in turn to a plain task 0 and a choice 1, and what the builder answers.
+const EDGES: [(u32, u32, bool, Result<u32, BuildError>); 7] = [
+    (0, 2, false, Err(BuildError::NoSuchTask(2))),
+    (3, 2, false, Err(BuildError::NoSuchTask(3))),
+    (0, 0, false, Ok(0)),
+    (1, 2, true, Err(BuildError::NoSuchTask(2))),
+    (1, 0, true, Err(BuildError::WeakStart)),
+    (0, 1, true, Ok(1)),
+    (1, 0, false, Ok(2)),
+];
+
+#[test]
+fn edges_are_added_or_refused(rt: HostRuntime) -> Result<(), Fail> {
+    let mut builder = NetBuilder::new(rt.alloc());
+    builder.task(Shape::Plain, List::new(rt.alloc()), List::new(rt.alloc()))?;
+    builder.task(Shape::Choice, List::new(rt.alloc()), List::new(rt.alloc()))?;
+    for (from, to, token, expected) in EDGES {
+        assert!(rt;
+            builder.edge(from, to, token) == expected,
+            "edge from {from} to {to}"
+        );
+    }
+    assert_eq!(rt; builder.finish().edges().len(), 3);
+    Ok(())
+}
+
+// The semaphores that a task takes and puts, and what the builder answers.
+const HOLDERS: [(&[u32], &[u32], Result<u32, BuildError>); 5] = [
+    (
+        &[7, 300, 7, 299],
+        &[256],
+        Err(BuildError::NoSuchSemaphore(300)),
+    ),
+    (&[7, 7], &[256], Err(BuildError::NoSuchSemaphore(256))),
+    (&[9, 7, 7, 9], &[3, 3], Err(BuildError::Repeated(7))),
+    (&[9, 7], &[3, 3], Err(BuildError::Repeated(3))),
+    (&[9, 255, 0], &[0], Ok(0)),
+];
+
+#[test]
+fn semaphores_are_kept_in_order_or_refused(rt: HostRuntime) -> Result<(), Fail> {
+    let mut builder = NetBuilder::new(rt.alloc());
+    add_semaphores(&rt, &mut builder);
+    for (takes, puts, expected) in HOLDERS {
+        let takes = List::from_slice(rt.alloc(), takes)?;
+        let puts = List::from_slice(rt.alloc(), puts)?;
+        assert_eq!(rt; builder.task(Shape::Plain, takes, puts), expected);
+    }
+    let net = builder.finish();
+    assert!(rt; matches!(net.tasks(), [row] if row.takes.as_slice() == [0, 9, 255].as_slice()));
+    Ok(())
+}
+
+// As many semaphores as there may be.
+fn add_semaphores(rt: &impl Abort, builder: &mut NetBuilder) {
+    assert_eq!(rt; builder.semaphore(0), Err(BuildError::ZeroCount));
+    for id in 0..MAX_SEMAPHORES {
+        assert_eq!(rt; builder.semaphore(1), Ok(id));
+    }
+    assert_eq!(rt; builder.semaphore(1), Err(BuildError::TooMany(256)));
+}
+
+// The Many 1 has the out-edges 4, 7 and 9.
+const BY_MANY: NetCase<'static> = NetCase {
+    tasks: &[PLAIN, MANY],
+    edges: &[
+        (0, 1),
+        (0, 1),
+        (0, 1),
+        (0, 1),
+        (1, 0),
+        (0, 1),
+        (0, 1),
+        (1, 0),
+        (0, 1),
+        (1, 0),
+    ],
+    rings: &[],
+};
+
+// A Choice with two edges may choose nothing.
+const BY_CHOICE: NetCase<'static> = NetCase {
+    tasks: &[CHOICE, PLAIN],
+    edges: &[(0, 1), (0, 1)],
+    rings: &[],
+};
+
+// A net, a task, the indices by which it chooses, and the edges that it chooses by them.
+const CHOSEN: [(NetCase<'static>, u32, &[i64], &[u32]); 6] = [
+    (BY_MANY, 1, &[1, 1, 0, 7, -1], &[7, 4]),
+    (BY_MANY, 1, &[2, 0, 1, 2], &[9, 4, 7]),
+    (BY_MANY, 1, &[3, -3], &[]),
+    (BY_MANY, 1, &[], &[]),
+    (BY_CHOICE, 0, &[1], &[1]),
+    (BY_CHOICE, 0, &[3], &[]),
+];
+
+#[test]
+fn each_index_in_range_chooses_an_edge_once(rt: HostRuntime) -> Result<(), Fail> {
+    for (rows, task, indices, edges) in CHOSEN {
+        let net = built(rt.alloc(), rows)?;
+        assert!(rt; may_answer(&net, task, indices.len()));
+        let chosen = net.chosen(rt.alloc(), task, indices)?;
+        assert_eq!(rt; chosen.as_slice(), edges);
+    }
+    Ok(())
+}
+
+// Whether a task may answer so many indices.
+fn may_answer(net: &Net, task: u32, count: usize) -> bool
+    ensures there { IsTrue result → task < length net.now.tasks }
+    ensures fits { IsTrue result → IsAnswerFor net.now task count }
+{
+    match net.tasks().get(task as usize) {
+        Some(row) => fits_shape(row.shape, count),
+        None => false,
+    }
+}
+
+// Whether a task of this shape may answer so many indices.
+fn fits_shape(shape: Shape, count: usize) -> bool
+    ensures { IsTrue result → AnswersSoMany shape count }
+{
+    match shape {
+        Shape::Plain => false,
+        Shape::Choice => count == 1,
+        Shape::Many => true,
+        Shape::Nested => false,
+    }
+}

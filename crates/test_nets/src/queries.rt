@@ -1,0 +1,92 @@
+// What a machine says of the steps to come, and what the judge says of those that were taken.
+ghost use Rattle.std.specs.Prelude.{◌≡◌};
+
+use crate::nets::{CHOICE, NetCase, PLAIN, built};
+use crate::steps::{Step, ask, judged};
+use journal_rules::{Cause, Part};
+use legal_run::{Break, Machine, Ready, Verdict};
+use std::test::Fail;
+
+// Task 0 begins a loop of task 1 and the Choice 2, which goes back by edge 3. Task 4 follows task 1, by edge 2, and
+// the source 3.
+const LOOP: NetCase<'static> = NetCase {
+    tasks: &[PLAIN, PLAIN, CHOICE, PLAIN, PLAIN],
+    edges: &[(0, 1), (1, 2), (1, 4), (2, 1), (3, 4)],
+    rings: &[],
+};
+
+// Once through the loop.
+const ROUND: [Step<'static>; 8] = [
+    Step::Start(0, Cause::Source),
+    Step::End(0, &[0]),
+    Step::Start(1, Cause::Strong),
+    Step::End(2, &[1, 2]),
+    Step::Start(2, Cause::Strong),
+    Step::End(4, &[3]),
+    Step::Start(1, Cause::Weak(3)),
+    Step::End(6, &[1, 2]),
+];
+
+// What the judge says of the round at a limit.
+const VERDICTS: [(u64, Verdict); 2] = [
+    (10, Verdict::Legal),
+    (3, Verdict::Breaks(6, Break::OverLimit)),
+];
+
+const AT_FIRST: [Ready; 2] = [
+    Ready {
+        task: 0,
+        cause: Cause::Source,
+        times: 1,
+    },
+    Ready {
+        task: 3,
+        cause: Cause::Source,
+        times: 1,
+    },
+];
+
+const AFTER_ROUND: [Ready; 2] = [
+    Ready {
+        task: 2,
+        cause: Cause::Strong,
+        times: 1,
+    },
+    Ready {
+        task: 3,
+        cause: Cause::Source,
+        times: 1,
+    },
+];
+
+fn go_round(machine: &mut Machine)
+    ensures { machine.new.net ≡ machine.old.net }
+{
+    for step in ROUND {
+        let _ = ask(machine, step);
+    }
+}
+
+// Task 4 has a token by one of its edges and none by the other after the round.
+#[test]
+fn tokens_are_kept_for_a_task_that_waits(rt: HostRuntime) -> Result<(), Fail> {
+    let net = built(rt.alloc(), LOOP)?;
+    assert_eq!(rt; net.tasks().len(), 5);
+    let mut machine = Machine::new(rt.alloc(), net, 10)?;
+    assert_eq!(rt; machine.ready()?.as_slice(), AT_FIRST.as_slice());
+    go_round(&mut machine);
+    assert_eq!(rt; machine.ready()?.as_slice(), AFTER_ROUND.as_slice());
+    assert_eq!(rt; machine.rounds(4), 0);
+    let parts = machine.parts(4, Cause::Strong)?;
+    assert_eq!(rt; parts.as_slice(), [Part::From(7), Part::Nothing].as_slice());
+    Ok(())
+}
+
+#[test]
+fn a_journal_is_judged_by_its_limit(rt: HostRuntime) -> Result<(), Fail> {
+    let net = built(rt.alloc(), LOOP)?;
+    for (limit, verdict) in VERDICTS {
+        assert_eq!(rt; judged(rt.alloc(), &net, limit, &ROUND)?, verdict);
+    }
+    Ok(())
+}
