@@ -14,7 +14,7 @@ use Rattle.journal_rules.specs.declared.entry.Part.TheVariants.{From, First, Not
 use Rattle.join_words.specs.declared.ins.Given.TheVariants.{Value, First as FirstToken, Nothing as NoValue}
 use Rattle.join_words.specs.Ins.{parts_of}
 use Rattle.table_steps.specs.declared.view.EndValue.{EndValue}
-use Rattle.table_steps.specs.Values.{given_part, ended_with, given_values, values_in, AreValues, Knows, HaveOneValueEach}
+use Rattle.table_steps.specs.Values.{given_part, given_parts, ended_with, given_values, values_in, AreValues, Knows, HaveOneValueEach}
 use Rattle.join_tables.specs.declared.turns.EndedStart.{EndedStart}
 use Rattle.join_tables.specs.declared.fates.Failure.{Failure}
 use Rattle.join_tables.specs.declared.fates.Dropping.{Dropping}
@@ -41,6 +41,10 @@ first_value (e ∷ more) = e.value
 abbrev end_place : Part → ℕ
 end_place (From place) = place
 end_place part = 0
+
+abbrev head_place : List Part → ℕ
+head_place [] = 0
+head_place (part ∷ more) = end_place part
 
 abbrev row_place : List (RecordedValue ℕ) → ℕ
 row_place [] = 0
@@ -94,6 +98,12 @@ module _ (shared : Arc ℕ Global) (this other nothing : FoundParts ℕ) (found 
 
   token_is_no_missing_value : ¬ (given_part {V = ℕ} FirstToken ≡ Nothing)
   token_is_no_missing_value is = let no : First ≡ Nothing = is in absurd (cc)
+
+  parts_of_parcels : given_parts (Value 3 seven ∷ FirstToken ∷ NoValue ∷ []) ≡ From 3 ∷ First ∷ Nothing ∷ []
+  parts_of_parcels = refl
+
+  parts_of_parcels_in_order : ¬ (given_parts (Value 3 seven ∷ Value 5 eight ∷ []) ≡ From 5 ∷ From 3 ∷ [])
+  parts_of_parcels_in_order is = omega (arith, ap head_place is)
 
   value_of_its_end : given_values (Value 3 seven) ≡ ended_with 3 7
   value_of_its_end = refl

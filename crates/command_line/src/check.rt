@@ -22,8 +22,13 @@ pub(crate) fn read_check<'w>(
     alloc: Global,
     arguments: &'w [String],
 ) -> Result<Check<'w>, ArgumentsError>
-    ensures ok { IfOk result (λ c. option_and_then check_in (rows_in check_app (map string_bytes arguments.entry.now)) ≡ Some (check c.file.now)) }
-    ensures err { IfErr result (λ error. error ≡ ArgumentsError.Refused → option_and_then check_in (rows_in check_app (map string_bytes arguments.entry.now)) ≡ None) }
+    ensures ok { IfOk result
+        (λ c. option_and_then check_in (rows_in check_app (map string_bytes arguments.entry.now))
+        ≡ Some (check c.file.now)) }
+    ensures err { IfErr result
+        (λ error. error ≡ ArgumentsError.Refused
+        → option_and_then check_in
+        (rows_in check_app (map string_bytes arguments.entry.now)) ≡ None) }
 {
     let command = check_command(alloc)?;
     let matches = matches_in(command, arguments)?;
@@ -41,7 +46,8 @@ fn check_command<'w>(alloc: Global) -> Result<Command<'w>, AllocError>
 // The check that these matches ask for.
 #[tactic(auto, using(crate::proofs::Reading::first_in_rows))]
 fn check_of<'w>(matches: &ArgMatches<'w>) -> Option<Check<'w>>
-    ensures { option_map (λ c. check c.file.now) result ≡ check_in (rows_of (found_of matches.now)) }
+    ensures { option_map (λ c. check c.file.now) result
+        ≡ check_in (rows_of (found_of matches.now)) }
 {
     let file = matches.get_str("file")?;
     Some(Check { file })

@@ -21,7 +21,8 @@ pub(crate) fn with_required<'w>(
     command: Command<'w>,
     name: &'w str,
 ) -> Result<Command<'w>, AllocError>
-    ensures { IfOk result (λ more. app_of more ≡ with_rule (app_of command.entry) (required name.entry.now)) }
+    ensures { IfOk result
+        (λ more. app_of more ≡ with_rule (app_of command.entry) (required name.entry.now)) }
 {
     command.arg(Arg::new(alloc, name).required(true))
 }
@@ -32,7 +33,8 @@ pub(crate) fn with_option<'w>(
     command: Command<'w>,
     name: &'w str,
 ) -> Result<Command<'w>, AllocError>
-    ensures { IfOk result (λ more. app_of more ≡ with_rule (app_of command.entry) (option name.entry.now)) }
+    ensures { IfOk result
+        (λ more. app_of more ≡ with_rule (app_of command.entry) (option name.entry.now)) }
 {
     command.arg(Arg::new(alloc, name).long(name))
 }
@@ -43,7 +45,8 @@ pub(crate) fn with_flag<'w>(
     command: Command<'w>,
     name: &'w str,
 ) -> Result<Command<'w>, AllocError>
-    ensures { IfOk result (λ more. app_of more ≡ with_rule (app_of command.entry) (flag name.entry.now)) }
+    ensures { IfOk result
+        (λ more. app_of more ≡ with_rule (app_of command.entry) (flag name.entry.now)) }
 {
     command.arg(Arg::new(alloc, name).long(name).action(ArgAction::SetTrue))
 }

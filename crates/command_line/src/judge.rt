@@ -29,8 +29,13 @@ pub(crate) fn read_judge<'w>(
     alloc: Global,
     arguments: &'w [String],
 ) -> Result<Judge<'w>, ArgumentsError>
-    ensures ok { IfOk result (λ j. option_and_then judge_in (rows_in judge_app (map string_bytes arguments.entry.now)) ≡ Some (judge j.file.now j.journal.now j.limit)) }
-    ensures err { IfErr result (λ error. error ≡ ArgumentsError.Refused → option_and_then judge_in (rows_in judge_app (map string_bytes arguments.entry.now)) ≡ None) }
+    ensures ok { IfOk result
+        (λ j. option_and_then judge_in (rows_in judge_app (map string_bytes arguments.entry.now))
+        ≡ Some (judge j.file.now j.journal.now j.limit)) }
+    ensures err { IfErr result
+        (λ error. error ≡ ArgumentsError.Refused
+        → option_and_then judge_in
+        (rows_in judge_app (map string_bytes arguments.entry.now)) ≡ None) }
 {
     let command = judge_command(alloc)?;
     let matches = matches_in(command, arguments)?;
@@ -38,7 +43,6 @@ pub(crate) fn read_judge<'w>(
 }
 
 // `judge FILE JOURNAL [--limit N]`
-#[tactic(auto, unfolding(crate::specs::Requests::judge_app))]
 fn judge_command<'w>(alloc: Global) -> Result<Command<'w>, AllocError>
     ensures { IfOk result (λ command. app_of command ≡ judge_app) }
 {
@@ -50,7 +54,8 @@ fn judge_command<'w>(alloc: Global) -> Result<Command<'w>, AllocError>
 // The judgement that these matches ask for.
 #[tactic(auto, using(crate::proofs::Reading::first_in_rows))]
 fn judge_of<'w>(matches: &ArgMatches<'w>) -> Option<Judge<'w>>
-    ensures { option_map (λ j. judge j.file.now j.journal.now j.limit) result ≡ judge_in (rows_of (found_of matches.now)) }
+    ensures { option_map (λ j. judge j.file.now j.journal.now j.limit) result
+        ≡ judge_in (rows_of (found_of matches.now)) }
 {
     let file = matches.get_str("file")?;
     let journal = matches.get_str("journal")?;

@@ -15,8 +15,12 @@ pub(crate) fn matches_in<'w>(
 ) -> Result<ArgMatches<'w>, ArgumentsError>
     requires simple { is_simple (app_of command) ≡ true }
     requires free { is_simple_and_free (app_of command) ≡ true }
-    ensures ok { IfOk result (λ matches. rows_in (app_of command.entry) (map string_bytes arguments.entry.now) ≡ Some (rows_of (found_of matches))) }
-    ensures err { IfErr result (λ error. error ≡ ArgumentsError.Refused → rows_in (app_of command.entry) (map string_bytes arguments.entry.now) ≡ None) }
+    ensures ok { IfOk result
+        (λ matches. rows_in (app_of command.entry) (map string_bytes arguments.entry.now)
+        ≡ Some (rows_of (found_of matches))) }
+    ensures err { IfErr result
+        (λ error. error ≡ ArgumentsError.Refused
+        → rows_in (app_of command.entry) (map string_bytes arguments.entry.now) ≡ None) }
 {
     match command.try_get_matches_from(arguments) {
         Ok(matches) => Ok(matches),

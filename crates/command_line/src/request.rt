@@ -43,8 +43,11 @@ pub fn read_arguments<'w>(
     alloc: Global,
     arguments: &'w [String],
 ) -> Result<Request<'w>, ArgumentsError>
-    ensures ok { IfOk result (λ request. asked_by (map string_bytes arguments.entry.now) ≡ Some (asked request)) }
-    ensures refused { IfErr result (λ error. error ≡ ArgumentsError.Refused → asked_by (map string_bytes arguments.entry.now) ≡ None) }
+    ensures ok { IfOk result
+        (λ request. asked_by (map string_bytes arguments.entry.now) ≡ Some (asked request)) }
+    ensures refused { IfErr result
+        (λ error. error ≡ ArgumentsError.Refused
+        → asked_by (map string_bytes arguments.entry.now) ≡ None) }
 {
     let Some((command, rest)) = arguments.split_first() else {
         return Err(ArgumentsError::Refused);

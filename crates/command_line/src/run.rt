@@ -32,8 +32,12 @@ pub(crate) fn read_run<'w>(
     alloc: Global,
     arguments: &'w [String],
 ) -> Result<Run<'w>, ArgumentsError>
-    ensures ok { IfOk result (λ r. option_and_then run_in (rows_in run_app (map string_bytes arguments.entry.now)) ≡ Some (run r.file.now r.limit r.workers r.journal)) }
-    ensures err { IfErr result (λ error. error ≡ ArgumentsError.Refused → option_and_then run_in (rows_in run_app (map string_bytes arguments.entry.now)) ≡ None) }
+    ensures ok { IfOk result
+        (λ r. option_and_then run_in (rows_in run_app (map string_bytes arguments.entry.now))
+        ≡ Some (run r.file.now r.limit r.workers r.journal)) }
+    ensures err { IfErr result
+        (λ error. error ≡ ArgumentsError.Refused
+        → option_and_then run_in (rows_in run_app (map string_bytes arguments.entry.now)) ≡ None) }
 {
     let command = run_command(alloc)?;
     let matches = matches_in(command, arguments)?;
@@ -41,7 +45,6 @@ pub(crate) fn read_run<'w>(
 }
 
 // `run FILE [--limit N] [--workers N] [--journal]`
-#[tactic(auto, unfolding(crate::specs::Requests::run_app))]
 fn run_command<'w>(alloc: Global) -> Result<Command<'w>, AllocError>
     ensures { IfOk result (λ command. app_of command ≡ run_app) }
 {
@@ -54,7 +57,8 @@ fn run_command<'w>(alloc: Global) -> Result<Command<'w>, AllocError>
 // The run that these matches ask for.
 #[tactic(auto, using(crate::proofs::Reading::first_in_rows))]
 fn run_of<'w>(matches: &ArgMatches<'w>) -> Option<Run<'w>>
-    ensures { option_map (λ r. run r.file.now r.limit r.workers r.journal) result ≡ run_in (rows_of (found_of matches.now)) }
+    ensures { option_map (λ r. run r.file.now r.limit r.workers r.journal) result
+        ≡ run_in (rows_of (found_of matches.now)) }
 {
     let file = matches.get_str("file")?;
     let limit = limit_of(matches.get_str("limit"))?;

@@ -18,9 +18,9 @@ use std::alloc::Global;
 use std::sync::Arc;
 use task_graph::Net;
 
-const MAX_TASKS: usize = 10_000;
+const MAX_FILE_TASKS: usize = 10_000;
 
-const MAX_EDGES: usize = 100_000;
+const MAX_FILE_EDGES: usize = 100_000;
 
 const MAX_TEXTS: usize = 1_024;
 
@@ -113,10 +113,10 @@ fn add_edge(
 fn check_limits(draft: &Draft<'_>) -> Result<(), GraphError>
     ensures { Reads result (within_limits (draft_rows draft.now)) }
 {
-    if draft.names.len() > MAX_TASKS {
+    if draft.names.len() > MAX_FILE_TASKS {
         return Err(GraphError::TooMany(Kind::Tasks));
     }
-    if draft.links.len() > MAX_EDGES {
+    if draft.links.len() > MAX_FILE_EDGES {
         return Err(GraphError::TooMany(Kind::Edges));
     }
     if draft.texts.len() > MAX_TEXTS {

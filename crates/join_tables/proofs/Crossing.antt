@@ -2,9 +2,14 @@
 -- types that they are made of, one after the other, since a search for all at once gives up.
 use denote.RattleType.{RattleType}
 use denote.Param.Send.{IsSend, IsSync, sendable}
-use Rattle.std.proofs.Crossing.{crosses, frees}
+use Rattle.std.proofs.Crossing.{crosses, frees, send}
 use Rattle.std.proofs.alloc.Global.TheSendSync as heap
 use Rattle.std.proofs.option.Option.TheSendSync as option
+use Rattle.std_collections.proofs.ListMemory.Crosses.{Nodes-send}
+use Rattle.std_collections.specs.contracts.linked_list.LinkedList as linked_list
+use Rattle.std_collections.specs.contracts.linked_list.nodes.Nodes as list_nodes
+use Rattle.std_heap.specs.contracts.Global as Heap
+use Rattle.std_heap.specs.contracts.GlobalAllocator.TheImpl.{ghosts}
 use Rattle.atomic_table.proofs.shared.Seat.TheSendSync as seat
 use Rattle.atomic_table.proofs.shared.Shared.TheSendSync as shared
 use Rattle.atomic_table.proofs.send_lease.SendLease.TheSendSync as lease
@@ -31,15 +36,22 @@ use Rattle.join_tables.specs.contracts.turns.NetTable as net_table
 
 ruleset tables = (crosses, frees, heap.the_field_send, heap.the_field_sync, heap.the_send, heap.the_sync, option.the_send, option.the_sync, seat.the_send, shared.the_send, shared.the_sync, lease.the_send, lease.the_sync, tag.the_send, tag.the_sync, sendable)
 
+-- the nodes of a list, at the heap
+nodes_send : (T : RattleType) → IsSend T → IsSend (list_nodes.the_row T Heap.the_row ghosts)
+nodes_send T s = Nodes-send T Heap.the_row ghosts s send frees
+
 module _ (V : RattleType) (s : IsSend V) (y : IsSync V) where
   given_send : IsSend (given.the_row V)
   given_send = search (tables) depth 60 fits 20000
+
+  parcels_send : IsSend (linked_list.the_row (given.the_row V) Heap.the_row ghosts)
+  parcels_send = search (given_send, nodes_send, tables) depth 60 fits 20000
 
   ins_send : IsSend (ins.the_row V)
   ins_send = search (given_send, tables) depth 60 fits 20000
 
   seat_send : IsSend (table_seat.the_row V)
-  seat_send = search (tables) depth 60 fits 20000
+  seat_send = search (parcels_send, tables) depth 60 fits 20000
 
   inputs_send : IsSend (inputs.the_row V)
   inputs_send = search (ins_send, tables) depth 60 fits 20000
@@ -72,7 +84,7 @@ module _ (V : RattleType) (s : IsSend V) (y : IsSync V) where
   running_send = search (seat_send, inputs_send, tables) depth 60 fits 20000
 
   pub owing_send : IsSend (owing.the_row V)
-  owing_send = search (seat_send, ended_send, tables) depth 60 fits 20000
+  owing_send = search (seat_send, ended_send, parcels_send, tables) depth 60 fits 20000
 
   pub spent_send : IsSend (spent.the_row V)
   spent_send = search (seat_send, fate_send, tables) depth 60 fits 20000
@@ -87,7 +99,7 @@ module _ (V : RattleType) (s : IsSend V) (y : IsSync V) where
   rest_send = search (seat_send, inputs_send, tables) depth 60 fits 20000
 
   pub table_send : IsSend (net_table.the_row V)
-  table_send = search (given_send, tables) depth 60 fits 20000
+  table_send = search (parcels_send, tables) depth 60 fits 20000
 
   pub table_sync : IsSync (net_table.the_row V)
-  table_sync = search (given_send, tables) depth 60 fits 20000
+  table_sync = search (parcels_send, tables) depth 60 fits 20000

@@ -160,7 +160,8 @@ pub fn first_parcels<V: Drop>(alloc: Global, net: &Net) -> Result<Vec<Parcels<V>
     let count = net.edges().len();
     let mut parcels = Vec::with_capacity(alloc, count)?;
     for edge in 0..count {
-        parcels.push_reserved(first_parcel(alloc, net, edge as u32)?);
+        let lying = first_parcel(alloc, net, edge as u32)?;
+        parcels.push_reserved(lying);
     }
     Ok(parcels)
 }

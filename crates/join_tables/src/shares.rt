@@ -2,7 +2,7 @@
 ghost use Rattle.std.specs.Prelude.{◌≡◌, IfOk};
 ghost use Rattle.std.specs.Arc.{arc_value};
 ghost use Rattle.join_tables.specs.Shares.{shared_state};
-ghost use Rattle.join_tables.specs.inside.Sharing.{IsShareOf, placed};
+ghost use Rattle.join_tables.specs.inside.Sharing.{IsShareOf, at_place, placed};
 
 use join_words::Given;
 use outside_io::NoMemory;
@@ -63,8 +63,17 @@ fn share_of<V: Drop>(alloc: Global, value: &Arc<V>) -> Result<Parcels<V>, NoMemo
 pub(crate) fn placed<V>(mut share: Parcels<V>, place: u64) -> Parcels<V>
     ensures { result ≡ placed place share }
 {
-    if let Some(Given::Value(at, _)) = share.front_mut() {
-        *at = place;
+    if let Some(parcel) = share.front_mut() {
+        set_place(parcel, place);
     }
     share
+}
+
+// Writes the place of an End on its parcel.
+fn set_place<V>(parcel: &mut Given<V>, place: u64)
+    ensures { parcel.new ≡ at_place place parcel.old }
+{
+    if let Given::Value(at, _) = parcel {
+        *at = place;
+    }
 }

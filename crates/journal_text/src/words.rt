@@ -39,7 +39,7 @@ fn begins_number(bytes: &[u8]) -> bool
 fn digits_at(bytes: &[u8]) -> Option<(u64, &[u8])>
     ensures { option_map (λ x. (x.0, x.1.now)) result
         ≡ (if nat_lt (number_on 0 bytes.now).0 (2 ^ 64)
-            then Some (number_on 0 bytes.now) else None) }
+        then Some (number_on 0 bytes.now) else None) }
 {
     let mut value = 0u64;
     for (i, byte) in bytes.iter().enumerate() {

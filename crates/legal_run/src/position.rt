@@ -200,7 +200,7 @@ impl<'j> Position<'j> {
             (Fault start why) break) }
         ensures task { IfOk result (λ task. task < length self.now.net.tasks) }
     {
-        if !self.has_why(why) {
+        if !self.is_why_in_range(why) {
             return Err(Break::NoSuch);
         }
         if self.counts.is_stuck {
@@ -216,7 +216,7 @@ impl<'j> Position<'j> {
     }
 
     // Whether the semaphore of a fault is the net's.
-    fn has_why(&self, why: Why) -> bool
+    fn is_why_in_range(&self, why: Why) -> bool
         ensures { IsTrue result ↔ WhyInRange self.now.net why }
     {
         match why {

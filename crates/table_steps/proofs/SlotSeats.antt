@@ -312,8 +312,8 @@ put_back_allowed {S} {part} net limit slots id me f below may s h _ at small = f
       gives,
       tt,
       subst (λ q. KeepsAccounts part net limit (stepped s (marks_from net + f) 0 id ((q, y) ∷ more) (put_laid f me.0) gives)) (sym laid.0)
-      (slot_returned net limit s h id f y more Putting Put (Queued f qs ∷ v) (relot Putting Put (λ p. p) f v) (gives_queue Putting Put (λ p. p) qs f v r) (queue_turn f qs v may.turn) below at_queue (λ n. omega arith)
-      (λ out inside one. put_back_kept net limit part s h id f may.from.place y qs v r is_from (laid.1 ∙ ap (λ p. qs ++ p ∷ []) may.from.is) at_queue out inside h.slots)),
+          (slot_returned net limit s h id f y more Putting Put (Queued f qs ∷ v) (relot Putting Put (λ p. p) f v) (gives_queue Putting Put (λ p. p) qs f v r) (queue_turn f qs v may.turn) below at_queue (λ n. omega arith)
+          (λ out inside one. put_back_kept net limit part s h id f may.from.place y qs v r is_from (laid.1 ∙ ap (λ p. qs ++ p ∷ []) may.from.is) at_queue out inside h.slots)),
       (refl, refl),
     )
     from [] laid = absurd laid
@@ -340,8 +340,8 @@ take_back_allowed {S} {part} net limit slots id me f below may s h _ at small = 
       gives,
       tt,
       subst (λ q. KeepsAccounts part net limit (stepped s (marks_from net + f) 0 id ((q, y) ∷ more) (take_laid f me.0) gives)) (sym laid.0)
-      (slot_returned net limit s h id f y more Taking Fetched (Queued f qs ∷ v) (relot Taking Fetched (λ p. oldest qs) f v) (gives_queue Taking Fetched (λ p. oldest qs) qs f v r) (queue_turn f qs v may.turn) below at_queue (λ n. omega arith)
-      (λ out inside one. take_back_kept net limit part s h id f y qs v r laid.1 at_queue out inside one h.slots)),
+          (slot_returned net limit s h id f y more Taking Fetched (Queued f qs ∷ v) (relot Taking Fetched (λ p. oldest qs) f v) (gives_queue Taking Fetched (λ p. oldest qs) qs f v r) (queue_turn f qs v may.turn) below at_queue (λ n. omega arith)
+          (λ out inside one. take_back_kept net limit part s h id f y qs v r laid.1 at_queue out inside one h.slots)),
       (refl, refl),
     )
     from [] laid = absurd laid

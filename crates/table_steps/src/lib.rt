@@ -104,5 +104,6 @@ pub use opening::table_of;
 pub use steps::{FIRST_UNIT, LIVE, Words};
 pub use table_seat::TableSeat;
 pub use view::{
-    AccountsHold, EndValue, LimitedNet, Lot, Note, Parcels, SeatMark, SeatView, SemaphoreRole, TurnDuty,
+    AccountsHold, EndValue, LimitedNet, Lot, Note, Parcels, SeatMark, SeatView, SemaphoreRole,
+    TurnDuty,
 };
