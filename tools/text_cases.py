@@ -1,14 +1,14 @@
 #!/usr/bin/env python3
 """What the operations make of small texts, computed by this program alone.
 
-It prints the table in crates/test_texts/src/operation_cases.rt: each line has a text and what each of the operations makes of
+It prints the table in crates/test_parts/src/operation_cases.rt: each line has a text and what each of the operations makes of
 it, in their order. `~` stands for a line feed and `_` for a space. `--check` says whether that file has this table.
 """
 import os
 import random
 import sys
 
-FILE = os.path.join(os.path.dirname(__file__), "..", "crates/test_texts/src/operation_cases.rt")
+FILE = os.path.join(os.path.dirname(__file__), "..", "crates/test_parts/src/operation_cases.rt")
 
 OPS = [
     "pass", "keep a", "keep ab", "without b", "head 2", "tail 2", "skip 2", "sort", "uniq", "count", "tally", "has b",

@@ -139,7 +139,7 @@ one_entry_twice are = absurd (omega (arith, are.once 0 (omega arith)))
 abbrev seat_with : List Note → SeatView ℕ
 seat_with notes = record { notes = notes; values = [] }
 
-abbrev table : State (Given ℕ) (SeatView ℕ)
+abbrev table : State (List (Given ℕ)) (SeatView ℕ)
 table = record {
   words = 0 ∷ 0 ∷ 0 ∷ 0 ∷ 0 ∷ 0 ∷ 0 ∷ 0 ∷ 2 ∷ 9 ∷ [];
   homes = [];

@@ -10,7 +10,7 @@ use Rattle.std.proofs.lemmas.List.Elements.{All-from_recursion, All-head}
 use Rattle.atomic_table.specs.Seated.{TableId}
 use Rattle.task_graph.specs.NetRows.{NetRows}
 use Rattle.task_graph.specs.declared.net.Shape.{Shape}
-use Rattle.task_graph.specs.declared.net.Shape.TheVariants.{Plain, Nested}
+use Rattle.task_graph.specs.declared.net.Shape.TheVariants.{Plain, Choice, Nested}
 use Rattle.task_graph.specs.declared.net.TaskRow.{TaskRow}
 use Rattle.task_graph.specs.declared.net.EdgeRow.{EdgeRow}
 use Rattle.journal_rules.specs.declared.entry.Cause.TheVariants.{Source, Strong}
@@ -508,8 +508,8 @@ module _ (n m : TableId) (other : m ≢ n) where
     abbrev keeper_that_found : ℕ → KeeperState ℕ
     keeper_that_found k = keeper_state n (fate ∷ []) (k ∷ before)
 
-    goes_on : TakesIn own (fate ∷ []) Went (keeper_that_found 2)
-    goes_on = record { table = refl; earlier = []; fates_are = refl; before = before; found = (refl, (λ closed. absurd closed, λ two. absurd (omega (arith, two)))) }
+    goes_on_before_the_last : TakesIn own (fate ∷ []) Went (keeper_that_found 2)
+    goes_on_before_the_last = record { table = refl; earlier = []; fates_are = refl; before = before; found = (refl, (λ closed. absurd closed, λ two. absurd (omega (arith, two)))) }
 
     goes_on_after_the_last : ¬ TakesIn own (fate ∷ []) Went (keeper_that_found 1)
     goes_on_after_the_last is = is.found.1.1 refl

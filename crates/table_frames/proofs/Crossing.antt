@@ -11,9 +11,9 @@ use Rattle.atomic_table.proofs.send_lease.SendLease.TheSendSync as lease
 use Rattle.boxcar.proofs.tag.Tag.TheSendSync as tag
 use Rattle.run_frame.specs.declared.job.Job as Job
 use Rattle.run_frame.specs.declared.job.Valued as Valued
+use Rattle.join_tables.proofs.Crossing as turns
 use Rattle.join_tables.specs.contracts.turns.Fresh as fresh
 use Rattle.join_tables.specs.contracts.turns.NetTable as table
-use Rattle.join_tables.specs.contracts.fates.Fate as fate
 use Rattle.join_tables.specs.contracts.batch.SpentBatch as batch
 use Rattle.join_tables.specs.contracts.keeper.Keeper as keeper
 use Rattle.table_frames.specs.contracts.table_run.TableRun as table_run
@@ -29,22 +29,19 @@ ruleset tables = (crosses, frees, heap.the_field_send, heap.the_field_sync, heap
 
 module _ (T V : RattleType) (J : Job.Ghosts T.Denot V.Denot) (W : Valued.Ghosts T.Denot V.Denot) (s : IsSend T) (y : IsSync T) (sv : IsSend V) (yv : IsSync V) where
   pub fresh_send : IsSend (fresh.the_row V)
-  fresh_send = search tables depth 60 fits 20000
-
-  fate_send : IsSend (fate.the_row V)
-  fate_send = search tables depth 60 fits 20000
+  fresh_send = turns.fresh_send V sv yv
 
   batch_send : IsSend (batch.the_row V)
-  batch_send = search (fate_send, tables) depth 60 fits 20000
+  batch_send = turns.batch_send V sv yv
 
   keeper_send : IsSend (keeper.the_row V)
-  keeper_send = search (fate_send, tables) depth 60 fits 20000
+  keeper_send = turns.keeper_send V sv yv
 
   table_send : IsSend (table.the_row V)
-  table_send = search tables depth 60 fits 20000
+  table_send = turns.table_send V sv yv
 
   table_sync : IsSync (table.the_row V)
-  table_sync = search tables depth 60 fits 20000
+  table_sync = turns.table_sync V sv yv
 
   kept_send : IsSend (kept.the_row T V J)
   kept_send = search (keeper_send, tables) depth 60 fits 20000

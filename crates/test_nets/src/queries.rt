@@ -1,10 +1,11 @@
 // What a machine says of the steps to come, and what the judge says of those that were taken.
-ghost use Rattle.std.specs.Prelude.{◌≡◌};
+ghost use Rattle.std.specs.Prelude.{◌≡◌, ◌<◌, length};
 
 use crate::nets::{CHOICE, NetCase, PLAIN, built};
 use crate::steps::{Step, ask, judged};
 use journal_rules::{Cause, Part};
 use legal_run::{Break, Machine, Ready, Verdict};
+use outside_io::NoMemory;
 use std::test::Fail;
 
 // Task 0 begins a loop of task 1 and the Choice 2, which goes back by edge 3. Task 4 follows task 1, by edge 2, and
@@ -67,18 +68,29 @@ fn go_round(machine: &mut Machine)
     }
 }
 
+// Whether these releases are left.
+fn are_ready(machine: &Machine, expected: &[Ready]) -> Result<bool, NoMemory> {
+    Ok(machine.ready()?.as_slice() == expected)
+}
+
+// Whether a start of a task by its strong edges, none of which is due, would find these parts.
+fn waits_with(machine: &Machine, task: u32, expected: &[Part]) -> Result<bool, NoMemory>
+    requires { task < length machine.now.net.tasks }
+{
+    let parts = machine.parts(task, Cause::Strong)?;
+    Ok(machine.rounds(task) == 0 && parts.as_slice() == expected)
+}
+
 // Task 4 has a token by one of its edges and none by the other after the round.
 #[test]
 fn tokens_are_kept_for_a_task_that_waits(rt: HostRuntime) -> Result<(), Fail> {
     let net = built(rt.alloc(), LOOP)?;
     assert_eq!(rt; net.tasks().len(), 5);
     let mut machine = Machine::new(rt.alloc(), net, 10)?;
-    assert_eq!(rt; machine.ready()?.as_slice(), AT_FIRST.as_slice());
+    assert!(rt; are_ready(&machine, &AT_FIRST)?);
     go_round(&mut machine);
-    assert_eq!(rt; machine.ready()?.as_slice(), AFTER_ROUND.as_slice());
-    assert_eq!(rt; machine.rounds(4), 0);
-    let parts = machine.parts(4, Cause::Strong)?;
-    assert_eq!(rt; parts.as_slice(), [Part::From(7), Part::Nothing].as_slice());
+    assert!(rt; are_ready(&machine, &AFTER_ROUND)?);
+    assert!(rt; waits_with(&machine, 4, &[Part::From(7), Part::Nothing])?);
     Ok(())
 }
 

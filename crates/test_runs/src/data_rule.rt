@@ -55,6 +55,48 @@ pub(crate) fn meets_data_rule(
     Ok(true)
 }
 
+/// Whether no start finds nothing at an edge that released it.
+pub(crate) fn finds_something(journal: &[Entry]) -> bool {
+    !journal.iter().any(
+        |entry| matches!(entry, Entry::Start { ins, .. } if ins.contains(&Part::Nothing)),
+    )
+}
+
+/// Whether the starts of a journal find what each edge was given in the order in which it was given it.
+pub(crate) fn finds_in_order(
+    alloc: Global,
+    net: &Net,
+    journal: &[Entry],
+) -> Result<bool, NoMemory> {
+    let mut least = vec![in alloc; 0u64; net.edges().len()]?;
+    for entry in journal {
+        let Entry::Start { task, cause, ins } = entry else {
+            continue;
+        };
+        let weak = weak_edge(*cause);
+        let edges = released_by(net, *task, *cause, &weak);
+        for (edge, part) in edges.iter().zip(ins.as_slice()) {
+            if !is_next(least.as_mut_slice(), *edge, *part) {
+                return Ok(false);
+            }
+        }
+    }
+    Ok(true)
+}
+
+// Whether a part may be found at an edge, by the least place of an End that may be found there. It is found then.
+fn is_next(least: &mut [u64], edge: u32, part: Part) -> bool {
+    match (least.get_mut(edge as usize), part) {
+        (Some(least), Part::From(place)) => {
+            let is_later = *least <= place;
+            *least = place.saturating_add(1);
+            is_later
+        }
+        (Some(least), Part::First) => *least == 0,
+        _ => false,
+    }
+}
+
 // The weak edge of a cause, or some edge.
 fn weak_edge(cause: Cause) -> [u32; 1] {
     match cause {

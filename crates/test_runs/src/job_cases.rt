@@ -86,8 +86,8 @@ const LOOPS: NetCase = NetCase {
     ..EMPTY
 };
 
-/// Joins, choices, loops, tokens that are kept, limits and faults.
-pub(crate) const CASES: [JobCase; 28] = [
+/// Joins, choices, loops, tokens that are kept or queue up, limits and faults.
+pub(crate) const CASES: [JobCase; 30] = [
     NO_TASK,
     TWO_TASKS,
     JobCase {
@@ -230,6 +230,38 @@ pub(crate) const CASES: [JobCase; 28] = [
         },
         turns: 9,
         starts: (4, 4),
+        ..NO_TASK
+    },
+    JobCase {
+        name: "three branches back to a condition, whose one edge gets three tokens",
+        net: NetCase {
+            tasks: &[PLAIN, CHOICE, CHOICE, CHOICE, CHOICE, PLAIN],
+            edges: &[(0, 1), (0, 2), (0, 3), (1, 4), (2, 4), (3, 4), (4, 5)],
+            ..EMPTY
+        },
+        turns: 9,
+        starts: (10, 10),
+        ..NO_TASK
+    },
+    // Each of the three values goes round until it is 6, so that one that isn't found shows in the number of starts.
+    JobCase {
+        name: "three values in one loop",
+        net: NetCase {
+            tasks: &[PLAIN, CHOICE, CHOICE, CHOICE, CHOICE, PLAIN],
+            edges: &[
+                (0, 1),
+                (0, 2),
+                (0, 3),
+                (1, 4),
+                (2, 4),
+                (3, 4),
+                (4, 4),
+                (4, 5),
+            ],
+            ..EMPTY
+        },
+        turns: 6,
+        starts: (19, 19),
         ..NO_TASK
     },
     JobCase {

@@ -1,6 +1,6 @@
 // Runs of the jobs: each by one thread in ten orders, recorded after each step, after some or at the end; each by `run_alone`; and
 // each by crews.
-use crate::data_rule::meets_data_rule;
+use crate::data_rule::{finds_in_order, finds_something, meets_data_rule};
 use crate::job_cases::{CASES, FAN, JobCase, TWO_TASKS};
 use crate::led::{Order, led};
 use crate::nets::fan;
@@ -37,7 +37,7 @@ const CREWS: [usize; 4] = [1, 2, 4, 16];
 // How often each crew runs each job.
 const TIMES: u32 = 5;
 
-// The journal is complete and meets the data rule, and has as many starts as the case says.
+// The journal is complete and meets the data rule, no start lacks a part, and there are as many starts as the case says.
 fn check_run(
     rt: &impl Abort,
     alloc: Global,
@@ -49,6 +49,7 @@ fn check_run(
     assert!(rt; verdict == Verdict::Complete, "{}: {verdict:?}", case.name);
     let journal = run.journal.as_slice();
     assert!(rt; meets_data_rule(alloc, net, journal)?, "{}", case.name);
+    assert!(rt; finds_something(journal), "{}", case.name);
     let starts = journal
         .iter()
         .filter(|entry| matches!(entry, Entry::Start { .. }))
@@ -62,6 +63,22 @@ fn check_run(
     Ok(())
 }
 
+// By one thread the parts are found in their order, besides.
+fn check_run_alone(
+    rt: &impl Abort,
+    alloc: Global,
+    net: &Net,
+    case: &JobCase,
+    run: &FrameRun<NumberJob>,
+) -> Result<(), Fail> {
+    assert!(rt;
+        finds_in_order(alloc, net, run.journal.as_slice())?,
+        "{}",
+        case.name
+    );
+    check_run(rt, alloc, net, case, run)
+}
+
 #[test]
 fn jobs_are_run_by_one_thread(rt: HostRuntime) -> Result<(), Fail> {
     for case in &CASES {
@@ -69,7 +86,7 @@ fn jobs_are_run_by_one_thread(rt: HostRuntime) -> Result<(), Fail> {
         lead_each(&rt, rt.alloc(), &net, case)?;
         let job = Arc::new(rt.alloc(), case.job(&rt, &net)?)?;
         let run = run_alone(&rt, rt.alloc(), job)?;
-        check_run(&rt, rt.alloc(), &net, case, &run)?;
+        check_run_alone(&rt, rt.alloc(), &net, case, &run)?;
     }
     Ok(())
 }
@@ -86,7 +103,7 @@ fn lead_each(
             let Some(run) = led(rt, alloc, job, order, often)? else {
                 panic!(rt; "{} doesn't end", case.name);
             };
-            check_run(rt, alloc, net, case, &run)?;
+            check_run_alone(rt, alloc, net, case, &run)?;
         }
     }
     Ok(())

@@ -109,8 +109,10 @@ fn is_printed(alloc: Global, journal: &Journal, text: &str) -> Result<bool, Sink
 // Whether what is read of a text is printed as another one.
 fn is_printed_again(alloc: Global, text: &str, again: &str) -> Result<bool, Fail> {
     let bytes = bytes_of(alloc, text)?;
-    let journal = read_journal(alloc, bytes.as_slice())?;
-    Ok(is_printed(alloc, &journal, again)?)
+    match read_journal(alloc, bytes.as_slice()) {
+        Ok(journal) => Ok(is_printed(alloc, &journal, again)?),
+        Err(_) => Ok(false),
+    }
 }
 
 #[test]
