@@ -1,2 +1,0 @@
--- Internal: what runs that are led in some order hold between two steps.
-pub mod Orders
