@@ -4,9 +4,9 @@ use Rattle.std.specs.Ordering.{is_le, is_lt, ordering_reverse, ordering_then, na
 use Rattle.std.specs.declared.cmp.Ordering.{Ordering}
 use Rattle.std.specs.declared.cmp.Ordering.TheVariants.{Less, Equal, Greater}
 use Rattle.std.proofs.lemmas.Cmp.{ranked, by_ranked, nat_list_cmp_total}
-use Rattle.text_ops.specs.declared.mark.Piece.{Piece}
+use Rattle.text_ops.specs.declared.sort_key.Piece.{Piece}
 use Rattle.text_ops.specs.LineOrder.{line_cmp, IsUpTo}
-use Rattle.text_ops.specs.inside.Marks.{MarkRow, digits_on, lead_of, behind_leads_cmp, tie_of, marked_piece, mark_cmp}
+use Rattle.text_ops.specs.inside.SortKeys.{SortKeyRow, digits_on, lead_of, behind_leads_cmp, tie_of, keyed_piece, sort_key_cmp}
 
 AreBytes-rest : (byte : ℕ) (rest : List ℕ) → ((k : ℕ) → get_or (byte ∷ rest) k 0 < 256) → (k : ℕ) → get_or rest k 0 < 256
 AreBytes-rest byte rest bytes k = bytes (suc k)
@@ -80,24 +80,24 @@ digits_on-behind (suc n) x (p ∷ ps) (q ∷ qs) bytes others same =
 pub lead_of-behind : (a b : List ℕ) → ((k : ℕ) → get_or a k 0 < 256) → ((k : ℕ) → get_or b k 0 < 256) → lead_of a ≡ lead_of b → behind_leads_cmp a b ≡ line_cmp a b
 lead_of-behind a b bytes others same = digits_on-behind 8 0 a b bytes others same
 
--- Marks that aren't the other way round stand for pieces that aren't.
+-- Sort keys that aren't the other way round stand for pieces that aren't.
 reversed : (a b : List ℕ) → line_cmp a b ≡ ordering_reverse (line_cmp b a)
 reversed a b = nat_list_cmp_total.antisymm a b
 
-pub marked_piece-up_to : (by : Piece) (text : List ℕ) (a b : MarkRow) → a.lead ≡ lead_of (marked_piece text a) → b.lead ≡ lead_of (marked_piece text b) → ((k : ℕ) → get_or (marked_piece text a) k 0 < 256) → ((k : ℕ) → get_or (marked_piece text b) k 0 < 256) → is_lt (mark_cmp by text b a) ≡ false → IsUpTo (marked_piece text a) (marked_piece text b)
-marked_piece-up_to by text a b lead_a lead_b others bytes not = ap is_le (reversed (marked_piece text a) (marked_piece text b)) ∙ by_order (line_cmp (marked_piece text b) (marked_piece text a)) refl
+pub keyed_piece-up_to : (by : Piece) (text : List ℕ) (a b : SortKeyRow) → a.lead ≡ lead_of (keyed_piece text a) → b.lead ≡ lead_of (keyed_piece text b) → ((k : ℕ) → get_or (keyed_piece text a) k 0 < 256) → ((k : ℕ) → get_or (keyed_piece text b) k 0 < 256) → is_lt (sort_key_cmp by text b a) ≡ false → IsUpTo (keyed_piece text a) (keyed_piece text b)
+keyed_piece-up_to by text a b lead_a lead_b others bytes not = ap is_le (reversed (keyed_piece text a) (keyed_piece text b)) ∙ by_order (line_cmp (keyed_piece text b) (keyed_piece text a)) refl
   where
-    shown : b.lead ≡ a.lead → behind_leads_cmp (marked_piece text b) (marked_piece text a) ≡ line_cmp (marked_piece text b) (marked_piece text a)
-    shown same = lead_of-behind (marked_piece text b) (marked_piece text a) bytes others (sym lead_b ∙ same ∙ lead_a)
+    shown : b.lead ≡ a.lead → behind_leads_cmp (keyed_piece text b) (keyed_piece text a) ≡ line_cmp (keyed_piece text b) (keyed_piece text a)
+    shown same = lead_of-behind (keyed_piece text b) (keyed_piece text a) bytes others (sym lead_b ∙ same ∙ lead_a)
 
-    by_order : (o : Ordering) → line_cmp (marked_piece text b) (marked_piece text a) ≡ o → is_le (ordering_reverse o) ≡ true
+    by_order : (o : Ordering) → line_cmp (keyed_piece text b) (keyed_piece text a) ≡ o → is_le (ordering_reverse o) ≡ true
     by_order Less is =
-        let low : b.lead ≤ a.lead = omega (arith, lead_of-up_to (marked_piece text b) (marked_piece text a) bytes (ap is_le is), lead_a, lead_b) in
+        let low : b.lead ≤ a.lead = omega (arith, lead_of-up_to (keyed_piece text b) (keyed_piece text a) bytes (ap is_le is), lead_a, lead_b) in
         by_ranked (b.lead < a.lead) (b.lead ≡ a.lead) (a.lead < b.lead) (nat_cmp b.lead a.lead) (ranked b.lead a.lead (nat_cmp b.lead a.lead) refl)
-        (λ lead less. let never : true ≡ false = sym (ap (λ o. is_lt (ordering_then o (ordering_then (behind_leads_cmp (marked_piece text b) (marked_piece text a)) (nat_cmp (tie_of by b) (tie_of by a))))) lead) ∙ not in cc)
+        (λ lead less. let never : true ≡ false = sym (ap (λ o. is_lt (ordering_then o (ordering_then (behind_leads_cmp (keyed_piece text b) (keyed_piece text a)) (nat_cmp (tie_of by b) (tie_of by a))))) lead) ∙ not in cc)
         (λ lead same.
         let never : true ≡ false =
-        sym (ap (λ o. is_lt (ordering_then o (ordering_then (behind_leads_cmp (marked_piece text b) (marked_piece text a)) (nat_cmp (tie_of by b) (tie_of by a))))) lead
+        sym (ap (λ o. is_lt (ordering_then o (ordering_then (behind_leads_cmp (keyed_piece text b) (keyed_piece text a)) (nat_cmp (tie_of by b) (tie_of by a))))) lead
         ∙ ap (λ o. is_lt (ordering_then o (nat_cmp (tie_of by b) (tie_of by a)))) (shown same ∙ is)) ∙ not in cc)
         (λ lead more. absurd (omega arith))
     by_order Equal is = refl

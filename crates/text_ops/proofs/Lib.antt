@@ -9,10 +9,10 @@ pub mod CountLemmas
 pub mod CutLemmas
 pub mod LineSteps
 pub mod RepeatLemmas
-pub mod MarkLemmas
+pub mod SortKeyLemmas
 pub mod OrderLemmas
 pub mod LeadLemmas
-pub mod SortedMarks
+pub mod SortedKeys
 pub mod ShortLines
 pub mod SortLemmas
 pub mod TallyLemmas

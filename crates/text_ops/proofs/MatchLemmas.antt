@@ -1,4 +1,4 @@
--- Lines found by their keys among sorted marks.
+-- Lines found by their keys among sorted sort keys.
 use Rattle.std.proofs.Common.{◌≡◌, ◌≢◌, ℕ, ◌+◌, ◌<◌, ◌≤◌, ◌==◌, true, false, not, List, [], ◌∷◌, ◌++◌, length, take, drop, get_or, get_or-drop, Some, None, refl, sym, ap, subst, ◌∙◌, arith}
 use Rattle.std.specs.List.{between, take_while}
 use Rattle.std.specs.Ordering.{nat_cmp, ordering_then, is_lt, is_le, ordering_reverse}
@@ -10,14 +10,14 @@ use Rattle.std.proofs.lemmas.List.{drop-drop, drop-append-le, take_all, append_a
 use Rattle.std.proofs.lemmas.List.Sums.{prefix_len_is}
 use Rattle.std.proofs.lemmas.Slice.{between_to_end}
 use Rattle.memchr.specs.Find.{IsFirstByte, is_byte}
-use Rattle.text_ops.specs.declared.mark.Piece.TheVariants.{Key}
+use Rattle.text_ops.specs.declared.sort_key.Piece.TheVariants.{Key}
 use Rattle.text_ops.specs.Lines.{line_end, text_of, IsPlain}
 use Rattle.text_ops.specs.LineOrder.{line_cmp, IsUpTo}
 use Rattle.text_ops.specs.MatchKeys.{match_key, behind_key}
-use Rattle.text_ops.specs.inside.Marks.{MarkRow, lead_of, marked_piece, mark_at}
-use Rattle.text_ops.specs.inside.Matching.{behind_mark, is_before}
+use Rattle.text_ops.specs.inside.SortKeys.{SortKeyRow, lead_of, keyed_piece, sort_key_at}
+use Rattle.text_ops.specs.inside.Matching.{behind_sort_key, is_before}
 use Rattle.text_ops.proofs.LeadLemmas.{lead_of-up_to}
-use Rattle.text_ops.proofs.MarkLemmas.{length-match_key-le}
+use Rattle.text_ops.proofs.SortKeyLemmas.{length-match_key-le}
 use Rattle.text_ops.proofs.OrderLemmas.{IsUpTo-trans, IsUpTo-antisym}
 
 -- What stands up to the next line end.
@@ -53,43 +53,43 @@ found_no_end text start within none =
     ∙ take_all (length rest) rest (omega arith))
     ∙ ap (take_while (λ byte. not (byte == line_end))) (between_to_end text start (length text) (omega arith))
 
--- A mark of a line's key has behind it what the line has behind its key.
+-- A sort key of a line's key has behind it what the line has behind its key.
 plain_behind : (line : List ℕ) (n : ℕ) → IsPlain line → IsPlain (drop n line)
 plain_behind line n plain k low is = plain (n + k) (omega (arith, length-drop n line)) (sym (get_or-drop n line k 0) ∙ is)
 
-pub behind-mark_at : (text : List ℕ) (at : ℕ) (line : List ℕ) (lines : List (List ℕ)) → drop at text ≡ text_of (line ∷ lines) → IsPlain line → behind_mark text (mark_at Key at line) ≡ behind_key line
-behind-mark_at text at line lines rest plain =
+pub behind-sort_key_at : (text : List ℕ) (at : ℕ) (line : List ℕ) (lines : List (List ℕ)) → drop at text ≡ text_of (line ∷ lines) → IsPlain line → behind_sort_key text (sort_key_at Key at line) ≡ behind_key line
+behind-sort_key_at text at line lines rest plain =
     let n = length (match_key line) in
     ap (take_while (λ byte. not (byte == line_end)))
     (sym (drop-drop n at text) ∙ ap (drop n) (rest ∙ append_assoc line (line_end ∷ []) (text_of lines))
     ∙ drop-append-le n line (line_end ∷ text_of lines) (length-match_key-le line))
     ∙ up_to_end (drop n line) (text_of lines) (plain_behind line n plain)
 
--- Marks with their leads compare with a key as their pieces do.
+-- Sort keys with their leads compare with a key as their pieces do.
 reversed : (a b : List ℕ) → line_cmp a b ≡ ordering_reverse (line_cmp b a)
 reversed a b = nat_list_cmp_total.antisymm a b
 
-pub before_is : (text key : List ℕ) (mark : MarkRow) → mark.lead ≡ lead_of (marked_piece text mark) → ((k : ℕ) → get_or (marked_piece text mark) k 0 < 256) → ((k : ℕ) → get_or key k 0 < 256) → is_before text key mark ≡ is_lt (line_cmp (marked_piece text mark) key)
-before_is text key mark lead bytes key_bytes = by_order (line_cmp (marked_piece text mark) key) refl
+pub before_is : (text key : List ℕ) (sort_key : SortKeyRow) → sort_key.lead ≡ lead_of (keyed_piece text sort_key) → ((k : ℕ) → get_or (keyed_piece text sort_key) k 0 < 256) → ((k : ℕ) → get_or key k 0 < 256) → is_before text key sort_key ≡ is_lt (line_cmp (keyed_piece text sort_key) key)
+before_is text key sort_key lead bytes key_bytes = by_order (line_cmp (keyed_piece text sort_key) key) refl
   where
-    by_order : (o : Ordering) → line_cmp (marked_piece text mark) key ≡ o → is_before text key mark ≡ is_lt (line_cmp (marked_piece text mark) key)
+    by_order : (o : Ordering) → line_cmp (keyed_piece text sort_key) key ≡ o → is_before text key sort_key ≡ is_lt (line_cmp (keyed_piece text sort_key) key)
     by_order Less is =
-        let low : mark.lead ≤ lead_of key = omega (arith, lead, lead_of-up_to (marked_piece text mark) key bytes (ap is_le is)) in
-        by_ranked (mark.lead < lead_of key) (mark.lead ≡ lead_of key) (lead_of key < mark.lead) (nat_cmp mark.lead (lead_of key)) (ranked mark.lead (lead_of key) (nat_cmp mark.lead (lead_of key)) refl)
-        (λ r less. ap (λ p. is_lt (ordering_then p (line_cmp (marked_piece text mark) key))) r ∙ sym (ap is_lt is))
-        (λ r same. ap (λ p. is_lt (ordering_then p (line_cmp (marked_piece text mark) key))) r)
+        let low : sort_key.lead ≤ lead_of key = omega (arith, lead, lead_of-up_to (keyed_piece text sort_key) key bytes (ap is_le is)) in
+        by_ranked (sort_key.lead < lead_of key) (sort_key.lead ≡ lead_of key) (lead_of key < sort_key.lead) (nat_cmp sort_key.lead (lead_of key)) (ranked sort_key.lead (lead_of key) (nat_cmp sort_key.lead (lead_of key)) refl)
+        (λ r less. ap (λ p. is_lt (ordering_then p (line_cmp (keyed_piece text sort_key) key))) r ∙ sym (ap is_lt is))
+        (λ r same. ap (λ p. is_lt (ordering_then p (line_cmp (keyed_piece text sort_key) key))) r)
         (λ r more. absurd (omega arith))
     by_order Equal is =
-        let same = IsUpTo-antisym (marked_piece text mark) key (ap is_le is) (ap is_le (reversed key (marked_piece text mark) ∙ ap ordering_reverse is)) in
+        let same = IsUpTo-antisym (keyed_piece text sort_key) key (ap is_le is) (ap is_le (reversed key (keyed_piece text sort_key) ∙ ap ordering_reverse is)) in
         let level = lead ∙ ap lead_of same in
-        ap (λ n. is_lt (ordering_then (nat_cmp n (lead_of key)) (line_cmp (marked_piece text mark) key))) level
-        ∙ ap (λ p. is_lt (ordering_then p (line_cmp (marked_piece text mark) key))) (tied_itself nat_cmp_total (lead_of key))
+        ap (λ n. is_lt (ordering_then (nat_cmp n (lead_of key)) (line_cmp (keyed_piece text sort_key) key))) level
+        ∙ ap (λ p. is_lt (ordering_then p (line_cmp (keyed_piece text sort_key) key))) (tied_itself nat_cmp_total (lead_of key))
     by_order Greater is =
-        let high : lead_of key ≤ mark.lead = omega (arith, lead, lead_of-up_to key (marked_piece text mark) key_bytes (ap is_le (reversed key (marked_piece text mark) ∙ ap ordering_reverse is))) in
-        by_ranked (mark.lead < lead_of key) (mark.lead ≡ lead_of key) (lead_of key < mark.lead) (nat_cmp mark.lead (lead_of key)) (ranked mark.lead (lead_of key) (nat_cmp mark.lead (lead_of key)) refl)
+        let high : lead_of key ≤ sort_key.lead = omega (arith, lead, lead_of-up_to key (keyed_piece text sort_key) key_bytes (ap is_le (reversed key (keyed_piece text sort_key) ∙ ap ordering_reverse is))) in
+        by_ranked (sort_key.lead < lead_of key) (sort_key.lead ≡ lead_of key) (lead_of key < sort_key.lead) (nat_cmp sort_key.lead (lead_of key)) (ranked sort_key.lead (lead_of key) (nat_cmp sort_key.lead (lead_of key)) refl)
         (λ r less. absurd (omega arith))
-        (λ r same. ap (λ p. is_lt (ordering_then p (line_cmp (marked_piece text mark) key))) r)
-        (λ r more. ap (λ p. is_lt (ordering_then p (line_cmp (marked_piece text mark) key))) r ∙ sym (ap is_lt is))
+        (λ r same. ap (λ p. is_lt (ordering_then p (line_cmp (keyed_piece text sort_key) key))) r)
+        (λ r more. ap (λ p. is_lt (ordering_then p (line_cmp (keyed_piece text sort_key) key))) r ∙ sym (ap is_lt is))
 
 -- what is below what is below
 pub less_from : (a b c : List ℕ) → IsUpTo a b → is_lt (line_cmp b c) ≡ true → is_lt (line_cmp a c) ≡ true

@@ -5,7 +5,7 @@ use Rattle.std.specs.Int.{w64, to_be_bytes, from_be_bytes}
 use Rattle.std.proofs.lemmas.List.{take_more_set}
 use Rattle.std.proofs.lemmas.Nat.{be_bytes_8}
 use Rattle.text_ops.specs.Lines.{line_end, ended}
-use Rattle.text_ops.specs.inside.Marks.{lead_of}
+use Rattle.text_ops.specs.inside.SortKeys.{lead_of}
 
 -- the first eight bytes, with zeros for those that aren't there
 abbrev first_eight : List ℕ → List ℕ

@@ -124,17 +124,17 @@ module _ (line : List ℕ) (rest : List (List ℕ)) (rises : Rises (line ∷ res
       front_other v line (line ∷ rest)
       (λ is. absurd (omega (arith, none_left, ap (λ l. count_of l (drop (run_of (line ∷ rest)) (line ∷ rest))) is)))
 
--- The marks of a run.
-pub run_marks : {M : Type 0} (f : M → List ℕ) (marks : List M) (n : ℕ) (d : M) → 0 < length marks → n ≤ length marks → ((j : ℕ) → j < n → f (get_or marks j d) ≡ f (get_or marks 0 d)) → (n < length marks → f (get_or marks n d) ≢ f (get_or marks 0 d)) → n ≡ run_of (map f marks)
-run_marks f [] n d some within same differs = absurd (omega arith)
-run_marks f (mark ∷ marks) n d some within same differs =
-    let test = bytes_eq (f mark) in
-    let all = mark ∷ marks in
+-- The sort keys of a run.
+pub run_sort_keys : {M : Type 0} (f : M → List ℕ) (sort_keys : List M) (n : ℕ) (d : M) → 0 < length sort_keys → n ≤ length sort_keys → ((j : ℕ) → j < n → f (get_or sort_keys j d) ≡ f (get_or sort_keys 0 d)) → (n < length sort_keys → f (get_or sort_keys n d) ≢ f (get_or sort_keys 0 d)) → n ≡ run_of (map f sort_keys)
+run_sort_keys f [] n d some within same differs = absurd (omega arith)
+run_sort_keys f (sort_key ∷ sort_keys) n d some within same differs =
+    let test = bytes_eq (f sort_key) in
+    let all = sort_key ∷ sort_keys in
     sym (prefix_len_is test (map f all) n [] (omega (arith, length-map all f))
-    (λ k low. (bytes_eq-Decides (f mark) (get_or (map f all) k [])).1 (sym (get_or-map f all k d [] (omega arith) ∙ same k low)))
+    (λ k low. (bytes_eq-Decides (f sort_key) (get_or (map f all) k [])).1 (sym (get_or-map f all k d [] (omega arith) ∙ same k low)))
     (λ low. let inside : n < length all = omega (arith, length-map all f) in
     false_from_ne_true (test (get_or (map f all) n []))
-    (λ yes. differs inside (sym ((bytes_eq-Decides (f mark) (get_or (map f all) n [])).0 yes ∙ get_or-map f all n d [] inside)))))
+    (λ yes. differs inside (sym ((bytes_eq-Decides (f sort_key) (get_or (map f all) n [])).0 yes ∙ get_or-map f all n d [] inside)))))
 
 -- Steps of the loop.
 pub TallySoFar-start : (text : List ℕ) (ordered : List (List ℕ)) (made : Gathered) → ordered ≡ in_order (lines_of text) → IsGathered [] made → TallySoFar text ordered 0 made

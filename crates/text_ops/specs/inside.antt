@@ -2,7 +2,7 @@
 pub mod SharedText
 pub mod Gathering
 pub mod Keeping
-pub mod Marks
+pub mod SortKeys
 pub mod Matching
 pub mod Tallying
 pub mod Repeating

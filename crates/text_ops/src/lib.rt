@@ -18,13 +18,13 @@ mod kept_lines;
 mod laws;
 mod line_runs;
 mod line_walk;
-mod mark;
-mod marks;
 mod matches;
 mod normal_text;
 mod order;
 mod part;
 mod repeats;
+mod sort_key;
+mod sort_keys;
 mod tallies;
 mod text;
 

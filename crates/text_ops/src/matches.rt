@@ -5,14 +5,14 @@ ghost use Rattle.text_ops.specs.Lines.{IsNormal, lines_of};
 ghost use Rattle.text_ops.specs.MatchKeys.{behind_key, first_with};
 ghost use Rattle.text_ops.specs.TextMeaning.{match_meaning};
 ghost use Rattle.text_ops.specs.Values.{Makes};
-ghost use Rattle.text_ops.specs.declared.mark.Piece.TheVariants.{Key as KeyPiece};
-ghost use Rattle.text_ops.specs.inside.Marks.{AreSortedMarks, lead_of};
-ghost use Rattle.text_ops.specs.inside.Matching.{IsFirstPlace, behind_mark, is_before};
+ghost use Rattle.text_ops.specs.declared.sort_key.Piece.TheVariants.{Key as KeyPiece};
+ghost use Rattle.text_ops.specs.inside.SortKeys.{AreSortedKeys, lead_of};
+ghost use Rattle.text_ops.specs.inside.Matching.{IsFirstPlace, behind_sort_key, is_before};
 
 use crate::gathered::{ApplyError, Gathered};
 use crate::line_walk::Lines;
-use crate::mark::{Mark, Offset, Piece};
-use crate::marks::{lead, marked_piece, match_key, sorted_marks};
+use crate::sort_key::{Offset, Piece, SortKey};
+use crate::sort_keys::{keyed_piece, lead, match_key, sorted_keys};
 use crate::text::Text;
 use memchr::memchr;
 use std::alloc::Global;
@@ -25,22 +25,26 @@ pub fn match_lines(alloc: Global, left: &Text, right: &Text) -> Result<Text, App
 {
     let (lines, others) = (left.as_slice(), right.as_slice());
     if others.len() <= u32::MAX as usize {
-        return match_by_marks::<u32>(alloc, lines, others);
+        return match_by_sort_keys::<u32>(alloc, lines, others);
     }
-    match_by_marks::<usize>(alloc, lines, others)
+    match_by_sort_keys::<usize>(alloc, lines, others)
 }
 
-fn match_by_marks<O: Offset>(alloc: Global, left: &[u8], right: &[u8]) -> Result<Text, ApplyError>
+fn match_by_sort_keys<O: Offset>(
+    alloc: Global,
+    left: &[u8],
+    right: &[u8],
+) -> Result<Text, ApplyError>
     requires left { IsNormal left.now }
     requires right { IsNormal right.now }
     requires short { length right.now ≤ O.most }
     ensures { Makes (match_meaning left.now right.now) result }
 {
-    let marks = sorted_marks::<O>(alloc, right, Piece::Key)?;
-    let marks = marks.as_slice();
+    let sort_keys = sorted_keys::<O>(alloc, right, Piece::Key)?;
+    let sort_keys = sort_keys.as_slice();
     let mut made = Gathered::new(alloc);
     for line in Lines::new(left) {
-        if let Some(rest) = behind_first(right, marks, match_key(line)) {
+        if let Some(rest) = behind_first(right, sort_keys, match_key(line)) {
             made.add_line(line, rest)?;
         }
     }
@@ -48,46 +52,53 @@ fn match_by_marks<O: Offset>(alloc: Global, left: &[u8], right: &[u8]) -> Result
 }
 
 // What follows this key in the first line that has it.
-fn behind_first<'t, O: Offset>(text: &'t [u8], marks: &[Mark<O>], key: &[u8]) -> Option<&'t [u8]>
-    requires marks { AreSortedMarks KeyPiece text.now marks.now }
+fn behind_first<'t, O: Offset>(
+    text: &'t [u8],
+    sort_keys: &[SortKey<O>],
+    key: &[u8],
+) -> Option<&'t [u8]>
+    requires sort_keys { AreSortedKeys KeyPiece text.now sort_keys.now }
     requires normal { IsNormal text.now }
     ensures { option_copied result
         ≡ option_map behind_key (first_with key.now (lines_of text.now)) }
 {
-    let place = first_place(text, marks, key);
-    let mark = marks.get(place)?;
-    if marked_piece(text, mark) != key {
+    let place = first_place(text, sort_keys, key);
+    let sort_key = sort_keys.get(place)?;
+    if keyed_piece(text, sort_key) != key {
         return None;
     }
-    Some(behind(text, mark))
+    Some(behind(text, sort_key))
 }
 
-// How many marks have a key below this one.
-fn first_place<O: Offset>(text: &[u8], marks: &[Mark<O>], key: &[u8]) -> usize
-    requires marks { AreSortedMarks KeyPiece text.now marks.now }
+// How many sort keys have a key below this one.
+fn first_place<O: Offset>(text: &[u8], sort_keys: &[SortKey<O>], key: &[u8]) -> usize
+    requires sort_keys { AreSortedKeys KeyPiece text.now sort_keys.now }
     requires normal { IsNormal text.now }
-    ensures { IsFirstPlace text.now key.now marks.now result }
+    ensures { IsFirstPlace text.now key.now sort_keys.now result }
 {
     let lead = lead(key);
-    marks.partition_point(|mark| is_before(text, mark, lead, key))
+    sort_keys.partition_point(|sort_key| is_before(text, sort_key, lead, key))
 }
 
-// Whether a mark's key is below this one, whose lead is given.
-fn is_before<O: Offset>(text: &[u8], mark: &Mark<O>, lead: u64, key: &[u8]) -> bool
+// Whether a sort key's key is below this one, whose lead is given.
+fn is_before<O: Offset>(text: &[u8], sort_key: &SortKey<O>, lead: u64, key: &[u8]) -> bool
     requires { lead ≡ lead_of key.now }
-    ensures { result ≡ is_before text.now key.now mark.now }
+    ensures { result ≡ is_before text.now key.now sort_key.now }
 {
-    match mark.lead().cmp(&lead) {
-        Ordering::Equal => marked_piece(text, mark).cmp(key).is_lt(),
+    match sort_key.lead().cmp(&lead) {
+        Ordering::Equal => keyed_piece(text, sort_key).cmp(key).is_lt(),
         order => order.is_lt(),
     }
 }
 
-// What follows a mark in its line.
-fn behind<'t, O: Offset>(text: &'t [u8], mark: &Mark<O>) -> &'t [u8]
-    ensures { result.now ≡ behind_mark text.now mark.now }
+// What follows a sort key in its line.
+fn behind<'t, O: Offset>(text: &'t [u8], sort_key: &SortKey<O>) -> &'t [u8]
+    ensures { result.now ≡ behind_sort_key text.now sort_key.now }
 {
-    let start = mark.start().saturating_add(mark.len()).min(text.len());
+    let start = sort_key
+        .start()
+        .saturating_add(sort_key.len())
+        .min(text.len());
     let rest = &text[start..];
     match memchr(b'\n', rest) {
         Some(end) => &rest[..end],

@@ -4,11 +4,11 @@ ghost use Rattle.text_ops.specs.Lines.{ended};
 ghost use Rattle.text_ops.specs.TextMeaning.{sort_meaning};
 ghost use Rattle.text_ops.specs.Values.{Makes};
 ghost use Rattle.text_ops.specs.inside.Gathering.{IsGathered};
-ghost use Rattle.text_ops.specs.inside.Marks.{marked_piece, IsEndedMark};
+ghost use Rattle.text_ops.specs.inside.SortKeys.{keyed_piece, IsEndedKey};
 
 use crate::gathered::{ApplyError, Gathered, VALUE_LIMIT};
-use crate::mark::{Mark, Offset, Piece};
-use crate::marks::{marked_with_end, sorted_marks};
+use crate::sort_key::{Offset, Piece, SortKey};
+use crate::sort_keys::{keyed_with_end, sorted_keys};
 use crate::text::Text;
 use outside_io::NoMemory;
 use std::alloc::Global;
@@ -22,29 +22,29 @@ pub fn sort(alloc: Global, text: &Text) -> Result<Text, ApplyError>
     if len > VALUE_LIMIT {
         return Err(ApplyError::Long(len));
     }
-    let marks = sorted_marks::<u32>(alloc, bytes, Piece::Whole)?;
+    let sort_keys = sorted_keys::<u32>(alloc, bytes, Piece::Whole)?;
     let mut made = Gathered::with_room(alloc, bytes.len())?;
-    for mark in marks.as_slice() {
-        add_marked_line(&mut made, bytes, mark)?;
+    for sort_key in sort_keys.as_slice() {
+        add_keyed_line(&mut made, bytes, sort_key)?;
     }
     made.finish(alloc)
 }
 
-// Adds the line of a mark, with its end. The lead has eight bytes, so that a line of at most seven and its end fit there.
+// Adds the line of a sort key, with its end. The lead has eight bytes, so that a line of at most seven and its end fit there.
 // Such a line isn't read from the text again, in which lines that are neighbours in order lie far apart.
-fn add_marked_line<O: Offset>(
+fn add_keyed_line<O: Offset>(
     made: &mut Gathered,
     text: &[u8],
-    mark: &Mark<O>,
+    sort_key: &SortKey<O>,
 ) -> Result<(), NoMemory>
-    requires { IsEndedMark text.now mark.now }
+    requires { IsEndedKey text.now sort_key.now }
     ensures { (all : List ℕ) → IsGathered all made.old
-        → OnOk result (IsGathered (all ++ ended (marked_piece text.now mark.now)) made.new) }
+        → OnOk result (IsGathered (all ++ ended (keyed_piece text.now sort_key.now)) made.new) }
 {
-    let len = mark.len();
-    let mut line = mark.lead().to_be_bytes();
+    let len = sort_key.len();
+    let mut line = sort_key.lead().to_be_bytes();
     if len >= line.len() {
-        return made.add(marked_with_end(text, mark));
+        return made.add(keyed_with_end(text, sort_key));
     }
     line[len] = b'\n';
     made.add(&line[..len + 1])

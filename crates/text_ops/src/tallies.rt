@@ -5,12 +5,12 @@ ghost use Rattle.text_ops.specs.MatchKeys.{space};
 ghost use Rattle.text_ops.specs.TextMeaning.{tally_meaning};
 ghost use Rattle.text_ops.specs.Values.{Makes};
 ghost use Rattle.text_ops.specs.inside.Gathering.{IsGathered};
-ghost use Rattle.text_ops.specs.inside.Marks.{marked_piece};
+ghost use Rattle.text_ops.specs.inside.SortKeys.{keyed_piece};
 ghost use Rattle.text_ops.specs.inside.Tallying.{run_of};
 
 use crate::gathered::{ApplyError, Gathered};
-use crate::mark::{Mark, Offset, Piece};
-use crate::marks::{marked_piece, sorted_marks};
+use crate::sort_key::{Offset, Piece, SortKey};
+use crate::sort_keys::{keyed_piece, sorted_keys};
 use crate::text::Text;
 use itoa::write_digits;
 use outside_io::NoMemory;
@@ -22,40 +22,40 @@ pub fn tally(alloc: Global, text: &Text) -> Result<Text, ApplyError>
 {
     let bytes = text.as_slice();
     if bytes.len() <= u32::MAX as usize {
-        return tally_by_marks::<u32>(alloc, bytes);
+        return tally_by_sort_keys::<u32>(alloc, bytes);
     }
-    tally_by_marks::<usize>(alloc, bytes)
+    tally_by_sort_keys::<usize>(alloc, bytes)
 }
 
-fn tally_by_marks<O: Offset>(alloc: Global, text: &[u8]) -> Result<Text, ApplyError>
+fn tally_by_sort_keys<O: Offset>(alloc: Global, text: &[u8]) -> Result<Text, ApplyError>
     requires normal { IsNormal text.now }
     requires short { length text.now ≤ O.most }
     ensures { Makes (tally_meaning text.now) result }
 {
-    let marks = sorted_marks::<O>(alloc, text, Piece::Whole)?;
-    let marks = marks.as_slice();
+    let sort_keys = sorted_keys::<O>(alloc, text, Piece::Whole)?;
+    let sort_keys = sort_keys.as_slice();
     let mut made = Gathered::new(alloc);
     let mut at = 0;
-    while at < marks.len() {
-        let count = run_length(text, &marks[at..]);
-        add_counted(&mut made, count as u64, marked_piece(text, &marks[at]))?;
+    while at < sort_keys.len() {
+        let count = run_length(text, &sort_keys[at..]);
+        add_counted(&mut made, count as u64, keyed_piece(text, &sort_keys[at]))?;
         at += count;
     }
     made.finish(alloc)
 }
 
-// How many marks, from the first on, mark what the first marks.
-fn run_length<O: Offset>(text: &[u8], marks: &[Mark<O>]) -> usize
-    requires { 0 < length marks.now }
-    ensures { result ≡ run_of (map (marked_piece text.now) marks.now) }
+// How many sort keys, from the first on, sort key what the first sort keys.
+fn run_length<O: Offset>(text: &[u8], sort_keys: &[SortKey<O>]) -> usize
+    requires { 0 < length sort_keys.now }
+    ensures { result ≡ run_of (map (keyed_piece text.now) sort_keys.now) }
 {
-    let first = marked_piece(text, &marks[0]);
-    for (k, mark) in marks.iter().enumerate() {
-        if marked_piece(text, mark) != first {
+    let first = keyed_piece(text, &sort_keys[0]);
+    for (k, sort_key) in sort_keys.iter().enumerate() {
+        if keyed_piece(text, sort_key) != first {
             return k;
         }
     }
-    marks.len()
+    sort_keys.len()
 }
 
 // Adds a count, a space and a line.

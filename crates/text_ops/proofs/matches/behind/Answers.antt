@@ -8,7 +8,7 @@ use Rattle.text_ops.proofs.matches.behind.Goals as goal
 pub returns-in-Some : goal.returns-in-Some
 returns-in-Some g c =
     let text = c.args.text.now in
-    let place = c.args.mark.now.start + c.args.mark.now.len in
+    let place = c.args.sort_key.now.start + c.args.sort_key.now.len in
     let start : c.min-start.result ≡ min place (length text) = omega (arith, c.min-start.ensures, c.saturating_add.ensures, c.start.ensures, c.len.ensures) in
     found_end text c.min-start.result c.in-Some.end (omega arith) c.in-Some.ensures
     ∙ ap (take_while (λ (byte : ℕ). not (byte == line_end))) (ap (λ n. drop n text) start ∙ drop_min place text)
@@ -16,7 +16,7 @@ returns-in-Some g c =
 pub returns-in-None : goal.returns-in-None
 returns-in-None g c =
     let text = c.args.text.now in
-    let place = c.args.mark.now.start + c.args.mark.now.len in
+    let place = c.args.sort_key.now.start + c.args.sort_key.now.len in
     let start : c.min-start.result ≡ min place (length text) = omega (arith, c.min-start.ensures, c.saturating_add.ensures, c.start.ensures, c.len.ensures) in
     found_no_end text c.min-start.result (omega arith) c.in-None.ensures
     ∙ ap (take_while (λ (byte : ℕ). not (byte == line_end))) (ap (λ n. drop n text) start ∙ drop_min place text)

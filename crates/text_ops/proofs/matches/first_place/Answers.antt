@@ -7,5 +7,5 @@ use Rattle.text_ops.proofs.matches.first_place.Goals as goal
 pub returns : goal.returns
 returns g c =
     let place = c.partition_point.ensures.partitioned (is_before c.args.text.now c.args.key.now) (always_returns_same _ _ _ (λ a r q h. (search rules, search rules)))
-    (partitioned c.args.text.now c.args.key.now c.args.marks.now c.requires.marks c.requires.normal (λ k. omega (arith, c.type_inv.key k))) in
-    first_place c.args.text.now c.args.key.now c.args.marks.now c.requires.marks c.requires.normal (λ k. omega (arith, c.type_inv.key k)) c.partition_point.result c.partition_point.ensures.bound place.0 place.1
+    (partitioned c.args.text.now c.args.key.now c.args.sort_keys.now c.requires.sort_keys c.requires.normal (λ k. omega (arith, c.type_inv.key k))) in
+    first_place c.args.text.now c.args.key.now c.args.sort_keys.now c.requires.sort_keys c.requires.normal (λ k. omega (arith, c.type_inv.key k)) c.partition_point.result c.partition_point.ensures.bound place.0 place.1

@@ -1,50 +1,50 @@
-// Marks of the pieces of a text, in the order of their bytes.
+// Sort keys of the pieces of a text, in the order of their bytes.
 ghost use Rattle.std.specs.Prelude.{◌≡◌, ◌≤◌, drop, length, slice_index, IfOk};
 ghost use Rattle.std.specs.List.Sorted.{IsPermutation, IsSortedBy};
 ghost use Rattle.std.specs.Ordering.{is_lt, nat_cmp, ordering_then};
 ghost use Rattle.text_ops.specs.Lines.{IsNormal, lines_of};
 ghost use Rattle.text_ops.specs.MatchKeys.{match_key};
-ghost use Rattle.text_ops.specs.inside.Marks.{AreSortedMarks, behind_leads_cmp, lead_of, mark_cmp, marked_piece, marked_with_end, marks_of, piece_of, tie_of};
+ghost use Rattle.text_ops.specs.inside.SortKeys.{AreSortedKeys, behind_leads_cmp, lead_of, sort_key_cmp, keyed_piece, keyed_with_end, sort_keys_of, piece_of, tie_of};
 
 use crate::line_walk::Lines;
-use crate::mark::{Mark, Offset, Piece};
+use crate::sort_key::{Offset, Piece, SortKey};
 use memchr::{memchr, memchr_iter};
 use outside_io::NoMemory;
 use std::alloc::Global;
 use std::cmp::Ordering;
 
-// Marks of these pieces of the lines, in the order of their bytes. Marks of equal keys are in the order of the lines.
-pub(crate) fn sorted_marks<O: Offset>(
+// Sort keys of these pieces of the lines, in the order of their bytes. Sort keys of equal keys are in the order of the lines.
+pub(crate) fn sorted_keys<O: Offset>(
     alloc: Global,
     text: &[u8],
     by: Piece,
-) -> Result<Vec<Mark<O>>, NoMemory>
+) -> Result<Vec<SortKey<O>>, NoMemory>
     requires normal { IsNormal text.now }
     requires short { length text.now ≤ O.most }
-    ensures { IfOk result (λ marks. AreSortedMarks by text.now marks.items) }
+    ensures { IfOk result (λ sort_keys. AreSortedKeys by text.now sort_keys.items) }
 {
-    let mut marks = marks_of(alloc, text, by)?;
-    sort_marks(text, by, &mut marks);
-    Ok(marks)
+    let mut sort_keys = sort_keys_of(alloc, text, by)?;
+    order_keys(text, by, &mut sort_keys);
+    Ok(sort_keys)
 }
 
 // The bytes of the piece, as far as the text has them.
-pub(crate) fn marked_piece<'t, O: Offset>(text: &'t [u8], mark: &Mark<O>) -> &'t [u8]
-    ensures { result.now ≡ marked_piece text.now mark.now }
+pub(crate) fn keyed_piece<'t, O: Offset>(text: &'t [u8], sort_key: &SortKey<O>) -> &'t [u8]
+    ensures { result.now ≡ keyed_piece text.now sort_key.now }
 {
-    let start = mark.start().min(text.len());
+    let start = sort_key.start().min(text.len());
     let rest = &text[start..];
-    let end = mark.len().min(rest.len());
+    let end = sort_key.len().min(rest.len());
     &rest[..end]
 }
 
 // The bytes of the piece and the one behind it.
-pub(crate) fn marked_with_end<'t, O: Offset>(text: &'t [u8], mark: &Mark<O>) -> &'t [u8]
-    ensures { result.now ≡ marked_with_end text.now mark.now }
+pub(crate) fn keyed_with_end<'t, O: Offset>(text: &'t [u8], sort_key: &SortKey<O>) -> &'t [u8]
+    ensures { result.now ≡ keyed_with_end text.now sort_key.now }
 {
-    let start = mark.start().min(text.len());
+    let start = sort_key.start().min(text.len());
     let rest = &text[start..];
-    let end = mark.len().saturating_add(1).min(rest.len());
+    let end = sort_key.len().saturating_add(1).min(rest.len());
     &rest[..end]
 }
 
@@ -94,33 +94,37 @@ fn piece_of(by: Piece, line: &[u8]) -> &[u8]
     }
 }
 
-// The marks in the order of the lines.
-fn marks_of<O: Offset>(alloc: Global, text: &[u8], by: Piece) -> Result<Vec<Mark<O>>, NoMemory>
+// The sort keys in the order of the lines.
+fn sort_keys_of<O: Offset>(
+    alloc: Global,
+    text: &[u8],
+    by: Piece,
+) -> Result<Vec<SortKey<O>>, NoMemory>
     requires normal { IsNormal text.now }
     requires short { length text.now ≤ O.most }
-    ensures { IfOk result (λ marks. marks.items ≡ marks_of by 0 (lines_of text.now)) }
+    ensures { IfOk result (λ sort_keys. sort_keys.items ≡ sort_keys_of by 0 (lines_of text.now)) }
 {
     let count = memchr_iter(b'\n', text).count();
-    let mut marks = Vec::with_capacity(alloc, count)?;
+    let mut sort_keys = Vec::with_capacity(alloc, count)?;
     let mut start = 0;
     for line in Lines::new(text) {
         let piece = piece_of(by, line);
-        marks.push(Mark::new(lead(piece), start, piece.len()))?;
+        sort_keys.push(SortKey::new(lead(piece), start, piece.len()))?;
         start += line.len() + 1;
     }
-    Ok(marks)
+    Ok(sort_keys)
 }
 
-fn sort_marks<O: Offset>(text: &[u8], by: Piece, marks: &mut Vec<Mark<O>>)
-    ensures permutation { IsPermutation marks.old.items marks.new.items }
-    ensures sorted { IsSortedBy (λ a b. is_lt (mark_cmp by text.now a b)) marks.new.items }
+fn order_keys<O: Offset>(text: &[u8], by: Piece, sort_keys: &mut Vec<SortKey<O>>)
+    ensures permutation { IsPermutation sort_keys.old.items sort_keys.new.items }
+    ensures sorted { IsSortedBy (λ a b. is_lt (sort_key_cmp by text.now a b)) sort_keys.new.items }
 {
-    marks.sort_unstable_by(|a, b| compare(text, by, a, b));
+    sort_keys.sort_unstable_by(|a, b| compare(text, by, a, b));
 }
 
 // By the leads, then by what these don't show.
-fn compare<O: Offset>(text: &[u8], by: Piece, a: &Mark<O>, b: &Mark<O>) -> Ordering
-    ensures { result ≡ mark_cmp by text.now a.now b.now }
+fn compare<O: Offset>(text: &[u8], by: Piece, a: &SortKey<O>, b: &SortKey<O>) -> Ordering
+    ensures { result ≡ sort_key_cmp by text.now a.now b.now }
 {
     match a.lead().cmp(&b.lead()) {
         Ordering::Equal => compare_pieces(text, by, a, b),
@@ -128,13 +132,13 @@ fn compare<O: Offset>(text: &[u8], by: Piece, a: &Mark<O>, b: &Mark<O>) -> Order
     }
 }
 
-// The order of marks with equal leads.
-fn compare_pieces<O: Offset>(text: &[u8], by: Piece, a: &Mark<O>, b: &Mark<O>) -> Ordering
+// The order of sort keys with equal leads.
+fn compare_pieces<O: Offset>(text: &[u8], by: Piece, a: &SortKey<O>, b: &SortKey<O>) -> Ordering
     ensures { result ≡ ordering_then
-        (behind_leads_cmp (marked_piece text.now a.now) (marked_piece text.now b.now))
+        (behind_leads_cmp (keyed_piece text.now a.now) (keyed_piece text.now b.now))
         (nat_cmp (tie_of by a.now) (tie_of by b.now)) }
 {
-    match compare_behind_leads(marked_piece(text, a), marked_piece(text, b)) {
+    match compare_behind_leads(keyed_piece(text, a), keyed_piece(text, b)) {
         Ordering::Equal => tie(by, a).cmp(&tie(by, b)),
         other => other,
     }
@@ -158,11 +162,11 @@ fn behind_lead(piece: &[u8]) -> &[u8]
 }
 
 // Equal lines may come in any order, since they are one and the same, and equal keys are in the order of their lines.
-fn tie<O: Offset>(by: Piece, mark: &Mark<O>) -> usize
-    ensures { result ≡ tie_of by mark.now }
+fn tie<O: Offset>(by: Piece, sort_key: &SortKey<O>) -> usize
+    ensures { result ≡ tie_of by sort_key.now }
 {
     match by {
         Piece::Whole => 0,
-        Piece::Key => mark.start(),
+        Piece::Key => sort_key.start(),
     }
 }

@@ -1,5 +1,5 @@
-use Rattle.text_ops.proofs.MarkLemmas.{match_key-found, match_key-whole}
-use Rattle.text_ops.proofs.marks.match_key.Goals as goal
+use Rattle.text_ops.proofs.SortKeyLemmas.{match_key-found, match_key-whole}
+use Rattle.text_ops.proofs.sort_keys.match_key.Goals as goal
 
 pub returns-in-Some : goal.returns-in-Some
 returns-in-Some c = match_key-found c.args.line.now c.in-Some.end c.in-Some.ensures

@@ -4,7 +4,7 @@ use Rattle.text_ops.specs.MatchKeys.{matched}
 use Rattle.text_ops.proofs.LineLemmas.{IsNormal-text_of}
 use Rattle.text_ops.proofs.SortLemmas.{gathered_normal}
 use Rattle.text_ops.proofs.MatchSteps.{MatchSoFar-start, MatchSoFar-found, MatchSoFar-none, MatchSoFar-end}
-use Rattle.text_ops.proofs.matches.match_by_marks.Goals as goal
+use Rattle.text_ops.proofs.matches.match_by_sort_keys.Goals as goal
 
 pub loop-line-init : goal.loop-line-init
 loop-line-init g c =

@@ -12,7 +12,7 @@ pub(crate) enum Piece {
     Key,
 }
 
-// A number of bytes, as marks keep it. Marks of texts below 4 GiB are shorter than others.
+// A number of bytes, as sort keys keep it. Sort keys of texts below 4 GiB are shorter than others.
 pub(crate) trait Offset: Copy + Drop {
     ghost value: { Self → ℕ };
 
@@ -62,30 +62,30 @@ impl Offset for usize {
 // So many bytes of a text from a place on. `lead` is the number that the first eight of them are, the first byte
 // first, with zeros for those that aren't there: pieces whose leads differ compare as these do.
 #[derive(Drop)]
-pub(crate) struct Mark<O: Offset> {
+pub(crate) struct SortKey<O: Offset> {
     lead: u64,
     start: O,
     len: O,
 }
 
-impl<O: Offset> Model for Mark<O> {
-    ghost use Rattle.text_ops.specs.inside.Marks.{MarkRow};
+impl<O: Offset> Model for SortKey<O> {
+    ghost use Rattle.text_ops.specs.inside.SortKeys.{SortKeyRow};
 
-    ghost Value = { MarkRow };
+    ghost Value = { SortKeyRow };
 
-    ghost view = { λ mark. record { lead = mark.lead; start = O.value mark.start; len = O.value mark.len } };
+    ghost view = { λ sort_key. record { lead = sort_key.lead; start = O.value sort_key.start; len = O.value sort_key.len } };
 }
 
-impl<O: Offset> Mark<O> {
-    ghost use Rattle.text_ops.specs.inside.Marks.{MarkRow};
+impl<O: Offset> SortKey<O> {
+    ghost use Rattle.text_ops.specs.inside.SortKeys.{SortKeyRow};
 
     #[inline]
-    pub(crate) fn new(lead: u64, start: usize, len: usize) -> Mark<O>
+    pub(crate) fn new(lead: u64, start: usize, len: usize) -> SortKey<O>
         requires start { start ≤ O.most }
         requires len { len ≤ O.most }
         ensures { result ≡ record { lead = lead; start = start; len = len } }
     {
-        Mark {
+        SortKey {
             lead,
             start: O::new(start),
             len: O::new(len),
