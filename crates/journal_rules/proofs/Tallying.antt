@@ -1,15 +1,19 @@
 -- What a count, and a list of counts, is after one entry more.
 use Rattle.std.proofs.Common.{◌≡◌, ◌≢◌, ◌⊎◌, inl, inr, ℕ, ◌+◌, ◌<◌, ◌≤◌, Bool, true, false, not, ◌&&◌, ◌||◌, cond, eqb, List, [], ◌∷◌, ◌++◌, length, sym, refl, ap, ◌∙◌, subst, arith, get_or, set, length-set, get_or-set_same, get_or-set_other}
-use Rattle.std.specs.Prelude.{count_by, ◌==◌, All}
+use mir.Val.{bool_byte}
+use Rattle.std.specs.Prelude.{count_by, ◌==◌, All, Some, slice_get, replicate}
+use Rattle.std.specs.Option.{option_map_or}
 use Rattle.std.specs.List.{list_any}
 use Rattle.std.proofs.lemmas.Bool.Decides.{nat_tests}
 use Rattle.std.proofs.lemmas.List.Sums.{sum_by-cons}
 use Rattle.std.proofs.lemmas.Bool.{cases_eq, cases_lt}
-use Rattle.std.proofs.lemmas.List.{get_or_append_left, get_or_push}
+use Rattle.std.proofs.lemmas.List.{get_or_append_left, get_or_push, get_or-replicate, length-replicate}
+use Rattle.std.proofs.lemmas.Option.{slice_get-get_or}
 use Rattle.task_graph.specs.NetRows.{NetRows}
 use Rattle.task_graph.specs.Net.{strong_in, is_weak_row}
+use Rattle.task_graph.specs.declared.net.EdgeRow.{EdgeRow}
 use Rattle.journal_rules.specs.declared.entry.Entry.{Entry}
-use Rattle.journal_rules.specs.Counts.{given, gives_edge}
+use Rattle.journal_rules.specs.Counts.{given, gives_edge, first_tokens}
 use Rattle.journal_rules.specs.inside.Tells.{Tells}
 use Rattle.journal_rules.proofs.Snoc.{count_by_push}
 use Rattle.journal_rules.proofs.NetLemmas.{places_below}
@@ -17,6 +21,13 @@ use Rattle.journal_rules.proofs.NetLemmas.{places_below}
 -- the same list tells an equal function
 pub tells_same : {X : Type 0} (f g : ℕ → X) (xs : List X) (n : ℕ) → Tells f xs n → ((k : ℕ) → g k ≡ f k) → Tells g xs n
 tells_same f g xs n h same = record { len = h.len; each = λ k d below. h.each k d below ∙ sym (same k) }
+
+-- a list with a zero for each row tells 0 at each
+pub tells_zeros : {X : Type 0} (rows all : List X) (xs : List ℕ) → xs ≡ replicate (length rows) 0 → rows ≡ all → Tells (λ k. 0) xs (length all)
+tells_zeros rows all xs zeros same = record {
+  len = ap length zeros ∙ length-replicate (length rows) 0 ∙ ap length same;
+  each = λ k d below. ap (λ ys. get_or ys k d) zeros ∙ get_or-replicate (length rows) k 0 d (subst (λ n. k < n) (sym (ap length same)) below);
+}
 
 -- a list with one count raised tells a function that is one higher there
 pub tells_one_more : (f g : ℕ → ℕ) (xs : List ℕ) (n at : ℕ) → Tells f xs n → at < n → ((k : ℕ) → g k ≡ f k + cond (eqb at k) 1 0) → Tells g (set xs at (get_or xs at 0 + 1)) n
@@ -41,6 +52,16 @@ each_push P xs x n len each last k d below = by_case (cases_lt k n)
     by_case (inr after) =
         let here : n ≡ k = omega arith in
         subst (λ y. P k y) (sym (get_or_push xs x d k (omega arith))) (subst (λ j. P j x) here last)
+
+-- the byte of an edge's `start` is the number of tokens with which it begins
+pub first_tokens_at : (net : NetRows) (rows : List EdgeRow) (e : ℕ) (d : EdgeRow) → rows ≡ net.edges → e < length rows → bool_byte (get_or rows e d).start ≡ first_tokens net e
+first_tokens_at net rows e d same below =
+    let row : slice_get rows e ≡ Some (get_or rows e d) = slice_get-get_or rows e d below in
+    byte (get_or rows e d).start ∙ sym (ap (λ o. option_map_or (λ (row : EdgeRow). cond row.start 1 0) o 0) (ap (λ (all : List EdgeRow). slice_get all e) (sym same) ∙ row))
+  where
+    byte : (b : Bool) → bool_byte b ≡ cond b 1 0
+    byte true = refl
+    byte false = refl
 
 -- a test that no test passes with
 pub and_false : (b : Bool) → b && false ≡ false
