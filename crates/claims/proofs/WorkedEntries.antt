@@ -3,6 +3,7 @@
 use Rattle.std.proofs.Common.{◌≡◌, ℕ, zero, suc, ◌<◌, true, false, List, [], ◌∷◌, length, map, Some, None, refl, ap, sym, subst, ◌∙◌, arith}
 use Rattle.std.specs.Prelude.{◌==◌, count_by, slice_get}
 use Rattle.std.specs.Arc.{arc_with_value}
+use Rattle.std.specs.Vec.{vec_capacity}
 use Rattle.std.specs.Global.{Global}
 use Rattle.std.specs.declared.sync.Arc.{Arc}
 use Rattle.atomic_table.specs.Seated.{TableId}
@@ -21,7 +22,7 @@ use Rattle.journal_rules.specs.Complete.{Complete}
 use Rattle.journal_rules.specs.ShapeLegal.{MayFollow, ShapeLegal, MeetsDataRule}
 use Rattle.join_words.specs.declared.ins.Given.{Given}
 use Rattle.join_words.specs.declared.ins.Given.TheVariants.{Value, First as FirstToken}
-use Rattle.join_words.specs.Ins.{parts_of, room_of}
+use Rattle.join_words.specs.Ins.{parts_of}
 use Rattle.table_steps.specs.Releases.{CanRelease, MayBeReleased}
 use Rattle.table_steps.specs.OneJournal.{told_by, entries_in, HasEntry, AreInOneJournal, AreOneJournal, drawn_count, seats_entries}
 use Rattle.table_steps.specs.Values.{given_part}
@@ -219,5 +220,5 @@ module _ (shared : Arc ℕ Global) (inputs : Inputs ℕ) (found : parts_of input
   parts_of_the_inputs : parts_in inputs.ins ≡ From 3 ∷ First ∷ []
   parts_of_the_inputs = parts_so_far
 
-  room_for_three : room_of inputs.ins ≡ 3 → (room_in inputs ≡ 3) × ¬ (room_in inputs ≡ 2)
+  room_for_three : vec_capacity inputs.parts ≡ 3 → (room_in inputs ≡ 3) × ¬ (room_in inputs ≡ 2)
   room_for_three three = (three, λ two. absurd (omega (arith, three, two)))

@@ -139,8 +139,8 @@ memory_ends_and_is_numbered is = let calls = ap (λ (texts : HeldTexts). texts.c
 
 -- What a part of a start's inputs holds, whoever shares it.
 -- There may be room for more parts than there are.
-room_without_parts : (ins : Ins ℕ) → parts_of ins ≡ [] → vec_capacity ins.parts ≡ 4 → (room_of ins ≡ 4) × (length (parts_of ins) ≡ 0)
-room_without_parts ins none four = (four, ap length none)
+room_without_parts : (ins : Ins ℕ) → parts_of ins ≡ [] → vec_capacity ins.others ≡ 3 → (room_of ins ≡ 4) × (length (parts_of ins) ≡ 0)
+room_without_parts ins none three = (ap suc three, ap length none)
 
 held_by_parts : (shared : Arc ℕ Global) → (found_of (Value 3 shared) ≡ value (arc_value shared)) × (found_of {V = ℕ} First ≡ first) × (found_of {V = ℕ} Nothing ≡ nothing)
 held_by_parts shared = (refl, refl, refl)

@@ -16,11 +16,18 @@ use table_steps::TableSeat;
 
 /// Turns that are done and not yet with the keeper. One of them is still live, so the run isn't finished while there is a
 /// batch that isn't empty.
-#[derive(Drop)]
 pub struct SpentBatch<V> {
     // where there is a turn
     pub(crate) seat: Option<TableSeat<V>>,
     pub(crate) fates: Vec<Fate<V>>,
+}
+
+// Written out, so that it is proved here alone and not in each crate above.
+impl<V: Drop> Drop for SpentBatch<V> {
+    fn drop(self) {
+        let SpentBatch { seat, fates } = self;
+        drop((seat, fates));
+    }
 }
 
 impl<V> Model for SpentBatch<V> {

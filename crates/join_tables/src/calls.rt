@@ -25,7 +25,7 @@ ghost use Rattle.join_tables.specs.inside.Sharing.{KnowsShare};
 
 use crate::fates::Fate;
 use crate::parts::Inputs;
-use crate::shares::{SharedValue, placed};
+use crate::shares::{SharedValue, placed, take_share};
 use crate::turns::{
     Collected, Collecting, EndedStart, Fresh, Gave, NetTable, Owing, Running, Spent, StartTicket,
     Turn,
@@ -235,9 +235,7 @@ impl<V: Drop> NetTable<V> {
             let fate = Fate::Ended(ended);
             return Gave::Finished(Spent { seat, fate });
         };
-        let Some(share) = shares.pop() else {
-            unreachable!()
-        };
+        let share = take_share(&mut shares);
         let made = self.give_edge(&mut seat, edge, ended.place, share);
         let owing = Owing {
             seat,

@@ -18,7 +18,7 @@ pub struct Inputs<V> {
     // The same without the values.
     parts: Vec<Part>,
     ghost same: { parts.items ≡ parts_in ins },
-    ghost room: { room_of ins ≤ vec_capacity parts },
+    ghost room: { vec_capacity parts ≤ room_of ins },
 }
 
 /// What a start found, without the values, which have no bytes.
@@ -30,7 +30,7 @@ pub struct FoundParts<V> {
 }
 
 impl<V> Inputs<V> {
-    ghost use Rattle.std.specs.Prelude.{◌++◌, ◌∷◌, ◌<◌, [], length};
+    ghost use Rattle.std.specs.Prelude.{[]};
     ghost use Rattle.join_tables.specs.Inputs.{given_in, room_in};
 
     /// Nothing yet, and room for what is found at so many edges.
@@ -42,6 +42,11 @@ impl<V> Inputs<V> {
         let ins = Ins::with_room(alloc, edges)?;
         Ok(Inputs { ins, parts })
     }
+}
+
+impl<V: Drop> Inputs<V> {
+    ghost use Rattle.std.specs.Prelude.{◌++◌, ◌∷◌, ◌<◌, [], length};
+    ghost use Rattle.join_tables.specs.Inputs.{given_in, room_in};
 
     // Adds what was found at the next edge. It takes no memory.
     pub(crate) fn add(&mut self, given: Given<V>)
@@ -52,9 +57,7 @@ impl<V> Inputs<V> {
         self.parts.push_reserved(part_of(&given));
         self.ins.add(given);
     }
-}
 
-impl<V: Drop> Inputs<V> {
     // The parts alone. The values are given up.
     pub(crate) fn without_values(self) -> FoundParts<V>
         ensures { result.ins.value ≡ self.ins }

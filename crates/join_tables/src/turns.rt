@@ -13,9 +13,16 @@ use std::sync::Arc;
 use table_steps::{Parcels, TableSeat, Words};
 
 /// The words of a run's net, which many threads step at once.
-#[derive(Drop)]
 pub struct NetTable<V> {
     pub(crate) words: Words<V>,
+}
+
+// Written out, so that it is proved here alone and not in each crate above.
+impl<V: Drop> Drop for NetTable<V> {
+    fn drop(self) {
+        let NetTable { words } = self;
+        drop(words);
+    }
 }
 
 impl<V> Model for NetTable<V> {
@@ -178,7 +185,7 @@ pub struct Owing<V> {
     pub(crate) ended: EndedStart<V>,
     pub(crate) next: usize,
     // A parcel with an owner of its value for each edge that it has still to give.
-    pub(crate) shares: Vec<Parcels<V>>,
+    pub(crate) shares: Parcels<V>,
 }
 
 impl<V> Model for Owing<V> {
@@ -194,7 +201,7 @@ impl<V> Model for Owing<V> {
 
     ghost view = { λ o. owing_state o.seat.table_id o.ended (drop o.next o.ended.gives) (units_of o.seat.me.0) o.seat.found };
 
-    ghost invariant = { λ o. (o.seat.me ≡ (owing_view o.ended (drop o.next o.ended.gives) (units_of o.seat.me.0), [])) × Knows o.seat.values (own_values o.ended) × (length o.shares.items ≡ length (drop o.next o.ended.gives)) × AreSharesOf (arc_value o.ended.value) o.shares.items };
+    ghost invariant = { λ o. (o.seat.me ≡ (owing_view o.ended (drop o.next o.ended.gives) (units_of o.seat.me.0), [])) × Knows o.seat.values (own_values o.ended) × (length o.shares ≡ length (drop o.next o.ended.gives)) × AreSharesOf (arc_value o.ended.value) o.shares };
 }
 
 /// A turn that is done and owes nothing.

@@ -36,9 +36,9 @@ impl<T: Tagged> Protocol<Queued<T>, Option<About>> for HoldsQueued {
 }
 
 /// What was put in or taken out is of the list, and the view is as it was.
-pub struct Keeps;
+pub struct KeepsName;
 
-impl<T: Tagged> Outcome<Queued<T>, Option<About>> for Keeps {
+impl<T: Tagged> Outcome<Queued<T>, Option<About>> for KeepsName {
     ghost use Rattle.ready_deques.specs.inside.Naming.{KeepsIt};
 
     ghost then = { KeepsIt T.tag };
@@ -119,7 +119,7 @@ pub fn push<T: Tagged + Drop>(
     ensures same { SameDeque worker.old worker.new }
     ensures refused { IfErr result (λ back. back ≡ queued) }
 {
-    worker.push_as::<Keeps>(queued)
+    worker.push_as::<KeepsName>(queued)
 }
 
 /// The newest item.
@@ -127,7 +127,7 @@ pub fn pop<T: Tagged + Drop>(worker: &mut ItemWorker<T>) -> Option<Queued<T>>
     ensures same { SameDeque worker.old worker.new }
     ensures taken { IfSome result (λ queued. IsKnown T.tag (worker_view worker.old) (queued ∷ [])) }
 {
-    worker.pop_as::<Keeps>()
+    worker.pop_as::<KeepsName>()
 }
 
 /// The oldest item.
@@ -139,5 +139,5 @@ pub fn steal<T: Tagged + Drop>(
     ensures same { IsPassOf (stealer_deque stealer.now) pass.new × (view pass.new ≡ view pass.old) }
     ensures taken { MatchSteal result (Unit {0}) (Unit {0}) (λ queued. IsKnown T.tag (view pass.old) (queued ∷ [])) }
 {
-    stealer.steal_as::<Keeps>(pass)
+    stealer.steal_as::<KeepsName>(pass)
 }

@@ -5,7 +5,7 @@ ghost use Rattle.crossbeam_deque.specs.Steals.{MatchSteal};
 ghost use Rattle.ready_deques.specs.inside.Naming.{IsKnown};
 
 use crate::about::About;
-use crate::deque::{Copies, GivesName, HoldsQueued, Keeps, Naming, Queued};
+use crate::deque::{Copies, GivesName, HoldsQueued, KeepsName, Naming, Queued};
 use crate::tagged::Tagged;
 use crossbeam_deque::{Injector, InjectorPass, Steal};
 use outside_io::NoMemory;
@@ -52,7 +52,7 @@ pub fn push<T: Tagged + Drop, R: Wait>(
     ensures same { IsInjectorPassOf injector.now pass.new × (injector_view pass.new ≡ injector_view pass.old) }
     ensures refused { IfErr result (λ back. back ≡ queued) }
 {
-    injector.push_as::<Keeps, R>(rt, pass, queued)
+    injector.push_as::<KeepsName, R>(rt, pass, queued)
 }
 
 /// The oldest item.
@@ -65,5 +65,5 @@ pub fn steal<T: Tagged + Drop, R: Wait>(
     ensures same { IsInjectorPassOf injector.now pass.new × (injector_view pass.new ≡ injector_view pass.old) }
     ensures taken { MatchSteal result (Unit {0}) (Unit {0}) (λ queued. IsKnown T.tag (injector_view pass.old) (queued ∷ [])) }
 {
-    injector.steal_as::<Keeps, R>(rt, pass)
+    injector.steal_as::<KeepsName, R>(rt, pass)
 }

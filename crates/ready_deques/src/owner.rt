@@ -23,7 +23,6 @@ use std::sync::{Arc, Wait};
 use std::thread;
 
 /// The owner of one deque of a list.
-#[derive(Drop)]
 pub struct Owner<T: Tagged + Drop> {
     ready: Arc<Ready<T>>,
     worker: ItemWorker<T>,
@@ -34,6 +33,22 @@ pub struct Owner<T: Tagged + Drop> {
     parker: Parker,
     // Its bit in the set of sleepers.
     bit: u64,
+}
+
+// Written out, so that it is proved here alone and not in each crate above.
+impl<T: Tagged + Drop> Drop for Owner<T> {
+    fn drop(self) {
+        let Owner {
+            ready,
+            worker,
+            thieves,
+            pass,
+            account,
+            parker,
+            bit: _,
+        } = self;
+        drop((ready, worker, thieves, pass, account, parker));
+    }
 }
 
 impl<T: Tagged + Drop> Model for Owner<T> {

@@ -35,7 +35,6 @@ impl<T: Tagged + Drop> Keyed for Spare<T> {
 }
 
 /// A list of ready items.
-#[derive(Drop)]
 pub struct Ready<T: Tagged + Drop> {
     pub(crate) tag: Tag,
     pub(crate) counter: Counter,
@@ -44,6 +43,21 @@ pub struct Ready<T: Tagged + Drop> {
     pub(crate) sleepers: Sleepers,
     pub(crate) closed: AtomicBool,
     ghost spares: { pass_key (injector_of (made_with spare).pass) (injector_view (made_with spare).pass) ≡ pass_key injector.queue (Some (about tag.numbers counter.table.shared.table_id)) },
+}
+
+// Written out, so that it is proved here alone and not in each crate above.
+impl<T: Tagged + Drop> Drop for Ready<T> {
+    fn drop(self) {
+        let Ready {
+            tag,
+            counter,
+            injector,
+            spare,
+            sleepers,
+            closed,
+        } = self;
+        drop((tag, counter, injector, spare, sleepers, closed));
+    }
 }
 
 impl<T: Tagged + Drop> Ready<T> {

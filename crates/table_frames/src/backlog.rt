@@ -9,12 +9,23 @@ use std::marker::Model;
 
 /// What the steps of a worker have done in a frame and the frame hasn't recorded yet. While something is in it the run of the
 /// frame isn't over. A backlog that is dropped is never recorded, so that the run is never closed.
-#[derive(Drop)]
 pub struct Backlog<J: Job> {
     pub(crate) alloc: Global,
     pub(crate) gathered: Gathered<J>,
     // Room for what a step makes. Nothing is in it between two steps.
     pub(crate) made: Vec<Fresh<J::V>>,
+}
+
+// Written out, so that it is proved here alone and not in each crate above.
+impl<J: Job + Drop> Drop for Backlog<J> {
+    fn drop(self) {
+        let Backlog {
+            alloc: _,
+            gathered,
+            made,
+        } = self;
+        drop((gathered, made));
+    }
 }
 
 impl<J: Job> Model for Backlog<J> {

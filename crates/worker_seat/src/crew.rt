@@ -20,10 +20,17 @@ use std::sync::{Arc, Wait};
 use table_frames::{Frame, Release, State, Stepped};
 
 /// What the seats of a crew share.
-#[derive(Drop)]
 pub struct Crew<J: Job + Drop> {
     pub(crate) alloc: Global,
     pub(crate) list: RunsList<J>,
+}
+
+// Written out, so that it is proved here alone and not in each crate above.
+impl<J: Job + Drop> Drop for Crew<J> {
+    fn drop(self) {
+        let Crew { alloc: _, list } = self;
+        drop(list);
+    }
 }
 
 /// A new crew, and all its seats.

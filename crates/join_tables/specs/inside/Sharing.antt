@@ -1,5 +1,5 @@
 -- Owners of one value, in parcels whose place is still to be written.
-use Rattle.std.specs.Prelude.{◌≡◌, ℕ, List, [], ◌∷◌, map}
+use Rattle.std.specs.Prelude.{◌≡◌, ℕ, ◌+◌, List, [], ◌∷◌, length}
 use Rattle.std.specs.List.{AllByRecursion}
 use Rattle.std.specs.Arc.{arc_value}
 use Rattle.join_words.specs.declared.ins.Given.{Given}
@@ -8,13 +8,18 @@ use Rattle.journal_rules.specs.declared.entry.Part.TheVariants.{From}
 use Rattle.table_steps.specs.declared.view.EndValue.{EndValue}
 use Rattle.table_steps.specs.Values.{given_parts, values_in, Knows}
 
--- one parcel, with this value
-abbrev pub IsShareOf : {V : Type 0} → V → List (Given V) → Type 0
-IsShareOf value (Value place share ∷ []) = arc_value share ≡ value
+-- a parcel with this value
+abbrev pub IsShareOf : {V : Type 0} → V → Given V → Type 0
+IsShareOf value (Value place share) = arc_value share ≡ value
 IsShareOf value _ = ⊥
 
-abbrev pub AreSharesOf : {V : Type 0} → V → List (List (Given V)) → Type 0
+abbrev pub AreSharesOf : {V : Type 0} → V → List (Given V) → Type 0
 AreSharesOf value shares = AllByRecursion (IsShareOf value) shares
+
+-- one more stands behind the others
+pub record AddsShare {V : Type 0} (value : V) (before after : List (Given V)) : Type 0 where
+  pub shares : AreSharesOf value before → AreSharesOf value after
+  pub count : length after ≡ length before + 1
 
 -- the first parcel with this place
 abbrev pub at_place : {V : Type 0} → ℕ → Given V → Given V
