@@ -1,14 +1,16 @@
 #!/usr/bin/env python3
 """Runs graphs with conditions by several numbers of workers, and looks in their journals for what each start found.
 
-    found_values.py PROGRAM [--count N | --seconds N] [--seed N] [--runs N]
+    found_values.py PROGRAM [--count N | --seconds N] [--seed N] [--runs N] [--queue N]
 
 At no edge that was signalled may a start find nothing, and each end that signalled an edge may be found there once. So
 of the ends that signalled an edge as many aren't found as tokens were dropped or left there. By one worker, where no
 token was dropped, they are found in the order of the journal. Besides random graphs three are run N times (`--runs`)
 by each number of workers: the three branches of a `route` that come together again, a loop that two texts go round,
-and four reads before a loop before a join. Prints a line for each difference and how many inputs were found, and ends
-with status 1 where there was a difference.
+and four reads before a loop before a join. In one more graph, run once by each number of workers, a loop signals one
+edge 50,000 times (`--queue`), whose target starts whenever a worker gets to it. Prints a line for each difference, how
+many inputs were found, and how many values waited at one edge at most, and ends with status 1 where there was a
+difference.
 """
 import argparse
 import collections
@@ -56,6 +58,14 @@ JOIN = [
     task("join", "match"),
 ]
 FIXED = {"route": ROUTE, "loop": LOOP, "join": JOIN}
+# The loop signals the edge from `more` to `taken` once for each line.
+QUEUE = [
+    task("read", "read", ["more"], text="long.txt"),
+    task("more", "route", ["trim", "taken"], words=["x", "x"]),
+    task("trim", "skip", ["again"], n=1),
+    task("again", "back", ["more"]),
+    task("taken", "pass"),
+]
 
 
 # ---- graphs and journals
@@ -91,14 +101,19 @@ class Found:
         self.given = collections.defaultdict(list)
         self.found = collections.defaultdict(list)
         self.dropped = collections.Counter()
+        self.most = 0
+        waiting = collections.Counter()
         for place, line in enumerate(journal.splitlines()[1:]):
             words = line.split(" ")
             if words[0] == "start":
                 for edge, part in zip(edges.of(int(words[1]), words[2]), listed(words[3]), strict=True):
                     self.found[edge].append(part)
+                    waiting[edge] -= 1
             elif words[0] == "end":
                 for edge in listed(words[2]):
                     self.given[int(edge)].append(str(place))
+                    waiting[int(edge)] += 1
+                    self.most = max(self.most, waiting[int(edge)])
             elif words[0] == "drop":
                 self.dropped.update(edges.of(int(words[1]), words[2]))
 
@@ -130,6 +145,7 @@ def run_once(program, folder, edges, limit, workers, counts):
     found = Found(edges, journal)
     counts["inputs"] += found.count()
     counts["runs"] += 1
+    counts["most"] = max(counts["most"], found.most)
     counts["nothing"] += sum(parts.count("nothing") for parts in found.found.values())
     return list(found.faults(workers))
 
@@ -150,16 +166,18 @@ def main():
     words = argparse.ArgumentParser(description=__doc__, formatter_class=argparse.RawDescriptionHelpFormatter)
     add_extent(words)
     words.add_argument("--runs", type=int, default=10)
+    words.add_argument("--queue", type=int, default=50_000)
     asked = words.parse_args()
     counts, faults, graphs = collections.Counter(), 0, 0
     for name, tasks in FIXED.items():
         faults += run_graph(asked.program, {"tasks": tasks}, {"one.txt": LOG, "two.txt": LOG[:200]}, name, 100_000, asked.runs, counts)
+    faults += run_graph(asked.program, {"tasks": QUEUE}, {"long.txt": "x\n" * asked.queue}, "queue", 1_000_000, 1, counts)
     for number, dice in cases(asked, lambda: faults > 0):
         graph = branching_graph(dice)
         texts = {"one.txt": random_text(dice), "two.txt": random_text(dice)}
         faults += run_graph(asked.program, graph, texts, f"graph {number} of seed {asked.seed}", dice.choice(LIMITS), 1, counts)
         graphs += 1
-    print(f"{len(FIXED)} graphs {asked.runs} times and {graphs} random graphs by each of {WORKERS} workers: {counts['runs']} runs found {counts['inputs']} inputs, {counts['nothing']} of them nothing; {faults} faults")
+    print(f"{len(FIXED)} graphs {asked.runs} times, a long queue and {graphs} random graphs by each of {WORKERS} workers: {counts['runs']} runs found {counts['inputs']} inputs, {counts['nothing']} of them nothing, at most {counts['most']} values at one edge; {faults} faults")
     sys.exit(1 if faults else 0)
 
 
