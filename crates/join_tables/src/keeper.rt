@@ -40,11 +40,22 @@ pub struct FinishedRun<V> {
 }
 
 /// The fates of the turns that are done.
-#[derive(Drop)]
 pub struct Keeper<V> {
     alloc: Global,
     seat: TableSeat<V>,
     fates: Vec<Fate<V>>,
+}
+
+// Written out, so that it is proved here alone and not in each crate above.
+impl<V: Drop> Drop for Keeper<V> {
+    fn drop(self) {
+        let Keeper {
+            alloc: _,
+            seat,
+            fates,
+        } = self;
+        drop((seat, fates));
+    }
 }
 
 impl<V> Model for Keeper<V> {
@@ -129,7 +140,8 @@ impl<V: Drop> Keeper<V> {
         ensures values { IfOk result (λ run. AreEndValues self.fates run.journal run.values.items) }
         ensures agree { AgreeOnValues self.fates }
     {
-        let Keeper { alloc, fates, .. } = self;
+        let Keeper { alloc, seat, fates } = self;
+        drop(seat);
         merged(alloc, fates)
     }
 }

@@ -22,6 +22,7 @@ use std::marker::Model;
 use std::sync::{Arc, Wait};
 
 /// A run that several threads step. Its releases hold it. Only its keeper is under a lock.
+#[derive(Drop)]
 pub struct Frame<J: Job> {
     alloc: Global,
     run: TableRun<J>,
@@ -29,20 +30,6 @@ pub struct Frame<J: Job> {
     depth: u32,
     // The frame that it is inside. No frame is inside another yet.
     parent: Option<Arc<Frame<J>>>,
-}
-
-// Written out, so that it is proved here alone and not in each crate above.
-impl<J: Job + Drop> Drop for Frame<J> {
-    fn drop(self) {
-        let Frame {
-            alloc: _,
-            run,
-            lock,
-            depth: _,
-            parent,
-        } = self;
-        drop((run, lock, parent));
-    }
 }
 
 impl<J: Job> Model for Frame<J> {

@@ -21,11 +21,22 @@ use std::snapshot::Snapshot;
 use std::sync::Arc;
 
 /// The keeper of a run of a job. The job allows what became of each turn that it has taken in.
-#[derive(Drop)]
 pub struct KeptRun<J: Job> {
     alloc: Global,
     job: Arc<J>,
     keeper: Keeper<J::V>,
+}
+
+// Written out, so that it is proved here alone and not in each crate above.
+impl<J: Job + Drop> Drop for KeptRun<J> {
+    fn drop(self) {
+        let KeptRun {
+            alloc: _,
+            job,
+            keeper,
+        } = self;
+        drop((job, keeper));
+    }
 }
 
 impl<J: Job> Model for KeptRun<J> {

@@ -29,11 +29,22 @@ use std::sync::Arc;
 use task_graph::Net;
 
 /// A job with the table of its net.
-#[derive(Drop)]
 pub struct TableRun<J: Job> {
     alloc: Global,
     job: Arc<J>,
     table: NetTable<J::V>,
+}
+
+// Written out, so that it is proved here alone and not in each crate above.
+impl<J: Job + Drop> Drop for TableRun<J> {
+    fn drop(self) {
+        let TableRun {
+            alloc: _,
+            job,
+            table,
+        } = self;
+        drop((job, table));
+    }
 }
 
 impl<J: Job> Model for TableRun<J> {

@@ -16,7 +16,7 @@ use Rattle.table_steps.specs.declared.view.TurnDuty.TheVariants.{Collecting, Owe
 use Rattle.table_steps.specs.declared.view.Lot.TheVariants.{Ours, Putting, Put, Awaited, Taking, Fetched, Found}
 use Rattle.table_steps.specs.declared.view.Note.TheVariants.{Duty, Lies, Queued}
 use Rattle.table_steps.specs.inside.Duties.{Raised}
-use Rattle.table_steps.specs.inside.Parcels.{same_part, part_times, DataPart}
+use Rattle.table_steps.specs.inside.Parcels.{same_part, part_times}
 use Rattle.table_steps.specs.inside.SlotKinds.{oldest, later}
 use Rattle.table_steps.specs.inside.Slots.{SlotCoord, parcel, lot, queue, owed, collected, left_at, SlotMoves, holders, lying, SlotPart, SlotBounds}
 use Rattle.table_steps.proofs.Calming.{calm_now}

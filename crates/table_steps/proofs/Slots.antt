@@ -1,5 +1,5 @@
 -- The account of slots after the steps on slots and tokens.
-use Rattle.std.proofs.Common.{◌≡◌, ◌≢◌, ◌⊎◌, inl, inr, ℕ, ◌+◌, ◌≤◌, Bool, true, false, ◌&&◌, cond, eqb, List, [], ◌∷◌, sym, refl, ap, ◌∙◌, subst, arith}
+use Rattle.std.proofs.Common.{◌≡◌, ◌≢◌, ◌⊎◌, inl, inr, ℕ, ◌+◌, ◌≤◌, true, false, ◌&&◌, cond, eqb, List, sym, ap, ◌∙◌, subst, arith}
 use Rattle.std.specs.Prelude.{◌==◌}
 use Rattle.std.proofs.lemmas.Bool.Decides.{nat_tests}
 use Rattle.std.proofs.lemmas.Bool.{cases_eq}
@@ -11,7 +11,7 @@ use Rattle.journal_rules.specs.Calm.{IsCalm}
 use Rattle.journal_rules.specs.DataRule.{last_part}
 use Rattle.table_steps.specs.Giving.{one_if}
 use Rattle.table_steps.specs.inside.Parcels.{same_part, DataPart}
-use Rattle.table_steps.proofs.Parcels.{cases_part, part_self, part_apart}
+use Rattle.table_steps.proofs.Parcels.{cases_part, part_self}
 
 -- a part at one edge
 abbrev pub at_edge : ℕ → Part → ℕ → Part → ℕ

@@ -30,7 +30,7 @@ impl<V> Words<V> {
     {
         self.table
             .shared
-            .join_seat::<Gathers>(&mut seat.seat, other.seat);
+            .join_seat::<Gathers>(&mut seat.seat, other.into_seat());
     }
 
     /// Takes a turn that is done into another that is, and one of the two off the live turns. It never finds the last,

@@ -89,7 +89,7 @@ impl<V> Words<V> {
     {
         self.table
             .shared
-            .join_seat::<Parks>(&mut seat.seat, other.seat);
+            .join_seat::<Parks>(&mut seat.seat, other.into_seat());
     }
 
     /// Deals the last turn of a rest to a new seat, which knows the same values.

@@ -530,7 +530,7 @@ impl<V> Words<V> {
     {
         self.table
             .shared
-            .join_seat::<TakesSeatIn>(&mut seat.seat, other.seat);
+            .join_seat::<TakesSeatIn>(&mut seat.seat, other.into_seat());
     }
 
     fn leave_told<A: StepFacts>(&self, seat: &mut NoteSeat<V>) -> u64

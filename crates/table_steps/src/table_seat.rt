@@ -13,10 +13,17 @@ pub(crate) type NoteSeat<V> = Seat<Parcels<V>, SeatView<V>>;
 /// A seat of the table with the numbers that its steps found. It has no bytes. A number is added only by the step that
 /// found it, so whoever has a seat can neither claim a number that no step found nor hide one. It knows the values of the
 /// parcels that it holds.
-#[derive(Drop)]
 pub struct TableSeat<V> {
     pub(crate) seat: NoteSeat<V>,
     numbers: Tag,
+}
+
+// Written out, so that it is proved here alone and not in each crate above.
+impl<V: Drop> Drop for TableSeat<V> {
+    fn drop(self) {
+        let TableSeat { seat, numbers } = self;
+        drop((seat, numbers));
+    }
 }
 
 impl<V> Model for TableSeat<V> {
@@ -38,6 +45,9 @@ impl Names<(Tag, u64)> for WithOneMore {
 }
 
 impl<V> TableSeat<V> {
+    ghost use Rattle.table_steps.specs.Values.{Knows};
+    ghost use Rattle.table_steps.specs.inside.SeatViews.{me_of, values_held};
+
     // A seat that has made no step yet.
     pub(crate) fn first(seat: NoteSeat<V>) -> TableSeat<V>
         requires home { seat.me.1 ≡ [] }
@@ -49,6 +59,17 @@ impl<V> TableSeat<V> {
             seat,
             numbers: Tag::empty(),
         }
+    }
+
+    // The seat, without the numbers.
+    pub(crate) fn into_seat(self) -> NoteSeat<V>
+        ensures seat { (result.table_id ≡ self.table_id) × (result.id ≡ self.id) × (me_of result.me ≡ self.me) }
+        ensures values { result.me.0.values ≡ self.values }
+        ensures known { Knows result.me.0.values (values_held result.me.1) }
+    {
+        let TableSeat { seat, numbers } = self;
+        drop(numbers);
+        seat
     }
 
     // Adds the number that a step found.

@@ -9,10 +9,17 @@ use run_frame::Job;
 use span_profile::Watch;
 
 /// A worker's seat in a crew, for a thread of the caller, with its watcher of type `X`.
-#[derive(Drop)]
 pub struct WorkerSeat<J: Job + Drop, X> {
     pub(crate) watcher: X,
     pub(crate) station: Station<J>,
+}
+
+// Written out, so that it is proved here alone and not in each crate above.
+impl<J: Job + Drop, X: Drop> Drop for WorkerSeat<J, X> {
+    fn drop(self) {
+        let WorkerSeat { watcher, station } = self;
+        drop((watcher, station));
+    }
 }
 
 impl<J: Job + Drop, X: Watch> WorkerSeat<J, X> {
@@ -55,7 +62,8 @@ impl<J: Job + Drop, X> WorkerSeat<J, X> {
     pub fn into_watcher(self) -> X
         ensures { result ≡ watcher_of self }
     {
-        let WorkerSeat { watcher, .. } = self;
+        let WorkerSeat { watcher, station } = self;
+        drop(station);
         watcher
     }
 

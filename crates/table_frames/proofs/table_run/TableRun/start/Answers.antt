@@ -3,8 +3,15 @@ use Rattle.join_tables.specs.States.{AdmittedState}
 use Rattle.run_frame.specs.FlatNets.{IsFlatNet}
 use Rattle.table_frames.specs.Frames.{FrameKey}
 use Rattle.table_frames.specs.inside.Runs.{MayWork}
-use Rattle.table_frames.proofs.Starting.{started}
+use Rattle.table_steps.specs.Holding.{HoldsEachUnit}
+use Rattle.table_frames.proofs.Starting.{needs_none, started}
 use Rattle.table_frames.proofs.table_run.TableRun.start.Goals as goal
+
+pub start-requires-clause-units : goal.start-requires-clause-units
+start-requires-clause-units g c =
+    let runs = c.self.invariant.0 in
+    let held = ap (λ (t : AdmittedState). t.held) c.in-Go.ensures.0 ∙ c.requires.held in
+    subst (HoldsEachUnit c.self.inside.table.net c.in-Go.ticket.task) (sym held) (needs_none c.self.inside.table.net (subst IsFlatNet (sym runs.net) runs.flat) c.in-Go.ticket.task)
 
 pub work-requires-clause-may : goal.work-requires-clause-may
 work-requires-clause-may g c κs within =

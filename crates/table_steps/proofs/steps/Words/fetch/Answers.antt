@@ -1,6 +1,6 @@
-use Rattle.std.proofs.Common.{◌≡◌, true, false, [], ◌∷◌, sym, ap, ◌∙◌, subst}
+use Rattle.std.proofs.Common.{true, false, sym, ap, ◌∙◌, subst}
 use Rattle.atomic_table.specs.Table.{rest}
-use Rattle.table_steps.specs.Values.{given_part, given_parts, given_values, values_in, Knows}
+use Rattle.table_steps.specs.Values.{given_parts, given_values, values_in, Knows}
 use Rattle.table_steps.specs.declared.view.Lot.TheVariants.{Awaited, Taking, Fetched}
 use Rattle.table_steps.specs.inside.Slots.{relot}
 use Rattle.table_steps.specs.inside.SlotKinds.{tried, oldest, take_laid}

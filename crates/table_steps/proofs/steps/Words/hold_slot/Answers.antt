@@ -1,4 +1,4 @@
-use Rattle.std.proofs.Common.{◌≡◌, false, ◌∙◌}
+use Rattle.std.proofs.Common.{false, ◌∙◌}
 use Rattle.table_steps.specs.Values.{given_parts}
 use Rattle.table_steps.proofs.Fetching.{given_up}
 use Rattle.table_steps.proofs.Values.{knows_again}
