@@ -1,7 +1,30 @@
 -- Members of a list, and the places at which a test passes.
-use Rattle.std.proofs.Common.{◌≡◌, ◌≢◌, ◌⊎◌, inl, inr, ℕ, zero, suc, ◌+◌, ◌≤◌, Bool, true, false, List, [], ◌∷◌, length, slice_get, Some, if◌then◌else◌, refl, subst, arith}
+use Rattle.std.proofs.Common.{◌≡◌, ◌≢◌, ◌⊎◌, inl, inr, ℕ, zero, suc, ◌+◌, ◌≤◌, Bool, true, false, List, [], ◌∷◌, ◌++◌, length, get_or, take, replicate, slice_get, Some, if◌then◌else◌, refl, sym, ◌∙◌, ◌<◌, subst, arith}
+use Rattle.std.proofs.Math.Seq.{take-append_seam}
+use Rattle.std.proofs.lemmas.List.{get_or_append_left, get_or_push, get_or-replicate, length-replicate, get_or_past}
+use Rattle.std.proofs.str.Laws.{order}
 use Rattle.std.specs.List.{Contains}
 use Rattle.task_graph.specs.Places.{places, places_from}
+
+-- items that are written back over as many others are all that is there
+pub written_back : {X : Type 0} (n : ℕ) (new rest : List X) → length new ≡ n → take n (new ++ rest) ≡ new
+written_back n new rest size = subst (λ m. take m (new ++ rest) ≡ new) size (take-append_seam new rest)
+
+-- a fact of each number by its place, with one number more
+pub each_push : (P : ℕ → ℕ → Type 0) (xs : List ℕ) (x n : ℕ) → length xs ≡ n → ((k : ℕ) → k < n → P k (get_or xs k 0)) → P n x → (k : ℕ) → k < n + 1 → P k (get_or (xs ++ x ∷ []) k 0)
+each_push P xs x n len each last k below = elim (order k n) [
+  | inl before ↦ subst (λ y. P k y) (sym (get_or_append_left xs (x ∷ []) 0 k (omega (arith, before, len)))) (each k before)
+  | inr after ↦
+      let here : n ≡ k = omega (arith, after, below) in
+      subst (λ y. P k y) (sym (get_or_push xs x 0 k (len ∙ here))) (subst (λ j. P j x) here last)
+]
+
+-- each read of zeros gives 0
+pub read_of_zeros : (n i : ℕ) → get_or {A = ℕ} (replicate n 0) i 0 ≡ 0
+read_of_zeros n i = elim (order i n) [
+  | inl below ↦ get_or-replicate n i 0 0 below
+  | inr past ↦ get_or_past (replicate n 0) i 0 (omega (arith, past, length-replicate {A = ℕ} n 0))
+]
 
 -- a member is the first item or one of the others, and back
 pub member_cases : {X : Type 0} (x : X) (xs : List X) (y : X) → Contains (x ∷ xs) y → (x ≡ y) ⊎ Contains xs y

@@ -1,15 +1,18 @@
 -- The marks of what is reached from sources.
-use Rattle.std.proofs.Common.{◌≡◌, ◌≢◌, inl, inr, ◌==◌, ◌↔◌, ℕ, ◌+◌, ◌<◌, ◌≤◌, Bool, IsTrue, List, length, get_or, sym, ap, ◌∙◌, subst, arith}
+use Rattle.std.proofs.Common.{◌≡◌, ◌≢◌, inl, inr, ◌==◌, ◌↔◌, ℕ, ◌+◌, ◌<◌, ◌≤◌, Bool, IsTrue, List, length, get_or, replicate, sym, ap, ◌∙◌, subst, arith}
 use Rattle.std.proofs.lemmas.Bool.{eqb-true}
+use Rattle.std.proofs.lemmas.List.{length-replicate}
 use Rattle.std.proofs.str.Laws.{order}
 use Rattle.task_graph.specs.NetRows.{NetRows}
 use Rattle.task_graph.specs.Net.{IsSource}
+use Rattle.task_graph.specs.declared.net.TaskRow.{TaskRow}
 use Rattle.pitfall_check.specs.declared.way.Way.TheVariants.{Ahead}
 use Rattle.pitfall_check.specs.Walks.{IsReachable}
 use Rattle.pitfall_check.specs.Pitfalls.{IsNeverReached}
 use Rattle.pitfall_check.specs.inside.Steps.{IsStep}
 use Rattle.pitfall_check.specs.inside.MarkSpread.{IsSpread, FreshStep}
 use Rattle.pitfall_check.specs.inside.ReachMarks.{MarksReached}
+use Rattle.pitfall_check.proofs.PlaceLemmas.{read_of_zeros}
 use Rattle.pitfall_check.proofs.SpreadLemmas.{same_or_not}
 use Rattle.pitfall_check.proofs.WalkLemmas.{reach_by, walk_of_steps, walk_keeps}
 
@@ -21,6 +24,12 @@ MarksReached-none net marks size none = record {
   closed = λ a b step some. absurd (some (none a));
   sources = λ s below. absurd (omega (arith, below));
 }
+
+-- so it is with a 0 for each task
+pub MarksReached-begin : (net : NetRows) (rows : List TaskRow) (marks : List ℕ) → marks ≡ replicate (length rows) 0 → rows ≡ net.tasks → MarksReached net marks 0
+MarksReached-begin net rows marks zeros same =
+    subst (λ xs. MarksReached net xs 0) (sym zeros)
+    (MarksReached-none net (replicate (length rows) 0) (length-replicate (length rows) 0 ∙ ap length same) (read_of_zeros (length rows)))
 
 -- the next task is marked, or is no source
 pub MarksReached-more : (net : NetRows) (marks : List ℕ) (n : ℕ) → MarksReached net marks n → (IsSource net n → get_or marks n 0 ≢ 0) → MarksReached net marks (n + 1)

@@ -183,18 +183,22 @@ module _ (net : NetRows) (states : List Progress) (cursors path done : List ℕ)
   pub path_task_in_range : t < length net.tasks
   path_task_in_range = last_in_range
 
-  module _ (none : NoneLeadsToUnseen net states t (length (out_edges net t))) where
-    state_below : t < length states
-    state_below = omega (arith, last_in_range, search.states_size)
+  state_below : t < length states
+  state_below = omega (arith, last_in_range, search.states_size)
 
+  -- what was seen stays so, and as many weren't seen
+  pub finish_sees_more : OnlySeesMore states (slice_set states t Done)
+  finish_sees_more = seen_after states t Done state_below refl
+
+  pub finish_as_many : count_by is_unseen (slice_set states t Done) ≡ count_by is_unseen states
+  finish_as_many = count_by-set_same is_unseen states t Done Unseen state_below (ap is_unseen last_open) refl
+
+  module _ (none : NoneLeadsToUnseen net states t (length (out_edges net t))) where
     closed : progress_of (slice_set states t Done) t ≡ Done
     closed = get_or-set_same states t Done Unseen state_below
 
     kept_state : (u : ℕ) → u ≢ t → progress_of (slice_set states t Done) u ≡ progress_of states u
     kept_state u other = get_or-set_other states t u Done Unseen other
-
-    sees : OnlySeesMore states (slice_set states t Done)
-    sees = seen_after states t Done state_below refl
 
     front_open : All (λ u. progress_of (slice_set states t Done) u ≡ Open) path
     front_open k d inside = kept_state (get_or path k d) (before_last k d inside).0 ∙ front (λ u. progress_of states u ≡ Open) path (t ∷ []) search.path_open k d inside
@@ -227,7 +231,7 @@ module _ (net : NetRows) (states : List Progress) (cursors path done : List ℕ)
     ]
 
     done_passed_now : (u : ℕ) → progress_of (slice_set states t Done) u ≡ Done → NoneLeadsToUnseen net (slice_set states t Done) u (length (out_edges net u))
-    done_passed_now u is = NoneLeadsToUnseen-after net states (slice_set states t Done) u (length (out_edges net u)) sees (elim (same_or_not u t) [
+    done_passed_now u is = NoneLeadsToUnseen-after net states (slice_set states t Done) u (length (out_edges net u)) finish_sees_more (elim (same_or_not u t) [
       | inl same ↦ subst (λ v. NoneLeadsToUnseen net states v (length (out_edges net v))) (sym same) none
       | inr other ↦ search.done_passed u (sym (kept_state u other) ∙ is)
     ])
@@ -262,17 +266,14 @@ module _ (net : NetRows) (states : List Progress) (cursors path done : List ℕ)
       path_open = front_open;
       open_on_path = still_on_path;
       path_leads = front_leads;
-      passed = λ u. NoneLeadsToUnseen-after net states (slice_set states t Done) u (get_or cursors u 0) sees (search.passed u);
+      passed = λ u. NoneLeadsToUnseen-after net states (slice_set states t Done) u (get_or cursors u 0) finish_sees_more (search.passed u);
       order_in_range = All-push (λ u. u < length net.tasks) done t search.order_in_range last_in_range;
       order_done = All-push (λ u. progress_of (slice_set states t Done) u ≡ Done) done t order_done_now closed;
       done_in_order = in_order_now;
       done_passed = done_passed_now;
       finished = subst (IsFinishOrder net) (sym (reverse-append done (t ∷ []))) (search.finished, not_twice, leads_back);
-      count = omega (arith, search.count, length-append path (t ∷ []), length-append done (t ∷ []), as_many);
+      count = omega (arith, search.count, length-append path (t ∷ []), length-append done (t ∷ []), finish_as_many);
     }
-      where
-        as_many : count_by is_unseen (slice_set states t Done) ≡ count_by is_unseen states
-        as_many = count_by-set_same is_unseen states t Done Unseen state_below (ap is_unseen last_open) refl
 
 -- a task's cursor goes on past edges that don't lead on
 pub IsSearch-advance : (net : NetRows) (states : List Progress) (cursors path done : List ℕ) (t place : ℕ) → t < length net.tasks → IsSearch net states cursors path done
@@ -334,10 +335,6 @@ IsSearch-go_on net states cursors path done t place b search found ends in_range
 -- each task that is opened is one less that wasn't seen
 pub fewer_unseen : (states : List Progress) (b : ℕ) → b < length states → progress_of states b ≡ Unseen → count_by is_unseen (slice_set states b Open) + 1 ≡ count_by is_unseen states
 fewer_unseen states b below unseen = count_by-set_no is_unseen states b Open Unseen below (ap is_unseen unseen) refl
-
--- a finished one isn't
-pub as_many_unseen : (states : List Progress) (b : ℕ) → b < length states → is_unseen (progress_of states b) ≡ false → count_by is_unseen (slice_set states b Done) ≡ count_by is_unseen states
-as_many_unseen states b below seen = count_by-set_same is_unseen states b Done Unseen below seen refl
 
 -- the same search, by equal lists
 pub IsSearch-same : (net : NetRows) (states states' : List Progress) (cursors cursors' path path' done done' : List ℕ) → states ≡ states' → cursors ≡ cursors' → path ≡ path' → done ≡ done'
