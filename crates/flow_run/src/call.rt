@@ -81,7 +81,8 @@ pub fn flow_main<F: Texts, S: Sink, N: Sink, R: Threads + Wait + Sync>(
     requires nothing_held_on_notes { (N.state notes.old).held_back ≡ [] }
     // The status has its cause; the kept run is one legal and complete run of the graph that FILE holds, the verdict
     // that on the journal that JOURNAL holds, and the findings those on the graph that FILE holds.
-    ensures ends { CallEnds (F.held texts.old) (map string_bytes words.now) result.status result.runs result.conclusion }
+    ensures ends { CallEnds (F.held texts.old) (map string_bytes words.now) result.status
+        result.runs result.conclusion }
     // Where that is at hand, no read and no write fails and no run is cut short, all is done.
     ensures completes { IsAtHand (F.held texts.old) (asked_by (map string_bytes words.now)) → NothingFails F.failed S.state texts.old texts.new out.old out.new
         → All (λ run. run_reason text_job run ≡ Reason.Fine) result.runs → (result.status ≡ Status.Done) ⊎ (result.status ≡ Status.NoMemory) }
@@ -94,11 +95,14 @@ pub fn flow_main<F: Texts, S: Sink, N: Sink, R: Threads + Wait + Sync>(
         → EndsPlainly job (S.state out.old).taken (S.state out.new).taken (NothingFails F.failed S.state texts.old texts.new out.old out.new) result.status }
     // The output took the report or the journal of the kept run, or the verdict's line, or the findings; where it failed or
     // an allocation did, a prefix of it. Where no run is kept and nothing was concluded, it is left alone.
-    ensures output { HasWritten S.state out.old out.new result.status ((result.runs ≡ []) × (result.conclusion ≡ None)) (output_of (map string_bytes words.now) result.runs result.conclusion) result.written }
+    ensures output { HasWritten S.state out.old out.new result.status
+        ((result.runs ≡ []) × (result.conclusion ≡ None))
+        (output_of (map string_bytes words.now) result.runs result.conclusion) result.written }
     // With ReadFault one read failed, the one that the status names, and else none did unless an allocation failed.
     ensures read { HaveRead F.held F.failed texts.old texts.new result.status }
     // The diagnostics sink took the line of the status, or a prefix of it where it failed, or nothing.
-    ensures noted { HasNoted N.state notes.old notes.new (note_line (names_in result.runs) result.status) result.status result.noted }
+    ensures noted { HasNoted N.state notes.old notes.new
+        (note_line (names_in result.runs) result.status) result.status result.noted }
     ensures watchers { result.watchers ≡ watchers }
 {
     let Ended {
@@ -136,8 +140,11 @@ fn answer<F: Texts, S: Sink, R: Threads + Wait + Sync>(
     watchers: &mut Vec<Box<dyn Watch + Send>>,
 ) -> Ended
     requires { (S.state out.old).held_back ≡ [] }
-    ensures ends { CallEnds (F.held texts.old) (map string_bytes words.now) result.status result.runs result.conclusion }
-    ensures output { HasWritten S.state out.old out.new result.status ((result.runs ≡ []) × (result.conclusion ≡ None)) (output_of (map string_bytes words.now) result.runs result.conclusion) result.written }
+    ensures ends { CallEnds (F.held texts.old) (map string_bytes words.now) result.status
+        result.runs result.conclusion }
+    ensures output { HasWritten S.state out.old out.new result.status
+        ((result.runs ≡ []) × (result.conclusion ≡ None))
+        (output_of (map string_bytes words.now) result.runs result.conclusion) result.written }
     ensures read { HaveRead F.held F.failed texts.old texts.new result.status }
     ensures watchers { watchers.new ≡ watchers.old }
 {
@@ -160,8 +167,10 @@ fn run_file<F: Texts, S: Sink, R: Threads + Wait + Sync>(
     watchers: &mut Vec<Box<dyn Watch + Send>>,
 ) -> Ended
     requires nothing_held { (S.state out.old).held_back ≡ [] }
-    ensures ends { RunEnds (F.held texts.old) asked.entry.file.now asked.entry.limit result.status result.runs }
-    ensures reported { Reported S.state out.old out.new result.status asked.entry.journal result.runs result.written }
+    ensures ends { RunEnds (F.held texts.old) asked.entry.file.now asked.entry.limit result.status
+        result.runs }
+    ensures reported { Reported S.state out.old out.new result.status asked.entry.journal
+        result.runs result.written }
     ensures no_conclusion { result.conclusion ≡ None }
     ensures read { HaveRead F.held F.failed texts.old texts.new result.status }
     ensures watchers { watchers.new ≡ watchers.old }
@@ -197,7 +206,8 @@ fn run_and_report<S: Sink, R: Threads + Wait + Sync>(
     requires job { IsTextJob job }
     requires nothing_held { (S.state out.old).held_back ≡ [] }
     ensures ends { JobEnds job result.status result.runs }
-    ensures reported { Reported S.state out.old out.new result.status asked.entry.journal result.runs result.written }
+    ensures reported { Reported S.state out.old out.new result.status asked.entry.journal
+        result.runs result.written }
     ensures no_conclusion { result.conclusion ≡ None }
     ensures watchers { watchers.new ≡ watchers.old }
 {
@@ -213,7 +223,8 @@ fn run_and_report<S: Sink, R: Threads + Wait + Sync>(
 
 // An end after these runs.
 fn after_runs(runs: List<FrameRun<TextJob>>, status: Status, written: bool) -> Ended
-    ensures { result ≡ record { status = status; runs = runs; conclusion = None; written = written } }
+    ensures { result ≡ record
+        { status = status; runs = runs; conclusion = None; written = written } }
 {
     Ended {
         status,

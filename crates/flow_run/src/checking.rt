@@ -26,8 +26,10 @@ pub(crate) fn check_file<F: Texts, S: Sink>(
     out: &mut S,
 ) -> Ended
     requires { (S.state out.old).held_back ≡ [] }
-    ensures ends { CheckEnds (F.held texts.old) asked.entry.file.now result.status result.conclusion }
-    ensures output { HasWritten S.state out.old out.new result.status (result.conclusion ≡ None) (conclusion_text result.conclusion) result.written }
+    ensures ends { CheckEnds (F.held texts.old) asked.entry.file.now result.status
+        result.conclusion }
+    ensures output { HasWritten S.state out.old out.new result.status (result.conclusion ≡ None)
+        (conclusion_text result.conclusion) result.written }
     ensures no_run { result.runs ≡ [] }
     ensures read { HaveRead F.held F.failed texts.old texts.new result.status }
 {
@@ -60,7 +62,8 @@ fn report_findings<S: Sink>(alloc: Global, found: GraphFindings, out: &mut S) ->
     requires nothing_held { (S.state out.old).held_back ≡ [] }
     ensures after { IsAfterFindings result.status }
     ensures conclusion { result.conclusion ≡ Some (Conclusion.Findings found) }
-    ensures output { HasWritten S.state out.old out.new result.status (result.conclusion ≡ None) (conclusion_text result.conclusion) result.written }
+    ensures output { HasWritten S.state out.old out.new result.status (result.conclusion ≡ None)
+        (conclusion_text result.conclusion) result.written }
     ensures no_run { result.runs ≡ [] }
 {
     let (status, written) = match deliver_findings(alloc, out, &found) {
@@ -84,7 +87,8 @@ fn deliver_findings<S: Sink>(
 ) -> Result<(), SinkFault>
     requires named { All (IsNamed found.now.names) found.now.findings }
     requires nothing_held { (S.state out.old).held_back ≡ [] }
-    ensures { Delivers (S.state out.old) (S.state out.new) (findings_text found.now.names found.now.findings) result }
+    ensures { Delivers (S.state out.old) (S.state out.new)
+        (findings_text found.now.names found.now.findings) result }
 {
     let written = put_findings(alloc, out, found);
     flushed(out, written)
@@ -94,7 +98,8 @@ fn deliver_findings<S: Sink>(
 #[tactic(auto, using(outside_io::proofs::Pieces::writes_both, outside_io::proofs::Pieces::writes_no_more))]
 fn put_findings<S: Sink>(alloc: Global, out: &mut S, found: &GraphFindings) -> Result<(), SinkFault>
     requires { All (IsNamed found.now.names) found.now.findings }
-    ensures { Writes (S.state out.old) (S.state out.new) (findings_text found.now.names found.now.findings) result }
+    ensures { Writes (S.state out.old) (S.state out.new)
+        (findings_text found.now.names found.now.findings) result }
 {
     let findings = found.findings.as_slice();
     put_lines(alloc, out, found.names.as_slice(), findings)?;
@@ -110,7 +115,8 @@ fn put_lines<S: Sink>(
     findings: &[Finding],
 ) -> Result<(), SinkFault>
     requires { All (IsNamed names.now) findings.now }
-    ensures { Writes (S.state out.old) (S.state out.new) (flat_map (finding_line names.now) findings.now) result }
+    ensures { Writes (S.state out.old) (S.state out.new)
+        (flat_map (finding_line names.now) findings.now) result }
 {
     for finding in findings {
         if let Err(fault) = put_finding(alloc, out, names, *finding) {

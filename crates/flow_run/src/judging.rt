@@ -29,8 +29,10 @@ pub(crate) fn judge_file<F: Texts, S: Sink>(
     out: &mut S,
 ) -> Ended
     requires { (S.state out.old).held_back ≡ [] }
-    ensures ends { JudgeEnds (F.held texts.old) asked.entry.file.now asked.entry.journal.now asked.entry.limit result.status result.conclusion }
-    ensures output { HasWritten S.state out.old out.new result.status (result.conclusion ≡ None) (conclusion_text result.conclusion) result.written }
+    ensures ends { JudgeEnds (F.held texts.old) asked.entry.file.now asked.entry.journal.now
+        asked.entry.limit result.status result.conclusion }
+    ensures output { HasWritten S.state out.old out.new result.status (result.conclusion ≡ None)
+        (conclusion_text result.conclusion) result.written }
     ensures no_run { result.runs ≡ [] }
     ensures read { HaveRead F.held F.failed texts.old texts.new result.status }
 {
@@ -97,7 +99,8 @@ fn report_verdict<S: Sink>(alloc: Global, verdict: Verdict, out: &mut S) -> Ende
     requires { (S.state out.old).held_back ≡ [] }
     ensures after { IsAfterVerdict verdict result.status }
     ensures conclusion { result.conclusion ≡ Some (Conclusion.Verdict verdict) }
-    ensures output { HasWritten S.state out.old out.new result.status (result.conclusion ≡ None) (conclusion_text result.conclusion) result.written }
+    ensures output { HasWritten S.state out.old out.new result.status (result.conclusion ≡ None)
+        (conclusion_text result.conclusion) result.written }
     ensures no_run { result.runs ≡ [] }
 {
     let (status, written) = match deliver_verdict(alloc, verdict, out) {

@@ -31,7 +31,8 @@ pub fn prepare<F: Texts, R: Wait>(
     asked: Run<'_>,
 ) -> Result<TextJob, Stop>
     ensures job { IfOk result IsTextJob }
-    ensures requested { IfOk result (IsRequestedJob (F.held texts.old) asked.entry.file.now asked.entry.limit) }
+    ensures requested { IfOk result
+        (IsRequestedJob (F.held texts.old) asked.entry.file.now asked.entry.limit) }
     ensures stops { IfErr result (StopsBefore (F.held texts.old) asked.entry.file.now) }
     ensures stays { F.held texts.new ≡ F.held texts.old }
     ensures fails { FailsBy result (F.failed texts.old) (F.failed texts.new) }

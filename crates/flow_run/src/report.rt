@@ -62,7 +62,9 @@ fn put_reason<S: Sink>(
 #[tactic(auto, using(outside_io::proofs::Pieces::accepts_nothing, outside_io::proofs::Pieces::writes_nothing))]
 fn put_tasks<S: Sink>(alloc: Global, out: &mut S, run: &FrameRun<TextJob>) -> Result<(), SinkFault>
     requires { IsKept text_job run.now }
-    ensures { Writes (S.state out.old) (S.state out.new) (report (names_of (job_of run.now)) (net_of (job_of run.now)) (journal_of run.now) (values_of run.now)) result }
+    ensures { Writes (S.state out.old) (S.state out.new)
+        (report (names_of (job_of run.now)) (net_of (job_of run.now)) (journal_of run.now)
+        (values_of run.now)) result }
 {
     let net = run.job.net();
     let names = run.job.names();
@@ -81,7 +83,8 @@ fn put_tasks<S: Sink>(alloc: Global, out: &mut S, run: &FrameRun<TextJob>) -> Re
 fn last_value<'a>(ends: &[Option<u64>], values: &'a [ValueRow<Item>], task: u32) -> Option<&'a Item>
     requires task { task < length ends.now }
     requires rising { AreRising values.now }
-    ensures { option_copied result ≡ option_and_then (value_at values.now) (slice_index_or ends.now task None) }
+    ensures { option_copied result
+        ≡ option_and_then (value_at values.now) (slice_index_or ends.now task None) }
 {
     value_in(values, ends[task as usize]?)
 }
@@ -116,7 +119,8 @@ fn put_task<S: Sink>(
     value: Option<&Item>,
 ) -> Result<(), SinkFault>
     requires { task < length net.now.tasks }
-    ensures { Writes (S.state out.old) (S.state out.new) (task_report net.now task name.now (option_copied value.entry)) result }
+    ensures { Writes (S.state out.old) (S.state out.new)
+        (task_report net.now task name.now (option_copied value.entry)) result }
 {
     if net.out_edges(task).is_empty() {
         put_outcome(alloc, out, name, value)
@@ -132,7 +136,8 @@ fn put_outcome<S: Sink>(
     name: &[u8],
     value: Option<&Item>,
 ) -> Result<(), SinkFault>
-    ensures { Writes (S.state out.old) (S.state out.new) (outcome name.now (option_copied value.entry)) result }
+    ensures { Writes (S.state out.old) (S.state out.new)
+        (outcome name.now (option_copied value.entry)) result }
 {
     match value {
         Some(item) => put_ended(alloc, out, name, item.text().as_slice()),
@@ -143,7 +148,8 @@ fn put_outcome<S: Sink>(
 // Writes the line of a task that has ended, and its value.
 #[tactic(auto, using(outside_io::proofs::Pieces::writes_nothing))]
 fn put_ended<S: Sink>(alloc: Global, out: &mut S, name: &[u8], text: &[u8]) -> Result<(), SinkFault>
-    ensures { Writes (S.state out.old) (S.state out.new) (header ended_mark name.now ++ text.now) result }
+    ensures { Writes (S.state out.old) (S.state out.new) (header ended_mark name.now ++ text.now)
+        result }
 {
     let line = header_line(alloc, ENDED, name)?;
     put_both(out, line.as_slice(), text)

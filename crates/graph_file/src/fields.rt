@@ -29,7 +29,8 @@ pub(crate) fn read_name<'v>(
     spot: Spot,
     task: &'v Value,
 ) -> Result<&'v str, GraphError>
-    ensures { ReadsAs (λ s. s.now) result (needed task_name_of spot (codes "name") (view task.now)) }
+    ensures { ReadsAs (λ s. s.now) result
+        (needed task_name_of spot (codes "name") (view task.now)) }
 {
     let Some(name) = task.get("name").and_then(task_name_of) else {
         return Err(bad_field(alloc, spot, "name"));
@@ -43,7 +44,8 @@ pub(crate) fn read_text_name<'v>(
     spot: Spot,
     object: &'v Value,
 ) -> Result<&'v str, GraphError>
-    ensures { ReadsAs (λ s. s.now) result (needed text_name_of spot (codes "text") (view object.now)) }
+    ensures { ReadsAs (λ s. s.now) result
+        (needed text_name_of spot (codes "text") (view object.now)) }
 {
     let Some(text) = object.get("text").and_then(text_name_of) else {
         return Err(bad_field(alloc, spot, "text"));
@@ -79,7 +81,8 @@ fn line_count_of(value: &Value) -> Option<u64>
 
 // The items of a field, if it holds a list.
 fn list_in<'v>(object: &'v Value, field: &str) -> Option<&'v [Value]>
-    ensures { option_map (λ items. map view items.now) result ≡ option_and_then list_of (get field.now (view object.now)) }
+    ensures { option_map (λ items. map view items.now) result
+        ≡ option_and_then list_of (get field.now (view object.now)) }
 {
     let list = object.get(field)?;
     list_of(list)
@@ -103,7 +106,9 @@ pub(crate) fn read_words(
 }
 
 fn copied_words(alloc: Global, spot: Spot, words: &[Value]) -> Result<List<Bytes>, GraphError>
-    ensures { Reads result (walk (put_each word_of (λ word. word) (GraphError.BadField spot (codes "words"))) [] (map view words.now)) }
+    ensures { Reads result (walk
+        (put_each word_of (λ word. word) (GraphError.BadField spot (codes "words"))) []
+        (map view words.now)) }
 {
     let mut copies = List::new(alloc);
     for word in words {
@@ -118,7 +123,9 @@ fn copy_word(
     word: &Value,
     copies: &mut List<Bytes>,
 ) -> Result<(), GraphError>
-    ensures { Leads result copies.new (put_each word_of (λ word. word) (GraphError.BadField spot (codes "words")) copies.old (view word.now)) }
+    ensures { Leads result copies.new
+        (put_each word_of (λ word. word) (GraphError.BadField spot (codes "words")) copies.old
+        (view word.now)) }
 {
     let Some(word) = word_of(word) else {
         return Err(bad_field(alloc, spot, "words"));

@@ -23,7 +23,8 @@ pub(crate) struct Named<'n> {
 /// The places of these names.
 pub(crate) fn places_of(alloc: Global, names: &[Bytes]) -> Result<Named<'_>, NoMemory>
     ensures places { IfOk result (λ named. HasPlaces named.places names.now) }
-    ensures repeated { IfOk result (λ named. walk add_name [] names.now ≡ unless_repeated names.now named.repeated) }
+    ensures repeated { IfOk result
+        (λ named. walk add_name [] names.now ≡ unless_repeated names.now named.repeated) }
 {
     let mut places = HashMap::with_capacity(alloc, names.len())?;
     let mut repeated = None;

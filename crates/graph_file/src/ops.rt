@@ -28,7 +28,8 @@ pub(crate) fn read_op<'v>(
 }
 
 fn op_name(object: &Value) -> Option<&str>
-    ensures { option_map (λ s. s.now) result ≡ option_and_then as_str (get (codes "op") (view object.now)) }
+    ensures { option_map (λ s. s.now) result
+        ≡ option_and_then as_str (get (codes "op") (view object.now)) }
 {
     object.get("op")?.as_str()
 }

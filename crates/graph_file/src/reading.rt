@@ -23,7 +23,8 @@ use std::alloc::Global;
 pub fn read_graph(alloc: Global, bytes: &[u8]) -> Result<Plan, GraphError>
     ensures plan { IfOk result (λ plan. PlanText bytes.now (plan_rows plan)) }
     ensures rules { IfOk result (λ plan. IsPlan (plan_rows plan)) }
-    ensures refusal { IfErr result (λ error. error ≢ GraphError.NoMemory → IsRefused bytes.now error) }
+    ensures refusal { IfErr result
+        (λ error. error ≢ GraphError.NoMemory → IsRefused bytes.now error) }
 {
     read_by_steps(alloc, bytes)
 }

@@ -64,7 +64,8 @@ fn net_of(alloc: Global, draft: &Draft<'_>) -> Result<Net, GraphError>
 // The edges by the numbers of their tasks.
 fn edges_of(alloc: Global, draft: &Draft<'_>, places: &Places<'_>) -> Result<List<Edge>, GraphError>
     requires { HasPlaces places.now draft.now.names }
-    ensures { ReadsAs edge_rows result (walk (add_edge draft.now.names) [] (map link_row draft.now.links)) }
+    ensures { ReadsAs edge_rows result
+        (walk (add_edge draft.now.names) [] (map link_row draft.now.links)) }
 {
     let mut edges = List::with_room(alloc, draft.links.len())?;
     add_edges(alloc, draft, places, draft.links.as_slice(), &mut edges)?;
@@ -98,7 +99,8 @@ fn add_edge(
     edges: &mut List<Edge>,
 ) -> Result<(), GraphError>
     requires { HasPlaces places.now draft.now.names }
-    ensures { Leads result (edge_rows edges.new) (add_edge draft.now.names (edge_rows edges.old) (link_row link.now)) }
+    ensures { Leads result (edge_rows edges.new)
+        (add_edge draft.now.names (edge_rows edges.old) (link_row link.now)) }
 {
     let Some(to) = places.get(link.to.as_bytes()) else {
         return Err(no_such_name(alloc, task_spot(link.from), "to"));

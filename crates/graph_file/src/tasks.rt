@@ -51,7 +51,8 @@ fn read_version(alloc: Global, file: &Value) -> Result<u64, GraphError>
 }
 
 fn task_list<'v>(alloc: Global, file: &'v Value) -> Result<&'v [Value], GraphError>
-    ensures { ReadsAs (λ items. map view items.now) result (needed objects_of File (codes "tasks") (view file.now)) }
+    ensures { ReadsAs (λ items. map view items.now) result
+        (needed objects_of File (codes "tasks") (view file.now)) }
 {
     let Some(tasks) = file.get("tasks").and_then(objects_of) else {
         return Err(bad_field(alloc, Spot::File, "tasks"));
@@ -106,7 +107,8 @@ fn read_task<'v>(
     numbers: &mut Places<'v>,
 ) -> Result<(), GraphError>
     requires { HasPlaces numbers.old draft.old.texts }
-    ensures draft { Leads result (draft_rows draft.new) (add_task_steps (draft_rows draft.old) (view task.now)) }
+    ensures draft { Leads result (draft_rows draft.new)
+        (add_task_steps (draft_rows draft.old) (view task.now)) }
     ensures numbers { OnOk result (HasPlaces numbers.new draft.new.texts) }
 {
     let number = draft.names.len();
@@ -127,7 +129,8 @@ fn read_to<'v>(
     task: &'v Value,
     links: &mut List<Link<'v>>,
 ) -> Result<(), GraphError>
-    ensures { Leads result (map link_row links.new) (links_with from (map link_row links.old) (view task.now)) }
+    ensures { Leads result (map link_row links.new)
+        (links_with from (map link_row links.old) (view task.now)) }
 {
     let Some(to) = task.get("to") else {
         return Ok(());

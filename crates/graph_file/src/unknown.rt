@@ -21,7 +21,8 @@ pub(crate) fn check_fields(
     common: &[&str],
     own: &[&str],
 ) -> Result<(), GraphError>
-    ensures { Reads result (only (map (λ s. s.now) common.now ++ map (λ s. s.now) own.now) spot (view object.now)) }
+    ensures { Reads result (only (map (λ s. s.now) common.now ++ map (λ s. s.now) own.now) spot
+        (view object.now)) }
 {
     match first_unknown(object, common, own) {
         Some(field) => Err(bad_field(alloc, spot, field)),
@@ -59,7 +60,8 @@ fn unknown_key<'v>(
 // Whether the key is one of these fields.
 #[tactic(auto, using(crate::proofs::FieldLemmas::is_unknown_two))]
 fn is_known(common: &[&str], own: &[&str], key: &str) -> bool
-    ensures { not result ≡ is_unknown (map (λ s. s.now) common.now ++ map (λ s. s.now) own.now) key.now }
+    ensures { not result ≡ is_unknown (map (λ s. s.now) common.now ++ map (λ s. s.now) own.now)
+        key.now }
 {
     is_one_of(common, key) || is_one_of(own, key)
 }

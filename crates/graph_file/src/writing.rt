@@ -71,7 +71,8 @@ fn task_value(alloc: Global, plan: &Plan, task: u32, op: &Op) -> Result<Value, A
 }
 
 fn task_object(alloc: Global, name: Value, op: WrittenOp, to: Value) -> Result<Value, AllocError>
-    ensures { IfOk result (λ value. view value ≡ task_object (view name) (op_text_of op) (view to)) }
+    ensures { IfOk result (λ value. view value
+        ≡ task_object (view name) (op_text_of op) (view to)) }
 {
     let mut members = op.own;
     put(&mut members, alloc, "to", to)?;
@@ -90,7 +91,8 @@ fn task_object(alloc: Global, name: Value, op: WrittenOp, to: Value) -> Result<V
 fn to_values(alloc: Global, plan: &Plan, task: u32) -> Result<Vec<Value>, AllocError>
     requires plan { IsWritable (plan_rows plan.now) }
     requires within { task < length plan.now.top.names }
-    ensures { IfOk result (λ values. map view values.items ≡ map string (to_of (plan_rows plan.now) task)) }
+    ensures { IfOk result (λ values. map view values.items
+        ≡ map string (to_of (plan_rows plan.now) task)) }
 {
     let mut values = Vec::new(alloc);
     for edge in plan.top.net.out_edges(task) {

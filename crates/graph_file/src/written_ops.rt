@@ -81,7 +81,8 @@ fn having(
     field: &str,
     content: Value,
 ) -> Result<WrittenOp, AllocError>
-    ensures { IfOk result (λ written. op_text_of written ≡ with_field name.now field.now (view content)) }
+    ensures { IfOk result (λ written. op_text_of written
+        ≡ with_field name.now field.now (view content)) }
 {
     let mut own = Map::new(alloc);
     put(&mut own, alloc, field, content)?;

@@ -42,9 +42,13 @@ impl<V> Model for SpentBatch<V> {
 
     ghost Value = { BatchState V };
 
-    ghost view = { λ b. batch_state (option_map (λ s. s.table_id) b.seat) b.fates.items (vec_capacity b.fates) };
+    ghost view = { λ b. batch_state (option_map (λ s. s.table_id) b.seat) b.fates.items
+        (vec_capacity b.fates) };
 
-    ghost invariant = { λ b. IfSome b.seat (λ s. IsSpent (entries_told b.fates.items) s.me.0 × (s.me.1 ≡ []) × Knows s.values (values_known b.fates.items) × (b.fates.items ≢ [])) × IfNone b.seat (b.fates.items ≡ []) };
+    ghost invariant = { λ b. IfSome b.seat
+        (λ s. IsSpent (entries_told b.fates.items) s.me.0 × (s.me.1 ≡ [])
+        × Knows s.values (values_known b.fates.items) × (b.fates.items ≢ []))
+        × IfNone b.seat (b.fates.items ≡ []) };
 }
 
 impl<V> Keyed for SpentBatch<V> {
@@ -93,7 +97,8 @@ impl<V: Drop> NetTable<V> {
         requires batch { IsOfTable self.now.table batch.old.table }
         requires spent { spent.table ≡ self.now.table }
         requires room { length batch.old.fates < batch.old.room }
-        ensures { batch.new ≡ batch_state (Some self.now.table) (batch.old.fates ++ spent.fate ∷ []) batch.old.room }
+        ensures { batch.new ≡ batch_state (Some self.now.table) (batch.old.fates ++ spent.fate ∷ [])
+            batch.old.room }
     {
         let Spent { seat: own, fate } = spent;
         batch.fates.push_reserved(fate);
@@ -103,12 +108,14 @@ impl<V: Drop> NetTable<V> {
 
     // Gives what a turn knows to the seat of a batch, which is the turn's own where the batch has none.
     fn join_batch(&self, seat: Option<TableSeat<V>>, own: TableSeat<V>) -> TableSeat<V>
-        requires table { IfSome seat (λ s. s.table_id ≡ self.now.table) × (own.table_id ≡ self.now.table) }
+        requires table { IfSome seat (λ s. s.table_id ≡ self.now.table)
+            × (own.table_id ≡ self.now.table) }
         requires home { IfSome seat (λ s. s.me.1 ≡ []) × (own.me.1 ≡ []) }
         requires ready { IfSome seat (λ s. MayGather s.me.0 own.me.0) }
         ensures table { result.table_id ≡ self.now.table }
         ensures view { result.me ≡ (own.me.0 ++ option_map_or (λ s. left_by s.me.0) seat [], []) }
-        ensures known { Knows result.values (option_map_or (λ s. s.values) seat []) × Knows result.values own.values }
+        ensures known { Knows result.values (option_map_or (λ s. s.values) seat [])
+            × Knows result.values own.values }
     {
         let Some(mut seat) = seat else { return own };
         self.words.gather(&mut seat, own);

@@ -57,7 +57,8 @@ impl<V: Drop> NetTable<V> {
         requires table { fresh.table ≡ self.now.table }
         requires empty { given_in inputs ≡ [] }
         requires room { length (edges_of self.now.net fresh.task fresh.cause) ≤ room_in inputs }
-        ensures { result ≡ collecting_state self.now.table fresh.task fresh.cause (edges_of self.now.net fresh.task fresh.cause) [] }
+        ensures { result ≡ collecting_state self.now.table fresh.task fresh.cause
+            (edges_of self.now.net fresh.task fresh.cause) [] }
     {
         let Fresh {
             mut seat,
@@ -82,7 +83,9 @@ impl<V: Drop> NetTable<V> {
     pub fn room_for(&self, alloc: Global, fresh: &mut Fresh<V>) -> Result<Inputs<V>, NoMemory>
         requires { fresh.old.table ≡ self.now.table }
         ensures same { fresh.new ≡ fresh.old }
-        ensures room { IfOk result (λ inputs. (given_in inputs ≡ []) × (length (edges_of self.now.net fresh.old.task fresh.old.cause) ≤ room_in inputs)) }
+        ensures room { IfOk result
+            (λ inputs. (given_in inputs ≡ [])
+            × (length (edges_of self.now.net fresh.old.task fresh.old.cause) ≤ room_in inputs)) }
     {
         self.words.learn(&mut fresh.seat);
         let edges = match fresh.cause {
@@ -100,12 +103,17 @@ impl<V: Drop> NetTable<V> {
     pub fn start(&self, ticket: StartTicket<V>) -> Running<V>
         requires table { ticket.table ≡ self.now.table }
         requires units { HoldsEachUnit self.now.net ticket.task ticket.held }
-        ensures state { result ≡ running_state self.now.table ticket.task ticket.cause result.place result.ins result.units ticket.found }
+        ensures state { result ≡ running_state self.now.table ticket.task ticket.cause result.place
+            result.ins result.units ticket.found }
         ensures release { MayBeReleased self.now.net ticket.task ticket.cause }
-        ensures journal { AreInOneJournal self.now.net self.now.limit (with_places (start_of result.place ticket.task ticket.cause (parts_in result.ins) ∷ [])) }
-        ensures parts { length (parts_in result.ins) ≡ length (edges_of self.now.net ticket.task ticket.cause) }
+        ensures journal { AreInOneJournal self.now.net self.now.limit
+            (with_places (start_of result.place ticket.task ticket.cause
+            (parts_in result.ins) ∷ [])) }
+        ensures parts { length (parts_in result.ins)
+            ≡ length (edges_of self.now.net ticket.task ticket.cause) }
         ensures units { BeginsUnits self.now.net ticket.task result.units }
-        ensures same { PutsAll self.now.net ticket.task → HasAllUnits self.now.net ticket.task ticket.held result.units }
+        ensures same { PutsAll self.now.net ticket.task
+            → HasAllUnits self.now.net ticket.task ticket.held result.units }
     {
         let StartTicket {
             mut seat,
@@ -142,7 +150,8 @@ impl<V: Drop> NetTable<V> {
         requires claims { HasClaimed self.now.net running.task running.units }
         ensures table { result.table ≡ self.now.table }
         ensures ended { EndedAs running gives value.value inner result.ended }
-        ensures journal { AreInOneJournal self.now.net self.now.limit (with_places (entries_of (Ended result.ended))) }
+        ensures journal { AreInOneJournal self.now.net self.now.limit
+            (with_places (entries_of (Ended result.ended))) }
         ensures left { result.left ≡ gives }
         ensures units { result.units ≡ running.units.back }
         ensures found { result.found ≡ running.found }
@@ -266,8 +275,12 @@ impl<V: Drop> NetTable<V> {
         ensures table { seat.new.table_id ≡ seat.old.table_id }
         ensures view { seat.new.me ≡ (paid seat.old.me.0, []) }
         ensures known { Knows seat.new.values seat.old.values }
-        ensures fresh { IfSome result (λ fresh. fresh ≡ fresh_state self.now.table (target self.now.net edge) (release_cause self.now.net edge)) }
-        ensures found { GivesToken (is_weak self.now.net edge) (is_some result) seat.old.found seat.new.found }
+        ensures fresh { IfSome result
+            (λ fresh. fresh
+            ≡ fresh_state self.now.table (target self.now.net edge)
+            (release_cause self.now.net edge)) }
+        ensures found { GivesToken (is_weak self.now.net edge) (is_some result) seat.old.found
+            seat.new.found }
     {
         self.words.learn(seat);
         self.words.deliver(seat, edge, placed(share, place));
@@ -283,8 +296,12 @@ impl<V: Drop> NetTable<V> {
         ensures table { seat.new.table_id ≡ seat.old.table_id }
         ensures view { seat.new.me ≡ (paid_token seat.old.me.0, []) }
         ensures known { Knows seat.new.values seat.old.values }
-        ensures fresh { IfSome result (λ fresh. fresh ≡ fresh_state self.now.table (target self.now.net edge) (release_cause self.now.net edge)) }
-        ensures found { GivesToken (is_weak self.now.net edge) (is_some result) seat.old.found seat.new.found }
+        ensures fresh { IfSome result
+            (λ fresh. fresh
+            ≡ fresh_state self.now.table (target self.now.net edge)
+            (release_cause self.now.net edge)) }
+        ensures found { GivesToken (is_weak self.now.net edge) (is_some result) seat.old.found
+            seat.new.found }
     {
         self.words.learn(seat);
         let Target { task, weak } = self.target(edge);
@@ -348,16 +365,24 @@ impl<V: Drop> NetTable<V> {
         inputs: &mut Inputs<V>,
     ) -> Step<V>
         requires table { seat.old.table_id ≡ self.now.table }
-        requires view { seat.old.me ≡ (collecting_view task cause (taken_in seat.old.me.0) (parts_found inputs.old) (left_in seat.old.me.0), []) }
+        requires view { seat.old.me
+            ≡ (
+              collecting_view task cause (taken_in seat.old.me.0) (parts_found inputs.old)
+                  (left_in seat.old.me.0),
+              [],
+            ) }
         requires known { Knows seat.old.values (values_in (given_in inputs.old)) }
         requires next { next ≡ length (taken_in seat.old.me.0) }
         requires parts { length (parts_found inputs.old) ≡ length (taken_in seat.old.me.0) }
-        requires room { length (parts_found inputs.old) + length (left_in seat.old.me.0) ≤ room_in inputs.old }
+        requires room { length (parts_found inputs.old) + length (left_in seat.old.me.0)
+            ≤ room_in inputs.old }
         ensures table { seat.new.table_id ≡ seat.old.table_id }
         ensures home { seat.new.me.1 ≡ [] }
         ensures known { Knows seat.new.values (values_in (given_in inputs.new)) }
         ensures few { next < 4294967296 }
-        ensures step { CollectsOne self.now.table task cause (taken_in seat.old.me.0) (left_in seat.old.me.0) inputs.old seat.old.found result seat.new.me.0 inputs.new seat.new.found }
+        ensures step { CollectsOne self.now.table task cause (taken_in seat.old.me.0)
+            (left_in seat.old.me.0) inputs.old seat.old.found result seat.new.me.0 inputs.new
+            seat.new.found }
     {
         self.words.learn(seat);
         let Some(edge) = self.edge_at(task, cause, next) else {
@@ -382,7 +407,8 @@ impl<V: Drop> NetTable<V> {
     ) -> Option<Fresh<V>>
         requires table { seat.old.table_id ≡ self.now.table }
         requires home { seat.old.me.1 ≡ [] }
-        requires ready { cause ≡ Strong → 1 < found → CountsNext self.now.net task edge seat.old.me.0 }
+        requires ready { cause ≡ Strong → 1 < found
+            → CountsNext self.now.net task edge seat.old.me.0 }
         requires in_range { cause ≡ Strong → task < length self.now.net.tasks }
         requires weak { cause ≢ Strong → without_count seat.old.me.0 ≡ seat.old.me.0 }
         requires few { found ≤ 1 → without_count seat.old.me.0 ≡ seat.old.me.0 }
@@ -390,8 +416,10 @@ impl<V: Drop> NetTable<V> {
         ensures view { seat.new.me ≡ (without_count seat.old.me.0, []) }
         ensures known { Knows seat.new.values seat.old.values }
         ensures fresh { IfSome result (λ fresh. fresh ≡ fresh_state self.now.table task Strong) }
-        ensures last { IsTrue (is_some result) → AreNoneLeft task (without_count seat.old.me.0) × (cause ≡ Strong) }
-        ensures found { (before : List ℕ) → seat.old.found ≡ found ∷ before → TakesToken cause (is_some result) before seat.new.found }
+        ensures last { IsTrue (is_some result) → AreNoneLeft task (without_count seat.old.me.0)
+            × (cause ≡ Strong) }
+        ensures found { (before : List ℕ) → seat.old.found ≡ found ∷ before
+            → TakesToken cause (is_some result) before seat.new.found }
     {
         if cause != Cause::Strong || found <= 1 {
             return None;

@@ -64,7 +64,8 @@ impl<V: Drop> NetTable<V> {
         requires why { MayTell why running.units.refused }
         ensures table { result.table ≡ self.now.table }
         ensures fate { FaultedAs running why result.fate }
-        ensures journal { AreInOneJournal self.now.net self.now.limit (with_places (entries_of result.fate)) }
+        ensures journal { AreInOneJournal self.now.net self.now.limit
+            (with_places (entries_of result.fate)) }
     {
         let Running {
             mut seat,
@@ -95,7 +96,8 @@ impl<V: Drop> NetTable<V> {
         requires no_unit { turn.held ≡ [] }
         ensures table { result.table ≡ self.now.table }
         ensures fate { DroppedAs turn why result.fate }
-        ensures journal { AreInOneJournal self.now.net self.now.limit (with_places (entries_of result.fate)) }
+        ensures journal { AreInOneJournal self.now.net self.now.limit
+            (with_places (entries_of result.fate)) }
     {
         let Turn {
             mut seat,

@@ -70,7 +70,10 @@ impl<V> Model for Keeper<V> {
 
     ghost view = { λ k. keeper_state k.seat.table_id k.fates.items k.seat.found };
 
-    ghost invariant = { λ k. (k.seat.id ≡ 0) × (k.seat.me.1 ≡ []) × (tellings k.seat.me.0 ≡ told_notes (entries_told k.fates.items)) × (weigh busy k.seat.me.0 ≡ 0) × Knows k.seat.values (values_known k.fates.items) × HaveOneValueEach k.seat.values };
+    ghost invariant = { λ k. (k.seat.id ≡ 0) × (k.seat.me.1 ≡ [])
+        × (tellings k.seat.me.0 ≡ told_notes (entries_told k.fates.items))
+        × (weigh busy k.seat.me.0 ≡ 0) × Knows k.seat.values (values_known k.fates.items)
+        × HaveOneValueEach k.seat.values };
 }
 
 impl<V> Keyed for Keeper<V> {
@@ -118,11 +121,15 @@ impl<V: Drop> Keeper<V> {
         requires batch { batch.old.table ≡ Some table.now.table }
         ensures ok { OnOk result (self.new ≡ keeper_with self.old batch.old.fates self.new.found) }
         ensures taken { OnOk result (batch.new ≡ batch_state None [] batch.old.room) }
-        ensures left { IfOk result (λ left. FindsOne (λ n. LeavesOf n left) self.old.found self.new.found) }
+        ensures left { IfOk result
+            (λ left. FindsOne (λ n. LeavesOf n left) self.old.found self.new.found) }
         ensures err { OnErr result ((self.new ≡ self.old) × (batch.new ≡ batch.old)) }
-        ensures journal { OnOk result (AreInOneJournal table.now.net table.now.limit (with_places (entries_told self.new.fates))) }
+        ensures journal { OnOk result
+            (AreInOneJournal table.now.net table.now.limit
+            (with_places (entries_told self.new.fates))) }
         ensures agree { AgreeOnValues self.new.fates }
-        ensures all { IsLast result → TellsRun table.now.net table.now.limit (entries_told self.new.fates) }
+        ensures all { IsLast result
+            → TellsRun table.now.net table.now.limit (entries_told self.new.fates) }
     {
         self.fates.append(&mut batch.fates)?;
         let Some(spent) = batch.seat.take() else {

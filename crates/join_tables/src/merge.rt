@@ -15,8 +15,10 @@ use std::alloc::Global;
 
 /// The journal that has each entry of these fates at its place, and the values of its Ends.
 pub fn merged<V: Drop>(alloc: Global, fates: Vec<Fate<V>>) -> Result<FinishedRun<V>, NoMemory>
-    requires { AllByRecursion (λ r. r.place < length (entries_told fates.items)) (entries_told fates.items) }
-    ensures { IfOk result (IsFinishedOf (placed (all_filed fates.items) (replicate (length (entries_told fates.items)) None))) }
+    requires { AllByRecursion (λ r. r.place < length (entries_told fates.items))
+        (entries_told fates.items) }
+    ensures { IfOk result (IsFinishedOf
+        (placed (all_filed fates.items) (replicate (length (entries_told fates.items)) None))) }
 {
     let Some(count) = count_entries(&fates) else {
         return Err(NoMemory);
@@ -154,7 +156,8 @@ fn put_drop<V: Drop>(places: &mut Vec<Option<Filed<V>>>, dropping: Dropping)
 
 // Puts the entries of Drops at their places, the newest first.
 fn put_drops<V: Drop>(places: &mut Vec<Option<Filed<V>>>, mut drops: Vec<Dropping>)
-    requires { AllByRecursion (λ f. f.0 < length places.old.items) (map (filed_drop {V = V}) (reverse drops.items)) }
+    requires { AllByRecursion (λ f. f.0 < length places.old.items)
+        (map (filed_drop {V = V}) (reverse drops.items)) }
     ensures { places.new.items ≡ placed (map filed_drop (reverse drops.items)) places.old.items }
 {
     while let Some(dropping) = drops.pop() {
@@ -184,7 +187,9 @@ fn finished<V: Drop>(
 // Adds an entry, with its value.
 fn add_entry<V: Drop>(run: &mut FinishedRun<V>, filed: Filed<V>) -> Result<(), NoMemory>
     ensures journal { OnOk result (run.new.journal ≡ run.old.journal ++ filed.entry ∷ []) }
-    ensures values { OnOk result (run.new.values.items ≡ run.old.values.items ++ value_if (length run.old.journal) filed.value) }
+    ensures values { OnOk result
+        (run.new.values.items
+        ≡ run.old.values.items ++ value_if (length run.old.journal) filed.value) }
 {
     let Filed { entry, value } = filed;
     let place = run.journal.len() as u64;

@@ -68,7 +68,8 @@ impl<V: Drop> NetTable<V> {
         ensures view { IfOk result (λ fresh. seat.new.me ≡ ([], [])) }
         ensures values { seat.new.values ≡ seat.old.values }
         ensures found { seat.new.found ≡ [] }
-        ensures fresh { IfOk result (λ fresh. fresh.items ≡ states_of self.now.table releases.now.items) }
+        ensures fresh { IfOk result
+            (λ fresh. fresh.items ≡ states_of self.now.table releases.now.items) }
     {
         let mut fresh = Vec::with_capacity(alloc, releases.len())?;
         for release in releases {

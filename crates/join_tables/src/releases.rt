@@ -25,7 +25,8 @@ pub struct FirstRelease {
 
 /// The first releases: of each source task, and of each task whose strong in-edges all begin with a token.
 pub fn first_releases(alloc: Global, net: &Net) -> Result<Vec<FirstRelease>, NoMemory>
-    ensures { IfOk result (λ releases. duties_of releases.items ≡ first_duties net.now 0 (length net.now.tasks)) }
+    ensures { IfOk result (λ releases. duties_of releases.items
+        ≡ first_duties net.now 0 (length net.now.tasks)) }
 {
     let mut releases = Vec::new(alloc);
     for task in 0..net.tasks().len() as u32 {
@@ -42,7 +43,8 @@ fn add(
     cause: Cause,
     is_there: bool,
 ) -> Result<(), NoMemory>
-    ensures { OnOk result (duties_of releases.new.items ≡ duties_of releases.old.items ++ duty_if is_there task cause) }
+    ensures { OnOk result (duties_of releases.new.items
+        ≡ duties_of releases.old.items ++ duty_if is_there task cause) }
 {
     if is_there {
         releases.push(FirstRelease { task, cause })?;
@@ -53,7 +55,8 @@ fn add(
 // Whether a task has strong in-edges, and all of them begin with a token.
 fn is_full(net: &Net, task: u32) -> bool
     requires { task < length net.now.tasks }
-    ensures { result ≡ is_full (strong_in net.now task) (count_without_token net.now (strong_in net.now task)) }
+    ensures { result ≡ is_full (strong_in net.now task)
+        (count_without_token net.now (strong_in net.now task)) }
 {
     !net.strong_in(task).is_empty() && bare_count(net, task) == 0
 }
@@ -154,7 +157,8 @@ fn first_word(net: &Net, live: u64, word: usize) -> u64
 
 /// The parcels in the slot of each edge at first: the token with which the edge begins, or none.
 pub fn first_parcels<V: Drop>(alloc: Global, net: &Net) -> Result<Vec<Parcels<V>>, NoMemory>
-    ensures parts { IfOk result (λ parcels. AreFirstParcels net.now (map given_parts parcels.items)) }
+    ensures parts { IfOk result
+        (λ parcels. AreFirstParcels net.now (map given_parts parcels.items)) }
     ensures no_values { IfOk result (λ parcels. flat_map values_in parcels.items ≡ []) }
 {
     let count = net.edges().len();

@@ -48,9 +48,19 @@ impl<V> Model for Rest<V> {
 
     ghost Value = { RestState };
 
-    ghost view = { λ r. rest_with (option_map (λ s. s.table_id) r.seat) r.room r.turns.items r.drops.items (alone_in (option_map_or (λ s. s.me.0) r.seat [])) (full_in (option_map_or (λ s. s.me.0) r.seat [])) (option_map_or (λ s. s.found) r.seat []) };
+    ghost view = { λ r. rest_with (option_map (λ s. s.table_id) r.seat) r.room r.turns.items
+        r.drops.items (alone_in (option_map_or (λ s. s.me.0) r.seat []))
+        (full_in (option_map_or (λ s. s.me.0) r.seat []))
+        (option_map_or (λ s. s.found) r.seat []) };
 
-    ghost invariant = { λ r. IfSome r.seat (λ s. IsRestView r.turns.items r.drops.items s.me.0 × (s.me.1 ≡ []) × (r.turns.items ≢ []) × RestParts (map parts_found r.parts.items) s.me.0) × (IfNone r.seat ((r.turns.items ≡ []) × (r.drops.items ≡ []))) × (vec_len r.turns + vec_len r.drops ≤ r.room) × (r.room ≤ vec_capacity r.turns) × (r.room ≤ vec_capacity r.drops) × (vec_len r.parts ≡ vec_len r.turns) × (r.room ≤ vec_capacity r.parts) × (IfSome r.seat (λ s. Knows s.values (found_values r.parts.items))) };
+    ghost invariant = { λ r. IfSome r.seat
+        (λ s. IsRestView r.turns.items r.drops.items s.me.0 × (s.me.1 ≡ []) × (r.turns.items ≢ [])
+        × RestParts (map parts_found r.parts.items) s.me.0)
+        × (IfNone r.seat ((r.turns.items ≡ []) × (r.drops.items ≡ [])))
+        × (vec_len r.turns + vec_len r.drops ≤ r.room) × (r.room ≤ vec_capacity r.turns)
+        × (r.room ≤ vec_capacity r.drops) × (vec_len r.parts ≡ vec_len r.turns)
+        × (r.room ≤ vec_capacity r.parts)
+        × (IfSome r.seat (λ s. Knows s.values (found_values r.parts.items))) };
 }
 
 impl<V> Keyed for Rest<V> {
@@ -140,7 +150,9 @@ impl<V: Drop> NetTable<V> {
         requires waits { (turn.refused ≡ None) × (turn.held ≡ []) }
         requires room { length rest.turns < rest.room }
         requires undropped { rest.dropped ≡ [] }
-        ensures { result ≡ rest_with (Some self.now.table) rest.room (rest.turns ++ parked_as turn.task turn.cause ∷ []) [] None [] (found_with rest.table rest.found turn.found) }
+        ensures { result ≡ rest_with (Some self.now.table) rest.room
+            (rest.turns ++ parked_as turn.task turn.cause ∷ []) [] None []
+            (found_with rest.table rest.found turn.found) }
     {
         let Turn {
             seat: own,
@@ -170,12 +182,14 @@ impl<V: Drop> NetTable<V> {
     // Gives what a turn's seat knows to the seat of a rest, which is the turn's own where the rest has none.
     #[tactic(auto, using(table_steps::proofs::Values::knows_self, table_steps::proofs::Values::knows_none))]
     fn join_rest(&self, seat: Option<TableSeat<V>>, own: TableSeat<V>) -> TableSeat<V>
-        requires table { IfSome seat (λ s. s.table_id ≡ self.now.table) × (own.table_id ≡ self.now.table) }
+        requires table { IfSome seat (λ s. s.table_id ≡ self.now.table)
+            × (own.table_id ≡ self.now.table) }
         requires home { IfSome seat (λ s. s.me.1 ≡ []) × (own.me.1 ≡ []) }
         requires ready { IfSome seat (λ s. MayPark s.me.0 own.me.0) }
         ensures table { result.table_id ≡ self.now.table }
         ensures view { result.me ≡ (parked (option_map_or (λ s. s.me.0) seat []) own.me.0, []) }
-        ensures known { Knows result.values (option_map_or (λ s. s.values) seat []) × Knows result.values own.values }
+        ensures known { Knows result.values (option_map_or (λ s. s.values) seat [])
+            × Knows result.values own.values }
         ensures found { result.found ≡ option_map_or (λ s. s.found) seat own.found }
     {
         let Some(mut seat) = seat else { return own };

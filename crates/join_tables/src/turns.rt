@@ -31,7 +31,12 @@ impl<V> Model for NetTable<V> {
 
     ghost Value = { TableState };
 
-    ghost view = { λ t. record { table = t.words.table.shared.table_id; net = arc_value t.words.net; limit = t.words.table.shared.key.limit } };
+    ghost view = { λ t. record {
+      table = t.words.table.shared.table_id;
+      net = arc_value t.words.net;
+      limit
+          = t.words.table.shared.key.limit;
+    } };
 }
 
 impl<V> Keyed for NetTable<V> {
@@ -81,9 +86,18 @@ impl<V> Model for Collecting<V> {
 
     ghost Value = { CollectingState };
 
-    ghost view = { λ c. collecting_state c.seat.table_id c.task c.cause (left_in c.seat.me.0) c.seat.found };
+    ghost view = { λ c. collecting_state c.seat.table_id c.task c.cause (left_in c.seat.me.0)
+        c.seat.found };
 
-    ghost invariant = { λ c. (c.seat.me ≡ (collecting_view c.task c.cause (taken_in c.seat.me.0) (parts_found c.inputs) (left_in c.seat.me.0), [])) × (c.next ≡ length (taken_in c.seat.me.0)) × (length (parts_found c.inputs) ≡ length (taken_in c.seat.me.0)) × (length (parts_found c.inputs) + length (left_in c.seat.me.0) ≤ room_in c.inputs) × Knows c.seat.values (values_in (given_in c.inputs)) };
+    ghost invariant = { λ c. (c.seat.me
+        ≡ (
+          collecting_view c.task c.cause (taken_in c.seat.me.0) (parts_found c.inputs)
+              (left_in c.seat.me.0),
+          [],
+        )) × (c.next ≡ length (taken_in c.seat.me.0))
+        × (length (parts_found c.inputs) ≡ length (taken_in c.seat.me.0))
+        × (length (parts_found c.inputs) + length (left_in c.seat.me.0) ≤ room_in c.inputs)
+        × Knows c.seat.values (values_in (given_in c.inputs)) };
 }
 
 /// A release that has collected all its tokens.
@@ -104,9 +118,17 @@ impl<V> Model for Turn<V> {
 
     ghost Value = { TurnState };
 
-    ghost view = { λ t. turn_with t.seat.table_id t.task t.cause (refusal_of t.seat.me.0) (held_of t.seat.me.0) t.seat.found };
+    ghost view = { λ t. turn_with t.seat.table_id t.task t.cause (refusal_of t.seat.me.0)
+        (held_of t.seat.me.0) t.seat.found };
 
-    ghost invariant = { λ t. (t.seat.me ≡ (turn_view t.task t.cause (taken_in t.seat.me.0) (parts_found t.inputs) (refusal_of t.seat.me.0) (held_of t.seat.me.0), [])) × (length (parts_found t.inputs) ≡ length (taken_in t.seat.me.0)) × Knows t.seat.values (values_in (given_in t.inputs)) };
+    ghost invariant = { λ t. (t.seat.me
+        ≡ (
+          turn_view t.task t.cause (taken_in t.seat.me.0) (parts_found t.inputs)
+              (refusal_of t.seat.me.0) (held_of t.seat.me.0),
+          [],
+        ))
+        × (length (parts_found t.inputs) ≡ length (taken_in t.seat.me.0))
+        × Knows t.seat.values (values_in (given_in t.inputs)) };
 }
 
 impl<V> Keyed for Turn<V> {
@@ -135,9 +157,17 @@ impl<V> Model for StartTicket<V> {
 
     ghost Value = { AdmittedState };
 
-    ghost view = { λ t. admitted_state t.seat.table_id t.task t.cause (held_of t.seat.me.0) t.seat.found };
+    ghost view = { λ t. admitted_state t.seat.table_id t.task t.cause (held_of t.seat.me.0)
+        t.seat.found };
 
-    ghost invariant = { λ t. (t.seat.me ≡ (ticket_view t.task t.cause (taken_in t.seat.me.0) (parts_found t.inputs) (held_of t.seat.me.0), [])) × (length (parts_found t.inputs) ≡ length (taken_in t.seat.me.0)) × Knows t.seat.values (values_in (given_in t.inputs)) };
+    ghost invariant = { λ t. (t.seat.me
+        ≡ (
+          ticket_view t.task t.cause (taken_in t.seat.me.0) (parts_found t.inputs)
+              (held_of t.seat.me.0),
+          [],
+        ))
+        × (length (parts_found t.inputs) ≡ length (taken_in t.seat.me.0))
+        × Knows t.seat.values (values_in (given_in t.inputs)) };
 }
 
 /// A start that runs.
@@ -159,9 +189,12 @@ impl<V> Model for Running<V> {
 
     ghost Value = { RunningState V };
 
-    ghost view = { λ r. running_state r.seat.table_id r.task r.cause r.place r.inputs.ins (units_in (shares_of r.seat.me.0)) r.seat.found };
+    ghost view = { λ r. running_state r.seat.table_id r.task r.cause r.place r.inputs.ins
+        (units_in (shares_of r.seat.me.0)) r.seat.found };
 
-    ghost invariant = { λ r. (r.seat.me ≡ (running_view r.task r.cause r.place (parts_found r.inputs) (shares_of r.seat.me.0), [])) × Knows r.seat.values (values_in (given_in r.inputs)) };
+    ghost invariant = { λ r. (r.seat.me
+        ≡ (running_view r.task r.cause r.place (parts_found r.inputs) (shares_of r.seat.me.0), []))
+        × Knows r.seat.values (values_in (given_in r.inputs)) };
 }
 
 /// A start of a task and its end: their places in the journal, what the start found, the value of the end, and the edges that
@@ -199,9 +232,14 @@ impl<V> Model for Owing<V> {
 
     ghost Value = { OwingState V };
 
-    ghost view = { λ o. owing_state o.seat.table_id o.ended (drop o.next o.ended.gives) (units_of o.seat.me.0) o.seat.found };
+    ghost view = { λ o. owing_state o.seat.table_id o.ended (drop o.next o.ended.gives)
+        (units_of o.seat.me.0) o.seat.found };
 
-    ghost invariant = { λ o. (o.seat.me ≡ (owing_view o.ended (drop o.next o.ended.gives) (units_of o.seat.me.0), [])) × Knows o.seat.values (own_values o.ended) × (length o.shares ≡ length (drop o.next o.ended.gives)) × AreSharesOf (arc_value o.ended.value) o.shares };
+    ghost invariant = { λ o. (o.seat.me
+        ≡ (owing_view o.ended (drop o.next o.ended.gives) (units_of o.seat.me.0), []))
+        × Knows o.seat.values (own_values o.ended)
+        × (length o.shares ≡ length (drop o.next o.ended.gives))
+        × AreSharesOf (arc_value o.ended.value) o.shares };
 }
 
 /// A turn that is done and owes nothing.
@@ -223,7 +261,8 @@ impl<V> Model for Spent<V> {
 
     ghost view = { λ s. spent_state s.seat.table_id s.fate };
 
-    ghost invariant = { λ s. IsSpent (entries_of s.fate) s.seat.me.0 × (s.seat.me.1 ≡ []) × Knows s.seat.values (known_values s.fate) };
+    ghost invariant = { λ s. IsSpent (entries_of s.fate) s.seat.me.0 × (s.seat.me.1 ≡ [])
+        × Knows s.seat.values (known_values s.fate) };
 }
 
 /// What collecting from one edge led to.

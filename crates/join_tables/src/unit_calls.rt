@@ -45,7 +45,8 @@ impl<V: Drop> NetTable<V> {
         requires table { turn.table ≡ self.now.table }
         requires held { 1 ≤ times sem turn.held }
         requires in_range { sem < length self.now.net.sems }
-        ensures { result ≡ turn_with turn.table turn.task turn.cause turn.refused (without sem turn.held) turn.found }
+        ensures { result ≡ turn_with turn.table turn.task turn.cause turn.refused
+            (without sem turn.held) turn.found }
     {
         let Turn {
             mut seat,
@@ -68,7 +69,8 @@ impl<V: Drop> NetTable<V> {
         requires table { owing.table ≡ self.now.table }
         requires owed { 1 ≤ times sem owing.units }
         requires in_range { sem < length self.now.net.sems }
-        ensures { result ≡ owing_state owing.table owing.ended owing.left (without sem owing.units) owing.found }
+        ensures { result ≡ owing_state owing.table owing.ended owing.left (without sem owing.units)
+            owing.found }
     {
         let Owing {
             mut seat,

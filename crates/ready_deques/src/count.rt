@@ -153,7 +153,8 @@ impl Model for Account {
 
     ghost view = { λ a. account_state a.seat.table_id a.seat.me.0.zeros };
 
-    ghost invariant = { λ a. (a.seat.me ≡ (counting 0 a.seat.me.0.zeros a.room, [])) × IsSpare a.spare };
+    ghost invariant = { λ a. (a.seat.me ≡ (counting 0 a.seat.me.0.zeros a.room, []))
+        × IsSpare a.spare };
 }
 
 /// The table of the count word and of the spare counts.
@@ -311,7 +312,8 @@ impl Counter {
 
     fn split_room(&self, seat: &mut Seat<(), Counting>) -> Seat<(), Counting>
         requires table { seat.old.table_id ≡ self.now.table.shared.table_id }
-        ensures table { (seat.new.table_id ≡ seat.old.table_id) × (result.table_id ≡ seat.old.table_id) }
+        ensures table { (seat.new.table_id ≡ seat.old.table_id)
+            × (result.table_id ≡ seat.old.table_id) }
         ensures kept { seat.new.me ≡ (half_kept seat.old.me.0, seat.old.me.1) }
         ensures given { result.me ≡ (half_given seat.old.me.0, []) }
     {
@@ -345,7 +347,8 @@ impl Counter {
     // The seat's counts, as a seat of their own.
     fn hand_over(&self, seat: &mut Seat<(), Counting>) -> Seat<(), Counting>
         requires table { seat.old.table_id ≡ self.now.table.shared.table_id }
-        ensures table { (seat.new.table_id ≡ seat.old.table_id) × (result.table_id ≡ seat.old.table_id) }
+        ensures table { (seat.new.table_id ≡ seat.old.table_id)
+            × (result.table_id ≡ seat.old.table_id) }
         ensures kept { seat.new.me ≡ (without_count seat.old.me.0, seat.old.me.1) }
         ensures given { result.me ≡ (count_alone seat.old.me.0, []) }
     {

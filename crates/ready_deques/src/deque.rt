@@ -98,15 +98,18 @@ pub fn unnamed<T: Tagged + Drop>(alloc: Global, room: usize) -> Result<ItemWorke
 
 pub fn name<T: Tagged + Drop, N: Naming>(worker: &mut ItemWorker<T>)
     requires { worker_view worker.old ≡ None }
-    ensures { (worker_view worker.new ≡ Some N.name) × (worker_flavor worker.new ≡ worker_flavor worker.old) }
+    ensures { (worker_view worker.new ≡ Some N.name)
+        × (worker_flavor worker.new ≡ worker_flavor worker.old) }
 {
     let _ = worker.another::<GivesName<N>>();
 }
 
 pub fn stealer_pass<T: Tagged + Drop>(worker: &mut ItemWorker<T>) -> StealerPass<T>
     requires { IsKnown T.tag (worker_view worker.old) [] }
-    ensures same { (worker_view worker.new ≡ worker_view worker.old) × (worker_flavor worker.new ≡ worker_flavor worker.old) }
-    ensures pass { IsPassOf (worker_deque worker.old) result × (view result ≡ worker_view worker.old) }
+    ensures same { (worker_view worker.new ≡ worker_view worker.old)
+        × (worker_flavor worker.new ≡ worker_flavor worker.old) }
+    ensures pass { IsPassOf (worker_deque worker.old) result
+        × (view result ≡ worker_view worker.old) }
 {
     worker.another::<Copies>()
 }
@@ -137,7 +140,8 @@ pub fn steal<T: Tagged + Drop>(
 ) -> Steal<Queued<T>>
     requires { IsPassOf (stealer_deque stealer.now) pass.old }
     ensures same { IsPassOf (stealer_deque stealer.now) pass.new × (view pass.new ≡ view pass.old) }
-    ensures taken { MatchSteal result (Unit {0}) (Unit {0}) (λ queued. IsKnown T.tag (view pass.old) (queued ∷ [])) }
+    ensures taken { MatchSteal result (Unit {0}) (Unit {0})
+        (λ queued. IsKnown T.tag (view pass.old) (queued ∷ [])) }
 {
     stealer.steal_as::<KeepsName>(pass)
 }

@@ -35,8 +35,10 @@ pub fn name<T: Tagged + Drop, N: Naming>(injector: &ItemInjector<T>, pass: &mut 
 
 pub fn another<T: Tagged + Drop>(injector: &ItemInjector<T>, pass: &mut ItemPass<T>) -> ItemPass<T>
     requires { IsInjectorPassOf injector.now pass.old × IsKnown T.tag (injector_view pass.old) [] }
-    ensures same { IsInjectorPassOf injector.now pass.new × (injector_view pass.new ≡ injector_view pass.old) }
-    ensures pass { IsInjectorPassOf injector.now result × (injector_view result ≡ injector_view pass.old) }
+    ensures same { IsInjectorPassOf injector.now pass.new
+        × (injector_view pass.new ≡ injector_view pass.old) }
+    ensures pass { IsInjectorPassOf injector.now result
+        × (injector_view result ≡ injector_view pass.old) }
 {
     injector.another::<Copies>(pass)
 }
@@ -49,7 +51,8 @@ pub fn push<T: Tagged + Drop, R: Wait>(
 ) -> Result<(), Queued<T>>
     requires pass { IsInjectorPassOf injector.now pass.old }
     requires item { IsKnown T.tag (injector_view pass.old) (queued ∷ []) }
-    ensures same { IsInjectorPassOf injector.now pass.new × (injector_view pass.new ≡ injector_view pass.old) }
+    ensures same { IsInjectorPassOf injector.now pass.new
+        × (injector_view pass.new ≡ injector_view pass.old) }
     ensures refused { IfErr result (λ back. back ≡ queued) }
 {
     injector.push_as::<KeepsName, R>(rt, pass, queued)
@@ -62,8 +65,10 @@ pub fn steal<T: Tagged + Drop, R: Wait>(
     pass: &mut ItemPass<T>,
 ) -> Steal<Queued<T>>
     requires { IsInjectorPassOf injector.now pass.old }
-    ensures same { IsInjectorPassOf injector.now pass.new × (injector_view pass.new ≡ injector_view pass.old) }
-    ensures taken { MatchSteal result (Unit {0}) (Unit {0}) (λ queued. IsKnown T.tag (injector_view pass.old) (queued ∷ [])) }
+    ensures same { IsInjectorPassOf injector.now pass.new
+        × (injector_view pass.new ≡ injector_view pass.old) }
+    ensures taken { MatchSteal result (Unit {0}) (Unit {0})
+        (λ queued. IsKnown T.tag (injector_view pass.old) (queued ∷ [])) }
 {
     injector.steal_as::<KeepsName, R>(rt, pass)
 }

@@ -61,9 +61,14 @@ impl<T: Tagged + Drop> Model for Owner<T> {
 
     ghost Value = { OwnerState };
 
-    ghost view = { λ o. owner_state (arc_value o.ready).tag.numbers (arc_value o.ready).counter.table.shared.table_id o.account.zeros };
+    ghost view = { λ o. owner_state (arc_value o.ready).tag.numbers
+        (arc_value o.ready).counter.table.shared.table_id o.account.zeros };
 
-    ghost invariant = { λ o. (worker_view o.worker ≡ Some (list_name_of (arc_value o.ready))) × All (λ thief. pass_view thief.pass ≡ Some (list_name_of (arc_value o.ready))) o.thieves.items × IsInjectorPassOf (arc_value o.ready).injector o.pass × (injector_view o.pass ≡ Some (list_name_of (arc_value o.ready))) × (o.account.counts ≡ (arc_value o.ready).counter.table.shared.table_id) };
+    ghost invariant = { λ o. (worker_view o.worker ≡ Some (list_name_of (arc_value o.ready)))
+        × All (λ thief. pass_view thief.pass ≡ Some (list_name_of (arc_value o.ready)))
+        o.thieves.items × IsInjectorPassOf (arc_value o.ready).injector o.pass
+        × (injector_view o.pass ≡ Some (list_name_of (arc_value o.ready)))
+        × (o.account.counts ≡ (arc_value o.ready).counter.table.shared.table_id) };
 }
 
 // Queues an item in the owner's deque, or else in the injector.
@@ -75,10 +80,12 @@ fn put<T: Tagged + Drop, R: Wait>(
     queued: Queued<T>,
 ) -> Result<(), Queued<T>>
     requires worker { worker_view worker.old ≡ Some (list_name_of ready.now) }
-    requires pass { IsInjectorPassOf ready.now.injector pass.old × (injector_view pass.old ≡ Some (list_name_of ready.now)) }
+    requires pass { IsInjectorPassOf ready.now.injector pass.old
+        × (injector_view pass.old ≡ Some (list_name_of ready.now)) }
     requires item { IsKnown T.tag (Some (list_name_of ready.now)) (queued ∷ []) }
     ensures worker { worker_view worker.new ≡ worker_view worker.old }
-    ensures pass { IsInjectorPassOf ready.now.injector pass.new × (injector_view pass.new ≡ injector_view pass.old) }
+    ensures pass { IsInjectorPassOf ready.now.injector pass.new
+        × (injector_view pass.new ≡ injector_view pass.old) }
     ensures refused { IfErr result (λ back. back ≡ queued) }
 {
     match deque::push(worker, queued) {
@@ -96,12 +103,17 @@ fn find<T: Tagged + Drop, R: Wait>(
     thieves: &mut Vec<Thief<T>>,
 ) -> Option<Queued<T>>
     requires worker { worker_view worker.old ≡ Some (list_name_of ready.now) }
-    requires pass { IsInjectorPassOf ready.now.injector pass.old × (injector_view pass.old ≡ Some (list_name_of ready.now)) }
-    requires thieves { All (λ thief. view thief.pass ≡ Some (list_name_of ready.now)) thieves.old.items }
+    requires pass { IsInjectorPassOf ready.now.injector pass.old
+        × (injector_view pass.old ≡ Some (list_name_of ready.now)) }
+    requires thieves { All (λ thief. view thief.pass ≡ Some (list_name_of ready.now))
+        thieves.old.items }
     ensures worker { worker_view worker.new ≡ worker_view worker.old }
-    ensures pass { IsInjectorPassOf ready.now.injector pass.new × (injector_view pass.new ≡ injector_view pass.old) }
-    ensures thieves { All (λ thief. view thief.pass ≡ Some (list_name_of ready.now)) thieves.new.items }
-    ensures taken { IfSome result (λ queued. IsKnown T.tag (Some (list_name_of ready.now)) (queued ∷ [])) }
+    ensures pass { IsInjectorPassOf ready.now.injector pass.new
+        × (injector_view pass.new ≡ injector_view pass.old) }
+    ensures thieves { All (λ thief. view thief.pass ≡ Some (list_name_of ready.now))
+        thieves.new.items }
+    ensures taken { IfSome result
+        (λ queued. IsKnown T.tag (Some (list_name_of ready.now)) (queued ∷ [])) }
 {
     if let Some(queued) = deque::pop(worker) {
         return Some(queued);
@@ -150,7 +162,8 @@ impl<T: Tagged + Drop> Owner<T> {
     pub fn take<R: Wait>(&mut self, rt: &R) -> Option<T>
         ensures same { (self.new.tag ≡ self.old.tag) × (self.new.counts ≡ self.old.counts) }
         ensures tag { IfSome result (λ item. T.tag item ≡ self.old.tag) }
-        ensures zeros { MatchOption result (self.new.zeros ≡ self.old.zeros + 1) (λ _. self.new.zeros ≡ self.old.zeros) }
+        ensures zeros { MatchOption result (self.new.zeros ≡ self.old.zeros + 1)
+            (λ _. self.new.zeros ≡ self.old.zeros) }
     {
         for _ in rt.forever() {
             if let Some(item) = self.find_item(rt) {
@@ -214,7 +227,8 @@ impl<T: Tagged + Drop> Owner<T> {
         bit: u64,
     ) -> Result<Owner<T>, NoMemory>
         requires worker { worker_view worker ≡ Some (list_name_of (arc_value ready.now)) }
-        requires pass { IsInjectorPassOf (arc_value ready.now).injector pass × (injector_view pass ≡ Some (list_name_of (arc_value ready.now))) }
+        requires pass { IsInjectorPassOf (arc_value ready.now).injector pass
+            × (injector_view pass ≡ Some (list_name_of (arc_value ready.now))) }
         requires account { account.counts ≡ (arc_value ready.now).counter.table.shared.table_id }
         ensures { IfOk result (IsOwnerOf (arc_value ready.now)) }
     {
@@ -233,7 +247,8 @@ impl<T: Tagged + Drop> Owner<T> {
     // A stealer of this owner's deque.
     pub(crate) fn lend(&mut self) -> Result<Thief<T>, NoMemory>
         ensures same { self.new ≡ self.old }
-        ensures named { IfOk result (λ thief. view thief.pass ≡ Some (about self.old.tag self.old.counts)) }
+        ensures named { IfOk result
+            (λ thief. view thief.pass ≡ Some (about self.old.tag self.old.counts)) }
     {
         thief_of(&mut self.worker)
     }

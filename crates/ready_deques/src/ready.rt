@@ -42,7 +42,9 @@ pub struct Ready<T: Tagged + Drop> {
     pub(crate) spare: KeyedLock<Spare<T>>,
     pub(crate) sleepers: Sleepers,
     pub(crate) closed: AtomicBool,
-    ghost spares: { pass_key (injector_of (made_with spare).pass) (injector_view (made_with spare).pass) ≡ pass_key injector.queue (Some (about tag.numbers counter.table.shared.table_id)) },
+    ghost spares: { pass_key (injector_of (made_with spare).pass)
+        (injector_view (made_with spare).pass)
+        ≡ pass_key injector.queue (Some (about tag.numbers counter.table.shared.table_id)) },
 }
 
 // Written out, so that it is proved here alone and not in each crate above.

@@ -39,7 +39,8 @@ impl<T: Tagged + Drop> Ready<T> {
     pub fn new<K: Tagged>(alloc: Global, workers: u32, of: &K) -> Result<Shares<T>, NoMemory>
         requires { workers ≤ 16 }
         ensures tag { IfOk result (λ shares. tag_of (arc_value shares.ready) ≡ K.tag of.now) }
-        ensures owners { IfOk result (λ shares. All (IsOwnerOf (arc_value shares.ready)) shares.owners.items) }
+        ensures owners { IfOk result
+            (λ shares. All (IsOwnerOf (arc_value shares.ready)) shares.owners.items) }
         ensures count { IfOk result (λ shares. length shares.owners.items ≡ workers) }
     {
         let tag = Tag::of::<K, ByTag>(of);
@@ -72,7 +73,8 @@ fn name_worker<T: Tagged + Drop, N: Naming>(
 )
     requires unnamed { worker_view worker.old ≡ None }
     requires name { N.name ≡ about tag.now.numbers counter.now.table.shared.table_id }
-    ensures { worker_view worker.new ≡ Some (about tag.now.numbers counter.now.table.shared.table_id) }
+    ensures { worker_view worker.new
+        ≡ Some (about tag.now.numbers counter.now.table.shared.table_id) }
 {
     let _ = tag;
     let _ = counter;
@@ -85,7 +87,8 @@ fn named_worker<T: Tagged + Drop>(
     tag: &Tag,
     counter: &Counter,
 ) -> Result<ItemWorker<T>, NoMemory>
-    ensures { IfOk result (λ worker. worker_view worker ≡ Some (about tag.now.numbers counter.now.table.shared.table_id)) }
+    ensures { IfOk result (λ worker. worker_view worker
+        ≡ Some (about tag.now.numbers counter.now.table.shared.table_id)) }
 {
     let mut worker = deque::unnamed(alloc, ROOM)?;
     name_worker::<T, Brand>(tag, counter, &mut worker);
@@ -100,7 +103,9 @@ fn name_injector<T: Tagged + Drop, N: Naming>(
 )
     requires unnamed { IsInjectorPassOf injector.now pass.old × (injector_view pass.old ≡ None) }
     requires name { N.name ≡ about tag.now.numbers counter.now.table.shared.table_id }
-    ensures { IsInjectorPassOf injector.now pass.new × (injector_view pass.new ≡ Some (about tag.now.numbers counter.now.table.shared.table_id)) }
+    ensures { IsInjectorPassOf injector.now pass.new
+        × (injector_view pass.new
+        ≡ Some (about tag.now.numbers counter.now.table.shared.table_id)) }
 {
     let _ = tag;
     let _ = counter;
@@ -113,7 +118,8 @@ fn named_injector<T: Tagged + Drop>(
     tag: &Tag,
     counter: &Counter,
 ) -> Result<(ItemInjector<T>, ItemPass<T>), NoMemory>
-    ensures { IfOk result (λ made. IsInjectorPassOf made.0 made.1 × (injector_view made.1 ≡ Some (about tag.now.numbers counter.now.table.shared.table_id))) }
+    ensures { IfOk result (λ made. IsInjectorPassOf made.0 made.1
+        × (injector_view made.1 ≡ Some (about tag.now.numbers counter.now.table.shared.table_id))) }
 {
     let (injector, mut pass) = injector::unnamed(alloc)?;
     name_injector::<T, Brand>(tag, counter, &injector, &mut pass);
@@ -128,8 +134,11 @@ fn shared<T: Tagged + Drop>(
     sleepers: Sleepers,
 ) -> Result<(Arc<Ready<T>>, ItemPass<T>), NoMemory>
     ensures tag { IfOk result (λ made. tag_of (arc_value made.0) ≡ tag.numbers) }
-    ensures counts { IfOk result (λ made. (arc_value made.0).counter.table.shared.table_id ≡ counter.table.shared.table_id) }
-    ensures pass { IfOk result (λ made. IsInjectorPassOf (arc_value made.0).injector made.1 × (injector_view made.1 ≡ Some (list_name_of (arc_value made.0)))) }
+    ensures counts { IfOk result
+        (λ made. (arc_value made.0).counter.table.shared.table_id ≡ counter.table.shared.table_id) }
+    ensures pass { IfOk result
+        (λ made. IsInjectorPassOf (arc_value made.0).injector made.1
+        × (injector_view made.1 ≡ Some (list_name_of (arc_value made.0)))) }
 {
     let (injector, mut pass) = named_injector(alloc, &tag, &counter)?;
     let spare = Spare {
@@ -156,8 +165,10 @@ fn new_owner<T: Tagged + Drop>(
 ) -> Result<Owner<T>, NoMemory>
     requires number { number < 16 }
     requires account { account.old.counts ≡ (arc_value ready.now).counter.table.shared.table_id }
-    requires pass { IsInjectorPassOf (arc_value ready.now).injector pass.old × (injector_view pass.old ≡ Some (list_name_of (arc_value ready.now))) }
-    ensures pass { IsInjectorPassOf (arc_value ready.now).injector pass.new × (injector_view pass.new ≡ injector_view pass.old) }
+    requires pass { IsInjectorPassOf (arc_value ready.now).injector pass.old
+        × (injector_view pass.old ≡ Some (list_name_of (arc_value ready.now))) }
+    ensures pass { IsInjectorPassOf (arc_value ready.now).injector pass.new
+        × (injector_view pass.new ≡ injector_view pass.old) }
     ensures account { account.new ≡ account.old }
     ensures owner { IfOk result (IsOwnerOf (arc_value ready.now)) }
 {
@@ -179,9 +190,11 @@ fn add_owner<T: Tagged + Drop>(
 ) -> Result<(), NoMemory>
     requires number { number < 16 }
     requires account { account.old.counts ≡ (arc_value ready.now).counter.table.shared.table_id }
-    requires pass { IsInjectorPassOf (arc_value ready.now).injector pass.old × (injector_view pass.old ≡ Some (list_name_of (arc_value ready.now))) }
+    requires pass { IsInjectorPassOf (arc_value ready.now).injector pass.old
+        × (injector_view pass.old ≡ Some (list_name_of (arc_value ready.now))) }
     requires owners { All (IsOwnerOf (arc_value ready.now)) owners.old.items }
-    ensures pass { IsInjectorPassOf (arc_value ready.now).injector pass.new × (injector_view pass.new ≡ injector_view pass.old) }
+    ensures pass { IsInjectorPassOf (arc_value ready.now).injector pass.new
+        × (injector_view pass.new ≡ injector_view pass.old) }
     ensures account { account.new ≡ account.old }
     ensures owners { All (IsOwnerOf (arc_value ready.now)) owners.new.items }
     ensures count { IfOk result (λ _. length owners.new.items ≡ length owners.old.items + 1) }
@@ -200,7 +213,8 @@ fn new_owners<T: Tagged + Drop>(
     mut parkers: Vec<Parker>,
 ) -> Result<Vec<Owner<T>>, NoMemory>
     requires account { account.counts ≡ (arc_value ready.now).counter.table.shared.table_id }
-    requires pass { IsInjectorPassOf (arc_value ready.now).injector pass × (injector_view pass ≡ Some (list_name_of (arc_value ready.now))) }
+    requires pass { IsInjectorPassOf (arc_value ready.now).injector pass
+        × (injector_view pass ≡ Some (list_name_of (arc_value ready.now))) }
     requires count { length parkers.items ≤ 16 }
     ensures owners { IfOk result (λ owners. All (IsOwnerOf (arc_value ready.now)) owners.items) }
     ensures count { IfOk result (λ owners. length owners.items ≡ length parkers.items) }

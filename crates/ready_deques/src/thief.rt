@@ -22,7 +22,8 @@ pub struct Thief<T: Tagged + Drop> {
 /// A stealer of this deque.
 pub fn thief_of<T: Tagged + Drop>(worker: &mut ItemWorker<T>) -> Result<Thief<T>, NoMemory>
     requires { IsKnown T.tag (worker_view worker.old) [] }
-    ensures same { (worker_view worker.new ≡ worker_view worker.old) × (worker_flavor worker.new ≡ worker_flavor worker.old) }
+    ensures same { (worker_view worker.new ≡ worker_view worker.old)
+        × (worker_flavor worker.new ≡ worker_flavor worker.old) }
     ensures named { IfOk result (λ thief. view thief.pass ≡ worker_view worker.old) }
 {
     let stealer = worker.stealer()?;
@@ -50,8 +51,10 @@ pub fn steal_any<T: Tagged + Drop>(
     thieves: &mut Vec<Thief<T>>,
 ) -> Option<Queued<T>>
     requires { All (λ thief. view thief.pass ≡ Some (list_name_of ready.now)) thieves.old.items }
-    ensures same { All (λ thief. view thief.pass ≡ Some (list_name_of ready.now)) thieves.new.items }
-    ensures taken { IfSome result (λ queued. IsKnown T.tag (Some (list_name_of ready.now)) (queued ∷ [])) }
+    ensures same { All (λ thief. view thief.pass ≡ Some (list_name_of ready.now))
+        thieves.new.items }
+    ensures taken { IfSome result
+        (λ queued. IsKnown T.tag (Some (list_name_of ready.now)) (queued ∷ [])) }
 {
     for i in 0..thieves.len() {
         if let Some(queued) = thieves[i].steal() {

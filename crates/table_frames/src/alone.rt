@@ -47,7 +47,9 @@ fn step_all<J: Job + Drop, R: Wait>(
     requires kept { key_of kept ≡ run }
     requires first { AreOf run.table first.items }
     ensures same { IfOk result (λ kept. key_of kept ≡ run) }
-    ensures all { IfOk result (λ kept. TellsRun (J.meaning.net kept.job) (J.meaning.limit kept.job) (entries_told kept.keeper.fates)) }
+    ensures all { IfOk result
+        (λ kept. TellsRun (J.meaning.net kept.job) (J.meaning.limit kept.job)
+        (entries_told kept.keeper.fates)) }
 {
     let mut ready = first;
     let mut kept = kept;

@@ -62,7 +62,8 @@ impl<J: Job + Drop> Frame<J> {
     pub fn begin(alloc: Global, job: Arc<J>) -> Result<Stepped<J>, NoMemory>
         requires { IsFlatNet (J.meaning.net (arc_value job)) }
         ensures begins { IfOk result (BeginsFrame J.meaning (arc_value job)) }
-        ensures closed { IfOk result (λ stepped. IsClosed stepped.state ↔ (stepped.released.items ≡ [])) }
+        ensures closed { IfOk result
+            (λ stepped. IsClosed stepped.state ↔ (stepped.released.items ≡ [])) }
     {
         let Begun {
             run,
@@ -91,7 +92,9 @@ impl<J: Job + Drop> Frame<J> {
     pub fn step(release: Release<J>, backlog: &mut Backlog<J>) -> Result<Stepped<J>, NoMemory>
         requires { MayTake backlog.old release.frames }
         ensures ok { IfOk result (StepsRelease J.meaning release backlog.old backlog.new) }
-        ensures err { OnErr result ((backlog.new ≡ backlog.old) ⊎ (backlog.new ≡ backlog_view release.frames backlog.old.fates)) }
+        ensures err { OnErr result
+            ((backlog.new ≡ backlog.old)
+            ⊎ (backlog.new ≡ backlog_view release.frames backlog.old.fates)) }
     {
         let Release { frame, fresh } = release;
         backlog.gathered.make_room(&frame)?;
@@ -113,7 +116,8 @@ impl<J: Job + Drop> Frame<J> {
     pub fn bring<R: Wait>(rt: &R, backlog: &mut Backlog<J>) -> Result<Brought<J>, NoMemory>
         ensures ok { IfOk result (BringsFates J.meaning backlog.old.frames backlog.old.fates) }
         ensures empty { OnOk result (backlog.new ≡ backlog_view [] []) }
-        ensures err { OnErr result ((backlog.new ≡ backlog.old) ⊎ (backlog.new ≡ backlog_view [] [])) }
+        ensures err { OnErr result
+            ((backlog.new ≡ backlog.old) ⊎ (backlog.new ≡ backlog_view [] [])) }
     {
         backlog.gathered.bring(rt)
     }
@@ -155,7 +159,8 @@ impl<J: Job + Drop> Frame<J> {
         requires room { length gathered.old.backlog.fates < gathered.old.room }
         requires none { made.old.items ≡ [] }
         requires capacity { vec_len made.old + room_due attempt ≤ vec_capacity made.old }
-        ensures concludes { Concludes J.meaning self.now attempt gathered.old.backlog gathered.new.backlog made.new.items }
+        ensures concludes { Concludes J.meaning self.now attempt gathered.old.backlog
+            gathered.new.backlog made.new.items }
         ensures fresh { All (λ (f : FreshState). HasTable self.now f.table) made.new.items }
         ensures few { vec_len made.new ≤ vec_len made.old + room_due attempt }
     {

@@ -60,7 +60,8 @@ impl<J: Job + Drop> Gathered<J> {
     /// Makes room for a turn more, which is of this frame.
     pub fn make_room(&mut self, frame: &Arc<Frame<J>>) -> Result<(), NoMemory>
         requires { MayTake self.old.backlog (arc_value frame.now) }
-        ensures ok { OnOk result (self.new.backlog ≡ backlog_view (arc_value frame.now) self.old.backlog.fates) }
+        ensures ok { OnOk result (self.new.backlog
+            ≡ backlog_view (arc_value frame.now) self.old.backlog.fates) }
         ensures room { OnOk result (length self.new.backlog.fates < self.new.room) }
         ensures err { OnErr result (self.new.backlog ≡ self.old.backlog) }
     {
@@ -76,7 +77,8 @@ impl<J: Job + Drop> Gathered<J> {
         requires frame { IsInnermost run.now self.old.backlog.frames }
         requires spent { IsDone J.meaning run.now spent }
         requires room { length self.old.backlog.fates < self.old.room }
-        ensures { self.new.backlog ≡ backlog_view self.old.backlog.frames (self.old.backlog.fates ++ spent.fate ∷ []) }
+        ensures { self.new.backlog
+            ≡ backlog_view self.old.backlog.frames (self.old.backlog.fates ++ spent.fate ∷ []) }
     {
         run.gather(&mut self.batch, spent);
     }
@@ -84,9 +86,11 @@ impl<J: Job + Drop> Gathered<J> {
     /// Gives the turns to the keeper of their frame. With the last turn of the frame its run is given out. An `Err` comes
     /// only if an allocation fails. Then all stays as it was, or the run is never closed.
     pub fn bring<R: Wait>(&mut self, rt: &R) -> Result<Brought<J>, NoMemory>
-        ensures brings { IfOk result (BringsFates J.meaning self.old.backlog.frames self.old.backlog.fates) }
+        ensures brings { IfOk result
+            (BringsFates J.meaning self.old.backlog.frames self.old.backlog.fates) }
         ensures ok { OnOk result (self.new.backlog ≡ backlog_view [] []) }
-        ensures err { OnErr result ((self.new.backlog ≡ self.old.backlog) ⊎ (self.new.backlog ≡ backlog_view [] [])) }
+        ensures err { OnErr result
+            ((self.new.backlog ≡ self.old.backlog) ⊎ (self.new.backlog ≡ backlog_view [] [])) }
     {
         let Some(frame) = self.frame.take() else {
             return Ok(Brought {

@@ -80,11 +80,14 @@ impl<J: Job + Drop> KeptRun<J> {
         requires batch { batch.old.table ≡ Some table.now.table }
         requires allowed { AreAllowed J.meaning self.old.job batch.old.fates }
         ensures same { key_of self.new ≡ key_of self.old }
-        ensures fates { OnOk result (self.new.keeper.fates ≡ self.old.keeper.fates ++ batch.old.fates) }
+        ensures fates { OnOk result
+            (self.new.keeper.fates ≡ self.old.keeper.fates ++ batch.old.fates) }
         ensures taken { OnOk result (batch.new ≡ batch_state None [] batch.old.room) }
-        ensures found { IfOk result (λ left. FindsOne (λ n. LeavesOf n left) self.old.keeper.found self.new.keeper.found) }
+        ensures found { IfOk result
+            (λ left. FindsOne (λ n. LeavesOf n left) self.old.keeper.found self.new.keeper.found) }
         ensures err { OnErr result (batch.new ≡ batch.old) }
-        ensures all { IsLast result → TellsRun table.now.net table.now.limit (entries_told self.new.keeper.fates) }
+        ensures all { IsLast result
+            → TellsRun table.now.net table.now.limit (entries_told self.new.keeper.fates) }
     {
         self.keeper.absorb(table, batch)
     }
@@ -98,7 +101,8 @@ impl<J: Job + Drop> KeptRun<J> {
 
     /// The run, where the last turn was taken in, or there was no release at first.
     pub fn finish(self) -> Result<FrameRun<J>, NoMemory>
-        requires { TellsRun (J.meaning.net self.job) (J.meaning.limit self.job) (entries_told self.keeper.fates) }
+        requires { TellsRun (J.meaning.net self.job) (J.meaning.limit self.job)
+            (entries_told self.keeper.fates) }
         ensures kept { IfOk result (IsKept J.meaning) }
         ensures job { IfOk result (λ run. job_of run ≡ self.job) }
         ensures entries { IfOk result (λ run. HasEntries run self.keeper.fates) }

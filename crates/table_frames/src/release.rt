@@ -108,10 +108,12 @@ impl<J: Job + Drop> ReleaseRoom<J> {
         made: &mut Vec<Fresh<J::V>>,
     ) -> Vec<Release<J>>
         requires room { HasRoom (arc_value frame) (vec_len made.old) self }
-        requires fresh { All (λ (f : FreshState). HasTable (arc_value frame) f.table) made.old.items }
+        requires fresh { All (λ (f : FreshState). HasTable (arc_value frame) f.table)
+            made.old.items }
         ensures none_left { made.new.items ≡ [] }
         ensures releases { result.items ≡ map (release_in (arc_value frame)) made.old.items }
-        ensures frames { All (λ (release : ReleaseView J). release.frames ≡ arc_value frame) result.items }
+        ensures frames { All (λ (release : ReleaseView J). release.frames ≡ arc_value frame)
+            result.items }
     {
         let ReleaseRoom {
             mut others,
@@ -140,7 +142,8 @@ fn owners<J: Job + Drop>(
     frame: &Arc<Frame<J>>,
     count: usize,
 ) -> Result<Vec<Arc<Frame<J>>>, NoMemory>
-    ensures same { IfOk result (λ owners. All (λ owner. arc_value owner ≡ arc_value frame.now) owners.items) }
+    ensures same { IfOk result
+        (λ owners. All (λ owner. arc_value owner ≡ arc_value frame.now) owners.items) }
     ensures len { IfOk result (λ owners. vec_len owners ≡ count) }
 {
     let mut owners = Vec::with_capacity(alloc, count)?;

@@ -57,7 +57,8 @@ impl<J: Job> Model for TableRun<J> {
 
     ghost view = { λ run. record { table = run.table.table; job = arc_value run.job } };
 
-    ghost invariant = { λ run. RunsJob J.meaning (arc_value run.job) run.table × J.keeps (arc_value run.job) };
+    ghost invariant = { λ run. RunsJob J.meaning (arc_value run.job) run.table
+        × J.keeps (arc_value run.job) };
 }
 
 /// A run that has just begun, with its first releases and its keeper.
@@ -103,7 +104,8 @@ impl<J: Job + Drop> TableRun<J> {
     pub fn attempt(&self, fresh: Fresh<J::V>) -> Result<Attempt<J::V>, NoMemory>
         requires { fresh.table ≡ self.now.table }
         ensures attempt { IfOk result (IsAttemptIn J.meaning self.now) }
-        ensures release { IfOk result (λ attempt. release_tried self.now.table attempt.outcome ≡ fresh) }
+        ensures release { IfOk result
+            (λ attempt. release_tried self.now.table attempt.outcome ≡ fresh) }
     {
         let TakenUp { turn, again } = self.take_up(fresh)?;
         let outcome = self.start(turn)?;
@@ -117,7 +119,9 @@ impl<J: Job + Drop> TableRun<J> {
         requires made { AreOf self.now.table made.old.items }
         requires room { vec_len made.old + room_due attempt ≤ vec_capacity made.old }
         ensures spent { IsDone J.meaning self.now result }
-        ensures uses { Uses (J.meaning.net self.now.job) (release_tried self.now.table attempt.outcome) result.fate made.old.items made.new.items }
+        ensures uses { Uses (J.meaning.net self.now.job)
+            (release_tried self.now.table attempt.outcome) result.fate made.old.items
+            made.new.items }
         ensures made { AreOf self.now.table made.new.items }
         ensures few { vec_len made.new ≤ vec_len made.old + room_due attempt }
     {
@@ -151,11 +155,15 @@ impl<J: Job + Drop> TableRun<J> {
         requires batch { IsBatchOf J.meaning self.now batch.old }
         requires some { batch.old.table ≡ Some self.now.table }
         ensures same { key_of kept.new ≡ self.now }
-        ensures fates { OnOk result (kept.new.keeper.fates ≡ kept.old.keeper.fates ++ batch.old.fates) }
+        ensures fates { OnOk result
+            (kept.new.keeper.fates ≡ kept.old.keeper.fates ++ batch.old.fates) }
         ensures taken { OnOk result (IsNoBatch batch.new) }
-        ensures found { IfOk result (λ left. FindsOne (λ n. LeavesOf n left) kept.old.keeper.found kept.new.keeper.found) }
+        ensures found { IfOk result
+            (λ left. FindsOne (λ n. LeavesOf n left) kept.old.keeper.found kept.new.keeper.found) }
         ensures err { OnErr result (batch.new ≡ batch.old) }
-        ensures all { IsLast result → TellsRun (J.meaning.net kept.new.job) (J.meaning.limit kept.new.job) (entries_told kept.new.keeper.fates) }
+        ensures all { IsLast result
+            → TellsRun (J.meaning.net kept.new.job) (J.meaning.limit kept.new.job)
+            (entries_told kept.new.keeper.fates) }
     {
         kept.absorb(&self.table, batch)
     }
@@ -186,7 +194,9 @@ impl<J: Job + Drop> TableRun<J> {
         requires refused { turn.refused ≡ None }
         requires held { turn.held ≡ [] }
         ensures outcome { IfOk result (IsOutcomeIn J.meaning self.now) }
-        ensures release { IfOk result (λ outcome. release_tried self.now.table outcome ≡ fresh_state turn.table turn.task turn.cause) }
+        ensures release { IfOk result
+            (λ outcome. release_tried self.now.table outcome
+            ≡ fresh_state turn.table turn.task turn.cause) }
     {
         match self.table.admit(turn) {
             Admitted::Go(ticket) => self.work(self.table.start(ticket)),
@@ -200,7 +210,9 @@ impl<J: Job + Drop> TableRun<J> {
         requires table { running.table ≡ self.now.table }
         requires may { MayWork (J.meaning.net self.now.job) running }
         ensures outcome { IfOk result (IsOutcomeIn J.meaning self.now) }
-        ensures release { IfOk result (λ outcome. release_tried self.now.table outcome ≡ fresh_state running.table running.task running.cause) }
+        ensures release { IfOk result
+            (λ outcome. release_tried self.now.table outcome
+            ≡ fresh_state running.table running.task running.cause) }
     {
         let net: &Net = self.job.net();
         let _rows = net.tasks();
@@ -222,10 +234,15 @@ impl<J: Job + Drop> TableRun<J> {
         requires in_range { running.task < length net.now.tasks }
         requires table { running.table ≡ self.now.table }
         requires may { MayWork (J.meaning.net self.now.job) running }
-        requires flat { (inner : J) → ¬ J.meaning.answers self.now.job running.task (map found_of (parts_of running.ins)) (DoneBy.Inner inner) }
-        requires answers { J.meaning.answers self.now.job running.task (map found_of (parts_of running.ins)) done }
+        requires flat { (inner : J)
+            → ¬ J.meaning.answers self.now.job running.task (map found_of (parts_of running.ins))
+            (DoneBy.Inner inner) }
+        requires answers { J.meaning.answers self.now.job running.task
+            (map found_of (parts_of running.ins)) done }
         ensures outcome { IfOk result (IsOutcomeIn J.meaning self.now) }
-        ensures release { IfOk result (λ outcome. release_tried self.now.table outcome ≡ fresh_state running.table running.task running.cause) }
+        ensures release { IfOk result
+            (λ outcome. release_tried self.now.table outcome
+            ≡ fresh_state running.table running.task running.cause) }
     {
         match done {
             Done::Value(value, answer) => {
@@ -247,8 +264,10 @@ impl<J: Job + Drop> TableRun<J> {
         requires made { AreOf self.now.table made.old.items }
         requires room { vec_len made.old + edges_due outcome ≤ vec_capacity made.old }
         ensures spent { IsDone J.meaning self.now result }
-        ensures of { IsFateOf (release_tried self.now.table outcome).task (release_tried self.now.table outcome).cause result.fate }
-        ensures gives { GivesEdges (J.meaning.net self.now.job) self.now.table (given_by result.fate) made.old.items made.new.items }
+        ensures of { IsFateOf (release_tried self.now.table outcome).task
+            (release_tried self.now.table outcome).cause result.fate }
+        ensures gives { GivesEdges (J.meaning.net self.now.job) self.now.table
+            (given_by result.fate) made.old.items made.new.items }
         ensures made { AreOf self.now.table made.new.items }
         ensures few { vec_len made.new ≤ vec_len made.old + edges_due outcome }
         ensures capacity { vec_capacity made.new ≡ vec_capacity made.old }
@@ -267,7 +286,8 @@ impl<J: Job + Drop> TableRun<J> {
         requires room { vec_len made.old + length ending.gives ≤ vec_capacity made.old }
         ensures spent { IsDone J.meaning self.now result }
         ensures of { IsFateOf ending.running.task ending.running.cause result.fate }
-        ensures gives { GivesEdges (J.meaning.net self.now.job) self.now.table (given_by result.fate) made.old.items made.new.items }
+        ensures gives { GivesEdges (J.meaning.net self.now.job) self.now.table
+            (given_by result.fate) made.old.items made.new.items }
         ensures made { AreOf self.now.table made.new.items }
         ensures few { vec_len made.new ≤ vec_len made.old + length ending.gives }
         ensures capacity { vec_capacity made.new ≡ vec_capacity made.old }
@@ -288,7 +308,8 @@ impl<J: Job + Drop> TableRun<J> {
         requires room { vec_len made.old + length owing.left ≤ vec_capacity made.old }
         ensures table { result.table ≡ self.now.table }
         ensures fate { result.fate ≡ Ended owing.ended }
-        ensures gives { GivesEdges (J.meaning.net self.now.job) self.now.table owing.left made.old.items made.new.items }
+        ensures gives { GivesEdges (J.meaning.net self.now.job) self.now.table owing.left
+            made.old.items made.new.items }
         ensures made { AreOf self.now.table made.new.items }
         ensures few { vec_len made.new ≤ vec_len made.old + length owing.left }
         ensures capacity { vec_capacity made.new ≡ vec_capacity made.old }

@@ -40,7 +40,8 @@ pub struct Credits<A> {
 }
 
 impl<V, A: Claimable> Play<Parcels<V>, SeatView<V>> for Credits<A> {
-    ghost then = { λ _ before n after. StepsKnowing (λ k m. (m.0 ≡ credited A.sem before.0.notes) × (m.1 ≡ before.1)) before n after };
+    ghost then = { λ _ before n after. StepsKnowing
+        (λ k m. (m.0 ≡ credited A.sem before.0.notes) × (m.1 ≡ before.1)) before n after };
 }
 
 pub struct Claims<A> {
@@ -48,13 +49,16 @@ pub struct Claims<A> {
 }
 
 impl<V, A: Claimable> Play<Parcels<V>, SeatView<V>> for Claims<A> {
-    ghost then = { λ _ before n after. StepsKnowing (λ k m. (m.0 ≡ claimed A.sem k before.0.notes) × (m.1 ≡ before.1) × (k ≤ first_credit → RefusesClaim A.net A.limit A.sem before.0.notes)) before n after };
+    ghost then = { λ _ before n after. StepsKnowing
+        (λ k m. (m.0 ≡ claimed A.sem k before.0.notes) × (m.1 ≡ before.1)
+        × (k ≤ first_credit → RefusesClaim A.net A.limit A.sem before.0.notes)) before n after };
 }
 
 pub struct Unclaims;
 
 impl<V> Play<Parcels<V>, SeatView<V>> for Unclaims {
-    ghost then = { λ _ before n after. StepsKnowing (λ k m. (m.0 ≡ unclaimed before.0.notes) × (m.1 ≡ before.1)) before n after };
+    ghost then = { λ _ before n after. StepsKnowing
+        (λ k m. (m.0 ≡ unclaimed before.0.notes) × (m.1 ≡ before.1)) before n after };
 }
 
 impl<V> Words<V> {
@@ -66,7 +70,8 @@ impl<V> Words<V> {
         requires word { word ≡ 40 + length (arc_value self.now.net).sems + sem }
         requires told { A.sem ≡ sem }
         ensures table { seat.new.table_id ≡ seat.old.table_id }
-        ensures view { (seat.new.me.0.notes ≡ credited A.sem seat.old.me.0.notes) × (seat.new.me.1 ≡ seat.old.me.1) }
+        ensures view { (seat.new.me.0.notes ≡ credited A.sem seat.old.me.0.notes)
+            × (seat.new.me.1 ≡ seat.old.me.1) }
         ensures known { Knows seat.new.me.0.values seat.old.me.0.values }
         ensures held { Knows seat.new.me.0.values (values_held seat.new.me.1) }
     {
@@ -79,7 +84,8 @@ impl<V> Words<V> {
         requires ready { MayCredit (arc_value self.now.net) sem seat.old.me.0 }
         requires in_range { sem < length (arc_value self.now.net).sems }
         ensures table { seat.new.table_id ≡ seat.old.table_id }
-        ensures view { (seat.new.me.0 ≡ credited sem seat.old.me.0) × (seat.new.me.1 ≡ seat.old.me.1) }
+        ensures view { (seat.new.me.0 ≡ credited sem seat.old.me.0)
+            × (seat.new.me.1 ≡ seat.old.me.1) }
         ensures known { Knows seat.new.values seat.old.values }
         ensures found { seat.new.found ≡ seat.old.found }
     {
@@ -100,12 +106,15 @@ impl<V> Words<V> {
         requires held { Knows seat.old.me.0.values (values_held seat.old.me.1) }
         requires in_range { sem < length (arc_value self.now.net).sems }
         requires word { word ≡ 40 + length (arc_value self.now.net).sems + sem }
-        requires told { (A.net ≡ arc_value self.now.net) × (A.limit ≡ self.now.table.shared.key.limit) × (A.sem ≡ sem) }
+        requires told { (A.net ≡ arc_value self.now.net)
+            × (A.limit ≡ self.now.table.shared.key.limit) × (A.sem ≡ sem) }
         ensures table { seat.new.table_id ≡ seat.old.table_id }
-        ensures view { (seat.new.me.0.notes ≡ claimed A.sem result seat.old.me.0.notes) × (seat.new.me.1 ≡ seat.old.me.1) }
+        ensures view { (seat.new.me.0.notes ≡ claimed A.sem result seat.old.me.0.notes)
+            × (seat.new.me.1 ≡ seat.old.me.1) }
         ensures known { Knows seat.new.me.0.values seat.old.me.0.values }
         ensures held { Knows seat.new.me.0.values (values_held seat.new.me.1) }
-        ensures refused { result ≤ first_credit → RefusesClaim A.net A.limit A.sem seat.old.me.0.notes }
+        ensures refused { result ≤ first_credit
+            → RefusesClaim A.net A.limit A.sem seat.old.me.0.notes }
     {
         self.table.shared.fetch_sub::<Claims<A>>(seat, word, 1)
     }
@@ -117,9 +126,12 @@ impl<V> Words<V> {
         requires ready { MayClaim (arc_value self.now.net) sem seat.old.me.0 }
         requires in_range { sem < length (arc_value self.now.net).sems }
         ensures table { seat.new.table_id ≡ seat.old.table_id }
-        ensures view { (seat.new.me.0 ≡ claimed sem result seat.old.me.0) × (seat.new.me.1 ≡ seat.old.me.1) }
+        ensures view { (seat.new.me.0 ≡ claimed sem result seat.old.me.0)
+            × (seat.new.me.1 ≡ seat.old.me.1) }
         ensures known { Knows seat.new.values seat.old.values }
-        ensures refused { result ≤ first_credit → RefusesClaim (arc_value self.now.net) self.now.table.shared.key.limit sem seat.old.me.0 }
+        ensures refused { result ≤ first_credit
+            → RefusesClaim (arc_value self.now.net) self.now.table.shared.key.limit sem
+            seat.old.me.0 }
         ensures found { seat.new.found ≡ result ∷ seat.old.found }
     {
         let found = self.claim_told::<Brand>(&mut seat.seat, sem, self.credit_word(sem));

@@ -20,7 +20,8 @@ impl<V> Join<SeatView<V>> for Gathers {
 impl<V> Words<V> {
     // Gives what a turn knows to another's seat, which then knows the values of both.
     fn take_turn(&self, seat: &mut TableSeat<V>, other: TableSeat<V>)
-        requires table { (seat.old.table_id ≡ self.now.table.shared.table_id) × (other.table_id ≡ self.now.table.shared.table_id) }
+        requires table { (seat.old.table_id ≡ self.now.table.shared.table_id)
+            × (other.table_id ≡ self.now.table.shared.table_id) }
         requires home { other.me.1 ≡ [] }
         requires ready { MayGather seat.old.me.0 other.me.0 }
         ensures table { seat.new.table_id ≡ seat.old.table_id }
@@ -36,7 +37,8 @@ impl<V> Words<V> {
     /// Takes a turn that is done into another that is, and one of the two off the live turns. It never finds the last,
     /// since the other stays live. The seat then knows the values that either knew.
     pub fn gather(&self, seat: &mut TableSeat<V>, spent: TableSeat<V>)
-        requires table { (seat.old.table_id ≡ self.now.table.shared.table_id) × (spent.table_id ≡ self.now.table.shared.table_id) }
+        requires table { (seat.old.table_id ≡ self.now.table.shared.table_id)
+            × (spent.table_id ≡ self.now.table.shared.table_id) }
         requires home { spent.me.1 ≡ [] }
         requires ready { MayGather seat.old.me.0 spent.me.0 }
         ensures table { seat.new.table_id ≡ seat.old.table_id }

@@ -27,7 +27,8 @@ impl Blames for Brand {
 pub struct ReadsHalt;
 
 impl<V> Play<Parcels<V>, SeatView<V>> for ReadsHalt {
-    ghost then = { λ _ before n after. StepsKnowing (λ k m. (m.0 ≡ halt_read k before.0.notes) × (m.1 ≡ before.1)) before n after };
+    ghost then = { λ _ before n after. StepsKnowing
+        (λ k m. (m.0 ≡ halt_read k before.0.notes) × (m.1 ≡ before.1)) before n after };
 }
 
 pub struct DrawsFault<A> {
@@ -35,19 +36,23 @@ pub struct DrawsFault<A> {
 }
 
 impl<V, A: Blames> Play<Parcels<V>, SeatView<V>> for DrawsFault<A> {
-    ghost then = { λ _ before n after. StepsKnowing (λ k m. (m.0 ≡ with_fault_drawn A.why k before.0.notes) × (m.1 ≡ before.1)) before n after };
+    ghost then = { λ _ before n after. StepsKnowing
+        (λ k m. (m.0 ≡ with_fault_drawn A.why k before.0.notes) × (m.1 ≡ before.1)) before n
+        after };
 }
 
 pub struct SetsHalt;
 
 impl<V> Play<Parcels<V>, SeatView<V>> for SetsHalt {
-    ghost then = { λ _ before n after. StepsKnowing (λ k m. (m.0 ≡ marked before.0.notes) × (m.1 ≡ before.1)) before n after };
+    ghost then = { λ _ before n after. StepsKnowing
+        (λ k m. (m.0 ≡ marked before.0.notes) × (m.1 ≡ before.1)) before n after };
 }
 
 pub struct DrawsDrop;
 
 impl<V> Play<Parcels<V>, SeatView<V>> for DrawsDrop {
-    ghost then = { λ _ before n after. StepsKnowing (λ k m. (m.0 ≡ dropped k before.0.notes) × (m.1 ≡ before.1)) before n after };
+    ghost then = { λ _ before n after. StepsKnowing
+        (λ k m. (m.0 ≡ dropped k before.0.notes) × (m.1 ≡ before.1)) before n after };
 }
 
 impl<V> Words<V> {
@@ -56,7 +61,8 @@ impl<V> Words<V> {
         requires table { seat.old.table_id ≡ self.now.table.shared.table_id }
         requires ready { MayAsk seat.old.me.0 }
         ensures table { seat.new.table_id ≡ seat.old.table_id }
-        ensures view { (seat.new.me.0 ≡ halt_read result seat.old.me.0) × (seat.new.me.1 ≡ seat.old.me.1) }
+        ensures view { (seat.new.me.0 ≡ halt_read result seat.old.me.0)
+            × (seat.new.me.1 ≡ seat.old.me.1) }
         ensures known { Knows seat.new.values seat.old.values }
         ensures found { seat.new.found ≡ result ∷ seat.old.found }
     {
@@ -70,7 +76,8 @@ impl<V> Words<V> {
         requires ready { MayFault (arc_value self.now.net) A.why seat.old.me.0.notes }
         requires held { Knows seat.old.me.0.values (values_held seat.old.me.1) }
         ensures table { seat.new.table_id ≡ seat.old.table_id }
-        ensures view { (seat.new.me.0.notes ≡ with_fault_drawn A.why result seat.old.me.0.notes) × (seat.new.me.1 ≡ seat.old.me.1) }
+        ensures view { (seat.new.me.0.notes ≡ with_fault_drawn A.why result seat.old.me.0.notes)
+            × (seat.new.me.1 ≡ seat.old.me.1) }
         ensures known { Knows seat.new.me.0.values seat.old.me.0.values }
         ensures held { Knows seat.new.me.0.values (values_held seat.new.me.1) }
     {
@@ -82,7 +89,8 @@ impl<V> Words<V> {
         requires table { seat.old.table_id ≡ self.now.table.shared.table_id }
         requires ready { MayFault (arc_value self.now.net) why seat.old.me.0 }
         ensures table { seat.new.table_id ≡ seat.old.table_id }
-        ensures view { (seat.new.me.0 ≡ with_fault_drawn why result seat.old.me.0) × (seat.new.me.1 ≡ seat.old.me.1) }
+        ensures view { (seat.new.me.0 ≡ with_fault_drawn why result seat.old.me.0)
+            × (seat.new.me.1 ≡ seat.old.me.1) }
         ensures known { Knows seat.new.values seat.old.values }
         ensures found { seat.new.found ≡ seat.old.found }
     {
@@ -106,7 +114,8 @@ impl<V> Words<V> {
         requires table { seat.old.table_id ≡ self.now.table.shared.table_id }
         requires ready { MayDrop seat.old.me.0 }
         ensures table { seat.new.table_id ≡ seat.old.table_id }
-        ensures view { (seat.new.me.0 ≡ dropped result seat.old.me.0) × (seat.new.me.1 ≡ seat.old.me.1) }
+        ensures view { (seat.new.me.0 ≡ dropped result seat.old.me.0)
+            × (seat.new.me.1 ≡ seat.old.me.1) }
         ensures known { Knows seat.new.values seat.old.values }
         ensures found { seat.new.found ≡ seat.old.found }
     {

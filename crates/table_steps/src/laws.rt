@@ -10,5 +10,6 @@ ghost use Rattle.table_steps.specs.OneJournal.{AreOneJournal, drawn_count, seats
 /// In each state that the rule of a table allows, the entries that its seats have are one journal, each once: as many
 /// as the clock says, legal as far as the net decides, and each start finds what it may.
 pub fn one_journal_at_every_step<V>()
-    ensures { (net : NetRows) (limit : ℕ) (s : State (List (Given V)) (SeatView V)) → KeepsTable net limit s → AreOneJournal net limit (drawn_count s) (seats_entries s) }
+    ensures { (net : NetRows) (limit : ℕ) (s : State (List (Given V)) (SeatView V))
+        → KeepsTable net limit s → AreOneJournal net limit (drawn_count s) (seats_entries s) }
 {}

@@ -24,10 +24,16 @@ pub fn table_of<V: Drop>(
     ),
     NoMemory,
 >
-    requires accounts { KeepsAccounts given_parts (arc_value limited.now.net) limited.now.limit (opening words.now parcels.items (opening_notes (arc_value limited.now.net) limited.now.limit)) }
+    requires accounts { KeepsAccounts given_parts (arc_value limited.now.net) limited.now.limit
+        (opening words.now parcels.items
+        (opening_notes (arc_value limited.now.net) limited.now.limit)) }
     requires no_values { flat_map values_in parcels.items ≡ [] }
-    ensures table { IfOk result (λ made. (made.0.shared.table_id.words ≡ length words.now) × (made.0.shared.key ≡ limited.now)) }
-    ensures seat { IfOk result (λ made. (made.1.table_id ≡ made.0.shared.table_id) × (made.1.id ≡ 0) × (made.1.me ≡ (opening_notes (arc_value limited.now.net) limited.now.limit, []))) }
+    ensures table { IfOk result
+        (λ made. (made.0.shared.table_id.words ≡ length words.now)
+        × (made.0.shared.key ≡ limited.now)) }
+    ensures seat { IfOk result
+        (λ made. (made.1.table_id ≡ made.0.shared.table_id) × (made.1.id ≡ 0)
+        × (made.1.me ≡ (opening_notes (arc_value limited.now.net) limited.now.limit, []))) }
     ensures values { IfOk result (λ made. (made.1.values ≡ []) × (made.1.found ≡ [])) }
 {
     match Table::new(alloc, words, parcels, limited) {

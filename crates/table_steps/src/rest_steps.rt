@@ -45,13 +45,15 @@ impl<V> Split<SeatView<V>> for DealsFromRest {
 pub struct ReadsLive;
 
 impl<V> Play<Parcels<V>, SeatView<V>> for ReadsLive {
-    ghost then = { λ _ before n after. StepsKnowing (λ k m. (m.0 ≡ live_found k before.0.notes) × (m.1 ≡ before.1)) before n after };
+    ghost then = { λ _ before n after. StepsKnowing
+        (λ k m. (m.0 ≡ live_found k before.0.notes) × (m.1 ≡ before.1)) before n after };
 }
 
 pub struct Looks;
 
 impl<V> Play<Parcels<V>, SeatView<V>> for Looks {
-    ghost then = { λ _ before n after. StepsKnowing (λ k m. (m.0 ≡ looked k before.0.notes) × (m.1 ≡ before.1)) before n after };
+    ghost then = { λ _ before n after. StepsKnowing
+        (λ k m. (m.0 ≡ looked k before.0.notes) × (m.1 ≡ before.1)) before n after };
 }
 
 pub struct Asks<A> {
@@ -59,7 +61,9 @@ pub struct Asks<A> {
 }
 
 impl<V, A: Semaphore> Play<Parcels<V>, SeatView<V>> for Asks<A> {
-    ghost then = { λ _ before n after. StepsKnowing (λ k m. (m.0 ≡ with_unit_asked A.net A.sem k before.0.notes) × (m.1 ≡ before.1)) before n after };
+    ghost then = { λ _ before n after. StepsKnowing
+        (λ k m. (m.0 ≡ with_unit_asked A.net A.sem k before.0.notes) × (m.1 ≡ before.1)) before n
+        after };
 }
 
 pub struct DrawsLastDrop<A> {
@@ -67,19 +71,22 @@ pub struct DrawsLastDrop<A> {
 }
 
 impl<V, A: Excuses> Play<Parcels<V>, SeatView<V>> for DrawsLastDrop<A> {
-    ghost then = { λ _ before n after. StepsKnowing (λ k m. (m.0 ≡ last_dropped A.why k before.0.notes) × (m.1 ≡ before.1)) before n after };
+    ghost then = { λ _ before n after. StepsKnowing
+        (λ k m. (m.0 ≡ last_dropped A.why k before.0.notes) × (m.1 ≡ before.1)) before n after };
 }
 
 pub struct Thins;
 
 impl<V> Play<Parcels<V>, SeatView<V>> for Thins {
-    ghost then = { λ _ before n after. StepsKnowing (λ k m. (m.0 ≡ left_by before.0.notes) × (m.1 ≡ before.1)) before n after };
+    ghost then = { λ _ before n after. StepsKnowing
+        (λ k m. (m.0 ≡ left_by before.0.notes) × (m.1 ≡ before.1)) before n after };
 }
 
 impl<V> Words<V> {
     /// Gives what a turn's seat knows to a rest's, which then knows the values of both.
     pub fn park(&self, seat: &mut TableSeat<V>, other: TableSeat<V>)
-        requires table { (seat.old.table_id ≡ self.now.table.shared.table_id) × (other.table_id ≡ self.now.table.shared.table_id) }
+        requires table { (seat.old.table_id ≡ self.now.table.shared.table_id)
+            × (other.table_id ≡ self.now.table.shared.table_id) }
         requires home { other.me.1 ≡ [] }
         requires ready { MayPark seat.old.me.0 other.me.0 }
         ensures table { seat.new.table_id ≡ seat.old.table_id }
@@ -96,8 +103,10 @@ impl<V> Words<V> {
     pub fn hand_out(&self, seat: &mut TableSeat<V>) -> TableSeat<V>
         requires table { seat.old.table_id ≡ self.now.table.shared.table_id }
         requires ready { MayHandOut seat.old.me.0 }
-        ensures table { (seat.new.table_id ≡ seat.old.table_id) × (result.table_id ≡ seat.old.table_id) }
-        ensures view { (seat.new.me ≡ (left_behind seat.old.me.0, seat.old.me.1)) × (result.me ≡ (handed_out seat.old.me.0, [])) }
+        ensures table { (seat.new.table_id ≡ seat.old.table_id)
+            × (result.table_id ≡ seat.old.table_id) }
+        ensures view { (seat.new.me ≡ (left_behind seat.old.me.0, seat.old.me.1))
+            × (result.me ≡ (handed_out seat.old.me.0, [])) }
         ensures values { (seat.new.values ≡ seat.old.values) × (result.values ≡ seat.old.values) }
         ensures found { (seat.new.found ≡ seat.old.found) × (result.found ≡ []) }
     {
@@ -113,7 +122,8 @@ impl<V> Words<V> {
         requires table { seat.old.table_id ≡ self.now.table.shared.table_id }
         requires ready { IsTurn seat.old.me.0 }
         ensures table { seat.new.table_id ≡ seat.old.table_id }
-        ensures view { (seat.new.me.0 ≡ live_found result seat.old.me.0) × (seat.new.me.1 ≡ seat.old.me.1) }
+        ensures view { (seat.new.me.0 ≡ live_found result seat.old.me.0)
+            × (seat.new.me.1 ≡ seat.old.me.1) }
         ensures known { Knows seat.new.values seat.old.values }
         ensures found { seat.new.found ≡ result ∷ seat.old.found }
     {
@@ -127,7 +137,8 @@ impl<V> Words<V> {
         requires table { seat.old.table_id ≡ self.now.table.shared.table_id }
         requires ready { MayLook seat.old.me.0 }
         ensures table { seat.new.table_id ≡ seat.old.table_id }
-        ensures view { (seat.new.me.0 ≡ looked result seat.old.me.0) × (seat.new.me.1 ≡ seat.old.me.1) }
+        ensures view { (seat.new.me.0 ≡ looked result seat.old.me.0)
+            × (seat.new.me.1 ≡ seat.old.me.1) }
         ensures known { Knows seat.new.values seat.old.values }
         ensures found { seat.new.found ≡ result ∷ seat.old.found }
     {
@@ -143,7 +154,9 @@ impl<V> Words<V> {
         requires in_range { sem < length (arc_value self.now.net).sems }
         requires told { (A.net ≡ arc_value self.now.net) × (A.sem ≡ sem) }
         ensures table { seat.new.table_id ≡ seat.old.table_id }
-        ensures view { (seat.new.me.0.notes ≡ with_unit_asked A.net A.sem result seat.old.me.0.notes) × (seat.new.me.1 ≡ seat.old.me.1) }
+        ensures view { (seat.new.me.0.notes
+            ≡ with_unit_asked A.net A.sem result seat.old.me.0.notes)
+            × (seat.new.me.1 ≡ seat.old.me.1) }
         ensures known { Knows seat.new.me.0.values seat.old.me.0.values }
         ensures held { Knows seat.new.me.0.values (values_held seat.new.me.1) }
     {
@@ -158,7 +171,9 @@ impl<V> Words<V> {
         requires ready { MayAskForUnit (arc_value self.now.net) sem seat.old.me.0 }
         requires in_range { sem < length (arc_value self.now.net).sems }
         ensures table { seat.new.table_id ≡ seat.old.table_id }
-        ensures view { (seat.new.me.0 ≡ with_unit_asked (arc_value self.now.net) sem result seat.old.me.0) × (seat.new.me.1 ≡ seat.old.me.1) }
+        ensures view { (seat.new.me.0
+            ≡ with_unit_asked (arc_value self.now.net) sem result seat.old.me.0)
+            × (seat.new.me.1 ≡ seat.old.me.1) }
         ensures known { Knows seat.new.values seat.old.values }
         ensures found { seat.new.found ≡ result ∷ seat.old.found }
     {
@@ -172,7 +187,8 @@ impl<V> Words<V> {
         requires ready { MayDropLast (arc_value self.now.net) A.why seat.old.me.0.notes }
         requires held { Knows seat.old.me.0.values (values_held seat.old.me.1) }
         ensures table { seat.new.table_id ≡ seat.old.table_id }
-        ensures view { (seat.new.me.0.notes ≡ last_dropped A.why result seat.old.me.0.notes) × (seat.new.me.1 ≡ seat.old.me.1) }
+        ensures view { (seat.new.me.0.notes ≡ last_dropped A.why result seat.old.me.0.notes)
+            × (seat.new.me.1 ≡ seat.old.me.1) }
         ensures known { Knows seat.new.me.0.values seat.old.me.0.values }
         ensures held { Knows seat.new.me.0.values (values_held seat.new.me.1) }
     {
@@ -186,7 +202,8 @@ impl<V> Words<V> {
         requires table { seat.old.table_id ≡ self.now.table.shared.table_id }
         requires ready { MayDropLast (arc_value self.now.net) why seat.old.me.0 }
         ensures table { seat.new.table_id ≡ seat.old.table_id }
-        ensures view { (seat.new.me.0 ≡ last_dropped why result seat.old.me.0) × (seat.new.me.1 ≡ seat.old.me.1) }
+        ensures view { (seat.new.me.0 ≡ last_dropped why result seat.old.me.0)
+            × (seat.new.me.1 ≡ seat.old.me.1) }
         ensures known { Knows seat.new.values seat.old.values }
         ensures found { seat.new.found ≡ seat.old.found }
     {

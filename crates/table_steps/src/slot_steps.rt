@@ -46,7 +46,8 @@ pub struct TriesSlot<A> {
 }
 
 impl<V, A: SlotTry> Play<Parcels<V>, SeatView<V>> for TriesSlot<A> {
-    ghost then = { λ _ before n after. StepsKnowing (λ k m. TriedSlot given_parts A.last A.puts A.edge k (me_of before) m) before n after };
+    ghost then = { λ _ before n after. StepsKnowing
+        (λ k m. TriedSlot given_parts A.last A.puts A.edge k (me_of before) m) before n after };
 }
 
 /// Of which edge a slot is.
@@ -63,7 +64,8 @@ pub struct PutsDown<A> {
 }
 
 impl<V, A: Edged> Play<Parcels<V>, SeatView<V>> for PutsDown<A> {
-    ghost then = { λ _ before n after. StepsKnowing (λ k m. (m.0 ≡ put_laid A.edge before.0.notes) × (m.1 ≡ rest before.1)) before n after };
+    ghost then = { λ _ before n after. StepsKnowing
+        (λ k m. (m.0 ≡ put_laid A.edge before.0.notes) × (m.1 ≡ rest before.1)) before n after };
 }
 
 pub struct LeavesLess<A> {
@@ -71,7 +73,8 @@ pub struct LeavesLess<A> {
 }
 
 impl<V, A: Edged> Play<Parcels<V>, SeatView<V>> for LeavesLess<A> {
-    ghost then = { λ _ before n after. StepsKnowing (λ k m. (m.0 ≡ take_laid A.edge before.0.notes) × (m.1 ≡ rest before.1)) before n after };
+    ghost then = { λ _ before n after. StepsKnowing
+        (λ k m. (m.0 ≡ take_laid A.edge before.0.notes) × (m.1 ≡ rest before.1)) before n after };
 }
 
 impl<V> Words<V> {
@@ -99,7 +102,8 @@ impl<V> Words<V> {
         requires word { word ≡ marks_from (arc_value self.now.net) + edge }
         requires told { A.edge ≡ edge }
         ensures table { seat.new.table_id ≡ seat.old.table_id }
-        ensures view { TriedSlot given_parts A.last A.puts A.edge result (me_of seat.old.me) (me_of seat.new.me) }
+        ensures view { TriedSlot given_parts A.last A.puts A.edge result (me_of seat.old.me)
+            (me_of seat.new.me) }
         ensures known { Knows seat.new.me.0.values seat.old.me.0.values }
         ensures held { Knows seat.new.me.0.values (values_held seat.new.me.1) }
     {
@@ -165,7 +169,8 @@ impl<V> Words<V> {
         requires word { word ≡ marks_from (arc_value self.now.net) + edge }
         requires told { A.edge ≡ edge }
         ensures table { seat.new.table_id ≡ seat.old.table_id }
-        ensures view { (seat.new.me.0.notes ≡ put_laid A.edge seat.old.me.0.notes) × (seat.new.me.1 ≡ rest seat.old.me.1) }
+        ensures view { (seat.new.me.0.notes ≡ put_laid A.edge seat.old.me.0.notes)
+            × (seat.new.me.1 ≡ rest seat.old.me.1) }
         ensures known { Knows seat.new.me.0.values seat.old.me.0.values }
         ensures held { Knows seat.new.me.0.values (values_held seat.new.me.1) }
     {
@@ -178,7 +183,8 @@ impl<V> Words<V> {
         requires ready { MayPutBack given_parts edge seat.old.me }
         requires in_range { edge < length (arc_value self.now.net).edges }
         ensures table { seat.new.table_id ≡ seat.old.table_id }
-        ensures view { (seat.new.me.0 ≡ put_laid edge seat.old.me.0) × (seat.new.me.1 ≡ rest seat.old.me.1) }
+        ensures view { (seat.new.me.0 ≡ put_laid edge seat.old.me.0)
+            × (seat.new.me.1 ≡ rest seat.old.me.1) }
         ensures known { Knows seat.new.values seat.old.values }
         ensures found { seat.new.found ≡ seat.old.found }
     {
@@ -193,7 +199,8 @@ impl<V> Words<V> {
         requires word { word ≡ marks_from (arc_value self.now.net) + edge }
         requires told { A.edge ≡ edge }
         ensures table { seat.new.table_id ≡ seat.old.table_id }
-        ensures view { (seat.new.me.0.notes ≡ take_laid A.edge seat.old.me.0.notes) × (seat.new.me.1 ≡ rest seat.old.me.1) }
+        ensures view { (seat.new.me.0.notes ≡ take_laid A.edge seat.old.me.0.notes)
+            × (seat.new.me.1 ≡ rest seat.old.me.1) }
         ensures known { Knows seat.new.me.0.values seat.old.me.0.values }
         ensures held { Knows seat.new.me.0.values (values_held seat.new.me.1) }
     {
@@ -206,7 +213,8 @@ impl<V> Words<V> {
         requires ready { MayTakeBack given_parts edge seat.old.me }
         requires in_range { edge < length (arc_value self.now.net).edges }
         ensures table { seat.new.table_id ≡ seat.old.table_id }
-        ensures view { (seat.new.me.0 ≡ take_laid edge seat.old.me.0) × (seat.new.me.1 ≡ rest seat.old.me.1) }
+        ensures view { (seat.new.me.0 ≡ take_laid edge seat.old.me.0)
+            × (seat.new.me.1 ≡ rest seat.old.me.1) }
         ensures known { Knows seat.new.values seat.old.values }
         ensures found { seat.new.found ≡ seat.old.found }
     {
@@ -224,7 +232,8 @@ impl<V: Drop> Words<V> {
         requires free { slot_weigh (lot Taking edge) seat.old.me.0 ≡ 0 }
         requires in_range { edge < length (arc_value self.now.net).edges }
         ensures table { seat.new.table_id ≡ seat.old.table_id }
-        ensures view { seat.new.me ≡ (relot Awaited Fetched (λ p. given_part result) edge seat.old.me.0, []) }
+        ensures view { seat.new.me
+            ≡ (relot Awaited Fetched (λ p. given_part result) edge seat.old.me.0, []) }
         ensures known { Knows seat.new.values seat.old.values }
         ensures learnt { Knows seat.new.values (given_values result) }
         ensures found { seat.new.found ≡ seat.old.found }

@@ -45,7 +45,9 @@ pub struct Words<V> {
     pub alloc: Global,
     ghost same_limit: { limit ≡ table.shared.key.limit },
     ghost same_net: { arc_value net ≡ arc_value table.shared.key.net },
-    ghost sized: { table.shared.table_id.words ≡ tokens_from (arc_value net) + length (arc_value net).edges + length (arc_value net).tasks },
+    ghost sized: { table.shared.table_id.words
+        ≡ tokens_from (arc_value net) + length (arc_value net).edges + length
+        (arc_value net).tasks },
 }
 
 /// What a step depends on besides.
@@ -95,7 +97,10 @@ struct Learns<A> {
 }
 
 impl<V, A: StepFacts> Play<Parcels<V>, SeatView<V>> for Learns<A> {
-    ghost then = { λ _ before n after. StepsKnowing (λ k m. (m.0 ≡ before.0.notes) × (m.1 ≡ before.1) × AllFitNotes A.net before.0.notes × (length A.net.edges < 4294967296) × AreInOneJournal A.net A.limit (entries_in before.0.notes)) before n after };
+    ghost then = { λ _ before n after. StepsKnowing
+        (λ k m. (m.0 ≡ before.0.notes) × (m.1 ≡ before.1) × AllFitNotes A.net before.0.notes
+        × (length A.net.edges < 4294967296)
+        × AreInOneJournal A.net A.limit (entries_in before.0.notes)) before n after };
 }
 
 struct TakesUp<A> {
@@ -103,13 +108,15 @@ struct TakesUp<A> {
 }
 
 impl<V, A: StepFacts> Play<Parcels<V>, SeatView<V>> for TakesUp<A> {
-    ghost then = { λ _ before n after. StepsKnowing (λ k m. (m.0 ≡ taken_up A.net before.0.notes) × (m.1 ≡ before.1)) before n after };
+    ghost then = { λ _ before n after. StepsKnowing
+        (λ k m. (m.0 ≡ taken_up A.net before.0.notes) × (m.1 ≡ before.1)) before n after };
 }
 
 struct TakesOneToken;
 
 impl<V> Play<Parcels<V>, SeatView<V>> for TakesOneToken {
-    ghost then = { λ _ before n after. StepsKnowing (λ k m. (m.0 ≡ took k before.0.notes) × (m.1 ≡ before.1)) before n after };
+    ghost then = { λ _ before n after. StepsKnowing
+        (λ k m. (m.0 ≡ took k before.0.notes) × (m.1 ≡ before.1)) before n after };
 }
 
 struct GivesOneToken<A> {
@@ -117,7 +124,8 @@ struct GivesOneToken<A> {
 }
 
 impl<V, A: StepFacts> Play<Parcels<V>, SeatView<V>> for GivesOneToken<A> {
-    ghost then = { λ _ before n after. StepsKnowing (λ k m. (m.0 ≡ gave A.net A.edge k before.0.notes) × (m.1 ≡ before.1)) before n after };
+    ghost then = { λ _ before n after. StepsKnowing
+        (λ k m. (m.0 ≡ gave A.net A.edge k before.0.notes) × (m.1 ≡ before.1)) before n after };
 }
 
 struct CountsOneEdge<A> {
@@ -125,13 +133,16 @@ struct CountsOneEdge<A> {
 }
 
 impl<V, A: StepFacts> Play<Parcels<V>, SeatView<V>> for CountsOneEdge<A> {
-    ghost then = { λ _ before n after. StepsKnowing (λ k m. (m.0 ≡ counted_one A.task k before.0.notes) × (m.1 ≡ before.1) × (k ≡ 1 → AreNoneLeft A.task (others_of before.0.notes))) before n after };
+    ghost then = { λ _ before n after. StepsKnowing
+        (λ k m. (m.0 ≡ counted_one A.task k before.0.notes) × (m.1 ≡ before.1)
+        × (k ≡ 1 → AreNoneLeft A.task (others_of before.0.notes))) before n after };
 }
 
 struct AddsTurn;
 
 impl<V> Play<Parcels<V>, SeatView<V>> for AddsTurn {
-    ghost then = { λ _ before n after. StepsKnowing (λ k m. (m.0 ≡ with_turn_added before.0.notes) × (m.1 ≡ before.1)) before n after };
+    ghost then = { λ _ before n after. StepsKnowing
+        (λ k m. (m.0 ≡ with_turn_added before.0.notes) × (m.1 ≡ before.1)) before n after };
 }
 
 struct Deals;
@@ -147,7 +158,8 @@ struct DrawsAdmission<A> {
 }
 
 impl<V, A: StepFacts> Play<Parcels<V>, SeatView<V>> for DrawsAdmission<A> {
-    ghost then = { λ _ before n after. StepsKnowing (λ k m. (m.0 ≡ admitted A.limit k before.0.notes) × (m.1 ≡ before.1)) before n after };
+    ghost then = { λ _ before n after. StepsKnowing
+        (λ k m. (m.0 ≡ admitted A.limit k before.0.notes) × (m.1 ≡ before.1)) before n after };
 }
 
 struct DrawsStart<A> {
@@ -155,7 +167,9 @@ struct DrawsStart<A> {
 }
 
 impl<V, A: StepFacts> Play<Parcels<V>, SeatView<V>> for DrawsStart<A> {
-    ghost then = { λ _ before n after. StepsKnowing (λ k m. (m.0 ≡ with_start_drawn A.net k before.0.notes) × (m.1 ≡ before.1) × IsNet A.net) before n after };
+    ghost then = { λ _ before n after. StepsKnowing
+        (λ k m. (m.0 ≡ with_start_drawn A.net k before.0.notes) × (m.1 ≡ before.1) × IsNet A.net)
+        before n after };
 }
 
 struct DrawsEnd<A> {
@@ -163,7 +177,9 @@ struct DrawsEnd<A> {
 }
 
 impl<V, A: EndFacts<V>> Play<Parcels<V>, SeatView<V>> for DrawsEnd<A> {
-    ghost then = { λ _ before n after. StepsKnowing (λ k m. (m.0 ≡ with_end_drawn A.gives A.inner k before.0.notes) × (m.1 ≡ before.1)) before n after × Knows after.0.values (drawn_values n A.values) };
+    ghost then = { λ _ before n after. StepsKnowing
+        (λ k m. (m.0 ≡ with_end_drawn A.gives A.inner k before.0.notes) × (m.1 ≡ before.1)) before n
+        after × Knows after.0.values (drawn_values n A.values) };
 }
 
 struct TakesSeatIn;
@@ -179,7 +195,10 @@ struct Leaves<A> {
 }
 
 impl<V, A: StepFacts> Play<Parcels<V>, SeatView<V>> for Leaves<A> {
-    ghost then = { λ _ before n after. StepsKnowing (λ k m. (m.0 ≡ left_by before.0.notes) × (m.1 ≡ before.1) × (k ≡ 1 → IsWhole A.net A.limit m.0) × AreInOneJournal A.net A.limit (entries_in m.0)) before n after };
+    ghost then = { λ _ before n after. StepsKnowing
+        (λ k m. (m.0 ≡ left_by before.0.notes) × (m.1 ≡ before.1)
+        × (k ≡ 1 → IsWhole A.net A.limit m.0) × AreInOneJournal A.net A.limit (entries_in m.0))
+        before n after };
 }
 
 impl<V> Words<V> {
@@ -187,9 +206,11 @@ impl<V> Words<V> {
         requires table { seat.old.table_id ≡ self.now.table.shared.table_id }
         requires ready { IsTurn seat.old.me.0.notes }
         requires held { Knows seat.old.me.0.values (values_held seat.old.me.1) }
-        requires told { (A.net ≡ arc_value self.now.net) × (A.limit ≡ self.now.table.shared.key.limit) }
+        requires told { (A.net ≡ arc_value self.now.net)
+            × (A.limit ≡ self.now.table.shared.key.limit) }
         ensures table { (seat.new.table_id ≡ seat.old.table_id) × (seat.new.id ≡ seat.old.id) }
-        ensures view { (seat.new.me.0.notes ≡ seat.old.me.0.notes) × (seat.new.me.1 ≡ seat.old.me.1) }
+        ensures view { (seat.new.me.0.notes ≡ seat.old.me.0.notes)
+            × (seat.new.me.1 ≡ seat.old.me.1) }
         ensures known { Knows seat.new.me.0.values seat.old.me.0.values }
         ensures held { Knows seat.new.me.0.values (values_held seat.new.me.1) }
         ensures fits { AllFitNotes A.net seat.old.me.0.notes }
@@ -208,7 +229,8 @@ impl<V> Words<V> {
         ensures known { Knows seat.new.values seat.old.values }
         ensures fits { AllFitNotes (arc_value self.now.net) seat.old.me.0 }
         ensures few { length (arc_value self.now.net).edges < 4294967296 }
-        ensures journal { AreInOneJournal (arc_value self.now.net) self.now.table.shared.key.limit (entries_in seat.old.me.0) }
+        ensures journal { AreInOneJournal (arc_value self.now.net) self.now.table.shared.key.limit
+            (entries_in seat.old.me.0) }
         ensures found { seat.new.found ≡ seat.old.found }
     {
         self.learn_told::<Brand>(&mut seat.seat)
@@ -220,7 +242,8 @@ impl<V> Words<V> {
         requires held { Knows seat.old.me.0.values (values_held seat.old.me.1) }
         requires told { A.net ≡ arc_value self.now.net }
         ensures table { seat.new.table_id ≡ seat.old.table_id }
-        ensures view { (seat.new.me.0.notes ≡ taken_up A.net seat.old.me.0.notes) × (seat.new.me.1 ≡ seat.old.me.1) }
+        ensures view { (seat.new.me.0.notes ≡ taken_up A.net seat.old.me.0.notes)
+            × (seat.new.me.1 ≡ seat.old.me.1) }
         ensures known { Knows seat.new.me.0.values seat.old.me.0.values }
         ensures held { Knows seat.new.me.0.values (values_held seat.new.me.1) }
     {
@@ -232,7 +255,8 @@ impl<V> Words<V> {
         requires table { seat.old.table_id ≡ self.now.table.shared.table_id }
         requires ready { MayTakeUp seat.old.me.0 }
         ensures table { seat.new.table_id ≡ seat.old.table_id }
-        ensures view { (seat.new.me.0 ≡ taken_up (arc_value self.now.net) seat.old.me.0) × (seat.new.me.1 ≡ seat.old.me.1) }
+        ensures view { (seat.new.me.0 ≡ taken_up (arc_value self.now.net) seat.old.me.0)
+            × (seat.new.me.1 ≡ seat.old.me.1) }
         ensures known { Knows seat.new.values seat.old.values }
         ensures found { seat.new.found ≡ seat.old.found }
     {
@@ -244,11 +268,13 @@ impl<V> Words<V> {
         requires ready { MayReset (arc_value self.now.net) task seat.old.me.0.notes }
         requires held { Knows seat.old.me.0.values (values_held seat.old.me.1) }
         requires in_range { task < length (arc_value self.now.net).tasks }
-        requires word { word ≡ tokens_from (arc_value self.now.net) + length (arc_value self.now.net).edges + task }
+        requires word { word ≡ tokens_from (arc_value self.now.net) + length
+            (arc_value self.now.net).edges + task }
         requires edges { edges ≡ length (strong_in (arc_value self.now.net) task) }
         requires told { A.net ≡ arc_value self.now.net }
         ensures table { seat.new.table_id ≡ seat.old.table_id }
-        ensures view { (seat.new.me.0.notes ≡ taken_up A.net seat.old.me.0.notes) × (seat.new.me.1 ≡ seat.old.me.1) }
+        ensures view { (seat.new.me.0.notes ≡ taken_up A.net seat.old.me.0.notes)
+            × (seat.new.me.1 ≡ seat.old.me.1) }
         ensures known { Knows seat.new.me.0.values seat.old.me.0.values }
         ensures held { Knows seat.new.me.0.values (values_held seat.new.me.1) }
     {
@@ -261,7 +287,8 @@ impl<V> Words<V> {
         requires ready { MayReset (arc_value self.now.net) task seat.old.me.0 }
         requires in_range { task < length (arc_value self.now.net).tasks }
         ensures table { seat.new.table_id ≡ seat.old.table_id }
-        ensures view { (seat.new.me.0 ≡ taken_up (arc_value self.now.net) seat.old.me.0) × (seat.new.me.1 ≡ seat.old.me.1) }
+        ensures view { (seat.new.me.0 ≡ taken_up (arc_value self.now.net) seat.old.me.0)
+            × (seat.new.me.1 ≡ seat.old.me.1) }
         ensures known { Knows seat.new.values seat.old.values }
         ensures found { seat.new.found ≡ seat.old.found }
     {
@@ -272,7 +299,8 @@ impl<V> Words<V> {
     // Where the join word of a task is.
     fn join_word(&self, task: u32) -> usize
         requires { task < length (arc_value self.now.net).tasks }
-        ensures { result ≡ tokens_from (arc_value self.now.net) + length (arc_value self.now.net).edges + task }
+        ensures { result ≡ tokens_from (arc_value self.now.net) + length
+            (arc_value self.now.net).edges + task }
     {
         self.first_edge() + self.net.edges().len() + task as usize
     }
@@ -308,7 +336,8 @@ impl<V> Words<V> {
         requires ready { TakesNextToken (arc_value self.now.net) edge seat.old.me.0 }
         requires in_range { edge < length (arc_value self.now.net).edges }
         ensures table { seat.new.table_id ≡ seat.old.table_id }
-        ensures view { (seat.new.me.0 ≡ took result seat.old.me.0) × (seat.new.me.1 ≡ seat.old.me.1) }
+        ensures view { (seat.new.me.0 ≡ took result seat.old.me.0)
+            × (seat.new.me.1 ≡ seat.old.me.1) }
         ensures known { Knows seat.new.values seat.old.values }
         ensures found { seat.new.found ≡ result ∷ seat.old.found }
     {
@@ -327,7 +356,8 @@ impl<V> Words<V> {
         requires in_range { edge < length (arc_value self.now.net).edges }
         requires told { (A.net ≡ arc_value self.now.net) × (A.edge ≡ edge) }
         ensures table { seat.new.table_id ≡ seat.old.table_id }
-        ensures view { (seat.new.me.0.notes ≡ gave A.net A.edge result seat.old.me.0.notes) × (seat.new.me.1 ≡ seat.old.me.1) }
+        ensures view { (seat.new.me.0.notes ≡ gave A.net A.edge result seat.old.me.0.notes)
+            × (seat.new.me.1 ≡ seat.old.me.1) }
         ensures known { Knows seat.new.me.0.values seat.old.me.0.values }
         ensures held { Knows seat.new.me.0.values (values_held seat.new.me.1) }
     {
@@ -342,7 +372,8 @@ impl<V> Words<V> {
         requires ready { OwesNext (arc_value self.now.net) edge seat.old.me.0 }
         requires in_range { edge < length (arc_value self.now.net).edges }
         ensures table { seat.new.table_id ≡ seat.old.table_id }
-        ensures view { (seat.new.me.0 ≡ gave (arc_value self.now.net) edge result seat.old.me.0) × (seat.new.me.1 ≡ seat.old.me.1) }
+        ensures view { (seat.new.me.0 ≡ gave (arc_value self.now.net) edge result seat.old.me.0)
+            × (seat.new.me.1 ≡ seat.old.me.1) }
         ensures known { Knows seat.new.values seat.old.values }
         ensures found { seat.new.found ≡ result ∷ seat.old.found }
     {
@@ -362,10 +393,12 @@ impl<V> Words<V> {
         requires ready { CountsNext (arc_value self.now.net) task edge seat.old.me.0.notes }
         requires held { Knows seat.old.me.0.values (values_held seat.old.me.1) }
         requires in_range { task < length (arc_value self.now.net).tasks }
-        requires word { word ≡ tokens_from (arc_value self.now.net) + length (arc_value self.now.net).edges + task }
+        requires word { word ≡ tokens_from (arc_value self.now.net) + length
+            (arc_value self.now.net).edges + task }
         requires told { A.task ≡ task }
         ensures table { seat.new.table_id ≡ seat.old.table_id }
-        ensures view { (seat.new.me.0.notes ≡ counted_one A.task result seat.old.me.0.notes) × (seat.new.me.1 ≡ seat.old.me.1) }
+        ensures view { (seat.new.me.0.notes ≡ counted_one A.task result seat.old.me.0.notes)
+            × (seat.new.me.1 ≡ seat.old.me.1) }
         ensures known { Knows seat.new.me.0.values seat.old.me.0.values }
         ensures held { Knows seat.new.me.0.values (values_held seat.new.me.1) }
         ensures last { result ≡ 1 → AreNoneLeft A.task (others_of seat.old.me.0.notes) }
@@ -381,7 +414,8 @@ impl<V> Words<V> {
         requires ready { CountsNext (arc_value self.now.net) task edge seat.old.me.0 }
         requires in_range { task < length (arc_value self.now.net).tasks }
         ensures table { seat.new.table_id ≡ seat.old.table_id }
-        ensures view { (seat.new.me.0 ≡ counted_one task result seat.old.me.0) × (seat.new.me.1 ≡ seat.old.me.1) }
+        ensures view { (seat.new.me.0 ≡ counted_one task result seat.old.me.0)
+            × (seat.new.me.1 ≡ seat.old.me.1) }
         ensures known { Knows seat.new.values seat.old.values }
         ensures last { result ≡ 1 → AreNoneLeft task (others_of seat.old.me.0) }
         ensures found { seat.new.found ≡ result ∷ seat.old.found }
@@ -396,7 +430,8 @@ impl<V> Words<V> {
         requires table { seat.old.table_id ≡ self.now.table.shared.table_id }
         requires ready { MayAdd seat.old.me.0 }
         ensures table { seat.new.table_id ≡ seat.old.table_id }
-        ensures view { (seat.new.me.0 ≡ with_turn_added seat.old.me.0) × (seat.new.me.1 ≡ seat.old.me.1) }
+        ensures view { (seat.new.me.0 ≡ with_turn_added seat.old.me.0)
+            × (seat.new.me.1 ≡ seat.old.me.1) }
         ensures known { Knows seat.new.values seat.old.values }
         ensures found { seat.new.found ≡ seat.old.found }
     {
@@ -409,8 +444,10 @@ impl<V> Words<V> {
     pub fn deal(&self, seat: &mut TableSeat<V>) -> TableSeat<V>
         requires table { seat.old.table_id ≡ self.now.table.shared.table_id }
         requires ready { MayDeal seat.old.id seat.old.me.0 }
-        ensures table { (seat.new.table_id ≡ seat.old.table_id) × (seat.new.id ≡ seat.old.id) × (result.table_id ≡ seat.old.table_id) }
-        ensures view { (seat.new.me ≡ (kept_back seat.old.me.0, seat.old.me.1)) × (result.me ≡ (dealt seat.old.me.0, [])) }
+        ensures table { (seat.new.table_id ≡ seat.old.table_id) × (seat.new.id ≡ seat.old.id)
+            × (result.table_id ≡ seat.old.table_id) }
+        ensures view { (seat.new.me ≡ (kept_back seat.old.me.0, seat.old.me.1))
+            × (result.me ≡ (dealt seat.old.me.0, [])) }
         ensures values { (seat.new.values ≡ seat.old.values) × (result.values ≡ seat.old.values) }
         ensures found { (seat.new.found ≡ seat.old.found) × (result.found ≡ []) }
     {
@@ -423,7 +460,8 @@ impl<V> Words<V> {
         requires held { Knows seat.old.me.0.values (values_held seat.old.me.1) }
         requires told { A.limit ≡ self.now.table.shared.key.limit }
         ensures table { seat.new.table_id ≡ seat.old.table_id }
-        ensures view { (seat.new.me.0.notes ≡ admitted A.limit result seat.old.me.0.notes) × (seat.new.me.1 ≡ seat.old.me.1) }
+        ensures view { (seat.new.me.0.notes ≡ admitted A.limit result seat.old.me.0.notes)
+            × (seat.new.me.1 ≡ seat.old.me.1) }
         ensures known { Knows seat.new.me.0.values seat.old.me.0.values }
         ensures held { Knows seat.new.me.0.values (values_held seat.new.me.1) }
     {
@@ -437,7 +475,9 @@ impl<V> Words<V> {
         requires table { seat.old.table_id ≡ self.now.table.shared.table_id }
         requires ready { MayAdmit seat.old.me.0 }
         ensures table { seat.new.table_id ≡ seat.old.table_id }
-        ensures view { (seat.new.me.0 ≡ admitted self.now.table.shared.key.limit result seat.old.me.0) × (seat.new.me.1 ≡ seat.old.me.1) }
+        ensures view { (seat.new.me.0
+            ≡ admitted self.now.table.shared.key.limit result seat.old.me.0)
+            × (seat.new.me.1 ≡ seat.old.me.1) }
         ensures known { Knows seat.new.values seat.old.values }
         ensures found { seat.new.found ≡ result ∷ seat.old.found }
     {
@@ -459,7 +499,8 @@ impl<V> Words<V> {
         requires held { Knows seat.old.me.0.values (values_held seat.old.me.1) }
         requires told { A.net ≡ arc_value self.now.net }
         ensures table { seat.new.table_id ≡ seat.old.table_id }
-        ensures view { (seat.new.me.0.notes ≡ with_start_drawn A.net result seat.old.me.0.notes) × (seat.new.me.1 ≡ seat.old.me.1) }
+        ensures view { (seat.new.me.0.notes ≡ with_start_drawn A.net result seat.old.me.0.notes)
+            × (seat.new.me.1 ≡ seat.old.me.1) }
         ensures known { Knows seat.new.me.0.values seat.old.me.0.values }
         ensures held { Knows seat.new.me.0.values (values_held seat.new.me.1) }
         ensures net { IsNet A.net }
@@ -472,7 +513,9 @@ impl<V> Words<V> {
         requires table { seat.old.table_id ≡ self.now.table.shared.table_id }
         requires ready { MayDrawStart (arc_value self.now.net) seat.old.me.0 }
         ensures table { seat.new.table_id ≡ seat.old.table_id }
-        ensures view { (seat.new.me.0 ≡ with_start_drawn (arc_value self.now.net) result seat.old.me.0) × (seat.new.me.1 ≡ seat.old.me.1) }
+        ensures view { (seat.new.me.0
+            ≡ with_start_drawn (arc_value self.now.net) result seat.old.me.0)
+            × (seat.new.me.1 ≡ seat.old.me.1) }
         ensures known { Knows seat.new.values seat.old.values }
         ensures net { IsNet (arc_value self.now.net) }
         ensures found { seat.new.found ≡ seat.old.found }
@@ -491,7 +534,9 @@ impl<V> Words<V> {
         requires ready { MayEnd (arc_value self.now.net) A.gives A.inner seat.old.me.0.notes }
         requires held { Knows seat.old.me.0.values (values_held seat.old.me.1) }
         ensures table { seat.new.table_id ≡ seat.old.table_id }
-        ensures view { (seat.new.me.0.notes ≡ with_end_drawn A.gives A.inner result seat.old.me.0.notes) × (seat.new.me.1 ≡ seat.old.me.1) }
+        ensures view { (seat.new.me.0.notes
+            ≡ with_end_drawn A.gives A.inner result seat.old.me.0.notes)
+            × (seat.new.me.1 ≡ seat.old.me.1) }
         ensures told { Knows seat.new.me.0.values (drawn_values result A.values) }
         ensures known { Knows seat.new.me.0.values seat.old.me.0.values }
         ensures held { Knows seat.new.me.0.values (values_held seat.new.me.1) }
@@ -510,7 +555,8 @@ impl<V> Words<V> {
         requires table { seat.old.table_id ≡ self.now.table.shared.table_id }
         requires ready { MayEnd (arc_value self.now.net) gives.now inner seat.old.me.0 }
         ensures table { seat.new.table_id ≡ seat.old.table_id }
-        ensures view { (seat.new.me.0 ≡ with_end_drawn gives.now inner result seat.old.me.0) × (seat.new.me.1 ≡ seat.old.me.1) }
+        ensures view { (seat.new.me.0 ≡ with_end_drawn gives.now inner result seat.old.me.0)
+            × (seat.new.me.1 ≡ seat.old.me.1) }
         ensures known { Knows seat.new.values seat.old.values }
         ensures ended { Knows seat.new.values (ended_with result (arc_value value.now)) }
         ensures found { seat.new.found ≡ seat.old.found }
@@ -520,7 +566,8 @@ impl<V> Words<V> {
 
     // Gives what a seat knows to the keeper's, which then knows the values of both.
     fn take_in(&self, seat: &mut TableSeat<V>, other: TableSeat<V>)
-        requires table { (seat.old.table_id ≡ self.now.table.shared.table_id) × (other.table_id ≡ self.now.table.shared.table_id) }
+        requires table { (seat.old.table_id ≡ self.now.table.shared.table_id)
+            × (other.table_id ≡ self.now.table.shared.table_id) }
         requires keeper { seat.old.id ≡ 0 }
         requires home { other.me.1 ≡ [] }
         ensures table { (seat.new.table_id ≡ seat.old.table_id) × (seat.new.id ≡ seat.old.id) }
@@ -538,9 +585,11 @@ impl<V> Words<V> {
         requires keeper { seat.old.id ≡ 0 }
         requires ready { MayLeave seat.old.me.0.notes }
         requires held { Knows seat.old.me.0.values (values_held seat.old.me.1) }
-        requires told { (A.net ≡ arc_value self.now.net) × (A.limit ≡ self.now.table.shared.key.limit) }
+        requires told { (A.net ≡ arc_value self.now.net)
+            × (A.limit ≡ self.now.table.shared.key.limit) }
         ensures table { (seat.new.table_id ≡ seat.old.table_id) × (seat.new.id ≡ seat.old.id) }
-        ensures view { (seat.new.me.0.notes ≡ left_by seat.old.me.0.notes) × (seat.new.me.1 ≡ seat.old.me.1) }
+        ensures view { (seat.new.me.0.notes ≡ left_by seat.old.me.0.notes)
+            × (seat.new.me.1 ≡ seat.old.me.1) }
         ensures known { Knows seat.new.me.0.values seat.old.me.0.values }
         ensures held { Knows seat.new.me.0.values (values_held seat.new.me.1) }
         ensures one { HaveOneValueEach seat.new.me.0.values }
@@ -559,8 +608,10 @@ impl<V> Words<V> {
         ensures view { (seat.new.me.0 ≡ left_by seat.old.me.0) × (seat.new.me.1 ≡ seat.old.me.1) }
         ensures known { Knows seat.new.values seat.old.values }
         ensures one { HaveOneValueEach seat.new.values }
-        ensures whole { result ≡ 1 → IsWhole (arc_value self.now.net) self.now.table.shared.key.limit seat.new.me.0 }
-        ensures journal { AreInOneJournal (arc_value self.now.net) self.now.table.shared.key.limit (entries_in seat.new.me.0) }
+        ensures whole { result ≡ 1
+            → IsWhole (arc_value self.now.net) self.now.table.shared.key.limit seat.new.me.0 }
+        ensures journal { AreInOneJournal (arc_value self.now.net) self.now.table.shared.key.limit
+            (entries_in seat.new.me.0) }
         ensures found { seat.new.found ≡ result ∷ seat.old.found }
     {
         let found = self.leave_told::<Brand>(&mut seat.seat);
@@ -571,16 +622,20 @@ impl<V> Words<V> {
     /// Takes a turn that is done into the keeper's seat, and says how many were live. The keeper then knows the values
     /// that either seat knew, no two of one End. Whatever it finds, the entries that it has are in one journal.
     pub fn settle(&self, seat: &mut TableSeat<V>, spent: TableSeat<V>) -> u64
-        requires table { (seat.old.table_id ≡ self.now.table.shared.table_id) × (spent.table_id ≡ self.now.table.shared.table_id) }
+        requires table { (seat.old.table_id ≡ self.now.table.shared.table_id)
+            × (spent.table_id ≡ self.now.table.shared.table_id) }
         requires keeper { seat.old.id ≡ 0 }
         requires home { (seat.old.me.1 ≡ []) × (spent.me.1 ≡ []) }
         requires ready { MayLeave (views_joined seat.old.me.0 spent.me.0) }
         ensures table { (seat.new.table_id ≡ seat.old.table_id) × (seat.new.id ≡ 0) }
-        ensures view { (seat.new.me.0 ≡ left_by (views_joined seat.old.me.0 spent.me.0)) × (seat.new.me.1 ≡ []) }
+        ensures view { (seat.new.me.0 ≡ left_by (views_joined seat.old.me.0 spent.me.0))
+            × (seat.new.me.1 ≡ []) }
         ensures known { Knows seat.new.values seat.old.values × Knows seat.new.values spent.values }
         ensures one { HaveOneValueEach seat.new.values }
-        ensures all { result ≡ 1 → IsWhole (arc_value self.now.net) self.now.table.shared.key.limit seat.new.me.0 }
-        ensures journal { AreInOneJournal (arc_value self.now.net) self.now.table.shared.key.limit (entries_in seat.new.me.0) }
+        ensures all { result ≡ 1 → IsWhole (arc_value self.now.net) self.now.table.shared.key.limit
+            seat.new.me.0 }
+        ensures journal { AreInOneJournal (arc_value self.now.net) self.now.table.shared.key.limit
+            (entries_in seat.new.me.0) }
         ensures found { seat.new.found ≡ result ∷ seat.old.found }
     {
         self.take_in(seat, spent);

@@ -33,7 +33,14 @@ impl<V> Model for TableSeat<V> {
 
     ghost Value = { TableSeatState V };
 
-    ghost view = { λ p. record { table_id = p.seat.table_id; id = p.seat.id; me = me_of p.seat.me; values = p.seat.me.0.values; found = p.numbers.numbers } };
+    ghost view = { λ p. record {
+      table_id = p.seat.table_id;
+      id = p.seat.id;
+      me = me_of p.seat.me;
+      values
+          = p.seat.me.0.values;
+      found = p.numbers.numbers;
+    } };
 
     ghost invariant = { λ p. Knows p.seat.me.0.values (values_held p.seat.me.1) };
 }
@@ -51,7 +58,8 @@ impl<V> TableSeat<V> {
     // A seat that has made no step yet.
     pub(crate) fn first(seat: NoteSeat<V>) -> TableSeat<V>
         requires home { seat.me.1 ≡ [] }
-        ensures seat { (result.table_id ≡ seat.table_id) × (result.id ≡ seat.id) × (result.me ≡ (seat.me.0.notes, [])) }
+        ensures seat { (result.table_id ≡ seat.table_id) × (result.id ≡ seat.id)
+            × (result.me ≡ (seat.me.0.notes, [])) }
         ensures values { result.values ≡ seat.me.0.values }
         ensures found { result.found ≡ [] }
     {
@@ -63,7 +71,8 @@ impl<V> TableSeat<V> {
 
     // The seat, without the numbers.
     pub(crate) fn into_seat(self) -> NoteSeat<V>
-        ensures seat { (result.table_id ≡ self.table_id) × (result.id ≡ self.id) × (me_of result.me ≡ self.me) }
+        ensures seat { (result.table_id ≡ self.table_id) × (result.id ≡ self.id)
+            × (me_of result.me ≡ self.me) }
         ensures values { result.me.0.values ≡ self.values }
         ensures known { Knows result.me.0.values (values_held result.me.1) }
     {
@@ -74,7 +83,8 @@ impl<V> TableSeat<V> {
 
     // Adds the number that a step found.
     pub(crate) fn add_found(&mut self, number: u64)
-        ensures seat { (self.new.table_id ≡ self.old.table_id) × (self.new.id ≡ self.old.id) × (self.new.me ≡ self.old.me) }
+        ensures seat { (self.new.table_id ≡ self.old.table_id) × (self.new.id ≡ self.old.id)
+            × (self.new.me ≡ self.old.me) }
         ensures values { self.new.values ≡ self.old.values }
         ensures found { self.new.found ≡ number ∷ self.old.found }
     {

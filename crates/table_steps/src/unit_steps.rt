@@ -32,13 +32,15 @@ pub struct TakesOneUnit<A> {
 }
 
 impl<V, A: Semaphore> Play<Parcels<V>, SeatView<V>> for TakesOneUnit<A> {
-    ghost then = { λ _ before n after. StepsKnowing (λ k m. (m.0 ≡ took_unit A.net A.sem k before.0.notes) × (m.1 ≡ before.1)) before n after };
+    ghost then = { λ _ before n after. StepsKnowing
+        (λ k m. (m.0 ≡ took_unit A.net A.sem k before.0.notes) × (m.1 ≡ before.1)) before n after };
 }
 
 pub struct Undoes;
 
 impl<V> Play<Parcels<V>, SeatView<V>> for Undoes {
-    ghost then = { λ _ before n after. StepsKnowing (λ k m. (m.0 ≡ undone before.0.notes) × (m.1 ≡ before.1)) before n after };
+    ghost then = { λ _ before n after. StepsKnowing
+        (λ k m. (m.0 ≡ undone before.0.notes) × (m.1 ≡ before.1)) before n after };
 }
 
 pub struct PutsUnitBack<A> {
@@ -46,7 +48,8 @@ pub struct PutsUnitBack<A> {
 }
 
 impl<V, A: Semaphore> Play<Parcels<V>, SeatView<V>> for PutsUnitBack<A> {
-    ghost then = { λ _ before n after. StepsKnowing (λ k m. (m.0 ≡ put_back A.sem before.0.notes) × (m.1 ≡ before.1)) before n after };
+    ghost then = { λ _ before n after. StepsKnowing
+        (λ k m. (m.0 ≡ put_back A.sem before.0.notes) × (m.1 ≡ before.1)) before n after };
 }
 
 pub struct GivesUnitBack<A> {
@@ -54,7 +57,8 @@ pub struct GivesUnitBack<A> {
 }
 
 impl<V, A: Semaphore> Play<Parcels<V>, SeatView<V>> for GivesUnitBack<A> {
-    ghost then = { λ _ before n after. StepsKnowing (λ k m. (m.0 ≡ returned A.sem before.0.notes) × (m.1 ≡ before.1)) before n after };
+    ghost then = { λ _ before n after. StepsKnowing
+        (λ k m. (m.0 ≡ returned A.sem before.0.notes) × (m.1 ≡ before.1)) before n after };
 }
 
 impl<V> Words<V> {
@@ -65,7 +69,8 @@ impl<V> Words<V> {
         requires in_range { sem < length (arc_value self.now.net).sems }
         requires told { (A.net ≡ arc_value self.now.net) × (A.sem ≡ sem) }
         ensures table { seat.new.table_id ≡ seat.old.table_id }
-        ensures view { (seat.new.me.0.notes ≡ took_unit A.net A.sem result seat.old.me.0.notes) × (seat.new.me.1 ≡ seat.old.me.1) }
+        ensures view { (seat.new.me.0.notes ≡ took_unit A.net A.sem result seat.old.me.0.notes)
+            × (seat.new.me.1 ≡ seat.old.me.1) }
         ensures known { Knows seat.new.me.0.values seat.old.me.0.values }
         ensures held { Knows seat.new.me.0.values (values_held seat.new.me.1) }
     {
@@ -80,7 +85,8 @@ impl<V> Words<V> {
         requires ready { MayTake (arc_value self.now.net) sem seat.old.me.0 }
         requires in_range { sem < length (arc_value self.now.net).sems }
         ensures table { seat.new.table_id ≡ seat.old.table_id }
-        ensures view { (seat.new.me.0 ≡ took_unit (arc_value self.now.net) sem result seat.old.me.0) × (seat.new.me.1 ≡ seat.old.me.1) }
+        ensures view { (seat.new.me.0 ≡ took_unit (arc_value self.now.net) sem result seat.old.me.0)
+            × (seat.new.me.1 ≡ seat.old.me.1) }
         ensures known { Knows seat.new.values seat.old.values }
         ensures found { seat.new.found ≡ result ∷ seat.old.found }
     {
@@ -111,7 +117,8 @@ impl<V> Words<V> {
         requires in_range { sem < length (arc_value self.now.net).sems }
         requires told { A.sem ≡ sem }
         ensures table { seat.new.table_id ≡ seat.old.table_id }
-        ensures view { (seat.new.me.0.notes ≡ put_back A.sem seat.old.me.0.notes) × (seat.new.me.1 ≡ seat.old.me.1) }
+        ensures view { (seat.new.me.0.notes ≡ put_back A.sem seat.old.me.0.notes)
+            × (seat.new.me.1 ≡ seat.old.me.1) }
         ensures known { Knows seat.new.me.0.values seat.old.me.0.values }
         ensures held { Knows seat.new.me.0.values (values_held seat.new.me.1) }
     {
@@ -126,7 +133,8 @@ impl<V> Words<V> {
         requires ready { MayPut (arc_value self.now.net) sem seat.old.me.0 }
         requires in_range { sem < length (arc_value self.now.net).sems }
         ensures table { seat.new.table_id ≡ seat.old.table_id }
-        ensures view { (seat.new.me.0 ≡ put_back sem seat.old.me.0) × (seat.new.me.1 ≡ seat.old.me.1) }
+        ensures view { (seat.new.me.0 ≡ put_back sem seat.old.me.0)
+            × (seat.new.me.1 ≡ seat.old.me.1) }
         ensures known { Knows seat.new.values seat.old.values }
         ensures found { seat.new.found ≡ seat.old.found }
     {
@@ -140,7 +148,8 @@ impl<V> Words<V> {
         requires in_range { sem < length (arc_value self.now.net).sems }
         requires told { A.sem ≡ sem }
         ensures table { seat.new.table_id ≡ seat.old.table_id }
-        ensures view { (seat.new.me.0.notes ≡ returned A.sem seat.old.me.0.notes) × (seat.new.me.1 ≡ seat.old.me.1) }
+        ensures view { (seat.new.me.0.notes ≡ returned A.sem seat.old.me.0.notes)
+            × (seat.new.me.1 ≡ seat.old.me.1) }
         ensures known { Knows seat.new.me.0.values seat.old.me.0.values }
         ensures held { Knows seat.new.me.0.values (values_held seat.new.me.1) }
     {
@@ -155,7 +164,8 @@ impl<V> Words<V> {
         requires ready { MayReturn (arc_value self.now.net) sem seat.old.me.0 }
         requires in_range { sem < length (arc_value self.now.net).sems }
         ensures table { seat.new.table_id ≡ seat.old.table_id }
-        ensures view { (seat.new.me.0 ≡ returned sem seat.old.me.0) × (seat.new.me.1 ≡ seat.old.me.1) }
+        ensures view { (seat.new.me.0 ≡ returned sem seat.old.me.0)
+            × (seat.new.me.1 ≡ seat.old.me.1) }
         ensures known { Knows seat.new.values seat.old.values }
         ensures found { seat.new.found ≡ seat.old.found }
     {

@@ -141,5 +141,6 @@ impl<V> TableRule<Parcels<V>, SeatView<V>, LimitedNet> for AccountsHold {
 
     ghost holds = { λ limited. KeepsTable (arc_value limited.net) limited.limit };
 
-    ghost first = { λ limited. record { notes = opening_notes (arc_value limited.net) limited.limit; values = [] } };
+    ghost first = { λ limited. record
+        { notes = opening_notes (arc_value limited.net) limited.limit; values = [] } };
 }

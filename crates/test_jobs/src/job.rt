@@ -48,7 +48,8 @@ impl Model for NumberJob {
 
     ghost Value = { NumberWork };
 
-    ghost view = { λ job. record { net = arc_value job.net; limit = job.limit; turns = job.turns; fault = job.fault } };
+    ghost view = { λ job. record
+        { net = arc_value job.net; limit = job.limit; turns = job.turns; fault = job.fault } };
 
     ghost invariant = { λ job. IsFlatNet (arc_value job.net) × (job.limit ≤ 2097152) };
 }
@@ -58,7 +59,8 @@ impl NumberJob {
     /// `None`. A task that comes to the number `fault` faults. Below `turns` a Choice chooses its first edge and from
     /// there its second; a Many chooses the same, and its third.
     pub fn new(net: Arc<Net>, limit: u64, turns: u64, fault: u64) -> Option<NumberJob>
-        ensures { IfSome result (λ job. job ≡ record { net = arc_value net; limit = limit; turns = turns; fault = fault }) }
+        ensures { IfSome result (λ job. job
+            ≡ record { net = arc_value net; limit = limit; turns = turns; fault = fault }) }
     {
         if limit > START_LIMIT || !is_flat(&net) {
             return None;
@@ -112,7 +114,8 @@ impl NumberJob {
 
     // Which edges a task signals that comes to a number.
     fn answer(&self, alloc: Global, task: u32, number: u64) -> Result<Answer, NoMemory>
-        ensures { IfOk result (λ answer. IfSome (slice_get self.now.net.tasks task) (λ (row : TaskRow). FitsShape row.shape answer)) }
+        ensures { IfOk result (λ answer. IfSome (slice_get self.now.net.tasks task)
+            (λ (row : TaskRow). FitsShape row.shape answer)) }
     {
         match self.net.tasks().get(task as usize) {
             Some(row) => self.answer_of(alloc, row.shape, number),

@@ -24,7 +24,9 @@ pub fn feedback(run: &FrameRun<TextJob>) -> &[u8]
 
 // The value, if there is one.
 fn last_item(run: &FrameRun<TextJob>) -> Option<&Item>
-    ensures { option_copied result ≡ option_and_then (last_value (journal_of run.now) (values_of run.now)) (last_sink (net_of (job_of run.now))) }
+    ensures { option_copied result
+        ≡ option_and_then (last_value (journal_of run.now) (values_of run.now))
+        (last_sink (net_of (job_of run.now))) }
 {
     let task = last_sink(run.job.net())?;
     let place = run.last_end(task)?;

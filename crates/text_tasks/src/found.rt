@@ -35,7 +35,8 @@ pub(crate) fn text_from(alloc: Global, ins: &Ins<Item>, from: usize) -> Result<T
 
 // The text at an edge, unless it is empty.
 pub(crate) fn text_of_edge(ins: &Ins<Item>, place: usize) -> Option<&Text>
-    ensures value { MatchOption result (text_of_edge ins.now place ≡ []) (λ text. text.now ≡ text_of_edge ins.now place) }
+    ensures value { MatchOption result (text_of_edge ins.now place ≡ [])
+        (λ text. text.now ≡ text_of_edge ins.now place) }
     ensures normal { IsNormal (text_of_edge ins.now place) }
 {
     let Some(Given::Value(_, item)) = ins.get(place) else {

@@ -65,8 +65,11 @@ impl GraphJob {
     // What a task answers on what it finds.
     fn answer(&self, alloc: Global, task: u32, ins: &Ins<Item>) -> Result<Done<TextJob>, JobError>
         requires { IsRelease (graph_of self.now).net task (length (parts_of ins.now)) }
-        ensures answer { IfOk result (JobAnswers (TextJob.Graph self.now) task (map found_of (parts_of ins.now))) }
-        ensures fault { IfErr result (ErrorAllowed text_job (TextJob.Graph self.now) task (map found_of (parts_of ins.now))) }
+        ensures answer { IfOk result
+            (JobAnswers (TextJob.Graph self.now) task (map found_of (parts_of ins.now))) }
+        ensures fault { IfErr result
+            (ErrorAllowed text_job (TextJob.Graph self.now) task
+            (map found_of (parts_of ins.now))) }
     {
         let Some(op) = self.graph().ops.get(task as usize) else {
             unreachable!()
@@ -135,7 +138,8 @@ impl Job for TextJob {
 /// The job of a plan's top graph, started with the empty text.
 pub fn first_job(plan: Arc<Plan>, texts: Arc<TextTable>, limit: u64) -> TextJob
     requires { IsWork (first_work (plan_rows (arc_value plan)) (arc_value texts) limit) }
-    ensures job { result ≡ TextJob.Graph (first_work (plan_rows (arc_value plan)) (arc_value texts) limit) }
+    ensures job { result ≡ TextJob.Graph
+        (first_work (plan_rows (arc_value plan)) (arc_value texts) limit) }
     ensures flat { IsFlatNet (net_of result) }
 {
     TextJob::Graph(GraphJob {

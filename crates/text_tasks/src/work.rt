@@ -119,7 +119,8 @@ pub fn apply(alloc: Global, op: &TextOp, text: &Text) -> Result<Text, ApplyError
 
 // The lines of the text at the first edge, matched with those of the others.
 fn match_found(alloc: Global, ins: &Ins<Item>) -> Result<Text, ApplyError>
-    ensures { Makes (match_meaning (left_found (founds ins.now)) (right_found (founds ins.now))) result }
+    ensures { Makes (match_meaning (left_found (founds ins.now)) (right_found (founds ins.now)))
+        result }
 {
     let Some(left) = text_of_edge(ins, 0) else {
         return Ok(Text::new());

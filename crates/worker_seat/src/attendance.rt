@@ -44,7 +44,9 @@ impl<J: Job + Drop> Attendance<J> {
     pub fn fetch<R: Wait>(self, rt: &R) -> Option<FrameRun<J>>
         requires { FitsRun self }
         ensures found { has_found self ≡ true → IsSome result }
-        ensures run { IfSome result (λ run. IsKept J.meaning run × (has_found self ≡ true) × (job_at self ≡ Some (job_of run))) }
+        ensures run { IfSome result
+            (λ run. IsKept J.meaning run × (has_found self ≡ true)
+            × (job_at self ≡ Some (job_of run))) }
     {
         match self {
             Attendance::Found(run, ticket) => Some(run.fetch(rt, ticket)),

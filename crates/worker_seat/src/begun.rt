@@ -74,7 +74,11 @@ impl<J: Job> Model for RunNumber<J> {
 
     ghost Value = { NumberView J };
 
-    ghost view = { λ number. record { begun = number.begun.numbers; index = number.pushed.index; frames = number.pushed.value } };
+    ghost view = { λ number. record {
+      begun = number.begun.numbers;
+      index = number.pushed.index;
+      frames = number.pushed.value;
+    } };
 
     ghost invariant = { λ number. IsShownBy number.begun.numbers number.pushed };
 }

@@ -33,7 +33,8 @@ impl<J: Job> Model for Closing<J> {
 
     ghost view = { λ closing. run_key closing.found.register (arc_value closing.job.value) };
 
-    ghost invariant = { λ closing. MatchOption closing.run (closing.found.items ≡ []) (λ run. IsKept J.meaning run × (job_of run ≡ arc_value closing.job.value)) };
+    ghost invariant = { λ closing. MatchOption closing.run (closing.found.items ≡ [])
+        (λ run. IsKept J.meaning run × (job_of run ≡ arc_value closing.job.value)) };
 }
 
 impl<J: Job> Keyed for Closing<J> {

@@ -49,7 +49,8 @@ impl<J: Job + Drop> Crew<J> {
         requires { (0 < length watchers.items) × (length watchers.items ≤ 16) }
         ensures crew { IfOk result (λ parts. AreSeatsOf parts.crew parts.seats.items) }
         ensures new { IfOk result (λ parts. All MayBegin parts.seats.items) }
-        ensures watchers { IfOk result (λ parts. map watcher_of parts.seats.items ≡ watchers.items) }
+        ensures watchers { IfOk result
+            (λ parts. map watcher_of parts.seats.items ≡ watchers.items) }
         ensures back { IfErr result (λ back. back.item ≡ watchers) }
     {
         let count = watchers.len();
@@ -85,7 +86,8 @@ impl<J: Job + Drop> Crew<J> {
         requires seats { AreSeatsOf self.now seats.old.items }
         requires ready { All MayBegin seats.old.items }
         requires flat { IsFlatNet (J.meaning.net (arc_value job)) }
-        ensures ok { OnOk result (seats.new.items ≡ map (moved (at_job (arc_value job))) seats.old.items) }
+        ensures ok { OnOk result (seats.new.items
+            ≡ map (moved (at_job (arc_value job))) seats.old.items) }
         ensures err { OnErr result (seats.new.items ≡ map (moved left_refused) seats.old.items) }
     {
         match self.begun(rt, &job) {
@@ -132,7 +134,8 @@ impl<J: Job + Drop> Crew<J> {
         requires { AreSeatsOf self.now seats.old.items }
         ensures run { IfSome result (IsFoundRunOf J.meaning seats.old.items) }
         ensures left { IsSome result → seats.new.items ≡ map (moved away) seats.old.items }
-        ensures none { IsNone result → All IsOpen seats.old.items × (seats.new.items ≡ seats.old.items) }
+        ensures none { IsNone result → All IsOpen seats.old.items
+            × (seats.new.items ≡ seats.old.items) }
     {
         let _ = &self.list;
         fetch_first(rt, seats.as_mut_slice())

@@ -33,9 +33,11 @@ impl<J: Job> Model for CrewRun<J> {
 
     ghost use Rattle.keyed_lock.specs.Locks.{made_with};
 
-    ghost view = { λ run. record { register = run.register; job = (made_with run.closing).job; number = run.number } };
+    ghost view = { λ run. record
+        { register = run.register; job = (made_with run.closing).job; number = run.number } };
 
-    ghost invariant = { λ run. ((made_with run.closing).register ≡ run.register) × IfSome run.number (IsNumberOf (made_with run.closing).job) };
+    ghost invariant = { λ run. ((made_with run.closing).register ≡ run.register)
+        × IfSome run.number (IsNumberOf (made_with run.closing).job) };
 }
 
 impl<J: Job + Drop> CrewRun<J> {

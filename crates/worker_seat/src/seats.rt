@@ -39,7 +39,8 @@ fn try_send_all<J: Job + Drop, X>(
 ) -> Result<(), NoMemory>
     requires { All (λ seat. IsRunOn (state_of seat).list (arc_value run.now)) seats.old }
     ensures ok { OnOk result (seats.new ≡ map (moved (at_job (arc_value run.now).job)) seats.old) }
-    ensures err { OnErr result (map (moved left_refused) seats.new ≡ map (moved left_refused) seats.old) }
+    ensures err { OnErr result
+        (map (moved left_refused) seats.new ≡ map (moved left_refused) seats.old) }
 {
     for seat in seats.iter_mut() {
         let run = Arc::try_clone(run)?;

@@ -34,9 +34,16 @@ impl<J: Job + Drop> Model for Station<J> {
 
     ghost use Rattle.worker_seat.specs.inside.Seating.{job_at, has_found, owner_list, FitsRun, IsAtRunOn};
 
-    ghost view = { λ station. record { list = owner_list station.owner; job = job_at station.attendance; closed = has_found station.attendance; refused = station.refused } };
+    ghost view = { λ station. record {
+      list = owner_list station.owner;
+      job = job_at station.attendance;
+      closed = has_found
+          station.attendance;
+      refused = station.refused;
+    } };
 
-    ghost invariant = { λ station. FitsRun station.attendance × IsAtRunOn (owner_list station.owner) station.attendance };
+    ghost invariant = { λ station. FitsRun station.attendance
+        × IsAtRunOn (owner_list station.owner) station.attendance };
 }
 
 impl<J: Job + Drop> Station<J> {
@@ -134,7 +141,8 @@ impl<J: Job + Drop> Station<J> {
     pub fn fetch<R: Wait>(&mut self, rt: &R) -> Option<FrameRun<J>>
         ensures seat { self.new ≡ away self.old }
         ensures found { self.old.closed ≡ true → IsSome result }
-        ensures run { IfSome result (λ run. IsKept J.meaning run × IsClosedWith (job_of run) self.old) }
+        ensures run { IfSome result
+            (λ run. IsKept J.meaning run × IsClosedWith (job_of run) self.old) }
     {
         mem::replace(&mut self.attendance, Attendance::Away).fetch(rt)
     }

@@ -141,7 +141,8 @@ impl<J: Job + Drop> Shift<'_, J> {
         requires backlog { MayTake backlog.old self.now.number.now.frames }
         ensures owner { IsSameOwner owner.old owner.new }
         ensures backlog { OnOk result (MayTake backlog.new self.now.number.now.frames) }
-        ensures run { IfOk result (λ made. IfSome made (λ made. made.frames ≡ self.now.number.now.frames)) }
+        ensures run { IfOk result
+            (λ made. IfSome made (λ made. made.frames ≡ self.now.number.now.frames)) }
     {
         let Stepped { mut released, .. } = Frame::step(release, backlog)?;
         self.push_others(rt, owner, &mut released)?;
