@@ -1,19 +1,22 @@
 -- What a depth-first search keeps.
-use Rattle.std.proofs.Common.{◌≡◌, ◌≢◌, ◌⊎◌, inl, inr, ◌==◌, ℕ, ◌+◌, ◌<◌, ◌≤◌, Bool, true, false, not, ◌&&◌, List, [], ◌∷◌, ◌++◌, length, get_or, slice_get, slice_set, reverse, Option, Some, None, refl, sym, ap, ◌∙◌, subst, eq-eqb, length-append, arith}
+use Rattle.std.proofs.Common.{◌≡◌, ◌≢◌, ◌⊎◌, inl, inr, ◌==◌, ℕ, ◌+◌, ◌<◌, ◌≤◌, Bool, true, false, not, ◌&&◌, cond, zero, suc, List, [], ◌∷◌, ◌++◌, length, get_or, replicate, slice_get, slice_set, reverse, Option, Some, None, refl, sym, ap, ◌∙◌, subst, eq-eqb, length-append, arith}
 use Rattle.std.specs.Option.{option_map, option_map_or}
 use Rattle.std.proofs.lemmas.Bool.{eqb-true}
 use Rattle.std.specs.List.{Contains, All, AllPairs, count_by}
-use Rattle.std.proofs.lemmas.List.{get_or-set_same, get_or-set_other, get_or_append_left, get_or_default, length-set, reverse-append}
+use Rattle.std.proofs.lemmas.List.{get_or-set_same, get_or-set_other, get_or_append_left, get_or_default, get_or-replicate, get_or_past, length-set, length-replicate, reverse-append}
+use Rattle.std.proofs.lemmas.List.Sums.{sum_by-cons}
+use Rattle.std.proofs.str.Laws.{order}
 use Rattle.std.proofs.lemmas.List.Elements.{All-nil, All-push, All-contains, Contains-push, Contains-push_cases, Contains-append_left, Contains-append_right, Contains-append_cases, Contains-get_or}
 use Rattle.std.proofs.lemmas.List.Quantifiers.{all_pairs_push}
 use Rattle.task_graph.specs.declared.net.EdgeRow.{EdgeRow}
+use Rattle.task_graph.specs.declared.net.TaskRow.{TaskRow}
 use Rattle.task_graph.specs.NetRows.{NetRows}
-use Rattle.task_graph.specs.Net.{is_weak, out_edges}
+use Rattle.task_graph.specs.Net.{IsNet, is_weak, out_edges}
 use Rattle.pitfall_check.specs.declared.progress.Progress.{Progress}
 use Rattle.pitfall_check.specs.declared.progress.Progress.TheVariants.{Unseen, Open, Done}
 use Rattle.pitfall_check.specs.inside.Steps.{IsStrongStep, stays, onward, edge_to}
 use Rattle.pitfall_check.specs.inside.SearchRules.{progress_of, is_unseen, leads_to_unseen, NoneLeadsToUnseen, Precedes, IsFinishOrder, IsSearch, FindsNext, OnlySeesMore, IsFullOrder}
-use Rattle.pitfall_check.proofs.PlaceLemmas.{passing_listed, member_cases, member_first, member_later, no_member}
+use Rattle.pitfall_check.proofs.PlaceLemmas.{read_of_zeros, passing_listed, member_cases, member_first, member_later, no_member}
 use Rattle.pitfall_check.proofs.EdgeLemmas.{both}
 use Rattle.pitfall_check.proofs.StepLemmas.{out_passes, not_true, same_value}
 use Rattle.pitfall_check.proofs.SpreadLemmas.{same_or_not, count_by-set_no, count_by-set_same}
@@ -344,6 +347,42 @@ IsSearch-same net states states' cursors cursors' path path' done done' s c p d 
     (subst (λ (xs : List ℕ). IsSearch net states' xs path done) (sym c)
     (subst (λ (xs : List ℕ). IsSearch net states' cursors' xs done) (sym p)
     (subst (λ (xs : List ℕ). IsSearch net states' cursors' path' xs) (sym d) search)))
+
+-- where no task was seen yet
+unseen_everywhere : (n t : ℕ) → progress_of (replicate n Unseen) t ≡ Unseen
+unseen_everywhere n t = elim (order t n) [
+  | inl below ↦ get_or-replicate n t Unseen Unseen below
+  | inr past ↦ get_or_past (replicate n Unseen) t Unseen (omega (arith, past, length-replicate n Unseen))
+]
+
+all_unseen : (n : ℕ) → count_by is_unseen (replicate n Unseen) ≡ n
+all_unseen zero = refl
+all_unseen (suc n) = sum_by-cons (λ (p : Progress). cond (is_unseen p) 1 0) Unseen (replicate n Unseen) ∙ omega (arith, all_unseen n)
+
+nothing_seen : (net : NetRows) (n : ℕ) → n ≡ length net.tasks → IsNet net → IsSearch net (replicate n Unseen) (replicate n 0) [] []
+nothing_seen net n size well_formed = record {
+  well_formed = well_formed;
+  states_size = length-replicate n Unseen ∙ size;
+  cursors_size = length-replicate {A = ℕ} n 0 ∙ size;
+  path_in_range = All-nil (λ t. t < length net.tasks);
+  path_open = All-nil (λ t. progress_of (replicate n Unseen) t ≡ Open);
+  open_on_path = λ t opens. absurd (let unseen = unseen_everywhere n t in cc);
+  path_leads = λ i j d before inside. absurd (omega (arith, inside));
+  passed = λ t k below inside. absurd (omega (arith, below, read_of_zeros n t));
+  order_in_range = All-nil (λ t. t < length net.tasks);
+  order_done = All-nil (λ t. progress_of (replicate n Unseen) t ≡ Done);
+  done_in_order = λ t done. absurd (let unseen = unseen_everywhere n t in cc);
+  done_passed = λ t done. absurd (let unseen = unseen_everywhere n t in cc);
+  finished = tt;
+  count = omega (arith, all_unseen n, size);
+}
+
+-- a search that has seen no task
+pub IsSearch-new : (net : NetRows) (rows : List TaskRow) (states : List Progress) (cursors path done : List ℕ) → IsNet net → rows ≡ net.tasks
+    → states ≡ replicate (length rows) Unseen → cursors ≡ replicate (length rows) 0 → path ≡ [] → done ≡ [] → IsSearch net states cursors path done
+IsSearch-new net rows states cursors path done well_formed same unseen zeros p d =
+    IsSearch-same net states (replicate (length rows) Unseen) cursors (replicate (length rows) 0) path [] done [] unseen zeros p d
+    (nothing_seen net (length rows) (ap length same) well_formed)
 
 -- a search begins at a task that wasn't seen
 pub IsSearch-begin : (net : NetRows) (states : List Progress) (cursors path done : List ℕ) (t : ℕ) → IsSearch net states cursors path done → path ≡ [] → t < length net.tasks
