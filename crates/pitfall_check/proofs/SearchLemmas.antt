@@ -189,10 +189,11 @@ module _ (net : NetRows) (states : List Progress) (cursors path done : List ℕ)
   state_below : t < length states
   state_below = omega (arith, last_in_range, search.states_size)
 
-  -- what was seen stays so, and as many weren't seen
+  -- what was seen stays so
   pub finish_sees_more : OnlySeesMore states (slice_set states t Done)
   finish_sees_more = seen_after states t Done state_below refl
 
+  -- as many tasks weren't seen as before, since this one was
   pub finish_as_many : count_by is_unseen (slice_set states t Done) ≡ count_by is_unseen states
   finish_as_many = count_by-set_same is_unseen states t Done Unseen state_below (ap is_unseen last_open) refl
 
@@ -348,17 +349,19 @@ IsSearch-same net states states' cursors cursors' path path' done done' s c p d 
     (subst (λ (xs : List ℕ). IsSearch net states' cursors' xs done) (sym p)
     (subst (λ (xs : List ℕ). IsSearch net states' cursors' path' xs) (sym d) search)))
 
--- where no task was seen yet
+-- of states that are all unseen each read gives that
 unseen_everywhere : (n t : ℕ) → progress_of (replicate n Unseen) t ≡ Unseen
 unseen_everywhere n t = elim (order t n) [
   | inl below ↦ get_or-replicate n t Unseen Unseen below
   | inr past ↦ get_or_past (replicate n Unseen) t Unseen (omega (arith, past, length-replicate n Unseen))
 ]
 
+-- and each of them counts
 all_unseen : (n : ℕ) → count_by is_unseen (replicate n Unseen) ≡ n
 all_unseen zero = refl
 all_unseen (suc n) = sum_by-cons (λ (p : Progress). cond (is_unseen p) 1 0) Unseen (replicate n Unseen) ∙ omega (arith, all_unseen n)
 
+-- what a search keeps holds where no task was seen and nothing is on the path
 nothing_seen : (net : NetRows) (n : ℕ) → n ≡ length net.tasks → IsNet net → IsSearch net (replicate n Unseen) (replicate n 0) [] []
 nothing_seen net n size well_formed = record {
   well_formed = well_formed;
