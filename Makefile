@@ -35,10 +35,10 @@ test:
 	@bash tools/check_docs.sh
 	@bash tools/check_program.sh
 
-# What each step of the gate takes, into bench/RESULTS.md. What an earlier run on this machine has passed isn't measured.
+# What each step of the gate takes, into docs/TESTING.md. What an earlier run on this machine has passed isn't measured.
 gate-times:
 	python3 -B tools/gate_times.py rt ci
-	python3 -B tools/gate_times.py --table --write bench/RESULTS.md
+	python3 -B tools/gate_times.py --table --write docs/TESTING.md
 
 # Random graphs, journals and failing allocations on the built program, five minutes of each of five tools; no part of
 # the gate. `make fuzz SEED=N` makes the cases of an earlier call again.
