@@ -7,8 +7,8 @@ At no edge that was signalled may a start find nothing, and each end that signal
 of the ends that signalled an edge as many aren't found as tokens were dropped or left there. By one worker, where no
 token was dropped, they are found in the order of the journal. Besides random graphs three are run N times (`--runs`)
 by each number of workers: the three branches of a `route` that come together again, a loop that two texts go round,
-and four reads before a loop before a join. In one more graph, run once by each number of workers, a loop signals one
-edge 50,000 times (`--queue`), whose target starts whenever a worker gets to it. Prints a line for each difference, how
+and four reads before a loop before a join. In two more graphs, run once by each number of workers, a loop signals one
+edge 50,000 times (`--queue`), whose target starts whenever a worker gets to it, or has to wait for a second loop. Prints a line for each difference, how
 many inputs were found, and how many values waited at one edge at most, and ends with status 1 where there was a
 difference.
 """
@@ -66,6 +66,26 @@ QUEUE = [
     task("again", "back", ["more"]),
     task("taken", "pass"),
 ]
+# A first loop signals the edge from `tick` to `pair` once for each line, and `pair` waits. A second loop then signals it
+# as often again, and each time the other edge into `pair`, so that a value is put there and one taken.
+POOL = [
+    task("read", "read", ["more"], text="long.txt"),
+    task("more", "ifmore", ["round", "second"], n=0),
+    task("round", "pass", ["trim", "tick"]),
+    task("trim", "skip", ["again"], n=1),
+    task("again", "back", ["more"]),
+    task("tick", "head", ["pair"], n=1),
+    task("second", "read", ["more-2"], text="long.txt"),
+    task("more-2", "ifmore", ["round-2", "end"], n=0),
+    task("round-2", "pass", ["trim-2", "tick-again", "tock"]),
+    task("trim-2", "skip", ["again-2"], n=1),
+    task("again-2", "back", ["more-2"]),
+    task("tick-again", "back", ["tick"]),
+    task("tock", "head", ["pair"], n=1),
+    task("pair", "pass"),
+    task("end", "pass"),
+]
+QUEUES = {"queue": QUEUE, "pool": POOL}
 
 
 # ---- graphs and journals
@@ -171,13 +191,14 @@ def main():
     counts, faults, graphs = collections.Counter(), 0, 0
     for name, tasks in FIXED.items():
         faults += run_graph(asked.program, {"tasks": tasks}, {"one.txt": LOG, "two.txt": LOG[:200]}, name, 100_000, asked.runs, counts)
-    faults += run_graph(asked.program, {"tasks": QUEUE}, {"long.txt": "x\n" * asked.queue}, "queue", 1_000_000, 1, counts)
+    for name, tasks in QUEUES.items():
+        faults += run_graph(asked.program, {"tasks": tasks}, {"long.txt": "x\n" * asked.queue}, name, 1_000_000, 1, counts)
     for number, dice in cases(asked, lambda: faults > 0):
         graph = branching_graph(dice)
         texts = {"one.txt": random_text(dice), "two.txt": random_text(dice)}
         faults += run_graph(asked.program, graph, texts, f"graph {number} of seed {asked.seed}", dice.choice(LIMITS), 1, counts)
         graphs += 1
-    print(f"{len(FIXED)} graphs {asked.runs} times, a long queue and {graphs} random graphs by each of {WORKERS} workers: {counts['runs']} runs found {counts['inputs']} inputs, {counts['nothing']} of them nothing, at most {counts['most']} values at one edge; {faults} faults")
+    print(f"{len(FIXED)} graphs {asked.runs} times, two long queues and {graphs} random graphs by each of {WORKERS} workers: {counts['runs']} runs found {counts['inputs']} inputs, {counts['nothing']} of them nothing, at most {counts['most']} values at one edge; {faults} faults")
     sys.exit(1 if faults else 0)
 
 

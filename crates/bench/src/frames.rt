@@ -33,10 +33,10 @@ const CREWS: [usize; 5] = [0, 1, 2, 4, 16];
 
 /// Prints the nanoseconds a start of each job, by each who may run it.
 pub fn measure<R: Threads + Wait + Clock + Print + Sync>(rt: &R, alloc: Global) -> io::Result<()> {
-    for (kind, additions, name) in WORKS {
-        let net = net_of(alloc, kind, TASKS, TASKS - 1)?;
-        for workers in CREWS {
-            let nanos = nanos_a_start(rt, alloc, &net, additions, workers)?;
+    for (kind, additions, name) in &WORKS {
+        let net = net_of(alloc, *kind, TASKS, TASKS - 1)?;
+        for workers in &CREWS {
+            let nanos = nanos_a_start(rt, alloc, &net, *additions, *workers)?;
             println!(rt; "{name}, {workers} workers: {nanos} ns a start")?;
         }
     }

@@ -28,8 +28,8 @@ const STARTS: u32 = 1_500_000;
 
 /// Prints how long runs and the judge take.
 pub fn measure(rt: &HostRuntime) -> io::Result<()> {
-    for (kind, tasks, edges, name) in NETS {
-        let net = net_of(rt.alloc(), kind, tasks, edges)?;
+    for (kind, tasks, edges, name) in &NETS {
+        let net = net_of(rt.alloc(), *kind, *tasks, *edges)?;
         let mut machine = machine_on(rt, &net)?;
         let begun = Instant::now(rt)?;
         run_in_order(&mut machine, &net).map_err(|_| AllocError)?;

@@ -19,9 +19,9 @@ const KINDS: [(Kind, &str); 4] = [
 
 /// Prints how long the building and the check of each kind of net take.
 pub fn measure(rt: &HostRuntime) -> io::Result<()> {
-    for (kind, name) in KINDS {
+    for (kind, name) in &KINDS {
         let start = Instant::now(rt)?;
-        let net = net_of(rt.alloc(), kind, 1_000_000, 8_000_000)?;
+        let net = net_of(rt.alloc(), *kind, 1_000_000, 8_000_000)?;
         let built = micros_since(rt, start)?;
         let start = Instant::now(rt)?;
         let count = count_findings(rt.alloc(), &net)?;

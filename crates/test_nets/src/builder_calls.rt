@@ -3,7 +3,8 @@ ghost use Rattle.std.specs.Prelude.{◌<◌, length, IsTrue};
 ghost use Rattle.task_graph.specs.Chosen.{AnswersSoMany, IsAnswerFor};
 
 use crate::nets::{CHOICE, MANY, NetCase, PLAIN, built};
-use outside_io::List;
+use outside_io::{List, NoMemory};
+use std::alloc::Global;
 use std::process::Abort;
 use std::test::Fail;
 use task_graph::{BuildError, MAX_SEMAPHORES, Net, NetBuilder, Shape};
@@ -40,37 +41,61 @@ fn edges_are_added_or_refused(rt: HostRuntime) -> Result<(), Fail> {
     let mut builder = NetBuilder::new(rt.alloc());
     builder.task(Shape::Plain, List::new(rt.alloc()), List::new(rt.alloc()))?;
     builder.task(Shape::Choice, List::new(rt.alloc()), List::new(rt.alloc()))?;
-    for (from, to, token, expected) in EDGES {
-        assert!(rt;
-            builder.edge(from, to, token) == expected,
-            "edge from {from} to {to}"
-        );
+    for (from, to, token, expected) in &EDGES {
+        assert!(rt; builder.edge(*from, *to, *token) == *expected);
     }
     assert_eq!(rt; builder.finish().edges().len(), 3);
     Ok(())
 }
 
 // The semaphores that a task takes and puts, and what the builder answers.
-const HOLDERS: [(&[u32], &[u32], Result<u32, BuildError>); 5] = [
-    (
-        &[7, 300, 7, 299],
-        &[256],
-        Err(BuildError::NoSuchSemaphore(300)),
-    ),
-    (&[7, 7], &[256], Err(BuildError::NoSuchSemaphore(256))),
-    (&[9, 7, 7, 9], &[3, 3], Err(BuildError::Repeated(7))),
-    (&[9, 7], &[3, 3], Err(BuildError::Repeated(3))),
-    (&[9, 255, 0], &[0], Ok(0)),
+struct Holder {
+    takes: &'static [u32],
+    puts: &'static [u32],
+    answer: Result<u32, BuildError>,
+}
+
+const HOLDERS: [Holder; 5] = [
+    Holder {
+        takes: &[7, 300, 7, 299],
+        puts: &[256],
+        answer: Err(BuildError::NoSuchSemaphore(300)),
+    },
+    Holder {
+        takes: &[7, 7],
+        puts: &[256],
+        answer: Err(BuildError::NoSuchSemaphore(256)),
+    },
+    Holder {
+        takes: &[9, 7, 7, 9],
+        puts: &[3, 3],
+        answer: Err(BuildError::Repeated(7)),
+    },
+    Holder {
+        takes: &[9, 7],
+        puts: &[3, 3],
+        answer: Err(BuildError::Repeated(3)),
+    },
+    Holder {
+        takes: &[9, 255, 0],
+        puts: &[0],
+        answer: Ok(0),
+    },
 ];
+
+// Whether the builder gives a task with these semaphores its answer.
+fn is_answered(alloc: Global, builder: &mut NetBuilder, holder: &Holder) -> Result<bool, NoMemory> {
+    let takes = List::from_slice(alloc, holder.takes)?;
+    let puts = List::from_slice(alloc, holder.puts)?;
+    Ok(builder.task(Shape::Plain, takes, puts) == holder.answer)
+}
 
 #[test]
 fn semaphores_are_kept_in_order_or_refused(rt: HostRuntime) -> Result<(), Fail> {
     let mut builder = NetBuilder::new(rt.alloc());
     add_semaphores(&rt, &mut builder);
-    for (takes, puts, expected) in HOLDERS {
-        let takes = List::from_slice(rt.alloc(), takes)?;
-        let puts = List::from_slice(rt.alloc(), puts)?;
-        assert_eq!(rt; builder.task(Shape::Plain, takes, puts), expected);
+    for holder in &HOLDERS {
+        assert!(rt; is_answered(rt.alloc(), &mut builder, holder)?);
     }
     let net = builder.finish();
     assert!(rt; matches!(net.tasks(), [row] if row.takes.as_slice() == [0, 9, 255].as_slice()));
@@ -123,11 +148,11 @@ const CHOSEN: [(NetCase<'static>, u32, &[i64], &[u32]); 6] = [
 
 #[test]
 fn each_index_in_range_chooses_an_edge_once(rt: HostRuntime) -> Result<(), Fail> {
-    for (rows, task, indices, edges) in CHOSEN {
-        let net = built(rt.alloc(), rows)?;
-        assert!(rt; may_answer(&net, task, indices.len()));
-        let chosen = net.chosen(rt.alloc(), task, indices)?;
-        assert_eq!(rt; chosen.as_slice(), edges);
+    for (rows, task, indices, edges) in &CHOSEN {
+        let net = built(rt.alloc(), *rows)?;
+        assert!(rt; may_answer(&net, *task, indices.len()));
+        let chosen = net.chosen(rt.alloc(), *task, *indices)?;
+        assert!(rt; chosen.as_slice() == *edges);
     }
     Ok(())
 }

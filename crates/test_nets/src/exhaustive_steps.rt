@@ -139,8 +139,12 @@ type Tally = [u64; 13];
 #[test]
 fn machine_and_judge_say_what_plain_rules_say(rt: HostRuntime) -> Result<(), Fail> {
     let mut tally = [0; 13];
-    for (shape, units, links) in NETS {
-        walk(&rt, rt.alloc(), &mut tally, Task { shape, units }, links)?;
+    for (shape, units, links) in &NETS {
+        let task = Task {
+            shape: *shape,
+            units: *units,
+        };
+        walk(&rt, rt.alloc(), &mut tally, task, *links)?;
     }
     for (kind, count) in tally.iter().enumerate() {
         assert!(rt; *count > 0, "no run of kind {kind}");

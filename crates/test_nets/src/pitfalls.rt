@@ -143,14 +143,14 @@ const BY_HAND: [(&[Task], &[(u32, u32)], &[Finding]); 3] = [
 
 #[test]
 fn nets_have_the_findings_worked_out(rt: HostRuntime) -> Result<(), Fail> {
-    for (tasks, edges, wanted) in BY_HAND {
+    for (tasks, edges, wanted) in &BY_HAND {
         let rows = NetCase {
-            tasks,
-            edges,
+            tasks: *tasks,
+            edges: *edges,
             rings: &[],
         };
         let found = findings_of(rt.alloc(), &*built(rt.alloc(), rows)?)?;
-        assert_eq!(rt; found.as_slice(), wanted);
+        assert!(rt; found.as_slice() == *wanted);
     }
     Ok(())
 }

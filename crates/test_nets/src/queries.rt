@@ -63,8 +63,8 @@ const AFTER_ROUND: [Ready; 2] = [
 fn go_round(machine: &mut Machine)
     ensures { machine.new.net ≡ machine.old.net }
 {
-    for step in ROUND {
-        let _ = ask(machine, step);
+    for step in &ROUND {
+        let _ = ask(machine, *step);
     }
 }
 
@@ -97,8 +97,8 @@ fn tokens_are_kept_for_a_task_that_waits(rt: HostRuntime) -> Result<(), Fail> {
 #[test]
 fn a_journal_is_judged_by_its_limit(rt: HostRuntime) -> Result<(), Fail> {
     let net = built(rt.alloc(), LOOP)?;
-    for (limit, verdict) in VERDICTS {
-        assert_eq!(rt; judged(rt.alloc(), &net, limit, &ROUND)?, verdict);
+    for (limit, verdict) in &VERDICTS {
+        assert!(rt; judged(rt.alloc(), &net, *limit, &ROUND)? == *verdict);
     }
     Ok(())
 }

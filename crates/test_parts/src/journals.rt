@@ -53,19 +53,21 @@ fn add_ends(alloc: Global, journal: &mut Journal) -> Result<(), NoMemory> {
 }
 
 fn add_faults(journal: &mut Journal) -> Result<(), NoMemory> {
-    for why in WHY {
-        journal.push(Entry::Fault { start: 3, why })?;
+    for why in &WHY {
+        journal.push(Entry::Fault {
+            start: 3,
+            why: *why,
+        })?;
     }
     Ok(())
 }
 
 fn add_drops(journal: &mut Journal) -> Result<(), NoMemory> {
-    for why in DROPPED {
-        let cause = Cause::Strong;
+    for why in &DROPPED {
         journal.push(Entry::Drop {
             task: 5,
-            cause,
-            why,
+            cause: Cause::Strong,
+            why: *why,
         })?;
     }
     Ok(())

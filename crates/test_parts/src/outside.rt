@@ -162,8 +162,8 @@ const PUTS: [(&[u8], Result<(), SinkFault>, &[u8]); 5] = [
 fn takes_and_fails_at_its_calls(rt: HostRuntime) -> Result<(), Fail> {
     let alloc = rt.alloc();
     let mut sink = MemorySink::new(alloc, List::from_slice(alloc, &FAILING)?);
-    for (piece, expected, bytes) in PUTS {
-        assert!(rt; (sink.put(piece) == expected) & (sink.bytes() == bytes));
+    for (piece, expected, bytes) in &PUTS {
+        assert!(rt; (sink.put(*piece) == *expected) & (sink.bytes() == *bytes));
     }
     Ok(())
 }
