@@ -10,9 +10,10 @@ use Rattle.journal_rules.specs.declared.entry.Part.{Part}
 use Rattle.journal_rules.specs.declared.entry.Part.TheVariants.{From, First, Nothing}
 use Rattle.journal_rules.specs.Counts.{gives_edge}
 use Rattle.table_steps.specs.declared.view.Note.{Note}
-use Rattle.table_steps.specs.declared.view.Note.TheVariants.{Queued}
+use Rattle.table_steps.specs.declared.view.Note.TheVariants.{Queued, Lies}
+use Rattle.table_steps.specs.declared.view.Lot.TheVariants.{Putting}
 use Rattle.table_steps.specs.inside.Parcels.{part_times, DataPart}
-use Rattle.table_steps.specs.inside.SlotKinds.{oldest, later, MayTakeBack, IsOldest}
+use Rattle.table_steps.specs.inside.SlotKinds.{oldest, later, MayPutBack, MayTakeBack, IsOldest}
 use Rattle.table_steps.specs.Giving.{one_if}
 
 abbrev place : Part → ℕ
@@ -44,6 +45,13 @@ module _ (notes : List Note) where
 
   left_as_it_was : MayTakeBack (λ (qs : List Part). qs) 0 (Queued 0 lie ∷ notes, (0, lie) ∷ []) → ⊥
   left_as_it_was may = omega (arith, ap length may.laid.1)
+
+-- A seat that has put a parcel gives the slot back with it behind those that lay there, and not before them.
+abbrev puts : List Note
+puts = Queued 0 (From 3 ∷ []) ∷ Lies Putting 0 (From 7) ∷ []
+
+put_before_the_other : MayPutBack (λ (qs : List Part). qs) 0 (puts, (0, From 7 ∷ From 3 ∷ []) ∷ []) → ⊥
+put_before_the_other may = omega (arith, ap (λ (qs : List Part). place (oldest qs)) may.laid.1)
 
 -- Of a list of parcels the first is taken, and the others stay.
 abbrev tokens : List (Given ℕ)
