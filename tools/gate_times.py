@@ -24,6 +24,8 @@ TICKS = os.sysconf("SC_CLK_TCK")
 OPENING, CLOSING = "<!-- gate times -->\n", "<!-- end of gate times -->\n"
 # What a step's key is called in the table; `edit` is followed by the edit's name.
 PROOF, TESTS, SEED, EDIT = "proof", "tests", "seed", "edit "
+# A crate that takes fewer minutes of processor time has no row of its own.
+SMALL = 2
 
 
 @dataclasses.dataclass
@@ -156,7 +158,7 @@ def latest(record):
 
 
 def cell(steps, step):
-    return "{:.1f} / {:.1f}".format(*steps[step]) if step in steps else ""
+    return "{:.1f}/{:.1f}".format(*steps[step]) if step in steps else ""
 
 
 def machine():
@@ -168,17 +170,22 @@ def machine():
 
 
 def table(crates):
-    """The table's lines, the crate that takes most first."""
+    """The table's lines, the crate that takes most first, and those that take least together."""
     lines = [f"Measured on {machine()}.", "", "| Crate | Its proof | Its tests | What its edits begin with | Its edits, each | Sum of processor time |", "|---|---|---|---|---|---|"]
     total = lambda steps: sum(processor for processor, _ in steps.values())
     sums = dict.fromkeys(("proof", "tests", "edits"), 0.0)
+    small = []
     for crate, steps in sorted(crates.items(), key=lambda it: -total(it[1])):
         names = {name for name, _ in edits_of(crate)}
         steps = {step: it for step, it in steps.items() if not step.startswith(EDIT) or step.removeprefix(EDIT) in names}
         edits = ", ".join(f"{steps[EDIT + name][0]:.1f}" for name in sorted(names) if EDIT + name in steps)
-        lines.append(f"| `{crate}` | {cell(steps, PROOF)} | {cell(steps, TESTS)} | {cell(steps, SEED)} | {edits} | {total(steps):.1f} |")
+        if total(steps) < SMALL:
+            small.append(total(steps))
+        else:
+            lines.append(f"| `{crate}` | {cell(steps, PROOF)} | {cell(steps, TESTS)} | {cell(steps, SEED)} | {edits} | {total(steps):.1f} |")
         for step, (processor, _) in steps.items():
             sums[step if step in sums else "edits"] += processor
+    lines.append(f"| {len(small)} others | | | | | {sum(small):.1f} |")
     lines.append(f"| all | {sums['proof']:.0f} | {sums['tests']:.0f} | | {sums['edits']:.0f} with what they begin with | {sum(sums.values()):.0f} |")
     return "".join(f"{line}\n" for line in lines)
 

@@ -71,7 +71,7 @@ pub(crate) const FAN: JobCase = JobCase {
 };
 
 /// How many cases there are.
-pub(crate) const COUNT: usize = 30;
+pub(crate) const COUNT: usize = 31;
 
 // A limit that no run here comes to.
 const LIMIT: u64 = 10_000;
@@ -139,6 +139,12 @@ const CASES: [Row; COUNT] = [
     (
         "a first token that is used, and one that waits",
         ("ppp", "ab bc", "bb"),
+        FREE,
+        (3, 3),
+    ),
+    (
+        "a first token with a value behind it",
+        ("ppp", "cb", "ab"),
         FREE,
         (3, 3),
     ),

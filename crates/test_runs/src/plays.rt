@@ -3,7 +3,7 @@ ghost use Rattle.std.specs.Prelude.{◌≤◌, All};
 ghost use Rattle.test_runs.specs.Stages.{IsStage};
 
 use crate::board::Board;
-use crate::data_rule::meets_data_rule;
+use crate::data_rule::{finds_something, meets_data_rule};
 use crate::nets::NetCase;
 use crate::states::Stage;
 use crate::steps::Terms;
@@ -93,6 +93,7 @@ pub(crate) fn play<R: Threads + Wait + Abort + Sync>(
         "{}",
         case.name
     );
+    assert!(rt; finds_something(journal.as_slice()), "{}", case.name);
     check_values(rt, case, &journal, values.as_slice());
     check_outcome(rt, case, &journal);
     Ok(())
