@@ -7,8 +7,9 @@
 The program is loaded over a `malloc` that counts the calls for memory and refuses one of them: the first, then the
 second, and so on; with `--all-later` that one and each after it. Which call is the Nth differs between runs by several
 workers, so the runs end only after so many (`--past`) that came to no Nth call. A run has to end within ten seconds
-with what it prints with ample memory, or with code 13 and the line of it, or without that line where each later
-allocation fails, and a prefix of the output. Without an example it takes five. With `--seconds` it takes random graphs
+with what it prints with ample memory, or with the same code and output and no line on standard error, for which there
+was no memory, or with code 13 and the line of it, or without that line where each later allocation fails, and a prefix
+of the output. Without an example it takes five. With `--seconds` it takes random graphs
 in their place, those with conditions by one worker and others by 1, 4 or 16, until so many seconds have passed or a run
 ended in another way. It needs a C compiler and prints for each example how many runs ended in which way, of random
 graphs for all together, and ends with status 1 where one ended in another.
@@ -113,6 +114,8 @@ def kind_of(ended, ample, all_later):
     code, out, notes = ended
     if ended == ample:
         return "the same answer"
+    if (code, out, notes) == (ample[0], ample[1], b""):
+        return "the same answer without its line"
     noted = notes == NO_MEMORY[1] or all_later and NO_MEMORY[1].startswith(notes)
     if code == NO_MEMORY[0] and noted and ample[1].startswith(out):
         return "out of memory"
