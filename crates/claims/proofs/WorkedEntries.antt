@@ -194,13 +194,13 @@ module _ (n : TableId) where
   batch_with_other_room : ¬ (batch_state (Some n) (dropped ∷ []) 4 ≡ batch_state (Some n) (dropped ∷ []) 3)
   batch_with_other_room is = absurd (omega (arith, ap (λ (b : BatchState ℕ). b.room) is))
 
-value_for_two_edges : shared_state {V = ℕ} 7 2 ≡ record { value = 7; edges = 2 }
+value_for_two_edges : shared_state {V = ℕ} 7 2 true ≡ record { value = 7; edges = 2; bare = true }
 value_for_two_edges = refl
 
-value_for_one_edge : ¬ (shared_state {V = ℕ} 7 2 ≡ shared_state {V = ℕ} 7 1)
+value_for_one_edge : ¬ (shared_state {V = ℕ} 7 2 true ≡ shared_state {V = ℕ} 7 1 true)
 value_for_one_edge is = absurd (omega (arith, ap (λ (s : SharedState ℕ). s.edges) is))
 
-another_value_shared : ¬ (shared_state {V = ℕ} 7 2 ≡ shared_state {V = ℕ} 8 2)
+another_value_shared : ¬ (shared_state {V = ℕ} 7 2 true ≡ shared_state {V = ℕ} 8 2 true)
 another_value_shared is = absurd (omega (arith, ap (λ (s : SharedState ℕ). s.value) is))
 
 -- what was found: the value 7 of the End at place 3, and the token with which an edge began

@@ -1,28 +1,53 @@
 -- Owners of one value, one more and one fewer.
-use Rattle.std.proofs.Common.{◌≡◌, ℕ, ◌+◌, List, [], ◌∷◌, ◌++◌, length, drop, take, subst, sym, refl, arith}
+use Rattle.std.proofs.Common.{◌≡◌, ℕ, ◌+◌, ◌<◌, List, [], ◌∷◌, ◌++◌, length, drop, take, subst, sym, refl, ap, arith}
 use Rattle.std.proofs.lemmas.List.{length_push}
+use Rattle.std.specs.Arc.{Arc, arc_value}
+use Rattle.std.specs.Vec.{Vec}
 use Rattle.join_words.specs.declared.ins.Given.{Given}
 use Rattle.join_words.specs.declared.ins.Given.TheVariants.{Value, First, Nothing}
-use Rattle.table_steps.specs.declared.view.EndValue.{EndValue}
-use Rattle.table_steps.specs.Values.{ended_with, Knows}
-use Rattle.join_tables.specs.inside.Sharing.{IsShareOf, AreSharesOf, AddsShare, KnowsShare}
+use Rattle.table_steps.specs.Values.{ended_with}
+use Rattle.join_tables.specs.declared.shares.Shares.{Shares}
+use Rattle.join_tables.specs.declared.shares.Shares.TheVariants.{Bare, Linked}
+use Rattle.join_tables.specs.inside.Sharing.{IsShareOf, AreParcelsOf, AreOwnersOf, AreSharesOf, AddsShare, IsOneFewer, IsParcelOf, placed}
 
 module _ {V : Type 0} (value : V) where
-  one_more : (xs : List (Given V)) (x : Given V) → IsShareOf value x → AreSharesOf value xs → AreSharesOf value (xs ++ x ∷ [])
+  one_more : (xs : List (Given V)) (x : Given V) → IsShareOf value x → AreParcelsOf value xs → AreParcelsOf value (xs ++ x ∷ [])
   one_more [] x is are = (is, tt)
   one_more (y ∷ xs) x is are = (are.0, one_more xs x is are.1)
 
   pub adds_share : (xs : List (Given V)) (x : Given V) → IsShareOf value x → AddsShare value xs (xs ++ x ∷ [])
   adds_share xs x is = record { shares = one_more xs x is; count = length_push xs x }
 
-  -- the first one is taken off, and who knows its value knows that of its parcel
-  pub record TakesShare (xs : List (Given V)) (n place : ℕ) (known : List (EndValue V)) : Type 0 where
-    pub others : AreSharesOf value (drop 1 xs)
-    pub count : length (drop 1 xs) ≡ n
-    pub share : KnowsShare place (take 1 xs) known
+  pub one_more_owner : (xs : List (Arc V)) (x : Arc V) → arc_value x ≡ value → AreOwnersOf value xs → AreOwnersOf value (xs ++ x ∷ [])
+  one_more_owner [] x is are = (is, tt)
+  one_more_owner (y ∷ xs) x is are = (are.0, one_more_owner xs x is are.1)
 
-  pub takes_share : (xs : List (Given V)) (n place : ℕ) (known : List (EndValue V)) → AreSharesOf value xs → length xs ≡ n + 1 → Knows known (ended_with place value) → TakesShare xs n place known
-  takes_share [] n place known are count knows = absurd (omega (arith, count))
-  takes_share (Value p s ∷ xs) n place known are count knows = record { others = are.1; count = omega (arith, count); share = record { part = refl; knows = subst (λ v. Knows known (ended_with place v)) (sym are.0) knows } }
-  takes_share (First ∷ xs) n place known are count knows = absurd are.0
-  takes_share (Nothing ∷ xs) n place known are count knows = absurd are.0
+  fewer_owners : (xs : List (Arc V)) (x : Arc V) → AreOwnersOf value (xs ++ x ∷ []) → AreOwnersOf value xs × (arc_value x ≡ value)
+  fewer_owners [] x are = (tt, are.0)
+  fewer_owners (y ∷ xs) x are = let more = fewer_owners xs x are.1 in ((are.0, more.0), more.1)
+
+  fewer_parcels : (xs : List (Given V)) → AreParcelsOf value xs → AreParcelsOf value (drop 1 xs)
+  fewer_parcels [] are = tt
+  fewer_parcels (x ∷ xs) are = are.1
+
+  -- the last owner, in a bare parcel
+  pub parcel_of_owner : (n : ℕ) (xs ys : List (Arc V)) (x : Arc V) → xs ≡ ys ++ x ∷ [] → AreOwnersOf value xs → IsParcelOf value n (Value n x ∷ [])
+  parcel_of_owner n xs ys x is are = record { part = refl; has = ap (ended_with n) (fewer_owners ys x (subst (AreOwnersOf value) is are)).1 }
+
+  -- and the first parcel
+  pub first_parcel : (n : ℕ) (xs : List (Given V)) → 0 < length xs → AreParcelsOf value xs → IsParcelOf value n (placed n (take 1 xs))
+  first_parcel n [] some are = absurd (omega (arith, some))
+  first_parcel n (Value p s ∷ xs) some are = record { part = refl; has = ap (ended_with n) are.0 }
+  first_parcel n (First ∷ xs) some are = absurd are.0
+  first_parcel n (Nothing ∷ xs) some are = absurd are.0
+
+pub one_owner_fewer : {V : Type 0} (before after : Vec (Arc V)) (x : Arc V) → before.items ≡ after.items ++ x ∷ [] → IsOneFewer (Bare before) (Bare after)
+one_owner_fewer before after x is = record {
+  count = omega (arith, length_push after.items x, ap length is);
+  bare = refl;
+  shares = λ value are. (fewer_owners value after.items x (subst (AreOwnersOf value) is are)).0;
+}
+
+pub one_parcel_fewer : {V : Type 0} (before : List (Given V)) → 0 < length before → IsOneFewer (Linked before) (Linked (drop 1 before))
+one_parcel_fewer [] some = absurd (omega (arith, some))
+one_parcel_fewer (x ∷ xs) some = record { count = omega arith; bare = refl; shares = λ value are. fewer_parcels value (x ∷ xs) are }

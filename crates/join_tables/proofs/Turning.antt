@@ -112,10 +112,10 @@ drop_none (x ∷ xs) (suc n) h = drop_none xs n h
 pub gives_none : {V : Type 0} (net : NetRows) (o : OwingState V) (left : List ℕ) (spent : SpentState V) → left ≡ [] → spent ≡ spent_state o.table (Ended o.ended) → GivesNext net o left (Finished spent)
 gives_none net o left spent none is = subst (λ es. GivesNext net o es (Finished spent)) (sym none) is
 
-pub gives_on : {V : Type 0} (net : NetRows) (o : OwingState V) (e : ℕ) (left rest : List ℕ) (p : OwingState V) → left ≡ e ∷ rest → p ≡ owing_state o.table o.ended rest [] p.found → GivesToken (is_weak net e) false o.found p.found → GivesNext net o left (Next p)
+pub gives_on : {V : Type 0} (net : NetRows) (o : OwingState V) (e : ℕ) (left rest : List ℕ) (p : OwingState V) → left ≡ e ∷ rest → p ≡ owing_state o.table o.ended rest [] p.found o.bare → GivesToken (is_weak net e) false o.found p.found → GivesNext net o left (Next p)
 gives_on net o e left rest p some is found = subst (λ es. GivesNext net o es (Next p)) (sym some) (is, found)
 
-pub gives_more : {V : Type 0} (net : NetRows) (o : OwingState V) (e : ℕ) (left rest : List ℕ) (p : OwingState V) (fresh : FreshState) → left ≡ e ∷ rest → p ≡ owing_state o.table o.ended rest [] p.found → fresh ≡ fresh_state o.table (target net e) (release_cause net e) → GivesToken (is_weak net e) true o.found p.found → GivesNext net o left (Released p fresh)
+pub gives_more : {V : Type 0} (net : NetRows) (o : OwingState V) (e : ℕ) (left rest : List ℕ) (p : OwingState V) (fresh : FreshState) → left ≡ e ∷ rest → p ≡ owing_state o.table o.ended rest [] p.found o.bare → fresh ≡ fresh_state o.table (target net e) (release_cause net e) → GivesToken (is_weak net e) true o.found p.found → GivesNext net o left (Released p fresh)
 gives_more net o e left rest p fresh some is made found = subst (λ es. GivesNext net o es (Released p fresh)) (sym some) (is, made, found)
 
 -- what giving a token found: at a weak edge, and at a strong one that was counted, or wasn't

@@ -1,6 +1,6 @@
 -- The states of a table and of its turns. Each turn but a release that is not set again, and one that owes nothing, has the
 -- numbers that its steps found, the newest first.
-use Rattle.std.specs.Prelude.{ℕ, List, [], Option, None}
+use Rattle.std.specs.Prelude.{ℕ, Bool, List, [], Option, None}
 use Rattle.task_graph.specs.NetRows.{NetRows}
 use Rattle.atomic_table.specs.Seated.{TableId}
 use Rattle.journal_rules.specs.declared.entry.Cause.{Cause}
@@ -66,13 +66,15 @@ pub record RunningState (V : Type 0) : Type 0 where
   pub units : StartUnits
   pub found : List ℕ
 
--- a run that ended, the edges that it has still to give, and the semaphores of the units that it has to give back
+-- a run that ended, the edges that it has still to give, the semaphores of the units that it has to give back, and whether
+-- its value goes into their slots bare
 pub record OwingState (V : Type 0) : Type 0 where
   pub table : TableId
   pub ended : EndedStart V
   pub left : List ℕ
   pub units : List ℕ
   pub found : List ℕ
+  pub bare : Bool
 
 -- one that owes nothing
 pub record SpentState (V : Type 0) : Type 0 where
@@ -97,8 +99,8 @@ admitted_state n t cause held found = record { table = n; task = t; cause = caus
 abbrev pub running_state : {V : Type 0} → TableId → ℕ → Cause → ℕ → Ins V → StartUnits → List ℕ → RunningState V
 running_state n t cause place ins units found = record { table = n; task = t; cause = cause; place = place; ins = ins; units = units; found = found }
 
-abbrev pub owing_state : {V : Type 0} → TableId → EndedStart V → List ℕ → List ℕ → List ℕ → OwingState V
-owing_state n ended left units found = record { table = n; ended = ended; left = left; units = units; found = found }
+abbrev pub owing_state : {V : Type 0} → TableId → EndedStart V → List ℕ → List ℕ → List ℕ → Bool → OwingState V
+owing_state n ended left units found bare = record { table = n; ended = ended; left = left; units = units; found = found; bare = bare }
 
 abbrev pub spent_state : {V : Type 0} → TableId → Fate V → SpentState V
 spent_state n fate = record { table = n; fate = fate }

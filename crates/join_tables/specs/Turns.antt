@@ -55,6 +55,6 @@ release_cause net e = cause_of (is_weak net e) e
 abbrev pub GivesNext : {V : Type 0} → NetRows → OwingState V → List ℕ → Gave V → Type 0
 GivesNext net o [] (Finished spent) = spent ≡ spent_state o.table (Ended o.ended)
 GivesNext net o [] _ = ⊥
-GivesNext net o (e ∷ left) (Next p) = (p ≡ owing_state o.table o.ended left [] p.found) × GivesToken (is_weak net e) false o.found p.found
-GivesNext net o (e ∷ left) (Released p fresh) = (p ≡ owing_state o.table o.ended left [] p.found) × (fresh ≡ fresh_state o.table (target net e) (release_cause net e)) × GivesToken (is_weak net e) true o.found p.found
+GivesNext net o (e ∷ left) (Next p) = (p ≡ owing_state o.table o.ended left [] p.found o.bare) × GivesToken (is_weak net e) false o.found p.found
+GivesNext net o (e ∷ left) (Released p fresh) = (p ≡ owing_state o.table o.ended left [] p.found o.bare) × (fresh ≡ fresh_state o.table (target net e) (release_cause net e)) × GivesToken (is_weak net e) true o.found p.found
 GivesNext net o (e ∷ left) (Finished spent) = ⊥

@@ -9,6 +9,7 @@ ghost use Rattle.journal_rules.specs.declared.entry.Cause.TheVariants.{Strong};
 ghost use Rattle.join_tables.specs.Findings.{CountsEdge, TakesToken, GivesToken};
 ghost use Rattle.table_steps.specs.OneJournal.{AreInOneJournal};
 ghost use Rattle.table_steps.specs.Releases.{MayBeReleased};
+ghost use Rattle.table_steps.specs.ParcelForms.{MayBeBare};
 ghost use Rattle.table_steps.specs.Values.{Knows, ended_with, values_in};
 ghost use Rattle.join_tables.specs.Parts.{parts_in};
 ghost use Rattle.join_tables.specs.States.{fresh_state, collecting_state, running_state};
@@ -21,11 +22,11 @@ ghost use Rattle.join_tables.specs.Claims.{BeginsUnits, HasAllUnits, HasCredited
 ghost use Rattle.table_steps.specs.inside.Kinds.{CountsNext, AreNoneLeft, others_of, kept_back, without_count};
 ghost use Rattle.join_tables.specs.inside.Seated.{OwesFirst, OwesToken, paid, paid_token, HasMade, collecting_view, taken_in, left_in};
 ghost use Rattle.join_tables.specs.inside.Collects.{CollectsOne};
-ghost use Rattle.join_tables.specs.inside.Sharing.{KnowsShare};
+ghost use Rattle.join_tables.specs.inside.Sharing.{IsOneFewer, KnowsShares, count_in, have_no_node};
 
 use crate::fates::Fate;
 use crate::parts::Inputs;
-use crate::shares::{SharedValue, placed, take_share};
+use crate::shares::{SharedValue, Shares};
 use crate::turns::{
     Collected, Collecting, EndedStart, Fresh, Gave, NetTable, Owing, Running, Spent, StartTicket,
     Turn,
@@ -33,7 +34,7 @@ use crate::turns::{
 use journal_rules::Cause;
 use outside_io::{List, NoMemory};
 use std::alloc::Global;
-use table_steps::{Parcels, TableSeat};
+use table_steps::TableSeat;
 
 // What collecting from one edge led to: that no edge was left, or that a token was taken, with the release that this made,
 // if it made one, and whether it was the last edge.
@@ -146,6 +147,7 @@ impl<V: Drop> NetTable<V> {
         requires table { running.table ≡ self.now.table }
         requires fits { MayEndGiving self.now.net running.task gives inner }
         requires shares { value.edges ≡ length gives }
+        requires room { MayBeBare self.now.net value.bare }
         requires credits { HasCredited self.now.net running.task running.units }
         requires claims { HasClaimed self.now.net running.task running.units }
         ensures table { result.table ≡ self.now.table }
@@ -155,6 +157,7 @@ impl<V: Drop> NetTable<V> {
         ensures left { result.left ≡ gives }
         ensures units { result.units ≡ running.units.back }
         ensures found { result.found ≡ running.found }
+        ensures room { MayBeBare self.now.net result.bare }
     {
         let Running {
             mut seat,
@@ -232,6 +235,7 @@ impl<V: Drop> NetTable<V> {
     pub fn give(&self, owing: Owing<V>) -> Gave<V>
         requires table { owing.table ≡ self.now.table }
         requires no_unit { owing.units ≡ [] }
+        requires room { MayBeBare self.now.net owing.bare }
         ensures { GivesNext self.now.net owing owing.left result }
     {
         let Owing {
@@ -244,8 +248,7 @@ impl<V: Drop> NetTable<V> {
             let fate = Fate::Ended(ended);
             return Gave::Finished(Spent { seat, fate });
         };
-        let share = take_share(&mut shares);
-        let made = self.give_edge(&mut seat, edge, ended.place, share);
+        let made = self.give_edge(&mut seat, edge, ended.place, &mut shares);
         let owing = Owing {
             seat,
             ended,
@@ -266,12 +269,15 @@ impl<V: Drop> NetTable<V> {
         seat: &mut TableSeat<V>,
         edge: u32,
         place: u64,
-        share: Parcels<V>,
+        shares: &mut Shares<V>,
     ) -> Option<Fresh<V>>
         requires table { seat.old.table_id ≡ self.now.table }
         requires home { seat.old.me.1 ≡ [] }
         requires ready { OwesFirst edge place seat.old.me.0 }
-        requires share { KnowsShare place share seat.old.values }
+        requires some { 0 < count_in shares.old }
+        requires knows { KnowsShares place shares.old seat.old.values }
+        requires room { MayBeBare self.now.net (have_no_node shares.old) }
+        ensures shares { IsOneFewer shares.old shares.new }
         ensures table { seat.new.table_id ≡ seat.old.table_id }
         ensures view { seat.new.me ≡ (paid seat.old.me.0, []) }
         ensures known { Knows seat.new.values seat.old.values }
@@ -283,7 +289,7 @@ impl<V: Drop> NetTable<V> {
             seat.new.found }
     {
         self.words.learn(seat);
-        self.words.deliver(seat, edge, placed(share, place));
+        self.words.deliver(seat, edge, shares.take(place));
         self.give_token(seat, edge)
     }
 

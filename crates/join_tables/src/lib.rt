@@ -15,8 +15,12 @@
 //! # Memory
 //!
 //! Only `new`, `absorb`, `finish` and the calls that make what a turn needs take memory: `room_for` makes room for what the
-//! turn will find (`Inputs`), `SharedValue::new` an owner of its value for each edge that it will give, `SpentBatch::make_room`
+//! turn will find (`Inputs`), `share` an owner of its value for each edge that it will give, `SpentBatch::make_room`
 //! room for its fate, and `Rest::with_room` room for turns that wait. So from `reset` to `gather` no call can be refused.
+//!
+//! An owner comes in a parcel with a node, by which it can lie behind others in a slot. In a net without weak edges and
+//! starting tokens each edge is given one token at most (`IsOnceNet`), so that nothing lies there yet: its owners go into
+//! the slots bare.
 //!
 //! # The kinds of step
 //!
@@ -60,7 +64,7 @@
 //!
 //! # The values
 //!
-//! The value of an End is shared, never copied: `end` takes its owners, each in a parcel that was made before, `give` puts
+//! The value of an End is shared, never copied: `end` takes its owners, which were made before, `give` puts
 //! one of them behind those in the slot of each edge that the End gives, and `collect` takes out the oldest that lies there.
 //! So a start finds at an edge the value of an End that gave it or the token with which the edge began, in the order in
 //! which they were put, or nothing where the slot was held at each of many tries (`Ins`). When it has ended only the

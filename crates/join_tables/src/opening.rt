@@ -11,7 +11,7 @@ ghost use Rattle.table_steps.specs.inside.Kinds.{kept_back};
 use crate::keeper::Keeper;
 use crate::releases::{FirstRelease, first_parcels, first_releases, opening_words};
 use crate::turns::{Fresh, NetTable};
-use journal_rules::Cause;
+use journal_rules::{Cause, is_once_net};
 use outside_io::{List, NoMemory};
 use std::alloc::Global;
 use std::sync::Arc;
@@ -32,6 +32,7 @@ impl<V: Drop> NetTable<V> {
         requires limit { limit ≤ max_limit }
         ensures { IfOk result (OpensTable (arc_value net) limit) }
     {
+        let gives_once = is_once_net(&net);
         let releases = first_releases(alloc, &net)?;
         let words = opening_words(alloc, &net, releases.len() as u64)?;
         let parcels = first_parcels(alloc, &net)?;
@@ -44,7 +45,7 @@ impl<V: Drop> NetTable<V> {
             limit,
             alloc,
         };
-        let table = NetTable { words };
+        let table = NetTable { words, gives_once };
         let fresh = table.deal_all(alloc, &mut seat, &releases)?;
         Ok(Opening {
             table,

@@ -12,7 +12,6 @@ use join_words::Given;
 use journal_rules::Cause;
 use outside_io::NoMemory;
 use std::alloc::Global;
-use std::collections::LinkedList;
 use table_steps::{FIRST_CREDIT, FIRST_UNIT, LIVE, Parcels};
 use task_graph::Net;
 
@@ -164,21 +163,20 @@ pub fn first_parcels<V: Drop>(alloc: Global, net: &Net) -> Result<Vec<Parcels<V>
     let count = net.edges().len();
     let mut parcels = Vec::with_capacity(alloc, count)?;
     for edge in 0..count {
-        let lying = first_parcel(alloc, net, edge as u32)?;
-        parcels.push_reserved(lying);
+        parcels.push_reserved(first_parcel(alloc, net, edge as u32));
     }
     Ok(parcels)
 }
 
 // The parcels in the slot of an edge at first.
-fn first_parcel<V: Drop>(alloc: Global, net: &Net, edge: u32) -> Result<Parcels<V>, NoMemory>
+fn first_parcel<V: Drop>(alloc: Global, net: &Net, edge: u32) -> Parcels<V>
     requires { edge < length net.now.edges }
-    ensures parts { IfOk result (λ parcels. given_parts parcels ≡ first_queue net.now edge) }
-    ensures no_value { IfOk result (λ parcels. values_in parcels ≡ []) }
+    ensures parts { given_parts result ≡ first_queue net.now edge }
+    ensures no_value { values_in result ≡ [] }
 {
-    let mut parcels = LinkedList::new(alloc);
-    if starts_with_token(net, edge) && parcels.push_back(Given::First).is_err() {
-        return Err(NoMemory);
+    if starts_with_token(net, edge) {
+        Parcels::one(alloc, Given::First)
+    } else {
+        Parcels::new(alloc)
     }
-    Ok(parcels)
 }

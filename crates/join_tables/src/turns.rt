@@ -4,29 +4,37 @@ ghost use Rattle.std.specs.Prelude.{◌≡◌};
 
 use crate::fates::Fate;
 use crate::parts::{FoundParts, Inputs};
+use crate::shares::Shares;
 use join_words::Ins;
 use journal_rules::Cause;
 use keyed_lock::Keyed;
 use outside_io::List;
 use std::marker::Model;
 use std::sync::Arc;
-use table_steps::{Parcels, TableSeat, Words};
+use table_steps::{TableSeat, Words};
 
 /// The words of a run's net, which many threads step at once.
 pub struct NetTable<V> {
     pub(crate) words: Words<V>,
+    // Whether each edge is given one token at most, since none is weak and none begins with one.
+    pub(crate) gives_once: bool,
 }
 
 // Written out, so that it is proved here alone and not in each crate above.
 impl<V: Drop> Drop for NetTable<V> {
     fn drop(self) {
-        let NetTable { words } = self;
+        let NetTable {
+            words,
+            gives_once: _,
+        } = self;
         drop(words);
     }
 }
 
 impl<V> Model for NetTable<V> {
+    ghost use Rattle.std.specs.Prelude.{IsTrue};
     ghost use Rattle.std.specs.Arc.{arc_value};
+    ghost use Rattle.journal_rules.specs.OnceNets.{IsOnceNet};
     ghost use Rattle.join_tables.specs.States.{TableState};
 
     ghost Value = { TableState };
@@ -37,6 +45,8 @@ impl<V> Model for NetTable<V> {
       limit
           = t.words.table.shared.key.limit;
     } };
+
+    ghost invariant = { λ t. IsTrue t.gives_once → IsOnceNet (arc_value t.words.net) };
 }
 
 impl<V> Keyed for NetTable<V> {
@@ -217,8 +227,8 @@ pub struct Owing<V> {
     pub(crate) seat: TableSeat<V>,
     pub(crate) ended: EndedStart<V>,
     pub(crate) next: usize,
-    // A parcel with an owner of its value for each edge that it has still to give.
-    pub(crate) shares: Parcels<V>,
+    // An owner of its value for each edge that it has still to give.
+    pub(crate) shares: Shares<V>,
 }
 
 impl<V> Model for Owing<V> {
@@ -228,17 +238,17 @@ impl<V> Model for Owing<V> {
     ghost use Rattle.join_tables.specs.Values.{own_values};
     ghost use Rattle.join_tables.specs.States.{OwingState, owing_state};
     ghost use Rattle.join_tables.specs.inside.Seated.{owing_view, units_of};
-    ghost use Rattle.join_tables.specs.inside.Sharing.{AreSharesOf};
+    ghost use Rattle.join_tables.specs.inside.Sharing.{AreSharesOf, count_in, have_no_node};
 
     ghost Value = { OwingState V };
 
     ghost view = { λ o. owing_state o.seat.table_id o.ended (drop o.next o.ended.gives)
-        (units_of o.seat.me.0) o.seat.found };
+        (units_of o.seat.me.0) o.seat.found (have_no_node o.shares) };
 
     ghost invariant = { λ o. (o.seat.me
         ≡ (owing_view o.ended (drop o.next o.ended.gives) (units_of o.seat.me.0), []))
         × Knows o.seat.values (own_values o.ended)
-        × (length o.shares ≡ length (drop o.next o.ended.gives))
+        × (count_in o.shares ≡ length (drop o.next o.ended.gives))
         × AreSharesOf (arc_value o.ended.value) o.shares };
 }
 

@@ -70,7 +70,7 @@ impl<V: Drop> NetTable<V> {
         requires owed { 1 ≤ times sem owing.units }
         requires in_range { sem < length self.now.net.sems }
         ensures { result ≡ owing_state owing.table owing.ended owing.left (without sem owing.units)
-            owing.found }
+            owing.found owing.bare }
     {
         let Owing {
             mut seat,

@@ -86,6 +86,7 @@ pub record IsPaidOnce {V : Type 0} (o p : OwingState V) : Type 0 where
   pub table : p.table ≡ o.table
   pub units : p.units ≡ []
   pub ended : p.ended ≡ o.ended
+  pub bare : p.bare ≡ o.bare
   pub left : length p.left + 1 ≡ length o.left
 
 pub next_is : {V : Type 0} (net : NetRows) (o p : OwingState V) (what : Gave V) → what ≡ Next p → GivesNext net o o.left what → IsPaidOnce o p
@@ -97,6 +98,7 @@ next_is {V} net o p what is gives = by_left o.left refl (subst (GivesNext net o 
       table = ap (λ (q : OwingState V). q.table) g.0;
       units = ap (λ (q : OwingState V). q.units) g.0;
       ended = ap (λ (q : OwingState V). q.ended) g.0;
+      bare = ap (λ (q : OwingState V). q.bare) g.0;
       left = ap (λ (q : OwingState V). length q.left + 1) g.0 ∙ omega (arith) ∙ ap length same;
     }
 
@@ -110,6 +112,7 @@ released_is {V} net o p fresh what is gives = by_left o.left refl (subst (GivesN
         table = ap (λ (q : OwingState V). q.table) g.0;
         units = ap (λ (q : OwingState V). q.units) g.0;
         ended = ap (λ (q : OwingState V). q.ended) g.0;
+        bare = ap (λ (q : OwingState V). q.bare) g.0;
         left = ap (λ (q : OwingState V). length q.left + 1) g.0 ∙ omega (arith) ∙ ap length same;
       },
       ap (λ (f : FreshState). f.table) g.1,

@@ -9,6 +9,7 @@ ghost use Rattle.join_tables.specs.Findings.{FindsOne};
 ghost use Rattle.join_tables.specs.States.{fresh_state};
 ghost use Rattle.join_tables.specs.Keeping.{IsLast, LeavesOf, TellsRun, entries_told};
 ghost use Rattle.run_frame.specs.FlatNets.{IsFlatNet};
+ghost use Rattle.table_steps.specs.ParcelForms.{MayBeBare};
 ghost use Rattle.run_frame.specs.declared.job.Done.{Done as DoneBy};
 ghost use Rattle.table_frames.specs.Making.{GivesEdges, IsFateOf, Uses, given_by};
 ghost use Rattle.table_frames.specs.inside.Runs.{AreOf, IsBatchOf, IsDone, IsNoBatch, MayWork};
@@ -17,7 +18,7 @@ use super::attempt::{Attempt, Ending, Outcome};
 use super::gives::edges_given;
 use super::kept::KeptRun;
 use join_tables::{
-    Admitted, Collected, Fresh, Gave, NetTable, Opening, Owing, Remaining, Running, SharedValue,
+    Admitted, Collected, Fresh, Gave, NetTable, Opening, Owing, Remaining, Running,
     Spent, SpentBatch, Turn,
 };
 use journal_rules::DropWhy;
@@ -247,7 +248,7 @@ impl<J: Job + Drop> TableRun<J> {
         match done {
             Done::Value(value, answer) => {
                 let gives = edges_given(self.alloc, net, running.task(), &answer)?;
-                let value = SharedValue::new(self.alloc, value, gives.len())?;
+                let value = self.table.share(self.alloc, value, gives.len())?;
                 Ok(Outcome::Ends(Ending {
                     running,
                     gives,
@@ -304,6 +305,7 @@ impl<J: Job + Drop> TableRun<J> {
     fn pay(&self, owing: Owing<J::V>, made: &mut Vec<Fresh<J::V>>) -> Spent<J::V>
         requires table { owing.table ≡ self.now.table }
         requires no_unit { owing.units ≡ [] }
+        requires parcels { MayBeBare (J.meaning.net self.now.job) owing.bare }
         requires made { AreOf self.now.table made.old.items }
         requires room { vec_len made.old + length owing.left ≤ vec_capacity made.old }
         ensures table { result.table ≡ self.now.table }

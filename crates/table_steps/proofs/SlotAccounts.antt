@@ -1,9 +1,10 @@
 -- The account of slots after each step on a slot, at the table.
-use Rattle.std.proofs.Common.{◌≡◌, ℕ, ◌+◌, ◌<◌, Bool, true, false, cond, List, [], ◌∷◌, ◌++◌, length, set, refl, sym, ap, ◌∙◌, arith}
+use Rattle.std.proofs.Common.{◌≡◌, ℕ, ◌+◌, ◌<◌, Bool, true, false, cond, List, [], ◌∷◌, ◌++◌, ◌≤◌, length, set, refl, sym, ap, ◌∙◌, arith}
 use Rattle.std.specs.Prelude.{◌==◌}
 use mathlib.Core.Option.{none, some}
 use lib.ListN.{get_elem?}
 use Rattle.task_graph.specs.NetRows.{NetRows}
+use Rattle.journal_rules.specs.OnceNets.{IsOnceNet}
 use Rattle.journal_rules.specs.declared.entry.Part.{Part}
 use Rattle.journal_rules.specs.declared.entry.Part.TheVariants.{From, Nothing}
 use Rattle.journal_rules.specs.declared.entry.Entry.{Entry}
@@ -11,10 +12,11 @@ use Rattle.table_steps.specs.declared.view.Lot.{Lot}
 use Rattle.table_steps.specs.declared.view.Lot.TheVariants.{Ours, Putting, Put, Awaited, Taking, Fetched}
 use Rattle.table_steps.specs.declared.view.Note.{Note}
 use Rattle.table_steps.specs.declared.view.Note.TheVariants.{Duty, Sems, Has, Unfit, Lies, Queued}
+use Rattle.journal_rules.proofs.OnceGiven.{given_once}
 use Rattle.table_steps.specs.inside.Accounts.{reading, KeepsAccounts}
 use Rattle.table_steps.specs.inside.Parcels.{part_times}
 use Rattle.table_steps.specs.inside.SlotKinds.{oldest, later}
-use Rattle.table_steps.specs.inside.Slots.{SlotCoord, queue, slot_weigh, slot_total, SlotMoves, holders, SlotPart, relot}
+use Rattle.table_steps.specs.inside.Slots.{SlotCoord, lot, queue, slot_weigh, slot_total, SlotMoves, holders, SlotPart, relot}
 use Rattle.table_steps.specs.inside.SlotMarks.{label_in, label_of}
 use Rattle.table_steps.proofs.Slots.{lay, data_alike}
 use Rattle.table_steps.proofs.SlotViews.{duty_queue}
@@ -100,6 +102,16 @@ take_taken_kept net limit part s h id f y v r at home below d =
 -- and so few parcels lie there that one more has room
 pub few_lie : {S : Type 0} (net : NetRows) (limit : ℕ) (part : S → List Part) (s : St S) (h : KeepsAccounts part net limit s) (f : ℕ) (y : S) → get_elem? s.homes f ≡ some (some y) → length (part y) + 1 < 9223372036854775808
 few_lie net limit part s h f y home = omega (arith, h.slots.few f, few_given net limit s h f, ap length (ap (label_in part) home))
+
+-- and none before the one token that an edge is given
+pub none_lie : {S : Type 0} (net : NetRows) (limit : ℕ) (part : S → List Part) (s : St S) (h : KeepsAccounts part net limit s) (id f : ℕ) (y : S) (v : List Note) → IsOnceNet net → 1 ≤ slot_weigh (lot Ours f) v → get_elem? s.views id ≡ some v → get_elem? s.homes f ≡ some (some y) → part y ≡ []
+none_lie net limit part s h id f y v once ours at home =
+    let label : label_of part s.homes f ≡ part y = ap (label_in part) home in
+    no_length (part y) (omega (arith, h.slots.few f, given_once net limit h.journal once h.balanced.by_journal.legal f, slot_total_set (lot Ours f) s.views id v [] at, ours, ap length label))
+  where
+    no_length : (xs : List Part) → length xs ≡ 0 → xs ≡ []
+    no_length [] none = refl
+    no_length (x ∷ xs) none = absurd (omega (arith, none))
 
 -- A turn GIVES UP: its parcel is left away
 pub put_left_kept : {S : Type 0} (net : NetRows) (limit : ℕ) (part : S → List Part) (s : St S) (h : KeepsAccounts part net limit s) (id f n : ℕ) (v : List Note) (r : HasLot Ours f v) → r.part ≡ From n → get_elem? s.views id ≡ some v → holders (λ c. slot_total c s.views) f ≡ 1

@@ -2,12 +2,13 @@
 use Rattle.std.proofs.Common.{◌≡◌, ◌≢◌, ◌⊎◌, inl, inr, ℕ, zero, suc, ◌+◌, ◌<◌, Bool, true, false, eqb, List, [], ◌∷◌, ◌++◌, length, set, refl, sym, ap, ◌∙◌, subst, arith, length-set, get_or-set_same}
 use Rattle.std.specs.Prelude.{◌==◌}
 use Rattle.std.proofs.lemmas.Bool.Decides.{nat_tests}
-use Rattle.std.proofs.lemmas.Bool.{cases_eq}
+use Rattle.std.proofs.lemmas.Bool.{cases_eq, false≢true}
 use Rattle.std.proofs.lemmas.List.{append-nil}
 use mathlib.Core.Option.{Option, none, some, some-ne-none}
 use lib.ListN.{get_elem?}
 use Rattle.atomic_table.specs.Table.{Act, keeps, takes, gives, Valid, carried_after, homes_after, rest, stepped, Allows}
 use Rattle.task_graph.specs.NetRows.{NetRows}
+use Rattle.journal_rules.specs.OnceNets.{IsOnceNet}
 use Rattle.journal_rules.specs.declared.entry.Part.{Part}
 use Rattle.journal_rules.specs.declared.entry.Part.TheVariants.{From, Nothing}
 use Rattle.journal_rules.specs.declared.entry.Entry.{Entry}
@@ -31,7 +32,7 @@ use Rattle.table_steps.proofs.StartDuties.{one_self}
 use Rattle.table_steps.proofs.Homing.{slot_total_set}
 use Rattle.table_steps.proofs.SlotMarks.{homes_set, slot_tried}
 use Rattle.table_steps.proofs.Relotting.{HasLot, has_lot, relot_slots, relot_weigh, relot_stand}
-use Rattle.table_steps.proofs.SlotAccounts.{put_taken_kept, put_left_kept, put_back_kept, take_taken_kept, take_left_kept, take_back_kept, few_lie}
+use Rattle.table_steps.proofs.SlotAccounts.{put_taken_kept, put_left_kept, put_back_kept, take_taken_kept, take_left_kept, take_back_kept, few_lie, none_lie}
 use Rattle.table_steps.proofs.LotSteps.{slots_alike}
 
 -- the words but the marks are as they were
@@ -191,27 +192,29 @@ slot_returned {S} {part} net limit s h id f y carried j k v w x turn below at lo
 
 -- THE STEPS
 -- a try that finds the slot home
-tried_home : {S : Type 0} (part : S → List Part) (last puts : Bool) (f n : ℕ) (y : S) (me : Seated S) (v : List Note) → n ≡ 0 → v ≡ tried last puts f (part y) 0 me.0 → length (part y) + 1 < 9223372036854775808 → TriedSlot part last puts f n me (v, (f, y) ∷ me.1)
-tried_home part last puts f n y me v clear is few = record {
+tried_home : {S : Type 0} (net : NetRows) (part : S → List Part) (last puts : Bool) (f n : ℕ) (y : S) (me : Seated S) (v : List Note) → n ≡ 0 → v ≡ tried last puts f (part y) 0 me.0 → length (part y) + 1 < 9223372036854775808 → (puts ≡ true → IsOnceNet net → part y ≡ []) → TriedSlot net part last puts f n me (v, (f, y) ∷ me.1)
+tried_home net part last puts f n y me v clear is few once = record {
   parts_are = part y;
   view = is ∙ ap (λ k. tried last puts f (part y) k me.0) (sym clear);
   holds = subst (λ k. HoldsIf f k me.1 ((f, y) ∷ me.1)) (sym clear) (refl, refl);
   lie = subst (λ k. LieThere part (part y) k ((f, y) ∷ me.1)) (sym clear) refl;
   few = few;
+  once = once;
 }
 
 -- and one that finds it held
-tried_held : {S : Type 0} (part : S → List Part) (last puts : Bool) (f n : ℕ) (me : Seated S) (v : List Note) → n ≡ 1 → v ≡ missed last puts f me.0 → TriedSlot part last puts f n me (v, me.1)
-tried_held part last puts f n me v set_is is = record {
+tried_held : {S : Type 0} (net : NetRows) (part : S → List Part) (last puts : Bool) (f n : ℕ) (me : Seated S) (v : List Note) → n ≡ 1 → v ≡ missed last puts f me.0 → TriedSlot net part last puts f n me (v, me.1)
+tried_held net part last puts f n me v set_is is = record {
   parts_are = [];
   view = is ∙ ap (λ k. tried last puts f [] k me.0) (sym set_is);
   holds = subst (λ k. HoldsIf f k me.1 me.1) (sym set_is) refl;
   lie = subst (λ k. LieThere part [] k me.1) (sym set_is) tt;
   few = omega arith;
+  once = λ is_put once. refl;
 }
 
 pub try_put_allowed : {S : Type 0} {part : S → List Part} (last : Bool) (net : NetRows) (limit slots id : ℕ) (me : Seated S) (f : ℕ) → f < length net.edges → MayTryPut f me.0
-    → Allows (KeepsAccounts part net limit) slots id me (marks_from net + f) (λ _. 1) (λ n m. TriedSlot part last true f n me m)
+    → Allows (KeepsAccounts part net limit) slots id me (marks_from net + f) (λ _. 1) (λ n m. TriedSlot net part last true f n me m)
 try_put_allowed {S} {part} last net limit slots id me f below may s h _ at small = by_mark (slot_tried (length net.edges) (slot_mark net s.words) s.homes _ f h.homes below)
   where
     r : HasLot Ours f me.0
@@ -225,24 +228,24 @@ try_put_allowed {S} {part} last net limit slots id me f below may s h _ at small
     missed_kept true set_is held = slot_missed net limit s h id f me.1 Ours Put me.0 (relot Ours Put (λ p. p) f me.0) (exchanges Ours Put (λ p. p) f me.0 r) may.turn below at (λ n. omega arith) set_is (put_left_kept net limit part s h id f may.from.place me.0 r from at held h.slots)
 
     by_mark : ((y : S) × (get_elem? s.homes f ≡ some (some y)) × (slot_mark net s.words f ≡ 0) × (holders (λ c. slot_total c s.views) f ≡ 0)) ⊎ ((slot_mark net s.words f ≡ 1) × (holders (λ c. slot_total c s.views) f ≡ 1))
-        → (u : List Note) × (z : Act S) × Valid s.homes me.1 z × KeepsAccounts part net limit (stepped s (marks_from net + f) 1 id me.1 u z) × TriedSlot part last true f (slot_mark net s.words f) me (u, carried_after me.1 z)
+        → (u : List Note) × (z : Act S) × Valid s.homes me.1 z × KeepsAccounts part net limit (stepped s (marks_from net + f) 1 id me.1 u z) × TriedSlot net part last true f (slot_mark net s.words f) me (u, carried_after me.1 z)
     by_mark (inl (y, home, clear, free)) = let w = Queued f (part y) ∷ relot Ours Putting (λ p. p) f me.0 in (
       w,
       takes f y,
       home,
       slot_got net limit s h id f me.1 y Ours Putting me.0 w (takes_queue Ours Putting (part y) f me.0 r) may.turn below at (λ n. omega arith) home free (λ inside. put_taken_kept net limit part s h id f y me.0 r at home inside h.slots),
-      tried_home part last true f (slot_mark net s.words f) y me w clear refl (few_lie net limit part s h f y home),
+      tried_home net part last true f (slot_mark net s.words f) y me w clear refl (few_lie net limit part s h f y home) (λ is_put once. none_lie net limit part s h id f y me.0 once may.ours at home),
     )
     by_mark (inr (set_is, held)) = (
       missed last true f me.0,
       keeps,
       tt,
       missed_kept last set_is held,
-      tried_held part last true f (slot_mark net s.words f) me (missed last true f me.0) set_is refl,
+      tried_held net part last true f (slot_mark net s.words f) me (missed last true f me.0) set_is refl,
     )
 
 pub try_take_allowed : {S : Type 0} {part : S → List Part} (last : Bool) (net : NetRows) (limit slots id : ℕ) (me : Seated S) (f : ℕ) → f < length net.edges → MayTryTake f me.0
-    → Allows (KeepsAccounts part net limit) slots id me (marks_from net + f) (λ _. 1) (λ n m. TriedSlot part last false f n me m)
+    → Allows (KeepsAccounts part net limit) slots id me (marks_from net + f) (λ _. 1) (λ n m. TriedSlot net part last false f n me m)
 try_take_allowed {S} {part} last net limit slots id me f below may s h _ at small = by_mark (slot_tried (length net.edges) (slot_mark net s.words) s.homes _ f h.homes below)
   where
     r : HasLot Awaited f me.0
@@ -253,24 +256,24 @@ try_take_allowed {S} {part} last net limit slots id me f below may s h _ at smal
     missed_kept true set_is held = slot_missed net limit s h id f me.1 Awaited Fetched me.0 (relot Awaited Fetched (λ p. Nothing) f me.0) (exchanges Awaited Fetched (λ p. Nothing) f me.0 r) may.turn below at (λ n. omega arith) set_is (take_left_kept net limit part s h id f me.0 r at held h.slots)
 
     by_mark : ((y : S) × (get_elem? s.homes f ≡ some (some y)) × (slot_mark net s.words f ≡ 0) × (holders (λ c. slot_total c s.views) f ≡ 0)) ⊎ ((slot_mark net s.words f ≡ 1) × (holders (λ c. slot_total c s.views) f ≡ 1))
-        → (u : List Note) × (z : Act S) × Valid s.homes me.1 z × KeepsAccounts part net limit (stepped s (marks_from net + f) 1 id me.1 u z) × TriedSlot part last false f (slot_mark net s.words f) me (u, carried_after me.1 z)
+        → (u : List Note) × (z : Act S) × Valid s.homes me.1 z × KeepsAccounts part net limit (stepped s (marks_from net + f) 1 id me.1 u z) × TriedSlot net part last false f (slot_mark net s.words f) me (u, carried_after me.1 z)
     by_mark (inl (y, home, clear, free)) = let w = Queued f (part y) ∷ relot Awaited Taking (λ p. p) f me.0 in (
       w,
       takes f y,
       home,
       slot_got net limit s h id f me.1 y Awaited Taking me.0 w (takes_queue Awaited Taking (part y) f me.0 r) may.turn below at (λ n. omega arith) home free (λ inside. take_taken_kept net limit part s h id f y me.0 r at home inside h.slots),
-      tried_home part last false f (slot_mark net s.words f) y me w clear refl (few_lie net limit part s h f y home),
+      tried_home net part last false f (slot_mark net s.words f) y me w clear refl (few_lie net limit part s h f y home) (λ is_put. absurd (false≢true is_put)),
     )
     by_mark (inr (set_is, held)) = (
       missed last false f me.0,
       keeps,
       tt,
       missed_kept last set_is held,
-      tried_held part last false f (slot_mark net s.words f) me (missed last false f me.0) set_is refl,
+      tried_held net part last false f (slot_mark net s.words f) me (missed last false f me.0) set_is refl,
     )
 
 pub try_allowed : {S : Type 0} {part : S → List Part} (last puts : Bool) (net : NetRows) (limit slots id : ℕ) (me : Seated S) (f : ℕ) → f < length net.edges → MayTry puts f me.0
-    → Allows (KeepsAccounts part net limit) slots id me (marks_from net + f) (λ _. 1) (λ n m. TriedSlot part last puts f n me m)
+    → Allows (KeepsAccounts part net limit) slots id me (marks_from net + f) (λ _. 1) (λ n m. TriedSlot net part last puts f n me m)
 try_allowed last true net limit slots id me f below may = try_put_allowed last net limit slots id me f below may
 try_allowed last false net limit slots id me f below may = try_take_allowed last net limit slots id me f below may
 

@@ -5,4 +5,5 @@ pub mod Releases
 pub mod Credits
 pub mod Values
 pub mod OneJournal
+pub mod ParcelForms
 pub mod inside

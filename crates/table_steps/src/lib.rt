@@ -20,8 +20,8 @@
 //! # The slots
 //!
 //! Each edge has a slot, a queue of parcels: what its starts will find there (`Given` of `join_words`). A seat takes the
-//! slot, exchanges the queue for an empty one, puts a parcel behind the others or takes the oldest, exchanges again, and
-//! gives the slot back (`slot_steps.rt`). So parcels are found in the order in which they were put, each once. A seat
+//! slot, exchanges the queue for an empty one, puts a parcel behind the others or takes the oldest, lays what is there
+//! then into the slot, and gives it back (`slot_steps.rt`). So parcels are found in the order in which they were put, each once. A seat
 //! knows by its notes what it has still to do with a parcel (`Lot`): a release that is taken up has one to fetch of each
 //! of its edges, and an end has one to deliver to each edge that it gives. A token is taken after its parcel, and given
 //! after it. A seat that finds the slot held tries again, up to a bound (`TRIES`) that is longer than a thread that was
@@ -91,6 +91,7 @@ mod gather_steps;
 mod halt_steps;
 mod laws;
 mod opening;
+mod parcels;
 mod rest_steps;
 mod slot_steps;
 mod steps;
@@ -101,9 +102,10 @@ mod view;
 pub use credit_steps::FIRST_CREDIT;
 pub use laws::one_journal_at_every_step;
 pub use opening::table_of;
+pub use parcels::{Parcel, Parcels};
 pub use steps::{FIRST_UNIT, LIVE, Words};
 pub use table_seat::TableSeat;
 pub use view::{
-    AccountsHold, EndValue, LimitedNet, Lot, Note, Parcels, SeatMark, SeatView, SemaphoreRole,
+    AccountsHold, EndValue, LimitedNet, Lot, Note, SeatMark, SeatView, SemaphoreRole,
     TurnDuty,
 };

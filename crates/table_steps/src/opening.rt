@@ -5,8 +5,9 @@ ghost use Rattle.atomic_table.specs.Table.{opening};
 ghost use Rattle.table_steps.specs.Values.{given_parts, values_in};
 ghost use Rattle.table_steps.specs.inside.Accounts.{KeepsAccounts, opening_notes};
 
+use crate::parcels::Parcels;
 use crate::table_seat::TableSeat;
-use crate::view::{AccountsHold, LimitedNet, Parcels, SeatView};
+use crate::view::{AccountsHold, LimitedNet, SeatView};
 use atomic_table::Table;
 use outside_io::NoMemory;
 use std::alloc::Global;

@@ -4,17 +4,19 @@ ghost use Rattle.std.specs.Arc.{arc_value};
 ghost use Rattle.atomic_table.specs.Table.{rest};
 ghost use Rattle.table_steps.specs.inside.Accounts.{marks_from};
 ghost use Rattle.table_steps.specs.inside.SeatViews.{me_of, values_held, StepsKnowing};
+ghost use Rattle.task_graph.specs.NetRows.{NetRows};
+ghost use Rattle.table_steps.specs.ParcelForms.{parcel_in, is_bare, MayBeBare};
 ghost use Rattle.table_steps.specs.Values.{given_part, given_parts, given_values, values_in, Knows};
 ghost use Rattle.table_steps.specs.declared.view.Lot.TheVariants.{Ours, Putting, Put, Awaited, Taking, Fetched};
 ghost use Rattle.table_steps.specs.inside.Slots.{lot, slot_weigh, relot};
-ghost use Rattle.table_steps.specs.inside.SlotKinds.{MayTryPut, MayTryTake, MayTry, TriedSlot, lot_part, HoldsSlot, MayPutBack, put_laid, MayTakeBack, take_laid, IsOldest};
+ghost use Rattle.table_steps.specs.inside.SlotKinds.{MayTryPut, MayTryTake, MayTry, TriedSlot, lot_part, HoldsSlot, MayPutBack, put_laid, MayTakeBack, take_laid};
 
+use crate::parcels::{Parcel, Parcels};
 use crate::steps::Words;
 use crate::table_seat::{NoteSeat, TableSeat};
-use crate::view::{Parcels, SeatView};
+use crate::view::SeatView;
 use atomic_table::Play;
 use join_words::Given;
-use std::collections::LinkedList;
 use std::hint::spin_loop;
 use std::marker::{Brand, PhantomData};
 
@@ -22,8 +24,10 @@ use std::marker::{Brand, PhantomData};
 // a thread that was put aside has to wait for a processor.
 const TRIES: u32 = 1_000_000;
 
-/// A try for the slot of an edge: to put a parcel there, or to take one; and whether it is the last.
+/// A try for the slot of an edge of a net: to put a parcel there, or to take one; and whether it is the last.
 pub trait SlotTry {
+    ghost net: { NetRows };
+
     ghost edge: { ℕ };
 
     ghost puts: { Bool };
@@ -32,7 +36,9 @@ pub trait SlotTry {
 }
 
 impl SlotTry for Brand {
-    ghost use Rattle.std.specs.Prelude.{false};
+    ghost use Rattle.std.specs.Prelude.{false, []};
+
+    ghost net = { record { tasks = []; edges = []; sems = [] } };
 
     ghost edge = { 0 };
 
@@ -47,7 +53,7 @@ pub struct TriesSlot<A> {
 
 impl<V, A: SlotTry> Play<Parcels<V>, SeatView<V>> for TriesSlot<A> {
     ghost then = { λ _ before n after. StepsKnowing
-        (λ k m. TriedSlot given_parts A.last A.puts A.edge k (me_of before) m) before n after };
+        (λ k m. TriedSlot A.net given_parts A.last A.puts A.edge k (me_of before) m) before n after };
 }
 
 /// Of which edge a slot is.
@@ -100,9 +106,9 @@ impl<V> Words<V> {
         requires held { Knows seat.old.me.0.values (values_held seat.old.me.1) }
         requires in_range { edge < length (arc_value self.now.net).edges }
         requires word { word ≡ marks_from (arc_value self.now.net) + edge }
-        requires told { A.edge ≡ edge }
+        requires told { (A.edge ≡ edge) × (A.net ≡ arc_value self.now.net) }
         ensures table { seat.new.table_id ≡ seat.old.table_id }
-        ensures view { TriedSlot given_parts A.last A.puts A.edge result (me_of seat.old.me)
+        ensures view { TriedSlot A.net given_parts A.last A.puts A.edge result (me_of seat.old.me)
             (me_of seat.new.me) }
         ensures known { Knows seat.new.me.0.values seat.old.me.0.values }
         ensures held { Knows seat.new.me.0.values (values_held seat.new.me.1) }
@@ -117,7 +123,8 @@ impl<V> Words<V> {
         requires ready { MayTry puts edge seat.old.me.0 }
         requires in_range { edge < length (arc_value self.now.net).edges }
         ensures table { seat.new.table_id ≡ seat.old.table_id }
-        ensures view { TriedSlot given_parts last puts edge result seat.old.me seat.new.me }
+        ensures view { TriedSlot (arc_value self.now.net) given_parts last puts edge result seat.old.me
+            seat.new.me }
         ensures known { Knows seat.new.values seat.old.values }
         ensures found { seat.new.found ≡ seat.old.found }
     {
@@ -131,7 +138,8 @@ impl<V> Words<V> {
         requires ready { MayTry puts edge seat.old.me.0 }
         requires in_range { edge < length (arc_value self.now.net).edges }
         ensures table { seat.new.table_id ≡ seat.old.table_id }
-        ensures view { TriedSlot given_parts true puts edge result seat.old.me seat.new.me }
+        ensures view { TriedSlot (arc_value self.now.net) given_parts true puts edge result seat.old.me
+            seat.new.me }
         ensures known { Knows seat.new.values seat.old.values }
         ensures found { seat.new.found ≡ seat.old.found }
     {
@@ -223,6 +231,21 @@ impl<V> Words<V> {
 }
 
 impl<V: Drop> Words<V> {
+    // Lays parcels into the slot that the seat holds, where nothing lies.
+    fn lay_back(&self, seat: &mut TableSeat<V>, edge: u32, parcels: Parcels<V>)
+        requires table { seat.old.table_id ≡ self.now.table.shared.table_id }
+        requires empty { seat.old.me.1 ≡ (edge, []) ∷ rest seat.old.me.1 }
+        requires knows { Knows seat.old.values (values_in parcels) }
+        ensures table { seat.new.table_id ≡ seat.old.table_id }
+        ensures view { seat.new.me ≡ (seat.old.me.0, (edge, parcels) ∷ rest seat.old.me.1) }
+        ensures values { seat.new.values ≡ seat.old.values }
+        ensures found { seat.new.found ≡ seat.old.found }
+    {
+        if !parcels.is_empty() {
+            self.exchange(seat, edge, parcels);
+        }
+    }
+
     /// Takes the oldest parcel out of the slot of an edge. The seat learns the value that the parcel has. It finds
     /// `Nothing` where the slot is empty, and where other seats hold it at each of a million tries.
     pub fn fetch(&self, seat: &mut TableSeat<V>, edge: u32) -> Given<V>
@@ -241,24 +264,25 @@ impl<V: Drop> Words<V> {
         if self.hold_slot(seat, edge, false) != 0 {
             return Given::Nothing;
         }
-        let mut parcels = self.exchange(seat, edge, LinkedList::new(self.alloc));
-        let oldest = take_oldest(&mut parcels);
-        self.exchange(seat, edge, parcels);
+        let mut parcels = self.exchange(seat, edge, Parcels::new(self.alloc));
+        let oldest = parcels.take_oldest();
+        self.lay_back(seat, edge, parcels);
         self.take_slot_back(seat, edge);
         oldest
     }
 
-    /// Puts a parcel, which comes as a list of one, behind the others in the slot of an edge. Where other seats hold the
-    /// slot at each of a million tries, the parcel is dropped. The seat has to know that the value which the parcel has is
-    /// that of its End. It takes no memory.
-    pub fn deliver(&self, seat: &mut TableSeat<V>, edge: u32, mut parcel: Parcels<V>)
+    /// Puts a parcel behind the others in the slot of an edge. Where other seats hold the slot at each of a million tries,
+    /// the parcel is dropped. The seat has to know that the value which the parcel has is that of its End. It takes no
+    /// memory.
+    pub fn deliver(&self, seat: &mut TableSeat<V>, edge: u32, parcel: Parcel<V>)
         requires table { seat.old.table_id ≡ self.now.table.shared.table_id }
         requires home { seat.old.me.1 ≡ [] }
         requires ready { MayTryPut edge seat.old.me.0 }
         requires free { slot_weigh (lot Putting edge) seat.old.me.0 ≡ 0 }
         requires in_range { edge < length (arc_value self.now.net).edges }
-        requires parcel { given_parts parcel ≡ lot_part Ours edge seat.old.me.0 ∷ [] }
-        requires knows { Knows seat.old.values (values_in parcel) }
+        requires parcel { given_parts (parcel_in parcel) ≡ lot_part Ours edge seat.old.me.0 ∷ [] }
+        requires room { MayBeBare (arc_value self.now.net) (is_bare parcel) }
+        requires knows { Knows seat.old.values (values_in (parcel_in parcel)) }
         ensures table { seat.new.table_id ≡ seat.old.table_id }
         ensures view { seat.new.me ≡ (relot Ours Put (λ p. p) edge seat.old.me.0, []) }
         ensures known { Knows seat.new.values seat.old.values }
@@ -267,21 +291,9 @@ impl<V: Drop> Words<V> {
         if self.hold_slot(seat, edge, true) != 0 {
             return;
         }
-        let mut parcels = self.exchange(seat, edge, LinkedList::new(self.alloc));
-        if parcels.append(&mut parcel).is_err() {
-            unreachable!()
-        }
+        let mut parcels = self.exchange(seat, edge, Parcels::new(self.alloc));
+        parcels.put(parcel);
         self.exchange(seat, edge, parcels);
         self.put_slot_back(seat, edge);
-    }
-}
-
-// Takes the first parcel of a list, or `Nothing` where it is empty.
-fn take_oldest<V>(parcels: &mut Parcels<V>) -> Given<V>
-    ensures { IsOldest parcels.old result parcels.new }
-{
-    match parcels.pop_front() {
-        Some(parcel) => parcel,
-        None => Given::Nothing,
     }
 }

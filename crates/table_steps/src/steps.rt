@@ -9,8 +9,9 @@ ghost use Rattle.table_steps.specs.Values.{ended_with, Knows, HaveOneValueEach};
 ghost use Rattle.table_steps.specs.OneJournal.{entries_in, AreInOneJournal};
 ghost use Rattle.table_steps.specs.inside.Kinds.{IsTurn, MayReset, MayTakeUp, taken_up, TakesNextToken, took, OwesNext, gave, CountsNext, counted_one, AreNoneLeft, others_of, MayAdd, with_turn_added, MayDeal, dealt, kept_back, MayAdmit, admitted, MayDrawStart, with_start_drawn, MayEnd, with_end_drawn, MayLeave, left_by, IsWhole, views_joined};
 
+use crate::parcels::Parcels;
 use crate::table_seat::{NoteSeat, TableSeat};
-use crate::view::{AccountsHold, LimitedNet, Parcels, SeatView};
+use crate::view::{AccountsHold, LimitedNet, SeatView};
 use atomic_table::{Join, Play, Split, Table};
 use outside_io::List;
 use std::alloc::Global;

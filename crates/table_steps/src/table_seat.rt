@@ -1,7 +1,8 @@
 // The seat of a turn, with the numbers that its steps found.
 ghost use Rattle.std.specs.Prelude.{◌≡◌, ◌∷◌, []};
 
-use crate::view::{Parcels, SeatView};
+use crate::parcels::Parcels;
+use crate::view::SeatView;
 use atomic_table::Seat;
 use boxcar::tag::{Names, Tag};
 use std::marker::Model;

@@ -1,11 +1,10 @@
 // What the seats of a table know, and its rule.
 ghost use Rattle.std.specs.Arc.{arc_value};
 
+use crate::parcels::Parcels;
 use atomic_table::TableRule;
-use join_words::Given;
 use journal_rules::{Cause, Entry, Part};
 use outside_io::List;
-use std::collections::LinkedList;
 use std::sync::Arc;
 use task_graph::Net;
 
@@ -74,9 +73,6 @@ pub enum SeatMark {
     /// It has looked at the halt mark, which wasn't set, and may draw an admission.
     Asked,
 }
-
-/// The parcels in the slot of an edge, the oldest first.
-pub type Parcels<V> = LinkedList<Given<V>>;
 
 /// What a turn has to do with the parcel of an edge.
 pub enum Lot {

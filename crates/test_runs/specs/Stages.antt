@@ -1,6 +1,7 @@
 -- Turns of a table between two of their steps.
 use Rattle.std.specs.Prelude.{◌≡◌, ℕ, Some, None, List, [], ◌∷◌, length, IfSome}
 use Rattle.journal_rules.specs.declared.entry.DropWhy.{DropWhy}
+use Rattle.table_steps.specs.ParcelForms.{MayBeBare}
 use Rattle.join_tables.specs.States.{TableState, FreshState, TurnState, AdmittedState, RunningState, OwingState}
 use Rattle.join_tables.specs.Claims.{HasCredited, HasClaimed}
 use Rattle.test_runs.specs.Needs.{list_of, AreAmong, taken_for, HasNeed, TakesUnits}
@@ -41,7 +42,7 @@ IsOverdrawn t running = (running.table ≡ t.table) × HasCredited t.net running
 
 -- an end that owes these units
 abbrev pub Owes : TableState → OwingState ℕ → Units → Type 0
-Owes t owing units = (owing.table ≡ t.table) × (owing.units ≡ list_of units) × AreAmong (length t.net.sems) units
+Owes t owing units = (owing.table ≡ t.table) × (owing.units ≡ list_of units) × AreAmong (length t.net.sems) units × MayBeBare t.net owing.bare
 
 -- a turn is of a table, and of its net
 abbrev pub IsStage : TableState → Stage → Type 0

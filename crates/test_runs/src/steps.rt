@@ -3,6 +3,7 @@ ghost use Rattle.std.specs.Prelude.{◌≡◌, ◌≤◌, IfSome, IfOk, [], ◌�
 ghost use Rattle.std.specs.Arc.{arc_value};
 ghost use Rattle.test_runs.specs.declared.states.Need.TheVariants.{Hold};
 ghost use Rattle.table_steps.specs.Giving.{MayEndGiving};
+ghost use Rattle.table_steps.specs.ParcelForms.{MayBeBare};
 ghost use Rattle.test_runs.specs.Needs.{HasNeed};
 ghost use Rattle.test_runs.specs.Stages.{HasUnits, IsAdvanced, IsReady, IsRefused, IsStage, Lacks, MayEnd, MayStart, Owes};
 
@@ -218,12 +219,13 @@ impl Steps {
     fn ending(&self, running: &Running<u64>) -> Option<Ending>
         ensures gives { IfSome result (λ ending. MayEndGiving self.now.table.net running.now.task ending.edges false) }
         ensures shares { IfSome result (λ ending. ending.value.edges ≡ length ending.edges) }
+        ensures parcels { IfSome result (λ ending. MayBeBare self.now.table.net ending.value.bare) }
     {
         let gives = running.place() < self.terms.gives_before;
         let Ok(Some(edges)) = gives_of(self.alloc, &self.net, running.task(), gives) else {
             return None;
         };
-        match SharedValue::new(self.alloc, running.place(), edges.len()) {
+        match self.table.share(self.alloc, running.place(), edges.len()) {
             Ok(value) => Some(Ending { edges, value }),
             Err(NoMemory) => None,
         }
@@ -244,7 +246,8 @@ impl Steps {
     }
 
     fn give(&self, owing: Owing<u64>) -> Advanced
-        requires { (owing.table ≡ self.now.table.table) × (owing.units ≡ []) }
+        requires { (owing.table ≡ self.now.table.table) × (owing.units ≡ [])
+            × MayBeBare self.now.table.net owing.bare }
         ensures { IsAdvanced self.now.table result }
     {
         match self.table.give(owing) {

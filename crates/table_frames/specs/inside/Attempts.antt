@@ -7,6 +7,7 @@ use Rattle.journal_rules.specs.declared.entry.Why.{Why}
 use Rattle.journal_rules.specs.declared.entry.DropWhy.{DropWhy}
 use Rattle.table_steps.specs.Giving.{MayEndGiving}
 use Rattle.table_steps.specs.Reasons.{MayTell}
+use Rattle.table_steps.specs.ParcelForms.{MayBeBare}
 use Rattle.join_tables.specs.States.{FreshState, TurnState, RunningState, fresh_state}
 use Rattle.run_frame.specs.Meaning.{Meaning}
 use Rattle.run_frame.specs.WorkRule.{Answers, FaultAllowed}
@@ -43,6 +44,7 @@ pub record MayEnd {J V : Type 0} (meaning : Meaning J V) (frame : FrameKey J) (e
   pub may : MayWork (meaning.net frame.job) ending.running
   pub fits : MayEndGiving (meaning.net frame.job) ending.running.task ending.gives false
   pub shares : ending.value.edges ≡ length ending.gives
+  pub parcels : MayBeBare (meaning.net frame.job) ending.value.bare
   pub answers : Answers meaning frame.job (work_with ending.running.task ending.running.ins) ending.value.value ending.gives
 
 -- It may fault for this reason.

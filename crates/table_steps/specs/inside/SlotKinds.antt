@@ -1,5 +1,7 @@
 -- What the steps on slots ask of a seat, and what they leave.
 use Rattle.std.specs.Prelude.{◌≡◌, ℕ, zero, suc, ◌+◌, ◌<◌, ◌≤◌, Bool, true, false, List, [], ◌∷◌, ◌++◌, length}
+use Rattle.task_graph.specs.NetRows.{NetRows}
+use Rattle.journal_rules.specs.OnceNets.{IsOnceNet}
 use Rattle.journal_rules.specs.declared.entry.Part.{Part}
 use Rattle.journal_rules.specs.declared.entry.Part.TheVariants.{From, Nothing}
 use Rattle.join_words.specs.declared.ins.Given.{Given}
@@ -66,13 +68,14 @@ LieThere parts qs zero ((k, y) ∷ rest) = parts y ≡ qs
 LieThere parts qs zero [] = ⊥
 LieThere parts qs (suc n) after = Unit {0}
 
--- so few that one more can be put there
-pub record TriedSlot {S : Type 0} (parts : S → List Part) (last puts : Bool) (f n : ℕ) (before after : Me S (List Note)) : Type 0 where
+-- so few that one more can be put there, and none before the one token that an edge is given
+pub record TriedSlot {S : Type 0} (net : NetRows) (parts : S → List Part) (last puts : Bool) (f n : ℕ) (before after : Me S (List Note)) : Type 0 where
   pub parts_are : List Part
   pub view : after.0 ≡ tried last puts f parts_are n before.0
   pub holds : HoldsIf f n before.1 after.1
   pub lie : LieThere parts parts_are n after.1
   pub few : length parts_are + 1 < 9223372036854775808
+  pub once : puts ≡ true → IsOnceNet net → parts_are ≡ []
 
 -- the slot that a seat took last is that of this edge, and these parts lie there
 abbrev pub HasLaid : {S : Type 0} → (S → List Part) → ℕ → List Part → List (ℕ × S) → Type 0

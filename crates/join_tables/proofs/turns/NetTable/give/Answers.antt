@@ -7,8 +7,7 @@ use Rattle.join_tables.specs.States.{OwingState}
 use Rattle.join_tables.specs.Keeping.{entries_of}
 use Rattle.join_tables.specs.inside.Seated.{owing_view, units_of, IsSpent, paid, OwesFirst}
 use Rattle.join_tables.specs.declared.fates.Fate.TheVariants.{Ended}
-use Rattle.join_tables.specs.inside.Sharing.{AreSharesOf, KnowsShare}
-use Rattle.join_tables.proofs.Sharing.{takes_share}
+use Rattle.join_tables.specs.inside.Sharing.{count_in}
 use Rattle.join_tables.proofs.Turning.{owes_first, paid_view, drop_some, drop_none, get_below, gives_none, gives_on, gives_more}
 use Rattle.join_tables.proofs.turns.NetTable.give.Goals as goal
 
@@ -28,12 +27,17 @@ give_edge-made-requires-clause-ready g c =
     let some : slice_get c.owing.inside.ended.gives c.owing.inside.next ≡ Some c.in-Some.edge = search rules in
     subst (λ v. OwesFirst c.in-Some.edge c.owing.inside.ended.place v) (sym (ap (λ m. m.0) c.owing.invariant.0 ∙ ap (λ es. owing_view c.owing.inside.ended es (units_of c.owing.inside.seat.me.0)) (drop_some c.owing.inside.ended.gives c.owing.inside.next c.in-Some.edge some))) (owes_first c.owing.inside.ended c.in-Some.edge (drop (c.owing.inside.next + 1) c.owing.inside.ended.gives) (units_of c.owing.inside.seat.me.0))
 
-pub give_edge-made-requires-clause-share : goal.give_edge-made-requires-clause-share
-give_edge-made-requires-clause-share g c =
+pub give_edge-made-requires-clause-some : goal.give_edge-made-requires-clause-some
+give_edge-made-requires-clause-some g c =
     let some : slice_get c.owing.inside.ended.gives c.owing.inside.next ≡ Some c.in-Some.edge = search rules in
-    let size : length c.owing.inside.shares ≡ length (drop (c.owing.inside.next + 1) c.owing.inside.ended.gives) + 1 = omega (arith, c.owing.invariant.2, ap length (drop_some c.owing.inside.ended.gives c.owing.inside.next c.in-Some.edge some)) in
-    let taken = takes_share (arc_value c.owing.inside.ended.value) c.owing.inside.shares (length (drop (c.owing.inside.next + 1) c.owing.inside.ended.gives)) c.owing.inside.ended.place c.owing.inside.seat.values c.owing.invariant.3 size (knows_front _ (ended_with c.owing.inside.ended.place (arc_value c.owing.inside.ended.value)) _ c.owing.invariant.1) in
-    subst (λ share. KnowsShare c.owing.inside.ended.place share c.owing.inside.seat.values) (sym c.take_share-share.ensures.taken) taken.share
+    omega (arith, c.owing.invariant.2, ap length (drop_some c.owing.inside.ended.gives c.owing.inside.next c.in-Some.edge some))
+
+pub give_edge-made-requires-clause-knows : goal.give_edge-made-requires-clause-knows
+give_edge-made-requires-clause-knows g c = record {
+  value = arc_value c.owing.inside.ended.value;
+  are = c.owing.invariant.3;
+  knows = knows_front _ (ended_with c.owing.inside.ended.place (arc_value c.owing.inside.ended.value)) _ c.owing.invariant.1;
+}
 
 pub overflow_add-owing : goal.overflow_add-owing
 overflow_add-owing g c =
@@ -43,18 +47,16 @@ overflow_add-owing g c =
 pub invariant_of-owing : goal.invariant_of-owing
 invariant_of-owing g c =
     let some : slice_get c.owing.inside.ended.gives c.owing.inside.next ≡ Some c.in-Some.edge = search rules in
-    let size : length c.owing.inside.shares ≡ length (drop (c.owing.inside.next + 1) c.owing.inside.ended.gives) + 1 = omega (arith, c.owing.invariant.2, ap length (drop_some c.owing.inside.ended.gives c.owing.inside.next c.in-Some.edge some)) in
-    let taken = takes_share (arc_value c.owing.inside.ended.value) c.owing.inside.shares (length (drop (c.owing.inside.next + 1) c.owing.inside.ended.gives)) c.owing.inside.ended.place c.owing.inside.seat.values c.owing.invariant.3 size (knows_front _ (ended_with c.owing.inside.ended.place (arc_value c.owing.inside.ended.value)) _ c.owing.invariant.1) in
+    let size : count_in c.owing.inside.shares ≡ length (drop (c.owing.inside.next + 1) c.owing.inside.ended.gives) + 1 = omega (arith, c.owing.invariant.2, ap length (drop_some c.owing.inside.ended.gives c.owing.inside.next c.in-Some.edge some)) in
     let view = ap (λ m. m.0) c.give_edge-made.ensures.view ∙ ap paid (ap (λ m. m.0) c.owing.invariant.0 ∙ ap (λ es. owing_view c.owing.inside.ended es (units_of c.owing.inside.seat.me.0)) (drop_some c.owing.inside.ended.gives c.owing.inside.next c.in-Some.edge some)) ∙ paid_view c.owing.inside.ended c.in-Some.edge (drop (c.owing.inside.next + 1) c.owing.inside.ended.gives) (units_of c.owing.inside.seat.me.0) in
-    ((λ i. ((view ∙ ap (owing_view c.owing.inside.ended (drop (c.owing.inside.next + 1) c.owing.inside.ended.gives)) (sym (ap units_of view))) i, ap (λ m. m.1) c.give_edge-made.ensures.view i)), knows_again _ _ _ c.give_edge-made.ensures.known c.owing.invariant.1, ap length c.take_share-share.ensures.others ∙ taken.count, subst (AreSharesOf (arc_value c.owing.inside.ended.value)) (sym c.take_share-share.ensures.others) taken.others)
+    ((λ i. ((view ∙ ap (owing_view c.owing.inside.ended (drop (c.owing.inside.next + 1) c.owing.inside.ended.gives)) (sym (ap units_of view))) i, ap (λ m. m.1) c.give_edge-made.ensures.view i)), knows_again _ _ _ c.give_edge-made.ensures.known c.owing.invariant.1, omega (arith, size, c.give_edge-made.ensures.shares.count), c.give_edge-made.ensures.shares.shares _ c.owing.invariant.3)
 
 pub invariant_of-owing-in-None : goal.invariant_of-owing-in-None
 invariant_of-owing-in-None g c =
     let some : slice_get c.owing.inside.ended.gives c.owing.inside.next ≡ Some c.in-Some.edge = search rules in
-    let size : length c.owing.inside.shares ≡ length (drop (c.owing.inside.next + 1) c.owing.inside.ended.gives) + 1 = omega (arith, c.owing.invariant.2, ap length (drop_some c.owing.inside.ended.gives c.owing.inside.next c.in-Some.edge some)) in
-    let taken = takes_share (arc_value c.owing.inside.ended.value) c.owing.inside.shares (length (drop (c.owing.inside.next + 1) c.owing.inside.ended.gives)) c.owing.inside.ended.place c.owing.inside.seat.values c.owing.invariant.3 size (knows_front _ (ended_with c.owing.inside.ended.place (arc_value c.owing.inside.ended.value)) _ c.owing.invariant.1) in
+    let size : count_in c.owing.inside.shares ≡ length (drop (c.owing.inside.next + 1) c.owing.inside.ended.gives) + 1 = omega (arith, c.owing.invariant.2, ap length (drop_some c.owing.inside.ended.gives c.owing.inside.next c.in-Some.edge some)) in
     let view = ap (λ m. m.0) c.give_edge-made.ensures.view ∙ ap paid (ap (λ m. m.0) c.owing.invariant.0 ∙ ap (λ es. owing_view c.owing.inside.ended es (units_of c.owing.inside.seat.me.0)) (drop_some c.owing.inside.ended.gives c.owing.inside.next c.in-Some.edge some)) ∙ paid_view c.owing.inside.ended c.in-Some.edge (drop (c.owing.inside.next + 1) c.owing.inside.ended.gives) (units_of c.owing.inside.seat.me.0) in
-    ((λ i. ((view ∙ ap (owing_view c.owing.inside.ended (drop (c.owing.inside.next + 1) c.owing.inside.ended.gives)) (sym (ap units_of view))) i, ap (λ m. m.1) c.give_edge-made.ensures.view i)), knows_again _ _ _ c.give_edge-made.ensures.known c.owing.invariant.1, ap length c.take_share-share.ensures.others ∙ taken.count, subst (AreSharesOf (arc_value c.owing.inside.ended.value)) (sym c.take_share-share.ensures.others) taken.others)
+    ((λ i. ((view ∙ ap (owing_view c.owing.inside.ended (drop (c.owing.inside.next + 1) c.owing.inside.ended.gives)) (sym (ap units_of view))) i, ap (λ m. m.1) c.give_edge-made.ensures.view i)), knows_again _ _ _ c.give_edge-made.ensures.known c.owing.invariant.1, omega (arith, size, c.give_edge-made.ensures.shares.count), c.give_edge-made.ensures.shares.shares _ c.owing.invariant.3)
 
 pub returns-in-Some-made : goal.returns-in-Some-made
 returns-in-Some-made g c =

@@ -1,6 +1,6 @@
 use Rattle.std.proofs.Common.{◌≡◌, [], ◌∷◌, sym, ap, ◌∙◌, subst}
 use Rattle.std.specs.Arc.{arc_value}
-use Rattle.table_steps.specs.Values.{given_parts, values_in, Knows}
+use Rattle.table_steps.specs.Values.{Knows}
 use Rattle.table_steps.proofs.Values.{knows_again}
 use Rattle.table_steps.specs.declared.view.Lot.TheVariants.{Ours, Putting, Put}
 use Rattle.table_steps.specs.inside.Slots.{lot, slot_weigh, relot}
@@ -26,10 +26,11 @@ deliver-requires-clause-in_range g c =
 pub deliver-requires-clause-parcel : goal.deliver-requires-clause-parcel
 deliver-requires-clause-parcel g c =
     let m = may_deliver (arc_value c.self.inside.words.net) c.args.edge c.args.place c.args.seat.now.me.0 c.requires.ready c.learn.ensures.fits in
-    ap given_parts c.placed.ensures ∙ c.requires.share.part ∙ ap (λ p. p ∷ []) (sym (ap (lot_part Ours c.args.edge) c.learn.ensures.view.0 ∙ m.part))
+    (c.take.ensures.taken c.requires.knows.value c.requires.knows.are).part ∙ ap (λ p. p ∷ []) (sym (ap (lot_part Ours c.args.edge) c.learn.ensures.view.0 ∙ m.part))
 
 pub deliver-requires-clause-knows : goal.deliver-requires-clause-knows
-deliver-requires-clause-knows g c = knows_again _ _ _ c.learn.ensures.known (subst (λ l. Knows c.args.seat.now.values (values_in l)) (sym c.placed.ensures) c.requires.share.knows)
+deliver-requires-clause-knows g c =
+    knows_again _ _ _ c.learn.ensures.known (subst (λ l. Knows c.args.seat.now.values l) (sym (c.take.ensures.taken c.requires.knows.value c.requires.knows.are).has) c.requires.knows.knows)
 
 pub give_token-requires-clause-ready : goal.give_token-requires-clause-ready
 give_token-requires-clause-ready g c =

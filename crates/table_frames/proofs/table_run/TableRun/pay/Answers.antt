@@ -23,6 +23,7 @@ loop-next-preserved-in-Next g c =
       of = i.of;
       paid = subst (λ m. PaidSoFar net m c.args.owing.left next.left c.args.made.now.items c.loop-next.made.items) (sym n.table) paid;
       few = omega (arith, i.few, left);
+      bare = n.bare ∙ i.bare;
       capacity = i.capacity;
     }
 
@@ -42,6 +43,7 @@ loop-next-preserved g c =
       of = subst (AreOf c.args.self.now.table) (sym c.push_reserved.ensures.items) (All-push (λ (f : FreshState). f.table ≡ c.args.self.now.table) c.loop-next.made.items fresh i.of (r.1 ∙ i.table));
       paid = subst (λ m. PaidSoFar net m c.args.owing.left next.left c.args.made.now.items c.push_reserved.new.self.items) (sym r.0.table) paid;
       few = omega (arith, i.few, left, c.push_reserved.ensures.len);
+      bare = r.0.bare ∙ i.bare;
       capacity = c.push_reserved.ensures.capacity ∙ i.capacity;
     }
 

@@ -11,6 +11,7 @@ invariant-loop-next g l = record {
   of : AreOf l.self.table l.made.items;
   paid : PaidSoFar l.self-inside.table.net l.owing.table l.fn.owing.left l.owing.left l.fn.made.items l.made.items;
   few : vec_len l.made + length l.owing.left ≤ vec_len l.fn.made + length l.fn.owing.left;
+  bare : l.owing.bare ≡ l.fn.owing.bare;
   capacity : vec_capacity l.made ≡ vec_capacity l.fn.made;
 }
 

@@ -21,8 +21,9 @@ swap-requires g c =
     let word_is : c.args.word ≡ marks_from net + c.args.edge = c.requires.word ∙ ap (λ (n : NetRows). marks_from n + c.args.edge) same in (
       search rules,
       omega (arith, c.requires.in_range, c.requires.word, sized),
-      steps_knowing net limit slots id me c.args.word (λ _. 1) (λ k m. TriedSlot given_parts last puts g.A.SlotTry.edge k (me_of me) m) (λ z. omega (arith, z, c.requires.word)) c.requires.held
-          (subst (λ (w : ℕ). Allows (KeepsAccounts given_parts net limit) slots id (me_of me) w (λ _. 1) (λ k m. TriedSlot given_parts last puts g.A.SlotTry.edge k (me_of me) m)) (sym word_is)
-          (subst (λ (e : ℕ). Allows (KeepsAccounts given_parts net limit) slots id (me_of me) (marks_from net + c.args.edge) (λ _. 1) (λ k m. TriedSlot given_parts last puts e k (me_of me) m)) (sym c.requires.told)
-          (try_allowed last puts net limit slots id (me_of me) c.args.edge below c.requires.ready))),
+      steps_knowing net limit slots id me c.args.word (λ _. 1) (λ k m. TriedSlot g.A.SlotTry.net given_parts last puts g.A.SlotTry.edge k (me_of me) m) (λ z. omega (arith, z, c.requires.word)) c.requires.held
+          (subst (λ (w : ℕ). Allows (KeepsAccounts given_parts net limit) slots id (me_of me) w (λ _. 1) (λ k m. TriedSlot g.A.SlotTry.net given_parts last puts g.A.SlotTry.edge k (me_of me) m)) (sym word_is)
+          (subst (λ (e : ℕ). Allows (KeepsAccounts given_parts net limit) slots id (me_of me) (marks_from net + c.args.edge) (λ _. 1) (λ k m. TriedSlot g.A.SlotTry.net given_parts last puts e k (me_of me) m)) (sym c.requires.told.0)
+          (subst (λ (n : NetRows). Allows (KeepsAccounts given_parts net limit) slots id (me_of me) (marks_from net + c.args.edge) (λ _. 1) (λ k m. TriedSlot n given_parts last puts c.args.edge k (me_of me) m)) (sym (c.requires.told.1 ∙ same))
+          (try_allowed last puts net limit slots id (me_of me) c.args.edge below c.requires.ready)))),
     )
