@@ -51,9 +51,9 @@ use Rattle.table_frames.specs.Telling.{IsInJournal, HasEntriesOf}
 use Rattle.table_frames.specs.Steps.{IsRootRun, IsStateOf, IsClosed, BeginsFrame, StepsRelease}
 use Rattle.table_frames.specs.Bringing.{TakesIn, MayTakeIn, BringsFates}
 use Rattle.table_frames.specs.declared.release.HeldBy.TheVariants as held
-use Rattle.table_frames.specs.declared.stepped.Brought.{Brought}
-use Rattle.table_frames.specs.declared.stepped.State.TheVariants.{Went, Parked, Inner as HasInner, Closed}
-use Rattle.table_frames.specs.declared.stepped.Stepped.{Stepped}
+use Rattle.table_frames.specs.declared.step_results.Brought.{Brought}
+use Rattle.table_frames.specs.declared.step_results.State.TheVariants.{Went, Parked, Inner as HasInner, Closed}
+use Rattle.table_frames.specs.declared.step_results.Stepped.{Stepped}
 
 abbrev free : Shape → TaskRow
 free shape = record { shape = shape; takes = []; puts = [] }

@@ -98,9 +98,9 @@ impl Play<(), Counting> for Spends {
 }
 
 /// The seat has all counts that there were to spare.
-pub struct Gathers;
+pub struct GathersSpares;
 
-impl Play<(), Counting> for Gathers {
+impl Play<(), Counting> for GathersSpares {
     ghost use Rattle.ready_deques.specs.inside.Counts.{GathersIt};
 
     ghost then = { GathersIt };
@@ -374,6 +374,6 @@ impl Counter {
         ensures table { seat.new.table_id ≡ seat.old.table_id }
         ensures view { seat.new.me ≡ (with_counts result seat.old.me.0, seat.old.me.1) }
     {
-        self.table.shared.swap::<Gathers>(seat, word, 0)
+        self.table.shared.swap::<GathersSpares>(seat, word, 0)
     }
 }

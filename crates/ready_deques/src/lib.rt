@@ -61,8 +61,8 @@ mod owner;
 mod ready;
 mod shares;
 mod sleepers;
+mod stealer;
 mod tagged;
-mod thief;
 
 pub use owner::Owner;
 pub use ready::Ready;

@@ -247,8 +247,8 @@ fn pair<T: Tagged + Drop>(
     ensures owners { All (IsOwnerOf ready.now) owners.new.items }
     ensures count { length owners.new.items ≡ length owners.old.items }
 {
-    let thief = owners[from].lend()?;
-    owners[to].gain(thief)
+    let stealer = owners[from].lend()?;
+    owners[to].gain(stealer)
 }
 
 // One owner may steal from all others, beginning with the next.

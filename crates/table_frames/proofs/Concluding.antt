@@ -15,8 +15,8 @@ use Rattle.table_frames.specs.inside.Concluding.{Concludes}
 use Rattle.table_frames.specs.declared.attempt.Attempt.{Attempt}
 use Rattle.table_frames.specs.declared.attempt.Outcome.{Outcome}
 use Rattle.table_frames.specs.declared.attempt.Outcome.TheVariants.{Ends, Faults, Drops}
-use Rattle.table_frames.specs.declared.stepped.State.TheVariants.{Went}
-use Rattle.table_frames.specs.declared.stepped.Stepped.{Stepped}
+use Rattle.table_frames.specs.declared.step_results.State.TheVariants.{Went}
+use Rattle.table_frames.specs.declared.step_results.Stepped.{Stepped}
 use Rattle.table_frames.specs.declared.table_run.Begun.{Begun}
 use Rattle.table_frames.proofs.Handing.{all_in}
 

@@ -8,9 +8,9 @@ use Rattle.run_frame.specs.Meaning.{Meaning}
 use Rattle.table_frames.specs.Frames.{FrameKey, HasTable}
 use Rattle.table_frames.specs.Steps.{IsClosed, IsStateOf}
 use Rattle.table_frames.specs.Telling.{HasEntriesOf}
-use Rattle.table_frames.specs.declared.stepped.Brought.{Brought}
-use Rattle.table_frames.specs.declared.stepped.State.{State}
-use Rattle.table_frames.specs.declared.stepped.State.TheVariants.{Went}
+use Rattle.table_frames.specs.declared.step_results.Brought.{Brought}
+use Rattle.table_frames.specs.declared.step_results.State.{State}
+use Rattle.table_frames.specs.declared.step_results.State.TheVariants.{Went}
 
 -- A frame's keeper has taken in these fates last. As it did it found how many turns were live, and the run is closed exactly
 -- where that was one.

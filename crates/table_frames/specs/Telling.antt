@@ -8,8 +8,8 @@ use Rattle.join_tables.specs.declared.keeper.Recorded.{Recorded}
 use Rattle.run_frame.specs.Meaning.{Meaning}
 use Rattle.run_frame.specs.NestedRule.{journal_of}
 use Rattle.run_frame.specs.declared.run.FrameRun.{FrameRun}
-use Rattle.table_frames.specs.declared.stepped.State.{State}
-use Rattle.table_frames.specs.declared.stepped.State.TheVariants.{Went, Parked, Inner, Closed}
+use Rattle.table_frames.specs.declared.step_results.State.{State}
+use Rattle.table_frames.specs.declared.step_results.State.TheVariants.{Went, Parked, Inner, Closed}
 
 -- The entries of a fate are, at their places, in one journal that is legal as far as the job's net decides and whose starts
 -- find what they may.

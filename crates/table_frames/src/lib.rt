@@ -15,8 +15,8 @@
 //! # The parts
 //!
 //! A `TableRun` is a job with the table of its net. It takes up a release and does its work (`attempt`), which leaves nothing
-//! but the Start in the journal, and then draws the End, Fault or Drop (`conclude`). A `KeptRun` has the keeper of a run; all
-//! that it took in is allowed by the job, so that the run that it hands out may be kept. `Gathered` is the part of a backlog
+//! but the Start in the journal, and then draws the End, Fault or Drop (`conclude`). A `RunKeeper` has the keeper of a run; all
+//! that it took in is allowed by the job, so that the run that it hands out may be kept. `FrameBatch` is the part of a backlog
 //! that is brought.
 //!
 //! # What the layer above may know
@@ -32,15 +32,15 @@ mod alone;
 mod attempt;
 mod backlog;
 mod frame;
-mod gathered;
+mod frame_batch;
 mod gives;
-mod kept;
 mod release;
-mod stepped;
+mod run_keeper;
+mod step_results;
 mod table_run;
 
 pub use alone::run_alone;
 pub use backlog::Backlog;
 pub use frame::Frame;
 pub use release::{HeldBy, Release};
-pub use stepped::{Brought, State, Stepped};
+pub use step_results::{Brought, State, Stepped};

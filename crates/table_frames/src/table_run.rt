@@ -15,7 +15,7 @@ ghost use Rattle.table_frames.specs.inside.Runs.{AreOf, IsBatchOf, IsDone, IsNoB
 
 use super::attempt::{Attempt, Ending, Outcome};
 use super::gives::edges_given;
-use super::kept::KeptRun;
+use super::run_keeper::RunKeeper;
 use join_tables::{
     Admitted, Collected, Fresh, Gave, NetTable, Opening, Owing, Remaining, Running, SharedValue,
     Spent, SpentBatch, Turn,
@@ -66,7 +66,7 @@ impl<J: Job> Model for TableRun<J> {
 pub struct Begun<J: Job> {
     pub run: TableRun<J>,
     pub fresh: Vec<Fresh<J::V>>,
-    pub kept: KeptRun<J>,
+    pub kept: RunKeeper<J>,
 }
 
 /// A release that has collected its tokens, and the next release of its task, by tokens that were left.
@@ -94,7 +94,7 @@ impl<J: Job + Drop> TableRun<J> {
             fresh,
             keeper,
         } = NetTable::new(alloc, net, limit)?;
-        let kept = KeptRun::new(alloc, Arc::try_clone(&job)?, keeper);
+        let kept = RunKeeper::new(alloc, Arc::try_clone(&job)?, keeper);
         let run = TableRun { alloc, job, table };
         Ok(Begun { run, fresh, kept })
     }
@@ -148,7 +148,7 @@ impl<J: Job + Drop> TableRun<J> {
     /// Gives the turns of a batch to the keeper, at least one.
     pub fn keep(
         &self,
-        kept: &mut KeptRun<J>,
+        kept: &mut RunKeeper<J>,
         batch: &mut SpentBatch<J::V>,
     ) -> Result<Remaining, NoMemory>
         requires kept { key_of kept.old ≡ self.now }

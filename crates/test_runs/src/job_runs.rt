@@ -2,8 +2,8 @@
 // each by crews.
 use crate::data_rule::{finds_in_order, finds_something, meets_data_rule};
 use crate::job_cases::{COUNT, FAN, JobCase, TWO_TASKS, case_at};
-use crate::led::{Order, led};
 use crate::nets::fan;
+use crate::scheduler::{Order, run_in_order};
 use journal_rules::Entry;
 use legal_run::{Verdict, judge};
 use run_frame::FrameRun;
@@ -106,7 +106,7 @@ fn lead_each(
     for order in ORDERS {
         for often in OFTEN {
             let job = case.job(rt, net)?;
-            let Some(run) = led(rt, alloc, job, order, often)? else {
+            let Some(run) = run_in_order(rt, alloc, job, order, often)? else {
                 panic!(rt; "{} doesn't end", case.name);
             };
             check_run_alone(rt, alloc, net, case, &run)?;

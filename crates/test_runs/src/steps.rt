@@ -6,8 +6,8 @@ ghost use Rattle.table_steps.specs.Giving.{MayEndGiving};
 ghost use Rattle.test_runs.specs.Needs.{HasNeed};
 ghost use Rattle.test_runs.specs.Stages.{HasUnits, IsAdvanced, IsReady, IsRefused, IsStage, Lacks, MayEnd, MayStart, Owes};
 
+use crate::credits::{claim, credit};
 use crate::gives::gives_of;
-use crate::lending::{claim, lend};
 use crate::needs::need_of;
 use crate::shelf::Shelf;
 use crate::states::{Advanced, Need, Stage, Units};
@@ -188,7 +188,7 @@ impl Steps {
         match need {
             Need::Nothing => Stage::Running(self.table.start(ticket), Units::Empty),
             Need::Hold => Stage::Running(self.table.start(ticket), Units::Both),
-            Need::Borrow => Stage::Running(lend(&self.table, ticket), Units::Empty),
+            Need::Borrow => Stage::Running(credit(&self.table, ticket), Units::Empty),
             Need::Repay => match claim(&self.table, ticket) {
                 Ok(running) => Stage::Running(running, Units::First),
                 Err(running) => Stage::Overdrawn(running),

@@ -7,9 +7,9 @@ ghost use Rattle.run_frame.specs.NestedRule.{job_of};
 ghost use Rattle.worker_seat.specs.inside.Runs.{AreOfRun};
 ghost use Rattle.worker_seat.specs.inside.Seating.{IsRunOn};
 
-use crate::begun::BegunRuns;
 use crate::crew_run::CrewRun;
-use crate::list::{CrewList, RunsList};
+use crate::list::{RunsList, TaggedList};
+use crate::run_numbers::BegunRuns;
 use crate::seat::WorkerSeat;
 use crate::seats::{fetch_first, refuse_all, seat_all, send_all};
 use outside_io::{Back, NoMemory};
@@ -64,7 +64,7 @@ impl<J: Job + Drop> Crew<J> {
             return Err(Back { item: watchers });
         };
         let seats = seat_all(&ready, room, owners, watchers);
-        let list = CrewList {
+        let list = TaggedList {
             ready,
             begun,
             owners: count,

@@ -4,10 +4,10 @@ ghost use Rattle.table_frames.specs.Frames.{MayTake};
 ghost use Rattle.worker_seat.specs.inside.Runs.{AreIn, IsNumberOf};
 ghost use Rattle.worker_seat.specs.inside.Seating.{IsSameOwner};
 
-use crate::begun::RunNumber;
 use crate::crew_run::CrewRun;
 use crate::item::CrewItem;
 use crate::list::RunsList;
+use crate::run_numbers::RunNumber;
 use outside_io::NoMemory;
 use ready_deques::Owner;
 use run_frame::Job;

@@ -9,7 +9,7 @@ use Rattle.table_frames.specs.Bringing.{TakesIn}
 use Rattle.table_frames.specs.Frames.{FrameKey, HasTable}
 use Rattle.table_frames.specs.Steps.{IsRootRun}
 use Rattle.table_frames.specs.Telling.{HasEntries}
-use Rattle.table_frames.specs.declared.stepped.State.TheVariants.{Closed}
+use Rattle.table_frames.specs.declared.step_results.State.TheVariants.{Closed}
 use Rattle.table_frames.proofs.Entries.{of_later}
 use Rattle.table_frames.proofs.Keeping.{finds_so}
 use Rattle.table_frames.proofs.frame.Frame.keep.Goals as goal
