@@ -13,9 +13,9 @@ ghost use Rattle.run_frame.specs.Legal.{IsKept};
 ghost use Rattle.run_frame.specs.NestedRule.{job_of};
 ghost use Rattle.text_tasks.specs.JobMeaning.{text_job, IsTextJob};
 ghost use Rattle.flow_run.specs.Answers.{CallEnds, HasWritten, IsAfterRun, JobEnds, KeptOnce, Reported, RunEnds, names_in, output_of, run_text, run_texts};
-ghost use Rattle.flow_run.specs.Completing.{IsAtHand, NothingFails};
+ghost use Rattle.flow_run.specs.Completion.{IsAtHand, NothingFails};
 ghost use Rattle.flow_run.specs.Plainly.{AsksPlainly, IsReportedPlainly, EndsPlainly};
-ghost use Rattle.flow_run.specs.Reading.{HaveRead};
+ghost use Rattle.flow_run.specs.Reads.{HaveRead};
 ghost use Rattle.text_tasks.specs.declared.job.TextJob.{TextJob};
 
 use super::check_command::check_file;

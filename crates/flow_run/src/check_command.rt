@@ -4,9 +4,9 @@ ghost use Rattle.std.specs.List.{flat_map};
 ghost use Rattle.outside_io.specs.Sink.{Writes};
 ghost use Rattle.call_status.specs.Delivery.{Delivers};
 ghost use Rattle.flow_run.specs.Answers.{HasWritten, conclusion_text};
-ghost use Rattle.flow_run.specs.Checking.{CheckEnds, IsAfterFindings, IsChecked, StopsBeforeFindings, count_line, finding_line, findings_text, task_line};
-ghost use Rattle.flow_run.specs.Reading.{FailsBy, HaveRead};
-ghost use Rattle.flow_run.specs.inside.Named.{IsNamed};
+ghost use Rattle.flow_run.specs.Checks.{CheckEnds, IsAfterFindings, IsChecked, StopsBeforeFindings, count_line, finding_line, findings_text, task_line};
+ghost use Rattle.flow_run.specs.Reads.{FailsBy, HaveRead};
+ghost use Rattle.flow_run.specs.inside.NamedFindings.{IsNamed};
 
 use super::call::{Ended, stopped};
 use super::conclusion::{Conclusion, GraphFindings};

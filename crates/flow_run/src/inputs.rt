@@ -3,7 +3,7 @@ ghost use Rattle.std.specs.Prelude.{◌≡◌, [], IfOk, IfErr};
 ghost use Rattle.graph_plans.specs.PlanRows.{IsPlan, plan_rows};
 ghost use Rattle.graph_file.specs.PlanText.{PlanText};
 ghost use Rattle.text_tasks.specs.JobMeaning.{IsTextJob};
-ghost use Rattle.flow_run.specs.Reading.{FailsBy};
+ghost use Rattle.flow_run.specs.Reads.{FailsBy};
 ghost use Rattle.flow_run.specs.Requests.{HasStart, IsAdded, IsHeld, IsRequestedJob, StopsAtBytes, StopsAtName, StopsAtPlan, StopsAtText, StopsBefore, TextsAre, text_limit};
 
 use call_status::{Stop, graph_refusal};

@@ -4,8 +4,8 @@ ghost use Rattle.journal_text.specs.JournalText.{IsJournalText, RefusesJournal};
 ghost use Rattle.call_status.specs.Delivery.{Delivers};
 ghost use Rattle.call_status.specs.Statuses.{status_by};
 ghost use Rattle.flow_run.specs.Answers.{HasWritten, conclusion_text};
-ghost use Rattle.flow_run.specs.Judging.{HasJournal, IsAfterVerdict, IsJudged, JudgeEnds, StopsAtJournal, StopsAtJournalBytes, StopsBeforeVerdict, break_text, verdict_line};
-ghost use Rattle.flow_run.specs.Reading.{FailsBy, HaveRead};
+ghost use Rattle.flow_run.specs.Judgements.{HasJournal, IsAfterVerdict, IsJudged, JudgeEnds, StopsAtJournal, StopsAtJournalBytes, StopsBeforeVerdict, break_text, verdict_line};
+ghost use Rattle.flow_run.specs.Reads.{FailsBy, HaveRead};
 
 use super::call::{Ended, stopped};
 use super::conclusion::Conclusion;

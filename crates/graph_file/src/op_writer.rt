@@ -2,8 +2,8 @@
 ghost use Rattle.std.specs.Prelude.{◌≡◌, ◌++◌, ◌∷◌, [], ◌<◌, All, IfOk, OnOk, length, map, slice_index_or};
 ghost use Rattle.serde_json.specs.Data.{string};
 ghost use Rattle.serde_json.specs.View.{view};
-ghost use Rattle.graph_file.specs.Written.{lines_data, op_text, strings_data, text_op_text, with_field, without_field};
-ghost use Rattle.graph_file.specs.inside.Writing.{HasUtf8, HasUtf8Word, IsString, op_text_of};
+ghost use Rattle.graph_file.specs.WrittenPlan.{lines_data, op_text, strings_data, text_op_text, with_field, without_field};
+ghost use Rattle.graph_file.specs.inside.Writer.{HasUtf8, HasUtf8Word, IsString, op_text_of};
 
 use graph_plans::{Op, TextOp};
 use outside_io::Bytes;

@@ -4,7 +4,7 @@ ghost use Rattle.serde_json.specs.Errors.{IsMemory};
 ghost use Rattle.serde_json.specs.View.{view};
 ghost use Rattle.graph_plans.specs.PlanRows.{IsPlan, plan_rows};
 ghost use Rattle.graph_file.specs.PlanText.{IsRefused, PlanText, json_in, read_plan};
-ghost use Rattle.graph_file.specs.inside.Reading.{ReadsAs};
+ghost use Rattle.graph_file.specs.inside.Reader.{ReadsAs};
 
 use crate::refusals::GraphError;
 use crate::rules::plan_of;

@@ -5,8 +5,8 @@ ghost use Rattle.serde_json.specs.View.{view};
 ghost use Rattle.serde_json.specs.Written.{compact_text, has_float};
 ghost use Rattle.graph_plans.specs.PlanRows.{plan_rows};
 ghost use Rattle.graph_file.specs.PlanText.{HasFile, PlanText, json_in};
-ghost use Rattle.graph_file.specs.Written.{op_text, plan_data, plan_text, task_data, tasks_data, to_of};
-ghost use Rattle.graph_file.specs.inside.Writing.{HasUtf8, IsWritable, end_name, op_text_of, task_object};
+ghost use Rattle.graph_file.specs.WrittenPlan.{op_text, plan_data, plan_text, task_data, tasks_data, to_of};
+ghost use Rattle.graph_file.specs.inside.Writer.{HasUtf8, IsWritable, end_name, op_text_of, task_object};
 
 use crate::op_writer::{WrittenOp, string_value, written_op};
 use graph_plans::{Op, Plan};

@@ -4,8 +4,8 @@ ghost use Rattle.std.specs.Arc.{arc_value};
 ghost use Rattle.crossbeam_deque.specs.Handles.{view, worker_view};
 ghost use Rattle.crossbeam_deque.specs.Injected.{injector_view, IsInjectorPassOf};
 ghost use Rattle.ready_deques.specs.Lists.{IsOwnerOf};
-ghost use Rattle.ready_deques.specs.inside.Naming.{IsKnown, about};
-ghost use Rattle.ready_deques.specs.inside.Shared.{list_name_of};
+ghost use Rattle.ready_deques.specs.inside.ListNames.{IsKnown, about};
+ghost use Rattle.ready_deques.specs.inside.ListParts.{list_name_of};
 
 use crate::count::Account;
 use crate::deque::{ItemWorker, Queued};
@@ -57,7 +57,7 @@ impl<T: Tagged + Drop> Model for Owner<T> {
     ghost use Rattle.crossbeam_deque.specs.Handles.{view as pass_view, worker_view};
     ghost use Rattle.crossbeam_deque.specs.Injected.{injector_view, IsInjectorPassOf};
     ghost use Rattle.ready_deques.specs.Lists.{OwnerState, owner_state};
-    ghost use Rattle.ready_deques.specs.inside.Shared.{list_name_of};
+    ghost use Rattle.ready_deques.specs.inside.ListParts.{list_name_of};
 
     ghost Value = { OwnerState };
 

@@ -4,8 +4,8 @@ ghost use Rattle.std.specs.Arc.{arc_value};
 ghost use Rattle.crossbeam_deque.specs.Handles.{worker_view};
 ghost use Rattle.crossbeam_deque.specs.Injected.{injector_view, IsInjectorPassOf};
 ghost use Rattle.ready_deques.specs.Lists.{IsOwnerOf, tag_of};
-ghost use Rattle.ready_deques.specs.inside.Naming.{about};
-ghost use Rattle.ready_deques.specs.inside.Shared.{list_name_of};
+ghost use Rattle.ready_deques.specs.inside.ListNames.{about};
+ghost use Rattle.ready_deques.specs.inside.ListParts.{list_name_of};
 
 use crate::count::{Account, Counter};
 use crate::deque::{ItemWorker, Naming};

@@ -1,8 +1,8 @@
 // A stealer of another owner's deque.
 ghost use Rattle.std.specs.Prelude.{◌≡◌, ◌∷◌, [], All, Some, IfOk, IfSome};
 ghost use Rattle.crossbeam_deque.specs.Handles.{view, IsPassOf, stealer_deque, worker_flavor, worker_view};
-ghost use Rattle.ready_deques.specs.inside.Naming.{IsKnown};
-ghost use Rattle.ready_deques.specs.inside.Shared.{list_name_of};
+ghost use Rattle.ready_deques.specs.inside.ListNames.{IsKnown};
+ghost use Rattle.ready_deques.specs.inside.ListParts.{list_name_of};
 
 use crate::deque;
 use crate::deque::{ItemStealer, ItemWorker, Queued, StealerPass};

@@ -7,9 +7,9 @@ use Rattle.run_frame.specs.Meaning.{Meaning}
 use Rattle.run_frame.specs.Legal.{IsKept}
 use Rattle.run_frame.specs.NestedRule.{job_of}
 use Rattle.run_frame.specs.declared.run.FrameRun.{FrameRun}
-use Rattle.table_frames.specs.Allowed.{IsAllowed}
-use Rattle.table_frames.specs.Making.{Uses}
-use Rattle.table_frames.specs.Telling.{IsInJournal}
+use Rattle.table_frames.specs.AllowedFates.{IsAllowed}
+use Rattle.table_frames.specs.StepReleases.{Uses}
+use Rattle.table_frames.specs.JournalFacts.{IsInJournal}
 use Rattle.table_frames.specs.Frames.{FrameKey, ReleaseView, BacklogView, backlog_view, root_job, release_in}
 use Rattle.table_frames.specs.declared.step_results.State.{State}
 use Rattle.table_frames.specs.declared.step_results.State.TheVariants.{Went, Parked, Inner, Closed}

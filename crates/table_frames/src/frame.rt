@@ -51,10 +51,10 @@ impl<J: Job> Model for Frame<J> {
 
 impl<J: Job + Drop> Frame<J> {
     ghost use Rattle.table_frames.specs.Frames.{HasTable, MayTake, backlog_view, key_of};
-    ghost use Rattle.table_frames.specs.Bringing.{BringsFates};
+    ghost use Rattle.table_frames.specs.BacklogResults.{BringsFates};
     ghost use Rattle.table_frames.specs.Steps.{IsClosed, BeginsFrame, StepsRelease};
     ghost use Rattle.table_frames.specs.inside.Attempts.{IsAttemptAt, TriesRelease, room_due};
-    ghost use Rattle.table_frames.specs.inside.Concluding.{Concludes};
+    ghost use Rattle.table_frames.specs.inside.AttemptEnds.{Concludes};
     ghost use Rattle.table_frames.specs.inside.Runs.{IsBatchIn, IsNoBatch};
 
     /// Begins a run of a job, with its first releases by rising task: of each source task, and of each task that has strong

@@ -23,12 +23,12 @@ pub struct FrameBatch<J: Job> {
 }
 
 impl<J: Job> Model for FrameBatch<J> {
-    ghost use Rattle.table_frames.specs.inside.Gathering.{FrameBatchView};
+    ghost use Rattle.table_frames.specs.inside.FrameBatches.{FrameBatchView};
 
     ghost Value = { FrameBatchView J J.V };
 
     ghost use Rattle.table_frames.specs.Frames.{frames_around};
-    ghost use Rattle.table_frames.specs.inside.Gathering.{frame_batch_view};
+    ghost use Rattle.table_frames.specs.inside.FrameBatches.{frame_batch_view};
     ghost use Rattle.table_frames.specs.inside.Runs.{IsBatchIn};
 
     ghost view = { λ g. frame_batch_view (frames_around g.frame) g.batch.fates g.batch.room };
@@ -38,7 +38,7 @@ impl<J: Job> Model for FrameBatch<J> {
 
 impl<J: Job + Drop> FrameBatch<J> {
     ghost use Rattle.table_frames.specs.Frames.{MayTake, backlog_view};
-    ghost use Rattle.table_frames.specs.Bringing.{BringsFates};
+    ghost use Rattle.table_frames.specs.BacklogResults.{BringsFates};
 
     /// No turn, of no frame. It takes no memory.
     pub fn new(alloc: Global) -> FrameBatch<J>

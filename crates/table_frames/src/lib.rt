@@ -24,7 +24,7 @@
 //! The layer above sees a release as the keys of its frame and of the frames around it, its task and its cause
 //! (`specs/Frames.antt`). The last of these frames has the job of the whole run. What a beginning and a step come to is in
 //! `specs/Steps.antt`: which fate a release came to, that its job allows it, and which releases it made. Which edges made none
-//! is known to the table alone. What a bringing comes to is in `specs/Bringing.antt`: the run is closed exactly where the
+//! is known to the table alone. What a bringing comes to is in `specs/BacklogResults.antt`: the run is closed exactly where the
 //! keeper found one live turn. No frame is inside another yet, and no release is parked.
 #![tactic(auto)]
 

@@ -10,7 +10,7 @@ ghost use Rattle.join_tables.specs.States.{fresh_state};
 ghost use Rattle.join_tables.specs.Keeping.{IsLast, LeavesOf, TellsRun, entries_told};
 ghost use Rattle.run_frame.specs.FlatNets.{IsFlatNet};
 ghost use Rattle.run_frame.specs.declared.job.Done.{Done as DoneBy};
-ghost use Rattle.table_frames.specs.Making.{GivesEdges, IsFateOf, Uses, given_by};
+ghost use Rattle.table_frames.specs.StepReleases.{GivesEdges, IsFateOf, Uses, given_by};
 ghost use Rattle.table_frames.specs.inside.Runs.{AreOf, IsBatchOf, IsDone, IsNoBatch, MayWork};
 
 use super::attempt::{Attempt, Ending, Outcome};
@@ -79,7 +79,7 @@ struct TakenUp<V> {
 impl<J: Job + Drop> TableRun<J> {
     ghost use Rattle.table_frames.specs.Frames.{key_of};
     ghost use Rattle.table_frames.specs.inside.Begins.{Begins};
-    ghost use Rattle.table_frames.specs.inside.Taking.{TakesUp};
+    ghost use Rattle.table_frames.specs.inside.CollectedRelease.{TakesUp};
     ghost use Rattle.table_frames.specs.inside.Attempts.{IsAttemptIn, IsOutcomeIn, MayEnd, edges_due, release_tried, room_due};
 
     /// A run that has made no step.

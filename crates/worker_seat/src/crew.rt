@@ -5,7 +5,7 @@ ghost use Rattle.run_frame.specs.FlatNets.{IsFlatNet};
 ghost use Rattle.run_frame.specs.Legal.{IsKept};
 ghost use Rattle.run_frame.specs.NestedRule.{job_of};
 ghost use Rattle.worker_seat.specs.inside.Runs.{AreOfRun};
-ghost use Rattle.worker_seat.specs.inside.Seating.{IsRunOn};
+ghost use Rattle.worker_seat.specs.inside.SeatPlaces.{IsRunOn};
 
 use crate::crew_run::CrewRun;
 use crate::list::{RunsList, TaggedList};

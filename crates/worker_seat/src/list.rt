@@ -30,7 +30,7 @@ impl<T: Tagged + Drop, K: Tagged> Model for TaggedList<T, K> {
 
     ghost use Rattle.std.specs.Arc.{arc_value};
     ghost use Rattle.ready_deques.specs.Lists.{tag_of};
-    ghost use Rattle.worker_seat.specs.inside.Seating.{list_name};
+    ghost use Rattle.worker_seat.specs.inside.SeatPlaces.{list_name};
 
     ghost view = { λ list. crew_state (list_name (arc_value list.ready)) list.owners };
 

@@ -2,7 +2,7 @@
 ghost use Rattle.std.specs.Prelude.{◌≡◌, IfOk, IfSome, OnOk};
 ghost use Rattle.table_frames.specs.Frames.{MayTake};
 ghost use Rattle.worker_seat.specs.inside.Runs.{AreIn, IsNumberOf};
-ghost use Rattle.worker_seat.specs.inside.Seating.{IsSameOwner};
+ghost use Rattle.worker_seat.specs.inside.SeatPlaces.{IsSameOwner};
 
 use crate::crew_run::CrewRun;
 use crate::item::CrewItem;

@@ -1,4 +1,4 @@
-use Rattle.flow_run.specs.Checking.{findings_text}
+use Rattle.flow_run.specs.Checks.{findings_text}
 use Rattle.flow_run.proofs.check_command.deliver_findings.Goals as goal
 
 pub returns : goal.returns

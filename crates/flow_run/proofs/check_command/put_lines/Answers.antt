@@ -1,6 +1,6 @@
 use Rattle.std.proofs.lemmas.List.{get_or_default}
 use Rattle.outside_io.proofs.Pieces.{row_written, row_refused}
-use Rattle.flow_run.specs.Checking.{finding_line}
+use Rattle.flow_run.specs.Checks.{finding_line}
 use Rattle.flow_run.proofs.check_command.put_lines.Goals as goal
 
 pub loop-finding-preserved : goal.loop-finding-preserved

@@ -1,7 +1,7 @@
 use Rattle.std.proofs.Common.{take}
 use Rattle.std.specs.List.{flat_map}
 use Rattle.outside_io.specs.Sink.{Accepts}
-use Rattle.flow_run.specs.Checking.{finding_line}
+use Rattle.flow_run.specs.Checks.{finding_line}
 use Rattle.flow_run.proofs.check_command.put_lines.Given as goal
 
 abbrev pub invariant-loop-finding : goal.invariant-loop-finding

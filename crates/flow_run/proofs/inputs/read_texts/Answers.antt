@@ -1,6 +1,6 @@
 use Rattle.std.proofs.Common.{List, ℕ, subst, ◌∙◌}
 use Rattle.call_status.specs.Statuses.{status_of}
-use Rattle.flow_run.specs.Reading.{FailsWith}
+use Rattle.flow_run.specs.Reads.{FailsWith}
 use Rattle.flow_run.specs.Requests.{IsAdded, StopsAtName, SourceTexts, text_limit}
 use Rattle.flow_run.proofs.Preparing.{read_one_more, stops_at}
 use Rattle.flow_run.proofs.inputs.read_texts.Goals as goal

@@ -1,5 +1,5 @@
 use Rattle.serde_json.specs.View.{view}
-use Rattle.graph_file.specs.inside.Reading.{draft_rows}
+use Rattle.graph_file.specs.inside.Reader.{draft_rows}
 use Rattle.graph_file.proofs.PlanLemmas.{IsDraft-read}
 use Rattle.graph_file.proofs.reader.read_by_steps.Goals as goal
 

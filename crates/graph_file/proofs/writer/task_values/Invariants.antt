@@ -1,7 +1,7 @@
 use Rattle.std.proofs.Common.{◌≡◌, map, take}
 use Rattle.serde_json.specs.View.{view}
 use Rattle.graph_plans.specs.PlanRows.{plan_rows}
-use Rattle.graph_file.specs.Written.{tasks_from}
+use Rattle.graph_file.specs.WrittenPlan.{tasks_from}
 use Rattle.graph_file.proofs.writer.task_values.Given as goal
 
 abbrev pub invariant-loop-task : goal.invariant-loop-task

@@ -3,7 +3,7 @@ use Rattle.std.proofs.lemmas.List.{take_all}
 use Rattle.serde_json.specs.Data.{string}
 use Rattle.task_graph.specs.Net.{out_edges}
 use Rattle.graph_plans.specs.PlanRows.{plan_rows}
-use Rattle.graph_file.specs.inside.Writing.{end_name}
+use Rattle.graph_file.specs.inside.Writer.{end_name}
 use Rattle.graph_file.proofs.WritingLemmas.{edge-within, ends-to}
 use Rattle.graph_file.proofs.writer.to_values.Goals as goal
 

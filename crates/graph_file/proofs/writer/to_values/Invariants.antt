@@ -2,7 +2,7 @@ use Rattle.std.proofs.Common.{◌≡◌, map, take}
 use Rattle.serde_json.specs.Data.{string}
 use Rattle.serde_json.specs.View.{view}
 use Rattle.graph_plans.specs.PlanRows.{plan_rows}
-use Rattle.graph_file.specs.inside.Writing.{end_name}
+use Rattle.graph_file.specs.inside.Writer.{end_name}
 use Rattle.graph_file.proofs.writer.to_values.Given as goal
 
 abbrev pub invariant-loop-edge : goal.invariant-loop-edge

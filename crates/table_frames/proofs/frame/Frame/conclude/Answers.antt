@@ -2,7 +2,7 @@ use Rattle.std.proofs.Common.{◌≡◌, [], ◌∷◌, ◌++◌, refl, sym, ap,
 use Rattle.std.proofs.lemmas.List.Elements.{All-nil}
 use Rattle.join_tables.specs.States.{FreshState}
 use Rattle.table_frames.specs.Frames.{IsInnermost, backlog_view}
-use Rattle.table_frames.specs.Making.{Uses}
+use Rattle.table_frames.specs.StepReleases.{Uses}
 use Rattle.table_frames.specs.inside.Attempts.{IsAttemptAt, release_tried}
 use Rattle.table_frames.specs.inside.Runs.{AreOf}
 use Rattle.table_frames.proofs.frame.Frame.conclude.Goals as goal

@@ -3,7 +3,7 @@ use Rattle.std.specs.Arc.{arc_value}
 use Rattle.table_frames.specs.Frames.{BacklogView, ReleaseView}
 use Rattle.table_frames.specs.Steps.{StepsRelease}
 use Rattle.table_frames.specs.inside.Attempts.{TriesRelease}
-use Rattle.table_frames.specs.inside.Concluding.{Concludes}
+use Rattle.table_frames.specs.inside.AttemptEnds.{Concludes}
 use Rattle.table_frames.specs.declared.step_results.State.TheVariants.{Went}
 use Rattle.table_frames.proofs.Concluding.{steps_release}
 use Rattle.table_frames.proofs.frame.Frame.step.Goals as goal

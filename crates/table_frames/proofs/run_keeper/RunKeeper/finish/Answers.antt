@@ -9,7 +9,7 @@ use Rattle.table_frames.specs.Frames.{RunKeeperView}
 use Rattle.table_frames.proofs.Finishing.{Tells, finished}
 use Rattle.run_frame.specs.declared.run.FrameRun.{FrameRun, FrameRun-F, roll-FrameRun, out-roll-FrameRun}
 use Rattle.run_frame.specs.declared.run.InnerRow.{InnerRow}
-use Rattle.table_frames.specs.Telling.{HasEntries}
+use Rattle.table_frames.specs.JournalFacts.{HasEntries}
 use Rattle.table_frames.proofs.run_keeper.RunKeeper.finish.Goals as goal
 
 pub returns-clause-kept : goal.returns-clause-kept

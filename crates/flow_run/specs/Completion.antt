@@ -3,8 +3,8 @@ use Rattle.std.specs.Prelude.{◌≡◌, ℕ, List, Option, IsSomeAnd}
 use Rattle.outside_io.specs.Sink.{SinkState}
 use Rattle.command_line.specs.Requests.{Asked, run, judge, check}
 use Rattle.flow_run.specs.Requests.{SourceTexts, CanBeRun}
-use Rattle.flow_run.specs.Judging.{CanBeJudged}
-use Rattle.flow_run.specs.Checking.{CanBeChecked}
+use Rattle.flow_run.specs.Judgements.{CanBeJudged}
+use Rattle.flow_run.specs.Checks.{CanBeChecked}
 
 -- what a command needs is held
 abbrev pub CanBeDone : (List ℕ → Option (List ℕ)) → Asked → Type 0

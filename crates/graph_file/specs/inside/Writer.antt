@@ -9,7 +9,7 @@ use Rattle.graph_plans.specs.declared.ops.TextOp.{TextOp}
 use Rattle.graph_plans.specs.declared.ops.TextOp.TheVariants.{Pass, Keep, Without, Head, Tail, Skip, Sort, Uniq, Count, Tally}
 use Rattle.graph_plans.specs.PlanRows.{PlanRows, file_task_limit}
 use Rattle.graph_file.specs.declared.op_writer.WrittenOp.{WrittenOp}
-use Rattle.graph_file.specs.Written.{OpText}
+use Rattle.graph_file.specs.WrittenPlan.{OpText}
 use Rattle.graph_file.specs.inside.Drafts.{IsAmong}
 
 -- what is written as a string is UTF-8

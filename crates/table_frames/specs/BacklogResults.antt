@@ -7,7 +7,7 @@ use Rattle.join_tables.specs.declared.fates.Fate.{Fate}
 use Rattle.run_frame.specs.Meaning.{Meaning}
 use Rattle.table_frames.specs.Frames.{FrameKey, HasTable}
 use Rattle.table_frames.specs.Steps.{IsClosed, IsStateOf}
-use Rattle.table_frames.specs.Telling.{HasEntriesOf}
+use Rattle.table_frames.specs.JournalFacts.{HasEntriesOf}
 use Rattle.table_frames.specs.declared.step_results.Brought.{Brought}
 use Rattle.table_frames.specs.declared.step_results.State.{State}
 use Rattle.table_frames.specs.declared.step_results.State.TheVariants.{Went}

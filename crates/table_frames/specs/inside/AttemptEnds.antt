@@ -3,10 +3,10 @@ use Rattle.std.specs.Prelude.{◌≡◌, List, [], ◌∷◌, ◌++◌}
 use Rattle.join_tables.specs.States.{FreshState}
 use Rattle.join_tables.specs.declared.fates.Fate.{Fate}
 use Rattle.run_frame.specs.Meaning.{Meaning}
-use Rattle.table_frames.specs.Allowed.{IsAllowed}
+use Rattle.table_frames.specs.AllowedFates.{IsAllowed}
 use Rattle.table_frames.specs.Frames.{FrameKey, BacklogView, backlog_view}
-use Rattle.table_frames.specs.Making.{Uses}
-use Rattle.table_frames.specs.Telling.{IsInJournal}
+use Rattle.table_frames.specs.StepReleases.{Uses}
+use Rattle.table_frames.specs.JournalFacts.{IsInJournal}
 use Rattle.table_frames.specs.inside.Attempts.{release_tried}
 use Rattle.table_frames.specs.declared.attempt.Attempt.{Attempt}
 
