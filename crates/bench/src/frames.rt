@@ -2,6 +2,7 @@
 use crate::clock::nanos_since;
 use crate::nets::{NetKind, net_of};
 use outside_io::NoMemory;
+use ready_deques::MAX_WORKERS;
 use std::alloc::{AllocError, Global};
 use std::io;
 use std::sync::{Arc, Wait};
@@ -75,7 +76,7 @@ fn starts_made<R: Threads + Wait + Sync>(
     job: NumberJob,
     workers: usize,
 ) -> Result<u64, NoMemory> {
-    let run = if workers == 0 || workers > 16 {
+    let run = if workers == 0 || workers > MAX_WORKERS {
         run_alone(rt, alloc, Arc::new(alloc, job)?)?
     } else {
         run_by_workers(rt, alloc, job, workers)?

@@ -64,6 +64,7 @@ mod sleepers;
 mod stealer;
 mod tagged;
 
+pub use count::MAX_WORKERS;
 pub use owner::Owner;
 pub use ready::Ready;
 pub use shares::Shares;

@@ -6,6 +6,7 @@ use crate::nets::fan;
 use crate::scheduler::{Order, run_in_order};
 use journal_rules::Entry;
 use legal_run::{Verdict, judge};
+use ready_deques::MAX_WORKERS;
 use run_frame::FrameRun;
 use std::alloc::Global;
 use std::process::Abort;
@@ -132,7 +133,7 @@ fn run_each<R: Threads + Wait + Abort + Sync>(
     case: &JobCase,
 ) -> Result<(), Fail> {
     for workers in CREWS {
-        assert!(rt; 0 < workers && workers <= 16, "{workers} workers");
+        assert!(rt; 0 < workers && workers <= MAX_WORKERS, "{workers} workers");
         for _ in 0..TIMES {
             let run = run_by_workers(rt, alloc, case.job(rt, net)?, workers)?;
             check_run(rt, alloc, net, case, &run)?;

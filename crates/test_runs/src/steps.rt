@@ -2,6 +2,7 @@
 ghost use Rattle.std.specs.Prelude.{◌≡◌, ◌≤◌, IfSome, IfOk, [], ◌∷◌, false, length};
 ghost use Rattle.std.specs.Arc.{arc_value};
 ghost use Rattle.test_runs.specs.declared.states.Need.TheVariants.{Hold};
+ghost use Rattle.journal_rules.specs.Limits.{max_limit};
 ghost use Rattle.table_steps.specs.Giving.{MayEndGiving};
 ghost use Rattle.test_runs.specs.Needs.{HasNeed};
 ghost use Rattle.test_runs.specs.Stages.{HasUnits, IsAdvanced, IsReady, IsRefused, IsStage, Lacks, MayEnd, MayStart, Owes};
@@ -66,7 +67,7 @@ impl Steps {
         net: &Arc<Net>,
         terms: Terms,
     ) -> Result<(Steps, Shelf), NoMemory>
-        requires { terms.limit ≤ 2097153 }
+        requires { terms.limit ≤ max_limit }
         ensures { IfOk result (λ r. r.1 ≡ r.0.table.table) }
     {
         let net = Arc::try_clone(net)?;

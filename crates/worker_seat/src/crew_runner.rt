@@ -3,6 +3,7 @@ ghost use Rattle.std.specs.Prelude.{◌≡◌, ◌<◌, ◌≤◌, [], length, m
 ghost use Rattle.std.specs.Arc.{arc_value};
 ghost use Rattle.std.specs.Thread.{IsSync};
 ghost use Rattle.run_frame.specs.FlatNets.{IsFlatNet};
+ghost use Rattle.ready_deques.specs.Limits.{max_workers};
 ghost use Rattle.worker_seat.specs.Crews.{AreEntered, AreSeatsOf, IsKeptOf, MayBegin, MayEnter, watcher_of};
 
 use crate::crew::{Crew, CrewParts};
@@ -32,14 +33,14 @@ pub struct CrewRan<J: Job, X> {
     pub watchers: Vec<X>,
 }
 
-/// Runs a job to its end by a new crew, which has a seat for each of 1 to 16 watchers.
+/// Runs a job to its end by a new crew, which has a seat for each of 1 to `MAX_WORKERS` watchers.
 pub fn run_by_crew<J: Job + Drop, X: Drop, E: EntersEach<J, X>, R: Threads + Wait + Sync>(
     rt: &R,
     alloc: Global,
     watchers: Vec<X>,
     job: Arc<J>,
 ) -> CrewRan<J, X>
-    requires watchers { (0 < length watchers.items) × (length watchers.items ≤ 16) }
+    requires watchers { (0 < length watchers.items) × (length watchers.items ≤ max_workers) }
     requires flat { IsFlatNet (J.meaning.net (arc_value job)) }
     ensures run { IfSome result.run (IsKeptOf J.meaning (arc_value job)) }
     ensures watchers { result.watchers.items ≡ watchers.items }
