@@ -1,7 +1,8 @@
 // Runs of jobs of numbers: by one thread without a lock, and by crews.
 use crate::clock::nanos_since;
-use crate::nets::{Kind, net_of};
+use crate::nets::{NetKind, net_of};
 use outside_io::NoMemory;
+use ready_deques::MAX_WORKERS;
 use std::alloc::{AllocError, Global};
 use std::io;
 use std::sync::{Arc, Wait};
@@ -21,11 +22,11 @@ const TIMES: u32 = 5;
 const NEVER: u64 = 0;
 
 // Jobs: which tasks precede which, and how often each task adds to a word. Four hundred additions take some two microseconds.
-const WORKS: [(Kind, u64, &str); 4] = [
-    (Kind::Chain, 0, "a chain of empty tasks"),
-    (Kind::Join, 0, "empty tasks before the last"),
-    (Kind::Fan, 0, "empty tasks behind the first"),
-    (Kind::Fan, 400, "tasks of 400 additions behind the first"),
+const WORKS: [(NetKind, u64, &str); 4] = [
+    (NetKind::Chain, 0, "a chain of empty tasks"),
+    (NetKind::Join, 0, "empty tasks before the last"),
+    (NetKind::Fan, 0, "empty tasks behind the first"),
+    (NetKind::Fan, 400, "tasks of 400 additions behind the first"),
 ];
 
 // Crews of so many workers, and one thread that needs no lock in place of none.
@@ -75,7 +76,7 @@ fn starts_made<R: Threads + Wait + Sync>(
     job: NumberJob,
     workers: usize,
 ) -> Result<u64, NoMemory> {
-    let run = if workers == 0 || workers > 16 {
+    let run = if workers == 0 || workers > MAX_WORKERS {
         run_alone(rt, alloc, Arc::new(alloc, job)?)?
     } else {
         run_by_workers(rt, alloc, job, workers)?

@@ -1,6 +1,6 @@
 // Runs of a machine, and the judge's walk over a journal.
 use crate::clock::{micros_since, nanos_since};
-use crate::nets::{Kind, net_of};
+use crate::nets::{NetKind, net_of};
 use journal_rules::{Cause, MAX_LIMIT};
 use legal_run::{Machine, MachineError, Verdict, judge};
 use std::alloc::AllocError;
@@ -10,10 +10,10 @@ use std::time::Instant;
 use task_graph::Net;
 
 // Nets that are led to rest: how many tasks and edges each has.
-const NETS: [(Kind, u32, u32, &str); 2] = [
-    (Kind::Later, 10_000, 100_000, "10,000 tasks, 100,000 edges"),
+const NETS: [(NetKind, u32, u32, &str); 2] = [
+    (NetKind::Later, 10_000, 100_000, "10,000 tasks, 100,000 edges"),
     (
-        Kind::Join,
+        NetKind::Join,
         100_000,
         99_999,
         "100,000 tasks that all precede the last",
@@ -61,7 +61,7 @@ fn run_in_order(machine: &mut Machine, net: &Net) -> Result<(), MachineError> {
 // Measures a start of a condition with its end, and the judge on the journal of many.
 fn measure_loop(rt: &HostRuntime) -> io::Result<()> {
     let tasks = CHOICES + 1;
-    let net = net_of(rt.alloc(), Kind::Loop, tasks, tasks)?;
+    let net = net_of(rt.alloc(), NetKind::Loop, tasks, tasks)?;
     let mut machine = machine_on(rt, &net)?;
     let begun = Instant::now(rt)?;
     turn(&mut machine).map_err(|_| AllocError)?;

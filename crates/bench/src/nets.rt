@@ -9,7 +9,7 @@ use task_graph::{BuildError, Net, NetBuilder, Shape};
 
 /// Where the edges of a net lead.
 #[derive(Clone, Copy, PartialEq, Eq)]
-pub enum Kind {
+pub enum NetKind {
     /// From each task to the next.
     Chain,
     /// From the first task to all others.
@@ -31,7 +31,7 @@ pub enum Kind {
 }
 
 /// A net of so many tasks, two at least, and of so many edges.
-pub fn net_of(alloc: Global, kind: Kind, tasks: u32, edges: u32) -> io::Result<Arc<Net>> {
+pub fn net_of(alloc: Global, kind: NetKind, tasks: u32, edges: u32) -> io::Result<Arc<Net>> {
     if tasks < 2 {
         return Err(AllocError.into());
     }
@@ -41,7 +41,7 @@ pub fn net_of(alloc: Global, kind: Kind, tasks: u32, edges: u32) -> io::Result<A
     }
 }
 
-fn built(alloc: Global, kind: Kind, tasks: u32, edges: u32) -> Result<Net, BuildError>
+fn built(alloc: Global, kind: NetKind, tasks: u32, edges: u32) -> Result<Net, BuildError>
     requires { 1 < tasks }
 {
     let mut builder = NetBuilder::new(alloc);
@@ -56,34 +56,34 @@ fn built(alloc: Global, kind: Kind, tasks: u32, edges: u32) -> Result<Net, Build
     Ok(builder.finish())
 }
 
-fn shape_of(kind: Kind, task: u32) -> Shape {
+fn shape_of(kind: NetKind, task: u32) -> Shape {
     match kind {
-        Kind::Loop if task > 0 => Shape::Choice,
-        Kind::Conditions if task % 3 == 0 => Shape::Choice,
+        NetKind::Loop if task > 0 => Shape::Choice,
+        NetKind::Conditions if task % 3 == 0 => Shape::Choice,
         _ => Shape::Plain,
     }
 }
 
 // The tasks from which and to which an edge leads. The numbers at random go by a state.
-fn ends_of(kind: Kind, tasks: u32, edge: u32, state: &mut u64) -> (u32, u32)
+fn ends_of(kind: NetKind, tasks: u32, edge: u32, state: &mut u64) -> (u32, u32)
     requires { 1 < tasks }
 {
     let from = edge % tasks;
     let next = from.saturating_add(1) % tasks;
     match kind {
-        Kind::Chain => (from, next),
-        Kind::Fan => (0, next),
-        Kind::Join => (from, tasks - 1),
-        Kind::Later => {
+        NetKind::Chain => (from, next),
+        NetKind::Fan => (0, next),
+        NetKind::Join => (from, tasks - 1),
+        NetKind::Later => {
             let from = edge % (tasks - 1);
             let on = (edge / tasks).saturating_add(1);
             (from, from.saturating_add(on).min(tasks - 1))
         }
-        Kind::Ring => (from, next.saturating_add(edge / tasks) % tasks),
-        Kind::Loop if next == 0 => (from, 1),
-        Kind::Loop => (from, next),
-        Kind::Random | Kind::Conditions => (below(tasks, state), below(tasks, state)),
-        Kind::RandomLater => {
+        NetKind::Ring => (from, next.saturating_add(edge / tasks) % tasks),
+        NetKind::Loop if next == 0 => (from, 1),
+        NetKind::Loop => (from, next),
+        NetKind::Random | NetKind::Conditions => (below(tasks, state), below(tasks, state)),
+        NetKind::RandomLater => {
             let (one, other) = (below(tasks, state), below(tasks, state));
             (one.min(other), one.max(other))
         }

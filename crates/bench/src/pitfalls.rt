@@ -3,18 +3,18 @@ ghost use Rattle.std.specs.Prelude.{IsTrue};
 ghost use Rattle.pitfall_check.specs.Pitfalls.{BeginsWithoutTokens};
 
 use crate::clock::micros_since;
-use crate::nets::{Kind, net_of};
+use crate::nets::{NetKind, net_of};
 use pitfall_check::check;
 use std::alloc::{AllocError, Global};
 use std::io;
 use std::time::Instant;
 use task_graph::Net;
 
-const KINDS: [(Kind, &str); 4] = [
-    (Kind::Random, "edges at random"),
-    (Kind::Conditions, "a third of the tasks conditions"),
-    (Kind::RandomLater, "edges to later tasks at random"),
-    (Kind::Ring, "edges to the next tasks, in a ring"),
+const KINDS: [(NetKind, &str); 4] = [
+    (NetKind::Random, "edges at random"),
+    (NetKind::Conditions, "a third of the tasks conditions"),
+    (NetKind::RandomLater, "edges to later tasks at random"),
+    (NetKind::Ring, "edges to the next tasks, in a ring"),
 ];
 
 /// Prints how long the building and the check of each kind of net take.

@@ -43,17 +43,17 @@ use Rattle.run_frame.specs.LastEnds.{last_before, last_value}
 use Rattle.run_frame.specs.WorkRule.{WorkRule, gives_of}
 use Rattle.run_frame.specs.NestedRule.{NestedRule, job_of, journal_of}
 use Rattle.run_frame.specs.Legal.{IsKept}
-use Rattle.table_frames.specs.Allowed.{IsAllowed, AreAllowed, work_with}
+use Rattle.table_frames.specs.AllowedFates.{IsAllowed, AreAllowed, work_with}
 use Rattle.table_frames.specs.Frames.{FrameKey, ReleaseView, BacklogView, release_in, root_job, depth_of, frames_around, IsInnermost, HasTable, backlog_view, MayTake, key_of}
-use Rattle.table_frames.specs.Held.{HoldsRelease}
-use Rattle.table_frames.specs.Making.{IsFateOf, given_by, release_of, AreMadeBy, GivesEdges, MayRelease, Uses}
-use Rattle.table_frames.specs.Telling.{IsInJournal, HasEntriesOf}
+use Rattle.table_frames.specs.Holders.{HoldsRelease}
+use Rattle.table_frames.specs.StepReleases.{IsFateOf, given_by, release_of, AreMadeBy, GivesEdges, MayRelease, Uses}
+use Rattle.table_frames.specs.JournalFacts.{IsInJournal, HasEntriesOf}
 use Rattle.table_frames.specs.Steps.{IsRootRun, IsStateOf, IsClosed, BeginsFrame, StepsRelease}
-use Rattle.table_frames.specs.Bringing.{TakesIn, MayTakeIn, BringsFates}
+use Rattle.table_frames.specs.BacklogResults.{TakesIn, MayTakeIn, BringsFates}
 use Rattle.table_frames.specs.declared.release.HeldBy.TheVariants as held
-use Rattle.table_frames.specs.declared.stepped.Brought.{Brought}
-use Rattle.table_frames.specs.declared.stepped.State.TheVariants.{Went, Parked, Inner as HasInner, Closed}
-use Rattle.table_frames.specs.declared.stepped.Stepped.{Stepped}
+use Rattle.table_frames.specs.declared.step_results.Brought.{Brought}
+use Rattle.table_frames.specs.declared.step_results.State.TheVariants.{Went, Parked, Inner as HasInner, Closed}
+use Rattle.table_frames.specs.declared.step_results.Stepped.{Stepped}
 
 abbrev free : Shape → TaskRow
 free shape = record { shape = shape; takes = []; puts = [] }

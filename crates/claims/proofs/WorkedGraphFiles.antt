@@ -31,7 +31,7 @@ use Rattle.graph_file.proofs.PlanLemmas.{IsPlan-read}
 use Rattle.json.specs.Print.{escape_byte}
 use Rattle.std.specs.Fmt.{digits}
 use Rattle.graph_file.specs.Steps.{walk}
-use Rattle.graph_file.specs.Written.{op_text, to_of, plan_data, file_data, task_data, plan_text}
+use Rattle.graph_file.specs.WrittenPlan.{op_text, to_of, plan_data, file_data, task_data, plan_text}
 
 abbrev a : List ℕ
 a = codes "a"

@@ -10,7 +10,7 @@ use Rattle.journal_rules.specs.declared.entry.Why.TheVariants.{Inner}
 use Rattle.journal_rules.specs.declared.entry.DropWhy.TheVariants.{Halted, Limit, Stuck}
 use Rattle.journal_rules.specs.declared.entry.Entry.{Entry}
 use Rattle.journal_rules.specs.declared.entry.Entry.TheVariants.{Start, End, Fault, Drop}
-use Rattle.legal_run.specs.declared.ready.Ready.{Ready}
+use Rattle.legal_run.specs.declared.ready.ReadyRelease.{ReadyRelease}
 use Rattle.legal_run.specs.declared.verdict.Break.TheVariants.{NoSuch, AfterStuck, NotReleased, OverUnits, OverLimit, NotOpen, NotChosen, NothingOut, NotOver, NotHalted, NotStuck}
 use Rattle.legal_run.specs.declared.verdict.Verdict.TheVariants.{Complete as Finished, Legal, Breaks as BreaksAt}
 use Rattle.journal_rules.specs.Complete.{Complete}
@@ -74,7 +74,7 @@ strong_left = (refl, refl)
 weak_left : (times_left net given_twice 2 (Weak 1) ≡ 2) × (times_left net (Drop 2 (Weak 1) Halted ∷ given_twice) 2 (Weak 1) ≡ 1)
 weak_left = (refl, refl)
 
-abbrev left_of : ℕ → ℕ → Ready
+abbrev left_of : ℕ → ℕ → ReadyRelease
 left_of t times = record { task = t; cause = Source; times = times }
 
 all_left : ready_list net (Drop 0 Source Halted ∷ given_twice) ≡ left_of 1 1 ∷ record { task = 2; cause = Strong; times = 1 } ∷ record { task = 2; cause = Weak 1; times = 2 } ∷ []

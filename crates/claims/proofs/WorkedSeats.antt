@@ -8,6 +8,7 @@ use Rattle.keyed_lock.specs.Locks.{made_with, IsLockPass}
 use Rattle.tickets.specs.Books.{book_state, ticket_state}
 use Rattle.ready_deques.specs.declared.ready.Ready.{Ready}
 use Rattle.ready_deques.specs.declared.tagged.Tagged.{Ghosts}
+use Rattle.ready_deques.specs.Limits.{max_workers}
 use Rattle.ready_deques.specs.Lists.{tag_of, owner_state, IsOwnerOf}
 
 abbrev first_slot : List (ℕ × Option ℕ) → ℕ
@@ -51,6 +52,10 @@ module _ (r s : TableId) (other : s ≢ r) where
 
   ticket_of_another_register : ¬ ((ticket_state {X = ℕ} s 3 7).register ≡ r)
   ticket_of_another_register is = other is
+
+-- Sixteen workers may share a list.
+greatest_workers : max_workers ≡ 16
+greatest_workers = refl
 
 -- An owner of a list has its tag and counts with its word, however often it found the word 0.
 module _ {T : Type 0} {G : Ghosts T} (ready : Ready T G) where

@@ -20,7 +20,7 @@ use Rattle.command_line.specs.Requests.{check as check_of}
 use Rattle.flow_run.specs.declared.conclusion.Conclusion.TheVariants as conclusion
 use Rattle.flow_run.specs.declared.conclusion.GraphFindings.{GraphFindings}
 use Rattle.flow_run.specs.Requests.{SourceTexts, StopsAtPlan, StopsAtBytes}
-use Rattle.flow_run.specs.Checking.{StopsAtFile, StopsBeforeFindings, IsChecked, IsAfterFindings, EndsChecked, CheckEnds, CanBeChecked, finding_line, findings_text, count_line}
+use Rattle.flow_run.specs.Checks.{StopsAtFile, StopsBeforeFindings, IsChecked, IsAfterFindings, EndsChecked, CheckEnds, CanBeChecked, finding_line, findings_text, count_line}
 use Rattle.flow_run.specs.Answers.{conclusion_text, wants_journal, output_of}
 use Rattle.flow_run.proofs.Completing.{one_plan}
 

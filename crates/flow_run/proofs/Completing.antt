@@ -23,8 +23,8 @@ use Rattle.call_status.specs.Statuses.{status_of}
 use Rattle.call_status.specs.Statuses.{status_after}
 use Rattle.flow_run.specs.declared.conclusion.Conclusion.{Conclusion}
 use Rattle.flow_run.specs.Answers.{TextRun, IsAfterRun, RunEnds, CallEnds}
-use Rattle.flow_run.specs.Completing.{IsAtHand}
-use Rattle.flow_run.specs.Checking.{IsAfterFindings, StopsBeforeFindings, CheckEnds, CanBeChecked}
+use Rattle.flow_run.specs.Completion.{IsAtHand}
+use Rattle.flow_run.specs.Checks.{IsAfterFindings, StopsBeforeFindings, CheckEnds, CanBeChecked}
 use Rattle.journal_rules.specs.declared.entry.Entry.{Entry}
 use Rattle.task_graph.specs.NetRows.{NetRows}
 use Rattle.legal_run.specs.declared.verdict.Break.{Break}
@@ -33,7 +33,7 @@ use Rattle.legal_run.specs.declared.verdict.Verdict.TheVariants.{Complete as Fin
 use Rattle.legal_run.specs.Verdict.{IsVerdict}
 use Rattle.journal_text.specs.JournalText.{IsJournalText}
 use Rattle.journal_text.proofs.TextLemmas.{one_journal}
-use Rattle.flow_run.specs.Judging.{IsJudged, IsAfterVerdict, StopsAtJournalBytes, StopsAtJournal, StopsBeforeVerdict, JudgeEnds, CanBeJudged, journal_limit}
+use Rattle.flow_run.specs.Judgements.{IsJudged, IsAfterVerdict, StopsAtJournalBytes, StopsAtJournal, StopsBeforeVerdict, JudgeEnds, CanBeJudged, journal_limit}
 
 -- Bytes stand for one plan at most.
 pub one_plan : (bytes : List ℕ) (plan other : PlanRows) → PlanText bytes plan → PlanText bytes other → plan ≡ other

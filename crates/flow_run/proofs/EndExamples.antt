@@ -41,8 +41,8 @@ use Rattle.flow_run.specs.declared.conclusion.Conclusion.TheVariants as conclusi
 use Rattle.flow_run.specs.declared.conclusion.GraphFindings.{GraphFindings}
 use Rattle.flow_run.specs.Requests.{SourceTexts, StopsAtName, IsAdded, StopsAtText, HasStart, StopsAtBytes, StopsAtGraph, StopsBefore, HasPlan, IsRequestedJob, CanBeRun, text_limit}
 use Rattle.flow_run.specs.Answers.{TextRun, IsAfterRun, RanOnce, KeptOnce, RunEnds, JobEnds, CallEnds, Reported, names_in, run_texts}
-use Rattle.flow_run.specs.Judging.{StopsAtJournal, StopsAtJournalText, StopsBeforeVerdict, JudgeEnds, CanBeJudged}
-use Rattle.flow_run.specs.Checking.{StopsBeforeFindings, EndsChecked, CheckEnds, CanBeChecked}
+use Rattle.flow_run.specs.Judgements.{StopsAtJournal, StopsAtJournalText, StopsBeforeVerdict, JudgeEnds, CanBeJudged}
+use Rattle.flow_run.specs.Checks.{StopsBeforeFindings, EndsChecked, CheckEnds, CanBeChecked}
 
 abbrev g : List ℕ
 g = 0 ∷ []

@@ -9,7 +9,7 @@ use Rattle.flow_run.specs.Requests.{SourceTexts}
 use Rattle.nested_runs.specs.declared.reasons.Reason.{Reason}
 use Rattle.text_tasks.specs.declared.job.TextJob.{TextJob}
 use Rattle.flow_run.specs.Answers.{TextRun, IsAfterRun, JobEnds, KeptOnce}
-use Rattle.flow_run.specs.Reading.{FailsWith, HaveRead}
+use Rattle.flow_run.specs.Reads.{FailsWith, HaveRead}
 
 -- A run that is kept and reported by its reason is how its job ends.
 pub kept_ends : (job : TextJob) (status : Status) (runs : List TextRun) (why : Reason) → KeptOnce job runs why → IsAfterRun why status → JobEnds job status runs

@@ -31,7 +31,7 @@ use Rattle.call_status.specs.Statuses.{status_of}
 use Rattle.call_status.specs.Stopping.{StoppedBefore}
 use Rattle.flow_run.specs.declared.conclusion.Conclusion.TheVariants as conclusion
 use Rattle.run_laws.specs.Output.{report_of}
-use Rattle.flow_run.specs.Judging.{HasJournal, StopsAtJournalBytes, StopsAtJournal, StopsBeforeVerdict, IsJudged, IsAfterVerdict, EndsJudged, JudgeEnds, CanBeJudged, break_text, verdict_line, journal_limit}
+use Rattle.flow_run.specs.Judgements.{HasJournal, StopsAtJournalBytes, StopsAtJournal, StopsBeforeVerdict, IsJudged, IsAfterVerdict, EndsJudged, JudgeEnds, CanBeJudged, break_text, verdict_line, journal_limit}
 use Rattle.flow_run.specs.Answers.{TextRun, run_texts, wants_journal, conclusion_text, output_of}
 
 abbrev g : List ℕ

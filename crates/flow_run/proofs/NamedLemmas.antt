@@ -9,7 +9,7 @@ use Rattle.pitfall_check.specs.declared.finding.Finding.TheVariants.{NoSource, M
 use Rattle.pitfall_check.specs.Findings.{AreFindings}
 use Rattle.pitfall_check.specs.Pitfalls.{IsPitfall}
 use Rattle.pitfall_check.proofs.ListingLemmas.{named_task}
-use Rattle.flow_run.specs.inside.Named.{IsNamed}
+use Rattle.flow_run.specs.inside.NamedFindings.{IsNamed}
 
 one_named : (net : NetRows) (names : List (List ℕ)) (f : Finding) → IsNet net → length names ≡ length net.tasks → IsPitfall net f → IsNamed names f
 one_named net names NoSource is counted holds = tt

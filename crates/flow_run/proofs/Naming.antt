@@ -39,8 +39,8 @@ use Rattle.call_status.specs.declared.stop.Stop.{Stop}
 use Rattle.call_status.specs.declared.stop.Stop.TheVariants as stop
 use Rattle.flow_run.specs.declared.conclusion.Conclusion.{Conclusion}
 use Rattle.flow_run.specs.Answers.{CallEnds, IsAfterRun, TextRun, names_in}
-use Rattle.flow_run.specs.Checking.{IsAfterFindings}
-use Rattle.flow_run.specs.Judging.{IsAfterVerdict}
+use Rattle.flow_run.specs.Checks.{IsAfterFindings}
+use Rattle.flow_run.specs.Judgements.{IsAfterVerdict}
 use Rattle.flow_run.specs.Requests.{SourceTexts}
 use Rattle.legal_run.specs.declared.verdict.Verdict.{Verdict}
 use Rattle.legal_run.specs.declared.verdict.Verdict.TheVariants.{Complete as Finished, Legal as Legally, Breaks}

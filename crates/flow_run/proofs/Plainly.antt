@@ -27,7 +27,7 @@ use Rattle.run_laws.proofs.TextPlain.{same_report}
 use Rattle.flow_run.specs.declared.conclusion.Conclusion.{Conclusion}
 use Rattle.flow_run.specs.Requests.{SourceTexts, CanBeRun, HasPlan, IsHeld, IsRequested, IsRequestedJob, IsTextOf, StopsBefore, TextsAre, file_limit, text_limit}
 use Rattle.flow_run.specs.Answers.{CallEnds, IsAfterRun, RanOnce, RunEnds, TextRun, conclusion_text, output_of, run_texts, wants_journal}
-use Rattle.flow_run.specs.Completing.{IsAtHand}
+use Rattle.flow_run.specs.Completion.{IsAtHand}
 use Rattle.flow_run.specs.Plainly.{AsksPlainly, IsReportedPlainly}
 use Rattle.flow_run.proofs.Completing.{completes, one_plan}
 

@@ -8,10 +8,10 @@ use Rattle.call_status.specs.declared.stop.Stop.{Stop}
 use Rattle.call_status.specs.declared.stop.Stop.TheVariants as stop
 use Rattle.command_line.specs.Requests.{Asked, run as run_of, judge as judge_of, check as check_of}
 use Rattle.flow_run.specs.Requests.{SourceTexts, CanBeRun}
-use Rattle.flow_run.specs.Judging.{CanBeJudged}
-use Rattle.flow_run.specs.Checking.{CanBeChecked}
-use Rattle.flow_run.specs.Reading.{FailsOnce, FailsBy, HaveRead}
-use Rattle.flow_run.specs.Completing.{IsAtHand, NothingFails}
+use Rattle.flow_run.specs.Judgements.{CanBeJudged}
+use Rattle.flow_run.specs.Checks.{CanBeChecked}
+use Rattle.flow_run.specs.Reads.{FailsOnce, FailsBy, HaveRead}
+use Rattle.flow_run.specs.Completion.{IsAtHand, NothingFails}
 
 abbrev t : List ℕ
 t = 1 ∷ []

@@ -17,7 +17,7 @@ use Rattle.run_frame.specs.Runs.{value_at, values_of}
 use Rattle.text_tasks.specs.declared.item.Item.{Item}
 use Rattle.text_tasks.specs.declared.job.TextJob.{TextJob}
 use Rattle.text_tasks.specs.JobMeaning.{text_job}
-use Rattle.flow_run.specs.inside.Rising.{AreRising}
+use Rattle.flow_run.specs.inside.RisingValues.{AreRising}
 
 -- ---- the places of Ends rise
 

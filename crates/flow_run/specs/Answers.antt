@@ -23,8 +23,8 @@ use Rattle.flow_run.specs.declared.conclusion.Conclusion.{Conclusion}
 use Rattle.flow_run.specs.declared.conclusion.Conclusion.TheVariants.{Verdict, Findings}
 use Rattle.flow_run.specs.Requests.{SourceTexts, IsRequestedJob, StopsBefore}
 use Rattle.run_laws.specs.Output.{report_of}
-use Rattle.flow_run.specs.Judging.{JudgeEnds, verdict_line}
-use Rattle.flow_run.specs.Checking.{CheckEnds, findings_text}
+use Rattle.flow_run.specs.Judgements.{JudgeEnds, verdict_line}
+use Rattle.flow_run.specs.Checks.{CheckEnds, findings_text}
 
 -- a run of text jobs
 abbrev pub TextRun : Type 0

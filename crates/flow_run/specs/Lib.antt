@@ -1,8 +1,8 @@
 pub mod Requests
-pub mod Reading
-pub mod Judging
-pub mod Checking
+pub mod Reads
+pub mod Judgements
+pub mod Checks
 pub mod Answers
-pub mod Completing
+pub mod Completion
 pub mod Plainly
 pub mod inside

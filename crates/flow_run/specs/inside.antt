@@ -1,4 +1,4 @@
 -- Internal: what private functions need of their arguments, and what they do with them.
-pub mod Named
+pub mod NamedFindings
 pub mod Rooms
-pub mod Rising
+pub mod RisingValues

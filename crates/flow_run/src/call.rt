@@ -13,15 +13,15 @@ ghost use Rattle.run_frame.specs.Legal.{IsKept};
 ghost use Rattle.run_frame.specs.NestedRule.{job_of};
 ghost use Rattle.text_tasks.specs.JobMeaning.{text_job, IsTextJob};
 ghost use Rattle.flow_run.specs.Answers.{CallEnds, HasWritten, IsAfterRun, JobEnds, KeptOnce, Reported, RunEnds, names_in, output_of, run_text, run_texts};
-ghost use Rattle.flow_run.specs.Completing.{IsAtHand, NothingFails};
+ghost use Rattle.flow_run.specs.Completion.{IsAtHand, NothingFails};
 ghost use Rattle.flow_run.specs.Plainly.{AsksPlainly, IsReportedPlainly, EndsPlainly};
-ghost use Rattle.flow_run.specs.Reading.{HaveRead};
+ghost use Rattle.flow_run.specs.Reads.{HaveRead};
 ghost use Rattle.text_tasks.specs.declared.job.TextJob.{TextJob};
 
-use super::checking::check_file;
+use super::check_command::check_file;
 use super::conclusion::Conclusion;
-use super::judging::judge_file;
-use super::prepare::prepare;
+use super::inputs::prepare;
+use super::judge_command::judge_file;
 use super::report::put_report;
 use super::workers::run_by;
 use call_status::{Noted, Status, flushed, put_note};
@@ -38,7 +38,7 @@ use text_tasks::TextJob;
 
 /// How a call of the program ended.
 #[derive(Drop)]
-pub struct Outcome {
+pub struct CallResult {
     /// Why it ended.
     pub status: Status,
     /// The runs that were run to their end.
@@ -53,7 +53,7 @@ pub struct Outcome {
     pub noted: Noted,
 }
 
-impl Outcome {
+impl CallResult {
     /// The exit code of a program that ends so. The runs and all else are let go.
     pub fn into_code(self) -> u8
         ensures { result ≡ code_of self.status }
@@ -76,7 +76,7 @@ pub fn flow_main<F: Texts, S: Sink, N: Sink, R: Threads + Wait + Sync>(
     out: &mut S,
     notes: &mut N,
     mut watchers: Vec<Box<dyn Watch + Send>>,
-) -> Outcome
+) -> CallResult
     requires nothing_held_on_out { (S.state out.old).held_back ≡ [] }
     requires nothing_held_on_notes { (N.state notes.old).held_back ≡ [] }
     // The status has its cause; the kept run is one legal and complete run of the graph that FILE holds, the verdict
@@ -112,7 +112,7 @@ pub fn flow_main<F: Texts, S: Sink, N: Sink, R: Threads + Wait + Sync>(
         written,
     } = answer(rt, alloc, words, texts, out, &mut watchers);
     let noted = put_note(alloc, notes, names_in(runs.as_slice()), &status);
-    Outcome {
+    CallResult {
         status,
         runs,
         conclusion,

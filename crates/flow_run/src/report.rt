@@ -9,7 +9,7 @@ ghost use Rattle.text_tasks.specs.JobMeaning.{names_of, net_of, text_job};
 ghost use Rattle.nested_runs.specs.Reasons.{run_reason};
 ghost use Rattle.call_status.specs.Reasons.{NamesReason, reason_line};
 ghost use Rattle.run_laws.specs.Output.{ended_mark, header, outcome, report, task_report, report_of};
-ghost use Rattle.flow_run.specs.inside.Rising.{AreRising};
+ghost use Rattle.flow_run.specs.inside.RisingValues.{AreRising};
 
 use call_status::add_reason_line;
 use nested_runs::Reason;

@@ -5,7 +5,7 @@ use Rattle.serde_json.specs.Data.{Data}
 use Rattle.graph_file.specs.declared.refusals.GraphError.{GraphError}
 use Rattle.graph_file.specs.Contents.{each}
 use Rattle.graph_file.specs.Steps.{◌>>=◌, walk}
-use Rattle.graph_file.specs.inside.Reading.{put_each}
+use Rattle.graph_file.specs.inside.Reader.{put_each}
 
 later : {X Y : Type 0} (f : X → Y) (e : GraphError) (ys : List Y) (x : X) (rest : Option (List X))
     → (ok_or rest e >>= λ xs. Ok ((ys ++ f x ∷ []) ++ map f xs)) ≡ (ok_or (option_map (λ xs. x ∷ xs) rest) e >>= λ xs. Ok (ys ++ map f xs))

@@ -11,7 +11,7 @@ use Rattle.graph_file.specs.Fields.{task_spot}
 use Rattle.graph_file.specs.PlanText.{add_name}
 use Rattle.graph_file.specs.Steps.{walk}
 use Rattle.graph_file.specs.inside.Lookups.{HasPlaces, place_in}
-use Rattle.graph_file.specs.inside.Reading.{unless_repeated}
+use Rattle.graph_file.specs.inside.Reader.{unless_repeated}
 
 some_from_step : (b : Bool) (i : ℕ) (rest : Option ℕ) (any : Bool) → is_some rest ≡ any → is_some (cond b (Some i) rest) ≡ (b || any)
 some_from_step true i rest any e = refl

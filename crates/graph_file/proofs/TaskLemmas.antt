@@ -10,7 +10,7 @@ use Rattle.graph_file.specs.Fields.{allowed, needed, task_spot}
 use Rattle.graph_file.specs.OpRows.{op_in, op_rows}
 use Rattle.graph_file.specs.PlanText.{DraftRows, LinkRow, add_task, link_to}
 use Rattle.graph_file.specs.Steps.{◌>>=◌, walk}
-use Rattle.graph_file.specs.inside.Reading.{Leads, add_task_steps, links_with, put_each}
+use Rattle.graph_file.specs.inside.Reader.{Leads, add_task_steps, links_with, put_each}
 use Rattle.graph_file.proofs.EachLemmas.{walk-put_each}
 
 -- the names in a task's `to`, read one after another

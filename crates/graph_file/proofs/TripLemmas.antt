@@ -14,7 +14,7 @@ use Rattle.graph_file.specs.Fields.{u32_of}
 use Rattle.graph_file.specs.OpRows.{FileOpRow, reads, does}
 use Rattle.graph_file.specs.PlanText.{DraftRows, LinkRow, PlanText, TaskText, add_edge, add_name, draft_in, json_in, link_to, mentioned, no_tasks, numbered, plan_in, plan_of, plan_with, text_number, with_task_text, with_text, within_limits}
 use Rattle.graph_file.specs.Steps.{◌>>=◌, walk}
-use Rattle.graph_file.specs.Written.{file_data, op_text, plan_data, tasks_from, to_of}
+use Rattle.graph_file.specs.WrittenPlan.{file_data, op_text, plan_data, tasks_from, to_of}
 use Rattle.graph_file.specs.inside.Fine.{AreFine, fits, with_tasks}
 use Rattle.graph_file.proofs.BindLemmas.{bind_ok}
 use Rattle.graph_file.proofs.FineLemmas.{draft_in-tasks}

@@ -9,7 +9,7 @@ use Rattle.graph_file.specs.declared.refusals.GraphError.{GraphError}
 use Rattle.graph_file.specs.declared.refusals.GraphError.TheVariants.{BadField}
 use Rattle.graph_file.specs.Contents.{each, list_of, word_of, words_of}
 use Rattle.graph_file.specs.Steps.{◌>>=◌, walk}
-use Rattle.graph_file.specs.inside.Reading.{Reads, put_each}
+use Rattle.graph_file.specs.inside.Reader.{Reads, put_each}
 use Rattle.graph_file.proofs.EachLemmas.{walk-put_each}
 
 map-same : {A : Type 0} (xs : List A) → map (λ x. x) xs ≡ xs

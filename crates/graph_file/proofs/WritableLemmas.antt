@@ -21,9 +21,9 @@ use Rattle.graph_file.specs.Contents.{is_name, is_name_byte, is_text}
 use Rattle.graph_file.specs.OpRows.{FileOpRow, reads, does}
 use Rattle.graph_file.specs.PlanText.{DraftRows, PlanText, TaskText, add_edge, add_name, draft_in, json_in, mentioned, no_tasks, numbered, plan_in, plan_of, plan_with, within_limits}
 use Rattle.graph_file.specs.Steps.{◌>>=◌, walk}
-use Rattle.graph_file.specs.Written.{op_text, plan_data, task_data, tasks_from, text_op_text, to_of}
+use Rattle.graph_file.specs.WrittenPlan.{op_text, plan_data, task_data, tasks_from, text_op_text, to_of}
 use Rattle.graph_file.specs.inside.Fine.{AreFine, fits, fits_text_op, fits_words, with_tasks}
-use Rattle.graph_file.specs.inside.Writing.{HasUtf8, HasUtf8Word, IsString, IsWritable}
+use Rattle.graph_file.specs.inside.Writer.{HasUtf8, HasUtf8Word, IsString, IsWritable}
 use Rattle.graph_file.proofs.BindLemmas.{bind_ok}
 use Rattle.graph_file.proofs.DraftLemmas.{All-true, IsDraft-of}
 use Rattle.graph_file.proofs.FineLemmas.{draft_in-tasks}

@@ -8,8 +8,8 @@ use Rattle.task_graph.specs.declared.net.EdgeRow.{EdgeRow}
 use Rattle.serde_json.specs.Data.{Data}
 use Rattle.graph_plans.specs.declared.ops.Op.{Op}
 use Rattle.graph_plans.specs.PlanRows.{PlanRows}
-use Rattle.graph_file.specs.Written.{op_text, task_data, tasks_from, to_of}
-use Rattle.graph_file.specs.inside.Writing.{IsString, end_name}
+use Rattle.graph_file.specs.WrittenPlan.{op_text, task_data, tasks_from, to_of}
+use Rattle.graph_file.specs.inside.Writer.{IsString, end_name}
 
 -- a name at a place is UTF-8
 pub utf8-at : (names : List (List ℕ)) (i : ℕ) (name : List ℕ) → i < length names → name ≡ get_or names i name → All IsString names → IsString name

@@ -14,7 +14,7 @@ use Rattle.graph_file.specs.Contents.{each, is_name, is_object, is_text, listed,
 use Rattle.graph_file.specs.OpRows.{FileOpRow, reads, does, op_rows, text_rows}
 use Rattle.graph_file.specs.PlanText.{DraftRows, TaskText, add_task, draft_in, no_tasks, with_task_text}
 use Rattle.graph_file.specs.Steps.{walk}
-use Rattle.graph_file.specs.Written.{OpText, file_data, op_text, strings_data, task_data, text_op_text, with_field}
+use Rattle.graph_file.specs.WrittenPlan.{OpText, file_data, op_text, strings_data, task_data, text_op_text, with_field}
 use Rattle.graph_file.specs.inside.Fine.{AreFine, fits, fits_op, fits_text_op, fits_words, with_tasks}
 
 listed-items_of : (ds : List Data) → listed (items_of ds) ≡ ds

@@ -3,5 +3,5 @@ pub mod Contents
 pub mod Fields
 pub mod OpRows
 pub mod PlanText
-pub mod Written
+pub mod WrittenPlan
 pub mod inside

@@ -8,7 +8,7 @@ ghost use Rattle.serde_json.specs.View.{view};
 ghost use Rattle.graph_file.specs.Contents.{each, empty_list_of, line_count_of, list_of, task_name_of, name_list_of, text_name_of, whole_of, word_of, words_of};
 ghost use Rattle.graph_file.specs.Fields.{allowed, is_unknown, needed, only, unknown};
 ghost use Rattle.graph_file.specs.PlanText.{task_fields};
-ghost use Rattle.graph_file.specs.inside.Reading.{Leads, Reads, ReadsAs, put_each};
+ghost use Rattle.graph_file.specs.inside.Reader.{Leads, Reads, ReadsAs, put_each};
 ghost use Rattle.graph_file.specs.Steps.{walk};
 
 use crate::bad_fields::bad_field;

@@ -4,7 +4,7 @@ ghost use Rattle.std.specs.Option.{option_or};
 ghost use Rattle.graph_file.specs.PlanText.{add_name, text_number, with_text};
 ghost use Rattle.graph_file.specs.Steps.{walk};
 ghost use Rattle.graph_file.specs.inside.Lookups.{HasPlaces, KeepsPlace, place_in};
-ghost use Rattle.graph_file.specs.inside.Reading.{unless_repeated};
+ghost use Rattle.graph_file.specs.inside.Reader.{unless_repeated};
 
 use outside_io::{Bytes, List, NoMemory};
 use std::alloc::Global;

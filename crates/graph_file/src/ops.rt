@@ -3,7 +3,7 @@ ghost use Rattle.std.specs.Prelude.{◌≡◌, codes, map, option_and_then, opti
 ghost use Rattle.serde_json.specs.Find.{as_str, get};
 ghost use Rattle.serde_json.specs.View.{view};
 ghost use Rattle.graph_file.specs.OpRows.{does, op_called, op_in, op_rows, text_rows, used_by};
-ghost use Rattle.graph_file.specs.inside.Reading.{ReadsAs, found_op, found_text_op};
+ghost use Rattle.graph_file.specs.inside.Reader.{ReadsAs, found_op, found_text_op};
 
 use crate::bad_fields::bad_field;
 use crate::fields::{read_lines, read_text_name, read_word, read_words};

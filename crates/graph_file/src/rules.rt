@@ -5,7 +5,7 @@ ghost use Rattle.graph_file.specs.Steps.{walk};
 ghost use Rattle.graph_plans.specs.PlanRows.{plan_rows};
 ghost use Rattle.graph_file.specs.inside.Drafts.{IsDraft, edge_rows, plan_around};
 ghost use Rattle.graph_file.specs.inside.Lookups.{HasPlaces};
-ghost use Rattle.graph_file.specs.inside.Reading.{Leads, Reads, ReadsAs, draft_rows, link_row};
+ghost use Rattle.graph_file.specs.inside.Reader.{Leads, Reads, ReadsAs, draft_rows, link_row};
 
 use crate::bad_fields::{no_such_name, repeated, task_spot};
 use crate::draft::{Draft, Link};

@@ -7,7 +7,7 @@ ghost use Rattle.graph_file.specs.Fields.{allowed, needed, task_spot};
 ghost use Rattle.graph_file.specs.PlanText.{draft_in, link_to, mentioned, no_tasks, numbered};
 ghost use Rattle.graph_file.specs.Steps.{walk};
 ghost use Rattle.graph_file.specs.inside.Lookups.{HasPlaces};
-ghost use Rattle.graph_file.specs.inside.Reading.{Leads, Reads, ReadsAs, add_task_steps, draft_rows, file_op_row, link_row, links_with, put_each, with_op};
+ghost use Rattle.graph_file.specs.inside.Reader.{Leads, Reads, ReadsAs, add_task_steps, draft_rows, file_op_row, link_row, links_with, put_each, with_op};
 
 use crate::bad_fields::{bad_field, task_spot};
 use crate::contents::{list_of, objects_of, task_name_of, whole_of};

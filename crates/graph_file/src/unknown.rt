@@ -5,7 +5,7 @@ ghost use Rattle.std.specs.List.{find, list_any};
 ghost use Rattle.std.specs.Str.{bytes_eq};
 ghost use Rattle.serde_json.specs.View.{view};
 ghost use Rattle.graph_file.specs.Fields.{is_unknown, only, unknown};
-ghost use Rattle.graph_file.specs.inside.Reading.{Reads};
+ghost use Rattle.graph_file.specs.inside.Reader.{Reads};
 
 use crate::bad_fields::bad_field;
 use crate::refusals::GraphError;

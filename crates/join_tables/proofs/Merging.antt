@@ -15,8 +15,8 @@ use Rattle.table_steps.specs.Giving.{one_if}
 use Rattle.join_tables.specs.declared.fates.Dropping.{Dropping}
 use Rattle.join_tables.specs.declared.fates.Fate.{Fate}
 use Rattle.join_tables.specs.declared.fates.Fate.TheVariants.{Ended, Faulted, Dropped, AllDropped}
-use Rattle.join_tables.specs.declared.filed.Filed.{Filed}
-use Rattle.join_tables.specs.inside.Merging.{filed_drop, filed_of, all_filed, placed, journal_in}
+use Rattle.join_tables.specs.declared.entry_row.EntryRow.{EntryRow}
+use Rattle.join_tables.specs.inside.Merging.{drop_row, fate_rows, all_rows, placed, journal_in}
 use Rattle.table_steps.proofs.Journals.{count_cons}
 
 -- HOW MANY ENTRIES THERE ARE
@@ -139,15 +139,15 @@ pub told_below : (rs qs : List Recorded) → qs ≡ rs → TellsSomeRun rs → A
 told_below rs qs is told = subst (λ xs. AllByRecursion (λ (r : Recorded). r.place < length xs) xs) (sym is) (places_below rs told.tells.journal told.tells.merges)
 
 -- the entry that is put at a place
-abbrev pub entry_of : {V : Type 0} → ℕ × Filed V → Recorded
+abbrev pub entry_of : {V : Type 0} → ℕ × EntryRow V → Recorded
 entry_of x = record { place = x.0; entry = x.1.entry }
 
-drops_entries : (V : Type 0) (ds : List Dropping) → map (entry_of {V = V}) (map filed_drop ds) ≡ map drop_of ds
+drops_entries : (V : Type 0) (ds : List Dropping) → map (entry_of {V = V}) (map drop_row ds) ≡ map drop_of ds
 drops_entries V [] = refl
 drops_entries V (d ∷ ds) = ap (λ rs. drop_of d ∷ rs) (drops_entries V ds)
 
 -- the entries that lie at the places
-abbrev pub shown : {V : Type 0} → List (Option (Filed V)) → List (Option Entry)
+abbrev pub shown : {V : Type 0} → List (Option (EntryRow V)) → List (Option Entry)
 shown [] = []
 shown (None ∷ fs) = None ∷ shown fs
 shown (Some f ∷ fs) = Some f.entry ∷ shown fs
@@ -157,48 +157,48 @@ shown_none V zero = refl
 shown_none V (suc n) = ap (λ xs. None ∷ xs) (shown_none V n)
 
 module _ {V : Type 0} where
-  filed_entries : (fate : Fate V) → map entry_of (filed_of fate) ≡ entries_of fate
-  filed_entries (Ended e) = refl
-  filed_entries (Faulted f) = refl
-  filed_entries (Dropped d) = refl
-  filed_entries (AllDropped drops) = drops_entries V (reverse drops.items)
+  row_entries : (fate : Fate V) → map entry_of (fate_rows fate) ≡ entries_of fate
+  row_entries (Ended e) = refl
+  row_entries (Faulted f) = refl
+  row_entries (Dropped d) = refl
+  row_entries (AllDropped drops) = drops_entries V (reverse drops.items)
 
-  all_entries : (fates : List (Fate V)) → map entry_of (all_filed fates) ≡ entries_told fates
+  all_entries : (fates : List (Fate V)) → map entry_of (all_rows fates) ≡ entries_told fates
   all_entries [] = refl
-  all_entries (fate ∷ fates) = map-append entry_of (filed_of fate) (all_filed fates) ∙ (λ i. filed_entries fate i ++ all_entries fates i)
+  all_entries (fate ∷ fates) = map-append entry_of (fate_rows fate) (all_rows fates) ∙ (λ i. row_entries fate i ++ all_entries fates i)
 
   -- the places of the entries are those of what is put
-  filed_below : (n : ℕ) (xs : List (ℕ × Filed V)) → AllByRecursion (λ (r : Recorded). r.place < n) (map entry_of xs) → AllByRecursion (λ x. x.0 < n) xs
-  filed_below n [] h = tt
-  filed_below n (x ∷ xs) h = (h.0, filed_below n xs h.1)
+  rows_below : (n : ℕ) (xs : List (ℕ × EntryRow V)) → AllByRecursion (λ (r : Recorded). r.place < n) (map entry_of xs) → AllByRecursion (λ x. x.0 < n) xs
+  rows_below n [] h = tt
+  rows_below n (x ∷ xs) h = (h.0, rows_below n xs h.1)
 
-  pub all_below_filed : (n : ℕ) (fates : List (Fate V)) → AllByRecursion (λ (r : Recorded). r.place < n) (entries_told fates) → AllByRecursion (λ x. x.0 < n) (all_filed fates)
-  all_below_filed n fates h = filed_below n (all_filed fates) (subst (AllByRecursion (λ (r : Recorded). r.place < n)) (sym (all_entries fates)) h)
+  pub all_rows_below : (n : ℕ) (fates : List (Fate V)) → AllByRecursion (λ (r : Recorded). r.place < n) (entries_told fates) → AllByRecursion (λ x. x.0 < n) (all_rows fates)
+  all_rows_below n fates h = rows_below n (all_rows fates) (subst (AllByRecursion (λ (r : Recorded). r.place < n)) (sym (all_entries fates)) h)
 
-  shown_set : (fs : List (Option (Filed V))) (n : ℕ) (f : Filed V) → shown (set fs n (Some f)) ≡ set (shown fs) n (Some f.entry)
+  shown_set : (fs : List (Option (EntryRow V))) (n : ℕ) (f : EntryRow V) → shown (set fs n (Some f)) ≡ set (shown fs) n (Some f.entry)
   shown_set [] n f = refl
   shown_set (None ∷ fs) zero f = refl
   shown_set (Some g ∷ fs) zero f = refl
   shown_set (None ∷ fs) (suc n) f = ap (λ xs. None ∷ xs) (shown_set fs n f)
   shown_set (Some g ∷ fs) (suc n) f = ap (λ xs. Some g.entry ∷ xs) (shown_set fs n f)
 
-  shown_placed : (xs : List (ℕ × Filed V)) (fs : List (Option (Filed V))) → shown (placed xs fs) ≡ put_entries (map entry_of xs) (shown fs)
+  shown_placed : (xs : List (ℕ × EntryRow V)) (fs : List (Option (EntryRow V))) → shown (placed xs fs) ≡ put_entries (map entry_of xs) (shown fs)
   shown_placed [] fs = refl
   shown_placed (x ∷ xs) fs = shown_placed xs (set fs x.0 (Some x.1)) ∙ ap (put_entries (map entry_of xs)) (shown_set fs x.0 x.1)
 
-  journal_shown : (fs : List (Option (Filed V))) → journal_in fs ≡ somes (shown fs)
+  journal_shown : (fs : List (Option (EntryRow V))) → journal_in fs ≡ somes (shown fs)
   journal_shown [] = refl
   journal_shown (None ∷ fs) = journal_shown fs
   journal_shown (Some f ∷ fs) = ap (λ xs. f.entry ∷ xs) (journal_shown fs)
 
   module _ (fates : List (Fate V)) where
     -- where all entries are put
-    abbrev pub places_of : List (Option (Filed V))
-    places_of = placed (all_filed fates) (replicate (length (entries_told fates)) None)
+    abbrev pub places_of : List (Option (EntryRow V))
+    places_of = placed (all_rows fates) (replicate (length (entries_told fates)) None)
 
     pub shown_all : (journal : List Entry) → Merges (entries_told fates) journal → shown places_of ≡ map Some journal
-    shown_all journal m = let none : List (Option (Filed V)) = replicate (length (entries_told fates)) None in
-        shown_placed (all_filed fates) none ∙ (λ i. put_entries (all_entries fates i) (shown_none V (length (entries_told fates)) i)) ∙ entries_placed (entries_told fates) journal m
+    shown_all journal m = let none : List (Option (EntryRow V)) = replicate (length (entries_told fates)) None in
+        shown_placed (all_rows fates) none ∙ (λ i. put_entries (all_entries fates i) (shown_none V (length (entries_told fates)) i)) ∙ entries_placed (entries_told fates) journal m
 
     journal_of_all : (journal : List Entry) → Merges (entries_told fates) journal → journal_in places_of ≡ journal
     journal_of_all journal m = journal_shown places_of ∙ ap somes (shown_all journal m) ∙ somes_map journal
@@ -210,29 +210,29 @@ module _ {V : Type 0} where
     all_finished made is = λ net limit tells. subst (λ j. ShapeLegal net limit j × MeetsDataRule net j × Complete net limit j) (sym (is ∙ journal_of_all tells.journal tells.merges)) (tells.legal, tells.meets, tells.complete)
 
   -- MANY AT ONCE
-  pub placed_both : (xs ys : List (ℕ × Filed V)) (fs : List (Option (Filed V))) → placed (xs ++ ys) fs ≡ placed ys (placed xs fs)
+  pub placed_both : (xs ys : List (ℕ × EntryRow V)) (fs : List (Option (EntryRow V))) → placed (xs ++ ys) fs ≡ placed ys (placed xs fs)
   placed_both [] ys fs = refl
   placed_both (x ∷ xs) ys fs = placed_both xs ys (set fs x.0 (Some x.1))
 
-  pub placed_size : (xs : List (ℕ × Filed V)) (fs : List (Option (Filed V))) → length (placed xs fs) ≡ length fs
+  pub placed_size : (xs : List (ℕ × EntryRow V)) (fs : List (Option (EntryRow V))) → length (placed xs fs) ≡ length fs
   placed_size [] fs = refl
   placed_size (x ∷ xs) fs = placed_size xs (set fs x.0 (Some x.1)) ∙ length-set fs x.0 (Some x.1)
 
-  pub below_both : (n : ℕ) (xs ys : List (ℕ × Filed V)) → AllByRecursion (λ x. x.0 < n) (xs ++ ys) → AllByRecursion (λ x. x.0 < n) xs × AllByRecursion (λ x. x.0 < n) ys
+  pub below_both : (n : ℕ) (xs ys : List (ℕ × EntryRow V)) → AllByRecursion (λ x. x.0 < n) (xs ++ ys) → AllByRecursion (λ x. x.0 < n) xs × AllByRecursion (λ x. x.0 < n) ys
   below_both n [] ys h = (tt, h)
   below_both n (x ∷ xs) ys h = let more = below_both n xs ys h.1 in ((h.0, more.0), more.1)
 
-  pub record NextDrop (fs new : List (Option (Filed V))) (left all : List Dropping) (d : Dropping) : Type 0 where
+  pub record NextDrop (fs new : List (Option (EntryRow V))) (left all : List Dropping) (d : Dropping) : Type 0 where
     pub here : d.place < length fs
-    pub rest : placed (map filed_drop (reverse left)) new ≡ placed (map filed_drop (reverse all)) fs
-    pub below : AllByRecursion (λ (x : ℕ × Filed V). x.0 < length new) (map filed_drop (reverse left))
+    pub rest : placed (map drop_row (reverse left)) new ≡ placed (map drop_row (reverse all)) fs
+    pub below : AllByRecursion (λ (x : ℕ × EntryRow V). x.0 < length new) (map drop_row (reverse left))
 
-  pub next_drop : (fs new : List (Option (Filed V))) (left all : List Dropping) (d : Dropping) → all ≡ left ++ d ∷ [] → new ≡ placed (filed_drop d ∷ []) fs → AllByRecursion (λ (x : ℕ × Filed V). x.0 < length fs) (map filed_drop (reverse all)) → NextDrop fs new left all d
+  pub next_drop : (fs new : List (Option (EntryRow V))) (left all : List Dropping) (d : Dropping) → all ≡ left ++ d ∷ [] → new ≡ placed (drop_row d ∷ []) fs → AllByRecursion (λ (x : ℕ × EntryRow V). x.0 < length fs) (map drop_row (reverse all)) → NextDrop fs new left all d
   next_drop fs new left all d is put below =
       let order : reverse all ≡ d ∷ reverse left = ap reverse is ∙ reverse-append left (d ∷ []) in
-      let each = subst (λ ds. AllByRecursion (λ (x : ℕ × Filed V). x.0 < length fs) (map filed_drop ds)) order below in
+      let each = subst (λ ds. AllByRecursion (λ (x : ℕ × EntryRow V). x.0 < length fs) (map drop_row ds)) order below in
       record {
         here = each.0;
-        rest = ap (placed (map filed_drop (reverse left))) put ∙ ap (λ ds. placed (map filed_drop ds) fs) (sym order);
-        below = subst (λ n. AllByRecursion (λ (x : ℕ × Filed V). x.0 < n) (map filed_drop (reverse left))) (sym (ap length put ∙ placed_size (filed_drop d ∷ []) fs)) each.1;
+        rest = ap (placed (map drop_row (reverse left))) put ∙ ap (λ ds. placed (map drop_row ds) fs) (sym order);
+        below = subst (λ n. AllByRecursion (λ (x : ℕ × EntryRow V). x.0 < n) (map drop_row (reverse left))) (sym (ap length put ∙ placed_size (drop_row d ∷ []) fs)) each.1;
       }

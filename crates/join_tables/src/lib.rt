@@ -90,8 +90,8 @@
 mod batch;
 mod calls;
 mod credit_calls;
+mod entry_row;
 mod fates;
-mod filed;
 mod halts;
 mod keeper;
 mod merge;

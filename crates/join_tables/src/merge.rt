@@ -3,10 +3,10 @@ ghost use Rattle.std.specs.Prelude.{◌≡◌, ◌<◌, ◌++◌, ◌∷◌, [],
 ghost use Rattle.std.specs.List.{AllByRecursion};
 ghost use Rattle.join_tables.specs.Keeping.{entries_of, entries_told};
 ghost use Rattle.join_tables.specs.declared.fates.Fate.TheVariants.{Ended, Faulted};
-ghost use Rattle.join_tables.specs.inside.Merging.{all_filed, filed_drop, filed_of, placed, value_if, IsFinishedOf};
+ghost use Rattle.join_tables.specs.inside.Merging.{all_rows, drop_row, fate_rows, placed, value_if, IsFinishedOf};
 
+use crate::entry_row::EntryRow;
 use crate::fates::{Dropping, Failure, Fate};
-use crate::filed::Filed;
 use crate::keeper::{FinishedRun, RecordedValue};
 use crate::turns::EndedStart;
 use journal_rules::Entry;
@@ -18,7 +18,7 @@ pub fn merged<V: Drop>(alloc: Global, fates: Vec<Fate<V>>) -> Result<FinishedRun
     requires { AllByRecursion (λ r. r.place < length (entries_told fates.items))
         (entries_told fates.items) }
     ensures { IfOk result (IsFinishedOf
-        (placed (all_filed fates.items) (replicate (length (entries_told fates.items)) None))) }
+        (placed (all_rows fates.items) (replicate (length (entries_told fates.items)) None))) }
 {
     let Some(count) = count_entries(&fates) else {
         return Err(NoMemory);
@@ -51,7 +51,7 @@ fn entry_count<V>(fate: &Fate<V>) -> usize
 }
 
 // So many places without an entry.
-fn empty_places<V: Drop>(alloc: Global, count: usize) -> Result<Vec<Option<Filed<V>>>, NoMemory>
+fn empty_places<V: Drop>(alloc: Global, count: usize) -> Result<Vec<Option<EntryRow<V>>>, NoMemory>
     ensures { IfOk result (λ places. places.items ≡ replicate count None) }
 {
     let mut places = Vec::with_capacity(alloc, count)?;
@@ -62,9 +62,9 @@ fn empty_places<V: Drop>(alloc: Global, count: usize) -> Result<Vec<Option<Filed
 }
 
 // Puts the entries of all fates at their places.
-fn put_all<V: Drop>(places: &mut Vec<Option<Filed<V>>>, fates: Vec<Fate<V>>)
-    requires { AllByRecursion (λ f. f.0 < length places.old.items) (all_filed fates.items) }
-    ensures { places.new.items ≡ placed (all_filed fates.items) places.old.items }
+fn put_all<V: Drop>(places: &mut Vec<Option<EntryRow<V>>>, fates: Vec<Fate<V>>)
+    requires { AllByRecursion (λ f. f.0 < length places.old.items) (all_rows fates.items) }
+    ensures { places.new.items ≡ placed (all_rows fates.items) places.old.items }
 {
     for fate in fates {
         put(places, fate);
@@ -72,9 +72,9 @@ fn put_all<V: Drop>(places: &mut Vec<Option<Filed<V>>>, fates: Vec<Fate<V>>)
 }
 
 // Puts the entries of a fate at their places.
-fn put<V: Drop>(places: &mut Vec<Option<Filed<V>>>, fate: Fate<V>)
-    requires { AllByRecursion (λ f. f.0 < length places.old.items) (filed_of fate) }
-    ensures { places.new.items ≡ placed (filed_of fate) places.old.items }
+fn put<V: Drop>(places: &mut Vec<Option<EntryRow<V>>>, fate: Fate<V>)
+    requires { AllByRecursion (λ f. f.0 < length places.old.items) (fate_rows fate) }
+    ensures { places.new.items ≡ placed (fate_rows fate) places.old.items }
 {
     match fate {
         Fate::Ended(ended) => put_ended(places, ended),
@@ -85,9 +85,9 @@ fn put<V: Drop>(places: &mut Vec<Option<Filed<V>>>, fate: Fate<V>)
 }
 
 // Puts the entries of a start that ended at their places.
-fn put_ended<V: Drop>(places: &mut Vec<Option<Filed<V>>>, ended: EndedStart<V>)
-    requires { AllByRecursion (λ f. f.0 < length places.old.items) (filed_of (Ended ended)) }
-    ensures { places.new.items ≡ placed (filed_of (Ended ended)) places.old.items }
+fn put_ended<V: Drop>(places: &mut Vec<Option<EntryRow<V>>>, ended: EndedStart<V>)
+    requires { AllByRecursion (λ f. f.0 < length places.old.items) (fate_rows (Ended ended)) }
+    ensures { places.new.items ≡ placed (fate_rows (Ended ended)) places.old.items }
 {
     let EndedStart {
         task,
@@ -104,22 +104,22 @@ fn put_ended<V: Drop>(places: &mut Vec<Option<Filed<V>>>, ended: EndedStart<V>)
         cause,
         ins: found.parts,
     };
-    places[start as usize] = Some(Filed { entry, value: None });
+    places[start as usize] = Some(EntryRow { entry, value: None });
     let entry = Entry::End {
         start,
         gives,
         inner,
     };
-    places[place as usize] = Some(Filed {
+    places[place as usize] = Some(EntryRow {
         entry,
         value: Some(value),
     });
 }
 
 // Puts the entries of a start that faulted at their places.
-fn put_failure<V: Drop>(places: &mut Vec<Option<Filed<V>>>, failure: Failure<V>)
-    requires { AllByRecursion (λ f. f.0 < length places.old.items) (filed_of (Faulted failure)) }
-    ensures { places.new.items ≡ placed (filed_of (Faulted failure)) places.old.items }
+fn put_failure<V: Drop>(places: &mut Vec<Option<EntryRow<V>>>, failure: Failure<V>)
+    requires { AllByRecursion (λ f. f.0 < length places.old.items) (fate_rows (Faulted failure)) }
+    ensures { places.new.items ≡ placed (fate_rows (Faulted failure)) places.old.items }
 {
     let Failure {
         task,
@@ -134,15 +134,15 @@ fn put_failure<V: Drop>(places: &mut Vec<Option<Filed<V>>>, failure: Failure<V>)
         cause,
         ins: found.parts,
     };
-    places[start as usize] = Some(Filed { entry, value: None });
+    places[start as usize] = Some(EntryRow { entry, value: None });
     let entry = Entry::Fault { start, why };
-    places[place as usize] = Some(Filed { entry, value: None });
+    places[place as usize] = Some(EntryRow { entry, value: None });
 }
 
 // Puts the entry of a Drop at its place.
-fn put_drop<V: Drop>(places: &mut Vec<Option<Filed<V>>>, dropping: Dropping)
+fn put_drop<V: Drop>(places: &mut Vec<Option<EntryRow<V>>>, dropping: Dropping)
     requires { dropping.place < length places.old.items }
-    ensures { places.new.items ≡ placed (filed_drop dropping ∷ []) places.old.items }
+    ensures { places.new.items ≡ placed (drop_row dropping ∷ []) places.old.items }
 {
     let Dropping {
         task,
@@ -151,14 +151,14 @@ fn put_drop<V: Drop>(places: &mut Vec<Option<Filed<V>>>, dropping: Dropping)
         why,
     } = dropping;
     let entry = Entry::Drop { task, cause, why };
-    places[place as usize] = Some(Filed { entry, value: None });
+    places[place as usize] = Some(EntryRow { entry, value: None });
 }
 
 // Puts the entries of Drops at their places, the newest first.
-fn put_drops<V: Drop>(places: &mut Vec<Option<Filed<V>>>, mut drops: Vec<Dropping>)
+fn put_drops<V: Drop>(places: &mut Vec<Option<EntryRow<V>>>, mut drops: Vec<Dropping>)
     requires { AllByRecursion (λ f. f.0 < length places.old.items)
-        (map (filed_drop {V = V}) (reverse drops.items)) }
-    ensures { places.new.items ≡ placed (map filed_drop (reverse drops.items)) places.old.items }
+        (map (drop_row {V = V}) (reverse drops.items)) }
+    ensures { places.new.items ≡ placed (map drop_row (reverse drops.items)) places.old.items }
 {
     while let Some(dropping) = drops.pop() {
         put_drop(places, dropping);
@@ -168,7 +168,7 @@ fn put_drops<V: Drop>(places: &mut Vec<Option<Filed<V>>>, mut drops: Vec<Droppin
 // The entries that are there, in the order of their places, with the values of the Ends.
 fn finished<V: Drop>(
     alloc: Global,
-    places: Vec<Option<Filed<V>>>,
+    places: Vec<Option<EntryRow<V>>>,
 ) -> Result<FinishedRun<V>, NoMemory>
     ensures { IfOk result (IsFinishedOf places.items) }
 {
@@ -176,22 +176,22 @@ fn finished<V: Drop>(
         journal: List::with_room(alloc, places.len())?,
         values: Vec::new(alloc),
     };
-    for filed in places {
-        if let Some(filed) = filed {
-            add_entry(&mut run, filed)?;
+    for row in places {
+        if let Some(row) = row {
+            add_entry(&mut run, row)?;
         }
     }
     Ok(run)
 }
 
 // Adds an entry, with its value.
-fn add_entry<V: Drop>(run: &mut FinishedRun<V>, filed: Filed<V>) -> Result<(), NoMemory>
-    ensures journal { OnOk result (run.new.journal ≡ run.old.journal ++ filed.entry ∷ []) }
+fn add_entry<V: Drop>(run: &mut FinishedRun<V>, row: EntryRow<V>) -> Result<(), NoMemory>
+    ensures journal { OnOk result (run.new.journal ≡ run.old.journal ++ row.entry ∷ []) }
     ensures values { OnOk result
         (run.new.values.items
-        ≡ run.old.values.items ++ value_if (length run.old.journal) filed.value) }
+        ≡ run.old.values.items ++ value_if (length run.old.journal) row.value) }
 {
-    let Filed { entry, value } = filed;
+    let EntryRow { entry, value } = row;
     let place = run.journal.len() as u64;
     run.journal.push(entry)?;
     if let Some(value) = value {

@@ -6,7 +6,7 @@ use Rattle.task_graph.specs.NetRows.{NetRows}
 use Rattle.task_graph.specs.Net.{weak_in}
 use Rattle.journal_rules.specs.declared.entry.Cause.TheVariants.{Source, Strong, Weak}
 use Rattle.journal_rules.specs.declared.entry.Entry.{Entry}
-use Rattle.legal_run.specs.declared.ready.Ready.{Ready}
+use Rattle.legal_run.specs.declared.ready.ReadyRelease.{ReadyRelease}
 use Rattle.legal_run.specs.Ready.{ready_row, ready_weak, ready_of, ready_of_each}
 use Rattle.journal_rules.specs.TimesLeft.{times_left}
 
@@ -16,7 +16,7 @@ weak_push net h t (f ∷ es) e =
     ap (λ xs. ready_row t (Weak f) (times_left net h t (Weak f)) ++ xs) (weak_push net h t es e)
     ∙ sym (append_assoc (ready_row t (Weak f) (times_left net h t (Weak f))) (ready_weak net h t es) (ready_row t (Weak e) (times_left net h t (Weak e))))
 
-pub weak_more : (net : NetRows) (h : List Entry) (t i times : ℕ) (es : List ℕ) (first now new : List Ready) → i < length es → times ≡ times_left net h t (Weak (get_or es i 0)) → now ≡ first ++ ready_weak net h t (take i es)
+pub weak_more : (net : NetRows) (h : List Entry) (t i times : ℕ) (es : List ℕ) (first now new : List ReadyRelease) → i < length es → times ≡ times_left net h t (Weak (get_or es i 0)) → now ≡ first ++ ready_weak net h t (take i es)
     → new ≡ now ++ ready_row t (Weak (get_or es i 0)) times → new ≡ first ++ ready_weak net h t (take (i + 1) es)
 weak_more net h t i times es first now new below times_are so_far is =
     is ∙ ap (λ n. now ++ ready_row t (Weak (get_or es i 0)) n) times_are ∙ ap (λ xs. xs ++ ready_row t (Weak (get_or es i 0)) (times_left net h t (Weak (get_or es i 0)))) so_far
@@ -31,13 +31,13 @@ range_push : (a n : ℕ) → range_with_len a (suc n) ≡ range_with_len a n ++ 
 range_push a zero = ap (λ k. k ∷ []) (let e : a ≡ a + 0 = omega arith in e)
 range_push a (suc n) = ap (λ xs. a ∷ xs) (range_push (a + 1) n ∙ ap (λ k. range_with_len (a + 1) n ++ k ∷ []) (let e : a + 1 + n ≡ a + suc n = omega arith in e))
 
-pub each_more : (net : NetRows) (h : List Entry) (t : ℕ) (now new : List Ready) → now ≡ ready_of_each net h (range_with_len 0 t) → new ≡ now ++ ready_of net h t → new ≡ ready_of_each net h (range_with_len 0 (t + 1))
+pub each_more : (net : NetRows) (h : List Entry) (t : ℕ) (now new : List ReadyRelease) → now ≡ ready_of_each net h (range_with_len 0 t) → new ≡ now ++ ready_of net h t → new ≡ ready_of_each net h (range_with_len 0 (t + 1))
 each_more net h t now new so_far is =
     is ∙ ap (λ xs. xs ++ ready_of net h t) so_far ∙ sym (ap (λ n. ready_of_each net h (range_with_len 0 n)) (let e : t + 1 ≡ suc t = omega arith in e) ∙ ap (ready_of_each net h) (range_push 0 t)
     ∙ each_push net h (range_with_len 0 t) (0 + t) ∙ ap (λ k. ready_of_each net h (range_with_len 0 t) ++ ready_of net h k) (let e : 0 + t ≡ t = omega arith in e))
 
 -- what is left of a task, in three parts
-pub task_parts : (net : NetRows) (h : List Entry) (t source strong : ℕ) (first mid last : List Ready) → source ≡ times_left net h t Source → strong ≡ times_left net h t Strong → mid ≡ first ++ ready_row t Source source → last ≡ mid ++ ready_row t Strong strong
+pub task_parts : (net : NetRows) (h : List Entry) (t source strong : ℕ) (first mid last : List ReadyRelease) → source ≡ times_left net h t Source → strong ≡ times_left net h t Strong → mid ≡ first ++ ready_row t Source source → last ≡ mid ++ ready_row t Strong strong
     → last ++ ready_weak net h t (weak_in net t) ≡ first ++ ready_of net h t
 task_parts net h t source strong first mid last source_is strong_is mid_is last_is =
     ap (λ xs. xs ++ w) (last_is ∙ ap (λ xs. xs ++ ready_row t Strong strong) mid_is)
@@ -46,5 +46,5 @@ task_parts net h t source strong first mid last source_is strong_is mid_is last_
     ∙ ap (λ n. first ++ (ready_row t Source n ++ (ready_row t Strong strong ++ w))) source_is
     ∙ ap (λ n. first ++ (ready_row t Source (times_left net h t Source) ++ (ready_row t Strong n ++ w))) strong_is
   where
-    w : List Ready
+    w : List ReadyRelease
     w = ready_weak net h t (weak_in net t)

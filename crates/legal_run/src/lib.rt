@@ -27,6 +27,6 @@ mod walk;
 pub use laws::one_refusal_or_none;
 pub use machine::Machine;
 pub use machine_error::MachineError;
-pub use ready::Ready;
+pub use ready::ReadyRelease;
 pub use verdict::{Break, Verdict};
 pub use walk::judge;

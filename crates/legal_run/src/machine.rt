@@ -14,7 +14,7 @@ ghost use Rattle.journal_rules.specs.inside.Counted.{CountsOpen};
 use super::machine_error::MachineError;
 use super::marks::Marks;
 use super::position::Position;
-use super::ready::Ready;
+use super::ready::ReadyRelease;
 use super::waiting::Waiting;
 use journal_rules::{Cause, Counts, DropWhy, Entry, Journal, OpenStarts, Part, Why};
 use outside_io::{List, NoMemory};
@@ -187,7 +187,7 @@ impl Machine {
 
     /// Each release that is left with how often it can be used, by rising task, and of a task as a source, by its
     /// strong in-edges, and by its weak in-edges in order.
-    pub fn ready(&self) -> Result<List<Ready>, NoMemory>
+    pub fn ready(&self) -> Result<List<ReadyRelease>, NoMemory>
         ensures { IfOk result (λ list. list ≡ ready_list self.now.net self.now.journal) }
     {
         self.position().ready(self.alloc)

@@ -21,7 +21,7 @@ ghost use Rattle.journal_rules.specs.inside.Counted.{IsPosition};
 
 use super::choice::{gives_fit, inner_fits};
 use super::marks::Marks;
-use super::ready::{self, Ready};
+use super::ready::{self, ReadyRelease};
 use super::verdict::Break;
 use journal_rules::{Cause, Counts, DropWhy, Entry, Why, has_unit, is_listed, task_row};
 use outside_io::{List, NoMemory};
@@ -347,7 +347,7 @@ impl<'j> Position<'j> {
     }
 
     /// The releases that are left.
-    pub fn ready(&self, alloc: Global) -> Result<List<Ready>, NoMemory>
+    pub fn ready(&self, alloc: Global) -> Result<List<ReadyRelease>, NoMemory>
         ensures { IfOk result (λ list. list ≡ ready_list self.now.net self.now.journal) }
     {
         ready::ready_list(alloc, self.net, &self.counts.releases)

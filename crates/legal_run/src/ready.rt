@@ -14,7 +14,7 @@ use task_graph::Net;
 
 /// A release that isn't used, and how often it can be used.
 #[derive(Clone, Copy, Debug, PartialEq, Eq)]
-pub struct Ready {
+pub struct ReadyRelease {
     pub task: u32,
     pub cause: Cause,
     pub times: u64,
@@ -22,7 +22,7 @@ pub struct Ready {
 
 /// The releases that are left, by rising task, and of a task as a source, by its strong in-edges, and by its weak
 /// in-edges in order.
-pub fn ready_list(alloc: Global, net: &Net, releases: &Releases) -> Result<List<Ready>, NoMemory>
+pub fn ready_list(alloc: Global, net: &Net, releases: &Releases) -> Result<List<ReadyRelease>, NoMemory>
     requires few { AreFew net.now releases.now }
     ensures { (journal : List Entry) → CountsReleases net.now journal releases.now
         → IfOk result (λ list. list ≡ ready_list net.now journal) }
@@ -36,7 +36,7 @@ pub fn ready_list(alloc: Global, net: &Net, releases: &Releases) -> Result<List<
 
 // Adds what is left of a task.
 fn add_task(
-    list: &mut List<Ready>,
+    list: &mut List<ReadyRelease>,
     net: &Net,
     releases: &Releases,
     task: u32,
@@ -53,7 +53,7 @@ fn add_task(
 
 // Adds what is left by these weak edges into a task.
 fn add_weak(
-    list: &mut List<Ready>,
+    list: &mut List<ReadyRelease>,
     net: &Net,
     releases: &Releases,
     task: u32,
@@ -76,11 +76,11 @@ fn add_weak(
 }
 
 // Adds a release, unless it can't be used any more.
-fn add_row(list: &mut List<Ready>, task: u32, cause: Cause, times: u64) -> Result<(), NoMemory>
+fn add_row(list: &mut List<ReadyRelease>, task: u32, cause: Cause, times: u64) -> Result<(), NoMemory>
     ensures { OnOk result (list.new ≡ list.old ++ ready_row task cause times) }
 {
     if times > 0 {
-        list.push(Ready { task, cause, times })?;
+        list.push(ReadyRelease { task, cause, times })?;
     }
     Ok(())
 }

@@ -6,7 +6,7 @@ use Rattle.crossbeam_deque.specs.Tasks.{Pushes, Takes, Pops, Forks}
 use Rattle.crossbeam_deque.proofs.Lists.{at_set, at_snoc, set_again}
 use Rattle.ready_deques.specs.declared.about.About.{About}
 use Rattle.ready_deques.specs.declared.deque.Queued.{Queued}
-use Rattle.ready_deques.specs.inside.Naming.{Each, IsQueued, AreViewsOf, IsKnown, KeepsIt, Holding}
+use Rattle.ready_deques.specs.inside.ListNames.{Each, IsQueued, AreViewsOf, IsKnown, KeepsIt, Holding}
 
 module _ {X : Type 0} (P : X → Type 0) where
   each_left : (xs ys : List X) → Each P (xs ++ ys) → Each P xs

@@ -1,6 +1,7 @@
 // The count word of a list, and the spare counts of its owners.
 ghost use Rattle.std.specs.Prelude.{◌≡◌, ◌≢◌, ◌+◌, ◌-◌, ◌*◌, ◌<◌, [], IfOk, IsTrue, IsFalse};
 ghost use Rattle.ready_deques.specs.declared.count.TheConstants.{WORDS};
+ghost use Rattle.ready_deques.specs.Limits.{max_workers};
 ghost use Rattle.ready_deques.specs.inside.Counts.{counting, seen, account_state, with_count, with_counts, without_count, count_alone, drawn, half_kept, half_given, IsSpare};
 
 use atomic_table::{Play, Seat, Split, Table, TableRule};
@@ -9,8 +10,8 @@ use std::alloc::Global;
 use std::marker::Model;
 use std::sync::Wait;
 
-// How many owners have a word for spare counts.
-const OWNERS: usize = 16;
+/// The greatest number of workers of a list. So many owners have a word for spare counts.
+pub const MAX_WORKERS: usize = 16;
 
 // The words of the table. One word of each line is used, the one in the middle, so that no other data is on its cache
 // line: first the count word, then the spare counts of each owner.
@@ -98,9 +99,9 @@ impl Play<(), Counting> for Spends {
 }
 
 /// The seat has all counts that there were to spare.
-pub struct Gathers;
+pub struct GathersSpares;
 
-impl Play<(), Counting> for Gathers {
+impl Play<(), Counting> for GathersSpares {
     ghost use Rattle.ready_deques.specs.inside.Counts.{GathersIt};
 
     ghost then = { GathersIt };
@@ -166,7 +167,7 @@ pub struct Counter {
 
 // Where the spare counts of the owner with this number are.
 fn spare_word(number: usize) -> usize
-    requires { number < 16 }
+    requires { number < max_workers }
     ensures { IsSpare result }
 {
     WORD + LINE * (number + 1)
@@ -190,7 +191,7 @@ impl Counter {
     /// The account of the owner with this number, with half of another's room.
     pub fn open(&self, from: &mut Account, number: usize) -> Account
         requires account { from.old.counts ≡ self.now.table.shared.table_id }
-        requires number { number < 16 }
+        requires number { number < max_workers }
         ensures from { from.new ≡ from.old }
         ensures opened { result ≡ account_state self.now.table.shared.table_id 0 }
     {
@@ -275,7 +276,7 @@ impl Counter {
         requires { account.old.counts ≡ self.now.table.shared.table_id }
         ensures { account.new ≡ account.old }
     {
-        for number in 0..OWNERS {
+        for number in 0..MAX_WORKERS {
             self.gather_from(account, spare_word(number));
         }
     }
@@ -374,6 +375,6 @@ impl Counter {
         ensures table { seat.new.table_id ≡ seat.old.table_id }
         ensures view { seat.new.me ≡ (with_counts result seat.old.me.0, seat.old.me.1) }
     {
-        self.table.shared.swap::<Gathers>(seat, word, 0)
+        self.table.shared.swap::<GathersSpares>(seat, word, 0)
     }
 }

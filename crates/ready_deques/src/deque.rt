@@ -2,7 +2,7 @@
 ghost use Rattle.std.specs.Prelude.{◌≡◌, ◌∷◌, [], None, IfOk, IfErr, IfSome};
 ghost use Rattle.crossbeam_deque.specs.Handles.{view, IsPassOf, worker_deque, stealer_deque, worker_flavor, worker_view};
 ghost use Rattle.crossbeam_deque.specs.Steals.{MatchSteal};
-ghost use Rattle.ready_deques.specs.inside.Naming.{IsKnown, SameDeque};
+ghost use Rattle.ready_deques.specs.inside.ListNames.{IsKnown, SameDeque};
 
 use crate::about::About;
 use crate::count::Counting;
@@ -26,7 +26,7 @@ pub struct HoldsQueued;
 
 impl<T: Tagged> Protocol<Queued<T>, Option<About>> for HoldsQueued {
     ghost use Rattle.std.specs.Prelude.{None};
-    ghost use Rattle.ready_deques.specs.inside.Naming.{Holding};
+    ghost use Rattle.ready_deques.specs.inside.ListNames.{Holding};
 
     ghost holds = { Holding T.tag };
 
@@ -39,7 +39,7 @@ impl<T: Tagged> Protocol<Queued<T>, Option<About>> for HoldsQueued {
 pub struct KeepsName;
 
 impl<T: Tagged> Outcome<Queued<T>, Option<About>> for KeepsName {
-    ghost use Rattle.ready_deques.specs.inside.Naming.{KeepsIt};
+    ghost use Rattle.ready_deques.specs.inside.ListNames.{KeepsIt};
 
     ghost then = { KeepsIt T.tag };
 }
@@ -52,7 +52,7 @@ pub trait Naming {
 }
 
 impl Naming for Brand {
-    ghost use Rattle.ready_deques.specs.inside.Naming.{blank};
+    ghost use Rattle.ready_deques.specs.inside.ListNames.{blank};
 
     ghost name = { blank };
 }

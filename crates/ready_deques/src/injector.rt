@@ -2,7 +2,7 @@
 ghost use Rattle.std.specs.Prelude.{◌≡◌, ◌∷◌, [], None, IfOk, IfErr};
 ghost use Rattle.crossbeam_deque.specs.Injected.{injector_view, IsInjectorPassOf};
 ghost use Rattle.crossbeam_deque.specs.Steals.{MatchSteal};
-ghost use Rattle.ready_deques.specs.inside.Naming.{IsKnown};
+ghost use Rattle.ready_deques.specs.inside.ListNames.{IsKnown};
 
 use crate::about::About;
 use crate::deque::{Copies, GivesName, HoldsQueued, KeepsName, Naming, Queued};

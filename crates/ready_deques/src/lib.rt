@@ -61,9 +61,10 @@ mod owner;
 mod ready;
 mod shares;
 mod sleepers;
+mod stealer;
 mod tagged;
-mod thief;
 
+pub use count::MAX_WORKERS;
 pub use owner::Owner;
 pub use ready::Ready;
 pub use shares::Shares;

@@ -4,15 +4,15 @@ ghost use Rattle.std.specs.Arc.{arc_value};
 ghost use Rattle.crossbeam_deque.specs.Handles.{view, worker_view};
 ghost use Rattle.crossbeam_deque.specs.Injected.{injector_view, IsInjectorPassOf};
 ghost use Rattle.ready_deques.specs.Lists.{IsOwnerOf};
-ghost use Rattle.ready_deques.specs.inside.Naming.{IsKnown, about};
-ghost use Rattle.ready_deques.specs.inside.Shared.{list_name_of};
+ghost use Rattle.ready_deques.specs.inside.ListNames.{IsKnown, about};
+ghost use Rattle.ready_deques.specs.inside.ListParts.{list_name_of};
 
 use crate::count::Account;
 use crate::deque::{ItemWorker, Queued};
 use crate::injector::ItemPass;
 use crate::ready::Ready;
+use crate::stealer::{OwnedStealer, steal_any, stealer_of};
 use crate::tagged::Tagged;
-use crate::thief::{Thief, steal_any, thief_of};
 use crate::{deque, injector};
 use crossbeam_deque::Steal;
 use crossbeam_utils::sync::Parker;
@@ -27,7 +27,7 @@ pub struct Owner<T: Tagged + Drop> {
     ready: Arc<Ready<T>>,
     worker: ItemWorker<T>,
     // Stealers of the other owners' deques, the next owner's first.
-    thieves: Vec<Thief<T>>,
+    stealers: Vec<OwnedStealer<T>>,
     pass: ItemPass<T>,
     account: Account,
     parker: Parker,
@@ -41,13 +41,13 @@ impl<T: Tagged + Drop> Drop for Owner<T> {
         let Owner {
             ready,
             worker,
-            thieves,
+            stealers,
             pass,
             account,
             parker,
             bit: _,
         } = self;
-        drop((ready, worker, thieves, pass, account, parker));
+        drop((ready, worker, stealers, pass, account, parker));
     }
 }
 
@@ -57,7 +57,7 @@ impl<T: Tagged + Drop> Model for Owner<T> {
     ghost use Rattle.crossbeam_deque.specs.Handles.{view as pass_view, worker_view};
     ghost use Rattle.crossbeam_deque.specs.Injected.{injector_view, IsInjectorPassOf};
     ghost use Rattle.ready_deques.specs.Lists.{OwnerState, owner_state};
-    ghost use Rattle.ready_deques.specs.inside.Shared.{list_name_of};
+    ghost use Rattle.ready_deques.specs.inside.ListParts.{list_name_of};
 
     ghost Value = { OwnerState };
 
@@ -65,8 +65,8 @@ impl<T: Tagged + Drop> Model for Owner<T> {
         (arc_value o.ready).counter.table.shared.table_id o.account.zeros };
 
     ghost invariant = { λ o. (worker_view o.worker ≡ Some (list_name_of (arc_value o.ready)))
-        × All (λ thief. pass_view thief.pass ≡ Some (list_name_of (arc_value o.ready)))
-        o.thieves.items × IsInjectorPassOf (arc_value o.ready).injector o.pass
+        × All (λ stealer. pass_view stealer.pass ≡ Some (list_name_of (arc_value o.ready)))
+        o.stealers.items × IsInjectorPassOf (arc_value o.ready).injector o.pass
         × (injector_view o.pass ≡ Some (list_name_of (arc_value o.ready)))
         × (o.account.counts ≡ (arc_value o.ready).counter.table.shared.table_id) };
 }
@@ -100,18 +100,18 @@ fn find<T: Tagged + Drop, R: Wait>(
     rt: &R,
     worker: &mut ItemWorker<T>,
     pass: &mut ItemPass<T>,
-    thieves: &mut Vec<Thief<T>>,
+    stealers: &mut Vec<OwnedStealer<T>>,
 ) -> Option<Queued<T>>
     requires worker { worker_view worker.old ≡ Some (list_name_of ready.now) }
     requires pass { IsInjectorPassOf ready.now.injector pass.old
         × (injector_view pass.old ≡ Some (list_name_of ready.now)) }
-    requires thieves { All (λ thief. view thief.pass ≡ Some (list_name_of ready.now))
-        thieves.old.items }
+    requires stealers { All (λ stealer. view stealer.pass ≡ Some (list_name_of ready.now))
+        stealers.old.items }
     ensures worker { worker_view worker.new ≡ worker_view worker.old }
     ensures pass { IsInjectorPassOf ready.now.injector pass.new
         × (injector_view pass.new ≡ injector_view pass.old) }
-    ensures thieves { All (λ thief. view thief.pass ≡ Some (list_name_of ready.now))
-        thieves.new.items }
+    ensures stealers { All (λ stealer. view stealer.pass ≡ Some (list_name_of ready.now))
+        stealers.new.items }
     ensures taken { IfSome result
         (λ queued. IsKnown T.tag (Some (list_name_of ready.now)) (queued ∷ [])) }
 {
@@ -121,7 +121,7 @@ fn find<T: Tagged + Drop, R: Wait>(
     if let Steal::Success(queued) = injector::steal(&ready.injector, rt, pass) {
         return Some(queued);
     }
-    steal_any(ready, thieves)
+    steal_any(ready, stealers)
 }
 
 impl<T: Tagged + Drop> Owner<T> {
@@ -199,7 +199,7 @@ impl<T: Tagged + Drop> Owner<T> {
             rt,
             &mut self.worker,
             &mut self.pass,
-            &mut self.thieves,
+            &mut self.stealers,
         ) {
             Some(queued) => Some(self.ready.keep_count(&self.account, queued)),
             None => None,
@@ -236,7 +236,7 @@ impl<T: Tagged + Drop> Owner<T> {
         Ok(Owner {
             ready,
             worker,
-            thieves: Vec::new(alloc),
+            stealers: Vec::new(alloc),
             pass,
             account,
             parker,
@@ -245,21 +245,21 @@ impl<T: Tagged + Drop> Owner<T> {
     }
 
     // A stealer of this owner's deque.
-    pub(crate) fn lend(&mut self) -> Result<Thief<T>, NoMemory>
+    pub(crate) fn lend(&mut self) -> Result<OwnedStealer<T>, NoMemory>
         ensures same { self.new ≡ self.old }
         ensures named { IfOk result
-            (λ thief. view thief.pass ≡ Some (about self.old.tag self.old.counts)) }
+            (λ stealer. view stealer.pass ≡ Some (about self.old.tag self.old.counts)) }
     {
-        thief_of(&mut self.worker)
+        stealer_of(&mut self.worker)
     }
 
-    // From now on this owner steals with this thief too, after its other ones.
-    pub(crate) fn gain(&mut self, thief: Thief<T>) -> Result<(), NoMemory>
-        requires { view thief.pass ≡ Some (about self.old.tag self.old.counts) }
+    // From now on this owner steals with this stealer too, after its other ones.
+    pub(crate) fn gain(&mut self, stealer: OwnedStealer<T>) -> Result<(), NoMemory>
+        requires { view stealer.pass ≡ Some (about self.old.tag self.old.counts) }
         ensures { self.new ≡ self.old }
     {
         let _ = &self.ready;
-        self.thieves.push(thief)?;
+        self.stealers.push(stealer)?;
         Ok(())
     }
 }

@@ -2,7 +2,7 @@
 ghost use Rattle.std.specs.Prelude.{◌≡◌, ◌∷◌, [], Some, None, IfErr};
 ghost use Rattle.keyed_lock.specs.Locks.{made_with};
 ghost use Rattle.crossbeam_deque.specs.Injected.{injector_view};
-ghost use Rattle.ready_deques.specs.inside.Naming.{IsKnown, about, injector_of, pass_key};
+ghost use Rattle.ready_deques.specs.inside.ListNames.{IsKnown, about, injector_of, pass_key};
 
 use crate::count::{Account, Counter};
 use crate::deque::Queued;
@@ -27,7 +27,7 @@ pub struct Spare<T: Tagged + Drop> {
 impl<T: Tagged + Drop> Keyed for Spare<T> {
     ghost use Rattle.std.specs.declared.alloc.Global.{Global};
     ghost use Rattle.crossbeam_deque.specs.Injected.{injector_view};
-    ghost use Rattle.ready_deques.specs.inside.Naming.{injector_of, PassKey, pass_key};
+    ghost use Rattle.ready_deques.specs.inside.ListNames.{injector_of, PassKey, pass_key};
 
     ghost Key = { PassKey Global };
 
@@ -64,7 +64,7 @@ impl<T: Tagged + Drop> Drop for Ready<T> {
 
 impl<T: Tagged + Drop> Ready<T> {
     ghost use Rattle.ready_deques.specs.Lists.{tag_of};
-    ghost use Rattle.ready_deques.specs.inside.Shared.{list_name_of};
+    ghost use Rattle.ready_deques.specs.inside.ListParts.{list_name_of};
 
     /// Queues an item from outside, where its owners take the oldest first, and wakes one owner that sleeps. It may
     /// wait. After an `Err`, which comes only if an allocation fails, the item is not queued.

@@ -3,9 +3,10 @@ ghost use Rattle.std.specs.Prelude.{◌≡◌, ◌+◌, ◌<◌, ◌≤◌, All,
 ghost use Rattle.std.specs.Arc.{arc_value};
 ghost use Rattle.crossbeam_deque.specs.Handles.{worker_view};
 ghost use Rattle.crossbeam_deque.specs.Injected.{injector_view, IsInjectorPassOf};
+ghost use Rattle.ready_deques.specs.Limits.{max_workers};
 ghost use Rattle.ready_deques.specs.Lists.{IsOwnerOf, tag_of};
-ghost use Rattle.ready_deques.specs.inside.Naming.{about};
-ghost use Rattle.ready_deques.specs.inside.Shared.{list_name_of};
+ghost use Rattle.ready_deques.specs.inside.ListNames.{about};
+ghost use Rattle.ready_deques.specs.inside.ListParts.{list_name_of};
 
 use crate::count::{Account, Counter};
 use crate::deque::{ItemWorker, Naming};
@@ -35,9 +36,9 @@ pub struct Shares<T: Tagged + Drop> {
 }
 
 impl<T: Tagged + Drop> Ready<T> {
-    /// An empty open list for 1 to 16 workers, with an owner for each. Its items have the tag of `of`.
+    /// An empty open list for 1 to `MAX_WORKERS` workers, with an owner for each. Its items have the tag of `of`.
     pub fn new<K: Tagged>(alloc: Global, workers: u32, of: &K) -> Result<Shares<T>, NoMemory>
-        requires { workers ≤ 16 }
+        requires { workers ≤ max_workers }
         ensures tag { IfOk result (λ shares. tag_of (arc_value shares.ready) ≡ K.tag of.now) }
         ensures owners { IfOk result
             (λ shares. All (IsOwnerOf (arc_value shares.ready)) shares.owners.items) }
@@ -163,7 +164,7 @@ fn new_owner<T: Tagged + Drop>(
     parker: Parker,
     number: usize,
 ) -> Result<Owner<T>, NoMemory>
-    requires number { number < 16 }
+    requires number { number < max_workers }
     requires account { account.old.counts ≡ (arc_value ready.now).counter.table.shared.table_id }
     requires pass { IsInjectorPassOf (arc_value ready.now).injector pass.old
         × (injector_view pass.old ≡ Some (list_name_of (arc_value ready.now))) }
@@ -188,7 +189,7 @@ fn add_owner<T: Tagged + Drop>(
     parker: Parker,
     number: usize,
 ) -> Result<(), NoMemory>
-    requires number { number < 16 }
+    requires number { number < max_workers }
     requires account { account.old.counts ≡ (arc_value ready.now).counter.table.shared.table_id }
     requires pass { IsInjectorPassOf (arc_value ready.now).injector pass.old
         × (injector_view pass.old ≡ Some (list_name_of (arc_value ready.now))) }
@@ -215,7 +216,7 @@ fn new_owners<T: Tagged + Drop>(
     requires account { account.counts ≡ (arc_value ready.now).counter.table.shared.table_id }
     requires pass { IsInjectorPassOf (arc_value ready.now).injector pass
         × (injector_view pass ≡ Some (list_name_of (arc_value ready.now))) }
-    requires count { length parkers.items ≤ 16 }
+    requires count { length parkers.items ≤ max_workers }
     ensures owners { IfOk result (λ owners. All (IsOwnerOf (arc_value ready.now)) owners.items) }
     ensures count { IfOk result (λ owners. length owners.items ≡ length parkers.items) }
 {
@@ -247,8 +248,8 @@ fn pair<T: Tagged + Drop>(
     ensures owners { All (IsOwnerOf ready.now) owners.new.items }
     ensures count { length owners.new.items ≡ length owners.old.items }
 {
-    let thief = owners[from].lend()?;
-    owners[to].gain(thief)
+    let stealer = owners[from].lend()?;
+    owners[to].gain(stealer)
 }
 
 // One owner may steal from all others, beginning with the next.

@@ -7,16 +7,16 @@ use Rattle.join_tables.specs.States.{FreshState, fresh_state}
 use Rattle.join_tables.specs.declared.fates.Fate.{Fate}
 use Rattle.run_frame.specs.Meaning.{Meaning}
 use Rattle.table_frames.specs.Frames.{BacklogView, FrameKey, HasTable, ReleaseView, backlog_view, release_in}
-use Rattle.table_frames.specs.Making.{GivesEdges, IsFateOf, MayRelease, Uses, given_by}
+use Rattle.table_frames.specs.StepReleases.{GivesEdges, IsFateOf, MayRelease, Uses, given_by}
 use Rattle.table_frames.specs.Steps.{BeginsFrame, IsStateOf, StepsRelease}
 use Rattle.table_frames.specs.inside.Attempts.{TriesRelease, release_tried}
 use Rattle.table_frames.specs.inside.Begins.{Begins}
-use Rattle.table_frames.specs.inside.Concluding.{Concludes}
+use Rattle.table_frames.specs.inside.AttemptEnds.{Concludes}
 use Rattle.table_frames.specs.declared.attempt.Attempt.{Attempt}
 use Rattle.table_frames.specs.declared.attempt.Outcome.{Outcome}
 use Rattle.table_frames.specs.declared.attempt.Outcome.TheVariants.{Ends, Faults, Drops}
-use Rattle.table_frames.specs.declared.stepped.State.TheVariants.{Went}
-use Rattle.table_frames.specs.declared.stepped.Stepped.{Stepped}
+use Rattle.table_frames.specs.declared.step_results.State.TheVariants.{Went}
+use Rattle.table_frames.specs.declared.step_results.Stepped.{Stepped}
 use Rattle.table_frames.specs.declared.table_run.Begun.{Begun}
 use Rattle.table_frames.proofs.Handing.{all_in}
 

@@ -17,9 +17,9 @@ use Rattle.join_tables.specs.contracts.turns.NetTable as table
 use Rattle.join_tables.specs.contracts.batch.SpentBatch as batch
 use Rattle.join_tables.specs.contracts.keeper.Keeper as keeper
 use Rattle.table_frames.specs.contracts.table_run.TableRun as table_run
-use Rattle.table_frames.specs.contracts.kept.KeptRun as kept
+use Rattle.table_frames.specs.contracts.run_keeper.RunKeeper as run_keeper
 use Rattle.table_frames.specs.contracts.frame.Frame as frame
-use Rattle.table_frames.specs.contracts.gathered.Gathered as gathered
+use Rattle.table_frames.specs.contracts.frame_batch.FrameBatch as frame_batch
 use Rattle.table_frames.specs.contracts.release.Release as release
 use Rattle.table_frames.specs.contracts.backlog.Backlog as backlog
 use Rattle.table_frames.proofs.frame.Frame.TheLaws.TheKnot as frame_knot
@@ -43,8 +43,8 @@ module _ (T V : RattleType) (J : Job.Ghosts T.Denot V.Denot) (W : Valued.Ghosts 
   table_sync : IsSync (table.the_row V)
   table_sync = turns.table_sync V sv yv
 
-  kept_send : IsSend (kept.the_row T V J)
-  kept_send = search (keeper_send, tables) depth 60 fits 20000
+  run_keeper_send : IsSend (run_keeper.the_row T V J)
+  run_keeper_send = search (keeper_send, tables) depth 60 fits 20000
 
   run_send : IsSend (table_run.the_row T V J)
   run_send = search (table_send, tables) depth 60 fits 20000
@@ -53,16 +53,16 @@ module _ (T V : RattleType) (J : Job.Ghosts T.Denot V.Denot) (W : Valued.Ghosts 
   run_sync = search (table_sync, tables) depth 60 fits 20000
 
   pub frame_send : IsSend (frame.the_row T V J W)
-  frame_send = search (kept_send, run_send, run_sync, frame_knot.crosses, tables) depth 60 fits 20000
+  frame_send = search (run_keeper_send, run_send, run_sync, frame_knot.crosses, tables) depth 60 fits 20000
 
   pub frame_sync : IsSync (frame.the_row T V J W)
-  frame_sync = search (kept_send, run_send, run_sync, frame_knot.crosses, tables) depth 60 fits 20000
+  frame_sync = search (run_keeper_send, run_send, run_sync, frame_knot.crosses, tables) depth 60 fits 20000
 
   pub release_send : IsSend (release.the_row T V J W)
   release_send = search (frame_send, frame_sync, fresh_send, tables) depth 60 fits 20000
 
-  gathered_send : IsSend (gathered.the_row T V J W)
-  gathered_send = search (frame_send, frame_sync, batch_send, tables) depth 60 fits 20000
+  frame_batch_send : IsSend (frame_batch.the_row T V J W)
+  frame_batch_send = search (frame_send, frame_sync, batch_send, tables) depth 60 fits 20000
 
   pub backlog_send : IsSend (backlog.the_row T V J W)
-  backlog_send = search (gathered_send, fresh_send, tables) depth 60 fits 20000
+  backlog_send = search (frame_batch_send, fresh_send, tables) depth 60 fits 20000

@@ -29,7 +29,7 @@ use Rattle.run_frame.specs.Rows.{RowsFit, MayHaveInner, ends_from}
 use Rattle.run_frame.specs.Runs.{value_at, inner_in, found_ins}
 use Rattle.run_frame.specs.WorkRule.{WorkRule, Answers, FaultAllowed, work_at, work_of}
 use Rattle.run_frame.specs.NestedRule.{NestedRule, job_of}
-use Rattle.table_frames.specs.Allowed.{AreAllowed, work_with}
+use Rattle.table_frames.specs.AllowedFates.{AreAllowed, work_with}
 use Rattle.table_frames.specs.inside.Rows.{rows_of}
 use Rattle.table_frames.proofs.Rows.{HasNumber, end_among, found_at, own_all, places_are, row_places}
 use Rattle.table_frames.proofs.Working.{HasPlace, EndAt, NamesEnd, FateHolds, EndsAs, FaultsAs, place_counted, get_left, get_here, names_ends, found_is, all_hold, all_own, find, ends_as, faults_as}

@@ -8,7 +8,7 @@ use Rattle.join_tables.specs.Rests.{IsOfTable}
 use Rattle.join_tables.specs.declared.fates.Fate.{Fate}
 use Rattle.join_tables.specs.Keeping.{KeeperState, keeper_with}
 use Rattle.run_frame.specs.Meaning.{Meaning}
-use Rattle.table_frames.specs.Allowed.{AreAllowed}
+use Rattle.table_frames.specs.AllowedFates.{AreAllowed}
 use Rattle.table_frames.specs.Frames.{FrameKey}
 use Rattle.table_frames.specs.inside.Runs.{IsBatchIn, IsNoBatch}
 

@@ -16,7 +16,7 @@ use Rattle.join_tables.specs.declared.turns.Gave.{Gave}
 use Rattle.join_tables.specs.declared.turns.Gave.TheVariants.{Next, Released, Finished}
 use Rattle.join_tables.specs.declared.fates.Fate.{Fate}
 use Rattle.join_tables.specs.declared.fates.Fate.TheVariants.{Ended, Faulted, Dropped, AllDropped}
-use Rattle.table_frames.specs.Making.{AreMadeBy, GivesEdges, IsFateOf, MayRelease, given_by}
+use Rattle.table_frames.specs.StepReleases.{AreMadeBy, GivesEdges, IsFateOf, MayRelease, given_by}
 use Rattle.table_frames.specs.inside.Attempts.{IsAgain}
 
 -- a strong edge more, which makes none

@@ -36,7 +36,7 @@ use Rattle.join_tables.specs.Finishing.{values_told}
 use Rattle.run_frame.specs.declared.run.ValueRow.{ValueRow}
 use Rattle.run_frame.specs.Meaning.{Meaning}
 use Rattle.run_frame.specs.Runs.{value_at, found_by, found_ins}
-use Rattle.table_frames.specs.Allowed.{IsAllowed, AreAllowed}
+use Rattle.table_frames.specs.AllowedFates.{IsAllowed, AreAllowed}
 use Rattle.table_frames.proofs.Rows.{IsItsValue}
 
 -- an entry stands at this place

@@ -64,9 +64,9 @@ abbrev pub MayTake : {J V : Type 0} → BacklogView J V → List (FrameKey J) �
 MayTake backlog frames = (backlog.frames ≡ []) ⊎ (backlog.frames ≡ frames)
 
 -- what is under a frame's lock
-pub record KeptView (J V : Type 0) : Type 0 where
+pub record RunKeeperView (J V : Type 0) : Type 0 where
   pub job : J
   pub keeper : KeeperState V
 
-abbrev pub key_of : {J V : Type 0} → KeptView J V → FrameKey J
+abbrev pub key_of : {J V : Type 0} → RunKeeperView J V → FrameKey J
 key_of kept = record { table = kept.keeper.table; job = kept.job }

@@ -1,8 +1,8 @@
-pub mod Allowed
+pub mod AllowedFates
 pub mod Frames
-pub mod Held
-pub mod Making
-pub mod Telling
+pub mod Holders
+pub mod StepReleases
+pub mod JournalFacts
 pub mod Steps
-pub mod Bringing
+pub mod BacklogResults
 pub mod inside

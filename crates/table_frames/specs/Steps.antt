@@ -7,13 +7,13 @@ use Rattle.run_frame.specs.Meaning.{Meaning}
 use Rattle.run_frame.specs.Legal.{IsKept}
 use Rattle.run_frame.specs.NestedRule.{job_of}
 use Rattle.run_frame.specs.declared.run.FrameRun.{FrameRun}
-use Rattle.table_frames.specs.Allowed.{IsAllowed}
-use Rattle.table_frames.specs.Making.{Uses}
-use Rattle.table_frames.specs.Telling.{IsInJournal}
+use Rattle.table_frames.specs.AllowedFates.{IsAllowed}
+use Rattle.table_frames.specs.StepReleases.{Uses}
+use Rattle.table_frames.specs.JournalFacts.{IsInJournal}
 use Rattle.table_frames.specs.Frames.{FrameKey, ReleaseView, BacklogView, backlog_view, root_job, release_in}
-use Rattle.table_frames.specs.declared.stepped.State.{State}
-use Rattle.table_frames.specs.declared.stepped.State.TheVariants.{Went, Parked, Inner, Closed}
-use Rattle.table_frames.specs.declared.stepped.Stepped.{Stepped}
+use Rattle.table_frames.specs.declared.step_results.State.{State}
+use Rattle.table_frames.specs.declared.step_results.State.TheVariants.{Went, Parked, Inner, Closed}
+use Rattle.table_frames.specs.declared.step_results.Stepped.{Stepped}
 
 -- A run that may be kept, of the job of the frame that is in no other.
 pub record IsRootRun {J V : Type 0} (meaning : Meaning J V) (frames : List (FrameKey J)) (run : FrameRun J V) : Type 0 where

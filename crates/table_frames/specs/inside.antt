@@ -1,9 +1,9 @@
 -- Internal: what the calls of a step say to one another, how a run begins, and the rows of a run's values.
 pub mod Runs
-pub mod Taking
+pub mod CollectedRelease
 pub mod Attempts
-pub mod Gathering
-pub mod Handing
-pub mod Concluding
+pub mod FrameBatches
+pub mod ReleaseRooms
+pub mod AttemptEnds
 pub mod Begins
 pub mod Rows

@@ -9,7 +9,7 @@ ghost use Rattle.run_frame.specs.NestedRule.{job_of};
 ghost use Rattle.table_frames.specs.Frames.{key_of};
 ghost use Rattle.table_frames.specs.inside.Runs.{AreOf, IsBatchOf, IsNoBatch};
 
-use super::kept::KeptRun;
+use super::run_keeper::RunKeeper;
 use super::table_run::{Begun, TableRun};
 use join_tables::{Fresh, Remaining, SpentBatch};
 use outside_io::NoMemory;
@@ -42,8 +42,8 @@ fn step_all<J: Job + Drop, R: Wait>(
     alloc: Global,
     run: TableRun<J>,
     first: Vec<Fresh<J::V>>,
-    kept: KeptRun<J>,
-) -> Result<KeptRun<J>, NoMemory>
+    kept: RunKeeper<J>,
+) -> Result<RunKeeper<J>, NoMemory>
     requires kept { key_of kept ≡ run }
     requires first { AreOf run.table first.items }
     ensures same { IfOk result (λ kept. key_of kept ≡ run) }

@@ -1,7 +1,7 @@
 // What a worker's steps have done and no keeper has recorded yet.
 ghost use Rattle.std.specs.Prelude.{◌≡◌, ◌↔◌, [], IsTrue};
 
-use super::gathered::Gathered;
+use super::frame_batch::FrameBatch;
 use join_tables::Fresh;
 use run_frame::Job;
 use std::alloc::Global;
@@ -11,7 +11,7 @@ use std::marker::Model;
 /// frame isn't over. A backlog that is dropped is never recorded, so that the run is never closed.
 pub struct Backlog<J: Job> {
     pub(crate) alloc: Global,
-    pub(crate) gathered: Gathered<J>,
+    pub(crate) batch: FrameBatch<J>,
     // Room for what a step makes. Nothing is in it between two steps.
     pub(crate) made: Vec<Fresh<J::V>>,
 }
@@ -21,10 +21,10 @@ impl<J: Job + Drop> Drop for Backlog<J> {
     fn drop(self) {
         let Backlog {
             alloc: _,
-            gathered,
+            batch,
             made,
         } = self;
-        drop((gathered, made));
+        drop((batch, made));
     }
 }
 
@@ -34,7 +34,7 @@ impl<J: Job> Model for Backlog<J> {
 
     ghost Value = { BacklogView J J.V };
 
-    ghost view = { λ backlog. backlog.gathered.backlog };
+    ghost view = { λ backlog. backlog.batch.backlog };
 
     ghost invariant = { λ backlog. backlog.made.items ≡ [] };
 }
@@ -48,7 +48,7 @@ impl<J: Job + Drop> Backlog<J> {
     {
         Backlog {
             alloc,
-            gathered: Gathered::new(alloc),
+            batch: FrameBatch::new(alloc),
             made: Vec::new(alloc),
         }
     }
@@ -57,6 +57,6 @@ impl<J: Job + Drop> Backlog<J> {
     pub fn is_empty(&self) -> bool
         ensures { IsTrue result ↔ (self.now.fates ≡ []) }
     {
-        self.gathered.is_empty()
+        self.batch.is_empty()
     }
 }

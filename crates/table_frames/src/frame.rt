@@ -8,10 +8,10 @@ ghost use Rattle.run_frame.specs.FlatNets.{IsFlatNet};
 
 use super::attempt::Attempt;
 use super::backlog::Backlog;
-use super::gathered::Gathered;
-use super::kept::KeptRun;
+use super::frame_batch::FrameBatch;
 use super::release::{Release, ReleaseRoom};
-use super::stepped::{Brought, State, Stepped};
+use super::run_keeper::RunKeeper;
+use super::step_results::{Brought, State, Stepped};
 use super::table_run::{Begun, TableRun};
 use join_tables::{Fresh, Remaining, SpentBatch};
 use keyed_lock::{Held, KeyedLock};
@@ -26,7 +26,7 @@ use std::sync::{Arc, Wait};
 pub struct Frame<J: Job> {
     alloc: Global,
     run: TableRun<J>,
-    lock: KeyedLock<KeptRun<J>>,
+    lock: KeyedLock<RunKeeper<J>>,
     depth: u32,
     // The frame that it is inside. No frame is inside another yet.
     parent: Option<Arc<Frame<J>>>,
@@ -51,10 +51,10 @@ impl<J: Job> Model for Frame<J> {
 
 impl<J: Job + Drop> Frame<J> {
     ghost use Rattle.table_frames.specs.Frames.{HasTable, MayTake, backlog_view, key_of};
-    ghost use Rattle.table_frames.specs.Bringing.{BringsFates};
+    ghost use Rattle.table_frames.specs.BacklogResults.{BringsFates};
     ghost use Rattle.table_frames.specs.Steps.{IsClosed, BeginsFrame, StepsRelease};
     ghost use Rattle.table_frames.specs.inside.Attempts.{IsAttemptAt, TriesRelease, room_due};
-    ghost use Rattle.table_frames.specs.inside.Concluding.{Concludes};
+    ghost use Rattle.table_frames.specs.inside.AttemptEnds.{Concludes};
     ghost use Rattle.table_frames.specs.inside.Runs.{IsBatchIn, IsNoBatch};
 
     /// Begins a run of a job, with its first releases by rising task: of each source task, and of each task that has strong
@@ -97,12 +97,12 @@ impl<J: Job + Drop> Frame<J> {
             ⊎ (backlog.new ≡ backlog_view release.frames backlog.old.fates)) }
     {
         let Release { frame, fresh } = release;
-        backlog.gathered.make_room(&frame)?;
+        backlog.batch.make_room(&frame)?;
         let attempt = frame.attempt(fresh)?;
         let count = attempt.room();
         let room = ReleaseRoom::new(backlog.alloc, &frame, count)?;
         backlog.made.reserve(count)?;
-        frame.conclude(attempt, &mut backlog.gathered, &mut backlog.made);
+        frame.conclude(attempt, &mut backlog.batch, &mut backlog.made);
         Ok(Stepped {
             released: room.hand_out(frame, &mut backlog.made),
             state: State::Went,
@@ -119,11 +119,11 @@ impl<J: Job + Drop> Frame<J> {
         ensures err { OnErr result
             ((backlog.new ≡ backlog.old) ⊎ (backlog.new ≡ backlog_view [] [])) }
     {
-        backlog.gathered.bring(rt)
+        backlog.batch.bring(rt)
     }
 
     // A frame in no other.
-    fn new(alloc: Global, run: TableRun<J>, kept: KeptRun<J>) -> Result<Arc<Frame<J>>, NoMemory>
+    fn new(alloc: Global, run: TableRun<J>, kept: RunKeeper<J>) -> Result<Arc<Frame<J>>, NoMemory>
         requires { key_of kept ≡ run }
         ensures { IfOk result (λ frame. arc_value frame ≡ run ∷ []) }
     {
@@ -151,21 +151,21 @@ impl<J: Job + Drop> Frame<J> {
     fn conclude(
         &self,
         attempt: Attempt<J::V>,
-        gathered: &mut Gathered<J>,
+        batch: &mut FrameBatch<J>,
         made: &mut Vec<Fresh<J::V>>,
     )
         requires attempt { IsAttemptAt J.meaning self.now attempt }
-        requires frames { gathered.old.backlog.frames ≡ self.now }
-        requires room { length gathered.old.backlog.fates < gathered.old.room }
+        requires frames { batch.old.backlog.frames ≡ self.now }
+        requires room { length batch.old.backlog.fates < batch.old.room }
         requires none { made.old.items ≡ [] }
         requires capacity { vec_len made.old + room_due attempt ≤ vec_capacity made.old }
-        ensures concludes { Concludes J.meaning self.now attempt gathered.old.backlog
-            gathered.new.backlog made.new.items }
+        ensures concludes { Concludes J.meaning self.now attempt batch.old.backlog
+            batch.new.backlog made.new.items }
         ensures fresh { All (λ (f : FreshState). HasTable self.now f.table) made.new.items }
         ensures few { vec_len made.new ≤ vec_len made.old + room_due attempt }
     {
         let spent = self.run.conclude(attempt, made);
-        gathered.add(&self.run, spent);
+        batch.add(&self.run, spent);
     }
 
     // Gives turns of the frame to the keeper. With the last turn the run is given out, and the lock is left without a value:

@@ -15,8 +15,8 @@
 //! # The parts
 //!
 //! A `TableRun` is a job with the table of its net. It takes up a release and does its work (`attempt`), which leaves nothing
-//! but the Start in the journal, and then draws the End, Fault or Drop (`conclude`). A `KeptRun` has the keeper of a run; all
-//! that it took in is allowed by the job, so that the run that it hands out may be kept. `Gathered` is the part of a backlog
+//! but the Start in the journal, and then draws the End, Fault or Drop (`conclude`). A `RunKeeper` has the keeper of a run; all
+//! that it took in is allowed by the job, so that the run that it hands out may be kept. `FrameBatch` is the part of a backlog
 //! that is brought.
 //!
 //! # What the layer above may know
@@ -24,7 +24,7 @@
 //! The layer above sees a release as the keys of its frame and of the frames around it, its task and its cause
 //! (`specs/Frames.antt`). The last of these frames has the job of the whole run. What a beginning and a step come to is in
 //! `specs/Steps.antt`: which fate a release came to, that its job allows it, and which releases it made. Which edges made none
-//! is known to the table alone. What a bringing comes to is in `specs/Bringing.antt`: the run is closed exactly where the
+//! is known to the table alone. What a bringing comes to is in `specs/BacklogResults.antt`: the run is closed exactly where the
 //! keeper found one live turn. No frame is inside another yet, and no release is parked.
 #![tactic(auto)]
 
@@ -32,15 +32,15 @@ mod alone;
 mod attempt;
 mod backlog;
 mod frame;
-mod gathered;
+mod frame_batch;
 mod gives;
-mod kept;
 mod release;
-mod stepped;
+mod run_keeper;
+mod step_results;
 mod table_run;
 
 pub use alone::run_alone;
 pub use backlog::Backlog;
 pub use frame::Frame;
 pub use release::{HeldBy, Release};
-pub use stepped::{Brought, State, Stepped};
+pub use step_results::{Brought, State, Stepped};

@@ -44,7 +44,7 @@ pub enum HeldBy<'r, V> {
 
 impl<J: Job + Drop> Release<J> {
     ghost use Rattle.table_frames.specs.Frames.{depth_of};
-    ghost use Rattle.table_frames.specs.Held.{HoldsRelease};
+    ghost use Rattle.table_frames.specs.Holders.{HoldsRelease};
 
     /// The task that is released.
     pub fn task(&self) -> u32
@@ -85,7 +85,7 @@ pub(crate) struct ReleaseRoom<J: Job> {
 
 impl<J: Job + Drop> ReleaseRoom<J> {
     ghost use Rattle.table_frames.specs.Frames.{HasTable, ReleaseView, release_in};
-    ghost use Rattle.table_frames.specs.inside.Handing.{HasRoom};
+    ghost use Rattle.table_frames.specs.inside.ReleaseRooms.{HasRoom};
 
     /// Room for so many.
     pub(crate) fn new(

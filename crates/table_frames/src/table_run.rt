@@ -11,12 +11,12 @@ ghost use Rattle.join_tables.specs.Keeping.{IsLast, LeavesOf, TellsRun, entries_
 ghost use Rattle.run_frame.specs.FlatNets.{IsFlatNet};
 ghost use Rattle.table_steps.specs.ParcelForms.{MayBeBare};
 ghost use Rattle.run_frame.specs.declared.job.Done.{Done as DoneBy};
-ghost use Rattle.table_frames.specs.Making.{GivesEdges, IsFateOf, Uses, given_by};
+ghost use Rattle.table_frames.specs.StepReleases.{GivesEdges, IsFateOf, Uses, given_by};
 ghost use Rattle.table_frames.specs.inside.Runs.{AreOf, IsBatchOf, IsDone, IsNoBatch, MayWork};
 
 use super::attempt::{Attempt, Ending, Outcome};
 use super::gives::edges_given;
-use super::kept::KeptRun;
+use super::run_keeper::RunKeeper;
 use join_tables::{
     Admitted, Collected, Fresh, Gave, NetTable, Opening, Owing, Remaining, Running,
     Spent, SpentBatch, Turn,
@@ -67,7 +67,7 @@ impl<J: Job> Model for TableRun<J> {
 pub struct Begun<J: Job> {
     pub run: TableRun<J>,
     pub fresh: Vec<Fresh<J::V>>,
-    pub kept: KeptRun<J>,
+    pub kept: RunKeeper<J>,
 }
 
 /// A release that has collected its tokens, and the next release of its task, by tokens that were left.
@@ -80,7 +80,7 @@ struct TakenUp<V> {
 impl<J: Job + Drop> TableRun<J> {
     ghost use Rattle.table_frames.specs.Frames.{key_of};
     ghost use Rattle.table_frames.specs.inside.Begins.{Begins};
-    ghost use Rattle.table_frames.specs.inside.Taking.{TakesUp};
+    ghost use Rattle.table_frames.specs.inside.CollectedRelease.{TakesUp};
     ghost use Rattle.table_frames.specs.inside.Attempts.{IsAttemptIn, IsOutcomeIn, MayEnd, edges_due, release_tried, room_due};
 
     /// A run that has made no step.
@@ -95,7 +95,7 @@ impl<J: Job + Drop> TableRun<J> {
             fresh,
             keeper,
         } = NetTable::new(alloc, net, limit)?;
-        let kept = KeptRun::new(alloc, Arc::try_clone(&job)?, keeper);
+        let kept = RunKeeper::new(alloc, Arc::try_clone(&job)?, keeper);
         let run = TableRun { alloc, job, table };
         Ok(Begun { run, fresh, kept })
     }
@@ -149,7 +149,7 @@ impl<J: Job + Drop> TableRun<J> {
     /// Gives the turns of a batch to the keeper, at least one.
     pub fn keep(
         &self,
-        kept: &mut KeptRun<J>,
+        kept: &mut RunKeeper<J>,
         batch: &mut SpentBatch<J::V>,
     ) -> Result<Remaining, NoMemory>
         requires kept { key_of kept.old ≡ self.now }

@@ -2,7 +2,7 @@
 use crate::texts::{graph_of, text_of};
 use crate::watchers::{are_in_order, span_count_of};
 use call_status::Noted;
-use flow_run::{Outcome, flow_main};
+use flow_run::{CallResult, flow_main};
 use outside_io::for_tests::{FailAt, MemorySink, MemoryTexts};
 use outside_io::{List, NoMemory};
 use span_profile::Watch;
@@ -300,7 +300,7 @@ fn shown_bytes(sink: &MemorySink) -> &str {
 
 // The exit code, whether all was written and noted, how many entries each run's journal has, and whether the watchers
 // are out of order.
-fn shown_outcome(alloc: Global, outcome: &Outcome, watchers: u64) -> Result<String, AllocError> {
+fn shown_outcome(alloc: Global, outcome: &CallResult, watchers: u64) -> Result<String, AllocError> {
     let written = if outcome.written { "written" } else { "cut" };
     let mut shown = format!(in alloc; "{} {written}", outcome.status.code())?;
     match outcome.noted {

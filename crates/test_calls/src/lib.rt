@@ -8,21 +8,21 @@
 #![tactic(auto)]
 
 #[cfg(test)]
+mod bad_graphs;
+#[cfg(test)]
 mod calls;
 #[cfg(test)]
-mod checked;
+mod check_calls;
 #[cfg(test)]
 mod faults;
 #[cfg(test)]
-mod judged;
+mod judge_calls;
 #[cfg(test)]
 mod lengths;
 #[cfg(test)]
 mod notes;
 #[cfg(test)]
 mod operations;
-#[cfg(test)]
-mod refused;
 #[cfg(test)]
 mod runs;
 #[cfg(test)]

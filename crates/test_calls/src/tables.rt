@@ -1,6 +1,6 @@
 // The calls of all tables.
 use crate::calls::{Table, first_difference};
-use crate::{checked, faults, judged, lengths, operations, refused, runs, words};
+use crate::{bad_graphs, check_calls, faults, judge_calls, lengths, operations, runs, words};
 use std::test::Fail;
 
 #[test]
@@ -15,10 +15,10 @@ fn runs_answer_as_their_tables_say(rt: HostRuntime) -> Result<(), Fail> {
 #[test]
 fn other_calls_answer_as_their_tables_say(rt: HostRuntime) -> Result<(), Fail> {
     let tables: [&[Table]; 6] = [
-        &checked::TABLES,
-        &judged::TABLES,
+        &check_calls::TABLES,
+        &judge_calls::TABLES,
         &faults::TABLES,
-        &refused::TABLES,
+        &bad_graphs::TABLES,
         &words::TABLES,
         &lengths::TABLES,
     ];

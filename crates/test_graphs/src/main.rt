@@ -5,10 +5,10 @@
 #![tactic(auto)]
 
 mod answers;
-mod made;
+mod file_cases;
 
 use answers::answer;
-use made::{FILES, made};
+use file_cases::{FILES, made};
 use std::alloc::AllocError;
 use std::io;
 

@@ -1,5 +1,6 @@
 // Runs by crews of threads.
 ghost use Rattle.std.specs.Prelude.{◌<◌, ◌≤◌};
+ghost use Rattle.ready_deques.specs.Limits.{max_workers};
 ghost use Rattle.worker_seat.specs.Crews.{IsEntered, MayEnter};
 
 use crate::job::NumberJob;
@@ -39,7 +40,7 @@ pub fn run_by_workers<R: Threads + Wait + Sync>(
     job: NumberJob,
     workers: usize,
 ) -> Result<FrameRun<NumberJob>, NoMemory>
-    requires { (0 < workers) × (workers ≤ 16) }
+    requires { (0 < workers) × (workers ≤ max_workers) }
 {
     let watchers = vec![in alloc; (); workers]?;
     let job = Arc::new(alloc, job)?;

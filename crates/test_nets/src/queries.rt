@@ -4,7 +4,7 @@ ghost use Rattle.std.specs.Prelude.{◌≡◌, ◌<◌, length};
 use crate::nets::{CHOICE, NetCase, PLAIN, built};
 use crate::steps::{Step, ask, judged};
 use journal_rules::{Cause, Part};
-use legal_run::{Break, Machine, Ready, Verdict};
+use legal_run::{Break, Machine, ReadyRelease, Verdict};
 use outside_io::NoMemory;
 use std::test::Fail;
 
@@ -34,26 +34,26 @@ const VERDICTS: [(u64, Verdict); 2] = [
     (3, Verdict::Breaks(6, Break::OverLimit)),
 ];
 
-const AT_FIRST: [Ready; 2] = [
-    Ready {
+const AT_FIRST: [ReadyRelease; 2] = [
+    ReadyRelease {
         task: 0,
         cause: Cause::Source,
         times: 1,
     },
-    Ready {
+    ReadyRelease {
         task: 3,
         cause: Cause::Source,
         times: 1,
     },
 ];
 
-const AFTER_ROUND: [Ready; 2] = [
-    Ready {
+const AFTER_ROUND: [ReadyRelease; 2] = [
+    ReadyRelease {
         task: 2,
         cause: Cause::Strong,
         times: 1,
     },
-    Ready {
+    ReadyRelease {
         task: 3,
         cause: Cause::Source,
         times: 1,
@@ -69,7 +69,7 @@ fn go_round(machine: &mut Machine)
 }
 
 // Whether these releases are left.
-fn are_ready(machine: &Machine, expected: &[Ready]) -> Result<bool, NoMemory> {
+fn are_ready(machine: &Machine, expected: &[ReadyRelease]) -> Result<bool, NoMemory> {
     Ok(machine.ready()?.as_slice() == expected)
 }
 

@@ -1,2 +1,2 @@
--- Internal: what runs that are led in some order hold between two steps.
+-- Internal: what runs that take their steps in some order hold between two steps.
 pub mod Orders

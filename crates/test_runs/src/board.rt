@@ -1,5 +1,6 @@
 // A table with what its threads share under a lock: a shelf and, where turns that find no unit are parked, a rest for them.
 ghost use Rattle.std.specs.Prelude.{◌≡◌, ◌≢◌, ◌<◌, ◌≤◌, IfSome, IsTrue, Some, [], false, length};
+ghost use Rattle.journal_rules.specs.Limits.{max_limit};
 ghost use Rattle.journal_rules.specs.SemaphoreRule.{takes};
 ghost use Rattle.join_tables.specs.Rests.{IsOfTable};
 ghost use Rattle.keyed_lock.specs.Locks.{made_with};
@@ -70,7 +71,7 @@ impl Board {
         terms: Terms,
         parks: bool,
     ) -> Result<Board, NoMemory>
-        requires { terms.limit ≤ 2097153 }
+        requires { terms.limit ≤ max_limit }
     {
         let rest = if parks {
             Some(Rest::with_room(alloc, net.tasks().len())?)

@@ -2,10 +2,11 @@
 // each by crews.
 use crate::data_rule::{finds_in_order, finds_something, meets_data_rule};
 use crate::job_cases::{COUNT, FAN, JobCase, TWO_TASKS, case_at};
-use crate::led::{Order, led};
 use crate::nets::fan;
+use crate::scheduler::{Order, run_in_order};
 use journal_rules::Entry;
 use legal_run::{Verdict, judge};
+use ready_deques::MAX_WORKERS;
 use run_frame::FrameRun;
 use std::alloc::Global;
 use std::process::Abort;
@@ -106,7 +107,7 @@ fn lead_each(
     for order in ORDERS {
         for often in OFTEN {
             let job = case.job(rt, net)?;
-            let Some(run) = led(rt, alloc, job, order, often)? else {
+            let Some(run) = run_in_order(rt, alloc, job, order, often)? else {
                 panic!(rt; "{} doesn't end", case.name);
             };
             check_run_alone(rt, alloc, net, case, &run)?;
@@ -132,7 +133,7 @@ fn run_each<R: Threads + Wait + Abort + Sync>(
     case: &JobCase,
 ) -> Result<(), Fail> {
     for workers in CREWS {
-        assert!(rt; 0 < workers && workers <= 16, "{workers} workers");
+        assert!(rt; 0 < workers && workers <= MAX_WORKERS, "{workers} workers");
         for _ in 0..TIMES {
             let run = run_by_workers(rt, alloc, case.job(rt, net)?, workers)?;
             check_run(rt, alloc, net, case, &run)?;

@@ -1,13 +1,15 @@
 //! Runs of jobs by one thread and by crews, and runs of bare tables, whose journals are judged. There is nothing here but tests,
 //! and the types of which their definitions in `specs/` speak. A row of a table of cases has a name, which a failing test tells.
 //!
-//! `job_cases.rt` has the jobs, which `job_runs.rt` runs over the frames of `table_frames`, in the orders of `led.rt`, and over
+//! `job_cases.rt` has the jobs, which `job_runs.rt` runs over the frames of `table_frames`, in the orders of `scheduler.rt`, and over
 //! the crews of `worker_seat`. Semaphores and parked turns are on tables alone: `table_cases.rt` has the nets that
 //! are run over `join_tables` by threads, and `orders.rt` those that one thread runs in a written order.
 #![tactic(auto)]
 
 #[cfg(test)]
 mod board;
+#[cfg(test)]
+mod credits;
 #[cfg(test)]
 mod data_rule;
 #[cfg(test)]
@@ -17,10 +19,6 @@ mod job_cases;
 #[cfg(test)]
 mod job_runs;
 #[cfg(test)]
-mod led;
-#[cfg(test)]
-mod lending;
-#[cfg(test)]
 mod needs;
 #[cfg(test)]
 mod nets;
@@ -28,6 +26,8 @@ mod nets;
 mod orders;
 #[cfg(test)]
 mod plays;
+#[cfg(test)]
+mod scheduler;
 #[cfg(test)]
 mod shelf;
 #[cfg(test)]

@@ -10,7 +10,7 @@ use crate::steps::Terms;
 use crate::together::work_together;
 use crate::walks::moved;
 use join_tables::{FinishedRun, RecordedValue};
-use journal_rules::{DropWhy, Entry, Journal, Why};
+use journal_rules::{DropWhy, Entry, Journal, MAX_LIMIT, Why};
 use legal_run::{Verdict, judge};
 use std::alloc::Global;
 use std::process::Abort;
@@ -77,7 +77,7 @@ pub(crate) fn play<R: Threads + Wait + Abort + Sync>(
     case: &TableCase,
     by: By<'_>,
 ) -> Result<(), Fail> {
-    assert!(rt; case.terms.limit <= 2_097_153, "{}", case.name);
+    assert!(rt; case.terms.limit <= MAX_LIMIT, "{}", case.name);
     let board = Board::new(alloc, net, case.terms, case.parks)?;
     match by {
         By::Threads(threads) => work_together(rt, alloc, &board, threads)?,

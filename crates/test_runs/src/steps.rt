@@ -2,13 +2,14 @@
 ghost use Rattle.std.specs.Prelude.{◌≡◌, ◌≤◌, IfSome, IfOk, [], ◌∷◌, false, length};
 ghost use Rattle.std.specs.Arc.{arc_value};
 ghost use Rattle.test_runs.specs.declared.states.Need.TheVariants.{Hold};
+ghost use Rattle.journal_rules.specs.Limits.{max_limit};
 ghost use Rattle.table_steps.specs.Giving.{MayEndGiving};
 ghost use Rattle.table_steps.specs.ParcelForms.{MayBeBare};
 ghost use Rattle.test_runs.specs.Needs.{HasNeed};
 ghost use Rattle.test_runs.specs.Stages.{HasUnits, IsAdvanced, IsReady, IsRefused, IsStage, Lacks, MayEnd, MayStart, Owes};
 
+use crate::credits::{claim, credit};
 use crate::gives::gives_of;
-use crate::lending::{claim, lend};
 use crate::needs::need_of;
 use crate::shelf::Shelf;
 use crate::states::{Advanced, Need, Stage, Units};
@@ -67,7 +68,7 @@ impl Steps {
         net: &Arc<Net>,
         terms: Terms,
     ) -> Result<(Steps, Shelf), NoMemory>
-        requires { terms.limit ≤ 2097153 }
+        requires { terms.limit ≤ max_limit }
         ensures { IfOk result (λ r. r.1 ≡ r.0.table.table) }
     {
         let net = Arc::try_clone(net)?;
@@ -189,7 +190,7 @@ impl Steps {
         match need {
             Need::Nothing => Stage::Running(self.table.start(ticket), Units::Empty),
             Need::Hold => Stage::Running(self.table.start(ticket), Units::Both),
-            Need::Borrow => Stage::Running(lend(&self.table, ticket), Units::Empty),
+            Need::Borrow => Stage::Running(credit(&self.table, ticket), Units::Empty),
             Need::Repay => match claim(&self.table, ticket) {
                 Ok(running) => Stage::Running(running, Units::First),
                 Err(running) => Stage::Overdrawn(running),

@@ -1,7 +1,7 @@
 // Cases that are run over tables by one, by two and by four threads.
 use crate::plays::{By, ENDS, GIVE_ALL, MANY, Outcome, TableCase, play};
 use crate::steps::Terms;
-use crate::table_nets::{CROSSED, HUB, KEPT, LENT, LOOP, OVER, RING};
+use crate::table_nets::{CREDITED, CROSSED, HUB, KEPT, LOOP, OVER, RING};
 use journal_rules::{DropWhy, Why};
 use std::alloc::Global;
 use std::process::Abort;
@@ -25,9 +25,9 @@ const A_RING: TableCase = TableCase {
     outcome: ENDS,
 };
 
-const LENT_UNITS: TableCase = TableCase {
+const CREDITED_UNITS: TableCase = TableCase {
     name: "another gives it back",
-    net: LENT,
+    net: CREDITED,
     terms: GIVE_ALL,
     parks: false,
     outcome: Outcome {
@@ -75,7 +75,7 @@ const CASES: [TableCase; 10] = [
         },
         ..A_RING
     },
-    LENT_UNITS,
+    CREDITED_UNITS,
     TableCase {
         name: "two are held crosswise",
         net: CROSSED,
@@ -83,18 +83,18 @@ const CASES: [TableCase; 10] = [
             starts: (6, 6),
             ..ENDS
         },
-        ..LENT_UNITS
+        ..CREDITED_UNITS
     },
     TableCase {
         name: "over-releases fault",
         net: OVER,
         outcome: OVER_RELEASED,
-        ..LENT_UNITS
+        ..CREDITED_UNITS
     },
     TableCase {
         name: "parked turns go on",
         parks: true,
-        ..LENT_UNITS
+        ..CREDITED_UNITS
     },
     STUCK_TURNS,
     TableCase {

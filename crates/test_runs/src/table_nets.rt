@@ -33,7 +33,7 @@ pub(crate) const TWO_RINGS: NetCase = NetCase {
 };
 
 /// Eight tasks that take one of two units, each of which precedes one that gives it back.
-pub(crate) const LENT: NetCase = NetCase {
+pub(crate) const CREDITED: NetCase = NetCase {
     units: "2",
     tasks: "ttttttttgggggggg",
     edges: "ai bj ck dl em fn go hp",

@@ -5,7 +5,7 @@ use Rattle.std.specs.Prelude.{slice_set, slice_index_or, Result, Ok, Err, OnErr}
 use Rattle.worker_seat.specs.declared.seat.WorkerSeat.{WorkerSeat}
 use Rattle.worker_seat.specs.Seats.{SeatState, at_job, left_refused}
 use Rattle.worker_seat.specs.Crews.{moved}
-use Rattle.worker_seat.specs.inside.Seating.{changed}
+use Rattle.worker_seat.specs.inside.SeatPlaces.{changed}
 
 -- what holds holds after an error
 pub after_error : {A E : Type 0} (r : Result A E) (P : Type 0) → P → OnErr r P

@@ -23,15 +23,15 @@ use Rattle.ready_deques.specs.contracts.owner.Owner as owner_type
 use Rattle.worker_seat.specs.contracts.item.CrewItemTagged.TheImpl as tagged
 use Rattle.ready_deques.proofs.ready.Ready.TheSendSync as ready
 use Rattle.worker_seat.specs.contracts.attendance.Attendance as attendance
-use Rattle.worker_seat.specs.contracts.begun.RunFrames as run_frames
-use Rattle.worker_seat.specs.contracts.begun.BegunRuns as begun_runs
-use Rattle.worker_seat.specs.contracts.begun.RunNumber as run_number
+use Rattle.worker_seat.specs.contracts.run_numbers.RunFrames as run_frames
+use Rattle.worker_seat.specs.contracts.run_numbers.BegunRuns as begun_runs
+use Rattle.worker_seat.specs.contracts.run_numbers.RunNumber as run_number
 use Rattle.worker_seat.specs.contracts.station.Station as station
 use Rattle.worker_seat.specs.contracts.station.Station.TheInside as station_inside
 use Rattle.worker_seat.specs.contracts.seat.WorkerSeat as worker_seat
 use Rattle.worker_seat.specs.contracts.crew.Crew as crew
 use Rattle.worker_seat.specs.contracts.item.CrewItem as item
-use Rattle.worker_seat.specs.contracts.closing.Closing as closing
+use Rattle.worker_seat.specs.contracts.run_slot.RunSlot as run_slot
 use Rattle.worker_seat.specs.contracts.crew_run.CrewRun as crew_run
 
 -- what crosses threads without regard to jobs
@@ -44,8 +44,8 @@ module _ (T V : RattleType) (J : Job.Ghosts T.Denot V.Denot) (W : Valued.Ghosts 
   run_send : IsSend (frame_run.the_row T V)
   run_send = search (run_knot.crosses, tables) depth 60 fits 20000
 
-  closing_send : IsSend (closing.the_row T V J)
-  closing_send = search (run_send, tables) depth 60 fits 20000
+  run_slot_send : IsSend (run_slot.the_row T V J)
+  run_slot_send = search (run_send, tables) depth 60 fits 20000
 
   run_frames_send : IsSend (run_frames.the_row T V J W)
   run_frames_send = search tables depth 60 fits 20000
@@ -66,10 +66,10 @@ module _ (T V : RattleType) (J : Job.Ghosts T.Denot V.Denot) (W : Valued.Ghosts 
   begun_sync = search (run_frames_send, run_frames_sync, tables) depth 60 fits 20000
 
   crew_run_send : IsSend (crew_run.the_row T V J W)
-  crew_run_send = search (closing_send, number_send, tables) depth 60 fits 20000
+  crew_run_send = search (run_slot_send, number_send, tables) depth 60 fits 20000
 
   crew_run_sync : IsSync (crew_run.the_row T V J W)
-  crew_run_sync = search (closing_send, number_sync, tables) depth 60 fits 20000
+  crew_run_sync = search (run_slot_send, number_sync, tables) depth 60 fits 20000
 
   item_send : IsSend (item.the_row T V J W)
   item_send = search (number_send, release_send, tables) depth 60 fits 20000

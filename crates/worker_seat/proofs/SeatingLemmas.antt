@@ -13,7 +13,7 @@ use Rattle.worker_seat.specs.declared.seat.WorkerSeat.{WorkerSeat}
 use Rattle.worker_seat.specs.Seats.{ListName, SeatState, new_seat}
 use Rattle.worker_seat.specs.Crews.{IsSeatOf, MayBegin, crew_of, state_of}
 use Rattle.worker_seat.specs.inside.Runs.{RunView}
-use Rattle.worker_seat.specs.inside.Seating.{IsRunOn, list_name, owner_list}
+use Rattle.worker_seat.specs.inside.SeatPlaces.{IsRunOn, list_name, owner_list}
 
 module _ {X : Type 0} (P : X → Type 0) where
   pub last_is : (xs ys : List X) (y : X) → All P xs → xs ≡ ys ++ y ∷ [] → P y

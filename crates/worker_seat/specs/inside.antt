@@ -1,4 +1,4 @@
 -- Internal: the runs of a crew and their numbers, and where a seat is.
 pub mod Numbers
 pub mod Runs
-pub mod Seating
+pub mod SeatPlaces

@@ -3,7 +3,7 @@ ghost use Rattle.std.specs.Prelude.{◌≡◌, ◌↔◌, true, IfSome, IsSome, 
 ghost use Rattle.run_frame.specs.Legal.{IsKept};
 ghost use Rattle.run_frame.specs.NestedRule.{job_of};
 ghost use Rattle.worker_seat.specs.Seats.{IsBusy, ListName};
-ghost use Rattle.worker_seat.specs.inside.Seating.{job_at, has_found, FitsRun, IsAtRunOn};
+ghost use Rattle.worker_seat.specs.inside.SeatPlaces.{job_at, has_found, FitsRun, IsAtRunOn};
 
 use crate::crew_run::CrewRun;
 use run_frame::{FrameRun, Job};

@@ -4,12 +4,13 @@ ghost use Rattle.std.specs.Arc.{arc_value};
 ghost use Rattle.run_frame.specs.FlatNets.{IsFlatNet};
 ghost use Rattle.run_frame.specs.Legal.{IsKept};
 ghost use Rattle.run_frame.specs.NestedRule.{job_of};
+ghost use Rattle.ready_deques.specs.Limits.{max_workers};
 ghost use Rattle.worker_seat.specs.inside.Runs.{AreOfRun};
-ghost use Rattle.worker_seat.specs.inside.Seating.{IsRunOn};
+ghost use Rattle.worker_seat.specs.inside.SeatPlaces.{IsRunOn};
 
-use crate::begun::BegunRuns;
 use crate::crew_run::CrewRun;
-use crate::list::{CrewList, RunsList};
+use crate::list::{RunsList, TaggedList};
+use crate::run_numbers::BegunRuns;
 use crate::seat::WorkerSeat;
 use crate::seats::{fetch_first, refuse_all, seat_all, send_all};
 use outside_io::{Back, NoMemory};
@@ -44,9 +45,9 @@ impl<J: Job + Drop> Crew<J> {
     ghost use Rattle.worker_seat.specs.Seats.{IsBusy, at_job, away, found_closed, left_refused, refused_seat};
     ghost use Rattle.worker_seat.specs.Crews.{AreSeatsOf, IsEntered, IsFoundRunOf, IsOpen, IsSeatOf, MayBegin, MayEnter, crew_of, moved, state_of, watcher_of};
 
-    /// A crew with a seat for each of 1 to 16 watchers, in their order. They come back if an allocation fails.
+    /// A crew with a seat for each of 1 to `MAX_WORKERS` watchers, in their order. They come back if an allocation fails.
     pub fn new<X: Drop>(alloc: Global, watchers: Vec<X>) -> Result<CrewParts<J, X>, Back<Vec<X>>>
-        requires { (0 < length watchers.items) × (length watchers.items ≤ 16) }
+        requires { (0 < length watchers.items) × (length watchers.items ≤ max_workers) }
         ensures crew { IfOk result (λ parts. AreSeatsOf parts.crew parts.seats.items) }
         ensures new { IfOk result (λ parts. All MayBegin parts.seats.items) }
         ensures watchers { IfOk result
@@ -64,7 +65,7 @@ impl<J: Job + Drop> Crew<J> {
             return Err(Back { item: watchers });
         };
         let seats = seat_all(&ready, room, owners, watchers);
-        let list = CrewList {
+        let list = TaggedList {
             ready,
             begun,
             owners: count,

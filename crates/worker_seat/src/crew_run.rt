@@ -6,8 +6,8 @@ ghost use Rattle.run_frame.specs.Legal.{IsKept};
 ghost use Rattle.run_frame.specs.NestedRule.{job_of};
 ghost use Rattle.worker_seat.specs.inside.Runs.{IsNumberOf};
 
-use crate::begun::RunNumber;
-use crate::closing::Closing;
+use crate::run_numbers::RunNumber;
+use crate::run_slot::RunSlot;
 use keyed_lock::{Held, KeyedLock};
 use outside_io::NoMemory;
 use run_frame::{FrameRun, Job};
@@ -20,7 +20,7 @@ use tickets::{Register, Ticket};
 #[derive(Drop)]
 pub struct CrewRun<J: Job> {
     register: Register<()>,
-    closing: KeyedLock<Closing<J>>,
+    slot: KeyedLock<RunSlot<J>>,
     // `None` of a run that was closed as it began.
     number: Option<RunNumber<J>>,
 }
@@ -34,10 +34,10 @@ impl<J: Job> Model for CrewRun<J> {
     ghost use Rattle.keyed_lock.specs.Locks.{made_with};
 
     ghost view = { λ run. record
-        { register = run.register; job = (made_with run.closing).job; number = run.number } };
+        { register = run.register; job = (made_with run.slot).job; number = run.number } };
 
-    ghost invariant = { λ run. ((made_with run.closing).register ≡ run.register)
-        × IfSome run.number (IsNumberOf (made_with run.closing).job) };
+    ghost invariant = { λ run. ((made_with run.slot).register ≡ run.register)
+        × IfSome run.number (IsNumberOf (made_with run.slot).job) };
 }
 
 impl<J: Job + Drop> CrewRun<J> {
@@ -52,10 +52,10 @@ impl<J: Job + Drop> CrewRun<J> {
         ensures number { IfOk result (λ run. run.number ≡ number) }
     {
         let (register, found) = Register::new(alloc)?;
-        let closing = KeyedLock::new(alloc, Closing::new(job, found))?;
+        let slot = KeyedLock::new(alloc, RunSlot::new(job, found))?;
         Ok(CrewRun {
             register,
-            closing,
+            slot,
             number,
         })
     }
@@ -73,18 +73,18 @@ impl<J: Job + Drop> CrewRun<J> {
         requires kept { IsKept J.meaning run }
         requires job { job_of run ≡ self.now.job }
     {
-        let Held { mut value, pass } = self.closing.take(rt);
+        let Held { mut value, pass } = self.slot.take(rt);
         value.close(run);
-        self.closing.put(Held { value, pass });
+        self.slot.put(Held { value, pass });
     }
 
     /// A ticket, if the run is closed.
     pub fn find<R: Wait>(&self, rt: &R) -> Option<Ticket<()>>
         ensures { IfSome result (λ ticket. ticket.register ≡ self.now.register) }
     {
-        let Held { mut value, pass } = self.closing.take(rt);
+        let Held { mut value, pass } = self.slot.take(rt);
         let ticket = value.find(&self.register);
-        self.closing.put(Held { value, pass });
+        self.slot.put(Held { value, pass });
         ticket
     }
 
@@ -94,6 +94,6 @@ impl<J: Job + Drop> CrewRun<J> {
         ensures kept { IsKept J.meaning result }
         ensures job { job_of result ≡ self.now.job }
     {
-        self.closing.take(rt).value.fetch(&self.register, ticket)
+        self.slot.take(rt).value.fetch(&self.register, ticket)
     }
 }

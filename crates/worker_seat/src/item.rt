@@ -1,7 +1,7 @@
 // Releases on the list of a crew.
 ghost use Rattle.std.specs.Prelude.{◌≡◌};
 
-use crate::begun::RunNumber;
+use crate::run_numbers::RunNumber;
 use ready_deques::Tagged;
 use run_frame::Job;
 use table_frames::Release;

@@ -41,18 +41,18 @@
 #![tactic(auto)]
 
 mod attendance;
-mod begun;
-mod closing;
 mod crew;
 mod crew_run;
-mod entering;
+mod crew_runner;
 mod item;
 mod list;
+mod run_numbers;
+mod run_slot;
 mod seat;
 mod seats;
 mod station;
 mod steps;
 
 pub use crew::{Crew, CrewParts};
-pub use entering::{CrewRan, EntersEach, run_by_crew, run_by_seats};
+pub use crew_runner::{CrewRan, EntersEach, run_by_crew, run_by_seats};
 pub use seat::WorkerSeat;

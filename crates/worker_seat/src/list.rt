@@ -2,8 +2,8 @@
 ghost use Rattle.std.specs.Prelude.{◌≡◌, All, IfSome};
 ghost use Rattle.worker_seat.specs.inside.Runs.{AreIn};
 
-use crate::begun::{BegunRuns, RunNumber};
 use crate::item::CrewItem;
+use crate::run_numbers::{BegunRuns, RunNumber};
 use outside_io::NoMemory;
 use ready_deques::{Ready, Tagged};
 use run_frame::Job;
@@ -13,16 +13,16 @@ use table_frames::Release;
 
 /// A list, what its items have their tag of, and how many owners it has.
 #[derive(Drop)]
-pub struct CrewList<T: Tagged + Drop, K: Tagged> {
+pub struct TaggedList<T: Tagged + Drop, K: Tagged> {
     pub ready: Arc<Ready<T>>,
     pub begun: K,
     pub owners: usize,
 }
 
 /// The list of what is ready in the runs that a crew has begun.
-pub type RunsList<J> = CrewList<CrewItem<J>, BegunRuns<J>>;
+pub type RunsList<J> = TaggedList<CrewItem<J>, BegunRuns<J>>;
 
-impl<T: Tagged + Drop, K: Tagged> Model for CrewList<T, K> {
+impl<T: Tagged + Drop, K: Tagged> Model for TaggedList<T, K> {
     ghost use Rattle.std.specs.Prelude.{◌≡◌};
     ghost use Rattle.worker_seat.specs.Seats.{CrewState, crew_state};
 
@@ -30,14 +30,14 @@ impl<T: Tagged + Drop, K: Tagged> Model for CrewList<T, K> {
 
     ghost use Rattle.std.specs.Arc.{arc_value};
     ghost use Rattle.ready_deques.specs.Lists.{tag_of};
-    ghost use Rattle.worker_seat.specs.inside.Seating.{list_name};
+    ghost use Rattle.worker_seat.specs.inside.SeatPlaces.{list_name};
 
     ghost view = { λ list. crew_state (list_name (arc_value list.ready)) list.owners };
 
     ghost invariant = { λ list. tag_of (arc_value list.ready) ≡ K.tag list.begun };
 }
 
-impl<T: Tagged + Drop, K: Tagged> CrewList<T, K> {
+impl<T: Tagged + Drop, K: Tagged> TaggedList<T, K> {
     /// From now on nobody sleeps, and those who do are woken.
     pub fn close(&self) {
         self.ready.close();
@@ -54,7 +54,7 @@ impl<T: Tagged + Drop, K: Tagged> CrewList<T, K> {
     }
 }
 
-impl<J: Job + Drop> CrewList<CrewItem<J>, BegunRuns<J>> {
+impl<J: Job + Drop> TaggedList<CrewItem<J>, BegunRuns<J>> {
     /// Puts the first releases of a run on the list, from outside.
     pub fn inject_all<R: Wait>(
         &self,

@@ -1,6 +1,6 @@
 // Seats.
 ghost use Rattle.std.specs.Prelude.{◌≡◌, ◌↔◌, IsTrue};
-ghost use Rattle.worker_seat.specs.inside.Seating.{owner_list};
+ghost use Rattle.worker_seat.specs.inside.SeatPlaces.{owner_list};
 
 use crate::item::CrewItem;
 use crate::station::Station;

@@ -4,7 +4,7 @@ ghost use Rattle.std.specs.Arc.{arc_value};
 ghost use Rattle.ready_deques.specs.Lists.{IsOwnerOf};
 ghost use Rattle.worker_seat.specs.Seats.{at_job, away, left_refused};
 ghost use Rattle.worker_seat.specs.Crews.{IsFoundRunOf, IsOpen, MayBegin, moved, state_of, watcher_of};
-ghost use Rattle.worker_seat.specs.inside.Seating.{list_name, IsRunOn};
+ghost use Rattle.worker_seat.specs.inside.SeatPlaces.{list_name, IsRunOn};
 
 use crate::crew_run::CrewRun;
 use crate::item::CrewItem;

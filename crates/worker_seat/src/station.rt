@@ -3,7 +3,7 @@ ghost use Rattle.std.specs.Prelude.{◌≡◌, ◌↔◌, true, false, IsTrue, I
 ghost use Rattle.std.specs.Arc.{arc_value};
 ghost use Rattle.run_frame.specs.Legal.{IsKept};
 ghost use Rattle.run_frame.specs.NestedRule.{job_of};
-ghost use Rattle.worker_seat.specs.inside.Seating.{owner_list, IsRunOn};
+ghost use Rattle.worker_seat.specs.inside.SeatPlaces.{owner_list, IsRunOn};
 
 use crate::attendance::Attendance;
 use crate::crew_run::CrewRun;
@@ -32,7 +32,7 @@ impl<J: Job + Drop> Model for Station<J> {
 
     ghost Value = { SeatState J };
 
-    ghost use Rattle.worker_seat.specs.inside.Seating.{job_at, has_found, owner_list, FitsRun, IsAtRunOn};
+    ghost use Rattle.worker_seat.specs.inside.SeatPlaces.{job_at, has_found, owner_list, FitsRun, IsAtRunOn};
 
     ghost view = { λ station. record {
       list = owner_list station.owner;

@@ -2,12 +2,12 @@
 ghost use Rattle.std.specs.Prelude.{◌≡◌, IfOk, IfSome, OnOk};
 ghost use Rattle.table_frames.specs.Frames.{MayTake};
 ghost use Rattle.worker_seat.specs.inside.Runs.{AreIn, IsNumberOf};
-ghost use Rattle.worker_seat.specs.inside.Seating.{IsSameOwner};
+ghost use Rattle.worker_seat.specs.inside.SeatPlaces.{IsSameOwner};
 
-use crate::begun::RunNumber;
 use crate::crew_run::CrewRun;
 use crate::item::CrewItem;
 use crate::list::RunsList;
+use crate::run_numbers::RunNumber;
 use outside_io::NoMemory;
 use ready_deques::Owner;
 use run_frame::Job;

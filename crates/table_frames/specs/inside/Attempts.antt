@@ -11,7 +11,7 @@ use Rattle.table_steps.specs.ParcelForms.{MayBeBare}
 use Rattle.join_tables.specs.States.{FreshState, TurnState, RunningState, fresh_state}
 use Rattle.run_frame.specs.Meaning.{Meaning}
 use Rattle.run_frame.specs.WorkRule.{Answers, FaultAllowed}
-use Rattle.table_frames.specs.Allowed.{work_with}
+use Rattle.table_frames.specs.AllowedFates.{work_with}
 use Rattle.table_frames.specs.Frames.{FrameKey}
 use Rattle.table_frames.specs.inside.Runs.{MayWork}
 use Rattle.table_frames.specs.declared.attempt.Attempt.{Attempt}

@@ -11,8 +11,8 @@ use Rattle.join_tables.specs.Rests.{IsOfTable}
 use Rattle.join_tables.specs.States.{FreshState, TableState, RunningState, SpentState}
 use Rattle.run_frame.specs.Meaning.{Meaning}
 use Rattle.run_frame.specs.FlatNets.{IsFlatNet}
-use Rattle.table_frames.specs.Allowed.{IsAllowed, AreAllowed}
-use Rattle.table_frames.specs.Telling.{IsInJournal}
+use Rattle.table_frames.specs.AllowedFates.{IsAllowed, AreAllowed}
+use Rattle.table_frames.specs.JournalFacts.{IsInJournal}
 use Rattle.table_frames.specs.Frames.{FrameKey}
 
 -- these releases are of a table

@@ -1,4 +1,4 @@
--- Releases of a run that is led in some order.
+-- Releases of a run that takes its steps in some order.
 use Rattle.std.specs.Prelude.{◌≡◌, List, All}
 use Rattle.table_frames.specs.Frames.{FrameKey, ReleaseView, BacklogView, MayTake}
 

@@ -7,7 +7,7 @@ use Rattle.run_frame.specs.NestedRule.{job_of, journal_of}
 use Rattle.run_frame.specs.Runs.{value_at, values_of}
 use Rattle.text_tasks.specs.declared.item.Item.{Item}
 use Rattle.text_tasks.specs.JobMeaning.{IsTextJob, net_of, names_of}
-use Rattle.flow_run.specs.inside.Rising.{AreRising}
+use Rattle.flow_run.specs.inside.RisingValues.{AreRising}
 use Rattle.run_laws.specs.Output.{task_part}
 use Rattle.flow_run.proofs.ReportLemmas.{named_tasks, one_written, one_refused, part_is}
 use Rattle.flow_run.proofs.ValueSearch.{kept_rise}

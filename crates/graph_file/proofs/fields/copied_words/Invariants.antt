@@ -2,7 +2,7 @@ use Rattle.std.proofs.Common.{[], codes}
 use Rattle.serde_json.specs.View.{view}
 use Rattle.graph_file.specs.declared.refusals.GraphError.TheVariants.{BadField}
 use Rattle.graph_file.specs.Contents.{word_of}
-use Rattle.graph_file.specs.inside.Reading.{put_each}
+use Rattle.graph_file.specs.inside.Reader.{put_each}
 use Rattle.graph_file.proofs.WalkLemmas.{GoesOn}
 use Rattle.graph_file.proofs.fields.copied_words.Given as goal
 

@@ -1,7 +1,7 @@
 use Rattle.std.proofs.Common.{[]}
 use Rattle.graph_file.specs.PlanText.{add_edge}
 use Rattle.graph_file.specs.inside.Drafts.{edge_rows}
-use Rattle.graph_file.specs.inside.Reading.{link_row}
+use Rattle.graph_file.specs.inside.Reader.{link_row}
 use Rattle.graph_file.proofs.WalkLemmas.{GoesOn-more-at, GoesOn-refused-at}
 use Rattle.graph_file.proofs.rules.add_edges.Goals as goal
 

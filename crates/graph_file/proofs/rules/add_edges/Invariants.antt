@@ -1,6 +1,6 @@
 use Rattle.graph_file.specs.PlanText.{add_edge}
 use Rattle.graph_file.specs.inside.Drafts.{edge_rows}
-use Rattle.graph_file.specs.inside.Reading.{link_row}
+use Rattle.graph_file.specs.inside.Reader.{link_row}
 use Rattle.graph_file.proofs.WalkLemmas.{GoesOn}
 use Rattle.graph_file.proofs.rules.add_edges.Given as goal
 

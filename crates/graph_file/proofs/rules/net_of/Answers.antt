@@ -1,4 +1,4 @@
-use Rattle.graph_file.specs.inside.Reading.{draft_rows}
+use Rattle.graph_file.specs.inside.Reader.{draft_rows}
 use Rattle.graph_file.proofs.PlanLemmas.{among-ops, few-edges}
 use Rattle.graph_file.proofs.rules.net_of.Goals as goal
 

@@ -4,7 +4,7 @@ use Rattle.graph_file.specs.declared.refusals.GraphError.TheVariants.{BadField}
 use Rattle.graph_file.specs.Contents.{task_name_of}
 use Rattle.graph_file.specs.Fields.{task_spot}
 use Rattle.graph_file.specs.PlanText.{link_to}
-use Rattle.graph_file.specs.inside.Reading.{link_row, put_each}
+use Rattle.graph_file.specs.inside.Reader.{link_row, put_each}
 use Rattle.graph_file.proofs.WalkLemmas.{GoesOn}
 use Rattle.graph_file.proofs.tasks.read_links.Given as goal
 

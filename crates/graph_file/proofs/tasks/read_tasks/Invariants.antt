@@ -1,7 +1,7 @@
 use Rattle.serde_json.specs.View.{view}
 use Rattle.graph_file.specs.PlanText.{no_tasks}
 use Rattle.graph_file.specs.inside.Lookups.{HasPlaces}
-use Rattle.graph_file.specs.inside.Reading.{add_task_steps, draft_rows}
+use Rattle.graph_file.specs.inside.Reader.{add_task_steps, draft_rows}
 use Rattle.graph_file.proofs.WalkLemmas.{GoesOn}
 use Rattle.graph_file.proofs.tasks.read_tasks.Given as goal
 

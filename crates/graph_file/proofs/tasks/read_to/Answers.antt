@@ -1,6 +1,6 @@
 use Rattle.std.proofs.Common.{map}
 use Rattle.serde_json.specs.View.{view}
-use Rattle.graph_file.specs.inside.Reading.{link_row}
+use Rattle.graph_file.specs.inside.Reader.{link_row}
 use Rattle.graph_file.proofs.TaskLemmas.{Leads-links}
 use Rattle.graph_file.proofs.tasks.read_to.Goals as goal
 

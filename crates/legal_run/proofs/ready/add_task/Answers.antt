@@ -1,6 +1,6 @@
 use Rattle.std.proofs.Common.{◌≡◌, ◌<◌, length, subst, sym, List, ℕ}
 use Rattle.std.specs.Prelude.{OnOk, All}
-use Rattle.legal_run.specs.declared.ready.Ready.{Ready}
+use Rattle.legal_run.specs.declared.ready.ReadyRelease.{ReadyRelease}
 use Rattle.journal_rules.proofs.NetLemmas.{places_below}
 use Rattle.legal_run.proofs.Readying.{task_parts}
 use Rattle.legal_run.proofs.ready.add_task.Goals as goal
@@ -12,4 +12,4 @@ pub returns : goal.returns
 returns c = λ journal counts.
     let parts = task_parts c.args.net.now journal c.args.task c.source_left.result c.rounds_left.result c.args.list.now c.add_row.new.list c.add_row-2.new.list (c.source_left.ensures journal counts) (c.rounds_left.ensures journal counts) c.in_ok-add_row.ensures c.in_ok-add_row-2.ensures in
     let added = rw c.weak_in.ensures at (c.add_weak.ensures journal counts) in
-    subst (λ (xs : List Ready). OnOk c.add_weak.result (c.add_weak.new.list ≡ xs)) parts added
+    subst (λ (xs : List ReadyRelease). OnOk c.add_weak.result (c.add_weak.new.list ≡ xs)) parts added

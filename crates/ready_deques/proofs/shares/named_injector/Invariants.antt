@@ -1,4 +1,4 @@
-use Rattle.ready_deques.specs.inside.Naming.{about}
+use Rattle.ready_deques.specs.inside.ListNames.{about}
 use Rattle.ready_deques.proofs.shares.named_injector.Given as goal
 
 abbrev pub ghosts-name_injector : goal.ghosts-name_injector

@@ -1,4 +1,4 @@
-use Rattle.ready_deques.specs.inside.Naming.{about}
+use Rattle.ready_deques.specs.inside.ListNames.{about}
 use Rattle.ready_deques.proofs.shares.named_worker.Given as goal
 
 abbrev pub ghosts-name_worker : goal.ghosts-name_worker

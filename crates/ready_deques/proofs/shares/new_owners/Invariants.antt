@@ -2,7 +2,7 @@ use Rattle.std.proofs.Common.{◌≡◌, ◌+◌, All, Some, length}
 use Rattle.std.specs.Arc.{arc_value}
 use Rattle.crossbeam_deque.specs.Injected.{injector_view, IsInjectorPassOf}
 use Rattle.ready_deques.specs.Lists.{IsOwnerOf}
-use Rattle.ready_deques.specs.inside.Shared.{list_name_of}
+use Rattle.ready_deques.specs.inside.ListParts.{list_name_of}
 use Rattle.ready_deques.proofs.shares.new_owners.Given as goal
 
 abbrev pub invariant-loop-parker : goal.invariant-loop-parker

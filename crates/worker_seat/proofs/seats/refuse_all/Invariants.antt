@@ -1,7 +1,7 @@
 use Rattle.std.proofs.Common.{◌≡◌}
 use Rattle.worker_seat.specs.Seats.{left_refused}
 use Rattle.worker_seat.specs.Crews.{moved}
-use Rattle.worker_seat.specs.inside.Seating.{changed}
+use Rattle.worker_seat.specs.inside.SeatPlaces.{changed}
 use Rattle.worker_seat.proofs.seats.refuse_all.Given as goal
 
 abbrev pub invariant-loop-seat : goal.invariant-loop-seat

@@ -1,7 +1,7 @@
 use Rattle.std.proofs.Common.{◌≡◌, ◌+◌, ◌++◌, All, length, map, vec_capacity}
 use Rattle.ready_deques.specs.Lists.{IsOwnerOf}
 use Rattle.worker_seat.specs.Crews.{MayBegin, state_of, watcher_of}
-use Rattle.worker_seat.specs.inside.Seating.{list_name}
+use Rattle.worker_seat.specs.inside.SeatPlaces.{list_name}
 use Rattle.worker_seat.proofs.seats.seat_all.Given as goal
 
 abbrev pub invariant-loop-owner : goal.invariant-loop-owner

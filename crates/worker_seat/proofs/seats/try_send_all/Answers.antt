@@ -2,7 +2,7 @@ use Rattle.std.proofs.Common.{sym, subst}
 use Rattle.std.specs.Prelude.{slice_index_or}
 use Rattle.std.specs.Arc.{arc_value}
 use Rattle.worker_seat.specs.Crews.{state_of}
-use Rattle.worker_seat.specs.inside.Seating.{IsRunOn}
+use Rattle.worker_seat.specs.inside.SeatPlaces.{IsRunOn}
 use Rattle.worker_seat.proofs.ChangedLemmas.{after_error, next_has, moved_next, moved_all, sent_refused}
 use Rattle.worker_seat.proofs.seats.try_send_all.Goals as goal
 

@@ -2,7 +2,7 @@ use Rattle.std.proofs.Common.{◌≡◌}
 use Rattle.std.specs.Arc.{arc_value}
 use Rattle.worker_seat.specs.Seats.{at_job}
 use Rattle.worker_seat.specs.Crews.{moved}
-use Rattle.worker_seat.specs.inside.Seating.{changed}
+use Rattle.worker_seat.specs.inside.SeatPlaces.{changed}
 use Rattle.worker_seat.proofs.seats.try_send_all.Given as goal
 
 abbrev pub invariant-loop-seat : goal.invariant-loop-seat

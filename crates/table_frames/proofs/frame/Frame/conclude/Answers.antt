@@ -2,7 +2,7 @@ use Rattle.std.proofs.Common.{◌≡◌, [], ◌∷◌, ◌++◌, refl, sym, ap,
 use Rattle.std.proofs.lemmas.List.Elements.{All-nil}
 use Rattle.join_tables.specs.States.{FreshState}
 use Rattle.table_frames.specs.Frames.{IsInnermost, backlog_view}
-use Rattle.table_frames.specs.Making.{Uses}
+use Rattle.table_frames.specs.StepReleases.{Uses}
 use Rattle.table_frames.specs.inside.Attempts.{IsAttemptAt, release_tried}
 use Rattle.table_frames.specs.inside.Runs.{AreOf}
 use Rattle.table_frames.proofs.frame.Frame.conclude.Goals as goal
@@ -37,5 +37,5 @@ returns-clause-concludes g c =
       allowed = c.conclude-spent.ensures.spent.allowed;
       journal = c.conclude-spent.ensures.spent.journal;
       uses = subst (λ b. Uses (g.J.Job.meaning.net frame.job) (release_tried frame.table c.args.attempt.outcome) fate b c.conclude-spent.new.made.items) c.requires.none c.conclude-spent.ensures.uses;
-      backlog = c.add.ensures ∙ ap (λ fs. backlog_view fs (c.args.gathered.now.backlog.fates ++ fate ∷ [])) c.requires.frames;
+      backlog = c.add.ensures ∙ ap (λ fs. backlog_view fs (c.args.batch.now.backlog.fates ++ fate ∷ [])) c.requires.frames;
     }

@@ -5,11 +5,11 @@ use Rattle.join_tables.specs.declared.keeper.Recorded.{Recorded}
 use Rattle.join_tables.specs.declared.keeper.Remaining.{Remaining}
 use Rattle.join_tables.specs.Keeping.{KeeperState, LeavesOf}
 use Rattle.run_frame.specs.NestedRule.{journal_of}
-use Rattle.table_frames.specs.Bringing.{TakesIn}
+use Rattle.table_frames.specs.BacklogResults.{TakesIn}
 use Rattle.table_frames.specs.Frames.{FrameKey, HasTable}
 use Rattle.table_frames.specs.Steps.{IsRootRun}
-use Rattle.table_frames.specs.Telling.{HasEntries}
-use Rattle.table_frames.specs.declared.stepped.State.TheVariants.{Closed}
+use Rattle.table_frames.specs.JournalFacts.{HasEntries}
+use Rattle.table_frames.specs.declared.step_results.State.TheVariants.{Closed}
 use Rattle.table_frames.proofs.Entries.{of_later}
 use Rattle.table_frames.proofs.Keeping.{finds_so}
 use Rattle.table_frames.proofs.frame.Frame.keep.Goals as goal

@@ -3,8 +3,8 @@ use Rattle.std.specs.Arc.{arc_value}
 use Rattle.table_frames.specs.Frames.{BacklogView, ReleaseView}
 use Rattle.table_frames.specs.Steps.{StepsRelease}
 use Rattle.table_frames.specs.inside.Attempts.{TriesRelease}
-use Rattle.table_frames.specs.inside.Concluding.{Concludes}
-use Rattle.table_frames.specs.declared.stepped.State.TheVariants.{Went}
+use Rattle.table_frames.specs.inside.AttemptEnds.{Concludes}
+use Rattle.table_frames.specs.declared.step_results.State.TheVariants.{Went}
 use Rattle.table_frames.proofs.Concluding.{steps_release}
 use Rattle.table_frames.proofs.frame.Frame.step.Goals as goal
 
@@ -18,7 +18,7 @@ returns-clause-ok g c =
     let attempt = c.in_ok-attempt.attempt in
     let old = c.args.backlog.now in
     let mid = c.make_room.new.self.backlog in
-    let new = c.conclude.new.gathered.backlog in
+    let new = c.conclude.new.batch.backlog in
     let made = c.conclude.new.made.items in
     let first : c.deref.result.now ≡ frames = search rules in
     let second : c.deref-2.result.now ≡ frames = search rules in

@@ -3,7 +3,7 @@ use Rattle.std.proofs.lemmas.List.Elements.{All-push}
 use Rattle.task_graph.specs.NetRows.{NetRows}
 use Rattle.join_tables.specs.States.{FreshState}
 use Rattle.table_frames.specs.Frames.{FrameKey}
-use Rattle.table_frames.specs.Making.{GivesEdges}
+use Rattle.table_frames.specs.StepReleases.{GivesEdges}
 use Rattle.table_frames.specs.inside.Runs.{AreOf}
 use Rattle.table_frames.proofs.Making.{PaidSoFar, next_is, released_is, paid_next, paid_released, paid_all, none_left}
 use Rattle.table_frames.proofs.table_run.TableRun.pay.Goals as goal

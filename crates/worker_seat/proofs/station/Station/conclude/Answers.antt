@@ -1,5 +1,5 @@
 use Rattle.std.proofs.Common.{sym, subst}
-use Rattle.worker_seat.specs.inside.Seating.{IsAtRunOn, owner_list}
+use Rattle.worker_seat.specs.inside.SeatPlaces.{IsAtRunOn, owner_list}
 use Rattle.worker_seat.proofs.station.Station.conclude.Goals as goal
 
 pub invariant_of-self : goal.invariant_of-self

@@ -1,6 +1,6 @@
 use Rattle.std.proofs.Common.{length}
 use Rattle.worker_seat.specs.inside.Runs.{AreIn}
-use Rattle.worker_seat.specs.inside.Seating.{IsSameOwner}
+use Rattle.worker_seat.specs.inside.SeatPlaces.{IsSameOwner}
 use Rattle.worker_seat.proofs.steps.Shift.push_others.Given as goal
 
 abbrev pub invariant-loop-released : goal.invariant-loop-released

@@ -1,6 +1,6 @@
 use Rattle.std.proofs.Common.{◌≡◌}
 use Rattle.table_frames.specs.Frames.{MayTake}
-use Rattle.worker_seat.specs.inside.Seating.{IsSameOwner}
+use Rattle.worker_seat.specs.inside.SeatPlaces.{IsSameOwner}
 use Rattle.worker_seat.proofs.steps.Shift.step_on.Given as goal
 
 abbrev pub invariant-loop : goal.invariant-loop

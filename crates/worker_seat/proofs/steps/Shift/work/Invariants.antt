@@ -1,5 +1,5 @@
 use Rattle.table_frames.specs.Frames.{MayTake}
-use Rattle.worker_seat.specs.inside.Seating.{IsSameOwner}
+use Rattle.worker_seat.specs.inside.SeatPlaces.{IsSameOwner}
 use Rattle.worker_seat.proofs.steps.Shift.work.Given as goal
 
 abbrev pub invariant-loop : goal.invariant-loop

@@ -1,5 +1,0 @@
-use Rattle.flow_run.specs.Checking.{findings_text}
-use Rattle.flow_run.proofs.checking.deliver_findings.Goals as goal
-
-pub returns : goal.returns
-returns g c = c.flushed.ensures (g.S.Sink.state c.args.out.now) (findings_text c.args.found.now.names c.args.found.now.findings) c.requires.nothing_held c.put_findings-written.ensures

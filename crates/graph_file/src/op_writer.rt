@@ -1,0 +1,113 @@
+// How operations are written: a row for each.
+ghost use Rattle.std.specs.Prelude.{◌≡◌, ◌++◌, ◌∷◌, [], ◌<◌, All, IfOk, OnOk, length, map, slice_index_or};
+ghost use Rattle.serde_json.specs.Data.{string};
+ghost use Rattle.serde_json.specs.View.{view};
+ghost use Rattle.graph_file.specs.WrittenPlan.{lines_data, op_text, strings_data, text_op_text, with_field, without_field};
+ghost use Rattle.graph_file.specs.inside.Writer.{HasUtf8, HasUtf8Word, IsString, op_text_of};
+
+use graph_plans::{Op, TextOp};
+use outside_io::Bytes;
+use serde_json::{Map, Value, put};
+use std::alloc::{AllocError, Global};
+use std::str;
+
+/// The name of an operation, and its own fields.
+#[derive(Drop)]
+pub(crate) struct WrittenOp {
+    pub name: &'static str,
+    pub own: Map<String, Value>,
+}
+
+/// The operation of a task, where these are the names of the texts.
+pub(crate) fn written_op(alloc: Global, texts: &[Bytes], op: &Op) -> Result<WrittenOp, AllocError>
+    requires { HasUtf8 texts.now op.now }
+    ensures { IfOk result (λ written. op_text_of written ≡ op_text texts.now op.now) }
+{
+    match op {
+        Op::Input => Ok(bare(alloc, "input")),
+        Op::Read(text) => having(
+            alloc,
+            "read",
+            "text",
+            string_value(alloc, &texts[*text as usize])?,
+        ),
+        Op::Text(op) => written_text_op(alloc, op),
+        Op::Match => Ok(bare(alloc, "match")),
+        Op::Back => Ok(bare(alloc, "back")),
+        Op::IfMore(lines) => having(alloc, "ifmore", "n", Value::from(*lines)),
+        Op::IfHas(word) => having(alloc, "ifhas", "word", string_value(alloc, word)?),
+        Op::Route(words) => having(
+            alloc,
+            "route",
+            "words",
+            strings_value(alloc, words.as_slice())?,
+        ),
+    }
+}
+
+/// An operation on one text.
+pub(crate) fn written_text_op(alloc: Global, op: &TextOp) -> Result<WrittenOp, AllocError>
+    requires { HasUtf8Word op.now }
+    ensures { IfOk result (λ written. op_text_of written ≡ text_op_text op.now) }
+{
+    match op {
+        TextOp::Pass => Ok(bare(alloc, "pass")),
+        TextOp::Keep(word) => having(alloc, "keep", "word", string_value(alloc, word)?),
+        TextOp::Without(word) => having(alloc, "without", "word", string_value(alloc, word)?),
+        TextOp::Head(lines) => having(alloc, "head", "n", Value::from(*lines)),
+        TextOp::Tail(lines) => having(alloc, "tail", "n", Value::from(*lines)),
+        TextOp::Skip(lines) => having(alloc, "skip", "n", Value::from(*lines)),
+        TextOp::Sort => Ok(bare(alloc, "sort")),
+        TextOp::Uniq => Ok(bare(alloc, "uniq")),
+        TextOp::Count => Ok(bare(alloc, "count")),
+        TextOp::Tally => Ok(bare(alloc, "tally")),
+    }
+}
+
+// An operation without a field of its own.
+fn bare(alloc: Global, name: &'static str) -> WrittenOp
+    ensures { op_text_of result ≡ without_field name.now }
+{
+    WrittenOp {
+        name,
+        own: Map::new(alloc),
+    }
+}
+
+// An operation with one field of its own.
+fn having(
+    alloc: Global,
+    name: &'static str,
+    field: &str,
+    content: Value,
+) -> Result<WrittenOp, AllocError>
+    ensures { IfOk result (λ written. op_text_of written
+        ≡ with_field name.now field.now (view content)) }
+{
+    let mut own = Map::new(alloc);
+    put(&mut own, alloc, field, content)?;
+    Ok(WrittenOp { name, own })
+}
+
+/// These bytes, which are UTF-8, as a string.
+#[tactic(auto, using(crate::proofs::JsonLemmas::utf8_of))]
+pub(crate) fn string_value(alloc: Global, bytes: &Bytes) -> Result<Value, AllocError>
+    requires { IsString bytes.now }
+    ensures { IfOk result (λ value. view value ≡ string bytes.now) }
+{
+    let Ok(text) = str::from_utf8(bytes.as_slice()) else {
+        unreachable!()
+    };
+    Value::try_from_str(alloc, text)
+}
+
+fn strings_value(alloc: Global, words: &[Bytes]) -> Result<Value, AllocError>
+    requires { All IsString words.now }
+    ensures { IfOk result (λ value. view value ≡ strings_data words.now) }
+{
+    let mut values = Vec::new(alloc);
+    for word in words {
+        values.push(string_value(alloc, word)?)?;
+    }
+    Ok(Value::Array(values))
+}

@@ -1,0 +1,57 @@
+// The reading of graph files.
+ghost use Rattle.std.specs.Prelude.{◌≡◌, ◌≢◌, IfErr, IfOk};
+ghost use Rattle.serde_json.specs.Errors.{IsMemory};
+ghost use Rattle.serde_json.specs.View.{view};
+ghost use Rattle.graph_plans.specs.PlanRows.{IsPlan, plan_rows};
+ghost use Rattle.graph_file.specs.PlanText.{IsRefused, PlanText, json_in, read_plan};
+ghost use Rattle.graph_file.specs.inside.Reader.{ReadsAs};
+
+use crate::refusals::GraphError;
+use crate::rules::plan_of;
+use crate::tasks::read_file;
+use graph_plans::Plan;
+use serde_json::{Category, Error, Value};
+use std::alloc::Global;
+
+/// The plan that the bytes stand for, or the first refusal.
+///
+/// `NotJson`: they are no JSON text in UTF-8, or one that nests too deep. `BadField`: a field is missing where it must
+/// stand, is unknown, or has a content that it may not have; the file's own fields come first, then those of each task
+/// in turn. `NoSuchName`: a name in `to` that no task has. `Repeated`: a task's name that an earlier one has.
+/// `TooMany`: more than 10,000 tasks, 100,000 edges or 1,024 different texts. These classes are tried in this order, and
+/// `NoMemory`, which says nothing of the bytes, may come in place of any answer.
+pub fn read_graph(alloc: Global, bytes: &[u8]) -> Result<Plan, GraphError>
+    ensures plan { IfOk result (λ plan. PlanText bytes.now (plan_rows plan)) }
+    ensures rules { IfOk result (λ plan. IsPlan (plan_rows plan)) }
+    ensures refusal { IfErr result
+        (λ error. error ≢ GraphError.NoMemory → IsRefused bytes.now error) }
+{
+    read_by_steps(alloc, bytes)
+}
+
+fn read_by_steps(alloc: Global, bytes: &[u8]) -> Result<Plan, GraphError>
+    ensures { ReadsAs plan_rows result (read_plan bytes.now) }
+{
+    let file = read_json(alloc, bytes)?;
+    let draft = read_file(alloc, &file)?;
+    plan_of(alloc, draft)
+}
+
+fn read_json(alloc: Global, bytes: &[u8]) -> Result<Value, GraphError>
+    ensures { ReadsAs view result (json_in bytes.now) }
+{
+    match Value::from_slice(alloc, bytes) {
+        Ok(file) => Ok(file),
+        Err(error) => Err(json_refusal(error)),
+    }
+}
+
+fn json_refusal(error: Error) -> GraphError
+    ensures memory { IsMemory error → result ≡ GraphError.NoMemory }
+    ensures other { result ≢ GraphError.NoMemory → result ≡ GraphError.NotJson }
+{
+    match error.classify() {
+        Category::Memory => GraphError::NoMemory,
+        _ => GraphError::NotJson,
+    }
+}

@@ -1,0 +1,22 @@
+-- What comes of an attempt.
+use Rattle.std.specs.Prelude.{◌≡◌, List, [], ◌∷◌, ◌++◌}
+use Rattle.join_tables.specs.States.{FreshState}
+use Rattle.join_tables.specs.declared.fates.Fate.{Fate}
+use Rattle.run_frame.specs.Meaning.{Meaning}
+use Rattle.table_frames.specs.AllowedFates.{IsAllowed}
+use Rattle.table_frames.specs.Frames.{FrameKey, BacklogView, backlog_view}
+use Rattle.table_frames.specs.StepReleases.{Uses}
+use Rattle.table_frames.specs.JournalFacts.{IsInJournal}
+use Rattle.table_frames.specs.inside.Attempts.{release_tried}
+use Rattle.table_frames.specs.declared.attempt.Attempt.{Attempt}
+
+-- One fate, which the job of the frame allows, is gathered, and these releases were made.
+pub record Concludes {J V : Type 0} (meaning : Meaning J V) (frames : List (FrameKey J)) (attempt : Attempt V) (old new : BacklogView J V) (made : List FreshState) : Type 0 where
+  pub frame : FrameKey J
+  pub around : List (FrameKey J)
+  pub frames_are : frames ≡ frame ∷ around
+  pub fate : Fate V
+  pub allowed : IsAllowed meaning frame.job fate
+  pub journal : IsInJournal meaning frame.job fate
+  pub uses : Uses (meaning.net frame.job) (release_tried frame.table attempt.outcome) fate [] made
+  pub backlog : new ≡ backlog_view frames (old.fates ++ fate ∷ [])

@@ -1,0 +1,135 @@
+// What has the keeper of a run.
+ghost use Rattle.std.specs.Prelude.{◌≡◌, ◌++◌, [], IfOk, OnOk, OnErr, None, Some};
+ghost use Rattle.std.specs.Arc.{arc_value};
+ghost use Rattle.join_tables.specs.Batches.{batch_state};
+ghost use Rattle.join_tables.specs.Findings.{FindsOne};
+ghost use Rattle.join_tables.specs.Keeping.{IsLast, LeavesOf, TellsRun, entries_told};
+ghost use Rattle.run_frame.specs.Legal.{IsKept};
+ghost use Rattle.run_frame.specs.NestedRule.{job_of};
+ghost use Rattle.table_frames.specs.AllowedFates.{AreAllowed};
+ghost use Rattle.table_frames.specs.Frames.{key_of};
+ghost use Rattle.table_frames.specs.JournalFacts.{HasEntries};
+ghost use Rattle.table_frames.specs.inside.Rows.{rows_of};
+
+use join_tables::{FinishedRun, Keeper, NetTable, RecordedValue, Remaining, SpentBatch};
+use keyed_lock::Keyed;
+use outside_io::{List, NoMemory};
+use run_frame::{FrameRun, Job, ValueRow};
+use std::alloc::Global;
+use std::marker::Model;
+use std::snapshot::Snapshot;
+use std::sync::Arc;
+
+/// The keeper of a run of a job. The job allows what became of each turn that it has taken in.
+pub struct RunKeeper<J: Job> {
+    alloc: Global,
+    job: Arc<J>,
+    keeper: Keeper<J::V>,
+}
+
+// Written out, so that it is proved here alone and not in each crate above.
+impl<J: Job + Drop> Drop for RunKeeper<J> {
+    fn drop(self) {
+        let RunKeeper {
+            alloc: _,
+            job,
+            keeper,
+        } = self;
+        drop((job, keeper));
+    }
+}
+
+impl<J: Job> Model for RunKeeper<J> {
+    ghost use Rattle.table_frames.specs.Frames.{RunKeeperView};
+
+    ghost Value = { RunKeeperView J J.V };
+
+    ghost use Rattle.std.specs.Arc.{arc_value};
+    ghost use Rattle.table_frames.specs.AllowedFates.{AreAllowed};
+
+    ghost view = { λ kept. record { job = arc_value kept.job; keeper = kept.keeper } };
+
+    ghost invariant = { λ kept. AreAllowed J.meaning (arc_value kept.job) kept.keeper.fates };
+}
+
+impl<J: Job> Keyed for RunKeeper<J> {
+    ghost use Rattle.table_frames.specs.Frames.{FrameKey, key_of};
+
+    ghost Key = { FrameKey J };
+
+    ghost key = { key_of };
+}
+
+impl<J: Job + Drop> RunKeeper<J> {
+    /// Of a run that has just begun.
+    pub fn new(alloc: Global, job: Arc<J>, keeper: Keeper<J::V>) -> RunKeeper<J>
+        requires { keeper.fates ≡ [] }
+        ensures job { result.job ≡ arc_value job }
+        ensures keeper { result.keeper ≡ keeper }
+    {
+        RunKeeper { alloc, job, keeper }
+    }
+
+    /// Takes in turns that are done, at least one. If an allocation fails, all stays as it was.
+    pub fn absorb(
+        &mut self,
+        table: &NetTable<J::V>,
+        batch: &mut SpentBatch<J::V>,
+    ) -> Result<Remaining, NoMemory>
+        requires keeper { self.old.keeper.table ≡ table.now.table }
+        requires batch { batch.old.table ≡ Some table.now.table }
+        requires allowed { AreAllowed J.meaning self.old.job batch.old.fates }
+        ensures same { key_of self.new ≡ key_of self.old }
+        ensures fates { OnOk result
+            (self.new.keeper.fates ≡ self.old.keeper.fates ++ batch.old.fates) }
+        ensures taken { OnOk result (batch.new ≡ batch_state None [] batch.old.room) }
+        ensures found { IfOk result
+            (λ left. FindsOne (λ n. LeavesOf n left) self.old.keeper.found self.new.keeper.found) }
+        ensures err { OnErr result (batch.new ≡ batch.old) }
+        ensures all { IsLast result
+            → TellsRun table.now.net table.now.limit (entries_told self.new.keeper.fates) }
+    {
+        self.keeper.absorb(table, batch)
+    }
+
+    /// The keeper as it is now, for clauses.
+    pub fn keeper_now(&self) -> Snapshot<Keeper<J::V>>
+        ensures { result.value ≡ self.now.keeper }
+    {
+        Snapshot::of(&self.keeper)
+    }
+
+    /// The run, where the last turn was taken in, or there was no release at first.
+    pub fn finish(self) -> Result<FrameRun<J>, NoMemory>
+        requires { TellsRun (J.meaning.net self.job) (J.meaning.limit self.job)
+            (entries_told self.keeper.fates) }
+        ensures kept { IfOk result (IsKept J.meaning) }
+        ensures job { IfOk result (λ run. job_of run ≡ self.job) }
+        ensures entries { IfOk result (λ run. HasEntries run self.keeper.fates) }
+    {
+        let RunKeeper { alloc, job, keeper } = self;
+        let FinishedRun { journal, values } = keeper.finish()?;
+        let values = value_rows(alloc, values)?;
+        Ok(FrameRun {
+            job,
+            journal,
+            values,
+            inner: Vec::new(alloc),
+        })
+    }
+}
+
+// The rows of a run that have these values.
+fn value_rows<V: Drop>(
+    alloc: Global,
+    values: Vec<RecordedValue<V>>,
+) -> Result<List<ValueRow<V>>, NoMemory>
+    ensures { IfOk result (λ rows. rows ≡ rows_of values.items) }
+{
+    let mut rows = Vec::with_capacity(alloc, values.len())?;
+    for recorded in values {
+        let RecordedValue { place, value } = recorded;
+        rows.push_reserved(ValueRow { place, value });
+    }
+    Ok(List::from_vec(rows))
+}
