@@ -84,15 +84,19 @@ pub fn flow_main<F: Texts, S: Sink, N: Sink, R: Threads + Wait + Sync>(
     ensures ends { CallEnds (F.held texts.old) (map string_bytes words.now) result.status
         result.runs result.conclusion }
     // Where that is at hand, no read and no write fails and no run is cut short, all is done.
-    ensures completes { IsAtHand (F.held texts.old) (asked_by (map string_bytes words.now)) → NothingFails F.failed S.state texts.old texts.new out.old out.new
-        → All (λ run. run_reason text_job run ≡ Reason.Fine) result.runs → (result.status ≡ Status.Done) ⊎ (result.status ≡ Status.NoMemory) }
+    ensures completes { IsAtHand (F.held texts.old) (asked_by (map string_bytes words.now))
+        → NothingFails F.failed S.state texts.old texts.new out.old out.new
+        → All (λ run. run_reason text_job run ≡ Reason.Fine) result.runs
+        → (result.status ≡ Status.Done) ⊎ (result.status ≡ Status.NoMemory) }
     // Whatever the number of workers: the kept run of a plan without conditions is fine exactly where its values by one
     // thread run through, and its report is then theirs.
     ensures kept_plainly { All IsReportedPlainly result.runs }
     // Where the report of such a plan is asked for, and the source specifies the file and the texts, and holds them within
     // their limits, the call is done exactly then, unless something fails, and the output has taken just that report.
-    ensures plainly { (job : TextJob) → AsksPlainly (F.held texts.old) (asked_by (map string_bytes words.now)) job
-        → EndsPlainly job (S.state out.old).taken (S.state out.new).taken (NothingFails F.failed S.state texts.old texts.new out.old out.new) result.status }
+    ensures plainly { (job : TextJob)
+        → AsksPlainly (F.held texts.old) (asked_by (map string_bytes words.now)) job
+        → EndsPlainly job (S.state out.old).taken (S.state out.new).taken
+        (NothingFails F.failed S.state texts.old texts.new out.old out.new) result.status }
     // The output took the report or the journal of the kept run, or the verdict's line, or the findings; where it failed or
     // an allocation did, a prefix of it. Where no run is kept and nothing was concluded, it is left alone.
     ensures output { HasWritten S.state out.old out.new result.status

@@ -77,7 +77,8 @@ fn read_used_text_op<'v>(
     object: &'v Value,
 ) -> Result<FoundOp<FileOp<'v>>, GraphError>
     ensures { ReadsAs found_op result
-        (op_called (map (used_by (λ op. does (Op.Text op))) text_rows) name.now spot (view object.now)) }
+        (op_called (map (used_by (λ op. does (Op.Text op))) text_rows) name.now spot
+        (view object.now)) }
 {
     match read_text_op(alloc, name, spot, object) {
         Ok(found) => Ok(with(found.fields, FileOp::Does(Op::Text(found.op)))),

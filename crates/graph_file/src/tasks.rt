@@ -148,7 +148,9 @@ fn read_links<'v>(
     links: &mut List<Link<'v>>,
 ) -> Result<(), GraphError>
     ensures { Leads result (map link_row links.new)
-        (walk (put_each task_name_of (link_to from) (GraphError.BadField (task_spot from) (codes "to"))) (map link_row links.old) (map view names.now)) }
+        (walk (put_each task_name_of (link_to from)
+        (GraphError.BadField (task_spot from) (codes "to"))) (map link_row links.old)
+        (map view names.now)) }
 {
     for name in names {
         read_link(alloc, from, name, links)?;
@@ -163,7 +165,8 @@ fn read_link<'v>(
     links: &mut List<Link<'v>>,
 ) -> Result<(), GraphError>
     ensures { Leads result (map link_row links.new)
-        (put_each task_name_of (link_to from) (GraphError.BadField (task_spot from) (codes "to")) (map link_row links.old) (view name.now)) }
+        (put_each task_name_of (link_to from) (GraphError.BadField (task_spot from) (codes "to"))
+        (map link_row links.old) (view name.now)) }
 {
     let Some(to) = task_name_of(name) else {
         return Err(bad_field(alloc, task_spot(from), "to"));
@@ -182,7 +185,8 @@ fn put_op<'v>(
 ) -> Result<(), NoMemory>
     requires { HasPlaces numbers.old draft.old.texts }
     ensures draft { OnOk result (draft_rows draft.new
-        ≡ with_op (draft_rows draft.old) name.now (file_op_row op.entry) (map link_row draft.old.links)) }
+        ≡ with_op (draft_rows draft.old) name.now (file_op_row op.entry)
+        (map link_row draft.old.links)) }
     ensures numbers { OnOk result (HasPlaces numbers.new draft.new.texts) }
 {
     let op = numbered(alloc, op, &mut draft.texts, numbers)?;

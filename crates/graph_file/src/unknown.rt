@@ -50,7 +50,8 @@ fn unknown_key<'v>(
     own: &[&str],
 ) -> Option<&'v String>
     ensures { option_map (λ k. k.now) result
-        ≡ find (λ key. is_unknown (map (λ s. s.now) common.now ++ map (λ s. s.now) own.now) (string_bytes key)) (keys members.now) }
+        ≡ find (λ key. is_unknown (map (λ s. s.now) common.now ++ map (λ s. s.now) own.now)
+        (string_bytes key)) (keys members.now) }
 {
     members
         .keys()

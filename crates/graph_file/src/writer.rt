@@ -61,8 +61,9 @@ fn task_value(alloc: Global, plan: &Plan, task: u32, op: &Op) -> Result<Value, A
     requires plan { IsWritable (plan_rows plan.now) }
     requires within { task < length plan.now.top.names }
     requires op { HasUtf8 plan.now.texts op.now }
-    ensures { IfOk result (λ value. view value ≡ task_data (slice_index_or plan.now.top.names task [])
-        (op_text plan.now.texts op.now) (to_of (plan_rows plan.now) task)) }
+    ensures { IfOk result (λ value. view value
+        ≡ task_data (slice_index_or plan.now.top.names task []) (op_text plan.now.texts op.now)
+        (to_of (plan_rows plan.now) task)) }
 {
     let name = string_value(alloc, &plan.top.names[task as usize])?;
     let op = written_op(alloc, plan.texts.as_slice(), op)?;

@@ -48,7 +48,8 @@ impl Model for Machine {
 
     ghost view = { λ m. record { net = arc_value m.net; limit = m.limit; journal = m.journal } };
 
-    ghost invariant = { λ m. IsMachineFor (arc_value m.net) m.limit m.journal m.counts m.waiting.parts.items m.marks };
+    ghost invariant = { λ m. IsMachineFor (arc_value m.net) m.limit m.journal m.counts
+        m.waiting.parts.items m.marks };
 }
 
 impl Machine {

@@ -69,7 +69,9 @@ fn clear_each(flags: &mut Vec<bool>, numbers: &[u32])
     requires { All (λ n. n < length flags.old.items) numbers.now }
     ensures len { length flags.new.items ≡ length flags.old.items }
     ensures each { (k : ℕ) (d : Bool) → k < length flags.old.items →
-        slice_index_or flags.new.items k d ≡ (if list_any (λ n. n == k) numbers.now then false else slice_index_or flags.old.items k d) }
+        slice_index_or flags.new.items k d
+        ≡ (if list_any (λ n. n == k) numbers.now then false
+        else slice_index_or flags.old.items k d) }
 {
     for number in numbers {
         flags[*number as usize] = false;

@@ -129,7 +129,8 @@ impl<'j> Position<'j> {
     ) -> Result<u32, Break>
         requires { marks.old ≡ length self.now.net.edges }
         ensures checked { MatchResult result
-            (λ task. MayFollow self.now.net self.now.limit self.now.journal (End start gives.now inner)
+            (λ task. MayFollow self.now.net self.now.limit self.now.journal
+            (End start gives.now inner)
             × ClosesTask self.now.journal start task)
             (λ break. IsRefusal self.now.net self.now.limit self.now.journal
             (End start gives.now inner) break) }
@@ -157,7 +158,8 @@ impl<'j> Position<'j> {
     // The task of the open Start at a place, if one is there.
     fn open_task(&self, start: u64) -> Option<u32>
         ensures { MatchOption result (¬ IsTrue (is_open self.now.journal start))
-            (λ task. (ClosesTask self.now.journal start task × IsTrue (is_open self.now.journal start))
+            (λ task. (ClosesTask self.now.journal start task
+            × IsTrue (is_open self.now.journal start))
             × (task < length self.now.net.tasks)) }
     {
         if !self.counts.open_starts.is_open(start as usize) {

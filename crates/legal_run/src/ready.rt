@@ -22,7 +22,11 @@ pub struct ReadyRelease {
 
 /// The releases that are left, by rising task, and of a task as a source, by its strong in-edges, and by its weak
 /// in-edges in order.
-pub fn ready_list(alloc: Global, net: &Net, releases: &Releases) -> Result<List<ReadyRelease>, NoMemory>
+pub fn ready_list(
+    alloc: Global,
+    net: &Net,
+    releases: &Releases,
+) -> Result<List<ReadyRelease>, NoMemory>
     requires few { AreFew net.now releases.now }
     ensures { (journal : List Entry) → CountsReleases net.now journal releases.now
         → IfOk result (λ list. list ≡ ready_list net.now journal) }
@@ -76,7 +80,12 @@ fn add_weak(
 }
 
 // Adds a release, unless it can't be used any more.
-fn add_row(list: &mut List<ReadyRelease>, task: u32, cause: Cause, times: u64) -> Result<(), NoMemory>
+fn add_row(
+    list: &mut List<ReadyRelease>,
+    task: u32,
+    cause: Cause,
+    times: u64,
+) -> Result<(), NoMemory>
     ensures { OnOk result (list.new ≡ list.old ++ ready_row task cause times) }
 {
     if times > 0 {

@@ -94,7 +94,9 @@ fn put_each(parts: &mut Vec<Part>, places: &[u32], part: Part)
     requires { All (λ at. at < length parts.old.items) places.now }
     ensures len { length parts.new.items ≡ length parts.old.items }
     ensures each { (k : ℕ) (d : Part) → k < length parts.old.items →
-        slice_index_or parts.new.items k d ≡ (if list_any (λ at. at == k) places.now then part else slice_index_or parts.old.items k d) }
+        slice_index_or parts.new.items k d
+        ≡ (if list_any (λ at. at == k) places.now then part
+        else slice_index_or parts.old.items k d) }
 {
     for at in places {
         parts[*at as usize] = part;

@@ -50,7 +50,8 @@ pub fn steal_any<T: Tagged + Drop>(
     ready: &Ready<T>,
     stealers: &mut Vec<OwnedStealer<T>>,
 ) -> Option<Queued<T>>
-    requires { All (λ stealer. view stealer.pass ≡ Some (list_name_of ready.now)) stealers.old.items }
+    requires { All (λ stealer. view stealer.pass ≡ Some (list_name_of ready.now))
+        stealers.old.items }
     ensures same { All (λ stealer. view stealer.pass ≡ Some (list_name_of ready.now))
         stealers.new.items }
     ensures taken { IfSome result

@@ -19,7 +19,8 @@ pub fn last_ends(
     tasks: usize,
 ) -> Result<Vec<Option<u64>>, NoMemory>
     ensures len { IfOk result (λ ends. length ends.items ≡ tasks) }
-    ensures each { IfOk result (λ ends. (t : ℕ) → t < tasks → slice_index_or ends.items t None ≡ last_end journal.now t) }
+    ensures each { IfOk result (λ ends. (t : ℕ) → t < tasks
+        → slice_index_or ends.items t None ≡ last_end journal.now t) }
 {
     let mut ends = nothing_held(alloc, tasks)?;
     let entries = journal.as_slice();
@@ -55,7 +56,8 @@ fn started_task(entries: &[Entry], place: u64) -> Option<u32>
 fn note_end(ends: &mut Vec<Option<u64>>, task: u32, place: u64)
     ensures len { length ends.new.items ≡ length ends.old.items }
     ensures each { (t : ℕ) → t < length ends.old.items →
-        slice_index_or ends.new.items t None ≡ (if task == t then Some place else slice_index_or ends.old.items t None) }
+        slice_index_or ends.new.items t None
+        ≡ (if task == t then Some place else slice_index_or ends.old.items t None) }
 {
     if let Some(last) = ends.get_mut(task as usize) {
         *last = Some(place);
@@ -95,7 +97,8 @@ fn keep_first<V: Drop>(values: &mut Vec<Option<Arc<V>>>, row: &ValueRow<V>) -> R
     ensures len { length values.new.items ≡ length values.old.items }
     ensures each { IfOk result (λ _. (n : ℕ) → n < length values.old.items →
         option_map arc_value (slice_index_or values.new.items n None)
-        ≡ option_or (option_map arc_value (slice_index_or values.old.items n None)) (if row.now.place == n then Some (arc_value row.now.value) else None)) }
+        ≡ option_or (option_map arc_value (slice_index_or values.old.items n None))
+        (if row.now.place == n then Some (arc_value row.now.value) else None)) }
 {
     if let Some(kept) = values.get_mut(row.place as usize) {
         if kept.is_none() {

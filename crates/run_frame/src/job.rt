@@ -70,11 +70,14 @@ pub trait Job: Valued + Send + Sync {
     /// the task can be released.
     fn run(&self, alloc: Global, task: u32, ins: &Ins<Self::V>) -> Result<Done<Self>, JobError>
         requires { IsRelease (meaning.net self.now) task (length (parts_of ins.now)) }
-        ensures answer { IfOk result (meaning.answers self.now task (map found_of (parts_of ins.now))) }
-        ensures fault { IfErr result (ErrorAllowed meaning self.now task (map found_of (parts_of ins.now))) };
+        ensures answer { IfOk result
+            (meaning.answers self.now task (map found_of (parts_of ins.now))) }
+        ensures fault { IfErr result
+            (ErrorAllowed meaning self.now task (map found_of (parts_of ins.now))) };
 
     /// An answer that is allowed fits the task's shape.
-    ghost answers_fit: { (job : Self) (task : ℕ) (found : List (InputValue Self.V)) (done : Done Self Self.V) →
+    ghost answers_fit: { (job : Self) (task : ℕ) (found : List (InputValue Self.V))
+        (done : Done Self Self.V) →
         keeps job → meaning.answers job task found done → AnswerFits (meaning.net job) task done };
 
     /// A fault that is allowed is the work's own: it reports neither an inner run nor a unit.

@@ -38,7 +38,8 @@ impl Model for Yard {
 
     ghost view = { λ yard. yard.shelf };
 
-    ghost invariant = { λ yard. IfSome yard.rest (λ (r : RestState). IsOfTable yard.shelf r.table × (r.dropped ≡ []) × (r.alone ≡ None)) };
+    ghost invariant = { λ yard. IfSome yard.rest (λ (r : RestState). IsOfTable yard.shelf r.table
+        × (r.dropped ≡ []) × (r.alone ≡ None)) };
 }
 
 impl Keyed for Yard {

@@ -32,7 +32,11 @@ impl Model for Shelf {
 
     ghost view = { λ shelf. shelf.keeper.table };
 
-    ghost invariant = { λ shelf. All (λ (f : FreshState). f.table ≡ shelf.keeper.table) shelf.fresh.items × All (Waits shelf.keeper.table) shelf.lacking.items × IsOfTable shelf.keeper.table shelf.done.table × (shelf.is_whole ≡ true → TellsSomeRun (entries_told shelf.keeper.fates)) };
+    ghost invariant = { λ shelf.
+        All (λ (f : FreshState). f.table ≡ shelf.keeper.table) shelf.fresh.items
+        × All (Waits shelf.keeper.table) shelf.lacking.items
+        × IsOfTable shelf.keeper.table shelf.done.table
+        × (shelf.is_whole ≡ true → TellsSomeRun (entries_told shelf.keeper.fates)) };
 }
 
 impl Drop for Shelf {

@@ -218,7 +218,8 @@ impl Steps {
 
     // What a start ends with: its value is the place of its Start.
     fn ending(&self, running: &Running<u64>) -> Option<Ending>
-        ensures gives { IfSome result (λ ending. MayEndGiving self.now.table.net running.now.task ending.edges false) }
+        ensures gives { IfSome result
+            (λ ending. MayEndGiving self.now.table.net running.now.task ending.edges false) }
         ensures shares { IfSome result (λ ending. ending.value.edges ≡ length ending.edges) }
         ensures parcels { IfSome result (λ ending. MayBeBare self.now.table.net ending.value.bare) }
     {

@@ -73,7 +73,8 @@ impl<O: Offset> Model for SortKey<O> {
 
     ghost Value = { SortKeyRow };
 
-    ghost view = { λ sort_key. record { lead = sort_key.lead; start = O.value sort_key.start; len = O.value sort_key.len } };
+    ghost view = { λ sort_key. record
+        { lead = sort_key.lead; start = O.value sort_key.start; len = O.value sort_key.len } };
 }
 
 impl<O: Offset> SortKey<O> {

@@ -65,9 +65,11 @@ impl<X> Model for Ticket<X> {
 
     ghost Value = { TicketState X };
 
-    ghost view = { λ ticket. ticket_state ticket.seat.table_id (view_number ticket.seat.me.0) ticket.item };
+    ghost view = { λ ticket. ticket_state ticket.seat.table_id (view_number ticket.seat.me.0)
+        ticket.item };
 
-    ghost invariant = { λ ticket. ticket.seat.me ≡ (ticket_view (view_number ticket.seat.me.0) ticket.item, []) };
+    ghost invariant = { λ ticket. ticket.seat.me
+        ≡ (ticket_view (view_number ticket.seat.me.0) ticket.item, []) };
 }
 
 impl<X> Register<X> {
@@ -97,7 +99,8 @@ impl<X> Register<X> {
         requires ticket { ticket.register ≡ self.now }
         ensures item { result ≡ ticket.item }
         ensures outstanding { slice_get book.old.items ticket.number ≡ Some (Some ticket.item) }
-        ensures book { book.new ≡ book_state self.now (slice_set book.old.items ticket.number None) }
+        ensures book { book.new
+            ≡ book_state self.now (slice_set book.old.items ticket.number None) }
     {
         let shared = &self.table.shared;
         let Ticket { item, seat } = ticket;
