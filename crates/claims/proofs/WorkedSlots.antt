@@ -4,6 +4,7 @@ use Rattle.std.specs.Prelude.{slice_get}
 use Rattle.std.specs.Option.{option_map_or}
 use Rattle.join_words.specs.declared.ins.Given.{Given}
 use Rattle.join_words.specs.declared.ins.Given.TheVariants.{First as FirstToken, Nothing as NoValue}
+use Rattle.std.proofs.lemmas.Bool.{false≢true}
 use Rattle.task_graph.specs.NetRows.{NetRows}
 use Rattle.journal_rules.specs.declared.entry.Entry.{Entry}
 use Rattle.journal_rules.specs.declared.entry.Part.{Part}
@@ -14,6 +15,8 @@ use Rattle.table_steps.specs.declared.view.Note.TheVariants.{Queued, Lies}
 use Rattle.table_steps.specs.declared.view.Lot.TheVariants.{Putting}
 use Rattle.table_steps.specs.inside.Parcels.{part_times, DataPart}
 use Rattle.table_steps.specs.inside.SlotKinds.{oldest, later, MayPutBack, MayTakeBack, IsOldest}
+use Rattle.table_steps.specs.declared.parcels.Parcel.TheVariants.{Bare, Linked}
+use Rattle.table_steps.specs.ParcelForms.{parcel_in, is_bare, MayLieBehind, MayBeBare}
 use Rattle.table_steps.specs.Giving.{one_if}
 
 abbrev place : Part → ℕ
@@ -65,6 +68,26 @@ found_twice is = omega (arith, ap length is.1)
 
 taken_of_none : IsOldest {V = ℕ} [] NoValue []
 taken_of_none = (refl, refl)
+
+-- A bare parcel lies in an empty slot alone, one with a node behind others too.
+bare_lies_alone : MayLieBehind {V = ℕ} [] (Bare FirstToken) × (parcel_in {V = ℕ} (Bare FirstToken) ≡ FirstToken ∷ [])
+bare_lies_alone = (λ bare. refl, refl)
+
+bare_behind_others : MayLieBehind tokens (Bare FirstToken) → ⊥
+bare_behind_others may = omega (arith, ap length (may refl))
+
+linked_behind_others : MayLieBehind tokens (Linked tokens) × (is_bare (Linked tokens) ≡ false)
+linked_behind_others = (λ bare. absurd (false≢true bare), refl)
+
+-- Where an edge begins with a token, parcels aren't bare.
+abbrev begins_with_a_token : NetRows
+begins_with_a_token = record { tasks = []; edges = record { from = 0; to = 1; start = true } ∷ []; sems = [] }
+
+bare_behind_a_token : MayBeBare begins_with_a_token true → ⊥
+bare_behind_a_token may = omega (arith, (may refl).no_first 0)
+
+linked_behind_a_token : MayBeBare begins_with_a_token false
+linked_behind_a_token bare = absurd (false≢true bare)
 
 bit_few : (b : Bool) → one_if b ≤ 1
 bit_few true = omega arith

@@ -24,7 +24,7 @@ use Rattle.table_steps.specs.declared.view.Lot.TheVariants.{Ours, Putting, Put, 
 use Rattle.table_steps.specs.inside.Opening.{parts_of_tokens, first_queue}
 use Rattle.table_steps.specs.inside.Parcels.{part_times}
 use Rattle.table_steps.specs.inside.Slots.{SlotCoord, parcel, lot, queue, owed, collected, left_at, lying, SlotPart}
-use Rattle.table_steps.proofs.Parcels.{part_apart, first_once}
+use Rattle.table_steps.proofs.DataParts.{part_apart, first_once}
 
 -- first releases, each of the net
 abbrev pub AreFirst : NetRows → List TurnDuty → Type 0

@@ -44,7 +44,7 @@ pub mod CreditReads
 pub mod CreditAccounts
 pub mod CreditSeats
 pub mod Calming
-pub mod Parcels
+pub mod DataParts
 pub mod Slots
 pub mod SlotMarks
 pub mod Lots

@@ -15,7 +15,7 @@ use Rattle.table_steps.specs.declared.view.Lot.TheVariants.{Ours, Putting, Put, 
 use Rattle.table_steps.specs.declared.view.Note.TheVariants.{Duty}
 use Rattle.table_steps.specs.inside.Parcels.{part_times, Owned}
 use Rattle.table_steps.specs.inside.Slots.{SlotCoord, parcel, lot, queue, owed, collected, left_at, SlotMoves, SlotPart, SlotBounds, awaited_lots, found_lots, our_lots}
-use Rattle.table_steps.proofs.Parcels.{data_start, data_end, data_quiet}
+use Rattle.table_steps.proofs.DataParts.{data_start, data_end, data_quiet}
 use Rattle.journal_rules.proofs.Tallying.{count_once, given_push}
 use Rattle.table_steps.proofs.Counting.{times_count}
 use Rattle.table_steps.proofs.Slots.{data_alike}

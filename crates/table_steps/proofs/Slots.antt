@@ -11,7 +11,7 @@ use Rattle.journal_rules.specs.Calm.{IsCalm}
 use Rattle.journal_rules.specs.DataRule.{last_part}
 use Rattle.table_steps.specs.Giving.{one_if}
 use Rattle.table_steps.specs.inside.Parcels.{same_part, DataPart}
-use Rattle.table_steps.proofs.Parcels.{cases_part, part_self}
+use Rattle.table_steps.proofs.DataParts.{cases_part, part_self}
 
 -- a part at one edge
 abbrev pub at_edge : ℕ → Part → ℕ → Part → ℕ

@@ -1,5 +1,5 @@
 -- Parcels in the slot of an edge, and on their way there.
-use Rattle.std.specs.Prelude.{◌≡◌, Bool, true, false, Option, None, Some, List, [], ◌∷◌}
+use Rattle.std.specs.Prelude.{◌≡◌, Bool, true, false, List, [], ◌∷◌}
 use Rattle.join_words.specs.declared.ins.Given.{Given}
 use Rattle.task_graph.specs.NetRows.{NetRows}
 use Rattle.journal_rules.specs.OnceNets.{IsOnceNet}
@@ -23,8 +23,3 @@ MayLieBehind others parcel = is_bare parcel ≡ true → others ≡ []
 -- Bare parcels do where an edge is given one token at most.
 abbrev pub MayBeBare : NetRows → Bool → Type 0
 MayBeBare net bare = bare ≡ true → IsOnceNet net
-
--- the parcels of a slot whose oldest came bare, or whose others all came with a node
-abbrev pub queue_of : {V : Type 0} → Option (Given V) → List (Given V) → List (Given V)
-queue_of None others = others
-queue_of (Some given) others = given ∷ others

@@ -28,7 +28,7 @@ pub struct Parcels<V> {
 impl<V> Model for Parcels<V> {
     ghost use Rattle.std.specs.Prelude.{List};
     ghost use Rattle.join_words.specs.declared.ins.Given.{Given};
-    ghost use Rattle.table_steps.specs.ParcelForms.{queue_of};
+    ghost use Rattle.table_steps.specs.inside.SlotKinds.{queue_of};
 
     ghost Value = { List (Given V) };
 

@@ -1,5 +1,5 @@
 -- What the steps on slots ask of a seat, and what they leave.
-use Rattle.std.specs.Prelude.{◌≡◌, ℕ, zero, suc, ◌+◌, ◌<◌, ◌≤◌, Bool, true, false, List, [], ◌∷◌, ◌++◌, length}
+use Rattle.std.specs.Prelude.{◌≡◌, ℕ, zero, suc, ◌+◌, ◌<◌, ◌≤◌, Bool, true, false, Option, None, Some, List, [], ◌∷◌, ◌++◌, length}
 use Rattle.task_graph.specs.NetRows.{NetRows}
 use Rattle.journal_rules.specs.OnceNets.{IsOnceNet}
 use Rattle.journal_rules.specs.declared.entry.Part.{Part}
@@ -133,3 +133,8 @@ take_laid f v = relot Taking Fetched (λ p. oldest (queued v)) f (after_queue v)
 abbrev pub IsOldest : {V : Type 0} → List (Given V) → Given V → List (Given V) → Type 0
 IsOldest [] given others = (given ≡ NoValue) × (others ≡ [])
 IsOldest (y ∷ ys) given others = (given ≡ y) × (others ≡ ys)
+
+-- the parcels of a slot whose oldest came bare, or whose others all came with a node
+abbrev pub queue_of : {V : Type 0} → Option (Given V) → List (Given V) → List (Given V)
+queue_of None others = others
+queue_of (Some given) others = given ∷ others
