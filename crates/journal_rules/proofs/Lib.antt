@@ -10,4 +10,5 @@ pub mod TaskSemaphores
 pub mod ReleaseLaws
 pub mod Reaching
 pub mod CountLaws
+pub mod OnceGiven
 pub mod WorkedRules

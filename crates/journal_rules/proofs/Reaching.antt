@@ -166,7 +166,7 @@ open_stands h n opened = by_item (slice_get h n) refl
     by_item (Some entry) is = slice_get_within h n entry is
 
 -- an edge that a list names has what each of them has
-any_has : (P : ℕ → Type 0) (e : ℕ) (es : List ℕ) → AllByRecursion P es → list_any (λ f. f == e) es ≡ true → P e
+pub any_has : (P : ℕ → Type 0) (e : ℕ) (es : List ℕ) → AllByRecursion P es → list_any (λ f. f == e) es ≡ true → P e
 any_has P e [] all found = absurd (false≢true found)
 any_has P e (f ∷ es) all found = by_case (cases_eq f e) (λ h. any_has P e es all.1 h)
   where

@@ -10,6 +10,7 @@ pub mod MissingUnits
 pub mod HaltLimitStuckRule
 pub mod ShapeLegal
 pub mod Complete
+pub mod OnceNets
 pub mod Waiting
 pub mod TimesLeft
 pub mod Limits

@@ -19,7 +19,9 @@ use Rattle.journal_rules.specs.HaltLimitStuckRule.{is_stuck}
 use Rattle.journal_rules.specs.ReleaseRule.{IsReleased}
 use Rattle.journal_rules.specs.ShapeLegal.{ShapeLegal, MayFollow}
 use Rattle.journal_rules.specs.Entries.{EachAfter}
+use Rattle.journal_rules.specs.OnceNets.{IsOnceNet}
 use Rattle.journal_rules.proofs.Tallying.{count_by_push_no, count_by_push_yes}
+use Rattle.journal_rules.proofs.OnceGiven.{uses_one, used_once}
 use Rattle.join_words.specs.Ins.{InputValue}
 use Rattle.run_frame.specs.declared.run.ValueRow.{ValueRow}
 use Rattle.run_frame.specs.Runs.{IsFine}
@@ -36,8 +38,6 @@ use Rattle.run_laws.specs.Prefixes.{IsPrefixOf}
 use Rattle.run_laws.proofs.Reaches.{is_end, Reach, reach_along}
 use Rattle.run_laws.proofs.Whole.{Finished, round_started, all_values}
 use Rattle.run_laws.specs.Starts.{rounds_in}
-use Rattle.run_laws.proofs.Once.{uses_one, used_once}
-use Rattle.run_laws.specs.Graphs.{IsOnceNet}
 use Rattle.run_laws.proofs.Faults.{IsOneFault, is_own_fault, fault_later, fault_shown}
 use Rattle.run_laws.specs.Starts.{HasFault}
 use Rattle.run_laws.proofs.Tasks.{sum_plus, sum_same, sum_zero, sum_less, pick, count_tasks, each_entry, starts_tasks, ends_once}

@@ -22,12 +22,13 @@ use Rattle.journal_rules.specs.ClosingRule.{ClosingRule}
 use Rattle.journal_rules.specs.Calm.{IsCalm, used_at}
 use Rattle.journal_rules.specs.Entries.{EachAfterThese}
 use Rattle.journal_rules.specs.ShapeLegal.{ShapeLegal, MayFollow}
+use Rattle.journal_rules.specs.OnceNets.{IsOnceNet}
 use Rattle.journal_rules.proofs.Snoc.{count_by_push}
 use Rattle.journal_rules.proofs.Tallying.{count_by_push_no, count_by_push_yes}
 use Rattle.journal_rules.proofs.Reaching.{open_stands}
 use Rattle.journal_rules.proofs.NetLemmas.{any_place}
+use Rattle.journal_rules.proofs.OnceGiven.{uses_one}
 use Rattle.journal_rules.proofs.Reaching.{at_below, each_below}
-use Rattle.run_laws.specs.Graphs.{IsOnceNet}
 use Rattle.run_laws.specs.OneThreadValue.{source_of}
 use Rattle.run_laws.specs.Ends.{is_task}
 use Rattle.run_laws.specs.Steady.{Steady, StartRule, runs_at}
@@ -35,10 +36,6 @@ use Rattle.run_laws.proofs.Along.{along, both, weaker, each_front, Told, told_be
 use Rattle.run_laws.proofs.Phases.{Phase, idle, busy, rests_when, may_start, begins, ends_one, stops_one, and_both, ends_few}
 use Rattle.run_laws.proofs.Values.{source_strong}
 use Rattle.run_laws.proofs.Legally.{Placed, placed_first, placed_step, all_or_none}
-
--- whether an entry is a Start or a Drop of the task
-abbrev pub uses_one : ℕ → Entry → Bool
-uses_one t x = uses (λ cause. true) t x
 
 -- what each step keeps
 record Single (net : NetRows) (at : ℕ → Option ℕ) (b : List Entry) : Type 0 where
@@ -298,13 +295,7 @@ steady_once net limit h plain shape = record {
     all = along (λ b x. Told at (b ++ x ∷ []) × MayFollow net limit b x) (Single net at) (λ b x rule kept. single_step net limit at b x plain rule.0 rule.1 kept) [] h (single_first net at plain)
         (both _ _ [] h (each_front (Told at) (told_before at) [] h (λ n below. refl)) shape)
 
--- and each task has one Start or Drop at most in it
-pub used_once : (net : NetRows) (limit : ℕ) (h : List Entry) → IsOnceNet net → ShapeLegal net limit h → (t : ℕ) → count_by (uses_one t) h ≤ 1
-used_once net limit h plain shape t =
-    (along (λ b x. Told (start_at h) (b ++ x ∷ []) × MayFollow net limit b x) (Single net (start_at h)) (λ b x rule kept. single_step net limit (start_at h) b x plain rule.0 rule.1 kept) [] h (single_first net (start_at h) plain)
-    (both _ _ [] h (each_front (Told (start_at h)) (told_before (start_at h)) [] h (λ n below. refl)) shape)).1.few t
-
--- and so one Start at most
+-- and each task has one Start at most in it
 pub begun_once : (net : NetRows) (limit : ℕ) (h : List Entry) → IsOnceNet net → ShapeLegal net limit h → (t : ℕ) → count_by (begins t) h ≤ 1
 begun_once net limit h plain shape t =
     let single : Single net (start_at h) h = (along (λ b x. Told (start_at h) (b ++ x ∷ []) × MayFollow net limit b x) (Single net (start_at h)) (λ b x rule kept. single_step net limit (start_at h) b x plain rule.0 rule.1 kept) [] h (single_first net (start_at h) plain)

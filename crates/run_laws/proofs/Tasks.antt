@@ -11,13 +11,13 @@ use Rattle.journal_rules.specs.declared.entry.Entry.TheVariants.{Start, End, Fau
 use Rattle.journal_rules.specs.Counts.{start_at, started, starts, is_start}
 use Rattle.journal_rules.specs.ShapeLegal.{ShapeLegal, MayFollow}
 use Rattle.journal_rules.specs.Entries.{EachAfterThese}
+use Rattle.journal_rules.specs.OnceNets.{IsOnceNet}
 use Rattle.journal_rules.proofs.Reaching.{open_stands}
 use Rattle.run_laws.specs.Ends.{is_task}
 use Rattle.run_laws.proofs.Along.{both, weaker, each_front, Told, told_before}
 use Rattle.run_laws.proofs.Phases.{begins, ends_one, ends_few, and_left}
 use Rattle.run_laws.proofs.Legally.{placed_along}
 use Rattle.run_laws.proofs.Once.{steady_once, begun_once}
-use Rattle.run_laws.specs.Graphs.{IsOnceNet}
 use Rattle.run_laws.proofs.Reaches.{is_end}
 
 abbrev one_if : Bool → ℕ

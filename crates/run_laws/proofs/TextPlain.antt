@@ -11,6 +11,7 @@ use Rattle.task_graph.specs.declared.net.EdgeRow.{EdgeRow}
 use Rattle.task_graph.specs.declared.net.TaskRow.{TaskRow}
 use Rattle.journal_rules.specs.Counts.{first_tokens}
 use Rattle.journal_rules.specs.SemaphoreRule.{takes, puts}
+use Rattle.journal_rules.specs.OnceNets.{IsOnceNet}
 use Rattle.journal_rules.specs.declared.entry.Why.{Why}
 use Rattle.journal_rules.specs.declared.entry.Why.TheVariants.{Long, Wide, Unmet, Inner, OverRelease}
 use Rattle.join_words.specs.Ins.{InputValue}
@@ -20,7 +21,6 @@ use Rattle.run_frame.specs.declared.run.FrameRun.{FrameRun}
 use Rattle.run_frame.specs.LastEnds.{last_value}
 use Rattle.run_frame.specs.NestedRule.{job_of, journal_of}
 use Rattle.run_frame.specs.Runs.{values_of}
-use Rattle.run_laws.specs.Graphs.{IsOnceNet}
 use Rattle.text_ops.specs.Values.{value_limit}
 use Rattle.graph_plans.specs.declared.ops.Op.{Op}
 use Rattle.text_tasks.specs.declared.item.Item.{Item}

@@ -20,6 +20,7 @@ use Rattle.journal_rules.specs.Counts.{first_tokens}
 use Rattle.journal_rules.specs.Entries.{EachAfter}
 use Rattle.journal_rules.specs.SemaphoreRule.{takes, puts, max_of}
 use Rattle.journal_rules.specs.ShapeLegal.{MayFollow}
+use Rattle.journal_rules.specs.OnceNets.{IsOnceNet}
 use Rattle.join_words.specs.Ins.{InputValue, value, first}
 use Rattle.run_frame.specs.declared.run.ValueRow.{ValueRow}
 use Rattle.run_laws.specs.OneThreadValue.{OneAnswer, source_of, begun, tokens, put_before, rounds_of, answers, target_of}
@@ -27,7 +28,7 @@ use Rattle.run_laws.specs.Starts.{rounds_in, has_item, starts_once, tasks_starte
 use Rattle.run_laws.specs.Prefixes.{IsPrefixOf}
 use Rattle.run_laws.specs.Ends.{is_task, ends}
 use Rattle.run_laws.specs.Steady.{runs_at, stops, MayStart, StartRule, Steady}
-use Rattle.run_laws.specs.Graphs.{IsOnceNet, Returns, IsGraph}
+use Rattle.run_laws.specs.Graphs.{Returns, IsGraph}
 use Rattle.run_laws.specs.Rings.{IsRing, IsRinged, RingOf}
 use Rattle.run_laws.specs.PipeNet.{next, cell, pipe_net}
 use Rattle.run_laws.specs.Cycles.{CycleEdge, LiesAt, IsCycle, is_one_of, uses_some, turn, GoesRound}

@@ -1,15 +1,9 @@
 -- Nets of graphs without conditions.
-use Rattle.std.specs.Prelude.{◌≡◌, ℕ, ◌<◌, ◌≤◌, false, length}
+use Rattle.std.specs.Prelude.{◌≡◌, ℕ, ◌<◌, ◌≤◌, length}
 use Rattle.task_graph.specs.NetRows.{NetRows}
-use Rattle.task_graph.specs.Net.{is_weak}
-use Rattle.journal_rules.specs.Counts.{first_tokens}
+use Rattle.journal_rules.specs.OnceNets.{IsOnceNet}
 use Rattle.journal_rules.specs.SemaphoreRule.{takes, puts, max_of}
 use Rattle.run_laws.specs.OneThreadValue.{source_of}
-
--- no edge is weak, and none begins with a token: each task has at most one Start or Drop in all
-pub record IsOnceNet (net : NetRows) : Type 0 where
-  pub strong : (e : ℕ) → is_weak net e ≡ false
-  pub no_first : (e : ℕ) → first_tokens net e ≡ 0
 
 -- each task puts just what it takes, and each semaphore has a unit at first
 pub record Returns (net : NetRows) : Type 0 where

@@ -6,6 +6,7 @@ use Rattle.journal_rules.specs.declared.entry.Entry.{Entry}
 use Rattle.journal_rules.specs.Entries.{EachAfter}
 use Rattle.journal_rules.specs.ShapeLegal.{ShapeLegal}
 use Rattle.journal_rules.specs.SemaphoreRule.{takes, puts}
+use Rattle.journal_rules.specs.OnceNets.{IsOnceNet}
 use Rattle.run_frame.specs.declared.run.FrameRun.{FrameRun, out-FrameRun}
 use Rattle.run_frame.specs.Meaning.{Meaning}
 use Rattle.run_frame.specs.Runs.{IsFine}
@@ -17,7 +18,6 @@ use Rattle.run_laws.specs.Prefixes.{IsPrefixOf}
 use Rattle.run_laws.specs.Ends.{ends}
 use Rattle.run_laws.specs.Steady.{Steady}
 use Rattle.run_laws.specs.OneAnswer.{AllowsOne}
-use Rattle.run_laws.specs.Graphs.{IsOnceNet}
 use Rattle.run_laws.specs.Rings.{IsRinged}
 use Rattle.run_laws.specs.PipeNet.{cell, pipe_net}
 use Rattle.run_laws.specs.Cycles.{IsCycle, GoesRound, is_one_of}

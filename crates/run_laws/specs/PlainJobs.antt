@@ -7,6 +7,7 @@ use Rattle.task_graph.specs.NetRows.{NetRows}
 use Rattle.task_graph.specs.Net.{IsNet, out_edges}
 use Rattle.journal_rules.specs.declared.entry.Why.{Why}
 use Rattle.journal_rules.specs.SemaphoreRule.{takes, puts}
+use Rattle.journal_rules.specs.OnceNets.{IsOnceNet}
 use Rattle.join_words.specs.Ins.{InputValue}
 use Rattle.run_frame.specs.declared.job.Answer.{Answer}
 use Rattle.run_frame.specs.declared.job.Done.{Done}
@@ -18,7 +19,6 @@ use Rattle.run_frame.specs.Meaning.{Meaning}
 use Rattle.run_frame.specs.NestedRule.{job_of, journal_of}
 use Rattle.run_frame.specs.Runs.{IsFine, values_of}
 use Rattle.run_frame.specs.WorkRule.{gives_of}
-use Rattle.run_laws.specs.Graphs.{IsOnceNet}
 use Rattle.run_laws.specs.OneThreadValue.{TaskEnd, OneAnswer, one_thread_value}
 use Rattle.run_laws.specs.Starts.{rounds_in, tasks_started}
 

@@ -1,8 +1,8 @@
 // The laws of runs, each the contract of a function that does nothing.
 ghost use Rattle.std.specs.Prelude.{ℕ, Bool, List};
 ghost use Rattle.task_graph.specs.NetRows.{NetRows};
+ghost use Rattle.journal_rules.specs.OnceNets.{IsOnceNet};
 ghost use Rattle.run_laws.specs.OneThreadValue.{OneAnswer};
-ghost use Rattle.run_laws.specs.Graphs.{IsOnceNet};
 ghost use Rattle.run_laws.specs.Rings.{IsRinged};
 ghost use Rattle.run_laws.specs.Laws.{HasNoOtherValues, HasOneThreadValues, IsDecided, IsGraphRun, KeepsSteady, PipesGoRound, RingsGoRound, ValuesGrow};
 ghost use Rattle.run_laws.specs.PipeNet.{pipe_net};
