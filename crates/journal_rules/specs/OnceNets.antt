@@ -1,4 +1,4 @@
--- Nets in which nothing happens twice.
+-- Nets whose edges are all strong and begin without a token.
 use Rattle.std.specs.Prelude.{◌≡◌, ℕ, false}
 use Rattle.task_graph.specs.NetRows.{NetRows}
 use Rattle.task_graph.specs.Net.{is_weak}
