@@ -4,17 +4,16 @@ use Rattle.std.specs.Prelude.{count_by, slice_get, ◌==◌, All}
 use Rattle.std.specs.Option.{option_map_or}
 use Rattle.std.specs.List.{list_any, AllByRecursion}
 use Rattle.std.proofs.lemmas.Bool.Decides.{nat_tests}
-use Rattle.std.proofs.lemmas.Bool.{cases_eq, cases_lt}
+use Rattle.std.proofs.lemmas.Bool.{cases_eq}
 use Rattle.std.proofs.lemmas.List.Sums.{sum_by-cons}
 use Rattle.std.proofs.lemmas.List.Elements.{All-from_recursion}
-use Rattle.std.proofs.lemmas.Option.{slice_get_past, slice_get_within, get_or_from_slice_get}
+use Rattle.std.proofs.lemmas.Option.{slice_get_within, get_or_from_slice_get}
 use Rattle.task_graph.specs.NetRows.{NetRows}
 use Rattle.task_graph.specs.Places.{places, places_from}
 use Rattle.task_graph.specs.Net.{is_weak, is_weak_row, task_chooses, chooses, IsPlainNet, IsPlainTask}
 use Rattle.task_graph.specs.declared.net.TaskRow.{TaskRow}
 use Rattle.task_graph.specs.declared.net.EdgeRow.{EdgeRow}
 use Rattle.journal_rules.specs.Counts.{first_tokens}
-use Rattle.journal_rules.specs.OnceNets.{IsOnceNet}
 use Rattle.journal_rules.specs.SemaphoreRule.{takes, puts}
 
 -- the item at a place that is there has what each has
@@ -133,16 +132,6 @@ plain_first_tokens net plain e = by_row (slice_get net.edges e) refl
     by_row : (row : Option EdgeRow) → slice_get net.edges e ≡ row → option_map_or (λ (r : EdgeRow). one_if r.start) row 0 ≡ 0
     by_row None is = refl
     by_row (Some row) is = ap one_if (at_place (λ (r : EdgeRow). r.start ≡ false) net.edges e row plain.edges is)
-
--- a net of which each edge is strong and begins without a token
-pub once_by_edges : (net : NetRows) → ((e : ℕ) → e < length net.edges → (is_weak net e ≡ false) × (first_tokens net e ≡ 0)) → IsOnceNet net
-once_by_edges net each = record { strong = λ e. (at e (cases_lt e (length net.edges))).0; no_first = λ e. (at e (cases_lt e (length net.edges))).1 }
-  where
-    at : (e : ℕ) → (e < length net.edges) ⊎ (length net.edges ≤ e) → (is_weak net e ≡ false) × (first_tokens net e ≡ 0)
-    at e (inl below) = each e below
-    at e (inr past) =
-        let none : slice_get net.edges e ≡ None = slice_get_past net.edges e past in
-        (ap (λ o. option_map_or (is_weak_row net) o false) none, ap (λ o. option_map_or (λ (row : EdgeRow). one_if row.start) o 0) none)
 
 -- two functions that agree on a list's elements make the same list
 pub map_agree : {X Y : Type 0} (f g : X → Y) (xs : List X) → AllByRecursion (λ x. f x ≡ g x) xs → map f xs ≡ map g xs
