@@ -7,9 +7,10 @@
 clone waits for the first. So each library is built by an `rt lib` of its own in a copy of its sources and of those
 below it, whose built libraries are links; what it made then goes to crates/NAME/out, where `rt run` finds it. The
 copies are in .git, where no `rt` looks for sources, until the call ends. A library begins when those below it are
-built, first the one with the longest way above it, and gets further processors where no other can begin. Those that
-are built already take no time. Prints a line when a library begins and one when it ends, with those that are at work
-and how many wait. Where one fails, prints what `rt` said of it and ends with status 1.
+built, first the one with the longest way above it, and gets further processors where no other can begin. The one with
+the longest way of all gets half of the processors at least, since in the end all wait for it. Those that are built
+already take no time. Prints a line when a library begins and one when it ends, with those that are at work and how many
+wait, and at last the processor time. Where one fails, prints what `rt` said of it and ends with status 1.
 """
 import argparse
 import concurrent.futures
@@ -20,6 +21,7 @@ import math
 import os
 import pathlib
 import re
+import resource
 import shutil
 import signal
 import subprocess
@@ -221,7 +223,10 @@ class Builds:
         """With how many processes a library begins now, where so many others could begin as well; 0 for not yet."""
         idle = self.processors - sum(self.at_work.values())
         room = self.memory - sum(self.bytes_for(other, jobs) for other, jobs in self.at_work.items())
-        most = min(MOST_JOBS, math.ceil(idle / (others + 1)))
+        share = math.ceil(idle / (others + 1))
+        if self.ways[name] == max(self.ways[other] for other in [*self.waiting, *self.at_work]):
+            share = max(share, self.processors // 2)
+        most = min(MOST_JOBS, share)
         fitting = [jobs for jobs in range(1, most + 1) if self.bytes_for(name, jobs) <= room]
         return max(fitting, default=0 if self.at_work else 1)
 
@@ -280,6 +285,9 @@ def main():
         if wanted:
             print(f"{len(wanted)} libraries to prove, on {asked.processors} processors", flush=True)
         Builds(crates, wanted, sums, asked.processors).run()
+        if wanted:
+            used = resource.getrusage(resource.RUSAGE_CHILDREN)
+            print(f"{(used.ru_utime + used.ru_stime) / 60:.1f} minutes of processor time", flush=True)
     except Failed as failed:
         sys.exit(str(failed))
     except KeyboardInterrupt:

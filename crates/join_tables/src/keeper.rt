@@ -109,8 +109,8 @@ impl<V: Drop> Keeper<V> {
     }
 
     /// Takes in the turns of a batch, which isn't empty. It answers `All` where its own step found one live turn, and the
-    /// fates are then those of a whole run. If an allocation fails, the keeper and the batch stay as they were. Whatever its
-    /// step found, the entries of all turns that it has taken in are in one journal that is legal as far as the net decides.
+    /// fates are then those of a whole run. If an allocation fails, the keeper and the batch stay as they were. Whatever it
+    /// answers, the entries of all turns that it has taken in are in one journal that is legal as far as the net decides.
     /// Where a start found the value of an End that was taken in too, it is the value with which that End was ended.
     pub fn absorb(
         &mut self,
@@ -124,14 +124,16 @@ impl<V: Drop> Keeper<V> {
         ensures left { IfOk result
             (λ left. FindsOne (λ n. LeavesOf n left) self.old.found self.new.found) }
         ensures err { OnErr result ((self.new ≡ self.old) × (batch.new ≡ batch.old)) }
-        ensures journal { OnOk result
-            (AreInOneJournal table.now.net table.now.limit
-            (with_places (entries_told self.new.fates))) }
+        ensures journal { AreInOneJournal table.now.net table.now.limit
+            (with_places (entries_told self.new.fates)) }
         ensures agree { AgreeOnValues self.new.fates }
         ensures all { IsLast result
             → TellsRun table.now.net table.now.limit (entries_told self.new.fates) }
     {
-        self.fates.append(&mut batch.fates)?;
+        if self.fates.append(&mut batch.fates).is_err() {
+            table.words.learn(&mut self.seat);
+            return Err(NoMemory);
+        }
         let Some(spent) = batch.seat.take() else {
             unreachable!()
         };

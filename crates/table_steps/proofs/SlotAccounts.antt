@@ -110,8 +110,8 @@ none_lie net limit part s h id f y v once ours at home =
     no_length (part y) (omega (arith, h.slots.few f, given_once net limit h.journal once h.balanced.by_journal.legal f, slot_total_set (lot Ours f) s.views id v [] at, ours, ap length label))
   where
     no_length : (xs : List Part) → length xs ≡ 0 → xs ≡ []
-    no_length [] none = refl
-    no_length (x ∷ xs) none = absurd (omega (arith, none))
+    no_length [] empty = refl
+    no_length (x ∷ xs) empty = absurd (omega (arith, empty))
 
 -- A turn GIVES UP: its parcel is left away
 pub put_left_kept : {S : Type 0} (net : NetRows) (limit : ℕ) (part : S → List Part) (s : St S) (h : KeepsAccounts part net limit s) (id f n : ℕ) (v : List Note) (r : HasLot Ours f v) → r.part ≡ From n → get_elem? s.views id ≡ some v → holders (λ c. slot_total c s.views) f ≡ 1

@@ -1,10 +1,10 @@
 -- What the steps on the clock and on the words of turns and starts ask is met, and so is what splits, joins and loads ask.
-use Rattle.std.proofs.Common.{◌≡◌, ◌⊎◌, inl, inr, ℕ, ◌+◌, ◌%◌, ◌^◌, ◌<◌, ◌≤◌, Bool, true, false, List, [], ◌∷◌, ◌++◌, length, sym, refl, ap, ◌∙◌, arith}
+use Rattle.std.proofs.Common.{◌≡◌, ◌⊎◌, inl, inr, ℕ, zero, suc, ◌+◌, ◌%◌, ◌^◌, ◌<◌, ◌≤◌, Bool, true, false, List, [], ◌∷◌, ◌++◌, length, set, sym, refl, ap, ◌∙◌, subst, arith}
 use Rattle.std.specs.Prelude.{slice_index, nat_lt}
 use Rattle.std.proofs.lemmas.Bool.Decides.{nat_tests}
 use Rattle.std.proofs.lemmas.Bool.{cases_lt}
 use Rattle.std.proofs.lemmas.List.{append-nil}
-use mathlib.Core.Option.{some}
+use mathlib.Core.Option.{some, some-injective}
 use lib.ListN.{get_elem?}
 use Rattle.atomic_table.specs.Table.{Act, keeps, Valid, carried_after, stepped, Allows, Splits, Joins}
 use Rattle.task_graph.specs.NetRows.{NetRows}
@@ -42,9 +42,21 @@ use Rattle.table_steps.proofs.FewTurns.{fits_of, room_for_turn}
 use Rattle.table_steps.proofs.OneJournal.{in_journal}
 
 -- LOADS
-pub learn_allowed : {S : Type 0} {part : S → List Part} (net : NetRows) (limit slots id : ℕ) (me : Seated S) → IsTurn me.0 → Allows (KeepsAccounts part net limit) slots id me 0 (λ n. n) (λ n m. (m.0 ≡ me.0) × (m.1 ≡ me.1) × AllFitNotes net me.0 × (length net.edges < 4294967296) × AreInOneJournal net limit (entries_in me.0))
-learn_allowed net limit slots id me may s h _ at small =
-    (me.0, keeps, tt, nothing_done net limit s h id 0 me.1 me.0 may.0 may.1 (omega (arith, h.size)) (λ e b z. omega arith) at, (refl, refl, fits_of net h.journal me.0 (h.views id me.0 at).stand, h.fits.rows.edge_count, in_journal net limit s h id me.0 at))
+-- what is written where it stands already
+word_again : (xs : List ℕ) (i : ℕ) → set xs i (slice_index xs i) ≡ xs
+word_again [] i = refl
+word_again (x ∷ xs) zero = refl
+word_again (x ∷ xs) (suc i) = ap (λ l. x ∷ l) (word_again xs i)
+
+view_again : (views : List (List Note)) (id : ℕ) (v : List Note) → get_elem? views id ≡ some v → set views id v ≡ views
+view_again [] id v at = refl
+view_again (x ∷ xs) zero v at = ap (λ y. y ∷ xs) (sym (some-injective x v at))
+view_again (x ∷ xs) (suc id) v at = ap (λ l. x ∷ l) (view_again xs id v at)
+
+pub learn_allowed : {S : Type 0} {part : S → List Part} (net : NetRows) (limit slots id : ℕ) (me : Seated S) → Allows (KeepsAccounts part net limit) slots id me 0 (λ n. n) (λ n m. (m.0 ≡ me.0) × (m.1 ≡ me.1) × AllFitNotes net me.0 × (length net.edges < 4294967296) × AreInOneJournal net limit (entries_in me.0))
+learn_allowed {S} {part} net limit slots id me s h _ at small =
+    let same : stepped s 0 (slice_index s.words 0) id me.1 me.0 keeps ≡ s = λ i. record { words = word_again s.words 0 i; homes = s.homes; views = view_again s.views id me.0 at i } in
+    (me.0, keeps, tt, subst (KeepsAccounts part net limit) (sym same) h, (refl, refl, fits_of net h.journal me.0 (h.views id me.0 at).stand, h.fits.rows.edge_count, in_journal net limit s h id me.0 at))
 
 source_alike : (c : Coord) (t : ℕ) → weight c (Duty (Fresh t Source)) ≡ weight c (Duty (Collecting t Source [] []))
 source_alike (duty (place m)) t = refl

@@ -205,7 +205,6 @@ impl<V, A: StepFacts> Play<Parcels<V>, SeatView<V>> for Leaves<A> {
 impl<V> Words<V> {
     fn learn_told<A: StepFacts>(&self, seat: &mut NoteSeat<V>)
         requires table { seat.old.table_id ≡ self.now.table.shared.table_id }
-        requires ready { IsTurn seat.old.me.0.notes }
         requires held { Knows seat.old.me.0.values (values_held seat.old.me.1) }
         requires told { (A.net ≡ arc_value self.now.net)
             × (A.limit ≡ self.now.table.shared.key.limit) }
@@ -224,7 +223,6 @@ impl<V> Words<V> {
     /// Learns that what the seat knows fits the net, and that the entries that it has are in one journal.
     pub fn learn(&self, seat: &mut TableSeat<V>)
         requires table { seat.old.table_id ≡ self.now.table.shared.table_id }
-        requires ready { IsTurn seat.old.me.0 }
         ensures table { (seat.new.table_id ≡ seat.old.table_id) × (seat.new.id ≡ seat.old.id) }
         ensures view { (seat.new.me.0 ≡ seat.old.me.0) × (seat.new.me.1 ≡ seat.old.me.1) }
         ensures known { Knows seat.new.values seat.old.values }

@@ -213,9 +213,6 @@ count_again-made-requires-clause-few g c =
     let now : c.take_token-found.new.seat.me.0 ≡ took found (fetching_view t cause taken parts f next.tail Fetched q) = c.take_token-found.ensures.view.0 ∙ ap (took found) fetched in
     λ few. subst (λ v. without_count v ≡ v) (sym now) (few_settled t cause taken parts f next.tail q found few)
 
-pub learn-requires-clause-ready : goal.learn-requires-clause-ready
-learn-requires-clause-ready g c = subst IsTurn (sym (ap (λ m. m.0) c.requires.view)) (collecting_turn c.args.task c.args.cause (taken_in c.args.seat.now.me.0) (parts_found c.args.inputs.now) (left_in c.args.seat.now.me.0))
-
 pub returns-clause-known : goal.returns-clause-known
 returns-clause-known g c =
     let after = knows_again _ _ _ c.count_again-made.ensures.known c.take_token-found.ensures.known in

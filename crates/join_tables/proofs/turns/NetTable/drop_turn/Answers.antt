@@ -20,15 +20,6 @@ draw_drop-place-requires-clause-ready g c =
     let is : v ≡ turn_view t cause (taken_in v) parts (Some c.args.why) [] = ap (λ m. m.0) c.turn.invariant.0 ∙ (λ i. turn_view t cause (taken_in v) parts (why i) (empty i)) in
     (drops_turn t cause (taken_in v) parts c.args.why v c.turn.invariant.1 is (refuses t cause (taken_in v) parts (Some c.args.why) [] (ap refusal_of (sym is) ∙ why))).may
 
-pub learn-requires-clause-ready : goal.learn-requires-clause-ready
-learn-requires-clause-ready g c =
-    let v = c.turn.inside.seat.me.0 in let t = c.turn.inside.task in let cause = c.turn.inside.cause in let parts = parts_found c.turn.inside.inputs in
-    let why : refusal_of v ≡ Some c.args.why = ap (λ (t : TurnState). t.refused) c.turn.view_is ∙ c.requires.refused in
-    let empty : held_of v ≡ [] = ap (λ (t : TurnState). t.held) c.turn.view_is ∙ c.requires.no_unit in
-    let is : v ≡ turn_view t cause (taken_in v) parts (Some c.args.why) [] = ap (λ m. m.0) c.turn.invariant.0 ∙ (λ i. turn_view t cause (taken_in v) parts (why i) (empty i)) in
-    let drops = drops_turn t cause (taken_in v) parts c.args.why v c.turn.invariant.1 is (refuses t cause (taken_in v) parts (Some c.args.why) [] (ap refusal_of (sym is) ∙ why)) in
-    subst IsTurn (sym c.draw_drop-place.ensures.view.0) (drops.turn c.draw_drop-place.result)
-
 pub invariant_of-result : goal.invariant_of-result
 invariant_of-result g c =
     let v = c.turn.inside.seat.me.0 in let t = c.turn.inside.task in let cause = c.turn.inside.cause in let parts = parts_found c.turn.inside.inputs in

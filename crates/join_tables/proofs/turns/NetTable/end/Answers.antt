@@ -17,16 +17,6 @@ use Rattle.join_tables.specs.inside.Seated.{owing_view, shares_of, units_of}
 use Rattle.join_tables.proofs.Drawn.{told_in_one, end_view, owing_turn, owing_told}
 use Rattle.join_tables.proofs.turns.NetTable.end.Goals as goal
 
-pub learn-requires-clause-ready : goal.learn-requires-clause-ready
-learn-requires-clause-ready g c =
-    let s = shares_of c.running.inside.seat.me.0 in let units = s.granted ++ s.both in
-    let ended : EndedStart _ = record { task = c.running.inside.task; cause = c.running.inside.cause; start = c.running.inside.place; found = c.without_values-found.result; value = c.value.inside.value; place = c.draw_end-place.result; gives = c.args.gives; inner = c.args.inner } in
-    let parts : ended.found.parts ≡ parts_found c.running.inside.inputs = c.without_values-found.result.same ∙ ap parts_in c.without_values-found.ensures in
-    let none : s.refused ≡ None = ap (λ (r : RunningState _). r.units.refused) c.running.view_is ∙ c.requires.claims.not_refused in
-    let drawn : c.draw_end-place.new.seat.me.0 ≡ owing_view ended c.args.gives units =
-    c.draw_end-place.ensures.view.0 ∙ ap (with_end_drawn c.args.gives c.args.inner c.draw_end-place.result) (ap (λ m. m.0) c.running.invariant.0) ∙ end_view ended s (parts_found c.running.inside.inputs) parts none in
-    subst IsTurn (sym drawn) (owing_turn ended c.args.gives units)
-
 pub invariant_of-result : goal.invariant_of-result
 invariant_of-result g c =
     let s = shares_of c.running.inside.seat.me.0 in let units = s.granted ++ s.both in

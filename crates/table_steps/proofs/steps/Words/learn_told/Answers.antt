@@ -22,5 +22,5 @@ load-requires g c =
       steps_knowing net limit slots id me 0 (λ k. k) (λ k m. (m.0 ≡ me.0.notes) × (m.1 ≡ me.1) × AllFitNotes g.A.StepFacts.net me.0.notes × (length g.A.StepFacts.net.edges < 4294967296) × AreInOneJournal g.A.StepFacts.net g.A.StepFacts.limit (entries_in me.0.notes)) (λ z. omega arith) c.requires.held
           (subst (λ (n : NetRows). Allows (KeepsAccounts given_parts net limit) slots id (me_of me) 0 (λ k. k) (λ k m. (m.0 ≡ me.0.notes) × (m.1 ≡ me.1) × AllFitNotes n me.0.notes × (length n.edges < 4294967296) × AreInOneJournal n g.A.StepFacts.limit (entries_in me.0.notes))) (sym (c.requires.told.0 ∙ same))
           (subst (λ (l : ℕ). Allows (KeepsAccounts given_parts net limit) slots id (me_of me) 0 (λ k. k) (λ k m. (m.0 ≡ me.0.notes) × (m.1 ≡ me.1) × AllFitNotes net me.0.notes × (length net.edges < 4294967296) × AreInOneJournal net l (entries_in me.0.notes))) (sym c.requires.told.1)
-          (learn_allowed net limit slots id (me_of me) c.requires.ready))),
+          (learn_allowed net limit slots id (me_of me)))),
     )
