@@ -11,7 +11,12 @@ use task_graph::Net;
 
 // Nets that are led to rest: how many tasks and edges each has.
 const NETS: [(NetKind, u32, u32, &str); 2] = [
-    (NetKind::Later, 10_000, 100_000, "10,000 tasks, 100,000 edges"),
+    (
+        NetKind::Later,
+        10_000,
+        100_000,
+        "10,000 tasks, 100,000 edges",
+    ),
     (
         NetKind::Join,
         100_000,
