@@ -106,6 +106,5 @@ pub use parcels::{Parcel, Parcels};
 pub use steps::{FIRST_UNIT, LIVE, Words};
 pub use table_seat::TableSeat;
 pub use view::{
-    AccountsHold, EndValue, LimitedNet, Lot, Note, SeatMark, SeatView, SemaphoreRole,
-    TurnDuty,
+    AccountsHold, EndValue, LimitedNet, Lot, Note, SeatMark, SeatView, SemaphoreRole, TurnDuty,
 };
