@@ -1,8 +1,9 @@
 -- Owners of one value, one more and one fewer.
-use Rattle.std.proofs.Common.{◌≡◌, ℕ, ◌+◌, ◌<◌, List, [], ◌∷◌, ◌++◌, length, drop, take, subst, sym, refl, ap, arith}
+use Rattle.std.proofs.Common.{◌≡◌, ℕ, ◌+◌, ◌<◌, List, [], ◌∷◌, ◌++◌, length, drop, take, subst, sym, refl, ap, arith, Vec}
 use Rattle.std.proofs.lemmas.List.{length_push}
-use Rattle.std.specs.Arc.{Arc, arc_value}
-use Rattle.std.specs.Vec.{Vec}
+use Rattle.std.specs.Global.{Global}
+use Rattle.std.specs.declared.sync.Arc.{Arc}
+use Rattle.std.specs.Arc.{arc_value}
 use Rattle.join_words.specs.declared.ins.Given.{Given}
 use Rattle.join_words.specs.declared.ins.Given.TheVariants.{Value, First, Nothing}
 use Rattle.table_steps.specs.Values.{ended_with}
@@ -18,11 +19,11 @@ module _ {V : Type 0} (value : V) where
   pub adds_share : (xs : List (Given V)) (x : Given V) → IsShareOf value x → AddsShare value xs (xs ++ x ∷ [])
   adds_share xs x is = record { shares = one_more xs x is; count = length_push xs x }
 
-  pub one_more_owner : (xs : List (Arc V)) (x : Arc V) → arc_value x ≡ value → AreOwnersOf value xs → AreOwnersOf value (xs ++ x ∷ [])
+  pub one_more_owner : {A : Type 0} (xs : List (Arc V A)) (x : Arc V A) → arc_value x ≡ value → AreOwnersOf value xs → AreOwnersOf value (xs ++ x ∷ [])
   one_more_owner [] x is are = (is, tt)
   one_more_owner (y ∷ xs) x is are = (are.0, one_more_owner xs x is are.1)
 
-  fewer_owners : (xs : List (Arc V)) (x : Arc V) → AreOwnersOf value (xs ++ x ∷ []) → AreOwnersOf value xs × (arc_value x ≡ value)
+  fewer_owners : {A : Type 0} (xs : List (Arc V A)) (x : Arc V A) → AreOwnersOf value (xs ++ x ∷ []) → AreOwnersOf value xs × (arc_value x ≡ value)
   fewer_owners [] x are = (tt, are.0)
   fewer_owners (y ∷ xs) x are = let more = fewer_owners xs x are.1 in ((are.0, more.0), more.1)
 
@@ -31,7 +32,7 @@ module _ {V : Type 0} (value : V) where
   fewer_parcels (x ∷ xs) are = are.1
 
   -- the last owner, in a bare parcel
-  pub parcel_of_owner : (n : ℕ) (xs ys : List (Arc V)) (x : Arc V) → xs ≡ ys ++ x ∷ [] → AreOwnersOf value xs → IsParcelOf value n (Value n x ∷ [])
+  pub parcel_of_owner : (n : ℕ) (xs ys : List (Arc V Global)) (x : Arc V Global) → xs ≡ ys ++ x ∷ [] → AreOwnersOf value xs → IsParcelOf value n (Value n x ∷ [])
   parcel_of_owner n xs ys x is are = record { part = refl; has = ap (ended_with n) (fewer_owners ys x (subst (AreOwnersOf value) is are)).1 }
 
   -- and the first parcel
@@ -41,7 +42,7 @@ module _ {V : Type 0} (value : V) where
   first_parcel n (First ∷ xs) some are = absurd are.0
   first_parcel n (Nothing ∷ xs) some are = absurd are.0
 
-pub one_owner_fewer : {V : Type 0} (before after : Vec (Arc V)) (x : Arc V) → before.items ≡ after.items ++ x ∷ [] → IsOneFewer (Bare before) (Bare after)
+pub one_owner_fewer : {V : Type 0} (before after : Vec (Arc V Global) Global) (x : Arc V Global) → before.items ≡ after.items ++ x ∷ [] → IsOneFewer (Bare before) (Bare after)
 one_owner_fewer before after x is = record {
   count = omega (arith, length_push after.items x, ap length is);
   bare = refl;

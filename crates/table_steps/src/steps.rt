@@ -213,6 +213,7 @@ impl<V> Words<V> {
             × (seat.new.me.1 ≡ seat.old.me.1) }
         ensures known { Knows seat.new.me.0.values seat.old.me.0.values }
         ensures held { Knows seat.new.me.0.values (values_held seat.new.me.1) }
+        ensures one { HaveOneValueEach seat.new.me.0.values }
         ensures fits { AllFitNotes A.net seat.old.me.0.notes }
         ensures few { length A.net.edges < 4294967296 }
         ensures journal { AreInOneJournal A.net A.limit (entries_in seat.old.me.0.notes) }
@@ -226,6 +227,7 @@ impl<V> Words<V> {
         ensures table { (seat.new.table_id ≡ seat.old.table_id) × (seat.new.id ≡ seat.old.id) }
         ensures view { (seat.new.me.0 ≡ seat.old.me.0) × (seat.new.me.1 ≡ seat.old.me.1) }
         ensures known { Knows seat.new.values seat.old.values }
+        ensures one { HaveOneValueEach seat.new.values }
         ensures fits { AllFitNotes (arc_value self.now.net) seat.old.me.0 }
         ensures few { length (arc_value self.now.net).edges < 4294967296 }
         ensures journal { AreInOneJournal (arc_value self.now.net) self.now.table.shared.key.limit

@@ -1,7 +1,8 @@
 -- Owners of one value, some in parcels whose place is still to be written.
 use Rattle.std.specs.Prelude.{◌≡◌, ℕ, ◌+◌, Bool, true, false, List, [], ◌∷◌, length}
 use Rattle.std.specs.List.{AllByRecursion}
-use Rattle.std.specs.Arc.{Arc, arc_value}
+use Rattle.std.specs.declared.sync.Arc.{Arc}
+use Rattle.std.specs.Arc.{arc_value}
 use Rattle.join_words.specs.declared.ins.Given.{Given}
 use Rattle.join_words.specs.declared.ins.Given.TheVariants.{Value}
 use Rattle.journal_rules.specs.declared.entry.Part.TheVariants.{From}
@@ -19,7 +20,7 @@ abbrev pub AreParcelsOf : {V : Type 0} → V → List (Given V) → Type 0
 AreParcelsOf value parcels = AllByRecursion (IsShareOf value) parcels
 
 -- owners of this value
-abbrev pub AreOwnersOf : {V : Type 0} → V → List (Arc V) → Type 0
+abbrev pub AreOwnersOf : {V A : Type 0} → V → List (Arc V A) → Type 0
 AreOwnersOf value owners = AllByRecursion (λ owner. arc_value owner ≡ value) owners
 
 abbrev pub AreSharesOf : {V : Type 0} → V → Shares V → Type 0

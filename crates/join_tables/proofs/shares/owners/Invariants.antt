@@ -5,4 +5,4 @@ use Rattle.join_tables.specs.inside.Sharing.{AreOwnersOf}
 use Rattle.join_tables.proofs.shares.owners.Given as goal
 
 abbrev pub invariant-loop : goal.invariant-loop
-invariant-loop g l = AreOwnersOf (arc_value l.value.now) l.owners.items × (length l.owners.items ≡ l.counter) × (l.count ≤ vec_capacity l.owners)
+invariant-loop g l = AreOwnersOf (arc_value l.value) l.owners.items × (length l.owners.items ≡ l.counter) × (l.count ≤ vec_capacity l.owners)

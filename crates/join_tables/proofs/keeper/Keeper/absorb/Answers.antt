@@ -61,7 +61,25 @@ returns-clause-all g c = λ last.
     subst (λ (t : TableState). TellsRun t.net t.limit (entries_told c.append.new.self.items)) c.table.view_is
     (tells_run _ _ c.settle.new.seat.me.0 (entries_told c.append.new.self.items) view (c.settle.ensures.all (found_one NoMemory c.settle.result c.of.result c.of.ensures last)))
 
-pub returns-in_err-append-clause-agree : goal.returns-in_err-append-clause-agree
-returns-in_err-append-clause-agree g c =
+-- where an allocation fails
+pub invariant_of-self : goal.invariant_of-self
+invariant_of-self g c =
+    let fates : c.append.new.self.items ≡ c.self.inside.fates.items = search rules in (
+      c.learn.ensures.table.1 ∙ c.self.invariant.0,
+      c.learn.ensures.view.1 ∙ c.self.invariant.1,
+      ap tellings c.learn.ensures.view.0 ∙ c.self.invariant.2 ∙ ap told_notes (ap entries_told (sym fates)),
+      ap (weigh busy) c.learn.ensures.view.0 ∙ c.self.invariant.3,
+      subst (λ fs. Knows c.learn.new.seat.values (values_known fs)) (sym fates) (knows_again _ _ _ c.learn.ensures.known c.self.invariant.4),
+      c.learn.ensures.one,
+    )
+
+pub returns-then-is_err-clause-journal : goal.returns-then-is_err-clause-journal
+returns-then-is_err-clause-journal g c =
+    let fates : c.append.new.self.items ≡ c.self.inside.fates.items = search rules in
+    subst (λ (t : TableState). AreInOneJournal t.net t.limit (with_places (entries_told c.append.new.self.items))) c.table.view_is
+    (told_in_one _ _ c.self.inside.seat.me.0 (entries_told c.append.new.self.items) (c.self.invariant.2 ∙ ap told_notes (ap entries_told (sym fates))) c.learn.ensures.journal)
+
+pub returns-then-is_err-clause-agree : goal.returns-then-is_err-clause-agree
+returns-then-is_err-clause-agree g c =
     let fates : c.append.new.self.items ≡ c.self.inside.fates.items = search rules in
     one_known _ _ (subst (λ fs. Knows c.self.inside.seat.values (values_known fs)) (sym fates) c.self.invariant.4) c.self.invariant.5

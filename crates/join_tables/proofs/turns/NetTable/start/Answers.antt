@@ -59,12 +59,6 @@ invariant_of-result g c =
     let r = start_reads net c.ticket.inside.task c.ticket.inside.cause (parts_found c.ticket.inside.inputs) c.draw_start-place.result v u (ap (λ m. m.0) c.ticket.invariant.0) c.ticket.invariant.1 (c.learn-2.ensures.view.0 ∙ c.draw_start-place.ensures.view.0 ∙ ap (with_start_drawn net c.draw_start-place.result) c.learn.ensures.view.0) in
     ((λ i. (r.is i, (c.learn-2.ensures.view.1 ∙ c.draw_start-place.ensures.view.1 ∙ c.learn.ensures.view.1 ∙ ap (λ m. m.1) c.ticket.invariant.0) i)), knows_again _ _ _ c.learn-2.ensures.known (knows_again _ _ _ c.draw_start-place.ensures.known (knows_again _ _ _ c.learn.ensures.known c.ticket.invariant.2)))
 
-pub learn-requires-2-clause-ready : goal.learn-requires-2-clause-ready
-learn-requires-2-clause-ready g c =
-    let v = c.ticket.inside.seat.me.0 in let u = c.draw_start-place.new.seat.me.0 in let net = arc_value c.self.inside.words.net in
-    let r = start_reads net c.ticket.inside.task c.ticket.inside.cause (parts_found c.ticket.inside.inputs) c.draw_start-place.result v u (ap (λ m. m.0) c.ticket.invariant.0) c.ticket.invariant.1 (c.draw_start-place.ensures.view.0 ∙ ap (with_start_drawn net c.draw_start-place.result) c.learn.ensures.view.0) in
-    subst IsTurn (sym r.is) (running_turn c.ticket.inside.task c.ticket.inside.cause c.draw_start-place.result (parts_found c.ticket.inside.inputs) (shares_of u))
-
 pub returns-clause-journal : goal.returns-clause-journal
 returns-clause-journal g c =
     let v = c.ticket.inside.seat.me.0 in let u = c.draw_start-place.new.seat.me.0 in let net = arc_value c.self.inside.words.net in let limit = c.self.inside.words.table.shared.key.limit in
