@@ -18,8 +18,8 @@ use super::attempt::{Attempt, Ending, Outcome};
 use super::gives::edges_given;
 use super::run_keeper::RunKeeper;
 use join_tables::{
-    Admitted, Collected, Fresh, Gave, NetTable, Opening, Owing, Remaining, Running,
-    Spent, SpentBatch, Turn,
+    Admitted, Collected, Fresh, Gave, NetTable, Opening, Owing, Remaining, Running, Spent,
+    SpentBatch, Turn,
 };
 use journal_rules::DropWhy;
 use outside_io::NoMemory;
