@@ -63,8 +63,8 @@ impl<T: Parkable + Drop> YardState<T> {
         self.queues[sem as usize].push_last(item)
     }
 
-    /// Parks an item on a semaphore, before all that are parked there, as one that was woken too early. If an allocation
-    /// fails the item is handed back, and all is as it was.
+    /// Parks an item on a semaphore, before all that are parked there, so that an item that was woken can go back to its
+    /// place. If an allocation fails the item is handed back, and all is as it was.
     pub fn park_first(&mut self, sem: u32, item: T) -> Result<(), Back<T>>
         requires in_range { sem < length self.old.lists }
         requires waits { T.waits_at item self.old.home sem }
