@@ -8,6 +8,7 @@ pub mod WorkedGraphFiles
 pub mod WorkedGraphJson
 pub mod WorkedLines
 pub mod WorkedSeats
+pub mod WorkedYards
 pub mod WorkedSlots
 pub mod WorkedTurns
 pub mod WorkedEndValues

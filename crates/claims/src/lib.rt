@@ -13,6 +13,7 @@
 //! - `WorkedFrames`, `WorkedRows`: what a job's works may come to, where its inner runs are, and what the beginning and the
 //!   steps of a frame come to;
 //! - `WorkedSeats`: which lock, register or list a pass, a book, a ticket or an owner is of;
+//! - `WorkedYards`: what is parked in a yard, before and after one list changed, and which yard a pass is of;
 //! - `WorkedSlots`: in which order the parcels of a slot are taken, and what a seat that took a slot gives back;
 //! - `WorkedTurns`: the units that turns of a table hold, what becomes of releases, how a table begins, and when a keeper
 //!   tells a whole run;

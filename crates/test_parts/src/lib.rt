@@ -6,7 +6,7 @@
 //!
 //! Those of `keyed_lock`, `tickets` and `ready_deques` have real threads and show what no clause says: that no turn
 //! under a lock is lost, that what was left under a lock is found there, that each item of a ready list is taken once,
-//! and that an owner that sleeps is woken.
+//! and that an owner that sleeps is woken. That of `semaphore_park` parks numbers and wakes them, in written orders.
 #![tactic(auto)]
 
 #[cfg(test)]
@@ -27,6 +27,8 @@ mod operation_cases;
 mod operations;
 #[cfg(test)]
 mod outside;
+#[cfg(test)]
+mod parked_numbers;
 #[cfg(test)]
 mod ready_items;
 #[cfg(test)]

@@ -1,0 +1,3 @@
+pub mod Parking
+pub mod Yards
+pub mod inside

@@ -1,0 +1,2 @@
+-- Internal: the invariant of what is parked.
+pub mod Waiting
