@@ -2,7 +2,8 @@
 //!
 //! A worker that finds no unit of a semaphore doesn't wait for one: it parks what needs the unit, and goes on with other
 //! work. Whoever gives a unit back wakes what was parked for it first. A yard has a queue for each semaphore, all under
-//! one lock. Parking and waking take constant time, however much is parked, and waking takes no memory.
+//! one lock. Waking takes constant time and no memory, however much is parked. Parking does too, except where a queue is
+//! full and doubles.
 //!
 //! # What can be parked
 //!
