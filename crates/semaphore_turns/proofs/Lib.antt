@@ -1,0 +1,5 @@
+pub mod UnitCounts
+pub mod HeldLists
+pub mod RestLists
+pub mod ParkedTurns
+pub mod Crossing
