@@ -1,5 +1,5 @@
 use Rattle.std.proofs.Common.{◌≡◌, length}
-use Rattle.table_frames.proofs.table_run.TableRun.take_up.Given as goal
+use Rattle.table_frames.proofs.table_run.TableRun.collect.Given as goal
 
 abbrev pub invariant-loop-more : goal.invariant-loop-more
 invariant-loop-more g l = (l.collecting.table ≡ l.self.table) × (l.collecting.task ≡ l.fn.fresh.task) × (l.collecting.cause ≡ l.fn.fresh.cause)
