@@ -8,11 +8,14 @@ pub mod FineLemmas
 pub mod LookupLemmas
 pub mod NameLemmas
 pub mod NetLemmas
+pub mod NumberLemmas
+pub mod RepeatLemmas
 pub mod OpLemmas
 pub mod PlaceLemmas
 pub mod PlanLemmas
 pub mod ReadingLemmas
-pub mod TaskLemmas
+pub mod SettledLemmas
+pub mod SettledNets
 pub mod TripLemmas
 pub mod WalkLemmas
 pub mod WordLemmas

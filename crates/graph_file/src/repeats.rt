@@ -32,7 +32,7 @@ pub(crate) fn check_tasks(alloc: Global, version: u64, tasks: &[NamedTask<'_>]) 
     ensures { Leads result (map (λ task. task.name.now) tasks.now)
         (walk (add_task_name version) [] (map named_task tasks.now)) }
 {
-    let mut places = HashMap::with_capacity(alloc, tasks.len())?;
+    let mut places = HashMap::new(alloc);
     for (place, task) in tasks.iter().enumerate() {
         let new = keep_place(&mut places, task.name.as_bytes(), place)?;
         check_task(alloc, version, place, new, task)?;
