@@ -1,6 +1,7 @@
 pub mod ArrayLemmas
 pub mod BindLemmas
 pub mod DraftLemmas
+pub mod DraftedLemmas
 pub mod EachLemmas
 pub mod FieldLemmas
 pub mod JsonLemmas

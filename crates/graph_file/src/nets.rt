@@ -1,5 +1,5 @@
 // The net of a graph file.
-ghost use Rattle.std.specs.Prelude.{◌≡◌, ◌<◌, ◌≤◌, [], All, IfOk, OnOk, false, length, map, take};
+ghost use Rattle.std.specs.Prelude.{◌≡◌, ◌<◌, ◌≤◌, ◌^◌, ◌++◌, [], All, IfOk, OnOk, length, map};
 ghost use Rattle.graph_plans.specs.Operations.{shape_of};
 ghost use Rattle.graph_plans.specs.PlanRows.{file_edge_limit, file_semaphore_limit, file_task_limit};
 ghost use Rattle.task_graph.specs.NetBuilder.{empty_net, with_edge, with_semaphore, with_task};

@@ -70,10 +70,15 @@ task_object op name to takes puts = object (put (codes "acquire") takes (put (co
 abbrev pub end_name : PlanRows → ℕ → List ℕ
 end_name plan e = slice_index_or plan.top.names (slice_index_or plan.top.net.edges e (record { from = 0; to = 0; start = false })).to []
 
--- what is written for task t
+-- what stands for the row of a task that isn't there
+abbrev pub no_row : TaskRow
+no_row = record { shape = Plain; takes = []; puts = [] }
+
+-- the names that are written for task t
 abbrev pub names_at : PlanRows → ℕ → TaskNames
-names_at plan t = let row = slice_index_or plan.top.net.tasks t no_row in
-    record { name = slice_index_or plan.top.names t []; to = to_of plan t; takes = sems_named plan row.takes; puts = sems_named plan row.puts }
-  where
-    no_row : TaskRow
-    no_row = record { shape = Plain; takes = []; puts = [] }
+names_at plan t = record {
+  name = slice_index_or plan.top.names t [];
+  to = to_of plan t;
+  takes = sems_named plan (slice_index_or plan.top.net.tasks t no_row).takes;
+  puts = sems_named plan (slice_index_or plan.top.net.tasks t no_row).puts;
+}
