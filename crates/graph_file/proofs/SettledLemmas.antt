@@ -77,11 +77,11 @@ count_none s (x ∷ ids) other =
 count_step : (s x : ℕ) (ids : List ℕ) (here : Bool) → (x == s) ≡ here → (here ≡ true → count_by (λ id. id == s) ids ≡ 0) → count_by (λ id. id == s) ids < 2 → count_by (λ id. id == s) (x ∷ ids) < 2
 count_step s x ids true is none few =
     let one_more : count_by (λ id. id == s) (x ∷ ids) ≡ cond (x == s) 1 0 + count_by (λ id. id == s) ids = sum_by-cons (λ id. cond (id == s) 1 0) x ids in
-    let one : cond (x == s) 1 0 ≡ 1 = rw is refl in
+    let one : ◌≡◌ {A = ℕ} (cond (x == s) 1 0) 1 = rw is refl in
     omega (arith, one_more, one, none refl)
 count_step s x ids false is none few =
     let one_more : count_by (λ id. id == s) (x ∷ ids) ≡ cond (x == s) 1 0 + count_by (λ id. id == s) ids = sum_by-cons (λ id. cond (id == s) 1 0) x ids in
-    let none_more : cond (x == s) 1 0 ≡ 0 = rw is refl in
+    let none_more : ◌≡◌ {A = ℕ} (cond (x == s) 1 0) 0 = rw is refl in
     omega (arith, one_more, none_more, few)
 
 -- a number stands at most once among numbers that differ
