@@ -17,6 +17,7 @@ pub mod PlanLemmas
 pub mod ReadingLemmas
 pub mod SettledLemmas
 pub mod SettledNets
+pub mod TaskLemmas
 pub mod TripLemmas
 pub mod WalkLemmas
 pub mod WordLemmas

@@ -7,6 +7,7 @@ use Rattle.graph_file.specs.declared.draft.NamedTask.{NamedTask}
 use Rattle.graph_file.specs.declared.refusals.GraphError.{GraphError}
 use Rattle.graph_file.specs.declared.refusals.GraphError.TheVariants.{NoMemory, Repeated}
 use Rattle.graph_file.specs.Fields.{task_spot}
+use Rattle.graph_plans.specs.declared.spots.Spot.{Spot}
 use Rattle.graph_file.specs.PlanText.{TaskNames, add_name, add_task_name, puts_field, takes_field}
 use Rattle.graph_file.specs.Steps.{◌>>=◌, passed, walk}
 use Rattle.graph_file.specs.inside.Reader.{Leads, named_task, once_or}
@@ -30,9 +31,18 @@ add_task_name-once version before new number task is count =
     rw (← is, count) (once_step new (Repeated (task_spot number) (codes "name")) (walk (add_name (λ k. Repeated (task_spot number) (takes_field version))) [] task.takes)
     (walk (add_name (λ k. Repeated (task_spot number) (puts_field version))) [] task.puts) (before ++ task.name ∷ []) number)
 
+-- a semaphore that is taken twice, or else what is found of those that are put
+module _ (version number : ℕ) (new : Bool) (task : TaskNames) (spot : Spot) (takes puts : List ℕ) (so : new ≡ true) (at : spot ≡ task_spot number) (takes_are : takes ≡ takes_field version) (puts_are : puts ≡ puts_field version) where
+  pub once-took : (e : GraphError) → (e ≢ NoMemory → walk (add_name (λ k. Repeated spot takes)) [] task.takes ≡ Err e) → e ≢ NoMemory → once_or version number new task ≡ Err e
+  once-took e refused sure = rw (so, ← at, ← takes_are) (rw (refused sure) refl)
+
+  pub once-put : (r : Result ⊤ GraphError) → walk (add_name (λ k. Repeated spot takes)) [] task.takes ≡ Ok task.takes → Leads r task.puts (walk (add_name (λ k. Repeated spot puts)) [] task.puts) → Leads r number (once_or version number new task)
+  once-put (Ok done) took put = rw (so, ← at, ← takes_are, ← puts_are) (rw (took, put) refl)
+  once-put (Err e) took put = λ sure. rw (so, ← at, ← takes_are, ← puts_are) (rw (took, put sure) refl)
+
 module _ (version : ℕ) (tasks : List NamedTask) (i : ℕ) (task : NamedTask) (new : Bool) (within : i < length tasks) (is : task ≡ get_or tasks i task)
     (noted : new ≡ not (list_any (bytes_eq task.name.now) (take i (names_now tasks)))) where
-  name-within : i < length (names_now tasks)
+  pub name-within : i < length (names_now tasks)
   name-within = rw (length-map tasks (λ (t : NamedTask). t.name.now)) within
 
   pub name-is : task.name.now ≡ get_or (names_now tasks) i task.name.now

@@ -20,6 +20,7 @@ use serde_json::Value;
 use std::alloc::Global;
 
 /// The semaphores and tasks of a file.
+#[tactic(auto, using(crate::proofs::TaskLemmas::walk_steps))]
 pub(crate) fn read_file<'v>(alloc: Global, file: &'v Value) -> Result<Draft<'v>, GraphError>
     ensures { ReadsAs draft_rows result (draft_in (view file.now)) }
 {

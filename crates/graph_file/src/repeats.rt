@@ -35,7 +35,9 @@ pub(crate) fn check_tasks(alloc: Global, version: u64, tasks: &[NamedTask<'_>]) 
     let mut places = HashMap::new(alloc);
     for (place, task) in tasks.iter().enumerate() {
         let new = keep_place(&mut places, task.name.as_bytes(), place)?;
-        check_task(alloc, version, place, new, task)?;
+        if let Err(refusal) = check_task(alloc, version, place, new, task) {
+            return Err(refusal);
+        }
     }
     Ok(())
 }
@@ -54,7 +56,9 @@ fn check_task(
     if !new {
         return Err(repeated(alloc, spot, "name"));
     }
-    check_list(alloc, spot, takes_field(version), task.takes.as_slice())?;
+    if let Err(refusal) = check_list(alloc, spot, takes_field(version), task.takes.as_slice()) {
+        return Err(refusal);
+    }
     check_list(alloc, spot, puts_field(version), task.puts.as_slice())
 }
 

@@ -1,10 +1,11 @@
 // The tasks in a graph file.
 ghost use Rattle.std.specs.Prelude.{◌≡◌, ◌++◌, ◌∷◌, [], codes, map, IfOk, OnOk};
 ghost use Rattle.serde_json.specs.View.{view};
-ghost use Rattle.graph_file.specs.PlanText.{add_task, mentioned, numbered, puts_field, takes_field, with_task_text};
+ghost use Rattle.graph_file.specs.Fields.{only};
+ghost use Rattle.graph_file.specs.PlanText.{mentioned, numbered, puts_field, takes_field, task_fields, with_task_text};
 ghost use Rattle.graph_file.specs.Steps.{walk};
 ghost use Rattle.graph_file.specs.inside.Lookups.{HasPlaces};
-ghost use Rattle.graph_file.specs.inside.Reader.{Leads, ReadsAs, draft_rows, file_op_row, named_task};
+ghost use Rattle.graph_file.specs.inside.Reader.{Leads, Reads, ReadsAs, add_task_steps, draft_rows, file_op_row, lists_in, named_task};
 
 use crate::bad_fields::task_spot;
 use crate::draft::{Draft, NamedTask};
@@ -14,7 +15,7 @@ use crate::lookups::{Places, number_of};
 use crate::ops::read_op;
 use crate::refusals::GraphError;
 use crate::unknown::check_fields;
-use graph_plans::Op;
+use graph_plans::{Op, Spot};
 use outside_io::{Bytes, List, NoMemory};
 use serde_json::Value;
 use std::alloc::Global;
@@ -42,7 +43,7 @@ pub(crate) fn read_tasks<'v>(
 ) -> Result<Draft<'v>, GraphError>
     requires { draft.texts ≡ [] }
     ensures { ReadsAs draft_rows result
-        (walk add_task (draft_rows draft.entry) (map view tasks.now)) }
+        (walk add_task_steps (draft_rows draft.entry) (map view tasks.now)) }
 {
     let mut numbers = HashMap::new(alloc);
     for task in tasks {
@@ -60,26 +61,51 @@ fn read_task<'v>(
 ) -> Result<(), GraphError>
     requires { HasPlaces numbers.old draft.old.texts }
     ensures draft { Leads result (draft_rows draft.new)
-        (add_task (draft_rows draft.old) (view task.now)) }
+        (add_task_steps (draft_rows draft.old) (view task.now)) }
     ensures numbers { OnOk result (HasPlaces numbers.new draft.new.texts) }
 {
     let spot = task_spot(draft.tasks.len());
-    let takes_field = takes_field(draft.version);
-    let puts_field = puts_field(draft.version);
     let name = read_name(alloc, spot, task)?;
     let found = read_op(alloc, spot, task)?;
+    let named = read_lists(alloc, draft.version, spot, name, task)?;
+    check_task_fields(alloc, draft.version, spot, task, found.fields)?;
+    Ok(put_task(alloc, named, found.op, draft, numbers)?)
+}
+
+// A task of this name, with its lists of names.
+fn read_lists<'v>(
+    alloc: Global,
+    version: u64,
+    spot: Spot,
+    name: &'v str,
+    task: &'v Value,
+) -> Result<NamedTask<'v>, GraphError>
+    ensures { ReadsAs named_task result (lists_in version spot name.now (view task.now)) }
+{
     let to = read_names(alloc, spot, "to", task)?;
-    let takes = read_names(alloc, spot, takes_field, task)?;
-    let puts = read_names(alloc, spot, puts_field, task)?;
-    let fields = &["name", "op", "to", takes_field, puts_field];
-    check_fields(alloc, spot, task, fields, found.fields)?;
-    let named = NamedTask {
+    let takes = read_names(alloc, spot, takes_field(version), task)?;
+    let puts = read_names(alloc, spot, puts_field(version), task)?;
+    Ok(NamedTask {
         name,
         to,
         takes,
         puts,
-    };
-    Ok(put_task(alloc, named, found.op, draft, numbers)?)
+    })
+}
+
+// That a task has no field but those of every task and these.
+fn check_task_fields(
+    alloc: Global,
+    version: u64,
+    spot: Spot,
+    task: &Value,
+    own: &[&str],
+) -> Result<(), GraphError>
+    ensures { Reads result (only (task_fields version ++ map (λ s. s.now) own.now) spot
+        (view task.now)) }
+{
+    let fields = &["name", "op", "to", takes_field(version), puts_field(version)];
+    check_fields(alloc, spot, task, fields, own)
 }
 
 // Puts a task and its operation at the end, and its text among the texts.

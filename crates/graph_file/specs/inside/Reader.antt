@@ -1,6 +1,8 @@
 -- What the steps of the reader answer, which may also find no memory.
-use Rattle.std.specs.Prelude.{◌≡◌, ◌≢◌, ℕ, Bool, List, [], ◌∷◌, ◌++◌, map, Option, Some, None, Result, Ok, Err, ok_or, codes, ⊤}
+use Rattle.std.specs.Prelude.{◌≡◌, ◌≢◌, ℕ, Bool, List, [], ◌∷◌, ◌++◌, length, map, Option, Some, None, Result, Ok, Err, ok_or, codes, ⊤}
 use Rattle.std.specs.Borrow.{Bor}
+use Rattle.serde_json.specs.Data.{Data}
+use Rattle.graph_plans.specs.declared.spots.Spot.{Spot}
 use Rattle.std.specs.HashMap.{HashMap}
 use Rattle.graph_file.specs.declared.draft.Draft.{Draft}
 use Rattle.graph_file.specs.declared.draft.NamedTask.{NamedTask}
@@ -10,9 +12,10 @@ use Rattle.graph_file.specs.declared.file_op.FileOp.TheVariants.{Reads as ReadsO
 use Rattle.graph_file.specs.declared.file_op.FoundOp.{FoundOp}
 use Rattle.graph_file.specs.declared.refusals.GraphError.{GraphError}
 use Rattle.graph_file.specs.declared.refusals.GraphError.TheVariants.{NoMemory, Repeated}
-use Rattle.graph_file.specs.OpRows.{FileOpRow, reads, does, WithFields}
-use Rattle.graph_file.specs.Fields.{task_spot}
-use Rattle.graph_file.specs.PlanText.{DraftRows, TaskNames, add_name, puts_field, takes_field}
+use Rattle.graph_file.specs.OpRows.{FileOpRow, reads, does, WithFields, op_in, op_rows}
+use Rattle.graph_file.specs.Contents.{name_of, name_list_of}
+use Rattle.graph_file.specs.Fields.{allowed, needed, only, task_spot}
+use Rattle.graph_file.specs.PlanText.{DraftRows, TaskNames, add_name, puts_field, takes_field, task_fields, with_task_text}
 use Rattle.graph_file.specs.Steps.{◌>>=◌, passed, walk}
 use Rattle.graph_file.specs.inside.Lookups.{place_in}
 
@@ -53,6 +56,24 @@ found_op found = record { op = file_op_row found.op; fields = map (λ s. s.now) 
 
 abbrev pub found_text_op : FoundOp TextOp → WithFields TextOp
 found_text_op found = record { op = found.op; fields = map (λ s. s.now) found.fields.now }
+
+-- ---- a task, by the steps in which it is read
+
+-- a task of this name, with its lists of names
+abbrev pub lists_in : ℕ → Spot → List ℕ → Data → Result TaskNames GraphError
+lists_in version spot name d = do
+  to ← allowed [] name_list_of spot (codes "to") d
+  takes ← allowed [] name_list_of spot (takes_field version) d
+  puts ← allowed [] name_list_of spot (puts_field version) d
+  Ok (record { name = name; to = to; takes = takes; puts = puts })
+
+abbrev pub add_task_steps : DraftRows → Data → Result DraftRows GraphError
+add_task_steps draft d = let spot = task_spot (length draft.tasks) in do
+  name ← needed name_of spot (codes "name") d
+  found ← op_in op_rows spot d
+  task ← lists_in draft.version spot name d
+  done ← only (task_fields draft.version ++ found.fields) spot d
+  Ok (with_task_text draft task found.op)
 
 -- ---- lists that are read item by item
 

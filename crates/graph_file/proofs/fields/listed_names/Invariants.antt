@@ -7,4 +7,4 @@ use Rattle.graph_file.proofs.WalkLemmas.{GoesOn}
 use Rattle.graph_file.proofs.fields.listed_names.Given as goal
 
 abbrev pub invariant-loop-item : goal.invariant-loop-item
-invariant-loop-item l = GoesOn view (put_each name_of (λ name. name) (BadField l.spot l.field.now)) [] l.items l.item-index (strings l.names)
+invariant-loop-item l = GoesOn view (put_each name_of (λ name. name) (BadField l.spot l.field)) [] l.items l.item-index (strings l.names)

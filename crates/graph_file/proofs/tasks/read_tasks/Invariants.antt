@@ -1,5 +1,5 @@
 use Rattle.serde_json.specs.View.{view}
-use Rattle.graph_file.specs.PlanText.{add_task}
+use Rattle.graph_file.specs.inside.Reader.{add_task_steps}
 use Rattle.graph_file.specs.inside.Lookups.{HasPlaces}
 use Rattle.graph_file.specs.inside.Reader.{draft_rows}
 use Rattle.graph_file.proofs.WalkLemmas.{GoesOn}
@@ -7,6 +7,6 @@ use Rattle.graph_file.proofs.tasks.read_tasks.Given as goal
 
 abbrev pub invariant-loop-task : goal.invariant-loop-task
 invariant-loop-task l = record {
-  walked : GoesOn view add_task (draft_rows l.fn.draft) l.tasks l.task-index (draft_rows l.draft);
+  walked : GoesOn view add_task_steps (draft_rows l.fn.draft) l.tasks l.task-index (draft_rows l.draft);
   numbers : HasPlaces l.numbers l.draft.texts;
 }
