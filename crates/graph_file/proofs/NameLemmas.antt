@@ -72,3 +72,7 @@ module _ (names : List (List ℕ)) (i : ℕ) (name : List ℕ) (new : Bool) (wit
 
 pub HasWalked-end : (names : List (List ℕ)) (i : ℕ) → length names ≤ i → HasWalked names i → (refusal : ℕ → GraphError) → walk (add_name refusal) [] names ≡ Ok names
 HasWalked-end names i past so_far refusal = so_far refusal ∙ rw (take_all i names past, drop_all i names past) refl
+
+-- past the end all names were taken
+pub all-strings : (names : List (Bor (List ℕ))) (i : ℕ) → length names ≤ i → take i (strings names) ≡ strings names
+all-strings names i past = let count : length (strings names) ≡ length names = length-map names (λ s. s.now) in take_all i (strings names) (omega (arith, past, count))

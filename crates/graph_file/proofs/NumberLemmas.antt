@@ -11,11 +11,13 @@ use Rattle.std.specs.HashMap.{HashMap}
 use Rattle.graph_plans.specs.PlanRows.{AllDiffer}
 use Rattle.graph_file.specs.declared.refusals.GraphError.{GraphError}
 use Rattle.graph_file.specs.Contents.{each}
-use Rattle.graph_file.specs.PlanText.{numbers_in}
+use Rattle.graph_file.specs.PlanText.{TaskNames, numbers_in, task_names}
+use Rattle.graph_file.specs.declared.draft.Draft.{Draft}
+use Rattle.graph_file.specs.declared.draft.NamedTask.{NamedTask}
 use Rattle.graph_file.specs.Steps.{walk}
 use Rattle.graph_file.specs.inside.Drafts.{AreIds}
 use Rattle.graph_file.specs.inside.Lookups.{HasPlaces, place_in}
-use Rattle.graph_file.specs.inside.Reader.{put_place}
+use Rattle.graph_file.specs.inside.Reader.{draft_rows, named_task, put_place}
 use Rattle.graph_file.proofs.BindLemmas.{each_rest}
 use Rattle.graph_file.proofs.EachLemmas.{walk-put_same}
 use Rattle.graph_file.proofs.NameLemmas.{some_place}
@@ -25,9 +27,17 @@ each-same f g [] same = refl
 each-same f g (x ∷ xs) same = rw (same x, each-same f g xs same) refl
 
 -- what a map finds of names
-pub numbers-found : {S : Type 0} (places : HashMap (Bor (List ℕ)) ℕ S) (all : List (List ℕ)) (e : GraphError) (names : List (List ℕ)) → HasPlaces places all
+pub numbers_found : {S : Type 0} (places : HashMap (Bor (List ℕ)) ℕ S) (all : List (List ℕ)) (e : GraphError) (names : List (List ℕ)) → HasPlaces places all
     → walk (put_place places e) [] names ≡ numbers_in all e names
-numbers-found places all e names has = walk-put_same (place_in places) e names ∙ ap (λ o. ok_or o e) (each-same (place_in places) (λ name. position (bytes_eq name) all) names has)
+numbers_found places all e names has = walk-put_same (place_in places) e names ∙ ap (λ o. ok_or o e) (each-same (place_in places) (λ name. position (bytes_eq name) all) names has)
+
+named-same : (tasks : List NamedTask) → map (λ (task : NamedTask). task.name.now) tasks ≡ map (λ (task : TaskNames). task.name) (map named_task tasks)
+named-same [] = refl
+named-same (task ∷ tasks) = ap (λ names. task.name.now ∷ names) (named-same tasks)
+
+-- the names of the tasks that the code has
+pub names-drafted : (draft : Draft) (tasks : List NamedTask) → tasks ≡ draft.tasks → map (λ (task : NamedTask). task.name.now) tasks ≡ task_names (draft_rows draft)
+names-drafted draft tasks same = ap (map (λ (task : NamedTask). task.name.now)) same ∙ named-same draft.tasks
 
 -- ---- the number of each name
 

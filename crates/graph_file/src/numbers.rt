@@ -57,6 +57,7 @@ fn add_all(
     Ok(())
 }
 
+#[tactic(auto, using(crate::proofs::NumberLemmas::numbers_found))]
 fn add_numbers(
     alloc: Global,
     draft: &Draft<'_>,
