@@ -2,7 +2,7 @@
 use Rattle.std.proofs.Common.{◌≡◌, ◌≢◌, ℕ, zero, suc, ◌+◌, ◌<◌, List, [], ◌∷◌, ◌++◌, length, map, take, drop, get_or, None, Some, All, refl, sym, subst, ap, ◌∙◌, append_assoc, arith}
 use Rattle.std.specs.Option.{option_or}
 use Rattle.std.proofs.lemmas.Option.{none-some}
-use Rattle.std.proofs.lemmas.List.{append-nil, get_or-map, length-map}
+use Rattle.std.proofs.lemmas.List.{append-nil, get_or-map, length-map, length-take-le}
 use Rattle.task_graph.specs.NetRows.{NetRows}
 use Rattle.task_graph.specs.NetBuilder.{with_task, settled, first_unknown, least_repeated, repeated_semaphore, unknown_semaphore, AddsTask, RefusesTask}
 use Rattle.task_graph.specs.declared.builder.BuildError.{BuildError}
@@ -13,7 +13,7 @@ use Rattle.graph_plans.specs.declared.ops.Op.{Op}
 use Rattle.graph_file.specs.declared.nets.Edge.{Edge}
 use Rattle.graph_file.specs.declared.numbers.TaskNumbers.{TaskNumbers}
 use Rattle.graph_file.specs.PlanText.{edge_to, edges_from, task_row, task_rows}
-use Rattle.graph_file.specs.inside.Drafts.{AreIds, IsAmong, edge_row}
+use Rattle.graph_file.specs.inside.Drafts.{AreIds, IsAmong, NamesOnce, edge_row, net_with}
 use Rattle.graph_file.proofs.SettledLemmas.{none-twice, none-unknown}
 
 -- ---- a task of lists that name semaphores of the net, none twice
@@ -64,3 +64,31 @@ pub among-at : (tasks : ℕ) (edges : List Edge) (i : ℕ) (d : Edge) → i < le
 among-at tasks edges i d within all =
     let long : i < length (map edge_row edges) = rw (length-map edges edge_row) within in
     subst (IsAmong tasks) (get_or-map edge_row edges i d (edge_row d) within) (all i (edge_row d) long)
+
+-- ---- while the tasks are added
+
+pub rows-before : (sems : ℕ) (ops : List Op) (tasks : List TaskNumbers) (n : ℕ) → n < length ops → length tasks ≡ length ops → length (task_rows sems (take n ops) (take n tasks)) ≡ n
+rows-before sems ops tasks n within each =
+    let first : length (take n ops) ≡ n = length-take-le n ops (omega (arith, within)) in
+    let second : length (take n tasks) ≡ n = length-take-le n tasks (omega (arith, within, each)) in
+    task_rows-length sems (take n ops) (take n tasks) (second ∙ sym first) ∙ first
+
+pub units-at : (count : ℕ) (tasks : List TaskNumbers) (i : ℕ) (task : TaskNumbers) → i < length tasks → task ≡ get_or tasks i task → All (NamesOnce count) tasks → NamesOnce count task
+units-at count tasks i task within is all = subst (NamesOnce count) (sym is) (all i task within)
+
+pub net_with-more : (sems : List ℕ) (ops : List Op) (tasks : List TaskNumbers) (n : ℕ) (op : Op) (task : TaskNumbers) (old new : NetRows) → n < length ops → length tasks ≡ length ops → op ≡ get_or ops n op → task ≡ get_or tasks n task
+    → old ≡ net_with sems (take n ops) (take n tasks) [] → new ≡ with_task old (task_row (length old.sems) op task) → new ≡ net_with sems (take (n + 1) ops) (take (n + 1) tasks) []
+net_with-more sems ops tasks n op task old new within each is_op is_task so_far added =
+    let number : n + 1 ≡ suc n = omega arith in
+    let at_op : get_or ops n op ≡ op = sym is_op in
+    let at_task : get_or tasks n task ≡ task = sym is_task in
+    added ∙ rw (so_far, number, task_rows-more (length sems) ops tasks n op task within (omega (arith, within, each)), at_op, at_task) refl
+
+-- the edges of one task more
+pub edges-more : (tasks : List TaskNumbers) (i : ℕ) (task : TaskNumbers) (old : List EdgeRow) → i < length tasks → task ≡ get_or tasks i task → old ≡ edges_from 0 (take i tasks)
+    → old ++ map (edge_to i) task.to ≡ edges_from 0 (take (i + 1) tasks)
+edges-more tasks i task old within is so_far =
+    let number : i + 1 ≡ suc i = omega arith in
+    let here : 0 + i ≡ i = omega arith in
+    let at_task : get_or tasks i task ≡ task = sym is in
+    rw (number, edges_from-more 0 tasks i task within, here, at_task, so_far) refl

@@ -13,7 +13,7 @@ use Rattle.task_graph.specs.declared.net.TaskRow.{TaskRow}
 use Rattle.task_graph.proofs.SemaphoreLemmas.{settled-fits}
 use Rattle.graph_plans.specs.declared.ops.Op.{Op}
 use Rattle.graph_plans.specs.Operations.{shape_of}
-use Rattle.graph_plans.specs.PlanRows.{AllDiffer, IsPlan, PlanRows, file_edge_limit, file_semaphore_limit, file_task_limit, maximum_limit, text_count_limit}
+use Rattle.graph_plans.specs.PlanRows.{AllDiffer, GraphRows, IsPlan, PlanRows, file_edge_limit, file_semaphore_limit, file_task_limit, maximum_limit, text_count_limit}
 use Rattle.graph_file.specs.declared.refusals.GraphError.{GraphError}
 use Rattle.graph_file.specs.declared.refusals.GraphError.TheVariants.{NoSuchName, Repeated, TooMany}
 use Rattle.graph_file.specs.declared.refusals.Kind.TheVariants.{Tasks, Edges, Semaphores, Texts}
@@ -22,8 +22,7 @@ use Rattle.graph_file.specs.Contents.{each}
 use Rattle.graph_file.specs.Fields.{sem_spot, task_spot}
 use Rattle.graph_file.specs.PlanText.{DraftRows, PlanText, TaskNames, add_name, add_numbers, add_task_name, draft_in, edge_to, edges_from, json_in, numbers_in, plan_in, plan_of, plan_with, puts_field, takes_field, task_names, task_row, task_rows, within_limits}
 use Rattle.graph_file.specs.Steps.{passed, walk}
-use Rattle.graph_file.specs.declared.nets.Edge.{Edge}
-use Rattle.graph_file.specs.inside.Drafts.{AreIds, IsAmong, IsDraft, IsMaximum, NamesOnce, edge_row, edge_rows, net_with}
+use Rattle.graph_file.specs.inside.Drafts.{AreIds, IsAmong, IsDraft, IsMaximum, NamesOnce, net_with, plan_around}
 use Rattle.graph_file.proofs.BindLemmas.{bind_ok, ok_or_ok, passed-ok}
 use Rattle.graph_file.proofs.DraftLemmas.{AllDiffer-push, IsDraft-of}
 use Rattle.graph_file.proofs.FineLemmas.{draft_in-made}
@@ -304,3 +303,9 @@ IsPlan-read bytes plan is =
     bind_ok (draft_in d) plan_of plan after (λ draft read_ planned.
     let all = IsPlanned-of draft plan planned in
     subst IsPlan all.is (IsPlan-with draft plan (IsDraft-read d draft read_) all)))
+
+-- ---- the plan, as the code has it
+
+pub plan-made : (draft : DraftRows) (net shared : NetRows) (name : List ℕ) (names sem_names : List (List ℕ)) (modules : List GraphRows) → name ≡ [] → names ≡ task_names draft → sem_names ≡ draft.sem_names → shared ≡ net → modules ≡ []
+    → plan_around draft net ≡ record { top = record { name = name; names = names; ops = draft.ops; sem_names = sem_names; net = shared }; modules = modules; texts = draft.texts }
+plan-made draft net shared name names sem_names modules no_name named sems same none = rw (no_name, named, sems, same, none) refl

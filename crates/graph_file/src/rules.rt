@@ -1,9 +1,9 @@
 // A file's semaphores and tasks taken together: names looked up, and limits.
-ghost use Rattle.std.specs.Prelude.{◌≡◌, IfOk, length, [], map};
-ghost use Rattle.graph_file.specs.PlanText.{edges_from, plan_of, within_limits};
+ghost use Rattle.std.specs.Prelude.{◌≡◌, IfOk, map};
+ghost use Rattle.graph_file.specs.PlanText.{plan_of, within_limits};
 ghost use Rattle.graph_plans.specs.PlanRows.{plan_rows};
-ghost use Rattle.graph_file.specs.inside.Drafts.{IsDraft, edge_rows, plan_around};
-ghost use Rattle.graph_file.specs.inside.Reader.{Leads, Reads, ReadsAs, draft_rows, strings};
+ghost use Rattle.graph_file.specs.inside.Drafts.{IsDraft, plan_around};
+ghost use Rattle.graph_file.specs.inside.Reader.{Reads, ReadsAs, draft_rows, strings};
 
 use crate::draft::{Draft, NamedTask};
 use crate::lookups::names_of_tasks;
@@ -34,11 +34,13 @@ pub(crate) fn plan_of(alloc: Global, draft: Draft<'_>) -> Result<Plan, GraphErro
     let Ok(net) = Arc::new(alloc, net) else {
         return Err(GraphError::NoMemory);
     };
+    let names = task_names(alloc, draft.tasks.as_slice())?;
+    let sem_names = copied_names(alloc, draft.sem_names.as_slice())?;
     let top = Graph {
         name: List::new(alloc),
-        names: copied_names(alloc, names_of_tasks(alloc, draft.tasks.as_slice())?.as_slice())?,
+        names,
         ops: draft.ops,
-        sem_names: copied_names(alloc, draft.sem_names.as_slice())?,
+        sem_names,
         net,
     };
     Ok(Plan {
@@ -46,6 +48,13 @@ pub(crate) fn plan_of(alloc: Global, draft: Draft<'_>) -> Result<Plan, GraphErro
         modules: List::new(alloc),
         texts: draft.texts,
     })
+}
+
+fn task_names(alloc: Global, tasks: &[NamedTask<'_>]) -> Result<List<Bytes>, NoMemory>
+    ensures { IfOk result (λ names. names ≡ map (λ task. task.name.now) tasks.now) }
+{
+    let names = names_of_tasks(alloc, tasks)?;
+    copied_names(alloc, names.as_slice())
 }
 
 fn copied_names(alloc: Global, names: &[&str]) -> Result<List<Bytes>, NoMemory>
