@@ -36,7 +36,8 @@ pub(crate) fn read_file<'v>(alloc: Global, file: &'v Value) -> Result<Draft<'v>,
 }
 
 fn empty_draft<'v>(alloc: Global, version: u64) -> Draft<'v>
-    ensures { draft_rows result ≡ empty_draft version }
+    ensures draft { draft_rows result ≡ empty_draft version }
+    ensures texts { result.texts ≡ [] }
 {
     Draft {
         version,

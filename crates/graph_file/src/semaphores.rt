@@ -26,8 +26,9 @@ pub(crate) fn read_semaphores<'v>(
     sems: &'v [Value],
     draft: &mut Draft<'v>,
 ) -> Result<(), GraphError>
-    ensures { Leads result (draft_rows draft.new)
+    ensures draft { Leads result (draft_rows draft.new)
         (walk add_semaphore (draft_rows draft.old) (map view sems.now)) }
+    ensures texts { OnOk result (draft.new.texts ≡ draft.old.texts) }
 {
     for sem in sems {
         read_semaphore(alloc, sem, draft)?;
@@ -41,8 +42,9 @@ fn read_semaphore<'v>(
     sem: &'v Value,
     draft: &mut Draft<'v>,
 ) -> Result<(), GraphError>
-    ensures { Leads result (draft_rows draft.new)
+    ensures draft { Leads result (draft_rows draft.new)
         (add_semaphore (draft_rows draft.old) (view sem.now)) }
+    ensures texts { OnOk result (draft.new.texts ≡ draft.old.texts) }
 {
     let spot = sem_spot(draft.sem_names.len());
     let name = read_name(alloc, spot, sem)?;
