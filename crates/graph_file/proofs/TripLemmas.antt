@@ -118,8 +118,8 @@ tasks-kept draft plan n texts (task ∷ tasks) (m ∷ numbers) fine all named se
     let others = tasks-kept draft plan (suc n) (mentioned texts task.op) tasks numbers fine.1 all.1 named sem_named
     (λ t more. leads t (omega (arith, more)) ∙ from_other t n m.to (edges_from (suc n) numbers) (λ same. absurd (omega (arith, more, same)))) mentions few in
     let to : to_of plan n ≡ task.names.to =
-        ap (map (λ (e : EdgeRow). get_or plan.top.names e.to [])) (leads n (omega arith) ∙ from_here n m numbers) ∙ ends-called plan.top.names n m.to
-        ∙ ap (λ names. map (called names) m.to) named ∙ called-numbers (task_names draft) task.names.to m.to all.0.to in
+    ap (map (λ (e : EdgeRow). get_or plan.top.names e.to [])) (leads n (omega arith) ∙ from_here n m numbers) ∙ ends-called plan.top.names n m.to
+    ∙ ap (λ names. map (called names) m.to) named ∙ called-numbers (task_names draft) task.names.to m.to all.0.to in
     rw (op-kept plan.texts texts task.op fine.0.op extends few, to, sem_named) (ap (λ ds. task_text_data (record { names = settled_names draft task.names m; op = task.op }) ∷ ds) others)
 
 sems-kept : (sems : List SemText) → sems_from (names_of_sems sems) (maxima_of sems) ≡ map sem_text_data sems

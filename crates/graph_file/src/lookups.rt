@@ -38,7 +38,11 @@ pub(crate) fn names_of_tasks<'v>(
 }
 
 /// Keeps a name's first place, and says whether this is the first one.
-pub(crate) fn keep_place<'n>(places: &mut Places<'n>, name: &'n [u8], place: usize) -> Result<bool, NoMemory>
+pub(crate) fn keep_place<'n>(
+    places: &mut Places<'n>,
+    name: &'n [u8],
+    place: usize,
+) -> Result<bool, NoMemory>
     ensures new { IfOk result (λ new. new ≡ is_none (place_in places.old name.now)) }
     ensures kept { OnOk result (KeepsPlace places.old name.now place places.new) }
 {

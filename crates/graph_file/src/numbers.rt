@@ -32,7 +32,14 @@ pub(crate) fn numbers_of(alloc: Global, draft: &Draft<'_>) -> Result<List<TaskNu
     let tasks = places_of(alloc, names.as_slice())?;
     let sems = places_of(alloc, draft.sem_names.as_slice())?;
     let mut numbers = List::with_room(alloc, draft.tasks.len())?;
-    add_all(alloc, draft, &tasks, &sems, draft.tasks.as_slice(), &mut numbers)?;
+    add_all(
+        alloc,
+        draft,
+        &tasks,
+        &sems,
+        draft.tasks.as_slice(),
+        &mut numbers,
+    )?;
     Ok(numbers)
 }
 
@@ -73,8 +80,20 @@ fn add_numbers(
 {
     let spot = task_spot(numbers.len());
     let to = found_in(alloc, tasks, spot, "to", named.to.as_slice())?;
-    let takes = found_in(alloc, sems, spot, takes_field(draft.version), named.takes.as_slice())?;
-    let puts = found_in(alloc, sems, spot, puts_field(draft.version), named.puts.as_slice())?;
+    let takes = found_in(
+        alloc,
+        sems,
+        spot,
+        takes_field(draft.version),
+        named.takes.as_slice(),
+    )?;
+    let puts = found_in(
+        alloc,
+        sems,
+        spot,
+        puts_field(draft.version),
+        named.puts.as_slice(),
+    )?;
     numbers.push(TaskNumbers { to, takes, puts })?;
     Ok(())
 }

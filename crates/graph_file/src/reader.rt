@@ -6,9 +6,9 @@ ghost use Rattle.graph_plans.specs.PlanRows.{IsPlan, plan_rows};
 ghost use Rattle.graph_file.specs.PlanText.{IsRefused, PlanText, json_in, read_plan};
 ghost use Rattle.graph_file.specs.inside.Reader.{ReadsAs};
 
+use crate::file::read_file;
 use crate::refusals::GraphError;
 use crate::rules::plan_of;
-use crate::file::read_file;
 use graph_plans::Plan;
 use serde_json::{Category, Error, Value};
 use std::alloc::Global;

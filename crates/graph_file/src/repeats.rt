@@ -28,7 +28,11 @@ pub(crate) fn check_semaphores(alloc: Global, names: &[&str]) -> Result<(), Grap
 }
 
 /// That no task has the name of an earlier one, or a semaphore twice in a list.
-pub(crate) fn check_tasks(alloc: Global, version: u64, tasks: &[NamedTask<'_>]) -> Result<(), GraphError>
+pub(crate) fn check_tasks(
+    alloc: Global,
+    version: u64,
+    tasks: &[NamedTask<'_>],
+) -> Result<(), GraphError>
     ensures { Leads result (map (λ task. task.name.now) tasks.now)
         (walk (add_task_name version) [] (map named_task tasks.now)) }
 {

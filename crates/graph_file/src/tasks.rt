@@ -104,7 +104,13 @@ fn check_task_fields(
     ensures { Reads result (only (task_fields version ++ map (λ s. s.now) own.now) spot
         (view task.now)) }
 {
-    let fields = &["name", "op", "to", takes_field(version), puts_field(version)];
+    let fields = &[
+        "name",
+        "op",
+        "to",
+        takes_field(version),
+        puts_field(version),
+    ];
     check_fields(alloc, spot, task, fields, own)
 }
 

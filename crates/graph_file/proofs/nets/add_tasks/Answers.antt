@@ -8,7 +8,7 @@ pub add_task-requires-clause-room : goal.add_task-requires-clause-room
 add_task-requires-clause-room c =
     let sems = length c.args.builder.now.sems in
     let rows : length c.loop-number.builder.tasks ≡ c.loop-number.number =
-        ap (λ (net : NetRows). length net.tasks) c.loop-number.invariant ∙ rows-before sems c.args.ops.now c.args.tasks.now c.loop-number.number c.loop-number-test.true c.requires.each in
+    ap (λ (net : NetRows). length net.tasks) c.loop-number.invariant ∙ rows-before sems c.args.ops.now c.args.tasks.now c.loop-number.number c.loop-number-test.true c.requires.each in
     omega (arith, rows, c.loop-number-test.true, c.requires.room)
 
 pub add_task-requires-clause-units : goal.add_task-requires-clause-units

@@ -13,5 +13,5 @@ add_edges-requires-clause-tasks c =
     let ops = c.as_slice-2.result.now in
     let shown : length ops ≡ length c.args.draft.now.ops = ap length c.as_slice-2.ensures in
     let rows : length c.add_tasks.new.builder.tasks ≡ length ops =
-        ap (λ (net : NetRows). length net.tasks) c.in_ok-add_tasks.ensures ∙ task_rows-length (length c.add_semaphores.new.builder.sems) ops c.args.tasks.now (c.requires.each ∙ sym shown) in
+    ap (λ (net : NetRows). length net.tasks) c.in_ok-add_tasks.ensures ∙ task_rows-length (length c.add_semaphores.new.builder.sems) ops c.args.tasks.now (c.requires.each ∙ sym shown) in
     (rows ∙ shown ∙ sym c.requires.each, omega (arith, c.requires.each, c.requires.tasks))

@@ -13,6 +13,6 @@ loop-sem-preserved c =
     let name = c.index-names-sem.result in
     let old = c.loop-sem.values.items in
     let written : view c.in_ok-sem_value.field-0 ≡ sem_data (get_or names i []) (get_or maxima i 0) =
-        c.in_ok-sem_value.ensures ∙ ap (λ n. sem_data n (get_or maxima i 0)) (c.index-names-sem.is ∙ get_or_default names i name [] c.loop-sem-test.true) in
+    c.in_ok-sem_value.ensures ∙ ap (λ n. sem_data n (get_or maxima i 0)) (c.index-names-sem.is ∙ get_or_default names i name [] c.loop-sem-test.true) in
     ap (map view) c.in_ok-push.ensures.items ∙ map-append view old (c.in_ok-sem_value.field-0 ∷ [])
     ∙ sems-more names maxima i (map view old) (view c.in_ok-sem_value.field-0) c.loop-sem-test.true c.requires.each written c.loop-sem.invariant
