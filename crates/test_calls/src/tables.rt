@@ -1,11 +1,18 @@
 // The calls of all tables.
 use crate::calls::{Table, first_difference};
-use crate::{bad_graphs, check_calls, faults, judge_calls, lengths, operations, runs, words};
+use crate::{
+    bad_graphs, check_calls, faults, judge_calls, lengths, operations, runs, semaphore_calls,
+    upgrade_calls, words,
+};
 use std::test::Fail;
 
 #[test]
 fn runs_answer_as_their_tables_say(rt: HostRuntime) -> Result<(), Fail> {
-    let tables: [&[Table]; 2] = [&runs::TABLES, &operations::TABLES];
+    let tables: [&[Table]; 3] = [
+        &runs::TABLES,
+        &operations::TABLES,
+        &semaphore_calls::TABLES,
+    ];
     for table in tables {
         assert_eq!(rt; first_difference(&rt, rt.alloc(), table)?.as_str(), "");
     }
@@ -14,8 +21,9 @@ fn runs_answer_as_their_tables_say(rt: HostRuntime) -> Result<(), Fail> {
 
 #[test]
 fn other_calls_answer_as_their_tables_say(rt: HostRuntime) -> Result<(), Fail> {
-    let tables: [&[Table]; 6] = [
+    let tables: [&[Table]; 7] = [
         &check_calls::TABLES,
+        &upgrade_calls::TABLES,
         &judge_calls::TABLES,
         &faults::TABLES,
         &bad_graphs::TABLES,
