@@ -16,7 +16,7 @@ pub const TABLES: [Table; 1] = [Table {
 {"tasks":[],"semaphores":[{"name":"s"}]} -> bad field max in semaphore 0
 {"tasks":[],"semaphores":[{"name":"s","max":1},{"name":"u","max":0}]} -> bad field max in semaphore 1
 {"tasks":[],"semaphores":[{"name":"s","max":1000001}]} -> bad field max in semaphore 0
-{"tasks":[7],"semaphores":[{"name":"s","max":1,"min":0}]} -> bad field min in semaphore 0
+{"tasks":[{}],"semaphores":[{"name":"s","max":1,"min":0}]} -> bad field min in semaphore 0
 {"tasks":[],"semaphores":[{"name":"s","max":1},{"name":"s","max":2}]} -> repeated name in name of semaphore 1
 {"tasks":[{"name":"a","op":"input","holds":["u"]}],"semaphores":[{"name":"s","max":1}]} -> no such name in holds of task 0
 {"tasks":[{"name":"a","op":"input","holds":["s","s"]}],"semaphores":[{"name":"s","max":1}]} -> repeated name in holds of task 0
