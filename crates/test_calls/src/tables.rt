@@ -8,11 +8,7 @@ use std::test::Fail;
 
 #[test]
 fn runs_answer_as_their_tables_say(rt: HostRuntime) -> Result<(), Fail> {
-    let tables: [&[Table]; 3] = [
-        &runs::TABLES,
-        &operations::TABLES,
-        &semaphore_calls::TABLES,
-    ];
+    let tables: [&[Table]; 3] = [&runs::TABLES, &operations::TABLES, &semaphore_calls::TABLES];
     for table in tables {
         assert_eq!(rt; first_difference(&rt, rt.alloc(), table)?.as_str(), "");
     }
