@@ -4,12 +4,12 @@
     judged_journals.py PROGRAM [--count N | --seconds N] [--seed N]
 
 Runs each of the examples and random graphs, half of them with semaphores, with `--journal`, and judges each journal:
-that of a run that was kept must be complete, with the first line of either version. Then one line at a time is changed:
-two neighbours exchanged, a line left out or put twice, a number made another, a word made another. What the judge says of
-it is compared with a slow judge, which is written here from the rules alone, and with the slow reading of a line by a
-regular expression. With `--seconds` graphs are made until so many seconds have passed or there is a difference. Prints a
-line for each difference and how many journals were judged and what was said, and ends with status 1 where there was a
-difference.
+that of a run that was kept must be complete, with the first line of either version (in version 1 an over-release and a
+drop for want of a unit have no line). Then one line at a time is changed: two neighbours exchanged, a line left out or
+put twice, a number made another, a word made another. What the judge says of it is compared with a slow judge, which is
+written here from the rules alone, and with the slow reading of a line by a regular expression. With `--seconds` graphs
+are made until so many seconds have passed or there is a difference. Prints a line for each difference and how many
+journals were judged and what was said, and ends with status 1 where there was a difference.
 """
 import argparse
 import json
@@ -33,6 +33,8 @@ LINES = [
     (f"drop ({NUMBER}) ({CAUSE}) (halted|limit|stuck:{NUMBER})", "drop"),
 ]
 VERSIONS = ("flow journal 1", "flow journal 2")
+# What version 1 has no lines for.
+UNITS = re.compile("over:|stuck:")
 
 # The most starts of a run: the slow judge takes a time that grows with the square of a journal's length.
 LIMIT = 30
@@ -76,7 +78,7 @@ def read_slowly(text):
     entries = []
     for number, line in enumerate(lines[1:-1], 2):
         entry = entry_of(line)
-        if entry is None or (lines[0] == VERSIONS[0] and re.search("over:|stuck:", line)):
+        if entry is None or (lines[0] == VERSIONS[0] and UNITS.search(line)):
             return number
         entries.append(entry)
     return entries if lines[-1] == "" else len(lines)
@@ -267,8 +269,8 @@ WORDS = ("plain", "inner", "strong", "source", "weak:0", "start", "end", "fault"
 
 
 def in_version(dice, text):
-    """The journal with the first line of a version."""
-    return dice.choice(VERSIONS) + text[text.index("\n"):]
+    """The journal with the first line of a version that has it."""
+    return dice.choice(VERSIONS[1:] if UNITS.search(text) else VERSIONS) + text[text.index("\n"):]
 
 
 def changed(dice, text):
@@ -334,12 +336,14 @@ def hold(program, folder, graph, dice, what, seen):
     code, text, notes = call(program, folder, "run", "graph.json", "--journal", "--limit", str(LIMIT))
     if code not in (0, 8, 9, 10):
         return seen.say("graphs that aren't run")
+    net = Net(graph)
     for version in VERSIONS:
-        told = judged(program, folder, version + text[text.index("\n"):])
-        if told != (0, "complete\n", ""):
+        journal = version + text[text.index("\n"):]
+        told = judged(program, folder, journal)
+        wanted = judged_slowly(net, LIMIT, journal) if version == VERSIONS[0] and UNITS.search(text) else (0, "complete\n", "")
+        if told != wanted:
             seen.fault(f"{what}: the journal of a run is judged as {told}\n{text}")
     seen.say("journals of runs, complete")
-    net = Net(graph)
     for _ in range(6):
         other = changed(dice, in_version(dice, text))
         found = judged(program, folder, other)
