@@ -335,6 +335,28 @@ uses_units 'a fault while a task waits' 2 \
 uses_units 'a limit while tasks wait' 1 \
     "$(read_to r '"k1","k2","k3"'),$(task k1 pass '"to":["z"],"holds":["s"]'),$(task k2 pass '"to":["z"],"holds":["s"]'),$(task k3 pass '"to":["z"],"holds":["s"]'),$(task z count)" \
     8 '-- z\n!! limit 2\n' 'flow: limit 2\n' 2
+# Many tasks behind one: three take the units that there are, and the others wait for them in vain; or all hold one of them
+# in turn.
+wanted() {
+    local field=$1 k
+    for k in $(seq 500); do task "k$k" pass "\"$field\":[\"s\"]"; done | paste -sd ,
+}
+names=$(seq 500 | sed 's/.*/"k&"/' | paste -sd ,)
+for workers in 1 4 16; do
+    echo "{\"version\":2,\"tasks\":[$(read_to r "$names"),$(wanted acquire)],\"semaphores\":[{\"name\":\"s\",\"max\":3}]}" >graph.json
+    call run graph.json --workers "$workers" --journal
+    cp "$seen/out" journal.txt
+    cases=$((cases + 1))
+    [[ $(cat "$seen/code") == 10 && $(grep -c '^drop .* strong stuck:0$' journal.txt) == 497 && $(grep -c '^end ' journal.txt) == 4 ]] ||
+        fault "of 500 tasks that want three units not three get them by $workers workers"
+    echo complete >"$seen/wanted_out"
+    call judge graph.json journal.txt
+    compare "the judgement of 500 tasks that want three units by $workers workers" 0 "$seen/wanted_out" /dev/null
+    echo "{\"tasks\":[$(read_to r "$names"),$(wanted holds)],\"semaphores\":[{\"name\":\"s\",\"max\":3}]}" >graph.json
+    seq 500 | sed 's/.*/== k&\nx/' >"$seen/wanted_out"
+    call run graph.json --workers "$workers"
+    compare "500 tasks that hold one of three units by $workers workers" 0 "$seen/wanted_out" /dev/null
+done
 # That a run got stuck is told though its report can't be written.
 echo '{"version":2,"tasks":['"$reads_and_takes,$(task b pass '"acquire":["s"]')"'],"semaphores":[{"name":"s","max":1}]}' >graph.json
 code=0

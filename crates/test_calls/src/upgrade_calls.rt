@@ -23,6 +23,7 @@ const UNITS: Table = Table {
 "version":1, -> "holds":["u"] -> "u" -> "u"
 "version":2, -> "acquire":["u","s"],"release":["u"] -> "s","u" -> "u"
 "version":2, -> "release":["u","s"] ->  -> "s","u"
+"version":3,"version":2, -> "acquire":["s"] -> "s" -> 
 "version":2, -> "to":[] ->  -> "#,
 };
 
