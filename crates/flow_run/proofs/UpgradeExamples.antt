@@ -1,12 +1,12 @@
 -- What an upgrade of a graph file comes to, how it ends and what it writes, computed on a graph file `g` of one byte.
-use Rattle.std.proofs.Common.{◌≡◌, ℕ, List, [], ◌∷◌, length, Option, Some, None, Ok, false, inl, inr, refl, sym, ap, subst, ◌∙◌, arith}
+use Rattle.std.proofs.Common.{◌≡◌, ℕ, ◌+◌, List, [], ◌∷◌, length, Option, Some, None, false, inl, inr, refl, sym, ap, subst, ◌∙◌, arith}
 use Rattle.std.specs.Prelude.{bytes_eq, if◌then◌else◌}
 use Rattle.graph_plans.specs.PlanRows.{PlanRows}
 use Rattle.graph_plans.specs.declared.spots.Spot.TheVariants.{File}
 use Rattle.graph_file.specs.declared.refusals.GraphError.TheVariants.{NotJson}
 use Rattle.graph_file.specs.PlanText.{PlanText}
 use Rattle.graph_file.specs.WrittenPlan.{plan_text}
-use Rattle.call_status.specs.declared.status.Status.TheVariants.{Done, NoText, NoMemory, WriteFault}
+use Rattle.call_status.specs.declared.status.Status.TheVariants.{Done, NoText, WriteFault}
 use Rattle.call_status.specs.declared.status.Status.TheVariants as status
 use Rattle.call_status.specs.declared.stop.Stop.{Stop}
 use Rattle.call_status.specs.declared.stop.Stop.TheVariants as stop
