@@ -1,13 +1,13 @@
 -- A run of a graph without conditions reports what one thread does, and is done exactly where that runs through.
-use Rattle.std.proofs.Common.{append-nil, ◌≡◌, ◌≢◌, ◌⊎◌, inl, inr, ℕ, ◌≤◌, Bool, true, false, List, [], ◌∷◌, ◌++◌, length, Option, Some, None, Ok, refl, sym, ap, ◌∙◌, subst, arith}
-use Rattle.std.specs.Prelude.{All, IfSome, IsSomeAnd}
+use Rattle.std.proofs.Common.{append-nil, ◌≡◌, ◌≢◌, ◌⊎◌, inl, inr, ℕ, ◌≤◌, Bool, false, List, [], ◌∷◌, ◌++◌, length, Option, Some, refl, sym, ap, ◌∙◌, subst}
+use Rattle.std.specs.Prelude.{All, IsSomeAnd}
 use Rattle.std.proofs.lemmas.Option.{none-some, same_Some}
 use Rattle.std.proofs.lemmas.List.Elements.{All-nil, All-cons}
 use Rattle.call_status.specs.declared.status.Status.{Status}
 use Rattle.call_status.specs.declared.status.Status.TheVariants.{Done, ReadFault, WriteFault, NoMemory}
 use Rattle.call_status.specs.declared.stop.Stop.{Stop}
 use Rattle.call_status.specs.declared.stop.Stop.TheVariants as stop
-use Rattle.call_status.specs.Statuses.{status_of, status_after}
+use Rattle.call_status.specs.Statuses.{status_of}
 use Rattle.command_line.specs.Requests.{Asked, asked_by, run, judge, check, upgrade}
 use Rattle.graph_file.proofs.PlanLemmas.{IsPlan-read}
 use Rattle.graph_plans.specs.PlanRows.{PlanRows}
@@ -20,13 +20,12 @@ use Rattle.run_frame.specs.NestedRule.{job_of}
 use Rattle.text_ops.specs.Lines.{normal}
 use Rattle.text_tasks.specs.declared.job.TextJob.{TextJob}
 use Rattle.text_tasks.specs.declared.job.TextJob.TheVariants.{Graph}
-use Rattle.text_tasks.specs.GraphWork.{GraphWork, IsWork, greatest_limit, first_work}
-use Rattle.text_tasks.specs.JobMeaning.{IsTextJob, net_of, text_job}
+use Rattle.text_tasks.specs.JobMeaning.{text_job}
 use Rattle.run_laws.specs.PlainReport.{HasSameReport, IsPlainJob, IsPlanned, RunsWell, plain_report}
 use Rattle.run_laws.proofs.TextPlain.{same_report}
 use Rattle.flow_run.specs.declared.conclusion.Conclusion.{Conclusion}
-use Rattle.flow_run.specs.Requests.{SourceTexts, CanBeRun, HasPlan, IsHeld, IsRequested, IsRequestedJob, IsTextOf, StopsBefore, TextsAre, file_limit, text_limit}
-use Rattle.flow_run.specs.Answers.{CallEnds, IsAfterRun, RanOnce, RunEnds, TextRun, conclusion_text, output_of, run_texts, wants_journal}
+use Rattle.flow_run.specs.Requests.{SourceTexts, CanBeRun, IsHeld, IsRequestedJob, IsTextOf, TextsAre, file_limit, text_limit}
+use Rattle.flow_run.specs.Answers.{CallEnds, IsAfterRun, TextRun, conclusion_text, output_of, run_texts, wants_journal}
 use Rattle.flow_run.specs.Completion.{IsAtHand}
 use Rattle.flow_run.specs.Plainly.{AsksPlainly, IsReportedPlainly}
 use Rattle.flow_run.proofs.Completing.{completes, one_plan}

@@ -3,7 +3,6 @@ use Rattle.std.proofs.Common.{◌≡◌, ℕ, ◌+◌, List, [], ◌∷◌, leng
 use Rattle.std.specs.Prelude.{bytes_eq, if◌then◌else◌}
 use Rattle.graph_plans.specs.PlanRows.{PlanRows}
 use Rattle.graph_plans.specs.declared.spots.Spot.TheVariants.{File}
-use Rattle.graph_file.specs.declared.refusals.GraphError.TheVariants.{NotJson}
 use Rattle.graph_file.specs.PlanText.{PlanText}
 use Rattle.graph_file.specs.WrittenPlan.{plan_text}
 use Rattle.call_status.specs.declared.status.Status.TheVariants.{Done, NoText, WriteFault}

@@ -1,5 +1,5 @@
 -- An upgrade that is done has written a graph file for the same plan.
-use Rattle.std.proofs.Common.{◌≡◌, inl, inr, ℕ, Bool, List, [], ◌++◌, Option, Some, None, sym, ap, ◌∙◌, subst}
+use Rattle.std.proofs.Common.{◌≡◌, inl, inr, ℕ, Bool, List, ◌++◌, Option, Some, sym, ap, ◌∙◌, subst}
 use Rattle.std.proofs.lemmas.Option.{none-some}
 use Rattle.outside_io.specs.Sink.{Took}
 use Rattle.call_status.specs.declared.status.Status.{Status}
@@ -7,9 +7,8 @@ use Rattle.call_status.specs.declared.status.Status.TheVariants.{Done, NoMemory}
 use Rattle.call_status.specs.declared.stop.Stop.{Stop}
 use Rattle.call_status.specs.declared.stop.Stop.TheVariants as stop
 use Rattle.call_status.specs.Statuses.{status_of}
-use Rattle.command_line.specs.Requests.{Asked, asked_by, run, judge, check, upgrade}
+use Rattle.command_line.specs.Requests.{asked_by, run, judge, check, upgrade}
 use Rattle.flow_run.specs.declared.conclusion.Conclusion.{Conclusion}
-use Rattle.flow_run.specs.declared.conclusion.Conclusion.TheVariants.{GraphFile}
 use Rattle.flow_run.specs.Requests.{SourceTexts}
 use Rattle.flow_run.specs.Answers.{TextRun, CallEnds, conclusion_text, output_of, run_texts, wants_journal}
 use Rattle.flow_run.specs.Upgrades.{IsUpgraded, TakesSamePlan}

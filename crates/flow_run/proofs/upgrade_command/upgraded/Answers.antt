@@ -1,4 +1,4 @@
-use Rattle.std.proofs.Common.{subst, refl}
+use Rattle.std.proofs.Common.{subst}
 use Rattle.graph_file.specs.PlanText.{PlanText}
 use Rattle.graph_plans.specs.PlanRows.{plan_rows}
 use Rattle.flow_run.proofs.upgrade_command.upgraded.Goals as goal
