@@ -140,7 +140,7 @@ const FAULT_OF_A_HOLDER: Table = Table {
     "semaphores":[{"name":"s","max":1}]}"#,
     call: CALL,
     rows: "run g --workers * -> x| -> - -> 0 written, run of 6 [== c|2|] []
-run g --workers * -> HALF -> - -> 9 written, run of 4 [-- c|!! fault b: long 18874368|] [flow: fault b: long 18874368|]",
+run g -> HALF -> - -> 9 written, run of 4 [-- c|!! fault b: long 18874368|] [flow: fault b: long 18874368|]",
 };
 
 // A loop that takes a unit in each round and gives it back: one unit is enough, and without the second task it runs

@@ -8,10 +8,17 @@ use std::test::Fail;
 
 #[test]
 fn runs_answer_as_their_tables_say(rt: HostRuntime) -> Result<(), Fail> {
-    let tables: [&[Table]; 3] = [&runs::TABLES, &operations::TABLES, &semaphore_calls::TABLES];
+    let tables: [&[Table]; 2] = [&runs::TABLES, &operations::TABLES];
     for table in tables {
         assert_eq!(rt; first_difference(&rt, rt.alloc(), table)?.as_str(), "");
     }
+    Ok(())
+}
+
+#[test]
+fn calls_with_semaphores_answer_as_their_tables_say(rt: HostRuntime) -> Result<(), Fail> {
+    let difference = first_difference(&rt, rt.alloc(), &semaphore_calls::TABLES)?;
+    assert_eq!(rt; difference.as_str(), "");
     Ok(())
 }
 
