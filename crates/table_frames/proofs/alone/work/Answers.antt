@@ -1,4 +1,4 @@
-use Rattle.std.proofs.Common.{rules, ◌≡◌, ◌+◌, ◌≤◌, length, vec_capacity, vec_len, sym, ap, ◌∙◌, subst, arith}
+use Rattle.std.proofs.Common.{rules, ℕ, ◌≡◌, ◌+◌, ◌≤◌, length, vec_capacity, vec_len, sym, ap, ◌∙◌, subst, arith}
 use Rattle.std.specs.Prelude.{All}
 use Rattle.join_tables.specs.States.{FreshState, TableState}
 use Rattle.semaphore_park.specs.Parking.{YardKey}
@@ -9,7 +9,12 @@ use Rattle.table_frames.proofs.Settling.{added_of, woken_of}
 use Rattle.table_frames.proofs.alone.work.Goals as goal
 
 pub wake_turns-requires-clause-room : goal.wake_turns-requires-clause-room
-wake_turns-requires-clause-room g c = omega (arith, c.conclude-spent.ensures.few, c.conclude-spent.ensures.capacity, c.in_ok-reserve.ensures.capacity, c.in_ok-reserve.ensures.len, c.room.ensures.room)
+wake_turns-requires-clause-room g c =
+    let x : ℕ = c.in_ok-reserve.ensures.capacity in
+    let y : ℕ = c.in_ok-reserve.ensures.full in
+    let z : ℕ = c.in_ok-reserve.ensures.succeeds in
+    let k : ℕ = c.reserve.ensures.len in
+    omega (arith, c.conclude-spent.ensures.few, c.conclude-spent.ensures.capacity, c.in_ok-reserve.ensures.capacity, c.in_ok-reserve.ensures.len, c.room.ensures.room)
 
 pub returns : goal.returns
 returns g c =
