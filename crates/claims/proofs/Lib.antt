@@ -14,3 +14,4 @@ pub mod WorkedTurns
 pub mod WorkedEndValues
 pub mod WorkedEntries
 pub mod WorkedMachine
+pub mod WorkedUnitTurns

@@ -7,5 +7,4 @@ pub mod Keeping
 pub mod Making
 pub mod Handing
 pub mod Concluding
-pub mod Settling
 pub mod Crossing

@@ -7,4 +7,3 @@ pub mod ReleaseRooms
 pub mod AttemptEnds
 pub mod Begins
 pub mod Rows
-pub mod Benches

@@ -32,10 +32,5 @@ run g --limit 1 --limit 1
 check
 check g g
 check g --limit 1
-check g --journal
-upgrade
-upgrade g g
-upgrade g --workers 4
-upgrade g --journal
-Upgrade g",
+check g --journal",
 }];

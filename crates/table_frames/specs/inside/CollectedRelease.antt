@@ -2,7 +2,6 @@
 use Rattle.std.specs.Prelude.{◌≡◌, [], None}
 use Rattle.atomic_table.specs.Seated.{TableId}
 use Rattle.join_tables.specs.States.{FreshState}
-use Rattle.table_frames.specs.Frames.{FrameKey}
 use Rattle.table_frames.specs.inside.Attempts.{IsAgain}
 use Rattle.table_frames.specs.declared.table_run.TakenUp.{TakenUp}
 
@@ -14,9 +13,3 @@ pub record TakesUp {V : Type 0} (n : TableId) (fresh : FreshState) (taken : Take
   pub refused : taken.turn.refused ≡ None
   pub held : taken.turn.held ≡ []
   pub again : IsAgain n fresh.task fresh.cause taken.again
-
--- the same of a frame, whatever units it has
-pub record IsTakenIn {J V : Type 0} (frame : FrameKey J) (taken : TakenUp V) : Type 0 where
-  pub table : taken.turn.table ≡ frame.table
-  pub refused : taken.turn.refused ≡ None
-  pub again : IsAgain frame.table taken.turn.task taken.turn.cause taken.again
