@@ -319,7 +319,7 @@ module _ (n m : TableId) (other : m ≢ n) where
         of_answer answer allowed = absurd (omega (arith, sum_found, allowed.0))
 
     ends_with_an_edge_not_chosen : ¬ IsAllowed flat_sums 2 (Ended (record (ended 10 1) { gives = 0 ∷ [] }))
-    ends_with_an_edge_not_chosen is = let edges : 0 ∷ [] ≡ [] = is.0.chosen ∙ ap (gives_of []) is.0.allowed.1 in absurd (cc)
+    ends_with_an_edge_not_chosen is = let edges : ◌≡◌ {A = List ℕ} (0 ∷ []) [] = is.0.chosen ∙ ap (gives_of []) is.0.allowed.1 in absurd (cc)
 
     ends_with_an_inner_run : ¬ IsAllowed flat_sums 2 (Ended (record (ended 10 1) { inner = true }))
     ends_with_an_inner_run is = let no : true ≡ false = is.1 in absurd (cc)

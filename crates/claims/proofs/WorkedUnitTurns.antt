@@ -1,6 +1,6 @@
 -- What turns do with units of semaphores, on the net of `WorkedTurns`: task 0 takes and puts semaphores 0 and 2, task 1 needs
 -- none, task 2 only takes semaphore 0, and task 3 only puts it. Semaphore 0 has two units, each other one.
-use Rattle.std.proofs.Common.{◌≡◌, ◌≢◌, ℕ, true, false, List, [], ◌∷◌, ◌++◌, length, Option, Some, None, refl, ap, sym, subst, arith}
+use Rattle.std.proofs.Common.{◌≡◌, ◌≢◌, ℕ, true, false, List, [], ◌∷◌, length, Option, Some, None, refl, ap, sym, subst, arith}
 use Rattle.std.specs.Prelude.{All}
 use Rattle.std.specs.Global.{Global}
 use Rattle.std.specs.declared.snapshot.Snapshot.{Snapshot}
@@ -159,7 +159,7 @@ module _ (n m : TableId) (other : m ≢ n) where
         semaphore = record { within = ((omega arith, omega arith), ((omega arith, omega arith), ((omega arith, omega arith), tt))); over = tt };
         halt_limit_stuck = record { dropped = omega arith; after_stuck = λ other. refl };
       },
-      tt,
+      tt
     );
     start = refl;
     over = (refl, (1, omega arith, omega arith, omega arith));
