@@ -1,6 +1,6 @@
 -- What a step comes to.
-use Rattle.std.proofs.Common.{◌≡◌, ℕ, ◌+◌, ◌≤◌, inl, inr, Bool, true, false, ◌||◌, List, [], ◌∷◌, ◌++◌, length, map, Option, Some, None, refl, sym, ap, ◌∙◌, subst, arith, get_or}
-use Rattle.std.specs.Prelude.{All}
+use Rattle.std.proofs.Common.{◌≡◌, ℕ, ◌+◌, ◌≤◌, inl, inr, Bool, true, false, ◌||◌, List, [], ◌∷◌, ◌++◌, length, map, Option, Some, None, Result, Ok, Err, refl, sym, ap, ◌∙◌, subst, arith, get_or}
+use Rattle.std.specs.Prelude.{All, IfOk}
 use Rattle.std.specs.List.{list_any}
 use Rattle.std.specs.declared.snapshot.Snapshot.{Snapshot}
 use Rattle.std.proofs.lemmas.Bool.{false≢true}
@@ -11,7 +11,7 @@ use Rattle.journal_rules.specs.SemaphoreRule.{takes}
 use Rattle.semaphore_turns.specs.Semaphores.{put_by, taken_by}
 use Rattle.semaphore_turns.specs.WaitingTurns.{release_of}
 use Rattle.semaphore_turns.specs.WokenTurns.{ParksTurn, WaitedFor, Wakes}
-use Rattle.semaphore_turns.specs.declared.parks.Parking.TheVariants.{Parked}
+use Rattle.semaphore_turns.specs.declared.parks.Parking.TheVariants.{Parked, Taken}
 use Rattle.task_graph.specs.NetRows.{NetRows}
 use Rattle.atomic_table.specs.Seated.{TableId}
 use Rattle.join_tables.specs.States.{FreshState, TableState, TurnState, fresh_state}
@@ -28,7 +28,8 @@ use Rattle.table_frames.specs.inside.AttemptEnds.{Concludes}
 use Rattle.table_frames.specs.declared.attempt.Attempt.{Attempt}
 use Rattle.table_frames.specs.declared.attempt.Outcome.{Outcome}
 use Rattle.table_frames.specs.declared.attempt.Outcome.TheVariants.{Ends, Faults, Drops}
-use Rattle.table_frames.specs.declared.step_results.State.TheVariants.{Went, Parked as ParkedState}
+use Rattle.table_frames.specs.declared.step_results.State.{State}
+use Rattle.table_frames.specs.declared.step_results.State.TheVariants.{Went, Parked as ParkedState, Inner as InnerState, Closed as ClosedState}
 use Rattle.table_frames.specs.declared.step_results.Stepped.{Stepped}
 use Rattle.table_frames.specs.declared.table_run.Begun.{Begun}
 use Rattle.table_frames.proofs.Handing.{all_in}
@@ -128,6 +129,34 @@ parks_release {J} meaning (frame ∷ around) taken turn old new woken made stepp
       frames = subst (All (λ (next : ReleaseView J). next.frames ≡ frame ∷ around)) (sym released) (all_in (frame ∷ around) made);
       backlog = ap (λ (b : BacklogView J _). b.frames) backlog;
     }
+
+-- a turn that got its units while it was to be parked is the same release
+pub same_release : {J V : Type 0} (meaning : Meaning J V) (frames : List (FrameKey J)) (old turn : TurnState) (before after : List FreshState) → AtFrame frames (λ key. ParksTurn {V = V} (table_in meaning key) old (Taken turn) before after) → release_of turn ≡ release_of old
+same_release meaning [] old turn before after parks = absurd parks
+same_release meaning (frame ∷ around) old turn before after parks = λ k. fresh_state (parks.0.table k) (parks.0.task k) (parks.0.cause k)
+
+-- a step from a backlog with the same fates
+steps_from : {J V : Type 0} (meaning : Meaning J V) (release : ReleaseView J) (old mid new : BacklogView J V) (stepped : Stepped J V) → mid.fates ≡ old.fates → StepsRelease meaning release mid new stepped → StepsRelease meaning release old new stepped
+steps_from {J} {V} meaning release old mid new stepped same steps = record {
+  frame = steps.frame;
+  around = steps.around;
+  frames_are = steps.frames_are;
+  made = steps.made;
+  to = by_state stepped.state steps.to;
+  released = steps.released;
+  frames = steps.frames;
+  backlog = steps.backlog;
+}
+  where
+    by_state : (state : State J V) → StepsTo meaning steps.frame release mid new steps.made state → StepsTo meaning steps.frame release old new steps.made state
+    by_state Went u = record { fate = u.fate; by_end = u.by_end; allowed = u.allowed; journal = u.journal; uses = u.uses; wakes = u.wakes; backlog = u.backlog ∙ ap (λ fs. backlog_view release.frames (fs ++ u.fate ∷ [])) same }
+    by_state (ParkedState turn) p = record { is = p.is; sem = p.sem; waits = p.waits; none = p.none; woken = p.woken; wakes = p.wakes; again = p.again; backlog = p.backlog ∙ ap (backlog_view release.frames) same }
+    by_state InnerState u = absurd u
+    by_state (ClosedState run) u = absurd u
+
+pub ok_steps : {J V E : Type 0} (meaning : Meaning J V) (other release : ReleaseView J) (old mid new : BacklogView J V) (result : Result (Stepped J V) E) → other ≡ release → mid.fates ≡ old.fates → IfOk result (StepsRelease meaning other mid new) → IfOk result (StepsRelease meaning release old new)
+ok_steps meaning other release old mid new (Ok stepped) is same steps = steps_from meaning release old mid new stepped same (subst (λ r. StepsRelease meaning r mid new stepped) is steps)
+ok_steps meaning other release old mid new (Err e) is same steps = tt
 
 pub has_table : {J V : Type 0} (frames : List (FrameKey J)) (taken : TakenUp V) → AtFrame frames (λ key. IsTakenIn key taken) → HasTable frames taken.turn.table
 has_table [] taken is = absurd is

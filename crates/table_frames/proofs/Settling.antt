@@ -1,15 +1,22 @@
 -- What a look at the parked releases of a frame leads to.
-use Rattle.std.proofs.Common.{◌≡◌, ℕ, ◌-◌, ◌<◌, [], ◌∷◌, ◌++◌, length, reverse, List, sym, subst, arith}
+use Rattle.std.proofs.Common.{◌≡◌, ℕ, ◌-◌, ◌<◌, [], ◌∷◌, ◌++◌, length, reverse, List, Option, Some, None, sym, ap, subst, arith}
+use Rattle.std.specs.Prelude.{All}
+use Rattle.std.specs.declared.snapshot.Snapshot.{Snapshot}
+use Rattle.semaphore_turns.specs.Semaphores.{taken_by}
+use Rattle.semaphore_turns.specs.declared.parks.Parking.TheVariants.{Parked}
+use Rattle.table_frames.specs.inside.Attempts.{IsAgain, again_list}
+use Rattle.table_frames.specs.inside.CollectedRelease.{IsTakenIn}
+use Rattle.table_frames.specs.declared.table_run.TakenUp.{TakenUp}
 use Rattle.std.proofs.lemmas.List.{get_or-reverse, length-reverse}
 use Rattle.atomic_table.specs.Seated.{TableId}
 use Rattle.std.specs.List.{AllByRecursion}
-use Rattle.std.proofs.lemmas.List.Elements.{All-append, All-from_recursion, recursion_from_All}
+use Rattle.std.proofs.lemmas.List.Elements.{All-append, All-cons, All-nil, All-from_recursion, recursion_from_All}
 use Rattle.run_frame.specs.Meaning.{Meaning}
 use Rattle.semaphore_turns.specs.Settlements.{AreDrops, Settles}
 use Rattle.semaphore_turns.specs.declared.settlement.Settled.{Settled}
 use Rattle.semaphore_turns.specs.declared.settlement.Settled.TheVariants.{Over}
-use Rattle.join_tables.specs.States.{FreshState, SpentState, TableState}
-use Rattle.semaphore_turns.specs.WokenTurns.{Wakes}
+use Rattle.join_tables.specs.States.{FreshState, SpentState, TableState, TurnState}
+use Rattle.semaphore_turns.specs.WokenTurns.{ParksTurn, Wakes}
 use Rattle.table_frames.specs.inside.Runs.{AreOf}
 use Rattle.table_frames.specs.Frames.{AtFrame, FrameKey, HasTable, table_in}
 
@@ -36,3 +43,17 @@ woken_of table sems before after of wakes =
 pub added_of : (n : TableId) (ready made all : List FreshState) → all ≡ ready ++ reverse made → AreOf n ready → AreOf n made → AreOf n all
 added_of n ready made all is of_ready of_made =
     subst (AreOf n) (sym is) (All-append (λ (f : FreshState). f.table ≡ n) ready (reverse made) of_ready (λ k d below. subst (λ (f : FreshState). f.table ≡ n) (sym (get_or-reverse made k d (omega (arith, below, length-reverse made)))) (of_made (length made - 1 - k) d (omega (arith, below, length-reverse made)))))
+
+-- what is handed out where a release was parked is of the frame
+pub parked_made : {J V : Type 0} (meaning : Meaning J V) (frames : List (FrameKey J)) (taken : TakenUp V) (turn : Snapshot TurnState) (none woken made : List FreshState) → AtFrame frames (λ key. IsTakenIn key taken) → none ≡ [] → AtFrame frames (λ key. ParksTurn {V = V} (table_in meaning key) taken.turn (Parked turn) none woken)
+    → made ≡ woken ++ again_list taken.again → All (λ (f : FreshState). HasTable frames f.table) made
+parked_made meaning [] taken turn none woken made is empty parks made_is = absurd is
+parked_made meaning (frame ∷ around) taken turn none woken made is empty parks made_is =
+    subst (AreOf frame.table) (sym made_is) (All-append (λ (f : FreshState). f.table ≡ frame.table) woken (again_list taken.again) of_woken (of_again taken.again is.again))
+  where
+    of_woken : AreOf frame.table woken
+    of_woken = woken_of (table_in meaning frame) (taken_by (meaning.net frame.job) taken.turn.task) none woken (subst (AreOf frame.table) (sym empty) (All-nil (λ (f : FreshState). f.table ≡ frame.table))) parks.1
+
+    of_again : (again : Option FreshState) → IsAgain frame.table taken.turn.task taken.turn.cause again → AreOf frame.table (again_list again)
+    of_again None a = All-nil (λ (f : FreshState). f.table ≡ frame.table)
+    of_again (Some f) a = All-cons (λ (r : FreshState). r.table ≡ frame.table) f [] (ap (λ (r : FreshState). r.table) a.1) (All-nil (λ (r : FreshState). r.table ≡ frame.table))

@@ -10,11 +10,8 @@ use Rattle.table_frames.proofs.alone.work.Goals as goal
 
 pub wake_turns-requires-clause-room : goal.wake_turns-requires-clause-room
 wake_turns-requires-clause-room g c =
-    let x : ℕ = c.in_ok-reserve.ensures.capacity in
-    let y : ℕ = c.in_ok-reserve.ensures.full in
-    let z : ℕ = c.in_ok-reserve.ensures.succeeds in
-    let k : ℕ = c.reserve.ensures.len in
-    omega (arith, c.conclude-spent.ensures.few, c.conclude-spent.ensures.capacity, c.in_ok-reserve.ensures.capacity, c.in_ok-reserve.ensures.len, c.room.ensures.room)
+    let room : vec_len c.reserve.new.self + (c.room.result + length c.units_back-back.result.now) ≤ vec_capacity c.reserve.new.self = search rules in
+    omega (arith, room, c.conclude-spent.ensures.few, c.conclude-spent.ensures.capacity, c.room.ensures.room)
 
 pub returns : goal.returns
 returns g c =
