@@ -39,6 +39,6 @@ returns-in-Parked-clause-ok g c =
     let here : c.deref-2.result.now ≡ frames = search rules in
     let none = c.reserve.ensures.items ∙ c.backlog.invariant in
     let parks = subst (λ fs. AtFrame fs (λ key. ParksTurn {V = V} (table_in g.J.Job.meaning key) c.args.taken.turn (parking.Parked c.in-Parked.turn) [] c.park_turn.new.made.items)) here
-        (subst (λ none. AtFrame c.deref-2.result.now (λ key. ParksTurn {V = V} (table_in g.J.Job.meaning key) c.args.taken.turn (parking.Parked c.in-Parked.turn) none c.park_turn.new.made.items)) none
-        (subst (λ p. AtFrame c.deref-2.result.now (λ key. ParksTurn {V = V} (table_in g.J.Job.meaning key) c.args.taken.turn p c.reserve.new.self.items c.park_turn.new.made.items)) c.in-Parked.is c.in_ok-turn.ensures.parks)) in
+    (subst (λ none. AtFrame c.deref-2.result.now (λ key. ParksTurn {V = V} (table_in g.J.Job.meaning key) c.args.taken.turn (parking.Parked c.in-Parked.turn) none c.park_turn.new.made.items)) none
+    (subst (λ p. AtFrame c.deref-2.result.now (λ key. ParksTurn {V = V} (table_in g.J.Job.meaning key) c.args.taken.turn p c.reserve.new.self.items c.park_turn.new.made.items)) c.in-Parked.is c.in_ok-turn.ensures.parks)) in
     parks_release g.J.Job.meaning frames c.args.taken c.in-Parked.turn c.args.backlog.now _ c.park_turn.new.made.items c.add_again.new.made.items (record { released = c.hand_out.result; state = state.Parked c.in-Parked.turn }) c.requires.taken parks c.add_again.ensures.made (c.in_ok-make_room.ensures.ok ∙ ap (backlog_view frames) (ap (λ (b : BacklogView J V). b.fates) c.backlog.view_is)) c.hand_out.ensures.releases refl
