@@ -50,7 +50,7 @@ needs takes puts = record { shape = Plain; takes = takes; puts = puts }
 
 -- Task 0 takes and puts semaphores 0 and 2, task 1 needs none, task 2 only takes and task 3 only puts. Semaphore 0 has
 -- two units.
-abbrev net : NetRows
+abbrev pub net : NetRows
 net = record {
   tasks = needs (0 ∷ 2 ∷ []) (0 ∷ 2 ∷ []) ∷ needs [] [] ∷ needs (0 ∷ []) [] ∷ needs [] (0 ∷ []) ∷ [];
   edges = [];
@@ -63,7 +63,7 @@ none_past_them false false not_first not_second = refl
 none_past_them true second not_first not_second = absurd (cc)
 none_past_them false true not_first not_second = absurd (cc)
 
-one_of_each : HoldsEachUnit net 0 (2 ∷ 0 ∷ [])
+pub one_of_each : HoldsEachUnit net 0 (2 ∷ 0 ∷ [])
 one_of_each zero = refl
 one_of_each (suc zero) = refl
 one_of_each (suc (suc zero)) = refl
@@ -120,7 +120,7 @@ takes_without_putting s = one_more (0 == s)
 takes_and_puts_too : ¬ TakesAlone net 0 (0 ∷ [])
 takes_and_puts_too takes = absurd (omega (arith, takes 0))
 
-puts_alone : PutsAlone net 3 (0 ∷ [])
+pub puts_alone : PutsAlone net 3 (0 ∷ [])
 puts_alone s = one_more (0 == s)
 
 puts_and_takes_too : ¬ PutsAlone net 0 (0 ∷ [])
@@ -161,10 +161,10 @@ module _ (t u : TurnState) where
   no_refusal_without_a_step before takes = absurd (omega (arith, ap length (takes.1.0 ∙ before)))
 
 -- CREDITS AND CLAIMS. The start of task 2 has a unit to credit, and that of task 3 one to claim.
-abbrev lender : StartUnits
+abbrev pub lender : StartUnits
 lender = record { back = []; to_credit = 0 ∷ []; credited = []; to_claim = []; refused = None }
 
-abbrev putter : StartUnits
+abbrev pub putter : StartUnits
 putter = record { back = []; to_credit = []; credited = []; to_claim = 0 ∷ []; refused = None }
 
 abbrev holder : StartUnits
@@ -179,7 +179,7 @@ lends_at_first = record { back = gives_back_none; to_credit = takes_without_putt
 lends_no_more : ¬ BeginsUnits net 2 (credit_one 0 lender)
 lends_no_more begins = absurd (omega (arith, begins.to_credit 0))
 
-credits_first : ¬ HasCredited net 2 lender
+pub credits_first : ¬ HasCredited net 2 lender
 credits_first credits = let some : 0 ∷ [] ≡ [] = credits.none_left in absurd (cc)
 
 has_credited : HasCredited net 2 (credit_one 0 lender)
@@ -188,10 +188,10 @@ has_credited = record { none_left = refl; all = takes_without_putting }
 nothing_credited : ¬ HasCredited net 2 (record { back = []; to_credit = []; credited = []; to_claim = []; refused = None })
 nothing_credited credits = absurd (omega (arith, credits.all 0))
 
-claims_first : ¬ HasClaimed net 3 putter
+pub claims_first : ¬ HasClaimed net 3 putter
 claims_first claims = let some : 0 ∷ [] ≡ [] = claims.none_left in absurd (cc)
 
-has_claimed : HasClaimed net 3 (grant_one 0 putter)
+pub has_claimed : HasClaimed net 3 (grant_one 0 putter)
 has_claimed = record { none_left = refl; not_refused = refl; all = puts_one }
 
 refused_has_not : ¬ HasClaimed net 3 (refuse_one 0 putter)
