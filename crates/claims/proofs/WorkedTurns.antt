@@ -1,5 +1,5 @@
 -- The units that turns of a table hold, what becomes of releases, how a table begins, and when a keeper tells a whole run.
-use Rattle.std.proofs.Common.{◌≡◌, ℕ, zero, suc, ◌+◌, ◌<◌, Bool, true, false, List, [], ◌∷◌, length, map, Some, None, refl, ap, sym, subst, ◌∙◌, inl, arith}
+use Rattle.std.proofs.Common.{◌≡◌, ℕ, zero, suc, ◌+◌, ◌<◌, Bool, true, false, List, [], ◌∷◌, length, map, Option, Some, None, refl, ap, sym, subst, ◌∙◌, inl, arith}
 use Rattle.std.specs.Prelude.{◌==◌, ◌||◌, ◌&&◌, not, count_by, All}
 use Rattle.std.proofs.lemmas.Bool.Decides.{nat_tests}
 use Rattle.std.specs.Arc.{arc_with_value}
@@ -45,7 +45,7 @@ use Rattle.join_tables.specs.Openings.{OpensTable}
 use Rattle.join_tables.specs.declared.parts.FoundParts.{FoundParts}
 use Rattle.join_tables.specs.Keeping.{KeeperState, keeper_state, start_of, entries_of, entries_told, with_places, Merges, TellsRun, TellsSomeRun, IsLast}
 
-abbrev needs : List ℕ → List ℕ → TaskRow
+abbrev pub needs : List ℕ → List ℕ → TaskRow
 needs takes puts = record { shape = Plain; takes = takes; puts = puts }
 
 -- Task 0 takes and puts semaphores 0 and 2, task 1 needs none, task 2 only takes and task 3 only puts. Semaphore 0 has
@@ -180,7 +180,7 @@ lends_no_more : ¬ BeginsUnits net 2 (credit_one 0 lender)
 lends_no_more begins = absurd (omega (arith, begins.to_credit 0))
 
 pub credits_first : ¬ HasCredited net 2 lender
-credits_first credits = let some : 0 ∷ [] ≡ [] = credits.none_left in absurd (cc)
+credits_first credits = let some : ◌≡◌ {A = List ℕ} (0 ∷ []) [] = credits.none_left in absurd (cc)
 
 has_credited : HasCredited net 2 (credit_one 0 lender)
 has_credited = record { none_left = refl; all = takes_without_putting }
@@ -189,7 +189,7 @@ nothing_credited : ¬ HasCredited net 2 (record { back = []; to_credit = []; cre
 nothing_credited credits = absurd (omega (arith, credits.all 0))
 
 pub claims_first : ¬ HasClaimed net 3 putter
-claims_first claims = let some : 0 ∷ [] ≡ [] = claims.none_left in absurd (cc)
+claims_first claims = let some : ◌≡◌ {A = List ℕ} (0 ∷ []) [] = claims.none_left in absurd (cc)
 
 pub has_claimed : HasClaimed net 3 (grant_one 0 putter)
 has_claimed = record { none_left = refl; not_refused = refl; all = puts_one }
@@ -230,7 +230,7 @@ module _ (r q : RunningState ℕ) where
   refused_allows_it : ClaimsUnit net 9 r 0 (Refused q) → AllowsOver net 9 0 r.place r.task
   refused_allows_it claims = claims.2
 
-no_over_release_of_a_taker : ¬ AllowsOver net 9 0 4 2
+pub no_over_release_of_a_taker : ¬ AllowsOver net 9 0 4 2
 no_over_release_of_a_taker allows = let no : false ≡ true = allows.over.0 in absurd (cc)
 
 -- WHAT BECOMES OF A RELEASE
@@ -241,10 +241,10 @@ refused_claim_is_told : MayTell (OverRelease 0) (Some 0)
 refused_claim_is_told = refl
 
 unit_that_was_not_refused : ¬ MayTell (OverRelease 0) None
-unit_that_was_not_refused may = let no : None ≡ Some 0 = may in absurd (cc)
+unit_that_was_not_refused may = let no : ◌≡◌ {A = Option ℕ} None (Some 0) = may in absurd (cc)
 
 another_unit_was_refused : ¬ MayTell (OverRelease 0) (Some 1)
-another_unit_was_refused may = let no : Some 1 ≡ Some 0 = may in absurd (cc)
+another_unit_was_refused may = let no : ◌≡◌ {A = Option ℕ} (Some 1) (Some 0) = may in absurd (cc)
 
 abbrev dropping : Dropping
 dropping = record { task = 3; cause = Strong; place = 6; why = Limit }
@@ -298,7 +298,7 @@ module _ (n : TableId) (u : StartUnits) (shared : Arc ℕ Global) (this : FoundP
   end_with_another_value ends = absurd (omega (arith, ends.4))
 
   end_of_other_edges : ¬ EndedAs (running_state n 3 Strong 4 found u []) (0 ∷ []) 7 false (ending shared this)
-  end_of_other_edges ends = let no : [] ≡ 0 ∷ [] = ends.5 in absurd (cc)
+  end_of_other_edges ends = let no : ◌≡◌ {A = List ℕ} [] (0 ∷ []) = ends.5 in absurd (cc)
 
   end_without_its_inner_run : ¬ EndedAs (running_state n 3 Strong 4 found u []) [] 7 true (ending shared this)
   end_without_its_inner_run ends = let no : false ≡ true = ends.6 in absurd (cc)

@@ -1,11 +1,12 @@
 -- What turns do with units of semaphores, on the net of `WorkedTurns`: task 0 takes and puts semaphores 0 and 2, task 1 needs
 -- none, task 2 only takes semaphore 0, and task 3 only puts it. Semaphore 0 has two units, each other one.
-use Rattle.std.proofs.Common.{◌≡◌, ◌≢◌, ℕ, true, false, List, [], ◌∷◌, ◌++◌, length, Option, Some, None, refl, ap, sym, subst, arith}
+use Rattle.std.proofs.Common.{◌≡◌, ◌≢◌, ℕ, true, false, List, [], ◌∷◌, length, Option, Some, None, refl, ap, sym, subst, arith}
 use Rattle.std.specs.Prelude.{All}
 use Rattle.std.specs.Global.{Global}
 use Rattle.std.specs.declared.snapshot.Snapshot.{Snapshot}
 use Rattle.std.specs.declared.vec.Vec.{Vec}
 use Rattle.std.proofs.lemmas.List.Elements.{All-from_recursion, All-head}
+use Rattle.task_graph.specs.NetRows.{NetRows}
 use Rattle.atomic_table.specs.Seated.{TableId}
 use Rattle.journal_rules.specs.declared.entry.Cause.TheVariants.{Source, Strong}
 use Rattle.journal_rules.specs.declared.entry.DropWhy.TheVariants.{Limit, Halted}
@@ -28,7 +29,7 @@ use Rattle.semaphore_turns.specs.declared.claims.ClaimedUnits.TheVariants as cla
 use Rattle.semaphore_turns.specs.declared.parks.Parking.TheVariants as parking
 use Rattle.semaphore_turns.specs.declared.settlement.Settled.TheVariants as settled
 use Rattle.semaphore_turns.specs.declared.ready_kind.ReadyKind.TheVariants as ready
-use Rattle.claims.proofs.WorkedTurns.{net, one_of_each, puts_alone, putter, lender, credits_first, claims_first, has_claimed}
+use Rattle.claims.proofs.WorkedTurns.{net, one_of_each, puts_alone, putter, lender, credits_first, claims_first, has_claimed, no_over_release_of_a_taker, needs}
 
 taken_by_each : (taken_by net 0 ≡ 0 ∷ 2 ∷ []) × (taken_by net 1 ≡ []) × (taken_by net 2 ≡ 0 ∷ []) × (taken_by net 3 ≡ []) × (taken_by net 4 ≡ [])
 taken_by_each = (refl, refl, refl, refl, refl)
@@ -66,6 +67,13 @@ module _ (n m : TableId) (other : m ≢ n) where
 
   holds_not_all : ¬ HoldsAll net (turn (0 ∷ []) (0 ∷ []))
   holds_not_all holds = absurd (omega (arith, ap length holds.held))
+
+  -- a task that takes a semaphore twice, which none of a net does
+  abbrev twice : NetRows
+  twice = record { tasks = needs (0 ∷ 0 ∷ []) [] ∷ []; edges = []; sems = 2 ∷ [] }
+
+  holds_one_twice : ¬ HoldsAll twice (turn (0 ∷ 0 ∷ []) (0 ∷ []))
+  holds_one_twice holds = absurd (omega (arith, holds.each 0))
 
   same_turn : IsSameTurn (turn [] []) (turn (0 ∷ []) (5 ∷ []))
   same_turn = record { table = refl; task = refl; cause = refl; refused = refl }
@@ -158,8 +166,11 @@ module _ (n m : TableId) (other : m ≢ n) where
   }
 
   module _ (ins : Ins ℕ) where
+    abbrev running_of : ℕ → ℕ → StartUnits → RunningState ℕ
+    running_of t place units = running_state n t Source place ins units []
+
     abbrev running : ℕ → StartUnits → RunningState ℕ
-    running place units = running_state n 3 Source place ins units []
+    running place units = running_of 3 place units
 
     claims_all : ClaimsUnits table (running 0 putter) (claimed.All (running 0 (grant_one 0 putter)))
     claims_all = (refl, record { none_left = refl; all = λ s. refl }, has_claimed)
@@ -170,14 +181,26 @@ module _ (n m : TableId) (other : m ≢ n) where
     claims_not_all : ¬ ClaimsUnits table (running 0 putter) (claimed.All (running 0 putter))
     claims_not_all claims = claims_first claims.2
 
+    claims_before_it_credits : ¬ ClaimsUnits table (running_of 2 0 lender) (claimed.All (running_of 2 0 lender))
+    claims_before_it_credits claims = credits_first claims.1
+
     refused_for_an_over_release : ClaimsUnits table (running 0 putter) (claimed.Refused (running 0 (refuse_one 0 putter)) 0)
     refused_for_an_over_release = (refl, record { none_left = refl; all = λ s. refl }, refl, over_release)
 
     refused_without_a_refusal : ¬ ClaimsUnits table (running 0 putter) (claimed.Refused (running 0 (grant_one 0 putter)) 0)
-    refused_without_a_refusal claims = let no : None ≡ Some 0 = claims.2 in absurd (cc)
+    refused_without_a_refusal claims = let no : ◌≡◌ {A = Option ℕ} None (Some 0) = claims.2 in absurd (cc)
 
     refused_for_another_semaphore : ¬ ClaimsUnits table (running 0 putter) (claimed.Refused (running 0 (refuse_one 0 putter)) 1)
-    refused_for_another_semaphore claims = let no : Some 0 ≡ Some 1 = claims.2 in absurd (cc)
+    refused_for_another_semaphore claims = let no : ◌≡◌ {A = Option ℕ} (Some 0) (Some 1) = claims.2 in absurd (cc)
+
+    refused_for_another : ¬ ClaimsUnits table (running 0 putter) (claimed.Refused (running 1 (refuse_one 0 putter)) 0)
+    refused_for_another claims = absurd (omega (arith, ap (λ (r : RunningState ℕ). r.place) claims.0))
+
+    refused_before_it_credits : ¬ ClaimsUnits table (running_of 2 0 lender) (claimed.Refused (running_of 2 0 (refuse_one 0 lender)) 0)
+    refused_before_it_credits claims = let some : ◌≡◌ {A = List ℕ} (0 ∷ []) [] = claims.1.none_left in absurd (cc)
+
+    refused_without_an_over_release : ¬ ClaimsUnits table (running_of 2 4 putter) (claimed.Refused (running_of 2 4 (refuse_one 0 putter)) 0)
+    refused_without_an_over_release claims = no_over_release_of_a_taker claims.3
 
   -- ---- What waits, and what is woken.
   waits_for_each : WaitsAt (turn [] (2 ∷ [])) table 0 × WaitsAt (turn [] (1 ∷ [])) table 2
