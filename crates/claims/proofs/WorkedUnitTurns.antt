@@ -159,7 +159,7 @@ module _ (n m : TableId) (other : m ≢ n) where
         semaphore = record { within = ((omega arith, omega arith), ((omega arith, omega arith), ((omega arith, omega arith), tt))); over = tt };
         halt_limit_stuck = record { dropped = omega arith; after_stuck = λ other. refl };
       },
-      tt
+      tt,
     );
     start = refl;
     over = (refl, (1, omega arith, omega arith, omega arith));
