@@ -1,5 +1,5 @@
 -- Which plan the JSON of a graph file stands for, and else the first refusal, computed on small files.
-use Rattle.std.proofs.Common.{◌≡◌, ℕ, zero, suc, ◌<◌, true, false, List, [], ◌∷◌, ◌++◌, length, map, All, Some, None, Result, Ok, Err, refl, arith, codes, ap}
+use Rattle.std.proofs.Common.{◌≡◌, ℕ, zero, suc, ◌<◌, ◌≤◌, true, false, List, [], ◌∷◌, ◌++◌, length, map, All, Some, None, Result, Ok, Err, refl, arith, codes, ap}
 use Rattle.std.specs.Prelude.{if◌then◌else◌, ◌==◌}
 use Rattle.serde_json.specs.Data.{Data, string, number, unsigned, array, object, no_members, member}
 use Rattle.serde_json.specs.View.{items_of}
@@ -27,7 +27,6 @@ use Rattle.graph_file.specs.Contents.{is_name, is_name_byte, line_count_of, whol
 use Rattle.graph_file.specs.Fields.{allowed, needed, only}
 use Rattle.graph_file.specs.OpRows.{reads, does}
 use Rattle.graph_file.specs.PlanText.{DraftRows, HasFile, PlanText, TaskNames, add_name, add_numbers, add_task_name, edges_from, empty_draft, plan_of, puts_field, takes_field, task_names, task_row, task_rows, with_semaphore, with_task_text}
-use Rattle.graph_file.specs.declared.numbers.TaskNumbers.{TaskNumbers}
 use Rattle.graph_file.proofs.PlanLemmas.{IsPlan-read}
 use Rattle.json.specs.Print.{escape_byte}
 use Rattle.std.specs.Fmt.{digits}
@@ -153,26 +152,20 @@ two = record { version = 2; sem_names = s ∷ c ∷ []; sems = 1 ∷ 1 ∷ []; t
 names_of_two : task_names two ≡ a ∷ b ∷ []
 names_of_two = refl
 
--- no task before, or one
-abbrev none_before : List TaskNumbers
-none_before = []
-
-abbrev one_before : List TaskNumbers
-one_before = record { to = []; takes = []; puts = [] } ∷ []
-
-numbers_found : add_numbers two none_before (task a (b ∷ a ∷ []) (c ∷ s ∷ []) (c ∷ [])) ≡ Ok (record { to = 1 ∷ 0 ∷ []; takes = 1 ∷ 0 ∷ []; puts = 1 ∷ [] } ∷ [])
+-- the first task, or one behind another
+numbers_found : add_numbers two [] (task a (b ∷ a ∷ []) (c ∷ s ∷ []) (c ∷ [])) ≡ Ok (record { to = 1 ∷ 0 ∷ []; takes = 1 ∷ 0 ∷ []; puts = 1 ∷ [] } ∷ [])
 numbers_found = refl
 
-edge_to_no_task : add_numbers two one_before (task b (a ∷ c ∷ []) (a ∷ []) []) ≡ Err (NoSuchName (Task 1) (codes "to"))
+edge_to_no_task : add_numbers two (record { to = []; takes = []; puts = [] } ∷ []) (task b (a ∷ c ∷ []) (a ∷ []) []) ≡ Err (NoSuchName (Task 1) (codes "to"))
 edge_to_no_task = refl
 
-no_such_semaphore_taken : add_numbers two one_before (task b (a ∷ []) (s ∷ a ∷ []) (a ∷ [])) ≡ Err (NoSuchName (Task 1) (codes "acquire"))
+no_such_semaphore_taken : add_numbers two (record { to = []; takes = []; puts = [] } ∷ []) (task b (a ∷ []) (s ∷ a ∷ []) (a ∷ [])) ≡ Err (NoSuchName (Task 1) (codes "acquire"))
 no_such_semaphore_taken = refl
 
-no_such_semaphore_put : add_numbers two one_before (task b (a ∷ []) (s ∷ []) (a ∷ [])) ≡ Err (NoSuchName (Task 1) (codes "release"))
+no_such_semaphore_put : add_numbers two (record { to = []; takes = []; puts = [] } ∷ []) (task b (a ∷ []) (s ∷ []) (a ∷ [])) ≡ Err (NoSuchName (Task 1) (codes "release"))
 no_such_semaphore_put = refl
 
-no_such_semaphore_held : add_numbers (record two { version = 1 }) one_before (task b (a ∷ []) (a ∷ []) (a ∷ [])) ≡ Err (NoSuchName (Task 1) (codes "holds"))
+no_such_semaphore_held : add_numbers (record two { version = 1 }) (record { to = []; takes = []; puts = [] } ∷ []) (task b (a ∷ []) (a ∷ []) (a ∷ [])) ≡ Err (NoSuchName (Task 1) (codes "holds"))
 no_such_semaphore_held = refl
 
 -- where a name stands twice

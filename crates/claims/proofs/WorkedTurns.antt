@@ -1,5 +1,5 @@
 -- The units that turns of a table hold, what becomes of releases, how a table begins, and when a keeper tells a whole run.
-use Rattle.std.proofs.Common.{◌≡◌, ℕ, zero, suc, ◌+◌, ◌<◌, Bool, true, false, List, [], ◌∷◌, length, map, Some, None, refl, ap, sym, subst, ◌∙◌, inl, arith}
+use Rattle.std.proofs.Common.{◌≡◌, ℕ, zero, suc, ◌+◌, ◌<◌, Bool, true, false, List, [], ◌∷◌, length, map, Option, Some, None, refl, ap, sym, subst, ◌∙◌, inl, arith}
 use Rattle.std.specs.Prelude.{◌==◌, ◌||◌, ◌&&◌, not, count_by, All}
 use Rattle.std.proofs.lemmas.Bool.Decides.{nat_tests}
 use Rattle.std.specs.Arc.{arc_with_value}
@@ -45,12 +45,12 @@ use Rattle.join_tables.specs.Openings.{OpensTable}
 use Rattle.join_tables.specs.declared.parts.FoundParts.{FoundParts}
 use Rattle.join_tables.specs.Keeping.{KeeperState, keeper_state, start_of, entries_of, entries_told, with_places, Merges, TellsRun, TellsSomeRun, IsLast}
 
-abbrev needs : List ℕ → List ℕ → TaskRow
+abbrev pub needs : List ℕ → List ℕ → TaskRow
 needs takes puts = record { shape = Plain; takes = takes; puts = puts }
 
 -- Task 0 takes and puts semaphores 0 and 2, task 1 needs none, task 2 only takes and task 3 only puts. Semaphore 0 has
 -- two units.
-abbrev net : NetRows
+abbrev pub net : NetRows
 net = record {
   tasks = needs (0 ∷ 2 ∷ []) (0 ∷ 2 ∷ []) ∷ needs [] [] ∷ needs (0 ∷ []) [] ∷ needs [] (0 ∷ []) ∷ [];
   edges = [];
@@ -63,7 +63,7 @@ none_past_them false false not_first not_second = refl
 none_past_them true second not_first not_second = absurd (cc)
 none_past_them false true not_first not_second = absurd (cc)
 
-one_of_each : HoldsEachUnit net 0 (2 ∷ 0 ∷ [])
+pub one_of_each : HoldsEachUnit net 0 (2 ∷ 0 ∷ [])
 one_of_each zero = refl
 one_of_each (suc zero) = refl
 one_of_each (suc (suc zero)) = refl
@@ -120,7 +120,7 @@ takes_without_putting s = one_more (0 == s)
 takes_and_puts_too : ¬ TakesAlone net 0 (0 ∷ [])
 takes_and_puts_too takes = absurd (omega (arith, takes 0))
 
-puts_alone : PutsAlone net 3 (0 ∷ [])
+pub puts_alone : PutsAlone net 3 (0 ∷ [])
 puts_alone s = one_more (0 == s)
 
 puts_and_takes_too : ¬ PutsAlone net 0 (0 ∷ [])
@@ -161,10 +161,10 @@ module _ (t u : TurnState) where
   no_refusal_without_a_step before takes = absurd (omega (arith, ap length (takes.1.0 ∙ before)))
 
 -- CREDITS AND CLAIMS. The start of task 2 has a unit to credit, and that of task 3 one to claim.
-abbrev lender : StartUnits
+abbrev pub lender : StartUnits
 lender = record { back = []; to_credit = 0 ∷ []; credited = []; to_claim = []; refused = None }
 
-abbrev putter : StartUnits
+abbrev pub putter : StartUnits
 putter = record { back = []; to_credit = []; credited = []; to_claim = 0 ∷ []; refused = None }
 
 abbrev holder : StartUnits
@@ -179,8 +179,8 @@ lends_at_first = record { back = gives_back_none; to_credit = takes_without_putt
 lends_no_more : ¬ BeginsUnits net 2 (credit_one 0 lender)
 lends_no_more begins = absurd (omega (arith, begins.to_credit 0))
 
-credits_first : ¬ HasCredited net 2 lender
-credits_first credits = let some : 0 ∷ [] ≡ [] = credits.none_left in absurd (cc)
+pub credits_first : ¬ HasCredited net 2 lender
+credits_first credits = let some : ◌≡◌ {A = List ℕ} (0 ∷ []) [] = credits.none_left in absurd (cc)
 
 has_credited : HasCredited net 2 (credit_one 0 lender)
 has_credited = record { none_left = refl; all = takes_without_putting }
@@ -188,10 +188,10 @@ has_credited = record { none_left = refl; all = takes_without_putting }
 nothing_credited : ¬ HasCredited net 2 (record { back = []; to_credit = []; credited = []; to_claim = []; refused = None })
 nothing_credited credits = absurd (omega (arith, credits.all 0))
 
-claims_first : ¬ HasClaimed net 3 putter
-claims_first claims = let some : 0 ∷ [] ≡ [] = claims.none_left in absurd (cc)
+pub claims_first : ¬ HasClaimed net 3 putter
+claims_first claims = let some : ◌≡◌ {A = List ℕ} (0 ∷ []) [] = claims.none_left in absurd (cc)
 
-has_claimed : HasClaimed net 3 (grant_one 0 putter)
+pub has_claimed : HasClaimed net 3 (grant_one 0 putter)
 has_claimed = record { none_left = refl; not_refused = refl; all = puts_one }
 
 refused_has_not : ¬ HasClaimed net 3 (refuse_one 0 putter)
@@ -230,7 +230,7 @@ module _ (r q : RunningState ℕ) where
   refused_allows_it : ClaimsUnit net 9 r 0 (Refused q) → AllowsOver net 9 0 r.place r.task
   refused_allows_it claims = claims.2
 
-no_over_release_of_a_taker : ¬ AllowsOver net 9 0 4 2
+pub no_over_release_of_a_taker : ¬ AllowsOver net 9 0 4 2
 no_over_release_of_a_taker allows = let no : false ≡ true = allows.over.0 in absurd (cc)
 
 -- WHAT BECOMES OF A RELEASE
@@ -241,10 +241,10 @@ refused_claim_is_told : MayTell (OverRelease 0) (Some 0)
 refused_claim_is_told = refl
 
 unit_that_was_not_refused : ¬ MayTell (OverRelease 0) None
-unit_that_was_not_refused may = let no : None ≡ Some 0 = may in absurd (cc)
+unit_that_was_not_refused may = let no : ◌≡◌ {A = Option ℕ} None (Some 0) = may in absurd (cc)
 
 another_unit_was_refused : ¬ MayTell (OverRelease 0) (Some 1)
-another_unit_was_refused may = let no : Some 1 ≡ Some 0 = may in absurd (cc)
+another_unit_was_refused may = let no : ◌≡◌ {A = Option ℕ} (Some 1) (Some 0) = may in absurd (cc)
 
 abbrev dropping : Dropping
 dropping = record { task = 3; cause = Strong; place = 6; why = Limit }
@@ -298,7 +298,7 @@ module _ (n : TableId) (u : StartUnits) (shared : Arc ℕ Global) (this : FoundP
   end_with_another_value ends = absurd (omega (arith, ends.4))
 
   end_of_other_edges : ¬ EndedAs (running_state n 3 Strong 4 found u []) (0 ∷ []) 7 false (ending shared this)
-  end_of_other_edges ends = let no : [] ≡ 0 ∷ [] = ends.5 in absurd (cc)
+  end_of_other_edges ends = let no : ◌≡◌ {A = List ℕ} [] (0 ∷ []) = ends.5 in absurd (cc)
 
   end_without_its_inner_run : ¬ EndedAs (running_state n 3 Strong 4 found u []) [] 7 true (ending shared this)
   end_without_its_inner_run ends = let no : false ≡ true = ends.6 in absurd (cc)
