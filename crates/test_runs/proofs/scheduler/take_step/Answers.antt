@@ -17,5 +17,5 @@ returns c =
     record {
       frames = c.requires.frames;
       each = subst (All P) (sym c.in_ok-append.ensures.items) (All-append P c.remove-release.new.self.items c.in_ok-released.field-0.released.items (subst (All P) (sym c.remove-release.ensures.by_index.2) left) made);
-      takes = inr (ap (λ (b : BacklogView NumberJob ℕ). b.frames) c.in_ok-released.ensures.ok.backlog ∙ same);
+      takes = inr (c.in_ok-released.ensures.ok.backlog ∙ same);
     }
