@@ -13,7 +13,7 @@ ghost use Rattle.table_frames.specs.inside.CollectedRelease.{IsTakenIn};
 ghost use Rattle.table_frames.specs.inside.Runs.{IsNoBatch};
 
 use super::run_keeper::RunKeeper;
-use super::table_run::{Begun, TableRun, TakenUp};
+use super::table_run::{Begun, TableRun, TakenUp, add_again};
 use join_tables::{Remaining, SpentBatch};
 use outside_io::NoMemory;
 use run_frame::{FrameRun, Job};
@@ -127,9 +127,7 @@ fn park<J: Job + Drop>(
     match run.park(&mut bench.yard, turn, place, &mut bench.made)? {
         Parking::Taken(turn) => work(run, bench, TakenUp { turn, again }),
         Parking::Parked(_) => {
-            if let Some(again) = again {
-                bench.made.push_reserved(ReadyTurn::fresh(again));
-            }
+            add_again(&mut bench.made, again);
             add_all(&mut bench.ready, &mut bench.made);
             Ok(())
         }

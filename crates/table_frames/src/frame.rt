@@ -13,7 +13,7 @@ use super::frame_batch::FrameBatch;
 use super::release::{Release, ReleaseRoom};
 use super::run_keeper::RunKeeper;
 use super::step_results::{Brought, State, Stepped};
-use super::table_run::{Begun, TableRun, TakenUp};
+use super::table_run::{Begun, TableRun, TakenUp, add_again};
 use join_tables::{Remaining, Spent, SpentBatch, Turn};
 use keyed_lock::{Held, KeyedLock};
 use outside_io::NoMemory;
@@ -152,9 +152,7 @@ impl<J: Job + Drop> Frame<J> {
         match frame.park_turn(rt, turn, place, &mut backlog.made)? {
             Parking::Taken(turn) => Frame::work(rt, frame, TakenUp { turn, again }, backlog),
             Parking::Parked(turn) => {
-                if let Some(again) = again {
-                    backlog.made.push_reserved(ReadyTurn::fresh(again));
-                }
+                add_again(&mut backlog.made, again);
                 Ok(Stepped {
                     released: room.hand_out(frame, &mut backlog.made),
                     state: State::Parked(turn),

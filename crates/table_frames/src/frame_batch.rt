@@ -121,6 +121,7 @@ impl<J: Job + Drop> FrameBatch<J> {
         let Some(frame) = self.frame.take() else {
             return Ok(None);
         };
+        let _is_empty = self.batch.is_empty();
         match frame.settle_parked(rt)? {
             Settled::Waits => Ok(None),
             Settled::Goes(ready) => Ok(Some(Release { frame, ready })),

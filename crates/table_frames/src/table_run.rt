@@ -22,6 +22,7 @@ ghost use Rattle.semaphore_turns.specs.WokenTurns.{ParksTurn};
 ghost use Rattle.semaphore_turns.specs.Settlements.{Settles};
 ghost use Rattle.table_frames.specs.AllowedFates.{IsAllowed};
 ghost use Rattle.table_frames.specs.StepReleases.{GivesEdges, IsFateOf, Uses, given_by};
+ghost use Rattle.table_frames.specs.inside.Attempts.{again_list};
 ghost use Rattle.table_frames.specs.inside.Runs.{AreOf, IsBatchOf, IsDone, IsNoBatch, MayWork};
 
 use super::attempt::{Attempt, Ending, Outcome};
@@ -242,6 +243,7 @@ impl<J: Job + Drop> TableRun<J> {
             made.new.items }
         ensures made { AreOf self.now.table made.new.items }
         ensures few { vec_len made.new ≤ vec_len made.old + room_due attempt }
+        ensures capacity { vec_capacity made.new ≡ vec_capacity made.old }
     {
         let Attempt { outcome, again } = attempt;
         let spent = self.close(outcome, made);
@@ -494,4 +496,16 @@ fn ready_turns<V: Drop>(alloc: Global, fresh: Vec<Fresh<V>>) -> Result<Vec<Ready
         ready.push_reserved(ReadyTurn::fresh(one));
     }
     Ok(ready)
+}
+
+/// Adds the next release of a task, if there is one.
+pub fn add_again<V: Drop>(made: &mut Vec<ReadyTurn<V>>, again: Option<Fresh<V>>)
+    requires { vec_len made.old + 1 ≤ vec_capacity made.old }
+    ensures made { made.new.items ≡ made.old.items ++ again_list again }
+    ensures few { vec_len made.new ≤ vec_len made.old + 1 }
+    ensures capacity { vec_capacity made.new ≡ vec_capacity made.old }
+{
+    if let Some(again) = again {
+        made.push_reserved(ReadyTurn::fresh(again));
+    }
 }

@@ -74,6 +74,10 @@ IsOutcomeIn meaning frame (Ends ending) = MayEnd meaning frame ending
 IsOutcomeIn meaning frame (Faults running why) = MayFault meaning frame running why
 IsOutcomeIn meaning frame (Drops turn why) = MayDrop frame turn why
 
+abbrev pub again_list : Option FreshState → List FreshState
+again_list None = []
+again_list (Some again) = again ∷ []
+
 -- another release of the task, if there is one
 abbrev pub IsAgain : TableId → ℕ → Cause → Option FreshState → Type 0
 IsAgain n t cause None = Unit {0}
