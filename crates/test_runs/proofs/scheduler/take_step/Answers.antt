@@ -1,13 +1,13 @@
-use Rattle.std.proofs.Common.{◌≡◌, ℕ, ◌+◌, ◌++◌, ap, sym, subst, ◌∙◌, inr, arith, All}
+use Rattle.std.proofs.Common.{◌≡◌, ◌+◌, ◌++◌, ap, sym, subst, ◌∙◌, inr, arith, All}
 use Rattle.std.specs.Prelude.{take, drop}
 use Rattle.std.proofs.lemmas.List.Elements.{All-append, All-take, All-drop}
 use Rattle.test_jobs.specs.declared.job.NumberJob.{NumberJob}
-use Rattle.table_frames.specs.Frames.{ReleaseView, BacklogView}
+use Rattle.table_frames.specs.Frames.{ReleaseView}
 use Rattle.test_runs.proofs.scheduler.take_step.Goals as goal
 
 -- What is left is of the frame of the release, and so is what the step made.
 pub returns : goal.returns
-returns c =
+returns g c =
     let old = c.args.pending.now.items in
     let place = c.place_in.result in
     let P : ReleaseView NumberJob → Type 0 = λ release. release.frames ≡ c.requires.frames in
