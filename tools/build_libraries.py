@@ -7,17 +7,16 @@
 clone waits for the first. So each library is built by an `rt lib` of its own in a copy of its sources and of those
 below it, whose built libraries are links; what it made then goes to crates/NAME/out, where `rt run` finds it. The
 copies are in .git, where no `rt` looks for sources, until the call ends. A library begins when those below it are
-built, first the one with the longest way above it, and gets further processors where no other can begin. The one with
-the longest way of all gets half of the processors at least, since in the end all wait for it. Those that are built
-already take no time. Prints a line when a library begins and one when it ends, with those that are at work and how many
-wait, and at last the processor time. Where one fails, prints what `rt` said of it and ends with status 1.
+built, first the one with the longest way above it. Each is proved by one process: several for one library are a little
+faster and cost a third more processor time. Those that are built already take no time. Prints a line when a library
+begins and one when it ends, with those that are at work and how many wait, and at last the processor time. Where one
+fails, prints what `rt` said of it and ends with status 1.
 """
 import argparse
 import concurrent.futures
 import dataclasses
 import fcntl
 import hashlib
-import math
 import os
 import pathlib
 import re
@@ -32,8 +31,6 @@ import time
 TOP = pathlib.Path(__file__).resolve().parent.parent
 COPIES = (TOP / ".git" if (TOP / ".git").is_dir() else TOP / "out") / "libraries"
 PARTS = ("src", "specs", "proofs")
-# More processes for one library are hardly of use.
-MOST_JOBS = 4
 
 
 # ---- crates
@@ -174,7 +171,7 @@ class Failed(Exception):
 
 
 class Builds:
-    """The libraries that wait, and those at work with their number of processes."""
+    """The libraries that wait, and those at work."""
 
     def __init__(self, crates, wanted, sums, processors):
         self.crates = crates
@@ -188,7 +185,7 @@ class Builds:
             above = [self.ways[other.name] for other in wanted if crate.name in other.uses]
             self.ways[crate.name] = self.lines[crate.name] + max(above, default=0)
         self.waiting = list(self.lines)
-        self.at_work = {}
+        self.at_work = []
         self.begun = time.monotonic()
         self.calls = []
         self.is_over = False
@@ -199,47 +196,39 @@ class Builds:
             running = {}
             try:
                 while self.waiting or running:
-                    for name, jobs in self.next():
-                        running[pool.submit(self.build, self.crates[name], jobs)] = name
+                    for name in self.next():
+                        running[pool.submit(self.build, self.crates[name])] = name
                     for call in concurrent.futures.wait(running, return_when=concurrent.futures.FIRST_COMPLETED).done:
                         self.ended(running.pop(call), call)
             finally:
                 self.end_calls()
 
     def next(self):
-        """Those that begin now, each with its number of processes."""
+        """Those that begin now."""
         missing = {*self.waiting, *self.at_work}
         ready = [name for name in self.waiting if missing.isdisjoint(self.crates[name].uses)]
-        ready.sort(key=lambda name: -self.ways[name])
-        for others, name in zip(reversed(range(len(ready))), ready):
-            jobs = self.jobs_for(name, others)
-            if jobs:
+        for name in sorted(ready, key=lambda name: -self.ways[name]):
+            if self.may_begin(name):
                 self.waiting.remove(name)
-                self.at_work[name] = jobs
+                self.at_work.append(name)
                 self.say("begins", name)
-                yield name, jobs
+                yield name
 
-    def jobs_for(self, name, others):
-        """With how many processes a library begins now, where so many others could begin as well; 0 for not yet."""
-        idle = self.processors - sum(self.at_work.values())
-        room = self.memory - sum(self.bytes_for(other, jobs) for other, jobs in self.at_work.items())
-        share = math.ceil(idle / (others + 1))
-        if self.ways[name] == max(self.ways[other] for other in [*self.waiting, *self.at_work]):
-            share = max(share, self.processors // 2)
-        most = min(MOST_JOBS, share)
-        fitting = [jobs for jobs in range(1, most + 1) if self.bytes_for(name, jobs) <= room]
-        return max(fitting, default=0 if self.at_work else 1)
+    def may_begin(self, name):
+        """Whether there is a processor for a library now, and memory, of which the only one at work may have all."""
+        room = self.memory - sum(self.bytes_for(other) for other in self.at_work)
+        return len(self.at_work) < self.processors and (not self.at_work or self.bytes_for(name) <= room)
 
-    def bytes_for(self, name, jobs):
-        """The memory that so many processes are likely to take for a library."""
-        return (1_000_000_000 + 500_000 * self.lines[name]) * (jobs + 1) / 2
+    def bytes_for(self, name):
+        """The memory that a library is likely to take."""
+        return 1_000_000_000 + 500_000 * self.lines[name]
 
-    def build(self, crate, jobs):
+    def build(self, crate):
         folder = copied(self.crates, crate)
         with self.lock:
             if self.is_over:
                 raise Failed("ended before it began")
-            call = subprocess.Popen(["rt", "lib", "--jobs", str(jobs)], cwd=folder, stdin=subprocess.DEVNULL,
+            call = subprocess.Popen(["rt", "lib", "--jobs", "1"], cwd=folder, stdin=subprocess.DEVNULL,
                                     stdout=subprocess.PIPE, stderr=subprocess.STDOUT, text=True, errors="replace")
             self.calls.append(call)
         said, _ = call.communicate()
@@ -249,7 +238,7 @@ class Builds:
             raise Failed(f"{said}{crate.name} was not built: rt lib ended with status {call.returncode}")
 
     def ended(self, name, call):
-        del self.at_work[name]
+        self.at_work.remove(name)
         call.result()
         self.sums.keep(self.crates[name])
         self.say("is built", name)
