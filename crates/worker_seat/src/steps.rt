@@ -79,7 +79,7 @@ impl<J: Job + Drop> Shift<'_, J> {
         backlog: &mut Backlog<J>,
     ) -> Result<(), NoMemory>
         requires owner { owner.old.tag ≡ self.now.list.now.list.begun }
-        requires backlog { MayTake backlog.old self.now.number.now.frames }
+        requires frames { backlog.old.frames ≡ self.now.number.now.frames }
         requires brought { backlog.old.fates ≡ [] }
         ensures owner { IsSameOwner owner.old owner.new }
         ensures backlog { OnOk result (MayTake backlog.new self.now.number.now.frames) }
@@ -92,8 +92,8 @@ impl<J: Job + Drop> Shift<'_, J> {
 
     // Gives the run what was done. Whoever closes the run so leaves it for the others, and closes the list.
     fn bring<R: Wait>(&self, rt: &R, backlog: &mut Backlog<J>) -> Result<(), NoMemory>
-        requires { MayTake backlog.old self.now.number.now.frames }
-        ensures backlog { OnOk result (MayTake backlog.new self.now.number.now.frames) }
+        requires { backlog.old.frames ≡ self.now.number.now.frames }
+        ensures frames { OnOk result (backlog.new.frames ≡ backlog.old.frames) }
         ensures brought { OnOk result (backlog.new.fates ≡ []) }
     {
         let Brought { state, .. } = Frame::bring(rt, backlog)?;
