@@ -1,7 +1,8 @@
 #!/usr/bin/env bash
-# Runs the built program on each of the examples, also by 1, 4 and 16 workers, on command lines and files that it refuses,
-# on texts of which one can't be read, on outputs that fail and without memory, and compares its exit code, standard output
-# and standard error; and counts the threads of runs by several workers. Prints a line for each difference, and ends with
+# Runs the built program on each of the examples, also by 1, 4 and 16 workers and in version 2 of its graph file, on graphs
+# with semaphores, on command lines and files that it refuses, on texts of which one can't be read, on outputs that fail and
+# without memory, and compares its exit code, standard output and standard error; and counts the threads of runs by
+# several workers. Prints a line for each difference, and ends with
 # status 1 where there is one. Its one argument is the program; without it that of the last build is run.
 set -euo pipefail
 top=$(realpath "$(dirname "${BASH_SOURCE[0]}")/..")
@@ -44,6 +45,29 @@ copy_or_empty() {
     if [[ -f $1 ]]; then cat "$1"; fi >"$2"
 }
 
+# An example's graph file, if it isn't refused, as version 2 of it: a run of that prints what is wanted, its check what the
+# check of the example prints, and its upgrade is the same file.
+upgraded_prints_the_same() {
+    local folder=$1 code=$2
+    if [[ $code == 3 ]]; then
+        (cd "$folder" && call upgrade graph.json)
+        compare "the upgrade of $folder" 3 /dev/null "$seen/wanted_notes"
+        return
+    fi
+    (cd "$folder" && call upgrade graph.json)
+    cp "$seen/out" "$seen/upgraded.json"
+    compare "the upgrade of $folder" 0 "$seen/upgraded.json" /dev/null
+    grep -q '"version":2}$' "$seen/upgraded.json" || fault "the upgrade of $folder isn't of version 2"
+    call upgrade "$seen/upgraded.json"
+    compare "the second upgrade of $folder" 0 "$seen/upgraded.json" /dev/null
+    (cd "$folder" && call run "$seen/upgraded.json")
+    compare "the upgraded $folder" "$code" "$seen/wanted_out" "$seen/wanted_notes"
+    if [[ -f $folder/findings.txt ]]; then
+        call check "$seen/upgraded.json"
+        compare "the check of the upgraded $folder" 0 "$folder/findings.txt" /dev/null
+    fi
+}
+
 # Each example, called from its folder. A file that isn't there stands for no bytes, or for code 0.
 for folder in examples/*/; do
     copy_or_empty "$folder/expected.txt" "$seen/wanted_out"
@@ -60,6 +84,7 @@ for folder in examples/*/; do
         (cd "$folder" && call check graph.json)
         compare "the check of $folder" 0 "$folder/findings.txt" /dev/null
     fi
+    upgraded_prints_the_same "$folder" "$code"
 done
 
 # A call that is to put nothing on its output, and this line on its notes.
@@ -93,6 +118,9 @@ refused 2 'flow: bad words' run "$count" --help
 refused 2 'flow: bad words' check
 refused 2 'flow: bad words' check "$count" "$count"
 refused 2 'flow: bad words' check "$count" --limit 3
+refused 2 'flow: bad words' upgrade
+refused 2 'flow: bad words' upgrade "$count" "$count"
+refused 2 'flow: bad words' upgrade "$count" --workers 4
 refused 5 'flow: no text nowhere.json' run nowhere.json
 refused 5 'flow: no text t.txt' run "$count"
 refused 6 'flow: read fault on examples' run examples
@@ -217,6 +245,134 @@ mkdir folder
 refused 6 'flow: read fault on folder' check folder
 cd "$top"
 
+# The graph file of version 2 for the plan of a file, in one piece and without a line feed at its end. It reads no text that
+# the graph names, and needs no source.
+mkdir "$seen/upgrades"
+cd "$seen/upgrades"
+upgrades() {
+    local what=$1 file=$2 out=$3
+    echo "$file" >graph.json
+    printf '%s' "$out" >"$seen/wanted_out"
+    call upgrade graph.json
+    compare "the upgrade of $what" 0 "$seen/wanted_out" /dev/null
+}
+upgraded() {
+    echo "{\"modules\":[],\"semaphores\":[$1],\"tasks\":[$2],\"version\":2}"
+}
+counting="$(upgraded '' '{"acquire":[],"name":"a","op":"read","release":[],"text":"t.txt","to":["b"]},{"acquire":[],"name":"b","op":"count","release":[],"to":[]}')"
+upgrades 'a row' "$(cat "$top/$count")" "$counting"
+upgrades 'an upgraded row' "$counting" "$counting"
+upgrades 'no task' '{"tasks":[]}' "$(upgraded '' '')"
+upgrades 'a circle' '{"version":1,"tasks":[{"name":"a","op":"pass","to":["a"]}]}' \
+    "$(upgraded '' '{"acquire":[],"name":"a","op":"pass","release":[],"to":["a"]}')"
+upgrades 'a task that holds units' '{"tasks":[{"name":"a","op":"input","holds":["u","s"]}],"semaphores":[{"name":"s","max":1},{"max":1000000,"name":"u"}]}' \
+    "$(upgraded '{"max":1,"name":"s"},{"max":1000000,"name":"u"}' '{"acquire":["s","u"],"name":"a","op":"input","release":["s","u"],"to":[]}')"
+refused 3 'flow: bad graph: not JSON' upgrade "$top/examples/count-lines/t.txt"
+refused 3 'flow: bad graph: bad field op in task 0' upgrade "$top/examples/unknown-operation/graph.json"
+echo '{"tasks":[],"version":3}' >graph.json
+refused 3 'flow: bad graph: bad field version in file' upgrade graph.json
+refused 5 'flow: no text nowhere.json' upgrade nowhere.json
+mkdir folder
+refused 6 'flow: read fault on folder' upgrade folder
+code=0
+"$program" upgrade "$top/$count" >/dev/full 2>"$seen/notes" || code=$?
+: >"$seen/out"
+echo "$code" >"$seen/code"
+echo 'flow: write fault' >"$seen/wanted_notes"
+compare 'an upgrade on a full device' 7 /dev/null "$seen/wanted_notes"
+# As many semaphores as there may be, and one more.
+semaphores() {
+    seq "$1" | sed 's/.*/{"name":"s&","max":1}/' | paste -sd ,
+}
+echo "{\"tasks\":[],\"semaphores\":[$(semaphores 256)]}" >graph.json
+printf 'findings 0\n' >"$seen/wanted_out"
+call check graph.json
+compare 'the check of a graph with 256 semaphores' 0 "$seen/wanted_out" /dev/null
+echo "{\"tasks\":[],\"semaphores\":[$(semaphores 257)]}" >graph.json
+refused 3 'flow: bad graph: too many semaphores' check graph.json
+refused 3 'flow: bad graph: too many semaphores' upgrade graph.json
+cd "$top"
+
+# Graphs whose tasks take and give back units, as lists of tasks in files of both versions, over the text t.txt and with
+# semaphores `s` and `u` of 1 and 2 units: by 1, 4 and 16 workers, and each journal judged.
+mkdir "$seen/units"
+cd "$seen/units"
+printf 'x\n' >t.txt
+uses_units() {
+    local what=$1 version=$2 tasks=$3 code=$4 out=$5 notes=$6 limit=${7:-100000} workers
+    echo "{\"version\":$version,\"tasks\":[$tasks],\"semaphores\":[{\"name\":\"s\",\"max\":1},{\"name\":\"u\",\"max\":2}]}" >graph.json
+    for workers in 1 4 16; do
+        printf -- "$out" >"$seen/wanted_out"
+        printf -- "$notes" >"$seen/wanted_notes"
+        call run graph.json --workers "$workers" --limit "$limit"
+        compare "$what by $workers workers" "$code" "$seen/wanted_out" "$seen/wanted_notes"
+        call run graph.json --workers "$workers" --limit "$limit" --journal
+        cp "$seen/out" journal.txt
+        compare "the journal of $what by $workers workers" "$code" journal.txt "$seen/wanted_notes"
+        echo complete >"$seen/wanted_out"
+        call judge graph.json journal.txt --limit "$limit"
+        compare "the judgement of $what by $workers workers" 0 "$seen/wanted_out" /dev/null
+    done
+}
+holders="$(read_to r '"k1","k2","k3","k4"'),$(task k1 pass '"holds":["s"]'),$(task k2 pass '"holds":["s"]'),$(task k3 pass '"holds":["s"]'),$(task k4 pass '"holds":["s"]')"
+four='== k1\nx\n== k2\nx\n== k3\nx\n== k4\nx\n'
+uses_units 'four holders of one unit' 1 "$holders" 0 "$four" ''
+uses_units 'four holders of one unit in version 2' 2 "${holders//'"holds":["s"]'/'"acquire":["s"],"release":["s"]'}" 0 "$four" ''
+reads_and_takes="$(task a read '"text":"t.txt","to":["b"],"acquire":["s"]')"
+uses_units 'a unit that the next task gives back' 2 "$reads_and_takes,$(task b pass '"release":["s"]')" 0 '== b\nx\n' ''
+uses_units 'a unit that never comes back' 2 "$reads_and_takes,$(task b pass '"acquire":["s"]')" \
+    10 '-- b\n!! stuck b\n' 'flow: stuck b\n'
+uses_units 'a unit that comes back twice' 2 "$(read_to a '"b"'),$(task b pass '"release":["s"]')" \
+    9 '-- b\n!! fault b: over 0\n' 'flow: fault b: over 0\n'
+uses_units 'a unit of the second semaphore that comes back twice' 2 "$reads_and_takes,$(task b pass '"release":["u","s"]')" \
+    9 '-- b\n!! fault b: over 1\n' 'flow: fault b: over 1\n'
+uses_units 'units in another order' 2 \
+    "$(task a read '"text":"t.txt","acquire":["s","u"],"release":["s","u"]'),$(task b read '"text":"t.txt","acquire":["u","s"],"release":["u","s"]')" \
+    0 '== a\nx\n== b\nx\n' ''
+uses_units 'a fault while a task waits' 2 \
+    "$(task h read '"text":"t.txt","to":["p","f"],"acquire":["s"]'),$(task p pass '"acquire":["s"]'),$(task f pass '"release":["u"]')" \
+    9 '-- p\n-- f\n!! fault f: over 1\n' 'flow: fault f: over 1\n'
+uses_units 'a limit while tasks wait' 1 \
+    "$(read_to r '"k1","k2","k3"'),$(task k1 pass '"to":["z"],"holds":["s"]'),$(task k2 pass '"to":["z"],"holds":["s"]'),$(task k3 pass '"to":["z"],"holds":["s"]'),$(task z count)" \
+    8 '-- z\n!! limit 2\n' 'flow: limit 2\n' 2
+# Many tasks behind one: three take the units that there are, and the others wait for them in vain; or all hold one of them
+# in turn.
+wanted() {
+    local field=$1 k
+    for k in $(seq 500); do task "k$k" pass "\"$field\":[\"s\"]"; done | paste -sd ,
+}
+names=$(seq 500 | sed 's/.*/"k&"/' | paste -sd ,)
+for workers in 1 4 16; do
+    echo "{\"version\":2,\"tasks\":[$(read_to r "$names"),$(wanted acquire)],\"semaphores\":[{\"name\":\"s\",\"max\":3}]}" >graph.json
+    call run graph.json --workers "$workers" --journal
+    cp "$seen/out" journal.txt
+    cases=$((cases + 1))
+    [[ $(cat "$seen/code") == 10 && $(grep -c '^drop .* strong stuck:0$' journal.txt) == 497 && $(grep -c '^end ' journal.txt) == 4 ]] ||
+        fault "of 500 tasks that want three units not three get them by $workers workers"
+    echo complete >"$seen/wanted_out"
+    call judge graph.json journal.txt
+    compare "the judgement of 500 tasks that want three units by $workers workers" 0 "$seen/wanted_out" /dev/null
+    echo "{\"tasks\":[$(read_to r "$names"),$(wanted holds)],\"semaphores\":[{\"name\":\"s\",\"max\":3}]}" >graph.json
+    seq 500 | sed 's/.*/== k&\nx/' >"$seen/wanted_out"
+    call run graph.json --workers "$workers"
+    compare "500 tasks that hold one of three units by $workers workers" 0 "$seen/wanted_out" /dev/null
+done
+# That a run got stuck is told though its report can't be written.
+echo '{"version":2,"tasks":['"$reads_and_takes,$(task b pass '"acquire":["s"]')"'],"semaphores":[{"name":"s","max":1}]}' >graph.json
+code=0
+"$program" run graph.json >/dev/full 2>"$seen/notes" || code=$?
+: >"$seen/out"
+echo "$code" >"$seen/code"
+echo 'flow: stuck b' >"$seen/wanted_notes"
+compare 'a run that gets stuck on a full device' 10 /dev/null "$seen/wanted_notes"
+# In a journal the holder of the one unit faults, and another task starts with it: no version of the journal may say that.
+echo "{\"tasks\":[$(task a input '"holds":["s"]'),$(task b input '"holds":["s"]')],\"semaphores\":[{\"name\":\"s\",\"max\":1}]}" >graph.json
+for version in 1 2; do
+    printf "flow journal $version\nstart 0 source -\nfault 0 long:9\nstart 1 source -\n" >journal.txt
+    judges journal.txt 11 'breaks at 2: over units 0\n' 'flow: not legal at 2\n'
+done
+cd "$top"
+
 # Small graphs over the text t.txt, as lists of tasks: the code and what is printed, with `\n` for a line end.
 mkdir "$seen/graphs"
 cd "$seen/graphs"
@@ -273,6 +429,7 @@ reading() {
 }
 refused 5 'flow: text too long brackets.json' run brackets.json
 refused 5 'flow: text too long brackets.json' check brackets.json
+refused 5 'flow: text too long brackets.json' upgrade brackets.json
 truncate -s 4194304 brackets.json
 refused 3 'flow: bad graph: not JSON' run brackets.json
 refused 3 'flow: bad graph: not JSON' check brackets.json
@@ -456,6 +613,7 @@ for workers in 1 4; do
 done
 refused 2 'flow: bad words' judge graph.json $'\xff'
 refused 2 'flow: bad words' check $'\xff'
+refused 2 'flow: bad words' upgrade $'\xff'
 reads $'\xff' good.txt
 refused 3 'flow: bad graph: not JSON' run graph.json
 reads 'good.txt' '\ud800'

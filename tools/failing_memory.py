@@ -9,10 +9,10 @@ second, and so on; with `--all-later` that one and each after it. Which call is 
 workers, so the runs end only after so many (`--past`) that came to no Nth call. A run has to end within ten seconds
 with what it prints with ample memory, or with the same code and output and no line on standard error, for which there
 was no memory, or with code 13 and the line of it, or without that line where each later allocation fails, and a prefix
-of the output. Without an example it takes five. With `--seconds` it takes random graphs
-in their place, those with conditions by one worker and others by 1, 4 or 16, until so many seconds have passed or a run
-ended in another way. It needs a C compiler and prints for each example how many runs ended in which way, of random
-graphs for all together, and ends with status 1 where one ended in another.
+of the output. Without an example it takes seven. With `--seconds` it takes random graphs in their place, of which one in
+four is upgraded; those with conditions or semaphores are run by one worker and others by 1, 4 or 16, until so many
+seconds have passed or a run ended in another way. It needs a C compiler and prints for each example how many runs ended
+in which way, of random graphs for all together, and ends with status 1 where one ended in another.
 """
 import argparse
 import collections
@@ -23,10 +23,10 @@ import sys
 import tempfile
 import time
 
-from random_graphs import add_extent, branching_graph, cases, folder_of, plain_graph, random_text
+from random_graphs import add_extent, branching_graph, cases, folder_of, plain_graph, random_text, with_units
 
 EXAMPLES = pathlib.Path(__file__).resolve().parent.parent / "examples"
-CHOSEN = ("count-lines", "log-triage", "trim-until-it-fits", "words-by-file", "join-orders")
+CHOSEN = ("count-lines", "log-triage", "trim-until-it-fits", "words-by-file", "join-orders", "two-tallies-at-a-time", "never-given-back")
 NO_MEMORY = (13, b"flow: no memory\n")
 
 # The calls for memory, all of which the C library's own names serve. The refused one leaves a byte in a pipe.
@@ -175,15 +175,16 @@ def try_random_graphs(asked, library):
     trial = Trial(asked.program, library, asked.past, time.monotonic() + asked.seconds)
     graphs = 0
     for number, dice in cases(asked, lambda: trial.faults() > 0):
-        has_conditions = number % 2 == 1
+        has_conditions, has_units = number % 2 == 1, number % 3 == 0
         graph = branching_graph(dice) if has_conditions else plain_graph(dice)
+        graph = with_units(dice, graph) if has_units else graph
         texts = {"one.txt": random_text(dice), "two.txt": random_text(dice)}
-        workers = 1 if has_conditions else dice.choice((1, 4, 16))
+        workers = 1 if has_conditions or has_units else dice.choice((1, 4, 16))
         all_later = dice.random() < 0.5
-        words = ["run", "graph.json", "--limit", "30", "--workers", str(workers)]
+        words = ["run", "graph.json", "--limit", "30", "--workers", str(workers)] if number % 4 else ["upgrade", "graph.json"]
         with folder_of(graph, texts) as folder:
             graphs += 1
-            what = f"graph {number} of seed {asked.seed}, {workers} workers{', each later' * all_later}"
+            what = f"graph {number} of seed {asked.seed}, {' '.join(words)}{', each later' * all_later}"
             trial.run(what, folder, words, all_later)
     print(f"{graphs} graphs, {trial.runs()} runs: {trial.ways()}")
     return trial.faults()

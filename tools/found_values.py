@@ -17,6 +17,7 @@ import collections
 import json
 import sys
 
+from judged_journals import listed
 from random_graphs import add_extent, branching_graph, call, cases, folder_of, random_text
 
 WORKERS = (1, 2, 4, 16)
@@ -107,10 +108,6 @@ class Edges:
         if cause == "source":
             return []
         return self.strong_in[task_number] if cause == "strong" else [int(cause.partition(":")[2])]
-
-
-def listed(field):
-    return [] if field == "-" else field.split(",")
 
 
 class Found:

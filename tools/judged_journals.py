@@ -3,13 +3,13 @@
 
     judged_journals.py PROGRAM [--count N | --seconds N] [--seed N]
 
-Runs each of the examples and random graphs with `--journal`, and judges each journal: that of a run that was kept must
-be complete, with the first line of either version. Then one line at a time is changed: two neighbours exchanged, a line
-left out or put twice, a number made another, a word made another. What the judge says of it is compared with a slow
-judge, which is written here from the rules alone, for nets without semaphores, and with the slow reading of a line by a
-regular expression. With `--seconds` graphs are made until so many seconds have passed or there is a difference. Prints a
-line for each difference and how many journals were judged and what was said, and ends with status 1 where there was a
-difference.
+Runs each of the examples and random graphs, half of them with semaphores, with `--journal`, and judges each journal:
+that of a run that was kept must be complete, with the first line of either version (in version 1 an over-release and a
+drop for want of a unit have no line). Then one line at a time is changed: two neighbours exchanged, a line left out or
+put twice, a number made another, a word made another. What the judge says of it is compared with a slow judge, which is
+written here from the rules alone, and with the slow reading of a line by a regular expression. With `--seconds` graphs
+are made until so many seconds have passed or there is a difference. Prints a line for each difference and how many
+journals were judged and what was said, and ends with status 1 where there was a difference.
 """
 import argparse
 import json
@@ -20,7 +20,7 @@ import shutil
 import sys
 import tempfile
 
-from random_graphs import add_extent, branching_graph, call, cases, folder_of, plain_graph, random_text
+from random_graphs import add_extent, branching_graph, call, cases, folder_of, plain_graph, random_text, with_units
 
 TOP = pathlib.Path(__file__).resolve().parent.parent
 
@@ -33,6 +33,8 @@ LINES = [
     (f"drop ({NUMBER}) ({CAUSE}) (halted|limit|stuck:{NUMBER})", "drop"),
 ]
 VERSIONS = ("flow journal 1", "flow journal 2")
+# What version 1 has no lines for.
+UNITS = re.compile("over:|stuck:")
 
 # The most starts of a run: the slow judge takes a time that grows with the square of a journal's length.
 LIMIT = 30
@@ -63,6 +65,11 @@ def fits(kind, fields):
             and all(small(number, 32 if kind == "end" else 64) for number in plain))
 
 
+def listed(field):
+    """The members of a list in a journal's line."""
+    return [] if field == "-" else field.split(",")
+
+
 def read_slowly(text):
     """The entries of a journal's text, or the number of the first bad line."""
     lines = text.split("\n")
@@ -71,7 +78,7 @@ def read_slowly(text):
     entries = []
     for number, line in enumerate(lines[1:-1], 2):
         entry = entry_of(line)
-        if entry is None or (lines[0] == VERSIONS[0] and re.search("over:|stuck:", line)):
+        if entry is None or (lines[0] == VERSIONS[0] and UNITS.search(line)):
             return number
         entries.append(entry)
     return entries if lines[-1] == "" else len(lines)
@@ -80,9 +87,13 @@ def read_slowly(text):
 # ---- a slow judge
 
 class Net:
-    """The tasks and edges of a graph file; conditions have weak edges out of them."""
+    """The tasks, edges and semaphores of a graph file; conditions have weak edges out of them."""
 
     def __init__(self, graph):
+        names = [semaphore["name"] for semaphore in graph.get("semaphores", [])]
+        self.most = [semaphore["max"] for semaphore in graph.get("semaphores", [])]
+        self.takes, self.puts = ([[names.index(name) for name in task.get("holds", task.get(field, []))] for task in graph["tasks"]]
+                                 for field in ("acquire", "release"))
         self.ops = [task["op"] for task in graph["tasks"]]
         places = {task["name"]: place for place, task in enumerate(graph["tasks"])}
         self.edges = [(place, places[name]) for place, task in enumerate(graph["tasks"]) for name in task.get("to", [])]
@@ -104,32 +115,106 @@ def breaks(net, limit, before, entry):
     """The rule that an entry breaks after others, the first in the judge's order, or None."""
     kind, number, *fields = entry
     number = int(number)
+    if not is_in_range(net, entry):
+        return "no such number"
+    if stuck_at(entry) is None and any(stuck_at(other) is not None for other in before):
+        return "after stuck"
     if kind in ("start", "drop"):
         edge = int(fields[0][5:]) if fields[0].startswith("weak:") else None
-        if number >= len(net.ops) or (edge is not None and edge >= len(net.edges)):
-            return "no such number"
-        if kind == "drop" and fields[1].startswith("stuck:"):
-            return "no such number"
         if not is_released(net, before, number, fields[0], edge):
             return "not released"
-        starts = sum(1 for other in before if other[0] == "start")
-        if kind == "start":
-            return "over limit" if starts >= limit else None
-        if fields[1] == "limit":
-            return None
-        return None if any(other[0] == "fault" for other in before) else "not halted"
-    if kind == "end":
-        edges = [] if fields[0] == "-" else [int(edge) for edge in fields[0].split(",")]
-        if any(edge >= len(net.edges) for edge in edges):
-            return "no such number"
-    elif fields[0].startswith("over:"):
-        return "no such number"
+        return start_breaks(net, limit, before, number) if kind == "start" else drop_breaks(net, before, entry)
     closed = any(other[0] in ("end", "fault") and int(other[1]) == number for other in before)
     if number >= len(before) or before[number][0] != "start" or closed:
         return "not open"
+    task = int(before[number][1])
     if kind == "end":
-        return None if is_chosen(net, int(before[number][1]), edges, fields[1] == "inner") else "not chosen"
+        return end_breaks(net, before, task, entry)
+    return "not over" if fields[0].startswith("over:") and not is_over(net, before, int(fields[0][5:]), number, task) else None
+
+
+def is_in_range(net, entry):
+    kind, number, *fields = entry
+    if kind == "end":
+        return fields[0] == "-" or all(int(edge) < len(net.edges) for edge in fields[0].split(","))
+    named = [word.split(":") for word in fields if ":" in word]
+    edges = [int(number) for name, number in named if name == "weak"]
+    semaphores = [int(number) for name, number in named if name in ("over", "stuck")]
+    return ((kind == "fault" or int(number) < len(net.ops)) and all(edge < len(net.edges) for edge in edges)
+            and all(semaphore < len(net.most) for semaphore in semaphores))
+
+
+def stuck_at(entry):
+    """The semaphore for want of whose unit an entry drops a release, or None."""
+    is_stuck = entry[0] == "drop" and entry[3].startswith("stuck:")
+    return int(entry[3][6:]) if is_stuck else None
+
+
+def start_breaks(net, limit, before, task):
+    for semaphore in sorted(net.takes[task]):
+        if not has_unit(net, before, semaphore):
+            return f"over units {semaphore}"
+    return "over limit" if sum(1 for other in before if other[0] == "start") >= limit else None
+
+
+def end_breaks(net, before, task, entry):
+    edges = [] if entry[2] == "-" else [int(edge) for edge in entry[2].split(",")]
+    if not is_chosen(net, task, edges, entry[3] == "inner"):
+        return "not chosen"
+    for semaphore in sorted(net.puts[task]):
+        if taken(net, before, semaphore) == back(net, before, semaphore):
+            return f"nothing out {semaphore}"
     return None
+
+
+def drop_breaks(net, before, entry):
+    has_faulted = any(other[0] == "fault" for other in before)
+    semaphore = stuck_at(entry)
+    if entry[3] == "halted" and not has_faulted:
+        return "not halted"
+    if semaphore is None:
+        return None
+    may = not has_faulted and not open_starts(before) and semaphore in net.takes[int(entry[1])] and not has_unit(net, before, semaphore)
+    return None if may else "not stuck"
+
+
+def taken(net, before, semaphore):
+    return sum(1 for other in before if other[0] == "start" and semaphore in net.takes[int(other[1])])
+
+
+def back(net, before, semaphore):
+    return sum(1 for other in before if other[0] == "end" and semaphore in net.puts[int(before[int(other[1])][1])])
+
+
+def has_unit(net, before, semaphore):
+    return taken(net, before, semaphore) < back(net, before, semaphore) + net.most[semaphore]
+
+
+def is_over(net, before, semaphore, place, task):
+    """Whether the start at a place, of this task, may fault for a unit that it would give back and that isn't out: at some
+    moment since then the units that came from elsewhere were no more than what others were to give back."""
+    if semaphore not in net.puts[task]:
+        return False
+    own = 1 if semaphore in net.takes[task] else 0
+    return any(from_elsewhere(net, before[:end], semaphore) + own <= owed_elsewhere(net, before[:end], semaphore, place)
+               for end in range(place + 1, len(before) + 1))
+
+
+def from_elsewhere(net, before, semaphore):
+    """How many starts are closed of tasks that take a unit and don't give it back."""
+    closed = {int(other[1]) for other in before if other[0] in ("end", "fault")}
+    return sum(1 for place in closed if semaphore in net.takes[int(before[place][1])] and semaphore not in net.puts[int(before[place][1])])
+
+
+def owed_elsewhere(net, before, semaphore, place):
+    """How many other starts there are of tasks that give a unit back and don't take it."""
+    return sum(1 for at, other in enumerate(before) if other[0] == "start" and at != place
+               and semaphore in net.puts[int(other[1])] and semaphore not in net.takes[int(other[1])])
+
+
+def open_starts(entries):
+    closed = {int(entry[1]) for entry in entries if entry[0] in ("end", "fault")}
+    return [place for place, entry in enumerate(entries) if entry[0] == "start" and place not in closed]
 
 
 def is_released(net, before, task, cause, edge):
@@ -157,13 +242,11 @@ def is_chosen(net, task, edges, inner):
 
 
 def is_finished(net, limit, entries):
-    open_starts = [place for place, entry in enumerate(entries) if entry[0] == "start"
-                   and not any(other[0] in ("end", "fault") and int(other[1]) == place for other in entries)]
     left = any(is_released(net, entries, task, cause, edge) for task in range(len(net.ops))
                for cause, edge in [("source", None), ("strong", None)] + [(f"weak:{e}", e) for e in net.into(task)])
     at_limit = any(entry[0] == "drop" and entry[3] == "limit" for entry in entries)
     starts = sum(1 for entry in entries if entry[0] == "start")
-    return not open_starts and not left and (not at_limit or starts == limit)
+    return not open_starts(entries) and not left and (not at_limit or starts == limit)
 
 
 def judged_slowly(net, limit, text):
@@ -186,8 +269,8 @@ WORDS = ("plain", "inner", "strong", "source", "weak:0", "start", "end", "fault"
 
 
 def in_version(dice, text):
-    """The journal with the first line of a version."""
-    return dice.choice(VERSIONS) + text[text.index("\n"):]
+    """The journal with the first line of a version that has it."""
+    return dice.choice(VERSIONS[1:] if UNITS.search(text) else VERSIONS) + text[text.index("\n"):]
 
 
 def changed(dice, text):
@@ -253,12 +336,14 @@ def hold(program, folder, graph, dice, what, seen):
     code, text, notes = call(program, folder, "run", "graph.json", "--journal", "--limit", str(LIMIT))
     if code not in (0, 8, 9, 10):
         return seen.say("graphs that aren't run")
+    net = Net(graph)
     for version in VERSIONS:
-        told = judged(program, folder, version + text[text.index("\n"):])
-        if told != (0, "complete\n", ""):
+        journal = version + text[text.index("\n"):]
+        told = judged(program, folder, journal)
+        wanted = judged_slowly(net, LIMIT, journal) if version == VERSIONS[0] and UNITS.search(text) else (0, "complete\n", "")
+        if told != wanted:
             seen.fault(f"{what}: the journal of a run is judged as {told}\n{text}")
     seen.say("journals of runs, complete")
-    net = Net(graph)
     for _ in range(6):
         other = changed(dice, in_version(dice, text))
         found = judged(program, folder, other)
@@ -280,6 +365,7 @@ def main():
             hold(asked.program, folder, graph, random.Random(asked.seed), example.name, seen)
     for number, dice in cases(asked, lambda: seen.faults > 0):
         graph = branching_graph(dice) if number % 2 == 1 else plain_graph(dice)
+        graph = with_units(dice, graph) if number % 4 > 1 else graph
         texts = {"one.txt": random_text(dice), "two.txt": random_text(dice)}
         with folder_of(graph, texts) as folder:
             hold(asked.program, folder, graph, dice, f"graph {number} of seed {asked.seed}", seen)

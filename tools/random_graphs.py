@@ -84,6 +84,38 @@ def branching_graph(dice):
     return {"tasks": [first] + [branching_task(dice, name, names) for name in names]}
 
 
+def some_of(dice, names, chance):
+    return [name for name in names if dice.random() < chance]
+
+
+def with_units(dice, graph):
+    """The graph with semaphores of a few units each. In version 1 tasks hold them. In version 2 a task gives back what it
+    takes, or one of its successors does, or nobody; now and then a task gives back a unit that it didn't take."""
+    names = [f"s{k}" for k in range(dice.randint(1, 3))]
+    version, chance = dice.choice([1, 2, 2, 2]), dice.choice([0.1, 0.3, 0.5])
+    tasks = [dict(task) for task in graph["tasks"]]
+    by_name = {task["name"]: task for task in tasks}
+    for task in tasks:
+        taken = some_of(dice, names, chance)
+        if version == 1:
+            task["holds"] = taken
+            continue
+        givers = [task] + [by_name[name] for name in task.get("to", [])]
+        returned = some_of(dice, names, 0.05)
+        if dice.random() < 0.8:
+            give_back(dice.choice(givers), taken)
+        give_back(task, returned)
+        task["acquire"] = taken
+    semaphores = [{"name": name, "max": dice.choice([1, 1, 2, 3])} for name in names]
+    return {"version": version, "tasks": tasks, "semaphores": semaphores}
+
+
+def give_back(task, names):
+    """Adds to what a task gives back."""
+    given = task.setdefault("release", [])
+    given.extend(name for name in names if name not in given)
+
+
 # ---- what a graph without conditions prints
 
 def lines_of(text):

@@ -11,7 +11,7 @@ pub mod WorkedSeats
 pub mod WorkedYards
 pub mod WorkedSlots
 pub mod WorkedTurns
+pub mod WorkedUnitTurns
 pub mod WorkedEndValues
 pub mod WorkedEntries
 pub mod WorkedMachine
-pub mod WorkedUnitTurns

@@ -1,11 +1,13 @@
 -- What works may come to, and what the steps of frames do, computed on small ones.
-use Rattle.std.proofs.Common.{◌≡◌, ◌≢◌, ℕ, zero, suc, ◌+◌, true, false, List, [], ◌∷◌, ◌++◌, length, map, Option, Some, None, inl, inr, refl, ap, sym, subst, ◌∙◌, arith}
+use Rattle.std.proofs.Common.{◌≡◌, ◌≢◌, ℕ, zero, suc, ◌+◌, ◌≤◌, true, false, List, [], ◌∷◌, ◌++◌, length, map, Option, Some, None, inl, inr, refl, ap, sym, subst, ◌∙◌, arith}
 use Rattle.std.specs.Arc.{arc_value, arc_with_value}
 use Rattle.std.specs.Borrow.{Bor}
 use Rattle.std.specs.Global.{Global}
 use Rattle.std.specs.declared.sync.Arc.{Arc}
+use Rattle.std.specs.declared.snapshot.Snapshot.{Snapshot}
 use Rattle.std.specs.declared.vec.Vec.{Vec}
 use Rattle.std.specs.Prelude.{◌⊎◌, min, All, slice_get}
+use Rattle.std.proofs.lemmas.List.{length-append, length-map}
 use Rattle.std.proofs.lemmas.List.Elements.{All-from_recursion, All-head}
 use Rattle.atomic_table.specs.Seated.{TableId}
 use Rattle.task_graph.specs.NetRows.{NetRows}
@@ -23,7 +25,7 @@ use Rattle.journal_rules.specs.declared.entry.Entry.TheVariants.{Start, End, Fau
 use Rattle.join_words.specs.Ins.{InputValue, value, parts_of, found_of}
 use Rattle.join_words.specs.declared.ins.Given.{Given}
 use Rattle.join_words.specs.declared.ins.Given.TheVariants as given
-use Rattle.join_tables.specs.States.{FreshState, TurnState, fresh_state}
+use Rattle.join_tables.specs.States.{FreshState, TurnState, fresh_state, turn_with}
 use Rattle.join_tables.specs.Keeping.{KeeperState, keeper_state, drop_of}
 use Rattle.join_tables.specs.declared.parts.FoundParts.{FoundParts}
 use Rattle.join_tables.specs.declared.turns.EndedStart.{EndedStart}
@@ -31,6 +33,8 @@ use Rattle.join_tables.specs.declared.fates.Failure.{Failure}
 use Rattle.join_tables.specs.declared.fates.Dropping.{Dropping}
 use Rattle.join_tables.specs.declared.fates.Fate.{Fate}
 use Rattle.join_tables.specs.declared.fates.Fate.TheVariants.{Ended, Faulted, Dropped, AllDropped}
+use Rattle.semaphore_turns.specs.Settlements.{AreDrops}
+use Rattle.semaphore_turns.specs.WokenTurns.{WaitedFor}
 use Rattle.run_frame.specs.declared.job.Answer.TheVariants.{All as Each}
 use Rattle.run_frame.specs.declared.job.Done.{Done}
 use Rattle.run_frame.specs.declared.job.Done.TheVariants.{Value, Inner as InnerJob}
@@ -44,12 +48,12 @@ use Rattle.run_frame.specs.WorkRule.{WorkRule, gives_of}
 use Rattle.run_frame.specs.NestedRule.{NestedRule, job_of, journal_of}
 use Rattle.run_frame.specs.Legal.{IsKept}
 use Rattle.table_frames.specs.AllowedFates.{IsAllowed, AreAllowed, work_with}
-use Rattle.table_frames.specs.Frames.{FrameKey, ReleaseView, BacklogView, release_in, root_job, depth_of, frames_around, IsInnermost, HasTable, backlog_view, MayTake, key_of}
+use Rattle.table_frames.specs.Frames.{FrameKey, ReleaseView, BacklogView, release_in, root_job, depth_of, frames_around, IsInnermost, AtFrame, HasTable, backlog_view, MayTake, key_of, table_in}
 use Rattle.table_frames.specs.Holders.{HoldsRelease}
 use Rattle.table_frames.specs.StepReleases.{IsFateOf, given_by, release_of, AreMadeBy, GivesEdges, MayRelease, Uses}
 use Rattle.table_frames.specs.JournalFacts.{IsInJournal, HasEntriesOf}
-use Rattle.table_frames.specs.Steps.{IsRootRun, IsStateOf, IsClosed, BeginsFrame, StepsRelease}
-use Rattle.table_frames.specs.BacklogResults.{TakesIn, MayTakeIn, BringsFates}
+use Rattle.table_frames.specs.Steps.{IsRootRun, IsStateOf, IsClosed, BeginsFrame, units_of, UsesRelease, ParksRelease, StepsTo, StepsRelease}
+use Rattle.table_frames.specs.BacklogResults.{TakesIn, MayTakeIn, BringsFates, DropsParked, SettlesFrame}
 use Rattle.table_frames.specs.declared.release.HeldBy.TheVariants as held
 use Rattle.table_frames.specs.declared.step_results.Brought.{Brought}
 use Rattle.table_frames.specs.declared.step_results.State.TheVariants.{Went, Parked, Inner as HasInner, Closed}
@@ -223,6 +227,13 @@ flat_sums = record sums { net = λ j. flat; answers = flat_answer }
 abbrev mute : Meaning ℕ ℕ
 mute = record flat_sums { answers = λ j t found done. ⊥; faults = λ j t found why. ⊥ }
 
+-- a task that takes semaphore 0 and puts 1, and one that takes 1
+abbrev shares : NetRows
+shares = record { tasks = record { shape = Plain; takes = 0 ∷ []; puts = 1 ∷ [] } ∷ record { shape = Plain; takes = 1 ∷ []; puts = [] } ∷ []; edges = []; sems = 1 ∷ 2 ∷ [] }
+
+abbrev share_sums : Meaning ℕ ℕ
+share_sums = record flat_sums { net = λ j. shares }
+
 -- A condition that leads to two tasks, of which the first leads to the second.
 abbrev fork : NetRows
 fork = record { tasks = free Choice ∷ free Plain ∷ free Plain ∷ []; edges = edge 0 1 ∷ edge 0 2 ∷ edge 1 2 ∷ []; sems = [] }
@@ -259,6 +270,12 @@ module _ (n m : TableId) (other : m ≢ n) where
   inmost : IsInnermost key own × ¬ IsInnermost key inside × ¬ IsInnermost key []
   inmost = (refl, (λ is. other (ap (λ (k : FrameKey ℕ). k.table) is)), λ is. is)
 
+  fact_of_the_inmost : AtFrame inside (λ frame. frame.job ≡ 9) × ¬ AtFrame inside (λ frame. frame.job ≡ 2) × ¬ AtFrame {J = ℕ} [] (λ frame. Unit {0})
+  fact_of_the_inmost = (refl, (λ is. absurd (omega (arith, is))), λ is. is)
+
+  table_with_its_net : ((table_in flat_sums key).table ≡ n) × ((table_in flat_sums key).net ≡ flat) × ((table_in flat_sums key).limit ≡ 4)
+  table_with_its_net = (refl, refl, refl)
+
   release_of_a_frame : release_in own (fresh_state n 1 Strong) ≡ record { frames = own; task = 1; cause = Strong }
   release_of_a_frame = refl
 
@@ -281,8 +298,24 @@ module _ (n m : TableId) (other : m ≢ n) where
   held_by_a_turn_of_another_table : (turn : Bor FreshState) → turn.now ≡ fresh_state m 1 Strong → ¬ HoldsRelease {V = ℕ} own_release (held.Fresh turn)
   held_by_a_turn_of_another_table turn is holds = other (sym (ap (λ (f : FreshState). f.table) is) ∙ holds.0)
 
-  held_by_a_parked_turn : (turn : Bor TurnState) → ¬ HoldsRelease {V = ℕ} own_release (held.Turn turn)
-  held_by_a_parked_turn turn holds = holds
+  -- One that was parked holds it while it wasn't refused and has no unit.
+  held_by_a_parked_turn : (turn : Bor TurnState) → turn.now ≡ turn_with n 1 Strong None [] (4 ∷ []) → HoldsRelease {V = ℕ} own_release (held.Turn turn)
+  held_by_a_parked_turn turn is = (ap (λ (f : TurnState). f.table) is, ap (λ (f : TurnState). f.task) is, ap (λ (f : TurnState). f.cause) is, ap (λ (f : TurnState). f.refused) is, ap (λ (f : TurnState). f.held) is)
+
+  held_by_a_parked_turn_of_another_table : (turn : Bor TurnState) → turn.now ≡ turn_with m 1 Strong None [] [] → ¬ HoldsRelease {V = ℕ} own_release (held.Turn turn)
+  held_by_a_parked_turn_of_another_table turn is holds = other (sym (ap (λ (f : TurnState). f.table) is) ∙ holds.0)
+
+  held_by_a_parked_turn_of_another_task : (turn : Bor TurnState) → turn.now ≡ turn_with n 2 Strong None [] [] → ¬ HoldsRelease {V = ℕ} own_release (held.Turn turn)
+  held_by_a_parked_turn_of_another_task turn is holds = absurd (omega (arith, ap (λ (f : TurnState). f.task) is, holds.1))
+
+  held_by_a_parked_turn_of_another_cause : (turn : Bor TurnState) → turn.now ≡ turn_with n 1 Source None [] [] → ¬ HoldsRelease {V = ℕ} own_release (held.Turn turn)
+  held_by_a_parked_turn_of_another_cause turn is holds = let no : Source ≡ Strong = sym (ap (λ (f : TurnState). f.cause) is) ∙ holds.2 in absurd (cc)
+
+  held_by_a_refused_turn : (turn : Bor TurnState) → turn.now ≡ turn_with n 1 Strong (Some Limit) [] [] → ¬ HoldsRelease {V = ℕ} own_release (held.Turn turn)
+  held_by_a_refused_turn turn is holds = let no : Some Limit ≡ None = sym (ap (λ (f : TurnState). f.refused) is) ∙ holds.3 in absurd (cc)
+
+  held_by_a_turn_with_a_unit : (turn : Bor TurnState) → turn.now ≡ turn_with n 1 Strong None (0 ∷ []) [] → ¬ HoldsRelease {V = ℕ} own_release (held.Turn turn)
+  held_by_a_turn_with_a_unit turn is holds = absurd (omega (arith, ap length (sym (ap (λ (f : TurnState). f.held) is) ∙ holds.4)))
 
   -- A backlog takes what is done in its own frame, and an empty one what is done in any.
   takes_of_its_frame : MayTake {V = ℕ} (backlog_view own []) own × MayTake {V = ℕ} (backlog_view [] []) own
@@ -410,14 +443,14 @@ module _ (n m : TableId) (other : m ≢ n) where
   closes_the_inner_job : (run : FrameRun ℕ ℕ) → job_of run ≡ 9 → ¬ IsRootRun flat_sums inside run
   closes_the_inner_job run job is = let same : ◌≡◌ {A = Option ℕ} (Some 2) (Some 9) = is.job ∙ ap Some job in absurd (cc)
 
-  goes_on : IsStateOf flat_sums own Went × ¬ IsStateOf flat_sums own Parked × ¬ IsStateOf flat_sums own HasInner
-  goes_on = (tt, (λ is. is), λ is. is)
+  goes_on : (parked : Snapshot TurnState) → IsStateOf flat_sums own Went × ¬ IsStateOf flat_sums own (Parked parked) × ¬ IsStateOf flat_sums own HasInner
+  goes_on parked = (tt, (λ is. is), λ is. is)
 
   gives_its_run_out : (run : FrameRun ℕ ℕ) → IsKept flat_sums run → job_of run ≡ 2 → IsStateOf flat_sums own (Closed run)
   gives_its_run_out run kept job = record { kept = kept; job = ap Some (sym job) }
 
-  closed_alone : (run : FrameRun ℕ ℕ) → IsClosed (Closed run) × ¬ IsClosed {J = ℕ} {V = ℕ} Went × ¬ IsClosed {J = ℕ} {V = ℕ} Parked × ¬ IsClosed {J = ℕ} {V = ℕ} HasInner
-  closed_alone run = (tt, (λ is. is), (λ is. is), λ is. is)
+  closed_alone : (run : FrameRun ℕ ℕ) (parked : Snapshot TurnState) → IsClosed (Closed run) × ¬ IsClosed {J = ℕ} {V = ℕ} Went × ¬ IsClosed {J = ℕ} {V = ℕ} (Parked parked) × ¬ IsClosed {J = ℕ} {V = ℕ} HasInner
+  closed_alone run parked = (tt, (λ is. is), (λ is. is), λ is. is)
 
   -- ---- A beginning, a step and a bringing as a whole.
   abbrev both_released : List (FrameKey ℕ) → List (ReleaseView ℕ)
@@ -445,8 +478,8 @@ module _ (n m : TableId) (other : m ≢ n) where
       root_job_number [] = 0
       root_job_number (frame ∷ around) = frame.job
 
-  begins_parked : (stepped : Stepped ℕ ℕ) → stepped.state ≡ Parked → ¬ BeginsFrame flat_sums 2 stepped
-  begins_parked stepped parked is = subst (IsStateOf flat_sums (is.frame ∷ [])) parked is.state
+  begins_parked : (stepped : Stepped ℕ ℕ) (turn : Snapshot TurnState) → stepped.state ≡ Parked turn → ¬ BeginsFrame flat_sums 2 stepped
+  begins_parked stepped turn parked is = subst (IsStateOf flat_sums (is.frame ∷ [])) parked is.state
 
   -- The first task starts without inputs, ends with the value 2 and gives its edge.
   module _ (five : Arc ℕ Global) (nothing : FoundParts ℕ) (found : parts_of nothing.ins.value ≡ []) where
@@ -465,43 +498,262 @@ module _ (n m : TableId) (other : m ≢ n) where
     uses_another_release : ¬ Uses flat second end_of_the_first [] (first ∷ [])
     uses_another_release is = absurd (omega (arith, is.of.0))
 
+    abbrev none_done : BacklogView ℕ ℕ
+    none_done = backlog_view [] []
+
+    abbrev first_done : BacklogView ℕ ℕ
+    first_done = backlog_view own (end_of_the_first ∷ [])
+
+    uses_release : IsInJournal flat_sums 2 end_of_the_first → UsesRelease flat_sums key (release_in own zeroth) none_done first_done (first ∷ [])
+    uses_release within = record {
+      fate = end_of_the_first;
+      by_end = first ∷ [];
+      allowed = allowed;
+      journal = within;
+      uses = uses;
+      wakes = record { woken = []; after_is = refl; waited = All-from_recursion (WaitedFor (table_in flat_sums key) []) [] tt; few = omega arith };
+      backlog = refl;
+    }
+
+    -- the fate that is with a frame, where there is one
+    abbrev first_fate : List (Fate ℕ) → Fate ℕ
+    first_fate [] = end_of_the_first
+    first_fate (f ∷ more) = f
+
+    fate_is : (meaning : Meaning ℕ ℕ) (release : ReleaseView ℕ) (made : List FreshState) (is : UsesRelease meaning key release none_done first_done made) → is.fate ≡ end_of_the_first
+    fate_is meaning release made is = sym (ap (λ (b : BacklogView ℕ ℕ). first_fate b.fates) is.backlog)
+
+    uses_it_as_its_work_may_not : (made : List FreshState) → ¬ UsesRelease mute key (release_in own zeroth) none_done first_done made
+    uses_it_as_its_work_may_not made is = (subst (IsAllowed mute 2) (fate_is mute (release_in own zeroth) made is) is.allowed).0.allowed
+
+    uses_it_outside_of_a_journal : (made : List FreshState) → ¬ IsInJournal flat_sums 2 end_of_the_first → ¬ UsesRelease flat_sums key (release_in own zeroth) none_done first_done made
+    uses_it_outside_of_a_journal made outside is = outside (subst (IsInJournal flat_sums 2) (fate_is flat_sums (release_in own zeroth) made is) is.journal)
+
+    uses_another_for_it : (made : List FreshState) → ¬ UsesRelease flat_sums key (release_in own second) none_done first_done made
+    uses_another_for_it made is = absurd (omega (arith, (subst (IsFateOf 2 Source) (fate_is flat_sums (release_in own second) made is) is.uses.of).0))
+
+    uses_it_and_keeps_no_fate : (made : List FreshState) → ¬ UsesRelease flat_sums key (release_in own zeroth) none_done (backlog_view own []) made
+    uses_it_and_keeps_no_fate made is = absurd (omega (arith, ap (λ (b : BacklogView ℕ ℕ). length b.fates) is.backlog))
+
+    steps_to_nothing_else : (made : List FreshState) (run : FrameRun ℕ ℕ) → ¬ StepsTo flat_sums key (release_in own zeroth) none_done first_done made HasInner × ¬ StepsTo flat_sums key (release_in own zeroth) none_done first_done made (Closed run)
+    steps_to_nothing_else made run = ((λ is. is), λ is. is)
+
+    steps_on : IsInJournal flat_sums 2 end_of_the_first → StepsTo flat_sums key (release_in own zeroth) none_done first_done (first ∷ []) Went
+    steps_on within = uses_release within
+
+    steps_on_without_a_fate : (made : List FreshState) → ¬ StepsTo flat_sums key (release_in own zeroth) none_done (backlog_view own []) made Went
+    steps_on_without_a_fate made is = uses_it_and_keeps_no_fate made is
+
     steps_release : IsInJournal flat_sums 2 end_of_the_first → (stepped : Stepped ℕ ℕ) → stepped.released.items ≡ release_in own first ∷ [] → stepped.state ≡ Went
-        → StepsRelease flat_sums (release_in own zeroth) (backlog_view [] []) (backlog_view own (end_of_the_first ∷ [])) stepped
+        → StepsRelease flat_sums (release_in own zeroth) none_done first_done stepped
     steps_release within stepped released went = record {
       frame = key;
       around = [];
       frames_are = refl;
-      fate = end_of_the_first;
       made = first ∷ [];
-      allowed = allowed;
-      journal = within;
-      uses = uses;
+      to = subst (StepsTo flat_sums key (release_in own zeroth) none_done first_done (first ∷ [])) (sym went) (uses_release within);
       released = released;
       frames = subst (All (λ (next : ReleaseView ℕ). next.frames ≡ own)) (sym released) (All-from_recursion (λ (next : ReleaseView ℕ). next.frames ≡ own) (release_in own first ∷ []) (refl, tt));
-      state = went;
       backlog = refl;
     }
 
-    steps_and_keeps_no_fate : (stepped : Stepped ℕ ℕ) → ¬ StepsRelease flat_sums (release_in own zeroth) (backlog_view [] []) (backlog_view own []) stepped
-    steps_and_keeps_no_fate stepped is = absurd (omega (arith, ap (λ (b : BacklogView ℕ ℕ). length b.fates) is.backlog))
+    steps_in_no_frame : (stepped : Stepped ℕ ℕ) (new : BacklogView ℕ ℕ) → ¬ StepsRelease flat_sums (release_in [] zeroth) none_done new stepped
+    steps_in_no_frame stepped new is = absurd (omega (arith, ap length is.frames_are))
+
+    steps_with_the_backlog_of_another : (stepped : Stepped ℕ ℕ) → ¬ StepsRelease flat_sums (release_in own zeroth) none_done (backlog_view inside (end_of_the_first ∷ [])) stepped
+    steps_with_the_backlog_of_another stepped is = absurd (omega (arith, ap length is.backlog))
+
+    steps_and_keeps_no_fate : (stepped : Stepped ℕ ℕ) → stepped.state ≡ Went → ¬ StepsRelease flat_sums (release_in own zeroth) none_done (backlog_view own []) stepped
+    steps_and_keeps_no_fate stepped went is =
+        let used : UsesRelease flat_sums is.frame (release_in own zeroth) none_done (backlog_view own []) is.made = subst (StepsTo flat_sums is.frame (release_in own zeroth) none_done (backlog_view own []) is.made) went is.to in
+        absurd (omega (arith, ap (λ (b : BacklogView ℕ ℕ). length b.fates) used.backlog))
 
     steps_to_releases_of_another_frame : (stepped : Stepped ℕ ℕ) (new : BacklogView ℕ ℕ) → stepped.released.items ≡ release_in inside first ∷ []
-        → ¬ StepsRelease flat_sums (release_in own zeroth) (backlog_view [] []) new stepped
+        → ¬ StepsRelease flat_sums (release_in own zeroth) none_done new stepped
     steps_to_releases_of_another_frame stepped new released is =
         let frames = subst (All (λ (next : ReleaseView ℕ). next.frames ≡ own)) released is.frames in
         absurd (omega (arith, ap length (All-head (λ (next : ReleaseView ℕ). next.frames ≡ own) (release_in inside first) [] frames)))
 
-    steps_as_its_work_may_not : (stepped : Stepped ℕ ℕ) → ¬ StepsRelease mute (release_in own zeroth) (backlog_view [] []) (backlog_view own (end_of_the_first ∷ [])) stepped
-    steps_as_its_work_may_not stepped is =
-        let fate : end_of_the_first ≡ is.fate = ap (λ (b : BacklogView ℕ ℕ). first_fate b.fates) is.backlog in
-        (subst (IsAllowed mute is.frame.job) (sym fate) is.allowed).0.allowed
-      where
-        first_fate : List (Fate ℕ) → Fate ℕ
-        first_fate [] = end_of_the_first
-        first_fate (f ∷ more) = f
+    steps_into_an_inner_run : (stepped : Stepped ℕ ℕ) (new : BacklogView ℕ ℕ) → stepped.state ≡ HasInner → ¬ StepsRelease flat_sums (release_in own zeroth) none_done new stepped
+    steps_into_an_inner_run stepped new inner is = subst (StepsTo flat_sums is.frame (release_in own zeroth) none_done new is.made) inner is.to
 
-    steps_to_a_park : (stepped : Stepped ℕ ℕ) (new : BacklogView ℕ ℕ) → stepped.state ≡ Parked → ¬ StepsRelease flat_sums (release_in own zeroth) (backlog_view [] []) new stepped
-    steps_to_a_park stepped new parked is = let no = sym parked ∙ is.state in absurd (cc)
+  -- ---- Units. Task 0 takes semaphore 0 and puts 1, and task 1 takes 1.
+  units_of_each : (units_of shares 0 ≡ 0 ∷ 1 ∷ []) × (units_of shares 1 ≡ 1 ∷ []) × (units_of shares 2 ≡ [])
+  units_of_each = (refl, refl, refl)
+
+  abbrev taker : FreshState
+  taker = fresh_state n 1 Strong
+
+  -- It is dropped, for which its units wake others.
+  module _ (d : Dropping) (its : (d.task ≡ 0) × (d.cause ≡ Source)) where
+    abbrev drop_done : BacklogView ℕ ℕ
+    drop_done = backlog_view own (Dropped d ∷ [])
+
+    uses_and_wakes : IsInJournal share_sums 2 (Dropped d) → UsesRelease share_sums key (release_in own zeroth) (backlog_view [] []) drop_done (taker ∷ [])
+    uses_and_wakes within = record {
+      fate = Dropped d;
+      by_end = [];
+      allowed = tt;
+      journal = within;
+      uses = record { of = its; makes = record { between = []; gives = record { more = []; after_is = refl; made = tt }; again = record { again = []; after_is = refl; is = inl refl } } };
+      wakes = record { woken = taker ∷ []; after_is = refl; waited = All-from_recursion (WaitedFor (table_in share_sums key) (0 ∷ 1 ∷ [])) (taker ∷ []) (record { table_is = refl; takes = refl }, tt); few = omega arith };
+      backlog = refl;
+    }
+
+    -- what was dropped gives no edge, and a source isn't released again
+    none_by_no_edge : (made : List FreshState) → AreMadeBy shares n [] made → length made ≡ 0
+    none_by_no_edge [] by = refl
+    none_by_no_edge (f ∷ made) by = absurd by
+
+    none_again : (again : List FreshState) → (again ≡ []) ⊎ ((Source ≡ Strong) × (again ≡ fresh_state n 0 Strong ∷ [])) → length again ≡ 0
+    none_again again (inl none) = ap length none
+    none_again again (inr (cause, same)) = absurd (cc)
+
+    none_by_its_end : (made : List FreshState) → Uses {V = ℕ} shares zeroth (Dropped d) [] made → length made ≡ 0
+    none_by_its_end made used =
+        let by_edges = ap length used.makes.gives.after_is in
+        let all = ap length used.makes.again.after_is in
+        omega (arith, by_edges, all, length-append used.makes.between used.makes.again.again, none_by_no_edge used.makes.gives.more used.makes.gives.made, none_again used.makes.again.again used.makes.again.is)
+
+    fate_of_it : (new : Fate ℕ) → ◌≡◌ {A = BacklogView ℕ ℕ} drop_done (backlog_view own (new ∷ [])) → new ≡ Dropped d
+    fate_of_it new same = sym (ap (λ (b : BacklogView ℕ ℕ). first_of b.fates) same)
+      where
+        first_of : List (Fate ℕ) → Fate ℕ
+        first_of [] = Dropped d
+        first_of (f ∷ more) = f
+
+    uses_and_wakes_at_most : (made : List FreshState) → UsesRelease share_sums key (release_in own zeroth) (backlog_view [] []) drop_done made → length made ≤ 2
+    uses_and_wakes_at_most made is =
+        let used = subst (λ fate. Uses shares zeroth fate [] is.by_end) (fate_of_it is.fate is.backlog) is.uses in
+        let all = ap length is.wakes.after_is in
+        omega (arith, all, is.wakes.few, length-append is.by_end is.wakes.woken, none_by_its_end is.by_end used)
+
+    uses_and_wakes_a_third : ¬ UsesRelease share_sums key (release_in own zeroth) (backlog_view [] []) drop_done (taker ∷ taker ∷ taker ∷ [])
+    uses_and_wakes_a_third is = absurd (omega (arith, uses_and_wakes_at_most (taker ∷ taker ∷ taker ∷ []) is))
+
+  -- It is parked for want of a unit of semaphore 0.
+  abbrev parked_turn : TurnState
+  parked_turn = turn_with n 0 Source None [] (1 ∷ [])
+
+  abbrev no_fate : BacklogView ℕ ℕ
+  no_fate = backlog_view own []
+
+  parks_release : ParksRelease share_sums key (release_in own zeroth) (backlog_view [] []) no_fate [] parked_turn
+  parks_release = record {
+    is = refl;
+    sem = 0;
+    waits = record { table_is = refl; refused = refl; held = refl; takes = refl };
+    none = omega arith;
+    woken = [];
+    wakes = record { woken = []; after_is = refl; waited = All-from_recursion (WaitedFor (table_in share_sums key) (0 ∷ [])) [] tt; few = omega arith };
+    again = record { again = []; after_is = refl; is = inl refl };
+    backlog = refl;
+  }
+
+  -- what it woke comes before the same task, where that is released once more
+  parks_wakes_and_releases_again : ParksRelease {V = ℕ} share_sums key (release_in own (fresh_state n 0 Strong)) (backlog_view [] []) no_fate (zeroth ∷ fresh_state n 0 Strong ∷ []) (turn_with n 0 Strong None [] (1 ∷ []))
+  parks_wakes_and_releases_again = record {
+    is = refl;
+    sem = 0;
+    waits = record { table_is = refl; refused = refl; held = refl; takes = refl };
+    none = omega arith;
+    woken = zeroth ∷ [];
+    wakes = record { woken = zeroth ∷ []; after_is = refl; waited = All-from_recursion (WaitedFor (table_in share_sums key) (0 ∷ [])) (zeroth ∷ []) (record { table_is = refl; takes = refl }, tt); few = omega arith };
+    again = record { again = fresh_state n 0 Strong ∷ []; after_is = refl; is = inr (refl, refl) };
+    backlog = refl;
+  }
+
+  parks_another : (made : List FreshState) → ¬ ParksRelease share_sums key (release_in own zeroth) (backlog_view [] []) no_fate made (turn_with n 1 Source None [] (2 ∷ []))
+  parks_another made is = absurd (omega (arith, ap (λ (f : FreshState). f.task) is.is))
+
+  parks_it_with_a_unit : (made : List FreshState) → ¬ ParksRelease share_sums key (release_in own zeroth) (backlog_view [] []) no_fate made (turn_with n 0 Source None (0 ∷ []) (1 ∷ []))
+  parks_it_with_a_unit made is = absurd (omega (arith, ap length is.waits.held))
+
+  parks_it_without_a_step : (made : List FreshState) → ¬ ParksRelease share_sums key (release_in own zeroth) (backlog_view [] []) no_fate made (turn_with n 0 Source None [] [])
+  parks_it_without_a_step made is = is.none
+
+  parks_it_and_adds_a_fate : (made : List FreshState) (fate : Fate ℕ) → ¬ ParksRelease share_sums key (release_in own zeroth) (backlog_view [] []) (backlog_view own (fate ∷ [])) made parked_turn
+  parks_it_and_adds_a_fate made fate is = absurd (omega (arith, ap (λ (b : BacklogView ℕ ℕ). length b.fates) is.backlog))
+
+  -- one semaphore that it takes wakes one, and it isn't released again
+  parks_it_and_makes_at_most : (made : List FreshState) → ParksRelease share_sums key (release_in own zeroth) (backlog_view [] []) no_fate made parked_turn → length made ≤ 1
+  parks_it_and_makes_at_most made is =
+      let woken = ap length is.wakes.after_is in
+      let all = ap length is.again.after_is in
+      omega (arith, woken, all, is.wakes.few, length-append is.woken is.again.again, none_more is.again.again is.again.is)
+    where
+      none_more : (again : List FreshState) → (again ≡ []) ⊎ ((Source ≡ Strong) × (again ≡ fresh_state n 0 Strong ∷ [])) → length again ≡ 0
+      none_more again (inl none) = ap length none
+      none_more again (inr (cause, same)) = absurd (cc)
+
+  parks_it_and_wakes_for_what_it_puts : ¬ ParksRelease share_sums key (release_in own zeroth) (backlog_view [] []) no_fate (taker ∷ taker ∷ []) parked_turn
+  parks_it_and_wakes_for_what_it_puts is = absurd (omega (arith, parks_it_and_makes_at_most (taker ∷ taker ∷ []) is))
+
+  module _ (parked : Snapshot TurnState) (its : parked.value ≡ parked_turn) where
+    steps_to_a_park : StepsTo share_sums key (release_in own zeroth) (backlog_view [] []) no_fate [] (Parked parked)
+    steps_to_a_park = subst (ParksRelease share_sums key (release_in own zeroth) (backlog_view [] []) no_fate []) (sym its) parks_release
+
+    steps_to_a_park_with_a_fate : (made : List FreshState) (fate : Fate ℕ) → ¬ StepsTo share_sums key (release_in own zeroth) (backlog_view [] []) (backlog_view own (fate ∷ [])) made (Parked parked)
+    steps_to_a_park_with_a_fate made fate is = parks_it_and_adds_a_fate made fate (subst (ParksRelease share_sums key (release_in own zeroth) (backlog_view [] []) (backlog_view own (fate ∷ [])) made) its is)
+
+    steps_and_parks : (stepped : Stepped ℕ ℕ) → stepped.released.items ≡ [] → stepped.state ≡ Parked parked → StepsRelease share_sums (release_in own zeroth) (backlog_view [] []) no_fate stepped
+    steps_and_parks stepped released state = record {
+      frame = key;
+      around = [];
+      frames_are = refl;
+      made = [];
+      to = subst (StepsTo share_sums key (release_in own zeroth) (backlog_view [] []) no_fate []) (sym state) steps_to_a_park;
+      released = released;
+      frames = subst (All (λ (next : ReleaseView ℕ). next.frames ≡ own)) (sym released) (All-from_recursion (λ (next : ReleaseView ℕ). next.frames ≡ own) [] tt);
+      backlog = refl;
+    }
+
+    -- what is handed out is what was made
+    parks_and_hands_out_two : (stepped : Stepped ℕ ℕ) → stepped.released.items ≡ release_in own taker ∷ release_in own taker ∷ [] → stepped.state ≡ Parked parked
+        → ¬ StepsRelease share_sums (release_in own zeroth) (backlog_view [] []) no_fate stepped
+    parks_and_hands_out_two stepped released state is =
+        let frame : key ≡ is.frame = first_frame is.frame is.around is.frames_are in
+        let to = subst (ParksRelease share_sums is.frame (release_in own zeroth) (backlog_view [] []) no_fate is.made) its (subst (StepsTo share_sums is.frame (release_in own zeroth) (backlog_view [] []) no_fate is.made) state is.to) in
+        let of_key = subst (λ frame. ParksRelease share_sums frame (release_in own zeroth) (backlog_view [] []) no_fate is.made parked_turn) (sym frame) to in
+        absurd (omega (arith, ap length released, ap length is.released, length-map is.made (release_in own), parks_it_and_makes_at_most is.made of_key))
+      where
+        first_frame : (frame : FrameKey ℕ) (around : List (FrameKey ℕ)) → own ≡ frame ∷ around → key ≡ frame
+        first_frame frame around same = ap head_of same
+          where
+            head_of : List (FrameKey ℕ) → FrameKey ℕ
+            head_of [] = key
+            head_of (f ∷ more) = f
+
+  -- ---- What becomes of what is parked in a frame.
+  module _ (drops : Vec Dropping Global) (d : Dropping) where
+    abbrev all_dropped : BacklogView ℕ ℕ
+    all_dropped = backlog_view own (AllDropped drops ∷ [])
+
+    drops_what_is_parked : DropsParked own all_dropped
+    drops_what_is_parked = record { fate = AllDropped drops; drops = tt; backlog = refl }
+
+    drops_one_alone : ¬ DropsParked {V = ℕ} own (backlog_view own (Dropped d ∷ []))
+    drops_one_alone is = subst (λ (fate : Fate ℕ). AreDrops fate) (sym (ap (λ (b : BacklogView ℕ ℕ). first_of b.fates) is.backlog)) is.drops
+      where
+        first_of : List (Fate ℕ) → Fate ℕ
+        first_of [] = AllDropped drops
+        first_of (f ∷ more) = f
+
+    drops_in_another_frame : ¬ DropsParked {V = ℕ} own (backlog_view inside (AllDropped drops ∷ []))
+    drops_in_another_frame is = absurd (omega (arith, ap (λ (b : BacklogView ℕ ℕ). length b.frames) is.backlog))
+
+    settles_and_goes_on : SettlesFrame {V = ℕ} own (backlog_view [] []) (Some own_release) × ¬ SettlesFrame own all_dropped (Some own_release)
+    settles_and_goes_on = ((refl, refl), λ is. absurd (omega (arith, ap (λ (b : BacklogView ℕ ℕ). length b.fates) is.1)))
+
+    settles_for_another_frame : ¬ SettlesFrame {V = ℕ} own (backlog_view [] []) (Some (release_in inside (fresh_state m 1 Strong)))
+    settles_for_another_frame is = absurd (omega (arith, ap length is.0))
+
+    settles_with_nothing : SettlesFrame {V = ℕ} own (backlog_view [] []) None × SettlesFrame own all_dropped None
+    settles_with_nothing = (inl refl, inr drops_what_is_parked)
+
+    settles_in_another_frame : ¬ SettlesFrame {V = ℕ} own (backlog_view inside (AllDropped drops ∷ [])) None
+    settles_in_another_frame (inl none) = absurd (omega (arith, ap (λ (b : BacklogView ℕ ℕ). length b.fates) none))
+    settles_in_another_frame (inr dropped) = drops_in_another_frame dropped
 
   -- What is brought is with the keeper, which found how many turns were live: the run is closed where that was one.
   module _ (fate : Fate ℕ) (before : List ℕ) where
@@ -529,6 +781,9 @@ module _ (n m : TableId) (other : m ≢ n) where
 
     nothing_to_take_in : MayTakeIn {J = ℕ} {V = ℕ} own [] Went None × ¬ MayTakeIn {J = ℕ} {V = ℕ} own (fate ∷ []) Went None
     nothing_to_take_in = ((refl, refl), λ is. let none = is.0 in absurd (cc))
+
+  open_without_an_entry : (d : Dropping) (parked : Snapshot TurnState) → HasEntriesOf {J = ℕ} {V = ℕ} Went (Dropped d ∷ []) × HasEntriesOf {J = ℕ} {V = ℕ} (Parked parked) (Dropped d ∷ []) × HasEntriesOf {J = ℕ} {V = ℕ} HasInner (Dropped d ∷ [])
+  open_without_an_entry d parked = (tt, tt, tt)
 
   closed_without_an_entry : (d : Dropping) (run : FrameRun ℕ ℕ) → journal_of run ≡ [] → ¬ HasEntriesOf (Closed run) (Dropped d ∷ [])
   closed_without_an_entry d run none has = let got = subst (λ (h : List Entry). slice_get h d.place ≡ Some (drop_of d).entry) none has.0 in absurd (cc)

@@ -1,5 +1,5 @@
 -- Which plan the JSON of a graph file stands for, and else the first refusal, computed on small files.
-use Rattle.std.proofs.Common.{◌≡◌, ℕ, zero, suc, ◌<◌, true, false, List, [], ◌∷◌, ◌++◌, length, map, All, Some, None, Result, Ok, Err, refl, arith, codes, ap}
+use Rattle.std.proofs.Common.{◌≡◌, ℕ, zero, suc, ◌<◌, ◌≤◌, true, false, List, [], ◌∷◌, ◌++◌, length, map, All, Some, None, Result, Ok, Err, refl, arith, codes, ap}
 use Rattle.std.specs.Prelude.{if◌then◌else◌, ◌==◌}
 use Rattle.serde_json.specs.Data.{Data, string, number, unsigned, array, object, no_members, member}
 use Rattle.serde_json.specs.View.{items_of}
@@ -10,14 +10,14 @@ use Rattle.task_graph.specs.declared.net.TaskRow.{TaskRow}
 use Rattle.graph_plans.specs.declared.ops.Op.{Op}
 use Rattle.graph_plans.specs.declared.ops.Op.TheVariants.{Input, Read, Text, Match, Back, IfMore, IfHas, Route}
 use Rattle.graph_plans.specs.declared.ops.TextOp.TheVariants.{Keep, Without, Head, Tail, Skip, Sort}
-use Rattle.graph_plans.specs.declared.spots.Spot.TheVariants.{File, Task, Module}
+use Rattle.graph_plans.specs.declared.spots.Spot.TheVariants.{File, Sem, Task, Module}
 use Rattle.graph_plans.specs.Operations.{IsOp, IsTextOp, IsWord, shape_of}
 use Rattle.std.specs.Arc.{arc_value}
 use Rattle.std.specs.Global.{Global}
 use Rattle.std.specs.declared.sync.Arc.{Arc}
 use Rattle.task_graph.specs.NetRows.{NetRows}
 use Rattle.graph_plans.specs.declared.plans.Graph.{Graph}
-use Rattle.graph_plans.specs.PlanRows.{GraphRows, PlanRows, IsPlan, IsTextName, NeedsNoUnit, graph_rows, plan_rows}
+use Rattle.graph_plans.specs.PlanRows.{GraphRows, PlanRows, IsPlan, IsTextName, graph_rows, plan_rows}
 use Rattle.task_graph.specs.Sources.{HasNoSource}
 use Rattle.graph_plans.specs.Sources.{NoSourceAnswer}
 use Rattle.graph_file.specs.declared.refusals.GraphError.{GraphError}
@@ -26,12 +26,12 @@ use Rattle.graph_file.specs.declared.refusals.Kind.TheVariants as kind
 use Rattle.graph_file.specs.Contents.{is_name, is_name_byte, line_count_of, whole_of}
 use Rattle.graph_file.specs.Fields.{allowed, needed, only}
 use Rattle.graph_file.specs.OpRows.{reads, does}
-use Rattle.graph_file.specs.PlanText.{DraftRows, HasFile, PlanText, add_edge, add_name, plan_of, with_task_text}
+use Rattle.graph_file.specs.PlanText.{DraftRows, HasFile, PlanText, TaskNames, add_name, add_numbers, add_task_name, edges_from, empty_draft, plan_of, puts_field, takes_field, task_names, task_row, task_rows, with_semaphore, with_task_text}
 use Rattle.graph_file.proofs.PlanLemmas.{IsPlan-read}
 use Rattle.json.specs.Print.{escape_byte}
 use Rattle.std.specs.Fmt.{digits}
 use Rattle.graph_file.specs.Steps.{walk}
-use Rattle.graph_file.specs.WrittenPlan.{op_text, to_of, plan_data, file_data, task_data, plan_text}
+use Rattle.graph_file.specs.WrittenPlan.{op_text, to_of, plan_data, file_data, sem_data, sems_from, sems_named, task_data, plan_text}
 
 abbrev a : List ℕ
 a = codes "a"
@@ -113,44 +113,107 @@ each_field_known = refl
 
 -- ---- tasks and texts
 
--- one task, `a`, that reads the text `b` and leads to `c`
-abbrev draft : DraftRows
-draft = record { names = a ∷ []; ops = Read 0 ∷ []; links = record { from = 0; to = c } ∷ []; texts = b ∷ [] }
+-- one task, `a`, that reads the text `b` and leads to `c`, and a semaphore `s` of two units
+abbrev task : List ℕ → List (List ℕ) → List (List ℕ) → List (List ℕ) → TaskNames
+task name to takes puts = record { name = name; to = to; takes = takes; puts = puts }
 
-text_of_before : with_task_text draft (record { name = c; op = reads b; to = [] }) ≡ record draft { names = a ∷ c ∷ []; ops = Read 0 ∷ Read 0 ∷ [] }
+abbrev s : List ℕ
+s = codes "s"
+
+abbrev draft : DraftRows
+draft = record { version = 2; sem_names = s ∷ []; sems = 2 ∷ []; tasks = task a (c ∷ []) [] [] ∷ []; ops = Read 0 ∷ []; texts = b ∷ [] }
+
+text_of_before : with_task_text draft (task c [] [] []) (reads b) ≡ record draft { tasks = task a (c ∷ []) [] [] ∷ task c [] [] [] ∷ []; ops = Read 0 ∷ Read 0 ∷ [] }
 text_of_before = refl
 
-text_more : with_task_text draft (record { name = c; op = reads a; to = a ∷ b ∷ [] })
-    ≡ record { names = a ∷ c ∷ []; ops = Read 0 ∷ Read 1 ∷ []; links = record { from = 0; to = c } ∷ record { from = 1; to = a } ∷ record { from = 1; to = b } ∷ []; texts = b ∷ a ∷ [] }
+text_more : with_task_text draft (task c (a ∷ b ∷ []) (s ∷ []) []) (reads a)
+    ≡ record draft { tasks = task a (c ∷ []) [] [] ∷ task c (a ∷ b ∷ []) (s ∷ []) [] ∷ []; ops = Read 0 ∷ Read 1 ∷ []; texts = b ∷ a ∷ [] }
 text_more = refl
 
-no_text_read : with_task_text draft (record { name = c; op = does Match; to = [] }) ≡ record draft { names = a ∷ c ∷ []; ops = Read 0 ∷ Match ∷ [] }
+no_text_read : with_task_text draft (task c [] [] []) (does Match) ≡ record draft { tasks = task a (c ∷ []) [] [] ∷ task c [] [] [] ∷ []; ops = Read 0 ∷ Match ∷ [] }
 no_text_read = refl
+
+semaphore_more : with_semaphore draft c 7 ≡ record draft { sem_names = s ∷ c ∷ []; sems = 2 ∷ 7 ∷ [] }
+semaphore_more = refl
+
+nothing_at_first : empty_draft 2 ≡ record { version = 2; sem_names = []; sems = []; tasks = []; ops = []; texts = [] }
+nothing_at_first = refl
+
+-- version 1 has one field for both lists
+fields_of_versions : (takes_field 1 ≡ codes "holds") × (puts_field 1 ≡ codes "holds") × (takes_field 2 ≡ codes "acquire") × (puts_field 2 ≡ codes "release")
+fields_of_versions = (refl, refl, refl, refl)
 
 -- ---- the classes of refusals, in their order
 
-edge_added : add_edge (a ∷ b ∷ []) (record { from = 0; to = 0; start = false } ∷ []) (record { from = 1; to = b }) ≡ Ok (record { from = 0; to = 0; start = false } ∷ record { from = 1; to = 1; start = false } ∷ [])
-edge_added = refl
+-- tasks a and b, and semaphores s and c
+abbrev two : DraftRows
+two = record { version = 2; sem_names = s ∷ c ∷ []; sems = 1 ∷ 1 ∷ []; tasks = task a [] [] [] ∷ task b [] [] [] ∷ []; ops = Match ∷ Match ∷ []; texts = [] }
 
-edge_to_no_task : add_edge (a ∷ b ∷ []) [] (record { from = 1; to = c }) ≡ Err (NoSuchName (Task 1) (codes "to"))
+names_of_two : task_names two ≡ a ∷ b ∷ []
+names_of_two = refl
+
+-- the first task, or one behind another
+numbers_found : add_numbers two [] (task a (b ∷ a ∷ []) (c ∷ s ∷ []) (c ∷ [])) ≡ Ok (record { to = 1 ∷ 0 ∷ []; takes = 1 ∷ 0 ∷ []; puts = 1 ∷ [] } ∷ [])
+numbers_found = refl
+
+edge_to_no_task : add_numbers two (record { to = []; takes = []; puts = [] } ∷ []) (task b (a ∷ c ∷ []) (a ∷ []) []) ≡ Err (NoSuchName (Task 1) (codes "to"))
 edge_to_no_task = refl
 
-name_added : add_name (a ∷ b ∷ []) c ≡ Ok (a ∷ b ∷ c ∷ [])
+no_such_semaphore_taken : add_numbers two (record { to = []; takes = []; puts = [] } ∷ []) (task b (a ∷ []) (s ∷ a ∷ []) (a ∷ [])) ≡ Err (NoSuchName (Task 1) (codes "acquire"))
+no_such_semaphore_taken = refl
+
+no_such_semaphore_put : add_numbers two (record { to = []; takes = []; puts = [] } ∷ []) (task b (a ∷ []) (s ∷ []) (a ∷ [])) ≡ Err (NoSuchName (Task 1) (codes "release"))
+no_such_semaphore_put = refl
+
+no_such_semaphore_held : add_numbers (record two { version = 1 }) (record { to = []; takes = []; puts = [] } ∷ []) (task b (a ∷ []) (a ∷ []) (a ∷ [])) ≡ Err (NoSuchName (Task 1) (codes "holds"))
+no_such_semaphore_held = refl
+
+-- where a name stands twice
+abbrev twice : ℕ → GraphError
+twice place = Repeated (Sem place) (codes "name")
+
+name_added : add_name twice (a ∷ b ∷ []) c ≡ Ok (a ∷ b ∷ c ∷ [])
 name_added = refl
 
-name_of_before : add_name (a ∷ b ∷ []) a ≡ Err (Repeated (Task 2) (codes "name"))
+name_of_before : add_name twice (a ∷ b ∷ []) a ≡ Err (Repeated (Sem 2) (codes "name"))
 name_of_before = refl
 
-plan_of_two_tasks : plan_of (record { names = a ∷ c ∷ []; ops = Read 0 ∷ Back ∷ []; links = record { from = 0; to = c } ∷ record { from = 1; to = a } ∷ []; texts = b ∷ [] }) ≡ Ok (record {
+task_added : add_task_name 2 (a ∷ b ∷ []) (task c [] (s ∷ c ∷ []) (c ∷ s ∷ [])) ≡ Ok (a ∷ b ∷ c ∷ [])
+task_added = refl
+
+task_of_before : add_task_name 2 (a ∷ b ∷ []) (task a [] (s ∷ s ∷ []) []) ≡ Err (Repeated (Task 2) (codes "name"))
+task_of_before = refl
+
+semaphore_taken_twice : add_task_name 2 (a ∷ b ∷ []) (task c [] (s ∷ s ∷ []) (c ∷ c ∷ [])) ≡ Err (Repeated (Task 2) (codes "acquire"))
+semaphore_taken_twice = refl
+
+semaphore_put_twice : add_task_name 2 (a ∷ b ∷ []) (task c [] (s ∷ []) (c ∷ s ∷ c ∷ [])) ≡ Err (Repeated (Task 2) (codes "release"))
+semaphore_put_twice = refl
+
+semaphore_held_twice : add_task_name 1 (a ∷ b ∷ []) (task c [] (s ∷ s ∷ []) (s ∷ s ∷ [])) ≡ Err (Repeated (Task 2) (codes "holds"))
+semaphore_held_twice = refl
+
+edges_by_tasks : edges_from 3 (record { to = 1 ∷ 0 ∷ []; takes = []; puts = [] } ∷ record { to = 4 ∷ []; takes = []; puts = [] } ∷ [])
+    ≡ record { from = 3; to = 1; start = false } ∷ record { from = 3; to = 0; start = false } ∷ record { from = 4; to = 4; start = false } ∷ []
+edges_by_tasks = refl
+
+-- each list is put in order
+row_of_a_task : task_row 3 Back (record { to = 1 ∷ []; takes = 2 ∷ 0 ∷ []; puts = 1 ∷ [] }) ≡ record { shape = Choice; takes = 0 ∷ 2 ∷ []; puts = 1 ∷ [] }
+row_of_a_task = refl
+
+rows_of_tasks : task_rows 1 (Match ∷ Back ∷ []) (record { to = []; takes = 0 ∷ []; puts = [] } ∷ record { to = []; takes = []; puts = 0 ∷ [] } ∷ []) ≡ record { shape = Plain; takes = 0 ∷ []; puts = [] } ∷ record { shape = Choice; takes = []; puts = 0 ∷ [] } ∷ []
+rows_of_tasks = refl
+
+plan_of_two_tasks : plan_of (record { version = 2; sem_names = s ∷ b ∷ []; sems = 2 ∷ 1 ∷ []; tasks = task a (c ∷ []) (b ∷ s ∷ []) [] ∷ task c (a ∷ []) [] (s ∷ []) ∷ []; ops = Read 0 ∷ Back ∷ []; texts = b ∷ [] }) ≡ Ok (record {
   top = record {
     name = [];
     names = a ∷ c ∷ [];
     ops = Read 0 ∷ Back ∷ [];
-    sem_names = [];
+    sem_names = s ∷ b ∷ [];
     net = record {
-      tasks = record { shape = Plain; takes = []; puts = [] } ∷ record { shape = Choice; takes = []; puts = [] } ∷ [];
+      tasks = record { shape = Plain; takes = 0 ∷ 1 ∷ []; puts = [] } ∷ record { shape = Choice; takes = []; puts = 0 ∷ [] } ∷ [];
       edges = record { from = 0; to = 1; start = false } ∷ record { from = 1; to = 0; start = false } ∷ [];
-      sems = [];
+      sems = 2 ∷ 1 ∷ [];
     };
   };
   modules = [];
@@ -158,10 +221,13 @@ plan_of_two_tasks : plan_of (record { names = a ∷ c ∷ []; ops = Read 0 ∷ B
 })
 plan_of_two_tasks = refl
 
-edges_before_names : plan_of (record { names = a ∷ a ∷ []; ops = Match ∷ Match ∷ []; links = record { from = 1; to = c } ∷ []; texts = [] }) ≡ Err (NoSuchName (Task 1) (codes "to"))
+edges_before_names : plan_of (record two { tasks = task a [] [] [] ∷ task a (c ∷ []) [] [] ∷ [] }) ≡ Err (NoSuchName (Task 1) (codes "to"))
 edges_before_names = refl
 
-first_name_that_stands_before : plan_of (record { names = a ∷ b ∷ b ∷ a ∷ []; ops = Match ∷ Match ∷ Match ∷ Match ∷ []; links = []; texts = [] }) ≡ Err (Repeated (Task 2) (codes "name"))
+semaphores_before_tasks : plan_of (record two { sem_names = s ∷ s ∷ []; tasks = task a [] [] [] ∷ task a [] [] [] ∷ [] }) ≡ Err (Repeated (Sem 1) (codes "name"))
+semaphores_before_tasks = refl
+
+first_name_that_stands_before : plan_of (record two { tasks = task a [] [] [] ∷ task b [] [] [] ∷ task b [] [] [] ∷ task a [] [] [] ∷ [] }) ≡ Err (Repeated (Task 2) (codes "name"))
 first_name_that_stands_before = refl
 
 -- ---- operations
@@ -282,24 +348,33 @@ operation_on_no_text is = let below : 1 < 1 = is.ops 0 Match (omega arith) in ab
 text_without_a_name : ¬ IsPlan (plan_with_tasks [] [] [] ([] ∷ []))
 text_without_a_name is = let named : IsTextName [] = is.texts 0 [] (omega arith) in absurd (omega (arith, named.least))
 
-task_that_takes_a_unit : ¬ IsPlan (plan_with_tasks (a ∷ []) (Match ∷ []) (record { shape = Plain; takes = 0 ∷ []; puts = [] } ∷ []) [])
-task_that_takes_a_unit is = let needs : NeedsNoUnit (record { shape = Plain; takes = 0 ∷ []; puts = [] }) = is.no_units 0 row (omega arith) in absurd (omega (arith, ap length needs.takes))
-
-task_that_puts_a_unit : ¬ IsPlan (plan_with_tasks (a ∷ []) (Match ∷ []) (record { shape = Plain; takes = []; puts = 0 ∷ [] } ∷ []) [])
-task_that_puts_a_unit is = let needs : NeedsNoUnit (record { shape = Plain; takes = []; puts = 0 ∷ [] }) = is.no_units 0 row (omega arith) in absurd (omega (arith, ap length needs.puts))
-
--- The graph itself has no name, no semaphore, with a name or without, and no edge that begins with a token.
+-- The graph itself has no name, each semaphore one and a maximum that isn't too great, and no edge begins with a token.
 abbrev with_top : (GraphRows → GraphRows) → PlanRows
 with_top changed = record (plan_with_tasks [] [] [] []) { top = changed (plan_with_tasks [] [] [] []).top }
 
 named_graph : ¬ IsPlan (with_top (λ top. record top { name = a }))
 named_graph is = absurd (omega (arith, ap length is.name))
 
-named_semaphore : ¬ IsPlan (with_top (λ top. record top { sem_names = a ∷ [] }))
-named_semaphore is = absurd (omega (arith, ap length is.sem_names))
+name_of_no_semaphore : ¬ IsPlan (with_top (λ top. record top { sem_names = a ∷ [] }))
+name_of_no_semaphore is = absurd (omega (arith, is.sem_names))
 
 semaphore_without_a_name : ¬ IsPlan (with_top (λ top. record top { net = record { tasks = []; edges = []; sems = 1 ∷ [] } }))
-semaphore_without_a_name is = absurd (omega (arith, ap length is.sems))
+semaphore_without_a_name is = absurd (omega (arith, is.sem_names))
+
+abbrev with_semaphores : List (List ℕ) → List ℕ → PlanRows
+with_semaphores names sems = with_top (λ top. record top { sem_names = names; net = record { tasks = []; edges = []; sems = sems } })
+
+two_semaphores_of_a_name : ¬ IsPlan (with_semaphores (a ∷ a ∷ []) (1 ∷ 1 ∷ []))
+two_semaphores_of_a_name is = is.sem_names_differ 0 1 [] (omega arith) (omega arith) refl
+
+too_great_a_maximum : ¬ IsPlan (with_semaphores (a ∷ []) (1000001 ∷ []))
+too_great_a_maximum is = let most : 1000001 ≤ 1000000 = is.maxima 0 0 (omega arith) in absurd (omega (arith, most))
+
+semaphore_without_a_unit : ¬ IsPlan (with_semaphores (a ∷ []) (0 ∷ []))
+semaphore_without_a_unit is = let least : 1 ≤ 0 = is.net.sems 0 0 (omega arith) in absurd (omega (arith, least))
+
+too_many_semaphores : (plan : PlanRows) → length plan.top.net.sems ≡ 257 → ¬ IsPlan plan
+too_many_semaphores plan many is = absurd (omega (arith, many, is.sem_count))
 
 edge_with_a_first_token : ¬ IsPlan (record (plan_with_tasks (a ∷ []) (Match ∷ []) (row ∷ []) []) { top = record (plan_with_tasks (a ∷ []) (Match ∷ []) (row ∷ []) []).top { net = record { tasks = row ∷ []; edges = record { from = 0; to = 0; start = true } ∷ []; sems = [] } } })
 edge_with_a_first_token is = let none : true ≡ false = is.no_first_tokens 0 (record { from = 0; to = 0; start = true }) (omega arith) in absurd (cc)
@@ -327,8 +402,8 @@ plan = record {
     name = [];
     names = a ∷ c ∷ [];
     ops = Read 1 ∷ Back ∷ [];
-    sem_names = [];
-    net = record { tasks = row ∷ row ∷ []; edges = record { from = 1; to = 0; start = false } ∷ record { from = 0; to = 1; start = false } ∷ record { from = 1; to = 1; start = false } ∷ []; sems = [] };
+    sem_names = s ∷ c ∷ [];
+    net = record { tasks = row ∷ record { shape = Choice; takes = 0 ∷ 1 ∷ []; puts = 1 ∷ [] } ∷ []; edges = record { from = 1; to = 0; start = false } ∷ record { from = 0; to = 1; start = false } ∷ record { from = 1; to = 1; start = false } ∷ []; sems = 3 ∷ 7 ∷ [] };
   };
   modules = [];
   texts = b ∷ c ∷ [];
@@ -343,18 +418,27 @@ read_of_its_text = refl
 abbrev names_data : List (List ℕ) → Data
 names_data names = array (items_of (map string names))
 
+names_of_semaphores : sems_named plan (1 ∷ 0 ∷ []) ≡ c ∷ s ∷ []
+names_of_semaphores = refl
+
 -- the fields of each object stand in the order of their bytes
-written_task : task_data a (op_text (b ∷ c ∷ []) (Read 1)) (c ∷ []) ≡ object (member (codes "holds") (names_data []) (member (codes "name") (string a) (member (codes "op") (string (codes "read")) (member (codes "text") (string c) (member (codes "to") (names_data (c ∷ [])) no_members)))))
+written_task : task_data (op_text (b ∷ c ∷ []) (Read 1)) (task a (c ∷ []) (s ∷ []) (b ∷ []))
+    ≡ object (member (codes "acquire") (names_data (s ∷ [])) (member (codes "name") (string a) (member (codes "op") (string (codes "read")) (member (codes "release") (names_data (b ∷ [])) (member (codes "text") (string c) (member (codes "to") (names_data (c ∷ [])) no_members))))))
 written_task = refl
 
-written_file : plan_data plan ≡ file_data (task_data a (op_text (b ∷ c ∷ []) (Read 1)) (c ∷ []) ∷ task_data c (op_text [] Back) (a ∷ c ∷ []) ∷ [])
+written_semaphores : sems_from (s ∷ c ∷ []) (3 ∷ 7 ∷ [])
+    ≡ object (member (codes "max") (number (unsigned 3)) (member (codes "name") (string s) no_members)) ∷ object (member (codes "max") (number (unsigned 7)) (member (codes "name") (string c) no_members)) ∷ []
+written_semaphores = refl
+
+written_file : plan_data plan
+    ≡ file_data (sem_data s 3 ∷ sem_data c 7 ∷ []) (task_data (op_text (b ∷ c ∷ []) (Read 1)) (task a (c ∷ []) [] []) ∷ task_data (op_text [] Back) (task c (a ∷ c ∷ []) (s ∷ c ∷ []) (c ∷ [])) ∷ [])
 written_file = refl
 
-file_fields : file_data [] ≡ object (member (codes "modules") (names_data []) (member (codes "semaphores") (names_data []) (member (codes "tasks") (names_data []) (member (codes "version") (number (unsigned 1)) no_members))))
+file_fields : file_data [] [] ≡ object (member (codes "modules") (names_data []) (member (codes "semaphores") (names_data []) (member (codes "tasks") (names_data []) (member (codes "version") (number (unsigned 2)) no_members))))
 file_fields = refl
 
 -- without spaces
-text_of_an_empty_plan : plan_text (plan_with_tasks [] [] [] []) ≡ codes "{\"modules\":[],\"semaphores\":[],\"tasks\":[],\"version\":1}"
+text_of_an_empty_plan : plan_text (plan_with_tasks [] [] [] []) ≡ codes "{\"modules\":[],\"semaphores\":[],\"tasks\":[],\"version\":2}"
 unfolding escape_byte digits
 text_of_an_empty_plan = refl
 

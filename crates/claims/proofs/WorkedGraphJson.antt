@@ -1,19 +1,19 @@
 -- What JSON values a graph file is made of, and the refusal of others, computed on small objects.
-use Rattle.std.proofs.Common.{◌≡◌, ℕ, true, List, [], ◌∷◌, length, Some, None, Result, Ok, Err, refl, codes}
+use Rattle.std.proofs.Common.{◌≡◌, ℕ, true, List, [], ◌∷◌, map, length, Some, None, Result, Ok, Err, refl, codes}
 use Rattle.std.specs.Prelude.{is_some, replicate}
 use Rattle.serde_json.specs.Data.{Data, Members, string, number, unsigned, array, object, no_members, member}
 use Rattle.serde_json.specs.View.{items_of}
 use Rattle.graph_plans.specs.declared.ops.Op.TheVariants.{Input, Text, Match, Back, IfMore, IfHas, Route}
 use Rattle.graph_plans.specs.declared.ops.TextOp.TheVariants.{Pass, Keep, Without, Head, Tail, Skip, Sort, Uniq, Count, Tally}
-use Rattle.graph_plans.specs.declared.spots.Spot.TheVariants.{File, Task}
+use Rattle.graph_plans.specs.declared.spots.Spot.TheVariants.{File, Sem, Task}
 use Rattle.graph_file.specs.declared.refusals.GraphError.{GraphError}
 use Rattle.graph_file.specs.declared.refusals.GraphError.TheVariants.{NotJson, BadField, NoSuchName, TooMany}
 use Rattle.graph_file.specs.declared.refusals.Kind.TheVariants as kind
 use Rattle.std.specs.Str.{is_utf8, chars}
 use lib.Utf8.{encode}
-use Rattle.graph_file.specs.Contents.{is_name_byte, objects_of, empty_list_of, task_name_of, name_list_of, text_name_of, word_of, words_of}
+use Rattle.graph_file.specs.Contents.{is_name_byte, objects_of, empty_list_of, name_of, name_list_of, text_name_of, word_of, words_of}
 use Rattle.graph_file.specs.OpRows.{FileOpRow, WithFields, reads, does, op_rows, text_rows, op_in}
-use Rattle.graph_file.specs.PlanText.{DraftRows, no_tasks, with_task_text, add_task, draft_in, within_limits, plan_in, json_in}
+use Rattle.graph_file.specs.PlanText.{DraftRows, empty_draft, with_semaphore, with_task_text, add_semaphore, add_task, draft_in, within_limits, plan_in, json_in}
 
 abbrev a : List ℕ
 a = codes "a"
@@ -29,7 +29,7 @@ seven = number (unsigned 7)
 
 -- ---- contents
 
-strings_that_are_names : (task_name_of (string a) ≡ Some a) × (task_name_of (string []) ≡ None) × (task_name_of seven ≡ None)
+strings_that_are_names : (name_of (string a) ≡ Some a) × (name_of (string []) ≡ None) × (name_of seven ≡ None)
 unfolding is_name_byte
 strings_that_are_names = (refl, refl, refl)
 
@@ -124,37 +124,80 @@ operations_refused = (refl, refl, refl, refl, refl, refl, refl, refl)
 
 -- ---- tasks
 
--- one task was read before
-abbrev before : DraftRows
-before = record no_tasks { names = b ∷ []; ops = Match ∷ [] }
+-- one task was read before, in a file of this version
+abbrev before : ℕ → DraftRows
+before version = record (empty_draft version) { tasks = record { name = b; to = []; takes = []; puts = [] } ∷ []; ops = Match ∷ [] }
 
 -- the task `a`, which sorts, with these fields besides
 abbrev sorting : Members → Data
 sorting more = object (member (codes "name") (string a) (member (codes "op") (string (codes "sort")) more))
 
-abbrev to_both : Data
-to_both = list_data (string a ∷ string b ∷ [])
+-- and these names
+abbrev sorts : List (List ℕ) → List (List ℕ) → List (List ℕ) → DraftRows → DraftRows
+sorts to takes puts draft = with_task_text draft (record { name = a; to = to; takes = takes; puts = puts }) (does (Text Sort))
 
-task_read : add_task before (sorting (member (codes "to") to_both no_members)) ≡ Ok (with_task_text before (record { name = a; op = does (Text Sort); to = a ∷ b ∷ [] }))
+abbrev names : List (List ℕ) → Data
+names items = array (items_of (map string items))
+
+task_read : add_task (before 1) (sorting (member (codes "to") (names (a ∷ b ∷ [])) no_members)) ≡ Ok (sorts (a ∷ b ∷ []) [] [] (before 1))
 unfolding op_rows text_rows is_name_byte
 task_read = refl
 
-task_without_edges : add_task before (sorting no_members) ≡ Ok (with_task_text before (record { name = a; op = does (Text Sort); to = [] }))
+task_without_edges : add_task (before 2) (sorting no_members) ≡ Ok (sorts [] [] [] (before 2))
 unfolding op_rows text_rows is_name_byte
 task_without_edges = refl
 
-task_that_holds_nothing : add_task before (sorting (member (codes "holds") (list_data []) no_members)) ≡ Ok (with_task_text before (record { name = a; op = does (Text Sort); to = [] }))
+-- what a task holds it takes and puts
+task_that_holds : add_task (before 1) (sorting (member (codes "holds") (names (b ∷ a ∷ [])) no_members)) ≡ Ok (sorts [] (b ∷ a ∷ []) (b ∷ a ∷ []) (before 1))
 unfolding op_rows text_rows is_name_byte
-task_that_holds_nothing = refl
+task_that_holds = refl
+
+task_that_takes_and_puts : add_task (before 2) (sorting (member (codes "release") (names (b ∷ [])) (member (codes "acquire") (names (a ∷ b ∷ [])) no_members))) ≡ Ok (sorts [] (a ∷ b ∷ []) (b ∷ []) (before 2))
+unfolding op_rows text_rows is_name_byte
+task_that_takes_and_puts = refl
 
 fields_of_tasks_refused :
-    (add_task before (naming (codes "sorted") (member (codes "to") seven no_members)) ≡ Err (BadField (Task 1) (codes "name")))
-    × (add_task before (object (member (codes "name") (string a) (member (codes "op") seven (member (codes "to") seven no_members)))) ≡ Err (BadField (Task 1) (codes "op")))
-    × (add_task before (sorting (member (codes "to") seven (member (codes "holds") seven no_members))) ≡ Err (BadField (Task 1) (codes "to")))
-    × (add_task before (sorting (member (codes "holds") (list_data (string a ∷ [])) (member (codes "n") seven no_members))) ≡ Err (BadField (Task 1) (codes "holds")))
-    × (add_task before (sorting (member (codes "n") seven (member (codes "word") (string a) no_members))) ≡ Err (BadField (Task 1) (codes "n")))
+    (add_task (before 1) (naming (codes "sorted") (member (codes "to") seven no_members)) ≡ Err (BadField (Task 1) (codes "name")))
+    × (add_task (before 1) (object (member (codes "name") (string a) (member (codes "op") seven (member (codes "to") seven no_members)))) ≡ Err (BadField (Task 1) (codes "op")))
+    × (add_task (before 1) (sorting (member (codes "to") seven (member (codes "holds") seven no_members))) ≡ Err (BadField (Task 1) (codes "to")))
+    × (add_task (before 1) (sorting (member (codes "holds") seven (member (codes "n") seven no_members))) ≡ Err (BadField (Task 1) (codes "holds")))
+    × (add_task (before 1) (sorting (member (codes "n") seven (member (codes "word") (string a) no_members))) ≡ Err (BadField (Task 1) (codes "n")))
 unfolding op_rows text_rows is_name_byte
 fields_of_tasks_refused = (refl, refl, refl, refl, refl)
+
+-- the lists of one version are unknown in the other
+fields_of_the_other_version :
+    (add_task (before 1) (sorting (member (codes "acquire") (names []) no_members)) ≡ Err (BadField (Task 1) (codes "acquire")))
+    × (add_task (before 1) (sorting (member (codes "release") (names []) no_members)) ≡ Err (BadField (Task 1) (codes "release")))
+    × (add_task (before 2) (sorting (member (codes "holds") (names []) no_members)) ≡ Err (BadField (Task 1) (codes "holds")))
+    × (add_task (before 2) (sorting (member (codes "acquire") seven (member (codes "release") seven no_members))) ≡ Err (BadField (Task 1) (codes "acquire")))
+    × (add_task (before 2) (sorting (member (codes "release") seven (member (codes "holds") seven no_members))) ≡ Err (BadField (Task 1) (codes "release")))
+unfolding op_rows text_rows is_name_byte
+fields_of_the_other_version = (refl, refl, refl, refl, refl)
+
+-- ---- semaphores
+
+-- a semaphore with this maximum
+abbrev limited : Data → Members → Data
+limited max more = object (member (codes "max") max (member (codes "name") (string a) more))
+
+-- the first semaphore of a file
+abbrev added : Data → Result DraftRows GraphError
+added d = add_semaphore (empty_draft 2) d
+
+semaphore_read : (added (limited seven no_members) ≡ Ok (with_semaphore (empty_draft 2) a 7)) × (added (limited (number (unsigned 1000000)) no_members) ≡ Ok (with_semaphore (empty_draft 2) a 1000000))
+unfolding is_name_byte
+semaphore_read = (refl, refl)
+
+fields_of_semaphores_refused :
+    (added (object (member (codes "max") (number (unsigned 0)) no_members)) ≡ Err (BadField (Sem 0) (codes "name")))
+    × (added (object (member (codes "name") (string a) (member (codes "more") seven no_members))) ≡ Err (BadField (Sem 0) (codes "max")))
+    × (added (limited (number (unsigned 0)) no_members) ≡ Err (BadField (Sem 0) (codes "max")))
+    × (added (limited (number (unsigned 1000001)) no_members) ≡ Err (BadField (Sem 0) (codes "max")))
+    × (added (limited seven (member (codes "to") seven no_members)) ≡ Err (BadField (Sem 0) (codes "to")))
+    × (add_semaphore (with_semaphore (empty_draft 2) b 1) seven ≡ Err (BadField (Sem 1) (codes "name")))
+unfolding is_name_byte
+fields_of_semaphores_refused = (refl, refl, refl, refl, refl, refl)
 
 -- ---- files
 
@@ -165,23 +208,29 @@ holding tasks more = object (member (codes "tasks") (list_data tasks) more)
 abbrev one : Data
 one = sorting no_members
 
-file_read : draft_in (holding (one ∷ one ∷ []) no_members) ≡ Ok (record { names = a ∷ a ∷ []; ops = Text Sort ∷ Text Sort ∷ []; links = []; texts = [] })
+file_read : draft_in (holding (one ∷ one ∷ []) no_members) ≡ Ok (sorts [] [] [] (sorts [] [] [] (empty_draft 1)))
 unfolding op_rows text_rows is_name_byte
 file_read = refl
 
-fields_of_files : draft_in (holding [] (member (codes "version") (number (unsigned 1)) (member (codes "semaphores") (list_data []) (member (codes "modules") (list_data []) no_members)))) ≡ Ok no_tasks
+file_with_a_semaphore : draft_in (holding (one ∷ []) (member (codes "version") (number (unsigned 2)) (member (codes "semaphores") (list_data (limited seven no_members ∷ [])) no_members))) ≡ Ok (sorts [] [] [] (with_semaphore (empty_draft 2) a 7))
+unfolding op_rows text_rows is_name_byte
+file_with_a_semaphore = refl
+
+fields_of_files : draft_in (holding [] (member (codes "version") (number (unsigned 1)) (member (codes "semaphores") (list_data []) (member (codes "modules") (list_data []) no_members)))) ≡ Ok (empty_draft 1)
 fields_of_files = refl
 
 fields_of_files_refused :
-    (draft_in (object (member (codes "version") (number (unsigned 2)) (member (codes "tasks") seven no_members))) ≡ Err (BadField File (codes "version")))
+    (draft_in (object (member (codes "version") (number (unsigned 3)) (member (codes "tasks") seven no_members))) ≡ Err (BadField File (codes "version")))
+    × (draft_in (object (member (codes "version") (number (unsigned 0)) (member (codes "tasks") seven no_members))) ≡ Err (BadField File (codes "version")))
     × (draft_in seven ≡ Err (BadField File (codes "tasks")))
     × (draft_in (object no_members) ≡ Err (BadField File (codes "tasks")))
     × (draft_in (holding (seven ∷ []) no_members) ≡ Err (BadField File (codes "tasks")))
     × (draft_in (holding [] (member (codes "semaphores") (list_data (seven ∷ [])) (member (codes "modules") seven no_members))) ≡ Err (BadField File (codes "semaphores")))
     × (draft_in (holding [] (member (codes "modules") (list_data (seven ∷ [])) (member (codes "more") seven no_members))) ≡ Err (BadField File (codes "modules")))
     × (draft_in (holding (object no_members ∷ []) (member (codes "more") seven no_members)) ≡ Err (BadField File (codes "more")))
+    × (draft_in (holding (object no_members ∷ []) (member (codes "semaphores") (list_data (object no_members ∷ [])) no_members)) ≡ Err (BadField (Sem 0) (codes "name")))
     × (draft_in (holding (object no_members ∷ []) no_members) ≡ Err (BadField (Task 0) (codes "name")))
-fields_of_files_refused = (refl, refl, refl, refl, refl, refl, refl, refl)
+fields_of_files_refused = (refl, refl, refl, refl, refl, refl, refl, refl, refl, refl)
 
 -- fields before names
 field_before_a_name : plan_in (holding (sorting (member (codes "to") (list_data (string b ∷ [])) no_members) ∷ object no_members ∷ []) no_members) ≡ Err (BadField (Task 1) (codes "name"))
@@ -196,17 +245,20 @@ name_that_is_not_there = refl
 
 -- a draft with lists of these lengths
 module _ (draft : DraftRows) where
-  at_each_limit : length draft.names ≡ 10000 → length draft.links ≡ 100000 → length draft.texts ≡ 1024 → within_limits draft ≡ Ok tt
-  at_each_limit tasks edges texts = rw (tasks, edges, texts) refl
+  at_each_limit : length draft.tasks ≡ 10000 → length draft.sems ≡ 256 → length draft.texts ≡ 1024 → within_limits draft 100000 ≡ Ok tt
+  at_each_limit tasks sems texts = rw (tasks, sems, texts) refl
 
-  a_task_too_many : length draft.names ≡ 10001 → within_limits draft ≡ Err (TooMany kind.Tasks)
-  a_task_too_many tasks = rw tasks refl
+  a_task_too_many : (edges : ℕ) → length draft.tasks ≡ 10001 → within_limits draft edges ≡ Err (TooMany kind.Tasks)
+  a_task_too_many edges tasks = rw tasks refl
 
-  an_edge_too_many : length draft.names ≡ 10000 → length draft.links ≡ 100001 → within_limits draft ≡ Err (TooMany kind.Edges)
-  an_edge_too_many tasks edges = rw (tasks, edges) refl
+  an_edge_too_many : length draft.tasks ≡ 10000 → within_limits draft 100001 ≡ Err (TooMany kind.Edges)
+  an_edge_too_many tasks = rw tasks refl
 
-  a_text_too_many : length draft.names ≡ 10000 → length draft.links ≡ 100000 → length draft.texts ≡ 1025 → within_limits draft ≡ Err (TooMany kind.Texts)
-  a_text_too_many tasks edges texts = rw (tasks, edges, texts) refl
+  a_semaphore_too_many : length draft.tasks ≡ 10000 → length draft.sems ≡ 257 → within_limits draft 100000 ≡ Err (TooMany kind.Semaphores)
+  a_semaphore_too_many tasks sems = rw (tasks, sems) refl
+
+  a_text_too_many : length draft.tasks ≡ 10000 → length draft.sems ≡ 256 → length draft.texts ≡ 1025 → within_limits draft 100000 ≡ Err (TooMany kind.Texts)
+  a_text_too_many tasks sems texts = rw (tasks, sems, texts) refl
 
 -- ---- bytes
 

@@ -25,10 +25,7 @@ abbrev free : Shape → TaskRow
 free shape = record { shape = shape; takes = []; puts = [] }
 
 second_task_nested : ¬ IsFlatNet (record { tasks = free Plain ∷ free Nested ∷ []; edges = []; sems = [] })
-second_task_nested is = (is 1 (free Plain) (omega arith)).shape refl
-
-second_task_takes : ¬ IsFlatNet (record { tasks = free Plain ∷ record { shape = Plain; takes = 0 ∷ []; puts = [] } ∷ []; edges = []; sems = 1 ∷ [] })
-second_task_takes is = let takes = (is 1 (free Plain) (omega arith)).takes in absurd (cc)
+second_task_nested is = is 1 (free Plain) (omega arith) refl
 
 -- Runs hold their inner runs in vectors: of none or two, wherever they stand in memory.
 module _ (ptr : Ptr) (alloc : Global)

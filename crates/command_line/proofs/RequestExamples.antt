@@ -1,11 +1,11 @@
 -- Command lines and what they ask for, computed.
 use Rattle.std.proofs.Common.{◌≡◌, refl, arith, codes, Some, None, [], ◌∷◌, List, ℕ, true, false}
 use Rattle.std.specs.Borrow.{Bor}
-use Rattle.command_line.specs.declared.request.Request.TheVariants.{Run, Judge, Check}
+use Rattle.command_line.specs.declared.request.Request.TheVariants.{Run, Judge, Check, Upgrade}
 use Rattle.command_line.specs.Asked.{asked}
 use Rattle.clap.proofs.OnLiterals.{clap_on_literals}
 use Rattle.command_line.specs.Numbers.{number_in}
-use Rattle.command_line.specs.Requests.{run, judge, check, asked_by, limit_by, workers_by, run_app, judge_app, check_app}
+use Rattle.command_line.specs.Requests.{run, judge, check, upgrade, asked_by, limit_by, workers_by, run_app, judge_app, check_app, upgrade_app}
 
 -- Numbers have 1 to 7 digits and nothing else, and are in their range.
 least : number_in 1 1000000 (codes "1") ≡ Some 1
@@ -37,19 +37,19 @@ a_letter = refl
 
 -- A run of a file, with the limit that is said or the default.
 plain : asked_by (codes "run" ∷ codes "g" ∷ []) ≡ Some (run (codes "g") 100000 4 false)
-unfolding clap_on_literals run_app judge_app check_app
+unfolding clap_on_literals run_app judge_app check_app upgrade_app
 plain = refl
 
 limited : asked_by (codes "run" ∷ codes "g" ∷ codes "--limit" ∷ codes "10" ∷ []) ≡ Some (run (codes "g") 10 4 false)
-unfolding clap_on_literals run_app judge_app check_app
+unfolding clap_on_literals run_app judge_app check_app upgrade_app
 limited = refl
 
 limit_first : asked_by (codes "run" ∷ codes "--limit=10" ∷ codes "g" ∷ []) ≡ Some (run (codes "g") 10 4 false)
-unfolding clap_on_literals run_app judge_app check_app
+unfolding clap_on_literals run_app judge_app check_app upgrade_app
 limit_first = refl
 
 behind_two_hyphens : asked_by (codes "run" ∷ codes "--" ∷ codes "-g" ∷ []) ≡ Some (run (codes "-g") 100000 4 false)
-unfolding clap_on_literals run_app judge_app check_app
+unfolding clap_on_literals run_app judge_app check_app upgrade_app
 behind_two_hyphens = refl
 
 -- What is refused: no command, another one, no file, two files, other options, an option twice or without its value,
@@ -61,77 +61,77 @@ another_command : asked_by (codes "Run" ∷ codes "g" ∷ []) ≡ None
 another_command = refl
 
 no_file : asked_by (codes "run" ∷ []) ≡ None
-unfolding clap_on_literals run_app judge_app check_app
+unfolding clap_on_literals run_app judge_app check_app upgrade_app
 no_file = refl
 
 two_files : asked_by (codes "run" ∷ codes "g" ∷ codes "h" ∷ []) ≡ None
-unfolding clap_on_literals run_app judge_app check_app
+unfolding clap_on_literals run_app judge_app check_app upgrade_app
 two_files = refl
 
 unknown_option : asked_by (codes "run" ∷ codes "g" ∷ codes "--times" ∷ codes "4" ∷ []) ≡ None
-unfolding clap_on_literals run_app judge_app check_app
+unfolding clap_on_literals run_app judge_app check_app upgrade_app
 unknown_option = refl
 
 hyphen_file : asked_by (codes "run" ∷ codes "-g" ∷ []) ≡ None
-unfolding clap_on_literals run_app judge_app check_app
+unfolding clap_on_literals run_app judge_app check_app upgrade_app
 hyphen_file = refl
 
 limit_twice : asked_by (codes "run" ∷ codes "g" ∷ codes "--limit" ∷ codes "1" ∷ codes "--limit" ∷ codes "1" ∷ []) ≡ None
-unfolding clap_on_literals run_app judge_app check_app
+unfolding clap_on_literals run_app judge_app check_app upgrade_app
 limit_twice = refl
 
 limit_without_value : asked_by (codes "run" ∷ codes "g" ∷ codes "--limit" ∷ []) ≡ None
-unfolding clap_on_literals run_app judge_app check_app
+unfolding clap_on_literals run_app judge_app check_app upgrade_app
 limit_without_value = refl
 
 help : asked_by (codes "run" ∷ codes "g" ∷ codes "--help" ∷ []) ≡ None
-unfolding clap_on_literals run_app judge_app check_app
+unfolding clap_on_literals run_app judge_app check_app upgrade_app
 help = refl
 
 bad_limit : asked_by (codes "run" ∷ codes "g" ∷ codes "--limit" ∷ codes "1x" ∷ []) ≡ None
-unfolding clap_on_literals run_app judge_app check_app
+unfolding clap_on_literals run_app judge_app check_app upgrade_app
 bad_limit = refl
 
 -- The journal in place of the report.
 with_journal : asked_by (codes "run" ∷ codes "g" ∷ codes "--journal" ∷ []) ≡ Some (run (codes "g") 100000 4 true)
-unfolding clap_on_literals run_app judge_app check_app
+unfolding clap_on_literals run_app judge_app check_app upgrade_app
 with_journal = refl
 
 journal_first : asked_by (codes "run" ∷ codes "--journal" ∷ codes "--limit" ∷ codes "7" ∷ codes "g" ∷ []) ≡ Some (run (codes "g") 7 4 true)
-unfolding clap_on_literals run_app judge_app check_app
+unfolding clap_on_literals run_app judge_app check_app upgrade_app
 journal_first = refl
 
 journal_with_value : asked_by (codes "run" ∷ codes "g" ∷ codes "--journal=yes" ∷ []) ≡ None
-unfolding clap_on_literals run_app judge_app check_app
+unfolding clap_on_literals run_app judge_app check_app upgrade_app
 journal_with_value = refl
 
 journal_twice : asked_by (codes "run" ∷ codes "g" ∷ codes "--journal" ∷ codes "--journal" ∷ []) ≡ None
-unfolding clap_on_literals run_app judge_app check_app
+unfolding clap_on_literals run_app judge_app check_app upgrade_app
 journal_twice = refl
 
 -- A judgement of a journal, with the limit that is said or the default.
 judged : asked_by (codes "judge" ∷ codes "g" ∷ codes "j" ∷ []) ≡ Some (judge (codes "g") (codes "j") 100000)
-unfolding clap_on_literals run_app judge_app check_app
+unfolding clap_on_literals run_app judge_app check_app upgrade_app
 judged = refl
 
 judged_within : asked_by (codes "judge" ∷ codes "g" ∷ codes "--limit" ∷ codes "3" ∷ codes "j" ∷ []) ≡ Some (judge (codes "g") (codes "j") 3)
-unfolding clap_on_literals run_app judge_app check_app
+unfolding clap_on_literals run_app judge_app check_app upgrade_app
 judged_within = refl
 
 no_journal : asked_by (codes "judge" ∷ codes "g" ∷ []) ≡ None
-unfolding clap_on_literals run_app judge_app check_app
+unfolding clap_on_literals run_app judge_app check_app upgrade_app
 no_journal = refl
 
 three_files : asked_by (codes "judge" ∷ codes "g" ∷ codes "j" ∷ codes "k" ∷ []) ≡ None
-unfolding clap_on_literals run_app judge_app check_app
+unfolding clap_on_literals run_app judge_app check_app upgrade_app
 three_files = refl
 
 flag_of_another_command : asked_by (codes "judge" ∷ codes "g" ∷ codes "j" ∷ codes "--journal" ∷ []) ≡ None
-unfolding clap_on_literals run_app judge_app check_app
+unfolding clap_on_literals run_app judge_app check_app upgrade_app
 flag_of_another_command = refl
 
 judged_within_nothing : asked_by (codes "judge" ∷ codes "g" ∷ codes "j" ∷ codes "--limit" ∷ codes "0" ∷ []) ≡ None
-unfolding clap_on_literals run_app judge_app check_app
+unfolding clap_on_literals run_app judge_app check_app upgrade_app
 judged_within_nothing = refl
 
 -- The greatest limit that may be asked for, and one more.
@@ -140,11 +140,11 @@ greatest_limit = (refl, refl)
 
 -- The workers of a run, which are asked for beside the limit: 1 to 16, and 4 where nothing is said.
 by_workers : asked_by (codes "run" ∷ codes "g" ∷ codes "--workers" ∷ codes "16" ∷ []) ≡ Some (run (codes "g") 100000 16 false)
-unfolding clap_on_literals run_app judge_app check_app
+unfolding clap_on_literals run_app judge_app check_app upgrade_app
 by_workers = refl
 
 by_workers_within : asked_by (codes "run" ∷ codes "--workers=2" ∷ codes "--limit" ∷ codes "3" ∷ codes "g" ∷ []) ≡ Some (run (codes "g") 3 2 false)
-unfolding clap_on_literals run_app judge_app check_app
+unfolding clap_on_literals run_app judge_app check_app upgrade_app
 by_workers_within = refl
 
 greatest_number_of_workers : (workers_by (Some (codes "1")) ≡ Some 1) × (workers_by (Some (codes "16")) ≡ Some 16) × (workers_by (Some (codes "17")) ≡ None) × (workers_by (Some (codes "0")) ≡ None)
@@ -154,33 +154,58 @@ four_workers : workers_by None ≡ Some 4
 four_workers = refl
 
 by_no_worker : asked_by (codes "run" ∷ codes "g" ∷ codes "--workers" ∷ codes "0" ∷ []) ≡ None
-unfolding clap_on_literals run_app judge_app check_app
+unfolding clap_on_literals run_app judge_app check_app upgrade_app
 by_no_worker = refl
 
 -- A check of a graph, which has a file and nothing else.
 checked : asked_by (codes "check" ∷ codes "g" ∷ []) ≡ Some (check (codes "g"))
-unfolding clap_on_literals run_app judge_app check_app
+unfolding clap_on_literals run_app judge_app check_app upgrade_app
 checked = refl
 
 checked_behind_two_hyphens : asked_by (codes "check" ∷ codes "--" ∷ codes "-g" ∷ []) ≡ Some (check (codes "-g"))
-unfolding clap_on_literals run_app judge_app check_app
+unfolding clap_on_literals run_app judge_app check_app upgrade_app
 checked_behind_two_hyphens = refl
 
 nothing_to_check : asked_by (codes "check" ∷ []) ≡ None
-unfolding clap_on_literals run_app judge_app check_app
+unfolding clap_on_literals run_app judge_app check_app upgrade_app
 nothing_to_check = refl
 
 two_files_to_check : asked_by (codes "check" ∷ codes "g" ∷ codes "h" ∷ []) ≡ None
-unfolding clap_on_literals run_app judge_app check_app
+unfolding clap_on_literals run_app judge_app check_app upgrade_app
 two_files_to_check = refl
 
 limit_of_a_check : asked_by (codes "check" ∷ codes "g" ∷ codes "--limit" ∷ codes "3" ∷ []) ≡ None
-unfolding clap_on_literals run_app judge_app check_app
+unfolding clap_on_literals run_app judge_app check_app upgrade_app
 limit_of_a_check = refl
 
 help_on_a_check : asked_by (codes "check" ∷ codes "g" ∷ codes "--help" ∷ []) ≡ None
-unfolding clap_on_literals run_app judge_app check_app
+unfolding clap_on_literals run_app judge_app check_app upgrade_app
 help_on_a_check = refl
+
+-- An upgrade of a graph file, which has a file and nothing else.
+upgraded : asked_by (codes "upgrade" ∷ codes "g" ∷ []) ≡ Some (upgrade (codes "g"))
+unfolding clap_on_literals run_app judge_app check_app upgrade_app
+upgraded = refl
+
+upgraded_behind_two_hyphens : asked_by (codes "upgrade" ∷ codes "--" ∷ codes "-g" ∷ []) ≡ Some (upgrade (codes "-g"))
+unfolding clap_on_literals run_app judge_app check_app upgrade_app
+upgraded_behind_two_hyphens = refl
+
+nothing_to_upgrade : asked_by (codes "upgrade" ∷ []) ≡ None
+unfolding clap_on_literals run_app judge_app check_app upgrade_app
+nothing_to_upgrade = refl
+
+two_files_to_upgrade : asked_by (codes "upgrade" ∷ codes "g" ∷ codes "h" ∷ []) ≡ None
+unfolding clap_on_literals run_app judge_app check_app upgrade_app
+two_files_to_upgrade = refl
+
+workers_of_an_upgrade : asked_by (codes "upgrade" ∷ codes "g" ∷ codes "--workers" ∷ codes "3" ∷ []) ≡ None
+unfolding clap_on_literals run_app judge_app check_app upgrade_app
+workers_of_an_upgrade = refl
+
+help_on_an_upgrade : asked_by (codes "upgrade" ∷ codes "--help" ∷ []) ≡ None
+unfolding clap_on_literals run_app judge_app check_app upgrade_app
+help_on_an_upgrade = refl
 
 another_spelling : asked_by (codes "Check" ∷ codes "g" ∷ []) ≡ None
 another_spelling = refl
@@ -195,3 +220,6 @@ module _ (file journal : Bor (List ℕ)) where
 
   asks_for_a_check : asked (Check (record { file = file })) ≡ check file.now
   asks_for_a_check = refl
+
+  asks_for_an_upgrade : asked (Upgrade (record { file = file })) ≡ upgrade file.now
+  asks_for_an_upgrade = refl

@@ -10,12 +10,13 @@ use Rattle.command_line.specs.declared.numbers.TheConstants.{DEFAULT_LIMIT, DEFA
 use Rattle.command_line.specs.Numbers.{number_in}
 
 -- What is asked for: to run the graph in a file, with at most so many starts and by so many workers, and to write its
--- journal in place of its report or not; to judge the journal in another file, which may have so many starts; or to find
--- how the graph in a file can go wrong.
+-- journal in place of its report or not; to judge the journal in another file, which may have so many starts; to find how
+-- the graph in a file can go wrong; or to write the graph in a file as a file of the newest version.
 pub data Asked : Type 0 where
   run : List ℕ → ℕ → ℕ → Bool → Asked
   judge : List ℕ → List ℕ → ℕ → Asked
   check : List ℕ → Asked
+  upgrade : List ℕ → Asked
 
 -- a command of this name that reads no name of a program, and of itself has no flag
 abbrev pub command_named : List ℕ → App
@@ -43,6 +44,10 @@ judge_app = with_rule (with_rule (with_rule (command_named (codes "judge")) (req
 -- `check FILE`
 unfoldable pub check_app : App
 check_app = with_rule (command_named (codes "check")) (required (codes "file"))
+
+-- `upgrade FILE`
+unfoldable pub upgrade_app : App
+upgrade_app = with_rule (command_named (codes "upgrade")) (required (codes "file"))
 
 -- what a command finds among the arguments, where it finds no fault with them
 abbrev pub rows_without : Kinds → List Row → Option (List Row)
@@ -78,9 +83,14 @@ judge_in rows =
 abbrev pub check_in : List Row → Option Asked
 check_in rows = option_map check (first_of (codes "file") rows)
 
+-- the upgrade that is asked for
+abbrev pub upgrade_in : List Row → Option Asked
+upgrade_in rows = option_map upgrade (first_of (codes "file") rows)
+
 -- What a command line asks for: its first argument names the command that reads the others.
 abbrev pub asked_by : List (List ℕ) → Option Asked
 asked_by [] = None
 asked_by (command ∷ arguments) = if bytes_eq command (codes "run") then option_and_then run_in (rows_in run_app arguments)
     else (if bytes_eq command (codes "judge") then option_and_then judge_in (rows_in judge_app arguments)
-    else (if bytes_eq command (codes "check") then option_and_then check_in (rows_in check_app arguments) else None))
+    else (if bytes_eq command (codes "check") then option_and_then check_in (rows_in check_app arguments)
+    else (if bytes_eq command (codes "upgrade") then option_and_then upgrade_in (rows_in upgrade_app arguments) else None)))

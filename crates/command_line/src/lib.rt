@@ -2,8 +2,8 @@
 //!
 //! The first argument names a command of `flow`, and `clap` reads those after it, by one simple command for each of
 //! `flow`'s. The layer above sees what is asked for as plain data; which command lines ask for it is in
-//! `specs/Requests.antt`: `run_app`, `judge_app` and `check_app` are the commands that `clap` reads by, and `run_in`,
-//! `judge_in` and `check_in` what their matches come to.
+//! `specs/Requests.antt`: `run_app`, `judge_app`, `check_app` and `upgrade_app` are the commands that `clap` reads by, and
+//! `run_in`, `judge_in`, `check_in` and `upgrade_in` what their matches come to.
 #![tactic(auto)]
 
 mod check;
@@ -13,9 +13,11 @@ mod matches;
 mod numbers;
 mod request;
 mod run;
+mod upgrade;
 
 pub use check::Check;
 pub use judge::Judge;
 pub use numbers::{DEFAULT_LIMIT, DEFAULT_WORKERS, GREATEST_LIMIT, GREATEST_WORKERS};
 pub use request::{ArgumentsError, Request, read_arguments};
 pub use run::Run;
+pub use upgrade::Upgrade;

@@ -7,6 +7,7 @@ ghost use Rattle.command_line.specs.Asked.{asked};
 use super::check::{Check, read_check};
 use super::judge::{Judge, read_judge};
 use super::run::{Run, read_run};
+use super::upgrade::{Upgrade, read_upgrade};
 use std::alloc::{AllocError, Global};
 
 /// Why arguments give no request.
@@ -35,6 +36,7 @@ pub enum Request<'w> {
     Run(Run<'w>),
     Judge(Judge<'w>),
     Check(Check<'w>),
+    Upgrade(Upgrade<'w>),
 }
 
 /// What the arguments after the program's own name ask for. `Refused` comes exactly where they ask for nothing
@@ -56,6 +58,7 @@ pub fn read_arguments<'w>(
         "run" => Ok(Request::Run(read_run(alloc, rest)?)),
         "judge" => Ok(Request::Judge(read_judge(alloc, rest)?)),
         "check" => Ok(Request::Check(read_check(alloc, rest)?)),
+        "upgrade" => Ok(Request::Upgrade(read_upgrade(alloc, rest)?)),
         _ => Err(ArgumentsError::Refused),
     }
 }

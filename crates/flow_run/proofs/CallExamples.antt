@@ -12,14 +12,14 @@ use Rattle.graph_plans.specs.PlanRows.{PlanRows}
 use Rattle.graph_file.specs.PlanText.{PlanText, IsRefused}
 use Rattle.text_tasks.specs.GraphWork.{GraphWork}
 use Rattle.call_status.specs.declared.status.Status.{Status}
-use Rattle.call_status.specs.declared.status.Status.TheVariants.{Done, BadWords, NoText, WriteFault, TaskFault, NoMemory}
+use Rattle.call_status.specs.declared.status.Status.TheVariants.{Done, BadWords, NoText, WriteFault, TaskFault, Limit, Stuck, NoMemory}
 use Rattle.call_status.specs.declared.stop.Stop.{Stop}
 use Rattle.call_status.specs.declared.stop.Stop.TheVariants as stop
-use Rattle.command_line.specs.Requests.{asked_by, run as run_of, judge as judge_of, check as check_of}
+use Rattle.command_line.specs.Requests.{asked_by, run as run_of, judge as judge_of, check as check_of, upgrade as upgrade_of}
 use Rattle.legal_run.specs.declared.verdict.Verdict.TheVariants.{Complete as Finished}
 use Rattle.flow_run.specs.declared.conclusion.Conclusion.TheVariants as conclusion
 use Rattle.flow_run.specs.declared.conclusion.GraphFindings.{GraphFindings}
-use Rattle.journal_rules.specs.declared.entry.Why.TheVariants.{Long as TooLong}
+use Rattle.journal_rules.specs.declared.entry.Why.TheVariants.{Long as TooLong, OverRelease}
 use Rattle.nested_runs.specs.declared.reasons.Reason.TheVariants as reason
 use Rattle.flow_run.specs.Requests.{SourceTexts, StopsAtName, IsTextOf, TextsAre, StopsAtText, HasStart, StopsAtBytes, HasPlan, IsRequested, file_limit, text_limit}
 use Rattle.flow_run.specs.Answers.{TextRun, IsAfterRun, RunEnds, CallEnds, Reported}
@@ -198,6 +198,28 @@ limit_hidden_by_the_output (inl same) = absurd (cc)
 limit_hidden_by_the_output (inr (inl (fine, same))) = absurd (cc)
 limit_hidden_by_the_output (inr (inr same)) = absurd (cc)
 
+-- A run that got stuck is told as that, of the task that waited first; a unit that came back too often is a fault.
+after_stuck : IsAfterRun (reason.Stuck (3 ∷ [])) (Stuck (3 ∷ [])) × IsAfterRun (reason.Stuck (3 ∷ [])) NoMemory
+after_stuck = (inl refl, inr (inr refl))
+
+after_an_over_release : IsAfterRun (reason.Fault (3 ∷ []) (OverRelease 0)) (TaskFault (3 ∷ []) (OverRelease 0))
+after_an_over_release = inl refl
+
+stuck_hidden_by_the_output : ¬ IsAfterRun (reason.Stuck (3 ∷ [])) WriteFault
+stuck_hidden_by_the_output (inl same) = absurd (cc)
+stuck_hidden_by_the_output (inr (inl (fine, same))) = absurd (cc)
+stuck_hidden_by_the_output (inr (inr same)) = absurd (cc)
+
+stuck_without_a_wait : ¬ IsAfterRun reason.Fine (Stuck (3 ∷ []))
+stuck_without_a_wait (inl same) = absurd (cc)
+stuck_without_a_wait (inr (inl (fine, same))) = absurd (cc)
+stuck_without_a_wait (inr (inr same)) = absurd (cc)
+
+stuck_called_limit : ¬ IsAfterRun (reason.Stuck (3 ∷ [])) (Limit [] 9)
+stuck_called_limit (inl same) = absurd (cc)
+stuck_called_limit (inr (inl (fine, same))) = absurd (cc)
+stuck_called_limit (inr (inr same)) = absurd (cc)
+
 not_after_run : ¬ IsAfterRun reason.Fine BadWords
 not_after_run (inl same) = absurd (cc)
 not_after_run (inr (inl (fine, same))) = absurd (cc)
@@ -237,27 +259,39 @@ asked arguments asks (inl (file, limit, workers, journal, asks_file, inl stopped
 asked arguments asks (inl (file, limit, workers, journal, asks_file, inr ran, none)) = let only : [] ≡ ran.run ∷ [] = ran.only in absurd (cc)
 asked arguments asks (inr (inl (file, name, limit, asks_judge, ends, none))) = let never : Some (run_of g 77 4 false) ≡ Some (judge_of file name limit) = sym asks ∙ asks_judge in absurd (cc)
 asked arguments asks (inr (inr (inl (file, asks_check, ends, none)))) = let never : Some (run_of g 77 4 false) ≡ Some (check_of file) = sym asks ∙ asks_check in absurd (cc)
-asked arguments asks (inr (inr (inr (inl (same, none, nothing, refused))))) = let never : Some (run_of g 77 4 false) ≡ None = sym asks ∙ refused in absurd (cc)
-asked arguments asks (inr (inr (inr (inr (same, none, nothing))))) = absurd (cc)
+asked arguments asks (inr (inr (inr (inl (file, asks_upgrade, ends, none))))) = let never : Some (run_of g 77 4 false) ≡ Some (upgrade_of file) = sym asks ∙ asks_upgrade in absurd (cc)
+asked arguments asks (inr (inr (inr (inr (inl (same, none, nothing, refused)))))) = let never : Some (run_of g 77 4 false) ≡ None = sym asks ∙ refused in absurd (cc)
+asked arguments asks (inr (inr (inr (inr (inr (same, none, nothing)))))) = absurd (cc)
 
 asked_to_judge : (arguments : List (List ℕ)) → asked_by arguments ≡ Some (judge_of g t 77) → ¬ CallEnds held arguments BadWords [] None
 asked_to_judge arguments asks (inl (file, limit, workers, journal, asks_file, ends, none)) = let never : Some (judge_of g t 77) ≡ Some (run_of file limit workers journal) = sym asks ∙ asks_file in absurd (cc)
 asked_to_judge arguments asks (inr (inl (file, name, limit, asks_judge, inl stopped, none))) = never_bad stopped.why stopped.reported
 asked_to_judge arguments asks (inr (inl (file, name, limit, asks_judge, inr ended, none))) = let only : None ≡ Some (conclusion.Verdict ended.verdict) = ended.only in absurd (cc)
 asked_to_judge arguments asks (inr (inr (inl (file, asks_check, ends, none)))) = let never : Some (judge_of g t 77) ≡ Some (check_of file) = sym asks ∙ asks_check in absurd (cc)
-asked_to_judge arguments asks (inr (inr (inr (inl (same, none, nothing, refused))))) = let never : Some (judge_of g t 77) ≡ None = sym asks ∙ refused in absurd (cc)
-asked_to_judge arguments asks (inr (inr (inr (inr (same, none, nothing))))) = absurd (cc)
+asked_to_judge arguments asks (inr (inr (inr (inl (file, asks_upgrade, ends, none))))) = let never : Some (judge_of g t 77) ≡ Some (upgrade_of file) = sym asks ∙ asks_upgrade in absurd (cc)
+asked_to_judge arguments asks (inr (inr (inr (inr (inl (same, none, nothing, refused)))))) = let never : Some (judge_of g t 77) ≡ None = sym asks ∙ refused in absurd (cc)
+asked_to_judge arguments asks (inr (inr (inr (inr (inr (same, none, nothing)))))) = absurd (cc)
 
 asked_to_check : (arguments : List (List ℕ)) → asked_by arguments ≡ Some (check_of g) → ¬ CallEnds held arguments BadWords [] None
 asked_to_check arguments asks (inl (file, limit, workers, journal, asks_file, ends, none)) = let never : Some (check_of g) ≡ Some (run_of file limit workers journal) = sym asks ∙ asks_file in absurd (cc)
 asked_to_check arguments asks (inr (inl (file, name, limit, asks_judge, ends, none))) = let never : Some (check_of g) ≡ Some (judge_of file name limit) = sym asks ∙ asks_judge in absurd (cc)
 asked_to_check arguments asks (inr (inr (inl (file, asks_check, inl stopped, none)))) = never_bad stopped.why stopped.reported
 asked_to_check arguments asks (inr (inr (inl (file, asks_check, inr ended, none)))) = let only : None ≡ Some (conclusion.Findings ended.found) = ended.only in absurd (cc)
-asked_to_check arguments asks (inr (inr (inr (inl (same, none, nothing, refused))))) = let never : Some (check_of g) ≡ None = sym asks ∙ refused in absurd (cc)
-asked_to_check arguments asks (inr (inr (inr (inr (same, none, nothing))))) = absurd (cc)
+asked_to_check arguments asks (inr (inr (inr (inl (file, asks_upgrade, ends, none))))) = let never : Some (check_of g) ≡ Some (upgrade_of file) = sym asks ∙ asks_upgrade in absurd (cc)
+asked_to_check arguments asks (inr (inr (inr (inr (inl (same, none, nothing, refused)))))) = let never : Some (check_of g) ≡ None = sym asks ∙ refused in absurd (cc)
+asked_to_check arguments asks (inr (inr (inr (inr (inr (same, none, nothing)))))) = absurd (cc)
+
+asked_to_upgrade : (arguments : List (List ℕ)) → asked_by arguments ≡ Some (upgrade_of g) → ¬ CallEnds held arguments BadWords [] None
+asked_to_upgrade arguments asks (inl (file, limit, workers, journal, asks_file, ends, none)) = let never : Some (upgrade_of g) ≡ Some (run_of file limit workers journal) = sym asks ∙ asks_file in absurd (cc)
+asked_to_upgrade arguments asks (inr (inl (file, name, limit, asks_judge, ends, none))) = let never : Some (upgrade_of g) ≡ Some (judge_of file name limit) = sym asks ∙ asks_judge in absurd (cc)
+asked_to_upgrade arguments asks (inr (inr (inl (file, asks_check, ends, none)))) = let never : Some (upgrade_of g) ≡ Some (check_of file) = sym asks ∙ asks_check in absurd (cc)
+asked_to_upgrade arguments asks (inr (inr (inr (inl (file, asks_upgrade, inl stopped, none))))) = never_bad stopped.why stopped.reported
+asked_to_upgrade arguments asks (inr (inr (inr (inl (file, asks_upgrade, inr ended, none))))) = let only : None ≡ Some (conclusion.GraphFile ended.text) = ended.only in absurd (cc)
+asked_to_upgrade arguments asks (inr (inr (inr (inr (inl (same, none, nothing, refused)))))) = let never : Some (upgrade_of g) ≡ None = sym asks ∙ refused in absurd (cc)
+asked_to_upgrade arguments asks (inr (inr (inr (inr (inr (same, none, nothing)))))) = absurd (cc)
 
 refused : (arguments : List (List ℕ)) → asked_by arguments ≡ None → CallEnds held arguments BadWords [] None
-refused arguments none = inr (inr (inr (inl (refl, refl, refl, none))))
+refused arguments none = inr (inr (inr (inr (inl (refl, refl, refl, none)))))
 
 -- It keeps no run and comes to no conclusion, also where memory runs out.
 module _ (arguments : List (List ℕ)) (nothing : asked_by arguments ≡ None) where
@@ -265,38 +299,51 @@ module _ (arguments : List (List ℕ)) (nothing : asked_by arguments ≡ None) w
   run_of_nothing told run (inl (file, limit, workers, journal, asks_file, ends, none)) = let never : None ≡ Some (run_of file limit workers journal) = sym nothing ∙ asks_file in absurd (cc)
   run_of_nothing told run (inr (inl (file, name, limit, asks_judge, ends, none))) = let never : None ≡ Some (judge_of file name limit) = sym nothing ∙ asks_judge in absurd (cc)
   run_of_nothing told run (inr (inr (inl (file, asks_check, ends, none)))) = let never : None ≡ Some (check_of file) = sym nothing ∙ asks_check in absurd (cc)
-  run_of_nothing told run (inr (inr (inr (inl (same, none, untold, refused))))) = absurd (omega (arith, ap length none))
-  run_of_nothing told run (inr (inr (inr (inr (same, none, untold))))) = absurd (omega (arith, ap length none))
+  run_of_nothing told run (inr (inr (inr (inl (file, asks_upgrade, ends, none))))) = let never : None ≡ Some (upgrade_of file) = sym nothing ∙ asks_upgrade in absurd (cc)
+  run_of_nothing told run (inr (inr (inr (inr (inl (same, none, untold, refused)))))) = absurd (omega (arith, ap length none))
+  run_of_nothing told run (inr (inr (inr (inr (inr (same, none, untold)))))) = absurd (omega (arith, ap length none))
 
   conclusion_of_nothing : (told : Status) → ¬ CallEnds held arguments told [] (Some (conclusion.Verdict Finished))
   conclusion_of_nothing told (inl (file, limit, workers, journal, asks_file, ends, none)) = let never : None ≡ Some (run_of file limit workers journal) = sym nothing ∙ asks_file in absurd (cc)
   conclusion_of_nothing told (inr (inl (file, name, limit, asks_judge, ends, none))) = let never : None ≡ Some (judge_of file name limit) = sym nothing ∙ asks_judge in absurd (cc)
   conclusion_of_nothing told (inr (inr (inl (file, asks_check, ends, none)))) = let never : None ≡ Some (check_of file) = sym nothing ∙ asks_check in absurd (cc)
-  conclusion_of_nothing told (inr (inr (inr (inl (same, none, untold, refused))))) = absurd (cc)
-  conclusion_of_nothing told (inr (inr (inr (inr (same, none, untold))))) = absurd (cc)
+  conclusion_of_nothing told (inr (inr (inr (inl (file, asks_upgrade, ends, none))))) = let never : None ≡ Some (upgrade_of file) = sym nothing ∙ asks_upgrade in absurd (cc)
+  conclusion_of_nothing told (inr (inr (inr (inr (inl (same, none, untold, refused)))))) = absurd (cc)
+  conclusion_of_nothing told (inr (inr (inr (inr (inr (same, none, untold)))))) = absurd (cc)
 
--- A run has no conclusion, and a judgement and a check keep no run.
+-- A run has no conclusion, and a judgement, a check and an upgrade keep no run.
 module _ (arguments : List (List ℕ)) where
   verdict_on_a_run : asked_by arguments ≡ Some (run_of g 77 4 false) → ¬ CallEnds held arguments Done [] (Some (conclusion.Verdict Finished))
   verdict_on_a_run asks (inl (file, limit, workers, journal, asks_file, ends, none)) = absurd (cc)
   verdict_on_a_run asks (inr (inl (file, name, limit, asks_judge, ends, none))) = let never : Some (run_of g 77 4 false) ≡ Some (judge_of file name limit) = sym asks ∙ asks_judge in absurd (cc)
   verdict_on_a_run asks (inr (inr (inl (file, asks_check, ends, none)))) = let never : Some (run_of g 77 4 false) ≡ Some (check_of file) = sym asks ∙ asks_check in absurd (cc)
-  verdict_on_a_run asks (inr (inr (inr (inl (same, none, nothing, refused))))) = absurd (cc)
-  verdict_on_a_run asks (inr (inr (inr (inr (same, none, nothing))))) = absurd (cc)
+  verdict_on_a_run asks (inr (inr (inr (inl (file, asks_upgrade, ends, none))))) = let never : Some (run_of g 77 4 false) ≡ Some (upgrade_of file) = sym asks ∙ asks_upgrade in absurd (cc)
+  verdict_on_a_run asks (inr (inr (inr (inr (inl (same, none, nothing, refused)))))) = absurd (cc)
+  verdict_on_a_run asks (inr (inr (inr (inr (inr (same, none, nothing)))))) = absurd (cc)
 
   run_of_a_judgement : (run : TextRun) → asked_by arguments ≡ Some (judge_of g t 77) → ¬ CallEnds held arguments Done (run ∷ []) None
   run_of_a_judgement run asks (inl (file, limit, workers, journal, asks_file, ends, none)) = let never : Some (judge_of g t 77) ≡ Some (run_of file limit workers journal) = sym asks ∙ asks_file in absurd (cc)
   run_of_a_judgement run asks (inr (inl (file, name, limit, asks_judge, ends, none))) = absurd (cc)
   run_of_a_judgement run asks (inr (inr (inl (file, asks_check, ends, none)))) = absurd (cc)
-  run_of_a_judgement run asks (inr (inr (inr (inl (same, none, nothing, refused))))) = absurd (cc)
-  run_of_a_judgement run asks (inr (inr (inr (inr (same, none, nothing))))) = absurd (cc)
+  run_of_a_judgement run asks (inr (inr (inr (inl (file, asks_upgrade, ends, none))))) = absurd (cc)
+  run_of_a_judgement run asks (inr (inr (inr (inr (inl (same, none, nothing, refused)))))) = absurd (cc)
+  run_of_a_judgement run asks (inr (inr (inr (inr (inr (same, none, nothing)))))) = absurd (cc)
 
   run_of_a_check : (run : TextRun) (found : GraphFindings) → asked_by arguments ≡ Some (check_of g) → ¬ CallEnds held arguments Done (run ∷ []) (Some (conclusion.Findings found))
   run_of_a_check run found asks (inl (file, limit, workers, journal, asks_file, ends, none)) = absurd (cc)
   run_of_a_check run found asks (inr (inl (file, name, limit, asks_judge, ends, none))) = absurd (cc)
   run_of_a_check run found asks (inr (inr (inl (file, asks_check, ends, none)))) = absurd (cc)
-  run_of_a_check run found asks (inr (inr (inr (inl (same, none, nothing, refused))))) = absurd (cc)
-  run_of_a_check run found asks (inr (inr (inr (inr (same, none, nothing))))) = absurd (cc)
+  run_of_a_check run found asks (inr (inr (inr (inl (file, asks_upgrade, ends, none))))) = absurd (cc)
+  run_of_a_check run found asks (inr (inr (inr (inr (inl (same, none, nothing, refused)))))) = absurd (cc)
+  run_of_a_check run found asks (inr (inr (inr (inr (inr (same, none, nothing)))))) = absurd (cc)
+
+  run_of_an_upgrade : (run : TextRun) (text : List ℕ) → asked_by arguments ≡ Some (upgrade_of g) → ¬ CallEnds held arguments Done (run ∷ []) (Some (conclusion.GraphFile text))
+  run_of_an_upgrade run text asks (inl (file, limit, workers, journal, asks_file, ends, none)) = absurd (cc)
+  run_of_an_upgrade run text asks (inr (inl (file, name, limit, asks_judge, ends, none))) = absurd (cc)
+  run_of_an_upgrade run text asks (inr (inr (inl (file, asks_check, ends, none)))) = absurd (cc)
+  run_of_an_upgrade run text asks (inr (inr (inr (inl (file, asks_upgrade, ends, none))))) = absurd (cc)
+  run_of_an_upgrade run text asks (inr (inr (inr (inr (inl (same, none, nothing, refused)))))) = absurd (cc)
+  run_of_an_upgrade run text asks (inr (inr (inr (inr (inr (same, none, nothing)))))) = absurd (cc)
 
 -- What has been done to a sink of memory when the call ends.
 abbrev sink : List ℕ → ℕ → SinkState

@@ -20,7 +20,8 @@ use Rattle.command_line.specs.Requests.{check as check_of}
 use Rattle.flow_run.specs.declared.conclusion.Conclusion.TheVariants as conclusion
 use Rattle.flow_run.specs.declared.conclusion.GraphFindings.{GraphFindings}
 use Rattle.flow_run.specs.Requests.{SourceTexts, StopsAtPlan, StopsAtBytes}
-use Rattle.flow_run.specs.Checks.{StopsAtFile, StopsBeforeFindings, IsChecked, IsAfterFindings, EndsChecked, CheckEnds, CanBeChecked, finding_line, findings_text, count_line}
+use Rattle.flow_run.specs.PlanFiles.{StopsAtFile, StopsBeforePlan, IsAfterPlan, HoldsPlan}
+use Rattle.flow_run.specs.Checks.{IsChecked, EndsChecked, CheckEnds, finding_line, findings_text, count_line}
 use Rattle.flow_run.specs.Answers.{conclusion_text, wants_journal, output_of}
 use Rattle.flow_run.proofs.Completing.{one_plan}
 
@@ -95,10 +96,10 @@ check_asked_for : wants_journal (Some (check_of g)) ≡ false
 check_asked_for = refl
 
 -- With findings the status is that of a call without any, unless the output failed or memory ran out.
-after_findings : IsAfterFindings Done × IsAfterFindings WriteFault × IsAfterFindings NoMemory
+after_findings : IsAfterPlan Done × IsAfterPlan WriteFault × IsAfterPlan NoMemory
 after_findings = (inl refl, inr (inl refl), inr (inr refl))
 
-no_source_told_as_a_status : ¬ IsAfterFindings (status.NoSource File)
+no_source_told_as_a_status : ¬ IsAfterPlan (status.NoSource File)
 no_source_told_as_a_status (inl same) = absurd (cc)
 no_source_told_as_a_status (inr (inl same)) = absurd (cc)
 no_source_told_as_a_status (inr (inr same)) = absurd (cc)
@@ -120,24 +121,24 @@ module _ (bytes : List ℕ) where
   plan_is_not_refused : (plan : PlanRows) → PlanText bytes plan → ¬ StopsAtPlan bytes (stop.BadGraph NotJson)
   plan_is_not_refused plan stands is = let both : Ok plan ≡ Err NotJson = sym stands ∙ is in absurd (cc)
 
-missing_file : StopsBeforeFindings held (2 ∷ []) (stop.NoText (2 ∷ []))
+missing_file : StopsBeforePlan held (2 ∷ []) (stop.NoText (2 ∷ []))
 missing_file = inl (refl, refl)
 
-file_there : ¬ StopsBeforeFindings held g (stop.NoText g)
+file_there : ¬ StopsBeforePlan held g (stop.NoText g)
 file_there (inl (same, none)) = absurd (none-some (1 ∷ []) (sym none))
 file_there (inr at) = at.stops
 
-refused_file : IsRefused (1 ∷ []) NotJson → StopsBeforeFindings held g (stop.BadGraph NotJson)
+refused_file : IsRefused (1 ∷ []) NotJson → StopsBeforePlan held g (stop.BadGraph NotJson)
 refused_file refused = inr (record { bytes = 1 ∷ []; read = (refl, omega arith); stops = refused })
 
-file_of_a_plan_is_not_refused : (plan : PlanRows) → PlanText (1 ∷ []) plan → ¬ StopsBeforeFindings held g (stop.BadGraph NotJson)
+file_of_a_plan_is_not_refused : (plan : PlanRows) → PlanText (1 ∷ []) plan → ¬ StopsBeforePlan held g (stop.BadGraph NotJson)
 file_of_a_plan_is_not_refused plan stands (inl at) = at
 file_of_a_plan_is_not_refused plan stands (inr at) =
     let read : Some (1 ∷ []) ≡ Some at.bytes = at.read.0 in
     let bytes : 1 ∷ [] ≡ at.bytes = cc in
     plan_is_not_refused (1 ∷ []) plan stands (subst (λ b. IsRefused b NotJson) (sym bytes) at.stops)
 
-no_source_stops_no_check_of_a_file : ¬ StopsBeforeFindings held g (stop.NoSource File)
+no_source_stops_no_check_of_a_file : ¬ StopsBeforePlan held g (stop.NoSource File)
 no_source_stops_no_check_of_a_file (inl at) = at
 no_source_stops_no_check_of_a_file (inr at) = at.stops
 
@@ -177,7 +178,7 @@ module _ (plan : PlanRows) (stands : PlanText (1 ∷ []) plan) (findings : List 
   told_as_another_status : ¬ EndsChecked held g (status.NoSource File) (Some (conclusion.Findings (record { names = plan.top.names; findings = findings })))
   told_as_another_status ended = no_source_told_as_a_status ended.after
 
-  at_hand : CanBeChecked texts g
+  at_hand : HoldsPlan texts g
   at_hand = record { plan = plan; graph = (omega arith, stands) }
 
 plan_of_a_missing_file : (found : GraphFindings) → ¬ IsChecked held (2 ∷ []) found
@@ -202,7 +203,7 @@ module _ (bytes : List ℕ) (long : length bytes ≡ 4194305) where
   abbrev too_long : SourceTexts
   too_long = Some (λ name. Some bytes)
 
-  long_file : StopsBeforeFindings too_long g (stop.LongText g)
+  long_file : StopsBeforePlan too_long g (stop.LongText g)
   long_file = inl (refl, omega (arith, long))
 
   long_file_is_not_read : ¬ StopsAtFile too_long g stop.NoMemory
@@ -211,5 +212,5 @@ module _ (bytes : List ℕ) (long : length bytes ≡ 4194305) where
   long_file_is_not_checked : (findings : GraphFindings) → ¬ IsChecked too_long g findings
   long_file_is_not_checked findings is = let same : Some bytes ≡ Some is.bytes = is.read.0 in absurd (omega (arith, long, ap known_length same, is.read.1))
 
-  long_file_is_not_at_hand : ¬ CanBeChecked (λ name. Some bytes) g
+  long_file_is_not_at_hand : ¬ HoldsPlan (λ name. Some bytes) g
   long_file_is_not_at_hand can = absurd (omega (arith, long, can.graph.0))

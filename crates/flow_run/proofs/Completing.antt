@@ -24,7 +24,9 @@ use Rattle.call_status.specs.Statuses.{status_after}
 use Rattle.flow_run.specs.declared.conclusion.Conclusion.{Conclusion}
 use Rattle.flow_run.specs.Answers.{TextRun, IsAfterRun, RunEnds, CallEnds}
 use Rattle.flow_run.specs.Completion.{IsAtHand}
-use Rattle.flow_run.specs.Checks.{IsAfterFindings, StopsBeforeFindings, CheckEnds, CanBeChecked}
+use Rattle.flow_run.specs.PlanFiles.{IsAfterPlan, StopsBeforePlan, HoldsPlan}
+use Rattle.flow_run.specs.Checks.{CheckEnds}
+use Rattle.flow_run.specs.Upgrades.{UpgradeEnds}
 use Rattle.journal_rules.specs.declared.entry.Entry.{Entry}
 use Rattle.task_graph.specs.NetRows.{NetRows}
 use Rattle.legal_run.specs.declared.verdict.Break.{Break}
@@ -91,7 +93,7 @@ module _ (text : List ℕ → Option (List ℕ)) (file : List ℕ) (plan : PlanR
   never_at_bytes bytes (stop.BadJournal line) stands start stops = absurd stops
   never_at_bytes bytes stop.NoMemory stands start stops = refl
 
-  -- Nor for a check.
+  -- Nor where the plan alone is needed.
   never_at_plan : (bytes : List ℕ) (why : Stop) → PlanText bytes plan → StopsAtPlan bytes why → why ≡ stop.NoMemory
   never_at_plan bytes (stop.BadGraph error) stands stops = absurd (not_refused bytes plan error stands stops)
   never_at_plan bytes (stop.NoSource at) stands stops = absurd stops
@@ -139,9 +141,9 @@ module _ (text : List ℕ → Option (List ℕ)) (file : List ℕ) (plan : PlanR
       let same_journal = one_journal judged.journal journal judged.text.bytes judged.text.stands written in
       subst (λ (p : PlanRows). IsVerdict p.top.net limit journal verdict) same_plan (subst (λ (j : List Entry). IsVerdict judged.plan.top.net limit j verdict) same_journal judged.is)
 
-  never_before_findings : (why : Stop) → IsSomeAnd (text file) (λ bytes. (length bytes ≤ file_limit) × PlanText bytes plan) → StopsBeforeFindings (Some text) file why → ((n : List ℕ) → why ≢ stop.ReadFault n) → why ≡ stop.NoMemory
-  never_before_findings why graph (inl at) fine = never_stops text file file_limit why (weaker file_limit (λ bytes. PlanText bytes plan) (text file) graph) at fine
-  never_before_findings why graph (inr at) fine =
+  never_before_plan : (why : Stop) → IsSomeAnd (text file) (λ bytes. (length bytes ≤ file_limit) × PlanText bytes plan) → StopsBeforePlan (Some text) file why → ((n : List ℕ) → why ≢ stop.ReadFault n) → why ≡ stop.NoMemory
+  never_before_plan why graph (inl at) fine = never_stops text file file_limit why (weaker file_limit (λ bytes. PlanText bytes plan) (text file) graph) at fine
+  never_before_plan why graph (inr at) fine =
       never_at_plan at.bytes why (held_some text file at.bytes file_limit (λ bytes. (length bytes ≤ file_limit) × PlanText bytes plan) at.read graph).1 at.stops
 
   -- So nothing but a failure or want of memory stops the call.
@@ -190,18 +192,25 @@ module _ (status : Status) (read : (n : List ℕ) → status ≢ ReadFault n) (w
   judge_completes (Some text) file name limit concluded can (inr ended) =
       after_verdict can.plan.top.net limit can.journal ended.verdict (judged_well text file can.plan name can.journal limit ended.verdict can.graph can.trace ended.judged) can.stands ended.after
 
-  -- findings whose lines didn't fail are done
-  after_findings : IsAfterFindings status → (status ≡ Done) ⊎ (status ≡ NoMemory)
-  after_findings (inl told) = inl told
-  after_findings (inr (inl failed)) = absurd (write failed)
-  after_findings (inr (inr memory)) = inr memory
+  -- what is written of a plan and doesn't fail is done
+  after_plan : IsAfterPlan status → (status ≡ Done) ⊎ (status ≡ NoMemory)
+  after_plan (inl told) = inl told
+  after_plan (inr (inl failed)) = absurd (write failed)
+  after_plan (inr (inr memory)) = inr memory
 
-  check_completes : (held : SourceTexts) (file : List ℕ) (concluded : Option Conclusion) → IsSomeAnd held (λ text. CanBeChecked text file)
+  check_completes : (held : SourceTexts) (file : List ℕ) (concluded : Option Conclusion) → IsSomeAnd held (λ text. HoldsPlan text file)
       → CheckEnds held file status concluded → (status ≡ Done) ⊎ (status ≡ NoMemory)
   check_completes None file concluded can ends = absurd can
   check_completes (Some text) file concluded can (inl stopped) =
-      inr (stopped.reported ∙ ap status_of (never_before_findings text file can.plan stopped.why can.graph stopped.stops (not_at_read stopped.why stopped.reported)))
-  check_completes (Some text) file concluded can (inr ended) = after_findings ended.after
+      inr (stopped.reported ∙ ap status_of (never_before_plan text file can.plan stopped.why can.graph stopped.stops (not_at_read stopped.why stopped.reported)))
+  check_completes (Some text) file concluded can (inr ended) = after_plan ended.after
+
+  upgrade_completes : (held : SourceTexts) (file : List ℕ) (concluded : Option Conclusion) → IsSomeAnd held (λ text. HoldsPlan text file)
+      → UpgradeEnds held file status concluded → (status ≡ Done) ⊎ (status ≡ NoMemory)
+  upgrade_completes None file concluded can ends = absurd can
+  upgrade_completes (Some text) file concluded can (inl stopped) =
+      inr (stopped.reported ∙ ap status_of (never_before_plan text file can.plan stopped.why can.graph stopped.stops (not_at_read stopped.why stopped.reported)))
+  upgrade_completes (Some text) file concluded can (inr ended) = after_plan ended.after
 
   -- Where nothing is asked for, nothing is at hand.
   none_at_hand : (held : SourceTexts) → IsAtHand held None → ⊥
@@ -214,5 +223,6 @@ module _ (status : Status) (read : (n : List ℕ) → status ≢ ReadFault n) (w
   completes held arguments runs concluded (inl (file, limit, workers, journal, asks, ends, none)) hand fine = run_completes held file limit runs (subst (IsAtHand held) asks hand) fine ends
   completes held arguments runs concluded (inr (inl (file, name, limit, asks, ends, none))) hand fine = judge_completes held file name limit concluded (subst (IsAtHand held) asks hand) ends
   completes held arguments runs concluded (inr (inr (inl (file, asks, ends, none)))) hand fine = check_completes held file concluded (subst (IsAtHand held) asks hand) ends
-  completes held arguments runs concluded (inr (inr (inr (inl (same, none, nothing, never))))) hand fine = absurd (none_at_hand held (subst (IsAtHand held) never hand))
-  completes held arguments runs concluded (inr (inr (inr (inr (memory, none, nothing))))) hand fine = inr memory
+  completes held arguments runs concluded (inr (inr (inr (inl (file, asks, ends, none))))) hand fine = upgrade_completes held file concluded (subst (IsAtHand held) asks hand) ends
+  completes held arguments runs concluded (inr (inr (inr (inr (inl (same, none, nothing, never)))))) hand fine = absurd (none_at_hand held (subst (IsAtHand held) never hand))
+  completes held arguments runs concluded (inr (inr (inr (inr (inr (memory, none, nothing)))))) hand fine = inr memory

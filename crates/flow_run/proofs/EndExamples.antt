@@ -42,7 +42,8 @@ use Rattle.flow_run.specs.declared.conclusion.GraphFindings.{GraphFindings}
 use Rattle.flow_run.specs.Requests.{SourceTexts, StopsAtName, IsAdded, StopsAtText, HasStart, StopsAtBytes, StopsAtGraph, StopsBefore, HasPlan, IsRequestedJob, CanBeRun, text_limit}
 use Rattle.flow_run.specs.Answers.{TextRun, IsAfterRun, RanOnce, KeptOnce, RunEnds, JobEnds, CallEnds, Reported, names_in, run_texts}
 use Rattle.flow_run.specs.Judgements.{StopsAtJournal, StopsAtJournalText, StopsBeforeVerdict, JudgeEnds, CanBeJudged}
-use Rattle.flow_run.specs.Checks.{StopsBeforeFindings, EndsChecked, CheckEnds, CanBeChecked}
+use Rattle.flow_run.specs.PlanFiles.{StopsBeforePlan, HoldsPlan}
+use Rattle.flow_run.specs.Checks.{EndsChecked, CheckEnds}
 
 abbrev g : List ℕ
 g = 0 ∷ []
@@ -276,7 +277,7 @@ module _ (arguments : List (List ℕ)) (status : Status) where
   call_of_a_check concluded asks ends = inr (inr (inl (g, asks, ends, refl)))
 
   call_without_memory : CallEnds held arguments NoMemory [] None
-  call_without_memory = inr (inr (inr (inr (refl, refl, refl))))
+  call_without_memory = inr (inr (inr (inr (inr (refl, refl, refl)))))
 
 -- ---- the journal in place of the report, where that is asked for
 
@@ -379,11 +380,11 @@ verdict_beside_a_stop (inr ended) = let none : None ≡ Some ended.judged.graph.
 
 -- ---- before findings
 
-missing_file_is_not_refused : ¬ StopsBeforeFindings held u (stop.BadGraph NotJson)
+missing_file_is_not_refused : ¬ StopsBeforePlan held u (stop.BadGraph NotJson)
 missing_file_is_not_refused (inl at) = at
 missing_file_is_not_refused (inr at) = let none : None ≡ Some at.bytes = at.read.0 in absurd (cc)
 
-file_at_its_limit : (bytes : List ℕ) → length bytes ≡ 4194304 → ¬ StopsBeforeFindings (all_hold bytes) g (stop.LongText g)
+file_at_its_limit : (bytes : List ℕ) → length bytes ≡ 4194304 → ¬ StopsBeforePlan (all_hold bytes) g (stop.LongText g)
 file_at_its_limit bytes long (inl at) = absurd (omega (arith, long, at.1))
 file_at_its_limit bytes long (inr at) = at.stops
 
@@ -401,7 +402,7 @@ verdict_of_a_check (inr ended) = let only = ended.only in absurd (cc)
 ends_with_its_findings : (concluded : Option Conclusion) → EndsChecked held g Done concluded → CheckEnds held g Done concluded
 ends_with_its_findings concluded ended = inr ended
 
-missing_file_can_not_be_checked : ¬ CanBeChecked (texts (1 ∷ []) (2 ∷ 3 ∷ [])) u
+missing_file_can_not_be_checked : ¬ HoldsPlan (texts (1 ∷ []) (2 ∷ 3 ∷ [])) u
 missing_file_can_not_be_checked can = can.graph
 
 -- ---- at the limits, what is asked for can be had
@@ -427,5 +428,5 @@ module _ (graph text : List ℕ) (plan : PlanRows) (stands : PlanText graph plan
     stands = never;
   }
 
-  can_be_checked_at_its_limit : CanBeChecked (texts graph text) g
+  can_be_checked_at_its_limit : HoldsPlan (texts graph text) g
   can_be_checked_at_its_limit = record { plan = plan; graph = (omega (arith, most), stands) }

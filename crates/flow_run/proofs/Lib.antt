@@ -9,10 +9,12 @@ pub mod NamedLemmas
 pub mod Naming
 pub mod Completing
 pub mod Plainly
+pub mod Upgrading
 pub mod CallExamples
 pub mod StopExamples
 pub mod JudgeExamples
 pub mod CheckExamples
+pub mod UpgradeExamples
 pub mod EndExamples
 pub mod ReadExamples
 pub mod PlainExamples

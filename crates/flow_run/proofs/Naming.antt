@@ -39,7 +39,7 @@ use Rattle.call_status.specs.declared.stop.Stop.{Stop}
 use Rattle.call_status.specs.declared.stop.Stop.TheVariants as stop
 use Rattle.flow_run.specs.declared.conclusion.Conclusion.{Conclusion}
 use Rattle.flow_run.specs.Answers.{CallEnds, IsAfterRun, TextRun, names_in}
-use Rattle.flow_run.specs.Checks.{IsAfterFindings}
+use Rattle.flow_run.specs.PlanFiles.{IsAfterPlan}
 use Rattle.flow_run.specs.Judgements.{IsAfterVerdict}
 use Rattle.flow_run.specs.Requests.{SourceTexts}
 use Rattle.legal_run.specs.declared.verdict.Verdict.{Verdict}
@@ -200,7 +200,7 @@ names_stopped names why told is = subst (NamesStatus names) (sym is) (by_stop wh
     by_stop (stop.BadJournal line) = tt
     by_stop stop.NoMemory = tt
 
--- A verdict tells of none either, and findings neither.
+-- A verdict tells of none either, nor does what is written of a plan.
 names_verdict : (names : List (List ℕ)) (verdict : Verdict) (told : Status) → IsAfterVerdict verdict told → NamesStatus names told
 names_verdict names verdict told (inl is) = subst (NamesStatus names) (sym is) (by_verdict verdict)
   where
@@ -211,10 +211,10 @@ names_verdict names verdict told (inl is) = subst (NamesStatus names) (sym is) (
 names_verdict names verdict told (inr (inl is)) = subst (NamesStatus names) (sym is.1) tt
 names_verdict names verdict told (inr (inr is)) = subst (NamesStatus names) (sym is) tt
 
-names_findings : (names : List (List ℕ)) (told : Status) → IsAfterFindings told → NamesStatus names told
-names_findings names told (inl is) = subst (NamesStatus names) (sym is) tt
-names_findings names told (inr (inl is)) = subst (NamesStatus names) (sym is) tt
-names_findings names told (inr (inr is)) = subst (NamesStatus names) (sym is) tt
+names_with_plan : (names : List (List ℕ)) (told : Status) → IsAfterPlan told → NamesStatus names told
+names_with_plan names told (inl is) = subst (NamesStatus names) (sym is) tt
+names_with_plan names told (inr (inl is)) = subst (NamesStatus names) (sym is) tt
+names_with_plan names told (inr (inr is)) = subst (NamesStatus names) (sym is) tt
 
 -- Each task that the status of a call tells of has a name in its run.
 pub status_named : (held : SourceTexts) (arguments : List (List ℕ)) (told : Status) (runs : List TextRun) (concluded : Option Conclusion) → CallEnds held arguments told runs concluded
@@ -226,6 +226,8 @@ status_named held arguments told runs concluded (inl (file, limit, workers, jour
 status_named held arguments told runs concluded (inr (inl (file, name, limit, asks, inl stopped, none))) jobs = names_stopped (names_in runs) stopped.why told stopped.reported
 status_named held arguments told runs concluded (inr (inl (file, name, limit, asks, inr ended, none))) jobs = names_verdict (names_in runs) ended.verdict told ended.after
 status_named held arguments told runs concluded (inr (inr (inl (file, asks, inl stopped, none)))) jobs = names_stopped (names_in runs) stopped.why told stopped.reported
-status_named held arguments told runs concluded (inr (inr (inl (file, asks, inr ended, none)))) jobs = names_findings (names_in runs) told ended.after
-status_named held arguments told runs concluded (inr (inr (inr (inl (is, none, nothing, never))))) jobs = subst (NamesStatus (names_in runs)) (sym is) tt
-status_named held arguments told runs concluded (inr (inr (inr (inr (is, none, nothing))))) jobs = subst (NamesStatus (names_in runs)) (sym is) tt
+status_named held arguments told runs concluded (inr (inr (inl (file, asks, inr ended, none)))) jobs = names_with_plan (names_in runs) told ended.after
+status_named held arguments told runs concluded (inr (inr (inr (inl (file, asks, inl stopped, none))))) jobs = names_stopped (names_in runs) stopped.why told stopped.reported
+status_named held arguments told runs concluded (inr (inr (inr (inl (file, asks, inr ended, none))))) jobs = names_with_plan (names_in runs) told ended.after
+status_named held arguments told runs concluded (inr (inr (inr (inr (inl (is, none, nothing, never)))))) jobs = subst (NamesStatus (names_in runs)) (sym is) tt
+status_named held arguments told runs concluded (inr (inr (inr (inr (inr (is, none, nothing)))))) jobs = subst (NamesStatus (names_in runs)) (sym is) tt

@@ -1,5 +1,5 @@
 -- What a call does that is asked for the report of a small plan without conditions, computed.
-use Rattle.std.proofs.Common.{◌≡◌, ◌⊎◌, ℕ, List, [], ◌∷◌, ◌++◌, length, get_or, Option, Some, None, true, false, inl, inr, refl, arith, ap, sym}
+use Rattle.std.proofs.Common.{◌≡◌, ◌⊎◌, ℕ, List, [], ◌∷◌, length, get_or, Option, Some, None, true, false, inl, inr, refl, arith, ap, sym}
 use Rattle.std.specs.Prelude.{codes}
 use Rattle.std.proofs.lemmas.Bool.{false≢true}
 use Rattle.task_graph.specs.declared.net.Shape.TheVariants.{Plain}

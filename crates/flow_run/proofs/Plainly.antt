@@ -1,14 +1,14 @@
 -- A run of a graph without conditions reports what one thread does, and is done exactly where that runs through.
-use Rattle.std.proofs.Common.{append-nil, ◌≡◌, ◌≢◌, ◌⊎◌, inl, inr, ℕ, ◌≤◌, Bool, true, false, List, [], ◌∷◌, ◌++◌, length, Option, Some, None, Ok, refl, sym, ap, ◌∙◌, subst, arith}
-use Rattle.std.specs.Prelude.{All, IfSome, IsSomeAnd}
+use Rattle.std.proofs.Common.{append-nil, ◌≡◌, ◌≢◌, ◌⊎◌, inl, inr, ℕ, ◌≤◌, Bool, false, List, [], ◌∷◌, ◌++◌, length, Option, Some, refl, sym, ap, ◌∙◌, subst}
+use Rattle.std.specs.Prelude.{All, IsSomeAnd}
 use Rattle.std.proofs.lemmas.Option.{none-some, same_Some}
 use Rattle.std.proofs.lemmas.List.Elements.{All-nil, All-cons}
 use Rattle.call_status.specs.declared.status.Status.{Status}
 use Rattle.call_status.specs.declared.status.Status.TheVariants.{Done, ReadFault, WriteFault, NoMemory}
 use Rattle.call_status.specs.declared.stop.Stop.{Stop}
 use Rattle.call_status.specs.declared.stop.Stop.TheVariants as stop
-use Rattle.call_status.specs.Statuses.{status_of, status_after}
-use Rattle.command_line.specs.Requests.{Asked, asked_by, run, judge, check}
+use Rattle.call_status.specs.Statuses.{status_of}
+use Rattle.command_line.specs.Requests.{Asked, asked_by, run, judge, check, upgrade}
 use Rattle.graph_file.proofs.PlanLemmas.{IsPlan-read}
 use Rattle.graph_plans.specs.PlanRows.{PlanRows}
 use Rattle.graph_file.specs.PlanText.{PlanText}
@@ -20,13 +20,12 @@ use Rattle.run_frame.specs.NestedRule.{job_of}
 use Rattle.text_ops.specs.Lines.{normal}
 use Rattle.text_tasks.specs.declared.job.TextJob.{TextJob}
 use Rattle.text_tasks.specs.declared.job.TextJob.TheVariants.{Graph}
-use Rattle.text_tasks.specs.GraphWork.{GraphWork, IsWork, greatest_limit, first_work}
-use Rattle.text_tasks.specs.JobMeaning.{IsTextJob, net_of, text_job}
+use Rattle.text_tasks.specs.JobMeaning.{text_job}
 use Rattle.run_laws.specs.PlainReport.{HasSameReport, IsPlainJob, IsPlanned, RunsWell, plain_report}
 use Rattle.run_laws.proofs.TextPlain.{same_report}
 use Rattle.flow_run.specs.declared.conclusion.Conclusion.{Conclusion}
-use Rattle.flow_run.specs.Requests.{SourceTexts, CanBeRun, HasPlan, IsHeld, IsRequested, IsRequestedJob, IsTextOf, StopsBefore, TextsAre, file_limit, text_limit}
-use Rattle.flow_run.specs.Answers.{CallEnds, IsAfterRun, RanOnce, RunEnds, TextRun, conclusion_text, output_of, run_texts, wants_journal}
+use Rattle.flow_run.specs.Requests.{SourceTexts, CanBeRun, IsHeld, IsRequestedJob, IsTextOf, TextsAre, file_limit, text_limit}
+use Rattle.flow_run.specs.Answers.{CallEnds, IsAfterRun, TextRun, conclusion_text, output_of, run_texts, wants_journal}
 use Rattle.flow_run.specs.Completion.{IsAtHand}
 use Rattle.flow_run.specs.Plainly.{AsksPlainly, IsReportedPlainly}
 use Rattle.flow_run.proofs.Completing.{completes, one_plan}
@@ -110,6 +109,9 @@ no_run_and_judgement file other name limit most workers journal same = cc
 no_run_and_check : (file other : List ℕ) (limit workers : ℕ) (journal : Bool) → Some (run file limit workers journal) ≡ Some (check other) → ⊥
 no_run_and_check file other limit workers journal same = cc
 
+no_run_and_upgrade : (file other : List ℕ) (limit workers : ℕ) (journal : Bool) → Some (run file limit workers journal) ≡ Some (upgrade other) → ⊥
+no_run_and_upgrade file other limit workers journal same = cc
+
 same_file : (file other : List ℕ) (limit most workers hands : ℕ) (journal instead : Bool) → Some (run file limit workers journal) ≡ Some (run other most hands instead) → (file ≡ other) × (limit ≡ most)
 same_file file other limit most workers hands journal instead same = (cc, cc)
 
@@ -120,8 +122,9 @@ kept_plainly held arguments status runs concluded (inl (file, limit, workers, jo
     subst (All IsReportedPlainly) (sym ran.only) (All-cons IsReportedPlainly ran.run [] (λ plain. same_report ran.run plain (planned held file limit (job_of ran.run) ran.job) ran.kept) (All-nil _))
 kept_plainly held arguments status runs concluded (inr (inl (file, name, limit, asked, ends, none))) = subst (All IsReportedPlainly) (sym none) (All-nil _)
 kept_plainly held arguments status runs concluded (inr (inr (inl (file, asked, ends, none)))) = subst (All IsReportedPlainly) (sym none) (All-nil _)
-kept_plainly held arguments status runs concluded (inr (inr (inr (inl (same, none, nothing, never))))) = subst (All IsReportedPlainly) (sym none) (All-nil _)
-kept_plainly held arguments status runs concluded (inr (inr (inr (inr (same, none, nothing))))) = subst (All IsReportedPlainly) (sym none) (All-nil _)
+kept_plainly held arguments status runs concluded (inr (inr (inr (inl (file, asked, ends, none))))) = subst (All IsReportedPlainly) (sym none) (All-nil _)
+kept_plainly held arguments status runs concluded (inr (inr (inr (inr (inl (same, none, nothing, never)))))) = subst (All IsReportedPlainly) (sym none) (All-nil _)
+kept_plainly held arguments status runs concluded (inr (inr (inr (inr (inr (same, none, nothing)))))) = subst (All IsReportedPlainly) (sym none) (All-nil _)
 
 module _ (held : SourceTexts) (arguments : List (List ℕ)) (status : Status) (job : TextJob) (asks : AsksPlainly held (asked_by arguments) job) where
   -- the run that is kept is of the job, and reports what one thread does
@@ -144,8 +147,9 @@ module _ (held : SourceTexts) (arguments : List (List ℕ)) (status : Status) (j
       (All-cons (λ r. run_reason text_job r ≡ Fine) ran.run [] ((kept_same ran.run same ran.kept).fine.1 (subst RunsWell (sym same) well)) (All-nil _))
   all_fine runs concluded (inr (inl (file, name, limit, asked, ends, none))) well = subst (All (λ r. run_reason text_job r ≡ Fine)) (sym none) (All-nil _)
   all_fine runs concluded (inr (inr (inl (file, asked, ends, none)))) well = subst (All (λ r. run_reason text_job r ≡ Fine)) (sym none) (All-nil _)
-  all_fine runs concluded (inr (inr (inr (inl (same, none, nothing, never))))) well = subst (All (λ r. run_reason text_job r ≡ Fine)) (sym none) (All-nil _)
-  all_fine runs concluded (inr (inr (inr (inr (same, none, nothing))))) well = subst (All (λ r. run_reason text_job r ≡ Fine)) (sym none) (All-nil _)
+  all_fine runs concluded (inr (inr (inr (inl (file, asked, ends, none))))) well = subst (All (λ r. run_reason text_job r ≡ Fine)) (sym none) (All-nil _)
+  all_fine runs concluded (inr (inr (inr (inr (inl (same, none, nothing, never)))))) well = subst (All (λ r. run_reason text_job r ≡ Fine)) (sym none) (All-nil _)
+  all_fine runs concluded (inr (inr (inr (inr (inr (same, none, nothing)))))) well = subst (All (λ r. run_reason text_job r ≡ Fine)) (sym none) (All-nil _)
 
   -- So nothing but a failure or want of memory keeps the call from being done.
   pub plain_completes : (runs : List TextRun) (concluded : Option Conclusion) → CallEnds held arguments status runs concluded → RunsWell job → ((n : List ℕ) → status ≢ ReadFault n) → status ≢ WriteFault → (status ≡ Done) ⊎ (status ≡ NoMemory)
@@ -169,5 +173,6 @@ module _ (held : SourceTexts) (arguments : List (List ℕ)) (status : Status) (j
       )
   plain_done runs concluded (inr (inl (file, name, limit, asked, ends, none))) done = absurd (no_run_and_judgement asks.file file name asks.limit limit asks.workers false (sym asks.asks ∙ asked))
   plain_done runs concluded (inr (inr (inl (file, asked, ends, none)))) done = absurd (no_run_and_check asks.file file asks.limit asks.workers false (sym asks.asks ∙ asked))
-  plain_done runs concluded (inr (inr (inr (inl (same, none, nothing, never))))) done = absurd (none-some (run asks.file asks.limit asks.workers false) (sym never ∙ asks.asks))
-  plain_done runs concluded (inr (inr (inr (inr (same, none, nothing))))) done = absurd (let never : NoMemory ≡ Done = sym same ∙ done in cc)
+  plain_done runs concluded (inr (inr (inr (inl (file, asked, ends, none))))) done = absurd (no_run_and_upgrade asks.file file asks.limit asks.workers false (sym asks.asks ∙ asked))
+  plain_done runs concluded (inr (inr (inr (inr (inl (same, none, nothing, never)))))) done = absurd (none-some (run asks.file asks.limit asks.workers false) (sym never ∙ asks.asks))
+  plain_done runs concluded (inr (inr (inr (inr (inr (same, none, nothing)))))) done = absurd (let never : NoMemory ≡ Done = sym same ∙ done in cc)

@@ -13,18 +13,19 @@ use Rattle.call_status.specs.declared.status.Status.TheVariants.{Done, BadWords,
 use Rattle.call_status.specs.declared.stop.Stop.TheVariants as stop
 use Rattle.call_status.specs.Statuses.{status_after}
 use Rattle.call_status.specs.Stopping.{StoppedBefore}
-use Rattle.command_line.specs.Requests.{Asked, asked_by, run, judge, check}
+use Rattle.command_line.specs.Requests.{Asked, asked_by, run, judge, check, upgrade}
 use Rattle.journal_text.specs.declared.version.Version.TheVariants.{Two}
 use Rattle.journal_text.specs.JournalText.{journal_text}
 use Rattle.nested_runs.specs.Reasons.{run_reason}
 use Rattle.nested_runs.specs.declared.reasons.Reason.{Reason}
 use Rattle.nested_runs.specs.declared.reasons.Reason.TheVariants as reason
 use Rattle.flow_run.specs.declared.conclusion.Conclusion.{Conclusion}
-use Rattle.flow_run.specs.declared.conclusion.Conclusion.TheVariants.{Verdict, Findings}
+use Rattle.flow_run.specs.declared.conclusion.Conclusion.TheVariants.{Verdict, Findings, GraphFile}
 use Rattle.flow_run.specs.Requests.{SourceTexts, IsRequestedJob, StopsBefore}
 use Rattle.run_laws.specs.Output.{report_of}
 use Rattle.flow_run.specs.Judgements.{JudgeEnds, verdict_line}
 use Rattle.flow_run.specs.Checks.{CheckEnds, findings_text}
+use Rattle.flow_run.specs.Upgrades.{UpgradeEnds}
 
 -- a run of text jobs
 abbrev pub TextRun : Type 0
@@ -61,12 +62,13 @@ abbrev pub JobEnds : TextJob → Status → List TextRun → Type 0
 JobEnds job status runs = StoppedBefore (λ why. why ≡ stop.NoMemory) status (runs ≡ []) ⊎ RanOnce (λ of. of ≡ job) status runs
 
 -- How a call ends: the command line asks for a run of a file, or for a judgement of a journal, or for a check of a
--- graph, or for nothing, or there is no memory to read it.
+-- graph, or for an upgrade of its file, or for nothing, or there is no memory to read it.
 abbrev pub CallEnds : SourceTexts → List (List ℕ) → Status → List TextRun → Option Conclusion → Type 0
 CallEnds held arguments status runs conclusion =
     ((file : List ℕ) × (limit : ℕ) × (workers : ℕ) × (journal : Bool) × (asked_by arguments ≡ Some (run file limit workers journal)) × RunEnds held file limit status runs × (conclusion ≡ None))
     ⊎ ((file : List ℕ) × (name : List ℕ) × (limit : ℕ) × (asked_by arguments ≡ Some (judge file name limit)) × JudgeEnds held file name limit status conclusion × (runs ≡ []))
     ⊎ ((file : List ℕ) × (asked_by arguments ≡ Some (check file)) × CheckEnds held file status conclusion × (runs ≡ []))
+    ⊎ ((file : List ℕ) × (asked_by arguments ≡ Some (upgrade file)) × UpgradeEnds held file status conclusion × (runs ≡ []))
     ⊎ ((status ≡ BadWords) × (runs ≡ []) × (conclusion ≡ None) × (asked_by arguments ≡ None))
     ⊎ ((status ≡ NoMemory) × (runs ≡ []) × (conclusion ≡ None))
 
@@ -94,6 +96,7 @@ abbrev pub conclusion_text : Option Conclusion → List ℕ
 conclusion_text None = []
 conclusion_text (Some (Verdict verdict)) = verdict_line verdict
 conclusion_text (Some (Findings found)) = findings_text found.names found.findings
+conclusion_text (Some (GraphFile text)) = text
 
 -- what is written to the output: of the runs that are kept, and of the conclusion
 abbrev pub output_of : List (List ℕ) → List TextRun → Option Conclusion → List ℕ

@@ -1,5 +1,5 @@
 -- What a check of a graph asks for, how it ends and what is written of it.
-use Rattle.std.specs.Prelude.{◌≡◌, ◌⊎◌, ◌≤◌, ℕ, List, [], ◌++◌, length, codes, decimal, slice_index_or, Option, Some, None, IsSomeAnd}
+use Rattle.std.specs.Prelude.{◌≡◌, ◌⊎◌, ℕ, List, [], ◌++◌, length, codes, decimal, slice_index_or, Option, Some, None}
 use Rattle.std.specs.List.{flat_map}
 use Rattle.graph_plans.specs.PlanRows.{PlanRows}
 use Rattle.graph_file.specs.PlanText.{PlanText}
@@ -7,23 +7,12 @@ use Rattle.pitfall_check.specs.declared.finding.Finding.{Finding}
 use Rattle.pitfall_check.specs.declared.finding.Finding.TheVariants.{NoSource, Mixed, ManyConditions, StrongCycle, NeverReached}
 use Rattle.pitfall_check.specs.Findings.{AreFindings}
 use Rattle.call_status.specs.declared.status.Status.{Status}
-use Rattle.call_status.specs.declared.status.Status.TheVariants.{Done, WriteFault, NoMemory}
-use Rattle.call_status.specs.declared.stop.Stop.{Stop}
 use Rattle.call_status.specs.Stopping.{StoppedBefore}
 use Rattle.flow_run.specs.declared.conclusion.Conclusion.{Conclusion}
 use Rattle.flow_run.specs.declared.conclusion.Conclusion.TheVariants as conclusion
 use Rattle.flow_run.specs.declared.conclusion.GraphFindings.{GraphFindings}
-use Rattle.flow_run.specs.Requests.{SourceTexts, IsHeld, StopsAtName, StopsAtPlan, file_limit}
-
--- why the bytes held under the file's name stop a check
-pub record StopsAtFile (held : SourceTexts) (file : List ℕ) (stop : Stop) : Type 0 where
-  pub bytes : List ℕ
-  pub read : IsHeld held file file_limit bytes
-  pub stops : StopsAtPlan bytes stop
-
--- Why a call stops before its findings: at the graph file, or at what it holds. A graph without a source is checked.
-abbrev pub StopsBeforeFindings : SourceTexts → List ℕ → Stop → Type 0
-StopsBeforeFindings held file stop = StopsAtName held file file_limit stop ⊎ StopsAtFile held file stop
+use Rattle.flow_run.specs.Requests.{SourceTexts, IsHeld, file_limit}
+use Rattle.flow_run.specs.PlanFiles.{StopsBeforePlan, IsAfterPlan}
 
 -- the findings on the graph for which the bytes held under the file's name stand, and the names of its tasks
 pub record IsChecked (held : SourceTexts) (file : List ℕ) (found : GraphFindings) : Type 0 where
@@ -34,20 +23,17 @@ pub record IsChecked (held : SourceTexts) (file : List ℕ) (found : GraphFindin
   pub names : found.names ≡ plan.top.names
   pub findings : AreFindings plan.top.net found.findings
 
--- With findings the call is done as without; or the output failed, or memory ran out.
-abbrev pub IsAfterFindings : Status → Type 0
-IsAfterFindings status = (status ≡ Done) ⊎ (status ≡ WriteFault) ⊎ (status ≡ NoMemory)
-
 -- there are findings, and they are reported
 pub record EndsChecked (held : SourceTexts) (file : List ℕ) (status : Status) (concluded : Option Conclusion) : Type 0 where
   pub found : GraphFindings
   pub only : concluded ≡ Some (conclusion.Findings found)
   pub checked : IsChecked held file found
-  pub after : IsAfterFindings status
+  pub after : IsAfterPlan status
 
--- How a call ends that is to check a graph: before the findings, for a reason that the status has, or after them.
+-- How a call ends that is to check a graph: before the plan, for a reason that the status has, or with its findings, of
+-- which the status says nothing.
 abbrev pub CheckEnds : SourceTexts → List ℕ → Status → Option Conclusion → Type 0
-CheckEnds held file status concluded = StoppedBefore (StopsBeforeFindings held file) status (concluded ≡ None) ⊎ EndsChecked held file status concluded
+CheckEnds held file status concluded = StoppedBefore (StopsBeforePlan held file) status (concluded ≡ None) ⊎ EndsChecked held file status concluded
 
 -- a line of this start and the name of a task
 abbrev pub task_line : List ℕ → List (List ℕ) → ℕ → List ℕ
@@ -68,8 +54,3 @@ count_line count = codes "findings " ++ decimal count ++ codes "\n"
 -- what is written of findings on a graph whose tasks have these names: a line for each, and their number
 abbrev pub findings_text : List (List ℕ) → List Finding → List ℕ
 findings_text names findings = flat_map (finding_line names) findings ++ count_line (length findings)
-
--- What a check needs is held: the file has no more bytes than may be read, and stands for a plan.
-pub record CanBeChecked (text : List ℕ → Option (List ℕ)) (file : List ℕ) : Type 0 where
-  pub plan : PlanRows
-  pub graph : IsSomeAnd (text file) (λ bytes. (length bytes ≤ file_limit) × PlanText bytes plan)

@@ -1,16 +1,17 @@
 -- What a call needs in order to do all that it is asked for.
 use Rattle.std.specs.Prelude.{◌≡◌, ℕ, List, Option, IsSomeAnd}
 use Rattle.outside_io.specs.Sink.{SinkState}
-use Rattle.command_line.specs.Requests.{Asked, run, judge, check}
+use Rattle.command_line.specs.Requests.{Asked, run, judge, check, upgrade}
 use Rattle.flow_run.specs.Requests.{SourceTexts, CanBeRun}
 use Rattle.flow_run.specs.Judgements.{CanBeJudged}
-use Rattle.flow_run.specs.Checks.{CanBeChecked}
+use Rattle.flow_run.specs.PlanFiles.{HoldsPlan}
 
 -- what a command needs is held
 abbrev pub CanBeDone : (List ℕ → Option (List ℕ)) → Asked → Type 0
 CanBeDone text (run file limit workers journal) = CanBeRun text file
 CanBeDone text (judge file name limit) = CanBeJudged text file name limit
-CanBeDone text (check file) = CanBeChecked text file
+CanBeDone text (check file) = HoldsPlan text file
+CanBeDone text (upgrade file) = HoldsPlan text file
 
 -- What is asked for is at hand: it is one of the commands, and the source specifies what it holds, and holds what that
 -- command needs.

@@ -1,7 +1,9 @@
 pub mod Requests
 pub mod Reads
 pub mod Judgements
+pub mod PlanFiles
 pub mod Checks
+pub mod Upgrades
 pub mod Answers
 pub mod Completion
 pub mod Plainly

@@ -1,5 +1,5 @@
 // The top call of the program.
-ghost use Rattle.std.specs.Prelude.{◌≡◌, ◌≢◌, ◌⊎◌, [], true, map, take, All, IfOk};
+ghost use Rattle.std.specs.Prelude.{◌≡◌, ◌≢◌, ◌⊎◌, ℕ, [], true, List, Some, map, take, All, IfOk};
 ghost use Rattle.std.specs.String.{string_bytes};
 ghost use Rattle.outside_io.specs.Sink.{Writes};
 ghost use Rattle.call_status.specs.Codes.{code_of};
@@ -7,7 +7,7 @@ ghost use Rattle.call_status.specs.Delivery.{Delivers};
 ghost use Rattle.call_status.specs.Notes.{note_line};
 ghost use Rattle.call_status.specs.Noting.{HasNoted};
 ghost use Rattle.call_status.specs.Statuses.{status_after};
-ghost use Rattle.command_line.specs.Requests.{asked_by};
+ghost use Rattle.command_line.specs.Requests.{asked_by, upgrade};
 ghost use Rattle.nested_runs.specs.Reasons.{run_reason};
 ghost use Rattle.run_frame.specs.Legal.{IsKept};
 ghost use Rattle.run_frame.specs.NestedRule.{job_of};
@@ -16,6 +16,7 @@ ghost use Rattle.flow_run.specs.Answers.{CallEnds, HasWritten, IsAfterRun, JobEn
 ghost use Rattle.flow_run.specs.Completion.{IsAtHand, NothingFails};
 ghost use Rattle.flow_run.specs.Plainly.{AsksPlainly, IsReportedPlainly, EndsPlainly};
 ghost use Rattle.flow_run.specs.Reads.{HaveRead};
+ghost use Rattle.flow_run.specs.Upgrades.{TakesSamePlan};
 ghost use Rattle.text_tasks.specs.declared.job.TextJob.{TextJob};
 
 use super::check_command::check_file;
@@ -23,6 +24,7 @@ use super::conclusion::Conclusion;
 use super::inputs::prepare;
 use super::judge_command::judge_file;
 use super::report::put_report;
+use super::upgrade_command::upgrade_file;
 use super::workers::run_by;
 use call_status::{Noted, Status, flushed, put_note};
 use command_line::{ArgumentsError, Request, Run, read_arguments};
@@ -43,7 +45,7 @@ pub struct CallResult {
     pub status: Status,
     /// The runs that were run to their end.
     pub runs: List<FrameRun<TextJob>>,
-    /// What was concluded, where nothing was to be run: the judge's verdict, or the findings on a graph.
+    /// What was concluded, where nothing was to be run: the judge's verdict, the findings on a graph, or its new file.
     pub conclusion: Option<Conclusion>,
     /// The watchers, as they were handed in.
     pub watchers: Vec<Box<dyn Watch + Send>>,
@@ -65,8 +67,8 @@ impl CallResult {
 /// Does what the command line `words` asks for: `run FILE` reads the graph file of this name and then, in order of first
 /// mention, the texts that it names, runs the graph to its end, by as many workers as it says, and writes the run's report to `out`, or with `--journal` its
 /// journal; `judge FILE JOURNAL` reads the journal file of that name besides, and writes the judge's verdict; `check FILE`
-/// writes how the graph can go wrong. The line of the status goes to `notes`, the diagnostics sink. Of several workers
-/// each has a watcher, and there are no more of them than watchers. `rt` makes the threads of several workers and waits
+/// writes how the graph can go wrong; `upgrade FILE` writes the graph as a file of the newest version. The line of the
+/// status goes to `notes`, the diagnostics sink. Of several workers each has a watcher, and there are no more of them than watchers. `rt` makes the threads of several workers and waits
 /// for them, so it isn't proved that the call returns.
 pub fn flow_main<F: Texts, S: Sink, N: Sink, R: Threads + Wait + Sync>(
     rt: &R,
@@ -80,7 +82,8 @@ pub fn flow_main<F: Texts, S: Sink, N: Sink, R: Threads + Wait + Sync>(
     requires nothing_held_on_out { (S.state out.old).held_back ≡ [] }
     requires nothing_held_on_notes { (N.state notes.old).held_back ≡ [] }
     // The status has its cause; the kept run is one legal and complete run of the graph that FILE holds, the verdict
-    // that on the journal that JOURNAL holds, and the findings those on the graph that FILE holds.
+    // that on the journal that JOURNAL holds, the findings those on the graph that FILE holds, and the new file one for
+    // that graph.
     ensures ends { CallEnds (F.held texts.old) (map string_bytes words.now) result.status
         result.runs result.conclusion }
     // Where that is at hand, no read and no write fails and no run is cut short, all is done.
@@ -97,11 +100,15 @@ pub fn flow_main<F: Texts, S: Sink, N: Sink, R: Threads + Wait + Sync>(
         → AsksPlainly (F.held texts.old) (asked_by (map string_bytes words.now)) job
         → EndsPlainly job (S.state out.old).taken (S.state out.new).taken
         (NothingFails F.failed S.state texts.old texts.new out.old out.new) result.status }
-    // The output took the report or the journal of the kept run, or the verdict's line, or the findings; where it failed or
-    // an allocation did, a prefix of it. Where no run is kept and nothing was concluded, it is left alone.
+    // The output took the report or the journal of the kept run, or the verdict's line, or the findings, or the new file;
+    // where it failed or an allocation did, a prefix of it. Where no run is kept and nothing was concluded, it is left alone.
     ensures output { HasWritten S.state out.old out.new result.status
         ((result.runs ≡ []) × (result.conclusion ≡ None))
         (output_of (map string_bytes words.now) result.runs result.conclusion) result.written }
+    // Where an upgrade is done the output took a graph file for the plan of FILE.
+    ensures upgrades { (file : List ℕ) → asked_by (map string_bytes words.now) ≡ Some (upgrade file)
+        → result.status ≡ Status.Done
+        → TakesSamePlan (F.held texts.old) file (S.state out.old).taken (S.state out.new).taken }
     // With ReadFault one read failed, the one that the status names, and else none did unless an allocation failed.
     ensures read { HaveRead F.held F.failed texts.old texts.new result.status }
     // The diagnostics sink took the line of the status, or a prefix of it where it failed, or nothing.
@@ -156,6 +163,7 @@ fn answer<F: Texts, S: Sink, R: Threads + Wait + Sync>(
         Ok(Request::Run(run)) => run_file(rt, alloc, run, texts, out, watchers),
         Ok(Request::Judge(judge)) => judge_file(alloc, judge, texts, out),
         Ok(Request::Check(check)) => check_file(alloc, check, texts, out),
+        Ok(Request::Upgrade(upgrade)) => upgrade_file(alloc, upgrade, texts, out),
         Err(ArgumentsError::Refused) => stopped(alloc, Status::BadWords),
         Err(ArgumentsError::NoMemory) => stopped(alloc, Status::NoMemory),
     }

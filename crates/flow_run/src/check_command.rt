@@ -4,7 +4,8 @@ ghost use Rattle.std.specs.List.{flat_map};
 ghost use Rattle.outside_io.specs.Sink.{Writes};
 ghost use Rattle.call_status.specs.Delivery.{Delivers};
 ghost use Rattle.flow_run.specs.Answers.{HasWritten, conclusion_text};
-ghost use Rattle.flow_run.specs.Checks.{CheckEnds, IsAfterFindings, IsChecked, StopsBeforeFindings, count_line, finding_line, findings_text, task_line};
+ghost use Rattle.flow_run.specs.Checks.{CheckEnds, IsChecked, count_line, finding_line, findings_text, task_line};
+ghost use Rattle.flow_run.specs.PlanFiles.{IsAfterPlan, StopsBeforePlan};
 ghost use Rattle.flow_run.specs.Reads.{FailsBy, HaveRead};
 ghost use Rattle.flow_run.specs.inside.NamedFindings.{IsNamed};
 
@@ -43,7 +44,7 @@ pub(crate) fn check_file<F: Texts, S: Sink>(
 fn findings_on<F: Texts>(alloc: Global, texts: &mut F, file: &[u8]) -> Result<GraphFindings, Stop>
     ensures checked { IfOk result (IsChecked (F.held texts.old) file.now) }
     ensures named { IfOk result (λ found. All (IsNamed found.names) found.findings) }
-    ensures stops { IfErr result (StopsBeforeFindings (F.held texts.old) file.now) }
+    ensures stops { IfErr result (StopsBeforePlan (F.held texts.old) file.now) }
     ensures stays { F.held texts.new ≡ F.held texts.old }
     ensures fails { FailsBy result (F.failed texts.old) (F.failed texts.new) }
 {
@@ -60,7 +61,7 @@ fn findings_on<F: Texts>(alloc: Global, texts: &mut F, file: &[u8]) -> Result<Gr
 fn report_findings<S: Sink>(alloc: Global, found: GraphFindings, out: &mut S) -> Ended
     requires named { All (IsNamed found.names) found.findings }
     requires nothing_held { (S.state out.old).held_back ≡ [] }
-    ensures after { IsAfterFindings result.status }
+    ensures after { IsAfterPlan result.status }
     ensures conclusion { result.conclusion ≡ Some (Conclusion.Findings found) }
     ensures output { HasWritten S.state out.old out.new result.status (result.conclusion ≡ None)
         (conclusion_text result.conclusion) result.written }

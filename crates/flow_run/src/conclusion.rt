@@ -11,6 +11,8 @@ pub enum Conclusion {
     Verdict(Verdict),
     /// What the check of a graph found.
     Findings(GraphFindings),
+    /// A graph file of the newest version, with the same plan as the one that was read.
+    GraphFile(Bytes),
 }
 
 /// How a graph can go wrong.

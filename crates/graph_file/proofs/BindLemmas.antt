@@ -30,7 +30,7 @@ pub passing-same : {A : Type 0} (test : A → Bool) (found : Option A) (x : A) �
 passing-same test found x is =
     option_and_then_some (passing test) found x is (λ y here passes. here ∙ ap Some (cond_some (test y) y x passes).1)
 
-each_rest : {B : Type 0} (o : Option (List B)) (y : B) (ys : List B) → option_map (λ rest. y ∷ rest) o ≡ Some ys → (zs : List B) × (o ≡ Some zs) × (y ∷ zs ≡ ys)
+pub each_rest : {B : Type 0} (o : Option (List B)) (y : B) (ys : List B) → option_map (λ rest. y ∷ rest) o ≡ Some ys → (zs : List B) × (o ≡ Some zs) × (y ∷ zs ≡ ys)
 each_rest None y ys is = cc
 each_rest (Some zs) y ys is = (zs, refl, cc)
 

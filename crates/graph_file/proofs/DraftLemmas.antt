@@ -1,9 +1,9 @@
--- What holds of the tasks of each file.
-use Rattle.std.proofs.Common.{◌≡◌, ◌≢◌, ℕ, ◌+◌, ◌<◌, ◌≤◌, List, [], ◌∷◌, ◌++◌, map, length, get_or, Bool, true, false, leb, cond, Option, Some, None, is_some, unwrap_or, position, All, refl, sym, ap, ◌∙◌, bytes_eq, arith}
+-- What holds of the semaphores and tasks of each file.
+use Rattle.std.proofs.Common.{◌≡◌, ◌≢◌, ℕ, ◌+◌, ◌<◌, ◌≤◌, List, [], ◌∷◌, ◌++◌, length, get_or, Bool, true, false, leb, cond, Option, Some, None, is_some, unwrap_or, position, All, refl, sym, ap, subst, ◌∙◌, bytes_eq, arith}
 use Rattle.std.proofs.lemmas.Bool.{and_parts, leb-true, true≢false}
 use Rattle.std.proofs.lemmas.Cmp.{nat_list_eq_equiv}
 use Rattle.std.proofs.lemmas.List.{length-append, get_or_default}
-use Rattle.std.proofs.lemmas.List.Elements.{All-append, All-map, All-push}
+use Rattle.std.proofs.lemmas.List.Elements.{All-append, All-push}
 use Rattle.std.proofs.lemmas.List.Quantifiers.{all_pairs_push, position-Some}
 use Rattle.std.proofs.lemmas.Map.Views.{list_any-from_Contains}
 use Rattle.std.specs.List.{list_all, list_any}
@@ -12,13 +12,13 @@ use Rattle.graph_plans.specs.declared.ops.Op.TheVariants.{Input, Read, Text, Mat
 use Rattle.graph_plans.specs.declared.ops.TextOp.{TextOp}
 use Rattle.graph_plans.specs.declared.ops.TextOp.TheVariants.{Pass, Keep, Without, Head, Tail, Skip, Sort, Uniq, Count, Tally}
 use Rattle.graph_plans.specs.Operations.{IsOp, IsTextOp, IsWord, line_limit, route_limit, word_limit}
-use Rattle.graph_plans.specs.PlanRows.{AllDiffer, IsTextName}
+use Rattle.graph_plans.specs.PlanRows.{AllDiffer, IsTextName, maximum_limit}
 use Rattle.graph_file.specs.Contents.{is_text}
 use Rattle.graph_file.specs.Fields.{u32_of}
 use Rattle.graph_file.specs.OpRows.{FileOpRow, reads, does}
-use Rattle.graph_file.specs.PlanText.{DraftRows, LinkRow, TaskText, link_to, mentioned, no_tasks, numbered, text_number, with_task_text, with_text}
-use Rattle.graph_file.specs.inside.Drafts.{IsDraft}
-use Rattle.graph_file.specs.inside.Fine.{AreFine, IsValidTask, fits, fits_lines, fits_op, fits_text_op, fits_words, with_tasks}
+use Rattle.graph_file.specs.PlanText.{DraftRows, empty_draft, mentioned, numbered, text_number, with_semaphore, with_task_text, with_text}
+use Rattle.graph_file.specs.inside.Drafts.{IsDraft, IsMaximum}
+use Rattle.graph_file.specs.inside.Fine.{AreFine, AreValidSems, IsMade, IsValidSem, IsValidTask, SemText, TaskText, fits, fits_lines, fits_max, fits_op, fits_text_op, fits_words, with_semaphores, with_tasks}
 use Rattle.graph_file.proofs.NameLemmas.{some_place}
 
 -- ---- operations
@@ -125,36 +125,54 @@ IsOp-numbered texts (does op) fine = IsOp-fits (length texts) op fine
 none-yet : {A : Type 0} (P : A → Type 0) → All P []
 none-yet P k d within = absurd (omega arith)
 
-IsDraft-start : IsDraft no_tasks
-IsDraft-start = record {
+IsDraft-start : (version : ℕ) → IsDraft (empty_draft version)
+IsDraft-start version = record {
+  sem_count = refl;
+  sems = none-yet IsMaximum;
   op_count = refl;
   ops = none-yet (IsOp 0);
-  sources = none-yet (λ (link : LinkRow). link.from < 0);
   texts = none-yet IsTextName;
   texts_differ = λ i j d less within. absurd (omega arith);
 }
 
-IsDraft-more : (draft : DraftRows) (task : TaskText) → IsDraft draft → IsValidTask task → IsDraft (with_task_text draft task)
+IsMaximum-from : (max : ℕ) → fits_max max ≡ true → IsMaximum max
+IsMaximum-from max fine =
+    let parts = and_parts (leb 1 max) (leb max maximum_limit) fine in
+    record { least = leb-true 1 max parts.0; most = leb-true max maximum_limit parts.1 }
+
+IsDraft-semaphore : (draft : DraftRows) (sem : SemText) → IsDraft draft → IsValidSem sem → IsDraft (with_semaphore draft sem.name sem.max)
+IsDraft-semaphore draft sem is fine = record {
+  sem_count = length-append draft.sems (sem.max ∷ []) ∙ ap (λ k. k + 1) is.sem_count ∙ sym (length-append draft.sem_names (sem.name ∷ []));
+  sems = All-push IsMaximum draft.sems sem.max is.sems (IsMaximum-from sem.max fine.max);
+  op_count = is.op_count;
+  ops = is.ops;
+  texts = is.texts;
+  texts_differ = is.texts_differ;
+}
+
+IsDraft-semaphores : (draft : DraftRows) (sems : List SemText) → IsDraft draft → AreValidSems sems → IsDraft (with_semaphores draft sems)
+IsDraft-semaphores draft [] is fine = is
+IsDraft-semaphores draft (sem ∷ sems) is fine = IsDraft-semaphores (with_semaphore draft sem.name sem.max) sems (IsDraft-semaphore draft sem is fine.0) fine.1
+
+IsDraft-more : (draft : DraftRows) (task : TaskText) → IsDraft draft → IsValidTask task → IsDraft (with_task_text draft task.names task.op)
 IsDraft-more draft task is fine =
     let texts = mentioned draft.texts task.op in
-    let n = length draft.names in
     let longer : length draft.texts ≤ length texts = mentioned-longer draft.texts task.op in
-    let names : length (draft.names ++ task.name ∷ []) ≡ n + 1 = length-append draft.names (task.name ∷ []) in
     let both = mentioned-texts draft.texts task.op fine.op is.texts is.texts_differ in
-    let From : LinkRow → Type 0 = λ link. link.from < length (draft.names ++ task.name ∷ []) in
     record {
-      op_count = length-append draft.ops (numbered draft.texts task.op ∷ []) ∙ ap (λ k. k + 1) is.op_count ∙ sym names;
+      sem_count = is.sem_count;
+      sems = is.sems;
+      op_count = length-append draft.ops (numbered draft.texts task.op ∷ []) ∙ ap (λ k. k + 1) is.op_count ∙ sym (length-append draft.tasks (task.names ∷ []));
       ops = All-push (IsOp (length texts)) draft.ops (numbered draft.texts task.op) (λ k d within. IsOp-more (length draft.texts) (length texts) (get_or draft.ops k d) longer (is.ops k d within))
           (IsOp-numbered draft.texts task.op fine.op);
-      sources = All-append From draft.links (map (link_to n) task.to) (λ k d within. let less = is.sources k d within in omega (arith, less, names))
-          (All-map From (link_to n) task.to (λ k d within. omega (arith, names)));
       texts = both.0;
       texts_differ = both.1;
     }
 
-pub IsDraft-tasks : (draft : DraftRows) (tasks : List TaskText) → IsDraft draft → AreFine tasks → IsDraft (with_tasks draft tasks)
+IsDraft-tasks : (draft : DraftRows) (tasks : List TaskText) → IsDraft draft → AreFine tasks → IsDraft (with_tasks draft tasks)
 IsDraft-tasks draft [] is fine = is
-IsDraft-tasks draft (task ∷ tasks) is fine = IsDraft-tasks (with_task_text draft task) tasks (IsDraft-more draft task is fine.0) fine.1
+IsDraft-tasks draft (task ∷ tasks) is fine = IsDraft-tasks (with_task_text draft task.names task.op) tasks (IsDraft-more draft task is fine.0) fine.1
 
-pub IsDraft-of : (tasks : List TaskText) → AreFine tasks → IsDraft (with_tasks no_tasks tasks)
-IsDraft-of tasks fine = IsDraft-tasks no_tasks tasks IsDraft-start fine
+pub IsDraft-of : (draft : DraftRows) → IsMade draft → IsDraft draft
+IsDraft-of draft made =
+    subst IsDraft made.is (IsDraft-tasks (with_semaphores (empty_draft made.version) made.sems) made.tasks (IsDraft-semaphores (empty_draft made.version) made.sems (IsDraft-start made.version) made.fine_sems) made.fine_tasks)

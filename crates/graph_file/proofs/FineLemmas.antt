@@ -1,4 +1,4 @@
--- The tasks that were read may stand in a file.
+-- The semaphores and tasks that were read may stand in a file.
 use Rattle.std.proofs.Common.{◌≡◌, ℕ, List, [], ◌∷◌, ◌++◌, map, length, Bool, true, false, leb, cond, Option, Some, None, Ok, ok_or, option_and_then, codes, bytes_eq, refl, ap, subst, ◌∙◌}
 use Rattle.std.proofs.lemmas.Option.{option_and_then_some}
 use Rattle.std.specs.Bool.{⊤}
@@ -11,14 +11,15 @@ use Rattle.graph_plans.specs.declared.ops.TextOp.TheVariants.{Pass, Keep, Withou
 use Rattle.graph_plans.specs.declared.spots.Spot.{Spot}
 use Rattle.graph_plans.specs.declared.spots.Spot.TheVariants.{File}
 use Rattle.graph_plans.specs.Operations.{route_limit, word_limit}
+use Rattle.graph_plans.specs.PlanRows.{maximum_limit}
 use Rattle.graph_file.specs.declared.refusals.GraphError.{GraphError}
 use Rattle.graph_file.specs.declared.refusals.GraphError.TheVariants.{BadField}
-use Rattle.graph_file.specs.Contents.{each, empty_list_of, is_name, is_text, line_count_of, list_of, task_name_of, name_list_of, objects_of, passing, text_name_of, whole_of, word_of, words_of}
-use Rattle.graph_file.specs.Fields.{allowed, needed, only, task_spot}
+use Rattle.graph_file.specs.Contents.{each, empty_list_of, is_name, is_text, line_count_of, list_of, name_of, name_list_of, objects_of, passing, text_name_of, whole_of, word_of, words_of}
+use Rattle.graph_file.specs.Fields.{allowed, needed, only, sem_spot, task_spot}
 use Rattle.graph_file.specs.OpRows.{FileOpRow, reads, does, OpRow, WithFields, bare, single, used_by, text_rows, op_rows, row_called, op_called, op_in}
-use Rattle.graph_file.specs.PlanText.{DraftRows, TaskText, add_task, draft_in, file_fields, no_tasks, task_fields, with_task_text}
+use Rattle.graph_file.specs.PlanText.{DraftRows, TaskNames, add_semaphore, add_task, draft_in, empty_draft, file_fields, puts_field, takes_field, task_fields, with_semaphore, with_task_text}
 use Rattle.graph_file.specs.Steps.{walk}
-use Rattle.graph_file.specs.inside.Fine.{AreFine, IsValidTask, fits, fits_lines, fits_text_op, fits_words, with_tasks}
+use Rattle.graph_file.specs.inside.Fine.{AreFine, AreValidSems, IsMade, IsValidSem, IsValidTask, SemText, TaskText, fits, fits_lines, fits_max, fits_text_op, fits_words, with_semaphores, with_tasks}
 use Rattle.graph_file.proofs.BindLemmas.{bind_ok, each-all, each-length, ok_or_ok, passing-ok}
 
 -- ---- contents
@@ -36,7 +37,7 @@ finds-text d text is = passing-ok (is_text 1 4096) (as_str d) text is
 finds-lines : Finds line_count_of fits_lines
 finds-lines d n is = passing-ok fits_lines (option_and_then as_u64 (as_number d)) n is
 
-finds-name : Finds task_name_of is_name
+finds-name : Finds name_of is_name
 finds-name d name is = passing-ok is_name (as_str d) name is
 
 finds-words : Finds words_of fits_words
@@ -47,7 +48,7 @@ finds-words d words is =
     rw (each-length word_of items words each_, few) all)
 
 finds-names : Finds name_list_of (list_all is_name)
-finds-names d names is = option_and_then_some (each task_name_of) (list_of d) names is (λ items here each_. each-all task_name_of is_name items names finds-name each_)
+finds-names d names is = option_and_then_some (each name_of) (list_of d) names is (λ items here each_. each-all name_of is_name items names finds-name each_)
 
 -- ---- rows
 
@@ -135,24 +136,27 @@ allowed-names spot field None names is = let same : [] ≡ names = cc in subst (
 allowed-names spot field (Some d) names is = finds-names d names (ok_or_ok _ _ names is)
 
 -- a task that is read may stand in a file, and the draft has it besides
-pub task-read : (draft : DraftRows) (d : Data) (next : DraftRows) → add_task draft d ≡ Ok next → (task : TaskText) × IsValidTask task × (with_task_text draft task ≡ next)
+pub task-read : (draft : DraftRows) (d : Data) (next : DraftRows) → add_task draft d ≡ Ok next → (task : TaskText) × IsValidTask task × (with_task_text draft task.names task.op ≡ next)
 task-read draft d next is =
-    let spot = task_spot (length draft.names) in
-    bind_ok (needed task_name_of spot (codes "name") d) _ next is (λ name named after_name.
+    let spot = task_spot (length draft.tasks) in
+    bind_ok (needed name_of spot (codes "name") d) _ next is (λ name named after_name.
     bind_ok (op_in op_rows spot d) _ next after_name (λ found called after_op.
     bind_ok (allowed [] name_list_of spot (codes "to") d) _ next after_op (λ to linked after_to.
-    bind_ok (allowed [] empty_list_of spot (codes "holds") d) _ next after_to (λ holds held after_holds.
-    bind_ok (only (task_fields ++ found.fields) spot d) _ next after_holds (λ done none last.
-    let task : TaskText = record { name = name; op = found.op; to = to } in
-    let same : with_task_text draft task ≡ next = cc in (
-      task,
+    bind_ok (allowed [] name_list_of spot (takes_field draft.version) d) _ next after_to (λ takes taken after_takes.
+    bind_ok (allowed [] name_list_of spot (puts_field draft.version) d) _ next after_takes (λ puts put after_puts.
+    bind_ok (only (task_fields draft.version ++ found.fields) spot d) _ next after_puts (λ done none last.
+    let names : TaskNames = record { name = name; to = to; takes = takes; puts = puts } in
+    let same : with_task_text draft names found.op ≡ next = cc in (
+      record { names = names; op = found.op },
       record {
-        name = found-passes task_name_of is_name (get (codes "name") d) (BadField spot (codes "name")) name finds-name named;
+        name = found-passes name_of is_name (get (codes "name") d) (BadField spot (codes "name")) name finds-name named;
         op = op_in-fits spot d found called;
         to = allowed-names spot (codes "to") (get (codes "to") d) to linked;
+        takes = allowed-names spot (takes_field draft.version) (get (takes_field draft.version) d) takes taken;
+        puts = allowed-names spot (puts_field draft.version) (get (puts_field draft.version) d) puts put;
       },
       same,
-    ))))))
+    )))))))
 
 tasks-read : (draft : DraftRows) (ds : List Data) (r : DraftRows) → walk add_task draft ds ≡ Ok r → (tasks : List TaskText) × AreFine tasks × (with_tasks draft tasks ≡ r)
 tasks-read draft [] r is = let same : draft ≡ r = cc in ([], tt, same)
@@ -162,11 +166,50 @@ tasks-read draft (d ∷ ds) r is =
     let others = tasks-read next ds r rest in
     (first.0 ∷ others.0, (first.1, others.1), ap (λ x. with_tasks x others.0) first.2 ∙ others.2))
 
--- the draft of a file has just its tasks
-pub draft_in-tasks : (d : Data) (draft : DraftRows) → draft_in d ≡ Ok draft → (tasks : List TaskText) × AreFine tasks × (with_tasks no_tasks tasks ≡ draft)
-draft_in-tasks d draft is =
-    bind_ok (allowed 1 (whole_of 1 1) File (codes "version") d) _ draft is (λ version at_version after_version.
+-- ---- semaphores
+
+finds-max : Finds (whole_of 1 maximum_limit) fits_max
+finds-max d n is = passing-ok fits_max (option_and_then as_u64 (as_number d)) n is
+
+semaphore-read : (draft : DraftRows) (d : Data) (next : DraftRows) → add_semaphore draft d ≡ Ok next → (sem : SemText) × IsValidSem sem × (with_semaphore draft sem.name sem.max ≡ next)
+semaphore-read draft d next is =
+    let spot = sem_spot (length draft.sem_names) in
+    bind_ok (needed name_of spot (codes "name") d) _ next is (λ name named after_name.
+    bind_ok (needed (whole_of 1 maximum_limit) spot (codes "max") d) _ next after_name (λ max limited after_max.
+    bind_ok (only (codes "name" ∷ codes "max" ∷ []) spot d) _ next after_max (λ done none last.
+    let same : with_semaphore draft name max ≡ next = cc in (
+      record { name = name; max = max },
+      record {
+        name = found-passes name_of is_name (get (codes "name") d) (BadField spot (codes "name")) name finds-name named;
+        max = found-passes (whole_of 1 maximum_limit) fits_max (get (codes "max") d) (BadField spot (codes "max")) max finds-max limited;
+      },
+      same,
+    ))))
+
+semaphores-read : (draft : DraftRows) (ds : List Data) (r : DraftRows) → walk add_semaphore draft ds ≡ Ok r → (sems : List SemText) × AreValidSems sems × (with_semaphores draft sems ≡ r)
+semaphores-read draft [] r is = let same : draft ≡ r = cc in ([], tt, same)
+semaphores-read draft (d ∷ ds) r is =
+    bind_ok (add_semaphore draft d) (λ next. walk add_semaphore next ds) r is (λ next here rest.
+    let first = semaphore-read draft d next here in
+    let others = semaphores-read next ds r rest in
+    (first.0 ∷ others.0, (first.1, others.1), ap (λ x. with_semaphores x others.0) first.2 ∙ others.2))
+
+-- the draft of a file has just its semaphores and tasks
+pub draft_in-made : (d : Data) (draft : DraftRows) → draft_in d ≡ Ok draft → IsMade draft
+draft_in-made d draft is =
+    bind_ok (allowed 1 (whole_of 1 2) File (codes "version") d) _ draft is (λ version at_version after_version.
     bind_ok (needed objects_of File (codes "tasks") d) _ draft after_version (λ ds here after_tasks.
-    bind_ok (allowed [] empty_list_of File (codes "semaphores") d) _ draft after_tasks (λ sems at_sems after_sems.
+    bind_ok (allowed [] objects_of File (codes "semaphores") d) _ draft after_tasks (λ ss at_sems after_sems.
     bind_ok (allowed [] empty_list_of File (codes "modules") d) _ draft after_sems (λ modules at_modules after_modules.
-    bind_ok (only file_fields File d) _ draft after_modules (λ done none walked. tasks-read no_tasks ds draft walked)))))
+    bind_ok (only file_fields File d) _ draft after_modules (λ done none after_fields.
+    bind_ok (walk add_semaphore (empty_draft version) ss) _ draft after_fields (λ start first walked.
+    let sems = semaphores-read (empty_draft version) ss start first in
+    let tasks = tasks-read start ds draft walked in
+    record {
+      version = version;
+      sems = sems.0;
+      tasks = tasks.0;
+      fine_sems = sems.1;
+      fine_tasks = tasks.1;
+      is = ap (λ x. with_tasks x tasks.0) sems.2 ∙ tasks.2;
+    }))))))

@@ -1,6 +1,7 @@
 pub mod ArrayLemmas
 pub mod BindLemmas
 pub mod DraftLemmas
+pub mod DraftedLemmas
 pub mod EachLemmas
 pub mod FieldLemmas
 pub mod JsonLemmas
@@ -8,10 +9,14 @@ pub mod FineLemmas
 pub mod LookupLemmas
 pub mod NameLemmas
 pub mod NetLemmas
+pub mod NumberLemmas
+pub mod RepeatLemmas
 pub mod OpLemmas
 pub mod PlaceLemmas
 pub mod PlanLemmas
 pub mod ReadingLemmas
+pub mod SettledLemmas
+pub mod SettledNets
 pub mod TaskLemmas
 pub mod TripLemmas
 pub mod WalkLemmas

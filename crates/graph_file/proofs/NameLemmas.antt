@@ -1,17 +1,16 @@
 -- Names, while a map takes the place of one after another.
-use Rattle.std.proofs.Common.{◌≡◌, ℕ, ◌+◌, ◌<◌, ◌≤◌, List, [], ◌∷◌, ◌++◌, length, take, drop, get_or, Bool, true, false, not, ◌||◌, cond, Option, Some, None, is_some, is_none, position, Err, Bor, codes, refl, ap, ◌∙◌, bytes_eq, arith, add-one}
+use Rattle.std.proofs.Common.{◌≡◌, ℕ, ◌+◌, ◌<◌, ◌≤◌, List, [], ◌∷◌, ◌++◌, map, length, take, drop, get_or, Bool, true, false, not, ◌||◌, cond, Option, Some, None, is_some, is_none, position, Result, Ok, Err, Bor, refl, ap, sym, ◌∙◌, bytes_eq, arith, add-one}
 use Rattle.std.proofs.lemmas.Iterator.Adapters.{position_from-zero}
-use Rattle.std.proofs.lemmas.List.{take_more, take_all, drop_all, length-take-le}
+use Rattle.std.proofs.lemmas.List.{get_or-map, length-map, take_more, take_all, drop_all, length-take-le}
 use Rattle.std.proofs.Math.Seq.{drop-cons}
 use Rattle.std.specs.HashMap.{HashMap}
 use Rattle.std.specs.List.{list_any, position_from}
-use Rattle.std.specs.Option.{option_or}
-use Rattle.graph_file.specs.declared.refusals.GraphError.TheVariants.{Repeated}
-use Rattle.graph_file.specs.Fields.{task_spot}
+use Rattle.graph_file.specs.declared.refusals.GraphError.{GraphError}
 use Rattle.graph_file.specs.PlanText.{add_name}
 use Rattle.graph_file.specs.Steps.{walk}
-use Rattle.graph_file.specs.inside.Lookups.{HasPlaces, place_in}
-use Rattle.graph_file.specs.inside.Reader.{unless_repeated}
+use Rattle.graph_file.specs.inside.Lookups.{HasPlaces, KeepsPlace, place_in}
+use Rattle.graph_file.specs.inside.Reader.{strings}
+use Rattle.graph_file.proofs.PlaceLemmas.{HasPlaces-more}
 
 some_from_step : (b : Bool) (i : ℕ) (rest : Option ℕ) (any : Bool) → is_some rest ≡ any → is_some (cond b (Some i) rest) ≡ (b || any)
 some_from_step true i rest any e = refl
@@ -29,25 +28,51 @@ none-not : {A : Type 0} (o : Option A) → is_none o ≡ not (is_some o)
 none-not None = refl
 none-not (Some x) = refl
 
--- what was found before place i, or else that the walk goes on from there
-abbrev pub HasLooked : Option ℕ → List (List ℕ) → ℕ → Type 0
-HasLooked None names i = walk add_name [] names ≡ walk add_name (take i names) (drop i names)
-HasLooked (Some task) names i = walk add_name [] names ≡ Err (Repeated (task_spot task) (codes "name"))
+-- a name is new just where none of these is the same
+pub new-name : {S : Type 0} (places : HashMap (Bor (List ℕ)) ℕ S) (names : List (List ℕ)) (name : List ℕ) (new : Bool) → HasPlaces places names → new ≡ is_none (place_in places name) → new ≡ not (list_any (bytes_eq name) names)
+new-name places names name new has noted = noted ∙ none-not _ ∙ ap not (ap is_some (has name) ∙ some_place (bytes_eq name) names)
 
-looked_step : (new : Bool) (names : List (List ℕ)) (i : ℕ) (name : List ℕ) → walk add_name [] names ≡ walk add_name (take i names) (drop i names)
-    → drop i names ≡ name ∷ drop (i + 1) names → take (i + 1) names ≡ take i names ++ name ∷ [] → length (take i names) ≡ i → new ≡ not (list_any (bytes_eq name) (take i names))
-    → HasLooked (cond new None (Some i)) names (i + 1)
-looked_step true names i name so_far rest longer number is = so_far ∙ rw (rest, longer, ← is) refl
-looked_step false names i name so_far rest longer number is = so_far ∙ rw (rest, ← is, number) refl
+-- ---- references to names
 
-pub HasLooked-more : {S : Type 0} (places : HashMap (Bor (List ℕ)) ℕ S) (found : Option ℕ) (names : List (List ℕ)) (i : ℕ) (name : List ℕ) (new : Bool)
-    → i < length names → name ≡ get_or names i name → HasPlaces places (take i names) → new ≡ is_none (place_in places name) → HasLooked found names i
-    → HasLooked (option_or found (cond new None (Some i))) names (i + 1)
-HasLooked-more places (Some task) names i name new within is has noted so_far = so_far
-HasLooked-more places None names i name new within is has noted so_far =
-    looked_step new names i name so_far (drop-cons names i name within ∙ rw (← is, add-one i) refl) (take_more names i name within ∙ rw (← is) refl) (length-take-le i names (omega arith))
-    (noted ∙ none-not _ ∙ ap not (ap is_some (has name) ∙ some_place (bytes_eq name) (take i names)))
+pub string-within : (names : List (Bor (List ℕ))) (i : ℕ) → i < length names → i < length (strings names)
+string-within names i within = rw (length-map names (λ s. s.now)) within
 
-pub HasLooked-end : (found : Option ℕ) (names : List (List ℕ)) (i : ℕ) → length names ≤ i → HasLooked found names i → walk add_name [] names ≡ unless_repeated names found
-HasLooked-end (Some task) names i past so_far = so_far
-HasLooked-end None names i past so_far = so_far ∙ rw (take_all i names past, drop_all i names past) refl
+pub string-at : (names : List (Bor (List ℕ))) (i : ℕ) (name : Bor (List ℕ)) → i < length names → name ≡ get_or names i name → name.now ≡ get_or (strings names) i name.now
+string-at names i name within is = ap (λ s. s.now) is ∙ sym (get_or-map (λ s. s.now) names i name name.now within)
+
+-- one name more has its place
+pub HasPlaces-string : {S : Type 0} (old new : HashMap (Bor (List ℕ)) ℕ S) (names : List (Bor (List ℕ))) (i : ℕ) (name : Bor (List ℕ)) → i < length names → name ≡ get_or names i name
+    → HasPlaces old (take i (strings names)) → KeepsPlace old name.now i new → HasPlaces new (take (i + 1) (strings names))
+HasPlaces-string old new names i name within is = HasPlaces-more old new (strings names) i name.now (string-within names i within) (string-at names i name within is)
+
+-- ---- the walk over the names
+
+-- the walk goes on from the names before place i
+abbrev pub HasWalked : List (List ℕ) → ℕ → Type 0
+HasWalked names i = (refusal : ℕ → GraphError) → walk (add_name refusal) [] names ≡ walk (add_name refusal) (take i names) (drop i names)
+
+step_new : (refusal : ℕ → GraphError) (new : Bool) (before : List (List ℕ)) (name : List ℕ) → new ≡ not (list_any (bytes_eq name) before) → new ≡ true → add_name refusal before name ≡ Ok (before ++ name ∷ [])
+step_new refusal new before name is so = rw (← is, so) refl
+
+step_old : (refusal : ℕ → GraphError) (new : Bool) (before : List (List ℕ)) (name : List ℕ) → new ≡ not (list_any (bytes_eq name) before) → new ≡ false → add_name refusal before name ≡ Err (refusal (length before))
+step_old refusal new before name is so = rw (← is, so) refl
+
+module _ (names : List (List ℕ)) (i : ℕ) (name : List ℕ) (new : Bool) (within : i < length names) (is : name ≡ get_or names i name) (noted : new ≡ not (list_any (bytes_eq name) (take i names))) (so_far : HasWalked names i) where
+  rest-of : drop i names ≡ name ∷ drop (i + 1) names
+  rest-of = drop-cons names i name within ∙ rw (← is, add-one i) refl
+
+  longer-by : take (i + 1) names ≡ take i names ++ name ∷ []
+  longer-by = take_more names i name within ∙ rw (← is) refl
+
+  pub HasWalked-more : new ≡ true → HasWalked names (i + 1)
+  HasWalked-more so refusal = so_far refusal ∙ rw (rest-of, longer-by) (rw (step_new refusal new (take i names) name noted so) refl)
+
+  pub HasWalked-refused : new ≡ false → (refusal : ℕ → GraphError) → walk (add_name refusal) [] names ≡ Err (refusal i)
+  HasWalked-refused so refusal = so_far refusal ∙ rw (rest-of) (rw (step_old refusal new (take i names) name noted so, length-take-le i names (omega (arith, within))) refl)
+
+pub HasWalked-end : (names : List (List ℕ)) (i : ℕ) → length names ≤ i → HasWalked names i → (refusal : ℕ → GraphError) → walk (add_name refusal) [] names ≡ Ok names
+HasWalked-end names i past so_far refusal = so_far refusal ∙ rw (take_all i names past, drop_all i names past) refl
+
+-- past the end all names were taken
+pub all-strings : (names : List (Bor (List ℕ))) (i : ℕ) → length names ≤ i → take i (strings names) ≡ strings names
+all-strings names i past = let count : length (strings names) ≡ length names = length-map names (λ s. s.now) in take_all i (strings names) (omega (arith, past, count))

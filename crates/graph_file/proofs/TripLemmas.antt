@@ -1,91 +1,54 @@
 -- A plan that was written is read again.
-use Rattle.std.proofs.Common.{◌≡◌, ◌==◌, ℕ, suc, ◌<◌, ◌≤◌, List, [], ◌∷◌, ◌++◌, map, filter, length, get_or, Bool, true, false, cond, is_some, unwrap_or, position, Option, Some, None, Ok, ok_or, bytes_eq, refl, sym, ap, subst, ◌∙◌, append_assoc, arith}
+use Rattle.std.proofs.Common.{◌≡◌, ◌==◌, ℕ, zero, suc, ◌+◌, ◌<◌, ◌≤◌, List, [], ◌∷◌, ◌++◌, map, filter, length, get_or, Bool, true, false, cond, is_some, unwrap_or, position, Option, Some, None, Ok, ok_or, codes, All, bytes_eq, refl, sym, ap, subst, ◌∙◌, append_assoc, arith}
 use Rattle.std.proofs.lemmas.Bool.{eq-eqb, ne_eqb}
-use Rattle.std.proofs.lemmas.List.{append-nil, get_or_append_left, length-append, map-append}
+use Rattle.std.proofs.lemmas.List.{append-nil, get_or_append_left, length-append, length-map}
 use Rattle.std.proofs.lemmas.List.Quantifiers.{position-Some}
 use Rattle.std.proofs.lemmas.Slice.Eq.{bytes_eq-Decides}
 use Rattle.std.proofs.Math.Seq.{get_or-append_seam}
+use Rattle.task_graph.specs.NetBuilder.{rising}
 use Rattle.task_graph.specs.declared.net.EdgeRow.{EdgeRow}
 use Rattle.graph_plans.specs.declared.ops.Op.{Op}
 use Rattle.graph_plans.specs.declared.ops.Op.TheVariants.{Input, Read, Text, Match, Back, IfMore, IfHas, Route}
-use Rattle.graph_plans.specs.PlanRows.{PlanRows}
+use Rattle.graph_plans.specs.PlanRows.{AllDiffer, PlanRows}
+use Rattle.graph_file.specs.declared.numbers.TaskNumbers.{TaskNumbers}
 use Rattle.graph_file.specs.declared.refusals.GraphError.{GraphError}
+use Rattle.graph_file.specs.Contents.{is_name}
 use Rattle.graph_file.specs.Fields.{u32_of}
 use Rattle.graph_file.specs.OpRows.{FileOpRow, reads, does}
-use Rattle.graph_file.specs.PlanText.{DraftRows, LinkRow, PlanText, TaskText, add_edge, add_name, draft_in, json_in, link_to, mentioned, no_tasks, numbered, plan_in, plan_of, plan_with, text_number, with_task_text, with_text, within_limits}
+use Rattle.graph_file.specs.PlanText.{DraftRows, PlanText, TaskNames, draft_in, edge_to, edges_from, json_in, mentioned, numbered, plan_in, plan_of, plan_with, task_names, task_rows, text_number, with_semaphore, with_task_text, with_text}
 use Rattle.graph_file.specs.Steps.{◌>>=◌, walk}
-use Rattle.graph_file.specs.WrittenPlan.{file_data, op_text, plan_data, tasks_from, to_of}
-use Rattle.graph_file.specs.inside.Fine.{AreFine, fits, with_tasks}
+use Rattle.graph_file.specs.WrittenPlan.{file_data, op_text, plan_data, sems_from, tasks_from, to_of}
+use Rattle.graph_file.specs.inside.Fine.{AreFine, AreValidSems, IsMade, SemText, TaskText, draft_of, fits, with_semaphores, with_tasks}
 use Rattle.graph_file.proofs.BindLemmas.{bind_ok}
-use Rattle.graph_file.proofs.FineLemmas.{draft_in-tasks}
-use Rattle.graph_file.proofs.PlanLemmas.{IsWithinLimits-passed}
-use Rattle.graph_file.proofs.WrittenLemmas.{file_op_text, file-written, task_text_data}
+use Rattle.graph_file.proofs.DraftedLemmas.{draft_of-is, drafted, maxima_of, mentioned_all, names_of_sems, names_of_tasks, numbered_all}
+use Rattle.graph_file.proofs.FineLemmas.{draft_in-made}
+use Rattle.graph_file.proofs.NumberLemmas.{called, called-numbers}
+use Rattle.graph_file.proofs.PlanLemmas.{AreNumbered, IsPlanned, IsPlanned-of}
+use Rattle.graph_file.proofs.SettledNets.{settled_names, settled_tasks, settled-fine, settled-planned}
+use Rattle.graph_file.proofs.WrittenLemmas.{file_op_text, file-written, sem_text_data, task_text_data}
 
--- ---- the links of each task
+-- ---- the edges of each task
 
-abbrev pub links_from : ℕ → List TaskText → List LinkRow
-links_from n [] = []
-links_from n (task ∷ tasks) = map (link_to n) task.to ++ links_from (suc n) tasks
+from_own : (t : ℕ) (to : List ℕ) (rest : List EdgeRow) → filter (λ (e : EdgeRow). e.from == t) (map (edge_to t) to ++ rest) ≡ map (edge_to t) to ++ filter (λ (e : EdgeRow). e.from == t) rest
+from_own t [] rest = refl
+from_own t (k ∷ to) rest = rw (eq-eqb t t refl) (ap (λ es. edge_to t k ∷ es) (from_own t to rest))
 
--- the names to which the links of task t lead
-abbrev pub names_to : ℕ → List LinkRow → List (List ℕ)
-names_to t links = map (λ (link : LinkRow). link.to) (filter (λ (link : LinkRow). link.from == t) links)
+from_other : (t n : ℕ) (to : List ℕ) (rest : List EdgeRow) → (n ≡ t → ⊥) → filter (λ (e : EdgeRow). e.from == t) (map (edge_to n) to ++ rest) ≡ filter (λ (e : EdgeRow). e.from == t) rest
+from_other t n [] rest other = refl
+from_other t n (k ∷ to) rest other = rw (ne_eqb n t other) (from_other t n to rest other)
 
-names_to-own : (t : ℕ) (to : List (List ℕ)) (rest : List LinkRow) → names_to t (map (link_to t) to ++ rest) ≡ to ++ names_to t rest
-names_to-own t [] rest = refl
-names_to-own t (name ∷ to) rest = rw (eq-eqb t t refl) (ap (λ ns. name ∷ ns) (names_to-own t to rest))
+from_later : (t n : ℕ) (tasks : List TaskNumbers) → t < n → filter (λ (e : EdgeRow). e.from == t) (edges_from n tasks) ≡ []
+from_later t n [] less = refl
+from_later t n (task ∷ tasks) less = from_other t n task.to (edges_from (suc n) tasks) (λ same. absurd (omega (arith, less, same))) ∙ from_later t (suc n) tasks (omega (arith, less))
 
-names_to-other : (t n : ℕ) (to : List (List ℕ)) (rest : List LinkRow) → (n ≡ t → ⊥) → names_to t (map (link_to n) to ++ rest) ≡ names_to t rest
-names_to-other t n [] rest other = refl
-names_to-other t n (name ∷ to) rest other = rw (ne_eqb n t other) (names_to-other t n to rest other)
+from_here : (n : ℕ) (task : TaskNumbers) (tasks : List TaskNumbers) → filter (λ (e : EdgeRow). e.from == n) (edges_from n (task ∷ tasks)) ≡ map (edge_to n) task.to
+from_here n task tasks = from_own n task.to (edges_from (suc n) tasks) ∙ rw (from_later n (suc n) tasks (omega arith)) (append-nil (map (edge_to n) task.to))
 
-names_to-later : (t n : ℕ) (tasks : List TaskText) → t < n → names_to t (links_from n tasks) ≡ []
-names_to-later t n [] less = refl
-names_to-later t n (task ∷ tasks) less = names_to-other t n task.to (links_from (suc n) tasks) (λ same. absurd (omega arith)) ∙ names_to-later t (suc n) tasks (omega arith)
-
-names_to-here : (n : ℕ) (task : TaskText) (tasks : List TaskText) → names_to n (links_from n (task ∷ tasks)) ≡ task.to
-names_to-here n task tasks = names_to-own n task.to (links_from (suc n) tasks) ∙ rw (names_to-later n (suc n) tasks (omega arith)) (append-nil task.to)
-
--- ---- edges by the names of their ends
-
--- an edge, by the name of the task to which it leads
-abbrev pub by_name : List (List ℕ) → EdgeRow → LinkRow
-by_name names edge = record { from = edge.from; to = get_or names edge.to [] }
-
-found-edge : (names : List (List ℕ)) (edges next : List EdgeRow) (link : LinkRow) (found : Option ℕ) (e : GraphError) → ((p : ℕ) → found ≡ Some p → get_or names p [] ≡ link.to)
-    → (ok_or found e >>= λ to. Ok (edges ++ record { from = link.from; to = to; start = false } ∷ [])) ≡ Ok next → map (by_name names) next ≡ map (by_name names) edges ++ link ∷ []
-found-edge names edges next link None e at is = cc
-found-edge names edges next link (Some p) e at is =
-    let same : edges ++ record { from = link.from; to = p; start = false } ∷ [] ≡ next = cc in
-    rw (← same) (map-append (by_name names) edges _ ∙ rw (at p refl) refl)
-
-edges-named : (names : List (List ℕ)) (old : List EdgeRow) (links : List LinkRow) (edges : List EdgeRow) → walk (add_edge names) old links ≡ Ok edges → map (by_name names) edges ≡ map (by_name names) old ++ links
-edges-named names old [] edges is = let same : old ≡ edges = cc in rw (← same) (sym (append-nil _))
-edges-named names old (link ∷ links) edges is =
-    bind_ok (add_edge names old link) (λ next. walk (add_edge names) next links) edges is (λ next here rest.
-    let at : (p : ℕ) → position (bytes_eq link.to) names ≡ Some p → get_or names p [] ≡ link.to = λ p found. sym ((bytes_eq-Decides link.to (get_or names p [])).0 (position-Some (bytes_eq link.to) names p [] found).1) in
-    edges-named names next links edges rest ∙ rw (found-edge names old next link (position (bytes_eq link.to) names) _ at here) (append_assoc (map (by_name names) old) (link ∷ []) links))
-
-to_step : (names : List (List ℕ)) (t : ℕ) (edge : EdgeRow) (here : Bool) (edges : List EdgeRow) (links : List LinkRow) → map (λ (e : EdgeRow). get_or names e.to []) edges ≡ map (λ (l : LinkRow). l.to) links
-    → map (λ (e : EdgeRow). get_or names e.to []) (cond here (edge ∷ edges) edges) ≡ map (λ (l : LinkRow). l.to) (cond here (by_name names edge ∷ links) links)
-to_step names t edge true edges links same = ap (λ ns. get_or names edge.to [] ∷ ns) same
-to_step names t edge false edges links same = same
-
--- the ends of a task's edges are those of its links
-to-by_name : (names : List (List ℕ)) (t : ℕ) (edges : List EdgeRow)
-    → map (λ (e : EdgeRow). get_or names e.to []) (filter (λ (e : EdgeRow). e.from == t) edges) ≡ names_to t (map (by_name names) edges)
-to-by_name names t [] = refl
-to-by_name names t (edge ∷ edges) = to_step names t edge (edge.from == t) _ _ (to-by_name names t edges)
+ends-called : (names : List (List ℕ)) (n : ℕ) (to : List ℕ) → map (λ (e : EdgeRow). get_or names e.to []) (map (edge_to n) to) ≡ map (called names) to
+ends-called names n [] = refl
+ends-called names n (k ∷ to) = ap (λ ns. called names k ∷ ns) (ends-called names n to)
 
 -- ---- texts by their numbers
-
-abbrev pub mentioned_all : List (List ℕ) → List TaskText → List (List ℕ)
-mentioned_all texts [] = texts
-mentioned_all texts (task ∷ tasks) = mentioned_all (mentioned texts task.op) tasks
-
-abbrev pub numbered_all : List (List ℕ) → List TaskText → List Op
-numbered_all texts [] = []
-numbered_all texts (task ∷ tasks) = numbered texts task.op ∷ numbered_all (mentioned texts task.op) tasks
 
 -- the longer list begins with the other
 abbrev pub Extends : List (List ℕ) → List (List ℕ) → Type 0
@@ -138,59 +101,75 @@ op-kept all texts (does (IfMore n)) fine longer few = refl
 op-kept all texts (does (IfHas word)) fine longer few = refl
 op-kept all texts (does (Route words)) fine longer few = refl
 
--- ---- the tasks that are written are those that were read
+-- ---- what is written are the tasks that were read, each list in order
 
-abbrev pub names_of_tasks : List TaskText → List (List ℕ)
-names_of_tasks tasks = map (λ (task : TaskText). task.name) tasks
+-- the plan's edges lead where those of these tasks do, of which the first has this number
+abbrev LeadsAs : PlanRows → ℕ → List TaskNumbers → Type 0
+LeadsAs plan n numbers = (t : ℕ) → n ≤ t → filter (λ (e : EdgeRow). e.from == t) plan.top.net.edges ≡ filter (λ (e : EdgeRow). e.from == t) (edges_from n numbers)
 
--- the plan's edges lead where the links of these tasks do, of which the first has this number
-abbrev LeadsAs : PlanRows → ℕ → List TaskText → Type 0
-LeadsAs plan n tasks = (t : ℕ) → n ≤ t → to_of plan t ≡ names_to t (links_from n tasks)
+tasks-kept : (draft : DraftRows) (plan : PlanRows) (n : ℕ) (texts : List (List ℕ)) (tasks : List TaskText) (numbers : List TaskNumbers) → AreFine tasks → AreNumbered draft (names_of_tasks tasks) numbers
+    → plan.top.names ≡ task_names draft → plan.top.sem_names ≡ draft.sem_names → LeadsAs plan n numbers → plan.texts ≡ mentioned_all texts tasks → length plan.texts ≤ 1024
+    → tasks_from plan n (map (λ (task : TaskNames). task.name) (names_of_tasks tasks)) (numbered_all texts tasks) (task_rows (length draft.sems) (numbered_all texts tasks) numbers)
+    ≡ map task_text_data (settled_tasks draft tasks numbers)
+tasks-kept draft plan n texts [] numbers fine all named sem_named leads mentions few = refl
+tasks-kept draft plan n texts (task ∷ tasks) [] fine all named sem_named leads mentions few = absurd all
+tasks-kept draft plan n texts (task ∷ tasks) (m ∷ numbers) fine all named sem_named leads mentions few =
+    let extends : Extends plan.texts (mentioned texts task.op) = subst (λ ts. Extends ts (mentioned texts task.op)) (sym mentions) (extends-all (mentioned texts task.op) tasks) in
+    let others = tasks-kept draft plan (suc n) (mentioned texts task.op) tasks numbers fine.1 all.1 named sem_named
+    (λ t more. leads t (omega (arith, more)) ∙ from_other t n m.to (edges_from (suc n) numbers) (λ same. absurd (omega (arith, more, same)))) mentions few in
+    let to : to_of plan n ≡ task.names.to =
+    ap (map (λ (e : EdgeRow). get_or plan.top.names e.to [])) (leads n (omega arith) ∙ from_here n m numbers) ∙ ends-called plan.top.names n m.to
+    ∙ ap (λ names. map (called names) m.to) named ∙ called-numbers (task_names draft) task.names.to m.to all.0.to in
+    rw (op-kept plan.texts texts task.op fine.0.op extends few, to, sem_named) (ap (λ ds. task_text_data (record { names = settled_names draft task.names m; op = task.op }) ∷ ds) others)
 
-tasks-kept : (plan : PlanRows) (n : ℕ) (texts : List (List ℕ)) (tasks : List TaskText) → AreFine tasks → LeadsAs plan n tasks → plan.texts ≡ mentioned_all texts tasks → length plan.texts ≤ 1024
-    → tasks_from plan n (names_of_tasks tasks) (numbered_all texts tasks) ≡ map task_text_data tasks
-tasks-kept plan n texts [] fine leads all few = refl
-tasks-kept plan n texts (task ∷ tasks) fine leads all few =
-    let extends : Extends plan.texts (mentioned texts task.op) = subst (λ ts. Extends ts (mentioned texts task.op)) (sym all) (extends-all (mentioned texts task.op) tasks) in
-    let others = tasks-kept plan (suc n) (mentioned texts task.op) tasks fine.1
-    (λ t more. leads t (omega arith) ∙ names_to-other t n task.to (links_from (suc n) tasks) (λ same. absurd (omega arith))) all few in
-    rw (op-kept plan.texts texts task.op fine.0.op extends few, leads n (omega arith), names_to-here n task tasks) (ap (λ ds. task_text_data task ∷ ds) others)
+sems-kept : (sems : List SemText) → sems_from (names_of_sems sems) (maxima_of sems) ≡ map sem_text_data sems
+sems-kept [] = refl
+sems-kept (sem ∷ sems) = ap (λ ds. sem_text_data sem ∷ ds) (sems-kept sems)
 
--- the draft that these tasks give
-pub with_tasks-is : (draft : DraftRows) (tasks : List TaskText)
-    → with_tasks draft tasks ≡ record {
-      names = draft.names ++ names_of_tasks tasks;
-      ops = draft.ops ++ numbered_all draft.texts tasks;
-      links = draft.links ++ links_from (length draft.names) tasks;
-      texts = mentioned_all draft.texts tasks;
-    }
-with_tasks-is draft [] = rw (append-nil, append-nil, append-nil) refl
-with_tasks-is draft (task ∷ tasks) =
-    let op = numbered draft.texts task.op in
-    let longer : length (draft.names ++ task.name ∷ []) ≡ suc (length draft.names) = omega (arith, length-append draft.names (task.name ∷ [])) in
-    with_tasks-is (with_task_text draft task) tasks ∙ rw (
-      longer,
-      append_assoc draft.names (task.name ∷ []) (names_of_tasks tasks),
-      append_assoc draft.ops (op ∷ []) (numbered_all (mentioned draft.texts task.op) tasks),
-      append_assoc draft.links (map (link_to (length draft.names)) task.to) (links_from (suc (length draft.names)) tasks),
-    ) refl
+module _ (version : ℕ) (sems : List SemText) (tasks : List TaskText) (plan : PlanRows) (fine_sems : AreValidSems sems) (fine_tasks : AreFine tasks) (planned : IsPlanned (drafted version sems tasks) plan) where
+  abbrev old : DraftRows
+  old = drafted version sems tasks
 
-draft-kept : (tasks : List TaskText) (plan : PlanRows) → AreFine tasks → plan_of (with_tasks no_tasks tasks) ≡ Ok plan → plan_data plan ≡ file_data (map task_text_data tasks)
-draft-kept tasks plan fine is =
-    let draft : DraftRows = record { names = names_of_tasks tasks; ops = numbered_all [] tasks; links = links_from 0 tasks; texts = mentioned_all [] tasks } in
-    let planned : plan_of draft ≡ Ok plan = rw (with_tasks-is no_tasks tasks) at is in
-    bind_ok (walk (add_edge draft.names) [] draft.links) _ plan planned (λ edges walked after.
-    bind_ok (walk add_name [] draft.names) _ plan after (λ names named after_names.
-    bind_ok (within_limits draft) _ plan after_names (λ done limits last.
-    let same : plan_with draft edges ≡ plan = cc in
-    let leads : LeadsAs (plan_with draft edges) 0 tasks = λ t more. to-by_name draft.names t edges ∙ ap (names_to t) (edges-named draft.names [] draft.links edges walked) in
-    rw (← same) (ap file_data (tasks-kept (plan_with draft edges) 0 [] tasks fine leads refl (IsWithinLimits-passed draft limits).texts)))))
+  abbrev new : List TaskText
+  new = settled_tasks old tasks planned.numbers
+
+  data-kept : plan_data (plan_with old planned.numbers) ≡ file_data (map sem_text_data sems) (map task_text_data new)
+  data-kept = rw (sems-kept sems, tasks-kept old (plan_with old planned.numbers) 0 [] tasks planned.numbers fine_tasks planned.numbered refl refl (λ t more. refl) refl planned.limits.texts) refl
+
+  again : plan_in (plan_data (plan_with old planned.numbers)) ≡ Ok (plan_with old planned.numbers)
+  again =
+      ap plan_in data-kept ∙ ap (λ r. r >>= plan_of) (file-written sems new fine_sems (settled-fine version sems tasks planned.numbers fine_sems planned.numbered fine_tasks))
+      ∙ ap plan_of (draft_of-is 2 sems new) ∙ settled-planned version sems tasks plan planned
+
+  pub written-again : plan_in (plan_data plan) ≡ Ok plan
+  written-again = subst (λ p. plan_in (plan_data p) ≡ Ok p) planned.is again
+
+-- a plan that some file stands for, with what the file has
+pub record IsFiled (plan : PlanRows) : Type 0 where
+  pub version : ℕ
+  pub sems : List SemText
+  pub tasks : List TaskText
+  pub fine_sems : AreValidSems sems
+  pub fine_tasks : AreFine tasks
+  pub planned : IsPlanned (drafted version sems tasks) plan
+
+pub IsFiled-of : (bytes : List ℕ) (plan : PlanRows) → PlanText bytes plan → IsFiled plan
+IsFiled-of bytes plan is =
+    bind_ok (json_in bytes) plan_in plan is (λ d json after.
+    bind_ok (draft_in d) plan_of plan after (λ draft read_ planned.
+    let made = draft_in-made d draft read_ in
+    let same : draft ≡ drafted made.version made.sems made.tasks = sym made.is ∙ draft_of-is made.version made.sems made.tasks in
+    record {
+      version = made.version;
+      sems = made.sems;
+      tasks = made.tasks;
+      fine_sems = made.fine_sems;
+      fine_tasks = made.fine_tasks;
+      planned = IsPlanned-of (drafted made.version made.sems made.tasks) plan (ap plan_of (sym same) ∙ planned);
+    }))
 
 -- What is written for a plan that some file stands for is read as that plan.
 pub plan-written : (bytes : List ℕ) (plan : PlanRows) → PlanText bytes plan → plan_in (plan_data plan) ≡ Ok plan
 plan-written bytes plan is =
-    bind_ok (json_in bytes) plan_in plan is (λ d json after.
-    bind_ok (draft_in d) plan_of plan after (λ draft read_ planned.
-    let tasks = draft_in-tasks d draft read_ in
-    let again : plan_of (with_tasks no_tasks tasks.0) ≡ Ok plan = rw (← tasks.2) at planned in
-    ap plan_in (draft-kept tasks.0 plan tasks.1 again) ∙ ap (λ r. r >>= plan_of) (file-written tasks.0 tasks.1) ∙ again))
+    let filed = IsFiled-of bytes plan is in
+    written-again filed.version filed.sems filed.tasks plan filed.fine_sems filed.fine_tasks filed.planned

@@ -1,34 +1,39 @@
--- The words of an operation.
-use Rattle.std.proofs.Common.{◌≡◌, ℕ, ◌≤◌, List, [], ◌∷◌, map, length, Option, Some, None, Result, Ok, ok_or, option_and_then, codes, le-leb, refl, ap, sym, ◌∙◌}
+-- The words of an operation, and the names in a field.
+use Rattle.std.proofs.Common.{◌≡◌, ℕ, ◌≤◌, List, [], map, length, Option, Some, None, Result, ok_or, option_and_then, codes, le-leb, sym}
 use Rattle.std.proofs.lemmas.List.{length-map}
+use Rattle.std.specs.Borrow.{Bor}
 use Rattle.serde_json.specs.Data.{Data}
+use Rattle.serde_json.specs.Find.{get}
 use Rattle.serde_json.specs.View.{view}
 use Rattle.serde_json.specs.declared.value.Value.{Value}
 use Rattle.graph_plans.specs.declared.spots.Spot.{Spot}
 use Rattle.graph_file.specs.declared.refusals.GraphError.{GraphError}
 use Rattle.graph_file.specs.declared.refusals.GraphError.TheVariants.{BadField}
-use Rattle.graph_file.specs.Contents.{each, list_of, word_of, words_of}
-use Rattle.graph_file.specs.Steps.{◌>>=◌, walk}
-use Rattle.graph_file.specs.inside.Reader.{Reads, put_each}
-use Rattle.graph_file.proofs.EachLemmas.{walk-put_each}
-
-map-same : {A : Type 0} (xs : List A) → map (λ x. x) xs ≡ xs
-map-same [] = refl
-map-same (x ∷ xs) = ap (λ ys. x ∷ ys) (map-same xs)
-
-kept : {A : Type 0} (found : Option (List A)) (e : GraphError) → (ok_or found e >>= λ xs. Ok (map (λ x. x) xs)) ≡ ok_or found e
-kept None e = refl
-kept (Some xs) e = ap Ok (map-same xs)
+use Rattle.graph_file.specs.Contents.{list_of, name_of, name_list_of, word_of, words_of}
+use Rattle.graph_file.specs.Fields.{allowed}
+use Rattle.graph_file.specs.Steps.{walk}
+use Rattle.graph_file.specs.inside.Reader.{Reads, ReadsAs, put_each, strings}
+use Rattle.graph_file.proofs.EachLemmas.{walk-put_same}
 
 -- words that are few enough, read one after another
 words-read : (found : Option Data) (items : List Data) (e : GraphError) → Some items ≡ option_and_then list_of found → length items ≤ 256
     → ok_or (option_and_then words_of found) e ≡ walk (put_each word_of (λ word. word) e) [] items
 words-read None items e is few = cc
 words-read (Some d) items e is few =
-    rw (← is, le-leb (length items) 256 few) (sym (walk-put_each word_of (λ word. word) e [] items ∙ kept (each word_of items) e))
+    rw (← is, le-leb (length items) 256 few) (sym (walk-put_same word_of e items))
 
 pub Reads-words : (found : Option Data) (values : List Value) (spot : Spot) (r : Result (List (List ℕ)) GraphError) → Some (map view values) ≡ option_and_then list_of found → length values ≤ 256
     → Reads r (walk (put_each word_of (λ word. word) (BadField spot (codes "words"))) [] (map view values)) → Reads r (ok_or (option_and_then words_of found) (BadField spot (codes "words")))
 Reads-words found values spot r is few reads =
     let few_items : length (map view values) ≤ 256 = rw (length-map values view) few in
     rw (words-read found (map view values) (BadField spot (codes "words")) is few_items) reads
+
+-- ---- names
+
+names-read : (d : Data) (items : List Data) (e : GraphError) → Some items ≡ list_of d → ok_or (name_list_of d) e ≡ walk (put_each name_of (λ name. name) e) [] items
+names-read d items e is = rw (← is) (sym (walk-put_same name_of e items))
+
+-- the names of a field that is there
+pub ReadsAs-names : (spot : Spot) (field : List ℕ) (d list : Data) (items : List Data) (r : Result (List (Bor (List ℕ))) GraphError) → Some list ≡ get field d → Some items ≡ list_of list
+    → ReadsAs strings r (walk (put_each name_of (λ name. name) (BadField spot field)) [] items) → ReadsAs strings r (allowed [] name_list_of spot field d)
+ReadsAs-names spot field d list items r is are reads = rw (← is, names-read list items (BadField spot field) are) reads

@@ -16,19 +16,22 @@ use Rattle.graph_plans.specs.declared.ops.Op.{Op}
 use Rattle.graph_plans.specs.declared.ops.Op.TheVariants.{Input, Read, Text, Match, Back, IfMore, IfHas, Route}
 use Rattle.graph_plans.specs.declared.ops.TextOp.{TextOp}
 use Rattle.graph_plans.specs.declared.ops.TextOp.TheVariants.{Pass, Keep, Without, Head, Tail, Skip, Sort, Uniq, Count, Tally}
-use Rattle.graph_plans.specs.PlanRows.{PlanRows}
+use Rattle.graph_plans.specs.PlanRows.{IsPlan, PlanRows}
+use Rattle.task_graph.specs.NetRows.{NetRows}
+use Rattle.task_graph.specs.Net.{IsTaskOf}
+use Rattle.task_graph.specs.declared.net.TaskRow.{TaskRow}
 use Rattle.graph_file.specs.Contents.{is_name, is_name_byte, is_text}
 use Rattle.graph_file.specs.OpRows.{FileOpRow, reads, does}
-use Rattle.graph_file.specs.PlanText.{DraftRows, PlanText, TaskText, add_edge, add_name, draft_in, json_in, mentioned, no_tasks, numbered, plan_in, plan_of, plan_with, within_limits}
-use Rattle.graph_file.specs.Steps.{◌>>=◌, walk}
-use Rattle.graph_file.specs.WrittenPlan.{op_text, plan_data, task_data, tasks_from, text_op_text, to_of}
-use Rattle.graph_file.specs.inside.Fine.{AreFine, fits, fits_text_op, fits_words, with_tasks}
-use Rattle.graph_file.specs.inside.Writer.{HasUtf8, HasUtf8Word, IsString, IsWritable}
-use Rattle.graph_file.proofs.BindLemmas.{bind_ok}
-use Rattle.graph_file.proofs.DraftLemmas.{All-true, IsDraft-of}
-use Rattle.graph_file.proofs.FineLemmas.{draft_in-tasks}
-use Rattle.graph_file.proofs.PlanLemmas.{AreEdges-draft, IsWithinLimits-passed}
-use Rattle.graph_file.proofs.TripLemmas.{Extends, extends-all, mentioned_all, names_of_tasks, numbered_all, plan-written, read-at, with_tasks-is}
+use Rattle.graph_file.specs.PlanText.{PlanText, TaskNames, json_in, mentioned, numbered, plan_in, plan_with, task_names, task_rows}
+use Rattle.graph_file.specs.Steps.{◌>>=◌}
+use Rattle.graph_file.specs.WrittenPlan.{OpText, op_text, plan_data, sems_from, sems_named, task_data, tasks_from, text_op_text, to_of}
+use Rattle.graph_file.specs.inside.Fine.{AreFine, AreValidSems, SemText, TaskText, fits, fits_text_op, fits_words}
+use Rattle.graph_file.specs.inside.Writer.{HasSems, HasUtf8, HasUtf8Word, IsString, IsWritable}
+use Rattle.graph_file.proofs.DraftLemmas.{All-true}
+use Rattle.graph_file.proofs.DraftedLemmas.{drafted, mentioned_all, names_of_sems, names_of_tasks, numbered_all}
+use Rattle.graph_file.proofs.NetLemmas.{task_rows-length}
+use Rattle.graph_file.proofs.PlanLemmas.{IsPlan-read, edges-numbered, numbered-count}
+use Rattle.graph_file.proofs.TripLemmas.{Extends, IsFiled, IsFiled-of, extends-all, plan-written, read-at}
 
 -- ---- strings
 
@@ -82,42 +85,54 @@ ops-strings all texts (task ∷ tasks) fine is few =
     let longer : Extends all (mentioned texts task.op) = subst (λ ts. Extends ts (mentioned texts task.op)) (sym is) (extends-all (mentioned texts task.op) tasks) in
     one-more (HasUtf8 all) (numbered texts task.op) (numbered_all (mentioned texts task.op) tasks) (op-strings all texts task.op fine.0.op longer few) (ops-strings all (mentioned texts task.op) tasks fine.1 is few)
 
-names-strings : (tasks : List TaskText) → AreFine tasks → All IsString (names_of_tasks tasks)
+names-strings : (names : List (List ℕ)) → list_all is_name names ≡ true → All IsString names
 names-strings [] fine = All-nil IsString
-names-strings (task ∷ tasks) fine = one-more IsString task.name (names_of_tasks tasks) (name-string task.name fine.0.name) (names-strings tasks fine.1)
+names-strings (name ∷ names) fine =
+    let parts = and_parts (is_name name) (list_all is_name names) fine in
+    one-more IsString name names (name-string name parts.0) (names-strings names parts.1)
+
+tasks-strings : (tasks : List TaskText) → AreFine tasks → All IsString (map (λ (task : TaskNames). task.name) (names_of_tasks tasks))
+tasks-strings [] fine = All-nil IsString
+tasks-strings (task ∷ tasks) fine = one-more IsString task.names.name (map (λ (t : TaskNames). t.name) (names_of_tasks tasks)) (name-string task.names.name fine.0.name) (tasks-strings tasks fine.1)
+
+sems-strings : (sems : List SemText) → AreValidSems sems → All IsString (names_of_sems sems)
+sems-strings [] fine = All-nil IsString
+sems-strings (sem ∷ sems) fine = one-more IsString sem.name (names_of_sems sems) (name-string sem.name fine.0.name) (sems-strings sems fine.1)
 
 -- ---- plans
 
-writable-draft : (tasks : List TaskText) (plan : PlanRows) → AreFine tasks → plan_of (with_tasks no_tasks tasks) ≡ Ok plan → IsWritable plan
-writable-draft tasks plan fine is =
-    let draft : DraftRows = with_tasks no_tasks tasks in
-    let rows = with_tasks-is no_tasks tasks in
-    bind_ok (walk (add_edge draft.names) [] draft.links) _ plan is (λ edges walked after.
-    bind_ok (walk add_name [] draft.names) _ plan after (λ names named after_names.
-    bind_ok (within_limits draft) _ plan after_names (λ done limits last.
-    let same : plan_with draft edges ≡ plan = cc in
-    let few = IsWithinLimits-passed draft limits in
-    let drafted = IsDraft-of tasks fine in
-    let at_texts : draft.texts ≡ mentioned_all [] tasks = ap (λ (d : DraftRows). d.texts) rows in
-    let at_ops : draft.ops ≡ numbered_all [] tasks = ap (λ (d : DraftRows). d.ops) rows in
-    let at_names : draft.names ≡ names_of_tasks tasks = ap (λ (d : DraftRows). d.names) rows in
-    let strings : All (HasUtf8 draft.texts) (numbered_all [] tasks) = ops-strings draft.texts [] tasks fine at_texts few.texts in
+rows-within : (count : ℕ) (net : NetRows) → length net.sems ≡ count → All (IsTaskOf net) net.tasks → All (HasSems count) net.tasks
+rows-within count net is all k d within = let at = all k d within in rw (← is) (at.takes.in_range, at.puts.in_range)
+
+ops-count : (texts : List (List ℕ)) (tasks : List TaskText) → length (numbered_all texts tasks) ≡ length (names_of_tasks tasks)
+ops-count texts [] = refl
+ops-count texts (task ∷ tasks) = ap suc (ops-count (mentioned texts task.op) tasks)
+
+writable-filed : (plan : PlanRows) → IsFiled plan → IsPlan plan → IsWritable plan
+writable-filed plan filed is =
+    let draft = drafted filed.version filed.sems filed.tasks in
+    let planned = filed.planned in
+    let same : plan_with draft planned.numbers ≡ plan = planned.is in
+    let texts : length draft.texts ≤ 1024 = planned.limits.texts in
+    let names : length (task_names draft) ≡ length draft.tasks = length-map draft.tasks (λ (task : TaskNames). task.name) in
+    let ops : length draft.ops ≡ length draft.tasks = ops-count [] filed.tasks in
+    let numbers : length planned.numbers ≡ length draft.tasks = numbered-count draft draft.tasks planned.numbers planned.numbered in
+    let rows : length (task_rows (length draft.sems) draft.ops planned.numbers) ≡ length draft.ops = task_rows-length (length draft.sems) draft.ops planned.numbers (omega (arith, ops, numbers)) in
+    let old : IsPlan (plan_with draft planned.numbers) = subst IsPlan (sym same) is in
     subst IsWritable same (record {
-      names = subst (All IsString) (sym at_names) (names-strings tasks fine);
-      ops = subst (All (HasUtf8 draft.texts)) (sym at_ops) strings;
-      op_count = drafted.op_count;
-      task_count = length-map draft.ops _ ∙ drafted.op_count;
-      few_tasks = few.tasks;
-      edges = (AreEdges-draft draft edges drafted walked).among;
-    }))))
+      names = tasks-strings filed.tasks filed.fine_tasks;
+      ops = ops-strings draft.texts [] filed.tasks filed.fine_tasks refl texts;
+      op_count = omega (arith, ops, names);
+      task_count = omega (arith, rows, ops, names);
+      few_tasks = omega (arith, names, planned.limits.tasks);
+      edges = rw names (edges-numbered draft planned.numbers planned.numbered);
+      sem_names = sems-strings filed.sems filed.fine_sems;
+      sem_count = sym old.sem_names;
+      sems = rows-within (length draft.sem_names) (plan_with draft planned.numbers).top.net (sym old.sem_names) old.net.tasks;
+    })
 
 pub writable : (bytes : List ℕ) (plan : PlanRows) → PlanText bytes plan → IsWritable plan
-writable bytes plan is =
-    bind_ok (json_in bytes) plan_in plan is (λ d json after.
-    bind_ok (draft_in d) plan_of plan after (λ draft read_ planned.
-    let tasks = draft_in-tasks d draft read_ in
-    let again : plan_of (with_tasks no_tasks tasks.0) ≡ Ok plan = rw (← tasks.2) at planned in
-    writable-draft tasks.0 plan tasks.1 again))
+writable bytes plan is = writable-filed plan (IsFiled-of bytes plan is) (IsPlan-read bytes plan is)
 
 -- ---- the file has no float, and nests no deeper than 4
 
@@ -125,44 +140,56 @@ strings-shallow : (strings : List (List ℕ)) → (items_depth (items_of (map st
 strings-shallow [] = (refl, refl)
 strings-shallow (s ∷ strings) = let rest = strings-shallow strings in (rw (rest.0) refl, rw (rest.1) refl)
 
-IsShallow : Data → Type 0
-IsShallow d = (depth d ≡ 2) × (has_float d ≡ false)
+abbrev IsShallow : OpText → TaskNames → Type 0
+IsShallow op task = (depth (task_data op task) ≡ 2) × (has_float (task_data op task) ≡ false)
 
-text_op-shallow : (name : List ℕ) (op : TextOp) (to : List (List ℕ)) → (depth (task_data name (text_op_text op) to) ≡ 2) × (has_float (task_data name (text_op_text op) to) ≡ false)
-text_op-shallow name Pass to = let all = strings-shallow to in (rw (all.0) refl, rw (all.1) refl)
-text_op-shallow name (Keep word) to = let all = strings-shallow to in (rw (all.0) refl, rw (all.1) refl)
-text_op-shallow name (Without word) to = let all = strings-shallow to in (rw (all.0) refl, rw (all.1) refl)
-text_op-shallow name (Head n) to = let all = strings-shallow to in (rw (all.0) refl, rw (all.1) refl)
-text_op-shallow name (Tail n) to = let all = strings-shallow to in (rw (all.0) refl, rw (all.1) refl)
-text_op-shallow name (Skip n) to = let all = strings-shallow to in (rw (all.0) refl, rw (all.1) refl)
-text_op-shallow name Sort to = let all = strings-shallow to in (rw (all.0) refl, rw (all.1) refl)
-text_op-shallow name Uniq to = let all = strings-shallow to in (rw (all.0) refl, rw (all.1) refl)
-text_op-shallow name Count to = let all = strings-shallow to in (rw (all.0) refl, rw (all.1) refl)
-text_op-shallow name Tally to = let all = strings-shallow to in (rw (all.0) refl, rw (all.1) refl)
+text_op-shallow : (op : TextOp) (task : TaskNames) → IsShallow (text_op_text op) task
+text_op-shallow Pass task = let to = strings-shallow task.to in let takes = strings-shallow task.takes in let puts = strings-shallow task.puts in (rw (to.0, takes.0, puts.0) refl, rw (to.1, takes.1, puts.1) refl)
+text_op-shallow (Keep word) task = let to = strings-shallow task.to in let takes = strings-shallow task.takes in let puts = strings-shallow task.puts in (rw (to.0, takes.0, puts.0) refl, rw (to.1, takes.1, puts.1) refl)
+text_op-shallow (Without word) task = let to = strings-shallow task.to in let takes = strings-shallow task.takes in let puts = strings-shallow task.puts in (rw (to.0, takes.0, puts.0) refl, rw (to.1, takes.1, puts.1) refl)
+text_op-shallow (Head n) task = let to = strings-shallow task.to in let takes = strings-shallow task.takes in let puts = strings-shallow task.puts in (rw (to.0, takes.0, puts.0) refl, rw (to.1, takes.1, puts.1) refl)
+text_op-shallow (Tail n) task = let to = strings-shallow task.to in let takes = strings-shallow task.takes in let puts = strings-shallow task.puts in (rw (to.0, takes.0, puts.0) refl, rw (to.1, takes.1, puts.1) refl)
+text_op-shallow (Skip n) task = let to = strings-shallow task.to in let takes = strings-shallow task.takes in let puts = strings-shallow task.puts in (rw (to.0, takes.0, puts.0) refl, rw (to.1, takes.1, puts.1) refl)
+text_op-shallow Sort task = let to = strings-shallow task.to in let takes = strings-shallow task.takes in let puts = strings-shallow task.puts in (rw (to.0, takes.0, puts.0) refl, rw (to.1, takes.1, puts.1) refl)
+text_op-shallow Uniq task = let to = strings-shallow task.to in let takes = strings-shallow task.takes in let puts = strings-shallow task.puts in (rw (to.0, takes.0, puts.0) refl, rw (to.1, takes.1, puts.1) refl)
+text_op-shallow Count task = let to = strings-shallow task.to in let takes = strings-shallow task.takes in let puts = strings-shallow task.puts in (rw (to.0, takes.0, puts.0) refl, rw (to.1, takes.1, puts.1) refl)
+text_op-shallow Tally task = let to = strings-shallow task.to in let takes = strings-shallow task.takes in let puts = strings-shallow task.puts in (rw (to.0, takes.0, puts.0) refl, rw (to.1, takes.1, puts.1) refl)
 
-op-shallow : (texts : List (List ℕ)) (name : List ℕ) (op : Op) (to : List (List ℕ)) → (depth (task_data name (op_text texts op) to) ≡ 2) × (has_float (task_data name (op_text texts op) to) ≡ false)
-op-shallow texts name Input to = let all = strings-shallow to in (rw (all.0) refl, rw (all.1) refl)
-op-shallow texts name (Read text) to = let all = strings-shallow to in (rw (all.0) refl, rw (all.1) refl)
-op-shallow texts name (Text op) to = text_op-shallow name op to
-op-shallow texts name Match to = let all = strings-shallow to in (rw (all.0) refl, rw (all.1) refl)
-op-shallow texts name Back to = let all = strings-shallow to in (rw (all.0) refl, rw (all.1) refl)
-op-shallow texts name (IfMore n) to = let all = strings-shallow to in (rw (all.0) refl, rw (all.1) refl)
-op-shallow texts name (IfHas word) to = let all = strings-shallow to in (rw (all.0) refl, rw (all.1) refl)
-op-shallow texts name (Route words) to = let all = strings-shallow to in let own = strings-shallow words in (rw (all.0, own.0) refl, rw (all.1, own.1) refl)
+op-shallow : (texts : List (List ℕ)) (op : Op) (task : TaskNames) → IsShallow (op_text texts op) task
+op-shallow texts Input task = let to = strings-shallow task.to in let takes = strings-shallow task.takes in let puts = strings-shallow task.puts in (rw (to.0, takes.0, puts.0) refl, rw (to.1, takes.1, puts.1) refl)
+op-shallow texts (Read text) task = let to = strings-shallow task.to in let takes = strings-shallow task.takes in let puts = strings-shallow task.puts in (rw (to.0, takes.0, puts.0) refl, rw (to.1, takes.1, puts.1) refl)
+op-shallow texts (Text op) task = text_op-shallow op task
+op-shallow texts Match task = let to = strings-shallow task.to in let takes = strings-shallow task.takes in let puts = strings-shallow task.puts in (rw (to.0, takes.0, puts.0) refl, rw (to.1, takes.1, puts.1) refl)
+op-shallow texts Back task = let to = strings-shallow task.to in let takes = strings-shallow task.takes in let puts = strings-shallow task.puts in (rw (to.0, takes.0, puts.0) refl, rw (to.1, takes.1, puts.1) refl)
+op-shallow texts (IfMore n) task = let to = strings-shallow task.to in let takes = strings-shallow task.takes in let puts = strings-shallow task.puts in (rw (to.0, takes.0, puts.0) refl, rw (to.1, takes.1, puts.1) refl)
+op-shallow texts (IfHas word) task = let to = strings-shallow task.to in let takes = strings-shallow task.takes in let puts = strings-shallow task.puts in (rw (to.0, takes.0, puts.0) refl, rw (to.1, takes.1, puts.1) refl)
+op-shallow texts (Route words) task =
+    let to = strings-shallow task.to in let takes = strings-shallow task.takes in let puts = strings-shallow task.puts in let own = strings-shallow words in
+    (rw (to.0, takes.0, puts.0, own.0) refl, rw (to.1, takes.1, puts.1, own.1) refl)
 
-tasks-shallow : (plan : PlanRows) (t : ℕ) (names : List (List ℕ)) (ops : List Op) → (items_depth (items_of (tasks_from plan t names ops)) ≤ 2) × (items_have_float (items_of (tasks_from plan t names ops)) ≡ false)
-tasks-shallow plan t [] ops = (omega arith, refl)
-tasks-shallow plan t (name ∷ names) [] = (omega arith, refl)
-tasks-shallow plan t (name ∷ names) (op ∷ ops) =
-    let here = op-shallow plan.texts name op (to_of plan t) in
-    let rest = tasks-shallow plan (suc t) names ops in
+tasks-shallow : (plan : PlanRows) (t : ℕ) (names : List (List ℕ)) (ops : List Op) (rows : List TaskRow)
+    → (items_depth (items_of (tasks_from plan t names ops rows)) ≤ 2) × (items_have_float (items_of (tasks_from plan t names ops rows)) ≡ false)
+tasks-shallow plan t [] ops rows = (omega arith, refl)
+tasks-shallow plan t (name ∷ names) [] rows = (omega arith, refl)
+tasks-shallow plan t (name ∷ names) (op ∷ ops) [] = (omega arith, refl)
+tasks-shallow plan t (name ∷ names) (op ∷ ops) (row ∷ rows) =
+    let here = op-shallow plan.texts op (record { name = name; to = to_of plan t; takes = sems_named plan row.takes; puts = sems_named plan row.puts }) in
+    let rest = tasks-shallow plan (suc t) names ops rows in
     (rw (here.0) (max-le (omega arith) rest.0), rw (here.1) rest.1)
 
+sems-shallow : (names : List (List ℕ)) (maxima : List ℕ) → (items_depth (items_of (sems_from names maxima)) ≤ 1) × (items_have_float (items_of (sems_from names maxima)) ≡ false)
+sems-shallow [] maxima = (omega arith, refl)
+sems-shallow (name ∷ names) [] = (omega arith, refl)
+sems-shallow (name ∷ names) (max ∷ maxima) = let rest = sems-shallow names maxima in (max-le (omega arith) rest.0, rest.1)
+
 pub plan-shallow : (plan : PlanRows) → depth (plan_data plan) ≤ 127
-plan-shallow plan = let most = (tasks-shallow plan 0 plan.top.names plan.top.ops).0 in omega (arith, most)
+plan-shallow plan =
+    let tasks = (tasks-shallow plan 0 plan.top.names plan.top.ops plan.top.net.tasks).0 in
+    let sems = (sems-shallow plan.top.sem_names plan.top.net.sems).0 in
+    omega (arith, tasks, sems)
 
 pub plan-whole : (plan : PlanRows) → has_float (plan_data plan) ≡ false
-plan-whole plan = rw ((tasks-shallow plan 0 plan.top.names plan.top.ops).1) refl
+plan-whole plan = rw ((sems-shallow plan.top.sem_names plan.top.net.sems).1, (tasks-shallow plan 0 plan.top.names plan.top.ops plan.top.net.tasks).1) refl
 
 -- ---- the bytes
 

@@ -1,15 +1,17 @@
 -- The names that are written for a task.
-use Rattle.std.proofs.Common.{◌≡◌, ◌==◌, ℕ, zero, suc, ◌+◌, ◌<◌, false, List, [], ◌∷◌, ◌++◌, map, filter, length, get_or, take, Bool, true, cond, All, refl, sym, ap, subst, append_assoc, arith}
+use Rattle.std.proofs.Common.{◌≡◌, ◌==◌, ℕ, zero, suc, ◌+◌, ◌<◌, false, List, [], ◌∷◌, ◌++◌, map, filter, length, get_or, take, Bool, true, cond, All, refl, sym, ap, subst, ◌∙◌, append_assoc, arith}
 use Rattle.std.proofs.lemmas.List.{length-append}
 use Rattle.std.proofs.Math.Seq.{get_or-append_seam}
 use Rattle.task_graph.specs.Places.{places_from}
 use Rattle.task_graph.specs.Net.{out_edges}
 use Rattle.task_graph.specs.declared.net.EdgeRow.{EdgeRow}
+use Rattle.task_graph.specs.declared.net.TaskRow.{TaskRow}
 use Rattle.serde_json.specs.Data.{Data}
 use Rattle.graph_plans.specs.declared.ops.Op.{Op}
 use Rattle.graph_plans.specs.PlanRows.{PlanRows}
-use Rattle.graph_file.specs.WrittenPlan.{op_text, task_data, tasks_from, to_of}
-use Rattle.graph_file.specs.inside.Writer.{IsString, end_name}
+use Rattle.graph_file.specs.WrittenPlan.{op_text, sem_data, sems_from, sems_named, task_data, tasks_from, to_of}
+use Rattle.graph_file.specs.PlanText.{TaskNames}
+use Rattle.graph_file.specs.inside.Writer.{HasSems, IsString, end_name, names_at, no_row}
 
 -- a name at a place is UTF-8
 pub utf8-at : (names : List (List ℕ)) (i : ℕ) (name : List ℕ) → i < length names → name ≡ get_or names i name → All IsString names → IsString name
@@ -55,22 +57,50 @@ ends-to plan t = ends-from plan.top.names t [] plan.top.net.edges
 
 -- ---- task by task
 
-tasks-snoc : (plan : PlanRows) (t i : ℕ) (names : List (List ℕ)) (ops : List Op) (d : Op) → i < length names → i < length ops
-    → tasks_from plan t (take (suc i) names) (take (suc i) ops) ≡ tasks_from plan t (take i names) (take i ops) ++ task_data (get_or names i []) (op_text plan.texts (get_or ops i d)) (to_of plan (t + i)) ∷ []
-tasks-snoc plan t i [] ops d in_names in_ops = absurd (omega arith)
-tasks-snoc plan t i (name ∷ names) [] d in_names in_ops = absurd (omega arith)
-tasks-snoc plan t zero (name ∷ names) (op ∷ ops) d in_names in_ops = let here : t + 0 ≡ t = omega arith in rw here refl
-tasks-snoc plan t (suc i) (name ∷ names) (op ∷ ops) d in_names in_ops =
+-- the names of task number t, with these rows
+abbrev named_at : PlanRows → ℕ → List ℕ → TaskRow → TaskNames
+named_at plan t name row = record { name = name; to = to_of plan t; takes = sems_named plan row.takes; puts = sems_named plan row.puts }
+
+tasks-snoc : (plan : PlanRows) (t i : ℕ) (names : List (List ℕ)) (ops : List Op) (rows : List TaskRow) (d : Op) → i < length names → i < length ops → i < length rows
+    → tasks_from plan t (take (suc i) names) (take (suc i) ops) (take (suc i) rows)
+    ≡ tasks_from plan t (take i names) (take i ops) (take i rows) ++ task_data (op_text plan.texts (get_or ops i d)) (named_at plan (t + i) (get_or names i []) (get_or rows i no_row)) ∷ []
+tasks-snoc plan t i [] ops rows d in_names in_ops in_rows = absurd (omega (arith, in_names))
+tasks-snoc plan t i (name ∷ names) [] rows d in_names in_ops in_rows = absurd (omega (arith, in_ops))
+tasks-snoc plan t i (name ∷ names) (op ∷ ops) [] d in_names in_ops in_rows = absurd (omega (arith, in_rows))
+tasks-snoc plan t zero (name ∷ names) (op ∷ ops) (row ∷ rows) d in_names in_ops in_rows = let here : t + 0 ≡ t = omega arith in rw here refl
+tasks-snoc plan t (suc i) (name ∷ names) (op ∷ ops) (row ∷ rows) d in_names in_ops in_rows =
     let number : t + suc i ≡ suc t + i = omega arith in
-    ap (λ ds. task_data name (op_text plan.texts op) (to_of plan t) ∷ ds) (rw number (tasks-snoc plan (suc t) i names ops d (omega arith) (omega arith)))
+    ap (λ ds. task_data (op_text plan.texts op) (named_at plan t name row) ∷ ds) (rw number (tasks-snoc plan (suc t) i names ops rows d (omega (arith, in_names)) (omega (arith, in_ops)) (omega (arith, in_rows))))
 
 -- one task more was written
-pub tasks-more : (plan : PlanRows) (i : ℕ) (op : Op) (old : List Data) (new : Data) → i < length plan.top.ops → length plan.top.ops ≡ length plan.top.names → op ≡ get_or plan.top.ops i op
-    → new ≡ task_data (get_or plan.top.names i []) (op_text plan.texts op) (to_of plan i) → old ≡ tasks_from plan 0 (take i plan.top.names) (take i plan.top.ops)
-    → old ++ new ∷ [] ≡ tasks_from plan 0 (take (i + 1) plan.top.names) (take (i + 1) plan.top.ops)
-tasks-more plan i op old new within count is written so_far =
-    let in_names : i < length plan.top.names = omega (arith, count) in
+pub tasks-more : (plan : PlanRows) (i : ℕ) (op : Op) (old : List Data) (new : Data) → i < length plan.top.ops → length plan.top.ops ≡ length plan.top.names → length plan.top.net.tasks ≡ length plan.top.names
+    → op ≡ get_or plan.top.ops i op → new ≡ task_data (op_text plan.texts op) (names_at plan i)
+    → old ≡ tasks_from plan 0 (take i plan.top.names) (take i plan.top.ops) (take i plan.top.net.tasks)
+    → old ++ new ∷ [] ≡ tasks_from plan 0 (take (i + 1) plan.top.names) (take (i + 1) plan.top.ops) (take (i + 1) plan.top.net.tasks)
+tasks-more plan i op old new within count tasks is written so_far =
+    let in_names : i < length plan.top.names = omega (arith, within, count) in
+    let in_rows : i < length plan.top.net.tasks = omega (arith, in_names, tasks) in
     let number : i + 1 ≡ suc i = omega arith in
     let here : 0 + i ≡ i = omega arith in
     let at_op : get_or plan.top.ops i op ≡ op = sym is in
-    rw (number, tasks-snoc plan 0 i plan.top.names plan.top.ops op in_names within, here, at_op, so_far, written) refl
+    rw (number, tasks-snoc plan 0 i plan.top.names plan.top.ops plan.top.net.tasks op in_names within in_rows, here, at_op, so_far, written) refl
+
+-- the semaphores of a task are semaphores
+pub row-sems : (count t : ℕ) (row : TaskRow) (rows shown : List TaskRow) → shown ≡ rows → t < length rows → row ≡ get_or shown t row → All (HasSems count) rows → HasSems count row
+row-sems count t row rows shown same within is all = subst (HasSems count) (sym (is ∙ ap (λ rs. get_or rs t row) same)) (all t row within)
+
+-- ---- semaphores
+
+sems-snoc : (names : List (List ℕ)) (maxima : List ℕ) (i : ℕ) → i < length names → i < length maxima
+    → sems_from (take (suc i) names) (take (suc i) maxima) ≡ sems_from (take i names) (take i maxima) ++ sem_data (get_or names i []) (get_or maxima i 0) ∷ []
+sems-snoc [] maxima i in_names in_maxima = absurd (omega (arith, in_names))
+sems-snoc (name ∷ names) [] i in_names in_maxima = absurd (omega (arith, in_maxima))
+sems-snoc (name ∷ names) (max ∷ maxima) zero in_names in_maxima = refl
+sems-snoc (name ∷ names) (max ∷ maxima) (suc i) in_names in_maxima = ap (λ ds. sem_data name max ∷ ds) (sems-snoc names maxima i (omega (arith, in_names)) (omega (arith, in_maxima)))
+
+-- one semaphore more was written
+pub sems-more : (names : List (List ℕ)) (maxima : List ℕ) (i : ℕ) (old : List Data) (new : Data) → i < length names → length maxima ≡ length names → new ≡ sem_data (get_or names i []) (get_or maxima i 0)
+    → old ≡ sems_from (take i names) (take i maxima) → old ++ new ∷ [] ≡ sems_from (take (i + 1) names) (take (i + 1) maxima)
+sems-more names maxima i old new within count written so_far =
+    let number : i + 1 ≡ suc i = omega arith in
+    rw (number, sems-snoc names maxima i within (omega (arith, within, count)), so_far, written) refl

@@ -47,12 +47,12 @@ abbrev pub is_name : List ℕ → Bool
 is_name s = nat_le 1 (length s) && nat_le (length s) 64 && list_all is_name_byte s
 
 -- a string that is a name
-abbrev pub task_name_of : Data → Option (List ℕ)
-task_name_of d = option_and_then (passing is_name) (as_str d)
+abbrev pub name_of : Data → Option (List ℕ)
+name_of d = option_and_then (passing is_name) (as_str d)
 
 -- a list of names
 abbrev pub name_list_of : Data → Option (List (List ℕ))
-name_list_of d = option_and_then (each task_name_of) (list_of d)
+name_list_of d = option_and_then (each name_of) (list_of d)
 
 -- ---- what operations name
 

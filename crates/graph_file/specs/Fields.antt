@@ -6,7 +6,7 @@ use Rattle.std.specs.Str.{bytes_eq}
 use Rattle.serde_json.specs.Data.{Data, Members, no_members, member}
 use Rattle.serde_json.specs.Find.{get, as_object}
 use Rattle.graph_plans.specs.declared.spots.Spot.{Spot}
-use Rattle.graph_plans.specs.declared.spots.Spot.TheVariants.{Task}
+use Rattle.graph_plans.specs.declared.spots.Spot.TheVariants.{Sem, Task}
 use Rattle.graph_file.specs.declared.refusals.GraphError.{GraphError}
 use Rattle.graph_file.specs.declared.refusals.GraphError.TheVariants.{BadField}
 use Rattle.graph_file.specs.Steps.{unless}
@@ -14,6 +14,10 @@ use Rattle.graph_file.specs.Steps.{unless}
 -- a number as a `u32`; one past the greatest is reported as that one
 abbrev pub u32_of : ℕ → ℕ
 u32_of n = min n 4294967295
+
+-- a semaphore's place
+abbrev pub sem_spot : ℕ → Spot
+sem_spot n = Sem (u32_of n)
 
 -- a task's place
 abbrev pub task_spot : ℕ → Spot

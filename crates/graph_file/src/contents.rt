@@ -3,7 +3,7 @@ ghost use Rattle.std.specs.Prelude.{◌≡◌, map, option_map, option_and_then}
 ghost use Rattle.std.specs.List.{list_all};
 ghost use Rattle.serde_json.specs.Find.{get};
 ghost use Rattle.serde_json.specs.View.{view};
-ghost use Rattle.graph_file.specs.Contents.{is_name, is_name_byte, is_object, is_text, list_of, task_name_of, objects_of, text_name_of, whole_of, word_of};
+ghost use Rattle.graph_file.specs.Contents.{is_name, is_name_byte, is_object, is_text, list_of, name_of, objects_of, text_name_of, whole_of, word_of};
 
 use serde_json::Value;
 
@@ -31,8 +31,8 @@ fn is_name(text: &str) -> bool
 }
 
 /// The string, if this is one and a name.
-pub(crate) fn task_name_of(value: &Value) -> Option<&str>
-    ensures { option_map (λ s. s.now) result ≡ task_name_of (view value.now) }
+pub(crate) fn name_of(value: &Value) -> Option<&str>
+    ensures { option_map (λ s. s.now) result ≡ name_of (view value.now) }
 {
     let name = value.as_str()?;
     if is_name(name) { Some(name) } else { None }

@@ -1,19 +1,25 @@
-// The tasks of a graph file, before their names are looked up.
+// The semaphores and tasks of a graph file, before their names are looked up.
 use graph_plans::Op;
 use outside_io::{Bytes, List};
 
-/// An edge: the number of its task, and the name of the task to which it leads.
-#[derive(Clone, Copy, Drop)]
-pub(crate) struct Link<'v> {
-    pub from: usize,
-    pub to: &'v str,
+/// A task's name, and the names that it has of others: of the tasks to which its edges lead, and of the semaphores that
+/// it takes and puts.
+#[derive(Drop)]
+pub(crate) struct NamedTask<'v> {
+    pub name: &'v str,
+    pub to: List<&'v str>,
+    pub takes: List<&'v str>,
+    pub puts: List<&'v str>,
 }
 
-/// The tasks' names, operations and edges in file order, and the names of the texts that they read, each once.
+/// The version of a file, its semaphores' names and maxima, its tasks' names and operations in file order, and the names
+/// of the texts that they read, each once.
 #[derive(Drop)]
 pub(crate) struct Draft<'v> {
-    pub names: List<Bytes>,
+    pub version: u64,
+    pub sem_names: List<&'v str>,
+    pub sems: List<u32>,
+    pub tasks: List<NamedTask<'v>>,
     pub ops: List<Op>,
-    pub links: List<Link<'v>>,
     pub texts: List<Bytes>,
 }

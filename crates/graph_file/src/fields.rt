@@ -5,14 +5,13 @@ ghost use Rattle.std.specs.List.{find, list_any};
 ghost use Rattle.std.specs.Str.{bytes_eq};
 ghost use Rattle.serde_json.specs.Find.{get};
 ghost use Rattle.serde_json.specs.View.{view};
-ghost use Rattle.graph_file.specs.Contents.{each, empty_list_of, line_count_of, list_of, task_name_of, name_list_of, text_name_of, whole_of, word_of, words_of};
+ghost use Rattle.graph_file.specs.Contents.{each, empty_list_of, line_count_of, list_of, name_of, name_list_of, text_name_of, whole_of, word_of, words_of};
 ghost use Rattle.graph_file.specs.Fields.{allowed, is_unknown, needed, only, unknown};
-ghost use Rattle.graph_file.specs.PlanText.{task_fields};
-ghost use Rattle.graph_file.specs.inside.Reader.{Leads, Reads, ReadsAs, put_each};
+ghost use Rattle.graph_file.specs.inside.Reader.{Leads, Reads, ReadsAs, put_each, strings};
 ghost use Rattle.graph_file.specs.Steps.{walk};
 
 use crate::bad_fields::bad_field;
-use crate::contents::{list_of, task_name_of, text_name_of, whole_of, word_of};
+use crate::contents::{list_of, name_of, text_name_of, whole_of, word_of};
 use crate::refusals::GraphError;
 use graph_plans::Spot;
 use outside_io::{Bytes, List};
@@ -23,19 +22,73 @@ const MAX_LINES: u64 = 1_000_000_000;
 
 const MAX_WORDS: usize = 256;
 
-/// The name of a task.
+/// The name of a task or semaphore.
 pub(crate) fn read_name<'v>(
     alloc: Global,
     spot: Spot,
-    task: &'v Value,
+    object: &'v Value,
 ) -> Result<&'v str, GraphError>
     ensures { ReadsAs (λ s. s.now) result
-        (needed task_name_of spot (codes "name") (view task.now)) }
+        (needed name_of spot (codes "name") (view object.now)) }
 {
-    let Some(name) = task.get("name").and_then(task_name_of) else {
+    let Some(name) = object.get("name").and_then(name_of) else {
         return Err(bad_field(alloc, spot, "name"));
     };
     Ok(name)
+}
+
+/// The names in a list, which may be missing and is then empty.
+pub(crate) fn read_names<'v>(
+    alloc: Global,
+    spot: Spot,
+    field: &str,
+    object: &'v Value,
+) -> Result<List<&'v str>, GraphError>
+    ensures { ReadsAs strings result
+        (allowed [] name_list_of spot field.now (view object.now)) }
+{
+    let Some(list) = object.get(field) else {
+        return Ok(List::new(alloc));
+    };
+    let Some(items) = list_of(list) else {
+        return Err(bad_field(alloc, spot, field));
+    };
+    listed_names(alloc, spot, field, items)
+}
+
+fn listed_names<'v>(
+    alloc: Global,
+    spot: Spot,
+    field: &str,
+    items: &'v [Value],
+) -> Result<List<&'v str>, GraphError>
+    ensures { ReadsAs strings result (walk
+        (put_each name_of (λ name. name) (GraphError.BadField spot field.now)) []
+        (map view items.now)) }
+{
+    let mut names = List::with_room(alloc, items.len())?;
+    for item in items {
+        read_listed(alloc, spot, field, item, &mut names)?;
+    }
+    Ok(names)
+}
+
+fn read_listed<'v>(
+    alloc: Global,
+    spot: Spot,
+    field: &str,
+    item: &'v Value,
+    names: &mut List<&'v str>,
+) -> Result<(), GraphError>
+    ensures { Leads result (strings names.new)
+        (put_each name_of (λ name. name) (GraphError.BadField spot field.now)
+        (strings names.old) (view item.now)) }
+{
+    let Some(name) = name_of(item) else {
+        return Err(bad_field(alloc, spot, field));
+    };
+    names.push(name)?;
+    Ok(())
 }
 
 /// The name of the text that an operation reads.

@@ -1,7 +1,8 @@
 //! Graph files: the JSON text of a task graph, and the plan that it stands for.
 //!
-//! `read_graph` gives the plan that bytes stand for, or the first reason why they stand for none; `write_graph` gives
-//! bytes that stand for a plan. The layer above knows the plan as its rows (`plan_rows` of `graph_plans`), by one
+//! Files have two versions, which differ in how tasks name their semaphores. `read_graph` gives the plan that bytes of
+//! either version stand for, or the first reason why they stand for none; `write_graph` gives bytes of the second version
+//! that stand for a plan. The layer above knows the plan as its rows (`plan_rows` of `graph_plans`), by one
 //! definition: `read_plan` in `specs/PlanText.antt` is a walk over the file that gives the plan or the first refusal.
 //! `Steps` says what becomes of a walk where a step refuses, `Contents` what fields may hold, `Fields` how an object's
 //! fields are found and refused, `OpRows` has a row for each operation, and `WrittenPlan` says how a plan is written.
@@ -11,14 +12,18 @@ mod bad_fields;
 mod contents;
 mod draft;
 mod fields;
+mod file;
 mod file_op;
 mod lookups;
 mod nets;
+mod numbers;
 mod op_writer;
 mod ops;
 mod reader;
 mod refusals;
+mod repeats;
 mod rules;
+mod semaphores;
 mod tasks;
 mod unknown;
 mod writer;

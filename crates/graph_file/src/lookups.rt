@@ -1,11 +1,10 @@
 // The places of names.
-ghost use Rattle.std.specs.Prelude.{◌≡◌, [], IfOk, OnOk, Some, None, is_none, if◌then◌else◌};
-ghost use Rattle.std.specs.Option.{option_or};
-ghost use Rattle.graph_file.specs.PlanText.{add_name, text_number, with_text};
-ghost use Rattle.graph_file.specs.Steps.{walk};
+ghost use Rattle.std.specs.Prelude.{◌≡◌, [], IfOk, OnOk, None, is_none, map};
+ghost use Rattle.graph_file.specs.PlanText.{text_number, with_text};
 ghost use Rattle.graph_file.specs.inside.Lookups.{HasPlaces, KeepsPlace, place_in};
-ghost use Rattle.graph_file.specs.inside.Reader.{unless_repeated};
+ghost use Rattle.graph_file.specs.inside.Reader.{strings};
 
+use crate::draft::NamedTask;
 use outside_io::{Bytes, List, NoMemory};
 use std::alloc::Global;
 use std::collections::HashMap;
@@ -13,30 +12,37 @@ use std::collections::HashMap;
 /// The places of names in a list.
 pub(crate) type Places<'n> = HashMap<&'n [u8], usize>;
 
-/// The first place of each of some names, and the first place of a name that is at an earlier one too.
-#[derive(Drop)]
-pub(crate) struct Named<'n> {
-    pub places: Places<'n>,
-    pub repeated: Option<usize>,
-}
-
-/// The places of these names.
-pub(crate) fn places_of(alloc: Global, names: &[Bytes]) -> Result<Named<'_>, NoMemory>
-    ensures places { IfOk result (λ named. HasPlaces named.places names.now) }
-    ensures repeated { IfOk result
-        (λ named. walk add_name [] names.now ≡ unless_repeated names.now named.repeated) }
+/// The first places of these names.
+pub(crate) fn places_of<'n>(alloc: Global, names: &[&'n str]) -> Result<Places<'n>, NoMemory>
+    ensures { IfOk result (λ places. HasPlaces places (strings names.now)) }
 {
     let mut places = HashMap::with_capacity(alloc, names.len())?;
-    let mut repeated = None;
     for (place, name) in names.iter().enumerate() {
-        let new = keep_place(&mut places, name.as_slice(), place)?;
-        repeated = first_repeated(repeated, place, new);
+        let _new = keep_place(&mut places, name.as_bytes(), place)?;
     }
-    Ok(Named { places, repeated })
+    Ok(places)
 }
 
-// Keeps a name's first place, and says whether this is the first one.
-fn keep_place<'n>(places: &mut Places<'n>, name: &'n [u8], place: usize) -> Result<bool, NoMemory>
+/// The names of these tasks.
+pub(crate) fn names_of_tasks<'v>(
+    alloc: Global,
+    tasks: &[NamedTask<'v>],
+) -> Result<List<&'v str>, NoMemory>
+    ensures { IfOk result (λ names. strings names ≡ map (λ task. task.name.now) tasks.now) }
+{
+    let mut names = List::with_room(alloc, tasks.len())?;
+    for task in tasks {
+        names.push(task.name)?;
+    }
+    Ok(names)
+}
+
+/// Keeps a name's first place, and says whether this is the first one.
+pub(crate) fn keep_place<'n>(
+    places: &mut Places<'n>,
+    name: &'n [u8],
+    place: usize,
+) -> Result<bool, NoMemory>
     ensures new { IfOk result (λ new. new ≡ is_none (place_in places.old name.now)) }
     ensures kept { OnOk result (KeepsPlace places.old name.now place places.new) }
 {
@@ -45,17 +51,6 @@ fn keep_place<'n>(places: &mut Places<'n>, name: &'n [u8], place: usize) -> Resu
     };
     places.insert(name, first)?;
     Ok(false)
-}
-
-// The place that was found before, or else this one, where its name isn't new.
-fn first_repeated(found: Option<usize>, place: usize, new: bool) -> Option<usize>
-    ensures { result ≡ option_or found (if new then None else Some place) }
-{
-    if found.is_none() && !new {
-        Some(place)
-    } else {
-        found
-    }
 }
 
 /// The number of a text. One that wasn't mentioned before is put at the end.

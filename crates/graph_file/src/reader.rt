@@ -6,9 +6,9 @@ ghost use Rattle.graph_plans.specs.PlanRows.{IsPlan, plan_rows};
 ghost use Rattle.graph_file.specs.PlanText.{IsRefused, PlanText, json_in, read_plan};
 ghost use Rattle.graph_file.specs.inside.Reader.{ReadsAs};
 
+use crate::file::read_file;
 use crate::refusals::GraphError;
 use crate::rules::plan_of;
-use crate::tasks::read_file;
 use graph_plans::Plan;
 use serde_json::{Category, Error, Value};
 use std::alloc::Global;
@@ -16,10 +16,12 @@ use std::alloc::Global;
 /// The plan that the bytes stand for, or the first refusal.
 ///
 /// `NotJson`: they are no JSON text in UTF-8, or one that nests too deep. `BadField`: a field is missing where it must
-/// stand, is unknown, or has a content that it may not have; the file's own fields come first, then those of each task
-/// in turn. `NoSuchName`: a name in `to` that no task has. `Repeated`: a task's name that an earlier one has.
-/// `TooMany`: more than 10,000 tasks, 100,000 edges or 1,024 different texts. These classes are tried in this order, and
-/// `NoMemory`, which says nothing of the bytes, may come in place of any answer.
+/// stand, is unknown, or has a content that it may not have; the file's own fields come first, then those of each
+/// semaphore and each task in turn. `NoSuchName`: a name in `to` that no task has, or one in `holds`, `acquire` or
+/// `release` that no semaphore has. `Repeated`: a name of a semaphore or task that an earlier one has, or one that stands
+/// twice in `holds`, `acquire` or `release`. `TooMany`: more than 10,000 tasks, 100,000 edges, 256 semaphores or 1,024
+/// different texts. These classes are tried in this order, and `NoMemory`, which says nothing of the bytes, may come in
+/// place of any answer.
 pub fn read_graph(alloc: Global, bytes: &[u8]) -> Result<Plan, GraphError>
     ensures plan { IfOk result (λ plan. PlanText bytes.now (plan_rows plan)) }
     ensures rules { IfOk result (λ plan. IsPlan (plan_rows plan)) }

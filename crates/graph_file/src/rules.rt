@@ -1,19 +1,18 @@
-// The tasks of a file taken together: names looked up, and limits.
-ghost use Rattle.std.specs.Prelude.{[], map};
-ghost use Rattle.graph_file.specs.PlanText.{add_edge, plan_of, within_limits};
-ghost use Rattle.graph_file.specs.Steps.{walk};
+// A file's semaphores and tasks taken together: names looked up, and limits.
+ghost use Rattle.std.specs.Prelude.{◌≡◌, IfOk, map};
+ghost use Rattle.graph_file.specs.PlanText.{plan_of, within_limits};
 ghost use Rattle.graph_plans.specs.PlanRows.{plan_rows};
-ghost use Rattle.graph_file.specs.inside.Drafts.{IsDraft, edge_rows, plan_around};
-ghost use Rattle.graph_file.specs.inside.Lookups.{HasPlaces};
-ghost use Rattle.graph_file.specs.inside.Reader.{Leads, Reads, ReadsAs, draft_rows, link_row};
+ghost use Rattle.graph_file.specs.inside.Drafts.{IsDraft, plan_around};
+ghost use Rattle.graph_file.specs.inside.Reader.{Reads, ReadsAs, draft_rows, strings};
 
-use crate::bad_fields::{no_such_name, repeated, task_spot};
-use crate::draft::{Draft, Link};
-use crate::lookups::{Places, places_of};
-use crate::nets::{Edge, net_with};
+use crate::draft::{Draft, NamedTask};
+use crate::lookups::names_of_tasks;
+use crate::nets::{edges_of, net_with};
+use crate::numbers::numbers_of;
 use crate::refusals::{GraphError, Kind};
+use crate::repeats::{check_semaphores, check_tasks};
 use graph_plans::{Graph, Plan};
-use outside_io::List;
+use outside_io::{Bytes, List, NoMemory};
 use std::alloc::Global;
 use std::sync::Arc;
 use task_graph::Net;
@@ -21,6 +20,8 @@ use task_graph::Net;
 const MAX_FILE_TASKS: usize = 10_000;
 
 const MAX_FILE_EDGES: usize = 100_000;
+
+const MAX_FILE_SEMAPHORES: usize = 256;
 
 const MAX_TEXTS: usize = 1_024;
 
@@ -33,11 +34,13 @@ pub(crate) fn plan_of(alloc: Global, draft: Draft<'_>) -> Result<Plan, GraphErro
     let Ok(net) = Arc::new(alloc, net) else {
         return Err(GraphError::NoMemory);
     };
+    let names = task_names(alloc, draft.tasks.as_slice())?;
+    let sem_names = copied_names(alloc, draft.sem_names.as_slice())?;
     let top = Graph {
         name: List::new(alloc),
-        names: draft.names,
+        names,
         ops: draft.ops,
-        sem_names: List::new(alloc),
+        sem_names,
         net,
     };
     Ok(Plan {
@@ -47,79 +50,47 @@ pub(crate) fn plan_of(alloc: Global, draft: Draft<'_>) -> Result<Plan, GraphErro
     })
 }
 
+fn task_names(alloc: Global, tasks: &[NamedTask<'_>]) -> Result<List<Bytes>, NoMemory>
+    ensures { IfOk result (λ names. names ≡ map (λ task. task.name.now) tasks.now) }
+{
+    let names = names_of_tasks(alloc, tasks)?;
+    copied_names(alloc, names.as_slice())
+}
+
+fn copied_names(alloc: Global, names: &[&str]) -> Result<List<Bytes>, NoMemory>
+    ensures { IfOk result (λ copies. copies ≡ strings names.now) }
+{
+    let mut copies = List::with_room(alloc, names.len())?;
+    for name in names {
+        copies.push(Bytes::from_slice(alloc, name.as_bytes())?)?;
+    }
+    Ok(copies)
+}
+
 // The net of these tasks, if they keep the rules.
 fn net_of(alloc: Global, draft: &Draft<'_>) -> Result<Net, GraphError>
     requires { IsDraft (draft_rows draft.now) }
     ensures { ReadsAs (plan_around (draft_rows draft.now)) result (plan_of (draft_rows draft.now)) }
 {
-    let named = places_of(alloc, draft.names.as_slice())?;
-    let edges = edges_of(alloc, draft, &named.places)?;
-    if let Some(task) = named.repeated {
-        return Err(repeated(alloc, task_spot(task), "name"));
-    }
-    check_limits(draft)?;
-    Ok(net_with(alloc, draft.ops.as_slice(), edges.as_slice())?)
+    let numbers = numbers_of(alloc, draft)?;
+    check_semaphores(alloc, draft.sem_names.as_slice())?;
+    check_tasks(alloc, draft.version, draft.tasks.as_slice())?;
+    let edges = edges_of(alloc, numbers.as_slice())?;
+    check_limits(draft, edges.len())?;
+    Ok(net_with(alloc, draft, numbers.as_slice(), edges.as_slice())?)
 }
 
-// The edges by the numbers of their tasks.
-fn edges_of(alloc: Global, draft: &Draft<'_>, places: &Places<'_>) -> Result<List<Edge>, GraphError>
-    requires { HasPlaces places.now draft.now.names }
-    ensures { ReadsAs edge_rows result
-        (walk (add_edge draft.now.names) [] (map link_row draft.now.links)) }
+fn check_limits(draft: &Draft<'_>, edges: usize) -> Result<(), GraphError>
+    ensures { Reads result (within_limits (draft_rows draft.now) edges) }
 {
-    let mut edges = List::with_room(alloc, draft.links.len())?;
-    add_edges(alloc, draft, places, draft.links.as_slice(), &mut edges)?;
-    Ok(edges)
-}
-
-fn add_edges(
-    alloc: Global,
-    draft: &Draft<'_>,
-    places: &Places<'_>,
-    links: &[Link<'_>],
-    edges: &mut List<Edge>,
-) -> Result<(), GraphError>
-    requires { HasPlaces places.now draft.now.names }
-    ensures { Leads result (edge_rows edges.new)
-        (walk (add_edge draft.now.names) (edge_rows edges.old) (map link_row links.now)) }
-{
-    for link in links {
-        if let Err(refusal) = add_edge(alloc, draft, places, link, edges) {
-            return Err(refusal);
-        }
-    }
-    Ok(())
-}
-
-fn add_edge(
-    alloc: Global,
-    draft: &Draft<'_>,
-    places: &Places<'_>,
-    link: &Link<'_>,
-    edges: &mut List<Edge>,
-) -> Result<(), GraphError>
-    requires { HasPlaces places.now draft.now.names }
-    ensures { Leads result (edge_rows edges.new)
-        (add_edge draft.now.names (edge_rows edges.old) (link_row link.now)) }
-{
-    let Some(to) = places.get(link.to.as_bytes()) else {
-        return Err(no_such_name(alloc, task_spot(link.from), "to"));
-    };
-    edges.push(Edge {
-        from: link.from,
-        to: *to,
-    })?;
-    Ok(())
-}
-
-fn check_limits(draft: &Draft<'_>) -> Result<(), GraphError>
-    ensures { Reads result (within_limits (draft_rows draft.now)) }
-{
-    if draft.names.len() > MAX_FILE_TASKS {
+    if draft.tasks.len() > MAX_FILE_TASKS {
         return Err(GraphError::TooMany(Kind::Tasks));
     }
-    if draft.links.len() > MAX_FILE_EDGES {
+    if edges > MAX_FILE_EDGES {
         return Err(GraphError::TooMany(Kind::Edges));
+    }
+    if draft.sems.len() > MAX_FILE_SEMAPHORES {
+        return Err(GraphError::TooMany(Kind::Semaphores));
     }
     if draft.texts.len() > MAX_TEXTS {
         return Err(GraphError::TooMany(Kind::Texts));

@@ -1,18 +1,15 @@
 // The tasks in a graph file.
-ghost use Rattle.std.specs.Prelude.{◌≡◌, [], codes, map, IfOk, OnOk, if◌then◌else◌, Some, None};
+ghost use Rattle.std.specs.Prelude.{◌≡◌, ◌++◌, ◌∷◌, [], codes, map, IfOk, OnOk};
 ghost use Rattle.serde_json.specs.View.{view};
-ghost use Rattle.graph_plans.specs.declared.spots.Spot.TheVariants.{File};
-ghost use Rattle.graph_file.specs.Contents.{empty_list_of, task_name_of, objects_of, whole_of};
-ghost use Rattle.graph_file.specs.Fields.{allowed, needed, task_spot};
-ghost use Rattle.graph_file.specs.PlanText.{draft_in, link_to, mentioned, no_tasks, numbered};
+ghost use Rattle.graph_file.specs.Fields.{only};
+ghost use Rattle.graph_file.specs.PlanText.{mentioned, numbered, puts_field, takes_field, task_fields, with_task_text};
 ghost use Rattle.graph_file.specs.Steps.{walk};
 ghost use Rattle.graph_file.specs.inside.Lookups.{HasPlaces};
-ghost use Rattle.graph_file.specs.inside.Reader.{Leads, Reads, ReadsAs, add_task_steps, draft_rows, file_op_row, link_row, links_with, put_each, with_op};
+ghost use Rattle.graph_file.specs.inside.Reader.{Leads, Reads, ReadsAs, add_task_steps, draft_rows, file_op_row, lists_in, named_task};
 
-use crate::bad_fields::{bad_field, task_spot};
-use crate::contents::{list_of, objects_of, task_name_of, whole_of};
-use crate::draft::{Draft, Link};
-use crate::fields::read_name;
+use crate::bad_fields::task_spot;
+use crate::draft::{Draft, NamedTask};
+use crate::fields::{read_name, read_names};
 use crate::file_op::FileOp;
 use crate::lookups::{Places, number_of};
 use crate::ops::read_op;
@@ -24,74 +21,30 @@ use serde_json::Value;
 use std::alloc::Global;
 use std::collections::HashMap;
 
-/// The tasks of a file.
-#[tactic(auto, using(crate::proofs::TaskLemmas::walk_steps))]
-pub(crate) fn read_file<'v>(alloc: Global, file: &'v Value) -> Result<Draft<'v>, GraphError>
-    ensures { ReadsAs draft_rows result (draft_in (view file.now)) }
+/// The field with the semaphores that a task takes, in a file of this version.
+pub(crate) fn takes_field(version: u64) -> &'static str
+    ensures { result.now ≡ takes_field version }
 {
-    read_version(alloc, file)?;
-    let tasks = task_list(alloc, file)?;
-    check_none(alloc, Spot::File, "semaphores", file)?;
-    check_none(alloc, Spot::File, "modules", file)?;
-    let fields = &["version", "tasks", "semaphores", "modules"];
-    check_fields(alloc, Spot::File, file, fields, &[])?;
-    read_tasks(alloc, tasks)
+    if version == 1 { "holds" } else { "acquire" }
 }
 
-fn read_version(alloc: Global, file: &Value) -> Result<u64, GraphError>
-    ensures { Reads result (allowed 1 (whole_of 1 1) File (codes "version") (view file.now)) }
+/// The field with those that it puts, in version 1 the same one.
+pub(crate) fn puts_field(version: u64) -> &'static str
+    ensures { result.now ≡ puts_field version }
 {
-    let Some(version) = file.get("version") else {
-        return Ok(1);
-    };
-    match whole_of(version, 1, 1) {
-        Some(version) => Ok(version),
-        None => Err(bad_field(alloc, Spot::File, "version")),
-    }
+    if version == 1 { "holds" } else { "release" }
 }
 
-fn task_list<'v>(alloc: Global, file: &'v Value) -> Result<&'v [Value], GraphError>
-    ensures { ReadsAs (λ items. map view items.now) result
-        (needed objects_of File (codes "tasks") (view file.now)) }
+/// The draft, with these tasks.
+pub(crate) fn read_tasks<'v>(
+    alloc: Global,
+    tasks: &'v [Value],
+    mut draft: Draft<'v>,
+) -> Result<Draft<'v>, GraphError>
+    requires { draft.texts ≡ [] }
+    ensures { ReadsAs draft_rows result
+        (walk add_task_steps (draft_rows draft.entry) (map view tasks.now)) }
 {
-    let Some(tasks) = file.get("tasks").and_then(objects_of) else {
-        return Err(bad_field(alloc, Spot::File, "tasks"));
-    };
-    Ok(tasks)
-}
-
-// That a field is missing or holds the list without items.
-fn check_none(alloc: Global, spot: Spot, field: &str, object: &Value) -> Result<(), GraphError>
-    ensures { Leads result [] (allowed [] empty_list_of spot field.now (view object.now)) }
-{
-    let Some(list) = object.get(field) else {
-        return Ok(());
-    };
-    if is_empty_list(list) {
-        Ok(())
-    } else {
-        Err(bad_field(alloc, spot, field))
-    }
-}
-
-fn is_empty_list(value: &Value) -> bool
-    ensures { (if result then Some [] else None) ≡ empty_list_of (view value.now) }
-{
-    match list_of(value) {
-        Some(items) => items.is_empty(),
-        None => false,
-    }
-}
-
-fn read_tasks<'v>(alloc: Global, tasks: &'v [Value]) -> Result<Draft<'v>, GraphError>
-    ensures { ReadsAs draft_rows result (walk add_task_steps no_tasks (map view tasks.now)) }
-{
-    let mut draft = Draft {
-        names: List::with_room(alloc, tasks.len())?,
-        ops: List::with_room(alloc, tasks.len())?,
-        links: List::with_room(alloc, tasks.len())?,
-        texts: List::new(alloc),
-    };
     let mut numbers = HashMap::new(alloc);
     for task in tasks {
         read_task(alloc, task, &mut draft, &mut numbers)?;
@@ -111,88 +64,71 @@ fn read_task<'v>(
         (add_task_steps (draft_rows draft.old) (view task.now)) }
     ensures numbers { OnOk result (HasPlaces numbers.new draft.new.texts) }
 {
-    let number = draft.names.len();
-    let spot = task_spot(number);
+    let spot = task_spot(draft.tasks.len());
     let name = read_name(alloc, spot, task)?;
     let found = read_op(alloc, spot, task)?;
-    read_to(alloc, number, task, &mut draft.links)?;
-    check_none(alloc, spot, "holds", task)?;
-    let fields = &["name", "op", "to", "holds"];
-    check_fields(alloc, spot, task, fields, found.fields)?;
-    Ok(put_op(alloc, name, found.op, draft, numbers)?)
+    let named = read_lists(alloc, draft.version, spot, name, task)?;
+    check_task_fields(alloc, draft.version, spot, task, found.fields)?;
+    Ok(put_task(alloc, named, found.op, draft, numbers)?)
 }
 
-// Puts the edges out of a task at the end.
-fn read_to<'v>(
+// A task of this name, with its lists of names.
+fn read_lists<'v>(
     alloc: Global,
-    from: usize,
+    version: u64,
+    spot: Spot,
+    name: &'v str,
     task: &'v Value,
-    links: &mut List<Link<'v>>,
-) -> Result<(), GraphError>
-    ensures { Leads result (map link_row links.new)
-        (links_with from (map link_row links.old) (view task.now)) }
+) -> Result<NamedTask<'v>, GraphError>
+    ensures { ReadsAs named_task result (lists_in version spot name.now (view task.now)) }
 {
-    let Some(to) = task.get("to") else {
-        return Ok(());
-    };
-    let Some(names) = list_of(to) else {
-        return Err(bad_field(alloc, task_spot(from), "to"));
-    };
-    read_links(alloc, from, names, links)
+    let to = read_names(alloc, spot, "to", task)?;
+    let takes = read_names(alloc, spot, takes_field(version), task)?;
+    let puts = read_names(alloc, spot, puts_field(version), task)?;
+    Ok(NamedTask {
+        name,
+        to,
+        takes,
+        puts,
+    })
 }
 
-fn read_links<'v>(
+// That a task has no field but those of every task and these.
+fn check_task_fields(
     alloc: Global,
-    from: usize,
-    names: &'v [Value],
-    links: &mut List<Link<'v>>,
+    version: u64,
+    spot: Spot,
+    task: &Value,
+    own: &[&str],
 ) -> Result<(), GraphError>
-    ensures { Leads result (map link_row links.new)
-        (walk (put_each task_name_of (link_to from)
-        (GraphError.BadField (task_spot from) (codes "to"))) (map link_row links.old)
-        (map view names.now)) }
+    ensures { Reads result (only (task_fields version ++ map (λ s. s.now) own.now) spot
+        (view task.now)) }
 {
-    for name in names {
-        read_link(alloc, from, name, links)?;
-    }
-    Ok(())
+    let fields = &[
+        "name",
+        "op",
+        "to",
+        takes_field(version),
+        puts_field(version),
+    ];
+    check_fields(alloc, spot, task, fields, own)
 }
 
-fn read_link<'v>(
+// Puts a task and its operation at the end, and its text among the texts.
+fn put_task<'v>(
     alloc: Global,
-    from: usize,
-    name: &'v Value,
-    links: &mut List<Link<'v>>,
-) -> Result<(), GraphError>
-    ensures { Leads result (map link_row links.new)
-        (put_each task_name_of (link_to from) (GraphError.BadField (task_spot from) (codes "to"))
-        (map link_row links.old) (view name.now)) }
-{
-    let Some(to) = task_name_of(name) else {
-        return Err(bad_field(alloc, task_spot(from), "to"));
-    };
-    links.push(Link { from, to })?;
-    Ok(())
-}
-
-// Puts a task's name and operation at the end, and its text among the texts.
-fn put_op<'v>(
-    alloc: Global,
-    name: &str,
+    task: NamedTask<'v>,
     op: FileOp<'v>,
     draft: &mut Draft<'v>,
     numbers: &mut Places<'v>,
 ) -> Result<(), NoMemory>
     requires { HasPlaces numbers.old draft.old.texts }
     ensures draft { OnOk result (draft_rows draft.new
-        ≡ with_op (draft_rows draft.old) name.now (file_op_row op.entry)
-        (map link_row draft.old.links)) }
+        ≡ with_task_text (draft_rows draft.old) (named_task task.entry) (file_op_row op.entry)) }
     ensures numbers { OnOk result (HasPlaces numbers.new draft.new.texts) }
 {
     let op = numbered(alloc, op, &mut draft.texts, numbers)?;
-    draft
-        .names
-        .push(Bytes::from_slice(alloc, name.as_bytes())?)?;
+    draft.tasks.push(task)?;
     draft.ops.push(op)?;
     Ok(())
 }

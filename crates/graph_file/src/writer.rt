@@ -1,12 +1,12 @@
 // The writing of graph files.
-ghost use Rattle.std.specs.Prelude.{◌≡◌, ◌<◌, ◌≤◌, [], false, Ok, IfOk, length, map, slice_index_or};
+ghost use Rattle.std.specs.Prelude.{◌≡◌, ◌<◌, ◌≤◌, All, false, Ok, IfOk, length, map};
 ghost use Rattle.serde_json.specs.Data.{depth, string};
 ghost use Rattle.serde_json.specs.View.{view};
 ghost use Rattle.serde_json.specs.Written.{compact_text, has_float};
 ghost use Rattle.graph_plans.specs.PlanRows.{plan_rows};
 ghost use Rattle.graph_file.specs.PlanText.{HasFile, PlanText, json_in};
-ghost use Rattle.graph_file.specs.WrittenPlan.{op_text, plan_data, plan_text, task_data, tasks_data, to_of};
-ghost use Rattle.graph_file.specs.inside.Writer.{HasUtf8, IsWritable, end_name, op_text_of, task_object};
+ghost use Rattle.graph_file.specs.WrittenPlan.{op_text, plan_data, plan_text, sem_data, sems_from, sems_named, strings_data, task_data, tasks_data, to_of};
+ghost use Rattle.graph_file.specs.inside.Writer.{HasUtf8, IsString, IsWritable, end_name, names_at, op_text_of, task_object};
 
 use crate::op_writer::{WrittenOp, string_value, written_op};
 use graph_plans::{Op, Plan};
@@ -14,8 +14,8 @@ use outside_io::{Bytes, NoMemory};
 use serde_json::{Value, json, put};
 use std::alloc::{AllocError, Global};
 
-/// The bytes of a graph file for a plan: compact JSON of version 1, with every field that may be missing written out,
-/// and the fields of each object in the order of their bytes.
+/// The bytes of a graph file for a plan: compact JSON of version 2, with every field that may be missing written out,
+/// the fields of each object in the order of their bytes, and the semaphores of a task by rising number.
 pub fn write_graph(alloc: Global, plan: &Plan) -> Result<Bytes, NoMemory>
     requires { HasFile (plan_rows plan.now) }
     ensures text { IfOk result (λ bytes. bytes ≡ plan_text (plan_rows plan.now)) }
@@ -41,8 +41,35 @@ fn file_value(alloc: Global, plan: &Plan) -> Result<Value, AllocError>
     requires { IsWritable (plan_rows plan.now) }
     ensures { IfOk result (λ value. view value ≡ plan_data (plan_rows plan.now)) }
 {
+    let sems = sem_values(alloc, plan.top.sem_names.as_slice(), plan.top.net.sems())?;
     let tasks = task_values(alloc, plan)?;
-    json!(in alloc; {"modules": [], "semaphores": [], "tasks": Value::Array(tasks), "version": 1u64})
+    json!(in alloc; {
+        "modules": [],
+        "semaphores": Value::Array(sems),
+        "tasks": Value::Array(tasks),
+        "version": 2u64
+    })
+}
+
+// The semaphores with these names and maxima.
+fn sem_values(alloc: Global, names: &[Bytes], maxima: &[u32]) -> Result<Vec<Value>, AllocError>
+    requires strings { All IsString names.now }
+    requires each { length maxima.now ≡ length names.now }
+    ensures { IfOk result (λ values. map view values.items ≡ sems_from names.now maxima.now) }
+{
+    let mut values = Vec::new(alloc);
+    for (sem, name) in names.iter().enumerate() {
+        values.push(sem_value(alloc, name, maxima[sem])?)?;
+    }
+    Ok(values)
+}
+
+fn sem_value(alloc: Global, name: &Bytes, max: u32) -> Result<Value, AllocError>
+    requires { IsString name.now }
+    ensures { IfOk result (λ value. view value ≡ sem_data name.now max) }
+{
+    let name = string_value(alloc, name)?;
+    json!(in alloc; {"max": u64::from(max), "name": name})
 }
 
 fn task_values(alloc: Global, plan: &Plan) -> Result<Vec<Value>, AllocError>
@@ -62,21 +89,31 @@ fn task_value(alloc: Global, plan: &Plan, task: u32, op: &Op) -> Result<Value, A
     requires within { task < length plan.now.top.names }
     requires op { HasUtf8 plan.now.texts op.now }
     ensures { IfOk result (λ value. view value
-        ≡ task_data (slice_index_or plan.now.top.names task []) (op_text plan.now.texts op.now)
-        (to_of (plan_rows plan.now) task)) }
+        ≡ task_data (op_text plan.now.texts op.now) (names_at (plan_rows plan.now) task)) }
 {
     let name = string_value(alloc, &plan.top.names[task as usize])?;
     let op = written_op(alloc, plan.texts.as_slice(), op)?;
     let to = to_values(alloc, plan, task)?;
-    task_object(alloc, name, op, Value::Array(to))
+    let row = &plan.top.net.tasks()[task as usize];
+    let takes = sems_value(alloc, plan, row.takes.as_slice())?;
+    let puts = sems_value(alloc, plan, row.puts.as_slice())?;
+    task_object(alloc, op, name, Value::Array(to), takes, puts)
 }
 
-fn task_object(alloc: Global, name: Value, op: WrittenOp, to: Value) -> Result<Value, AllocError>
+fn task_object(
+    alloc: Global,
+    op: WrittenOp,
+    name: Value,
+    to: Value,
+    takes: Value,
+    puts: Value,
+) -> Result<Value, AllocError>
     ensures { IfOk result (λ value. view value
-        ≡ task_object (view name) (op_text_of op) (view to)) }
+        ≡ task_object (op_text_of op) (view name) (view to) (view takes) (view puts)) }
 {
     let mut members = op.own;
     put(&mut members, alloc, "to", to)?;
+    put(&mut members, alloc, "release", puts)?;
     put(
         &mut members,
         alloc,
@@ -84,8 +121,22 @@ fn task_object(alloc: Global, name: Value, op: WrittenOp, to: Value) -> Result<V
         Value::try_from_str(alloc, op.name)?,
     )?;
     put(&mut members, alloc, "name", name)?;
-    put(&mut members, alloc, "holds", Value::Array(Vec::new(alloc)))?;
+    put(&mut members, alloc, "acquire", takes)?;
     Ok(Value::Object(members))
+}
+
+// The names of these semaphores.
+fn sems_value(alloc: Global, plan: &Plan, sems: &[u32]) -> Result<Value, AllocError>
+    requires plan { IsWritable (plan_rows plan.now) }
+    requires within { All (λ s. s < length plan.now.top.sem_names) sems.now }
+    ensures { IfOk result (λ value. view value
+        ≡ strings_data (sems_named (plan_rows plan.now) sems.now)) }
+{
+    let mut values = Vec::new(alloc);
+    for sem in sems {
+        values.push(string_value(alloc, &plan.top.sem_names[*sem as usize])?)?;
+    }
+    Ok(Value::Array(values))
 }
 
 // The names of the tasks to which the edges of a task lead.

@@ -40,6 +40,14 @@ file_task_limit = 10000
 abbrev pub file_edge_limit : ℕ
 file_edge_limit = 100000
 
+-- how many semaphores
+abbrev pub file_semaphore_limit : ℕ
+file_semaphore_limit = 256
+
+-- the greatest maximum of a semaphore
+abbrev pub maximum_limit : ℕ
+maximum_limit = 1000000
+
 -- how many different names of texts
 abbrev pub text_count_limit : ℕ
 text_count_limit = 1024
@@ -53,27 +61,24 @@ pub record IsTextName (text : List ℕ) : Type 0 where
 abbrev pub AllDiffer : List (List ℕ) → Type 0
 AllDiffer names = AllPairs (λ a b. a ≢ b) names
 
--- a task that needs no semaphore
-pub record NeedsNoUnit (row : TaskRow) : Type 0 where
-  pub takes : row.takes ≡ []
-  pub puts : row.puts ≡ []
-
--- The rules of a plan. It has no modules and no semaphores yet.
+-- The rules of a plan. It has no modules yet.
 pub record IsPlan (plan : PlanRows) : Type 0 where
   pub name : plan.top.name ≡ []
   pub modules : plan.modules ≡ []
-  pub sem_names : plan.top.sem_names ≡ []
   pub net : IsNet plan.top.net
-  pub sems : plan.top.net.sems ≡ []
-  pub no_units : All NeedsNoUnit plan.top.net.tasks
   pub no_first_tokens : All (λ (row : EdgeRow). row.start ≡ false) plan.top.net.edges
   -- each task has a name and an operation, which decides on its shape
   pub names : length plan.top.names ≡ length plan.top.net.tasks
   pub shapes : map (λ (row : TaskRow). row.shape) plan.top.net.tasks ≡ map shape_of plan.top.ops
   pub ops : All (IsOp (length plan.texts)) plan.top.ops
   pub names_differ : AllDiffer plan.top.names
+  -- each semaphore has a name, and a maximum
+  pub sem_names : length plan.top.sem_names ≡ length plan.top.net.sems
+  pub sem_names_differ : AllDiffer plan.top.sem_names
+  pub maxima : All (λ max. max ≤ maximum_limit) plan.top.net.sems
   pub task_count : length plan.top.net.tasks ≤ file_task_limit
   pub edge_count : length plan.top.net.edges ≤ file_edge_limit
+  pub sem_count : length plan.top.net.sems ≤ file_semaphore_limit
   pub texts : All IsTextName plan.texts
   pub texts_differ : AllDiffer plan.texts
   pub text_count : length plan.texts ≤ text_count_limit

@@ -150,7 +150,7 @@ no_inner J V net t inner flat below fits = by_row (slice_get net.tasks t) refl f
 
     by_row : (row : Option TaskRow) → slice_get net.tasks t ≡ row → IfSome row (λ (r : TaskRow). DoneFits r.shape done) → ⊥
     by_row None is f = past_tasks net.tasks t below is
-    by_row (Some row) is f = (at_place IsFlatTask net.tasks t row flat is).shape f
+    by_row (Some row) is f = at_place IsFlatTask net.tasks t row flat is f
 
 one_of : (out : List ℕ) (p : ℕ) → p < length out → take 1 (drop p out) ≡ slice_index out p ∷ []
 one_of [] p below = absurd (omega (arith, below))

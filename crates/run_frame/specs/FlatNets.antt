@@ -1,14 +1,12 @@
--- Nets whose runs neither wait for a unit nor have a run inside.
-use Rattle.std.specs.Prelude.{◌≡◌, ◌≢◌, [], All}
+-- Nets whose runs have no run inside.
+use Rattle.std.specs.Prelude.{◌≢◌, All}
 use Rattle.task_graph.specs.NetRows.{NetRows}
 use Rattle.task_graph.specs.declared.net.Shape.TheVariants.{Nested}
 use Rattle.task_graph.specs.declared.net.TaskRow.{TaskRow}
 
--- a task that neither has an inner graph nor takes or puts a unit
-pub record IsFlatTask (row : TaskRow) : Type 0 where
-  pub shape : row.shape ≢ Nested
-  pub takes : row.takes ≡ []
-  pub puts : row.puts ≡ []
+-- a task that has no inner graph
+abbrev pub IsFlatTask : TaskRow → Type 0
+IsFlatTask row = row.shape ≢ Nested
 
 -- a net of such tasks
 abbrev pub IsFlatNet : NetRows → Type 0

@@ -16,6 +16,12 @@ use Rattle.join_tables.specs.contracts.turns.Fresh as fresh
 use Rattle.join_tables.specs.contracts.turns.NetTable as table
 use Rattle.join_tables.specs.contracts.batch.SpentBatch as batch
 use Rattle.join_tables.specs.contracts.keeper.Keeper as keeper
+use Rattle.semaphore_park.proofs.Crossing as yards
+use Rattle.semaphore_park.specs.contracts.yard.ParkYard as yard
+use Rattle.semaphore_turns.proofs.Crossing as units
+use Rattle.semaphore_turns.specs.contracts.parked_turn.ParkedTurn as parked_turn
+use Rattle.semaphore_turns.specs.contracts.parked_turn.ParkedTurnParkable.TheImpl as parkable
+use Rattle.semaphore_turns.specs.contracts.ready_turn.ReadyTurn as ready_turn
 use Rattle.table_frames.specs.contracts.table_run.TableRun as table_run
 use Rattle.table_frames.specs.contracts.run_keeper.RunKeeper as run_keeper
 use Rattle.table_frames.specs.contracts.frame.Frame as frame
@@ -43,6 +49,15 @@ module _ (T V : RattleType) (J : Job.Ghosts T.Denot V.Denot) (W : Valued.Ghosts 
   table_sync : IsSync (table.the_row V)
   table_sync = turns.table_sync V sv yv
 
+  ready_send : IsSend (ready_turn.the_row V)
+  ready_send = units.ready_send V sv yv
+
+  yard_send : IsSend (yard.the_row (parked_turn.the_row V) (table.the_row V) (parkable.ghosts V))
+  yard_send = yards.yard_send (parked_turn.the_row V) (table.the_row V) (parkable.ghosts V) (units.parked_send V sv yv)
+
+  yard_sync : IsSync (yard.the_row (parked_turn.the_row V) (table.the_row V) (parkable.ghosts V))
+  yard_sync = yards.yard_sync (parked_turn.the_row V) (table.the_row V) (parkable.ghosts V) (units.parked_send V sv yv)
+
   run_keeper_send : IsSend (run_keeper.the_row T V J)
   run_keeper_send = search (keeper_send, tables) depth 60 fits 20000
 
@@ -53,16 +68,16 @@ module _ (T V : RattleType) (J : Job.Ghosts T.Denot V.Denot) (W : Valued.Ghosts 
   run_sync = search (table_sync, tables) depth 60 fits 20000
 
   pub frame_send : IsSend (frame.the_row T V J W)
-  frame_send = search (run_keeper_send, run_send, run_sync, frame_knot.crosses, tables) depth 60 fits 20000
+  frame_send = search (run_keeper_send, run_send, run_sync, yard_send, yard_sync, frame_knot.crosses, tables) depth 60 fits 20000
 
   pub frame_sync : IsSync (frame.the_row T V J W)
-  frame_sync = search (run_keeper_send, run_send, run_sync, frame_knot.crosses, tables) depth 60 fits 20000
+  frame_sync = search (run_keeper_send, run_send, run_sync, yard_send, yard_sync, frame_knot.crosses, tables) depth 60 fits 20000
 
   pub release_send : IsSend (release.the_row T V J W)
-  release_send = search (frame_send, frame_sync, fresh_send, tables) depth 60 fits 20000
+  release_send = search (frame_send, frame_sync, ready_send, tables) depth 60 fits 20000
 
   frame_batch_send : IsSend (frame_batch.the_row T V J W)
   frame_batch_send = search (frame_send, frame_sync, batch_send, tables) depth 60 fits 20000
 
   pub backlog_send : IsSend (backlog.the_row T V J W)
-  backlog_send = search (frame_batch_send, fresh_send, tables) depth 60 fits 20000
+  backlog_send = search (frame_batch_send, ready_send, tables) depth 60 fits 20000

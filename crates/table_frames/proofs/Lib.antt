@@ -7,4 +7,5 @@ pub mod Keeping
 pub mod Making
 pub mod Handing
 pub mod Concluding
+pub mod Settling
 pub mod Crossing

@@ -34,46 +34,11 @@ use Rattle.run_frame.specs.declared.job.Answer.TheVariants.{Indices}
 use Rattle.run_frame.proofs.ChosenLemmas.{choice_fits, gives_in_range, answer_for}
 use Rattle.table_frames.specs.inside.Runs.{MayWork}
 
-module _ (net : NetRows) (flat : IsFlatNet net) where
-  takes_none : (s t : ℕ) → takes net s t ≡ false
-  takes_none s t = by_row (slice_get net.tasks t) refl
-    where
-      by_row : (o : Option TaskRow) → slice_get net.tasks t ≡ o → option_map_or (λ (row : TaskRow). list_any (λ x. x == s) row.takes) o false ≡ false
-      by_row None is = refl
-      by_row (Some row) is = ap (list_any (λ x. x == s)) (at_place IsFlatTask net.tasks t row flat is).takes
-
-  puts_none : (s t : ℕ) → puts net s t ≡ false
-  puts_none s t = by_row (slice_get net.tasks t) refl
-    where
-      by_row : (o : Option TaskRow) → slice_get net.tasks t ≡ o → option_map_or (λ (row : TaskRow). list_any (λ x. x == s) row.puts) o false ≡ false
-      by_row None is = refl
-      by_row (Some row) is = ap (list_any (λ x. x == s)) (at_place IsFlatTask net.tasks t row flat is).puts
-
-  -- no task of a flat net needs a unit
-  pub needs_none : (t : ℕ) → HoldsEachUnit net t []
-  needs_none t s = ap one_if (sym (takes_none s t))
-
-  pub puts_all : (t : ℕ) → PutsAll net t
-  puts_all t s = puts_none s t ∙ sym (takes_none s t)
-
 -- what may be released is a release of the net
 pub is_release : (net : NetRows) (t n : ℕ) (cause : Cause) → MayBeReleased net t cause → n ≡ length (edges_of net t cause) → IsRelease net t n
 is_release net t n Source may size = record { in_range = may.in_tasks; cause = Source; can_release = may.fits; size = size }
 is_release net t n Strong may size = record { in_range = may.in_tasks; cause = Strong; can_release = may.fits; size = size }
 is_release net t n (Weak e) may size = record { in_range = may.in_tasks; cause = Weak e; can_release = may.fits; size = size }
-
--- a start that has no unit to give back, to credit or to claim
-pub may_work : {V : Type 0} (net : NetRows) (r : RunningState V) → MayBeReleased net r.task r.cause → length (parts_in r.ins) ≡ length (edges_of net r.task r.cause) → HasAllUnits net r.task [] r.units → MayWork net r
-may_work net r release parts units = record { release = release; parts = parts; back = units.back; credited = units.credited; claimed = units.claimed }
-
-pub started : {V : Type 0} (net : NetRows) (r : RunningState V) (ticket : AdmittedState) (n : TableId) → IsFlatNet net → r ≡ running_state n ticket.task ticket.cause r.place r.ins r.units ticket.found → MayBeReleased net ticket.task ticket.cause
-    → length (parts_in r.ins) ≡ length (edges_of net ticket.task ticket.cause) → (PutsAll net ticket.task → HasAllUnits net ticket.task ticket.held r.units) → ticket.held ≡ [] → MayWork net r
-started {V} net r ticket n flat is release parts units held =
-    let task : r.task ≡ ticket.task = ap (λ (q : RunningState V). q.task) is in
-    let cause : r.cause ≡ ticket.cause = ap (λ (q : RunningState V). q.cause) is in
-    may_work net r (subst (λ t. MayBeReleased net t r.cause) (sym task) (subst (MayBeReleased net ticket.task) (sym cause) release))
-    (parts ∙ (λ i. length (edges_of net (sym task i) (sym cause i))))
-    (subst (λ t. HasAllUnits net t [] r.units) (sym task) (subst (λ l. HasAllUnits net ticket.task l r.units) held (units (puts_all net flat ticket.task))))
 
 -- what an answer gives may be given
 pub may_give : (net : NetRows) (t : ℕ) (answer : Answer) → t < length net.tasks → IfSome (slice_get net.tasks t) (λ (row : TaskRow). FitsShape row.shape answer) → MayEndGiving net t (gives_of (out_edges net t) answer) false

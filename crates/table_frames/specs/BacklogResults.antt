@@ -1,11 +1,12 @@
 -- What the bringing of a backlog comes to.
-use Rattle.std.specs.Prelude.{◌≡◌, ◌↔◌, ℕ, List, [], ◌++◌, Option, Some, None}
+use Rattle.std.specs.Prelude.{◌≡◌, ◌↔◌, ◌⊎◌, ℕ, List, [], ◌∷◌, ◌++◌, Option, Some, None}
 use Rattle.std.specs.Option.{option_map}
 use Rattle.join_tables.specs.Findings.{FindsOne}
 use Rattle.join_tables.specs.Keeping.{KeeperState}
 use Rattle.join_tables.specs.declared.fates.Fate.{Fate}
 use Rattle.run_frame.specs.Meaning.{Meaning}
-use Rattle.table_frames.specs.Frames.{FrameKey, HasTable}
+use Rattle.semaphore_turns.specs.Settlements.{AreDrops}
+use Rattle.table_frames.specs.Frames.{BacklogView, FrameKey, HasTable, ReleaseView, backlog_view}
 use Rattle.table_frames.specs.Steps.{IsClosed, IsStateOf}
 use Rattle.table_frames.specs.JournalFacts.{HasEntriesOf}
 use Rattle.table_frames.specs.declared.step_results.Brought.{Brought}
@@ -32,3 +33,14 @@ pub record BringsFates {J V : Type 0} (meaning : Meaning J V) (frames : List (Fr
   pub state : IsStateOf meaning frames brought.state
   pub entries : HasEntriesOf brought.state fates
   pub keeper : MayTakeIn frames fates brought.state (option_map (λ s. s.value) brought.keeper)
+
+-- All that was parked in a frame is dropped, which is in the backlog now.
+pub record DropsParked {J V : Type 0} (frames : List (FrameKey J)) (new : BacklogView J V) : Type 0 where
+  pub fate : Fate V
+  pub drops : AreDrops fate
+  pub backlog : new ≡ backlog_view frames (fate ∷ [])
+
+-- What is parked in a frame was looked at: a release goes on, all are dropped, or they wait.
+abbrev pub SettlesFrame : {J V : Type 0} → List (FrameKey J) → BacklogView J V → Option (ReleaseView J) → Type 0
+SettlesFrame frames new (Some release) = (release.frames ≡ frames) × (new ≡ backlog_view [] [])
+SettlesFrame frames new None = (new ≡ backlog_view [] []) ⊎ DropsParked frames new

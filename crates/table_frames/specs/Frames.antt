@@ -5,7 +5,8 @@ use Rattle.std.specs.Global.{Global}
 use Rattle.std.specs.declared.sync.Arc.{Arc}
 use Rattle.atomic_table.specs.Seated.{TableId}
 use Rattle.journal_rules.specs.declared.entry.Cause.{Cause}
-use Rattle.join_tables.specs.States.{FreshState}
+use Rattle.join_tables.specs.States.{FreshState, TableState}
+use Rattle.run_frame.specs.Meaning.{Meaning}
 use Rattle.join_tables.specs.Keeping.{KeeperState}
 use Rattle.join_tables.specs.declared.fates.Fate.{Fate}
 
@@ -45,6 +46,11 @@ abbrev pub IsInnermost : {J : Type 0} → FrameKey J → List (FrameKey J) → T
 IsInnermost key [] = ⊥
 IsInnermost key (frame ∷ around) = frame ≡ key
 
+-- a fact of the first of these frames
+abbrev pub AtFrame : {J : Type 0} → List (FrameKey J) → (FrameKey J → Type 0) → Type 0
+AtFrame [] p = ⊥
+AtFrame (frame ∷ around) p = p frame
+
 -- the table of a frame
 abbrev pub HasTable : {J : Type 0} → List (FrameKey J) → TableId → Type 0
 HasTable [] n = ⊥
@@ -70,3 +76,7 @@ pub record RunKeeperView (J V : Type 0) : Type 0 where
 
 abbrev pub key_of : {J V : Type 0} → RunKeeperView J V → FrameKey J
 key_of kept = record { table = kept.keeper.table; job = kept.job }
+
+-- the table of a frame, with the net and the limit of its job
+abbrev pub table_in : {J V : Type 0} → Meaning J V → FrameKey J → TableState
+table_in meaning frame = record { table = frame.table; net = meaning.net frame.job; limit = meaning.limit frame.job }

@@ -23,6 +23,6 @@ HasEntries run fates = AllByRecursion (λ (r : Recorded). slice_get (journal_of 
 -- So has one that is given out.
 abbrev pub HasEntriesOf : {J V : Type 0} → State J V → List (Fate V) → Type 0
 HasEntriesOf Went fates = Unit {0}
-HasEntriesOf Parked fates = Unit {0}
+HasEntriesOf (Parked turn) fates = Unit {0}
 HasEntriesOf Inner fates = Unit {0}
 HasEntriesOf (Closed run) fates = HasEntries run fates

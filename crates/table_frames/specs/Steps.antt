@@ -1,6 +1,11 @@
 -- What a beginning and a step of a frame come to, and what is then with its run.
-use Rattle.std.specs.Prelude.{◌≡◌, List, [], ◌∷◌, ◌++◌, length, map, All, Some}
-use Rattle.join_tables.specs.States.{FreshState, fresh_state}
+use Rattle.std.specs.Prelude.{◌≡◌, ℕ, List, [], ◌∷◌, ◌++◌, length, map, All, Some}
+use Rattle.task_graph.specs.NetRows.{NetRows}
+use Rattle.join_tables.specs.States.{FreshState, TurnState, fresh_state}
+use Rattle.semaphore_turns.specs.Semaphores.{put_by, taken_by}
+use Rattle.semaphore_turns.specs.HeldUnits.{FoundNone}
+use Rattle.semaphore_turns.specs.WaitingTurns.{WaitsAt, release_of}
+use Rattle.semaphore_turns.specs.WokenTurns.{Wakes}
 use Rattle.join_tables.specs.FirstCauses.{first_fresh}
 use Rattle.join_tables.specs.declared.fates.Fate.{Fate}
 use Rattle.run_frame.specs.Meaning.{Meaning}
@@ -8,9 +13,9 @@ use Rattle.run_frame.specs.Legal.{IsKept}
 use Rattle.run_frame.specs.NestedRule.{job_of}
 use Rattle.run_frame.specs.declared.run.FrameRun.{FrameRun}
 use Rattle.table_frames.specs.AllowedFates.{IsAllowed}
-use Rattle.table_frames.specs.StepReleases.{Uses}
+use Rattle.table_frames.specs.StepReleases.{MayRelease, Uses}
 use Rattle.table_frames.specs.JournalFacts.{IsInJournal}
-use Rattle.table_frames.specs.Frames.{FrameKey, ReleaseView, BacklogView, backlog_view, root_job, release_in}
+use Rattle.table_frames.specs.Frames.{FrameKey, ReleaseView, BacklogView, backlog_view, root_job, release_in, table_in}
 use Rattle.table_frames.specs.declared.step_results.State.{State}
 use Rattle.table_frames.specs.declared.step_results.State.TheVariants.{Went, Parked, Inner, Closed}
 use Rattle.table_frames.specs.declared.step_results.Stepped.{Stepped}
@@ -20,17 +25,17 @@ pub record IsRootRun {J V : Type 0} (meaning : Meaning J V) (frames : List (Fram
   pub kept : IsKept meaning run
   pub job : root_job frames ≡ Some (job_of run)
 
--- What is with the run of a frame. Where nothing is left to do it is given out. No frame parks a release or has another
--- inside yet.
+-- What is with the run of a frame that has begun, or of a backlog that was brought. Where nothing is left to do the run is given
+-- out. No frame has another inside yet.
 abbrev pub IsStateOf : {J V : Type 0} → Meaning J V → List (FrameKey J) → State J V → Type 0
 IsStateOf meaning frames Went = Unit {0}
-IsStateOf meaning frames Parked = ⊥
+IsStateOf meaning frames (Parked turn) = ⊥
 IsStateOf meaning frames Inner = ⊥
 IsStateOf meaning frames (Closed run) = IsRootRun meaning frames run
 
 abbrev pub IsClosed : {J V : Type 0} → State J V → Type 0
 IsClosed Went = ⊥
-IsClosed Parked = ⊥
+IsClosed (Parked turn) = ⊥
 IsClosed Inner = ⊥
 IsClosed (Closed run) = Unit {0}
 
@@ -42,18 +47,47 @@ pub record BeginsFrame {J V : Type 0} (meaning : Meaning J V) (job : J) (stepped
   pub frames : All (λ (release : ReleaseView J). release.frames ≡ frame ∷ []) stepped.released.items
   pub state : IsStateOf meaning (frame ∷ []) stepped.state
 
--- A step was taken. The release was used up by one fate, which the job of its frame allows, whose entries are in one legal
--- journal, and which is in the backlog now. It made these releases, and the run goes on as far as is known.
+-- the semaphores of which a task takes a unit or puts one
+abbrev pub units_of : NetRows → ℕ → List ℕ
+units_of net t = taken_by net t ++ put_by net t
+
+-- A step used its release up by one fate, which the job of its frame allows, whose entries are in one legal journal, and which is in
+-- the backlog now. It made these releases, and woke others that waited for units of its task's semaphores.
+pub record UsesRelease {J V : Type 0} (meaning : Meaning J V) (frame : FrameKey J) (release : ReleaseView J) (old new : BacklogView J V) (made : List FreshState) : Type 0 where
+  pub fate : Fate V
+  pub by_end : List FreshState
+  pub allowed : IsAllowed meaning frame.job fate
+  pub journal : IsInJournal meaning frame.job fate
+  pub uses : Uses (meaning.net frame.job) (fresh_state frame.table release.task release.cause) fate [] by_end
+  pub wakes : Wakes (table_in meaning frame) (units_of (meaning.net frame.job) release.task) by_end made
+  pub backlog : new ≡ backlog_view release.frames (old.fates ++ fate ∷ [])
+
+-- A step parked its release, as a turn of the frame's table whose last step found no unit of a semaphore that its task takes. It
+-- woke others that waited for units that the turn put back, and perhaps released the same task again.
+pub record ParksRelease {J V : Type 0} (meaning : Meaning J V) (frame : FrameKey J) (release : ReleaseView J) (old new : BacklogView J V) (made : List FreshState) (turn : TurnState) : Type 0 where
+  pub is : release_of turn ≡ fresh_state frame.table release.task release.cause
+  pub sem : ℕ
+  pub waits : WaitsAt turn (table_in meaning frame) sem
+  pub none : FoundNone (meaning.net frame.job) sem turn
+  pub woken : List FreshState
+  pub wakes : Wakes (table_in meaning frame) (taken_by (meaning.net frame.job) release.task) [] woken
+  pub again : MayRelease frame.table release.task release.cause woken made
+  pub backlog : new ≡ backlog_view release.frames old.fates
+
+-- what became of the release, by what is with the run then
+abbrev pub StepsTo : {J V : Type 0} → Meaning J V → FrameKey J → ReleaseView J → BacklogView J V → BacklogView J V → List FreshState → State J V → Type 0
+StepsTo meaning frame release old new made Went = UsesRelease meaning frame release old new made
+StepsTo meaning frame release old new made (Parked turn) = ParksRelease meaning frame release old new made turn.value
+StepsTo meaning frame release old new made Inner = ⊥
+StepsTo meaning frame release old new made (Closed run) = ⊥
+
+-- A step was taken: its release was used up or parked. It handed out these releases, which are of the same frame.
 pub record StepsRelease {J V : Type 0} (meaning : Meaning J V) (release : ReleaseView J) (old new : BacklogView J V) (stepped : Stepped J V) : Type 0 where
   pub frame : FrameKey J
   pub around : List (FrameKey J)
   pub frames_are : release.frames ≡ frame ∷ around
-  pub fate : Fate V
   pub made : List FreshState
-  pub allowed : IsAllowed meaning frame.job fate
-  pub journal : IsInJournal meaning frame.job fate
-  pub uses : Uses (meaning.net frame.job) (fresh_state frame.table release.task release.cause) fate [] made
+  pub to : StepsTo meaning frame release old new made stepped.state
   pub released : stepped.released.items ≡ map (release_in release.frames) made
   pub frames : All (λ (next : ReleaseView J). next.frames ≡ release.frames) stepped.released.items
-  pub state : stepped.state ≡ Went
-  pub backlog : new ≡ backlog_view release.frames (old.fates ++ fate ∷ [])
+  pub backlog : new.frames ≡ release.frames

@@ -7,3 +7,4 @@ pub mod ReleaseRooms
 pub mod AttemptEnds
 pub mod Begins
 pub mod Rows
+pub mod Benches

@@ -1,5 +1,5 @@
 // What a release has come to before an entry but its Start is drawn.
-ghost use Rattle.std.specs.Prelude.{◌≡◌, ◌+◌, ◌<◌, ◌^◌};
+ghost use Rattle.std.specs.Prelude.{◌≡◌, ◌+◌, ◌<◌, ◌≤◌, ◌^◌};
 
 use join_tables::{Fresh, Running, SharedValue, Turn};
 use journal_rules::{DropWhy, Why};
@@ -37,7 +37,8 @@ impl<V: Drop> Attempt<V> {
 
     /// How many releases can come of it.
     pub fn room(&self) -> usize
-        ensures { result ≡ room_due self.now }
+        ensures room { result ≡ room_due self.now }
+        ensures few { result ≤ 2 ^ 63 }
     {
         match self.again {
             Some(_) => self.edges() + 1,
@@ -48,7 +49,7 @@ impl<V: Drop> Attempt<V> {
     // How many edges are to be given.
     fn edges(&self) -> usize
         ensures edges { result ≡ edges_due self.now.outcome }
-        ensures few { result + 1 < 2 ^ 64 }
+        ensures few { result < 2 ^ 63 }
     {
         match &self.outcome {
             Outcome::Ends(ending) => ending.gives.as_slice().len(),

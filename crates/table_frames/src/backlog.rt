@@ -2,18 +2,19 @@
 ghost use Rattle.std.specs.Prelude.{◌≡◌, ◌↔◌, [], IsTrue};
 
 use super::frame_batch::FrameBatch;
-use join_tables::Fresh;
 use run_frame::Job;
+use semaphore_turns::ReadyTurn;
 use std::alloc::Global;
 use std::marker::Model;
 
 /// What the steps of a worker have done in a frame and the frame hasn't recorded yet. While something is in it the run of the
-/// frame isn't over. A backlog that is dropped is never recorded, so that the run is never closed.
+/// frame isn't over. A backlog that is dropped is never recorded, so that the run is never closed. A step that parked its
+/// release leaves the backlog of its frame too, so that what is parked is looked at when it is brought.
 pub struct Backlog<J: Job> {
     pub(crate) alloc: Global,
     pub(crate) batch: FrameBatch<J>,
     // Room for what a step makes. Nothing is in it between two steps.
-    pub(crate) made: Vec<Fresh<J::V>>,
+    pub(crate) made: Vec<ReadyTurn<J::V>>,
 }
 
 // Written out, so that it is proved here alone and not in each crate above.
@@ -53,9 +54,9 @@ impl<J: Job + Drop> Backlog<J> {
         }
     }
 
-    /// Whether nothing is in it.
+    /// Whether it is of no frame: no step was taken since it was brought.
     pub fn is_empty(&self) -> bool
-        ensures { IsTrue result ↔ (self.now.fates ≡ []) }
+        ensures { IsTrue result ↔ (self.now.frames ≡ []) }
     {
         self.batch.is_empty()
     }

@@ -1,5 +1,6 @@
 // Frames.
-ghost use Rattle.std.specs.Prelude.{◌≡◌, ◌↔◌, ◌⊎◌, ◌<◌, ◌≤◌, ◌+◌, ◌∷◌, [], All, IfOk, OnOk, OnErr, length};
+ghost use Rattle.std.specs.Prelude.{◌≡◌, ◌↔◌, ◌⊎◌, ◌<◌, ◌≤◌, ◌+◌, ◌^◌, ◌++◌, ◌∷◌, [], None, All, IfOk, OnOk, OnErr, length};
+ghost use Rattle.task_graph.specs.Net.{AreSemaphoresOf};
 ghost use Rattle.std.specs.Vec.{vec_capacity, vec_len};
 ghost use Rattle.std.specs.Arc.{arc_value};
 ghost use Rattle.join_tables.specs.States.{FreshState};
@@ -12,21 +13,25 @@ use super::frame_batch::FrameBatch;
 use super::release::{Release, ReleaseRoom};
 use super::run_keeper::RunKeeper;
 use super::step_results::{Brought, State, Stepped};
-use super::table_run::{Begun, TableRun};
-use join_tables::{Fresh, Remaining, SpentBatch};
+use super::table_run::{Begun, TableRun, TakenUp, add_again};
+use join_tables::{Remaining, Spent, SpentBatch, Turn};
 use keyed_lock::{Held, KeyedLock};
 use outside_io::NoMemory;
 use run_frame::Job;
+use semaphore_park::ParkYard;
+use semaphore_turns::{ParkedTurn, Parking, ReadyTurn, Settled, TakenUnits, wake_turns};
 use std::alloc::Global;
 use std::marker::Model;
 use std::sync::{Arc, Wait};
 
-/// A run that several threads step. Its releases hold it. Only its keeper is under a lock.
+/// A run that several threads step. Its releases hold it. Only its keeper and what is parked are under locks.
 #[derive(Drop)]
 pub struct Frame<J: Job> {
     alloc: Global,
     run: TableRun<J>,
     lock: KeyedLock<RunKeeper<J>>,
+    // What waits for units. Whoever has the keeper may wait for it, and whoever has it waits for nothing.
+    yard: ParkYard<ParkedTurn<J::V>>,
     depth: u32,
     // The frame that it is inside. No frame is inside another yet.
     parent: Option<Arc<Frame<J>>>,
@@ -39,21 +44,31 @@ impl<J: Job> Model for Frame<J> {
     ghost Value = { List (FrameKey J) };
 
     ghost use Rattle.keyed_lock.specs.Locks.{made_with};
-    ghost use Rattle.table_frames.specs.Frames.{frames_around, key_of};
+    ghost use Rattle.semaphore_park.specs.Parking.{yard_key};
+    ghost use Rattle.semaphore_park.specs.Yards.{opened_as};
+    ghost use Rattle.semaphore_turns.specs.WaitingTurns.{yard_of};
+    ghost use Rattle.table_frames.specs.Frames.{frames_around, key_of, table_in};
 
     ghost view = { λ frame. frame.run ∷ frames_around frame.parent };
 
     ghost invariant = { λ frame. (key_of (made_with frame.lock) ≡ frame.run)
+        × (yard_key (opened_as frame.yard) ≡ yard_of (table_in J.meaning frame.run))
         × (frame.depth ≡ 0) × (frames_around frame.parent ≡ []) };
 
     ghost size = { length };
 }
 
 impl<J: Job + Drop> Frame<J> {
-    ghost use Rattle.table_frames.specs.Frames.{HasTable, MayTake, backlog_view, key_of};
-    ghost use Rattle.table_frames.specs.BacklogResults.{BringsFates};
+    ghost use Rattle.semaphore_turns.specs.Semaphores.{taken_by};
+    ghost use Rattle.semaphore_turns.specs.HeldUnits.{HoldsAll, LacksUnit, TakesUnits};
+    ghost use Rattle.semaphore_turns.specs.WaitingTurns.{release_of};
+    ghost use Rattle.semaphore_turns.specs.WokenTurns.{ParksTurn, Wakes};
+    ghost use Rattle.semaphore_turns.specs.Settlements.{AreDrops, Settles};
+    ghost use Rattle.table_frames.specs.Frames.{AtFrame, HasTable, MayTake, backlog_view, key_of, release_in, table_in};
+    ghost use Rattle.table_frames.specs.BacklogResults.{BringsFates, SettlesFrame};
     ghost use Rattle.table_frames.specs.Steps.{IsClosed, BeginsFrame, StepsRelease};
-    ghost use Rattle.table_frames.specs.inside.Attempts.{IsAttemptAt, TriesRelease, room_due};
+    ghost use Rattle.table_frames.specs.inside.Attempts.{IsAttemptAt, TriesRelease, room_due, units_due};
+    ghost use Rattle.table_frames.specs.inside.CollectedRelease.{IsTakenIn};
     ghost use Rattle.table_frames.specs.inside.AttemptEnds.{Concludes};
     ghost use Rattle.table_frames.specs.inside.Runs.{IsBatchIn, IsNoBatch};
 
@@ -85,41 +100,119 @@ impl<J: Job + Drop> Frame<J> {
         })
     }
 
-    /// Takes the step of a release: drops it, or starts its task, does its work and ends the start or records its fault.
-    /// What became of it is then in the backlog, which was of this frame or of none. It waits for nobody. If an allocation
-    /// fails the release is given up, so that the run is never closed, and the backlog has what it had; from the End's place
-    /// on no memory is needed.
-    pub fn step(release: Release<J>, backlog: &mut Backlog<J>) -> Result<Stepped<J>, NoMemory>
+    /// Takes the step of a release: drops it, or starts its task, does its work and ends the start or records its fault, or
+    /// parks it where a semaphore that its task takes has no unit. What became of it is then in the backlog, which was of this
+    /// frame or of none. Only for parked releases it may wait, for the lock that they are under. If an allocation fails the
+    /// release is given up, so that the run is never closed, and the backlog has what it had; from the End's place on no memory
+    /// is needed.
+    pub fn step<R: Wait>(
+        rt: &R,
+        release: Release<J>,
+        backlog: &mut Backlog<J>,
+    ) -> Result<Stepped<J>, NoMemory>
         requires { MayTake backlog.old release.frames }
         ensures ok { IfOk result (StepsRelease J.meaning release backlog.old backlog.new) }
         ensures err { OnErr result
             ((backlog.new ≡ backlog.old)
             ⊎ (backlog.new ≡ backlog_view release.frames backlog.old.fates)) }
     {
-        let Release { frame, fresh } = release;
+        let Release { frame, ready } = release;
+        let TakenUp { turn, again } = frame.take_up(ready)?;
+        match frame.take_units(turn) {
+            TakenUnits::All(turn) => Frame::work(rt, frame, TakenUp { turn, again }, backlog),
+            TakenUnits::Lacks(turn, place) => {
+                Frame::park(rt, frame, TakenUp { turn, again }, place, backlog)
+            }
+        }
+    }
+
+    // Goes on with a release that has its units, or is parked.
+    fn park<R: Wait>(
+        rt: &R,
+        frame: Arc<Frame<J>>,
+        taken: TakenUp<J::V>,
+        place: usize,
+        backlog: &mut Backlog<J>,
+    ) -> Result<Stepped<J>, NoMemory>
+        requires frame { MayTake backlog.old (arc_value frame) }
+        requires taken { AtFrame (arc_value frame) (λ key. IsTakenIn key taken) }
+        requires lacks { AtFrame (arc_value frame)
+            (λ key. LacksUnit (J.meaning.net key.job) place taken.turn) }
+        ensures ok { IfOk result (StepsRelease J.meaning
+            (release_in (arc_value frame) (release_of taken.turn)) backlog.old backlog.new) }
+        ensures err { OnErr result
+            ((backlog.new ≡ backlog.old)
+            ⊎ (backlog.new ≡ backlog_view (arc_value frame) backlog.old.fates)) }
+    {
+        let TakenUp { turn, again } = taken;
         backlog.batch.make_room(&frame)?;
-        let attempt = frame.attempt(fresh)?;
-        let count = attempt.room();
+        let count = frame.count_takes(&turn) + 1;
         let room = ReleaseRoom::new(backlog.alloc, &frame, count)?;
         backlog.made.reserve(count)?;
-        frame.conclude(attempt, &mut backlog.batch, &mut backlog.made);
+        match frame.park_turn(rt, turn, place, &mut backlog.made)? {
+            Parking::Taken(turn) => Frame::work(rt, frame, TakenUp { turn, again }, backlog),
+            Parking::Parked(turn) => {
+                add_again(&mut backlog.made, again);
+                Ok(Stepped {
+                    released: room.hand_out(frame, &mut backlog.made),
+                    state: State::Parked(turn),
+                })
+            }
+        }
+    }
+
+    // Does the work of a release that has its units, and concludes it.
+    fn work<R: Wait>(
+        rt: &R,
+        frame: Arc<Frame<J>>,
+        taken: TakenUp<J::V>,
+        backlog: &mut Backlog<J>,
+    ) -> Result<Stepped<J>, NoMemory>
+        requires frame { MayTake backlog.old (arc_value frame) }
+        requires taken { AtFrame (arc_value frame) (λ key. IsTakenIn key taken) }
+        requires holds { AtFrame (arc_value frame)
+            (λ key. HoldsAll (J.meaning.net key.job) taken.turn) }
+        ensures ok { IfOk result (StepsRelease J.meaning
+            (release_in (arc_value frame) (release_of taken.turn)) backlog.old backlog.new) }
+        ensures err { OnErr result
+            ((backlog.new ≡ backlog.old)
+            ⊎ (backlog.new ≡ backlog_view (arc_value frame) backlog.old.fates)) }
+    {
+        backlog.batch.make_room(&frame)?;
+        let attempt = frame.attempt(taken)?;
+        let count = frame.room_for(&attempt);
+        let room = ReleaseRoom::new(backlog.alloc, &frame, count)?;
+        backlog.made.reserve(count)?;
+        frame.conclude(rt, attempt, &mut backlog.batch, &mut backlog.made);
         Ok(Stepped {
             released: room.hand_out(frame, &mut backlog.made),
             state: State::Went,
         })
     }
 
-    /// Gives what is in a backlog to the keeper of its frame, for whose lock it may wait, and leaves the backlog empty. With
-    /// the last turn of the frame the run is closed: exactly where the keeper found one live turn as it took the backlog in.
-    /// An `Err` comes only if an allocation fails. Then the backlog stays as it was, or it is empty and the run is never
-    /// closed.
+    /// Gives what is in a backlog to the keeper of its frame, for whose lock it may wait. With the last turn of the frame the
+    /// run is closed: exactly where the keeper found one live turn as it took the backlog in. An `Err` comes only if an
+    /// allocation fails. Then the backlog stays as it was, or nothing is in it and the run is never closed.
     pub fn bring<R: Wait>(rt: &R, backlog: &mut Backlog<J>) -> Result<Brought<J>, NoMemory>
         ensures ok { IfOk result (BringsFates J.meaning backlog.old.frames backlog.old.fates) }
-        ensures empty { OnOk result (backlog.new ≡ backlog_view [] []) }
+        ensures brought { OnOk result (backlog.new ≡ backlog_view backlog.old.frames []) }
         ensures err { OnErr result
-            ((backlog.new ≡ backlog.old) ⊎ (backlog.new ≡ backlog_view [] [])) }
+            ((backlog.new ≡ backlog.old) ⊎ (backlog.new ≡ backlog_view backlog.old.frames [])) }
     {
         backlog.batch.bring(rt)
+    }
+
+    /// Decides what becomes of the parked releases of the frame of a backlog that was brought, for whose lock it may wait. If
+    /// all that is left to do in the frame is parked, the first release goes on that is parked on a semaphore with a unit, and
+    /// is returned; or, where there is none or a start has faulted, all are dropped, and this is in the backlog then. Else they
+    /// wait, and the backlog is of no frame. If an allocation fails, what is parked may be given up, so that the run is
+    /// never closed.
+    pub fn settle<R: Wait>(rt: &R, backlog: &mut Backlog<J>) -> Result<Option<Release<J>>, NoMemory>
+        requires { backlog.old.fates ≡ [] }
+        ensures ok { IfOk result (SettlesFrame backlog.old.frames backlog.new) }
+        ensures err { OnErr result (backlog.new ≡ backlog_view [] []) }
+    {
+        backlog.batch.settle(rt)
     }
 
     // A frame in no other.
@@ -128,44 +221,168 @@ impl<J: Job + Drop> Frame<J> {
         ensures { IfOk result (λ frame. arc_value frame ≡ run ∷ []) }
     {
         let lock = KeyedLock::new(alloc, kept)?;
+        let yard = run.yard()?;
         let frame = Frame {
             alloc,
             run,
             lock,
+            yard,
             depth: 0,
             parent: None,
         };
         Ok(Arc::new(alloc, frame)?)
     }
 
-    // Takes up a release of the frame, and does the work of its task where it may start.
-    fn attempt(&self, fresh: Fresh<J::V>) -> Result<Attempt<J::V>, NoMemory>
-        requires { HasTable self.now fresh.table }
-        ensures attempt { IfOk result (IsAttemptAt J.meaning self.now) }
-        ensures release { IfOk result (λ attempt. TriesRelease self.now attempt fresh) }
+    // Takes up a release of the frame.
+    fn take_up(&self, ready: ReadyTurn<J::V>) -> Result<TakenUp<J::V>, NoMemory>
+        requires { HasTable self.now ready.table }
+        ensures taken { IfOk result (λ taken. AtFrame self.now (λ key. IsTakenIn key taken)) }
+        ensures none { IfOk result (λ taken. taken.turn.held ≡ []) }
+        ensures release { IfOk result (λ taken. release_of taken.turn ≡ ready) }
     {
-        self.run.attempt(fresh)
+        self.run.take_up(ready)
     }
 
-    // Ends the start, or records its Fault or the Drop, gathers the turn, and adds what it released to an empty list.
-    fn conclude(
+    // Takes the units of a turn of the frame.
+    fn take_units(&self, turn: Turn<J::V>) -> TakenUnits<J::V>
+        requires table { HasTable self.now turn.table }
+        requires none { (turn.refused ≡ None) × (turn.held ≡ []) }
+        ensures { AtFrame self.now (λ key. TakesUnits (J.meaning.net key.job) turn result) }
+    {
+        self.run.take_units(turn)
+    }
+
+    // How many semaphores the task of a turn takes.
+    fn count_takes(&self, turn: &Turn<J::V>) -> usize
+        ensures count { AtFrame self.now
+            (λ key. result ≡ length (taken_by (J.meaning.net key.job) turn.now.task)) }
+        ensures few { result < 2 ^ 63 }
+    {
+        self.run.count_takes(turn)
+    }
+
+    // Looks once more for the unit that a turn lacks, under the lock of what is parked, and parks it if there is none.
+    fn park_turn<R: Wait>(
         &self,
+        rt: &R,
+        turn: Turn<J::V>,
+        place: usize,
+        made: &mut Vec<ReadyTurn<J::V>>,
+    ) -> Result<Parking<J::V>, NoMemory>
+        requires turn { HasTable self.now turn.table × (turn.refused ≡ None) }
+        requires lacks { AtFrame self.now (λ key. LacksUnit (J.meaning.net key.job) place turn) }
+        requires room { AtFrame self.now (λ key. vec_len made.old
+            + length (taken_by (J.meaning.net key.job) turn.task) ≤ vec_capacity made.old) }
+        ensures parks { IfOk result (λ parking. AtFrame self.now (λ key. ParksTurn
+            (table_in J.meaning key) turn parking made.old.items made.new.items)) }
+        ensures err { OnErr result (made.new.items ≡ made.old.items) }
+        ensures capacity { vec_capacity made.new ≡ vec_capacity made.old }
+        ensures few { AtFrame self.now (λ key. vec_len made.new
+            ≤ vec_len made.old + length (taken_by (J.meaning.net key.job) turn.task)) }
+    {
+        let Held {
+            value: mut yard,
+            pass,
+        } = self.yard.lock(rt);
+        let parking = self.run.park(&mut yard, turn, place, made);
+        self.yard.unlock(Held { value: yard, pass });
+        parking
+    }
+
+    // Does the work of a release of the frame that has its units.
+    fn attempt(&self, taken: TakenUp<J::V>) -> Result<Attempt<J::V>, NoMemory>
+        requires taken { AtFrame self.now (λ key. IsTakenIn key taken) }
+        requires holds { AtFrame self.now (λ key. HoldsAll (J.meaning.net key.job) taken.turn) }
+        ensures attempt { IfOk result (IsAttemptAt J.meaning self.now) }
+        ensures release { IfOk result
+            (λ attempt. TriesRelease self.now attempt (release_of taken.turn)) }
+    {
+        self.run.attempt(taken)
+    }
+
+    // How many releases can come of an attempt, those included that wait for its units.
+    fn room_for(&self, attempt: &Attempt<J::V>) -> usize
+        ensures { AtFrame self.now
+            (λ key. result ≡ room_due attempt.now
+            + length (units_due (J.meaning.net key.job) attempt.now.outcome)) }
+    {
+        attempt.room() + self.run.units_back(&attempt.outcome).len()
+    }
+
+    // Ends the start, or records its Fault or the Drop, gathers the turn, and adds what it released to an empty list, at last
+    // what it woke.
+    fn conclude<R: Wait>(
+        &self,
+        rt: &R,
         attempt: Attempt<J::V>,
         batch: &mut FrameBatch<J>,
-        made: &mut Vec<Fresh<J::V>>,
+        made: &mut Vec<ReadyTurn<J::V>>,
     )
         requires attempt { IsAttemptAt J.meaning self.now attempt }
         requires frames { batch.old.backlog.frames ≡ self.now }
         requires room { length batch.old.backlog.fates < batch.old.room }
         requires none { made.old.items ≡ [] }
-        requires capacity { vec_len made.old + room_due attempt ≤ vec_capacity made.old }
+        requires capacity { AtFrame self.now (λ key. vec_len made.old + room_due attempt
+            + length (units_due (J.meaning.net key.job) attempt.outcome) ≤ vec_capacity made.old) }
         ensures concludes { Concludes J.meaning self.now attempt batch.old.backlog
             batch.new.backlog made.new.items }
         ensures fresh { All (λ (f : FreshState). HasTable self.now f.table) made.new.items }
-        ensures few { vec_len made.new ≤ vec_len made.old + room_due attempt }
+        ensures few { AtFrame self.now (λ key. vec_len made.new ≤ vec_len made.old
+            + room_due attempt
+            + length (units_due (J.meaning.net key.job) attempt.outcome)) }
     {
+        let back = self.run.units_back(&attempt.outcome);
         let spent = self.run.conclude(attempt, made);
         batch.add(&self.run, spent);
+        self.wake(rt, back, made);
+    }
+
+    // Wakes what waits for units that are back.
+    fn wake<R: Wait>(&self, rt: &R, sems: &[u32], made: &mut Vec<ReadyTurn<J::V>>)
+        requires sems { AtFrame self.now
+            (λ key. AreSemaphoresOf (J.meaning.net key.job) sems.now) }
+        requires room { vec_len made.old + length sems.now ≤ vec_capacity made.old }
+        ensures wakes { AtFrame self.now (λ key. Wakes (table_in J.meaning key) sems.now
+            made.old.items made.new.items) }
+        ensures few { vec_len made.new ≤ vec_len made.old + length sems.now }
+    {
+        if sems.is_empty() {
+            return;
+        }
+        let Held {
+            value: mut yard,
+            pass,
+        } = self.yard.lock(rt);
+        wake_turns(&mut yard, sems, made);
+        self.yard.unlock(Held { value: yard, pass });
+    }
+
+    // Decides what becomes of what is parked.
+    pub(crate) fn settle_parked<R: Wait>(&self, rt: &R) -> Result<Settled<J::V>, NoMemory>
+        ensures { IfOk result (λ settled. AtFrame self.now
+            (λ key. Settles (table_in J.meaning key) settled)) }
+    {
+        if !self.run.has_semaphores() {
+            return Ok(Settled::Waits);
+        }
+        let Held {
+            value: mut yard,
+            pass,
+        } = self.yard.lock(rt);
+        let settled = self.run.settle(&mut yard);
+        self.yard.unlock(Held { value: yard, pass });
+        settled
+    }
+
+    // Adds a turn of dropped releases to a batch of the frame, which has room for it.
+    pub(crate) fn gather(&self, batch: &mut SpentBatch<J::V>, spent: Spent<J::V>)
+        requires batch { IsBatchIn J.meaning self.now batch.old }
+        requires spent { HasTable self.now spent.table × AreDrops spent.fate }
+        requires room { length batch.old.fates < batch.old.room }
+        ensures batch { IsBatchIn J.meaning self.now batch.new }
+        ensures fates { batch.new.fates ≡ batch.old.fates ++ spent.fate ∷ [] }
+    {
+        self.run.gather(batch, spent);
     }
 
     // Gives turns of the frame to the keeper. With the last turn the run is given out, and the lock is left without a value:

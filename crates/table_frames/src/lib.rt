@@ -1,9 +1,13 @@
 //! Runs over a table of atomic words, by one thread and by many.
 //!
 //! A `Frame` is a run of a job. What is left to do in it is handed out as `Release`s, and whoever has one may take its step
-//! on any thread, side by side with the others: it is taken from its tokens to the releases that follow, through admission,
-//! Start, the task's work, and End, Fault or Drop. No step waits or takes a lock (`join_tables`). Before a step draws the
-//! place of an End it has all memory that it needs from there on.
+//! on any thread, side by side with the others: it is taken from its tokens to the releases that follow, through its units,
+//! admission, Start, the task's work, and End, Fault or Drop (`join_tables`). Before a step draws the place of an End it has
+//! all memory that it needs from there on.
+//!
+//! A release that finds no unit of a semaphore is parked (`semaphore_turns`), and wakes up among the releases that a later step
+//! makes. A step takes the lock of what is parked only where units are wanted or came back, and no other lock. Where a worker
+//! has nothing else to do, and has brought what it did, `Frame::settle` looks whether all that is left is parked.
 //!
 //! What became of the releases is for the frame's keeper, which stands behind a lock. A worker needn't take that lock for
 //! each step: its `Backlog` has what its steps have done, and `Frame::bring` hands it to the keeper, at the latest where
@@ -14,8 +18,8 @@
 //!
 //! # The parts
 //!
-//! A `TableRun` is a job with the table of its net. It takes up a release and does its work (`attempt`), which leaves nothing
-//! but the Start in the journal, and then draws the End, Fault or Drop (`conclude`). A `RunKeeper` has the keeper of a run; all
+//! A `TableRun` is a job with the table of its net. It takes up a release (`take_up`) and its units (`take_units`), does its
+//! work (`attempt`), which leaves nothing but the Start in the journal, and then draws the End, Fault or Drop (`conclude`). A `RunKeeper` has the keeper of a run; all
 //! that it took in is allowed by the job, so that the run that it hands out may be kept. `FrameBatch` is the part of a backlog
 //! that is brought.
 //!
@@ -23,9 +27,9 @@
 //!
 //! The layer above sees a release as the keys of its frame and of the frames around it, its task and its cause
 //! (`specs/Frames.antt`). The last of these frames has the job of the whole run. What a beginning and a step come to is in
-//! `specs/Steps.antt`: which fate a release came to, that its job allows it, and which releases it made. Which edges made none
-//! is known to the table alone. What a bringing comes to is in `specs/BacklogResults.antt`: the run is closed exactly where the
-//! keeper found one live turn. No frame is inside another yet, and no release is parked.
+//! `specs/Steps.antt`: which fate a release came to, that its job allows it, and which releases it made, or that it is parked.
+//! Which edges made none is known to the table alone. What a bringing and a settling come to is in `specs/BacklogResults.antt`:
+//! the run is closed exactly where the keeper found one live turn. No frame is inside another yet.
 #![tactic(auto)]
 
 mod alone;

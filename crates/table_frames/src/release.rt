@@ -9,6 +9,7 @@ use join_tables::{Fresh, Turn};
 use journal_rules::Cause;
 use outside_io::NoMemory;
 use run_frame::Job;
+use semaphore_turns::{ReadyKind, ReadyTurn};
 use std::alloc::Global;
 use std::marker::Model;
 use std::sync::Arc;
@@ -17,7 +18,7 @@ use std::sync::Arc;
 #[derive(Drop)]
 pub struct Release<J: Job> {
     pub(crate) frame: Arc<Frame<J>>,
-    pub(crate) fresh: Fresh<J::V>,
+    pub(crate) ready: ReadyTurn<J::V>,
 }
 
 impl<J: Job> Model for Release<J> {
@@ -29,16 +30,16 @@ impl<J: Job> Model for Release<J> {
     ghost use Rattle.std.specs.Arc.{arc_value};
     ghost use Rattle.table_frames.specs.Frames.{HasTable, release_in};
 
-    ghost view = { λ release. release_in (arc_value release.frame) release.fresh };
+    ghost view = { λ release. release_in (arc_value release.frame) release.ready };
 
-    ghost invariant = { λ release. HasTable (arc_value release.frame) release.fresh.table };
+    ghost invariant = { λ release. HasTable (arc_value release.frame) release.ready.table };
 }
 
 /// The turn of a table that holds a release.
 pub enum HeldBy<'r, V> {
     /// One that has not been taken up.
     Fresh(&'r Fresh<V>),
-    /// One that was parked. No frame parks a release yet.
+    /// One that was parked.
     Turn(&'r Turn<V>),
 }
 
@@ -50,14 +51,14 @@ impl<J: Job + Drop> Release<J> {
     pub fn task(&self) -> u32
         ensures { result ≡ self.now.task }
     {
-        self.fresh.task()
+        self.ready.task()
     }
 
     /// By what it is released.
     pub fn cause(&self) -> Cause
         ensures { result ≡ self.now.cause }
     {
-        self.fresh.cause()
+        self.ready.cause()
     }
 
     /// How many frames its frame is inside, up to the greatest `u32`.
@@ -71,7 +72,10 @@ impl<J: Job + Drop> Release<J> {
     pub fn held(&self) -> HeldBy<'_, J::V>
         ensures { HoldsRelease self.now result }
     {
-        HeldBy::Fresh(&self.fresh)
+        match self.ready.kind() {
+            ReadyKind::Fresh(fresh) => HeldBy::Fresh(fresh),
+            ReadyKind::Woken(turn) => HeldBy::Turn(turn),
+        }
     }
 }
 
@@ -105,7 +109,7 @@ impl<J: Job + Drop> ReleaseRoom<J> {
     pub(crate) fn hand_out(
         self,
         frame: Arc<Frame<J>>,
-        made: &mut Vec<Fresh<J::V>>,
+        made: &mut Vec<ReadyTurn<J::V>>,
     ) -> Vec<Release<J>>
         requires room { HasRoom (arc_value frame) (vec_len made.old) self }
         requires fresh { All (λ (f : FreshState). HasTable (arc_value frame) f.table)
@@ -123,13 +127,13 @@ impl<J: Job + Drop> ReleaseRoom<J> {
             let Some(frame) = others.pop() else {
                 unreachable!()
             };
-            let Some(fresh) = made.pop() else {
+            let Some(ready) = made.pop() else {
                 unreachable!()
             };
-            releases.push_reserved(Release { frame, fresh });
+            releases.push_reserved(Release { frame, ready });
         }
-        if let Some(fresh) = made.pop() {
-            releases.push_reserved(Release { frame, fresh });
+        if let Some(ready) = made.pop() {
+            releases.push_reserved(Release { frame, ready });
         }
         releases.reverse();
         releases

@@ -1,6 +1,6 @@
 // What a beginning, a step and a bringing come to.
 use super::release::Release;
-use join_tables::Keeper;
+use join_tables::{Keeper, Turn};
 use run_frame::{FrameRun, Job};
 use std::snapshot::Snapshot;
 
@@ -24,8 +24,8 @@ pub struct Brought<J: Job> {
 pub enum State<J: Job> {
     /// It goes on.
     Went,
-    /// The release waits for a unit of a semaphore. No frame answers this yet.
-    Parked,
+    /// The release waits for a unit of a semaphore. The turn is for clauses alone.
+    Parked(Snapshot<Turn<J::V>>),
     /// A run inside it has begun. No frame answers this yet.
     Inner,
     /// Nothing is left to do. The run is complete.

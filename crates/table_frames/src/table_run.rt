@@ -1,5 +1,5 @@
 // A job with the table of its net, and what is done with a release of it. None of it waits or takes a lock.
-ghost use Rattle.std.specs.Prelude.{◌≡◌, ◌<◌, ◌≤◌, ◌+◌, ◌++◌, ◌∷◌, [], length, map, None, Some, IfOk, OnOk, OnErr};
+ghost use Rattle.std.specs.Prelude.{◌≡◌, ◌<◌, ◌≤◌, ◌+◌, ◌^◌, ◌++◌, ◌∷◌, [], length, map, None, Some, IfOk, OnOk, OnErr};
 ghost use Rattle.std.specs.Vec.{vec_capacity, vec_len};
 ghost use Rattle.std.specs.Arc.{arc_value};
 ghost use Rattle.join_words.specs.Ins.{found_of, parts_of};
@@ -11,7 +11,18 @@ ghost use Rattle.join_tables.specs.Keeping.{IsLast, LeavesOf, TellsRun, entries_
 ghost use Rattle.run_frame.specs.FlatNets.{IsFlatNet};
 ghost use Rattle.table_steps.specs.ParcelForms.{MayBeBare};
 ghost use Rattle.run_frame.specs.declared.job.Done.{Done as DoneBy};
+ghost use Rattle.task_graph.specs.Net.{AreSemaphoresOf};
+ghost use Rattle.join_tables.specs.Claims.{HasClaimed, HasCredited};
+ghost use Rattle.semaphore_park.specs.Parking.{yard_key};
+ghost use Rattle.semaphore_park.specs.Yards.{opened_as};
+ghost use Rattle.semaphore_turns.specs.Semaphores.{taken_by};
+ghost use Rattle.semaphore_turns.specs.HeldUnits.{HoldsAll, LacksUnit, TakesUnits};
+ghost use Rattle.semaphore_turns.specs.WaitingTurns.{release_of, yard_of};
+ghost use Rattle.semaphore_turns.specs.WokenTurns.{ParksTurn};
+ghost use Rattle.semaphore_turns.specs.Settlements.{Settles};
+ghost use Rattle.table_frames.specs.AllowedFates.{IsAllowed};
 ghost use Rattle.table_frames.specs.StepReleases.{GivesEdges, IsFateOf, Uses, given_by};
+ghost use Rattle.table_frames.specs.inside.Attempts.{again_list};
 ghost use Rattle.table_frames.specs.inside.Runs.{AreOf, IsBatchOf, IsDone, IsNoBatch, MayWork};
 
 use super::attempt::{Attempt, Ending, Outcome};
@@ -21,9 +32,15 @@ use join_tables::{
     Admitted, Collected, Fresh, Gave, NetTable, Opening, Owing, Remaining, Running, Spent,
     SpentBatch, Turn,
 };
-use journal_rules::DropWhy;
+use journal_rules::{DropWhy, Why};
 use outside_io::NoMemory;
-use run_frame::{Done, Job, JobError};
+use run_frame::{Answer, Done, Job, JobError};
+use semaphore_park::ParkYard;
+use semaphore_turns::{
+    ClaimedUnits, ParkedTurn, Parking, ReadyKind, ReadyTurn, Settled, TakenUnits, TurnYard,
+    claim_units, credit_units, park_turn, put_back_units, puts_of, return_units, settle,
+    take_units, takes_of,
+};
 use std::alloc::Global;
 use std::marker::Model;
 use std::sync::Arc;
@@ -66,22 +83,22 @@ impl<J: Job> Model for TableRun<J> {
 #[derive(Drop)]
 pub struct Begun<J: Job> {
     pub run: TableRun<J>,
-    pub fresh: Vec<Fresh<J::V>>,
+    pub fresh: Vec<ReadyTurn<J::V>>,
     pub kept: RunKeeper<J>,
 }
 
 /// A release that has collected its tokens, and the next release of its task, by tokens that were left.
 #[derive(Drop)]
-struct TakenUp<V> {
-    turn: Turn<V>,
-    again: Option<Fresh<V>>,
+pub struct TakenUp<V> {
+    pub turn: Turn<V>,
+    pub again: Option<Fresh<V>>,
 }
 
 impl<J: Job + Drop> TableRun<J> {
-    ghost use Rattle.table_frames.specs.Frames.{key_of};
+    ghost use Rattle.table_frames.specs.Frames.{key_of, table_in};
     ghost use Rattle.table_frames.specs.inside.Begins.{Begins};
     ghost use Rattle.table_frames.specs.inside.CollectedRelease.{TakesUp};
-    ghost use Rattle.table_frames.specs.inside.Attempts.{IsAttemptIn, IsOutcomeIn, MayEnd, edges_due, release_tried, room_due};
+    ghost use Rattle.table_frames.specs.inside.Attempts.{IsAgain, IsAttemptIn, IsOutcomeIn, MayEnd, edges_due, release_tried, room_due, units_due};
 
     /// A run that has made no step.
     pub fn begin(alloc: Global, job: Arc<J>) -> Result<Begun<J>, NoMemory>
@@ -96,26 +113,127 @@ impl<J: Job + Drop> TableRun<J> {
             keeper,
         } = NetTable::new(alloc, net, limit)?;
         let kept = RunKeeper::new(alloc, Arc::try_clone(&job)?, keeper);
+        let fresh = ready_turns(alloc, fresh)?;
         let run = TableRun { alloc, job, table };
         Ok(Begun { run, fresh, kept })
     }
 
-    /// Takes up a release, and does the work of its task where it may start. Of what comes of it nothing but the Start is in
-    /// the journal yet.
-    pub fn attempt(&self, fresh: Fresh<J::V>) -> Result<Attempt<J::V>, NoMemory>
-        requires { fresh.table ≡ self.now.table }
+    /// Takes up a release and collects its tokens, unless it was parked and has them. Where more tokens are there, the task is
+    /// released again.
+    pub fn take_up(&self, ready: ReadyTurn<J::V>) -> Result<TakenUp<J::V>, NoMemory>
+        requires { ready.table ≡ self.now.table }
+        ensures { IfOk result (TakesUp self.now.table ready) }
+    {
+        match ready.into_kind() {
+            ReadyKind::Fresh(fresh) => self.collect(fresh),
+            ReadyKind::Woken(turn) => Ok(TakenUp { turn, again: None }),
+        }
+    }
+
+    /// Takes a unit of each semaphore that the task of a turn takes, until one has none.
+    pub fn take_units(&self, turn: Turn<J::V>) -> TakenUnits<J::V>
+        requires table { turn.table ≡ self.now.table }
+        requires none { (turn.refused ≡ None) × (turn.held ≡ []) }
+        ensures { TakesUnits (J.meaning.net self.now.job) turn result }
+    {
+        take_units(&self.table, self.job.net(), turn, 0)
+    }
+
+    /// How many semaphores the task of a turn takes.
+    pub fn count_takes(&self, turn: &Turn<J::V>) -> usize
+        ensures count { result ≡ length (taken_by (J.meaning.net self.now.job) turn.now.task) }
+        ensures few { result < 2 ^ 63 }
+    {
+        takes_of(self.job.net(), turn.task()).len()
+    }
+
+    /// Parks a turn that found no unit of the semaphore at a place among those that its task takes, unless it finds one now.
+    /// If an allocation fails the turn is given up.
+    pub fn park(
+        &self,
+        yard: &mut TurnYard<J::V>,
+        turn: Turn<J::V>,
+        place: usize,
+        made: &mut Vec<ReadyTurn<J::V>>,
+    ) -> Result<Parking<J::V>, NoMemory>
+        requires yard { yard_key yard.old ≡ yard_of (table_in J.meaning self.now) }
+        requires turn { (turn.table ≡ self.now.table) × (turn.refused ≡ None) }
+        requires lacks { LacksUnit (J.meaning.net self.now.job) place turn }
+        requires room { vec_len made.old
+            + length (taken_by (J.meaning.net self.now.job) turn.task) ≤ vec_capacity made.old }
+        ensures yard { yard_key yard.new ≡ yard_of (table_in J.meaning self.now) }
+        ensures parks { IfOk result (λ parking. ParksTurn (table_in J.meaning self.now) turn parking
+            made.old.items made.new.items) }
+        ensures err { OnErr result (made.new.items ≡ made.old.items) }
+        ensures capacity { vec_capacity made.new ≡ vec_capacity made.old }
+        ensures few { vec_len made.new
+            ≤ vec_len made.old + length (taken_by (J.meaning.net self.now.job) turn.task) }
+    {
+        park_turn(&self.table, self.job.net(), yard, turn, place, made)
+    }
+
+    /// Decides what becomes of the parked turns.
+    pub fn settle(&self, yard: &mut TurnYard<J::V>) -> Result<Settled<J::V>, NoMemory>
+        requires yard { yard_key yard.old ≡ yard_of (table_in J.meaning self.now) }
+        ensures yard { yard_key yard.new ≡ yard_of (table_in J.meaning self.now) }
+        ensures settles { IfOk result (Settles (table_in J.meaning self.now)) }
+    {
+        settle(&self.table, self.job.net(), self.alloc, yard)
+    }
+
+    /// Whether the net has a semaphore.
+    pub fn has_semaphores(&self) -> bool {
+        !self.job.net().sems().is_empty()
+    }
+
+    /// A yard for the turns of the run, behind a lock.
+    pub fn yard(&self) -> Result<ParkYard<ParkedTurn<J::V>>, NoMemory>
+        ensures { IfOk result
+            (λ yard. yard_key (opened_as yard) ≡ yard_of (table_in J.meaning self.now)) }
+    {
+        ParkYard::new(self.alloc, self.job.net().sems().len(), &self.table)
+    }
+
+    /// One of a caller's own.
+    pub fn own_yard(&self) -> Result<TurnYard<J::V>, NoMemory>
+        ensures { IfOk result
+            (λ yard. yard_key yard ≡ yard_of (table_in J.meaning self.now)) }
+    {
+        TurnYard::new(self.alloc, self.job.net().sems().len(), &self.table)
+    }
+
+    /// Does the work of a release that has its tokens and units, where its task may start. Of what comes of it nothing but the
+    /// Start is in the journal yet.
+    pub fn attempt(&self, taken: TakenUp<J::V>) -> Result<Attempt<J::V>, NoMemory>
+        requires table { taken.turn.table ≡ self.now.table }
+        requires refused { taken.turn.refused ≡ None }
+        requires held { HoldsAll (J.meaning.net self.now.job) taken.turn }
+        requires again { IsAgain self.now.table taken.turn.task taken.turn.cause taken.again }
         ensures attempt { IfOk result (IsAttemptIn J.meaning self.now) }
         ensures release { IfOk result
-            (λ attempt. release_tried self.now.table attempt.outcome ≡ fresh) }
+            (λ attempt. release_tried self.now.table attempt.outcome ≡ release_of taken.turn) }
     {
-        let TakenUp { turn, again } = self.take_up(fresh)?;
+        let TakenUp { turn, again } = taken;
         let outcome = self.start(turn)?;
         Ok(Attempt { outcome, again })
     }
 
+    /// The semaphores of which a unit is back when an attempt is concluded.
+    pub fn units_back<'a>(&'a self, outcome: &Outcome<J::V>) -> &'a [u32]
+        ensures back { result.now ≡ units_due (J.meaning.net self.now.job) outcome.now }
+        ensures sems { AreSemaphoresOf (J.meaning.net self.now.job) result.now }
+    {
+        let net: &Net = self.job.net();
+        match outcome {
+            Outcome::Ends(ending) => puts_of(net, ending.running.task()),
+            Outcome::Faults(_, _) => &[],
+            Outcome::Drops(turn, _) => takes_of(net, turn.task()),
+        }
+    }
+
     /// Ends the start, or records its Fault or the Drop, and adds the releases that follow to those that were made. It takes
     /// no memory.
-    pub fn conclude(&self, attempt: Attempt<J::V>, made: &mut Vec<Fresh<J::V>>) -> Spent<J::V>
+    pub fn conclude(&self, attempt: Attempt<J::V>, made: &mut Vec<ReadyTurn<J::V>>) -> Spent<J::V>
         requires attempt { IsAttemptIn J.meaning self.now attempt }
         requires made { AreOf self.now.table made.old.items }
         requires room { vec_len made.old + room_due attempt ≤ vec_capacity made.old }
@@ -125,11 +243,12 @@ impl<J: Job + Drop> TableRun<J> {
             made.new.items }
         ensures made { AreOf self.now.table made.new.items }
         ensures few { vec_len made.new ≤ vec_len made.old + room_due attempt }
+        ensures capacity { vec_capacity made.new ≡ vec_capacity made.old }
     {
         let Attempt { outcome, again } = attempt;
         let spent = self.close(outcome, made);
         if let Some(again) = again {
-            made.push_reserved(again);
+            made.push_reserved(ReadyTurn::fresh(again));
         }
         spent
     }
@@ -137,7 +256,8 @@ impl<J: Job + Drop> TableRun<J> {
     /// Adds a turn that is done to a batch, which has room for it.
     pub fn gather(&self, batch: &mut SpentBatch<J::V>, spent: Spent<J::V>)
         requires batch { IsBatchOf J.meaning self.now batch.old }
-        requires spent { IsDone J.meaning self.now spent }
+        requires table { spent.table ≡ self.now.table }
+        requires allowed { IsAllowed J.meaning self.now.job spent.fate }
         requires room { length batch.old.fates < batch.old.room }
         ensures batch { IsBatchOf J.meaning self.now batch.new }
         ensures some { batch.new.table ≡ Some self.now.table }
@@ -169,8 +289,8 @@ impl<J: Job + Drop> TableRun<J> {
         kept.absorb(&self.table, batch)
     }
 
-    // Takes up a release and collects its tokens. Where more are there, the task is released again.
-    fn take_up(&self, fresh: Fresh<J::V>) -> Result<TakenUp<J::V>, NoMemory>
+    // Collects the tokens of a new release. Where more are there, the task is released again.
+    fn collect(&self, fresh: Fresh<J::V>) -> Result<TakenUp<J::V>, NoMemory>
         requires { fresh.table ≡ self.now.table }
         ensures { IfOk result (TakesUp self.now.table fresh) }
     {
@@ -189,20 +309,28 @@ impl<J: Job + Drop> TableRun<J> {
         }
     }
 
-    // Starts the task and does its work, unless it may not start.
+    // Starts the task and does its work, unless it may not start. Then the units are put back.
     fn start(&self, turn: Turn<J::V>) -> Result<Outcome<J::V>, NoMemory>
         requires table { turn.table ≡ self.now.table }
         requires refused { turn.refused ≡ None }
-        requires held { turn.held ≡ [] }
+        requires held { HoldsAll (J.meaning.net self.now.job) turn }
         ensures outcome { IfOk result (IsOutcomeIn J.meaning self.now) }
         ensures release { IfOk result
-            (λ outcome. release_tried self.now.table outcome
-            ≡ fresh_state turn.table turn.task turn.cause) }
+            (λ outcome. release_tried self.now.table outcome ≡ release_of turn) }
     {
+        let net: &Net = self.job.net();
         match self.table.admit(turn) {
-            Admitted::Go(ticket) => self.work(self.table.start(ticket)),
-            Admitted::Over(turn) => Ok(Outcome::Drops(turn, DropWhy::Limit)),
-            Admitted::Halted(turn) => Ok(Outcome::Drops(turn, DropWhy::Halted)),
+            Admitted::Go(ticket) => {
+                self.work(credit_units(&self.table, net, self.table.start(ticket)))
+            }
+            Admitted::Over(turn) => {
+                let turn = put_back_units(&self.table, net, turn);
+                Ok(Outcome::Drops(turn, DropWhy::Limit))
+            }
+            Admitted::Halted(turn) => {
+                let turn = put_back_units(&self.table, net, turn);
+                Ok(Outcome::Drops(turn, DropWhy::Halted))
+            }
         }
     }
 
@@ -218,14 +346,14 @@ impl<J: Job + Drop> TableRun<J> {
         let net: &Net = self.job.net();
         let _rows = net.tasks();
         match self.job.run(self.alloc, running.task(), running.ins()) {
-            Ok(done) => self.ending(net, running, done),
+            Ok(done) => self.claim(net, running, done),
             Err(JobError::Fault(why)) => Ok(Outcome::Faults(running, why)),
             Err(JobError::NoMemory) => Err(NoMemory),
         }
     }
 
-    // What a start needs for its End, by what its work has come to.
-    fn ending(
+    // Claims the units that the End of a start is to give back, by what its work has come to. A claim that is refused is a Fault.
+    fn claim(
         &self,
         net: &Net,
         running: Running<J::V>,
@@ -246,21 +374,47 @@ impl<J: Job + Drop> TableRun<J> {
             ≡ fresh_state running.table running.task running.cause) }
     {
         match done {
-            Done::Value(value, answer) => {
-                let gives = edges_given(self.alloc, net, running.task(), &answer)?;
-                let value = self.table.share(self.alloc, value, gives.len())?;
-                Ok(Outcome::Ends(Ending {
-                    running,
-                    gives,
-                    value,
-                }))
-            }
+            Done::Value(value, answer) => match claim_units(&self.table, net, running) {
+                ClaimedUnits::All(running) => self.ending(net, running, value, answer),
+                ClaimedUnits::Refused(running, sem) => {
+                    Ok(Outcome::Faults(running, Why::OverRelease(sem)))
+                }
+            },
             Done::Inner(_) => unreachable!(),
         }
     }
 
+    // What a start needs for its End with this value.
+    fn ending(
+        &self,
+        net: &Net,
+        running: Running<J::V>,
+        value: J::V,
+        answer: Answer,
+    ) -> Result<Outcome<J::V>, NoMemory>
+        requires net { net.now ≡ J.meaning.net self.now.job }
+        requires in_range { running.task < length net.now.tasks }
+        requires table { running.table ≡ self.now.table }
+        requires credited { HasCredited net.now running.task running.units }
+        requires claimed { HasClaimed net.now running.task running.units }
+        requires answers { J.meaning.answers self.now.job running.task
+            (map found_of (parts_of running.ins)) (DoneBy.Value value answer) }
+        ensures outcome { IfOk result (IsOutcomeIn J.meaning self.now) }
+        ensures release { IfOk result
+            (λ outcome. release_tried self.now.table outcome
+            ≡ fresh_state running.table running.task running.cause) }
+    {
+        let gives = edges_given(self.alloc, net, running.task(), &answer)?;
+        let value = self.table.share(self.alloc, value, gives.len())?;
+        Ok(Outcome::Ends(Ending {
+            running,
+            gives,
+            value,
+        }))
+    }
+
     // Ends the start, or records its Fault or the Drop.
-    fn close(&self, outcome: Outcome<J::V>, made: &mut Vec<Fresh<J::V>>) -> Spent<J::V>
+    fn close(&self, outcome: Outcome<J::V>, made: &mut Vec<ReadyTurn<J::V>>) -> Spent<J::V>
         requires outcome { IsOutcomeIn J.meaning self.now outcome }
         requires made { AreOf self.now.table made.old.items }
         requires room { vec_len made.old + edges_due outcome ≤ vec_capacity made.old }
@@ -280,8 +434,8 @@ impl<J: Job + Drop> TableRun<J> {
         }
     }
 
-    // Ends a start and gives what the End owes.
-    fn end(&self, ending: Ending<J::V>, made: &mut Vec<Fresh<J::V>>) -> Spent<J::V>
+    // Ends a start and gives what the End owes, first the units.
+    fn end(&self, ending: Ending<J::V>, made: &mut Vec<ReadyTurn<J::V>>) -> Spent<J::V>
         requires ending { MayEnd J.meaning self.now ending }
         requires made { AreOf self.now.table made.old.items }
         requires room { vec_len made.old + length ending.gives ≤ vec_capacity made.old }
@@ -298,11 +452,14 @@ impl<J: Job + Drop> TableRun<J> {
             gives,
             value,
         } = ending;
-        self.pay(self.table.end(running, gives, value, false), made)
+        let task = running.task();
+        let owing = self.table.end(running, gives, value, false);
+        let owing = return_units(&self.table, self.job.net(), owing, task);
+        self.pay(owing, made)
     }
 
     // Gives all edges that an end owes.
-    fn pay(&self, owing: Owing<J::V>, made: &mut Vec<Fresh<J::V>>) -> Spent<J::V>
+    fn pay(&self, owing: Owing<J::V>, made: &mut Vec<ReadyTurn<J::V>>) -> Spent<J::V>
         requires table { owing.table ≡ self.now.table }
         requires no_unit { owing.units ≡ [] }
         requires parcels { MayBeBare (J.meaning.net self.now.job) owing.bare }
@@ -322,10 +479,33 @@ impl<J: Job + Drop> TableRun<J> {
                 Gave::Next(next) => owing = next,
                 Gave::Released(next, fresh) => {
                     owing = next;
-                    made.push_reserved(fresh);
+                    made.push_reserved(ReadyTurn::fresh(fresh));
                 }
                 Gave::Finished(spent) => return spent,
             }
         }
+    }
+}
+
+// New releases that may be taken up.
+fn ready_turns<V: Drop>(alloc: Global, fresh: Vec<Fresh<V>>) -> Result<Vec<ReadyTurn<V>>, NoMemory>
+    ensures { IfOk result (λ ready. ready.items ≡ fresh.items) }
+{
+    let mut ready = Vec::with_capacity(alloc, fresh.len())?;
+    for one in fresh {
+        ready.push_reserved(ReadyTurn::fresh(one));
+    }
+    Ok(ready)
+}
+
+/// Adds the next release of a task, if there is one.
+pub fn add_again<V: Drop>(made: &mut Vec<ReadyTurn<V>>, again: Option<Fresh<V>>)
+    requires { vec_len made.old + 1 ≤ vec_capacity made.old }
+    ensures made { made.new.items ≡ made.old.items ++ again_list again }
+    ensures few { vec_len made.new ≤ vec_len made.old + 1 }
+    ensures capacity { vec_capacity made.new ≡ vec_capacity made.old }
+{
+    if let Some(again) = again {
+        made.push_reserved(ReadyTurn::fresh(again));
     }
 }

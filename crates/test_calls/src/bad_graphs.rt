@@ -9,8 +9,23 @@ pub const TABLES: [Table; 1] = [Table {
 {"tasks":[]} x -> not JSON
 [] -> bad field tasks in file
 {"tasks":[7]} -> bad field tasks in file
-{"tasks":[],"version":2} -> bad field version in file
+{"tasks":[],"version":3} -> bad field version in file
+{"version":2,"tasks":[],"version":0} -> bad field version in file
+{"tasks":[],"version":"2"} -> bad field version in file
 {"tasks":[],"semaphores":[7]} -> bad field semaphores in file
+{"tasks":[],"semaphores":[{"name":"s"}]} -> bad field max in semaphore 0
+{"tasks":[],"semaphores":[{"name":"s","max":1},{"name":"u","max":0}]} -> bad field max in semaphore 1
+{"tasks":[],"semaphores":[{"name":"s","max":1000001}]} -> bad field max in semaphore 0
+{"tasks":[{}],"semaphores":[{"name":"s","max":1,"min":0}]} -> bad field min in semaphore 0
+{"tasks":[],"semaphores":[{"name":"s","max":1},{"name":"s","max":2}]} -> repeated name in name of semaphore 1
+{"tasks":[{"name":"a","op":"input","holds":["u"]}],"semaphores":[{"name":"s","max":1}]} -> no such name in holds of task 0
+{"tasks":[{"name":"a","op":"input","holds":["s","s"]}],"semaphores":[{"name":"s","max":1}]} -> repeated name in holds of task 0
+{"tasks":[{"name":"a","op":"input","holds":["s t"]}],"semaphores":[{"name":"s","max":1}]} -> bad field holds in task 0
+{"version":2,"tasks":[{"name":"a","op":"input","holds":[]}]} -> bad field holds in task 0
+{"tasks":[{"name":"a","op":"input","acquire":[]}]} -> bad field acquire in task 0
+{"version":1,"tasks":[{"name":"a","op":"input","release":[]}]} -> bad field release in task 0
+{"version":2,"tasks":[{"name":"a","op":"input","acquire":["s"],"release":["u"]}],"semaphores":[{"name":"s","max":1}]} -> no such name in release of task 0
+{"version":2,"tasks":[{"name":"a","op":"input","release":["s","s"]}],"semaphores":[{"name":"s","max":1}]} -> repeated name in release of task 0
 {"tasks":[],"z":1,"b":2} -> bad field b in file
 {"tasks":[{"name":"a b","op":"count"}]} -> bad field name in task 0
 {"tasks":[{"name":"a","op":"count"},{"name":"b","op":"walk"}]} -> bad field op in task 1

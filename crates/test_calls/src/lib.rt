@@ -26,9 +26,13 @@ mod operations;
 #[cfg(test)]
 mod runs;
 #[cfg(test)]
+mod semaphore_calls;
+#[cfg(test)]
 mod tables;
 #[cfg(test)]
 mod texts;
+#[cfg(test)]
+mod upgrade_calls;
 #[cfg(test)]
 mod watchers;
 #[cfg(test)]

@@ -1,6 +1,9 @@
 // The calls of all tables.
 use crate::calls::{Table, first_difference};
-use crate::{bad_graphs, check_calls, faults, judge_calls, lengths, operations, runs, words};
+use crate::{
+    bad_graphs, check_calls, faults, judge_calls, lengths, operations, runs, semaphore_calls,
+    upgrade_calls, words,
+};
 use std::test::Fail;
 
 #[test]
@@ -13,9 +16,17 @@ fn runs_answer_as_their_tables_say(rt: HostRuntime) -> Result<(), Fail> {
 }
 
 #[test]
+fn calls_with_semaphores_answer_as_their_tables_say(rt: HostRuntime) -> Result<(), Fail> {
+    let difference = first_difference(&rt, rt.alloc(), &semaphore_calls::TABLES)?;
+    assert_eq!(rt; difference.as_str(), "");
+    Ok(())
+}
+
+#[test]
 fn other_calls_answer_as_their_tables_say(rt: HostRuntime) -> Result<(), Fail> {
-    let tables: [&[Table]; 6] = [
+    let tables: [&[Table]; 7] = [
         &check_calls::TABLES,
+        &upgrade_calls::TABLES,
         &judge_calls::TABLES,
         &faults::TABLES,
         &bad_graphs::TABLES,

@@ -32,5 +32,10 @@ run g --limit 1 --limit 1
 check
 check g g
 check g --limit 1
-check g --journal",
+check g --journal
+upgrade
+upgrade g g
+upgrade g --workers 4
+upgrade g --journal
+Upgrade g",
 }];

@@ -32,6 +32,7 @@ fn refusal_text(alloc: Global, refusal: &GraphError) -> Result<String, AllocErro
     let field = text_of(field);
     match spot {
         Spot::File => format!(in alloc; "{what} {field} {at} file"),
+        Spot::Sem(sem) => format!(in alloc; "{what} {field} {at} semaphore {sem}"),
         Spot::Task(task) => format!(in alloc; "{what} {field} {at} task {task}"),
         other => format!(in alloc; "{what} {field} {at} {other:?}"),
     }
@@ -45,7 +46,8 @@ fn kind_text(kind: Kind) -> &'static str {
     match kind {
         Kind::Tasks => "tasks",
         Kind::Edges => "edges",
+        Kind::Semaphores => "semaphores",
         Kind::Texts => "texts",
-        Kind::Semaphores | Kind::Modules | Kind::Depth => "of another kind",
+        Kind::Modules | Kind::Depth => "of another kind",
     }
 }

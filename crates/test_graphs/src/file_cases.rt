@@ -76,8 +76,24 @@ const READS: MadeFile = MadeFile {
     ..TASKS
 };
 
+// So many semaphores before a last one.
+const SEMAPHORES: MadeFile = MadeFile {
+    front: b"{\"tasks\":[],\"semaphores\":[",
+    piece: "{\"name\":\"#\",\"max\":1},",
+    back: b"{\"name\":\"x\",\"max\":1}]}",
+    ..BYTES
+};
+
+// A task that holds a semaphore so often and once more.
+const HOLDS: MadeFile = MadeFile {
+    front: b"{\"semaphores\":[{\"name\":\"s\",\"max\":1}],\"tasks\":[{\"name\":\"a\",\"op\":\"pass\",\"holds\":[",
+    piece: "\"s\",",
+    back: b"\"s\"]}]}",
+    ..BYTES
+};
+
 /// The files.
-pub(crate) const FILES: [MadeFile; 32] = [
+pub(crate) const FILES: [MadeFile; 37] = [
     MadeFile {
         has: "a byte order mark",
         front: b"\xef\xbb\xbf{\"tasks\":[]}",
@@ -213,6 +229,32 @@ pub(crate) const FILES: [MadeFile; 32] = [
         has: "10,001 tasks and 100,010 edges",
         times: 10_000,
         ..EDGES
+    },
+    MadeFile {
+        has: "256 semaphores",
+        times: 255,
+        ..SEMAPHORES
+    },
+    MadeFile {
+        has: "257 semaphores",
+        times: 256,
+        ..SEMAPHORES
+    },
+    MadeFile {
+        has: "257 semaphores of one name",
+        piece: "{\"name\":\"a\",\"max\":1},",
+        times: 256,
+        ..SEMAPHORES
+    },
+    MadeFile {
+        has: "100,000 semaphores",
+        times: 99_999,
+        ..SEMAPHORES
+    },
+    MadeFile {
+        has: "a semaphore 1,000,000 times in a list",
+        times: 999_999,
+        ..HOLDS
     },
     MadeFile {
         has: "1,024 texts",

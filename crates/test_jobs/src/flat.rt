@@ -1,10 +1,10 @@
-// Whether a net has neither units nor inner graphs.
+// Whether a net has no inner graphs.
 ghost use Rattle.std.specs.Prelude.{◌↔◌, IsTrue};
 ghost use Rattle.run_frame.specs.FlatNets.{IsFlatTask, IsFlatNet};
 
 use task_graph::{Net, Shape, TaskRow};
 
-/// Whether no task of a net takes or puts a unit, and none is Nested.
+/// Whether no task of a net is Nested.
 pub fn is_flat(net: &Net) -> bool
     ensures { IsTrue result ↔ IsFlatNet net.now }
 {
@@ -14,5 +14,5 @@ pub fn is_flat(net: &Net) -> bool
 fn is_flat_task(row: &TaskRow) -> bool
     ensures { IsTrue result ↔ IsFlatTask row.now }
 {
-    !matches!(row.shape, Shape::Nested) && row.takes.is_empty() && row.puts.is_empty()
+    !matches!(row.shape, Shape::Nested)
 }

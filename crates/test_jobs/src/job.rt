@@ -55,7 +55,7 @@ impl Model for NumberJob {
 }
 
 impl NumberJob {
-    /// A job of a net without units and inner graphs, with at most `limit` starts, no more than `START_LIMIT`; else
+    /// A job of a net without inner graphs, with at most `limit` starts, no more than `START_LIMIT`; else
     /// `None`. A task that comes to the number `fault` faults. Below `turns` a Choice chooses its first edge and from
     /// there its second; a Many chooses the same, and its third.
     pub fn new(net: Arc<Net>, limit: u64, turns: u64, fault: u64) -> Option<NumberJob>

@@ -30,9 +30,19 @@ impl JobCase {
 
 /// The case of this number, where there are so many.
 pub(crate) fn case_at(number: usize) -> Option<JobCase> {
-    let (name, (tasks, edges, rings), (limit, turns, fault), starts) = *CASES.get(number)?;
-    let units = "";
-    Some(JobCase {
+    match CASES.get(number) {
+        Some(row) => Some(case_of("", *row)),
+        None => {
+            let (units, row) = *UNIT_CASES.get(number.checked_sub(CASES.len())?)?;
+            Some(case_of(units, row))
+        }
+    }
+}
+
+// The case of a row, with so many units of each semaphore.
+fn case_of(units: &'static str, row: Row) -> JobCase {
+    let (name, (tasks, edges, rings), (limit, turns, fault), starts) = row;
+    JobCase {
         name,
         net: NetCase {
             units,
@@ -44,7 +54,7 @@ pub(crate) fn case_at(number: usize) -> Option<JobCase> {
         turns,
         fault,
         starts,
-    })
+    }
 }
 
 /// Two tasks beside each other, which meet.
@@ -71,7 +81,7 @@ pub(crate) const FAN: JobCase = JobCase {
 };
 
 /// How many cases there are.
-pub(crate) const COUNT: usize = 31;
+pub(crate) const COUNT: usize = 48;
 
 // A limit that no run here comes to.
 const LIMIT: u64 = 10_000;
@@ -98,7 +108,7 @@ const LOOPS: Texts = ("pcppcp", "ab bb bc de ee ef", "");
 type Row = (&'static str, Texts, (u64, u64, u64), (usize, usize));
 
 // Joins, choices, loops, tokens that are kept or queue up, limits and faults.
-const CASES: [Row; COUNT] = [
+const CASES: [Row; 31] = [
     ("no task", ("", "", ""), FREE, (0, 0)),
     ("two tasks beside each other", TWO, FREE, (2, 2)),
     ("a row", ROW, FREE, (5, 5)),
@@ -235,5 +245,140 @@ const CASES: [Row; COUNT] = [
         ("pppppp", "ab bc de", ""),
         (LIMIT, 0, 2),
         (2, 6),
+    ),
+];
+
+// Sixteen tasks that hold a unit.
+const HOLDERS: Texts = ("uuuuuuuuuuuuuuuu", "", "");
+
+// Three tasks that take a unit, each of which precedes one that needs none.
+const TAKERS: Texts = ("tttppp", "ad be cf", "");
+
+// How many units each semaphore has, and a row. A release that finds no unit is parked.
+const UNIT_CASES: [(&str, Row); 17] = [
+    ("1", ("one unit that all hold", HOLDERS, FREE, (16, 16))),
+    ("3", ("three units that all hold", HOLDERS, FREE, (16, 16))),
+    (
+        "1",
+        (
+            "a join of tasks that hold the unit",
+            ("uuuuu", "ad bd cd de", ""),
+            FREE,
+            (5, 5),
+        ),
+    ),
+    (
+        "1",
+        (
+            "two loops whose conditions hold the unit",
+            ("pdppdp", "ab bb bc de ee ef", ""),
+            (LIMIT, 10, 0),
+            (22, 22),
+        ),
+    ),
+    (
+        "1",
+        (
+            "three values in one loop, whose conditions hold the unit",
+            ("pddddp", "ab ac ad be ce de ee ef", ""),
+            (LIMIT, 6, 0),
+            (19, 19),
+        ),
+    ),
+    (
+        "11",
+        (
+            "two semaphores that all hold",
+            ("hhhhhhhh", "", ""),
+            FREE,
+            (8, 8),
+        ),
+    ),
+    (
+        "1",
+        (
+            "a unit that others give back",
+            ("ttttgggg", "ae bf cg dh", ""),
+            FREE,
+            (8, 8),
+        ),
+    ),
+    (
+        "2",
+        (
+            "two units that others give back, and tasks that hold one",
+            ("ttttgggguuuu", "ae bf cg dh", ""),
+            FREE,
+            (12, 12),
+        ),
+    ),
+    // The one edge to the task that takes the unit gets three tokens, while the task may be parked.
+    (
+        "1",
+        (
+            "three tokens to a task whose unit another gives back",
+            ("pcccctg", "ab ac ad be ce de ef fg", ""),
+            (LIMIT, 9, 0),
+            (13, 13),
+        ),
+    ),
+    (
+        "1",
+        (
+            "a unit that is taken and given back in turn",
+            ("tg", "ab", "ba"),
+            (20, 0, 0),
+            (20, 20),
+        ),
+    ),
+    ("1", ("a unit that none gives back", TAKERS, FREE, (2, 2))),
+    (
+        "2",
+        ("two units that none gives back", TAKERS, FREE, (4, 4)),
+    ),
+    (
+        "1",
+        (
+            "a fault while others wait for a unit",
+            TAKERS,
+            (LIMIT, 0, 2),
+            (2, 2),
+        ),
+    ),
+    (
+        "1",
+        (
+            "a fault of a task that holds the unit",
+            HOLDERS,
+            (LIMIT, 0, 1),
+            (1, 1),
+        ),
+    ),
+    (
+        "1",
+        (
+            "more tasks that hold the unit than may start",
+            HOLDERS,
+            (5, 0, 0),
+            (5, 5),
+        ),
+    ),
+    (
+        "1",
+        (
+            "a unit that is given back and wasn't taken",
+            ("gp", "ab", ""),
+            FREE,
+            (1, 1),
+        ),
+    ),
+    (
+        "1",
+        (
+            "a unit that is given back twice",
+            ("tgg", "", ""),
+            FREE,
+            (1, 3),
+        ),
     ),
 ];

@@ -64,7 +64,7 @@ fn check_run(
     Ok(())
 }
 
-// By one thread the parts are found in their order, besides.
+// By one thread the parts are found in their order, besides, where no release is parked.
 fn check_run_alone(
     rt: &impl Abort,
     alloc: Global,
@@ -72,11 +72,13 @@ fn check_run_alone(
     case: &JobCase,
     run: &FrameRun<NumberJob>,
 ) -> Result<(), Fail> {
-    assert!(rt;
-        finds_in_order(alloc, net, run.journal.as_slice())?,
-        "{}",
-        case.name
-    );
+    if case.net.units.is_empty() {
+        assert!(rt;
+            finds_in_order(alloc, net, run.journal.as_slice())?,
+            "{}",
+            case.name
+        );
+    }
     check_run(rt, alloc, net, case, run)
 }
 

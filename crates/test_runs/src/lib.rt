@@ -2,8 +2,8 @@
 //! and the types of which their definitions in `specs/` speak. A row of a table of cases has a name, which a failing test tells.
 //!
 //! `job_cases.rt` has the jobs, which `job_runs.rt` runs over the frames of `table_frames`, in the orders of `scheduler.rt`, and over
-//! the crews of `worker_seat`. Semaphores and parked turns are on tables alone: `table_cases.rt` has the nets that
-//! are run over `join_tables` by threads, and `orders.rt` those that one thread runs in a written order.
+//! the crews of `worker_seat`. `table_cases.rt` has the nets that are run over `join_tables` by threads, and `orders.rt` those that
+//! one thread runs in a written order.
 #![tactic(auto)]
 
 #[cfg(test)]

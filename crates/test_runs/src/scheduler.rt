@@ -1,5 +1,5 @@
 // Runs that take their steps in some order.
-ghost use Rattle.std.specs.Prelude.{◌<◌, OnOk};
+ghost use Rattle.std.specs.Prelude.{◌≡◌, ◌<◌, [], OnOk};
 ghost use Rattle.test_runs.specs.inside.Orders.{AreOfOneFrame, IsUnderWay};
 
 use outside_io::NoMemory;
@@ -52,9 +52,9 @@ fn all_steps<R: Wait>(
     let mut pending = released;
     let mut backlog = Backlog::new(alloc);
     for step in 1..STEPS {
-        take_step(order, step, &mut pending, &mut backlog)?;
+        take_step(rt, order, step, &mut pending, &mut backlog)?;
         if pending.is_empty() || step.checked_rem(often) == Some(0) {
-            if let Some(run) = record(rt, &pending, &mut backlog)? {
+            if let Some(run) = record(rt, &mut pending, &mut backlog)? {
                 return Ok(Some(run));
             }
         }
@@ -80,7 +80,8 @@ fn place_in(order: Order, step: u32, count: usize) -> usize
 }
 
 // Takes a step, if one is left. What it releases is pending then.
-fn take_step(
+fn take_step<R: Wait>(
+    rt: &R,
     order: Order,
     step: u32,
     pending: &mut Vec<Release<NumberJob>>,
@@ -94,24 +95,43 @@ fn take_step(
         return Ok(());
     }
     let release = pending.remove(place_in(order, step, count));
-    let Stepped { mut released, .. } = Frame::step(release, backlog)?;
+    let Stepped { mut released, .. } = Frame::step(rt, release, backlog)?;
     pending.append(&mut released)?;
     Ok(())
 }
 
-// Has recorded what the steps have done, and gives the run if it is closed.
+// Has recorded what the steps have done, and gives the run if it is closed. Where nothing is pending, what is parked goes on or
+// is dropped.
 fn record<R: Wait>(
     rt: &R,
-    pending: &Vec<Release<NumberJob>>,
+    pending: &mut Vec<Release<NumberJob>>,
     backlog: &mut Backlog<NumberJob>,
 ) -> Result<Option<FrameRun<NumberJob>>, NoMemory>
-    requires { IsUnderWay pending.now.items backlog.old }
-    ensures { OnOk result (IsUnderWay pending.now.items backlog.new) }
+    requires { IsUnderWay pending.old.items backlog.old }
+    ensures { OnOk result (IsUnderWay pending.new.items backlog.new) }
 {
-    let _ = pending;
     let Brought { state, .. } = Frame::bring(rt, backlog)?;
-    match state {
-        State::Closed(run) => Ok(Some(run)),
-        _ => Ok(None),
+    if let State::Closed(run) = state {
+        return Ok(Some(run));
     }
+    if pending.is_empty() {
+        settle(rt, pending, backlog)?;
+    }
+    Ok(None)
+}
+
+// Decides what becomes of what is parked. What goes on is pending then.
+fn settle<R: Wait>(
+    rt: &R,
+    pending: &mut Vec<Release<NumberJob>>,
+    backlog: &mut Backlog<NumberJob>,
+) -> Result<(), NoMemory>
+    requires none { pending.old.items ≡ [] }
+    requires brought { backlog.old.fates ≡ [] }
+    ensures { OnOk result (IsUnderWay pending.new.items backlog.new) }
+{
+    if let Some(release) = Frame::settle(rt, backlog)? {
+        pending.push(release)?;
+    }
+    Ok(())
 }

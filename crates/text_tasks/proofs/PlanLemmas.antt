@@ -14,7 +14,7 @@ use Rattle.journal_rules.specs.declared.entry.Cause.TheVariants.{Strong}
 use Rattle.run_frame.specs.Meaning.{IsRelease}
 use Rattle.graph_plans.specs.declared.ops.Op.{Op}
 use Rattle.graph_plans.specs.Operations.{IsOp, shape_of}
-use Rattle.graph_plans.specs.PlanRows.{IsPlan, IsTextName, NeedsNoUnit, AllDiffer}
+use Rattle.graph_plans.specs.PlanRows.{IsPlan, IsTextName, AllDiffer}
 use Rattle.text_tasks.specs.GraphWork.{IsWork}
 use Rattle.text_tasks.specs.ValueTexts.{IsValueText}
 use Rattle.text_tasks.specs.inside.WorkedPlans.{worked_task, worked_edge, worked_net, worked_plan, worked_texts, worked_work}
@@ -38,9 +38,6 @@ net_is shape = record {
   sem_count = omega arith;
 }
 
-no_unit : (shape : Shape) → NeedsNoUnit (worked_task shape)
-no_unit shape = record { takes = refl; puts = refl }
-
 apart : (names : List (List ℕ)) → IsDistinct bytes_eq names → AllDiffer names
 apart names distinct = AllPairs-from_IsDistinct {eq = bytes_eq} bytes_eq-Decides names distinct
 
@@ -52,17 +49,18 @@ unfolding IsDistinct
 worked_is_plan op fits = record {
   name = refl;
   modules = refl;
-  sem_names = refl;
   net = net_is (shape_of op);
-  sems = refl;
-  no_units = All-from_recursion NeedsNoUnit (worked_net (shape_of op)).tasks (no_unit Plain, (no_unit Plain, (no_unit Plain, (no_unit (shape_of op), tt))));
   no_first_tokens = All-from_recursion (λ (row : EdgeRow). row.start ≡ false) (worked_net (shape_of op)).edges (refl, (refl, (refl, tt)));
   names = refl;
   shapes = refl;
   ops = All-from_recursion (IsOp 2) (worked_plan op).top.ops (omega arith, (omega arith, (omega arith, (fits, tt))));
   names_differ = apart (worked_plan op).top.names (((refl, (refl, (refl, tt))), ((refl, (refl, tt)), ((refl, tt), (tt, tt)))));
+  sem_names = refl;
+  sem_names_differ = apart [] tt;
+  maxima = λ k d below. absurd (omega (arith, below));
   task_count = omega arith;
   edge_count = omega arith;
+  sem_count = omega arith;
   texts = All-from_recursion IsTextName (worked_plan op).texts (text_name 101, (text_name 102, tt));
   texts_differ = apart (worked_plan op).texts ((refl, tt), (tt, tt));
   text_count = omega arith;

@@ -108,9 +108,4 @@ pub text_job_flat : (job : TextJob) → IsTextJob job → IsFlatNet (net_of job)
 text_job_flat (Graph work) keeps task d below =
     let tasks = (graph_of work).net.tasks in
     let row : TaskRow = slice_index_or tasks task d in
-    let units = keeps.plan.no_units task d below in
-    record {
-      shape = some_not_nested row.shape (slice_get (graph_of work).ops task) (shape_at work task row keeps (slice_get-get_or tasks task d below));
-      takes = units.takes;
-      puts = units.puts;
-    }
+    some_not_nested row.shape (slice_get (graph_of work).ops task) (shape_at work task row keeps (slice_get-get_or tasks task d below))

@@ -1,5 +1,5 @@
 // What a worker does.
-ghost use Rattle.std.specs.Prelude.{◌≡◌, IfOk, IfSome, OnOk};
+ghost use Rattle.std.specs.Prelude.{◌≡◌, [], IfOk, IfSome, OnOk};
 ghost use Rattle.table_frames.specs.Frames.{MayTake};
 ghost use Rattle.worker_seat.specs.inside.Runs.{AreIn, IsNumberOf};
 ghost use Rattle.worker_seat.specs.inside.SeatPlaces.{IsSameOwner};
@@ -50,14 +50,16 @@ impl<J: Job + Drop> Shift<'_, J> {
         unreachable!()
     }
 
-    // Gives the run what was done, or sleeps where that is nothing.
+    // Gives the run what was done, and goes on with a release that was parked where nothing else is left; or sleeps where
+    // nothing was done.
     fn rest<R: Wait>(
         &self,
         rt: &R,
         owner: &mut Owner<CrewItem<J>>,
         backlog: &mut Backlog<J>,
     ) -> Result<(), NoMemory>
-        requires { MayTake backlog.old self.now.number.now.frames }
+        requires owner { owner.old.tag ≡ self.now.list.now.list.begun }
+        requires backlog { MayTake backlog.old self.now.number.now.frames }
         ensures owner { IsSameOwner owner.old owner.new }
         ensures backlog { OnOk result (MayTake backlog.new self.now.number.now.frames) }
     {
@@ -65,13 +67,34 @@ impl<J: Job + Drop> Shift<'_, J> {
             owner.idle(rt);
             return Ok(());
         }
-        self.bring(rt, backlog)
+        self.bring(rt, backlog)?;
+        self.settle(rt, owner, backlog)
+    }
+
+    // Goes on with a release that was parked, where nothing else is left.
+    fn settle<R: Wait>(
+        &self,
+        rt: &R,
+        owner: &mut Owner<CrewItem<J>>,
+        backlog: &mut Backlog<J>,
+    ) -> Result<(), NoMemory>
+        requires owner { owner.old.tag ≡ self.now.list.now.list.begun }
+        requires frames { backlog.old.frames ≡ self.now.number.now.frames }
+        requires brought { backlog.old.fates ≡ [] }
+        ensures owner { IsSameOwner owner.old owner.new }
+        ensures backlog { OnOk result (MayTake backlog.new self.now.number.now.frames) }
+    {
+        match Frame::settle(rt, backlog)? {
+            Some(release) => self.push(rt, owner, release),
+            None => Ok(()),
+        }
     }
 
     // Gives the run what was done. Whoever closes the run so leaves it for the others, and closes the list.
     fn bring<R: Wait>(&self, rt: &R, backlog: &mut Backlog<J>) -> Result<(), NoMemory>
-        requires { MayTake backlog.old self.now.number.now.frames }
-        ensures { OnOk result (MayTake backlog.new self.now.number.now.frames) }
+        requires { backlog.old.frames ≡ self.now.number.now.frames }
+        ensures frames { OnOk result (backlog.new.frames ≡ backlog.old.frames) }
+        ensures brought { OnOk result (backlog.new.fates ≡ []) }
     {
         let Brought { state, .. } = Frame::bring(rt, backlog)?;
         if let State::Closed(closed) = state {
@@ -144,7 +167,7 @@ impl<J: Job + Drop> Shift<'_, J> {
         ensures run { IfOk result
             (λ made. IfSome made (λ made. made.frames ≡ self.now.number.now.frames)) }
     {
-        let Stepped { mut released, .. } = Frame::step(release, backlog)?;
+        let Stepped { mut released, .. } = Frame::step(rt, release, backlog)?;
         self.push_others(rt, owner, &mut released)?;
         Ok(released.pop())
     }

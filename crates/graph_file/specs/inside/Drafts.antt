@@ -1,20 +1,37 @@
--- What holds of the tasks of each file, and what the code has of a net in the making.
-use Rattle.std.specs.Prelude.{◌≡◌, ℕ, ◌<◌, false, List, [], length, map, All}
+-- What holds of the semaphores and tasks of each file, and what the code has of a net in the making.
+use Rattle.std.specs.Prelude.{◌≡◌, ◌≢◌, ℕ, ◌<◌, ◌≤◌, true, false, List, [], length, map, All, AllPairs}
 use Rattle.task_graph.specs.NetRows.{NetRows}
 use Rattle.task_graph.specs.declared.net.EdgeRow.{EdgeRow}
 use Rattle.graph_plans.specs.declared.ops.Op.{Op}
 use Rattle.graph_plans.specs.Operations.{IsOp}
-use Rattle.graph_plans.specs.PlanRows.{AllDiffer, IsTextName, PlanRows}
+use Rattle.graph_plans.specs.PlanRows.{AllDiffer, IsTextName, PlanRows, maximum_limit}
 use Rattle.graph_file.specs.declared.nets.Edge.{Edge}
-use Rattle.graph_file.specs.PlanText.{DraftRows, LinkRow, task_row}
+use Rattle.graph_file.specs.declared.numbers.TaskNumbers.{TaskNumbers}
+use Rattle.graph_file.specs.PlanText.{DraftRows, task_names, task_rows}
 
--- the tasks of a file, whatever their edges lead to
+-- a maximum that a semaphore may have
+pub record IsMaximum (max : ℕ) : Type 0 where
+  pub least : 1 ≤ max
+  pub most : max ≤ maximum_limit
+
+-- the semaphores and tasks of a file, whatever they name
 pub record IsDraft (draft : DraftRows) : Type 0 where
-  pub op_count : length draft.ops ≡ length draft.names
+  pub sem_count : length draft.sems ≡ length draft.sem_names
+  pub sems : All IsMaximum draft.sems
+  pub op_count : length draft.ops ≡ length draft.tasks
   pub ops : All (IsOp (length draft.texts)) draft.ops
-  pub sources : All (λ (link : LinkRow). link.from < length draft.names) draft.links
   pub texts : All IsTextName draft.texts
   pub texts_differ : AllDiffer draft.texts
+
+-- a list of semaphores, of which there are so many, that has none twice
+pub record AreIds (sems : ℕ) (ids : List ℕ) : Type 0 where
+  pub in_range : All (λ s. s < sems) ids
+  pub differ : AllPairs (λ a b. a ≢ b) ids
+
+-- both lists of a task are such
+pub record NamesOnce (sems : ℕ) (task : TaskNumbers) : Type 0 where
+  pub takes : AreIds sems task.takes
+  pub puts : AreIds sems task.puts
 
 -- both ends of an edge are among so many tasks
 pub record IsAmong (tasks : ℕ) (edge : EdgeRow) : Type 0 where
@@ -24,13 +41,17 @@ pub record IsAmong (tasks : ℕ) (edge : EdgeRow) : Type 0 where
 abbrev pub edge_row : Edge → EdgeRow
 edge_row edge = record { from = edge.from; to = edge.to; start = false }
 
--- the net of tasks with these operations, and of these edges
-abbrev pub net_with : List Op → List EdgeRow → NetRows
-net_with ops edges = record { tasks = map task_row ops; edges = edges; sems = [] }
+-- the net of semaphores with these maxima
+abbrev pub with_sems : List ℕ → NetRows
+with_sems sems = record { tasks = []; edges = []; sems = sems }
+
+-- the net of these semaphores, of tasks with these operations and numbers, and of these edges
+abbrev pub net_with : List ℕ → List Op → List TaskNumbers → List EdgeRow → NetRows
+net_with sems ops tasks edges = record { tasks = task_rows (length sems) ops tasks; edges = edges; sems = sems }
 
 -- the plan of a draft, with this net
 abbrev pub plan_around : DraftRows → NetRows → PlanRows
-plan_around draft net = record { top = record { name = []; names = draft.names; ops = draft.ops; sem_names = []; net = net }; modules = []; texts = draft.texts }
+plan_around draft net = record { top = record { name = []; names = task_names draft; ops = draft.ops; sem_names = draft.sem_names; net = net }; modules = []; texts = draft.texts }
 
 abbrev pub edge_rows : List Edge → List EdgeRow
 edge_rows edges = map edge_row edges

@@ -1,8 +1,11 @@
 -- What the steps of the reader answer, which may also find no memory.
-use Rattle.std.specs.Prelude.{◌≡◌, ◌≢◌, ℕ, List, [], ◌∷◌, ◌++◌, length, map, Option, Some, None, Result, Ok, Err, ok_or, codes, ⊤}
+use Rattle.std.specs.Prelude.{◌≡◌, ◌≢◌, ℕ, Bool, List, [], ◌∷◌, ◌++◌, length, map, Option, Some, None, Result, Ok, Err, ok_or, codes, ⊤}
+use Rattle.std.specs.Borrow.{Bor}
 use Rattle.serde_json.specs.Data.{Data}
+use Rattle.graph_plans.specs.declared.spots.Spot.{Spot}
+use Rattle.std.specs.HashMap.{HashMap}
 use Rattle.graph_file.specs.declared.draft.Draft.{Draft}
-use Rattle.graph_file.specs.declared.draft.Link.{Link}
+use Rattle.graph_file.specs.declared.draft.NamedTask.{NamedTask}
 use Rattle.graph_plans.specs.declared.ops.TextOp.{TextOp}
 use Rattle.graph_file.specs.declared.file_op.FileOp.{FileOp}
 use Rattle.graph_file.specs.declared.file_op.FileOp.TheVariants.{Reads as ReadsOf, Does}
@@ -10,10 +13,11 @@ use Rattle.graph_file.specs.declared.file_op.FoundOp.{FoundOp}
 use Rattle.graph_file.specs.declared.refusals.GraphError.{GraphError}
 use Rattle.graph_file.specs.declared.refusals.GraphError.TheVariants.{NoMemory, Repeated}
 use Rattle.graph_file.specs.OpRows.{FileOpRow, reads, does, WithFields, op_in, op_rows}
-use Rattle.graph_file.specs.Contents.{empty_list_of, task_name_of, name_list_of}
+use Rattle.graph_file.specs.Contents.{name_of, name_list_of}
 use Rattle.graph_file.specs.Fields.{allowed, needed, only, task_spot}
-use Rattle.graph_file.specs.PlanText.{DraftRows, LinkRow, link_to, mentioned, numbered, task_fields}
-use Rattle.graph_file.specs.Steps.{◌>>=◌}
+use Rattle.graph_file.specs.PlanText.{DraftRows, TaskNames, add_name, puts_field, takes_field, task_fields, with_task_text}
+use Rattle.graph_file.specs.Steps.{◌>>=◌, passed, walk}
+use Rattle.graph_file.specs.inside.Lookups.{place_in}
 
 -- what a reader answers, where this is to be found
 abbrev pub Reads : {A : Type 0} → Result A GraphError → Result A GraphError → Type 0
@@ -32,11 +36,14 @@ Leads (Err e) new found = e ≢ NoMemory → found ≡ Err e
 
 -- ---- what the code has of a draft
 
-abbrev pub link_row : Link → LinkRow
-link_row link = record { from = link.from; to = link.to.now }
+abbrev pub strings : List (Bor (List ℕ)) → List (List ℕ)
+strings names = map (λ s. s.now) names
+
+abbrev pub named_task : NamedTask → TaskNames
+named_task task = record { name = task.name.now; to = strings task.to; takes = strings task.takes; puts = strings task.puts }
 
 abbrev pub draft_rows : Draft → DraftRows
-draft_rows draft = record { names = draft.names; ops = draft.ops; links = map link_row draft.links; texts = draft.texts }
+draft_rows draft = record { version = draft.version; sem_names = strings draft.sem_names; sems = draft.sems; tasks = map named_task draft.tasks; ops = draft.ops; texts = draft.texts }
 
 -- ---- what it has of an operation
 
@@ -52,32 +59,43 @@ found_text_op found = record { op = found.op; fields = map (λ s. s.now) found.f
 
 -- ---- a task, by the steps in which it is read
 
--- the links, and those of a task with this number
-abbrev pub links_with : ℕ → List LinkRow → Data → Result (List LinkRow) GraphError
-links_with n links d = allowed [] name_list_of (task_spot n) (codes "to") d >>= λ to. Ok (links ++ map (link_to n) to)
-
--- the draft with these links, and one task more
-abbrev pub with_op : DraftRows → List ℕ → FileOpRow → List LinkRow → DraftRows
-with_op draft name op links = record { names = draft.names ++ name ∷ []; ops = draft.ops ++ numbered draft.texts op ∷ []; links = links; texts = mentioned draft.texts op }
+-- a task of this name, with its lists of names
+abbrev pub lists_in : ℕ → Spot → List ℕ → Data → Result TaskNames GraphError
+lists_in version spot name d = do
+  to ← allowed [] name_list_of spot (codes "to") d
+  takes ← allowed [] name_list_of spot (takes_field version) d
+  puts ← allowed [] name_list_of spot (puts_field version) d
+  Ok (record { name = name; to = to; takes = takes; puts = puts })
 
 abbrev pub add_task_steps : DraftRows → Data → Result DraftRows GraphError
-add_task_steps draft d = let spot = task_spot (length draft.names) in do
-  name ← needed task_name_of spot (codes "name") d
+add_task_steps draft d = let spot = task_spot (length draft.tasks) in do
+  name ← needed name_of spot (codes "name") d
   found ← op_in op_rows spot d
-  links ← links_with (length draft.names) draft.links d
-  holds ← allowed [] empty_list_of spot (codes "holds") d
-  done ← only (task_fields ++ found.fields) spot d
-  Ok (with_op draft name found.op links)
+  task ← lists_in draft.version spot name d
+  done ← only (task_fields draft.version ++ found.fields) spot d
+  Ok (with_task_text draft task found.op)
 
 -- ---- lists that are read item by item
 
 -- what an item holds is put at the end, as f sees it
-abbrev pub put_each : {X Y : Type 0} → (Data → Option X) → (X → Y) → GraphError → List Y → Data → Result (List Y) GraphError
+abbrev pub put_each : {D X Y : Type 0} → (D → Option X) → (X → Y) → GraphError → List Y → D → Result (List Y) GraphError
 put_each content f refusal ys d = ok_or (content d) refusal >>= λ x. Ok (ys ++ f x ∷ [])
 
--- ---- the names of tasks
+-- the place of a name is put at the end
+abbrev pub put_place : {S : Type 0} → HashMap (Bor (List ℕ)) ℕ S → GraphError → List ℕ → List ℕ → Result (List ℕ) GraphError
+put_place places refusal numbers name = put_each (place_in places) (λ number. number) refusal numbers name
+
+-- ---- names that stand twice
 
 -- the names, unless one stands at this place that stood before
-abbrev pub unless_repeated : List (List ℕ) → Option ℕ → Result (List (List ℕ)) GraphError
-unless_repeated names None = Ok names
-unless_repeated names (Some task) = Err (Repeated (task_spot task) (codes "name"))
+abbrev pub unless_repeated : (ℕ → GraphError) → List (List ℕ) → Option ℕ → Result (List (List ℕ)) GraphError
+unless_repeated refusal names None = Ok names
+unless_repeated refusal names (Some place) = Err (refusal place)
+
+-- the number of a task, unless its name isn't new or it has a semaphore twice in a list
+abbrev pub once_or : ℕ → ℕ → Bool → TaskNames → Result ℕ GraphError
+once_or version number new task = let spot = task_spot number in do
+  named ← passed new (Repeated spot (codes "name"))
+  takes ← walk (add_name (λ k. Repeated spot (takes_field version))) [] task.takes
+  puts ← walk (add_name (λ k. Repeated spot (puts_field version))) [] task.puts
+  Ok number

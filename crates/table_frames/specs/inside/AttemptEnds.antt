@@ -4,13 +4,15 @@ use Rattle.join_tables.specs.States.{FreshState}
 use Rattle.join_tables.specs.declared.fates.Fate.{Fate}
 use Rattle.run_frame.specs.Meaning.{Meaning}
 use Rattle.table_frames.specs.AllowedFates.{IsAllowed}
-use Rattle.table_frames.specs.Frames.{FrameKey, BacklogView, backlog_view}
+use Rattle.table_frames.specs.Frames.{FrameKey, BacklogView, backlog_view, table_in}
+use Rattle.semaphore_turns.specs.WokenTurns.{Wakes}
 use Rattle.table_frames.specs.StepReleases.{Uses}
 use Rattle.table_frames.specs.JournalFacts.{IsInJournal}
-use Rattle.table_frames.specs.inside.Attempts.{release_tried}
+use Rattle.table_frames.specs.inside.Attempts.{release_tried, units_due}
 use Rattle.table_frames.specs.declared.attempt.Attempt.{Attempt}
 
--- One fate, which the job of the frame allows, is gathered, and these releases were made.
+-- One fate, which the job of the frame allows, is gathered. These releases were made, and others woken for the units that are
+-- back.
 pub record Concludes {J V : Type 0} (meaning : Meaning J V) (frames : List (FrameKey J)) (attempt : Attempt V) (old new : BacklogView J V) (made : List FreshState) : Type 0 where
   pub frame : FrameKey J
   pub around : List (FrameKey J)
@@ -18,5 +20,7 @@ pub record Concludes {J V : Type 0} (meaning : Meaning J V) (frames : List (Fram
   pub fate : Fate V
   pub allowed : IsAllowed meaning frame.job fate
   pub journal : IsInJournal meaning frame.job fate
-  pub uses : Uses (meaning.net frame.job) (release_tried frame.table attempt.outcome) fate [] made
+  pub by_end : List FreshState
+  pub uses : Uses (meaning.net frame.job) (release_tried frame.table attempt.outcome) fate [] by_end
+  pub wakes : Wakes (table_in meaning frame) (units_due (meaning.net frame.job) attempt.outcome) by_end made
   pub backlog : new ≡ backlog_view frames (old.fates ++ fate ∷ [])

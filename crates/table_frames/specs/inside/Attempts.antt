@@ -8,12 +8,14 @@ use Rattle.journal_rules.specs.declared.entry.DropWhy.{DropWhy}
 use Rattle.table_steps.specs.Giving.{MayEndGiving}
 use Rattle.table_steps.specs.Reasons.{MayTell}
 use Rattle.table_steps.specs.ParcelForms.{MayBeBare}
+use Rattle.task_graph.specs.NetRows.{NetRows}
+use Rattle.join_tables.specs.Claims.{HasClaimed, HasCredited}
 use Rattle.join_tables.specs.States.{FreshState, TurnState, RunningState, fresh_state}
 use Rattle.run_frame.specs.Meaning.{Meaning}
 use Rattle.run_frame.specs.WorkRule.{Answers, FaultAllowed}
 use Rattle.table_frames.specs.AllowedFates.{work_with}
 use Rattle.table_frames.specs.Frames.{FrameKey}
-use Rattle.table_frames.specs.inside.Runs.{MayWork}
+use Rattle.semaphore_turns.specs.Semaphores.{put_by, taken_by}
 use Rattle.table_frames.specs.declared.attempt.Attempt.{Attempt}
 use Rattle.table_frames.specs.declared.attempt.Ending.{Ending}
 use Rattle.table_frames.specs.declared.attempt.Outcome.{Outcome}
@@ -30,6 +32,12 @@ abbrev pub edges_due : {V : Type 0} → Outcome V → ℕ
 edges_due (Ends ending) = length ending.gives
 edges_due _ = 0
 
+-- the semaphores of which a unit is to be given back, or was put back
+abbrev pub units_due : {V : Type 0} → NetRows → Outcome V → List ℕ
+units_due net (Ends ending) = put_by net ending.running.task
+units_due net (Faults running why) = []
+units_due net (Drops turn why) = taken_by net turn.task
+
 abbrev pub count_of : {X : Type 0} → Option X → ℕ
 count_of None = 0
 count_of (Some x) = 1
@@ -41,7 +49,8 @@ room_due attempt = edges_due attempt.outcome + count_of attempt.again
 -- A start may end with this value, which its job allows with these edges, and which has an owner for each of them.
 pub record MayEnd {J V : Type 0} (meaning : Meaning J V) (frame : FrameKey J) (ending : Ending V) : Type 0 where
   pub table : ending.running.table ≡ frame.table
-  pub may : MayWork (meaning.net frame.job) ending.running
+  pub credited : HasCredited (meaning.net frame.job) ending.running.task ending.running.units
+  pub claimed : HasClaimed (meaning.net frame.job) ending.running.task ending.running.units
   pub fits : MayEndGiving (meaning.net frame.job) ending.running.task ending.gives false
   pub shares : ending.value.edges ≡ length ending.gives
   pub parcels : MayBeBare (meaning.net frame.job) ending.value.bare
@@ -50,7 +59,7 @@ pub record MayEnd {J V : Type 0} (meaning : Meaning J V) (frame : FrameKey J) (e
 -- It may fault for this reason.
 pub record MayFault {J V : Type 0} (meaning : Meaning J V) (frame : FrameKey J) (running : RunningState V) (why : Why) : Type 0 where
   pub table : running.table ≡ frame.table
-  pub may : MayWork (meaning.net frame.job) running
+  pub credited : HasCredited (meaning.net frame.job) running.task running.units
   pub tells : MayTell why running.units.refused
   pub allowed : FaultAllowed meaning frame.job (work_with running.task running.ins) why
 
@@ -64,6 +73,10 @@ abbrev pub IsOutcomeIn : {J V : Type 0} → Meaning J V → FrameKey J → Outco
 IsOutcomeIn meaning frame (Ends ending) = MayEnd meaning frame ending
 IsOutcomeIn meaning frame (Faults running why) = MayFault meaning frame running why
 IsOutcomeIn meaning frame (Drops turn why) = MayDrop frame turn why
+
+abbrev pub again_list : Option FreshState → List FreshState
+again_list None = []
+again_list (Some again) = again ∷ []
 
 -- another release of the task, if there is one
 abbrev pub IsAgain : TableId → ℕ → Cause → Option FreshState → Type 0

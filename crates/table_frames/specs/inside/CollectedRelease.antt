@@ -2,6 +2,7 @@
 use Rattle.std.specs.Prelude.{◌≡◌, [], None}
 use Rattle.atomic_table.specs.Seated.{TableId}
 use Rattle.join_tables.specs.States.{FreshState}
+use Rattle.table_frames.specs.Frames.{FrameKey}
 use Rattle.table_frames.specs.inside.Attempts.{IsAgain}
 use Rattle.table_frames.specs.declared.table_run.TakenUp.{TakenUp}
 
@@ -13,3 +14,9 @@ pub record TakesUp {V : Type 0} (n : TableId) (fresh : FreshState) (taken : Take
   pub refused : taken.turn.refused ≡ None
   pub held : taken.turn.held ≡ []
   pub again : IsAgain n fresh.task fresh.cause taken.again
+
+-- the same of a frame, whatever units it has
+pub record IsTakenIn {J V : Type 0} (frame : FrameKey J) (taken : TakenUp V) : Type 0 where
+  pub table : taken.turn.table ≡ frame.table
+  pub refused : taken.turn.refused ≡ None
+  pub again : IsAgain frame.table taken.turn.task taken.turn.cause taken.again

@@ -5,7 +5,7 @@ use Rattle.task_graph.specs.NetRows.{NetRows}
 use Rattle.journal_rules.specs.DataRule.{edges_of}
 use Rattle.table_steps.specs.Releases.{MayBeReleased}
 use Rattle.join_tables.specs.Parts.{parts_in}
-use Rattle.join_tables.specs.Claims.{HasCredited, HasClaimed}
+use Rattle.semaphore_turns.specs.UnitClaims.{HasToClaim}
 use Rattle.join_tables.specs.Batches.{BatchState}
 use Rattle.join_tables.specs.Rests.{IsOfTable}
 use Rattle.join_tables.specs.States.{FreshState, TableState, RunningState, SpentState}
@@ -19,19 +19,17 @@ use Rattle.table_frames.specs.Frames.{FrameKey}
 abbrev pub AreOf : TableId → List FreshState → Type 0
 AreOf n fresh = All (λ (f : FreshState). f.table ≡ n) fresh
 
--- a table is that of a job, whose tasks need no unit and have no inner graph
+-- a table is that of a job, whose tasks have no inner graph
 pub record RunsJob {J V : Type 0} (meaning : Meaning J V) (job : J) (table : TableState) : Type 0 where
   pub net : table.net ≡ meaning.net job
   pub limit : table.limit ≡ meaning.limit job
   pub flat : IsFlatNet (meaning.net job)
 
--- a start that may end or fault, once its work is done
+-- a start whose work may be done, which has claimed no unit yet
 pub record MayWork {V : Type 0} (net : NetRows) (r : RunningState V) : Type 0 where
   pub release : MayBeReleased net r.task r.cause
   pub parts : length (parts_in r.ins) ≡ length (edges_of net r.task r.cause)
-  pub back : r.units.back ≡ []
-  pub credited : HasCredited net r.task r.units
-  pub claimed : HasClaimed net r.task r.units
+  pub claims : HasToClaim net r.task r.units
 
 -- a turn of a frame that is done, as its job allows, and whose entries are in one journal that is legal as far as the net decides
 pub record IsDone {J V : Type 0} (meaning : Meaning J V) (frame : FrameKey J) (spent : SpentState V) : Type 0 where

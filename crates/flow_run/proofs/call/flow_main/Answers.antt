@@ -11,6 +11,7 @@ use Rattle.flow_run.proofs.Plainly.{kept_plainly, plain_completes, plain_done}
 use Rattle.outside_io.specs.Sink.{Took}
 use Rattle.flow_run.proofs.Ending.{no_read_fault}
 use Rattle.flow_run.proofs.Naming.{status_named}
+use Rattle.flow_run.proofs.Upgrading.{upgrade_done}
 use Rattle.flow_run.proofs.call.flow_main.Goals as goal
 
 pub returns-clause-completes : goal.returns-clause-completes
@@ -44,6 +45,12 @@ returns-clause-plainly g c = λ job asks.
             | inr memory ↦ absurd (let never : WriteFault ≡ NoMemory = sym same ∙ memory in cc)
           ]);
     }
+
+pub returns-clause-upgrades : goal.returns-clause-upgrades
+returns-clause-upgrades g c = λ file asks done.
+    let did = c.answer-status.ensures in
+    upgrade_done (g.F.Texts.held c.args.texts.now) file _ _ (map string_bytes c.args.words.now) c.answer-status.result.status c.answer-status.result.runs _ did.ends asks done
+    (did.output.whole (did.output.done done))
 
 pub put_note-noted-requires-clause-named : goal.put_note-noted-requires-clause-named
 put_note-noted-requires-clause-named g c =

@@ -1,14 +1,21 @@
-use Rattle.graph_file.proofs.NameLemmas.{HasLooked-more}
-use Rattle.graph_file.proofs.PlaceLemmas.{HasPlaces-more}
+use Rattle.std.proofs.Common.{◌≡◌, ℕ, List, [], get_or, Bor, ap, ◌∙◌}
+use Rattle.std.proofs.lemmas.List.{get_or_default, take_all}
+use Rattle.std.specs.List.{position}
+use Rattle.std.specs.Str.{bytes_eq}
+use Rattle.graph_file.specs.inside.Reader.{strings}
+use Rattle.graph_file.proofs.NameLemmas.{HasPlaces-string, all-strings}
 use Rattle.graph_file.proofs.lookups.places_of.Goals as goal
+
+abbrev none : Bor (List ℕ)
+none = record { ref_ptr = (0, 0); now = [] }
 
 pub loop-place-preserved : goal.loop-place-preserved
 loop-place-preserved c =
     let i = c.loop-place.place in
-    let here = c.loop-place.invariant in
-    record {
-      places = HasPlaces-more c.loop-place.places c.keep_place.new.places c.args.names.now i c.index-names-place.result c.loop-place-test.true c.index-names-place.is here.places (rw c.as_slice.ensures at c.in_ok-new.ensures.kept);
-      looked = rw c.first_repeated-repeated.ensures
-          (HasLooked-more c.loop-place.places c.loop-place.repeated c.args.names.now i c.index-names-place.result c.in_ok-new.new c.loop-place-test.true c.index-names-place.is here.places
-          (rw c.as_slice.ensures at c.in_ok-new.ensures.new) here.looked);
-    }
+    let names = c.args.names.now in
+    let name : Bor (List ℕ) = get_or names i none in
+    HasPlaces-string c.loop-place.places c.keep_place.new.places names i name c.loop-place-test.true (get_or_default names i none name c.loop-place-test.true) c.loop-place.invariant
+    (rw c.as_bytes.ensures.value at c.in_ok-_new.ensures.kept)
+
+pub returns : goal.returns
+returns c q = c.loop-place.invariant q ∙ ap (position (bytes_eq q)) (all-strings c.args.names.now c.loop-place.place c.loop-place-test.false)

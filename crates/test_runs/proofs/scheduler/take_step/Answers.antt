@@ -1,13 +1,13 @@
-use Rattle.std.proofs.Common.{◌≡◌, ℕ, ◌+◌, ◌++◌, ap, sym, subst, ◌∙◌, inr, arith, All}
+use Rattle.std.proofs.Common.{◌≡◌, ◌+◌, ◌++◌, ap, sym, subst, ◌∙◌, inr, arith, All}
 use Rattle.std.specs.Prelude.{take, drop}
 use Rattle.std.proofs.lemmas.List.Elements.{All-append, All-take, All-drop}
 use Rattle.test_jobs.specs.declared.job.NumberJob.{NumberJob}
-use Rattle.table_frames.specs.Frames.{ReleaseView, BacklogView}
+use Rattle.table_frames.specs.Frames.{ReleaseView}
 use Rattle.test_runs.proofs.scheduler.take_step.Goals as goal
 
 -- What is left is of the frame of the release, and so is what the step made.
 pub returns : goal.returns
-returns c =
+returns g c =
     let old = c.args.pending.now.items in
     let place = c.place_in.result in
     let P : ReleaseView NumberJob → Type 0 = λ release. release.frames ≡ c.requires.frames in
@@ -17,5 +17,5 @@ returns c =
     record {
       frames = c.requires.frames;
       each = subst (All P) (sym c.in_ok-append.ensures.items) (All-append P c.remove-release.new.self.items c.in_ok-released.field-0.released.items (subst (All P) (sym c.remove-release.ensures.by_index.2) left) made);
-      takes = inr (ap (λ (b : BacklogView NumberJob ℕ). b.frames) c.in_ok-released.ensures.ok.backlog ∙ same);
+      takes = inr (c.in_ok-released.ensures.ok.backlog ∙ same);
     }

@@ -1,4 +1,4 @@
-use Rattle.std.proofs.Common.{◌≡◌, sym, ap, subst}
+use Rattle.std.proofs.Common.{◌≡◌, [], ◌∷◌, ◌++◌, sym, ap, ◌∙◌, subst}
 use Rattle.std.proofs.lemmas.List.Elements.{All-push}
 use Rattle.join_tables.specs.States.{FreshState}
 use Rattle.table_frames.specs.inside.Attempts.{IsAgain, release_tried}
@@ -12,7 +12,8 @@ returns-in-Some-clause-made g c =
     let n = c.args.self.now.table in
     let tried = release_tried n c.args.attempt.outcome in
     let again = subst (IsAgain n tried.task tried.cause) c.in-Some.is c.requires.attempt.again in
-    subst (AreOf n) (sym c.push_reserved.ensures.items) (All-push (λ (f : FreshState). f.table ≡ n) c.close-spent.new.made.items c.in-Some.again c.close-spent.ensures.made (ap (λ (f : FreshState). f.table) again.1))
+    let items = c.push_reserved.ensures.items ∙ ap (λ (f : FreshState). c.close-spent.new.made.items ++ f ∷ []) c.fresh.ensures in
+    subst (AreOf n) (sym items) (All-push (λ (f : FreshState). f.table ≡ n) c.close-spent.new.made.items c.in-Some.again c.close-spent.ensures.made (ap (λ (f : FreshState). f.table) again.1))
 
 pub returns-in_default-clause-uses : goal.returns-in_default-clause-uses
 returns-in_default-clause-uses g c =

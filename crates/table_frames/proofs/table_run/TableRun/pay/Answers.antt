@@ -1,4 +1,4 @@
-use Rattle.std.proofs.Common.{◌≡◌, sym, ap, ◌∙◌, subst, arith}
+use Rattle.std.proofs.Common.{◌≡◌, [], ◌∷◌, ◌++◌, sym, ap, ◌∙◌, subst, arith}
 use Rattle.std.proofs.lemmas.List.Elements.{All-push}
 use Rattle.task_graph.specs.NetRows.{NetRows}
 use Rattle.join_tables.specs.States.{FreshState}
@@ -34,13 +34,14 @@ loop-next-preserved g c =
     let next = c.in-Released.next in
     let fresh = c.in-Released.fresh in
     let r = released_is net c.loop-next.owing next fresh c.give.result c.in-Released.is c.give.ensures in
-    let paid = paid_released net c.loop-next.owing next fresh c.loop-next.owing.left c.args.owing.left c.args.made.now.items c.loop-next.made.items c.push_reserved.new.self.items c.give.result c.in-Released.is c.give.ensures c.push_reserved.ensures.items i.paid in
+    let items = c.push_reserved.ensures.items ∙ ap (λ (f : FreshState). c.loop-next.made.items ++ f ∷ []) c.fresh.ensures in
+    let paid = paid_released net c.loop-next.owing next fresh c.loop-next.owing.left c.args.owing.left c.args.made.now.items c.loop-next.made.items c.push_reserved.new.self.items c.give.result c.in-Released.is c.give.ensures items i.paid in
     let left = r.0.left in
     record {
       table = r.0.table ∙ i.table;
       units = r.0.units;
       ended = r.0.ended ∙ i.ended;
-      of = subst (AreOf c.args.self.now.table) (sym c.push_reserved.ensures.items) (All-push (λ (f : FreshState). f.table ≡ c.args.self.now.table) c.loop-next.made.items fresh i.of (r.1 ∙ i.table));
+      of = subst (AreOf c.args.self.now.table) (sym items) (All-push (λ (f : FreshState). f.table ≡ c.args.self.now.table) c.loop-next.made.items fresh i.of (r.1 ∙ i.table));
       paid = subst (λ m. PaidSoFar net m c.args.owing.left next.left c.args.made.now.items c.push_reserved.new.self.items) (sym r.0.table) paid;
       few = omega (arith, i.few, left, c.push_reserved.ensures.len);
       bare = r.0.bare ∙ i.bare;
