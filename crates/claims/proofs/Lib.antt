@@ -12,6 +12,7 @@ pub mod WorkedYards
 pub mod WorkedSlots
 pub mod WorkedTurns
 pub mod WorkedUnitTurns
+pub mod WorkedParking
 pub mod WorkedEndValues
 pub mod WorkedEntries
 pub mod WorkedMachine

@@ -325,14 +325,14 @@ module _ (n m : TableId) (other : m ≢ n) where
   one_alone_is_dropped d settles = settles.1
 
   -- ---- Releases that may be taken up.
-  ready_as_its_release : (ready_as {V = ℕ} (ready.Fresh waiting) ≡ waiting) × (ready_as {V = ℕ} (ready.Woken (turn [] (2 ∷ []))) ≡ waiting)
+  ready_as_its_release : (ready_as {V = ℕ} (ready.Fresh waiting) ≡ waiting) × (ready_as {V = ℕ} (ready.Woken (turn [] (2 ∷ [])) 0) ≡ waiting)
   ready_as_its_release = (refl, refl)
 
-  unheld : IsUnheld {V = ℕ} (ready.Fresh waiting) × IsUnheld {V = ℕ} (ready.Woken (turn [] (2 ∷ [])))
+  unheld : IsUnheld {V = ℕ} (ready.Fresh waiting) × IsUnheld {V = ℕ} (ready.Woken (turn [] (2 ∷ [])) 0)
   unheld = (tt, (refl, refl))
 
-  woken_with_a_unit : ¬ IsUnheld {V = ℕ} (ready.Woken (turn (0 ∷ []) []))
+  woken_with_a_unit : ¬ IsUnheld {V = ℕ} (ready.Woken (turn (0 ∷ []) []) 0)
   woken_with_a_unit is = let no : ◌≡◌ {A = List ℕ} (0 ∷ []) [] = is.1 in absurd (cc)
 
-  woken_though_refused : ¬ IsUnheld {V = ℕ} (ready.Woken (turn_with n 0 Strong (Some Limit) [] []))
+  woken_though_refused : ¬ IsUnheld {V = ℕ} (ready.Woken (turn_with n 0 Strong (Some Limit) [] []) 0)
   woken_though_refused is = let no : Some Limit ≡ None = is.0 in absurd (cc)

@@ -3,6 +3,7 @@ pub mod HeldUnits
 pub mod UnitClaims
 pub mod WaitingTurns
 pub mod WokenTurns
+pub mod YardTurns
 pub mod Settlements
 pub mod ReadyTurns
 pub mod inside

@@ -8,9 +8,9 @@ use Rattle.semaphore_turns.specs.declared.ready_kind.ReadyKind.TheVariants.{Fres
 -- the release, new or woken
 abbrev pub ready_as : {V : Type 0} → ReadyKind V → FreshState
 ready_as (Fresh fresh) = fresh
-ready_as (Woken turn) = release_of turn
+ready_as (Woken turn sem) = release_of turn
 
 -- it wasn't refused and holds no unit
 abbrev pub IsUnheld : {V : Type 0} → ReadyKind V → Type 0
 IsUnheld (Fresh fresh) = Unit {0}
-IsUnheld (Woken turn) = (turn.refused ≡ None) × (turn.held ≡ [])
+IsUnheld (Woken turn sem) = (turn.refused ≡ None) × (turn.held ≡ [])

@@ -18,7 +18,9 @@
 //! taken to wake (`wake_turns`). A parked turn holds no unit. So what a turn had taken before the semaphore without a unit
 //! is put back, and what is parked there is woken in its place.
 //!
-//! A turn that is woken has the unit not yet: another may take it first, and then the turn is parked again.
+//! A turn that is woken has the unit not yet: another may take it first, and then the turn is parked again. It may also find
+//! no unit of another semaphore before it comes to this one. Then it is parked for that, and the next that waits for this
+//! one is woken in its place; else a unit could lie there while others wait for it.
 //!
 //! # What is parked when nothing else is left
 //!
@@ -31,8 +33,8 @@
 //! # What the layer above may know
 //!
 //! `specs/HeldUnits.antt` says what a turn holds, `specs/UnitClaims.antt` what a start has claimed, `specs/WaitingTurns.antt`
-//! what it means to wait in a yard, `specs/WokenTurns.antt` which releases are woken, and `specs/Settlements.antt` what becomes of
-//! the parked ones. That a turn is woken in time isn't proved.
+//! what it means to wait in a yard, `specs/WokenTurns.antt` which releases are woken, `specs/YardTurns.antt` what is parked
+//! before and after, and `specs/Settlements.antt` what becomes of the parked ones. That a turn is woken in time isn't proved.
 #![tactic(auto)]
 
 mod claims;

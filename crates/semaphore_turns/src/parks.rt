@@ -1,11 +1,13 @@
 // The parking of turns.
-ghost use Rattle.std.specs.Prelude.{◌≡◌, ◌≤◌, ◌+◌, None, IfOk, OnErr, length};
+ghost use Rattle.std.specs.Prelude.{◌≡◌, ◌<◌, ◌≤◌, ◌+◌, None, IfOk, OnErr, length};
+ghost use Rattle.std.specs.List.{AllByRecursion};
 ghost use Rattle.std.specs.Vec.{vec_capacity, vec_len};
 ghost use Rattle.semaphore_park.specs.Parking.{yard_key};
 ghost use Rattle.semaphore_turns.specs.Semaphores.{taken_by};
 ghost use Rattle.semaphore_turns.specs.HeldUnits.{HoldsFirst, LacksUnit};
 ghost use Rattle.semaphore_turns.specs.WaitingTurns.{yard_of};
 ghost use Rattle.semaphore_turns.specs.WokenTurns.{ParkedFor, ParksTurn, Wakes};
+ghost use Rattle.semaphore_turns.specs.YardTurns.{LeavesParked, ParksLast, WakesFirst, passed_over};
 
 use crate::parked_turn::{ParkedTurn, TurnYard};
 use crate::ready_turn::ReadyTurn;
@@ -26,15 +28,17 @@ pub enum Parking<V> {
     Parked(Snapshot<Turn<V>>),
 }
 
-/// Parks a turn that found no unit of the semaphore at a place among those that its task takes, unless it finds one now. Then
-/// the units that it has are put back, and for each a turn is woken that waits for one. If an allocation fails the turn is
-/// given up, and nothing is woken.
+/// Parks a turn that found no unit of the semaphore at a place among those that its task takes, unless it finds one now. It is
+/// parked behind all that wait for the same unit, and the units that it has are put back. For each of them the turn is woken
+/// that was parked for one first. If the turn itself was woken for a unit that it has not come to, the next that is parked
+/// for that one is woken in its place. If an allocation fails the turn is given up, and nothing is woken.
 pub fn park_turn<V: Drop>(
     table: &NetTable<V>,
     net: &Net,
     yard: &mut TurnYard<V>,
     turn: Turn<V>,
     place: usize,
+    woken_for: Option<u32>,
     ready: &mut Vec<ReadyTurn<V>>,
 ) -> Result<Parking<V>, NoMemory>
     requires net { net.now ≡ table.now.net }
@@ -47,6 +51,8 @@ pub fn park_turn<V: Drop>(
     ensures yard { yard_key yard.new ≡ yard_of table.now }
     ensures parks { IfOk result
         (λ parking. ParksTurn table.now turn parking ready.old.items ready.new.items) }
+    ensures leaves { IfOk result (λ parking. LeavesParked net.now turn.task woken_for parking yard.old
+        yard.new ready.old.items ready.new.items) }
     ensures err { OnErr result (ready.new.items ≡ ready.old.items) }
     ensures capacity { vec_capacity ready.new ≡ vec_capacity ready.old }
     ensures few { vec_len ready.new ≤ vec_len ready.old + length (taken_by net.now turn.task) }
@@ -54,7 +60,7 @@ pub fn park_turn<V: Drop>(
     match take_units(table, net, turn, place) {
         TakenUnits::All(turn) => Ok(Parking::Taken(turn)),
         TakenUnits::Lacks(turn, place) => {
-            let parked = park(table, net, yard, turn, place, ready)?;
+            let parked = park(table, net, yard, turn, place, woken_for, ready)?;
             Ok(Parking::Parked(parked))
         }
     }
@@ -67,6 +73,7 @@ fn park<V: Drop>(
     yard: &mut TurnYard<V>,
     turn: Turn<V>,
     place: usize,
+    woken_for: Option<u32>,
     ready: &mut Vec<ReadyTurn<V>>,
 ) -> Result<Snapshot<Turn<V>>, NoMemory>
     requires net { net.now ≡ table.now.net }
@@ -79,6 +86,8 @@ fn park<V: Drop>(
     ensures parks { IfOk result (λ parked. ParkedFor table.now turn parked.value) }
     ensures wakes { IfOk result (λ _. Wakes table.now (taken_by net.now turn.task) ready.old.items
         ready.new.items) }
+    ensures last { IfOk result (λ parked. ParksLast net.now turn.task woken_for parked.value yard.old
+        yard.new ready.old.items ready.new.items) }
     ensures err { OnErr result (ready.new.items ≡ ready.old.items) }
     ensures capacity { vec_capacity ready.new ≡ vec_capacity ready.old }
     ensures few { vec_len ready.new ≤ vec_len ready.old + length (taken_by net.now turn.task) }
@@ -88,5 +97,32 @@ fn park<V: Drop>(
     let parked = Snapshot::of(&turn);
     yard.park_in(takes[place], ParkedTurn::new(turn))?;
     wake_turns(yard, &takes[..place], ready);
+    pass_on(yard, &takes[place + 1..], woken_for, ready);
     Ok(parked)
+}
+
+// Wakes the next turn for a unit, where one that was woken for it has not come to it: it is one of these semaphores.
+fn pass_on<V: Drop>(
+    yard: &mut TurnYard<V>,
+    sems: &[u32],
+    woken_for: Option<u32>,
+    ready: &mut Vec<ReadyTurn<V>>,
+)
+    requires in_range { AllByRecursion (λ sem. sem < length yard.old.lists) sems.now }
+    requires room { vec_len ready.old + length (passed_over sems.now woken_for)
+        ≤ vec_capacity ready.old }
+    ensures yard { yard_key yard.new ≡ yard_key yard.old }
+    ensures wakes { Wakes yard.old.home (passed_over sems.now woken_for) ready.old.items
+        ready.new.items }
+    ensures first { WakesFirst (passed_over sems.now woken_for) yard.old yard.new ready.old.items
+        ready.new.items }
+    ensures capacity { vec_capacity ready.new ≡ vec_capacity ready.old }
+    ensures few { vec_len ready.new
+        ≤ vec_len ready.old + length (passed_over sems.now woken_for) }
+{
+    if let Some(sem) = woken_for {
+        if sems.contains(&sem) {
+            wake_turns(yard, &[sem], ready);
+        }
+    }
 }

@@ -6,6 +6,6 @@ use join_tables::{Fresh, Turn};
 pub enum ReadyKind<V> {
     /// It has collected no token.
     Fresh(Fresh<V>),
-    /// It was parked and is woken. It has its tokens, and no unit.
-    Woken(Turn<V>),
+    /// It was parked on this semaphore and is woken. It has its tokens, and no unit.
+    Woken(Turn<V>, u32),
 }

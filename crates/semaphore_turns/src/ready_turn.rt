@@ -43,14 +43,14 @@ impl<V> ReadyTurn<V> {
         }
     }
 
-    /// One that was parked.
-    pub fn woken(turn: Turn<V>) -> ReadyTurn<V>
+    /// One that was parked on a semaphore.
+    pub fn woken(turn: Turn<V>, sem: u32) -> ReadyTurn<V>
         requires refused { turn.refused ≡ None }
         requires held { turn.held ≡ [] }
         ensures { result ≡ release_of turn }
     {
         ReadyTurn {
-            kind: ReadyKind::Woken(turn),
+            kind: ReadyKind::Woken(turn, sem),
         }
     }
 
@@ -79,7 +79,7 @@ impl<V: Drop> ReadyTurn<V> {
     {
         match &self.kind {
             ReadyKind::Fresh(fresh) => fresh.task(),
-            ReadyKind::Woken(turn) => turn.task(),
+            ReadyKind::Woken(turn, _) => turn.task(),
         }
     }
 
@@ -89,7 +89,7 @@ impl<V: Drop> ReadyTurn<V> {
     {
         match &self.kind {
             ReadyKind::Fresh(fresh) => fresh.cause(),
-            ReadyKind::Woken(turn) => turn.cause(),
+            ReadyKind::Woken(turn, _) => turn.cause(),
         }
     }
 }

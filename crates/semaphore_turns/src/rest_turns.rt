@@ -1,9 +1,11 @@
 // Parked turns that are taken into a rest.
-ghost use Rattle.std.specs.Prelude.{◌≡◌, ◌<◌, ◌≤◌, ◌+◌, [], IfOk, length};
+ghost use Rattle.std.specs.Prelude.{◌≡◌, ◌<◌, ◌≤◌, ◌+◌, ◌++◌, ◌∷◌, [], IfOk, OnOk, length};
 ghost use Rattle.std.specs.Vec.{vec_capacity, vec_len};
+ghost use Rattle.join_tables.specs.RestStates.{parked_as};
 ghost use Rattle.semaphore_park.specs.Parking.{yard_key};
 ghost use Rattle.semaphore_turns.specs.WaitingTurns.{WaitsAt, yard_of};
-ghost use Rattle.semaphore_turns.specs.inside.RestTurns.{RestsOn, IsUntouched};
+ghost use Rattle.semaphore_turns.specs.YardTurns.{releases_in};
+ghost use Rattle.semaphore_turns.specs.inside.RestTurns.{RestsOn, IsUntouched, put_back};
 
 use crate::parked_turn::{ParkedTurn, TurnYard};
 use join_tables::{NetTable, Rest, Turn};
@@ -31,6 +33,8 @@ pub(crate) fn take_parked<V: Drop>(
     ensures yard { yard_key yard.new ≡ yard_of table.now }
     ensures rests { IfOk result (λ turns. RestsOn table.now turns.rest turns.sems.items) }
     ensures untouched { IfOk result (λ turns. IsUntouched turns.rest) }
+    ensures back { IfOk result (λ turns. put_back table.now.table turns.rest.turns turns.sems.items
+        (releases_in yard.new) ≡ releases_in yard.old) }
 {
     let mut turns = RestTurns {
         rest: Rest::with_room(alloc, room)?,
@@ -57,6 +61,8 @@ fn take_from<V: Drop>(
     ensures yard { yard_key yard.new ≡ yard_of table.now }
     ensures rests { RestsOn table.now result.rest result.sems.items }
     ensures untouched { IsUntouched result.rest }
+    ensures back { put_back table.now.table result.rest.turns result.sems.items (releases_in yard.new)
+        ≡ put_back table.now.table turns.rest.turns turns.sems.items (releases_in yard.old) }
     ensures room { (result.rest.room ≡ turns.rest.room)
         × (vec_capacity result.sems ≡ vec_capacity turns.sems) }
 {
@@ -71,34 +77,31 @@ fn take_from<V: Drop>(
     RestTurns { rest, sems }
 }
 
-/// Parks the turns of a rest again, each before what is parked on its semaphore, all but the first so many. If an allocation
-/// fails they are given up.
+/// Parks the turns of a rest again, the last first, each before what is parked on its semaphore. If an allocation fails they
+/// are given up.
 pub(crate) fn park_again<V: Drop>(
     table: &NetTable<V>,
     yard: &mut TurnYard<V>,
     turns: RestTurns<V>,
-    left: usize,
-) -> Result<RestTurns<V>, NoMemory>
+) -> Result<(), NoMemory>
     requires yard { yard_key yard.old ≡ yard_of table.now }
     requires rests { RestsOn table.now turns.rest turns.sems.items }
     requires undropped { turns.rest.dropped ≡ [] }
-    requires left { left ≤ vec_len turns.sems }
     ensures yard { yard_key yard.new ≡ yard_of table.now }
-    ensures rests { IfOk result (λ turns. RestsOn table.now turns.rest turns.sems.items) }
-    ensures undropped { IfOk result (λ turns. turns.rest.dropped ≡ []) }
-    ensures left { IfOk result (λ turns. vec_len turns.sems ≡ left) }
+    ensures back { OnOk result (releases_in yard.new
+        ≡ put_back table.now.table turns.rest.turns turns.sems.items (releases_in yard.old)) }
 {
     let mut turns = turns;
-    while turns.sems.len() > left {
+    while turns.sems.len() > 0 {
         let (others, sem, turn) = pop(table, turns);
         yard.park_first(sem, ParkedTurn::new(turn))?;
         turns = others;
     }
-    Ok(turns)
+    Ok(())
 }
 
-/// Takes out the last turn of a rest, with its semaphore.
-pub(crate) fn pop<V: Drop>(table: &NetTable<V>, turns: RestTurns<V>) -> (RestTurns<V>, u32, Turn<V>)
+// Takes out the last turn of a rest, with its semaphore.
+fn pop<V: Drop>(table: &NetTable<V>, turns: RestTurns<V>) -> (RestTurns<V>, u32, Turn<V>)
     requires rests { RestsOn table.now turns.rest turns.sems.items }
     requires undropped { turns.rest.dropped ≡ [] }
     requires some { 1 ≤ vec_len turns.sems }
@@ -107,6 +110,9 @@ pub(crate) fn pop<V: Drop>(table: &NetTable<V>, turns: RestTurns<V>) -> (RestTur
     ensures fewer { vec_len result.0.sems + 1 ≡ vec_len turns.sems }
     ensures sem { result.1 < length table.now.net.sems }
     ensures waits { WaitsAt result.2 table.now result.1 }
+    ensures turns { turns.rest.turns
+        ≡ result.0.rest.turns ++ parked_as result.2.task result.2.cause ∷ [] }
+    ensures sems { turns.sems.items ≡ result.0.sems.items ++ result.1 ∷ [] }
 {
     let RestTurns { rest, mut sems } = turns;
     let Some(sem) = sems.pop() else {

@@ -1,14 +1,15 @@
 // What becomes of parked turns when nothing else is left.
-ghost use Rattle.std.specs.Prelude.{◌≡◌, ◌≢◌, ◌<◌, ◌≤◌, [], None, Some, IfOk, length};
+ghost use Rattle.std.specs.Prelude.{◌≡◌, ◌≢◌, ◌<◌, ◌≤◌, [], None, Some, All, IfOk, IsTrue, length};
 ghost use Rattle.std.specs.Vec.{vec_len};
 ghost use Rattle.semaphore_park.specs.Parking.{yard_key};
-ghost use Rattle.semaphore_turns.specs.Settlements.{Settles, AreDrops};
+ghost use Rattle.semaphore_turns.specs.Settlements.{Settles, AreDrops, LeavesSettled};
 ghost use Rattle.semaphore_turns.specs.WaitingTurns.{yard_of};
-ghost use Rattle.semaphore_turns.specs.inside.RestTurns.{IsQuiet, MayDropAll, RestsOn, IsLookAt, IsUnitLook};
+ghost use Rattle.semaphore_turns.specs.YardTurns.{releases_in};
+ghost use Rattle.semaphore_turns.specs.inside.RestTurns.{IsQuiet, MayDropAll, DropsTurns, RestsOn, IsLookAt, LeavesLook, IsUnitLook, put_back};
 
 use crate::parked_turn::TurnYard;
 use crate::ready_turn::ReadyTurn;
-use crate::rest_turns::{RestTurns, park_again, pop, take_parked};
+use crate::rest_turns::{RestTurns, park_again, take_parked};
 use join_tables::{Checked, NetTable, RestDrop, Spent, UnitLook};
 use journal_rules::DropWhy;
 use outside_io::NoMemory;
@@ -38,8 +39,8 @@ pub(crate) enum Look<V> {
 // What a search for a unit found.
 #[derive(Drop)]
 pub(crate) enum UnitSearch<V> {
-    // The semaphore of the turn at this place has a unit.
-    Free(RestTurns<V>, usize),
+    // This semaphore has one.
+    Free(RestTurns<V>, u32),
     // No semaphore of these turns has one.
     Full(RestTurns<V>),
 }
@@ -58,6 +59,8 @@ pub fn settle<V: Drop>(
     requires yard { yard_key yard.old ≡ yard_of table.now }
     ensures yard { yard_key yard.new ≡ yard_of table.now }
     ensures settles { IfOk result (Settles table.now) }
+    ensures leaves { IfOk result (λ settled. LeavesSettled table.now settled (releases_in yard.old)
+        (releases_in yard.new)) }
 {
     let sem_count = net.sems().len() as u32;
     let parked = count_parked(yard, sem_count);
@@ -94,6 +97,8 @@ fn look_twice<V: Drop>(
     requires sems { sem_count ≡ length table.now.net.sems }
     ensures yard { yard_key yard.new ≡ yard_of table.now }
     ensures look { IfOk result (IsLookAt table.now) }
+    ensures leaves { IfOk result (λ look. LeavesLook table.now look (releases_in yard.old)
+        (releases_in yard.new)) }
 {
     match look_at(table, alloc, yard, sem_count, 1)? {
         Look::Busy(live) if live == parked as u64 => look_at(table, alloc, yard, sem_count, parked),
@@ -113,21 +118,38 @@ fn look_at<V: Drop>(
     requires sems { sem_count ≡ length table.now.net.sems }
     ensures yard { yard_key yard.new ≡ yard_of table.now }
     ensures look { IfOk result (IsLookAt table.now) }
+    ensures leaves { IfOk result (λ look. LeavesLook table.now look (releases_in yard.old)
+        (releases_in yard.new)) }
 {
     let RestTurns { rest, sems } = take_parked(table, alloc, yard, sem_count, room)?;
     if rest.len() == 0 {
         return Ok(Look::Busy(0));
     }
     match table.rest_check(rest) {
-        Checked::Busy(rest, live) => {
-            park_again(table, yard, RestTurns { rest, sems }, 0)?;
+        Checked::Alone(rest, faulted) if is_empty(yard, sem_count) => {
+            Ok(Look::Alone(RestTurns { rest, sems }, faulted))
+        }
+        Checked::Alone(rest, _faulted) => {
+            let live = rest.len() as u64;
+            park_again(table, yard, RestTurns { rest, sems })?;
             Ok(Look::Busy(live))
         }
-        Checked::Alone(rest, faulted) => Ok(Look::Alone(RestTurns { rest, sems }, faulted)),
+        Checked::Busy(rest, live) => {
+            park_again(table, yard, RestTurns { rest, sems })?;
+            Ok(Look::Busy(live))
+        }
     }
 }
 
-// Goes on with the first turn whose semaphore has a unit, or drops all.
+// Whether nothing is parked.
+fn is_empty<V: Drop>(yard: &TurnYard<V>, sem_count: u32) -> bool
+    requires { sem_count ≡ length yard.now.lists }
+    ensures { IsTrue result → All (λ list. list ≡ []) (releases_in yard.now).lists }
+{
+    (0..sem_count).all(|sem| yard.count(sem) == 0)
+}
+
+// Goes on with the first turn that is parked on a semaphore with a unit, or drops all.
 fn go_on<V: Drop>(
     table: &NetTable<V>,
     yard: &mut TurnYard<V>,
@@ -136,30 +158,38 @@ fn go_on<V: Drop>(
     requires yard { yard_key yard.old ≡ yard_of table.now }
     requires rests { RestsOn table.now turns.rest turns.sems.items }
     requires quiet { IsQuiet turns.rest × (turns.rest.turns ≢ []) }
+    requires all { All (λ list. list ≡ []) (releases_in yard.old).lists }
     ensures yard { yard_key yard.new ≡ yard_of table.now }
     ensures settles { IfOk result (Settles table.now) }
+    ensures leaves { IfOk result (λ settled. LeavesSettled table.now settled
+        (put_back table.now.table turns.rest.turns turns.sems.items (releases_in yard.old))
+        (releases_in yard.new)) }
 {
     match find_unit(table, turns) {
-        UnitSearch::Free(turns, place) => {
-            let turns = park_again(table, yard, turns, place + 1)?;
-            let (others, _sem, turn) = pop(table, turns);
-            park_again(table, yard, others, 0)?;
-            Ok(Settled::Goes(ReadyTurn::woken(turn)))
+        UnitSearch::Free(turns, sem) => {
+            park_again(table, yard, turns)?;
+            let Some(parked) = yard.wake_in(sem) else {
+                unreachable!()
+            };
+            Ok(Settled::Goes(ReadyTurn::woken(parked.into_turn(), sem)))
         }
         UnitSearch::Full(turns) => Ok(Settled::Over(drop_all(table, turns, false))),
     }
 }
 
-// Looks for the first turn of a rest that is alone whose semaphore has a unit.
+// Looks for a semaphore with a unit among those of a rest that is alone.
 fn find_unit<V: Drop>(table: &NetTable<V>, turns: RestTurns<V>) -> UnitSearch<V>
     requires rests { RestsOn table.now turns.rest turns.sems.items }
     requires quiet { IsQuiet turns.rest × (turns.rest.turns ≢ []) }
-    ensures { IsUnitLook table.now result }
+    ensures { IsUnitLook table.now turns.rest.turns turns.sems.items result }
 {
     let RestTurns { mut rest, sems } = turns;
     for place in 0..sems.len() {
         match table.rest_full(rest, sems[place]) {
-            UnitLook::Available(rest) => return UnitSearch::Free(RestTurns { rest, sems }, place),
+            UnitLook::Available(rest) => {
+                let sem = sems[place];
+                return UnitSearch::Free(RestTurns { rest, sems }, sem);
+            }
             UnitLook::Exhausted(more) => rest = more,
         }
     }
@@ -170,8 +200,10 @@ fn find_unit<V: Drop>(table: &NetTable<V>, turns: RestTurns<V>) -> UnitSearch<V>
 fn drop_all<V: Drop>(table: &NetTable<V>, turns: RestTurns<V>, faulted: bool) -> Spent<V>
     requires rests { RestsOn table.now turns.rest turns.sems.items }
     requires may { MayDropAll turns.rest turns.sems.items faulted }
+    requires undropped { turns.rest.dropped ≡ [] }
     ensures table { result.table ≡ table.now.table }
     ensures drops { AreDrops result.fate }
+    ensures turns { DropsTurns table.now.table turns.rest.turns result.fate }
 {
     let RestTurns { mut rest, mut sems } = turns;
     loop {

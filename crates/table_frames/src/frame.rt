@@ -117,11 +117,34 @@ impl<J: Job + Drop> Frame<J> {
             ⊎ (backlog.new ≡ backlog_view release.frames backlog.old.fates)) }
     {
         let Release { frame, ready } = release;
-        let TakenUp { turn, again } = frame.take_up(ready)?;
+        let TakenUp {
+            turn,
+            again,
+            woken_for,
+        } = frame.take_up(ready)?;
         match frame.take_units(turn) {
-            TakenUnits::All(turn) => Frame::work(rt, frame, TakenUp { turn, again }, backlog),
+            TakenUnits::All(turn) => Frame::work(
+                rt,
+                frame,
+                TakenUp {
+                    turn,
+                    again,
+                    woken_for,
+                },
+                backlog,
+            ),
             TakenUnits::Lacks(turn, place) => {
-                Frame::park(rt, frame, TakenUp { turn, again }, place, backlog)
+                Frame::park(
+                    rt,
+                    frame,
+                    TakenUp {
+                        turn,
+                        again,
+                        woken_for,
+                    },
+                    place,
+                    backlog,
+                )
             }
         }
     }
@@ -144,13 +167,26 @@ impl<J: Job + Drop> Frame<J> {
             ((backlog.new ≡ backlog.old)
             ⊎ (backlog.new ≡ backlog_view (arc_value frame) backlog.old.fates)) }
     {
-        let TakenUp { turn, again } = taken;
+        let TakenUp {
+            turn,
+            again,
+            woken_for,
+        } = taken;
         backlog.batch.make_room(&frame)?;
         let count = frame.count_takes(&turn) + 1;
         let room = ReleaseRoom::new(backlog.alloc, &frame, count)?;
         backlog.made.reserve(count)?;
-        match frame.park_turn(rt, turn, place, &mut backlog.made)? {
-            Parking::Taken(turn) => Frame::work(rt, frame, TakenUp { turn, again }, backlog),
+        match frame.park_turn(rt, turn, place, woken_for, &mut backlog.made)? {
+            Parking::Taken(turn) => Frame::work(
+                rt,
+                frame,
+                TakenUp {
+                    turn,
+                    again,
+                    woken_for,
+                },
+                backlog,
+            ),
             Parking::Parked(turn) => {
                 add_again(&mut backlog.made, again);
                 Ok(Stepped {
@@ -267,6 +303,7 @@ impl<J: Job + Drop> Frame<J> {
         rt: &R,
         turn: Turn<J::V>,
         place: usize,
+        woken_for: Option<u32>,
         made: &mut Vec<ReadyTurn<J::V>>,
     ) -> Result<Parking<J::V>, NoMemory>
         requires turn { HasTable self.now turn.table × (turn.refused ≡ None) }
@@ -284,7 +321,7 @@ impl<J: Job + Drop> Frame<J> {
             value: mut yard,
             pass,
         } = self.yard.lock(rt);
-        let parking = self.run.park(&mut yard, turn, place, made);
+        let parking = self.run.park(&mut yard, turn, place, woken_for, made);
         self.yard.unlock(Held { value: yard, pass });
         parking
     }

@@ -74,7 +74,7 @@ impl<J: Job + Drop> Release<J> {
     {
         match self.ready.kind() {
             ReadyKind::Fresh(fresh) => HeldBy::Fresh(fresh),
-            ReadyKind::Woken(turn) => HeldBy::Turn(turn),
+            ReadyKind::Woken(turn, _) => HeldBy::Turn(turn),
         }
     }
 }

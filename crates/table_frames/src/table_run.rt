@@ -87,11 +87,13 @@ pub struct Begun<J: Job> {
     pub kept: RunKeeper<J>,
 }
 
-/// A release that has collected its tokens, and the next release of its task, by tokens that were left.
+/// A release that has collected its tokens, the next release of its task, by tokens that were left, and the semaphore for a
+/// unit of which it was woken.
 #[derive(Drop)]
 pub struct TakenUp<V> {
     pub turn: Turn<V>,
     pub again: Option<Fresh<V>>,
+    pub woken_for: Option<u32>,
 }
 
 impl<J: Job + Drop> TableRun<J> {
@@ -126,7 +128,11 @@ impl<J: Job + Drop> TableRun<J> {
     {
         match ready.into_kind() {
             ReadyKind::Fresh(fresh) => self.collect(fresh),
-            ReadyKind::Woken(turn) => Ok(TakenUp { turn, again: None }),
+            ReadyKind::Woken(turn, sem) => Ok(TakenUp {
+                turn,
+                again: None,
+                woken_for: Some(sem),
+            }),
         }
     }
 
@@ -154,6 +160,7 @@ impl<J: Job + Drop> TableRun<J> {
         yard: &mut TurnYard<J::V>,
         turn: Turn<J::V>,
         place: usize,
+        woken_for: Option<u32>,
         made: &mut Vec<ReadyTurn<J::V>>,
     ) -> Result<Parking<J::V>, NoMemory>
         requires yard { yard_key yard.old ≡ yard_of (table_in J.meaning self.now) }
@@ -169,7 +176,15 @@ impl<J: Job + Drop> TableRun<J> {
         ensures few { vec_len made.new
             ≤ vec_len made.old + length (taken_by (J.meaning.net self.now.job) turn.task) }
     {
-        park_turn(&self.table, self.job.net(), yard, turn, place, made)
+        park_turn(
+            &self.table,
+            self.job.net(),
+            yard,
+            turn,
+            place,
+            woken_for,
+            made,
+        )
     }
 
     /// Decides what becomes of the parked turns.
@@ -213,7 +228,11 @@ impl<J: Job + Drop> TableRun<J> {
         ensures release { IfOk result
             (λ attempt. release_tried self.now.table attempt.outcome ≡ release_of taken.turn) }
     {
-        let TakenUp { turn, again } = taken;
+        let TakenUp {
+            turn,
+            again,
+            woken_for: _,
+        } = taken;
         let outcome = self.start(turn)?;
         Ok(Attempt { outcome, again })
     }
@@ -300,10 +319,19 @@ impl<J: Job + Drop> TableRun<J> {
         loop {
             match self.table.collect(collecting) {
                 Collected::More(more) => collecting = more,
-                Collected::Last(turn) => return Ok(TakenUp { turn, again: None }),
+                Collected::Last(turn) => {
+                    return Ok(TakenUp {
+                        turn,
+                        again: None,
+                        woken_for: None,
+                    });
+                }
                 Collected::LastAgain(turn, again) => {
-                    let again = Some(again);
-                    return Ok(TakenUp { turn, again });
+                    return Ok(TakenUp {
+                        turn,
+                        again: Some(again),
+                        woken_for: None,
+                    });
                 }
             }
         }

@@ -95,6 +95,49 @@ const STUCK_LATER: Table = Table {
 1000000 -> 0 written, run of 8 [== c|x|== d|1|] []",
 };
 
+// The second task takes a unit of each semaphore, and the first keeps one of them: that is the one it waits for.
+const STUCK_OF_TWO: Table = Table {
+    graph: r#"{"version":2,"tasks":[
+    {"name":"a","op":"read","text":"t","to":["b"],"acquire":[@1]},
+    {"name":"b","op":"pass","acquire":["s","u"],"release":["s","u"]}],
+    "semaphores":[{"name":"s","max":1},{"name":"u","max":1}]}"#,
+    call: "run g --journal --workers * -> x| -> - -> 10 written, run of 3 [flow journal 2|start 0 source -|end 0 0 plain|drop 1 strong stuck:@2|] [flow: stuck b|]",
+    rows: r#""s" -> 0
+"u" -> 1"#,
+};
+
+// Neither of two tasks gives back the one unit that both want. With one worker the last in the file is the first to take it.
+const STUCK_AT_ONCE: Table = Table {
+    graph: r#"{"version":2,"tasks":[
+    {"name":"a","op":"read","text":"t","acquire":["s"]},
+    {"name":"c","op":"read","text":"t","acquire":["s"]}],
+    "semaphores":[{"name":"s","max":1}]}"#,
+    call: CALL,
+    rows: "run g --journal --workers 1 -> x| -> - -> 10 written, run of 3 [flow journal 2|start 1 source -|end 0 - plain|drop 0 source stuck:0|] [flow: stuck a|]",
+};
+
+// A unit is given back that nobody took.
+const OVER_AT_ONCE: Table = Table {
+    graph: r#"{"version":2,"tasks":[{"name":"a","op":"read","text":"t","release":["s"]}],"semaphores":[{"name":"s","max":1}]}"#,
+    call: CALL,
+    rows: "run g --journal --workers * -> x| -> - -> 9 written, run of 2 [flow journal 2|start 0 source -|fault 0 over:0|] [flow: fault a: over 0|]",
+};
+
+// A unit of the second semaphore comes back, and the first task that waits for it waits for the other one too. The unit is
+// passed on to the next: `u` ends, and both tasks that also take the other are dropped.
+const PASSED_ON: Table = Table {
+    graph: r#"{"version":2,"tasks":[
+    {"name":"h","op":"read","text":"t","to":["t1","t2","u","g"],"acquire":["b"]},
+    {"name":"t1","op":"pass","acquire":["a","b"],"release":["a","b"]},
+    {"name":"t2","op":"pass","acquire":["a","b"],"release":["a","b"]},
+    {"name":"u","op":"pass","acquire":["b"],"release":["b"]},
+    {"name":"g","op":"pass","to":["f"],"acquire":["a"]},
+    {"name":"f","op":"count","release":["b"]}],
+    "semaphores":[{"name":"a","max":1},{"name":"b","max":1}]}"#,
+    call: CALL,
+    rows: "run g --workers 1 -> x| -> - -> 10 written, run of 10 [-- t1|-- t2|== u|x|== f|1|!! stuck t1|] [flow: stuck t1|]",
+};
+
 // A unit that is given back though none is out: of the first semaphore, and of the second beside one that is out.
 const OVER_RELEASE: Table = Table {
     graph: r#"{"version":2,"tasks":[
@@ -203,7 +246,7 @@ fault 0 long:9|drop 1 source halted -> 0 written [complete|] []
 drop 1 source stuck:0 -> 12 written [] [flow: bad journal line 3|]",
 };
 
-pub const TABLES: [Table; 15] = [
+pub const TABLES: [Table; 19] = [
     UNIT_OF_ONE,
     UNIT_OF_ONE_IN_VERSION_2,
     LIMIT_WHILE_PARKED,
@@ -211,6 +254,10 @@ pub const TABLES: [Table; 15] = [
     OTHER_ORDER,
     STUCK,
     STUCK_LATER,
+    STUCK_OF_TWO,
+    STUCK_AT_ONCE,
+    OVER_AT_ONCE,
+    PASSED_ON,
     OVER_RELEASE,
     BACK_TWICE,
     FAULT_WHILE_PARKED,
