@@ -1,6 +1,6 @@
 -- Turns of a rest with their semaphores, and releases that are woken.
-use Rattle.std.proofs.Common.{◌≡◌, ◌≢◌, ℕ, zero, suc, ◌+◌, ◌-◌, ◌<◌, ◌≤◌, Bool, true, false, ◌||◌, List, [], ◌∷◌, ◌++◌, length, take, Some, None, append_assoc, refl, sym, ap, ◌∙◌, subst, arith, get_or}
-use Rattle.std.specs.Prelude.{◌==◌, slice_get, IsTrue, IsSomeAnd, All}
+use Rattle.std.proofs.Common.{◌≡◌, ◌≢◌, ℕ, zero, suc, ◌+◌, ◌-◌, ◌<◌, ◌≤◌, Bool, true, false, ◌||◌, List, [], ◌∷◌, ◌++◌, length, take, append_assoc, refl, sym, ap, ◌∙◌, subst, arith, get_or}
+use Rattle.std.specs.Prelude.{slice_get, IsTrue, IsSomeAnd}
 use Rattle.std.specs.List.{AllByRecursion, list_any}
 use Rattle.std.proofs.lemmas.Bool.{false≢true}
 use Rattle.std.proofs.lemmas.List.{take_more, length-append}
@@ -8,13 +8,12 @@ use Rattle.std.proofs.lemmas.List.Elements.{All-push}
 use Rattle.task_graph.specs.NetRows.{NetRows}
 use Rattle.journal_rules.specs.declared.entry.DropWhy.{DropWhy}
 use Rattle.journal_rules.specs.SemaphoreRule.{takes}
-use Rattle.table_steps.specs.Giving.{one_if, times}
+use Rattle.table_steps.specs.Giving.{times}
 use Rattle.join_tables.specs.States.{FreshState, TableState, TurnState}
-use Rattle.join_tables.specs.RestStates.{RestState, parked_as, rest_with}
-use Rattle.join_tables.specs.Rests.{DropsLast, DropsOf, HandsOut, IsOfTable, LastTakes, LooksForUnit}
+use Rattle.join_tables.specs.RestStates.{RestState, parked_as}
+use Rattle.join_tables.specs.Rests.{DropsOf, HandsOut, IsOfTable, LastTakes}
 use Rattle.join_tables.specs.declared.rests.Parked.{Parked}
 use Rattle.join_tables.specs.declared.rests.RestDrop.TheVariants.{More}
-use Rattle.join_tables.specs.declared.rests.UnitLook.TheVariants.{Exhausted}
 use Rattle.semaphore_turns.specs.WaitingTurns.{WaitsAt, release_of}
 use Rattle.semaphore_turns.specs.WokenTurns.{WaitedFor, WakesAtMost}
 use Rattle.semaphore_turns.specs.inside.RestTurns.{AreFull, MayDropAll, RestsOn, TakeThese}

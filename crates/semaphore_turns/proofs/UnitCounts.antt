@@ -1,6 +1,6 @@
 -- How far a start is with its units: first, after one semaphore more of its task's list, and at the list's end.
-use Rattle.std.proofs.Common.{◌≡◌, ◌≢◌, ◌⊎◌, inl, inr, ℕ, zero, suc, ◌+◌, ◌<◌, ◌≤◌, Bool, true, false, not, ◌&&◌, ◌||◌, cond, eqb, List, [], ◌∷◌, length, drop, Option, Some, None, refl, sym, ap, ◌∙◌, subst, arith, get_or}
-use Rattle.std.specs.Prelude.{◌==◌, slice_get, IsTrue}
+use Rattle.std.proofs.Common.{◌≡◌, ◌≢◌, ◌⊎◌, inl, inr, ℕ, zero, suc, ◌+◌, ◌<◌, ◌≤◌, Bool, true, false, not, ◌&&◌, ◌||◌, eqb, List, [], ◌∷◌, length, drop, Option, Some, None, refl, sym, ap, ◌∙◌, subst, arith, get_or}
+use Rattle.std.specs.Prelude.{◌==◌, slice_get}
 use Rattle.std.specs.Option.{option_map_or}
 use Rattle.std.specs.List.{list_any, AllPairs}
 use Rattle.std.specs.List.Sorted.{IsStrictlyIncreasing}
@@ -12,9 +12,9 @@ use Rattle.task_graph.specs.NetRows.{NetRows}
 use Rattle.task_graph.specs.declared.net.TaskRow.{TaskRow}
 use Rattle.journal_rules.specs.SemaphoreRule.{takes, puts}
 use Rattle.table_steps.specs.Giving.{one_if, times}
-use Rattle.table_steps.specs.Holding.{HoldsEachUnit, PutsEach, PutsBack, PutsAlone, TakesAlone, without}
+use Rattle.table_steps.specs.Holding.{PutsEach, without}
 use Rattle.table_steps.proofs.UnitAccounts.{without_fewer}
-use Rattle.join_tables.specs.Claims.{BeginsUnits, ClaimsUnit, HasCredited, HasClaimed, credit_one, grant_one, with_units}
+use Rattle.join_tables.specs.Claims.{BeginsUnits, ClaimsUnit, HasClaimed, credit_one, grant_one, with_units}
 use Rattle.join_tables.specs.declared.turns.Claim.{Claim}
 use Rattle.join_tables.specs.declared.turns.Claim.TheVariants.{Granted}
 use Rattle.join_tables.specs.States.{RunningState, StartUnits, running_state}

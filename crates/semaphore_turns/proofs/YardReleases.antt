@@ -1,19 +1,31 @@
 -- Yards seen as their releases, and what is taken out of them and put back.
-use Rattle.std.proofs.Common.{◌≡◌, ◌≢◌, ℕ, zero, suc, ◌+◌, ◌<◌, ◌≤◌, List, [], ◌∷◌, ◌++◌, length, take, drop, map, Some, None, append_assoc, append-nil, refl, sym, ap, ◌∙◌, subst, arith, get_or, set}
-use Rattle.std.specs.Prelude.{slice_get, flat_map, reverse, All, Contains, IsPermutation}
-use Rattle.std.specs.List.{AllByRecursion}
-use Rattle.std.proofs.lemmas.List.{drop-map, map-set, map-append, length-set, get_or-set_same, set-set, set-get_or, reverse-append, take_more}
+use Rattle.std.proofs.Common.{◌≡◌, ◌≢◌, ℕ, zero, suc, ◌+◌, ◌<◌, ◌≤◌, Bool, true, false, cond, Option, List, [], ◌∷◌, ◌++◌, length, take, drop, map, Some, None, append_assoc, append-nil, refl, sym, ap, ◌∙◌, subst, arith, get_or, set}
+use Rattle.std.specs.Prelude.{◌==◌, slice_get, flat_map, reverse, All, Contains, IsPermutation}
+use Rattle.std.specs.List.{AllByRecursion, list_any}
+use Rattle.std.proofs.lemmas.List.{drop-map, map-set, map-append, length-set, get_or-set_same, set-set, set-get_or, reverse-append, take_more, take_all}
+use Rattle.std.proofs.lemmas.List.Elements.{All-push}
 use Rattle.std.proofs.lemmas.List.Sorted.{IsPermutation-refl, IsPermutation-sym, IsPermutation-cons, IsPermutation-trans, IsPermutation-append_right, IsPermutation-middle, IsPermutation-reverse}
+use Rattle.std.proofs.lemmas.Option.{slice_get-get_or}
+use Rattle.task_graph.specs.NetRows.{NetRows}
 use Rattle.atomic_table.specs.Seated.{TableId}
 use Rattle.join_tables.specs.States.{TableState, TurnState, FreshState, fresh_state}
 use Rattle.join_tables.specs.declared.rests.Parked.{Parked}
-use Rattle.join_tables.specs.RestStates.{parked_as}
+use Rattle.join_tables.specs.RestStates.{RestState, parked_as}
 use Rattle.semaphore_park.specs.Parking.{YardView, yard_view, parked_on, with_parked}
+use Rattle.semaphore_turns.specs.Semaphores.{taken_by}
 use Rattle.semaphore_turns.specs.WaitingTurns.{release_of}
-use Rattle.semaphore_turns.specs.YardTurns.{Turns, Releases, releases_in, woken_on, left_after, woken_from, WakesFirst}
+use Rattle.semaphore_turns.specs.YardTurns.{Turns, Releases, releases_in, woken_on, left_after, woken_from, passed_over, WakesFirst, ParksLast}
 use Rattle.join_tables.specs.declared.fates.Dropping.{Dropping}
-use Rattle.semaphore_turns.specs.Settlements.{dropped_release, DropsEach}
-use Rattle.semaphore_turns.specs.inside.RestTurns.{with_first, put_back, rest_release}
+use Rattle.join_tables.specs.declared.fates.Fate.{Fate}
+use Rattle.join_tables.specs.declared.fates.Fate.TheVariants.{Ended, Faulted, Dropped, AllDropped}
+use Rattle.journal_rules.specs.declared.entry.DropWhy.{DropWhy}
+use Rattle.join_tables.specs.Rests.{DropsLast, IsOfDrops}
+use Rattle.semaphore_turns.specs.Settlements.{dropped_release, DropsEach, GoesFirst}
+use Rattle.semaphore_turns.specs.inside.RestTurns.{with_first, put_back, rest_release, DropsTurns}
+
+pub length_released : (lists : List (List TurnState)) → length (map (map release_of) lists) ≡ length lists
+length_released [] = refl
+length_released (l ∷ lists) = ap suc (length_released lists)
 
 -- the releases on a semaphore
 pub releases_on : (yard : Turns) (sem : ℕ) → parked_on (releases_in yard) sem ≡ map release_of (parked_on yard sem)
@@ -78,11 +90,7 @@ taken_back n turns turns' sems sems' s turn yard yard' same turns_are sems_are b
     )
   where
     length_lists : length (releases_in yard).lists ≡ length yard.lists
-    length_lists = length-map-lists yard.lists
-      where
-        length-map-lists : (lists : List (List TurnState)) → length (map (map release_of) lists) ≡ length lists
-        length-map-lists [] = refl
-        length-map-lists (l ∷ lists) = ap suc (length-map-lists lists)
+    length_lists = length_released yard.lists
 
 -- a turn of a rest was parked again
 pub parked_again : (n : TableId) (turns turns' : List Parked) (sems sems' : List ℕ) (s : ℕ) (turn : TurnState) (yard yard' : Turns) → length sems' ≡ length turns' → turns ≡ turns' ++ parked_as turn.task turn.cause ∷ [] → sems ≡ sems' ++ s ∷ [] → turn.table ≡ n
@@ -146,7 +154,7 @@ pub none_first : {X : Type 0} (xs : List X) → slice_get xs 0 ≡ None → take
 none_first [] is = refl
 none_first (x ∷ xs) is = absurd (cc)
 
-flat : List (List FreshState) → List FreshState
+abbrev pub flat : List (List FreshState) → List FreshState
 flat lists = flat_map (λ list. list) lists
 
 flat_first : (lists : List (List FreshState)) (s : ℕ) (release : FreshState) → s < length lists → IsPermutation (release ∷ flat lists) (flat (set lists s (release ∷ get_or lists s [])))
@@ -165,7 +173,7 @@ put_length n (p ∷ turns) (s ∷ sems) yard = let back = put_back n turns sems 
 
 flat_empty : (lists : List (List FreshState)) → All (λ list. list ≡ []) lists → flat lists ≡ []
 flat_empty [] all = refl
-flat_empty (l ∷ lists) all = (λ k. (all 0 [] (omega arith)) k ++ flat lists) ∙ flat_empty lists (λ i d below. all (i + 1) d (omega (arith, below)))
+flat_empty (l ∷ lists) all = (λ k. (all 0 [] (omega arith)) k ++ flat lists) ∙ flat_empty lists (λ i d below. all (suc i) d (omega (arith, below)))
 
 -- all that is put back into a yard without any is what was put back
 pub all_back : (n : TableId) (turns : List Parked) (sems : List ℕ) (yard : Releases) → length sems ≡ length turns → AllByRecursion (λ s. s < length yard.lists) sems → All (λ list. list ≡ []) yard.lists → IsPermutation (flat (put_back n turns sems yard).lists) (map (rest_release n) turns)
@@ -220,6 +228,12 @@ drops_more n turns left last dropped dropped' drop_of all turns_are dropped_are 
     )
     ∙ is
 
+pub last_drops : {V : Type 0} (n : TableId) (rest : RestState) (why : DropWhy) (fate : Fate V) (all : List FreshState) → map (dropped_release n) rest.dropped ++ reverse (map (rest_release n) rest.turns) ≡ all → IsOfDrops fate (λ drops. DropsLast rest why [] drops) → IsOfDrops fate (λ drops. map (dropped_release n) drops ≡ all)
+last_drops n rest why (Ended e) all is last = absurd last
+last_drops n rest why (Faulted f) all is last = absurd last
+last_drops n rest why (Dropped d) all is last = absurd last
+last_drops n rest why (AllDropped drops) all is last = sym (append-nil (map (dropped_release n) drops.items)) ∙ drops_more n rest.turns [] last.last rest.dropped drops.items _ all last.turns_are last.dropped_are refl is
+
 -- all that was parked is dropped
 pub drops_each : (n : TableId) (turns : List Parked) (sems : List ℕ) (yard : Releases) (drops : List Dropping) → length sems ≡ length turns → AllByRecursion (λ s. s < length yard.lists) sems → All (λ list. list ≡ []) yard.lists → map (dropped_release n) drops ≡ reverse (map (rest_release n) turns)
     → DropsEach n (put_back n turns sems yard) drops
@@ -227,3 +241,63 @@ drops_each n turns sems yard drops same below none are =
     let whole = map (rest_release n) turns in
     subst (λ l. IsPermutation (flat (put_back n turns sems yard).lists) l) (sym are)
     (IsPermutation-trans (flat (put_back n turns sems yard).lists) whole (reverse whole) (all_back n turns sems yard same below none) (IsPermutation-reverse whole))
+
+-- one semaphore more on which nothing is parked
+pub empty_list : {X : Type 0} (xs : List X) → length xs ≡ 0 → xs ≡ []
+empty_list [] none = refl
+empty_list (x ∷ xs) none = absurd (omega (arith, none))
+
+pub none_more : (yard : Turns) (i : ℕ) → i < length yard.lists → All (λ list. list ≡ []) (take i (releases_in yard).lists) → length (parked_on yard i) ≡ 0 → All (λ list. list ≡ []) (take (i + 1) (releases_in yard).lists)
+none_more yard i below none nothing =
+    let lists = (releases_in yard).lists in
+    let here : parked_on (releases_in yard) i ≡ [] = releases_on yard i ∙ ap (map release_of) (empty_list (parked_on yard i) nothing) in
+    subst (All (λ (list : List FreshState). list ≡ [])) (sym (take_more lists i [] (omega (arith, below, length_released yard.lists)))) (All-push (λ (list : List FreshState). list ≡ []) (take i lists) (parked_on (releases_in yard) i) none here)
+
+pub none_at_all : (yard : Turns) (n : ℕ) → length yard.lists ≤ n → All (λ list. list ≡ []) (take n (releases_in yard).lists) → All (λ list. list ≡ []) (releases_in yard).lists
+none_at_all yard n all none = subst (All (λ (list : List FreshState). list ≡ [])) (take_all n (releases_in yard).lists (omega (arith, all, length_released yard.lists))) none
+
+pub drops_all : {V : Type 0} (n : TableId) (turns turns' : List Parked) (sems : List ℕ) (yard : Releases) (fate : Fate V) → length sems ≡ length turns → AllByRecursion (λ s. s < length yard.lists) sems → All (λ list. list ≡ []) yard.lists → turns' ≡ turns → DropsTurns n turns' fate
+    → IsOfDrops fate (DropsEach n (put_back n turns sems yard))
+drops_all n turns turns' sems yard (Ended e) same below none turns_are drops = absurd drops
+drops_all n turns turns' sems yard (Faulted f) same below none turns_are drops = absurd drops
+drops_all n turns turns' sems yard (Dropped d) same below none turns_are drops = absurd drops
+drops_all n turns turns' sems yard (AllDropped all) same below none turns_are drops = drops_each n turns sems yard all.items same below none (drops ∙ ap (λ ts. reverse (map (rest_release n) ts)) turns_are)
+
+-- the first that is parked goes on
+pub goes_first : (old : Releases) (yard left : Turns) (sem : ℕ) (turn : TurnState) (release : FreshState) → releases_in yard ≡ old → slice_get (parked_on yard sem) 0 ≡ Some turn → left ≡ woken_on yard sem → release ≡ release_of turn → GoesFirst old (releases_in left) release
+goes_first old yard left sem turn release yard_is first left_is release_is = record {
+  sem = sem;
+  first = ap (λ (y : Releases). slice_get (parked_on y sem) 0) (sym yard_is) ∙ ap (λ l. slice_get l 0) (releases_on yard sem) ∙ first_released (parked_on yard sem) turn first ∙ ap Some (sym release_is);
+  others = ap releases_in left_is ∙ releases_woken yard sem ∙ ap (λ (y : Releases). woken_on y sem) yard_is;
+}
+
+pub nothing_back : (n : TableId) (turns : List Parked) (sems : List ℕ) (yard : Releases) → length turns ≡ 0 → put_back n turns sems yard ≡ yard
+nothing_back n [] [] yard none = refl
+nothing_back n [] (s ∷ sems) yard none = refl
+nothing_back n (p ∷ turns) sems yard none = absurd (omega (arith, none))
+
+-- at most one wake is passed on
+pub passed_few : (sems : List ℕ) (woken_for : Option ℕ) → length (passed_over sems woken_for) ≤ 1
+passed_few sems None = omega arith
+passed_few sems (Some sem) = by_test (list_any (λ s. s == sem) sems)
+  where
+    by_test : (b : Bool) → length (cond b (sem ∷ []) []) ≤ 1
+    by_test true = omega arith
+    by_test false = omega arith
+
+pub passed_some : (sems : List ℕ) (woken_for : Option ℕ) (sem : ℕ) (b : Bool) → woken_for ≡ Some sem → list_any (λ s. s == sem) sems ≡ b → passed_over sems woken_for ≡ cond b (sem ∷ []) []
+passed_some sems woken_for sem b is test = ap (passed_over sems) is ∙ ap (λ t. cond t (sem ∷ []) []) test
+
+-- a turn was parked, and others were woken
+pub parks_last : (net : NetRows) (task : ℕ) (woken_for : Option ℕ) (turn parked item : TurnState) (xs : List ℕ) (place : ℕ) (old yard mid new : Turns) (before between after : List FreshState) → xs ≡ taken_by net task → place < length xs → item ≡ turn → parked ≡ turn
+    → yard ≡ with_parked old (get_or xs place 0) (parked_on old (get_or xs place 0) ++ item ∷ []) → WakesFirst (take place xs) yard mid before between → WakesFirst (passed_over (drop (place + 1) xs) woken_for) mid new between after → ParksLast net task woken_for parked old new before after
+parks_last net task woken_for turn parked item xs place old yard mid new before between after list below item_is parked_is yard_is one two =
+    let sem = get_or xs place 0 in
+    let whole = yard_is ∙ ap (λ (t : TurnState). with_parked old sem (parked_on old sem ++ t ∷ [])) (item_is ∙ sym parked_is) in
+    record {
+      place = place;
+      sem = sem;
+      sem_is = ap (λ l. slice_get l place) (sym list) ∙ slice_get-get_or xs place 0 below;
+      wakes = subst (λ l. WakesFirst (take place l ++ passed_over (drop (place + 1) l) woken_for) (with_parked old sem (parked_on old sem ++ parked ∷ [])) new before after) list
+          (wakes_both (take place xs) (passed_over (drop (place + 1) xs) woken_for) (with_parked old sem (parked_on old sem ++ parked ∷ [])) mid new before between after (subst (λ (y : Turns). WakesFirst (take place xs) y mid before between) whole one) two);
+    }

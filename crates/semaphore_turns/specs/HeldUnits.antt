@@ -1,9 +1,9 @@
 -- What taking the units of a release leads to.
-use Rattle.std.specs.Prelude.{◌≡◌, ℕ, ◌<◌, ◌≤◌, None, List, length, take, reverse, slice_get, IsTrue, IsSomeAnd}
+use Rattle.std.specs.Prelude.{◌≡◌, ℕ, ◌≤◌, take, reverse, slice_get, IsSomeAnd}
 use Rattle.task_graph.specs.NetRows.{NetRows}
-use Rattle.journal_rules.specs.SemaphoreRule.{takes, max_of}
+use Rattle.journal_rules.specs.SemaphoreRule.{max_of}
 use Rattle.table_steps.specs.Holding.{HoldsEachUnit}
-use Rattle.join_tables.specs.States.{TableState, TurnState}
+use Rattle.join_tables.specs.States.{TurnState}
 use Rattle.semaphore_turns.specs.Semaphores.{taken_by}
 use Rattle.semaphore_turns.specs.declared.takes.TakenUnits.{TakenUnits}
 use Rattle.semaphore_turns.specs.declared.takes.TakenUnits.TheVariants.{All, Lacks}

@@ -2,10 +2,10 @@
 use Rattle.std.specs.Prelude.{◌≡◌, ℕ, List, [], Some, All, map, slice_get, flat_map, IsPermutation}
 use Rattle.atomic_table.specs.Seated.{TableId}
 use Rattle.join_tables.specs.Rests.{IsOfDrops}
-use Rattle.join_tables.specs.States.{TableState, FreshState, SpentState, fresh_state}
+use Rattle.join_tables.specs.States.{TableState, FreshState, fresh_state}
 use Rattle.join_tables.specs.declared.fates.Dropping.{Dropping}
 use Rattle.join_tables.specs.declared.fates.Fate.{Fate}
-use Rattle.join_tables.specs.declared.fates.Fate.TheVariants.{Ended, Faulted, Dropped, AllDropped}
+use Rattle.join_tables.specs.declared.fates.Fate.TheVariants.{AllDropped}
 use Rattle.semaphore_park.specs.Parking.{parked_on}
 use Rattle.semaphore_turns.specs.YardTurns.{Releases, woken_on}
 use Rattle.semaphore_turns.specs.declared.settlement.Settled.{Settled}

@@ -1,5 +1,5 @@
 -- What a start does with its units from its Start to its end.
-use Rattle.std.specs.Prelude.{◌≡◌, ℕ, Some, None, []}
+use Rattle.std.specs.Prelude.{◌≡◌, ℕ, Some, None}
 use Rattle.task_graph.specs.NetRows.{NetRows}
 use Rattle.table_steps.specs.Holding.{PutsBack, PutsAlone}
 use Rattle.table_steps.specs.Credits.{AllowsOver}

@@ -1,5 +1,5 @@
 -- What waits in a yard of turns.
-use Rattle.std.specs.Prelude.{◌≡◌, ℕ, List, [], None, length, IsTrue}
+use Rattle.std.specs.Prelude.{◌≡◌, ℕ, [], None, length, IsTrue}
 use Rattle.journal_rules.specs.SemaphoreRule.{takes}
 use Rattle.join_tables.specs.States.{TableState, TurnState, FreshState, fresh_state}
 use Rattle.semaphore_park.specs.Parking.{YardKey}

@@ -24,11 +24,11 @@ abbrev pub woken_on : {T : Type 0} → YardView T TableState → ℕ → YardVie
 woken_on yard sem = with_parked yard sem (drop 1 (parked_on yard sem))
 
 -- the yard after that, for each of these semaphores in turn, and those that were woken, in their order
-pub left_after : {T : Type 0} → YardView T TableState → List ℕ → YardView T TableState
+abbrev pub left_after : {T : Type 0} → YardView T TableState → List ℕ → YardView T TableState
 left_after yard [] = yard
 left_after yard (sem ∷ sems) = left_after (woken_on yard sem) sems
 
-pub woken_from : {T : Type 0} → YardView T TableState → List ℕ → List T
+abbrev pub woken_from : {T : Type 0} → YardView T TableState → List ℕ → List T
 woken_from yard [] = []
 woken_from yard (sem ∷ sems) = take 1 (parked_on yard sem) ++ woken_from (woken_on yard sem) sems
 
@@ -38,7 +38,7 @@ pub record WakesFirst (sems : List ℕ) (old new : Turns) (before after : List F
   pub woken : after ≡ before ++ map release_of (woken_from old sems)
 
 -- The semaphore for which a turn was woken, if it is among these.
-pub passed_over : List ℕ → Option ℕ → List ℕ
+abbrev pub passed_over : List ℕ → Option ℕ → List ℕ
 passed_over sems None = []
 passed_over sems (Some sem) = cond (list_any (λ s. s == sem) sems) (sem ∷ []) []
 

@@ -146,7 +146,12 @@ fn is_empty<V: Drop>(yard: &TurnYard<V>, sem_count: u32) -> bool
     requires { sem_count ≡ length yard.now.lists }
     ensures { IsTrue result → All (λ list. list ≡ []) (releases_in yard.now).lists }
 {
-    (0..sem_count).all(|sem| yard.count(sem) == 0)
+    for sem in 0..sem_count {
+        if yard.count(sem) > 0 {
+            return false;
+        }
+    }
+    true
 }
 
 // Goes on with the first turn that is parked on a semaphore with a unit, or drops all.

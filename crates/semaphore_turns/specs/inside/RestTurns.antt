@@ -1,5 +1,5 @@
 -- The turns of a rest, each with the semaphore on which it was parked.
-use Rattle.std.specs.Prelude.{◌≡◌, ◌≢◌, ℕ, ◌<◌, ◌≤◌, true, false, Bool, List, [], ◌∷◌, Some, None, All, Contains, length, map, reverse, IsTrue}
+use Rattle.std.specs.Prelude.{◌≡◌, ◌≢◌, ℕ, ◌<◌, ◌≤◌, false, Bool, List, [], ◌∷◌, Some, None, All, Contains, length, map, reverse, IsTrue}
 use Rattle.std.specs.List.{AllByRecursion}
 use Rattle.task_graph.specs.NetRows.{NetRows}
 use Rattle.journal_rules.specs.SemaphoreRule.{takes}
@@ -56,7 +56,7 @@ abbrev pub rest_release : TableId → Parked → FreshState
 rest_release n turn = fresh_state n turn.task turn.cause
 
 -- the yard after turns were parked again on these semaphores, the last first, each before what is parked there
-pub put_back : TableId → List Parked → List ℕ → Releases → Releases
+abbrev pub put_back : TableId → List Parked → List ℕ → Releases → Releases
 put_back n (turn ∷ turns) (sem ∷ sems) yard = with_first (put_back n turns sems yard) sem (rest_release n turn)
 put_back n _ _ yard = yard
 

@@ -1,13 +1,16 @@
-use Rattle.std.proofs.Common.{◌≡◌, ◌<◌, length, slice_index_or, refl, sym, ap, ◌∙◌, subst, arith}
+use Rattle.std.proofs.Common.{◌≡◌, ◌<◌, ◌+◌, length, slice_index_or, refl, sym, ap, ◌∙◌, subst, arith}
+use Rattle.std.specs.List.{AllByRecursion}
 use Rattle.std.proofs.lemmas.List.{length-take-le}
 use Rattle.task_graph.specs.NetRows.{NetRows}
 use Rattle.join_tables.specs.States.{TableState, TurnState}
 use Rattle.semaphore_park.specs.Parking.{YardKey}
 use Rattle.semaphore_turns.specs.Semaphores.{taken_by}
 use Rattle.semaphore_turns.specs.HeldUnits.{FoundNone, IsSameTurn}
-use Rattle.semaphore_turns.specs.WokenTurns.{ParkedFor}
+use Rattle.semaphore_turns.specs.WokenTurns.{ParkedFor, WakesAtMost}
+use Rattle.semaphore_turns.specs.YardTurns.{WakesFirst, passed_over}
 use Rattle.semaphore_turns.specs.WaitingTurns.{WaitsAt}
-use Rattle.semaphore_turns.proofs.ParkedTurns.{front_in_range, lacks_within, parked_for, wakes_front}
+use Rattle.semaphore_turns.proofs.ParkedTurns.{front_in_range, lacks_within, later_in_range, parked_for, rest_of, wakes_parked}
+use Rattle.semaphore_turns.proofs.YardReleases.{parks_last}
 use Rattle.semaphore_turns.proofs.parks.park.Goals as goal
 
 within : (g : _) (c : goal.After-new g) → c.args.place < length c.takes_of-takes.result.now
@@ -58,4 +61,19 @@ returns-clause-wakes g c =
     let list = c.takes_of-takes.ensures.list ∙ ap (taken_by c.args.net.now) c.task.ensures in
     let below : c.args.place < length c.takes_of-takes.result.now = omega (arith, lacks_within c.args.net.now c.args.place c.args.turn c.requires.lacks, ap length list) in
     let home = ap (λ (k : YardKey TableState). k.home) (c.in_ok-park_in.ensures.key ∙ c.requires.yard) in
-    wakes_front c.args.table.now c.park_in.new.self.home c.takes_of-takes.result.now (taken_by c.args.net.now c.args.turn.task) c.args.place c.args.ready.now.items c.args.ready.now.items c.wake_turns.new.ready.items home list refl (omega (arith, below)) c.wake_turns.ensures.wakes
+    let later = ap (λ (k : YardKey TableState). k.home) (c.wake_turns.ensures.yard ∙ c.in_ok-park_in.ensures.key ∙ c.requires.yard) in
+    wakes_parked c.args.table.now c.park_in.new.self.home c.wake_turns.new.yard.home c.takes_of-takes.result.now (taken_by c.args.net.now c.args.turn.task) c.args.place c.args.woken_for c.args.ready.now.items c.wake_turns.new.ready.items c.pass_on.new.ready.items home later list below c.wake_turns.ensures.wakes
+    (subst (λ l. WakesAtMost c.wake_turns.new.yard.home (passed_over l c.args.woken_for) (length (passed_over l c.args.woken_for)) c.wake_turns.new.ready.items c.pass_on.new.ready.items) (rest_of (c.args.place + 1) c.takes_of-takes.result.now) c.pass_on.ensures.wakes)
+
+pub returns-clause-last : goal.returns-clause-last
+returns-clause-last g c =
+    let list = c.takes_of-takes.ensures.list ∙ ap (taken_by c.args.net.now) c.task.ensures in
+    let below : c.args.place < length c.takes_of-takes.result.now = omega (arith, lacks_within c.args.net.now c.args.place c.args.turn c.requires.lacks, ap length list) in
+    parks_last c.args.net.now c.args.turn.task c.args.woken_for c.put_back_first-turn.result c.of-parked.result.value c.new.result c.takes_of-takes.result.now c.args.place c.args.yard.now c.park_in.new.self c.wake_turns.new.yard c.pass_on.new.yard c.args.ready.now.items c.wake_turns.new.ready.items c.pass_on.new.ready.items list below c.new.ensures c.of-parked.ensures
+    c.in_ok-park_in.ensures.ok c.wake_turns.ensures.first
+    (subst (λ l. WakesFirst (passed_over l c.args.woken_for) c.wake_turns.new.yard c.pass_on.new.yard c.wake_turns.new.ready.items c.pass_on.new.ready.items) (rest_of (c.args.place + 1) c.takes_of-takes.result.now) c.pass_on.ensures.first)
+
+pub pass_on-requires-clause-in_range : goal.pass_on-requires-clause-in_range
+pass_on-requires-clause-in_range g c =
+    let sems = ap (λ (n : NetRows). length n.sems) c.requires.net ∙ sym (ap (λ (k : YardKey TableState). k.sems) (c.wake_turns.ensures.yard ∙ c.in_ok-park_in.ensures.key ∙ c.requires.yard)) in
+    subst (AllByRecursion (λ s. s < length c.wake_turns.new.yard.lists)) (sym (rest_of (c.args.place + 1) c.takes_of-takes.result.now)) (later_in_range (length c.args.net.now.sems) (length c.wake_turns.new.yard.lists) (c.args.place + 1) c.takes_of-takes.result.now c.takes_of-takes.ensures.sems.in_range sems)

@@ -22,5 +22,7 @@ loop-place-preserved g c =
       };
       quiet = (ap (λ (r : RestState). r.alone) is ∙ i.quiet.0, ap (λ (r : RestState). r.dropped) is ∙ i.quiet.1);
       some = λ none. i.some (sym (ap (λ (r : RestState). r.turns) is) ∙ none);
+      turns = ap (λ (r : RestState). r.turns) is ∙ i.turns;
+      sems = i.sems;
       full = subst (AreFull (take (c.loop-place.place + 1) sems)) (sym (ap (λ (r : RestState). r.full) is)) (full_more sems c.loop-place.rest.full c.loop-place.place sem below (c.index.ensures ∙ get_or_default sems c.loop-place.place sem 0 below) i.full);
     }
