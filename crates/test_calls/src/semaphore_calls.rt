@@ -135,7 +135,7 @@ const PASSED_ON: Table = Table {
     {"name":"f","op":"count","release":["b"]}],
     "semaphores":[{"name":"a","max":1},{"name":"b","max":1}]}"#,
     call: CALL,
-    rows: "run g --workers 1 -> x| -> - -> 10 written, run of 10 [-- t1|-- t2|== u|x|== f|1|!! stuck t1|] [flow: stuck t1|]",
+    rows: "run g --workers 1 -> x| -> - -> 10 written, run of 10 [-- t1|-- t2|== u|x|== f|1|!! stuck t2|] [flow: stuck t2|]",
 };
 
 // A unit that is given back though none is out: of the first semaphore, and of the second beside one that is out.
