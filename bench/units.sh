@@ -1,7 +1,8 @@
 #!/usr/bin/env bash
 # Measures what a semaphore costs, and whether workers that find no unit stay idle: a read of a small text and 9,998 tasks
 # behind it that pass it on, without a semaphore and with one of one unit that each of them holds, by 1, 4 and 16 workers;
-# and 4,999 pairs of tasks, of which the first takes the unit and the second gives it back. All calls are made in turn,
+# 4,999 pairs of tasks, of which the first takes the unit and the second gives it back; and 9,995 tasks that wait for two
+# units, of which one comes back and the other never does, so that the run gets stuck. All calls are made in turn,
 # fifteen of each or as many as the argument says. Of the times and of the processor time of all threads it prints the
 # median and the least, and their ratios: of the graph with the semaphore to the one without, by as many workers, and of
 # the processor time by 16 workers to that by one. It needs python3, says the load before and after, and is run as
@@ -38,6 +39,15 @@ def pairs():
     return rows
 
 
+def stuck():
+    """Tasks that need both units: the second comes back after they are parked for it, and the first one never does."""
+    both = {"op": "pass", "acquire": ["s", "u"], "release": ["s", "u"]}
+    names = [f"t{k}" for k in range(TASKS - 3)]
+    rows = [{"name": "h", "op": "read", "text": "small.txt", "to": [*names, "g"], "acquire": ["u"]}]
+    rows += [{"name": name, **both} for name in names]
+    return rows + [{"name": "g", "op": "pass", "to": ["f"], "acquire": ["s"]}, {"name": "f", "op": "pass", "release": ["u"]}]
+
+
 def write(name, **file):
     with open(f"{name}.json", "w") as out:
         json.dump(file, out)
@@ -47,8 +57,15 @@ SEMAPHORES = [{"name": "s", "max": 1}]
 write("without", tasks=fan({}))
 write("held", tasks=fan({"holds": ["s"]}), semaphores=SEMAPHORES)
 write("pairs", version=2, tasks=pairs(), semaphores=SEMAPHORES)
+write("stuck", version=2, tasks=stuck(), semaphores=[*SEMAPHORES, {"name": "u", "max": 1}])
 open("small.txt", "w").write("x\ny\n")
-NAMES = {"without": "without a semaphore", "held": "each holds the one unit", "pairs": "pairs that take it and give it back"}
+NAMES = {
+    "without": "without a semaphore",
+    "held": "each holds the one unit",
+    "pairs": "pairs that take it and give it back",
+    "stuck": "each waits for two, of which one never comes back",
+}
+CODES = {"stuck": 10}
 
 
 class Call:
@@ -56,12 +73,13 @@ class Call:
 
     def __init__(self, graph, workers):
         start = time.perf_counter()
-        program = subprocess.Popen([FLOW, "run", f"{graph}.json", "--workers", str(workers)], stdout=subprocess.DEVNULL)
+        program = subprocess.Popen([FLOW, "run", f"{graph}.json", "--workers", str(workers)], stdout=subprocess.DEVNULL, stderr=subprocess.DEVNULL)
         _, status, usage = os.wait4(program.pid, 0)
         self.seconds = time.perf_counter() - start
         self.processor = usage.ru_utime + usage.ru_stime
-        if status:
-            sys.exit(f"{graph}.json by {workers} workers ended with code {os.waitstatus_to_exitcode(status)}")
+        code = os.waitstatus_to_exitcode(status)
+        if code != CODES.get(graph, 0):
+            sys.exit(f"{graph}.json by {workers} workers ended with code {code}")
 
 
 def milliseconds(figures):
