@@ -100,31 +100,10 @@ fn step<J: Job + Drop>(
     requires batch { IsNoBatch bench.old.batch }
     ensures { OnOk result (IsBenchOf J.meaning run.now bench.new) }
 {
-    let TakenUp {
-        turn,
-        again,
-        woken_for,
-    } = run.take_up(ready)?;
+    let TakenUp { turn, again, woken } = run.take_up(ready)?;
     match run.take_units(turn) {
-        TakenUnits::All(turn) => work(
-            run,
-            bench,
-            TakenUp {
-                turn,
-                again,
-                woken_for,
-            },
-        ),
-        TakenUnits::Lacks(turn, place) => park(
-            run,
-            bench,
-            TakenUp {
-                turn,
-                again,
-                woken_for,
-            },
-            place,
-        ),
+        TakenUnits::All(turn) => work(run, bench, TakenUp { turn, again, woken }),
+        TakenUnits::Lacks(turn, place) => park(run, bench, TakenUp { turn, again, woken }, place),
     }
 }
 
@@ -141,24 +120,12 @@ fn park<J: Job + Drop>(
     requires batch { IsNoBatch bench.old.batch }
     ensures { OnOk result (IsBenchOf J.meaning run.now bench.new) }
 {
-    let TakenUp {
-        turn,
-        again,
-        woken_for,
-    } = taken;
+    let TakenUp { turn, again, woken } = taken;
     let count = run.count_takes(&turn) + 1;
     bench.made.reserve(count)?;
     bench.ready.reserve(count)?;
-    match run.park(&mut bench.yard, turn, place, woken_for, &mut bench.made)? {
-        Parking::Taken(turn) => work(
-            run,
-            bench,
-            TakenUp {
-                turn,
-                again,
-                woken_for,
-            },
-        ),
+    match run.park(&mut bench.yard, turn, place, woken, &mut bench.made)? {
+        Parking::Taken(turn) => work(run, bench, TakenUp { turn, again, woken }),
         Parking::Parked(_) => {
             add_again(&mut bench.made, again);
             add_all(&mut bench.ready, &mut bench.made);

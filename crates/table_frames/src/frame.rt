@@ -117,34 +117,16 @@ impl<J: Job + Drop> Frame<J> {
             ⊎ (backlog.new ≡ backlog_view release.frames backlog.old.fates)) }
     {
         let Release { frame, ready } = release;
-        let TakenUp {
-            turn,
-            again,
-            woken_for,
-        } = frame.take_up(ready)?;
+        let TakenUp { turn, again, woken } = frame.take_up(ready)?;
         match frame.take_units(turn) {
             TakenUnits::All(turn) => Frame::work(
                 rt,
                 frame,
-                TakenUp {
-                    turn,
-                    again,
-                    woken_for,
-                },
+                TakenUp { turn, again, woken },
                 backlog,
             ),
             TakenUnits::Lacks(turn, place) => {
-                Frame::park(
-                    rt,
-                    frame,
-                    TakenUp {
-                        turn,
-                        again,
-                        woken_for,
-                    },
-                    place,
-                    backlog,
-                )
+                Frame::park(rt, frame, TakenUp { turn, again, woken }, place, backlog)
             }
         }
     }
@@ -167,26 +149,13 @@ impl<J: Job + Drop> Frame<J> {
             ((backlog.new ≡ backlog.old)
             ⊎ (backlog.new ≡ backlog_view (arc_value frame) backlog.old.fates)) }
     {
-        let TakenUp {
-            turn,
-            again,
-            woken_for,
-        } = taken;
+        let TakenUp { turn, again, woken } = taken;
         backlog.batch.make_room(&frame)?;
         let count = frame.count_takes(&turn) + 1;
         let room = ReleaseRoom::new(backlog.alloc, &frame, count)?;
         backlog.made.reserve(count)?;
-        match frame.park_turn(rt, turn, place, woken_for, &mut backlog.made)? {
-            Parking::Taken(turn) => Frame::work(
-                rt,
-                frame,
-                TakenUp {
-                    turn,
-                    again,
-                    woken_for,
-                },
-                backlog,
-            ),
+        match frame.park_turn(rt, turn, place, woken, &mut backlog.made)? {
+            Parking::Taken(turn) => Frame::work(rt, frame, TakenUp { turn, again, woken }, backlog),
             Parking::Parked(turn) => {
                 add_again(&mut backlog.made, again);
                 Ok(Stepped {

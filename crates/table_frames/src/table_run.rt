@@ -93,7 +93,7 @@ pub struct Begun<J: Job> {
 pub struct TakenUp<V> {
     pub turn: Turn<V>,
     pub again: Option<Fresh<V>>,
-    pub woken_for: Option<u32>,
+    pub woken: Option<u32>,
 }
 
 impl<J: Job + Drop> TableRun<J> {
@@ -131,7 +131,7 @@ impl<J: Job + Drop> TableRun<J> {
             ReadyKind::Woken(turn, sem) => Ok(TakenUp {
                 turn,
                 again: None,
-                woken_for: Some(sem),
+                woken: Some(sem),
             }),
         }
     }
@@ -231,7 +231,7 @@ impl<J: Job + Drop> TableRun<J> {
         let TakenUp {
             turn,
             again,
-            woken_for: _,
+            woken: _,
         } = taken;
         let outcome = self.start(turn)?;
         Ok(Attempt { outcome, again })
@@ -323,14 +323,14 @@ impl<J: Job + Drop> TableRun<J> {
                     return Ok(TakenUp {
                         turn,
                         again: None,
-                        woken_for: None,
+                        woken: None,
                     });
                 }
                 Collected::LastAgain(turn, again) => {
                     return Ok(TakenUp {
                         turn,
                         again: Some(again),
-                        woken_for: None,
+                        woken: None,
                     });
                 }
             }
