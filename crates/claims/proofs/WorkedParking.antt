@@ -60,22 +60,25 @@ module _ (n : TableId) where
   wakes_the_first : WakesFirst (0 ∷ 2 ∷ []) two_and_one (yard (turn 0 (2 ∷ []) ∷ []) []) (release 3 ∷ []) (release 3 ∷ release 2 ∷ release 0 ∷ [])
   wakes_the_first = record { yard = refl; woken = refl }
 
-  second_task : List FreshState → ℕ
+  abbrev second_task : List FreshState → ℕ
   second_task (f ∷ g ∷ fs) = g.task
   second_task _ = 9
 
   wakes_the_last : ¬ WakesFirst (0 ∷ []) two_and_one (yard (turn 2 (2 ∷ []) ∷ []) (turn 0 (1 ∷ []) ∷ [])) (release 3 ∷ []) (release 3 ∷ release 0 ∷ [])
   wakes_the_last wakes = absurd (omega (arith, ap second_task wakes.woken))
 
-  on_first_of : Turns → ℕ
-  on_first_of y = first y.lists
-    where
-      first : List (List TurnState) → ℕ
-      first [] = 9
-      first (l ∷ ls) = length l
+  abbrev count_all : {T : Type 0} → List (List T) → ℕ
+  count_all [] = 0
+  count_all (l ∷ ls) = length l + count_all ls
+
+  abbrev all_on : Turns → ℕ
+  all_on y = count_all y.lists
+
+  abbrev released_on : Releases → ℕ
+  released_on y = count_all y.lists
 
   wakes_and_keeps : ¬ WakesFirst (0 ∷ []) two_and_one two_and_one [] (release 2 ∷ [])
-  wakes_and_keeps wakes = absurd (omega (arith, ap on_first_of wakes.yard))
+  wakes_and_keeps wakes = absurd (omega (arith, ap all_on wakes.yard))
 
   -- A turn of task 0 lacks a unit of the third semaphore, and puts back one of the first.
   parks_last : ParksLast net 0 None (turn 0 (1 ∷ [])) (yard (turn 2 (2 ∷ []) ∷ []) []) (yard [] (turn 0 (1 ∷ []) ∷ [])) [] (release 2 ∷ [])
@@ -84,13 +87,6 @@ module _ (n : TableId) where
   -- one that was woken for the third lacks one of the first: the next of the third is woken in its place
   parks_and_passes_on : ParksLast net 0 (Some 2) (turn 0 (2 ∷ [])) (yard [] (turn 0 (1 ∷ []) ∷ [])) (yard (turn 0 (2 ∷ []) ∷ []) []) [] (release 0 ∷ [])
   parks_and_passes_on = record { place = 0; sem = 0; sem_is = refl; wakes = record { yard = refl; woken = refl } }
-
-  all_on : Turns → ℕ
-  all_on y = count y.lists
-    where
-      count : List (List TurnState) → ℕ
-      count [] = 0
-      count (l ∷ ls) = length l + count ls
 
   the_semaphore : (sem other : ℕ) → Some sem ≡ Some other → sem ≡ other
   the_semaphore sem other is = cc
@@ -128,13 +124,6 @@ module _ (n : TableId) where
 
   goes_first : GoesFirst parked (released (release 0 ∷ []) (release 0 ∷ [])) (release 2)
   goes_first = record { sem = 0; first = refl; others = refl }
-
-  released_on : Releases → ℕ
-  released_on y = count y.lists
-    where
-      count : List (List FreshState) → ℕ
-      count [] = 0
-      count (l ∷ ls) = length l + count ls
 
   loses_the_others : ¬ GoesFirst parked (released [] []) (release 2)
   loses_the_others goes = by_semaphore goes.sem goes.others
