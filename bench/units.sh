@@ -43,7 +43,7 @@ def stuck():
     """Tasks that need both units: the second comes back after they are parked for it, and the first one never does."""
     both = {"op": "pass", "acquire": ["s", "u"], "release": ["s", "u"]}
     names = [f"t{k}" for k in range(TASKS - 3)]
-    rows = [{"name": "h", "op": "read", "text": "small.txt", "to": [names[0], "g", *names[1:]], "acquire": ["u"]}]
+    rows = [{"name": "h", "op": "read", "text": "small.txt", "to": [*names, "g"], "acquire": ["u"]}]
     rows += [{"name": name, **both} for name in names]
     return rows + [{"name": "g", "op": "pass", "to": ["f"], "acquire": ["s"]}, {"name": "f", "op": "pass", "release": ["u"]}]
 
