@@ -127,7 +127,7 @@ const OVER_AT_ONCE: Table = Table {
 // passed on to the next: `u` ends, and both tasks that also take the other are dropped.
 const PASSED_ON: Table = Table {
     graph: r#"{"version":2,"tasks":[
-    {"name":"h","op":"read","text":"t","to":["t1","g","t2","u"],"acquire":["b"]},
+    {"name":"h","op":"read","text":"t","to":["t1","t2","u","g"],"acquire":["b"]},
     {"name":"t1","op":"pass","acquire":["a","b"],"release":["a","b"]},
     {"name":"t2","op":"pass","acquire":["a","b"],"release":["a","b"]},
     {"name":"u","op":"pass","acquire":["b"],"release":["b"]},
