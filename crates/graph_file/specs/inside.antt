@@ -4,3 +4,4 @@ pub mod Writer
 pub mod Drafts
 pub mod Fine
 pub mod Lookups
+pub mod UseNets

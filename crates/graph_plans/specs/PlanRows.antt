@@ -87,9 +87,12 @@ edge_count plan = sum_by (λ (graph : GraphRows). length graph.net.edges) (graph
 abbrev pub semaphore_count : PlanRows → ℕ
 semaphore_count plan = sum_by (λ (graph : GraphRows). length graph.net.sems) (graphs_of plan)
 
+abbrev pub names_of_graphs : List GraphRows → List (List ℕ)
+names_of_graphs graphs = map (λ (graph : GraphRows). graph.name) graphs
+
 -- the names of the modules
 abbrev pub module_names : PlanRows → List (List ℕ)
-module_names plan = map (λ (graph : GraphRows). graph.name) plan.modules
+module_names plan = names_of_graphs plan.modules
 
 -- the modules that the tasks of each module run
 abbrev pub module_uses : PlanRows → List (List ℕ)

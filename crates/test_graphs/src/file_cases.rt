@@ -92,8 +92,22 @@ const HOLDS: MadeFile = MadeFile {
     ..BYTES
 };
 
+// So many modules before a last one.
+const MODULES: MadeFile = MadeFile {
+    front: b"{\"tasks\":[],\"modules\":[",
+    piece: "{\"name\":\"#\",\"tasks\":[]},",
+    back: b"{\"name\":\"x\",\"tasks\":[]}]}",
+    ..BYTES
+};
+
+// A module with a semaphore, an edge, and a task that reads a text, and so many tasks beside it, before a last one.
+const BESIDE: MadeFile = MadeFile {
+    front: b"{\"modules\":[{\"name\":\"m\",\"semaphores\":[{\"name\":\"s\",\"max\":1}],\"tasks\":[{\"name\":\"a\",\"op\":\"read\",\"text\":\"m\",\"to\":[\"a\"]}]}],\"tasks\":[",
+    ..TASKS
+};
+
 /// The files.
-pub(crate) const FILES: [MadeFile; 37] = [
+pub(crate) const FILES: [MadeFile; 50] = [
     MadeFile {
         has: "a byte order mark",
         front: b"\xef\xbb\xbf{\"tasks\":[]}",
@@ -265,6 +279,82 @@ pub(crate) const FILES: [MadeFile; 37] = [
         has: "1,025 texts",
         times: 1_024,
         ..READS
+    },
+    MadeFile {
+        has: "64 modules",
+        times: 63,
+        ..MODULES
+    },
+    MadeFile {
+        has: "65 modules",
+        times: 64,
+        ..MODULES
+    },
+    MadeFile {
+        has: "65 modules of one name",
+        piece: "{\"name\":\"a\",\"tasks\":[]},",
+        times: 64,
+        ..MODULES
+    },
+    MadeFile {
+        has: "65 modules of which the last runs itself",
+        times: 64,
+        back: b"{\"name\":\"x\",\"tasks\":[{\"name\":\"a\",\"op\":\"module\",\"module\":\"x\"}]}]}",
+        ..MODULES
+    },
+    MadeFile {
+        has: "50,000 modules that run one",
+        piece: "{\"name\":\"#\",\"tasks\":[{\"name\":\"a\",\"op\":\"module\",\"module\":\"x\"}]},",
+        times: 50_000,
+        ..MODULES
+    },
+    MadeFile {
+        has: "50,000 modules that run themselves",
+        piece: "{\"name\":\"#\",\"tasks\":[{\"name\":\"a\",\"op\":\"module\",\"module\":\"#\"}]},",
+        times: 50_000,
+        ..MODULES
+    },
+    MadeFile {
+        has: "10,000 tasks in two graphs",
+        times: 9_998,
+        ..BESIDE
+    },
+    MadeFile {
+        has: "10,001 tasks in two graphs",
+        times: 9_999,
+        ..BESIDE
+    },
+    MadeFile {
+        has: "100,000 edges in two graphs",
+        piece: EDGES.piece,
+        times: 9_998,
+        back: b"{\"name\":\"x\",\"op\":\"pass\",\"to\":[\"x\",\"x\",\"x\",\"x\",\"x\",\"x\",\"x\",\"x\",\"x\",\"x\",\"x\",\"x\",\"x\",\"x\",\"x\",\"x\",\"x\",\"x\",\"x\"]}]}",
+        ..BESIDE
+    },
+    MadeFile {
+        has: "100,001 edges in two graphs",
+        piece: EDGES.piece,
+        times: 9_998,
+        back: b"{\"name\":\"x\",\"op\":\"pass\",\"to\":[\"x\",\"x\",\"x\",\"x\",\"x\",\"x\",\"x\",\"x\",\"x\",\"x\",\"x\",\"x\",\"x\",\"x\",\"x\",\"x\",\"x\",\"x\",\"x\",\"x\"]}]}",
+        ..BESIDE
+    },
+    MadeFile {
+        has: "257 semaphores in two graphs",
+        front: b"{\"modules\":[{\"name\":\"m\",\"semaphores\":[{\"name\":\"s\",\"max\":1}],\"tasks\":[]}],\"tasks\":[],\"semaphores\":[",
+        times: 255,
+        ..SEMAPHORES
+    },
+    MadeFile {
+        has: "1,024 texts in two graphs",
+        piece: READS.piece,
+        times: 1_023,
+        ..BESIDE
+    },
+    MadeFile {
+        has: "1,025 texts in two graphs",
+        piece: READS.piece,
+        times: 1_024,
+        ..BESIDE
     },
     MadeFile {
         has: "4,194,304 brackets",
