@@ -278,15 +278,24 @@ file_counts file numbers = record {
   sems = sum_by (λ (draft : DraftRows). length draft.sems) (file.top ∷ file.modules);
 }
 
--- there are not too many tasks, edges, semaphores and modules, chains of uses that begin in the top graph aren't too long,
--- and there are not too many texts
-abbrev pub within_limits : FileRows → FileNumbers → Result ⊤ GraphError
-within_limits file numbers = let counts = file_counts file numbers in do
+-- there are not too many tasks, edges, semaphores and modules
+abbrev pub within_counts : FileRows → FileNumbers → Result ⊤ GraphError
+within_counts file numbers = let counts = file_counts file numbers in do
   tasks ← passed (nat_le counts.tasks file_task_limit) (TooMany Tasks)
   edges ← passed (nat_le counts.edges file_edge_limit) (TooMany Edges)
   sems ← passed (nat_le counts.sems file_semaphore_limit) (TooMany Semaphores)
-  modules ← passed (nat_le (length file.modules) module_limit) (TooMany Modules)
-  depth ← passed (not (has_chain (depth_limit + 1) (file_uses file) (used_by_tasks (names_of_modules file) file.top.tasks))) (TooMany Depth)
+  passed (nat_le (length file.modules) module_limit) (TooMany Modules)
+
+-- modules nest too deep: a chain of more than so many of them begins with one that the top graph's tasks run
+abbrev pub nests_too_deep : FileRows → Bool
+nests_too_deep file = has_chain (depth_limit + 1) (file_uses file) (used_by_tasks (names_of_modules file) file.top.tasks)
+
+-- no module is on a cycle of uses, and there is not too much in the file
+abbrev pub within_limits : FileRows → FileNumbers → Result ⊤ GraphError
+within_limits file numbers = do
+  nested ← unless (first_on_cycle (file_uses file)) (λ m. ModuleCycle (u32_of m))
+  few ← within_counts file numbers
+  shallow ← passed (not (nests_too_deep file)) (TooMany Depth)
   passed (nat_le (length (file_texts file)) text_count_limit) (TooMany Texts)
 
 -- ---- the plan
@@ -349,7 +358,6 @@ abbrev pub plan_of : FileRows → Result PlanRows GraphError
 plan_of file = do
   numbers ← file_numbers file
   names ← file_names file
-  nested ← unless (first_on_cycle (file_uses file)) (λ m. ModuleCycle (u32_of m))
   few ← within_limits file numbers
   Ok (plan_with file numbers)
 

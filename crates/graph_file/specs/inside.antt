@@ -5,3 +5,4 @@ pub mod Drafts
 pub mod Fine
 pub mod Lookups
 pub mod UseNets
+pub mod Counting

@@ -5,7 +5,7 @@ ghost use Rattle.std.specs.List.{find, list_any};
 ghost use Rattle.std.specs.Str.{bytes_eq};
 ghost use Rattle.serde_json.specs.Find.{as_str, get};
 ghost use Rattle.serde_json.specs.View.{view};
-ghost use Rattle.graph_file.specs.Contents.{each, empty_list_of, line_count_of, list_of, name_of, name_list_of, objects_of, part_size_of, text_name_of, whole_of, word_of, words_of};
+ghost use Rattle.graph_file.specs.Contents.{each, line_count_of, list_of, name_of, name_list_of, objects_of, part_size_of, text_name_of, whole_of, word_of, words_of};
 ghost use Rattle.graph_file.specs.Fields.{allowed, is_unknown, needed, only, unknown};
 ghost use Rattle.graph_file.specs.inside.Reader.{Leads, Reads, ReadsAs, put_each, strings};
 ghost use Rattle.graph_file.specs.Steps.{walk};

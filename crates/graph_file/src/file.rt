@@ -109,15 +109,15 @@ fn add_module<'v>(
     ensures { Leads result (map draft_rows modules.new.items)
         (add_module version (map draft_rows modules.old.items) (view value.now)) }
 {
-    let module = read_module(alloc, Scope::Module(modules.len()), version, value)?;
-    Ok(put_module(module, modules)?)
+    let draft = read_module(alloc, Scope::Module(modules.len()), version, value)?;
+    Ok(put_module(draft, modules)?)
 }
 
-fn put_module<'v>(module: Draft<'v>, modules: &mut Vec<Draft<'v>>) -> Result<(), NoMemory>
+fn put_module<'v>(draft: Draft<'v>, modules: &mut Vec<Draft<'v>>) -> Result<(), NoMemory>
     ensures { OnOk result (map draft_rows modules.new.items
-        ≡ map draft_rows modules.old.items ++ draft_rows module.entry ∷ []) }
+        ≡ map draft_rows modules.old.items ++ draft_rows draft.entry ∷ []) }
 {
-    modules.push(module)?;
+    modules.push(draft)?;
     Ok(())
 }
 
@@ -125,14 +125,14 @@ fn read_module<'v>(
     alloc: Global,
     scope: Scope,
     version: u64,
-    module: &'v Value,
+    object: &'v Value,
 ) -> Result<Draft<'v>, GraphError>
-    ensures { ReadsAs draft_rows result (module_in scope version (view module.now)) }
+    ensures { ReadsAs draft_rows result (module_in scope version (view object.now)) }
 {
     let spot = graph_spot(scope);
-    let name = read_name(alloc, spot, module)?;
-    let tasks = read_objects(alloc, spot, "tasks", module)?;
-    let sems = read_some_objects(alloc, spot, "semaphores", module)?;
-    check_fields(alloc, spot, module, &["name", "tasks", "semaphores"], &[])?;
+    let name = read_name(alloc, spot, object)?;
+    let tasks = read_objects(alloc, spot, "tasks", object)?;
+    let sems = read_some_objects(alloc, spot, "semaphores", object)?;
+    check_fields(alloc, spot, object, &["name", "tasks", "semaphores"], &[])?;
     read_draft(alloc, empty_draft(alloc, scope, version, name), sems, tasks)
 }

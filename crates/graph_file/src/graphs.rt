@@ -1,5 +1,10 @@
 // The graphs of a plan.
 ghost use Rattle.std.specs.Prelude.{◌≡◌, IfOk, map};
+ghost use Rattle.graph_plans.specs.PlanRows.{graph_rows, plan_rows};
+ghost use Rattle.graph_file.specs.PlanText.{file_texts, graph_with, graphs_with, names_of_modules, numbered, ops_of, plan_with};
+ghost use Rattle.graph_file.specs.inside.Drafts.{AreReady, IsReady, IsReadyFile};
+ghost use Rattle.graph_file.specs.inside.Lookups.{IsIndex};
+ghost use Rattle.graph_file.specs.inside.Reader.{draft_rows, file_op_row, file_rows, numbers_rows, strings, task_text};
 
 use crate::draft::{Draft, FileDraft, FileTask};
 use crate::file_op::FileOp;
@@ -19,7 +24,15 @@ pub(crate) fn plan_with(
     numbers: &Numbers,
     modules: &Index<'_>,
     texts: &Index<'_>,
-) -> Result<Plan, NoMemory> {
+) -> Result<Plan, NoMemory>
+    requires modules { IsIndex modules.now }
+    requires texts { IsIndex texts.now }
+    requires names { strings modules.now.names ≡ names_of_modules (file_rows file) }
+    requires mentions { strings texts.now.names ≡ file_texts (file_rows file) }
+    requires ready { IsReadyFile (file_rows file) (numbers_rows numbers.now) }
+    ensures { IfOk result (λ plan. plan_rows plan
+        ≡ plan_with (file_rows file.entry) (numbers_rows numbers.now)) }
+{
     let FileDraft {
         top,
         modules: drafts,
@@ -39,7 +52,14 @@ fn graphs_with(
     numbers: &[List<TaskNumbers>],
     modules: &Index<'_>,
     texts: &Index<'_>,
-) -> Result<List<Graph>, NoMemory> {
+) -> Result<List<Graph>, NoMemory>
+    requires modules { IsIndex modules.now }
+    requires texts { IsIndex texts.now }
+    requires ready { AreReady (strings modules.now.names) (map draft_rows drafts.items) numbers.now }
+    ensures { IfOk result (λ graphs. map graph_rows graphs
+        ≡ graphs_with (strings modules.now.names) (strings texts.now.names)
+        (map draft_rows drafts.entry.items) numbers.now) }
+{
     let mut graphs = List::with_room(alloc, drafts.len())?;
     for draft in drafts {
         let own = numbers[graphs.len()].as_slice();
@@ -55,7 +75,14 @@ fn graph_with(
     numbers: &[TaskNumbers],
     modules: &Index<'_>,
     texts: &Index<'_>,
-) -> Result<Graph, NoMemory> {
+) -> Result<Graph, NoMemory>
+    requires modules { IsIndex modules.now }
+    requires texts { IsIndex texts.now }
+    requires ready { IsReady (strings modules.now.names) (draft_rows draft) numbers.now }
+    ensures { IfOk result (λ graph. graph_rows graph
+        ≡ graph_with (strings modules.now.names) (strings texts.now.names)
+        (draft_rows draft.entry) numbers.now) }
+{
     let name = Bytes::from_slice(alloc, draft.name.as_bytes())?;
     let names = task_names(alloc, draft.tasks.as_slice())?;
     let sem_names = copied_names(alloc, draft.sem_names.as_slice())?;
@@ -83,7 +110,13 @@ fn ops_of(
     tasks: Vec<FileTask<'_>>,
     modules: &Index<'_>,
     texts: &Index<'_>,
-) -> Result<List<Op>, NoMemory> {
+) -> Result<List<Op>, NoMemory>
+    requires modules { IsIndex modules.now }
+    requires texts { IsIndex texts.now }
+    ensures { IfOk result (λ ops. ops
+        ≡ ops_of (strings modules.now.names) (strings texts.now.names)
+        (map task_text tasks.entry.items)) }
+{
     let mut ops = List::with_room(alloc, tasks.len())?;
     for task in tasks {
         ops.push(numbered(task.op, modules, texts))?;
@@ -92,7 +125,12 @@ fn ops_of(
 }
 
 // The operation as a plan has it.
-fn numbered(op: FileOp<'_>, modules: &Index<'_>, texts: &Index<'_>) -> Op {
+fn numbered(op: FileOp<'_>, modules: &Index<'_>, texts: &Index<'_>) -> Op
+    requires modules { IsIndex modules.now }
+    requires texts { IsIndex texts.now }
+    ensures { result ≡ numbered (strings modules.now.names) (strings texts.now.names)
+        (file_op_row op.entry) }
+{
     match op {
         FileOp::Reads(text) => Op::Read(u32_of(number_among(texts, text))),
         FileOp::Runs(name) => Op::Module(u32_of(number_among(modules, name))),
@@ -100,7 +138,9 @@ fn numbered(op: FileOp<'_>, modules: &Index<'_>, texts: &Index<'_>) -> Op {
     }
 }
 
-fn task_names(alloc: Global, tasks: &[FileTask<'_>]) -> Result<List<Bytes>, NoMemory> {
+fn task_names(alloc: Global, tasks: &[FileTask<'_>]) -> Result<List<Bytes>, NoMemory>
+    ensures { IfOk result (λ names. names ≡ map (λ task. task.names.name.now) tasks.now) }
+{
     let names = names_of_tasks(alloc, tasks)?;
     copied_names(alloc, names.as_slice())
 }

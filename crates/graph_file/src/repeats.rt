@@ -34,9 +34,9 @@ fn check_modules(alloc: Global, modules: &[Draft<'_>]) -> Result<(), GraphError>
         (walk add_module_name [] (map draft_rows modules.now)) }
 {
     let mut places = HashMap::new(alloc);
-    for (place, module) in modules.iter().enumerate() {
-        let new = keep_place(&mut places, module.name.as_bytes(), place)?;
-        if let Err(refusal) = check_module(alloc, place, new, module) {
+    for (place, draft) in modules.iter().enumerate() {
+        let new = keep_place(&mut places, draft.name.as_bytes(), place)?;
+        if let Err(refusal) = check_module(alloc, place, new, draft) {
             return Err(refusal);
         }
     }
@@ -48,14 +48,14 @@ fn check_module(
     alloc: Global,
     number: usize,
     new: bool,
-    module: &Draft<'_>,
+    draft: &Draft<'_>,
 ) -> Result<(), GraphError>
-    ensures { Leads result number (once_module number new (draft_rows module.now)) }
+    ensures { Leads result number (once_module number new (draft_rows draft.now)) }
 {
     if !new {
         return Err(repeated(alloc, graph_spot(Scope::Module(number)), "name"));
     }
-    check_graph(alloc, module)
+    check_graph(alloc, draft)
 }
 
 // That no semaphore and no task of a graph has the name of an earlier one, or a semaphore twice in a list.

@@ -1,27 +1,29 @@
 // The modules that tasks run, and how deep they nest.
-ghost use Rattle.std.specs.Prelude.{◌≡◌, ◌<◌, ◌++◌, [], All, IfOk, OnOk, length, map};
+ghost use Rattle.std.specs.Prelude.{◌≡◌, ◌<◌, ◌+◌, ◌++◌, [], false, All, IfOk, OnOk, length, map, slice_index_or};
 ghost use Rattle.std.specs.List.{list_any};
 ghost use Rattle.graph_plans.specs.ModuleUses.{has_chain};
-ghost use Rattle.graph_file.specs.PlanText.{names_of_modules, used_by_tasks};
+ghost use Rattle.graph_file.specs.PlanText.{file_uses, names_of_modules, used_before, used_by_tasks};
 ghost use Rattle.graph_file.specs.inside.Lookups.{IsIndex};
-ghost use Rattle.graph_file.specs.inside.Reader.{draft_rows, strings, task_text};
+ghost use Rattle.graph_file.specs.inside.Reader.{file_op_row, file_rows, strings, task_text};
+ghost use Rattle.graph_file.specs.inside.UseNets.{AreUses};
 
-use crate::draft::{Draft, FileTask};
+use crate::draft::{FileDraft, FileTask};
 use crate::file_op::FileOp;
 use crate::lookups::{Index, number_among};
 use outside_io::{List, NoMemory};
 use std::alloc::Global;
 
-/// The modules that the tasks of each of these graphs run.
+/// The modules that the tasks of each module of a file run.
 pub(crate) fn uses_of(
     alloc: Global,
-    drafts: &[Draft<'_>],
+    file: &FileDraft<'_>,
     modules: &Index<'_>,
 ) -> Result<List<List<usize>>, NoMemory>
-    requires { IsIndex modules.now }
-    ensures { IfOk result (λ uses. uses ≡ map
-        (λ draft. used_by_tasks (strings modules.now.names) (draft_rows draft).tasks) drafts.now) }
+    requires index { IsIndex modules.now }
+    requires modules { strings modules.now.names ≡ names_of_modules (file_rows file.now) }
+    ensures { IfOk result (λ uses. uses ≡ file_uses (file_rows file.now)) }
 {
+    let drafts = file.modules.as_slice();
     let mut uses = List::with_room(alloc, drafts.len())?;
     for draft in drafts {
         uses.push(used_by_tasks(alloc, draft.tasks.as_slice(), modules)?)?;
@@ -41,11 +43,24 @@ pub(crate) fn used_by_tasks(
 {
     let mut used = List::new(alloc);
     for task in tasks {
-        if let FileOp::Runs(name) = &task.op {
-            used.push(number_among(modules, name))?;
-        }
+        add_used(&task.op, modules, &mut used)?;
     }
     Ok(used)
+}
+
+// Puts the module that an operation runs at the end.
+fn add_used(op: &FileOp<'_>, modules: &Index<'_>, used: &mut List<usize>) -> Result<(), NoMemory>
+    requires { IsIndex modules.now }
+    ensures { OnOk result (used.new ≡ used.old
+        ++ used_before (strings modules.now.names) [] (file_op_row op.now)) }
+{
+    match op {
+        FileOp::Runs(name) => {
+            used.push(number_among(modules, name))?;
+            Ok(())
+        }
+        FileOp::Reads(_) | FileOp::Does(_) => Ok(()),
+    }
 }
 
 /// Whether a chain of so many modules and one more begins with one of these.
@@ -55,7 +70,7 @@ pub(crate) fn has_chain(
     uses: &[List<usize>],
     used: &[usize],
 ) -> Result<bool, NoMemory>
-    requires uses { All (All (λ m. m < length uses.now)) uses.now }
+    requires uses { AreUses uses.now }
     requires used { All (λ m. m < length uses.now) used.now }
     ensures { IfOk result (λ has. has ≡ has_chain (more + 1) uses.now used.now) }
 {
@@ -83,9 +98,9 @@ fn longer_chains(
     uses: &[List<usize>],
     begins: &[bool],
 ) -> Result<List<bool>, NoMemory>
-    requires uses { All (All (λ m. m < length uses.now)) uses.now }
+    requires uses { AreUses uses.now }
     requires begins { length begins.now ≡ length uses.now }
-    ensures { IfOk result (λ longer. longer ≡ map (list_any (slice_index_or begins.now)) uses.now) }
+    ensures { IfOk result (λ longer. longer ≡ map (list_any (λ m. slice_index_or begins.now m false)) uses.now) }
 {
     let mut longer = List::with_room(alloc, uses.len())?;
     for used in uses {

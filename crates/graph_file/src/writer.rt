@@ -56,23 +56,24 @@ fn module_values(alloc: Global, plan: &Plan) -> Result<Vec<Value>, AllocError>
     requires { IsWritable (plan_rows plan.now) }
     ensures { IfOk result (λ values. map view values.items ≡ map (module_data (plan_rows plan.now)) (plan_rows plan.now).modules) }
 {
+    let graphs = plan.modules.as_slice();
     let mut values = Vec::new(alloc);
-    for module in &plan.modules {
-        values.push(module_value(alloc, plan, module)?)?;
+    for graph in graphs {
+        values.push(module_value(alloc, plan, graph)?)?;
     }
     Ok(values)
 }
 
-fn module_value(alloc: Global, plan: &Plan, module: &Graph) -> Result<Value, AllocError>
-    requires name { IsString module.now.name }
+fn module_value(alloc: Global, plan: &Plan, graph: &Graph) -> Result<Value, AllocError>
+    requires name { IsString graph.now.name }
     requires graph { IsWritableGraph plan.now.texts (module_names (plan_rows plan.now))
-        (graph_rows module.now) }
+        (graph_rows graph.now) }
     ensures { IfOk result (λ value. view value
-        ≡ module_data (plan_rows plan.now) (graph_rows module.now)) }
+        ≡ module_data (plan_rows plan.now) (graph_rows graph.now)) }
 {
-    let name = string_value(alloc, &module.name)?;
-    let sems = sem_values(alloc, module.sem_names.as_slice(), module.net.sems())?;
-    let tasks = task_values(alloc, plan, module)?;
+    let name = string_value(alloc, &graph.name)?;
+    let sems = sem_values(alloc, graph.sem_names.as_slice(), graph.net.sems())?;
+    let tasks = task_values(alloc, plan, graph)?;
     json!(in alloc; {
         "name": name,
         "semaphores": Value::Array(sems),

@@ -1,14 +1,14 @@
 -- What holds of the semaphores and tasks of each file, and what the code has of a net in the making.
-use Rattle.std.specs.Prelude.{◌≡◌, ◌≢◌, ℕ, ◌<◌, ◌≤◌, true, false, List, [], length, map, All, AllPairs, ⊤}
+use Rattle.std.specs.Prelude.{◌≡◌, ◌≢◌, ℕ, ◌<◌, ◌≤◌, true, false, List, [], ◌∷◌, length, map, All, AllPairs, Ok, ⊤}
 use Rattle.task_graph.specs.NetRows.{NetRows}
 use Rattle.task_graph.specs.declared.net.EdgeRow.{EdgeRow}
 use Rattle.graph_plans.specs.declared.ops.Op.{Op}
 use Rattle.graph_plans.specs.Operations.{IsOp}
-use Rattle.graph_plans.specs.PlanRows.{IsTextName, maximum_limit}
+use Rattle.graph_plans.specs.PlanRows.{IsTextName, file_edge_limit, file_semaphore_limit, file_task_limit, maximum_limit}
 use Rattle.graph_file.specs.declared.nets.Edge.{Edge}
 use Rattle.graph_file.specs.declared.numbers.TaskNumbers.{TaskNumbers}
 use Rattle.graph_file.specs.OpRows.{FileOpRow, reads, runs, does}
-use Rattle.graph_file.specs.PlanText.{DraftRows, FileRows, TaskText, task_rows}
+use Rattle.graph_file.specs.PlanText.{DraftRows, FileNumbers, FileRows, TaskText, edge_total, graph_names, graph_numbers, names_of_modules, task_names, task_rows}
 
 -- a maximum that a semaphore may have
 pub record IsMaximum (max : ℕ) : Type 0 where
@@ -32,6 +32,27 @@ pub record IsFile (file : FileRows) : Type 0 where
   pub no_name : file.top.name ≡ []
   pub top : IsDraft file.top
   pub modules : All IsDraft file.modules
+
+-- a graph of a file, whose tasks name what has these numbers, that keeps the rules
+pub record IsReady (modules : List (List ℕ)) (draft : DraftRows) (numbers : List TaskNumbers) : Type 0 where
+  pub is_draft : IsDraft draft
+  pub numbered : graph_numbers modules draft ≡ Ok numbers
+  pub named : graph_names draft ≡ Ok (task_names draft)
+  pub tasks : length draft.tasks ≤ file_task_limit
+  pub edges : edge_total numbers ≤ file_edge_limit
+  pub sems : length draft.sems ≤ file_semaphore_limit
+
+-- graphs of a file that do, each with its numbers
+abbrev pub AreReady : List (List ℕ) → List DraftRows → List (List TaskNumbers) → Type 0
+AreReady modules [] [] = ⊤
+AreReady modules [] (n ∷ numbers) = ⊥
+AreReady modules (draft ∷ drafts) [] = ⊥
+AreReady modules (draft ∷ drafts) (n ∷ numbers) = IsReady modules draft n × AreReady modules drafts numbers
+
+-- the graphs of a file that does
+pub record IsReadyFile (file : FileRows) (numbers : FileNumbers) : Type 0 where
+  pub top : IsReady (names_of_modules file) file.top numbers.top
+  pub modules : AreReady (names_of_modules file) file.modules numbers.modules
 
 -- a list of semaphores, of which there are so many, that has none twice
 pub record AreIds (sems : ℕ) (ids : List ℕ) : Type 0 where
