@@ -389,3 +389,8 @@ pub no-cycle-found : (net : NetRows) (findings : List Finding) (i : ℕ) → Are
 no-cycle-found net findings i are past none t on =
     let there = (are.exact (StrongCycle t)).1 on in
     none there.0 t (StrongCycle t) (omega (arith, past, there.1)) there.2
+
+-- the same where the item is written with some default
+pub cycle-found-at : (net : NetRows) (findings : List Finding) (i t : ℕ) (d : Finding) → AreFindings net findings → i < length findings → get_or findings i d ≡ StrongCycle t → ((k m : ℕ) (d : Finding) → k < i → get_or findings k d ≢ StrongCycle m)
+    → IsFirstOnCycle net (Some t)
+cycle-found-at net findings i t d are within = cycle-found net findings i t (get_or findings i d) are within (get_or_default findings i d (get_or findings i d) within)

@@ -27,3 +27,4 @@ pub mod WrittenLemmas
 pub mod TripLemmas
 pub mod WritableLemmas
 pub mod ReadingLemmas
+pub mod GraphLemmas

@@ -556,3 +556,22 @@ IsPlan-read bytes plan is =
     bind_ok (file_in d) plan_of plan after (λ file read_ planned.
     let all = IsPlanned-of file plan planned in
     subst IsPlan all.is (IsPlan-with file plan (IsFile-read d file read_) all)))
+
+-- ---- the code's way to the plan
+
+-- each class of refusals was passed
+pub plan-found : (file : FileRows) (numbers : FileNumbers) (names : List (List ℕ)) → file_numbers file ≡ Ok numbers → file_names file ≡ Ok names → within_limits file numbers ≡ Ok tt → plan_of file ≡ Ok (plan_with file numbers)
+plan-found file numbers names numbered named few = rw (numbered, named, few) refl
+
+pub ready-file : (file : FileRows) (numbers : FileNumbers) (names : List (List ℕ)) → IsFile file → file_numbers file ≡ Ok numbers → file_names file ≡ Ok names → within_limits file numbers ≡ Ok tt → IsReadyFile file numbers
+ready-file file numbers names is numbered named few = IsReadyFile-of file numbers is (IsNumberedFile-of file numbers numbered) (IsNamedFile-of file names named) (IsWithinLimits-of file numbers few)
+
+-- one was not
+pub numbers-refused : (file : FileRows) (e : GraphError) → file_numbers file ≡ Err e → plan_of file ≡ Err e
+numbers-refused file e refused = rw refused refl
+
+pub names-refused : (file : FileRows) (numbers : FileNumbers) (e : GraphError) → file_numbers file ≡ Ok numbers → file_names file ≡ Err e → plan_of file ≡ Err e
+names-refused file numbers e numbered refused = rw (numbered, refused) refl
+
+pub limits-refused : (file : FileRows) (numbers : FileNumbers) (names : List (List ℕ)) (e : GraphError) → file_numbers file ≡ Ok numbers → file_names file ≡ Ok names → within_limits file numbers ≡ Err e → plan_of file ≡ Err e
+limits-refused file numbers names e numbered named refused = rw (numbered, named, refused) refl

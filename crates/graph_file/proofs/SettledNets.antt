@@ -17,7 +17,7 @@ use Rattle.graph_file.specs.declared.scopes.Scope.{Scope}
 use Rattle.graph_file.specs.declared.scopes.Scope.TheVariants.{Top, Module as OfModule}
 use Rattle.graph_file.specs.Contents.{each, is_name}
 use Rattle.graph_file.specs.Fields.{graph_spot, sem_spot, task_spot}
-use Rattle.graph_file.specs.PlanText.{DraftRows, FileNumbers, FileRows, TaskNames, TaskText, add_graph_numbers, add_module_name, add_name, add_numbers, add_task_name, edge_to, edge_total, edges_from, file_names, file_numbers, file_texts, file_uses, graph_names, graph_numbers, graph_with, graphs_with, mentioned, mentioned_by_graphs, mentioned_by_tasks, names_of_modules, names_of_tasks, nests_too_deep, ops_of, numbered, plan_of, plan_with, puts_field, takes_field, task_names, task_row, task_rows, used_before, used_by_tasks, within_counts, within_limits}
+use Rattle.graph_file.specs.PlanText.{DraftRows, FileNumbers, FileRows, TaskNames, TaskText, add_graph_numbers, add_module_name, add_name, add_numbers, add_task_name, edge_to, edge_total, edges_from, file_names, file_numbers, file_texts, file_uses, graph_names, graph_numbers, graph_with, graphs_with, mentioned, mentioned_by_graphs, mentioned_by_tasks, names_of_modules, names_of_tasks, ops_of, numbered, plan_of, plan_with, puts_field, takes_field, task_names, task_row, task_rows, used_before, used_by_tasks, within_counts, within_limits}
 use Rattle.graph_file.specs.Steps.{walk}
 use Rattle.graph_file.specs.inside.Drafts.{AreIds}
 use Rattle.graph_file.specs.inside.Fine.{AreFine, AreMade, AreValidSems, IsMade, IsMadeFile, SemText, names_of_sems}
@@ -342,11 +342,8 @@ module _ (file : FileRows) (numbers : FileNumbers) (made : IsMadeFile file) (all
         graphs-length (names_of_modules file) file.modules numbers.modules all.modules,
       ) refl
 
-  deep-again : nests_too_deep now ≡ nests_too_deep file
-  deep-again = rw (uses-again, modules_now, used-same (names_of_modules file) file.top file.top.tasks numbers.top top_numbered) refl
-
   limits-again : within_limits now numbers_now ≡ Ok tt
-  limits-again = rw (uses-again, counts-again, deep-again, texts-again) passes
+  limits-again = rw (uses-again, counts-again, modules_now, used-same (names_of_modules file) file.top file.top.tasks numbers.top top_numbered, texts-again) passes
 
   plan-again : plan_with now numbers_now ≡ plan_with file numbers
   plan-again =

@@ -114,6 +114,7 @@ settled-second modules (draft ∷ drafts) (n ∷ numbers) all = (refl, settled-s
 module _ (modules texts : List (List ℕ)) (few_modules : length modules ≤ module_limit) (few_texts : length texts ≤ text_count_limit) (plan : PlanRows) (texts_are : plan.texts ≡ texts) (modules_are : module_names plan ≡ modules) where
   modules-kept : (m : ℕ) (drafts : List DraftRows) (numbers : List (List TaskNumbers)) (made : AreMade m drafts) (all : AreGraphNumbers modules drafts numbers) → AllKnowIn texts drafts
       → map (module_data plan) (graphs_with modules texts drafts numbers) ≡ made_data m (settled_graphs drafts numbers) (settled-all modules m drafts numbers made all)
+  unfolding settled-all settled-made
   modules-kept m [] numbers made all known = refl
   modules-kept m (draft ∷ drafts) [] made all known = absurd all
   modules-kept m (draft ∷ drafts) (n ∷ numbers) made all known =
@@ -164,6 +165,7 @@ module _ (file : FileRows) (plan : PlanRows) (made : IsMadeFile file) (planned :
   names-written = graphs-named names texts file.modules numbers.modules (IsReadyFile-of file numbers (IsFile-of file made) planned.numbered planned.named planned.limits).modules
 
   data-kept : plan_data written ≡ file_data (made_data 0 (settled_graphs file.modules numbers.modules) again.modules) (map sem_text_data made.top.sems) (map task_text_data (settled_tasks file.top file.top.tasks numbers.top))
+  unfolding again settled-all
   data-kept =
       rw (
         modules-kept names texts names_few planned.limits.texts written refl names-written 0 file.modules numbers.modules made.modules planned.numbered.modules (graphs-know file).1,
@@ -173,6 +175,7 @@ module _ (file : FileRows) (plan : PlanRows) (made : IsMadeFile file) (planned :
       ) refl
 
   read-again : file_in (plan_data written) ≡ Ok (settled_file file numbers)
+  unfolding again settled-made
   read-again = ap file_in data-kept ∙ file-written (settled_file file numbers) again refl (settled-second names file.modules numbers.modules planned.numbered.modules)
 
   pub written-again : plan_in (plan_data plan) ≡ Ok plan

@@ -1,5 +1,5 @@
 -- The modules that tasks run, and chains of them.
-use Rattle.std.proofs.Common.{◌≡◌, ℕ, zero, suc, ◌+◌, ◌<◌, ◌≤◌, List, [], ◌∷◌, ◌++◌, map, length, take, get_or, Bool, true, false, ◌||◌, is_some, position, All, Ok, refl, sym, ap, subst, ◌∙◌, bytes_eq, arith}
+use Rattle.std.proofs.Common.{◌≡◌, ℕ, zero, suc, ◌+◌, ◌<◌, ◌≤◌, List, [], ◌∷◌, ◌++◌, map, length, take, get_or, Bool, true, false, ◌||◌, is_some, not, position, All, Ok, Err, refl, sym, ap, subst, ◌∙◌, bytes_eq, arith}
 use Rattle.std.proofs.lemmas.List.{get_or-map, length-map, map-append, take_more}
 use Rattle.std.proofs.lemmas.List.Elements.{All-cons, All-head, All-nil, All-tail}
 use Rattle.std.specs.List.{list_any}
@@ -8,8 +8,10 @@ use Rattle.graph_file.specs.declared.draft.Draft.{Draft}
 use Rattle.graph_file.specs.declared.draft.FileDraft.{FileDraft}
 use Rattle.graph_file.specs.declared.draft.FileTask.{FileTask}
 use Rattle.graph_file.specs.declared.numbers.TaskNumbers.{TaskNumbers}
+use Rattle.graph_file.specs.declared.refusals.GraphError.{GraphError}
 use Rattle.graph_file.specs.OpRows.{FileOpRow, reads, runs, does}
-use Rattle.graph_file.specs.PlanText.{DraftRows, FileNumbers, FileRows, TaskText, file_numbers, file_uses, names_of_modules, number_among, runs_one_of, used_before, used_by_tasks}
+use Rattle.graph_file.specs.Steps.{passed}
+use Rattle.graph_file.specs.PlanText.{DraftRows, FileNumbers, FileRows, TaskText, file_numbers, file_uses, names_of_modules, nests_too_deep, number_among, runs_one_of, used_before, used_by_tasks}
 use Rattle.graph_file.specs.inside.Reader.{draft_rows, file_rows, task_text}
 use Rattle.graph_file.specs.inside.UseNets.{AreUses}
 use Rattle.graph_file.proofs.PlanLemmas.{AreGraphNumbers, AreNumbered, IsNumberedFile-of, numbered-draft}
@@ -114,3 +116,20 @@ uses-shown names file drafts same named =
     shown : (names : List (List ℕ)) (drafts : List Draft) → map (λ (draft : Draft). used_by_tasks names (draft_rows draft).tasks) drafts ≡ map (λ (draft : DraftRows). used_by_tasks names draft.tasks) (map draft_rows drafts)
     shown names [] = refl
     shown names (draft ∷ drafts) = ap (λ us. used_by_tasks names (draft_rows draft).tasks ∷ us) (shown names drafts)
+
+-- ---- how deep modules nest
+
+-- what the code found of chains from the top graph
+pub depth-found : (file : FileRows) (has : Bool) (uses : List (List ℕ)) (used : List ℕ) → has ≡ has_chain 9 uses used → uses ≡ file_uses file → used ≡ used_by_tasks (names_of_modules file) file.top.tasks → has ≡ nests_too_deep file
+depth-found file has uses used found same same_used = found ∙ ap (λ us. has_chain 9 us used) same ∙ ap (has_chain 9 (file_uses file)) same_used
+
+pub depth-passed : (file : FileRows) (has : Bool) (e : GraphError) → has ≡ nests_too_deep file → has ≡ false → passed (not (nests_too_deep file)) e ≡ Ok tt
+depth-passed file has e found is = ap (λ deep. passed (not deep) e) (sym found ∙ is)
+
+pub depth-refused : (file : FileRows) (has : Bool) (e : GraphError) → has ≡ nests_too_deep file → has ≡ true → passed (not (nests_too_deep file)) e ≡ Err e
+depth-refused file has e found is = ap (λ deep. passed (not deep) e) (sym found ∙ is)
+
+-- what the tasks of the top graph run, as the code has it
+pub used-shown : (names : List (List ℕ)) (file : FileDraft) (tasks : List FileTask) → tasks ≡ file.top.tasks.items → names ≡ names_of_modules (file_rows file)
+    → used_by_tasks names (map task_text tasks) ≡ used_by_tasks (names_of_modules (file_rows file)) (file_rows file).top.tasks
+used-shown names file tasks same named = ap (λ ts. used_by_tasks names (map task_text ts)) same ∙ ap (λ ns. used_by_tasks ns (map task_text file.top.tasks.items)) named

@@ -1,5 +1,5 @@
 // The graphs of a plan.
-ghost use Rattle.std.specs.Prelude.{◌≡◌, IfOk, map};
+ghost use Rattle.std.specs.Prelude.{◌≡◌, ◌<◌, [], IfOk, length, map, slice_index_or};
 ghost use Rattle.graph_plans.specs.PlanRows.{graph_rows, plan_rows};
 ghost use Rattle.graph_file.specs.PlanText.{file_texts, graph_with, graphs_with, names_of_modules, numbered, ops_of, plan_with};
 ghost use Rattle.graph_file.specs.inside.Drafts.{AreReady, IsReady, IsReadyFile};
@@ -16,6 +16,7 @@ use graph_plans::{Graph, Op, Plan};
 use outside_io::{Bytes, List, NoMemory};
 use std::alloc::Global;
 use std::sync::Arc;
+use task_graph::Net;
 
 /// The plan of these graphs, whose tasks name what has these numbers.
 pub(crate) fn plan_with(
@@ -62,10 +63,18 @@ fn graphs_with(
 {
     let mut graphs = List::with_room(alloc, drafts.len())?;
     for draft in drafts {
-        let own = numbers[graphs.len()].as_slice();
+        let own = numbers_at(numbers, graphs.len());
         graphs.push(graph_with(alloc, draft, own, modules, texts)?)?;
     }
     Ok(graphs)
+}
+
+// The numbers of a graph's tasks.
+fn numbers_at(numbers: &[List<TaskNumbers>], graph: usize) -> &[TaskNumbers]
+    requires { graph < length numbers.now }
+    ensures { result.now ≡ slice_index_or numbers.now graph [] }
+{
+    numbers[graph].as_slice()
 }
 
 // The graph of a draft, whose tasks name what has these numbers.
@@ -95,12 +104,28 @@ fn graph_with(
         numbers,
         edges.as_slice(),
     )?;
+    graph_of(alloc, name, names, ops, sem_names, net)
+}
+
+// A graph with these parts.
+fn graph_of(
+    alloc: Global,
+    name: Bytes,
+    names: List<Bytes>,
+    ops: List<Op>,
+    sem_names: List<Bytes>,
+    net: Net,
+) -> Result<Graph, NoMemory>
+    ensures { IfOk result (λ graph. graph_rows graph
+        ≡ record { name = name; names = names; ops = ops; sem_names = sem_names; net = net }) }
+{
+    let net = Arc::new(alloc, net)?;
     Ok(Graph {
         name,
         names,
         ops,
         sem_names,
-        net: Arc::new(alloc, net)?,
+        net,
     })
 }
 
