@@ -7,7 +7,7 @@ use Rattle.std.proofs.lemmas.List.Elements.{All-append, All-head, All-map, All-n
 use Rattle.std.proofs.lemmas.Map.Steps.{length-le_from_distinct_below}
 use Rattle.std.specs.List.{AllByRecursion, IsDistinct, find, list_any, range_with_len}
 use Rattle.std.specs.Option.{option_map_or}
-use Rattle.task_graph.specs.Net.{chooses, is_weak, is_weak_row, task_chooses}
+use Rattle.task_graph.specs.Net.{chooses, is_weak, is_weak_row}
 use Rattle.task_graph.specs.NetBuilder.{rising, settled}
 use Rattle.task_graph.specs.NetRows.{NetRows}
 use Rattle.task_graph.specs.declared.net.EdgeRow.{EdgeRow}

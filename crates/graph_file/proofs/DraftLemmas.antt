@@ -1,5 +1,5 @@
 -- What holds of the graphs of each file.
-use Rattle.std.proofs.Common.{◌≡◌, ◌≢◌, ℕ, suc, ◌+◌, ◌<◌, ◌≤◌, List, [], ◌∷◌, ◌++◌, length, get_or, Bool, true, false, leb, cond, Option, Some, None, is_some, position, All, refl, sym, ap, subst, ◌∙◌, bytes_eq, arith}
+use Rattle.std.proofs.Common.{◌≡◌, ◌≢◌, ℕ, suc, ◌<◌, ◌≤◌, List, [], ◌∷◌, ◌++◌, length, get_or, Bool, true, false, leb, cond, Some, is_some, position, All, refl, sym, ap, subst, ◌∙◌, bytes_eq, arith}
 use Rattle.std.proofs.lemmas.Bool.{and_parts, leb-true, true≢false}
 use Rattle.std.proofs.lemmas.Cmp.{nat_list_eq_equiv}
 use Rattle.std.proofs.lemmas.List.{get_or_default, length-map}
@@ -19,7 +19,7 @@ use Rattle.graph_file.specs.Contents.{is_text}
 use Rattle.graph_file.specs.OpRows.{FileOpRow, reads, runs, does}
 use Rattle.graph_file.specs.PlanText.{DraftRows, FileRows, TaskText, file_texts, mentioned, mentioned_by_graphs, mentioned_by_tasks}
 use Rattle.graph_file.specs.inside.Drafts.{IsDraft, IsFile, IsFileOp, IsMaximum}
-use Rattle.graph_file.specs.inside.Fine.{AreFine, AreMade, AreValidSems, IsMade, IsMadeFile, SemText, fits, fits_lines, fits_max, fits_op, fits_part, fits_text_op, fits_words, maxima_of, names_of_sems}
+use Rattle.graph_file.specs.inside.Fine.{AreFine, AreMade, AreValidSems, IsMade, IsMadeFile, SemText, fits, fits_lines, fits_max, fits_op, fits_part, fits_text_op, fits_words, maxima_of}
 use Rattle.graph_file.proofs.NameLemmas.{some_place}
 
 -- ---- operations

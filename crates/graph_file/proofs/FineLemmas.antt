@@ -22,7 +22,7 @@ use Rattle.graph_file.specs.declared.scopes.Scope.TheVariants.{Top, Module as Of
 use Rattle.graph_file.specs.Contents.{each, is_name, is_text, line_count_of, list_of, name_of, name_list_of, objects_of, part_size_of, passing, text_name_of, whole_of, word_of, words_of}
 use Rattle.graph_file.specs.Fields.{allowed, graph_spot, needed, only, sem_spot, task_spot}
 use Rattle.graph_file.specs.OpRows.{FileOpRow, reads, runs, does, OpRow, WithFields, bare, single, used_by, text_rows, op_rows, row_called, op_called, op_in, each_in, spread_in, spread_row, text_op_in}
-use Rattle.graph_file.specs.PlanText.{DraftRows, FileRows, TaskNames, TaskText, add_module, add_semaphore, add_task, empty_draft, file_fields, file_in, graph_in, module_in, puts_field, takes_field, task_fields, with_semaphore, with_task_text}
+use Rattle.graph_file.specs.PlanText.{DraftRows, FileRows, TaskText, add_module, add_semaphore, add_task, empty_draft, file_fields, file_in, graph_in, module_in, puts_field, takes_field, task_fields, with_semaphore, with_task_text}
 use Rattle.graph_file.specs.Steps.{otherwise, walk}
 use Rattle.graph_file.specs.inside.Fine.{AreFine, AreMade, AreValidSems, IsMade, IsMadeFile, IsValidSem, IsValidTask, SemText, fits, fits_lines, fits_max, fits_op, fits_part, fits_text_op, fits_words, maxima_of, names_of_sems}
 use Rattle.graph_file.proofs.BindLemmas.{bind_ok, each-all, each-length, ok_or_ok, passing-ok}

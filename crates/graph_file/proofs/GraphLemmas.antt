@@ -1,10 +1,10 @@
 -- Graphs that keep the rules, as they are made.
-use Rattle.std.proofs.Common.{◌≡◌, ℕ, zero, suc, ◌+◌, ◌<◌, ◌≤◌, List, [], ◌∷◌, ◌++◌, map, take, get_or, length, All, Ok, refl, sym, ap, subst, ◌∙◌, arith}
+use Rattle.std.proofs.Common.{◌≡◌, ℕ, zero, suc, ◌+◌, ◌<◌, ◌≤◌, List, [], ◌∷◌, ◌++◌, map, take, get_or, length, All, refl, sym, ap, subst, ◌∙◌, arith}
 use Rattle.std.proofs.lemmas.List.{get_or-map, length-map, map-append, take_all}
 use Rattle.task_graph.specs.NetRows.{NetRows}
 use Rattle.graph_plans.specs.declared.ops.Op.{Op}
 use Rattle.graph_plans.specs.declared.plans.Graph.{Graph}
-use Rattle.graph_plans.specs.PlanRows.{GraphRows, file_edge_limit, file_task_limit, graph_rows}
+use Rattle.graph_plans.specs.PlanRows.{file_edge_limit, file_task_limit, graph_rows}
 use Rattle.graph_file.specs.declared.draft.Draft.{Draft}
 use Rattle.graph_file.specs.declared.nets.Edge.{Edge}
 use Rattle.graph_file.specs.declared.numbers.TaskNumbers.{TaskNumbers}

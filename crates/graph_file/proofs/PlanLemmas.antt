@@ -1,8 +1,8 @@
 -- The plan of a file keeps its rules.
-use Rattle.std.proofs.Common.{◌≡◌, ◌≢◌, ℕ, zero, suc, ◌+◌, ◌<◌, ◌≤◌, List, [], ◌∷◌, ◌++◌, map, length, get_or, sum_by, Bool, true, false, not, leb, is_some, unwrap_or, position, Option, None, Some, Result, Ok, Err, ok_or, All, refl, sym, ap, subst, ◌∙◌, codes, bytes_eq, arith, append_assoc}
+use Rattle.std.proofs.Common.{◌≡◌, ℕ, suc, ◌+◌, ◌<◌, ◌≤◌, List, [], ◌∷◌, ◌++◌, map, length, sum_by, Bool, true, false, not, leb, Option, None, Some, Ok, Err, All, refl, sym, ap, subst, ◌∙◌, codes, bytes_eq, arith, append_assoc}
 use Rattle.std.proofs.lemmas.Bool.{false≢true, leb-true}
-use Rattle.std.proofs.lemmas.List.{append-nil, get_or_default, length-append, length-map}
-use Rattle.std.proofs.lemmas.List.Elements.{All-append, All-cons, All-head, All-map, All-nil, All-push, All-tail}
+use Rattle.std.proofs.lemmas.List.{append-nil, length-append, length-map}
+use Rattle.std.proofs.lemmas.List.Elements.{All-append, All-cons, All-head, All-map, All-nil, All-tail}
 use Rattle.std.proofs.lemmas.List.Sums.{sum_by-cons}
 use Rattle.std.specs.Bool.{⊤}
 use Rattle.std.specs.List.{list_any}
@@ -14,9 +14,9 @@ use Rattle.task_graph.specs.declared.net.TaskRow.{TaskRow}
 use Rattle.task_graph.proofs.SemaphoreLemmas.{settled-fits}
 use Rattle.graph_plans.specs.declared.ops.Op.{Op}
 use Rattle.graph_plans.specs.declared.ops.Op.TheVariants.{Input, Read, Text, Match, Back, IfMore, IfHas, Route, Spread, Module}
-use Rattle.graph_plans.specs.ModuleUses.{first_on_cycle, has_chain, modules_run, run_before}
+use Rattle.graph_plans.specs.ModuleUses.{first_on_cycle, modules_run, run_before}
 use Rattle.graph_plans.specs.Operations.{IsOp, shape_of}
-use Rattle.graph_plans.specs.PlanRows.{AllDiffer, GraphRows, IsGraph, IsPlan, PlanRows, depth_limit, edge_count, file_edge_limit, file_semaphore_limit, file_task_limit, graphs_of, maximum_limit, module_limit, module_names, module_uses, semaphore_count, task_count, text_count_limit}
+use Rattle.graph_plans.specs.PlanRows.{AllDiffer, GraphRows, IsGraph, IsPlan, PlanRows, file_edge_limit, file_semaphore_limit, file_task_limit, graphs_of, module_limit, module_uses, text_count_limit}
 use Rattle.graph_file.specs.declared.refusals.GraphError.{GraphError}
 use Rattle.graph_file.specs.declared.refusals.GraphError.TheVariants.{ModuleCycle, NoSuchName, Repeated, TooMany}
 use Rattle.graph_file.specs.declared.refusals.Kind.TheVariants.{Tasks, Edges, Semaphores, Modules, Depth, Texts}
@@ -26,14 +26,14 @@ use Rattle.graph_file.specs.declared.scopes.Scope.TheVariants.{Module as OfModul
 use Rattle.graph_file.specs.Contents.{each}
 use Rattle.graph_file.specs.Fields.{graph_spot, sem_spot, task_spot, u32_of}
 use Rattle.graph_file.specs.OpRows.{FileOpRow, reads, runs, does}
-use Rattle.graph_file.specs.PlanText.{Counts, DraftRows, FileNumbers, FileRows, PlanText, TaskNames, TaskText, add_graph_numbers, add_module_name, add_name, add_numbers, add_task_name, edge_to, edge_total, edges_from, file_counts, file_in, file_names, file_numbers, file_texts, file_uses, graph_names, graph_numbers, graph_with, graphs_with, json_in, mentioned, mentioned_by_graphs, mentioned_by_tasks, names_of_modules, names_of_tasks, nests_too_deep, number_among, numbered, numbers_in, ops_of, plan_in, plan_of, plan_with, puts_field, runs_one_of, takes_field, task_names, task_row, task_rows, used_before, used_by_tasks, with_text, within_counts, within_limits}
+use Rattle.graph_file.specs.PlanText.{DraftRows, FileNumbers, FileRows, PlanText, TaskNames, TaskText, add_graph_numbers, add_module_name, add_name, add_numbers, add_task_name, edge_to, edge_total, edges_from, file_counts, file_in, file_names, file_numbers, file_texts, file_uses, graph_names, graph_numbers, graph_with, graphs_with, json_in, names_of_modules, names_of_tasks, nests_too_deep, numbered, numbers_in, ops_of, plan_in, plan_of, plan_with, puts_field, runs_one_of, takes_field, task_names, task_row, task_rows, used_before, used_by_tasks, within_counts, within_limits}
 use Rattle.graph_file.specs.Steps.{passed, unless, walk}
-use Rattle.graph_file.specs.inside.Drafts.{AreIds, AreReady, IsAmong, IsDraft, IsFile, IsFileOp, IsMaximum, IsReady, IsReadyFile, NamesOnce, net_with}
+use Rattle.graph_file.specs.inside.Drafts.{AreReady, IsAmong, IsDraft, IsFile, IsFileOp, IsMaximum, IsReady, IsReadyFile, NamesOnce, net_with}
 use Rattle.graph_file.proofs.BindLemmas.{bind_ok, ok_or_ok, passed-ok}
 use Rattle.graph_file.proofs.DraftLemmas.{AllDiffer-push, IsFile-of, IsOp-any, texts-of-file}
 use Rattle.graph_file.proofs.FineLemmas.{file_in-made}
 use Rattle.graph_file.proofs.NetLemmas.{task_rows-length}
-use Rattle.graph_file.proofs.NumberLemmas.{AreIds-of, called, numbers-within, place, place-is}
+use Rattle.graph_file.proofs.NumberLemmas.{AreIds-of, numbers-within, place}
 use Rattle.graph_file.proofs.TextLemmas.{AllKnow, AllKnowIn, Knows, graphs-know, number-known}
 
 -- ---- numbers

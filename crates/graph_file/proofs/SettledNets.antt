@@ -1,31 +1,28 @@
 -- A file of version 2 with each list of semaphores in order has the same plan.
-use Rattle.std.proofs.Common.{◌≡◌, ◌≢◌, ℕ, zero, suc, ◌+◌, ◌<◌, List, [], ◌∷◌, ◌++◌, map, length, get_or, sum_by, Bool, true, false, not, Ok, Some, All, codes, refl, sym, ap, subst, ◌∙◌, append_assoc, bytes_eq, arith}
-use Rattle.std.proofs.lemmas.List.{append-nil, get_or_append_left, get_or_default, length-append, length-map}
+use Rattle.std.proofs.Common.{◌≡◌, ℕ, suc, ◌+◌, ◌<◌, List, [], ◌∷◌, ◌++◌, map, length, get_or, sum_by, true, false, Ok, Some, All, codes, refl, sym, ap, subst, ◌∙◌, append_assoc, bytes_eq, arith}
+use Rattle.std.proofs.lemmas.List.{append-nil, get_or_append_left, length-append}
 use Rattle.std.proofs.Math.Seq.{get_or-append_seam}
-use Rattle.std.proofs.lemmas.Slice.Eq.{bytes_eq-Decides}
 use Rattle.std.proofs.lemmas.List.Folds.{list_any_none}
 use Rattle.std.proofs.lemmas.List.Sums.{sum_by-cons}
-use Rattle.std.specs.Bool.{⊤}
 use Rattle.std.specs.List.{list_all, list_any}
 use Rattle.task_graph.specs.NetBuilder.{rising}
 use Rattle.graph_plans.specs.declared.ops.Op.{Op}
-use Rattle.graph_plans.specs.PlanRows.{AllDiffer, GraphRows, PlanRows}
+use Rattle.graph_plans.specs.PlanRows.{AllDiffer}
 use Rattle.graph_file.specs.declared.numbers.TaskNumbers.{TaskNumbers}
 use Rattle.graph_file.specs.declared.refusals.GraphError.{GraphError}
-use Rattle.graph_file.specs.declared.refusals.GraphError.TheVariants.{NoSuchName, Repeated}
+use Rattle.graph_file.specs.declared.refusals.GraphError.TheVariants.{Repeated}
 use Rattle.graph_file.specs.declared.scopes.Scope.{Scope}
 use Rattle.graph_file.specs.declared.scopes.Scope.TheVariants.{Top, Module as OfModule}
 use Rattle.graph_file.specs.Contents.{each, is_name}
-use Rattle.graph_file.specs.Fields.{graph_spot, sem_spot, task_spot}
-use Rattle.graph_file.specs.PlanText.{DraftRows, FileNumbers, FileRows, TaskNames, TaskText, add_graph_numbers, add_module_name, add_name, add_numbers, add_task_name, edge_to, edge_total, edges_from, file_names, file_numbers, file_texts, file_uses, graph_names, graph_numbers, graph_with, graphs_with, mentioned, mentioned_by_graphs, mentioned_by_tasks, names_of_modules, names_of_tasks, ops_of, numbered, plan_of, plan_with, puts_field, takes_field, task_names, task_row, task_rows, used_before, used_by_tasks, within_counts, within_limits}
+use Rattle.graph_file.specs.Fields.{sem_spot, task_spot}
+use Rattle.graph_file.specs.PlanText.{DraftRows, FileNumbers, FileRows, TaskNames, TaskText, add_graph_numbers, add_module_name, add_name, add_numbers, add_task_name, edge_to, edge_total, edges_from, file_names, file_numbers, file_texts, file_uses, graph_names, graph_numbers, graph_with, graphs_with, mentioned, mentioned_by_graphs, mentioned_by_tasks, names_of_modules, names_of_tasks, ops_of, numbered, plan_of, plan_with, task_names, task_rows, used_before, used_by_tasks, within_counts, within_limits}
 use Rattle.graph_file.specs.Steps.{walk}
 use Rattle.graph_file.specs.inside.Drafts.{AreIds}
 use Rattle.graph_file.specs.inside.Fine.{AreFine, AreMade, AreValidSems, IsMade, IsMadeFile, SemText, names_of_sems}
-use Rattle.graph_file.proofs.BindLemmas.{bind_ok}
 use Rattle.graph_file.proofs.DraftLemmas.{All-true, IsDraft-of}
 use Rattle.graph_file.proofs.NumberLemmas.{called, called-differ, numbers-called, place}
 use Rattle.graph_file.proofs.OpLemmas.{differs}
-use Rattle.graph_file.proofs.PlanLemmas.{AreGraphNumbers, AreNamed, AreNumbered, HasNames, HasNames-of, IsNamedFile, IsNumberedFile, IsPlanned, numbered-draft}
+use Rattle.graph_file.proofs.PlanLemmas.{AreGraphNumbers, AreNamed, AreNumbered, HasNames, HasNames-of, IsNamedFile, IsNumberedFile, numbered-draft}
 use Rattle.graph_file.proofs.SettledLemmas.{rising-again, rising-ids}
 
 -- the semaphores of a list in order

@@ -1,8 +1,7 @@
 -- A plan that was written is read again.
-use Rattle.std.proofs.Common.{◌≡◌, ◌==◌, ℕ, zero, suc, ◌+◌, ◌<◌, ◌≤◌, List, [], ◌∷◌, ◌++◌, map, filter, length, get_or, true, Ok, refl, sym, ap, subst, ◌∙◌, arith}
+use Rattle.std.proofs.Common.{◌≡◌, ◌==◌, ℕ, suc, ◌<◌, ◌≤◌, List, [], ◌∷◌, ◌++◌, map, filter, length, get_or, true, Ok, refl, ap, subst, ◌∙◌, arith}
 use Rattle.std.proofs.lemmas.Bool.{eq-eqb, ne_eqb}
 use Rattle.std.proofs.lemmas.List.{append-nil, length-map}
-use Rattle.serde_json.specs.Data.{Data}
 use Rattle.task_graph.specs.declared.net.EdgeRow.{EdgeRow}
 use Rattle.graph_plans.specs.declared.ops.Op.TheVariants.{Input, Read, Text, Match, Back, IfMore, IfHas, Route, Spread, Module}
 use Rattle.graph_plans.specs.PlanRows.{GraphRows, PlanRows, module_limit, module_names, text_count_limit}
@@ -12,9 +11,8 @@ use Rattle.graph_file.specs.declared.scopes.Scope.TheVariants.{Top, Module as Of
 use Rattle.graph_file.specs.OpRows.{FileOpRow, reads, runs, does}
 use Rattle.graph_file.specs.PlanText.{DraftRows, FileNumbers, FileRows, PlanText, TaskText, edge_to, edges_from, file_in, file_texts, graph_with, graphs_with, json_in, names_of_modules, numbered, ops_of, plan_in, plan_of, plan_with, runs_one_of, task_names, task_rows}
 use Rattle.graph_file.specs.Steps.{◌>>=◌}
-use Rattle.graph_file.specs.WrittenPlan.{file_data, module_data, module_with, op_text, plan_data, sems_from, tasks_data, tasks_from, to_of}
-use Rattle.graph_file.specs.inside.Drafts.{AreReady, IsReady}
-use Rattle.graph_file.specs.inside.Fine.{AreFine, AreMade, AreValidSems, IsMade, IsMadeFile, SemText, fits, maxima_of, names_of_sems}
+use Rattle.graph_file.specs.WrittenPlan.{file_data, module_data, module_with, op_text, plan_data, sems_from, tasks_from, to_of}
+use Rattle.graph_file.specs.inside.Fine.{AreFine, AreMade, IsMade, IsMadeFile, SemText, fits, maxima_of, names_of_sems}
 use Rattle.graph_file.proofs.BindLemmas.{bind_ok}
 use Rattle.graph_file.proofs.DraftLemmas.{IsFile-of}
 use Rattle.graph_file.proofs.FineLemmas.{file_in-made}

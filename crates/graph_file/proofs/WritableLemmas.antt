@@ -1,5 +1,5 @@
 -- A plan that some file stands for can be written.
-use Rattle.std.proofs.Common.{◌≡◌, ℕ, suc, ◌<◌, ◌≤◌, List, [], ◌∷◌, map, length, get_or, true, false, Result, Ok, Err, IfOk, All, refl, sym, ap, subst, ◌∙◌, arith}
+use Rattle.std.proofs.Common.{◌≡◌, ℕ, suc, ◌<◌, ◌≤◌, List, [], ◌∷◌, map, length, get_or, true, false, Ok, All, refl, sym, ap, subst, ◌∙◌, arith}
 use Rattle.std.proofs.lemmas.Bool.{and_parts}
 use Rattle.std.proofs.lemmas.Bool.Decides.{nat_tests}
 use Rattle.std.proofs.lemmas.List.{length-map}
@@ -16,7 +16,7 @@ use Rattle.graph_plans.specs.declared.ops.Op.{Op}
 use Rattle.graph_plans.specs.declared.ops.Op.TheVariants.{Input, Read, Text, Match, Back, IfMore, IfHas, Route, Spread, Module}
 use Rattle.graph_plans.specs.declared.ops.TextOp.{TextOp}
 use Rattle.graph_plans.specs.declared.ops.TextOp.TheVariants.{Pass, Keep, Without, Head, Tail, Skip, Sort, Uniq, Count, Tally}
-use Rattle.graph_plans.specs.PlanRows.{GraphRows, IsGraph, PlanRows, module_limit, module_names, text_count_limit}
+use Rattle.graph_plans.specs.PlanRows.{GraphRows, PlanRows, module_limit, module_names, text_count_limit}
 use Rattle.task_graph.specs.NetRows.{NetRows}
 use Rattle.task_graph.specs.Net.{IsTaskOf}
 use Rattle.task_graph.specs.declared.net.TaskRow.{TaskRow}
@@ -25,15 +25,14 @@ use Rattle.graph_file.specs.declared.scopes.Scope.{Scope}
 use Rattle.graph_file.specs.declared.scopes.Scope.TheVariants.{Top, Module as OfModule}
 use Rattle.graph_file.specs.Contents.{is_name, is_name_byte, is_text}
 use Rattle.graph_file.specs.OpRows.{FileOpRow, reads, runs, does}
-use Rattle.graph_file.specs.PlanText.{DraftRows, FileNumbers, FileRows, PlanText, TaskNames, TaskText, file_texts, graph_with, graphs_with, json_in, names_of_modules, numbered, ops_of, plan_in, plan_with, runs_one_of, task_names, task_rows}
+use Rattle.graph_file.specs.PlanText.{DraftRows, PlanText, TaskNames, TaskText, file_texts, graph_with, graphs_with, json_in, names_of_modules, numbered, ops_of, plan_in, plan_with, runs_one_of, task_names}
 use Rattle.graph_file.specs.Steps.{◌>>=◌}
 use Rattle.graph_file.specs.WrittenPlan.{OpText, each_data, module_data, op_text, plan_data, sems_from, sems_named, task_data, tasks_from, text_op_text, to_of}
 use Rattle.graph_file.specs.inside.Drafts.{AreReady, IsReady}
-use Rattle.graph_file.specs.inside.Fine.{AreFine, AreMade, AreValidSems, IsMade, IsMadeFile, SemText, fits, fits_text_op, fits_words, names_of_sems}
-use Rattle.graph_file.specs.inside.Writer.{HasSems, HasUtf8, HasUtf8Word, HasWritableNames, IsString, IsWritable, IsWritableGraph}
+use Rattle.graph_file.specs.inside.Fine.{AreFine, AreMade, AreValidSems, IsMade, SemText, fits, fits_text_op, fits_words, names_of_sems}
+use Rattle.graph_file.specs.inside.Writer.{HasSems, HasUtf8, HasUtf8Word, IsString, IsWritable, IsWritableGraph}
 use Rattle.graph_file.proofs.DraftLemmas.{All-true, IsFile-of}
-use Rattle.graph_file.proofs.NetLemmas.{task_rows-length}
-use Rattle.graph_file.proofs.PlanLemmas.{AreNumbered, IsGraph-with, IsPlanned, IsReadyFile-of, edges-numbered, graphs-named, numbered-count, numbered-draft}
+use Rattle.graph_file.proofs.PlanLemmas.{AreNumbered, IsGraph-with, IsReadyFile-of, edges-numbered, graphs-named, numbered-draft}
 use Rattle.graph_file.proofs.TextLemmas.{AllKnow, AllKnowIn, Knows, graphs-know, number-known}
 use Rattle.graph_file.proofs.TripLemmas.{IsFiled, IsFiled-of, plan-written}
 

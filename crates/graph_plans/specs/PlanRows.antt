@@ -114,12 +114,11 @@ pub record IsGraph (texts modules : ℕ) (graph : GraphRows) : Type 0 where
   pub sem_names_differ : AllDiffer graph.sem_names
   pub maxima : All (λ max. max ≤ maximum_limit) graph.net.sems
 
--- the rules of a plan
+-- the rules of a plan; no module runs itself, directly or through others, and modules nest at most 8 deep
 pub record IsPlan (plan : PlanRows) : Type 0 where
   pub name : plan.top.name ≡ []
   pub graphs : All (IsGraph (length plan.texts) (length plan.modules)) (graphs_of plan)
   pub module_names_differ : AllDiffer (module_names plan)
-  -- no module runs itself, directly or through others, and modules nest at most 8 deep
   pub no_cycle : first_on_cycle (module_uses plan) ≡ None
   pub depth : has_chain (depth_limit + 1) (module_uses plan) (modules_run plan.top.ops) ≡ false
   pub tasks : task_count plan ≤ file_task_limit

@@ -1,4 +1,4 @@
-use Rattle.std.proofs.Common.{◌≡◌, length, ap, ◌∙◌}
+use Rattle.std.proofs.Common.{◌∙◌}
 use Rattle.std.proofs.lemmas.List.{length-map}
 use Rattle.graph_file.specs.inside.Reader.{draft_rows, file_rows, numbers_rows}
 use Rattle.graph_file.proofs.PlanLemmas.{IsNumberedFile-of, graphs-count}

@@ -1,4 +1,4 @@
-use Rattle.std.proofs.Common.{◌≡◌, ◌∷◌, map, take}
+use Rattle.std.proofs.Common.{map, take}
 use Rattle.graph_file.specs.PlanText.{file_counts}
 use Rattle.graph_file.specs.inside.Counting.{AreCounted}
 use Rattle.graph_file.specs.inside.Reader.{draft_rows}

@@ -1,7 +1,7 @@
-use Rattle.std.proofs.Common.{◌≡◌, codes, get_or, length, sym, subst, ap, ◌∙◌, arith}
+use Rattle.std.proofs.Common.{codes, sym, subst, ap, ◌∙◌, arith}
 use Rattle.serde_json.specs.Data.{string}
 use Rattle.graph_plans.specs.PlanRows.{graph_rows, names_of_graphs}
-use Rattle.std.proofs.Common.{map, []}
+use Rattle.std.proofs.Common.{map}
 use Rattle.graph_file.specs.WrittenPlan.{op_text, with_field}
 use Rattle.graph_file.specs.inside.Writer.{HasUtf8, IsString}
 use Rattle.graph_file.proofs.BindLemmas.{if-ok}

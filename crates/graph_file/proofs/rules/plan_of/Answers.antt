@@ -1,6 +1,6 @@
-use Rattle.std.proofs.Common.{◌≡◌, ap, ◌∙◌}
+use Rattle.std.proofs.Common.{◌∙◌}
 use Rattle.graph_file.specs.PlanText.{names_of_modules}
-use Rattle.graph_file.specs.inside.Reader.{file_rows, numbers_rows, strings}
+use Rattle.graph_file.specs.inside.Reader.{file_rows, numbers_rows}
 use Rattle.graph_file.proofs.NumberLemmas.{names-filed}
 use Rattle.graph_file.proofs.PlanLemmas.{ready-file}
 use Rattle.graph_file.proofs.rules.plan_of.Goals as goal

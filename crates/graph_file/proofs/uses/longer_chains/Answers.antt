@@ -1,4 +1,4 @@
-use Rattle.std.proofs.Common.{◌≡◌, [], ◌∷◌, false, map, get_or, ap, ◌∙◌}
+use Rattle.std.proofs.Common.{false, get_or, ap, ◌∙◌}
 use Rattle.std.specs.List.{list_any}
 use Rattle.graph_file.proofs.UseLemmas.{mapped-more}
 use Rattle.graph_file.proofs.uses.longer_chains.Goals as goal
