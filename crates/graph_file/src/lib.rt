@@ -10,10 +10,13 @@
 
 mod bad_fields;
 mod contents;
+mod cycles;
 mod draft;
 mod fields;
 mod file;
 mod file_op;
+mod graphs;
+mod limits;
 mod lookups;
 mod nets;
 mod numbers;
@@ -23,9 +26,12 @@ mod reader;
 mod refusals;
 mod repeats;
 mod rules;
+mod scopes;
 mod semaphores;
 mod tasks;
+mod texts;
 mod unknown;
+mod uses;
 mod writer;
 
 pub use reader::read_graph;
