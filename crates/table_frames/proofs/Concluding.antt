@@ -29,7 +29,7 @@ use Rattle.table_frames.specs.declared.attempt.Attempt.{Attempt}
 use Rattle.table_frames.specs.declared.attempt.Outcome.{Outcome}
 use Rattle.table_frames.specs.declared.attempt.Outcome.TheVariants.{Ends, Faults, Drops}
 use Rattle.table_frames.specs.declared.step_results.State.{State}
-use Rattle.table_frames.specs.declared.step_results.State.TheVariants.{Went, Parked as ParkedState, Inner as InnerState, Closed as ClosedState}
+use Rattle.table_frames.specs.declared.step_results.State.TheVariants.{Went, Parked as ParkedState, Inner as InnerState, Resumed as ResumedState, Closed as ClosedState}
 use Rattle.table_frames.specs.declared.step_results.Stepped.{Stepped}
 use Rattle.table_frames.specs.declared.table_run.Begun.{Begun}
 use Rattle.table_frames.proofs.Handing.{all_in}
@@ -72,7 +72,7 @@ wakes_due table outcome before after wakes = record {
     each release waited = record { table_is = waited.table_is; takes = due_listed (λ sem. takes table.net sem release.task) table.net table.table outcome waited.takes }
 
 -- a step that used its release up
-pub steps_release : {J V : Type 0} (meaning : Meaning J V) (frames : List (FrameKey J)) (fresh : FreshState) (attempt : Attempt V) (old mid new : BacklogView J V) (made : List FreshState) (stepped : Stepped J V) → HasTable frames fresh.table → mid.fates ≡ old.fates → Concludes meaning frames attempt mid new made → TriesRelease frames attempt fresh
+pub steps_release : {J V : Type 0} (meaning : Meaning J V) (frames : List (FrameKey J)) (fresh : FreshState) (attempt : Attempt J V) (old mid new : BacklogView J V) (made : List FreshState) (stepped : Stepped J V) → HasTable frames fresh.table → mid.fates ≡ old.fates → Concludes meaning frames attempt mid new made → TriesRelease frames attempt fresh
     → stepped.released.items ≡ map (release_in frames) made → stepped.state ≡ Went → StepsRelease meaning (release_in frames fresh) old new stepped
 steps_release {J} meaning frames fresh attempt old mid new made stepped has same concludes tries released state =
     let frame = concludes.frame in
@@ -87,6 +87,7 @@ steps_release {J} meaning frames fresh attempt old mid new made stepped has same
       made = made;
       to = subst (StepsTo meaning frame (release_in frames fresh) old new made) (sym state) (record {
         fate = concludes.fate;
+        run = attempt.inner;
         by_end = concludes.by_end;
         allowed = concludes.allowed;
         journal = concludes.journal;
@@ -149,9 +150,10 @@ steps_from {J} {V} meaning release old mid new stepped same steps = record {
 }
   where
     by_state : (state : State J V) → StepsTo meaning steps.frame release mid new steps.made state → StepsTo meaning steps.frame release old new steps.made state
-    by_state Went u = record { fate = u.fate; by_end = u.by_end; allowed = u.allowed; journal = u.journal; uses = u.uses; wakes = u.wakes; backlog = u.backlog ∙ ap (λ fs. backlog_view release.frames (fs ++ u.fate ∷ [])) same }
+    by_state Went u = record { fate = u.fate; run = u.run; by_end = u.by_end; allowed = u.allowed; journal = u.journal; uses = u.uses; wakes = u.wakes; backlog = u.backlog ∙ ap (λ fs. backlog_view release.frames (fs ++ u.fate ∷ [])) same }
     by_state (ParkedState turn) p = record { is = p.is; sem = p.sem; waits = p.waits; none = p.none; woken = p.woken; wakes = p.wakes; again = p.again; backlog = p.backlog ∙ ap (backlog_view release.frames) same }
-    by_state InnerState u = absurd u
+    by_state (InnerState first) o = record { found = o.found; inner = o.inner; answered = o.answered; first_are = o.first_are; some = o.some; again = o.again; backlog = o.backlog ∙ ap (backlog_view release.frames) same }
+    by_state (ResumedState releases) u = absurd u
     by_state (ClosedState run) u = absurd u
 
 pub ok_steps : {J V E : Type 0} (meaning : Meaning J V) (other release : ReleaseView J) (old mid new : BacklogView J V) (result : Result (Stepped J V) E) → other ≡ release → mid.fates ≡ old.fates → IfOk result (StepsRelease meaning other mid new) → IfOk result (StepsRelease meaning release old new)

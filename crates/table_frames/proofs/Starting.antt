@@ -27,7 +27,6 @@ use Rattle.join_tables.specs.Claims.{HasAllUnits}
 use Rattle.atomic_table.specs.Seated.{TableId}
 use Rattle.join_tables.specs.States.{AdmittedState, RunningState, running_state}
 use Rattle.run_frame.specs.Meaning.{Meaning, IsRelease, FitsShape, IsOwnWhy}
-use Rattle.run_frame.specs.FlatNets.{IsFlatNet, IsFlatTask}
 use Rattle.run_frame.specs.WorkRule.{Work, FaultAllowed, gives_of}
 use Rattle.run_frame.specs.declared.job.Answer.{Answer}
 use Rattle.run_frame.specs.declared.job.Answer.TheVariants.{Indices}

@@ -35,9 +35,14 @@
 mod alone;
 mod attempt;
 mod backlog;
+mod done_turns;
 mod frame;
 mod frame_batch;
 mod gives;
+mod level;
+mod locked_run;
+mod open_start;
+mod over;
 mod release;
 mod run_keeper;
 mod step_results;
