@@ -91,8 +91,8 @@ module _ {J V : Type 0} (meaning : Meaning J V) (job : J) (fates : List (Fate V)
   closing_run m of closing = by_row (row_at m inner)
     where
       by_none : inner_of m ≡ None → ((run : FrameRun J V) → IsIn (placed_at m run) (in_rows inner) → ⊥) → (o : Option (FrameRun J V)) → of.turn.run ≡ o → inner_of m ≡ o
-      by_none none no None same = none
-      by_none none no (Some run) same = absurd (no run (to_rows (placed_at m run) (placed_of m run turns (of.there run same closing))))
+      by_none none never None same = none
+      by_none none never (Some run) same = absurd (never run (to_rows (placed_at m run) (placed_of m run turns (of.there run same closing))))
 
       by_row : ((run : FrameRun J V) × (inner_of m ≡ Some run) × IsIn (placed_at m run) (in_rows inner)) ⊎ ((inner_of m ≡ None) × ((run : FrameRun J V) → IsIn (placed_at m run) (in_rows inner) → ⊥)) → inner_of m ≡ of.turn.run
       by_row (inl found) = found.1 ∙ sym (of.own found.0 (run_of m found.0 turns (from_rows (placed_at m found.0) found.2))).0
@@ -324,6 +324,7 @@ module _ {J V : Type 0} (meaning : Meaning J V) (job : J) (fates : List (Fate V)
 
 module _ {J V : Type 0} (meaning : Meaning J V) where
   legal_row : (row : InnerRow J V) → IsKept meaning (out-InnerRow J V row).run → LegalRow meaning row
+  unfolding out-InnerRow denote.Hole.Carrier.out
   legal_row (InnerRow' place run) kept = (kept.legal, kept.complete)
 
   legal_rows : {m : _} (row : Row_of-InnerRow J V m) → AllByRecursion (λ inner. IsKept meaning (out-InnerRow J V inner).run) (items-the_row-InnerRow J V m row) → LegalRows meaning row

@@ -59,12 +59,12 @@ module _ {J V : Type 0} where
 
   pub run_of : (m : ℕ) (run : FrameRun J V) (turns : List (FateWithRun J V)) → IsIn (placed_at m run) (placed_runs turns) → RunAt m run turns
   run_of m run [] is = absurd is
-  run_of m run (t ∷ ts) is = by_run t.run refl is
+  run_of m run (t ∷ ts) is = by_run t.run refl (run_of m run ts) is
     where
-      by_run : (o : Option (FrameRun J V)) → t.run ≡ o → IsIn (placed_at m run) (run_at (closing_place t.fate) o ++ placed_runs ts) → RunAt m run (t ∷ ts)
-      by_run None same at = inr (run_of m run ts at)
-      by_run (Some r) same (inl here) = inl (ap (λ (p : PlacedRun J V). p.place) here, same ∙ ap (λ (p : PlacedRun J V). Some p.run) here)
-      by_run (Some r) same (inr there) = inr (run_of m run ts there)
+      by_run : (o : Option (FrameRun J V)) → t.run ≡ o → (IsIn (placed_at m run) (placed_runs ts) → RunAt m run ts) → IsIn (placed_at m run) (run_at (closing_place t.fate) o ++ placed_runs ts) → RunAt m run (t ∷ ts)
+      by_run None same rest at = inr (rest at)
+      by_run (Some r) same rest (inl here) = inl (ap (λ (p : PlacedRun J V). p.place) here, same ∙ ap (λ (p : PlacedRun J V). Some p.run) here)
+      by_run (Some r) same rest (inr there) = inr (rest there)
 
   -- what is found at a place among rows
   pub row_at : (m : ℕ) (rows : List (InnerRow J V)) → ((run : FrameRun J V) × (inner_in rows m ≡ Some run) × IsIn (placed_at m run) (in_rows rows)) ⊎ ((inner_in rows m ≡ None) × ((run : FrameRun J V) → IsIn (placed_at m run) (in_rows rows) → ⊥))
@@ -79,8 +79,8 @@ module _ {J V : Type 0} where
 
       by_place : (place ≡ m) ⊎ (place ≢ m) → ((run : FrameRun J V) × (inner_in rows m ≡ Some run) × IsIn (placed_at m run) (in_rows rows)) ⊎ ((inner_in rows m ≡ None) × ((run : FrameRun J V) → IsIn (placed_at m run) (in_rows rows) → ⊥))
           → ((run : FrameRun J V) × (inner_in (row ∷ rows) m ≡ Some run) × IsIn (placed_at m run) (in_rows (row ∷ rows))) ⊎ ((inner_in (row ∷ rows) m ≡ None) × ((run : FrameRun J V) → IsIn (placed_at m run) (in_rows (row ∷ rows)) → ⊥))
-      by_place (inl here) rest = let hit : eqb place m ≡ true = grind (arith, nat_tests, here) in inl (own, (rw hit refl, inl (ap (λ n. placed_at n own) here)))
-      by_place (inr other) (inl found) = let miss : eqb place m ≡ false = grind (arith, nat_tests, other) in inl (found.0, (rw miss found.1, inr found.2))
+      by_place (inl here) rest = let hit : eqb place m ≡ true = grind (arith, nat_tests, here) in inl (own, rw hit refl, inl (ap (λ n. placed_at n own) here))
+      by_place (inr other) (inl found) = let miss : eqb place m ≡ false = grind (arith, nat_tests, other) in inl (found.0, rw miss found.1, inr found.2)
       by_place (inr other) (inr none) = let miss : eqb place m ≡ false = grind (arith, nat_tests, other) in inr (rw miss none.0, λ run is. elim is [ inl same ↦ other (ap (λ (p : PlacedRun J V). p.place) same) | inr there ↦ none.1 run there ])
 
   -- rows in another order have the same runs

@@ -62,7 +62,7 @@ has_counted m (r ∷ rs) (inl here) = let on : (r.place == m) ≡ true = grind (
 has_counted m (r ∷ rs) (inr there) = omega (arith, has_counted m rs there, count_cons (λ (q : Recorded). q.place == m) r rs)
 
 count_append : {X : Type 0} (p : X → Bool) (xs ys : List X) → count_by p (xs ++ ys) ≡ count_by p xs + count_by p ys
-count_append p [] ys = refl
+count_append p [] ys = let none : count_by p [] ≡ 0 = refl in omega (arith, none)
 count_append p (x ∷ xs) ys = omega (arith, count_append p xs ys, count_cons p x xs, count_cons p x (xs ++ ys))
 
 all_front : {X : Type 0} (P : X → Type 0) (xs ys : List X) → AllByRecursion P (xs ++ ys) → AllByRecursion P xs

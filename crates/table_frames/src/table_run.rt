@@ -448,6 +448,7 @@ impl<J: Job + Drop> TableRun<J> {
         }
         let net: &Net = self.job.net();
         let _rows = net.tasks();
+        let _keeps = inner.job.net();
         match inner.job.gather(self.alloc, inner) {
             Ok(value) => self.claim_inner(net, running, value, inner),
             Err(JobError::Fault(why)) => Ok(Outcome::Faults(running, why)),
