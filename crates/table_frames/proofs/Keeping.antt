@@ -55,6 +55,10 @@ module _ {J V : Type 0} (meaning : Meaning J V) (job : J) where
       subst (λ fs. AreAllowed meaning job fs rows') (sym fates_are)
       (subst (AreAllowed meaning job (fates ++ fate ∷ [])) (sym rows_are) (all_allowed fates (fate ∷ []) rows own before (one_allowed fate run own own_is allowed)))
 
+  pub kept_more : (fates fates' more : List (Fate V)) (rows rows' own : List (InnerRow J V)) → fates' ≡ fates ++ more → rows' ≡ rows ++ own → AreAllowed meaning job fates rows → AreAllowed meaning job more own → AreAllowed meaning job fates' rows'
+  kept_more fates fates' more rows rows' own fates_are rows_are before allowed =
+      subst (λ fs. AreAllowed meaning job fs rows') (sym fates_are) (subst (AreAllowed meaning job (fates ++ more)) (sym rows_are) (all_allowed fates more rows own before allowed))
+
   -- the same turns and runs
   pub same_allowed : (old new : DoneTurns J V) → HasSame old new → AreAllowed meaning job old.batch.fates old.inner.items → AreAllowed meaning job new.batch.fates new.inner.items
   same_allowed old new same allowed = subst (λ fs. AreAllowed meaning job fs new.inner.items) (sym same.fates) (subst (AreAllowed meaning job old.batch.fates) (sym same.inner) allowed)
@@ -92,8 +96,15 @@ no_run {J} {V} meaning job fates rows none allowed = by_turns allowed.turns allo
     by_turns [] rows_are is = by_rows rows rows_are
     by_turns (turn ∷ turns) rows_are is = absurd (cc)
 
-same_at : {J V : Type 0} (meaning : Meaning J V) (frames : List (FrameKey J)) (old new : DoneTurns J V) → HasSame old new → AreDoneAt meaning frames old → AreDoneAt meaning frames new
-same_at meaning [] old new same none = record { table = same.table ∙ none.table; fates = same.fates ∙ none.fates; inner = same.inner ∙ none.inner }
+pub no_turn_left : {J V : Type 0} (meaning : Meaning J V) (frames : List (FrameKey J)) (done : DoneTurns J V) → done.batch.table ≡ None → done.batch.fates ≡ [] → AreDoneAt meaning frames done → IsNoTurn done
+no_turn_left meaning [] done table fates none = none
+no_turn_left meaning (frame ∷ around) done table fates all = record { table = table; fates = fates; inner = no_run meaning frame.job done.batch.fates done.inner.items fates all.allowed }
+
+pub same_none : {J V : Type 0} (old new : DoneTurns J V) → HasSame old new → IsNoTurn old → IsNoTurn new
+same_none old new same none = record { table = same.table ∙ none.table; fates = same.fates ∙ none.fates; inner = same.inner ∙ none.inner }
+
+pub same_at : {J V : Type 0} (meaning : Meaning J V) (frames : List (FrameKey J)) (old new : DoneTurns J V) → HasSame old new → AreDoneAt meaning frames old → AreDoneAt meaning frames new
+same_at meaning [] old new same none = same_none old new same none
 same_at meaning (frame ∷ around) old new same done = same_done meaning frame old new same done
 
 -- turns that are there are of the frame of which they may be

@@ -23,7 +23,7 @@ use Rattle.table_steps.specs.Reasons.{MayTell}
 use Rattle.table_steps.specs.Releases.{MayBeReleased}
 use Rattle.table_steps.proofs.Counting.{times_count}
 use Rattle.join_tables.specs.Parts.{parts_in}
-use Rattle.join_tables.specs.Claims.{HasAllUnits}
+use Rattle.join_tables.specs.Claims.{HasAllUnits, with_units}
 use Rattle.atomic_table.specs.Seated.{TableId}
 use Rattle.join_tables.specs.States.{AdmittedState, RunningState, running_state}
 use Rattle.run_frame.specs.Meaning.{Meaning, IsRelease, FitsShape, IsOwnWhy}
@@ -36,6 +36,7 @@ use Rattle.run_frame.specs.Runs.{IsFine}
 use Rattle.task_graph.specs.declared.net.Shape.{Shape}
 use Rattle.task_graph.specs.declared.net.Shape.TheVariants.{Nested}
 use Rattle.run_frame.proofs.ChosenLemmas.{choice_fits, gives_in_range, answer_for}
+use Rattle.table_frames.specs.AllowedFates.{work_with}
 use Rattle.table_frames.specs.inside.Runs.{MayWork}
 
 -- what may be released is a release of the net
@@ -103,3 +104,7 @@ inner_why meaning run (Wide n) own fine may = (fine, may)
 inner_why meaning run (Unmet k) own fine may = (fine, may)
 inner_why meaning run Inner own fine may = absurd own
 inner_why meaning run (OverRelease s) own fine may = absurd own
+
+-- a start that has claimed its units does the same work
+pub same_work : {V : Type 0} (r q : RunningState V) → q ≡ with_units r q.units q → work_with q.task q.ins ≡ work_with r.task r.ins
+same_work r q same = ap (λ (x : RunningState _). work_with x.task x.ins) same

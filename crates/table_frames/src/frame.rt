@@ -116,8 +116,8 @@ impl<J: Job + Drop> Frame<J> {
     }
 
     /// Takes the step of a release: drops it, or starts its task, does its work and ends the start or records its fault, or
-    /// parks it where a semaphore that its task takes has no unit. What became of it is then in the backlog, which was of this
-    /// frame or of none. Only for parked releases it may wait, for the lock that they are under. If an allocation fails the
+    /// parks it where a semaphore that its task takes has no unit, or opens a run for it where its job answers a job. What became
+    /// of it is then in the backlog, which was of this frame or of none. Only for parked releases it may wait, for the lock that they are under. If an allocation fails the
     /// release is given up, so that the run is never closed, and the backlog has what it had; from the End's place on no memory
     /// is needed.
     pub fn step<R: Wait>(
@@ -547,31 +547,27 @@ impl<J: Job + Drop> Frame<J> {
             });
         }
         let Held {
-            value: mut locked,
+            value: locked,
             pass,
         } = self.lock.take(rt);
-        let left = self.run.keep(&mut locked.kept, done);
-        let keeper = Some(locked.kept.keeper_now());
+        let LockedRun { mut kept, start } = locked;
+        let left = self.run.keep(&mut kept, done);
+        let keeper = Some(kept.keeper_now());
+        let value = LockedRun { kept, start };
         match left {
             Ok(Remaining::All) => Ok(Kept {
-                over: self.finish(locked)?,
+                over: self.finish(value)?,
                 keeper,
             }),
             Ok(Remaining::More) => {
-                self.lock.put(Held {
-                    value: locked,
-                    pass,
-                });
+                self.lock.put(Held { value, pass });
                 Ok(Kept {
                     over: Over::No,
                     keeper,
                 })
             }
             Err(NoMemory) => {
-                self.lock.put(Held {
-                    value: locked,
-                    pass,
-                });
+                self.lock.put(Held { value, pass });
                 Err(NoMemory)
             }
         }

@@ -131,12 +131,26 @@ impl<J: Job + Drop> Level<J> {
             start,
             again,
         } = inner;
-        let alloc = self.alloc;
-        let mut around = self;
-        around.bench.ready.reserve(1)?;
-        add_again(&mut around.bench.ready, again);
-        let around = Box::new(alloc, around)?;
-        Level::new(alloc, begun, Some(around), Some(start))
+        let Level {
+            alloc,
+            run,
+            mut bench,
+            kept,
+            around,
+            start: own,
+        } = self;
+        bench.ready.reserve(1)?;
+        add_again(&mut bench.ready, again);
+        let level = Level {
+            alloc,
+            run,
+            bench,
+            kept,
+            around,
+            start: own,
+        };
+        let level = Box::new(alloc, level)?;
+        Level::new(alloc, begun, Some(level), Some(start))
     }
 
     // Goes on with a start in place of whose work a run was made.
@@ -146,10 +160,24 @@ impl<J: Job + Drop> Level<J> {
         requires kept { IsKept J.meaning inner }
         ensures { IfOk result (λ level. level ≡ self) }
     {
-        let mut level = self;
-        let attempt = level.run.resume(start, inner)?;
-        conclude(&level.run, &mut level.bench, attempt)?;
-        Ok(level)
+        let Level {
+            alloc,
+            run,
+            mut bench,
+            kept,
+            around,
+            start: own,
+        } = self;
+        let attempt = run.resume(start, inner)?;
+        conclude(&run, &mut bench, attempt)?;
+        Ok(Level {
+            alloc,
+            run,
+            bench,
+            kept,
+            around,
+            start: own,
+        })
     }
 }
 

@@ -68,6 +68,7 @@ impl<J: Job> Keyed for RunKeeper<J> {
 
 impl<J: Job + Drop> RunKeeper<J> {
     /// Of a run that has just begun.
+    #[tactic(auto, using(crate::proofs::Keeping::none_allowed))]
     pub fn new(alloc: Global, job: Arc<J>, keeper: Keeper<J::V>) -> RunKeeper<J>
         requires { keeper.fates ≡ [] }
         ensures job { result.job ≡ arc_value job }
