@@ -5,8 +5,9 @@ use Rattle.journal_rules.specs.declared.entry.Entry.{Entry}
 use Rattle.journal_rules.specs.declared.entry.Entry.TheVariants.{Start, End, Fault, Drop}
 use Rattle.run_frame.specs.declared.run.FrameRun.{FrameRun, out-FrameRun}
 use Rattle.run_frame.specs.declared.run.FrameRun.TheOpen.{FrameRun-F, InnerRow-F}
-use Rattle.run_frame.specs.declared.run.FrameRun.TheFolds.{fold-FrameRun, fold-InnerRow}
+use Rattle.run_frame.specs.declared.run.FrameRun.TheFolds.{fold-InnerRow}
 use Rattle.run_frame.specs.declared.run.InnerRow.{InnerRow}
+use Rattle.run_frame.specs.NestedRule.{journal_of}
 
 -- whether an entry ends a span
 abbrev pub is_span : Entry → Bool
@@ -19,26 +20,24 @@ is_span (Drop task cause why) = false
 abbrev pub row_number : {J V : Type 0} → InnerRow-F J V ℕ ℕ → ℕ
 row_number row = row.run
 
--- the starts of a run, with those of the runs inside it
+-- the starts of the run in a row, with those of the runs inside it
 abbrev pub starts_step : {J V : Type 0} → FrameRun-F J V ℕ ℕ → ℕ
 starts_step run = starts run.journal + sum run.inner.items
-
-abbrev pub all_starts : {J V : Type 0} → FrameRun J V → ℕ
-all_starts {J} {V} = fold-FrameRun J V ℕ ℕ starts_step row_number
 
 abbrev pub starts_of_row : {J V : Type 0} → InnerRow J V → ℕ
 starts_of_row {J} {V} = fold-InnerRow J V ℕ ℕ starts_step row_number
 
--- those of the runs inside it alone
+-- those of the runs inside a run
 abbrev pub starts_inside : {J V : Type 0} → FrameRun J V → ℕ
 starts_inside {J} {V} run = sum (map starts_of_row (out-FrameRun J V run).inner.items)
 
--- the spans of a run, with those of the runs inside it
+-- the spans of the run in a row, with those of the runs inside it
 abbrev pub spans_step : {J V : Type 0} → FrameRun-F J V ℕ ℕ → ℕ
 spans_step run = count_by is_span run.journal + sum run.inner.items
 
-abbrev pub all_spans : {J V : Type 0} → FrameRun J V → ℕ
-all_spans {J} {V} = fold-FrameRun J V ℕ ℕ spans_step row_number
-
 abbrev pub spans_of_row : {J V : Type 0} → InnerRow J V → ℕ
 spans_of_row {J} {V} = fold-InnerRow J V ℕ ℕ spans_step row_number
+
+-- those of a run
+abbrev pub all_spans : {J V : Type 0} → FrameRun J V → ℕ
+all_spans {J} {V} run = count_by is_span (journal_of run) + sum (map spans_of_row (out-FrameRun J V run).inner.items)

@@ -2,7 +2,7 @@
 ghost use Rattle.std.specs.Prelude.{◌≡◌, count_by, map, min, sum};
 ghost use Rattle.journal_rules.specs.Counts.{is_start, starts};
 ghost use Rattle.run_frame.specs.NestedRule.{journal_of};
-ghost use Rattle.nested_runs.specs.Totals.{all_spans, all_starts, is_span, spans_of_row, starts_inside, starts_of_row};
+ghost use Rattle.nested_runs.specs.Totals.{all_spans, is_span, spans_of_row, starts_inside, starts_of_row};
 
 use journal_rules::Entry;
 use run_frame::{FrameRun, InnerRow, Valued};
