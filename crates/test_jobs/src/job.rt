@@ -67,7 +67,7 @@ impl NumberJob {
     pub fn new(net: Arc<Net>, limit: u64, turns: u64, fault: u64) -> Option<NumberJob>
         ensures { IfSome result (λ job. job
             ≡ record
-                { net = arc_value net; inner = []; limit = limit; turns = turns; fault = fault }) }
+            { net = arc_value net; inner = []; limit = limit; turns = turns; fault = fault }) }
     {
         if limit > START_LIMIT {
             return None;

@@ -38,7 +38,12 @@ impl InnerCase {
 
 // The journal of a run is complete, and so are those of the runs inside it; these are where they may be, and gathered to what their
 // starts ended with.
-fn check_run(rt: &impl Abort, alloc: Global, case: &InnerCase, run: &FrameRun<NumberJob>) -> Result<usize, Fail> {
+fn check_run(
+    rt: &impl Abort,
+    alloc: Global,
+    case: &InnerCase,
+    run: &FrameRun<NumberJob>,
+) -> Result<usize, Fail> {
     let verdict = judge(alloc, run.job.net(), case.limit, &run.journal)?;
     assert!(rt; verdict == Verdict::Complete, "{}: {verdict:?}", case.name);
     let mut starts = 0;
@@ -55,7 +60,13 @@ fn check_run(rt: &impl Abort, alloc: Global, case: &InnerCase, run: &FrameRun<Nu
 }
 
 // What is at an entry.
-fn check_entry(rt: &impl Abort, case: &InnerCase, run: &FrameRun<NumberJob>, place: u64, entry: &Entry) -> Result<(), Fail> {
+fn check_entry(
+    rt: &impl Abort,
+    case: &InnerCase,
+    run: &FrameRun<NumberJob>,
+    place: u64,
+    entry: &Entry,
+) -> Result<(), Fail> {
     let inner = run.inner(place);
     match entry {
         Entry::End { inner: true, .. } => {
@@ -65,20 +76,31 @@ fn check_entry(rt: &impl Abort, case: &InnerCase, run: &FrameRun<NumberJob>, pla
             assert!(rt; inner.is_fine(), "{}: {place}", case.name);
             assert_eq!(rt; run.value(place), Some(&(inner.journal.len() as u64)));
         }
-        Entry::Fault { why: Why::Inner, .. } => {
+        Entry::Fault {
+            why: Why::Inner,
+            ..
+        } => {
             let Some(inner) = inner else {
                 panic!(rt; "{} has no run at {place}", case.name);
             };
             assert!(rt; !inner.is_fine(), "{}: {place}", case.name);
         }
-        Entry::Fault { why: Why::Wide(_), .. } => assert!(rt; inner.is_some(), "{}", case.name),
+        Entry::Fault {
+            why: Why::Wide(_),
+            ..
+        } => assert!(rt; inner.is_some(), "{}", case.name),
         _ => assert!(rt; inner.is_none(), "{}: {place}", case.name),
     }
     Ok(())
 }
 
 // The run has so many starts in all, and a fault for the reason of the case.
-fn check_whole(rt: &impl Abort, alloc: Global, case: &InnerCase, run: &FrameRun<NumberJob>) -> Result<(), Fail> {
+fn check_whole(
+    rt: &impl Abort,
+    alloc: Global,
+    case: &InnerCase,
+    run: &FrameRun<NumberJob>,
+) -> Result<(), Fail> {
     let starts = check_run(rt, alloc, case, run)?;
     assert!(rt; starts == case.starts, "{}: {starts}", case.name);
     let mut why = None;
@@ -99,7 +121,12 @@ struct Pending {
 }
 
 // The run that takes its steps in an order by a number, if it comes to its end.
-fn run_in_order<R: Wait>(rt: &R, alloc: Global, job: NumberJob, seed: u64) -> Result<Option<FrameRun<NumberJob>>, NoMemory> {
+fn run_in_order<R: Wait>(
+    rt: &R,
+    alloc: Global,
+    job: NumberJob,
+    seed: u64,
+) -> Result<Option<FrameRun<NumberJob>>, NoMemory> {
     let Stepped { released, state } = Frame::begin(alloc, Arc::new(alloc, job)?)?;
     if let State::Closed(run) = state {
         return Ok(Some(run));
@@ -117,14 +144,24 @@ fn run_in_order<R: Wait>(rt: &R, alloc: Global, job: NumberJob, seed: u64) -> Re
 }
 
 // Takes a step, and brings what it has done.
-fn take_step<R: Wait>(rt: &R, pending: &mut Pending, seed: u64, step: u32) -> Result<Option<FrameRun<NumberJob>>, NoMemory> {
+fn take_step<R: Wait>(
+    rt: &R,
+    pending: &mut Pending,
+    seed: u64,
+    step: u32,
+) -> Result<Option<FrameRun<NumberJob>>, NoMemory> {
     let count = pending.releases.len();
     if count == 0 {
         return Ok(None);
     }
-    let mixed = (step as u64).wrapping_mul(seed).wrapping_mul(6_364_136_223_846_793_005);
+    let mixed = (step as u64)
+        .wrapping_mul(seed)
+        .wrapping_mul(6_364_136_223_846_793_005);
     let release = pending.releases.remove((mixed >> 33) as usize % count);
-    let Stepped { mut released, state } = Frame::step(rt, release, &mut pending.backlog)?;
+    let Stepped {
+        mut released,
+        state,
+    } = Frame::step(rt, release, &mut pending.backlog)?;
     pending.releases.append(&mut released)?;
     if let State::Inner(mut first) = state {
         pending.releases.append(&mut first)?;
@@ -133,7 +170,10 @@ fn take_step<R: Wait>(rt: &R, pending: &mut Pending, seed: u64, step: u32) -> Re
 }
 
 // Brings what was done, level by level.
-fn bring_all<R: Wait>(rt: &R, pending: &mut Pending) -> Result<Option<FrameRun<NumberJob>>, NoMemory> {
+fn bring_all<R: Wait>(
+    rt: &R,
+    pending: &mut Pending,
+) -> Result<Option<FrameRun<NumberJob>>, NoMemory> {
     for _ in rt.forever() {
         if pending.backlog.is_empty() {
             return Ok(None);
@@ -176,7 +216,11 @@ fn jobs_with_runs_inside_are_run_by_crews(rt: HostRuntime) -> Result<(), Fail> {
     Ok(())
 }
 
-fn run_each<R: Threads + Wait + Abort + Sync>(rt: &R, alloc: Global, case: &InnerCase) -> Result<(), Fail> {
+fn run_each<R: Threads + Wait + Abort + Sync>(
+    rt: &R,
+    alloc: Global,
+    case: &InnerCase,
+) -> Result<(), Fail> {
     for workers in CREWS {
         for _ in 0..TIMES {
             let run = run_by_workers(rt, alloc, case.job(rt, alloc)?, workers)?;
