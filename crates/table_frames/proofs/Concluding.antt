@@ -20,6 +20,11 @@ use Rattle.run_frame.specs.Meaning.{Meaning}
 use Rattle.table_frames.specs.Frames.{AtFrame, BacklogView, FrameKey, HasTable, ReleaseView, backlog_view, release_in, table_in}
 use Rattle.table_frames.specs.StepReleases.{GivesEdges, IsFateOf, MayRelease, Uses, given_by}
 use Rattle.table_frames.specs.Steps.{BeginsFrame, IsStateOf, StepsRelease, StepsTo, units_of}
+use Rattle.join_words.specs.Ins.{found_of, parts_of}
+use Rattle.run_frame.specs.declared.job.Done.TheVariants.{Inner as InnerJob}
+use Rattle.table_frames.specs.inside.Openings.{OpensFrame, TriesAt}
+use Rattle.table_frames.specs.declared.attempt.InnerBegun.{InnerBegun}
+use Rattle.table_frames.specs.declared.attempt.Tried.TheVariants.{Inner as InnerTried}
 use Rattle.table_frames.specs.inside.Attempts.{IsAgain, TriesRelease, again_list, release_tried, units_due}
 use Rattle.table_frames.specs.inside.CollectedRelease.{IsTakenIn}
 use Rattle.table_frames.specs.declared.table_run.TakenUp.{TakenUp}
@@ -29,7 +34,7 @@ use Rattle.table_frames.specs.declared.attempt.Attempt.{Attempt}
 use Rattle.table_frames.specs.declared.attempt.Outcome.{Outcome}
 use Rattle.table_frames.specs.declared.attempt.Outcome.TheVariants.{Ends, Faults, Drops}
 use Rattle.table_frames.specs.declared.step_results.State.{State}
-use Rattle.table_frames.specs.declared.step_results.State.TheVariants.{Went, Parked as ParkedState, Inner as InnerState, Closed as ClosedState}
+use Rattle.table_frames.specs.declared.step_results.State.TheVariants.{Went, Parked as ParkedState, Inner as InnerState, Resumed as ResumedState, Closed as ClosedState}
 use Rattle.table_frames.specs.declared.step_results.Stepped.{Stepped}
 use Rattle.table_frames.specs.declared.table_run.Begun.{Begun}
 use Rattle.table_frames.proofs.Handing.{all_in}
@@ -72,7 +77,7 @@ wakes_due table outcome before after wakes = record {
     each release waited = record { table_is = waited.table_is; takes = due_listed (λ sem. takes table.net sem release.task) table.net table.table outcome waited.takes }
 
 -- a step that used its release up
-pub steps_release : {J V : Type 0} (meaning : Meaning J V) (frames : List (FrameKey J)) (fresh : FreshState) (attempt : Attempt V) (old mid new : BacklogView J V) (made : List FreshState) (stepped : Stepped J V) → HasTable frames fresh.table → mid.fates ≡ old.fates → Concludes meaning frames attempt mid new made → TriesRelease frames attempt fresh
+pub steps_release : {J V : Type 0} (meaning : Meaning J V) (frames : List (FrameKey J)) (fresh : FreshState) (attempt : Attempt J V) (old mid new : BacklogView J V) (made : List FreshState) (stepped : Stepped J V) → HasTable frames fresh.table → mid.fates ≡ old.fates → Concludes meaning frames attempt mid new made → TriesRelease frames attempt fresh
     → stepped.released.items ≡ map (release_in frames) made → stepped.state ≡ Went → StepsRelease meaning (release_in frames fresh) old new stepped
 steps_release {J} meaning frames fresh attempt old mid new made stepped has same concludes tries released state =
     let frame = concludes.frame in
@@ -87,6 +92,7 @@ steps_release {J} meaning frames fresh attempt old mid new made stepped has same
       made = made;
       to = subst (StepsTo meaning frame (release_in frames fresh) old new made) (sym state) (record {
         fate = concludes.fate;
+        run = attempt.inner;
         by_end = concludes.by_end;
         allowed = concludes.allowed;
         journal = concludes.journal;
@@ -102,6 +108,41 @@ steps_release {J} meaning frames fresh attempt old mid new made stepped has same
 may_again : (n : TableId) (t : ℕ) (cause : Cause) (woken : List FreshState) (again : Option FreshState) → IsAgain n t cause again → MayRelease n t cause woken (woken ++ again_list again)
 may_again n t cause woken None is = record { again = []; after_is = refl; is = inl refl }
 may_again n t cause woken (Some again) is = record { again = again ∷ []; after_is = refl; is = inr (is.0, ap (λ f. f ∷ []) is.1) }
+
+-- a step that opened a run for it
+pub opens_release : {J V : Type 0} (meaning : Meaning J V) (frames : List (FrameKey J)) (fresh : FreshState) (inner : InnerBegun J V) (old new : BacklogView J V) (stepped : Stepped J V) → TriesAt meaning frames fresh (InnerTried inner) → OpensFrame meaning frames inner stepped → new ≡ backlog_view frames old.fates → StepsRelease meaning (release_in frames fresh) old new stepped
+opens_release meaning [] fresh inner old new stepped tries opens backlog = absurd tries
+opens_release {J} {V} meaning (frame ∷ around) fresh inner old new stepped tries opens backlog =
+    let r = inner.start.running in
+    let is = tries.0 in
+    let of = tries.1 in
+    let task : r.task ≡ fresh.task = ap (λ (f : FreshState). f.task) of in
+    let cause : r.cause ≡ fresh.cause = ap (λ (f : FreshState). f.cause) of in
+    let found = map found_of (parts_of r.ins) in
+    record {
+      frame = frame;
+      around = around;
+      frames_are = refl;
+      made = again_list inner.again;
+      to = subst (StepsTo meaning frame (release_in (frame ∷ around) fresh) old new (again_list inner.again)) (sym opens.state) (record {
+        found = found;
+        inner = inner.begun.run;
+        answered = subst (λ (t : ℕ). meaning.answers frame.job t found (InnerJob inner.begun.run.job)) task
+            (subst (λ (k : FrameKey J). meaning.answers k.job r.task found (InnerJob inner.begun.run.job)) is.frame_is is.start.answered);
+        first_are = opens.first_are ∙ ap (map (release_in (inner.begun.run ∷ frame ∷ around))) is.begins.first;
+        some = λ none. is.some (none_left_in inner.begun.fresh.items (sym opens.first_are ∙ none));
+        again = subst (λ (c : Cause). MayRelease frame.table fresh.task c [] (again_list inner.again)) cause
+            (subst (λ (t : ℕ). MayRelease frame.table t r.cause [] (again_list inner.again)) task (may_again frame.table r.task r.cause [] inner.again is.again));
+        backlog = backlog;
+      });
+      released = opens.released;
+      frames = subst (All (λ (next : ReleaseView J). next.frames ≡ frame ∷ around)) (sym opens.released) (all_in (frame ∷ around) (again_list inner.again));
+      backlog = ap (λ (b : BacklogView J _). b.frames) backlog;
+    }
+  where
+    none_left_in : (fs : List FreshState) → map (release_in (inner.begun.run ∷ frame ∷ around)) fs ≡ [] → fs ≡ []
+    none_left_in [] is = refl
+    none_left_in (f ∷ fs) is = absurd (cc)
 
 -- a step that parked it
 pub parks_release : {J V : Type 0} (meaning : Meaning J V) (frames : List (FrameKey J)) (taken : TakenUp V) (turn : Snapshot TurnState) (old new : BacklogView J V) (woken made : List FreshState) (stepped : Stepped J V) → AtFrame frames (λ key. IsTakenIn key taken)
@@ -149,9 +190,10 @@ steps_from {J} {V} meaning release old mid new stepped same steps = record {
 }
   where
     by_state : (state : State J V) → StepsTo meaning steps.frame release mid new steps.made state → StepsTo meaning steps.frame release old new steps.made state
-    by_state Went u = record { fate = u.fate; by_end = u.by_end; allowed = u.allowed; journal = u.journal; uses = u.uses; wakes = u.wakes; backlog = u.backlog ∙ ap (λ fs. backlog_view release.frames (fs ++ u.fate ∷ [])) same }
+    by_state Went u = record { fate = u.fate; run = u.run; by_end = u.by_end; allowed = u.allowed; journal = u.journal; uses = u.uses; wakes = u.wakes; backlog = u.backlog ∙ ap (λ fs. backlog_view release.frames (fs ++ u.fate ∷ [])) same }
     by_state (ParkedState turn) p = record { is = p.is; sem = p.sem; waits = p.waits; none = p.none; woken = p.woken; wakes = p.wakes; again = p.again; backlog = p.backlog ∙ ap (backlog_view release.frames) same }
-    by_state InnerState u = absurd u
+    by_state (InnerState first) o = record { found = o.found; inner = o.inner; answered = o.answered; first_are = o.first_are; some = o.some; again = o.again; backlog = o.backlog ∙ ap (backlog_view release.frames) same }
+    by_state (ResumedState releases) u = absurd u
     by_state (ClosedState run) u = absurd u
 
 pub ok_steps : {J V E : Type 0} (meaning : Meaning J V) (other release : ReleaseView J) (old mid new : BacklogView J V) (result : Result (Stepped J V) E) → other ≡ release → mid.fates ≡ old.fates → IfOk result (StepsRelease meaning other mid new) → IfOk result (StepsRelease meaning release old new)

@@ -1,4 +1,5 @@
 pub mod Rows
+pub mod Runs
 pub mod Working
 pub mod Entries
 mod Finishing

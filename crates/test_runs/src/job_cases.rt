@@ -23,7 +23,7 @@ impl JobCase {
     pub(crate) fn job(&self, rt: &impl Abort, net: &Arc<Net>) -> Result<NumberJob, Fail> {
         match NumberJob::new(Arc::try_clone(net)?, self.limit, self.turns, self.fault) {
             Some(job) => Ok(job),
-            None => panic!(rt; "{} isn't flat", self.name),
+            None => panic!(rt; "{} has too many starts", self.name),
         }
     }
 }

@@ -3,7 +3,7 @@
 //!
 //! `job_cases.rt` has the jobs, which `job_runs.rt` runs over the frames of `table_frames`, in the orders of `scheduler.rt`, and over
 //! the crews of `worker_seat`. `table_cases.rt` has the nets that are run over `join_tables` by threads, and `orders.rt` those that
-//! one thread runs in a written order.
+//! one thread runs in a written order. `inner_cases.rt` has the jobs with runs inside, which `inner_runs.rt` runs.
 #![tactic(auto)]
 
 #[cfg(test)]
@@ -14,6 +14,10 @@ mod credits;
 mod data_rule;
 #[cfg(test)]
 mod gives;
+#[cfg(test)]
+mod inner_cases;
+#[cfg(test)]
+mod inner_runs;
 #[cfg(test)]
 mod job_cases;
 #[cfg(test)]

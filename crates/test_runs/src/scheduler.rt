@@ -111,8 +111,10 @@ fn record<R: Wait>(
     ensures { OnOk result (IsUnderWay pending.new.items backlog.new) }
 {
     let Brought { state, .. } = Frame::bring(rt, backlog)?;
-    if let State::Closed(run) = state {
-        return Ok(Some(run));
+    match state {
+        State::Closed(run) => return Ok(Some(run)),
+        State::Resumed(_) => return Err(NoMemory), // never: no net here has an inner graph
+        _ => {}
     }
     if pending.is_empty() {
         settle(rt, pending, backlog)?;

@@ -14,7 +14,7 @@ use graph_plans::{Graph, Plan};
 use join_words::Ins;
 use journal_rules::Why;
 use outside_io::Bytes;
-use run_frame::{Done, Job, JobError, Valued};
+use run_frame::{Done, FrameRun, Job, JobError, Valued};
 use std::alloc::Global;
 use std::marker::Model;
 use std::sync::Arc;
@@ -126,6 +126,11 @@ impl Job for TextJob {
         match self {
             TextJob::Graph(job) => job.answer(alloc, task, ins),
         }
+    }
+
+    /// No text job is run inside another yet, so there is no run to gather.
+    fn gather(&self, _alloc: Global, _run: &FrameRun<TextJob>) -> Result<Item, JobError> {
+        Err(JobError::NoMemory)
     }
 
     ghost answers_fit = { text_answers_fit };

@@ -53,6 +53,7 @@ mod seat;
 mod seats;
 mod station;
 mod steps;
+mod work;
 
 pub use crew::{Crew, CrewParts};
 pub use crew_runner::{CrewRan, EntersEach, run_by_crew, run_by_seats};
