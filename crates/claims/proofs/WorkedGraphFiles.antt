@@ -29,7 +29,7 @@ use Rattle.graph_file.specs.declared.scopes.Scope.TheVariants.{Top, Module as Of
 use Rattle.graph_file.specs.declared.numbers.TaskNumbers.{TaskNumbers}
 use Rattle.graph_file.specs.Contents.{is_name, is_name_byte, line_count_of, part_size_of, whole_of}
 use Rattle.graph_file.specs.Fields.{allowed, graph_spot, needed, only, sem_spot, task_spot}
-use Rattle.graph_file.specs.OpRows.{reads, runs, does}
+use Rattle.graph_file.specs.OpRows.{FileOpRow, does, reads, runs}
 use Rattle.graph_file.specs.PlanText.{Counts, DraftRows, FileNumbers, FileRows, HasFile, PlanText, TaskNames, TaskText, add_graph_numbers, add_module_name, add_name, add_numbers, add_task_name, edge_total, edges_from, empty_draft, file_counts, file_names, file_numbers, file_texts, file_uses, graph_names, graph_numbers, graph_with, graphs_with, mentioned, mentioned_by_graphs, mentioned_by_tasks, names_of_modules, names_of_tasks, nests_too_deep, number_among, numbered, ops_of, plan_of, puts_field, runs_one_of, takes_field, task_names, task_row, task_rows, used_before, used_by_tasks, with_semaphore, with_task_text, within_counts, within_limits}
 use Rattle.graph_file.proofs.PlanLemmas.{IsPlan-read}
 use Rattle.json.specs.Print.{escape_byte}

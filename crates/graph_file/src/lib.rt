@@ -34,6 +34,8 @@ mod unknown;
 mod uses;
 mod writer;
 
+pub use numbers::TaskNumbers;
 pub use reader::read_graph;
 pub use refusals::{GraphError, Kind};
+pub use scopes::Scope;
 pub use writer::write_graph;

@@ -19,7 +19,7 @@ use std::alloc::Global;
 /// A task, by the numbers of the tasks and semaphores that it names: its edges lead to the tasks in `to`, the others are
 /// semaphores.
 #[derive(Drop)]
-pub(crate) struct TaskNumbers {
+pub struct TaskNumbers {
     pub to: List<usize>,
     pub takes: List<usize>,
     pub puts: List<usize>,

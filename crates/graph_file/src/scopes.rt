@@ -6,7 +6,7 @@ use graph_plans::Spot;
 
 /// A graph of a file.
 #[derive(Clone, Copy, Drop)]
-pub(crate) enum Scope {
+pub enum Scope {
     /// The graph of the file's own tasks.
     Top,
     /// The graph of the module of this number.
