@@ -21,7 +21,7 @@ program:
 
 # The program on one of the examples. Names of files are looked up from the folder that it is called in.
 demo: program
-	cd examples/count-lines && ../../crates/flow/out/flow run graph.json
+	cd examples/log-join && ../../crates/flow/out/flow run graph.json
 
 # The program on each of the examples, on words and files that it refuses and on outputs that fail: its exit code
 # and what it puts on both streams.
@@ -40,7 +40,7 @@ gate-times:
 	python3 -B tools/gate_times.py rt ci
 	python3 -B tools/gate_times.py --table --write docs/TESTING.md
 
-# Random graphs, journals and failing allocations on the built program, five minutes of each of six tools; no part of
+# Random graphs, journals and failing allocations on the built program, five minutes of each of seven tools; no part of
 # the gate. `make fuzz SEED=N` makes the cases of an earlier call again.
 fuzz: program
 	@bash tools/fuzz.sh $(SEED)

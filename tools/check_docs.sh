@@ -155,8 +155,8 @@ for example in "${found[@]}"; do
     done
     has README.md "\`examples/$example\`" || fault "README.md doesn't name examples/$example"
 done
-for pair in graph.json:data/graph.json t.txt:data/t.txt expected.txt:stdout; do
-    cmp -s "examples/count-lines/${pair%:*}" "crates/flow/${pair#*:}" || fault "crates/flow/${pair#*:} isn't the example's ${pair%:*}"
+for pair in graph.json:data/graph.json a.log:data/a.log b.log:data/b.log c.log:data/c.log expected.txt:stdout; do
+    cmp -s "examples/log-join/${pair%:*}" "crates/flow/${pair#*:}" || fault "crates/flow/${pair#*:} isn't the example's ${pair%:*}"
 done
 
 # No document names a path of one machine.

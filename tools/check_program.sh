@@ -417,6 +417,42 @@ printf -- '-- b\n!! fault b: long 18874368\n' >"$seen/wanted_out"
 echo 'flow: fault b: long 18874368' >"$seen/wanted_notes"
 call run graph.json
 compare 'a value that would be too long' 9 "$seen/wanted_out" "$seen/wanted_notes"
+
+# As many parts as there may be, and one more; faults, limits and waiting tasks inside modules; modules that run themselves.
+spread="$(read_to a '"b"'),$(task b spread '"n":1,"each":{"op":"count"}')"
+(yes x || true) | head -n 65536 >t.txt
+echo "{\"tasks\":[$spread]}" >graph.json
+{ echo '== b'; (yes 1 || true) | head -n 65536; } >"$seen/wanted_out"
+call run graph.json
+compare 'a spread of 65536 parts' 0 "$seen/wanted_out" /dev/null
+echo x >>t.txt
+printf -- '-- b\n!! fault b: wide 65537\n' >"$seen/wanted_out"
+echo 'flow: fault b: wide 65537' >"$seen/wanted_notes"
+call run graph.json
+compare 'a spread of 65537 parts' 9 "$seen/wanted_out" "$seen/wanted_notes"
+inner='"modules":[{"name":"m","tasks":[{"name":"i","op":"input","to":["s"],"acquire":["u"]},{"name":"s","op":"spread","n":1,"each":{"op":"count"},"acquire":["u"]}],"semaphores":[{"name":"u","max":1}]}]'
+for workers in 1 4 16; do
+    echo "{\"version\":2,\"tasks\":[$(read_to a '"m"'),$(task m module '"module":"m"')],${inner//\"max\":1/\"max\":2}}" >graph.json
+    printf -- '-- m\n!! fault m/s: wide 65537\n' >"$seen/wanted_out"
+    echo 'flow: fault m/s: wide 65537' >"$seen/wanted_notes"
+    call run graph.json --workers "$workers"
+    compare "a fault inside a module by $workers workers" 9 "$seen/wanted_out" "$seen/wanted_notes"
+    echo "{\"version\":2,\"tasks\":[$(task m module '"module":"m"')],$inner}" >graph.json
+    printf -- '-- m\n!! stuck m/s\n' >"$seen/wanted_out"
+    echo 'flow: stuck m/s' >"$seen/wanted_notes"
+    call run graph.json --workers "$workers"
+    compare "a task that waits inside a module by $workers workers" 10 "$seen/wanted_out" "$seen/wanted_notes"
+    printf -- '-- m\n!! limit 1 in m\n' >"$seen/wanted_out"
+    echo 'flow: limit 1 in m' >"$seen/wanted_notes"
+    echo "{\"version\":2,\"tasks\":[$(task m module '"module":"m"')],${inner//\"max\":1/\"max\":2}}" >graph.json
+    call run graph.json --limit 1 --workers "$workers"
+    compare "the limit of a module by $workers workers" 8 "$seen/wanted_out" "$seen/wanted_notes"
+done
+echo '{"tasks":[],"modules":[{"name":"k","tasks":[]},{"name":"m","tasks":[{"name":"a","op":"module","module":"m"}]}]}' >graph.json
+refused 3 'flow: bad graph: module cycle at m' run graph.json
+refused 3 'flow: bad graph: module cycle at m' check graph.json
+echo '{"tasks":[{"name":"a","op":"input"}],"modules":[{"name":"m","tasks":[{"name":"a","op":"pass","to":["a"]}]}]}' >graph.json
+refused 4 'flow: no source in module 0' run graph.json
 cd "$top"
 
 # Files and texts past their limits, and texts that can't be read.

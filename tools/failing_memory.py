@@ -26,7 +26,7 @@ import time
 from random_graphs import add_extent, branching_graph, cases, folder_of, plain_graph, random_text, with_units
 
 EXAMPLES = pathlib.Path(__file__).resolve().parent.parent / "examples"
-CHOSEN = ("count-lines", "log-triage", "trim-until-it-fits", "words-by-file", "join-orders", "two-tallies-at-a-time", "never-given-back")
+CHOSEN = ("count-lines", "log-triage", "trim-until-it-fits", "words-by-file", "join-orders", "two-tallies-at-a-time", "never-given-back", "log-join")
 NO_MEMORY = (13, b"flow: no memory\n")
 
 # The calls for memory, all of which the C library's own names serve. The refused one leaves a byte in a pipe.

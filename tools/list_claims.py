@@ -25,14 +25,14 @@ UNCLAIMED = {
         "run_laws/specs/PlainReport.antt: HasSameReport ReportsAlike ReportsPlainly",
     ),
     "cited only by such a law": (
-        "run_laws/specs/PlainJobs.antt: task_values",
-        "run_laws/specs/PlainReport.antt: plain_next",
+        "run_laws/specs/PlainReport.antt: IsPlanned plain_next",
     ),
-    "on runs inside runs, which no job makes yet": (
+    "cited only by the law that text jobs are plain": (
         "run_laws/specs/PlainJobs.antt: IsGraphJob IsInside IsPlainly LeadsTo",
     ),
-    "a proof itself: a law that the trait Job asks of text jobs": (
-        "text_tasks/specs/JobLaws.antt: text_answers_fit text_faults_own text_gather_faults_own text_job_flat",
+    "a proof itself: a law that the trait Job asks of text jobs, or one that it stands on": (
+        "text_tasks/specs/JobLaws.antt: text_answers_fit text_faults_own text_gather_faults_own"
+        " graph_in_plan graph_of_work op_count",
     ),
     "over a value with private fields, which only running code makes": ("text_ops/specs/Joining.antt: IsJoined",),
 }

@@ -88,11 +88,11 @@ def some_of(dice, names, chance):
     return [name for name in names if dice.random() < chance]
 
 
-def with_units(dice, graph):
+def with_units(dice, graph, version=None):
     """The graph with semaphores of a few units each. In version 1 tasks hold them. In version 2 a task gives back what it
     takes, or one of its successors does, or nobody; now and then a task gives back a unit that it didn't take."""
     names = [f"s{k}" for k in range(dice.randint(1, 3))]
-    version, chance = dice.choice([1, 2, 2, 2]), dice.choice([0.1, 0.3, 0.5])
+    version, chance = version or dice.choice([1, 2, 2, 2]), dice.choice([0.1, 0.3, 0.5])
     tasks = [dict(task) for task in graph["tasks"]]
     by_name = {task["name"]: task for task in tasks}
     for task in tasks:
@@ -162,8 +162,8 @@ def value_of(task, parts, texts):
     return text_of(made[op]())
 
 
-def slow_report(graph, texts):
-    """What the graph prints: each task runs once, when all its predecessors have."""
+def slow_values(graph, value):
+    """What each task ends with, by its name: each runs once, when all its predecessors have; `value` is of a task and its parts."""
     edges = [(task["name"], name) for task in graph["tasks"] for name in task.get("to", [])]
     values = {}
     waiting = list(graph["tasks"])
@@ -173,10 +173,22 @@ def slow_report(graph, texts):
             break
         for task in ready:
             parts = [values[source] for source, to in edges if to == task["name"]]
-            values[task["name"]] = value_of(task, parts, texts)
+            values[task["name"]] = value(task, parts)
             waiting.remove(task)
-    sinks = [task["name"] for task in graph["tasks"] if not task.get("to")]
-    return "".join(f"== {name}\n{values[name]}" if name in values else f"-- {name}\n" for name in sinks)
+    return values
+
+
+def sinks_of(graph):
+    return [task["name"] for task in graph["tasks"] if not task.get("to")]
+
+
+def report_of(graph, values):
+    return "".join(f"== {name}\n{values[name]}" if name in values else f"-- {name}\n" for name in sinks_of(graph))
+
+
+def slow_report(graph, texts):
+    """What the graph prints."""
+    return report_of(graph, slow_values(graph, lambda task, parts: value_of(task, parts, texts)))
 
 
 # ---- cases, also for the other tools
@@ -224,9 +236,8 @@ def call(program, folder, *words):
 
 def has_form(graph, out):
     """Whether the report has a line for each task without a successor, in order."""
-    sinks = [task["name"] for task in graph["tasks"] if not task.get("to")]
     heads = [line for line in out.split("\n") if line.startswith(("== t", "-- t"))]
-    return [head[3:] for head in heads] == [name for name in sinks]
+    return [head[3:] for head in heads] == sinks_of(graph)
 
 
 def difference(graph, texts, has_conditions, seen):

@@ -21,7 +21,8 @@ const TIMES: u32 = 5;
 // A number that no task comes to, so that none faults.
 const NEVER: u64 = 0;
 
-// Jobs: which tasks precede which, and how often each task adds to a word. Four hundred additions take some two microseconds.
+// Jobs: which tasks precede which, and how often each task adds to a word. Four hundred additions take some two
+// microseconds.
 const WORKS: [(NetKind, u64, &str); 4] = [
     (NetKind::Chain, 0, "a chain of empty tasks"),
     (NetKind::Join, 0, "empty tasks before the last"),

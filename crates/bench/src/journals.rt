@@ -11,9 +11,9 @@ use std::time::Instant;
 // The most bytes of a file.
 const MOST: u64 = 67_108_864;
 
-/// Takes a word and the name of a file, and reads the bytes; with the word `read` it reads their journal besides, and with
-/// `print` it prints that journal again on standard output, and flushes it. On standard error it prints the microseconds
-/// of the last of these, and whether it could.
+/// Takes a word and the name of a file, and reads the bytes; with the word `read` it reads their journal besides, and
+/// with `print` it prints that journal again on standard output, and flushes it. On standard error it prints the
+/// microseconds of the last of these, and whether it could.
 pub fn measure(rt: &HostRuntime, mut words: Args) -> io::Result<()> {
     let word = next_word(rt, &mut words);
     let file = next_word(rt, &mut words);

@@ -2,7 +2,8 @@
 use crate::clock::{micros_since, nanos_since};
 use crate::nets::{NetKind, net_of};
 use journal_rules::{Cause, MAX_LIMIT};
-use legal_run::{Machine, MachineError, Verdict, judge};
+use legal_run::{Verdict, judge};
+use net_machine::{Machine, MachineError};
 use std::alloc::AllocError;
 use std::io;
 use std::sync::Arc;
@@ -79,8 +80,8 @@ fn measure_loop(rt: &HostRuntime) -> io::Result<()> {
     println!(rt; "its journal of 3,000,000 entries: judged in {micros} us, {is_legal}")
 }
 
-// All starts, each with its end: the source, its successor, and then each Choice task by the edge of the one before it. Task
-// k has edge k.
+// All starts, each with its end: the source, its successor, and then each Choice task by the edge of the one before it.
+// Task k has edge k.
 fn turn(machine: &mut Machine) -> Result<(), MachineError> {
     for done in 0..STARTS {
         let task = if done == 0 {

@@ -17,8 +17,8 @@ const MOST: u64 = 16_777_215;
 const TIMES: u8 = 8;
 
 /// Takes the name of an operation, a file and an operand, reads the file once, applies the operation eight times and
-/// prints the microseconds of one. With the name `copy` it copies as many bytes of the file as the operand says, each time
-/// to memory that wasn't used before.
+/// prints the microseconds of one. With the name `copy` it copies as many bytes of the file as the operand says, each
+/// time to memory that wasn't used before.
 pub fn measure(rt: &HostRuntime, mut words: Args) -> io::Result<()> {
     let name = next_word(rt, &mut words);
     let file = next_word(rt, &mut words);

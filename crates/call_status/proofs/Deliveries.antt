@@ -1,5 +1,6 @@
 -- What a flush makes of what was put, and what was done with the line of a status.
 use Rattle.std.proofs.Common.{◌≡◌, ℕ, ◌<◌, ◌≤◌, List, [], ◌++◌, Option, Result, Ok, Err, OnOk, OnErr, IfErr, refl, sym, ap, ◌∙◌, subst, arith, append-nil, append_assoc}
+use Rattle.graph_plans.specs.PlanRows.{PlanRows}
 use Rattle.outside_io.specs.declared.ports.sink.SinkFault.{SinkFault}
 use Rattle.outside_io.specs.declared.ports.sink.SinkFault.TheVariants as fault
 use Rattle.outside_io.specs.Sink.{SinkState, Took, TookFront, Accepts, FailsOn, AcceptsFront}
@@ -80,10 +81,10 @@ flush_cuts before between after bytes result none part flush = by_result result 
     by_result (Err fault.NoMemory) failed = (cut failed.0.took, failed.1)
 
 -- What was done with the line of a status that has one.
-pub noted_line : {N : Type 0} (state : N → SinkState) (old new : N) (names : List (List ℕ)) (status told : Status) (noted : Noted) → status ≡ told → (told ≡ Done → ⊥)
-    → TakesLine (state old) (state new) (note_line names told) noted → (state new).held_back ≡ [] → HasNoted state old new (note_line names status) status noted
-noted_line state old new names status told noted is other takes none = record {
-  takes = subst (λ (s : Status). TakesLine (state old) (state new) (note_line names s) noted) (sym is) takes;
+pub noted_line : {N : Type 0} (state : N → SinkState) (old new : N) (plan : Option PlanRows) (status told : Status) (noted : Noted) → status ≡ told → (told ≡ Done → ⊥)
+    → TakesLine (state old) (state new) (note_line plan told) noted → (state new).held_back ≡ [] → HasNoted state old new (note_line plan status) status noted
+noted_line state old new plan status told noted is other takes none = record {
+  takes = subst (λ (s : Status). TakesLine (state old) (state new) (note_line plan s) noted) (sym is) takes;
   nothing_held = none;
   done = λ done. absurd (other (sym is ∙ done));
 }

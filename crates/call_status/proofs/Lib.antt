@@ -1,3 +1,4 @@
-pub mod Deliveries
 mod NoteExamples
 mod StatusExamples
+pub mod Deliveries
+pub mod Missing

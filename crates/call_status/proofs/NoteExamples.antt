@@ -1,21 +1,25 @@
 -- The line of each status, written out.
-use Rattle.std.proofs.Common.{List, ℕ, ◌≡◌, ◌<◌, [], ◌∷◌, refl, codes, arith}
+use Rattle.std.proofs.Common.{List, ℕ, ◌≡◌, [], ◌∷◌, None, Some, refl, codes}
 use Rattle.std.specs.Fmt.{digits}
-use Rattle.std.proofs.lemmas.List.Elements.{All-nil, All-cons, All-head, All-tail}
+use Rattle.task_graph.specs.NetRows.{NetRows}
+use Rattle.graph_plans.specs.declared.ops.Op.TheVariants as op
+use Rattle.graph_plans.specs.declared.ops.TextOp.TheVariants.{Sort}
+use Rattle.graph_plans.specs.PlanRows.{GraphRows, PlanRows}
 use Rattle.graph_plans.specs.declared.spots.Spot.TheVariants.{File, Sem, Task, Module, ModuleSem, ModuleTask}
 use Rattle.graph_file.specs.declared.refusals.Kind.TheVariants as kind
 use Rattle.graph_file.specs.declared.refusals.GraphError.TheVariants as error
 use Rattle.journal_rules.specs.declared.entry.Why.TheVariants.{Long as TooLong, Wide, Unmet, Inner, OverRelease}
 use Rattle.legal_run.specs.declared.verdict.Break.TheVariants.{NotReleased}
 use Rattle.nested_runs.specs.declared.reasons.Reason.TheVariants as reason
-use Rattle.call_status.specs.Reasons.{NamesPath, NamesReason, reason_line}
+use Rattle.call_status.specs.Paths.{graph_behind, graph_run, path_from, path_text, task_text}
+use Rattle.call_status.specs.Reasons.{reason_line}
 use Rattle.call_status.specs.declared.status.Status.{Status}
 use Rattle.call_status.specs.declared.status.Status.TheVariants.{Done, BadWords, BadGraph, NoSource, NoText, LongText, ReadFault, WriteFault, Limit, TaskFault, Stuck, NotLegal, BadJournal, NoMemory}
-use Rattle.call_status.specs.Notes.{NamesStatus, note_line, spot_text}
+use Rattle.call_status.specs.Notes.{note_line, spot_text}
 
 -- the line of a status that names no task
 abbrev line : Status → List ℕ
-line = note_line []
+line = note_line None
 
 all_done : line Done ≡ []
 all_done = refl
@@ -37,6 +41,9 @@ no_such_name = refl
 repeated_name : line (BadGraph (error.Repeated (Task 0) (codes "name"))) ≡ codes "flow: bad graph: repeated name in name of task 0\n"
 unfolding digits
 repeated_name = refl
+
+module_cycle : line (BadGraph (error.ModuleCycle (codes "clean"))) ≡ codes "flow: bad graph: module cycle at clean\n"
+module_cycle = refl
 
 too_many_tasks : line (BadGraph (error.TooMany kind.Tasks)) ≡ codes "flow: bad graph: too many tasks\n"
 too_many_tasks = refl
@@ -94,68 +101,122 @@ a_semaphore_in_a_module : spot_text (ModuleSem 0 70) ≡ codes "module 0 semapho
 unfolding digits
 a_semaphore_in_a_module = refl
 
--- Tasks by their names: task 0 is `a` and task 1 is `b`.
-abbrev names : List (List ℕ)
-names = codes "a" ∷ codes "b" ∷ []
+-- A plan: tasks 0, 1 and 2 of its top graph are `a`, which runs a module, `b`, which is a spread, and `c`. The module's task
+-- 0 is `x` and runs that module; its task 1 is `y`, a spread.
+abbrev no_net : NetRows
+no_net = record { tasks = []; edges = []; sems = [] }
 
-fault : note_line names (TaskFault (1 ∷ []) (TooLong 18874368)) ≡ codes "flow: fault b: long 18874368\n"
+abbrev top : GraphRows
+top = record { name = []; names = codes "a" ∷ codes "b" ∷ codes "c" ∷ []; ops = op.Module 0 ∷ op.Spread 1 Sort ∷ op.Match ∷ []; sem_names = []; net = no_net }
+
+abbrev inside : GraphRows
+inside = record { name = codes "m"; names = codes "x" ∷ codes "y" ∷ []; ops = op.Module 0 ∷ op.Spread 1 Sort ∷ []; sem_names = []; net = no_net }
+
+abbrev plan : PlanRows
+plan = record { top = top; modules = inside ∷ []; texts = [] }
+
+module_is_run : graph_run (inside ∷ []) (op.Module 0) ≡ Some inside
+module_is_run = refl
+
+no_such_module_is_run : graph_run (inside ∷ []) (op.Module 1) ≡ None
+no_such_module_is_run = refl
+
+parts_are_run : graph_run (inside ∷ []) (op.Spread 1 Sort) ≡ None
+parts_are_run = refl
+
+behind_a_task : graph_behind (inside ∷ []) (Some top) 0 ≡ Some inside
+behind_a_task = refl
+
+behind_no_task : graph_behind (inside ∷ []) (Some top) 3 ≡ None
+behind_no_task = refl
+
+behind_a_part : graph_behind (inside ∷ []) None 0 ≡ None
+behind_a_part = refl
+
+named_task : task_text (Some inside) 1 ≡ codes "y"
+named_task = refl
+
+unnamed_task : task_text (Some inside) 2 ≡ []
+unnamed_task = refl
+
+numbered_part : task_text None 65535 ≡ codes "65535"
+unfolding digits
+numbered_part = refl
+
+path_of_no_task : path_from (inside ∷ []) (Some inside) [] ≡ []
+path_of_no_task = refl
+
+path_among_parts : path_from (inside ∷ []) None (7 ∷ 0 ∷ []) ≡ codes "7/0"
+unfolding digits
+path_among_parts = refl
+
+path_through_modules : path_text (Some plan) (0 ∷ 0 ∷ 0 ∷ 1 ∷ 12 ∷ []) ≡ codes "a/x/x/y/12"
+unfolding digits
+path_through_modules = refl
+
+path_without_a_plan : path_text None (1 ∷ 20 ∷ []) ≡ codes "1/20"
+unfolding digits
+path_without_a_plan = refl
+
+-- Tasks by their names.
+fault : note_line (Some plan) (TaskFault (1 ∷ []) (TooLong 18874368)) ≡ codes "flow: fault b: long 18874368\n"
 unfolding digits
 fault = refl
 
-fault_inside : note_line names (TaskFault (1 ∷ 0 ∷ []) (Wide 65537)) ≡ codes "flow: fault b/a: wide 65537\n"
+fault_inside : note_line (Some plan) (TaskFault (0 ∷ 1 ∷ []) (Wide 65537)) ≡ codes "flow: fault a/y: wide 65537\n"
 unfolding digits
 fault_inside = refl
 
-whys : (note_line names (TaskFault (0 ∷ []) (Unmet 4)) ≡ codes "flow: fault a: unmet 4\n") × (note_line names (TaskFault (0 ∷ []) (OverRelease 0)) ≡ codes "flow: fault a: over 0\n")
+fault_of_a_part : note_line (Some plan) (TaskFault (1 ∷ 30 ∷ []) (TooLong 16777217)) ≡ codes "flow: fault b/30: long 16777217\n"
+unfolding digits
+fault_of_a_part = refl
+
+whys : (note_line (Some plan) (TaskFault (0 ∷ []) (Unmet 4)) ≡ codes "flow: fault a: unmet 4\n") × (note_line (Some plan) (TaskFault (0 ∷ []) (OverRelease 0)) ≡ codes "flow: fault a: over 0\n")
 unfolding digits
 whys = (refl, refl)
 
-run_inside : note_line names (TaskFault (0 ∷ []) Inner) ≡ codes "flow: fault a: inner\n"
+run_inside : note_line (Some plan) (TaskFault (0 ∷ []) Inner) ≡ codes "flow: fault a: inner\n"
 run_inside = refl
 
 -- a task without a name, and no task
-nobody : (note_line names (TaskFault (2 ∷ []) Inner) ≡ codes "flow: fault : inner\n") × (note_line names (Stuck []) ≡ codes "flow: stuck \n")
+nobody : (note_line (Some plan) (TaskFault (3 ∷ []) Inner) ≡ codes "flow: fault : inner\n") × (note_line (Some plan) (Stuck []) ≡ codes "flow: stuck \n")
 nobody = (refl, refl)
 
-limit : note_line names (Limit [] 10) ≡ codes "flow: limit 10\n"
+limit : note_line (Some plan) (Limit [] 10) ≡ codes "flow: limit 10\n"
 unfolding digits
 limit = refl
 
-limit_inside : note_line names (Limit (1 ∷ []) 10) ≡ codes "flow: limit 10 in b\n"
+limit_inside : note_line (Some plan) (Limit (0 ∷ []) 10) ≡ codes "flow: limit 10 in a\n"
 unfolding digits
 limit_inside = refl
 
-limit_two_runs_inside : note_line names (Limit (1 ∷ 0 ∷ []) 10) ≡ codes "flow: limit 10 in b/a\n"
+limit_two_runs_inside : note_line (Some plan) (Limit (0 ∷ 0 ∷ []) 10) ≡ codes "flow: limit 10 in a/x\n"
 unfolding digits
 limit_two_runs_inside = refl
 
-fault_two_runs_inside : note_line names (TaskFault (1 ∷ 0 ∷ 1 ∷ []) (TooLong 9)) ≡ codes "flow: fault b/a/b: long 9\n"
-unfolding digits
-fault_two_runs_inside = refl
-
-stuck_inside : note_line names (Stuck (1 ∷ 0 ∷ [])) ≡ codes "flow: stuck b/a\n"
+stuck_inside : note_line (Some plan) (Stuck (0 ∷ 1 ∷ [])) ≡ codes "flow: stuck a/y\n"
 stuck_inside = refl
 
-stuck : note_line names (Stuck (1 ∷ [])) ≡ codes "flow: stuck b\n"
+stuck : note_line (Some plan) (Stuck (2 ∷ [])) ≡ codes "flow: stuck c\n"
 stuck = refl
 
 -- The last line of a report.
-fine_line : reason_line names reason.Fine ≡ []
+fine_line : reason_line (Some plan) reason.Fine ≡ []
 fine_line = refl
 
-fault_line : reason_line names (reason.Fault (1 ∷ []) (TooLong 9)) ≡ codes "!! fault b: long 9\n"
+fault_line : reason_line (Some plan) (reason.Fault (0 ∷ 1 ∷ []) (TooLong 9)) ≡ codes "!! fault a/y: long 9\n"
 unfolding digits
 fault_line = refl
 
-limit_line : reason_line names (reason.Limit [] 10) ≡ codes "!! limit 10\n"
+limit_line : reason_line (Some plan) (reason.Limit [] 10) ≡ codes "!! limit 10\n"
 unfolding digits
 limit_line = refl
 
-limit_line_of_a_run_inside : reason_line names (reason.Limit (1 ∷ 0 ∷ []) 10) ≡ codes "!! limit 10 in b/a\n"
+limit_line_of_a_run_inside : reason_line (Some plan) (reason.Limit (0 ∷ 0 ∷ []) 10) ≡ codes "!! limit 10 in a/x\n"
 unfolding digits
 limit_line_of_a_run_inside = refl
 
-stuck_line : reason_line names (reason.Stuck (1 ∷ [])) ≡ codes "!! stuck b\n"
+stuck_line : reason_line (Some plan) (reason.Stuck (1 ∷ [])) ≡ codes "!! stuck b\n"
 stuck_line = refl
 
 -- An entry that breaks a rule is told by its place, and a bad line by its number from 1.
@@ -166,47 +227,3 @@ not_legal = refl
 bad_journal_line : line (BadJournal 3) ≡ codes "flow: bad journal line 3\n"
 unfolding digits
 bad_journal_line = refl
-
--- Tasks 0 and 1 have names, and task 2 has none, wherever it stands in a path.
-abbrev has_name : ℕ → Type 0
-has_name task = task < 2
-
-named_path : NamesPath names (1 ∷ 0 ∷ [])
-named_path = All-cons has_name 1 (0 ∷ []) (omega arith) (All-cons has_name 0 [] (omega arith) (All-nil has_name))
-
-unnamed : ¬ NamesPath names (2 ∷ [])
-unnamed is = absurd (omega (arith, All-head has_name 2 [] is))
-
-unnamed_last : ¬ NamesPath names (1 ∷ 2 ∷ [])
-unnamed_last is = unnamed (All-tail has_name 1 (2 ∷ []) is)
-
--- Each task of a reason's path has to have one, and of a status's.
-no_task_told : NamesReason [] reason.Fine
-no_task_told = tt
-
-named_fault : NamesReason names (reason.Fault (1 ∷ 0 ∷ []) (TooLong 9))
-named_fault = named_path
-
-unnamed_fault : ¬ NamesReason names (reason.Fault (1 ∷ 2 ∷ []) (TooLong 9))
-unnamed_fault = unnamed_last
-
-unnamed_limit : ¬ NamesReason names (reason.Limit (2 ∷ []) 0)
-unnamed_limit = unnamed
-
-unnamed_stuck : ¬ NamesReason names (reason.Stuck (2 ∷ []))
-unnamed_stuck = unnamed
-
-no_task_in_status : NamesStatus [] WriteFault
-no_task_in_status = tt
-
-named_status : NamesStatus names (TaskFault (1 ∷ 0 ∷ []) (TooLong 9))
-named_status = named_path
-
-unnamed_in_fault : ¬ NamesStatus names (TaskFault (2 ∷ []) (TooLong 9))
-unnamed_in_fault = unnamed
-
-unnamed_in_limit : ¬ NamesStatus names (Limit (1 ∷ 2 ∷ []) 0)
-unnamed_in_limit = unnamed_last
-
-unnamed_in_stuck : ¬ NamesStatus names (Stuck (2 ∷ []))
-unnamed_in_stuck = unnamed

@@ -1,15 +1,11 @@
 -- The reason of a run, as text.
-use Rattle.std.specs.Prelude.{ℕ, ◌<◌, List, [], ◌∷◌, ◌++◌, All, codes, decimal, length, slice_index_or}
+use Rattle.std.specs.Prelude.{ℕ, List, [], ◌∷◌, ◌++◌, codes, decimal, Option}
 use Rattle.journal_rules.specs.declared.entry.Why.{Why}
 use Rattle.journal_rules.specs.declared.entry.Why.TheVariants.{Long, Wide, Unmet, Inner, OverRelease}
+use Rattle.graph_plans.specs.PlanRows.{PlanRows}
+use Rattle.call_status.specs.Paths.{path_text}
 use Rattle.nested_runs.specs.declared.reasons.Reason.{Reason}
 use Rattle.nested_runs.specs.declared.reasons.Reason.TheVariants.{Fine, Fault, Limit, Stuck}
-
--- the tasks of a path by their names, with a slash between two
-abbrev pub path_text : List (List ℕ) → List ℕ → List ℕ
-path_text names [] = []
-path_text names (task ∷ []) = slice_index_or names task []
-path_text names (task ∷ next ∷ rest) = slice_index_or names task [] ++ codes "/" ++ path_text names (next ∷ rest)
 
 -- why a task faulted
 abbrev pub why_text : Why → List ℕ
@@ -19,34 +15,23 @@ why_text (Unmet token) = codes "unmet " ++ decimal token
 why_text Inner = codes "inner"
 why_text (OverRelease semaphore) = codes "over " ++ decimal semaphore
 
-abbrev pub fault_text : List (List ℕ) → List ℕ → Why → List ℕ
-fault_text names path why = codes "fault " ++ path_text names path ++ codes ": " ++ why_text why
+abbrev pub fault_text : Option PlanRows → List ℕ → Why → List ℕ
+fault_text plan path why = codes "fault " ++ path_text plan path ++ codes ": " ++ why_text why
 
 -- the limit that was met, and where that wasn't the run itself
-abbrev pub within_path : List (List ℕ) → List ℕ → List ℕ
-within_path names [] = []
-within_path names (task ∷ rest) = codes " in " ++ path_text names (task ∷ rest)
+abbrev pub within_path : Option PlanRows → List ℕ → List ℕ
+within_path plan [] = []
+within_path plan (task ∷ rest) = codes " in " ++ path_text plan (task ∷ rest)
 
-abbrev pub limit_text : List (List ℕ) → List ℕ → ℕ → List ℕ
-limit_text names path limit = codes "limit " ++ decimal limit ++ within_path names path
+abbrev pub limit_text : Option PlanRows → List ℕ → ℕ → List ℕ
+limit_text plan path limit = codes "limit " ++ decimal limit ++ within_path plan path
 
-abbrev pub stuck_text : List (List ℕ) → List ℕ → List ℕ
-stuck_text names path = codes "stuck " ++ path_text names path
+abbrev pub stuck_text : Option PlanRows → List ℕ → List ℕ
+stuck_text plan path = codes "stuck " ++ path_text plan path
 
 -- the last line of the report of a run that didn't end fine
-abbrev pub reason_line : List (List ℕ) → Reason → List ℕ
-reason_line names Fine = []
-reason_line names (Fault path why) = codes "!! " ++ fault_text names path why ++ codes "\n"
-reason_line names (Limit path limit) = codes "!! " ++ limit_text names path limit ++ codes "\n"
-reason_line names (Stuck path) = codes "!! " ++ stuck_text names path ++ codes "\n"
-
--- each task of a path has a name
-abbrev pub NamesPath : List (List ℕ) → List ℕ → Type 0
-NamesPath names path = All (λ task. task < length names) path
-
--- so has each task that a reason tells of
-abbrev pub NamesReason : List (List ℕ) → Reason → Type 0
-NamesReason names Fine = Unit {0}
-NamesReason names (Fault path why) = NamesPath names path
-NamesReason names (Limit path limit) = NamesPath names path
-NamesReason names (Stuck path) = NamesPath names path
+abbrev pub reason_line : Option PlanRows → Reason → List ℕ
+reason_line plan Fine = []
+reason_line plan (Fault path why) = codes "!! " ++ fault_text plan path why ++ codes "\n"
+reason_line plan (Limit path limit) = codes "!! " ++ limit_text plan path limit ++ codes "\n"
+reason_line plan (Stuck path) = codes "!! " ++ stuck_text plan path ++ codes "\n"

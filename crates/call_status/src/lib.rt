@@ -2,14 +2,15 @@
 //!
 //! The layer above sees the statuses with their exit codes (`Status`), the reasons to stop before what was to be done
 //! (`Stop`), and `put_note`, which writes the line of a status. It also finds here what its own output shares with that
-//! line: the text for the reason of a run, and writes that are flushed. The definitions are in
-//! `specs/`: `Codes` has the exit codes, `Statuses` which status reports what, `Stopping` how a call ends before
-//! what it was to do, `Reasons` how the reason of a run is reported, `Notes` the line of a status, and `Delivery` what
-//! becomes of bytes that are written and flushed.
+//! line: the text for the reason of a run, and writes that are flushed. The definitions are in `specs/`: `Codes` has
+//! the exit codes, `Statuses` which status reports what, `Stopping` how a call ends before what it was to do, `Reasons`
+//! how the reason of a run is reported, with the names of tasks in `Paths`, `Notes` the line of a status, and
+//! `Delivery` what becomes of bytes that are written and flushed.
 #![tactic(auto)]
 
 mod delivery;
 mod note;
+mod paths;
 mod reasons;
 mod status;
 mod stop;

@@ -1,26 +1,33 @@
 // The line of a status on standard error.
 ghost use Rattle.std.specs.Prelude.{◌≡◌, ◌++◌, [], List, ℕ, codes, decimal, IfOk, OnOk};
-ghost use Rattle.call_status.specs.Notes.{NamesStatus, graph_error_text, kind_text, note_line, spot_text, within_text};
+ghost use Rattle.std.specs.Option.{option_copied, option_map};
+ghost use Rattle.graph_plans.specs.PlanRows.{plan_rows};
+ghost use Rattle.call_status.specs.Notes.{graph_error_text, kind_text, note_line, spot_text, within_text};
 ghost use Rattle.call_status.specs.Noting.{HasNoted, TakesLine};
-ghost use Rattle.call_status.specs.Reasons.{NamesPath, fault_text, limit_text, stuck_text};
+ghost use Rattle.call_status.specs.Reasons.{fault_text, limit_text, stuck_text};
 
 use super::delivery::deliver;
 use super::reasons::{add_fault, add_limit, add_stuck};
 use super::status::{Noted, Status};
 use graph_file::{GraphError, Kind};
-use graph_plans::Spot;
+use graph_plans::{Plan, Spot};
 use journal_rules::Why;
 use outside_io::{Bytes, List, NoMemory, Sink, SinkFault, add_numbered};
 use std::alloc::Global;
 
-/// Writes the line of a status to `notes`, the diagnostics sink, and flushes it. With `Done` there is no
-/// line, and the sink is left alone. `names` are those of the tasks, by their numbers; each task that the status names
-/// of has one. A line that names nothing allocates nothing, so that of a failed allocation can be written all the same.
-pub fn put_note<N: Sink>(alloc: Global, notes: &mut N, names: &[Bytes], status: &Status) -> Noted
+/// Writes the line of a status to `notes`, the diagnostics sink, and flushes it. With `Done` there is no line, and the
+/// sink is left alone. The tasks that it names are those of the plan whose top graph was run; without a plan they go by
+/// their numbers. A line that names nothing allocates nothing, so that of a failed allocation can be written all the
+/// same.
+pub fn put_note<N: Sink>(
+    alloc: Global,
+    notes: &mut N,
+    plan: Option<&Plan>,
+    status: &Status,
+) -> Noted
     requires nothing_held { (N.state notes.old).held_back ≡ [] }
-    requires named { NamesStatus names.now status.now }
     ensures { HasNoted N.state notes.old notes.new
-        (note_line names.now status.now) status.now result }
+        (note_line (option_map plan_rows (option_copied plan.entry)) status.now) status.now result }
 {
     match status {
         Status::Done => Noted::Whole,
@@ -31,9 +38,9 @@ pub fn put_note<N: Sink>(alloc: Global, notes: &mut N, names: &[Bytes], status: 
         Status::LongText(name) => put_made(notes, of_name(alloc, b"flow: text too long ", name)),
         Status::ReadFault(name) => put_made(notes, of_name(alloc, b"flow: read fault on ", name)),
         Status::WriteFault => put_line(notes, b"flow: write fault\n"),
-        Status::Limit(path, limit) => put_made(notes, limit_note(alloc, names, path, *limit)),
-        Status::TaskFault(path, why) => put_made(notes, fault_note(alloc, names, path, *why)),
-        Status::Stuck(path) => put_made(notes, stuck_note(alloc, names, path)),
+        Status::Limit(path, limit) => put_made(notes, limit_note(alloc, plan, path, *limit)),
+        Status::TaskFault(path, why) => put_made(notes, fault_note(alloc, plan, path, *why)),
+        Status::Stuck(path) => put_made(notes, stuck_note(alloc, plan, path)),
         Status::NotLegal(place, _) => put_made(
             notes,
             numbered(alloc, b"flow: not legal at ", *place),
@@ -75,40 +82,42 @@ fn put_line<N: Sink>(notes: &mut N, line: &[u8]) -> Noted
 // The line that a run met its limit.
 fn limit_note(
     alloc: Global,
-    names: &[Bytes],
+    plan: Option<&Plan>,
     path: &List<u32>,
     limit: u64,
 ) -> Result<Bytes, NoMemory>
-    requires { NamesPath names.now path.now }
     ensures { IfOk result
-        (λ line. line ≡ codes "flow: " ++ limit_text names.now path.now limit ++ codes "\n") }
+        (λ line. line ≡ codes "flow: " ++ limit_text (option_map plan_rows (option_copied plan.entry)) path.now limit ++ codes "\n") }
 {
     let mut line = List::from_slice(alloc, b"flow: ")?;
-    add_limit(&mut line, names, path.as_slice(), limit)?;
+    add_limit(&mut line, plan, path.as_slice(), limit)?;
     line.push(b'\n')?;
     Ok(line)
 }
 
 // The line that a task faulted.
-fn fault_note(alloc: Global, names: &[Bytes], path: &List<u32>, why: Why) -> Result<Bytes, NoMemory>
-    requires { NamesPath names.now path.now }
+fn fault_note(
+    alloc: Global,
+    plan: Option<&Plan>,
+    path: &List<u32>,
+    why: Why,
+) -> Result<Bytes, NoMemory>
     ensures { IfOk result
-        (λ line. line ≡ codes "flow: " ++ fault_text names.now path.now why ++ codes "\n") }
+        (λ line. line ≡ codes "flow: " ++ fault_text (option_map plan_rows (option_copied plan.entry)) path.now why ++ codes "\n") }
 {
     let mut line = List::from_slice(alloc, b"flow: ")?;
-    add_fault(&mut line, names, path.as_slice(), why)?;
+    add_fault(&mut line, plan, path.as_slice(), why)?;
     line.push(b'\n')?;
     Ok(line)
 }
 
 // The line that a task waited for a unit that never came.
-fn stuck_note(alloc: Global, names: &[Bytes], path: &List<u32>) -> Result<Bytes, NoMemory>
-    requires { NamesPath names.now path.now }
+fn stuck_note(alloc: Global, plan: Option<&Plan>, path: &List<u32>) -> Result<Bytes, NoMemory>
     ensures { IfOk result
-        (λ line. line ≡ codes "flow: " ++ stuck_text names.now path.now ++ codes "\n") }
+        (λ line. line ≡ codes "flow: " ++ stuck_text (option_map plan_rows (option_copied plan.entry)) path.now ++ codes "\n") }
 {
     let mut line = List::from_slice(alloc, b"flow: ")?;
-    add_stuck(&mut line, names, path.as_slice())?;
+    add_stuck(&mut line, plan, path.as_slice())?;
     line.push(b'\n')?;
     Ok(line)
 }
@@ -182,12 +191,21 @@ fn add_graph_error(line: &mut Bytes, error: &GraphError) -> Result<(), NoMemory>
             b" of ",
             *spot,
         ),
+        GraphError::ModuleCycle(name) => add_behind(line, b"module cycle at ", name),
         GraphError::TooMany(kind) => {
             line.add_all(b"too many ")?;
             line.add_all(plural_of(*kind))
         }
         GraphError::NoMemory => line.add_all(b"no memory"),
     }
+}
+
+// Adds a name as it is, behind a text.
+fn add_behind(line: &mut Bytes, before: &[u8], name: &Bytes) -> Result<(), NoMemory>
+    ensures { OnOk result (line.new ≡ line.old ++ (before.now ++ name.now)) }
+{
+    line.add_all(before)?;
+    line.add_all(name.as_slice())
 }
 
 // Adds what is wrong with a field, and which field of the file it is.

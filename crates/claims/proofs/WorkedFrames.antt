@@ -7,6 +7,7 @@ use Rattle.std.specs.declared.sync.Arc.{Arc}
 use Rattle.std.specs.declared.snapshot.Snapshot.{Snapshot}
 use Rattle.std.specs.declared.vec.Vec.{Vec}
 use Rattle.std.specs.Prelude.{◌⊎◌, min, All, slice_get}
+use Rattle.std.specs.List.{AllByRecursion}
 use Rattle.std.proofs.lemmas.List.{length-append, length-map}
 use Rattle.std.proofs.lemmas.List.Elements.{All-from_recursion, All-head}
 use Rattle.atomic_table.specs.Seated.{TableId}
@@ -19,14 +20,17 @@ use Rattle.journal_rules.specs.declared.entry.Cause.TheVariants.{Source, Strong}
 use Rattle.journal_rules.specs.declared.entry.Part.TheVariants.{From}
 use Rattle.journal_rules.specs.declared.entry.Why.{Why}
 use Rattle.journal_rules.specs.declared.entry.Why.TheVariants.{Long, Wide, Unmet, Inner, OverRelease}
-use Rattle.journal_rules.specs.declared.entry.DropWhy.TheVariants.{Halted, Limit}
+use Rattle.journal_rules.specs.declared.entry.DropWhy.TheVariants.{Halted, Limit, Stuck}
 use Rattle.journal_rules.specs.declared.entry.Entry.{Entry}
 use Rattle.journal_rules.specs.declared.entry.Entry.TheVariants.{Start, End, Fault, Drop}
 use Rattle.join_words.specs.Ins.{InputValue, value, parts_of, found_of}
+use Rattle.join_words.specs.declared.ins.Ins.{Ins}
+use Rattle.table_steps.specs.OneJournal.{AreInOneJournal}
+use Rattle.join_tables.specs.Parts.{parts_in}
 use Rattle.join_words.specs.declared.ins.Given.{Given}
 use Rattle.join_words.specs.declared.ins.Given.TheVariants as given
 use Rattle.join_tables.specs.States.{FreshState, TurnState, fresh_state, turn_with}
-use Rattle.join_tables.specs.Keeping.{KeeperState, keeper_state, drop_of}
+use Rattle.join_tables.specs.Keeping.{KeeperState, keeper_state, drop_of, start_of, with_places}
 use Rattle.join_tables.specs.declared.parts.FoundParts.{FoundParts}
 use Rattle.join_tables.specs.declared.turns.EndedStart.{EndedStart}
 use Rattle.join_tables.specs.declared.fates.Failure.{Failure}
@@ -38,25 +42,25 @@ use Rattle.semaphore_turns.specs.WokenTurns.{WaitedFor}
 use Rattle.run_frame.specs.declared.job.Answer.TheVariants.{All as Each}
 use Rattle.run_frame.specs.declared.job.Done.{Done}
 use Rattle.run_frame.specs.declared.job.Done.TheVariants.{Value, Inner as InnerJob}
-use Rattle.run_frame.specs.declared.job.JobError.TheVariants.{Fault as FaultOf}
+use Rattle.run_frame.specs.declared.job.JobError.TheVariants.{Fault as FaultOf, NoMemory as NoMemoryOf}
 use Rattle.run_frame.specs.declared.run.ValueRow.{ValueRow}
 use Rattle.run_frame.specs.declared.run.FrameRun.{FrameRun}
-use Rattle.run_frame.specs.Meaning.{Meaning, ErrorAllowed}
-use Rattle.run_frame.specs.Runs.{IsFine}
+use Rattle.run_frame.specs.Meaning.{Meaning, ErrorAllowed, GatherErrorAllowed}
+use Rattle.run_frame.specs.Runs.{IsFine, cuts_short, is_cut_by}
 use Rattle.run_frame.specs.LastEnds.{last_before, last_value}
 use Rattle.run_frame.specs.WorkRule.{WorkRule, gives_of}
 use Rattle.run_frame.specs.NestedRule.{NestedRule, job_of, journal_of}
 use Rattle.run_frame.specs.Legal.{IsKept}
-use Rattle.table_frames.specs.AllowedFates.{IsAllowed, AreAllowed, work_with}
-use Rattle.table_frames.specs.Frames.{FrameKey, ReleaseView, BacklogView, release_in, root_job, depth_of, frames_around, IsInnermost, AtFrame, HasTable, backlog_view, MayTake, key_of, table_in}
+use Rattle.table_frames.specs.AllowedFates.{IsAllowed, AreAllowed, FateWithRun, closing_place, placed_runs, work_with}
+use Rattle.table_frames.specs.Frames.{FrameKey, ReleaseView, BacklogView, release_in, root_frame, root_job, depth_of, frames_around, IsInnermost, AtFrame, HasTable, backlog_view, MayTake, key_of, table_in}
 use Rattle.table_frames.specs.Holders.{HoldsRelease}
 use Rattle.table_frames.specs.StepReleases.{IsFateOf, given_by, release_of, AreMadeBy, GivesEdges, MayRelease, Uses}
-use Rattle.table_frames.specs.JournalFacts.{IsInJournal, HasEntriesOf}
-use Rattle.table_frames.specs.Steps.{IsRootRun, IsStateOf, IsClosed, BeginsFrame, units_of, UsesRelease, ParksRelease, StepsTo, StepsRelease}
-use Rattle.table_frames.specs.BacklogResults.{TakesIn, MayTakeIn, BringsFates, DropsParked, SettlesFrame}
+use Rattle.table_frames.specs.JournalFacts.{IsInJournal, HasEntries}
+use Rattle.table_frames.specs.Steps.{IsRootRun, IsStateOf, IsClosed, BeginsFrame, units_of, UsesRelease, ParksRelease, OpensInner, StepsTo, StepsRelease}
+use Rattle.table_frames.specs.BacklogResults.{TakesIn, MayTakeIn, ResumesStart, IsFrameOf, BringsTo, IsOver, BringsFates, IsLeftOf, DropsParked, SettlesFrame}
 use Rattle.table_frames.specs.declared.release.HeldBy.TheVariants as held
 use Rattle.table_frames.specs.declared.step_results.Brought.{Brought}
-use Rattle.table_frames.specs.declared.step_results.State.TheVariants.{Went, Parked, Inner as HasInner, Closed}
+use Rattle.table_frames.specs.declared.step_results.State.TheVariants.{Went, Parked, Inner as HasInner, Resumed, Closed}
 use Rattle.table_frames.specs.declared.step_results.Stepped.{Stepped}
 
 abbrev free : Shape → TaskRow
@@ -124,6 +128,14 @@ error_of_what_was_found = (refl, λ is. absurd (omega (arith, is)))
 -- gathering may name the job's number as a fault of one kind
 abbrev gathering : (ℕ → Why) → Meaning ℕ ℕ
 gathering kind = record sums { gather_faults = λ j run why. why ≡ kind j }
+
+-- an error of gathering is one that it may name, or tells of an allocation
+error_of_gathering : (run : FrameRun ℕ ℕ) → GatherErrorAllowed (gathering Wide) 2 run (FaultOf (Wide 2)) × ¬ GatherErrorAllowed (gathering Wide) 2 run (FaultOf (Wide 3)) × ¬ GatherErrorAllowed (gathering Wide) 2 run (FaultOf (Long 2)) × GatherErrorAllowed (gathering Wide) 2 run NoMemoryOf
+error_of_gathering run = (refl, (λ is. absurd (cc)), (λ is. absurd (cc)), tt)
+
+-- a Fault cuts a run short, and a Drop at the limit or for want of a unit; one behind a Fault says nothing more
+cut_short_by : (cuts_short (Start 0 Source []) ≡ false) × (cuts_short (End 0 [] true) ≡ false) × (cuts_short (Fault 0 Inner) ≡ true) × (cuts_short (Drop 0 Source Limit) ≡ true) × (cuts_short (Drop 0 Source (Stuck 3)) ≡ true) × (is_cut_by Halted ≡ false)
+cut_short_by = (refl, refl, refl, refl, refl, refl)
 
 -- a task may name what is its own, and what it found, as a fault of one kind
 abbrev faulting : (ℕ → Why) → Meaning ℕ ℕ
@@ -249,6 +261,9 @@ module _ (n m : TableId) (other : m ≢ n) where
   abbrev inside : List (FrameKey ℕ)
   inside = record { table = m; job = 9 } ∷ own
 
+  outermost_frame : (root_frame inside ≡ Some key) × (root_frame own ≡ Some key) × (root_frame {J = ℕ} [] ≡ None)
+  outermost_frame = (refl, refl, refl)
+
   job_of_the_outermost : (root_job inside ≡ Some 2) × (root_job own ≡ Some 2) × (root_job {J = ℕ} [] ≡ None)
   job_of_the_outermost = (refl, refl, refl)
 
@@ -342,32 +357,87 @@ module _ (n m : TableId) (other : m ≢ n) where
     sum_found : (2 + 1 + added (work_with 1 this.ins.value).found) ≡ 10
     sum_found = ap (λ got. 2 + 1 + added got) found_seven
 
-    ends_with_its_sum : IsAllowed flat_sums 2 (Ended (ended 10 1))
-    ends_with_its_sum = (record { answer = Each; allowed = (sym sum_found, refl); chosen = refl }, refl)
+    ends_with_its_sum : IsAllowed flat_sums 2 (Ended (ended 10 1)) None
+    ends_with_its_sum = record { by_job = record { answer = Each; allowed = (sym sum_found, refl); chosen = refl }; kept = tt }
 
-    ends_with_another_sum : ¬ IsAllowed flat_sums 2 (Ended (ended 3 1))
-    ends_with_another_sum is = of_answer is.0.answer is.0.allowed
+    ends_with_another_sum : ¬ IsAllowed flat_sums 2 (Ended (ended 3 1)) None
+    ends_with_another_sum is = of_answer is.by_job.answer is.by_job.allowed
       where
         of_answer : (answer : _) → flat_answer 2 1 (work_with 1 this.ins.value).found (Value 3 answer) → ⊥
         of_answer answer allowed = absurd (omega (arith, sum_found, allowed.0))
 
-    ends_with_an_edge_not_chosen : ¬ IsAllowed flat_sums 2 (Ended (record (ended 10 1) { gives = 0 ∷ [] }))
-    ends_with_an_edge_not_chosen is = let edges : ◌≡◌ {A = List ℕ} (0 ∷ []) [] = is.0.chosen ∙ ap (gives_of []) is.0.allowed.1 in absurd (cc)
+    ends_with_an_edge_not_chosen : ¬ IsAllowed flat_sums 2 (Ended (record (ended 10 1) { gives = 0 ∷ [] })) None
+    ends_with_an_edge_not_chosen is = let edges : ◌≡◌ {A = List ℕ} (0 ∷ []) [] = is.by_job.chosen ∙ ap (gives_of []) is.by_job.allowed.1 in absurd (cc)
 
-    ends_with_an_inner_run : ¬ IsAllowed flat_sums 2 (Ended (record (ended 10 1) { inner = true }))
-    ends_with_an_inner_run is = let no : true ≡ false = is.1 in absurd (cc)
+    inner_end_without_a_run : ¬ IsAllowed flat_sums 2 (Ended (record (ended 10 1) { inner = true })) None
+    inner_end_without_a_run is = is.by_job
 
-    faults_with_its_sum : IsAllowed flat_sums 2 (Faulted (failed (Long 10))) × ¬ IsAllowed flat_sums 2 (Faulted (failed (Long 3))) × ¬ IsAllowed flat_sums 2 (Faulted (failed Inner))
-    faults_with_its_sum = (sym sum_found, (λ is. absurd (omega (arith, sum_found, is))), λ is. is)
+    faults_with_its_sum : IsAllowed flat_sums 2 (Faulted (failed (Long 10))) None × ¬ IsAllowed flat_sums 2 (Faulted (failed (Long 3))) None × ¬ IsAllowed flat_sums 2 (Faulted (failed Inner)) None
+    faults_with_its_sum = (record { by_job = sym sum_found; kept = tt }, (λ is. absurd (omega (arith, sum_found, is.by_job))), λ is. is.by_job)
 
-    each_drop_is_allowed : IsAllowed mute 2 (Dropped dropped)
-    each_drop_is_allowed = tt
+    each_drop_is_allowed : IsAllowed mute 2 (Dropped dropped) None
+    each_drop_is_allowed = record { by_job = refl; kept = tt }
 
-    each_is_allowed : AreAllowed flat_sums 2 (Ended (ended 10 1) ∷ Dropped dropped ∷ [])
-    each_is_allowed = (ends_with_its_sum, (tt, tt))
+    -- With a run in place of its work: the run is of the job that the task answers, it may be kept, and what the start comes to
+    -- is what the run is gathered to.
+    module _ (run : FrameRun ℕ ℕ) where
+      abbrev inner_end : Fate ℕ
+      inner_end = Ended (record (ended 10 1) { gives = 1 ∷ []; inner = true })
 
-    second_is_not_allowed : ¬ AreAllowed flat_sums 2 (Dropped dropped ∷ Ended (ended 3 1) ∷ [])
-    second_is_not_allowed are = ends_with_another_sum are.1.0
+      ends_with_its_run : job_of run ≡ 10 → IsFine (journal_of run) → IsKept sums run → IsAllowed sums 2 inner_end (Some run)
+      ends_with_its_run job fine kept = record { by_job = record { answered = job ∙ sym sum_found; fine = fine; gathered = sym job; all_edges = refl }; kept = kept }
+
+      ends_with_a_run_cut_short : ¬ IsFine (journal_of run) → ¬ IsAllowed sums 2 inner_end (Some run)
+      ends_with_a_run_cut_short cut is = cut is.by_job.fine
+
+      ends_with_the_run_of_another_job : job_of run ≡ 3 → ¬ IsAllowed sums 2 inner_end (Some run)
+      ends_with_the_run_of_another_job job is = absurd (omega (arith, sum_found, job, is.by_job.answered))
+
+      ends_with_a_run_that_may_not_be_kept : ¬ IsKept sums run → ¬ IsAllowed sums 2 inner_end (Some run)
+      ends_with_a_run_that_may_not_be_kept never is = never is.kept
+
+      ends_as_its_work_beside_a_run : ¬ IsAllowed sums 2 (Ended (ended 10 1)) (Some run)
+      ends_as_its_work_beside_a_run is = is.by_job
+
+      faults_with_a_run_cut_short : job_of run ≡ 10 → ¬ IsFine (journal_of run) → IsKept sums run → IsAllowed sums 2 (Faulted (failed Inner)) (Some run)
+      faults_with_a_run_cut_short job cut kept = record { by_job = (job ∙ sym sum_found, cut); kept = kept }
+
+      faults_with_a_fine_run : IsFine (journal_of run) → ¬ IsAllowed sums 2 (Faulted (failed Inner)) (Some run)
+      faults_with_a_fine_run fine is = is.by_job.1 fine
+
+      drops_with_a_run : ¬ IsAllowed mute 2 (Dropped dropped) (Some run)
+      drops_with_a_run is = let none : ◌≡◌ {A = Option (FrameRun ℕ ℕ)} (Some run) None = is.by_job in absurd (cc)
+
+      run_at_its_end : placed_runs (record { fate = inner_end; run = Some run } ∷ record { fate = Dropped dropped; run = None } ∷ []) ≡ record { place = 3; run = run } ∷ []
+      run_at_its_end = refl
+
+    closing_places : (closing_place (Ended (ended 10 1)) ≡ 3) × (closing_place (Faulted (failed Inner)) ≡ 3) × (closing_place {V = ℕ} (Dropped dropped) ≡ 0)
+    closing_places = (refl, refl, refl)
+
+    -- a fate without a run
+    abbrev alone : Fate ℕ → FateWithRun ℕ ℕ
+    alone fate = record { fate = fate; run = None }
+
+    each_is_allowed : AreAllowed flat_sums 2 (Ended (ended 10 1) ∷ Dropped dropped ∷ []) []
+    each_is_allowed = record { turns = alone (Ended (ended 10 1)) ∷ alone (Dropped dropped) ∷ []; fates_are = refl; rows_are = refl; each = (ends_with_its_sum, (record { by_job = refl; kept = tt }, tt)) }
+
+    second_is_not_allowed : ¬ AreAllowed flat_sums 2 (Dropped dropped ∷ Ended (ended 3 1) ∷ []) []
+    second_is_not_allowed are = second are.turns are.fates_are are.each
+      where
+        another_sum : (run : Option (FrameRun ℕ ℕ)) → ¬ IsAllowed flat_sums 2 (Ended (ended 3 1)) run
+        another_sum None is = ends_with_another_sum is
+        another_sum (Some run) is = is.by_job
+
+        second_fate : List (Fate ℕ) → Fate ℕ
+        second_fate [] = Dropped dropped
+        second_fate (f ∷ []) = f
+        second_fate (f ∷ g ∷ more) = g
+
+        second : (turns : List (FateWithRun ℕ ℕ)) → map (λ (turn : FateWithRun ℕ ℕ). turn.fate) turns ≡ Dropped dropped ∷ Ended (ended 3 1) ∷ []
+            → AllByRecursion (λ (turn : FateWithRun ℕ ℕ). IsAllowed flat_sums 2 turn.fate turn.run) turns → ⊥
+        second [] same each = absurd (omega (arith, ap length same))
+        second (t ∷ []) same each = absurd (omega (arith, ap length same))
+        second (t ∷ u ∷ more) same each = another_sum u.run (subst (λ fate. IsAllowed flat_sums 2 fate u.run) (ap second_fate same) each.1.0)
 
     fate_of_its_release : IsFateOf 1 Strong (Ended (ended 10 1)) × IsFateOf 1 Strong (Faulted (failed (Long 10))) × IsFateOf {V = ℕ} 2 Source (Dropped dropped)
     fate_of_its_release = ((refl, refl), (refl, refl), (refl, refl))
@@ -376,8 +446,8 @@ module _ (n m : TableId) (other : m ≢ n) where
     fate_of_another_release = ((λ is. absurd (omega (arith, is.0))), (λ is. let no = is.1 in absurd (cc)), λ is. absurd (omega (arith, is.0)))
 
     -- a release becomes a Drop of its own, and not those of a rest
-    drops_of_a_rest : (drops : Vec Dropping Global) → IsAllowed mute 2 (AllDropped drops) × ¬ IsFateOf {V = ℕ} 2 Source (AllDropped drops) × (given_by {V = ℕ} (AllDropped drops) ≡ [])
-    drops_of_a_rest drops = (tt, (λ is. is), refl)
+    drops_of_a_rest : (drops : Vec Dropping Global) → IsAllowed mute 2 (AllDropped drops) None × ¬ IsFateOf {V = ℕ} 2 Source (AllDropped drops) × (given_by {V = ℕ} (AllDropped drops) ≡ [])
+    drops_of_a_rest drops = (record { by_job = refl; kept = tt }, (λ is. is), refl)
 
     edges_that_were_given : (given_by (Ended (record (ended 10 0) { gives = 0 ∷ [] })) ≡ 0 ∷ []) × (given_by (Faulted (failed (Long 10))) ≡ []) × (given_by {V = ℕ} (Dropped dropped) ≡ [])
     edges_that_were_given = (refl, refl, refl)
@@ -443,14 +513,18 @@ module _ (n m : TableId) (other : m ≢ n) where
   closes_the_inner_job : (run : FrameRun ℕ ℕ) → job_of run ≡ 9 → ¬ IsRootRun flat_sums inside run
   closes_the_inner_job run job is = let same : ◌≡◌ {A = Option ℕ} (Some 2) (Some 9) = is.job ∙ ap Some job in absurd (cc)
 
-  goes_on : (parked : Snapshot TurnState) → IsStateOf flat_sums own Went × ¬ IsStateOf flat_sums own (Parked parked) × ¬ IsStateOf flat_sums own HasInner
-  goes_on parked = (tt, (λ is. is), λ is. is)
+  goes_on : (parked : Snapshot TurnState) (releases : Vec (ReleaseView ℕ) Global) → IsStateOf flat_sums own Went × ¬ IsStateOf flat_sums own (Parked parked) × ¬ IsStateOf flat_sums own (HasInner releases) × ¬ IsStateOf flat_sums own (Resumed releases)
+  goes_on parked releases = (tt, (λ is. is), (λ is. is), λ is. is)
 
   gives_its_run_out : (run : FrameRun ℕ ℕ) → IsKept flat_sums run → job_of run ≡ 2 → IsStateOf flat_sums own (Closed run)
   gives_its_run_out run kept job = record { kept = kept; job = ap Some (sym job) }
 
-  closed_alone : (run : FrameRun ℕ ℕ) (parked : Snapshot TurnState) → IsClosed (Closed run) × ¬ IsClosed {J = ℕ} {V = ℕ} Went × ¬ IsClosed {J = ℕ} {V = ℕ} (Parked parked) × ¬ IsClosed {J = ℕ} {V = ℕ} HasInner
-  closed_alone run parked = (tt, (λ is. is), (λ is. is), λ is. is)
+  closed_alone : (run : FrameRun ℕ ℕ) (parked : Snapshot TurnState) (releases : Vec (ReleaseView ℕ) Global) → IsClosed (Closed run) × ¬ IsClosed {J = ℕ} {V = ℕ} Went × ¬ IsClosed {J = ℕ} {V = ℕ} (Parked parked) × ¬ IsClosed {J = ℕ} {V = ℕ} (HasInner releases)
+  closed_alone run parked releases = (tt, (λ is. is), (λ is. is), λ is. is)
+
+  -- A run is over where it is given out, and where its start is resumed.
+  over_and_not : (run : FrameRun ℕ ℕ) (parked : Snapshot TurnState) (releases : Vec (ReleaseView ℕ) Global) → IsOver (Closed run) × IsOver {J = ℕ} {V = ℕ} (Resumed releases) × ¬ IsOver {J = ℕ} {V = ℕ} Went × ¬ IsOver {J = ℕ} {V = ℕ} (Parked parked) × ¬ IsOver {J = ℕ} {V = ℕ} (HasInner releases)
+  over_and_not run parked releases = (tt, tt, (λ is. is), (λ is. is), λ is. is)
 
   -- ---- A beginning, a step and a bringing as a whole.
   abbrev both_released : List (FrameKey ℕ) → List (ReleaseView ℕ)
@@ -489,8 +563,8 @@ module _ (n m : TableId) (other : m ≢ n) where
     nothing_found : (2 + 0 + added (work_with 0 nothing.ins.value).found) ≡ 2
     nothing_found = ap (λ (got : List (Given ℕ)). 2 + 0 + added (map found_of got)) found
 
-    allowed : IsAllowed flat_sums 2 end_of_the_first
-    allowed = (record { answer = Each; allowed = (sym nothing_found, refl); chosen = refl }, refl)
+    allowed : IsAllowed flat_sums 2 end_of_the_first None
+    allowed = record { by_job = record { answer = Each; allowed = (sym nothing_found, refl); chosen = refl }; kept = tt }
 
     uses : Uses flat zeroth end_of_the_first [] (first ∷ [])
     uses = record { of = (refl, refl); makes = record { between = first ∷ []; gives = gives_its_edge.0; again = record { again = []; after_is = refl; is = inl refl } } }
@@ -507,6 +581,7 @@ module _ (n m : TableId) (other : m ≢ n) where
     uses_release : IsInJournal flat_sums 2 end_of_the_first → UsesRelease flat_sums key (release_in own zeroth) none_done first_done (first ∷ [])
     uses_release within = record {
       fate = end_of_the_first;
+      run = None;
       by_end = first ∷ [];
       allowed = allowed;
       journal = within;
@@ -524,7 +599,11 @@ module _ (n m : TableId) (other : m ≢ n) where
     fate_is meaning release made is = sym (ap (λ (b : BacklogView ℕ ℕ). first_fate b.fates) is.backlog)
 
     uses_it_as_its_work_may_not : (made : List FreshState) → ¬ UsesRelease mute key (release_in own zeroth) none_done first_done made
-    uses_it_as_its_work_may_not made is = (subst (IsAllowed mute 2) (fate_is mute (release_in own zeroth) made is) is.allowed).0.allowed
+    uses_it_as_its_work_may_not made is = never is.run (subst (λ fate. IsAllowed mute 2 fate is.run) (fate_is mute (release_in own zeroth) made is) is.allowed)
+      where
+        never : (run : Option (FrameRun ℕ ℕ)) → ¬ IsAllowed mute 2 end_of_the_first run
+        never None is = is.by_job.allowed
+        never (Some run) is = is.by_job
 
     uses_it_outside_of_a_journal : (made : List FreshState) → ¬ IsInJournal flat_sums 2 end_of_the_first → ¬ UsesRelease flat_sums key (release_in own zeroth) none_done first_done made
     uses_it_outside_of_a_journal made outside is = outside (subst (IsInJournal flat_sums 2) (fate_is flat_sums (release_in own zeroth) made is) is.journal)
@@ -535,8 +614,8 @@ module _ (n m : TableId) (other : m ≢ n) where
     uses_it_and_keeps_no_fate : (made : List FreshState) → ¬ UsesRelease flat_sums key (release_in own zeroth) none_done (backlog_view own []) made
     uses_it_and_keeps_no_fate made is = absurd (omega (arith, ap (λ (b : BacklogView ℕ ℕ). length b.fates) is.backlog))
 
-    steps_to_nothing_else : (made : List FreshState) (run : FrameRun ℕ ℕ) → ¬ StepsTo flat_sums key (release_in own zeroth) none_done first_done made HasInner × ¬ StepsTo flat_sums key (release_in own zeroth) none_done first_done made (Closed run)
-    steps_to_nothing_else made run = ((λ is. is), λ is. is)
+    steps_to_nothing_else : (made : List FreshState) (run : FrameRun ℕ ℕ) (releases : Vec (ReleaseView ℕ) Global) → ¬ StepsTo flat_sums key (release_in own zeroth) none_done first_done made (Resumed releases) × ¬ StepsTo flat_sums key (release_in own zeroth) none_done first_done made (Closed run)
+    steps_to_nothing_else made run releases = ((λ is. is), λ is. is)
 
     steps_on : IsInJournal flat_sums 2 end_of_the_first → StepsTo flat_sums key (release_in own zeroth) none_done first_done (first ∷ []) Went
     steps_on within = uses_release within
@@ -574,8 +653,48 @@ module _ (n m : TableId) (other : m ≢ n) where
         let frames = subst (All (λ (next : ReleaseView ℕ). next.frames ≡ own)) released is.frames in
         absurd (omega (arith, ap length (All-head (λ (next : ReleaseView ℕ). next.frames ≡ own) (release_in inside first) [] frames)))
 
-    steps_into_an_inner_run : (stepped : Stepped ℕ ℕ) (new : BacklogView ℕ ℕ) → stepped.state ≡ HasInner → ¬ StepsRelease flat_sums (release_in own zeroth) none_done new stepped
-    steps_into_an_inner_run stepped new inner is = subst (StepsTo flat_sums is.frame (release_in own zeroth) none_done new is.made) inner is.to
+    steps_into_a_run_that_is_not_answered : (stepped : Stepped ℕ ℕ) (new : BacklogView ℕ ℕ) (releases : Vec (ReleaseView ℕ) Global) → stepped.state ≡ HasInner releases → ¬ StepsRelease flat_sums (release_in own zeroth) none_done new stepped
+    steps_into_a_run_that_is_not_answered stepped new releases inner is = (subst (StepsTo flat_sums is.frame (release_in own zeroth) none_done new is.made) inner is.to).answered
+
+  -- ---- A run in place of a task's work. Task 1 found the value 7 and answers the job 10, whose one source is task 0.
+  module _ (seven : Arc ℕ Global) (ins : Ins ℕ) (found : parts_of ins ≡ given.Value 1 (arc_with_value seven 7) ∷ []) where
+    abbrev opened : FrameKey ℕ
+    opened = record { table = m; job = 10 }
+
+    abbrev first_inside : List (ReleaseView ℕ)
+    first_inside = release_in (opened ∷ own) (fresh_state m 0 Source) ∷ []
+
+    abbrev opens : BacklogView ℕ ℕ → List (ReleaseView ℕ) → Type 0
+    opens new releases = OpensInner sums key own_release (backlog_view own []) new [] releases
+
+    ten_answered : 10 ≡ 2 + 1 + added (map found_of (parts_of ins))
+    ten_answered = sym (ap (λ (got : List (Given ℕ)). 2 + 1 + added (map found_of got)) found)
+
+    opens_a_run : AreInOneJournal line 4 (with_places (start_of 2 1 Strong (parts_in ins) ∷ [])) → opens (backlog_view own []) first_inside
+    opens_a_run stands = record {
+      place = 2;
+      ins = ins;
+      journal = stands;
+      inner = opened;
+      answered = ten_answered;
+      first_are = refl;
+      some = λ none. absurd (omega (arith, ap length none));
+      again = record { again = []; after_is = refl; is = inl refl };
+      backlog = refl;
+    }
+
+    opens_a_run_with_nothing_to_do : (new : BacklogView ℕ ℕ) → ¬ opens new []
+    opens_a_run_with_nothing_to_do new is = is.some refl
+
+    opens_a_run_and_adds_a_fate : (fate : Fate ℕ) → ¬ opens (backlog_view own (fate ∷ [])) first_inside
+    opens_a_run_and_adds_a_fate fate is = absurd (omega (arith, ap (λ (b : BacklogView ℕ ℕ). length b.fates) is.backlog))
+
+    opens_a_run_without_its_source : (new : BacklogView ℕ ℕ) → ¬ opens new (release_in (opened ∷ own) (fresh_state m 1 Source) ∷ [])
+    opens_a_run_without_its_source new is = absurd (omega (arith, ap first_task is.first_are))
+      where
+        first_task : List (ReleaseView ℕ) → ℕ
+        first_task [] = 0
+        first_task (r ∷ more) = r.task
 
   -- ---- Units. Task 0 takes semaphore 0 and puts 1, and task 1 takes 1.
   units_of_each : (units_of shares 0 ≡ 0 ∷ 1 ∷ []) × (units_of shares 1 ≡ 1 ∷ []) × (units_of shares 2 ≡ [])
@@ -592,8 +711,9 @@ module _ (n m : TableId) (other : m ≢ n) where
     uses_and_wakes : IsInJournal share_sums 2 (Dropped d) → UsesRelease share_sums key (release_in own zeroth) (backlog_view [] []) drop_done (taker ∷ [])
     uses_and_wakes within = record {
       fate = Dropped d;
+      run = None;
       by_end = [];
-      allowed = tt;
+      allowed = record { by_job = refl; kept = tt };
       journal = within;
       uses = record { of = its; makes = record { between = []; gives = record { more = []; after_is = refl; made = tt }; again = record { again = []; after_is = refl; is = inl refl } } };
       wakes = record { woken = taker ∷ []; after_is = refl; waited = All-from_recursion (WaitedFor (table_in share_sums key) (0 ∷ 1 ∷ [])) (taker ∷ []) (record { table_is = refl; takes = refl }, tt); few = omega arith };
@@ -760,33 +880,65 @@ module _ (n m : TableId) (other : m ≢ n) where
     abbrev keeper_that_found : ℕ → KeeperState ℕ
     keeper_that_found k = keeper_state n (fate ∷ []) (k ∷ before)
 
-    goes_on_before_the_last : TakesIn own (fate ∷ []) Went (keeper_that_found 2)
-    goes_on_before_the_last = record { table = refl; earlier = []; fates_are = refl; before = before; found = (refl, (λ closed. absurd closed, λ two. absurd (omega (arith, two)))) }
+    goes_on_before_the_last : TakesIn own (fate ∷ []) ⊥ (keeper_that_found 2)
+    goes_on_before_the_last = record { table = refl; earlier = []; fates_are = refl; before = before; found = (refl, (λ over. absurd over, λ two. absurd (omega (arith, two)))) }
 
-    goes_on_after_the_last : ¬ TakesIn own (fate ∷ []) Went (keeper_that_found 1)
+    goes_on_after_the_last : ¬ TakesIn own (fate ∷ []) ⊥ (keeper_that_found 1)
     goes_on_after_the_last is = is.found.1.1 refl
 
-    closes_before_the_last : (run : FrameRun ℕ ℕ) → ¬ TakesIn own (fate ∷ []) (Closed run) (keeper_that_found 2)
-    closes_before_the_last run is = absurd (omega (arith, is.found.1.0 tt))
+    over_before_the_last : ¬ TakesIn own (fate ∷ []) (Unit {0}) (keeper_that_found 2)
+    over_before_the_last is = absurd (omega (arith, is.found.1.0 tt))
 
-    taken_in_by_another_keeper : ¬ TakesIn inside (fate ∷ []) Went (keeper_that_found 2)
+    taken_in_by_another_keeper : ¬ TakesIn inside (fate ∷ []) ⊥ (keeper_that_found 2)
     taken_in_by_another_keeper is = other (sym is.table)
 
-    not_taken_in : ¬ TakesIn own (fate ∷ []) Went (keeper_state n [] (2 ∷ before))
+    not_taken_in : ¬ TakesIn own (fate ∷ []) ⊥ (keeper_state n [] (2 ∷ before))
     not_taken_in is = by_earlier is.earlier is.fates_are
       where
         by_earlier : (earlier : List (Fate ℕ)) → [] ≡ earlier ++ fate ∷ [] → ⊥
         by_earlier [] same = absurd (cc)
         by_earlier (first_of ∷ more) same = absurd (cc)
 
-    nothing_to_take_in : MayTakeIn {J = ℕ} {V = ℕ} own [] Went None × ¬ MayTakeIn {J = ℕ} {V = ℕ} own (fate ∷ []) Went None
-    nothing_to_take_in = ((refl, refl), λ is. let none = is.0 in absurd (cc))
+    nothing_to_take_in : MayTakeIn {J = ℕ} {V = ℕ} own [] ⊥ None × ¬ MayTakeIn {J = ℕ} {V = ℕ} own (fate ∷ []) ⊥ None × ¬ MayTakeIn {J = ℕ} {V = ℕ} own [] (Unit {0}) None
+    nothing_to_take_in = ((refl, λ over. over), (λ is. let none = is.0 in absurd (cc)), λ is. is.1 tt)
 
-  open_without_an_entry : (d : Dropping) (parked : Snapshot TurnState) → HasEntriesOf {J = ℕ} {V = ℕ} Went (Dropped d ∷ []) × HasEntriesOf {J = ℕ} {V = ℕ} (Parked parked) (Dropped d ∷ []) × HasEntriesOf {J = ℕ} {V = ℕ} HasInner (Dropped d ∷ [])
-  open_without_an_entry d parked = (tt, tt, tt)
+    -- A bringing that failed leaves the backlog as it was, or empty: then it is of its frame, of the one around, or of none.
+    leaves_what_was : IsLeftOf {J = ℕ} {V = ℕ} (backlog_view inside (fate ∷ [])) (backlog_view inside (fate ∷ []))
+    leaves_what_was = inl refl
 
-  closed_without_an_entry : (d : Dropping) (run : FrameRun ℕ ℕ) → journal_of run ≡ [] → ¬ HasEntriesOf (Closed run) (Dropped d ∷ [])
-  closed_without_an_entry d run none has = let got = subst (λ (h : List Entry). slice_get h d.place ≡ Some (drop_of d).entry) none has.0 in absurd (cc)
+    leaves_nothing_of_a_frame : IsLeftOf {J = ℕ} {V = ℕ} (backlog_view inside (fate ∷ [])) (backlog_view own []) × IsLeftOf {J = ℕ} {V = ℕ} (backlog_view inside (fate ∷ [])) (backlog_view [] [])
+    leaves_nothing_of_a_frame = (inr (refl, inr (inl refl)), inr (refl, inr (inr refl)))
 
-  brings_and_closes_the_inner_job : (brought : Brought ℕ ℕ) (run : FrameRun ℕ ℕ) → brought.state ≡ Closed run → job_of run ≡ 9 → ¬ BringsFates flat_sums inside [] brought
-  brings_and_closes_the_inner_job brought run closed job is = closes_the_inner_job run job (subst (IsStateOf flat_sums inside) closed is.state)
+    leaves_fates_to_another_frame : ¬ IsLeftOf {J = ℕ} {V = ℕ} (backlog_view inside (fate ∷ [])) (backlog_view own (fate ∷ []))
+    leaves_fates_to_another_frame (inl same) = absurd (omega (arith, ap (λ (b : BacklogView ℕ ℕ). length b.frames) same))
+    leaves_fates_to_another_frame (inr left) = let none = left.0 in absurd (cc)
+
+    leaves_nothing_of_a_frame_inside : ¬ IsFrameOf {J = ℕ} own inside
+    leaves_nothing_of_a_frame_inside (inl same) = absurd (omega (arith, ap length same))
+    leaves_nothing_of_a_frame_inside (inr (inl same)) = absurd (omega (arith, ap length same))
+    leaves_nothing_of_a_frame_inside (inr (inr same)) = absurd (omega (arith, ap length same))
+
+    nothing_of_no_frame : IsFrameOf {J = ℕ} [] [] × ¬ IsFrameOf {J = ℕ} [] own
+    nothing_of_no_frame = (refl, λ is. absurd (omega (arith, ap length is)))
+
+  -- What a run was brought has to be in its journal.
+  entry_missing : (d : Dropping) (run : FrameRun ℕ ℕ) → journal_of run ≡ [] → ¬ HasEntries run (Dropped d ∷ [])
+  entry_missing d run none has = let got = subst (λ (h : List Entry). slice_get h d.place ≡ Some (drop_of d).entry) none has.0 in absurd (cc)
+
+  brings_to : (parked : Snapshot TurnState) (releases : Vec (ReleaseView ℕ) Global) → BringsTo {V = ℕ} flat_sums own [] (backlog_view own []) Went × ¬ BringsTo {V = ℕ} flat_sums own [] (backlog_view inside []) Went
+      × ¬ BringsTo {V = ℕ} flat_sums own [] (backlog_view own []) (Parked parked) × ¬ BringsTo {V = ℕ} flat_sums own [] (backlog_view own []) (HasInner releases)
+  brings_to parked releases = (refl, (λ is. absurd (omega (arith, ap (λ (b : BacklogView ℕ ℕ). length b.frames) is))), (λ is. is), λ is. is)
+
+  brings_and_closes_the_inner_job : (brought : Brought ℕ ℕ) (new : BacklogView ℕ ℕ) (run : FrameRun ℕ ℕ) → brought.state ≡ Closed run → job_of run ≡ 9 → ¬ BringsFates flat_sums inside [] new brought
+  brings_and_closes_the_inner_job brought new run closed job is = closes_the_inner_job run job (subst (BringsTo flat_sums inside [] new) closed is.to).0
+
+  -- No start is resumed of a frame that is in no other, nor of one whose run has another job.
+  resumes_outermost : (released : List (ReleaseView ℕ)) (new : BacklogView ℕ ℕ) → ¬ ResumesStart flat_sums own [] released new
+  resumes_outermost released new is = absurd (omega (arith, ap length is.frames_are))
+
+  resumes_with_another_run : (released : List (ReleaseView ℕ)) (new : BacklogView ℕ ℕ) → (is : ResumesStart flat_sums inside [] released new) → job_of is.run ≡ 9
+  resumes_with_another_run released new is = is.job ∙ sym (ap job_of_first is.frames_are)
+    where
+      job_of_first : List (FrameKey ℕ) → ℕ
+      job_of_first [] = 0
+      job_of_first (frame ∷ around) = frame.job

@@ -3,17 +3,18 @@ use Rattle.std.proofs.Common.{◌≡◌, ℕ, true, List, [], ◌∷◌, map, le
 use Rattle.std.specs.Prelude.{is_some, replicate}
 use Rattle.serde_json.specs.Data.{Data, Members, string, number, unsigned, array, object, no_members, member}
 use Rattle.serde_json.specs.View.{items_of}
-use Rattle.graph_plans.specs.declared.ops.Op.TheVariants.{Input, Text, Match, Back, IfMore, IfHas, Route}
+use Rattle.graph_plans.specs.declared.ops.Op.TheVariants.{Input, Text, Match, Back, IfMore, IfHas, Route, Spread}
 use Rattle.graph_plans.specs.declared.ops.TextOp.TheVariants.{Pass, Keep, Without, Head, Tail, Skip, Sort, Uniq, Count, Tally}
-use Rattle.graph_plans.specs.declared.spots.Spot.TheVariants.{File, Sem, Task}
+use Rattle.graph_plans.specs.declared.spots.Spot.TheVariants.{File, Sem, Task, Module, ModuleSem, ModuleTask}
 use Rattle.graph_file.specs.declared.refusals.GraphError.{GraphError}
 use Rattle.graph_file.specs.declared.refusals.GraphError.TheVariants.{NotJson, BadField, NoSuchName, TooMany}
 use Rattle.graph_file.specs.declared.refusals.Kind.TheVariants as kind
 use Rattle.std.specs.Str.{is_utf8, chars}
 use lib.Utf8.{encode}
-use Rattle.graph_file.specs.Contents.{is_name_byte, objects_of, empty_list_of, name_of, name_list_of, text_name_of, word_of, words_of}
-use Rattle.graph_file.specs.OpRows.{FileOpRow, WithFields, reads, does, op_rows, text_rows, op_in}
-use Rattle.graph_file.specs.PlanText.{DraftRows, empty_draft, with_semaphore, with_task_text, add_semaphore, add_task, draft_in, within_limits, plan_in, json_in}
+use Rattle.graph_file.specs.Contents.{is_name_byte, objects_of, name_of, name_list_of, text_name_of, word_of, words_of}
+use Rattle.graph_file.specs.declared.scopes.Scope.TheVariants.{Top, Module as OfModule}
+use Rattle.graph_file.specs.OpRows.{FileOpRow, WithFields, reads, runs, does, op_rows, text_rows, op_in, each_in, spread_in, text_op_in}
+use Rattle.graph_file.specs.PlanText.{Counts, DraftRows, FileNumbers, FileRows, TaskText, add_module, add_semaphore, add_task, empty_draft, file_counts, file_in, graph_in, json_in, module_in, plan_in, with_semaphore, with_task_text, within_counts, within_limits}
 
 abbrev a : List ℕ
 a = codes "a"
@@ -39,9 +40,6 @@ lists_of_names = (refl, refl, refl)
 
 lists_of_objects : (objects_of (list_data (object no_members ∷ [])) ≡ Some (object no_members ∷ [])) × (objects_of (list_data (object no_members ∷ seven ∷ [])) ≡ None) × (objects_of (object no_members) ≡ None)
 lists_of_objects = (refl, refl, refl)
-
-lists_without_items : (empty_list_of (list_data []) ≡ Some []) × (empty_list_of (list_data (seven ∷ [])) ≡ None) × (empty_list_of seven ≡ None)
-lists_without_items = (refl, refl, refl)
 
 names_of_texts : (text_name_of (string a) ≡ Some a) × (text_name_of (string []) ≡ None) × (text_name_of seven ≡ None)
 unfolding is_utf8 chars encode
@@ -110,6 +108,36 @@ operations_with_a_number :
 unfolding op_rows text_rows
 operations_with_a_number = (refl, refl, refl, refl)
 
+-- ---- operations that run graphs
+
+module_by_its_name : (op_in op_rows (Task 0) (naming (codes "module") (member (codes "module") (string []) no_members)) ≡ found (runs []) (codes "module" ∷ [])) × (op_in op_rows (Task 2) (naming (codes "module") (member (codes "module") seven no_members)) ≡ Err (BadField (Task 2) (codes "module")))
+unfolding op_rows text_rows
+module_by_its_name = (refl, refl)
+
+abbrev counts : Data
+counts = object (member (codes "op") (string (codes "count")) no_members)
+
+-- an operation on one text, and nothing else
+operation_as_an_object : (text_op_in (Task 2) counts ≡ Ok Count) × (text_op_in (Task 2) (naming (codes "head") with_number) ≡ Ok (Head 7)) × (text_op_in (Task 2) (naming (codes "count") with_number) ≡ Err (BadField (Task 2) (codes "n"))) × (text_op_in (Task 2) (naming (codes "match") no_members) ≡ Err (BadField (Task 2) (codes "op")))
+unfolding text_rows
+operation_as_an_object = (refl, refl, refl, refl)
+
+operation_on_each_part : (each_in (Task 2) (object (member (codes "each") counts no_members)) ≡ Ok Count) × (each_in (Task 2) (object no_members) ≡ Err (BadField (Task 2) (codes "each"))) × (each_in (Task 2) (object (member (codes "each") (naming (codes "count") with_number) no_members)) ≡ Err (BadField (Task 2) (codes "each")))
+unfolding text_rows
+operation_on_each_part = (refl, refl, refl)
+
+-- what is spread, with this number of lines and these fields besides
+abbrev parts : ℕ → Members → Data
+parts n more = naming (codes "spread") (member (codes "n") (number (unsigned n)) more)
+
+parts_of_lines : (spread_in (Task 2) (parts 1 (member (codes "each") counts no_members)) ≡ Ok (Spread 1 Count)) × (spread_in (Task 2) (parts 0 no_members) ≡ Err (BadField (Task 2) (codes "n"))) × (spread_in (Task 2) (parts 1 no_members) ≡ Err (BadField (Task 2) (codes "each")))
+unfolding text_rows
+parts_of_lines = (refl, refl, refl)
+
+parts_with_their_fields : op_in op_rows (Task 2) (parts 7 (member (codes "each") counts no_members)) ≡ found (does (Spread 7 Count)) (codes "n" ∷ codes "each" ∷ [])
+unfolding op_rows text_rows
+parts_with_their_fields = refl
+
 operations_refused :
     (op_in op_rows (Task 2) (naming (codes "sorted") no_members) ≡ Err (BadField (Task 2) (codes "op")))
     × (op_in op_rows (Task 2) (object no_members) ≡ Err (BadField (Task 2) (codes "op")))
@@ -126,7 +154,7 @@ operations_refused = (refl, refl, refl, refl, refl, refl, refl, refl)
 
 -- one task was read before, in a file of this version
 abbrev before : ℕ → DraftRows
-before version = record (empty_draft version) { tasks = record { name = b; to = []; takes = []; puts = [] } ∷ []; ops = Match ∷ [] }
+before version = with_task_text (empty_draft Top version []) (record { names = record { name = b; to = []; takes = []; puts = [] }; op = does Match })
 
 -- the task `a`, which sorts, with these fields besides
 abbrev sorting : Members → Data
@@ -134,7 +162,7 @@ sorting more = object (member (codes "name") (string a) (member (codes "op") (st
 
 -- and these names
 abbrev sorts : List (List ℕ) → List (List ℕ) → List (List ℕ) → DraftRows → DraftRows
-sorts to takes puts draft = with_task_text draft (record { name = a; to = to; takes = takes; puts = puts }) (does (Text Sort))
+sorts to takes puts draft = with_task_text draft (record { names = record { name = a; to = to; takes = takes; puts = puts }; op = does (Text Sort) })
 
 abbrev names : List (List ℕ) → Data
 names items = array (items_of (map string items))
@@ -183,9 +211,9 @@ limited max more = object (member (codes "max") max (member (codes "name") (stri
 
 -- the first semaphore of a file
 abbrev added : Data → Result DraftRows GraphError
-added d = add_semaphore (empty_draft 2) d
+added d = add_semaphore (empty_draft Top 2 []) d
 
-semaphore_read : (added (limited seven no_members) ≡ Ok (with_semaphore (empty_draft 2) a 7)) × (added (limited (number (unsigned 1000000)) no_members) ≡ Ok (with_semaphore (empty_draft 2) a 1000000))
+semaphore_read : (added (limited seven no_members) ≡ Ok (with_semaphore (empty_draft Top 2 []) a 7)) × (added (limited (number (unsigned 1000000)) no_members) ≡ Ok (with_semaphore (empty_draft Top 2 []) a 1000000))
 unfolding is_name_byte
 semaphore_read = (refl, refl)
 
@@ -195,7 +223,7 @@ fields_of_semaphores_refused :
     × (added (limited (number (unsigned 0)) no_members) ≡ Err (BadField (Sem 0) (codes "max")))
     × (added (limited (number (unsigned 1000001)) no_members) ≡ Err (BadField (Sem 0) (codes "max")))
     × (added (limited seven (member (codes "to") seven no_members)) ≡ Err (BadField (Sem 0) (codes "to")))
-    × (add_semaphore (with_semaphore (empty_draft 2) b 1) seven ≡ Err (BadField (Sem 1) (codes "name")))
+    × (add_semaphore (with_semaphore (empty_draft Top 2 []) b 1) seven ≡ Err (BadField (Sem 1) (codes "name")))
 unfolding is_name_byte
 fields_of_semaphores_refused = (refl, refl, refl, refl, refl, refl)
 
@@ -208,29 +236,66 @@ holding tasks more = object (member (codes "tasks") (list_data tasks) more)
 abbrev one : Data
 one = sorting no_members
 
-file_read : draft_in (holding (one ∷ one ∷ []) no_members) ≡ Ok (sorts [] [] [] (sorts [] [] [] (empty_draft 1)))
+-- the graphs of a file without modules
+abbrev alone : DraftRows → Result FileRows GraphError
+alone top = Ok (record { top = top; modules = [] })
+
+graph_read : graph_in (empty_draft (OfModule 3) 2 b) (limited seven no_members ∷ []) (one ∷ []) ≡ Ok (sorts [] [] [] (with_semaphore (empty_draft (OfModule 3) 2 b) a 7))
+unfolding op_rows text_rows is_name_byte
+graph_read = refl
+
+semaphores_before_tasks : (graph_in (empty_draft (OfModule 3) 2 b) (seven ∷ []) (seven ∷ []) ≡ Err (BadField (ModuleSem 3 0) (codes "name"))) × (graph_in (empty_draft (OfModule 3) 2 b) [] (seven ∷ []) ≡ Err (BadField (ModuleTask 3 0) (codes "name")))
+semaphores_before_tasks = (refl, refl)
+
+-- a module `a` with these fields besides
+abbrev module_object : Members → Data
+module_object more = object (member (codes "name") (string a) more)
+
+module_read : module_in (OfModule 3) 2 (module_object (member (codes "tasks") (list_data (one ∷ [])) no_members)) ≡ Ok (sorts [] [] [] (empty_draft (OfModule 3) 2 a))
+unfolding op_rows text_rows is_name_byte
+module_read = refl
+
+fields_of_modules_refused :
+    (module_in (OfModule 3) 2 (object (member (codes "tasks") seven no_members)) ≡ Err (BadField (Module 3) (codes "name")))
+    × (module_in (OfModule 3) 2 (module_object (member (codes "semaphores") seven no_members)) ≡ Err (BadField (Module 3) (codes "tasks")))
+    × (module_in (OfModule 3) 2 (module_object (member (codes "tasks") (list_data (seven ∷ [])) no_members)) ≡ Err (BadField (Module 3) (codes "tasks")))
+    × (module_in (OfModule 3) 2 (module_object (member (codes "tasks") (list_data []) (member (codes "semaphores") seven (member (codes "modules") seven no_members)))) ≡ Err (BadField (Module 3) (codes "semaphores")))
+    × (module_in (OfModule 3) 2 (module_object (member (codes "tasks") (list_data (object no_members ∷ [])) (member (codes "modules") seven no_members))) ≡ Err (BadField (Module 3) (codes "modules")))
+unfolding is_name_byte
+fields_of_modules_refused = (refl, refl, refl, refl, refl)
+
+module_more : add_module 2 (empty_draft (OfModule 0) 2 b ∷ []) (module_object (member (codes "tasks") (list_data []) no_members)) ≡ Ok (empty_draft (OfModule 0) 2 b ∷ empty_draft (OfModule 1) 2 a ∷ [])
+unfolding is_name_byte
+module_more = refl
+
+file_read : file_in (holding (one ∷ one ∷ []) no_members) ≡ alone (sorts [] [] [] (sorts [] [] [] (empty_draft Top 1 [])))
 unfolding op_rows text_rows is_name_byte
 file_read = refl
 
-file_with_a_semaphore : draft_in (holding (one ∷ []) (member (codes "version") (number (unsigned 2)) (member (codes "semaphores") (list_data (limited seven no_members ∷ [])) no_members))) ≡ Ok (sorts [] [] [] (with_semaphore (empty_draft 2) a 7))
+file_with_a_semaphore : file_in (holding (one ∷ []) (member (codes "version") (number (unsigned 2)) (member (codes "semaphores") (list_data (limited seven no_members ∷ [])) no_members))) ≡ alone (sorts [] [] [] (with_semaphore (empty_draft Top 2 []) a 7))
 unfolding op_rows text_rows is_name_byte
 file_with_a_semaphore = refl
 
-fields_of_files : draft_in (holding [] (member (codes "version") (number (unsigned 1)) (member (codes "semaphores") (list_data []) (member (codes "modules") (list_data []) no_members)))) ≡ Ok (empty_draft 1)
+file_with_a_module : file_in (holding [] (member (codes "modules") (list_data (module_object (member (codes "tasks") (list_data (one ∷ [])) no_members) ∷ [])) no_members)) ≡ Ok (record { top = empty_draft Top 1 []; modules = sorts [] [] [] (empty_draft (OfModule 0) 1 a) ∷ [] })
+unfolding op_rows text_rows is_name_byte
+file_with_a_module = refl
+
+fields_of_files : file_in (holding [] (member (codes "version") (number (unsigned 1)) (member (codes "semaphores") (list_data []) (member (codes "modules") (list_data []) no_members)))) ≡ alone (empty_draft Top 1 [])
 fields_of_files = refl
 
 fields_of_files_refused :
-    (draft_in (object (member (codes "version") (number (unsigned 3)) (member (codes "tasks") seven no_members))) ≡ Err (BadField File (codes "version")))
-    × (draft_in (object (member (codes "version") (number (unsigned 0)) (member (codes "tasks") seven no_members))) ≡ Err (BadField File (codes "version")))
-    × (draft_in seven ≡ Err (BadField File (codes "tasks")))
-    × (draft_in (object no_members) ≡ Err (BadField File (codes "tasks")))
-    × (draft_in (holding (seven ∷ []) no_members) ≡ Err (BadField File (codes "tasks")))
-    × (draft_in (holding [] (member (codes "semaphores") (list_data (seven ∷ [])) (member (codes "modules") seven no_members))) ≡ Err (BadField File (codes "semaphores")))
-    × (draft_in (holding [] (member (codes "modules") (list_data (seven ∷ [])) (member (codes "more") seven no_members))) ≡ Err (BadField File (codes "modules")))
-    × (draft_in (holding (object no_members ∷ []) (member (codes "more") seven no_members)) ≡ Err (BadField File (codes "more")))
-    × (draft_in (holding (object no_members ∷ []) (member (codes "semaphores") (list_data (object no_members ∷ [])) no_members)) ≡ Err (BadField (Sem 0) (codes "name")))
-    × (draft_in (holding (object no_members ∷ []) no_members) ≡ Err (BadField (Task 0) (codes "name")))
-fields_of_files_refused = (refl, refl, refl, refl, refl, refl, refl, refl, refl, refl)
+    (file_in (object (member (codes "version") (number (unsigned 3)) (member (codes "tasks") seven no_members))) ≡ Err (BadField File (codes "version")))
+    × (file_in (object (member (codes "version") (number (unsigned 0)) (member (codes "tasks") seven no_members))) ≡ Err (BadField File (codes "version")))
+    × (file_in seven ≡ Err (BadField File (codes "tasks")))
+    × (file_in (object no_members) ≡ Err (BadField File (codes "tasks")))
+    × (file_in (holding (seven ∷ []) no_members) ≡ Err (BadField File (codes "tasks")))
+    × (file_in (holding [] (member (codes "semaphores") (list_data (seven ∷ [])) (member (codes "modules") seven no_members))) ≡ Err (BadField File (codes "semaphores")))
+    × (file_in (holding [] (member (codes "modules") (list_data (seven ∷ [])) (member (codes "more") seven no_members))) ≡ Err (BadField File (codes "modules")))
+    × (file_in (holding (object no_members ∷ []) (member (codes "more") seven no_members)) ≡ Err (BadField File (codes "more")))
+    × (file_in (holding (object no_members ∷ []) (member (codes "semaphores") (list_data (object no_members ∷ [])) no_members)) ≡ Err (BadField (Sem 0) (codes "name")))
+    × (file_in (holding (object no_members ∷ []) (member (codes "modules") (list_data (object no_members ∷ [])) no_members)) ≡ Err (BadField (Task 0) (codes "name")))
+    × (file_in (holding [] (member (codes "modules") (list_data (object no_members ∷ [])) no_members)) ≡ Err (BadField (Module 0) (codes "name")))
+fields_of_files_refused = (refl, refl, refl, refl, refl, refl, refl, refl, refl, refl, refl)
 
 -- fields before names
 field_before_a_name : plan_in (holding (sorting (member (codes "to") (list_data (string b ∷ [])) no_members) ∷ object no_members ∷ []) no_members) ≡ Err (BadField (Task 1) (codes "name"))
@@ -243,22 +308,22 @@ name_that_is_not_there = refl
 
 -- ---- limits
 
--- a draft with lists of these lengths
-module _ (draft : DraftRows) where
-  at_each_limit : length draft.tasks ≡ 10000 → length draft.sems ≡ 256 → length draft.texts ≡ 1024 → within_limits draft 100000 ≡ Ok tt
-  at_each_limit tasks sems texts = rw (tasks, sems, texts) refl
+-- a top graph and a module with lists of these lengths
+module _ (top inner : DraftRows) where
+  abbrev two : FileRows
+  two = record { top = top; modules = inner ∷ [] }
 
-  a_task_too_many : (edges : ℕ) → length draft.tasks ≡ 10001 → within_limits draft edges ≡ Err (TooMany kind.Tasks)
-  a_task_too_many edges tasks = rw tasks refl
+  abbrev no_edges : FileNumbers
+  no_edges = record { top = []; modules = [] ∷ [] }
 
-  an_edge_too_many : length draft.tasks ≡ 10000 → within_limits draft 100001 ≡ Err (TooMany kind.Edges)
-  an_edge_too_many tasks = rw tasks refl
+  at_each_limit : length top.tasks ≡ 9000 → length inner.tasks ≡ 1000 → length top.sems ≡ 200 → length inner.sems ≡ 56 → within_counts two no_edges ≡ Ok tt
+  at_each_limit tasks inner_tasks sems inner_sems = rw (tasks, inner_tasks, sems, inner_sems) refl
 
-  a_semaphore_too_many : length draft.tasks ≡ 10000 → length draft.sems ≡ 257 → within_limits draft 100000 ≡ Err (TooMany kind.Semaphores)
-  a_semaphore_too_many tasks sems = rw (tasks, sems) refl
+  a_task_too_many : length top.tasks ≡ 9000 → length inner.tasks ≡ 1001 → within_counts two no_edges ≡ Err (TooMany kind.Tasks)
+  a_task_too_many tasks inner_tasks = rw (tasks, inner_tasks) refl
 
-  a_text_too_many : length draft.tasks ≡ 10000 → length draft.sems ≡ 256 → length draft.texts ≡ 1025 → within_limits draft 100000 ≡ Err (TooMany kind.Texts)
-  a_text_too_many tasks sems texts = rw (tasks, sems, texts) refl
+  a_semaphore_too_many : length top.tasks ≡ 9000 → length inner.tasks ≡ 1000 → length top.sems ≡ 200 → length inner.sems ≡ 57 → within_counts two no_edges ≡ Err (TooMany kind.Semaphores)
+  a_semaphore_too_many tasks inner_tasks sems inner_sems = rw (tasks, inner_tasks, sems, inner_sems) refl
 
 -- ---- bytes
 

@@ -10,11 +10,11 @@ use Rattle.journal_rules.specs.declared.entry.Why.TheVariants.{Inner}
 use Rattle.journal_rules.specs.declared.entry.DropWhy.TheVariants.{Halted, Limit, Stuck}
 use Rattle.journal_rules.specs.declared.entry.Entry.{Entry}
 use Rattle.journal_rules.specs.declared.entry.Entry.TheVariants.{Start, End, Fault, Drop}
-use Rattle.legal_run.specs.declared.ready.ReadyRelease.{ReadyRelease}
+use Rattle.net_machine.specs.declared.ready.ReadyRelease.{ReadyRelease}
 use Rattle.legal_run.specs.declared.verdict.Break.TheVariants.{NoSuch, AfterStuck, NotReleased, OverUnits, OverLimit, NotOpen, NotChosen, NothingOut, NotOver, NotHalted, NotStuck}
 use Rattle.legal_run.specs.declared.verdict.Verdict.TheVariants.{Complete as Finished, Legal, Breaks as BreaksAt}
 use Rattle.journal_rules.specs.Complete.{Complete}
-use Rattle.legal_run.specs.Ready.{ready_list}
+use Rattle.net_machine.specs.Ready.{ready_list}
 use Rattle.journal_rules.specs.TimesLeft.{times_left}
 use Rattle.journal_rules.specs.Waiting.{waiting, waiting_parts, waiting_after}
 use Rattle.legal_run.specs.Refusal.{StartsWithoutUnit, StartsAtLimit, EndsWithNothingOut, DropsWithoutCause, is_halted_why, rank, IsRefusal}

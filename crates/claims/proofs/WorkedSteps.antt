@@ -13,11 +13,11 @@ use Rattle.journal_rules.specs.declared.entry.Entry.{Entry}
 use Rattle.journal_rules.specs.declared.entry.Entry.TheVariants.{Start, End, Fault, Drop}
 use Rattle.journal_rules.specs.DataRule.{MayFind}
 use Rattle.journal_rules.specs.ShapeLegal.{MayFollow}
-use Rattle.legal_run.specs.declared.machine_error.MachineError.TheVariants as error
+use Rattle.net_machine.specs.declared.machine_error.MachineError.TheVariants as error
 use Rattle.legal_run.specs.declared.verdict.Break.TheVariants.{NoSuch, AfterStuck, NotReleased, OverUnits, OverLimit, NotOpen, NotChosen, NothingOut, NotOver, NotHalted, NotStuck}
 use Rattle.legal_run.specs.declared.verdict.Verdict.TheVariants.{Breaks as BreaksAt}
 use Rattle.legal_run.specs.MachineState.{MachineState}
-use Rattle.legal_run.specs.Machine.{Appends, start_entry, Starts, Ends, Faults, Drops, break_of, Refuses}
+use Rattle.net_machine.specs.Machine.{Appends, start_entry, Starts, Ends, Faults, Drops, break_of, Refuses}
 use Rattle.legal_run.specs.Refusal.{Breaks, IsRefusal}
 use Rattle.legal_run.specs.Verdict.{IsVerdict}
 

@@ -2,8 +2,8 @@
 //!
 //! The first argument names a command of `flow`, and `clap` reads those after it, by one simple command for each of
 //! `flow`'s. The layer above sees what is asked for as plain data; which command lines ask for it is in
-//! `specs/Requests.antt`: `run_app`, `judge_app`, `check_app` and `upgrade_app` are the commands that `clap` reads by, and
-//! `run_in`, `judge_in`, `check_in` and `upgrade_in` what their matches come to.
+//! `specs/Requests.antt`: `run_app`, `judge_app`, `check_app` and `upgrade_app` are the commands that `clap` reads by,
+//! and `run_in`, `judge_in`, `check_in` and `upgrade_in` what their matches come to.
 #![tactic(auto)]
 
 mod check;

@@ -43,7 +43,7 @@ fn without_memory(rt: &HostRuntime) -> ExitCode {
     let _noted = put_note(
         rt.alloc(),
         &mut StdSink::notes(rt.alloc(), rt),
-        &[],
+        None,
         &status,
     );
     ExitCode::from(status.code())

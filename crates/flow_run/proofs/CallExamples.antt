@@ -329,7 +329,7 @@ module _ (arguments : List (List ℕ)) where
   run_of_a_judgement run asks (inr (inr (inr (inr (inl (same, none, nothing, refused)))))) = absurd (cc)
   run_of_a_judgement run asks (inr (inr (inr (inr (inr (same, none, nothing)))))) = absurd (cc)
 
-  run_of_a_check : (run : TextRun) (found : GraphFindings) → asked_by arguments ≡ Some (check_of g) → ¬ CallEnds held arguments Done (run ∷ []) (Some (conclusion.Findings found))
+  run_of_a_check : (run : TextRun) (found : List GraphFindings) → asked_by arguments ≡ Some (check_of g) → ¬ CallEnds held arguments Done (run ∷ []) (Some (conclusion.Findings found))
   run_of_a_check run found asks (inl (file, limit, workers, journal, asks_file, ends, none)) = absurd (cc)
   run_of_a_check run found asks (inr (inl (file, name, limit, asks_judge, ends, none))) = absurd (cc)
   run_of_a_check run found asks (inr (inr (inl (file, asks_check, ends, none)))) = absurd (cc)

@@ -1,9 +1,9 @@
 -- What a check of a graph asks for, how it ends and what is written of it, computed on a graph file `g` of one byte.
 use Rattle.std.specs.Fmt.{digits}
-use Rattle.std.proofs.Common.{◌≡◌, ℕ, List, [], ◌∷◌, length, Option, Some, None, Ok, Err, false, inl, inr, refl, sym, ap, subst, ◌∙◌, arith, codes}
+use Rattle.std.proofs.Common.{◌≡◌, ℕ, List, [], ◌∷◌, ◌++◌, length, Option, Some, None, Ok, Err, false, inl, inr, refl, sym, ap, subst, ◌∙◌, arith, codes}
 use Rattle.std.specs.Prelude.{bytes_eq, if◌then◌else◌, Contains}
 use Rattle.std.proofs.lemmas.Option.{none-some}
-use Rattle.graph_plans.specs.PlanRows.{PlanRows}
+use Rattle.graph_plans.specs.PlanRows.{GraphRows, PlanRows, graphs_of}
 use Rattle.graph_plans.specs.declared.spots.Spot.TheVariants.{File}
 use Rattle.graph_file.specs.declared.refusals.GraphError.TheVariants.{NotJson}
 use Rattle.graph_file.specs.PlanText.{PlanText, IsRefused}
@@ -21,7 +21,7 @@ use Rattle.flow_run.specs.declared.conclusion.Conclusion.TheVariants as conclusi
 use Rattle.flow_run.specs.declared.conclusion.GraphFindings.{GraphFindings}
 use Rattle.flow_run.specs.Requests.{SourceTexts, StopsAtPlan, StopsAtBytes}
 use Rattle.flow_run.specs.PlanFiles.{StopsAtFile, StopsBeforePlan, IsAfterPlan, HoldsPlan}
-use Rattle.flow_run.specs.Checks.{IsChecked, EndsChecked, CheckEnds, finding_line, findings_text, count_line}
+use Rattle.flow_run.specs.Checks.{AreFindingsOn, AreFindingsOnAll, IsChecked, EndsChecked, CheckEnds, count_line, finding_count, finding_line, findings_text, graph_line, graph_lines, line_start, task_line}
 use Rattle.flow_run.specs.Answers.{conclusion_text, wants_journal, output_of}
 use Rattle.flow_run.proofs.Completing.{one_plan}
 
@@ -44,36 +44,64 @@ abbrev bytes_of : SourceTexts → List ℕ → Option (List ℕ)
 bytes_of None name = None
 bytes_of (Some text) name = text name
 
--- Tasks by their names: task 0 is `a` and task 1 is `b`.
-abbrev names : List (List ℕ)
-names = codes "a" ∷ codes "b" ∷ []
+-- Tasks by their names: task 0 is `a` and task 1 is `b`, in the top graph and in a module `m`.
+abbrev on_top : List Finding → GraphFindings
+on_top findings = record { name = []; names = codes "a" ∷ codes "b" ∷ []; findings = findings }
 
--- The lines of findings.
-no_source_line : finding_line names NoSource ≡ codes "no source\n"
+abbrev on_module : List Finding → GraphFindings
+on_module findings = record { name = codes "m"; names = codes "a" ∷ codes "b" ∷ []; findings = findings }
+
+-- How lines begin, and the lines of findings.
+start_on_top : line_start [] ≡ []
+start_on_top = refl
+
+start_on_a_module : line_start (codes "m") ≡ codes "m: "
+start_on_a_module = refl
+
+line_of_a_graph : graph_line (on_module []) (codes "mixed ") (codes "b") ≡ codes "m: mixed b\n"
+line_of_a_graph = refl
+
+line_of_a_task : task_line (on_top []) (codes "mixed ") 1 ≡ codes "mixed b\n"
+line_of_a_task = refl
+
+no_source_line : finding_line (on_top []) NoSource ≡ codes "no source\n"
 no_source_line = refl
 
-mixed_line : finding_line names (Mixed 1) ≡ codes "mixed b\n"
+mixed_line : finding_line (on_top []) (Mixed 1) ≡ codes "mixed b\n"
 mixed_line = refl
 
-many_conditions_line : finding_line names (ManyConditions 0) ≡ codes "many conditions a\n"
+many_conditions_line : finding_line (on_top []) (ManyConditions 0) ≡ codes "many conditions a\n"
 many_conditions_line = refl
 
-strong_cycle_line : finding_line names (StrongCycle 1) ≡ codes "strong cycle b\n"
+strong_cycle_line : finding_line (on_top []) (StrongCycle 1) ≡ codes "strong cycle b\n"
 strong_cycle_line = refl
 
-never_reached_line : finding_line names (NeverReached 0) ≡ codes "never reached a\n"
+never_reached_line : finding_line (on_module []) (NeverReached 0) ≡ codes "m: never reached a\n"
 never_reached_line = refl
 
-task_without_a_name : finding_line names (Mixed 2) ≡ codes "mixed \n"
+no_source_line_of_a_module : finding_line (on_module []) NoSource ≡ codes "m: no source\n"
+no_source_line_of_a_module = refl
+
+task_without_a_name : finding_line (on_top []) (Mixed 2) ≡ codes "mixed \n"
 task_without_a_name = refl
 
+lines_of_a_graph : graph_lines (on_module (NoSource ∷ Mixed 0 ∷ [])) ≡ codes "m: no source\nm: mixed a\n"
+lines_of_a_graph = refl
+
 -- Two tasks that wait for each other: five findings, and their number behind them.
-circle_told : findings_text names (NoSource ∷ StrongCycle 0 ∷ StrongCycle 1 ∷ NeverReached 0 ∷ NeverReached 1 ∷ [])
+circle_told : findings_text (on_top (NoSource ∷ StrongCycle 0 ∷ StrongCycle 1 ∷ NeverReached 0 ∷ NeverReached 1 ∷ []) ∷ [])
     ≡ codes "no source\nstrong cycle a\nstrong cycle b\nnever reached a\nnever reached b\nfindings 5\n"
 unfolding digits
 circle_told = refl
 
-nothing_found : findings_text names [] ≡ codes "findings 0\n"
+module_told : findings_text (on_top (Mixed 1 ∷ []) ∷ on_module (Mixed 0 ∷ Mixed 1 ∷ []) ∷ []) ≡ codes "mixed b\nm: mixed a\nm: mixed b\nfindings 3\n"
+unfolding digits
+module_told = refl
+
+found_on_two_graphs : finding_count (on_top (Mixed 1 ∷ []) ∷ on_module (Mixed 0 ∷ Mixed 1 ∷ []) ∷ []) ≡ 3
+found_on_two_graphs = refl
+
+nothing_found : findings_text (on_top [] ∷ on_module [] ∷ []) ≡ codes "findings 0\n"
 unfolding digits
 nothing_found = refl
 
@@ -81,8 +109,8 @@ twelve_found : count_line 12 ≡ codes "findings 12\n"
 unfolding digits
 twelve_found = refl
 
-abbrev found : GraphFindings
-found = record { names = names; findings = Mixed 1 ∷ [] }
+abbrev found : List GraphFindings
+found = on_top (Mixed 1 ∷ []) ∷ []
 
 findings_told : conclusion_text (Some (conclusion.Findings found)) ≡ codes "mixed b\nfindings 1\n"
 unfolding digits
@@ -142,46 +170,81 @@ no_source_stops_no_check_of_a_file : ¬ StopsBeforePlan held g (stop.NoSource Fi
 no_source_stops_no_check_of_a_file (inl at) = at
 no_source_stops_no_check_of_a_file (inr at) = at.stops
 
--- The findings are those on the plan that the file holds, and the names those of its tasks.
-module _ (plan : PlanRows) (stands : PlanText (1 ∷ []) plan) (findings : List Finding) (are : AreFindings plan.top.net findings) where
-  checked : IsChecked held g (record { names = plan.top.names; findings = findings })
-  checked = record { bytes = 1 ∷ []; plan = plan; read = (refl, omega arith); stands = stands; names = refl; findings = are }
+-- The findings are those on each graph of the plan that the file holds, with its name and those of its tasks.
+module _ (plan : PlanRows) (stands : PlanText (1 ∷ []) plan) (no_module : plan.modules ≡ []) (findings : List Finding) (are : AreFindings plan.top.net findings) where
+  abbrev told : GraphFindings
+  told = record { name = plan.top.name; names = plan.top.names; findings = findings }
 
-  checked_and_told : EndsChecked held g Done (Some (conclusion.Findings (record { names = plan.top.names; findings = findings })))
-  checked_and_told = record { found = record { names = plan.top.names; findings = findings }; only = refl; checked = checked; after = inl refl }
+  on_the_top_graph : AreFindingsOn plan.top told
+  on_the_top_graph = record { name = refl; names = refl; findings = are }
 
-  -- What is found has the names of the graph's tasks and all its pitfalls.
-  names_of_another_graph : ¬ IsChecked held g (record { names = codes "z" ∷ plan.top.names; findings = findings })
-  names_of_another_graph is =
+  on_all_graphs : AreFindingsOnAll (graphs_of plan) (told ∷ [])
+  on_all_graphs = subst (λ modules. AreFindingsOnAll (plan.top ∷ modules) (told ∷ [])) (sym no_module) (on_the_top_graph, tt)
+
+  checked : IsChecked held g (told ∷ [])
+  checked = record { bytes = 1 ∷ []; plan = plan; read = (refl, omega arith); stands = stands; findings = on_all_graphs }
+
+  checked_and_told : EndsChecked held g Done (Some (conclusion.Findings (told ∷ [])))
+  checked_and_told = record { found = told ∷ []; only = refl; checked = checked; after = inl refl }
+
+  -- The plan is the one that the file holds.
+  same_plan : (found : List GraphFindings) → IsChecked held g found → AreFindingsOnAll (graphs_of plan) found
+  same_plan found is =
       let read : Some (1 ∷ []) ≡ Some is.bytes = is.read.0 in
       let bytes : 1 ∷ [] ≡ is.bytes = cc in
       let same = one_plan is.bytes is.plan plan is.stands (subst (λ b. PlanText b plan) bytes stands) in
-      let names : codes "z" ∷ plan.top.names ≡ plan.top.names = is.names ∙ ap (λ (p : PlanRows). p.top.names) same in
+      subst (λ (p : PlanRows). AreFindingsOnAll (graphs_of p) found) same is.findings
+
+  -- What is found has the names of the graph's tasks and all its pitfalls, and no graph is left out or put in.
+  names_of_another_graph : ¬ IsChecked held g (record told { names = codes "z" ∷ plan.top.names } ∷ [])
+  names_of_another_graph is =
+      let on = subst (λ modules. AreFindingsOnAll (plan.top ∷ modules) (record told { names = codes "z" ∷ plan.top.names } ∷ [])) no_module (same_plan _ is) in
+      let names : codes "z" ∷ plan.top.names ≡ plan.top.names = on.0.names in
       absurd (omega (arith, ap length names))
 
-  told_with_the_names_of_another_graph : ¬ EndsChecked held g Done (Some (conclusion.Findings (record { names = codes "z" ∷ plan.top.names; findings = findings })))
+  name_of_another_graph : ¬ IsChecked held g (record told { name = codes "z" ++ plan.top.name } ∷ [])
+  name_of_another_graph is = absurd (longer (same_plan _ is))
+    where
+      longer : AreFindingsOnAll (graphs_of plan) (record told { name = codes "z" ++ plan.top.name } ∷ []) → ⊥
+      longer on = let name : codes "z" ++ plan.top.name ≡ plan.top.name = on.0.name in absurd (omega (arith, ap length name))
+
+  no_graph_told : ¬ IsChecked held g []
+  no_graph_told is = same_plan [] is
+
+  one_graph_more_told : ¬ IsChecked held g (told ∷ told ∷ [])
+  one_graph_more_told is =
+      let on = subst (λ modules. AreFindingsOnAll (plan.top ∷ modules) (told ∷ told ∷ [])) no_module (same_plan _ is) in on.1
+
+  told_with_the_names_of_another_graph : ¬ EndsChecked held g Done (Some (conclusion.Findings (record told { names = codes "z" ∷ plan.top.names } ∷ [])))
   told_with_the_names_of_another_graph ended =
-      let same : ended.found ≡ record { names = codes "z" ∷ plan.top.names; findings = findings } = cc in
+      let same : ended.found ≡ record told { names = codes "z" ∷ plan.top.names } ∷ [] = cc in
       names_of_another_graph (subst (IsChecked held g) same ended.checked)
 
-  pitfall_left_out : IsPitfall plan.top.net (Mixed 1) → ¬ IsChecked held g (record { names = plan.top.names; findings = [] })
-  pitfall_left_out mixed is =
-      let read : Some (1 ∷ []) ≡ Some is.bytes = is.read.0 in
-      let bytes : 1 ∷ [] ≡ is.bytes = cc in
-      let same = one_plan is.bytes is.plan plan is.stands (subst (λ b. PlanText b plan) bytes stands) in
-      let is_one : IsPitfall is.plan.top.net (Mixed 1) = subst (λ (p : PlanRows). IsPitfall p.top.net (Mixed 1)) (sym same) mixed in
-      not_in_nothing ((is.findings.exact (Mixed 1)).1 is_one)
+  pitfall_left_out : IsPitfall plan.top.net (Mixed 1) → ¬ IsChecked held g (record told { findings = [] } ∷ [])
+  pitfall_left_out mixed is = left_out (same_plan _ is)
     where
       not_in_nothing : ¬ Contains [] (Mixed 1)
       not_in_nothing is = absurd (omega arith)
 
-  told_as_another_status : ¬ EndsChecked held g (status.NoSource File) (Some (conclusion.Findings (record { names = plan.top.names; findings = findings })))
+      left_out : ¬ AreFindingsOnAll (graphs_of plan) (record told { findings = [] } ∷ [])
+      left_out on = not_in_nothing ((on.0.findings.exact (Mixed 1)).1 mixed)
+
+  told_as_another_status : ¬ EndsChecked held g (status.NoSource File) (Some (conclusion.Findings (told ∷ [])))
   told_as_another_status ended = no_source_told_as_a_status ended.after
 
   at_hand : HoldsPlan texts g
   at_hand = record { plan = plan; graph = (omega arith, stands) }
 
-plan_of_a_missing_file : (found : GraphFindings) → ¬ IsChecked held (2 ∷ []) found
+graph_left_out : (graph : GraphRows) → ¬ AreFindingsOnAll (graph ∷ []) []
+graph_left_out graph is = is
+
+graph_put_in : (on : GraphFindings) → ¬ AreFindingsOnAll [] (on ∷ [])
+graph_put_in on is = is
+
+no_graphs : AreFindingsOnAll [] []
+no_graphs = tt
+
+plan_of_a_missing_file : (found : List GraphFindings) → ¬ IsChecked held (2 ∷ []) found
 plan_of_a_missing_file found is = let never : None ≡ Some is.bytes = is.read.0 in absurd (cc)
 
 -- An end before the findings has none, and isn't done.
@@ -209,7 +272,7 @@ module _ (bytes : List ℕ) (long : length bytes ≡ 4194305) where
   long_file_is_not_read : ¬ StopsAtFile too_long g stop.NoMemory
   long_file_is_not_read at = let same : Some bytes ≡ Some at.bytes = at.read.0 in absurd (omega (arith, long, ap known_length same, at.read.1))
 
-  long_file_is_not_checked : (findings : GraphFindings) → ¬ IsChecked too_long g findings
+  long_file_is_not_checked : (findings : List GraphFindings) → ¬ IsChecked too_long g findings
   long_file_is_not_checked findings is = let same : Some bytes ≡ Some is.bytes = is.read.0 in absurd (omega (arith, long, ap known_length same, is.read.1))
 
   long_file_is_not_at_hand : ¬ HoldsPlan (λ name. Some bytes) g

@@ -10,9 +10,13 @@ use Rattle.boxcar.proofs.tag.Tag.TheSendSync as tag
 use Rattle.worker_seat.proofs.Crossing.{seat_send, crew_sync}
 use Rattle.worker_seat.specs.contracts.seat.WorkerSeat as worker_seat
 use Rattle.worker_seat.specs.contracts.crew.Crew as crew
+use Rattle.graph_plans.specs.contracts.ops.Op as op
+use Rattle.graph_plans.specs.contracts.ops.TextOp as text_op
+use Rattle.graph_plans.specs.contracts.plans.Graph as graph
 use Rattle.graph_plans.specs.contracts.plans.Plan as plan
 use Rattle.text_tasks.specs.contracts.table.TextTable as text_table
-use Rattle.text_tasks.specs.contracts.job.GraphJob as graph_job
+use Rattle.text_tasks.specs.contracts.graph_job.GraphJob as graph_job
+use Rattle.text_tasks.specs.contracts.parts_job.PartsJob as parts_job
 use Rattle.text_tasks.specs.contracts.job.TextJob as text_job
 use Rattle.text_tasks.specs.contracts.item.Item as item
 use Rattle.text_tasks.specs.contracts.job.TextJobJob.TheImpl as job
@@ -27,11 +31,30 @@ table_send = search texts depth 60 fits 20000
 table_sync : IsSync text_table.the_row
 table_sync = search texts depth 60 fits 20000
 
+-- a plan, by what it is made of
+text_op_send : IsSend text_op.the_row
+text_op_send = search (crosses, frees, sendable) depth 60 fits 20000
+
+text_op_sync : IsSync text_op.the_row
+text_op_sync = search (crosses, frees, sendable) depth 60 fits 20000
+
+op_send : IsSend op.the_row
+op_send = search (text_op_send, text_op_sync, crosses, frees, sendable) depth 60 fits 20000
+
+op_sync : IsSync op.the_row
+op_sync = search (text_op_send, text_op_sync, crosses, frees, sendable) depth 60 fits 20000
+
+graph_send : IsSend graph.the_row
+graph_send = search (op_send, op_sync, crosses, frees, sendable) depth 60 fits 20000
+
+graph_sync : IsSync graph.the_row
+graph_sync = search (op_send, op_sync, crosses, frees, sendable) depth 60 fits 20000
+
 plan_send : IsSend plan.the_row
-plan_send = search (crosses, frees, sendable) depth 60 fits 20000
+plan_send = search (graph_send, graph_sync, crosses, frees, sendable) depth 60 fits 20000
 
 plan_sync : IsSync plan.the_row
-plan_sync = search (crosses, frees, sendable) depth 60 fits 20000
+plan_sync = search (graph_send, graph_sync, crosses, frees, sendable) depth 60 fits 20000
 
 graph_job_send : IsSend graph_job.the_row
 graph_job_send = search (table_send, table_sync, plan_send, plan_sync, texts) depth 60 fits 20000
@@ -39,11 +62,17 @@ graph_job_send = search (table_send, table_sync, plan_send, plan_sync, texts) de
 graph_job_sync : IsSync graph_job.the_row
 graph_job_sync = search (table_send, table_sync, plan_send, plan_sync, texts) depth 60 fits 20000
 
+parts_job_send : IsSend parts_job.the_row
+parts_job_send = search (text_op_send, text_op_sync, texts) depth 60 fits 20000
+
+parts_job_sync : IsSync parts_job.the_row
+parts_job_sync = search (text_op_send, text_op_sync, texts) depth 60 fits 20000
+
 job_send : IsSend text_job.the_row
-job_send = search (graph_job_send, texts) depth 60 fits 20000
+job_send = search (graph_job_send, parts_job_send, texts) depth 60 fits 20000
 
 job_sync : IsSync text_job.the_row
-job_sync = search (graph_job_sync, texts) depth 60 fits 20000
+job_sync = search (graph_job_sync, parts_job_sync, texts) depth 60 fits 20000
 
 item_send : IsSend item.the_row
 item_send = search (crosses, frees, sendable) depth 60 fits 20000

@@ -26,7 +26,7 @@ use Rattle.legal_run.specs.Verdict.{IsVerdict}
 use Rattle.run_frame.specs.Legal.{IsKept}
 use Rattle.run_frame.specs.NestedRule.{job_of}
 use Rattle.text_tasks.specs.declared.job.TextJob.{TextJob}
-use Rattle.text_tasks.specs.JobMeaning.{limit_of, names_of, text_job}
+use Rattle.text_tasks.specs.JobMeaning.{job_plan, limit_of, text_job}
 use Rattle.nested_runs.specs.Reasons.{run_reason}
 use Rattle.nested_runs.specs.declared.reasons.Reason.{Reason}
 use Rattle.nested_runs.specs.declared.reasons.Reason.TheVariants as reason
@@ -40,7 +40,7 @@ use Rattle.flow_run.specs.declared.conclusion.Conclusion.{Conclusion}
 use Rattle.flow_run.specs.declared.conclusion.Conclusion.TheVariants as conclusion
 use Rattle.flow_run.specs.declared.conclusion.GraphFindings.{GraphFindings}
 use Rattle.flow_run.specs.Requests.{SourceTexts, StopsAtName, IsAdded, StopsAtText, HasStart, StopsAtBytes, StopsAtGraph, StopsBefore, HasPlan, IsRequestedJob, CanBeRun, text_limit}
-use Rattle.flow_run.specs.Answers.{TextRun, IsAfterRun, RanOnce, KeptOnce, RunEnds, JobEnds, CallEnds, Reported, names_in, run_texts}
+use Rattle.flow_run.specs.Answers.{TextRun, IsAfterRun, RanOnce, KeptOnce, RunEnds, JobEnds, CallEnds, Reported, plan_in, run_texts}
 use Rattle.flow_run.specs.Judgements.{StopsAtJournal, StopsAtJournalText, StopsBeforeVerdict, JudgeEnds, CanBeJudged}
 use Rattle.flow_run.specs.PlanFiles.{StopsBeforePlan, HoldsPlan}
 use Rattle.flow_run.specs.Checks.{EndsChecked, CheckEnds}
@@ -261,8 +261,8 @@ module _ (job : TextJob) where
   two_runs_of_a_job run other (inl stopped) = let none : run ∷ other ∷ [] ≡ [] = stopped.none in absurd (cc)
   two_runs_of_a_job run other (inr ran) = absurd (omega (arith, ap length ran.only))
 
-names_of_the_first_run : (run other : TextRun) → names_in (run ∷ other ∷ []) ≡ names_of (job_of run)
-names_of_the_first_run run other = refl
+plan_of_the_first_run : (run other : TextRun) → plan_in (run ∷ other ∷ []) ≡ job_plan (job_of run)
+plan_of_the_first_run run other = refl
 
 -- ---- a call, by what its command line asks for
 
@@ -391,7 +391,7 @@ file_at_its_limit bytes long (inr at) = at.stops
 stopped_before_its_findings : CheckEnds held u (NoText u) None
 stopped_before_its_findings = inl (record { why = stop.NoText u; stops = inl (refl, refl); reported = refl; none = refl })
 
-findings_beside_a_stop : (found : GraphFindings) → ¬ CheckEnds held u (NoText u) (Some (conclusion.Findings found))
+findings_beside_a_stop : (found : List GraphFindings) → ¬ CheckEnds held u (NoText u) (Some (conclusion.Findings found))
 findings_beside_a_stop found (inl stopped) = let none = stopped.none in absurd (cc)
 findings_beside_a_stop found (inr ended) = let none : None ≡ Some ended.checked.bytes = ended.checked.read.0 in absurd (cc)
 

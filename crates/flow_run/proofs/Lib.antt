@@ -5,8 +5,7 @@ pub mod ReportLemmas
 pub mod ValueSearch
 pub mod OutputExamples
 pub mod Ending
-pub mod NamedLemmas
-pub mod Naming
+pub mod CheckLemmas
 pub mod Completing
 pub mod Plainly
 pub mod Upgrading

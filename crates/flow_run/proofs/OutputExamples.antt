@@ -12,8 +12,11 @@ use Rattle.journal_rules.specs.declared.entry.Entry.{Entry}
 use Rattle.journal_rules.specs.declared.entry.Entry.TheVariants.{Start, End}
 use Rattle.text_tasks.specs.declared.item.Item.{Item}
 use Rattle.text_tasks.specs.declared.item.Item.TheVariants.{Text}
+use Rattle.graph_plans.specs.PlanRows.{PlanRows}
+use Rattle.text_tasks.specs.GraphWork.{first_work}
 use Rattle.text_tasks.specs.declared.job.TextJob.{TextJob}
-use Rattle.text_tasks.specs.JobMeaning.{names_of, net_of, text_job}
+use Rattle.text_tasks.specs.declared.job.TextJob.TheVariants.{Graph}
+use Rattle.text_tasks.specs.JobMeaning.{job_plan, names_of, net_of, text_job}
 use Rattle.run_frame.specs.declared.run.FrameRun.{FrameRun}
 use Rattle.run_frame.specs.LastEnds.{ends_of, last_end}
 use Rattle.run_frame.specs.NestedRule.{job_of, journal_of}
@@ -64,11 +67,13 @@ third_ended_last : (read early late : Arc Item Global) → arc_value late ≡ Te
 third_ended_last read early late five = ap (λ item. codes "-- lines\n" ++ (outcome (codes "loop") (Some item) ++ [])) five
 
 -- Behind it stands why the run was cut short.
-stuck_behind_the_report : (run : FrameRun TextJob Item) → names_of (job_of run) ≡ names → net_of (job_of run) ≡ net → journal_of run ≡ [] → values_of run ≡ []
+abbrev plan : PlanRows
+plan = record { top = record { name = []; names = names; ops = []; sem_names = []; net = net }; modules = []; texts = [] }
+
+stuck_behind_the_report : (run : FrameRun TextJob Item) → job_of run ≡ Graph (first_work plan [] 10) → journal_of run ≡ [] → values_of run ≡ []
     → run_reason text_job run ≡ Stuck (0 ∷ []) → report_of run ≡ codes "-- lines\n!! stuck text\n"
-stuck_behind_the_report run its_names its_net its_journal its_values stuck =
-    ap (λ ns. report ns (net_of (job_of run)) (journal_of run) (values_of run) ++ reason_line ns (run_reason text_job run)) its_names
-    ∙ (ap (λ n. report names n (journal_of run) (values_of run) ++ reason_line names (run_reason text_job run)) its_net
-    ∙ (ap (λ entries. report names net entries (values_of run) ++ reason_line names (run_reason text_job run)) its_journal
-    ∙ (ap (λ values. report names net [] values ++ reason_line names (run_reason text_job run)) its_values
-    ∙ ap (λ why. report names net [] [] ++ reason_line names why) stuck)))
+stuck_behind_the_report run its_job its_journal its_values stuck =
+    ap (λ job. report (names_of job) (net_of job) (journal_of run) (values_of run) ++ reason_line (job_plan job) (run_reason text_job run)) its_job
+    ∙ (ap (λ entries. report names net entries (values_of run) ++ reason_line (Some plan) (run_reason text_job run)) its_journal
+    ∙ (ap (λ values. report names net [] values ++ reason_line (Some plan) (run_reason text_job run)) its_values
+    ∙ ap (λ why. report names net [] [] ++ reason_line (Some plan) why) stuck))

@@ -19,7 +19,7 @@ use Rattle.run_frame.specs.Legal.{IsKept}
 use Rattle.run_frame.specs.NestedRule.{job_of}
 use Rattle.text_ops.specs.Lines.{normal}
 use Rattle.text_tasks.specs.declared.job.TextJob.{TextJob}
-use Rattle.text_tasks.specs.declared.job.TextJob.TheVariants.{Graph}
+use Rattle.text_tasks.specs.declared.job.TextJob.TheVariants.{Graph, Parts}
 use Rattle.text_tasks.specs.JobMeaning.{text_job}
 use Rattle.run_laws.specs.PlainReport.{HasSameReport, IsPlainJob, IsPlanned, RunsWell, plain_report}
 use Rattle.run_laws.proofs.TextPlain.{same_report}
@@ -57,6 +57,8 @@ one_job text file limit (Graph one) (Graph two) is also =
     ∙ ap (λ m. Graph (record two { «module» = m; input = one.input; limit = one.limit })) (is.top ∙ sym also.top)
     ∙ ap (λ i. Graph (record two { input = i; limit = one.limit })) (is.input ∙ sym also.input)
     ∙ ap (λ l. Graph (record two { limit = l })) (is.starts ∙ sym also.starts)
+one_job text file limit (Graph one) (Parts two) is also = absurd also
+one_job text file limit (Parts one) other is also = absurd is
 
 -- ---- what is at hand
 
@@ -77,6 +79,7 @@ at_hand held asked (Graph work) asks =
       named = all_held asks.text work.plan.texts work.texts requested.texts;
     } in
     subst (λ h. IsAtHand h asked) (sym asks.specified) (subst (λ a. IsAtHand (Some asks.text) a) (sym asks.asks) can)
+at_hand held asked (Parts work) asks = absurd asks.requested
 
 -- ---- how the call ends
 
@@ -101,7 +104,8 @@ never_done stop.NoMemory same = cc
 -- ---- the runs of a call
 
 planned : (held : SourceTexts) (file : List ℕ) (limit : ℕ) (job : TextJob) → IsRequestedJob held file limit job → IsPlanned job
-planned held file limit (Graph work) is = IsPlan-read is.plan.bytes work.plan is.plan.stands
+planned held file limit (Graph work) is = (IsPlan-read is.plan.bytes work.plan is.plan.stands, is.top)
+planned held file limit (Parts work) is = absurd is
 
 no_run_and_judgement : (file other name : List ℕ) (limit most workers : ℕ) (journal : Bool) → Some (run file limit workers journal) ≡ Some (judge other name most) → ⊥
 no_run_and_judgement file other name limit most workers journal same = cc

@@ -1,10 +1,10 @@
 -- Reading texts one after another.
-use Rattle.std.proofs.Common.{◌≡◌, ◌≢◌, ℕ, zero, suc, ◌+◌, ◌<◌, ◌≤◌, Bool, true, false, cond, List, [], ◌∷◌, ◌++◌, length, sym, refl, ap, ◌∙◌, subst, arith, get_or, take, drop, length-append}
-use Rattle.std.specs.Prelude.{All}
+use Rattle.std.proofs.Common.{◌≡◌, ◌≢◌, inl, inr, ℕ, zero, suc, ◌+◌, ◌<◌, ◌≤◌, Bool, true, false, cond, List, [], ◌∷◌, ◌++◌, length, sym, refl, ap, ◌∙◌, subst, arith, get_or, take, drop, length-append}
+use Rattle.std.specs.Prelude.{All, IfErr, IsErrAnd, Result, Ok, Err}
 use Rattle.std.proofs.lemmas.List.{take_more}
 use Rattle.std.proofs.lemmas.List.Elements.{All-nil, All-cons}
 use Rattle.graph_file.specs.declared.refusals.GraphError.{GraphError}
-use Rattle.graph_file.specs.declared.refusals.GraphError.TheVariants.{NotJson, BadField, NoSuchName, Repeated, TooMany, NoMemory as NoMemoryToRead}
+use Rattle.graph_file.specs.declared.refusals.GraphError.TheVariants.{NotJson, BadField, NoSuchName, Repeated, ModuleCycle, TooMany, NoMemory as NoMemoryToRead}
 use Rattle.graph_plans.specs.PlanRows.{PlanRows, IsPlan}
 use Rattle.graph_file.specs.PlanText.{PlanText, IsRefused}
 use Rattle.text_ops.specs.Lines.{normal, is_normal, line_end}
@@ -15,7 +15,11 @@ use Rattle.text_tasks.specs.declared.job.TextJob.{TextJob}
 use Rattle.text_tasks.specs.declared.job.TextJob.TheVariants.{Graph}
 use Rattle.call_status.specs.declared.stop.Stop.{Stop}
 use Rattle.call_status.specs.declared.stop.Stop.TheVariants.{BadGraph, NoSource, NoText, LongText, ReadFault, BadJournal, NoMemory}
-use Rattle.flow_run.specs.Requests.{SourceTexts, HasStart, IsAdded, IsHeld, IsRequestedJob, IsTextOf, StopsAtName, StopsAtText, StopsAtBytes, StopsAtPlan, TextsAre, file_limit, text_limit}
+use Rattle.journal_rules.specs.declared.entry.Entry.{Entry}
+use Rattle.legal_run.specs.Verdict.{IsVerdict}
+use Rattle.legal_run.specs.declared.verdict.Verdict.{Verdict}
+use Rattle.flow_run.specs.Judgements.{HasJournal, IsJudged, StopsAtJournal, StopsBeforeVerdict}
+use Rattle.flow_run.specs.Requests.{SourceTexts, HasStart, IsAdded, IsHeld, IsRequestedJob, IsTextOf, StopsAtName, StopsAtText, StopsAtBytes, StopsAtPlan, StopsBefore, TextsAre, file_limit, text_limit}
 
 -- one text more
 pub texts_more : (held : SourceTexts) (names texts : List (List ℕ)) (name text : List ℕ) → TextsAre held names texts → IsTextOf held name text → TextsAre held (names ++ name ∷ []) (texts ++ text ∷ [])
@@ -82,6 +86,7 @@ refused_bytes bytes error why memory bad refused = by_error error refl
     by_error (BadField spot field) is = other (λ out. cc)
     by_error (NoSuchName spot field) is = other (λ out. cc)
     by_error (Repeated spot field) is = other (λ out. cc)
+    by_error (ModuleCycle name) is = other (λ out. cc)
     by_error (TooMany kind) is = other (λ out. cc)
     by_error NoMemoryToRead is = subst (StopsAtPlan bytes) (sym (memory is)) tt
 
@@ -103,7 +108,7 @@ is_work held plan texts limit within is read =
       text_count = as_many held plan.texts texts read;
       texts = are_values held plan.texts texts read;
       input = record { normal = refl; short = omega arith };
-      top = refl;
+      in_plan = tt;
       starts = within;
     }
 
@@ -112,3 +117,20 @@ pub requested_job : (held : SourceTexts) (file : List ℕ) (limit : ℕ) (bytes 
     → job ≡ Graph (first_work plan texts limit) → IsRequestedJob held file limit job
 requested_job held file limit bytes plan texts job read stands source are is =
     subst (IsRequestedJob held file limit) (sym is) (record { plan = record { bytes = bytes; read = read; stands = stands; source = source }; texts = are; top = refl; input = refl; starts = refl })
+
+-- what stops a call behind its graph: one of the plan's texts, or the journal file
+pub stops_at_plan_text : (held : SourceTexts) (file bytes : List ℕ) (plan : PlanRows) (why : Stop) → IsHeld held file file_limit bytes → PlanText bytes plan → HasStart plan → StopsAtText held plan.texts why → StopsBefore held file why
+stops_at_plan_text held file bytes plan why read stands source stops = inr (inr (record { plan = plan; has = record { bytes = bytes; read = read; stands = stands; source = source }; stops = stops }))
+
+pub stops_at_journal : (held : SourceTexts) (file name bytes : List ℕ) (plan : PlanRows) (why : Stop) → IsHeld held file file_limit bytes → PlanText bytes plan → HasStart plan → StopsAtJournal held name why → StopsBeforeVerdict held file name why
+stops_at_journal held file name bytes plan why read stands source stops = inr (inr (record { plan = plan; has = record { bytes = bytes; read = read; stands = stands; source = source }; stops = stops }))
+
+-- a verdict on a journal that was read, by a plan that was read
+pub judged_by : (held : SourceTexts) (file name bytes : List ℕ) (plan : PlanRows) (limit : ℕ) (journal : List Entry) (verdict : Verdict) → IsHeld held file file_limit bytes → PlanText bytes plan → HasStart plan → HasJournal held name journal
+    → IsVerdict plan.top.net limit journal verdict → IsJudged held file name limit verdict
+judged_by held file name bytes plan limit journal verdict read stands source text is = record { plan = plan; graph = record { bytes = bytes; read = read; stands = stands; source = source }; journal = journal; text = text; is = is }
+
+-- what an error is told for, where it is handed on as it is
+pub handed_on : {A : Type 0} (P : Stop → Type 0) (answer : Result A Stop) (why : Stop) → IsErrAnd answer (λ error. error ≡ why) → P why → IfErr answer P
+handed_on P (Ok value) why never is = absurd never
+handed_on P (Err error) why same is = subst P (sym same) is

@@ -13,8 +13,7 @@ use Rattle.task_graph.specs.NetRows.{NetRows}
 use Rattle.run_frame.specs.NestedRule.{job_of, journal_of}
 use Rattle.run_frame.specs.declared.run.FrameRun.{FrameRun}
 use Rattle.text_tasks.specs.declared.job.TextJob.{TextJob}
-use Rattle.text_tasks.specs.declared.job.TextJob.TheVariants.{Graph}
-use Rattle.text_tasks.specs.JobMeaning.{IsTextJob, net_of, names_of}
+use Rattle.text_tasks.specs.JobMeaning.{net_of, names_of}
 use Rattle.run_frame.specs.LastEnds.{last_end}
 use Rattle.run_frame.proofs.EndsLemmas.{counting_more}
 use Rattle.run_laws.specs.Output.{task_part, task_report}
@@ -45,10 +44,6 @@ one_refused text n all before between after fault inside whole part =
     subst (λ k. Writes before after (flat_map text (range_with_len 0 k)) (Err fault)) same
     (no_further text (n + 1) (all - (n + 1)) before after fault
     (subst (λ bytes. Writes before after bytes (Err fault)) (sym (texts_more text n)) (writes_both before between after _ _ (Err fault) whole part)))
-
--- Each task of a job's net has a name.
-pub named_tasks : (job : TextJob) → IsTextJob job → length (names_of job) ≡ length (net_of job).tasks
-named_tasks (Graph work) is = is.plan.names
 
 -- What the looked-up parts of a task's report come to is what the report tells of it.
 pub part_is : (run : FrameRun TextJob Item) (net : NetRows) (t : ℕ) (name : List ℕ) (end : Option ℕ) (values : List (ValueRow Item)) (value : Option Item)

@@ -11,8 +11,8 @@ use Rattle.graph_file.specs.declared.refusals.GraphError.TheVariants.{NotJson}
 use Rattle.graph_file.specs.PlanText.{PlanText, IsRefused}
 use Rattle.text_tasks.specs.GraphWork.{GraphWork, first_work}
 use Rattle.text_tasks.specs.declared.job.TextJob.{TextJob}
-use Rattle.text_tasks.specs.declared.job.TextJob.TheVariants.{Graph}
-use Rattle.text_tasks.specs.JobMeaning.{limit_of, names_of, text_job}
+use Rattle.text_tasks.specs.declared.job.TextJob.TheVariants.{Graph, Parts}
+use Rattle.text_tasks.specs.JobMeaning.{job_plan, limit_of, text_job}
 use Rattle.run_frame.specs.Legal.{IsKept}
 use Rattle.run_frame.specs.NestedRule.{job_of}
 use Rattle.nested_runs.specs.Reasons.{run_reason}
@@ -21,7 +21,7 @@ use Rattle.text_ops.specs.Lines.{normal}
 use Rattle.call_status.specs.declared.status.Status.TheVariants.{Done, WriteFault}
 use Rattle.call_status.specs.declared.stop.Stop.TheVariants as stop
 use Rattle.flow_run.specs.Requests.{SourceTexts, StopsAtName, IsTextOf, TextsAre, StopsAtText, HasStart, HasPlan, StopsBefore, IsRequested, IsRequestedJob, CanBeRun, text_limit}
-use Rattle.flow_run.specs.Answers.{TextRun, IsAfterRun, RanOnce, KeptOnce, names_in, RunEnds, Reported, run_texts}
+use Rattle.flow_run.specs.Answers.{TextRun, IsAfterRun, RanOnce, KeptOnce, plan_in, RunEnds, Reported, run_texts}
 
 abbrev g : List ℕ
 g = 0 ∷ []
@@ -96,6 +96,7 @@ run_of_another_limit run limit (inr ran) = let same : run ≡ ran.run = cc in ab
   where
     starts : (job : TextJob) → IsRequestedJob held g 77 job → limit_of job ≡ 77
     starts (Graph work) is = is.starts
+    starts (Parts work) is = absurd is
 
 stuck_run_called_done : (run : TextRun) → run_reason text_job run ≡ reason.Stuck (3 ∷ []) → ¬ RanOnce (λ job. job ≡ job) Done (run ∷ [])
 stuck_run_called_done run stuck is =
@@ -161,8 +162,8 @@ module _ (run : TextRun) (report : run_texts false (run ∷ []) ≡ small_report
 
 -- ---- the kept run, and what can be had
 
-names_of_the_run : (run : TextRun) → (names_in [] ≡ []) × (names_in (run ∷ []) ≡ names_of (job_of run))
-names_of_the_run run = (refl, refl)
+plan_of_the_run : (run : TextRun) → (plan_in [] ≡ None) × (plan_in (run ∷ []) ≡ job_plan (job_of run))
+plan_of_the_run run = (refl, refl)
 
 no_run_kept : (job : TextJob) → ¬ KeptOnce job [] reason.Fine
 no_run_kept job is = let only : [] ≡ is.run ∷ [] = is.only in absurd (cc)

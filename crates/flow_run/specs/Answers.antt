@@ -5,9 +5,10 @@ use Rattle.outside_io.specs.Sink.{SinkState, Took, TookFront}
 use Rattle.run_frame.specs.declared.run.FrameRun.{FrameRun}
 use Rattle.run_frame.specs.Legal.{IsKept}
 use Rattle.run_frame.specs.NestedRule.{job_of, journal_of}
+use Rattle.graph_plans.specs.PlanRows.{PlanRows}
 use Rattle.text_tasks.specs.declared.item.Item.{Item}
 use Rattle.text_tasks.specs.declared.job.TextJob.{TextJob}
-use Rattle.text_tasks.specs.JobMeaning.{names_of, text_job}
+use Rattle.text_tasks.specs.JobMeaning.{job_plan, text_job}
 use Rattle.call_status.specs.declared.status.Status.{Status}
 use Rattle.call_status.specs.declared.status.Status.TheVariants.{Done, BadWords, WriteFault, NoMemory}
 use Rattle.call_status.specs.declared.stop.Stop.TheVariants as stop
@@ -72,10 +73,10 @@ CallEnds held arguments status runs conclusion =
     ⊎ ((status ≡ BadWords) × (runs ≡ []) × (conclusion ≡ None) × (asked_by arguments ≡ None))
     ⊎ ((status ≡ NoMemory) × (runs ≡ []) × (conclusion ≡ None))
 
--- the names of the tasks of the graph that was run
-abbrev pub names_in : List TextRun → List (List ℕ)
-names_in [] = []
-names_in (first ∷ runs) = names_of (job_of first)
+-- the plan of the graph that was run
+abbrev pub plan_in : List TextRun → Option PlanRows
+plan_in [] = None
+plan_in (first ∷ runs) = job_plan (job_of first)
 
 -- what is written of a run: its journal in place of its report, or its report
 abbrev pub run_text : Bool → TextRun → List ℕ
@@ -95,7 +96,7 @@ wants_journal asked = false
 abbrev pub conclusion_text : Option Conclusion → List ℕ
 conclusion_text None = []
 conclusion_text (Some (Verdict verdict)) = verdict_line verdict
-conclusion_text (Some (Findings found)) = findings_text found.names found.findings
+conclusion_text (Some (Findings found)) = findings_text found
 conclusion_text (Some (GraphFile text)) = text
 
 -- what is written to the output: of the runs that are kept, and of the conclusion

@@ -1,7 +1,9 @@
 // The top call of the program.
-ghost use Rattle.std.specs.Prelude.{◌≡◌, ◌≢◌, ◌⊎◌, ℕ, [], true, List, Some, map, take, All, IfOk};
+ghost use Rattle.std.specs.Prelude.{◌≡◌, ◌≢◌, ◌⊎◌, ℕ, [], true, List, Some, map, All, IfOk};
+ghost use Rattle.std.specs.Option.{option_copied, option_map};
 ghost use Rattle.std.specs.String.{string_bytes};
 ghost use Rattle.outside_io.specs.Sink.{Writes};
+ghost use Rattle.graph_plans.specs.PlanRows.{plan_rows};
 ghost use Rattle.call_status.specs.Codes.{code_of};
 ghost use Rattle.call_status.specs.Delivery.{Delivers};
 ghost use Rattle.call_status.specs.Notes.{note_line};
@@ -10,9 +12,8 @@ ghost use Rattle.call_status.specs.Statuses.{status_after};
 ghost use Rattle.command_line.specs.Requests.{asked_by, upgrade};
 ghost use Rattle.nested_runs.specs.Reasons.{run_reason};
 ghost use Rattle.run_frame.specs.Legal.{IsKept};
-ghost use Rattle.run_frame.specs.NestedRule.{job_of};
 ghost use Rattle.text_tasks.specs.JobMeaning.{text_job, IsTextJob};
-ghost use Rattle.flow_run.specs.Answers.{CallEnds, HasWritten, IsAfterRun, JobEnds, KeptOnce, Reported, RunEnds, names_in, output_of, run_text, run_texts};
+ghost use Rattle.flow_run.specs.Answers.{CallEnds, HasWritten, IsAfterRun, JobEnds, KeptOnce, Reported, RunEnds, output_of, plan_in, run_text, run_texts};
 ghost use Rattle.flow_run.specs.Completion.{IsAtHand, NothingFails};
 ghost use Rattle.flow_run.specs.Plainly.{AsksPlainly, IsReportedPlainly, EndsPlainly};
 ghost use Rattle.flow_run.specs.Reads.{HaveRead};
@@ -28,9 +29,10 @@ use super::upgrade_command::upgrade_file;
 use super::workers::run_by;
 use call_status::{Noted, Status, flushed, put_note};
 use command_line::{ArgumentsError, Request, Run, read_arguments};
+use graph_plans::Plan;
 use journal_text::print_journal;
 use nested_runs::{Reason, reason_of};
-use outside_io::{Bytes, List, NoMemory, Sink, SinkFault, Texts};
+use outside_io::{List, NoMemory, Sink, SinkFault, Texts};
 use run_frame::FrameRun;
 use span_profile::Watch;
 use std::alloc::Global;
@@ -64,12 +66,13 @@ impl CallResult {
     }
 }
 
-/// Does what the command line `words` asks for: `run FILE` reads the graph file of this name and then, in order of first
-/// mention, the texts that it names, runs the graph to its end, by as many workers as it says, and writes the run's report to `out`, or with `--journal` its
-/// journal; `judge FILE JOURNAL` reads the journal file of that name besides, and writes the judge's verdict; `check FILE`
-/// writes how the graph can go wrong; `upgrade FILE` writes the graph as a file of the newest version. The line of the
-/// status goes to `notes`, the diagnostics sink. Of several workers each has a watcher, and there are no more of them than watchers. `rt` makes the threads of several workers and waits
-/// for them, so it isn't proved that the call returns.
+/// Does what the command line `words` asks for: `run FILE` reads the graph file of this name and then, in order of
+/// first mention, the texts that it names, runs the graph to its end, by as many workers as it says, and writes the
+/// run's report to `out`, or with `--journal` its journal; `judge FILE JOURNAL` reads the journal file of that name
+/// besides, and writes the judge's verdict; `check FILE` writes how the graph can go wrong; `upgrade FILE` writes the
+/// graph as a file of the newest version. The line of the status goes to `notes`, the diagnostics sink. Of several
+/// workers each has a watcher, and there are no more of them than watchers. `rt` makes the threads of several workers
+/// and waits for them, so it isn't proved that the call returns.
 pub fn flow_main<F: Texts, S: Sink, N: Sink, R: Threads + Wait + Sync>(
     rt: &R,
     alloc: Global,
@@ -94,14 +97,16 @@ pub fn flow_main<F: Texts, S: Sink, N: Sink, R: Threads + Wait + Sync>(
     // Whatever the number of workers: the kept run of a plan without conditions is fine exactly where its values by one
     // thread run through, and its report is then theirs.
     ensures kept_plainly { All IsReportedPlainly result.runs }
-    // Where the report of such a plan is asked for, and the source specifies the file and the texts, and holds them within
-    // their limits, the call is done exactly then, unless something fails, and the output has taken just that report.
+    // Where the report of such a plan is asked for, and the source specifies the file and the texts, and holds them
+    // within their limits, the call is done exactly then, unless something fails, and the output has taken just that
+    // report.
     ensures plainly { (job : TextJob)
         → AsksPlainly (F.held texts.old) (asked_by (map string_bytes words.now)) job
         → EndsPlainly job (S.state out.old).taken (S.state out.new).taken
         (NothingFails F.failed S.state texts.old texts.new out.old out.new) result.status }
-    // The output took the report or the journal of the kept run, or the verdict's line, or the findings, or the new file;
-    // where it failed or an allocation did, a prefix of it. Where no run is kept and nothing was concluded, it is left alone.
+    // The output took the report or the journal of the kept run, or the verdict's line, or the findings, or the new
+    // file; where it failed or an allocation did, a prefix of it. Where no run is kept and nothing was concluded, it is
+    // left alone.
     ensures output { HasWritten S.state out.old out.new result.status
         ((result.runs ≡ []) × (result.conclusion ≡ None))
         (output_of (map string_bytes words.now) result.runs result.conclusion) result.written }
@@ -113,7 +118,7 @@ pub fn flow_main<F: Texts, S: Sink, N: Sink, R: Threads + Wait + Sync>(
     ensures read { HaveRead F.held F.failed texts.old texts.new result.status }
     // The diagnostics sink took the line of the status, or a prefix of it where it failed, or nothing.
     ensures noted { HasNoted N.state notes.old notes.new
-        (note_line (names_in result.runs) result.status) result.status result.noted }
+        (note_line (plan_in result.runs) result.status) result.status result.noted }
     ensures watchers { result.watchers ≡ watchers }
 {
     let Ended {
@@ -122,7 +127,7 @@ pub fn flow_main<F: Texts, S: Sink, N: Sink, R: Threads + Wait + Sync>(
         conclusion,
         written,
     } = answer(rt, alloc, words, texts, out, &mut watchers);
-    let noted = put_note(alloc, notes, names_in(runs.as_slice()), &status);
+    let noted = put_note(alloc, notes, plan_in(runs.as_slice()), &status);
     CallResult {
         status,
         runs,
@@ -284,19 +289,18 @@ fn kept_runs<R: Threads + Wait + Sync>(
     Ok(KeptRuns { runs, reason })
 }
 
-// The names of the tasks of the graph that was run.
-fn names_in(runs: &[FrameRun<TextJob>]) -> &[Bytes]
-    ensures names { result.now ≡ names_in runs.now }
-    ensures work { All (λ run. IsTextJob (job_of run)) (take 1 runs.now) }
+// The plan of the graph that was run.
+fn plan_in(runs: &[FrameRun<TextJob>]) -> Option<&Plan>
+    ensures { option_map plan_rows (option_copied result) ≡ plan_in runs.now }
 {
     match runs {
-        [run, ..] => run.job.names(),
-        [] => &[],
+        [run, ..] => run.job.plan(),
+        [] => None,
     }
 }
 
-// Writes the reports of these runs, which came to their ends for this reason, or their journals, in order, and all that is
-// held back of them.
+// Writes the reports of these runs, which came to their ends for this reason, or their journals, in order, and all that
+// is held back of them.
 fn deliver_runs<S: Sink>(
     alloc: Global,
     out: &mut S,

@@ -9,8 +9,8 @@ use pitfall_check::Finding;
 pub enum Conclusion {
     /// The judge's verdict on a journal.
     Verdict(Verdict),
-    /// What the check of a graph found.
-    Findings(GraphFindings),
+    /// What the check of a graph file found: on its top graph, and then on each module.
+    Findings(List<GraphFindings>),
     /// A graph file of the newest version, with the same plan as the one that was read.
     GraphFile(Bytes),
 }
@@ -18,6 +18,8 @@ pub enum Conclusion {
 /// How a graph can go wrong.
 #[derive(Drop)]
 pub struct GraphFindings {
+    /// The name of the module, and empty for the top graph.
+    pub name: Bytes,
     /// The names of the graph's tasks, by their numbers.
     pub names: List<Bytes>,
     /// What was found, by kinds and within a kind by rising task.

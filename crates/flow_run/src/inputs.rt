@@ -22,8 +22,8 @@ pub const FILE_LIMIT: u64 = 4_194_304;
 /// The most bytes of a text.
 pub const TEXT_LIMIT: u64 = 16_777_215;
 
-/// The job of the run that is asked for, with its texts, which are read in the order in which the graph file first names
-/// them. An `Err` is the first thing that stops the call.
+/// The job of the run that is asked for, with its texts, which are read in the order in which the graph file first
+/// names them. An `Err` is the first thing that stops the call.
 pub fn prepare<F: Texts, R: Wait>(
     rt: &R,
     alloc: Global,
@@ -94,8 +94,8 @@ pub(crate) fn plan_in(alloc: Global, bytes: &[u8]) -> Result<Plan, Stop>
     }
 }
 
-// A table without a text, filled with the texts of these names. Its caller makes it, since what stops the reading of texts
-// stops it at a name.
+// A table without a text, filled with the texts of these names. Its caller makes it, since what stops the reading of
+// texts stops it at a name.
 fn read_texts<F: Texts, R: Wait>(
     rt: &R,
     alloc: Global,

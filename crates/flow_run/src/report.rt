@@ -1,17 +1,19 @@
 // The report of a run: what each task that leads to no other ended with.
 ghost use Rattle.std.specs.Prelude.{◌≡◌, ◌<◌, ◌++◌, [], None, length, IfOk, slice_index_or};
-ghost use Rattle.std.specs.Option.{option_and_then, option_copied};
+ghost use Rattle.std.specs.Option.{option_and_then, option_copied, option_map};
 ghost use Rattle.outside_io.specs.Sink.{Writes};
 ghost use Rattle.run_frame.specs.Legal.{IsKept};
 ghost use Rattle.run_frame.specs.NestedRule.{job_of, journal_of};
 ghost use Rattle.run_frame.specs.Runs.{value_at, values_of};
 ghost use Rattle.text_tasks.specs.JobMeaning.{names_of, net_of, text_job};
 ghost use Rattle.nested_runs.specs.Reasons.{run_reason};
-ghost use Rattle.call_status.specs.Reasons.{NamesReason, reason_line};
+ghost use Rattle.graph_plans.specs.PlanRows.{plan_rows};
+ghost use Rattle.call_status.specs.Reasons.{reason_line};
 ghost use Rattle.run_laws.specs.Output.{ended_mark, header, outcome, report, task_report, report_of};
 ghost use Rattle.flow_run.specs.inside.RisingValues.{AreRising};
 
 use call_status::add_reason_line;
+use graph_plans::Plan;
 use nested_runs::Reason;
 use outside_io::{Bytes, List, NoMemory, Sink, SinkFault, put_piece};
 use run_frame::{FrameRun, Job, ValueRow, last_ends};
@@ -24,8 +26,8 @@ const ENDED: &[u8] = b"== ";
 
 const NOT_ENDED: &[u8] = b"-- ";
 
-/// Writes the report of a run that came to its end for this reason: what each task ended with that leads to no other, and
-/// why the run was cut short, if it was. After an `Err` the sink has a prefix of the report.
+/// Writes the report of a run that came to its end for this reason: what each task ended with that leads to no other,
+/// and why the run was cut short, if it was. After an `Err` the sink has a prefix of the report.
 #[tactic(auto, using(outside_io::proofs::Pieces::writes_both, outside_io::proofs::Pieces::writes_no_more))]
 pub fn put_report<S: Sink>(
     alloc: Global,
@@ -38,7 +40,7 @@ pub fn put_report<S: Sink>(
     ensures { Writes (S.state out.old) (S.state out.new) (report_of run.now) result }
 {
     put_tasks(alloc, out, run)?;
-    put_reason(alloc, out, run.job.names(), reason)
+    put_reason(alloc, out, run.job.plan(), reason)
 }
 
 // Writes the line that tells why a run was cut short, if it was.
@@ -46,14 +48,14 @@ pub fn put_report<S: Sink>(
 fn put_reason<S: Sink>(
     alloc: Global,
     out: &mut S,
-    names: &[Bytes],
+    plan: Option<&Plan>,
     reason: &Reason,
 ) -> Result<(), SinkFault>
-    requires { NamesReason names.now reason.now }
-    ensures { Writes (S.state out.old) (S.state out.new) (reason_line names.now reason.now) result }
+    ensures { Writes (S.state out.old) (S.state out.new)
+        (reason_line (option_map plan_rows (option_copied plan.entry)) reason.now) result }
 {
     let mut line = List::new(alloc);
-    add_reason_line(&mut line, names, reason)?;
+    add_reason_line(&mut line, plan, reason)?;
     put_value(out, line.as_slice())
 }
 
@@ -102,10 +104,12 @@ fn value_in(rows: &[ValueRow<Item>], place: u64) -> Option<&Item>
 
 // The name of a task.
 fn task_name(names: &[Bytes], task: u32) -> &[u8]
-    requires { task < length names.now }
     ensures { result.now ≡ slice_index_or names.now task [] }
 {
-    names[task as usize].as_slice()
+    match names.get(task as usize) {
+        Some(name) => name.as_slice(),
+        None => &[],
+    }
 }
 
 // Writes what the report has of a task.

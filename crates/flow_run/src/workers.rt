@@ -1,10 +1,9 @@
 // Runs by so many workers.
 ghost use Rattle.std.specs.Prelude.{◌≡◌, IfOk};
 ghost use Rattle.std.specs.Arc.{arc_value};
-ghost use Rattle.run_frame.specs.FlatNets.{IsFlatNet};
 ghost use Rattle.run_frame.specs.Legal.{IsKept};
 ghost use Rattle.run_frame.specs.NestedRule.{job_of};
-ghost use Rattle.text_tasks.specs.JobMeaning.{net_of, text_job};
+ghost use Rattle.text_tasks.specs.JobMeaning.{text_job};
 ghost use Rattle.worker_seat.specs.Crews.{IsEntered, MayEnter};
 
 use super::fronts::{put_front, take_front};
@@ -19,10 +18,10 @@ use table_frames::run_alone;
 use text_tasks::TextJob;
 use worker_seat::{Crew, CrewRan, EntersEach, WorkerSeat, run_by_crew};
 
-/// Runs a job to its end by as many workers as are asked for, or by as many as there are watchers, where these are fewer. A single
-/// worker is the caller's thread, which needs no lock; several are a crew, whose seats are entered by threads. Each
-/// seat holds a watcher, the first one the first, and in the end they are where they were. It answers `Err` only if
-/// an allocation fails.
+/// Runs a job to its end by as many workers as are asked for, or by as many as there are watchers, where these are
+/// fewer. A single worker is the caller's thread, which needs no lock; several are a crew, whose seats are entered by
+/// threads. Each seat holds a watcher, the first one the first, and in the end they are where they were. It answers
+/// `Err` only if an allocation fails.
 pub(crate) fn run_by<R: Threads + Wait + Sync>(
     rt: &R,
     alloc: Global,
@@ -30,7 +29,6 @@ pub(crate) fn run_by<R: Threads + Wait + Sync>(
     job: Arc<TextJob>,
     watchers: &mut Vec<Box<dyn Watch + Send>>,
 ) -> Result<FrameRun<TextJob>, NoMemory>
-    requires flat { IsFlatNet (net_of (arc_value job)) }
     ensures job { IfOk result (λ run. job_of run ≡ arc_value job) }
     ensures kept { IfOk result (IsKept text_job) }
     ensures watchers { watchers.new ≡ watchers.old }

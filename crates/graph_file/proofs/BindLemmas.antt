@@ -1,5 +1,5 @@
 -- What a step that answered says of those before it.
-use Rattle.std.proofs.Common.{◌≡◌, suc, length, List, [], ◌∷◌, Bool, true, false, Option, Some, None, Result, Ok, Err, ok_or, option_and_then, option_map, refl, sym, subst, ap, ◌∙◌}
+use Rattle.std.proofs.Common.{◌≡◌, suc, length, List, [], ◌∷◌, Bool, true, false, Option, Some, None, Result, Ok, Err, IfOk, ok_or, option_and_then, option_map, refl, sym, subst, ap, ◌∙◌}
 use Rattle.std.proofs.lemmas.Option.{cond_some, option_and_then_some}
 use Rattle.std.specs.List.{list_all}
 use Rattle.graph_file.specs.declared.refusals.GraphError.{GraphError}
@@ -51,3 +51,8 @@ each-length f (x ∷ xs) ys is =
     option_and_then_some (λ y. option_map (λ rest. y ∷ rest) (each f xs)) (f x) ys is (λ y here rest.
     let others = each_rest (each f xs) y ys rest in
     ap length (sym others.2) ∙ ap suc (each-length f xs others.0 others.1))
+
+-- what holds of a result, if there is one, by what is known of it
+pub if-ok : {X E : Type 0} (r : Result X E) {P Q : X → Type 0} → ((x : X) → P x → Q x) → IfOk r P → IfOk r Q
+if-ok (Ok x) so is = so x is
+if-ok (Err e) so is = tt

@@ -1,24 +1,25 @@
--- What holds of the semaphores and tasks of each file.
-use Rattle.std.proofs.Common.{◌≡◌, ◌≢◌, ℕ, ◌+◌, ◌<◌, ◌≤◌, List, [], ◌∷◌, ◌++◌, length, get_or, Bool, true, false, leb, cond, Option, Some, None, is_some, unwrap_or, position, All, refl, sym, ap, subst, ◌∙◌, bytes_eq, arith}
+-- What holds of the graphs of each file.
+use Rattle.std.proofs.Common.{◌≡◌, ◌≢◌, ℕ, suc, ◌<◌, ◌≤◌, List, [], ◌∷◌, ◌++◌, length, get_or, Bool, true, false, leb, cond, Some, is_some, position, All, refl, sym, ap, subst, ◌∙◌, bytes_eq, arith}
 use Rattle.std.proofs.lemmas.Bool.{and_parts, leb-true, true≢false}
 use Rattle.std.proofs.lemmas.Cmp.{nat_list_eq_equiv}
-use Rattle.std.proofs.lemmas.List.{length-append, get_or_default}
-use Rattle.std.proofs.lemmas.List.Elements.{All-append, All-push}
+use Rattle.std.proofs.lemmas.List.{get_or_default, length-map}
+use Rattle.std.proofs.lemmas.List.Elements.{All-append, All-cons, All-head, All-push, All-tail}
 use Rattle.std.proofs.lemmas.List.Quantifiers.{all_pairs_push, position-Some}
 use Rattle.std.proofs.lemmas.Map.Views.{list_any-from_Contains}
 use Rattle.std.specs.List.{list_all, list_any}
 use Rattle.graph_plans.specs.declared.ops.Op.{Op}
-use Rattle.graph_plans.specs.declared.ops.Op.TheVariants.{Input, Read, Text, Match, Back, IfMore, IfHas, Route}
+use Rattle.graph_plans.specs.declared.ops.Op.TheVariants.{Input, Read, Text, Match, Back, IfMore, IfHas, Route, Spread, Module}
 use Rattle.graph_plans.specs.declared.ops.TextOp.{TextOp}
 use Rattle.graph_plans.specs.declared.ops.TextOp.TheVariants.{Pass, Keep, Without, Head, Tail, Skip, Sort, Uniq, Count, Tally}
-use Rattle.graph_plans.specs.Operations.{IsOp, IsTextOp, IsWord, line_limit, route_limit, word_limit}
+use Rattle.graph_plans.specs.Operations.{IsOp, IsPartSize, IsTextOp, IsWord, line_limit, route_limit, word_limit}
 use Rattle.graph_plans.specs.PlanRows.{AllDiffer, IsTextName, maximum_limit}
+use Rattle.graph_file.specs.declared.scopes.Scope.{Scope}
+use Rattle.graph_file.specs.declared.scopes.Scope.TheVariants.{Top, Module as OfModule}
 use Rattle.graph_file.specs.Contents.{is_text}
-use Rattle.graph_file.specs.Fields.{u32_of}
-use Rattle.graph_file.specs.OpRows.{FileOpRow, reads, does}
-use Rattle.graph_file.specs.PlanText.{DraftRows, empty_draft, mentioned, numbered, text_number, with_semaphore, with_task_text, with_text}
-use Rattle.graph_file.specs.inside.Drafts.{IsDraft, IsMaximum}
-use Rattle.graph_file.specs.inside.Fine.{AreFine, AreValidSems, IsMade, IsValidSem, IsValidTask, SemText, TaskText, fits, fits_lines, fits_max, fits_op, fits_text_op, fits_words, with_semaphores, with_tasks}
+use Rattle.graph_file.specs.OpRows.{FileOpRow, reads, runs, does}
+use Rattle.graph_file.specs.PlanText.{DraftRows, FileRows, TaskText, file_texts, mentioned, mentioned_by_graphs, mentioned_by_tasks}
+use Rattle.graph_file.specs.inside.Drafts.{IsDraft, IsFile, IsFileOp, IsMaximum}
+use Rattle.graph_file.specs.inside.Fine.{AreFine, AreMade, AreValidSems, IsMade, IsMadeFile, SemText, fits, fits_lines, fits_max, fits_op, fits_part, fits_text_op, fits_words, maxima_of}
 use Rattle.graph_file.proofs.NameLemmas.{some_place}
 
 -- ---- operations
@@ -50,48 +51,43 @@ IsTextOp-fits Uniq fine = tt
 IsTextOp-fits Count fine = tt
 IsTextOp-fits Tally fine = tt
 
-IsOp-fits : (texts : ℕ) (op : Op) → fits_op op ≡ true → IsOp texts op
-IsOp-fits texts Input fine = tt
-IsOp-fits texts (Read text) fine = cc
-IsOp-fits texts (Text op) fine = IsTextOp-fits op fine
-IsOp-fits texts Match fine = tt
-IsOp-fits texts Back fine = tt
-IsOp-fits texts (IfMore n) fine = lines-from n fine
-IsOp-fits texts (IfHas word) fine = word-from word fine
-IsOp-fits texts (Route words) fine = words-from words fine
+part-from : (n : ℕ) → fits_part n ≡ true → IsPartSize n
+part-from n fine =
+    let parts = and_parts (leb 1 n) (leb n line_limit) fine in
+    record { least = leb-true 1 n parts.0; most = leb-true n line_limit parts.1 }
 
--- more texts may be mentioned
-IsOp-more : (few many : ℕ) (op : Op) → few ≤ many → IsOp few op → IsOp many op
-IsOp-more few many Input most is = is
-IsOp-more few many (Read text) most is = omega (arith, is)
-IsOp-more few many (Text op) most is = is
-IsOp-more few many Match most is = is
-IsOp-more few many Back most is = is
-IsOp-more few many (IfMore n) most is = is
-IsOp-more few many (IfHas word) most is = is
-IsOp-more few many (Route words) most is = is
+spread-from : (n : ℕ) (op : TextOp) → fits_op (Spread n op) ≡ true → IsPartSize n × IsTextOp op
+spread-from n op fine = let parts = and_parts (fits_part n) (fits_text_op op) fine in (part-from n parts.0, IsTextOp-fits op parts.1)
+
+IsOp-fits : (op : Op) → fits_op op ≡ true → IsOp 0 0 op
+IsOp-fits Input fine = tt
+IsOp-fits (Read text) fine = cc
+IsOp-fits (Text op) fine = IsTextOp-fits op fine
+IsOp-fits Match fine = tt
+IsOp-fits Back fine = tt
+IsOp-fits (IfMore n) fine = lines-from n fine
+IsOp-fits (IfHas word) fine = word-from word fine
+IsOp-fits (Route words) fine = words-from words fine
+IsOp-fits (Spread n op) fine = spread-from n op fine
+IsOp-fits (Module m) fine = cc
+
+-- an operation that names no text and no module may do so among any
+pub IsOp-any : (texts modules : ℕ) (op : Op) → IsOp 0 0 op → IsOp texts modules op
+IsOp-any texts modules Input is = is
+IsOp-any texts modules (Read text) is = absurd (omega (arith, is))
+IsOp-any texts modules (Text op) is = is
+IsOp-any texts modules Match is = is
+IsOp-any texts modules Back is = is
+IsOp-any texts modules (IfMore n) is = is
+IsOp-any texts modules (IfHas word) is = is
+IsOp-any texts modules (Route words) is = is
+IsOp-any texts modules (Spread n op) is = is
+IsOp-any texts modules (Module m) is = absurd (omega (arith, is))
 
 -- ---- texts
 
-number_step : (found : Option ℕ) (texts : List (List ℕ)) (text : List ℕ) → ((k : ℕ) → found ≡ Some k → k < length texts)
-    → u32_of (unwrap_or found (length texts)) < length (cond (is_some found) texts (texts ++ text ∷ []))
-number_step None texts text at = omega (arith, length-append texts (text ∷ []))
-number_step (Some k) texts text at = omega (arith, at k refl)
-
 pub place_within : (names : List (List ℕ)) (name : List ℕ) (k : ℕ) → position (bytes_eq name) names ≡ Some k → k < length names
 place_within names name k is = (position-Some (bytes_eq name) names k name is).0
-
--- the number of a text is one of those that are mentioned then
-number_within : (texts : List (List ℕ)) (text : List ℕ) → u32_of (text_number texts text) < length (with_text texts text)
-number_within texts text = number_step (position (bytes_eq text) texts) texts text (λ k is. place_within texts text k is)
-
-length_step : (known : Bool) (texts : List (List ℕ)) (text : List ℕ) → length texts ≤ length (cond known texts (texts ++ text ∷ []))
-length_step true texts text = omega arith
-length_step false texts text = omega (arith, length-append texts (text ∷ []))
-
-pub mentioned-longer : (texts : List (List ℕ)) (op : FileOpRow) → length texts ≤ length (mentioned texts op)
-mentioned-longer texts (reads text) = length_step (is_some (position (bytes_eq text) texts)) texts text
-mentioned-longer texts (does op) = omega arith
 
 text_name-from : (text : List ℕ) → is_text 1 4096 text ≡ true → IsTextName text
 text_name-from text fine =
@@ -112,67 +108,62 @@ texts_step : (known : Bool) (texts : List (List ℕ)) (text : List ℕ) → is_s
 texts_step true texts text is all differ named = (all, differ)
 texts_step false texts text is all differ named = (All-push IsTextName texts text all named, AllDiffer-push texts text differ (sym (some_place (bytes_eq text) texts) ∙ is))
 
-mentioned-texts : (texts : List (List ℕ)) (op : FileOpRow) → fits op ≡ true → All IsTextName texts → AllDiffer texts → All IsTextName (mentioned texts op) × AllDiffer (mentioned texts op)
-mentioned-texts texts (reads text) fine all differ = texts_step (is_some (position (bytes_eq text) texts)) texts text refl all differ (text_name-from text fine)
+mentioned-texts : (texts : List (List ℕ)) (op : FileOpRow) → IsFileOp op → All IsTextName texts → AllDiffer texts → All IsTextName (mentioned texts op) × AllDiffer (mentioned texts op)
+mentioned-texts texts (reads text) fine all differ = texts_step (is_some (position (bytes_eq text) texts)) texts text refl all differ fine
+mentioned-texts texts (runs name) fine all differ = (all, differ)
 mentioned-texts texts (does op) fine all differ = (all, differ)
 
-IsOp-numbered : (texts : List (List ℕ)) (op : FileOpRow) → fits op ≡ true → IsOp (length (mentioned texts op)) (numbered texts op)
-IsOp-numbered texts (reads text) fine = number_within texts text
-IsOp-numbered texts (does op) fine = IsOp-fits (length texts) op fine
+abbrev AreFileOps : List TaskText → Type 0
+AreFileOps tasks = All (λ (task : TaskText). IsFileOp task.op) tasks
 
--- ---- drafts
+pub texts-of-tasks : (texts : List (List ℕ)) (tasks : List TaskText) → AreFileOps tasks → All IsTextName texts → AllDiffer texts → All IsTextName (mentioned_by_tasks texts tasks) × AllDiffer (mentioned_by_tasks texts tasks)
+texts-of-tasks texts [] fine all differ = (all, differ)
+texts-of-tasks texts (task ∷ tasks) fine all differ =
+    let both = mentioned-texts texts task.op (All-head (λ (t : TaskText). IsFileOp t.op) task tasks fine) all differ in
+    texts-of-tasks (mentioned texts task.op) tasks (All-tail (λ (t : TaskText). IsFileOp t.op) task tasks fine) both.0 both.1
+
+pub texts-of-graphs : (texts : List (List ℕ)) (drafts : List DraftRows) → All IsDraft drafts → All IsTextName texts → AllDiffer texts → All IsTextName (mentioned_by_graphs texts drafts) × AllDiffer (mentioned_by_graphs texts drafts)
+texts-of-graphs texts [] fine all differ = (all, differ)
+texts-of-graphs texts (draft ∷ drafts) fine all differ =
+    let both = texts-of-tasks texts draft.tasks (All-head IsDraft draft drafts fine).ops all differ in
+    texts-of-graphs (mentioned_by_tasks texts draft.tasks) drafts (All-tail IsDraft draft drafts fine) both.0 both.1
 
 none-yet : {A : Type 0} (P : A → Type 0) → All P []
 none-yet P k d within = absurd (omega arith)
 
-IsDraft-start : (version : ℕ) → IsDraft (empty_draft version)
-IsDraft-start version = record {
-  sem_count = refl;
-  sems = none-yet IsMaximum;
-  op_count = refl;
-  ops = none-yet (IsOp 0);
-  texts = none-yet IsTextName;
-  texts_differ = λ i j d less within. absurd (omega arith);
-}
+pub texts-of-file : (file : FileRows) → IsFile file → All IsTextName (file_texts file) × AllDiffer (file_texts file)
+texts-of-file file is = texts-of-graphs [] (file.top ∷ file.modules) (All-cons IsDraft file.top file.modules is.top is.modules) (none-yet IsTextName) (λ i j d less within. absurd (omega arith))
+
+-- ---- the graphs of a file
+
+IsFileOp-fits : (op : FileOpRow) → fits op ≡ true → IsFileOp op
+IsFileOp-fits (reads text) fine = text_name-from text fine
+IsFileOp-fits (runs name) fine = tt
+IsFileOp-fits (does op) fine = IsOp-fits op fine
+
+tasks-fit : (tasks : List TaskText) → AreFine tasks → AreFileOps tasks
+tasks-fit [] fine = none-yet (λ (task : TaskText). IsFileOp task.op)
+tasks-fit (task ∷ tasks) fine = All-cons (λ (t : TaskText). IsFileOp t.op) task tasks (IsFileOp-fits task.op fine.0.op) (tasks-fit tasks fine.1)
 
 IsMaximum-from : (max : ℕ) → fits_max max ≡ true → IsMaximum max
 IsMaximum-from max fine =
     let parts = and_parts (leb 1 max) (leb max maximum_limit) fine in
     record { least = leb-true 1 max parts.0; most = leb-true max maximum_limit parts.1 }
 
-IsDraft-semaphore : (draft : DraftRows) (sem : SemText) → IsDraft draft → IsValidSem sem → IsDraft (with_semaphore draft sem.name sem.max)
-IsDraft-semaphore draft sem is fine = record {
-  sem_count = length-append draft.sems (sem.max ∷ []) ∙ ap (λ k. k + 1) is.sem_count ∙ sym (length-append draft.sem_names (sem.name ∷ []));
-  sems = All-push IsMaximum draft.sems sem.max is.sems (IsMaximum-from sem.max fine.max);
-  op_count = is.op_count;
-  ops = is.ops;
-  texts = is.texts;
-  texts_differ = is.texts_differ;
+maxima-fit : (sems : List SemText) → AreValidSems sems → All IsMaximum (maxima_of sems)
+maxima-fit [] fine = none-yet IsMaximum
+maxima-fit (sem ∷ sems) fine = All-cons IsMaximum sem.max (maxima_of sems) (IsMaximum-from sem.max fine.0.max) (maxima-fit sems fine.1)
+
+pub IsDraft-of : (scope : Scope) (draft : DraftRows) → IsMade scope draft → IsDraft draft
+IsDraft-of scope draft made = record {
+  sem_count = ap length (sym made.maxima) ∙ length-map made.sems (λ (sem : SemText). sem.max) ∙ sym (length-map made.sems (λ (sem : SemText). sem.name)) ∙ ap length made.sem_names;
+  sems = subst (All IsMaximum) made.maxima (maxima-fit made.sems made.fine_sems);
+  ops = tasks-fit draft.tasks made.tasks;
 }
 
-IsDraft-semaphores : (draft : DraftRows) (sems : List SemText) → IsDraft draft → AreValidSems sems → IsDraft (with_semaphores draft sems)
-IsDraft-semaphores draft [] is fine = is
-IsDraft-semaphores draft (sem ∷ sems) is fine = IsDraft-semaphores (with_semaphore draft sem.name sem.max) sems (IsDraft-semaphore draft sem is fine.0) fine.1
+drafts-made : (m : ℕ) (drafts : List DraftRows) → AreMade m drafts → All IsDraft drafts
+drafts-made m [] made = none-yet IsDraft
+drafts-made m (draft ∷ drafts) made = All-cons IsDraft draft drafts (IsDraft-of (OfModule m) draft made.1) (drafts-made (suc m) drafts made.2)
 
-IsDraft-more : (draft : DraftRows) (task : TaskText) → IsDraft draft → IsValidTask task → IsDraft (with_task_text draft task.names task.op)
-IsDraft-more draft task is fine =
-    let texts = mentioned draft.texts task.op in
-    let longer : length draft.texts ≤ length texts = mentioned-longer draft.texts task.op in
-    let both = mentioned-texts draft.texts task.op fine.op is.texts is.texts_differ in
-    record {
-      sem_count = is.sem_count;
-      sems = is.sems;
-      op_count = length-append draft.ops (numbered draft.texts task.op ∷ []) ∙ ap (λ k. k + 1) is.op_count ∙ sym (length-append draft.tasks (task.names ∷ []));
-      ops = All-push (IsOp (length texts)) draft.ops (numbered draft.texts task.op) (λ k d within. IsOp-more (length draft.texts) (length texts) (get_or draft.ops k d) longer (is.ops k d within))
-          (IsOp-numbered draft.texts task.op fine.op);
-      texts = both.0;
-      texts_differ = both.1;
-    }
-
-IsDraft-tasks : (draft : DraftRows) (tasks : List TaskText) → IsDraft draft → AreFine tasks → IsDraft (with_tasks draft tasks)
-IsDraft-tasks draft [] is fine = is
-IsDraft-tasks draft (task ∷ tasks) is fine = IsDraft-tasks (with_task_text draft task.names task.op) tasks (IsDraft-more draft task is fine.0) fine.1
-
-pub IsDraft-of : (draft : DraftRows) → IsMade draft → IsDraft draft
-IsDraft-of draft made =
-    subst IsDraft made.is (IsDraft-tasks (with_semaphores (empty_draft made.version) made.sems) made.tasks (IsDraft-semaphores (empty_draft made.version) made.sems (IsDraft-start made.version) made.fine_sems) made.fine_tasks)
+pub IsFile-of : (file : FileRows) → IsMadeFile file → IsFile file
+IsFile-of file made = record { no_name = made.no_name; top = IsDraft-of Top file.top made.top; modules = drafts-made 0 file.modules made.modules }

@@ -1,12 +1,15 @@
--- The semaphores and tasks that were read may stand in a file.
-use Rattle.std.proofs.Common.{◌≡◌, ℕ, List, [], ◌∷◌, ◌++◌, map, length, Bool, true, false, leb, cond, Option, Some, None, Ok, ok_or, option_and_then, codes, bytes_eq, refl, ap, subst, ◌∙◌}
+-- The graphs that were read may stand in a file.
+use Rattle.std.proofs.Common.{◌≡◌, ℕ, suc, ◌+◌, List, [], ◌∷◌, ◌++◌, map, length, Bool, true, false, leb, cond, Option, Some, None, Result, Ok, Err, ok_or, option_and_then, codes, bytes_eq, refl, sym, ap, subst, ◌∙◌, append_assoc, arith}
+use Rattle.std.proofs.lemmas.List.{append-nil}
 use Rattle.std.proofs.lemmas.Option.{option_and_then_some}
 use Rattle.std.specs.Bool.{⊤}
 use Rattle.std.specs.Option.{option_map_or}
 use Rattle.std.specs.List.{list_all}
 use Rattle.serde_json.specs.Data.{Data}
 use Rattle.serde_json.specs.Find.{as_number, as_str, as_u64, get}
-use Rattle.graph_plans.specs.declared.ops.Op.TheVariants.{Input, Text, Match, Back, IfMore, IfHas, Route}
+use Rattle.graph_plans.specs.declared.ops.Op.{Op}
+use Rattle.graph_plans.specs.declared.ops.Op.TheVariants.{Input, Text, Match, Back, IfMore, IfHas, Route, Spread}
+use Rattle.graph_plans.specs.declared.ops.TextOp.{TextOp}
 use Rattle.graph_plans.specs.declared.ops.TextOp.TheVariants.{Pass, Keep, Without, Head, Tail, Skip, Sort, Uniq, Count, Tally}
 use Rattle.graph_plans.specs.declared.spots.Spot.{Spot}
 use Rattle.graph_plans.specs.declared.spots.Spot.TheVariants.{File}
@@ -14,12 +17,14 @@ use Rattle.graph_plans.specs.Operations.{route_limit, word_limit}
 use Rattle.graph_plans.specs.PlanRows.{maximum_limit}
 use Rattle.graph_file.specs.declared.refusals.GraphError.{GraphError}
 use Rattle.graph_file.specs.declared.refusals.GraphError.TheVariants.{BadField}
-use Rattle.graph_file.specs.Contents.{each, empty_list_of, is_name, is_text, line_count_of, list_of, name_of, name_list_of, objects_of, passing, text_name_of, whole_of, word_of, words_of}
-use Rattle.graph_file.specs.Fields.{allowed, needed, only, sem_spot, task_spot}
-use Rattle.graph_file.specs.OpRows.{FileOpRow, reads, does, OpRow, WithFields, bare, single, used_by, text_rows, op_rows, row_called, op_called, op_in}
-use Rattle.graph_file.specs.PlanText.{DraftRows, TaskNames, add_semaphore, add_task, draft_in, empty_draft, file_fields, puts_field, takes_field, task_fields, with_semaphore, with_task_text}
-use Rattle.graph_file.specs.Steps.{walk}
-use Rattle.graph_file.specs.inside.Fine.{AreFine, AreValidSems, IsMade, IsValidSem, IsValidTask, SemText, TaskText, fits, fits_lines, fits_max, fits_text_op, fits_words, with_semaphores, with_tasks}
+use Rattle.graph_file.specs.declared.scopes.Scope.{Scope}
+use Rattle.graph_file.specs.declared.scopes.Scope.TheVariants.{Top, Module as OfModule}
+use Rattle.graph_file.specs.Contents.{each, is_name, is_text, line_count_of, list_of, name_of, name_list_of, objects_of, part_size_of, passing, text_name_of, whole_of, word_of, words_of}
+use Rattle.graph_file.specs.Fields.{allowed, graph_spot, needed, only, sem_spot, task_spot}
+use Rattle.graph_file.specs.OpRows.{FileOpRow, reads, runs, does, OpRow, WithFields, bare, single, used_by, text_rows, op_rows, row_called, op_called, op_in, each_in, spread_in, spread_row, text_op_in}
+use Rattle.graph_file.specs.PlanText.{DraftRows, FileRows, TaskText, add_module, add_semaphore, add_task, empty_draft, file_fields, file_in, graph_in, module_in, puts_field, takes_field, task_fields, with_semaphore, with_task_text}
+use Rattle.graph_file.specs.Steps.{otherwise, walk}
+use Rattle.graph_file.specs.inside.Fine.{AreFine, AreMade, AreValidSems, IsMade, IsMadeFile, IsValidSem, IsValidTask, SemText, fits, fits_lines, fits_max, fits_op, fits_part, fits_text_op, fits_words, maxima_of, names_of_sems}
 use Rattle.graph_file.proofs.BindLemmas.{bind_ok, each-all, each-length, ok_or_ok, passing-ok}
 
 -- ---- contents
@@ -36,6 +41,12 @@ finds-text d text is = passing-ok (is_text 1 4096) (as_str d) text is
 
 finds-lines : Finds line_count_of fits_lines
 finds-lines d n is = passing-ok fits_lines (option_and_then as_u64 (as_number d)) n is
+
+finds-part : Finds part_size_of fits_part
+finds-part d n is = passing-ok fits_part (option_and_then as_u64 (as_number d)) n is
+
+finds-string : Finds as_str (λ name. fits (runs name))
+finds-string d name is = refl
 
 finds-name : Finds name_of is_name
 finds-name d name is = passing-ok is_name (as_str d) name is
@@ -98,6 +109,52 @@ all-text_rows =
     & makes-bare fits_text_op (codes "tally") Tally refl
     & tt
 
+called-makes_step : {A : Type 0} (test : A → Bool) (row found : OpRow A) (here : Bool) (rest : Option (OpRow A)) → Makes test row → (rest ≡ Some found → Makes test found) → cond here (Some row) rest ≡ Some found → Makes test found
+called-makes_step test row found true rest makes later is = let same : row ≡ found = cc in subst (Makes test) same makes
+called-makes_step test row found false rest makes later is = later is
+
+called-makes : {A : Type 0} (test : A → Bool) (rows : List (OpRow A)) (name : List ℕ) (row : OpRow A) → AllMake test rows → row_called rows name ≡ Some row → Makes test row
+called-makes test [] name row all is = cc
+called-makes test (first ∷ rows) name row all is =
+    called-makes_step test first row (bytes_eq first.name name) (row_called rows name) all.0 (called-makes test rows name row all.1) is
+
+-- the operation on one text that an object is
+otherwise_ok : {A : Type 0} (r : Result A GraphError) (e : GraphError) (x : A) → otherwise r e ≡ Ok x → r ≡ Ok x
+otherwise_ok (Ok y) e x is = is
+otherwise_ok (Err f) e x is = cc
+
+called-fits : (name : List ℕ) (spot : Spot) (d : Data) (found : WithFields TextOp) → op_called text_rows name spot d ≡ Ok found → fits_text_op found.op ≡ true
+called-fits name spot d found called =
+    bind_ok (ok_or (row_called text_rows name) (BadField spot (codes "op"))) _ found called (λ row at_row rest.
+    bind_ok (row.made spot d) _ found rest (λ op made last.
+    let same : record { op = op; fields = row.fields } ≡ found = cc in
+    let fine : fits_text_op op ≡ true = called-makes fits_text_op text_rows name row all-text_rows (ok_or_ok _ _ row at_row) spot d op made in
+    subst (λ (f : WithFields TextOp). fits_text_op f.op ≡ true) same fine))
+
+each-fits : (spot : Spot) (d : Data) (op : TextOp) → each_in spot d ≡ Ok op → fits_text_op op ≡ true
+each-fits spot d op is =
+    bind_ok (ok_or (get (codes "each") d) (BadField spot (codes "each"))) _ op is (λ each here after.
+    bind_ok (op_in text_rows spot each) _ op (otherwise_ok (text_op_in spot each) _ op after) (λ found in_ rest.
+    bind_ok (needed as_str spot (codes "op") each) (λ name. op_called text_rows name spot each) found in_ (λ name named called.
+    bind_ok (only (codes "op" ∷ found.fields) spot each) _ op rest (λ done none last.
+    let same : found.op ≡ op = cc in
+    subst (λ o. fits_text_op o ≡ true) same (called-fits name spot each found called)))))
+
+spread-fits : (spot : Spot) (d : Data) (op : Op) → spread_in spot d ≡ Ok op → fits_op op ≡ true
+spread-fits spot d op is =
+    bind_ok (needed part_size_of spot (codes "n") d) _ op is (λ n counted after.
+    bind_ok (each_in spot d) _ op after (λ each there last.
+    let same : Spread n each ≡ op = cc in
+    let first : fits_part n ≡ true = found-passes part_size_of fits_part (get (codes "n") d) (BadField spot (codes "n")) n finds-part counted in
+    let both : fits_op (Spread n each) ≡ true = rw first (each-fits spot d each there) in
+    subst (λ o. fits_op o ≡ true) same both))
+
+makes-spread : Makes fits spread_row
+makes-spread spot d made is =
+    bind_ok (spread_in spot d) (λ op. Ok (does op)) made is (λ op here last.
+    let same : does op ≡ made = cc in
+    subst (λ o. fits o ≡ true) same (spread-fits spot d op here))
+
 all-op_rows : AllMake fits op_rows
 unfolding op_rows
 all-op_rows =
@@ -108,16 +165,9 @@ all-op_rows =
     & makes-single fits (codes "ifmore") (codes "n") line_count_of (λ n. does (IfMore n)) finds-lines
     & makes-single fits (codes "ifhas") (codes "word") word_of (λ word. does (IfHas word)) finds-word
     & makes-single fits (codes "route") (codes "words") words_of (λ words. does (Route words)) finds-words
+    & makes-spread
+    & makes-single fits (codes "module") (codes "module") as_str runs finds-string
     & all-used fits (λ op. does (Text op)) text_rows all-text_rows
-
-called-makes_step : {A : Type 0} (test : A → Bool) (row found : OpRow A) (here : Bool) (rest : Option (OpRow A)) → Makes test row → (rest ≡ Some found → Makes test found) → cond here (Some row) rest ≡ Some found → Makes test found
-called-makes_step test row found true rest makes later is = let same : row ≡ found = cc in subst (Makes test) same makes
-called-makes_step test row found false rest makes later is = later is
-
-called-makes : {A : Type 0} (test : A → Bool) (rows : List (OpRow A)) (name : List ℕ) (row : OpRow A) → AllMake test rows → row_called rows name ≡ Some row → Makes test row
-called-makes test [] name row all is = cc
-called-makes test (first ∷ rows) name row all is =
-    called-makes_step test first row (bytes_eq first.name name) (row_called rows name) all.0 (called-makes test rows name row all.1) is
 
 -- the operation that an object names may stand in a file
 op_in-fits : (spot : Spot) (d : Data) (found : WithFields FileOpRow) → op_in op_rows spot d ≡ Ok found → fits found.op ≡ true
@@ -136,18 +186,18 @@ allowed-names spot field None names is = let same : [] ≡ names = cc in subst (
 allowed-names spot field (Some d) names is = finds-names d names (ok_or_ok _ _ names is)
 
 -- a task that is read may stand in a file, and the draft has it besides
-pub task-read : (draft : DraftRows) (d : Data) (next : DraftRows) → add_task draft d ≡ Ok next → (task : TaskText) × IsValidTask task × (with_task_text draft task.names task.op ≡ next)
+pub task-read : (draft : DraftRows) (d : Data) (next : DraftRows) → add_task draft d ≡ Ok next → (task : TaskText) × IsValidTask task × (with_task_text draft task ≡ next)
 task-read draft d next is =
-    let spot = task_spot (length draft.tasks) in
+    let spot = task_spot draft.scope (length draft.tasks) in
     bind_ok (needed name_of spot (codes "name") d) _ next is (λ name named after_name.
     bind_ok (op_in op_rows spot d) _ next after_name (λ found called after_op.
     bind_ok (allowed [] name_list_of spot (codes "to") d) _ next after_op (λ to linked after_to.
     bind_ok (allowed [] name_list_of spot (takes_field draft.version) d) _ next after_to (λ takes taken after_takes.
     bind_ok (allowed [] name_list_of spot (puts_field draft.version) d) _ next after_takes (λ puts put after_puts.
     bind_ok (only (task_fields draft.version ++ found.fields) spot d) _ next after_puts (λ done none last.
-    let names : TaskNames = record { name = name; to = to; takes = takes; puts = puts } in
-    let same : with_task_text draft names found.op ≡ next = cc in (
-      record { names = names; op = found.op },
+    let task : TaskText = record { names = record { name = name; to = to; takes = takes; puts = puts }; op = found.op } in
+    let same : with_task_text draft task ≡ next = cc in (
+      task,
       record {
         name = found-passes name_of is_name (get (codes "name") d) (BadField spot (codes "name")) name finds-name named;
         op = op_in-fits spot d found called;
@@ -158,13 +208,17 @@ task-read draft d next is =
       same,
     )))))))
 
+-- the draft with these tasks more
+abbrev pub with_tasks : DraftRows → List TaskText → DraftRows
+with_tasks draft tasks = record draft { tasks = draft.tasks ++ tasks }
+
 tasks-read : (draft : DraftRows) (ds : List Data) (r : DraftRows) → walk add_task draft ds ≡ Ok r → (tasks : List TaskText) × AreFine tasks × (with_tasks draft tasks ≡ r)
-tasks-read draft [] r is = let same : draft ≡ r = cc in ([], tt, same)
+tasks-read draft [] r is = let same : draft ≡ r = cc in ([], tt, rw append-nil same)
 tasks-read draft (d ∷ ds) r is =
     bind_ok (add_task draft d) (λ next. walk add_task next ds) r is (λ next here rest.
     let first = task-read draft d next here in
     let others = tasks-read next ds r rest in
-    (first.0 ∷ others.0, (first.1, others.1), ap (λ x. with_tasks x others.0) first.2 ∙ others.2))
+    (first.0 ∷ others.0, (first.1, others.1), ap (λ ts. record draft { tasks = ts }) (sym (append_assoc draft.tasks (first.0 ∷ []) others.0)) ∙ ap (λ x. with_tasks x others.0) first.2 ∙ others.2))
 
 -- ---- semaphores
 
@@ -173,7 +227,7 @@ finds-max d n is = passing-ok fits_max (option_and_then as_u64 (as_number d)) n 
 
 semaphore-read : (draft : DraftRows) (d : Data) (next : DraftRows) → add_semaphore draft d ≡ Ok next → (sem : SemText) × IsValidSem sem × (with_semaphore draft sem.name sem.max ≡ next)
 semaphore-read draft d next is =
-    let spot = sem_spot (length draft.sem_names) in
+    let spot = sem_spot draft.scope (length draft.sem_names) in
     bind_ok (needed name_of spot (codes "name") d) _ next is (λ name named after_name.
     bind_ok (needed (whole_of 1 maximum_limit) spot (codes "max") d) _ next after_name (λ max limited after_max.
     bind_ok (only (codes "name" ∷ codes "max" ∷ []) spot d) _ next after_max (λ done none last.
@@ -186,30 +240,75 @@ semaphore-read draft d next is =
       same,
     ))))
 
-semaphores-read : (draft : DraftRows) (ds : List Data) (r : DraftRows) → walk add_semaphore draft ds ≡ Ok r → (sems : List SemText) × AreValidSems sems × (with_semaphores draft sems ≡ r)
-semaphores-read draft [] r is = let same : draft ≡ r = cc in ([], tt, same)
+-- the draft with these semaphores more
+abbrev pub with_sems_more : DraftRows → List SemText → DraftRows
+with_sems_more draft sems = record draft { sem_names = draft.sem_names ++ names_of_sems sems; sems = draft.sems ++ maxima_of sems }
+
+semaphores-read : (draft : DraftRows) (ds : List Data) (r : DraftRows) → walk add_semaphore draft ds ≡ Ok r → (sems : List SemText) × AreValidSems sems × (with_sems_more draft sems ≡ r)
+semaphores-read draft [] r is = let same : draft ≡ r = cc in ([], tt, rw (append-nil, append-nil) same)
 semaphores-read draft (d ∷ ds) r is =
     bind_ok (add_semaphore draft d) (λ next. walk add_semaphore next ds) r is (λ next here rest.
     let first = semaphore-read draft d next here in
-    let others = semaphores-read next ds r rest in
-    (first.0 ∷ others.0, (first.1, others.1), ap (λ x. with_semaphores x others.0) first.2 ∙ others.2))
+    let others = semaphores-read next ds r rest in (
+      first.0 ∷ others.0,
+      (first.1, others.1),
+      ap (λ ns. record draft { sem_names = ns; sems = draft.sems ++ maxima_of (first.0 ∷ others.0) }) (sym (append_assoc draft.sem_names (first.0.name ∷ []) (names_of_sems others.0)))
+          ∙ ap (λ ms. record draft { sem_names = (draft.sem_names ++ first.0.name ∷ []) ++ names_of_sems others.0; sems = ms }) (sym (append_assoc draft.sems (first.0.max ∷ []) (maxima_of others.0)))
+          ∙ ap (λ x. with_sems_more x others.0) first.2 ∙ others.2,
+    ))
 
--- the draft of a file has just its semaphores and tasks
-pub draft_in-made : (d : Data) (draft : DraftRows) → draft_in d ≡ Ok draft → IsMade draft
-draft_in-made d draft is =
-    bind_ok (allowed 1 (whole_of 1 2) File (codes "version") d) _ draft is (λ version at_version after_version.
-    bind_ok (needed objects_of File (codes "tasks") d) _ draft after_version (λ ds here after_tasks.
-    bind_ok (allowed [] objects_of File (codes "semaphores") d) _ draft after_tasks (λ ss at_sems after_sems.
-    bind_ok (allowed [] empty_list_of File (codes "modules") d) _ draft after_sems (λ modules at_modules after_modules.
-    bind_ok (only file_fields File d) _ draft after_modules (λ done none after_fields.
-    bind_ok (walk add_semaphore (empty_draft version) ss) _ draft after_fields (λ start first walked.
-    let sems = semaphores-read (empty_draft version) ss start first in
-    let tasks = tasks-read start ds draft walked in
-    record {
-      version = version;
-      sems = sems.0;
-      tasks = tasks.0;
-      fine_sems = sems.1;
-      fine_tasks = tasks.1;
-      is = ap (λ x. with_tasks x tasks.0) sems.2 ∙ tasks.2;
-    }))))))
+-- ---- graphs
+
+-- a graph that was read has just its semaphores and tasks
+pub graph_in-made : (scope : Scope) (version : ℕ) (name : List ℕ) (ss ts : List Data) (r : DraftRows) → graph_in (empty_draft scope version name) ss ts ≡ Ok r → IsMade scope r × (r.name ≡ name)
+graph_in-made scope version name ss ts r is =
+    let empty = empty_draft scope version name in
+    bind_ok (walk add_semaphore empty ss) (λ start. walk add_task start ts) r is (λ start first rest.
+    let sems = semaphores-read empty ss start first in
+    let tasks = tasks-read start ts r rest in
+    let all : with_tasks (with_sems_more empty sems.0) tasks.0 ≡ r = ap (λ x. with_tasks x tasks.0) sems.2 ∙ tasks.2 in (
+      subst (IsMade scope) all (record { scope_is = refl; sems = sems.0; fine_sems = sems.1; sem_names = refl; maxima = refl; tasks = tasks.1 }),
+      ap (λ (x : DraftRows). x.name) (sym all),
+    ))
+
+module_in-made : (scope : Scope) (version : ℕ) (d : Data) (r : DraftRows) → module_in scope version d ≡ Ok r → (is_name r.name ≡ true) × IsMade scope r
+module_in-made scope version d r is =
+    let spot = graph_spot scope in
+    bind_ok (needed name_of spot (codes "name") d) _ r is (λ name named after_name.
+    bind_ok (needed objects_of spot (codes "tasks") d) _ r after_name (λ ts listed_ after_tasks.
+    bind_ok (allowed [] objects_of spot (codes "semaphores") d) _ r after_tasks (λ ss found after_sems.
+    bind_ok (only (codes "name" ∷ codes "tasks" ∷ codes "semaphores" ∷ []) spot d) _ r after_sems (λ done none rest.
+    let made = graph_in-made scope version name ss ts r rest in
+    let fine : is_name name ≡ true = found-passes name_of is_name (get (codes "name") d) (BadField spot (codes "name")) name finds-name named in
+    (subst (λ n. is_name n ≡ true) (sym made.1) fine, made.0)))))
+
+made-more : (m : ℕ) (drafts : List DraftRows) (draft : DraftRows) → AreMade m drafts → is_name draft.name ≡ true → IsMade (OfModule (m + length drafts)) draft → AreMade m (drafts ++ draft ∷ [])
+made-more m [] draft all name made = let here : m + 0 ≡ m = omega arith in (name, subst (λ k. IsMade (OfModule k) draft) here made, tt)
+made-more m (first ∷ drafts) draft all name made =
+    let later : m + suc (length drafts) ≡ suc m + length drafts = omega arith in
+    (all.0, all.1, made-more (suc m) drafts draft all.2 name (subst (λ k. IsMade (OfModule k) draft) later made))
+
+modules-made : (version : ℕ) (before : List DraftRows) (ds : List Data) (r : List DraftRows) → AreMade 0 before → walk (add_module version) before ds ≡ Ok r → AreMade 0 r
+modules-made version before [] r made is = let same : before ≡ r = cc in subst (AreMade 0) same made
+modules-made version before (d ∷ ds) r made is =
+    bind_ok (add_module version before d) (λ next. walk (add_module version) next ds) r is (λ next here rest.
+    bind_ok (module_in (OfModule (length before)) version d) _ next here (λ graph read_ last.
+    let same : before ++ graph ∷ [] ≡ next = cc in
+    let fine = module_in-made (OfModule (length before)) version d graph read_ in
+    let number : 0 + length before ≡ length before = omega arith in
+    let more : AreMade 0 (before ++ graph ∷ []) = made-more 0 before graph made fine.0 (subst (λ k. IsMade (OfModule k) graph) (sym number) fine.1) in
+    modules-made version next ds r (subst (AreMade 0) same more) rest))
+
+-- the graphs of a file have just what stands in it
+pub file_in-made : (d : Data) (file : FileRows) → file_in d ≡ Ok file → IsMadeFile file
+file_in-made d file is =
+    bind_ok (allowed 1 (whole_of 1 2) File (codes "version") d) _ file is (λ version at_version after_version.
+    bind_ok (needed objects_of File (codes "tasks") d) _ file after_version (λ ts here after_tasks.
+    bind_ok (allowed [] objects_of File (codes "semaphores") d) _ file after_tasks (λ ss at_sems after_sems.
+    bind_ok (allowed [] objects_of File (codes "modules") d) _ file after_sems (λ ms at_modules after_modules.
+    bind_ok (only file_fields File d) _ file after_modules (λ done none after_fields.
+    bind_ok (graph_in (empty_draft Top version []) ss ts) _ file after_fields (λ top read_ after_top.
+    bind_ok (walk (add_module version) [] ms) _ file after_top (λ graphs walked last.
+    let made = graph_in-made Top version [] ss ts top read_ in
+    let same : record { top = top; modules = graphs } ≡ file = cc in
+    subst IsMadeFile same (record { no_name = made.1; top = made.0; modules = modules-made version [] ms graphs tt walked }))))))))

@@ -1,5 +1,5 @@
 -- Names, while a map takes the place of one after another.
-use Rattle.std.proofs.Common.{◌≡◌, ℕ, ◌+◌, ◌<◌, ◌≤◌, List, [], ◌∷◌, ◌++◌, map, length, take, drop, get_or, Bool, true, false, not, ◌||◌, cond, Option, Some, None, is_some, is_none, position, Result, Ok, Err, Bor, refl, ap, sym, ◌∙◌, bytes_eq, arith, add-one}
+use Rattle.std.proofs.Common.{◌≡◌, ℕ, ◌+◌, ◌<◌, ◌≤◌, List, [], ◌∷◌, ◌++◌, length, take, drop, get_or, Bool, true, false, not, ◌||◌, cond, Option, Some, None, is_some, is_none, position, Ok, Err, Bor, refl, ap, sym, ◌∙◌, bytes_eq, arith, add-one}
 use Rattle.std.proofs.lemmas.Iterator.Adapters.{position_from-zero}
 use Rattle.std.proofs.lemmas.List.{get_or-map, length-map, take_more, take_all, drop_all, length-take-le}
 use Rattle.std.proofs.Math.Seq.{drop-cons}

@@ -1,10 +1,9 @@
 -- Nets in the making.
-use Rattle.std.proofs.Common.{◌≡◌, ◌≢◌, ℕ, zero, suc, ◌+◌, ◌<◌, List, [], ◌∷◌, ◌++◌, length, map, take, drop, get_or, None, Some, All, refl, sym, subst, ap, ◌∙◌, append_assoc, arith}
-use Rattle.std.specs.Option.{option_or}
+use Rattle.std.proofs.Common.{◌≡◌, ◌≢◌, ℕ, zero, suc, ◌+◌, ◌<◌, List, [], ◌∷◌, ◌++◌, length, map, take, get_or, None, All, refl, sym, subst, ap, ◌∙◌, append_assoc, arith}
 use Rattle.std.proofs.lemmas.Option.{none-some}
 use Rattle.std.proofs.lemmas.List.{append-nil, get_or-map, length-map, length-take-le}
 use Rattle.task_graph.specs.NetRows.{NetRows}
-use Rattle.task_graph.specs.NetBuilder.{with_task, settled, first_unknown, least_repeated, repeated_semaphore, unknown_semaphore, AddsTask, RefusesTask}
+use Rattle.task_graph.specs.NetBuilder.{with_task, repeated_semaphore, unknown_semaphore, RefusesTask}
 use Rattle.task_graph.specs.declared.builder.BuildError.{BuildError}
 use Rattle.task_graph.specs.declared.builder.BuildError.TheVariants.{NoSuchTask, NoSuchSemaphore, ZeroCount, Repeated, WeakStart, TooMany, NoMemory}
 use Rattle.task_graph.specs.declared.net.EdgeRow.{EdgeRow}

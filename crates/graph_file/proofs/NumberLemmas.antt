@@ -1,6 +1,5 @@
 -- The numbers of names.
-use Rattle.std.proofs.Common.{◌≡◌, ◌≢◌, ℕ, zero, suc, ◌<◌, List, [], ◌∷◌, ◌++◌, map, length, get_or, true, false, Option, Some, None, Result, Ok, ok_or, option_map, option_and_then, is_some, position, Bor, All, AllPairs, refl, sym, ap, subst, ◌∙◌, bytes_eq, arith}
-use Rattle.std.proofs.lemmas.Bool.{true≢false}
+use Rattle.std.proofs.Common.{◌≡◌, ◌≢◌, ℕ, zero, suc, ◌<◌, List, [], ◌∷◌, map, length, get_or, true, Option, Some, None, ok_or, option_map, is_some, position, Bor, All, AllPairs, refl, sym, ap, subst, ◌∙◌, bytes_eq, arith}
 use Rattle.std.proofs.lemmas.Cmp.{nat_list_eq_equiv}
 use Rattle.std.proofs.lemmas.List.{get_or_default, get_or-map, length-map}
 use Rattle.std.proofs.lemmas.List.Quantifiers.{position-Some}
@@ -11,13 +10,14 @@ use Rattle.std.specs.HashMap.{HashMap}
 use Rattle.graph_plans.specs.PlanRows.{AllDiffer}
 use Rattle.graph_file.specs.declared.refusals.GraphError.{GraphError}
 use Rattle.graph_file.specs.Contents.{each}
-use Rattle.graph_file.specs.PlanText.{TaskNames, numbers_in, task_names}
+use Rattle.graph_file.specs.PlanText.{DraftRows, TaskText, names_of_modules, numbers_in, task_names}
 use Rattle.graph_file.specs.declared.draft.Draft.{Draft}
-use Rattle.graph_file.specs.declared.draft.NamedTask.{NamedTask}
+use Rattle.graph_file.specs.declared.draft.FileDraft.{FileDraft}
+use Rattle.graph_file.specs.declared.draft.FileTask.{FileTask}
 use Rattle.graph_file.specs.Steps.{walk}
 use Rattle.graph_file.specs.inside.Drafts.{AreIds}
 use Rattle.graph_file.specs.inside.Lookups.{HasPlaces, place_in}
-use Rattle.graph_file.specs.inside.Reader.{draft_rows, named_task, put_place}
+use Rattle.graph_file.specs.inside.Reader.{draft_rows, file_rows, put_place, task_text}
 use Rattle.graph_file.proofs.BindLemmas.{each_rest}
 use Rattle.graph_file.proofs.EachLemmas.{walk-put_same}
 use Rattle.graph_file.proofs.NameLemmas.{some_place}
@@ -31,13 +31,21 @@ pub numbers_found : {S : Type 0} (places : HashMap (Bor (List ℕ)) ℕ S) (all 
     → walk (put_place places e) [] names ≡ numbers_in all e names
 numbers_found places all e names has = walk-put_same (place_in places) e names ∙ ap (λ o. ok_or o e) (each-same (place_in places) (λ name. position (bytes_eq name) all) names has)
 
-named-same : (tasks : List NamedTask) → map (λ (task : NamedTask). task.name.now) tasks ≡ map (λ (task : TaskNames). task.name) (map named_task tasks)
+named-same : (tasks : List FileTask) → map (λ (task : FileTask). task.names.name.now) tasks ≡ map (λ (task : TaskText). task.names.name) (map task_text tasks)
 named-same [] = refl
-named-same (task ∷ tasks) = ap (λ names. task.name.now ∷ names) (named-same tasks)
+named-same (task ∷ tasks) = ap (λ names. task.names.name.now ∷ names) (named-same tasks)
 
 -- the names of the tasks that the code has
-pub names-drafted : (draft : Draft) (tasks : List NamedTask) → tasks ≡ draft.tasks → map (λ (task : NamedTask). task.name.now) tasks ≡ task_names (draft_rows draft)
-names-drafted draft tasks same = ap (map (λ (task : NamedTask). task.name.now)) same ∙ named-same draft.tasks
+pub names-drafted : (draft : Draft) (tasks : List FileTask) → tasks ≡ draft.tasks.items → map (λ (task : FileTask). task.names.name.now) tasks ≡ task_names (draft_rows draft)
+names-drafted draft tasks same = ap (map (λ (task : FileTask). task.names.name.now)) same ∙ named-same draft.tasks.items
+
+graphs-same : (drafts : List Draft) → map (λ (draft : Draft). draft.name.now) drafts ≡ map (λ (draft : DraftRows). draft.name) (map draft_rows drafts)
+graphs-same [] = refl
+graphs-same (draft ∷ drafts) = ap (λ names. draft.name.now ∷ names) (graphs-same drafts)
+
+-- the names of the modules that the code has
+pub names-filed : (file : FileDraft) (drafts : List Draft) → drafts ≡ file.modules.items → map (λ (draft : Draft). draft.name.now) drafts ≡ names_of_modules (file_rows file)
+names-filed file drafts same = ap (map (λ (draft : Draft). draft.name.now)) same ∙ graphs-same file.modules.items
 
 -- ---- the number of each name
 
@@ -61,7 +69,7 @@ each-at f (x ∷ xs) ys is k d e within =
     subst (λ zs. k < length zs → f (get_or (x ∷ xs) k d) ≡ Some (get_or zs k e)) others.2
     (at_step f x xs y others.0 d e here (λ j less. each-at f xs others.0 others.1 j d e less) k) within)
 
-place-is : (all : List (List ℕ)) (name : List ℕ) (k : ℕ) → place all name ≡ Some k → (k < length all) × (called all k ≡ name)
+pub place-is : (all : List (List ℕ)) (name : List ℕ) (k : ℕ) → place all name ≡ Some k → (k < length all) × (called all k ≡ name)
 place-is all name k is =
     let at = position-Some (bytes_eq name) all k [] is in
     (at.0, sym ((bytes_eq-Decides name (get_or all k [])).0 at.1))

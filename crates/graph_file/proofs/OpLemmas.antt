@@ -73,10 +73,10 @@ no_text_op name spot d pass_ keep_ without_ head_ tail_ skip_ sort_ uniq_ count_
 -- a name that only an operation on one text may have
 pub no_own_op : (name : List ℕ) (spot : Spot) (d : Data)
     → Is-not name (codes "input") → Is-not name (codes "read") → Is-not name (codes "match") → Is-not name (codes "back") → Is-not name (codes "ifmore")
-    → Is-not name (codes "ifhas") → Is-not name (codes "route")
+    → Is-not name (codes "ifhas") → Is-not name (codes "route") → Is-not name (codes "spread") → Is-not name (codes "module")
     → op_called op_rows name spot d ≡ op_called (map (used_by (λ op. does (Text op))) text_rows) name spot d
 unfolding op_rows
-no_own_op name spot d input_ read_ match_ back_ more_ has_ route_ =
+no_own_op name spot d input_ read_ match_ back_ more_ has_ route_ spread_ module_ =
     rw (
       differs (codes "input") name input_,
       differs (codes "read") name read_,
@@ -85,4 +85,6 @@ no_own_op name spot d input_ read_ match_ back_ more_ has_ route_ =
       differs (codes "ifmore") name more_,
       differs (codes "ifhas") name has_,
       differs (codes "route") name route_,
+      differs (codes "spread") name spread_,
+      differs (codes "module") name module_,
     ) refl

@@ -1,15 +1,13 @@
 -- Lists of semaphores by rising number.
-use Rattle.std.proofs.Common.{◌≡◌, ◌==◌, ℕ, zero, suc, ◌<◌, ◌+◌, Bool, true, false, ◌&&◌, ◌||◌, nat_lt, List, [], ◌∷◌, map, length, get_or, filter, find, cond, count_by, None, nat_le, ◌≢◌, All, AllPairs, refl, sym, ap, ◌∙◌, arith}
+use Rattle.std.proofs.Common.{◌≡◌, ◌==◌, ℕ, suc, ◌<◌, ◌+◌, Bool, true, false, ◌&&◌, ◌||◌, nat_lt, List, [], ◌∷◌, length, get_or, filter, find, cond, count_by, None, nat_le, ◌≢◌, All, AllPairs, refl, sym, ap, ◌∙◌, arith}
 use Rattle.std.specs.List.{list_any, range_with_len}
-use Rattle.std.specs.List.Sorted.{IsStrictlyIncreasing}
 use Rattle.std.proofs.lemmas.Bool.{eq-eqb}
 use Rattle.std.proofs.lemmas.Bool.Decides.{nat_tests}
 use Rattle.std.proofs.lemmas.List.Elements.{filter_agree}
 use Rattle.std.proofs.lemmas.List.Folds.{list_any_at}
 use Rattle.std.proofs.lemmas.List.Kept.{AllPairs-from_increasing}
 use Rattle.std.proofs.lemmas.List.Sums.{sum_by-cons}
-use Rattle.task_graph.specs.NetRows.{NetRows}
-use Rattle.task_graph.specs.NetBuilder.{first_unknown, least_repeated, rising, settled}
+use Rattle.task_graph.specs.NetBuilder.{first_unknown, least_repeated, rising}
 use Rattle.task_graph.specs.Net.{AreSemaphoresOf}
 use Rattle.task_graph.specs.declared.net.Shape.TheVariants.{Plain}
 use Rattle.task_graph.proofs.SemaphoreLemmas.{settled-fits}

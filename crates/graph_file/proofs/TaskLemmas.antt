@@ -1,5 +1,5 @@
 -- A task, by the steps in which it is read.
-use Rattle.std.proofs.Common.{◌≡◌, ℕ, List, [], ◌∷◌, length, Result, Ok, Err, codes, refl, ap, ◌∙◌}
+use Rattle.std.proofs.Common.{◌≡◌, List, [], ◌∷◌, length, Result, Ok, Err, codes, refl, ap, ◌∙◌}
 use Rattle.serde_json.specs.Data.{Data}
 use Rattle.graph_file.specs.declared.refusals.GraphError.{GraphError}
 use Rattle.graph_file.specs.Contents.{name_of, name_list_of}
@@ -23,7 +23,7 @@ as_one (Err e) b c f k = refl
 
 add_task-steps : (draft : DraftRows) (d : Data) → add_task_steps draft d ≡ add_task draft d
 add_task-steps draft d =
-    let spot = task_spot (length draft.tasks) in
+    let spot = task_spot draft.scope (length draft.tasks) in
     same_rest (needed name_of spot (codes "name") d) _ _ (λ name.
     same_rest (op_in op_rows spot d) _ _ (λ found.
     as_one (allowed [] name_list_of spot (codes "to") d) (allowed [] name_list_of spot (takes_field draft.version) d) (allowed [] name_list_of spot (puts_field draft.version) d)

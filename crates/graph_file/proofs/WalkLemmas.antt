@@ -10,7 +10,7 @@ use Rattle.graph_file.specs.Steps.{walk}
 abbrev pub GoesOn : {S V A : Type 0} → (V → A) → (S → A → Result S GraphError) → S → List V → ℕ → S → Type 0
 GoesOn v step start vs i now = walk step start (map v vs) ≡ walk step now (map v (drop i vs))
 
-next_of : {V A : Type 0} (v : V → A) (vs : List V) (i : ℕ) (x : V) → i < length vs → x ≡ get_or vs i x → map v (drop i vs) ≡ v x ∷ map v (drop (i + 1) vs)
+pub next_of : {V A : Type 0} (v : V → A) (vs : List V) (i : ℕ) (x : V) → i < length vs → x ≡ get_or vs i x → map v (drop i vs) ≡ v x ∷ map v (drop (i + 1) vs)
 next_of v vs i x within is =
     let e : drop i vs ≡ x ∷ drop (i + 1) vs = drop-cons vs i x within ∙ rw (← is, add-one i) refl in
     rw e refl

@@ -1,9 +1,9 @@
 -- A plan that some file stands for can be written.
-use Rattle.std.proofs.Common.{◌≡◌, ℕ, suc, ◌<◌, ◌≤◌, List, [], ◌∷◌, map, length, get_or, true, false, Result, Ok, Err, IfOk, All, refl, sym, ap, subst, ◌∙◌, arith}
+use Rattle.std.proofs.Common.{◌≡◌, ℕ, suc, ◌<◌, ◌≤◌, List, [], ◌∷◌, map, length, get_or, true, false, Ok, All, refl, sym, ap, subst, ◌∙◌, arith}
 use Rattle.std.proofs.lemmas.Bool.{and_parts}
 use Rattle.std.proofs.lemmas.Bool.Decides.{nat_tests}
 use Rattle.std.proofs.lemmas.List.{length-map}
-use Rattle.std.proofs.lemmas.List.Elements.{All-append, All-nil, All-push}
+use Rattle.std.proofs.lemmas.List.Elements.{All-append, All-cons, All-nil, All-push}
 use Rattle.std.proofs.lemmas.Str.{is_utf8-from_IsUtf8, IsUtf8-from_ascii}
 use Rattle.std.proofs.lemmas.Str.Ascii.{IsAscii-from_all}
 use Rattle.std.proofs.Math.Nat.{max-le}
@@ -13,25 +13,28 @@ use Rattle.serde_json.specs.Data.{Data, string, depth, items_depth}
 use Rattle.serde_json.specs.View.{items_of}
 use Rattle.serde_json.specs.Written.{has_float, items_have_float}
 use Rattle.graph_plans.specs.declared.ops.Op.{Op}
-use Rattle.graph_plans.specs.declared.ops.Op.TheVariants.{Input, Read, Text, Match, Back, IfMore, IfHas, Route}
+use Rattle.graph_plans.specs.declared.ops.Op.TheVariants.{Input, Read, Text, Match, Back, IfMore, IfHas, Route, Spread, Module}
 use Rattle.graph_plans.specs.declared.ops.TextOp.{TextOp}
 use Rattle.graph_plans.specs.declared.ops.TextOp.TheVariants.{Pass, Keep, Without, Head, Tail, Skip, Sort, Uniq, Count, Tally}
-use Rattle.graph_plans.specs.PlanRows.{IsPlan, PlanRows}
+use Rattle.graph_plans.specs.PlanRows.{GraphRows, PlanRows, module_limit, module_names, text_count_limit}
 use Rattle.task_graph.specs.NetRows.{NetRows}
 use Rattle.task_graph.specs.Net.{IsTaskOf}
 use Rattle.task_graph.specs.declared.net.TaskRow.{TaskRow}
+use Rattle.graph_file.specs.declared.numbers.TaskNumbers.{TaskNumbers}
+use Rattle.graph_file.specs.declared.scopes.Scope.{Scope}
+use Rattle.graph_file.specs.declared.scopes.Scope.TheVariants.{Top, Module as OfModule}
 use Rattle.graph_file.specs.Contents.{is_name, is_name_byte, is_text}
-use Rattle.graph_file.specs.OpRows.{FileOpRow, reads, does}
-use Rattle.graph_file.specs.PlanText.{PlanText, TaskNames, json_in, mentioned, numbered, plan_in, plan_with, task_names, task_rows}
+use Rattle.graph_file.specs.OpRows.{FileOpRow, reads, runs, does}
+use Rattle.graph_file.specs.PlanText.{DraftRows, PlanText, TaskNames, TaskText, file_texts, graph_with, graphs_with, json_in, names_of_modules, numbered, ops_of, plan_in, plan_with, runs_one_of, task_names}
 use Rattle.graph_file.specs.Steps.{◌>>=◌}
-use Rattle.graph_file.specs.WrittenPlan.{OpText, op_text, plan_data, sems_from, sems_named, task_data, tasks_from, text_op_text, to_of}
-use Rattle.graph_file.specs.inside.Fine.{AreFine, AreValidSems, SemText, TaskText, fits, fits_text_op, fits_words}
-use Rattle.graph_file.specs.inside.Writer.{HasSems, HasUtf8, HasUtf8Word, IsString, IsWritable}
-use Rattle.graph_file.proofs.DraftLemmas.{All-true}
-use Rattle.graph_file.proofs.DraftedLemmas.{drafted, mentioned_all, names_of_sems, names_of_tasks, numbered_all}
-use Rattle.graph_file.proofs.NetLemmas.{task_rows-length}
-use Rattle.graph_file.proofs.PlanLemmas.{IsPlan-read, edges-numbered, numbered-count}
-use Rattle.graph_file.proofs.TripLemmas.{Extends, IsFiled, IsFiled-of, extends-all, plan-written, read-at}
+use Rattle.graph_file.specs.WrittenPlan.{OpText, each_data, module_data, op_text, plan_data, sems_from, sems_named, task_data, tasks_from, text_op_text, to_of}
+use Rattle.graph_file.specs.inside.Drafts.{AreReady, IsReady}
+use Rattle.graph_file.specs.inside.Fine.{AreFine, AreMade, AreValidSems, IsMade, SemText, fits, fits_text_op, fits_words, names_of_sems}
+use Rattle.graph_file.specs.inside.Writer.{HasSems, HasUtf8, HasUtf8Word, IsString, IsWritable, IsWritableGraph}
+use Rattle.graph_file.proofs.DraftLemmas.{All-true, IsFile-of}
+use Rattle.graph_file.proofs.PlanLemmas.{AreNumbered, IsGraph-with, IsReadyFile-of, edges-numbered, graphs-named, numbered-draft}
+use Rattle.graph_file.proofs.TextLemmas.{AllKnow, AllKnowIn, Knows, graphs-know, number-known}
+use Rattle.graph_file.proofs.TripLemmas.{IsFiled, IsFiled-of, plan-written}
 
 -- ---- strings
 
@@ -63,27 +66,31 @@ word-of Tally fine = tt
 words-of : (words : List (List ℕ)) → fits_words words ≡ true → All IsString words
 words-of words fine k d within = text-string 0 4096 (get_or words k d) (All-true (is_text 0 4096) words (and_parts _ (list_all (is_text 0 4096) words) fine).1 k d within)
 
-op-strings : (all texts : List (List ℕ)) (op : FileOpRow) → fits op ≡ true → Extends all (mentioned texts op) → length all ≤ 1024 → HasUtf8 all (numbered texts op)
-op-strings all texts (reads text) fine longer few =
-    let at = read-at all texts text longer few in
-    (at.0, subst IsString (sym at.1) (text-string 1 4096 text fine))
-op-strings all texts (does Input) fine longer few = tt
-op-strings all texts (does (Read text)) fine longer few = cc
-op-strings all texts (does (Text op)) fine longer few = word-of op fine
-op-strings all texts (does Match) fine longer few = tt
-op-strings all texts (does Back) fine longer few = tt
-op-strings all texts (does (IfMore n)) fine longer few = tt
-op-strings all texts (does (IfHas word)) fine longer few = text-string 0 4096 word fine
-op-strings all texts (does (Route words)) fine longer few = words-of words fine
-
 one-more : {A : Type 0} (P : A → Type 0) (x : A) (xs : List A) → P x → All P xs → All P (x ∷ xs)
 one-more P x xs first rest = All-append P (x ∷ []) xs (All-push P [] x (All-nil P) first) rest
 
-ops-strings : (all texts : List (List ℕ)) (tasks : List TaskText) → AreFine tasks → all ≡ mentioned_all texts tasks → length all ≤ 1024 → All (HasUtf8 all) (numbered_all texts tasks)
-ops-strings all texts [] fine is few = All-nil (HasUtf8 all)
-ops-strings all texts (task ∷ tasks) fine is few =
-    let longer : Extends all (mentioned texts task.op) = subst (λ ts. Extends ts (mentioned texts task.op)) (sym is) (extends-all (mentioned texts task.op) tasks) in
-    one-more (HasUtf8 all) (numbered texts task.op) (numbered_all (mentioned texts task.op) tasks) (op-strings all texts task.op fine.0.op longer few) (ops-strings all (mentioned texts task.op) tasks fine.1 is few)
+-- the names of modules are names
+abbrev AreModuleNames : List (List ℕ) → Type 0
+AreModuleNames modules = All IsString modules
+
+op-strings : (modules texts : List (List ℕ)) (op : FileOpRow) → fits op ≡ true → runs_one_of modules op ≡ true → Knows texts op → AreModuleNames modules → length modules ≤ module_limit → length texts ≤ text_count_limit
+    → HasUtf8 texts modules (numbered modules texts op)
+op-strings modules texts (reads text) fine runs_one known named few_modules few_texts =
+    let at = number-known texts text known few_texts in
+    (at.0, subst IsString (sym at.1) (text-string 1 4096 text fine))
+op-strings modules texts (runs name) fine runs_one known named few_modules few_texts =
+    let at = number-known modules name runs_one (omega (arith, few_modules)) in
+    (at.0, named _ [] at.0)
+op-strings modules texts (does Input) fine runs_one known named few_modules few_texts = tt
+op-strings modules texts (does (Read text)) fine runs_one known named few_modules few_texts = cc
+op-strings modules texts (does (Text op)) fine runs_one known named few_modules few_texts = word-of op fine
+op-strings modules texts (does Match) fine runs_one known named few_modules few_texts = tt
+op-strings modules texts (does Back) fine runs_one known named few_modules few_texts = tt
+op-strings modules texts (does (IfMore n)) fine runs_one known named few_modules few_texts = tt
+op-strings modules texts (does (IfHas word)) fine runs_one known named few_modules few_texts = text-string 0 4096 word fine
+op-strings modules texts (does (Route words)) fine runs_one known named few_modules few_texts = words-of words fine
+op-strings modules texts (does (Spread n op)) fine runs_one known named few_modules few_texts = word-of op (and_parts _ (fits_text_op op) fine).1
+op-strings modules texts (does (Module m)) fine runs_one known named few_modules few_texts = cc
 
 names-strings : (names : List (List ℕ)) → list_all is_name names ≡ true → All IsString names
 names-strings [] fine = All-nil IsString
@@ -91,50 +98,81 @@ names-strings (name ∷ names) fine =
     let parts = and_parts (is_name name) (list_all is_name names) fine in
     one-more IsString name names (name-string name parts.0) (names-strings names parts.1)
 
-tasks-strings : (tasks : List TaskText) → AreFine tasks → All IsString (map (λ (task : TaskNames). task.name) (names_of_tasks tasks))
+module _ (modules texts : List (List ℕ)) (named : AreModuleNames modules) (few_modules : length modules ≤ module_limit) (few_texts : length texts ≤ text_count_limit) where
+  ops-strings : (draft : DraftRows) (tasks : List TaskText) (numbers : List TaskNumbers) → AreFine tasks → AreNumbered modules draft tasks numbers → AllKnow texts tasks → All (HasUtf8 texts modules) (ops_of modules texts tasks)
+  ops-strings draft [] numbers fine all known = All-nil (HasUtf8 texts modules)
+  ops-strings draft (task ∷ tasks) [] fine all known = absurd all
+  ops-strings draft (task ∷ tasks) (n ∷ numbers) fine all known =
+      one-more (HasUtf8 texts modules) (numbered modules texts task.op) (ops_of modules texts tasks) (op-strings modules texts task.op fine.0.op all.0.runs_one known.0 named few_modules few_texts) (ops-strings draft tasks numbers fine.1 all.1 known.1)
+
+tasks-strings : (tasks : List TaskText) → AreFine tasks → All IsString (map (λ (task : TaskText). task.names.name) tasks)
 tasks-strings [] fine = All-nil IsString
-tasks-strings (task ∷ tasks) fine = one-more IsString task.names.name (map (λ (t : TaskNames). t.name) (names_of_tasks tasks)) (name-string task.names.name fine.0.name) (tasks-strings tasks fine.1)
+tasks-strings (task ∷ tasks) fine = one-more IsString task.names.name (map (λ (t : TaskText). t.names.name) tasks) (name-string task.names.name fine.0.name) (tasks-strings tasks fine.1)
 
 sems-strings : (sems : List SemText) → AreValidSems sems → All IsString (names_of_sems sems)
 sems-strings [] fine = All-nil IsString
 sems-strings (sem ∷ sems) fine = one-more IsString sem.name (names_of_sems sems) (name-string sem.name fine.0.name) (sems-strings sems fine.1)
+
+modules-strings : (m : ℕ) (drafts : List DraftRows) → AreMade m drafts → All IsString (map (λ (draft : DraftRows). draft.name) drafts)
+modules-strings m [] made = All-nil IsString
+modules-strings m (draft ∷ drafts) made = one-more IsString draft.name (map (λ (d : DraftRows). d.name) drafts) (name-string draft.name made.0) (modules-strings (suc m) drafts made.2)
 
 -- ---- plans
 
 rows-within : (count : ℕ) (net : NetRows) → length net.sems ≡ count → All (IsTaskOf net) net.tasks → All (HasSems count) net.tasks
 rows-within count net is all k d within = let at = all k d within in rw (← is) (at.takes.in_range, at.puts.in_range)
 
-ops-count : (texts : List (List ℕ)) (tasks : List TaskText) → length (numbered_all texts tasks) ≡ length (names_of_tasks tasks)
-ops-count texts [] = refl
-ops-count texts (task ∷ tasks) = ap suc (ops-count (mentioned texts task.op) tasks)
+module _ (modules texts : List (List ℕ)) (named : AreModuleNames modules) (few_modules : length modules ≤ module_limit) (few_texts : length texts ≤ text_count_limit) where
+  graph-writable : (scope : Scope) (draft : DraftRows) (numbers : List TaskNumbers) → IsMade scope draft → IsReady modules draft numbers → AllKnow texts draft.tasks → IsWritableGraph texts modules (graph_with modules texts draft numbers)
+  graph-writable scope draft numbers made ready known =
+      let graph = graph_with modules texts draft numbers in
+      let is = IsGraph-with modules texts draft numbers ready known few_modules few_texts in
+      let all = numbered-draft modules draft numbers ready.numbered in
+      let names_count : length (task_names draft) ≡ length draft.tasks = length-map draft.tasks (λ (task : TaskText). task.names.name) in
+      let ops : length (ops_of modules texts draft.tasks) ≡ length draft.tasks = length-map draft.tasks (λ (task : TaskText). numbered modules texts task.op) in
+      record {
+        names = record {
+          names = tasks-strings draft.tasks made.tasks;
+          task_count = sym is.names;
+          few_tasks = omega (arith, names_count, ready.tasks);
+          edges = rw names_count (edges-numbered modules draft numbers all);
+          sem_names = subst (All IsString) made.sem_names (sems-strings made.sems made.fine_sems);
+          sem_count = sym is.sem_names;
+          sems = rows-within (length draft.sem_names) graph.net (sym is.sem_names) is.net.tasks;
+        };
+        ops = ops-strings modules texts named few_modules few_texts draft draft.tasks numbers made.tasks all known;
+        op_count = omega (arith, ops, names_count);
+      }
 
-writable-filed : (plan : PlanRows) → IsFiled plan → IsPlan plan → IsWritable plan
-writable-filed plan filed is =
-    let draft = drafted filed.version filed.sems filed.tasks in
+  graphs-writable : (m : ℕ) (drafts : List DraftRows) (numbers : List (List TaskNumbers)) → AreMade m drafts → AreReady modules drafts numbers → AllKnowIn texts drafts → All (IsWritableGraph texts modules) (graphs_with modules texts drafts numbers)
+  graphs-writable m [] numbers made ready known = All-nil (IsWritableGraph texts modules)
+  graphs-writable m (draft ∷ drafts) [] made ready known = absurd ready
+  graphs-writable m (draft ∷ drafts) (n ∷ numbers) made ready known =
+      All-cons (IsWritableGraph texts modules) (graph_with modules texts draft n) (graphs_with modules texts drafts numbers) (graph-writable (OfModule m) draft n made.1 ready.0 known.0) (graphs-writable (suc m) drafts numbers made.2 ready.1 known.1)
+
+writable-filed : (plan : PlanRows) → IsFiled plan → IsWritable plan
+writable-filed plan filed =
+    let file = filed.file in
     let planned = filed.planned in
-    let same : plan_with draft planned.numbers ≡ plan = planned.is in
-    let texts : length draft.texts ≤ 1024 = planned.limits.texts in
-    let names : length (task_names draft) ≡ length draft.tasks = length-map draft.tasks (λ (task : TaskNames). task.name) in
-    let ops : length draft.ops ≡ length draft.tasks = ops-count [] filed.tasks in
-    let numbers : length planned.numbers ≡ length draft.tasks = numbered-count draft draft.tasks planned.numbers planned.numbered in
-    let rows : length (task_rows (length draft.sems) draft.ops planned.numbers) ≡ length draft.ops = task_rows-length (length draft.sems) draft.ops planned.numbers (omega (arith, ops, numbers)) in
-    let old : IsPlan (plan_with draft planned.numbers) = subst IsPlan (sym same) is in
-    subst IsWritable same (record {
-      names = tasks-strings filed.tasks filed.fine_tasks;
-      ops = ops-strings draft.texts [] filed.tasks filed.fine_tasks refl texts;
-      op_count = omega (arith, ops, names);
-      task_count = omega (arith, rows, ops, names);
-      few_tasks = omega (arith, names, planned.limits.tasks);
-      edges = rw names (edges-numbered draft planned.numbers planned.numbered);
-      sem_names = sems-strings filed.sems filed.fine_sems;
-      sem_count = sym old.sem_names;
-      sems = rows-within (length draft.sem_names) (plan_with draft planned.numbers).top.net (sym old.sem_names) old.net.tasks;
+    let numbers = planned.numbers in
+    let names = names_of_modules file in
+    let texts = file_texts file in
+    let ready = IsReadyFile-of file numbers (IsFile-of file filed.made) planned.numbered planned.named planned.limits in
+    let strings : All IsString names = modules-strings 0 file.modules filed.made.modules in
+    let count : length names ≡ length file.modules = length-map file.modules (λ (draft : DraftRows). draft.name) in
+    let few : length names ≤ module_limit = omega (arith, count, planned.limits.modules) in
+    let known = graphs-know file in
+    let is : module_names (plan_with file numbers) ≡ names = graphs-named names texts file.modules numbers.modules ready.modules in
+    subst IsWritable planned.is (record {
+      top = rw is (graph-writable names texts strings few planned.limits.texts Top file.top numbers.top filed.made.top ready.top known.0);
+      modules = rw is (graphs-writable names texts strings few planned.limits.texts 0 file.modules numbers.modules filed.made.modules ready.modules known.1);
+      names = rw is strings;
     })
 
 pub writable : (bytes : List ℕ) (plan : PlanRows) → PlanText bytes plan → IsWritable plan
-writable bytes plan is = writable-filed plan (IsFiled-of bytes plan is) (IsPlan-read bytes plan is)
+writable bytes plan is = writable-filed plan (IsFiled-of bytes plan is)
 
--- ---- the file has no float, and nests no deeper than 4
+-- ---- the file has no float, and nests no deeper than 6
 
 strings-shallow : (strings : List (List ℕ)) → (items_depth (items_of (map string strings)) ≡ 0) × (items_have_float (items_of (map string strings)) ≡ false)
 strings-shallow [] = (refl, refl)
@@ -155,26 +193,42 @@ text_op-shallow Uniq task = let to = strings-shallow task.to in let takes = stri
 text_op-shallow Count task = let to = strings-shallow task.to in let takes = strings-shallow task.takes in let puts = strings-shallow task.puts in (rw (to.0, takes.0, puts.0) refl, rw (to.1, takes.1, puts.1) refl)
 text_op-shallow Tally task = let to = strings-shallow task.to in let takes = strings-shallow task.takes in let puts = strings-shallow task.puts in (rw (to.0, takes.0, puts.0) refl, rw (to.1, takes.1, puts.1) refl)
 
-op-shallow : (texts : List (List ℕ)) (op : Op) (task : TaskNames) → IsShallow (op_text texts op) task
-op-shallow texts Input task = let to = strings-shallow task.to in let takes = strings-shallow task.takes in let puts = strings-shallow task.puts in (rw (to.0, takes.0, puts.0) refl, rw (to.1, takes.1, puts.1) refl)
-op-shallow texts (Read text) task = let to = strings-shallow task.to in let takes = strings-shallow task.takes in let puts = strings-shallow task.puts in (rw (to.0, takes.0, puts.0) refl, rw (to.1, takes.1, puts.1) refl)
-op-shallow texts (Text op) task = text_op-shallow op task
-op-shallow texts Match task = let to = strings-shallow task.to in let takes = strings-shallow task.takes in let puts = strings-shallow task.puts in (rw (to.0, takes.0, puts.0) refl, rw (to.1, takes.1, puts.1) refl)
-op-shallow texts Back task = let to = strings-shallow task.to in let takes = strings-shallow task.takes in let puts = strings-shallow task.puts in (rw (to.0, takes.0, puts.0) refl, rw (to.1, takes.1, puts.1) refl)
-op-shallow texts (IfMore n) task = let to = strings-shallow task.to in let takes = strings-shallow task.takes in let puts = strings-shallow task.puts in (rw (to.0, takes.0, puts.0) refl, rw (to.1, takes.1, puts.1) refl)
-op-shallow texts (IfHas word) task = let to = strings-shallow task.to in let takes = strings-shallow task.takes in let puts = strings-shallow task.puts in (rw (to.0, takes.0, puts.0) refl, rw (to.1, takes.1, puts.1) refl)
-op-shallow texts (Route words) task =
+each-shallow : (op : TextOp) → (depth (each_data op) ≡ 1) × (has_float (each_data op) ≡ false)
+each-shallow Pass = (refl, refl)
+each-shallow (Keep word) = (refl, refl)
+each-shallow (Without word) = (refl, refl)
+each-shallow (Head n) = (refl, refl)
+each-shallow (Tail n) = (refl, refl)
+each-shallow (Skip n) = (refl, refl)
+each-shallow Sort = (refl, refl)
+each-shallow Uniq = (refl, refl)
+each-shallow Count = (refl, refl)
+each-shallow Tally = (refl, refl)
+
+op-shallow : (texts modules : List (List ℕ)) (op : Op) (task : TaskNames) → IsShallow (op_text texts modules op) task
+op-shallow texts modules Input task = let to = strings-shallow task.to in let takes = strings-shallow task.takes in let puts = strings-shallow task.puts in (rw (to.0, takes.0, puts.0) refl, rw (to.1, takes.1, puts.1) refl)
+op-shallow texts modules (Read text) task = let to = strings-shallow task.to in let takes = strings-shallow task.takes in let puts = strings-shallow task.puts in (rw (to.0, takes.0, puts.0) refl, rw (to.1, takes.1, puts.1) refl)
+op-shallow texts modules (Text op) task = text_op-shallow op task
+op-shallow texts modules Match task = let to = strings-shallow task.to in let takes = strings-shallow task.takes in let puts = strings-shallow task.puts in (rw (to.0, takes.0, puts.0) refl, rw (to.1, takes.1, puts.1) refl)
+op-shallow texts modules Back task = let to = strings-shallow task.to in let takes = strings-shallow task.takes in let puts = strings-shallow task.puts in (rw (to.0, takes.0, puts.0) refl, rw (to.1, takes.1, puts.1) refl)
+op-shallow texts modules (IfMore n) task = let to = strings-shallow task.to in let takes = strings-shallow task.takes in let puts = strings-shallow task.puts in (rw (to.0, takes.0, puts.0) refl, rw (to.1, takes.1, puts.1) refl)
+op-shallow texts modules (IfHas word) task = let to = strings-shallow task.to in let takes = strings-shallow task.takes in let puts = strings-shallow task.puts in (rw (to.0, takes.0, puts.0) refl, rw (to.1, takes.1, puts.1) refl)
+op-shallow texts modules (Route words) task =
     let to = strings-shallow task.to in let takes = strings-shallow task.takes in let puts = strings-shallow task.puts in let own = strings-shallow words in
     (rw (to.0, takes.0, puts.0, own.0) refl, rw (to.1, takes.1, puts.1, own.1) refl)
+op-shallow texts modules (Spread n op) task =
+    let to = strings-shallow task.to in let takes = strings-shallow task.takes in let puts = strings-shallow task.puts in let own = each-shallow op in
+    (rw (to.0, takes.0, puts.0, own.0) refl, rw (to.1, takes.1, puts.1, own.1) refl)
+op-shallow texts modules (Module m) task = let to = strings-shallow task.to in let takes = strings-shallow task.takes in let puts = strings-shallow task.puts in (rw (to.0, takes.0, puts.0) refl, rw (to.1, takes.1, puts.1) refl)
 
-tasks-shallow : (plan : PlanRows) (t : ℕ) (names : List (List ℕ)) (ops : List Op) (rows : List TaskRow)
-    → (items_depth (items_of (tasks_from plan t names ops rows)) ≤ 2) × (items_have_float (items_of (tasks_from plan t names ops rows)) ≡ false)
-tasks-shallow plan t [] ops rows = (omega arith, refl)
-tasks-shallow plan t (name ∷ names) [] rows = (omega arith, refl)
-tasks-shallow plan t (name ∷ names) (op ∷ ops) [] = (omega arith, refl)
-tasks-shallow plan t (name ∷ names) (op ∷ ops) (row ∷ rows) =
-    let here = op-shallow plan.texts op (record { name = name; to = to_of plan t; takes = sems_named plan row.takes; puts = sems_named plan row.puts }) in
-    let rest = tasks-shallow plan (suc t) names ops rows in
+tasks-shallow : (texts modules : List (List ℕ)) (graph : GraphRows) (t : ℕ) (names : List (List ℕ)) (ops : List Op) (rows : List TaskRow)
+    → (items_depth (items_of (tasks_from texts modules graph t names ops rows)) ≤ 2) × (items_have_float (items_of (tasks_from texts modules graph t names ops rows)) ≡ false)
+tasks-shallow texts modules graph t [] ops rows = (omega arith, refl)
+tasks-shallow texts modules graph t (name ∷ names) [] rows = (omega arith, refl)
+tasks-shallow texts modules graph t (name ∷ names) (op ∷ ops) [] = (omega arith, refl)
+tasks-shallow texts modules graph t (name ∷ names) (op ∷ ops) (row ∷ rows) =
+    let here = op-shallow texts modules op (record { name = name; to = to_of graph t; takes = sems_named graph row.takes; puts = sems_named graph row.puts }) in
+    let rest = tasks-shallow texts modules graph (suc t) names ops rows in
     (rw (here.0) (max-le (omega arith) rest.0), rw (here.1) rest.1)
 
 sems-shallow : (names : List (List ℕ)) (maxima : List ℕ) → (items_depth (items_of (sems_from names maxima)) ≤ 1) × (items_have_float (items_of (sems_from names maxima)) ≡ false)
@@ -182,22 +236,36 @@ sems-shallow [] maxima = (omega arith, refl)
 sems-shallow (name ∷ names) [] = (omega arith, refl)
 sems-shallow (name ∷ names) (max ∷ maxima) = let rest = sems-shallow names maxima in (max-le (omega arith) rest.0, rest.1)
 
+module-shallow : (plan : PlanRows) (graph : GraphRows) → (depth (module_data plan graph) ≤ 4) × (has_float (module_data plan graph) ≡ false)
+module-shallow plan graph =
+    let tasks = tasks-shallow plan.texts (module_names plan) graph 0 graph.names graph.ops graph.net.tasks in
+    let sems = sems-shallow graph.sem_names graph.net.sems in
+    (omega (arith, tasks.0, sems.0), rw (sems.1, tasks.1) refl)
+
+modules-shallow : (plan : PlanRows) (graphs : List GraphRows) → (items_depth (items_of (map (module_data plan) graphs)) ≤ 4) × (items_have_float (items_of (map (module_data plan) graphs)) ≡ false)
+modules-shallow plan [] = (omega arith, refl)
+modules-shallow plan (graph ∷ graphs) =
+    let here = module-shallow plan graph in
+    let rest = modules-shallow plan graphs in
+    (max-le here.0 rest.0, rw (here.1) rest.1)
+
 pub plan-shallow : (plan : PlanRows) → depth (plan_data plan) ≤ 127
 plan-shallow plan =
-    let tasks = (tasks-shallow plan 0 plan.top.names plan.top.ops plan.top.net.tasks).0 in
+    let tasks = (tasks-shallow plan.texts (module_names plan) plan.top 0 plan.top.names plan.top.ops plan.top.net.tasks).0 in
     let sems = (sems-shallow plan.top.sem_names plan.top.net.sems).0 in
-    omega (arith, tasks, sems)
+    let modules = (modules-shallow plan plan.modules).0 in
+    omega (arith, tasks, sems, modules)
 
 pub plan-whole : (plan : PlanRows) → has_float (plan_data plan) ≡ false
-plan-whole plan = rw ((sems-shallow plan.top.sem_names plan.top.net.sems).1, (tasks-shallow plan 0 plan.top.names plan.top.ops plan.top.net.tasks).1) refl
+plan-whole plan =
+    rw (
+      (modules-shallow plan plan.modules).1,
+      (sems-shallow plan.top.sem_names plan.top.net.sems).1,
+      (tasks-shallow plan.texts (module_names plan) plan.top 0 plan.top.names plan.top.ops plan.top.net.tasks).1,
+    ) refl
 
 -- ---- the bytes
 
 -- bytes that read as what is written for a plan stand for it
 pub stands-for : (bytes out : List ℕ) (plan : PlanRows) (d : Data) → PlanText bytes plan → d ≡ plan_data plan → json_in out ≡ Ok d → PlanText out plan
 stands-for bytes out plan d is same json = ap (λ r. r >>= plan_in) json ∙ ap plan_in same ∙ plan-written bytes plan is
-
--- what holds of a result, if there is one, by what is known of it
-pub if-ok : {X E : Type 0} (r : Result X E) {P Q : X → Type 0} → ((x : X) → P x → Q x) → IfOk r P → IfOk r Q
-if-ok (Ok x) so is = so x is
-if-ok (Err e) so is = tt

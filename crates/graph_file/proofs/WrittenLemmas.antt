@@ -1,21 +1,27 @@
--- A task that was written is read again.
-use Rattle.std.proofs.Common.{◌≡◌, ℕ, List, [], ◌∷◌, map, length, true, leb, Some, Ok, codes, refl, ap}
+-- A file that was written is read again.
+use Rattle.std.proofs.Common.{◌≡◌, ℕ, suc, List, [], ◌∷◌, ◌++◌, map, length, true, leb, Some, Ok, codes, refl, sym, ap, ◌∙◌, append_assoc, arith}
 use Rattle.std.proofs.lemmas.Bool.{and_parts}
-use Rattle.std.proofs.lemmas.List.{length-map}
+use Rattle.std.proofs.lemmas.List.{append-nil, length-append, length-map}
+use Rattle.std.specs.Bool.{⊤}
 use Rattle.std.specs.List.{list_all}
 use Rattle.serde_json.specs.Data.{Data, string}
 use Rattle.serde_json.specs.View.{items_of}
 use Rattle.graph_plans.specs.declared.ops.Op.{Op}
-use Rattle.graph_plans.specs.declared.ops.Op.TheVariants.{Input, Read, Text, Match, Back, IfMore, IfHas, Route}
+use Rattle.graph_plans.specs.declared.ops.Op.TheVariants.{Input, Read, Text, Match, Back, IfMore, IfHas, Route, Spread, Module}
 use Rattle.graph_plans.specs.declared.ops.TextOp.{TextOp}
 use Rattle.graph_plans.specs.declared.ops.TextOp.TheVariants.{Pass, Keep, Without, Head, Tail, Skip, Sort, Uniq, Count, Tally}
+use Rattle.graph_plans.specs.declared.spots.Spot.{Spot}
 use Rattle.graph_plans.specs.Operations.{route_limit, word_limit}
+use Rattle.graph_file.specs.declared.scopes.Scope.{Scope}
+use Rattle.graph_file.specs.declared.scopes.Scope.TheVariants.{Top, Module as OfModule}
 use Rattle.graph_file.specs.Contents.{each, is_name, is_object, is_text, listed, name_of, name_list_of, word_of, words_of}
-use Rattle.graph_file.specs.OpRows.{FileOpRow, reads, does, op_rows, text_rows}
-use Rattle.graph_file.specs.PlanText.{DraftRows, TaskNames, add_semaphore, add_task, draft_in, empty_draft, with_semaphore, with_task_text}
-use Rattle.graph_file.specs.Steps.{walk}
-use Rattle.graph_file.specs.WrittenPlan.{OpText, file_data, op_text, sem_data, strings_data, task_data, text_op_text, with_field}
-use Rattle.graph_file.specs.inside.Fine.{AreFine, AreValidSems, IsValidSem, SemText, TaskText, draft_of, fits, fits_op, fits_text_op, fits_words, with_semaphores, with_tasks}
+use Rattle.graph_file.specs.Fields.{task_spot}
+use Rattle.graph_file.specs.OpRows.{FileOpRow, reads, runs, does, op_rows, text_op_in, text_rows}
+use Rattle.graph_file.specs.PlanText.{DraftRows, FileRows, TaskNames, TaskText, add_module, add_semaphore, add_task, empty_draft, file_in, graph_in, module_in, with_semaphore, with_task_text}
+use Rattle.graph_file.specs.Steps.{◌>>=◌, walk}
+use Rattle.graph_file.specs.WrittenPlan.{OpText, each_data, file_data, module_with, op_text, sem_data, strings_data, task_data, text_op_text, with_field}
+use Rattle.graph_file.specs.inside.Fine.{AreFine, AreMade, AreValidSems, IsMade, IsMadeFile, IsValidSem, SemText, fits, fits_op, fits_part, fits_text_op, fits_words, maxima_of, names_of_sems}
+use Rattle.graph_file.proofs.FineLemmas.{with_sems_more, with_tasks}
 
 listed-items_of : (ds : List Data) → listed (items_of ds) ≡ ds
 listed-items_of [] = refl
@@ -43,7 +49,8 @@ words-written words fine =
 -- the operation of a file, as it is written
 abbrev pub file_op_text : FileOpRow → OpText
 file_op_text (reads text) = with_field (codes "read") (codes "text") (string text)
-file_op_text (does op) = op_text [] op
+file_op_text (runs name) = with_field (codes "module") (codes "module") (string name)
+file_op_text (does op) = op_text [] [] op
 
 abbrev pub task_text_data : TaskText → Data
 task_text_data task = task_data (file_op_text task.op) task.names
@@ -57,7 +64,7 @@ pub record IsNamed (task : TaskNames) : Type 0 where
 
 -- a task that is written is read again, in a file of version 2
 abbrev IsWritten : DraftRows → TaskNames → OpText → FileOpRow → Type 0
-IsWritten draft task text op = add_task draft (task_data text task) ≡ Ok (with_task_text draft task op)
+IsWritten draft task text op = add_task draft (task_data text task) ≡ Ok (with_task_text draft (record { names = task; op = op }))
 
 text_op-written : (draft : DraftRows) (task : TaskNames) (op : TextOp) → draft.version ≡ 2 → IsNamed task → fits_text_op op ≡ true → IsWritten draft task (text_op_text op) (does (Text op))
 unfolding op_rows text_rows
@@ -72,7 +79,21 @@ text_op-written draft task Uniq second is fine = rw (second, is.name, names-writ
 text_op-written draft task Count second is fine = rw (second, is.name, names-written task.to is.to, names-written task.takes is.takes, names-written task.puts is.puts) refl
 text_op-written draft task Tally second is fine = rw (second, is.name, names-written task.to is.to, names-written task.takes is.takes, names-written task.puts is.puts) refl
 
-op-written : (draft : DraftRows) (task : TaskNames) (op : Op) → draft.version ≡ 2 → IsNamed task → fits_op op ≡ true → IsWritten draft task (op_text [] op) (does op)
+-- an operation on each part is read again
+each-written : (spot : Spot) (op : TextOp) → fits_text_op op ≡ true → text_op_in spot (each_data op) ≡ Ok op
+unfolding text_rows
+each-written spot Pass fine = refl
+each-written spot (Keep word) fine = rw fine refl
+each-written spot (Without word) fine = rw fine refl
+each-written spot (Head n) fine = rw fine refl
+each-written spot (Tail n) fine = rw fine refl
+each-written spot (Skip n) fine = rw fine refl
+each-written spot Sort fine = refl
+each-written spot Uniq fine = refl
+each-written spot Count fine = refl
+each-written spot Tally fine = refl
+
+op-written : (draft : DraftRows) (task : TaskNames) (op : Op) → draft.version ≡ 2 → IsNamed task → fits_op op ≡ true → IsWritten draft task (op_text [] [] op) (does op)
 unfolding op_rows text_rows
 op-written draft task Input second is fine = rw (second, is.name, names-written task.to is.to, names-written task.takes is.takes, names-written task.puts is.puts) refl
 op-written draft task (Read text) second is fine = cc
@@ -82,10 +103,15 @@ op-written draft task Back second is fine = rw (second, is.name, names-written t
 op-written draft task (IfMore n) second is fine = rw (second, is.name, fine, names-written task.to is.to, names-written task.takes is.takes, names-written task.puts is.puts) refl
 op-written draft task (IfHas word) second is fine = rw (second, is.name, fine, names-written task.to is.to, names-written task.takes is.takes, names-written task.puts is.puts) refl
 op-written draft task (Route words) second is fine = rw (second, is.name, words-written words fine, names-written task.to is.to, names-written task.takes is.takes, names-written task.puts is.puts) refl
+op-written draft task (Spread n op) second is fine =
+    let parts = and_parts (fits_part n) (fits_text_op op) fine in
+    rw (second, is.name, parts.0, each-written (task_spot draft.scope (length draft.tasks)) op parts.1, names-written task.to is.to, names-written task.takes is.takes, names-written task.puts is.puts) refl
+op-written draft task (Module m) second is fine = cc
 
 file_op-written : (draft : DraftRows) (task : TaskNames) (op : FileOpRow) → draft.version ≡ 2 → IsNamed task → fits op ≡ true → IsWritten draft task (file_op_text op) op
 unfolding op_rows text_rows
 file_op-written draft task (reads text) second is fine = rw (second, is.name, fine, names-written task.to is.to, names-written task.takes is.takes, names-written task.puts is.puts) refl
+file_op-written draft task (runs name) second is fine = rw (second, is.name, names-written task.to is.to, names-written task.takes is.takes, names-written task.puts is.puts) refl
 file_op-written draft task (does op) second is fine = op-written draft task op second is fine
 
 -- ---- semaphores
@@ -96,22 +122,23 @@ sem_text_data sem = sem_data sem.name sem.max
 semaphore-written : (draft : DraftRows) (sem : SemText) → IsValidSem sem → add_semaphore draft (sem_text_data sem) ≡ Ok (with_semaphore draft sem.name sem.max)
 semaphore-written draft sem is = rw (is.name, is.max) refl
 
-semaphores-written : (draft : DraftRows) (sems : List SemText) → AreValidSems sems → walk add_semaphore draft (map sem_text_data sems) ≡ Ok (with_semaphores draft sems)
-semaphores-written draft [] fine = refl
-semaphores-written draft (sem ∷ sems) fine = rw (semaphore-written draft sem fine.0) (semaphores-written (with_semaphore draft sem.name sem.max) sems fine.1)
+semaphores-written : (draft : DraftRows) (sems : List SemText) → AreValidSems sems → walk add_semaphore draft (map sem_text_data sems) ≡ Ok (with_sems_more draft sems)
+semaphores-written draft [] fine =
+    ap (λ ns. Ok (record draft { sem_names = ns })) (sym (append-nil draft.sem_names)) ∙ ap (λ ms. Ok (record draft { sem_names = draft.sem_names ++ []; sems = ms })) (sym (append-nil draft.sems))
+semaphores-written draft (sem ∷ sems) fine =
+    rw (semaphore-written draft sem fine.0)
+    (semaphores-written (with_semaphore draft sem.name sem.max) sems fine.1
+    ∙ ap (λ ns. Ok (record draft { sem_names = ns; sems = (draft.sems ++ sem.max ∷ []) ++ maxima_of sems })) (append_assoc draft.sem_names (sem.name ∷ []) (names_of_sems sems))
+    ∙ ap (λ ms. Ok (record draft { sem_names = draft.sem_names ++ names_of_sems (sem ∷ sems); sems = ms })) (append_assoc draft.sems (sem.max ∷ []) (maxima_of sems)))
 
--- semaphores leave the version as it is
-with_semaphores-version : (draft : DraftRows) (sems : List SemText) → (with_semaphores draft sems).version ≡ draft.version
-with_semaphores-version draft [] = refl
-with_semaphores-version draft (sem ∷ sems) = with_semaphores-version (with_semaphore draft sem.name sem.max) sems
-
--- ---- the file
+-- ---- graphs
 
 tasks-written : (draft : DraftRows) (tasks : List TaskText) → draft.version ≡ 2 → AreFine tasks → walk add_task draft (map task_text_data tasks) ≡ Ok (with_tasks draft tasks)
-tasks-written draft [] second fine = refl
+tasks-written draft [] second fine = ap (λ ts. Ok (record draft { tasks = ts })) (sym (append-nil draft.tasks))
 tasks-written draft (task ∷ tasks) second fine =
     let named : IsNamed task.names = record { name = fine.0.name; to = fine.0.to; takes = fine.0.takes; puts = fine.0.puts } in
-    rw (file_op-written draft task.names task.op second named fine.0.op) (tasks-written (with_task_text draft task.names task.op) tasks second fine.1)
+    rw (file_op-written draft task.names task.op second named fine.0.op)
+    (tasks-written (with_task_text draft task) tasks second fine.1 ∙ ap (λ ts. Ok (record draft { tasks = ts })) (append_assoc draft.tasks (task ∷ []) tasks))
 
 objects-written : (tasks : List TaskText) → list_all is_object (map task_text_data tasks) ≡ true
 objects-written [] = refl
@@ -121,8 +148,65 @@ sem_objects-written : (sems : List SemText) → list_all is_object (map sem_text
 sem_objects-written [] = refl
 sem_objects-written (sem ∷ sems) = sem_objects-written sems
 
--- a file that was written has just its semaphores and tasks
-pub file-written : (sems : List SemText) (tasks : List TaskText) → AreValidSems sems → AreFine tasks → draft_in (file_data (map sem_text_data sems) (map task_text_data tasks)) ≡ Ok (draft_of 2 sems tasks)
-file-written sems tasks fine_sems fine_tasks =
-    rw (listed-items_of (map task_text_data tasks), objects-written tasks, listed-items_of (map sem_text_data sems), sem_objects-written sems)
-    (rw (semaphores-written (empty_draft 2) sems fine_sems) (tasks-written (with_semaphores (empty_draft 2) sems) tasks (with_semaphores-version (empty_draft 2) sems) fine_tasks))
+-- the graph of these semaphores and tasks
+abbrev written : Scope → List ℕ → List SemText → List TaskText → DraftRows
+written scope name sems tasks = record { scope = scope; version = 2; name = name; sem_names = names_of_sems sems; sems = maxima_of sems; tasks = tasks }
+
+graph-written : (scope : Scope) (name : List ℕ) (sems : List SemText) (tasks : List TaskText) → AreValidSems sems → AreFine tasks
+    → graph_in (empty_draft scope 2 name) (map sem_text_data sems) (map task_text_data tasks) ≡ Ok (written scope name sems tasks)
+graph-written scope name sems tasks fine_sems fine_tasks =
+    ap (λ r. r >>= λ start. walk add_task start (map task_text_data tasks)) (semaphores-written (empty_draft scope 2 name) sems fine_sems)
+    ∙ tasks-written (with_sems_more (empty_draft scope 2 name) sems) tasks refl fine_tasks
+
+-- a graph that was made is that of its semaphores and tasks
+written-is : (scope : Scope) (draft : DraftRows) (made : IsMade scope draft) → draft.version ≡ 2 → written scope draft.name made.sems draft.tasks ≡ draft
+written-is scope draft made second = rw (made.sem_names, made.maxima, ← made.scope_is, ← second) refl
+
+module-written : (scope : Scope) (name : List ℕ) (sems : List SemText) (tasks : List TaskText) → is_name name ≡ true → AreValidSems sems → AreFine tasks
+    → module_in scope 2 (module_with name (map sem_text_data sems) (map task_text_data tasks)) ≡ Ok (written scope name sems tasks)
+module-written scope name sems tasks named fine_sems fine_tasks =
+    rw (named, listed-items_of (map task_text_data tasks), objects-written tasks, listed-items_of (map sem_text_data sems), sem_objects-written sems) (graph-written scope name sems tasks fine_sems fine_tasks)
+
+-- ---- modules
+
+-- how these modules are written, of which the first has this number
+abbrev pub made_data : (m : ℕ) (drafts : List DraftRows) → AreMade m drafts → List Data
+made_data m [] made = []
+made_data m (draft ∷ drafts) made = module_with draft.name (map sem_text_data made.1.sems) (map task_text_data draft.tasks) ∷ made_data (suc m) drafts made.2
+
+-- graphs of a file of version 2
+abbrev pub AreSecond : List DraftRows → Type 0
+AreSecond [] = ⊤
+AreSecond (draft ∷ drafts) = (draft.version ≡ 2) × AreSecond drafts
+
+modules-written : (m : ℕ) (before drafts : List DraftRows) (made : AreMade m drafts) → length before ≡ m → AreSecond drafts → walk (add_module 2) before (made_data m drafts made) ≡ Ok (before ++ drafts)
+modules-written m before [] made number second = ap Ok (sym (append-nil before))
+modules-written m before (draft ∷ drafts) made number second =
+    let here : module_in (OfModule (length before)) 2 (module_with draft.name (map sem_text_data made.1.sems) (map task_text_data draft.tasks)) ≡ Ok draft =
+    ap (λ k. module_in (OfModule k) 2 (module_with draft.name (map sem_text_data made.1.sems) (map task_text_data draft.tasks))) number
+    ∙ module-written (OfModule m) draft.name made.1.sems draft.tasks made.0 made.1.fine_sems made.1.tasks ∙ ap Ok (written-is (OfModule m) draft made.1 second.0) in
+    let longer : length (before ++ draft ∷ []) ≡ suc m = omega (arith, length-append before (draft ∷ []), number) in
+    ap (λ r. (r >>= λ graph. Ok (before ++ graph ∷ [])) >>= λ next. walk (add_module 2) next (made_data (suc m) drafts made.2)) here
+    ∙ modules-written (suc m) (before ++ draft ∷ []) drafts made.2 longer second.1 ∙ ap Ok (append_assoc before (draft ∷ []) drafts)
+
+module_objects-written : (m : ℕ) (drafts : List DraftRows) (made : AreMade m drafts) → list_all is_object (made_data m drafts made) ≡ true
+module_objects-written m [] made = refl
+module_objects-written m (draft ∷ drafts) made = module_objects-written (suc m) drafts made.2
+
+-- ---- the file
+
+-- a file that was written has just its graphs
+pub file-written : (file : FileRows) (made : IsMadeFile file) → file.top.version ≡ 2 → AreSecond file.modules
+    → file_in (file_data (made_data 0 file.modules made.modules) (map sem_text_data made.top.sems) (map task_text_data file.top.tasks)) ≡ Ok file
+file-written file made second all_second =
+    let top : graph_in (empty_draft Top 2 []) (map sem_text_data made.top.sems) (map task_text_data file.top.tasks) ≡ Ok file.top =
+    graph-written Top [] made.top.sems file.top.tasks made.top.fine_sems made.top.tasks ∙ ap (λ name. Ok (written Top name made.top.sems file.top.tasks)) (sym made.no_name) ∙ ap Ok (written-is Top file.top made.top second) in
+    let modules = modules-written 0 [] file.modules made.modules refl all_second in
+    rw (
+      listed-items_of (map task_text_data file.top.tasks),
+      objects-written file.top.tasks,
+      listed-items_of (map sem_text_data made.top.sems),
+      sem_objects-written made.top.sems,
+      listed-items_of (made_data 0 file.modules made.modules),
+      module_objects-written 0 file.modules made.modules,
+    ) (rw (top, modules) refl)

@@ -32,10 +32,6 @@ is_object d = is_some (as_object d)
 abbrev pub objects_of : Data → Option (List Data)
 objects_of d = option_and_then (passing (list_all is_object)) (list_of d)
 
--- the list without items
-abbrev pub empty_list_of : Data → Option (List Data)
-empty_list_of d = option_and_then (passing (λ items. length items == 0)) (list_of d)
-
 -- ---- names
 
 -- an ASCII letter or digit, `_`, `-` or `.`
@@ -79,3 +75,7 @@ whole_of least most d = option_and_then (passing (λ n. nat_le least n && nat_le
 -- a number of lines: at most 1,000,000,000
 abbrev pub line_count_of : Data → Option ℕ
 line_count_of d = whole_of 0 line_limit d
+
+-- the lines of a part: 1 to 1,000,000,000
+abbrev pub part_size_of : Data → Option ℕ
+part_size_of d = whole_of 1 line_limit d

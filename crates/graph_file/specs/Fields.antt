@@ -6,7 +6,9 @@ use Rattle.std.specs.Str.{bytes_eq}
 use Rattle.serde_json.specs.Data.{Data, Members, no_members, member}
 use Rattle.serde_json.specs.Find.{get, as_object}
 use Rattle.graph_plans.specs.declared.spots.Spot.{Spot}
-use Rattle.graph_plans.specs.declared.spots.Spot.TheVariants.{Sem, Task}
+use Rattle.graph_plans.specs.declared.spots.Spot.TheVariants.{File, Sem, Task, Module, ModuleSem, ModuleTask}
+use Rattle.graph_file.specs.declared.scopes.Scope.{Scope}
+use Rattle.graph_file.specs.declared.scopes.Scope.TheVariants.{Top, Module as OfModule}
 use Rattle.graph_file.specs.declared.refusals.GraphError.{GraphError}
 use Rattle.graph_file.specs.declared.refusals.GraphError.TheVariants.{BadField}
 use Rattle.graph_file.specs.Steps.{unless}
@@ -15,13 +17,20 @@ use Rattle.graph_file.specs.Steps.{unless}
 abbrev pub u32_of : ℕ → ℕ
 u32_of n = min n 4294967295
 
+-- a graph's place
+abbrev pub graph_spot : Scope → Spot
+graph_spot Top = File
+graph_spot (OfModule m) = Module (u32_of m)
+
 -- a semaphore's place
-abbrev pub sem_spot : ℕ → Spot
-sem_spot n = Sem (u32_of n)
+abbrev pub sem_spot : Scope → ℕ → Spot
+sem_spot Top s = Sem (u32_of s)
+sem_spot (OfModule m) s = ModuleSem (u32_of m) (u32_of s)
 
 -- a task's place
-abbrev pub task_spot : ℕ → Spot
-task_spot n = Task (u32_of n)
+abbrev pub task_spot : Scope → ℕ → Spot
+task_spot Top t = Task (u32_of t)
+task_spot (OfModule m) t = ModuleTask (u32_of m) (u32_of t)
 
 -- what the field of an object holds, which may not be missing
 abbrev pub needed : {A : Type 0} → (Data → Option A) → Spot → List ℕ → Data → Result A GraphError

@@ -1,5 +1,5 @@
 -- Which bytes are a graph file for which plan, and else the first refusal.
-use Rattle.std.specs.Prelude.{◌≡◌, ℕ, suc, false, List, [], ◌∷◌, ◌++◌, length, map, not, ◌==◌, unwrap_or, is_some, position, Result, Ok, Err, ok_or, if◌then◌else◌, nat_le, codes, ⊤}
+use Rattle.std.specs.Prelude.{◌≡◌, ℕ, suc, ◌+◌, false, List, [], ◌∷◌, ◌++◌, length, map, sum_by, not, ◌==◌, unwrap_or, is_some, position, Bool, true, Result, Ok, Err, ok_or, if◌then◌else◌, nat_le, codes, slice_index_or, ⊤}
 use Rattle.std.specs.List.{list_any}
 use Rattle.std.specs.Str.{bytes_eq, is_utf8}
 use Rattle.serde_json.specs.Data.{Data}
@@ -8,20 +8,23 @@ use Rattle.task_graph.specs.declared.net.EdgeRow.{EdgeRow}
 use Rattle.task_graph.specs.declared.net.TaskRow.{TaskRow}
 use Rattle.task_graph.specs.NetBuilder.{rising}
 use Rattle.graph_plans.specs.declared.ops.Op.{Op}
-use Rattle.graph_plans.specs.declared.ops.Op.TheVariants.{Read}
+use Rattle.graph_plans.specs.declared.ops.Op.TheVariants.{Read, Module}
 use Rattle.graph_plans.specs.declared.spots.Spot.TheVariants.{File}
 use Rattle.graph_plans.specs.Operations.{shape_of}
-use Rattle.graph_plans.specs.PlanRows.{PlanRows, file_edge_limit, file_semaphore_limit, file_task_limit, maximum_limit, text_count_limit}
+use Rattle.graph_plans.specs.ModuleUses.{first_on_cycle, has_chain}
+use Rattle.graph_plans.specs.PlanRows.{GraphRows, PlanRows, depth_limit, file_edge_limit, file_semaphore_limit, file_task_limit, maximum_limit, module_limit, text_count_limit}
 use Rattle.graph_file.specs.declared.numbers.TaskNumbers.{TaskNumbers}
 use Rattle.graph_file.specs.declared.refusals.GraphError.{GraphError}
-use Rattle.graph_file.specs.declared.refusals.GraphError.TheVariants.{NotJson, NoSuchName, Repeated, TooMany}
-use Rattle.graph_file.specs.declared.refusals.Kind.TheVariants.{Tasks, Edges, Semaphores, Texts}
-use Rattle.graph_file.specs.Contents.{each, empty_list_of, name_of, name_list_of, objects_of, whole_of}
-use Rattle.graph_file.specs.Fields.{allowed, needed, only, sem_spot, task_spot, u32_of}
-use Rattle.graph_file.specs.OpRows.{FileOpRow, reads, does, op_in, op_rows}
-use Rattle.graph_file.specs.Steps.{◌>>=◌, passed, walk}
+use Rattle.graph_file.specs.declared.refusals.GraphError.TheVariants.{NotJson, NoSuchName, Repeated, ModuleCycle, TooMany}
+use Rattle.graph_file.specs.declared.refusals.Kind.TheVariants.{Tasks, Edges, Semaphores, Modules, Depth, Texts}
+use Rattle.graph_file.specs.declared.scopes.Scope.{Scope}
+use Rattle.graph_file.specs.declared.scopes.Scope.TheVariants.{Top, Module as OfModule}
+use Rattle.graph_file.specs.Contents.{each, name_of, name_list_of, objects_of, whole_of}
+use Rattle.graph_file.specs.Fields.{allowed, graph_spot, needed, only, sem_spot, task_spot, u32_of}
+use Rattle.graph_file.specs.OpRows.{FileOpRow, reads, runs, does, op_in, op_rows}
+use Rattle.graph_file.specs.Steps.{◌>>=◌, passed, unless, walk}
 
--- ---- semaphores and tasks, one after another
+-- ---- the graphs of a file, one field after another
 
 -- a task's name, and the names that it has of others: `to` are the tasks to which its edges lead, the last two semaphores
 pub record TaskNames : Type 0 where
@@ -30,18 +33,28 @@ pub record TaskNames : Type 0 where
   pub takes : List (List ℕ)
   pub puts : List (List ℕ)
 
--- The version of a file, its semaphores' names and maxima, its tasks' names and operations in file order, and the names
--- of the texts that they read, each once.
+-- a task as a file has it
+pub record TaskText : Type 0 where
+  pub names : TaskNames
+  pub op : FileOpRow
+
+-- A graph of a file of this version: its name, which the top graph doesn't have, its semaphores' names and maxima, and its
+-- tasks in file order.
 pub record DraftRows : Type 0 where
+  pub scope : Scope
   pub version : ℕ
+  pub name : List ℕ
   pub sem_names : List (List ℕ)
   pub sems : List ℕ
-  pub tasks : List TaskNames
-  pub ops : List Op
-  pub texts : List (List ℕ)
+  pub tasks : List TaskText
 
-abbrev pub empty_draft : ℕ → DraftRows
-empty_draft version = record { version = version; sem_names = []; sems = []; tasks = []; ops = []; texts = [] }
+-- the graphs of a file
+pub record FileRows : Type 0 where
+  pub top : DraftRows
+  pub modules : List DraftRows
+
+abbrev pub empty_draft : Scope → ℕ → List ℕ → DraftRows
+empty_draft scope version name = record { scope = scope; version = version; name = name; sem_names = []; sems = []; tasks = [] }
 
 -- one semaphore more
 abbrev pub with_semaphore : DraftRows → List ℕ → ℕ → DraftRows
@@ -49,33 +62,15 @@ with_semaphore draft name max = record draft { sem_names = draft.sem_names ++ na
 
 -- an object more as a semaphore, by the order of its fields
 abbrev pub add_semaphore : DraftRows → Data → Result DraftRows GraphError
-add_semaphore draft d = let spot = sem_spot (length draft.sem_names) in do
+add_semaphore draft d = let spot = sem_spot draft.scope (length draft.sem_names) in do
   name ← needed name_of spot (codes "name") d
   max ← needed (whole_of 1 maximum_limit) spot (codes "max") d
   done ← only (codes "name" ∷ codes "max" ∷ []) spot d
   Ok (with_semaphore draft name max)
 
--- the number of a text among these, or of the place behind them
-abbrev pub text_number : List (List ℕ) → List ℕ → ℕ
-text_number texts text = unwrap_or (position (bytes_eq text) texts) (length texts)
-
--- the operation, where these texts were mentioned before
-abbrev pub numbered : List (List ℕ) → FileOpRow → Op
-numbered texts (reads text) = Read (u32_of (text_number texts text))
-numbered texts (does op) = op
-
--- the texts, with this one among them
-abbrev pub with_text : List (List ℕ) → List ℕ → List (List ℕ)
-with_text texts text = if is_some (position (bytes_eq text) texts) then texts else texts ++ text ∷ []
-
--- the texts that are mentioned then
-abbrev pub mentioned : List (List ℕ) → FileOpRow → List (List ℕ)
-mentioned texts (reads text) = with_text texts text
-mentioned texts (does op) = texts
-
 -- one task more
-abbrev pub with_task_text : DraftRows → TaskNames → FileOpRow → DraftRows
-with_task_text draft task op = record draft { tasks = draft.tasks ++ task ∷ []; ops = draft.ops ++ numbered draft.texts op ∷ []; texts = mentioned draft.texts op }
+abbrev pub with_task_text : DraftRows → TaskText → DraftRows
+with_task_text draft task = record draft { tasks = draft.tasks ++ task ∷ [] }
 
 -- the field with the semaphores that a task takes
 abbrev pub takes_field : ℕ → List ℕ
@@ -91,47 +86,101 @@ task_fields version = codes "name" ∷ codes "op" ∷ codes "to" ∷ takes_field
 
 -- an object more as a task, by the order of its fields
 abbrev pub add_task : DraftRows → Data → Result DraftRows GraphError
-add_task draft d = let spot = task_spot (length draft.tasks) in do
+add_task draft d = let spot = task_spot draft.scope (length draft.tasks) in do
   name ← needed name_of spot (codes "name") d
   found ← op_in op_rows spot d
   to ← allowed [] name_list_of spot (codes "to") d
   takes ← allowed [] name_list_of spot (takes_field draft.version) d
   puts ← allowed [] name_list_of spot (puts_field draft.version) d
   done ← only (task_fields draft.version ++ found.fields) spot d
-  Ok (with_task_text draft (record { name = name; to = to; takes = takes; puts = puts }) found.op)
+  Ok (with_task_text draft (record { names = record { name = name; to = to; takes = takes; puts = puts }; op = found.op }))
+
+-- the graph of a draft, with these semaphores and tasks
+abbrev pub graph_in : DraftRows → List Data → List Data → Result DraftRows GraphError
+graph_in draft sems tasks = do
+  start ← walk add_semaphore draft sems
+  walk add_task start tasks
+
+-- the module that an object is, by the order of its fields
+abbrev pub module_in : Scope → ℕ → Data → Result DraftRows GraphError
+module_in scope version d = let spot = graph_spot scope in do
+  name ← needed name_of spot (codes "name") d
+  tasks ← needed objects_of spot (codes "tasks") d
+  sems ← allowed [] objects_of spot (codes "semaphores") d
+  done ← only (codes "name" ∷ codes "tasks" ∷ codes "semaphores" ∷ []) spot d
+  graph_in (empty_draft scope version name) sems tasks
+
+-- an object more as a module
+abbrev pub add_module : ℕ → List DraftRows → Data → Result (List DraftRows) GraphError
+add_module version before d = do
+  graph ← module_in (OfModule (length before)) version d
+  Ok (before ++ graph ∷ [])
 
 -- the fields of a file
 abbrev pub file_fields : List (List ℕ)
 file_fields = codes "version" ∷ codes "tasks" ∷ codes "semaphores" ∷ codes "modules" ∷ []
 
--- The file: its own fields, then its semaphores and its tasks in order. It has no modules yet.
-abbrev pub draft_in : Data → Result DraftRows GraphError
-draft_in d = do
+-- the graphs of a file: its own fields first, then those of its semaphores, tasks and modules
+abbrev pub file_in : Data → Result FileRows GraphError
+file_in d = do
   version ← allowed 1 (whole_of 1 2) File (codes "version") d
   tasks ← needed objects_of File (codes "tasks") d
-  semaphores ← allowed [] objects_of File (codes "semaphores") d
-  modules ← allowed [] empty_list_of File (codes "modules") d
+  sems ← allowed [] objects_of File (codes "semaphores") d
+  modules ← allowed [] objects_of File (codes "modules") d
   done ← only file_fields File d
-  draft ← walk add_semaphore (empty_draft version) semaphores
-  walk add_task draft tasks
+  top ← graph_in (empty_draft Top version []) sems tasks
+  graphs ← walk (add_module version) [] modules
+  Ok (record { top = top; modules = graphs })
 
 -- ---- names
 
 -- the names of the tasks
 abbrev pub task_names : DraftRows → List (List ℕ)
-task_names draft = map (λ (task : TaskNames). task.name) draft.tasks
+task_names draft = map (λ (task : TaskText). task.names.name) draft.tasks
+
+-- the names of the modules
+abbrev pub names_of_modules : FileRows → List (List ℕ)
+names_of_modules file = map (λ (draft : DraftRows). draft.name) file.modules
+
+-- an operation runs one of these modules, or none
+abbrev pub runs_one_of : List (List ℕ) → FileOpRow → Bool
+runs_one_of modules (reads text) = true
+runs_one_of modules (runs name) = is_some (position (bytes_eq name) modules)
+runs_one_of modules (does op) = true
 
 -- the numbers of the names in a field, where these are all names
 abbrev pub numbers_in : List (List ℕ) → GraphError → List (List ℕ) → Result (List ℕ) GraphError
 numbers_in all refusal names = ok_or (each (λ name. position (bytes_eq name) all) names) refusal
 
 -- a task more, by the order of its fields
-abbrev pub add_numbers : DraftRows → List TaskNumbers → TaskNames → Result (List TaskNumbers) GraphError
-add_numbers draft before task = let spot = task_spot (length before) in do
-  to ← numbers_in (task_names draft) (NoSuchName spot (codes "to")) task.to
-  takes ← numbers_in draft.sem_names (NoSuchName spot (takes_field draft.version)) task.takes
-  puts ← numbers_in draft.sem_names (NoSuchName spot (puts_field draft.version)) task.puts
+abbrev pub add_numbers : List (List ℕ) → DraftRows → List TaskNumbers → TaskText → Result (List TaskNumbers) GraphError
+add_numbers modules draft before task = let spot = task_spot draft.scope (length before) in do
+  known ← passed (runs_one_of modules task.op) (NoSuchName spot (codes "module"))
+  to ← numbers_in (task_names draft) (NoSuchName spot (codes "to")) task.names.to
+  takes ← numbers_in draft.sem_names (NoSuchName spot (takes_field draft.version)) task.names.takes
+  puts ← numbers_in draft.sem_names (NoSuchName spot (puts_field draft.version)) task.names.puts
   Ok (before ++ record { to = to; takes = takes; puts = puts } ∷ [])
+
+-- what the tasks of a graph name
+abbrev pub graph_numbers : List (List ℕ) → DraftRows → Result (List TaskNumbers) GraphError
+graph_numbers modules draft = walk (add_numbers modules draft) [] draft.tasks
+
+-- a graph more
+abbrev pub add_graph_numbers : List (List ℕ) → List (List TaskNumbers) → DraftRows → Result (List (List TaskNumbers)) GraphError
+add_graph_numbers modules before draft = do
+  numbers ← graph_numbers modules draft
+  Ok (before ++ numbers ∷ [])
+
+-- the numbers of what the tasks of the top graph and of each module name
+pub record FileNumbers : Type 0 where
+  pub top : List TaskNumbers
+  pub modules : List (List TaskNumbers)
+
+abbrev pub file_numbers : FileRows → Result FileNumbers GraphError
+file_numbers file = do
+  top ← graph_numbers (names_of_modules file) file.top
+  modules ← walk (add_graph_numbers (names_of_modules file)) [] file.modules
+  Ok (record { top = top; modules = modules })
 
 -- a name more, which none before it equals; else the refusal of its place
 abbrev pub add_name : (ℕ → GraphError) → List (List ℕ) → List ℕ → Result (List (List ℕ)) GraphError
@@ -140,12 +189,114 @@ add_name refusal before name = do
   Ok (before ++ name ∷ [])
 
 -- a task more, with another name than those before it, that names no semaphore twice in a list
-abbrev pub add_task_name : ℕ → List (List ℕ) → TaskNames → Result (List (List ℕ)) GraphError
-add_task_name version before task = let spot = task_spot (length before) in do
-  names ← add_name (λ t. Repeated (task_spot t) (codes "name")) before task.name
+abbrev pub add_task_name : Scope → ℕ → List (List ℕ) → TaskNames → Result (List (List ℕ)) GraphError
+add_task_name scope version before task = let spot = task_spot scope (length before) in do
+  names ← add_name (λ t. Repeated (task_spot scope t) (codes "name")) before task.name
   takes ← walk (add_name (λ k. Repeated spot (takes_field version))) [] task.takes
   puts ← walk (add_name (λ k. Repeated spot (puts_field version))) [] task.puts
   Ok names
+
+-- what the tasks name
+abbrev pub names_of_tasks : List TaskText → List TaskNames
+names_of_tasks tasks = map (λ (task : TaskText). task.names) tasks
+
+-- the names of a graph's semaphores differ, and then those of its tasks; it gives the latter
+abbrev pub graph_names : DraftRows → Result (List (List ℕ)) GraphError
+graph_names draft = do
+  sems ← walk (add_name (λ s. Repeated (sem_spot draft.scope s) (codes "name"))) [] draft.sem_names
+  walk (add_task_name draft.scope draft.version) [] (names_of_tasks draft.tasks)
+
+-- a module more, with another name than those before it, and with names that differ
+abbrev pub add_module_name : List (List ℕ) → DraftRows → Result (List (List ℕ)) GraphError
+add_module_name before draft = do
+  names ← add_name (λ m. Repeated (graph_spot (OfModule m)) (codes "name")) before draft.name
+  tasks ← graph_names draft
+  Ok names
+
+-- the names in each graph differ, and those of the modules, which it gives
+abbrev pub file_names : FileRows → Result (List (List ℕ)) GraphError
+file_names file = do
+  top ← graph_names file.top
+  walk add_module_name [] file.modules
+
+-- ---- the modules that tasks run, and the limits
+
+-- the number of a name among these, or of the place behind them
+abbrev pub number_among : List (List ℕ) → List ℕ → ℕ
+number_among names name = unwrap_or (position (bytes_eq name) names) (length names)
+
+-- the module that an operation runs, before these, where the modules have these names
+abbrev pub used_before : List (List ℕ) → List ℕ → FileOpRow → List ℕ
+used_before modules ms (reads text) = ms
+used_before modules ms (runs name) = number_among modules name ∷ ms
+used_before modules ms (does op) = ms
+
+-- the modules that tasks run
+abbrev pub used_by_tasks : List (List ℕ) → List TaskText → List ℕ
+used_by_tasks modules [] = []
+used_by_tasks modules (task ∷ tasks) = used_before modules (used_by_tasks modules tasks) task.op
+
+-- those that the tasks of each module run
+abbrev pub file_uses : FileRows → List (List ℕ)
+file_uses file = map (λ (draft : DraftRows). used_by_tasks (names_of_modules file) draft.tasks) file.modules
+
+-- the texts, with this one among them
+abbrev pub with_text : List (List ℕ) → List ℕ → List (List ℕ)
+with_text texts text = if is_some (position (bytes_eq text) texts) then texts else texts ++ text ∷ []
+
+-- the texts that are mentioned then
+abbrev pub mentioned : List (List ℕ) → FileOpRow → List (List ℕ)
+mentioned texts (reads text) = with_text texts text
+mentioned texts (runs name) = texts
+mentioned texts (does op) = texts
+
+abbrev pub mentioned_by_tasks : List (List ℕ) → List TaskText → List (List ℕ)
+mentioned_by_tasks texts [] = texts
+mentioned_by_tasks texts (task ∷ tasks) = mentioned_by_tasks (mentioned texts task.op) tasks
+
+abbrev pub mentioned_by_graphs : List (List ℕ) → List DraftRows → List (List ℕ)
+mentioned_by_graphs texts [] = texts
+mentioned_by_graphs texts (draft ∷ drafts) = mentioned_by_graphs (mentioned_by_tasks texts draft.tasks) drafts
+
+-- the texts that a file mentions, each once, in the order in which they are first mentioned
+abbrev pub file_texts : FileRows → List (List ℕ)
+file_texts file = mentioned_by_graphs [] (file.top ∷ file.modules)
+
+-- the tasks, edges and semaphores of some graphs, counted
+pub record Counts : Type 0 where
+  pub tasks : ℕ
+  pub edges : ℕ
+  pub sems : ℕ
+
+abbrev pub edge_total : List TaskNumbers → ℕ
+edge_total numbers = sum_by (λ (task : TaskNumbers). length task.to) numbers
+
+abbrev pub file_counts : FileRows → FileNumbers → Counts
+file_counts file numbers = record {
+  tasks = sum_by (λ (draft : DraftRows). length draft.tasks) (file.top ∷ file.modules);
+  edges = sum_by edge_total (numbers.top ∷ numbers.modules);
+  sems = sum_by (λ (draft : DraftRows). length draft.sems) (file.top ∷ file.modules);
+}
+
+-- there are not too many tasks, edges, semaphores and modules
+abbrev pub within_counts : FileRows → FileNumbers → Result ⊤ GraphError
+within_counts file numbers = let counts = file_counts file numbers in do
+  tasks ← passed (nat_le counts.tasks file_task_limit) (TooMany Tasks)
+  edges ← passed (nat_le counts.edges file_edge_limit) (TooMany Edges)
+  sems ← passed (nat_le counts.sems file_semaphore_limit) (TooMany Semaphores)
+  passed (nat_le (length file.modules) module_limit) (TooMany Modules)
+
+-- modules nest too deep: a chain of more than so many of them begins with one that the top graph's tasks run
+abbrev pub nests_too_deep : FileRows → Bool
+nests_too_deep file = has_chain (depth_limit + 1) (file_uses file) (used_by_tasks (names_of_modules file) file.top.tasks)
+
+-- no module is on a cycle of uses, and there is not too much in the file
+abbrev pub within_limits : FileRows → FileNumbers → Result ⊤ GraphError
+within_limits file numbers = do
+  nested ← unless (first_on_cycle (file_uses file)) (λ m. ModuleCycle (slice_index_or (names_of_modules file) m []))
+  few ← within_counts file numbers
+  shallow ← passed (not (nests_too_deep file)) (TooMany Depth)
+  passed (nat_le (length (file_texts file)) text_count_limit) (TooMany Texts)
 
 -- ---- the plan
 
@@ -168,36 +319,47 @@ task_rows sems [] tasks = []
 task_rows sems (op ∷ ops) [] = []
 task_rows sems (op ∷ ops) (task ∷ tasks) = task_row sems op task ∷ task_rows sems ops tasks
 
--- the plan of these tasks
-abbrev pub plan_with : DraftRows → List TaskNumbers → PlanRows
-plan_with draft tasks = record {
-  top = record {
-    name = [];
-    names = task_names draft;
-    ops = draft.ops;
-    sem_names = draft.sem_names;
-    net = record { tasks = task_rows (length draft.sems) draft.ops tasks; edges = edges_from 0 tasks; sems = draft.sems };
-  };
-  modules = [];
-  texts = draft.texts;
+-- the operation, where the modules and the texts have these names
+abbrev pub numbered : List (List ℕ) → List (List ℕ) → FileOpRow → Op
+numbered modules texts (reads text) = Read (u32_of (number_among texts text))
+numbered modules texts (runs name) = Module (u32_of (number_among modules name))
+numbered modules texts (does op) = op
+
+-- the operations of tasks
+abbrev pub ops_of : List (List ℕ) → List (List ℕ) → List TaskText → List Op
+ops_of modules texts tasks = map (λ (task : TaskText). numbered modules texts task.op) tasks
+
+-- the graph of these tasks
+abbrev pub graph_with : List (List ℕ) → List (List ℕ) → DraftRows → List TaskNumbers → GraphRows
+graph_with modules texts draft numbers = record {
+  name = draft.name;
+  names = task_names draft;
+  ops = ops_of modules texts draft.tasks;
+  sem_names = draft.sem_names;
+  net = record { tasks = task_rows (length draft.sems) (ops_of modules texts draft.tasks) numbers; edges = edges_from 0 numbers; sems = draft.sems };
 }
 
--- there are not too many tasks, edges, semaphores and texts
-abbrev pub within_limits : DraftRows → ℕ → Result ⊤ GraphError
-within_limits draft edges = do
-  tasks ← passed (nat_le (length draft.tasks) file_task_limit) (TooMany Tasks)
-  few ← passed (nat_le edges file_edge_limit) (TooMany Edges)
-  sems ← passed (nat_le (length draft.sems) file_semaphore_limit) (TooMany Semaphores)
-  passed (nat_le (length draft.texts) text_count_limit) (TooMany Texts)
+-- the graphs of drafts with these numbers
+abbrev pub graphs_with : List (List ℕ) → List (List ℕ) → List DraftRows → List (List TaskNumbers) → List GraphRows
+graphs_with modules texts [] numbers = []
+graphs_with modules texts (draft ∷ drafts) [] = []
+graphs_with modules texts (draft ∷ drafts) (n ∷ numbers) = graph_with modules texts draft n ∷ graphs_with modules texts drafts numbers
+
+-- the plan of these graphs
+abbrev pub plan_with : FileRows → FileNumbers → PlanRows
+plan_with file numbers = record {
+  top = graph_with (names_of_modules file) (file_texts file) file.top numbers.top;
+  modules = graphs_with (names_of_modules file) (file_texts file) file.modules numbers.modules;
+  texts = file_texts file;
+}
 
 -- the classes of refusals in their order, after that of fields
-abbrev pub plan_of : DraftRows → Result PlanRows GraphError
-plan_of draft = do
-  tasks ← walk (add_numbers draft) [] draft.tasks
-  sems ← walk (add_name (λ s. Repeated (sem_spot s) (codes "name"))) [] draft.sem_names
-  names ← walk (add_task_name draft.version) [] draft.tasks
-  done ← within_limits draft (length (edges_from 0 tasks))
-  Ok (plan_with draft tasks)
+abbrev pub plan_of : FileRows → Result PlanRows GraphError
+plan_of file = do
+  numbers ← file_numbers file
+  names ← file_names file
+  few ← within_limits file numbers
+  Ok (plan_with file numbers)
 
 -- ---- the bytes
 
@@ -207,7 +369,7 @@ json_in bytes = if is_utf8 bytes then ok_or (read bytes) NotJson else Err NotJso
 
 -- the plan that a JSON value stands for, or the first refusal
 abbrev pub plan_in : Data → Result PlanRows GraphError
-plan_in d = draft_in d >>= plan_of
+plan_in d = file_in d >>= plan_of
 
 -- the plan that the bytes stand for, or the first refusal
 abbrev pub read_plan : List ℕ → Result PlanRows GraphError

@@ -21,3 +21,8 @@ passed test refusal = if test then Ok tt else Err refusal
 abbrev pub unless : {A : Type 0} → Option A → (A → GraphError) → Result ⊤ GraphError
 unless None refusal = Ok tt
 unless (Some x) refusal = Err (refusal x)
+
+-- what a step gives, with this refusal in place of its own
+abbrev pub otherwise : {A : Type 0} → Result A GraphError → GraphError → Result A GraphError
+otherwise (Ok x) refusal = Ok x
+otherwise (Err e) refusal = Err refusal

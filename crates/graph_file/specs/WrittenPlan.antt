@@ -1,15 +1,15 @@
 -- How a plan is written.
 use Rattle.std.specs.Prelude.{ℕ, suc, List, [], ◌∷◌, map, filter, ◌==◌, slice_index_or, codes}
-use Rattle.serde_json.specs.Data.{Data, string, number, unsigned, array, no_items, object, Members, no_members, member, put}
+use Rattle.serde_json.specs.Data.{Data, string, number, unsigned, array, object, Members, no_members, member, put}
 use Rattle.serde_json.specs.View.{items_of}
 use Rattle.serde_json.specs.Written.{compact_text}
 use Rattle.task_graph.specs.declared.net.EdgeRow.{EdgeRow}
 use Rattle.task_graph.specs.declared.net.TaskRow.{TaskRow}
 use Rattle.graph_plans.specs.declared.ops.Op.{Op}
-use Rattle.graph_plans.specs.declared.ops.Op.TheVariants.{Input, Read, Text, Match, Back, IfMore, IfHas, Route}
+use Rattle.graph_plans.specs.declared.ops.Op.TheVariants.{Input, Read, Text, Match, Back, IfMore, IfHas, Route, Spread, Module}
 use Rattle.graph_plans.specs.declared.ops.TextOp.{TextOp}
 use Rattle.graph_plans.specs.declared.ops.TextOp.TheVariants.{Pass, Keep, Without, Head, Tail, Skip, Sort, Uniq, Count, Tally}
-use Rattle.graph_plans.specs.PlanRows.{PlanRows}
+use Rattle.graph_plans.specs.PlanRows.{GraphRows, PlanRows, module_names}
 use Rattle.graph_file.specs.PlanText.{TaskNames}
 
 -- the name of an operation, and its own fields
@@ -41,16 +41,25 @@ text_op_text Uniq = without_field (codes "uniq")
 text_op_text Count = without_field (codes "count")
 text_op_text Tally = without_field (codes "tally")
 
--- the same of a task's operation, where these are the names of the texts
-abbrev pub op_text : List (List ℕ) → Op → OpText
-op_text texts Input = without_field (codes "input")
-op_text texts (Read text) = with_field (codes "read") (codes "text") (string (slice_index_or texts text []))
-op_text texts (Text op) = text_op_text op
-op_text texts Match = without_field (codes "match")
-op_text texts Back = without_field (codes "back")
-op_text texts (IfMore n) = with_field (codes "ifmore") (codes "n") (lines_data n)
-op_text texts (IfHas word) = with_field (codes "ifhas") (codes "word") (string word)
-op_text texts (Route words) = with_field (codes "route") (codes "words") (strings_data words)
+-- an operation on one text as an object of its own
+abbrev pub each_data : TextOp → Data
+each_data op = object (put (codes "op") (string (text_op_text op).name) (text_op_text op).own)
+
+abbrev pub spread_text : ℕ → TextOp → OpText
+spread_text n op = record { name = codes "spread"; own = put (codes "each") (each_data op) (member (codes "n") (lines_data n) no_members) }
+
+-- the same of a task's operation, where these are the names of the texts and of the modules
+abbrev pub op_text : List (List ℕ) → List (List ℕ) → Op → OpText
+op_text texts modules Input = without_field (codes "input")
+op_text texts modules (Read text) = with_field (codes "read") (codes "text") (string (slice_index_or texts text []))
+op_text texts modules (Text op) = text_op_text op
+op_text texts modules Match = without_field (codes "match")
+op_text texts modules Back = without_field (codes "back")
+op_text texts modules (IfMore n) = with_field (codes "ifmore") (codes "n") (lines_data n)
+op_text texts modules (IfHas word) = with_field (codes "ifhas") (codes "word") (string word)
+op_text texts modules (Route words) = with_field (codes "route") (codes "words") (strings_data words)
+op_text texts modules (Spread n op) = spread_text n op
+op_text texts modules (Module m) = with_field (codes "module") (codes "module") (string (slice_index_or modules m []))
 
 -- a semaphore
 abbrev pub sem_data : List ℕ → ℕ → Data
@@ -66,31 +75,39 @@ sems_from (name ∷ names) (max ∷ maxima) = sem_data name max ∷ sems_from na
 abbrev pub task_data : OpText → TaskNames → Data
 task_data op task = object (put (codes "acquire") (strings_data task.takes) (put (codes "name") (string task.name) (put (codes "op") (string op.name) (put (codes "release") (strings_data task.puts) (put (codes "to") (strings_data task.to) op.own)))))
 
--- the names of the tasks to which the edges of task t lead, in their order
-abbrev pub to_of : PlanRows → ℕ → List (List ℕ)
-to_of plan t = map (λ (edge : EdgeRow). slice_index_or plan.top.names edge.to []) (filter (λ (edge : EdgeRow). edge.from == t) plan.top.net.edges)
+-- the names of the tasks to which the edges of task t of a graph lead, in their order
+abbrev pub to_of : GraphRows → ℕ → List (List ℕ)
+to_of graph t = map (λ (edge : EdgeRow). slice_index_or graph.names edge.to []) (filter (λ (edge : EdgeRow). edge.from == t) graph.net.edges)
 
--- the names of these semaphores
-abbrev pub sems_named : PlanRows → List ℕ → List (List ℕ)
-sems_named plan sems = map (λ s. slice_index_or plan.top.sem_names s []) sems
+-- the names of these semaphores of a graph
+abbrev pub sems_named : GraphRows → List ℕ → List (List ℕ)
+sems_named graph sems = map (λ s. slice_index_or graph.sem_names s []) sems
 
--- the tasks with these names, operations and rows, of which the first has this number
-abbrev pub tasks_from : PlanRows → ℕ → List (List ℕ) → List Op → List TaskRow → List Data
-tasks_from plan t (name ∷ names) (op ∷ ops) (row ∷ rows) =
-    task_data (op_text plan.texts op) (record { name = name; to = to_of plan t; takes = sems_named plan row.takes; puts = sems_named plan row.puts }) ∷ tasks_from plan (suc t) names ops rows
-tasks_from plan t names ops rows = []
+-- the tasks of a graph with these names, operations and rows, of which the first has this number
+abbrev pub tasks_from : List (List ℕ) → List (List ℕ) → GraphRows → ℕ → List (List ℕ) → List Op → List TaskRow → List Data
+tasks_from texts modules graph t (name ∷ names) (op ∷ ops) (row ∷ rows) =
+    task_data (op_text texts modules op) (record { name = name; to = to_of graph t; takes = sems_named graph row.takes; puts = sems_named graph row.puts }) ∷ tasks_from texts modules graph (suc t) names ops rows
+tasks_from texts modules graph t names ops rows = []
 
--- the tasks of a plan
-abbrev pub tasks_data : PlanRows → List Data
-tasks_data plan = tasks_from plan 0 plan.top.names plan.top.ops plan.top.net.tasks
+-- the tasks of a graph of a plan
+abbrev pub tasks_data : PlanRows → GraphRows → List Data
+tasks_data plan graph = tasks_from plan.texts (module_names plan) graph 0 graph.names graph.ops graph.net.tasks
 
--- the file with these semaphores and tasks, of version 2; it has no modules yet
-abbrev pub file_data : List Data → List Data → Data
-file_data sems tasks = object (put (codes "modules") (array no_items) (put (codes "semaphores") (array (items_of sems)) (put (codes "tasks") (array (items_of tasks)) (put (codes "version") (number (unsigned 2)) no_members))))
+-- a module with these semaphores and tasks
+abbrev pub module_with : List ℕ → List Data → List Data → Data
+module_with name sems tasks = object (put (codes "name") (string name) (put (codes "semaphores") (array (items_of sems)) (put (codes "tasks") (array (items_of tasks)) no_members)))
+
+-- a module of a plan
+abbrev pub module_data : PlanRows → GraphRows → Data
+module_data plan graph = module_with graph.name (sems_from graph.sem_names graph.net.sems) (tasks_data plan graph)
+
+-- the file with these modules, semaphores and tasks, of version 2
+abbrev pub file_data : List Data → List Data → List Data → Data
+file_data modules sems tasks = object (put (codes "modules") (array (items_of modules)) (put (codes "semaphores") (array (items_of sems)) (put (codes "tasks") (array (items_of tasks)) (put (codes "version") (number (unsigned 2)) no_members))))
 
 -- the file of a plan
 abbrev pub plan_data : PlanRows → Data
-plan_data plan = file_data (sems_from plan.top.sem_names plan.top.net.sems) (tasks_data plan)
+plan_data plan = file_data (map (module_data plan) plan.modules) (sems_from plan.top.sem_names plan.top.net.sems) (tasks_data plan plan.top)
 
 -- the text that is written for a plan: no spaces, and the fields of each object in the order of their bytes
 abbrev pub plan_text : PlanRows → List ℕ

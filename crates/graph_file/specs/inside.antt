@@ -4,3 +4,5 @@ pub mod Writer
 pub mod Drafts
 pub mod Fine
 pub mod Lookups
+pub mod UseNets
+pub mod Counting

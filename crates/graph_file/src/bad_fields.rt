@@ -1,6 +1,5 @@
 // The refusals of fields.
 ghost use Rattle.std.specs.Prelude.{◌≡◌, ◌≢◌};
-ghost use Rattle.graph_file.specs.Fields.{sem_spot, task_spot};
 
 use crate::refusals::GraphError;
 use graph_plans::Spot;
@@ -35,18 +34,4 @@ pub(crate) fn repeated(alloc: Global, spot: Spot, field: &str) -> GraphError
         Ok(field) => GraphError::Repeated(spot, field),
         Err(_) => GraphError::NoMemory,
     }
-}
-
-/// A semaphore's place. A number past the greatest `u32` is reported as that one.
-pub(crate) fn sem_spot(sem: usize) -> Spot
-    ensures { result ≡ sem_spot sem }
-{
-    Spot::Sem(u32::try_from(sem).unwrap_or(u32::MAX))
-}
-
-/// A task's place. A number past the greatest `u32` is reported as that one.
-pub(crate) fn task_spot(task: usize) -> Spot
-    ensures { result ≡ task_spot task }
-{
-    Spot::Task(u32::try_from(task).unwrap_or(u32::MAX))
 }

@@ -1,6 +1,7 @@
-// The semaphores and tasks of a graph file, before their names are looked up.
-use graph_plans::Op;
-use outside_io::{Bytes, List};
+// The graphs of a file as it has them, before their names are looked up.
+use crate::file_op::FileOp;
+use crate::scopes::Scope;
+use outside_io::List;
 
 /// A task's name, and the names that it has of others: of the tasks to which its edges lead, and of the semaphores that
 /// it takes and puts.
@@ -12,14 +13,28 @@ pub(crate) struct NamedTask<'v> {
     pub puts: List<&'v str>,
 }
 
-/// The version of a file, its semaphores' names and maxima, its tasks' names and operations in file order, and the names
-/// of the texts that they read, each once.
+/// A task as a file has it.
+#[derive(Drop)]
+pub(crate) struct FileTask<'v> {
+    pub names: NamedTask<'v>,
+    pub op: FileOp<'v>,
+}
+
+/// A graph of a file of this version: its name, which the top graph doesn't have, its semaphores' names and maxima, and
+/// its tasks in file order.
 #[derive(Drop)]
 pub(crate) struct Draft<'v> {
+    pub scope: Scope,
     pub version: u64,
+    pub name: &'v str,
     pub sem_names: List<&'v str>,
     pub sems: List<u32>,
-    pub tasks: List<NamedTask<'v>>,
-    pub ops: List<Op>,
-    pub texts: List<Bytes>,
+    pub tasks: Vec<FileTask<'v>>,
+}
+
+/// The graphs of a file.
+#[derive(Drop)]
+pub(crate) struct FileDraft<'v> {
+    pub top: Draft<'v>,
+    pub modules: Vec<Draft<'v>>,
 }

@@ -3,15 +3,15 @@ ghost use Rattle.std.specs.Prelude.{◌≡◌, [], ◌++◌, codes, map, option_
 ghost use Rattle.std.specs.BTreeMap.{keys};
 ghost use Rattle.std.specs.List.{find, list_any};
 ghost use Rattle.std.specs.Str.{bytes_eq};
-ghost use Rattle.serde_json.specs.Find.{get};
+ghost use Rattle.serde_json.specs.Find.{as_str, get};
 ghost use Rattle.serde_json.specs.View.{view};
-ghost use Rattle.graph_file.specs.Contents.{each, empty_list_of, line_count_of, list_of, name_of, name_list_of, text_name_of, whole_of, word_of, words_of};
+ghost use Rattle.graph_file.specs.Contents.{each, line_count_of, list_of, name_of, name_list_of, objects_of, part_size_of, text_name_of, whole_of, word_of, words_of};
 ghost use Rattle.graph_file.specs.Fields.{allowed, is_unknown, needed, only, unknown};
 ghost use Rattle.graph_file.specs.inside.Reader.{Leads, Reads, ReadsAs, put_each, strings};
 ghost use Rattle.graph_file.specs.Steps.{walk};
 
 use crate::bad_fields::bad_field;
-use crate::contents::{list_of, name_of, text_name_of, whole_of, word_of};
+use crate::contents::{list_of, name_of, objects_of, text_name_of, whole_of, word_of};
 use crate::refusals::GraphError;
 use graph_plans::Spot;
 use outside_io::{Bytes, List};
@@ -22,7 +22,7 @@ const MAX_LINES: u64 = 1_000_000_000;
 
 const MAX_WORDS: usize = 256;
 
-/// The name of a task or semaphore.
+/// The name of a task, a semaphore or a module.
 pub(crate) fn read_name<'v>(
     alloc: Global,
     spot: Spot,
@@ -35,6 +35,41 @@ pub(crate) fn read_name<'v>(
         return Err(bad_field(alloc, spot, "name"));
     };
     Ok(name)
+}
+
+/// The objects in a list.
+pub(crate) fn read_objects<'v>(
+    alloc: Global,
+    spot: Spot,
+    field: &str,
+    object: &'v Value,
+) -> Result<&'v [Value], GraphError>
+    ensures { ReadsAs (λ items. map view items.now) result
+        (needed objects_of spot field.now (view object.now)) }
+{
+    let Some(items) = object.get(field).and_then(objects_of) else {
+        return Err(bad_field(alloc, spot, field));
+    };
+    Ok(items)
+}
+
+/// The objects in a list, which may be missing and is then empty.
+pub(crate) fn read_some_objects<'v>(
+    alloc: Global,
+    spot: Spot,
+    field: &str,
+    object: &'v Value,
+) -> Result<&'v [Value], GraphError>
+    ensures { ReadsAs (λ items. map view items.now) result
+        (allowed [] objects_of spot field.now (view object.now)) }
+{
+    let Some(list) = object.get(field) else {
+        return Ok(&[]);
+    };
+    match objects_of(list) {
+        Some(items) => Ok(items),
+        None => Err(bad_field(alloc, spot, field)),
+    }
 }
 
 /// The names in a list, which may be missing and is then empty.
@@ -114,6 +149,45 @@ pub(crate) fn read_word(alloc: Global, spot: Spot, object: &Value) -> Result<Byt
         return Err(bad_field(alloc, spot, "word"));
     };
     Ok(Bytes::from_slice(alloc, word.as_bytes())?)
+}
+
+/// The name of the module that an operation runs.
+pub(crate) fn read_module_name<'v>(
+    alloc: Global,
+    spot: Spot,
+    object: &'v Value,
+) -> Result<&'v str, GraphError>
+    ensures { ReadsAs (λ s. s.now) result
+        (needed as_str spot (codes "module") (view object.now)) }
+{
+    let Some(name) = string_in(object, "module") else {
+        return Err(bad_field(alloc, spot, "module"));
+    };
+    Ok(name)
+}
+
+// The string of a field, if it holds one.
+fn string_in<'v>(object: &'v Value, field: &str) -> Option<&'v str>
+    ensures { option_map (λ s. s.now) result
+        ≡ option_and_then as_str (get field.now (view object.now)) }
+{
+    object.get(field)?.as_str()
+}
+
+/// The number of lines in each part that an operation makes.
+pub(crate) fn read_part_lines(alloc: Global, spot: Spot, object: &Value) -> Result<u64, GraphError>
+    ensures { Reads result (needed part_size_of spot (codes "n") (view object.now)) }
+{
+    let Some(lines) = object.get("n").and_then(part_size_of) else {
+        return Err(bad_field(alloc, spot, "n"));
+    };
+    Ok(lines)
+}
+
+fn part_size_of(value: &Value) -> Option<u64>
+    ensures { result ≡ part_size_of (view value.now) }
+{
+    whole_of(value, 1, MAX_LINES)
 }
 
 /// The number of lines that an operation names.

@@ -1,52 +1,45 @@
-// A graph file: its own fields, its semaphores and its tasks.
-ghost use Rattle.std.specs.Prelude.{◌≡◌, [], codes, if◌then◌else◌, Some, None, map};
+// A graph file: its own fields, its graph and its modules.
+ghost use Rattle.std.specs.Prelude.{◌≡◌, [], ◌++◌, ◌∷◌, codes, map, IfOk, OnOk};
 ghost use Rattle.serde_json.specs.View.{view};
 ghost use Rattle.graph_plans.specs.declared.spots.Spot.TheVariants.{File};
-ghost use Rattle.graph_file.specs.Contents.{empty_list_of, objects_of, whole_of};
-ghost use Rattle.graph_file.specs.Fields.{allowed, needed, only};
-ghost use Rattle.graph_file.specs.PlanText.{draft_in, empty_draft, file_fields};
-ghost use Rattle.graph_file.specs.inside.Reader.{Leads, Reads, ReadsAs, draft_rows};
+ghost use Rattle.graph_file.specs.Contents.{whole_of};
+ghost use Rattle.graph_file.specs.Fields.{allowed};
+ghost use Rattle.graph_file.specs.PlanText.{add_module, empty_draft, file_in, graph_in, module_in};
+ghost use Rattle.graph_file.specs.Steps.{walk};
+ghost use Rattle.graph_file.specs.inside.Reader.{Leads, Reads, ReadsAs, draft_rows, file_rows};
 
 use crate::bad_fields::bad_field;
-use crate::contents::{list_of, objects_of, whole_of};
-use crate::draft::Draft;
+use crate::contents::whole_of;
+use crate::draft::{Draft, FileDraft};
+use crate::fields::{read_name, read_objects, read_some_objects};
 use crate::refusals::GraphError;
+use crate::scopes::{Scope, graph_spot};
 use crate::semaphores::read_semaphores;
 use crate::tasks::read_tasks;
 use crate::unknown::check_fields;
 use graph_plans::Spot;
-use outside_io::List;
+use outside_io::{List, NoMemory};
 use serde_json::Value;
 use std::alloc::Global;
 
-/// The semaphores and tasks of a file.
-#[tactic(auto, using(crate::proofs::TaskLemmas::walk_steps))]
-pub(crate) fn read_file<'v>(alloc: Global, file: &'v Value) -> Result<Draft<'v>, GraphError>
-    ensures { ReadsAs draft_rows result (draft_in (view file.now)) }
+/// The graphs of a file.
+pub(crate) fn read_file<'v>(alloc: Global, file: &'v Value) -> Result<FileDraft<'v>, GraphError>
+    ensures { ReadsAs file_rows result (file_in (view file.now)) }
 {
     let version = read_version(alloc, file)?;
-    let tasks = task_list(alloc, file)?;
-    let sems = semaphore_list(alloc, file)?;
-    check_no_modules(alloc, file)?;
+    let tasks = read_objects(alloc, Spot::File, "tasks", file)?;
+    let sems = read_some_objects(alloc, Spot::File, "semaphores", file)?;
+    let modules = read_some_objects(alloc, Spot::File, "modules", file)?;
     let fields = &["version", "tasks", "semaphores", "modules"];
     check_fields(alloc, Spot::File, file, fields, &[])?;
-    let mut draft = empty_draft(alloc, version);
-    read_semaphores(alloc, sems, &mut draft)?;
-    read_tasks(alloc, tasks, draft)
-}
-
-fn empty_draft<'v>(alloc: Global, version: u64) -> Draft<'v>
-    ensures draft { draft_rows result ≡ empty_draft version }
-    ensures texts { result.texts ≡ [] }
-{
-    Draft {
-        version,
-        sem_names: List::new(alloc),
-        sems: List::new(alloc),
-        tasks: List::new(alloc),
-        ops: List::new(alloc),
-        texts: List::new(alloc),
-    }
+    let top = read_draft(
+        alloc,
+        empty_draft(alloc, Scope::Top, version, ""),
+        sems,
+        tasks,
+    )?;
+    let modules = read_modules(alloc, version, modules)?;
+    Ok(FileDraft { top, modules })
 }
 
 fn read_version(alloc: Global, file: &Value) -> Result<u64, GraphError>
@@ -61,50 +54,85 @@ fn read_version(alloc: Global, file: &Value) -> Result<u64, GraphError>
     }
 }
 
-fn task_list<'v>(alloc: Global, file: &'v Value) -> Result<&'v [Value], GraphError>
-    ensures { ReadsAs (λ items. map view items.now) result
-        (needed objects_of File (codes "tasks") (view file.now)) }
+fn empty_draft<'v>(alloc: Global, scope: Scope, version: u64, name: &'v str) -> Draft<'v>
+    ensures { draft_rows result ≡ empty_draft scope version name.now }
 {
-    let Some(tasks) = file.get("tasks").and_then(objects_of) else {
-        return Err(bad_field(alloc, Spot::File, "tasks"));
-    };
-    Ok(tasks)
-}
-
-// The semaphores of a file, of which it may have none.
-fn semaphore_list<'v>(alloc: Global, file: &'v Value) -> Result<&'v [Value], GraphError>
-    ensures { ReadsAs (λ items. map view items.now) result
-        (allowed [] objects_of File (codes "semaphores") (view file.now)) }
-{
-    let Some(list) = file.get("semaphores") else {
-        return Ok(&[]);
-    };
-    match objects_of(list) {
-        Some(sems) => Ok(sems),
-        None => Err(bad_field(alloc, Spot::File, "semaphores")),
+    Draft {
+        scope,
+        version,
+        name,
+        sem_names: List::new(alloc),
+        sems: List::new(alloc),
+        tasks: Vec::new(alloc),
     }
 }
 
-// That the list of modules is missing or without items.
-fn check_no_modules(alloc: Global, file: &Value) -> Result<(), GraphError>
-    ensures { Leads result []
-        (allowed [] empty_list_of File (codes "modules") (view file.now)) }
+// The graph of a draft, with these semaphores and tasks.
+#[tactic(auto, using(crate::proofs::TaskLemmas::walk_steps))]
+fn read_draft<'v>(
+    alloc: Global,
+    mut draft: Draft<'v>,
+    sems: &'v [Value],
+    tasks: &'v [Value],
+) -> Result<Draft<'v>, GraphError>
+    ensures { ReadsAs draft_rows result
+        (graph_in (draft_rows draft.entry) (map view sems.now) (map view tasks.now)) }
 {
-    let Some(list) = file.get("modules") else {
-        return Ok(());
-    };
-    if is_empty_list(list) {
-        Ok(())
-    } else {
-        Err(bad_field(alloc, Spot::File, "modules"))
-    }
+    read_semaphores(alloc, sems, &mut draft)?;
+    read_tasks(alloc, tasks, &mut draft)?;
+    Ok(draft)
 }
 
-fn is_empty_list(value: &Value) -> bool
-    ensures { (if result then Some [] else None) ≡ empty_list_of (view value.now) }
+// The modules of a file.
+fn read_modules<'v>(
+    alloc: Global,
+    version: u64,
+    values: &'v [Value],
+) -> Result<Vec<Draft<'v>>, GraphError>
+    ensures { ReadsAs (λ modules. map draft_rows modules.items) result
+        (walk (add_module version) [] (map view values.now)) }
 {
-    match list_of(value) {
-        Some(items) => items.is_empty(),
-        None => false,
+    let mut modules = Vec::new(alloc);
+    for value in values {
+        add_module(alloc, version, value, &mut modules)?;
     }
+    Ok(modules)
+}
+
+// Puts a module at the end.
+fn add_module<'v>(
+    alloc: Global,
+    version: u64,
+    value: &'v Value,
+    modules: &mut Vec<Draft<'v>>,
+) -> Result<(), GraphError>
+    ensures { Leads result (map draft_rows modules.new.items)
+        (add_module version (map draft_rows modules.old.items) (view value.now)) }
+{
+    let draft = read_module(alloc, Scope::Module(modules.len()), version, value)?;
+    Ok(put_module(draft, modules)?)
+}
+
+fn put_module<'v>(draft: Draft<'v>, modules: &mut Vec<Draft<'v>>) -> Result<(), NoMemory>
+    ensures { OnOk result (map draft_rows modules.new.items
+        ≡ map draft_rows modules.old.items ++ draft_rows draft.entry ∷ []) }
+{
+    modules.push(draft)?;
+    Ok(())
+}
+
+fn read_module<'v>(
+    alloc: Global,
+    scope: Scope,
+    version: u64,
+    object: &'v Value,
+) -> Result<Draft<'v>, GraphError>
+    ensures { ReadsAs draft_rows result (module_in scope version (view object.now)) }
+{
+    let spot = graph_spot(scope);
+    let name = read_name(alloc, spot, object)?;
+    let tasks = read_objects(alloc, spot, "tasks", object)?;
+    let sems = read_some_objects(alloc, spot, "semaphores", object)?;
+    check_fields(alloc, spot, object, &["name", "tasks", "semaphores"], &[])?;
+    read_draft(alloc, empty_draft(alloc, scope, version, name), sems, tasks)
 }

@@ -3,10 +3,12 @@ ghost use Rattle.std.specs.Prelude.{◌≡◌};
 
 use graph_plans::Op;
 
-/// An operation as a file has it: the text that it reads has a name and no number yet, and any other is as in a plan.
+/// An operation as a file has it: the text that it reads and the module that it runs have names and no numbers yet, and
+/// any other is as in a plan.
 #[derive(Drop)]
 pub(crate) enum FileOp<'v> {
     Reads(&'v str),
+    Runs(&'v str),
     Does(Op),
 }
 

@@ -1,11 +1,11 @@
 // The places of names.
 ghost use Rattle.std.specs.Prelude.{◌≡◌, [], IfOk, OnOk, None, is_none, map};
-ghost use Rattle.graph_file.specs.PlanText.{text_number, with_text};
-ghost use Rattle.graph_file.specs.inside.Lookups.{HasPlaces, KeepsPlace, place_in};
+ghost use Rattle.graph_file.specs.PlanText.{number_among, with_text};
+ghost use Rattle.graph_file.specs.inside.Lookups.{HasPlaces, IsIndex, KeepsPlace, place_in};
 ghost use Rattle.graph_file.specs.inside.Reader.{strings};
 
-use crate::draft::NamedTask;
-use outside_io::{Bytes, List, NoMemory};
+use crate::draft::{Draft, FileTask};
+use outside_io::{List, NoMemory};
 use std::alloc::Global;
 use std::collections::HashMap;
 
@@ -23,16 +23,57 @@ pub(crate) fn places_of<'n>(alloc: Global, names: &[&'n str]) -> Result<Places<'
     Ok(places)
 }
 
+/// Names, and the first place of each.
+#[derive(Drop)]
+pub(crate) struct Index<'n> {
+    pub names: List<&'n str>,
+    pub places: Places<'n>,
+}
+
+/// The index of these names.
+pub(crate) fn index_of<'n>(alloc: Global, names: List<&'n str>) -> Result<Index<'n>, NoMemory>
+    ensures index { IfOk result IsIndex }
+    ensures names { IfOk result (λ index. strings index.names ≡ strings names.entry) }
+{
+    let places = places_of(alloc, names.as_slice())?;
+    Ok(Index { names, places })
+}
+
+/// The number of a name in the index, or of the place behind its names.
+pub(crate) fn number_among(index: &Index<'_>, name: &str) -> usize
+    requires { IsIndex index.now }
+    ensures { result ≡ number_among (strings index.now.names) name.now }
+{
+    match index.places.get(name.as_bytes()) {
+        Some(number) => *number,
+        None => index.names.len(),
+    }
+}
+
 /// The names of these tasks.
 pub(crate) fn names_of_tasks<'v>(
     alloc: Global,
-    tasks: &[NamedTask<'v>],
+    tasks: &[FileTask<'v>],
 ) -> Result<List<&'v str>, NoMemory>
-    ensures { IfOk result (λ names. strings names ≡ map (λ task. task.name.now) tasks.now) }
+    ensures { IfOk result (λ names. strings names ≡ map (λ task. task.names.name.now) tasks.now) }
 {
     let mut names = List::with_room(alloc, tasks.len())?;
     for task in tasks {
-        names.push(task.name)?;
+        names.push(task.names.name)?;
+    }
+    Ok(names)
+}
+
+/// The names of these graphs.
+pub(crate) fn names_of_graphs<'v>(
+    alloc: Global,
+    drafts: &[Draft<'v>],
+) -> Result<List<&'v str>, NoMemory>
+    ensures { IfOk result (λ names. strings names ≡ map (λ draft. draft.name.now) drafts.now) }
+{
+    let mut names = List::with_room(alloc, drafts.len())?;
+    for draft in drafts {
+        names.push(draft.name)?;
     }
     Ok(names)
 }
@@ -53,25 +94,19 @@ pub(crate) fn keep_place<'n>(
     Ok(false)
 }
 
-/// The number of a text. One that wasn't mentioned before is put at the end.
-pub(crate) fn number_of<'v>(
-    alloc: Global,
-    text: &'v str,
-    texts: &mut List<Bytes>,
-    numbers: &mut Places<'v>,
-) -> Result<usize, NoMemory>
-    requires { HasPlaces numbers.old texts.old }
-    ensures number { IfOk result (λ number. number ≡ text_number texts.old text.now) }
-    ensures texts { OnOk result (texts.new ≡ with_text texts.old text.now) }
-    ensures numbers { OnOk result (HasPlaces numbers.new texts.new) }
+/// Puts a name at the end of those of an index, unless it is among them.
+pub(crate) fn mention<'n>(index: &mut Index<'n>, name: &'n str) -> Result<(), NoMemory>
+    requires { IsIndex index.old }
+    ensures index { OnOk result (IsIndex index.new) }
+    ensures names { OnOk result (strings index.new.names
+        ≡ with_text (strings index.old.names) name.now) }
 {
-    if let Some(number) = numbers.get(text.as_bytes()) {
-        return Ok(*number);
+    if index.places.contains_key(name.as_bytes()) {
+        return Ok(());
     }
-    let number = texts.len();
-    put_place(numbers, text.as_bytes(), number)?;
-    texts.push(Bytes::from_slice(alloc, text.as_bytes())?)?;
-    Ok(number)
+    put_place(&mut index.places, name.as_bytes(), index.names.len())?;
+    index.names.push(name)?;
+    Ok(())
 }
 
 // Puts a name's place into the map, which has none for it.

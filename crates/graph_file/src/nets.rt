@@ -5,9 +5,7 @@ ghost use Rattle.graph_plans.specs.PlanRows.{file_edge_limit, file_semaphore_lim
 ghost use Rattle.task_graph.specs.NetBuilder.{empty_net, with_edge, with_semaphore, with_task};
 ghost use Rattle.graph_file.specs.PlanText.{edge_to, edges_from, task_row};
 ghost use Rattle.graph_file.specs.inside.Drafts.{AreIds, IsAmong, NamesOnce, edge_row, net_with, with_sems};
-ghost use Rattle.graph_file.specs.inside.Reader.{draft_rows};
 
-use crate::draft::Draft;
 use crate::numbers::TaskNumbers;
 use graph_plans::Op;
 use outside_io::{List, NoMemory};
@@ -21,7 +19,7 @@ pub(crate) struct Edge {
     pub to: usize,
 }
 
-/// The edges of the tasks, in file order.
+/// The edges of the tasks of a graph, in file order.
 pub(crate) fn edges_of(alloc: Global, tasks: &[TaskNumbers]) -> Result<List<Edge>, NoMemory>
     ensures { IfOk result (λ edges. map edge_row edges ≡ edges_from 0 tasks.now) }
 {
@@ -43,26 +41,28 @@ fn put_edges(from: usize, to: &[usize], edges: &mut List<Edge>) -> Result<(), No
     Ok(())
 }
 
-/// The net of the semaphores and tasks of a draft, whose tasks name what has these numbers, and of these edges.
+/// The net of semaphores with these maxima, of tasks with these operations that name what has these numbers, and of
+/// these edges.
 pub(crate) fn net_with(
     alloc: Global,
-    draft: &Draft<'_>,
+    sems: &[u32],
+    ops: &[Op],
     tasks: &[TaskNumbers],
     edges: &[Edge],
 ) -> Result<Net, NoMemory>
-    requires sems { All (λ max. 1 ≤ max) draft.now.sems }
-    requires sem_count { length draft.now.sems ≤ file_semaphore_limit }
-    requires tasks { length draft.now.ops ≤ file_task_limit }
-    requires each { length tasks.now ≡ length draft.now.ops }
-    requires units { All (NamesOnce (length draft.now.sems)) tasks.now }
+    requires sems { All (λ max. 1 ≤ max) sems.now }
+    requires sem_count { length sems.now ≤ file_semaphore_limit }
+    requires tasks { length ops.now ≤ file_task_limit }
+    requires each { length tasks.now ≡ length ops.now }
+    requires units { All (NamesOnce (length sems.now)) tasks.now }
     requires edges { length edges.now ≤ file_edge_limit }
-    requires among { All (IsAmong (length draft.now.ops)) (map edge_row edges.now) }
+    requires among { All (IsAmong (length ops.now)) (map edge_row edges.now) }
     ensures { IfOk result (λ net. net
-        ≡ net_with draft.now.sems draft.now.ops tasks.now (map edge_row edges.now)) }
+        ≡ net_with sems.now ops.now tasks.now (map edge_row edges.now)) }
 {
     let mut builder = NetBuilder::new(alloc);
-    add_semaphores(&mut builder, draft.sems.as_slice())?;
-    add_tasks(alloc, &mut builder, draft.ops.as_slice(), tasks)?;
+    add_semaphores(&mut builder, sems)?;
+    add_tasks(alloc, &mut builder, ops, tasks)?;
     add_edges(&mut builder, tasks.len(), edges)?;
     Ok(builder.finish())
 }
@@ -150,6 +150,7 @@ fn shape_of(op: &Op) -> Shape
         Op::Input | Op::Read(_) | Op::Text(_) | Op::Match => Shape::Plain,
         Op::Back | Op::IfMore(_) | Op::IfHas(_) => Shape::Choice,
         Op::Route(_) => Shape::Many,
+        Op::Spread(_, _) | Op::Module(_) => Shape::Nested,
     }
 }
 

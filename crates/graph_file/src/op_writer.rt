@@ -2,10 +2,11 @@
 ghost use Rattle.std.specs.Prelude.{◌≡◌, ◌++◌, ◌∷◌, [], ◌<◌, All, IfOk, OnOk, length, map, slice_index_or};
 ghost use Rattle.serde_json.specs.Data.{string};
 ghost use Rattle.serde_json.specs.View.{view};
-ghost use Rattle.graph_file.specs.WrittenPlan.{lines_data, op_text, strings_data, text_op_text, with_field, without_field};
+ghost use Rattle.graph_plans.specs.PlanRows.{graph_rows, names_of_graphs};
+ghost use Rattle.graph_file.specs.WrittenPlan.{each_data, lines_data, op_text, spread_text, strings_data, text_op_text, with_field, without_field};
 ghost use Rattle.graph_file.specs.inside.Writer.{HasUtf8, HasUtf8Word, IsString, op_text_of};
 
-use graph_plans::{Op, TextOp};
+use graph_plans::{Graph, Op, TextOp};
 use outside_io::Bytes;
 use serde_json::{Map, Value, put};
 use std::alloc::{AllocError, Global};
@@ -18,10 +19,16 @@ pub(crate) struct WrittenOp {
     pub own: Map<String, Value>,
 }
 
-/// The operation of a task, where these are the names of the texts.
-pub(crate) fn written_op(alloc: Global, texts: &[Bytes], op: &Op) -> Result<WrittenOp, AllocError>
-    requires { HasUtf8 texts.now op.now }
-    ensures { IfOk result (λ written. op_text_of written ≡ op_text texts.now op.now) }
+/// The operation of a task, where these are the names of the texts and the modules.
+pub(crate) fn written_op(
+    alloc: Global,
+    texts: &[Bytes],
+    modules: &[Graph],
+    op: &Op,
+) -> Result<WrittenOp, AllocError>
+    requires { HasUtf8 texts.now (names_of_graphs (map graph_rows modules.now)) op.now }
+    ensures { IfOk result (λ written. op_text_of written
+        ≡ op_text texts.now (names_of_graphs (map graph_rows modules.now)) op.now) }
 {
     match op {
         Op::Input => Ok(bare(alloc, "input")),
@@ -42,7 +49,41 @@ pub(crate) fn written_op(alloc: Global, texts: &[Bytes], op: &Op) -> Result<Writ
             "words",
             strings_value(alloc, words.as_slice())?,
         ),
+        Op::Spread(lines, each) => written_spread(alloc, *lines, each),
+        Op::Module(module) => having(
+            alloc,
+            "module",
+            "module",
+            string_value(alloc, &modules[*module as usize].name)?,
+        ),
     }
+}
+
+// The parts that an operation makes, and what becomes of each.
+fn written_spread(alloc: Global, lines: u64, each: &TextOp) -> Result<WrittenOp, AllocError>
+    requires { HasUtf8Word each.now }
+    ensures { IfOk result (λ written. op_text_of written ≡ spread_text lines each.now) }
+{
+    let each = each_value(alloc, each)?;
+    let mut spread = having(alloc, "spread", "n", Value::from(lines))?;
+    put(&mut spread.own, alloc, "each", each)?;
+    Ok(spread)
+}
+
+// An operation on one text, as an object.
+fn each_value(alloc: Global, op: &TextOp) -> Result<Value, AllocError>
+    requires { HasUtf8Word op.now }
+    ensures { IfOk result (λ value. view value ≡ each_data op.now) }
+{
+    let written = written_text_op(alloc, op)?;
+    let mut members = written.own;
+    put(
+        &mut members,
+        alloc,
+        "op",
+        Value::try_from_str(alloc, written.name)?,
+    )?;
+    Ok(Value::Object(members))
 }
 
 /// An operation on one text.

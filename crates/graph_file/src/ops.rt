@@ -2,13 +2,16 @@
 ghost use Rattle.std.specs.Prelude.{◌≡◌, codes, map, option_and_then, option_map};
 ghost use Rattle.serde_json.specs.Find.{as_str, get};
 ghost use Rattle.serde_json.specs.View.{view};
-ghost use Rattle.graph_file.specs.OpRows.{does, op_called, op_in, op_rows, text_rows, used_by};
-ghost use Rattle.graph_file.specs.inside.Reader.{ReadsAs, found_op, found_text_op};
+ghost use Rattle.graph_file.specs.OpRows.{does, each_in, op_called, op_in, op_rows, spread_in, text_op_in, text_rows, used_by};
+ghost use Rattle.graph_file.specs.inside.Reader.{Reads, ReadsAs, found_op, found_text_op};
 
 use crate::bad_fields::bad_field;
-use crate::fields::{read_lines, read_text_name, read_word, read_words};
+use crate::fields::{
+    read_lines, read_module_name, read_part_lines, read_text_name, read_word, read_words,
+};
 use crate::file_op::{FileOp, FoundOp, with};
 use crate::refusals::GraphError;
+use crate::unknown::check_fields;
 use graph_plans::{Op, Spot, TextOp};
 use serde_json::Value;
 use std::alloc::Global;
@@ -64,8 +67,51 @@ fn read_op_called<'v>(
             &["words"],
             FileOp::Does(Op::Route(read_words(alloc, spot, object)?)),
         ),
+        "spread" => with(
+            &["n", "each"],
+            FileOp::Does(read_spread(alloc, spot, object)?),
+        ),
+        "module" => with(
+            &["module"],
+            FileOp::Runs(read_module_name(alloc, spot, object)?),
+        ),
         _ => return read_used_text_op(alloc, name, spot, object),
     })
+}
+
+// The parts that an operation makes, and what becomes of each.
+fn read_spread(alloc: Global, spot: Spot, object: &Value) -> Result<Op, GraphError>
+    ensures { Reads result (spread_in spot (view object.now)) }
+{
+    let lines = read_part_lines(alloc, spot, object)?;
+    let each = read_each(alloc, spot, object)?;
+    Ok(Op::Spread(lines, each))
+}
+
+// The operation on each part. Whatever is wrong with it is wrong with the field that holds it.
+fn read_each(alloc: Global, spot: Spot, object: &Value) -> Result<TextOp, GraphError>
+    ensures { Reads result (each_in spot (view object.now)) }
+{
+    let Some(each) = object.get("each") else {
+        return Err(bad_field(alloc, spot, "each"));
+    };
+    match read_own_op(alloc, spot, each) {
+        Ok(op) => Ok(op),
+        Err(GraphError::NoMemory) => Err(GraphError::NoMemory),
+        Err(_) => Err(bad_field(alloc, spot, "each")),
+    }
+}
+
+// The operation on one text that an object is, and nothing else.
+fn read_own_op(alloc: Global, spot: Spot, object: &Value) -> Result<TextOp, GraphError>
+    ensures { Reads result (text_op_in spot (view object.now)) }
+{
+    let Some(name) = op_name(object) else {
+        return Err(bad_field(alloc, spot, "op"));
+    };
+    let found = read_text_op(alloc, name, spot, object)?;
+    check_fields(alloc, spot, object, &["op"], found.fields)?;
+    Ok(found.op)
 }
 
 // The operation on one text of this name, as a task's.

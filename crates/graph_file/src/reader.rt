@@ -17,11 +17,15 @@ use std::alloc::Global;
 ///
 /// `NotJson`: they are no JSON text in UTF-8, or one that nests too deep. `BadField`: a field is missing where it must
 /// stand, is unknown, or has a content that it may not have; the file's own fields come first, then those of each
-/// semaphore and each task in turn. `NoSuchName`: a name in `to` that no task has, or one in `holds`, `acquire` or
-/// `release` that no semaphore has. `Repeated`: a name of a semaphore or task that an earlier one has, or one that stands
-/// twice in `holds`, `acquire` or `release`. `TooMany`: more than 10,000 tasks, 100,000 edges, 256 semaphores or 1,024
-/// different texts. These classes are tried in this order, and `NoMemory`, which says nothing of the bytes, may come in
-/// place of any answer.
+/// semaphore and each task in turn, then those of each module, its semaphores and its tasks. `NoSuchName`: a name in
+/// `module` that no module has, one in `to` that no task of the graph has, or one in `holds`, `acquire` or `release`
+/// that no semaphore of the graph has. `Repeated`: a name of a semaphore or task that an earlier one of the graph has,
+/// or of a module that an earlier one has, or one that stands twice in `holds`, `acquire` or `release`. `ModuleCycle`:
+/// the module of this name runs itself, directly or through others, and no module before it in the file does.
+/// `TooMany`: more than 10,000 tasks, 100,000 edges or 256 semaphores in all graphs together, 64 modules, a chain of 8
+/// modules from the top graph on of which each runs the next, or 1,024 different texts. These classes are tried in this
+/// order, and `NoMemory`, which says nothing of the bytes, may come in place of any answer. It comes for more than
+/// 4,000,000 modules or 8,000,000 tasks that run one, too.
 pub fn read_graph(alloc: Global, bytes: &[u8]) -> Result<Plan, GraphError>
     ensures plan { IfOk result (λ plan. PlanText bytes.now (plan_rows plan)) }
     ensures rules { IfOk result (λ plan. IsPlan (plan_rows plan)) }

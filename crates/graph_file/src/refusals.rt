@@ -15,7 +15,7 @@ pub enum Kind {
     Semaphores,
     /// Modules.
     Modules,
-    /// Modules inside modules.
+    /// Modules in a chain of uses that begins in the top graph.
     Depth,
     /// Different names of texts.
     Texts,
@@ -32,6 +32,8 @@ pub enum GraphError {
     NoSuchName(Spot, Bytes),
     /// A field has a name that an earlier one has.
     Repeated(Spot, Bytes),
+    /// The module of this name runs itself, directly or through others.
+    ModuleCycle(Bytes),
     /// There are more of these than a graph file may have.
     TooMany(Kind),
     /// Memory was refused. It says nothing of the bytes.

@@ -1,45 +1,99 @@
 // Names that stand twice.
 ghost use Rattle.std.specs.Prelude.{◌≡◌, ℕ, [], IfOk, codes, map};
-ghost use Rattle.graph_file.specs.Fields.{sem_spot, task_spot};
-ghost use Rattle.graph_file.specs.PlanText.{add_name, add_task_name};
+ghost use Rattle.graph_file.specs.Fields.{sem_spot};
+ghost use Rattle.graph_file.specs.PlanText.{add_module_name, add_name, add_task_name, file_names, graph_names, names_of_modules, task_names};
 ghost use Rattle.graph_file.specs.Steps.{walk};
-ghost use Rattle.graph_file.specs.inside.Reader.{Leads, named_task, once_or, strings, unless_repeated};
+ghost use Rattle.graph_file.specs.inside.Reader.{Leads, draft_rows, file_rows, named_task, once_module, once_or, strings, unless_repeated};
 
-use crate::bad_fields::{repeated, sem_spot, task_spot};
-use crate::draft::NamedTask;
+use crate::bad_fields::repeated;
+use crate::draft::{Draft, FileDraft, FileTask, NamedTask};
 use crate::lookups::keep_place;
 use crate::refusals::GraphError;
+use crate::scopes::{Scope, graph_spot, sem_spot, task_spot};
 use crate::tasks::{puts_field, takes_field};
 use graph_plans::Spot;
 use outside_io::NoMemory;
 use std::alloc::Global;
 use std::collections::HashMap;
 
-/// That no semaphore has the name of an earlier one.
-pub(crate) fn check_semaphores(alloc: Global, names: &[&str]) -> Result<(), GraphError>
+/// That no module, and no semaphore or task of a graph, has the name of an earlier one, and that no task has a
+/// semaphore twice in a list.
+pub(crate) fn check_names(alloc: Global, file: &FileDraft<'_>) -> Result<(), GraphError>
+    ensures { Leads result (names_of_modules (file_rows file.now))
+        (file_names (file_rows file.now)) }
+{
+    if let Err(refusal) = check_graph(alloc, &file.top) {
+        return Err(refusal);
+    }
+    check_modules(alloc, file.modules.as_slice())
+}
+
+// That no module has the name of an earlier one, and the same of what is in them.
+fn check_modules(alloc: Global, modules: &[Draft<'_>]) -> Result<(), GraphError>
+    ensures { Leads result (map (λ draft. draft.name.now) modules.now)
+        (walk add_module_name [] (map draft_rows modules.now)) }
+{
+    let mut places = HashMap::new(alloc);
+    for (place, draft) in modules.iter().enumerate() {
+        let new = keep_place(&mut places, draft.name.as_bytes(), place)?;
+        if let Err(refusal) = check_module(alloc, place, new, draft) {
+            return Err(refusal);
+        }
+    }
+    Ok(())
+}
+
+// The same of the module of this number, whose name is new or not.
+fn check_module(
+    alloc: Global,
+    number: usize,
+    new: bool,
+    draft: &Draft<'_>,
+) -> Result<(), GraphError>
+    ensures { Leads result number (once_module number new (draft_rows draft.now)) }
+{
+    if !new {
+        return Err(repeated(alloc, graph_spot(Scope::Module(number)), "name"));
+    }
+    check_graph(alloc, draft)
+}
+
+// That no semaphore and no task of a graph has the name of an earlier one, or a semaphore twice in a list.
+fn check_graph(alloc: Global, draft: &Draft<'_>) -> Result<(), GraphError>
+    ensures { Leads result (task_names (draft_rows draft.now)) (graph_names (draft_rows draft.now)) }
+{
+    if let Err(refusal) = check_semaphores(alloc, draft.scope, draft.sem_names.as_slice()) {
+        return Err(refusal);
+    }
+    check_tasks(alloc, draft.scope, draft.version, draft.tasks.as_slice())
+}
+
+// That no semaphore has the name of an earlier one.
+fn check_semaphores(alloc: Global, scope: Scope, names: &[&str]) -> Result<(), GraphError>
     ensures { Leads result (strings names.now)
-        (walk (add_name (λ s. GraphError.Repeated (sem_spot s) (codes "name"))) []
+        (walk (add_name (λ s. GraphError.Repeated (sem_spot scope s) (codes "name"))) []
         (strings names.now)) }
 {
     match first_repeated(alloc, names)? {
-        Some(sem) => Err(repeated(alloc, sem_spot(sem), "name")),
+        Some(sem) => Err(repeated(alloc, sem_spot(scope, sem), "name")),
         None => Ok(()),
     }
 }
 
-/// That no task has the name of an earlier one, or a semaphore twice in a list.
-pub(crate) fn check_tasks(
+// That no task has the name of an earlier one, or a semaphore twice in a list.
+fn check_tasks(
     alloc: Global,
+    scope: Scope,
     version: u64,
-    tasks: &[NamedTask<'_>],
+    tasks: &[FileTask<'_>],
 ) -> Result<(), GraphError>
-    ensures { Leads result (map (λ task. task.name.now) tasks.now)
-        (walk (add_task_name version) [] (map named_task tasks.now)) }
+    ensures { Leads result (map (λ task. task.names.name.now) tasks.now)
+        (walk (add_task_name scope version) [] (map (λ task. named_task task.names) tasks.now)) }
 {
     let mut places = HashMap::new(alloc);
     for (place, task) in tasks.iter().enumerate() {
-        let new = keep_place(&mut places, task.name.as_bytes(), place)?;
-        if let Err(refusal) = check_task(alloc, version, place, new, task) {
+        let new = keep_place(&mut places, task.names.name.as_bytes(), place)?;
+        if let Err(refusal) = check_task(alloc, scope, version, place, new, &task.names) {
             return Err(refusal);
         }
     }
@@ -49,14 +103,15 @@ pub(crate) fn check_tasks(
 // The same of the task of this number, whose name is new or not.
 fn check_task(
     alloc: Global,
+    scope: Scope,
     version: u64,
     number: usize,
     new: bool,
     task: &NamedTask<'_>,
 ) -> Result<(), GraphError>
-    ensures { Leads result number (once_or version number new (named_task task.now)) }
+    ensures { Leads result number (once_or scope version number new (named_task task.now)) }
 {
-    let spot = task_spot(number);
+    let spot = task_spot(scope, number);
     if !new {
         return Err(repeated(alloc, spot, "name"));
     }

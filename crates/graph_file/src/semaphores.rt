@@ -1,5 +1,5 @@
 // The semaphores in a graph file.
-ghost use Rattle.std.specs.Prelude.{◌≡◌, codes, map, OnOk};
+ghost use Rattle.std.specs.Prelude.{◌≡◌, codes, map};
 ghost use Rattle.serde_json.specs.View.{view};
 ghost use Rattle.graph_plans.specs.PlanRows.{maximum_limit};
 ghost use Rattle.graph_file.specs.Contents.{whole_of};
@@ -8,11 +8,12 @@ ghost use Rattle.graph_file.specs.PlanText.{add_semaphore, with_semaphore};
 ghost use Rattle.graph_file.specs.Steps.{walk};
 ghost use Rattle.graph_file.specs.inside.Reader.{Leads, Reads, draft_rows};
 
-use crate::bad_fields::{bad_field, sem_spot};
+use crate::bad_fields::bad_field;
 use crate::contents::whole_of;
 use crate::draft::Draft;
 use crate::fields::read_name;
 use crate::refusals::GraphError;
+use crate::scopes::sem_spot;
 use crate::unknown::check_fields;
 use graph_plans::Spot;
 use serde_json::Value;
@@ -20,15 +21,14 @@ use std::alloc::Global;
 
 const MAX_MAXIMUM: u64 = 1_000_000;
 
-/// Puts the semaphores of a file into the draft.
+/// Puts the semaphores of a graph into the draft.
 pub(crate) fn read_semaphores<'v>(
     alloc: Global,
     sems: &'v [Value],
     draft: &mut Draft<'v>,
 ) -> Result<(), GraphError>
-    ensures draft { Leads result (draft_rows draft.new)
+    ensures { Leads result (draft_rows draft.new)
         (walk add_semaphore (draft_rows draft.old) (map view sems.now)) }
-    ensures texts { OnOk result (draft.new.texts ≡ draft.old.texts) }
 {
     for sem in sems {
         read_semaphore(alloc, sem, draft)?;
@@ -42,11 +42,10 @@ fn read_semaphore<'v>(
     sem: &'v Value,
     draft: &mut Draft<'v>,
 ) -> Result<(), GraphError>
-    ensures draft { Leads result (draft_rows draft.new)
+    ensures { Leads result (draft_rows draft.new)
         (add_semaphore (draft_rows draft.old) (view sem.now)) }
-    ensures texts { OnOk result (draft.new.texts ≡ draft.old.texts) }
 {
-    let spot = sem_spot(draft.sem_names.len());
+    let spot = sem_spot(draft.scope, draft.sem_names.len());
     let name = read_name(alloc, spot, sem)?;
     let max = read_maximum(alloc, spot, sem)?;
     check_fields(alloc, spot, sem, &["name", "max"], &[])?;

@@ -1,25 +1,21 @@
 // The tasks in a graph file.
-ghost use Rattle.std.specs.Prelude.{◌≡◌, ◌++◌, ◌∷◌, [], codes, map, IfOk, OnOk};
+ghost use Rattle.std.specs.Prelude.{◌≡◌, ◌++◌, ◌∷◌, [], codes, map, OnOk};
 ghost use Rattle.serde_json.specs.View.{view};
 ghost use Rattle.graph_file.specs.Fields.{only};
-ghost use Rattle.graph_file.specs.PlanText.{mentioned, numbered, puts_field, takes_field, task_fields, with_task_text};
+ghost use Rattle.graph_file.specs.PlanText.{puts_field, takes_field, task_fields, with_task_text};
 ghost use Rattle.graph_file.specs.Steps.{walk};
-ghost use Rattle.graph_file.specs.inside.Lookups.{HasPlaces};
-ghost use Rattle.graph_file.specs.inside.Reader.{Leads, Reads, ReadsAs, add_task_steps, draft_rows, file_op_row, lists_in, named_task};
+ghost use Rattle.graph_file.specs.inside.Reader.{Leads, Reads, ReadsAs, add_task_steps, draft_rows, lists_in, named_task, task_text};
 
-use crate::bad_fields::task_spot;
-use crate::draft::{Draft, NamedTask};
+use crate::draft::{Draft, FileTask, NamedTask};
 use crate::fields::{read_name, read_names};
-use crate::file_op::FileOp;
-use crate::lookups::{Places, number_of};
 use crate::ops::read_op;
 use crate::refusals::GraphError;
+use crate::scopes::task_spot;
 use crate::unknown::check_fields;
-use graph_plans::{Op, Spot};
-use outside_io::{Bytes, List, NoMemory};
+use graph_plans::Spot;
+use outside_io::NoMemory;
 use serde_json::Value;
 use std::alloc::Global;
-use std::collections::HashMap;
 
 /// The field with the semaphores that a task takes, in a file of this version.
 pub(crate) fn takes_field(version: u64) -> &'static str
@@ -35,41 +31,46 @@ pub(crate) fn puts_field(version: u64) -> &'static str
     if version == 1 { "holds" } else { "release" }
 }
 
-/// The draft, with these tasks.
+/// Puts the tasks of a graph into the draft.
 pub(crate) fn read_tasks<'v>(
     alloc: Global,
     tasks: &'v [Value],
-    mut draft: Draft<'v>,
-) -> Result<Draft<'v>, GraphError>
-    requires { draft.texts ≡ [] }
-    ensures { ReadsAs draft_rows result
-        (walk add_task_steps (draft_rows draft.entry) (map view tasks.now)) }
+    draft: &mut Draft<'v>,
+) -> Result<(), GraphError>
+    ensures { Leads result (draft_rows draft.new)
+        (walk add_task_steps (draft_rows draft.old) (map view tasks.now)) }
 {
-    let mut numbers = HashMap::new(alloc);
     for task in tasks {
-        read_task(alloc, task, &mut draft, &mut numbers)?;
+        read_task(alloc, task, draft)?;
     }
-    Ok(draft)
+    Ok(())
 }
 
-// Puts a task at the end of the draft.
-fn read_task<'v>(
-    alloc: Global,
-    task: &'v Value,
-    draft: &mut Draft<'v>,
-    numbers: &mut Places<'v>,
-) -> Result<(), GraphError>
-    requires { HasPlaces numbers.old draft.old.texts }
-    ensures draft { Leads result (draft_rows draft.new)
+// Puts a task at the end of those of the draft.
+fn read_task<'v>(alloc: Global, task: &'v Value, draft: &mut Draft<'v>) -> Result<(), GraphError>
+    ensures { Leads result (draft_rows draft.new)
         (add_task_steps (draft_rows draft.old) (view task.now)) }
-    ensures numbers { OnOk result (HasPlaces numbers.new draft.new.texts) }
 {
-    let spot = task_spot(draft.tasks.len());
+    let spot = task_spot(draft.scope, draft.tasks.len());
     let name = read_name(alloc, spot, task)?;
     let found = read_op(alloc, spot, task)?;
-    let named = read_lists(alloc, draft.version, spot, name, task)?;
+    let names = read_lists(alloc, draft.version, spot, name, task)?;
     check_task_fields(alloc, draft.version, spot, task, found.fields)?;
-    Ok(put_task(alloc, named, found.op, draft, numbers)?)
+    Ok(put_task(
+        FileTask {
+            names,
+            op: found.op,
+        },
+        draft,
+    )?)
+}
+
+fn put_task<'v>(task: FileTask<'v>, draft: &mut Draft<'v>) -> Result<(), NoMemory>
+    ensures { OnOk result
+        (draft_rows draft.new ≡ with_task_text (draft_rows draft.old) (task_text task.entry)) }
+{
+    draft.tasks.push(task)?;
+    Ok(())
 }
 
 // A task of this name, with its lists of names.
@@ -112,44 +113,4 @@ fn check_task_fields(
         puts_field(version),
     ];
     check_fields(alloc, spot, task, fields, own)
-}
-
-// Puts a task and its operation at the end, and its text among the texts.
-fn put_task<'v>(
-    alloc: Global,
-    task: NamedTask<'v>,
-    op: FileOp<'v>,
-    draft: &mut Draft<'v>,
-    numbers: &mut Places<'v>,
-) -> Result<(), NoMemory>
-    requires { HasPlaces numbers.old draft.old.texts }
-    ensures draft { OnOk result (draft_rows draft.new
-        ≡ with_task_text (draft_rows draft.old) (named_task task.entry) (file_op_row op.entry)) }
-    ensures numbers { OnOk result (HasPlaces numbers.new draft.new.texts) }
-{
-    let op = numbered(alloc, op, &mut draft.texts, numbers)?;
-    draft.tasks.push(task)?;
-    draft.ops.push(op)?;
-    Ok(())
-}
-
-// The operation as a plan has it. What it reads is put among the texts.
-fn numbered<'v>(
-    alloc: Global,
-    op: FileOp<'v>,
-    texts: &mut List<Bytes>,
-    numbers: &mut Places<'v>,
-) -> Result<Op, NoMemory>
-    requires { HasPlaces numbers.old texts.old }
-    ensures op { IfOk result (λ made. made ≡ numbered texts.old (file_op_row op.entry)) }
-    ensures texts { OnOk result (texts.new ≡ mentioned texts.old (file_op_row op.entry)) }
-    ensures numbers { OnOk result (HasPlaces numbers.new texts.new) }
-{
-    match op {
-        FileOp::Reads(text) => {
-            let number = number_of(alloc, text, texts, numbers)?;
-            Ok(Op::Read(u32::try_from(number).unwrap_or(u32::MAX)))
-        }
-        FileOp::Does(op) => Ok(op),
-    }
 }

@@ -3,13 +3,13 @@ ghost use Rattle.std.specs.Prelude.{◌≡◌, ◌<◌, ◌≤◌, All, false, O
 ghost use Rattle.serde_json.specs.Data.{depth, string};
 ghost use Rattle.serde_json.specs.View.{view};
 ghost use Rattle.serde_json.specs.Written.{compact_text, has_float};
-ghost use Rattle.graph_plans.specs.PlanRows.{plan_rows};
+ghost use Rattle.graph_plans.specs.PlanRows.{graph_rows, module_names, plan_rows};
 ghost use Rattle.graph_file.specs.PlanText.{HasFile, PlanText, json_in};
-ghost use Rattle.graph_file.specs.WrittenPlan.{op_text, plan_data, plan_text, sem_data, sems_from, sems_named, strings_data, task_data, tasks_data, to_of};
-ghost use Rattle.graph_file.specs.inside.Writer.{HasUtf8, IsString, IsWritable, end_name, names_at, op_text_of, task_object};
+ghost use Rattle.graph_file.specs.WrittenPlan.{module_data, op_text, plan_data, plan_text, sem_data, sems_from, sems_named, strings_data, task_data, tasks_data, to_of};
+ghost use Rattle.graph_file.specs.inside.Writer.{HasUtf8, HasWritableNames, IsString, IsWritable, IsWritableGraph, end_name, names_at, op_text_of, task_object};
 
 use crate::op_writer::{WrittenOp, string_value, written_op};
-use graph_plans::{Op, Plan};
+use graph_plans::{Graph, Op, Plan};
 use outside_io::{Bytes, NoMemory};
 use serde_json::{Value, json, put};
 use std::alloc::{AllocError, Global};
@@ -41,13 +41,43 @@ fn file_value(alloc: Global, plan: &Plan) -> Result<Value, AllocError>
     requires { IsWritable (plan_rows plan.now) }
     ensures { IfOk result (λ value. view value ≡ plan_data (plan_rows plan.now)) }
 {
+    let modules = module_values(alloc, plan)?;
     let sems = sem_values(alloc, plan.top.sem_names.as_slice(), plan.top.net.sems())?;
-    let tasks = task_values(alloc, plan)?;
+    let tasks = task_values(alloc, plan, &plan.top)?;
     json!(in alloc; {
-        "modules": [],
+        "modules": Value::Array(modules),
         "semaphores": Value::Array(sems),
         "tasks": Value::Array(tasks),
         "version": 2u64
+    })
+}
+
+fn module_values(alloc: Global, plan: &Plan) -> Result<Vec<Value>, AllocError>
+    requires { IsWritable (plan_rows plan.now) }
+    ensures { IfOk result (λ values. map view values.items ≡ map (module_data (plan_rows plan.now)) (plan_rows plan.now).modules) }
+{
+    let graphs = plan.modules.as_slice();
+    let mut values = Vec::new(alloc);
+    for graph in graphs {
+        values.push(module_value(alloc, plan, graph)?)?;
+    }
+    Ok(values)
+}
+
+fn module_value(alloc: Global, plan: &Plan, graph: &Graph) -> Result<Value, AllocError>
+    requires name { IsString graph.now.name }
+    requires graph { IsWritableGraph plan.now.texts (module_names (plan_rows plan.now))
+        (graph_rows graph.now) }
+    ensures { IfOk result (λ value. view value
+        ≡ module_data (plan_rows plan.now) (graph_rows graph.now)) }
+{
+    let name = string_value(alloc, &graph.name)?;
+    let sems = sem_values(alloc, graph.sem_names.as_slice(), graph.net.sems())?;
+    let tasks = task_values(alloc, plan, graph)?;
+    json!(in alloc; {
+        "name": name,
+        "semaphores": Value::Array(sems),
+        "tasks": Value::Array(tasks)
     })
 }
 
@@ -72,31 +102,41 @@ fn sem_value(alloc: Global, name: &Bytes, max: u32) -> Result<Value, AllocError>
     json!(in alloc; {"max": u64::from(max), "name": name})
 }
 
-fn task_values(alloc: Global, plan: &Plan) -> Result<Vec<Value>, AllocError>
-    requires { IsWritable (plan_rows plan.now) }
-    ensures { IfOk result (λ values. map view values.items ≡ tasks_data (plan_rows plan.now)) }
+// The tasks of a graph.
+fn task_values(alloc: Global, plan: &Plan, graph: &Graph) -> Result<Vec<Value>, AllocError>
+    requires { IsWritableGraph plan.now.texts (module_names (plan_rows plan.now))
+        (graph_rows graph.now) }
+    ensures { IfOk result (λ values. map view values.items
+        ≡ tasks_data (plan_rows plan.now) (graph_rows graph.now)) }
 {
     let mut values = Vec::new(alloc);
-    for (task, op) in plan.top.ops.as_slice().iter().enumerate() {
-        values.push(task_value(alloc, plan, task as u32, op)?)?;
+    for (task, op) in graph.ops.as_slice().iter().enumerate() {
+        values.push(task_value(alloc, plan, graph, task as u32, op)?)?;
     }
     Ok(values)
 }
 
 // A task of this number and operation.
-fn task_value(alloc: Global, plan: &Plan, task: u32, op: &Op) -> Result<Value, AllocError>
-    requires plan { IsWritable (plan_rows plan.now) }
-    requires within { task < length plan.now.top.names }
-    requires op { HasUtf8 plan.now.texts op.now }
+fn task_value(
+    alloc: Global,
+    plan: &Plan,
+    graph: &Graph,
+    task: u32,
+    op: &Op,
+) -> Result<Value, AllocError>
+    requires graph { HasWritableNames (graph_rows graph.now) }
+    requires within { task < length graph.now.names }
+    requires op { HasUtf8 plan.now.texts (module_names (plan_rows plan.now)) op.now }
     ensures { IfOk result (λ value. view value
-        ≡ task_data (op_text plan.now.texts op.now) (names_at (plan_rows plan.now) task)) }
+        ≡ task_data (op_text plan.now.texts (module_names (plan_rows plan.now)) op.now)
+        (names_at (graph_rows graph.now) task)) }
 {
-    let name = string_value(alloc, &plan.top.names[task as usize])?;
-    let op = written_op(alloc, plan.texts.as_slice(), op)?;
-    let to = to_values(alloc, plan, task)?;
-    let row = &plan.top.net.tasks()[task as usize];
-    let takes = sems_value(alloc, plan, row.takes.as_slice())?;
-    let puts = sems_value(alloc, plan, row.puts.as_slice())?;
+    let name = string_value(alloc, &graph.names[task as usize])?;
+    let op = written_op(alloc, plan.texts.as_slice(), plan.modules.as_slice(), op)?;
+    let to = to_values(alloc, graph, task)?;
+    let row = &graph.net.tasks()[task as usize];
+    let takes = sems_value(alloc, graph, row.takes.as_slice())?;
+    let puts = sems_value(alloc, graph, row.puts.as_slice())?;
     task_object(alloc, op, name, Value::Array(to), takes, puts)
 }
 
@@ -126,39 +166,39 @@ fn task_object(
 }
 
 // The names of these semaphores.
-fn sems_value(alloc: Global, plan: &Plan, sems: &[u32]) -> Result<Value, AllocError>
-    requires plan { IsWritable (plan_rows plan.now) }
-    requires within { All (λ s. s < length plan.now.top.sem_names) sems.now }
+fn sems_value(alloc: Global, graph: &Graph, sems: &[u32]) -> Result<Value, AllocError>
+    requires names { All IsString graph.now.sem_names }
+    requires within { All (λ s. s < length graph.now.sem_names) sems.now }
     ensures { IfOk result (λ value. view value
-        ≡ strings_data (sems_named (plan_rows plan.now) sems.now)) }
+        ≡ strings_data (sems_named (graph_rows graph.now) sems.now)) }
 {
     let mut values = Vec::new(alloc);
     for sem in sems {
-        values.push(string_value(alloc, &plan.top.sem_names[*sem as usize])?)?;
+        values.push(string_value(alloc, &graph.sem_names[*sem as usize])?)?;
     }
     Ok(Value::Array(values))
 }
 
 // The names of the tasks to which the edges of a task lead.
-fn to_values(alloc: Global, plan: &Plan, task: u32) -> Result<Vec<Value>, AllocError>
-    requires plan { IsWritable (plan_rows plan.now) }
-    requires within { task < length plan.now.top.names }
+fn to_values(alloc: Global, graph: &Graph, task: u32) -> Result<Vec<Value>, AllocError>
+    requires graph { HasWritableNames (graph_rows graph.now) }
+    requires within { task < length graph.now.names }
     ensures { IfOk result (λ values. map view values.items
-        ≡ map string (to_of (plan_rows plan.now) task)) }
+        ≡ map string (to_of (graph_rows graph.now) task)) }
 {
     let mut values = Vec::new(alloc);
-    for edge in plan.top.net.out_edges(task) {
-        values.push(end_value(alloc, plan, *edge)?)?;
+    for edge in graph.net.out_edges(task) {
+        values.push(end_value(alloc, graph, *edge)?)?;
     }
     Ok(values)
 }
 
 // The name of the task to which an edge leads.
-fn end_value(alloc: Global, plan: &Plan, edge: u32) -> Result<Value, AllocError>
-    requires plan { IsWritable (plan_rows plan.now) }
-    requires within { edge < length (plan_rows plan.now).top.net.edges }
-    ensures { IfOk result (λ value. view value ≡ string (end_name (plan_rows plan.now) edge)) }
+fn end_value(alloc: Global, graph: &Graph, edge: u32) -> Result<Value, AllocError>
+    requires graph { HasWritableNames (graph_rows graph.now) }
+    requires within { edge < length (graph_rows graph.now).net.edges }
+    ensures { IfOk result (λ value. view value ≡ string (end_name (graph_rows graph.now) edge)) }
 {
-    let end = plan.top.net.edges()[edge as usize].to;
-    string_value(alloc, &plan.top.names[end as usize])
+    let end = graph.net.edges()[edge as usize].to;
+    string_value(alloc, &graph.names[end as usize])
 }

@@ -1,3 +1,4 @@
 pub mod Operations
+pub mod ModuleUses
 pub mod PlanRows
 pub mod Sources

@@ -1,9 +1,9 @@
 -- What operations are to a plan: the shapes of their tasks, and what they may name.
 use Rattle.std.specs.Prelude.{ℕ, ◌<◌, ◌≤◌, List, length, All}
 use Rattle.task_graph.specs.declared.net.Shape.{Shape}
-use Rattle.task_graph.specs.declared.net.Shape.TheVariants.{Plain, Choice, Many}
+use Rattle.task_graph.specs.declared.net.Shape.TheVariants.{Plain, Choice, Many, Nested}
 use Rattle.graph_plans.specs.declared.ops.Op.{Op}
-use Rattle.graph_plans.specs.declared.ops.Op.TheVariants.{Input, Read, Text, Match, Back, IfMore, IfHas, Route}
+use Rattle.graph_plans.specs.declared.ops.Op.TheVariants.{Input, Read, Text, Match, Back, IfMore, IfHas, Route, Spread, Module}
 use Rattle.graph_plans.specs.declared.ops.TextOp.{TextOp}
 use Rattle.graph_plans.specs.declared.ops.TextOp.TheVariants.{Pass, Keep, Without, Head, Tail, Skip, Sort, Uniq, Count, Tally}
 
@@ -17,6 +17,8 @@ shape_of Back = Choice
 shape_of (IfMore n) = Choice
 shape_of (IfHas word) = Choice
 shape_of (Route words) = Many
+shape_of (Spread n each) = Nested
+shape_of (Module m) = Nested
 
 -- the greatest number of lines that an operation may name
 abbrev pub line_limit : ℕ
@@ -47,13 +49,20 @@ IsTextOp Uniq = Unit {0}
 IsTextOp Count = Unit {0}
 IsTextOp Tally = Unit {0}
 
--- the same of any operation, where so many texts are named
-abbrev pub IsOp : ℕ → Op → Type 0
-IsOp texts Input = Unit {0}
-IsOp texts (Read text) = text < texts
-IsOp texts (Text op) = IsTextOp op
-IsOp texts Match = Unit {0}
-IsOp texts Back = Unit {0}
-IsOp texts (IfMore n) = n ≤ line_limit
-IsOp texts (IfHas word) = IsWord word
-IsOp texts (Route words) = (length words ≤ route_limit) × All IsWord words
+-- the lines of a part: one at least
+pub record IsPartSize (n : ℕ) : Type 0 where
+  pub least : 1 ≤ n
+  pub most : n ≤ line_limit
+
+-- the same of any operation, where so many texts are named and there are so many modules
+abbrev pub IsOp : ℕ → ℕ → Op → Type 0
+IsOp texts modules Input = Unit {0}
+IsOp texts modules (Read text) = text < texts
+IsOp texts modules (Text op) = IsTextOp op
+IsOp texts modules Match = Unit {0}
+IsOp texts modules Back = Unit {0}
+IsOp texts modules (IfMore n) = n ≤ line_limit
+IsOp texts modules (IfHas word) = IsWord word
+IsOp texts modules (Route words) = (length words ≤ route_limit) × All IsWord words
+IsOp texts modules (Spread n each) = IsPartSize n × IsTextOp each
+IsOp texts modules (Module m) = m < modules

@@ -3,8 +3,8 @@
 //! A plan has the graphs of a file, what their tasks do, and the names of the texts that they read. The layers above
 //! see it as its rows (`plan_rows`) and know that a plan that was read keeps the rules of `IsPlan`. The definitions
 //! are in `specs/`: `Operations` says of which shape the task of an operation is and what an operation may name,
-//! `PlanRows` has the rows of a plan with their rules and limits, and `Sources` says which plans have no task to begin
-//! with.
+//! `PlanRows` has the rows of a plan with their rules and limits, `ModuleUses` says which modules use which and what a
+//! chain of uses and a cycle are, and `Sources` says which plans have no task to begin with.
 #![tactic(auto)]
 
 mod ops;

@@ -45,4 +45,9 @@ pub enum Op {
     IfHas(Bytes),
     /// The task's text, for each successor whose word in this list of at most 256 occurs in it.
     Route(List<Bytes>),
+    /// The task's text in parts of so many lines, one at least and at most 1,000,000,000, each put through the
+    /// operation by a task of an inner run, and then one after another.
+    Spread(u64, TextOp),
+    /// What a run of the module of this number makes of the task's text.
+    Module(u32),
 }

@@ -14,8 +14,8 @@ use std::alloc::Global;
 use std::marker::Model;
 use table_steps::TableSeat;
 
-/// Turns that are done and not yet with the keeper. One of them is still live, so the run isn't finished while there is a
-/// batch that isn't empty.
+/// Turns that are done and not yet with the keeper. One of them is still live, so the run isn't finished while there is
+/// a batch that isn't empty.
 pub struct SpentBatch<V> {
     // where there is a turn
     pub(crate) seat: Option<TableSeat<V>>,
@@ -91,8 +91,8 @@ impl<V: Drop> SpentBatch<V> {
 }
 
 impl<V: Drop> NetTable<V> {
-    /// Adds a turn that is done to a batch that has room for it. Where the batch had turns, this one is taken off the live
-    /// turns. It takes no memory, and doesn't wait.
+    /// Adds a turn that is done to a batch that has room for it. Where the batch had turns, this one is taken off the
+    /// live turns. It takes no memory, and doesn't wait.
     pub fn gather(&self, batch: &mut SpentBatch<V>, spent: Spent<V>)
         requires batch { IsOfTable self.now.table batch.old.table }
         requires spent { spent.table ≡ self.now.table }

@@ -36,8 +36,8 @@ use outside_io::{List, NoMemory};
 use std::alloc::Global;
 use table_steps::TableSeat;
 
-// What collecting from one edge led to: that no edge was left, or that a token was taken, with the release that this made,
-// if it made one, and whether it was the last edge.
+// What collecting from one edge led to: that no edge was left, or that a token was taken, with the release that this
+// made, if it made one, and whether it was the last edge.
 enum Step<V> {
     NoneLeft,
     Taken(Option<Fresh<V>>, bool),
@@ -97,10 +97,10 @@ impl<V: Drop> NetTable<V> {
         Inputs::with_room(alloc, edges)
     }
 
-    /// Starts the task: draws the place of its Start, which is then in a journal that is legal as far as the net decides. The
-    /// task is one of the net's, the cause may release it, and the start has found a part at each edge of its release. Of the
-    /// units that the turn holds, the start gives those back at its end that the task puts too. The others are to be credited,
-    /// and what the task puts besides is to be claimed.
+    /// Starts the task: draws the place of its Start, which is then in a journal that is legal as far as the net
+    /// decides. The task is one of the net's, the cause may release it, and the start has found a part at each edge of
+    /// its release. Of the units that the turn holds, the start gives those back at its end that the task puts too. The
+    /// others are to be credited, and what the task puts besides is to be claimed.
     pub fn start(&self, ticket: StartTicket<V>) -> Running<V>
         requires table { ticket.table ≡ self.now.table }
         requires units { HoldsEachUnit self.now.net ticket.task ticket.held }
@@ -134,9 +134,9 @@ impl<V: Drop> NetTable<V> {
         }
     }
 
-    /// Ends a start that has credited and claimed all units that it had to: draws the place of its End, which has this value
-    /// and gives these edges. Its Start and its End are then in a journal that is legal as far as the net decides. `inner`
-    /// says that its work was a run of its own.
+    /// Ends a start that has credited and claimed all units that it had to: draws the place of its End, which has this
+    /// value and gives these edges. Its Start and its End are then in a journal that is legal as far as the net
+    /// decides. `inner` says that its work was a run of its own.
     pub fn end(
         &self,
         running: Running<V>,
@@ -188,9 +188,9 @@ impl<V: Drop> NetTable<V> {
         }
     }
 
-    /// Takes the oldest parcel from the slot of the next edge of a release, and then a token from the edge. Where other turns
-    /// hold the slot at each of a million tries, nothing is found there. Where the edge is a strong one with another token, it counts it
-    /// again. For a release without edges it changes no word and finds no number.
+    /// Takes the oldest parcel from the slot of the next edge of a release, and then a token from the edge. Where other
+    /// turns hold the slot at each of a million tries, nothing is found there. Where the edge is a strong one with
+    /// another token, it counts it again. For a release without edges it changes no word and finds no number.
     #[tactic(auto, using(table_steps::proofs::Values::knows_again))]
     pub fn collect(&self, collecting: Collecting<V>) -> Collected<V>
         requires { collecting.table ≡ self.now.table }
@@ -228,9 +228,9 @@ impl<V: Drop> NetTable<V> {
         }
     }
 
-    /// Puts an owner of the End's value behind those in the slot of the next edge that it owes, and then gives the edge a token.
-    /// Where other turns hold the slot at each of a million tries, the value is left away. It counts the token at its target where it is the first of
-    /// a strong edge.
+    /// Puts an owner of the End's value behind those in the slot of the next edge that it owes, and then gives the edge
+    /// a token. Where other turns hold the slot at each of a million tries, the value is left away. It counts the token
+    /// at its target where it is the first of a strong edge.
     #[tactic(auto, using(table_steps::proofs::Values::knows_again))]
     pub fn give(&self, owing: Owing<V>) -> Gave<V>
         requires table { owing.table ≡ self.now.table }
@@ -261,8 +261,8 @@ impl<V: Drop> NetTable<V> {
         }
     }
 
-    // Gives an edge the value of the End at this place and a token, and deals out the release that this makes, if it makes
-    // one.
+    // Gives an edge the value of the End at this place and a token, and deals out the release that this makes, if it
+    // makes one.
     #[tactic(auto, using(table_steps::proofs::Values::knows_again))]
     fn give_edge(
         &self,

@@ -35,8 +35,8 @@ impl<V: Drop> NetTable<V> {
     }
 
     /// Claims a unit that a start's task puts and doesn't take. It returns `Refused` exactly where its own step finds
-    /// no credit. Then a legal journal with this start at its place allows a Fault of it for an over-release, and the call
-    /// undoes its step.
+    /// no credit. Then a legal journal with this start at its place allows a Fault of it for an over-release, and the
+    /// call undoes its step.
     #[tactic(auto, using(table_steps::proofs::Values::knows_again))]
     pub fn claim(&self, running: Running<V>, sem: u32) -> Claim<V>
         requires table { running.table ≡ self.now.table }

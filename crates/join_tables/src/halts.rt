@@ -13,8 +13,8 @@ use crate::turns::{Admitted, NetTable, Running, Spent, StartTicket, Turn};
 use journal_rules::{DropWhy, Why};
 
 impl<V: Drop> NetTable<V> {
-    /// Draws an admission, unless the run is halted. It returns `Halted` exactly where its own load finds the halt mark,
-    /// and `Over` exactly where it finds none and the number that is drawn is not below the limit.
+    /// Draws an admission, unless the run is halted. It returns `Halted` exactly where its own load finds the halt
+    /// mark, and `Over` exactly where it finds none and the number that is drawn is not below the limit.
     #[tactic(auto, using(table_steps::proofs::Values::knows_again))]
     pub fn admit(&self, turn: Turn<V>) -> Admitted<V>
         requires table { turn.table ≡ self.now.table }
@@ -54,9 +54,9 @@ impl<V: Drop> NetTable<V> {
     }
 
     /// Faults a start that has credited all units that it had to: draws the place of its Fault, and then sets the halt
-    /// mark. Its Start and its Fault are then in a journal that is legal as far as the net decides. A Fault gives no edge and
-    /// no unit back, so nothing is owed after it. Its reason may be an over-release of a semaphore only where the start's
-    /// claim of it was refused.
+    /// mark. Its Start and its Fault are then in a journal that is legal as far as the net decides. A Fault gives no
+    /// edge and no unit back, so nothing is owed after it. Its reason may be an over-release of a semaphore only where
+    /// the start's claim of it was refused.
     #[tactic(auto, using(table_steps::proofs::Values::knows_again))]
     pub fn fault(&self, running: Running<V>, why: Why) -> Spent<V>
         requires table { running.table ≡ self.now.table }
@@ -88,8 +88,8 @@ impl<V: Drop> NetTable<V> {
         Spent { seat, fate }
     }
 
-    /// Drops a release for the cause for which `admit` refused it: draws the place of its Drop, which is then in a journal
-    /// that is legal as far as the net decides. Nothing is owed after it.
+    /// Drops a release for the cause for which `admit` refused it: draws the place of its Drop, which is then in a
+    /// journal that is legal as far as the net decides. Nothing is owed after it.
     pub fn drop_turn(&self, turn: Turn<V>, why: DropWhy) -> Spent<V>
         requires table { turn.table ≡ self.now.table }
         requires refused { turn.refused ≡ Some why }

@@ -108,10 +108,11 @@ impl<V: Drop> Keeper<V> {
         }
     }
 
-    /// Takes in the turns of a batch, which isn't empty. It answers `All` where its own step found one live turn, and the
-    /// fates are then those of a whole run. If an allocation fails, the keeper and the batch stay as they were. Whatever it
-    /// answers, the entries of all turns that it has taken in are in one journal that is legal as far as the net decides.
-    /// Where a start found the value of an End that was taken in too, it is the value with which that End was ended.
+    /// Takes in the turns of a batch, which isn't empty. It answers `All` where its own step found one live turn, and
+    /// the fates are then those of a whole run. If an allocation fails, the keeper and the batch stay as they were.
+    /// Whatever it answers, the entries of all turns that it has taken in are in one journal that is legal as far as
+    /// the net decides. Where a start found the value of an End that was taken in too, it is the value with which that
+    /// End was ended.
     pub fn absorb(
         &mut self,
         table: &NetTable<V>,
@@ -140,8 +141,8 @@ impl<V: Drop> Keeper<V> {
         Ok(Remaining::of(table.words.settle(&mut self.seat, spent)))
     }
 
-    /// The journal of a run that is finished, with the values of its Ends: `All` was answered, or there was no release at
-    /// first. The journal has each entry that the fates tell at its place. Nothing is copied.
+    /// The journal of a run that is finished, with the values of its Ends: `All` was answered, or there was no release
+    /// at first. The journal has each entry that the fates tell at its place. Nothing is copied.
     pub fn finish(self) -> Result<FinishedRun<V>, NoMemory>
         requires { TellsSomeRun (entries_told self.fates) }
         ensures merges { IfOk result (λ run. Merges (entries_told self.fates) run.journal) }

@@ -237,8 +237,8 @@ impl<V: Drop> NetTable<V> {
     }
 
     /// Checks whether the turns of a rest are all the live turns. It returns `Alone` exactly where its own load of the
-    /// live word finds the number of its turns, and says then whether its load of the halt mark finds it set. Else `Busy`
-    /// has the number that it found. The rest has a turn, and isn't known to be alone yet.
+    /// live word finds the number of its turns, and says then whether its load of the halt mark finds it set. Else
+    /// `Busy` has the number that it found. The rest has a turn, and isn't known to be alone yet.
     pub fn rest_check(&self, rest: Rest<V>) -> Checked<V>
         requires table { IsOfTable self.now.table rest.table }
         requires turns { rest.turns ≢ [] }

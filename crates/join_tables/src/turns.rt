@@ -1,5 +1,5 @@
-// The turns of a table, by what they have still to do. Each knows it by a seat, which has no bytes. The seat has the numbers
-// too that its steps found, of which contracts speak, and knows values of Ends.
+// The turns of a table, by what they have still to do. Each knows it by a seat, which has no bytes. The seat has the
+// numbers too that its steps found, of which contracts speak, and knows values of Ends.
 ghost use Rattle.std.specs.Prelude.{◌≡◌};
 
 use crate::fates::Fate;
@@ -207,8 +207,8 @@ impl<V> Model for Running<V> {
         × Knows r.seat.values (values_in (given_in r.inputs)) };
 }
 
-/// A start of a task and its end: their places in the journal, what the start found, the value of the end, and the edges that
-/// it gives.
+/// A start of a task and its end: their places in the journal, what the start found, the value of the end, and the
+/// edges that it gives.
 #[derive(Drop)]
 pub struct EndedStart<V> {
     pub task: u32,

@@ -1,5 +1,4 @@
-pub mod WaitingLemmas
 pub mod Refusing
 pub mod Marking
-pub mod Keeping
-pub mod Readying
+pub mod Walking
+pub mod CalmEdges

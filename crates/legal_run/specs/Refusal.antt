@@ -1,5 +1,5 @@
 -- Which rule an entry breaks after a journal, and which break is told where it breaks several.
-use Rattle.std.specs.Prelude.{◌≡◌, ℕ, ◌<◌, Bool, true, false, List, IsTrue, IsSomeAnd}
+use Rattle.std.specs.Prelude.{ℕ, ◌<◌, Bool, true, false, List, IsTrue, IsSomeAnd}
 use Rattle.task_graph.specs.NetRows.{NetRows}
 use Rattle.journal_rules.specs.declared.entry.DropWhy.{DropWhy}
 use Rattle.journal_rules.specs.declared.entry.DropWhy.TheVariants.{Halted, Limit, Stuck}
@@ -11,7 +11,7 @@ use Rattle.journal_rules.specs.Counts.{starts, start_at}
 use Rattle.journal_rules.specs.ReleaseRule.{ReleaseRule}
 use Rattle.journal_rules.specs.ClosingRule.{ClosingRule}
 use Rattle.journal_rules.specs.ChoiceRule.{ChoiceRule}
-use Rattle.journal_rules.specs.SemaphoreRule.{HasUnit, UnitFaultRule}
+use Rattle.journal_rules.specs.SemaphoreRule.{UnitFaultRule}
 use Rattle.journal_rules.specs.MissingUnits.{IsLeast, WantsUnit, PutsWithNothingOut}
 use Rattle.journal_rules.specs.HaltLimitStuckRule.{AfterStuckRule, DropRule, is_stuck_why}
 use Rattle.journal_rules.specs.ShapeLegal.{IsInRange}

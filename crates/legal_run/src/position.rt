@@ -1,31 +1,27 @@
 // Which rule an entry breaks after a journal.
-ghost use Rattle.std.specs.Prelude.{◌≡◌, ◌≢◌, ◌↔◌, ◌<◌, ◌-◌, map, ℕ, List, length, count_by, slice_get, IsTrue, IsSomeAnd, MatchOption, MatchResult, IfOk, Some, All};
-ghost use Rattle.task_graph.specs.Net.{out_edges, strong_in};
+ghost use Rattle.std.specs.Prelude.{◌≡◌, ◌≢◌, ◌↔◌, ◌<◌, ℕ, List, length, count_by, slice_get, IsTrue, IsSomeAnd, MatchOption, MatchResult, IfOk, Some, All};
+ghost use Rattle.task_graph.specs.Net.{out_edges};
 ghost use Rattle.task_graph.specs.declared.net.TaskRow.{TaskRow};
 ghost use Rattle.journal_rules.specs.declared.entry.Entry.TheVariants.{Start, End, Fault, Drop};
 ghost use Rattle.journal_rules.specs.declared.entry.Part.{Part};
-ghost use Rattle.journal_rules.specs.Counts.{given, used, starts, faults, started, start_at, is_open, NoneOpen};
+ghost use Rattle.journal_rules.specs.Counts.{starts, faults, started, start_at, is_open, NoneOpen};
 ghost use Rattle.journal_rules.specs.ReleaseRule.{IsReleased};
 ghost use Rattle.journal_rules.specs.ChoiceRule.{GivesFit, InnerFits};
 ghost use Rattle.journal_rules.specs.SemaphoreRule.{OverReleaseRule, takes, HasUnit};
 ghost use Rattle.journal_rules.specs.HaltLimitStuckRule.{is_stuck_why, DropRule, MayBeStuck};
-ghost use Rattle.journal_rules.specs.Complete.{Complete, is_limited, least};
+ghost use Rattle.journal_rules.specs.Complete.{Complete, is_limited};
 ghost use Rattle.journal_rules.specs.ShapeLegal.{MayFollow, CauseInRange, WhyInRange, DropWhyInRange};
-ghost use Rattle.legal_run.specs.Ready.{ready_list};
 ghost use Rattle.legal_run.specs.Refusal.{IsRefusal};
 ghost use Rattle.journal_rules.specs.MissingUnits.{IsLeast, WantsUnit, PutsWithNothingOut};
 ghost use Rattle.journal_rules.specs.inside.Reached.{ClosesTask};
-ghost use Rattle.journal_rules.specs.inside.Releases.{NoneLeft};
+ghost use Rattle.journal_rules.specs.inside.Releases.{NoneLeft, CountsReleases, AreFew};
 ghost use Rattle.legal_run.specs.inside.Checks.{BreaksWhy};
 ghost use Rattle.journal_rules.specs.inside.Counted.{IsPosition};
 
 use super::choice::{gives_fit, inner_fits};
 use super::marks::Marks;
-use super::ready::{self, ReadyRelease};
 use super::verdict::Break;
-use journal_rules::{Cause, Counts, DropWhy, Entry, Why, has_unit, is_listed, task_row};
-use outside_io::{List, NoMemory};
-use std::alloc::Global;
+use journal_rules::{Cause, Counts, DropWhy, Entry, Releases, Why, has_unit, is_listed, task_row};
 use std::marker::Model;
 use task_graph::Net;
 
@@ -338,21 +334,12 @@ impl<'j> Position<'j> {
         self.reaches_limit()
     }
 
-    /// How many rounds of tokens the strong in-edges of a task hold.
-    pub fn rounds(&self, task: u32) -> u64
-        requires { task < length self.now.net.tasks }
-        ensures { result ≡ least
-            (map (λ e. given self.now.net e self.now.journal) (strong_in self.now.net task))
-            - used task self.now.journal }
+    /// What was counted of releases.
+    pub fn releases(&self) -> &'j Releases
+        ensures counted { CountsReleases self.now.net self.now.journal result.now }
+        ensures few { AreFew self.now.net result.now }
     {
-        self.counts.releases.rounds_left(self.net, task)
-    }
-
-    /// The releases that are left.
-    pub fn ready(&self, alloc: Global) -> Result<List<ReadyRelease>, NoMemory>
-        ensures { IfOk result (λ list. list ≡ ready_list self.now.net self.now.journal) }
-    {
-        ready::ready_list(alloc, self.net, &self.counts.releases)
+        &self.counts.releases
     }
 
     // Whether each release is used.

@@ -1,5 +1,6 @@
--- Reasons of runs, computed on small journals.
-use Rattle.std.proofs.Common.{◌≡◌, ◌∙◌, ap, ℕ, refl, Some, None, [], ◌∷◌, List, false, Vec}
+-- Reasons and totals of runs, and nets of parts, computed on small ones.
+use Rattle.std.proofs.Common.{◌≡◌, ◌∙◌, ap, ℕ, ◌+◌, refl, Some, None, [], ◌∷◌, List, true, false, Vec, length, arith}
+use Rattle.std.specs.Prelude.{sum}
 use Rattle.std.specs.Arc.{arc_value}
 use Rattle.std.specs.Global.{Global}
 use Rattle.std.specs.declared.sync.Arc.{Arc}
@@ -11,13 +12,20 @@ use Rattle.journal_rules.specs.declared.entry.DropWhy.TheVariants.{Halted, Limit
 use Rattle.journal_rules.specs.declared.entry.Entry.{Entry}
 use Rattle.journal_rules.specs.declared.entry.Entry.TheVariants.{Start, End, Fault as FaultEntry, Drop}
 use Rattle.journal_rules.specs.declared.entry.Why.TheVariants.{Long, Inner}
+use Rattle.task_graph.specs.NetRows.{NetRows}
+use Rattle.task_graph.specs.declared.net.Shape.{Shape}
+use Rattle.task_graph.specs.declared.net.Shape.TheVariants.{Plain, Nested}
+use Rattle.task_graph.specs.declared.net.TaskRow.{TaskRow}
 use Rattle.run_frame.specs.Meaning.{Meaning}
 use Rattle.run_frame.specs.declared.run.FrameRun.{FrameRun, FrameRun', end_of-InnerRow, more_of-InnerRow, out-FrameRun}
 use Rattle.run_frame.specs.declared.run.FrameRun.TheBlock.{shown-the_row-InnerRow-0}
-use Rattle.run_frame.specs.declared.run.FrameRun.TheOpen.{FrameRun-F}
+use Rattle.run_frame.specs.declared.run.FrameRun.TheOpen.{FrameRun-F, InnerRow-F}
 use Rattle.run_frame.specs.declared.run.FrameRun.TheFolds.{fold_out-FrameRun, fold_out-InnerRow}
 use Rattle.run_frame.specs.declared.run.InnerRow.{InnerRow', out-InnerRow}
 use Rattle.nested_runs.specs.Reasons.{first_fault, first_stuck, unfaulted, faulted, reason_at, reason_step, row_step, run_reason}
+use Rattle.nested_runs.specs.Spreads.{IsSpreadNet, RefusesSpread}
+use Rattle.nested_runs.specs.Totals.{all_spans, is_span, row_number, spans_of_row, spans_step, starts_inside, starts_of_row, starts_step}
+use Rattle.nested_runs.specs.declared.spread.SpreadError.TheVariants.{TooWide, NoMemory}
 use Rattle.nested_runs.specs.declared.reasons.Reason.{Reason}
 use Rattle.nested_runs.specs.declared.reasons.Reason.TheVariants.{Fine, Fault, Limit, Stuck}
 
@@ -140,3 +148,77 @@ module _ (m : Meaning ℕ ℕ) (ptr : Ptr) (alloc : Global)
 
     run_at_another_place : run_reason m (around 1 faulted_within 0 (alone 3 two_faults)) ≡ Fault (7 ∷ []) Inner
     run_at_another_place = reason_around 1 0 (alone 3 two_faults) (Fault (7 ∷ []) (Long 9)) fault_alone
+
+    -- The starts and the spans of the runs inside, at each depth: those of each journal, with those of the rows beside it.
+    starts_of_a_row_alone : (place : ℕ) → starts_of_row (InnerRow' place (alone 3 two_faults)) ≡ 2
+    unfolding out-FrameRun out shown-the_row-InnerRow-0 shown out-InnerRow
+    starts_of_a_row_alone place = fold_out-InnerRow ℕ ℕ ℕ ℕ starts_step row_number (InnerRow' place (alone 3 two_faults)) ∙ fold_out-FrameRun ℕ ℕ ℕ ℕ starts_step row_number (alone 3 two_faults)
+
+    starts_of_a_row_around : (place : ℕ) (run : FrameRun ℕ ℕ) (n : ℕ) → starts_of_row (InnerRow' 1 run) ≡ n → starts_of_row (InnerRow' place (around 2 faulted_within 1 run)) ≡ 1 + sum (n ∷ [])
+    unfolding out-FrameRun out shown-the_row-InnerRow-0 shown out-InnerRow
+    starts_of_a_row_around place run n is =
+        fold_out-InnerRow ℕ ℕ ℕ ℕ starts_step row_number (InnerRow' place (around 2 faulted_within 1 run))
+        ∙ (fold_out-FrameRun ℕ ℕ ℕ ℕ starts_step row_number (around 2 faulted_within 1 run) ∙ ap (λ k. 1 + sum (k ∷ [])) is)
+
+    starts_two_runs_below : starts_inside (around 1 faulted_within 1 (around 2 faulted_within 1 (alone 3 two_faults))) ≡ 3
+    unfolding out-FrameRun out shown-the_row-InnerRow-0 shown out-InnerRow
+    starts_two_runs_below = ap (λ k. sum (k ∷ [])) (starts_of_a_row_around 1 (alone 3 two_faults) 2 (starts_of_a_row_alone 1))
+
+    no_starts_inside : starts_inside (alone 3 two_faults) ≡ 0
+    unfolding out-FrameRun out shown-the_row-InnerRow-0 shown out-InnerRow
+    no_starts_inside = refl
+
+    spans_of_a_row_alone : (place : ℕ) → spans_of_row (InnerRow' place (alone 3 two_faults)) ≡ 2
+    unfolding out-FrameRun out shown-the_row-InnerRow-0 shown out-InnerRow
+    spans_of_a_row_alone place = fold_out-InnerRow ℕ ℕ ℕ ℕ spans_step row_number (InnerRow' place (alone 3 two_faults)) ∙ fold_out-FrameRun ℕ ℕ ℕ ℕ spans_step row_number (alone 3 two_faults)
+
+    spans_with_those_below : all_spans (around 1 faulted_within 1 (alone 3 two_faults)) ≡ 3
+    unfolding out-FrameRun out shown-the_row-InnerRow-0 shown out-InnerRow
+    spans_with_those_below = ap (λ k. 1 + sum (k ∷ [])) (spans_of_a_row_alone 1)
+
+-- An End or a Fault ends a span.
+ends_of_spans : (is_span (Start 4 Source []) ≡ false) × (is_span (End 0 [] false) ≡ true) × (is_span (FaultEntry 0 Inner) ≡ true) × (is_span (Drop 3 Strong AtLimit) ≡ false)
+ends_of_spans = (refl, refl, refl, refl)
+
+-- Each step counts the journal's own, beside those of the rows.
+module _ {J V : Type 0} (run : FrameRun-F J V ℕ ℕ) (row : InnerRow-F J V ℕ ℕ) where
+  own_starts : starts_step (record run { journal = two_faults }) ≡ 2 + sum run.inner.items
+  own_starts = refl
+
+  own_spans : spans_step (record run { journal = two_faults }) ≡ 2 + sum run.inner.items
+  own_spans = refl
+
+  number_of_a_row : row_number (record row { run = 5 }) ≡ 5
+  number_of_a_row = refl
+
+-- Two parts side by side; no more than 65,536.
+abbrev part : TaskRow
+part = record { shape = Plain; takes = []; puts = [] }
+
+abbrev two_parts : NetRows
+two_parts = record { tasks = part ∷ part ∷ []; edges = []; sems = [] }
+
+net_of_two_parts : IsSpreadNet 2 two_parts
+net_of_two_parts = record { few = omega arith; rows = refl }
+
+net_of_another_number : ¬ IsSpreadNet 3 two_parts
+net_of_another_number is = absurd (omega (arith, ap (λ (n : NetRows). length n.tasks) is.rows))
+
+net_with_an_edge : ¬ IsSpreadNet 2 (record two_parts { edges = record { from = 0; to = 1; start = false } ∷ [] })
+net_with_an_edge is = absurd (omega (arith, ap (λ (n : NetRows). length n.edges) is.rows))
+
+net_with_a_nested_part : ¬ IsSpreadNet 1 (record two_parts { tasks = record part { shape = Nested } ∷ [] })
+net_with_a_nested_part is = let same : Nested ≡ Plain = ap (λ (n : NetRows). first_shape n.tasks) is.rows in absurd (cc)
+  where
+    first_shape : List TaskRow → Shape
+    first_shape [] = Nested
+    first_shape (row ∷ rows) = row.shape
+
+net_past_the_limit : (net : NetRows) → ¬ IsSpreadNet 65537 net
+net_past_the_limit net is = absurd (omega (arith, is.few))
+
+refused_past_the_limit : RefusesSpread 65537 (TooWide 65537) × ¬ RefusesSpread 65536 (TooWide 65536) × ¬ RefusesSpread 65537 (TooWide 3)
+refused_past_the_limit = ((refl, omega arith), (λ is. absurd (omega (arith, is.1))), λ is. absurd (omega (arith, is.0)))
+
+no_memory_within_the_limit : RefusesSpread 65536 NoMemory × ¬ RefusesSpread 65537 NoMemory
+no_memory_within_the_limit = (omega arith, λ is. absurd (omega (arith, is)))

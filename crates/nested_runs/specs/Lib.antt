@@ -1,2 +1,4 @@
 pub mod Reasons
+pub mod Spreads
+pub mod Totals
 pub mod inside

@@ -3,3 +3,4 @@ pub mod WorkedNets
 pub mod EndsLemmas
 pub mod WorkedLegal
 pub mod ChosenLemmas
+pub mod FineLemmas

@@ -51,6 +51,11 @@ abbrev pub ErrorAllowed : {J V : Type 0} → Meaning J V → J → ℕ → List 
 ErrorAllowed meaning job task found (FaultOf why) = meaning.faults job task found why
 ErrorAllowed meaning job task found NoMemory = Unit {0}
 
+-- So it is with an error of gathering a run.
+abbrev pub GatherErrorAllowed : {J V : Type 0} → Meaning J V → J → FrameRun J V → JobError → Type 0
+GatherErrorAllowed meaning job run (FaultOf why) = meaning.gather_faults job run why
+GatherErrorAllowed meaning job run NoMemory = Unit {0}
+
 -- All fits a Plain and a Nested task, one index a Choice, any indices a Many, and none every task.
 abbrev pub FitsShape : Shape → Answer → Type 0
 FitsShape Plain All = Unit {0}

@@ -2,12 +2,16 @@
 ghost use Rattle.std.specs.Prelude.{◌≡◌, ◌≤◌, ℕ, List, length, map, IfOk, IfErr};
 ghost use Rattle.std.specs.Arc.{arc_value};
 ghost use Rattle.join_words.specs.Ins.{InputValue, parts_of, found_of};
-ghost use Rattle.run_frame.specs.Meaning.{Meaning, IsRelease, ErrorAllowed, AnswerFits, IsOwnWhy};
+ghost use Rattle.run_frame.specs.Meaning.{Meaning, IsRelease, ErrorAllowed, GatherErrorAllowed, AnswerFits, IsOwnWhy};
+ghost use Rattle.run_frame.specs.Legal.{IsKept};
+ghost use Rattle.run_frame.specs.NestedRule.{job_of, journal_of};
+ghost use Rattle.run_frame.specs.Runs.{IsFine};
 ghost use Rattle.journal_rules.specs.declared.entry.Why.{Why};
 ghost use Rattle.journal_rules.specs.Limits.{max_limit};
 ghost use Rattle.run_frame.specs.declared.job.Done.{Done};
 ghost use Rattle.run_frame.specs.declared.run.FrameRun.{FrameRun};
 
+use super::run::FrameRun;
 use join_words::Ins;
 use journal_rules::Why;
 use outside_io::List;
@@ -74,6 +78,15 @@ pub trait Job: Valued + Send + Sync {
             (meaning.answers self.now task (map found_of (parts_of ins.now))) }
         ensures fault { IfErr result
             (ErrorAllowed meaning self.now task (map found_of (parts_of ins.now))) };
+
+    /// Gathers a run of this job, which was run as the work of a task of another job, into the value of that task. The
+    /// run is over, and nothing in it was cut short.
+    fn gather(&self, alloc: Global, run: &FrameRun<Self>) -> Result<Self::V, JobError>
+        requires job { job_of run.now ≡ self.now }
+        requires kept { IsKept meaning run.now }
+        requires fine { IsFine (journal_of run.now) }
+        ensures value { IfOk result (meaning.gathers self.now run.now) }
+        ensures fault { IfErr result (GatherErrorAllowed meaning self.now run.now) };
 
     /// An answer that is allowed fits the task's shape.
     ghost answers_fit: { (job : Self) (task : ℕ) (found : List (InputValue Self.V))

@@ -1,13 +1,13 @@
 // Runs, as plain data, and what is looked up in one.
-ghost use Rattle.std.specs.Prelude.{◌≡◌, option_copied};
+ghost use Rattle.std.specs.Prelude.{◌≡◌, ◌↔◌, IsTrue, count_by, option_copied};
 ghost use Rattle.run_frame.specs.LastEnds.{is_end_of, last_end};
 ghost use Rattle.run_frame.specs.Legal.{inner_at};
 ghost use Rattle.run_frame.specs.NestedRule.{journal_of};
-ghost use Rattle.run_frame.specs.Runs.{value_at, values_of, inner_in};
+ghost use Rattle.run_frame.specs.Runs.{value_at, values_of, inner_in, IsFine, cuts_short};
 
 use super::end_values::ended_task;
 use super::job::Valued;
-use journal_rules::{Entry, Journal};
+use journal_rules::{DropWhy, Entry, Journal};
 use outside_io::List;
 use std::sync::Arc;
 
@@ -59,6 +59,14 @@ impl<J: Valued> FrameRun<J> {
     {
         last_end_in(self.journal.as_slice(), task)
     }
+
+    /// Whether nothing in it was cut short: no start faulted, and no release was dropped at the limit or for want of a
+    /// unit. It walks over the journal.
+    pub fn is_fine(&self) -> bool
+        ensures { IsTrue result ↔ IsFine (journal_of self.now) }
+    {
+        count_cuts(self.journal.as_slice()) == 0
+    }
 }
 
 // The value of the first row with this place.
@@ -106,5 +114,23 @@ fn is_end_of(entries: &[Entry], task: u32, place: usize) -> bool
     match ended_task(entries, place) {
         Some(ended) => ended == task,
         None => false,
+    }
+}
+
+// How many entries say that their run was cut short.
+fn count_cuts(journal: &[Entry]) -> usize
+    ensures { result ≡ count_by cuts_short journal.now }
+{
+    journal.iter().filter(|entry| cuts_short(entry)).count()
+}
+
+// Whether an entry says that its run was cut short.
+fn cuts_short(entry: &Entry) -> bool
+    ensures { result ≡ cuts_short entry.now }
+{
+    match entry {
+        Entry::Start { .. } | Entry::End { .. } => false,
+        Entry::Fault { .. } => true,
+        Entry::Drop { why, .. } => !matches!(why, DropWhy::Halted),
     }
 }

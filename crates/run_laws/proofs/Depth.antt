@@ -15,7 +15,8 @@ use Rattle.run_laws.specs.OneAnswer.{AllowsOne, InnerRunOf}
 use Rattle.run_laws.specs.OneThreadValue.{TaskEnd, OneAnswer}
 use Rattle.run_laws.specs.Laws.{IsGraphRun, IsDecided}
 use Rattle.run_laws.proofs.Report.{is_decided}
-use Rattle.run_laws.specs.PlainJobs.{PlainJobs, IsGraphJob, IsPlainly, IsInside, LeadsTo, answer_by, comes_to, graph_comes_to, end_by, last_of, plain_answer, plain_value, plain_values, runs_through, task_values}
+use Rattle.text_tasks.specs.Sinks.{task_values}
+use Rattle.run_laws.specs.PlainJobs.{PlainJobs, IsGraphJob, IsPlainly, IsInside, LeadsTo, answer_by, comes_to, graph_comes_to, end_by, last_of, plain_answer, plain_value, plain_values, runs_through}
 use Rattle.run_laws.specs.PlainLaws.{RunsPlainly}
 use Rattle.run_laws.proofs.Reasons.{counts_reason, reason_counts}
 use Rattle.run_laws.proofs.LastEnds.{last_value_same, map_below}

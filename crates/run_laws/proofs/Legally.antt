@@ -23,7 +23,7 @@ use Rattle.journal_rules.specs.DataRule.{DataRule}
 use Rattle.journal_rules.specs.Entries.{EachAfter, EachAfterThese}
 use Rattle.journal_rules.specs.ShapeLegal.{ShapeLegal, MayFollow, MeetsDataRule}
 use Rattle.journal_rules.proofs.Reaching.{open_stands}
-use Rattle.legal_run.proofs.WaitingLemmas.{calm_before}
+use Rattle.legal_run.proofs.CalmEdges.{calm_before}
 use Rattle.journal_rules.proofs.Reaching.{at_below}
 use Rattle.run_frame.specs.declared.run.ValueRow.{ValueRow}
 use Rattle.run_frame.specs.Runs.{value_at}

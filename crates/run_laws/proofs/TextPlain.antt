@@ -1,12 +1,16 @@
 -- Text jobs without conditions are plain, and their runs have one report.
 use Rattle.std.proofs.Common.{append-nil, ◌≡◌, ◌⊎◌, inl, inr, ℕ, zero, suc, ◌+◌, ◌<◌, ◌≤◌, Bool, true, false, cond, List, [], ◌∷◌, ◌++◌, length, Option, Some, None, sym, refl, ap, ◌∙◌, subst, arith}
-use Rattle.std.specs.Prelude.{All, filter, nat_eq, nat_le, slice_get, slice_index_or, IsSomeAnd}
+use Rattle.std.specs.Prelude.{All, ◌||◌, filter, nat_eq, nat_le, replicate, slice_get, slice_index_or, IfSome, IsSomeAnd}
+use Rattle.std.proofs.lemmas.Bool.{false≢true}
+use Rattle.std.proofs.lemmas.List.{get_or-map, get_or-replicate, length-replicate}
+use Rattle.std.proofs.lemmas.List.Elements.{All-nil}
+use Rattle.std.proofs.lemmas.List.FromFn.{length-map-range_with_len}
 use Rattle.std.specs.List.{last_or, list_any, range_with_len}
-use Rattle.std.specs.Option.{option_map_or, option_and_then}
+use Rattle.std.specs.Option.{option_map, option_map_or, option_and_then}
 use Rattle.std.proofs.lemmas.Bool.Decides.{nat_tests}
-use Rattle.std.proofs.lemmas.Option.{none-some, same_Some, slice_get_within, get_or_from_slice_get}
+use Rattle.std.proofs.lemmas.Option.{none-some, same_Some, slice_get_within, slice_get-get_or, get_or_from_slice_get}
 use Rattle.task_graph.specs.NetRows.{NetRows}
-use Rattle.task_graph.specs.Net.{IsNet, chooses, is_weak, is_weak_row}
+use Rattle.task_graph.specs.Net.{AreSemaphoresOf, IsNet, IsTaskOf, chooses, is_weak, is_weak_row}
 use Rattle.task_graph.specs.declared.net.EdgeRow.{EdgeRow}
 use Rattle.task_graph.specs.declared.net.TaskRow.{TaskRow}
 use Rattle.journal_rules.specs.Counts.{first_tokens}
@@ -16,28 +20,39 @@ use Rattle.journal_rules.specs.declared.entry.Why.{Why}
 use Rattle.journal_rules.specs.declared.entry.Why.TheVariants.{Long, Wide, Unmet, Inner, OverRelease}
 use Rattle.join_words.specs.Ins.{InputValue}
 use Rattle.run_frame.specs.declared.job.Answer.{Answer}
+use Rattle.run_frame.specs.declared.job.Answer.TheVariants.{All as Each}
 use Rattle.run_frame.specs.declared.job.Done.TheVariants.{Value, Inner as InnerJob}
 use Rattle.run_frame.specs.declared.run.FrameRun.{FrameRun}
 use Rattle.run_frame.specs.LastEnds.{last_value}
 use Rattle.run_frame.specs.NestedRule.{job_of, journal_of}
 use Rattle.run_frame.specs.Runs.{values_of}
+use Rattle.nested_runs.specs.Spreads.{part_limit, part_row, spread_net}
+use Rattle.text_ops.specs.LineParts.{line_part, line_parts, part_count}
 use Rattle.text_ops.specs.Values.{value_limit}
+use Rattle.graph_plans.specs.ModuleUses.{has_chain, modules_run, run_before}
+use Rattle.graph_plans.specs.Operations.{IsOp}
+use Rattle.graph_plans.specs.PlanRows.{GraphRows, IsGraph, IsPlan, PlanRows, depth_limit, module_uses}
+use Rattle.graph_plans.specs.declared.ops.TextOp.{TextOp}
 use Rattle.graph_plans.specs.declared.ops.Op.{Op}
+use Rattle.graph_plans.specs.declared.ops.Op.TheVariants.{Input, Read, Text as OnText, Match, Back, IfMore, IfHas, Route, Spread, Module}
 use Rattle.text_tasks.specs.declared.item.Item.{Item}
 use Rattle.text_tasks.specs.declared.item.Item.TheVariants.{Text}
 use Rattle.text_tasks.specs.declared.job.TextJob.{TextJob}
-use Rattle.text_tasks.specs.declared.job.TextJob.TheVariants.{Graph}
-use Rattle.text_tasks.specs.GraphWork.{GraphWork, graph_of}
+use Rattle.text_tasks.specs.declared.job.TextJob.TheVariants.{Graph, Parts}
+use Rattle.text_tasks.specs.FoundTexts.{text_found}
+use Rattle.text_tasks.specs.GraphWork.{GraphWork, graph_in, graph_of, module_work}
+use Rattle.text_tasks.specs.PartsWork.{PartsWork}
 use Rattle.text_tasks.specs.Items.{item_text}
-use Rattle.text_tasks.specs.JobMeaning.{AnswersAs, FaultsAs, JobAnswers, JobFaults, JobFollows, feedback_of, is_sink, last_sink, net_of, names_of, text_job}
-use Rattle.text_tasks.specs.OpMeaning.{OpMeaning, hands_over, op_meaning}
+use Rattle.text_tasks.specs.JobMeaning.{AnswersAs, FaultsAs, FaultsLong, JobAnswers, JobFollows, feedback_of, job_plan, net_of, names_of, task_meaning, text_gathered, text_job}
+use Rattle.text_tasks.specs.Sinks.{is_sink, last_sink}
+use Rattle.text_tasks.specs.OpMeaning.{OpMeaning, hands_over, op_meaning, runs, text_op_value, too_wide}
 use Rattle.call_status.specs.Reasons.{reason_line}
 use Rattle.nested_runs.specs.Reasons.{run_reason}
 use Rattle.nested_runs.specs.declared.reasons.Reason.TheVariants.{Fine}
 use Rattle.run_laws.specs.Output.{report, task_report}
-use Rattle.run_laws.specs.PlainJobs.{IsPlainly, plain_value}
+use Rattle.run_laws.specs.PlainJobs.{IsInside, IsPlainly, plain_value}
 use Rattle.run_laws.specs.PlainLaws.{IsPlainRun}
-use Rattle.run_laws.specs.PlainReport.{HasSameReport, IsPlainJob, IsPlanned, ReportsAlike, ReportsPlainly, RunsWell, done_by, plain_feedback, plain_next, plain_report, text_answer, text_does, text_plain}
+use Rattle.run_laws.specs.PlainReport.{HasSameReport, IsPlainGraph, IsPlainJob, IsPlainTo, IsPlanned, IsSoundGraph, NestsPlainly, OfModule, OpensNone, ReportsAlike, ReportsPlainly, RunsWell, UsesPlain, as_value, done_by, greatest_depth, plain_feedback, plain_next, plain_report, text_answer, text_does, text_plain}
 use Rattle.run_laws.proofs.Depth.{runs_plainly}
 use Rattle.run_laws.proofs.LastEnds.{flat_map_below}
 
@@ -83,71 +98,282 @@ same_units net same s t = by_task (slice_get net.tasks t) refl
 pub text_of : (item : Item) (text : List ℕ) → item_text item ≡ text → item ≡ Text text
 text_of (Text own) text is = ap Text is
 
+short_test : (text : List ℕ) → length text ≤ value_limit → nat_le (length text) value_limit ≡ true
+short_test text few = grind (arith, nat_tests)
+
+long_test : (text : List ℕ) (n : ℕ) → n ≡ length text → value_limit < n → nat_le (length text) value_limit ≡ false
+long_test text n is over = let longer : value_limit < length text = omega (arith, is, over) in grind (arith, nat_tests)
+
 -- an answer that is allowed is what is done
 value_done : (meaning : OpMeaning) (item : Item) (answer : Answer) → AnswersAs meaning (Value item answer) → done_by meaning ≡ Some (Value item answer)
 value_done (hands_over text chosen) item answer is =
-    let short : nat_le (length text) value_limit ≡ true = (let few : length text ≤ value_limit = is.2 in grind (arith, nat_tests)) in
-    ap (λ b. cond b (Some (Value (Text text) chosen)) None) short
+    ap (λ b. cond b (Some (Value (Text text) chosen)) None) (short_test text is.2)
     ∙ ap (λ i. Some (Value i chosen)) (sym (text_of item text is.0))
     ∙ ap (λ a. Some (Value item a)) (sym is.1)
+value_done (runs inner) item answer is = absurd is
+value_done (too_wide parts) item answer is = absurd is
+
+long_done : (text : List ℕ) (chosen : Answer) (why : Why) → FaultsLong text why → done_by (hands_over text chosen) ≡ None
+long_done text chosen (Long n) is = ap (λ b. cond b (Some (Value (Text text) chosen)) None) (long_test text n is.0 is.1)
+long_done text chosen (Wide n) is = absurd is
+long_done text chosen (Unmet k) is = absurd is
+long_done text chosen Inner is = absurd is
+long_done text chosen (OverRelease s) is = absurd is
 
 fault_done : (meaning : OpMeaning) (why : Why) → FaultsAs meaning why → done_by meaning ≡ None
-fault_done (hands_over text chosen) (Long n) is =
-    let over : value_limit < length text = subst (λ k. value_limit < k) is.0 is.1 in
-    let long : nat_le (length text) value_limit ≡ false = grind (arith, nat_tests) in
-    ap (λ b. cond b (Some (Value (Text text) chosen)) None) long
-fault_done (hands_over text chosen) (Wide n) is = absurd is
-fault_done (hands_over text chosen) (Unmet k) is = absurd is
-fault_done (hands_over text chosen) Inner is = absurd is
-fault_done (hands_over text chosen) (OverRelease s) is = absurd is
+fault_done (hands_over text chosen) why is = long_done text chosen why is
+fault_done (runs inner) why is = absurd is
+fault_done (too_wide parts) why is = refl
 
-no_inner : (meaning : OpMeaning) (job : TextJob) → AnswersAs meaning (InnerJob job) → ⊥
-no_inner (hands_over text chosen) job is = is
+inner_done : (meaning : OpMeaning) (inner : TextJob) → AnswersAs meaning (InnerJob inner) → meaning ≡ runs inner
+inner_done (hands_over text chosen) inner is = absurd is
+inner_done (runs job) inner is = ap runs (sym is)
+inner_done (too_wide parts) inner is = absurd is
 
-module _ (work : GraphWork) (found : List (InputValue Item)) where
-  value_at_op : (o : Option Op) (item : Item) (answer : Answer) → IsSomeAnd o (λ op. AnswersAs (op_meaning work found op) (Value item answer)) → option_and_then (λ op. done_by (op_meaning work found op)) o ≡ Some (Value item answer)
-  value_at_op None item answer is = absurd is
-  value_at_op (Some op) item answer is = value_done (op_meaning work found op) item answer is
+value_at_task : (o : Option OpMeaning) (item : Item) (answer : Answer) → IsSomeAnd o (λ m. AnswersAs m (Value item answer)) → option_and_then done_by o ≡ Some (Value item answer)
+value_at_task None item answer is = absurd is
+value_at_task (Some m) item answer is = value_done m item answer is
 
-  fault_at_op : (o : Option Op) (why : Why) → IsSomeAnd o (λ op. FaultsAs (op_meaning work found op) why) → option_and_then (λ op. done_by (op_meaning work found op)) o ≡ None
-  fault_at_op None why is = absurd is
-  fault_at_op (Some op) why is = fault_done (op_meaning work found op) why is
+fault_at_task : (o : Option OpMeaning) (why : Why) → IsSomeAnd o (λ m. FaultsAs m why) → option_and_then done_by o ≡ None
+fault_at_task None why is = absurd is
+fault_at_task (Some m) why is = fault_done m why is
 
-  inner_at_op : (o : Option Op) (job : TextJob) → IsSomeAnd o (λ op. AnswersAs (op_meaning work found op) (InnerJob job)) → ⊥
-  inner_at_op None job is = is
-  inner_at_op (Some op) job is = no_inner (op_meaning work found op) job is
+inner_at_task : (o : Option OpMeaning) (inner : TextJob) → IsSomeAnd o (λ m. AnswersAs m (InnerJob inner)) → o ≡ Some (runs inner)
+inner_at_task None inner is = absurd is
+inner_at_task (Some m) inner is = ap Some (inner_done m inner is)
 
-text_value : (job : TextJob) (t : ℕ) (found : List (InputValue Item)) (item : Item) (answer : Answer) → JobAnswers job t found (Value item answer) → text_does job t found ≡ Some (Value item answer)
-text_value (Graph work) t found item answer is = value_at_op work found (slice_get (graph_of work).ops t) item answer is
+-- ---- jobs inside jobs
 
-text_fault : (job : TextJob) (t : ℕ) (found : List (InputValue Item)) (why : Why) → JobFaults job t found why → text_does job t found ≡ None
-text_fault (Graph work) t found why is = fault_at_op work found (slice_get (graph_of work).ops t) why is
+-- a job that is plain to one depth less
+pub record Below (d : ℕ) (job : TextJob) : Type 0 where
+  pub below : ℕ
+  pub less : d ≡ suc below
+  pub plain : IsPlainTo below job
 
-text_inner : (job : TextJob) (t : ℕ) (found : List (InputValue Item)) (inner : TextJob) → JobAnswers job t found (InnerJob inner) → ⊥
-text_inner (Graph work) t found inner is = inner_at_op work found (slice_get (graph_of work).ops t) inner is
+spread_runs : (few : Bool) (parts : PartsWork) (count : ℕ) (inner : TextJob) → cond few (runs (Parts parts)) (too_wide count) ≡ runs inner → (inner ≡ Parts parts) × (few ≡ true)
+spread_runs true parts count inner same = (cc, refl)
+spread_runs false parts count inner same = absurd (cc)
 
-text_once : (job : TextJob) → IsPlanned job → IsPlainJob job → IsOnceNet (net_of job)
-text_once (Graph work) is plain = record { strong = no_weak (graph_of work).net plain.0.no_condition; no_first = no_first_token (graph_of work).net is.no_first_tokens }
+module_runs : (short : Bool) (work : GraphWork) (text : List ℕ) (inner : TextJob) → cond short (runs (Graph work)) (hands_over text Each) ≡ runs inner → inner ≡ Graph work
+module_runs true work text inner same = cc
+module_runs false work text inner same = absurd (cc)
 
-text_returns : (job : TextJob) → IsPlainJob job → (s t : ℕ) → takes (net_of job) s t ≡ puts (net_of job) s t
-text_returns (Graph work) plain = same_units (graph_of work).net plain.0.returns
+abbrev Inside : ℕ → PlanRows → Option GraphRows → Type 0
+Inside d plan used = IsSomeAnd used (λ g. IsSoundGraph g × NestsPlainly d plan g)
 
-text_net : (job : TextJob) → IsPlanned job → IsNet (net_of job)
-text_net (Graph work) is = is.net
+module _ (work : GraphWork) (found : List (InputValue Item)) (inner : TextJob) where
+  op_below : (d : ℕ) (op : Op) → OfModule (Inside d work.plan) work.plan.modules op → op_meaning work found op ≡ runs inner → Below (suc d) inner
+  op_below d Input uses same = absurd (cc)
+  op_below d (Read number) uses same = absurd (cc)
+  op_below d (OnText op) uses same = absurd (cc)
+  op_below d Match uses same = absurd (cc)
+  op_below d Back uses same = absurd (cc)
+  op_below d (IfMore n) uses same = absurd (cc)
+  op_below d (IfHas word) uses same = absurd (cc)
+  op_below d (Route words) uses same = absurd (cc)
+  op_below d (Spread n each) uses same =
+      let text : List ℕ = text_found found in
+      let is = spread_runs (nat_le (part_count n text) part_limit) (record { parts = line_parts n text; op = each }) (part_count n text) inner same in
+      let few : part_count n text ≤ part_limit = le_of (part_count n text) part_limit is.1 in
+      let count : length (line_parts n text) ≡ part_count n text = length-map-range_with_len (line_part n text) 0 (part_count n text) in
+      let all : length (line_parts n text) ≤ part_limit = omega (arith, few, count) in
+      record { below = d; less = refl; plain = subst (IsPlainTo d) (sym is.0) all }
+    where
+      le_of : (a b : ℕ) → nat_le a b ≡ true → a ≤ b
+      le_of a b is = grind (arith, nat_tests)
+  op_below d (Module m) uses same =
+      let text : List ℕ = text_found found in
+      let is = module_runs (nat_le (length text) value_limit) (module_work work m text) text inner same in
+      record { below = d; less = refl; plain = subst (IsPlainTo d) (sym is) (by_graph (slice_get work.plan.modules m) refl uses) }
+    where
+      by_graph : (o : Option GraphRows) → slice_get work.plan.modules m ≡ o → Inside d work.plan o
+          → IsSoundGraph (slice_index_or work.plan.modules m work.plan.top) × NestsPlainly d work.plan (slice_index_or work.plan.modules m work.plan.top)
+      by_graph None at is = absurd is
+      by_graph (Some g) at is = subst (λ h. IsSoundGraph h × NestsPlainly d work.plan h) (sym (get_or_from_slice_get work.plan.modules m g work.plan.top at)) is
+
+  op_none : (op : Op) → OpensNone op → op_meaning work found op ≡ runs inner → ⊥
+  op_none Input none same = cc
+  op_none (Read number) none same = cc
+  op_none (OnText op) none same = cc
+  op_none Match none same = cc
+  op_none Back none same = cc
+  op_none (IfMore n) none same = cc
+  op_none (IfHas word) none same = cc
+  op_none (Route words) none same = cc
+  op_none (Spread n each) none same = none
+  op_none (Module m) none same = none
+
+  by_depth : (d : ℕ) (t : ℕ) → NestsPlainly d work.plan (graph_of work) → (o : Option Op) → slice_get (graph_of work).ops t ≡ o → option_map (op_meaning work found) o ≡ Some (runs inner) → Below d inner
+  by_depth d t nests None at same = absurd (none-some _ same)
+  by_depth zero t nests (Some op) at same = absurd (op_none op (item_meets OpensNone (graph_of work).ops t op nests at) (same_Some _ _ same))
+  by_depth (suc d) t nests (Some op) at same =
+      op_below d op (item_meets (OfModule (Inside d work.plan) work.plan.modules) (graph_of work).ops t op nests at) (same_Some _ _ same)
+
+parts_none : (o : Option (List ℕ)) (op : TextOp) (inner : TextJob) → option_map (λ part. hands_over (text_op_value op part) Each) o ≡ Some (runs inner) → ⊥
+parts_none None op inner same = none-some _ same
+parts_none (Some part) op inner same = let is : hands_over (text_op_value op part) Each ≡ runs inner = same_Some _ _ same in cc
+
+text_below : (d : ℕ) (job : TextJob) (t : ℕ) (found : List (InputValue Item)) (inner : TextJob) → IsPlainTo d job → task_meaning job t found ≡ Some (runs inner) → Below d inner
+text_below d (Graph work) t found inner is same = by_depth work found inner d t is.1 (slice_get (graph_of work).ops t) refl same
+text_below d (Parts work) t found inner is same = absurd (parts_none (slice_get work.parts t) work.op inner same)
+
+text_inner : (d : ℕ) (job : TextJob) (t : ℕ) (found : List (InputValue Item)) (inner : TextJob) → IsPlainTo d job → JobAnswers job t found (InnerJob inner) → IsInside text_plain d job t found inner
+text_inner d job t found inner is answers =
+    let runs_it : task_meaning job t found ≡ Some (runs inner) = inner_at_task (task_meaning job t found) inner answers in
+    let less = text_below d job t found inner is runs_it in
+    record { does = ap (option_and_then done_by) runs_it; below = less.below; less = less.less; such = less.plain }
+
+-- ---- gathering
+
+gather_value : (text : List ℕ) (item : Item) → item_text item ≡ text → length text ≤ value_limit → as_value text ≡ Some item
+gather_value text item is short = ap (λ b. cond b (Some (Text text)) None) (short_test text short) ∙ ap Some (sym (text_of item text is))
+
+gather_long : (text : List ℕ) (why : Why) → FaultsLong text why → as_value text ≡ None
+gather_long text (Long n) is = ap (λ b. cond b (Some (Text text)) None) (long_test text n is.0 is.1)
+gather_long text (Wide n) is = absurd is
+gather_long text (Unmet k) is = absurd is
+gather_long text Inner is = absurd is
+gather_long text (OverRelease s) is = absurd is
+
+-- ---- text jobs
+
+no_semaphores : (net : NetRows) → AreSemaphoresOf net []
+no_semaphores net = record { rising = λ k below. absurd (omega (arith, below)); in_range = All-nil _ }
+
+-- what holds of the task of a part holds of all of them
+all_parts : (P : TaskRow → Type 0) (n : ℕ) → P part_row → All P (replicate n part_row)
+all_parts P n is = λ k d below. subst P (sym (get_or-replicate n k part_row d (omega (arith, below, length-replicate n part_row)))) is
+
+-- the net of so many parts
+parts_sound : (n : ℕ) → n ≤ part_limit → IsSoundGraph (record { name = []; names = []; ops = []; sem_names = []; net = spread_net n })
+parts_sound n few = record {
+  is_net = record {
+    tasks = all_parts (IsTaskOf (spread_net n)) n (record { takes = no_semaphores (spread_net n); puts = no_semaphores (spread_net n) });
+    edges = All-nil _;
+    sems = All-nil _;
+    task_count = omega (arith, few, length-replicate n part_row);
+    edge_count = omega arith;
+    sem_count = omega arith;
+  };
+  no_first_tokens = All-nil _;
+  plain = record { no_condition = all_parts (λ row. chooses row.shape ≡ false) n refl; returns = all_parts (λ row. row.takes ≡ row.puts) n refl };
+}
+
+sound_graph : (d : ℕ) (job : TextJob) → IsPlainTo d job → (g : GraphRows) × (g.net ≡ net_of job) × IsSoundGraph g
+sound_graph d (Graph work) is = (graph_of work, refl, is.0)
+sound_graph d (Parts work) is = (record { name = []; names = []; ops = []; sem_names = []; net = spread_net (length work.parts) }, refl, parts_sound (length work.parts) is)
+
+text_net : (d : ℕ) (job : TextJob) → IsPlainTo d job → IsNet (net_of job)
+text_net d job is = let of = sound_graph d job is in subst IsNet of.1 of.2.is_net
+
+text_once : (d : ℕ) (job : TextJob) → IsPlainTo d job → IsOnceNet (net_of job)
+text_once d job is =
+    let of = sound_graph d job is in
+    subst IsOnceNet of.1 (record { strong = no_weak of.0.net of.2.plain.no_condition; no_first = no_first_token of.0.net of.2.no_first_tokens })
+
+text_returns : (d : ℕ) (job : TextJob) → IsPlainTo d job → (s t : ℕ) → takes (net_of job) s t ≡ puts (net_of job) s t
+text_returns d job is s t = let of = sound_graph d job is in subst (λ net. takes net s t ≡ puts net s t) of.1 (same_units of.0.net of.2.plain.returns s t)
 
 -- text jobs without conditions are plain
 pub text_plainly : IsPlainly text_job text_plain
 text_plainly = record {
-  net = λ d job is. text_net job is.such.0;
-  once = λ d job is. text_once job is.such.0 is.such.1;
-  returns = λ d job is. text_returns job is.such.1;
-  value = λ d job t found item answer is allowed. text_value job t found item answer allowed;
-  fault = λ d job t found why is allowed. text_fault job t found why allowed;
-  inner = λ d job t found inner is allowed. absurd (text_inner job t found inner allowed);
-  gathers = λ d run item is never. absurd never;
-  gather_fault = λ d run why is never. absurd never;
+  net = λ d job is. text_net d job is.such;
+  once = λ d job is. text_once d job is.such;
+  returns = λ d job is. text_returns d job is.such;
+  value = λ d job t found item answer is allowed. value_at_task (task_meaning job t found) item answer allowed;
+  fault = λ d job t found why is allowed. fault_at_task (task_meaning job t found) why allowed;
+  inner = λ d job t found inner is allowed. text_inner d job t found inner is.such allowed;
+  gathers = λ d run item is gathered. gather_value (text_gathered (job_of run) run) item gathered.0 gathered.1;
+  gather_fault = λ d run why is fault. gather_long (text_gathered (job_of run) run) why fault;
   by_itself = λ d run result is known kept. absurd (cc);
 }
+
+-- ---- plans
+
+or_left : (a b : Bool) → (a || b) ≡ false → a ≡ false
+or_left true b is = is
+or_left false b is = refl
+
+or_right : (a b : Bool) → (a || b) ≡ false → b ≡ false
+or_right true b is = absurd (false≢true (sym is))
+or_right false b is = is
+
+rest_run : (test : ℕ → Bool) (op : Op) (ms : List ℕ) → list_any test (run_before ms op) ≡ false → list_any test ms ≡ false
+rest_run test Input ms none = none
+rest_run test (Read number) ms none = none
+rest_run test (OnText op) ms none = none
+rest_run test Match ms none = none
+rest_run test Back ms none = none
+rest_run test (IfMore n) ms none = none
+rest_run test (IfHas word) ms none = none
+rest_run test (Route words) ms none = none
+rest_run test (Spread n each) ms none = none
+rest_run test (Module m) ms none = or_right (test m) (list_any test ms) none
+
+-- a module that a task runs passes no test that none of those passes which tasks run
+run_fails : (test : ℕ → Bool) (ops : List Op) (k m : ℕ) → slice_get ops k ≡ Some (Module m) → list_any test (modules_run ops) ≡ false → test m ≡ false
+run_fails test [] k m at none = absurd (none-some _ at)
+run_fails test (op ∷ ops) zero m at none =
+    let is : op ≡ Module m = same_Some _ _ at in
+    or_left (test m) (list_any test (modules_run ops)) (subst (λ o. list_any test (run_before (modules_run ops) o) ≡ false) is none)
+run_fails test (op ∷ ops) (suc k) m at none = run_fails test ops k m at (rest_run test op (modules_run ops) none)
+
+plain_here : (plan : PlanRows) (d : ℕ) (g : GraphRows) → UsesPlain d plan g → IsPlainGraph g.net
+plain_here plan zero g uses = uses
+plain_here plan (suc d) g uses = uses.0
+
+module _ (plan : PlanRows) (rules : IsPlan plan) where
+  abbrev Rules : GraphRows → Type 0
+  Rules = IsGraph (length plan.texts) (length plan.modules)
+
+  sound_by : (d : ℕ) (g : GraphRows) → Rules g → UsesPlain d plan g → IsSoundGraph g
+  sound_by d g keeps uses = record { is_net = keeps.net; no_first_tokens = keeps.no_first_tokens; plain = plain_here plan d g uses }
+
+  module_at : (m : ℕ) → m < length plan.modules → (g : GraphRows) × (slice_get plan.modules m ≡ Some g) × Rules g × (slice_index_or (module_uses plan) m [] ≡ modules_run g.ops)
+  module_at m below = (
+    slice_index_or plan.modules m plan.top,
+    slice_get-get_or plan.modules m plan.top below,
+    rules.graphs (suc m) plan.top (omega (arith, below)),
+    get_or-map (λ (graph : GraphRows). modules_run graph.ops) plan.modules m plan.top [] below,
+  )
+
+  -- what holds of each module that a graph's tasks run
+  over_ops : (d : ℕ) (g : GraphRows) → Rules g → ((k m : ℕ) → slice_get g.ops k ≡ Some (Module m) → m < length plan.modules → Inside d plan (slice_get plan.modules m)) → NestsPlainly (suc d) plan g
+  over_ops d g keeps inside = λ k op below. by_op k (slice_index_or g.ops k op) (slice_get-get_or g.ops k op below) (keeps.ops k op below)
+    where
+      by_op : (k : ℕ) (op : Op) → slice_get g.ops k ≡ Some op → IsOp (length plan.texts) (length plan.modules) op → OfModule (Inside d plan) plan.modules op
+      by_op k Input at fits = tt
+      by_op k (Read number) at fits = tt
+      by_op k (OnText op) at fits = tt
+      by_op k Match at fits = tt
+      by_op k Back at fits = tt
+      by_op k (IfMore n) at fits = tt
+      by_op k (IfHas word) at fits = tt
+      by_op k (Route words) at fits = tt
+      by_op k (Spread n each) at fits = tt
+      by_op k (Module m) at fits = inside k m at fits
+
+  -- by the rule of depth and what is used, modules are in modules to a depth, and a spread in the last
+  nests : (d : ℕ) (g : GraphRows) → Rules g → has_chain (suc d) (module_uses plan) (modules_run g.ops) ≡ false → UsesPlain d plan g → NestsPlainly (suc d) plan g
+  nests zero g keeps shallow uses =
+      over_ops zero g keeps (λ k m at there. absurd (false≢true (sym (run_fails (λ n. has_chain zero (module_uses plan) (slice_index_or (module_uses plan) n [])) g.ops k m at shallow))))
+  nests (suc e) g keeps shallow uses =
+      over_ops (suc e) g keeps (λ k m at there.
+      let of = module_at m there in
+      let deep : has_chain (suc e) (module_uses plan) (modules_run of.0.ops) ≡ false =
+      ap (has_chain (suc e) (module_uses plan)) (sym of.3) ∙ run_fails (λ n. has_chain (suc e) (module_uses plan) (slice_index_or (module_uses plan) n [])) g.ops k m at shallow in
+      let plainly : UsesPlain e plan of.0 = subst (λ o. IfSome o (UsesPlain e plan)) of.1 (item_meets (OfModule (λ o. IfSome o (UsesPlain e plan)) plan.modules) g.ops k (Module m) uses.1 at) in
+      subst (λ o. Inside (suc e) plan o) (sym of.1) (sound_by e of.0 of.2 plainly, nests e of.0 of.2 deep plainly))
+
+-- a job of a plan without conditions is plain to the depth of plans
+plain_to : (job : TextJob) → IsPlanned job → IsPlainJob job → IsPlainTo greatest_depth job
+plain_to (Graph work) is plain =
+    let top : graph_of work ≡ work.plan.top = ap (graph_in work.plan) is.1 in
+    let keeps = is.0.graphs 0 work.plan.top (omega arith) in
+    let uses : UsesPlain depth_limit work.plan work.plan.top = subst (UsesPlain depth_limit work.plan) top plain in
+    subst (λ g. IsSoundGraph g × NestsPlainly greatest_depth work.plan g) (sym top)
+    (sound_by work.plan is.0 depth_limit work.plan.top keeps uses, nests work.plan is.0 depth_limit work.plan.top keeps is.0.depth uses)
+plain_to (Parts work) is plain = absurd plain
 
 -- the last number that passes is one of them
 last_passing : (test : ℕ → Bool) (a n : ℕ) (o : Option ℕ) (t : ℕ) → last_or o (filter test (range_with_len a n)) ≡ Some t → (o ≡ Some t) ⊎ (t < a + n)
@@ -164,11 +390,12 @@ sink_below net t is = elim (last_passing (is_sink net) 0 (length net.tasks) None
 
 next_same : (run : FrameRun TextJob Item) (job next : TextJob) → feedback_of run ≡ plain_feedback job → JobFollows job run next → next ≡ plain_next job
 next_same run (Graph work) next same follows = follows ∙ ap (λ text. Graph (record work { input = text })) same
+next_same run (Parts work) next same follows = absurd follows
 
 -- a run that is kept of such a job reports what one thread does
 pub same_report : (run : FrameRun TextJob Item) → ReportsPlainly run
 same_report run plain is kept =
-    let plainly : IsPlainRun text_job run (text_answer (job_of run)) = runs_plainly text_job text_plain text_plainly run 0 (record { such = (is, plain); graph = refl }) kept in
+    let plainly : IsPlainRun text_job run (text_answer (job_of run)) = runs_plainly text_job text_plain text_plainly run greatest_depth (record { such = plain_to (job_of run) is plain; graph = refl }) kept in
     record {
       fine = plainly.fine;
       next = λ reason next follows.
@@ -184,7 +411,7 @@ same_report run plain is kept =
           let names : List (List ℕ) = names_of (job_of run) in
           let values : report names net (journal_of run) (values_of run) ≡ plain_report (job_of run) =
           flat_map_below _ _ 0 (length net.tasks) (λ t below. ap (task_report net t (slice_index_or names t [])) (plainly.values reason t (omega (arith, below)))) in
-          ap (λ r. report names net (journal_of run) (values_of run) ++ reason_line names r) reason ∙ append-nil _ ∙ values;
+          ap (λ r. report names net (journal_of run) (values_of run) ++ reason_line (job_plan (job_of run)) r) reason ∙ append-nil _ ∙ values;
     }
 
 -- so two runs of one job report the same

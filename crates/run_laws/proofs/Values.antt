@@ -25,7 +25,7 @@ use Rattle.journal_rules.proofs.Snoc.{count_by_push, slice_get_push_below, slice
 use Rattle.journal_rules.proofs.Tallying.{count_by_push_no, count_by_push_yes, given_push}
 use Rattle.journal_rules.proofs.Reaching.{open_stands}
 use Rattle.journal_rules.proofs.NetLemmas.{any_place}
-use Rattle.legal_run.proofs.WaitingLemmas.{calm_now}
+use Rattle.legal_run.proofs.CalmEdges.{calm_now}
 use Rattle.join_words.specs.Ins.{InputValue, value, first}
 use Rattle.run_frame.specs.declared.run.ValueRow.{ValueRow}
 use Rattle.run_frame.specs.Runs.{value_at, found_at, found_by, found_ins}

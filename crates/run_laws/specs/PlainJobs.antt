@@ -19,6 +19,7 @@ use Rattle.run_frame.specs.Meaning.{Meaning}
 use Rattle.run_frame.specs.NestedRule.{job_of, journal_of}
 use Rattle.run_frame.specs.Runs.{IsFine, values_of}
 use Rattle.run_frame.specs.WorkRule.{gives_of}
+use Rattle.text_tasks.specs.Sinks.{task_values}
 use Rattle.run_laws.specs.OneThreadValue.{TaskEnd, OneAnswer, one_thread_value}
 use Rattle.run_laws.specs.Starts.{rounds_in, tasks_started}
 
@@ -35,10 +36,6 @@ plain_value net one t = last_of (one_thread_value net one (length net.tasks) t)
 -- what each task ends with, by their numbers
 abbrev pub plain_values : {V : Type 0} → NetRows → OneAnswer V → List (Option V)
 plain_values net one = map (plain_value net one) (range_with_len 0 (length net.tasks))
-
--- the same of a run: the value of each task's last End
-abbrev pub task_values : {J V : Type 0} → NetRows → FrameRun J V → List (Option V)
-task_values net run = map (last_value (journal_of run) (values_of run)) (range_with_len 0 (length net.tasks))
 
 -- whether some task faults
 abbrev pub faults_somewhere : {V : Type 0} → NetRows → OneAnswer V → ℕ → Bool

@@ -1,14 +1,14 @@
 -- The report of a graph without conditions, worked out by a recursion over its net.
-use Rattle.std.specs.Prelude.{◌≡◌, ◌≢◌, ◌↔◌, ℕ, true, false, nat_le, List, [], length, All, Option, Some, None, slice_get, slice_index_or, if◌then◌else◌}
+use Rattle.std.specs.Prelude.{◌≡◌, ◌↔◌, ℕ, zero, suc, true, false, nat_le, List, [], length, All, Option, Some, None, IfSome, IsSomeAnd, slice_get, slice_index_or, if◌then◌else◌}
 use Rattle.std.specs.List.{flat_map, range_with_len}
 use Rattle.std.specs.Option.{option_and_then, option_map_or}
 use Rattle.task_graph.specs.NetRows.{NetRows}
-use Rattle.task_graph.specs.Net.{chooses}
-use Rattle.task_graph.specs.declared.net.Shape.TheVariants.{Nested}
+use Rattle.task_graph.specs.Net.{IsNet, chooses}
+use Rattle.task_graph.specs.declared.net.EdgeRow.{EdgeRow}
 use Rattle.task_graph.specs.declared.net.TaskRow.{TaskRow}
 use Rattle.join_words.specs.Ins.{InputValue}
 use Rattle.run_frame.specs.declared.job.Done.{Done}
-use Rattle.run_frame.specs.declared.job.Done.TheVariants.{Value}
+use Rattle.run_frame.specs.declared.job.Done.TheVariants.{Value, Inner as InnerJob}
 use Rattle.run_frame.specs.declared.run.FrameRun.{FrameRun}
 use Rattle.run_frame.specs.Legal.{IsKept}
 use Rattle.run_frame.specs.NestedRule.{job_of}
@@ -16,29 +16,40 @@ use Rattle.nested_runs.specs.Reasons.{run_reason}
 use Rattle.nested_runs.specs.declared.reasons.Reason.TheVariants.{Fine}
 use Rattle.run_laws.specs.OneThreadValue.{OneAnswer}
 use Rattle.text_ops.specs.Values.{value_limit}
-use Rattle.graph_plans.specs.PlanRows.{IsPlan, PlanRows}
+use Rattle.graph_plans.specs.PlanRows.{GraphRows, IsPlan, PlanRows, depth_limit}
+use Rattle.graph_plans.specs.declared.ops.Op.{Op}
+use Rattle.graph_plans.specs.declared.ops.Op.TheVariants.{Module, Spread}
 use Rattle.text_tasks.specs.declared.item.Item.{Item}
 use Rattle.text_tasks.specs.declared.item.Item.TheVariants.{Text}
 use Rattle.text_tasks.specs.declared.job.TextJob.{TextJob}
-use Rattle.text_tasks.specs.declared.job.TextJob.TheVariants.{Graph}
+use Rattle.text_tasks.specs.declared.job.TextJob.TheVariants.{Graph, Parts}
 use Rattle.text_tasks.specs.GraphWork.{graph_of}
 use Rattle.text_tasks.specs.Items.{item_text}
-use Rattle.text_tasks.specs.JobMeaning.{JobFollows, last_sink, net_of, names_of, limit_of, text_job}
-use Rattle.text_tasks.specs.OpMeaning.{OpMeaning, hands_over, op_meaning}
+use Rattle.text_tasks.specs.JobMeaning.{JobFollows, gathered_text, net_of, names_of, limit_of, task_meaning, text_job}
+use Rattle.text_tasks.specs.OpMeaning.{OpMeaning, hands_over, runs, too_wide}
+use Rattle.text_tasks.specs.PartsWork.{IsPartsWork}
+use Rattle.text_tasks.specs.Sinks.{last_sink}
 use Rattle.run_laws.specs.Output.{report_of, task_report}
 use Rattle.run_laws.specs.PlainJobs.{PlainJobs, plain_answer, plain_value, runs_through}
 
--- what the task of an operation does: it hands its value on, or faults where that is too long
+-- what is done by a meaning: a value that isn't too long, or a job in the task's place; else nothing, and the task faults
 abbrev pub done_by : OpMeaning → Option (Done TextJob Item)
 done_by (hands_over text chosen) = if nat_le (length text) value_limit then Some (Value (Text text) chosen) else None
+done_by (runs inner) = Some (InnerJob inner)
+done_by (too_wide parts) = None
 
 -- what a task does on what it finds
 abbrev pub text_does : TextJob → ℕ → List (InputValue Item) → Option (Done TextJob Item)
-text_does (Graph work) t found = option_and_then (λ op. done_by (op_meaning work found op)) (slice_get (graph_of work).ops t)
+text_does job t found = option_and_then done_by (task_meaning job t found)
 
--- the job's plan keeps the rules of plans
+-- a text as a value, where it isn't too long
+abbrev pub as_value : List ℕ → Option Item
+as_value text = if nat_le (length text) value_limit then Some (Text text) else None
+
+-- the job is of the top graph of a plan that keeps the rules of plans
 abbrev pub IsPlanned : TextJob → Type 0
-IsPlanned (Graph work) = IsPlan work.plan
+IsPlanned (Graph work) = IsPlan work.plan × (work.«module» ≡ None)
+IsPlanned (Parts work) = ⊥
 
 -- Nothing in a graph leaves open what its tasks hand on: none chooses among its successors, and each puts just the
 -- semaphores that it takes.
@@ -46,31 +57,61 @@ pub record IsPlainGraph (net : NetRows) : Type 0 where
   pub no_condition : All (λ (row : TaskRow). chooses row.shape ≡ false) net.tasks
   pub returns : All (λ (row : TaskRow). row.takes ≡ row.puts) net.tasks
 
--- So it is in the top graph of a plan, and in each module that it uses, directly or through others. No operation uses a
--- module yet, so that the top graph decides.
-abbrev pub IsPlainPlan : PlanRows → Type 0
-IsPlainPlan plan = IsPlainGraph plan.top.net
+-- what holds of the graph of the module, among these, that the task of an operation runs
+abbrev pub OfModule : (Option GraphRows → Type 0) → List GraphRows → Op → Type 0
+OfModule Holds modules (Module m) = Holds (slice_get modules m)
+OfModule Holds modules op = Unit {0}
 
--- A run of the plan is one run: no task opens another one inside it. (There is one round, since no command asks for more.)
-abbrev pub OpensNoRun : PlanRows → Type 0
-OpensNoRun plan = All (λ (row : TaskRow). row.shape ≢ Nested) plan.top.net.tasks
+-- So it is in the graph and in each module that it uses, directly or through others, to a depth.
+abbrev pub UsesPlain : ℕ → PlanRows → GraphRows → Type 0
+UsesPlain zero plan graph = IsPlainGraph graph.net
+UsesPlain (suc d) plan graph = IsPlainGraph graph.net × All (OfModule (λ used. IfSome used (UsesPlain d plan)) plan.modules) graph.ops
 
--- a job without conditions
+-- a job without conditions, also in the modules that it uses
 abbrev pub IsPlainJob : TextJob → Type 0
-IsPlainJob (Graph work) = IsPlainPlan work.plan × OpensNoRun work.plan
+IsPlainJob (Graph work) = UsesPlain depth_limit work.plan (graph_of work)
+IsPlainJob (Parts work) = ⊥
 
--- What text jobs come to. No job is run inside another yet, so that none is gathered.
+-- ---- jobs inside jobs
+
+-- a plain graph whose net is well formed and begins without tokens
+pub record IsSoundGraph (graph : GraphRows) : Type 0 where
+  pub is_net : IsNet graph.net
+  pub no_first_tokens : All (λ (row : EdgeRow). row.start ≡ false) graph.net.edges
+  pub plain : IsPlainGraph graph.net
+
+-- an operation whose task opens no run inside its own
+abbrev pub OpensNone : Op → Type 0
+OpensNone (Spread n each) = ⊥
+OpensNone (Module m) = ⊥
+OpensNone op = Unit {0}
+
+-- The graphs that a graph's tasks run are there and are such ones, and so are those inside these, to a depth.
+abbrev pub NestsPlainly : ℕ → PlanRows → GraphRows → Type 0
+NestsPlainly zero plan graph = All OpensNone graph.ops
+NestsPlainly (suc d) plan graph = All (OfModule (λ used. IsSomeAnd used (λ g. IsSoundGraph g × NestsPlainly d plan g)) plan.modules) graph.ops
+
+-- a plain job, with runs inside runs to a depth
+abbrev pub IsPlainTo : ℕ → TextJob → Type 0
+IsPlainTo d (Graph work) = IsSoundGraph (graph_of work) × NestsPlainly d work.plan (graph_of work)
+IsPlainTo d (Parts work) = IsPartsWork work
+
+-- What text jobs come to.
 abbrev pub text_plain : PlainJobs TextJob Item
 text_plain = record {
   does = text_does;
-  gathered = λ job values. None;
+  gathered = λ job values. as_value (gathered_text job values);
   alone = λ job. None;
-  is_plain = λ d job. IsPlanned job × IsPlainJob job;
+  is_plain = IsPlainTo;
 }
+
+-- the most runs inside runs of a graph file: modules, and a spread in the last of them
+abbrev pub greatest_depth : ℕ
+greatest_depth = 9
 
 -- the one answer of each task
 abbrev pub text_answer : TextJob → OneAnswer Item
-text_answer job = plain_answer text_job text_plain 0 job
+text_answer job = plain_answer text_job text_plain greatest_depth job
 
 -- The report by one thread: of each task that leads to no other its last value below its name, or its name alone.
 abbrev pub plain_report : TextJob → List ℕ
@@ -83,6 +124,7 @@ plain_feedback job = option_map_or item_text (option_and_then (plain_value (net_
 
 abbrev pub plain_next : TextJob → TextJob
 plain_next (Graph work) = Graph (record work { input = plain_feedback (Graph work) })
+plain_next (Parts work) = Parts work
 
 -- no task faults by one thread, and no more tasks start than the limit
 abbrev pub RunsWell : TextJob → Type 0

@@ -3,12 +3,12 @@ use Rattle.std.specs.Prelude.{ℕ, false, List, [], ◌∷◌, codes}
 use Rattle.task_graph.specs.NetRows.{NetRows}
 use Rattle.task_graph.specs.declared.net.EdgeRow.{EdgeRow}
 use Rattle.task_graph.specs.declared.net.Shape.{Shape}
-use Rattle.task_graph.specs.declared.net.Shape.TheVariants.{Plain, Choice}
+use Rattle.task_graph.specs.declared.net.Shape.TheVariants.{Plain, Choice, Nested}
 use Rattle.task_graph.specs.declared.net.TaskRow.{TaskRow}
 use Rattle.graph_plans.specs.declared.ops.Op.{Op}
-use Rattle.graph_plans.specs.declared.ops.Op.TheVariants.{Read, IfMore, Text as OnText}
-use Rattle.graph_plans.specs.declared.ops.TextOp.TheVariants.{Head, Keep}
-use Rattle.graph_plans.specs.PlanRows.{PlanRows}
+use Rattle.graph_plans.specs.declared.ops.Op.TheVariants.{Input, Read, IfMore, Spread, Module, Text as OnText}
+use Rattle.graph_plans.specs.declared.ops.TextOp.TheVariants.{Head, Keep, Pass}
+use Rattle.graph_plans.specs.PlanRows.{GraphRows, PlanRows}
 use Rattle.text_tasks.specs.declared.job.TextJob.{TextJob}
 use Rattle.text_tasks.specs.declared.job.TextJob.TheVariants.{Graph}
 use Rattle.text_tasks.specs.GraphWork.{first_work}
@@ -49,6 +49,40 @@ chooses_a_branch = plan_of (codes "m" ∷ codes "k" ∷ codes "h" ∷ [])
 abbrev pub takes_and_keeps : PlanRows
 takes_and_keeps = plan_of (codes "p" ∷ []) (Read 0 ∷ [])
     (record { tasks = record { shape = Plain; takes = 0 ∷ []; puts = [] } ∷ []; edges = []; sems = 1 ∷ [] })
+
+-- the lines of a text are passed on one by one
+abbrev pub spreads_a_text : PlanRows
+spreads_a_text = plan_of (codes "p" ∷ codes "s" ∷ []) (Read 0 ∷ Spread 1 Pass ∷ [])
+    (record { tasks = task Plain ∷ task Nested ∷ []; edges = edge 0 1 ∷ []; sems = [] })
+
+-- a module of two tasks, of which the second does this
+abbrev module_of : Op → Shape → GraphRows
+module_of op shape = record {
+  name = codes "m";
+  names = codes "i" ∷ codes "k" ∷ [];
+  ops = Input ∷ op ∷ [];
+  sem_names = [];
+  net = record { tasks = task Plain ∷ task shape ∷ []; edges = edge 0 1 ∷ []; sems = [] };
+}
+
+-- a module that keeps the lines with an `a`, and one that runs it, each run on a text
+abbrev pub runs_modules : PlanRows
+runs_modules = record (plan_of (codes "p" ∷ codes "q" ∷ codes "m" ∷ codes "x" ∷ [])
+    (Read 0 ∷ Read 1 ∷ Module 0 ∷ Module 1 ∷ [])
+    (record { tasks = task Plain ∷ task Plain ∷ task Nested ∷ task Nested ∷ []; edges = edge 0 2 ∷ edge 1 3 ∷ []; sems = [] })) {
+      modules = module_of (OnText (Keep (codes "a"))) Plain ∷ module_of (Module 0) Nested ∷ [];
+    }
+
+-- a graph of one task, which runs a module
+abbrev runs_alone : GraphRows → PlanRows
+runs_alone used = record (plan_of (codes "m" ∷ []) (Module 0 ∷ []) (record { tasks = task Nested ∷ []; edges = []; sems = [] })) { modules = used ∷ [] }
+
+abbrev pub runs_one_module : PlanRows
+runs_one_module = runs_alone (module_of (OnText (Head 1)) Plain)
+
+-- a module with a condition
+abbrev pub runs_a_choice : PlanRows
+runs_a_choice = runs_alone (module_of (IfMore 1) Choice)
 
 -- a job of such a plan, with at most so many starts
 abbrev pub worked_job : PlanRows → ℕ → TextJob

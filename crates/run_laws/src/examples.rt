@@ -3,8 +3,8 @@ ghost use Rattle.std.specs.Prelude.{[], ◌∷◌, ◌≡◌, codes};
 ghost use Rattle.run_laws.specs.OneThreadValue.{one_thread_value};
 ghost use Rattle.run_laws.specs.Steady.{Steady};
 ghost use Rattle.run_laws.specs.SmallNets.{four_tasks, two_in_a_ring, adding, adding_to_3, failing_on_2, end, run_of_the_ring, run_of_four, open_twice, after_drop, given_twice};
-ghost use Rattle.run_laws.specs.PlainReport.{IsPlainPlan, OpensNoRun, RunsWell, plain_feedback, plain_report};
-ghost use Rattle.run_laws.specs.SmallPlans.{behind_a_circle, chooses_a_branch, kept_together, takes_and_keeps, worked_job};
+ghost use Rattle.run_laws.specs.PlainReport.{IsPlainJob, RunsWell, plain_feedback, plain_report};
+ghost use Rattle.run_laws.specs.SmallPlans.{behind_a_circle, chooses_a_branch, kept_together, runs_a_choice, runs_modules, runs_one_module, spreads_a_text, takes_and_keeps, worked_job};
 
 /// The values of tasks.
 pub fn small_values()
@@ -50,10 +50,23 @@ pub fn circle_reports()
     ensures too_few { ¬ RunsWell (worked_job behind_a_circle 0) }
 {}
 
-/// Of the plans below the first is plain; one with a condition isn't, nor is one of whose tasks one takes a unit that it
-/// doesn't put.
+/// The values of modules and of the parts of a text: a module that keeps lines, run by a task and by another module, and a
+/// spread. A run in a task's place has the limit of the run around it.
+pub fn nested_reports()
+    ensures modules { plain_report (worked_job runs_modules 4) ≡ codes "== m\na1\n== x\na2\n" }
+    ensures enough { RunsWell (worked_job runs_modules 4) }
+    ensures too_few { ¬ RunsWell (worked_job runs_modules 3) }
+    ensures too_few_inside { ¬ RunsWell (worked_job runs_one_module 1) }
+    ensures parts { plain_report (worked_job spreads_a_text 2) ≡ codes "== s\na1\nb\n" }
+{}
+
+/// Of the jobs of these plans the first three are plain; one with a condition isn't, nor is one that runs a module with one,
+/// nor one of whose tasks one takes a unit that it doesn't put.
 pub fn plain_plans()
-    ensures plain { IsPlainPlan kept_together × OpensNoRun kept_together }
-    ensures condition { ¬ IsPlainPlan chooses_a_branch }
-    ensures unit { ¬ IsPlainPlan takes_and_keeps }
+    ensures plain { IsPlainJob (worked_job kept_together 4) }
+    ensures condition { ¬ IsPlainJob (worked_job chooses_a_branch 4) }
+    ensures unit { ¬ IsPlainJob (worked_job takes_and_keeps 4) }
+    ensures spreads { IsPlainJob (worked_job spreads_a_text 4) }
+    ensures runs { IsPlainJob (worked_job runs_one_module 4) }
+    ensures chooses_inside { ¬ IsPlainJob (worked_job runs_a_choice 4) }
 {}

@@ -49,8 +49,8 @@ impl<T: Parkable + Drop> YardState<T> {
         })
     }
 
-    /// Parks an item on a semaphore, behind all that are parked there. If an allocation fails the item is handed back, and
-    /// all is as it was.
+    /// Parks an item on a semaphore, behind all that are parked there. If an allocation fails the item is handed back,
+    /// and all is as it was.
     pub fn park_in(&mut self, sem: u32, item: T) -> Result<(), Back<T>>
         requires in_range { sem < length self.old.lists }
         requires waits { T.waits_at item self.old.home sem }
@@ -63,8 +63,8 @@ impl<T: Parkable + Drop> YardState<T> {
         self.queues[sem as usize].push_last(item)
     }
 
-    /// Parks an item on a semaphore, before all that are parked there, so that an item that was woken can go back to its
-    /// place. If an allocation fails the item is handed back, and all is as it was.
+    /// Parks an item on a semaphore, before all that are parked there, so that an item that was woken can go back to
+    /// its place. If an allocation fails the item is handed back, and all is as it was.
     pub fn park_first(&mut self, sem: u32, item: T) -> Result<(), Back<T>>
         requires in_range { sem < length self.old.lists }
         requires waits { T.waits_at item self.old.home sem }
@@ -77,8 +77,8 @@ impl<T: Parkable + Drop> YardState<T> {
         self.queues[sem as usize].push_first(item)
     }
 
-    /// Wakes the first item that is parked on a semaphore, which is then parked no more. It is `None` exactly where none is
-    /// parked there. It takes no memory.
+    /// Wakes the first item that is parked on a semaphore, which is then parked no more. It is `None` exactly where
+    /// none is parked there. It takes no memory.
     pub fn wake_in(&mut self, sem: u32) -> Option<T>
         requires { sem < length self.old.lists }
         ensures none { IsNone result ↔ (parked_on self.old sem ≡ []) }

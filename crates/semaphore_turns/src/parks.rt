@@ -28,10 +28,11 @@ pub enum Parking<V> {
     Parked(Snapshot<Turn<V>>),
 }
 
-/// Parks a turn that found no unit of the semaphore at a place among those that its task takes, unless it finds one now. It is
-/// parked behind all that wait for the same unit, and the units that it has are put back. For each of them the turn is woken
-/// that was parked for one first. If the turn itself was woken for a unit that it has not come to, the next that is parked
-/// for that one is woken in its place. If an allocation fails the turn is given up, and nothing is woken.
+/// Parks a turn that found no unit of the semaphore at a place among those that its task takes, unless it finds one
+/// now. It is parked behind all that wait for the same unit, and the units that it has are put back. For each of them
+/// the turn is woken that was parked for one first. If the turn itself was woken for a unit that it has not come to,
+/// the next that is parked for that one is woken in its place. If an allocation fails the turn is given up, and nothing
+/// is woken.
 pub fn park_turn<V: Drop>(
     table: &NetTable<V>,
     net: &Net,

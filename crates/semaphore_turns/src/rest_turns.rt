@@ -77,8 +77,8 @@ fn take_from<V: Drop>(
     RestTurns { rest, sems }
 }
 
-/// Parks the turns of a rest again, the last first, each before what is parked on its semaphore. If an allocation fails they
-/// are given up.
+/// Parks the turns of a rest again, the last first, each before what is parked on its semaphore. If an allocation fails
+/// they are given up.
 pub(crate) fn park_again<V: Drop>(
     table: &NetTable<V>,
     yard: &mut TurnYard<V>,

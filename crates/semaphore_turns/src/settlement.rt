@@ -30,7 +30,7 @@ pub enum Settled<V> {
 // What a look at parked turns found.
 #[derive(Drop)]
 pub(crate) enum Look<V> {
-    // So many turns are live, more than were looked at, or none is parked.
+    // So many turns are live: more than were looked at, or just those while others are parked; or none is parked.
     Busy(u64),
     // These are all the live turns, and whether a start of the run has faulted.
     Alone(RestTurns<V>, bool),
@@ -45,10 +45,10 @@ pub(crate) enum UnitSearch<V> {
     Full(RestTurns<V>),
 }
 
-/// Decides what becomes of parked turns. If all live turns of the table are parked, and a start of the run has faulted, it drops
-/// them for that. If none has, the first that is parked on a semaphore with a unit goes on, and the others stay parked in their
-/// order; where there is none it drops all, each for want of a unit of the semaphore on which it is parked. If an
-/// allocation fails what is parked may be given up.
+/// Decides what becomes of parked turns. If all live turns of the table are parked, and a start of the run has faulted,
+/// it drops them for that. If none has, the first that is parked on a semaphore with a unit goes on, and the others
+/// stay parked in their order; where there is none it drops all, each for want of a unit of the semaphore on which it
+/// is parked. If an allocation fails what is parked may be given up.
 pub fn settle<V: Drop>(
     table: &NetTable<V>,
     net: &Net,

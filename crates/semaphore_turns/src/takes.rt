@@ -18,8 +18,8 @@ pub enum TakenUnits<V> {
     Lacks(Turn<V>, usize),
 }
 
-/// Takes a unit of each semaphore that the task of a turn takes, the least first, until one has none. The turn has those of
-/// the first `from` already.
+/// Takes a unit of each semaphore that the task of a turn takes, the least first, until one has none. The turn has
+/// those of the first `from` already.
 pub fn take_units<V: Drop>(
     table: &NetTable<V>,
     net: &Net,

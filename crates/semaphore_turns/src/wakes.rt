@@ -9,8 +9,8 @@ ghost use Rattle.semaphore_turns.specs.YardTurns.{WakesFirst};
 use crate::parked_turn::TurnYard;
 use crate::ready_turn::ReadyTurn;
 
-/// For each of these semaphores, of which a unit is back, wakes the turn that was parked there first, where one is parked. It
-/// takes no memory.
+/// For each of these semaphores, of which a unit is back, wakes the turn that was parked there first, where one is
+/// parked. It takes no memory.
 pub fn wake_turns<V: Drop>(yard: &mut TurnYard<V>, sems: &[u32], ready: &mut Vec<ReadyTurn<V>>)
     requires in_range { AllByRecursion (λ sem. sem < length yard.old.lists) sems.now }
     requires room { vec_len ready.old + length sems.now ≤ vec_capacity ready.old }

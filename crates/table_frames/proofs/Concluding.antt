@@ -1,5 +1,5 @@
 -- What a step comes to.
-use Rattle.std.proofs.Common.{◌≡◌, ℕ, ◌+◌, ◌≤◌, inl, inr, Bool, true, false, ◌||◌, List, [], ◌∷◌, ◌++◌, length, map, Option, Some, None, Result, Ok, Err, refl, sym, ap, ◌∙◌, subst, arith, get_or}
+use Rattle.std.proofs.Common.{◌≡◌, ℕ, ◌≤◌, inl, inr, Bool, true, false, ◌||◌, List, [], ◌∷◌, ◌++◌, length, map, Option, Some, None, Result, Ok, Err, refl, sym, ap, ◌∙◌, subst, arith, get_or}
 use Rattle.std.specs.Prelude.{All, IfOk}
 use Rattle.std.specs.List.{list_any}
 use Rattle.std.specs.declared.snapshot.Snapshot.{Snapshot}
@@ -14,12 +14,20 @@ use Rattle.semaphore_turns.specs.WokenTurns.{ParksTurn, WaitedFor, Wakes}
 use Rattle.semaphore_turns.specs.declared.parks.Parking.TheVariants.{Parked, Taken}
 use Rattle.task_graph.specs.NetRows.{NetRows}
 use Rattle.atomic_table.specs.Seated.{TableId}
-use Rattle.join_tables.specs.States.{FreshState, TableState, TurnState, fresh_state}
+use Rattle.join_tables.specs.States.{FreshState, RunningState, TableState, TurnState, fresh_state}
 use Rattle.join_tables.specs.declared.fates.Fate.{Fate}
 use Rattle.run_frame.specs.Meaning.{Meaning}
 use Rattle.table_frames.specs.Frames.{AtFrame, BacklogView, FrameKey, HasTable, ReleaseView, backlog_view, release_in, table_in}
 use Rattle.table_frames.specs.StepReleases.{GivesEdges, IsFateOf, MayRelease, Uses, given_by}
-use Rattle.table_frames.specs.Steps.{BeginsFrame, IsStateOf, StepsRelease, StepsTo, units_of}
+use Rattle.table_frames.specs.Steps.{BeginsFrame, IsStateOf, StepsRelease, StepsTo, UsesRelease, units_of}
+use Rattle.join_words.specs.Ins.{found_of, parts_of}
+use Rattle.table_steps.specs.OneJournal.{AreInOneJournal}
+use Rattle.join_tables.specs.Keeping.{start_of, with_places}
+use Rattle.join_tables.specs.Parts.{parts_in}
+use Rattle.run_frame.specs.declared.job.Done.TheVariants.{Inner as InnerJob}
+use Rattle.table_frames.specs.inside.Openings.{OpensFrame, TriesAt}
+use Rattle.table_frames.specs.declared.attempt.InnerBegun.{InnerBegun}
+use Rattle.table_frames.specs.declared.attempt.Tried.TheVariants.{Inner as InnerTried}
 use Rattle.table_frames.specs.inside.Attempts.{IsAgain, TriesRelease, again_list, release_tried, units_due}
 use Rattle.table_frames.specs.inside.CollectedRelease.{IsTakenIn}
 use Rattle.table_frames.specs.declared.table_run.TakenUp.{TakenUp}
@@ -29,7 +37,7 @@ use Rattle.table_frames.specs.declared.attempt.Attempt.{Attempt}
 use Rattle.table_frames.specs.declared.attempt.Outcome.{Outcome}
 use Rattle.table_frames.specs.declared.attempt.Outcome.TheVariants.{Ends, Faults, Drops}
 use Rattle.table_frames.specs.declared.step_results.State.{State}
-use Rattle.table_frames.specs.declared.step_results.State.TheVariants.{Went, Parked as ParkedState, Inner as InnerState, Closed as ClosedState}
+use Rattle.table_frames.specs.declared.step_results.State.TheVariants.{Went, Parked as ParkedState, Inner as InnerState, Resumed as ResumedState, Closed as ClosedState}
 use Rattle.table_frames.specs.declared.step_results.Stepped.{Stepped}
 use Rattle.table_frames.specs.declared.table_run.Begun.{Begun}
 use Rattle.table_frames.proofs.Handing.{all_in}
@@ -60,7 +68,7 @@ due_few net n (Ends ending) = omega (arith, length-append (taken_by net ending.r
 due_few net n (Faults running why) = omega arith
 due_few net n (Drops turn why) = omega (arith, length-append (taken_by net turn.task) (put_by net turn.task))
 
-wakes_due : {V : Type 0} (table : TableState) (outcome : Outcome V) (before after : List FreshState) → Wakes table (units_due table.net outcome) before after → Wakes table (units_of table.net (release_tried table.table outcome).task) before after
+pub wakes_due : {V : Type 0} (table : TableState) (outcome : Outcome V) (before after : List FreshState) → Wakes table (units_due table.net outcome) before after → Wakes table (units_of table.net (release_tried table.table outcome).task) before after
 wakes_due table outcome before after wakes = record {
   woken = wakes.woken;
   after_is = wakes.after_is;
@@ -71,8 +79,29 @@ wakes_due table outcome before after wakes = record {
     each : (release : FreshState) → WaitedFor table (units_due table.net outcome) release → WaitedFor table (units_of table.net (release_tried table.table outcome).task) release
     each release waited = record { table_is = waited.table_is; takes = due_listed (λ sem. takes table.net sem release.task) table.net table.table outcome waited.takes }
 
+pub same_tried : {V : Type 0} (n : TableId) (outcome : Outcome V) → fresh_state n (release_tried n outcome).task (release_tried n outcome).cause ≡ release_tried n outcome
+same_tried n (Ends ending) = refl
+same_tried n (Faults running why) = refl
+same_tried n (Drops turn why) = refl
+
+-- the release of an attempt is used up
+abbrev pub used_up : {J V : Type 0} (meaning : Meaning J V) (frames : List (FrameKey J)) (attempt : Attempt J V) (mid old new : BacklogView J V) (made : List FreshState) → mid.fates ≡ old.fates → (concludes : Concludes meaning frames attempt mid new made)
+    → UsesRelease meaning concludes.frame (release_in frames (release_tried concludes.frame.table attempt.outcome)) old new made
+used_up meaning frames attempt mid old new made same concludes =
+    let frame = concludes.frame in
+    record {
+      fate = concludes.fate;
+      run = attempt.inner;
+      by_end = concludes.by_end;
+      allowed = concludes.allowed;
+      journal = concludes.journal;
+      uses = subst (λ r. Uses (meaning.net frame.job) r concludes.fate [] concludes.by_end) (sym (same_tried frame.table attempt.outcome)) concludes.uses;
+      wakes = wakes_due (table_in meaning frame) attempt.outcome concludes.by_end made concludes.wakes;
+      backlog = concludes.backlog ∙ ap (λ fs. backlog_view frames (fs ++ concludes.fate ∷ [])) same;
+    }
+
 -- a step that used its release up
-pub steps_release : {J V : Type 0} (meaning : Meaning J V) (frames : List (FrameKey J)) (fresh : FreshState) (attempt : Attempt V) (old mid new : BacklogView J V) (made : List FreshState) (stepped : Stepped J V) → HasTable frames fresh.table → mid.fates ≡ old.fates → Concludes meaning frames attempt mid new made → TriesRelease frames attempt fresh
+pub steps_release : {J V : Type 0} (meaning : Meaning J V) (frames : List (FrameKey J)) (fresh : FreshState) (attempt : Attempt J V) (old mid new : BacklogView J V) (made : List FreshState) (stepped : Stepped J V) → HasTable frames fresh.table → mid.fates ≡ old.fates → Concludes meaning frames attempt mid new made → TriesRelease frames attempt fresh
     → stepped.released.items ≡ map (release_in frames) made → stepped.state ≡ Went → StepsRelease meaning (release_in frames fresh) old new stepped
 steps_release {J} meaning frames fresh attempt old mid new made stepped has same concludes tries released state =
     let frame = concludes.frame in
@@ -87,6 +116,7 @@ steps_release {J} meaning frames fresh attempt old mid new made stepped has same
       made = made;
       to = subst (StepsTo meaning frame (release_in frames fresh) old new made) (sym state) (record {
         fate = concludes.fate;
+        run = attempt.inner;
         by_end = concludes.by_end;
         allowed = concludes.allowed;
         journal = concludes.journal;
@@ -102,6 +132,46 @@ steps_release {J} meaning frames fresh attempt old mid new made stepped has same
 may_again : (n : TableId) (t : ℕ) (cause : Cause) (woken : List FreshState) (again : Option FreshState) → IsAgain n t cause again → MayRelease n t cause woken (woken ++ again_list again)
 may_again n t cause woken None is = record { again = []; after_is = refl; is = inl refl }
 may_again n t cause woken (Some again) is = record { again = again ∷ []; after_is = refl; is = inr (is.0, ap (λ f. f ∷ []) is.1) }
+
+-- the Start of such a release is in one journal
+abbrev StandsAs : {J V : Type 0} → Meaning J V → RunningState V → J → FreshState → Type 0
+StandsAs meaning r job f = AreInOneJournal (meaning.net job) (meaning.limit job) (with_places (start_of r.place f.task f.cause (parts_in r.ins) ∷ []))
+
+-- a step that opened a run for it
+pub opens_release : {J V : Type 0} (meaning : Meaning J V) (frames : List (FrameKey J)) (fresh : FreshState) (inner : InnerBegun J V) (old new : BacklogView J V) (stepped : Stepped J V) → TriesAt meaning frames fresh (InnerTried inner) → OpensFrame meaning frames inner stepped → new ≡ backlog_view frames old.fates → StepsRelease meaning (release_in frames fresh) old new stepped
+opens_release meaning [] fresh inner old new stepped tries opens backlog = absurd tries
+opens_release {J} {V} meaning (frame ∷ around) fresh inner old new stepped tries opens backlog =
+    let r = inner.start.running in
+    let is = tries.0 in
+    let of = tries.1 in
+    let task : r.task ≡ fresh.task = ap (λ (f : FreshState). f.task) of in
+    let cause : r.cause ≡ fresh.cause = ap (λ (f : FreshState). f.cause) of in
+    record {
+      frame = frame;
+      around = around;
+      frames_are = refl;
+      made = again_list inner.again;
+      to = subst (StepsTo meaning frame (release_in (frame ∷ around) fresh) old new (again_list inner.again)) (sym opens.state) (record {
+        place = r.place;
+        ins = r.ins;
+        journal = subst (λ (f : FreshState). StandsAs meaning r frame.job f) of (subst (λ (k : FrameKey J). StandsAs meaning r k.job (fresh_state frame.table r.task r.cause)) is.frame_is is.start.journal);
+        inner = inner.begun.run;
+        answered = subst (λ (t : ℕ). meaning.answers frame.job t (map found_of (parts_of r.ins)) (InnerJob inner.begun.run.job)) task
+            (subst (λ (k : FrameKey J). meaning.answers k.job r.task (map found_of (parts_of r.ins)) (InnerJob inner.begun.run.job)) is.frame_is is.start.answered);
+        first_are = opens.first_are ∙ ap (map (release_in (inner.begun.run ∷ frame ∷ around))) is.begins.first;
+        some = λ none. is.some (none_left_in inner.begun.fresh.items (sym opens.first_are ∙ none));
+        again = subst (λ (c : Cause). MayRelease frame.table fresh.task c [] (again_list inner.again)) cause
+            (subst (λ (t : ℕ). MayRelease frame.table t r.cause [] (again_list inner.again)) task (may_again frame.table r.task r.cause [] inner.again is.again));
+        backlog = backlog;
+      });
+      released = opens.released;
+      frames = subst (All (λ (next : ReleaseView J). next.frames ≡ frame ∷ around)) (sym opens.released) (all_in (frame ∷ around) (again_list inner.again));
+      backlog = ap (λ (b : BacklogView J _). b.frames) backlog;
+    }
+  where
+    none_left_in : (fs : List FreshState) → map (release_in (inner.begun.run ∷ frame ∷ around)) fs ≡ [] → fs ≡ []
+    none_left_in [] is = refl
+    none_left_in (f ∷ fs) is = absurd (cc)
 
 -- a step that parked it
 pub parks_release : {J V : Type 0} (meaning : Meaning J V) (frames : List (FrameKey J)) (taken : TakenUp V) (turn : Snapshot TurnState) (old new : BacklogView J V) (woken made : List FreshState) (stepped : Stepped J V) → AtFrame frames (λ key. IsTakenIn key taken)
@@ -149,9 +219,10 @@ steps_from {J} {V} meaning release old mid new stepped same steps = record {
 }
   where
     by_state : (state : State J V) → StepsTo meaning steps.frame release mid new steps.made state → StepsTo meaning steps.frame release old new steps.made state
-    by_state Went u = record { fate = u.fate; by_end = u.by_end; allowed = u.allowed; journal = u.journal; uses = u.uses; wakes = u.wakes; backlog = u.backlog ∙ ap (λ fs. backlog_view release.frames (fs ++ u.fate ∷ [])) same }
+    by_state Went u = record { fate = u.fate; run = u.run; by_end = u.by_end; allowed = u.allowed; journal = u.journal; uses = u.uses; wakes = u.wakes; backlog = u.backlog ∙ ap (λ fs. backlog_view release.frames (fs ++ u.fate ∷ [])) same }
     by_state (ParkedState turn) p = record { is = p.is; sem = p.sem; waits = p.waits; none = p.none; woken = p.woken; wakes = p.wakes; again = p.again; backlog = p.backlog ∙ ap (backlog_view release.frames) same }
-    by_state InnerState u = absurd u
+    by_state (InnerState first) o = record { place = o.place; ins = o.ins; journal = o.journal; inner = o.inner; answered = o.answered; first_are = o.first_are; some = o.some; again = o.again; backlog = o.backlog ∙ ap (backlog_view release.frames) same }
+    by_state (ResumedState releases) u = absurd u
     by_state (ClosedState run) u = absurd u
 
 pub ok_steps : {J V E : Type 0} (meaning : Meaning J V) (other release : ReleaseView J) (old mid new : BacklogView J V) (result : Result (Stepped J V) E) → other ≡ release → mid.fates ≡ old.fates → IfOk result (StepsRelease meaning other mid new) → IfOk result (StepsRelease meaning release old new)

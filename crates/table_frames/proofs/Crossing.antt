@@ -2,6 +2,7 @@
 -- since a search for all at once gives up.
 use denote.RattleType.{RattleType}
 use denote.Param.Send.{IsSend, IsSync, sendable}
+use denote.Param.SendFields.{declared_send}
 use Rattle.std.proofs.Crossing.{crosses, frees}
 use Rattle.std.proofs.alloc.Global.TheSendSync as heap
 use Rattle.std.proofs.option.Option.TheSendSync as option
@@ -9,11 +10,14 @@ use Rattle.atomic_table.proofs.shared.Seat.TheSendSync as seat
 use Rattle.atomic_table.proofs.shared.Shared.TheSendSync as shared
 use Rattle.atomic_table.proofs.send_lease.SendLease.TheSendSync as lease
 use Rattle.boxcar.proofs.tag.Tag.TheSendSync as tag
+use Rattle.run_frame.proofs.run.FrameRun.TheLaws.TheKnot as run_knot
+use Rattle.run_frame.specs.contracts.run.InnerRow as inner_row
 use Rattle.run_frame.specs.declared.job.Job as Job
 use Rattle.run_frame.specs.declared.job.Valued as Valued
 use Rattle.join_tables.proofs.Crossing as turns
 use Rattle.join_tables.specs.contracts.turns.Fresh as fresh
 use Rattle.join_tables.specs.contracts.turns.NetTable as table
+use Rattle.join_tables.specs.contracts.turns.Running as running
 use Rattle.join_tables.specs.contracts.batch.SpentBatch as batch
 use Rattle.join_tables.specs.contracts.keeper.Keeper as keeper
 use Rattle.semaphore_park.proofs.Crossing as yards
@@ -24,8 +28,12 @@ use Rattle.semaphore_turns.specs.contracts.parked_turn.ParkedTurnParkable.TheImp
 use Rattle.semaphore_turns.specs.contracts.ready_turn.ReadyTurn as ready_turn
 use Rattle.table_frames.specs.contracts.table_run.TableRun as table_run
 use Rattle.table_frames.specs.contracts.run_keeper.RunKeeper as run_keeper
+use Rattle.table_frames.specs.contracts.open_start.OpenStart as open_start
+use Rattle.table_frames.specs.contracts.locked_run.LockedRun as locked_run
+use Rattle.table_frames.specs.contracts.done_turns.DoneTurns as done_turns
 use Rattle.table_frames.specs.contracts.frame.Frame as frame
 use Rattle.table_frames.specs.contracts.frame_batch.FrameBatch as frame_batch
+use Rattle.table_frames.specs.contracts.frame_batch.FrameBatch.TheInside as frame_batch_inside
 use Rattle.table_frames.specs.contracts.release.Release as release
 use Rattle.table_frames.specs.contracts.backlog.Backlog as backlog
 use Rattle.table_frames.proofs.frame.Frame.TheLaws.TheKnot as frame_knot
@@ -58,8 +66,20 @@ module _ (T V : RattleType) (J : Job.Ghosts T.Denot V.Denot) (W : Valued.Ghosts 
   yard_sync : IsSync (yard.the_row (parked_turn.the_row V) (table.the_row V) (parkable.ghosts V))
   yard_sync = yards.yard_sync (parked_turn.the_row V) (table.the_row V) (parkable.ghosts V) (units.parked_send V sv yv)
 
+  row_send : IsSend (inner_row.the_row T V)
+  row_send = search (run_knot.crosses, tables) depth 60 fits 20000
+
+  running_send : IsSend (running.the_row V)
+  running_send = turns.running_send V sv yv
+
   run_keeper_send : IsSend (run_keeper.the_row T V J)
-  run_keeper_send = search (keeper_send, tables) depth 60 fits 20000
+  run_keeper_send = search (keeper_send, row_send, tables) depth 60 fits 20000
+
+  open_start_send : IsSend (open_start.the_row T V J)
+  open_start_send = search (running_send, tables) depth 60 fits 20000
+
+  locked_send : IsSend (locked_run.the_row T V J)
+  locked_send = search (run_keeper_send, open_start_send, tables) depth 60 fits 20000
 
   run_send : IsSend (table_run.the_row T V J)
   run_send = search (table_send, tables) depth 60 fits 20000
@@ -68,16 +88,22 @@ module _ (T V : RattleType) (J : Job.Ghosts T.Denot V.Denot) (W : Valued.Ghosts 
   run_sync = search (table_sync, tables) depth 60 fits 20000
 
   pub frame_send : IsSend (frame.the_row T V J W)
-  frame_send = search (run_keeper_send, run_send, run_sync, yard_send, yard_sync, frame_knot.crosses, tables) depth 60 fits 20000
+  frame_send = search (locked_send, run_send, run_sync, yard_send, yard_sync, frame_knot.crosses, tables) depth 60 fits 20000
 
   pub frame_sync : IsSync (frame.the_row T V J W)
-  frame_sync = search (run_keeper_send, run_send, run_sync, yard_send, yard_sync, frame_knot.crosses, tables) depth 60 fits 20000
+  frame_sync = search (locked_send, run_send, run_sync, yard_send, yard_sync, frame_knot.crosses, tables) depth 60 fits 20000
 
   pub release_send : IsSend (release.the_row T V J W)
   release_send = search (frame_send, frame_sync, ready_send, tables) depth 60 fits 20000
 
+  done_send : IsSend (done_turns.the_row T V)
+  done_send = search (batch_send, row_send, tables) depth 60 fits 20000
+
+  frame_batch_fields : IsSend (frame_batch_inside.the_row T V J W)
+  frame_batch_fields = declared_send (frame_batch_inside.the_type T V J W) (search (frame_send, frame_sync, tables) depth 60 fits 20000, (search (done_send, tables) depth 60 fits 20000, tt))
+
   frame_batch_send : IsSend (frame_batch.the_row T V J W)
-  frame_batch_send = search (frame_send, frame_sync, batch_send, tables) depth 60 fits 20000
+  frame_batch_send = search (frame_batch_fields, sendable)
 
   pub backlog_send : IsSend (backlog.the_row T V J W)
   backlog_send = search (frame_batch_send, ready_send, tables) depth 60 fits 20000

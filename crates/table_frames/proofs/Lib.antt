@@ -1,4 +1,5 @@
 pub mod Rows
+pub mod Runs
 pub mod Working
 pub mod Entries
 mod Finishing
@@ -8,4 +9,6 @@ pub mod Making
 pub mod Handing
 pub mod Concluding
 pub mod Settling
+pub mod Opening
+pub mod Closing
 pub mod Crossing

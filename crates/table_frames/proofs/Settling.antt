@@ -1,5 +1,5 @@
 -- What a look at the parked releases of a frame leads to.
-use Rattle.std.proofs.Common.{◌≡◌, ℕ, ◌-◌, ◌<◌, [], ◌∷◌, ◌++◌, length, reverse, List, Option, Some, None, sym, ap, subst, arith}
+use Rattle.std.proofs.Common.{◌≡◌, ℕ, ◌-◌, [], ◌∷◌, ◌++◌, length, reverse, List, Option, Some, None, sym, ap, subst, arith}
 use Rattle.std.specs.Prelude.{All}
 use Rattle.std.specs.declared.snapshot.Snapshot.{Snapshot}
 use Rattle.semaphore_turns.specs.Semaphores.{taken_by}

@@ -1,25 +1,85 @@
 -- What became of releases, by what their job allows.
-use Rattle.std.specs.Prelude.{◌≡◌, ℕ, false, List, map}
+use Rattle.std.specs.Prelude.{◌≡◌, ℕ, Bool, true, false, List, [], ◌∷◌, flat_map, map, IfSome, Option, Some, None}
 use Rattle.std.specs.List.{AllByRecursion}
 use Rattle.std.specs.Arc.{arc_value}
+use Rattle.journal_rules.specs.declared.entry.Why.{Why}
 use Rattle.join_words.specs.Ins.{found_of, parts_of}
 use Rattle.join_words.specs.declared.ins.Ins.{Ins}
 use Rattle.join_tables.specs.declared.fates.Fate.{Fate}
 use Rattle.join_tables.specs.declared.fates.Fate.TheVariants.{Ended, Faulted, Dropped, AllDropped}
+use Rattle.run_frame.specs.Legal.{IsKept}
 use Rattle.run_frame.specs.Meaning.{Meaning}
+use Rattle.run_frame.specs.NestedRule.{InnerEnd, InnerWhy, IsInnerOf}
 use Rattle.run_frame.specs.WorkRule.{Work, Answers, FaultAllowed}
+use Rattle.run_frame.specs.declared.run.FrameRun.{FrameRun}
+use Rattle.run_frame.specs.declared.run.InnerRow.{InnerRow, out-InnerRow}
 
 -- the work of a start of this task that found these inputs
 abbrev pub work_with : {V : Type 0} → ℕ → Ins V → Work V
 work_with t ins = record { task = t; found = map found_of (parts_of ins) }
 
--- The value with which a start ended and the edges that it gave, or the reason for which it faulted, are of the work that the
--- job allows on what the start found. No start has a run of its own yet.
-abbrev pub IsAllowed : {J V : Type 0} → Meaning J V → J → Fate V → Type 0
-IsAllowed meaning job (Ended e) = Answers meaning job (work_with e.task e.found.ins.value) (arc_value e.value) e.gives × (e.inner ≡ false)
-IsAllowed meaning job (Faulted f) = FaultAllowed meaning job (work_with f.task f.found.ins.value) f.why
-IsAllowed meaning job (Dropped d) = Unit {0}
-IsAllowed meaning job (AllDropped drops) = Unit {0}
+-- An End with this value and these edges comes from what the job answers: from a value, or, where it is an inner End, from the
+-- run of a job.
+abbrev pub EndAllowed : {J V : Type 0} → Meaning J V → J → Work V → V → List ℕ → Bool → Option (FrameRun J V) → Type 0
+EndAllowed meaning job work v gives false None = Answers meaning job work v gives
+EndAllowed meaning job work v gives true (Some run) = InnerEnd meaning job work v gives run
+EndAllowed meaning job work v gives _ _ = ⊥
 
-abbrev pub AreAllowed : {J V : Type 0} → Meaning J V → J → List (Fate V) → Type 0
-AreAllowed meaning job fates = AllByRecursion (IsAllowed meaning job) fates
+-- So does a Fault, for a reason of the work's own or for one that the run of a job gives.
+abbrev pub WhyAllowed : {J V : Type 0} → Meaning J V → J → Work V → Why → Option (FrameRun J V) → Type 0
+WhyAllowed meaning job work why None = FaultAllowed meaning job work why
+WhyAllowed meaning job work why (Some run) = IsInnerOf meaning job work run × InnerWhy meaning run why
+
+-- The value with which a start ended and the edges that it gave, or the reason for which it faulted, are of the work that the
+-- job allows on what the start found, with the run that was made in place of the work, if one was. A release that was dropped
+-- made none.
+abbrev pub FateAllowed : {J V : Type 0} → Meaning J V → J → Fate V → Option (FrameRun J V) → Type 0
+FateAllowed meaning job (Ended e) run = EndAllowed meaning job (work_with e.task e.found.ins.value) (arc_value e.value) e.gives e.inner run
+FateAllowed meaning job (Faulted f) run = WhyAllowed meaning job (work_with f.task f.found.ins.value) f.why run
+FateAllowed meaning job (Dropped d) run = run ≡ None
+FateAllowed meaning job (AllDropped drops) run = run ≡ None
+
+-- The same, and that run may be kept.
+pub record IsAllowed {J V : Type 0} (meaning : Meaning J V) (job : J) (fate : Fate V) (run : Option (FrameRun J V)) : Type 0 where
+  pub by_job : FateAllowed meaning job fate run
+  pub kept : IfSome run (IsKept meaning)
+
+-- what became of a release, with the run that its start made, if it made one
+pub record FateWithRun (J V : Type 0) : Type 0 where
+  pub fate : Fate V
+  pub run : Option (FrameRun J V)
+
+-- a run inside another, and the place there of the End or the Fault that it led to
+pub record PlacedRun (J V : Type 0) : Type 0 where
+  pub place : ℕ
+  pub run : FrameRun J V
+
+-- the place of the End or the Fault of a start
+abbrev pub closing_place : {V : Type 0} → Fate V → ℕ
+closing_place (Ended e) = e.place
+closing_place (Faulted f) = f.place
+closing_place _ = 0
+
+abbrev pub run_at : {J V : Type 0} → ℕ → Option (FrameRun J V) → List (PlacedRun J V)
+run_at n None = []
+run_at n (Some run) = record { place = n; run = run } ∷ []
+
+abbrev pub placed_run : {J V : Type 0} → FateWithRun J V → List (PlacedRun J V)
+placed_run turn = run_at (closing_place turn.fate) turn.run
+
+abbrev pub placed_runs : {J V : Type 0} → List (FateWithRun J V) → List (PlacedRun J V)
+placed_runs turns = flat_map placed_run turns
+
+-- the same of the rows of a run
+abbrev pub in_row : {J V : Type 0} → InnerRow J V → PlacedRun J V
+in_row {J} {V} row = record { place = (out-InnerRow J V row).place; run = (out-InnerRow J V row).run }
+
+abbrev pub in_rows : {J V : Type 0} → List (InnerRow J V) → List (PlacedRun J V)
+in_rows rows = map in_row rows
+
+-- The job allows these fates, with the runs in these rows.
+pub record AreAllowed {J V : Type 0} (meaning : Meaning J V) (job : J) (fates : List (Fate V)) (rows : List (InnerRow J V)) : Type 0 where
+  pub turns : List (FateWithRun J V)
+  pub fates_are : map (λ (turn : FateWithRun J V). turn.fate) turns ≡ fates
+  pub rows_are : placed_runs turns ≡ in_rows rows
+  pub each : AllByRecursion (λ (turn : FateWithRun J V). IsAllowed meaning job turn.fate turn.run) turns

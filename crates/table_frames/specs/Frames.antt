@@ -25,16 +25,25 @@ pub record ReleaseView (J : Type 0) : Type 0 where
 abbrev pub release_in : {J : Type 0} → List (FrameKey J) → FreshState → ReleaseView J
 release_in frames fresh = record { frames = frames; task = fresh.task; cause = fresh.cause }
 
+-- the frame that is in no other
+abbrev pub root_frame : {J : Type 0} → List (FrameKey J) → Option (FrameKey J)
+root_frame [] = None
+root_frame (frame ∷ []) = Some frame
+root_frame (frame ∷ around ∷ more) = root_frame (around ∷ more)
+
 -- the job of the frame that is in no other
 abbrev pub root_job : {J : Type 0} → List (FrameKey J) → Option J
 root_job [] = None
 root_job (frame ∷ []) = Some frame.job
 root_job (frame ∷ around ∷ more) = root_job (around ∷ more)
 
--- how many frames a frame is inside, up to the greatest u32
+-- how many frames a frame is inside, up to the greatest u32: those around it
+abbrev pub depth_inside : {J : Type 0} → List (FrameKey J) → ℕ
+depth_inside around = min (length around) 4294967295
+
 abbrev pub depth_of : {J : Type 0} → List (FrameKey J) → ℕ
 depth_of [] = 0
-depth_of (frame ∷ around) = min (length around) 4294967295
+depth_of (frame ∷ around) = depth_inside around
 
 -- the keys of a frame and of the frames around it
 abbrev pub frames_around : {J : Type 0} → Option (Arc (List (FrameKey J)) Global) → List (FrameKey J)

@@ -8,8 +8,6 @@ use Rattle.join_tables.specs.declared.keeper.Recorded.{Recorded}
 use Rattle.run_frame.specs.Meaning.{Meaning}
 use Rattle.run_frame.specs.NestedRule.{journal_of}
 use Rattle.run_frame.specs.declared.run.FrameRun.{FrameRun}
-use Rattle.table_frames.specs.declared.step_results.State.{State}
-use Rattle.table_frames.specs.declared.step_results.State.TheVariants.{Went, Parked, Inner, Closed}
 
 -- The entries of a fate are, at their places, in one journal that is legal as far as the job's net decides and whose starts
 -- find what they may.
@@ -19,10 +17,3 @@ IsInJournal meaning job fate = AreInOneJournal (meaning.net job) (meaning.limit 
 -- A run has the entries of these fates at their places.
 abbrev pub HasEntries : {J V : Type 0} → FrameRun J V → List (Fate V) → Type 0
 HasEntries run fates = AllByRecursion (λ (r : Recorded). slice_get (journal_of run) r.place ≡ Some r.entry) (entries_told fates)
-
--- So has one that is given out.
-abbrev pub HasEntriesOf : {J V : Type 0} → State J V → List (Fate V) → Type 0
-HasEntriesOf Went fates = Unit {0}
-HasEntriesOf (Parked turn) fates = Unit {0}
-HasEntriesOf Inner fates = Unit {0}
-HasEntriesOf (Closed run) fates = HasEntries run fates

@@ -1,104 +1,100 @@
 // Runs by one thread.
-ghost use Rattle.std.specs.Prelude.{◌≡◌, ◌≤◌, ◌+◌, ◌++◌, [], reverse, IfOk, OnOk};
+ghost use Rattle.std.specs.Prelude.{◌≡◌, ◌≤◌, ◌+◌, ◌++◌, [], reverse, IfOk, IfSome, OnOk, Some};
 ghost use Rattle.std.specs.Vec.{vec_capacity, vec_len};
 ghost use Rattle.std.specs.Arc.{arc_value};
-ghost use Rattle.join_tables.specs.Keeping.{TellsRun, entries_told};
-ghost use Rattle.run_frame.specs.FlatNets.{IsFlatNet};
 ghost use Rattle.run_frame.specs.Legal.{IsKept};
 ghost use Rattle.run_frame.specs.NestedRule.{job_of};
-ghost use Rattle.table_frames.specs.Frames.{key_of};
+ghost use Rattle.table_frames.specs.Frames.{root_job};
 ghost use Rattle.semaphore_turns.specs.HeldUnits.{HoldsAll, LacksUnit};
 ghost use Rattle.table_frames.specs.inside.Benches.{IsBenchOf};
 ghost use Rattle.table_frames.specs.inside.CollectedRelease.{IsTakenIn};
-ghost use Rattle.table_frames.specs.inside.Runs.{IsNoBatch};
+ghost use Rattle.table_frames.specs.inside.Attempts.{IsAttemptIn};
+ghost use Rattle.table_frames.specs.inside.Openings.{IsInnerIn};
+ghost use Rattle.table_frames.specs.inside.Runs.{AreOf};
 
-use super::run_keeper::RunKeeper;
-use super::table_run::{Begun, TableRun, TakenUp, add_again};
-use join_tables::{Remaining, SpentBatch};
+use super::attempt::{Attempt, InnerBegun, Tried};
+use super::done_turns::{DoneTurn, DoneTurns};
+use super::level::{Level, Next};
+use super::table_run::{TableRun, TakenUp, add_again};
 use outside_io::NoMemory;
 use run_frame::{FrameRun, Job};
 use semaphore_turns::{Parking, ReadyTurn, Settled, TakenUnits, TurnYard, wake_turns};
 use std::alloc::Global;
 use std::sync::{Arc, Wait};
 
-/// Runs a job to its end on the caller's thread. What became ready last is started first, and of what one End released that
-/// of its first edge. It waits for nobody, but no clause says that it returns.
+/// Runs a job to its end on the caller's thread. What became ready last is started first, and of what one End released
+/// that of its first edge. It waits for nobody, but no clause says that it returns.
 pub fn run_alone<J: Job + Drop, R: Wait>(
     rt: &R,
     alloc: Global,
     job: Arc<J>,
 ) -> Result<FrameRun<J>, NoMemory>
-    requires { IsFlatNet (J.meaning.net (arc_value job)) }
     ensures job { IfOk result (λ run. job_of run ≡ arc_value job) }
     ensures kept { IfOk result (IsKept J.meaning) }
 {
-    let Begun { run, fresh, kept } = TableRun::begin(alloc, job)?;
-    if fresh.is_empty() {
-        return kept.finish();
+    let begun = TableRun::begin(alloc, job)?;
+    if begun.fresh.is_empty() {
+        return begun.kept.finish();
     }
-    let yard = run.own_yard()?;
-    let bench = Bench {
-        ready: fresh,
-        made: Vec::new(alloc),
-        batch: SpentBatch::new(alloc),
-        yard,
-    };
-    let kept = step_all(rt, run, bench, kept)?;
-    kept.finish()
+    step_all(rt, Level::new(alloc, begun, None, None)?)
 }
 
-/// What is left to do in a run by one thread, and what is done and not yet with its keeper.
-#[derive(Drop)]
-struct Bench<J: Job> {
-    // Releases that may be taken up, the newest last.
-    ready: Vec<ReadyTurn<J::V>>,
-    // Room for what a step makes.
-    made: Vec<ReadyTurn<J::V>>,
-    batch: SpentBatch<J::V>,
-    yard: TurnYard<J::V>,
-}
-
-// Steps releases, the newest first, until the last turn is done. The table is given up then, before the run is put together.
-fn step_all<J: Job + Drop, R: Wait>(
-    rt: &R,
-    run: TableRun<J>,
-    bench: Bench<J>,
-    kept: RunKeeper<J>,
-) -> Result<RunKeeper<J>, NoMemory>
-    requires kept { key_of kept ≡ run }
-    requires bench { IsBenchOf J.meaning run bench }
-    requires batch { IsNoBatch bench.batch }
-    ensures same { IfOk result (λ kept. key_of kept ≡ run) }
-    ensures all { IfOk result
-        (λ kept. TellsRun (J.meaning.net kept.job) (J.meaning.limit kept.job)
-        (entries_told kept.keeper.fates)) }
+// Goes on with the innermost run, until the outermost is over.
+fn step_all<J: Job + Drop, R: Wait>(rt: &R, level: Level<J>) -> Result<FrameRun<J>, NoMemory>
+    ensures { IfOk result (λ run. IsKept J.meaning run × (root_job level ≡ Some (job_of run))) }
 {
-    let mut bench = bench;
-    let mut kept = kept;
+    let mut level = level;
     for _ in rt.forever() {
-        match bench.ready.pop() {
-            Some(ready) => step(&run, &mut bench, ready)?,
-            None => settle(&run, &mut bench)?,
-        }
-        if !bench.batch.is_empty() {
-            if let Remaining::All = run.keep(&mut kept, &mut bench.batch)? {
-                return Ok(kept);
-            }
+        match level.advance(rt)? {
+            Next::Level(next) => level = next,
+            Next::Run(run) => return Ok(run),
         }
     }
     unreachable!()
 }
 
-// Takes the step of a release. Where it isn't parked its turn is in the batch then, and what it made is ready.
-fn step<J: Job + Drop>(
+/// What is left to do in a run by one thread, and what is done and not yet with its keeper.
+#[derive(Drop)]
+pub(crate) struct Bench<J: Job> {
+    // Releases that may be taken up, the newest last.
+    pub(crate) ready: Vec<ReadyTurn<J::V>>,
+    // Room for what a step makes.
+    made: Vec<ReadyTurn<J::V>>,
+    pub(crate) done: DoneTurns<J>,
+    yard: TurnYard<J::V>,
+}
+
+impl<J: Job + Drop> Bench<J> {
+    /// Of a run that has just begun, with these releases.
+    pub(crate) fn new(
+        alloc: Global,
+        run: &TableRun<J>,
+        ready: Vec<ReadyTurn<J::V>>,
+    ) -> Result<Bench<J>, NoMemory>
+        requires { AreOf run.now.table ready.items }
+        ensures { IfOk result (IsBenchOf J.meaning run.now) }
+    {
+        let yard = run.own_yard()?;
+        Ok(Bench {
+            ready,
+            made: Vec::new(alloc),
+            done: DoneTurns::new(alloc),
+            yard,
+        })
+    }
+}
+
+/// Takes the step of a release. Where it isn't parked and no run begins in place of its work, its turn is done then,
+/// and what it made is ready.
+pub(crate) fn step<J: Job + Drop>(
     run: &TableRun<J>,
     bench: &mut Bench<J>,
     ready: ReadyTurn<J::V>,
-) -> Result<(), NoMemory>
+) -> Result<Option<InnerBegun<J>>, NoMemory>
     requires ready { ready.table ≡ run.now.table }
     requires bench { IsBenchOf J.meaning run.now bench.old }
-    requires batch { IsNoBatch bench.old.batch }
-    ensures { OnOk result (IsBenchOf J.meaning run.now bench.new) }
+    ensures bench { OnOk result (IsBenchOf J.meaning run.now bench.new) }
+    ensures inner { IfOk result (λ inner. IfSome inner (IsInnerIn J.meaning run.now)) }
 {
     let TakenUp { turn, again, woken } = run.take_up(ready)?;
     match run.take_units(turn) {
@@ -113,12 +109,12 @@ fn park<J: Job + Drop>(
     bench: &mut Bench<J>,
     taken: TakenUp<J::V>,
     place: usize,
-) -> Result<(), NoMemory>
+) -> Result<Option<InnerBegun<J>>, NoMemory>
     requires taken { IsTakenIn run.now taken }
     requires lacks { LacksUnit (J.meaning.net run.now.job) place taken.turn }
     requires bench { IsBenchOf J.meaning run.now bench.old }
-    requires batch { IsNoBatch bench.old.batch }
-    ensures { OnOk result (IsBenchOf J.meaning run.now bench.new) }
+    ensures bench { OnOk result (IsBenchOf J.meaning run.now bench.new) }
+    ensures inner { IfOk result (λ inner. IfSome inner (IsInnerIn J.meaning run.now)) }
 {
     let TakenUp { turn, again, woken } = taken;
     let count = run.count_takes(&turn) + 1;
@@ -129,48 +125,65 @@ fn park<J: Job + Drop>(
         Parking::Parked(_) => {
             add_again(&mut bench.made, again);
             add_all(&mut bench.ready, &mut bench.made);
-            Ok(())
+            Ok(None)
         }
     }
 }
 
-// Does the work of a release that has its units, and concludes it.
+// Does the work of a release that has its units, and concludes it unless a run has begun in place of the work.
 fn work<J: Job + Drop>(
     run: &TableRun<J>,
     bench: &mut Bench<J>,
     taken: TakenUp<J::V>,
-) -> Result<(), NoMemory>
+) -> Result<Option<InnerBegun<J>>, NoMemory>
     requires taken { IsTakenIn run.now taken }
     requires holds { HoldsAll (J.meaning.net run.now.job) taken.turn }
     requires bench { IsBenchOf J.meaning run.now bench.old }
-    requires batch { IsNoBatch bench.old.batch }
+    ensures bench { OnOk result (IsBenchOf J.meaning run.now bench.new) }
+    ensures inner { IfOk result (λ inner. IfSome inner (IsInnerIn J.meaning run.now)) }
+{
+    match run.attempt(taken)? {
+        Tried::Done(attempt) => {
+            conclude(run, bench, attempt)?;
+            Ok(None)
+        }
+        Tried::Inner(inner) => Ok(Some(inner)),
+    }
+}
+
+/// Concludes an attempt. Its turn is done then, and what it made is ready.
+pub(crate) fn conclude<J: Job + Drop>(
+    run: &TableRun<J>,
+    bench: &mut Bench<J>,
+    attempt: Attempt<J>,
+) -> Result<(), NoMemory>
+    requires attempt { IsAttemptIn J.meaning run.now attempt }
+    requires bench { IsBenchOf J.meaning run.now bench.old }
     ensures { OnOk result (IsBenchOf J.meaning run.now bench.new) }
 {
-    bench.batch.make_room()?;
-    let attempt = run.attempt(taken)?;
+    bench.done.make_room()?;
     let back = run.units_back(&attempt.outcome);
     let room = attempt.room() + back.len();
     bench.made.reserve(room)?;
     bench.ready.reserve(room)?;
-    let spent = run.conclude(attempt, &mut bench.made);
-    run.gather(&mut bench.batch, spent);
+    let turn = run.conclude(attempt, &mut bench.made);
+    run.gather(&mut bench.done, turn);
     wake_turns(&mut bench.yard, back, &mut bench.made);
     add_all(&mut bench.ready, &mut bench.made);
     Ok(())
 }
 
-// Decides what becomes of parked releases where nothing is ready.
-fn settle<J: Job + Drop>(run: &TableRun<J>, bench: &mut Bench<J>) -> Result<(), NoMemory>
+/// Decides what becomes of parked releases where nothing is ready. No run begins.
+pub(crate) fn settle<J: Job + Drop>(run: &TableRun<J>, bench: &mut Bench<J>) -> Result<(), NoMemory>
     requires bench { IsBenchOf J.meaning run.now bench.old }
-    requires batch { IsNoBatch bench.old.batch }
     ensures { OnOk result (IsBenchOf J.meaning run.now bench.new) }
 {
     bench.ready.reserve(1)?;
-    bench.batch.make_room()?;
+    bench.done.make_room()?;
     match run.settle(&mut bench.yard)? {
         Settled::Waits => {}
         Settled::Goes(ready) => bench.ready.push_reserved(ready),
-        Settled::Over(spent) => run.gather(&mut bench.batch, spent),
+        Settled::Over(spent) => run.gather(&mut bench.done, DoneTurn { spent, inner: None }),
     }
     Ok(())
 }

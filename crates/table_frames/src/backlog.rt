@@ -7,9 +7,9 @@ use semaphore_turns::ReadyTurn;
 use std::alloc::Global;
 use std::marker::Model;
 
-/// What the steps of a worker have done in a frame and the frame hasn't recorded yet. While something is in it the run of the
-/// frame isn't over. A backlog that is dropped is never recorded, so that the run is never closed. A step that parked its
-/// release leaves the backlog of its frame too, so that what is parked is looked at when it is brought.
+/// What the steps of a worker have done in a frame and the frame hasn't recorded yet. While something is in it the run
+/// of the frame isn't over. A backlog that is dropped is never recorded, so that the run is never closed. A step that
+/// parked its release leaves the backlog of its frame too, so that what is parked is looked at when it is brought.
 pub struct Backlog<J: Job> {
     pub(crate) alloc: Global,
     pub(crate) batch: FrameBatch<J>,

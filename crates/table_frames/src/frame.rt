@@ -1,23 +1,29 @@
 // Frames.
-ghost use Rattle.std.specs.Prelude.{◌≡◌, ◌↔◌, ◌⊎◌, ◌<◌, ◌≤◌, ◌+◌, ◌^◌, ◌++◌, ◌∷◌, [], None, All, IfOk, OnOk, OnErr, length};
+ghost use Rattle.std.specs.Prelude.{◌≡◌, ◌≢◌, ◌↔◌, ◌⊎◌, ◌<◌, ◌≤◌, ◌+◌, ◌^◌, ◌++◌, ◌∷◌, [], None, Some, All, IfOk, IfSome, OnOk, OnErr, length, map};
 ghost use Rattle.task_graph.specs.Net.{AreSemaphoresOf};
 ghost use Rattle.std.specs.Vec.{vec_capacity, vec_len};
 ghost use Rattle.std.specs.Arc.{arc_value};
-ghost use Rattle.join_tables.specs.States.{FreshState};
+ghost use Rattle.join_tables.specs.Keeping.{TellsRun, entries_told};
+ghost use Rattle.join_tables.specs.States.{FreshState, fresh_state};
+ghost use Rattle.run_frame.specs.Legal.{IsKept};
+ghost use Rattle.run_frame.specs.NestedRule.{job_of};
+ghost use Rattle.table_frames.specs.Frames.{depth_inside, frames_around};
 ghost use Rattle.keyed_lock.specs.Locks.{made_with};
-ghost use Rattle.run_frame.specs.FlatNets.{IsFlatNet};
 
-use super::attempt::Attempt;
+use super::attempt::{Attempt, InnerBegun, Tried};
 use super::backlog::Backlog;
+use super::done_turns::{DoneTurn, DoneTurns};
 use super::frame_batch::FrameBatch;
+use super::locked_run::LockedRun;
+use super::open_start::OpenStart;
+use super::over::{InnerOver, Kept, Over};
 use super::release::{Release, ReleaseRoom};
-use super::run_keeper::RunKeeper;
 use super::step_results::{Brought, State, Stepped};
 use super::table_run::{Begun, TableRun, TakenUp, add_again};
-use join_tables::{Remaining, Spent, SpentBatch, Turn};
+use join_tables::{Remaining, Spent, Turn};
 use keyed_lock::{Held, KeyedLock};
 use outside_io::NoMemory;
-use run_frame::Job;
+use run_frame::{FrameRun, Job};
 use semaphore_park::ParkYard;
 use semaphore_turns::{ParkedTurn, Parking, ReadyTurn, Settled, TakenUnits, wake_turns};
 use std::alloc::Global;
@@ -29,16 +35,17 @@ use std::sync::{Arc, Wait};
 pub struct Frame<J: Job> {
     alloc: Global,
     run: TableRun<J>,
-    lock: KeyedLock<RunKeeper<J>>,
+    lock: KeyedLock<LockedRun<J>>,
     // What waits for units. Whoever has the keeper may wait for it, and whoever has it waits for nothing.
     yard: ParkYard<ParkedTurn<J::V>>,
     depth: u32,
-    // The frame that it is inside. No frame is inside another yet.
+    // The frame that it is inside.
     parent: Option<Arc<Frame<J>>>,
 }
 
 impl<J: Job> Model for Frame<J> {
-    ghost use Rattle.std.specs.Prelude.{◌≡◌, ◌∷◌, [], List, length};
+    ghost use Rattle.std.specs.Prelude.{◌≡◌, ◌≢◌, ◌∷◌, [], IfSome, List, length};
+    ghost use Rattle.std.specs.Arc.{arc_value};
     ghost use Rattle.table_frames.specs.Frames.{FrameKey};
 
     ghost Value = { List (FrameKey J) };
@@ -47,13 +54,16 @@ impl<J: Job> Model for Frame<J> {
     ghost use Rattle.semaphore_park.specs.Parking.{yard_key};
     ghost use Rattle.semaphore_park.specs.Yards.{opened_as};
     ghost use Rattle.semaphore_turns.specs.WaitingTurns.{yard_of};
-    ghost use Rattle.table_frames.specs.Frames.{frames_around, key_of, table_in};
+    ghost use Rattle.table_frames.specs.Frames.{depth_of, frames_around, table_in};
+    ghost use Rattle.table_frames.specs.inside.OpenStarts.{lock_key_of, lock_key_in};
 
     ghost view = { λ frame. frame.run ∷ frames_around frame.parent };
 
-    ghost invariant = { λ frame. (key_of (made_with frame.lock) ≡ frame.run)
+    ghost invariant = { λ frame. (lock_key_of (made_with frame.lock)
+        ≡ lock_key_in frame.run (frames_around frame.parent))
         × (yard_key (opened_as frame.yard) ≡ yard_of (table_in J.meaning frame.run))
-        × (frame.depth ≡ 0) × (frames_around frame.parent ≡ []) };
+        × (frame.depth ≡ depth_of (frame.run ∷ frames_around frame.parent))
+        × IfSome frame.parent (λ parent. arc_value parent ≢ []) };
 
     ghost size = { length };
 }
@@ -64,18 +74,23 @@ impl<J: Job + Drop> Frame<J> {
     ghost use Rattle.semaphore_turns.specs.WaitingTurns.{release_of};
     ghost use Rattle.semaphore_turns.specs.WokenTurns.{ParksTurn, Wakes};
     ghost use Rattle.semaphore_turns.specs.Settlements.{AreDrops, Settles};
-    ghost use Rattle.table_frames.specs.Frames.{AtFrame, HasTable, MayTake, backlog_view, key_of, release_in, table_in};
-    ghost use Rattle.table_frames.specs.BacklogResults.{BringsFates, SettlesFrame};
+    ghost use Rattle.table_frames.specs.Frames.{AtFrame, HasTable, MayTake, backlog_view, frames_around, release_in, table_in};
+    ghost use Rattle.table_frames.specs.BacklogResults.{BringsFates, IsLeftOf, SettlesFrame};
     ghost use Rattle.table_frames.specs.Steps.{IsClosed, BeginsFrame, StepsRelease};
     ghost use Rattle.table_frames.specs.inside.Attempts.{IsAttemptAt, TriesRelease, room_due, units_due};
+    ghost use Rattle.table_frames.specs.inside.FrameBatches.{HasSpaceIn};
+    ghost use Rattle.table_frames.specs.inside.Overs.{IsEnd, IsInnerOver, IsOverOf, KeepsFates, Resumes};
+    ghost use Rattle.table_frames.specs.inside.Begins.{Begins};
+    ghost use Rattle.table_frames.specs.inside.OpenStarts.{IsLockedAt, IsStartOf, lock_key_of, lock_key_in};
+    ghost use Rattle.table_frames.specs.inside.Openings.{IsInnerAt, OpensFrame, TriesAt};
     ghost use Rattle.table_frames.specs.inside.CollectedRelease.{IsTakenIn};
-    ghost use Rattle.table_frames.specs.inside.AttemptEnds.{Concludes};
-    ghost use Rattle.table_frames.specs.inside.Runs.{IsBatchIn, IsNoBatch};
+    ghost use Rattle.table_frames.specs.inside.AttemptEnds.{Concludes, HandsOn};
+    ghost use Rattle.table_frames.specs.inside.DoneTurns.{HasSame, HasSpace, IsNoTurn};
+    ghost use Rattle.table_frames.specs.inside.Runs.{AreDoneAt};
 
-    /// Begins a run of a job, with its first releases by rising task: of each source task, and of each task that has strong
-    /// in-edges, all of which begin with a token. If there is none, the run is complete as it is, and closed.
+    /// Begins a run of a job, with its first releases by rising task: of each source task, and of each task that has
+    /// strong in-edges, all of which begin with a token. If there is none, the run is complete as it is, and closed.
     pub fn begin(alloc: Global, job: Arc<J>) -> Result<Stepped<J>, NoMemory>
-        requires { IsFlatNet (J.meaning.net (arc_value job)) }
         ensures begins { IfOk result (BeginsFrame J.meaning (arc_value job)) }
         ensures closed { IfOk result
             (λ stepped. IsClosed stepped.state ↔ (stepped.released.items ≡ [])) }
@@ -92,7 +107,7 @@ impl<J: Job + Drop> Frame<J> {
                 state: State::Closed(kept.finish()?),
             });
         }
-        let frame = Frame::new(alloc, run, kept)?;
+        let frame = Frame::new(alloc, run, LockedRun { kept, start: None }, None)?;
         let room = ReleaseRoom::new(alloc, &frame, count)?;
         Ok(Stepped {
             released: room.hand_out(frame, &mut fresh),
@@ -100,11 +115,11 @@ impl<J: Job + Drop> Frame<J> {
         })
     }
 
-    /// Takes the step of a release: drops it, or starts its task, does its work and ends the start or records its fault, or
-    /// parks it where a semaphore that its task takes has no unit. What became of it is then in the backlog, which was of this
-    /// frame or of none. Only for parked releases it may wait, for the lock that they are under. If an allocation fails the
-    /// release is given up, so that the run is never closed, and the backlog has what it had; from the End's place on no memory
-    /// is needed.
+    /// Takes the step of a release: drops it, or starts its task, does its work and ends the start or records its
+    /// fault, or parks it where a semaphore that its task takes has no unit, or opens a run for it where its job
+    /// answers a job. What became of it is then in the backlog, which was of this frame or of none. Only for parked
+    /// releases it may wait, for the lock that they are under. If an allocation fails the release is given up, so that
+    /// the run is never closed, and the backlog has what it had; from the End's place on no memory is needed.
     pub fn step<R: Wait>(
         rt: &R,
         release: Release<J>,
@@ -184,34 +199,166 @@ impl<J: Job + Drop> Frame<J> {
             ⊎ (backlog.new ≡ backlog_view (arc_value frame) backlog.old.fates)) }
     {
         backlog.batch.make_room(&frame)?;
-        let attempt = frame.attempt(taken)?;
+        match frame.attempt(taken)? {
+            Tried::Done(attempt) => Ok(Stepped {
+                released: Frame::hand_on(
+                    rt,
+                    frame,
+                    attempt,
+                    &mut backlog.batch,
+                    &mut backlog.made,
+                )?,
+                state: State::Went,
+            }),
+            Tried::Inner(inner) => Frame::open(frame, inner),
+        }
+    }
+
+    // Concludes an attempt of a frame, whose turn is in the batch then, and hands out what it released.
+    fn hand_on<R: Wait>(
+        rt: &R,
+        frame: Arc<Frame<J>>,
+        attempt: Attempt<J>,
+        batch: &mut FrameBatch<J>,
+        made: &mut Vec<ReadyTurn<J::V>>,
+    ) -> Result<Vec<Release<J>>, NoMemory>
+        requires attempt { IsAttemptAt J.meaning (arc_value frame) attempt }
+        requires frames { batch.old.backlog.frames ≡ arc_value frame }
+        requires room { HasSpaceIn batch.old }
+        requires none { made.old.items ≡ [] }
+        ensures ok { IfOk result (λ released. HandsOn J.meaning (arc_value frame) attempt
+            batch.old.backlog batch.new.backlog released.items) }
+        ensures err { OnErr result (batch.new.backlog ≡ batch.old.backlog) }
+        ensures none { made.new.items ≡ [] }
+    {
         let count = frame.room_for(&attempt);
-        let room = ReleaseRoom::new(backlog.alloc, &frame, count)?;
-        backlog.made.reserve(count)?;
-        frame.conclude(rt, attempt, &mut backlog.batch, &mut backlog.made);
+        let room = ReleaseRoom::new(frame.heap(), &frame, count)?;
+        made.reserve(count)?;
+        frame.conclude(rt, attempt, batch, made);
+        Ok(room.hand_out(frame, made))
+    }
+
+    // A run inside the frame has begun in place of the work of a release.
+    fn open(frame: Arc<Frame<J>>, inner: InnerBegun<J>) -> Result<Stepped<J>, NoMemory>
+        requires { IsInnerAt J.meaning (arc_value frame) inner }
+        ensures { IfOk result (OpensFrame J.meaning (arc_value frame) inner) }
+    {
+        let InnerBegun {
+            begun,
+            start,
+            again,
+        } = inner;
+        let mut released = Vec::with_capacity(frame.alloc, 1)?;
+        let first = Frame::first_inside(&frame, begun, start)?;
+        let Some(again) = again else {
+            return Ok(Stepped {
+                released,
+                state: State::Inner(first),
+            });
+        };
+        let ready = ReadyTurn::fresh(again);
+        released.push_reserved(Release { frame, ready });
         Ok(Stepped {
-            released: room.hand_out(frame, &mut backlog.made),
-            state: State::Went,
+            released,
+            state: State::Inner(first),
         })
     }
 
-    /// Gives what is in a backlog to the keeper of its frame, for whose lock it may wait. With the last turn of the frame the
-    /// run is closed: exactly where the keeper found one live turn as it took the backlog in. An `Err` comes only if an
-    /// allocation fails. Then the backlog stays as it was, or nothing is in it and the run is never closed.
-    pub fn bring<R: Wait>(rt: &R, backlog: &mut Backlog<J>) -> Result<Brought<J>, NoMemory>
-        ensures ok { IfOk result (BringsFates J.meaning backlog.old.frames backlog.old.fates) }
-        ensures brought { OnOk result (backlog.new ≡ backlog_view backlog.old.frames []) }
-        ensures err { OnErr result
-            ((backlog.new ≡ backlog.old) ⊎ (backlog.new ≡ backlog_view backlog.old.frames [])) }
+    // The first releases of a run that has begun inside a frame.
+    fn first_inside(
+        frame: &Arc<Frame<J>>,
+        begun: Begun<J>,
+        start: OpenStart<J>,
+    ) -> Result<Vec<Release<J>>, NoMemory>
+        requires start { IsStartOf J.meaning begun.run.job start }
+        requires frame { AtFrame (arc_value frame.now) (λ key. start.frame ≡ key) }
+        requires begins { Begins J.meaning begun.run.job begun }
+        ensures { IfOk result (λ released. released.items
+            ≡ map (release_in (begun.run ∷ arc_value frame.now)) begun.fresh.items) }
     {
-        backlog.batch.bring(rt)
+        let alloc = frame.alloc;
+        let Begun {
+            run,
+            mut fresh,
+            kept,
+        } = begun;
+        let parent = Arc::try_clone(frame)?;
+        let locked = LockedRun {
+            kept,
+            start: Some(start),
+        };
+        let inner = Frame::new(alloc, run, locked, Some(parent))?;
+        let room = ReleaseRoom::new(alloc, &inner, fresh.len())?;
+        Ok(room.hand_out(inner, &mut fresh))
     }
 
-    /// Decides what becomes of the parked releases of the frame of a backlog that was brought, for whose lock it may wait. If
-    /// all that is left to do in the frame is parked, the first release goes on that is parked on a semaphore with a unit, and
-    /// is returned; or, where there is none or a start has faulted, all are dropped, and this is in the backlog then. Else they
-    /// wait, and the backlog is of no frame. If an allocation fails, what is parked may be given up, so that the run is
-    /// never closed.
+    /// Gives what is in a backlog to the keeper of its frame, for whose lock it may wait. With the last turn of the
+    /// frame its run is over: exactly where the keeper found one live turn as it took the backlog in. A run in no other
+    /// is returned then. The run of a frame inside another goes on with the start whose work it was: it is gathered
+    /// into the value of the End, or is a Fault if it was cut short. That turn of the frame around is in the backlog
+    /// then, and what it released is returned. An `Err` comes only if an allocation fails. Then the backlog stays as it
+    /// was, or nothing is in it and the run, or the one around it, is never closed.
+    pub fn bring<R: Wait>(rt: &R, backlog: &mut Backlog<J>) -> Result<Brought<J>, NoMemory>
+        ensures ok { IfOk result
+            (BringsFates J.meaning backlog.old.frames backlog.old.fates backlog.new) }
+        ensures err { OnErr result (IsLeftOf backlog.old backlog.new) }
+    {
+        let Kept { over, keeper } = backlog.batch.bring(rt)?;
+        match over {
+            Over::No => Ok(Brought {
+                state: State::Went,
+                keeper,
+            }),
+            Over::Alone(run) => Ok(Brought {
+                state: State::Closed(run),
+                keeper,
+            }),
+            Over::Inside(inner) => Ok(Brought {
+                state: State::Resumed(Frame::resume(rt, inner, backlog)?),
+                keeper,
+            }),
+        }
+    }
+
+    // Goes on with the start whose work was a run that is over.
+    fn resume<R: Wait>(
+        rt: &R,
+        inner: InnerOver<J>,
+        backlog: &mut Backlog<J>,
+    ) -> Result<Vec<Release<J>>, NoMemory>
+        requires inner { IsInnerOver J.meaning inner }
+        requires none { backlog.old ≡ backlog_view [] [] }
+        ensures ok { IfOk result (λ released. Resumes J.meaning inner released.items
+            backlog.new) }
+        ensures err { OnErr result
+            ((backlog.new ≡ backlog_view [] [])
+            ⊎ (backlog.new ≡ backlog_view (arc_value inner.parent) [])) }
+    {
+        let InnerOver { parent, start, run } = inner;
+        backlog.batch.make_room(&parent)?;
+        let attempt = parent.resumed(start, run)?;
+        Frame::hand_on(rt, parent, attempt, &mut backlog.batch, &mut backlog.made)
+    }
+
+    // Goes on with a start of the frame in place of whose work a run was made.
+    fn resumed(&self, start: OpenStart<J>, run: FrameRun<J>) -> Result<Attempt<J>, NoMemory>
+        requires frame { AtFrame self.now (λ key. start.frame ≡ key) }
+        requires start { IsStartOf J.meaning (job_of run) start }
+        requires kept { IsKept J.meaning run }
+        ensures attempt { IfOk result (IsAttemptAt J.meaning self.now) }
+        ensures release { IfOk result (λ attempt. TriesRelease self.now attempt
+            (fresh_state start.frame.table start.running.task start.running.cause)) }
+        ensures inner { IfOk result (λ attempt. attempt.inner ≡ Some run) }
+        ensures again { IfOk result (λ attempt. attempt.again ≡ None) }
+    {
+        self.run.resume(start, run)
+    }
+
+    /// Decides what becomes of the parked releases of the frame of a backlog that was brought, for whose lock it may
+    /// wait. If all that is left to do in the frame is parked, the first release goes on that is parked on a semaphore
+    /// with a unit, and is returned; or, where there is none or a start has faulted, all are dropped, and this is in
+    /// the backlog then. Else they wait, and the backlog is of no frame. If an allocation fails, what is parked may be
+    /// given up, so that the run is never closed.
     pub fn settle<R: Wait>(rt: &R, backlog: &mut Backlog<J>) -> Result<Option<Release<J>>, NoMemory>
         requires { backlog.old.fates ≡ [] }
         ensures ok { IfOk result (SettlesFrame backlog.old.frames backlog.new) }
@@ -220,22 +367,34 @@ impl<J: Job + Drop> Frame<J> {
         backlog.batch.settle(rt)
     }
 
-    // A frame in no other.
-    fn new(alloc: Global, run: TableRun<J>, kept: RunKeeper<J>) -> Result<Arc<Frame<J>>, NoMemory>
-        requires { key_of kept ≡ run }
-        ensures { IfOk result (λ frame. arc_value frame ≡ run ∷ []) }
+    // A frame inside another, or in none.
+    fn new(
+        alloc: Global,
+        run: TableRun<J>,
+        locked: LockedRun<J>,
+        parent: Option<Arc<Frame<J>>>,
+    ) -> Result<Arc<Frame<J>>, NoMemory>
+        requires key { lock_key_of locked ≡ lock_key_in run (frames_around parent) }
+        requires some { IfSome parent (λ parent. arc_value parent ≢ []) }
+        ensures { IfOk result (λ frame. arc_value frame ≡ run ∷ frames_around parent) }
     {
-        let lock = KeyedLock::new(alloc, kept)?;
+        let lock = KeyedLock::new(alloc, locked)?;
         let yard = run.yard()?;
+        let depth = depth_inside(&parent);
         let frame = Frame {
             alloc,
             run,
             lock,
             yard,
-            depth: 0,
-            parent: None,
+            depth,
+            parent,
         };
         Ok(Arc::new(alloc, frame)?)
+    }
+
+    // Where its memory comes from.
+    fn heap(&self) -> Global {
+        self.alloc
     }
 
     // Takes up a release of the frame.
@@ -296,18 +455,16 @@ impl<J: Job + Drop> Frame<J> {
     }
 
     // Does the work of a release of the frame that has its units.
-    fn attempt(&self, taken: TakenUp<J::V>) -> Result<Attempt<J::V>, NoMemory>
+    fn attempt(&self, taken: TakenUp<J::V>) -> Result<Tried<J>, NoMemory>
         requires taken { AtFrame self.now (λ key. IsTakenIn key taken) }
         requires holds { AtFrame self.now (λ key. HoldsAll (J.meaning.net key.job) taken.turn) }
-        ensures attempt { IfOk result (IsAttemptAt J.meaning self.now) }
-        ensures release { IfOk result
-            (λ attempt. TriesRelease self.now attempt (release_of taken.turn)) }
+        ensures { IfOk result (TriesAt J.meaning self.now (release_of taken.turn)) }
     {
         self.run.attempt(taken)
     }
 
     // How many releases can come of an attempt, those included that wait for its units.
-    fn room_for(&self, attempt: &Attempt<J::V>) -> usize
+    fn room_for(&self, attempt: &Attempt<J>) -> usize
         ensures { AtFrame self.now
             (λ key. result ≡ room_due attempt.now
             + length (units_due (J.meaning.net key.job) attempt.now.outcome)) }
@@ -315,18 +472,18 @@ impl<J: Job + Drop> Frame<J> {
         attempt.room() + self.run.units_back(&attempt.outcome).len()
     }
 
-    // Ends the start, or records its Fault or the Drop, gathers the turn, and adds what it released to an empty list, at last
-    // what it woke.
+    // Ends the start, or records its Fault or the Drop, gathers the turn, and adds what it released to an empty list,
+    // at last what it woke.
     fn conclude<R: Wait>(
         &self,
         rt: &R,
-        attempt: Attempt<J::V>,
+        attempt: Attempt<J>,
         batch: &mut FrameBatch<J>,
         made: &mut Vec<ReadyTurn<J::V>>,
     )
         requires attempt { IsAttemptAt J.meaning self.now attempt }
         requires frames { batch.old.backlog.frames ≡ self.now }
-        requires room { length batch.old.backlog.fates < batch.old.room }
+        requires room { HasSpaceIn batch.old }
         requires none { made.old.items ≡ [] }
         requires capacity { AtFrame self.now (λ key. vec_len made.old + room_due attempt
             + length (units_due (J.meaning.net key.job) attempt.outcome) ≤ vec_capacity made.old) }
@@ -338,8 +495,8 @@ impl<J: Job + Drop> Frame<J> {
             + length (units_due (J.meaning.net key.job) attempt.outcome)) }
     {
         let back = self.run.units_back(&attempt.outcome);
-        let spent = self.run.conclude(attempt, made);
-        batch.add(&self.run, spent);
+        let turn = self.run.conclude(attempt, made);
+        batch.add(&self.run, turn);
         self.wake(rt, back, made);
     }
 
@@ -381,55 +538,79 @@ impl<J: Job + Drop> Frame<J> {
     }
 
     // Adds a turn of dropped releases to a batch of the frame, which has room for it.
-    pub(crate) fn gather(&self, batch: &mut SpentBatch<J::V>, spent: Spent<J::V>)
-        requires batch { IsBatchIn J.meaning self.now batch.old }
+    pub(crate) fn gather(&self, done: &mut DoneTurns<J>, spent: Spent<J::V>)
+        requires done { AreDoneAt J.meaning self.now done.old }
         requires spent { HasTable self.now spent.table × AreDrops spent.fate }
-        requires room { length batch.old.fates < batch.old.room }
-        ensures batch { IsBatchIn J.meaning self.now batch.new }
-        ensures fates { batch.new.fates ≡ batch.old.fates ++ spent.fate ∷ [] }
+        requires room { HasSpace done.old }
+        ensures done { AreDoneAt J.meaning self.now done.new }
+        ensures fates { done.new.batch.fates ≡ done.old.batch.fates ++ spent.fate ∷ [] }
     {
-        self.run.gather(batch, spent);
+        self.run.gather(done, DoneTurn { spent, inner: None });
     }
 
-    // Gives turns of the frame to the keeper. With the last turn the run is given out, and the lock is left without a value:
-    // nobody has a turn by which to take it.
-    pub(crate) fn keep<R: Wait>(
-        &self,
-        rt: &R,
-        batch: &mut SpentBatch<J::V>,
-    ) -> Result<Brought<J>, NoMemory>
-        requires { IsBatchIn J.meaning self.now batch.old }
-        ensures brings { IfOk result (BringsFates J.meaning self.now batch.old.fates) }
-        ensures taken { OnOk result (IsNoBatch batch.new) }
-        ensures err { OnErr result ((batch.new ≡ batch.old) ⊎ IsNoBatch batch.new) }
+    // Gives turns of the frame to the keeper. With the last turn the run is given out, and the lock is left without a
+    // value: nobody has a turn by which to take it.
+    pub(crate) fn keep<R: Wait>(&self, rt: &R, done: &mut DoneTurns<J>) -> Result<Kept<J>, NoMemory>
+        requires { AreDoneAt J.meaning self.now done.old }
+        ensures keeps { IfOk result (KeepsFates J.meaning self.now done.old.batch.fates) }
+        ensures taken { OnOk result (IsNoTurn done.new) }
+        ensures err { OnErr result (HasSame done.old done.new ⊎ IsNoTurn done.new) }
     {
-        if batch.is_empty() {
-            return Ok(Brought {
-                state: State::Went,
+        if done.is_empty() {
+            return Ok(Kept {
+                over: Over::No,
                 keeper: None,
             });
         }
         let Held {
-            value: mut kept,
+            value: locked,
             pass,
         } = self.lock.take(rt);
-        match self.run.keep(&mut kept, batch) {
+        let LockedRun { mut kept, start } = locked;
+        match self.run.keep(&mut kept, done) {
             Ok(Remaining::All) => {
                 let keeper = Some(kept.keeper_now());
-                let state = State::Closed(kept.finish()?);
-                Ok(Brought { state, keeper })
+                let value = LockedRun { kept, start };
+                Ok(Kept {
+                    over: self.finish(value)?,
+                    keeper,
+                })
             }
             Ok(Remaining::More) => {
                 let keeper = Some(kept.keeper_now());
-                self.lock.put(Held { value: kept, pass });
-                let state = State::Went;
-                Ok(Brought { state, keeper })
+                let value = LockedRun { kept, start };
+                self.lock.put(Held { value, pass });
+                Ok(Kept {
+                    over: Over::No,
+                    keeper,
+                })
             }
             Err(NoMemory) => {
-                self.lock.put(Held { value: kept, pass });
+                let value = LockedRun { kept, start };
+                self.lock.put(Held { value, pass });
                 Err(NoMemory)
             }
         }
+    }
+
+    // The run of the frame, which is over, and the start whose work it was.
+    fn finish(&self, locked: LockedRun<J>) -> Result<Over<J>, NoMemory>
+        requires key { IsLockedAt self.now locked }
+        requires all { TellsRun (J.meaning.net locked.kept.job) (J.meaning.limit locked.kept.job)
+            (entries_told locked.kept.keeper.fates) }
+        ensures over { IfOk result (IsOverOf J.meaning self.now locked.kept.keeper.fates) }
+        ensures end { IfOk result IsEnd }
+    {
+        let LockedRun { kept, start } = locked;
+        let run = kept.finish()?;
+        let Some(start) = start else {
+            return Ok(Over::Alone(run));
+        };
+        let Some(parent) = &self.parent else {
+            unreachable!()
+        };
+        let parent = Arc::try_clone(parent)?;
+        Ok(Over::Inside(InnerOver { parent, start, run }))
     }
 }
 
@@ -441,5 +622,22 @@ impl<J: Job> Frame<J> {
         ensures { result ≡ depth_of self.now }
     {
         self.depth
+    }
+
+    // How many frames a frame is inside that is inside it.
+    fn depth_below(&self) -> u32
+        ensures { result ≡ depth_inside self.now }
+    {
+        self.depth.saturating_add(1)
+    }
+}
+
+// How many frames a frame is inside whose parent this is.
+fn depth_inside<J: Job + Drop>(parent: &Option<Arc<Frame<J>>>) -> u32
+    ensures { result ≡ depth_inside (frames_around parent.now) }
+{
+    match parent {
+        Some(parent) => parent.depth_below(),
+        None => 0,
     }
 }

@@ -1,14 +1,14 @@
 // Turns of a frame that are done and not yet with its keeper.
-ghost use Rattle.std.specs.Prelude.{◌≡◌, ◌≢◌, ◌↔◌, ◌⊎◌, ◌<◌, ◌++◌, ◌∷◌, [], length, IsTrue, IfOk, OnOk, OnErr};
+ghost use Rattle.std.specs.Prelude.{◌≡◌, ◌≢◌, ◌↔◌, ◌⊎◌, ◌++◌, ◌∷◌, [], IsTrue, IfOk, OnOk, OnErr};
 ghost use Rattle.std.specs.Arc.{arc_value};
 ghost use Rattle.table_frames.specs.Frames.{IsInnermost};
 ghost use Rattle.table_frames.specs.AllowedFates.{IsAllowed};
 
+use super::done_turns::{DoneTurn, DoneTurns};
 use super::frame::Frame;
+use super::over::{Kept, Over};
 use super::release::Release;
-use super::step_results::{Brought, State};
 use super::table_run::TableRun;
-use join_tables::{Spent, SpentBatch};
 use outside_io::NoMemory;
 use run_frame::Job;
 use semaphore_turns::Settled;
@@ -21,7 +21,7 @@ use std::sync::{Arc, Wait};
 pub struct FrameBatch<J: Job> {
     // Where a step was taken since the turns were given away.
     frame: Option<Arc<Frame<J>>>,
-    batch: SpentBatch<J::V>,
+    done: DoneTurns<J>,
 }
 
 impl<J: Job> Model for FrameBatch<J> {
@@ -31,19 +31,26 @@ impl<J: Job> Model for FrameBatch<J> {
 
     ghost use Rattle.std.specs.Prelude.{◌≢◌, [], IfSome};
     ghost use Rattle.std.specs.Arc.{arc_value};
-    ghost use Rattle.table_frames.specs.Frames.{frames_around};
-    ghost use Rattle.table_frames.specs.inside.FrameBatches.{frame_batch_view};
-    ghost use Rattle.table_frames.specs.inside.Runs.{IsBatchIn};
+    ghost use Rattle.std.specs.Vec.{vec_capacity, vec_len};
+    ghost use Rattle.table_frames.specs.Frames.{backlog_view, frames_around};
+    ghost use Rattle.table_frames.specs.inside.Runs.{AreDoneAt};
 
-    ghost view = { λ g. frame_batch_view (frames_around g.frame) g.batch.fates g.batch.room };
+    ghost view = { λ g. record {
+      backlog = backlog_view (frames_around g.frame) g.done.batch.fates;
+      room = g.done.batch.room;
+      runs = vec_len g.done.inner;
+      run_room = vec_capacity g.done.inner;
+    } };
 
-    ghost invariant = { λ g. IsBatchIn J.meaning (frames_around g.frame) g.batch
+    ghost invariant = { λ g. AreDoneAt J.meaning (frames_around g.frame) g.done
         × IfSome g.frame (λ frame. arc_value frame ≢ []) };
 }
 
 impl<J: Job + Drop> FrameBatch<J> {
     ghost use Rattle.table_frames.specs.Frames.{MayTake, backlog_view};
-    ghost use Rattle.table_frames.specs.BacklogResults.{BringsFates, SettlesFrame};
+    ghost use Rattle.table_frames.specs.BacklogResults.{SettlesFrame};
+    ghost use Rattle.table_frames.specs.inside.FrameBatches.{HasSpaceIn};
+    ghost use Rattle.table_frames.specs.inside.Overs.{KeepsFates, frames_after};
 
     /// No turn, of no frame. It takes no memory.
     pub fn new(alloc: Global) -> FrameBatch<J>
@@ -51,7 +58,7 @@ impl<J: Job + Drop> FrameBatch<J> {
     {
         FrameBatch {
             frame: None,
-            batch: SpentBatch::new(alloc),
+            done: DoneTurns::new(alloc),
         }
     }
 
@@ -68,10 +75,10 @@ impl<J: Job + Drop> FrameBatch<J> {
         requires some { arc_value frame.now ≢ [] }
         ensures ok { OnOk result (self.new.backlog
             ≡ backlog_view (arc_value frame.now) self.old.backlog.fates) }
-        ensures room { OnOk result (length self.new.backlog.fates < self.new.room) }
+        ensures room { OnOk result (HasSpaceIn self.new) }
         ensures err { OnErr result (self.new.backlog ≡ self.old.backlog) }
     {
-        self.batch.make_room()?;
+        self.done.make_room()?;
         if self.frame.is_none() {
             self.frame = Some(Arc::try_clone(frame)?);
         }
@@ -79,40 +86,53 @@ impl<J: Job + Drop> FrameBatch<J> {
     }
 
     /// Adds a turn of the frame, for which there is room.
-    pub fn add(&mut self, run: &TableRun<J>, spent: Spent<J::V>)
+    pub fn add(&mut self, run: &TableRun<J>, turn: DoneTurn<J>)
         requires frame { IsInnermost run.now self.old.backlog.frames }
-        requires table { spent.table ≡ run.now.table }
-        requires allowed { IsAllowed J.meaning run.now.job spent.fate }
-        requires room { length self.old.backlog.fates < self.old.room }
+        requires table { turn.spent.table ≡ run.now.table }
+        requires allowed { IsAllowed J.meaning run.now.job turn.spent.fate turn.inner }
+        requires room { HasSpaceIn self.old }
         ensures { self.new.backlog
-            ≡ backlog_view self.old.backlog.frames (self.old.backlog.fates ++ spent.fate ∷ []) }
+            ≡ backlog_view self.old.backlog.frames
+            (self.old.backlog.fates ++ turn.spent.fate ∷ []) }
     {
-        run.gather(&mut self.batch, spent);
+        run.gather(&mut self.done, turn);
     }
 
-    /// Gives the turns to the keeper of their frame. With the last turn of the frame its run is given out. An `Err` comes only
-    /// if an allocation fails. Then all stays as it was, or the turns are gone and the run is never closed.
-    pub fn bring<R: Wait>(&mut self, rt: &R) -> Result<Brought<J>, NoMemory>
-        ensures brings { IfOk result
-            (BringsFates J.meaning self.old.backlog.frames self.old.backlog.fates) }
-        ensures ok { OnOk result (self.new.backlog ≡ backlog_view self.old.backlog.frames []) }
+    /// Gives the turns to the keeper of their frame. With the last turn of the frame its run is given out. The batch is
+    /// of no frame then if the run is inside another. An `Err` comes only if an allocation fails. Then all stays as it
+    /// was, or the turns are gone and the run is never over.
+    pub fn bring<R: Wait>(&mut self, rt: &R) -> Result<Kept<J>, NoMemory>
+        ensures keeps { IfOk result
+            (KeepsFates J.meaning self.old.backlog.frames self.old.backlog.fates) }
+        ensures ok { IfOk result (λ kept. self.new.backlog
+            ≡ backlog_view (frames_after self.old.backlog.frames kept.over) []) }
         ensures err { OnErr result
             ((self.new.backlog ≡ self.old.backlog)
             ⊎ (self.new.backlog ≡ backlog_view self.old.backlog.frames [])) }
     {
         let Some(frame) = self.frame.take() else {
-            return Ok(Brought {
-                state: State::Went,
+            return Ok(Kept {
+                over: Over::No,
                 keeper: None,
             });
         };
-        let brought = frame.keep(rt, &mut self.batch);
-        self.frame = Some(frame);
-        brought
+        match frame.keep(rt, &mut self.done) {
+            Ok(kept) => {
+                if kept.over.is_inside() {
+                    return Ok(kept);
+                }
+                self.frame = Some(frame);
+                Ok(kept)
+            }
+            Err(NoMemory) => {
+                self.frame = Some(frame);
+                Err(NoMemory)
+            }
+        }
     }
 
-    /// Decides what becomes of the parked releases of its frame, of which it has no turn. It is of no frame then, unless all
-    /// were dropped.
+    /// Decides what becomes of the parked releases of its frame, of which it has no turn. It is of no frame then,
+    /// unless all were dropped.
     pub fn settle<R: Wait>(&mut self, rt: &R) -> Result<Option<Release<J>>, NoMemory>
         requires { self.old.backlog.fates ≡ [] }
         ensures ok { IfOk result (SettlesFrame self.old.backlog.frames self.new.backlog) }
@@ -121,13 +141,13 @@ impl<J: Job + Drop> FrameBatch<J> {
         let Some(frame) = self.frame.take() else {
             return Ok(None);
         };
-        let _is_empty = self.batch.is_empty();
+        let _is_empty = self.done.is_empty();
         match frame.settle_parked(rt)? {
             Settled::Waits => Ok(None),
             Settled::Goes(ready) => Ok(Some(Release { frame, ready })),
             Settled::Over(spent) => {
-                self.batch.make_room()?;
-                frame.gather(&mut self.batch, spent);
+                self.done.make_room()?;
+                frame.gather(&mut self.done, spent);
                 self.frame = Some(frame);
                 Ok(None)
             }

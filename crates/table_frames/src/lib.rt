@@ -1,43 +1,60 @@
 //! Runs over a table of atomic words, by one thread and by many.
 //!
-//! A `Frame` is a run of a job. What is left to do in it is handed out as `Release`s, and whoever has one may take its step
-//! on any thread, side by side with the others: it is taken from its tokens to the releases that follow, through its units,
-//! admission, Start, the task's work, and End, Fault or Drop (`join_tables`). Before a step draws the place of an End it has
-//! all memory that it needs from there on.
+//! A `Frame` is a run of a job. What is left to do in it is handed out as `Release`s, and whoever has one may take its
+//! step on any thread, side by side with the others: it is taken from its tokens to the releases that follow, through
+//! its units, admission, Start, the task's work, and End, Fault or Drop (`join_tables`). Before a step draws the place
+//! of an End it has all memory that it needs from there on.
 //!
-//! A release that finds no unit of a semaphore is parked (`semaphore_turns`), and wakes up among the releases that a later step
-//! makes. A step takes the lock of what is parked only where units are wanted or came back, and no other lock. Where a worker
-//! has nothing else to do, and has brought what it did, `Frame::settle` looks whether all that is left is parked.
+//! A release that finds no unit of a semaphore is parked (`semaphore_turns`), and wakes up among the releases that a
+//! later step makes. A step takes the lock of what is parked only where units are wanted or came back, and no other
+//! lock. Where a worker has nothing else to do, and has brought what it did, `Frame::settle` looks whether all that is
+//! left is parked.
 //!
-//! What became of the releases is for the frame's keeper, which stands behind a lock. A worker needn't take that lock for
-//! each step: its `Backlog` has what its steps have done, and `Frame::bring` hands it to the keeper, at the latest where
-//! the worker has nothing else to do. While something is in a backlog the run isn't over. Whoever brings the last of it gets
-//! the run, with its journal and values.
+//! What became of the releases is for the frame's keeper, which stands behind a lock. A worker needn't take that lock
+//! for each step: its `Backlog` has what its steps have done, and `Frame::bring` hands it to the keeper, at the latest
+//! where the worker has nothing else to do. While something is in a backlog the run isn't over. Whoever brings the last
+//! of it gets the run, with its journal and values.
 //!
-//! `run_alone` runs a job on the caller's thread by the same steps, with the keeper in hand.
+//! A task's work may be a job of its own. Its start stays open then, and a frame inside the task's frame runs that job.
+//! The inner frame holds the frame around it, and under its lock, beside its keeper, the start. Nobody waits for it:
+//! whoever brings its last turn goes on with the start in the same call. The run is gathered into the value of the
+//! start's End, or it is a Fault if the run was cut short. What comes of that is in the frame around, and its backlog
+//! is brought in turn; so runs that are over at several levels are closed one by one, and a caller has one lock at a
+//! time. A limit, a fault or a want of units ends the inner run alone.
+//!
+//! `run_alone` runs a job on the caller's thread by the same steps, with the keepers in hand: it goes on with the
+//! innermost run.
 //!
 //! # The parts
 //!
-//! A `TableRun` is a job with the table of its net. It takes up a release (`take_up`) and its units (`take_units`), does its
-//! work (`attempt`), which leaves nothing but the Start in the journal, and then draws the End, Fault or Drop (`conclude`). A `RunKeeper` has the keeper of a run; all
-//! that it took in is allowed by the job, so that the run that it hands out may be kept. `FrameBatch` is the part of a backlog
-//! that is brought.
+//! A `TableRun` is a job with the table of its net. It takes up a release (`take_up`) and its units (`take_units`),
+//! does its work (`attempt`), which leaves nothing but the Start in the journal, and then draws the End, Fault or Drop
+//! (`conclude`). Where a run was made in place of the work, `resume` comes before `conclude`. A `RunKeeper` has the
+//! keeper of a run; all that it took in is allowed by the job, so that the run that it hands out may be kept.
+//! `DoneTurns` are turns that are done, with the runs that they made, and `FrameBatch` is the part of a backlog that is
+//! brought. An `OpenStart` is a start whose work is a run, and a `LockedRun` is what is under a frame's lock. A `Level`
+//! is a run of `run_alone` with those around it.
 //!
 //! # What the layer above may know
 //!
 //! The layer above sees a release as the keys of its frame and of the frames around it, its task and its cause
-//! (`specs/Frames.antt`). The last of these frames has the job of the whole run. What a beginning and a step come to is in
-//! `specs/Steps.antt`: which fate a release came to, that its job allows it, and which releases it made, or that it is parked.
-//! Which edges made none is known to the table alone. What a bringing and a settling come to is in `specs/BacklogResults.antt`:
-//! the run is closed exactly where the keeper found one live turn. No frame is inside another yet.
+//! (`specs/Frames.antt`). The last of these frames has the job of the whole run. What a beginning and a step come to is
+//! in `specs/Steps.antt`: which fate a release came to, that its job allows it, and which releases it made, or that it
+//! is parked. Which edges made none is known to the table alone. What a bringing and a settling come to is in
+//! `specs/BacklogResults.antt`: the run is over exactly where the keeper found one live turn.
 #![tactic(auto)]
 
 mod alone;
 mod attempt;
 mod backlog;
+mod done_turns;
 mod frame;
 mod frame_batch;
 mod gives;
+mod level;
+mod locked_run;
+mod open_start;
+mod over;
 mod release;
 mod run_keeper;
 mod step_results;

@@ -104,8 +104,8 @@ impl<J: Job + Drop> ReleaseRoom<J> {
         Ok(ReleaseRoom { others, releases })
     }
 
-    /// A release for each of these turns of a frame, in their order. The first takes this owner of the frame. No memory is
-    /// taken.
+    /// A release for each of these turns of a frame, in their order. The first takes this owner of the frame. No memory
+    /// is taken.
     pub(crate) fn hand_out(
         self,
         frame: Arc<Frame<J>>,

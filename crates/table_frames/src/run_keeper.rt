@@ -1,7 +1,8 @@
 // What has the keeper of a run.
-ghost use Rattle.std.specs.Prelude.{◌≡◌, ◌++◌, [], IfOk, OnOk, OnErr, None, Some};
+ghost use Rattle.std.specs.Prelude.{◌≡◌, ◌+◌, ◌≤◌, ◌++◌, [], IfOk, IsPermutation, OnOk, OnErr, Some};
+ghost use Rattle.std.specs.Vec.{vec_capacity, vec_len};
+ghost use Rattle.std.specs.List.Sorted.{IsNonDecreasingBy};
 ghost use Rattle.std.specs.Arc.{arc_value};
-ghost use Rattle.join_tables.specs.Batches.{batch_state};
 ghost use Rattle.join_tables.specs.Findings.{FindsOne};
 ghost use Rattle.join_tables.specs.Keeping.{IsLast, LeavesOf, TellsRun, entries_told};
 ghost use Rattle.run_frame.specs.Legal.{IsKept};
@@ -9,22 +10,26 @@ ghost use Rattle.run_frame.specs.NestedRule.{job_of};
 ghost use Rattle.table_frames.specs.AllowedFates.{AreAllowed};
 ghost use Rattle.table_frames.specs.Frames.{key_of};
 ghost use Rattle.table_frames.specs.JournalFacts.{HasEntries};
-ghost use Rattle.table_frames.specs.inside.Rows.{rows_of};
+ghost use Rattle.table_frames.specs.inside.DoneTurns.{HasSame, IsNoTurn};
+ghost use Rattle.table_frames.specs.inside.Rows.{place_in_row, rows_of};
 
-use join_tables::{FinishedRun, Keeper, NetTable, RecordedValue, Remaining, SpentBatch};
+use super::done_turns::DoneTurns;
+use join_tables::{FinishedRun, Keeper, NetTable, RecordedValue, Remaining};
 use keyed_lock::Keyed;
 use outside_io::{List, NoMemory};
-use run_frame::{FrameRun, Job, ValueRow};
+use run_frame::{FrameRun, InnerRow, Job, ValueRow};
 use std::alloc::Global;
 use std::marker::Model;
 use std::snapshot::Snapshot;
 use std::sync::Arc;
 
-/// The keeper of a run of a job. The job allows what became of each turn that it has taken in.
+/// The keeper of a run of a job. The job allows what became of each turn that it has taken in, with the runs that were
+/// made in place of the work of some.
 pub struct RunKeeper<J: Job> {
     alloc: Global,
     job: Arc<J>,
     keeper: Keeper<J::V>,
+    inner: Vec<InnerRow<J>>,
 }
 
 // Written out, so that it is proved here alone and not in each crate above.
@@ -34,8 +39,9 @@ impl<J: Job + Drop> Drop for RunKeeper<J> {
             alloc: _,
             job,
             keeper,
+            inner,
         } = self;
-        drop((job, keeper));
+        drop((job, keeper, inner));
     }
 }
 
@@ -49,7 +55,8 @@ impl<J: Job> Model for RunKeeper<J> {
 
     ghost view = { λ kept. record { job = arc_value kept.job; keeper = kept.keeper } };
 
-    ghost invariant = { λ kept. AreAllowed J.meaning (arc_value kept.job) kept.keeper.fates };
+    ghost invariant = { λ kept. AreAllowed J.meaning (arc_value kept.job) kept.keeper.fates
+        kept.inner.items };
 }
 
 impl<J: Job> Keyed for RunKeeper<J> {
@@ -62,34 +69,44 @@ impl<J: Job> Keyed for RunKeeper<J> {
 
 impl<J: Job + Drop> RunKeeper<J> {
     /// Of a run that has just begun.
+    #[tactic(auto, using(crate::proofs::Keeping::none_allowed))]
     pub fn new(alloc: Global, job: Arc<J>, keeper: Keeper<J::V>) -> RunKeeper<J>
         requires { keeper.fates ≡ [] }
         ensures job { result.job ≡ arc_value job }
         ensures keeper { result.keeper ≡ keeper }
     {
-        RunKeeper { alloc, job, keeper }
+        RunKeeper {
+            alloc,
+            job,
+            keeper,
+            inner: Vec::new(alloc),
+        }
     }
 
     /// Takes in turns that are done, at least one. If an allocation fails, all stays as it was.
     pub fn absorb(
         &mut self,
         table: &NetTable<J::V>,
-        batch: &mut SpentBatch<J::V>,
+        done: &mut DoneTurns<J>,
     ) -> Result<Remaining, NoMemory>
         requires keeper { self.old.keeper.table ≡ table.now.table }
-        requires batch { batch.old.table ≡ Some table.now.table }
-        requires allowed { AreAllowed J.meaning self.old.job batch.old.fates }
+        requires batch { done.old.batch.table ≡ Some table.now.table }
+        requires allowed { AreAllowed J.meaning self.old.job done.old.batch.fates
+            done.old.inner.items }
         ensures same { key_of self.new ≡ key_of self.old }
         ensures fates { OnOk result
-            (self.new.keeper.fates ≡ self.old.keeper.fates ++ batch.old.fates) }
-        ensures taken { OnOk result (batch.new ≡ batch_state None [] batch.old.room) }
+            (self.new.keeper.fates ≡ self.old.keeper.fates ++ done.old.batch.fates) }
+        ensures taken { OnOk result (IsNoTurn done.new) }
         ensures found { IfOk result
             (λ left. FindsOne (λ n. LeavesOf n left) self.old.keeper.found self.new.keeper.found) }
-        ensures err { OnErr result (batch.new ≡ batch.old) }
+        ensures err { OnErr result (HasSame done.old done.new) }
         ensures all { IsLast result
             → TellsRun table.now.net table.now.limit (entries_told self.new.keeper.fates) }
     {
-        self.keeper.absorb(table, batch)
+        self.inner.try_reserve(done.inner.len())?;
+        let left = self.keeper.absorb(table, &mut done.batch)?;
+        move_rows(&mut self.inner, &mut done.inner);
+        Ok(left)
     }
 
     /// The keeper as it is now, for clauses.
@@ -107,16 +124,42 @@ impl<J: Job + Drop> RunKeeper<J> {
         ensures job { IfOk result (λ run. job_of run ≡ self.job) }
         ensures entries { IfOk result (λ run. HasEntries run self.keeper.fates) }
     {
-        let RunKeeper { alloc, job, keeper } = self;
+        let RunKeeper {
+            alloc,
+            job,
+            keeper,
+            mut inner,
+        } = self;
         let FinishedRun { journal, values } = keeper.finish()?;
         let values = value_rows(alloc, values)?;
+        sort_rows(&mut inner)?;
         Ok(FrameRun {
             job,
             journal,
             values,
-            inner: Vec::new(alloc),
+            inner,
         })
     }
+}
+
+// Adds rows to others, among which there is room for them.
+fn move_rows<J: Job + Drop>(rows: &mut Vec<InnerRow<J>>, more: &mut Vec<InnerRow<J>>)
+    requires { vec_len rows.old + vec_len more.old ≤ vec_capacity rows.old }
+    ensures rows { rows.new.items ≡ rows.old.items ++ more.old.items }
+    ensures none_left { more.new.items ≡ [] }
+{
+    if rows.append(more).is_err() {
+        unreachable!()
+    }
+}
+
+// Puts the runs inside a run in the order of their places.
+fn sort_rows<J: Job + Drop>(rows: &mut Vec<InnerRow<J>>) -> Result<(), NoMemory>
+    ensures same { OnOk result (IsPermutation rows.old.items rows.new.items) }
+    ensures sorted { OnOk result (IsNonDecreasingBy place_in_row rows.new.items) }
+{
+    rows.sort_by_key(|row| row.place)?;
+    Ok(())
 }
 
 // The rows of a run that have these values.

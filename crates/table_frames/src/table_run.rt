@@ -1,16 +1,19 @@
 // A job with the table of its net, and what is done with a release of it. None of it waits or takes a lock.
-ghost use Rattle.std.specs.Prelude.{◌≡◌, ◌<◌, ◌≤◌, ◌+◌, ◌^◌, ◌++◌, ◌∷◌, [], length, map, None, Some, IfOk, OnOk, OnErr};
+ghost use Rattle.std.specs.Prelude.{◌≡◌, ◌<◌, ◌≤◌, ◌+◌, ◌^◌, ◌++◌, ◌∷◌, [], length, map, None, Some, Option, IfOk, OnOk, OnErr};
 ghost use Rattle.std.specs.Vec.{vec_capacity, vec_len};
 ghost use Rattle.std.specs.Arc.{arc_value};
 ghost use Rattle.join_words.specs.Ins.{found_of, parts_of};
-ghost use Rattle.join_tables.specs.Batches.{batch_state};
 ghost use Rattle.join_tables.specs.declared.fates.Fate.TheVariants.{Ended};
 ghost use Rattle.join_tables.specs.Findings.{FindsOne};
 ghost use Rattle.join_tables.specs.States.{fresh_state};
 ghost use Rattle.join_tables.specs.Keeping.{IsLast, LeavesOf, TellsRun, entries_told};
-ghost use Rattle.run_frame.specs.FlatNets.{IsFlatNet};
 ghost use Rattle.table_steps.specs.ParcelForms.{MayBeBare};
 ghost use Rattle.run_frame.specs.declared.job.Done.{Done as DoneBy};
+ghost use Rattle.run_frame.specs.declared.run.FrameRun.{FrameRun};
+ghost use Rattle.run_frame.specs.Legal.{IsKept};
+ghost use Rattle.run_frame.specs.NestedRule.{job_of, journal_of};
+ghost use Rattle.run_frame.specs.Runs.{IsFine};
+ghost use Rattle.table_steps.specs.Giving.{MayEndGiving};
 ghost use Rattle.task_graph.specs.Net.{AreSemaphoresOf};
 ghost use Rattle.join_tables.specs.Claims.{HasClaimed, HasCredited};
 ghost use Rattle.semaphore_park.specs.Parking.{yard_key};
@@ -20,21 +23,25 @@ ghost use Rattle.semaphore_turns.specs.HeldUnits.{HoldsAll, LacksUnit, TakesUnit
 ghost use Rattle.semaphore_turns.specs.WaitingTurns.{release_of, yard_of};
 ghost use Rattle.semaphore_turns.specs.WokenTurns.{ParksTurn};
 ghost use Rattle.semaphore_turns.specs.Settlements.{Settles};
-ghost use Rattle.table_frames.specs.AllowedFates.{IsAllowed};
+ghost use Rattle.table_frames.specs.AllowedFates.{EndAllowed, FateAllowed, IsAllowed, work_with};
+ghost use Rattle.table_frames.specs.JournalFacts.{IsInJournal};
 ghost use Rattle.table_frames.specs.StepReleases.{GivesEdges, IsFateOf, Uses, given_by};
 ghost use Rattle.table_frames.specs.inside.Attempts.{again_list};
-ghost use Rattle.table_frames.specs.inside.Runs.{AreOf, IsBatchOf, IsDone, IsNoBatch, MayWork};
+ghost use Rattle.table_frames.specs.inside.DoneTurns.{HasSame, HasSpace, IsNoTurn};
+ghost use Rattle.table_frames.specs.inside.OpenStarts.{IsOpenFor, IsStartOf, StartStands};
+ghost use Rattle.table_frames.specs.inside.Runs.{AreDoneIn, AreOf, IsDone, MayWork};
 
-use super::attempt::{Attempt, Ending, Outcome};
-use super::gives::edges_given;
+use super::attempt::{Attempt, Ending, InnerBegun, Outcome, Tried};
+use super::done_turns::{DoneTurn, DoneTurns, add_row};
+use super::gives::{all_edges, edges_given};
+use super::open_start::OpenStart;
 use super::run_keeper::RunKeeper;
 use join_tables::{
-    Admitted, Collected, Fresh, Gave, NetTable, Opening, Owing, Remaining, Running, Spent,
-    SpentBatch, Turn,
+    Admitted, Collected, Fresh, Gave, NetTable, Opening, Owing, Remaining, Running, Spent, Turn,
 };
 use journal_rules::{DropWhy, Why};
-use outside_io::NoMemory;
-use run_frame::{Answer, Done, Job, JobError};
+use outside_io::{List, NoMemory};
+use run_frame::{Answer, Done, FrameRun, Job, JobError};
 use semaphore_park::ParkYard;
 use semaphore_turns::{
     ClaimedUnits, ParkedTurn, Parking, ReadyKind, ReadyTurn, Settled, TakenUnits, TurnYard,
@@ -87,8 +94,16 @@ pub struct Begun<J: Job> {
     pub kept: RunKeeper<J>,
 }
 
-/// A release that has collected its tokens, the next release of its task, by tokens that were left, and the semaphore for a
-/// unit of which it was woken.
+/// What a release has come to whose task may have started.
+#[derive(Drop)]
+pub enum Started<J: Job> {
+    Outcome(Outcome<J::V>),
+    /// The job answers a job in place of the work of the start.
+    Inner(Running<J::V>, J),
+}
+
+/// A release that has collected its tokens, the next release of its task, by tokens that were left, and the semaphore
+/// for a unit of which it was woken.
 #[derive(Drop)]
 pub struct TakenUp<V> {
     pub turn: Turn<V>,
@@ -101,10 +116,10 @@ impl<J: Job + Drop> TableRun<J> {
     ghost use Rattle.table_frames.specs.inside.Begins.{Begins};
     ghost use Rattle.table_frames.specs.inside.CollectedRelease.{TakesUp};
     ghost use Rattle.table_frames.specs.inside.Attempts.{IsAgain, IsAttemptIn, IsOutcomeIn, MayEnd, edges_due, release_tried, room_due, units_due};
+    ghost use Rattle.table_frames.specs.inside.Openings.{Starts, Tries};
 
     /// A run that has made no step.
     pub fn begin(alloc: Global, job: Arc<J>) -> Result<Begun<J>, NoMemory>
-        requires { IsFlatNet (J.meaning.net (arc_value job)) }
         ensures { IfOk result (Begins J.meaning (arc_value job)) }
     {
         let net = Arc::try_clone(job.net())?;
@@ -120,8 +135,8 @@ impl<J: Job + Drop> TableRun<J> {
         Ok(Begun { run, fresh, kept })
     }
 
-    /// Takes up a release and collects its tokens, unless it was parked and has them. Where more tokens are there, the task is
-    /// released again.
+    /// Takes up a release and collects its tokens, unless it was parked and has them. Where more tokens are there, the
+    /// task is released again.
     pub fn take_up(&self, ready: ReadyTurn<J::V>) -> Result<TakenUp<J::V>, NoMemory>
         requires { ready.table ≡ self.now.table }
         ensures { IfOk result (TakesUp self.now.table ready) }
@@ -153,8 +168,8 @@ impl<J: Job + Drop> TableRun<J> {
         takes_of(self.job.net(), turn.task()).len()
     }
 
-    /// Parks a turn that found no unit of the semaphore at a place among those that its task takes, unless it finds one now.
-    /// If an allocation fails the turn is given up.
+    /// Parks a turn that found no unit of the semaphore at a place among those that its task takes, unless it finds one
+    /// now. If an allocation fails the turn is given up.
     pub fn park(
         &self,
         yard: &mut TurnYard<J::V>,
@@ -217,24 +232,74 @@ impl<J: Job + Drop> TableRun<J> {
         TurnYard::new(self.alloc, self.job.net().sems().len(), &self.table)
     }
 
-    /// Does the work of a release that has its tokens and units, where its task may start. Of what comes of it nothing but the
-    /// Start is in the journal yet.
-    pub fn attempt(&self, taken: TakenUp<J::V>) -> Result<Attempt<J::V>, NoMemory>
+    /// Does the work of a release that has its tokens and units, where its task may start. Of what comes of it nothing
+    /// but the Start is in the journal yet. Where the job answers another job, a run of that begins in place of the
+    /// work; if nothing is to be done in it, it is over at once.
+    pub fn attempt(&self, taken: TakenUp<J::V>) -> Result<Tried<J>, NoMemory>
         requires table { taken.turn.table ≡ self.now.table }
         requires refused { taken.turn.refused ≡ None }
         requires held { HoldsAll (J.meaning.net self.now.job) taken.turn }
         requires again { IsAgain self.now.table taken.turn.task taken.turn.cause taken.again }
-        ensures attempt { IfOk result (IsAttemptIn J.meaning self.now) }
-        ensures release { IfOk result
-            (λ attempt. release_tried self.now.table attempt.outcome ≡ release_of taken.turn) }
+        ensures { IfOk result (Tries J.meaning self.now (release_of taken.turn)) }
     {
         let TakenUp {
             turn,
             again,
             woken: _,
         } = taken;
-        let outcome = self.start(turn)?;
-        Ok(Attempt { outcome, again })
+        match self.start(turn)? {
+            Started::Outcome(outcome) => Ok(Tried::Done(Attempt {
+                outcome,
+                again,
+                inner: None,
+            })),
+            Started::Inner(running, job) => self.open(running, job, again),
+        }
+    }
+
+    /// Goes on with a start in place of whose work a run was made, which is over. A run that was cut short is a Fault.
+    pub fn resume(&self, start: OpenStart<J>, inner: FrameRun<J>) -> Result<Attempt<J>, NoMemory>
+        requires frame { start.frame ≡ self.now }
+        requires start { IsStartOf J.meaning (job_of inner) start }
+        requires kept { IsKept J.meaning inner }
+        ensures attempt { IfOk result (IsAttemptIn J.meaning self.now) }
+        ensures release { IfOk result
+            (λ attempt. release_tried self.now.table attempt.outcome
+            ≡ fresh_state self.now.table start.running.task start.running.cause) }
+        ensures inner { IfOk result (λ attempt. attempt.inner ≡ Some inner) }
+        ensures again { IfOk result (λ attempt. attempt.again ≡ None) }
+    {
+        let outcome = self.resumed(start.into_running(), &inner)?;
+        Ok(Attempt {
+            outcome,
+            again: None,
+            inner: Some(inner),
+        })
+    }
+
+    // Begins a run of a job in place of the work of a start.
+    fn open(
+        &self,
+        running: Running<J::V>,
+        job: J,
+        again: Option<Fresh<J::V>>,
+    ) -> Result<Tried<J>, NoMemory>
+        requires open { IsOpenFor J.meaning self.now job running }
+        requires again { IsAgain self.now.table running.task running.cause again }
+        ensures { IfOk result (Tries J.meaning self.now
+            (fresh_state self.now.table running.task running.cause)) }
+    {
+        let start = OpenStart::new(running, &self.job);
+        let begun = TableRun::begin(self.alloc, Arc::new(self.alloc, job)?)?;
+        if begun.fresh.is_empty() {
+            let attempt = self.resume(start, begun.kept.finish()?)?;
+            return Ok(Tried::Done(Attempt { again, ..attempt }));
+        }
+        Ok(Tried::Inner(InnerBegun {
+            begun,
+            start,
+            again,
+        }))
     }
 
     /// The semaphores of which a unit is back when an attempt is concluded.
@@ -250,62 +315,72 @@ impl<J: Job + Drop> TableRun<J> {
         }
     }
 
-    /// Ends the start, or records its Fault or the Drop, and adds the releases that follow to those that were made. It takes
-    /// no memory.
-    pub fn conclude(&self, attempt: Attempt<J::V>, made: &mut Vec<ReadyTurn<J::V>>) -> Spent<J::V>
+    /// Ends the start, or records its Fault or the Drop, and adds the releases that follow to those that were made. It
+    /// takes no memory.
+    pub fn conclude(&self, attempt: Attempt<J>, made: &mut Vec<ReadyTurn<J::V>>) -> DoneTurn<J>
         requires attempt { IsAttemptIn J.meaning self.now attempt }
         requires made { AreOf self.now.table made.old.items }
         requires room { vec_len made.old + room_due attempt ≤ vec_capacity made.old }
-        ensures spent { IsDone J.meaning self.now result }
+        ensures done { IsDone J.meaning self.now result }
+        ensures inner { result.inner ≡ attempt.inner }
         ensures uses { Uses (J.meaning.net self.now.job)
-            (release_tried self.now.table attempt.outcome) result.fate made.old.items
+            (release_tried self.now.table attempt.outcome) result.spent.fate made.old.items
             made.new.items }
+        ensures edges { attempt.again ≡ None → GivesEdges (J.meaning.net self.now.job)
+            self.now.table (given_by result.spent.fate) made.old.items made.new.items }
         ensures made { AreOf self.now.table made.new.items }
         ensures few { vec_len made.new ≤ vec_len made.old + room_due attempt }
         ensures capacity { vec_capacity made.new ≡ vec_capacity made.old }
     {
-        let Attempt { outcome, again } = attempt;
-        let spent = self.close(outcome, made);
-        if let Some(again) = again {
-            made.push_reserved(ReadyTurn::fresh(again));
-        }
-        spent
+        let Attempt {
+            outcome,
+            again,
+            inner,
+        } = attempt;
+        let spent = self.close(outcome, &inner, made);
+        let Some(again) = again else {
+            return DoneTurn { spent, inner };
+        };
+        made.push_reserved(ReadyTurn::fresh(again));
+        DoneTurn { spent, inner }
     }
 
-    /// Adds a turn that is done to a batch, which has room for it.
-    pub fn gather(&self, batch: &mut SpentBatch<J::V>, spent: Spent<J::V>)
-        requires batch { IsBatchOf J.meaning self.now batch.old }
-        requires table { spent.table ≡ self.now.table }
-        requires allowed { IsAllowed J.meaning self.now.job spent.fate }
-        requires room { length batch.old.fates < batch.old.room }
-        ensures batch { IsBatchOf J.meaning self.now batch.new }
-        ensures some { batch.new.table ≡ Some self.now.table }
-        ensures fates { batch.new.fates ≡ batch.old.fates ++ spent.fate ∷ [] }
+    /// Adds a turn that is done to others, among which there is room for it.
+    pub fn gather(&self, done: &mut DoneTurns<J>, turn: DoneTurn<J>)
+        requires done { AreDoneIn J.meaning self.now done.old }
+        requires table { turn.spent.table ≡ self.now.table }
+        requires allowed { IsAllowed J.meaning self.now.job turn.spent.fate turn.inner }
+        requires room { HasSpace done.old }
+        ensures done { AreDoneIn J.meaning self.now done.new }
+        ensures some { done.new.batch.table ≡ Some self.now.table }
+        ensures fates { done.new.batch.fates ≡ done.old.batch.fates ++ turn.spent.fate ∷ [] }
     {
-        self.table.gather(batch, spent);
+        let DoneTurn { spent, inner } = turn;
+        add_row(&mut done.inner, spent.fate(), inner);
+        self.table.gather(&mut done.batch, spent);
     }
 
-    /// Gives the turns of a batch to the keeper, at least one.
+    /// Gives turns that are done to the keeper, at least one.
     pub fn keep(
         &self,
         kept: &mut RunKeeper<J>,
-        batch: &mut SpentBatch<J::V>,
+        done: &mut DoneTurns<J>,
     ) -> Result<Remaining, NoMemory>
         requires kept { key_of kept.old ≡ self.now }
-        requires batch { IsBatchOf J.meaning self.now batch.old }
-        requires some { batch.old.table ≡ Some self.now.table }
+        requires done { AreDoneIn J.meaning self.now done.old }
+        requires some { done.old.batch.table ≡ Some self.now.table }
         ensures same { key_of kept.new ≡ self.now }
         ensures fates { OnOk result
-            (kept.new.keeper.fates ≡ kept.old.keeper.fates ++ batch.old.fates) }
-        ensures taken { OnOk result (IsNoBatch batch.new) }
+            (kept.new.keeper.fates ≡ kept.old.keeper.fates ++ done.old.batch.fates) }
+        ensures taken { OnOk result (IsNoTurn done.new) }
         ensures found { IfOk result
             (λ left. FindsOne (λ n. LeavesOf n left) kept.old.keeper.found kept.new.keeper.found) }
-        ensures err { OnErr result (batch.new ≡ batch.old) }
+        ensures err { OnErr result (HasSame done.old done.new) }
         ensures all { IsLast result
             → TellsRun (J.meaning.net kept.new.job) (J.meaning.limit kept.new.job)
             (entries_told kept.new.keeper.fates) }
     {
-        kept.absorb(&self.table, batch)
+        kept.absorb(&self.table, done)
     }
 
     // Collects the tokens of a new release. Where more are there, the task is released again.
@@ -338,13 +413,11 @@ impl<J: Job + Drop> TableRun<J> {
     }
 
     // Starts the task and does its work, unless it may not start. Then the units are put back.
-    fn start(&self, turn: Turn<J::V>) -> Result<Outcome<J::V>, NoMemory>
+    fn start(&self, turn: Turn<J::V>) -> Result<Started<J>, NoMemory>
         requires table { turn.table ≡ self.now.table }
         requires refused { turn.refused ≡ None }
         requires held { HoldsAll (J.meaning.net self.now.job) turn }
-        ensures outcome { IfOk result (IsOutcomeIn J.meaning self.now) }
-        ensures release { IfOk result
-            (λ outcome. release_tried self.now.table outcome ≡ release_of turn) }
+        ensures { IfOk result (Starts J.meaning self.now (release_of turn)) }
     {
         let net: &Net = self.job.net();
         match self.table.admit(turn) {
@@ -353,67 +426,64 @@ impl<J: Job + Drop> TableRun<J> {
             }
             Admitted::Over(turn) => {
                 let turn = put_back_units(&self.table, net, turn);
-                Ok(Outcome::Drops(turn, DropWhy::Limit))
+                Ok(Started::Outcome(Outcome::Drops(turn, DropWhy::Limit)))
             }
             Admitted::Halted(turn) => {
                 let turn = put_back_units(&self.table, net, turn);
-                Ok(Outcome::Drops(turn, DropWhy::Halted))
+                Ok(Started::Outcome(Outcome::Drops(turn, DropWhy::Halted)))
             }
         }
     }
 
-    // Does the work of a start.
-    fn work(&self, running: Running<J::V>) -> Result<Outcome<J::V>, NoMemory>
+    // Does the work of a start, unless it is to be a run.
+    fn work(&self, running: Running<J::V>) -> Result<Started<J>, NoMemory>
         requires table { running.table ≡ self.now.table }
         requires may { MayWork (J.meaning.net self.now.job) running }
-        ensures outcome { IfOk result (IsOutcomeIn J.meaning self.now) }
-        ensures release { IfOk result
-            (λ outcome. release_tried self.now.table outcome
-            ≡ fresh_state running.table running.task running.cause) }
+        requires stands { StartStands J.meaning self.now.job running }
+        ensures { IfOk result (Starts J.meaning self.now
+            (fresh_state running.table running.task running.cause)) }
     {
         let net: &Net = self.job.net();
         let _rows = net.tasks();
         match self.job.run(self.alloc, running.task(), running.ins()) {
-            Ok(done) => self.claim(net, running, done),
+            Ok(Done::Value(value, answer)) => {
+                Ok(Started::Outcome(self.claim(net, running, value, answer)?))
+            }
+            Ok(Done::Inner(job)) => Ok(Started::Inner(running, job)),
+            Err(JobError::Fault(why)) => Ok(Started::Outcome(Outcome::Faults(running, why))),
+            Err(JobError::NoMemory) => Err(NoMemory),
+        }
+    }
+
+    // What becomes of a start in place of whose work a run was made.
+    fn resumed(
+        &self,
+        running: Running<J::V>,
+        inner: &FrameRun<J>,
+    ) -> Result<Outcome<J::V>, NoMemory>
+        requires open { IsOpenFor J.meaning self.now (job_of inner.now) running }
+        requires kept { IsKept J.meaning inner.now }
+        ensures outcome { IfOk result (IsOutcomeIn J.meaning self.now (Some inner.now)) }
+        ensures release { IfOk result
+            (λ outcome. release_tried self.now.table outcome
+            ≡ fresh_state running.table running.task running.cause) }
+    {
+        if !inner.is_fine() {
+            return Ok(Outcome::Faults(running, Why::Inner));
+        }
+        let net: &Net = self.job.net();
+        let _rows = net.tasks();
+        let _keeps = inner.job.net();
+        match inner.job.gather(self.alloc, inner) {
+            Ok(value) => self.claim_inner(net, running, value, inner),
             Err(JobError::Fault(why)) => Ok(Outcome::Faults(running, why)),
             Err(JobError::NoMemory) => Err(NoMemory),
         }
     }
 
-    // Claims the units that the End of a start is to give back, by what its work has come to. A claim that is refused is a Fault.
+    // Claims the units that the End of a start is to give back, by what its work has come to. A claim that is refused
+    // is a Fault.
     fn claim(
-        &self,
-        net: &Net,
-        running: Running<J::V>,
-        done: Done<J>,
-    ) -> Result<Outcome<J::V>, NoMemory>
-        requires net { net.now ≡ J.meaning.net self.now.job }
-        requires in_range { running.task < length net.now.tasks }
-        requires table { running.table ≡ self.now.table }
-        requires may { MayWork (J.meaning.net self.now.job) running }
-        requires flat { (inner : J)
-            → ¬ J.meaning.answers self.now.job running.task (map found_of (parts_of running.ins))
-            (DoneBy.Inner inner) }
-        requires answers { J.meaning.answers self.now.job running.task
-            (map found_of (parts_of running.ins)) done }
-        ensures outcome { IfOk result (IsOutcomeIn J.meaning self.now) }
-        ensures release { IfOk result
-            (λ outcome. release_tried self.now.table outcome
-            ≡ fresh_state running.table running.task running.cause) }
-    {
-        match done {
-            Done::Value(value, answer) => match claim_units(&self.table, net, running) {
-                ClaimedUnits::All(running) => self.ending(net, running, value, answer),
-                ClaimedUnits::Refused(running, sem) => {
-                    Ok(Outcome::Faults(running, Why::OverRelease(sem)))
-                }
-            },
-            Done::Inner(_) => unreachable!(),
-        }
-    }
-
-    // What a start needs for its End with this value.
-    fn ending(
         &self,
         net: &Net,
         running: Running<J::V>,
@@ -423,30 +493,96 @@ impl<J: Job + Drop> TableRun<J> {
         requires net { net.now ≡ J.meaning.net self.now.job }
         requires in_range { running.task < length net.now.tasks }
         requires table { running.table ≡ self.now.table }
-        requires credited { HasCredited net.now running.task running.units }
-        requires claimed { HasClaimed net.now running.task running.units }
+        requires may { MayWork (J.meaning.net self.now.job) running }
         requires answers { J.meaning.answers self.now.job running.task
             (map found_of (parts_of running.ins)) (DoneBy.Value value answer) }
-        ensures outcome { IfOk result (IsOutcomeIn J.meaning self.now) }
+        ensures outcome { IfOk result (IsOutcomeIn J.meaning self.now None) }
         ensures release { IfOk result
             (λ outcome. release_tried self.now.table outcome
             ≡ fresh_state running.table running.task running.cause) }
     {
-        let gives = edges_given(self.alloc, net, running.task(), &answer)?;
+        match claim_units(&self.table, net, running) {
+            ClaimedUnits::All(running) => {
+                let gives = edges_given(self.alloc, net, running.task(), &answer)?;
+                self.ending(running, gives, value, false)
+            }
+            ClaimedUnits::Refused(running, sem) => {
+                Ok(Outcome::Faults(running, Why::OverRelease(sem)))
+            }
+        }
+    }
+
+    // The same after a run that is fine, to whose gathering the value belongs. The End gives all edges.
+    fn claim_inner(
+        &self,
+        net: &Net,
+        running: Running<J::V>,
+        value: J::V,
+        inner: &FrameRun<J>,
+    ) -> Result<Outcome<J::V>, NoMemory>
+        requires net { net.now ≡ J.meaning.net self.now.job }
+        requires in_range { running.task < length net.now.tasks }
+        requires open { IsOpenFor J.meaning self.now (job_of inner.now) running }
+        requires fine { IsFine (journal_of inner.now) }
+        requires gathered { J.meaning.gathers (job_of inner.now) inner.now value }
+        ensures outcome { IfOk result (IsOutcomeIn J.meaning self.now (Some inner.now)) }
+        ensures release { IfOk result
+            (λ outcome. release_tried self.now.table outcome
+            ≡ fresh_state running.table running.task running.cause) }
+    {
+        let _ = inner;
+        match claim_units(&self.table, net, running) {
+            ClaimedUnits::All(running) => {
+                let gives = all_edges(self.alloc, net, running.task())?;
+                self.ending(running, gives, value, true)
+            }
+            ClaimedUnits::Refused(running, sem) => {
+                Ok(Outcome::Faults(running, Why::OverRelease(sem)))
+            }
+        }
+    }
+
+    // What a start needs for its End with this value and these edges.
+    fn ending(
+        &self,
+        running: Running<J::V>,
+        gives: List<u32>,
+        value: J::V,
+        inner: bool,
+    ) -> Result<Outcome<J::V>, NoMemory>
+        requires table { running.table ≡ self.now.table }
+        requires credited { HasCredited (J.meaning.net self.now.job) running.task running.units }
+        requires claimed { HasClaimed (J.meaning.net self.now.job) running.task running.units }
+        requires fits { MayEndGiving (J.meaning.net self.now.job) running.task gives inner }
+        ensures outcome { (run : Option (FrameRun J J.V))
+            → EndAllowed J.meaning self.now.job (work_with running.task running.ins) value gives
+            inner run → IfOk result (IsOutcomeIn J.meaning self.now run) }
+        ensures release { IfOk result
+            (λ outcome. release_tried self.now.table outcome
+            ≡ fresh_state running.table running.task running.cause) }
+    {
         let value = self.table.share(self.alloc, value, gives.len())?;
         Ok(Outcome::Ends(Ending {
             running,
             gives,
             value,
+            inner,
         }))
     }
 
-    // Ends the start, or records its Fault or the Drop.
-    fn close(&self, outcome: Outcome<J::V>, made: &mut Vec<ReadyTurn<J::V>>) -> Spent<J::V>
-        requires outcome { IsOutcomeIn J.meaning self.now outcome }
+    // Ends the start, or records its Fault or the Drop. The run is that made in place of its work.
+    fn close(
+        &self,
+        outcome: Outcome<J::V>,
+        inner: &Option<FrameRun<J>>,
+        made: &mut Vec<ReadyTurn<J::V>>,
+    ) -> Spent<J::V>
+        requires outcome { IsOutcomeIn J.meaning self.now inner.now outcome }
         requires made { AreOf self.now.table made.old.items }
         requires room { vec_len made.old + edges_due outcome ≤ vec_capacity made.old }
-        ensures spent { IsDone J.meaning self.now result }
+        ensures table { result.table ≡ self.now.table }
+        ensures allowed { FateAllowed J.meaning self.now.job result.fate inner.now }
+        ensures journal { IsInJournal J.meaning self.now.job result.fate }
         ensures of { IsFateOf (release_tried self.now.table outcome).task
             (release_tried self.now.table outcome).cause result.fate }
         ensures gives { GivesEdges (J.meaning.net self.now.job) self.now.table
@@ -456,18 +592,25 @@ impl<J: Job + Drop> TableRun<J> {
         ensures capacity { vec_capacity made.new ≡ vec_capacity made.old }
     {
         match outcome {
-            Outcome::Ends(ending) => self.end(ending, made),
+            Outcome::Ends(ending) => self.end(ending, inner, made),
             Outcome::Faults(running, why) => self.table.fault(running, why),
             Outcome::Drops(turn, why) => self.table.drop_turn(turn, why),
         }
     }
 
     // Ends a start and gives what the End owes, first the units.
-    fn end(&self, ending: Ending<J::V>, made: &mut Vec<ReadyTurn<J::V>>) -> Spent<J::V>
-        requires ending { MayEnd J.meaning self.now ending }
+    fn end(
+        &self,
+        ending: Ending<J::V>,
+        inner: &Option<FrameRun<J>>,
+        made: &mut Vec<ReadyTurn<J::V>>,
+    ) -> Spent<J::V>
+        requires ending { MayEnd J.meaning self.now inner.now ending }
         requires made { AreOf self.now.table made.old.items }
         requires room { vec_len made.old + length ending.gives ≤ vec_capacity made.old }
-        ensures spent { IsDone J.meaning self.now result }
+        ensures table { result.table ≡ self.now.table }
+        ensures allowed { FateAllowed J.meaning self.now.job result.fate inner.now }
+        ensures journal { IsInJournal J.meaning self.now.job result.fate }
         ensures of { IsFateOf ending.running.task ending.running.cause result.fate }
         ensures gives { GivesEdges (J.meaning.net self.now.job) self.now.table
             (given_by result.fate) made.old.items made.new.items }
@@ -475,13 +618,15 @@ impl<J: Job + Drop> TableRun<J> {
         ensures few { vec_len made.new ≤ vec_len made.old + length ending.gives }
         ensures capacity { vec_capacity made.new ≡ vec_capacity made.old }
     {
+        let _ = inner;
         let Ending {
             running,
             gives,
             value,
+            inner,
         } = ending;
         let task = running.task();
-        let owing = self.table.end(running, gives, value, false);
+        let owing = self.table.end(running, gives, value, inner);
         let owing = return_units(&self.table, self.job.net(), owing, task);
         self.pay(owing, made)
     }

@@ -120,8 +120,8 @@ impl<V> Words<V> {
         self.table.shared.fetch_sub::<Claims<A>>(seat, word, 1)
     }
 
-    /// Claims a credit of a unit that a start puts and didn't take, and says what it found in the credit word. Where that
-    /// is no more than was there at first, the claim is refused.
+    /// Claims a credit of a unit that a start puts and didn't take, and says what it found in the credit word. Where
+    /// that is no more than was there at first, the claim is refused.
     pub fn draw_claim(&self, seat: &mut TableSeat<V>, sem: u32) -> u64
         requires table { seat.old.table_id ≡ self.now.table.shared.table_id }
         requires ready { MayClaim (arc_value self.now.net) sem seat.old.me.0 }

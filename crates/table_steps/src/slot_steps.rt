@@ -20,8 +20,8 @@ use join_words::Given;
 use std::hint::spin_loop;
 use std::marker::{Brand, PhantomData};
 
-// How often a seat tries again for a slot that another seat holds, which does so for a few instructions: for longer than
-// a thread that was put aside has to wait for a processor.
+// How often a seat tries again for a slot that another seat holds, which does so for a few instructions: for longer
+// than a thread that was put aside has to wait for a processor.
 const TRIES: u32 = 1_000_000;
 
 /// A try for the slot of an edge of a net: to put a parcel there, or to take one; and whether it is the last.
@@ -131,8 +131,9 @@ impl<V> Words<V> {
         self.try_told::<Brand>(&mut seat.seat, edge, self.mark_word(edge), puts, last)
     }
 
-    // Takes the slot of an edge, to put a parcel there or to take one, and says what its mark was at the last try: where
-    // that was 0, the seat holds the slot. Else another seat held it at each of many tries, and the seat gives up.
+    // Takes the slot of an edge, to put a parcel there or to take one, and says what its mark was at the last try:
+    // where that was 0, the seat holds the slot. Else another seat held it at each of many tries, and the seat gives
+    // up.
     fn hold_slot(&self, seat: &mut TableSeat<V>, edge: u32, puts: bool) -> u64
         requires table { seat.old.table_id ≡ self.now.table.shared.table_id }
         requires ready { MayTry puts edge seat.old.me.0 }
@@ -271,9 +272,9 @@ impl<V: Drop> Words<V> {
         oldest
     }
 
-    /// Puts a parcel behind the others in the slot of an edge. Where other seats hold the slot at each of a million tries,
-    /// the parcel is dropped. The seat has to know that the value which the parcel has is that of its End. It takes no
-    /// memory.
+    /// Puts a parcel behind the others in the slot of an edge. Where other seats hold the slot at each of a million
+    /// tries, the parcel is dropped. The seat has to know that the value which the parcel has is that of its End. It
+    /// takes no memory.
     pub fn deliver(&self, seat: &mut TableSeat<V>, edge: u32, parcel: Parcel<V>)
         requires table { seat.old.table_id ≡ self.now.table.shared.table_id }
         requires home { seat.old.me.1 ≡ [] }

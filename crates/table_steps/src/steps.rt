@@ -19,8 +19,8 @@ use std::marker::{Brand, PhantomData};
 use std::sync::Arc;
 use task_graph::Net;
 
-// The words of the table. Each of the first five has a cache line to itself, since eight words fill one: the others
-// lie eight apart. Nothing is ever written to word 0, which splits and joins read, and a turn that asks for what the net
+// The words of the table. Each of the first five has a cache line to itself, since eight words fill one: the others lie
+// eight apart. Nothing is ever written to word 0, which splits and joins read, and a turn that asks for what the net
 // says of it.
 const UNWRITTEN: usize = 0;
 

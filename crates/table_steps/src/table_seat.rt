@@ -12,8 +12,8 @@ use std::mem;
 pub(crate) type NoteSeat<V> = Seat<Parcels<V>, SeatView<V>>;
 
 /// A seat of the table with the numbers that its steps found. It has no bytes. A number is added only by the step that
-/// found it, so whoever has a seat can neither claim a number that no step found nor hide one. It knows the values of the
-/// parcels that it holds.
+/// found it, so whoever has a seat can neither claim a number that no step found nor hide one. It knows the values of
+/// the parcels that it holds.
 pub struct TableSeat<V> {
     pub(crate) seat: NoteSeat<V>,
     numbers: Tag,

@@ -7,8 +7,9 @@
 //!
 //! The layer above sees a `Net` as its three lists of rows (`NetRows`), knows that they are well formed (`IsNet`), and
 //! looks up a task's edges in constant time. The definitions are in `specs/`: `NetRows` has the rows, `Net` weak and
-//! strong edges and the lists of a task's edges, `Sources` in which nets nothing can begin, `Chosen` which edges an answer
-//! chooses, and `NetBuilder` what the builder adds and what it refuses. They are computed on small nets in `proofs/WorkedNets.antt`.
+//! strong edges and the lists of a task's edges, `Sources` in which nets nothing can begin, `Chosen` which edges an
+//! answer chooses, and `NetBuilder` what the builder adds and what it refuses. They are computed on small nets in
+//! `proofs/WorkedNets.antt`.
 #![tactic(auto)]
 
 mod builder;

@@ -34,6 +34,17 @@ pub const TABLES: [Table; 1] = [Table {
 {"tasks":[{"name":"a","op":"count","to":["z"]}]} -> no such name in to of task 0
 {"tasks":[{"name":"a","op":"count"},{"name":"a","op":"count"}]} -> repeated name in name of task 1
 {"tasks":[{"name":"a","op":"count"},{"name":"a","op":"count","to":["z"]}]} -> no such name in to of task 1
+{"tasks":[{"name":"a","op":"module","module":"n"}],"modules":[{"name":"m","tasks":[]}]} -> no such name in module of task 0
+{"tasks":[],"modules":[{"name":"m","tasks":[{"name":"a","op":"module","module":"n"}]}]} -> no such name in module of module 0 task 0
+{"tasks":[],"modules":[{"name":"m","tasks":[]},{"name":"m","tasks":[]}]} -> repeated name in name of module 1
+{"tasks":[],"modules":[{"name":"m n","tasks":[]}]} -> bad field name in module 0
+{"tasks":[],"modules":[{"name":"m"}]} -> bad field tasks in module 0
+{"tasks":[],"modules":[{"name":"k","tasks":[]},{"name":"m","tasks":[{"name":"a","op":"module","module":"m"}]}]} -> module cycle at m
+{"tasks":[],"modules":[{"name":"k","tasks":[{"name":"a","op":"module","module":"m"}]},{"name":"m","tasks":[{"name":"a","op":"module","module":"n"}]},{"name":"n","tasks":[{"name":"a","op":"module","module":"m"}]}]} -> module cycle at m
+{"tasks":[{"name":"a","op":"spread","n":0,"each":{"op":"pass"}}]} -> bad field n in task 0
+{"tasks":[{"name":"a","op":"spread","n":1,"each":{"op":"spread"}}]} -> bad field each in task 0
+{"tasks":[{"name":"a","op":"spread","n":1,"each":{"op":"head"}}]} -> bad field each in task 0
+65 MODULES -> too many modules
 NO UTF-8 -> not JSON
 NO UTF-8 IN A WORD -> not JSON
 BRACKETS -> not JSON"#,

@@ -16,11 +16,11 @@ pub const COUNT: &str = r#"{"tasks":[
     {"name":"a","op":"read","text":"t","to":["b"]},
     {"name":"b","op":"count"}]}"#;
 
-// A call: its words, with a space between two, or `-` for none, where `''` is the empty word; the texts `t`, `u` and `v`
-// that it finds, with ` / ` between two, where `-` is none; what fails in it (`read CALL`, `put CALL TAKEN`,
-// `note CALL TAKEN`) or how many watchers it has in place of 16 (`watchers COUNT`), or `-`; and what is seen of it: the
-// exit code, whether all was written and noted, the entries of each run, then what the output took, then what standard
-// error took. `|` ends a line of a text.
+// A call: its words, with a space between two, or `-` for none, where `''` is the empty word; the texts `t`, `u` and
+// `v` that it finds, with ` / ` between two, where `-` is none; what fails in it (`read CALL`, `put CALL TAKEN`, `note
+// CALL TAKEN`) or how many watchers it has in place of 16 (`watchers COUNT`), or `-`; and what is seen of it: the exit
+// code, whether all was written and noted, the entries of each run, then what the output took, then what standard error
+// took. `|` ends a line of a text.
 #[derive(Clone, Copy)]
 pub struct Row<'r> {
     pub words: &'r str,

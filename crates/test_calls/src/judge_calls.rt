@@ -1,5 +1,5 @@
-// Judgements of journals: whole and unfinished ones, one whose entries are out of order, one that is cut off, and one that
-// breaks a rule whose line couldn't be written; files that aren't there, and reads that fail.
+// Judgements of journals: whole and unfinished ones, one whose entries are out of order, one that is cut off, and one
+// that breaks a rule whose line couldn't be written; files that aren't there, and reads that fail.
 use crate::calls::{CALL, COUNT, Table};
 
 const COUNTING: Table = Table {

@@ -1,10 +1,10 @@
 //! Calls of the program, worked as examples. There is nothing here but tests.
 //!
 //! Each call is one of `flow_main` over texts and sinks in memory, and a row of a table (`calls.rt` says how one is
-//! written): its words, the texts that it finds, what fails in it, and what is seen of it, which is the exit code, how many
-//! entries the journal of each kept run has, what both sinks took, and whether the watchers didn't come back in their
-//! order. `tables.rt` walks the tables of all other modules. The line of a status that no call here ends with is written
-//! by itself.
+//! written): its words, the texts that it finds, what fails in it, and what is seen of it, which is the exit code, how
+//! many entries the journal of each kept run has, what both sinks took, and whether the watchers didn't come back in
+//! their order. `tables.rt` walks the tables of all other modules. The line of a status that no call here ends with is
+//! written by itself.
 #![tactic(auto)]
 
 #[cfg(test)]
@@ -19,6 +19,8 @@ mod faults;
 mod judge_calls;
 #[cfg(test)]
 mod lengths;
+#[cfg(test)]
+mod module_calls;
 #[cfg(test)]
 mod notes;
 #[cfg(test)]

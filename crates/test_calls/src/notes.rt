@@ -10,14 +10,14 @@ use std::test::Fail;
 fn puts_the_line_and_for_done_nothing(rt: HostRuntime) -> Result<(), Fail> {
     let mut notes = MemorySink::new(rt.alloc(), List::new(rt.alloc()));
     assert_eq!(rt;
-        put_note(rt.alloc(), &mut notes, &[], &Status::Done),
+        put_note(rt.alloc(), &mut notes, None, &Status::Done),
         Noted::Whole
     );
     let field = List::from_slice(rt.alloc(), b"sem")?;
     let error = GraphError::NoSuchName(Spot::ModuleTask(12, 4294967295), field);
     let status = Status::BadGraph(error);
     assert_eq!(rt;
-        put_note(rt.alloc(), &mut notes, &[], &status),
+        put_note(rt.alloc(), &mut notes, None, &status),
         Noted::Whole
     );
     let line = b"flow: bad graph: no such name in sem of module 12 task 4294967295\n";

@@ -73,7 +73,8 @@ const CONDITIONS: Table = Table {
 "route","words":["","a","b","d"] -> b|a| / c| -> 12 [== w|b|a|c|== x|b|a|c|== y|b|a|c|-- z|]"#,
 };
 
-// Operations on a text of a bit more than half the greatest length, twice: each value would be too long. Those below aren't.
+// Operations on a text of a bit more than half the greatest length, twice: each value would be too long. Those below
+// aren't.
 const TOO_LONG: Table = Table {
     graph: r#"{"tasks":[{"name":"r","op":"read","text":"t","to":["b","b"]},{"name":"b","op":@1}]}"#,
     call: "run g -> HALF -> - -> 9 written, run of 4 [-- b|!! fault b: long 18874368|] [flow: fault b: long 18874368|]",

@@ -14,7 +14,8 @@ const READ: Table = Table {
     rows: "run g --workers * ->  -> - -> 0 written, run of 2 [== a|] []",
 };
 
-// Any number of workers, also with zeros before it, and any number of watchers; limits of starts that are met or just not.
+// Any number of workers, also with zeros before it, and any number of watchers; limits of starts that are met or just
+// not.
 const COUNTING: Table = Table {
     graph: COUNT,
     call: CALL,
@@ -52,8 +53,8 @@ const DIAMOND: Table = Table {
     rows: "run g --workers * -> x|y| -> - -> 0 written, run of 8 [== d|x|y|] []",
 };
 
-// A text that is put together of one text, twice; and one of two halves of more than a value may have, which is a fault of
-// its task and isn't made.
+// A text that is put together of one text, twice; and one of two halves of more than a value may have, which is a fault
+// of its task and isn't made.
 const TWICE: Table = Table {
     graph: r#"{"tasks":[
     {"name":"a","op":"read","text":"t","to":["b","b"]},

@@ -106,7 +106,8 @@ const STUCK_OF_TWO: Table = Table {
 "u" -> 1"#,
 };
 
-// Neither of two tasks gives back the one unit that both want. With one worker the last in the file is the first to take it.
+// Neither of two tasks gives back the one unit that both want. With one worker the last in the file is the first to
+// take it.
 const STUCK_AT_ONCE: Table = Table {
     graph: r#"{"version":2,"tasks":[
     {"name":"a","op":"read","text":"t","acquire":["s"]},
@@ -123,8 +124,8 @@ const OVER_AT_ONCE: Table = Table {
     rows: "run g --journal --workers * -> x| -> - -> 9 written, run of 2 [flow journal 2|start 0 source -|fault 0 over:0|] [flow: fault a: over 0|]",
 };
 
-// A unit of the second semaphore comes back, and the first task that waits for it waits for the other one too. The unit is
-// passed on to the next: `u` ends, and both tasks that also take the other are dropped.
+// A unit of the second semaphore comes back, and the first task that waits for it waits for the other one too. The unit
+// is passed on to the next: `u` ends, and both tasks that also take the other are dropped.
 const PASSED_ON: Table = Table {
     graph: r#"{"version":2,"tasks":[
     {"name":"h","op":"read","text":"t","to":["t1","t2","u","g"],"acquire":["b"]},

@@ -1,8 +1,8 @@
 // The calls of all tables.
 use crate::calls::{Table, first_difference};
 use crate::{
-    bad_graphs, check_calls, faults, judge_calls, lengths, operations, runs, semaphore_calls,
-    upgrade_calls, words,
+    bad_graphs, check_calls, faults, judge_calls, lengths, module_calls, operations, runs,
+    semaphore_calls, upgrade_calls, words,
 };
 use std::test::Fail;
 
@@ -18,6 +18,13 @@ fn runs_answer_as_their_tables_say(rt: HostRuntime) -> Result<(), Fail> {
 #[test]
 fn calls_with_semaphores_answer_as_their_tables_say(rt: HostRuntime) -> Result<(), Fail> {
     let difference = first_difference(&rt, rt.alloc(), &semaphore_calls::TABLES)?;
+    assert_eq!(rt; difference.as_str(), "");
+    Ok(())
+}
+
+#[test]
+fn calls_with_modules_and_spreads_answer_as_their_tables_say(rt: HostRuntime) -> Result<(), Fail> {
+    let difference = first_difference(&rt, rt.alloc(), &module_calls::TABLES)?;
     assert_eq!(rt; difference.as_str(), "");
     Ok(())
 }

@@ -1,6 +1,7 @@
 // The texts of calls, and their graph files.
 use crate::calls::COUNT;
 use flow_run::{FILE_LIMIT, TEXT_LIMIT};
+use nested_runs::MAX_PARTS;
 use outside_io::{Bytes, List, NoMemory};
 use std::alloc::Global;
 
@@ -8,12 +9,15 @@ use std::alloc::Global;
 const HALF: usize = 4_718_592;
 
 // The text that a row names: one of the greatest length, one that is longer by a byte, one of a bit more than half the
-// greatest length; or what it is, where `|` ends a line.
+// greatest length, one of as many lines as a spread may have parts, one of a line more; or what it is, where `|` ends a
+// line.
 pub fn text_of(alloc: Global, text: &str) -> Result<Bytes, NoMemory> {
     match text {
         "MOST" => padded(alloc, b"", TEXT_LIMIT),
         "LONG" => padded(alloc, b"", TEXT_LIMIT + 1),
         "HALF" => letters(alloc, HALF),
+        "PARTS" => letters(alloc, MAX_PARTS as usize),
+        "WIDE" => letters(alloc, MAX_PARTS as usize + 1),
         text => {
             let lines = text.replace(alloc, "|", "\n")?;
             List::from_slice(alloc, lines.as_bytes())
@@ -21,8 +25,8 @@ pub fn text_of(alloc: Global, text: &str) -> Result<Bytes, NoMemory> {
     }
 }
 
-// The graph file that a table names: one of the greatest length, one that is longer by a byte, one of brackets, two with
-// bytes that are no UTF-8; or what it is.
+// The graph file that a table names: one of the greatest length, one that is longer by a byte, one of brackets, two
+// with bytes that are no UTF-8, two of as many modules as there may be and of one more; or what it is.
 pub fn graph_of(alloc: Global, graph: &str) -> Result<Bytes, NoMemory> {
     match graph {
         "MOST" => padded(alloc, COUNT.as_bytes(), FILE_LIMIT),
@@ -30,8 +34,22 @@ pub fn graph_of(alloc: Global, graph: &str) -> Result<Bytes, NoMemory> {
         "BRACKETS" => List::from_slice(alloc, &[b'['; 200]),
         "NO UTF-8" => List::from_slice(alloc, &[255]),
         "NO UTF-8 IN A WORD" => List::from_slice(alloc, &[b'"', 192, b'"']),
+        "64 MODULES" => modules(alloc, 64),
+        "65 MODULES" => modules(alloc, 65),
         graph => List::from_slice(alloc, graph.as_bytes()),
     }
+}
+
+// A graph file of so many modules without tasks.
+fn modules(alloc: Global, count: usize) -> Result<Bytes, NoMemory> {
+    let mut file = List::from_slice(alloc, b"{\"tasks\":[],\"modules\":[")?;
+    for number in 0..count {
+        let link = if number == 0 { "" } else { "," };
+        let row = format!(in alloc; "{link}{{\"name\":\"m{number}\",\"tasks\":[]}}")?;
+        file.add_all(row.as_bytes())?;
+    }
+    file.add_all(b"]}")?;
+    Ok(file)
 }
 
 // So many bytes: these, and spaces after them.

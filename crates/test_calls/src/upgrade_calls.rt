@@ -27,8 +27,8 @@ const UNITS: Table = Table {
 "version":2, -> "to":[] ->  -> "#,
 };
 
-// Operations without fields, and with those that stand before the name or before `to`, where a name that occurs twice is
-// two edges.
+// Operations without fields, and with those that stand before the name or before `to`, where a name that occurs twice
+// is two edges.
 const OPERATIONS: Table = Table {
     graph: r#"{"tasks":[{"op":"@1"@2,"to":["a","a"],"name":"a"}]}"#,
     call: r#"upgrade g -> - -> - -> 0 written [{"modules":[],"semaphores":[],"tasks":[{"acquire":[],@3"name":"a","op":"@1","release":[],@4"to":["a","a"]}],"version":2}] []"#,

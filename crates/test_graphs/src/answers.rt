@@ -26,6 +26,9 @@ fn refusal_text(alloc: Global, refusal: &GraphError) -> Result<String, AllocErro
         GraphError::BadField(spot, field) => ("bad field", "in", spot, field),
         GraphError::NoSuchName(spot, field) => ("no such name in", "of", spot, field),
         GraphError::Repeated(spot, field) => ("repeated name in", "of", spot, field),
+        GraphError::ModuleCycle(name) => {
+            return format!(in alloc; "module cycle at {}", text_of(name));
+        }
         GraphError::TooMany(kind) => return format!(in alloc; "too many {}", kind_text(*kind)),
         GraphError::NoMemory => return format!(in alloc; "no memory"),
     };
@@ -34,7 +37,13 @@ fn refusal_text(alloc: Global, refusal: &GraphError) -> Result<String, AllocErro
         Spot::File => format!(in alloc; "{what} {field} {at} file"),
         Spot::Sem(sem) => format!(in alloc; "{what} {field} {at} semaphore {sem}"),
         Spot::Task(task) => format!(in alloc; "{what} {field} {at} task {task}"),
-        other => format!(in alloc; "{what} {field} {at} {other:?}"),
+        Spot::Module(module) => format!(in alloc; "{what} {field} {at} module {module}"),
+        Spot::ModuleSem(module, sem) => {
+            format!(in alloc; "{what} {field} {at} module {module} semaphore {sem}")
+        }
+        Spot::ModuleTask(module, task) => {
+            format!(in alloc; "{what} {field} {at} module {module} task {task}")
+        }
     }
 }
 
@@ -47,7 +56,8 @@ fn kind_text(kind: Kind) -> &'static str {
         Kind::Tasks => "tasks",
         Kind::Edges => "edges",
         Kind::Semaphores => "semaphores",
+        Kind::Modules => "modules",
+        Kind::Depth => "depth",
         Kind::Texts => "texts",
-        Kind::Modules | Kind::Depth => "of another kind",
     }
 }

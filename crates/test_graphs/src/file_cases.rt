@@ -2,8 +2,8 @@
 use outside_io::{Bytes, List, NoMemory};
 use std::alloc::Global;
 
-/// A file: what it has, and its bytes, which are those of `front`, so often `piece` with its number in place of each `#`, as often
-/// `close`, and those of `back`.
+/// A file: what it has, and its bytes, which are those of `front`, so often `piece` with its number in place of each
+/// `#`, as often `close`, and those of `back`.
 #[derive(Clone, Copy)]
 pub(crate) struct MadeFile {
     pub(crate) has: &'static str,
@@ -92,8 +92,20 @@ const HOLDS: MadeFile = MadeFile {
     ..BYTES
 };
 
+// So many modules before a last one.
+const MODULES: MadeFile = MadeFile {
+    front: b"{\"tasks\":[],\"modules\":[",
+    piece: "{\"name\":\"#\",\"tasks\":[]},",
+    back: b"{\"name\":\"x\",\"tasks\":[]}]}",
+    ..BYTES
+};
+
+// How a file begins that has a module with a semaphore, an edge, and a task that reads a text, beside its tasks.
+const BESIDE: &[u8] =
+    b"{\"modules\":[{\"name\":\"m\",\"semaphores\":[{\"name\":\"s\",\"max\":1}],\"tasks\":[{\"name\":\"a\",\"op\":\"read\",\"text\":\"m\",\"to\":[\"a\"]}]}],\"tasks\":[";
+
 /// The files.
-pub(crate) const FILES: [MadeFile; 37] = [
+pub(crate) const FILES: [MadeFile; 50] = [
     MadeFile {
         has: "a byte order mark",
         front: b"\xef\xbb\xbf{\"tasks\":[]}",
@@ -264,6 +276,84 @@ pub(crate) const FILES: [MadeFile; 37] = [
     MadeFile {
         has: "1,025 texts",
         times: 1_024,
+        ..READS
+    },
+    MadeFile {
+        has: "64 modules",
+        times: 63,
+        ..MODULES
+    },
+    MadeFile {
+        has: "65 modules",
+        times: 64,
+        ..MODULES
+    },
+    MadeFile {
+        has: "65 modules of one name",
+        piece: "{\"name\":\"a\",\"tasks\":[]},",
+        times: 64,
+        ..MODULES
+    },
+    MadeFile {
+        has: "65 modules of which the last runs itself",
+        times: 64,
+        back: b"{\"name\":\"x\",\"tasks\":[{\"name\":\"a\",\"op\":\"module\",\"module\":\"x\"}]}]}",
+        ..MODULES
+    },
+    MadeFile {
+        has: "50,000 modules that run one",
+        piece: "{\"name\":\"#\",\"tasks\":[{\"name\":\"a\",\"op\":\"module\",\"module\":\"x\"}]},",
+        times: 50_000,
+        ..MODULES
+    },
+    MadeFile {
+        has: "50,000 modules that run themselves",
+        piece: "{\"name\":\"#\",\"tasks\":[{\"name\":\"a\",\"op\":\"module\",\"module\":\"#\"}]},",
+        times: 50_000,
+        ..MODULES
+    },
+    MadeFile {
+        has: "10,000 tasks in two graphs",
+        front: BESIDE,
+        times: 9_998,
+        ..TASKS
+    },
+    MadeFile {
+        has: "10,001 tasks in two graphs",
+        front: BESIDE,
+        times: 9_999,
+        ..TASKS
+    },
+    MadeFile {
+        has: "100,000 edges in two graphs",
+        front: BESIDE,
+        times: 9_998,
+        back: b"{\"name\":\"x\",\"op\":\"pass\",\"to\":[\"x\",\"x\",\"x\",\"x\",\"x\",\"x\",\"x\",\"x\",\"x\",\"x\",\"x\",\"x\",\"x\",\"x\",\"x\",\"x\",\"x\",\"x\",\"x\"]}]}",
+        ..EDGES
+    },
+    MadeFile {
+        has: "100,001 edges in two graphs",
+        front: BESIDE,
+        times: 9_998,
+        back: b"{\"name\":\"x\",\"op\":\"pass\",\"to\":[\"x\",\"x\",\"x\",\"x\",\"x\",\"x\",\"x\",\"x\",\"x\",\"x\",\"x\",\"x\",\"x\",\"x\",\"x\",\"x\",\"x\",\"x\",\"x\",\"x\"]}]}",
+        ..EDGES
+    },
+    MadeFile {
+        has: "257 semaphores in two graphs",
+        front: b"{\"modules\":[{\"name\":\"m\",\"semaphores\":[{\"name\":\"s\",\"max\":1}],\"tasks\":[]}],\"tasks\":[],\"semaphores\":[",
+        times: 255,
+        ..SEMAPHORES
+    },
+    MadeFile {
+        has: "1,024 texts in two graphs",
+        front: BESIDE,
+        times: 1_022,
+        ..READS
+    },
+    MadeFile {
+        has: "1,025 texts in two graphs",
+        front: BESIDE,
+        times: 1_023,
         ..READS
     },
     MadeFile {

@@ -2,6 +2,8 @@
 use denote.Param.Send.{IsSend, IsSync, sendable}
 use denote.Struct.Field as field
 use Rattle.std.proofs.Crossing.{crosses, frees}
+use Rattle.std.proofs.alloc.Global.TheSendSync as heap
+use Rattle.std.proofs.option.Option.TheSendSync as option
 use Rattle.worker_seat.proofs.Crossing.{seat_send, crew_sync}
 use Rattle.worker_seat.specs.contracts.seat.WorkerSeat as worker_seat
 use Rattle.worker_seat.specs.contracts.crew.Crew as crew
@@ -9,11 +11,14 @@ use Rattle.test_jobs.specs.contracts.job.NumberJob as number_job
 use Rattle.test_jobs.specs.contracts.job.NumberJobJob.TheImpl as job
 use Rattle.test_jobs.specs.contracts.job.NumberJobValued.TheImpl as valued
 
+-- what crosses threads of a job's fields
+ruleset fields = (crosses, frees, heap.the_field_send, heap.the_field_sync, heap.the_send, heap.the_sync, option.the_send, option.the_sync, sendable)
+
 job_send : IsSend number_job.the_row
-job_send = search (crosses, frees, sendable) depth 60 fits 20000
+job_send = search fields depth 60 fits 20000
 
 job_sync : IsSync number_job.the_row
-job_sync = search (crosses, frees, sendable) depth 60 fits 20000
+job_sync = search fields depth 60 fits 20000
 
 pub seat_crosses : IsSend (worker_seat.the_row number_job.the_row (field.unit-field).row (field.u64-field).row job.ghosts valued.ghosts)
 seat_crosses = seat_send number_job.the_row (field.u64-field).row job.ghosts valued.ghosts job_send job_sync (search sendable) (search sendable) (field.unit-field).row (search sendable)

@@ -1,16 +1,15 @@
 // Jobs of numbers.
-ghost use Rattle.std.specs.Prelude.{◌≡◌, ◌≤◌, ◌<◌, [], length, map, IfOk, IfErr, IfSome, slice_get};
+ghost use Rattle.std.specs.Prelude.{◌≡◌, ◌≤◌, [], map, IfOk, IfSome, IsTrue, slice_get};
 ghost use Rattle.std.specs.Arc.{arc_value};
 ghost use Rattle.task_graph.specs.declared.net.TaskRow.{TaskRow};
 ghost use Rattle.join_words.specs.Ins.{parts_of, found_of};
 ghost use Rattle.run_frame.specs.Meaning.{FitsShape};
-ghost use Rattle.test_jobs.specs.NumberMeaning.{number_after, number_from};
+ghost use Rattle.test_jobs.specs.NumberMeaning.{IsInnerJob, IsNestedTask, NumberDone, number_after, number_from, with_inner};
 
-use super::flat::is_flat;
 use join_words::{Given, Ins};
 use journal_rules::Why;
 use outside_io::{List, NoMemory};
-use run_frame::{Answer, Done, Job, JobError, Valued};
+use run_frame::{Answer, Done, FrameRun, Job, JobError, Valued};
 use std::alloc::Global;
 use std::marker::Model;
 use std::sync::Arc;
@@ -29,6 +28,9 @@ const LOOKS: u32 = 10_000_000;
 #[derive(Drop)]
 pub struct NumberJob {
     net: Arc<Net>,
+    // The nets of the jobs inside it: the first of these is that of the next, from this level on.
+    nets: Option<Arc<Vec<Arc<Net>>>>,
+    level: usize,
     limit: u64,
     turns: u64,
     fault: u64,
@@ -43,30 +45,37 @@ pub struct NumberJob {
 impl Model for NumberJob {
     ghost use Rattle.std.specs.Prelude.{◌≤◌};
     ghost use Rattle.std.specs.Arc.{arc_value};
-    ghost use Rattle.test_jobs.specs.NumberMeaning.{NumberWork};
-    ghost use Rattle.run_frame.specs.FlatNets.{IsFlatNet};
+    ghost use Rattle.test_jobs.specs.NumberMeaning.{NumberWork, nets_inside};
 
     ghost Value = { NumberWork };
 
-    ghost view = { λ job. record
-        { net = arc_value job.net; limit = job.limit; turns = job.turns; fault = job.fault } };
+    ghost view = { λ job. record {
+      net = arc_value job.net;
+      inner = nets_inside job.nets job.level;
+      limit = job.limit;
+      turns = job.turns;
+      fault = job.fault;
+    } };
 
-    ghost invariant = { λ job. IsFlatNet (arc_value job.net) × (job.limit ≤ 2097152) };
+    ghost invariant = { λ job. job.limit ≤ 2097152 };
 }
 
 impl NumberJob {
-    /// A job of a net without inner graphs, with at most `limit` starts, no more than `START_LIMIT`; else
-    /// `None`. A task that comes to the number `fault` faults. Below `turns` a Choice chooses its first edge and from
-    /// there its second; a Many chooses the same, and its third.
+    /// A job of a net, with at most `limit` starts, no more than `START_LIMIT`; else `None`. A task that comes to the
+    /// number `fault` faults. Below `turns` a Choice chooses its first edge and from there its second; a Many chooses the
+    /// same, and its third.
     pub fn new(net: Arc<Net>, limit: u64, turns: u64, fault: u64) -> Option<NumberJob>
         ensures { IfSome result (λ job. job
-            ≡ record { net = arc_value net; limit = limit; turns = turns; fault = fault }) }
+            ≡ record
+            { net = arc_value net; inner = []; limit = limit; turns = turns; fault = fault }) }
     {
-        if limit > START_LIMIT || !is_flat(&net) {
+        if limit > START_LIMIT {
             return None;
         }
         Some(NumberJob {
             net,
+            nets: None,
+            level: 0,
             limit,
             turns,
             fault,
@@ -93,6 +102,65 @@ impl NumberJob {
             meeting: tasks,
             ..self
         }
+    }
+
+    /// The same job, of which a Nested task answers a job of the first of these nets, one of that job a job of the second,
+    /// and so on. Below the last it answers its number. A run is gathered to the number of its entries.
+    pub fn with_inner(self, nets: Arc<Vec<Arc<Net>>>) -> NumberJob
+        ensures { result ≡ with_inner (map arc_value (arc_value nets).items) self }
+    {
+        NumberJob {
+            nets: Some(nets),
+            level: 0,
+            ..self
+        }
+    }
+
+    // The job that a Nested task answers, if there is one.
+    fn inner(&self) -> Result<Option<NumberJob>, NoMemory>
+        ensures { IfOk result (λ inner. IfSome inner (IsInnerJob self.now)) }
+    {
+        let Some(nets) = &self.nets else {
+            return Ok(None);
+        };
+        let Some(net) = nets.get(self.level) else {
+            return Ok(None);
+        };
+        Ok(Some(NumberJob {
+            net: Arc::try_clone(net)?,
+            nets: Some(Arc::try_clone(nets)?),
+            level: self.level + 1,
+            limit: self.limit,
+            turns: self.turns,
+            fault: self.fault,
+            additions: self.additions,
+            meeting: 0,
+            begun: AtomicU64::new(0),
+            met: AtomicU64::new(0),
+        }))
+    }
+
+    // Whether a task is Nested.
+    fn is_nested(&self, task: u32) -> bool
+        ensures { IsTrue result → IsNestedTask self.now.net task }
+    {
+        match self.net.tasks().get(task as usize) {
+            Some(row) => matches!(row.shape, Shape::Nested),
+            None => false,
+        }
+    }
+
+    // What a task does that comes to a number.
+    fn done(&self, alloc: Global, task: u32, number: u64) -> Result<Done<NumberJob>, NoMemory>
+        ensures { IfOk result (NumberDone self.now task number) }
+    {
+        if self.is_nested(task) {
+            if let Some(inner) = self.inner()? {
+                return Ok(Done::Inner(inner));
+            }
+        }
+        let answer = self.answer(alloc, task, number)?;
+        Ok(Done::Value(number, answer))
     }
 
     /// How many tasks have seen that as many had begun as were to meet.
@@ -194,10 +262,19 @@ impl Job for NumberJob {
         if number == self.fault {
             return Err(JobError::Fault(Why::Long(number)));
         }
-        match self.answer(alloc, task, number) {
-            Ok(answer) => Ok(Done::Value(number, answer)),
+        match self.done(alloc, task, number) {
+            Ok(done) => Ok(done),
             Err(NoMemory) => Err(JobError::NoMemory),
         }
+    }
+
+    /// The number of the run's entries. If it is that at which tasks fault, so does this.
+    fn gather(&self, _alloc: Global, run: &FrameRun<NumberJob>) -> Result<u64, JobError> {
+        let number = run.journal.len() as u64;
+        if number == self.fault {
+            return Err(JobError::Fault(Why::Wide(number)));
+        }
+        Ok(number)
     }
 
     ghost answers_fit = { number_answers_fit };

@@ -1,6 +1,6 @@
 // A run of many tasks.
 use journal_rules::{Cause, MAX_LIMIT};
-use legal_run::{Machine, MachineError};
+use net_machine::{Machine, MachineError};
 use outside_io::List;
 use std::alloc::Global;
 use std::sync::Arc;

@@ -1,9 +1,9 @@
-//! Tests of nets: of their builder, of the machine and the judge, and of the pitfall check. There is nothing here but tests, and
-//! claims on the definitions of pitfalls in `proofs/`.
+//! Tests of nets: of their builder, of the machine and the judge, and of the pitfall check. There is nothing here but
+//! tests, and claims on the definitions of pitfalls in `proofs/`.
 //!
 //! The machine and the judge are held against runs that were worked out by hand, and on a table of small nets, at each
-//! step, right or wrong, against plain rules that look through the steps before it. The check is held against plain loops on
-//! all nets of at most three tasks and four edges.
+//! step, right or wrong, against plain rules that look through the steps before it. The check is held against plain
+//! loops on all nets of at most three tasks and four edges.
 #![tactic(auto)]
 
 #[cfg(test)]

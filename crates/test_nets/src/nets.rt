@@ -69,7 +69,8 @@ pub(crate) const HOLDER: Task = Task {
     units: Units::Held,
 };
 
-/// The rows of a net with one semaphore, of one unit: its tasks, its edges, and those after them that begin with a token.
+/// The rows of a net with one semaphore, of one unit: its tasks, its edges, and those after them that begin with a
+/// token.
 #[derive(Clone, Copy)]
 pub(crate) struct NetCase<'r> {
     pub(crate) tasks: &'r [Task],

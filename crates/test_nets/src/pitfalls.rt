@@ -1,5 +1,5 @@
-// The pitfall check: all nets of at most three tasks and four edges, each looked at by plain loops too, nets with findings that
-// were worked out by hand, and nets of many tasks.
+// The pitfall check: all nets of at most three tasks and four edges, each looked at by plain loops too, nets with
+// findings that were worked out by hand, and nets of many tasks.
 ghost use Rattle.std.specs.Prelude.{IfOk, IsTrue};
 ghost use Rattle.pitfall_check.specs.Pitfalls.{BeginsWithoutTokens};
 
@@ -120,7 +120,8 @@ fn begins_without_tokens(net: &Net) -> bool
     net.edges().iter().all(|edge| !edge.start)
 }
 
-// Tasks, edges, and what is found. The body of a loop is led to by what begins it and by its condition, which is sound and found.
+// Tasks, edges, and what is found. The body of a loop is led to by what begins it and by its condition, which is sound
+// and found.
 const BY_HAND: [(&[Task], &[(u32, u32)], &[Finding]); 3] = [
     (&[], &[], &[]),
     (

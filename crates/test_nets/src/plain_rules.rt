@@ -1,5 +1,6 @@
 // The rules of steps, decided by looking through the steps before. Only the rows of a net and the steps are looked at,
-// nothing is counted ahead, and no clause says what is decided: these are the rules in other words than the definitions.
+// nothing is counted ahead, and no clause says what is decided: these are the rules in other words than the
+// definitions.
 use crate::nets::{NetCase, PLAIN, Task};
 use crate::steps::Step;
 use journal_rules::{Cause, DropWhy, Why};
@@ -266,8 +267,8 @@ impl Taken<'_> {
         out
     }
 
-    // Whether the open start at an index, of this task, would put a unit that isn't out: at some moment since, the others
-    // claimed at least as many units as came from elsewhere.
+    // Whether the open start at an index, of this task, would put a unit that isn't out: at some moment since, the
+    // others claimed at least as many units as came from elsewhere.
     fn was_over(&self, start: u64, task: u32) -> bool {
         let own = u64::from(self.net.takes(task));
         for last in start as usize..self.steps.len() {

@@ -4,7 +4,8 @@ ghost use Rattle.std.specs.Prelude.{◌≡◌, ◌<◌, length};
 use crate::nets::{CHOICE, NetCase, PLAIN, built};
 use crate::steps::{Step, ask, judged};
 use journal_rules::{Cause, Part};
-use legal_run::{Break, Machine, ReadyRelease, Verdict};
+use legal_run::{Break, Verdict};
+use net_machine::{Machine, ReadyRelease};
 use outside_io::NoMemory;
 use std::test::Fail;
 

@@ -3,7 +3,8 @@ use crate::nets::{CHOICE, MANY, NetCase, PLAIN, PUTTER, TAKER, built};
 use crate::plain_rules::Taken;
 use crate::steps::{Step, ask, judged};
 use journal_rules::{Cause, DropWhy, Why};
-use legal_run::{Machine, MachineError, Verdict};
+use legal_run::Verdict;
+use net_machine::{Machine, MachineError};
 use std::alloc::Global;
 use std::process::Abort;
 use std::sync::Arc;
@@ -362,8 +363,8 @@ fn steps_are_answered_as_worked_out(rt: HostRuntime) -> Result<(), Fail> {
     Ok(())
 }
 
-// The machine answers each step as the run says. The judge says the same of the journal with that step, and so do the plain
-// rules, with which both are compared elsewhere.
+// The machine answers each step as the run says. The judge says the same of the journal with that step, and so do the
+// plain rules, with which both are compared elsewhere.
 fn expect_answers(
     rt: &impl Abort,
     alloc: Global,

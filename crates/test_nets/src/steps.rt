@@ -2,7 +2,8 @@
 ghost use Rattle.std.specs.Prelude.{◌≡◌};
 
 use journal_rules::{Cause, DropWhy, Entry, Why};
-use legal_run::{Machine, MachineError, Verdict, judge};
+use legal_run::{Verdict, judge};
+use net_machine::{Machine, MachineError};
 use outside_io::{List, NoMemory};
 use std::alloc::Global;
 use task_graph::Net;
@@ -35,7 +36,8 @@ pub(crate) fn ask(machine: &mut Machine, step: Step<'_>) -> Result<u64, MachineE
     }
 }
 
-/// What the judge says of the journal of these steps. What a start finds is left out, since the judge doesn't look at it.
+/// What the judge says of the journal of these steps. What a start finds is left out, since the judge doesn't look at
+/// it.
 pub(crate) fn judged(
     alloc: Global,
     net: &Net,

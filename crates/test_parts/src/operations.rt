@@ -92,7 +92,8 @@ fn long_line(alloc: Global, letters: u32) -> Result<Text, NoMemory> {
     Text::from_bytes(alloc, line)
 }
 
-// Whether two lines that are joined with a line of the greatest length are refused, with the bytes that they would have.
+// Whether two lines that are joined with a line of the greatest length are refused, with the bytes that they would
+// have.
 fn is_joined_too_long(alloc: Global, line: &Text) -> Result<bool, NoMemory> {
     let left = Text::from_bytes(alloc, List::from_slice(alloc, b"k\nk")?)?;
     let refused = match_lines(alloc, &left, line).err();

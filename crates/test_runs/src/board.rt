@@ -1,4 +1,5 @@
-// A table with what its threads share under a lock: a shelf and, where turns that find no unit are parked, a rest for them.
+// A table with what its threads share under a lock: a shelf and, where turns that find no unit are parked, a rest for
+// them.
 ghost use Rattle.std.specs.Prelude.{◌≡◌, ◌≢◌, ◌<◌, ◌≤◌, IfSome, IsTrue, Some, [], false, length};
 ghost use Rattle.journal_rules.specs.Limits.{max_limit};
 ghost use Rattle.journal_rules.specs.SemaphoreRule.{takes};
@@ -20,8 +21,8 @@ use std::marker::Model;
 use std::sync::{Arc, Wait};
 use task_graph::Net;
 
-/// A shelf, and a rest for the turns that find no unit, if they are parked. It is gone once its turns were dropped. Without it they
-/// wait on the shelf.
+/// A shelf, and a rest for the turns that find no unit, if they are parked. It is gone once its turns were dropped.
+/// Without it they wait on the shelf.
 #[derive(Drop)]
 struct Yard {
     shelf: Shelf,
@@ -127,8 +128,8 @@ impl Yard {
         self.look(steps);
     }
 
-    // Parks a turn that found no unit, after the turns that are done are with the keeper. Without a rest it waits on the shelf.
-    // Where the rest has no room the run is over.
+    // Parks a turn that found no unit, after the turns that are done are with the keeper. Without a rest it waits on
+    // the shelf. Where the rest has no room the run is over.
     fn park(&mut self, steps: &Steps, turn: Turn<u64>)
         requires table { steps.now.table.table ≡ self.old }
         requires turn { Waits self.old turn }

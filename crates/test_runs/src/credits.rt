@@ -14,8 +14,8 @@ pub(crate) fn credit(table: &NetTable<u64>, ticket: StartTicket<u64>) -> Running
     table.credit(table.start(ticket), 0)
 }
 
-/// Starts a task that puts a unit of semaphore 0 and takes none, and claims the unit. Where the claim is refused it is an
-/// error.
+/// Starts a task that puts a unit of semaphore 0 and takes none, and claims the unit. Where the claim is refused it is
+/// an error.
 pub(crate) fn claim(
     table: &NetTable<u64>,
     ticket: StartTicket<u64>,

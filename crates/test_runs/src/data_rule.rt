@@ -1,5 +1,5 @@
-// The rule on inputs, decided in one walk over a journal. No clause says what is decided: this is the rule in other words than
-// the definition, which the journals of runs are proved to meet.
+// The rule on inputs, decided in one walk over a journal. No clause says what is decided: this is the rule in other
+// words than the definition, which the journals of runs are proved to meet.
 use crate::nets::{EMPTY, NetCase};
 use journal_rules::{Cause, Entry, Part};
 use outside_io::{List, NoMemory};
@@ -26,8 +26,9 @@ struct Edges {
     parts: Vec<(u32, Part)>,
 }
 
-/// Whether each start finds a part at each edge that released it, in their order: an End that gave the edge, or the token with
-/// which it began, that no start found there before, or nothing; and the last End where there was never more than one token.
+/// Whether each start finds a part at each edge that released it, in their order: an End that gave the edge, or the
+/// token with which it began, that no start found there before, or nothing; and the last End where there was never more
+/// than one token.
 pub(crate) fn meets_data_rule(
     alloc: Global,
     net: &Net,
@@ -190,8 +191,8 @@ impl Edges {
     }
 }
 
-// What the second start of a journal finds at the one edge that leads to its task, where the End at place 1 gave it: whether it
-// may.
+// What the second start of a journal finds at the one edge that leads to its task, where the End at place 1 gave it:
+// whether it may.
 const CALM: [(&[Part], bool); 6] = [
     (&[Part::From(1)], true),
     (&[Part::From(0)], false),

@@ -6,8 +6,8 @@ use std::test::Fail;
 use task_graph::Net;
 use test_jobs::{NumberJob, START_LIMIT};
 
-/// A job: its net, how many starts its run may have, how its tasks choose and fault (`NumberJob::new`), and how many starts the
-/// run is to have at least and at most.
+/// A job: its net, how many starts its run may have, how its tasks choose and fault (`NumberJob::new`), and how many
+/// starts the run is to have at least and at most.
 #[derive(Clone, Copy)]
 pub(crate) struct JobCase {
     pub(crate) name: &'static str,
@@ -23,7 +23,7 @@ impl JobCase {
     pub(crate) fn job(&self, rt: &impl Abort, net: &Arc<Net>) -> Result<NumberJob, Fail> {
         match NumberJob::new(Arc::try_clone(net)?, self.limit, self.turns, self.fault) {
             Some(job) => Ok(job),
-            None => panic!(rt; "{} isn't flat", self.name),
+            None => panic!(rt; "{} has too many starts", self.name),
         }
     }
 }

@@ -1,5 +1,5 @@
-// Runs of the jobs: each by one thread in ten orders, recorded after each step, after some or at the end; each by `run_alone`; and
-// each by crews.
+// Runs of the jobs: each by one thread in ten orders, recorded after each step, after some or at the end; each by
+// `run_alone`; and each by crews.
 use crate::data_rule::{finds_in_order, finds_something, meets_data_rule};
 use crate::job_cases::{COUNT, FAN, JobCase, TWO_TASKS, case_at};
 use crate::nets::fan;
@@ -38,7 +38,8 @@ const CREWS: [usize; 4] = [1, 2, 4, 16];
 // How often each crew runs each job.
 const TIMES: u32 = 5;
 
-// The journal is complete and meets the data rule, no start lacks a part, and there are as many starts as the case says.
+// The journal is complete and meets the data rule, no start lacks a part, and there are as many starts as the case
+// says.
 fn check_run(
     rt: &impl Abort,
     alloc: Global,

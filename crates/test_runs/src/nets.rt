@@ -5,9 +5,10 @@ use std::sync::Arc;
 use std::test::Fail;
 use task_graph::{BuildError, Net, NetBuilder, Shape};
 
-/// A net. Each letter of `tasks` is a task: `p` is a plain one, `c` a choice and `m` a choice of many, which need no unit, `t` takes a
-/// unit, `g` gives one back, `u` does both, `d` is a choice that does both, and `h` takes and gives back a unit of each of two
-/// semaphores. An edge is two letters, of the task that it leaves and of the one that it leads to, where `a` is the first.
+/// A net. Each letter of `tasks` is a task: `p` is a plain one, `c` a choice and `m` a choice of many, which need no unit,
+/// `t` takes a unit, `g` gives one back, `u` does both, `d` is a choice that does both, `h` takes and gives back a unit of
+/// each of two semaphores, `n` has an inner graph, and `k` has one and takes and gives back a unit. An edge is two letters,
+/// of the task that it leaves and of the one that it leads to, where `a` is the first.
 #[derive(Clone, Copy)]
 pub(crate) struct NetCase {
     /// A digit for each semaphore: how many units it has.
@@ -51,6 +52,8 @@ fn add_task(alloc: Global, builder: &mut NetBuilder, letter: u8) -> Result<(), B
         b'u' => (Shape::Plain, &[0], &[0]),
         b'd' => (Shape::Choice, &[0], &[0]),
         b'h' => (Shape::Plain, &[0, 1], &[0, 1]),
+        b'n' => (Shape::Nested, &[], &[]),
+        b'k' => (Shape::Nested, &[0], &[0]),
         _ => (Shape::Plain, &[], &[]),
     };
     let takes = List::from_slice(alloc, takes)?;

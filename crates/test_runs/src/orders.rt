@@ -9,8 +9,8 @@ use std::test::Fail;
 // A case, and the moves of the thread (`By::Moves`).
 type Order = (TableCase, &'static str);
 
-// A and B are the tasks of the rings. C is the task that both feed: it is taken up before the second round of its tokens
-// comes, and finds it, so that the task is released again, as D.
+// A and B are the tasks of the rings. C is the task that both feed: it is taken up before the second round of its
+// tokens comes, and finds it, so that the task is released again, as D.
 const RINGS_MEET: Order = (
     TableCase {
         name: "rings meet",
@@ -71,8 +71,8 @@ const RINGS_HALT: Order = (
     "B1 A0- acrasi bcrxi C.",
 );
 
-// Each takes the unit of the lesser semaphore first: B finds none of it until A gives it back, and then none of the other until
-// A gives that back too.
+// Each takes the unit of the lesser semaphore first: B finds none of it until A gives it back, and then none of the
+// other until A gives that back too.
 const UNITS_CROSS: Order = (
     TableCase {
         name: "units cross",

@@ -29,8 +29,8 @@ pub(crate) const GIVE_ALL: Terms = Terms {
     first_faults: false,
 };
 
-/// What comes of a run: how many starts, faults and drops it has at least and at most, and why each start faults and each release
-/// is dropped.
+/// What comes of a run: how many starts, faults and drops it has at least and at most, and why each start faults and
+/// each release is dropped.
 #[derive(Clone, Copy)]
 pub(crate) struct Outcome {
     pub(crate) starts: (u64, u64),

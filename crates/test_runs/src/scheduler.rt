@@ -23,8 +23,8 @@ pub enum Order {
     Mixed(u64),
 }
 
-/// The run that takes its steps in this order, if it comes to its end. What its steps have done is recorded after so many
-/// of them, or where no step is left.
+/// The run that takes its steps in this order, if it comes to its end. What its steps have done is recorded after so
+/// many of them, or where no step is left.
 pub fn run_in_order<R: Wait>(
     rt: &R,
     alloc: Global,
@@ -62,8 +62,8 @@ fn all_steps<R: Wait>(
     Ok(None)
 }
 
-// Which of so many is next.
-fn place_in(order: Order, step: u32, count: usize) -> usize
+/// Which of so many is next.
+pub fn place_in(order: Order, step: u32, count: usize) -> usize
     requires { 0 < count }
     ensures { result < count }
 {
@@ -100,8 +100,8 @@ fn take_step<R: Wait>(
     Ok(())
 }
 
-// Has recorded what the steps have done, and gives the run if it is closed. Where nothing is pending, what is parked goes on or
-// is dropped.
+// Has recorded what the steps have done, and gives the run if it is closed. Where nothing is pending, what is parked
+// goes on or is dropped.
 fn record<R: Wait>(
     rt: &R,
     pending: &mut Vec<Release<NumberJob>>,
@@ -111,8 +111,10 @@ fn record<R: Wait>(
     ensures { OnOk result (IsUnderWay pending.new.items backlog.new) }
 {
     let Brought { state, .. } = Frame::bring(rt, backlog)?;
-    if let State::Closed(run) = state {
-        return Ok(Some(run));
+    match state {
+        State::Closed(run) => return Ok(Some(run)),
+        State::Resumed(_) => return Err(NoMemory), // never: no net here has an inner graph
+        _ => {}
     }
     if pending.is_empty() {
         settle(rt, pending, backlog)?;

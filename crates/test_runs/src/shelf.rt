@@ -9,8 +9,8 @@ use outside_io::NoMemory;
 use std::alloc::Global;
 use std::marker::Model;
 
-/// The releases that no thread has taken, the turns that found no unit, those that are done and not yet with the keeper, and
-/// the keeper of the run.
+/// The releases that no thread has taken, the turns that found no unit, those that are done and not yet with the
+/// keeper, and the keeper of the run.
 pub(crate) struct Shelf {
     keeper: Keeper<u64>,
     fresh: Vec<Fresh<u64>>,

@@ -45,7 +45,8 @@ impl Stage {
         }
     }
 
-    /// A step of a thread: the turn, if it isn't handed in after that. A release that the step makes is handed in at once.
+    /// A step of a thread: the turn, if it isn't handed in after that. A release that the step makes is handed in at
+    /// once.
     pub(crate) fn step<R: Wait>(self, rt: &R, board: &Board) -> Option<Stage>
         requires { IsStage (board.now.steps.table) self }
         ensures { IfSome result (IsStage (board.now.steps.table)) }

@@ -1,5 +1,5 @@
-// What runs over tables speak of: the units that a task needs, a turn between two of its steps, and what threads hand to one
-// another.
+// What runs over tables speak of: the units that a task needs, a turn between two of its steps, and what threads hand
+// to one another.
 use join_tables::{Collecting, Fresh, Owing, Running, Spent, StartTicket, Turn};
 use journal_rules::DropWhy;
 

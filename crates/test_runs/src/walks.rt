@@ -8,12 +8,12 @@ use crate::steps::Steps;
 use std::mem;
 use std::sync::Wait;
 
-/// Makes a move, and says by a sign what it led to. The thread takes the next turn to the place that a capital letter names, or
-/// the turn at the place of a small letter takes a step.
+/// Makes a move, and says by a sign what it led to. The thread takes the next turn to the place that a capital letter
+/// names, or the turn at the place of a small letter takes a step.
 ///
-/// A digit is the task of a release. A turn `c`ollects its tokens, `n`eeds units, has one of two (`h`), is `r`eady or refused
-/// (`x`), `a`dmitted, `s`tarted, started and refused its claim (`v`), ended and `o`wes units or edges, and is handed `i`n,
-/// where it is done or found no unit. There is no turn (`-`), or none is left (`.`).
+/// A digit is the task of a release. A turn `c`ollects its tokens, `n`eeds units, has one of two (`h`), is `r`eady or
+/// refused (`x`), `a`dmitted, `s`tarted, started and refused its claim (`v`), ended and `o`wes units or edges, and is
+/// handed `i`n, where it is done or found no unit. There is no turn (`-`), or none is left (`.`).
 pub(crate) fn moved<R: Wait>(rt: &R, board: &Board, turns: &mut [Stage], mover: u8) -> u8
     requires { All (IsStage (board.now.steps.table)) turns.old }
     ensures { All (IsStage (board.now.steps.table)) turns.new }

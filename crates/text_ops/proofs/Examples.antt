@@ -5,6 +5,7 @@ use Rattle.std.specs.declared.cmp.Ordering.TheVariants.{Less, Equal, Greater}
 use Rattle.text_ops.specs.declared.gathered.ApplyError.TheVariants.{Long, NoMemory}
 use Rattle.text_ops.specs.Lines.{lines_of, text_of, normal, occurs}
 use Rattle.text_ops.specs.LineOrder.{line_cmp, IsUpTo, insert_line, in_order}
+use Rattle.text_ops.specs.LineParts.{line_part, line_parts, part_count}
 use Rattle.text_ops.specs.MatchKeys.{match_key, behind_key, first_with, joined, matched}
 use Rattle.text_ops.specs.Repeats.{changes, without_repeats, count_of, NeighboursDiffer}
 use Rattle.text_ops.specs.TextMeaning.{keep_meaning, without_meaning, head_meaning, tail_meaning, skip_meaning, sort_meaning, uniq_meaning, count_meaning, tally_line, tally_meaning, match_meaning, has_word}
@@ -212,3 +213,25 @@ another_value made = apart 97 98 (lit< tt) (sym (ap (λ (l : List ℕ). get_or l
 
 refused_value : (value : List ℕ) → length value ≡ 16777217 → Makes value (Err (Long 16777217))
 refused_value value long = long_value value long
+
+-- Parts of so many lines.
+parts_of_five_lines : line_parts 2 (codes "1\n2\n3\n4\n5") ≡ codes "1\n2\n" ∷ codes "3\n4\n" ∷ codes "5\n" ∷ []
+parts_of_five_lines = refl
+
+parts_of_no_line : line_parts 3 [] ≡ []
+parts_of_no_line = refl
+
+one_part_of_all_lines : line_parts 9 (codes "1\n2\n") ≡ codes "1\n2\n" ∷ []
+one_part_of_all_lines = refl
+
+parts_with_a_rest : part_count 2 (codes "1\n2\n3\n") ≡ 2
+parts_with_a_rest = refl
+
+parts_without_a_rest : part_count 3 (codes "1\n2\n3\n") ≡ 1
+parts_without_a_rest = refl
+
+second_part : line_part 2 (codes "1\n2\n3\n") 1 ≡ codes "3\n"
+second_part = refl
+
+part_behind_all_lines : line_part 2 (codes "1\n2\n3\n") 2 ≡ []
+part_behind_all_lines = refl

@@ -7,6 +7,7 @@ pub mod PlaceLemmas
 pub mod KeptSoFarLemmas
 pub mod CountLemmas
 pub mod CutLemmas
+pub mod PartLemmas
 pub mod LineSteps
 pub mod RepeatLemmas
 pub mod SortKeyLemmas

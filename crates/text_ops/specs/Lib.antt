@@ -4,5 +4,6 @@ pub mod Repeats
 pub mod MatchKeys
 pub mod TextMeaning
 pub mod Values
+pub mod LineParts
 pub mod Joining
 pub mod inside

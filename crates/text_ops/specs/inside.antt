@@ -7,5 +7,6 @@ pub mod Matching
 pub mod Tallying
 pub mod Repeating
 pub mod Cuts
+pub mod Parting
 pub mod KeptSoFar
 pub mod FoundLine

@@ -40,7 +40,7 @@ pub fn tail(text: &Text, n: u64) -> Result<Text, ApplyError>
 }
 
 // Where the first lines end.
-fn first_lines(text: &[u8], n: u64) -> usize
+pub(crate) fn first_lines(text: &[u8], n: u64) -> usize
     requires { IsNormal text.now }
     ensures { IsCut text.now n result }
 {

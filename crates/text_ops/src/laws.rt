@@ -1,7 +1,9 @@
 // What the definitions amount to.
-ghost use Rattle.std.specs.Prelude.{◌≡◌, ◌≢◌, ◌↔◌, ◌++◌, ℕ, List, All, AllPairs, ◌-◌, IsTrue, Contains, length, sum_by};
+ghost use Rattle.std.specs.Prelude.{◌≡◌, ◌≢◌, ◌↔◌, ◌++◌, ℕ, ◌≤◌, List, All, AllPairs, ◌-◌, IsTrue, Contains, length, sum_by};
+ghost use Rattle.std.specs.List.{flat_map};
 ghost use Rattle.std.specs.List.Sorted.{IsPermutation};
 ghost use Rattle.text_ops.specs.LineOrder.{IsUpTo, in_order};
+ghost use Rattle.text_ops.specs.LineParts.{line_parts};
 ghost use Rattle.text_ops.specs.Lines.{IsPlain, OccursIn, lines_of, normal, occurs, text_of};
 ghost use Rattle.text_ops.specs.Repeats.{NeighboursDiffer, count_of, without_repeats};
 ghost use Rattle.text_ops.specs.TextMeaning.{head_meaning, keep_meaning, skip_meaning, tail_meaning, without_meaning};
@@ -30,6 +32,9 @@ pub fn shares_of_lines()
     ensures shared { (word text : List ℕ)
         → IsPermutation (lines_of text)
         (lines_of (keep_meaning word text) ++ lines_of (without_meaning word text)) }
+    // The parts of a text, one behind the other, are the text.
+    ensures parts { (n : ℕ) (text : List ℕ) → 1 ≤ n
+        → flat_map (λ part. part) (line_parts n text) ≡ normal text }
 {}
 
 /// Laws of lines in order and of those that repeat.

@@ -27,6 +27,7 @@ mod sort_key;
 mod sort_keys;
 mod tallies;
 mod text;
+mod text_parts;
 
 pub use counts::{count, count_line, line_count};
 pub use cuts::{head, skip, tail};
@@ -41,3 +42,4 @@ pub use part::pass;
 pub use repeats::uniq;
 pub use tallies::tally;
 pub use text::Text;
+pub use text_parts::{line_parts, part_count};

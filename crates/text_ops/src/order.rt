@@ -30,8 +30,8 @@ pub fn sort(alloc: Global, text: &Text) -> Result<Text, ApplyError>
     made.finish(alloc)
 }
 
-// Adds the line of a sort key, with its end. The lead has eight bytes, so that a line of at most seven and its end fit there.
-// Such a line isn't read from the text again, in which lines that are neighbours in order lie far apart.
+// Adds the line of a sort key, with its end. The lead has eight bytes, so that a line of at most seven and its end fit
+// there. Such a line isn't read from the text again, in which lines that are neighbours in order lie far apart.
 fn add_keyed_line<O: Offset>(
     made: &mut Gathered,
     text: &[u8],

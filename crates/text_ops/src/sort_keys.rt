@@ -13,7 +13,8 @@ use outside_io::NoMemory;
 use std::alloc::Global;
 use std::cmp::Ordering;
 
-// Sort keys of these pieces of the lines, in the order of their bytes. Sort keys of equal keys are in the order of the lines.
+// Sort keys of these pieces of the lines, in the order of their bytes. Sort keys of equal keys are in the order of the
+// lines.
 pub(crate) fn sorted_keys<O: Offset>(
     alloc: Global,
     text: &[u8],

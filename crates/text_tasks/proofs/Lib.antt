@@ -1,5 +1,6 @@
 pub mod FoundLemmas
 pub mod OneByOneLemmas
 pub mod WorkLemmas
+pub mod GatherLemmas
 pub mod PlanLemmas
 pub mod WorkedJobs

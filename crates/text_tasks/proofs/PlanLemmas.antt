@@ -13,8 +13,10 @@ use Rattle.task_graph.specs.declared.net.EdgeRow.{EdgeRow}
 use Rattle.journal_rules.specs.declared.entry.Cause.TheVariants.{Strong}
 use Rattle.run_frame.specs.Meaning.{IsRelease}
 use Rattle.graph_plans.specs.declared.ops.Op.{Op}
+use Rattle.graph_plans.specs.declared.ops.Op.TheVariants.{Input, Read, Text, Match, Back, IfMore, IfHas, Route, Spread, Module}
+use Rattle.graph_plans.specs.ModuleUses.{has_chain, modules_run}
 use Rattle.graph_plans.specs.Operations.{IsOp, shape_of}
-use Rattle.graph_plans.specs.PlanRows.{IsPlan, IsTextName, AllDiffer}
+use Rattle.graph_plans.specs.PlanRows.{IsGraph, IsPlan, IsTextName, AllDiffer}
 use Rattle.text_tasks.specs.GraphWork.{IsWork}
 use Rattle.text_tasks.specs.ValueTexts.{IsValueText}
 use Rattle.text_tasks.specs.inside.WorkedPlans.{worked_task, worked_edge, worked_net, worked_plan, worked_texts, worked_work}
@@ -44,38 +46,60 @@ apart names distinct = AllPairs-from_IsDistinct {eq = bytes_eq} bytes_eq-Decides
 text_name : (letter : ℕ) → IsTextName (letter ∷ [])
 text_name letter = record { least = omega arith; most = omega arith }
 
-pub worked_is_plan : (op : Op) → IsOp 2 op → IsPlan (worked_plan op)
+worked_is_graph : (op : Op) → IsOp 2 0 op → IsGraph 2 0 (worked_plan op).top
 unfolding IsDistinct
-worked_is_plan op fits = record {
-  name = refl;
-  modules = refl;
+worked_is_graph op fits = record {
   net = net_is (shape_of op);
   no_first_tokens = All-from_recursion (λ (row : EdgeRow). row.start ≡ false) (worked_net (shape_of op)).edges (refl, (refl, (refl, tt)));
   names = refl;
   shapes = refl;
-  ops = All-from_recursion (IsOp 2) (worked_plan op).top.ops (omega arith, (omega arith, (omega arith, (fits, tt))));
+  ops = All-from_recursion (IsOp 2 0) (worked_plan op).top.ops (omega arith, (omega arith, (omega arith, (fits, tt))));
   names_differ = apart (worked_plan op).top.names (((refl, (refl, (refl, tt))), ((refl, (refl, tt)), ((refl, tt), (tt, tt)))));
   sem_names = refl;
   sem_names_differ = apart [] tt;
   maxima = λ k d below. absurd (omega (arith, below));
-  task_count = omega arith;
-  edge_count = omega arith;
-  sem_count = omega arith;
+}
+
+-- no task runs a module, where the operation doesn't
+pub worked_is_plan : (op : Op) → IsOp 2 0 op → IsPlan (worked_plan op)
+unfolding IsDistinct
+worked_is_plan op fits = record {
+  name = refl;
+  graphs = All-from_recursion (IsGraph 2 0) ((worked_plan op).top ∷ []) (worked_is_graph op fits, tt);
+  module_names_differ = apart [] tt;
+  no_cycle = refl;
+  depth = no_chain op fits;
+  tasks = omega arith;
+  edges = omega arith;
+  sems = omega arith;
+  module_count = omega arith;
   texts = All-from_recursion IsTextName (worked_plan op).texts (text_name 101, (text_name 102, tt));
   texts_differ = apart (worked_plan op).texts ((refl, tt), (tt, tt));
   text_count = omega arith;
 }
+  where
+    no_chain : (op : Op) → IsOp 2 0 op → has_chain 9 [] (modules_run (Read 0 ∷ Read 0 ∷ Read 0 ∷ op ∷ [])) ≡ false
+    no_chain Input fits = refl
+    no_chain (Read number) fits = refl
+    no_chain (Text op) fits = refl
+    no_chain Match fits = refl
+    no_chain Back fits = refl
+    no_chain (IfMore n) fits = refl
+    no_chain (IfHas word) fits = refl
+    no_chain (Route words) fits = refl
+    no_chain (Spread n each) fits = refl
+    no_chain (Module m) fits = absurd (omega (arith, fits))
 
 value_texts : All IsValueText worked_texts
 value_texts = All-from_recursion IsValueText worked_texts (record { normal = refl; short = omega arith }, (record { normal = refl; short = omega arith }, tt))
 
-pub worked_is_work : (op : Op) → IsOp 2 op → IsWork (worked_work op)
+pub worked_is_work : (op : Op) → IsOp 2 0 op → IsWork (worked_work op)
 worked_is_work op fits = record {
   plan = worked_is_plan op fits;
   text_count = refl;
   texts = value_texts;
   input = record { normal = refl; short = omega arith };
-  top = refl;
+  in_plan = tt;
   starts = omega arith;
 }
 

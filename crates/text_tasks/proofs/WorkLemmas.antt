@@ -13,7 +13,7 @@ use Rattle.text_ops.specs.Lines.{IsNormal}
 use Rattle.text_ops.specs.TextMeaning.{has_word, sort_meaning}
 use Rattle.text_ops.specs.Values.{MayRefuse}
 use Rattle.text_ops.proofs.SortLemmas.{length-sort_meaning}
-use Rattle.text_tasks.specs.JobMeaning.{is_sink, last_sink_below}
+use Rattle.text_tasks.specs.Sinks.{is_sink, last_sink_below}
 
 last_kept : (ts : List ℕ) (n : ℕ) (is : Bool) → last_or None (ts ++ cond is (n ∷ []) []) ≡ (if is then Some n else last_or None ts)
 last_kept ts n true = last_put None ts n

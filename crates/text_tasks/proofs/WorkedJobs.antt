@@ -1,5 +1,7 @@
 -- The definitions of text jobs, computed on small ones.
-use Rattle.std.proofs.Common.{◌≡◌, ℕ, true, false, List, [], ◌∷◌, length, Some, None, pos, refl, arith, codes, ap, ◌∙◌}
+use Rattle.std.proofs.Common.{◌≡◌, ℕ, true, false, List, [], ◌∷◌, length, Some, None, pos, refl, arith, codes, ap, sym, ◌∙◌}
+use Rattle.std.specs.Prelude.{nat_le, if◌then◌else◌}
+use Rattle.std.specs.Int.{div_ceil}
 use Rattle.std.specs.Fmt.{digits}
 use Rattle.std.specs.Ptr.{Ptr}
 use Rattle.task_graph.specs.declared.net.Shape.TheVariants.{Plain, Choice}
@@ -14,20 +16,25 @@ use Rattle.run_frame.specs.declared.run.ValueRow.{ValueRow}
 use Rattle.run_frame.specs.declared.run.FrameRun.{FrameRun}
 use Rattle.run_frame.specs.NestedRule.{job_of, journal_of}
 use Rattle.run_frame.specs.Runs.{values_of}
-use Rattle.graph_plans.specs.declared.ops.Op.TheVariants.{Input, Read, Text as OnText, Match, Back, IfMore, IfHas, Route}
+use Rattle.graph_plans.specs.declared.ops.Op.TheVariants.{Input, Read, Text as OnText, Match, Back, IfMore, IfHas, Route, Spread, Module}
 use Rattle.graph_plans.specs.declared.ops.TextOp.TheVariants.{Pass, Keep, Without, Head, Tail, Skip, Sort, Uniq, Count, Tally}
-use Rattle.text_ops.specs.Lines.{IsNormal}
+use Rattle.graph_plans.specs.PlanRows.{IsPlan, PlanRows}
+use Rattle.nested_runs.specs.Spreads.{spread_net}
+use Rattle.text_ops.specs.LineParts.{line_parts}
+use Rattle.text_ops.specs.Lines.{IsNormal, lines_of}
 use Rattle.text_tasks.specs.declared.item.Item.{Item}
 use Rattle.text_tasks.specs.declared.item.Item.TheVariants.{Text}
 use Rattle.text_tasks.specs.declared.job.TextJob.{TextJob}
-use Rattle.text_tasks.specs.declared.job.TextJob.TheVariants.{Graph}
+use Rattle.text_tasks.specs.declared.job.TextJob.TheVariants.{Graph, Parts}
 use Rattle.text_tasks.specs.Items.{item_text}
 use Rattle.text_tasks.specs.ValueTexts.{IsValueText}
-use Rattle.text_tasks.specs.GraphWork.{GraphWork, IsWork, first_work, graph_of}
+use Rattle.text_tasks.specs.GraphWork.{GraphWork, IsWork, first_work, graph_in, graph_of, module_work}
+use Rattle.text_tasks.specs.PartsWork.{IsPartsWork, PartsWork}
 use Rattle.text_tasks.specs.FoundTexts.{found_text, text_found, left_found, right_found}
-use Rattle.text_tasks.specs.OpMeaning.{hands_over, op_meaning, text_op_value, has_more, occurring}
-use Rattle.text_tasks.specs.JobMeaning.{AnswersAs, FaultsAs, JobAnswers, JobFaults, JobFollows, IsTextJob, feedback_of, is_sink, last_sink_below, last_sink, limit_of, names_of, net_of, text_job}
-use Rattle.text_tasks.specs.inside.WorkedPlans.{worked_net, worked_plan, worked_texts, worked_work}
+use Rattle.text_tasks.specs.OpMeaning.{hands_over, has_more, module_meaning, occurring, op_meaning, runs, spread_meaning, text_op_value, too_wide}
+use Rattle.text_tasks.specs.JobMeaning.{AnswersAs, FaultsAs, FaultsLong, FaultsWide, JobAnswers, JobFaults, JobFollows, IsTextJob, feedback_of, gathered_text, job_plan, limit_of, names_of, net_of, task_meaning, text_gathered, text_job}
+use Rattle.text_tasks.specs.Sinks.{is_sink, last_sink, last_sink_below, sink_text, sink_texts, task_values}
+use Rattle.text_tasks.specs.inside.WorkedPlans.{worked_module, worked_modules, worked_net, worked_plan, worked_texts, worked_work}
 use Rattle.text_tasks.proofs.PlanLemmas.{worked_is_work}
 
 -- Values are normal, and not too long.
@@ -53,6 +60,15 @@ work = worked_work Match
 first_of_a_plan : first_work (worked_plan Match) worked_texts 10 ≡ record { plan = worked_plan Match; texts = worked_texts; «module» = None; input = []; limit = 10 }
 first_of_a_plan = refl
 
+graph_is_the_module's : graph_of (record work { plan = worked_modules Match; «module» = Some 0 }) ≡ worked_module
+graph_is_the_module's = refl
+
+graph_of_no_module : graph_in (worked_modules Match) (Some 1) ≡ (worked_plan Match).top
+graph_of_no_module = refl
+
+started_module : module_work work 0 (codes "x\n") ≡ record { plan = worked_plan Match; texts = worked_texts; «module» = Some 0; input = codes "x\n"; limit = 10 }
+started_module = refl
+
 graph_is_the_top_one : graph_of (record work { plan = record (worked_plan Match) { modules = (worked_plan Back).top ∷ [] } }) ≡ (worked_plan Match).top
 graph_is_the_top_one = refl
 
@@ -65,15 +81,15 @@ work_at_its_limit = record {
   text_count = small_work.text_count;
   texts = small_work.texts;
   input = small_work.input;
-  top = small_work.top;
+  in_plan = small_work.in_plan;
   starts = omega arith;
 }
 
 work_over_its_limit : ¬ IsWork (record work { limit = 1000001 })
 work_over_its_limit is = absurd (omega (arith, is.starts))
 
-plan_against_the_rules : ¬ IsWork (record work { plan = record (worked_plan Match) { modules = (worked_plan Match).top ∷ [] } })
-plan_against_the_rules is = let none = is.plan.modules in absurd (cc)
+plan_against_the_rules : ¬ IsWork (record work { plan = record (worked_plan Match) { top = record (worked_plan Match).top { name = codes "t" } } })
+plan_against_the_rules is = let unnamed = is.plan.name in absurd (cc)
 
 text_missing : ¬ IsWork (record work { texts = codes "x\n" ∷ [] })
 text_missing is = absurd (omega (arith, is.text_count))
@@ -90,8 +106,18 @@ unended_text is = absurd (unended_y (is.texts 1 [] (omega arith)))
 unended_input : ¬ IsWork (record work { input = codes "x" })
 unended_input is = absurd (unended_value is.input)
 
-work_of_a_module : ¬ IsWork (record work { «module» = Some 0 })
-work_of_a_module is = let none = is.top in absurd (cc)
+work_of_no_module : ¬ IsWork (record work { «module» = Some 0 })
+work_of_no_module is = absurd (omega (arith, is.in_plan))
+
+work_of_a_module : (plan : PlanRows) → IsPlan plan → length plan.texts ≡ 0 → length plan.modules ≡ 1 → IsWork (record { plan = plan; texts = []; «module» = Some 0; input = []; limit = 10 })
+work_of_a_module plan rules none one = record {
+  plan = rules;
+  text_count = omega (arith, none);
+  texts = λ k d below. absurd (omega (arith, below));
+  input = record { normal = refl; short = omega arith };
+  in_plan = omega (arith, one);
+  starts = omega arith;
+}
 
 -- A task's text is what its edges hold, in their order; what is no value is empty.
 abbrev x : InputValue Item
@@ -216,6 +242,123 @@ no_word_goes_second = refl
 routed : op_meaning work (y ∷ nothing ∷ x ∷ []) (Route (codes "w" ∷ codes "x" ∷ codes "x" ∷ codes "z" ∷ [])) ≡ hands_over (codes "y\nz\nx\n") (Indices (pos 1 ∷ pos 2 ∷ pos 3 ∷ []))
 routed = refl
 
+-- A spread runs the parts of its text, and a module its graph.
+abbrev five : InputValue Item
+five = value (Text (codes "1\n2\n3\n4\n5\n"))
+
+abbrev parts : PartsWork
+parts = record { parts = codes "1\n2\n" ∷ codes "3\n4\n" ∷ codes "5\n" ∷ []; op = Head 1 }
+
+parts_run : op_meaning work (five ∷ []) (Spread 2 (Head 1)) ≡ runs (Parts parts)
+parts_run = refl
+
+no_part_run : op_meaning work [] (Spread 2 Sort) ≡ runs (Parts (record { parts = []; op = Sort }))
+no_part_run = refl
+
+parts_at_the_limit : (text : List ℕ) → length (lines_of text) ≡ 65536 → spread_meaning 1 Pass text ≡ runs (Parts (record { parts = line_parts 1 text; op = Pass }))
+parts_at_the_limit text many = ap (λ n. if nat_le (div_ceil n 1) 65536 then runs (Parts (record { parts = line_parts 1 text; op = Pass })) else too_wide (div_ceil n 1)) many
+
+too_many_parts : (text : List ℕ) → length (lines_of text) ≡ 65537 → spread_meaning 1 Pass text ≡ too_wide 65537
+too_many_parts text many = ap (λ n. if nat_le (div_ceil n 1) 65536 then runs (Parts (record { parts = line_parts 1 text; op = Pass })) else too_wide (div_ceil n 1)) many
+
+module_run : op_meaning work (x ∷ y ∷ []) (Module 0) ≡ runs (Graph (record work { «module» = Some 0; input = codes "x\ny\nz\n" }))
+module_run = refl
+
+module_text_at_the_limit : (text : List ℕ) → length text ≡ 16777216 → module_meaning work 0 text ≡ runs (Graph (module_work work 0 text))
+module_text_at_the_limit text long = ap (λ n. if nat_le n 16777216 then runs (Graph (module_work work 0 text)) else hands_over text Each) long
+
+module_text_too_long : (text : List ℕ) → length text ≡ 16777217 → module_meaning work 0 text ≡ hands_over text Each
+module_text_too_long text long = ap (λ n. if nat_le n 16777216 then runs (Graph (module_work work 0 text)) else hands_over text Each) long
+
+-- The task of a part puts the part through the operation, whatever it finds.
+first_part : task_meaning (Parts parts) 0 (x ∷ []) ≡ Some (hands_over (codes "1\n") Each)
+first_part = refl
+
+last_part : task_meaning (Parts parts) 2 [] ≡ Some (hands_over (codes "5\n") Each)
+last_part = refl
+
+part_behind_the_last : task_meaning (Parts parts) 3 [] ≡ None
+part_behind_the_last = refl
+
+task_of_a_graph : task_meaning (Graph (worked_work Input)) 0 [] ≡ Some (hands_over (codes "x\n") Each)
+task_of_a_graph = refl
+
+task_behind_the_last : task_meaning (Graph (worked_work Input)) 4 [] ≡ None
+task_behind_the_last = refl
+
+net_of_parts : net_of (Parts parts) ≡ spread_net 3
+net_of_parts = refl
+
+names_of_parts : names_of (Parts parts) ≡ []
+names_of_parts = refl
+
+plan_of_a_job : job_plan (Graph work) ≡ Some (worked_plan Match)
+plan_of_a_job = refl
+
+plan_of_parts : job_plan (Parts parts) ≡ None
+plan_of_parts = refl
+
+a_start_for_each_part : limit_of (Parts parts) ≡ 3
+a_start_for_each_part = refl
+
+a_start_for_no_part : limit_of (Parts (record { parts = []; op = Sort })) ≡ 1
+a_start_for_no_part = refl
+
+few_parts : IsTextJob (Parts parts)
+few_parts = omega arith
+
+as_many_parts_as_may_be : (work : PartsWork) → length work.parts ≡ 65536 → IsPartsWork work
+as_many_parts_as_may_be work many = omega (arith, many)
+
+more_parts_than_may_be : (work : PartsWork) → length work.parts ≡ 65537 → ¬ IsTextJob (Parts work)
+more_parts_than_may_be work many is = absurd (omega (arith, many, is))
+
+no_round_follows_parts : (run : FrameRun TextJob Item) (next : TextJob) → ¬ JobFollows (Parts parts) run next
+no_round_follows_parts run next follows = follows
+
+-- Which answers and faults a job in a task's place has, and too many parts.
+job_answered : AnswersAs (runs (Parts parts)) (InnerJob (Parts parts))
+job_answered = refl
+
+another_job_answered : ¬ AnswersAs (runs (Parts parts)) (InnerJob (Graph work))
+another_job_answered is = let same : Graph work ≡ Parts parts = is in absurd (cc)
+
+value_in_place_of_a_job : ¬ AnswersAs (runs (Parts parts)) (Value (Text []) Each)
+value_in_place_of_a_job is = is
+
+fault_in_place_of_a_job : (n : ℕ) → ¬ FaultsAs (runs (Parts parts)) (Wide n)
+fault_in_place_of_a_job n is = is
+
+value_of_too_many_parts : ¬ AnswersAs (too_wide 65537) (Value (Text []) Each)
+value_of_too_many_parts is = is
+
+job_of_too_many_parts : ¬ AnswersAs (too_wide 65537) (InnerJob (Parts parts))
+job_of_too_many_parts is = is
+
+fault_of_too_many_parts : FaultsAs (too_wide 65537) (Wide 65537)
+fault_of_too_many_parts = refl
+
+fault_of_another_number : ¬ FaultsAs (too_wide 65537) (Wide 65538)
+fault_of_another_number is = absurd (omega (arith, is))
+
+long_is_not_wide : ¬ FaultsWide 65537 (Long 65537)
+long_is_not_wide is = is
+
+unmet_is_not_wide : ¬ FaultsWide 65537 (Unmet 65537)
+unmet_is_not_wide is = is
+
+inner_is_not_wide : ¬ FaultsWide 65537 Inner
+inner_is_not_wide is = is
+
+unit_is_not_wide : ¬ FaultsWide 65537 (OverRelease 0)
+unit_is_not_wide is = is
+
+part_answered : JobAnswers (Parts parts) 1 [] (Value (Text (codes "3\n")) Each)
+part_answered = (refl, refl, omega arith)
+
+long_part_faults : (text : List ℕ) → length text ≡ 16777217 → JobFaults (Parts (record { parts = text ∷ []; op = Pass })) 0 [] (Long 16777217)
+long_part_faults text long = (sym long, omega arith)
+
 -- Which answers and faults a value has.
 answered : AnswersAs (hands_over (codes "x\n") Each) (Value (Text (codes "x\n")) Each)
 answered = (refl, refl, omega arith)
@@ -291,7 +434,7 @@ small_job : IsTextJob (Graph work)
 small_job = small_work
 
 no_job : ¬ IsTextJob (Graph (record work { «module» = Some 0 }))
-no_job is = work_of_a_module is
+no_job is = work_of_no_module is
 
 -- The last task that leads to no other.
 leads_nowhere : is_sink (worked_net Plain) 3 ≡ true
@@ -339,6 +482,7 @@ next_round_of_another_text run is next = absurd (omega (arith, lengths))
   where
     input_of : TextJob → List ℕ
     input_of (Graph job) = job.input
+    input_of (Parts job) = []
 
     lengths : ◌≡◌ {A = ℕ} 0 2
     lengths = ap (λ job. length (input_of job)) next ∙ ap length is
@@ -348,6 +492,31 @@ next_round_of_another_limit run next = absurd (omega (arith, limits))
   where
     limits : ◌≡◌ {A = ℕ} 11 10
     limits = ap limit_of next
+
+-- A run is gathered to what the tasks ended with that lead to no other, in their order.
+values_of_tasks : (run : FrameRun TextJob Item) (ptr : Ptr) → journal_of run ≡ ends → values_of run ≡ values ptr → task_values (worked_net Plain) run ≡ Some (Text (codes "y\n")) ∷ None ∷ None ∷ Some (Text (codes "z\n")) ∷ []
+values_of_tasks run ptr journal held = rw (journal, held) refl
+
+added_by_a_sink : sink_text (worked_net Plain) 3 (Some (Text (codes "x\n"))) ≡ codes "x\n"
+added_by_a_sink = refl
+
+added_without_an_end : sink_text (worked_net Plain) 3 None ≡ []
+added_without_an_end = refl
+
+nothing_added_by_others : sink_text (worked_net Plain) 2 (Some (Text (codes "x\n"))) ≡ []
+nothing_added_by_others = refl
+
+added_by_no_task : sink_texts (worked_net Plain) 4 [] ≡ []
+added_by_no_task = refl
+
+added_from_a_task_on : sink_texts (worked_net Plain) 2 (Some (Text (codes "x\n")) ∷ Some (Text (codes "y\n")) ∷ []) ≡ codes "y\n"
+added_from_a_task_on = refl
+
+gathered_in_order : gathered_text (Parts (record { parts = codes "a\n" ∷ codes "b\n" ∷ codes "c\n" ∷ []; op = Pass })) (Some (Text (codes "x\n")) ∷ None ∷ Some (Text (codes "y\n")) ∷ []) ≡ codes "x\ny\n"
+gathered_in_order = refl
+
+gathered_from_a_run : (run : FrameRun TextJob Item) (ptr : Ptr) → journal_of run ≡ ends → values_of run ≡ values ptr → text_gathered (Graph work) run ≡ codes "z\n"
+gathered_from_a_run run ptr journal held = rw (journal, held) refl
 
 -- The meaning of text jobs has these parts.
 meaning_of_a_job : (text_job.net (Graph work) ≡ worked_net Plain) × (text_job.limit (Graph work) ≡ 10)
@@ -359,11 +528,20 @@ answer_of_a_job = last_task_answers
 fault_of_a_job : (text : List ℕ) → length text ≡ 16777217 → text_job.faults (Graph (record (worked_work Input) { input = text })) 3 [] (Long 16777217)
 fault_of_a_job = long_task_faults
 
-no_run_is_gathered : (run : FrameRun TextJob Item) → ¬ text_job.gathers (Graph work) run (Text [])
-no_run_is_gathered run gathers = gathers
+gathered_of_a_job : (run : FrameRun TextJob Item) (ptr : Ptr) → journal_of run ≡ ends → values_of run ≡ values ptr → text_job.gathers (Graph work) run (Text (codes "z\n"))
+gathered_of_a_job run ptr journal held = rw (journal, held) (refl, omega arith)
 
-no_gathering_faults : (run : FrameRun TextJob Item) → ¬ text_job.gather_faults (Graph work) run (Long 16777217)
-no_gathering_faults run faults = faults
+another_text_gathered : (run : FrameRun TextJob Item) (ptr : Ptr) → journal_of run ≡ ends → values_of run ≡ values ptr → ¬ text_job.gathers (Graph work) run (Text [])
+another_text_gathered run ptr journal held is = let lengths : 0 ≡ 2 = ap length (rw (journal, held) at is.0) in absurd (omega (arith, lengths))
+
+long_text_gathered : (run : FrameRun TextJob Item) (item : Item) → length (text_gathered (Graph work) run) ≡ 16777217 → ¬ text_job.gathers (Graph work) run item
+long_text_gathered run item long is = absurd (omega (arith, long, is.1))
+
+fault_of_gathering : (run : FrameRun TextJob Item) → length (text_gathered (Graph work) run) ≡ 16777217 → text_job.gather_faults (Graph work) run (Long 16777217)
+fault_of_gathering run long = (sym long, omega arith)
+
+no_fault_of_gathering : (run : FrameRun TextJob Item) → length (text_gathered (Graph work) run) ≡ 16777216 → ¬ text_job.gather_faults (Graph work) run (Long 16777216)
+no_fault_of_gathering run long is = absurd (omega (arith, is.1))
 
 next_job : (run : FrameRun TextJob Item) → feedback_of run ≡ codes "z\n" → text_job.follows (Graph work) run (Graph (record work { input = codes "z\n" }))
 next_job = next_round

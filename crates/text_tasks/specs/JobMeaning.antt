@@ -1,12 +1,11 @@
--- What the tasks of graph files answer.
-use Rattle.std.specs.Prelude.{◌≡◌, ◌==◌, Bool, ℕ, ◌<◌, ◌≤◌, List, [], length, filter, slice_get, Option, None, IsSomeAnd}
-use Rattle.std.specs.List.{last_or, range_with_len}
-use Rattle.std.specs.Option.{option_map_or, option_and_then}
+-- What the tasks of graph files answer, and what their runs are gathered to.
+use Rattle.std.specs.Prelude.{◌≡◌, ℕ, max, ◌<◌, ◌≤◌, List, [], length, slice_get, Option, Some, None, IsSomeAnd}
+use Rattle.std.specs.Option.{option_map, option_map_or, option_and_then}
 use Rattle.task_graph.specs.NetRows.{NetRows}
-use Rattle.task_graph.specs.Net.{out_edges}
 use Rattle.journal_rules.specs.declared.entry.Why.{Why}
 use Rattle.journal_rules.specs.declared.entry.Why.TheVariants.{Long, Wide, Unmet, Inner, OverRelease}
 use Rattle.join_words.specs.Ins.{InputValue}
+use Rattle.run_frame.specs.declared.job.Answer.TheVariants.{All as Each}
 use Rattle.run_frame.specs.declared.job.Done.{Done}
 use Rattle.run_frame.specs.declared.job.Done.TheVariants.{Value, Inner as InnerJob}
 use Rattle.run_frame.specs.declared.run.FrameRun.{FrameRun}
@@ -14,76 +13,115 @@ use Rattle.run_frame.specs.Meaning.{Meaning}
 use Rattle.run_frame.specs.Runs.{values_of}
 use Rattle.run_frame.specs.NestedRule.{job_of, journal_of}
 use Rattle.run_frame.specs.LastEnds.{last_value}
+use Rattle.graph_plans.specs.PlanRows.{PlanRows}
+use Rattle.nested_runs.specs.Spreads.{spread_net}
 use Rattle.text_ops.specs.Values.{value_limit}
 use Rattle.text_tasks.specs.declared.item.Item.{Item}
 use Rattle.text_tasks.specs.declared.job.TextJob.{TextJob}
-use Rattle.text_tasks.specs.declared.job.TextJob.TheVariants.{Graph}
+use Rattle.text_tasks.specs.declared.job.TextJob.TheVariants.{Graph, Parts}
 use Rattle.text_tasks.specs.GraphWork.{IsWork, graph_of}
+use Rattle.text_tasks.specs.PartsWork.{IsPartsWork}
 use Rattle.text_tasks.specs.Items.{item_text}
-use Rattle.text_tasks.specs.OpMeaning.{OpMeaning, hands_over, op_meaning}
+use Rattle.text_tasks.specs.OpMeaning.{OpMeaning, hands_over, op_meaning, runs, text_op_value, too_wide}
+use Rattle.text_tasks.specs.Sinks.{last_sink, sink_texts, task_values}
 
--- A value that is handed on is answered as it is, where it isn't too long.
+-- ---- what tasks do
+
+-- What the task of a number does on what it finds. The task of a graph does the work of its operation; that of a part puts
+-- the part through the operation of all parts.
+abbrev pub task_meaning : TextJob → ℕ → List (InputValue Item) → Option OpMeaning
+task_meaning (Graph work) task found = option_map (op_meaning work found) (slice_get (graph_of work).ops task)
+task_meaning (Parts work) task found = option_map (λ part. hands_over (text_op_value work.op part) Each) (slice_get work.parts task)
+
+-- A value that is handed on is answered as it is, where it isn't too long. A job that is run is answered.
 abbrev pub AnswersAs : OpMeaning → Done TextJob Item → Type 0
 AnswersAs (hands_over text chosen) (Value item answer) = (item_text item ≡ text) × (answer ≡ chosen) × (length text ≤ value_limit)
 AnswersAs (hands_over text chosen) (InnerJob job) = ⊥
+AnswersAs (runs inner) (Value item answer) = ⊥
+AnswersAs (runs inner) (InnerJob job) = job ≡ inner
+AnswersAs (too_wide parts) done = ⊥
 
--- One that would be too long is a fault that tells its length.
+-- A text that would be too long for a value is a fault that tells its length.
+abbrev pub FaultsLong : List ℕ → Why → Type 0
+FaultsLong text (Long n) = (n ≡ length text) × (value_limit < n)
+FaultsLong text (Wide n) = ⊥
+FaultsLong text (Unmet k) = ⊥
+FaultsLong text Inner = ⊥
+FaultsLong text (OverRelease s) = ⊥
+
+-- Too many parts are a fault that tells their number.
+abbrev pub FaultsWide : ℕ → Why → Type 0
+FaultsWide parts (Long n) = ⊥
+FaultsWide parts (Wide n) = n ≡ parts
+FaultsWide parts (Unmet k) = ⊥
+FaultsWide parts Inner = ⊥
+FaultsWide parts (OverRelease s) = ⊥
+
 abbrev pub FaultsAs : OpMeaning → Why → Type 0
-FaultsAs (hands_over text chosen) (Long n) = (n ≡ length text) × (value_limit < n)
-FaultsAs (hands_over text chosen) (Wide n) = ⊥
-FaultsAs (hands_over text chosen) (Unmet k) = ⊥
-FaultsAs (hands_over text chosen) Inner = ⊥
-FaultsAs (hands_over text chosen) (OverRelease s) = ⊥
+FaultsAs (hands_over text chosen) why = FaultsLong text why
+FaultsAs (runs inner) why = ⊥
+FaultsAs (too_wide parts) why = FaultsWide parts why
 
--- A task answers and faults by its operation.
+-- A task answers and faults by what it does.
 abbrev pub JobAnswers : TextJob → ℕ → List (InputValue Item) → Done TextJob Item → Type 0
-JobAnswers (Graph work) task found done = IsSomeAnd (slice_get (graph_of work).ops task) (λ op. AnswersAs (op_meaning work found op) done)
+JobAnswers job task found done = IsSomeAnd (task_meaning job task found) (λ meaning. AnswersAs meaning done)
 
 abbrev pub JobFaults : TextJob → ℕ → List (InputValue Item) → Why → Type 0
-JobFaults (Graph work) task found why = IsSomeAnd (slice_get (graph_of work).ops task) (λ op. FaultsAs (op_meaning work found op) why)
+JobFaults job task found why = IsSomeAnd (task_meaning job task found) (λ meaning. FaultsAs meaning why)
 
+-- ---- jobs
+
+-- a task for each part, without edges
 abbrev pub net_of : TextJob → NetRows
 net_of (Graph work) = (graph_of work).net
+net_of (Parts work) = spread_net (length work.parts)
 
--- the names of the tasks, by their numbers
+-- the names of the tasks, by their numbers; parts have none
 abbrev pub names_of : TextJob → List (List ℕ)
 names_of (Graph work) = (graph_of work).names
+names_of (Parts work) = []
 
+-- the plan, one of whose graphs is run; parts have none
+abbrev pub job_plan : TextJob → Option PlanRows
+job_plan (Graph work) = Some work.plan
+job_plan (Parts work) = None
+
+-- each part has a start
 abbrev pub limit_of : TextJob → ℕ
 limit_of (Graph work) = work.limit
+limit_of (Parts work) = max (length work.parts) 1
 
--- whether a task leads to no other
-abbrev pub is_sink : NetRows → ℕ → Bool
-is_sink net t = length (out_edges net t) == 0
+-- ---- what runs come to
 
--- the last task below a number that leads to no other
-abbrev pub last_sink_below : NetRows → ℕ → Option ℕ
-last_sink_below net n = last_or None (filter (is_sink net) (range_with_len 0 n))
+-- The text to which a run is gathered, by what its tasks ended with: of those that lead to no other, in their order.
+abbrev pub gathered_text : TextJob → List (Option Item) → List ℕ
+gathered_text job values = sink_texts (net_of job) 0 values
 
--- the last task that leads to no other
-abbrev pub last_sink : NetRows → Option ℕ
-last_sink net = last_sink_below net (length net.tasks)
+abbrev pub text_gathered : TextJob → FrameRun TextJob Item → List ℕ
+text_gathered job run = gathered_text job (task_values (net_of job) run)
 
--- what a run hands to the next round: the value of the last End of that task, or the empty text
+-- what a run hands to the next round: the value of the last End of the last task that leads to no other, or the empty text
 abbrev pub feedback_of : FrameRun TextJob Item → List ℕ
 feedback_of run = option_map_or item_text (option_and_then (last_value (journal_of run) (values_of run)) (last_sink (net_of (job_of run)))) []
 
--- the next round is of the same graph, with that text as its input
+-- The next round is of the same graph, with that text as its input. Parts have no next round.
 abbrev pub JobFollows : TextJob → FrameRun TextJob Item → TextJob → Type 0
 JobFollows (Graph work) run next = next ≡ Graph (record work { input = feedback_of run })
+JobFollows (Parts work) run next = ⊥
 
--- What text jobs may answer. No job is run inside another yet.
+-- What text jobs may answer, and what their runs may be gathered to.
 abbrev pub text_job : Meaning TextJob Item
 text_job = record {
   net = net_of;
   limit = limit_of;
   answers = JobAnswers;
   faults = JobFaults;
-  gathers = λ job run item. ⊥;
-  gather_faults = λ job run why. ⊥;
+  gathers = λ job run item. (item_text item ≡ text_gathered job run) × (length (text_gathered job run) ≤ value_limit);
+  gather_faults = λ job run why. FaultsLong (text_gathered job run) why;
   follows = JobFollows;
 }
 
 -- what holds of each text job
 abbrev pub IsTextJob : TextJob → Type 0
 IsTextJob (Graph work) = IsWork work
+IsTextJob (Parts work) = IsPartsWork work

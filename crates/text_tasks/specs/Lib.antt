@@ -1,7 +1,9 @@
 pub mod Items
 pub mod ValueTexts
 pub mod GraphWork
+pub mod PartsWork
 pub mod FoundTexts
+pub mod Sinks
 pub mod OpMeaning
 pub mod JobMeaning
 pub mod JobLaws

@@ -2,5 +2,6 @@
 pub mod Works
 pub mod Finding
 pub mod Working
+pub mod Gathering
 pub mod WorkedPlans
 pub mod OneByOne

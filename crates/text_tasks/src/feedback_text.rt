@@ -4,7 +4,8 @@ ghost use Rattle.std.specs.Option.{option_copied, option_and_then};
 ghost use Rattle.run_frame.specs.LastEnds.{last_value};
 ghost use Rattle.run_frame.specs.NestedRule.{job_of, journal_of};
 ghost use Rattle.run_frame.specs.Runs.{values_of};
-ghost use Rattle.text_tasks.specs.JobMeaning.{feedback_of, last_sink, net_of};
+ghost use Rattle.text_tasks.specs.JobMeaning.{feedback_of, net_of};
+ghost use Rattle.text_tasks.specs.Sinks.{last_sink};
 
 use crate::item::Item;
 use crate::job::TextJob;

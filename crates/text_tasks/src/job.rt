@@ -1,97 +1,59 @@
 // The jobs of graph files.
-ghost use Rattle.std.specs.Prelude.{◌≡◌, length, map, IfOk, IfErr};
+ghost use Rattle.std.specs.Prelude.{◌≡◌};
 ghost use Rattle.std.specs.Arc.{arc_value};
 ghost use Rattle.graph_plans.specs.PlanRows.{plan_rows};
-ghost use Rattle.run_frame.specs.FlatNets.{IsFlatNet};
-ghost use Rattle.run_frame.specs.Meaning.{ErrorAllowed, IsRelease};
-ghost use Rattle.join_words.specs.Ins.{parts_of, found_of};
-ghost use Rattle.text_tasks.specs.GraphWork.{IsWork, first_work, graph_of};
-ghost use Rattle.text_tasks.specs.JobMeaning.{net_of};
+ghost use Rattle.text_tasks.specs.GraphWork.{IsWork, first_work};
 
+use crate::gathered::gathered_text;
+use crate::graph_job::GraphJob;
 use crate::item::Item;
+use crate::parts_job::PartsJob;
 use crate::table::TextTable;
-use graph_plans::{Graph, Plan};
+use crate::task_error::TaskError;
+use graph_plans::Plan;
 use join_words::Ins;
-use journal_rules::Why;
 use outside_io::Bytes;
-use run_frame::{Done, Job, JobError, Valued};
+use run_frame::{Done, FrameRun, Job, JobError, Valued};
 use std::alloc::Global;
-use std::marker::Model;
 use std::sync::Arc;
 use task_graph::Net;
-use text_ops::{ApplyError, Text};
+use text_ops::Text;
 
 /// A job of text tasks.
 #[derive(Drop)]
 pub enum TextJob {
     /// The tasks of a graph.
     Graph(GraphJob),
-}
-
-/// A graph of a plan, with the texts that it reads. Contracts see it as a `GraphWork`.
-#[derive(Drop)]
-pub struct GraphJob {
-    pub(crate) plan: Arc<Plan>,
-    pub(crate) texts: Arc<TextTable>,
-    module: Option<u32>,
-    pub(crate) input: Text,
-    limit: u64,
-}
-
-impl Model for GraphJob {
-    ghost use Rattle.text_tasks.specs.GraphWork.{GraphWork, IsWork};
-
-    ghost Value = { GraphWork };
-
-    ghost use Rattle.text_tasks.specs.inside.Works.{graph_work_of};
-
-    ghost view = { graph_work_of };
-
-    ghost invariant = { λ job. IsWork (graph_work_of job) };
-}
-
-impl GraphJob {
-    ghost use Rattle.graph_plans.specs.PlanRows.{graph_rows};
-    ghost use Rattle.text_tasks.specs.JobMeaning.{JobAnswers, text_job};
-
-    // The graph that is run.
-    pub(crate) fn graph(&self) -> &Graph
-        ensures rows { graph_rows result.now ≡ graph_of self.now }
-        ensures work { IsWork self.now }
-    {
-        &self.plan.top
-    }
-
-    // What a task answers on what it finds.
-    fn answer(&self, alloc: Global, task: u32, ins: &Ins<Item>) -> Result<Done<TextJob>, JobError>
-        requires { IsRelease (graph_of self.now).net task (length (parts_of ins.now)) }
-        ensures answer { IfOk result
-            (JobAnswers (TextJob.Graph self.now) task (map found_of (parts_of ins.now))) }
-        ensures fault { IfErr result
-            (ErrorAllowed text_job (TextJob.Graph self.now) task
-            (map found_of (parts_of ins.now))) }
-    {
-        let Some(op) = self.graph().ops.get(task as usize) else {
-            unreachable!()
-        };
-        match self.work(alloc, op, ins) {
-            Ok((text, answer)) => Ok(Done::Value(Item::Text(text), answer)),
-            Err(ApplyError::Long(bytes)) => Err(JobError::Fault(Why::Long(bytes))),
-            Err(ApplyError::NoMemory) => Err(JobError::NoMemory),
-        }
-    }
+    /// A task for each part of a text.
+    Parts(PartsJob),
 }
 
 impl TextJob {
     ghost use Rattle.text_tasks.specs.JobMeaning.{names_of, IsTextJob};
 
-    /// The names of the tasks, by their numbers in the net.
+    /// The names of the tasks, by their numbers in the net. Those of parts have none.
     pub fn names(&self) -> &[Bytes]
         ensures names { result.now ≡ names_of self.now }
         ensures work { IsTextJob self.now }
     {
         match self {
             TextJob::Graph(job) => job.graph().names.as_slice(),
+            TextJob::Parts(job) => job.names(),
+        }
+    }
+}
+
+impl TextJob {
+    ghost use Rattle.std.specs.Option.{option_copied, option_map};
+    ghost use Rattle.text_tasks.specs.JobMeaning.{job_plan};
+
+    /// The plan, one of whose graphs is run. Parts have none.
+    pub fn plan(&self) -> Option<&Plan>
+        ensures { option_map plan_rows (option_copied result) ≡ job_plan self.now }
+    {
+        match self {
+            TextJob::Graph(job) => Some(&job.plan),
+            TextJob::Parts(_) => None,
         }
     }
 }
@@ -111,20 +73,37 @@ impl Job for TextJob {
     fn net(&self) -> &Arc<Net> {
         match self {
             TextJob::Graph(job) => &job.graph().net,
+            TextJob::Parts(job) => &job.net,
         }
     }
 
     fn limit(&self) -> u64 {
         match self {
             TextJob::Graph(job) => job.limit,
+            TextJob::Parts(job) => (job.parts.len() as u64).max(1),
         }
     }
 
-    /// Does the work of a task's operation. It faults with `Long` where the value would have more than 16,777,216
-    /// bytes. That is found without putting the value together where it is the task's whole text.
+    /// Does the work of a task's operation. It waits for nothing: a module and a spread are answered with the job that
+    /// is to be run in the task's place. It faults with `Long` where the value, or the text with which a module is
+    /// started, would have more than 16,777,216 bytes, and with `Wide` where a text would have more than 65,536 parts.
+    /// That is found without putting the text together where that is the task's whole text, and without cutting any
+    /// part.
     fn run(&self, alloc: Global, task: u32, ins: &Ins<Item>) -> Result<Done<TextJob>, JobError> {
-        match self {
-            TextJob::Graph(job) => job.answer(alloc, task, ins),
+        let done = match self {
+            TextJob::Graph(job) => job.answer(alloc, task, ins)?,
+            TextJob::Parts(job) => job.answer(alloc, task)?,
+        };
+        Ok(done)
+    }
+
+    /// Puts together what the tasks of the run ended with that lead to no other, in the order of their numbers. It
+    /// faults with `Long` where that would have more than 16,777,216 bytes. Where just one of them ended with a text
+    /// that isn't empty its bytes are shared.
+    fn gather(&self, alloc: Global, run: &FrameRun<TextJob>) -> Result<Item, JobError> {
+        match gathered_text(alloc, self.net(), run) {
+            Ok(text) => Ok(Item::Text(text)),
+            Err(error) => Err(JobError::from(TaskError::from(error))),
         }
     }
 
@@ -138,9 +117,8 @@ impl Job for TextJob {
 /// The job of a plan's top graph, started with the empty text.
 pub fn first_job(plan: Arc<Plan>, texts: Arc<TextTable>, limit: u64) -> TextJob
     requires { IsWork (first_work (plan_rows (arc_value plan)) (arc_value texts) limit) }
-    ensures job { result ≡ TextJob.Graph
+    ensures { result ≡ TextJob.Graph
         (first_work (plan_rows (arc_value plan)) (arc_value texts) limit) }
-    ensures flat { IsFlatNet (net_of result) }
 {
     TextJob::Graph(GraphJob {
         plan,

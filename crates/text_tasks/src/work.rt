@@ -6,16 +6,19 @@ ghost use Rattle.text_ops.specs.Values.{Makes};
 ghost use Rattle.text_tasks.specs.FoundTexts.{left_found, right_found};
 ghost use Rattle.text_tasks.specs.OpMeaning.{first_one, occurring, op_meaning, second_one, text_op_value};
 ghost use Rattle.text_tasks.specs.inside.Finding.{founds, text_from};
-ghost use Rattle.text_tasks.specs.inside.Working.{HandsOver};
+ghost use Rattle.text_tasks.specs.inside.Working.{DoesAs};
 
 use crate::found::{lone_text, text_from, text_of_edge, whole_text};
+use crate::graph_job::GraphJob;
 use crate::item::Item;
-use crate::job::GraphJob;
+use crate::job::TextJob;
 use crate::one_by_one::{filtered, first_lines, found_lines, last_lines, later_lines};
+use crate::parts_job::parts_job;
+use crate::task_error::TaskError;
 use graph_plans::{Op, TextOp};
 use join_words::Ins;
 use outside_io::{Bytes, List, NoMemory};
-use run_frame::Answer;
+use run_frame::{Answer, Done};
 use std::alloc::Global;
 use text_ops::{
     ApplyError, Text, count, count_line, has_word, head, keep, line_count, match_lines, pass, skip,
@@ -23,37 +26,42 @@ use text_ops::{
 };
 
 impl GraphJob {
-    // What the task of an operation makes of what it finds, and which successors get it. One row for each operation.
+    // What the task of an operation does on what it finds. One row for each operation.
     pub(crate) fn work(
         &self,
         alloc: Global,
         op: &Op,
         ins: &Ins<Item>,
-    ) -> Result<(Text, Answer), ApplyError>
-        requires { IsOp (length self.now.texts) op.now }
-        ensures { HandsOver (op_meaning self.now (founds ins.now) op.now) result }
+    ) -> Result<Done<TextJob>, TaskError>
+        requires { IsOp (length self.now.texts) (length self.now.plan.modules) op.now }
+        ensures { DoesAs (op_meaning self.now (founds ins.now) op.now) result }
     {
         match op {
-            Op::Input => Ok((self.input.share()?, Answer::All)),
-            Op::Read(number) => Ok((self.read(*number)?, Answer::All)),
-            Op::Text(op) => Ok((apply_to_found(alloc, op, ins)?, Answer::All)),
-            Op::Match => Ok((match_found(alloc, ins)?, Answer::All)),
-            Op::Back => Ok((whole_text(alloc, ins)?, first_or_second(alloc, true)?)),
+            Op::Input => Ok(hands_on(self.input.share()?, Answer::All)),
+            Op::Read(number) => Ok(hands_on(self.read(*number)?, Answer::All)),
+            Op::Text(op) => Ok(hands_on(apply_to_found(alloc, op, ins)?, Answer::All)),
+            Op::Match => Ok(hands_on(match_found(alloc, ins)?, Answer::All)),
+            Op::Back => {
+                let text = whole_text(alloc, ins)?;
+                Ok(hands_on(text, first_or_second(alloc, true)?))
+            }
             Op::IfMore(n) => {
                 let text = whole_text(alloc, ins)?;
                 let has_more = line_count(&text) > *n;
-                Ok((text, first_or_second(alloc, has_more)?))
+                Ok(hands_on(text, first_or_second(alloc, has_more)?))
             }
             Op::IfHas(word) => {
                 let text = whole_text(alloc, ins)?;
                 let has_word = has_word(word.as_slice(), &text);
-                Ok((text, first_or_second(alloc, has_word)?))
+                Ok(hands_on(text, first_or_second(alloc, has_word)?))
             }
             Op::Route(words) => {
                 let text = whole_text(alloc, ins)?;
                 let chosen = occurring(alloc, words.as_slice(), &text)?;
-                Ok((text, Answer::Indices(chosen)))
+                Ok(hands_on(text, Answer::Indices(chosen)))
             }
+            Op::Spread(lines, each) => Ok(Done::Inner(parts_job(alloc, *lines, each, ins)?)),
+            Op::Module(module) => Ok(Done::Inner(self.module_job(alloc, *module, ins)?)),
         }
     }
 
@@ -67,6 +75,13 @@ impl GraphJob {
         };
         text.share()
     }
+}
+
+// A task hands a text on, to those of its successors that the answer names.
+pub(crate) fn hands_on(text: Text, answer: Answer) -> Done<TextJob>
+    ensures { result ≡ Done.Value (Item.Text text) answer }
+{
+    Done::Value(Item::Text(text), answer)
 }
 
 // What an operation on one text makes of the text of a task.

@@ -4,4 +4,5 @@ mod EnteredLemmas
 mod FoundLemmas
 mod NumberLemmas
 mod SeatingLemmas
+mod WorkLemmas
 mod WorkedCrews

@@ -2,3 +2,4 @@
 pub mod Numbers
 pub mod Runs
 pub mod SeatPlaces
+pub mod Works

@@ -1,7 +1,6 @@
 // Crews.
 ghost use Rattle.std.specs.Prelude.{◌≡◌, ◌≢◌, ◌<◌, ◌≤◌, [], length, map, All, IfOk, IfErr, IfSome, IsSome, IsNone, OnOk, OnErr};
 ghost use Rattle.std.specs.Arc.{arc_value};
-ghost use Rattle.run_frame.specs.FlatNets.{IsFlatNet};
 ghost use Rattle.run_frame.specs.Legal.{IsKept};
 ghost use Rattle.run_frame.specs.NestedRule.{job_of};
 ghost use Rattle.ready_deques.specs.Limits.{max_workers};
@@ -45,7 +44,8 @@ impl<J: Job + Drop> Crew<J> {
     ghost use Rattle.worker_seat.specs.Seats.{IsBusy, at_job, away, found_closed, left_refused, refused_seat};
     ghost use Rattle.worker_seat.specs.Crews.{AreSeatsOf, IsEntered, IsFoundRunOf, IsOpen, IsSeatOf, MayBegin, MayEnter, crew_of, moved, state_of, watcher_of};
 
-    /// A crew with a seat for each of 1 to `MAX_WORKERS` watchers, in their order. They come back if an allocation fails.
+    /// A crew with a seat for each of 1 to `MAX_WORKERS` watchers, in their order. They come back if an allocation
+    /// fails.
     pub fn new<X: Drop>(alloc: Global, watchers: Vec<X>) -> Result<CrewParts<J, X>, Back<Vec<X>>>
         requires { (0 < length watchers.items) × (length watchers.items ≤ max_workers) }
         ensures crew { IfOk result (λ parts. AreSeatsOf parts.crew parts.seats.items) }
@@ -86,7 +86,6 @@ impl<J: Job + Drop> Crew<J> {
     ) -> Result<(), NoMemory>
         requires seats { AreSeatsOf self.now seats.old.items }
         requires ready { All MayBegin seats.old.items }
-        requires flat { IsFlatNet (J.meaning.net (arc_value job)) }
         ensures ok { OnOk result (seats.new.items
             ≡ map (moved (at_job (arc_value job))) seats.old.items) }
         ensures err { OnErr result (seats.new.items ≡ map (moved left_refused) seats.old.items) }
@@ -144,7 +143,6 @@ impl<J: Job + Drop> Crew<J> {
 
     // A run of a job, whose first releases are on the list. If it has none it is closed, and so is the list.
     fn begun<R: Wait>(&self, rt: &R, job: &Arc<J>) -> Result<Arc<CrewRun<J>>, NoMemory>
-        requires { IsFlatNet (J.meaning.net (arc_value job.now)) }
         ensures job { IfOk result (λ run. (arc_value run).job ≡ arc_value job.now) }
         ensures list { IfOk result (λ run. IsRunOn (crew_of self.now).list (arc_value run)) }
     {

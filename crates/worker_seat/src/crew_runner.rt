@@ -2,7 +2,6 @@
 ghost use Rattle.std.specs.Prelude.{◌≡◌, ◌<◌, ◌≤◌, [], length, map, All, IfSome, vec_capacity};
 ghost use Rattle.std.specs.Arc.{arc_value};
 ghost use Rattle.std.specs.Thread.{IsSync};
-ghost use Rattle.run_frame.specs.FlatNets.{IsFlatNet};
 ghost use Rattle.ready_deques.specs.Limits.{max_workers};
 ghost use Rattle.worker_seat.specs.Crews.{AreEntered, AreSeatsOf, IsKeptOf, MayBegin, MayEnter, watcher_of};
 
@@ -14,8 +13,8 @@ use std::alloc::Global;
 use std::sync::{Arc, Wait};
 use std::thread::Threads;
 
-/// What enters all seats of a crew, each by a thread. It is written once for each type of jobs, since that a seat may go
-/// to a thread is shown where the type of the job is known.
+/// What enters all seats of a crew, each by a thread. It is written once for each type of jobs, since that a seat may
+/// go to a thread is shown where the type of the job is known.
 pub trait EntersEach<J: Job + Drop, X> {
     /// Enters each of these seats.
     fn enter_each<R: Threads + Wait + Sync>(rt: &R, crew: &Crew<J>, seats: &mut [WorkerSeat<J, X>])
@@ -41,7 +40,6 @@ pub fn run_by_crew<J: Job + Drop, X: Drop, E: EntersEach<J, X>, R: Threads + Wai
     job: Arc<J>,
 ) -> CrewRan<J, X>
     requires watchers { (0 < length watchers.items) × (length watchers.items ≤ max_workers) }
-    requires flat { IsFlatNet (J.meaning.net (arc_value job)) }
     ensures run { IfSome result.run (IsKeptOf J.meaning (arc_value job)) }
     ensures watchers { result.watchers.items ≡ watchers.items }
 {
@@ -76,7 +74,6 @@ pub fn run_by_seats<J: Job + Drop, X, E: EntersEach<J, X>, R: Threads + Wait + S
 ) -> Option<FrameRun<J>>
     requires seats { AreSeatsOf crew.now seats.old.items }
     requires ready { All MayBegin seats.old.items }
-    requires flat { IsFlatNet (J.meaning.net (arc_value job)) }
     ensures run { IfSome result (IsKeptOf J.meaning (arc_value job)) }
     ensures watchers { map watcher_of seats.new.items ≡ map watcher_of seats.old.items }
 {

@@ -2,21 +2,24 @@
 //!
 //! A crew has a list of ready releases (`ready_deques`) and a seat for each of its workers. `begin` begins a run of a
 //! job (`table_frames`) for all seats. Each seat is entered by a thread of the caller, which works until the run is
-//! closed: it takes a release from the list, takes its step, goes on with the first release that the step made and
-//! puts the others on the list. A step takes no lock but where releases wait for units of semaphores, and what became of its
-//! release the worker gathers. Where it finds nothing on the list it gives the run what it has gathered, looks whether all
-//! that is left waits for units, and then sleeps until something is pushed. Who gives the
-//! last of it gets the closed run, leaves it for the others and closes the list, which wakes all. `finish` hands the
-//! run out.
+//! closed: it takes a release from the list, takes its step, goes on with the first release that the step made and puts
+//! the others on the list. A step takes no lock but where releases wait for units of semaphores, and what became of its
+//! release the worker gathers. Where it finds nothing on the list it gives the run what it has gathered, looks whether
+//! all that is left waits for units, and then sleeps until something is pushed. Who gives the last of it gets the
+//! closed run, leaves it for the others and closes the list, which wakes all. `finish` hands the run out.
 //!
 //! # Runs by number
 //!
-//! What a worker has gathered is of one run, and only what is of that run may be added. A release that is taken from a
-//! list is known by the list's tag alone. So a crew numbers the runs that it begins (`BegunRuns`, over a vector that
-//! only grows). A release on the list has the number of its run along, and the list's tag is the name of that vector.
-//! Where two numbers of one vector are equal, they are of one run. A worker steps the releases that have the number of
-//! its seat's run. There are others only after a run for which an allocation failed, and such a crew takes no further
-//! run.
+//! What a worker has gathered is of one frame, that of a run or of a run inside it (`FrameWork`), and only what is of that
+//! frame may be added. A release that is taken from a list is known by the list's tag alone. So a crew numbers the frames
+//! whose releases it puts on the list (`BegunRuns`, over a vector that only grows). A release on the list has two numbers
+//! along, that of its run's outermost frame and that of its own, and the list's tag is the name of that vector. Where two
+//! numbers of one vector are equal, they are of one frame. A worker steps the releases that have the number of its seat's
+//! run. There are others only after a run for which an allocation failed, and such a crew takes no further run.
+//!
+//! A worker that steps a release of another frame than that of what it has gathered brings this first (`turn_to`). A frame
+//! gets a further number where it goes on after a run inside it. So a worker may bring where it need not, and never gathers
+//! what is of two frames.
 //!
 //! # The run that is handed out
 //!
@@ -53,6 +56,7 @@ mod seat;
 mod seats;
 mod station;
 mod steps;
+mod work;
 
 pub use crew::{Crew, CrewParts};
 pub use crew_runner::{CrewRan, EntersEach, run_by_crew, run_by_seats};

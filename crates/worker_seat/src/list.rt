@@ -1,8 +1,8 @@
 // The list of a crew.
 ghost use Rattle.std.specs.Prelude.{◌≡◌, All, IfSome};
-ghost use Rattle.worker_seat.specs.inside.Runs.{AreIn};
+ghost use Rattle.worker_seat.specs.inside.Runs.{AreIn, IsItemOf};
 
-use crate::item::CrewItem;
+use crate::item::{CrewItem, NumberedRelease};
 use crate::run_numbers::{BegunRuns, RunNumber};
 use outside_io::NoMemory;
 use ready_deques::{Ready, Tagged};
@@ -81,19 +81,31 @@ impl<J: Job + Drop> TaggedList<CrewItem<J>, BegunRuns<J>> {
         requires run { release.frames ≡ number.now.frames }
     {
         let run = number.again();
-        self.ready.inject(rt, CrewItem { release, run })?;
+        let frame = number.again();
+        self.ready.inject(
+            rt,
+            CrewItem {
+                release,
+                run,
+                frame,
+            },
+        )?;
         Ok(())
     }
 
-    /// The release of an item, if the item is of the run of this number.
-    pub fn release_in(&self, number: &RunNumber<J>, item: CrewItem<J>) -> Option<Release<J>>
+    /// The release of an item, with the number of its frame, if the item is of the run of this number.
+    pub fn release_in(&self, number: &RunNumber<J>, item: CrewItem<J>) -> Option<NumberedRelease<J>>
         requires number { number.now.begun ≡ self.now.list.begun }
         requires item { item.run.begun ≡ self.now.list.begun }
-        ensures { IfSome result (λ release. release.frames ≡ number.now.frames) }
+        ensures { IfSome result (IsItemOf number.now) }
     {
-        let CrewItem { release, run } = item;
+        let CrewItem {
+            release,
+            run,
+            frame,
+        } = item;
         if self.begun.is_same(&run, number) {
-            return Some(release);
+            return Some(NumberedRelease { release, frame });
         }
         None
     }

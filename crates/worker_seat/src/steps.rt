@@ -1,19 +1,20 @@
 // What a worker does.
-ghost use Rattle.std.specs.Prelude.{◌≡◌, [], IfOk, IfSome, OnOk};
-ghost use Rattle.table_frames.specs.Frames.{MayTake};
-ghost use Rattle.worker_seat.specs.inside.Runs.{AreIn, IsNumberOf};
+ghost use Rattle.std.specs.Prelude.{◌≡◌, ◌≢◌, [], IfOk, IfSome, IsTrue, OnOk};
+ghost use Rattle.worker_seat.specs.inside.Runs.{AreIn, AreOfFrame, IsItemOf, IsNumberOf, IsWithin};
 ghost use Rattle.worker_seat.specs.inside.SeatPlaces.{IsSameOwner};
+ghost use Rattle.worker_seat.specs.inside.Works.{GoesOnAt, IsAt, IsTurnedTo, IsWorkOf, LeavesWork, OpensIn};
 
 use crate::crew_run::CrewRun;
-use crate::item::CrewItem;
+use crate::item::{CrewItem, NumberedRelease};
 use crate::list::RunsList;
 use crate::run_numbers::RunNumber;
+use crate::work::FrameWork;
 use outside_io::NoMemory;
 use ready_deques::Owner;
 use run_frame::Job;
 use std::alloc::Global;
 use std::sync::Wait;
-use table_frames::{Backlog, Brought, Frame, Release, State, Stepped};
+use table_frames::{Brought, Frame, Release, State, Stepped};
 
 /// The run that a worker is at, and the list of its crew.
 #[derive(Drop)]
@@ -26,8 +27,8 @@ pub struct Shift<'a, J: Job + Drop> {
 }
 
 impl<J: Job + Drop> Shift<'_, J> {
-    /// Steps what is on the list, until the list is closed. Where nothing is there it gives the run what it has done, and
-    /// then sleeps.
+    /// Steps what is on the list, until the list is closed. Where nothing is there it gives the run what it has done,
+    /// and then sleeps.
     pub fn work<R: Wait>(
         &self,
         rt: &R,
@@ -37,38 +38,107 @@ impl<J: Job + Drop> Shift<'_, J> {
         requires { owner.old.tag ≡ self.now.list.now.list.begun }
         ensures { IsSameOwner owner.old owner.new }
     {
-        let mut backlog = Backlog::new(alloc);
+        let mut work = FrameWork::new(alloc);
         for _ in rt.forever() {
             if self.list.is_closed() {
                 return Ok(());
             }
             match owner.take(rt) {
-                Some(item) => self.step_item(rt, owner, &mut backlog, item)?,
-                None => self.rest(rt, owner, &mut backlog)?,
+                Some(item) => self.step_item(rt, owner, &mut work, item)?,
+                None => self.rest(rt, owner, &mut work)?,
             }
         }
         unreachable!()
     }
 
-    // Gives the run what was done, and goes on with a release that was parked where nothing else is left; or sleeps where
-    // nothing was done.
+    // Gives the run what was done; or sleeps where nothing was done.
     fn rest<R: Wait>(
         &self,
         rt: &R,
         owner: &mut Owner<CrewItem<J>>,
-        backlog: &mut Backlog<J>,
+        work: &mut FrameWork<J>,
     ) -> Result<(), NoMemory>
         requires owner { owner.old.tag ≡ self.now.list.now.list.begun }
-        requires backlog { MayTake backlog.old self.now.number.now.frames }
+        requires work { IsWorkOf self.now.number.now work.old }
         ensures owner { IsSameOwner owner.old owner.new }
-        ensures backlog { OnOk result (MayTake backlog.new self.now.number.now.frames) }
+        ensures work { OnOk result (IsWorkOf self.now.number.now work.new) }
     {
-        if backlog.is_empty() {
+        if work.backlog.is_empty() {
             owner.idle(rt);
             return Ok(());
         }
-        self.bring(rt, backlog)?;
-        self.settle(rt, owner, backlog)
+        self.bring(rt, owner, work)
+    }
+
+    // Gives the run what was done in a frame. Whoever closes the run so leaves it for the others, and closes the list.
+    // Where a run inside it is over, what that has released goes on the list. Else a release goes there that was parked, if
+    // nothing else is left in the frame.
+    fn bring<R: Wait>(
+        &self,
+        rt: &R,
+        owner: &mut Owner<CrewItem<J>>,
+        work: &mut FrameWork<J>,
+    ) -> Result<(), NoMemory>
+        requires owner { owner.old.tag ≡ self.now.list.now.list.begun }
+        requires work { IsWorkOf self.now.number.now work.old }
+        requires some { work.old.backlog.frames ≢ [] }
+        ensures owner { IsSameOwner owner.old owner.new }
+        ensures work { OnOk result (IsWorkOf self.now.number.now work.new) }
+    {
+        match self.bring_frame(rt, work)? {
+            State::Closed(closed) => {
+                self.run.close(rt, closed);
+                self.list.close();
+                Ok(())
+            }
+            State::Resumed(released) => self.resume(rt, owner, work, released),
+            State::Went => self.settle(rt, owner, work),
+            State::Parked(_) | State::Inner(_) => unreachable!(),
+        }
+    }
+
+    // Gives what was done in a frame to the keeper of its run.
+    fn bring_frame<R: Wait>(&self, rt: &R, work: &mut FrameWork<J>) -> Result<State<J>, NoMemory>
+        requires work { IsWorkOf self.now.number.now work.old }
+        requires some { work.old.backlog.frames ≢ [] }
+        ensures { IfOk result
+            (LeavesWork J.meaning self.now.run.now.job self.now.number.now work.new) }
+    {
+        let Brought { state, .. } = Frame::bring(rt, &mut work.backlog)?;
+        Ok(state)
+    }
+
+    // Puts on the list what a run that is over has released in the frame around it.
+    fn resume<R: Wait>(
+        &self,
+        rt: &R,
+        owner: &mut Owner<CrewItem<J>>,
+        work: &mut FrameWork<J>,
+        released: Vec<Release<J>>,
+    ) -> Result<(), NoMemory>
+        requires owner { owner.old.tag ≡ self.now.list.now.list.begun }
+        requires within { IsWithin self.now.number.now.frames work.old.backlog.frames }
+        requires released { AreIn work.old.backlog.frames released.items }
+        ensures owner { IsSameOwner owner.old owner.new }
+        ensures work { OnOk result (IsWorkOf self.now.number.now work.new) }
+    {
+        work.frame = None;
+        if released.is_empty() {
+            return Ok(());
+        }
+        let number = self.number_of(rt, &released[0])?;
+        self.push_all(rt, owner, &number, released)?;
+        work.frame = Some(number);
+        Ok(())
+    }
+
+    // A number of the frame of a release.
+    fn number_of<R: Wait>(&self, rt: &R, release: &Release<J>) -> Result<RunNumber<J>, NoMemory>
+        requires { IsWithin self.now.number.now.frames release.now.frames }
+        ensures { IfOk result (IsAt self.now.number.now release.now.frames) }
+    {
+        let list = self.list;
+        list.begun.add(rt, release)
     }
 
     // Goes on with a release that was parked, where nothing else is left.
@@ -76,32 +146,56 @@ impl<J: Job + Drop> Shift<'_, J> {
         &self,
         rt: &R,
         owner: &mut Owner<CrewItem<J>>,
-        backlog: &mut Backlog<J>,
+        work: &mut FrameWork<J>,
     ) -> Result<(), NoMemory>
         requires owner { owner.old.tag ≡ self.now.list.now.list.begun }
-        requires frames { backlog.old.frames ≡ self.now.number.now.frames }
-        requires brought { backlog.old.fates ≡ [] }
+        requires work { IsWorkOf self.now.number.now work.old }
+        requires brought { work.old.backlog.fates ≡ [] }
+        requires some { work.old.backlog.frames ≢ [] }
         ensures owner { IsSameOwner owner.old owner.new }
-        ensures backlog { OnOk result (MayTake backlog.new self.now.number.now.frames) }
+        ensures work { OnOk result (IsWorkOf self.now.number.now work.new) }
     {
-        match Frame::settle(rt, backlog)? {
-            Some(release) => self.push(rt, owner, release),
+        match self.settle_frame(rt, work)? {
+            Some(release) => self.go_on(rt, owner, work, release),
             None => Ok(()),
         }
     }
 
-    // Gives the run what was done. Whoever closes the run so leaves it for the others, and closes the list.
-    fn bring<R: Wait>(&self, rt: &R, backlog: &mut Backlog<J>) -> Result<(), NoMemory>
-        requires { backlog.old.frames ≡ self.now.number.now.frames }
-        ensures frames { OnOk result (backlog.new.frames ≡ backlog.old.frames) }
-        ensures brought { OnOk result (backlog.new.fates ≡ []) }
+    // Decides what becomes of what is parked in a frame.
+    fn settle_frame<R: Wait>(
+        &self,
+        rt: &R,
+        work: &mut FrameWork<J>,
+    ) -> Result<Option<Release<J>>, NoMemory>
+        requires work { IsWorkOf self.now.number.now work.old }
+        requires brought { work.old.backlog.fates ≡ [] }
+        requires some { work.old.backlog.frames ≢ [] }
+        ensures work { OnOk result (IsWorkOf self.now.number.now work.new) }
+        ensures goes { IfOk result
+            (λ goes. IfSome goes (GoesOnAt self.now.number.now work.new)) }
     {
-        let Brought { state, .. } = Frame::bring(rt, backlog)?;
-        if let State::Closed(closed) = state {
-            self.run.close(rt, closed);
-            self.list.close();
+        Frame::settle(rt, &mut work.backlog)
+    }
+
+    // Puts a release on the list that was parked.
+    fn go_on<R: Wait>(
+        &self,
+        rt: &R,
+        owner: &mut Owner<CrewItem<J>>,
+        work: &FrameWork<J>,
+        release: Release<J>,
+    ) -> Result<(), NoMemory>
+        requires owner { owner.old.tag ≡ self.now.list.now.list.begun }
+        requires goes { GoesOnAt self.now.number.now work.now release }
+        ensures { IsSameOwner owner.old owner.new }
+    {
+        match &work.frame {
+            Some(frame) => self.push(rt, owner, frame, release),
+            None => {
+                let frame = self.number_of(rt, &release)?;
+                self.push(rt, owner, &frame, release)
+            }
         }
-        Ok(())
     }
 
     // Steps an item, if it is of the run. Others are left from a run that an allocation failed for, and are dropped.
@@ -109,17 +203,17 @@ impl<J: Job + Drop> Shift<'_, J> {
         &self,
         rt: &R,
         owner: &mut Owner<CrewItem<J>>,
-        backlog: &mut Backlog<J>,
+        work: &mut FrameWork<J>,
         item: CrewItem<J>,
     ) -> Result<(), NoMemory>
         requires owner { owner.old.tag ≡ self.now.list.now.list.begun }
         requires item { item.run.begun ≡ self.now.list.now.list.begun }
-        requires backlog { MayTake backlog.old self.now.number.now.frames }
+        requires work { IsWorkOf self.now.number.now work.old }
         ensures owner { IsSameOwner owner.old owner.new }
-        ensures backlog { OnOk result (MayTake backlog.new self.now.number.now.frames) }
+        ensures work { OnOk result (IsWorkOf self.now.number.now work.new) }
     {
         match self.list.release_in(self.number, item) {
-            Some(release) => self.step_on(rt, owner, backlog, release),
+            Some(item) => self.step_on(rt, owner, work, item),
             None => Ok(()),
         }
     }
@@ -129,18 +223,19 @@ impl<J: Job + Drop> Shift<'_, J> {
         &self,
         rt: &R,
         owner: &mut Owner<CrewItem<J>>,
-        backlog: &mut Backlog<J>,
-        release: Release<J>,
+        work: &mut FrameWork<J>,
+        item: NumberedRelease<J>,
     ) -> Result<(), NoMemory>
         requires owner { owner.old.tag ≡ self.now.list.now.list.begun }
-        requires run { release.frames ≡ self.now.number.now.frames }
-        requires backlog { MayTake backlog.old self.now.number.now.frames }
+        requires item { IsItemOf self.now.number.now item }
+        requires work { IsWorkOf self.now.number.now work.old }
         ensures owner { IsSameOwner owner.old owner.new }
-        ensures backlog { OnOk result (MayTake backlog.new self.now.number.now.frames) }
+        ensures work { OnOk result (IsWorkOf self.now.number.now work.new) }
     {
-        let mut next = release;
+        let mut next = item;
         for _ in rt.forever() {
-            match self.step(rt, owner, backlog, next)? {
+            self.turn_to(rt, owner, work, &next.frame)?;
+            match self.step(rt, owner, work, next)? {
                 Some(made) => next = made,
                 None => return Ok(()),
             }
@@ -151,60 +246,189 @@ impl<J: Job + Drop> Shift<'_, J> {
         unreachable!()
     }
 
-    // Takes the step of a release. Of the releases that it makes it gives the first, and puts the others on the list.
+    // Turns to a frame: brings what was done in another.
+    fn turn_to<R: Wait>(
+        &self,
+        rt: &R,
+        owner: &mut Owner<CrewItem<J>>,
+        work: &mut FrameWork<J>,
+        frame: &RunNumber<J>,
+    ) -> Result<(), NoMemory>
+        requires owner { owner.old.tag ≡ self.now.list.now.list.begun }
+        requires frame { frame.now.begun ≡ self.now.list.now.list.begun }
+        requires work { IsWorkOf self.now.number.now work.old }
+        ensures owner { IsSameOwner owner.old owner.new }
+        ensures work { OnOk result (IsWorkOf self.now.number.now work.new) }
+        ensures turned { OnOk result (IsTurnedTo frame.now.frames work.new) }
+    {
+        if self.is_at(work, frame) {
+            return Ok(());
+        }
+        self.bring_all(rt, owner, work)?;
+        work.frame = Some(frame.again());
+        Ok(())
+    }
+
+    // Whether the worker has turned to a frame.
+    fn is_at(&self, work: &FrameWork<J>, frame: &RunNumber<J>) -> bool
+        requires frame { frame.now.begun ≡ self.now.list.now.list.begun }
+        requires work { IsWorkOf self.now.number.now work.now }
+        ensures { IsTrue result → IsTurnedTo frame.now.frames work.now }
+    {
+        let list = self.list;
+        match &work.frame {
+            Some(at) => list.begun.is_same(at, frame),
+            None => false,
+        }
+    }
+
+    // Brings what was done, level by level, until nothing is left.
+    fn bring_all<R: Wait>(
+        &self,
+        rt: &R,
+        owner: &mut Owner<CrewItem<J>>,
+        work: &mut FrameWork<J>,
+    ) -> Result<(), NoMemory>
+        requires owner { owner.old.tag ≡ self.now.list.now.list.begun }
+        requires work { IsWorkOf self.now.number.now work.old }
+        ensures owner { IsSameOwner owner.old owner.new }
+        ensures none { OnOk result (work.new.backlog.frames ≡ []) }
+    {
+        for _ in rt.forever() {
+            if work.backlog.is_empty() {
+                return Ok(());
+            }
+            self.bring(rt, owner, work)?;
+        }
+        unreachable!()
+    }
+
+    // Takes the step of a release. Of the releases that it makes it gives one, and puts the others on the list: the first
+    // of a run that it opened, or else the first of all.
     fn step<R: Wait>(
         &self,
         rt: &R,
         owner: &mut Owner<CrewItem<J>>,
-        backlog: &mut Backlog<J>,
-        release: Release<J>,
-    ) -> Result<Option<Release<J>>, NoMemory>
+        work: &mut FrameWork<J>,
+        item: NumberedRelease<J>,
+    ) -> Result<Option<NumberedRelease<J>>, NoMemory>
         requires owner { owner.old.tag ≡ self.now.list.now.list.begun }
-        requires run { release.frames ≡ self.now.number.now.frames }
-        requires backlog { MayTake backlog.old self.now.number.now.frames }
+        requires item { IsItemOf self.now.number.now item }
+        requires work { IsWorkOf self.now.number.now work.old }
+        requires turned { IsTurnedTo item.release.frames work.old }
         ensures owner { IsSameOwner owner.old owner.new }
-        ensures backlog { OnOk result (MayTake backlog.new self.now.number.now.frames) }
-        ensures run { IfOk result
-            (λ made. IfSome made (λ made. made.frames ≡ self.now.number.now.frames)) }
+        ensures work { OnOk result (IsWorkOf self.now.number.now work.new) }
+        ensures made { IfOk result (λ made. IfSome made (IsItemOf self.now.number.now)) }
     {
-        let Stepped { mut released, .. } = Frame::step(rt, release, backlog)?;
-        self.push_others(rt, owner, &mut released)?;
-        Ok(released.pop())
+        let NumberedRelease { release, frame } = item;
+        let Stepped { released, state } = self.take_step(rt, work, release)?;
+        match state {
+            State::Inner(first) => {
+                self.push_all(rt, owner, &frame, released)?;
+                self.open(rt, owner, first)
+            }
+            _ => self.push_others(rt, owner, frame, released),
+        }
     }
 
-    // Puts all releases but the first on the list.
+    // Takes the step of a release of the frame to which the worker has turned.
+    fn take_step<R: Wait>(
+        &self,
+        rt: &R,
+        work: &mut FrameWork<J>,
+        release: Release<J>,
+    ) -> Result<Stepped<J>, NoMemory>
+        requires within { IsWithin self.now.number.now.frames release.frames }
+        requires work { IsWorkOf self.now.number.now work.old }
+        requires turned { IsTurnedTo release.frames work.old }
+        ensures work { OnOk result (IsWorkOf self.now.number.now work.new) }
+        ensures released { IfOk result (λ stepped. AreIn release.frames stepped.released.items) }
+        ensures opened { IfOk result (λ stepped. OpensIn self.now.number.now stepped.state) }
+    {
+        Frame::step(rt, release, &mut work.backlog)
+    }
+
+    // Puts the first releases of a run that was opened on the list, but gives the first of them.
+    fn open<R: Wait>(
+        &self,
+        rt: &R,
+        owner: &mut Owner<CrewItem<J>>,
+        first: Vec<Release<J>>,
+    ) -> Result<Option<NumberedRelease<J>>, NoMemory>
+        requires owner { owner.old.tag ≡ self.now.list.now.list.begun }
+        requires first { AreOfFrame self.now.number.now first.items }
+        requires some { first.items ≢ [] }
+        ensures owner { IsSameOwner owner.old owner.new }
+        ensures made { IfOk result (λ made. IfSome made (IsItemOf self.now.number.now)) }
+    {
+        let number = self.number_of(rt, &first[0])?;
+        self.push_others(rt, owner, number, first)
+    }
+
+    // Puts all releases of a frame but the first on the list.
     fn push_others<R: Wait>(
         &self,
         rt: &R,
         owner: &mut Owner<CrewItem<J>>,
-        released: &mut Vec<Release<J>>,
-    ) -> Result<(), NoMemory>
+        frame: RunNumber<J>,
+        released: Vec<Release<J>>,
+    ) -> Result<Option<NumberedRelease<J>>, NoMemory>
         requires owner { owner.old.tag ≡ self.now.list.now.list.begun }
-        requires run { AreIn self.now.number.now.frames released.old.items }
+        requires frame { IsAt self.now.number.now frame.frames frame }
+        requires released { AreIn frame.frames released.items }
         ensures owner { IsSameOwner owner.old owner.new }
-        ensures run { AreIn self.now.number.now.frames released.new.items }
+        ensures made { IfOk result (λ made. IfSome made (IsItemOf self.now.number.now)) }
     {
+        let mut released = released;
         while released.len() > 1 {
             if let Some(release) = released.pop() {
-                self.push(rt, owner, release)?;
+                self.push(rt, owner, &frame, release)?;
             }
+        }
+        match released.pop() {
+            Some(release) => Ok(Some(NumberedRelease { release, frame })),
+            None => Ok(None),
+        }
+    }
+
+    // Puts all releases of a frame on the list, the first last.
+    fn push_all<R: Wait>(
+        &self,
+        rt: &R,
+        owner: &mut Owner<CrewItem<J>>,
+        frame: &RunNumber<J>,
+        released: Vec<Release<J>>,
+    ) -> Result<(), NoMemory>
+        requires owner { owner.old.tag ≡ self.now.list.now.list.begun }
+        requires frame { IsAt self.now.number.now frame.now.frames frame.now }
+        requires released { AreIn frame.now.frames released.items }
+        ensures { IsSameOwner owner.old owner.new }
+    {
+        let mut released = released;
+        while let Some(release) = released.pop() {
+            self.push(rt, owner, frame, release)?;
         }
         Ok(())
     }
 
-    // Puts a release on the list.
+    // Puts a release on the list, with the number of its frame.
     fn push<R: Wait>(
         &self,
         rt: &R,
         owner: &mut Owner<CrewItem<J>>,
+        frame: &RunNumber<J>,
         release: Release<J>,
     ) -> Result<(), NoMemory>
         requires owner { owner.old.tag ≡ self.now.list.now.list.begun }
-        requires run { release.frames ≡ self.now.number.now.frames }
+        requires frame { IsAt self.now.number.now release.frames frame.now }
         ensures { IsSameOwner owner.old owner.new }
     {
-        let run = self.number.again();
-        owner.push(rt, CrewItem { release, run })?;
+        let item = CrewItem {
+            release,
+            run: self.number.again(),
+            frame: frame.again(),
+        };
+        owner.push(rt, item)?;
         Ok(())
     }
 }

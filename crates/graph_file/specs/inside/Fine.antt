@@ -1,18 +1,23 @@
--- Semaphores and tasks that may stand in a file.
-use Rattle.std.specs.Prelude.{◌≡◌, ℕ, ◌&&◌, List, [], ◌∷◌, length, Bool, true, false, nat_le, ⊤}
+-- Graphs that may stand in a file.
+use Rattle.std.specs.Prelude.{◌≡◌, ℕ, suc, ◌&&◌, List, [], ◌∷◌, length, map, Bool, true, false, nat_le, ⊤}
 use Rattle.std.specs.List.{list_all}
 use Rattle.graph_plans.specs.declared.ops.Op.{Op}
-use Rattle.graph_plans.specs.declared.ops.Op.TheVariants.{Input, Read, Text, Match, Back, IfMore, IfHas, Route}
+use Rattle.graph_plans.specs.declared.ops.Op.TheVariants.{Input, Read, Text, Match, Back, IfMore, IfHas, Route, Spread, Module}
 use Rattle.graph_plans.specs.declared.ops.TextOp.{TextOp}
 use Rattle.graph_plans.specs.declared.ops.TextOp.TheVariants.{Pass, Keep, Without, Head, Tail, Skip, Sort, Uniq, Count, Tally}
 use Rattle.graph_plans.specs.Operations.{line_limit, route_limit, word_limit}
 use Rattle.graph_plans.specs.PlanRows.{maximum_limit}
+use Rattle.graph_file.specs.declared.scopes.Scope.{Scope}
+use Rattle.graph_file.specs.declared.scopes.Scope.TheVariants.{Top, Module as OfModule}
 use Rattle.graph_file.specs.Contents.{is_name, is_text}
-use Rattle.graph_file.specs.OpRows.{FileOpRow, reads, does}
-use Rattle.graph_file.specs.PlanText.{DraftRows, TaskNames, empty_draft, with_semaphore, with_task_text}
+use Rattle.graph_file.specs.OpRows.{FileOpRow, reads, runs, does}
+use Rattle.graph_file.specs.PlanText.{DraftRows, FileRows, TaskText}
 
 abbrev pub fits_lines : ℕ → Bool
 fits_lines n = nat_le 0 n && nat_le n line_limit
+
+abbrev pub fits_part : ℕ → Bool
+fits_part n = nat_le 1 n && nat_le n line_limit
 
 abbrev pub fits_words : List (List ℕ) → Bool
 fits_words words = nat_le (length words) route_limit && list_all (is_text 0 word_limit) words
@@ -30,7 +35,7 @@ fits_text_op Uniq = true
 fits_text_op Count = true
 fits_text_op Tally = true
 
--- a file has the name of a text that is read, and not its number
+-- a file has the names of a text that is read and of a module that is run, and not their numbers
 abbrev pub fits_op : Op → Bool
 fits_op Input = true
 fits_op (Read text) = false
@@ -40,15 +45,13 @@ fits_op Back = true
 fits_op (IfMore n) = fits_lines n
 fits_op (IfHas word) = is_text 0 word_limit word
 fits_op (Route words) = fits_words words
+fits_op (Spread n op) = fits_part n && fits_text_op op
+fits_op (Module m) = false
 
 abbrev pub fits : FileOpRow → Bool
 fits (reads text) = is_text 1 4096 text
+fits (runs name) = true
 fits (does op) = fits_op op
-
--- a task as a file has it
-pub record TaskText : Type 0 where
-  pub names : TaskNames
-  pub op : FileOpRow
 
 pub record IsValidTask (task : TaskText) : Type 0 where
   pub name : is_name task.names.name ≡ true
@@ -61,15 +64,16 @@ abbrev pub AreFine : List TaskText → Type 0
 AreFine [] = ⊤
 AreFine (task ∷ tasks) = IsValidTask task × AreFine tasks
 
--- the draft with these tasks more
-abbrev pub with_tasks : DraftRows → List TaskText → DraftRows
-with_tasks draft [] = draft
-with_tasks draft (task ∷ tasks) = with_tasks (with_task_text draft task.names task.op) tasks
-
 -- a semaphore as a file has it
 pub record SemText : Type 0 where
   pub name : List ℕ
   pub max : ℕ
+
+abbrev pub names_of_sems : List SemText → List (List ℕ)
+names_of_sems sems = map (λ (sem : SemText). sem.name) sems
+
+abbrev pub maxima_of : List SemText → List ℕ
+maxima_of sems = map (λ (sem : SemText). sem.max) sems
 
 abbrev pub fits_max : ℕ → Bool
 fits_max max = nat_le 1 max && nat_le max maximum_limit
@@ -82,20 +86,22 @@ abbrev pub AreValidSems : List SemText → Type 0
 AreValidSems [] = ⊤
 AreValidSems (sem ∷ sems) = IsValidSem sem × AreValidSems sems
 
--- the draft with these semaphores more
-abbrev pub with_semaphores : DraftRows → List SemText → DraftRows
-with_semaphores draft [] = draft
-with_semaphores draft (sem ∷ sems) = with_semaphores (with_semaphore draft sem.name sem.max) sems
-
--- the draft of a file of this version, with these semaphores and tasks
-abbrev pub draft_of : ℕ → List SemText → List TaskText → DraftRows
-draft_of version sems tasks = with_tasks (with_semaphores (empty_draft version) sems) tasks
-
--- a draft that a file has
-pub record IsMade (draft : DraftRows) : Type 0 where
-  pub version : ℕ
+-- a graph that a file has
+pub record IsMade (scope : Scope) (draft : DraftRows) : Type 0 where
+  pub scope_is : draft.scope ≡ scope
   pub sems : List SemText
-  pub tasks : List TaskText
   pub fine_sems : AreValidSems sems
-  pub fine_tasks : AreFine tasks
-  pub is : draft_of version sems tasks ≡ draft
+  pub sem_names : names_of_sems sems ≡ draft.sem_names
+  pub maxima : maxima_of sems ≡ draft.sems
+  pub tasks : AreFine draft.tasks
+
+-- modules that a file has, of which the first has this number
+abbrev pub AreMade : ℕ → List DraftRows → Type 0
+AreMade m [] = ⊤
+AreMade m (draft ∷ drafts) = (is_name draft.name ≡ true) × IsMade (OfModule m) draft × AreMade (suc m) drafts
+
+-- the graphs of some file
+pub record IsMadeFile (file : FileRows) : Type 0 where
+  pub no_name : file.top.name ≡ []
+  pub top : IsMade Top file.top
+  pub modules : AreMade 0 file.modules

@@ -1,9 +1,10 @@
 -- What sets and maps know of names.
-use Rattle.std.specs.Prelude.{◌≡◌, ℕ, List, Option, Some, None, if◌then◌else◌, position}
+use Rattle.std.specs.Prelude.{◌≡◌, ℕ, List, map, Option, Some, None, if◌then◌else◌, position}
 use Rattle.std.specs.Borrow.{Bor}
 use Rattle.std.specs.Option.{option_or}
 use Rattle.std.specs.Str.{bytes_eq}
 use Rattle.std.specs.HashMap.{HashMap, get_by}
+use Rattle.graph_file.specs.declared.lookups.Index.{Index}
 
 module _ {S : Type 0} where
   -- the place that the map has for this name
@@ -17,3 +18,7 @@ module _ {S : Type 0} where
   -- the new map has this place for the name, if there was none
   abbrev pub KeepsPlace : HashMap (Bor (List ℕ)) ℕ S → List ℕ → ℕ → HashMap (Bor (List ℕ)) ℕ S → Type 0
   KeepsPlace old name place new = (q : List ℕ) → place_in new q ≡ option_or (place_in old q) (if bytes_eq q name then Some place else None)
+
+-- the map of an index has the first place of each of its names
+abbrev pub IsIndex : Index → Type 0
+IsIndex index = HasPlaces index.places (map (λ s. s.now) index.names)

@@ -5,17 +5,22 @@ use Rattle.serde_json.specs.Data.{Data}
 use Rattle.graph_plans.specs.declared.spots.Spot.{Spot}
 use Rattle.std.specs.HashMap.{HashMap}
 use Rattle.graph_file.specs.declared.draft.Draft.{Draft}
+use Rattle.graph_file.specs.declared.draft.FileDraft.{FileDraft}
+use Rattle.graph_file.specs.declared.draft.FileTask.{FileTask}
 use Rattle.graph_file.specs.declared.draft.NamedTask.{NamedTask}
+use Rattle.graph_file.specs.declared.numbers.Numbers.{Numbers}
+use Rattle.graph_file.specs.declared.scopes.Scope.{Scope}
+use Rattle.graph_file.specs.declared.scopes.Scope.TheVariants.{Module as OfModule}
 use Rattle.graph_plans.specs.declared.ops.TextOp.{TextOp}
 use Rattle.graph_file.specs.declared.file_op.FileOp.{FileOp}
-use Rattle.graph_file.specs.declared.file_op.FileOp.TheVariants.{Reads as ReadsOf, Does}
+use Rattle.graph_file.specs.declared.file_op.FileOp.TheVariants.{Reads as ReadsOf, Runs as RunsOf, Does}
 use Rattle.graph_file.specs.declared.file_op.FoundOp.{FoundOp}
 use Rattle.graph_file.specs.declared.refusals.GraphError.{GraphError}
 use Rattle.graph_file.specs.declared.refusals.GraphError.TheVariants.{NoMemory, Repeated}
-use Rattle.graph_file.specs.OpRows.{FileOpRow, reads, does, WithFields, op_in, op_rows}
+use Rattle.graph_file.specs.OpRows.{FileOpRow, reads, runs, does, WithFields, op_in, op_rows}
 use Rattle.graph_file.specs.Contents.{name_of, name_list_of}
-use Rattle.graph_file.specs.Fields.{allowed, needed, only, task_spot}
-use Rattle.graph_file.specs.PlanText.{DraftRows, TaskNames, add_name, puts_field, takes_field, task_fields, with_task_text}
+use Rattle.graph_file.specs.Fields.{allowed, graph_spot, needed, only, task_spot}
+use Rattle.graph_file.specs.PlanText.{DraftRows, FileNumbers, FileRows, TaskNames, TaskText, add_name, graph_names, puts_field, takes_field, task_fields, with_task_text}
 use Rattle.graph_file.specs.Steps.{◌>>=◌, passed, walk}
 use Rattle.graph_file.specs.inside.Lookups.{place_in}
 
@@ -42,14 +47,24 @@ strings names = map (λ s. s.now) names
 abbrev pub named_task : NamedTask → TaskNames
 named_task task = record { name = task.name.now; to = strings task.to; takes = strings task.takes; puts = strings task.puts }
 
-abbrev pub draft_rows : Draft → DraftRows
-draft_rows draft = record { version = draft.version; sem_names = strings draft.sem_names; sems = draft.sems; tasks = map named_task draft.tasks; ops = draft.ops; texts = draft.texts }
-
--- ---- what it has of an operation
-
 abbrev pub file_op_row : FileOp → FileOpRow
 file_op_row (ReadsOf text) = reads text.now
+file_op_row (RunsOf name) = runs name.now
 file_op_row (Does op) = does op
+
+abbrev pub task_text : FileTask → TaskText
+task_text task = record { names = named_task task.names; op = file_op_row task.op }
+
+abbrev pub draft_rows : Draft → DraftRows
+draft_rows draft = record { scope = draft.scope; version = draft.version; name = draft.name.now; sem_names = strings draft.sem_names; sems = draft.sems; tasks = map task_text draft.tasks.items }
+
+abbrev pub file_rows : FileDraft → FileRows
+file_rows file = record { top = draft_rows file.top; modules = map draft_rows file.modules.items }
+
+abbrev pub numbers_rows : Numbers → FileNumbers
+numbers_rows numbers = record { top = numbers.top; modules = numbers.modules.items }
+
+-- ---- what it has of an operation
 
 abbrev pub found_op : FoundOp FileOp → WithFields FileOpRow
 found_op found = record { op = file_op_row found.op; fields = map (λ s. s.now) found.fields.now }
@@ -68,12 +83,12 @@ lists_in version spot name d = do
   Ok (record { name = name; to = to; takes = takes; puts = puts })
 
 abbrev pub add_task_steps : DraftRows → Data → Result DraftRows GraphError
-add_task_steps draft d = let spot = task_spot (length draft.tasks) in do
+add_task_steps draft d = let spot = task_spot draft.scope (length draft.tasks) in do
   name ← needed name_of spot (codes "name") d
   found ← op_in op_rows spot d
-  task ← lists_in draft.version spot name d
+  names ← lists_in draft.version spot name d
   done ← only (task_fields draft.version ++ found.fields) spot d
-  Ok (with_task_text draft task found.op)
+  Ok (with_task_text draft (record { names = names; op = found.op }))
 
 -- ---- lists that are read item by item
 
@@ -93,9 +108,16 @@ unless_repeated refusal names None = Ok names
 unless_repeated refusal names (Some place) = Err (refusal place)
 
 -- the number of a task, unless its name isn't new or it has a semaphore twice in a list
-abbrev pub once_or : ℕ → ℕ → Bool → TaskNames → Result ℕ GraphError
-once_or version number new task = let spot = task_spot number in do
+abbrev pub once_or : Scope → ℕ → ℕ → Bool → TaskNames → Result ℕ GraphError
+once_or scope version number new task = let spot = task_spot scope number in do
   named ← passed new (Repeated spot (codes "name"))
   takes ← walk (add_name (λ k. Repeated spot (takes_field version))) [] task.takes
   puts ← walk (add_name (λ k. Repeated spot (puts_field version))) [] task.puts
+  Ok number
+
+-- the number of a module, unless its name isn't new, or what the code finds of the names in it
+abbrev pub once_module : ℕ → Bool → DraftRows → Result ℕ GraphError
+once_module number new draft = do
+  named ← passed new (Repeated (graph_spot (OfModule number)) (codes "name"))
+  tasks ← graph_names draft
   Ok number

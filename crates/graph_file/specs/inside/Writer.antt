@@ -6,10 +6,10 @@ use Rattle.serde_json.specs.View.{members_view}
 use Rattle.task_graph.specs.declared.net.Shape.TheVariants.{Plain}
 use Rattle.task_graph.specs.declared.net.TaskRow.{TaskRow}
 use Rattle.graph_plans.specs.declared.ops.Op.{Op}
-use Rattle.graph_plans.specs.declared.ops.Op.TheVariants.{Input, Read, Text, Match, Back, IfMore, IfHas, Route}
+use Rattle.graph_plans.specs.declared.ops.Op.TheVariants.{Input, Read, Text, Match, Back, IfMore, IfHas, Route, Spread, Module}
 use Rattle.graph_plans.specs.declared.ops.TextOp.{TextOp}
 use Rattle.graph_plans.specs.declared.ops.TextOp.TheVariants.{Pass, Keep, Without, Head, Tail, Skip, Sort, Uniq, Count, Tally}
-use Rattle.graph_plans.specs.PlanRows.{PlanRows, file_task_limit}
+use Rattle.graph_plans.specs.PlanRows.{GraphRows, PlanRows, file_task_limit, module_names}
 use Rattle.graph_file.specs.declared.op_writer.WrittenOp.{WrittenOp}
 use Rattle.graph_file.specs.PlanText.{TaskNames}
 use Rattle.graph_file.specs.WrittenPlan.{OpText, sems_named, to_of}
@@ -32,32 +32,44 @@ HasUtf8Word Uniq = ⊤
 HasUtf8Word Count = ⊤
 HasUtf8Word Tally = ⊤
 
--- what an operation names is UTF-8, where these are the names of the texts
-abbrev pub HasUtf8 : List (List ℕ) → Op → Type 0
-HasUtf8 texts Input = ⊤
-HasUtf8 texts (Read text) = (text < length texts) × IsString (slice_index_or texts text [])
-HasUtf8 texts (Text op) = HasUtf8Word op
-HasUtf8 texts Match = ⊤
-HasUtf8 texts Back = ⊤
-HasUtf8 texts (IfMore n) = ⊤
-HasUtf8 texts (IfHas word) = IsString word
-HasUtf8 texts (Route words) = All IsString words
+-- what an operation names is UTF-8, where these are the names of the texts and of the modules
+abbrev pub HasUtf8 : List (List ℕ) → List (List ℕ) → Op → Type 0
+HasUtf8 texts modules Input = ⊤
+HasUtf8 texts modules (Read text) = (text < length texts) × IsString (slice_index_or texts text [])
+HasUtf8 texts modules (Text op) = HasUtf8Word op
+HasUtf8 texts modules Match = ⊤
+HasUtf8 texts modules Back = ⊤
+HasUtf8 texts modules (IfMore n) = ⊤
+HasUtf8 texts modules (IfHas word) = IsString word
+HasUtf8 texts modules (Route words) = All IsString words
+HasUtf8 texts modules (Spread n each) = HasUtf8Word each
+HasUtf8 texts modules (Module m) = (m < length modules) × IsString (slice_index_or modules m [])
 
 -- a semaphore that has a name
 abbrev pub HasSems : ℕ → TaskRow → Type 0
 HasSems sems row = All (λ s. s < sems) row.takes × All (λ s. s < sems) row.puts
 
--- all names are UTF-8, and the edges lead to tasks
+-- the names in a graph are UTF-8, and its edges lead to tasks
+pub record HasWritableNames (graph : GraphRows) : Type 0 where
+  pub names : All IsString graph.names
+  pub task_count : length graph.net.tasks ≡ length graph.names
+  pub few_tasks : length graph.names ≤ file_task_limit
+  pub edges : All (IsAmong (length graph.names)) graph.net.edges
+  pub sem_names : All IsString graph.sem_names
+  pub sem_count : length graph.net.sems ≡ length graph.sem_names
+  pub sems : All (HasSems (length graph.sem_names)) graph.net.tasks
+
+-- and so is what its operations name, where these are the names of the texts and of the modules
+pub record IsWritableGraph (texts modules : List (List ℕ)) (graph : GraphRows) : Type 0 where
+  pub names : HasWritableNames graph
+  pub ops : All (HasUtf8 texts modules) graph.ops
+  pub op_count : length graph.ops ≡ length graph.names
+
+-- so is each graph, and the names of the modules are UTF-8
 pub record IsWritable (plan : PlanRows) : Type 0 where
-  pub names : All IsString plan.top.names
-  pub ops : All (HasUtf8 plan.texts) plan.top.ops
-  pub op_count : length plan.top.ops ≡ length plan.top.names
-  pub task_count : length plan.top.net.tasks ≡ length plan.top.names
-  pub few_tasks : length plan.top.names ≤ file_task_limit
-  pub edges : All (IsAmong (length plan.top.names)) plan.top.net.edges
-  pub sem_names : All IsString plan.top.sem_names
-  pub sem_count : length plan.top.net.sems ≡ length plan.top.sem_names
-  pub sems : All (HasSems (length plan.top.sem_names)) plan.top.net.tasks
+  pub top : IsWritableGraph plan.texts (module_names plan) plan.top
+  pub modules : All (IsWritableGraph plan.texts (module_names plan)) plan.modules
+  pub names : All IsString (module_names plan)
 
 abbrev pub op_text_of : WrittenOp → OpText
 op_text_of written = record { name = written.name.now; own = members_view written.own.entries }
@@ -67,18 +79,18 @@ abbrev pub task_object : OpText → Data → Data → Data → Data → Data
 task_object op name to takes puts = object (put (codes "acquire") takes (put (codes "name") name (put (codes "op") (string op.name) (put (codes "release") puts (put (codes "to") to op.own)))))
 
 -- the name of the task to which the edge of this number leads
-abbrev pub end_name : PlanRows → ℕ → List ℕ
-end_name plan e = slice_index_or plan.top.names (slice_index_or plan.top.net.edges e (record { from = 0; to = 0; start = false })).to []
+abbrev pub end_name : GraphRows → ℕ → List ℕ
+end_name graph e = slice_index_or graph.names (slice_index_or graph.net.edges e (record { from = 0; to = 0; start = false })).to []
 
 -- what stands for the row of a task that isn't there
 abbrev pub no_row : TaskRow
 no_row = record { shape = Plain; takes = []; puts = [] }
 
 -- the names that are written for task t
-abbrev pub names_at : PlanRows → ℕ → TaskNames
-names_at plan t = record {
-  name = slice_index_or plan.top.names t [];
-  to = to_of plan t;
-  takes = sems_named plan (slice_index_or plan.top.net.tasks t no_row).takes;
-  puts = sems_named plan (slice_index_or plan.top.net.tasks t no_row).puts;
+abbrev pub names_at : GraphRows → ℕ → TaskNames
+names_at graph t = record {
+  name = slice_index_or graph.names t [];
+  to = to_of graph t;
+  takes = sems_named graph (slice_index_or graph.net.tasks t no_row).takes;
+  puts = sems_named graph (slice_index_or graph.net.tasks t no_row).puts;
 }

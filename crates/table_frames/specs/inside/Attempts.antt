@@ -1,5 +1,5 @@
 -- What a release has come to, of which nothing but its Start is in the journal yet.
-use Rattle.std.specs.Prelude.{◌≡◌, ℕ, ◌+◌, false, List, [], ◌∷◌, length, Option, Some, None}
+use Rattle.std.specs.Prelude.{◌≡◌, ℕ, ◌+◌, List, [], ◌∷◌, length, IfSome, Option, Some, None}
 use Rattle.atomic_table.specs.Seated.{TableId}
 use Rattle.journal_rules.specs.declared.entry.Cause.{Cause}
 use Rattle.journal_rules.specs.declared.entry.Cause.TheVariants.{Strong}
@@ -12,8 +12,9 @@ use Rattle.task_graph.specs.NetRows.{NetRows}
 use Rattle.join_tables.specs.Claims.{HasClaimed, HasCredited}
 use Rattle.join_tables.specs.States.{FreshState, TurnState, RunningState, fresh_state}
 use Rattle.run_frame.specs.Meaning.{Meaning}
-use Rattle.run_frame.specs.WorkRule.{Answers, FaultAllowed}
-use Rattle.table_frames.specs.AllowedFates.{work_with}
+use Rattle.run_frame.specs.Legal.{IsKept}
+use Rattle.run_frame.specs.declared.run.FrameRun.{FrameRun}
+use Rattle.table_frames.specs.AllowedFates.{EndAllowed, WhyAllowed, work_with}
 use Rattle.table_frames.specs.Frames.{FrameKey}
 use Rattle.semaphore_turns.specs.Semaphores.{put_by, taken_by}
 use Rattle.table_frames.specs.declared.attempt.Attempt.{Attempt}
@@ -43,25 +44,26 @@ count_of None = 0
 count_of (Some x) = 1
 
 -- how many releases can come of it
-abbrev pub room_due : {V : Type 0} → Attempt V → ℕ
+abbrev pub room_due : {J V : Type 0} → Attempt J V → ℕ
 room_due attempt = edges_due attempt.outcome + count_of attempt.again
 
--- A start may end with this value, which its job allows with these edges, and which has an owner for each of them.
-pub record MayEnd {J V : Type 0} (meaning : Meaning J V) (frame : FrameKey J) (ending : Ending V) : Type 0 where
+-- A start may end with this value, which its job allows with these edges and this run in place of the work, if there was one.
+-- The value has an owner for each of the edges.
+pub record MayEnd {J V : Type 0} (meaning : Meaning J V) (frame : FrameKey J) (run : Option (FrameRun J V)) (ending : Ending V) : Type 0 where
   pub table : ending.running.table ≡ frame.table
   pub credited : HasCredited (meaning.net frame.job) ending.running.task ending.running.units
   pub claimed : HasClaimed (meaning.net frame.job) ending.running.task ending.running.units
-  pub fits : MayEndGiving (meaning.net frame.job) ending.running.task ending.gives false
+  pub fits : MayEndGiving (meaning.net frame.job) ending.running.task ending.gives ending.inner
   pub shares : ending.value.edges ≡ length ending.gives
   pub parcels : MayBeBare (meaning.net frame.job) ending.value.bare
-  pub answers : Answers meaning frame.job (work_with ending.running.task ending.running.ins) ending.value.value ending.gives
+  pub allowed : EndAllowed meaning frame.job (work_with ending.running.task ending.running.ins) ending.value.value ending.gives ending.inner run
 
 -- It may fault for this reason.
-pub record MayFault {J V : Type 0} (meaning : Meaning J V) (frame : FrameKey J) (running : RunningState V) (why : Why) : Type 0 where
+pub record MayFault {J V : Type 0} (meaning : Meaning J V) (frame : FrameKey J) (run : Option (FrameRun J V)) (running : RunningState V) (why : Why) : Type 0 where
   pub table : running.table ≡ frame.table
   pub credited : HasCredited (meaning.net frame.job) running.task running.units
   pub tells : MayTell why running.units.refused
-  pub allowed : FaultAllowed meaning frame.job (work_with running.task running.ins) why
+  pub allowed : WhyAllowed meaning frame.job (work_with running.task running.ins) why run
 
 -- A release may be dropped for this reason.
 pub record MayDrop {J : Type 0} (frame : FrameKey J) (turn : TurnState) (why : DropWhy) : Type 0 where
@@ -69,10 +71,10 @@ pub record MayDrop {J : Type 0} (frame : FrameKey J) (turn : TurnState) (why : D
   pub refused : turn.refused ≡ Some why
   pub held : turn.held ≡ []
 
-abbrev pub IsOutcomeIn : {J V : Type 0} → Meaning J V → FrameKey J → Outcome V → Type 0
-IsOutcomeIn meaning frame (Ends ending) = MayEnd meaning frame ending
-IsOutcomeIn meaning frame (Faults running why) = MayFault meaning frame running why
-IsOutcomeIn meaning frame (Drops turn why) = MayDrop frame turn why
+abbrev pub IsOutcomeIn : {J V : Type 0} → Meaning J V → FrameKey J → Option (FrameRun J V) → Outcome V → Type 0
+IsOutcomeIn meaning frame run (Ends ending) = MayEnd meaning frame run ending
+IsOutcomeIn meaning frame run (Faults running why) = MayFault meaning frame run running why
+IsOutcomeIn meaning frame run (Drops turn why) = MayDrop frame turn why × (run ≡ None)
 
 abbrev pub again_list : Option FreshState → List FreshState
 again_list None = []
@@ -84,16 +86,17 @@ IsAgain n t cause None = Unit {0}
 IsAgain n t cause (Some again) = (cause ≡ Strong) × (again ≡ fresh_state n t Strong)
 
 -- A release of a frame was taken up, and its work is done where it had to be.
-pub record IsAttemptIn {J V : Type 0} (meaning : Meaning J V) (frame : FrameKey J) (attempt : Attempt V) : Type 0 where
-  pub outcome : IsOutcomeIn meaning frame attempt.outcome
+pub record IsAttemptIn {J V : Type 0} (meaning : Meaning J V) (frame : FrameKey J) (attempt : Attempt J V) : Type 0 where
+  pub outcome : IsOutcomeIn meaning frame attempt.inner attempt.outcome
+  pub kept : IfSome attempt.inner (IsKept meaning)
   pub again : IsAgain frame.table (release_tried frame.table attempt.outcome).task (release_tried frame.table attempt.outcome).cause attempt.again
 
 -- the same in the first of these frames
-abbrev pub IsAttemptAt : {J V : Type 0} → Meaning J V → List (FrameKey J) → Attempt V → Type 0
+abbrev pub IsAttemptAt : {J V : Type 0} → Meaning J V → List (FrameKey J) → Attempt J V → Type 0
 IsAttemptAt meaning [] attempt = ⊥
 IsAttemptAt meaning (frame ∷ around) attempt = IsAttemptIn meaning frame attempt
 
 -- the release that was taken up
-abbrev pub TriesRelease : {J V : Type 0} → List (FrameKey J) → Attempt V → FreshState → Type 0
+abbrev pub TriesRelease : {J V : Type 0} → List (FrameKey J) → Attempt J V → FreshState → Type 0
 TriesRelease [] attempt fresh = ⊥
 TriesRelease (frame ∷ around) attempt fresh = release_tried frame.table attempt.outcome ≡ fresh

@@ -1,12 +1,15 @@
 -- Turns of a frame that are done and not yet with its keeper.
-use Rattle.std.specs.Prelude.{ℕ, List}
-use Rattle.join_tables.specs.declared.fates.Fate.{Fate}
-use Rattle.table_frames.specs.Frames.{FrameKey, BacklogView, backlog_view}
+use Rattle.std.specs.Prelude.{ℕ, ◌<◌, length}
+use Rattle.table_frames.specs.Frames.{BacklogView}
 
--- these turns, and for how many there is room
+-- these turns, for how many there is room, how many runs they made, and for how many of those there is room
 pub record FrameBatchView (J V : Type 0) : Type 0 where
   pub backlog : BacklogView J V
   pub room : ℕ
+  pub runs : ℕ
+  pub run_room : ℕ
 
-abbrev pub frame_batch_view : {J V : Type 0} → List (FrameKey J) → List (Fate V) → ℕ → FrameBatchView J V
-frame_batch_view frames fates room = record { backlog = backlog_view frames fates; room = room }
+-- There is room for one more turn, and for a run.
+pub record HasSpaceIn {J V : Type 0} (batch : FrameBatchView J V) : Type 0 where
+  pub turn : length batch.backlog.fates < batch.room
+  pub run : batch.runs < batch.run_room

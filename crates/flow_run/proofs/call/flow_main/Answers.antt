@@ -1,16 +1,11 @@
 use Rattle.std.proofs.Common.{rules, ◌≡◌, inl, inr, sym, ◌∙◌, subst, arith}
 use Rattle.call_status.specs.declared.status.Status.TheVariants.{WriteFault, NoMemory}
-use Rattle.std.specs.Prelude.{All, map, take}
+use Rattle.std.specs.Prelude.{map}
 use Rattle.std.specs.String.{string_bytes}
-use Rattle.run_frame.specs.NestedRule.{job_of}
-use Rattle.text_tasks.specs.JobMeaning.{IsTextJob}
-use Rattle.call_status.specs.Notes.{NamesStatus}
-use Rattle.flow_run.specs.Answers.{names_in}
 use Rattle.flow_run.proofs.Completing.{completes}
 use Rattle.flow_run.proofs.Plainly.{kept_plainly, plain_completes, plain_done}
 use Rattle.outside_io.specs.Sink.{Took}
 use Rattle.flow_run.proofs.Ending.{no_read_fault}
-use Rattle.flow_run.proofs.Naming.{status_named}
 use Rattle.flow_run.proofs.Upgrading.{upgrade_done}
 use Rattle.flow_run.proofs.call.flow_main.Goals as goal
 
@@ -51,11 +46,3 @@ returns-clause-upgrades g c = λ file asks done.
     let did = c.answer-status.ensures in
     upgrade_done (g.F.Texts.held c.args.texts.now) file _ _ (map string_bytes c.args.words.now) c.answer-status.result.status c.answer-status.result.runs _ did.ends asks done
     (did.output.whole (did.output.done done))
-
-pub put_note-noted-requires-clause-named : goal.put_note-noted-requires-clause-named
-put_note-noted-requires-clause-named g c =
-    let did = c.answer-status.ensures in
-    let runs = c.answer-status.result.runs in
-    let jobs : All (λ run. IsTextJob (job_of run)) (take 1 runs) = search rules in
-    let named : NamesStatus (names_in runs) c.answer-status.result.status = status_named (g.F.Texts.held c.args.texts.now) (map string_bytes c.args.words.now) c.answer-status.result.status runs _ did.ends jobs in
-    search (rules, named)

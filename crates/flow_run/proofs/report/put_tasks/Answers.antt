@@ -6,24 +6,16 @@ use Rattle.run_frame.specs.LastEnds.{last_end}
 use Rattle.run_frame.specs.NestedRule.{job_of, journal_of}
 use Rattle.run_frame.specs.Runs.{value_at, values_of}
 use Rattle.text_tasks.specs.declared.item.Item.{Item}
-use Rattle.text_tasks.specs.JobMeaning.{IsTextJob, net_of, names_of}
+use Rattle.text_tasks.specs.JobMeaning.{net_of, names_of}
 use Rattle.flow_run.specs.inside.RisingValues.{AreRising}
 use Rattle.run_laws.specs.Output.{task_part}
-use Rattle.flow_run.proofs.ReportLemmas.{named_tasks, one_written, one_refused, part_is}
+use Rattle.flow_run.proofs.ReportLemmas.{one_written, one_refused, part_is}
 use Rattle.flow_run.proofs.ValueSearch.{kept_rise}
 use Rattle.flow_run.proofs.report.put_tasks.Goals as goal
 
 pub last_value-value-requires-clause-rising : goal.last_value-value-requires-clause-rising
 last_value-value-requires-clause-rising g c =
     subst (λ (rows : List (ValueRow Item)). AreRising rows) (sym c.as_slice.ensures) (kept_rise c.args.run.now c.requires)
-
-pub task_name-requires : goal.task_name-requires
-task_name-requires g c =
-    let job = job_of c.args.run.now in
-    let held : IsTextJob job = search rules in
-    let counted : length (names_of job) ≡ length (net_of job).tasks = named_tasks job held in
-    let inside : c.loop-task.task < length (net_of job).tasks = search rules in
-    search (rules, counted, inside)
 
 pub loop-task-preserved : goal.loop-task-preserved
 loop-task-preserved g c =

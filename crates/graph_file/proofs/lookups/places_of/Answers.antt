@@ -1,8 +1,7 @@
-use Rattle.std.proofs.Common.{◌≡◌, ℕ, List, [], get_or, Bor, ap, ◌∙◌}
-use Rattle.std.proofs.lemmas.List.{get_or_default, take_all}
+use Rattle.std.proofs.Common.{ℕ, List, [], get_or, Bor, ap, ◌∙◌}
+use Rattle.std.proofs.lemmas.List.{get_or_default}
 use Rattle.std.specs.List.{position}
 use Rattle.std.specs.Str.{bytes_eq}
-use Rattle.graph_file.specs.inside.Reader.{strings}
 use Rattle.graph_file.proofs.NameLemmas.{HasPlaces-string, all-strings}
 use Rattle.graph_file.proofs.lookups.places_of.Goals as goal
 

@@ -1,4 +1,4 @@
-use Rattle.std.proofs.Common.{rules, length, sym, subst}
+use Rattle.std.proofs.Common.{rules, length}
 use Rattle.task_graph.specs.declared.net.TaskRow.{TaskRow}
 use Rattle.graph_file.specs.inside.Drafts.{AreIds}
 use Rattle.graph_file.proofs.NetLemmas.{not-refused}

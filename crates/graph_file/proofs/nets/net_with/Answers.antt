@@ -5,13 +5,12 @@ use Rattle.graph_file.proofs.nets.net_with.Goals as goal
 
 pub add_tasks-requires-clause-units : goal.add_tasks-requires-clause-units
 add_tasks-requires-clause-units c =
-    let same : length c.add_semaphores.new.builder.sems ≡ length c.args.draft.now.sems = ap (λ (net : NetRows). length net.sems) c.in_ok-add_semaphores.ensures ∙ ap length c.as_slice.ensures in
+    let same : length c.add_semaphores.new.builder.sems ≡ length c.args.sems.now = ap (λ (net : NetRows). length net.sems) c.in_ok-add_semaphores.ensures in
     rw same c.requires.units
 
 pub add_edges-requires-clause-tasks : goal.add_edges-requires-clause-tasks
 add_edges-requires-clause-tasks c =
-    let ops = c.as_slice-2.result.now in
-    let shown : length ops ≡ length c.args.draft.now.ops = ap length c.as_slice-2.ensures in
+    let ops = c.args.ops.now in
     let rows : length c.add_tasks.new.builder.tasks ≡ length ops =
-    ap (λ (net : NetRows). length net.tasks) c.in_ok-add_tasks.ensures ∙ task_rows-length (length c.add_semaphores.new.builder.sems) ops c.args.tasks.now (c.requires.each ∙ sym shown) in
-    (rows ∙ shown ∙ sym c.requires.each, omega (arith, c.requires.each, c.requires.tasks))
+    ap (λ (net : NetRows). length net.tasks) c.in_ok-add_tasks.ensures ∙ task_rows-length (length c.add_semaphores.new.builder.sems) ops c.args.tasks.now c.requires.each in
+    (rows ∙ sym c.requires.each, omega (arith, c.requires.each, c.requires.tasks))

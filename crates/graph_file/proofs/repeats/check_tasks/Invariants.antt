@@ -1,13 +1,12 @@
 use Rattle.std.proofs.Common.{[], take}
 use Rattle.graph_file.specs.PlanText.{add_task_name}
 use Rattle.graph_file.specs.inside.Lookups.{HasPlaces}
-use Rattle.graph_file.specs.inside.Reader.{named_task}
-use Rattle.graph_file.proofs.RepeatLemmas.{names_now}
+use Rattle.graph_file.proofs.RepeatLemmas.{file_names_of, names_now}
 use Rattle.graph_file.proofs.WalkLemmas.{GoesOn}
 use Rattle.graph_file.proofs.repeats.check_tasks.Given as goal
 
 abbrev pub invariant-loop-place : goal.invariant-loop-place
 invariant-loop-place l = record {
   places : HasPlaces l.places (take l.place (names_now l.tasks));
-  walked : GoesOn named_task (add_task_name l.version) [] l.tasks l.place (take l.place (names_now l.tasks));
+  walked : GoesOn file_names_of (add_task_name l.scope l.version) [] l.tasks l.place (take l.place (names_now l.tasks));
 }

@@ -1,4 +1,4 @@
-use Rattle.std.proofs.Common.{◌≡◌, ℕ, true, false, not, List, [], get_or, take, Bool, Bor, rules}
+use Rattle.std.proofs.Common.{◌≡◌, ℕ, true, false, List, [], get_or, take, Bor, rules}
 use Rattle.std.proofs.lemmas.List.{get_or_default}
 use Rattle.graph_file.specs.inside.Reader.{strings}
 use Rattle.graph_file.proofs.NameLemmas.{HasPlaces-string, HasWalked-more, HasWalked-refused, new-name, string-at, string-within}

@@ -1,4 +1,3 @@
-use Rattle.std.proofs.Common.{◌≡◌}
 use Rattle.serde_json.specs.View.{view}
 use Rattle.graph_file.specs.PlanText.{add_semaphore}
 use Rattle.graph_file.specs.inside.Reader.{draft_rows}
@@ -6,7 +5,4 @@ use Rattle.graph_file.proofs.WalkLemmas.{GoesOn}
 use Rattle.graph_file.proofs.semaphores.read_semaphores.Given as goal
 
 abbrev pub invariant-loop-sem : goal.invariant-loop-sem
-invariant-loop-sem l = record {
-  walked : GoesOn view add_semaphore (draft_rows l.fn.draft) l.sems l.sem-index (draft_rows l.draft);
-  texts : l.draft.texts ≡ l.fn.draft.texts;
-}
+invariant-loop-sem l = GoesOn view add_semaphore (draft_rows l.fn.draft) l.sems l.sem-index (draft_rows l.draft)

@@ -1,6 +1,7 @@
 use Rattle.serde_json.specs.View.{view}
 use Rattle.graph_plans.specs.PlanRows.{plan_rows}
-use Rattle.graph_file.proofs.WritableLemmas.{if-ok, plan-shallow, plan-whole, stands-for, writable}
+use Rattle.graph_file.proofs.BindLemmas.{if-ok}
+use Rattle.graph_file.proofs.WritableLemmas.{plan-shallow, plan-whole, stands-for, writable}
 use Rattle.graph_file.proofs.writer.write_graph.Goals as goal
 
 pub file_value-requires : goal.file_value-requires

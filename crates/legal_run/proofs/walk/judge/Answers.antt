@@ -1,5 +1,5 @@
 use Rattle.std.proofs.Common.{◌∙◌}
-use Rattle.legal_run.proofs.Keeping.{walked}
+use Rattle.legal_run.proofs.Walking.{walked}
 use Rattle.legal_run.proofs.walk.judge.Goals as goal
 
 pub loop-place-init : goal.loop-place-init

@@ -1,12 +1,12 @@
-use Rattle.std.proofs.Common.{◌≡◌, [], ◌∷◌, sym, ap, ◌∙◌, subst}
+use Rattle.std.proofs.Common.{[], ◌∷◌, sym, ◌∙◌, subst}
 use Rattle.semaphore_turns.specs.WokenTurns.{ParksTurn}
 use Rattle.table_frames.specs.Frames.{table_in}
 use Rattle.table_frames.specs.inside.Runs.{AreOf}
 use Rattle.table_frames.proofs.Settling.{added_of, parked_made}
 use Rattle.table_frames.proofs.alone.park.Goals as goal
 
-pub returns : goal.returns
-returns g c =
+pub returns-clause-bench : goal.returns-clause-bench
+returns-clause-bench g c =
     let meaning = g.J.Job.meaning in
     let run = c.args.run.now in
     let parks = subst (λ p. ParksTurn {V = g.row.J-V.Denot} (table_in meaning run) c.args.taken.turn p c.reserve.new.self.items c.park.new.made.items) c.in-Parked.is c.in_ok-turn.ensures.parks in
@@ -15,6 +15,6 @@ returns g c =
     record {
       ready = added_of run.table c.reserve-2.new.self.items c.add_again.new.made.items c.add_all.new.ready.items c.add_all.ensures.ready ready made;
       made = c.add_all.ensures.made;
-      batch = c.requires.bench.batch;
+      done = c.requires.bench.done;
       yard = c.park.ensures.yard;
     }

@@ -1,10 +1,8 @@
 use Rattle.std.proofs.Common.{◌≡◌}
-use Rattle.table_frames.specs.Frames.{key_of}
-use Rattle.table_frames.specs.inside.Benches.{IsBenchOf}
-use Rattle.table_frames.specs.inside.Runs.{IsNoBatch}
+use Rattle.table_frames.specs.Frames.{root_job}
 use Rattle.table_frames.proofs.alone.step_all.Given as goal
 
 abbrev pub invariant-loop : goal.invariant-loop
 invariant-loop g l =
     ((goal.iterator-loop g).can_next l.iterator' × (goal.iterator-loop g).is_finite l.iterator')
-    × IsBenchOf g.J.Job.meaning l.fn.run l.bench × (key_of l.kept ≡ l.fn.run) × IsNoBatch l.bench.batch
+    × (root_job l.level ≡ root_job l.fn.level)

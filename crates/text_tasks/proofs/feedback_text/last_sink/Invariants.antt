@@ -1,5 +1,5 @@
 use Rattle.std.proofs.Common.{◌≡◌}
-use Rattle.text_tasks.specs.JobMeaning.{last_sink_below}
+use Rattle.text_tasks.specs.Sinks.{last_sink_below}
 use Rattle.text_tasks.proofs.feedback_text.last_sink.Given as goal
 
 abbrev pub invariant-loop-task : goal.invariant-loop-task

@@ -1,5 +1,5 @@
 use Rattle.journal_rules.proofs.Reaching.{reached_push}
-use Rattle.legal_run.proofs.Keeping.{walk_position}
+use Rattle.legal_run.proofs.Walking.{walk_position}
 use Rattle.journal_rules.proofs.CountLaws.{can_grow}
 use Rattle.legal_run.proofs.walk.Walk.drop_release.Goals as goal
 

@@ -1,6 +1,6 @@
 use Rattle.std.proofs.Common.{refl, ◌∙◌}
 use Rattle.journal_rules.proofs.Reaching.{reached_push}
-use Rattle.legal_run.proofs.Keeping.{walk_position, gives_once}
+use Rattle.legal_run.proofs.Walking.{walk_position, gives_once}
 use Rattle.journal_rules.proofs.CountLaws.{can_grow, open_flag}
 use Rattle.legal_run.proofs.walk.Walk.end.Goals as goal
 

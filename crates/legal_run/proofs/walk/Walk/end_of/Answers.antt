@@ -1,4 +1,4 @@
-use Rattle.legal_run.proofs.Keeping.{walk_position}
+use Rattle.legal_run.proofs.Walking.{walk_position}
 use Rattle.legal_run.proofs.walk.Walk.end_of.Goals as goal
 
 pub new-requires : goal.new-requires

@@ -1,6 +1,6 @@
 use Rattle.std.proofs.Common.{refl, []}
 use Rattle.journal_rules.proofs.Reaching.{reached_push}
-use Rattle.legal_run.proofs.Keeping.{walk_position}
+use Rattle.legal_run.proofs.Walking.{walk_position}
 use Rattle.journal_rules.proofs.CountLaws.{can_grow, next_closed}
 use Rattle.legal_run.proofs.walk.Walk.start.Goals as goal
 

@@ -1,14 +1,10 @@
-use Rattle.std.proofs.Common.{rules, ◌≡◌, ◌++◌, [], refl, sym, ap, ◌∙◌, subst}
-use Rattle.std.specs.Prelude.{All, IfOk}
+use Rattle.std.proofs.Common.{rules, ◌≡◌, [], refl, ap, ◌∙◌, subst}
 use Rattle.std.specs.Arc.{arc_value}
-use Rattle.join_tables.specs.States.{FreshState}
 use Rattle.semaphore_turns.specs.WaitingTurns.{release_of}
 use Rattle.semaphore_turns.specs.WokenTurns.{ParksTurn}
 use Rattle.semaphore_turns.specs.declared.parks.Parking.TheVariants as parking
 use Rattle.table_frames.specs.declared.step_results.State.TheVariants as state
-use Rattle.table_frames.specs.Frames.{AtFrame, BacklogView, HasTable, backlog_view, release_in, table_in}
-use Rattle.table_frames.specs.Steps.{StepsRelease}
-use Rattle.table_frames.specs.inside.Attempts.{again_list}
+use Rattle.table_frames.specs.Frames.{AtFrame, BacklogView, backlog_view, release_in, table_in}
 use Rattle.table_frames.proofs.Concluding.{ok_steps, parks_release, same_release}
 use Rattle.table_frames.proofs.Settling.{parked_made}
 use Rattle.table_frames.proofs.frame.Frame.park.Goals as goal

@@ -1,10 +1,10 @@
-use Rattle.std.proofs.Common.{rules, ◌≡◌, ◌≢◌, [], Some, None, List, Option, sym, ap, ◌∙◌, subst}
+use Rattle.std.proofs.Common.{rules, ◌≡◌, ◌≢◌, [], sym, ap, ◌∙◌, subst}
 use Rattle.std.specs.Prelude.{IfSome}
 use Rattle.std.specs.Arc.{arc_value}
-use Rattle.join_tables.specs.Batches.{BatchState}
 use Rattle.table_frames.specs.Frames.{frames_around}
 use Rattle.table_frames.specs.inside.FrameBatches.{FrameBatchView}
-use Rattle.table_frames.specs.inside.Runs.{IsBatchIn, IsNoBatch}
+use Rattle.table_frames.specs.inside.Runs.{AreDoneAt}
+use Rattle.table_frames.proofs.Keeping.{no_turn_left, same_none}
 use Rattle.table_frames.proofs.Settling.{settled_over}
 use Rattle.table_frames.proofs.frame_batch.FrameBatch.settle.Goals as goal
 
@@ -12,27 +12,29 @@ pub invariant_of-self-in_err-settle_parked : goal.invariant_of-self-in_err-settl
 invariant_of-self-in_err-settle_parked g c =
     let fates = ap (λ (v : FrameBatchView g.row.J.Denot g.row.J-V.Denot). v.backlog.fates) c.self.view_is ∙ c.requires in
     let table = c.is_empty-is_empty.ensures.table.0 (c.is_empty-is_empty.ensures.fates.1 fates) in
-    subst (λ o. IsBatchIn g.J.Job.meaning (frames_around o) c.self.inside.batch × IfSome o (λ frame. arc_value frame ≢ [])) (sym c.take.ensures.after) (record { table = table; fates = fates }, tt)
+    let none = no_turn_left g.J.Job.meaning (frames_around c.self.inside.frame) c.self.inside.done table fates c.self.invariant.0 in
+    subst (λ o. AreDoneAt g.J.Job.meaning (frames_around o) c.self.inside.done × IfSome o (λ frame. arc_value frame ≢ [])) (sym c.take.ensures.after) (none, tt)
 
 pub invariant_of-self-in-Waits-1 : goal.invariant_of-self-in-Waits-1
 invariant_of-self-in-Waits-1 g c =
     let fates = ap (λ (v : FrameBatchView g.row.J.Denot g.row.J-V.Denot). v.backlog.fates) c.self.view_is ∙ c.requires in
     let table = c.is_empty-is_empty.ensures.table.0 (c.is_empty-is_empty.ensures.fates.1 fates) in
-    subst (λ o. IsBatchIn g.J.Job.meaning (frames_around o) c.self.inside.batch × IfSome o (λ frame. arc_value frame ≢ [])) (sym c.take.ensures.after) (record { table = table; fates = fates }, tt)
+    let none = no_turn_left g.J.Job.meaning (frames_around c.self.inside.frame) c.self.inside.done table fates c.self.invariant.0 in
+    subst (λ o. AreDoneAt g.J.Job.meaning (frames_around o) c.self.inside.done × IfSome o (λ frame. arc_value frame ≢ [])) (sym c.take.ensures.after) (none, tt)
 
 pub invariant_of-self-in-Goes : goal.invariant_of-self-in-Goes
 invariant_of-self-in-Goes g c =
     let fates = ap (λ (v : FrameBatchView g.row.J.Denot g.row.J-V.Denot). v.backlog.fates) c.self.view_is ∙ c.requires in
     let table = c.is_empty-is_empty.ensures.table.0 (c.is_empty-is_empty.ensures.fates.1 fates) in
-    subst (λ o. IsBatchIn g.J.Job.meaning (frames_around o) c.self.inside.batch × IfSome o (λ frame. arc_value frame ≢ [])) (sym c.take.ensures.after) (record { table = table; fates = fates }, tt)
+    let none = no_turn_left g.J.Job.meaning (frames_around c.self.inside.frame) c.self.inside.done table fates c.self.invariant.0 in
+    subst (λ o. AreDoneAt g.J.Job.meaning (frames_around o) c.self.inside.done × IfSome o (λ frame. arc_value frame ≢ [])) (sym c.take.ensures.after) (none, tt)
 
 pub invariant_of-self-in_err-make_room-in-Over : goal.invariant_of-self-in_err-make_room-in-Over
 invariant_of-self-in_err-make_room-in-Over g c =
-    let V = g.row.J-V.Denot in
-    let fates = ap (λ (v : FrameBatchView g.row.J.Denot V). v.backlog.fates) c.self.view_is ∙ c.requires in
+    let fates = ap (λ (v : FrameBatchView g.row.J.Denot g.row.J-V.Denot). v.backlog.fates) c.self.view_is ∙ c.requires in
     let table = c.is_empty-is_empty.ensures.table.0 (c.is_empty-is_empty.ensures.fates.1 fates) in
-    let same = c.make_room.ensures.same in
-    subst (λ o. IsBatchIn g.J.Job.meaning (frames_around o) c.make_room.new.self × IfSome o (λ frame. arc_value frame ≢ [])) (sym c.take.ensures.after) (record { table = ap (λ (b : BatchState V). b.table) same ∙ table; fates = ap (λ (b : BatchState V). b.fates) same ∙ fates }, tt)
+    let none = no_turn_left g.J.Job.meaning (frames_around c.self.inside.frame) c.self.inside.done table fates c.self.invariant.0 in
+    subst (λ o. AreDoneAt g.J.Job.meaning (frames_around o) c.make_room.new.self × IfSome o (λ frame. arc_value frame ≢ [])) (sym c.take.ensures.after) (same_none c.self.inside.done c.make_room.new.self c.make_room.ensures.same none, tt)
 
 pub gather-requires-clause-spent : goal.gather-requires-clause-spent
 gather-requires-clause-spent g c κs within =

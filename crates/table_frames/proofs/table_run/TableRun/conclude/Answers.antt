@@ -7,8 +7,8 @@ use Rattle.table_frames.proofs.Making.{none_again}
 use Rattle.table_frames.proofs.Concluding.{concluded}
 use Rattle.table_frames.proofs.table_run.TableRun.conclude.Goals as goal
 
-pub returns-in-Some-clause-made : goal.returns-in-Some-clause-made
-returns-in-Some-clause-made g c =
+pub returns-clause-made : goal.returns-clause-made
+returns-clause-made g c =
     let n = c.args.self.now.table in
     let tried = release_tried n c.args.attempt.outcome in
     let again = subst (IsAgain n tried.task tried.cause) c.in-Some.is c.requires.attempt.again in

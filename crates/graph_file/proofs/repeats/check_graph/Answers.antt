@@ -1,0 +1,8 @@
+use Rattle.std.proofs.Common.{ap}
+use Rattle.graph_file.specs.inside.Reader.{strings}
+use Rattle.graph_file.proofs.RepeatLemmas.{graph-checked}
+use Rattle.graph_file.proofs.repeats.check_graph.Goals as goal
+
+pub returns : goal.returns
+returns c =
+    graph-checked c.args.draft.now c.as_slice-2.result.now (strings c.as_slice.result.now) c.check_tasks.result c.as_slice-2.ensures.value (ap strings c.as_slice.ensures) c.in_default.ensures c.check_tasks.ensures

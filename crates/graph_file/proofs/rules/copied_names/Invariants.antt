@@ -1,6 +1,0 @@
-use Rattle.std.proofs.Common.{◌≡◌, take}
-use Rattle.graph_file.specs.inside.Reader.{strings}
-use Rattle.graph_file.proofs.rules.copied_names.Given as goal
-
-abbrev pub invariant-loop-name : goal.invariant-loop-name
-invariant-loop-name l = l.copies ≡ strings (take l.name-index l.names)

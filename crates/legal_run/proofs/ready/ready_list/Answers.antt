@@ -1,6 +1,0 @@
-use Rattle.legal_run.proofs.Readying.{each_more}
-use Rattle.legal_run.proofs.ready.ready_list.Goals as goal
-
-pub loop-task-preserved : goal.loop-task-preserved
-loop-task-preserved c = λ journal counts.
-    each_more c.args.net.now journal c.loop-task.task _ _ (c.loop-task.invariant journal counts) (c.in_ok-add_task.ensures journal counts)

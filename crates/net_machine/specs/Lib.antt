@@ -1,0 +1,3 @@
+pub mod inside
+pub mod Machine
+pub mod Ready

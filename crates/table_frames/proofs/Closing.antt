@@ -1,0 +1,166 @@
+-- A run that is over, and the start whose work it was.
+use Rattle.std.proofs.Common.{◌≡◌, List, [], ◌∷◌, ◌++◌, Option, Some, None, refl, sym, ap, ◌∙◌, subst}
+use Rattle.std.specs.Prelude.{◌↔◌, IfSome, slice_get}
+use Rattle.std.specs.Arc.{arc_value}
+use Rattle.std.specs.Global.{Vec}
+use Rattle.std.specs.Option.{option_map}
+use Rattle.atomic_table.specs.Seated.{TableId}
+use Rattle.join_tables.specs.Findings.{FindsOne}
+use Rattle.join_tables.specs.Rests.{IsOfTable}
+use Rattle.join_tables.specs.Keeping.{KeeperState, LeavesOf}
+use Rattle.join_tables.specs.declared.fates.Fate.{Fate}
+use Rattle.join_tables.specs.declared.keeper.Recorded.{Recorded}
+use Rattle.join_tables.specs.declared.keeper.Remaining.TheVariants.{More, All as AllTaken}
+use Rattle.run_frame.specs.Legal.{IsKept}
+use Rattle.run_frame.specs.Meaning.{Meaning}
+use Rattle.run_frame.specs.NestedRule.{job_of, journal_of}
+use Rattle.run_frame.specs.declared.run.FrameRun.{FrameRun}
+use Rattle.table_frames.specs.BacklogResults.{BringsFates, MayTakeIn, ResumesStart, TakesIn}
+use Rattle.table_frames.specs.Frames.{AtFrame, BacklogView, FrameKey, HasTable, ReleaseView, RunKeeperView, backlog_view, key_of, release_in}
+use Rattle.table_frames.specs.JournalFacts.{HasEntries}
+use Rattle.table_frames.specs.Steps.{IsRootRun}
+use Rattle.table_frames.specs.inside.AttemptEnds.{HandsOn}
+use Rattle.table_frames.specs.inside.Attempts.{release_tried}
+use Rattle.table_frames.specs.inside.OpenStarts.{IsStartOf, LockKey, LockedRunView, OpenStartView, first_frame, frame_of, lock_key_in, lock_key_of, locked_run}
+use Rattle.table_frames.specs.inside.Overs.{IsEnd, IsInnerRunOf, IsOverOf, KeepsFates, Resumes}
+use Rattle.table_frames.specs.declared.attempt.Attempt.{Attempt}
+use Rattle.table_frames.specs.declared.over.InnerOver.{InnerOver}
+use Rattle.table_frames.specs.declared.over.Kept.{Kept}
+use Rattle.table_frames.specs.declared.over.Over.{Over}
+use Rattle.table_frames.specs.declared.over.Over.TheVariants.{No, Alone, Inside}
+use Rattle.table_frames.specs.declared.step_results.State.TheVariants.{Resumed}
+use Rattle.table_frames.proofs.Concluding.{used_up}
+use Rattle.table_frames.proofs.Entries.{of_later}
+use Rattle.table_frames.proofs.Keeping.{finds_so}
+
+later_entries : {J V : Type 0} (earlier later all : List (Fate V)) (run : FrameRun J V) → all ≡ earlier ++ later → HasEntries run all → HasEntries run later
+later_entries earlier later all run same entries = of_later (λ (r : Recorded). slice_get (journal_of run) r.place ≡ Some r.entry) earlier later (subst (λ (told : List (Fate _)). HasEntries run told) same entries)
+
+no_around : {J : Type 0} (around : List (FrameKey J)) → None ≡ first_frame around → around ≡ []
+no_around [] is = refl
+no_around (frame ∷ more) is = absurd (cc)
+
+-- a start is of the frame around
+pub start_at : {J : Type 0} (key : FrameKey J) (around : List (FrameKey J)) → Some key ≡ first_frame around → AtFrame around (λ k. key ≡ k)
+start_at key [] is = absurd (cc)
+start_at key (frame ∷ more) is = cc
+
+-- a start is in no frame that is in no other
+pub not_outermost : {J V : Type 0} (key : FrameKey J) (around : List (FrameKey J)) (locked : LockedRunView J V) (start : OpenStartView J V) → lock_key_of locked ≡ lock_key_in key around → locked.start ≡ Some start → around ≡ [] → ⊥
+not_outermost {J} key around locked start is some none =
+    let told : ◌≡◌ {A = Option (FrameKey J)} (Some start.frame) None = sym (ap frame_of some) ∙ ap (λ (k : LockKey J). k.around) is ∙ ap first_frame none in
+    absurd (cc)
+
+-- what was taken out of the lock of a frame, and the same with another keeper of the frame
+pub locked_key : {J V : Type 0} (key : FrameKey J) (around : List (FrameKey J)) (inside taken made : LockedRunView J V) → inside ≡ taken → lock_key_of taken ≡ lock_key_of made → lock_key_of made ≡ lock_key_in key around → lock_key_of inside ≡ lock_key_in key around
+locked_key key around inside taken made is same of = ap lock_key_of is ∙ same ∙ of
+
+pub locked_again : {J V : Type 0} (key : FrameKey J) (around : List (FrameKey J)) (kept kept' : RunKeeperView J V) (start : Option (OpenStartView J V)) → lock_key_of (locked_run kept start) ≡ lock_key_in key around → key_of kept' ≡ key → lock_key_of (locked_run kept' start) ≡ lock_key_in key around
+locked_again {J} key around kept kept' start is same = λ i. record { frame = same i; around = ap (λ (k : LockKey J). k.around) is i }
+
+pub same_start : {J V : Type 0} (meaning : Meaning J V) (kept kept' : RunKeeperView J V) (start : Option (OpenStartView J V)) → key_of kept' ≡ key_of kept → IfSome start (IsStartOf meaning kept.job) → IfSome start (IsStartOf meaning kept'.job)
+same_start {J} meaning kept kept' start same is = subst (λ (j : J). IfSome start (IsStartOf meaning j)) (sym (ap (λ (k : FrameKey J). k.job) same)) is
+
+-- there are turns of the frame
+pub some_table : (n : TableId) (t : Option TableId) → IsOfTable n t → (t ≡ None → ⊥) → t ≡ Some n
+some_table n None is some = absurd (some refl)
+some_table n (Some m) is some = ap Some is
+
+-- A keeper has taken in turns, of which the last one was live alone, or one of several.
+pub takes_last : {J V : Type 0} (frames : List (FrameKey J)) (fates : List (Fate V)) (over : Type 0) (old new : KeeperState V) → over → HasTable frames new.table → new.fates ≡ old.fates ++ fates → FindsOne (λ n. LeavesOf n AllTaken) old.found new.found → TakesIn frames fates over new
+takes_last frames fates over old new is table fates_are found = record {
+  table = table;
+  earlier = old.fates;
+  fates_are = fates_are;
+  before = old.found;
+  found = finds_so (λ n. LeavesOf n AllTaken) (λ n. over ↔ (n ≡ 1)) old.found new.found (λ n left. (λ o. left, λ one. is)) found;
+}
+
+pub takes_more : {J V : Type 0} (frames : List (FrameKey J)) (fates : List (Fate V)) (over : Type 0) (old new : KeeperState V) → ¬ over → HasTable frames new.table → new.fates ≡ old.fates ++ fates → FindsOne (λ n. LeavesOf n More) old.found new.found → TakesIn frames fates over new
+takes_more frames fates over old new is table fates_are found = record {
+  table = table;
+  earlier = old.fates;
+  fates_are = fates_are;
+  before = old.found;
+  found = finds_so (λ n. LeavesOf n More) (λ n. over ↔ (n ≡ 1)) old.found new.found (λ n left. (λ o. absurd (is o), λ one. absurd (left one))) found;
+}
+
+module _ {J V : Type 0} (meaning : Meaning J V) where
+  -- what has the entries of fates has those of the later ones
+  pub over_of : (frames : List (FrameKey J)) (earlier later all : List (Fate V)) (over : Over J V) → all ≡ earlier ++ later → IsOverOf meaning frames all over → IsOverOf meaning frames later over
+  over_of frames earlier later all No same is = tt
+  over_of frames earlier later all (Alone run) same is = (is.0, later_entries earlier later all run same is.1)
+  over_of frames earlier later all (Inside inner) same is = record { key = is.key; frames_are = is.frames_are; job = is.job; over = is.over; entries = later_entries earlier later all inner.run same is.entries }
+
+  -- a run inside another that is over, whose start goes on
+  pub resumes_start : (frames : List (FrameKey J)) (fates : List (Fate V)) (inner : InnerOver J V) (released : List (ReleaseView J)) (new : BacklogView J V) → IsInnerRunOf meaning frames fates inner → Resumes meaning inner released new → ResumesStart meaning frames fates released new
+  resumes_start frames fates inner released new is resumes = record {
+    inner = is.key;
+    frame = resumes.frame;
+    around = resumes.around;
+    frames_are = is.frames_are ∙ ap (λ fs. is.key ∷ fs) resumes.frames_are;
+    run = inner.run;
+    job = is.job;
+    entries = is.entries;
+    release = resumes.release;
+    release_frames = resumes.release_frames;
+    made = resumes.made;
+    uses = resumes.uses;
+    run_is = resumes.run_is;
+    edges = resumes.edges;
+    released_are = resumes.released_are;
+  }
+
+  pub brings_inner : (frames : List (FrameKey J)) (fates : List (Fate V)) (kept : Kept J V) (inner : InnerOver J V) (released : Vec (ReleaseView J)) (new : BacklogView J V) → kept.over ≡ Inside inner → KeepsFates meaning frames fates kept → Resumes meaning inner released.items new
+      → BringsFates meaning frames fates new (record { state = Resumed released; keeper = kept.keeper })
+  brings_inner frames fates kept inner released new is keeps resumes =
+      let over = subst (IsOverOf meaning frames fates) is keeps.over in
+      record {
+        to = resumes_start frames fates inner released.items new over resumes;
+        keeper = subst (λ (o : Over J V). MayTakeIn frames fates (IsEnd o) (option_map (λ s. s.value) kept.keeper)) is keeps.keeper;
+      }
+
+  -- the run of a frame in no other
+  pub over_alone : (key : FrameKey J) (around : List (FrameKey J)) (locked : LockedRunView J V) (run : FrameRun J V) → lock_key_of locked ≡ lock_key_in key around → locked.start ≡ None → IsKept meaning run → job_of run ≡ locked.kept.job → HasEntries run locked.kept.keeper.fates
+      → IsOverOf meaning (key ∷ around) locked.kept.keeper.fates (Alone run)
+  over_alone key around locked run is none kept job entries =
+      let root : around ≡ [] = no_around around (sym (ap frame_of none) ∙ ap (λ (k : LockKey J). k.around) is) in (
+        subst (λ (fs : List (FrameKey J)). IsRootRun meaning (key ∷ fs) run) (sym root) (record { kept = kept; job = ap (λ (k : LockKey J). Some k.frame.job) (sym is) ∙ ap Some (sym job) }),
+        entries,
+      )
+
+  -- the run of a frame inside another
+  pub over_inside : (key : FrameKey J) (around : List (FrameKey J)) (locked : LockedRunView J V) (inner : InnerOver J V) → lock_key_of locked ≡ lock_key_in key around → locked.start ≡ Some inner.start → IfSome locked.start (IsStartOf meaning locked.kept.job) → arc_value inner.parent ≡ around
+      → IsKept meaning inner.run → job_of inner.run ≡ locked.kept.job → HasEntries inner.run locked.kept.keeper.fates → IsOverOf meaning (key ∷ around) locked.kept.keeper.fates (Inside inner)
+  over_inside key around locked inner is some start parent kept job entries =
+      let at = start_at inner.start.frame around (sym (ap frame_of some) ∙ ap (λ (k : LockKey J). k.around) is) in
+      record {
+        key = key;
+        frames_are = ap (λ fs. key ∷ fs) (sym parent);
+        job = job ∙ ap (λ (k : LockKey J). k.frame.job) is;
+        over = record {
+          frame = subst (λ (fs : List (FrameKey J)). AtFrame fs (λ k. inner.start.frame ≡ k)) (sym parent) at;
+          start = subst (λ (j : J). IsStartOf meaning j inner.start) (sym job) (subst (λ (s : Option (OpenStartView J V)). IfSome s (IsStartOf meaning locked.kept.job)) some start);
+          kept = kept;
+        };
+        entries = entries;
+      }
+
+  -- its start is used up in the frame around
+  pub resumes : (inner : InnerOver J V) (frames : List (FrameKey J)) (attempt : Attempt J V) (old new : BacklogView J V) (released : List (ReleaseView J)) → arc_value inner.parent ≡ frames → old.fates ≡ [] → attempt.inner ≡ Some inner.run → attempt.again ≡ None → HandsOn meaning frames attempt old new released → Resumes meaning inner released new
+  resumes inner frames attempt old new released parent none run again hands =
+      let concludes = hands.concludes in
+      let frame = concludes.frame in
+      let fresh = release_tried frame.table attempt.outcome in
+      record {
+        frame = frame;
+        around = concludes.around;
+        frames_are = parent ∙ concludes.frames_are;
+        release = release_in frames fresh;
+        release_frames = concludes.frames_are;
+        made = hands.made;
+        uses = used_up meaning frames attempt old (backlog_view [] []) new hands.made none concludes;
+        run_is = run;
+        edges = concludes.edges again;
+        released_are = hands.released_are;
+      }

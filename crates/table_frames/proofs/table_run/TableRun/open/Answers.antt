@@ -1,0 +1,20 @@
+use Rattle.std.proofs.Common.{◌≡◌, sym, ap, ◌∙◌, subst}
+use Rattle.join_tables.specs.States.{FreshState, fresh_state}
+use Rattle.table_frames.specs.inside.Attempts.{IsAgain, release_tried}
+use Rattle.table_frames.specs.inside.OpenStarts.{OpenStartView}
+use Rattle.table_frames.proofs.table_run.TableRun.open.Goals as goal
+
+pub returns-then-is_empty : goal.returns-then-is_empty
+returns-then-is_empty g c =
+    let n = c.args.self.now.table in
+    let over = c.in_ok-attempt.ensures in
+    let told : release_tried n c.in_ok-attempt.attempt.outcome ≡ fresh_state n c.start.inside.running.task c.start.inside.running.cause = over.release in
+    let started : fresh_state n c.start.inside.running.task c.start.inside.running.cause ≡ fresh_state n c.args.running.task c.args.running.cause = ap (λ (start : OpenStartView g.row.J.Denot g.row.J-V.Denot). fresh_state n start.running.task start.running.cause) (c.start.view_is ∙ c.new-start.ensures) in
+    let release : release_tried n c.in_ok-attempt.attempt.outcome ≡ fresh_state n c.args.running.task c.args.running.cause = told ∙ started in (
+      record {
+        outcome = over.attempt.outcome;
+        kept = over.attempt.kept;
+        again = subst (λ (f : FreshState). IsAgain n f.task f.cause c.args.again) (sym release) c.requires.again;
+      },
+      release,
+    )

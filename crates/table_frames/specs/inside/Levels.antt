@@ -1,0 +1,13 @@
+-- What a run by one thread leads to.
+use Rattle.std.specs.Prelude.{◌≡◌, Option, Some}
+use Rattle.run_frame.specs.Legal.{IsKept}
+use Rattle.run_frame.specs.Meaning.{Meaning}
+use Rattle.run_frame.specs.NestedRule.{job_of}
+use Rattle.table_frames.specs.Frames.{root_job}
+use Rattle.table_frames.specs.declared.level.Next.{Next}
+use Rattle.table_frames.specs.declared.level.Next.TheVariants.{Level, Run}
+
+-- The outermost run has this job. It goes on, or it is over and may be kept.
+abbrev pub IsNext : {J V : Type 0} → Meaning J V → Option J → Next J V → Type 0
+IsNext meaning root (Level frames) = root_job frames ≡ root
+IsNext meaning root (Run run) = IsKept meaning run × (root ≡ Some (job_of run))

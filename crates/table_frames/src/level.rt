@@ -1,0 +1,269 @@
+// Runs inside each other, by one thread.
+ghost use Rattle.std.specs.Prelude.{◌≡◌, ◌∷◌, IfNone, IfOk, IfSome, IsTrue, OnOk};
+ghost use Rattle.join_tables.specs.Keeping.{TellsRun, entries_told};
+ghost use Rattle.run_frame.specs.Legal.{IsKept};
+ghost use Rattle.run_frame.specs.NestedRule.{job_of};
+ghost use Rattle.table_frames.specs.Frames.{AtFrame, key_of, root_job};
+ghost use Rattle.table_frames.specs.inside.Begins.{Begins};
+ghost use Rattle.table_frames.specs.inside.Benches.{IsBenchOf};
+ghost use Rattle.table_frames.specs.inside.Around.{levels_around};
+ghost use Rattle.table_frames.specs.inside.Levels.{IsNext};
+ghost use Rattle.table_frames.specs.inside.OpenStarts.{IsStartOf, first_frame, frame_of};
+ghost use Rattle.table_frames.specs.inside.Openings.{IsInnerAt, IsInnerIn};
+
+use super::alone::{Bench, conclude, settle, step};
+use super::attempt::InnerBegun;
+use super::open_start::OpenStart;
+use super::run_keeper::RunKeeper;
+use super::table_run::{Begun, TableRun, add_again};
+use join_tables::Remaining;
+use outside_io::NoMemory;
+use run_frame::{FrameRun, Job};
+use std::alloc::Global;
+use std::boxed::Box;
+use std::marker::Model;
+use std::sync::Wait;
+
+/// A run by one thread that goes on, and the runs around it, which wait for it.
+#[derive(Drop)]
+pub struct Level<J: Job> {
+    alloc: Global,
+    run: TableRun<J>,
+    bench: Bench<J>,
+    kept: RunKeeper<J>,
+    // The run around it, and the start there whose work it is.
+    around: Option<Box<Level<J>>>,
+    start: Option<OpenStart<J>>,
+}
+
+impl<J: Job> Model for Level<J> {
+    ghost use Rattle.std.specs.Prelude.{List, length};
+    ghost use Rattle.table_frames.specs.Frames.{FrameKey};
+
+    ghost Value = { List (FrameKey J) };
+
+    ghost use Rattle.std.specs.Prelude.{◌≡◌, ◌∷◌, IfSome};
+    ghost use Rattle.table_frames.specs.Frames.{key_of};
+    ghost use Rattle.table_frames.specs.inside.Benches.{IsBenchOf};
+    ghost use Rattle.table_frames.specs.inside.Around.{levels_around};
+    ghost use Rattle.table_frames.specs.inside.OpenStarts.{IsStartOf, first_frame, frame_of};
+
+    ghost view = { λ level. level.run ∷ levels_around level.around };
+
+    ghost invariant = { λ level. (key_of level.kept ≡ level.run)
+        × IsBenchOf J.meaning level.run level.bench
+        × (frame_of level.start ≡ first_frame (levels_around level.around))
+        × IfSome level.start (IsStartOf J.meaning level.run.job) };
+
+    ghost size = { length };
+}
+
+/// What a run by one thread has led to.
+#[derive(Drop)]
+pub enum Next<J: Job> {
+    /// This run goes on.
+    Level(Level<J>),
+    /// The outermost run is over.
+    Run(FrameRun<J>),
+}
+
+impl<J: Job + Drop> Level<J> {
+    /// A run that has begun, inside another or in none.
+    pub fn new(
+        alloc: Global,
+        begun: Begun<J>,
+        around: Option<Box<Level<J>>>,
+        start: Option<OpenStart<J>>,
+    ) -> Result<Level<J>, NoMemory>
+        requires begins { Begins J.meaning begun.run.job begun }
+        requires frame { frame_of start ≡ first_frame (levels_around around) }
+        requires start { IfSome start (IsStartOf J.meaning begun.run.job) }
+        ensures { IfOk result (λ level. level ≡ begun.run ∷ levels_around around) }
+    {
+        let Begun { run, fresh, kept } = begun;
+        let bench = Bench::new(alloc, &run, fresh)?;
+        Ok(Level {
+            alloc,
+            run,
+            bench,
+            kept,
+            around,
+            start,
+        })
+    }
+
+    /// Steps releases, the newest first, until a run begins inside it or it is over. One that is over goes on with the
+    /// start whose work it was.
+    pub fn advance<R: Wait>(self, rt: &R) -> Result<Next<J>, NoMemory>
+        ensures { IfOk result (IsNext J.meaning (root_job self)) }
+    {
+        let Level {
+            alloc,
+            run,
+            mut bench,
+            mut kept,
+            around,
+            start,
+        } = self;
+        match run_on(rt, &run, &mut bench, &mut kept)? {
+            Some(inner) => {
+                let level = Level {
+                    alloc,
+                    run,
+                    bench,
+                    kept,
+                    around,
+                    start,
+                };
+                Ok(Next::Level(level.open(inner)?))
+            }
+            None => leave(kept, around, start),
+        }
+    }
+
+    // A run that has begun inside it.
+    fn open(self, inner: InnerBegun<J>) -> Result<Level<J>, NoMemory>
+        requires { IsInnerAt J.meaning self inner }
+        ensures { IfOk result (λ level. level ≡ inner.begun.run ∷ self) }
+    {
+        let InnerBegun {
+            begun,
+            start,
+            again,
+        } = inner;
+        let Level {
+            alloc,
+            run,
+            mut bench,
+            kept,
+            around,
+            start: own,
+        } = self;
+        bench.ready.reserve(1)?;
+        add_again(&mut bench.ready, again);
+        let level = Level {
+            alloc,
+            run,
+            bench,
+            kept,
+            around,
+            start: own,
+        };
+        let level = Box::new(alloc, level)?;
+        Level::new(alloc, begun, Some(level), Some(start))
+    }
+
+    // Goes on with a start in place of whose work a run was made.
+    fn resumed(self, start: OpenStart<J>, inner: FrameRun<J>) -> Result<Level<J>, NoMemory>
+        requires frame { AtFrame self (λ key. start.frame ≡ key) }
+        requires start { IsStartOf J.meaning (job_of inner) start }
+        requires kept { IsKept J.meaning inner }
+        ensures { IfOk result (λ level. level ≡ self) }
+    {
+        let Level {
+            alloc,
+            run,
+            mut bench,
+            kept,
+            around,
+            start: own,
+        } = self;
+        let attempt = run.resume(start, inner)?;
+        conclude(&run, &mut bench, attempt)?;
+        Ok(Level {
+            alloc,
+            run,
+            bench,
+            kept,
+            around,
+            start: own,
+        })
+    }
+}
+
+// Steps releases, the newest first, until a run begins inside theirs, or the last turn is done.
+fn run_on<J: Job + Drop, R: Wait>(
+    rt: &R,
+    run: &TableRun<J>,
+    bench: &mut Bench<J>,
+    kept: &mut RunKeeper<J>,
+) -> Result<Option<InnerBegun<J>>, NoMemory>
+    requires kept { key_of kept.old ≡ run.now }
+    requires bench { IsBenchOf J.meaning run.now bench.old }
+    ensures same { OnOk result (key_of kept.new ≡ run.now) }
+    ensures bench { OnOk result (IsBenchOf J.meaning run.now bench.new) }
+    ensures inner { IfOk result (λ inner. IfSome inner (IsInnerIn J.meaning run.now)) }
+    ensures all { IfOk result (λ inner. IfNone inner
+        (TellsRun (J.meaning.net kept.new.job) (J.meaning.limit kept.new.job)
+        (entries_told kept.new.keeper.fates))) }
+{
+    for _ in rt.forever() {
+        if keep_done(run, bench, kept)? {
+            return Ok(None);
+        }
+        if let Some(inner) = step_newest(run, bench)? {
+            return Ok(Some(inner));
+        }
+    }
+    unreachable!()
+}
+
+// Gives the turns that are done to the keeper. Whether the last of the run was among them.
+fn keep_done<J: Job + Drop>(
+    run: &TableRun<J>,
+    bench: &mut Bench<J>,
+    kept: &mut RunKeeper<J>,
+) -> Result<bool, NoMemory>
+    requires kept { key_of kept.old ≡ run.now }
+    requires bench { IsBenchOf J.meaning run.now bench.old }
+    ensures same { OnOk result (key_of kept.new ≡ run.now) }
+    ensures bench { OnOk result (IsBenchOf J.meaning run.now bench.new) }
+    ensures all { IfOk result (λ over. IsTrue over
+        → TellsRun (J.meaning.net kept.new.job) (J.meaning.limit kept.new.job)
+        (entries_told kept.new.keeper.fates)) }
+{
+    if bench.done.is_empty() {
+        return Ok(false);
+    }
+    match run.keep(kept, &mut bench.done)? {
+        Remaining::All => Ok(true),
+        Remaining::More => Ok(false),
+    }
+}
+
+// Steps the newest release. Where nothing is ready it decides what becomes of what is parked.
+fn step_newest<J: Job + Drop>(
+    run: &TableRun<J>,
+    bench: &mut Bench<J>,
+) -> Result<Option<InnerBegun<J>>, NoMemory>
+    requires bench { IsBenchOf J.meaning run.now bench.old }
+    ensures bench { OnOk result (IsBenchOf J.meaning run.now bench.new) }
+    ensures inner { IfOk result (λ inner. IfSome inner (IsInnerIn J.meaning run.now)) }
+{
+    let Some(ready) = bench.ready.pop() else {
+        settle(run, bench)?;
+        return Ok(None);
+    };
+    step(run, bench, ready)
+}
+
+// Puts together a run that is over, and goes on with the start whose work it was.
+fn leave<J: Job + Drop>(
+    kept: RunKeeper<J>,
+    around: Option<Box<Level<J>>>,
+    start: Option<OpenStart<J>>,
+) -> Result<Next<J>, NoMemory>
+    requires all { TellsRun (J.meaning.net kept.job) (J.meaning.limit kept.job)
+        (entries_told kept.keeper.fates) }
+    requires frame { frame_of start ≡ first_frame (levels_around around) }
+    requires start { IfSome start (IsStartOf J.meaning kept.job) }
+    ensures { IfOk result
+        (IsNext J.meaning (root_job (key_of kept ∷ levels_around around))) }
+{
+    let run = kept.finish()?;
+    let Some(start) = start else {
+        return Ok(Next::Run(run));
+    };
+    let Some(around) = around else { unreachable!() };
+    Ok(Next::Level(Box::into_inner(around).resumed(start, run)?))
+}

@@ -1,0 +1,74 @@
+-- What a run is gathered to, task by task.
+use Rattle.std.proofs.Common.{◌≡◌, ℕ, zero, suc, ◌+◌, ◌<◌, Bool, true, false, cond, List, [], ◌∷◌, ◌++◌, ◌≤◌, length, map, drop, get_or, Option, Some, None, refl, sym, ap, ◌∙◌, arith, append_assoc, append-nil, drop-cons}
+use Rattle.std.specs.Prelude.{if◌then◌else◌}
+use Rattle.std.specs.List.{range_with_len, flat_map, last_or}
+use Rattle.std.specs.Option.{option_map_or}
+use Rattle.std.proofs.lemmas.List.Concat.{flat_map-append}
+use Rattle.std.proofs.lemmas.List.FromFn.{get_or-map-range_with_len, length-map-range_with_len}
+use Rattle.std.proofs.lemmas.List.{drop_all}
+use Rattle.std.proofs.lemmas.Option.{none-some, same_Some}
+use Rattle.task_graph.specs.NetRows.{NetRows}
+use Rattle.journal_rules.specs.declared.entry.Entry.{Entry}
+use Rattle.run_frame.specs.LastEnds.{is_end_of, last_before, last_end, last_value}
+use Rattle.run_frame.specs.NestedRule.{journal_of}
+use Rattle.run_frame.specs.Runs.{values_of}
+use Rattle.run_frame.specs.declared.run.FrameRun.{FrameRun}
+use Rattle.run_frame.proofs.EndsLemmas.{last_before_at}
+use Rattle.text_tasks.specs.declared.gathered.LastValues.{LastValues}
+use Rattle.text_tasks.specs.declared.item.Item.{Item}
+use Rattle.text_tasks.specs.declared.job.TextJob.{TextJob}
+use Rattle.text_tasks.specs.Items.{item_text}
+use Rattle.text_tasks.specs.Sinks.{is_sink, sink_text, sink_texts, task_values}
+use Rattle.text_tasks.specs.inside.Gathering.{AreLastValues, all_of}
+
+-- ---- the last value of a task
+
+last_in_front : (n place : ℕ) (here : Bool) (before : Option ℕ) → (before ≡ Some place → place < n) → (if here then Some n else before) ≡ Some place → place < suc n
+last_in_front n place true before earlier is = let same : n ≡ place = same_Some _ _ is in omega (arith, same)
+last_in_front n place false before earlier is = omega (arith, earlier is)
+
+last_before_below : (journal : List Entry) (t n place : ℕ) → last_before journal t n ≡ Some place → place < n
+last_before_below journal t zero place is = absurd (none-some place is)
+last_before_below journal t (suc n) place is =
+    let next : suc n ≡ n + 1 = omega arith in
+    last_in_front n place (is_end_of journal t n) (last_before journal t n) (last_before_below journal t n place)
+    (sym (last_before_at journal t n) ∙ ap (last_before journal t) (sym next) ∙ is)
+
+-- the value of a task's last End is put down
+pub value_kept : (run : FrameRun TextJob Item) (tasks : ℕ) (last : LastValues) (t place : ℕ) → AreLastValues run tasks last → t < tasks → get_or last.ends.items t None ≡ Some place → place < length last.values.items
+value_kept run tasks last t place are below at =
+    let end : last_end (journal_of run) t ≡ Some place = sym (are.ends t below) ∙ at in
+    let within : place < length (journal_of run) = last_before_below (journal_of run) t (length (journal_of run)) place end in
+    omega (arith, within, are.value_count)
+
+-- ---- what tasks add
+
+pub value_added : (net : NetRows) (t : ℕ) (value : Option Item) → is_sink net t ≡ true → sink_text net t value ≡ option_map_or item_text value []
+value_added net t value is = ap (λ b. cond b (option_map_or item_text value []) []) is
+
+-- a text behind others
+pub all_of_put : (texts : List (List ℕ)) (text : List ℕ) → all_of (texts ++ text ∷ []) ≡ all_of texts ++ text
+all_of_put texts text = flat_map-append (λ t. t) texts (text ∷ []) ∙ ap (λ l. all_of texts ++ l) (append-nil text)
+
+-- the first of some texts, and the others
+pub all_of-next : (texts : List (List ℕ)) (i : ℕ) (d : List ℕ) → i < length texts → all_of (drop i texts) ≡ get_or texts i d ++ all_of (drop (i + 1) texts)
+all_of-next texts i d below =
+    let next : i + 1 ≡ suc i = omega arith in
+    ap all_of (drop-cons texts i d below) ∙ ap (λ k. get_or texts i d ++ all_of (drop k texts)) (sym next)
+
+pub all_of-end : (texts : List (List ℕ)) (i : ℕ) → length texts ≤ i → all_of (drop i texts) ≡ []
+all_of-end texts i past = ap all_of (drop_all i texts past)
+
+-- what the tasks from one on add is what it adds and what those behind it do
+pub sink_texts-next : (net : NetRows) (run : FrameRun TextJob Item) (t : ℕ) → t < length net.tasks → sink_texts net t (drop t (task_values net run)) ≡ sink_text net t (last_value (journal_of run) (values_of run) t) ++ sink_texts net (t + 1) (drop (t + 1) (task_values net run))
+sink_texts-next net run t below =
+    let next : t + 1 ≡ suc t = omega arith in
+    let long : t < length (task_values net run) = omega (arith, below, length-map-range_with_len (last_value (journal_of run) (values_of run)) 0 (length net.tasks)) in
+    let here : get_or (task_values net run) t None ≡ last_value (journal_of run) (values_of run) t = get_or-map-range_with_len (last_value (journal_of run) (values_of run)) 0 (length net.tasks) t t None below (omega arith) in
+    ap (sink_texts net t) (drop-cons (task_values net run) t None long)
+    ∙ ap (λ value. sink_text net t value ++ sink_texts net (suc t) (drop (suc t) (task_values net run))) here
+    ∙ ap (λ k. sink_text net t (last_value (journal_of run) (values_of run) t) ++ sink_texts net k (drop k (task_values net run))) (sym next)
+
+pub sink_texts-end : (net : NetRows) (run : FrameRun TextJob Item) (t : ℕ) → length net.tasks ≤ t → sink_texts net t (drop t (task_values net run)) ≡ []
+sink_texts-end net run t past =
+    ap (sink_texts net t) (drop_all t (task_values net run) (omega (arith, past, length-map-range_with_len (last_value (journal_of run) (values_of run)) 0 (length net.tasks))))
