@@ -50,8 +50,8 @@ pub fn circle_reports()
     ensures too_few { ¬ RunsWell (worked_job behind_a_circle 0) }
 {}
 
-/// The values of modules and of the parts of a text: a module that keeps lines, run by a task and by another module, and a
-/// spread. A run in a task's place has the limit of the run around it.
+/// The values of modules and of the parts of a text: a module that keeps lines, run by a task and by another module,
+/// and a spread. A module's run has the limit of the run around it, and a spread a start for each part.
 pub fn nested_reports()
     ensures modules { plain_report (worked_job runs_modules 4) ≡ codes "== m\na1\n== x\na2\n" }
     ensures enough { RunsWell (worked_job runs_modules 4) }
@@ -60,8 +60,8 @@ pub fn nested_reports()
     ensures parts { plain_report (worked_job spreads_a_text 2) ≡ codes "== s\na1\nb\n" }
 {}
 
-/// Of the jobs of these plans the first three are plain; one with a condition isn't, nor is one that runs a module with one,
-/// nor one of whose tasks one takes a unit that it doesn't put.
+/// Of these jobs those that keep lines together, spread a text and run a module are plain; one with a condition isn't,
+/// nor is one that runs a module with one, nor one of whose tasks one takes a unit that it doesn't put.
 pub fn plain_plans()
     ensures plain { IsPlainJob (worked_job kept_together 4) }
     ensures condition { ¬ IsPlainJob (worked_job chooses_a_branch 4) }

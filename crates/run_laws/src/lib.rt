@@ -22,7 +22,8 @@ mod laws;
 mod reports;
 
 pub use examples::{
-    circle_reports, kept_together_reports, plain_plans, small_values, steady_runs, unsteady_runs,
+    circle_reports, kept_together_reports, nested_reports, plain_plans, small_values, steady_runs,
+    unsteady_runs,
 };
 pub use laws::{
     all_values_of_steady_runs, graph_runs_are_decided, nets_of_rings_are_steady,

@@ -87,8 +87,8 @@ impl Job for TextJob {
     /// Does the work of a task's operation. It waits for nothing: a module and a spread are answered with the job that
     /// is to be run in the task's place. It faults with `Long` where the value, or the text with which a module is
     /// started, would have more than 16,777,216 bytes, and with `Wide` where a text would have more than 65,536 parts.
-    /// That is found without putting the text together where that is the task's whole text, and without cutting any
-    /// part.
+    /// `Long` is found without putting the text together where that is the task's whole text, and `Wide` without
+    /// cutting any part.
     fn run(&self, alloc: Global, task: u32, ins: &Ins<Item>) -> Result<Done<TextJob>, JobError> {
         let done = match self {
             TextJob::Graph(job) => job.answer(alloc, task, ins)?,
