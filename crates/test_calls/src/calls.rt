@@ -1,4 +1,5 @@
 // Calls of the program over texts and sinks in memory, each a row of a table.
+use crate::seen_runs::shown_run;
 use crate::texts::{graph_of, text_of};
 use crate::watchers::{are_in_order, span_count_of};
 use call_status::Noted;
@@ -18,9 +19,9 @@ pub const COUNT: &str = r#"{"tasks":[
 
 // A call: its words, with a space between two, or `-` for none, where `''` is the empty word; the texts `t`, `u` and
 // `v` that it finds, with ` / ` between two, where `-` is none; what fails in it (`read CALL`, `put CALL TAKEN`, `note
-// CALL TAKEN`) or how many watchers it has in place of 16 (`watchers COUNT`), or `-`; and what is seen of it: the exit
-// code, whether all was written and noted, the entries of each run, then what the output took, then what standard error
-// took. `|` ends a line of a text.
+// CALL TAKEN`), how many watchers it has in place of 16 (`watchers COUNT`), that the totals of its runs are seen too
+// (`totals`), or `-`; and what is seen of it: the exit code, whether all was written and noted, the entries of each run,
+// then what the output took, then what standard error took. `|` ends a line of a text.
 #[derive(Clone, Copy)]
 pub struct Row<'r> {
     pub words: &'r str,
@@ -264,24 +265,24 @@ fn shown<R: Threads + Wait + Sync>(
         &mut notes,
         watchers,
     );
-    let end = shown_outcome(alloc, &outcome, count);
+    let end = shown_outcome(alloc, &outcome, count, row.failing == "totals");
     let _code = outcome.into_code();
-    Ok(shown_end(alloc, end, &out, &notes)?)
+    shown_end(alloc, end, &out, &notes)
 }
 
 fn shown_end(
     alloc: Global,
-    end: Result<String, AllocError>,
+    end: Result<String, NoMemory>,
     out: &MemorySink,
     notes: &MemorySink,
-) -> Result<String, AllocError> {
+) -> Result<String, NoMemory> {
     let end = end?;
-    format!(in alloc;
+    Ok(format!(in alloc;
         "{} [{}] [{}]",
         end.as_str(),
         shown_bytes(out),
         shown_bytes(notes)
-    )
+    )?)
 }
 
 // So many watchers, each of which was told as many spans as there are watchers before it.
@@ -298,9 +299,14 @@ fn shown_bytes(sink: &MemorySink) -> &str {
     str::from_utf8(sink.bytes()).unwrap_or("?")
 }
 
-// The exit code, whether all was written and noted, how many entries each run's journal has, and whether the watchers
-// are out of order.
-fn shown_outcome(alloc: Global, outcome: &CallResult, watchers: u64) -> Result<String, AllocError> {
+// The exit code, whether all was written and noted, each run, with its totals if they are asked for, and whether the
+// watchers are out of order.
+fn shown_outcome(
+    alloc: Global,
+    outcome: &CallResult,
+    watchers: u64,
+    totals: bool,
+) -> Result<String, NoMemory> {
     let written = if outcome.written { "written" } else { "cut" };
     let mut shown = format!(in alloc; "{} {written}", outcome.status.code())?;
     match outcome.noted {
@@ -309,7 +315,8 @@ fn shown_outcome(alloc: Global, outcome: &CallResult, watchers: u64) -> Result<S
         Noted::NoMemory => shown.push_str(", no memory for the note")?,
     }
     for run in &outcome.runs {
-        shown.push_str(format!(in alloc; ", run of {}", run.journal.len())?.as_str())?;
+        shown.push_str(", ")?;
+        shown.push_str(shown_run(alloc, run, totals)?.as_str())?;
     }
     if !are_in_order(outcome.watchers.as_slice(), watchers) {
         shown.push_str(", watchers out of order")?;

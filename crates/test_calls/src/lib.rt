@@ -2,9 +2,9 @@
 //!
 //! Each call is one of `flow_main` over texts and sinks in memory, and a row of a table (`calls.rt` says how one is
 //! written): its words, the texts that it finds, what fails in it, and what is seen of it, which is the exit code, how
-//! many entries the journal of each kept run has, what both sinks took, and whether the watchers didn't come back in
-//! their order. `tables.rt` walks the tables of all other modules. The line of a status that no call here ends with is
-//! written by itself.
+//! many entries the journal of each kept run has, whether the judge doesn't find it complete, or that of a run inside
+//! it, what both sinks took, and whether the watchers didn't come back in their order. `tables.rt` walks the tables of
+//! all other modules. The line of a status that no call here ends with is written by itself.
 #![tactic(auto)]
 
 #[cfg(test)]
@@ -27,6 +27,8 @@ mod notes;
 mod operations;
 #[cfg(test)]
 mod runs;
+#[cfg(test)]
+mod seen_runs;
 #[cfg(test)]
 mod semaphore_calls;
 #[cfg(test)]

@@ -56,7 +56,15 @@ const MODULES: Table = Table {
     {"name":"m","tasks":[{"name":"i","op":"input","to":["k"]},{"name":"k","op":"keep","word":"a"}]},
     {"name":"n","tasks":[{"name":"i","op":"input","to":["w"]},{"name":"w","op":"module","module":"m"}]}]}"#,
     call: CALL,
-    rows: "run g --workers * -> a1|b| / b|a2| -> - -> 0 written, run of 10 [== m1|a1|== m2|a2|== x|a1|] []
+    rows: "run g --workers * -> a1|b| / b|a2| -> totals -> 0 written, run of 10 with 5 starts, 8 inside it and 13 spans [== m1|a1|== m2|a2|== x|a1|] []
+check g -> - -> - -> 0 written [findings 0|] []",
+};
+
+// As many modules as there may be, which no task runs.
+const MOST_MODULES: Table = Table {
+    graph: "64 MODULES",
+    call: CALL,
+    rows: "run g --workers * -> - -> - -> 0 written, run of 0 [] []
 check g -> - -> - -> 0 written [findings 0|] []",
 };
 
@@ -89,6 +97,19 @@ const ALONE: Table = Table {
 {"name":"i","op":"input","to":["k"]},{"name":"k","op":"pass","release":["s"]} -> --limit 2 -> 9 written, run of 2 [-- m|!! fault m/k: over 0|] [flow: fault m/k: over 0|]"#,
 };
 
+// The task that runs the module takes and gives back units as others do. If none is out it faults, though its run is
+// fine.
+const UNITS: Table = Table {
+    graph: r#"{"version":2,"tasks":[{"name":"m","op":"module","module":"m",@1}],
+    "modules":[{"name":"m","tasks":[{"name":"i","op":"input"}]}],
+    "semaphores":[{"name":"s","max":1}]}"#,
+    call: "run g@2 --workers * ->  -> - -> @3",
+    rows: r#""release":["s"] ->  -> 9 written, run of 2 [-- m|!! fault m: over 0|] [flow: fault m: over 0|]
+"release":["s"] ->  --journal -> 9 written, run of 2 [flow journal 2|start 0 source -|fault 0 over:0|] [flow: fault m: over 0|]
+"acquire":["s"],"release":["s"] ->  -> 0 written, run of 2 [== m|] []
+"acquire":["s"] ->  -> 0 written, run of 2 [== m|] []"#,
+};
+
 // Faults, with the tasks that lead to them: too long a text for a module, too long a value of one, and a part of a
 // spread in one.
 const FAULTS: Table = Table {
@@ -116,8 +137,8 @@ const BESIDE_A_FAULT: Table = Table {
     {"name":"m","tasks":[{"name":"i","op":"input","to":["n"]},{"name":"n","op":"module","module":"n"}]},
     {"name":"n","tasks":[{"name":"i","op":"input","to":["s"]},{"name":"s","op":"spread","n":1,"each":{"op":"sort"}}]}]}"#,
     call: CALL,
-    rows: "run g --workers * -> WIDE -> - -> 9 written, run of 4 [-- z|!! fault m/n/s: wide 65537|] [flow: fault m/n/s: wide 65537|]
-run g --workers * -> b|a| -> - -> 0 written, run of 6 [== z|2|] []",
+    rows: "run g --workers * -> WIDE -> totals -> 9 written, run of 4 with 2 starts, 4 inside it and 6 spans [-- z|!! fault m/n/s: wide 65537|] [flow: fault m/n/s: wide 65537|]
+run g --workers * -> b|a| -> totals -> 0 written, run of 6 with 3 starts, 6 inside it and 9 spans [== z|2|] []",
 };
 
 // Eight modules of which each runs the next, where the last one may spread its text, and nine.
@@ -152,13 +173,15 @@ const WITHOUT_A_SOURCE: Table = Table {
 "t" -> "a" -> check -> 0 written [no source|strong cycle t|never reached t|m: no source|m: strong cycle a|m: strong cycle b|m: never reached a|m: never reached b|n: no source|n: strong cycle a|n: never reached a|findings 11|] []"#,
 };
 
-pub const TABLES: [Table; 10] = [
+pub const TABLES: [Table; 12] = [
     SPREAD,
     SPREAD_OF_TWO_TEXTS,
     MOST_PARTS,
     MODULES,
+    MOST_MODULES,
     VALUE_OF_A_MODULE,
     ALONE,
+    UNITS,
     FAULTS,
     BESIDE_A_FAULT,
     CHAIN,

@@ -1,0 +1,45 @@
+// What is seen of a run: how many entries its journal has, and what the judge and the totals say.
+use legal_run::{Verdict, judge};
+use nested_runs::{inner_starts, spans, starts};
+use outside_io::NoMemory;
+use run_frame::{FrameRun, Job};
+use std::alloc::Global;
+use text_tasks::TextJob;
+
+/// How many entries a run's journal has, its totals if they are asked for, and whether it isn't complete, or a run
+/// inside it isn't.
+pub fn shown_run(alloc: Global, run: &FrameRun<TextJob>, totals: bool) -> Result<String, NoMemory> {
+    let mut shown = format!(in alloc; "run of {}", run.journal.len())?;
+    if totals {
+        shown.push_str(shown_totals(alloc, run)?.as_str())?;
+    }
+    if !is_complete(alloc, run)? {
+        shown.push_str(" that isn't complete")?;
+    }
+    Ok(shown)
+}
+
+// How many starts a run has, how many the runs inside it have, and how many spans there are in all.
+fn shown_totals(alloc: Global, run: &FrameRun<TextJob>) -> Result<String, NoMemory> {
+    Ok(format!(in alloc;
+        " with {} starts, {} inside it and {} spans",
+        starts(run),
+        inner_starts(run),
+        spans(run)
+    )?)
+}
+
+// Whether the judge finds the journal of a run complete, and those of the runs inside it, at each depth.
+#[cycle(inner_verdicts)]
+fn is_complete(alloc: Global, run: &FrameRun<TextJob>) -> Result<bool, NoMemory> {
+    let verdict = judge(alloc, run.job.net(), run.job.limit(), &run.journal)?;
+    if verdict != Verdict::Complete {
+        return Ok(false);
+    }
+    for row in run.inner.as_slice() {
+        if !is_complete(alloc, &row.run)? {
+            return Ok(false);
+        }
+    }
+    Ok(true)
+}
