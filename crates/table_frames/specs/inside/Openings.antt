@@ -11,8 +11,8 @@ use Rattle.table_frames.specs.inside.OpenStarts.{IsOpenFor, IsStartOf}
 use Rattle.table_frames.specs.declared.attempt.InnerBegun.{InnerBegun}
 use Rattle.table_frames.specs.declared.step_results.State.TheVariants.{Inner as InnerState}
 use Rattle.table_frames.specs.declared.step_results.Stepped.{Stepped}
-use Rattle.table_frames.specs.declared.table_run.Started.{Started}
-use Rattle.table_frames.specs.declared.table_run.Started.TheVariants.{Outcome, Inner as InnerStart}
+use Rattle.table_frames.specs.declared.run_work.Started.{Started}
+use Rattle.table_frames.specs.declared.run_work.Started.TheVariants.{Outcome, Inner as InnerStart}
 use Rattle.table_frames.specs.declared.attempt.Tried.{Tried}
 use Rattle.table_frames.specs.declared.attempt.Tried.TheVariants.{Done, Inner}
 
