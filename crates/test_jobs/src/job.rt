@@ -40,6 +40,8 @@ pub struct NumberJob {
     meeting: u64,
     begun: AtomicU64,
     met: AtomicU64,
+    // How many tasks of each run inside are to meet.
+    meeting_inside: u64,
 }
 
 impl Model for NumberJob {
@@ -62,8 +64,8 @@ impl Model for NumberJob {
 
 impl NumberJob {
     /// A job of a net, with at most `limit` starts, no more than `START_LIMIT`; else `None`. A task that comes to the
-    /// number `fault` faults. Below `turns` a Choice chooses its first edge and from there its second; a Many chooses the
-    /// same, and its third.
+    /// number `fault` faults. Below `turns` a Choice chooses its first edge and from there its second; a Many chooses
+    /// the same, and its third.
     pub fn new(net: Arc<Net>, limit: u64, turns: u64, fault: u64) -> Option<NumberJob>
         ensures { IfSome result (λ job. job
             ≡ record
@@ -83,6 +85,7 @@ impl NumberJob {
             meeting: 0,
             begun: AtomicU64::new(0),
             met: AtomicU64::new(0),
+            meeting_inside: 0,
         })
     }
 
@@ -104,14 +107,25 @@ impl NumberJob {
         }
     }
 
-    /// The same job, of which a Nested task answers a job of the first of these nets, one of that job a job of the second,
-    /// and so on. Below the last it answers its number. A run is gathered to the number of its entries.
+    /// The same job, of which a Nested task answers a job of the first of these nets, one of that job a job of the
+    /// second, and so on. Below the last it answers its number. A run is gathered to the number of its entries.
     pub fn with_inner(self, nets: Arc<Vec<Arc<Net>>>) -> NumberJob
         ensures { result ≡ with_inner (map arc_value (arc_value nets).items) self }
     {
         NumberJob {
             nets: Some(nets),
             level: 0,
+            ..self
+        }
+    }
+
+    /// The same job, of whose runs inside each task first waits a long while until so many tasks of its own run have
+    /// begun.
+    pub fn with_meeting_inside(self, tasks: u64) -> NumberJob
+        ensures { result ≡ self }
+    {
+        NumberJob {
+            meeting_inside: tasks,
             ..self
         }
     }
@@ -134,9 +148,10 @@ impl NumberJob {
             turns: self.turns,
             fault: self.fault,
             additions: self.additions,
-            meeting: 0,
+            meeting: self.meeting_inside,
             begun: AtomicU64::new(0),
             met: AtomicU64::new(0),
+            meeting_inside: self.meeting_inside,
         }))
     }
 
