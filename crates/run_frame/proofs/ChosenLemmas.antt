@@ -18,9 +18,7 @@ use Rattle.run_frame.specs.Meaning.{FitsShape, DoneFits, AnswerFits}
 use Rattle.run_frame.specs.WorkRule.{gives_of}
 use Rattle.run_frame.specs.declared.job.Answer.{Answer}
 use Rattle.run_frame.specs.declared.job.Answer.TheVariants.{All as AllOf, None as NoneOf, Indices}
-use Rattle.run_frame.specs.declared.job.Done.{Done}
-use Rattle.run_frame.specs.declared.job.Done.TheVariants.{Value, Inner as InnerJob}
-use Rattle.run_frame.specs.FlatNets.{IsFlatTask, IsFlatNet}
+use Rattle.run_frame.specs.declared.job.Done.TheVariants.{Value}
 
 filter_all : {X : Type 0} (P : X → Type 0) (p : X → Bool) (xs : List X) → AllByRecursion P xs → AllByRecursion P (filter p xs)
 filter_all P p [] all = tt
@@ -140,17 +138,6 @@ answer_for J {V} net t v indices below fits = by_row (slice_get net.tasks t) ref
     by_row : (row : Option TaskRow) → slice_get net.tasks t ≡ row → IfSome row (λ (r : TaskRow). DoneFits {J = J} r.shape (Value v (Indices indices))) → IsSomeAnd row (λ (r : TaskRow). FitsCount r.shape (length indices))
     by_row None is f = absurd (past_tasks net.tasks t below is)
     by_row (Some row) is f = by_shape row.shape f
-
--- a task of a flat net answers with no job
-pub no_inner : (J V : Type 0) (net : NetRows) (t : ℕ) (inner : J) → IsFlatNet net → t < length net.tasks → AnswerFits {J = J} {V = V} net t (InnerJob inner) → ⊥
-no_inner J V net t inner flat below fits = by_row (slice_get net.tasks t) refl fits
-  where
-    done : Done J V
-    done = InnerJob inner
-
-    by_row : (row : Option TaskRow) → slice_get net.tasks t ≡ row → IfSome row (λ (r : TaskRow). DoneFits r.shape done) → ⊥
-    by_row None is f = past_tasks net.tasks t below is
-    by_row (Some row) is f = at_place IsFlatTask net.tasks t row flat is f
 
 one_of : (out : List ℕ) (p : ℕ) → p < length out → take 1 (drop p out) ≡ slice_index out p ∷ []
 one_of [] p below = absurd (omega (arith, below))

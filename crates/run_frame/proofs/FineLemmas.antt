@@ -10,7 +10,8 @@ use Rattle.journal_rules.specs.declared.entry.Entry.TheVariants.{Start, End, Fau
 use Rattle.journal_rules.specs.Counts.{faults, is_fault}
 use Rattle.journal_rules.specs.Complete.{is_limited}
 use Rattle.journal_rules.specs.HaltLimitStuckRule.{is_stuck}
-use Rattle.run_frame.specs.Runs.{IsFine, cuts_short}
+use Rattle.run_frame.specs.Runs.{IsFine}
+use Rattle.run_frame.specs.inside.Cuts.{cuts_short}
 
 cons : (p : Entry → Bool) (x : Entry) (h : List Entry) → count_by p (x ∷ h) ≡ cond (p x) 1 0 + count_by p h
 cons p x h = sum_by-cons (λ y. cond (p y) 1 0) x h

@@ -1,5 +1,4 @@
 pub mod WorkedRuns
-pub mod WorkedNets
 pub mod EndsLemmas
 pub mod WorkedLegal
 pub mod ChosenLemmas

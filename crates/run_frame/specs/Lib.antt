@@ -5,4 +5,4 @@ pub mod NestedRule
 pub mod Legal
 pub mod Rows
 pub mod LastEnds
-pub mod FlatNets
+pub mod inside

@@ -1,12 +1,9 @@
 -- Looking into a run.
-use Rattle.std.specs.Prelude.{◌≡◌, ℕ, Bool, true, false, ◌==◌, List, [], ◌∷◌, map, count_by, Option, Some, None, if◌then◌else◌}
+use Rattle.std.specs.Prelude.{◌≡◌, ℕ, ◌==◌, List, [], ◌∷◌, map, count_by, Option, Some, None, if◌then◌else◌}
 use Rattle.std.specs.Arc.{arc_value}
 use Rattle.journal_rules.specs.declared.entry.Part.{Part}
 use Rattle.journal_rules.specs.declared.entry.Part.TheVariants.{From, First, Nothing}
-use Rattle.journal_rules.specs.declared.entry.DropWhy.{DropWhy}
-use Rattle.journal_rules.specs.declared.entry.DropWhy.TheVariants.{Halted, Limit, Stuck}
 use Rattle.journal_rules.specs.declared.entry.Entry.{Entry}
-use Rattle.journal_rules.specs.declared.entry.Entry.TheVariants.{Start, End, Fault, Drop}
 use Rattle.journal_rules.specs.Counts.{faults}
 use Rattle.journal_rules.specs.HaltLimitStuckRule.{is_stuck}
 use Rattle.journal_rules.specs.Complete.{is_limited}
@@ -48,15 +45,3 @@ pub record IsFine (journal : List Entry) : Type 0 where
   pub no_fault : faults journal ≡ 0
   pub none_limited : count_by is_limited journal ≡ 0
   pub none_stuck : count_by is_stuck journal ≡ 0
-
--- whether an entry says that its run was cut short
-abbrev pub is_cut_by : DropWhy → Bool
-is_cut_by Halted = false
-is_cut_by Limit = true
-is_cut_by (Stuck s) = true
-
-abbrev pub cuts_short : Entry → Bool
-cuts_short (Start task cause ins) = false
-cuts_short (End start gives inner) = false
-cuts_short (Fault start why) = true
-cuts_short (Drop task cause why) = is_cut_by why

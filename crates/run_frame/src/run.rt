@@ -3,7 +3,8 @@ ghost use Rattle.std.specs.Prelude.{◌≡◌, ◌↔◌, IsTrue, count_by, opti
 ghost use Rattle.run_frame.specs.LastEnds.{is_end_of, last_end};
 ghost use Rattle.run_frame.specs.Legal.{inner_at};
 ghost use Rattle.run_frame.specs.NestedRule.{journal_of};
-ghost use Rattle.run_frame.specs.Runs.{value_at, values_of, inner_in, IsFine, cuts_short};
+ghost use Rattle.run_frame.specs.Runs.{value_at, values_of, inner_in, IsFine};
+ghost use Rattle.run_frame.specs.inside.Cuts.{cuts_short};
 
 use super::end_values::ended_task;
 use super::job::Valued;

@@ -18,10 +18,9 @@ use Rattle.run_frame.specs.declared.run.FrameRun.{FrameRun}
 use Rattle.table_frames.specs.BacklogResults.{BringsFates, MayTakeIn, ResumesStart, TakesIn}
 use Rattle.table_frames.specs.Frames.{AtFrame, BacklogView, FrameKey, HasTable, ReleaseView, RunKeeperView, backlog_view, key_of, release_in}
 use Rattle.table_frames.specs.JournalFacts.{HasEntries}
-use Rattle.table_frames.specs.Steps.{IsRootRun}
 use Rattle.table_frames.specs.inside.AttemptEnds.{HandsOn}
 use Rattle.table_frames.specs.inside.Attempts.{release_tried}
-use Rattle.table_frames.specs.inside.OpenStarts.{IsStartOf, LockKey, LockedRunView, OpenStartView, first_frame, frame_of, lock_key_in, lock_key_of, locked_run}
+use Rattle.table_frames.specs.inside.OpenStarts.{IsLockedAt, IsStartOf, LockKey, LockedRunView, OpenStartView, first_frame, frame_of, lock_key_in, lock_key_of, locked_run}
 use Rattle.table_frames.specs.inside.Overs.{IsEnd, IsInnerRunOf, IsOverOf, KeepsFates, Resumes}
 use Rattle.table_frames.specs.declared.attempt.Attempt.{Attempt}
 use Rattle.table_frames.specs.declared.over.InnerOver.{InnerOver}
@@ -89,7 +88,7 @@ module _ {J V : Type 0} (meaning : Meaning J V) where
   -- what has the entries of fates has those of the later ones
   pub over_of : (frames : List (FrameKey J)) (earlier later all : List (Fate V)) (over : Over J V) → all ≡ earlier ++ later → IsOverOf meaning frames all over → IsOverOf meaning frames later over
   over_of frames earlier later all No same is = tt
-  over_of frames earlier later all (Alone run) same is = (is.0, later_entries earlier later all run same is.1)
+  over_of frames earlier later all (Alone run) same is = record { frame = is.frame; frames_are = is.frames_are; job = is.job; kept = is.kept; entries = later_entries earlier later all run same is.entries }
   over_of frames earlier later all (Inside inner) same is = record { key = is.key; frames_are = is.frames_are; job = is.job; over = is.over; entries = later_entries earlier later all inner.run same is.entries }
 
   -- a run inside another that is over, whose start goes on
@@ -121,13 +120,15 @@ module _ {J V : Type 0} (meaning : Meaning J V) where
       }
 
   -- the run of a frame in no other
-  pub over_alone : (key : FrameKey J) (around : List (FrameKey J)) (locked : LockedRunView J V) (run : FrameRun J V) → lock_key_of locked ≡ lock_key_in key around → locked.start ≡ None → IsKept meaning run → job_of run ≡ locked.kept.job → HasEntries run locked.kept.keeper.fates
-      → IsOverOf meaning (key ∷ around) locked.kept.keeper.fates (Alone run)
-  over_alone key around locked run is none kept job entries =
-      let root : around ≡ [] = no_around around (sym (ap frame_of none) ∙ ap (λ (k : LockKey J). k.around) is) in (
-        subst (λ (fs : List (FrameKey J)). IsRootRun meaning (key ∷ fs) run) (sym root) (record { kept = kept; job = ap (λ (k : LockKey J). Some k.frame.job) (sym is) ∙ ap Some (sym job) }),
-        entries,
-      )
+  pub over_alone : (frames : List (FrameKey J)) (locked : LockedRunView J V) (run : FrameRun J V) → IsLockedAt frames locked → locked.start ≡ None → IsKept meaning run → job_of run ≡ locked.kept.job → HasEntries run locked.kept.keeper.fates → IsOverOf meaning frames locked.kept.keeper.fates (Alone run)
+  over_alone [] locked run is none kept job entries = absurd is
+  over_alone (key ∷ around) locked run is none kept job entries = record {
+    frame = key;
+    frames_are = ap (λ fs. key ∷ fs) (no_around around (sym (ap frame_of none) ∙ ap (λ (k : LockKey J). k.around) is));
+    job = job ∙ ap (λ (k : LockKey J). k.frame.job) is;
+    kept = kept;
+    entries = entries;
+  }
 
   -- the run of a frame inside another
   pub over_inside : (key : FrameKey J) (around : List (FrameKey J)) (locked : LockedRunView J V) (inner : InnerOver J V) → lock_key_of locked ≡ lock_key_in key around → locked.start ≡ Some inner.start → IfSome locked.start (IsStartOf meaning locked.kept.job) → arc_value inner.parent ≡ around

@@ -19,7 +19,7 @@ use Rattle.join_tables.specs.declared.fates.Fate.{Fate}
 use Rattle.run_frame.specs.Meaning.{Meaning}
 use Rattle.table_frames.specs.Frames.{AtFrame, BacklogView, FrameKey, HasTable, ReleaseView, backlog_view, release_in, table_in}
 use Rattle.table_frames.specs.StepReleases.{GivesEdges, IsFateOf, MayRelease, Uses, given_by}
-use Rattle.table_frames.specs.Steps.{BeginsFrame, IsStateOf, StepsRelease, StepsTo, UsesRelease, units_of}
+use Rattle.table_frames.specs.Steps.{BeginsFrame, IsOverAtOnce, IsStateOf, StepsRelease, StepsTo, UsesRelease, units_of}
 use Rattle.join_words.specs.Ins.{found_of, parts_of}
 use Rattle.table_steps.specs.OneJournal.{AreInOneJournal}
 use Rattle.join_tables.specs.Keeping.{start_of, with_places}
@@ -101,9 +101,9 @@ used_up meaning frames attempt mid old new made same concludes =
     }
 
 -- a step that used its release up
-pub steps_release : {J V : Type 0} (meaning : Meaning J V) (frames : List (FrameKey J)) (fresh : FreshState) (attempt : Attempt J V) (old mid new : BacklogView J V) (made : List FreshState) (stepped : Stepped J V) → HasTable frames fresh.table → mid.fates ≡ old.fates → Concludes meaning frames attempt mid new made → TriesRelease frames attempt fresh
+pub steps_release : {J V : Type 0} (meaning : Meaning J V) (frames : List (FrameKey J)) (fresh : FreshState) (attempt : Attempt J V) (old mid new : BacklogView J V) (made : List FreshState) (stepped : Stepped J V) → HasTable frames fresh.table → mid.fates ≡ old.fates → Concludes meaning frames attempt mid new made → TriesRelease frames attempt fresh → IsOverAtOnce meaning attempt.inner
     → stepped.released.items ≡ map (release_in frames) made → stepped.state ≡ Went → StepsRelease meaning (release_in frames fresh) old new stepped
-steps_release {J} meaning frames fresh attempt old mid new made stepped has same concludes tries released state =
+steps_release {J} meaning frames fresh attempt old mid new made stepped has same concludes tries at_once released state =
     let frame = concludes.frame in
     let table : fresh.table ≡ frame.table = subst (λ fs. HasTable fs fresh.table) concludes.frames_are has in
     let tried : release_tried frame.table attempt.outcome ≡ fresh = subst (λ fs. TriesRelease fs attempt fresh) concludes.frames_are tries in
@@ -115,14 +115,17 @@ steps_release {J} meaning frames fresh attempt old mid new made stepped has same
       frames_are = concludes.frames_are;
       made = made;
       to = subst (StepsTo meaning frame (release_in frames fresh) old new made) (sym state) (record {
-        fate = concludes.fate;
-        run = attempt.inner;
-        by_end = concludes.by_end;
-        allowed = concludes.allowed;
-        journal = concludes.journal;
-        uses = subst (λ n. Uses (meaning.net frame.job) (fresh_state n fresh.task fresh.cause) concludes.fate [] concludes.by_end) table uses;
-        wakes = subst (λ (t : ℕ). Wakes (table_in meaning frame) (units_of (meaning.net frame.job) t) concludes.by_end made) (ap (λ (f : FreshState). f.task) tried) wakes;
-        backlog = concludes.backlog ∙ ap (λ fs. backlog_view frames (fs ++ concludes.fate ∷ [])) same;
+        uses = record {
+          fate = concludes.fate;
+          run = attempt.inner;
+          by_end = concludes.by_end;
+          allowed = concludes.allowed;
+          journal = concludes.journal;
+          uses = subst (λ n. Uses (meaning.net frame.job) (fresh_state n fresh.task fresh.cause) concludes.fate [] concludes.by_end) table uses;
+          wakes = subst (λ (t : ℕ). Wakes (table_in meaning frame) (units_of (meaning.net frame.job) t) concludes.by_end made) (ap (λ (f : FreshState). f.task) tried) wakes;
+          backlog = concludes.backlog ∙ ap (λ fs. backlog_view frames (fs ++ concludes.fate ∷ [])) same;
+        };
+        inner = at_once;
       });
       released = released;
       frames = subst (All (λ (next : ReleaseView J). next.frames ≡ frames)) (sym released) (all_in frames made);
@@ -219,7 +222,7 @@ steps_from {J} {V} meaning release old mid new stepped same steps = record {
 }
   where
     by_state : (state : State J V) → StepsTo meaning steps.frame release mid new steps.made state → StepsTo meaning steps.frame release old new steps.made state
-    by_state Went u = record { fate = u.fate; run = u.run; by_end = u.by_end; allowed = u.allowed; journal = u.journal; uses = u.uses; wakes = u.wakes; backlog = u.backlog ∙ ap (λ fs. backlog_view release.frames (fs ++ u.fate ∷ [])) same }
+    by_state Went w = let u = w.uses in record { uses = record { fate = u.fate; run = u.run; by_end = u.by_end; allowed = u.allowed; journal = u.journal; uses = u.uses; wakes = u.wakes; backlog = u.backlog ∙ ap (λ fs. backlog_view release.frames (fs ++ u.fate ∷ [])) same }; inner = w.inner }
     by_state (ParkedState turn) p = record { is = p.is; sem = p.sem; waits = p.waits; none = p.none; woken = p.woken; wakes = p.wakes; again = p.again; backlog = p.backlog ∙ ap (backlog_view release.frames) same }
     by_state (InnerState first) o = record { place = o.place; ins = o.ins; journal = o.journal; inner = o.inner; answered = o.answered; first_are = o.first_are; some = o.some; again = o.again; backlog = o.backlog ∙ ap (backlog_view release.frames) same }
     by_state (ResumedState releases) u = absurd u

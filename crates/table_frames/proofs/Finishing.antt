@@ -40,7 +40,8 @@ use Rattle.run_frame.specs.Rows.{RowsFit, MayHaveInner, ends_from}
 use Rattle.run_frame.specs.Runs.{value_at, inner_in, found_ins}
 use Rattle.run_frame.specs.WorkRule.{EndRule, FaultRule, Work, WorkRule, work_at, work_of}
 use Rattle.run_frame.specs.NestedRule.{InnerEndRule, InnerFault, NestedRule, job_of}
-use Rattle.table_frames.specs.AllowedFates.{AreAllowed, EndAllowed, FateWithRun, PlacedRun, WhyAllowed, closing_place, in_row, in_rows, placed_runs, work_with}
+use Rattle.table_frames.specs.AllowedFates.{EndAllowed, WhyAllowed, work_with}
+use Rattle.table_frames.specs.inside.FateRuns.{AreAllowed, FateWithRun, PlacedRun, closing_place, in_row, in_rows, placed_runs}
 use Rattle.table_frames.specs.inside.Rows.{place_in_row, rows_of}
 use Rattle.table_frames.proofs.Rows.{HasNumber, IsItsValue, end_among, found_at, own_all, places_are, row_places}
 use Rattle.table_frames.proofs.Runs.{IsIn, RunAt, fates_in, placed_at, placed_of, row_at, rows_moved, run_of}

@@ -11,7 +11,8 @@ use Rattle.join_tables.specs.Keeping.{KeeperState, keeper_with}
 use Rattle.run_frame.specs.Meaning.{Meaning}
 use Rattle.run_frame.specs.declared.run.FrameRun.{FrameRun}
 use Rattle.run_frame.specs.declared.run.InnerRow.{InnerRow}
-use Rattle.table_frames.specs.AllowedFates.{AreAllowed, FateWithRun, IsAllowed, PlacedRun, closing_place, in_row, in_rows, placed_run, placed_runs, run_at}
+use Rattle.table_frames.specs.AllowedFates.{IsAllowed}
+use Rattle.table_frames.specs.inside.FateRuns.{AreAllowed, FateWithRun, PlacedRun, closing_place, in_row, in_rows, placed_run, placed_runs, run_at}
 use Rattle.table_frames.specs.Frames.{FrameKey}
 use Rattle.table_frames.specs.inside.DoneTurns.{HasSame, IsNoTurn}
 use Rattle.table_frames.specs.inside.Runs.{AreDoneIn, AreDoneAt}

@@ -10,7 +10,7 @@ use Rattle.join_tables.specs.declared.fates.Fate.{Fate}
 use Rattle.run_frame.specs.Runs.{inner_in}
 use Rattle.run_frame.specs.declared.run.FrameRun.{FrameRun}
 use Rattle.run_frame.specs.declared.run.InnerRow.{InnerRow, out-InnerRow}
-use Rattle.table_frames.specs.AllowedFates.{FateWithRun, PlacedRun, closing_place, in_row, in_rows, placed_run, placed_runs, run_at}
+use Rattle.table_frames.specs.inside.FateRuns.{FateWithRun, PlacedRun, closing_place, in_row, in_rows, placed_run, placed_runs, run_at}
 
 -- an element of a list
 abbrev pub IsIn : {X : Type 0} → X → List X → Type 0

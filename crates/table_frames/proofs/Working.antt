@@ -39,7 +39,8 @@ use Rattle.run_frame.specs.declared.run.ValueRow.{ValueRow}
 use Rattle.run_frame.specs.Rows.{MayHaveInner}
 use Rattle.run_frame.specs.Meaning.{Meaning}
 use Rattle.run_frame.specs.Runs.{value_at, found_by, found_ins}
-use Rattle.table_frames.specs.AllowedFates.{EndAllowed, FateAllowed, FateWithRun, IsAllowed, PlacedRun, closing_place, placed_runs, run_at, work_with}
+use Rattle.table_frames.specs.AllowedFates.{EndAllowed, FateAllowed, IsAllowed, work_with}
+use Rattle.table_frames.specs.inside.FateRuns.{FateWithRun, PlacedRun, closing_place, placed_runs, run_at}
 use Rattle.table_frames.proofs.Runs.{RunAt, fates_in}
 use Rattle.table_frames.proofs.Rows.{IsItsValue}
 

@@ -5,13 +5,14 @@ use Rattle.join_tables.specs.Findings.{FindsOne}
 use Rattle.join_tables.specs.Keeping.{KeeperState}
 use Rattle.join_tables.specs.States.{FreshState}
 use Rattle.join_tables.specs.declared.fates.Fate.{Fate}
+use Rattle.run_frame.specs.Legal.{IsKept}
 use Rattle.run_frame.specs.Meaning.{Meaning}
 use Rattle.run_frame.specs.NestedRule.{job_of}
 use Rattle.run_frame.specs.declared.run.FrameRun.{FrameRun}
 use Rattle.semaphore_turns.specs.Settlements.{AreDrops}
 use Rattle.table_frames.specs.Frames.{BacklogView, FrameKey, HasTable, ReleaseView, backlog_view, release_in}
 use Rattle.table_frames.specs.StepReleases.{GivesEdges, given_by}
-use Rattle.table_frames.specs.Steps.{IsRootRun, UsesRelease}
+use Rattle.table_frames.specs.Steps.{UsesRelease}
 use Rattle.table_frames.specs.JournalFacts.{HasEntries}
 use Rattle.table_frames.specs.declared.step_results.Brought.{Brought}
 use Rattle.table_frames.specs.declared.step_results.State.{State}
@@ -50,18 +51,26 @@ pub record ResumesStart {J V : Type 0} (meaning : Meaning J V) (frames : List (F
   pub edges : GivesEdges (meaning.net frame.job) frame.table (given_by uses.fate) [] uses.by_end
   pub released_are : released ≡ map (release_in release.frames) made
 
+-- The run of a frame that is in no other is over. It is given out, may be kept, and has the entries of these fates.
+pub record ClosesRun {J V : Type 0} (meaning : Meaning J V) (frames : List (FrameKey J)) (fates : List (Fate V)) (run : FrameRun J V) : Type 0 where
+  pub frame : FrameKey J
+  pub frames_are : frames ≡ frame ∷ []
+  pub job : job_of run ≡ frame.job
+  pub kept : IsKept meaning run
+  pub entries : HasEntries run fates
+
 -- these frames, those around the first of them, or none
 abbrev pub IsFrameOf : {J : Type 0} → List (FrameKey J) → List (FrameKey J) → Type 0
 IsFrameOf [] new = new ≡ []
 IsFrameOf (frame ∷ around) new = (new ≡ frame ∷ around) ⊎ (new ≡ around) ⊎ (new ≡ [])
 
--- what is with the run then: it goes on, its start does in the run around it, or it is given out with the entries of these fates
+-- what is with the run then: it goes on, its start does in the run around it, or it is given out
 abbrev pub BringsTo : {J V : Type 0} → Meaning J V → List (FrameKey J) → List (Fate V) → BacklogView J V → State J V → Type 0
 BringsTo meaning frames fates new Went = new ≡ backlog_view frames []
 BringsTo meaning frames fates new (Parked turn) = ⊥
 BringsTo meaning frames fates new (Inner first) = ⊥
 BringsTo meaning frames fates new (Resumed released) = ResumesStart meaning frames fates released.items new
-BringsTo meaning frames fates new (Closed run) = IsRootRun meaning frames run × HasEntries run fates × (new ≡ backlog_view frames [])
+BringsTo meaning frames fates new (Closed run) = ClosesRun meaning frames fates run × (new ≡ backlog_view frames [])
 
 -- the run of the frame is over
 abbrev pub IsOver : {J V : Type 0} → State J V → Type 0

@@ -1,6 +1,7 @@
 -- What a beginning and a step of a frame come to, and what is then with its run.
-use Rattle.std.specs.Prelude.{◌≡◌, ◌≢◌, ℕ, List, [], ◌∷◌, ◌++◌, length, map, All, Option, Some}
+use Rattle.std.specs.Prelude.{◌≡◌, ◌≢◌, ℕ, List, [], ◌∷◌, ◌++◌, length, map, All, IfSome, Option, Some}
 use Rattle.task_graph.specs.NetRows.{NetRows}
+use Rattle.atomic_table.specs.Seated.{TableId}
 use Rattle.join_tables.specs.States.{FreshState, TurnState, fresh_state}
 use Rattle.semaphore_turns.specs.Semaphores.{put_by, taken_by}
 use Rattle.semaphore_turns.specs.HeldUnits.{FoundNone}
@@ -66,6 +67,20 @@ pub record UsesRelease {J V : Type 0} (meaning : Meaning J V) (frame : FrameKey 
   pub wakes : Wakes (table_in meaning frame) (units_of (meaning.net frame.job) release.task) by_end made
   pub backlog : new ≡ backlog_view release.frames (old.fates ++ fate ∷ [])
 
+-- no task of a net is released before anything has run
+abbrev pub HasNoFirst : NetRows → Type 0
+HasNoFirst net = (n : TableId) → first_fresh n net 0 (length net.tasks) ≡ []
+
+-- The run that was made in place of the work, if one was, is of a job whose net has no first release: it was over as it began.
+abbrev pub IsOverAtOnce : {J V : Type 0} → Meaning J V → Option (FrameRun J V) → Type 0
+IsOverAtOnce meaning run = IfSome run (λ inner. HasNoFirst (meaning.net (job_of inner)))
+
+-- A step used its release up. It made no run in place of the work, or one in which nothing was to be done: another is opened, and
+-- is not run inside the step.
+pub record UsesAtOnce {J V : Type 0} (meaning : Meaning J V) (frame : FrameKey J) (release : ReleaseView J) (old new : BacklogView J V) (made : List FreshState) : Type 0 where
+  pub uses : UsesRelease meaning frame release old new made
+  pub inner : IsOverAtOnce meaning uses.run
+
 -- A step parked its release, as a turn of the frame's table whose last step found no unit of a semaphore that its task takes. It
 -- woke others that waited for units that the turn put back, and perhaps released the same task again.
 pub record ParksRelease {J V : Type 0} (meaning : Meaning J V) (frame : FrameKey J) (release : ReleaseView J) (old new : BacklogView J V) (made : List FreshState) (turn : TurnState) : Type 0 where
@@ -94,7 +109,7 @@ pub record OpensInner {J V : Type 0} (meaning : Meaning J V) (frame : FrameKey J
 
 -- what became of the release, by what is with the run then
 abbrev pub StepsTo : {J V : Type 0} → Meaning J V → FrameKey J → ReleaseView J → BacklogView J V → BacklogView J V → List FreshState → State J V → Type 0
-StepsTo meaning frame release old new made Went = UsesRelease meaning frame release old new made
+StepsTo meaning frame release old new made Went = UsesAtOnce meaning frame release old new made
 StepsTo meaning frame release old new made (Parked turn) = ParksRelease meaning frame release old new made turn.value
 StepsTo meaning frame release old new made (Inner first) = OpensInner meaning frame release old new made first.items
 StepsTo meaning frame release old new made (Resumed releases) = ⊥

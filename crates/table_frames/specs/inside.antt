@@ -1,4 +1,5 @@
 -- Internal: what the calls of a step say to one another, how a run begins, and the rows of a run's values.
+pub mod FateRuns
 pub mod DoneTurns
 pub mod Runs
 pub mod CollectedRelease

@@ -2,7 +2,7 @@
 ghost use Rattle.std.specs.Prelude.{◌≡◌, ◌<◌, ◌↔◌, [], None, IsTrue, OnOk, OnErr, length};
 ghost use Rattle.std.specs.Vec.{vec_capacity, vec_len};
 ghost use Rattle.join_tables.specs.Batches.{batch_state};
-ghost use Rattle.table_frames.specs.AllowedFates.{closing_place};
+ghost use Rattle.table_frames.specs.inside.FateRuns.{closing_place};
 ghost use Rattle.table_frames.specs.inside.DoneTurns.{AddsRow};
 
 use join_tables::{Fate, Spent, SpentBatch};

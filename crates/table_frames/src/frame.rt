@@ -1,5 +1,5 @@
-// Frames.
-ghost use Rattle.std.specs.Prelude.{◌≡◌, ◌≢◌, ◌↔◌, ◌⊎◌, ◌<◌, ◌≤◌, ◌+◌, ◌^◌, ◌++◌, ◌∷◌, [], None, Some, All, IfOk, IfSome, OnOk, OnErr, length, map};
+// Frames, and what is done in one by its locks.
+ghost use Rattle.std.specs.Prelude.{◌≡◌, ◌≢◌, ◌⊎◌, ◌<◌, ◌≤◌, ◌+◌, ◌^◌, ◌++◌, ◌∷◌, [], None, Some, All, IfOk, IfSome, OnOk, OnErr, length};
 ghost use Rattle.task_graph.specs.Net.{AreSemaphoresOf};
 ghost use Rattle.std.specs.Vec.{vec_capacity, vec_len};
 ghost use Rattle.std.specs.Arc.{arc_value};
@@ -10,16 +10,13 @@ ghost use Rattle.run_frame.specs.NestedRule.{job_of};
 ghost use Rattle.table_frames.specs.Frames.{depth_inside, frames_around};
 ghost use Rattle.keyed_lock.specs.Locks.{made_with};
 
-use super::attempt::{Attempt, InnerBegun, Tried};
-use super::backlog::Backlog;
+use super::attempt::{Attempt, Tried};
 use super::done_turns::{DoneTurn, DoneTurns};
 use super::frame_batch::FrameBatch;
 use super::locked_run::LockedRun;
 use super::open_start::OpenStart;
 use super::over::{InnerOver, Kept, Over};
-use super::release::{Release, ReleaseRoom};
-use super::step_results::{Brought, State, Stepped};
-use super::table_run::{Begun, TableRun, TakenUp, add_again};
+use super::table_run::{TableRun, TakenUp};
 use join_tables::{Remaining, Spent, Turn};
 use keyed_lock::{Held, KeyedLock};
 use outside_io::NoMemory;
@@ -74,274 +71,19 @@ impl<J: Job + Drop> Frame<J> {
     ghost use Rattle.semaphore_turns.specs.WaitingTurns.{release_of};
     ghost use Rattle.semaphore_turns.specs.WokenTurns.{ParksTurn, Wakes};
     ghost use Rattle.semaphore_turns.specs.Settlements.{AreDrops, Settles};
-    ghost use Rattle.table_frames.specs.Frames.{AtFrame, HasTable, MayTake, backlog_view, frames_around, release_in, table_in};
-    ghost use Rattle.table_frames.specs.BacklogResults.{BringsFates, IsLeftOf, SettlesFrame};
-    ghost use Rattle.table_frames.specs.Steps.{IsClosed, BeginsFrame, StepsRelease};
+    ghost use Rattle.table_frames.specs.Frames.{AtFrame, HasTable, frames_around, table_in};
     ghost use Rattle.table_frames.specs.inside.Attempts.{IsAttemptAt, TriesRelease, room_due, units_due};
     ghost use Rattle.table_frames.specs.inside.FrameBatches.{HasSpaceIn};
-    ghost use Rattle.table_frames.specs.inside.Overs.{IsEnd, IsInnerOver, IsOverOf, KeepsFates, Resumes};
-    ghost use Rattle.table_frames.specs.inside.Begins.{Begins};
+    ghost use Rattle.table_frames.specs.inside.Overs.{IsEnd, IsOverOf, KeepsFates};
     ghost use Rattle.table_frames.specs.inside.OpenStarts.{IsLockedAt, IsStartOf, lock_key_of, lock_key_in};
-    ghost use Rattle.table_frames.specs.inside.Openings.{IsInnerAt, OpensFrame, TriesAt};
+    ghost use Rattle.table_frames.specs.inside.Openings.{TriesAt};
     ghost use Rattle.table_frames.specs.inside.CollectedRelease.{IsTakenIn};
-    ghost use Rattle.table_frames.specs.inside.AttemptEnds.{Concludes, HandsOn};
+    ghost use Rattle.table_frames.specs.inside.AttemptEnds.{Concludes};
     ghost use Rattle.table_frames.specs.inside.DoneTurns.{HasSame, HasSpace, IsNoTurn};
     ghost use Rattle.table_frames.specs.inside.Runs.{AreDoneAt};
 
-    /// Begins a run of a job, with its first releases by rising task: of each source task, and of each task that has
-    /// strong in-edges, all of which begin with a token. If there is none, the run is complete as it is, and closed.
-    pub fn begin(alloc: Global, job: Arc<J>) -> Result<Stepped<J>, NoMemory>
-        ensures begins { IfOk result (BeginsFrame J.meaning (arc_value job)) }
-        ensures closed { IfOk result
-            (λ stepped. IsClosed stepped.state ↔ (stepped.released.items ≡ [])) }
-    {
-        let Begun {
-            run,
-            mut fresh,
-            kept,
-        } = TableRun::begin(alloc, job)?;
-        let count = fresh.len();
-        if count == 0 {
-            return Ok(Stepped {
-                released: Vec::new(alloc),
-                state: State::Closed(kept.finish()?),
-            });
-        }
-        let frame = Frame::new(alloc, run, LockedRun { kept, start: None }, None)?;
-        let room = ReleaseRoom::new(alloc, &frame, count)?;
-        Ok(Stepped {
-            released: room.hand_out(frame, &mut fresh),
-            state: State::Went,
-        })
-    }
-
-    /// Takes the step of a release: drops it, or starts its task, does its work and ends the start or records its
-    /// fault, or parks it where a semaphore that its task takes has no unit, or opens a run for it where its job
-    /// answers a job. What became of it is then in the backlog, which was of this frame or of none. Only for parked
-    /// releases it may wait, for the lock that they are under. If an allocation fails the release is given up, so that
-    /// the run is never closed, and the backlog has what it had; from the End's place on no memory is needed.
-    pub fn step<R: Wait>(
-        rt: &R,
-        release: Release<J>,
-        backlog: &mut Backlog<J>,
-    ) -> Result<Stepped<J>, NoMemory>
-        requires { MayTake backlog.old release.frames }
-        ensures ok { IfOk result (StepsRelease J.meaning release backlog.old backlog.new) }
-        ensures err { OnErr result
-            ((backlog.new ≡ backlog.old)
-            ⊎ (backlog.new ≡ backlog_view release.frames backlog.old.fates)) }
-    {
-        let Release { frame, ready } = release;
-        let TakenUp { turn, again, woken } = frame.take_up(ready)?;
-        match frame.take_units(turn) {
-            TakenUnits::All(turn) => Frame::work(
-                rt,
-                frame,
-                TakenUp { turn, again, woken },
-                backlog,
-            ),
-            TakenUnits::Lacks(turn, place) => {
-                Frame::park(rt, frame, TakenUp { turn, again, woken }, place, backlog)
-            }
-        }
-    }
-
-    // Goes on with a release that has its units, or is parked.
-    fn park<R: Wait>(
-        rt: &R,
-        frame: Arc<Frame<J>>,
-        taken: TakenUp<J::V>,
-        place: usize,
-        backlog: &mut Backlog<J>,
-    ) -> Result<Stepped<J>, NoMemory>
-        requires frame { MayTake backlog.old (arc_value frame) }
-        requires taken { AtFrame (arc_value frame) (λ key. IsTakenIn key taken) }
-        requires lacks { AtFrame (arc_value frame)
-            (λ key. LacksUnit (J.meaning.net key.job) place taken.turn) }
-        ensures ok { IfOk result (StepsRelease J.meaning
-            (release_in (arc_value frame) (release_of taken.turn)) backlog.old backlog.new) }
-        ensures err { OnErr result
-            ((backlog.new ≡ backlog.old)
-            ⊎ (backlog.new ≡ backlog_view (arc_value frame) backlog.old.fates)) }
-    {
-        let TakenUp { turn, again, woken } = taken;
-        backlog.batch.make_room(&frame)?;
-        let count = frame.count_takes(&turn) + 1;
-        let room = ReleaseRoom::new(backlog.alloc, &frame, count)?;
-        backlog.made.reserve(count)?;
-        match frame.park_turn(rt, turn, place, woken, &mut backlog.made)? {
-            Parking::Taken(turn) => Frame::work(rt, frame, TakenUp { turn, again, woken }, backlog),
-            Parking::Parked(turn) => {
-                add_again(&mut backlog.made, again);
-                Ok(Stepped {
-                    released: room.hand_out(frame, &mut backlog.made),
-                    state: State::Parked(turn),
-                })
-            }
-        }
-    }
-
-    // Does the work of a release that has its units, and concludes it.
-    fn work<R: Wait>(
-        rt: &R,
-        frame: Arc<Frame<J>>,
-        taken: TakenUp<J::V>,
-        backlog: &mut Backlog<J>,
-    ) -> Result<Stepped<J>, NoMemory>
-        requires frame { MayTake backlog.old (arc_value frame) }
-        requires taken { AtFrame (arc_value frame) (λ key. IsTakenIn key taken) }
-        requires holds { AtFrame (arc_value frame)
-            (λ key. HoldsAll (J.meaning.net key.job) taken.turn) }
-        ensures ok { IfOk result (StepsRelease J.meaning
-            (release_in (arc_value frame) (release_of taken.turn)) backlog.old backlog.new) }
-        ensures err { OnErr result
-            ((backlog.new ≡ backlog.old)
-            ⊎ (backlog.new ≡ backlog_view (arc_value frame) backlog.old.fates)) }
-    {
-        backlog.batch.make_room(&frame)?;
-        match frame.attempt(taken)? {
-            Tried::Done(attempt) => Ok(Stepped {
-                released: Frame::hand_on(
-                    rt,
-                    frame,
-                    attempt,
-                    &mut backlog.batch,
-                    &mut backlog.made,
-                )?,
-                state: State::Went,
-            }),
-            Tried::Inner(inner) => Frame::open(frame, inner),
-        }
-    }
-
-    // Concludes an attempt of a frame, whose turn is in the batch then, and hands out what it released.
-    fn hand_on<R: Wait>(
-        rt: &R,
-        frame: Arc<Frame<J>>,
-        attempt: Attempt<J>,
-        batch: &mut FrameBatch<J>,
-        made: &mut Vec<ReadyTurn<J::V>>,
-    ) -> Result<Vec<Release<J>>, NoMemory>
-        requires attempt { IsAttemptAt J.meaning (arc_value frame) attempt }
-        requires frames { batch.old.backlog.frames ≡ arc_value frame }
-        requires room { HasSpaceIn batch.old }
-        requires none { made.old.items ≡ [] }
-        ensures ok { IfOk result (λ released. HandsOn J.meaning (arc_value frame) attempt
-            batch.old.backlog batch.new.backlog released.items) }
-        ensures err { OnErr result (batch.new.backlog ≡ batch.old.backlog) }
-        ensures none { made.new.items ≡ [] }
-    {
-        let count = frame.room_for(&attempt);
-        let room = ReleaseRoom::new(frame.heap(), &frame, count)?;
-        made.reserve(count)?;
-        frame.conclude(rt, attempt, batch, made);
-        Ok(room.hand_out(frame, made))
-    }
-
-    // A run inside the frame has begun in place of the work of a release.
-    fn open(frame: Arc<Frame<J>>, inner: InnerBegun<J>) -> Result<Stepped<J>, NoMemory>
-        requires { IsInnerAt J.meaning (arc_value frame) inner }
-        ensures { IfOk result (OpensFrame J.meaning (arc_value frame) inner) }
-    {
-        let InnerBegun {
-            begun,
-            start,
-            again,
-        } = inner;
-        let mut released = Vec::with_capacity(frame.alloc, 1)?;
-        let first = Frame::first_inside(&frame, begun, start)?;
-        let Some(again) = again else {
-            return Ok(Stepped {
-                released,
-                state: State::Inner(first),
-            });
-        };
-        let ready = ReadyTurn::fresh(again);
-        released.push_reserved(Release { frame, ready });
-        Ok(Stepped {
-            released,
-            state: State::Inner(first),
-        })
-    }
-
-    // The first releases of a run that has begun inside a frame.
-    fn first_inside(
-        frame: &Arc<Frame<J>>,
-        begun: Begun<J>,
-        start: OpenStart<J>,
-    ) -> Result<Vec<Release<J>>, NoMemory>
-        requires start { IsStartOf J.meaning begun.run.job start }
-        requires frame { AtFrame (arc_value frame.now) (λ key. start.frame ≡ key) }
-        requires begins { Begins J.meaning begun.run.job begun }
-        ensures { IfOk result (λ released. released.items
-            ≡ map (release_in (begun.run ∷ arc_value frame.now)) begun.fresh.items) }
-    {
-        let alloc = frame.alloc;
-        let Begun {
-            run,
-            mut fresh,
-            kept,
-        } = begun;
-        let parent = Arc::try_clone(frame)?;
-        let locked = LockedRun {
-            kept,
-            start: Some(start),
-        };
-        let inner = Frame::new(alloc, run, locked, Some(parent))?;
-        let room = ReleaseRoom::new(alloc, &inner, fresh.len())?;
-        Ok(room.hand_out(inner, &mut fresh))
-    }
-
-    /// Gives what is in a backlog to the keeper of its frame, for whose lock it may wait. With the last turn of the
-    /// frame its run is over: exactly where the keeper found one live turn as it took the backlog in. A run in no other
-    /// is returned then. The run of a frame inside another goes on with the start whose work it was: it is gathered
-    /// into the value of the End, or is a Fault if it was cut short. That turn of the frame around is in the backlog
-    /// then, and what it released is returned. An `Err` comes only if an allocation fails. Then the backlog stays as it
-    /// was, or nothing is in it and the run, or the one around it, is never closed.
-    pub fn bring<R: Wait>(rt: &R, backlog: &mut Backlog<J>) -> Result<Brought<J>, NoMemory>
-        ensures ok { IfOk result
-            (BringsFates J.meaning backlog.old.frames backlog.old.fates backlog.new) }
-        ensures err { OnErr result (IsLeftOf backlog.old backlog.new) }
-    {
-        let Kept { over, keeper } = backlog.batch.bring(rt)?;
-        match over {
-            Over::No => Ok(Brought {
-                state: State::Went,
-                keeper,
-            }),
-            Over::Alone(run) => Ok(Brought {
-                state: State::Closed(run),
-                keeper,
-            }),
-            Over::Inside(inner) => Ok(Brought {
-                state: State::Resumed(Frame::resume(rt, inner, backlog)?),
-                keeper,
-            }),
-        }
-    }
-
-    // Goes on with the start whose work was a run that is over.
-    fn resume<R: Wait>(
-        rt: &R,
-        inner: InnerOver<J>,
-        backlog: &mut Backlog<J>,
-    ) -> Result<Vec<Release<J>>, NoMemory>
-        requires inner { IsInnerOver J.meaning inner }
-        requires none { backlog.old ≡ backlog_view [] [] }
-        ensures ok { IfOk result (λ released. Resumes J.meaning inner released.items
-            backlog.new) }
-        ensures err { OnErr result
-            ((backlog.new ≡ backlog_view [] [])
-            ⊎ (backlog.new ≡ backlog_view (arc_value inner.parent) [])) }
-    {
-        let InnerOver { parent, start, run } = inner;
-        backlog.batch.make_room(&parent)?;
-        let attempt = parent.resumed(start, run)?;
-        Frame::hand_on(rt, parent, attempt, &mut backlog.batch, &mut backlog.made)
-    }
-
-    // Goes on with a start of the frame in place of whose work a run was made.
-    fn resumed(&self, start: OpenStart<J>, run: FrameRun<J>) -> Result<Attempt<J>, NoMemory>
+    /// Goes on with a start of the frame in place of whose work a run was made.
+    pub(crate) fn resumed(&self, start: OpenStart<J>, run: FrameRun<J>) -> Result<Attempt<J>, NoMemory>
         requires frame { AtFrame self.now (λ key. start.frame ≡ key) }
         requires start { IsStartOf J.meaning (job_of run) start }
         requires kept { IsKept J.meaning run }
@@ -354,21 +96,8 @@ impl<J: Job + Drop> Frame<J> {
         self.run.resume(start, run)
     }
 
-    /// Decides what becomes of the parked releases of the frame of a backlog that was brought, for whose lock it may
-    /// wait. If all that is left to do in the frame is parked, the first release goes on that is parked on a semaphore
-    /// with a unit, and is returned; or, where there is none or a start has faulted, all are dropped, and this is in
-    /// the backlog then. Else they wait, and the backlog is of no frame. If an allocation fails, what is parked may be
-    /// given up, so that the run is never closed.
-    pub fn settle<R: Wait>(rt: &R, backlog: &mut Backlog<J>) -> Result<Option<Release<J>>, NoMemory>
-        requires { backlog.old.fates ≡ [] }
-        ensures ok { IfOk result (SettlesFrame backlog.old.frames backlog.new) }
-        ensures err { OnErr result (backlog.new ≡ backlog_view [] []) }
-    {
-        backlog.batch.settle(rt)
-    }
-
-    // A frame inside another, or in none.
-    fn new(
+    /// A frame inside another, or in none.
+    pub(crate) fn new(
         alloc: Global,
         run: TableRun<J>,
         locked: LockedRun<J>,
@@ -392,13 +121,13 @@ impl<J: Job + Drop> Frame<J> {
         Ok(Arc::new(alloc, frame)?)
     }
 
-    // Where its memory comes from.
-    fn heap(&self) -> Global {
+    /// Where its memory comes from.
+    pub(crate) fn heap(&self) -> Global {
         self.alloc
     }
 
-    // Takes up a release of the frame.
-    fn take_up(&self, ready: ReadyTurn<J::V>) -> Result<TakenUp<J::V>, NoMemory>
+    /// Takes up a release of the frame.
+    pub(crate) fn take_up(&self, ready: ReadyTurn<J::V>) -> Result<TakenUp<J::V>, NoMemory>
         requires { HasTable self.now ready.table }
         ensures taken { IfOk result (λ taken. AtFrame self.now (λ key. IsTakenIn key taken)) }
         ensures none { IfOk result (λ taken. taken.turn.held ≡ []) }
@@ -407,8 +136,8 @@ impl<J: Job + Drop> Frame<J> {
         self.run.take_up(ready)
     }
 
-    // Takes the units of a turn of the frame.
-    fn take_units(&self, turn: Turn<J::V>) -> TakenUnits<J::V>
+    /// Takes the units of a turn of the frame.
+    pub(crate) fn take_units(&self, turn: Turn<J::V>) -> TakenUnits<J::V>
         requires table { HasTable self.now turn.table }
         requires none { (turn.refused ≡ None) × (turn.held ≡ []) }
         ensures { AtFrame self.now (λ key. TakesUnits (J.meaning.net key.job) turn result) }
@@ -416,8 +145,8 @@ impl<J: Job + Drop> Frame<J> {
         self.run.take_units(turn)
     }
 
-    // How many semaphores the task of a turn takes.
-    fn count_takes(&self, turn: &Turn<J::V>) -> usize
+    /// How many semaphores the task of a turn takes.
+    pub(crate) fn count_takes(&self, turn: &Turn<J::V>) -> usize
         ensures count { AtFrame self.now
             (λ key. result ≡ length (taken_by (J.meaning.net key.job) turn.now.task)) }
         ensures few { result < 2 ^ 63 }
@@ -425,8 +154,8 @@ impl<J: Job + Drop> Frame<J> {
         self.run.count_takes(turn)
     }
 
-    // Looks once more for the unit that a turn lacks, under the lock of what is parked, and parks it if there is none.
-    fn park_turn<R: Wait>(
+    /// Looks once more for the unit that a turn lacks, under the lock of what is parked, and parks it if there is none.
+    pub(crate) fn park_turn<R: Wait>(
         &self,
         rt: &R,
         turn: Turn<J::V>,
@@ -454,8 +183,8 @@ impl<J: Job + Drop> Frame<J> {
         parking
     }
 
-    // Does the work of a release of the frame that has its units.
-    fn attempt(&self, taken: TakenUp<J::V>) -> Result<Tried<J>, NoMemory>
+    /// Does the work of a release of the frame that has its units.
+    pub(crate) fn attempt(&self, taken: TakenUp<J::V>) -> Result<Tried<J>, NoMemory>
         requires taken { AtFrame self.now (λ key. IsTakenIn key taken) }
         requires holds { AtFrame self.now (λ key. HoldsAll (J.meaning.net key.job) taken.turn) }
         ensures { IfOk result (TriesAt J.meaning self.now (release_of taken.turn)) }
@@ -463,8 +192,8 @@ impl<J: Job + Drop> Frame<J> {
         self.run.attempt(taken)
     }
 
-    // How many releases can come of an attempt, those included that wait for its units.
-    fn room_for(&self, attempt: &Attempt<J>) -> usize
+    /// How many releases can come of an attempt, those included that wait for its units.
+    pub(crate) fn room_for(&self, attempt: &Attempt<J>) -> usize
         ensures { AtFrame self.now
             (λ key. result ≡ room_due attempt.now
             + length (units_due (J.meaning.net key.job) attempt.now.outcome)) }
@@ -472,9 +201,9 @@ impl<J: Job + Drop> Frame<J> {
         attempt.room() + self.run.units_back(&attempt.outcome).len()
     }
 
-    // Ends the start, or records its Fault or the Drop, gathers the turn, and adds what it released to an empty list,
-    // at last what it woke.
-    fn conclude<R: Wait>(
+    /// Ends the start, or records its Fault or the Drop, gathers the turn, and adds what it released to an empty list,
+    /// at last what it woke.
+    pub(crate) fn conclude<R: Wait>(
         &self,
         rt: &R,
         attempt: Attempt<J>,

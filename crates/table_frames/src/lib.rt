@@ -16,8 +16,9 @@
 //! of it gets the run, with its journal and values.
 //!
 //! A task's work may be a job of its own. Its start stays open then, and a frame inside the task's frame runs that job.
-//! The inner frame holds the frame around it, and under its lock, beside its keeper, the start. Nobody waits for it:
-//! whoever brings its last turn goes on with the start in the same call. The run is gathered into the value of the
+//! The step hands out the first releases of that frame and takes none of its steps; where there are none, the inner run
+//! is over at once, and the step goes on. The inner frame holds the frame around it, and under its lock, beside its
+//! keeper, the start. Nobody waits for it: whoever brings its last turn goes on with the start in the same call. The run is gathered into the value of the
 //! start's End, or it is a Fault if the run was cut short. What comes of that is in the frame around, and its backlog
 //! is brought in turn; so runs that are over at several levels are closed one by one, and a caller has one lock at a
 //! time. A limit, a fault or a want of units ends the inner run alone.
@@ -41,7 +42,8 @@
 //! (`specs/Frames.antt`). The last of these frames has the job of the whole run. What a beginning and a step come to is
 //! in `specs/Steps.antt`: which fate a release came to, that its job allows it, and which releases it made, or that it
 //! is parked. Which edges made none is known to the table alone. What a bringing and a settling come to is in
-//! `specs/BacklogResults.antt`: the run is over exactly where the keeper found one live turn.
+//! `specs/BacklogResults.antt`: the run is over exactly where the keeper found one live turn, and it is given out where
+//! its frame is in no other.
 #![tactic(auto)]
 
 mod alone;
@@ -50,13 +52,17 @@ mod backlog;
 mod done_turns;
 mod frame;
 mod frame_batch;
+mod frame_opening;
+mod frame_steps;
 mod gives;
 mod level;
 mod locked_run;
 mod open_start;
 mod over;
 mod release;
+mod run_closing;
 mod run_keeper;
+mod run_work;
 mod step_results;
 mod table_run;
 

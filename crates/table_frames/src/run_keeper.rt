@@ -7,7 +7,7 @@ ghost use Rattle.join_tables.specs.Findings.{FindsOne};
 ghost use Rattle.join_tables.specs.Keeping.{IsLast, LeavesOf, TellsRun, entries_told};
 ghost use Rattle.run_frame.specs.Legal.{IsKept};
 ghost use Rattle.run_frame.specs.NestedRule.{job_of};
-ghost use Rattle.table_frames.specs.AllowedFates.{AreAllowed};
+ghost use Rattle.table_frames.specs.inside.FateRuns.{AreAllowed};
 ghost use Rattle.table_frames.specs.Frames.{key_of};
 ghost use Rattle.table_frames.specs.JournalFacts.{HasEntries};
 ghost use Rattle.table_frames.specs.inside.DoneTurns.{HasSame, IsNoTurn};
@@ -51,7 +51,7 @@ impl<J: Job> Model for RunKeeper<J> {
     ghost Value = { RunKeeperView J J.V };
 
     ghost use Rattle.std.specs.Arc.{arc_value};
-    ghost use Rattle.table_frames.specs.AllowedFates.{AreAllowed};
+    ghost use Rattle.table_frames.specs.inside.FateRuns.{AreAllowed};
 
     ghost view = { λ kept. record { job = arc_value kept.job; keeper = kept.keeper } };
 

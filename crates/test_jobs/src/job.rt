@@ -40,6 +40,8 @@ pub struct NumberJob {
     meeting: u64,
     begun: AtomicU64,
     met: AtomicU64,
+    // How many tasks of each run inside are to meet.
+    meeting_inside: u64,
 }
 
 impl Model for NumberJob {
@@ -83,6 +85,7 @@ impl NumberJob {
             meeting: 0,
             begun: AtomicU64::new(0),
             met: AtomicU64::new(0),
+            meeting_inside: 0,
         })
     }
 
@@ -116,6 +119,17 @@ impl NumberJob {
         }
     }
 
+    /// The same job, of whose runs inside each task first waits a long while until so many tasks of its own run have
+    /// begun.
+    pub fn with_meeting_inside(self, tasks: u64) -> NumberJob
+        ensures { result ≡ self }
+    {
+        NumberJob {
+            meeting_inside: tasks,
+            ..self
+        }
+    }
+
     // The job that a Nested task answers, if there is one.
     fn inner(&self) -> Result<Option<NumberJob>, NoMemory>
         ensures { IfOk result (λ inner. IfSome inner (IsInnerJob self.now)) }
@@ -134,9 +148,10 @@ impl NumberJob {
             turns: self.turns,
             fault: self.fault,
             additions: self.additions,
-            meeting: 0,
+            meeting: self.meeting_inside,
             begun: AtomicU64::new(0),
             met: AtomicU64::new(0),
+            meeting_inside: self.meeting_inside,
         }))
     }
 

@@ -2,8 +2,9 @@
 use crate::nets::{EMPTY, NetCase};
 use journal_rules::Why;
 
-/// A job with runs inside: its net, the nets of the jobs inside it, level by level, and then as a `JobCase` has it. The run
-/// has so many starts, those of the runs inside included, and it faults for this reason, if it does.
+/// A job with runs inside: its net, the nets of the jobs inside it, level by level, and then as a `JobCase` has it. Of each
+/// run inside so many tasks meet; they are all of its tasks, if there are any. The run has so many starts, those of the
+/// runs inside included, and it faults for this reason, if it does.
 #[derive(Clone, Copy)]
 pub(crate) struct InnerCase {
     pub(crate) name: &'static str,
@@ -12,6 +13,7 @@ pub(crate) struct InnerCase {
     pub(crate) limit: u64,
     pub(crate) turns: u64,
     pub(crate) fault: u64,
+    pub(crate) meeting: u64,
     pub(crate) starts: usize,
     pub(crate) why: Option<Why>,
 }
@@ -40,12 +42,24 @@ const PLAIN: InnerCase = InnerCase {
     limit: LIMIT,
     turns: 0,
     fault: NONE,
+    meeting: 0,
     starts: 6,
     why: None,
 };
 
+/// Eight tasks beside each other inside a row.
+pub(crate) const PARTS: InnerCase = InnerCase {
+    name: "parts beside each other",
+    inner: &[NetCase {
+        tasks: "pppppppp",
+        ..EMPTY
+    }],
+    starts: 11,
+    ..PLAIN
+};
+
 /// How many cases there are.
-pub(crate) const COUNT: usize = 14;
+pub(crate) const COUNT: usize = 16;
 
 /// The cases.
 pub(crate) const CASES: [InnerCase; COUNT] = [
@@ -106,13 +120,15 @@ pub(crate) const CASES: [InnerCase; COUNT] = [
         starts: 13,
         ..PLAIN
     },
+    PARTS,
     InnerCase {
-        name: "parts beside each other",
+        name: "two parts that meet",
         inner: &[NetCase {
-            tasks: "pppppppp",
+            tasks: "pp",
             ..EMPTY
         }],
-        starts: 11,
+        meeting: 2,
+        starts: 5,
         ..PLAIN
     },
     InnerCase {
@@ -157,6 +173,17 @@ pub(crate) const CASES: [InnerCase; COUNT] = [
         }],
         starts: 3,
         why: Some(Why::Inner),
+        ..PLAIN
+    },
+    InnerCase {
+        name: "parts that wait for the one unit of their run",
+        inner: &[NetCase {
+            units: "1",
+            tasks: "ttttgggg",
+            edges: "ae bf cg dh",
+            ..EMPTY
+        }],
+        starts: 11,
         ..PLAIN
     },
     InnerCase {

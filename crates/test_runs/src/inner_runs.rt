@@ -1,7 +1,8 @@
 // Runs of jobs with runs inside: each by one thread in several orders and by `run_alone`, and each by crews.
 ghost use Rattle.std.specs.Prelude.{◌≡◌, [], IfNone, IfOk};
 
-use crate::inner_cases::{CASES, InnerCase};
+use crate::data_rule::{finds_something, meets_data_rule};
+use crate::inner_cases::{CASES, InnerCase, PARTS};
 use crate::scheduler::{Order, place_in};
 use journal_rules::{Entry, Why};
 use legal_run::{Verdict, judge};
@@ -34,14 +35,17 @@ impl InnerCase {
         }
         let net = self.net.built(alloc)?;
         match NumberJob::new(net, self.limit, self.turns, self.fault) {
-            Some(job) => Ok(job.with_inner(Arc::new(alloc, inner)?)),
+            Some(job) => Ok(job
+                .with_inner(Arc::new(alloc, inner)?)
+                .with_meeting_inside(self.meeting)),
             None => panic!(rt; "{} has too many starts", self.name),
         }
     }
 }
 
-// The journal of a run is complete, and so are those of the runs inside it; these are where they may be, and gathered to
-// what their starts ended with. How many starts they have in all.
+// The journal of a run is complete and meets the data rule, and so do those of the runs inside it; these are where they
+// may be, and gathered to what their starts ended with, and the tasks in them have met. How many starts they have in
+// all.
 #[cycle(inner_checks)]
 fn check_run(
     rt: &impl Abort,
@@ -51,14 +55,18 @@ fn check_run(
 ) -> Result<usize, Fail> {
     let verdict = judge(alloc, run.job.net(), case.limit, &run.journal)?;
     assert!(rt; verdict == Verdict::Complete, "{}: {verdict:?}", case.name);
+    let journal = run.journal.as_slice();
+    assert!(rt; meets_data_rule(alloc, run.job.net(), journal)?, "{}", case.name);
+    assert!(rt; finds_something(journal), "{}", case.name);
     let mut starts: usize = 0;
-    for (place, entry) in run.journal.as_slice().iter().enumerate() {
+    for (place, entry) in journal.iter().enumerate() {
         if matches!(entry, Entry::Start { .. }) {
             starts = starts.saturating_add(1);
         }
         check_entry(rt, case, run, place as u64, entry)?;
     }
     for row in run.inner.as_slice() {
+        assert!(rt; row.run.job.met() == case.meeting, "{}", case.name);
         starts = starts.saturating_add(check_run(rt, alloc, case, &row.run)?);
     }
     Ok(starts)
@@ -203,18 +211,60 @@ fn bring_all<R: Wait>(
 
 #[test]
 fn jobs_with_runs_inside_are_run_by_one_thread(rt: HostRuntime) -> Result<(), Fail> {
-    for case in &CASES {
+    for case in CASES.iter().filter(|case| case.meeting == 0) {
         let job = Arc::new(rt.alloc(), case.job(&rt, rt.alloc())?)?;
         check_whole(&rt, rt.alloc(), case, &run_alone(&rt, rt.alloc(), job)?)?;
-        for seed in SEEDS {
-            let job = case.job(&rt, rt.alloc())?;
-            let Some(run) = run_in_order(&rt, rt.alloc(), job, seed)? else {
-                panic!(&rt; "{} doesn't end", case.name);
-            };
-            check_whole(&rt, rt.alloc(), case, &run)?;
-        }
+        run_by_one(&rt, rt.alloc(), case)?;
+    }
+    check_opened(&rt, rt.alloc())
+}
+
+// Each order.
+fn run_by_one(rt: &(impl Wait + Abort), alloc: Global, case: &InnerCase) -> Result<(), Fail> {
+    for seed in SEEDS {
+        let Some(run) = run_in_order(rt, alloc, case.job(rt, alloc)?, seed)? else {
+            panic!(rt; "{} doesn't end", case.name);
+        };
+        check_whole(rt, alloc, case, &run)?;
     }
     Ok(())
+}
+
+// A step opens a run for a task that answers a job, and takes none of its steps: it hands out its first releases.
+fn check_opened(rt: &(impl Wait + Abort), alloc: Global) -> Result<(), Fail> {
+    let Some(first) = opened(rt, alloc, PARTS.job(rt, alloc)?)? else {
+        panic!(rt; "no run begins inside");
+    };
+    assert_eq!(rt; first.len(), 8);
+    for (task, release) in first.iter().enumerate() {
+        assert_eq!(rt; release.task() as usize, task);
+        assert_eq!(rt; release.depth(), 1);
+    }
+    Ok(())
+}
+
+// The first releases of the first run that begins inside that of a job.
+fn opened<R: Wait>(
+    rt: &R,
+    alloc: Global,
+    job: NumberJob,
+) -> Result<Option<Vec<Release<NumberJob>>>, NoMemory> {
+    let mut pending = Frame::begin(alloc, Arc::new(alloc, job)?)?.released;
+    for _ in 1..STEPS {
+        let Some(release) = pending.pop() else {
+            return Ok(None);
+        };
+        let mut backlog = Backlog::new(alloc);
+        let Stepped {
+            mut released,
+            state,
+        } = Frame::step(rt, release, &mut backlog)?;
+        if let State::Inner(first) = state {
+            return Ok(Some(first));
+        }
+        pending.append(&mut released)?;
+    }
+    Ok(None)
 }
 
 #[test]
@@ -232,6 +282,9 @@ fn run_each<R: Threads + Wait + Abort + Sync>(
 ) -> Result<(), Fail> {
     for workers in CREWS {
         assert!(rt; 0 < workers && workers <= MAX_WORKERS, "{workers} workers");
+        if (workers as u64) < case.meeting {
+            continue;
+        }
         for _ in 0..TIMES {
             let run = run_by_workers(rt, alloc, case.job(rt, alloc)?, workers)?;
             check_whole(rt, alloc, case, &run)?;

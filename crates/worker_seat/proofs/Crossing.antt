@@ -23,9 +23,9 @@ use Rattle.ready_deques.specs.contracts.owner.Owner as owner_type
 use Rattle.worker_seat.specs.contracts.item.CrewItemTagged.TheImpl as tagged
 use Rattle.ready_deques.proofs.ready.Ready.TheSendSync as ready
 use Rattle.worker_seat.specs.contracts.attendance.Attendance as attendance
-use Rattle.worker_seat.specs.contracts.run_numbers.RunFrames as run_frames
-use Rattle.worker_seat.specs.contracts.run_numbers.BegunRuns as begun_runs
-use Rattle.worker_seat.specs.contracts.run_numbers.RunNumber as run_number
+use Rattle.worker_seat.specs.contracts.frame_numbers.ReleaseFrames as release_frames
+use Rattle.worker_seat.specs.contracts.frame_numbers.NumberedFrames as numbered_frames
+use Rattle.worker_seat.specs.contracts.frame_numbers.FrameNumber as frame_number
 use Rattle.worker_seat.specs.contracts.station.Station as station
 use Rattle.worker_seat.specs.contracts.station.Station.TheInside as station_inside
 use Rattle.worker_seat.specs.contracts.seat.WorkerSeat as worker_seat
@@ -47,23 +47,23 @@ module _ (T V : RattleType) (J : Job.Ghosts T.Denot V.Denot) (W : Valued.Ghosts 
   run_slot_send : IsSend (run_slot.the_row T V J)
   run_slot_send = search (run_send, tables) depth 60 fits 20000
 
-  run_frames_send : IsSend (run_frames.the_row T V J W)
-  run_frames_send = search tables depth 60 fits 20000
+  release_frames_send : IsSend (release_frames.the_row T V J W)
+  release_frames_send = search tables depth 60 fits 20000
 
-  run_frames_sync : IsSync (run_frames.the_row T V J W)
-  run_frames_sync = search tables depth 60 fits 20000
+  release_frames_sync : IsSync (release_frames.the_row T V J W)
+  release_frames_sync = search tables depth 60 fits 20000
 
-  number_send : IsSend (run_number.the_row T V J W)
+  number_send : IsSend (frame_number.the_row T V J W)
   number_send = search tables depth 60 fits 20000
 
-  number_sync : IsSync (run_number.the_row T V J W)
+  number_sync : IsSync (frame_number.the_row T V J W)
   number_sync = search tables depth 60 fits 20000
 
-  begun_send : IsSend (begun_runs.the_row T V J W)
-  begun_send = search (run_frames_send, tables) depth 60 fits 20000
+  begun_send : IsSend (numbered_frames.the_row T V J W)
+  begun_send = search (release_frames_send, tables) depth 60 fits 20000
 
-  begun_sync : IsSync (begun_runs.the_row T V J W)
-  begun_sync = search (run_frames_send, run_frames_sync, tables) depth 60 fits 20000
+  begun_sync : IsSync (numbered_frames.the_row T V J W)
+  begun_sync = search (release_frames_send, release_frames_sync, tables) depth 60 fits 20000
 
   crew_run_send : IsSend (crew_run.the_row T V J W)
   crew_run_send = search (run_slot_send, number_send, tables) depth 60 fits 20000

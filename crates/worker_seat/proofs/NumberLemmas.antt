@@ -1,4 +1,4 @@
--- The shelves of a crew's runs, by their names.
+-- The shelves of a crew's numbered frames, by their names.
 use Rattle.std.proofs.Common.{◌≡◌, ℕ, zero, suc, List, [], ◌∷◌, map, refl}
 use Rattle.std.specs.Prelude.{slice_index_or}
 use Rattle.boxcar.specs.Slot.{Named}

@@ -220,7 +220,9 @@ module _ {J V : Type 0} (number : NumberView J) where
   brought_to meaning job old new fates (Resumed released) of_job is some frame to =
       goes_on meaning old.backlog.frames fates released.items new.backlog (one_run old is some) to
   brought_to meaning job old new fates (Closed run) of_job is some frame to =
-      (to.0.kept, same_job number.frames old.backlog.frames job (job_of run) of_job (one_run old is some) to.0.job, stays_of old new is (ap frames_of to.2) frame)
+      let closes = to.0 in
+      let root : root_job old.backlog.frames ≡ Some (job_of run) = ap root_job closes.frames_are ∙ ap Some (sym closes.job) in
+      (closes.kept, same_job number.frames old.backlog.frames job (job_of run) of_job (one_run old is some) root, stays_of old new is (ap frames_of to.1) frame)
 
   -- what a bringing leaves
   pub leaves_work : (meaning : Meaning J V) (job : J) (old new : FrameWork J V) (brought : Brought J V) → root_job number.frames ≡ Some job → IsWorkOf number old → old.backlog.frames ≢ []

@@ -8,8 +8,8 @@ ghost use Rattle.worker_seat.specs.inside.Runs.{AreOfRun};
 ghost use Rattle.worker_seat.specs.inside.SeatPlaces.{IsRunOn};
 
 use crate::crew_run::CrewRun;
+use crate::frame_numbers::NumberedFrames;
 use crate::list::{RunsList, TaggedList};
-use crate::run_numbers::BegunRuns;
 use crate::seat::WorkerSeat;
 use crate::seats::{fetch_first, refuse_all, seat_all, send_all};
 use outside_io::{Back, NoMemory};
@@ -55,7 +55,7 @@ impl<J: Job + Drop> Crew<J> {
         ensures back { IfErr result (λ back. back.item ≡ watchers) }
     {
         let count = watchers.len();
-        let Ok(begun) = BegunRuns::new(alloc) else {
+        let Ok(begun) = NumberedFrames::new(alloc) else {
             return Err(Back { item: watchers });
         };
         let Ok(Shares { ready, owners }) = Ready::new(alloc, count as u32, &begun) else {

@@ -6,7 +6,7 @@ ghost use Rattle.run_frame.specs.Legal.{IsKept};
 ghost use Rattle.run_frame.specs.NestedRule.{job_of};
 ghost use Rattle.worker_seat.specs.inside.Runs.{IsNumberOf};
 
-use crate::run_numbers::RunNumber;
+use crate::frame_numbers::FrameNumber;
 use crate::run_slot::RunSlot;
 use keyed_lock::{Held, KeyedLock};
 use outside_io::NoMemory;
@@ -22,7 +22,7 @@ pub struct CrewRun<J: Job> {
     register: Register<()>,
     slot: KeyedLock<RunSlot<J>>,
     // `None` of a run that was closed as it began.
-    number: Option<RunNumber<J>>,
+    number: Option<FrameNumber<J>>,
 }
 
 impl<J: Job> Model for CrewRun<J> {
@@ -45,7 +45,7 @@ impl<J: Job + Drop> CrewRun<J> {
     pub fn new(
         alloc: Global,
         job: &Arc<J>,
-        number: Option<RunNumber<J>>,
+        number: Option<FrameNumber<J>>,
     ) -> Result<CrewRun<J>, NoMemory>
         requires { IfSome number (IsNumberOf (arc_value job.now)) }
         ensures job { IfOk result (λ run. run.job ≡ arc_value job.now) }
@@ -61,7 +61,7 @@ impl<J: Job + Drop> CrewRun<J> {
     }
 
     /// Its number, if it has one.
-    pub fn number(&self) -> Option<&RunNumber<J>>
+    pub fn number(&self) -> Option<&FrameNumber<J>>
         ensures number { option_copied result ≡ self.now.number }
         ensures job { IfSome result (λ number. IsNumberOf self.now.job number.now) }
     {

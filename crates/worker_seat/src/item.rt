@@ -2,7 +2,7 @@
 ghost use Rattle.std.specs.Prelude.{◌≡◌};
 ghost use Rattle.worker_seat.specs.inside.Runs.{IsWithin};
 
-use crate::run_numbers::RunNumber;
+use crate::frame_numbers::FrameNumber;
 use ready_deques::Tagged;
 use run_frame::Job;
 use table_frames::Release;
@@ -11,8 +11,8 @@ use table_frames::Release;
 #[derive(Drop)]
 pub struct CrewItem<J: Job> {
     pub release: Release<J>,
-    pub run: RunNumber<J>,
-    pub frame: RunNumber<J>,
+    pub run: FrameNumber<J>,
+    pub frame: FrameNumber<J>,
     ghost same_run: { IsWithin run.frames release.frames },
     ghost same_frame: { frame.frames ≡ release.frames },
     ghost same_crew: { frame.begun ≡ run.begun },
@@ -27,5 +27,5 @@ impl<J: Job> Tagged for CrewItem<J> {
 #[derive(Drop)]
 pub struct NumberedRelease<J: Job> {
     pub release: Release<J>,
-    pub frame: RunNumber<J>,
+    pub frame: FrameNumber<J>,
 }

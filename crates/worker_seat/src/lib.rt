@@ -8,18 +8,19 @@
 //! all that is left waits for units, and then sleeps until something is pushed. Who gives the last of it gets the
 //! closed run, leaves it for the others and closes the list, which wakes all. `finish` hands the run out.
 //!
-//! # Runs by number
+//! # Frames by number
 //!
-//! What a worker has gathered is of one frame, that of a run or of a run inside it (`FrameWork`), and only what is of that
-//! frame may be added. A release that is taken from a list is known by the list's tag alone. So a crew numbers the frames
-//! whose releases it puts on the list (`BegunRuns`, over a vector that only grows). A release on the list has two numbers
-//! along, that of its run's outermost frame and that of its own, and the list's tag is the name of that vector. Where two
-//! numbers of one vector are equal, they are of one frame. A worker steps the releases that have the number of its seat's
-//! run. There are others only after a run for which an allocation failed, and such a crew takes no further run.
+//! What a worker has gathered is of one frame, that of a run or of a run inside it (`FrameWork`), and only what is of
+//! that frame may be added. A release that is taken from a list is known by the list's tag alone. So a crew numbers the
+//! frames whose releases it puts on the list (`NumberedFrames`, over a vector that only grows). A release on the list
+//! has two numbers along, that of its run's outermost frame and that of its own, and the list's tag is the name of that
+//! vector. Where two numbers of one vector are equal, they are of one frame. A worker steps the releases that have the
+//! number of its seat's run. There are others only after a run for which an allocation failed, and such a crew takes no
+//! further run.
 //!
-//! A worker that steps a release of another frame than that of what it has gathered brings this first (`turn_to`). A frame
-//! gets a further number where it goes on after a run inside it. So a worker may bring where it need not, and never gathers
-//! what is of two frames.
+//! A worker that steps a release of another frame than that of what it has gathered brings this first (`turn_to`). A
+//! frame gets a further number where it goes on after a run inside it. So a worker may bring where it need not, and
+//! never gathers what is of two frames.
 //!
 //! # The run that is handed out
 //!
@@ -48,9 +49,9 @@ mod attendance;
 mod crew;
 mod crew_run;
 mod crew_runner;
+mod frame_numbers;
 mod item;
 mod list;
-mod run_numbers;
 mod run_slot;
 mod seat;
 mod seats;

@@ -2,8 +2,8 @@
 ghost use Rattle.std.specs.Prelude.{◌≡◌, All, IfSome};
 ghost use Rattle.worker_seat.specs.inside.Runs.{AreIn, IsItemOf};
 
+use crate::frame_numbers::{FrameNumber, NumberedFrames};
 use crate::item::{CrewItem, NumberedRelease};
-use crate::run_numbers::{BegunRuns, RunNumber};
 use outside_io::NoMemory;
 use ready_deques::{Ready, Tagged};
 use run_frame::Job;
@@ -20,7 +20,7 @@ pub struct TaggedList<T: Tagged + Drop, K: Tagged> {
 }
 
 /// The list of what is ready in the runs that a crew has begun.
-pub type RunsList<J> = TaggedList<CrewItem<J>, BegunRuns<J>>;
+pub type RunsList<J> = TaggedList<CrewItem<J>, NumberedFrames<J>>;
 
 impl<T: Tagged + Drop, K: Tagged> Model for TaggedList<T, K> {
     ghost use Rattle.std.specs.Prelude.{◌≡◌};
@@ -54,12 +54,12 @@ impl<T: Tagged + Drop, K: Tagged> TaggedList<T, K> {
     }
 }
 
-impl<J: Job + Drop> TaggedList<CrewItem<J>, BegunRuns<J>> {
+impl<J: Job + Drop> TaggedList<CrewItem<J>, NumberedFrames<J>> {
     /// Puts the first releases of a run on the list, from outside.
     pub fn inject_all<R: Wait>(
         &self,
         rt: &R,
-        number: &RunNumber<J>,
+        number: &FrameNumber<J>,
         released: Vec<Release<J>>,
     ) -> Result<(), NoMemory>
         requires list { number.now.begun ≡ self.now.list.begun }
@@ -74,7 +74,7 @@ impl<J: Job + Drop> TaggedList<CrewItem<J>, BegunRuns<J>> {
     fn inject<R: Wait>(
         &self,
         rt: &R,
-        number: &RunNumber<J>,
+        number: &FrameNumber<J>,
         release: Release<J>,
     ) -> Result<(), NoMemory>
         requires list { number.now.begun ≡ self.now.list.begun }
@@ -94,7 +94,7 @@ impl<J: Job + Drop> TaggedList<CrewItem<J>, BegunRuns<J>> {
     }
 
     /// The release of an item, with the number of its frame, if the item is of the run of this number.
-    pub fn release_in(&self, number: &RunNumber<J>, item: CrewItem<J>) -> Option<NumberedRelease<J>>
+    pub fn release_in(&self, number: &FrameNumber<J>, item: CrewItem<J>) -> Option<NumberedRelease<J>>
         requires number { number.now.begun ≡ self.now.list.begun }
         requires item { item.run.begun ≡ self.now.list.begun }
         ensures { IfSome result (IsItemOf number.now) }

@@ -5,9 +5,9 @@ ghost use Rattle.worker_seat.specs.inside.SeatPlaces.{IsSameOwner};
 ghost use Rattle.worker_seat.specs.inside.Works.{GoesOnAt, IsAt, IsTurnedTo, IsWorkOf, LeavesWork, OpensIn};
 
 use crate::crew_run::CrewRun;
+use crate::frame_numbers::FrameNumber;
 use crate::item::{CrewItem, NumberedRelease};
 use crate::list::RunsList;
-use crate::run_numbers::RunNumber;
 use crate::work::FrameWork;
 use outside_io::NoMemory;
 use ready_deques::Owner;
@@ -21,7 +21,7 @@ use table_frames::{Brought, Frame, Release, State, Stepped};
 pub struct Shift<'a, J: Job + Drop> {
     pub list: &'a RunsList<J>,
     pub run: &'a CrewRun<J>,
-    pub number: &'a RunNumber<J>,
+    pub number: &'a FrameNumber<J>,
     ghost on_list: { number.now.begun ≡ list.now.list.begun },
     ghost of_run: { IsNumberOf run.now.job number.now },
 }
@@ -71,8 +71,8 @@ impl<J: Job + Drop> Shift<'_, J> {
     }
 
     // Gives the run what was done in a frame. Whoever closes the run so leaves it for the others, and closes the list.
-    // Where a run inside it is over, what that has released goes on the list. Else a release goes there that was parked, if
-    // nothing else is left in the frame.
+    // Where a run inside it is over, what that has released goes on the list. Else a release goes there that was
+    // parked, if nothing else is left in the frame.
     fn bring<R: Wait>(
         &self,
         rt: &R,
@@ -133,7 +133,7 @@ impl<J: Job + Drop> Shift<'_, J> {
     }
 
     // A number of the frame of a release.
-    fn number_of<R: Wait>(&self, rt: &R, release: &Release<J>) -> Result<RunNumber<J>, NoMemory>
+    fn number_of<R: Wait>(&self, rt: &R, release: &Release<J>) -> Result<FrameNumber<J>, NoMemory>
         requires { IsWithin self.now.number.now.frames release.now.frames }
         ensures { IfOk result (IsAt self.now.number.now release.now.frames) }
     {
@@ -252,7 +252,7 @@ impl<J: Job + Drop> Shift<'_, J> {
         rt: &R,
         owner: &mut Owner<CrewItem<J>>,
         work: &mut FrameWork<J>,
-        frame: &RunNumber<J>,
+        frame: &FrameNumber<J>,
     ) -> Result<(), NoMemory>
         requires owner { owner.old.tag ≡ self.now.list.now.list.begun }
         requires frame { frame.now.begun ≡ self.now.list.now.list.begun }
@@ -270,7 +270,7 @@ impl<J: Job + Drop> Shift<'_, J> {
     }
 
     // Whether the worker has turned to a frame.
-    fn is_at(&self, work: &FrameWork<J>, frame: &RunNumber<J>) -> bool
+    fn is_at(&self, work: &FrameWork<J>, frame: &FrameNumber<J>) -> bool
         requires frame { frame.now.begun ≡ self.now.list.now.list.begun }
         requires work { IsWorkOf self.now.number.now work.now }
         ensures { IsTrue result → IsTurnedTo frame.now.frames work.now }
@@ -303,8 +303,8 @@ impl<J: Job + Drop> Shift<'_, J> {
         unreachable!()
     }
 
-    // Takes the step of a release. Of the releases that it makes it gives one, and puts the others on the list: the first
-    // of a run that it opened, or else the first of all.
+    // Takes the step of a release. Of the releases that it makes it gives one, and puts the others on the list: the
+    // first of a run that it opened, or else the first of all.
     fn step<R: Wait>(
         &self,
         rt: &R,
@@ -370,7 +370,7 @@ impl<J: Job + Drop> Shift<'_, J> {
         &self,
         rt: &R,
         owner: &mut Owner<CrewItem<J>>,
-        frame: RunNumber<J>,
+        frame: FrameNumber<J>,
         released: Vec<Release<J>>,
     ) -> Result<Option<NumberedRelease<J>>, NoMemory>
         requires owner { owner.old.tag ≡ self.now.list.now.list.begun }
@@ -396,7 +396,7 @@ impl<J: Job + Drop> Shift<'_, J> {
         &self,
         rt: &R,
         owner: &mut Owner<CrewItem<J>>,
-        frame: &RunNumber<J>,
+        frame: &FrameNumber<J>,
         released: Vec<Release<J>>,
     ) -> Result<(), NoMemory>
         requires owner { owner.old.tag ≡ self.now.list.now.list.begun }
@@ -416,7 +416,7 @@ impl<J: Job + Drop> Shift<'_, J> {
         &self,
         rt: &R,
         owner: &mut Owner<CrewItem<J>>,
-        frame: &RunNumber<J>,
+        frame: &FrameNumber<J>,
         release: Release<J>,
     ) -> Result<(), NoMemory>
         requires owner { owner.old.tag ≡ self.now.list.now.list.begun }

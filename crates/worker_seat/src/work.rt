@@ -2,7 +2,7 @@
 ghost use Rattle.std.specs.Prelude.{◌≡◌, [], None};
 ghost use Rattle.table_frames.specs.Frames.{backlog_view};
 
-use crate::run_numbers::RunNumber;
+use crate::frame_numbers::FrameNumber;
 use run_frame::Job;
 use std::alloc::Global;
 use table_frames::Backlog;
@@ -11,7 +11,7 @@ use table_frames::Backlog;
 #[derive(Drop)]
 pub struct FrameWork<J: Job + Drop> {
     pub backlog: Backlog<J>,
-    pub frame: Option<RunNumber<J>>,
+    pub frame: Option<FrameNumber<J>>,
 }
 
 impl<J: Job + Drop> FrameWork<J> {

@@ -4,7 +4,7 @@ use Rattle.std.specs.Vec.{vec_capacity, vec_len}
 use Rattle.join_tables.specs.declared.fates.Fate.{Fate}
 use Rattle.run_frame.specs.declared.run.FrameRun.{FrameRun}
 use Rattle.run_frame.specs.declared.run.InnerRow.{InnerRow}
-use Rattle.table_frames.specs.AllowedFates.{closing_place, in_rows, run_at}
+use Rattle.table_frames.specs.inside.FateRuns.{closing_place, in_rows, run_at}
 use Rattle.table_frames.specs.declared.done_turns.DoneTurns.{DoneTurns}
 
 -- the same turns and runs

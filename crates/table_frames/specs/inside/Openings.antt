@@ -4,14 +4,15 @@ use Rattle.std.specs.Prelude.{◌≡◌, ◌≢◌, List, [], ◌∷◌, map, No
 use Rattle.join_tables.specs.States.{FreshState, fresh_state}
 use Rattle.run_frame.specs.Meaning.{Meaning}
 use Rattle.table_frames.specs.Frames.{FrameKey, ReleaseView, release_in}
+use Rattle.table_frames.specs.Steps.{IsOverAtOnce}
 use Rattle.table_frames.specs.inside.Attempts.{IsAgain, IsAttemptIn, IsOutcomeIn, again_list, release_tried}
 use Rattle.table_frames.specs.inside.Begins.{Begins}
 use Rattle.table_frames.specs.inside.OpenStarts.{IsOpenFor, IsStartOf}
 use Rattle.table_frames.specs.declared.attempt.InnerBegun.{InnerBegun}
 use Rattle.table_frames.specs.declared.step_results.State.TheVariants.{Inner as InnerState}
 use Rattle.table_frames.specs.declared.step_results.Stepped.{Stepped}
-use Rattle.table_frames.specs.declared.table_run.Started.{Started}
-use Rattle.table_frames.specs.declared.table_run.Started.TheVariants.{Outcome, Inner as InnerStart}
+use Rattle.table_frames.specs.declared.run_work.Started.{Started}
+use Rattle.table_frames.specs.declared.run_work.Started.TheVariants.{Outcome, Inner as InnerStart}
 use Rattle.table_frames.specs.declared.attempt.Tried.{Tried}
 use Rattle.table_frames.specs.declared.attempt.Tried.TheVariants.{Done, Inner}
 
@@ -28,8 +29,10 @@ abbrev pub Starts : {J V : Type 0} → Meaning J V → FrameKey J → FreshState
 Starts meaning frame release (Outcome outcome) = IsOutcomeIn meaning frame None outcome × (release_tried frame.table outcome ≡ release)
 Starts meaning frame release (InnerStart running job) = IsOpenFor meaning frame job running × (fresh_state frame.table running.task running.cause ≡ release)
 
+-- An attempt at work that is done, in which nothing was to be done in the run that was made in its place, if one was. Or a run has
+-- begun in its place.
 abbrev pub Tries : {J V : Type 0} → Meaning J V → FrameKey J → FreshState → Tried J V → Type 0
-Tries meaning frame release (Done attempt) = IsAttemptIn meaning frame attempt × (release_tried frame.table attempt.outcome ≡ release)
+Tries meaning frame release (Done attempt) = IsAttemptIn meaning frame attempt × (release_tried frame.table attempt.outcome ≡ release) × IsOverAtOnce meaning attempt.inner
 Tries meaning frame release (Inner inner) = IsInnerIn meaning frame inner × (fresh_state frame.table inner.start.running.task inner.start.running.cause ≡ release)
 
 -- the same of the first of these frames

@@ -7,11 +7,11 @@ use Rattle.join_tables.specs.declared.fates.Fate.{Fate}
 use Rattle.run_frame.specs.Legal.{IsKept}
 use Rattle.run_frame.specs.Meaning.{Meaning}
 use Rattle.run_frame.specs.NestedRule.{job_of}
-use Rattle.table_frames.specs.BacklogResults.{MayTakeIn}
+use Rattle.table_frames.specs.BacklogResults.{ClosesRun, MayTakeIn}
 use Rattle.table_frames.specs.Frames.{AtFrame, BacklogView, FrameKey, ReleaseView, backlog_view, release_in}
 use Rattle.table_frames.specs.JournalFacts.{HasEntries}
 use Rattle.table_frames.specs.StepReleases.{GivesEdges, given_by}
-use Rattle.table_frames.specs.Steps.{IsRootRun, UsesRelease}
+use Rattle.table_frames.specs.Steps.{UsesRelease}
 use Rattle.table_frames.specs.inside.OpenStarts.{IsStartOf}
 use Rattle.table_frames.specs.declared.over.InnerOver.{InnerOver}
 use Rattle.table_frames.specs.declared.over.Kept.{Kept}
@@ -35,7 +35,7 @@ pub record IsInnerRunOf {J V : Type 0} (meaning : Meaning J V) (frames : List (F
 -- what is given out of the first of these frames
 abbrev pub IsOverOf : {J V : Type 0} → Meaning J V → List (FrameKey J) → List (Fate V) → Over J V → Type 0
 IsOverOf meaning frames fates No = Unit {0}
-IsOverOf meaning frames fates (Alone run) = IsRootRun meaning frames run × HasEntries run fates
+IsOverOf meaning frames fates (Alone run) = ClosesRun meaning frames fates run
 IsOverOf meaning frames fates (Inside inner) = IsInnerRunOf meaning frames fates inner
 
 abbrev pub IsEnd : {J V : Type 0} → Over J V → Type 0

@@ -9,7 +9,8 @@ use Rattle.semaphore_turns.specs.UnitClaims.{HasToClaim}
 use Rattle.join_tables.specs.Rests.{IsOfTable}
 use Rattle.join_tables.specs.States.{FreshState, TableState, RunningState}
 use Rattle.run_frame.specs.Meaning.{Meaning}
-use Rattle.table_frames.specs.AllowedFates.{IsAllowed, AreAllowed}
+use Rattle.table_frames.specs.AllowedFates.{IsAllowed}
+use Rattle.table_frames.specs.inside.FateRuns.{AreAllowed}
 use Rattle.table_frames.specs.JournalFacts.{IsInJournal}
 use Rattle.table_frames.specs.Frames.{FrameKey}
 use Rattle.table_frames.specs.inside.DoneTurns.{IsNoTurn}

@@ -6,7 +6,7 @@ use Rattle.table_frames.specs.JournalFacts.{HasEntries}
 use Rattle.table_frames.specs.inside.OpenStarts.{IsLockedAt, IsStartOf, LockedRunView}
 use Rattle.table_frames.specs.inside.Overs.{IsOverOf}
 use Rattle.table_frames.specs.declared.over.Over.TheVariants.{Inside}
-use Rattle.table_frames.proofs.Closing.{not_outermost, over_inside}
+use Rattle.table_frames.proofs.Closing.{not_outermost, over_alone, over_inside}
 use Rattle.table_frames.proofs.frame.Frame.finish.Goals as goal
 
 pub unreachable-requires : goal.unreachable-requires
@@ -21,6 +21,18 @@ unreachable-unreachable g c = c.unreachable.result
 
 pub same-start : goal.same-start
 same-start g c = refl
+
+pub returns-in_default-clause-over : goal.returns-in_default-clause-over
+returns-in_default-clause-over g c =
+    let J = g.row.J.Denot in
+    let V = g.row.J-V.Denot in
+    let run = c.in_ok-run.run' in
+    let finished = c.in_ok-run.ensures in
+    let whole = c.locked.view_is in
+    let none = ap (λ (l : LockedRunView J V). l.start) (sym whole) ∙ c.in_default.is in
+    let job = finished.job ∙ ap (λ (l : LockedRunView J V). l.kept.job) whole in
+    let entries = subst (λ (l : LockedRunView J V). HasEntries run l.kept.keeper.fates) whole finished.entries in
+    over_alone g.J.Job.meaning c.args.self.now c.args.locked run c.requires.key none finished.kept job entries
 
 pub returns-clause-over : goal.returns-clause-over
 returns-clause-over g c =

@@ -33,7 +33,7 @@ returns-in_ok-hand_on-in-Done-clause-ok g c =
     let tries = tries_done meaning frames c.deref.result.now release c.in_ok-attempt.field-0 attempt here c.in-Done.is c.in_ok-attempt.ensures in
     let hands = c.in_ok-hand_on-in-Done.ensures.ok in
     let same = ap (λ (b : BacklogView J V). b.fates) c.in_ok-make_room.ensures.ok ∙ ap (λ (b : BacklogView J V). b.fates) c.backlog.view_is in
-    steps_release meaning frames release attempt c.args.backlog.now c.make_room.new.self.backlog c.hand_on.new.batch.backlog hands.made (record { released = c.in_ok-hand_on-in-Done.field-0; state = Went }) (has_table frames c.args.taken c.requires.taken) same hands.concludes tries.1 hands.released_are refl
+    steps_release meaning frames release attempt c.args.backlog.now c.make_room.new.self.backlog c.hand_on.new.batch.backlog hands.made (record { released = c.in_ok-hand_on-in-Done.field-0; state = Went }) (has_table frames c.args.taken c.requires.taken) same hands.concludes tries.1 tries.2 hands.released_are refl
 
 pub returns-in-Inner-clause-ok : goal.returns-in-Inner-clause-ok
 returns-in-Inner-clause-ok g c =

@@ -1,7 +1,7 @@
 use Rattle.std.proofs.Common.{◌++◌, sym, ap, ◌∙◌, subst}
 use Rattle.std.specs.Arc.{arc_value}
 use Rattle.join_tables.specs.Keeping.{KeeperState}
-use Rattle.table_frames.specs.AllowedFates.{AreAllowed}
+use Rattle.table_frames.specs.inside.FateRuns.{AreAllowed}
 use Rattle.table_frames.specs.Frames.{RunKeeperView}
 use Rattle.table_frames.proofs.Keeping.{kept_more}
 use Rattle.table_frames.proofs.run_keeper.RunKeeper.absorb.Goals as goal

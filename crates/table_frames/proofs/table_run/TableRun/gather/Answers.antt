@@ -2,7 +2,7 @@ use Rattle.std.proofs.Common.{◌≡◌, Some, refl, sym, ap, ◌∙◌, subst}
 use Rattle.join_tables.specs.Batches.{BatchState}
 use Rattle.join_tables.specs.Rests.{IsOfTable}
 use Rattle.join_tables.specs.declared.fates.Fate.{Fate}
-use Rattle.table_frames.specs.AllowedFates.{closing_place, run_at}
+use Rattle.table_frames.specs.inside.FateRuns.{closing_place, run_at}
 use Rattle.table_frames.specs.Frames.{FrameKey}
 use Rattle.table_frames.proofs.Keeping.{one_more}
 use Rattle.table_frames.proofs.table_run.TableRun.gather.Goals as goal

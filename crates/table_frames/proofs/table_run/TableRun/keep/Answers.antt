@@ -1,5 +1,5 @@
 use Rattle.std.proofs.Common.{sym, subst}
-use Rattle.table_frames.specs.AllowedFates.{AreAllowed}
+use Rattle.table_frames.specs.inside.FateRuns.{AreAllowed}
 use Rattle.table_frames.specs.Frames.{FrameKey}
 use Rattle.table_frames.proofs.table_run.TableRun.keep.Goals as goal
 

@@ -1,7 +1,9 @@
-use Rattle.std.proofs.Common.{◌≡◌, sym, ap, ◌∙◌, subst}
+use Rattle.std.proofs.Common.{rules, ◌≡◌, [], sym, ap, ◌∙◌, subst}
 use Rattle.join_tables.specs.States.{FreshState, fresh_state}
+use Rattle.table_frames.specs.Steps.{IsOverAtOnce}
 use Rattle.table_frames.specs.inside.Attempts.{IsAgain, release_tried}
 use Rattle.table_frames.specs.inside.OpenStarts.{OpenStartView}
+use Rattle.table_frames.proofs.Opening.{over_at_once}
 use Rattle.table_frames.proofs.table_run.TableRun.open.Goals as goal
 
 pub returns-then-is_empty : goal.returns-then-is_empty
@@ -10,11 +12,14 @@ returns-then-is_empty g c =
     let over = c.in_ok-attempt.ensures in
     let told : release_tried n c.in_ok-attempt.attempt.outcome ≡ fresh_state n c.start.inside.running.task c.start.inside.running.cause = over.release in
     let started : fresh_state n c.start.inside.running.task c.start.inside.running.cause ≡ fresh_state n c.args.running.task c.args.running.cause = ap (λ (start : OpenStartView g.row.J.Denot g.row.J-V.Denot). fresh_state n start.running.task start.running.cause) (c.start.view_is ∙ c.new-start.ensures) in
-    let release : release_tried n c.in_ok-attempt.attempt.outcome ≡ fresh_state n c.args.running.task c.args.running.cause = told ∙ started in (
+    let release : release_tried n c.in_ok-attempt.attempt.outcome ≡ fresh_state n c.args.running.task c.args.running.cause = told ∙ started in
+    let begun = c.in_ok-begun.begun in
+    let none : begun.fresh.items ≡ [] = search rules in (
       record {
         outcome = over.attempt.outcome;
         kept = over.attempt.kept;
         again = subst (λ (f : FreshState). IsAgain n f.task f.cause c.args.again) (sym release) c.requires.again;
       },
       release,
+      subst (IsOverAtOnce g.J.Job.meaning) (sym over.inner) (over_at_once g.J.Job.meaning _ begun _ c.in_ok-begun.ensures none c.in_ok-finish.ensures.job),
     )

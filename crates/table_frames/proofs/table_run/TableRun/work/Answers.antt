@@ -5,7 +5,7 @@ use Rattle.table_frames.specs.AllowedFates.{work_with}
 use Rattle.table_frames.specs.Frames.{FrameKey}
 use Rattle.table_frames.specs.inside.Openings.{Starts}
 use Rattle.table_frames.specs.declared.attempt.Outcome.TheVariants.{Faults}
-use Rattle.table_frames.specs.declared.table_run.Started.TheVariants.{Outcome}
+use Rattle.table_frames.specs.declared.run_work.Started.TheVariants.{Outcome}
 use Rattle.table_frames.proofs.Starting.{fault_allowed, may_tell}
 use Rattle.table_frames.proofs.table_run.TableRun.work.Goals as goal
 

@@ -1,0 +1,2 @@
+-- Internal: which entries cut a run short.
+pub mod Cuts
