@@ -7,7 +7,6 @@ use Rattle.std.specs.declared.sync.Arc.{Arc}
 use Rattle.std.specs.declared.snapshot.Snapshot.{Snapshot}
 use Rattle.std.specs.declared.vec.Vec.{Vec}
 use Rattle.std.specs.Prelude.{◌⊎◌, min, All, slice_get}
-use Rattle.std.specs.List.{AllByRecursion}
 use Rattle.std.proofs.lemmas.List.{length-append, length-map}
 use Rattle.std.proofs.lemmas.List.Elements.{All-from_recursion, All-head}
 use Rattle.atomic_table.specs.Seated.{TableId}
@@ -46,18 +45,18 @@ use Rattle.run_frame.specs.declared.job.JobError.TheVariants.{Fault as FaultOf, 
 use Rattle.run_frame.specs.declared.run.ValueRow.{ValueRow}
 use Rattle.run_frame.specs.declared.run.FrameRun.{FrameRun}
 use Rattle.run_frame.specs.Meaning.{Meaning, ErrorAllowed, GatherErrorAllowed}
-use Rattle.run_frame.specs.Runs.{IsFine, cuts_short, is_cut_by}
+use Rattle.run_frame.specs.Runs.{IsFine}
 use Rattle.run_frame.specs.LastEnds.{last_before, last_value}
 use Rattle.run_frame.specs.WorkRule.{WorkRule, gives_of}
 use Rattle.run_frame.specs.NestedRule.{NestedRule, job_of, journal_of}
 use Rattle.run_frame.specs.Legal.{IsKept}
-use Rattle.table_frames.specs.AllowedFates.{IsAllowed, AreAllowed, FateWithRun, closing_place, placed_runs, work_with}
+use Rattle.table_frames.specs.AllowedFates.{IsAllowed, work_with}
 use Rattle.table_frames.specs.Frames.{FrameKey, ReleaseView, BacklogView, release_in, root_frame, root_job, depth_of, frames_around, IsInnermost, AtFrame, HasTable, backlog_view, MayTake, key_of, table_in}
 use Rattle.table_frames.specs.Holders.{HoldsRelease}
 use Rattle.table_frames.specs.StepReleases.{IsFateOf, given_by, release_of, AreMadeBy, GivesEdges, MayRelease, Uses}
 use Rattle.table_frames.specs.JournalFacts.{IsInJournal, HasEntries}
-use Rattle.table_frames.specs.Steps.{IsRootRun, IsStateOf, IsClosed, BeginsFrame, units_of, UsesRelease, ParksRelease, OpensInner, StepsTo, StepsRelease}
-use Rattle.table_frames.specs.BacklogResults.{TakesIn, MayTakeIn, ResumesStart, IsFrameOf, BringsTo, IsOver, BringsFates, IsLeftOf, DropsParked, SettlesFrame}
+use Rattle.table_frames.specs.Steps.{IsRootRun, IsStateOf, IsClosed, BeginsFrame, units_of, HasNoFirst, IsOverAtOnce, UsesRelease, UsesAtOnce, ParksRelease, OpensInner, StepsTo, StepsRelease}
+use Rattle.table_frames.specs.BacklogResults.{TakesIn, MayTakeIn, ResumesStart, ClosesRun, IsFrameOf, BringsTo, IsOver, BringsFates, IsLeftOf, DropsParked, SettlesFrame}
 use Rattle.table_frames.specs.declared.release.HeldBy.TheVariants as held
 use Rattle.table_frames.specs.declared.step_results.Brought.{Brought}
 use Rattle.table_frames.specs.declared.step_results.State.TheVariants.{Went, Parked, Inner as HasInner, Resumed, Closed}
@@ -132,10 +131,6 @@ gathering kind = record sums { gather_faults = λ j run why. why ≡ kind j }
 -- an error of gathering is one that it may name, or tells of an allocation
 error_of_gathering : (run : FrameRun ℕ ℕ) → GatherErrorAllowed (gathering Wide) 2 run (FaultOf (Wide 2)) × ¬ GatherErrorAllowed (gathering Wide) 2 run (FaultOf (Wide 3)) × ¬ GatherErrorAllowed (gathering Wide) 2 run (FaultOf (Long 2)) × GatherErrorAllowed (gathering Wide) 2 run NoMemoryOf
 error_of_gathering run = (refl, (λ is. absurd (cc)), (λ is. absurd (cc)), tt)
-
--- a Fault cuts a run short, and a Drop at the limit or for want of a unit; one behind a Fault says nothing more
-cut_short_by : (cuts_short (Start 0 Source []) ≡ false) × (cuts_short (End 0 [] true) ≡ false) × (cuts_short (Fault 0 Inner) ≡ true) × (cuts_short (Drop 0 Source Limit) ≡ true) × (cuts_short (Drop 0 Source (Stuck 3)) ≡ true) × (is_cut_by Halted ≡ false)
-cut_short_by = (refl, refl, refl, refl, refl, refl)
 
 -- a task may name what is its own, and what it found, as a fault of one kind
 abbrev faulting : (ℕ → Why) → Meaning ℕ ℕ
@@ -408,37 +403,6 @@ module _ (n m : TableId) (other : m ≢ n) where
       drops_with_a_run : ¬ IsAllowed mute 2 (Dropped dropped) (Some run)
       drops_with_a_run is = let none : ◌≡◌ {A = Option (FrameRun ℕ ℕ)} (Some run) None = is.by_job in absurd (cc)
 
-      run_at_its_end : placed_runs (record { fate = inner_end; run = Some run } ∷ record { fate = Dropped dropped; run = None } ∷ []) ≡ record { place = 3; run = run } ∷ []
-      run_at_its_end = refl
-
-    closing_places : (closing_place (Ended (ended 10 1)) ≡ 3) × (closing_place (Faulted (failed Inner)) ≡ 3) × (closing_place {V = ℕ} (Dropped dropped) ≡ 0)
-    closing_places = (refl, refl, refl)
-
-    -- a fate without a run
-    abbrev alone : Fate ℕ → FateWithRun ℕ ℕ
-    alone fate = record { fate = fate; run = None }
-
-    each_is_allowed : AreAllowed flat_sums 2 (Ended (ended 10 1) ∷ Dropped dropped ∷ []) []
-    each_is_allowed = record { turns = alone (Ended (ended 10 1)) ∷ alone (Dropped dropped) ∷ []; fates_are = refl; rows_are = refl; each = (ends_with_its_sum, (record { by_job = refl; kept = tt }, tt)) }
-
-    second_is_not_allowed : ¬ AreAllowed flat_sums 2 (Dropped dropped ∷ Ended (ended 3 1) ∷ []) []
-    second_is_not_allowed are = second are.turns are.fates_are are.each
-      where
-        another_sum : (run : Option (FrameRun ℕ ℕ)) → ¬ IsAllowed flat_sums 2 (Ended (ended 3 1)) run
-        another_sum None is = ends_with_another_sum is
-        another_sum (Some run) is = is.by_job
-
-        second_fate : List (Fate ℕ) → Fate ℕ
-        second_fate [] = Dropped dropped
-        second_fate (f ∷ []) = f
-        second_fate (f ∷ g ∷ more) = g
-
-        second : (turns : List (FateWithRun ℕ ℕ)) → map (λ (turn : FateWithRun ℕ ℕ). turn.fate) turns ≡ Dropped dropped ∷ Ended (ended 3 1) ∷ []
-            → AllByRecursion (λ (turn : FateWithRun ℕ ℕ). IsAllowed flat_sums 2 turn.fate turn.run) turns → ⊥
-        second [] same each = absurd (omega (arith, ap length same))
-        second (t ∷ []) same each = absurd (omega (arith, ap length same))
-        second (t ∷ u ∷ more) same each = another_sum u.run (subst (λ fate. IsAllowed flat_sums 2 fate u.run) (ap second_fate same) each.1.0)
-
     fate_of_its_release : IsFateOf 1 Strong (Ended (ended 10 1)) × IsFateOf 1 Strong (Faulted (failed (Long 10))) × IsFateOf {V = ℕ} 2 Source (Dropped dropped)
     fate_of_its_release = ((refl, refl), (refl, refl), (refl, refl))
 
@@ -503,6 +467,16 @@ module _ (n m : TableId) (other : m ≢ n) where
       never again after (inl none) = absurd (omega (arith, ap length (after ∙ none)))
       never again after (inr (cause, same)) = absurd (cc)
 
+  -- ---- Runs that are over as they begin, and those that aren't.
+  nothing_to_begin : HasNoFirst (record { tasks = []; edges = []; sems = [] })
+  nothing_to_begin table = refl
+
+  over_at_once : IsOverAtOnce {V = ℕ} flat_sums None
+  over_at_once = tt
+
+  goes_on_inside_the_step : (run : FrameRun ℕ ℕ) → ¬ IsOverAtOnce flat_sums (Some run)
+  goes_on_inside_the_step run is = absurd (omega (arith, ap length (is n)))
+
   -- ---- Runs that are given out.
   closes_run : (run : FrameRun ℕ ℕ) → IsKept flat_sums run → job_of run ≡ 2 → IsRootRun flat_sums inside run
   closes_run run kept job = record { kept = kept; job = ap Some (sym job) }
@@ -512,6 +486,19 @@ module _ (n m : TableId) (other : m ≢ n) where
 
   closes_the_inner_job : (run : FrameRun ℕ ℕ) → job_of run ≡ 9 → ¬ IsRootRun flat_sums inside run
   closes_the_inner_job run job is = let same : ◌≡◌ {A = Option ℕ} (Some 2) (Some 9) = is.job ∙ ap Some job in absurd (cc)
+
+  closes_the_run_alone : (run : FrameRun ℕ ℕ) (fates : List (Fate ℕ)) → IsKept flat_sums run → job_of run ≡ 2 → HasEntries run fates → ClosesRun flat_sums own fates run
+  closes_the_run_alone run fates kept job entries = record { frame = key; frames_are = refl; job = job; kept = kept; entries = entries }
+
+  closes_a_run_inside : (run : FrameRun ℕ ℕ) (fates : List (Fate ℕ)) → ¬ ClosesRun flat_sums inside fates run
+  closes_a_run_inside run fates is = absurd (omega (arith, ap length is.frames_are))
+
+  closes_a_run_of_another_job : (run : FrameRun ℕ ℕ) (fates : List (Fate ℕ)) → job_of run ≡ 9 → ¬ ClosesRun flat_sums own fates run
+  closes_a_run_of_another_job run fates job is = absurd (omega (arith, ap job_of_first is.frames_are, is.job, job))
+    where
+      job_of_first : List (FrameKey ℕ) → ℕ
+      job_of_first [] = 0
+      job_of_first (frame ∷ around) = frame.job
 
   goes_on : (parked : Snapshot TurnState) (releases : Vec (ReleaseView ℕ) Global) → IsStateOf flat_sums own Went × ¬ IsStateOf flat_sums own (Parked parked) × ¬ IsStateOf flat_sums own (HasInner releases) × ¬ IsStateOf flat_sums own (Resumed releases)
   goes_on parked releases = (tt, (λ is. is), (λ is. is), λ is. is)
@@ -590,6 +577,9 @@ module _ (n m : TableId) (other : m ≢ n) where
       backlog = refl;
     }
 
+    uses_at_once : IsInJournal flat_sums 2 end_of_the_first → UsesAtOnce flat_sums key (release_in own zeroth) none_done first_done (first ∷ [])
+    uses_at_once within = record { uses = uses_release within; inner = tt }
+
     -- the fate that is with a frame, where there is one
     abbrev first_fate : List (Fate ℕ) → Fate ℕ
     first_fate [] = end_of_the_first
@@ -618,10 +608,10 @@ module _ (n m : TableId) (other : m ≢ n) where
     steps_to_nothing_else made run releases = ((λ is. is), λ is. is)
 
     steps_on : IsInJournal flat_sums 2 end_of_the_first → StepsTo flat_sums key (release_in own zeroth) none_done first_done (first ∷ []) Went
-    steps_on within = uses_release within
+    steps_on within = uses_at_once within
 
     steps_on_without_a_fate : (made : List FreshState) → ¬ StepsTo flat_sums key (release_in own zeroth) none_done (backlog_view own []) made Went
-    steps_on_without_a_fate made is = uses_it_and_keeps_no_fate made is
+    steps_on_without_a_fate made is = uses_it_and_keeps_no_fate made is.uses
 
     steps_release : IsInJournal flat_sums 2 end_of_the_first → (stepped : Stepped ℕ ℕ) → stepped.released.items ≡ release_in own first ∷ [] → stepped.state ≡ Went
         → StepsRelease flat_sums (release_in own zeroth) none_done first_done stepped
@@ -630,7 +620,7 @@ module _ (n m : TableId) (other : m ≢ n) where
       around = [];
       frames_are = refl;
       made = first ∷ [];
-      to = subst (StepsTo flat_sums key (release_in own zeroth) none_done first_done (first ∷ [])) (sym went) (uses_release within);
+      to = subst (StepsTo flat_sums key (release_in own zeroth) none_done first_done (first ∷ [])) (sym went) (uses_at_once within);
       released = released;
       frames = subst (All (λ (next : ReleaseView ℕ). next.frames ≡ own)) (sym released) (All-from_recursion (λ (next : ReleaseView ℕ). next.frames ≡ own) (release_in own first ∷ []) (refl, tt));
       backlog = refl;
@@ -644,8 +634,8 @@ module _ (n m : TableId) (other : m ≢ n) where
 
     steps_and_keeps_no_fate : (stepped : Stepped ℕ ℕ) → stepped.state ≡ Went → ¬ StepsRelease flat_sums (release_in own zeroth) none_done (backlog_view own []) stepped
     steps_and_keeps_no_fate stepped went is =
-        let used : UsesRelease flat_sums is.frame (release_in own zeroth) none_done (backlog_view own []) is.made = subst (StepsTo flat_sums is.frame (release_in own zeroth) none_done (backlog_view own []) is.made) went is.to in
-        absurd (omega (arith, ap (λ (b : BacklogView ℕ ℕ). length b.fates) used.backlog))
+        let used : UsesAtOnce flat_sums is.frame (release_in own zeroth) none_done (backlog_view own []) is.made = subst (StepsTo flat_sums is.frame (release_in own zeroth) none_done (backlog_view own []) is.made) went is.to in
+        absurd (omega (arith, ap (λ (b : BacklogView ℕ ℕ). length b.fates) used.uses.backlog))
 
     steps_to_releases_of_another_frame : (stepped : Stepped ℕ ℕ) (new : BacklogView ℕ ℕ) → stepped.released.items ≡ release_in inside first ∷ []
         → ¬ StepsRelease flat_sums (release_in own zeroth) none_done new stepped
@@ -929,8 +919,8 @@ module _ (n m : TableId) (other : m ≢ n) where
       × ¬ BringsTo {V = ℕ} flat_sums own [] (backlog_view own []) (Parked parked) × ¬ BringsTo {V = ℕ} flat_sums own [] (backlog_view own []) (HasInner releases)
   brings_to parked releases = (refl, (λ is. absurd (omega (arith, ap (λ (b : BacklogView ℕ ℕ). length b.frames) is))), (λ is. is), λ is. is)
 
-  brings_and_closes_the_inner_job : (brought : Brought ℕ ℕ) (new : BacklogView ℕ ℕ) (run : FrameRun ℕ ℕ) → brought.state ≡ Closed run → job_of run ≡ 9 → ¬ BringsFates flat_sums inside [] new brought
-  brings_and_closes_the_inner_job brought new run closed job is = closes_the_inner_job run job (subst (BringsTo flat_sums inside [] new) closed is.to).0
+  brings_and_closes_a_run_inside : (brought : Brought ℕ ℕ) (new : BacklogView ℕ ℕ) (run : FrameRun ℕ ℕ) → brought.state ≡ Closed run → ¬ BringsFates flat_sums inside [] new brought
+  brings_and_closes_a_run_inside brought new run closed is = closes_a_run_inside run [] (subst (BringsTo flat_sums inside [] new) closed is.to).0
 
   -- No start is resumed of a frame that is in no other, nor of one whose run has another job.
   resumes_outermost : (released : List (ReleaseView ℕ)) (new : BacklogView ℕ ℕ) → ¬ ResumesStart flat_sums own [] released new

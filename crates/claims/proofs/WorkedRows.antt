@@ -15,17 +15,12 @@ use Rattle.journal_rules.specs.declared.entry.Entry.TheVariants.{Start, Fault}
 use Rattle.run_frame.specs.declared.run.FrameRun.{FrameRun, FrameRun', end_of-InnerRow, more_of-InnerRow, out-FrameRun}
 use Rattle.run_frame.specs.declared.run.FrameRun.TheBlock.{shown-the_row-InnerRow-0}
 use Rattle.run_frame.specs.declared.run.InnerRow.{InnerRow', out-InnerRow}
-use Rattle.run_frame.specs.FlatNets.{IsFlatNet}
 use Rattle.run_frame.specs.Rows.{RowsFit}
 use Rattle.run_frame.specs.Meaning.{Meaning}
 use Rattle.run_frame.specs.Legal.{Legal, LegalRows, CompleteRun}
 
--- A net is flat by each of its tasks.
 abbrev free : Shape → TaskRow
 free shape = record { shape = shape; takes = []; puts = [] }
-
-second_task_nested : ¬ IsFlatNet (record { tasks = free Plain ∷ free Nested ∷ []; edges = []; sems = [] })
-second_task_nested is = is 1 (free Plain) (omega arith) refl
 
 -- Runs hold their inner runs in vectors: of none or two, wherever they stand in memory.
 module _ (ptr : Ptr) (alloc : Global)
