@@ -83,7 +83,11 @@ impl<J: Job + Drop> Frame<J> {
     ghost use Rattle.table_frames.specs.inside.Runs.{AreDoneAt};
 
     /// Goes on with a start of the frame in place of whose work a run was made.
-    pub(crate) fn resumed(&self, start: OpenStart<J>, run: FrameRun<J>) -> Result<Attempt<J>, NoMemory>
+    pub(crate) fn resumed(
+        &self,
+        start: OpenStart<J>,
+        run: FrameRun<J>,
+    ) -> Result<Attempt<J>, NoMemory>
         requires frame { AtFrame self.now (λ key. start.frame ≡ key) }
         requires start { IsStartOf J.meaning (job_of run) start }
         requires kept { IsKept J.meaning run }

@@ -22,7 +22,10 @@ use join_tables::{Collected, Fresh, NetTable, Opening, Remaining, Turn};
 use outside_io::NoMemory;
 use run_frame::Job;
 use semaphore_park::ParkYard;
-use semaphore_turns::{ParkedTurn, Parking, ReadyKind, ReadyTurn, Settled, TakenUnits, TurnYard, park_turn, settle, take_units, takes_of};
+use semaphore_turns::{
+    ParkedTurn, Parking, ReadyKind, ReadyTurn, Settled, TakenUnits, TurnYard, park_turn, settle,
+    take_units, takes_of,
+};
 use std::alloc::Global;
 use std::marker::Model;
 use std::sync::Arc;

@@ -35,9 +35,10 @@ impl InnerCase {
         }
         let net = self.net.built(alloc)?;
         match NumberJob::new(net, self.limit, self.turns, self.fault) {
-            Some(job) => Ok(job
-                .with_inner(Arc::new(alloc, inner)?)
-                .with_meeting_inside(self.meeting)),
+            Some(job) => Ok(
+                job.with_inner(Arc::new(alloc, inner)?)
+                    .with_meeting_inside(self.meeting),
+            ),
             None => panic!(rt; "{} has too many starts", self.name),
         }
     }
@@ -56,7 +57,11 @@ fn check_run(
     let verdict = judge(alloc, run.job.net(), case.limit, &run.journal)?;
     assert!(rt; verdict == Verdict::Complete, "{}: {verdict:?}", case.name);
     let journal = run.journal.as_slice();
-    assert!(rt; meets_data_rule(alloc, run.job.net(), journal)?, "{}", case.name);
+    assert!(rt;
+        meets_data_rule(alloc, run.job.net(), journal)?,
+        "{}",
+        case.name
+    );
     assert!(rt; finds_something(journal), "{}", case.name);
     let mut starts: usize = 0;
     for (place, entry) in journal.iter().enumerate() {

@@ -94,7 +94,11 @@ impl<J: Job + Drop> TaggedList<CrewItem<J>, NumberedFrames<J>> {
     }
 
     /// The release of an item, with the number of its frame, if the item is of the run of this number.
-    pub fn release_in(&self, number: &FrameNumber<J>, item: CrewItem<J>) -> Option<NumberedRelease<J>>
+    pub fn release_in(
+        &self,
+        number: &FrameNumber<J>,
+        item: CrewItem<J>,
+    ) -> Option<NumberedRelease<J>>
         requires number { number.now.begun ≡ self.now.list.begun }
         requires item { item.run.begun ≡ self.now.list.begun }
         ensures { IfSome result (IsItemOf number.now) }
