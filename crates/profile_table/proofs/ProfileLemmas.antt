@@ -14,6 +14,9 @@ use Rattle.profile_table.proofs.CountingLemmas.{kind_counts-append}
 pub length-profile_rows : (tasks : ℕ) (journals : List (List Entry)) → length (profile_rows tasks journals) ≡ tasks
 length-profile_rows tasks journals = length-map-range_with_len (profile_row journals) 0 tasks
 
+pub row_for_each_task : (tasks : ℕ) (journals : List (List Entry)) (table : Profile) → table ≡ profile_of tasks journals → tasks ≡ length table.rows
+row_for_each_task tasks journals table is = sym (ap (λ (profile : Profile). length profile.rows) is ∙ length-profile_rows tasks journals)
+
 -- the row of a task
 pub get_or-profile_rows : (tasks : ℕ) (journals : List (List Entry)) (t : ℕ) (d : TableRow) → t < tasks → get_or (profile_rows tasks journals) t d ≡ profile_row journals t
 get_or-profile_rows tasks journals t d below = get_or-map-range_with_len (profile_row journals) 0 tasks t t d below (zero-add t)
@@ -26,6 +29,7 @@ profile_row-append journals journal t =
     ∙ kind_counts-append before (task_entries t journal)
 
 profile_rows-append : (tasks : ℕ) (journals : List (List Entry)) (journal : List Entry) → profile_rows tasks (journals ++ journal ∷ []) ≡ (after_journal (profile_of tasks journals) journal).rows
+unfolding after_journal
 profile_rows-append tasks journals journal =
     let add : ℕ × TableRow → TableRow = λ numbered. row_plus numbered.1 (kind_counts (task_entries numbered.0 journal)) in
     let old : List TableRow = profile_rows tasks journals in
@@ -39,6 +43,7 @@ profile_rows-append tasks journals journal =
 
 -- The profile of a list of journals and of one more is the profile of the list, after that one.
 pub profile_of-append : (tasks : ℕ) (journals : List (List Entry)) (journal : List Entry) → profile_of tasks (journals ++ journal ∷ []) ≡ after_journal (profile_of tasks journals) journal
+unfolding after_journal
 profile_of-append tasks journals journal =
     let profile : List TableRow → ℕ → Profile = λ rows entries. record { rows = rows; entries = entries } in
     ap (λ rows. profile rows (sum_by length (journals ++ journal ∷ []))) (profile_rows-append tasks journals journal)

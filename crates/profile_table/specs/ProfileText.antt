@@ -42,5 +42,5 @@ abbrev pub spans_line : ℕ → List ℕ
 spans_line spans = padded_right name_width (codes "spans") ++ number_column spans ++ codes "\n"
 
 -- The text of a profile: a line for each task, between a first and a last one.
-abbrev pub profile_text : List TableRow → List (List ℕ) → ℕ → List ℕ
+unfoldable pub profile_text : List TableRow → List (List ℕ) → ℕ → List ℕ
 profile_text rows names spans = columns_line ++ flat_map row_line (zip names rows) ++ spans_line spans

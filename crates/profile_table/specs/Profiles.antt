@@ -74,7 +74,7 @@ abbrev pub row_plus : TableRow → TableRow → TableRow
 row_plus a b = record { starts = a.starts + b.starts; ends = a.ends + b.ends; faults = a.faults + b.faults; drops = a.drops + b.drops }
 
 -- a profile, with what each task did in the run with this journal
-abbrev pub after_journal : Profile → List Entry → Profile
+unfoldable pub after_journal : Profile → List Entry → Profile
 after_journal profile journal = record {
   rows = map (λ numbered. row_plus numbered.1 (kind_counts (task_entries numbered.0 journal))) (enumerate_from 0 profile.rows);
   entries = profile.entries + length journal;

@@ -1,9 +1,10 @@
 //! The table of a profile: what each task of a graph did in some runs of it, and how that is written.
 //!
 //! The layer above sees a `Table` as its rows, with how many entries the journals have that were added (`Profile`). It
-//! knows the rows as a function of the list of these journals, `profile_rows` in `specs/Profiles.antt`, and what is
-//! written as a function of the rows, `profile_text` in `specs/ProfileText.antt`. That a table of some journals is one
-//! of one journal more once that is added is `profile_of-append` in `proofs/ProfileLemmas.antt`.
+//! knows them as a function of the list of these journals (`profile_of` in `specs/Profiles.antt`), and what is written
+//! as a function of the rows (`profile_text` in `specs/ProfileText.antt`). Whoever adds the journals of runs one after
+//! another finds the lemmas for it in `proofs/ProfileLemmas.antt`: `profile_of_more` for the loop, `row_for_each_task`
+//! for the number of rows.
 #![tactic(auto)]
 
 mod entry_task;
