@@ -1,1 +1,2 @@
+pub mod EndValues
 mod WorkedReasons

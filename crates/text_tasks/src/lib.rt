@@ -13,6 +13,7 @@ mod gathered;
 mod graph_job;
 mod item;
 mod job;
+mod next_round;
 mod one_by_one;
 mod parts_job;
 mod table;
