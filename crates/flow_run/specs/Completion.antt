@@ -8,7 +8,7 @@ use Rattle.flow_run.specs.PlanFiles.{HoldsPlan}
 
 -- what a command needs is held
 abbrev pub CanBeDone : (List ℕ → Option (List ℕ)) → Asked → Type 0
-CanBeDone text (run file limit workers journal) = CanBeRun text file
+CanBeDone text (run file limit workers rounds journal) = CanBeRun text file
 CanBeDone text (judge file name limit) = CanBeJudged text file name limit
 CanBeDone text (check file) = HoldsPlan text file
 CanBeDone text (upgrade file) = HoldsPlan text file

@@ -4,6 +4,7 @@ pub mod Judgements
 pub mod PlanFiles
 pub mod Checks
 pub mod Upgrades
+pub mod RoundTexts
 pub mod Answers
 pub mod Completion
 pub mod Plainly

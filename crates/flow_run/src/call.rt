@@ -1,5 +1,5 @@
 // The top call of the program.
-ghost use Rattle.std.specs.Prelude.{◌≡◌, ◌≢◌, ◌⊎◌, ℕ, [], true, List, Some, map, All, IfOk};
+ghost use Rattle.std.specs.Prelude.{◌≡◌, ◌≢◌, ◌⊎◌, ℕ, [], true, Err, List, Some, map, All, IfOk, IsOk};
 ghost use Rattle.std.specs.Option.{option_copied, option_map};
 ghost use Rattle.std.specs.String.{string_bytes};
 ghost use Rattle.outside_io.specs.Sink.{Writes};
@@ -10,10 +10,12 @@ ghost use Rattle.call_status.specs.Notes.{note_line};
 ghost use Rattle.call_status.specs.Noting.{HasNoted};
 ghost use Rattle.call_status.specs.Statuses.{status_after};
 ghost use Rattle.command_line.specs.Requests.{asked_by, upgrade};
+ghost use Rattle.command_line.specs.Rounds.{asked_rounds};
 ghost use Rattle.nested_runs.specs.Reasons.{run_reason};
 ghost use Rattle.run_frame.specs.Legal.{IsKept};
-ghost use Rattle.text_tasks.specs.JobMeaning.{text_job, IsTextJob};
-ghost use Rattle.flow_run.specs.Answers.{CallEnds, HasWritten, IsAfterRun, JobEnds, KeptOnce, Reported, RunEnds, output_of, plan_in, run_text, run_texts};
+ghost use Rattle.text_tasks.specs.JobMeaning.{text_job, IsGraphJob};
+ghost use Rattle.flow_run.specs.Answers.{CallEnds, HasWritten, IsAfterRun, JobEnds, Reported, RunEnds, output_of, plan_in};
+ghost use Rattle.flow_run.specs.RoundTexts.{last_reason, round_line, round_text, rounds_text, run_text};
 ghost use Rattle.flow_run.specs.Completion.{IsAtHand, NothingFails};
 ghost use Rattle.flow_run.specs.Plainly.{AsksPlainly, IsReportedPlainly, EndsPlainly};
 ghost use Rattle.flow_run.specs.Reads.{HaveRead};
@@ -26,17 +28,17 @@ use super::inputs::prepare;
 use super::judge_command::judge_file;
 use super::report::put_report;
 use super::upgrade_command::upgrade_file;
-use super::workers::run_by;
+use super::workers::{RoundsRun, run_rounds};
 use call_status::{Noted, Status, flushed, put_note};
-use command_line::{ArgumentsError, Request, Run, read_arguments};
+use command_line::{ArgumentsError, Request, Rounds, Run, read_arguments};
 use graph_plans::Plan;
 use journal_text::print_journal;
 use nested_runs::{Reason, reason_of};
-use outside_io::{List, NoMemory, Sink, SinkFault, Texts};
+use outside_io::{Bytes, List, NoMemory, Sink, SinkFault, Texts, add_numbered, put_piece};
 use run_frame::FrameRun;
 use span_profile::Watch;
 use std::alloc::Global;
-use std::sync::{Arc, Wait};
+use std::sync::Wait;
 use std::thread::Threads;
 use text_tasks::TextJob;
 
@@ -45,7 +47,7 @@ use text_tasks::TextJob;
 pub struct CallResult {
     /// Why it ended.
     pub status: Status,
-    /// The runs that were run to their end.
+    /// The runs that were run to their end, round after round.
     pub runs: List<FrameRun<TextJob>>,
     /// What was concluded, where nothing was to be run: the judge's verdict, the findings on a graph, or its new file.
     pub conclusion: Option<Conclusion>,
@@ -68,7 +70,8 @@ impl CallResult {
 
 /// Does what the command line `words` asks for: `run FILE` reads the graph file of this name and then, in order of
 /// first mention, the texts that it names, runs the graph to its end, by as many workers as it says, and writes the
-/// run's report to `out`, or with `--journal` its journal; `judge FILE JOURNAL` reads the journal file of that name
+/// run's report to `out`, or with `--journal` its journal; with `--times` or `--until` it does so round after round, each
+/// with what the last task of the round before ended with as its input; `judge FILE JOURNAL` reads the journal file of that name
 /// besides, and writes the judge's verdict; `check FILE` writes how the graph can go wrong; `upgrade FILE` writes the
 /// graph as a file of the newest version. The line of the status goes to `notes`, the diagnostics sink. Of several
 /// workers each has a watcher, and there are no more of them than watchers. `rt` makes the threads of several workers
@@ -84,7 +87,8 @@ pub fn flow_main<F: Texts, S: Sink, N: Sink, R: Threads + Wait + Sync>(
 ) -> CallResult
     requires nothing_held_on_out { (S.state out.old).held_back ≡ [] }
     requires nothing_held_on_notes { (N.state notes.old).held_back ≡ [] }
-    // The status has its cause; the kept run is one legal and complete run of the graph that FILE holds, the verdict
+    // The status has its cause; the kept runs are the rounds that are asked for of the graph that FILE holds, each legal and
+    // complete, or the first of them where memory ran out; the verdict
     // that on the journal that JOURNAL holds, the findings those on the graph that FILE holds, and the new file one for
     // that graph.
     ensures ends { CallEnds (F.held texts.old) (map string_bytes words.now) result.status
@@ -184,15 +188,15 @@ fn run_file<F: Texts, S: Sink, R: Threads + Wait + Sync>(
     watchers: &mut Vec<Box<dyn Watch + Send>>,
 ) -> Ended
     requires nothing_held { (S.state out.old).held_back ≡ [] }
-    ensures ends { RunEnds (F.held texts.old) asked.entry.file.now asked.entry.limit result.status
-        result.runs }
-    ensures reported { Reported S.state out.old out.new result.status asked.entry.journal
-        result.runs result.written }
+    ensures ends { RunEnds (F.held texts.old) asked.entry.options.file.now asked.entry.options.limit
+        (asked_rounds asked.entry.options.rounds) result.status result.runs }
+    ensures reported { Reported S.state out.old out.new result.status
+        (asked_rounds asked.entry.options.rounds) asked.entry.journal result.runs result.written }
     ensures no_conclusion { result.conclusion ≡ None }
     ensures read { HaveRead F.held F.failed texts.old texts.new result.status }
     ensures watchers { watchers.new ≡ watchers.old }
 {
-    match prepare(rt, alloc, texts, asked) {
+    match prepare(rt, alloc, texts, asked.options) {
         Ok(job) => run_and_report(rt, alloc, asked, job, out, watchers),
         Err(stop) => stopped(alloc, Status::of(stop)),
     }
@@ -210,8 +214,7 @@ pub(crate) fn stopped(alloc: Global, status: Status) -> Ended
     }
 }
 
-// Runs the job as it is asked for, and writes the report of its run, or its journal.
-#[tactic(auto, using(crate::proofs::Ending::kept_ends))]
+// Runs the rounds of the job that are asked for, and writes their reports, or their journals.
 fn run_and_report<S: Sink, R: Threads + Wait + Sync>(
     rt: &R,
     alloc: Global,
@@ -220,21 +223,37 @@ fn run_and_report<S: Sink, R: Threads + Wait + Sync>(
     out: &mut S,
     watchers: &mut Vec<Box<dyn Watch + Send>>,
 ) -> Ended
-    requires job { IsTextJob job }
+    requires graph { IsGraphJob job }
     requires nothing_held { (S.state out.old).held_back ≡ [] }
-    ensures ends { JobEnds job result.status result.runs }
-    ensures reported { Reported S.state out.old out.new result.status asked.entry.journal
-        result.runs result.written }
+    ensures ends { JobEnds job (asked_rounds asked.entry.options.rounds) result.status result.runs }
+    ensures reported { Reported S.state out.old out.new result.status
+        (asked_rounds asked.entry.options.rounds) asked.entry.journal result.runs result.written }
     ensures no_conclusion { result.conclusion ≡ None }
     ensures watchers { watchers.new ≡ watchers.old }
 {
-    let Ok(KeptRuns { runs, reason }) = kept_runs(rt, alloc, asked, job, watchers) else {
-        return stopped(alloc, Status::NoMemory);
+    let RoundsRun { runs, whole } = run_rounds(rt, alloc, asked.options, job, watchers);
+    let Ok(reason) = last_reason(alloc, runs.as_slice()) else {
+        let written = runs.is_empty();
+        return after_runs(runs, Status::NoMemory, written);
     };
-    match deliver_runs(alloc, out, runs.as_slice(), &reason, asked.journal) {
-        Ok(()) => after_runs(runs, Status::after(reason), true),
-        Err(SinkFault::Failed) => after_runs(runs, unwritten(reason), false),
-        Err(SinkFault::NoMemory) => after_runs(runs, Status::NoMemory, false),
+    let written = deliver_rounds(alloc, out, runs.as_slice(), asked);
+    let status = status_after(whole, reason, written);
+    after_runs(runs, status, written.is_ok())
+}
+
+// The status after rounds, by whether they were all run, why the last came to its end, and how writing ended.
+fn status_after(whole: bool, reason: Reason, written: Result<(), SinkFault>) -> Status
+    ensures after { IsAfterRun reason result }
+    ensures all { result ≢ Status.NoMemory → whole ≡ true }
+    ensures done { result ≡ Status.Done → IsOk written }
+    ensures write_fault { result ≡ Status.WriteFault → written ≡ Err SinkFault.Failed }
+    ensures no_memory { written ≡ Err SinkFault.NoMemory → result ≡ Status.NoMemory }
+{
+    match written {
+        _ if !whole => Status::NoMemory,
+        Ok(()) => Status::after(reason),
+        Err(SinkFault::Failed) => unwritten(reason),
+        Err(SinkFault::NoMemory) => Status::NoMemory,
     }
 }
 
@@ -263,30 +282,14 @@ fn unwritten(reason: Reason) -> Status
     }
 }
 
-// Runs that are kept, and why the last one came to its end.
-struct KeptRuns {
-    runs: List<FrameRun<TextJob>>,
-    reason: Reason,
-}
-
-// The run of the job by as many workers as are asked for, kept in a list.
-fn kept_runs<R: Threads + Wait + Sync>(
-    rt: &R,
-    alloc: Global,
-    asked: Run<'_>,
-    job: TextJob,
-    watchers: &mut Vec<Box<dyn Watch + Send>>,
-) -> Result<KeptRuns, NoMemory>
-    requires job { IsTextJob job }
-    ensures once { IfOk result (λ kept. KeptOnce job kept.runs kept.reason) }
-    ensures watchers { watchers.new ≡ watchers.old }
+// Why the last of these rounds came to its end.
+fn last_reason(alloc: Global, runs: &[FrameRun<TextJob>]) -> Result<Reason, NoMemory>
+    ensures { IfOk result (λ reason. reason ≡ last_reason runs.now) }
 {
-    let job = Arc::new(alloc, job)?;
-    let run = run_by(rt, alloc, asked, job, watchers)?;
-    let reason = reason_of(alloc, &run)?;
-    let mut runs = List::new(alloc);
-    runs.push(run)?;
-    Ok(KeptRuns { runs, reason })
+    match runs.last() {
+        Some(run) => reason_of(alloc, run),
+        None => Ok(Reason::Fine),
+    }
 }
 
 // The plan of the graph that was run.
@@ -299,60 +302,103 @@ fn plan_in(runs: &[FrameRun<TextJob>]) -> Option<&Plan>
     }
 }
 
-// Writes the reports of these runs, which came to their ends for this reason, or their journals, in order, and all that
-// is held back of them.
-fn deliver_runs<S: Sink>(
+// Writes the reports of these rounds, or their journals, in order, and all that is held back of them. Where there is none the
+// output is left alone.
+fn deliver_rounds<S: Sink>(
     alloc: Global,
     out: &mut S,
     runs: &[FrameRun<TextJob>],
-    reason: &Reason,
-    journal: bool,
+    asked: Run<'_>,
 ) -> Result<(), SinkFault>
     requires nothing_held { (S.state out.old).held_back ≡ [] }
     requires kept { All (IsKept text_job) runs.now }
-    requires reason { All (λ run. run_reason text_job run ≡ reason.now) runs.now }
-    ensures { Delivers (S.state out.old) (S.state out.new) (run_texts journal runs.now) result }
+    ensures delivers { Delivers (S.state out.old) (S.state out.new)
+        (rounds_text (asked_rounds asked.entry.options.rounds) asked.entry.journal runs.now) result }
+    ensures none { runs.now ≡ [] → (out.new ≡ out.old) × IsOk result }
 {
-    let written = put_runs(alloc, out, runs, reason, journal);
+    if runs.is_empty() {
+        return Ok(());
+    }
+    let written = put_rounds(alloc, out, runs, asked);
     flushed(out, written)
 }
 
-// Writes the reports of these runs, or their journals, in order.
+// Writes the reports of these rounds, or their journals, in order.
 #[tactic(auto, using(outside_io::proofs::Pieces::accepts_nothing))]
-fn put_runs<S: Sink>(
+fn put_rounds<S: Sink>(
     alloc: Global,
     out: &mut S,
     runs: &[FrameRun<TextJob>],
-    reason: &Reason,
-    journal: bool,
+    asked: Run<'_>,
 ) -> Result<(), SinkFault>
-    requires kept { All (IsKept text_job) runs.now }
-    requires reason { All (λ run. run_reason text_job run ≡ reason.now) runs.now }
-    ensures { Writes (S.state out.old) (S.state out.new) (run_texts journal runs.now) result }
+    requires { All (IsKept text_job) runs.now }
+    ensures { Writes (S.state out.old) (S.state out.new)
+        (rounds_text (asked_rounds asked.entry.options.rounds) asked.entry.journal runs.now) result }
 {
-    for run in runs {
-        if let Err(fault) = put_run(alloc, out, run, reason, journal) {
+    for place in 0..runs.len() {
+        let number = place as u64 + 1;
+        if let Err(fault) = put_round(alloc, out, number, &runs[place], asked) {
             return Err(fault);
         }
     }
     Ok(())
 }
 
+// Writes the report of a round, or its journal, behind its line, where it has one.
+#[tactic(auto, using(outside_io::proofs::Pieces::writes_both, outside_io::proofs::Pieces::writes_no_more))]
+fn put_round<S: Sink>(
+    alloc: Global,
+    out: &mut S,
+    number: u64,
+    run: &FrameRun<TextJob>,
+    asked: Run<'_>,
+) -> Result<(), SinkFault>
+    requires { IsKept text_job run.now }
+    ensures { Writes (S.state out.old) (S.state out.new)
+        (round_text (asked_rounds asked.entry.options.rounds) asked.entry.journal (number, run.now)) result }
+{
+    match asked.options.rounds {
+        Rounds::Once => put_run(alloc, out, run, asked.journal),
+        Rounds::Times(_) | Rounds::Until(_) => {
+            put_round_line(alloc, out, number)?;
+            put_run(alloc, out, run, asked.journal)
+        }
+    }
+}
+
+// Writes the line before a round.
+#[tactic(auto, using(outside_io::proofs::Pieces::writes_nothing))]
+fn put_round_line<S: Sink>(alloc: Global, out: &mut S, number: u64) -> Result<(), SinkFault>
+    ensures { Writes (S.state out.old) (S.state out.new) (round_line number) result }
+{
+    let line = line_of_round(alloc, number)?;
+    put_piece(out, line.as_slice())
+}
+
+// The line before a round of this number.
+fn line_of_round(alloc: Global, number: u64) -> Result<Bytes, NoMemory>
+    ensures { IfOk result (λ line. line ≡ round_line number) }
+{
+    let mut line = List::new(alloc);
+    add_numbered(&mut line, b"## round ", number)?;
+    line.push(b'\n')?;
+    Ok(line)
+}
+
 // Writes the report of a run, or its journal.
+#[tactic(auto, using(outside_io::proofs::Pieces::writes_nothing))]
 fn put_run<S: Sink>(
     alloc: Global,
     out: &mut S,
     run: &FrameRun<TextJob>,
-    reason: &Reason,
     journal: bool,
 ) -> Result<(), SinkFault>
-    requires kept { IsKept text_job run.now }
-    requires reason { run_reason text_job run.now ≡ reason.now }
+    requires { IsKept text_job run.now }
     ensures { Writes (S.state out.old) (S.state out.new) (run_text journal run.now) result }
 {
     if journal {
-        print_journal(alloc, run.journal.as_slice(), out)
-    } else {
-        put_report(alloc, out, run, reason)
+        return print_journal(alloc, run.journal.as_slice(), out);
     }
+    let reason = reason_of(alloc, run)?;
+    put_report(alloc, out, run, &reason)
 }

@@ -7,7 +7,7 @@ ghost use Rattle.flow_run.specs.Reads.{FailsBy};
 ghost use Rattle.flow_run.specs.Requests.{HasStart, IsAdded, IsHeld, IsRequestedJob, StopsAtBytes, StopsAtName, StopsAtPlan, StopsAtText, StopsBefore, TextsAre, text_limit};
 
 use call_status::{Stop, graph_refusal};
-use command_line::Run;
+use command_line::RunOptions;
 use graph_file::read_graph;
 use graph_plans::{Plan, no_source};
 use outside_io::{Bytes, Found, List, Texts, TextsFault};
@@ -28,7 +28,7 @@ pub fn prepare<F: Texts, R: Wait>(
     rt: &R,
     alloc: Global,
     texts: &mut F,
-    asked: Run<'_>,
+    asked: RunOptions<'_>,
 ) -> Result<TextJob, Stop>
     ensures job { IfOk result IsTextJob }
     ensures requested { IfOk result

@@ -4,6 +4,7 @@ ghost use Rattle.std.specs.Option.{option_copied, option_and_then};
 ghost use Rattle.run_frame.specs.LastEnds.{last_value};
 ghost use Rattle.run_frame.specs.NestedRule.{job_of, journal_of};
 ghost use Rattle.run_frame.specs.Runs.{values_of};
+ghost use Rattle.text_ops.specs.TextMeaning.{has_word};
 ghost use Rattle.text_tasks.specs.JobMeaning.{feedback_of, net_of};
 ghost use Rattle.text_tasks.specs.Sinks.{last_sink};
 
@@ -12,7 +13,7 @@ use crate::job::TextJob;
 use outside_io::NoMemory;
 use run_frame::{FrameRun, Job};
 use task_graph::Net;
-use text_ops::Text;
+use text_ops::{Text, has_word};
 
 /// The value of the last End of the last task, by its number, that has no out-edge; or the empty text, where no task is
 /// so or that one has no End. It walks over the tasks, the journal and the values.
@@ -22,6 +23,16 @@ pub fn feedback(run: &FrameRun<TextJob>) -> &[u8]
     match last_item(run) {
         Some(item) => item.text().as_slice(),
         None => &[],
+    }
+}
+
+/// Whether a word occurs in a line of that text.
+pub fn feedback_has(run: &FrameRun<TextJob>, word: &[u8]) -> bool
+    ensures { result ≡ has_word word.now (feedback_of run.now) }
+{
+    match last_item(run) {
+        Some(item) => has_word(word, item.text()),
+        None => has_word(word, &Text::new()),
     }
 }
 

@@ -20,7 +20,7 @@ mod table;
 mod task_error;
 mod work;
 
-pub use feedback_text::feedback;
+pub use feedback_text::{feedback, feedback_has};
 pub use graph_job::GraphJob;
 pub use item::Item;
 pub use job::{TextJob, first_job};
