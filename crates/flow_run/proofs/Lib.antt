@@ -5,6 +5,7 @@ pub mod ReportLemmas
 pub mod ValueSearch
 pub mod OutputExamples
 pub mod Ending
+mod RoundLemmas
 pub mod CheckLemmas
 pub mod Completing
 pub mod Plainly
