@@ -16,5 +16,6 @@ pub mod JudgeExamples
 pub mod CheckExamples
 pub mod UpgradeExamples
 pub mod EndExamples
+pub mod RoundExamples
 pub mod ReadExamples
 pub mod PlainExamples

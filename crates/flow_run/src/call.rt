@@ -237,12 +237,12 @@ fn run_and_report<S: Sink, R: Threads + Wait + Sync>(
         return after_runs(runs, Status::NoMemory, written);
     };
     let written = deliver_rounds(alloc, out, runs.as_slice(), asked);
-    let status = status_after(whole, reason, written);
+    let status = status_of_rounds(whole, reason, written);
     after_runs(runs, status, written.is_ok())
 }
 
 // The status after rounds, by whether they were all run, why the last came to its end, and how writing ended.
-fn status_after(whole: bool, reason: Reason, written: Result<(), SinkFault>) -> Status
+fn status_of_rounds(whole: bool, reason: Reason, written: Result<(), SinkFault>) -> Status
     ensures after { IsAfterRun reason result }
     ensures all { result ≢ Status.NoMemory → whole ≡ true }
     ensures done { result ≡ Status.Done → IsOk written }

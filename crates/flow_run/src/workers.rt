@@ -1,5 +1,5 @@
 // Rounds by so many workers.
-ghost use Rattle.std.specs.Prelude.{◌≡◌, ◌↔◌, [], IsTrue};
+ghost use Rattle.std.specs.Prelude.{◌≡◌, [], false, IsTrue};
 ghost use Rattle.std.specs.Arc.{arc_value};
 ghost use Rattle.command_line.specs.Rounds.{asked_rounds};
 ghost use Rattle.nested_runs.specs.Rounds.{AreAllRounds, AreFirstRounds};
@@ -114,6 +114,7 @@ fn rounds_by<R: Threads + Wait + Sync>(
 }
 
 // The last round has handed on a text with this word in one of its lines.
+#[derive(Drop)]
 struct HandsOn<'w> {
     word: &'w [u8],
 }
