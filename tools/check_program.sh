@@ -60,7 +60,7 @@ upgraded_prints_the_same() {
     grep -q '"version":2}$' "$seen/upgraded.json" || fault "the upgrade of $folder isn't of version 2"
     call upgrade "$seen/upgraded.json"
     compare "the second upgrade of $folder" 0 "$seen/upgraded.json" /dev/null
-    (cd "$folder" && call run "$seen/upgraded.json")
+    (cd "$folder" && call run "$seen/upgraded.json" "${options[@]}")
     compare "the upgraded $folder" "$code" "$seen/wanted_out" "$seen/wanted_notes"
     if [[ -f $folder/findings.txt ]]; then
         call check "$seen/upgraded.json"
@@ -68,16 +68,19 @@ upgraded_prints_the_same() {
     fi
 }
 
-# Each example, called from its folder. A file that isn't there stands for no bytes, or for code 0.
+# Each example, called from its folder, with the options that options.txt has, a word a line. A file that isn't there
+# stands for no bytes, for code 0 or for no options.
 for folder in examples/*/; do
     copy_or_empty "$folder/expected.txt" "$seen/wanted_out"
     copy_or_empty "$folder/expected.err" "$seen/wanted_notes"
     code=0
     if [[ -f $folder/expected.code ]]; then code=$(cat "$folder/expected.code"); fi
-    (cd "$folder" && call run graph.json)
+    options=()
+    if [[ -f $folder/options.txt ]]; then mapfile -t options <"$folder/options.txt"; fi
+    (cd "$folder" && call run graph.json "${options[@]}")
     compare "$folder" "$code" "$seen/wanted_out" "$seen/wanted_notes"
     for workers in 1 4 16; do
-        (cd "$folder" && call run graph.json --workers "$workers")
+        (cd "$folder" && call run graph.json --workers "$workers" "${options[@]}")
         compare "$folder with $workers workers" "$code" "$seen/wanted_out" "$seen/wanted_notes"
     done
     if [[ -f $folder/findings.txt ]]; then
@@ -113,6 +116,8 @@ refused 2 'flow: bad words' run "$count" --workers 17
 refused 2 'flow: bad words' run "$count" --workers +4
 refused 2 'flow: bad words' run "$count" --workers 00000004
 refused 2 'flow: bad words' run "$count" --workers 4 --workers 4
+refused 2 'flow: bad words' run "$count" --times 1001
+refused 2 'flow: bad words' run "$count" --times 2 --until x
 refused 2 'flow: bad words' check "$count" --workers 4
 refused 2 'flow: bad words' run "$count" --help
 refused 2 'flow: bad words' check
@@ -125,6 +130,18 @@ refused 5 'flow: no text nowhere.json' run nowhere.json
 refused 5 'flow: no text t.txt' run "$count"
 refused 6 'flow: read fault on examples' run examples
 refused 3 'flow: bad graph: not JSON' run examples/count-lines/t.txt
+
+# A number of rounds, also none, and rounds until a word occurs.
+cd examples/count-lines
+printf '## round %d\n== b\n2\n' 1 2 >"$seen/wanted_out"
+call run graph.json --times 2
+compare 'two rounds' 0 "$seen/wanted_out" /dev/null
+call run graph.json --times 0
+compare 'no round' 0 /dev/null /dev/null
+printf '## round %d\n== b\n2\n' {1..1000} >"$seen/wanted_out"
+call run graph.json --until 3
+compare 'as many rounds as there may be' 0 "$seen/wanted_out" /dev/null
+cd "$top"
 
 # The journal of a run in place of its report, and what the judge says of it and of journals that are made from it. The
 # judge reads no text that the graph names.
