@@ -6,6 +6,7 @@ pub mod ValueSearch
 pub mod OutputExamples
 pub mod Ending
 mod RoundLemmas
+mod RoundReports
 pub mod CheckLemmas
 pub mod Completing
 pub mod Plainly

@@ -25,7 +25,7 @@ use Rattle.text_tasks.specs.declared.job.TextJob.{TextJob}
 use Rattle.text_tasks.specs.declared.job.TextJob.TheVariants.{Graph, Parts}
 use Rattle.text_tasks.specs.JobMeaning.{IsGraphJob, feedback_of, limit_of, text_job}
 use Rattle.flow_run.specs.Answers.{IsAfterRun, JobEnds, RanRounds}
-use Rattle.flow_run.specs.RoundTexts.{TextRun, last_has, last_reason, round_line, round_rule, round_text, rounds_end, rounds_text, run_text}
+use Rattle.flow_run.specs.RoundTexts.{TextRun, last_has, last_reason, line_before, round_line, round_rule, round_text, rounds_end, rounds_text, run_text}
 
 -- ---- how many rounds there may be, and what ends them before
 
@@ -66,8 +66,11 @@ module _ (run other : TextRun) where
   report_or_journal = (refl, refl)
 
   -- only where a number or a word is asked for, it has its line
-  line_before_a_round : (word : List ℕ) → (round_text once false (3, run) ≡ report_of run) × (round_text (times 1) false (3, run) ≡ round_line 3 ++ report_of run) × (round_text (until word) true (3, run) ≡ round_line 3 ++ journal_text Two (journal_of run))
-  line_before_a_round word = (refl, refl, refl)
+  lines_of_rounds : (word : List ℕ) → (line_before once 3 ≡ []) × (line_before (times 1) 3 ≡ round_line 3) × (line_before (until word) 3 ≡ round_line 3)
+  lines_of_rounds word = (refl, refl, refl)
+
+  line_before_a_round : (round_text once false (3, run) ≡ report_of run) × (round_text (times 1) true (3, run) ≡ round_line 3 ++ journal_text Two (journal_of run))
+  line_before_a_round = (refl, refl)
 
   nothing_of_no_round : (rounds : AskedRounds) → rounds_text rounds false [] ≡ []
   nothing_of_no_round rounds = refl

@@ -44,15 +44,19 @@ abbrev pub run_text : Bool → TextRun → List ℕ
 run_text true kept = journal_text Two (journal_of kept)
 run_text false kept = report_of kept
 
--- the line before a round of this number
+-- the line of a round of this number
 abbrev pub round_line : ℕ → List ℕ
 round_line n = codes "## round " ++ decimal n ++ codes "\n"
 
--- what is written of a round: where a number of them or a word is asked for, it has its line before it
+-- what is written before it, where a number of rounds or a word is asked for
+abbrev pub line_before : AskedRounds → ℕ → List ℕ
+line_before once n = []
+line_before (times k) n = round_line n
+line_before (until word) n = round_line n
+
+-- what is written of a round
 abbrev pub round_text : AskedRounds → Bool → ℕ × TextRun → List ℕ
-round_text once journal (n, run) = run_text journal run
-round_text (times k) journal (n, run) = round_line n ++ run_text journal run
-round_text (until word) journal (n, run) = round_line n ++ run_text journal run
+round_text asked journal (n, run) = line_before asked n ++ run_text journal run
 
 -- what is written of these rounds
 abbrev pub rounds_text : AskedRounds → Bool → List TextRun → List ℕ

@@ -15,7 +15,7 @@ ghost use Rattle.nested_runs.specs.Reasons.{run_reason};
 ghost use Rattle.run_frame.specs.Legal.{IsKept};
 ghost use Rattle.text_tasks.specs.JobMeaning.{text_job, IsGraphJob};
 ghost use Rattle.flow_run.specs.Answers.{CallEnds, HasWritten, IsAfterRun, JobEnds, Reported, RunEnds, output_of, plan_in};
-ghost use Rattle.flow_run.specs.RoundTexts.{last_reason, round_line, round_text, rounds_text, run_text};
+ghost use Rattle.flow_run.specs.RoundTexts.{last_reason, line_before, round_line, round_text, rounds_text, run_text};
 ghost use Rattle.flow_run.specs.Completion.{IsAtHand, NothingFails};
 ghost use Rattle.flow_run.specs.Plainly.{AsksPlainly, IsReportedPlainly, EndsPlainly};
 ghost use Rattle.flow_run.specs.Reads.{HaveRead};
@@ -357,25 +357,31 @@ fn put_round<S: Sink>(
     ensures { Writes (S.state out.old) (S.state out.new)
         (round_text (asked_rounds asked.entry.options.rounds) asked.entry.journal (number, run.now)) result }
 {
-    match asked.options.rounds {
-        Rounds::Once => put_run(alloc, out, run, asked.journal),
+    put_line_before(alloc, out, number, asked.options.rounds)?;
+    put_run(alloc, out, run, asked.journal)
+}
+
+// Writes the line of a round, where a number of rounds or a word is asked for.
+#[tactic(auto, using(outside_io::proofs::Pieces::accepts_nothing, outside_io::proofs::Pieces::writes_nothing))]
+fn put_line_before<S: Sink>(
+    alloc: Global,
+    out: &mut S,
+    number: u64,
+    rounds: Rounds<'_>,
+) -> Result<(), SinkFault>
+    ensures { Writes (S.state out.old) (S.state out.new)
+        (line_before (asked_rounds rounds.entry) number) result }
+{
+    match rounds {
+        Rounds::Once => Ok(()),
         Rounds::Times(_) | Rounds::Until(_) => {
-            put_round_line(alloc, out, number)?;
-            put_run(alloc, out, run, asked.journal)
+            let line = line_of_round(alloc, number)?;
+            put_piece(out, line.as_slice())
         }
     }
 }
 
-// Writes the line before a round.
-#[tactic(auto, using(outside_io::proofs::Pieces::writes_nothing))]
-fn put_round_line<S: Sink>(alloc: Global, out: &mut S, number: u64) -> Result<(), SinkFault>
-    ensures { Writes (S.state out.old) (S.state out.new) (round_line number) result }
-{
-    let line = line_of_round(alloc, number)?;
-    put_piece(out, line.as_slice())
-}
-
-// The line before a round of this number.
+// The line of a round of this number.
 fn line_of_round(alloc: Global, number: u64) -> Result<Bytes, NoMemory>
     ensures { IfOk result (λ line. line ≡ round_line number) }
 {

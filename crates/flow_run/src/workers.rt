@@ -31,6 +31,7 @@ pub(crate) struct RoundsRun {
 /// Runs the rounds of a job that are asked for, by as many workers as are asked for, or by as many as there are watchers,
 /// where these are fewer. A single worker is the caller's thread, which needs no lock; several are a crew, whose seats
 /// are entered by threads. Each seat holds a watcher, the first one the first, and in the end they are where they were.
+#[tactic(auto, using(crate::proofs::RoundLemmas::no_round))]
 pub(crate) fn run_rounds<R: Threads + Wait + Sync>(
     rt: &R,
     alloc: Global,

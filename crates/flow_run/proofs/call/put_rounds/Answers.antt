@@ -1,6 +1,6 @@
 use Rattle.std.proofs.Common.{rules}
 use Rattle.command_line.specs.Rounds.{asked_rounds}
-use Rattle.flow_run.proofs.RoundLemmas.{round_written, round_refused, rounds_written}
+use Rattle.flow_run.proofs.RoundReports.{round_written, round_refused, rounds_written}
 use Rattle.flow_run.proofs.call.put_rounds.Goals as goal
 
 pub loop-place-preserved : goal.loop-place-preserved
