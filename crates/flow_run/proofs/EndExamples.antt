@@ -23,11 +23,8 @@ use Rattle.journal_text.specs.JournalText.{IsJournalText}
 use Rattle.legal_run.specs.declared.verdict.Break.{Break}
 use Rattle.legal_run.specs.declared.verdict.Verdict.TheVariants.{Complete as Finished, Breaks}
 use Rattle.legal_run.specs.Verdict.{IsVerdict}
-use Rattle.run_frame.specs.Legal.{IsKept}
 use Rattle.run_frame.specs.NestedRule.{job_of}
-use Rattle.text_tasks.specs.declared.job.TextJob.{TextJob}
-use Rattle.text_tasks.specs.JobMeaning.{job_plan, limit_of, text_job}
-use Rattle.nested_runs.specs.Reasons.{run_reason}
+use Rattle.text_tasks.specs.JobMeaning.{job_plan}
 use Rattle.nested_runs.specs.declared.reasons.Reason.{Reason}
 use Rattle.nested_runs.specs.declared.reasons.Reason.TheVariants as reason
 use Rattle.call_status.specs.declared.status.Status.{Status}
@@ -39,7 +36,7 @@ use Rattle.command_line.specs.Requests.{asked_by, once, run as run_of, judge as 
 use Rattle.flow_run.specs.declared.conclusion.Conclusion.{Conclusion}
 use Rattle.flow_run.specs.declared.conclusion.Conclusion.TheVariants as conclusion
 use Rattle.flow_run.specs.declared.conclusion.GraphFindings.{GraphFindings}
-use Rattle.flow_run.specs.Requests.{SourceTexts, StopsAtName, IsAdded, StopsAtText, HasStart, StopsAtBytes, StopsAtGraph, StopsBefore, HasPlan, IsRequestedJob, CanBeRun, text_limit}
+use Rattle.flow_run.specs.Requests.{SourceTexts, StopsAtName, IsAdded, StopsAtText, HasStart, StopsAtBytes, StopsAtGraph, StopsBefore, HasPlan, CanBeRun, text_limit}
 use Rattle.flow_run.specs.Answers.{TextRun, IsAfterRun, RunEnds, CallEnds, Reported, plan_in}
 use Rattle.flow_run.specs.RoundTexts.{last_reason, rounds_text}
 use Rattle.flow_run.specs.Judgements.{StopsAtJournal, StopsAtJournalText, StopsBeforeVerdict, JudgeEnds, CanBeJudged}

@@ -17,10 +17,9 @@ use Rattle.legal_run.specs.declared.verdict.Verdict.{Verdict}
 use Rattle.legal_run.specs.declared.verdict.Verdict.TheVariants.{Complete as Finished, Legal, Breaks}
 use Rattle.legal_run.specs.Verdict.{IsVerdict}
 use Rattle.journal_text.specs.declared.version.Version.TheVariants.{Two}
-use Rattle.journal_text.specs.JournalText.{IsJournalText, journal_text}
+use Rattle.journal_text.specs.JournalText.{IsJournalText}
 use Rattle.journal_text.specs.inside.Reading.{version_at}
 use Rattle.journal_text.proofs.TextLemmas.{no_first_line, one_journal}
-use Rattle.run_frame.specs.NestedRule.{journal_of}
 use Rattle.command_line.specs.Requests.{asked_by, once, run as run_of, judge as judge_of}
 use Rattle.call_status.specs.declared.status.Status.{Status}
 use Rattle.call_status.specs.declared.status.Status.TheVariants.{Done, WriteFault, NoText, NotLegal, NoMemory}
@@ -30,7 +29,6 @@ use Rattle.flow_run.specs.Requests.{SourceTexts, HasPlan, HasStart}
 use Rattle.call_status.specs.Statuses.{status_of}
 use Rattle.call_status.specs.Stopping.{StoppedBefore}
 use Rattle.flow_run.specs.declared.conclusion.Conclusion.TheVariants as conclusion
-use Rattle.run_laws.specs.Output.{report_of}
 use Rattle.flow_run.specs.Judgements.{HasJournal, StopsAtJournalBytes, StopsAtJournal, StopsBeforeVerdict, IsJudged, IsAfterVerdict, EndsJudged, JudgeEnds, CanBeJudged, break_text, verdict_line, journal_limit}
 use Rattle.flow_run.specs.Answers.{TextRun, rounds_asked, wants_journal, conclusion_text, output_of}
 use Rattle.flow_run.specs.RoundTexts.{rounds_text}

@@ -1,17 +1,16 @@
 -- Which rounds a call runs and what is written of them, computed.
 use Rattle.std.specs.Fmt.{digits}
-use Rattle.std.proofs.Common.{◌≡◌, ◌≢◌, ◌<◌, ℕ, zero, suc, List, [], ◌∷◌, ◌++◌, length, take, false, true, Bool, All, inl, inr, refl, sym, ap, ◌∙◌, subst, arith, codes}
+use Rattle.std.proofs.Common.{◌≡◌, ◌≢◌, ◌<◌, ℕ, zero, suc, List, [], ◌∷◌, ◌++◌, take, false, true, inl, inr, refl, sym, ap, ◌∙◌, subst, arith, codes}
 use Rattle.std.specs.Prelude.{IfSome, slice_get}
 use Rattle.std.proofs.lemmas.Bool.{false≢true}
 use Rattle.std.proofs.lemmas.List.Elements.{All-nil, All-cons, All-head}
 use Rattle.call_status.specs.Statuses.{status_after}
-use Rattle.call_status.specs.declared.status.Status.{Status}
 use Rattle.call_status.specs.declared.status.Status.TheVariants.{Done, NoMemory, NoText, Stuck, WriteFault}
 use Rattle.command_line.specs.Requests.{AskedRounds, once, times, until, most_rounds}
 use Rattle.journal_text.specs.declared.version.Version.TheVariants.{Two}
 use Rattle.journal_text.specs.JournalText.{journal_text}
 use Rattle.nested_runs.specs.Reasons.{run_reason}
-use Rattle.nested_runs.specs.Rounds.{AreAllRounds, AreFirstRounds, AreRounds, IsNextRound, RoundRule, times as so_many}
+use Rattle.nested_runs.specs.Rounds.{AreFirstRounds, AreRounds, IsNextRound, times as so_many}
 use Rattle.nested_runs.specs.declared.reasons.Reason.TheVariants as reason
 use Rattle.run_frame.specs.Legal.{IsKept}
 use Rattle.run_frame.specs.NestedRule.{job_of, journal_of}
@@ -20,11 +19,11 @@ use Rattle.run_laws.specs.Output.{report_of}
 use Rattle.text_ops.specs.TextMeaning.{has_word}
 use Rattle.text_tasks.specs.GraphWork.{GraphWork}
 use Rattle.text_tasks.specs.PartsWork.{PartsWork}
-use Rattle.text_tasks.specs.declared.item.Item.{Item}
 use Rattle.text_tasks.specs.declared.job.TextJob.{TextJob}
 use Rattle.text_tasks.specs.declared.job.TextJob.TheVariants.{Graph, Parts}
 use Rattle.text_tasks.specs.JobMeaning.{IsGraphJob, feedback_of, limit_of, text_job}
-use Rattle.flow_run.specs.Answers.{IsAfterRun, JobEnds, RanRounds}
+use Rattle.flow_run.specs.Requests.{SourceTexts, IsRequestedJob}
+use Rattle.flow_run.specs.Answers.{IsAfterRun, JobEnds, RanRounds, RunEnds}
 use Rattle.flow_run.specs.RoundTexts.{TextRun, last_has, last_reason, line_before, round_line, round_rule, round_text, rounds_end, rounds_text, run_text}
 
 -- ---- how many rounds there may be, and what ends them before
@@ -138,6 +137,15 @@ module _ (job : TextJob) where
       by_case (inr (inl (fine, told))) = absurd (cc)
       by_case (inr (inr told)) = absurd (cc)
 
+-- the job is the one that the file asks for
+run_of_another_limit : (held : SourceTexts) (file : List ℕ) (run : TextRun) → limit_of (job_of run) ≡ 76 → ¬ RunEnds held file 77 once Done (run ∷ [])
+run_of_another_limit held file run limit (inl stopped) = let none : run ∷ [] ≡ [] = stopped.none in absurd (cc)
+run_of_another_limit held file run limit (inr ran) = absurd (omega (arith, limit, ap limit_of ran.first.rounds.first, starts ran.job ran.is))
+  where
+    starts : (job : TextJob) → IsRequestedJob held file 77 job → limit_of job ≡ 77
+    starts (Graph work) is = is.starts
+    starts (Parts work) is = absurd is
+
 -- ---- a first round
 
 module _ (run : TextRun) (kept : IsKept text_job run) where
@@ -159,10 +167,13 @@ module _ (run : TextRun) (kept : IsKept text_job run) where
   first_of_two same = absurd (omega (arith, same))
 
   module _ (fine : run_reason text_job run ≡ reason.Fine) where
-    ran_once : JobEnds (job_of run) once Done (run ∷ [])
+    ran_once : RanRounds (λ job. job ≡ job_of run) once Done (run ∷ [])
     ran_once =
         let first = is_first_round once (λ same. absurd (omega (arith, same))) refl in
         record { job = job_of run; is = refl; first = first; all = λ memory. record { first = first; over = inl refl }; after = inl (ap status_after (sym fine)) }
+
+    ran_as_the_file_asks : (held : SourceTexts) (file : List ℕ) → IsRequestedJob held file 77 (job_of run) → RunEnds held file 77 once Done (run ∷ [])
+    ran_as_the_file_asks held file asked = inr (record { job = job_of run; is = asked; first = ran_once.first; all = ran_once.all; after = ran_once.after })
 
     ran_until_its_word : (word : List ℕ) → has_word word (feedback_of run) ≡ true → JobEnds (job_of run) (until word) WriteFault (run ∷ [])
     ran_until_its_word word has =

@@ -10,17 +10,12 @@ use Rattle.graph_file.specs.declared.refusals.GraphError.{GraphError}
 use Rattle.graph_file.specs.declared.refusals.GraphError.TheVariants.{NotJson}
 use Rattle.graph_file.specs.PlanText.{PlanText, IsRefused}
 use Rattle.text_tasks.specs.GraphWork.{GraphWork, first_work}
-use Rattle.text_tasks.specs.declared.job.TextJob.{TextJob}
-use Rattle.text_tasks.specs.declared.job.TextJob.TheVariants.{Graph, Parts}
-use Rattle.text_tasks.specs.JobMeaning.{job_plan, limit_of, text_job}
-use Rattle.run_frame.specs.Legal.{IsKept}
+use Rattle.text_tasks.specs.JobMeaning.{job_plan}
 use Rattle.run_frame.specs.NestedRule.{job_of}
-use Rattle.nested_runs.specs.Reasons.{run_reason}
-use Rattle.nested_runs.specs.declared.reasons.Reason.TheVariants as reason
 use Rattle.text_ops.specs.Lines.{normal}
 use Rattle.call_status.specs.declared.status.Status.TheVariants.{Done, WriteFault}
 use Rattle.call_status.specs.declared.stop.Stop.TheVariants as stop
-use Rattle.flow_run.specs.Requests.{SourceTexts, StopsAtName, IsTextOf, TextsAre, StopsAtText, HasStart, HasPlan, StopsBefore, IsRequested, IsRequestedJob, CanBeRun, text_limit}
+use Rattle.flow_run.specs.Requests.{SourceTexts, StopsAtName, IsTextOf, TextsAre, StopsAtText, HasStart, HasPlan, StopsBefore, IsRequested, CanBeRun, text_limit}
 use Rattle.flow_run.specs.Answers.{TextRun, plan_in, Reported}
 use Rattle.flow_run.specs.RoundTexts.{rounds_text}
 use Rattle.command_line.specs.Requests.{once}
