@@ -1,1 +1,3 @@
-pub mod RoundLemmas
+mod RoundLemmas
+mod SeatLemmas
+mod WorkedTeams
