@@ -1,5 +1,6 @@
 -- Rounds of two runs, of which something was cut short in the second; on both sides of each line of each definition.
-use Rattle.std.proofs.Common.{◌≡◌, ℕ, zero, suc, ◌<◌, Bool, true, false, List, [], ◌∷◌, length, Some, None, All, inl, inr, refl, arith}
+use Rattle.std.proofs.Common.{◌≡◌, ℕ, zero, suc, ◌<◌, Bool, true, false, List, [], ◌∷◌, length, take, Some, None, inl, inr, refl, arith}
+use Rattle.std.specs.Prelude.{IfSome, slice_get}
 use Rattle.std.proofs.lemmas.List.Elements.{All-cons, All-nil}
 use Rattle.run_frame.specs.declared.run.FrameRun.{FrameRun}
 use Rattle.run_frame.specs.Meaning.{Meaning}
@@ -9,16 +10,16 @@ use Rattle.run_frame.specs.Runs.{IsFine}
 use Rattle.nested_runs.specs.Rounds.{AreAllRounds, AreFirstRounds, AreRounds, IsNextRound, LastWasCut, RoundRule, last_run, times}
 
 -- a rule that ends the rounds after one
-abbrev pub after_one : {J V : Type 0} → RoundRule J V
+abbrev is_one : {X : Type 0} → List X → Bool
+is_one [] = false
+is_one (x ∷ []) = true
+is_one (x ∷ y ∷ xs) = false
+
+abbrev after_one : {J V : Type 0} → RoundRule J V
 after_one = record { most = 3; ends = is_one }
-  where
-    abbrev is_one : {X : Type 0} → List X → Bool
-    is_one [] = false
-    is_one (x ∷ []) = true
-    is_one (x ∷ y ∷ xs) = false
 
 -- a rule that ends them before the first
-abbrev pub at_once : {J V : Type 0} → RoundRule J V
+abbrev at_once : {J V : Type 0} → RoundRule J V
 at_once = record { most = 3; ends = λ runs. true }
 
 -- The job of the cut run follows the fine one. No job follows the fine run but that one, and the third run isn't kept.
@@ -40,7 +41,7 @@ module _ {J V : Type 0} (meaning : Meaning J V) (fine cut other : FrameRun J V) 
   one_round : AreRounds meaning (job_of fine) (fine ∷ [])
   one_round = record { kept = All-cons (IsKept meaning) fine [] kept_fine (All-nil (IsKept meaning)); first = refl; next = next }
     where
-      next : (n : ℕ) → _
+      next : (n : ℕ) → IfSome (slice_get (fine ∷ []) n) (λ last. IfSome (slice_get (fine ∷ []) (suc n)) (IsNextRound meaning last))
       next zero = tt
       next (suc n) = tt
 
@@ -51,7 +52,7 @@ module _ {J V : Type 0} (meaning : Meaning J V) (fine cut other : FrameRun J V) 
     next = next;
   }
     where
-      next : (n : ℕ) → _
+      next : (n : ℕ) → IfSome (slice_get (fine ∷ cut ∷ []) n) (λ last. IfSome (slice_get (fine ∷ cut ∷ []) (suc n)) (IsNextRound meaning last))
       next zero = cut_after_fine
       next (suc zero) = tt
       next (suc (suc n)) = tt
@@ -85,15 +86,15 @@ module _ {J V : Type 0} (meaning : Meaning J V) (fine cut other : FrameRun J V) 
   one_that_ends_them : AreFirstRounds meaning (job_of fine) after_one (fine ∷ [])
   one_that_ends_them = record { rounds = one_round; few = omega arith; went_on = went_on }
     where
-      went_on : (n : ℕ) → n < 1 → _
+      went_on : (n : ℕ) → n < 1 → is_one (take n (fine ∷ [])) ≡ false
       went_on zero below = refl
       went_on (suc n) below = absurd (omega (arith, below))
 
   one_more_than_ends_them : (job : J) → ¬ AreFirstRounds meaning job after_one (fine ∷ cut ∷ [])
-  one_more_than_ends_them job are = absurd (let e : true ≡ false = are.went_on 1 (omega arith) in cc)
+  one_more_than_ends_them job are = let e : true ≡ false = are.went_on 1 (omega arith) in absurd (cc)
 
   one_where_none_may_be : (job : J) → ¬ AreFirstRounds meaning job at_once (fine ∷ [])
-  one_where_none_may_be job are = absurd (let e : true ≡ false = are.went_on 0 (omega arith) in cc)
+  one_where_none_may_be job are = let e : true ≡ false = are.went_on 0 (omega arith) in absurd (cc)
 
   -- the last run
   last_of_two : last_run (fine ∷ cut ∷ []) ≡ Some cut
@@ -129,4 +130,4 @@ module _ {J V : Type 0} (meaning : Meaning J V) (fine cut other : FrameRun J V) 
 
   one_of_three : ¬ AreAllRounds meaning (job_of fine) (times 3) (fine ∷ [])
   one_of_three are =
-      elim are.over [ inl count ↦ absurd (omega (arith, count)) | inr early ↦ elim early [ inl ended ↦ absurd (let e : false ≡ true = ended in cc) | inr was ↦ was is_fine ] ]
+      elim are.over [ inl count ↦ absurd (omega (arith, count)) | inr early ↦ elim early [ inl ended ↦ (let e : false ≡ true = ended in absurd (cc)) | inr was ↦ was is_fine ] ]

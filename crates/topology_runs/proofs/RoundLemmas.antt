@@ -17,7 +17,7 @@ use Rattle.nested_runs.specs.Rounds.{AreFirstRounds, AreRounds, IsNextRound, Rou
 use Rattle.topology_runs.specs.inside.Nexts.{FollowsLast, IsLastFine}
 
 module _ {J V : Type 0} (meaning : Meaning J V) (job : J) where
-  Runs : Type 0
+  abbrev Runs : Type 0
   Runs = List (FrameRun J V)
 
   -- no rounds were run yet
@@ -29,7 +29,7 @@ module _ {J V : Type 0} (meaning : Meaning J V) (job : J) where
       subst (AreFirstRounds meaning job rule) (sym none) (record { rounds = no_rounds; few = omega arith; went_on = λ n below. absurd (omega (arith, below)) })
 
   -- what holds of two options holds of the same
-  both : (o p : Option (FrameRun J V)) → Type 0
+  abbrev both : (o p : Option (FrameRun J V)) → Type 0
   both o p = IfSome o (λ last. IfSome p (IsNextRound meaning last))
 
   nothing_after : (o : Option (FrameRun J V)) → both o None

@@ -13,7 +13,7 @@ none_passes test [] none = All-nil (λ x. test x ≡ false)
 none_passes test (x ∷ xs) none = by_test (test x) refl none
   where
     by_test : (b : Bool) → test x ≡ b → (b || list_any test xs) ≡ false → All (λ y. test y ≡ false) (x ∷ xs)
-    by_test true is none = absurd (cc)
+    by_test true is none = let e : true ≡ false = none in absurd (cc)
     by_test false is none = All-cons (λ y. test y ≡ false) x xs is (none_passes test xs none)
 
 -- what holds of a value holds of it with an error in place of none
@@ -28,7 +28,10 @@ on_ok_or P (Some x) e r is holds = subst (λ q. OnOk q P) (sym is) (holds refl)
 -- seats that are at no run, and of which none was refused, may begin
 pub may_begin : {J V X : Type 0} (seats seen : List (WorkerSeat J X V)) → seen ≡ seats → list_any (λ (s : WorkerSeat J X V). (state_of s).refused) seen ≡ false
     → All (λ (s : WorkerSeat J X V). (state_of s).job ≡ None) seats → All MayBegin seats
-may_begin {J} {V} {X} seats seen same none free k d lt =
-    let served : All (λ (s : WorkerSeat J X V). (state_of s).refused ≡ false) seats =
-    none_passes (λ (s : WorkerSeat J X V). (state_of s).refused) seats (ap (list_any (λ (s : WorkerSeat J X V). (state_of s).refused)) (sym same) ∙ none) in
-    record { free = free k d lt; served = served k d lt }
+may_begin {J} {V} {X} seats seen same none free k d lt = record { free = free k d lt; served = served k d lt }
+  where
+    is_refused : WorkerSeat J X V → Bool
+    is_refused seat = (state_of seat).refused
+
+    served : All (λ (s : WorkerSeat J X V). is_refused s ≡ false) seats
+    served = none_passes is_refused seats (ap (list_any is_refused) (sym same) ∙ none)
