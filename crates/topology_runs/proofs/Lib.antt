@@ -1,3 +1,2 @@
 mod RoundLemmas
-mod SeatLemmas
 mod WorkedTeams

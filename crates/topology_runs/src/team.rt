@@ -1,5 +1,6 @@
 // Teams of workers.
-ghost use Rattle.std.specs.Prelude.{◌≡◌, ◌≤◌, [], length, list_any, map, vec_capacity, All, IfOk, IfErr, OnOk};
+ghost use Rattle.std.specs.Prelude.{◌≡◌, ◌≤◌, [], length, map, vec_capacity, All, IfOk, IfErr, OnOk};
+ghost use Rattle.std.specs.List.{list_any};
 ghost use Rattle.std.specs.Arc.{arc_value};
 ghost use Rattle.ready_deques.specs.Limits.{max_workers};
 ghost use Rattle.worker_seat.specs.Crews.{AreSeatsOf, IsKeptOf, MayBegin, state_of, watcher_of};
