@@ -1,5 +1,5 @@
 -- Rounds, and one more.
-use Rattle.std.proofs.Common.{◌≡◌, ℕ, zero, suc, ◌+◌, ◌-◌, ◌<◌, ◌≤◌, ◌⊎◌, Bool, true, false, List, [], ◌∷◌, ◌++◌, length, take, Option, Some, None, All, inl, inr, sym, refl, ap, ◌∙◌, subst, arith, length-append}
+use Rattle.std.proofs.Common.{◌≡◌, ℕ, suc, ◌+◌, ◌-◌, ◌<◌, ◌⊎◌, false, List, [], ◌∷◌, ◌++◌, length, take, Option, Some, None, All, inl, inr, sym, refl, ap, ◌∙◌, subst, arith, length-append}
 use Rattle.std.specs.Prelude.{slice_get, IfSome}
 use Rattle.std.proofs.lemmas.Bool.{cases_order}
 use Rattle.std.proofs.lemmas.List.{take-append-le}
@@ -12,22 +12,24 @@ use Rattle.run_frame.specs.Meaning.{Meaning}
 use Rattle.run_frame.specs.Legal.{IsKept}
 use Rattle.run_frame.specs.NestedRule.{job_of, journal_of}
 use Rattle.run_frame.specs.Runs.{IsFine}
+use Rattle.worker_seat.specs.Crews.{IsKeptOf}
 use Rattle.nested_runs.specs.Rounds.{AreFirstRounds, AreRounds, IsNextRound, RoundRule, last_run}
 use Rattle.topology_runs.specs.inside.Nexts.{FollowsLast, IsLastFine}
 
 module _ {J V : Type 0} (meaning : Meaning J V) (job : J) where
-  Runs : Type 0
+  abbrev Runs : Type 0
   Runs = List (FrameRun J V)
 
   -- no rounds were run yet
   no_rounds : AreRounds meaning job []
   no_rounds = record { kept = All-nil _; first = tt; next = λ n. tt }
 
-  pub no_first_rounds : (rule : RoundRule J V) → AreFirstRounds meaning job rule []
-  no_first_rounds rule = record { rounds = no_rounds; few = omega arith; went_on = λ n below. absurd (omega (arith, below)) }
+  pub no_first_rounds : (rule : RoundRule J V) (runs : Runs) → runs ≡ [] → AreFirstRounds meaning job rule runs
+  no_first_rounds rule runs none =
+      subst (AreFirstRounds meaning job rule) (sym none) (record { rounds = no_rounds; few = omega arith; went_on = λ n below. absurd (omega (arith, below)) })
 
   -- what holds of two options holds of the same
-  both : (o p : Option (FrameRun J V)) → Type 0
+  abbrev both : (o p : Option (FrameRun J V)) → Type 0
   both o p = IfSome o (λ last. IfSome p (IsNextRound meaning last))
 
   nothing_after : (o : Option (FrameRun J V)) → both o None
@@ -87,3 +89,24 @@ module _ {J V : Type 0} (meaning : Meaning J V) (job : J) where
           by_order (inl last) = ap (λ k. rule.ends (take k (runs ++ run ∷ []))) last ∙ ap rule.ends (take-append_seam runs (run ∷ [])) ∙ goes
           by_order (inr (inl inside)) = ap rule.ends (take-append-le n runs (run ∷ []) (omega (arith, inside))) ∙ are.went_on n inside
           by_order (inr (inr over)) = absurd (omega (arith, over, below, longer))
+
+  -- So it is where the run is put behind these, of which it was seen before that they go on.
+  pub first_rounds_next : (rule : RoundRule J V) (runs seen room asked next : Runs) (run : FrameRun J V) (follower : J) → seen ≡ runs → room ≡ runs → asked ≡ room
+      → next ≡ room ++ run ∷ [] → AreFirstRounds meaning job rule runs → length runs < rule.most → (rule.ends seen ≡ false) × IsLastFine seen
+      → FollowsLast meaning job (last_run asked) follower → IsKeptOf meaning follower run → AreFirstRounds meaning job rule next
+  first_rounds_next rule runs seen room asked next run follower seen_is room_is asked_is next_is are few goes follows kept =
+      subst (AreFirstRounds meaning job rule) (sym (next_is ∙ ap (λ (rs : Runs). rs ++ run ∷ []) room_is))
+      (first_rounds_more rule runs run are kept.kept of_run (subst (λ (rs : Runs). IsLastFine rs) seen_is goes.1) few (ap rule.ends (sym seen_is) ∙ goes.0))
+    where
+      of_run : FollowsLast meaning job (last_run runs) (job_of run)
+      of_run =
+          subst (λ (j : J). FollowsLast meaning job (last_run runs) j) (sym kept.same)
+          (subst (λ (rs : Runs). FollowsLast meaning job (last_run rs) follower) (asked_is ∙ room_is) follows)
+
+-- Each job may recur, and the job of one run more.
+pub recurs_next : {J V : Type 0} (May : J → Type 0) (runs room next : List (FrameRun J V)) (run : FrameRun J V) (job : J) → room ≡ runs → next ≡ room ++ run ∷ []
+    → All (λ (r : FrameRun J V). May (job_of r)) runs → job_of run ≡ job → May job → All (λ (r : FrameRun J V). May (job_of r)) next
+recurs_next {J} {V} May runs room next run job room_is next_is all same may =
+    let P : FrameRun J V → Type 0 = λ r. May (job_of r) in
+    subst (λ (rs : List (FrameRun J V)). All P rs) (sym (next_is ∙ ap (λ (rs : List (FrameRun J V)). rs ++ run ∷ []) room_is))
+    (All-push P runs run all (subst May (sym same) may))

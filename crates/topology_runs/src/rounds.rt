@@ -1,11 +1,11 @@
 // Runs of a job, round after round.
-ghost use Rattle.std.specs.Prelude.{◌≡◌, ◌↔◌, ◌∷◌, ◌++◌, [], length, All, IfOk, IfErr, IfSome, IsTrue, OnOk, OnErr, option_copied};
+ghost use Rattle.std.specs.Prelude.{◌≡◌, ◌⊎◌, [], false, true, All, IfOk, IfErr, IsTrue, OnOk, OnErr};
 ghost use Rattle.std.specs.Arc.{arc_value};
 ghost use Rattle.run_frame.specs.Legal.{IsKept};
 ghost use Rattle.run_frame.specs.NestedRule.{job_of};
 ghost use Rattle.nested_runs.specs.Rounds.{AreAllRounds, AreFirstRounds, LastWasCut, last_run, times};
 ghost use Rattle.topology_runs.specs.Teams.{IsReady, watchers_of};
-ghost use Rattle.topology_runs.specs.inside.Nexts.{FollowsLast};
+ghost use Rattle.topology_runs.specs.inside.Nexts.{FollowsLast, IsLastFine};
 
 use super::team::Team;
 use super::until::{Never, Until};
@@ -101,7 +101,7 @@ fn add_rounds<
     ensures watchers { watchers_of team.new ≡ watchers_of team.old }
 {
     for _ in 0..most {
-        if until.is_met(runs.as_slice()) || was_cut(runs.as_slice()) {
+        if is_over(until, runs.as_slice()) {
             return Ok(());
         }
         runs.reserve(1)?;
@@ -131,9 +131,19 @@ fn next_job<J: Recurs + Drop>(
     }
 }
 
+// Whether there is no round after these, since they meet the test or something was cut short in the last.
+fn is_over<J: Recurs, U: Until<J>>(until: &U, runs: &[FrameRun<J>]) -> bool
+    requires { All (IsKept J.Job.meaning) runs.now }
+    ensures over { IsTrue result → (U.ends until.now runs.now ≡ true) ⊎ LastWasCut runs.now }
+    ensures goes_on { result ≡ false → (U.ends until.now runs.now ≡ false) × IsLastFine runs.now }
+{
+    until.is_met(runs) || was_cut(runs)
+}
+
 // Whether something was cut short in the last of these runs.
 fn was_cut<J: Recurs>(runs: &[FrameRun<J>]) -> bool
-    ensures { IsTrue result ↔ LastWasCut runs.now }
+    ensures cut { IsTrue result → LastWasCut runs.now }
+    ensures fine { result ≡ false → IsLastFine runs.now }
 {
     match runs.last() {
         Some(run) => !run.is_fine(),

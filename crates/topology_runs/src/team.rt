@@ -1,5 +1,6 @@
 // Teams of workers.
-ghost use Rattle.std.specs.Prelude.{◌≡◌, ◌≤◌, [], false, length, map, vec_capacity, All, IfOk, IfErr, OnOk};
+ghost use Rattle.std.specs.Prelude.{◌≡◌, ◌≤◌, [], length, map, vec_capacity, All, IfOk, IfErr, OnOk};
+ghost use Rattle.std.specs.List.{list_any};
 ghost use Rattle.std.specs.Arc.{arc_value};
 ghost use Rattle.ready_deques.specs.Limits.{max_workers};
 ghost use Rattle.worker_seat.specs.Crews.{AreSeatsOf, IsKeptOf, MayBegin, state_of, watcher_of};
@@ -116,7 +117,7 @@ fn run_seated<J: Job + Drop, X, E: EntersEach<J, X>, R: Threads + Wait + Sync>(
 
 // Whether an allocation has failed for one of the seats.
 fn any_refused<J: Job + Drop, X>(seats: &[WorkerSeat<J, X>]) -> bool
-    ensures { result ≡ false → All (λ seat. (state_of seat).refused ≡ false) seats.now }
+    ensures { result ≡ list_any (λ seat. (state_of seat).refused) seats.now }
 {
     seats.iter().any(
         |seat: &WorkerSeat<J, X>| -> bool

@@ -1,5 +1,5 @@
 -- Which job is run after some rounds.
-use Rattle.std.specs.Prelude.{◌≡◌, List, [], ◌∷◌, Option, Some, None, IfSome}
+use Rattle.std.specs.Prelude.{◌≡◌, List, Option, Some, None, IfSome}
 use Rattle.run_frame.specs.declared.run.FrameRun.{FrameRun}
 use Rattle.run_frame.specs.Meaning.{Meaning}
 use Rattle.run_frame.specs.NestedRule.{job_of, journal_of}
