@@ -578,6 +578,7 @@ module _ (n m : TableId) (other : m ≢ n) where
     }
 
     uses_at_once : IsInJournal flat_sums 2 end_of_the_first → UsesAtOnce flat_sums key (release_in own zeroth) none_done first_done (first ∷ [])
+    unfolding uses_release
     uses_at_once within = record { uses = uses_release within; inner = tt }
 
     -- the fate that is with a frame, where there is one

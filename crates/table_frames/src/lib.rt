@@ -18,10 +18,10 @@
 //! A task's work may be a job of its own. Its start stays open then, and a frame inside the task's frame runs that job.
 //! The step hands out the first releases of that frame and takes none of its steps; where there are none, the inner run
 //! is over at once, and the step goes on. The inner frame holds the frame around it, and under its lock, beside its
-//! keeper, the start. Nobody waits for it: whoever brings its last turn goes on with the start in the same call. The run is gathered into the value of the
-//! start's End, or it is a Fault if the run was cut short. What comes of that is in the frame around, and its backlog
-//! is brought in turn; so runs that are over at several levels are closed one by one, and a caller has one lock at a
-//! time. A limit, a fault or a want of units ends the inner run alone.
+//! keeper, the start. Nobody waits for it: whoever brings its last turn goes on with the start in the same call. The
+//! run is gathered into the value of the start's End, or it is a Fault if the run was cut short. What comes of that is
+//! in the frame around, and its backlog is brought in turn; so runs that are over at several levels are closed one by
+//! one, and a caller has one lock at a time. A limit, a fault or a want of units ends the inner run alone.
 //!
 //! `run_alone` runs a job on the caller's thread by the same steps, with the keepers in hand: it goes on with the
 //! innermost run.

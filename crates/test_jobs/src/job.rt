@@ -64,8 +64,8 @@ impl Model for NumberJob {
 
 impl NumberJob {
     /// A job of a net, with at most `limit` starts, no more than `START_LIMIT`; else `None`. A task that comes to the
-    /// number `fault` faults. Below `turns` a Choice chooses its first edge and from there its second; a Many chooses the
-    /// same, and its third.
+    /// number `fault` faults. Below `turns` a Choice chooses its first edge and from there its second; a Many chooses
+    /// the same, and its third.
     pub fn new(net: Arc<Net>, limit: u64, turns: u64, fault: u64) -> Option<NumberJob>
         ensures { IfSome result (λ job. job
             ≡ record
@@ -107,8 +107,8 @@ impl NumberJob {
         }
     }
 
-    /// The same job, of which a Nested task answers a job of the first of these nets, one of that job a job of the second,
-    /// and so on. Below the last it answers its number. A run is gathered to the number of its entries.
+    /// The same job, of which a Nested task answers a job of the first of these nets, one of that job a job of the
+    /// second, and so on. Below the last it answers its number. A run is gathered to the number of its entries.
     pub fn with_inner(self, nets: Arc<Vec<Arc<Net>>>) -> NumberJob
         ensures { result ≡ with_inner (map arc_value (arc_value nets).items) self }
     {

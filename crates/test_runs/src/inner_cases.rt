@@ -2,9 +2,9 @@
 use crate::nets::{EMPTY, NetCase};
 use journal_rules::Why;
 
-/// A job with runs inside: its net, the nets of the jobs inside it, level by level, and then as a `JobCase` has it. Of each
-/// run inside so many tasks meet; they are all of its tasks, if there are any. The run has so many starts, those of the
-/// runs inside included, and it faults for this reason, if it does.
+/// A job with runs inside: its net, the nets of the jobs inside it, level by level, and then as a `JobCase` has it. In
+/// each run inside so many tasks meet, all of it or none. The run has so many starts, those of the runs inside included,
+/// and it faults for this reason, if it does.
 #[derive(Clone, Copy)]
 pub(crate) struct InnerCase {
     pub(crate) name: &'static str,

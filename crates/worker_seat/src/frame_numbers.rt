@@ -29,7 +29,8 @@ impl<J: Job> Model for ReleaseFrames<J> {
     ghost view = { λ frames. frames.first.value.frames };
 }
 
-/// Frames of a crew, each with a number, or with several. Whoever has two equal numbers knows that they are of one frame.
+/// Frames of a crew, each with a number, or with several. Whoever has two equal numbers knows that they are of one
+/// frame.
 #[derive(Drop)]
 pub struct NumberedFrames<J: Job> {
     frames: boxcar::Vec<ReleaseFrames<J>>,
