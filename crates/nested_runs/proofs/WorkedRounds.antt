@@ -70,7 +70,7 @@ module _ {J V : Type 0} (meaning : Meaning J V) (fine cut other : FrameRun J V) 
   round_that_follows_none job are = not_the_same_job_again (are.next 0)
 
   -- so many rounds, which nothing else ends
-  most_of_times : (times {J} {V} 3).most ≡ 3
+  most_of_times : (times {J = J} {V = V} 3).most ≡ 3
   most_of_times = refl
 
   times_goes_on : (runs : List (FrameRun J V)) → (times 3).ends runs ≡ false
@@ -100,7 +100,7 @@ module _ {J V : Type 0} (meaning : Meaning J V) (fine cut other : FrameRun J V) 
   last_of_two : last_run (fine ∷ cut ∷ []) ≡ Some cut
   last_of_two = refl
 
-  last_of_none : last_run {J} {V} [] ≡ None
+  last_of_none : last_run {J = J} {V = V} [] ≡ None
   last_of_none = refl
 
   cut_at_last : LastWasCut (fine ∷ cut ∷ [])
@@ -109,7 +109,7 @@ module _ {J V : Type 0} (meaning : Meaning J V) (fine cut other : FrameRun J V) 
   not_cut_at_last : ¬ LastWasCut (cut ∷ fine ∷ [])
   not_cut_at_last was = was is_fine
 
-  nothing_was_cut : ¬ LastWasCut {J} {V} []
+  nothing_was_cut : ¬ LastWasCut {J = J} {V = V} []
   nothing_was_cut was = was
 
   -- All rounds: as many as there may be, or ended by the rule, or by a run in which something was cut short.
