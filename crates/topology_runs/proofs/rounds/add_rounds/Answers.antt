@@ -6,12 +6,12 @@ use Rattle.topology_runs.proofs.rounds.add_rounds.Goals as goal
 
 pub loop-preserved : goal.loop-preserved
 loop-preserved g c = record {
-  first = first_rounds_next g.J.Recurs.Job.meaning (arc_value c.args.first.now) _ c.loop.runs.items _ _ _ _ c.in_ok-run.run (arc_value c.in_ok-job.job)
-      c.as_slice.ensures.value c.reserve.ensures.items c.as_slice-2.ensures.value c.push_reserved.ensures.items c.loop.invariant.first (omega arith)
+  first = first_rounds_next g.J.Job.meaning (arc_value c.args.first.now) _ c.loop.runs.items _ _ _ _ c.in_ok-run.run' (arc_value c.in_ok-job.job)
+      c.as_slice.ensures.value c.reserve.ensures.items c.as_slice-in-loop.ensures.value c.push_reserved.ensures.items c.loop.invariant.first (omega arith)
       (c.is_over.ensures.goes_on c.if-is_over.false) c.in_ok-job.ensures.follows c.in_ok-run.ensures.run;
   count = grind (arith, common_steps);
   ready = c.in_ok-run.ensures.ready;
   watchers = grind (arith, common_steps);
-  recurs = recurs_next g.J.Recurs.may_recur c.loop.runs.items _ _ c.in_ok-run.run (arc_value c.in_ok-job.job) c.reserve.ensures.items c.push_reserved.ensures.items
+  recurs = recurs_next g.J.Recurs.may_recur c.loop.runs.items _ _ c.in_ok-run.run' (arc_value c.in_ok-job.job) c.reserve.ensures.items c.push_reserved.ensures.items
       c.loop.invariant.recurs c.in_ok-run.ensures.run.same c.in_ok-job.ensures.recurs;
 }
