@@ -23,10 +23,12 @@ most_rounds (times n) = n
 most_rounds (until word) = GREATEST_TIMES
 
 -- What is asked for: to run the graph in a file, with at most so many starts a round, by so many workers and so often, and
--- to write the journals in place of the reports or not; to judge the journal in another file, which may have so many starts;
--- to find how the graph in a file can go wrong; or to write the graph in a file as a file of the newest version.
+-- to write the journals in place of the reports or not; to run it so and count what each task did; to judge the journal in
+-- another file, which may have so many starts; to find how the graph in a file can go wrong; or to write the graph in a file
+-- as a file of the newest version.
 pub data Asked : Type 0 where
   run : List ℕ → ℕ → ℕ → AskedRounds → Bool → Asked
+  profile : List ℕ → ℕ → ℕ → AskedRounds → Asked
   judge : List ℕ → List ℕ → ℕ → Asked
   check : List ℕ → Asked
   upgrade : List ℕ → Asked
@@ -50,9 +52,12 @@ flag name = record (new_rule name) { long = Some name; action = Some SetTrue }
 unfoldable pub runs_app : List ℕ → App
 runs_app name = with_rule (with_rule (with_rule (with_rule (with_rule (command_named name) (required (codes "file"))) (option (codes "limit"))) (option (codes "workers"))) (option (codes "times"))) (option (codes "until"))
 
--- `run` with these and `[--journal]`
+-- `run` with these and `[--journal]`, and `profile` with these alone
 unfoldable pub run_app : App
 run_app = with_rule (runs_app (codes "run")) (flag (codes "journal"))
+
+unfoldable pub profile_app : App
+profile_app = runs_app (codes "profile")
 
 -- `judge FILE JOURNAL [--limit N]`
 unfoldable pub judge_app : App
@@ -105,6 +110,10 @@ asked_with make rows =
 abbrev pub run_in : List Row → Option Asked
 run_in rows = asked_with (λ file limit workers rounds. run file limit workers rounds (is_set (first_of (codes "journal") rows))) rows
 
+-- the profile that is asked for
+abbrev pub profile_in : List Row → Option Asked
+profile_in = asked_with profile
+
 -- the judgement that is asked for
 abbrev pub judge_in : List Row → Option Asked
 judge_in rows =
@@ -122,6 +131,7 @@ upgrade_in rows = option_map upgrade (first_of (codes "file") rows)
 abbrev pub asked_by : List (List ℕ) → Option Asked
 asked_by [] = None
 asked_by (command ∷ arguments) = if bytes_eq command (codes "run") then option_and_then run_in (rows_in run_app arguments)
+    else (if bytes_eq command (codes "profile") then option_and_then profile_in (rows_in profile_app arguments)
     else (if bytes_eq command (codes "judge") then option_and_then judge_in (rows_in judge_app arguments)
     else (if bytes_eq command (codes "check") then option_and_then check_in (rows_in check_app arguments)
-    else (if bytes_eq command (codes "upgrade") then option_and_then upgrade_in (rows_in upgrade_app arguments) else None)))
+    else (if bytes_eq command (codes "upgrade") then option_and_then upgrade_in (rows_in upgrade_app arguments) else None))))

@@ -1,4 +1,4 @@
-// How a graph is to be run.
+// What `run` and `profile` read alike.
 ghost use Rattle.std.specs.Prelude.{◌≡◌, ◌<◌, ◌≤◌, ℕ, List, IfOk, option_map};
 ghost use Rattle.clap.specs.Words.{app_of, rows_of, found_of};
 ghost use Rattle.command_line.specs.Requests.{Asked, AskedRounds, asked_with, most_rounds, runs_app};
