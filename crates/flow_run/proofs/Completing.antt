@@ -25,7 +25,7 @@ use Rattle.flow_run.specs.declared.conclusion.Conclusion.{Conclusion}
 use Rattle.flow_run.specs.Answers.{TextRun, IsAfterRun, RunEnds, CallEnds}
 use Rattle.flow_run.specs.Completion.{IsAtHand}
 use Rattle.flow_run.specs.RoundTexts.{last_reason}
-use Rattle.flow_run.proofs.RoundLemmas.{last_fine}
+use Rattle.flow_run.proofs.RoundLemmas.{last_fine, run_of_profile}
 use Rattle.flow_run.specs.PlanFiles.{IsAfterPlan, StopsBeforePlan, HoldsPlan}
 use Rattle.flow_run.specs.Checks.{CheckEnds}
 use Rattle.flow_run.specs.Upgrades.{UpgradeEnds}
@@ -222,8 +222,9 @@ module _ (status : Status) (read : (n : List ℕ) → status ≢ ReadFault n) (w
   pub completes : (held : SourceTexts) (arguments : List (List ℕ)) (runs : List TextRun) (concluded : Option Conclusion) → CallEnds held arguments status runs concluded
       → IsAtHand held (asked_by arguments) → All (λ run. run_reason text_job run ≡ Fine) runs → (status ≡ Done) ⊎ (status ≡ NoMemory)
   completes held arguments runs concluded (inl (file, limit, workers, rounds, journal, asks, ends, none)) hand fine = run_completes held file limit rounds runs (subst (IsAtHand held) asks hand) fine ends
-  completes held arguments runs concluded (inr (inl (file, name, limit, asks, ends, none))) hand fine = judge_completes held file name limit concluded (subst (IsAtHand held) asks hand) ends
-  completes held arguments runs concluded (inr (inr (inl (file, asks, ends, none)))) hand fine = check_completes held file concluded (subst (IsAtHand held) asks hand) ends
-  completes held arguments runs concluded (inr (inr (inr (inl (file, asks, ends, none))))) hand fine = upgrade_completes held file concluded (subst (IsAtHand held) asks hand) ends
-  completes held arguments runs concluded (inr (inr (inr (inr (inl (same, none, nothing, never)))))) hand fine = absurd (none_at_hand held (subst (IsAtHand held) never hand))
-  completes held arguments runs concluded (inr (inr (inr (inr (inr (memory, none, nothing)))))) hand fine = inr memory
+  completes held arguments runs concluded (inr (inl (file, limit, workers, rounds, asks, ends))) hand fine = run_completes held file limit rounds runs (subst (IsAtHand held) asks hand) fine (run_of_profile held file limit rounds status runs concluded ends)
+  completes held arguments runs concluded (inr (inr (inl (file, name, limit, asks, ends, none)))) hand fine = judge_completes held file name limit concluded (subst (IsAtHand held) asks hand) ends
+  completes held arguments runs concluded (inr (inr (inr (inl (file, asks, ends, none))))) hand fine = check_completes held file concluded (subst (IsAtHand held) asks hand) ends
+  completes held arguments runs concluded (inr (inr (inr (inr (inl (file, asks, ends, none)))))) hand fine = upgrade_completes held file concluded (subst (IsAtHand held) asks hand) ends
+  completes held arguments runs concluded (inr (inr (inr (inr (inr (inl (same, none, nothing, never))))))) hand fine = absurd (none_at_hand held (subst (IsAtHand held) never hand))
+  completes held arguments runs concluded (inr (inr (inr (inr (inr (inr (memory, none, nothing))))))) hand fine = inr memory

@@ -30,7 +30,8 @@ use Rattle.call_status.specs.Statuses.{status_of}
 use Rattle.call_status.specs.Stopping.{StoppedBefore}
 use Rattle.flow_run.specs.declared.conclusion.Conclusion.TheVariants as conclusion
 use Rattle.flow_run.specs.Judgements.{HasJournal, StopsAtJournalBytes, StopsAtJournal, StopsBeforeVerdict, IsJudged, IsAfterVerdict, EndsJudged, JudgeEnds, CanBeJudged, break_text, verdict_line, journal_limit}
-use Rattle.flow_run.specs.Answers.{TextRun, rounds_asked, wants_journal, conclusion_text, output_of}
+use Rattle.flow_run.proofs.RoundLemmas.{no_runs_text}
+use Rattle.flow_run.specs.Answers.{TextRun, conclusion_text, output_of, runs_text}
 use Rattle.flow_run.specs.RoundTexts.{rounds_text}
 
 abbrev g : List ℕ
@@ -177,30 +178,18 @@ verdict_that_is_another : (is : IsJudged held g j 9 Legal) → ¬ EndsJudged hel
 verdict_that_is_another is ended = let same : ended.verdict ≡ Legal = cc in legal_called_broken (subst (λ (v : Verdict). IsAfterVerdict v (NotLegal 0 NotOpen)) same ended.after)
 
 -- What is written: of runs their reports or their journals, of a judgement the verdict's line.
-journal_asked_for : wants_journal (Some (run_of g 9 4 once true)) ≡ true
-journal_asked_for = refl
-
-report_asked_for : wants_journal (Some (run_of g 9 4 once false)) ≡ false
-report_asked_for = refl
-
-judgement_asked_for : wants_journal (Some (judge_of g j 9)) ≡ false
-judgement_asked_for = refl
-
-nothing_asked_for : wants_journal None ≡ false
-nothing_asked_for = refl
-
-output_of_a_judgement : (arguments : List (List ℕ)) → output_of arguments [] (Some (conclusion.Verdict Legal)) ≡ codes "legal\n"
-output_of_a_judgement arguments = refl
+output_of_a_judgement : (arguments : List (List ℕ)) → asked_by arguments ≡ Some (judge_of g j 9) → output_of arguments [] (Some (conclusion.Verdict Legal)) ≡ codes "legal\n"
+output_of_a_judgement arguments asks = ap (λ asked. runs_text asked [] ++ codes "legal\n") asks
 
 -- of a run its journal, where that is asked for, and its report else; before what is concluded
 output_with_the_journal : (arguments : List (List ℕ)) (run : TextRun) → asked_by arguments ≡ Some (run_of g 9 4 once true) → output_of arguments (run ∷ []) (Some (conclusion.Verdict Legal)) ≡ rounds_text once true (run ∷ []) ++ codes "legal\n"
-output_with_the_journal arguments run asks = ap (λ asked. rounds_text (rounds_asked asked) (wants_journal asked) (run ∷ []) ++ codes "legal\n") asks
+output_with_the_journal arguments run asks = ap (λ asked. runs_text asked (run ∷ []) ++ codes "legal\n") asks
 
 output_with_the_report : (arguments : List (List ℕ)) (run : TextRun) → asked_by arguments ≡ Some (run_of g 9 4 once false) → output_of arguments (run ∷ []) None ≡ rounds_text once false (run ∷ []) ++ []
-output_with_the_report arguments run asks = ap (λ asked. rounds_text (rounds_asked asked) (wants_journal asked) (run ∷ []) ++ []) asks
+output_with_the_report arguments run asks = ap (λ asked. runs_text asked (run ∷ []) ++ []) asks
 
 output_of_nothing : (arguments : List (List ℕ)) → output_of arguments [] None ≡ []
-output_of_nothing arguments = refl
+output_of_nothing arguments = ap (λ bytes. bytes ++ []) (no_runs_text (asked_by arguments))
 
 -- The most bytes of a journal file: 64 MiB.
 journal_bytes : journal_limit ≡ 64 * 1024 * 1024

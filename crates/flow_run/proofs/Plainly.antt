@@ -8,7 +8,7 @@ use Rattle.call_status.specs.declared.status.Status.TheVariants.{Done, ReadFault
 use Rattle.call_status.specs.declared.stop.Stop.{Stop}
 use Rattle.call_status.specs.declared.stop.Stop.TheVariants as stop
 use Rattle.call_status.specs.Statuses.{status_of}
-use Rattle.command_line.specs.Requests.{Asked, AskedRounds, asked_by, once, run, judge, check, upgrade}
+use Rattle.command_line.specs.Requests.{Asked, AskedRounds, asked_by, once, run, profile, judge, check, upgrade}
 use Rattle.graph_file.proofs.PlanLemmas.{IsPlan-read}
 use Rattle.graph_plans.specs.PlanRows.{PlanRows}
 use Rattle.graph_file.specs.PlanText.{PlanText}
@@ -25,12 +25,12 @@ use Rattle.run_laws.proofs.TextPlain.{same_report}
 use Rattle.flow_run.specs.declared.conclusion.Conclusion.{Conclusion}
 use Rattle.flow_run.specs.Requests.{SourceTexts, CanBeRun, IsHeld, IsRequestedJob, IsTextOf, TextsAre, file_limit, text_limit}
 use Rattle.nested_runs.specs.Rounds.{AreAllRounds, AreFirstRounds, AreRounds}
-use Rattle.flow_run.specs.Answers.{CallEnds, IsAfterRun, TextRun, conclusion_text, output_of, rounds_asked, wants_journal}
+use Rattle.flow_run.specs.Answers.{CallEnds, IsAfterRun, RunEnds, TextRun, conclusion_text, output_of, runs_text}
 use Rattle.flow_run.specs.RoundTexts.{last_reason, round_rule, rounds_text}
 use Rattle.flow_run.specs.Completion.{IsAtHand}
 use Rattle.flow_run.specs.Plainly.{AsksPlainly, IsReportedPlainly}
 use Rattle.flow_run.proofs.Completing.{completes, one_plan}
-use Rattle.flow_run.proofs.RoundLemmas.{one_round, rounds_planned}
+use Rattle.flow_run.proofs.RoundLemmas.{one_round, rounds_planned, run_of_profile}
 
 -- ---- a source that specifies its texts holds one job
 
@@ -112,6 +112,9 @@ planned held file limit (Parts work) is = absurd is
 no_run_and_judgement : (file other name : List ℕ) (limit most workers : ℕ) (rounds : AskedRounds) (journal : Bool) → Some (run file limit workers rounds journal) ≡ Some (judge other name most) → ⊥
 no_run_and_judgement file other name limit most workers rounds journal same = cc
 
+no_run_and_profile : (file other : List ℕ) (limit most workers hands : ℕ) (rounds often : AskedRounds) (journal : Bool) → Some (run file limit workers rounds journal) ≡ Some (profile other most hands often) → ⊥
+no_run_and_profile file other limit most workers hands rounds often journal same = cc
+
 no_run_and_check : (file other : List ℕ) (limit workers : ℕ) (rounds : AskedRounds) (journal : Bool) → Some (run file limit workers rounds journal) ≡ Some (check other) → ⊥
 no_run_and_check file other limit workers rounds journal same = cc
 
@@ -121,17 +124,22 @@ no_run_and_upgrade file other limit workers rounds journal same = cc
 same_request : (file other : List ℕ) (limit most workers hands : ℕ) (rounds often : AskedRounds) (journal instead : Bool) → Some (run file limit workers rounds journal) ≡ Some (run other most hands often instead) → (file ≡ other) × (limit ≡ most) × (rounds ≡ often)
 same_request file other limit most workers hands rounds often journal instead same = (cc, cc, cc)
 
--- Each run that is kept reports what one thread does, also where the source doesn't specify the texts that it holds.
-pub kept_plainly : (held : SourceTexts) (arguments : List (List ℕ)) (status : Status) (runs : List TextRun) (concluded : Option Conclusion) → CallEnds held arguments status runs concluded → All IsReportedPlainly runs
-kept_plainly held arguments status runs concluded (inl (file, limit, workers, rounds, journal, asked, inl stopped, none)) = subst (All IsReportedPlainly) (sym stopped.none) (All-nil _)
-kept_plainly held arguments status runs concluded (inl (file, limit, workers, rounds, journal, asked, inr ran, none)) =
+-- Each round of a file reports what one thread does, also where the source doesn't specify the texts that it holds.
+run_plainly : (held : SourceTexts) (file : List ℕ) (limit : ℕ) (rounds : AskedRounds) (status : Status) (runs : List TextRun) → RunEnds held file limit rounds status runs → All IsReportedPlainly runs
+run_plainly held file limit rounds status runs (inl stopped) = subst (All IsReportedPlainly) (sym stopped.none) (All-nil _)
+run_plainly held file limit rounds status runs (inr ran) =
     let all = rounds_planned ran.job runs ran.first.rounds (planned held file limit ran.job ran.is) in
     λ k d below plain. same_report (slice_index_or runs k d) plain (all k d below) (ran.first.rounds.kept k d below)
-kept_plainly held arguments status runs concluded (inr (inl (file, name, limit, asked, ends, none))) = subst (All IsReportedPlainly) (sym none) (All-nil _)
-kept_plainly held arguments status runs concluded (inr (inr (inl (file, asked, ends, none)))) = subst (All IsReportedPlainly) (sym none) (All-nil _)
+
+-- So does each run that is kept.
+pub kept_plainly : (held : SourceTexts) (arguments : List (List ℕ)) (status : Status) (runs : List TextRun) (concluded : Option Conclusion) → CallEnds held arguments status runs concluded → All IsReportedPlainly runs
+kept_plainly held arguments status runs concluded (inl (file, limit, workers, rounds, journal, asked, ends, none)) = run_plainly held file limit rounds status runs ends
+kept_plainly held arguments status runs concluded (inr (inl (file, limit, workers, rounds, asked, ends))) = run_plainly held file limit rounds status runs (run_of_profile held file limit rounds status runs concluded ends)
+kept_plainly held arguments status runs concluded (inr (inr (inl (file, name, limit, asked, ends, none)))) = subst (All IsReportedPlainly) (sym none) (All-nil _)
 kept_plainly held arguments status runs concluded (inr (inr (inr (inl (file, asked, ends, none))))) = subst (All IsReportedPlainly) (sym none) (All-nil _)
-kept_plainly held arguments status runs concluded (inr (inr (inr (inr (inl (same, none, nothing, never)))))) = subst (All IsReportedPlainly) (sym none) (All-nil _)
-kept_plainly held arguments status runs concluded (inr (inr (inr (inr (inr (same, none, nothing)))))) = subst (All IsReportedPlainly) (sym none) (All-nil _)
+kept_plainly held arguments status runs concluded (inr (inr (inr (inr (inl (file, asked, ends, none)))))) = subst (All IsReportedPlainly) (sym none) (All-nil _)
+kept_plainly held arguments status runs concluded (inr (inr (inr (inr (inr (inl (same, none, nothing, never))))))) = subst (All IsReportedPlainly) (sym none) (All-nil _)
+kept_plainly held arguments status runs concluded (inr (inr (inr (inr (inr (inr (same, none, nothing))))))) = subst (All IsReportedPlainly) (sym none) (All-nil _)
 
 module _ (held : SourceTexts) (arguments : List (List ℕ)) (status : Status) (job : TextJob) (asks : AsksPlainly held (asked_by arguments) job) where
   -- the job whose rounds are run is this one
@@ -165,11 +173,12 @@ module _ (held : SourceTexts) (arguments : List (List ℕ)) (status : Status) (j
   all_fine runs concluded (inl (file, limit, workers, rounds, journal, asked, inr ran, none)) well =
       let same = request file limit workers rounds journal asked in
       one_fine ran.job runs (asked_job ran.job file limit rounds same ran.is) (subst (λ often. AreFirstRounds text_job ran.job (round_rule often) runs) same.2 ran.first) well
-  all_fine runs concluded (inr (inl (file, name, limit, asked, ends, none))) well = subst (All (λ r. run_reason text_job r ≡ Fine)) (sym none) (All-nil _)
-  all_fine runs concluded (inr (inr (inl (file, asked, ends, none)))) well = subst (All (λ r. run_reason text_job r ≡ Fine)) (sym none) (All-nil _)
+  all_fine runs concluded (inr (inl (file, limit, workers, rounds, asked, ends))) well = absurd (no_run_and_profile asks.file file asks.limit limit asks.workers workers once rounds false (sym asks.asks ∙ asked))
+  all_fine runs concluded (inr (inr (inl (file, name, limit, asked, ends, none)))) well = subst (All (λ r. run_reason text_job r ≡ Fine)) (sym none) (All-nil _)
   all_fine runs concluded (inr (inr (inr (inl (file, asked, ends, none))))) well = subst (All (λ r. run_reason text_job r ≡ Fine)) (sym none) (All-nil _)
-  all_fine runs concluded (inr (inr (inr (inr (inl (same, none, nothing, never)))))) well = subst (All (λ r. run_reason text_job r ≡ Fine)) (sym none) (All-nil _)
-  all_fine runs concluded (inr (inr (inr (inr (inr (same, none, nothing)))))) well = subst (All (λ r. run_reason text_job r ≡ Fine)) (sym none) (All-nil _)
+  all_fine runs concluded (inr (inr (inr (inr (inl (file, asked, ends, none)))))) well = subst (All (λ r. run_reason text_job r ≡ Fine)) (sym none) (All-nil _)
+  all_fine runs concluded (inr (inr (inr (inr (inr (inl (same, none, nothing, never))))))) well = subst (All (λ r. run_reason text_job r ≡ Fine)) (sym none) (All-nil _)
+  all_fine runs concluded (inr (inr (inr (inr (inr (inr (same, none, nothing))))))) well = subst (All (λ r. run_reason text_job r ≡ Fine)) (sym none) (All-nil _)
 
   -- So nothing but a failure or want of memory keeps the call from being done.
   pub plain_completes : (runs : List TextRun) (concluded : Option Conclusion) → CallEnds held arguments status runs concluded → RunsWell job → ((n : List ℕ) → status ≢ ReadFault n) → status ≢ WriteFault → (status ≡ Done) ⊎ (status ≡ NoMemory)
@@ -185,7 +194,7 @@ module _ (held : SourceTexts) (arguments : List (List ℕ)) (status : Status) (j
       let kept = kept_same one.0 runs ran.job (asked_job ran.job file limit rounds same ran.is) one.1 ran.first.rounds in
       let after : IsAfterRun (run_reason text_job one.0) status = subst (λ rs. IsAfterRun (last_reason rs) status) one.1 ran.after in
       let fine : run_reason text_job one.0 ≡ Fine = done_fine (run_reason text_job one.0) (subst (IsAfterRun (run_reason text_job one.0)) done after) in (
-        ap (λ asked. rounds_text (rounds_asked asked) (wants_journal asked) runs ++ conclusion_text concluded) asks.asks
+        ap (λ asked. runs_text asked runs ++ conclusion_text concluded) asks.asks
             ∙ ap (λ rs. rounds_text once false rs ++ conclusion_text concluded) one.1
             ∙ ap (λ c. rounds_text once false (one.0 ∷ []) ++ conclusion_text c) none
             ∙ append-nil _
@@ -194,8 +203,9 @@ module _ (held : SourceTexts) (arguments : List (List ℕ)) (status : Status) (j
             ∙ ap plain_report kept.0,
         subst RunsWell kept.0 (kept.1.fine.0 fine),
       )
-  plain_done runs concluded (inr (inl (file, name, limit, asked, ends, none))) done = absurd (no_run_and_judgement asks.file file name asks.limit limit asks.workers once false (sym asks.asks ∙ asked))
-  plain_done runs concluded (inr (inr (inl (file, asked, ends, none)))) done = absurd (no_run_and_check asks.file file asks.limit asks.workers once false (sym asks.asks ∙ asked))
-  plain_done runs concluded (inr (inr (inr (inl (file, asked, ends, none))))) done = absurd (no_run_and_upgrade asks.file file asks.limit asks.workers once false (sym asks.asks ∙ asked))
-  plain_done runs concluded (inr (inr (inr (inr (inl (same, none, nothing, never)))))) done = absurd (none-some (run asks.file asks.limit asks.workers once false) (sym never ∙ asks.asks))
-  plain_done runs concluded (inr (inr (inr (inr (inr (same, none, nothing)))))) done = absurd (let never : NoMemory ≡ Done = sym same ∙ done in cc)
+  plain_done runs concluded (inr (inl (file, limit, workers, rounds, asked, ends))) done = absurd (no_run_and_profile asks.file file asks.limit limit asks.workers workers once rounds false (sym asks.asks ∙ asked))
+  plain_done runs concluded (inr (inr (inl (file, name, limit, asked, ends, none)))) done = absurd (no_run_and_judgement asks.file file name asks.limit limit asks.workers once false (sym asks.asks ∙ asked))
+  plain_done runs concluded (inr (inr (inr (inl (file, asked, ends, none))))) done = absurd (no_run_and_check asks.file file asks.limit asks.workers once false (sym asks.asks ∙ asked))
+  plain_done runs concluded (inr (inr (inr (inr (inl (file, asked, ends, none)))))) done = absurd (no_run_and_upgrade asks.file file asks.limit asks.workers once false (sym asks.asks ∙ asked))
+  plain_done runs concluded (inr (inr (inr (inr (inr (inl (same, none, nothing, never))))))) done = absurd (none-some (run asks.file asks.limit asks.workers once false) (sym never ∙ asks.asks))
+  plain_done runs concluded (inr (inr (inr (inr (inr (inr (same, none, nothing))))))) done = absurd (let never : NoMemory ≡ Done = sym same ∙ done in cc)

@@ -1,5 +1,5 @@
 -- The rounds of a plan's job, and the last of them.
-use Rattle.std.proofs.Common.{◌≡◌, ◌≢◌, ◌<◌, ℕ, zero, suc, ◌-◌, false, List, [], ◌∷◌, length, get_or, Option, All, inl, inr, refl, sym, ap, ◌∙◌, subst, arith}
+use Rattle.std.proofs.Common.{◌≡◌, ◌≢◌, ◌<◌, ℕ, zero, suc, ◌-◌, false, List, [], ◌∷◌, length, get_or, Option, Some, None, All, inl, inr, refl, sym, ap, ◌∙◌, subst, arith}
 use Rattle.std.specs.Prelude.{IfSome, slice_get}
 use Rattle.std.specs.Option.{option_map_or}
 use Rattle.std.proofs.lemmas.Bool.{false≢true}
@@ -7,7 +7,7 @@ use Rattle.std.proofs.lemmas.List.Elements.{All-nil}
 use Rattle.std.proofs.lemmas.Option.{slice_get-get_or}
 use Rattle.call_status.specs.declared.status.Status.{Status}
 use Rattle.call_status.specs.declared.status.Status.TheVariants.{NoMemory}
-use Rattle.command_line.specs.Requests.{AskedRounds, once}
+use Rattle.command_line.specs.Requests.{Asked, AskedRounds, once, run, profile, judge, check, upgrade}
 use Rattle.nested_runs.specs.Reasons.{run_reason}
 use Rattle.nested_runs.specs.Rounds.{AreAllRounds, AreFirstRounds, AreRounds, IsNextRound, RoundRule}
 use Rattle.nested_runs.specs.declared.reasons.Reason.TheVariants.{Fine}
@@ -18,7 +18,8 @@ use Rattle.text_tasks.specs.declared.job.TextJob.TheVariants.{Graph, Parts}
 use Rattle.text_tasks.specs.JobMeaning.{text_job, IsGraphJob}
 use Rattle.run_laws.specs.PlainReport.{IsPlanned}
 use Rattle.flow_run.specs.Requests.{SourceTexts, IsRequestedJob}
-use Rattle.flow_run.specs.Answers.{IsAfterRun, JobEnds, RunEnds}
+use Rattle.flow_run.specs.declared.conclusion.Conclusion.{Conclusion}
+use Rattle.flow_run.specs.Answers.{IsAfterRun, JobEnds, ProfileEnds, RanProfile, RunEnds, runs_text}
 use Rattle.flow_run.specs.RoundTexts.{TextRun, last_reason, round_rule}
 
 -- what follows a run of a plan's top graph is of that graph
@@ -76,3 +77,31 @@ pub requested_rounds : (held : SourceTexts) (file : List ℕ) (limit : ℕ) (job
     → JobEnds job rounds status runs → RunEnds held file limit rounds status runs
 requested_rounds held file limit job rounds status runs requested ends =
     inr (record { job = ends.job; is = subst (IsRequestedJob held file limit) (sym ends.is) requested; first = ends.first; all = ends.all; after = ends.after })
+
+-- ---- profiles
+
+-- how the rounds of a profile end
+pub run_of_profile : (held : SourceTexts) (file : List ℕ) (limit : ℕ) (rounds : AskedRounds) (status : Status) (runs : List TextRun) (concluded : Option Conclusion) → ProfileEnds held file limit rounds status runs concluded
+    → RunEnds held file limit rounds status runs
+run_of_profile held file limit rounds status runs concluded (inl stopped) = inl (record { why = stopped.why; stops = stopped.stops; reported = stopped.reported; none = stopped.none.0 })
+run_of_profile held file limit rounds status runs concluded (inr ended) = inr ended.ran
+
+-- the profile of the job that a file asks for
+pub requested_profile : (held : SourceTexts) (file : List ℕ) (limit : ℕ) (job : TextJob) (rounds : AskedRounds) (status : Status) (runs : List TextRun) (concluded : Option Conclusion)
+    → IsRequestedJob held file limit job → RanProfile (λ of. of ≡ job) rounds status runs concluded → ProfileEnds held file limit rounds status runs concluded
+requested_profile held file limit job rounds status runs concluded requested ended =
+    let ran = ended.ran in
+    inr (record {
+      ran = record { job = ran.job; is = subst (IsRequestedJob held file limit) (sym ran.is) requested; first = ran.first; all = ran.all; after = ran.after };
+      counted = ended.counted;
+    })
+
+-- ---- what is written of no runs
+
+pub no_runs_text : (asked : Option Asked) → runs_text asked [] ≡ []
+no_runs_text None = refl
+no_runs_text (Some (run file limit workers rounds journal)) = refl
+no_runs_text (Some (profile file limit workers rounds)) = refl
+no_runs_text (Some (judge file name limit)) = refl
+no_runs_text (Some (check file)) = refl
+no_runs_text (Some (upgrade file)) = refl

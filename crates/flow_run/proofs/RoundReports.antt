@@ -12,7 +12,7 @@ use Rattle.outside_io.specs.declared.ports.sink.SinkFault.{SinkFault}
 use Rattle.outside_io.specs.declared.ports.sink.SinkFault.TheVariants as fault
 use Rattle.outside_io.specs.Sink.{SinkState, Accepts, Took, Writes}
 use Rattle.outside_io.proofs.Pieces.{row_written, row_refused, took_nothing, took_whole}
-use Rattle.flow_run.specs.Answers.{Reported}
+use Rattle.flow_run.specs.Answers.{HasWritten, Reported}
 use Rattle.flow_run.specs.RoundTexts.{TextRun, round_text, rounds_text}
 
 take_whole : {X : Type 0} (xs : List X) → take (length xs) xs ≡ xs
@@ -73,43 +73,43 @@ module _ {S : Type 0} (state : S → SinkState) (old : S) (rounds : AskedRounds)
     nothing_to_write = all;
   }
 
-  -- What a command has done that wrote the rounds, by how that ended and the status that follows from it.
-  pub reported : (new : S) (status : Status) (written : Result (Unit {0}) SinkFault) → flag ≡ is_ok written → Delivers (state old) (state new) (rounds_text rounds journal runs) written
-      → (runs ≡ [] → (new ≡ old) × IsOk written) → (status ≡ Done → IsOk written) → (status ≡ WriteFault → written ≡ Err fault.Failed) → (written ≡ Err fault.NoMemory → status ≡ NoMemory)
-      → Reported state old new status rounds journal runs flag
-  reported new status (Ok done) is did none well failed memory = record {
-    front = record { lost = []; but = took_whole _ _ _ did.took };
-    whole = λ written. did.took;
-    nothing_held = did.nothing_held;
-    no_fault = λ written. did.faults;
-    cause = λ cut. absurd (false≢true (sym cut ∙ is));
-    no_fewer = let same = did.faults in omega (arith, same);
-    done = λ told. is;
-    write_fault = λ told. absurd (let never : Ok done ≡ Err fault.Failed = failed told in cc);
-    untouched = λ nothing. (none nothing).0;
-    nothing_to_write = λ nothing. is;
-  }
-  reported new status (Err fault.Failed) is did none well failed memory = record {
-    front = did.0.took;
-    whole = λ written. absurd (false≢true (sym is ∙ written));
-    nothing_held = did.0.nothing_held;
-    no_fault = λ written. absurd (false≢true (sym is ∙ written));
-    cause = λ cut. inl did.1;
-    no_fewer = let more = did.1 in omega (arith, more);
-    done = λ told. absurd (false≢true (well told));
-    write_fault = λ told. is;
-    untouched = λ nothing. (none nothing).0;
-    nothing_to_write = λ nothing. absurd (false≢true (none nothing).1);
-  }
-  reported new status (Err fault.NoMemory) is did none well failed memory = record {
-    front = did.0.took;
-    whole = λ written. absurd (false≢true (sym is ∙ written));
-    nothing_held = did.0.nothing_held;
-    no_fault = λ written. absurd (false≢true (sym is ∙ written));
-    cause = λ cut. inr (memory refl);
-    no_fewer = did.1;
-    done = λ told. absurd (false≢true (well told));
-    write_fault = λ told. is;
-    untouched = λ nothing. (none nothing).0;
-    nothing_to_write = λ nothing. absurd (false≢true (none nothing).1);
-  }
+-- What a command has done that wrote these bytes, by how that ended and the status that follows from it.
+pub has_written : {S : Type 0} (state : S → SinkState) (old new : S) (Nothing : Type 0) (bytes : List ℕ) (flag : Bool) (status : Status) (written : Result (Unit {0}) SinkFault) → flag ≡ is_ok written
+    → Delivers (state old) (state new) bytes written → (Nothing → (new ≡ old) × IsOk written) → (status ≡ Done → IsOk written) → (status ≡ WriteFault → written ≡ Err fault.Failed)
+    → (written ≡ Err fault.NoMemory → status ≡ NoMemory) → HasWritten state old new status Nothing bytes flag
+has_written state old new Nothing bytes flag status (Ok done) is did none well failed memory = record {
+  front = record { lost = []; but = took_whole _ _ _ did.took };
+  whole = λ written. did.took;
+  nothing_held = did.nothing_held;
+  no_fault = λ written. did.faults;
+  cause = λ cut. absurd (false≢true (sym cut ∙ is));
+  no_fewer = let same = did.faults in omega (arith, same);
+  done = λ told. is;
+  write_fault = λ told. absurd (let never : Ok done ≡ Err fault.Failed = failed told in cc);
+  untouched = λ nothing. (none nothing).0;
+  nothing_to_write = λ nothing. is;
+}
+has_written state old new Nothing bytes flag status (Err fault.Failed) is did none well failed memory = record {
+  front = did.0.took;
+  whole = λ written. absurd (false≢true (sym is ∙ written));
+  nothing_held = did.0.nothing_held;
+  no_fault = λ written. absurd (false≢true (sym is ∙ written));
+  cause = λ cut. inl did.1;
+  no_fewer = let more = did.1 in omega (arith, more);
+  done = λ told. absurd (false≢true (well told));
+  write_fault = λ told. is;
+  untouched = λ nothing. (none nothing).0;
+  nothing_to_write = λ nothing. absurd (false≢true (none nothing).1);
+}
+has_written state old new Nothing bytes flag status (Err fault.NoMemory) is did none well failed memory = record {
+  front = did.0.took;
+  whole = λ written. absurd (false≢true (sym is ∙ written));
+  nothing_held = did.0.nothing_held;
+  no_fault = λ written. absurd (false≢true (sym is ∙ written));
+  cause = λ cut. inr (memory refl);
+  no_fewer = did.1;
+  done = λ told. absurd (false≢true (well told));
+  write_fault = λ told. is;
+  untouched = λ nothing. (none nothing).0;
+  nothing_to_write = λ nothing. absurd (false≢true (none nothing).1);
+}

@@ -16,7 +16,7 @@ use Rattle.text_ops.specs.Lines.{normal}
 use Rattle.call_status.specs.declared.status.Status.TheVariants.{Done, WriteFault}
 use Rattle.call_status.specs.declared.stop.Stop.TheVariants as stop
 use Rattle.flow_run.specs.Requests.{SourceTexts, StopsAtName, IsTextOf, TextsAre, StopsAtText, HasStart, HasPlan, StopsBefore, IsRequested, CanBeRun, text_limit}
-use Rattle.flow_run.specs.Answers.{TextRun, plan_in, Reported}
+use Rattle.flow_run.specs.Answers.{TextRun, plan_run, Reported}
 use Rattle.flow_run.specs.RoundTexts.{rounds_text}
 use Rattle.command_line.specs.Requests.{once}
 
@@ -138,7 +138,7 @@ module _ (run : TextRun) (report : rounds_text once false (run ∷ []) ≡ small
 
 -- ---- the kept run
 
-plan_of_the_run : (run : TextRun) → (plan_in [] ≡ None) × (plan_in (run ∷ []) ≡ job_plan (job_of run))
+plan_of_the_run : (run : TextRun) → (plan_run [] ≡ None) × (plan_run (run ∷ []) ≡ job_plan (job_of run))
 plan_of_the_run run = (refl, refl)
 
 -- ---- what is asked for, and what can be had of it: a graph file `g` that names no text, or the text `t`

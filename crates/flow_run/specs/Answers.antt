@@ -1,23 +1,23 @@
 -- How a call of the program ends: the status, what ran, and what was written.
 use Rattle.std.specs.Prelude.{◌≡◌, ◌≢◌, ◌⊎◌, ℕ, ◌<◌, ◌≤◌, Bool, true, false, List, [], ◌∷◌, ◌++◌, Option, Some, None}
 use Rattle.outside_io.specs.Sink.{SinkState, Took, TookFront}
-use Rattle.run_frame.specs.NestedRule.{job_of}
-use Rattle.graph_plans.specs.PlanRows.{PlanRows}
 use Rattle.text_tasks.specs.declared.job.TextJob.{TextJob}
-use Rattle.text_tasks.specs.JobMeaning.{job_plan, text_job}
+use Rattle.text_tasks.specs.JobMeaning.{names_of, text_job}
 use Rattle.call_status.specs.declared.status.Status.{Status}
 use Rattle.call_status.specs.declared.status.Status.TheVariants.{Done, BadWords, WriteFault, NoMemory}
 use Rattle.call_status.specs.Statuses.{status_after}
 use Rattle.call_status.specs.Stopping.{StoppedBefore}
-use Rattle.command_line.specs.Requests.{Asked, AskedRounds, asked_by, once, run, judge, check, upgrade}
+use Rattle.command_line.specs.Requests.{Asked, AskedRounds, asked_by, run, profile, judge, check, upgrade}
 use Rattle.nested_runs.specs.Rounds.{AreAllRounds, AreFirstRounds}
 use Rattle.nested_runs.specs.declared.reasons.Reason.{Reason}
 use Rattle.nested_runs.specs.declared.reasons.Reason.TheVariants as reason
 use Rattle.flow_run.specs.declared.conclusion.Conclusion.{Conclusion}
-use Rattle.flow_run.specs.declared.conclusion.Conclusion.TheVariants.{Verdict, Findings, GraphFile}
+use Rattle.flow_run.specs.declared.conclusion.GraphProfile.{GraphProfile}
+use Rattle.flow_run.specs.declared.conclusion.Conclusion.TheVariants.{Profile, Verdict, Findings, GraphFile}
 use Rattle.flow_run.specs.Requests.{SourceTexts, IsRequestedJob, StopsBefore}
 use Rattle.flow_run.specs.RoundTexts.{last_reason, round_rule, rounds_text}
 pub use Rattle.flow_run.specs.RoundTexts.{TextRun}
+use Rattle.flow_run.specs.Profiles.{IsProfileOf, graph_profile_text, plan_run}
 use Rattle.flow_run.specs.Judgements.{JudgeEnds, verdict_line}
 use Rattle.flow_run.specs.Checks.{CheckEnds, findings_text}
 use Rattle.flow_run.specs.Upgrades.{UpgradeEnds}
@@ -45,41 +45,44 @@ RunEnds held file limit rounds status runs = StoppedBefore (StopsBefore held fil
 abbrev pub JobEnds : TextJob → AskedRounds → Status → List TextRun → Type 0
 JobEnds job rounds status runs = RanRounds (λ of. of ≡ job) rounds status runs
 
--- How a call ends: the command line asks for a run of a file, or for a judgement of a journal, or for a check of a
--- graph, or for an upgrade of its file, or for nothing, or there is no memory to read it.
+-- Rounds of such a job were run, and counted unless memory ran out.
+pub record RanProfile (IsJob : TextJob → Type 0) (rounds : AskedRounds) (status : Status) (runs : List TextRun) (concluded : Option Conclusion) : Type 0 where
+  pub ran : RanRounds IsJob rounds status runs
+  pub counted : ((status ≡ NoMemory) × (concluded ≡ None)) ⊎ ((counts : GraphProfile) × (concluded ≡ Some (Profile counts)) × IsProfileOf (names_of ran.job) runs counts)
+
+-- How a call ends that is to write the profile of a file: before a run, for a reason that the status has, or after the rounds
+-- that the file is asked for.
+abbrev pub ProfileEnds : SourceTexts → List ℕ → ℕ → AskedRounds → Status → List TextRun → Option Conclusion → Type 0
+ProfileEnds held file limit rounds status runs concluded = StoppedBefore (StopsBefore held file) status ((runs ≡ []) × (concluded ≡ None)) ⊎ RanProfile (IsRequestedJob held file limit) rounds status runs concluded
+
+-- How a call ends: the command line asks for a run of a file, or for its profile, or for a judgement of a journal, or for a
+-- check of a graph, or for an upgrade of its file, or for nothing, or there is no memory to read it.
 abbrev pub CallEnds : SourceTexts → List (List ℕ) → Status → List TextRun → Option Conclusion → Type 0
 CallEnds held arguments status runs conclusion =
     ((file : List ℕ) × (limit : ℕ) × (workers : ℕ) × (rounds : AskedRounds) × (journal : Bool) × (asked_by arguments ≡ Some (run file limit workers rounds journal)) × RunEnds held file limit rounds status runs × (conclusion ≡ None))
+    ⊎ ((file : List ℕ) × (limit : ℕ) × (workers : ℕ) × (rounds : AskedRounds) × (asked_by arguments ≡ Some (profile file limit workers rounds)) × ProfileEnds held file limit rounds status runs conclusion)
     ⊎ ((file : List ℕ) × (name : List ℕ) × (limit : ℕ) × (asked_by arguments ≡ Some (judge file name limit)) × JudgeEnds held file name limit status conclusion × (runs ≡ []))
     ⊎ ((file : List ℕ) × (asked_by arguments ≡ Some (check file)) × CheckEnds held file status conclusion × (runs ≡ []))
     ⊎ ((file : List ℕ) × (asked_by arguments ≡ Some (upgrade file)) × UpgradeEnds held file status conclusion × (runs ≡ []))
     ⊎ ((status ≡ BadWords) × (runs ≡ []) × (conclusion ≡ None) × (asked_by arguments ≡ None))
     ⊎ ((status ≡ NoMemory) × (runs ≡ []) × (conclusion ≡ None))
 
--- the plan of the graph that was run
-abbrev pub plan_in : List TextRun → Option PlanRows
-plan_in [] = None
-plan_in (first ∷ runs) = job_plan (job_of first)
-
--- whether journals are asked for in place of reports, and in which rounds
-abbrev pub wants_journal : Option Asked → Bool
-wants_journal (Some (run file limit workers rounds journal)) = journal
-wants_journal asked = false
-
-abbrev pub rounds_asked : Option Asked → AskedRounds
-rounds_asked (Some (run file limit workers rounds journal)) = rounds
-rounds_asked asked = once
+-- what is written of the runs that are kept: their reports or journals, where a run is asked for
+abbrev pub runs_text : Option Asked → List TextRun → List ℕ
+runs_text (Some (run file limit workers rounds journal)) runs = rounds_text rounds journal runs
+runs_text asked runs = []
 
 -- what is written of a conclusion, if there is one
 abbrev pub conclusion_text : Option Conclusion → List ℕ
 conclusion_text None = []
+conclusion_text (Some (Profile counts)) = graph_profile_text counts
 conclusion_text (Some (Verdict verdict)) = verdict_line verdict
 conclusion_text (Some (Findings found)) = findings_text found
 conclusion_text (Some (GraphFile text)) = text
 
 -- what is written to the output: of the runs that are kept, and of the conclusion
 abbrev pub output_of : List (List ℕ) → List TextRun → Option Conclusion → List ℕ
-output_of arguments runs conclusion = rounds_text (rounds_asked (asked_by arguments)) (wants_journal (asked_by arguments)) runs ++ conclusion_text conclusion
+output_of arguments runs conclusion = runs_text (asked_by arguments) runs ++ conclusion_text conclusion
 
 -- What a command has done to the output when it ends, to which it was to write these bytes. Where it came to nothing the
 -- output is as it was.

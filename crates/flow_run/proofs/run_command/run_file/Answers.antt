@@ -2,7 +2,7 @@ use Rattle.std.proofs.Common.{inl, ◌∙◌, ap}
 use Rattle.flow_run.specs.declared.call.Ended.{Ended}
 use Rattle.flow_run.proofs.Ending.{read_stopped}
 use Rattle.flow_run.proofs.RoundLemmas.{requested_graph, requested_rounds}
-use Rattle.flow_run.proofs.call.run_file.Goals as goal
+use Rattle.flow_run.proofs.run_command.run_file.Goals as goal
 
 pub returns-in-Err-clause-ends : goal.returns-in-Err-clause-ends
 returns-in-Err-clause-ends g c =

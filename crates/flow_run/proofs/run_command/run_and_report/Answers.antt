@@ -1,9 +1,10 @@
 use Rattle.std.proofs.Common.{rules, subst}
 use Rattle.command_line.specs.Rounds.{asked_rounds}
 use Rattle.flow_run.specs.Answers.{IsAfterRun}
+use Rattle.flow_run.specs.RoundTexts.{rounds_text}
 use Rattle.flow_run.proofs.RoundLemmas.{job_ends}
-use Rattle.flow_run.proofs.RoundReports.{none_reported, reported}
-use Rattle.flow_run.proofs.call.run_and_report.Goals as goal
+use Rattle.flow_run.proofs.RoundReports.{has_written}
+use Rattle.flow_run.proofs.run_command.run_and_report.Goals as goal
 
 pub returns-clause-ends : goal.returns-clause-ends
 returns-clause-ends g c =
@@ -16,5 +17,5 @@ pub returns-clause-reported : goal.returns-clause-reported
 returns-clause-reported g c =
     let did = c.deliver_rounds-written in
     let status = c.status_of_rounds-status in
-    reported g.S.Sink.state c.args.out.now (asked_rounds c.args.asked.options.rounds) c.args.asked.journal c.run_rounds.result.runs c.is_ok.result did.new.out status.result did.result
+    has_written g.S.Sink.state c.args.out.now did.new.out _ (rounds_text (asked_rounds c.args.asked.options.rounds) c.args.asked.journal c.run_rounds.result.runs) c.is_ok.result status.result did.result
     c.is_ok.ensures.value did.ensures.delivers did.ensures.none status.ensures.done status.ensures.write_fault status.ensures.no_memory

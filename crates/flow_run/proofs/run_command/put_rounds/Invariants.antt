@@ -3,7 +3,7 @@ use Rattle.std.specs.List.{enumerate_from, flat_map}
 use Rattle.outside_io.specs.Sink.{Accepts}
 use Rattle.command_line.specs.Rounds.{asked_rounds}
 use Rattle.flow_run.specs.RoundTexts.{round_text}
-use Rattle.flow_run.proofs.call.put_rounds.Given as goal
+use Rattle.flow_run.proofs.run_command.put_rounds.Given as goal
 
 abbrev pub invariant-loop-place : goal.invariant-loop-place
 invariant-loop-place g l = Accepts (g.S.Sink.state l.fn.out) (g.S.Sink.state l.out)

@@ -1,7 +1,7 @@
 use Rattle.std.proofs.Common.{rules}
 use Rattle.command_line.specs.Rounds.{asked_rounds}
 use Rattle.flow_run.proofs.RoundReports.{round_written, round_refused, rounds_written}
-use Rattle.flow_run.proofs.call.put_rounds.Goals as goal
+use Rattle.flow_run.proofs.run_command.put_rounds.Goals as goal
 
 pub loop-place-preserved : goal.loop-place-preserved
 loop-place-preserved g c =

@@ -2,7 +2,7 @@ use Rattle.std.proofs.Common.{rules, ap, ◌≡◌, []}
 use Rattle.command_line.specs.Rounds.{asked_rounds}
 use Rattle.flow_run.specs.RoundTexts.{rounds_text}
 use Rattle.flow_run.proofs.RoundReports.{no_rounds_written}
-use Rattle.flow_run.proofs.call.deliver_rounds.Goals as goal
+use Rattle.flow_run.proofs.run_command.deliver_rounds.Goals as goal
 
 pub returns-then-is_empty-clause-delivers : goal.returns-then-is_empty-clause-delivers
 returns-then-is_empty-clause-delivers g c =
