@@ -61,7 +61,7 @@ impl CallResult {
 }
 
 /// Does what the command line `words` asks for: `run FILE` reads the graph file of this name and then, in order of
-/// first mention, the texts that it names, runs the graph to its end, by as many workers as it says, and writes the
+/// first mention, the texts that it names, runs its top graph to the end, by as many workers as it says, and writes the
 /// run's report to `out`, or with `--journal` its journal; with `--times` or `--until` it does so round after round, each
 /// with what the last task of the round before ended with as its input; `profile FILE` runs it so too, and writes a table
 /// of what each task did; `judge FILE JOURNAL` reads the journal file of that name besides, and writes the judge's

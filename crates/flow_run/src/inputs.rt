@@ -67,7 +67,7 @@ pub(crate) fn read_named<F: Texts>(
     }
 }
 
-/// The plan for which these bytes stand, if its graph has a task to begin with.
+/// The plan for which these bytes stand, if each of its graphs that has tasks has one to begin with.
 #[tactic(auto, using(crate::proofs::Preparing::no_plan))]
 pub(crate) fn read_plan(alloc: Global, bytes: &[u8]) -> Result<Plan, Stop>
     ensures plan { IfOk result (λ plan. PlanText bytes.now (plan_rows plan)) }
