@@ -173,6 +173,7 @@ module _ (run : TextRun) (kept : IsKept text_job run) where
         record { job = job_of run; is = refl; first = first; all = λ memory. record { first = first; over = inl refl }; after = inl (ap status_after (sym fine)) }
 
     ran_as_the_file_asks : (held : SourceTexts) (file : List ℕ) → IsRequestedJob held file 77 (job_of run) → RunEnds held file 77 once Done (run ∷ [])
+    unfolding ran_once
     ran_as_the_file_asks held file asked = inr (record { job = job_of run; is = asked; first = ran_once.first; all = ran_once.all; after = ran_once.after })
 
     ran_until_its_word : (word : List ℕ) → has_word word (feedback_of run) ≡ true → JobEnds (job_of run) (until word) WriteFault (run ∷ [])

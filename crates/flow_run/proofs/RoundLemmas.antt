@@ -1,5 +1,5 @@
 -- The rounds of a plan's job, and the last of them.
-use Rattle.std.proofs.Common.{◌≡◌, ◌≢◌, ◌<◌, ℕ, zero, suc, ◌-◌, false, List, [], ◌∷◌, length, get_or, Option, Some, None, All, inl, inr, refl, sym, ap, ◌∙◌, subst, arith}
+use Rattle.std.proofs.Common.{◌≡◌, ◌≢◌, ◌<◌, ℕ, zero, suc, ◌-◌, false, List, [], ◌∷◌, length, map, get_or, Option, Some, None, All, inl, inr, refl, sym, ap, ◌∙◌, subst, arith}
 use Rattle.std.specs.Prelude.{IfSome, slice_get}
 use Rattle.std.specs.Option.{option_map_or}
 use Rattle.std.proofs.lemmas.Bool.{false≢true}
@@ -7,18 +7,22 @@ use Rattle.std.proofs.lemmas.List.Elements.{All-nil}
 use Rattle.std.proofs.lemmas.Option.{slice_get-get_or}
 use Rattle.call_status.specs.declared.status.Status.{Status}
 use Rattle.call_status.specs.declared.status.Status.TheVariants.{NoMemory}
-use Rattle.command_line.specs.Requests.{Asked, AskedRounds, once, run, profile, judge, check, upgrade}
+use Rattle.command_line.specs.Requests.{Asked, AskedRounds, once, run as run_of, profile as profile_of, judge as judge_of, check as check_of, upgrade as upgrade_of}
 use Rattle.nested_runs.specs.Reasons.{run_reason}
 use Rattle.nested_runs.specs.Rounds.{AreAllRounds, AreFirstRounds, AreRounds, IsNextRound, RoundRule}
 use Rattle.nested_runs.specs.declared.reasons.Reason.TheVariants.{Fine}
-use Rattle.run_frame.specs.NestedRule.{job_of}
+use Rattle.run_frame.specs.NestedRule.{job_of, journal_of}
 use Rattle.text_tasks.specs.declared.item.Item.{Item}
 use Rattle.text_tasks.specs.declared.job.TextJob.{TextJob}
 use Rattle.text_tasks.specs.declared.job.TextJob.TheVariants.{Graph, Parts}
-use Rattle.text_tasks.specs.JobMeaning.{text_job, IsGraphJob}
+use Rattle.text_tasks.specs.JobMeaning.{names_of, text_job}
+use Rattle.profile_table.proofs.ProfileLemmas.{row_for_each_task}
 use Rattle.run_laws.specs.PlainReport.{IsPlanned}
 use Rattle.flow_run.specs.Requests.{SourceTexts, IsRequestedJob}
 use Rattle.flow_run.specs.declared.conclusion.Conclusion.{Conclusion}
+use Rattle.flow_run.specs.declared.conclusion.Conclusion.TheVariants.{Profile}
+use Rattle.flow_run.specs.declared.conclusion.GraphProfile.{GraphProfile}
+use Rattle.flow_run.specs.Profiles.{IsProfileOf}
 use Rattle.flow_run.specs.Answers.{IsAfterRun, JobEnds, ProfileEnds, RanProfile, RunEnds, runs_text}
 use Rattle.flow_run.specs.RoundTexts.{TextRun, last_reason, round_rule}
 
@@ -62,11 +66,6 @@ one_round job (run ∷ more ∷ rest) are = absurd (omega (arith, are.first.few)
 
 -- ---- the job that a file asks for
 
--- it is of a graph
-pub requested_graph : (held : SourceTexts) (file : List ℕ) (limit : ℕ) (job : TextJob) → IsRequestedJob held file limit job → IsGraphJob job
-requested_graph held file limit (Graph work) is = tt
-requested_graph held file limit (Parts work) is = absurd is
-
 -- how its rounds end
 pub job_ends : (job : TextJob) (rounds : AskedRounds) (status : Status) (runs : List TextRun) → AreFirstRounds text_job job (round_rule rounds) runs
     → (status ≢ NoMemory → AreAllRounds text_job job (round_rule rounds) runs) → IsAfterRun (last_reason runs) status → JobEnds job rounds status runs
@@ -86,6 +85,15 @@ pub run_of_profile : (held : SourceTexts) (file : List ℕ) (limit : ℕ) (round
 run_of_profile held file limit rounds status runs concluded (inl stopped) = inl (record { why = stopped.why; stops = stopped.stops; reported = stopped.reported; none = stopped.none.0 })
 run_of_profile held file limit rounds status runs concluded (inr ended) = inr ended.ran
 
+-- how the rounds of a job end that were counted
+pub profile_ends : (job : TextJob) (rounds : AskedRounds) (status : Status) (runs : List TextRun) (counts : GraphProfile) → JobEnds job rounds status runs → IsProfileOf (names_of job) runs counts
+    → RanProfile (λ of. of ≡ job) rounds status runs (Some (Profile counts))
+profile_ends job rounds status runs counts ran is = record { ran = ran; counted = inr (counts, refl, subst (λ (of : TextJob). IsProfileOf (names_of of) runs counts) (sym ran.is) is) }
+
+-- a profile has as many names as rows
+pub rows_named : (names : List (List ℕ)) (runs : List TextRun) (counts : GraphProfile) → IsProfileOf names runs counts → length counts.names ≡ length counts.table.rows
+rows_named names runs counts is = ap length is.names_are ∙ row_for_each_task (length names) (map journal_of runs) counts.table is.table
+
 -- the profile of the job that a file asks for
 pub requested_profile : (held : SourceTexts) (file : List ℕ) (limit : ℕ) (job : TextJob) (rounds : AskedRounds) (status : Status) (runs : List TextRun) (concluded : Option Conclusion)
     → IsRequestedJob held file limit job → RanProfile (λ of. of ≡ job) rounds status runs concluded → ProfileEnds held file limit rounds status runs concluded
@@ -100,8 +108,8 @@ requested_profile held file limit job rounds status runs concluded requested end
 
 pub no_runs_text : (asked : Option Asked) → runs_text asked [] ≡ []
 no_runs_text None = refl
-no_runs_text (Some (run file limit workers rounds journal)) = refl
-no_runs_text (Some (profile file limit workers rounds)) = refl
-no_runs_text (Some (judge file name limit)) = refl
-no_runs_text (Some (check file)) = refl
-no_runs_text (Some (upgrade file)) = refl
+no_runs_text (Some (run_of file limit workers rounds journal)) = refl
+no_runs_text (Some (profile_of file limit workers rounds)) = refl
+no_runs_text (Some (judge_of file name limit)) = refl
+no_runs_text (Some (check_of file)) = refl
+no_runs_text (Some (upgrade_of file)) = refl

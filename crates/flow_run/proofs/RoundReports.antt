@@ -1,26 +1,27 @@
 -- What is written of rounds, one after another, and what a command has done that wrote them.
-use Rattle.std.proofs.Common.{◌≡◌, ◌<◌, ℕ, ◌+◌, Bool, false, true, List, [], ◌∷◌, length, take, slice_index_or, Result, Ok, Err, inl, inr, refl, sym, ap, ◌∙◌, subst, arith}
-use Rattle.std.specs.Prelude.{IsOk, is_ok}
+use Rattle.std.proofs.Common.{◌≡◌, ◌<◌, ℕ, ◌+◌, Bool, false, true, List, [], ◌∷◌, ◌++◌, length, take, slice_index_or, Option, Result, Ok, Err, inl, inr, refl, sym, ap, ◌∙◌, subst, arith}
+use Rattle.std.specs.Prelude.{◌==◌, IsOk, is_ok}
 use Rattle.std.specs.List.{enumerate_from, flat_map}
-use Rattle.std.proofs.lemmas.Bool.{false≢true}
+use Rattle.std.proofs.lemmas.Bool.{eqb-true, false≢true}
 use Rattle.std.proofs.lemmas.List.FromFn.{length-enumerate_from, get_or-enumerate_from}
 use Rattle.call_status.specs.Delivery.{Delivered, Delivers}
 use Rattle.call_status.specs.declared.status.Status.{Status}
 use Rattle.call_status.specs.declared.status.Status.TheVariants.{Done, WriteFault, NoMemory}
-use Rattle.command_line.specs.Requests.{AskedRounds}
+use Rattle.command_line.specs.Requests.{Asked, AskedRounds}
 use Rattle.outside_io.specs.declared.ports.sink.SinkFault.{SinkFault}
 use Rattle.outside_io.specs.declared.ports.sink.SinkFault.TheVariants as fault
 use Rattle.outside_io.specs.Sink.{SinkState, Accepts, Took, Writes}
 use Rattle.outside_io.proofs.Pieces.{row_written, row_refused, took_nothing, took_whole}
-use Rattle.flow_run.specs.Answers.{HasWritten, Reported}
+use Rattle.flow_run.specs.Answers.{HasWritten, Reported, runs_text}
 use Rattle.flow_run.specs.RoundTexts.{TextRun, round_text, rounds_text}
+use Rattle.flow_run.proofs.RoundLemmas.{no_runs_text}
 
 take_whole : {X : Type 0} (xs : List X) → take (length xs) xs ≡ xs
 take_whole [] = refl
 take_whole (x ∷ xs) = ap (λ ys. x ∷ ys) (take_whole xs)
 
 module _ (runs : List TextRun) where
-  rows : List (ℕ × TextRun)
+  abbrev rows : List (ℕ × TextRun)
   rows = enumerate_from 1 runs
 
   as_many_rows : length rows ≡ length runs
@@ -48,10 +49,18 @@ module _ (runs : List TextRun) where
     round_refused asked journal before between after fault = row_refused (round_text asked journal) rows i (number, run) before between after fault row_inside row_at
 
   -- all were written
-  pub rounds_written : (asked : AskedRounds) (journal : Bool) (before after : SinkState) → Accepts before after (flat_map (round_text asked journal) (take (length runs) (enumerate_from 1 runs)))
+  pub rounds_written : (asked : AskedRounds) (journal : Bool) (before after : SinkState) (i : ℕ) → i ≡ length runs → Accepts before after (flat_map (round_text asked journal) (take i (enumerate_from 1 runs)))
       → Accepts before after (rounds_text asked journal runs)
-  rounds_written asked journal before after =
-      subst (λ these. Accepts before after (flat_map (round_text asked journal) these)) (ap (λ n. take n rows) (sym as_many_rows) ∙ take_whole rows)
+  rounds_written asked journal before after i all =
+      subst (λ these. Accepts before after (flat_map (round_text asked journal) these)) (ap (λ n. take n rows) (all ∙ sym as_many_rows) ∙ take_whole rows)
+
+no_item : (runs : List TextRun) → length runs ≡ 0 → runs ≡ []
+no_item [] none = refl
+no_item (run ∷ rest) none = absurd (omega (arith, none))
+
+-- a list of no rounds is empty
+pub empty_rounds : (runs : List TextRun) → true ≡ (length runs == 0) → runs ≡ []
+empty_rounds runs none = no_item runs (eqb-true (length runs) 0 (sym none))
 
 -- where there is none nothing is written
 pub no_rounds_written : (state : SinkState) (bytes : List ℕ) → bytes ≡ [] → state.held_back ≡ [] → Delivered state state bytes
@@ -72,6 +81,25 @@ module _ {S : Type 0} (state : S → SinkState) (old : S) (rounds : AskedRounds)
     untouched = λ nothing. refl;
     nothing_to_write = all;
   }
+
+-- What a command has done that met want of memory, and had nothing to write.
+pub none_written : {S : Type 0} (state : S → SinkState) (old : S) (Nothing : Type 0) → (state old).held_back ≡ [] → HasWritten state old old NoMemory Nothing [] true
+none_written state old Nothing held = record {
+  front = record { lost = []; but = record { front = []; parts = refl; took = took_nothing (state old).taken (state old).taken refl } };
+  whole = λ written. took_nothing (state old).taken (state old).taken refl;
+  nothing_held = held;
+  no_fault = λ written. refl;
+  cause = λ cut. absurd (cc);
+  no_fewer = omega arith;
+  done = λ is. refl;
+  write_fault = λ is. absurd (cc);
+  untouched = λ nothing. refl;
+  nothing_to_write = λ nothing. refl;
+}
+
+-- The same where it isn't known what is asked for, and there are no runs.
+pub nothing_read : {S : Type 0} (state : S → SinkState) (old : S) (Nothing : Type 0) (asked : Option Asked) → (state old).held_back ≡ [] → HasWritten state old old NoMemory Nothing (runs_text asked [] ++ []) true
+nothing_read state old Nothing asked held = subst (λ bytes. HasWritten state old old NoMemory Nothing (bytes ++ []) true) (sym (no_runs_text asked)) (none_written state old Nothing held)
 
 -- What a command has done that wrote these bytes, by how that ended and the status that follows from it.
 pub has_written : {S : Type 0} (state : S → SinkState) (old new : S) (Nothing : Type 0) (bytes : List ℕ) (flag : Bool) (status : Status) (written : Result (Unit {0}) SinkFault) → flag ≡ is_ok written

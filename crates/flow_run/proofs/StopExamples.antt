@@ -16,7 +16,8 @@ use Rattle.text_ops.specs.Lines.{normal}
 use Rattle.call_status.specs.declared.status.Status.TheVariants.{Done, WriteFault}
 use Rattle.call_status.specs.declared.stop.Stop.TheVariants as stop
 use Rattle.flow_run.specs.Requests.{SourceTexts, StopsAtName, IsTextOf, TextsAre, StopsAtText, HasStart, HasPlan, StopsBefore, IsRequested, CanBeRun, text_limit}
-use Rattle.flow_run.specs.Answers.{TextRun, plan_run, Reported}
+use Rattle.flow_run.specs.Answers.{TextRun, Reported}
+use Rattle.flow_run.specs.Profiles.{plan_run}
 use Rattle.flow_run.specs.RoundTexts.{rounds_text}
 use Rattle.command_line.specs.Requests.{once}
 

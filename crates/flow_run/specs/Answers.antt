@@ -17,7 +17,7 @@ use Rattle.flow_run.specs.declared.conclusion.Conclusion.TheVariants.{Profile, V
 use Rattle.flow_run.specs.Requests.{SourceTexts, IsRequestedJob, StopsBefore}
 use Rattle.flow_run.specs.RoundTexts.{last_reason, round_rule, rounds_text}
 pub use Rattle.flow_run.specs.RoundTexts.{TextRun}
-use Rattle.flow_run.specs.Profiles.{IsProfileOf, graph_profile_text, plan_run}
+use Rattle.flow_run.specs.Profiles.{IsProfileOf, graph_profile_text}
 use Rattle.flow_run.specs.Judgements.{JudgeEnds, verdict_line}
 use Rattle.flow_run.specs.Checks.{CheckEnds, findings_text}
 use Rattle.flow_run.specs.Upgrades.{UpgradeEnds}

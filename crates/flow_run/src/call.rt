@@ -1,5 +1,5 @@
 // The top call of the program.
-ghost use Rattle.std.specs.Prelude.{◌≡◌, ◌⊎◌, ℕ, [], List, Some, None, map, All};
+ghost use Rattle.std.specs.Prelude.{◌≡◌, ◌⊎◌, ℕ, [], true, List, Some, None, map, All};
 ghost use Rattle.std.specs.Option.{option_copied, option_map};
 ghost use Rattle.std.specs.String.{string_bytes};
 ghost use Rattle.graph_plans.specs.PlanRows.{plan_rows};
@@ -9,9 +9,10 @@ ghost use Rattle.call_status.specs.Noting.{HasNoted};
 ghost use Rattle.command_line.specs.Requests.{asked_by, upgrade};
 ghost use Rattle.nested_runs.specs.Reasons.{run_reason};
 ghost use Rattle.text_tasks.specs.JobMeaning.{text_job};
-ghost use Rattle.flow_run.specs.Answers.{CallEnds, HasWritten, output_of, plan_run};
+ghost use Rattle.flow_run.specs.Answers.{CallEnds, HasWritten, output_of};
 ghost use Rattle.flow_run.specs.Completion.{IsAtHand, NothingFails};
 ghost use Rattle.flow_run.specs.Plainly.{AsksPlainly, IsReportedPlainly, EndsPlainly};
+ghost use Rattle.flow_run.specs.Profiles.{plan_run};
 ghost use Rattle.flow_run.specs.Reads.{HaveRead};
 ghost use Rattle.flow_run.specs.Upgrades.{TakesSamePlan};
 ghost use Rattle.text_tasks.specs.declared.job.TextJob.{TextJob};

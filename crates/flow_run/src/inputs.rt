@@ -2,7 +2,7 @@
 ghost use Rattle.std.specs.Prelude.{◌≡◌, [], IfOk, IfErr};
 ghost use Rattle.graph_plans.specs.PlanRows.{IsPlan, plan_rows};
 ghost use Rattle.graph_file.specs.PlanText.{PlanText};
-ghost use Rattle.text_tasks.specs.JobMeaning.{IsTextJob};
+ghost use Rattle.text_tasks.specs.JobMeaning.{IsGraphJob, IsTextJob};
 ghost use Rattle.flow_run.specs.Reads.{FailsBy};
 ghost use Rattle.flow_run.specs.Requests.{HasStart, IsAdded, IsHeld, IsRequestedJob, StopsAtBytes, StopsAtName, StopsAtPlan, StopsAtText, StopsBefore, TextsAre, text_limit};
 
@@ -31,6 +31,7 @@ pub fn prepare<F: Texts, R: Wait>(
     asked: RunOptions<'_>,
 ) -> Result<TextJob, Stop>
     ensures job { IfOk result IsTextJob }
+    ensures graph { IfOk result IsGraphJob }
     ensures requested { IfOk result
         (IsRequestedJob (F.held texts.old) asked.entry.file.now asked.entry.limit) }
     ensures stops { IfErr result (StopsBefore (F.held texts.old) asked.entry.file.now) }

@@ -1,13 +1,12 @@
-use Rattle.std.proofs.Common.{rules, ap, ◌≡◌, []}
+use Rattle.std.proofs.Common.{ap}
 use Rattle.command_line.specs.Rounds.{asked_rounds}
 use Rattle.flow_run.specs.RoundTexts.{rounds_text}
-use Rattle.flow_run.proofs.RoundReports.{no_rounds_written}
+use Rattle.flow_run.proofs.RoundReports.{empty_rounds, no_rounds_written}
 use Rattle.flow_run.proofs.run_command.deliver_rounds.Goals as goal
 
 pub returns-then-is_empty-clause-delivers : goal.returns-then-is_empty-clause-delivers
 returns-then-is_empty-clause-delivers g c =
-    let none : c.args.runs.now ≡ [] = search rules in
-    no_rounds_written (g.S.Sink.state c.args.out.now) _ (ap (rounds_text (asked_rounds c.args.asked.options.rounds) c.args.asked.journal) none) c.requires.nothing_held
+    no_rounds_written (g.S.Sink.state c.args.out.now) _ (ap (rounds_text (asked_rounds c.args.asked.options.rounds) c.args.asked.journal) (empty_rounds c.args.runs.now c.if-is_empty.ensures)) c.requires.nothing_held
 
 pub returns-clause-delivers : goal.returns-clause-delivers
 returns-clause-delivers g c =

@@ -14,4 +14,4 @@ returns-in-Err g c =
     c.loop-place.invariant c.in-Err.ensures
 
 pub returns : goal.returns
-returns g c = rounds_written c.args.runs.now (asked_rounds c.args.asked.options.rounds) c.args.asked.journal _ _ c.loop-place.invariant
+returns g c = rounds_written c.args.runs.now (asked_rounds c.args.asked.options.rounds) c.args.asked.journal _ _ c.loop-place.place (search rules) c.loop-place.invariant

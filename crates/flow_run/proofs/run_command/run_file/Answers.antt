@@ -1,7 +1,7 @@
 use Rattle.std.proofs.Common.{inl, ◌∙◌, ap}
 use Rattle.flow_run.specs.declared.call.Ended.{Ended}
 use Rattle.flow_run.proofs.Ending.{read_stopped}
-use Rattle.flow_run.proofs.RoundLemmas.{requested_graph, requested_rounds}
+use Rattle.flow_run.proofs.RoundLemmas.{requested_rounds}
 use Rattle.flow_run.proofs.run_command.run_file.Goals as goal
 
 pub returns-in-Err-clause-ends : goal.returns-in-Err-clause-ends
@@ -11,9 +11,6 @@ returns-in-Err-clause-ends g c =
 pub returns-in-Err-clause-read : goal.returns-in-Err-clause-read
 returns-in-Err-clause-read g c =
     read_stopped g.F.Texts.held g.F.Texts.failed _ _ c.in-Err.stop _ (ap (λ (e : Ended). e.status) c.stopped.ensures ∙ c.of.ensures) c.prepare.ensures.stays c.in-Err.ensures.fails
-
-pub run_and_report-requires-clause-graph : goal.run_and_report-requires-clause-graph
-run_and_report-requires-clause-graph g c = requested_graph _ _ _ c.in-Ok.job c.in-Ok.ensures.requested
 
 pub returns-in-Ok-clause-ends : goal.returns-in-Ok-clause-ends
 returns-in-Ok-clause-ends g c = requested_rounds _ _ _ c.in-Ok.job _ _ _ c.in-Ok.ensures.requested c.run_and_report.ensures.ends
