@@ -185,7 +185,8 @@ verdict_for_a_table of runs (inl (same, none)) = absurd (cc)
 verdict_for_a_table of runs (inr (counts, only, is)) = absurd (cc)
 
 module _ (job : TextJob) where
-  ran_none : RanRounds (λ of. of ≡ job) (times 0) Done []
+  -- no round, where none is asked for
+  abbrev ran_none : RanRounds (λ of. of ≡ job) (times 0) Done []
   ran_none = record { job = job; is = refl; first = no_round job (round_rule (times 0)); all = λ memory. record { first = no_round job (round_rule (times 0)); over = inl refl }; after = inl refl }
 
   counted_without_a_round : (counts : GraphProfile) → IsProfileOf (names_of job) [] counts → RanProfile (λ of. of ≡ job) (times 0) Done [] (Some (conclusion.Profile counts))
@@ -229,7 +230,8 @@ module _ (job : TextJob) where
       by_case of its_names (inl (same, none)) = absurd (cc)
       by_case of its_names (inr (other, only, of_them)) =
           let same : counts ≡ other = cc in
-          absurd (omega (arith, two, three, ap (λ (c : GraphProfile). length c.names) same, ap length of_them.names_are, ap length its_names))
+          let lengths : length counts.names ≡ length other.names = ap (λ (c : GraphProfile). length c.names) same in
+          absurd (omega (arith, two, three, lengths, ap length of_them.names_are, ap length its_names))
 
 -- ---- a call for a profile
 
