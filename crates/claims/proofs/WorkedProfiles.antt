@@ -7,7 +7,7 @@ use Rattle.journal_rules.specs.declared.entry.Entry.{Entry}
 use Rattle.journal_rules.specs.declared.entry.Entry.TheVariants.{Start, End, Fault, Drop}
 use Rattle.journal_rules.specs.declared.entry.Part.TheVariants.{From}
 use Rattle.journal_rules.specs.declared.entry.Why.TheVariants.{Inner, Long}
-use Rattle.profile_table.specs.Profiles.{CanAdd, after_journal, entry_task, kind_counts, profile_of, profile_row, profile_rows, task_entries}
+use Rattle.profile_table.specs.Profiles.{CanAdd, after_journal, entry_task, kind_counts, no_counts, profile_of, profile_row, profile_rows, task_entries}
 use Rattle.profile_table.specs.ProfileText.{number_column, padded_left, padded_right, profile_text, row_line, spans_line}
 use Rattle.profile_table.specs.declared.row.TableRow.{TableRow}
 
@@ -88,6 +88,9 @@ no_runs = refl
 -- An entry of a task without a row is counted in none.
 tasks_without_a_row : profile_rows 1 (one_faults ∷ []) ≡ counts 1 1 0 0 ∷ []
 tasks_without_a_row = refl
+
+row_of_nothing : no_counts ≡ counts 0 0 0 0
+row_of_nothing = refl
 
 no_tasks : profile_rows 0 (one_faults ∷ []) ≡ []
 no_tasks = refl

@@ -18,5 +18,6 @@ pub mod CheckExamples
 pub mod UpgradeExamples
 pub mod EndExamples
 pub mod RoundExamples
+pub mod ProfileExamples
 pub mod ReadExamples
 pub mod PlainExamples

@@ -159,6 +159,12 @@ fn put_counts<S: Sink>(alloc: Global, out: &mut S, counts: &GraphProfile) -> Res
     requires { length counts.now.names ≡ length counts.now.table.rows }
     ensures { Writes (S.state out.old) (S.state out.new) (graph_profile_text counts.now) result }
 {
-    print_table(alloc, &counts.table, counts.names.as_slice(), counts.spans, out)?;
+    print_table(
+        alloc,
+        &counts.table,
+        counts.names.as_slice(),
+        counts.spans,
+        out,
+    )?;
     put_value(out, counts.last_line.as_slice())
 }

@@ -13,7 +13,11 @@ use std::alloc::Global;
 use text_tasks::TextJob;
 
 /// The status after rounds, by whether they were all run, why the last came to its end, and how writing ended.
-pub(crate) fn status_of_rounds(whole: bool, reason: Reason, written: Result<(), SinkFault>) -> Status
+pub(crate) fn status_of_rounds(
+    whole: bool,
+    reason: Reason,
+    written: Result<(), SinkFault>,
+) -> Status
     ensures after { IsAfterRun reason result }
     ensures all { result ≢ Status.NoMemory → whole ≡ true }
     ensures done { result ≡ Status.Done → IsOk written }

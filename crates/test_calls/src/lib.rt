@@ -26,6 +26,8 @@ mod notes;
 #[cfg(test)]
 mod operations;
 #[cfg(test)]
+mod profile_calls;
+#[cfg(test)]
 mod round_calls;
 #[cfg(test)]
 mod runs;

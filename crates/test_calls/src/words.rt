@@ -38,7 +38,15 @@ run g --until
 run g --until x --until x
 judge g t --times 1
 check g --until x
-profile g
+profile
+profile g g
+profile g --journal
+profile g --limit 0
+profile g --workers 17
+profile g --times 1001
+profile g --times 1 --until x
+profile g --until x --until x
+Profile g
 check
 check g g
 check g --limit 1
