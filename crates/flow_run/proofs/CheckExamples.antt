@@ -1,6 +1,6 @@
 -- What a check of a graph asks for, how it ends and what is written of it, computed on a graph file `g` of one byte.
 use Rattle.std.specs.Fmt.{digits}
-use Rattle.std.proofs.Common.{◌≡◌, ℕ, List, [], ◌∷◌, ◌++◌, length, Option, Some, None, Ok, Err, false, inl, inr, refl, sym, ap, subst, ◌∙◌, arith, codes}
+use Rattle.std.proofs.Common.{◌≡◌, ℕ, List, [], ◌∷◌, ◌++◌, length, Option, Some, None, Ok, Err, inl, inr, refl, sym, ap, subst, ◌∙◌, arith, codes}
 use Rattle.std.specs.Prelude.{bytes_eq, if◌then◌else◌, Contains}
 use Rattle.std.proofs.lemmas.Option.{none-some}
 use Rattle.graph_plans.specs.PlanRows.{GraphRows, PlanRows, graphs_of}

@@ -1,5 +1,5 @@
 -- What an upgrade of a graph file comes to, how it ends and what it writes, computed on a graph file `g` of one byte.
-use Rattle.std.proofs.Common.{◌≡◌, ℕ, ◌+◌, List, [], ◌∷◌, ◌++◌, length, Option, Some, None, false, inl, inr, refl, sym, ap, subst, ◌∙◌, arith}
+use Rattle.std.proofs.Common.{◌≡◌, ℕ, ◌+◌, List, [], ◌∷◌, ◌++◌, length, Option, Some, None, inl, inr, refl, sym, ap, subst, ◌∙◌, arith}
 use Rattle.std.specs.Prelude.{bytes_eq, if◌then◌else◌}
 use Rattle.graph_plans.specs.PlanRows.{PlanRows}
 use Rattle.graph_plans.specs.declared.spots.Spot.TheVariants.{File}
