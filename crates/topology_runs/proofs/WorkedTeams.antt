@@ -53,7 +53,7 @@ module _ {J V : Type 0} (meaning : Meaning J V) (first other : J) (one two : Fra
   first_again never follows = never follows
 
   -- Nothing was cut short in the last of no runs; of two it is the second that counts.
-  no_runs_fine : IsLastFine {J} {V} []
+  no_runs_fine : IsLastFine {J = J} {V = V} []
   no_runs_fine = tt
 
   second_fine : IsFine (journal_of two) → IsLastFine (one ∷ two ∷ [])
