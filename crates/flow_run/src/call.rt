@@ -63,13 +63,13 @@ impl CallResult {
 
 /// Does what the command line `words` asks for: `run FILE` reads the graph file of this name and then, in order of
 /// first mention, the texts that it names, runs its top graph to the end, by as many workers as it says, and writes the
-/// run's report to `out`, or with `--journal` its journal; with `--times` or `--until` it does so round after round, each
-/// with what the last task of the round before ended with as its input; `profile FILE` runs it so too, and writes a table
-/// of what each task did; `judge FILE JOURNAL` reads the journal file of that name besides, and writes the judge's
-/// verdict; `check FILE` writes how the graph can go wrong; `upgrade FILE` writes the graph as a file of the newest
-/// version. The line of the status goes to `notes`, the diagnostics sink. Of several workers each has a watcher, and
-/// there are no more of them than watchers. `rt` makes the threads of several workers and waits for them, so it isn't
-/// proved that the call returns.
+/// run's report to `out`, or with `--journal` its journal; with `--times` or `--until` it runs the graph round after
+/// round, each with what the last task of the round before ended with as its input, and once all are run writes what it
+/// would of each; `profile FILE` runs it so too, and writes a table of what each task did; `judge FILE JOURNAL` reads the
+/// journal file of that name besides, and writes the judge's verdict; `check FILE` writes how the graph can go wrong;
+/// `upgrade FILE` writes the graph as a file of the newest version. The line of the status goes to `notes`, the
+/// diagnostics sink. Of several workers each has a watcher, and there are no more of them than watchers. `rt` makes the
+/// threads of several workers and waits for them, so it isn't proved that the call returns.
 pub fn flow_main<F: Texts, S: Sink, N: Sink, R: Threads + Wait + Sync>(
     rt: &R,
     alloc: Global,

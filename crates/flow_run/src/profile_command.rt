@@ -113,7 +113,7 @@ fn counts_of(
     })
 }
 
-// The table of so many tasks in these runs, if their entries can be counted.
+// The table of so many tasks in these runs. `NoMemory` comes also where they have too many entries for a `u64`.
 fn table_of(alloc: Global, tasks: usize, runs: &[FrameRun<TextJob>]) -> Result<Table, NoMemory>
     ensures { IfOk result (λ table. table ≡ profile_of tasks (map journal_of runs.now)) }
 {

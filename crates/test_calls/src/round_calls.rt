@@ -54,6 +54,20 @@ c ->  -> 8 -> 21 [## round 1|== d|0|## round 2|-- d|!! limit 10|] [flow: limit 1
 x -> {"name":"x","op":"pass","to":["y"],"acquire":["s"]},{"name":"y","op":"pass","acquire":["s"]}, -> 10 -> 7 [## round 1|-- y|== d|0|## round 2|-- y|-- d|!! stuck y|] [flow: stuck y|]"#,
 };
 
+// The third round of five faults, in which three lines are tallied, and is the last.
+const THIRD: Table = Table {
+    graph: r#"{"version":2,"tasks":[
+    {"name":"i","op":"input","to":["p"]},
+    {"name":"r","op":"read","text":"t","to":["p"]},
+    {"name":"p","op":"tally","to":["c"]},
+    {"name":"c","op":"ifmore","n":2,"to":["x","d"]},
+    {"name":"x","op":"pass","release":["s"]},
+    {"name":"d","op":"pass"}],
+    "semaphores":[{"name":"s","max":1}]}"#,
+    call: CALL,
+    rows: "run g --times 5 --workers * -> one| -> - -> 9 written, run of 10, run of 10, run of 10 [## round 1|-- x|== d|1 one|## round 2|-- x|== d|1 1 one|1 one|## round 3|-- x|-- d|!! fault x: over 0|] [flow: fault x: over 0|]",
+};
+
 // Writes that fail, of which the fourth is the line of the second round.
 const FAILING: Table = Table {
     graph: r#"{"tasks":[
@@ -68,4 +82,4 @@ const FAILING: Table = Table {
 5 1 -> ## round 1|== n|0|## round 2|== n|1",
 };
 
-pub const TABLES: [Table; 5] = [TALLIED, EMPTY, LAST_TASK, CUT, FAILING];
+pub const TABLES: [Table; 6] = [TALLIED, EMPTY, LAST_TASK, CUT, THIRD, FAILING];
