@@ -1,7 +1,13 @@
 // Jobs whose tasks open runs of their own.
 use crate::job_cases::{FREE, JobCase};
+use crate::job_runs::{Way, run_each};
 use crate::nets::{EMPTY, NetCase};
 use journal_rules::Why;
+use std::alloc::Global;
+use std::process::Abort;
+use std::sync::Wait;
+use std::test::Fail;
+use std::thread::Threads;
 
 const ROW: NetCase = NetCase {
     tasks: "ppp",
@@ -29,8 +35,8 @@ const PLAIN: JobCase = JobCase {
     ..FREE
 };
 
-/// The cases.
-pub(crate) const INNER_CASES: [JobCase; 16] = [
+// Runs inside runs.
+const NESTED: [JobCase; 5] = [
     PLAIN,
     JobCase {
         name: "nothing inside",
@@ -57,6 +63,10 @@ pub(crate) const INNER_CASES: [JobCase; 16] = [
         starts: (5, 5),
         ..PLAIN
     },
+];
+
+// Several runs inside one.
+const BESIDE: [JobCase; 5] = [
     JobCase {
         name: "three runs beside each other",
         net: NetCase {
@@ -97,6 +107,21 @@ pub(crate) const INNER_CASES: [JobCase; 16] = [
         starts: (4, 4),
         ..PLAIN
     },
+    JobCase {
+        name: "runs that hold the one unit in turn",
+        net: NetCase {
+            units: "1",
+            tasks: "kkkp",
+            edges: "ad bd cd",
+            ..EMPTY
+        },
+        starts: (13, 13),
+        ..PLAIN
+    },
+];
+
+// Runs inside that are cut short.
+const CUT_INSIDE: [JobCase; 6] = [
     JobCase {
         name: "a fault inside",
         fault: 3,
@@ -148,15 +173,31 @@ pub(crate) const INNER_CASES: [JobCase; 16] = [
         why: Some(Why::Wide(6)),
         ..PLAIN
     },
-    JobCase {
-        name: "runs that hold the one unit in turn",
-        net: NetCase {
-            units: "1",
-            tasks: "kkkp",
-            edges: "ad bd cd",
-            ..EMPTY
-        },
-        starts: (13, 13),
-        ..PLAIN
-    },
 ];
+
+/// Runs all cases, some at a time: one function that has all of them would be too large to check.
+pub(crate) fn inner_cases<R: Threads + Wait + Abort + Sync>(
+    rt: &R,
+    alloc: Global,
+    way: Way,
+) -> Result<(), Fail> {
+    nested(rt, alloc, way)?;
+    beside(rt, alloc, way)?;
+    cut_inside(rt, alloc, way)
+}
+
+fn nested<R: Threads + Wait + Abort + Sync>(rt: &R, alloc: Global, way: Way) -> Result<(), Fail> {
+    run_each(rt, alloc, way, &NESTED)
+}
+
+fn beside<R: Threads + Wait + Abort + Sync>(rt: &R, alloc: Global, way: Way) -> Result<(), Fail> {
+    run_each(rt, alloc, way, &BESIDE)
+}
+
+fn cut_inside<R: Threads + Wait + Abort + Sync>(
+    rt: &R,
+    alloc: Global,
+    way: Way,
+) -> Result<(), Fail> {
+    run_each(rt, alloc, way, &CUT_INSIDE)
+}

@@ -2,12 +2,12 @@
 ghost use Rattle.std.specs.Prelude.{◌<◌, ◌≤◌};
 ghost use Rattle.ready_deques.specs.Limits.{max_workers};
 
-use crate::inner_cases::INNER_CASES;
+use crate::inner_cases::inner_cases;
 use crate::job_cases::JobCase;
 use crate::orders::{Order, run_in_order};
-use crate::plain_cases::PLAIN_CASES;
+use crate::plain_cases::plain_cases;
 use crate::run_checks::{By, check_whole};
-use crate::unit_cases::UNIT_CASES;
+use crate::unit_cases::unit_cases;
 use ready_deques::MAX_WORKERS;
 use std::alloc::Global;
 use std::process::Abort;
@@ -32,21 +32,60 @@ const ORDERS: [Order; 10] = [
 
 const CREWS: [usize; 4] = [1, 2, 4, 16];
 
+/// How cases are run.
+#[derive(Clone, Copy)]
+pub(crate) enum Way {
+    /// By one thread.
+    OneThread,
+    /// By each crew, so often.
+    Crews(u32),
+}
+
 #[test]
 fn jobs_are_run_by_one_thread(rt: HostRuntime) -> Result<(), Fail> {
-    for cases in [PLAIN_CASES.as_slice(), &UNIT_CASES, &INNER_CASES] {
-        run_each_by_one(&rt, rt.alloc(), cases)?;
+    plain_cases(&rt, rt.alloc(), Way::OneThread)?;
+    unit_cases(&rt, rt.alloc(), Way::OneThread)?;
+    inner_cases(&rt, rt.alloc(), Way::OneThread)
+}
+
+#[test]
+fn plain_jobs_are_run_by_crews(rt: HostRuntime) -> Result<(), Fail> {
+    plain_cases(&rt, rt.alloc(), Way::Crews(5))
+}
+
+#[test]
+fn jobs_with_units_are_run_by_crews(rt: HostRuntime) -> Result<(), Fail> {
+    unit_cases(&rt, rt.alloc(), Way::Crews(10))
+}
+
+#[test]
+fn jobs_with_runs_inside_are_run_by_crews(rt: HostRuntime) -> Result<(), Fail> {
+    inner_cases(&rt, rt.alloc(), Way::Crews(20))
+}
+
+/// Runs each of these cases.
+pub(crate) fn run_each<R: Threads + Wait + Abort + Sync>(
+    rt: &R,
+    alloc: Global,
+    way: Way,
+    cases: &[JobCase],
+) -> Result<(), Fail> {
+    for case in cases {
+        match way {
+            Way::OneThread => run_unless_met(rt, alloc, case)?,
+            Way::Crews(times) => run_by_crews(rt, alloc, case, times)?,
+        }
     }
     Ok(())
 }
 
-fn run_each_by_one(rt: &(impl Wait + Abort), alloc: Global, cases: &[JobCase]) -> Result<(), Fail> {
-    for case in cases {
-        if case.meeting == 0 {
-            run_by_one(rt, alloc, case)?;
-        }
+// By one thread, where no tasks have to meet.
+fn run_unless_met(rt: &(impl Wait + Abort), alloc: Global, case: &JobCase) -> Result<(), Fail> {
+    if case.meeting == 0 {
+        run_by_one(rt, alloc, case)
+    } else {
+        Ok(())
     }
-    Ok(())
 }
 
 fn run_by_one(rt: &(impl Wait + Abort), alloc: Global, case: &JobCase) -> Result<(), Fail> {
@@ -58,34 +97,6 @@ fn run_by_one(rt: &(impl Wait + Abort), alloc: Global, case: &JobCase) -> Result
     }
     let run = run_alone(rt, alloc, Arc::new(alloc, case.job(rt, alloc)?)?)?;
     check_whole(rt, alloc, case, By::OneThread, &run)
-}
-
-#[test]
-fn plain_jobs_are_run_by_crews(rt: HostRuntime) -> Result<(), Fail> {
-    run_each_by_crews(&rt, rt.alloc(), &PLAIN_CASES, 5)
-}
-
-#[test]
-fn jobs_with_units_are_run_by_crews(rt: HostRuntime) -> Result<(), Fail> {
-    run_each_by_crews(&rt, rt.alloc(), &UNIT_CASES, 10)
-}
-
-#[test]
-fn jobs_with_runs_inside_are_run_by_crews(rt: HostRuntime) -> Result<(), Fail> {
-    run_each_by_crews(&rt, rt.alloc(), &INNER_CASES, 20)
-}
-
-// Each so often by each crew.
-fn run_each_by_crews<R: Threads + Wait + Abort + Sync>(
-    rt: &R,
-    alloc: Global,
-    cases: &[JobCase],
-    times: u32,
-) -> Result<(), Fail> {
-    for case in cases {
-        run_by_crews(rt, alloc, case, times)?;
-    }
-    Ok(())
 }
 
 // By the crews that have as many seats as tasks are to meet.

@@ -1,7 +1,13 @@
 // Jobs whose tasks need no unit: joins, choices, loops, tokens that are kept or queue up, limits and faults.
 use crate::job_cases::{FREE, JobCase};
+use crate::job_runs::{Way, run_each};
 use crate::nets::{EMPTY, NetCase};
 use journal_rules::Why;
+use std::alloc::Global;
+use std::process::Abort;
+use std::sync::Wait;
+use std::test::Fail;
+use std::thread::Threads;
 use test_jobs::START_LIMIT;
 
 const TWO: NetCase = NetCase {
@@ -35,8 +41,8 @@ const LOOPS: NetCase = NetCase {
     ..EMPTY
 };
 
-/// The cases.
-pub(crate) const PLAIN_CASES: [JobCase; 37] = [
+// Tasks that wait for each other.
+const JOINS: [JobCase; 6] = [
     FREE,
     JobCase {
         name: "two tasks beside each other",
@@ -80,6 +86,10 @@ pub(crate) const PLAIN_CASES: [JobCase; 37] = [
         starts: (1, 1),
         ..FREE
     },
+];
+
+// Conditions.
+const CHOICES: [JobCase; 6] = [
     JobCase {
         name: "the first edge of a choice",
         net: FORK,
@@ -132,6 +142,10 @@ pub(crate) const PLAIN_CASES: [JobCase; 37] = [
         starts: (6, 6),
         ..FREE
     },
+];
+
+// Tokens that are there at first.
+const FIRST_TOKENS: [JobCase; 4] = [
     JobCase {
         name: "a first token that is used, and one that waits",
         net: NetCase {
@@ -166,16 +180,6 @@ pub(crate) const PLAIN_CASES: [JobCase; 37] = [
         ..FREE
     },
     JobCase {
-        name: "tokens that stay, since what they wait for isn't chosen",
-        net: NetCase {
-            tasks: "pcppp",
-            edges: "ae bc bd ce",
-            ..EMPTY
-        },
-        starts: (3, 3),
-        ..FREE
-    },
-    JobCase {
         name: "tokens that wait, one that is there at first, and some that stay",
         net: NetCase {
             tasks: "pppcppp",
@@ -184,6 +188,20 @@ pub(crate) const PLAIN_CASES: [JobCase; 37] = [
             ..EMPTY
         },
         starts: (5, 5),
+        ..FREE
+    },
+];
+
+// Tokens that wait at an edge.
+const WAITING_TOKENS: [JobCase; 5] = [
+    JobCase {
+        name: "tokens that stay, since what they wait for isn't chosen",
+        net: NetCase {
+            tasks: "pcppp",
+            edges: "ae bc bd ce",
+            ..EMPTY
+        },
+        starts: (3, 3),
         ..FREE
     },
     JobCase {
@@ -221,6 +239,21 @@ pub(crate) const PLAIN_CASES: [JobCase; 37] = [
         ..FREE
     },
     JobCase {
+        name: "a diamond in a loop",
+        net: NetCase {
+            tasks: "ppppc",
+            edges: "ab bc bd ce de eb",
+            ..EMPTY
+        },
+        turns: 30,
+        starts: (41, 41),
+        ..FREE
+    },
+];
+
+// Runs that come to their limit.
+const LIMITS: [JobCase; 4] = [
+    JobCase {
         name: "a row that is cut short",
         net: ROW,
         limit: 3,
@@ -256,6 +289,10 @@ pub(crate) const PLAIN_CASES: [JobCase; 37] = [
         starts: (20, 20),
         ..FREE
     },
+];
+
+// Loops that their limit alone ends.
+const ENDLESS: [JobCase; 4] = [
     JobCase {
         name: "a loop that its limit alone ends",
         net: ROUND,
@@ -272,6 +309,34 @@ pub(crate) const PLAIN_CASES: [JobCase; 37] = [
         starts: (100, 100),
         ..FREE
     },
+    JobCase {
+        name: "a ring up to a limit",
+        net: NetCase {
+            tasks: "pppppppp",
+            edges: "ab cd ef gh",
+            rings: "bc de fg ha",
+            ..EMPTY
+        },
+        limit: 60,
+        starts: (60, 60),
+        ..FREE
+    },
+    JobCase {
+        name: "six tasks that turn by themselves before a join, up to a limit",
+        net: NetCase {
+            tasks: "ppppppp",
+            edges: "ag bg cg dg eg fg",
+            rings: "aa bb cc dd ee ff",
+            ..EMPTY
+        },
+        limit: 60,
+        starts: (60, 60),
+        ..FREE
+    },
+];
+
+// Faults.
+const FAULTS: [JobCase; 6] = [
     JobCase {
         name: "a fault of the third task of a row",
         net: ROW,
@@ -319,41 +384,6 @@ pub(crate) const PLAIN_CASES: [JobCase; 37] = [
         ..FREE
     },
     JobCase {
-        name: "a diamond in a loop",
-        net: NetCase {
-            tasks: "ppppc",
-            edges: "ab bc bd ce de eb",
-            ..EMPTY
-        },
-        turns: 30,
-        starts: (41, 41),
-        ..FREE
-    },
-    JobCase {
-        name: "a ring up to a limit",
-        net: NetCase {
-            tasks: "pppppppp",
-            edges: "ab cd ef gh",
-            rings: "bc de fg ha",
-            ..EMPTY
-        },
-        limit: 60,
-        starts: (60, 60),
-        ..FREE
-    },
-    JobCase {
-        name: "six tasks that turn by themselves before a join, up to a limit",
-        net: NetCase {
-            tasks: "ppppppp",
-            edges: "ag bg cg dg eg fg",
-            rings: "aa bb cc dd ee ff",
-            ..EMPTY
-        },
-        limit: 60,
-        starts: (60, 60),
-        ..FREE
-    },
-    JobCase {
         name: "a fault of one of two tasks that turn by themselves before a join",
         net: NetCase {
             tasks: "ppp",
@@ -366,6 +396,10 @@ pub(crate) const PLAIN_CASES: [JobCase; 37] = [
         starts: (5, 14),
         ..FREE
     },
+];
+
+// Many tasks at once, and tasks that have to meet.
+const SIDE_BY_SIDE: [JobCase; 2] = [
     JobCase {
         name: "a fan of three hundred tasks",
         net: NetCase {
@@ -384,3 +418,63 @@ pub(crate) const PLAIN_CASES: [JobCase; 37] = [
         ..FREE
     },
 ];
+
+/// Runs all cases, some at a time: one function that has all of them would be too large to check.
+pub(crate) fn plain_cases<R: Threads + Wait + Abort + Sync>(
+    rt: &R,
+    alloc: Global,
+    way: Way,
+) -> Result<(), Fail> {
+    joins(rt, alloc, way)?;
+    choices(rt, alloc, way)?;
+    first_tokens(rt, alloc, way)?;
+    waiting_tokens(rt, alloc, way)?;
+    limits(rt, alloc, way)?;
+    endless(rt, alloc, way)?;
+    faults(rt, alloc, way)?;
+    side_by_side(rt, alloc, way)
+}
+
+fn joins<R: Threads + Wait + Abort + Sync>(rt: &R, alloc: Global, way: Way) -> Result<(), Fail> {
+    run_each(rt, alloc, way, &JOINS)
+}
+
+fn choices<R: Threads + Wait + Abort + Sync>(rt: &R, alloc: Global, way: Way) -> Result<(), Fail> {
+    run_each(rt, alloc, way, &CHOICES)
+}
+
+fn first_tokens<R: Threads + Wait + Abort + Sync>(
+    rt: &R,
+    alloc: Global,
+    way: Way,
+) -> Result<(), Fail> {
+    run_each(rt, alloc, way, &FIRST_TOKENS)
+}
+
+fn waiting_tokens<R: Threads + Wait + Abort + Sync>(
+    rt: &R,
+    alloc: Global,
+    way: Way,
+) -> Result<(), Fail> {
+    run_each(rt, alloc, way, &WAITING_TOKENS)
+}
+
+fn limits<R: Threads + Wait + Abort + Sync>(rt: &R, alloc: Global, way: Way) -> Result<(), Fail> {
+    run_each(rt, alloc, way, &LIMITS)
+}
+
+fn endless<R: Threads + Wait + Abort + Sync>(rt: &R, alloc: Global, way: Way) -> Result<(), Fail> {
+    run_each(rt, alloc, way, &ENDLESS)
+}
+
+fn faults<R: Threads + Wait + Abort + Sync>(rt: &R, alloc: Global, way: Way) -> Result<(), Fail> {
+    run_each(rt, alloc, way, &FAULTS)
+}
+
+fn side_by_side<R: Threads + Wait + Abort + Sync>(
+    rt: &R,
+    alloc: Global,
+    way: Way,
+) -> Result<(), Fail> {
+    run_each(rt, alloc, way, &SIDE_BY_SIDE)
+}

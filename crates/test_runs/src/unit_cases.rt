@@ -1,7 +1,13 @@
 // Jobs whose tasks take and give back units of semaphores. A release that finds no unit is parked.
 use crate::job_cases::{FREE, JobCase};
+use crate::job_runs::{Way, run_each};
 use crate::nets::{EMPTY, NetCase};
 use journal_rules::Why;
+use std::alloc::Global;
+use std::process::Abort;
+use std::sync::Wait;
+use std::test::Fail;
+use std::thread::Threads;
 
 // Sixteen tasks that hold a unit.
 const HOLDERS: NetCase = NetCase {
@@ -16,8 +22,8 @@ const TAKERS: NetCase = NetCase {
     ..EMPTY
 };
 
-/// The cases.
-pub(crate) const UNIT_CASES: [JobCase; 19] = [
+// Units that tasks hold.
+const HELD: [JobCase; 5] = [
     JobCase {
         name: "one unit that all hold",
         net: NetCase {
@@ -71,16 +77,10 @@ pub(crate) const UNIT_CASES: [JobCase; 19] = [
         starts: (19, 19),
         ..FREE
     },
-    JobCase {
-        name: "two semaphores that all hold",
-        net: NetCase {
-            units: "11",
-            tasks: "hhhhhhhh",
-            ..EMPTY
-        },
-        starts: (8, 8),
-        ..FREE
-    },
+];
+
+// Units that other tasks give back.
+const GIVEN_BACK: [JobCase; 4] = [
     JobCase {
         name: "a unit that others give back",
         net: NetCase {
@@ -129,6 +129,47 @@ pub(crate) const UNIT_CASES: [JobCase; 19] = [
         starts: (20, 20),
         ..FREE
     },
+];
+
+// Two semaphores.
+const TWO_SEMAPHORES: [JobCase; 3] = [
+    JobCase {
+        name: "two semaphores that all hold",
+        net: NetCase {
+            units: "11",
+            tasks: "hhhhhhhh",
+            ..EMPTY
+        },
+        starts: (8, 8),
+        ..FREE
+    },
+    // Those that hold both take the unit of the first semaphore, find none of the second, and put the first one back.
+    JobCase {
+        name: "two semaphores that some hold, while others take and give back a unit of one",
+        net: NetCase {
+            units: "11",
+            tasks: "tgvwhhhh",
+            edges: "ab cd",
+            ..EMPTY
+        },
+        starts: (8, 8),
+        ..FREE
+    },
+    JobCase {
+        name: "more tasks that hold two semaphores than may start",
+        net: NetCase {
+            units: "11",
+            tasks: "hhhhhhhh",
+            ..EMPTY
+        },
+        limit: 3,
+        starts: (3, 3),
+        ..FREE
+    },
+];
+
+// Runs that are cut short.
+const CUT_SHORT: [JobCase; 5] = [
     JobCase {
         name: "a unit that none gives back",
         net: NetCase {
@@ -179,6 +220,10 @@ pub(crate) const UNIT_CASES: [JobCase; 19] = [
         starts: (5, 5),
         ..FREE
     },
+];
+
+// Units that nobody took.
+const OVER_RELEASED: [JobCase; 2] = [
     JobCase {
         name: "a unit that is given back and wasn't taken",
         net: NetCase {
@@ -202,27 +247,53 @@ pub(crate) const UNIT_CASES: [JobCase; 19] = [
         why: Some(Why::OverRelease(0)),
         ..FREE
     },
-    // Those that hold both take the unit of the first semaphore, find none of the second, and put the first one back.
-    JobCase {
-        name: "two semaphores that some hold, while others take and give back a unit of one",
-        net: NetCase {
-            units: "11",
-            tasks: "tgvwhhhh",
-            edges: "ab cd",
-            ..EMPTY
-        },
-        starts: (8, 8),
-        ..FREE
-    },
-    JobCase {
-        name: "more tasks that hold two semaphores than may start",
-        net: NetCase {
-            units: "11",
-            tasks: "hhhhhhhh",
-            ..EMPTY
-        },
-        limit: 3,
-        starts: (3, 3),
-        ..FREE
-    },
 ];
+
+/// Runs all cases, some at a time: one function that has all of them would be too large to check.
+pub(crate) fn unit_cases<R: Threads + Wait + Abort + Sync>(
+    rt: &R,
+    alloc: Global,
+    way: Way,
+) -> Result<(), Fail> {
+    held(rt, alloc, way)?;
+    given_back(rt, alloc, way)?;
+    two_semaphores(rt, alloc, way)?;
+    cut_short(rt, alloc, way)?;
+    over_released(rt, alloc, way)
+}
+
+fn held<R: Threads + Wait + Abort + Sync>(rt: &R, alloc: Global, way: Way) -> Result<(), Fail> {
+    run_each(rt, alloc, way, &HELD)
+}
+
+fn given_back<R: Threads + Wait + Abort + Sync>(
+    rt: &R,
+    alloc: Global,
+    way: Way,
+) -> Result<(), Fail> {
+    run_each(rt, alloc, way, &GIVEN_BACK)
+}
+
+fn two_semaphores<R: Threads + Wait + Abort + Sync>(
+    rt: &R,
+    alloc: Global,
+    way: Way,
+) -> Result<(), Fail> {
+    run_each(rt, alloc, way, &TWO_SEMAPHORES)
+}
+
+fn cut_short<R: Threads + Wait + Abort + Sync>(
+    rt: &R,
+    alloc: Global,
+    way: Way,
+) -> Result<(), Fail> {
+    run_each(rt, alloc, way, &CUT_SHORT)
+}
+
+fn over_released<R: Threads + Wait + Abort + Sync>(
+    rt: &R,
+    alloc: Global,
+    way: Way,
+) -> Result<(), Fail> {
+    run_each(rt, alloc, way, &OVER_RELEASED)
+}
