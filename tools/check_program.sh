@@ -1,9 +1,9 @@
 #!/usr/bin/env bash
 # Runs the built program on each of the examples, also by 1, 4 and 16 workers and in version 2 of its graph file, on graphs
-# with semaphores, on command lines and files that it refuses, on texts of which one can't be read, on outputs that fail and
-# without memory, and compares its exit code, standard output and standard error; and counts the threads of runs by
-# several workers. Prints a line for each difference, and ends with
-# status 1 where there is one. Its one argument is the program; without it that of the last build is run.
+# with semaphores, for rounds and profiles, on command lines and files that it refuses, on texts of which one can't be read,
+# on outputs that fail and without memory, and compares its exit code, standard output and standard error; and counts the
+# threads of runs by several workers. Prints a line for each difference, and ends with status 1 where there is one. Its one
+# argument is the program; without it that of the last build is run.
 set -euo pipefail
 top=$(realpath "$(dirname "${BASH_SOURCE[0]}")/..")
 program=$(realpath "${1:-$top/crates/flow/out/flow}")
@@ -60,7 +60,7 @@ upgraded_prints_the_same() {
     grep -q '"version":2}$' "$seen/upgraded.json" || fault "the upgrade of $folder isn't of version 2"
     call upgrade "$seen/upgraded.json"
     compare "the second upgrade of $folder" 0 "$seen/upgraded.json" /dev/null
-    (cd "$folder" && call run "$seen/upgraded.json")
+    (cd "$folder" && call run "$seen/upgraded.json" "${options[@]}")
     compare "the upgraded $folder" "$code" "$seen/wanted_out" "$seen/wanted_notes"
     if [[ -f $folder/findings.txt ]]; then
         call check "$seen/upgraded.json"
@@ -68,18 +68,27 @@ upgraded_prints_the_same() {
     fi
 }
 
-# Each example, called from its folder. A file that isn't there stands for no bytes, or for code 0.
+# Each example, called from its folder, with the options that options.txt has, a word a line. A file that isn't there
+# stands for no bytes, for code 0 or for no options. Its profile and its check are compared where it has a file of them.
 for folder in examples/*/; do
     copy_or_empty "$folder/expected.txt" "$seen/wanted_out"
     copy_or_empty "$folder/expected.err" "$seen/wanted_notes"
     code=0
     if [[ -f $folder/expected.code ]]; then code=$(cat "$folder/expected.code"); fi
-    (cd "$folder" && call run graph.json)
+    options=()
+    if [[ -f $folder/options.txt ]]; then mapfile -t options <"$folder/options.txt"; fi
+    (cd "$folder" && call run graph.json "${options[@]}")
     compare "$folder" "$code" "$seen/wanted_out" "$seen/wanted_notes"
     for workers in 1 4 16; do
-        (cd "$folder" && call run graph.json --workers "$workers")
+        (cd "$folder" && call run graph.json --workers "$workers" "${options[@]}")
         compare "$folder with $workers workers" "$code" "$seen/wanted_out" "$seen/wanted_notes"
     done
+    if [[ -f $folder/profile.txt ]]; then
+        for workers in 1 4 16; do
+            (cd "$folder" && call profile graph.json --workers "$workers" "${options[@]}")
+            compare "the profile of $folder with $workers workers" "$code" "$folder/profile.txt" "$seen/wanted_notes"
+        done
+    fi
     if [[ -f $folder/findings.txt ]]; then
         (cd "$folder" && call check graph.json)
         compare "the check of $folder" 0 "$folder/findings.txt" /dev/null
@@ -113,6 +122,11 @@ refused 2 'flow: bad words' run "$count" --workers 17
 refused 2 'flow: bad words' run "$count" --workers +4
 refused 2 'flow: bad words' run "$count" --workers 00000004
 refused 2 'flow: bad words' run "$count" --workers 4 --workers 4
+refused 2 'flow: bad words' run "$count" --times 1001
+refused 2 'flow: bad words' run "$count" --times 2 --until x
+refused 2 'flow: bad words' profile
+refused 2 'flow: bad words' profile "$count" --journal
+refused 2 'flow: bad words' profile "$count" --times 1 --until x
 refused 2 'flow: bad words' check "$count" --workers 4
 refused 2 'flow: bad words' run "$count" --help
 refused 2 'flow: bad words' check
@@ -123,8 +137,39 @@ refused 2 'flow: bad words' upgrade "$count" "$count"
 refused 2 'flow: bad words' upgrade "$count" --workers 4
 refused 5 'flow: no text nowhere.json' run nowhere.json
 refused 5 'flow: no text t.txt' run "$count"
+refused 5 'flow: no text t.txt' profile "$count"
 refused 6 'flow: read fault on examples' run examples
 refused 3 'flow: bad graph: not JSON' run examples/count-lines/t.txt
+
+# A number of rounds, also none, and rounds until a word occurs.
+cd examples/count-lines
+printf '## round %d\n== b\n2\n' 1 2 >"$seen/wanted_out"
+call run graph.json --times 2
+compare 'two rounds' 0 "$seen/wanted_out" /dev/null
+call run graph.json --times 0
+compare 'no round' 0 /dev/null /dev/null
+printf '## round %d\n== b\n2\n' {1..1000} >"$seen/wanted_out"
+call run graph.json --until 3
+compare 'as many rounds as there may be' 0 "$seen/wanted_out" /dev/null
+
+# The profile of no round and of as many as there may be, and of a run that is cut short.
+table() {
+    printf '%-20s%9s%9s%9s%9s\n' task starts ends faults drops "$@"
+}
+spans() {
+    printf '%-20s%9s\n' spans "$1"
+}
+{ table a 0 0 0 0 b 0 0 0 0 && spans 0; } >"$seen/wanted_out"
+call profile graph.json --times 0
+compare 'the profile of no round' 0 "$seen/wanted_out" /dev/null
+{ table a 1000 1000 0 0 b 1000 1000 0 0 && spans 2000; } >"$seen/wanted_out"
+call profile graph.json --until 3
+compare 'the profile of as many rounds as there may be' 0 "$seen/wanted_out" /dev/null
+{ table a 1 1 0 0 b 0 0 0 1 && spans 1 && echo '!! limit 1'; } >"$seen/wanted_out"
+echo 'flow: limit 1' >"$seen/wanted_notes"
+call profile graph.json --times 2 --limit 1
+compare 'the profile of a run that meets its limit' 8 "$seen/wanted_out" "$seen/wanted_notes"
+cd "$top"
 
 # The journal of a run in place of its report, and what the judge says of it and of journals that are made from it. The
 # judge reads no text that the graph names.
@@ -696,7 +741,7 @@ put_nowhere() {
     echo "$code" >"$seen/code"
 }
 
-# A report and findings that fit into one write.
+# A report, a profile and findings that fit into one write.
 fits_into_one_write() {
     report=$1
     put_on /dev/full
@@ -709,6 +754,8 @@ fits_into_one_write() {
 }
 cd "$top/examples/count-lines"
 fits_into_one_write expected.txt
+command=profile
+fits_into_one_write profile.txt
 cd "$top/examples/ticket-review"
 command=check
 fits_into_one_write findings.txt

@@ -9,7 +9,8 @@ second, and so on; with `--all-later` that one and each after it. Which call is 
 workers, so the runs end only after so many (`--past`) that came to no Nth call. A run has to end within ten seconds
 with what it prints with ample memory, or with the same code and output and no line on standard error, for which there
 was no memory, or with code 13 and the line of it, or without that line where each later allocation fails, and a prefix
-of the output. Without an example it takes seven. With `--seconds` it takes random graphs in their place, of which one in
+of the output. An example has the options that its file options.txt says; where it is run in rounds, some of its runs
+have to end without memory behind a whole first round. Without an example it takes nine. With `--seconds` it takes random graphs in their place, of which one in
 four is upgraded; those with conditions or semaphores are run by one worker and others by 1, 4 or 16, until so many
 seconds have passed or a run ended in another way. It needs a C compiler and prints for each example how many runs ended
 in which way, of random graphs for all together, and ends with status 1 where one ended in another.
@@ -26,8 +27,11 @@ import time
 from random_graphs import add_extent, branching_graph, cases, folder_of, plain_graph, random_text, with_units
 
 EXAMPLES = pathlib.Path(__file__).resolve().parent.parent / "examples"
-CHOSEN = ("count-lines", "log-triage", "trim-until-it-fits", "words-by-file", "join-orders", "two-tallies-at-a-time", "never-given-back", "log-join")
+CHOSEN = ("count-lines", "log-triage", "trim-until-it-fits", "words-by-file", "join-orders", "two-tallies-at-a-time", "never-given-back", "log-join", "three-tickets-a-week")
 NO_MEMORY = (13, b"flow: no memory\n")
+# What comes before the report of the second round.
+SECOND_ROUND = b"## round 2\n"
+BEHIND_A_ROUND = "out of memory behind a whole round"
 
 # The calls for memory, all of which the C library's own names serve. The refused one leaves a byte in a pipe.
 COUNTING_MALLOC = r"""
@@ -118,7 +122,8 @@ def kind_of(ended, ample, all_later):
         return "the same answer without its line"
     noted = notes == NO_MEMORY[1] or all_later and NO_MEMORY[1].startswith(notes)
     if code == NO_MEMORY[0] and noted and ample[1].startswith(out):
-        return "out of memory"
+        first, second, _ = ample[1].partition(SECOND_ROUND)
+        return BEHIND_A_ROUND if second and out.startswith(first) else "out of memory"
     return None
 
 
@@ -157,13 +162,23 @@ class Trial:
         return ", ".join(f"{count} times {kind}" for kind, count in sorted(self.kinds.items()))
 
 
+def options_of(example):
+    """The options with which an example is run, a line of its file options.txt each."""
+    file = example / "options.txt"
+    return file.read_text().splitlines() if file.is_file() else []
+
+
 def try_examples(asked, library):
     """Prints what came of the runs of each example, and answers how many ended in a way that they must not."""
-    words = ["run", "graph.json", "--workers", str(asked.workers)]
     faults = 0
     for example in asked.examples:
+        options = options_of(EXAMPLES / example)
+        words = ["run", "graph.json", "--workers", str(asked.workers), *options]
         trial = Trial(asked.program, library, asked.past, float("inf"))
         code, greatest = trial.run(example, EXAMPLES / example, words, asked.all_later)
+        if options and not trial.kinds[BEHIND_A_ROUND]:
+            print(f"{example}: no run ended without memory behind a whole round", file=sys.stderr)
+            faults += 1
         print(f"{example}: code {code} with ample memory; {trial.runs()} runs, none of which came to a call after "
               f"{greatest}: {trial.ways()}")
         faults += trial.faults()

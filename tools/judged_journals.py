@@ -87,7 +87,7 @@ def read_slowly(text):
 # ---- a slow judge
 
 class Net:
-    """The tasks, edges and semaphores of a graph file; conditions have weak edges out of them."""
+    """The tasks, edges and semaphores of a graph file; conditions have weak edges out of them. No edge begins with a token."""
 
     def __init__(self, graph):
         names = [semaphore["name"] for semaphore in graph.get("semaphores", [])]
@@ -97,12 +97,13 @@ class Net:
         self.ops = [task["op"] for task in graph["tasks"]]
         places = {task["name"]: place for place, task in enumerate(graph["tasks"])}
         self.edges = [(place, places[name]) for place, task in enumerate(graph["tasks"]) for name in task.get("to", [])]
+        self.tokens = [0] * len(self.edges)
 
     def shape(self, task):
         return {"back": "choice", "ifmore": "choice", "ifhas": "choice", "route": "many"}.get(self.ops[task], "plain")
 
     def is_weak(self, edge):
-        return self.shape(self.edges[edge][0]) != "plain"
+        return self.shape(self.edges[edge][0]) in ("choice", "many")
 
     def out(self, task):
         return [edge for edge, (source, _) in enumerate(self.edges) if source == task]
@@ -219,7 +220,7 @@ def open_starts(entries):
 
 def is_released(net, before, task, cause, edge):
     into = net.into(task)
-    given = {e: sum(other[2].split(",").count(str(e)) for other in before if other[0] == "end") for e in into}
+    given = {e: net.tokens[e] + sum(other[2].split(",").count(str(e)) for other in before if other[0] == "end") for e in into}
     used = [other[2] for other in before if other[0] in ("start", "drop") and int(other[1]) == task]
     if cause == "source":
         return not into and not used
@@ -231,10 +232,10 @@ def is_released(net, before, task, cause, edge):
 
 def is_chosen(net, task, edges, inner):
     out = net.out(task)
-    if inner:
-        return False
     shape = net.shape(task)
-    if shape == "plain":
+    if inner and shape != "nested":
+        return False
+    if shape in ("plain", "nested"):
         return edges in (out, [])
     if shape == "choice":
         return len(edges) <= 1 and all(edge in out for edge in edges)

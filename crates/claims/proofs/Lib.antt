@@ -7,6 +7,7 @@ pub mod WorkedRows
 pub mod WorkedGraphFiles
 pub mod WorkedGraphJson
 pub mod WorkedLines
+pub mod WorkedProfiles
 pub mod WorkedSeats
 pub mod WorkedYards
 pub mod WorkedSlots

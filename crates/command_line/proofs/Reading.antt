@@ -1,6 +1,9 @@
 -- What a command finds among the arguments, by what `clap` answers.
-use Rattle.std.proofs.Common.{subst, sym, ◌≡◌, true, refl, Some, None, Option, List, ℕ, [], ◌∷◌, ◌⊎◌, inl, inr}
+use Rattle.std.proofs.Common.{subst, sym, ◌≡◌, true, false, refl, Some, None, Option, List, ℕ, [], ◌∷◌, ◌⊎◌, inl, inr}
 use Rattle.std.specs.Prelude.{Result, IfOk, IfErr, ok_or, option_map, option_and_then}
+use Rattle.std.specs.Str.{bytes_eq}
+use Rattle.std.proofs.lemmas.Bool.{false_from_ne_true}
+use Rattle.std.proofs.lemmas.Slice.Eq.{bytes_eq-Decides}
 use Rattle.clap.specs.declared.error.Error.{Error}
 use Rattle.clap.specs.declared.error.kind.ErrorKind.TheVariants.{OutOfMemory}
 use Rattle.clap.specs.Walk.{Row}
@@ -54,3 +57,7 @@ pub request_err : {T : Type 0} (asked : T → Asked) (wanted : Option Asked) (fo
     → option_map asked found ≡ wanted → IfErr result (λ error. error ≡ Refused → wanted ≡ None)
 request_err asked wanted (Some request) result is made = rw is tt
 request_err asked wanted None result is made = rw is (λ refused. sym made)
+
+-- a text that isn't a command's name
+pub other_text : (text name : List ℕ) → (text ≡ name → ⊥) → bytes_eq text name ≡ false
+other_text text name other = false_from_ne_true (bytes_eq text name) (λ same. other ((bytes_eq-Decides text name).0 same))

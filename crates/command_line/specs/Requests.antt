@@ -6,14 +6,29 @@ use Rattle.clap.specs.Walk.{Row, Rule}
 use Rattle.clap.specs.Words.{App, Kinds, first_of, matches_of, fault_of, new_app, new_rule, with_rule}
 use Rattle.clap.specs.declared.builder.action.ArgAction.TheVariants.{SetTrue}
 use Rattle.clap.specs.Simple.{on_top}
-use Rattle.command_line.specs.declared.numbers.TheConstants.{DEFAULT_LIMIT, DEFAULT_WORKERS, GREATEST_LIMIT, GREATEST_WORKERS}
+use Rattle.command_line.specs.declared.numbers.TheConstants.{DEFAULT_LIMIT, DEFAULT_WORKERS, GREATEST_LIMIT, GREATEST_TIMES, GREATEST_WORKERS}
 use Rattle.command_line.specs.Numbers.{number_in}
 
--- What is asked for: to run the graph in a file, with at most so many starts and by so many workers, and to write its
--- journal in place of its report or not; to judge the journal in another file, which may have so many starts; to find how
--- the graph in a file can go wrong; or to write the graph in a file as a file of the newest version.
+-- How often a graph is run: once, where nothing is said; so many times; or until a round passes on a line in which a word
+-- occurs.
+pub data AskedRounds : Type 0 where
+  once : AskedRounds
+  times : ℕ → AskedRounds
+  until : List ℕ → AskedRounds
+
+-- how many rounds there are at most
+abbrev pub most_rounds : AskedRounds → ℕ
+most_rounds once = 1
+most_rounds (times n) = n
+most_rounds (until word) = GREATEST_TIMES
+
+-- What is asked for: to run the graph in a file, with at most so many starts a round, by so many workers and so often, and
+-- to write the journals in place of the reports or not; to run it so and count what each task did; to judge the journal in
+-- another file, which may have so many starts; to find how the graph in a file can go wrong; or to write the graph in a file
+-- as a file of the newest version.
 pub data Asked : Type 0 where
-  run : List ℕ → ℕ → ℕ → Bool → Asked
+  run : List ℕ → ℕ → ℕ → AskedRounds → Bool → Asked
+  profile : List ℕ → ℕ → ℕ → AskedRounds → Asked
   judge : List ℕ → List ℕ → ℕ → Asked
   check : List ℕ → Asked
   upgrade : List ℕ → Asked
@@ -33,9 +48,16 @@ option name = record (new_rule name) { long = Some name }
 abbrev pub flag : List ℕ → Rule
 flag name = record (new_rule name) { long = Some name; action = Some SetTrue }
 
--- `run FILE [--limit N] [--workers N] [--journal]`
+-- `NAME FILE [--limit N] [--workers N] [--times N] [--until WORD]`
+unfoldable pub runs_app : List ℕ → App
+runs_app name = with_rule (with_rule (with_rule (with_rule (with_rule (command_named name) (required (codes "file"))) (option (codes "limit"))) (option (codes "workers"))) (option (codes "times"))) (option (codes "until"))
+
+-- `run` with these and `[--journal]`, and `profile` with these alone
 unfoldable pub run_app : App
-run_app = with_rule (with_rule (with_rule (with_rule (command_named (codes "run")) (required (codes "file"))) (option (codes "limit"))) (option (codes "workers"))) (flag (codes "journal"))
+run_app = with_rule (runs_app (codes "run")) (flag (codes "journal"))
+
+unfoldable pub profile_app : App
+profile_app = runs_app (codes "profile")
 
 -- `judge FILE JOURNAL [--limit N]`
 unfoldable pub judge_app : App
@@ -65,14 +87,32 @@ limit_by text = option_map_or (number_in 1 GREATEST_LIMIT) text (Some DEFAULT_LI
 abbrev pub workers_by : Option (List ℕ) → Option ℕ
 workers_by text = option_map_or (number_in 1 GREATEST_WORKERS) text (Some DEFAULT_WORKERS)
 
+-- the rounds that the values of `--times`, from 0 to 1,000, and of `--until` ask for, of which one at most may be there
+abbrev pub rounds_by : Option (List ℕ) → Option (List ℕ) → Option AskedRounds
+rounds_by None None = Some once
+rounds_by (Some text) None = option_map times (number_in 0 GREATEST_TIMES text)
+rounds_by None (Some word) = Some (until word)
+rounds_by (Some text) (Some word) = None
+
+abbrev pub rounds_in : List Row → Option AskedRounds
+rounds_in rows = rounds_by (first_of (codes "times") rows) (first_of (codes "until") rows)
+
 -- whether a flag stands there, by what `clap` says of it
 abbrev pub is_set : Option (List ℕ) → Bool
 is_set text = option_map_or (λ value. bytes_eq value (codes "true")) text false
 
+-- what is asked for with a file, a limit, workers and rounds
+abbrev pub asked_with : (List ℕ → ℕ → ℕ → AskedRounds → Asked) → List Row → Option Asked
+asked_with make rows =
+    option_and_then (λ file. option_and_then (λ limit. option_and_then (λ workers. option_map (make file limit workers) (rounds_in rows)) (workers_by (first_of (codes "workers") rows))) (limit_by (first_of (codes "limit") rows))) (first_of (codes "file") rows)
+
 -- the run that is asked for
 abbrev pub run_in : List Row → Option Asked
-run_in rows =
-    option_and_then (λ file. option_and_then (λ limit. option_map (λ workers. run file limit workers (is_set (first_of (codes "journal") rows))) (workers_by (first_of (codes "workers") rows))) (limit_by (first_of (codes "limit") rows))) (first_of (codes "file") rows)
+run_in rows = asked_with (λ file limit workers rounds. run file limit workers rounds (is_set (first_of (codes "journal") rows))) rows
+
+-- the profile that is asked for
+abbrev pub profile_in : List Row → Option Asked
+profile_in = asked_with profile
 
 -- the judgement that is asked for
 abbrev pub judge_in : List Row → Option Asked
@@ -91,6 +131,7 @@ upgrade_in rows = option_map upgrade (first_of (codes "file") rows)
 abbrev pub asked_by : List (List ℕ) → Option Asked
 asked_by [] = None
 asked_by (command ∷ arguments) = if bytes_eq command (codes "run") then option_and_then run_in (rows_in run_app arguments)
+    else (if bytes_eq command (codes "profile") then option_and_then profile_in (rows_in profile_app arguments)
     else (if bytes_eq command (codes "judge") then option_and_then judge_in (rows_in judge_app arguments)
     else (if bytes_eq command (codes "check") then option_and_then check_in (rows_in check_app arguments)
-    else (if bytes_eq command (codes "upgrade") then option_and_then upgrade_in (rows_in upgrade_app arguments) else None)))
+    else (if bytes_eq command (codes "upgrade") then option_and_then upgrade_in (rows_in upgrade_app arguments) else None))))

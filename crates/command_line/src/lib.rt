@@ -2,8 +2,9 @@
 //!
 //! The first argument names a command of `flow`, and `clap` reads those after it, by one simple command for each of
 //! `flow`'s. The layer above sees what is asked for as plain data; which command lines ask for it is in
-//! `specs/Requests.antt`: `run_app`, `judge_app`, `check_app` and `upgrade_app` are the commands that `clap` reads by,
-//! and `run_in`, `judge_in`, `check_in` and `upgrade_in` what their matches come to.
+//! `specs/Requests.antt`: `run_app`, `profile_app`, `judge_app`, `check_app` and `upgrade_app` are the commands that
+//! `clap` reads by, and `run_in`, `profile_in`, `judge_in`, `check_in` and `upgrade_in` what their matches come to. The
+//! `RunOptions` of `run` and `profile` are read in one place.
 #![tactic(auto)]
 
 mod check;
@@ -11,13 +12,21 @@ mod commands;
 mod judge;
 mod matches;
 mod numbers;
+mod options;
+mod profile;
 mod request;
+mod rounds;
 mod run;
 mod upgrade;
 
 pub use check::Check;
 pub use judge::Judge;
-pub use numbers::{DEFAULT_LIMIT, DEFAULT_WORKERS, GREATEST_LIMIT, GREATEST_WORKERS};
+pub use numbers::{
+    DEFAULT_LIMIT, DEFAULT_WORKERS, GREATEST_LIMIT, GREATEST_TIMES, GREATEST_WORKERS,
+};
+pub use options::RunOptions;
+pub use profile::Profile;
 pub use request::{ArgumentsError, Request, read_arguments};
+pub use rounds::Rounds;
 pub use run::Run;
 pub use upgrade::Upgrade;

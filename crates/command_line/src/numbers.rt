@@ -17,6 +17,9 @@ pub const GREATEST_WORKERS: u32 = 16;
 /// How many workers a run has where nothing is said.
 pub const DEFAULT_WORKERS: u32 = 4;
 
+/// The greatest number of rounds: of those that are asked for, and of those that are run until a word occurs.
+pub const GREATEST_TIMES: u64 = 1_000;
+
 /// The limit that an option's value asks for; without the option, the default.
 pub(crate) fn limit_of(text: Option<&str>) -> Option<u64>
     ensures value { result ≡ limit_by (option_map (λ t. t.now) text.entry) }

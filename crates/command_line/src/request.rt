@@ -6,6 +6,7 @@ ghost use Rattle.command_line.specs.Asked.{asked};
 
 use super::check::{Check, read_check};
 use super::judge::{Judge, read_judge};
+use super::profile::{Profile, read_profile};
 use super::run::{Run, read_run};
 use super::upgrade::{Upgrade, read_upgrade};
 use std::alloc::{AllocError, Global};
@@ -34,6 +35,7 @@ impl From<AllocError> for ArgumentsError {
 #[derive(Clone, Copy)]
 pub enum Request<'w> {
     Run(Run<'w>),
+    Profile(Profile<'w>),
     Judge(Judge<'w>),
     Check(Check<'w>),
     Upgrade(Upgrade<'w>),
@@ -41,6 +43,7 @@ pub enum Request<'w> {
 
 /// What the arguments after the program's own name ask for. `Refused` comes exactly where they ask for nothing
 /// (`asked_by`), unless an allocation fails.
+#[tactic(auto, using(crate::proofs::Reading::other_text))]
 pub fn read_arguments<'w>(
     alloc: Global,
     arguments: &'w [String],
@@ -56,6 +59,7 @@ pub fn read_arguments<'w>(
     };
     match command.as_str() {
         "run" => Ok(Request::Run(read_run(alloc, rest)?)),
+        "profile" => Ok(Request::Profile(read_profile(alloc, rest)?)),
         "judge" => Ok(Request::Judge(read_judge(alloc, rest)?)),
         "check" => Ok(Request::Check(read_check(alloc, rest)?)),
         "upgrade" => Ok(Request::Upgrade(read_upgrade(alloc, rest)?)),

@@ -15,7 +15,7 @@ use Rattle.call_status.specs.declared.status.Status.{Status}
 use Rattle.call_status.specs.declared.status.Status.TheVariants.{Done, BadWords, NoText, WriteFault, TaskFault, Limit, Stuck, NoMemory}
 use Rattle.call_status.specs.declared.stop.Stop.{Stop}
 use Rattle.call_status.specs.declared.stop.Stop.TheVariants as stop
-use Rattle.command_line.specs.Requests.{asked_by, run as run_of, judge as judge_of, check as check_of, upgrade as upgrade_of}
+use Rattle.command_line.specs.Requests.{asked_by, once, run as run_of, profile as profile_of, judge as judge_of, check as check_of, upgrade as upgrade_of}
 use Rattle.legal_run.specs.declared.verdict.Verdict.TheVariants.{Complete as Finished}
 use Rattle.flow_run.specs.declared.conclusion.Conclusion.TheVariants as conclusion
 use Rattle.flow_run.specs.declared.conclusion.GraphFindings.{GraphFindings}
@@ -24,6 +24,7 @@ use Rattle.nested_runs.specs.declared.reasons.Reason.TheVariants as reason
 use Rattle.flow_run.specs.Requests.{SourceTexts, StopsAtName, IsTextOf, TextsAre, StopsAtText, HasStart, StopsAtBytes, HasPlan, IsRequested, file_limit, text_limit}
 use Rattle.flow_run.specs.Answers.{TextRun, IsAfterRun, RunEnds, CallEnds, Reported}
 use Rattle.call_status.specs.Statuses.{status_of}
+use Rattle.flow_run.proofs.RoundLemmas.{one_round}
 
 abbrev g : List ℕ
 g = 0 ∷ []
@@ -235,14 +236,14 @@ never_done_before (stop.ReadFault name) same = absurd (cc)
 never_done_before (stop.BadJournal line) same = absurd (cc)
 never_done_before stop.NoMemory same = absurd (cc)
 
-done_keeps_a_run : ¬ RunEnds held g 77 Done []
+done_keeps_a_run : ¬ RunEnds held g 77 once Done []
 done_keeps_a_run (inl stopped) = never_done_before stopped.why stopped.reported
-done_keeps_a_run (inr ran) = let only : [] ≡ ran.run ∷ [] = ran.only in absurd (cc)
+done_keeps_a_run (inr ran) = let one = one_round ran.job [] (ran.all (λ (memory : Done ≡ NoMemory). absurd (cc))) in let only : [] ≡ one.0 ∷ [] = one.1 in absurd (cc)
 
 module _ (run other : TextRun) where
-  one_run_is_kept : ¬ RunEnds held g 77 Done (run ∷ other ∷ [])
+  one_run_is_kept : ¬ RunEnds held g 77 once Done (run ∷ other ∷ [])
   one_run_is_kept (inl stopped) = never_done_before stopped.why stopped.reported
-  one_run_is_kept (inr ran) = let only : run ∷ other ∷ [] ≡ ran.run ∷ [] = ran.only in absurd (omega (arith, ap length only))
+  one_run_is_kept (inr ran) = absurd (omega (arith, ran.first.few))
 
 -- A command line that asks for a run isn't refused, and one that asks for nothing is.
 never_bad : (why : Stop) → ¬ (BadWords ≡ status_of why)
@@ -254,96 +255,106 @@ never_bad (stop.ReadFault name) same = absurd (cc)
 never_bad (stop.BadJournal line) same = absurd (cc)
 never_bad stop.NoMemory same = absurd (cc)
 
-asked : (arguments : List (List ℕ)) → asked_by arguments ≡ Some (run_of g 77 4 false) → ¬ CallEnds held arguments BadWords [] None
-asked arguments asks (inl (file, limit, workers, journal, asks_file, inl stopped, none)) = never_bad stopped.why stopped.reported
-asked arguments asks (inl (file, limit, workers, journal, asks_file, inr ran, none)) = let only : [] ≡ ran.run ∷ [] = ran.only in absurd (cc)
-asked arguments asks (inr (inl (file, name, limit, asks_judge, ends, none))) = let never : Some (run_of g 77 4 false) ≡ Some (judge_of file name limit) = sym asks ∙ asks_judge in absurd (cc)
-asked arguments asks (inr (inr (inl (file, asks_check, ends, none)))) = let never : Some (run_of g 77 4 false) ≡ Some (check_of file) = sym asks ∙ asks_check in absurd (cc)
-asked arguments asks (inr (inr (inr (inl (file, asks_upgrade, ends, none))))) = let never : Some (run_of g 77 4 false) ≡ Some (upgrade_of file) = sym asks ∙ asks_upgrade in absurd (cc)
-asked arguments asks (inr (inr (inr (inr (inl (same, none, nothing, refused)))))) = let never : Some (run_of g 77 4 false) ≡ None = sym asks ∙ refused in absurd (cc)
-asked arguments asks (inr (inr (inr (inr (inr (same, none, nothing)))))) = absurd (cc)
+asked : (arguments : List (List ℕ)) → asked_by arguments ≡ Some (run_of g 77 4 once false) → ¬ CallEnds held arguments BadWords [] None
+asked arguments asks (inl (file, limit, workers, rounds, journal, asks_file, inl stopped, none)) = never_bad stopped.why stopped.reported
+asked arguments asks (inl (file, limit, workers, rounds, journal, asks_file, inr ran, none)) = not_after_run ran.after
+asked arguments asks (inr (inl (file, limit, workers, rounds, asks_profile, ends))) = let never : Some (run_of g 77 4 once false) ≡ Some (profile_of file limit workers rounds) = sym asks ∙ asks_profile in absurd (cc)
+asked arguments asks (inr (inr (inl (file, name, limit, asks_judge, ends, none)))) = let never : Some (run_of g 77 4 once false) ≡ Some (judge_of file name limit) = sym asks ∙ asks_judge in absurd (cc)
+asked arguments asks (inr (inr (inr (inl (file, asks_check, ends, none))))) = let never : Some (run_of g 77 4 once false) ≡ Some (check_of file) = sym asks ∙ asks_check in absurd (cc)
+asked arguments asks (inr (inr (inr (inr (inl (file, asks_upgrade, ends, none)))))) = let never : Some (run_of g 77 4 once false) ≡ Some (upgrade_of file) = sym asks ∙ asks_upgrade in absurd (cc)
+asked arguments asks (inr (inr (inr (inr (inr (inl (same, none, nothing, refused))))))) = let never : Some (run_of g 77 4 once false) ≡ None = sym asks ∙ refused in absurd (cc)
+asked arguments asks (inr (inr (inr (inr (inr (inr (same, none, nothing))))))) = absurd (cc)
 
 asked_to_judge : (arguments : List (List ℕ)) → asked_by arguments ≡ Some (judge_of g t 77) → ¬ CallEnds held arguments BadWords [] None
-asked_to_judge arguments asks (inl (file, limit, workers, journal, asks_file, ends, none)) = let never : Some (judge_of g t 77) ≡ Some (run_of file limit workers journal) = sym asks ∙ asks_file in absurd (cc)
-asked_to_judge arguments asks (inr (inl (file, name, limit, asks_judge, inl stopped, none))) = never_bad stopped.why stopped.reported
-asked_to_judge arguments asks (inr (inl (file, name, limit, asks_judge, inr ended, none))) = let only : None ≡ Some (conclusion.Verdict ended.verdict) = ended.only in absurd (cc)
-asked_to_judge arguments asks (inr (inr (inl (file, asks_check, ends, none)))) = let never : Some (judge_of g t 77) ≡ Some (check_of file) = sym asks ∙ asks_check in absurd (cc)
-asked_to_judge arguments asks (inr (inr (inr (inl (file, asks_upgrade, ends, none))))) = let never : Some (judge_of g t 77) ≡ Some (upgrade_of file) = sym asks ∙ asks_upgrade in absurd (cc)
-asked_to_judge arguments asks (inr (inr (inr (inr (inl (same, none, nothing, refused)))))) = let never : Some (judge_of g t 77) ≡ None = sym asks ∙ refused in absurd (cc)
-asked_to_judge arguments asks (inr (inr (inr (inr (inr (same, none, nothing)))))) = absurd (cc)
+asked_to_judge arguments asks (inl (file, limit, workers, rounds, journal, asks_file, ends, none)) = let never : Some (judge_of g t 77) ≡ Some (run_of file limit workers rounds journal) = sym asks ∙ asks_file in absurd (cc)
+asked_to_judge arguments asks (inr (inl (file, limit, workers, rounds, asks_profile, ends))) = let never : Some (judge_of g t 77) ≡ Some (profile_of file limit workers rounds) = sym asks ∙ asks_profile in absurd (cc)
+asked_to_judge arguments asks (inr (inr (inl (file, name, limit, asks_judge, inl stopped, none)))) = never_bad stopped.why stopped.reported
+asked_to_judge arguments asks (inr (inr (inl (file, name, limit, asks_judge, inr ended, none)))) = let only : None ≡ Some (conclusion.Verdict ended.verdict) = ended.only in absurd (cc)
+asked_to_judge arguments asks (inr (inr (inr (inl (file, asks_check, ends, none))))) = let never : Some (judge_of g t 77) ≡ Some (check_of file) = sym asks ∙ asks_check in absurd (cc)
+asked_to_judge arguments asks (inr (inr (inr (inr (inl (file, asks_upgrade, ends, none)))))) = let never : Some (judge_of g t 77) ≡ Some (upgrade_of file) = sym asks ∙ asks_upgrade in absurd (cc)
+asked_to_judge arguments asks (inr (inr (inr (inr (inr (inl (same, none, nothing, refused))))))) = let never : Some (judge_of g t 77) ≡ None = sym asks ∙ refused in absurd (cc)
+asked_to_judge arguments asks (inr (inr (inr (inr (inr (inr (same, none, nothing))))))) = absurd (cc)
 
 asked_to_check : (arguments : List (List ℕ)) → asked_by arguments ≡ Some (check_of g) → ¬ CallEnds held arguments BadWords [] None
-asked_to_check arguments asks (inl (file, limit, workers, journal, asks_file, ends, none)) = let never : Some (check_of g) ≡ Some (run_of file limit workers journal) = sym asks ∙ asks_file in absurd (cc)
-asked_to_check arguments asks (inr (inl (file, name, limit, asks_judge, ends, none))) = let never : Some (check_of g) ≡ Some (judge_of file name limit) = sym asks ∙ asks_judge in absurd (cc)
-asked_to_check arguments asks (inr (inr (inl (file, asks_check, inl stopped, none)))) = never_bad stopped.why stopped.reported
-asked_to_check arguments asks (inr (inr (inl (file, asks_check, inr ended, none)))) = let only : None ≡ Some (conclusion.Findings ended.found) = ended.only in absurd (cc)
-asked_to_check arguments asks (inr (inr (inr (inl (file, asks_upgrade, ends, none))))) = let never : Some (check_of g) ≡ Some (upgrade_of file) = sym asks ∙ asks_upgrade in absurd (cc)
-asked_to_check arguments asks (inr (inr (inr (inr (inl (same, none, nothing, refused)))))) = let never : Some (check_of g) ≡ None = sym asks ∙ refused in absurd (cc)
-asked_to_check arguments asks (inr (inr (inr (inr (inr (same, none, nothing)))))) = absurd (cc)
+asked_to_check arguments asks (inl (file, limit, workers, rounds, journal, asks_file, ends, none)) = let never : Some (check_of g) ≡ Some (run_of file limit workers rounds journal) = sym asks ∙ asks_file in absurd (cc)
+asked_to_check arguments asks (inr (inl (file, limit, workers, rounds, asks_profile, ends))) = let never : Some (check_of g) ≡ Some (profile_of file limit workers rounds) = sym asks ∙ asks_profile in absurd (cc)
+asked_to_check arguments asks (inr (inr (inl (file, name, limit, asks_judge, ends, none)))) = let never : Some (check_of g) ≡ Some (judge_of file name limit) = sym asks ∙ asks_judge in absurd (cc)
+asked_to_check arguments asks (inr (inr (inr (inl (file, asks_check, inl stopped, none))))) = never_bad stopped.why stopped.reported
+asked_to_check arguments asks (inr (inr (inr (inl (file, asks_check, inr ended, none))))) = let only : None ≡ Some (conclusion.Findings ended.found) = ended.only in absurd (cc)
+asked_to_check arguments asks (inr (inr (inr (inr (inl (file, asks_upgrade, ends, none)))))) = let never : Some (check_of g) ≡ Some (upgrade_of file) = sym asks ∙ asks_upgrade in absurd (cc)
+asked_to_check arguments asks (inr (inr (inr (inr (inr (inl (same, none, nothing, refused))))))) = let never : Some (check_of g) ≡ None = sym asks ∙ refused in absurd (cc)
+asked_to_check arguments asks (inr (inr (inr (inr (inr (inr (same, none, nothing))))))) = absurd (cc)
 
 asked_to_upgrade : (arguments : List (List ℕ)) → asked_by arguments ≡ Some (upgrade_of g) → ¬ CallEnds held arguments BadWords [] None
-asked_to_upgrade arguments asks (inl (file, limit, workers, journal, asks_file, ends, none)) = let never : Some (upgrade_of g) ≡ Some (run_of file limit workers journal) = sym asks ∙ asks_file in absurd (cc)
-asked_to_upgrade arguments asks (inr (inl (file, name, limit, asks_judge, ends, none))) = let never : Some (upgrade_of g) ≡ Some (judge_of file name limit) = sym asks ∙ asks_judge in absurd (cc)
-asked_to_upgrade arguments asks (inr (inr (inl (file, asks_check, ends, none)))) = let never : Some (upgrade_of g) ≡ Some (check_of file) = sym asks ∙ asks_check in absurd (cc)
-asked_to_upgrade arguments asks (inr (inr (inr (inl (file, asks_upgrade, inl stopped, none))))) = never_bad stopped.why stopped.reported
-asked_to_upgrade arguments asks (inr (inr (inr (inl (file, asks_upgrade, inr ended, none))))) = let only : None ≡ Some (conclusion.GraphFile ended.text) = ended.only in absurd (cc)
-asked_to_upgrade arguments asks (inr (inr (inr (inr (inl (same, none, nothing, refused)))))) = let never : Some (upgrade_of g) ≡ None = sym asks ∙ refused in absurd (cc)
-asked_to_upgrade arguments asks (inr (inr (inr (inr (inr (same, none, nothing)))))) = absurd (cc)
+asked_to_upgrade arguments asks (inl (file, limit, workers, rounds, journal, asks_file, ends, none)) = let never : Some (upgrade_of g) ≡ Some (run_of file limit workers rounds journal) = sym asks ∙ asks_file in absurd (cc)
+asked_to_upgrade arguments asks (inr (inl (file, limit, workers, rounds, asks_profile, ends))) = let never : Some (upgrade_of g) ≡ Some (profile_of file limit workers rounds) = sym asks ∙ asks_profile in absurd (cc)
+asked_to_upgrade arguments asks (inr (inr (inl (file, name, limit, asks_judge, ends, none)))) = let never : Some (upgrade_of g) ≡ Some (judge_of file name limit) = sym asks ∙ asks_judge in absurd (cc)
+asked_to_upgrade arguments asks (inr (inr (inr (inl (file, asks_check, ends, none))))) = let never : Some (upgrade_of g) ≡ Some (check_of file) = sym asks ∙ asks_check in absurd (cc)
+asked_to_upgrade arguments asks (inr (inr (inr (inr (inl (file, asks_upgrade, inl stopped, none)))))) = never_bad stopped.why stopped.reported
+asked_to_upgrade arguments asks (inr (inr (inr (inr (inl (file, asks_upgrade, inr ended, none)))))) = let only : None ≡ Some (conclusion.GraphFile ended.text) = ended.only in absurd (cc)
+asked_to_upgrade arguments asks (inr (inr (inr (inr (inr (inl (same, none, nothing, refused))))))) = let never : Some (upgrade_of g) ≡ None = sym asks ∙ refused in absurd (cc)
+asked_to_upgrade arguments asks (inr (inr (inr (inr (inr (inr (same, none, nothing))))))) = absurd (cc)
 
 refused : (arguments : List (List ℕ)) → asked_by arguments ≡ None → CallEnds held arguments BadWords [] None
-refused arguments none = inr (inr (inr (inr (inl (refl, refl, refl, none)))))
+refused arguments none = inr (inr (inr (inr (inr (inl (refl, refl, refl, none))))))
 
 -- It keeps no run and comes to no conclusion, also where memory runs out.
 module _ (arguments : List (List ℕ)) (nothing : asked_by arguments ≡ None) where
   run_of_nothing : (told : Status) (run : TextRun) → ¬ CallEnds held arguments told (run ∷ []) None
-  run_of_nothing told run (inl (file, limit, workers, journal, asks_file, ends, none)) = let never : None ≡ Some (run_of file limit workers journal) = sym nothing ∙ asks_file in absurd (cc)
-  run_of_nothing told run (inr (inl (file, name, limit, asks_judge, ends, none))) = let never : None ≡ Some (judge_of file name limit) = sym nothing ∙ asks_judge in absurd (cc)
-  run_of_nothing told run (inr (inr (inl (file, asks_check, ends, none)))) = let never : None ≡ Some (check_of file) = sym nothing ∙ asks_check in absurd (cc)
-  run_of_nothing told run (inr (inr (inr (inl (file, asks_upgrade, ends, none))))) = let never : None ≡ Some (upgrade_of file) = sym nothing ∙ asks_upgrade in absurd (cc)
-  run_of_nothing told run (inr (inr (inr (inr (inl (same, none, untold, refused)))))) = absurd (omega (arith, ap length none))
-  run_of_nothing told run (inr (inr (inr (inr (inr (same, none, untold)))))) = absurd (omega (arith, ap length none))
+  run_of_nothing told run (inl (file, limit, workers, rounds, journal, asks_file, ends, none)) = let never : None ≡ Some (run_of file limit workers rounds journal) = sym nothing ∙ asks_file in absurd (cc)
+  run_of_nothing told run (inr (inl (file, limit, workers, rounds, asks_profile, ends))) = let never : None ≡ Some (profile_of file limit workers rounds) = sym nothing ∙ asks_profile in absurd (cc)
+  run_of_nothing told run (inr (inr (inl (file, name, limit, asks_judge, ends, none)))) = let never : None ≡ Some (judge_of file name limit) = sym nothing ∙ asks_judge in absurd (cc)
+  run_of_nothing told run (inr (inr (inr (inl (file, asks_check, ends, none))))) = let never : None ≡ Some (check_of file) = sym nothing ∙ asks_check in absurd (cc)
+  run_of_nothing told run (inr (inr (inr (inr (inl (file, asks_upgrade, ends, none)))))) = let never : None ≡ Some (upgrade_of file) = sym nothing ∙ asks_upgrade in absurd (cc)
+  run_of_nothing told run (inr (inr (inr (inr (inr (inl (same, none, untold, refused))))))) = absurd (omega (arith, ap length none))
+  run_of_nothing told run (inr (inr (inr (inr (inr (inr (same, none, untold))))))) = absurd (omega (arith, ap length none))
 
   conclusion_of_nothing : (told : Status) → ¬ CallEnds held arguments told [] (Some (conclusion.Verdict Finished))
-  conclusion_of_nothing told (inl (file, limit, workers, journal, asks_file, ends, none)) = let never : None ≡ Some (run_of file limit workers journal) = sym nothing ∙ asks_file in absurd (cc)
-  conclusion_of_nothing told (inr (inl (file, name, limit, asks_judge, ends, none))) = let never : None ≡ Some (judge_of file name limit) = sym nothing ∙ asks_judge in absurd (cc)
-  conclusion_of_nothing told (inr (inr (inl (file, asks_check, ends, none)))) = let never : None ≡ Some (check_of file) = sym nothing ∙ asks_check in absurd (cc)
-  conclusion_of_nothing told (inr (inr (inr (inl (file, asks_upgrade, ends, none))))) = let never : None ≡ Some (upgrade_of file) = sym nothing ∙ asks_upgrade in absurd (cc)
-  conclusion_of_nothing told (inr (inr (inr (inr (inl (same, none, untold, refused)))))) = absurd (cc)
-  conclusion_of_nothing told (inr (inr (inr (inr (inr (same, none, untold)))))) = absurd (cc)
+  conclusion_of_nothing told (inl (file, limit, workers, rounds, journal, asks_file, ends, none)) = let never : None ≡ Some (run_of file limit workers rounds journal) = sym nothing ∙ asks_file in absurd (cc)
+  conclusion_of_nothing told (inr (inl (file, limit, workers, rounds, asks_profile, ends))) = let never : None ≡ Some (profile_of file limit workers rounds) = sym nothing ∙ asks_profile in absurd (cc)
+  conclusion_of_nothing told (inr (inr (inl (file, name, limit, asks_judge, ends, none)))) = let never : None ≡ Some (judge_of file name limit) = sym nothing ∙ asks_judge in absurd (cc)
+  conclusion_of_nothing told (inr (inr (inr (inl (file, asks_check, ends, none))))) = let never : None ≡ Some (check_of file) = sym nothing ∙ asks_check in absurd (cc)
+  conclusion_of_nothing told (inr (inr (inr (inr (inl (file, asks_upgrade, ends, none)))))) = let never : None ≡ Some (upgrade_of file) = sym nothing ∙ asks_upgrade in absurd (cc)
+  conclusion_of_nothing told (inr (inr (inr (inr (inr (inl (same, none, untold, refused))))))) = absurd (cc)
+  conclusion_of_nothing told (inr (inr (inr (inr (inr (inr (same, none, untold))))))) = absurd (cc)
 
 -- A run has no conclusion, and a judgement, a check and an upgrade keep no run.
 module _ (arguments : List (List ℕ)) where
-  verdict_on_a_run : asked_by arguments ≡ Some (run_of g 77 4 false) → ¬ CallEnds held arguments Done [] (Some (conclusion.Verdict Finished))
-  verdict_on_a_run asks (inl (file, limit, workers, journal, asks_file, ends, none)) = absurd (cc)
-  verdict_on_a_run asks (inr (inl (file, name, limit, asks_judge, ends, none))) = let never : Some (run_of g 77 4 false) ≡ Some (judge_of file name limit) = sym asks ∙ asks_judge in absurd (cc)
-  verdict_on_a_run asks (inr (inr (inl (file, asks_check, ends, none)))) = let never : Some (run_of g 77 4 false) ≡ Some (check_of file) = sym asks ∙ asks_check in absurd (cc)
-  verdict_on_a_run asks (inr (inr (inr (inl (file, asks_upgrade, ends, none))))) = let never : Some (run_of g 77 4 false) ≡ Some (upgrade_of file) = sym asks ∙ asks_upgrade in absurd (cc)
-  verdict_on_a_run asks (inr (inr (inr (inr (inl (same, none, nothing, refused)))))) = absurd (cc)
-  verdict_on_a_run asks (inr (inr (inr (inr (inr (same, none, nothing)))))) = absurd (cc)
+  verdict_on_a_run : asked_by arguments ≡ Some (run_of g 77 4 once false) → ¬ CallEnds held arguments Done [] (Some (conclusion.Verdict Finished))
+  verdict_on_a_run asks (inl (file, limit, workers, rounds, journal, asks_file, ends, none)) = absurd (cc)
+  verdict_on_a_run asks (inr (inl (file, limit, workers, rounds, asks_profile, ends))) = let never : Some (run_of g 77 4 once false) ≡ Some (profile_of file limit workers rounds) = sym asks ∙ asks_profile in absurd (cc)
+  verdict_on_a_run asks (inr (inr (inl (file, name, limit, asks_judge, ends, none)))) = let never : Some (run_of g 77 4 once false) ≡ Some (judge_of file name limit) = sym asks ∙ asks_judge in absurd (cc)
+  verdict_on_a_run asks (inr (inr (inr (inl (file, asks_check, ends, none))))) = let never : Some (run_of g 77 4 once false) ≡ Some (check_of file) = sym asks ∙ asks_check in absurd (cc)
+  verdict_on_a_run asks (inr (inr (inr (inr (inl (file, asks_upgrade, ends, none)))))) = let never : Some (run_of g 77 4 once false) ≡ Some (upgrade_of file) = sym asks ∙ asks_upgrade in absurd (cc)
+  verdict_on_a_run asks (inr (inr (inr (inr (inr (inl (same, none, nothing, refused))))))) = absurd (cc)
+  verdict_on_a_run asks (inr (inr (inr (inr (inr (inr (same, none, nothing))))))) = absurd (cc)
 
   run_of_a_judgement : (run : TextRun) → asked_by arguments ≡ Some (judge_of g t 77) → ¬ CallEnds held arguments Done (run ∷ []) None
-  run_of_a_judgement run asks (inl (file, limit, workers, journal, asks_file, ends, none)) = let never : Some (judge_of g t 77) ≡ Some (run_of file limit workers journal) = sym asks ∙ asks_file in absurd (cc)
-  run_of_a_judgement run asks (inr (inl (file, name, limit, asks_judge, ends, none))) = absurd (cc)
-  run_of_a_judgement run asks (inr (inr (inl (file, asks_check, ends, none)))) = absurd (cc)
-  run_of_a_judgement run asks (inr (inr (inr (inl (file, asks_upgrade, ends, none))))) = absurd (cc)
-  run_of_a_judgement run asks (inr (inr (inr (inr (inl (same, none, nothing, refused)))))) = absurd (cc)
-  run_of_a_judgement run asks (inr (inr (inr (inr (inr (same, none, nothing)))))) = absurd (cc)
+  run_of_a_judgement run asks (inl (file, limit, workers, rounds, journal, asks_file, ends, none)) = let never : Some (judge_of g t 77) ≡ Some (run_of file limit workers rounds journal) = sym asks ∙ asks_file in absurd (cc)
+  run_of_a_judgement run asks (inr (inl (file, limit, workers, rounds, asks_profile, ends))) = let never : Some (judge_of g t 77) ≡ Some (profile_of file limit workers rounds) = sym asks ∙ asks_profile in absurd (cc)
+  run_of_a_judgement run asks (inr (inr (inl (file, name, limit, asks_judge, ends, none)))) = absurd (cc)
+  run_of_a_judgement run asks (inr (inr (inr (inl (file, asks_check, ends, none))))) = absurd (cc)
+  run_of_a_judgement run asks (inr (inr (inr (inr (inl (file, asks_upgrade, ends, none)))))) = absurd (cc)
+  run_of_a_judgement run asks (inr (inr (inr (inr (inr (inl (same, none, nothing, refused))))))) = absurd (cc)
+  run_of_a_judgement run asks (inr (inr (inr (inr (inr (inr (same, none, nothing))))))) = absurd (cc)
 
   run_of_a_check : (run : TextRun) (found : List GraphFindings) → asked_by arguments ≡ Some (check_of g) → ¬ CallEnds held arguments Done (run ∷ []) (Some (conclusion.Findings found))
-  run_of_a_check run found asks (inl (file, limit, workers, journal, asks_file, ends, none)) = absurd (cc)
-  run_of_a_check run found asks (inr (inl (file, name, limit, asks_judge, ends, none))) = absurd (cc)
-  run_of_a_check run found asks (inr (inr (inl (file, asks_check, ends, none)))) = absurd (cc)
-  run_of_a_check run found asks (inr (inr (inr (inl (file, asks_upgrade, ends, none))))) = absurd (cc)
-  run_of_a_check run found asks (inr (inr (inr (inr (inl (same, none, nothing, refused)))))) = absurd (cc)
-  run_of_a_check run found asks (inr (inr (inr (inr (inr (same, none, nothing)))))) = absurd (cc)
+  run_of_a_check run found asks (inl (file, limit, workers, rounds, journal, asks_file, ends, none)) = absurd (cc)
+  run_of_a_check run found asks (inr (inl (file, limit, workers, rounds, asks_profile, ends))) = let never : Some (check_of g) ≡ Some (profile_of file limit workers rounds) = sym asks ∙ asks_profile in absurd (cc)
+  run_of_a_check run found asks (inr (inr (inl (file, name, limit, asks_judge, ends, none)))) = absurd (cc)
+  run_of_a_check run found asks (inr (inr (inr (inl (file, asks_check, ends, none))))) = absurd (cc)
+  run_of_a_check run found asks (inr (inr (inr (inr (inl (file, asks_upgrade, ends, none)))))) = absurd (cc)
+  run_of_a_check run found asks (inr (inr (inr (inr (inr (inl (same, none, nothing, refused))))))) = absurd (cc)
+  run_of_a_check run found asks (inr (inr (inr (inr (inr (inr (same, none, nothing))))))) = absurd (cc)
 
   run_of_an_upgrade : (run : TextRun) (text : List ℕ) → asked_by arguments ≡ Some (upgrade_of g) → ¬ CallEnds held arguments Done (run ∷ []) (Some (conclusion.GraphFile text))
-  run_of_an_upgrade run text asks (inl (file, limit, workers, journal, asks_file, ends, none)) = absurd (cc)
-  run_of_an_upgrade run text asks (inr (inl (file, name, limit, asks_judge, ends, none))) = absurd (cc)
-  run_of_an_upgrade run text asks (inr (inr (inl (file, asks_check, ends, none)))) = absurd (cc)
-  run_of_an_upgrade run text asks (inr (inr (inr (inl (file, asks_upgrade, ends, none))))) = absurd (cc)
-  run_of_an_upgrade run text asks (inr (inr (inr (inr (inl (same, none, nothing, refused)))))) = absurd (cc)
-  run_of_an_upgrade run text asks (inr (inr (inr (inr (inr (same, none, nothing)))))) = absurd (cc)
+  run_of_an_upgrade run text asks (inl (file, limit, workers, rounds, journal, asks_file, ends, none)) = absurd (cc)
+  run_of_an_upgrade run text asks (inr (inl (file, limit, workers, rounds, asks_profile, ends))) = let never : Some (upgrade_of g) ≡ Some (profile_of file limit workers rounds) = sym asks ∙ asks_profile in absurd (cc)
+  run_of_an_upgrade run text asks (inr (inr (inl (file, name, limit, asks_judge, ends, none)))) = absurd (cc)
+  run_of_an_upgrade run text asks (inr (inr (inr (inl (file, asks_check, ends, none))))) = absurd (cc)
+  run_of_an_upgrade run text asks (inr (inr (inr (inr (inl (file, asks_upgrade, ends, none)))))) = absurd (cc)
+  run_of_an_upgrade run text asks (inr (inr (inr (inr (inr (inl (same, none, nothing, refused))))))) = absurd (cc)
+  run_of_an_upgrade run text asks (inr (inr (inr (inr (inr (inr (same, none, nothing))))))) = absurd (cc)
 
 -- What has been done to a sink of memory when the call ends.
 abbrev sink : List ℕ → ℕ → SinkState
@@ -353,7 +364,7 @@ abbrev of_memory : SinkState → SinkState
 of_memory state = state
 
 -- Nothing to write: the output stays as it is, and that is no failure to write.
-nothing_reported : Reported of_memory (sink [] 0) (sink [] 0) (NoText t) false [] true
+nothing_reported : Reported of_memory (sink [] 0) (sink [] 0) (NoText t) once false [] true
 nothing_reported = record {
   front = record { lost = []; but = record { front = []; parts = refl; took = refl } };
   whole = λ written. refl;
@@ -367,37 +378,37 @@ nothing_reported = record {
   nothing_to_write = λ none. refl;
 }
 
-failed_empty_write_hidden : ¬ Reported of_memory (sink [] 0) (sink [] 1) (NoText t) false [] true
+failed_empty_write_hidden : ¬ Reported of_memory (sink [] 0) (sink [] 1) (NoText t) once false [] true
 failed_empty_write_hidden is = absurd (omega (arith, is.no_fault refl))
 
-bytes_without_a_run : ¬ Reported of_memory (sink [] 0) (sink (7 ∷ []) 0) (NoText t) false [] true
+bytes_without_a_run : ¬ Reported of_memory (sink [] 0) (sink (7 ∷ []) 0) (NoText t) once false [] true
 bytes_without_a_run is = let stays : (sink (7 ∷ []) 0) ≡ (sink [] 0) = is.untouched refl in absurd (omega (arith, ap taken_length stays))
   where
     taken_length : SinkState → ℕ
     taken_length state = elim state.taken [ None ↦ 0 | Some bytes ↦ length bytes ]
 
-written_denied_without_a_run : ¬ Reported of_memory (sink [] 0) (sink [] 0) (NoText t) false [] false
+written_denied_without_a_run : ¬ Reported of_memory (sink [] 0) (sink [] 0) (NoText t) once false [] false
 written_denied_without_a_run is = let written : false ≡ true = is.nothing_to_write refl in absurd (cc)
 
 module _ (runs : List TextRun) where
-  failed_write_hidden : ¬ Reported of_memory (sink [] 0) (sink [] 1) Done false runs true
+  failed_write_hidden : ¬ Reported of_memory (sink [] 0) (sink [] 1) Done once false runs true
   failed_write_hidden is = absurd (omega (arith, is.no_fault refl))
 
-  fault_without_a_failed_write : ¬ Reported of_memory (sink [] 0) (sink [] 0) WriteFault false runs false
+  fault_without_a_failed_write : ¬ Reported of_memory (sink [] 0) (sink [] 0) WriteFault once false runs false
   fault_without_a_failed_write is = neither (is.cause refl)
     where
       neither : (0 < 0) ⊎ (WriteFault ≡ NoMemory) → ⊥
       neither (inl rose) = omega arith
       neither (inr same) = absurd (cc)
 
-  fault_beside_a_whole_report : ¬ Reported of_memory (sink [] 0) (sink [] 1) WriteFault false runs true
+  fault_beside_a_whole_report : ¬ Reported of_memory (sink [] 0) (sink [] 1) WriteFault once false runs true
   fault_beside_a_whole_report is = let written : true ≡ false = is.write_fault refl in absurd (cc)
 
-  done_with_a_prefix : ¬ Reported of_memory (sink [] 0) (sink [] 1) Done false runs false
+  done_with_a_prefix : ¬ Reported of_memory (sink [] 0) (sink [] 1) Done once false runs false
   done_with_a_prefix is = let written : false ≡ true = is.done refl in absurd (cc)
 
-  bytes_held_back : ¬ Reported of_memory (sink [] 0) (record { taken = Some []; held_back = 7 ∷ []; faults = 0 }) Done false runs true
+  bytes_held_back : ¬ Reported of_memory (sink [] 0) (record { taken = Some []; held_back = 7 ∷ []; faults = 0 }) Done once false runs true
   bytes_held_back is = let none = is.nothing_held in absurd (cc)
 
-  faults_forgotten : ¬ Reported of_memory (sink [] 2) (sink [] 1) NoMemory false runs false
+  faults_forgotten : ¬ Reported of_memory (sink [] 2) (sink [] 1) NoMemory once false runs false
   faults_forgotten is = absurd (omega (arith, is.no_fewer))

@@ -1,6 +1,6 @@
 -- What a check of a graph asks for, how it ends and what is written of it, computed on a graph file `g` of one byte.
 use Rattle.std.specs.Fmt.{digits}
-use Rattle.std.proofs.Common.{◌≡◌, ℕ, List, [], ◌∷◌, ◌++◌, length, Option, Some, None, Ok, Err, false, inl, inr, refl, sym, ap, subst, ◌∙◌, arith, codes}
+use Rattle.std.proofs.Common.{◌≡◌, ℕ, List, [], ◌∷◌, ◌++◌, length, Option, Some, None, Ok, Err, inl, inr, refl, sym, ap, subst, ◌∙◌, arith, codes}
 use Rattle.std.specs.Prelude.{bytes_eq, if◌then◌else◌, Contains}
 use Rattle.std.proofs.lemmas.Option.{none-some}
 use Rattle.graph_plans.specs.PlanRows.{GraphRows, PlanRows, graphs_of}
@@ -16,13 +16,13 @@ use Rattle.call_status.specs.declared.status.Status.TheVariants as status
 use Rattle.call_status.specs.declared.stop.Stop.{Stop}
 use Rattle.call_status.specs.declared.stop.Stop.TheVariants as stop
 use Rattle.call_status.specs.Statuses.{status_of}
-use Rattle.command_line.specs.Requests.{check as check_of}
+use Rattle.command_line.specs.Requests.{asked_by, check as check_of}
 use Rattle.flow_run.specs.declared.conclusion.Conclusion.TheVariants as conclusion
 use Rattle.flow_run.specs.declared.conclusion.GraphFindings.{GraphFindings}
 use Rattle.flow_run.specs.Requests.{SourceTexts, StopsAtPlan, StopsAtBytes}
 use Rattle.flow_run.specs.PlanFiles.{StopsAtFile, StopsBeforePlan, IsAfterPlan, HoldsPlan}
 use Rattle.flow_run.specs.Checks.{AreFindingsOn, AreFindingsOnAll, IsChecked, EndsChecked, CheckEnds, count_line, finding_count, finding_line, findings_text, graph_line, graph_lines, line_start, task_line}
-use Rattle.flow_run.specs.Answers.{conclusion_text, wants_journal, output_of}
+use Rattle.flow_run.specs.Answers.{conclusion_text, output_of, runs_text}
 use Rattle.flow_run.proofs.Completing.{one_plan}
 
 abbrev g : List ℕ
@@ -116,12 +116,9 @@ findings_told : conclusion_text (Some (conclusion.Findings found)) ≡ codes "mi
 unfolding digits
 findings_told = refl
 
-output_of_a_check : (arguments : List (List ℕ)) → output_of arguments [] (Some (conclusion.Findings found)) ≡ codes "mixed b\nfindings 1\n"
+output_of_a_check : (arguments : List (List ℕ)) → asked_by arguments ≡ Some (check_of g) → output_of arguments [] (Some (conclusion.Findings found)) ≡ codes "mixed b\nfindings 1\n"
 unfolding digits
-output_of_a_check arguments = refl
-
-check_asked_for : wants_journal (Some (check_of g)) ≡ false
-check_asked_for = refl
+output_of_a_check arguments asks = ap (λ asked. runs_text asked [] ++ codes "mixed b\nfindings 1\n") asks
 
 -- With findings the status is that of a call without any, unless the output failed or memory ran out.
 after_findings : IsAfterPlan Done × IsAfterPlan WriteFault × IsAfterPlan NoMemory

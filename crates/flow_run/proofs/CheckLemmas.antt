@@ -1,7 +1,7 @@
 -- The findings on one graph more.
-use Rattle.std.proofs.Common.{◌≡◌, ℕ, zero, suc, ◌+◌, ◌<◌, List, [], ◌∷◌, ◌++◌, length, map, take, get_or, sym, refl, ap, subst, ◌∙◌, arith}
-use Rattle.std.proofs.lemmas.List.{take_more, length-map}
-use Rattle.graph_plans.specs.PlanRows.{GraphRows, IsGraph, IsPlan, PlanRows, graph_rows, plan_rows}
+use Rattle.std.proofs.Common.{◌≡◌, ℕ, zero, suc, ◌+◌, ◌<◌, List, [], ◌∷◌, ◌++◌, length, map, take, get_or, sym, ap, subst, ◌∙◌, arith}
+use Rattle.std.proofs.lemmas.List.{length-map}
+use Rattle.graph_plans.specs.PlanRows.{GraphRows, IsGraph, IsPlan, graph_rows, plan_rows}
 use Rattle.graph_plans.specs.declared.plans.Graph.{Graph}
 use Rattle.graph_plans.specs.declared.plans.Plan.{Plan}
 use Rattle.flow_run.specs.declared.conclusion.GraphFindings.{GraphFindings}

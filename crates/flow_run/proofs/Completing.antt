@@ -14,7 +14,7 @@ use Rattle.call_status.specs.declared.status.Status.TheVariants.{Done, ReadFault
 use Rattle.call_status.specs.declared.stop.Stop.{Stop}
 use Rattle.call_status.specs.declared.stop.Stop.TheVariants as stop
 use Rattle.flow_run.specs.Requests.{SourceTexts, IsHeld, HasStart, StopsAtName, StopsAtPlan, StopsAtBytes, StopsAtText, StopsBefore, CanBeRun, file_limit, text_limit}
-use Rattle.command_line.specs.Requests.{asked_by}
+use Rattle.command_line.specs.Requests.{AskedRounds, asked_by}
 use Rattle.nested_runs.specs.Reasons.{run_reason}
 use Rattle.nested_runs.specs.declared.reasons.Reason.{Reason}
 use Rattle.nested_runs.specs.declared.reasons.Reason.TheVariants.{Fine}
@@ -24,6 +24,8 @@ use Rattle.call_status.specs.Statuses.{status_after}
 use Rattle.flow_run.specs.declared.conclusion.Conclusion.{Conclusion}
 use Rattle.flow_run.specs.Answers.{TextRun, IsAfterRun, RunEnds, CallEnds}
 use Rattle.flow_run.specs.Completion.{IsAtHand}
+use Rattle.flow_run.specs.RoundTexts.{last_reason}
+use Rattle.flow_run.proofs.RoundLemmas.{last_fine, run_of_profile}
 use Rattle.flow_run.specs.PlanFiles.{IsAfterPlan, StopsBeforePlan, HoldsPlan}
 use Rattle.flow_run.specs.Checks.{CheckEnds}
 use Rattle.flow_run.specs.Upgrades.{UpgradeEnds}
@@ -167,13 +169,12 @@ module _ (status : Status) (read : (n : List ℕ) → status ≢ ReadFault n) (w
   not_at_read : (why : Stop) → status ≡ status_of why → (n : List ℕ) → why ≢ stop.ReadFault n
   not_at_read why reported n is = read n (reported ∙ ap status_of is)
 
-  run_completes : (held : SourceTexts) (file : List ℕ) (limit : ℕ) (runs : List TextRun) → IsSomeAnd held (λ text. CanBeRun text file)
-      → All (λ run. run_reason text_job run ≡ Fine) runs → RunEnds held file limit status runs → (status ≡ Done) ⊎ (status ≡ NoMemory)
-  run_completes None file limit runs can fine ends = absurd can
-  run_completes (Some text) file limit runs can fine (inl stopped) =
+  run_completes : (held : SourceTexts) (file : List ℕ) (limit : ℕ) (rounds : AskedRounds) (runs : List TextRun) → IsSomeAnd held (λ text. CanBeRun text file)
+      → All (λ run. run_reason text_job run ≡ Fine) runs → RunEnds held file limit rounds status runs → (status ≡ Done) ⊎ (status ≡ NoMemory)
+  run_completes None file limit rounds runs can fine ends = absurd can
+  run_completes (Some text) file limit rounds runs can fine (inl stopped) =
       inr (stopped.reported ∙ ap status_of (never_before text file can.plan stopped.why can.graph can.source can.named stopped.stops (not_at_read stopped.why stopped.reported)))
-  run_completes (Some text) file limit runs can fine (inr ran) =
-      after_run (run_reason text_job ran.run) status (All-head (λ r. run_reason text_job r ≡ Fine) ran.run [] (subst (All (λ r. run_reason text_job r ≡ Fine)) ran.only fine)) ran.after write
+  run_completes (Some text) file limit rounds runs can fine (inr ran) = after_run (last_reason runs) status (last_fine runs fine) ran.after write
 
   -- a verdict that is no break, and whose line didn't fail, is done
   after_verdict : (net : NetRows) (limit : ℕ) (journal : List Entry) (verdict : Verdict) → IsVerdict net limit journal verdict → ((place : ℕ) (why : Break) → ¬ IsVerdict net limit journal (Breaks place why))
@@ -220,9 +221,10 @@ module _ (status : Status) (read : (n : List ℕ) → status ≢ ReadFault n) (w
   -- What is at hand and meets no failure is done.
   pub completes : (held : SourceTexts) (arguments : List (List ℕ)) (runs : List TextRun) (concluded : Option Conclusion) → CallEnds held arguments status runs concluded
       → IsAtHand held (asked_by arguments) → All (λ run. run_reason text_job run ≡ Fine) runs → (status ≡ Done) ⊎ (status ≡ NoMemory)
-  completes held arguments runs concluded (inl (file, limit, workers, journal, asks, ends, none)) hand fine = run_completes held file limit runs (subst (IsAtHand held) asks hand) fine ends
-  completes held arguments runs concluded (inr (inl (file, name, limit, asks, ends, none))) hand fine = judge_completes held file name limit concluded (subst (IsAtHand held) asks hand) ends
-  completes held arguments runs concluded (inr (inr (inl (file, asks, ends, none)))) hand fine = check_completes held file concluded (subst (IsAtHand held) asks hand) ends
-  completes held arguments runs concluded (inr (inr (inr (inl (file, asks, ends, none))))) hand fine = upgrade_completes held file concluded (subst (IsAtHand held) asks hand) ends
-  completes held arguments runs concluded (inr (inr (inr (inr (inl (same, none, nothing, never)))))) hand fine = absurd (none_at_hand held (subst (IsAtHand held) never hand))
-  completes held arguments runs concluded (inr (inr (inr (inr (inr (memory, none, nothing)))))) hand fine = inr memory
+  completes held arguments runs concluded (inl (file, limit, workers, rounds, journal, asks, ends, none)) hand fine = run_completes held file limit rounds runs (subst (IsAtHand held) asks hand) fine ends
+  completes held arguments runs concluded (inr (inl (file, limit, workers, rounds, asks, ends))) hand fine = run_completes held file limit rounds runs (subst (IsAtHand held) asks hand) fine (run_of_profile held file limit rounds status runs concluded ends)
+  completes held arguments runs concluded (inr (inr (inl (file, name, limit, asks, ends, none)))) hand fine = judge_completes held file name limit concluded (subst (IsAtHand held) asks hand) ends
+  completes held arguments runs concluded (inr (inr (inr (inl (file, asks, ends, none))))) hand fine = check_completes held file concluded (subst (IsAtHand held) asks hand) ends
+  completes held arguments runs concluded (inr (inr (inr (inr (inl (file, asks, ends, none)))))) hand fine = upgrade_completes held file concluded (subst (IsAtHand held) asks hand) ends
+  completes held arguments runs concluded (inr (inr (inr (inr (inr (inl (same, none, nothing, never))))))) hand fine = absurd (none_at_hand held (subst (IsAtHand held) never hand))
+  completes held arguments runs concluded (inr (inr (inr (inr (inr (inr (memory, none, nothing))))))) hand fine = inr memory

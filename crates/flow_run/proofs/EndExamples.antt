@@ -23,11 +23,8 @@ use Rattle.journal_text.specs.JournalText.{IsJournalText}
 use Rattle.legal_run.specs.declared.verdict.Break.{Break}
 use Rattle.legal_run.specs.declared.verdict.Verdict.TheVariants.{Complete as Finished, Breaks}
 use Rattle.legal_run.specs.Verdict.{IsVerdict}
-use Rattle.run_frame.specs.Legal.{IsKept}
 use Rattle.run_frame.specs.NestedRule.{job_of}
-use Rattle.text_tasks.specs.declared.job.TextJob.{TextJob}
-use Rattle.text_tasks.specs.JobMeaning.{job_plan, limit_of, text_job}
-use Rattle.nested_runs.specs.Reasons.{run_reason}
+use Rattle.text_tasks.specs.JobMeaning.{job_plan}
 use Rattle.nested_runs.specs.declared.reasons.Reason.{Reason}
 use Rattle.nested_runs.specs.declared.reasons.Reason.TheVariants as reason
 use Rattle.call_status.specs.declared.status.Status.{Status}
@@ -35,12 +32,14 @@ use Rattle.call_status.specs.declared.status.Status.TheVariants.{Done, NoText, N
 use Rattle.call_status.specs.declared.stop.Stop.{Stop}
 use Rattle.call_status.specs.declared.stop.Stop.TheVariants as stop
 use Rattle.call_status.specs.Statuses.{status_after, status_of}
-use Rattle.command_line.specs.Requests.{asked_by, run as run_of, judge as judge_of, check as check_of}
+use Rattle.command_line.specs.Requests.{asked_by, once, run as run_of, judge as judge_of, check as check_of}
 use Rattle.flow_run.specs.declared.conclusion.Conclusion.{Conclusion}
 use Rattle.flow_run.specs.declared.conclusion.Conclusion.TheVariants as conclusion
 use Rattle.flow_run.specs.declared.conclusion.GraphFindings.{GraphFindings}
-use Rattle.flow_run.specs.Requests.{SourceTexts, StopsAtName, IsAdded, StopsAtText, HasStart, StopsAtBytes, StopsAtGraph, StopsBefore, HasPlan, IsRequestedJob, CanBeRun, text_limit}
-use Rattle.flow_run.specs.Answers.{TextRun, IsAfterRun, RanOnce, KeptOnce, RunEnds, JobEnds, CallEnds, Reported, plan_in, run_texts}
+use Rattle.flow_run.specs.Requests.{SourceTexts, StopsAtName, IsAdded, StopsAtText, HasStart, StopsAtBytes, StopsAtGraph, StopsBefore, HasPlan, CanBeRun, text_limit}
+use Rattle.flow_run.specs.Answers.{TextRun, IsAfterRun, RunEnds, CallEnds, Reported}
+use Rattle.flow_run.specs.Profiles.{plan_run}
+use Rattle.flow_run.specs.RoundTexts.{last_reason, rounds_text}
 use Rattle.flow_run.specs.Judgements.{StopsAtJournal, StopsAtJournalText, StopsBeforeVerdict, JudgeEnds, CanBeJudged}
 use Rattle.flow_run.specs.PlanFiles.{StopsBeforePlan, HoldsPlan}
 use Rattle.flow_run.specs.Checks.{EndsChecked, CheckEnds}
@@ -192,26 +191,26 @@ text_that_is_there (inr (inr behind)) =
     let none : Some (2 ∷ 3 ∷ []) ≡ None = subst (λ name. texts (1 ∷ []) (2 ∷ 3 ∷ []) name ≡ None) (sym behind.stops.stops.0) behind.stops.stops.1 in
     absurd (none-some (2 ∷ 3 ∷ []) (sym none))
 
-stopped_before_its_run : RunEnds held u 77 (NoText u) []
+stopped_before_its_run : RunEnds held u 77 once (NoText u) []
 stopped_before_its_run = inl (record { why = stop.NoText u; stops = missing_graph; reported = refl; none = refl })
 
 -- No run is told as a text that is missing.
-never_missing : (why : Reason) → ¬ IsAfterRun why (NoText u)
-never_missing why (inl same) = none why same
+never_missing : (why : Reason) (name : List ℕ) → ¬ IsAfterRun why (NoText name)
+never_missing why name (inl same) = none why same
   where
-    none : (why : Reason) → ¬ (NoText u ≡ status_after why)
+    none : (why : Reason) → ¬ (NoText name ≡ status_after why)
     none reason.Fine same = absurd (cc)
     none (reason.Fault path fault) same = absurd (cc)
     none (reason.Limit path limit) same = absurd (cc)
     none (reason.Stuck path) same = absurd (cc)
-never_missing why (inr (inl (fine, same))) = absurd (cc)
-never_missing why (inr (inr same)) = absurd (cc)
+never_missing why name (inr (inl (fine, same))) = absurd (cc)
+never_missing why name (inr (inr same)) = absurd (cc)
 
-run_beside_a_stop : (run : TextRun) → ¬ RunEnds held u 77 (NoText u) (run ∷ [])
+run_beside_a_stop : (run : TextRun) → ¬ RunEnds held u 77 once (NoText u) (run ∷ [])
 run_beside_a_stop run (inl stopped) = let none = stopped.none in absurd (cc)
-run_beside_a_stop run (inr ran) = never_missing (run_reason text_job ran.run) ran.after
+run_beside_a_stop run (inr ran) = never_missing (last_reason (run ∷ [])) u ran.after
 
-stop_that_is_told_of_nothing : ¬ RunEnds held g 77 (NoText t) []
+stop_that_is_told_of_nothing : ¬ RunEnds held g 77 once (NoText t) []
 stop_that_is_told_of_nothing (inl stopped) = by_reason stopped.why stopped.stops stopped.reported
   where
     by_reason : (why : Stop) → StopsBefore held g why → NoText t ≡ status_of why → ⊥
@@ -222,62 +221,25 @@ stop_that_is_told_of_nothing (inl stopped) = by_reason stopped.why stopped.stops
     by_reason (stop.ReadFault name) stops same = absurd (cc)
     by_reason (stop.BadJournal line) stops same = absurd (cc)
     by_reason stop.NoMemory stops same = absurd (cc)
-stop_that_is_told_of_nothing (inr ran) = let only : [] ≡ ran.run ∷ [] = ran.only in absurd (cc)
+stop_that_is_told_of_nothing (inr ran) = never_missing reason.Fine t ran.after
 
--- ---- a job and its run
-
-module _ (run : TextRun) (kept : IsKept text_job run) (fine : run_reason text_job run ≡ reason.Fine) where
-  ran_once : RanOnce (λ job. job ≡ job_of run) Done (run ∷ [])
-  ran_once = record { run = run; only = refl; kept = kept; job = refl; after = inl (ap status_after (sym fine)) }
-
-  kept_once : KeptOnce (job_of run) (run ∷ []) reason.Fine
-  kept_once = record { run = run; only = refl; kept = kept; same = refl; reason = fine }
-
-  job_ends_with_its_run : JobEnds (job_of run) Done (run ∷ [])
-  job_ends_with_its_run = inr ran_once
-
-  ends_with_the_run_of_the_file : IsRequestedJob held g 77 (job_of run) → RunEnds held g 77 Done (run ∷ [])
-  ends_with_the_run_of_the_file job = inr (record { run = run; only = refl; kept = kept; job = job; after = inl (ap status_after (sym fine)) })
-
-module _ (job : TextJob) where
-  job_without_memory : JobEnds job NoMemory []
-  job_without_memory = inl (record { why = stop.NoMemory; stops = refl; reported = refl; none = refl })
-
-  job_stopped_at_a_text : ¬ JobEnds job (NoText t) []
-  job_stopped_at_a_text (inl stopped) = let same : NoText t ≡ NoMemory = stopped.reported ∙ ap status_of stopped.stops in absurd (cc)
-  job_stopped_at_a_text (inr ran) = let only : [] ≡ ran.run ∷ [] = ran.only in absurd (cc)
-
-  job_done_without_its_run : ¬ JobEnds job Done []
-  job_done_without_its_run (inl stopped) = let same : Done ≡ NoMemory = stopped.reported ∙ ap status_of stopped.stops in absurd (cc)
-  job_done_without_its_run (inr ran) = let only : [] ≡ ran.run ∷ [] = ran.only in absurd (cc)
-
-  job_ends_with_another_run : (run : TextRun) → limit_of (job_of run) ≡ 76 → limit_of job ≡ 77 → ¬ JobEnds job Done (run ∷ [])
-  job_ends_with_another_run run limit other (inl stopped) = let none : run ∷ [] ≡ [] = stopped.none in absurd (cc)
-  job_ends_with_another_run run limit other (inr ran) =
-      let same : run ≡ ran.run = cc in
-      absurd (omega (arith, limit, other, ap (λ r. limit_of (job_of r)) same, ap limit_of ran.job))
-
-  two_runs_of_a_job : (run other : TextRun) → ¬ JobEnds job NoMemory (run ∷ other ∷ [])
-  two_runs_of_a_job run other (inl stopped) = let none : run ∷ other ∷ [] ≡ [] = stopped.none in absurd (cc)
-  two_runs_of_a_job run other (inr ran) = absurd (omega (arith, ap length ran.only))
-
-plan_of_the_first_run : (run other : TextRun) → plan_in (run ∷ other ∷ []) ≡ job_plan (job_of run)
+plan_of_the_first_run : (run other : TextRun) → plan_run (run ∷ other ∷ []) ≡ job_plan (job_of run)
 plan_of_the_first_run run other = refl
 
 -- ---- a call, by what its command line asks for
 
 module _ (arguments : List (List ℕ)) (status : Status) where
-  call_of_a_run : (runs : List TextRun) → asked_by arguments ≡ Some (run_of g 77 4 false) → RunEnds held g 77 status runs → CallEnds held arguments status runs None
-  call_of_a_run runs asks ends = inl (g, 77, 4, false, asks, ends, refl)
+  call_of_a_run : (runs : List TextRun) → asked_by arguments ≡ Some (run_of g 77 4 once false) → RunEnds held g 77 once status runs → CallEnds held arguments status runs None
+  call_of_a_run runs asks ends = inl (g, 77, 4, once, false, asks, ends, refl)
 
   call_of_a_judgement : (concluded : Option Conclusion) → asked_by arguments ≡ Some (judge_of g t 77) → JudgeEnds held g t 77 status concluded → CallEnds held arguments status [] concluded
-  call_of_a_judgement concluded asks ends = inr (inl (g, t, 77, asks, ends, refl))
+  call_of_a_judgement concluded asks ends = inr (inr (inl (g, t, 77, asks, ends, refl)))
 
   call_of_a_check : (concluded : Option Conclusion) → asked_by arguments ≡ Some (check_of g) → CheckEnds held g status concluded → CallEnds held arguments status [] concluded
-  call_of_a_check concluded asks ends = inr (inr (inl (g, asks, ends, refl)))
+  call_of_a_check concluded asks ends = inr (inr (inr (inl (g, asks, ends, refl))))
 
   call_without_memory : CallEnds held arguments NoMemory [] None
-  call_without_memory = inr (inr (inr (inr (inr (refl, refl, refl)))))
+  call_without_memory = inr (inr (inr (inr (inr (inr (refl, refl, refl))))))
 
 -- ---- the journal in place of the report, where that is asked for
 
@@ -294,8 +256,8 @@ empty_journal = 102 ∷ 108 ∷ 111 ∷ 119 ∷ 32 ∷ 106 ∷ 111 ∷ 117 ∷ 1
 abbrev empty_report : List ℕ
 empty_report = 45 ∷ 45 ∷ 32 ∷ 97 ∷ 10 ∷ []
 
-module _ (run : TextRun) (journal : run_texts true (run ∷ []) ≡ empty_journal) (report : run_texts false (run ∷ []) ≡ empty_report) where
-  journal_written : Reported of_memory (sink [] 0) (sink empty_journal 0) Done true (run ∷ []) true
+module _ (run : TextRun) (journal : rounds_text once true (run ∷ []) ≡ empty_journal) (report : rounds_text once false (run ∷ []) ≡ empty_report) where
+  journal_written : Reported of_memory (sink [] 0) (sink empty_journal 0) Done once true (run ∷ []) true
   journal_written = record {
     front = record { lost = []; but = record { front = empty_journal; parts = journal; took = refl } };
     whole = λ written. ap (append_known (Some [])) (sym journal);
@@ -309,12 +271,12 @@ module _ (run : TextRun) (journal : run_texts true (run ∷ []) ≡ empty_journa
     nothing_to_write = λ none. absurd (cc);
   }
 
-  report_in_place_of_the_journal : ¬ Reported of_memory (sink [] 0) (sink empty_report 0) Done true (run ∷ []) true
+  report_in_place_of_the_journal : ¬ Reported of_memory (sink [] 0) (sink empty_report 0) Done once true (run ∷ []) true
   report_in_place_of_the_journal is =
       let whole : Some empty_report ≡ Some empty_journal = is.whole refl ∙ ap (append_known (Some [])) journal in
       absurd (omega (arith, ap known_length whole))
 
-  prefix_without_memory : Reported of_memory (sink [] 0) (sink (102 ∷ []) 0) NoMemory true (run ∷ []) false
+  prefix_without_memory : Reported of_memory (sink [] 0) (sink (102 ∷ []) 0) NoMemory once true (run ∷ []) false
   prefix_without_memory = record {
     front = record { lost = 108 ∷ 111 ∷ 119 ∷ 32 ∷ 106 ∷ 111 ∷ 117 ∷ 114 ∷ 110 ∷ 97 ∷ 108 ∷ 32 ∷ 50 ∷ 10 ∷ []; but = record { front = 102 ∷ []; parts = journal; took = refl } };
     whole = λ written. absurd (cc);

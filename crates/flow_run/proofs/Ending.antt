@@ -1,19 +1,12 @@
--- What reads that stopped a call have done, and how a run that is kept ends.
-use Rattle.std.proofs.Common.{◌≡◌, ℕ, inr, List, [], ◌∷◌, ◌++◌, length, ap, ◌∙◌, arith, subst, sym, length-append}
+-- What reads that stopped a call have done.
+use Rattle.std.proofs.Common.{◌≡◌, ℕ, List, [], ◌∷◌, ◌++◌, length, ap, ◌∙◌, arith, subst, sym, length-append}
 use Rattle.call_status.specs.declared.status.Status.{Status}
 use Rattle.call_status.specs.declared.status.Status.TheVariants.{BadWords, ReadFault}
 use Rattle.call_status.specs.declared.stop.Stop.{Stop}
 use Rattle.call_status.specs.declared.stop.Stop.TheVariants as stop
 use Rattle.call_status.specs.Statuses.{status_of}
 use Rattle.flow_run.specs.Requests.{SourceTexts}
-use Rattle.nested_runs.specs.declared.reasons.Reason.{Reason}
-use Rattle.text_tasks.specs.declared.job.TextJob.{TextJob}
-use Rattle.flow_run.specs.Answers.{TextRun, IsAfterRun, JobEnds, KeptOnce}
 use Rattle.flow_run.specs.Reads.{FailsWith, HaveRead}
-
--- A run that is kept and reported by its reason is how its job ends.
-pub kept_ends : (job : TextJob) (status : Status) (runs : List TextRun) (why : Reason) → KeptOnce job runs why → IsAfterRun why status → JobEnds job status runs
-kept_ends job status runs why kept after = inr (record { run = kept.run; only = kept.only; kept = kept.kept; job = kept.same; after = subst (λ (reason : Reason). IsAfterRun reason status) (sym kept.reason) after })
 
 -- No command that was asked for is told that it asks for nothing.
 never_bad : (why : Stop) → status_of why ≡ BadWords → ⊥

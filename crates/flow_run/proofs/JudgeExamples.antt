@@ -17,11 +17,10 @@ use Rattle.legal_run.specs.declared.verdict.Verdict.{Verdict}
 use Rattle.legal_run.specs.declared.verdict.Verdict.TheVariants.{Complete as Finished, Legal, Breaks}
 use Rattle.legal_run.specs.Verdict.{IsVerdict}
 use Rattle.journal_text.specs.declared.version.Version.TheVariants.{Two}
-use Rattle.journal_text.specs.JournalText.{IsJournalText, journal_text}
+use Rattle.journal_text.specs.JournalText.{IsJournalText}
 use Rattle.journal_text.specs.inside.Reading.{version_at}
 use Rattle.journal_text.proofs.TextLemmas.{no_first_line, one_journal}
-use Rattle.run_frame.specs.NestedRule.{journal_of}
-use Rattle.command_line.specs.Requests.{asked_by, run as run_of, judge as judge_of}
+use Rattle.command_line.specs.Requests.{asked_by, once, run as run_of, judge as judge_of}
 use Rattle.call_status.specs.declared.status.Status.{Status}
 use Rattle.call_status.specs.declared.status.Status.TheVariants.{Done, WriteFault, NoText, NotLegal, NoMemory}
 use Rattle.call_status.specs.declared.stop.Stop.{Stop}
@@ -30,9 +29,10 @@ use Rattle.flow_run.specs.Requests.{SourceTexts, HasPlan, HasStart}
 use Rattle.call_status.specs.Statuses.{status_of}
 use Rattle.call_status.specs.Stopping.{StoppedBefore}
 use Rattle.flow_run.specs.declared.conclusion.Conclusion.TheVariants as conclusion
-use Rattle.run_laws.specs.Output.{report_of}
 use Rattle.flow_run.specs.Judgements.{HasJournal, StopsAtJournalBytes, StopsAtJournal, StopsBeforeVerdict, IsJudged, IsAfterVerdict, EndsJudged, JudgeEnds, CanBeJudged, break_text, verdict_line, journal_limit}
-use Rattle.flow_run.specs.Answers.{TextRun, run_texts, wants_journal, conclusion_text, output_of}
+use Rattle.flow_run.proofs.RoundLemmas.{no_runs_text}
+use Rattle.flow_run.specs.Answers.{TextRun, conclusion_text, output_of, runs_text}
+use Rattle.flow_run.specs.RoundTexts.{rounds_text}
 
 abbrev g : List ℕ
 g = 0 ∷ []
@@ -177,41 +177,19 @@ done_without_a_verdict (inr ended) = let only : None ≡ Some (conclusion.Verdic
 verdict_that_is_another : (is : IsJudged held g j 9 Legal) → ¬ EndsJudged held g j 9 (NotLegal 0 NotOpen) (Some (conclusion.Verdict Legal))
 verdict_that_is_another is ended = let same : ended.verdict ≡ Legal = cc in legal_called_broken (subst (λ (v : Verdict). IsAfterVerdict v (NotLegal 0 NotOpen)) same ended.after)
 
--- What is written: of a run its report or its journal, of a judgement the verdict's line.
-module _ (run : TextRun) where
-  report_of_a_run : run_texts false (run ∷ []) ≡ report_of run ++ []
-  report_of_a_run = refl
-
-  journal_of_a_run : run_texts true (run ∷ []) ≡ journal_text Two (journal_of run) ++ []
-  journal_of_a_run = refl
-
-  of_two_runs : (other : TextRun) → run_texts true (run ∷ other ∷ []) ≡ journal_text Two (journal_of run) ++ (journal_text Two (journal_of other) ++ [])
-  of_two_runs other = refl
-
-journal_asked_for : wants_journal (Some (run_of g 9 4 true)) ≡ true
-journal_asked_for = refl
-
-report_asked_for : wants_journal (Some (run_of g 9 4 false)) ≡ false
-report_asked_for = refl
-
-judgement_asked_for : wants_journal (Some (judge_of g j 9)) ≡ false
-judgement_asked_for = refl
-
-nothing_asked_for : wants_journal None ≡ false
-nothing_asked_for = refl
-
-output_of_a_judgement : (arguments : List (List ℕ)) → output_of arguments [] (Some (conclusion.Verdict Legal)) ≡ codes "legal\n"
-output_of_a_judgement arguments = refl
+-- What is written: of runs their reports or their journals, of a judgement the verdict's line.
+output_of_a_judgement : (arguments : List (List ℕ)) → asked_by arguments ≡ Some (judge_of g j 9) → output_of arguments [] (Some (conclusion.Verdict Legal)) ≡ codes "legal\n"
+output_of_a_judgement arguments asks = ap (λ asked. runs_text asked [] ++ codes "legal\n") asks
 
 -- of a run its journal, where that is asked for, and its report else; before what is concluded
-output_with_the_journal : (arguments : List (List ℕ)) (run : TextRun) → asked_by arguments ≡ Some (run_of g 9 4 true) → output_of arguments (run ∷ []) (Some (conclusion.Verdict Legal)) ≡ run_texts true (run ∷ []) ++ codes "legal\n"
-output_with_the_journal arguments run asks = ap (λ asked. run_texts (wants_journal asked) (run ∷ []) ++ codes "legal\n") asks
+output_with_the_journal : (arguments : List (List ℕ)) (run : TextRun) → asked_by arguments ≡ Some (run_of g 9 4 once true) → output_of arguments (run ∷ []) (Some (conclusion.Verdict Legal)) ≡ rounds_text once true (run ∷ []) ++ codes "legal\n"
+output_with_the_journal arguments run asks = ap (λ asked. runs_text asked (run ∷ []) ++ codes "legal\n") asks
 
-output_with_the_report : (arguments : List (List ℕ)) (run : TextRun) → asked_by arguments ≡ Some (run_of g 9 4 false) → output_of arguments (run ∷ []) None ≡ run_texts false (run ∷ []) ++ []
-output_with_the_report arguments run asks = ap (λ asked. run_texts (wants_journal asked) (run ∷ []) ++ []) asks
+output_with_the_report : (arguments : List (List ℕ)) (run : TextRun) → asked_by arguments ≡ Some (run_of g 9 4 once false) → output_of arguments (run ∷ []) None ≡ rounds_text once false (run ∷ []) ++ []
+output_with_the_report arguments run asks = ap (λ asked. runs_text asked (run ∷ []) ++ []) asks
 
 output_of_nothing : (arguments : List (List ℕ)) → output_of arguments [] None ≡ []
-output_of_nothing arguments = refl
+output_of_nothing arguments = ap (λ bytes. bytes ++ []) (no_runs_text (asked_by arguments))
 
 -- The most bytes of a journal file: 64 MiB.
 journal_bytes : journal_limit ≡ 64 * 1024 * 1024

@@ -5,6 +5,8 @@ pub mod ReportLemmas
 pub mod ValueSearch
 pub mod OutputExamples
 pub mod Ending
+mod RoundLemmas
+mod RoundReports
 pub mod CheckLemmas
 pub mod Completing
 pub mod Plainly
@@ -15,5 +17,7 @@ pub mod JudgeExamples
 pub mod CheckExamples
 pub mod UpgradeExamples
 pub mod EndExamples
+pub mod RoundExamples
+pub mod ProfileExamples
 pub mod ReadExamples
 pub mod PlainExamples

@@ -5,7 +5,7 @@ use Rattle.std.proofs.lemmas.Bool.{false≢true}
 use Rattle.task_graph.specs.declared.net.Shape.TheVariants.{Plain}
 use Rattle.task_graph.specs.declared.net.TaskRow.{TaskRow}
 use Rattle.call_status.specs.declared.status.Status.TheVariants.{Done, Limit, NoMemory, WriteFault}
-use Rattle.command_line.specs.Requests.{Asked, run, check}
+use Rattle.command_line.specs.Requests.{Asked, once, run, check}
 use Rattle.run_laws.specs.PlainReport.{IsPlainJob}
 use Rattle.run_laws.specs.SmallPlans.{chooses_a_branch, kept_together, worked_job}
 use Rattle.text_tasks.specs.declared.job.TextJob.{TextJob}
@@ -52,11 +52,11 @@ a_write_failed : (before after : Option (List ℕ)) → EndsPlainly (at_a_time 4
 a_write_failed before after = record { well = λ (same : WriteFault ≡ Done). absurd (cc); report = λ (same : WriteFault ≡ Done). absurd (cc); done = λ _ failed. absurd failed }
 
 -- Its journal asked for, a check, or a source that doesn't specify its texts, is no such request.
-asks_for_the_journal : (held : SourceTexts) (job : TextJob) → ¬ AsksPlainly held (Some (run g 4 1 true)) job
-asks_for_the_journal held job asks = let same : Some (run g 4 1 true) ≡ Some (run asks.file asks.limit asks.workers false) = asks.asks in absurd (cc)
+asks_for_the_journal : (held : SourceTexts) (job : TextJob) → ¬ AsksPlainly held (Some (run g 4 1 once true)) job
+asks_for_the_journal held job asks = let same : Some (run g 4 1 once true) ≡ Some (run asks.file asks.limit asks.workers once false) = asks.asks in absurd (cc)
 
 asks_for_a_check : (held : SourceTexts) (job : TextJob) → ¬ AsksPlainly held (Some (check g)) job
-asks_for_a_check held job asks = let same : Some (check g) ≡ Some (run asks.file asks.limit asks.workers false) = asks.asks in absurd (cc)
+asks_for_a_check held job asks = let same : Some (check g) ≡ Some (run asks.file asks.limit asks.workers once false) = asks.asks in absurd (cc)
 
 asks_for_nothing_known : (asked : Option Asked) (job : TextJob) → ¬ AsksPlainly None asked job
 asks_for_nothing_known asked job asks = let same : None ≡ Some asks.text = asks.specified in absurd (cc)

@@ -1,6 +1,6 @@
 -- A run of a graph without conditions reports what one thread does, and is done exactly where that runs through.
-use Rattle.std.proofs.Common.{append-nil, ◌≡◌, ◌≢◌, ◌⊎◌, inl, inr, ℕ, ◌≤◌, Bool, false, List, [], ◌∷◌, ◌++◌, length, Option, Some, refl, sym, ap, ◌∙◌, subst}
-use Rattle.std.specs.Prelude.{All, IsSomeAnd}
+use Rattle.std.proofs.Common.{append-nil, ◌≡◌, ◌≢◌, ◌⊎◌, inl, inr, ℕ, ◌≤◌, Bool, false, List, [], ◌∷◌, ◌++◌, length, Option, Some, refl, sym, ap, ◌∙◌, subst, arith}
+use Rattle.std.specs.Prelude.{All, IsSomeAnd, slice_index_or}
 use Rattle.std.proofs.lemmas.Option.{none-some, same_Some}
 use Rattle.std.proofs.lemmas.List.Elements.{All-nil, All-cons}
 use Rattle.call_status.specs.declared.status.Status.{Status}
@@ -8,14 +8,13 @@ use Rattle.call_status.specs.declared.status.Status.TheVariants.{Done, ReadFault
 use Rattle.call_status.specs.declared.stop.Stop.{Stop}
 use Rattle.call_status.specs.declared.stop.Stop.TheVariants as stop
 use Rattle.call_status.specs.Statuses.{status_of}
-use Rattle.command_line.specs.Requests.{Asked, asked_by, run, judge, check, upgrade}
+use Rattle.command_line.specs.Requests.{Asked, AskedRounds, asked_by, once, run, profile, judge, check, upgrade}
 use Rattle.graph_file.proofs.PlanLemmas.{IsPlan-read}
 use Rattle.graph_plans.specs.PlanRows.{PlanRows}
 use Rattle.graph_file.specs.PlanText.{PlanText}
 use Rattle.nested_runs.specs.Reasons.{run_reason}
 use Rattle.nested_runs.specs.declared.reasons.Reason.{Reason}
 use Rattle.nested_runs.specs.declared.reasons.Reason.TheVariants.{Fine, Fault, Limit, Stuck}
-use Rattle.run_frame.specs.Legal.{IsKept}
 use Rattle.run_frame.specs.NestedRule.{job_of}
 use Rattle.text_ops.specs.Lines.{normal}
 use Rattle.text_tasks.specs.declared.job.TextJob.{TextJob}
@@ -25,10 +24,13 @@ use Rattle.run_laws.specs.PlainReport.{HasSameReport, IsPlainJob, IsPlanned, Run
 use Rattle.run_laws.proofs.TextPlain.{same_report}
 use Rattle.flow_run.specs.declared.conclusion.Conclusion.{Conclusion}
 use Rattle.flow_run.specs.Requests.{SourceTexts, CanBeRun, IsHeld, IsRequestedJob, IsTextOf, TextsAre, file_limit, text_limit}
-use Rattle.flow_run.specs.Answers.{CallEnds, IsAfterRun, TextRun, conclusion_text, output_of, run_texts, wants_journal}
+use Rattle.nested_runs.specs.Rounds.{AreAllRounds, AreFirstRounds, AreRounds}
+use Rattle.flow_run.specs.Answers.{CallEnds, IsAfterRun, RunEnds, TextRun, conclusion_text, output_of, runs_text}
+use Rattle.flow_run.specs.RoundTexts.{last_reason, round_rule, rounds_text}
 use Rattle.flow_run.specs.Completion.{IsAtHand}
 use Rattle.flow_run.specs.Plainly.{AsksPlainly, IsReportedPlainly}
 use Rattle.flow_run.proofs.Completing.{completes, one_plan}
+use Rattle.flow_run.proofs.RoundLemmas.{one_round, rounds_planned, run_of_profile}
 
 -- ---- a source that specifies its texts holds one job
 
@@ -107,53 +109,76 @@ planned : (held : SourceTexts) (file : List ℕ) (limit : ℕ) (job : TextJob) �
 planned held file limit (Graph work) is = (IsPlan-read is.plan.bytes work.plan is.plan.stands, is.top)
 planned held file limit (Parts work) is = absurd is
 
-no_run_and_judgement : (file other name : List ℕ) (limit most workers : ℕ) (journal : Bool) → Some (run file limit workers journal) ≡ Some (judge other name most) → ⊥
-no_run_and_judgement file other name limit most workers journal same = cc
+no_run_and_judgement : (file other name : List ℕ) (limit most workers : ℕ) (rounds : AskedRounds) (journal : Bool) → Some (run file limit workers rounds journal) ≡ Some (judge other name most) → ⊥
+no_run_and_judgement file other name limit most workers rounds journal same = cc
 
-no_run_and_check : (file other : List ℕ) (limit workers : ℕ) (journal : Bool) → Some (run file limit workers journal) ≡ Some (check other) → ⊥
-no_run_and_check file other limit workers journal same = cc
+no_run_and_profile : (file other : List ℕ) (limit most workers hands : ℕ) (rounds often : AskedRounds) (journal : Bool) → Some (run file limit workers rounds journal) ≡ Some (profile other most hands often) → ⊥
+no_run_and_profile file other limit most workers hands rounds often journal same = cc
 
-no_run_and_upgrade : (file other : List ℕ) (limit workers : ℕ) (journal : Bool) → Some (run file limit workers journal) ≡ Some (upgrade other) → ⊥
-no_run_and_upgrade file other limit workers journal same = cc
+no_run_and_check : (file other : List ℕ) (limit workers : ℕ) (rounds : AskedRounds) (journal : Bool) → Some (run file limit workers rounds journal) ≡ Some (check other) → ⊥
+no_run_and_check file other limit workers rounds journal same = cc
 
-same_file : (file other : List ℕ) (limit most workers hands : ℕ) (journal instead : Bool) → Some (run file limit workers journal) ≡ Some (run other most hands instead) → (file ≡ other) × (limit ≡ most)
-same_file file other limit most workers hands journal instead same = (cc, cc)
+no_run_and_upgrade : (file other : List ℕ) (limit workers : ℕ) (rounds : AskedRounds) (journal : Bool) → Some (run file limit workers rounds journal) ≡ Some (upgrade other) → ⊥
+no_run_and_upgrade file other limit workers rounds journal same = cc
 
--- Each run that is kept reports what one thread does, also where the source doesn't specify the texts that it holds.
+same_request : (file other : List ℕ) (limit most workers hands : ℕ) (rounds often : AskedRounds) (journal instead : Bool) → Some (run file limit workers rounds journal) ≡ Some (run other most hands often instead) → (file ≡ other) × (limit ≡ most) × (rounds ≡ often)
+same_request file other limit most workers hands rounds often journal instead same = (cc, cc, cc)
+
+-- Each round of a file reports what one thread does, also where the source doesn't specify the texts that it holds.
+run_plainly : (held : SourceTexts) (file : List ℕ) (limit : ℕ) (rounds : AskedRounds) (status : Status) (runs : List TextRun) → RunEnds held file limit rounds status runs → All IsReportedPlainly runs
+run_plainly held file limit rounds status runs (inl stopped) = subst (All IsReportedPlainly) (sym stopped.none) (All-nil _)
+run_plainly held file limit rounds status runs (inr ran) =
+    let all = rounds_planned ran.job runs ran.first.rounds (planned held file limit ran.job ran.is) in
+    λ k d below plain. same_report (slice_index_or runs k d) plain (all k d below) (ran.first.rounds.kept k d below)
+
+-- So does each run that is kept.
 pub kept_plainly : (held : SourceTexts) (arguments : List (List ℕ)) (status : Status) (runs : List TextRun) (concluded : Option Conclusion) → CallEnds held arguments status runs concluded → All IsReportedPlainly runs
-kept_plainly held arguments status runs concluded (inl (file, limit, workers, journal, asked, inl stopped, none)) = subst (All IsReportedPlainly) (sym stopped.none) (All-nil _)
-kept_plainly held arguments status runs concluded (inl (file, limit, workers, journal, asked, inr ran, none)) =
-    subst (All IsReportedPlainly) (sym ran.only) (All-cons IsReportedPlainly ran.run [] (λ plain. same_report ran.run plain (planned held file limit (job_of ran.run) ran.job) ran.kept) (All-nil _))
-kept_plainly held arguments status runs concluded (inr (inl (file, name, limit, asked, ends, none))) = subst (All IsReportedPlainly) (sym none) (All-nil _)
-kept_plainly held arguments status runs concluded (inr (inr (inl (file, asked, ends, none)))) = subst (All IsReportedPlainly) (sym none) (All-nil _)
+kept_plainly held arguments status runs concluded (inl (file, limit, workers, rounds, journal, asked, ends, none)) = run_plainly held file limit rounds status runs ends
+kept_plainly held arguments status runs concluded (inr (inl (file, limit, workers, rounds, asked, ends))) = run_plainly held file limit rounds status runs (run_of_profile held file limit rounds status runs concluded ends)
+kept_plainly held arguments status runs concluded (inr (inr (inl (file, name, limit, asked, ends, none)))) = subst (All IsReportedPlainly) (sym none) (All-nil _)
 kept_plainly held arguments status runs concluded (inr (inr (inr (inl (file, asked, ends, none))))) = subst (All IsReportedPlainly) (sym none) (All-nil _)
-kept_plainly held arguments status runs concluded (inr (inr (inr (inr (inl (same, none, nothing, never)))))) = subst (All IsReportedPlainly) (sym none) (All-nil _)
-kept_plainly held arguments status runs concluded (inr (inr (inr (inr (inr (same, none, nothing)))))) = subst (All IsReportedPlainly) (sym none) (All-nil _)
+kept_plainly held arguments status runs concluded (inr (inr (inr (inr (inl (file, asked, ends, none)))))) = subst (All IsReportedPlainly) (sym none) (All-nil _)
+kept_plainly held arguments status runs concluded (inr (inr (inr (inr (inr (inl (same, none, nothing, never))))))) = subst (All IsReportedPlainly) (sym none) (All-nil _)
+kept_plainly held arguments status runs concluded (inr (inr (inr (inr (inr (inr (same, none, nothing))))))) = subst (All IsReportedPlainly) (sym none) (All-nil _)
 
 module _ (held : SourceTexts) (arguments : List (List ℕ)) (status : Status) (job : TextJob) (asks : AsksPlainly held (asked_by arguments) job) where
-  -- the run that is kept is of the job, and reports what one thread does
-  kept_job : (ran : TextRun) (file : List ℕ) (limit : ℕ) → (file ≡ asks.file) × (limit ≡ asks.limit) → IsRequestedJob held file limit (job_of ran) → job_of ran ≡ job
-  kept_job ran file limit same is =
-      one_job asks.text asks.file asks.limit (job_of ran) job
-      (subst (λ h. IsRequestedJob h asks.file asks.limit (job_of ran)) asks.specified (subst (λ f. IsRequestedJob held f asks.limit (job_of ran)) same.0 (subst (λ l. IsRequestedJob held file l (job_of ran)) same.1 is)))
+  -- the job whose rounds are run is this one
+  asked_job : (of : TextJob) (file : List ℕ) (limit : ℕ) (rounds : AskedRounds) → (file ≡ asks.file) × (limit ≡ asks.limit) × (rounds ≡ once) → IsRequestedJob held file limit of → of ≡ job
+  asked_job of file limit rounds same is =
+      one_job asks.text asks.file asks.limit of job
+      (subst (λ h. IsRequestedJob h asks.file asks.limit of) asks.specified (subst (λ f. IsRequestedJob held f asks.limit of) same.0 (subst (λ l. IsRequestedJob held file l of) same.1 is)))
       (subst (λ h. IsRequestedJob h asks.file asks.limit job) asks.specified asks.requested)
 
-  kept_same : (ran : TextRun) → job_of ran ≡ job → IsKept text_job ran → HasSameReport ran
-  kept_same ran same kept =
-      same_report ran (subst IsPlainJob (sym same) asks.plain) (subst IsPlanned (sym same) (planned held asks.file asks.limit job asks.requested)) kept
+  -- The one run that is kept is of the job, and reports what one thread does.
+  kept_same : (ran : TextRun) (runs : List TextRun) (of : TextJob) → of ≡ job → runs ≡ ran ∷ [] → AreRounds text_job of runs → (job_of ran ≡ job) × HasSameReport ran
+  kept_same ran runs of same only rounds =
+      let are : AreRounds text_job of (ran ∷ []) = subst (AreRounds text_job of) only rounds in
+      let is : job_of ran ≡ job = are.first ∙ same in
+      (is, same_report ran (subst IsPlainJob (sym is) asks.plain) (subst IsPlanned (sym is) (planned held asks.file asks.limit job asks.requested)) (are.kept 0 ran (omega arith)))
+
+  request : (file : List ℕ) (limit workers : ℕ) (rounds : AskedRounds) (journal : Bool) → asked_by arguments ≡ Some (run file limit workers rounds journal) → (file ≡ asks.file) × (limit ≡ asks.limit) × (rounds ≡ once)
+  request file limit workers rounds journal asked = same_request file asks.file limit asks.limit workers asks.workers rounds once journal false (sym asked ∙ asks.asks)
+
+  -- a run that is kept, if there is one, is fine where the values by one thread run through
+  one_fine : (of : TextJob) (runs : List TextRun) → of ≡ job → AreFirstRounds text_job of (round_rule once) runs → RunsWell job → All (λ r. run_reason text_job r ≡ Fine) runs
+  one_fine of [] same first well = All-nil _
+  one_fine of (ran ∷ []) same first well =
+      let kept = kept_same ran (ran ∷ []) of same refl first.rounds in
+      All-cons (λ r. run_reason text_job r ≡ Fine) ran [] (kept.1.fine.1 (subst RunsWell (sym kept.0) well)) (All-nil _)
+  one_fine of (ran ∷ next ∷ rest) same first well = absurd (omega (arith, first.few))
 
   -- Where the values by one thread run through, the run that is kept, if there is one, is fine.
   all_fine : (runs : List TextRun) (concluded : Option Conclusion) → CallEnds held arguments status runs concluded → RunsWell job → All (λ r. run_reason text_job r ≡ Fine) runs
-  all_fine runs concluded (inl (file, limit, workers, journal, asked, inl stopped, none)) well = subst (All (λ r. run_reason text_job r ≡ Fine)) (sym stopped.none) (All-nil _)
-  all_fine runs concluded (inl (file, limit, workers, journal, asked, inr ran, none)) well =
-      let same : job_of ran.run ≡ job = kept_job ran.run file limit (same_file file asks.file limit asks.limit workers asks.workers journal false (sym asked ∙ asks.asks)) ran.job in
-      subst (All (λ r. run_reason text_job r ≡ Fine)) (sym ran.only)
-      (All-cons (λ r. run_reason text_job r ≡ Fine) ran.run [] ((kept_same ran.run same ran.kept).fine.1 (subst RunsWell (sym same) well)) (All-nil _))
-  all_fine runs concluded (inr (inl (file, name, limit, asked, ends, none))) well = subst (All (λ r. run_reason text_job r ≡ Fine)) (sym none) (All-nil _)
-  all_fine runs concluded (inr (inr (inl (file, asked, ends, none)))) well = subst (All (λ r. run_reason text_job r ≡ Fine)) (sym none) (All-nil _)
+  all_fine runs concluded (inl (file, limit, workers, rounds, journal, asked, inl stopped, none)) well = subst (All (λ r. run_reason text_job r ≡ Fine)) (sym stopped.none) (All-nil _)
+  all_fine runs concluded (inl (file, limit, workers, rounds, journal, asked, inr ran, none)) well =
+      let same = request file limit workers rounds journal asked in
+      one_fine ran.job runs (asked_job ran.job file limit rounds same ran.is) (subst (λ often. AreFirstRounds text_job ran.job (round_rule often) runs) same.2 ran.first) well
+  all_fine runs concluded (inr (inl (file, limit, workers, rounds, asked, ends))) well = absurd (no_run_and_profile asks.file file asks.limit limit asks.workers workers once rounds false (sym asks.asks ∙ asked))
+  all_fine runs concluded (inr (inr (inl (file, name, limit, asked, ends, none)))) well = subst (All (λ r. run_reason text_job r ≡ Fine)) (sym none) (All-nil _)
   all_fine runs concluded (inr (inr (inr (inl (file, asked, ends, none))))) well = subst (All (λ r. run_reason text_job r ≡ Fine)) (sym none) (All-nil _)
-  all_fine runs concluded (inr (inr (inr (inr (inl (same, none, nothing, never)))))) well = subst (All (λ r. run_reason text_job r ≡ Fine)) (sym none) (All-nil _)
-  all_fine runs concluded (inr (inr (inr (inr (inr (same, none, nothing)))))) well = subst (All (λ r. run_reason text_job r ≡ Fine)) (sym none) (All-nil _)
+  all_fine runs concluded (inr (inr (inr (inr (inl (file, asked, ends, none)))))) well = subst (All (λ r. run_reason text_job r ≡ Fine)) (sym none) (All-nil _)
+  all_fine runs concluded (inr (inr (inr (inr (inr (inl (same, none, nothing, never))))))) well = subst (All (λ r. run_reason text_job r ≡ Fine)) (sym none) (All-nil _)
+  all_fine runs concluded (inr (inr (inr (inr (inr (inr (same, none, nothing))))))) well = subst (All (λ r. run_reason text_job r ≡ Fine)) (sym none) (All-nil _)
 
   -- So nothing but a failure or want of memory keeps the call from being done.
   pub plain_completes : (runs : List TextRun) (concluded : Option Conclusion) → CallEnds held arguments status runs concluded → RunsWell job → ((n : List ℕ) → status ≢ ReadFault n) → status ≢ WriteFault → (status ≡ Done) ⊎ (status ≡ NoMemory)
@@ -161,22 +186,26 @@ module _ (held : SourceTexts) (arguments : List (List ℕ)) (status : Status) (j
 
   -- Where it is done, the values by one thread run through, and what is written is their report.
   pub plain_done : (runs : List TextRun) (concluded : Option Conclusion) → CallEnds held arguments status runs concluded → status ≡ Done → (output_of arguments runs concluded ≡ plain_report job) × RunsWell job
-  plain_done runs concluded (inl (file, limit, workers, journal, asked, inl stopped, none)) done = absurd (never_done stopped.why (sym stopped.reported ∙ done))
-  plain_done runs concluded (inl (file, limit, workers, journal, asked, inr ran, none)) done =
-      let same : job_of ran.run ≡ job = kept_job ran.run file limit (same_file file asks.file limit asks.limit workers asks.workers journal false (sym asked ∙ asks.asks)) ran.job in
-      let law : HasSameReport ran.run = kept_same ran.run same ran.kept in
-      let fine : run_reason text_job ran.run ≡ Fine = done_fine (run_reason text_job ran.run) (subst (IsAfterRun (run_reason text_job ran.run)) done ran.after) in (
-        ap (λ asked. run_texts (wants_journal asked) runs ++ conclusion_text concluded) asks.asks
-            ∙ ap (λ rs. run_texts false rs ++ conclusion_text concluded) ran.only
-            ∙ ap (λ c. run_texts false (ran.run ∷ []) ++ conclusion_text c) none
+  plain_done runs concluded (inl (file, limit, workers, rounds, journal, asked, inl stopped, none)) done = absurd (never_done stopped.why (sym stopped.reported ∙ done))
+  plain_done runs concluded (inl (file, limit, workers, rounds, journal, asked, inr ran, none)) done =
+      let same = request file limit workers rounds journal asked in
+      let memory : status ≢ NoMemory = λ no. let never : NoMemory ≡ Done = sym no ∙ done in absurd (cc) in
+      let one = one_round ran.job runs (subst (λ often. AreAllRounds text_job ran.job (round_rule often) runs) same.2 (ran.all memory)) in
+      let kept = kept_same one.0 runs ran.job (asked_job ran.job file limit rounds same ran.is) one.1 ran.first.rounds in
+      let after : IsAfterRun (run_reason text_job one.0) status = subst (λ rs. IsAfterRun (last_reason rs) status) one.1 ran.after in
+      let fine : run_reason text_job one.0 ≡ Fine = done_fine (run_reason text_job one.0) (subst (IsAfterRun (run_reason text_job one.0)) done after) in (
+        ap (λ asked. runs_text asked runs ++ conclusion_text concluded) asks.asks
+            ∙ ap (λ rs. rounds_text once false rs ++ conclusion_text concluded) one.1
+            ∙ ap (λ c. rounds_text once false (one.0 ∷ []) ++ conclusion_text c) none
             ∙ append-nil _
             ∙ append-nil _
-            ∙ law.report fine
-            ∙ ap plain_report same,
-        subst RunsWell same (law.fine.0 fine),
+            ∙ kept.1.report fine
+            ∙ ap plain_report kept.0,
+        subst RunsWell kept.0 (kept.1.fine.0 fine),
       )
-  plain_done runs concluded (inr (inl (file, name, limit, asked, ends, none))) done = absurd (no_run_and_judgement asks.file file name asks.limit limit asks.workers false (sym asks.asks ∙ asked))
-  plain_done runs concluded (inr (inr (inl (file, asked, ends, none)))) done = absurd (no_run_and_check asks.file file asks.limit asks.workers false (sym asks.asks ∙ asked))
-  plain_done runs concluded (inr (inr (inr (inl (file, asked, ends, none))))) done = absurd (no_run_and_upgrade asks.file file asks.limit asks.workers false (sym asks.asks ∙ asked))
-  plain_done runs concluded (inr (inr (inr (inr (inl (same, none, nothing, never)))))) done = absurd (none-some (run asks.file asks.limit asks.workers false) (sym never ∙ asks.asks))
-  plain_done runs concluded (inr (inr (inr (inr (inr (same, none, nothing)))))) done = absurd (let never : NoMemory ≡ Done = sym same ∙ done in cc)
+  plain_done runs concluded (inr (inl (file, limit, workers, rounds, asked, ends))) done = absurd (no_run_and_profile asks.file file asks.limit limit asks.workers workers once rounds false (sym asks.asks ∙ asked))
+  plain_done runs concluded (inr (inr (inl (file, name, limit, asked, ends, none)))) done = absurd (no_run_and_judgement asks.file file name asks.limit limit asks.workers once false (sym asks.asks ∙ asked))
+  plain_done runs concluded (inr (inr (inr (inl (file, asked, ends, none))))) done = absurd (no_run_and_check asks.file file asks.limit asks.workers once false (sym asks.asks ∙ asked))
+  plain_done runs concluded (inr (inr (inr (inr (inl (file, asked, ends, none)))))) done = absurd (no_run_and_upgrade asks.file file asks.limit asks.workers once false (sym asks.asks ∙ asked))
+  plain_done runs concluded (inr (inr (inr (inr (inr (inl (same, none, nothing, never))))))) done = absurd (none-some (run asks.file asks.limit asks.workers once false) (sym never ∙ asks.asks))
+  plain_done runs concluded (inr (inr (inr (inr (inr (inr (same, none, nothing))))))) done = absurd (let never : NoMemory ≡ Done = sym same ∙ done in cc)

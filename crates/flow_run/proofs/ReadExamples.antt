@@ -6,7 +6,7 @@ use Rattle.outside_io.specs.Sink.{SinkState}
 use Rattle.call_status.specs.declared.status.Status.TheVariants.{Done, BadWords, NoText, ReadFault, NoMemory}
 use Rattle.call_status.specs.declared.stop.Stop.{Stop}
 use Rattle.call_status.specs.declared.stop.Stop.TheVariants as stop
-use Rattle.command_line.specs.Requests.{Asked, run as run_of, judge as judge_of, check as check_of, upgrade as upgrade_of}
+use Rattle.command_line.specs.Requests.{Asked, once, run as run_of, judge as judge_of, check as check_of, upgrade as upgrade_of}
 use Rattle.flow_run.specs.Requests.{SourceTexts, CanBeRun}
 use Rattle.flow_run.specs.Judgements.{CanBeJudged}
 use Rattle.flow_run.specs.PlanFiles.{HoldsPlan}
@@ -97,7 +97,7 @@ failed_read_not_noted is = absurd (omega (arith, ap length is))
 -- ---- what is at hand
 
 module _ (text : List ℕ → Option (List ℕ)) where
-  by_its_command : (CanBeRun text t → IsAtHand (Some text) (Some (run_of t 77 4 false))) × (CanBeJudged text t u 9 → IsAtHand (Some text) (Some (judge_of t u 9))) × (HoldsPlan text t → IsAtHand (Some text) (Some (check_of t)) × IsAtHand (Some text) (Some (upgrade_of t)))
+  by_its_command : (CanBeRun text t → IsAtHand (Some text) (Some (run_of t 77 4 once false))) × (CanBeJudged text t u 9 → IsAtHand (Some text) (Some (judge_of t u 9))) × (HoldsPlan text t → IsAtHand (Some text) (Some (check_of t)) × IsAtHand (Some text) (Some (upgrade_of t)))
   by_its_command = (λ can. can, λ can. can, λ can. (can, can))
 
   nothing_asked_for : ¬ IsAtHand (Some text) None

@@ -10,18 +10,16 @@ use Rattle.graph_file.specs.declared.refusals.GraphError.{GraphError}
 use Rattle.graph_file.specs.declared.refusals.GraphError.TheVariants.{NotJson}
 use Rattle.graph_file.specs.PlanText.{PlanText, IsRefused}
 use Rattle.text_tasks.specs.GraphWork.{GraphWork, first_work}
-use Rattle.text_tasks.specs.declared.job.TextJob.{TextJob}
-use Rattle.text_tasks.specs.declared.job.TextJob.TheVariants.{Graph, Parts}
-use Rattle.text_tasks.specs.JobMeaning.{job_plan, limit_of, text_job}
-use Rattle.run_frame.specs.Legal.{IsKept}
+use Rattle.text_tasks.specs.JobMeaning.{job_plan}
 use Rattle.run_frame.specs.NestedRule.{job_of}
-use Rattle.nested_runs.specs.Reasons.{run_reason}
-use Rattle.nested_runs.specs.declared.reasons.Reason.TheVariants as reason
 use Rattle.text_ops.specs.Lines.{normal}
 use Rattle.call_status.specs.declared.status.Status.TheVariants.{Done, WriteFault}
 use Rattle.call_status.specs.declared.stop.Stop.TheVariants as stop
-use Rattle.flow_run.specs.Requests.{SourceTexts, StopsAtName, IsTextOf, TextsAre, StopsAtText, HasStart, HasPlan, StopsBefore, IsRequested, IsRequestedJob, CanBeRun, text_limit}
-use Rattle.flow_run.specs.Answers.{TextRun, IsAfterRun, RanOnce, KeptOnce, plan_in, RunEnds, Reported, run_texts}
+use Rattle.flow_run.specs.Requests.{SourceTexts, StopsAtName, IsTextOf, TextsAre, StopsAtText, HasStart, HasPlan, StopsBefore, IsRequested, CanBeRun, text_limit}
+use Rattle.flow_run.specs.Answers.{TextRun, Reported}
+use Rattle.flow_run.specs.Profiles.{plan_run}
+use Rattle.flow_run.specs.RoundTexts.{rounds_text}
+use Rattle.command_line.specs.Requests.{once}
 
 abbrev g : List ℕ
 g = 0 ∷ []
@@ -87,27 +85,6 @@ later_missing is = none is.before is.name is.after is.texts is.parts is.read is.
 limit_of_first_work : (first_work no_plan [] 76).limit ≡ 76
 limit_of_first_work = refl
 
--- ---- the run that is kept
-
--- the call names the limit of the run that is kept
-run_of_another_limit : (run : TextRun) → limit_of (job_of run) ≡ 76 → ¬ RunEnds held g 77 Done (run ∷ [])
-run_of_another_limit run limit (inl stopped) = let none : run ∷ [] ≡ [] = stopped.none in absurd (cc)
-run_of_another_limit run limit (inr ran) = let same : run ≡ ran.run = cc in absurd (omega (arith, limit, ap (λ r. limit_of (job_of r)) same, starts (job_of ran.run) ran.job))
-  where
-    starts : (job : TextJob) → IsRequestedJob held g 77 job → limit_of job ≡ 77
-    starts (Graph work) is = is.starts
-    starts (Parts work) is = absurd is
-
-stuck_run_called_done : (run : TextRun) → run_reason text_job run ≡ reason.Stuck (3 ∷ []) → ¬ RanOnce (λ job. job ≡ job) Done (run ∷ [])
-stuck_run_called_done run stuck is =
-    let same : is.run ≡ run = cc in
-    by_case (subst (λ why. IsAfterRun why Done) (ap (run_reason text_job) same ∙ stuck) is.after)
-  where
-    by_case : IsAfterRun (reason.Stuck (3 ∷ [])) Done → ⊥
-    by_case (inl told) = absurd (cc)
-    by_case (inr (inl (fine, told))) = absurd (cc)
-    by_case (inr (inr told)) = absurd (cc)
-
 -- ---- the report of a run, which says of its one task that it hasn't ended: `-- a`
 
 abbrev sink : List ℕ → ℕ → SinkState
@@ -119,8 +96,8 @@ of_memory state = state
 abbrev small_report : List ℕ
 small_report = 45 ∷ 45 ∷ 32 ∷ 97 ∷ 10 ∷ []
 
-module _ (run : TextRun) (report : run_texts false (run ∷ []) ≡ small_report) where
-  whole_report : Reported of_memory (sink (1 ∷ []) 0) (sink (1 ∷ small_report) 0) Done false (run ∷ []) true
+module _ (run : TextRun) (report : rounds_text once false (run ∷ []) ≡ small_report) where
+  whole_report : Reported of_memory (sink (1 ∷ []) 0) (sink (1 ∷ small_report) 0) Done once false (run ∷ []) true
   whole_report = record {
     front = record { lost = []; but = record { front = small_report; parts = report; took = refl } };
     whole = λ written. ap (append_known (Some (1 ∷ []))) (sym report);
@@ -134,12 +111,12 @@ module _ (run : TextRun) (report : run_texts false (run ∷ []) ≡ small_report
     nothing_to_write = λ none. absurd (cc);
   }
 
-  prefix_beside_done : ¬ Reported of_memory (sink [] 0) (sink (45 ∷ 45 ∷ []) 0) Done false (run ∷ []) true
+  prefix_beside_done : ¬ Reported of_memory (sink [] 0) (sink (45 ∷ 45 ∷ []) 0) Done once false (run ∷ []) true
   prefix_beside_done is =
       let whole : Some (45 ∷ 45 ∷ []) ≡ Some small_report = is.whole refl ∙ ap (append_known (Some [])) report in
       absurd (omega (arith, ap known_length whole))
 
-  prefix_beside_a_fault : Reported of_memory (sink [] 0) (sink (45 ∷ 45 ∷ []) 1) WriteFault false (run ∷ []) false
+  prefix_beside_a_fault : Reported of_memory (sink [] 0) (sink (45 ∷ 45 ∷ []) 1) WriteFault once false (run ∷ []) false
   prefix_beside_a_fault = record {
     front = record { lost = 32 ∷ 97 ∷ 10 ∷ []; but = record { front = 45 ∷ 45 ∷ []; parts = report; took = refl } };
     whole = λ written. absurd (cc);
@@ -153,43 +130,17 @@ module _ (run : TextRun) (report : run_texts false (run ∷ []) ≡ small_report
     nothing_to_write = λ none. absurd (cc);
   }
 
-  more_than_the_report : ¬ Reported of_memory (sink [] 0) (sink (small_report ++ 9 ∷ []) 1) WriteFault false (run ∷ []) false
+  more_than_the_report : ¬ Reported of_memory (sink [] 0) (sink (small_report ++ 9 ∷ []) 1) WriteFault once false (run ∷ []) false
   more_than_the_report is =
       let took : Some (small_report ++ 9 ∷ []) ≡ Some is.front.but.front = is.front.but.took in
       let parts : small_report ≡ is.front.but.front ++ is.front.lost = sym report ∙ is.front.but.parts in
       let longer : 5 ≡ length is.front.but.front + length is.front.lost = ap length parts ∙ length-append is.front.but.front is.front.lost in
       absurd (omega (arith, ap known_length took, longer))
 
--- ---- the kept run, and what can be had
+-- ---- the kept run
 
-plan_of_the_run : (run : TextRun) → (plan_in [] ≡ None) × (plan_in (run ∷ []) ≡ job_plan (job_of run))
+plan_of_the_run : (run : TextRun) → (plan_run [] ≡ None) × (plan_run (run ∷ []) ≡ job_plan (job_of run))
 plan_of_the_run run = (refl, refl)
-
-no_run_kept : (job : TextJob) → ¬ KeptOnce job [] reason.Fine
-no_run_kept job is = let only : [] ≡ is.run ∷ [] = is.only in absurd (cc)
-
-kept_for_another_reason : (run : TextRun) (job : TextJob) → run_reason text_job run ≡ reason.Stuck (3 ∷ []) → ¬ KeptOnce job (run ∷ []) reason.Fine
-kept_for_another_reason run job stuck is =
-    let same : is.run ≡ run = cc in
-    let both : reason.Fine ≡ reason.Stuck (3 ∷ []) = sym is.reason ∙ (ap (run_reason text_job) same ∙ stuck) in
-    absurd (cc)
-
-run_of_another_job : (run : TextRun) (job : TextJob) → limit_of (job_of run) ≡ 76 → limit_of job ≡ 77 → ¬ KeptOnce job (run ∷ []) reason.Fine
-run_of_another_job run job limit other is =
-    let same : is.run ≡ run = cc in
-    absurd (omega (arith, limit, other, ap (λ r. limit_of (job_of r)) same, ap limit_of is.same))
-
--- ---- each part of an end is asked for
-
-run_that_is_not_kept : (run : TextRun) → ¬ IsKept text_job run → ¬ RanOnce (λ job. job ≡ job) Done (run ∷ [])
-run_that_is_not_kept run never is =
-    let same : is.run ≡ run = cc in
-    never (subst (IsKept text_job) same is.kept)
-
-reason_of_a_run_that_is_not_kept : (run : TextRun) (job : TextJob) → ¬ IsKept text_job run → ¬ KeptOnce job (run ∷ []) reason.Fine
-reason_of_a_run_that_is_not_kept run job never is =
-    let same : is.run ≡ run = cc in
-    never (subst (IsKept text_job) same is.kept)
 
 -- ---- what is asked for, and what can be had of it: a graph file `g` that names no text, or the text `t`
 

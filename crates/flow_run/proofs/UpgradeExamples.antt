@@ -1,5 +1,5 @@
 -- What an upgrade of a graph file comes to, how it ends and what it writes, computed on a graph file `g` of one byte.
-use Rattle.std.proofs.Common.{◌≡◌, ℕ, ◌+◌, List, [], ◌∷◌, length, Option, Some, None, false, inl, inr, refl, sym, ap, subst, ◌∙◌, arith}
+use Rattle.std.proofs.Common.{◌≡◌, ℕ, ◌+◌, List, [], ◌∷◌, ◌++◌, length, Option, Some, None, inl, inr, refl, sym, ap, subst, ◌∙◌, arith}
 use Rattle.std.specs.Prelude.{bytes_eq, if◌then◌else◌}
 use Rattle.graph_plans.specs.PlanRows.{PlanRows}
 use Rattle.graph_plans.specs.declared.spots.Spot.TheVariants.{File}
@@ -10,13 +10,13 @@ use Rattle.call_status.specs.declared.status.Status.TheVariants as status
 use Rattle.call_status.specs.declared.stop.Stop.{Stop}
 use Rattle.call_status.specs.declared.stop.Stop.TheVariants as stop
 use Rattle.call_status.specs.Statuses.{status_of}
-use Rattle.command_line.specs.Requests.{upgrade as upgrade_of}
+use Rattle.command_line.specs.Requests.{asked_by, upgrade as upgrade_of}
 use Rattle.legal_run.specs.declared.verdict.Verdict.TheVariants.{Complete as Finished}
 use Rattle.flow_run.specs.declared.conclusion.Conclusion.TheVariants as conclusion
 use Rattle.flow_run.specs.Requests.{SourceTexts}
 use Rattle.flow_run.specs.PlanFiles.{IsAfterPlan}
 use Rattle.flow_run.specs.Upgrades.{IsUpgraded, EndsUpgraded, UpgradeEnds, TakesSamePlan}
-use Rattle.flow_run.specs.Answers.{conclusion_text, wants_journal, output_of}
+use Rattle.flow_run.specs.Answers.{conclusion_text, output_of, runs_text}
 use Rattle.flow_run.proofs.Completing.{one_plan}
 
 abbrev g : List ℕ
@@ -33,11 +33,8 @@ held = Some texts
 file_written : conclusion_text (Some (conclusion.GraphFile (7 ∷ 8 ∷ []))) ≡ 7 ∷ 8 ∷ []
 file_written = refl
 
-output_of_an_upgrade : (arguments : List (List ℕ)) → output_of arguments [] (Some (conclusion.GraphFile (7 ∷ []))) ≡ 7 ∷ []
-output_of_an_upgrade arguments = refl
-
-upgrade_asked_for : wants_journal (Some (upgrade_of g)) ≡ false
-upgrade_asked_for = refl
+output_of_an_upgrade : (arguments : List (List ℕ)) → asked_by arguments ≡ Some (upgrade_of g) → output_of arguments [] (Some (conclusion.GraphFile (7 ∷ []))) ≡ 7 ∷ []
+output_of_an_upgrade arguments asks = ap (λ asked. runs_text asked [] ++ 7 ∷ []) asks
 
 -- The new file is what is written for the plan of the one that is held, and stands for that plan.
 module _ (plan : PlanRows) (stands : PlanText (1 ∷ []) plan) (same : PlanText (plan_text plan) plan) where

@@ -7,10 +7,10 @@ use Rattle.call_status.specs.declared.status.Status.TheVariants.{Done, NoMemory}
 use Rattle.call_status.specs.declared.stop.Stop.{Stop}
 use Rattle.call_status.specs.declared.stop.Stop.TheVariants as stop
 use Rattle.call_status.specs.Statuses.{status_of}
-use Rattle.command_line.specs.Requests.{asked_by, run, judge, check, upgrade}
+use Rattle.command_line.specs.Requests.{AskedRounds, asked_by, run, profile, judge, check, upgrade}
 use Rattle.flow_run.specs.declared.conclusion.Conclusion.{Conclusion}
 use Rattle.flow_run.specs.Requests.{SourceTexts}
-use Rattle.flow_run.specs.Answers.{TextRun, CallEnds, conclusion_text, output_of, run_texts, wants_journal}
+use Rattle.flow_run.specs.Answers.{TextRun, CallEnds, conclusion_text, output_of, runs_text}
 use Rattle.flow_run.specs.Upgrades.{IsUpgraded, TakesSamePlan}
 
 never_done : (why : Stop) → status_of why ≡ Done → ⊥
@@ -23,8 +23,11 @@ never_done (stop.BadJournal line) same = cc
 never_done stop.NoMemory same = cc
 
 -- a command line asks for one thing
-no_run : (file other : List ℕ) (limit workers : ℕ) (journal : Bool) → Some (upgrade file) ≡ Some (run other limit workers journal) → ⊥
-no_run file other limit workers journal same = cc
+no_run : (file other : List ℕ) (limit workers : ℕ) (rounds : AskedRounds) (journal : Bool) → Some (upgrade file) ≡ Some (run other limit workers rounds journal) → ⊥
+no_run file other limit workers rounds journal same = cc
+
+no_profile : (file other : List ℕ) (limit workers : ℕ) (rounds : AskedRounds) → Some (upgrade file) ≡ Some (profile other limit workers rounds) → ⊥
+no_profile file other limit workers rounds same = cc
 
 no_judgement : (file other name : List ℕ) (limit : ℕ) → Some (upgrade file) ≡ Some (judge other name limit) → ⊥
 no_judgement file other name limit same = cc
@@ -42,12 +45,13 @@ module _ (held : SourceTexts) (file : List ℕ) (before after : Option (List ℕ
 
   pub upgrade_done : (arguments : List (List ℕ)) (status : Status) (runs : List TextRun) (concluded : Option Conclusion) → CallEnds held arguments status runs concluded
       → asked_by arguments ≡ Some (upgrade file) → status ≡ Done → Took before after (output_of arguments runs concluded) → TakesSamePlan held file before after
-  upgrade_done arguments status runs concluded (inl (other, limit, workers, journal, asked, ends, none)) asks done took = absurd (no_run file other limit workers journal (sym asks ∙ asked))
-  upgrade_done arguments status runs concluded (inr (inl (other, name, limit, asked, ends, none))) asks done took = absurd (no_judgement file other name limit (sym asks ∙ asked))
-  upgrade_done arguments status runs concluded (inr (inr (inl (other, asked, ends, none)))) asks done took = absurd (no_check file other (sym asks ∙ asked))
-  upgrade_done arguments status runs concluded (inr (inr (inr (inl (other, asked, inl stopped, none))))) asks done took = absurd (never_done stopped.why (sym stopped.reported ∙ done))
-  upgrade_done arguments status runs concluded (inr (inr (inr (inl (other, asked, inr ended, none))))) asks done took =
-      let written : output_of arguments runs concluded ≡ ended.text = ap (λ rs. run_texts (wants_journal (asked_by arguments)) rs ++ conclusion_text concluded) none ∙ ap conclusion_text ended.only in
+  upgrade_done arguments status runs concluded (inl (other, limit, workers, rounds, journal, asked, ends, none)) asks done took = absurd (no_run file other limit workers rounds journal (sym asks ∙ asked))
+  upgrade_done arguments status runs concluded (inr (inl (other, limit, workers, rounds, asked, ends))) asks done took = absurd (no_profile file other limit workers rounds (sym asks ∙ asked))
+  upgrade_done arguments status runs concluded (inr (inr (inl (other, name, limit, asked, ends, none)))) asks done took = absurd (no_judgement file other name limit (sym asks ∙ asked))
+  upgrade_done arguments status runs concluded (inr (inr (inr (inl (other, asked, ends, none))))) asks done took = absurd (no_check file other (sym asks ∙ asked))
+  upgrade_done arguments status runs concluded (inr (inr (inr (inr (inl (other, asked, inl stopped, none)))))) asks done took = absurd (never_done stopped.why (sym stopped.reported ∙ done))
+  upgrade_done arguments status runs concluded (inr (inr (inr (inr (inl (other, asked, inr ended, none)))))) asks done took =
+      let written : output_of arguments runs concluded ≡ ended.text = ap (λ ask. runs_text ask runs ++ conclusion_text concluded) asks ∙ ap conclusion_text ended.only in
       takes_plan ended.text (subst (λ name. IsUpgraded held name ended.text) (one_file file other (sym asks ∙ asked)) ended.upgraded) (subst (Took before after) written took)
-  upgrade_done arguments status runs concluded (inr (inr (inr (inr (inl (same, none, nothing, never)))))) asks done took = absurd (none-some (upgrade file) (sym never ∙ asks))
-  upgrade_done arguments status runs concluded (inr (inr (inr (inr (inr (same, none, nothing)))))) asks done took = absurd (let never : NoMemory ≡ Done = sym same ∙ done in cc)
+  upgrade_done arguments status runs concluded (inr (inr (inr (inr (inr (inl (same, none, nothing, never))))))) asks done took = absurd (none-some (upgrade file) (sym never ∙ asks))
+  upgrade_done arguments status runs concluded (inr (inr (inr (inr (inr (inr (same, none, nothing))))))) asks done took = absurd (let never : NoMemory ≡ Done = sym same ∙ done in cc)

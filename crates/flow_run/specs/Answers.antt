@@ -1,107 +1,88 @@
 -- How a call of the program ends: the status, what ran, and what was written.
-use Rattle.std.specs.Prelude.{◌≡◌, ◌⊎◌, ℕ, ◌<◌, ◌≤◌, Bool, true, false, List, [], ◌∷◌, ◌++◌, Option, Some, None}
-use Rattle.std.specs.List.{flat_map}
+use Rattle.std.specs.Prelude.{◌≡◌, ◌≢◌, ◌⊎◌, ℕ, ◌<◌, ◌≤◌, Bool, true, false, List, [], ◌++◌, Option, Some, None}
 use Rattle.outside_io.specs.Sink.{SinkState, Took, TookFront}
-use Rattle.run_frame.specs.declared.run.FrameRun.{FrameRun}
-use Rattle.run_frame.specs.Legal.{IsKept}
-use Rattle.run_frame.specs.NestedRule.{job_of, journal_of}
-use Rattle.graph_plans.specs.PlanRows.{PlanRows}
-use Rattle.text_tasks.specs.declared.item.Item.{Item}
 use Rattle.text_tasks.specs.declared.job.TextJob.{TextJob}
-use Rattle.text_tasks.specs.JobMeaning.{job_plan, text_job}
+use Rattle.text_tasks.specs.JobMeaning.{names_of, text_job}
 use Rattle.call_status.specs.declared.status.Status.{Status}
 use Rattle.call_status.specs.declared.status.Status.TheVariants.{Done, BadWords, WriteFault, NoMemory}
-use Rattle.call_status.specs.declared.stop.Stop.TheVariants as stop
 use Rattle.call_status.specs.Statuses.{status_after}
 use Rattle.call_status.specs.Stopping.{StoppedBefore}
-use Rattle.command_line.specs.Requests.{Asked, asked_by, run, judge, check, upgrade}
-use Rattle.journal_text.specs.declared.version.Version.TheVariants.{Two}
-use Rattle.journal_text.specs.JournalText.{journal_text}
-use Rattle.nested_runs.specs.Reasons.{run_reason}
+use Rattle.command_line.specs.Requests.{Asked, AskedRounds, asked_by, run, profile, judge, check, upgrade}
+use Rattle.nested_runs.specs.Rounds.{AreAllRounds, AreFirstRounds}
 use Rattle.nested_runs.specs.declared.reasons.Reason.{Reason}
 use Rattle.nested_runs.specs.declared.reasons.Reason.TheVariants as reason
 use Rattle.flow_run.specs.declared.conclusion.Conclusion.{Conclusion}
-use Rattle.flow_run.specs.declared.conclusion.Conclusion.TheVariants.{Verdict, Findings, GraphFile}
+use Rattle.flow_run.specs.declared.conclusion.GraphProfile.{GraphProfile}
+use Rattle.flow_run.specs.declared.conclusion.Conclusion.TheVariants.{Profile, Verdict, Findings, GraphFile}
 use Rattle.flow_run.specs.Requests.{SourceTexts, IsRequestedJob, StopsBefore}
-use Rattle.run_laws.specs.Output.{report_of}
+use Rattle.flow_run.specs.RoundTexts.{last_reason, round_rule, rounds_text}
+pub use Rattle.flow_run.specs.RoundTexts.{TextRun}
+use Rattle.flow_run.specs.Profiles.{IsProfileOf, graph_profile_text}
 use Rattle.flow_run.specs.Judgements.{JudgeEnds, verdict_line}
 use Rattle.flow_run.specs.Checks.{CheckEnds, findings_text}
 use Rattle.flow_run.specs.Upgrades.{UpgradeEnds}
-
--- a run of text jobs
-abbrev pub TextRun : Type 0
-TextRun = FrameRun TextJob Item
 
 -- The status is that of the run's reason; or that writing failed, where the run ended fine; or, after any run, that
 -- memory ran out.
 abbrev pub IsAfterRun : Reason → Status → Type 0
 IsAfterRun why status = (status ≡ status_after why) ⊎ ((why ≡ reason.Fine) × (status ≡ WriteFault)) ⊎ (status ≡ NoMemory)
 
--- one run was run to its end, and its job is such a one
-pub record RanOnce (IsJob : TextJob → Type 0) (status : Status) (runs : List TextRun) : Type 0 where
-  pub run : TextRun
-  pub only : runs ≡ run ∷ []
-  pub kept : IsKept text_job run
-  pub job : IsJob (job_of run)
-  pub after : IsAfterRun (run_reason text_job run) status
+-- Rounds were run that are asked for, of which the first is of such a job: all of them, unless memory ran out. The status is
+-- that of the last.
+pub record RanRounds (IsJob : TextJob → Type 0) (rounds : AskedRounds) (status : Status) (runs : List TextRun) : Type 0 where
+  pub job : TextJob
+  pub is : IsJob job
+  pub first : AreFirstRounds text_job job (round_rule rounds) runs
+  pub all : status ≢ NoMemory → AreAllRounds text_job job (round_rule rounds) runs
+  pub after : IsAfterRun (last_reason runs) status
 
--- one run of the job is kept, which came to its end for this reason
-pub record KeptOnce (job : TextJob) (runs : List TextRun) (why : Reason) : Type 0 where
-  pub run : TextRun
-  pub only : runs ≡ run ∷ []
-  pub kept : IsKept text_job run
-  pub same : job_of run ≡ job
-  pub reason : run_reason text_job run ≡ why
+-- How a call ends that is to run a file: before a run, for a reason that the status has, or after the rounds that the
+-- file is asked for.
+abbrev pub RunEnds : SourceTexts → List ℕ → ℕ → AskedRounds → Status → List TextRun → Type 0
+RunEnds held file limit rounds status runs = StoppedBefore (StopsBefore held file) status (runs ≡ []) ⊎ RanRounds (IsRequestedJob held file limit) rounds status runs
 
--- How a call ends that is to run a file: before a run, for a reason that the status has, or after the run that
--- the file asks for.
-abbrev pub RunEnds : SourceTexts → List ℕ → ℕ → Status → List TextRun → Type 0
-RunEnds held file limit status runs = StoppedBefore (StopsBefore held file) status (runs ≡ []) ⊎ RanOnce (IsRequestedJob held file limit) status runs
+-- how the rounds of a job end
+abbrev pub JobEnds : TextJob → AskedRounds → Status → List TextRun → Type 0
+JobEnds job rounds status runs = RanRounds (λ of. of ≡ job) rounds status runs
 
--- how a job's run ends: without memory, or after it
-abbrev pub JobEnds : TextJob → Status → List TextRun → Type 0
-JobEnds job status runs = StoppedBefore (λ why. why ≡ stop.NoMemory) status (runs ≡ []) ⊎ RanOnce (λ of. of ≡ job) status runs
+-- Rounds of such a job were run, and counted unless memory ran out.
+pub record RanProfile (IsJob : TextJob → Type 0) (rounds : AskedRounds) (status : Status) (runs : List TextRun) (concluded : Option Conclusion) : Type 0 where
+  pub ran : RanRounds IsJob rounds status runs
+  pub counted : ((status ≡ NoMemory) × (concluded ≡ None)) ⊎ ((counts : GraphProfile) × (concluded ≡ Some (Profile counts)) × IsProfileOf (names_of ran.job) runs counts)
 
--- How a call ends: the command line asks for a run of a file, or for a judgement of a journal, or for a check of a
--- graph, or for an upgrade of its file, or for nothing, or there is no memory to read it.
+-- How a call ends that is to write the profile of a file: before a run, for a reason that the status has, or after the rounds
+-- that the file is asked for.
+abbrev pub ProfileEnds : SourceTexts → List ℕ → ℕ → AskedRounds → Status → List TextRun → Option Conclusion → Type 0
+ProfileEnds held file limit rounds status runs concluded = StoppedBefore (StopsBefore held file) status ((runs ≡ []) × (concluded ≡ None)) ⊎ RanProfile (IsRequestedJob held file limit) rounds status runs concluded
+
+-- How a call ends: the command line asks for a run of a file, or for its profile, or for a judgement of a journal, or for a
+-- check of a graph, or for an upgrade of its file, or for nothing, or there is no memory to read it.
 abbrev pub CallEnds : SourceTexts → List (List ℕ) → Status → List TextRun → Option Conclusion → Type 0
 CallEnds held arguments status runs conclusion =
-    ((file : List ℕ) × (limit : ℕ) × (workers : ℕ) × (journal : Bool) × (asked_by arguments ≡ Some (run file limit workers journal)) × RunEnds held file limit status runs × (conclusion ≡ None))
+    ((file : List ℕ) × (limit : ℕ) × (workers : ℕ) × (rounds : AskedRounds) × (journal : Bool) × (asked_by arguments ≡ Some (run file limit workers rounds journal)) × RunEnds held file limit rounds status runs × (conclusion ≡ None))
+    ⊎ ((file : List ℕ) × (limit : ℕ) × (workers : ℕ) × (rounds : AskedRounds) × (asked_by arguments ≡ Some (profile file limit workers rounds)) × ProfileEnds held file limit rounds status runs conclusion)
     ⊎ ((file : List ℕ) × (name : List ℕ) × (limit : ℕ) × (asked_by arguments ≡ Some (judge file name limit)) × JudgeEnds held file name limit status conclusion × (runs ≡ []))
     ⊎ ((file : List ℕ) × (asked_by arguments ≡ Some (check file)) × CheckEnds held file status conclusion × (runs ≡ []))
     ⊎ ((file : List ℕ) × (asked_by arguments ≡ Some (upgrade file)) × UpgradeEnds held file status conclusion × (runs ≡ []))
     ⊎ ((status ≡ BadWords) × (runs ≡ []) × (conclusion ≡ None) × (asked_by arguments ≡ None))
     ⊎ ((status ≡ NoMemory) × (runs ≡ []) × (conclusion ≡ None))
 
--- the plan of the graph that was run
-abbrev pub plan_in : List TextRun → Option PlanRows
-plan_in [] = None
-plan_in (first ∷ runs) = job_plan (job_of first)
-
--- what is written of a run: its journal in place of its report, or its report
-abbrev pub run_text : Bool → TextRun → List ℕ
-run_text true kept = journal_text Two (journal_of kept)
-run_text false kept = report_of kept
-
--- what is written of these runs
-abbrev pub run_texts : Bool → List TextRun → List ℕ
-run_texts journal runs = flat_map (run_text journal) runs
-
--- whether journals are asked for in place of reports
-abbrev pub wants_journal : Option Asked → Bool
-wants_journal (Some (run file limit workers journal)) = journal
-wants_journal asked = false
+-- what is written of the runs that are kept: their reports or journals, where a run is asked for
+abbrev pub runs_text : Option Asked → List TextRun → List ℕ
+runs_text (Some (run file limit workers rounds journal)) runs = rounds_text rounds journal runs
+runs_text asked runs = []
 
 -- what is written of a conclusion, if there is one
 abbrev pub conclusion_text : Option Conclusion → List ℕ
 conclusion_text None = []
+conclusion_text (Some (Profile counts)) = graph_profile_text counts
 conclusion_text (Some (Verdict verdict)) = verdict_line verdict
 conclusion_text (Some (Findings found)) = findings_text found
 conclusion_text (Some (GraphFile text)) = text
 
 -- what is written to the output: of the runs that are kept, and of the conclusion
 abbrev pub output_of : List (List ℕ) → List TextRun → Option Conclusion → List ℕ
-output_of arguments runs conclusion = run_texts (wants_journal (asked_by arguments)) runs ++ conclusion_text conclusion
+output_of arguments runs conclusion = runs_text (asked_by arguments) runs ++ conclusion_text conclusion
 
 -- What a command has done to the output when it ends, to which it was to write these bytes. Where it came to nothing the
 -- output is as it was.
@@ -117,6 +98,6 @@ pub record HasWritten {S : Type 0} (state : S → SinkState) (old new : S) (stat
   pub untouched : Nothing → new ≡ old
   pub nothing_to_write : Nothing → written ≡ true
 
--- what a command has done to the output that keeps these runs
-abbrev pub Reported : {S : Type 0} → (S → SinkState) → S → S → Status → Bool → List TextRun → Bool → Type 0
-Reported state old new status journal runs written = HasWritten state old new status (runs ≡ []) (run_texts journal runs) written
+-- what a command has done to the output that keeps these rounds
+abbrev pub Reported : {S : Type 0} → (S → SinkState) → S → S → Status → AskedRounds → Bool → List TextRun → Bool → Type 0
+Reported state old new status rounds journal runs written = HasWritten state old new status (runs ≡ []) (rounds_text rounds journal runs) written

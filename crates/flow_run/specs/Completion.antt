@@ -1,14 +1,15 @@
 -- What a call needs in order to do all that it is asked for.
 use Rattle.std.specs.Prelude.{◌≡◌, ℕ, List, Option, IsSomeAnd}
 use Rattle.outside_io.specs.Sink.{SinkState}
-use Rattle.command_line.specs.Requests.{Asked, run, judge, check, upgrade}
+use Rattle.command_line.specs.Requests.{Asked, run, profile, judge, check, upgrade}
 use Rattle.flow_run.specs.Requests.{SourceTexts, CanBeRun}
 use Rattle.flow_run.specs.Judgements.{CanBeJudged}
 use Rattle.flow_run.specs.PlanFiles.{HoldsPlan}
 
 -- what a command needs is held
 abbrev pub CanBeDone : (List ℕ → Option (List ℕ)) → Asked → Type 0
-CanBeDone text (run file limit workers journal) = CanBeRun text file
+CanBeDone text (run file limit workers rounds journal) = CanBeRun text file
+CanBeDone text (profile file limit workers rounds) = CanBeRun text file
 CanBeDone text (judge file name limit) = CanBeJudged text file name limit
 CanBeDone text (check file) = HoldsPlan text file
 CanBeDone text (upgrade file) = HoldsPlan text file

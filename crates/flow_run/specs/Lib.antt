@@ -4,6 +4,8 @@ pub mod Judgements
 pub mod PlanFiles
 pub mod Checks
 pub mod Upgrades
+pub mod RoundTexts
+pub mod Profiles
 pub mod Answers
 pub mod Completion
 pub mod Plainly

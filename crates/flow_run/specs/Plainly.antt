@@ -5,7 +5,7 @@ use Rattle.run_frame.specs.NestedRule.{job_of}
 use Rattle.text_tasks.specs.declared.job.TextJob.{TextJob}
 use Rattle.call_status.specs.declared.status.Status.{Status}
 use Rattle.call_status.specs.declared.status.Status.TheVariants.{Done, NoMemory}
-use Rattle.command_line.specs.Requests.{Asked, run}
+use Rattle.command_line.specs.Requests.{Asked, once, run}
 use Rattle.run_laws.specs.PlainReport.{HasSameReport, IsPlainJob, RunsWell, plain_report}
 use Rattle.flow_run.specs.Requests.{SourceTexts, IsRequestedJob}
 use Rattle.flow_run.specs.Answers.{TextRun}
@@ -14,14 +14,14 @@ use Rattle.flow_run.specs.Answers.{TextRun}
 abbrev pub IsReportedPlainly : TextRun → Type 0
 IsReportedPlainly kept = IsPlainJob (job_of kept) → HasSameReport kept
 
--- The report of a run of a file is asked for, and not its journal; the source specifies its texts, and holds, within their
+-- The report of one run of a file is asked for, and not its journal; the source specifies its texts, and holds, within their
 -- limits, the file and the texts of this job, whose plan can begin or has no tasks, and has no conditions.
 pub record AsksPlainly (held : SourceTexts) (asked : Option Asked) (job : TextJob) : Type 0 where
   pub file : List ℕ
   pub limit : ℕ
   pub workers : ℕ
   pub text : List ℕ → Option (List ℕ)
-  pub asks : asked ≡ Some (run file limit workers false)
+  pub asks : asked ≡ Some (run file limit workers once false)
   pub specified : held ≡ Some text
   pub requested : IsRequestedJob held file limit job
   pub plain : IsPlainJob job

@@ -56,7 +56,7 @@ pub record StopsAtText (held : SourceTexts) (names : List (List ℕ)) (stop : St
   pub read : TextsAre held before texts
   pub stops : StopsAtName held name text_limit stop
 
--- the graph has a task to begin with, or no task at all
+-- each graph of the plan that has tasks, the top graph and the modules, has one to begin with
 abbrev pub HasStart : PlanRows → Type 0
 HasStart plan = NoSourceAnswer plan None
 
@@ -71,7 +71,7 @@ abbrev pub StopsAtBytes : List ℕ → Stop → Type 0
 StopsAtBytes bytes (NoSource spot) = (plan : PlanRows) × PlanText bytes plan × NoSourceAnswer plan (Some spot)
 StopsAtBytes bytes stop = StopsAtPlan bytes stop
 
--- the bytes held under the file's name stand for the plan, and the graph has a task to begin with
+-- the bytes held under the file's name stand for the plan, each of whose graphs has a task to begin with or none at all
 pub record HasPlan (held : SourceTexts) (file : List ℕ) (plan : PlanRows) : Type 0 where
   pub bytes : List ℕ
   pub read : IsHeld held file file_limit bytes
@@ -106,8 +106,8 @@ abbrev pub IsRequestedJob : SourceTexts → List ℕ → ℕ → TextJob → Typ
 IsRequestedJob held file limit (Graph work) = IsRequested held file limit work
 IsRequestedJob held file limit (Parts work) = ⊥
 
--- What the run of a file needs is held: the file has no more bytes than may be read, and stands for a plan with a task to
--- begin with, or without tasks; and each text that the plan names is held, with no more bytes than may be read.
+-- What the run of a file needs is held: the file has no more bytes than may be read, and stands for a plan each of whose graphs
+-- has a task to begin with or none at all; and each text that the plan names is held, with no more bytes than may be read.
 pub record CanBeRun (text : List ℕ → Option (List ℕ)) (file : List ℕ) : Type 0 where
   pub plan : PlanRows
   pub graph : IsSomeAnd (text file) (λ bytes. (length bytes ≤ file_limit) × PlanText bytes plan)

@@ -84,8 +84,8 @@ fn findings_on(alloc: Global, graph: &Graph) -> Result<GraphFindings, NoMemory>
     })
 }
 
-// The same names once more.
-fn copies(alloc: Global, names: &[Bytes]) -> Result<List<Bytes>, NoMemory>
+/// The same names once more.
+pub(crate) fn copies(alloc: Global, names: &[Bytes]) -> Result<List<Bytes>, NoMemory>
     ensures { IfOk result (λ copies. copies ≡ names.now) }
 {
     let mut copies = List::with_room(alloc, names.len())?;

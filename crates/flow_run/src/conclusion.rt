@@ -1,12 +1,15 @@
-// What a command that runs no graph comes to.
+// What a command comes to besides runs.
 
 use legal_run::Verdict;
 use outside_io::{Bytes, List};
 use pitfall_check::Finding;
+use profile_table::Table;
 
-/// What a command that runs no graph comes to.
+/// What a command comes to besides runs.
 #[derive(Drop)]
 pub enum Conclusion {
+    /// What the tasks of a graph did in the rounds that are kept.
+    Profile(GraphProfile),
     /// The judge's verdict on a journal.
     Verdict(Verdict),
     /// What the check of a graph file found: on its top graph, and then on each module.
@@ -24,4 +27,17 @@ pub struct GraphFindings {
     pub names: List<Bytes>,
     /// What was found, by kinds and within a kind by rising task.
     pub findings: List<Finding>,
+}
+
+/// What the tasks of a graph did in some rounds.
+#[derive(Drop)]
+pub struct GraphProfile {
+    /// The names of the graph's tasks, by their numbers.
+    pub names: List<Bytes>,
+    /// What each of them did, by their numbers.
+    pub table: Table,
+    /// How many spans the runs have, with those of the runs inside them, or the greatest `u64` where they are more.
+    pub spans: u64,
+    /// The line that says why the last round was cut short. It is empty where that ended fine, or where there is none.
+    pub last_line: Bytes,
 }

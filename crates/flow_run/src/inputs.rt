@@ -2,12 +2,12 @@
 ghost use Rattle.std.specs.Prelude.{◌≡◌, [], IfOk, IfErr};
 ghost use Rattle.graph_plans.specs.PlanRows.{IsPlan, plan_rows};
 ghost use Rattle.graph_file.specs.PlanText.{PlanText};
-ghost use Rattle.text_tasks.specs.JobMeaning.{IsTextJob};
+ghost use Rattle.text_tasks.specs.JobMeaning.{IsGraphJob, IsTextJob};
 ghost use Rattle.flow_run.specs.Reads.{FailsBy};
 ghost use Rattle.flow_run.specs.Requests.{HasStart, IsAdded, IsHeld, IsRequestedJob, StopsAtBytes, StopsAtName, StopsAtPlan, StopsAtText, StopsBefore, TextsAre, text_limit};
 
 use call_status::{Stop, graph_refusal};
-use command_line::Run;
+use command_line::RunOptions;
 use graph_file::read_graph;
 use graph_plans::{Plan, no_source};
 use outside_io::{Bytes, Found, List, Texts, TextsFault};
@@ -28,9 +28,10 @@ pub fn prepare<F: Texts, R: Wait>(
     rt: &R,
     alloc: Global,
     texts: &mut F,
-    asked: Run<'_>,
+    asked: RunOptions<'_>,
 ) -> Result<TextJob, Stop>
     ensures job { IfOk result IsTextJob }
+    ensures graph { IfOk result IsGraphJob }
     ensures requested { IfOk result
         (IsRequestedJob (F.held texts.old) asked.entry.file.now asked.entry.limit) }
     ensures stops { IfErr result (StopsBefore (F.held texts.old) asked.entry.file.now) }
@@ -67,7 +68,7 @@ pub(crate) fn read_named<F: Texts>(
     }
 }
 
-/// The plan for which these bytes stand, if its graph has a task to begin with.
+/// The plan for which these bytes stand, if each of its graphs that has tasks has one to begin with.
 #[tactic(auto, using(crate::proofs::Preparing::no_plan))]
 pub(crate) fn read_plan(alloc: Global, bytes: &[u8]) -> Result<Plan, Stop>
     ensures plan { IfOk result (λ plan. PlanText bytes.now (plan_rows plan)) }

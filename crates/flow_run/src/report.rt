@@ -192,9 +192,9 @@ fn header_line(alloc: Global, mark: &[u8], name: &[u8]) -> Result<Bytes, NoMemor
     Ok(line)
 }
 
-// Writes a value, where it isn't empty.
+/// Writes a value, where it isn't empty.
 #[tactic(auto, using(outside_io::proofs::Pieces::accepts_nothing))]
-fn put_value<S: Sink>(out: &mut S, text: &[u8]) -> Result<(), SinkFault>
+pub(crate) fn put_value<S: Sink>(out: &mut S, text: &[u8]) -> Result<(), SinkFault>
     ensures { Writes (S.state out.old) (S.state out.new) text.now result }
 {
     if text.is_empty() {

@@ -1,52 +1,133 @@
-// Runs by so many workers.
-ghost use Rattle.std.specs.Prelude.{◌≡◌, IfOk};
+// Rounds by so many workers.
+ghost use Rattle.std.specs.Prelude.{◌≡◌, [], false, IsTrue};
 ghost use Rattle.std.specs.Arc.{arc_value};
-ghost use Rattle.run_frame.specs.Legal.{IsKept};
-ghost use Rattle.run_frame.specs.NestedRule.{job_of};
-ghost use Rattle.text_tasks.specs.JobMeaning.{text_job};
+ghost use Rattle.command_line.specs.Rounds.{asked_rounds};
+ghost use Rattle.nested_runs.specs.Rounds.{AreAllRounds, AreFirstRounds};
+ghost use Rattle.text_tasks.specs.JobMeaning.{text_job, IsGraphJob};
+ghost use Rattle.topology_runs.specs.Teams.{IsReady, watchers_of};
 ghost use Rattle.worker_seat.specs.Crews.{IsEntered, MayEnter};
+ghost use Rattle.flow_run.specs.RoundTexts.{last_has, round_rule};
 
 use super::fronts::{put_front, take_front};
-use command_line::Run;
-use outside_io::NoMemory;
+use command_line::{GREATEST_TIMES, Rounds, RunOptions};
+use outside_io::{Back, List};
 use run_frame::FrameRun;
 use span_profile::Watch;
 use std::alloc::Global;
 use std::sync::{Arc, Wait};
 use std::thread::{Threads, for_each_mut};
-use table_frames::run_alone;
-use text_tasks::TextJob;
-use worker_seat::{Crew, CrewRan, EntersEach, WorkerSeat, run_by_crew};
+use text_tasks::{TextJob, feedback_has};
+use topology_runs::{Short, Team, Until, run_times, run_until};
+use worker_seat::{Crew, EntersEach, WorkerSeat};
 
-/// Runs a job to its end by as many workers as are asked for, or by as many as there are watchers, where these are
-/// fewer. A single worker is the caller's thread, which needs no lock; several are a crew, whose seats are entered by
-/// threads. Each seat holds a watcher, the first one the first, and in the end they are where they were. It answers
-/// `Err` only if an allocation fails.
-pub(crate) fn run_by<R: Threads + Wait + Sync>(
+/// Rounds that were run to their end.
+#[derive(Drop)]
+pub(crate) struct RoundsRun {
+    pub runs: List<FrameRun<TextJob>>,
+    /// Whether they are all that were asked for. If not, an allocation failed.
+    pub whole: bool,
+}
+
+/// Runs the rounds of a job that are asked for, by as many workers as are asked for, or by as many as there are watchers,
+/// where these are fewer. A single worker is the caller's thread, which needs no lock; several are a crew, whose seats
+/// are entered by threads. Each seat holds a watcher, the first one the first, and in the end they are where they were.
+#[tactic(auto, using(crate::proofs::RoundLemmas::no_round))]
+pub(crate) fn run_rounds<R: Threads + Wait + Sync>(
     rt: &R,
     alloc: Global,
-    asked: Run<'_>,
-    job: Arc<TextJob>,
+    asked: RunOptions<'_>,
+    job: TextJob,
     watchers: &mut Vec<Box<dyn Watch + Send>>,
-) -> Result<FrameRun<TextJob>, NoMemory>
-    ensures job { IfOk result (λ run. job_of run ≡ arc_value job) }
-    ensures kept { IfOk result (IsKept text_job) }
+) -> RoundsRun
+    requires { IsGraphJob job }
+    ensures first { AreFirstRounds text_job job (round_rule (asked_rounds asked.entry.rounds)) result.runs }
+    ensures all { IsTrue result.whole
+        → AreAllRounds text_job job (round_rule (asked_rounds asked.entry.rounds)) result.runs }
     ensures watchers { watchers.new ≡ watchers.old }
 {
     let seats = watchers.len().min(asked.workers as usize);
-    if seats < 2 {
-        return run_alone(rt, alloc, job);
+    let Ok(job) = Arc::new(alloc, job) else {
+        return no_rounds(alloc);
+    };
+    let Ok(front) = Vec::with_capacity(alloc, seats) else {
+        return no_rounds(alloc);
+    };
+    let Ok(back) = Vec::with_capacity(alloc, seats) else {
+        return no_rounds(alloc);
+    };
+    match Team::new(alloc, take_front(watchers, seats, front)) {
+        Ok(mut team) => {
+            let ran = rounds_by(rt, alloc, &mut team, &job, asked.rounds);
+            put_front(watchers, team.into_watchers(back));
+            ran
+        }
+        Err(Back { item }) => {
+            put_front(watchers, item);
+            no_rounds(alloc)
+        }
     }
-    let room = Vec::with_capacity(alloc, seats)?;
-    let seated = take_front(watchers, seats, room);
-    let CrewRan {
-        run,
-        watchers: seated,
-    } = run_by_crew::<TextJob, Box<dyn Watch + Send>, ByThreads, R>(rt, alloc, seated, job);
-    put_front(watchers, seated);
-    match run {
-        Some(run) => Ok(run),
-        None => Err(NoMemory),
+}
+
+// No round, since an allocation failed.
+fn no_rounds(alloc: Global) -> RoundsRun
+    ensures { result ≡ record { runs = []; whole = false } }
+{
+    RoundsRun {
+        runs: List::new(alloc),
+        whole: false,
+    }
+}
+
+// Runs the rounds by a team.
+fn rounds_by<R: Threads + Wait + Sync>(
+    rt: &R,
+    alloc: Global,
+    team: &mut Team<TextJob, Box<dyn Watch + Send>>,
+    job: &Arc<TextJob>,
+    asked: Rounds<'_>,
+) -> RoundsRun
+    requires ready { IsReady team.old }
+    requires graph { IsGraphJob (arc_value job.now) }
+    ensures first { AreFirstRounds text_job (arc_value job.now) (round_rule (asked_rounds asked.entry)) result.runs }
+    ensures all { IsTrue result.whole
+        → AreAllRounds text_job (arc_value job.now) (round_rule (asked_rounds asked.entry)) result.runs }
+    ensures watchers { watchers_of team.new ≡ watchers_of team.old }
+{
+    let ran = match asked {
+        Rounds::Once => run_times::<TextJob, _, ByThreads, R>(rt, alloc, team, job, 1),
+        Rounds::Times(count) => run_times::<TextJob, _, ByThreads, R>(rt, alloc, team, job, count),
+        Rounds::Until(word) => {
+            let word = word.as_bytes();
+            run_until::<TextJob, _, HandsOn<'_>, ByThreads, R>(
+                rt,
+                alloc,
+                team,
+                job,
+                &HandsOn { word },
+                GREATEST_TIMES,
+            )
+        }
+    };
+    match ran {
+        Ok(runs) => RoundsRun { runs, whole: true },
+        Err(Short { runs }) => RoundsRun { runs, whole: false },
+    }
+}
+
+// The last round has handed on a text with this word in one of its lines.
+#[derive(Drop)]
+struct HandsOn<'w> {
+    word: &'w [u8],
+}
+
+impl<'w> Until<TextJob> for HandsOn<'w> {
+    ghost ends = { λ until runs. last_has until.word.now runs };
+
+    fn is_met(&self, runs: &[FrameRun<TextJob>]) -> bool {
+        match runs.last() {
+            Some(run) => feedback_has(run, self.word),
+            None => false,
+        }
     }
 }
 

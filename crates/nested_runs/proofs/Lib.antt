@@ -1,1 +1,3 @@
+pub mod EndValues
 mod WorkedReasons
+mod WorkedRounds

@@ -1,4 +1,5 @@
 pub mod Reasons
+pub mod Rounds
 pub mod Spreads
 pub mod Totals
 pub mod inside

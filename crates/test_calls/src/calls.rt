@@ -1,6 +1,7 @@
 // Calls of the program over texts and sinks in memory, each a row of a table.
 use crate::seen_runs::shown_run;
 use crate::texts::{graph_of, text_of};
+use crate::wanted::wanted_of;
 use crate::watchers::{are_in_order, span_count_of};
 use call_status::Noted;
 use flow_run::{CallResult, flow_main};
@@ -17,11 +18,11 @@ pub const COUNT: &str = r#"{"tasks":[
     {"name":"a","op":"read","text":"t","to":["b"]},
     {"name":"b","op":"count"}]}"#;
 
-// A call: its words, with a space between two, or `-` for none, where `''` is the empty word; the texts `t`, `u` and
-// `v` that it finds, with ` / ` between two, where `-` is none; what fails in it (`read CALL`, `put CALL TAKEN`, `note
-// CALL TAKEN`), how many watchers it has in place of 16 (`watchers COUNT`), that the totals of its runs are seen too
-// (`totals`), or `-`; and what is seen of it: the exit code, whether all was written and noted, the entries of each run,
-// then what the output took, then what standard error took. `|` ends a line of a text.
+// A call: its words, with a space between two, or `-` for none, where `''` is the empty word and `_` a space in a word;
+// the texts `t`, `u` and `v` that it finds, with ` / ` between two, where `-` is none; what fails in it (`read CALL`,
+// `put CALL TAKEN`, `note CALL TAKEN`), how many watchers it has in place of 16 (`watchers COUNT`), that the totals of
+// its runs are seen too (`totals`), or `-`; and what is seen of it: the exit code, whether all was written and noted, the
+// entries of each run, then what the output took, then what standard error took. `|` ends a line of a text.
 #[derive(Clone, Copy)]
 pub struct Row<'r> {
     pub words: &'r str,
@@ -126,7 +127,7 @@ fn difference<R: Threads + Wait + Sync>(
     row: Row<'_>,
 ) -> Result<String, NoMemory> {
     let seen = shown(rt, alloc, graph, row)?;
-    let wanted = row.seen.replace(alloc, "|", "\n")?;
+    let wanted = wanted_of(alloc, row.seen)?;
     if seen.as_str() == wanted.as_str() {
         return Ok(String::new(alloc));
     }
@@ -146,7 +147,7 @@ fn words_of(alloc: Global, words: &str) -> Result<Vec<String>, AllocError> {
     }
     for word in words.split(' ') {
         let word = if word == "''" { "" } else { word };
-        strings.push(String::from_str(alloc, word)?)?;
+        strings.push(word.replace(alloc, "_", " ")?)?;
     }
     Ok(strings)
 }

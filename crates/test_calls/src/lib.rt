@@ -26,6 +26,10 @@ mod notes;
 #[cfg(test)]
 mod operations;
 #[cfg(test)]
+mod profile_calls;
+#[cfg(test)]
+mod round_calls;
+#[cfg(test)]
 mod runs;
 #[cfg(test)]
 mod seen_runs;
@@ -37,6 +41,8 @@ mod tables;
 mod texts;
 #[cfg(test)]
 mod upgrade_calls;
+#[cfg(test)]
+mod wanted;
 #[cfg(test)]
 mod watchers;
 #[cfg(test)]

@@ -29,6 +29,24 @@ run g --limit 1x
 run g --limit 1000001
 run g --limit 00000001
 run g --limit 1 --limit 1
+run g --times
+run g --times ''
+run g --times -1
+run g --times 00000001
+run g --times 2 --times 2
+run g --until
+run g --until x --until x
+judge g t --times 1
+check g --until x
+profile
+profile g g
+profile g --journal
+profile g --limit 0
+profile g --workers 17
+profile g --times 1001
+profile g --times 1 --until x
+profile g --until x --until x
+Profile g
 check
 check g g
 check g --limit 1

@@ -5,23 +5,29 @@ ghost use Rattle.task_graph.specs.Chosen.{AnswersSoMany, IsAnswerFor};
 use crate::nets::{CHOICE, MANY, NetCase, PLAIN, built};
 use outside_io::{List, NoMemory};
 use std::alloc::Global;
-use std::process::Abort;
 use std::test::Fail;
 use task_graph::{BuildError, MAX_SEMAPHORES, Net, NetBuilder, Shape};
 
-#[test]
-fn a_double_edge_is_listed_twice(rt: HostRuntime) -> Result<(), Fail> {
+// Whether the edge from task 0 to task 1 that is there twice is listed twice at both.
+fn is_listed_twice(alloc: Global) -> Result<bool, Fail> {
     let rows = NetCase {
         tasks: &[PLAIN; 3],
         edges: &[(0, 1), (1, 2), (0, 1)],
         rings: &[],
     };
-    let net = built(rt.alloc(), rows)?;
-    assert!(rt; net.tasks().len() == 3);
-    assert_eq!(rt; net.out_edges(0), [0, 2].as_slice());
-    assert_eq!(rt; net.strong_in(1), [0, 2].as_slice());
-    assert_eq!(rt; net.strong_in(2), [1].as_slice());
-    assert!(rt; net.is_source(0) && !net.is_source(1) && net.weak_in(1).is_empty());
+    let net = built(alloc, rows)?;
+    if net.tasks().len() != 3 {
+        return Ok(false);
+    }
+    let leads_out = net.out_edges(0) == [0, 2].as_slice();
+    let leads_in = net.strong_in(1) == [0, 2].as_slice() && net.weak_in(1).is_empty();
+    let begins = net.is_source(0) && !net.is_source(1);
+    Ok(leads_out && leads_in && begins && net.strong_in(2) == [1].as_slice())
+}
+
+#[test]
+fn a_double_edge_is_listed_twice(rt: HostRuntime) -> Result<(), Fail> {
+    assert!(rt; is_listed_twice(rt.alloc())?);
     Ok(())
 }
 
@@ -36,15 +42,22 @@ const EDGES: [(u32, u32, bool, Result<u32, BuildError>); 7] = [
     (1, 0, false, Ok(2)),
 ];
 
+// Whether the builder gives each of them its answer.
+fn are_edges_answered(alloc: Global) -> Result<bool, BuildError> {
+    let mut builder = NetBuilder::new(alloc);
+    builder.task(Shape::Plain, List::new(alloc), List::new(alloc))?;
+    builder.task(Shape::Choice, List::new(alloc), List::new(alloc))?;
+    for (from, to, token, answer) in &EDGES {
+        if builder.edge(*from, *to, *token) != *answer {
+            return Ok(false);
+        }
+    }
+    Ok(builder.finish().edges().len() == 3)
+}
+
 #[test]
 fn edges_are_added_or_refused(rt: HostRuntime) -> Result<(), Fail> {
-    let mut builder = NetBuilder::new(rt.alloc());
-    builder.task(Shape::Plain, List::new(rt.alloc()), List::new(rt.alloc()))?;
-    builder.task(Shape::Choice, List::new(rt.alloc()), List::new(rt.alloc()))?;
-    for (from, to, token, expected) in &EDGES {
-        assert!(rt; builder.edge(*from, *to, *token) == *expected);
-    }
-    assert_eq!(rt; builder.finish().edges().len(), 3);
+    assert!(rt; are_edges_answered(rt.alloc())?);
     Ok(())
 }
 
@@ -83,32 +96,40 @@ const HOLDERS: [Holder; 5] = [
     },
 ];
 
-// Whether the builder gives a task with these semaphores its answer.
-fn is_answered(alloc: Global, builder: &mut NetBuilder, holder: &Holder) -> Result<bool, NoMemory> {
-    let takes = List::from_slice(alloc, holder.takes)?;
-    let puts = List::from_slice(alloc, holder.puts)?;
-    Ok(builder.task(Shape::Plain, takes, puts) == holder.answer)
+// Whether the builder gives each task with such semaphores its answer, and the last one its list in order.
+fn are_holders_answered(alloc: Global) -> Result<bool, NoMemory> {
+    let mut builder = NetBuilder::new(alloc);
+    if !has_all_semaphores(&mut builder) {
+        return Ok(false);
+    }
+    for holder in &HOLDERS {
+        let takes = List::from_slice(alloc, holder.takes)?;
+        let puts = List::from_slice(alloc, holder.puts)?;
+        if builder.task(Shape::Plain, takes, puts) != holder.answer {
+            return Ok(false);
+        }
+    }
+    let net = builder.finish();
+    Ok(matches!(net.tasks(), [row] if row.takes.as_slice() == [0, 9, 255].as_slice()))
+}
+
+// Whether as many semaphores are added as there may be, and no more.
+fn has_all_semaphores(builder: &mut NetBuilder) -> bool {
+    if builder.semaphore(0) != Err(BuildError::ZeroCount) {
+        return false;
+    }
+    for id in 0..MAX_SEMAPHORES {
+        if builder.semaphore(1) != Ok(id) {
+            return false;
+        }
+    }
+    builder.semaphore(1) == Err(BuildError::TooMany(256))
 }
 
 #[test]
 fn semaphores_are_kept_in_order_or_refused(rt: HostRuntime) -> Result<(), Fail> {
-    let mut builder = NetBuilder::new(rt.alloc());
-    add_semaphores(&rt, &mut builder);
-    for holder in &HOLDERS {
-        assert!(rt; is_answered(rt.alloc(), &mut builder, holder)?);
-    }
-    let net = builder.finish();
-    assert!(rt; matches!(net.tasks(), [row] if row.takes.as_slice() == [0, 9, 255].as_slice()));
+    assert!(rt; are_holders_answered(rt.alloc())?);
     Ok(())
-}
-
-// As many semaphores as there may be.
-fn add_semaphores(rt: &impl Abort, builder: &mut NetBuilder) {
-    assert_eq!(rt; builder.semaphore(0), Err(BuildError::ZeroCount));
-    for id in 0..MAX_SEMAPHORES {
-        assert_eq!(rt; builder.semaphore(1), Ok(id));
-    }
-    assert_eq!(rt; builder.semaphore(1), Err(BuildError::TooMany(256)));
 }
 
 // The Many 1 has the out-edges 4, 7 and 9.
@@ -137,7 +158,9 @@ const BY_CHOICE: NetCase<'static> = NetCase {
 };
 
 // A net, a task, the indices by which it chooses, and the edges that it chooses by them.
-const CHOSEN: [(NetCase<'static>, u32, &[i64], &[u32]); 6] = [
+type Chosen = (NetCase<'static>, u32, &'static [i64], &'static [u32]);
+
+const CHOSEN: [Chosen; 6] = [
     (BY_MANY, 1, &[1, 1, 0, 7, -1], &[7, 4]),
     (BY_MANY, 1, &[2, 0, 1, 2], &[9, 4, 7]),
     (BY_MANY, 1, &[3, -3], &[]),
@@ -146,13 +169,21 @@ const CHOSEN: [(NetCase<'static>, u32, &[i64], &[u32]); 6] = [
     (BY_CHOICE, 0, &[3], &[]),
 ];
 
+// Whether the task chooses these edges.
+fn is_chosen(alloc: Global, case: &Chosen) -> Result<bool, Fail> {
+    let (rows, task, indices, edges) = case;
+    let net = built(alloc, *rows)?;
+    if !may_answer(&net, *task, indices.len()) {
+        return Ok(false);
+    }
+    let chosen = net.chosen(alloc, *task, *indices)?;
+    Ok(chosen.as_slice() == *edges)
+}
+
 #[test]
 fn each_index_in_range_chooses_an_edge_once(rt: HostRuntime) -> Result<(), Fail> {
-    for (rows, task, indices, edges) in &CHOSEN {
-        let net = built(rt.alloc(), *rows)?;
-        assert!(rt; may_answer(&net, *task, indices.len()));
-        let chosen = net.chosen(rt.alloc(), *task, *indices)?;
-        assert!(rt; chosen.as_slice() == *edges);
+    for case in &CHOSEN {
+        assert!(rt; is_chosen(rt.alloc(), case)?);
     }
     Ok(())
 }

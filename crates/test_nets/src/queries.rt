@@ -7,6 +7,7 @@ use journal_rules::{Cause, Part};
 use legal_run::{Break, Verdict};
 use net_machine::{Machine, ReadyRelease};
 use outside_io::NoMemory;
+use std::alloc::Global;
 use std::test::Fail;
 
 // Task 0 begins a loop of task 1 and the Choice 2, which goes back by edge 3. Task 4 follows task 1, by edge 2, and
@@ -82,24 +83,40 @@ fn waits_with(machine: &Machine, task: u32, expected: &[Part]) -> Result<bool, N
     Ok(machine.rounds(task) == 0 && parts.as_slice() == expected)
 }
 
-// Task 4 has a token by one of its edges and none by the other after the round.
+// Whether the machine says before and after the round what was worked out: then task 4 has a token by one of its edges
+// and none by the other.
+fn is_led_round(alloc: Global) -> Result<bool, Fail> {
+    let net = built(alloc, LOOP)?;
+    if net.tasks().len() != 5 {
+        return Ok(false);
+    }
+    let mut machine = Machine::new(alloc, net, 10)?;
+    let begins = are_ready(&machine, &AT_FIRST)?;
+    go_round(&mut machine);
+    let goes_on = are_ready(&machine, &AFTER_ROUND)?;
+    let waits = waits_with(&machine, 4, &[Part::From(7), Part::Nothing])?;
+    Ok(begins && goes_on && waits)
+}
+
 #[test]
 fn tokens_are_kept_for_a_task_that_waits(rt: HostRuntime) -> Result<(), Fail> {
-    let net = built(rt.alloc(), LOOP)?;
-    assert_eq!(rt; net.tasks().len(), 5);
-    let mut machine = Machine::new(rt.alloc(), net, 10)?;
-    assert!(rt; are_ready(&machine, &AT_FIRST)?);
-    go_round(&mut machine);
-    assert!(rt; are_ready(&machine, &AFTER_ROUND)?);
-    assert!(rt; waits_with(&machine, 4, &[Part::From(7), Part::Nothing])?);
+    assert!(rt; is_led_round(rt.alloc())?);
     Ok(())
+}
+
+// Whether the judge says of the round what was worked out for each limit.
+fn is_judged(alloc: Global) -> Result<bool, Fail> {
+    let net = built(alloc, LOOP)?;
+    for (limit, verdict) in &VERDICTS {
+        if judged(alloc, &net, *limit, &ROUND)? != *verdict {
+            return Ok(false);
+        }
+    }
+    Ok(true)
 }
 
 #[test]
 fn a_journal_is_judged_by_its_limit(rt: HostRuntime) -> Result<(), Fail> {
-    let net = built(rt.alloc(), LOOP)?;
-    for (limit, verdict) in &VERDICTS {
-        assert!(rt; judged(rt.alloc(), &net, *limit, &ROUND)? == *verdict);
-    }
+    assert!(rt; is_judged(rt.alloc())?);
     Ok(())
 }

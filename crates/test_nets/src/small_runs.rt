@@ -1,12 +1,10 @@
 // Small runs, step by step, with the answers that were worked out by hand.
 use crate::nets::{CHOICE, MANY, NetCase, PLAIN, PUTTER, TAKER, built};
-use crate::plain_rules::Taken;
 use crate::steps::{Step, ask, judged};
 use journal_rules::{Cause, DropWhy, Why};
 use legal_run::Verdict;
 use net_machine::{Machine, MachineError};
 use std::alloc::Global;
-use std::process::Abort;
 use std::sync::Arc;
 use std::test::Fail;
 
@@ -358,49 +356,27 @@ const RUNS: [SmallRun<'static>; 16] = [
 #[test]
 fn steps_are_answered_as_worked_out(rt: HostRuntime) -> Result<(), Fail> {
     for (number, run) in RUNS.iter().enumerate() {
-        expect_answers(&rt, rt.alloc(), number, run)?;
+        assert!(rt; is_answered(rt.alloc(), run)?, "run {number}");
     }
     Ok(())
 }
 
-// The machine answers each step as the run says. The judge says the same of the journal with that step, and so do the
-// plain rules, with which both are compared elsewhere.
-fn expect_answers(
-    rt: &impl Abort,
-    alloc: Global,
-    number: usize,
-    run: &SmallRun<'_>,
-) -> Result<(), Fail> {
+// Whether the machine answers each step as the run says, and the judge says the same of the journal with that step.
+fn is_answered(alloc: Global, run: &SmallRun<'_>) -> Result<bool, Fail> {
     let net = built(alloc, run.net)?;
     let mut machine = Machine::new(alloc, Arc::try_clone(&net)?, run.limit)?;
     let mut taken = Vec::new(alloc);
-    for (place, (step, answer)) in run.steps.iter().enumerate() {
-        let rules = Taken {
-            net: run.net,
-            limit: run.limit,
-            steps: taken.as_slice(),
-        };
-        let refused = rules.refusal(*step).map(MachineError::from);
+    for (step, answer) in run.steps {
         taken.push(*step)?;
-        let verdict = judged(alloc, &net, run.limit, taken.as_slice())?;
-        assert!(rt;
-            ask(&mut machine, *step) == *answer,
-            "run {number}, step {place}"
-        );
-        assert!(rt;
-            refused == answer.err(),
-            "rules of run {number}, step {place}"
-        );
-        assert!(rt;
-            refused == refusal_of(verdict),
-            "judge of run {number}, step {place}"
-        );
+        let refused = refusal_of(judged(alloc, &net, run.limit, taken.as_slice())?);
+        if ask(&mut machine, *step) != *answer || refused != answer.err() {
+            return Ok(false);
+        }
         if refused.is_some() {
             taken.pop();
         }
     }
-    assert!(rt; machine.at_rest() == run.is_at_rest, "run {number}");
-    Ok(())
+    Ok(machine.at_rest() == run.is_at_rest)
 }
 
 fn refusal_of(verdict: Verdict) -> Option<MachineError> {

@@ -4,6 +4,7 @@ use crate::nets::{EMPTY, NetCase};
 use journal_rules::{Cause, Entry, Part};
 use outside_io::{List, NoMemory};
 use std::alloc::Global;
+use std::process::Abort;
 use std::test::Fail;
 use task_graph::Net;
 
@@ -191,82 +192,150 @@ impl Edges {
     }
 }
 
-// What the second start of a journal finds at the one edge that leads to its task, where the End at place 1 gave it:
-// whether it may.
-const CALM: [(&[Part], bool); 6] = [
-    (&[Part::From(1)], true),
-    (&[Part::From(0)], false),
-    (&[Part::First], false),
-    (&[Part::Nothing], false),
-    (&[], false),
-    (&[Part::From(1), Part::From(1)], false),
-];
+// An entry of a journal in which one edge leads from a first task to a second.
+#[derive(Clone, Copy)]
+enum Line {
+    // The first task starts, and finds these parts.
+    First(Cause, &'static [Part]),
+    // The start at this place ends, and gives these edges.
+    Ends(u64, &'static [u32]),
+    // The second task starts, and finds these parts.
+    Second(&'static [Part]),
+}
 
-// The same where the edge has two tokens, by the Ends at places 1 and 3, of which the first was used and found or not.
-const QUEUED: [(Part, Part, bool); 7] = [
-    (Part::From(1), Part::From(3), true),
-    (Part::From(3), Part::From(1), true),
-    (Part::Nothing, Part::From(3), true),
-    (Part::From(1), Part::Nothing, true),
-    (Part::From(1), Part::From(1), false),
-    (Part::From(1), Part::First, false),
-    (Part::From(2), Part::From(3), false),
-];
+// Edges from the first task to itself that begin with a token, the first lines of a journal, and last ones, which the
+// rule allows after them or not.
+struct Lines {
+    rings: &'static str,
+    front: &'static [Line],
+    last: &'static [(&'static [Line], bool)],
+}
+
+// The edge is given one token, by the End at place 1.
+const CALM: Lines = Lines {
+    rings: "",
+    front: &[Line::First(Cause::Source, &[]), Line::Ends(0, &[0])],
+    last: &[
+        (&[Line::Second(&[Part::From(1)])], true),
+        (&[Line::Second(&[Part::From(0)])], false),
+        (&[Line::Second(&[Part::First])], false),
+        (&[Line::Second(&[Part::Nothing])], false),
+        (&[Line::Second(&[])], false),
+        (&[Line::Second(&[Part::From(1), Part::From(1)])], false),
+    ],
+};
+
+// The edge is given two tokens, by the Ends at places 1 and 3, and both are used.
+const QUEUED: Lines = Lines {
+    rings: "aa",
+    front: &[
+        Line::First(Cause::Strong, &[Part::First]),
+        Line::Ends(0, &[0, 1]),
+        Line::First(Cause::Strong, &[Part::From(1)]),
+        Line::Ends(2, &[0, 1]),
+    ],
+    last: &[
+        (
+            &[
+                Line::Second(&[Part::From(1)]),
+                Line::Second(&[Part::From(3)]),
+            ],
+            true,
+        ),
+        (
+            &[
+                Line::Second(&[Part::From(3)]),
+                Line::Second(&[Part::From(1)]),
+            ],
+            true,
+        ),
+        (
+            &[
+                Line::Second(&[Part::Nothing]),
+                Line::Second(&[Part::From(3)]),
+            ],
+            true,
+        ),
+        (
+            &[
+                Line::Second(&[Part::From(1)]),
+                Line::Second(&[Part::Nothing]),
+            ],
+            true,
+        ),
+        (
+            &[
+                Line::Second(&[Part::From(1)]),
+                Line::Second(&[Part::From(1)]),
+            ],
+            false,
+        ),
+        (
+            &[Line::Second(&[Part::From(1)]), Line::Second(&[Part::First])],
+            false,
+        ),
+        (
+            &[
+                Line::Second(&[Part::From(2)]),
+                Line::Second(&[Part::From(3)]),
+            ],
+            false,
+        ),
+    ],
+};
+
+impl Line {
+    fn entry(&self, alloc: Global) -> Result<Entry, NoMemory> {
+        match self {
+            Line::First(cause, parts) => start_of(alloc, 0, *cause, parts),
+            Line::Ends(start, edges) => Ok(Entry::End {
+                start: *start,
+                gives: List::from_slice(alloc, edges)?,
+                inner: false,
+            }),
+            Line::Second(parts) => start_of(alloc, 1, Cause::Strong, parts),
+        }
+    }
+}
 
 fn start_of(alloc: Global, task: u32, cause: Cause, parts: &[Part]) -> Result<Entry, NoMemory> {
     let ins = List::from_slice(alloc, parts)?;
     Ok(Entry::Start { task, cause, ins })
 }
 
-fn end_of(alloc: Global, start: u64, edges: &[u32]) -> Result<Entry, NoMemory> {
-    let gives = List::from_slice(alloc, edges)?;
-    Ok(Entry::End {
-        start,
-        gives,
-        inner: false,
-    })
+// The journal of some lines and those after them.
+fn journal_of(alloc: Global, front: &[Line], last: &[Line]) -> Result<Vec<Entry>, NoMemory> {
+    let mut journal = Vec::new(alloc);
+    add_lines(alloc, &mut journal, front)?;
+    add_lines(alloc, &mut journal, last)?;
+    Ok(journal)
 }
 
-#[test]
-fn a_start_finds_the_last_end(rt: HostRuntime) -> Result<(), Fail> {
-    let alloc = rt.alloc();
-    let case = NetCase {
-        tasks: "pp",
-        edges: "ab",
-        ..EMPTY
-    };
-    let net = case.built(alloc)?;
-    for (parts, may) in CALM {
-        let journal = [
-            start_of(alloc, 0, Cause::Source, &[])?,
-            end_of(alloc, 0, &[0])?,
-            start_of(alloc, 1, Cause::Strong, parts)?,
-        ];
-        assert_eq!(rt; meets_data_rule(alloc, &net, &journal)?, may);
+fn add_lines(alloc: Global, journal: &mut Vec<Entry>, lines: &[Line]) -> Result<(), NoMemory> {
+    for line in lines {
+        journal.push(line.entry(alloc)?)?;
     }
     Ok(())
 }
 
 #[test]
-fn each_end_is_found_once(rt: HostRuntime) -> Result<(), Fail> {
-    let alloc = rt.alloc();
+fn starts_find_what_they_may(rt: HostRuntime) -> Result<(), Fail> {
+    check_lines(&rt, rt.alloc(), &CALM)?;
+    check_lines(&rt, rt.alloc(), &QUEUED)
+}
+
+fn check_lines(rt: &impl Abort, alloc: Global, lines: &Lines) -> Result<(), Fail> {
     let case = NetCase {
         tasks: "pp",
         edges: "ab",
-        rings: "aa",
+        rings: lines.rings,
         ..EMPTY
     };
     let net = case.built(alloc)?;
-    for (first, second, may) in QUEUED {
-        let journal = [
-            start_of(alloc, 0, Cause::Strong, &[Part::First])?,
-            end_of(alloc, 0, &[0, 1])?,
-            start_of(alloc, 0, Cause::Strong, &[Part::From(1)])?,
-            end_of(alloc, 2, &[0, 1])?,
-            start_of(alloc, 1, Cause::Strong, &[first])?,
-            start_of(alloc, 1, Cause::Strong, &[second])?,
-        ];
-        assert_eq!(rt; meets_data_rule(alloc, &net, &journal)?, may);
+    for (number, (last, may)) in lines.last.iter().enumerate() {
+        let journal = journal_of(alloc, lines.front, last)?;
+        let meets = meets_data_rule(alloc, &net, journal.as_slice())?;
+        assert!(rt; meets == *may, "row {number}");
     }
     Ok(())
 }

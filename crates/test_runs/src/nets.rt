@@ -1,4 +1,4 @@
-// Nets as texts, and those that jobs and tables run.
+// Nets as texts.
 use outside_io::List;
 use std::alloc::Global;
 use std::sync::Arc;
@@ -6,9 +6,10 @@ use std::test::Fail;
 use task_graph::{BuildError, Net, NetBuilder, Shape};
 
 /// A net. Each letter of `tasks` is a task: `p` is a plain one, `c` a choice and `m` a choice of many, which need no unit,
-/// `t` takes a unit, `g` gives one back, `u` does both, `d` is a choice that does both, `h` takes and gives back a unit of
-/// each of two semaphores, `n` has an inner graph, and `k` has one and takes and gives back a unit. An edge is two letters,
-/// of the task that it leaves and of the one that it leads to, where `a` is the first.
+/// `t` takes a unit, `g` gives one back, `u` does both, `d` is a choice that does both, `v` takes a unit of the second
+/// semaphore, `w` gives one back, `h` takes and gives back a unit of each of the two, `n` has an inner graph, and `k` has
+/// one and takes and gives back a unit. An edge is two letters, of the task that it leaves and of the one that it leads
+/// to, where `a` is the first.
 #[derive(Clone, Copy)]
 pub(crate) struct NetCase {
     /// A digit for each semaphore: how many units it has.
@@ -17,6 +18,8 @@ pub(crate) struct NetCase {
     pub(crate) edges: &'static str,
     /// The edges after those, which begin with a token.
     pub(crate) rings: &'static str,
+    /// So many plain tasks more, each of which follows the first task and precedes the second.
+    pub(crate) width: u32,
 }
 
 /// No task.
@@ -25,25 +28,32 @@ pub(crate) const EMPTY: NetCase = NetCase {
     tasks: "",
     edges: "",
     rings: "",
+    width: 0,
 };
 
 impl NetCase {
     /// The net of these texts.
     pub(crate) fn built(&self, alloc: Global) -> Result<Arc<Net>, Fail> {
         let mut builder = NetBuilder::new(alloc);
-        for digit in self.units.as_bytes() {
-            builder.semaphore(u32::from(digit.wrapping_sub(b'0')))?;
-        }
-        for letter in self.tasks.as_bytes() {
-            add_task(alloc, &mut builder, *letter)?;
-        }
+        add_units(&mut builder, self.units.as_bytes())?;
+        add_tasks(alloc, &mut builder, self.tasks.as_bytes())?;
         add_edges(&mut builder, self.edges.as_bytes(), false)?;
         add_edges(&mut builder, self.rings.as_bytes(), true)?;
+        add_branches(alloc, &mut builder, self.width)?;
         Ok(Arc::new(alloc, builder.finish())?)
     }
 }
 
-fn add_task(alloc: Global, builder: &mut NetBuilder, letter: u8) -> Result<(), BuildError> {
+// The shape of a task, and the semaphores of which it takes and gives back a unit.
+#[derive(Clone, Copy)]
+struct TaskKind {
+    shape: Shape,
+    takes: &'static [u32],
+    puts: &'static [u32],
+}
+
+// What a letter stands for.
+fn kind_of(letter: u8) -> TaskKind {
     let (shape, takes, puts): (Shape, &[u32], &[u32]) = match letter {
         b'c' => (Shape::Choice, &[], &[]),
         b'm' => (Shape::Many, &[], &[]),
@@ -51,14 +61,34 @@ fn add_task(alloc: Global, builder: &mut NetBuilder, letter: u8) -> Result<(), B
         b'g' => (Shape::Plain, &[], &[0]),
         b'u' => (Shape::Plain, &[0], &[0]),
         b'd' => (Shape::Choice, &[0], &[0]),
+        b'v' => (Shape::Plain, &[1], &[]),
+        b'w' => (Shape::Plain, &[], &[1]),
         b'h' => (Shape::Plain, &[0, 1], &[0, 1]),
         b'n' => (Shape::Nested, &[], &[]),
         b'k' => (Shape::Nested, &[0], &[0]),
         _ => (Shape::Plain, &[], &[]),
     };
-    let takes = List::from_slice(alloc, takes)?;
-    builder.task(shape, takes, List::from_slice(alloc, puts)?)?;
+    TaskKind { shape, takes, puts }
+}
+
+fn add_units(builder: &mut NetBuilder, digits: &[u8]) -> Result<(), BuildError> {
+    for digit in digits {
+        builder.semaphore(u32::from(digit.wrapping_sub(b'0')))?;
+    }
     Ok(())
+}
+
+fn add_tasks(alloc: Global, builder: &mut NetBuilder, letters: &[u8]) -> Result<(), BuildError> {
+    for letter in letters {
+        add_task(alloc, builder, kind_of(*letter))?;
+    }
+    Ok(())
+}
+
+// The number of a new task.
+fn add_task(alloc: Global, builder: &mut NetBuilder, kind: TaskKind) -> Result<u32, BuildError> {
+    let takes = List::from_slice(alloc, kind.takes)?;
+    builder.task(kind.shape, takes, List::from_slice(alloc, kind.puts)?)
 }
 
 fn add_edges(builder: &mut NetBuilder, letters: &[u8], token: bool) -> Result<(), BuildError> {
@@ -79,15 +109,12 @@ fn add_edges(builder: &mut NetBuilder, letters: &[u8], token: bool) -> Result<()
     Ok(())
 }
 
-/// A task that precedes so many others, and one that they precede.
-pub(crate) fn fan(alloc: Global, width: u32) -> Result<Arc<Net>, Fail> {
-    let mut builder = NetBuilder::new(alloc);
-    for _ in 0..width.saturating_add(2) {
-        builder.task(Shape::Plain, List::new(alloc), List::new(alloc))?;
-    }
-    for task in 1..=width {
+// Adds so many tasks between the first two.
+fn add_branches(alloc: Global, builder: &mut NetBuilder, width: u32) -> Result<(), BuildError> {
+    for _ in 0..width {
+        let task = add_task(alloc, builder, kind_of(b'p'))?;
         builder.edge(0, task, false)?;
-        builder.edge(task, width.saturating_add(1), false)?;
+        builder.edge(task, 1, false)?;
     }
-    Ok(Arc::new(alloc, builder.finish())?)
+    Ok(())
 }

@@ -1,169 +1,122 @@
-// Cases that are run by one thread in a written order.
-use crate::plays::{By, ENDS, GIVE_ALL, Outcome, TableCase, play};
-use crate::steps::Terms;
-use crate::table_cases::OVER_RELEASED;
-use crate::table_nets::{CROSSWISE, HOARDED, OVER, PAIRS, TWO_RINGS};
-use journal_rules::{DropWhy, Why};
-use std::test::Fail;
+// Runs by one thread, whose steps are taken in some order. What a step has done is recorded at once.
+ghost use Rattle.std.specs.Prelude.{◌≡◌, ◌<◌, [], IfNone, IfOk};
 
-// A case, and the moves of the thread (`By::Moves`).
-type Order = (TableCase, &'static str);
+use outside_io::NoMemory;
+use run_frame::FrameRun;
+use std::alloc::Global;
+use std::sync::{Arc, Wait};
+use table_frames::{Backlog, Brought, Frame, Release, State, Stepped};
+use test_jobs::NumberJob;
 
-// A and B are the tasks of the rings. C is the task that both feed: it is taken up before the second round of its
-// tokens comes, and finds it, so that the task is released again, as D.
-const RINGS_MEET: Order = (
-    TableCase {
-        name: "rings meet",
-        net: TWO_RINGS,
-        terms: Terms {
-            limit: 10,
-            gives_before: 8,
-            first_faults: false,
-        },
-        parks: false,
-        outcome: Outcome {
-            starts: (8, 8),
-            ..ENDS
-        },
-    },
-    "B1 A0 acrasoooi A0- bcrasoooi B1 C2- cc acrasoooi A0- bcrasoooi B1- ccr D2- casoi \
-     dccrasoi acrasoi bcra C- bsoi C.",
-);
+// The most steps of a run.
+const STEPS: u32 = 10_000;
 
-// The second releases of the rings' tasks are refused at the limit.
-const RINGS_STOP_AT_THE_LIMIT: Order = (
-    TableCase {
-        name: "rings stop at the limit",
-        net: TWO_RINGS,
-        terms: Terms {
-            limit: 3,
-            ..GIVE_ALL
-        },
-        parks: false,
-        outcome: Outcome {
-            starts: (3, 3),
-            drops: (2, 2),
-            drops_by: DropWhy::Limit,
-            ..ENDS
-        },
-    },
-    "B1 A0 acrasoooi A0- bcrasoooi B1 C2- cccrasoi acrxi C- bcrxi C.",
-);
-
-// A start faults, and the release that is left is refused after it.
-const RINGS_HALT: Order = (
-    TableCase {
-        name: "rings halt",
-        net: TWO_RINGS,
-        terms: Terms {
-            first_faults: true,
-            ..GIVE_ALL
-        },
-        parks: false,
-        outcome: Outcome {
-            starts: (1, 1),
-            faults: (1, 1),
-            faults_by: Why::Long(9),
-            drops: (1, 1),
-            drops_by: DropWhy::Halted,
-        },
-    },
-    "B1 A0- acrasi bcrxi C.",
-);
-
-// Each takes the unit of the lesser semaphore first: B finds none of it until A gives it back, and then none of the
-// other until A gives that back too.
-const UNITS_CROSS: Order = (
-    TableCase {
-        name: "units cross",
-        net: CROSSWISE,
-        terms: GIVE_ALL,
-        parks: false,
-        outcome: Outcome {
-            starts: (2, 2),
-            ..ENDS
-        },
-    },
-    "B1 A0 acnh bcni araso Bn bi ao Bn bhi aoi Bn bhrasoooi A.",
-);
-
-const A_CREDIT: TableCase = TableCase {
-    name: "a credit is claimed once",
-    net: OVER,
-    terms: GIVE_ALL,
-    parks: false,
-    outcome: OVER_RELEASED,
-};
-
-// The unit is credited before the first claim, which is granted; the second is refused.
-const A_CREDIT_IS_CLAIMED_ONCE: Order = (A_CREDIT, "C2 B1 A0 acnras bcrasooi ccravi aoi A.");
-
-// A claim before the credit is refused, though the unit is out.
-const A_CLAIM_BEFORE_THE_CREDIT_IS_REFUSED: Order = (
-    TableCase {
-        name: "a claim before the credit is refused",
-        ..A_CREDIT
-    },
-    "C2 B1 A0 acnra bcra ccravi asoi bsooi A.",
-);
-
-// B is parked while A and then its successor live, and is handed out when it is alone and the unit is back.
-const A_PARKED_TURN_GOES_ON: Order = (
-    TableCase {
-        name: "a parked turn goes on",
-        net: PAIRS,
-        terms: GIVE_ALL,
-        parks: true,
-        outcome: Outcome {
-            starts: (4, 4),
-            ..ENDS
-        },
-    },
-    "B1 A0 acnra bcni B- asooi A2- acrasooi Bn brasooi B3- bcrasooi A.",
-);
-
-// Two turns are parked while a third lives. Then they are alone, and dropped for want of the unit.
-const TWO_TURNS_ARE_STUCK: Order = (
-    TableCase {
-        name: "two turns are stuck",
-        net: HOARDED,
-        terms: GIVE_ALL,
-        parks: true,
-        outcome: Outcome {
-            starts: (1, 1),
-            drops: (2, 2),
-            drops_by: DropWhy::Stuck(0),
-            ..ENDS
-        },
-    },
-    "C2 B1 A0 acnras bcni ccni B- aoi A.",
-);
-
-const COUNT: usize = 8;
-
-const ORDERS: [Order; COUNT] = [
-    RINGS_MEET,
-    RINGS_STOP_AT_THE_LIMIT,
-    RINGS_HALT,
-    UNITS_CROSS,
-    A_CREDIT_IS_CLAIMED_ONCE,
-    A_CLAIM_BEFORE_THE_CREDIT_IS_REFUSED,
-    A_PARKED_TURN_GOES_ON,
-    TWO_TURNS_ARE_STUCK,
-];
-
-// The order of this number, where there are so many.
-fn order_at(number: usize) -> Option<Order> {
-    Some(*ORDERS.get(number)?)
+/// How a run picks its next step among those that it may take.
+#[derive(Clone, Copy)]
+pub(crate) enum Order {
+    /// The newest.
+    Newest,
+    /// The oldest.
+    Oldest,
+    /// One that goes by a number.
+    Mixed(u64),
 }
 
-#[test]
-fn turns_lead_where_they_may(rt: HostRuntime) -> Result<(), Fail> {
-    for number in 0..COUNT {
-        if let Some((case, moves)) = order_at(number) {
-            let net = case.net.built(rt.alloc())?;
-            play(&rt, rt.alloc(), &net, &case, By::Moves(moves))?;
+impl Order {
+    // Which of so many is next.
+    fn place(self, step: u32, count: usize) -> usize
+        requires { 0 < count }
+        ensures { result < count }
+    {
+        match self {
+            Order::Newest => count - 1,
+            Order::Oldest => 0,
+            Order::Mixed(seed) => {
+                let mixed = (step as u64)
+                    .wrapping_mul(seed)
+                    .wrapping_mul(6_364_136_223_846_793_005);
+                (mixed >> 33) as usize % count
+            }
         }
     }
-    Ok(())
+}
+
+// The steps that may be taken, and what the last one has done.
+#[derive(Drop)]
+struct Pending {
+    releases: Vec<Release<NumberJob>>,
+    backlog: Backlog<NumberJob>,
+}
+
+/// The run that takes its steps in an order, if it comes to its end.
+pub(crate) fn run_in_order<R: Wait>(
+    rt: &R,
+    alloc: Global,
+    job: NumberJob,
+    order: Order,
+) -> Result<Option<FrameRun<NumberJob>>, NoMemory> {
+    let Stepped { released, state } = Frame::begin(alloc, Arc::new(alloc, job)?)?;
+    if let State::Closed(run) = state {
+        return Ok(Some(run));
+    }
+    let mut pending = Pending {
+        releases: released,
+        backlog: Backlog::new(alloc),
+    };
+    for step in 1..STEPS {
+        if let Some(run) = take_step(rt, &mut pending, order, step)? {
+            return Ok(Some(run));
+        }
+    }
+    Ok(None)
+}
+
+// Takes a step, if one is left, and has recorded what it has done. It gives the run if that is closed.
+fn take_step<R: Wait>(
+    rt: &R,
+    pending: &mut Pending,
+    order: Order,
+    step: u32,
+) -> Result<Option<FrameRun<NumberJob>>, NoMemory>
+    requires { pending.old.backlog.frames ≡ [] }
+    ensures { IfOk result (λ ran. IfNone ran (pending.new.backlog.frames ≡ [])) }
+{
+    let count = pending.releases.len();
+    if count == 0 {
+        return Ok(None);
+    }
+    let release = pending.releases.remove(order.place(step, count));
+    let Stepped {
+        mut released,
+        state,
+    } = Frame::step(rt, release, &mut pending.backlog)?;
+    pending.releases.append(&mut released)?;
+    if let State::Inner(mut first) = state {
+        pending.releases.append(&mut first)?;
+    }
+    record(rt, pending)
+}
+
+// Has recorded what was done, level by level. It gives the run if that is closed. What is parked goes on or is dropped
+// where nothing else is left.
+fn record<R: Wait>(rt: &R, pending: &mut Pending) -> Result<Option<FrameRun<NumberJob>>, NoMemory>
+    ensures { IfOk result (λ ran. IfNone ran (pending.new.backlog.frames ≡ [])) }
+{
+    for _ in rt.forever() {
+        if pending.backlog.is_empty() {
+            return Ok(None);
+        }
+        let Brought { state, .. } = Frame::bring(rt, &mut pending.backlog)?;
+        match state {
+            State::Closed(run) => return Ok(Some(run)),
+            State::Resumed(mut released) => pending.releases.append(&mut released)?,
+            State::Went => {
+                if let Some(release) = Frame::settle(rt, &mut pending.backlog)? {
+                    pending.releases.push(release)?;
+                }
+            }
+            State::Parked(_) | State::Inner(_) => unreachable!(),
+        }
+    }
+    unreachable!()
 }

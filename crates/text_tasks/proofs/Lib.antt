@@ -2,5 +2,6 @@ pub mod FoundLemmas
 pub mod OneByOneLemmas
 pub mod WorkLemmas
 pub mod GatherLemmas
+pub mod RoundLemmas
 pub mod PlanLemmas
 pub mod WorkedJobs

@@ -109,6 +109,11 @@ abbrev pub JobFollows : TextJob → FrameRun TextJob Item → TextJob → Type 0
 JobFollows (Graph work) run next = next ≡ Graph (record work { input = feedback_of run })
 JobFollows (Parts work) run next = ⊥
 
+-- graphs are run again, parts aren't
+abbrev pub IsGraphJob : TextJob → Type 0
+IsGraphJob (Graph work) = Unit {0}
+IsGraphJob (Parts work) = ⊥
+
 -- What text jobs may answer, and what their runs may be gathered to.
 abbrev pub text_job : Meaning TextJob Item
 text_job = record {

@@ -1,16 +1,19 @@
 // What a run hands to the next round.
-ghost use Rattle.std.specs.Prelude.{◌≡◌};
+ghost use Rattle.std.specs.Prelude.{◌≡◌, IfOk};
 ghost use Rattle.std.specs.Option.{option_copied, option_and_then};
 ghost use Rattle.run_frame.specs.LastEnds.{last_value};
 ghost use Rattle.run_frame.specs.NestedRule.{job_of, journal_of};
 ghost use Rattle.run_frame.specs.Runs.{values_of};
+ghost use Rattle.text_ops.specs.TextMeaning.{has_word};
 ghost use Rattle.text_tasks.specs.JobMeaning.{feedback_of, net_of};
 ghost use Rattle.text_tasks.specs.Sinks.{last_sink};
 
 use crate::item::Item;
 use crate::job::TextJob;
+use outside_io::NoMemory;
 use run_frame::{FrameRun, Job};
 use task_graph::Net;
+use text_ops::{Text, has_word};
 
 /// The value of the last End of the last task, by its number, that has no out-edge; or the empty text, where no task is
 /// so or that one has no End. It walks over the tasks, the journal and the values.
@@ -20,6 +23,26 @@ pub fn feedback(run: &FrameRun<TextJob>) -> &[u8]
     match last_item(run) {
         Some(item) => item.text().as_slice(),
         None => &[],
+    }
+}
+
+/// Whether a word occurs in a line of that text.
+pub fn feedback_has(run: &FrameRun<TextJob>, word: &[u8]) -> bool
+    ensures { result ≡ has_word word.now (feedback_of run.now) }
+{
+    match last_item(run) {
+        Some(item) => has_word(word, item.text()),
+        None => has_word(word, &Text::new()),
+    }
+}
+
+// That text, whose bytes are shared.
+pub(crate) fn shared_feedback(run: &FrameRun<TextJob>) -> Result<Text, NoMemory>
+    ensures { IfOk result (λ text. text ≡ feedback_of run.now) }
+{
+    match last_item(run) {
+        Some(item) => item.text().share(),
+        None => Ok(Text::new()),
     }
 }
 

@@ -1,8 +1,9 @@
 // Jobs of the graphs of a plan.
-ghost use Rattle.std.specs.Prelude.{◌≡◌, ◌<◌, length};
+ghost use Rattle.std.specs.Prelude.{◌≡◌, ◌<◌, IfOk, length};
 ghost use Rattle.join_words.specs.Ins.{parts_of};
 ghost use Rattle.run_frame.specs.Meaning.{IsRelease};
 ghost use Rattle.text_tasks.specs.GraphWork.{IsWork, graph_of};
+ghost use Rattle.text_tasks.specs.ValueTexts.{IsValueText};
 ghost use Rattle.text_tasks.specs.inside.Finding.{founds, text_from};
 
 use crate::found::whole_text;
@@ -12,6 +13,7 @@ use crate::table::TextTable;
 use crate::task_error::TaskError;
 use graph_plans::{Graph, Plan};
 use join_words::Ins;
+use outside_io::NoMemory;
 use run_frame::Done;
 use std::alloc::Global;
 use std::marker::Model;
@@ -68,6 +70,20 @@ impl GraphJob {
     {
         let op = &self.graph().ops.as_slice()[task as usize];
         self.work(alloc, op, ins)
+    }
+
+    // The same graph again, started with this text.
+    pub(crate) fn again(&self, input: Text) -> Result<GraphJob, NoMemory>
+        requires { IsValueText input }
+        ensures { IfOk result (λ job. job ≡ record self.now { input = input }) }
+    {
+        Ok(GraphJob {
+            plan: Arc::try_clone(&self.plan)?,
+            texts: Arc::try_clone(&self.texts)?,
+            module: self.module,
+            input,
+            limit: self.limit,
+        })
     }
 
     // The job of the graph of the module of a number, which is started with the text that is found.

@@ -13,13 +13,14 @@ mod gathered;
 mod graph_job;
 mod item;
 mod job;
+mod next_round;
 mod one_by_one;
 mod parts_job;
 mod table;
 mod task_error;
 mod work;
 
-pub use feedback_text::feedback;
+pub use feedback_text::{feedback, feedback_has};
 pub use graph_job::GraphJob;
 pub use item::Item;
 pub use job::{TextJob, first_job};

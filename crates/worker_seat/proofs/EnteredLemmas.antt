@@ -9,7 +9,7 @@ use Rattle.run_frame.specs.Meaning.{Meaning}
 use Rattle.run_frame.specs.NestedRule.{job_of}
 use Rattle.worker_seat.specs.declared.crew.Crew.{Crew}
 use Rattle.worker_seat.specs.declared.seat.WorkerSeat.{WorkerSeat}
-use Rattle.worker_seat.specs.Seats.{SeatState, IsClosedWith, at_job, away}
+use Rattle.worker_seat.specs.Seats.{SeatState, IsClosedWith, at_job, away, left_refused}
 use Rattle.worker_seat.specs.Crews.{moved, state_of, watcher_of, crew_of, AreEntered, AreSeatsOf, IsEntered, IsFoundRunOf, IsKeptOf, IsOpen, IsSeatOf, MayEnter}
 
 abbrev some_or : {Y : Type 0} → Y → Option Y → Y
@@ -82,6 +82,28 @@ module _ {J V X : Type 0} where
       → (IsNone o → All IsOpen old × (new ≡ old)) → map watcher_of new ≡ map watcher_of old
   finished_watchers old new None left stay = ap (map watcher_of) (stay refl).1
   finished_watchers old new (Some run) left stay = ap (map watcher_of) (left refl) ∙ watchers_stay away old
+
+  -- seats that move are still those of their crew, since no move takes them to another list
+  moved_seats : (crew : Crew J V) (to : SeatState J → SeatState J) (xs : List (WorkerSeat J X V)) → ((s : SeatState J) → (to s).list ≡ s.list)
+      → AreSeatsOf crew xs → AreSeatsOf crew (map (moved to) xs)
+  moved_seats crew to xs same are = record {
+    of_crew = All-map (IsSeatOf crew) (moved to) xs (λ k d lt. same (state_of (slice_index_or xs k d)) ∙ are.of_crew k d lt);
+    count = length-map xs (moved to) ∙ are.count;
+  }
+
+  pub refused_seats : (crew : Crew J V) (old new : List (WorkerSeat J X V)) → new ≡ map (moved left_refused) old → AreSeatsOf crew old → AreSeatsOf crew new
+  refused_seats crew old new e are = subst (AreSeatsOf crew) (sym e) (moved_seats crew left_refused old (λ s. refl) are)
+
+  pub finished_seats : (crew : Crew J V) (old new : List (WorkerSeat J X V)) (o : Option (FrameRun J V)) → (IsSome o → new ≡ map (moved away) old)
+      → (IsNone o → All IsOpen old × (new ≡ old)) → AreSeatsOf crew old → AreSeatsOf crew new
+  finished_seats crew old new None left stay are = subst (AreSeatsOf crew) (sym (stay refl).1) are
+  finished_seats crew old new (Some run) left stay are = subst (AreSeatsOf crew) (sym (left refl)) (moved_seats crew away old (λ s. refl) are)
+
+  -- seats that have left their run are at none
+  pub free_after : (old new : List (WorkerSeat J X V)) → new ≡ map (moved away) old → All (λ (s : WorkerSeat J X V). (state_of s).job ≡ None) new
+  free_after old new e =
+      let P : WorkerSeat J X V → Type 0 = λ s. (state_of s).job ≡ None in
+      subst (λ (zs : List (WorkerSeat J X V)). All P zs) (sym e) (All-map P (moved away) old (λ k d lt. refl))
 
   -- all seats of a crew after they were sent to a run and entered
   module _ (crew : Crew J V) (job : J) (xs sent lent new : List (WorkerSeat J X V)) (len : ℕ) (are : AreSeatsOf crew xs)

@@ -1,9 +1,9 @@
 // A job run by all seats of a crew.
-ghost use Rattle.std.specs.Prelude.{◌≡◌, ◌<◌, ◌≤◌, [], length, map, All, IfSome, vec_capacity};
+ghost use Rattle.std.specs.Prelude.{◌≡◌, ◌<◌, ◌≤◌, [], None, length, map, All, IfSome, IsSome, vec_capacity};
 ghost use Rattle.std.specs.Arc.{arc_value};
 ghost use Rattle.std.specs.Thread.{IsSync};
 ghost use Rattle.ready_deques.specs.Limits.{max_workers};
-ghost use Rattle.worker_seat.specs.Crews.{AreEntered, AreSeatsOf, IsKeptOf, MayBegin, MayEnter, watcher_of};
+ghost use Rattle.worker_seat.specs.Crews.{AreEntered, AreSeatsOf, IsKeptOf, MayBegin, MayEnter, state_of, watcher_of};
 
 use crate::crew::{Crew, CrewParts};
 use crate::seat::WorkerSeat;
@@ -65,7 +65,8 @@ pub fn run_by_crew<J: Job + Drop, X: Drop, E: EntersEach<J, X>, R: Threads + Wai
 }
 
 /// Runs a job to its end by all seats of a crew, which are at no run and were never refused. `None` comes only if an
-/// allocation fails.
+/// allocation fails. After a run they are at none; one of them may have been refused all the same, where an allocation
+/// failed for it after the run was closed.
 pub fn run_by_seats<J: Job + Drop, X, E: EntersEach<J, X>, R: Threads + Wait + Sync>(
     rt: &R,
     crew: &Crew<J>,
@@ -75,6 +76,8 @@ pub fn run_by_seats<J: Job + Drop, X, E: EntersEach<J, X>, R: Threads + Wait + S
     requires seats { AreSeatsOf crew.now seats.old.items }
     requires ready { All MayBegin seats.old.items }
     ensures run { IfSome result (IsKeptOf J.meaning (arc_value job)) }
+    ensures seats { AreSeatsOf crew.now seats.new.items }
+    ensures free { IsSome result → All (λ seat. (state_of seat).job ≡ None) seats.new.items }
     ensures watchers { map watcher_of seats.new.items ≡ map watcher_of seats.old.items }
 {
     match crew.begin(rt, seats, job) {
@@ -86,8 +89,8 @@ pub fn run_by_seats<J: Job + Drop, X, E: EntersEach<J, X>, R: Threads + Wait + S
     }
 }
 
-// The watchers of seats, in their order, in the place of those that there is room for.
-fn watchers_of<J: Job + Drop, X: Drop>(
+/// The watchers of seats, in their order, in the place of those that there is room for.
+pub fn watchers_of<J: Job + Drop, X: Drop>(
     mut seats: Vec<WorkerSeat<J, X>>,
     mut watchers: Vec<X>,
 ) -> Vec<X>

@@ -1,7 +1,6 @@
-use Rattle.std.proofs.Common.{◌≡◌, ◌+◌, ◌∙◌, ◌++◌, ◌∷◌, [], ℕ, List, length, get_or, map, take, sym, ap, subst, arith}
-use Rattle.graph_plans.specs.PlanRows.{graph_rows, plan_rows}
+use Rattle.std.proofs.Common.{◌+◌, ◌++◌, ◌∷◌, [], ℕ, List, map, take, sym, subst, arith}
+use Rattle.graph_plans.specs.PlanRows.{graph_rows}
 use Rattle.graph_plans.specs.declared.plans.Graph.{Graph}
-use Rattle.flow_run.specs.declared.conclusion.GraphFindings.{GraphFindings}
 use Rattle.flow_run.specs.Checks.{AreFindingsOnAll}
 use Rattle.flow_run.proofs.CheckLemmas.{module_rules, one_graph_more, rows_more}
 use Rattle.flow_run.proofs.check_command.findings_on_all.Goals as goal

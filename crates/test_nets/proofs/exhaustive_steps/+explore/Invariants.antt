@@ -1,4 +1,4 @@
 use Rattle.test_nets.proofs.exhaustive_steps.+explore.Given as goal
 
 abbrev pub decreases-explore : goal.decreases-explore
-decreases-explore g l = l.depth
+decreases-explore l = l.depth

@@ -1,0 +1,3 @@
+pub mod CountingLemmas
+pub mod LineLemmas
+pub mod ProfileLemmas

@@ -1,0 +1,3 @@
+pub mod ProfileText
+pub mod Profiles
+pub mod inside

@@ -1,0 +1,2 @@
+-- Internal: what the private functions say of rows.
+pub mod Counting

@@ -1,2 +1,0 @@
--- Internal: what runs that take their steps in some order hold between two steps.
-pub mod Orders
