@@ -7,3 +7,5 @@ pub mod StepLemmas
 pub mod TagLemmas
 pub mod WaitLemmas
 pub mod WalkLemmas
+mod WorkedOrders
+mod WorkedPipes

@@ -102,15 +102,17 @@ rising_waiters rows n t = rising_filter (λ k. waits_for rows k t) (range_with_l
 
 in_turn_equal : (rows : List DeferRow) (passed : List ℕ) (n : ℕ) (ks : List ℕ) → Rising ks → ((k : ℕ) → has_passed ks k ≡ true → freed_after rows passed k ≡ n) → InTurn rows passed ks
 in_turn_equal rows passed n [] rising same = tt
-in_turn_equal rows passed n (k ∷ ks) rising same =
-    ((λ j is. inr (same k (mem_first k ks) ∙ sym (same j (mem_behind j k ks is)), rising.0 j is)),
-    in_turn_equal rows passed n ks rising.1 (λ j is. same j (mem_behind j k ks is)))
+in_turn_equal rows passed n (k ∷ ks) rising same = (
+  (λ j is. inr (same k (mem_first k ks) ∙ sym (same j (mem_behind j k ks is)), rising.0 j is)),
+  in_turn_equal rows passed n ks rising.1 (λ j is. same j (mem_behind j k ks is)),
+)
 
 in_turn_append : (rows : List DeferRow) (passed js ks : List ℕ) → InTurn rows passed js → InTurn rows passed ks → ((j k : ℕ) → has_passed js j ≡ true → has_passed ks k ≡ true → GoesBefore rows passed j k) → InTurn rows passed (js ++ ks)
 in_turn_append rows passed [] ks first second apart = second
-in_turn_append rows passed (j ∷ js) ks first second apart =
-    ((λ k is. by_side k (or_cases (has_passed js k) (has_passed ks k) (sym (list_any-append (λ q. q == k) js ks) ∙ is))),
-    in_turn_append rows passed js ks first.1 second (λ i k in_first in_second. apart i k (mem_behind i j js in_first) in_second))
+in_turn_append rows passed (j ∷ js) ks first second apart = (
+  (λ k is. by_side k (or_cases (has_passed js k) (has_passed ks k) (sym (list_any-append (λ q. q == k) js ks) ∙ is))),
+  in_turn_append rows passed js ks first.1 second (λ i k in_first in_second. apart i k (mem_behind i j js in_first) in_second),
+)
   where
     by_side : (k : ℕ) → (has_passed js k ≡ true) ⊎ (has_passed ks k ≡ true) → GoesBefore rows passed j k
     by_side k (inl is) = first.0 k is
@@ -118,9 +120,10 @@ in_turn_append rows passed (j ∷ js) ks first second apart =
 
 in_turn_kept : (rows : List DeferRow) (old new ks : List ℕ) → ((k : ℕ) → has_passed ks k ≡ true → freed_after rows new k ≡ freed_after rows old k) → InTurn rows old ks → InTurn rows new ks
 in_turn_kept rows old new [] same turn = tt
-in_turn_kept rows old new (k ∷ ks) same turn =
-    ((λ j is. by_order j (same k (mem_first k ks)) (same j (mem_behind j k ks is)) (turn.0 j is)),
-    in_turn_kept rows old new ks (λ j is. same j (mem_behind j k ks is)) turn.1)
+in_turn_kept rows old new (k ∷ ks) same turn = (
+  (λ j is. by_order j (same k (mem_first k ks)) (same j (mem_behind j k ks is)) (turn.0 j is)),
+  in_turn_kept rows old new ks (λ j is. same j (mem_behind j k ks is)) turn.1,
+)
   where
     by_order : (j : ℕ) → freed_after rows new k ≡ freed_after rows old k → freed_after rows new j ≡ freed_after rows old j → GoesBefore rows old k j → GoesBefore rows new k j
     by_order j one two (inl less) = inl (omega (arith, one, two, less))

@@ -93,9 +93,9 @@ module _ (tokens : ℕ) (rows : List DeferRow) (passed freed : List ℕ) (t look
       joined : (rest : List ℕ) (j : ℕ) → IsLeft rows tokens passed t rest → looked_now ≡ looked_at now → resumed_now ≡ j → j ≤ length freed → drop j freed ≡ rest → IsQueue rows now (drop resumed_now freed_now)
       joined rest j left looked_same resumed_same in_freed rest_is =
           subst (IsQueue rows now) (sym (
-            ap (λ n. drop n freed_now) resumed_same ∙ ap (drop j) freed_eq ∙ drop_front freed (filter (is_waiting rows now looked_now) (waiters rows tokens t)) j in_freed
-            ∙ ap (λ ks. ks ++ filter (is_waiting rows now looked_now) (waiters rows tokens t)) rest_is
-            ∙ ap (λ n. rest ++ filter (is_waiting rows now n) (waiters rows tokens t)) looked_same
+          ap (λ n. drop n freed_now) resumed_same ∙ ap (drop j) freed_eq ∙ drop_front freed (filter (is_waiting rows now looked_now) (waiters rows tokens t)) j in_freed
+          ∙ ap (λ ks. ks ++ filter (is_waiting rows now looked_now) (waiters rows tokens t)) rest_is
+          ∙ ap (λ n. rest ++ filter (is_waiting rows now n) (waiters rows tokens t)) looked_same
           )) (queue_after rows tokens passed t rest left is_next next)
 
       by_queue : (o : Option ℕ) → slice_get freed i ≡ o → IsBehind tokens rows now freed_now looked_now resumed_now

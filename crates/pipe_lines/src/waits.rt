@@ -67,11 +67,7 @@ impl<'a> Waits<'a> {
 }
 
 // Of each of so many tokens the index of its row, if it has one.
-fn places_of(
-    alloc: Global,
-    tokens: u64,
-    rows: &[DeferRow],
-) -> Result<Vec<Option<usize>>, NoMemory>
+fn places_of(alloc: Global, tokens: u64, rows: &[DeferRow]) -> Result<Vec<Option<usize>>, NoMemory>
     ensures { IfOk result (λ places. ArePlaces tokens rows.now (length rows.now) places.items) }
 {
     let mut places = vec![in alloc; None; tokens as usize]?;
