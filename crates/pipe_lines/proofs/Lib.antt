@@ -1,3 +1,4 @@
+pub mod DeferLemmas
 pub mod FindLemmas
 pub mod NetLemmas
 pub mod OrderLemmas

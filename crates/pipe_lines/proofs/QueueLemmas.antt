@@ -295,14 +295,14 @@ module _ (rows : List DeferRow) (passed : List ℕ) where
 -- ---- a pass
 
 -- what is left of a queue when a token passes
-pub record IsLeft (rows : List DeferRow) (tokens : ℕ) (passed : List ℕ) (t : ℕ) (rest : List ℕ) : Type 0 where
+pub record IsLeft (rows : List DeferRow) (passed : List ℕ) (t : ℕ) (rest : List ℕ) : Type 0 where
   pub each : (k : ℕ) → has_passed rest k ≡ (is_waiting rows passed (looked_at passed) k && not (eqb t k))
   pub in_turn : InTurn rows passed rest
   pub newly : (k : ℕ) → looked_at passed ≤ k → k < t → is_free rows passed k ≡ false
 
 -- the first of a queue passes, or a new token where there is none
-pub left_first : (rows : List DeferRow) (tokens : ℕ) (passed : List ℕ) (t : ℕ) (rest : List ℕ) → IsQueue rows passed (t ∷ rest) → IsLeft rows tokens passed t rest
-left_first rows tokens passed t rest queue = record {
+pub left_first : (rows : List DeferRow) (passed : List ℕ) (t : ℕ) (rest : List ℕ) → IsQueue rows passed (t ∷ rest) → IsLeft rows passed t rest
+left_first rows passed t rest queue = record {
   each = λ k. by_place k (cases_eq t k);
   in_turn = queue.in_turn.1;
   newly = λ k from less. absurd (omega (arith, from, less, (first_waits rows passed t rest queue).below));
@@ -327,7 +327,7 @@ left_first rows tokens passed t rest queue = record {
         sym (ap (λ b. b || has_passed rest k) (ne_eqb t k other)) ∙ queue.each k
         ∙ sym (ap (λ b. is_waiting rows passed (looked_at passed) k && not b) (ne_eqb t k other) ∙ and_all (is_waiting rows passed (looked_at passed) k))
 
-pub left_new : (rows : List DeferRow) (tokens : ℕ) (passed : List ℕ) (t : ℕ) → IsQueue rows passed [] → next_token tokens rows passed ≡ Some t → IsLeft rows tokens passed t []
+pub left_new : (rows : List DeferRow) (tokens : ℕ) (passed : List ℕ) (t : ℕ) → IsQueue rows passed [] → next_token tokens rows passed ≡ Some t → IsLeft rows passed t []
 left_new rows tokens passed t queue is_next = record {
   each = λ k. sym (ap (λ b. b && not (eqb t k)) (sym (queue.each k)));
   in_turn = tt;
@@ -337,7 +337,7 @@ left_new rows tokens passed t queue is_next = record {
     new : Finds (is_free rows passed) (looked_at passed) (tokens - looked_at passed) t
     new = new_one tokens rows passed t is_next (none_resumed rows passed queue)
 
-module _ (rows : List DeferRow) (tokens : ℕ) (passed : List ℕ) (t : ℕ) (rest : List ℕ) (left : IsLeft rows tokens passed t rest) (is_next : next_token tokens rows passed ≡ Some t) (next : IsNext tokens rows passed t is_next) where
+module _ (rows : List DeferRow) (tokens : ℕ) (passed : List ℕ) (t : ℕ) (rest : List ℕ) (left : IsLeft rows passed t rest) (is_next : next_token tokens rows passed ≡ Some t) (next : IsNext tokens rows passed t is_next) where
   abbrev now : List ℕ
   now = passed ++ t ∷ []
 

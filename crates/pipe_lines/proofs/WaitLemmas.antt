@@ -1,9 +1,9 @@
 -- Which tokens wait for which, in tables.
-use Rattle.std.proofs.Common.{◌≡◌, ◌≢◌, ◌⊎◌, inl, inr, ℕ, zero, suc, ◌+◌, ◌<◌, ◌≤◌, Bool, true, false, ◌||◌, cond, eqb, List, [], ◌∷◌, ◌++◌, length, take, get_or, Option, Some, None, sym, refl, ap, ◌∙◌, subst, arith}
+use Rattle.std.proofs.Common.{◌≡◌, ◌≢◌, ◌⊎◌, inl, inr, ℕ, zero, suc, ◌+◌, ◌<◌, ◌≤◌, Bool, true, false, ◌||◌, cond, eqb, List, [], ◌∷◌, ◌++◌, length, take, replicate, get_or, Option, Some, None, sym, refl, ap, ◌∙◌, subst, arith}
 use Rattle.std.specs.Prelude.{filter, slice_get, slice_index_or, ◌==◌}
 use Rattle.std.specs.List.{list_any, list_all, range_with_len}
 use Rattle.std.proofs.lemmas.Bool.{cases_eq, false≢true, eq-eqb, ne_eqb}
-use Rattle.std.proofs.lemmas.List.{append-nil}
+use Rattle.std.proofs.lemmas.List.{append-nil, get_or-replicate, length-replicate}
 use Rattle.std.proofs.lemmas.List.Folds.{list_any_more}
 use Rattle.std.proofs.lemmas.Option.{slice_get_within, slice_get_read, get_or_from_slice_get}
 use Rattle.pipe_lines.specs.declared.deferral.DeferRow.{DeferRow}
@@ -146,3 +146,20 @@ module _ (ts : List ℕ) (i token target : ℕ) (below : i < length ts) (at : ta
       by_tests ks true false not_both = append-nil (ks ++ token ∷ [])
       by_tests ks false true not_both = ap (λ js. js ++ token ∷ []) (append-nil ks)
       by_tests ks false false not_both = append-nil (ks ++ [])
+
+-- ---- the tables at the beginning
+
+pub places_begin : (tokens : ℕ) (rows : List DeferRow) (places : List (Option ℕ)) → places ≡ replicate tokens None → ArePlaces tokens rows 0 places
+places_begin tokens rows places is = record {
+  size = ap length is ∙ length-replicate tokens None;
+  each = λ k below. subst (IsPlace rows 0 k) (sym (ap (λ ps. slice_index_or ps k None) is ∙ get_or-replicate tokens k None None below)) refl;
+}
+
+pub waiters_begin : (tokens : ℕ) (rows : List DeferRow) (lists : List (List ℕ)) → lists ≡ replicate tokens [] → AreWaiters tokens rows 0 lists
+waiters_begin tokens rows lists is = record {
+  size = ap length is ∙ length-replicate tokens [];
+  each = λ t below. ap (λ ls. slice_index_or ls t []) is ∙ get_or-replicate tokens t [] [] below;
+}
+
+pub gains_begin : (lists : List (List ℕ)) (token : ℕ) → GainsWaiter lists lists token (λ t. list_any (λ s. s == t) [])
+gains_begin lists token = record { size = refl; each = λ t below. sym (append-nil (slice_index_or lists t [])) }

@@ -1,16 +1,19 @@
 -- A walk from one pass to the next.
-use Rattle.std.proofs.Common.{◌≡◌, ◌≢◌, ◌⊎◌, inl, inr, ℕ, zero, suc, max, ◌+◌, ◌-◌, ◌<◌, ◌≤◌, Bool, true, false, not, ◌&&◌, cond, eqb, ltb, List, [], ◌∷◌, ◌++◌, length, drop, get_or, set, Option, Some, None, sym, refl, ap, ◌∙◌, subst, arith, get_or-set_other, get_or-set_same, length-append}
+use Rattle.std.proofs.Common.{◌≡◌, ◌≢◌, ◌⊎◌, inl, inr, ℕ, zero, suc, max, ◌+◌, ◌-◌, ◌<◌, ◌≤◌, Bool, true, false, not, ◌&&◌, cond, eqb, ltb, List, [], ◌∷◌, ◌++◌, length, drop, replicate, get_or, set, Option, Some, None, sym, refl, ap, ◌∙◌, subst, arith}
 use Rattle.std.specs.Prelude.{filter, slice_get}
 use Rattle.std.specs.Option.{option_or}
 use Rattle.std.proofs.lemmas.Bool.{cases_eq, false≢true, le-ltb, lt-ltb}
+use Rattle.std.proofs.lemmas.List.{get_or-set_other, get_or-set_same, length-append, length-replicate, length-set}
 use Rattle.std.proofs.lemmas.Option.{slice_get_within}
 use Rattle.pipe_lines.specs.declared.deferral.DeferRow.{DeferRow}
+use Rattle.pipe_lines.specs.declared.passing.Walk.{Walk}
+use Rattle.pipe_lines.specs.declared.waits.Waits.{Waits as WaitTables}
 use Rattle.pipe_lines.specs.PassOrder.{has_passed, is_free, least_left, looked_at, next_new, next_token, resumed}
-use Rattle.pipe_lines.specs.inside.Waiting.{waiters}
-use Rattle.pipe_lines.specs.inside.Walks.{AreMarks, IsQueue, is_waiting}
+use Rattle.pipe_lines.specs.inside.Waiting.{rows_of, tokens_of, waiters}
+use Rattle.pipe_lines.specs.inside.Walks.{AreMarks, IsQueue, IsWalk, is_waiting}
 use Rattle.pipe_lines.proofs.FindLemmas.{Finds, find_is, find_none}
 use Rattle.pipe_lines.proofs.PassLemmas.{looked_push}
-use Rattle.pipe_lines.proofs.QueueLemmas.{IsLeft, Waits, first_resumed, first_waits, left_first, left_new, mem_pushed, mem_unpushed, none_resumed, queue_after}
+use Rattle.pipe_lines.proofs.QueueLemmas.{IsLeft, first_resumed, first_waits, left_first, left_new, mem_pushed, mem_unpushed, none_resumed, queue_after}
 use Rattle.pipe_lines.proofs.StepLemmas.{IsNext, new_one, next_is}
 
 -- ---- what is behind an index
@@ -48,8 +51,8 @@ next_unqueued tokens rows passed freed i queue is =
 
 -- ---- marks
 
-pub marks_more : (tokens t : ℕ) (passed : List ℕ) (marks : List Bool) → t < tokens → AreMarks tokens passed marks → (new : List Bool) → length new ≡ length marks → new ≡ set marks t true → AreMarks tokens (passed ++ t ∷ []) new
-marks_more tokens t passed marks below are new len is = record { size = len ∙ are.size; each = λ k. ap (λ ms. get_or ms k false) is ∙ by_place k (cases_eq t k) }
+pub marks_more : (tokens t : ℕ) (passed : List ℕ) (marks : List Bool) → t < tokens → AreMarks tokens passed marks → (new : List Bool) → new ≡ set marks t true → AreMarks tokens (passed ++ t ∷ []) new
+marks_more tokens t passed marks below are new is = record { size = ap length is ∙ length-set marks t true ∙ are.size; each = λ k. ap (λ ms. get_or ms k false) is ∙ by_place k (cases_eq t k) }
   where
     by_place : (k : ℕ) → (t ≡ k) ⊎ (t ≢ k) → get_or (set marks t true) k false ≡ has_passed (passed ++ t ∷ []) k
     by_place k (inl same) = ap (λ j. get_or (set marks t true) j false) (sym same) ∙ get_or-set_same marks t true false (omega (arith, below, are.size)) ∙ sym (mem_pushed passed t) ∙ ap (has_passed (passed ++ t ∷ [])) same
@@ -90,7 +93,7 @@ module _ (tokens : ℕ) (rows : List DeferRow) (passed freed : List ℕ) (t look
       now = passed ++ t ∷ []
 
       -- what the pass frees is put behind the rest
-      joined : (rest : List ℕ) (j : ℕ) → IsLeft rows tokens passed t rest → looked_now ≡ looked_at now → resumed_now ≡ j → j ≤ length freed → drop j freed ≡ rest → IsQueue rows now (drop resumed_now freed_now)
+      joined : (rest : List ℕ) (j : ℕ) → IsLeft rows passed t rest → looked_now ≡ looked_at now → resumed_now ≡ j → j ≤ length freed → drop j freed ≡ rest → IsQueue rows now (drop resumed_now freed_now)
       joined rest j left looked_same resumed_same in_freed rest_is =
           subst (IsQueue rows now) (sym (
           ap (λ n. drop n freed_now) resumed_same ∙ ap (drop j) freed_eq ∙ drop_front freed (filter (is_waiting rows now looked_now) (waiters rows tokens t)) j in_freed
@@ -103,7 +106,7 @@ module _ (tokens : ℕ) (rows : List DeferRow) (passed freed : List ℕ) (t look
         looked_is = looked_same;
         within = omega (arith, looked_same, next.within);
         few = omega (arith, resumed_same, inside, ap length freed_eq, length-append freed (filter (is_waiting rows now looked_now) (waiters rows tokens t)));
-        queue = joined (drop (suc i) freed) (suc i) (left_first rows tokens passed t (drop (suc i) freed) first) looked_same resumed_same (omega (arith, inside)) refl;
+        queue = joined (drop (suc i) freed) (suc i) (left_first rows passed t (drop (suc i) freed) first) looked_same resumed_same (omega (arith, inside)) refl;
       }
         where
           inside : i < length freed
@@ -142,6 +145,45 @@ module _ (tokens : ℕ) (rows : List DeferRow) (passed freed : List ℕ) (t look
           resumed_same : resumed_now ≡ i
           resumed_same = omega (arith, resumed_eq, ap (λ b. cond b (i + 1) i) (le-ltb i (length freed) past))
 
+-- the token that a walk lets pass
+pub walk_next : (waits : WaitTables) (walk : Walk) (t : ℕ) → IsWalk waits walk → (is_next : next_token (tokens_of waits) (rows_of waits) walk.passed ≡ Some t) → IsNext (tokens_of waits) (rows_of waits) walk.passed t is_next
+walk_next waits walk t is is_next = next_is (tokens_of waits) (rows_of waits) walk.passed t is_next (omega (arith, is.within, is.looked))
+
+-- the marks behind its pass
+pub marks_behind : (waits : WaitTables) (walk : Walk) (t : ℕ) → IsWalk waits walk → next_token (tokens_of waits) (rows_of waits) walk.passed ≡ Some t
+    → (passed : List ℕ) (marks : List Bool) → passed ≡ walk.passed ++ t ∷ [] → marks ≡ set walk.marks.items t true → AreMarks (tokens_of waits) passed marks
+marks_behind waits walk t is is_next passed marks passed_is marks_are =
+    subst (λ ps. AreMarks (tokens_of waits) ps marks) (sym passed_is)
+    (marks_more (tokens_of waits) t walk.passed walk.marks.items (walk_next waits walk t is is_next).below is.marks marks marks_are)
+
+-- how far it has looked then
+pub looked_behind : (waits : WaitTables) (walk : Walk) (t : ℕ) → IsWalk waits walk → next_token (tokens_of waits) (rows_of waits) walk.passed ≡ Some t
+    → (looked : ℕ) → looked ≡ cond (ltb walk.resumed (length walk.freed)) walk.looked (t + 1) → looked ≤ tokens_of waits
+looked_behind waits walk t is is_next looked looked_is = by_test (ltb walk.resumed (length walk.freed)) looked_is
+  where
+    by_test : (b : Bool) → looked ≡ cond b walk.looked (t + 1) → looked ≤ tokens_of waits
+    by_test true h = omega (arith, h, is.within)
+    by_test false h = omega (arith, h, (walk_next waits walk t is is_next).below)
+
+-- the rest of it
+pub walk_behind : (waits : WaitTables) (walk : Walk) (t : ℕ) → IsWalk waits walk → next_token (tokens_of waits) (rows_of waits) walk.passed ≡ Some t
+    → (passed freed : List ℕ) (looked resumed : ℕ) → passed ≡ walk.passed ++ t ∷ []
+    → looked ≡ cond (ltb walk.resumed (length walk.freed)) walk.looked (t + 1) → resumed ≡ cond (ltb walk.resumed (length walk.freed)) (walk.resumed + 1) walk.resumed
+    → freed ≡ walk.freed ++ filter (is_waiting (rows_of waits) passed looked) (waiters (rows_of waits) (tokens_of waits) t)
+    → IsBehind (tokens_of waits) (rows_of waits) passed freed looked resumed
+walk_behind waits walk t is is_next passed freed looked resumed passed_is looked_is resumed_is freed_is =
+    subst (λ ps. IsBehind (tokens_of waits) (rows_of waits) ps freed looked resumed) (sym passed_is)
+    (behind (tokens_of waits) (rows_of waits) walk.passed walk.freed t walk.looked walk.resumed is.queue is.looked is.within is_next looked resumed freed looked_is resumed_is
+    (freed_is ∙ ap (λ ps. walk.freed ++ filter (is_waiting (rows_of waits) ps looked) (waiters (rows_of waits) (tokens_of waits) t)) passed_is) is.few)
+
 -- before the first pass the queue is empty
 pub no_queue : (rows : List DeferRow) → IsQueue rows [] []
 no_queue rows = record { each = λ k. sym (ap (λ b. b && (not (has_passed [] k) && is_free rows [] k)) (le-ltb k 0 (omega arith))); in_turn = tt }
+
+no_marks : (n k : ℕ) → get_or (replicate n false) k false ≡ false
+no_marks zero k = refl
+no_marks (suc n) zero = refl
+no_marks (suc n) (suc k) = no_marks n k
+
+pub marks_begin : (tokens : ℕ) (marks : List Bool) → marks ≡ replicate tokens false → AreMarks tokens [] marks
+marks_begin tokens marks is = record { size = ap length is ∙ length-replicate tokens false; each = λ k. ap (λ ms. get_or ms k false) is ∙ no_marks tokens k }

@@ -96,7 +96,8 @@ impl Walk {
     {
         self.note(token)?;
         let freed = self.newly_freed(alloc, waits, waits.waiters(token))?;
-        self.freed.add_all(freed.as_slice())
+        self.freed.add_all(freed.as_slice())?;
+        Ok(())
     }
 
     // Notes that a token passes: the first that was freed and hasn't passed, or a new one where there is none.
