@@ -1,9 +1,9 @@
 -- Which tokens wait for which, in tables.
-use Rattle.std.proofs.Common.{◌≡◌, ◌≢◌, ◌⊎◌, inl, inr, ℕ, zero, suc, ◌+◌, ◌<◌, ◌≤◌, Bool, true, false, ◌||◌, cond, eqb, List, [], ◌∷◌, ◌++◌, length, take, replicate, get_or, Option, Some, None, sym, refl, ap, ◌∙◌, subst, arith}
+use Rattle.std.proofs.Common.{◌≡◌, ◌≢◌, ◌⊎◌, inl, inr, ℕ, zero, suc, ◌+◌, ◌<◌, ◌≤◌, Bool, true, false, ◌||◌, cond, eqb, List, [], ◌∷◌, ◌++◌, length, take, get_or, Option, Some, None, sym, refl, ap, ◌∙◌, subst, arith}
 use Rattle.std.specs.Prelude.{filter, slice_get, slice_index_or, ◌==◌}
 use Rattle.std.specs.List.{list_any, list_all, range_with_len}
+use Rattle.std.proofs.Math.Seq.{take-length}
 use Rattle.std.proofs.lemmas.Bool.{cases_eq, false≢true, eq-eqb, ne_eqb}
-use Rattle.std.proofs.lemmas.List.{append-nil, get_or-replicate, length-replicate}
 use Rattle.std.proofs.lemmas.List.Folds.{list_any_more}
 use Rattle.std.proofs.lemmas.Option.{slice_get_within, slice_get_read, get_or_from_slice_get}
 use Rattle.pipe_lines.specs.declared.deferral.DeferRow.{DeferRow}
@@ -71,9 +71,9 @@ place_targets rows k i (Some j) row apart is e at =
     let found : is.row ≡ row = sym (get_or_from_slice_get rows j is.row row is.at) ∙ ap (λ m. get_or rows m row) same ∙ sym at in
     ap (λ (r : DeferRow). r.to) (sym found) ∙ sym (targets_at rows j is.row apart is.at) ∙ ap (targets rows) is.is
 
-pub place_none : (rows : List DeferRow) (k : ℕ) (o : Option ℕ) → IsPlace rows (length rows) k o → o ≡ None → take (length rows) rows ≡ rows → [] ≡ targets rows k
-place_none rows k (Some j) is e whole = absurd (cc)
-place_none rows k None is e whole = sym (no_targets rows k (ap (λ rs. is_deferred rs k) (sym whole) ∙ is))
+pub place_none : (rows : List DeferRow) (k : ℕ) (o : Option ℕ) → IsPlace rows (length rows) k o → o ≡ None → [] ≡ targets rows k
+place_none rows k (Some j) is e = absurd (cc)
+place_none rows k None is e = sym (no_targets rows k (ap (λ rs. is_deferred rs k) (sym (take-length rows)) ∙ is))
 
 -- ---- the lists of those that wait
 
@@ -98,68 +98,3 @@ waiters_more tokens n rows old new are gains = record {
   where
     one_more : suc n ≡ n + 1
     one_more = omega arith
-
-module _ (ts : List ℕ) (i token target : ℕ) (below : i < length ts) (at : target ≡ get_or ts i target) where
-  abbrev before : ℕ → Bool
-  before t = list_any (λ s. s == t) (take i ts)
-
-  abbrev behind : ℕ → Bool
-  behind t = list_any (λ s. s == t) (take (i + 1) ts)
-
-  behind_is : (t : ℕ) → behind t ≡ (before t || eqb target t)
-  behind_is t = list_any_more (λ s. s == t) ts i target below ∙ ap (λ s. before t || eqb s t) (sym at)
-
-  -- a target that came before
-  pub gains_none : (old mid : List (List ℕ)) → before target ≡ true → GainsWaiter old mid token before → GainsWaiter old mid token behind
-  gains_none old mid is gains = record { size = gains.size; each = λ t in_range. gains.each t in_range ∙ ap (λ b. slice_index_or old t [] ++ cond b (token ∷ []) []) (sym (behind_is t ∙ by_place t (cases_eq target t))) }
-    where
-      or_true : (b : Bool) → b ≡ true → (b || true) ≡ b
-      or_true true h = refl
-      or_true false h = absurd (false≢true h)
-
-      or_false : (b : Bool) → (b || false) ≡ b
-      or_false true = refl
-      or_false false = refl
-
-      by_place : (t : ℕ) → (target ≡ t) ⊎ (target ≢ t) → (before t || eqb target t) ≡ before t
-      by_place t (inl same) = ap (λ b. before t || b) (eq-eqb target t same) ∙ or_true (before t) (ap before (sym same) ∙ is)
-      by_place t (inr other) = ap (λ b. before t || b) (ne_eqb target t other) ∙ or_false (before t)
-
-  -- one that did not
-  pub gains_one : (old mid new : List (List ℕ)) → before target ≡ false → GainsWaiter old mid token before → GainsWaiter mid new token (λ t. target == t) → GainsWaiter old new token behind
-  gains_one old mid new none first second = record {
-    size = second.size ∙ first.size;
-    each = λ t in_range.
-        second.each t (omega (arith, in_range, first.size))
-        ∙ ap (λ ks. ks ++ cond (eqb target t) (token ∷ []) []) (first.each t in_range)
-        ∙ by_tests (slice_index_or old t []) (before t) (eqb target t) (both t (cases_eq target t))
-        ∙ ap (λ b. slice_index_or old t [] ++ cond b (token ∷ []) []) (sym (behind_is t));
-  }
-    where
-      -- both tests don't hold at once
-      both : (t : ℕ) → (target ≡ t) ⊎ (target ≢ t) → (before t ≡ true) → (eqb target t ≡ true) → ⊥
-      both t (inl same) h g = false≢true (sym none ∙ ap before same ∙ h)
-      both t (inr other) h g = false≢true (sym (ne_eqb target t other) ∙ g)
-
-      by_tests : (ks : List ℕ) (b e : Bool) → (b ≡ true → e ≡ true → ⊥) → (ks ++ cond b (token ∷ []) []) ++ cond e (token ∷ []) [] ≡ ks ++ cond (b || e) (token ∷ []) []
-      by_tests ks true true not_both = absurd (not_both refl refl)
-      by_tests ks true false not_both = append-nil (ks ++ token ∷ [])
-      by_tests ks false true not_both = ap (λ js. js ++ token ∷ []) (append-nil ks)
-      by_tests ks false false not_both = append-nil (ks ++ [])
-
--- ---- the tables at the beginning
-
-pub places_begin : (tokens : ℕ) (rows : List DeferRow) (places : List (Option ℕ)) → places ≡ replicate tokens None → ArePlaces tokens rows 0 places
-places_begin tokens rows places is = record {
-  size = ap length is ∙ length-replicate tokens None;
-  each = λ k below. subst (IsPlace rows 0 k) (sym (ap (λ ps. slice_index_or ps k None) is ∙ get_or-replicate tokens k None None below)) refl;
-}
-
-pub waiters_begin : (tokens : ℕ) (rows : List DeferRow) (lists : List (List ℕ)) → lists ≡ replicate tokens [] → AreWaiters tokens rows 0 lists
-waiters_begin tokens rows lists is = record {
-  size = ap length is ∙ length-replicate tokens [];
-  each = λ t below. ap (λ ls. slice_index_or ls t []) is ∙ get_or-replicate tokens t [] [] below;
-}
-
-pub gains_begin : (lists : List (List ℕ)) (token : ℕ) → GainsWaiter lists lists token (λ t. list_any (λ s. s == t) [])
-gains_begin lists token = record { size = refl; each = λ t below. sym (append-nil (slice_index_or lists t [])) }

@@ -1,9 +1,9 @@
 -- A walk from one pass to the next.
-use Rattle.std.proofs.Common.{◌≡◌, ◌≢◌, ◌⊎◌, inl, inr, ℕ, zero, suc, max, ◌+◌, ◌-◌, ◌<◌, ◌≤◌, Bool, true, false, not, ◌&&◌, cond, eqb, ltb, List, [], ◌∷◌, ◌++◌, length, drop, replicate, get_or, set, Option, Some, None, sym, refl, ap, ◌∙◌, subst, arith}
+use Rattle.std.proofs.Common.{◌≡◌, ◌≢◌, ◌⊎◌, inl, inr, ℕ, zero, suc, max, ◌+◌, ◌-◌, ◌<◌, ◌≤◌, Bool, true, false, not, cond, eqb, ltb, List, [], ◌∷◌, ◌++◌, length, drop, get_or, set, Option, Some, None, sym, refl, ap, ◌∙◌, subst, arith}
 use Rattle.std.specs.Prelude.{filter, slice_get}
 use Rattle.std.specs.Option.{option_or}
 use Rattle.std.proofs.lemmas.Bool.{cases_eq, false≢true, le-ltb, lt-ltb}
-use Rattle.std.proofs.lemmas.List.{get_or-set_other, get_or-set_same, length-append, length-replicate, length-set}
+use Rattle.std.proofs.lemmas.List.{get_or-set_other, get_or-set_same, length-append, length-set}
 use Rattle.std.proofs.lemmas.Option.{slice_get_within}
 use Rattle.pipe_lines.specs.declared.deferral.DeferRow.{DeferRow}
 use Rattle.pipe_lines.specs.declared.passing.Walk.{Walk}
@@ -175,15 +175,3 @@ walk_behind waits walk t is is_next passed freed looked resumed passed_is looked
     subst (λ ps. IsBehind (tokens_of waits) (rows_of waits) ps freed looked resumed) (sym passed_is)
     (behind (tokens_of waits) (rows_of waits) walk.passed walk.freed t walk.looked walk.resumed is.queue is.looked is.within is_next looked resumed freed looked_is resumed_is
     (freed_is ∙ ap (λ ps. walk.freed ++ filter (is_waiting (rows_of waits) ps looked) (waiters (rows_of waits) (tokens_of waits) t)) passed_is) is.few)
-
--- before the first pass the queue is empty
-pub no_queue : (rows : List DeferRow) → IsQueue rows [] []
-no_queue rows = record { each = λ k. sym (ap (λ b. b && (not (has_passed [] k) && is_free rows [] k)) (le-ltb k 0 (omega arith))); in_turn = tt }
-
-no_marks : (n k : ℕ) → get_or (replicate n false) k false ≡ false
-no_marks zero k = refl
-no_marks (suc n) zero = refl
-no_marks (suc n) (suc k) = no_marks n k
-
-pub marks_begin : (tokens : ℕ) (marks : List Bool) → marks ≡ replicate tokens false → AreMarks tokens [] marks
-marks_begin tokens marks is = record { size = ap length is ∙ length-replicate tokens false; each = λ k. ap (λ ms. get_or ms k false) is ∙ no_marks tokens k }

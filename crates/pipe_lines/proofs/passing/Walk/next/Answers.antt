@@ -1,4 +1,4 @@
-use Rattle.std.proofs.Common.{sym, ◌∙◌}
+use Rattle.std.proofs.Common.{rules, ◌∙◌}
 use Rattle.pipe_lines.specs.inside.Waiting.{rows_of, tokens_of}
 use Rattle.pipe_lines.proofs.WalkLemmas.{next_queued, next_unqueued}
 use Rattle.pipe_lines.proofs.passing.Walk.next.Goals as goal

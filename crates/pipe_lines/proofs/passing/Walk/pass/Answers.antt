@@ -14,12 +14,12 @@ note-requires-clause-few c = omega (arith, (walk_next c.args.waits.now c.args.se
 pub waiters-requires-clause-token : goal.waiters-requires-clause-token
 waiters-requires-clause-token c = (walk_next c.args.waits.now c.args.self.now c.args.token c.requires.walk c.requires.next).below
 
-pub newly_freed-freed-requires-clause-marks : goal.newly_freed-freed-requires-clause-marks
-newly_freed-freed-requires-clause-marks c =
+pub newly_freed-requires-clause-marks : goal.newly_freed-requires-clause-marks
+newly_freed-requires-clause-marks c =
     marks_behind c.args.waits.now c.args.self.now c.args.token c.requires.walk c.requires.next c.note.new.self.passed c.note.new.self.marks.items c.in_ok-note.ensures.passed c.in_ok-note.ensures.marks
 
-pub newly_freed-freed-requires-clause-looked : goal.newly_freed-freed-requires-clause-looked
-newly_freed-freed-requires-clause-looked c = looked_behind c.args.waits.now c.args.self.now c.args.token c.requires.walk c.requires.next c.note.new.self.looked c.in_ok-note.ensures.looked
+pub newly_freed-requires-clause-looked : goal.newly_freed-requires-clause-looked
+newly_freed-requires-clause-looked c = looked_behind c.args.waits.now c.args.self.now c.args.token c.requires.walk c.requires.next c.note.new.self.looked c.in_ok-note.ensures.looked
 
 pub returns-clause-walk : goal.returns-clause-walk
 returns-clause-walk c = record {
