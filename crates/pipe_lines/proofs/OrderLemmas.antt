@@ -1,16 +1,15 @@
 -- The laws of the order of tokens.
-use Rattle.std.proofs.Common.{◌≡◌, ◌≢◌, ◌⊎◌, inl, inr, ℕ, zero, suc, max, ◌+◌, ◌-◌, ◌<◌, ◌≤◌, Bool, true, false, not, ◌&&◌, ◌||◌, cond, eqb, List, [], ◌∷◌, ◌++◌, length, take, get_or, Option, Some, None, sym, refl, ap, ◌∙◌, subst, arith}
-use Rattle.std.specs.Prelude.{find, ◌==◌, AllPairs, All}
+use Rattle.std.proofs.Common.{◌≡◌, ◌≢◌, ◌⊎◌, inl, inr, ℕ, zero, suc, ◌+◌, ◌-◌, ◌<◌, ◌≤◌, Bool, true, false, not, ◌&&◌, ◌||◌, eqb, List, [], ◌∷◌, ◌++◌, length, take, get_or, Option, Some, None, sym, refl, ap, ◌∙◌, arith}
 use Rattle.std.specs.Option.{option_or}
-use Rattle.std.specs.List.{list_any, list_all, range_with_len, AllByRecursion}
+use Rattle.std.specs.List.{range_with_len}
 use Rattle.std.proofs.lemmas.Bool.Decides.{nat_tests}
-use Rattle.std.proofs.lemmas.Bool.{cases_eq, cases_lt, false≢true}
+use Rattle.std.proofs.lemmas.Bool.{cases_eq, false≢true}
 use Rattle.std.proofs.lemmas.List.Quantifiers.{all_pairs_push}
 use Rattle.pipe_lines.specs.declared.deferral.DeferRow.{DeferRow}
-use Rattle.pipe_lines.specs.PassOrder.{targets, has_passed, is_free, looked_at, first_found, freed_by, resumed, next_new, next_token, passes, pass_order, least_left}
+use Rattle.pipe_lines.specs.PassOrder.{has_passed, is_free, looked_at, freed_by, resumed, next_new, next_token, passes, pass_order}
 use Rattle.pipe_lines.specs.OrderRules.{PassOnce, PassAll, PassInTurn}
-use Rattle.pipe_lines.proofs.FindLemmas.{Finds, find_is, find_none, finds_none, first_none}
-use Rattle.pipe_lines.proofs.StepLemmas.{IsNext, next_is, passes_more, passes_end}
+use Rattle.pipe_lines.proofs.FindLemmas.{find_is, find_none, finds_none, first_none}
+use Rattle.pipe_lines.proofs.StepLemmas.{IsNext, next_is, passes_more}
 
 -- ---- without rows
 

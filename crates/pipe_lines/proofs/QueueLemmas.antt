@@ -1,18 +1,17 @@
 -- The queue of tokens that waited and were freed.
-use Rattle.std.proofs.Common.{◌≡◌, ◌≢◌, ◌⊎◌, inl, inr, ℕ, zero, suc, max, ◌+◌, ◌-◌, ◌<◌, ◌≤◌, Bool, true, false, not, ◌&&◌, ◌||◌, cond, eqb, ltb, List, [], ◌∷◌, ◌++◌, length, take, Option, Some, None, sym, refl, ap, ◌∙◌, arith}
+use Rattle.std.proofs.Common.{◌≡◌, ◌≢◌, ◌⊎◌, inl, inr, ℕ, zero, suc, max, ◌+◌, ◌-◌, ◌<◌, ◌≤◌, Bool, true, false, not, ◌&&◌, ◌||◌, cond, eqb, ltb, List, [], ◌∷◌, ◌++◌, length, take, Some, None, sym, refl, ap, ◌∙◌, arith}
 use Rattle.std.specs.Prelude.{filter, ◌==◌}
-use Rattle.std.specs.Option.{option_or}
 use Rattle.std.specs.List.{list_any, list_all, range_with_len}
 use Rattle.std.proofs.lemmas.Bool.{cases_eq, cases_lt, false≢true, eq-eqb, ne_eqb, lt-ltb, ltb-true, and_parts, and_from, and_right, or_cases}
 use Rattle.std.proofs.lemmas.List.{length_push}
 use Rattle.std.proofs.lemmas.List.Folds.{list_any-append}
 use Rattle.pipe_lines.specs.declared.deferral.DeferRow.{DeferRow}
-use Rattle.pipe_lines.specs.PassOrder.{targets, has_passed, is_free, looked_at, freed_by, resumed, next_new, next_token}
+use Rattle.pipe_lines.specs.PassOrder.{targets, has_passed, is_free, looked_at, freed_by, resumed, next_token}
 use Rattle.pipe_lines.specs.inside.Waiting.{waits_for, waiters}
 use Rattle.pipe_lines.specs.inside.Walks.{GoesBefore, InTurn, IsQueue, freed_after, is_waiting, last_after, passed_after}
 use Rattle.pipe_lines.proofs.FindLemmas.{Finds, find_is, find_none, first_is, first_none}
 use Rattle.pipe_lines.proofs.PassLemmas.{by_take, to_take, after_most, after_none, after_some, after_push_same, after_push_other, looked_push}
-use Rattle.pipe_lines.proofs.StepLemmas.{IsNext, new_one, next_is}
+use Rattle.pipe_lines.proofs.StepLemmas.{IsNext, new_one}
 
 -- ---- which numbers are in a list
 

@@ -1,15 +1,14 @@
 -- One pass more.
-use Rattle.std.proofs.Common.{◌≡◌, ◌≢◌, ◌⊎◌, inl, inr, ℕ, zero, suc, max, ◌+◌, ◌-◌, ◌<◌, ◌≤◌, Bool, true, false, not, ◌&&◌, ◌||◌, eqb, List, [], ◌∷◌, ◌++◌, length, take, Option, Some, None, sym, refl, ap, ◌∙◌, subst, arith}
-use Rattle.std.specs.Prelude.{slice_get, ◌==◌}
+use Rattle.std.proofs.Common.{◌≡◌, ◌≢◌, ℕ, zero, suc, ◌+◌, ◌-◌, ◌<◌, ◌≤◌, Bool, true, false, not, ◌&&◌, List, [], ◌∷◌, ◌++◌, length, take, Option, Some, None, sym, refl, ap, ◌∙◌, subst, arith}
+use Rattle.std.specs.Prelude.{slice_get}
 use Rattle.std.specs.Option.{option_or}
-use Rattle.std.specs.List.{range_with_len}
-use Rattle.std.proofs.lemmas.Bool.{cases_lt, false≢true}
+use Rattle.std.proofs.lemmas.Bool.{false≢true}
 use Rattle.std.proofs.lemmas.Option.{slice_get_within}
 use Rattle.pipe_lines.specs.declared.deferral.DeferRow.{DeferRow}
 use Rattle.pipe_lines.specs.declared.order.Order.{Order}
-use Rattle.pipe_lines.specs.declared.order.Passed.TheVariants.{Token, Stop, Unmet}
+use Rattle.pipe_lines.specs.declared.order.Passed.TheVariants.{Token}
 use Rattle.pipe_lines.specs.Orders.{end_of, passed_or, passed_at}
-use Rattle.pipe_lines.specs.PassOrder.{has_passed, is_free, looked_at, first_found, freed_by, resumed, next_new, next_token, passes}
+use Rattle.pipe_lines.specs.PassOrder.{has_passed, is_free, looked_at, freed_by, resumed, next_new, next_token, passes}
 use Rattle.pipe_lines.proofs.FindLemmas.{Finds, finds, Found, found_first}
 use Rattle.pipe_lines.proofs.PassLemmas.{passed_below, looked_push}
 

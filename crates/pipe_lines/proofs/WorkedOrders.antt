@@ -1,5 +1,5 @@
 -- What defers tokens, and the order in which they pass, computed on a few.
-use Rattle.std.proofs.Common.{◌≡◌, ◌≢◌, ℕ, zero, suc, ◌<◌, ◌≤◌, true, false, List, [], ◌∷◌, length, replicate, get_or, Option, Some, None, refl, sym, ap, ◌∙◌, arith}
+use Rattle.std.proofs.Common.{◌≡◌, ◌≢◌, ℕ, zero, suc, ◌<◌, ◌≤◌, true, false, List, [], ◌∷◌, length, replicate, Option, Some, None, refl, ap, arith}
 use Rattle.std.specs.Prelude.{AllPairs}
 use Rattle.std.proofs.lemmas.List.{length-replicate}
 use Rattle.std.proofs.lemmas.List.Elements.{All-from_recursion, recursion_from_All}
@@ -165,7 +165,7 @@ is_order : IsOrder 3 (waiting 1 (1 ∷ []) ∷ []) (order (0 ∷ 2 ∷ []) (Some
 is_order = record { passed = refl; unmet = refl }
 
 order_without_the_one_that_is_left : ¬ IsOrder 3 (waiting 1 (1 ∷ []) ∷ []) (order (0 ∷ 2 ∷ []) None)
-order_without_the_one_that_is_left is = let other : None ≡ Some 1 = is.unmet in absurd (cc)
+order_without_the_one_that_is_left is = let other : ◌≡◌ {A = Option ℕ} None (Some 1) = is.unmet in absurd (cc)
 
 order_of_others : ¬ IsOrder 3 [] (order (0 ∷ 2 ∷ []) (Some 1))
 order_of_others is = absurd (omega (arith, ap length is.passed))
@@ -182,7 +182,7 @@ gates_behind = (refl, refl, refl)
 
 -- ---- the laws of one order
 
-once_by_law : PassOnce → AllPairs (λ a b. a ≢ b) (0 ∷ 3 ∷ 1 ∷ 2 ∷ 4 ∷ [])
+once_by_law : PassOnce → AllPairs {X = ℕ} (λ a b. a ≢ b) (0 ∷ 3 ∷ 1 ∷ 2 ∷ 4 ∷ [])
 once_by_law law = law 5 deferred
 
 all_by_law : PassAll → (has_passed (0 ∷ 3 ∷ 1 ∷ 2 ∷ 4 ∷ []) 4 ≡ true)

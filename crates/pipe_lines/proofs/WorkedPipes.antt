@@ -1,8 +1,6 @@
 -- Pipelines, their nets and why they are refused, computed on small ones.
-use Rattle.std.proofs.Common.{◌≡◌, ℕ, ◌<◌, ◌≤◌, Bool, true, false, List, [], ◌∷◌, length, replicate, Some, None, refl, sym, ap, ◌∙◌, arith}
-use Rattle.std.specs.Prelude.{slice_get}
+use Rattle.std.proofs.Common.{◌≡◌, ℕ, Bool, true, false, List, [], ◌∷◌, length, replicate, Some, None, refl, ap, arith}
 use Rattle.std.proofs.lemmas.List.{length-replicate}
-use Rattle.std.proofs.lemmas.Bool.{false≢true}
 use Rattle.task_graph.specs.NetRows.{NetRows}
 use Rattle.task_graph.specs.declared.net.EdgeRow.{EdgeRow}
 use Rattle.task_graph.specs.declared.net.Shape.TheVariants.{Plain}
@@ -102,13 +100,13 @@ refused_past_the_lines = ((refl, omega arith), (λ is. absurd (omega (arith, is.
 
 refused_past_the_pipes : RefusesPipes (spec 64 (true ∷ replicate 32 true)) TooManyPipes × ¬ RefusesPipes (spec 64 (true ∷ replicate 31 true)) TooManyPipes × ¬ RefusesPipes (spec 65 (true ∷ replicate 32 true)) TooManyPipes
 refused_past_the_pipes = (
-  (omega arith, (refl, (omega arith, omega (arith, length-replicate 32 true)))),
-  (λ is. absurd (omega (arith, is.1.1.1, length-replicate 31 true))),
-  λ is. absurd (omega (arith, is.1.1.0)),
+  (omega arith, refl, omega arith, omega (arith, length-replicate 32 true)),
+  (λ is. absurd (omega (arith, is.3, length-replicate 31 true))),
+  λ is. absurd (omega (arith, is.2)),
 )
 
 not_refused_past_the_pipes : ¬ RefusesPipes (spec 0 (true ∷ replicate 32 true)) TooManyPipes × ¬ RefusesPipes (spec 1 (false ∷ replicate 32 true)) TooManyPipes
-not_refused_past_the_pipes = ((λ is. absurd (omega (arith, is.0))), λ is. let other : Some false ≡ Some true = is.1.0 in absurd (cc))
+not_refused_past_the_pipes = ((λ is. absurd (omega (arith, is.0))), λ is. let other : Some false ≡ Some true = is.1 in absurd (cc))
 
 no_memory_for_a_pipeline : RefusesPipes (spec 1 (true ∷ [])) NoMemory × ¬ RefusesPipes (spec 0 (true ∷ [])) NoMemory
 no_memory_for_a_pipeline = (smallest, without_lines)

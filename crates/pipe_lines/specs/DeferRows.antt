@@ -1,5 +1,5 @@
 -- What defers tokens.
-use Rattle.std.specs.Prelude.{◌≡◌, ◌≢◌, ℕ, ◌<◌, ◌≤◌, ◌==◌, Bool, List, length, All, AllPairs}
+use Rattle.std.specs.Prelude.{◌≢◌, ℕ, ◌<◌, ◌≤◌, ◌==◌, Bool, List, length, All, AllPairs}
 use Rattle.std.specs.List.{list_any}
 use Rattle.pipe_lines.specs.declared.deferral.DeferRow.{DeferRow}
 

@@ -1,5 +1,5 @@
 // What defers tokens.
-ghost use Rattle.std.specs.Prelude.{◌≡◌, ◌↔◌, IsTrue, All, drop, true};
+ghost use Rattle.std.specs.Prelude.{◌≡◌, ◌↔◌, IsTrue, All, true};
 ghost use Rattle.pipe_lines.specs.DeferRows.{AreApart, AreDeferRows, IsDeferRow, is_deferred};
 
 use outside_io::List;

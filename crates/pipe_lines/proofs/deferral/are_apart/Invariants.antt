@@ -1,4 +1,4 @@
-use Rattle.std.proofs.Common.{◌≡◌, ◌≢◌, ℕ, ◌<◌, length, get_or}
+use Rattle.std.proofs.Common.{◌≢◌, ℕ, ◌<◌, length, get_or}
 use Rattle.pipe_lines.specs.declared.deferral.DeferRow.{DeferRow}
 use Rattle.pipe_lines.proofs.deferral.are_apart.Given as goal
 

@@ -1,4 +1,4 @@
-use Rattle.std.proofs.Common.{◌≡◌, ◌-◌, ◌+◌, ◌++◌, zero, suc, arith, ap, ◌∙◌}
+use Rattle.std.proofs.Common.{◌-◌, ◌+◌, ◌++◌, arith, ap, ◌∙◌}
 use Rattle.pipe_lines.specs.inside.Building.{line_tags}
 use Rattle.pipe_lines.proofs.TagLemmas.{tags_are, line_tags_more}
 use Rattle.pipe_lines.proofs.tags.along_pipes.Goals as goal

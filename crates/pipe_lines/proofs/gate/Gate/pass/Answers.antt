@@ -1,6 +1,5 @@
-use Rattle.std.proofs.Common.{◌≡◌, ◌<◌, length, sym, ap, ◌∙◌, arith}
+use Rattle.std.proofs.Common.{◌<◌, length, sym, ap, ◌∙◌, arith}
 use Rattle.std.specs.Arc.{arc_value}
-use Rattle.pipe_lines.specs.declared.order.Passed.TheVariants.{Token}
 use Rattle.pipe_lines.specs.Orders.{passed_at}
 use Rattle.pipe_lines.proofs.StepLemmas.{token_within}
 use Rattle.pipe_lines.proofs.gate.Gate.pass.Goals as goal

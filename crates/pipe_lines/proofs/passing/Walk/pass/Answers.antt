@@ -1,4 +1,4 @@
-use Rattle.std.proofs.Common.{◌≡◌, ◌++◌, sym, ap, ◌∙◌, subst, arith}
+use Rattle.std.proofs.Common.{◌++◌, ap, ◌∙◌, arith}
 use Rattle.std.specs.Prelude.{filter}
 use Rattle.pipe_lines.specs.inside.Waiting.{rows_of, tokens_of}
 use Rattle.pipe_lines.specs.inside.Walks.{is_waiting}
