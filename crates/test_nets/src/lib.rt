@@ -1,5 +1,5 @@
-//! Tests of nets: of their builder, of the machine and the judge, and of the pitfall check. There is nothing here but
-//! tests, and claims on the definitions of pitfalls in `proofs/`.
+//! Tests of nets: of their builder, of pipelines, of the machine and the judge, and of the pitfall check. There is
+//! nothing here but tests, and claims on the definitions of pitfalls in `proofs/`.
 //!
 //! The machine and the judge are held against runs that were worked out by hand, and on a table of small nets, at each
 //! step, right or wrong, against plain rules that look through the steps before it. The check is held against plain
@@ -14,6 +14,8 @@ mod exhaustive_steps;
 mod large_run;
 #[cfg(test)]
 mod nets;
+#[cfg(test)]
+mod pipelines;
 #[cfg(test)]
 mod pitfalls;
 #[cfg(test)]
