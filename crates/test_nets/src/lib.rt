@@ -1,5 +1,5 @@
-//! Tests of nets: of their builder, of the machine and the judge, and of the pitfall check. There is nothing here but
-//! tests, and claims on the definitions of pitfalls in `proofs/`.
+//! Tests of nets: of their builder, of pipelines, of the machine and the judge, and of the pitfall check. There is
+//! nothing here but tests, and claims on the definitions of pitfalls in `proofs/`.
 //!
 //! The machine and the judge are held against runs that were worked out by hand. What the judge says of a table of small
 //! nets, at each step, right or wrong, is counted and held against the counts of a slow judge in Python. The machine
@@ -13,6 +13,8 @@ mod builder_calls;
 mod exhaustive_steps;
 #[cfg(test)]
 mod nets;
+#[cfg(test)]
+mod pipelines;
 #[cfg(test)]
 mod pitfalls;
 #[cfg(test)]

@@ -1,0 +1,8 @@
+pub mod DeferRows
+pub mod Gates
+pub mod Orders
+pub mod OrderRules
+pub mod PassOrder
+pub mod PipeNet
+pub mod Pipelines
+pub mod inside
