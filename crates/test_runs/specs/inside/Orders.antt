@@ -1,6 +1,7 @@
 -- Releases of a run that takes its steps in some order.
 use Rattle.std.specs.Prelude.{◌≡◌, List, All}
-use Rattle.table_frames.specs.Frames.{FrameKey, ReleaseView, BacklogView, MayTake}
+use Rattle.table_runs.specs.RunKeys.{FrameKey}
+use Rattle.table_frames.specs.Frames.{ReleaseView, BacklogView, MayTake}
 
 -- releases of one frame
 pub record AreOfOneFrame {J : Type 0} (releases : List (ReleaseView J)) : Type 0 where
