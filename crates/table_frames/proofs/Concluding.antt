@@ -15,11 +15,10 @@ use Rattle.semaphore_turns.specs.declared.parks.Parking.TheVariants.{Parked, Tak
 use Rattle.task_graph.specs.NetRows.{NetRows}
 use Rattle.atomic_table.specs.Seated.{TableId}
 use Rattle.join_tables.specs.States.{FreshState, RunningState, TableState, TurnState, fresh_state}
-use Rattle.join_tables.specs.declared.fates.Fate.{Fate}
 use Rattle.run_frame.specs.Meaning.{Meaning}
 use Rattle.table_frames.specs.Frames.{AtFrame, BacklogView, HasTable, ReleaseView, backlog_view, release_in}
 use Rattle.table_runs.specs.RunKeys.{FrameKey, table_in}
-use Rattle.table_runs.specs.StepReleases.{GivesEdges, IsFateOf, MayRelease, Uses, given_by}
+use Rattle.table_runs.specs.StepReleases.{MayRelease, Uses}
 use Rattle.table_frames.specs.Steps.{BeginsFrame, IsStateOf, StepsRelease, StepsTo, UsesRelease, units_of}
 use Rattle.table_runs.specs.Openings.{IsOverAtOnce}
 use Rattle.join_words.specs.Ins.{found_of, parts_of}

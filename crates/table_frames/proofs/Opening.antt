@@ -1,17 +1,13 @@
 -- What the work of a release comes to in the frames of a step, and how a run begins inside them.
-use Rattle.std.proofs.Common.{◌≡◌, ◌≢◌, ℕ, zero, suc, List, [], ◌∷◌, ◌++◌, length, map, Option, Some, None, append-nil, refl, sym, ap, ◌∙◌, subst}
+use Rattle.std.proofs.Common.{◌≡◌, ◌≢◌, ℕ, List, [], ◌∷◌, ◌++◌, Option, Some, None, append-nil, refl, sym, ap, ◌∙◌, subst}
 use Rattle.std.proofs.lemmas.List.Elements.{All-push}
 use Rattle.atomic_table.specs.Seated.{TableId}
 use Rattle.journal_rules.specs.declared.entry.Cause.{Cause}
-use Rattle.task_graph.specs.NetRows.{NetRows}
-use Rattle.join_tables.specs.FirstCauses.{first_causes, first_fresh}
-use Rattle.join_tables.specs.States.{FreshState, fresh_state}
+use Rattle.join_tables.specs.States.{FreshState}
 use Rattle.run_frame.specs.Meaning.{Meaning}
-use Rattle.run_frame.specs.NestedRule.{job_of}
-use Rattle.run_frame.specs.declared.run.FrameRun.{FrameRun}
 use Rattle.table_frames.specs.Frames.{AtFrame, HasTable, root_job}
 use Rattle.table_runs.specs.RunKeys.{FrameKey}
-use Rattle.table_runs.specs.Openings.{HasNoFirst, IsOverAtOnce}
+use Rattle.table_runs.specs.Openings.{IsOverAtOnce}
 use Rattle.table_runs.specs.Attempts.{IsAgain, again_list}
 use Rattle.table_frames.specs.inside.TriedReleases.{IsAttemptAt, TriesRelease, IsInnerAt, TriesAt}
 use Rattle.table_runs.specs.Begins.{Begins}

@@ -71,4 +71,3 @@ backlog_view frames fates = record { frames = frames; fates = fates }
 -- A step of a frame may add to the backlog: it is of this frame, or of none.
 abbrev pub MayTake : {J V : Type 0} → BacklogView J V → List (FrameKey J) → Type 0
 MayTake backlog frames = (backlog.frames ≡ []) ⊎ (backlog.frames ≡ frames)
-

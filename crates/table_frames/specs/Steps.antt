@@ -1,7 +1,6 @@
 -- What a beginning and a step of a frame come to, and what is then with its run.
-use Rattle.std.specs.Prelude.{◌≡◌, ◌≢◌, ℕ, List, [], ◌∷◌, ◌++◌, length, map, All, IfSome, Option, Some}
+use Rattle.std.specs.Prelude.{◌≡◌, ◌≢◌, ℕ, List, [], ◌∷◌, ◌++◌, length, map, All, Option, Some}
 use Rattle.task_graph.specs.NetRows.{NetRows}
-use Rattle.atomic_table.specs.Seated.{TableId}
 use Rattle.join_tables.specs.States.{FreshState, TurnState, fresh_state}
 use Rattle.semaphore_turns.specs.Semaphores.{put_by, taken_by}
 use Rattle.semaphore_turns.specs.HeldUnits.{FoundNone}
