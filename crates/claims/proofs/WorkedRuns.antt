@@ -1,5 +1,6 @@
 -- What a release comes to in a run over a table, before it is done and then, on a plain task that leads to a nested one.
-use Rattle.std.proofs.Common.{◌≡◌, ◌≢◌, ℕ, zero, suc, ◌+◌, ◌<◌, ◌≤◌, Bool, true, false, List, [], ◌∷◌, length, map, Option, Some, None, inl, refl, ap, sym, subst, ◌∙◌, arith}
+use Rattle.std.proofs.Common.{◌≡◌, ◌≢◌, ℕ, zero, suc, ◌+◌, ◌<◌, ◌≤◌, Bool, true, false, List, [], ◌∷◌, length, map, Option, Some, None, inl, inr, refl, ap, sym, subst, ◌∙◌, arith}
+use Rattle.std.specs.Prelude.{◌⊎◌, ◌==◌}
 use Rattle.std.specs.Global.{Global}
 use Rattle.std.specs.Vec.{vec_capacity, vec_len}
 use Rattle.std.specs.declared.vec.Vec.{Vec}
@@ -17,6 +18,7 @@ use Rattle.join_words.specs.Ins.{InputValue}
 use Rattle.join_words.specs.declared.ins.Ins.{Ins}
 use Rattle.table_steps.specs.Giving.{one_if}
 use Rattle.join_tables.specs.Batches.{batch_state}
+use Rattle.join_tables.specs.Keeping.{TellsRun, entries_told}
 use Rattle.join_tables.specs.Parts.{parts_in}
 use Rattle.join_tables.specs.Shares.{shared_state}
 use Rattle.join_tables.specs.States.{FreshState, TurnState, RunningState, StartUnits, fresh_state, turn_with, running_state, spent_state}
@@ -160,7 +162,7 @@ module _ (n m : TableId) (other : m ≢ n) (ins : Ins ℕ) where
     table = refl;
     credited = record { none_left = refl; all = λ s. refl };
     claimed = record { none_left = refl; not_refused = refl; all = λ s. refl };
-    fits = record { in_range = (omega arith, tt); once = λ e. one_at_most _; fits = (inl refl, refl) };
+    fits = record { in_range = (omega arith, tt); once = λ e. one_at_most (0 == e); fits = (inl refl, refl) };
     shares = refl;
     parcels = λ bare. absurd (cc);
     allowed = record { answer = Each; allowed = (refl, refl); chosen = refl };
@@ -356,6 +358,9 @@ module _ (n m : TableId) (other : m ≢ n) (ins : Ins ℕ) where
 
     begins_with_another_keeper : key_of begun.kept ≡ record { table = m; job = 2 } → ¬ Begins adds 2 begun
     begins_with_another_keeper kept is = other (ap (λ (k : FrameKey ℕ). k.table) (sym kept ∙ is.kept ∙ run_is))
+
+    finished_without_a_task : begun.fresh.items ≡ [] → Begins (record adds { net = λ j. no_tasks }) 2 begun → TellsRun no_tasks 3 (entries_told begun.kept.keeper.fates)
+    finished_without_a_task none is = is.nothing none
 
   -- ---- A start of the nested task that is open for the job after its own.
   module _ (parts : length (parts_in ins) ≡ 1) where
