@@ -19,6 +19,7 @@ use Rattle.run_frame.specs.NestedRule.{job_of}
 use Rattle.run_frame.specs.declared.job.Done.TheVariants.{Inner as InnerJob}
 use Rattle.run_frame.specs.declared.run.FrameRun.{FrameRun}
 use Rattle.table_runs.specs.AllowedFates.{IsAllowed}
+use Rattle.table_runs.specs.Openings.{IsOverAtOnce}
 use Rattle.table_runs.specs.StepReleases.{MayRelease, Uses}
 use Rattle.table_runs.specs.JournalFacts.{IsInJournal}
 use Rattle.table_runs.specs.RunKeys.{FrameKey, table_in}
