@@ -181,9 +181,9 @@ module _ (n m : TableId) (other : m ≢ n) (ins : Ins ℕ) where
   ends_with_an_edge_of_none : ¬ MayEnd lax key None (record (ending (running 1) 2) { gives = 0 ∷ [] })
   ends_with_an_edge_of_none is = fits is.fits.fits.0
     where
-      fits : ((0 ∷ [] ≡ []) ⊎ (0 ∷ [] ≡ [])) → ⊥
-      fits (inl no) = absurd (cc)
-      fits (inr no) = absurd (cc)
+      fits : (◌≡◌ {A = List ℕ} (0 ∷ []) [] ⊎ ◌≡◌ {A = List ℕ} (0 ∷ []) []) → ⊥
+      fits (inl same) = absurd (omega (arith, ap length same))
+      fits (inr same) = absurd (omega (arith, ap length same))
 
   ends_without_owners : ¬ MayEnd adds key None (record (ending (running 0) 2) { value = shared_state 2 0 false })
   ends_without_owners is = absurd (omega (arith, is.shares))
