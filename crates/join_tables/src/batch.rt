@@ -106,6 +106,31 @@ impl<V: Drop> NetTable<V> {
         batch.seat = Some(seat);
     }
 
+    /// Adds the turns of a batch to another, and takes one of the two live turns off. The other stays live, so this is
+    /// never the last. If an allocation fails, both stay as they were.
+    pub fn gather_all(
+        &self,
+        batch: &mut SpentBatch<V>,
+        more: &mut SpentBatch<V>,
+    ) -> Result<(), NoMemory>
+        requires batch { IsOfTable self.now.table batch.old.table }
+        requires more { more.old.table ≡ Some self.now.table }
+        ensures ok { OnOk result (batch.new ≡ batch_state (Some self.now.table)
+            (batch.old.fates ++ more.old.fates) batch.new.room) }
+        ensures taken { OnOk result (more.new ≡ batch_state None [] more.old.room) }
+        ensures err { OnErr result ((batch.new ≡ batch.old) × (more.new ≡ more.old)) }
+    {
+        if batch.fates.append(&mut more.fates).is_err() {
+            return Err(NoMemory);
+        }
+        let Some(own) = more.seat.take() else {
+            unreachable!()
+        };
+        let seat = self.join_batch(batch.seat.take(), own);
+        batch.seat = Some(seat);
+        Ok(())
+    }
+
     // Gives what a turn knows to the seat of a batch, which is the turn's own where the batch has none.
     fn join_batch(&self, seat: Option<TableSeat<V>>, own: TableSeat<V>) -> TableSeat<V>
         requires table { IfSome seat (λ s. s.table_id ≡ self.now.table)

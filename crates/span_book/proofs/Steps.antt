@@ -1,6 +1,6 @@
 -- Each step of a book keeps its rule.
 use Rattle.std.proofs.Common.{◌≡◌, ◌≢◌, ℕ, zero, suc, ◌+◌, ◌≤◌, List, [], ◌∷◌, ◌++◌, set, refl, sym, ap, ◌∙◌, subst, ⊎_elim, arith}
-use mathlib.Core.Option.{some, none, some-ne-none, some-injective}
+use mathlib.Core.Option.{some, some-ne-none, some-injective}
 use lib.ListN.{get_elem?}
 use Rattle.atomic_table.specs.Table.{State, Me, step, keeps as nothing_moves, Allows, Splits, Joins}
 use Rattle.atomic_table.proofs.Lists.{at_set}
@@ -41,10 +41,10 @@ joins tellers id v other w both balances mine s kept e apart there =
 
 -- a teller leaves
 pub deals : (all id : ℕ) (v : SpanView) → 1 ≤ v.tellers → v.told ≡ 0 → Splits (holds all) id v (without_one v) one_teller
-deals all id v some none =
+deals all id v enough untold =
     splits all id v (without_one v) one_teller
         record { tellers = omega arith; outermost = omega arith; spans = omega arith; inside = λ d. omega (arith, at_none d 0) }
-        (λ own. record { by_run = own.by_run; by_teller = λ h. none })
+        (λ own. record { by_run = own.by_run; by_teller = λ h. untold })
         (λ own. record { by_run = λ h. refl; by_teller = λ h. refl })
 
 -- tellers come, and leave
@@ -75,7 +75,7 @@ comes all id v other w is =
     back = ap (λ (u : SpanView). u.back) is
 
     none_at : (d n : ℕ) → n ≡ 0 → at d w.depth n ≡ 0
-    none_at d n none = ap (at d w.depth) none ∙ at_none d w.depth
+    none_at d n zero_is = ap (at d w.depth) zero_is ∙ at_none d w.depth
 
 pub goes : (all id : ℕ) (v : SpanView) → Splits (holds all) id v (without_tellers v) (only_tellers v)
 goes all id v =
@@ -132,7 +132,7 @@ comes_back all id v other w may =
     outermost = ap (λ e. at 0 e w.runs) may.depth
 
 module _ (all : ℕ) (views : List SpanView) (id : ℕ) (v : SpanView) (tally : IsTally v) (kept : KeepsBook all views) (e : get_elem? views id ≡ some v) where
-  others : List SpanView
+  abbrev others : List SpanView
   others = set views id nothing
 
   change : (f : SpanView → ℕ) → total f others + f v ≡ total f views + f nothing
@@ -149,7 +149,7 @@ module _ (all : ℕ) (views : List SpanView) (id : ℕ) (v : SpanView) (tally : 
   opened_none (suc d) (suc x) runs opened h n = opened_none d x runs opened h n
 
   no_opened : (d : ℕ) → total (runs_at d) others ≡ 0 → total (opened_at d) others ≡ 0
-  no_opened d none = counts_none (opened_at d) others (λ i u there. opened_none d u.depth u.runs u.opened (λ h. omega (arith, (backed i u there).by_run h)) (none_counts (runs_at d) others none i u there))
+  no_opened d empty = counts_none (opened_at d) others (λ i u there. opened_none d u.depth u.runs u.opened (λ h. omega (arith, (backed i u there).by_run h)) (none_counts (runs_at d) others empty i u there))
 
   outermost : at 0 v.depth v.runs ≡ 1
   outermost = ap (λ x. at 0 x v.runs) tally.depth ∙ tally.run
@@ -167,8 +167,8 @@ module _ (all : ℕ) (views : List SpanView) (id : ℕ) (v : SpanView) (tally : 
 
   no_told : v.tellers ≡ all → total told_of others ≡ 0
   no_told is =
-      let none : total tellers_of others ≡ 0 = omega (arith, change tellers_of, kept.all_tellers) in
-      counts_none told_of others (λ i u there. (backed i u there).by_teller (none_counts tellers_of others none i u there))
+      let no_tellers : total tellers_of others ≡ 0 = omega (arith, change tellers_of, kept.all_tellers) in
+      counts_none told_of others (λ i u there. (backed i u there).by_teller (none_counts tellers_of others no_tellers i u there))
 
   -- with all tellers, it noted what they told
   even : v.tellers ≡ all → v.told ≡ v.noted

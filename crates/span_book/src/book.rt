@@ -1,6 +1,5 @@
 // Books, tellers, and the spans of runs.
 ghost use Rattle.std.specs.Prelude.{◌≡◌, ◌+◌, ◌-◌, ◌≤◌, [], IfOk};
-ghost use Rattle.span_book.specs.SpanBooks.{all_tellers, name_of, no_spans, spans_state, tally_state, teller_state};
 ghost use Rattle.span_book.specs.declared.book.TheConstants.{WORDS};
 
 use crate::view::{Agrees, Amount, Comes, ComesBack, Deals, Goes, Notes, Opens, Settles, SpanView};
@@ -82,6 +81,8 @@ impl Model for Tally {
 }
 
 impl Tally {
+    ghost use Rattle.span_book.specs.SpanBooks.{spans_state};
+
     /// The outermost run begins, or goes on, once all tellers are dealt.
     pub fn begin(self) -> RunSpans
         requires none { (self.tellers ≡ 0) × (self.told ≡ 0) }
@@ -93,6 +94,8 @@ impl Tally {
 }
 
 impl RunSpans {
+    ghost use Rattle.span_book.specs.SpanBooks.{tally_state};
+
     /// The outermost run is over, which has back what was opened in it.
     pub fn end(self) -> Tally
         requires depth { self.depth ≡ 0 }
@@ -105,6 +108,7 @@ impl RunSpans {
 }
 
 impl SpanBook {
+    ghost use Rattle.span_book.specs.SpanBooks.{all_tellers, name_of, no_spans, spans_state, tally_state, teller_state};
     ghost use Rattle.span_book.specs.inside.SpanViews.{IsSettled, IsTally, MayComeBack, nothing, one_teller, only_tellers, opened_inside, with_back, with_noted, with_opened, with_teller, without_one, without_tellers};
 
     /// A book with so many tellers, which are still to be dealt.

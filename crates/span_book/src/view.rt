@@ -1,4 +1,6 @@
 // What the seats of a book know, its rule, and what its steps tell.
+ghost use Rattle.std.specs.Prelude.{ℕ};
+
 use atomic_table::{Join, Play, Split, TableRule};
 use std::marker::{Brand, PhantomData};
 

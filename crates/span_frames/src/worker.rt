@@ -15,12 +15,13 @@ use std::sync::{Arc, Wait};
 /// Who steps turns, and tells each span that it ends.
 #[derive(Drop)]
 pub struct Worker {
-    pub(crate) teller: Teller,
+    pub teller: Teller,
     /// The tasks of the spans that it told.
     pub told: Vec<u32>,
-    // Those that it hasn't brought yet, and a run that it closed and hasn't brought to the frame around it.
-    pub(crate) ends: Vec<u32>,
-    pub(crate) inner: Option<ClosedRun>,
+    /// Those that it hasn't brought yet.
+    pub ends: Vec<u32>,
+    /// A run that it closed and hasn't brought to the frame around it.
+    pub inner: Option<ClosedRun>,
     ghost tells: { length told.items ≡ teller.told + length ends.items },
 }
 
@@ -68,6 +69,7 @@ impl Worker {
     pub fn bring<R: Wait>(&mut self, rt: &R, frame: &Arc<Frame>) -> Result<Over, NoMemory>
         requires { MayBring (arc_value frame.now) self.old }
         ensures told { self.new.told ≡ self.old.told }
+        ensures teller { self.new.teller.book ≡ self.old.teller.book }
         ensures brought { IfOk result (IsBrought (arc_value frame.now) self.new) }
     {
         let Held {
@@ -106,7 +108,9 @@ impl Worker {
             back,
         } = locked;
         let count = self.ends.len() as u64;
-        ends.append(&mut self.ends)?;
+        if ends.append(&mut self.ends).is_err() {
+            return Err(NoMemory);
+        }
         book.note(&mut spans, &mut self.teller, count);
         let live = live.saturating_sub(count);
         let Some(inner) = self.inner.take() else {
@@ -122,7 +126,9 @@ impl Worker {
             spans: inside,
             ends: mut more,
         } = inner;
-        ends.append(&mut more)?;
+        if ends.append(&mut more).is_err() {
+            return Err(NoMemory);
+        }
         book.take_back(&mut spans, inside);
         Ok(Locked {
             spans,
