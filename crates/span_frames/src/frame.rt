@@ -2,7 +2,7 @@
 ghost use Rattle.std.specs.Prelude.{◌≡◌, ◌+◌, ◌<◌, length, min, IfOk, IfSome, IsTrue, Some};
 ghost use Rattle.std.specs.Arc.{arc_value};
 ghost use Rattle.span_book.specs.SpanBooks.{name_of, no_spans, tally_state};
-ghost use Rattle.span_frames.specs.Frames.{depth_in, frame_state, key_of};
+ghost use Rattle.span_frames.specs.Frames.{depth_in, frame_state};
 
 use crate::closed::ClosedRun;
 use keyed_lock::{Held, Keyed, KeyedLock};
@@ -27,7 +27,8 @@ pub struct Locked {
 }
 
 impl Keyed for Locked {
-    ghost use Rattle.span_frames.specs.Frames.{FrameState, key_of};
+    ghost use Rattle.span_frames.specs.Frames.{FrameState};
+    ghost use Rattle.span_frames.specs.Locks.{key_of};
 
     ghost Key = { FrameState };
 
@@ -49,7 +50,8 @@ impl Model for Frame {
     ghost use Rattle.std.specs.Arc.{arc_value};
     ghost use Rattle.keyed_lock.specs.Locks.{made_with};
     ghost use Rattle.span_book.specs.SpanBooks.{name_of};
-    ghost use Rattle.span_frames.specs.Frames.{FrameState, depth_in, frame_state, key_of};
+    ghost use Rattle.span_frames.specs.Frames.{FrameState, depth_in, frame_state};
+    ghost use Rattle.span_frames.specs.Locks.{key_of};
 
     ghost Value = { FrameState };
 
@@ -58,6 +60,8 @@ impl Model for Frame {
     ghost invariant = { λ f. (key_of (made_with f.lock)
         ≡ frame_state (name_of (arc_value f.book)) (depth_in f.parent))
         × IfSome f.parent (λ parent. (arc_value parent).book ≡ name_of (arc_value f.book)) };
+
+    ghost size = { λ frame. frame.depth };
 }
 
 impl Locked {

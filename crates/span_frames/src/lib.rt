@@ -7,9 +7,11 @@
 #![tactic(auto)]
 
 mod closed;
+mod example;
 mod frame;
 mod worker;
 
 pub use closed::ClosedRun;
+pub use example::two_levels;
 pub use frame::Frame;
 pub use worker::{Finished, Over, Worker, finish};

@@ -2,7 +2,6 @@
 ghost use Rattle.std.specs.Prelude.{◌≡◌, ◌+◌, ◌++◌, ◌∷◌, [], length, IfOk, IfSome, None, OnOk, OnErr, Some};
 ghost use Rattle.std.specs.Arc.{arc_value};
 ghost use Rattle.span_book.specs.SpanBooks.{all_tellers, name_of};
-ghost use Rattle.span_frames.specs.Frames.{FrameState, MayBring, IsInside, IsBrought, key_of};
 
 use crate::closed::ClosedRun;
 use crate::frame::{Frame, Locked};
@@ -37,6 +36,9 @@ pub enum Over {
 }
 
 impl Worker {
+    ghost use Rattle.span_frames.specs.Locks.{key_of};
+    ghost use Rattle.span_frames.specs.Workers.{IsBrought, IsInside, MayBring};
+
     /// A worker that has done nothing.
     pub fn new(alloc: Global, teller: Teller) -> Worker
         requires { teller.told ≡ 0 }
