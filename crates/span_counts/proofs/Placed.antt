@@ -2,6 +2,7 @@
 use Rattle.std.proofs.Common.{◌≡◌, ℕ, zero, suc, ◌+◌, ◌<◌, Bool, true, false, cond, List, [], ◌∷◌, length, Option, Some, None, refl, sym, ap, ◌∙◌, arith}
 use Rattle.std.specs.Prelude.{count_by, slice_get, ◌==◌}
 use Rattle.std.specs.List.{AllByRecursion}
+use Rattle.std.proofs.lemmas.Bool.Decides.{nat_tests}
 use Rattle.std.proofs.lemmas.List.Sums.{sum_by-cons}
 use Rattle.journal_rules.specs.declared.entry.Entry.{Entry}
 use Rattle.join_tables.specs.Keeping.{Merges}
@@ -49,6 +50,15 @@ each_once w (x ∷ xs) once =
     let count : count_by is_span (x ∷ xs) ≡ one (is_span x) + count_by is_span xs = sum_by-cons (λ y. one (is_span y)) x xs in
     omega arith
 
+apart : (m : ℕ) → (0 == suc m) ≡ false
+apart m = grind (arith, nat_tests)
+
+also_apart : (m : ℕ) → (suc m == 0) ≡ false
+also_apart m = grind (arith, nat_tests)
+
+one_less : (p m : ℕ) → (suc p == suc m) ≡ (p == m)
+one_less p m = grind (arith, nat_tests)
+
 -- one place counts once more
 once_more : (w : ℕ → ℕ) (journal : List Entry) (p : ℕ) (x : Entry) → slice_get journal p ≡ Some x → weighted (λ m. one (p == m) + w m) journal ≡ one (is_span x) + weighted w journal
 once_more w [] p x e = absurd (cc)
@@ -56,9 +66,13 @@ once_more w (y ∷ ys) zero x e =
     let is : y ≡ x = cc in
     let same : one (is_span y) ≡ one (is_span x) = ap (λ z. one (is_span z)) is in
     let mine : times (is_span y) (1 + w 0) ≡ times (is_span y) 1 + times (is_span y) (w 0) = times_sum (is_span y) 1 (w 0) in
-    let others : weighted (λ m. one (0 == suc m) + w (suc m)) ys ≡ weighted (λ m. w (suc m)) ys = same_weights (λ m. one (0 == suc m) + w (suc m)) (λ m. w (suc m)) ys (λ m. refl) in
+    let others : weighted (λ m. one (0 == suc m) + w (suc m)) ys ≡ weighted (λ m. w (suc m)) ys = same_weights (λ m. one (0 == suc m) + w (suc m)) (λ m. w (suc m)) ys (λ m. omega (arith, ap one (apart m))) in
     omega (arith, times_one (is_span y))
-once_more w (y ∷ ys) (suc p) x e = omega (arith, once_more (λ m. w (suc m)) ys p x e)
+once_more w (y ∷ ys) (suc p) x e =
+    let mine : times (is_span y) (one (suc p == 0) + w 0) ≡ times (is_span y) (one (suc p == 0)) + times (is_span y) (w 0) = times_sum (is_span y) (one (suc p == 0)) (w 0) in
+    let nothing : times (is_span y) (one (suc p == 0)) ≡ 0 = ap (λ b. times (is_span y) (one b)) (also_apart p) ∙ times_none (is_span y) in
+    let others : weighted (λ m. one (suc p == suc m) + w (suc m)) ys ≡ weighted (λ m. one (p == m) + w (suc m)) ys = same_weights (λ m. one (suc p == suc m) + w (suc m)) (λ m. one (p == m) + w (suc m)) ys (λ m. ap (λ b. one b + w (suc m)) (one_less p m)) in
+    omega (arith, once_more (λ m. w (suc m)) ys p x e)
 
 counted : (entries : List Recorded) (journal : List Entry) → AllByRecursion (λ (r : Recorded). slice_get journal r.place ≡ Some r.entry) entries
     → weighted (λ m. count_by (λ (r : Recorded). r.place == m) entries) journal ≡ count_by ends_span entries

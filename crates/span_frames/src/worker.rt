@@ -74,22 +74,7 @@ impl Worker {
         ensures teller { self.new.teller.book ≡ self.old.teller.book }
         ensures brought { IfOk result (IsBrought (arc_value frame.now) self.new) }
     {
-        let Held {
-            value: locked,
-            pass,
-        } = frame.lock.take(rt);
-        let value = self.give(&frame.book, locked)?;
-        if !value.is_over() {
-            frame.lock.put(Held { value, pass });
-            return Ok(Over::No);
-        }
-        let closed = value.into_closed();
-        let Some(parent) = &frame.parent else {
-            return Ok(Over::Alone(closed));
-        };
-        let parent = Arc::try_clone(parent)?;
-        self.inner = Some(closed);
-        Ok(Over::Inside(parent))
+        frame.keep(rt, self)
     }
 
     // Gives what it kept back to what is under a frame's lock.
@@ -139,6 +124,36 @@ impl Worker {
             opened,
             back: back.saturating_add(1),
         })
+    }
+}
+
+impl Frame {
+    ghost use Rattle.span_frames.specs.Workers.{IsBrought, MayBring};
+
+    // Takes in what a worker kept back. With the last of it the lock is left without a value: nobody has a turn by which
+    // to take it.
+    fn keep<R: Wait>(&self, rt: &R, worker: &mut Worker) -> Result<Over, NoMemory>
+        requires { MayBring self.now worker.old }
+        ensures told { worker.new.told ≡ worker.old.told }
+        ensures teller { worker.new.teller.book ≡ worker.old.teller.book }
+        ensures brought { IfOk result (IsBrought self.now worker.new) }
+    {
+        let Held {
+            value: locked,
+            pass,
+        } = self.lock.take(rt);
+        let value = worker.give(&self.book, locked)?;
+        if !value.is_over() {
+            self.lock.put(Held { value, pass });
+            return Ok(Over::No);
+        }
+        let closed = value.into_closed();
+        let Some(parent) = &self.parent else {
+            return Ok(Over::Alone(closed));
+        };
+        let parent = Arc::try_clone(parent)?;
+        worker.inner = Some(closed);
+        Ok(Over::Inside(parent))
     }
 }
 
