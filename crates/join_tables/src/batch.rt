@@ -118,7 +118,9 @@ impl<V: Drop> NetTable<V> {
         ensures ok { OnOk result (batch.new ≡ batch_state (Some self.now.table)
             (batch.old.fates ++ more.old.fates) batch.new.room) }
         ensures taken { OnOk result (more.new ≡ batch_state None [] more.old.room) }
-        ensures err { OnErr result ((batch.new ≡ batch.old) × (more.new ≡ more.old)) }
+        ensures err { OnErr result
+            (batch.new ≡ batch_state batch.old.table batch.old.fates batch.new.room) }
+        ensures err_more { OnErr result (more.new ≡ more.old) }
     {
         if batch.fates.append(&mut more.fates).is_err() {
             return Err(NoMemory);
