@@ -1,3 +1,4 @@
 pub mod Frames
 pub mod Locks
+pub mod TakingIn
 pub mod Workers

@@ -1,5 +1,5 @@
 // Frames, and what is under their locks.
-ghost use Rattle.std.specs.Prelude.{◌≡◌, ◌+◌, ◌<◌, length, min, IfOk, IfSome, IsTrue, Some};
+ghost use Rattle.std.specs.Prelude.{◌≡◌, ◌+◌, ◌<◌, length, min, IfOk, IfSome, IsFalse, Some};
 ghost use Rattle.std.specs.Arc.{arc_value};
 ghost use Rattle.span_book.specs.SpanBooks.{name_of, no_spans, tally_state};
 ghost use Rattle.span_frames.specs.Frames.{depth_in, frame_state};
@@ -12,16 +12,17 @@ use std::alloc::Global;
 use std::marker::Model;
 use std::sync::{Arc, Wait};
 
-/// What is under the lock of a frame: the spans that were brought, how many turns are live, and how many runs were opened
-/// inside it and came back, each up to the greatest `u64`.
+/// What is under the lock of a frame: the spans that were taken in, those that are laid aside while a run inside it is
+/// open, how many turns are live, and how many runs were opened inside it and came back, each up to the greatest `u64`.
 #[derive(Drop)]
 pub struct Locked {
     pub(crate) spans: RunSpans,
     pub(crate) ends: Vec<u32>,
+    pub(crate) aside: Vec<u32>,
     pub(crate) live: u64,
     pub(crate) opened: u64,
     pub(crate) back: u64,
-    ghost noted: { spans.noted ≡ length ends.items },
+    ghost noted: { spans.noted ≡ length ends.items + length aside.items },
     ghost opens: { opened ≡ min spans.opened 18446744073709551615 },
     ghost backs: { back ≡ min spans.back 18446744073709551615 },
 }
@@ -64,28 +65,56 @@ impl Model for Frame {
     ghost size = { λ frame. frame.depth };
 }
 
+/// What comes of the taking in of what was laid aside.
+#[derive(Drop)]
+pub enum TakenIn {
+    /// The run goes on.
+    Goes(Locked),
+    /// It is over.
+    Over(ClosedRun),
+}
+
 impl Locked {
-    /// Whether all turns are done, and all runs back that were opened.
-    pub fn is_over(&self) -> bool
-        ensures { IsTrue result → (self.now.opened ≡ self.now.back)
+    ghost use Rattle.span_frames.specs.TakingIn.{IsTakenIn};
+
+    // Whether a run is open inside it.
+    fn has_run_inside(&self) -> bool
+        ensures { IsFalse result → (self.now.opened ≡ self.now.back)
             × (self.now.opened < 18446744073709551615) }
     {
-        self.live == 0 && self.opened == self.back && self.opened < u64::MAX
+        self.opened != self.back || self.opened == u64::MAX
     }
 
-    /// The run, which is over.
-    pub fn into_closed(self) -> ClosedRun
-        requires { (self.opened ≡ self.back) × (self.opened < 18446744073709551615) }
-        ensures { result.spans ≡ self.spans }
+    /// Takes in what was laid aside, unless a run is open inside.
+    pub fn take_in(self) -> Result<TakenIn, NoMemory>
+        ensures { IfOk result (IsTakenIn self) }
     {
+        if self.has_run_inside() {
+            return Ok(TakenIn::Goes(self));
+        }
         let Locked {
             spans,
-            ends,
-            live: _,
-            opened: _,
-            back: _,
+            mut ends,
+            mut aside,
+            live,
+            opened,
+            back,
         } = self;
-        ClosedRun { spans, ends }
+        let live = live.saturating_sub(aside.len() as u64);
+        if ends.append(&mut aside).is_err() {
+            return Err(NoMemory);
+        }
+        if live == 0 {
+            return Ok(TakenIn::Over(ClosedRun { spans, ends }));
+        }
+        Ok(TakenIn::Goes(Locked {
+            spans,
+            ends,
+            aside,
+            live,
+            opened,
+            back,
+        }))
     }
 }
 
@@ -132,6 +161,7 @@ impl Frame {
         let Locked {
             mut spans,
             ends,
+            aside,
             live,
             opened,
             back,
@@ -140,6 +170,7 @@ impl Frame {
         let value = Locked {
             spans,
             ends,
+            aside,
             live,
             opened: opened.saturating_add(1),
             back,
@@ -164,6 +195,7 @@ impl Frame {
         let locked = Locked {
             spans,
             ends: Vec::new(alloc),
+            aside: Vec::new(alloc),
             live,
             opened: 0,
             back: 0,

@@ -4,7 +4,7 @@ ghost use Rattle.std.specs.Arc.{arc_value};
 ghost use Rattle.span_book.specs.SpanBooks.{all_tellers, name_of};
 
 use crate::closed::ClosedRun;
-use crate::frame::{Frame, Locked};
+use crate::frame::{Frame, Locked, TakenIn};
 use keyed_lock::Held;
 use outside_io::NoMemory;
 use span_book::{SpanBook, Teller};
@@ -90,20 +90,21 @@ impl Worker {
         let Locked {
             mut spans,
             mut ends,
+            mut aside,
             live,
             opened,
             back,
         } = locked;
         let count = self.ends.len() as u64;
-        if ends.append(&mut self.ends).is_err() {
+        if aside.append(&mut self.ends).is_err() {
             return Err(NoMemory);
         }
         book.note(&mut spans, &mut self.teller, count);
-        let live = live.saturating_sub(count);
         let Some(inner) = self.inner.take() else {
             return Ok(Locked {
                 spans,
                 ends,
+                aside,
                 live,
                 opened,
                 back,
@@ -120,6 +121,7 @@ impl Worker {
         Ok(Locked {
             spans,
             ends,
+            aside,
             live,
             opened,
             back: back.saturating_add(1),
@@ -142,12 +144,13 @@ impl Frame {
             value: locked,
             pass,
         } = self.lock.take(rt);
-        let value = worker.give(&self.book, locked)?;
-        if !value.is_over() {
-            self.lock.put(Held { value, pass });
-            return Ok(Over::No);
-        }
-        let closed = value.into_closed();
+        let closed = match worker.give(&self.book, locked)?.take_in()? {
+            TakenIn::Goes(value) => {
+                self.lock.put(Held { value, pass });
+                return Ok(Over::No);
+            }
+            TakenIn::Over(closed) => closed,
+        };
         let Some(parent) = &self.parent else {
             return Ok(Over::Alone(closed));
         };

@@ -12,3 +12,4 @@ pub mod Settling
 pub mod Opening
 pub mod Closing
 pub mod Crossing
+mod Placed

@@ -78,10 +78,11 @@ backlog_view frames fates = record { frames = frames; fates = fates }
 abbrev pub MayTake : {J V : Type 0} → BacklogView J V → List (FrameKey J) → Type 0
 MayTake backlog frames = (backlog.frames ≡ []) ⊎ (backlog.frames ≡ frames)
 
--- what is under a frame's lock
+-- the keeper of a run, with its job and the spans of the runs inside it that it took in
 pub record RunKeeperView (J V : Type 0) : Type 0 where
   pub job : J
   pub keeper : KeeperState V
+  pub inside : ℕ
 
 abbrev pub key_of : {J V : Type 0} → RunKeeperView J V → FrameKey J
 key_of kept = record { table = kept.keeper.table; job = kept.job }

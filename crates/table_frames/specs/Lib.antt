@@ -6,3 +6,4 @@ pub mod JournalFacts
 pub mod Steps
 pub mod BacklogResults
 pub mod inside
+pub mod Spans

@@ -1,5 +1,7 @@
 // What has the keeper of a run.
-ghost use Rattle.std.specs.Prelude.{◌≡◌, ◌+◌, ◌≤◌, ◌++◌, [], IfOk, IsPermutation, OnOk, OnErr, Some};
+ghost use Rattle.std.specs.Prelude.{◌≡◌, ◌+◌, ◌≤◌, ◌++◌, [], IfOk, IsPermutation, OnOk, OnErr, Some, map, sum};
+ghost use Rattle.nested_runs.specs.Totals.{all_spans, spans_of_row};
+ghost use Rattle.table_frames.specs.Spans.{spans_in};
 ghost use Rattle.std.specs.Vec.{vec_capacity, vec_len};
 ghost use Rattle.std.specs.List.Sorted.{IsNonDecreasingBy};
 ghost use Rattle.std.specs.Arc.{arc_value};
@@ -50,10 +52,16 @@ impl<J: Job> Model for RunKeeper<J> {
 
     ghost Value = { RunKeeperView J J.V };
 
+    ghost use Rattle.std.specs.Prelude.{map, sum};
     ghost use Rattle.std.specs.Arc.{arc_value};
+    ghost use Rattle.nested_runs.specs.Totals.{spans_of_row};
     ghost use Rattle.table_frames.specs.inside.FateRuns.{AreAllowed};
 
-    ghost view = { λ kept. record { job = arc_value kept.job; keeper = kept.keeper } };
+    ghost view = { λ kept. record {
+      job = arc_value kept.job;
+      keeper = kept.keeper;
+      inside = sum (map spans_of_row kept.inner.items);
+    } };
 
     ghost invariant = { λ kept. AreAllowed J.meaning (arc_value kept.job) kept.keeper.fates
         kept.inner.items };
@@ -74,6 +82,7 @@ impl<J: Job + Drop> RunKeeper<J> {
         requires { keeper.fates ≡ [] }
         ensures job { result.job ≡ arc_value job }
         ensures keeper { result.keeper ≡ keeper }
+        ensures inside { result.inside ≡ 0 }
     {
         RunKeeper {
             alloc,
@@ -96,6 +105,8 @@ impl<J: Job + Drop> RunKeeper<J> {
         ensures same { key_of self.new ≡ key_of self.old }
         ensures fates { OnOk result
             (self.new.keeper.fates ≡ self.old.keeper.fates ++ done.old.batch.fates) }
+        ensures inside { OnOk result (self.new.inside
+            ≡ self.old.inside + sum (map spans_of_row done.old.inner.items)) }
         ensures taken { OnOk result (IsNoTurn done.new) }
         ensures found { IfOk result
             (λ left. FindsOne (λ n. LeavesOf n left) self.old.keeper.found self.new.keeper.found) }
@@ -123,6 +134,8 @@ impl<J: Job + Drop> RunKeeper<J> {
         ensures kept { IfOk result (IsKept J.meaning) }
         ensures job { IfOk result (λ run. job_of run ≡ self.job) }
         ensures entries { IfOk result (λ run. HasEntries run self.keeper.fates) }
+        ensures spans { IfOk result (λ run. all_spans run
+            ≡ spans_in self.keeper.fates + self.inside) }
     {
         let RunKeeper {
             alloc,
