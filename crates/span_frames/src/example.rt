@@ -10,6 +10,7 @@ use outside_io::NoMemory;
 use span_book::SpanBook;
 use std::alloc::Global;
 use std::sync::{Arc, Wait};
+use std::test::Fail;
 
 // A run that has begun, with its two workers.
 #[derive(Drop)]
@@ -69,4 +70,12 @@ pub fn two_levels<R: Wait>(rt: &R, alloc: Global) -> Result<Finished, NoMemory>
         Over::Alone(run) => Ok(finish(&book, first, second, run)),
         _ => Err(NoMemory),
     }
+}
+
+#[test]
+fn two_workers_tell_four_spans(rt: HostRuntime) -> Result<(), Fail> {
+    let finished = two_levels(&rt, rt.alloc())?;
+    assert_eq!(rt; finished.run.len(), 4);
+    assert_eq!(rt; finished.first.len(), 2);
+    Ok(())
 }
