@@ -86,6 +86,10 @@ def read_slowly(text):
 
 # ---- a slow judge
 
+# What an operation makes of its task; the others make a plain task.
+SHAPES = {"back": "choice", "ifmore": "choice", "ifhas": "choice", "route": "many", "spread": "nested", "module": "nested"}
+
+
 class Net:
     """The tasks, edges and semaphores of a graph file; conditions have weak edges out of them. No edge begins with a token."""
 
@@ -100,7 +104,7 @@ class Net:
         self.tokens = [0] * len(self.edges)
 
     def shape(self, task):
-        return {"back": "choice", "ifmore": "choice", "ifhas": "choice", "route": "many"}.get(self.ops[task], "plain")
+        return SHAPES.get(self.ops[task], "plain")
 
     def is_weak(self, edge):
         return self.shape(self.edges[edge][0]) in ("choice", "many")
