@@ -1,6 +1,7 @@
 pub mod WorkedSinks
 pub mod WorkedBuilder
 pub mod WorkedSteps
+pub mod WorkedRuns
 pub mod WorkedFrames
 pub mod WorkedSources
 pub mod WorkedRows

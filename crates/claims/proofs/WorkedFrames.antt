@@ -50,12 +50,14 @@ use Rattle.run_frame.specs.LastEnds.{last_before, last_value}
 use Rattle.run_frame.specs.WorkRule.{WorkRule, gives_of}
 use Rattle.run_frame.specs.NestedRule.{NestedRule, job_of, journal_of}
 use Rattle.run_frame.specs.Legal.{IsKept}
-use Rattle.table_frames.specs.AllowedFates.{IsAllowed, work_with}
-use Rattle.table_frames.specs.Frames.{FrameKey, ReleaseView, BacklogView, release_in, root_frame, root_job, depth_of, frames_around, IsInnermost, AtFrame, HasTable, backlog_view, MayTake, key_of, table_in}
+use Rattle.table_runs.specs.AllowedFates.{IsAllowed, work_with}
+use Rattle.table_runs.specs.RunKeys.{FrameKey, key_of, table_in}
+use Rattle.table_frames.specs.Frames.{ReleaseView, BacklogView, release_in, root_frame, root_job, depth_of, frames_around, IsInnermost, AtFrame, HasTable, backlog_view, MayTake}
 use Rattle.table_frames.specs.Holders.{HoldsRelease}
-use Rattle.table_frames.specs.StepReleases.{IsFateOf, given_by, release_of, AreMadeBy, GivesEdges, MayRelease, Uses}
-use Rattle.table_frames.specs.JournalFacts.{IsInJournal, HasEntries}
-use Rattle.table_frames.specs.Steps.{IsRootRun, IsStateOf, IsClosed, BeginsFrame, units_of, HasNoFirst, IsOverAtOnce, UsesRelease, UsesAtOnce, ParksRelease, OpensInner, StepsTo, StepsRelease}
+use Rattle.table_runs.specs.StepReleases.{IsFateOf, given_by, release_of, AreMadeBy, GivesEdges, MayRelease, Uses}
+use Rattle.table_runs.specs.JournalFacts.{IsInJournal, HasEntries}
+use Rattle.table_frames.specs.Steps.{IsRootRun, IsStateOf, IsClosed, BeginsFrame, units_of, UsesRelease, UsesAtOnce, ParksRelease, OpensInner, StepsTo, StepsRelease}
+use Rattle.table_runs.specs.Openings.{HasNoFirst, IsOverAtOnce}
 use Rattle.table_frames.specs.BacklogResults.{TakesIn, MayTakeIn, ResumesStart, ClosesRun, IsFrameOf, BringsTo, IsOver, BringsFates, IsLeftOf, DropsParked, SettlesFrame}
 use Rattle.table_frames.specs.declared.release.HeldBy.TheVariants as held
 use Rattle.table_frames.specs.declared.step_results.Brought.{Brought}

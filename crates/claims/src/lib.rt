@@ -12,6 +12,7 @@
 //! - `WorkedMachine`, `WorkedSteps`: what waits, what a machine's steps do, the break of each rule, the verdict;
 //! - `WorkedFrames`, `WorkedRows`: what a job's works may come to, where its inner runs are, and what the beginning and the
 //!   steps of a frame come to;
+//! - `WorkedRuns`: how a run over a table begins, what a release comes to there, and which turns are done;
 //! - `WorkedSeats`: which lock, register or list a pass, a book, a ticket or an owner is of;
 //! - `WorkedYards`: what is parked in a yard, before and after one list changed, and which yard a pass is of;
 //! - `WorkedSlots`: in which order the parcels of a slot are taken, and what a seat that took a slot gives back;

@@ -1,13 +1,14 @@
 -- A run that is over, and the start whose work it was.
-use Rattle.std.proofs.Common.{◌≡◌, List, [], ◌∷◌, ◌++◌, Option, Some, None, refl, sym, ap, ◌∙◌, subst}
+use Rattle.std.proofs.Common.{◌≡◌, ℕ, List, [], ◌∷◌, ◌++◌, Option, Some, None, refl, sym, ap, ◌∙◌, subst}
 use Rattle.std.specs.Prelude.{◌↔◌, IfSome, slice_get}
 use Rattle.std.specs.Arc.{arc_value}
 use Rattle.std.specs.Global.{Vec}
+use Rattle.std.specs.List.{AllByRecursion}
 use Rattle.std.specs.Option.{option_map}
 use Rattle.atomic_table.specs.Seated.{TableId}
 use Rattle.join_tables.specs.Findings.{FindsOne}
 use Rattle.join_tables.specs.Rests.{IsOfTable}
-use Rattle.join_tables.specs.Keeping.{KeeperState, LeavesOf}
+use Rattle.join_tables.specs.Keeping.{KeeperState, LeavesOf, entries_of, entries_told}
 use Rattle.join_tables.specs.declared.fates.Fate.{Fate}
 use Rattle.join_tables.specs.declared.keeper.Recorded.{Recorded}
 use Rattle.join_tables.specs.declared.keeper.Remaining.TheVariants.{More, All as AllTaken}
@@ -16,21 +17,30 @@ use Rattle.run_frame.specs.Meaning.{Meaning}
 use Rattle.run_frame.specs.NestedRule.{job_of, journal_of}
 use Rattle.run_frame.specs.declared.run.FrameRun.{FrameRun}
 use Rattle.table_frames.specs.BacklogResults.{BringsFates, MayTakeIn, ResumesStart, TakesIn}
-use Rattle.table_frames.specs.Frames.{AtFrame, BacklogView, FrameKey, HasTable, ReleaseView, RunKeeperView, backlog_view, key_of, release_in}
-use Rattle.table_frames.specs.JournalFacts.{HasEntries}
+use Rattle.table_frames.specs.Frames.{AtFrame, BacklogView, HasTable, ReleaseView, backlog_view, release_in}
+use Rattle.table_runs.specs.RunKeys.{FrameKey, RunKeeperView, key_of}
+use Rattle.table_runs.specs.JournalFacts.{HasEntries}
 use Rattle.table_frames.specs.inside.AttemptEnds.{HandsOn}
-use Rattle.table_frames.specs.inside.Attempts.{release_tried}
-use Rattle.table_frames.specs.inside.OpenStarts.{IsLockedAt, IsStartOf, LockKey, LockedRunView, OpenStartView, first_frame, frame_of, lock_key_in, lock_key_of, locked_run}
+use Rattle.table_runs.specs.Attempts.{release_tried}
+use Rattle.table_frames.specs.inside.LockedRuns.{IsLockedAt, LockKey, LockedRunView, first_frame, frame_of, lock_key_in, lock_key_of, locked_run}
+use Rattle.table_runs.specs.OpenStarts.{IsStartOf, OpenStartView}
 use Rattle.table_frames.specs.inside.Overs.{IsEnd, IsInnerRunOf, IsOverOf, KeepsFates, Resumes}
-use Rattle.table_frames.specs.declared.attempt.Attempt.{Attempt}
+use Rattle.table_runs.specs.declared.attempt.Attempt.{Attempt}
 use Rattle.table_frames.specs.declared.over.InnerOver.{InnerOver}
 use Rattle.table_frames.specs.declared.over.Kept.{Kept}
 use Rattle.table_frames.specs.declared.over.Over.{Over}
 use Rattle.table_frames.specs.declared.over.Over.TheVariants.{No, Alone, Inside}
 use Rattle.table_frames.specs.declared.step_results.State.TheVariants.{Resumed}
 use Rattle.table_frames.proofs.Concluding.{used_up}
-use Rattle.table_frames.proofs.Entries.{of_later}
-use Rattle.table_frames.proofs.Keeping.{finds_so}
+
+all_behind : {X : Type 0} (P : X → Type 0) (xs ys : List X) → AllByRecursion P (xs ++ ys) → AllByRecursion P ys
+all_behind P [] ys all = all
+all_behind P (x ∷ xs) ys all = all_behind P xs ys all.1
+
+-- what holds of the entries of fates holds of those of the later ones
+of_later : {V : Type 0} (P : Recorded → Type 0) (fates later : List (Fate V)) → AllByRecursion P (entries_told (fates ++ later)) → AllByRecursion P (entries_told later)
+of_later P [] later all = all
+of_later P (fate ∷ fates) later all = of_later P fates later (all_behind P (entries_of fate) (entries_told (fates ++ later)) all)
 
 later_entries : {J V : Type 0} (earlier later all : List (Fate V)) (run : FrameRun J V) → all ≡ earlier ++ later → HasEntries run all → HasEntries run later
 later_entries earlier later all run same entries = of_later (λ (r : Recorded). slice_get (journal_of run) r.place ≡ Some r.entry) earlier later (subst (λ (told : List (Fate _)). HasEntries run told) same entries)
@@ -64,6 +74,11 @@ same_start {J} meaning kept kept' start same is = subst (λ (j : J). IfSome star
 pub some_table : (n : TableId) (t : Option TableId) → IsOfTable n t → (t ≡ None → ⊥) → t ≡ Some n
 some_table n None is some = absurd (some refl)
 some_table n (Some m) is some = ap Some is
+
+-- of the number that was found
+finds_so : (p q : ℕ → Type 0) (before after : List ℕ) → ((n : ℕ) → p n → q n) → FindsOne p before after → FindsOne q before after
+finds_so p q before [] so finds = absurd finds
+finds_so p q before (n ∷ rest) so finds = (finds.0, so n finds.1)
 
 -- A keeper has taken in turns, of which the last one was live alone, or one of several.
 pub takes_last : {J V : Type 0} (frames : List (FrameKey J)) (fates : List (Fate V)) (over : Type 0) (old new : KeeperState V) → over → HasTable frames new.table → new.fates ≡ old.fates ++ fates → FindsOne (λ n. LeavesOf n AllTaken) old.found new.found → TakesIn frames fates over new

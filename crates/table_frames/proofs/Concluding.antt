@@ -15,39 +15,33 @@ use Rattle.semaphore_turns.specs.declared.parks.Parking.TheVariants.{Parked, Tak
 use Rattle.task_graph.specs.NetRows.{NetRows}
 use Rattle.atomic_table.specs.Seated.{TableId}
 use Rattle.join_tables.specs.States.{FreshState, RunningState, TableState, TurnState, fresh_state}
-use Rattle.join_tables.specs.declared.fates.Fate.{Fate}
 use Rattle.run_frame.specs.Meaning.{Meaning}
-use Rattle.table_frames.specs.Frames.{AtFrame, BacklogView, FrameKey, HasTable, ReleaseView, backlog_view, release_in, table_in}
-use Rattle.table_frames.specs.StepReleases.{GivesEdges, IsFateOf, MayRelease, Uses, given_by}
-use Rattle.table_frames.specs.Steps.{BeginsFrame, IsOverAtOnce, IsStateOf, StepsRelease, StepsTo, UsesRelease, units_of}
+use Rattle.table_frames.specs.Frames.{AtFrame, BacklogView, HasTable, ReleaseView, backlog_view, release_in}
+use Rattle.table_runs.specs.RunKeys.{FrameKey, table_in}
+use Rattle.table_runs.specs.StepReleases.{MayRelease, Uses}
+use Rattle.table_frames.specs.Steps.{BeginsFrame, IsStateOf, StepsRelease, StepsTo, UsesRelease, units_of}
+use Rattle.table_runs.specs.Openings.{IsOverAtOnce}
 use Rattle.join_words.specs.Ins.{found_of, parts_of}
 use Rattle.table_steps.specs.OneJournal.{AreInOneJournal}
 use Rattle.join_tables.specs.Keeping.{start_of, with_places}
 use Rattle.join_tables.specs.Parts.{parts_in}
 use Rattle.run_frame.specs.declared.job.Done.TheVariants.{Inner as InnerJob}
-use Rattle.table_frames.specs.inside.Openings.{OpensFrame, TriesAt}
-use Rattle.table_frames.specs.declared.attempt.InnerBegun.{InnerBegun}
-use Rattle.table_frames.specs.declared.attempt.Tried.TheVariants.{Inner as InnerTried}
-use Rattle.table_frames.specs.inside.Attempts.{IsAgain, TriesRelease, again_list, release_tried, units_due}
-use Rattle.table_frames.specs.inside.CollectedRelease.{IsTakenIn}
-use Rattle.table_frames.specs.declared.table_run.TakenUp.{TakenUp}
-use Rattle.table_frames.specs.inside.Begins.{Begins}
+use Rattle.table_frames.specs.inside.Openings.{OpensFrame}
+use Rattle.table_frames.specs.inside.TriedReleases.{TriesAt, TriesRelease, IsTakenIn}
+use Rattle.table_runs.specs.declared.attempt.InnerBegun.{InnerBegun}
+use Rattle.table_runs.specs.declared.attempt.Tried.TheVariants.{Inner as InnerTried}
+use Rattle.table_runs.specs.Attempts.{IsAgain, again_list, release_tried, units_due}
+use Rattle.table_runs.specs.declared.table_run.TakenUp.{TakenUp}
+use Rattle.table_runs.specs.Begins.{Begins}
 use Rattle.table_frames.specs.inside.AttemptEnds.{Concludes}
-use Rattle.table_frames.specs.declared.attempt.Attempt.{Attempt}
-use Rattle.table_frames.specs.declared.attempt.Outcome.{Outcome}
-use Rattle.table_frames.specs.declared.attempt.Outcome.TheVariants.{Ends, Faults, Drops}
+use Rattle.table_runs.specs.declared.attempt.Attempt.{Attempt}
+use Rattle.table_runs.specs.declared.attempt.Outcome.{Outcome}
+use Rattle.table_runs.specs.declared.attempt.Outcome.TheVariants.{Ends, Faults, Drops}
 use Rattle.table_frames.specs.declared.step_results.State.{State}
 use Rattle.table_frames.specs.declared.step_results.State.TheVariants.{Went, Parked as ParkedState, Inner as InnerState, Resumed as ResumedState, Closed as ClosedState}
 use Rattle.table_frames.specs.declared.step_results.Stepped.{Stepped}
-use Rattle.table_frames.specs.declared.table_run.Begun.{Begun}
+use Rattle.table_runs.specs.declared.table_run.Begun.{Begun}
 use Rattle.table_frames.proofs.Handing.{all_in}
-
--- first what the end gave, then perhaps the same task again
-pub concluded : {V : Type 0} (net : NetRows) (n : TableId) (outcome : Outcome V) (fate : Fate V) (before between after : List FreshState) → IsFateOf (release_tried n outcome).task (release_tried n outcome).cause fate → GivesEdges net n (given_by fate) before between
-    → MayRelease n (release_tried n outcome).task (release_tried n outcome).cause between after → Uses net (release_tried n outcome) fate before after
-concluded net n (Ends ending) fate before between after of gives again = record { of = of; makes = record { between = between; gives = gives; again = again } }
-concluded net n (Faults running why) fate before between after of gives again = record { of = of; makes = record { between = between; gives = gives; again = again } }
-concluded net n (Drops turn why) fate before between after of gives again = record { of = of; makes = record { between = between; gives = gives; again = again } }
 
 -- what waited for the units that an attempt gives back waited for units of its task
 due_listed : {V : Type 0} (test : ℕ → Bool) (net : NetRows) (n : TableId) (outcome : Outcome V) → list_any test (units_due net outcome) ≡ true → list_any test (units_of net (release_tried n outcome).task) ≡ true

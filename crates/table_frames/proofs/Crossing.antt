@@ -10,27 +10,23 @@ use Rattle.atomic_table.proofs.shared.Seat.TheSendSync as seat
 use Rattle.atomic_table.proofs.shared.Shared.TheSendSync as shared
 use Rattle.atomic_table.proofs.send_lease.SendLease.TheSendSync as lease
 use Rattle.boxcar.proofs.tag.Tag.TheSendSync as tag
-use Rattle.run_frame.proofs.run.FrameRun.TheLaws.TheKnot as run_knot
-use Rattle.run_frame.specs.contracts.run.InnerRow as inner_row
 use Rattle.run_frame.specs.declared.job.Job as Job
 use Rattle.run_frame.specs.declared.job.Valued as Valued
 use Rattle.join_tables.proofs.Crossing as turns
 use Rattle.join_tables.specs.contracts.turns.Fresh as fresh
 use Rattle.join_tables.specs.contracts.turns.NetTable as table
-use Rattle.join_tables.specs.contracts.turns.Running as running
-use Rattle.join_tables.specs.contracts.batch.SpentBatch as batch
-use Rattle.join_tables.specs.contracts.keeper.Keeper as keeper
 use Rattle.semaphore_park.proofs.Crossing as yards
 use Rattle.semaphore_park.specs.contracts.yard.ParkYard as yard
 use Rattle.semaphore_turns.proofs.Crossing as units
 use Rattle.semaphore_turns.specs.contracts.parked_turn.ParkedTurn as parked_turn
 use Rattle.semaphore_turns.specs.contracts.parked_turn.ParkedTurnParkable.TheImpl as parkable
 use Rattle.semaphore_turns.specs.contracts.ready_turn.ReadyTurn as ready_turn
-use Rattle.table_frames.specs.contracts.table_run.TableRun as table_run
-use Rattle.table_frames.specs.contracts.run_keeper.RunKeeper as run_keeper
-use Rattle.table_frames.specs.contracts.open_start.OpenStart as open_start
+use Rattle.table_runs.proofs.Crossing as runs
+use Rattle.table_runs.specs.contracts.table_run.TableRun as table_run
+use Rattle.table_runs.specs.contracts.run_keeper.RunKeeper as run_keeper
+use Rattle.table_runs.specs.contracts.open_start.OpenStart as open_start
 use Rattle.table_frames.specs.contracts.locked_run.LockedRun as locked_run
-use Rattle.table_frames.specs.contracts.done_turns.DoneTurns as done_turns
+use Rattle.table_runs.specs.contracts.done_turns.DoneTurns as done_turns
 use Rattle.table_frames.specs.contracts.frame.Frame as frame
 use Rattle.table_frames.specs.contracts.frame_batch.FrameBatch as frame_batch
 use Rattle.table_frames.specs.contracts.frame_batch.FrameBatch.TheInside as frame_batch_inside
@@ -45,18 +41,6 @@ module _ (T V : RattleType) (J : Job.Ghosts T.Denot V.Denot) (W : Valued.Ghosts 
   pub fresh_send : IsSend (fresh.the_row V)
   fresh_send = turns.fresh_send V sv yv
 
-  batch_send : IsSend (batch.the_row V)
-  batch_send = turns.batch_send V sv yv
-
-  keeper_send : IsSend (keeper.the_row V)
-  keeper_send = turns.keeper_send V sv yv
-
-  table_send : IsSend (table.the_row V)
-  table_send = turns.table_send V sv yv
-
-  table_sync : IsSync (table.the_row V)
-  table_sync = turns.table_sync V sv yv
-
   ready_send : IsSend (ready_turn.the_row V)
   ready_send = units.ready_send V sv yv
 
@@ -66,26 +50,20 @@ module _ (T V : RattleType) (J : Job.Ghosts T.Denot V.Denot) (W : Valued.Ghosts 
   yard_sync : IsSync (yard.the_row (parked_turn.the_row V) (table.the_row V) (parkable.ghosts V))
   yard_sync = yards.yard_sync (parked_turn.the_row V) (table.the_row V) (parkable.ghosts V) (units.parked_send V sv yv)
 
-  row_send : IsSend (inner_row.the_row T V)
-  row_send = search (run_knot.crosses, tables) depth 60 fits 20000
-
-  running_send : IsSend (running.the_row V)
-  running_send = turns.running_send V sv yv
-
   run_keeper_send : IsSend (run_keeper.the_row T V J)
-  run_keeper_send = search (keeper_send, row_send, tables) depth 60 fits 20000
+  run_keeper_send = runs.run_keeper_send T V J s y sv yv
 
   open_start_send : IsSend (open_start.the_row T V J)
-  open_start_send = search (running_send, tables) depth 60 fits 20000
+  open_start_send = runs.open_start_send T V J s y sv yv
 
   locked_send : IsSend (locked_run.the_row T V J)
   locked_send = search (run_keeper_send, open_start_send, tables) depth 60 fits 20000
 
   run_send : IsSend (table_run.the_row T V J)
-  run_send = search (table_send, tables) depth 60 fits 20000
+  run_send = runs.run_send T V J s y sv yv
 
   run_sync : IsSync (table_run.the_row T V J)
-  run_sync = search (table_sync, tables) depth 60 fits 20000
+  run_sync = runs.run_sync T V J s y sv yv
 
   pub frame_send : IsSend (frame.the_row T V J W)
   frame_send = search (locked_send, run_send, run_sync, yard_send, yard_sync, frame_knot.crosses, tables) depth 60 fits 20000
@@ -97,7 +75,7 @@ module _ (T V : RattleType) (J : Job.Ghosts T.Denot V.Denot) (W : Valued.Ghosts 
   release_send = search (frame_send, frame_sync, ready_send, tables) depth 60 fits 20000
 
   done_send : IsSend (done_turns.the_row T V)
-  done_send = search (batch_send, row_send, tables) depth 60 fits 20000
+  done_send = runs.done_send T V J s y sv yv
 
   frame_batch_fields : IsSend (frame_batch_inside.the_row T V J W)
   frame_batch_fields = declared_send (frame_batch_inside.the_type T V J W) (search (frame_send, frame_sync, tables) depth 60 fits 20000, (search (done_send, tables) depth 60 fits 20000, tt))

@@ -1,10 +1,11 @@
 -- Releases are handed out.
-use Rattle.std.proofs.Common.{◌≡◌, List, [], ◌∷◌, ◌++◌, length, map, reverse, append_assoc, refl, sym, ap, ◌∙◌, arith}
+use Rattle.std.proofs.Common.{◌≡◌, List, [], ◌∷◌, ◌++◌, map, reverse, append_assoc, refl, sym, ap, ◌∙◌}
 use Rattle.std.specs.Prelude.{All}
 use Rattle.std.proofs.lemmas.List.{map-append, reverse-append}
 use Rattle.std.proofs.lemmas.List.Elements.{All-cons, All-nil}
 use Rattle.join_tables.specs.States.{FreshState}
-use Rattle.table_frames.specs.Frames.{FrameKey, ReleaseView, release_in}
+use Rattle.table_runs.specs.RunKeys.{FrameKey}
+use Rattle.table_frames.specs.Frames.{ReleaseView, release_in}
 
 module _ {J : Type 0} (frames : List (FrameKey J)) where
   -- one more goes from the end of those that are left to the end of those that are out
@@ -22,8 +23,3 @@ module _ {J : Type 0} (frames : List (FrameKey J)) where
   pub all_in : (fs : List FreshState) → All (λ (r : ReleaseView J). r.frames ≡ frames) (map (release_in frames) fs)
   all_in [] = All-nil _
   all_in (f ∷ fs) = All-cons (λ (r : ReleaseView J). r.frames ≡ frames) (release_in frames f) (map (release_in frames) fs) refl (all_in fs)
-
--- a list that has no length
-pub none_in : {X : Type 0} (xs : List X) → length xs ≡ 0 → xs ≡ []
-none_in [] none = refl
-none_in (x ∷ xs) none = absurd (omega (arith, none))

@@ -1,26 +1,24 @@
 -- What the work of a release comes to in the frames of a step, and how a run begins inside them.
-use Rattle.std.proofs.Common.{◌≡◌, ◌≢◌, ℕ, zero, suc, List, [], ◌∷◌, ◌++◌, length, map, Option, Some, None, append-nil, refl, sym, ap, ◌∙◌, subst}
+use Rattle.std.proofs.Common.{◌≡◌, ◌≢◌, ℕ, List, [], ◌∷◌, ◌++◌, Option, Some, None, append-nil, refl, sym, ap, ◌∙◌, subst}
 use Rattle.std.proofs.lemmas.List.Elements.{All-push}
 use Rattle.atomic_table.specs.Seated.{TableId}
 use Rattle.journal_rules.specs.declared.entry.Cause.{Cause}
-use Rattle.task_graph.specs.NetRows.{NetRows}
-use Rattle.join_tables.specs.FirstCauses.{first_causes, first_fresh}
-use Rattle.join_tables.specs.States.{FreshState, fresh_state}
+use Rattle.join_tables.specs.States.{FreshState}
 use Rattle.run_frame.specs.Meaning.{Meaning}
-use Rattle.run_frame.specs.NestedRule.{job_of}
-use Rattle.run_frame.specs.declared.run.FrameRun.{FrameRun}
-use Rattle.table_frames.specs.Frames.{AtFrame, FrameKey, HasTable, root_job}
-use Rattle.table_frames.specs.Steps.{HasNoFirst, IsOverAtOnce}
-use Rattle.table_frames.specs.inside.Attempts.{IsAgain, IsAttemptAt, TriesRelease, again_list}
-use Rattle.table_frames.specs.inside.Begins.{Begins}
-use Rattle.table_frames.specs.inside.Openings.{IsInnerAt, TriesAt}
-use Rattle.table_frames.specs.inside.OpenStarts.{IsStartOf, OpenStartView, first_frame, lock_key_in, lock_key_of, locked_run}
-use Rattle.table_frames.specs.inside.Runs.{AreOf}
-use Rattle.table_frames.specs.declared.attempt.Attempt.{Attempt}
-use Rattle.table_frames.specs.declared.attempt.InnerBegun.{InnerBegun}
-use Rattle.table_frames.specs.declared.attempt.Tried.{Tried}
-use Rattle.table_frames.specs.declared.table_run.Begun.{Begun}
-use Rattle.table_frames.specs.declared.attempt.Tried.TheVariants.{Done, Inner}
+use Rattle.table_frames.specs.Frames.{AtFrame, HasTable, root_job}
+use Rattle.table_runs.specs.RunKeys.{FrameKey}
+use Rattle.table_runs.specs.Openings.{IsOverAtOnce}
+use Rattle.table_runs.specs.Attempts.{IsAgain, again_list}
+use Rattle.table_frames.specs.inside.TriedReleases.{IsAttemptAt, TriesRelease, IsInnerAt, TriesAt}
+use Rattle.table_runs.specs.Begins.{Begins}
+use Rattle.table_runs.specs.OpenStarts.{IsStartOf, OpenStartView}
+use Rattle.table_frames.specs.inside.LockedRuns.{first_frame, lock_key_in, lock_key_of, locked_run}
+use Rattle.table_runs.specs.Runs.{AreOf}
+use Rattle.table_runs.specs.declared.attempt.Attempt.{Attempt}
+use Rattle.table_runs.specs.declared.attempt.InnerBegun.{InnerBegun}
+use Rattle.table_runs.specs.declared.attempt.Tried.{Tried}
+use Rattle.table_runs.specs.declared.table_run.Begun.{Begun}
+use Rattle.table_runs.specs.declared.attempt.Tried.TheVariants.{Done, Inner}
 
 -- the first of some frames is the first of those around a frame inside them
 pub first_is : {J : Type 0} (frames : List (FrameKey J)) (key : FrameKey J) → AtFrame frames (λ k. key ≡ k) → Some key ≡ first_frame frames
@@ -42,22 +40,7 @@ pub root_inside : {J : Type 0} (key : FrameKey J) (around : List (FrameKey J)) (
 root_inside key [] p at = absurd at
 root_inside key (frame ∷ more) p at = refl
 
--- which tasks are released at first doesn't depend on the table
-no_first : (n m : TableId) (net : NetRows) (t k : ℕ) → first_fresh n net t k ≡ [] → first_fresh m net t k ≡ []
-no_first n m net t zero none = refl
-no_first n m net t (suc k) none = by_causes (first_causes net t) (no_first n m net (suc t) k) none
-  where
-    by_causes : (causes : List Cause) → (first_fresh n net (suc t) k ≡ [] → first_fresh m net (suc t) k ≡ []) → map (fresh_state n t) causes ++ first_fresh n net (suc t) k ≡ [] → map (fresh_state m t) causes ++ first_fresh m net (suc t) k ≡ []
-    by_causes [] rest is = rest is
-    by_causes (cause ∷ more) rest is = absurd (cc)
-
 module _ {J V : Type 0} (meaning : Meaning J V) where
-  -- a run that begins with no release is over at once
-  pub over_at_once : (job : J) (begun : Begun J V) (run : FrameRun J V) → Begins meaning job begun → begun.fresh.items ≡ [] → job_of run ≡ begun.kept.job → IsOverAtOnce meaning (Some run)
-  over_at_once job begun run begins none same =
-      let own : job_of run ≡ job = same ∙ ap (λ (k : FrameKey J). k.job) begins.kept ∙ begins.job_is in
-      subst (λ (j : J). HasNoFirst (meaning.net j)) (sym own) (λ n. no_first begun.run.table n (meaning.net job) 0 (length (meaning.net job).tasks) (sym begins.first ∙ none))
-
   -- work that is done
   pub tries_done : (frames frames' : List (FrameKey J)) (release : FreshState) (tried : Tried J V) (attempt : Attempt J V) → frames' ≡ frames → tried ≡ Done attempt → TriesAt meaning frames' release tried → IsAttemptAt meaning frames attempt × TriesRelease frames attempt release × IsOverAtOnce meaning attempt.inner
   tries_done frames frames' release tried attempt same is tries = by_frames frames (subst (λ fs. TriesAt meaning fs release (Done attempt)) same (subst (TriesAt meaning frames' release) is tries))

@@ -4,9 +4,9 @@ use Rattle.std.specs.Prelude.{All}
 use Rattle.std.specs.declared.snapshot.Snapshot.{Snapshot}
 use Rattle.semaphore_turns.specs.Semaphores.{taken_by}
 use Rattle.semaphore_turns.specs.declared.parks.Parking.TheVariants.{Parked}
-use Rattle.table_frames.specs.inside.Attempts.{IsAgain, again_list}
-use Rattle.table_frames.specs.inside.CollectedRelease.{IsTakenIn}
-use Rattle.table_frames.specs.declared.table_run.TakenUp.{TakenUp}
+use Rattle.table_runs.specs.Attempts.{IsAgain, again_list}
+use Rattle.table_frames.specs.inside.TriedReleases.{IsTakenIn}
+use Rattle.table_runs.specs.declared.table_run.TakenUp.{TakenUp}
 use Rattle.std.proofs.lemmas.List.{get_or-reverse, length-reverse}
 use Rattle.atomic_table.specs.Seated.{TableId}
 use Rattle.std.specs.List.{AllByRecursion}
@@ -17,8 +17,9 @@ use Rattle.semaphore_turns.specs.declared.settlement.Settled.{Settled}
 use Rattle.semaphore_turns.specs.declared.settlement.Settled.TheVariants.{Over}
 use Rattle.join_tables.specs.States.{FreshState, SpentState, TableState, TurnState}
 use Rattle.semaphore_turns.specs.WokenTurns.{ParksTurn, Wakes}
-use Rattle.table_frames.specs.inside.Runs.{AreOf}
-use Rattle.table_frames.specs.Frames.{AtFrame, FrameKey, HasTable, table_in}
+use Rattle.table_runs.specs.Runs.{AreOf}
+use Rattle.table_frames.specs.Frames.{AtFrame, HasTable}
+use Rattle.table_runs.specs.RunKeys.{FrameKey, table_in}
 
 pub settled_over : {J V : Type 0} (meaning : Meaning J V) (frames frames' : List (FrameKey J)) (settled : Settled V) (spent : SpentState V) → frames' ≡ frames → settled ≡ Over spent → AtFrame frames (λ key. Settles (table_in meaning key) settled) → HasTable frames' spent.table × AreDrops spent.fate
 settled_over {J} meaning frames frames' settled spent same is at = subst (λ (fs : List (FrameKey J)). HasTable fs spent.table × AreDrops spent.fate) (sym same) (by_frames frames (subst (λ s. AtFrame frames (λ key. Settles (table_in meaning key) s)) is at))

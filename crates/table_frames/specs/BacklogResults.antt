@@ -10,10 +10,11 @@ use Rattle.run_frame.specs.Meaning.{Meaning}
 use Rattle.run_frame.specs.NestedRule.{job_of}
 use Rattle.run_frame.specs.declared.run.FrameRun.{FrameRun}
 use Rattle.semaphore_turns.specs.Settlements.{AreDrops}
-use Rattle.table_frames.specs.Frames.{BacklogView, FrameKey, HasTable, ReleaseView, backlog_view, release_in}
-use Rattle.table_frames.specs.StepReleases.{GivesEdges, given_by}
+use Rattle.table_frames.specs.Frames.{BacklogView, HasTable, ReleaseView, backlog_view, release_in}
+use Rattle.table_runs.specs.RunKeys.{FrameKey}
+use Rattle.table_runs.specs.StepReleases.{GivesEdges, given_by}
 use Rattle.table_frames.specs.Steps.{UsesRelease}
-use Rattle.table_frames.specs.JournalFacts.{HasEntries}
+use Rattle.table_runs.specs.JournalFacts.{HasEntries}
 use Rattle.table_frames.specs.declared.step_results.Brought.{Brought}
 use Rattle.table_frames.specs.declared.step_results.State.{State}
 use Rattle.table_frames.specs.declared.step_results.State.TheVariants.{Went, Parked, Inner, Resumed, Closed}

@@ -5,15 +5,9 @@ use Rattle.std.specs.Global.{Global}
 use Rattle.std.specs.declared.sync.Arc.{Arc}
 use Rattle.atomic_table.specs.Seated.{TableId}
 use Rattle.journal_rules.specs.declared.entry.Cause.{Cause}
-use Rattle.join_tables.specs.States.{FreshState, TableState}
-use Rattle.run_frame.specs.Meaning.{Meaning}
-use Rattle.join_tables.specs.Keeping.{KeeperState}
+use Rattle.join_tables.specs.States.{FreshState}
 use Rattle.join_tables.specs.declared.fates.Fate.{Fate}
-
--- what tells a frame from others: the name of its table, and its job
-pub record FrameKey (J : Type 0) : Type 0 where
-  pub table : TableId
-  pub job : J
+use Rattle.table_runs.specs.RunKeys.{FrameKey}
 
 -- a release: the keys of its frame and of the frames around that one, its task, and what released it
 pub record ReleaseView (J : Type 0) : Type 0 where
@@ -77,15 +71,3 @@ backlog_view frames fates = record { frames = frames; fates = fates }
 -- A step of a frame may add to the backlog: it is of this frame, or of none.
 abbrev pub MayTake : {J V : Type 0} → BacklogView J V → List (FrameKey J) → Type 0
 MayTake backlog frames = (backlog.frames ≡ []) ⊎ (backlog.frames ≡ frames)
-
--- what is under a frame's lock
-pub record RunKeeperView (J V : Type 0) : Type 0 where
-  pub job : J
-  pub keeper : KeeperState V
-
-abbrev pub key_of : {J V : Type 0} → RunKeeperView J V → FrameKey J
-key_of kept = record { table = kept.keeper.table; job = kept.job }
-
--- the table of a frame, with the net and the limit of its job
-abbrev pub table_in : {J V : Type 0} → Meaning J V → FrameKey J → TableState
-table_in meaning frame = record { table = frame.table; net = meaning.net frame.job; limit = meaning.limit frame.job }

@@ -1,7 +1,6 @@
 -- What a beginning and a step of a frame come to, and what is then with its run.
-use Rattle.std.specs.Prelude.{◌≡◌, ◌≢◌, ℕ, List, [], ◌∷◌, ◌++◌, length, map, All, IfSome, Option, Some}
+use Rattle.std.specs.Prelude.{◌≡◌, ◌≢◌, ℕ, List, [], ◌∷◌, ◌++◌, length, map, All, Option, Some}
 use Rattle.task_graph.specs.NetRows.{NetRows}
-use Rattle.atomic_table.specs.Seated.{TableId}
 use Rattle.join_tables.specs.States.{FreshState, TurnState, fresh_state}
 use Rattle.semaphore_turns.specs.Semaphores.{put_by, taken_by}
 use Rattle.semaphore_turns.specs.HeldUnits.{FoundNone}
@@ -19,10 +18,12 @@ use Rattle.run_frame.specs.Legal.{IsKept}
 use Rattle.run_frame.specs.NestedRule.{job_of}
 use Rattle.run_frame.specs.declared.job.Done.TheVariants.{Inner as InnerJob}
 use Rattle.run_frame.specs.declared.run.FrameRun.{FrameRun}
-use Rattle.table_frames.specs.AllowedFates.{IsAllowed}
-use Rattle.table_frames.specs.StepReleases.{MayRelease, Uses}
-use Rattle.table_frames.specs.JournalFacts.{IsInJournal}
-use Rattle.table_frames.specs.Frames.{FrameKey, ReleaseView, BacklogView, backlog_view, root_job, release_in, table_in}
+use Rattle.table_runs.specs.AllowedFates.{IsAllowed}
+use Rattle.table_runs.specs.Openings.{IsOverAtOnce}
+use Rattle.table_runs.specs.StepReleases.{MayRelease, Uses}
+use Rattle.table_runs.specs.JournalFacts.{IsInJournal}
+use Rattle.table_runs.specs.RunKeys.{FrameKey, table_in}
+use Rattle.table_frames.specs.Frames.{ReleaseView, BacklogView, backlog_view, root_job, release_in}
 use Rattle.table_frames.specs.declared.step_results.State.{State}
 use Rattle.table_frames.specs.declared.step_results.State.TheVariants.{Went, Parked, Inner, Resumed, Closed}
 use Rattle.table_frames.specs.declared.step_results.Stepped.{Stepped}
@@ -66,14 +67,6 @@ pub record UsesRelease {J V : Type 0} (meaning : Meaning J V) (frame : FrameKey 
   pub uses : Uses (meaning.net frame.job) (fresh_state frame.table release.task release.cause) fate [] by_end
   pub wakes : Wakes (table_in meaning frame) (units_of (meaning.net frame.job) release.task) by_end made
   pub backlog : new ≡ backlog_view release.frames (old.fates ++ fate ∷ [])
-
--- no task of a net is released before anything has run
-abbrev pub HasNoFirst : NetRows → Type 0
-HasNoFirst net = (n : TableId) → first_fresh n net 0 (length net.tasks) ≡ []
-
--- The run that was made in place of the work, if one was, is of a job whose net has no first release: it was over as it began.
-abbrev pub IsOverAtOnce : {J V : Type 0} → Meaning J V → Option (FrameRun J V) → Type 0
-IsOverAtOnce meaning run = IfSome run (λ inner. HasNoFirst (meaning.net (job_of inner)))
 
 -- A step used its release up. It made no run in place of the work, or one in which nothing was to be done: another is opened, and
 -- is not run inside the step.

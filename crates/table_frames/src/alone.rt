@@ -7,20 +7,18 @@ ghost use Rattle.run_frame.specs.NestedRule.{job_of};
 ghost use Rattle.table_frames.specs.Frames.{root_job};
 ghost use Rattle.semaphore_turns.specs.HeldUnits.{HoldsAll, LacksUnit};
 ghost use Rattle.table_frames.specs.inside.Benches.{IsBenchOf};
-ghost use Rattle.table_frames.specs.inside.CollectedRelease.{IsTakenIn};
-ghost use Rattle.table_frames.specs.inside.Attempts.{IsAttemptIn};
-ghost use Rattle.table_frames.specs.inside.Openings.{IsInnerIn};
-ghost use Rattle.table_frames.specs.inside.Runs.{AreOf};
+ghost use Rattle.table_frames.specs.inside.TriedReleases.{IsTakenIn};
+ghost use Rattle.table_runs.specs.Attempts.{IsAttemptIn};
+ghost use Rattle.table_runs.specs.Openings.{IsInnerIn};
+ghost use Rattle.table_runs.specs.Runs.{AreOf};
 
-use super::attempt::{Attempt, InnerBegun, Tried};
-use super::done_turns::{DoneTurn, DoneTurns};
 use super::level::{Level, Next};
-use super::table_run::{TableRun, TakenUp, add_again};
 use outside_io::NoMemory;
 use run_frame::{FrameRun, Job};
 use semaphore_turns::{Parking, ReadyTurn, Settled, TakenUnits, TurnYard, wake_turns};
 use std::alloc::Global;
 use std::sync::{Arc, Wait};
+use table_runs::{Attempt, DoneTurn, DoneTurns, InnerBegun, TableRun, TakenUp, Tried, add_again};
 
 /// Runs a job to its end on the caller's thread. What became ready last is started first, and of what one End released
 /// that of its first edge. It waits for nobody, but no clause says that it returns.

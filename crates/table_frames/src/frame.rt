@@ -10,13 +10,9 @@ ghost use Rattle.run_frame.specs.NestedRule.{job_of};
 ghost use Rattle.table_frames.specs.Frames.{depth_inside, frames_around};
 ghost use Rattle.keyed_lock.specs.Locks.{made_with};
 
-use super::attempt::{Attempt, Tried};
-use super::done_turns::{DoneTurn, DoneTurns};
 use super::frame_batch::FrameBatch;
 use super::locked_run::LockedRun;
-use super::open_start::OpenStart;
 use super::over::{InnerOver, Kept, Over};
-use super::table_run::{TableRun, TakenUp};
 use join_tables::{Remaining, Spent, Turn};
 use keyed_lock::{Held, KeyedLock};
 use outside_io::NoMemory;
@@ -26,6 +22,7 @@ use semaphore_turns::{ParkedTurn, Parking, ReadyTurn, Settled, TakenUnits, wake_
 use std::alloc::Global;
 use std::marker::Model;
 use std::sync::{Arc, Wait};
+use table_runs::{Attempt, DoneTurn, DoneTurns, OpenStart, TableRun, TakenUp, Tried};
 
 /// A run that several threads step. Its releases hold it. Only its keeper and what is parked are under locks.
 #[derive(Drop)]
@@ -43,7 +40,7 @@ pub struct Frame<J: Job> {
 impl<J: Job> Model for Frame<J> {
     ghost use Rattle.std.specs.Prelude.{◌≡◌, ◌≢◌, ◌∷◌, [], IfSome, List, length};
     ghost use Rattle.std.specs.Arc.{arc_value};
-    ghost use Rattle.table_frames.specs.Frames.{FrameKey};
+    ghost use Rattle.table_runs.specs.RunKeys.{FrameKey};
 
     ghost Value = { List (FrameKey J) };
 
@@ -51,8 +48,9 @@ impl<J: Job> Model for Frame<J> {
     ghost use Rattle.semaphore_park.specs.Parking.{yard_key};
     ghost use Rattle.semaphore_park.specs.Yards.{opened_as};
     ghost use Rattle.semaphore_turns.specs.WaitingTurns.{yard_of};
-    ghost use Rattle.table_frames.specs.Frames.{depth_of, frames_around, table_in};
-    ghost use Rattle.table_frames.specs.inside.OpenStarts.{lock_key_of, lock_key_in};
+    ghost use Rattle.table_frames.specs.Frames.{depth_of, frames_around};
+    ghost use Rattle.table_runs.specs.RunKeys.{table_in};
+    ghost use Rattle.table_frames.specs.inside.LockedRuns.{lock_key_of, lock_key_in};
 
     ghost view = { λ frame. frame.run ∷ frames_around frame.parent };
 
@@ -71,16 +69,16 @@ impl<J: Job + Drop> Frame<J> {
     ghost use Rattle.semaphore_turns.specs.WaitingTurns.{release_of};
     ghost use Rattle.semaphore_turns.specs.WokenTurns.{ParksTurn, Wakes};
     ghost use Rattle.semaphore_turns.specs.Settlements.{AreDrops, Settles};
-    ghost use Rattle.table_frames.specs.Frames.{AtFrame, HasTable, frames_around, table_in};
-    ghost use Rattle.table_frames.specs.inside.Attempts.{IsAttemptAt, TriesRelease, room_due, units_due};
-    ghost use Rattle.table_frames.specs.inside.FrameBatches.{HasSpaceIn};
+    ghost use Rattle.table_frames.specs.Frames.{AtFrame, HasTable, frames_around};
+    ghost use Rattle.table_runs.specs.RunKeys.{table_in};
+    ghost use Rattle.table_frames.specs.inside.TriedReleases.{IsAttemptAt, TriesRelease, TriesAt, IsTakenIn};
+    ghost use Rattle.table_runs.specs.Attempts.{room_due, units_due};
+    ghost use Rattle.table_frames.specs.inside.FrameBatches.{HasSpaceIn, AreDoneAt};
     ghost use Rattle.table_frames.specs.inside.Overs.{IsEnd, IsOverOf, KeepsFates};
-    ghost use Rattle.table_frames.specs.inside.OpenStarts.{IsLockedAt, IsStartOf, lock_key_of, lock_key_in};
-    ghost use Rattle.table_frames.specs.inside.Openings.{TriesAt};
-    ghost use Rattle.table_frames.specs.inside.CollectedRelease.{IsTakenIn};
+    ghost use Rattle.table_frames.specs.inside.LockedRuns.{IsLockedAt, lock_key_of, lock_key_in};
+    ghost use Rattle.table_runs.specs.OpenStarts.{IsStartOf};
     ghost use Rattle.table_frames.specs.inside.AttemptEnds.{Concludes};
-    ghost use Rattle.table_frames.specs.inside.DoneTurns.{HasSame, HasSpace, IsNoTurn};
-    ghost use Rattle.table_frames.specs.inside.Runs.{AreDoneAt};
+    ghost use Rattle.table_runs.specs.DoneTurns.{HasSame, HasSpace, IsNoTurn};
 
     /// Goes on with a start of the frame in place of whose work a run was made.
     pub(crate) fn resumed(

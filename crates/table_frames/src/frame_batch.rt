@@ -2,19 +2,18 @@
 ghost use Rattle.std.specs.Prelude.{◌≡◌, ◌≢◌, ◌↔◌, ◌⊎◌, ◌++◌, ◌∷◌, [], IsTrue, IfOk, OnOk, OnErr};
 ghost use Rattle.std.specs.Arc.{arc_value};
 ghost use Rattle.table_frames.specs.Frames.{IsInnermost};
-ghost use Rattle.table_frames.specs.AllowedFates.{IsAllowed};
+ghost use Rattle.table_runs.specs.AllowedFates.{IsAllowed};
 
-use super::done_turns::{DoneTurn, DoneTurns};
 use super::frame::Frame;
 use super::over::{Kept, Over};
 use super::release::Release;
-use super::table_run::TableRun;
 use outside_io::NoMemory;
 use run_frame::Job;
 use semaphore_turns::Settled;
 use std::alloc::Global;
 use std::marker::Model;
 use std::sync::{Arc, Wait};
+use table_runs::{DoneTurn, DoneTurns, TableRun};
 
 /// Turns of a frame that are done and not yet with its keeper. The job of the frame allows what became of each.
 #[derive(Drop)]
@@ -33,7 +32,7 @@ impl<J: Job> Model for FrameBatch<J> {
     ghost use Rattle.std.specs.Arc.{arc_value};
     ghost use Rattle.std.specs.Vec.{vec_capacity, vec_len};
     ghost use Rattle.table_frames.specs.Frames.{backlog_view, frames_around};
-    ghost use Rattle.table_frames.specs.inside.Runs.{AreDoneAt};
+    ghost use Rattle.table_frames.specs.inside.FrameBatches.{AreDoneAt};
 
     ghost view = { λ g. record {
       backlog = backlog_view (frames_around g.frame) g.done.batch.fates;

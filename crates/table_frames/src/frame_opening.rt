@@ -2,25 +2,24 @@
 ghost use Rattle.std.specs.Prelude.{◌≡◌, ◌↔◌, ◌<◌, ◌+◌, ◌∷◌, [], None, Some, IfOk, map};
 ghost use Rattle.std.specs.Arc.{arc_value};
 
-use super::attempt::InnerBegun;
 use super::frame::Frame;
 use super::locked_run::LockedRun;
-use super::open_start::OpenStart;
 use super::release::{Release, ReleaseRoom};
 use super::step_results::{State, Stepped};
-use super::table_run::{Begun, TableRun};
 use outside_io::NoMemory;
 use run_frame::Job;
 use semaphore_turns::ReadyTurn;
 use std::alloc::Global;
 use std::sync::Arc;
+use table_runs::{Begun, InnerBegun, OpenStart, TableRun};
 
 impl<J: Job + Drop> Frame<J> {
     ghost use Rattle.table_frames.specs.Frames.{AtFrame, release_in};
     ghost use Rattle.table_frames.specs.Steps.{IsClosed, BeginsFrame};
-    ghost use Rattle.table_frames.specs.inside.Begins.{Begins};
-    ghost use Rattle.table_frames.specs.inside.OpenStarts.{IsStartOf};
-    ghost use Rattle.table_frames.specs.inside.Openings.{IsInnerAt, OpensFrame};
+    ghost use Rattle.table_runs.specs.Begins.{Begins};
+    ghost use Rattle.table_runs.specs.OpenStarts.{IsStartOf};
+    ghost use Rattle.table_frames.specs.inside.TriedReleases.{IsInnerAt};
+    ghost use Rattle.table_frames.specs.inside.Openings.{OpensFrame};
 
     /// Begins a run of a job, with its first releases by rising task: of each source task, and of each task that has
     /// strong in-edges, all of which begin with a token. If there is none, the run is complete as it is, and closed.

@@ -2,18 +2,17 @@
 ghost use Rattle.std.specs.Prelude.{◌≡◌, ◌⊎◌, ◌<◌, ◌+◌, [], All, IfOk, OnErr};
 ghost use Rattle.std.specs.Arc.{arc_value};
 
-use super::attempt::{Attempt, Tried};
 use super::backlog::Backlog;
 use super::frame::Frame;
 use super::frame_batch::FrameBatch;
 use super::over::{InnerOver, Kept, Over};
 use super::release::{Release, ReleaseRoom};
 use super::step_results::{Brought, State, Stepped};
-use super::table_run::{TakenUp, add_again};
 use outside_io::NoMemory;
 use run_frame::Job;
 use semaphore_turns::{Parking, ReadyTurn, TakenUnits};
 use std::sync::{Arc, Wait};
+use table_runs::{Attempt, TakenUp, Tried, add_again};
 
 impl<J: Job + Drop> Frame<J> {
     ghost use Rattle.semaphore_turns.specs.HeldUnits.{HoldsAll, LacksUnit};
@@ -21,10 +20,9 @@ impl<J: Job + Drop> Frame<J> {
     ghost use Rattle.table_frames.specs.Frames.{AtFrame, MayTake, backlog_view, release_in};
     ghost use Rattle.table_frames.specs.BacklogResults.{BringsFates, IsLeftOf, SettlesFrame};
     ghost use Rattle.table_frames.specs.Steps.{StepsRelease};
-    ghost use Rattle.table_frames.specs.inside.Attempts.{IsAttemptAt};
+    ghost use Rattle.table_frames.specs.inside.TriedReleases.{IsAttemptAt, IsTakenIn};
     ghost use Rattle.table_frames.specs.inside.FrameBatches.{HasSpaceIn};
     ghost use Rattle.table_frames.specs.inside.Overs.{IsInnerOver, Resumes};
-    ghost use Rattle.table_frames.specs.inside.CollectedRelease.{IsTakenIn};
     ghost use Rattle.table_frames.specs.inside.AttemptEnds.{Concludes, HandsOn};
 
     /// Takes the step of a release: drops it, or starts its task, does its work and ends the start or records its

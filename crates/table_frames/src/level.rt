@@ -3,19 +3,18 @@ ghost use Rattle.std.specs.Prelude.{◌≡◌, ◌∷◌, IfNone, IfOk, IfSome, 
 ghost use Rattle.join_tables.specs.Keeping.{TellsRun, entries_told};
 ghost use Rattle.run_frame.specs.Legal.{IsKept};
 ghost use Rattle.run_frame.specs.NestedRule.{job_of};
-ghost use Rattle.table_frames.specs.Frames.{AtFrame, key_of, root_job};
-ghost use Rattle.table_frames.specs.inside.Begins.{Begins};
+ghost use Rattle.table_frames.specs.Frames.{AtFrame, root_job};
+ghost use Rattle.table_runs.specs.RunKeys.{key_of};
+ghost use Rattle.table_runs.specs.Begins.{Begins};
 ghost use Rattle.table_frames.specs.inside.Benches.{IsBenchOf};
 ghost use Rattle.table_frames.specs.inside.Around.{levels_around};
 ghost use Rattle.table_frames.specs.inside.Levels.{IsNext};
-ghost use Rattle.table_frames.specs.inside.OpenStarts.{IsStartOf, first_frame, frame_of};
-ghost use Rattle.table_frames.specs.inside.Openings.{IsInnerAt, IsInnerIn};
+ghost use Rattle.table_runs.specs.OpenStarts.{IsStartOf};
+ghost use Rattle.table_frames.specs.inside.LockedRuns.{first_frame, frame_of};
+ghost use Rattle.table_frames.specs.inside.TriedReleases.{IsInnerAt};
+ghost use Rattle.table_runs.specs.Openings.{IsInnerIn};
 
 use super::alone::{Bench, conclude, settle, step};
-use super::attempt::InnerBegun;
-use super::open_start::OpenStart;
-use super::run_keeper::RunKeeper;
-use super::table_run::{Begun, TableRun, add_again};
 use join_tables::Remaining;
 use outside_io::NoMemory;
 use run_frame::{FrameRun, Job};
@@ -23,6 +22,7 @@ use std::alloc::Global;
 use std::boxed::Box;
 use std::marker::Model;
 use std::sync::Wait;
+use table_runs::{Begun, InnerBegun, OpenStart, RunKeeper, TableRun, add_again};
 
 /// A run by one thread that goes on, and the runs around it, which wait for it.
 #[derive(Drop)]
@@ -38,15 +38,16 @@ pub struct Level<J: Job> {
 
 impl<J: Job> Model for Level<J> {
     ghost use Rattle.std.specs.Prelude.{List, length};
-    ghost use Rattle.table_frames.specs.Frames.{FrameKey};
+    ghost use Rattle.table_runs.specs.RunKeys.{FrameKey};
 
     ghost Value = { List (FrameKey J) };
 
     ghost use Rattle.std.specs.Prelude.{◌≡◌, ◌∷◌, IfSome};
-    ghost use Rattle.table_frames.specs.Frames.{key_of};
+    ghost use Rattle.table_runs.specs.RunKeys.{key_of};
     ghost use Rattle.table_frames.specs.inside.Benches.{IsBenchOf};
     ghost use Rattle.table_frames.specs.inside.Around.{levels_around};
-    ghost use Rattle.table_frames.specs.inside.OpenStarts.{IsStartOf, first_frame, frame_of};
+    ghost use Rattle.table_runs.specs.OpenStarts.{IsStartOf};
+    ghost use Rattle.table_frames.specs.inside.LockedRuns.{first_frame, frame_of};
 
     ghost view = { λ level. level.run ∷ levels_around level.around };
 

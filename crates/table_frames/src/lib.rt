@@ -2,7 +2,7 @@
 //!
 //! A `Frame` is a run of a job. What is left to do in it is handed out as `Release`s, and whoever has one may take its
 //! step on any thread, side by side with the others: it is taken from its tokens to the releases that follow, through
-//! its units, admission, Start, the task's work, and End, Fault or Drop (`join_tables`). Before a step draws the place
+//! its units, admission, Start, the task's work, and End, Fault or Drop (`table_runs`). Before a step draws the place
 //! of an End it has all memory that it needs from there on.
 //!
 //! A release that finds no unit of a semaphore is parked (`semaphore_turns`), and wakes up among the releases that a
@@ -28,13 +28,10 @@
 //!
 //! # The parts
 //!
-//! A `TableRun` is a job with the table of its net. It takes up a release (`take_up`) and its units (`take_units`),
-//! does its work (`attempt`), which leaves nothing but the Start in the journal, and then draws the End, Fault or Drop
-//! (`conclude`). Where a run was made in place of the work, `resume` comes before `conclude`. A `RunKeeper` has the
-//! keeper of a run; all that it took in is allowed by the job, so that the run that it hands out may be kept.
-//! `DoneTurns` are turns that are done, with the runs that they made, and `FrameBatch` is the part of a backlog that is
-//! brought. An `OpenStart` is a start whose work is a run, and a `LockedRun` is what is under a frame's lock. A `Level`
-//! is a run of `run_alone` with those around it.
+//! A frame has a `TableRun`, which is a job with the table of its net; what becomes of one release there is the affair
+//! of `table_runs`. A `FrameBatch` is the part of a backlog that is brought: turns of a frame that are done. A
+//! `LockedRun` is what is under a frame's lock, its `RunKeeper` with the start whose work it is. A `Level` is a run of
+//! `run_alone` with those around it.
 //!
 //! # What the layer above may know
 //!
@@ -47,24 +44,16 @@
 #![tactic(auto)]
 
 mod alone;
-mod attempt;
 mod backlog;
-mod done_turns;
 mod frame;
 mod frame_batch;
 mod frame_opening;
 mod frame_steps;
-mod gives;
 mod level;
 mod locked_run;
-mod open_start;
 mod over;
 mod release;
-mod run_closing;
-mod run_keeper;
-mod run_work;
 mod step_results;
-mod table_run;
 
 pub use alone::run_alone;
 pub use backlog::Backlog;

@@ -1,9 +1,8 @@
 // What is under the lock of a frame.
-use super::open_start::OpenStart;
-use super::run_keeper::RunKeeper;
 use keyed_lock::Keyed;
 use run_frame::Job;
 use std::marker::Model;
+use table_runs::{OpenStart, RunKeeper};
 
 /// The keeper of a run, and the start whose work the run is, if it is inside another.
 #[derive(Drop)]
@@ -13,7 +12,7 @@ pub struct LockedRun<J: Job> {
 }
 
 impl<J: Job> Keyed for LockedRun<J> {
-    ghost use Rattle.table_frames.specs.inside.OpenStarts.{LockKey, lock_key_of};
+    ghost use Rattle.table_frames.specs.inside.LockedRuns.{LockKey, lock_key_of};
 
     ghost Key = { LockKey J };
 
@@ -22,7 +21,8 @@ impl<J: Job> Keyed for LockedRun<J> {
 
 impl<J: Job> Model for LockedRun<J> {
     ghost use Rattle.std.specs.Prelude.{IfSome};
-    ghost use Rattle.table_frames.specs.inside.OpenStarts.{LockedRunView, IsStartOf};
+    ghost use Rattle.table_frames.specs.inside.LockedRuns.{LockedRunView};
+    ghost use Rattle.table_runs.specs.OpenStarts.{IsStartOf};
 
     ghost Value = { LockedRunView J J.V };
 

@@ -1,14 +1,14 @@
 // Runs that are over.
 ghost use Rattle.std.specs.Prelude.{◌≡◌, if◌then◌else◌, [], List};
-ghost use Rattle.table_frames.specs.Frames.{FrameKey};
+ghost use Rattle.table_runs.specs.RunKeys.{FrameKey};
 ghost use Rattle.table_frames.specs.inside.Overs.{frames_after};
 
 use super::frame::Frame;
-use super::open_start::OpenStart;
 use join_tables::Keeper;
 use run_frame::{FrameRun, Job};
 use std::snapshot::Snapshot;
 use std::sync::Arc;
+use table_runs::OpenStart;
 
 /// A run inside another that is over, the frame around its own, and the start there whose work it was.
 #[derive(Drop)]

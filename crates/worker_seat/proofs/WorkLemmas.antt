@@ -7,7 +7,8 @@ use Rattle.join_tables.specs.declared.fates.Fate.{Fate}
 use Rattle.run_frame.specs.Meaning.{Meaning}
 use Rattle.run_frame.specs.NestedRule.{job_of}
 use Rattle.table_frames.specs.BacklogResults.{BringsFates, BringsTo, ResumesStart, SettlesFrame}
-use Rattle.table_frames.specs.Frames.{BacklogView, FrameKey, ReleaseView, release_in, root_frame, root_job}
+use Rattle.table_frames.specs.Frames.{BacklogView, ReleaseView, release_in, root_frame, root_job}
+use Rattle.table_runs.specs.RunKeys.{FrameKey}
 use Rattle.table_frames.specs.Steps.{StepsRelease, StepsTo}
 use Rattle.table_frames.specs.declared.step_results.Brought.{Brought}
 use Rattle.table_frames.specs.declared.step_results.State.{State}

@@ -22,7 +22,7 @@ pub struct ReleaseFrames<J: Job> {
 
 impl<J: Job> Model for ReleaseFrames<J> {
     ghost use Rattle.std.specs.Prelude.{List};
-    ghost use Rattle.table_frames.specs.Frames.{FrameKey};
+    ghost use Rattle.table_runs.specs.RunKeys.{FrameKey};
 
     ghost Value = { List (FrameKey J) };
 

@@ -3,13 +3,14 @@ use Rattle.std.specs.Prelude.{◌≡◌, List, [], ◌∷◌, ◌++◌, map, Non
 use Rattle.join_tables.specs.States.{FreshState}
 use Rattle.join_tables.specs.declared.fates.Fate.{Fate}
 use Rattle.run_frame.specs.Meaning.{Meaning}
-use Rattle.table_frames.specs.AllowedFates.{IsAllowed}
-use Rattle.table_frames.specs.Frames.{FrameKey, BacklogView, ReleaseView, backlog_view, release_in, table_in}
+use Rattle.table_runs.specs.AllowedFates.{IsAllowed}
+use Rattle.table_runs.specs.RunKeys.{FrameKey, table_in}
+use Rattle.table_frames.specs.Frames.{BacklogView, ReleaseView, backlog_view, release_in}
 use Rattle.semaphore_turns.specs.WokenTurns.{Wakes}
-use Rattle.table_frames.specs.StepReleases.{GivesEdges, Uses, given_by}
-use Rattle.table_frames.specs.JournalFacts.{IsInJournal}
-use Rattle.table_frames.specs.inside.Attempts.{release_tried, units_due}
-use Rattle.table_frames.specs.declared.attempt.Attempt.{Attempt}
+use Rattle.table_runs.specs.StepReleases.{GivesEdges, Uses, given_by}
+use Rattle.table_runs.specs.JournalFacts.{IsInJournal}
+use Rattle.table_runs.specs.Attempts.{release_tried, units_due}
+use Rattle.table_runs.specs.declared.attempt.Attempt.{Attempt}
 
 -- One fate, which the job of the frame allows, is gathered. These releases were made, by the edges alone where the task isn't
 -- released again, and others woken for the units that are back.

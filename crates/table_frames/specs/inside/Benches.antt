@@ -3,8 +3,8 @@ use Rattle.std.specs.Prelude.{◌≡◌, []}
 use Rattle.run_frame.specs.Meaning.{Meaning}
 use Rattle.semaphore_park.specs.Parking.{yard_key}
 use Rattle.semaphore_turns.specs.WaitingTurns.{yard_of}
-use Rattle.table_frames.specs.Frames.{FrameKey, table_in}
-use Rattle.table_frames.specs.inside.Runs.{AreDoneIn, AreOf}
+use Rattle.table_runs.specs.RunKeys.{FrameKey, table_in}
+use Rattle.table_runs.specs.Runs.{AreDoneIn, AreOf}
 use Rattle.table_frames.specs.declared.alone.Bench.{Bench}
 
 -- All is of the run's table, and nothing that a step made is left over.

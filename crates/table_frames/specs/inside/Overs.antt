@@ -8,11 +8,12 @@ use Rattle.run_frame.specs.Legal.{IsKept}
 use Rattle.run_frame.specs.Meaning.{Meaning}
 use Rattle.run_frame.specs.NestedRule.{job_of}
 use Rattle.table_frames.specs.BacklogResults.{ClosesRun, MayTakeIn}
-use Rattle.table_frames.specs.Frames.{AtFrame, BacklogView, FrameKey, ReleaseView, backlog_view, release_in}
-use Rattle.table_frames.specs.JournalFacts.{HasEntries}
-use Rattle.table_frames.specs.StepReleases.{GivesEdges, given_by}
+use Rattle.table_frames.specs.Frames.{AtFrame, BacklogView, ReleaseView, backlog_view, release_in}
+use Rattle.table_runs.specs.RunKeys.{FrameKey}
+use Rattle.table_runs.specs.JournalFacts.{HasEntries}
+use Rattle.table_runs.specs.StepReleases.{GivesEdges, given_by}
 use Rattle.table_frames.specs.Steps.{UsesRelease}
-use Rattle.table_frames.specs.inside.OpenStarts.{IsStartOf}
+use Rattle.table_runs.specs.OpenStarts.{IsStartOf}
 use Rattle.table_frames.specs.declared.over.InnerOver.{InnerOver}
 use Rattle.table_frames.specs.declared.over.Kept.{Kept}
 use Rattle.table_frames.specs.declared.over.Over.{Over}

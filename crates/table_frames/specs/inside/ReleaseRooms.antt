@@ -2,7 +2,7 @@
 use Rattle.std.specs.Prelude.{◌≡◌, ℕ, ◌+◌, ◌≤◌, List, [], All}
 use Rattle.std.specs.Vec.{vec_capacity, vec_len}
 use Rattle.std.specs.Arc.{arc_value}
-use Rattle.table_frames.specs.Frames.{FrameKey}
+use Rattle.table_runs.specs.RunKeys.{FrameKey}
 use Rattle.table_frames.specs.declared.release.ReleaseRoom.{ReleaseRoom}
 
 -- There is room for so many releases, with an owner of the frame for each but one, and no release is there yet.

@@ -2,7 +2,7 @@
 use Rattle.std.specs.Prelude.{◌≡◌, ℕ, List, map, slice_index_or}
 use Rattle.boxcar.specs.Slot.{Named}
 use Rattle.boxcar.specs.Table.{Shelves, Where}
-use Rattle.table_frames.specs.Frames.{FrameKey}
+use Rattle.table_runs.specs.RunKeys.{FrameKey}
 
 -- the name of a crew's numbered frames: those of the shelves that they are on
 abbrev pub shelf_names : Shelves → List ℕ

@@ -1,7 +1,8 @@
 -- What tells a run of a crew from others, and which releases are of it.
 use Rattle.std.specs.Prelude.{◌≡◌, List, All, Option, Some}
 use Rattle.atomic_table.specs.Seated.{TableId}
-use Rattle.table_frames.specs.Frames.{FrameKey, ReleaseView, root_frame, root_job}
+use Rattle.table_runs.specs.RunKeys.{FrameKey}
+use Rattle.table_frames.specs.Frames.{ReleaseView, root_frame, root_job}
 use Rattle.worker_seat.specs.declared.item.NumberedRelease.{NumberedRelease}
 use Rattle.worker_seat.specs.inside.Numbers.{NumberView}
 

@@ -3,7 +3,8 @@ use Rattle.std.specs.Prelude.{◌≡◌, ◌≢◌, ◌⊎◌, List, [], IfSome}
 use Rattle.run_frame.specs.Legal.{IsKept}
 use Rattle.run_frame.specs.Meaning.{Meaning}
 use Rattle.run_frame.specs.NestedRule.{job_of}
-use Rattle.table_frames.specs.Frames.{FrameKey, MayTake, ReleaseView}
+use Rattle.table_runs.specs.RunKeys.{FrameKey}
+use Rattle.table_frames.specs.Frames.{MayTake, ReleaseView}
 use Rattle.table_frames.specs.declared.step_results.State.{State}
 use Rattle.table_frames.specs.declared.step_results.State.TheVariants.{Went, Parked, Inner, Resumed, Closed}
 use Rattle.worker_seat.specs.inside.Numbers.{NumberView}

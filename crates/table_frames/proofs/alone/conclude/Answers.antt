@@ -2,8 +2,8 @@ use Rattle.std.proofs.Common.{rules, ◌+◌, ◌≤◌, length, vec_capacity, v
 use Rattle.join_tables.specs.States.{TableState}
 use Rattle.semaphore_park.specs.Parking.{YardKey}
 use Rattle.semaphore_turns.specs.WokenTurns.{Wakes}
-use Rattle.table_frames.specs.Frames.{table_in}
-use Rattle.table_frames.specs.inside.Runs.{AreOf}
+use Rattle.table_runs.specs.RunKeys.{table_in}
+use Rattle.table_runs.specs.Runs.{AreOf}
 use Rattle.table_frames.proofs.Settling.{added_of, woken_of}
 use Rattle.table_frames.proofs.alone.conclude.Goals as goal
 

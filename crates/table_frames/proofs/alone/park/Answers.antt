@@ -1,7 +1,7 @@
 use Rattle.std.proofs.Common.{[], ◌∷◌, sym, ◌∙◌, subst}
 use Rattle.semaphore_turns.specs.WokenTurns.{ParksTurn}
-use Rattle.table_frames.specs.Frames.{table_in}
-use Rattle.table_frames.specs.inside.Runs.{AreOf}
+use Rattle.table_runs.specs.RunKeys.{table_in}
+use Rattle.table_runs.specs.Runs.{AreOf}
 use Rattle.table_frames.proofs.Settling.{added_of, parked_made}
 use Rattle.table_frames.proofs.alone.park.Goals as goal
 

@@ -1,5 +1,5 @@
 use Rattle.std.proofs.Common.{◌≡◌}
-use Rattle.table_frames.specs.Frames.{key_of}
+use Rattle.table_runs.specs.RunKeys.{key_of}
 use Rattle.table_frames.specs.inside.Benches.{IsBenchOf}
 use Rattle.table_frames.proofs.level.run_on.Given as goal
 

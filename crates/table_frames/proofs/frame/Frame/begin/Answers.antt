@@ -1,10 +1,11 @@
 use Rattle.std.proofs.Common.{◌≡◌, ◌∷◌, [], Some, length, map, sym, ap, ◌∙◌, subst, arith}
 use Rattle.std.specs.Arc.{arc_value}
 use Rattle.std.proofs.lemmas.List.{length-map}
-use Rattle.table_frames.specs.Frames.{FrameKey, release_in}
+use Rattle.table_runs.specs.RunKeys.{FrameKey}
+use Rattle.table_frames.specs.Frames.{release_in}
 use Rattle.table_frames.specs.declared.step_results.State.TheVariants.{Closed, Went}
 use Rattle.table_frames.proofs.Concluding.{begins_frame}
-use Rattle.table_frames.proofs.Handing.{none_in}
+use Rattle.table_runs.proofs.Beginning.{none_in}
 use Rattle.table_frames.proofs.frame.Frame.begin.Goals as goal
 
 pub returns-then-count-eq0-clause-begins : goal.returns-then-count-eq0-clause-begins

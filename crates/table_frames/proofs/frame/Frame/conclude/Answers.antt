@@ -3,13 +3,15 @@ use Rattle.task_graph.specs.Net.{AreSemaphoresOf}
 use Rattle.std.specs.Prelude.{All}
 use Rattle.std.proofs.lemmas.List.Elements.{All-nil}
 use Rattle.join_tables.specs.States.{FreshState}
-use Rattle.table_frames.specs.AllowedFates.{IsAllowed}
-use Rattle.table_frames.specs.Frames.{AtFrame, HasTable, IsInnermost, backlog_view, table_in}
+use Rattle.table_runs.specs.AllowedFates.{IsAllowed}
+use Rattle.table_frames.specs.Frames.{AtFrame, HasTable, IsInnermost, backlog_view}
+use Rattle.table_runs.specs.RunKeys.{table_in}
 use Rattle.semaphore_turns.specs.WokenTurns.{Wakes}
 use Rattle.table_frames.proofs.Settling.{woken_of}
-use Rattle.table_frames.specs.StepReleases.{GivesEdges, Uses, given_by}
-use Rattle.table_frames.specs.inside.Attempts.{IsAttemptAt, release_tried, room_due, units_due}
-use Rattle.table_frames.specs.inside.Runs.{AreOf}
+use Rattle.table_runs.specs.StepReleases.{GivesEdges, Uses, given_by}
+use Rattle.table_frames.specs.inside.TriedReleases.{IsAttemptAt}
+use Rattle.table_runs.specs.Attempts.{release_tried, room_due, units_due}
+use Rattle.table_runs.specs.Runs.{AreOf}
 use Rattle.table_frames.proofs.frame.Frame.conclude.Goals as goal
 
 pub conclude-turn-requires-clause-attempt : goal.conclude-turn-requires-clause-attempt

@@ -2,8 +2,9 @@ use Rattle.std.proofs.Common.{◌≡◌, refl, sym, ap, ◌∙◌, subst}
 use Rattle.std.specs.Prelude.{IfSome}
 use Rattle.std.specs.Arc.{arc_value}
 use Rattle.table_frames.specs.Frames.{frames_around}
-use Rattle.table_frames.specs.JournalFacts.{HasEntries}
-use Rattle.table_frames.specs.inside.OpenStarts.{IsLockedAt, IsStartOf, LockedRunView}
+use Rattle.table_runs.specs.JournalFacts.{HasEntries}
+use Rattle.table_frames.specs.inside.LockedRuns.{IsLockedAt, LockedRunView}
+use Rattle.table_runs.specs.OpenStarts.{IsStartOf}
 use Rattle.table_frames.specs.inside.Overs.{IsOverOf}
 use Rattle.table_frames.specs.declared.over.Over.TheVariants.{Inside}
 use Rattle.table_frames.proofs.Closing.{not_outermost, over_alone, over_inside}

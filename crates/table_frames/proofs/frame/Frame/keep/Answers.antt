@@ -6,12 +6,13 @@ use Rattle.join_tables.specs.Findings.{FindsOne}
 use Rattle.join_tables.specs.Keeping.{IsLast, KeeperState, LeavesOf}
 use Rattle.join_tables.specs.declared.keeper.Remaining.{Remaining}
 use Rattle.table_frames.specs.BacklogResults.{TakesIn}
-use Rattle.table_frames.specs.Frames.{FrameKey, HasTable, frames_around}
-use Rattle.table_frames.specs.inside.OpenStarts.{IsLockedAt, LockKey, locked_run}
+use Rattle.table_runs.specs.RunKeys.{FrameKey}
+use Rattle.table_frames.specs.Frames.{HasTable, frames_around}
+use Rattle.table_frames.specs.inside.LockedRuns.{IsLockedAt, LockKey, locked_run}
 use Rattle.table_frames.specs.inside.Overs.{IsEnd}
-use Rattle.table_frames.specs.inside.Runs.{AreDoneAt}
+use Rattle.table_frames.specs.inside.FrameBatches.{AreDoneAt}
 use Rattle.table_frames.proofs.Closing.{locked_again, locked_key, over_of, same_start, some_table, takes_last}
-use Rattle.table_frames.proofs.Keeping.{no_turn_left}
+use Rattle.table_frames.proofs.Batches.{no_turn_left}
 use Rattle.table_frames.proofs.frame.Frame.keep.Goals as goal
 
 pub returns-then-is_empty-clause-taken : goal.returns-then-is_empty-clause-taken

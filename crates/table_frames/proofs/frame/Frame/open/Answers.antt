@@ -2,7 +2,7 @@ use Rattle.std.proofs.Common.{◌∷◌, ◌++◌, [], map, refl, sym, ap, ◌�
 use Rattle.std.specs.Arc.{arc_value}
 use Rattle.join_tables.specs.States.{FreshState}
 use Rattle.table_frames.specs.Frames.{HasTable, release_in}
-use Rattle.table_frames.specs.inside.Attempts.{again_list}
+use Rattle.table_runs.specs.Attempts.{again_list}
 use Rattle.table_frames.proofs.Opening.{again_at, begins_at}
 use Rattle.table_frames.proofs.frame.Frame.open.Goals as goal
 

@@ -4,7 +4,8 @@ use Rattle.semaphore_turns.specs.WaitingTurns.{release_of}
 use Rattle.semaphore_turns.specs.WokenTurns.{ParksTurn}
 use Rattle.semaphore_turns.specs.declared.parks.Parking.TheVariants as parking
 use Rattle.table_frames.specs.declared.step_results.State.TheVariants as state
-use Rattle.table_frames.specs.Frames.{AtFrame, BacklogView, backlog_view, release_in, table_in}
+use Rattle.table_frames.specs.Frames.{AtFrame, BacklogView, backlog_view, release_in}
+use Rattle.table_runs.specs.RunKeys.{table_in}
 use Rattle.table_frames.proofs.Concluding.{ok_steps, parks_release, same_release}
 use Rattle.table_frames.proofs.Settling.{parked_made}
 use Rattle.table_frames.proofs.frame.Frame.park.Goals as goal

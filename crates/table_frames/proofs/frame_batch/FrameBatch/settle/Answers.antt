@@ -2,9 +2,8 @@ use Rattle.std.proofs.Common.{rules, ◌≡◌, ◌≢◌, [], sym, ap, ◌∙�
 use Rattle.std.specs.Prelude.{IfSome}
 use Rattle.std.specs.Arc.{arc_value}
 use Rattle.table_frames.specs.Frames.{frames_around}
-use Rattle.table_frames.specs.inside.FrameBatches.{FrameBatchView}
-use Rattle.table_frames.specs.inside.Runs.{AreDoneAt}
-use Rattle.table_frames.proofs.Keeping.{no_turn_left, same_none}
+use Rattle.table_frames.specs.inside.FrameBatches.{FrameBatchView, AreDoneAt}
+use Rattle.table_frames.proofs.Batches.{no_turn_left, same_none}
 use Rattle.table_frames.proofs.Settling.{settled_over}
 use Rattle.table_frames.proofs.frame_batch.FrameBatch.settle.Goals as goal
 

@@ -1,9 +1,9 @@
 use Rattle.std.proofs.Common.{sym, ap, subst}
 use Rattle.std.specs.Prelude.{IfNone, IfSome}
 use Rattle.join_tables.specs.Keeping.{TellsRun, entries_told}
-use Rattle.table_frames.specs.Frames.{FrameKey}
-use Rattle.table_frames.specs.inside.Openings.{IsInnerIn}
-use Rattle.table_frames.specs.inside.OpenStarts.{IsStartOf}
+use Rattle.table_runs.specs.RunKeys.{FrameKey}
+use Rattle.table_runs.specs.Openings.{IsInnerIn}
+use Rattle.table_runs.specs.OpenStarts.{IsStartOf}
 use Rattle.table_frames.proofs.level.Level.advance.Goals as goal
 
 pub run_on-requires-clause-kept : goal.run_on-requires-clause-kept

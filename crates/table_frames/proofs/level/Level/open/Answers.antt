@@ -1,6 +1,6 @@
 use Rattle.std.proofs.Common.{◌++◌, sym, ap, ◌∙◌, subst}
-use Rattle.table_frames.specs.inside.Attempts.{again_list}
-use Rattle.table_frames.specs.inside.Openings.{IsInnerAt}
+use Rattle.table_runs.specs.Attempts.{again_list}
+use Rattle.table_frames.specs.inside.TriedReleases.{IsInnerAt}
 use Rattle.table_frames.proofs.Opening.{with_again}
 use Rattle.table_frames.proofs.level.Level.open.Goals as goal
 

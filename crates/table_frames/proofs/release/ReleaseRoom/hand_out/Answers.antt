@@ -4,7 +4,8 @@ use Rattle.std.specs.Arc.{arc_value}
 use Rattle.std.proofs.lemmas.List.Elements.{All-pop}
 use Rattle.join_tables.specs.States.{FreshState}
 use Rattle.table_frames.specs.Frames.{HasTable, ReleaseView, release_in}
-use Rattle.table_frames.proofs.Handing.{all_in, handed_one, none_in}
+use Rattle.table_frames.proofs.Handing.{all_in, handed_one}
+use Rattle.table_runs.proofs.Beginning.{none_in}
 use Rattle.table_frames.proofs.release.ReleaseRoom.hand_out.Goals as goal
 use Rattle.table_frames.proofs.release.ReleaseRoom.hand_out.Goals.{in-Some-pop-2, in_default-pop-2}
 

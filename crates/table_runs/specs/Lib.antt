@@ -1,0 +1,12 @@
+pub mod RunKeys
+pub mod AllowedFates
+pub mod JournalFacts
+pub mod StepReleases
+pub mod DoneTurns
+pub mod Runs
+pub mod Attempts
+pub mod CollectedRelease
+pub mod Begins
+pub mod OpenStarts
+pub mod Openings
+pub mod inside
