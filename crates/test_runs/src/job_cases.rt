@@ -72,39 +72,23 @@ fn with_parts<'r>(mut case: JobCase<'r>, parts: &str) -> Result<JobCase<'r>, Fai
 }
 
 // The case with what a part says besides.
-fn with_part<'r>(case: JobCase<'r>, part: &str) -> Result<JobCase<'r>, Fail> {
-    let (word, number) = part.split_once(' ').unwrap_or((part, "0"));
-    let (number, most) = number.split_once(" to ").unwrap_or((number, number));
+fn with_part<'r>(mut case: JobCase<'r>, part: &str) -> Result<JobCase<'r>, Fail> {
+    let (word, numbers) = part.split_once(' ').unwrap_or((part, "0"));
+    let (number, most) = numbers.split_once(" to ").unwrap_or((numbers, numbers));
     let number = number.parse::<u64>()?;
-    let most = most.parse::<u64>()?;
-    Ok(match word {
-        "" => case,
-        "limit" => JobCase {
-            limit: number,
-            ..case
-        },
-        "turns" => JobCase {
-            turns: number,
-            ..case
-        },
-        "fault" => JobCase {
-            fault: number,
-            ..case
-        },
-        "meeting" => JobCase {
-            meeting: number,
-            ..case
-        },
-        "starts" => JobCase {
-            least: number,
-            most,
-            ..case
-        },
-        word => JobCase {
-            why: Some(why_of(word, number)?),
-            ..case
-        },
-    })
+    match word {
+        "" => (),
+        "limit" => case.limit = number,
+        "turns" => case.turns = number,
+        "fault" => case.fault = number,
+        "meeting" => case.meeting = number,
+        "starts" => {
+            case.least = number;
+            case.most = most.parse::<u64>()?;
+        }
+        word => case.why = Some(why_of(word, number)?),
+    }
+    Ok(case)
 }
 
 fn why_of(word: &str, number: u64) -> Result<Why, Fail> {
@@ -113,7 +97,7 @@ fn why_of(word: &str, number: u64) -> Result<Why, Fail> {
         "wide" => Ok(Why::Wide(number)),
         "inner" => Ok(Why::Inner),
         "over" => Ok(Why::OverRelease(u32::try_from(number)?)),
-        _ => Err(Fail::new("a word that says nothing")),
+        _ => Err(Fail::new(format_args!("`{word}` says nothing"))),
     }
 }
 

@@ -27,31 +27,34 @@ pub(crate) fn net_of(alloc: Global, text: &str) -> Result<Arc<Net>, Fail> {
     Ok(Arc::new(alloc, builder.finish())?)
 }
 
-// The shape of a task, and the semaphores of which it takes and gives back a unit.
-#[derive(Clone, Copy)]
-struct TaskKind {
-    shape: Shape,
-    takes: &'static [u32],
-    puts: &'static [u32],
+// The shape of the task of a letter.
+fn shape_of(letter: u8) -> Shape {
+    match letter {
+        b'c' | b'd' => Shape::Choice,
+        b'm' => Shape::Many,
+        b'n' | b'k' => Shape::Nested,
+        _ => Shape::Plain,
+    }
 }
 
-// What a letter stands for.
-fn kind_of(letter: u8) -> TaskKind {
-    let (shape, takes, puts): (Shape, &[u32], &[u32]) = match letter {
-        b'c' => (Shape::Choice, &[], &[]),
-        b'm' => (Shape::Many, &[], &[]),
-        b't' => (Shape::Plain, &[0], &[]),
-        b'g' => (Shape::Plain, &[], &[0]),
-        b'u' => (Shape::Plain, &[0], &[0]),
-        b'd' => (Shape::Choice, &[0], &[0]),
-        b'v' => (Shape::Plain, &[1], &[]),
-        b'w' => (Shape::Plain, &[], &[1]),
-        b'h' => (Shape::Plain, &[0, 1], &[0, 1]),
-        b'n' => (Shape::Nested, &[], &[]),
-        b'k' => (Shape::Nested, &[0], &[0]),
-        _ => (Shape::Plain, &[], &[]),
-    };
-    TaskKind { shape, takes, puts }
+// The semaphores of which it takes a unit.
+fn takes_of(letter: u8) -> &'static [u32] {
+    match letter {
+        b't' | b'u' | b'd' | b'k' => &[0],
+        b'v' => &[1],
+        b'h' => &[0, 1],
+        _ => &[],
+    }
+}
+
+// The semaphores of which it gives back a unit.
+fn puts_of(letter: u8) -> &'static [u32] {
+    match letter {
+        b'g' | b'u' | b'd' | b'k' => &[0],
+        b'w' => &[1],
+        b'h' => &[0, 1],
+        _ => &[],
+    }
 }
 
 // Adds what each of these signs stands for.
@@ -60,16 +63,17 @@ fn add_tasks(alloc: Global, builder: &mut NetBuilder, signs: &[u8]) -> Result<()
         match *sign {
             b'-' => 0,
             b'0'..=b'9' => builder.semaphore(u32::from(*sign - b'0'))?,
-            letter => add_task(alloc, builder, kind_of(letter))?,
+            letter => add_task(alloc, builder, letter)?,
         };
     }
     Ok(())
 }
 
 // The number of a new task.
-fn add_task(alloc: Global, builder: &mut NetBuilder, kind: TaskKind) -> Result<u32, BuildError> {
-    let takes = List::from_slice(alloc, kind.takes)?;
-    builder.task(kind.shape, takes, List::from_slice(alloc, kind.puts)?)
+fn add_task(alloc: Global, builder: &mut NetBuilder, letter: u8) -> Result<u32, BuildError> {
+    let takes = List::from_slice(alloc, takes_of(letter))?;
+    let puts = List::from_slice(alloc, puts_of(letter))?;
+    builder.task(shape_of(letter), takes, puts)
 }
 
 // Adds the edge, or the tasks and edges, of each of these words.
@@ -95,7 +99,7 @@ fn add_edge(builder: &mut NetBuilder, from: u8, to: u8, token: bool) -> Result<(
 fn add_branches(alloc: Global, builder: &mut NetBuilder, word: &str) -> Result<(), BuildError> {
     let (_, count) = word.split_once('+').unwrap_or(("", ""));
     for _ in 0..count.parse::<u32>().unwrap_or(0) {
-        let task = add_task(alloc, builder, kind_of(b'p'))?;
+        let task = add_task(alloc, builder, b'p')?;
         builder.edge(0, task, false)?;
         builder.edge(task, 1, false)?;
     }

@@ -130,7 +130,10 @@ fn check_entry(
 
 // Whether a run was fine, and the End at a place has what it was gathered to.
 fn is_gathered(run: &FrameRun<NumberJob>, place: u64, inner: &FrameRun<NumberJob>) -> bool {
-    inner.is_fine() && run.value(place) == Some(&(inner.journal.len() as u64))
+    match run.value(place) {
+        Some(number) => *number == inner.journal.len() as u64 && inner.is_fine(),
+        None => false,
+    }
 }
 
 // Why a journal's last Fault came, if it has one.
