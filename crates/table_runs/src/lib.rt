@@ -43,10 +43,12 @@ mod open_start;
 mod run_closing;
 mod run_keeper;
 mod run_work;
+mod spans;
 mod table_run;
 
 pub use attempt::{Attempt, Ending, InnerBegun, Outcome, Tried};
 pub use done_turns::{DoneTurn, DoneTurns};
 pub use open_start::OpenStart;
 pub use run_keeper::RunKeeper;
+pub use spans::{count_spans, span_of};
 pub use table_run::{Begun, TableRun, TakenUp, add_again};
