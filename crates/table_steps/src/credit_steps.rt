@@ -8,9 +8,9 @@ ghost use Rattle.table_steps.specs.Values.{Knows};
 ghost use Rattle.table_steps.specs.inside.CreditKinds.{MayCredit, credited, MayClaim, claimed, RefusesClaim, MayUnclaim, unclaimed};
 
 use crate::parcels::Parcels;
-use crate::steps::{FIRST_UNIT, Words};
 use crate::table_seat::{NoteSeat, TableSeat};
 use crate::view::SeatView;
+use crate::words::{FIRST_UNIT, Words};
 use atomic_table::Play;
 use std::marker::{Brand, PhantomData};
 

@@ -4,9 +4,9 @@ ghost use Rattle.table_steps.specs.Values.{Knows};
 ghost use Rattle.table_steps.specs.inside.Kinds.{MayGather, both_turns, left_by};
 ghost use Rattle.table_steps.specs.inside.SeatViews.{both_views, nothing_known};
 
-use crate::steps::Words;
 use crate::table_seat::TableSeat;
 use crate::view::SeatView;
+use crate::words::Words;
 use atomic_table::Join;
 
 pub struct Gathers;

@@ -7,9 +7,9 @@ ghost use Rattle.table_steps.specs.Values.{Knows};
 ghost use Rattle.table_steps.specs.inside.Halts.{MayAsk, halt_read, MayFault, with_fault_drawn, MayMark, marked, MayDrop, dropped};
 
 use crate::parcels::Parcels;
-use crate::steps::{CLOCK, HALT, Words};
 use crate::table_seat::{NoteSeat, TableSeat};
 use crate::view::SeatView;
+use crate::words::{CLOCK, HALT, Words};
 use atomic_table::Play;
 use journal_rules::Why;
 use std::marker::{Brand, PhantomData};

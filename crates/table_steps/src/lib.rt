@@ -95,17 +95,19 @@ mod opening;
 mod parcels;
 mod rest_steps;
 mod slot_steps;
-mod steps;
 mod table_seat;
+mod token_steps;
+mod turn_steps;
 mod unit_steps;
 mod view;
+mod words;
 
 pub use credit_steps::FIRST_CREDIT;
 pub use laws::one_journal_at_every_step;
 pub use opening::table_of;
 pub use parcels::{Parcel, Parcels};
-pub use steps::{FIRST_UNIT, LIVE, Words};
 pub use table_seat::TableSeat;
 pub use view::{
     AccountsHold, EndValue, LimitedNet, Lot, Note, SeatMark, SeatView, SemaphoreRole, TurnDuty,
 };
+pub use words::{FIRST_UNIT, LIVE, Words};

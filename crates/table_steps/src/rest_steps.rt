@@ -8,10 +8,10 @@ ghost use Rattle.table_steps.specs.Values.{Knows};
 ghost use Rattle.table_steps.specs.inside.RestKinds.{MayPark, parked, MayHandOut, handed_out, left_behind, live_found, MayLook, looked, MayAskForUnit, with_unit_asked, MayDropLast, last_dropped, MayThin};
 
 use crate::parcels::Parcels;
-use crate::steps::{CLOCK, FIRST_UNIT, HALT, LIVE, Words};
 use crate::table_seat::{NoteSeat, TableSeat};
 use crate::unit_steps::Semaphore;
 use crate::view::SeatView;
+use crate::words::{CLOCK, FIRST_UNIT, HALT, LIVE, Words};
 use atomic_table::{Join, Play, Split};
 use journal_rules::DropWhy;
 use std::marker::{Brand, PhantomData};

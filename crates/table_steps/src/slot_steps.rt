@@ -12,9 +12,9 @@ ghost use Rattle.table_steps.specs.inside.Slots.{lot, slot_weigh, relot};
 ghost use Rattle.table_steps.specs.inside.SlotKinds.{MayTryPut, MayTryTake, MayTry, TriedSlot, lot_part, HoldsSlot, MayPutBack, put_laid, MayTakeBack, take_laid};
 
 use crate::parcels::{Parcel, Parcels};
-use crate::steps::Words;
 use crate::table_seat::{NoteSeat, TableSeat};
 use crate::view::SeatView;
+use crate::words::Words;
 use atomic_table::Play;
 use join_words::Given;
 use std::hint::spin_loop;

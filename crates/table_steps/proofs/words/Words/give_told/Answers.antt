@@ -1,0 +1,29 @@
+use Rattle.std.proofs.Common.{rules, ◌≡◌, subst, sym, ap, ◌∙◌, ℕ, ◌+◌, ◌%◌, ◌^◌, arith}
+use Rattle.std.specs.Prelude.{length}
+use Rattle.std.specs.Arc.{arc_value}
+use Rattle.task_graph.specs.NetRows.{NetRows}
+use Rattle.atomic_table.specs.Table.{Allows}
+use Rattle.table_steps.specs.inside.Accounts.{KeepsAccounts, tokens_from}
+use Rattle.table_steps.specs.inside.Kinds.{gave, OwesNext}
+use Rattle.table_steps.proofs.TokenSteps.{give_allowed}
+use Rattle.table_steps.specs.Values.{given_parts}
+use Rattle.table_steps.specs.inside.SeatViews.{me_of}
+use Rattle.table_steps.proofs.ValueSteps.{steps_knowing}
+use Rattle.table_steps.proofs.words.Words.give_told.Goals as goal
+
+pub fetch_add-requires : goal.fetch_add-requires
+fetch_add-requires g c =
+    let same : arc_value c.args.self.now.net ≡ arc_value c.args.self.now.table.shared.key.net = search rules in
+    let sized : c.args.self.now.table.shared.table_id.words ≡ tokens_from (arc_value c.args.self.now.net) + length (arc_value c.args.self.now.net).edges + length (arc_value c.args.self.now.net).tasks = search rules in
+    let net = arc_value c.args.self.now.table.shared.key.net in let limit = c.args.self.now.table.shared.key.limit in let me = c.args.seat.now.me in
+    let slots = c.args.self.now.table.shared.table_id.slots in let id = c.args.seat.now.id in
+    let found : c.edge_word.result ≡ tokens_from (arc_value c.args.self.now.net) + c.args.edge = search rules in
+    let word_is : c.edge_word.result ≡ tokens_from net + c.args.edge = found ∙ ap (λ (n : NetRows). tokens_from n + c.args.edge) same in (
+      search rules,
+      omega (arith, c.requires.in_range, found, sized),
+      steps_knowing net limit slots id me c.edge_word.result (λ k. (k + 1) % 2 ^ 64) (λ k m. (m.0 ≡ gave g.A.StepFacts.net g.A.StepFacts.edge k me.0.notes) × (m.1 ≡ me.1)) (λ z. omega (arith, z, found)) c.requires.held
+          (subst (λ (w : ℕ). Allows (KeepsAccounts given_parts net limit) slots id (me_of me) w (λ k. (k + 1) % 2 ^ 64) (λ k m. (m.0 ≡ gave g.A.StepFacts.net g.A.StepFacts.edge k me.0.notes) × (m.1 ≡ me.1))) (sym word_is)
+          (subst (λ (n : NetRows). Allows (KeepsAccounts given_parts net limit) slots id (me_of me) (tokens_from net + c.args.edge) (λ k. (k + 1) % 2 ^ 64) (λ k m. (m.0 ≡ gave n g.A.StepFacts.edge k me.0.notes) × (m.1 ≡ me.1))) (sym (c.requires.told.0 ∙ same))
+          (subst (λ (e : ℕ). Allows (KeepsAccounts given_parts net limit) slots id (me_of me) (tokens_from net + c.args.edge) (λ k. (k + 1) % 2 ^ 64) (λ k m. (m.0 ≡ gave net e k me.0.notes) × (m.1 ≡ me.1))) (sym c.requires.told.1)
+          (give_allowed net limit slots id (me_of me) c.args.edge (subst (λ (n : NetRows). OwesNext n c.args.edge me.0.notes) same c.requires.ready))))),
+    )
