@@ -30,7 +30,7 @@ pub fn run_alone<J: Job + Drop, R: Wait>(
     ensures job { IfOk result (λ run. job_of run ≡ arc_value job) }
     ensures kept { IfOk result (IsKept J.meaning) }
 {
-    let begun = TableRun::begin(alloc, job)?;
+    let begun = TableRun::begin(alloc, job, None)?;
     if begun.fresh.is_empty() {
         return begun.kept.finish();
     }

@@ -45,6 +45,7 @@
 
 mod alone;
 mod backlog;
+mod closed_run;
 mod frame;
 mod frame_batch;
 mod frame_opening;
@@ -57,6 +58,7 @@ mod step_results;
 
 pub use alone::run_alone;
 pub use backlog::Backlog;
+pub use closed_run::ClosedRun;
 pub use frame::Frame;
 pub use release::{HeldBy, Release};
 pub use step_results::{Brought, State, Stepped};

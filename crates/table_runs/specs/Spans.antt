@@ -31,9 +31,13 @@ abbrev pub spans_made : {J V : Type 0} → Option (FrameRun J V) → ℕ
 spans_made None = 0
 spans_made (Some run) = all_spans run
 
--- those of turns that are done, and of the runs that were made in place of the work of some
+-- those of the runs that were made in place of the work of some turns that are done
+abbrev pub spans_inside : {J V : Type 0} → DoneTurns J V → ℕ
+spans_inside done = sum (map spans_of_row done.inner.items)
+
+-- those of the turns and of these runs
 abbrev pub spans_done : {J V : Type 0} → DoneTurns J V → ℕ
-spans_done done = spans_in done.batch.fates + sum (map spans_of_row done.inner.items)
+spans_done done = spans_in done.batch.fates + spans_inside done
 
 -- those that a keeper has
 abbrev pub spans_kept : {J V : Type 0} → RunKeeperView J V → ℕ

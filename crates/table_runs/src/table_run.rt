@@ -16,7 +16,7 @@ ghost use Rattle.table_runs.specs.AllowedFates.{IsAllowed};
 ghost use Rattle.table_runs.specs.Attempts.{again_list};
 ghost use Rattle.table_runs.specs.DoneTurns.{HasSame, HasSpace, IsNoTurn};
 ghost use Rattle.table_runs.specs.Runs.{AreDoneIn};
-ghost use Rattle.table_runs.specs.Spans.{spans_done, spans_in, spans_kept, spans_made};
+ghost use Rattle.table_runs.specs.Spans.{spans_done, spans_inside, spans_kept, spans_made};
 
 use super::done_turns::{DoneTurn, DoneTurns, add_row, move_rows};
 use super::run_keeper::RunKeeper;
@@ -265,8 +265,7 @@ impl<J: Job + Drop> TableRun<J> {
         ensures done { AreDoneIn J.meaning self.now done.new }
         ensures some { done.new.batch.table ≡ Some self.now.table }
         ensures fates { done.new.batch.fates ≡ done.old.batch.fates ++ turn.spent.fate ∷ [] }
-        ensures spans { spans_done done.new
-            ≡ spans_done done.old + spans_in (turn.spent.fate ∷ []) + spans_made turn.inner }
+        ensures inside { spans_inside done.new ≡ spans_inside done.old + spans_made turn.inner }
     {
         let DoneTurn { spent, inner } = turn;
         add_row(&mut done.inner, spent.fate(), inner);
