@@ -160,12 +160,11 @@ impl SpanBook {
         self.join_tellers(&mut tally.seat, seat);
     }
 
-    /// The outermost run, which has back what was opened in it, noted as many spans as all tellers told.
+    /// With all tellers, the outermost run, which has back what was opened in it, noted as many spans as they told.
     pub fn settle(&self, tally: &mut Tally)
-        requires book { tally.old.book ≡ name_of self.now }
-        requires all { tally.old.tellers ≡ all_tellers self.now }
+        requires { tally.old.book ≡ name_of self.now }
         ensures same { tally.new ≡ tally.old }
-        ensures even { tally.old.told ≡ tally.old.noted }
+        ensures even { tally.old.tellers ≡ all_tellers self.now → tally.old.told ≡ tally.old.noted }
     {
         self.compare::<Brand>(&mut tally.seat);
     }
