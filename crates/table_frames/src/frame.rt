@@ -358,7 +358,10 @@ impl<J: Job + Drop> Frame<J> {
         ensures end { IfOk result IsEnd }
     {
         let LockedRun {
-            kept, spans, start, ..
+            kept,
+            spans,
+            start,
+            ..
         } = locked;
         let run = kept.finish()?;
         let Some(start) = start else {
