@@ -1,5 +1,5 @@
 -- A run that is over, and the start whose work it was.
-use Rattle.std.proofs.Common.{◌≡◌, ℕ, List, [], ◌∷◌, ◌++◌, Option, Some, None, length, refl, sym, ap, ◌∙◌, subst}
+use Rattle.std.proofs.Common.{◌≡◌, ℕ, ◌+◌, List, [], ◌∷◌, ◌++◌, Option, Some, None, length, refl, sym, ap, ◌∙◌, subst}
 use Rattle.std.specs.Prelude.{◌↔◌, IfSome, slice_get}
 use Rattle.std.specs.Arc.{arc_value}
 use Rattle.std.specs.Global.{Vec}
@@ -25,7 +25,8 @@ use Rattle.table_runs.specs.RunKeys.{FrameKey, RunKeeperView, key_of}
 use Rattle.table_runs.specs.JournalFacts.{HasEntries}
 use Rattle.table_frames.specs.inside.AttemptEnds.{HandsOn}
 use Rattle.table_runs.specs.Attempts.{release_tried}
-use Rattle.table_frames.specs.inside.LockedRuns.{IsLockedAt, LockKey, LockedRunView, first_frame, frame_of, lock_key_in, lock_key_of, locked_run}
+use Rattle.table_frames.specs.inside.FrameBatches.{IsBackIn}
+use Rattle.table_frames.specs.inside.LockedRuns.{ComesInto, IsLockedAt, KeepsLast, LockKey, LockedRunView, first_frame, frame_of, lock_key_in, lock_key_of}
 use Rattle.table_runs.specs.OpenStarts.{IsStartOf, OpenStartView}
 use Rattle.table_frames.specs.inside.Overs.{IsEnd, IsInnerRunOf, IsOverOf, KeepsFates, Resumes}
 use Rattle.table_runs.specs.declared.attempt.Attempt.{Attempt}
@@ -63,12 +64,23 @@ not_outermost {J} key around locked start is some none =
     let told : ◌≡◌ {A = Option (FrameKey J)} (Some start.frame) None = sym (ap frame_of some) ∙ ap (λ (k : LockKey J). k.around) is ∙ ap first_frame none in
     absurd (cc)
 
--- what was taken out of the lock of a frame
-pub locked_key : {J V : Type 0} (key : FrameKey J) (around : List (FrameKey J)) (inside taken made : LockedRunView J V) → inside ≡ taken → lock_key_of taken ≡ lock_key_of made → lock_key_of made ≡ lock_key_in key around → lock_key_of inside ≡ lock_key_in key around
-locked_key key around inside taken made is same of = ap lock_key_of is ∙ same ∙ of
+-- it is inside none
+pub is_outermost : {J V : Type 0} (frames : List (FrameKey J)) (locked : LockedRunView J V) → IsLockedAt frames locked → locked.start ≡ None → locked.spans.depth ≡ 0
+is_outermost [] locked is none = absurd is
+is_outermost {J} (key ∷ around) locked is none = ap (λ (k : LockKey J). k.depth) is ∙ ap length (no_around around (sym (ap frame_of none) ∙ ap (λ (k : LockKey J). k.around) is))
 
-pub same_start : {J V : Type 0} (meaning : Meaning J V) (kept kept' : RunKeeperView J V) (start : Option (OpenStartView J V)) → key_of kept' ≡ key_of kept → IfSome start (IsStartOf meaning kept.job) → IfSome start (IsStartOf meaning kept'.job)
-same_start {J} meaning kept kept' start same is = subst (λ (j : J). IfSome start (IsStartOf meaning j)) (sym (ap (λ (k : FrameKey J). k.job) same)) is
+-- the book of the frames around is that of all
+pub book_around : {J : Type 0} (key : FrameKey J) (around : List (FrameKey J)) (p : FrameKey J → Type 0) → AtFrame around p → book_of around ≡ book_of (key ∷ around)
+book_around key [] p at = absurd at
+book_around key (frame ∷ more) p at = refl
+
+-- a run inside these frames came back to the one with this book and depth
+pub comes_into : {J : Type 0} (frames : List (FrameKey J)) (book : TableId) (depth : ℕ) (returned : Option SpansState) → book_of frames ≡ Some book → length frames ≡ 1 + depth → IfSome returned (IsBackIn frames) → IfSome returned (ComesInto book depth)
+comes_into frames book depth None of deep is = tt
+comes_into frames book depth (Some inner) of deep is = record { same = some_same inner.book book (sym is.book ∙ of); below = is.depth ∙ deep; all = is.all }
+  where
+    some_same : (n m : TableId) → ◌≡◌ {A = Option TableId} (Some n) (Some m) → n ≡ m
+    some_same n m is = cc
 
 -- there are turns of the frame
 pub some_table : (n : TableId) (t : Option TableId) → IsOfTable n t → (t ≡ None → ⊥) → t ≡ Some n
@@ -81,22 +93,22 @@ finds_so p q before [] so finds = absurd finds
 finds_so p q before (n ∷ rest) so finds = (finds.0, so n finds.1)
 
 -- A keeper has taken in turns, of which the last one was live alone, or one of several.
-pub takes_last : {J V : Type 0} (frames : List (FrameKey J)) (fates : List (Fate V)) (over : Type 0) (old new : KeeperState V) → over → HasTable frames new.table → new.fates ≡ old.fates ++ fates → FindsOne (λ n. LeavesOf n AllTaken) old.found new.found → TakesIn frames fates over new
-takes_last frames fates over old new is table fates_are found = record {
+pub takes_last : {J V : Type 0} (frames : List (FrameKey J)) (fates : List (Fate V)) (over : Type 0) (old new : LockedRunView J V) → over → HasTable frames new.kept.keeper.table → KeepsLast fates old new AllTaken → TakesIn frames fates over new.kept.keeper
+takes_last frames fates over old new is table keeps = record {
   table = table;
-  earlier = old.fates;
-  fates_are = fates_are;
-  before = old.found;
-  found = finds_so (λ n. LeavesOf n AllTaken) (λ n. over ↔ (n ≡ 1)) old.found new.found (λ n left. (λ o. left, λ one. is)) found;
+  earlier = keeps.earlier;
+  fates_are = keeps.fates_are;
+  before = old.kept.keeper.found;
+  found = finds_so (λ n. LeavesOf n AllTaken) (λ n. over ↔ (n ≡ 1)) old.kept.keeper.found new.kept.keeper.found (λ n left. (λ o. left, λ one. is)) keeps.found;
 }
 
-pub takes_more : {J V : Type 0} (frames : List (FrameKey J)) (fates : List (Fate V)) (over : Type 0) (old new : KeeperState V) → ¬ over → HasTable frames new.table → new.fates ≡ old.fates ++ fates → FindsOne (λ n. LeavesOf n More) old.found new.found → TakesIn frames fates over new
-takes_more frames fates over old new is table fates_are found = record {
+pub takes_more : {J V : Type 0} (frames : List (FrameKey J)) (fates : List (Fate V)) (over : Type 0) (old new : LockedRunView J V) → ¬ over → HasTable frames new.kept.keeper.table → KeepsLast fates old new More → TakesIn frames fates over new.kept.keeper
+takes_more frames fates over old new is table keeps = record {
   table = table;
-  earlier = old.fates;
-  fates_are = fates_are;
-  before = old.found;
-  found = finds_so (λ n. LeavesOf n More) (λ n. over ↔ (n ≡ 1)) old.found new.found (λ n left. (λ o. absurd (is o), λ one. absurd (left one))) found;
+  earlier = keeps.earlier;
+  fates_are = keeps.fates_are;
+  before = old.kept.keeper.found;
+  found = finds_so (λ n. LeavesOf n More) (λ n. over ↔ (n ≡ 1)) old.kept.keeper.found new.kept.keeper.found (λ n left. (λ o. absurd (is o), λ one. absurd (left one))) keeps.found;
 }
 
 module _ {J V : Type 0} (meaning : Meaning J V) where
@@ -148,11 +160,6 @@ module _ {J V : Type 0} (meaning : Meaning J V) where
     account = account;
   }
 
-  -- it is inside none
-  pub is_outermost : (frames : List (FrameKey J)) (locked : LockedRunView J V) → IsLockedAt frames locked → locked.start ≡ None → locked.spans.depth ≡ 0
-  is_outermost [] locked is none = absurd is
-  is_outermost (key ∷ around) locked is none = ap (λ (k : LockKey J). k.depth) is ∙ ap length (no_around around (sym (ap frame_of none) ∙ ap (λ (k : LockKey J). k.around) is))
-
   -- the run of a frame inside another
   pub over_inside : (key : FrameKey J) (around : List (FrameKey J)) (locked : LockedRunView J V) (inner : InnerOver J V) → lock_key_of locked ≡ lock_key_in key around → locked.start ≡ Some inner.start → IfSome locked.start (IsStartOf meaning locked.kept.job) → arc_value inner.parent ≡ around
       → IsKept meaning inner.run → job_of inner.run ≡ locked.kept.job → HasEntries inner.run locked.kept.keeper.fates → locked.spans ≡ inner.spans → book_of around ≡ Some inner.spans.book → inner.spans.back ≡ inner.spans.opened → inner.spans.noted ≡ all_spans inner.run → IsOverOf meaning (key ∷ around) locked.kept.keeper.fates (Inside inner)
@@ -167,9 +174,11 @@ module _ {J V : Type 0} (meaning : Meaning J V) where
           start = subst (λ (j : J). IsStartOf meaning j inner.start) (sym job) (subst (λ (s : Option (OpenStartView J V)). IfSome s (IsStartOf meaning locked.kept.job)) some start);
           kept = kept;
           back = record {
-            book = ap book_of parent ∙ book;
-            depth = sym (ap (λ (s : SpansState). s.depth) same) ∙ ap (λ (k : LockKey J). k.depth) is ∙ ap length (sym parent);
-            all = back;
+            is = record {
+              book = ap book_of parent ∙ book;
+              depth = sym (ap (λ (s : SpansState). s.depth) same) ∙ ap (λ (k : LockKey J). k.depth) is ∙ ap length (sym parent);
+              all = back;
+            };
             spans = noted;
           };
         };
