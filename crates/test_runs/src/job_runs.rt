@@ -6,6 +6,7 @@ use crate::job_cases::{JobCase, case_of};
 use crate::orders::{Order, run_in_order};
 use crate::run_checks::{By, check_whole};
 use crate::{inner_cases, plain_cases, unit_cases};
+use nested_runs::spans;
 use ready_deques::MAX_WORKERS;
 use std::alloc::Global;
 use std::process::Abort;
@@ -101,10 +102,11 @@ fn run_unless_met(rt: &(impl Wait + Abort), alloc: Global, case: &JobCase<'_>) -
 
 fn run_by_one(rt: &(impl Wait + Abort), alloc: Global, case: &JobCase<'_>) -> Result<(), Fail> {
     for order in ORDERS {
-        let Some(run) = run_in_order(rt, alloc, case.job(alloc)?, order)? else {
+        let Some((run, told)) = run_in_order(rt, alloc, case.job(alloc)?, order)? else {
             panic!(rt; "{} doesn't end", case.name);
         };
         check_whole(rt, alloc, case, By::OneThread, &run)?;
+        assert!(rt; told == spans(&run), "{}: {told} spans", case.name);
     }
     let run = run_alone(rt, alloc, Arc::new(alloc, case.job(alloc)?)?)?;
     check_whole(rt, alloc, case, By::OneThread, &run)
