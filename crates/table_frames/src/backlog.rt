@@ -71,4 +71,11 @@ impl<J: Job + Drop> Backlog<J> {
     {
         self.batch.is_empty()
     }
+
+    /// Whether nothing of it is still to be recorded by its frame.
+    pub fn is_brought(&self) -> bool
+        ensures { IsTrue result ↔ (self.now.fates ≡ []) }
+    {
+        self.batch.is_brought()
+    }
 }

@@ -77,6 +77,13 @@ impl<J: Job + Drop> FrameBatch<J> {
         self.frame.is_none()
     }
 
+    /// Whether it has no turn.
+    pub fn is_brought(&self) -> bool
+        ensures { IsTrue result ↔ (self.now.backlog.fates ≡ []) }
+    {
+        self.done.is_empty()
+    }
+
     /// Makes room for a turn more, which is of this frame.
     pub fn make_room(&mut self, frame: &Arc<Frame<J>>) -> Result<(), NoMemory>
         requires takes { MayTake self.old.backlog (arc_value frame.now) }

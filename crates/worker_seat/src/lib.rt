@@ -60,5 +60,5 @@ mod steps;
 mod work;
 
 pub use crew::{Crew, CrewParts};
-pub use crew_runner::{CrewRan, EntersEach, run_by_crew, run_by_seats, watchers_of};
+pub use crew_runner::{EntersEach, run_by_seats, watchers_of};
 pub use seat::WorkerSeat;
