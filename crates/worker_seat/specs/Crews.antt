@@ -1,5 +1,5 @@
 -- Crews and their seats, as contracts see them.
-use Rattle.std.specs.Prelude.{◌≡◌, ◌<◌, ◌⊎◌, ◌+◌, ◌-◌, ◌^◌, ℕ, min, true, false, List, All, Any, IfSome, length, map, sum, slice_index_or, None}
+use Rattle.std.specs.Prelude.{◌≡◌, ◌<◌, ◌⊎◌, ◌+◌, ◌-◌, ◌^◌, ℕ, min, true, false, List, All, Any, IfSome, length, map, sum_by, slice_index_or, None}
 use Rattle.nested_runs.specs.Totals.{all_spans}
 use Rattle.run_frame.specs.declared.run.FrameRun.{FrameRun}
 use Rattle.run_frame.specs.Meaning.{Meaning}
@@ -114,4 +114,4 @@ pub record IsFoundRunOf {J V X : Type 0} (meaning : Meaning J V) (seats : List (
 
 -- the steps of these seats together ended as many spans as the run has, with the runs inside it
 abbrev pub AreSpansOf : {J V X : Type 0} → List (WorkerSeat J X V) → FrameRun J V → Type 0
-AreSpansOf seats run = sum (map told_in_run seats) ≡ all_spans run
+AreSpansOf seats run = sum_by told_in_run seats ≡ all_spans run

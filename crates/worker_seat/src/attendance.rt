@@ -1,9 +1,9 @@
 // Where a seat is.
-ghost use Rattle.std.specs.Prelude.{◌≡◌, ◌↔◌, ◌+◌, ℕ, true, false, IfOk, IfSome, IsSome, IsTrue};
+ghost use Rattle.std.specs.Prelude.{◌≡◌, ◌↔◌, ℕ, true, Some, IfOk, IfSome, IsSome, IsTrue};
 ghost use Rattle.std.specs.Arc.{arc_value};
 ghost use Rattle.std.specs.Option.{option_map};
-ghost use Rattle.worker_seat.specs.Seats.{IsBusy, RunBook};
-ghost use Rattle.worker_seat.specs.inside.SeatPlaces.{HasTold, IsSameOwner, book_at, found_teller, has_found, job_at, owner_list, run_at, FitsRun, IsAtRunOn, IsRunOn};
+ghost use Rattle.worker_seat.specs.Seats.{IsBusy};
+ghost use Rattle.worker_seat.specs.inside.SeatPlaces.{HasEntered, HasTold, IsSameOwner, book_at, found_teller, has_found, job_at, owner_list, run_at, FitsRun, IsAtRunOn, IsRunOn};
 ghost use Rattle.worker_seat.specs.inside.Works.{IsToldSince};
 
 use crate::crew_run::CrewRun;
@@ -59,6 +59,7 @@ impl<J: Job + Drop> Attendance<J> {
         ensures fits { FitsRun result }
         ensures owner { IsSameOwner owner.old owner.new }
         ensures run { run_at result ≡ run_at self }
+        ensures entered { HasEntered result }
         ensures told { (told : ℕ) → HasTold told self → has_found result ≡ true
             → TellsMore X.told told watcher.old result watcher.new }
     {
@@ -158,6 +159,7 @@ fn enter_run<J: Job + Drop, X: Watch, R: Wait>(
     ensures fits { FitsRun result }
     ensures owner { IsSameOwner owner.old owner.new }
     ensures run { run_at result ≡ Some (arc_value run) }
+    ensures entered { HasEntered result }
     ensures told { IfSome (found_teller result) (λ new. (before : ℕ)
         → IsToldSince X.told before teller.told watcher.old
         → IsToldSince X.told before new.told watcher.new) }

@@ -11,7 +11,7 @@ use crate::crew_run::CrewRun;
 use crate::frame_numbers::NumberedFrames;
 use crate::list::{RunsList, TaggedList};
 use crate::seat::WorkerSeat;
-use crate::seats::{fetch_first, refuse_all, seat_all, send_all};
+use crate::seats::{NewRun, fetch_first, refuse_all, seat_all, send_all};
 use outside_io::{Back, NoMemory};
 use ready_deques::{Ready, Shares};
 use run_frame::{FrameRun, Job};
@@ -40,13 +40,6 @@ impl<J: Job + Drop> Drop for Crew<J> {
 pub struct CrewParts<J: Job + Drop, X> {
     pub crew: Crew<J>,
     pub seats: Vec<WorkerSeat<J, X>>,
-}
-
-// A run that has begun, and tellers of the book of its spans.
-#[derive(Drop)]
-struct NewRun<J: Job> {
-    run: Arc<CrewRun<J>>,
-    tellers: Vec<Teller>,
 }
 
 impl<J: Job + Drop> Crew<J> {
@@ -101,7 +94,7 @@ impl<J: Job + Drop> Crew<J> {
         ensures err { OnErr result (seats.new.items ≡ map (moved left_refused) seats.old.items) }
     {
         match self.begun(rt, &job) {
-            Ok(NewRun { run, tellers }) => send_all(seats.as_mut_slice(), &run, tellers),
+            Ok(new) => send_all(seats.as_mut_slice(), new),
             Err(NoMemory) => {
                 refuse_all(seats.as_mut_slice());
                 Err(NoMemory)

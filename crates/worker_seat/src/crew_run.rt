@@ -1,5 +1,5 @@
 // A run that a crew is at.
-ghost use Rattle.std.specs.Prelude.{◌≡◌, IfOk, IfSome};
+ghost use Rattle.std.specs.Prelude.{◌≡◌, ◌+◌, IfOk, IfSome};
 ghost use Rattle.std.specs.Option.{option_copied};
 ghost use Rattle.std.specs.Arc.{arc_value};
 ghost use Rattle.worker_seat.specs.inside.Runs.{IsClosedOf, IsNumberOf, book_of_run};

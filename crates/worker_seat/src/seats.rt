@@ -1,10 +1,11 @@
 // What is done with all seats of a crew.
-ghost use Rattle.std.specs.Prelude.{◌≡◌, ◌+◌, [], length, map, sum, All, IfSome, IsSome, IsNone, OnOk, OnErr, position, vec_capacity};
+ghost use Rattle.std.specs.Prelude.{◌≡◌, ◌+◌, [], None, length, map, sum_by, All, IfSome, IsSome, IsNone, OnOk, OnErr, position, vec_capacity};
 ghost use Rattle.std.specs.Arc.{arc_value};
 ghost use Rattle.ready_deques.specs.Lists.{IsOwnerOf};
 ghost use Rattle.worker_seat.specs.Seats.{at_job, away, left_refused};
 ghost use Rattle.worker_seat.specs.Crews.{AreAtOneRun, AreSpansOf, HasFound, IsFoundRunOf, IsOpen, MayBegin, MayHaveBook, moved, state_of, watcher_of};
 ghost use Rattle.worker_seat.specs.inside.Attendances.{AreNew, HasAllTellers, teller_told};
+ghost use Rattle.worker_seat.specs.inside.NewRuns.{HasTellers};
 ghost use Rattle.worker_seat.specs.inside.SeatPlaces.{list_name, IsRunOn};
 
 use crate::attendance::FetchedRun;
@@ -17,20 +18,26 @@ use run_frame::{FrameRun, Job};
 use span_book::Teller;
 use std::sync::{Arc, Wait};
 
+/// A run that has begun, and tellers of the book of its spans.
+#[derive(Drop)]
+pub struct NewRun<J: Job> {
+    pub run: Arc<CrewRun<J>>,
+    pub tellers: Vec<Teller>,
+}
+
 /// Sends all seats to a run of their list, each with a teller. After an `Err` all are refused.
 pub fn send_all<J: Job + Drop, X>(
     seats: &mut [WorkerSeat<J, X>],
-    run: &Arc<CrewRun<J>>,
-    tellers: Vec<Teller>,
+    new: NewRun<J>,
 ) -> Result<(), NoMemory>
-    requires list { All (λ seat. IsRunOn (state_of seat).list (arc_value run.now)) seats.old }
-    requires tellers { AreNew (arc_value run.now).book.name tellers.items }
-    requires count { length tellers.items ≡ length seats.old }
+    requires list { All (λ seat. IsRunOn (state_of seat).list (arc_value new.run)) seats.old }
+    requires tellers { HasTellers (length seats.old) new }
     ensures ok { OnOk result (seats.new
-        ≡ map (moved (at_job (arc_value run.now).job (arc_value run.now).book)) seats.old) }
+        ≡ map (moved (at_job (arc_value new.run).job (arc_value new.run).book)) seats.old) }
     ensures err { OnErr result (seats.new ≡ map (moved left_refused) seats.old) }
 {
-    match try_send_all(seats, run, tellers) {
+    let NewRun { run, tellers } = new;
+    match try_send_all(seats, &run, tellers) {
         Ok(()) => Ok(()),
         Err(NoMemory) => {
             refuse_all(seats);
@@ -83,7 +90,7 @@ pub fn leave_all<J: Job + Drop, X>(
     ensures seats { seats.new ≡ map (moved away) seats.old }
     ensures run { result ≡ fetched.closed.run }
     ensures spans { HasAllTellers seats.old fetched
-        → fetched.closed.spans.told + sum (map teller_told seats.old)
+        → fetched.closed.spans.told + sum_by teller_told seats.old
         ≡ fetched.closed.spans.noted }
 {
     let FetchedRun { mut closed, run } = fetched;
@@ -139,6 +146,7 @@ pub fn seat_all<J: Job + Drop, X: Drop>(
     ensures watchers { map watcher_of result.items ≡ watchers.items }
     ensures list { All (λ seat. (state_of seat).list ≡ list_name ready.now) result.items }
     ensures ready { All MayBegin result.items }
+    ensures away { All (λ seat. (state_of seat).book ≡ None) result.items }
 {
     while let Some(owner) = owners.pop() {
         seats.push_reserved(WorkerSeat::new(owner, watchers.remove(0)));

@@ -126,9 +126,7 @@ impl<J: Job + Drop> Shift<'_, J> {
         ensures told { OnOk result (KeepsTold X.told work.old watcher.old work.new watcher.new) }
     {
         let Brought { state, .. } = Frame::bring(rt, &mut work.backlog, &mut work.teller)?;
-        if let State::Resumed(_) = &state {
-            work.tell_newest(watcher)?;
-        }
+        work.tell_bringing(&state, watcher)?;
         Ok(state)
     }
 
@@ -146,7 +144,7 @@ impl<J: Job + Drop> Shift<'_, J> {
         requires teller { IsTellerOf self.now.number.now.frames work.old.teller }
         ensures owner { IsSameOwner owner.old owner.new }
         ensures work { OnOk result (IsWorkOf self.now.number.now work.new) }
-        ensures spans { spans_ended work.new ≡ spans_ended work.old }
+        ensures spans { OnOk result (spans_ended work.new ≡ spans_ended work.old) }
     {
         work.frame = None;
         if released.is_empty() {
@@ -328,6 +326,7 @@ impl<J: Job + Drop> Shift<'_, J> {
         requires work { IsWorkOf self.now.number.now work.old }
         ensures owner { IsSameOwner owner.old owner.new }
         ensures none { OnOk result (work.new.backlog.frames ≡ []) }
+        ensures teller { OnOk result (IsTellerOf self.now.number.now.frames work.new.teller) }
         ensures told { OnOk result (KeepsTold X.told work.old watcher.old work.new watcher.new) }
     {
         for _ in rt.forever() {
@@ -387,9 +386,7 @@ impl<J: Job + Drop> Shift<'_, J> {
         ensures told { OnOk result (KeepsTold X.told work.old watcher.old work.new watcher.new) }
     {
         let stepped = Frame::step(rt, release, &mut work.backlog)?;
-        if let State::Went = &stepped.state {
-            work.tell_newest(watcher)?;
-        }
+        work.tell_step(&stepped.state, watcher)?;
         Ok(stepped)
     }
 

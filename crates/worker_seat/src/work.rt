@@ -8,7 +8,7 @@ use run_frame::Job;
 use span_book::Teller;
 use span_profile::Watch;
 use std::alloc::Global;
-use table_frames::Backlog;
+use table_frames::{Backlog, State};
 
 /// What a worker has done in a frame and not brought yet, with a number of the frame where it has one, and the teller of
 /// the spans that it has brought.
@@ -20,7 +20,7 @@ pub struct FrameWork<J: Job + Drop> {
 }
 
 impl<J: Job + Drop> FrameWork<J> {
-    ghost use Rattle.worker_seat.specs.inside.Works.{TellsNewest};
+    ghost use Rattle.worker_seat.specs.inside.Works.{TellsBringing, TellsNewest, TellsStep};
 
     /// Nothing.
     pub fn new(alloc: Global, teller: Teller) -> FrameWork<J>
@@ -35,8 +35,35 @@ impl<J: Job + Drop> FrameWork<J> {
         }
     }
 
-    /// Tells a watcher the span that the newest of it ended, if it ended one.
-    pub fn tell_newest<X: Watch>(&self, watcher: &mut X) -> Result<(), NoMemory>
+    /// Tells a watcher the span that a step has ended, if it has ended one, by what is with the run then.
+    pub fn tell_step<X: Watch>(&self, state: &State<J>, watcher: &mut X) -> Result<(), NoMemory>
+        ensures { OnOk result
+            (TellsStep X.told state.now self.now.backlog watcher.old watcher.new) }
+    {
+        match state {
+            State::Went => self.tell_newest(watcher),
+            _ => Ok(()),
+        }
+    }
+
+    /// Tells a watcher the span that ended in the frame around as a run inside it was brought, if that is over, by what is
+    /// with the run then.
+    pub fn tell_bringing<X: Watch>(
+        &self,
+        state: &State<J>,
+        watcher: &mut X,
+    ) -> Result<(), NoMemory>
+        ensures { OnOk result
+            (TellsBringing X.told state.now self.now.backlog watcher.old watcher.new) }
+    {
+        match state {
+            State::Resumed(_) => self.tell_newest(watcher),
+            _ => Ok(()),
+        }
+    }
+
+    // Tells a watcher the span that the newest of it ended, if it ended one.
+    fn tell_newest<X: Watch>(&self, watcher: &mut X) -> Result<(), NoMemory>
         ensures { OnOk result (TellsNewest X.told self.now.backlog watcher.old watcher.new) }
     {
         match self.backlog.newest_span() {

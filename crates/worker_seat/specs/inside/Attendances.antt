@@ -1,5 +1,5 @@
 -- What comes of a seat that is entered, or that leaves its run.
-use Rattle.std.specs.Prelude.{◌≡◌, ◌+◌, ℕ, List, map, sum, All, Bool, true, false, Some, if◌then◌else◌}
+use Rattle.std.specs.Prelude.{◌≡◌, ◌+◌, ℕ, List, sum_by, All, Bool, true, false, Some, if◌then◌else◌}
 use Rattle.std.specs.Arc.{arc_value}
 use Rattle.atomic_table.specs.Seated.{TableId}
 use Rattle.nested_runs.specs.Totals.{all_spans}
@@ -54,7 +54,7 @@ teller_told seat = if (state_of seat).closed then told_in_run seat else 0
 
 -- With those of these seats, the run's tally has all tellers that its book was made with.
 abbrev pub HasAllTellers : {J V X : Type 0} → List (WorkerSeat J X V) → FetchedRun J V → Type 0
-HasAllTellers seats fetched = fetched.closed.spans.tellers + sum (map teller_count seats) ≡ (arc_value fetched.run).book.tellers
+HasAllTellers seats fetched = fetched.closed.spans.tellers + sum_by teller_count seats ≡ (arc_value fetched.run).book.tellers
 
 -- tellers of the book of this name that have told nothing yet
 abbrev pub AreNew : TableId → List TellerState → Type 0

@@ -43,6 +43,11 @@ FitsRun (At run teller) = teller.book ≡ (arc_value run).book.name
 FitsRun (Found run ticket teller) = (ticket.register ≡ (arc_value run).register) × (teller.book ≡ (arc_value run).book.name)
 FitsRun (Lost run) = Unit {0}
 
+-- it was entered, if it is at a run
+abbrev pub HasEntered : {J V : Type 0} → Attendance J V → Type 0
+HasEntered (At run teller) = ⊥
+HasEntered _ = Unit {0}
+
 -- The teller told so many spans: none before the seat is entered.
 abbrev pub HasTold : {J V : Type 0} → ℕ → Attendance J V → Type 0
 HasTold told Away = Unit {0}

@@ -42,6 +42,16 @@ abbrev pub TellsNewest : {J V X : Type 0} → (X → ℕ) → BacklogView J V �
 TellsNewest {J} {V} told backlog old new = (before n : ℕ) (earlier : List (Fate V)) (fate : Fate V) → backlog.fates ≡ earlier ++ fate ∷ []
     → IsToldSince told before n old → IsToldSince told before (n + spans_in (fate ∷ [])) new
 
+-- after a step, by what is with the run then: where it used its release up, a watcher was told the span that it ended, if it ended one
+abbrev pub TellsStep : {J V X : Type 0} → (X → ℕ) → State J V → BacklogView J V → X → X → Type 0
+TellsStep told Went backlog old new = TellsNewest told backlog old new
+TellsStep told _ backlog old new = new ≡ old
+
+-- after a bringing: where a start goes on in the frame around, a watcher was told its span
+abbrev pub TellsBringing : {J V X : Type 0} → (X → ℕ) → State J V → BacklogView J V → X → X → Type 0
+TellsBringing told (Resumed released) backlog old new = TellsNewest told backlog old new
+TellsBringing told _ backlog old new = new ≡ old
+
 -- A step of these frames may add to it. Where a number is there, it is of these frames.
 pub record IsTurnedTo {J V : Type 0} (frames : List (FrameKey J)) (work : FrameWork J V) : Type 0 where
   pub may : MayTake work.backlog frames

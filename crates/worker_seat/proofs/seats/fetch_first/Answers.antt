@@ -2,18 +2,20 @@ use Rattle.std.proofs.Common.{refl}
 use Rattle.worker_seat.proofs.FoundLemmas.{first_below, first_is_closed, none_closed, left_all, run_found_if, some_not_none}
 use Rattle.worker_seat.proofs.seats.fetch_first.Goals as goal
 
-pub returns-in-None-clause-none : goal.returns-in-None-clause-none
-returns-in-None-clause-none g c = λ _. (none_closed _ c.in-None.ensures, refl)
+pub returns-in_default-clause-none : goal.returns-in_default-clause-none
+returns-in_default-clause-none g c = ?
 
-pub returns-in-Some-clause-none : goal.returns-in-Some-clause-none
-returns-in-Some-clause-none g c = λ none.
-    let closed = first_is_closed _ _ c.index-seats-first.result c.in-Some.ensures in
-    absurd (some_not_none _ (c.fetch-run.ensures.found closed) none)
+pub leave_all-requires-clause-book : goal.leave_all-requires-clause-book
+leave_all-requires-clause-book g c κs within = ?
 
-pub returns-in-Some-clause-run : goal.returns-in-Some-clause-run
-returns-in-Some-clause-run g c =
-    run_found_if _ _ _ c.index-seats-first.result _ (first_below _ _ c.index-seats-first.result c.in-Some.ensures) c.fetch-run.ensures.run
+pub unreachable-requires : goal.unreachable-requires
+unreachable-requires g c = ?
 
-pub returns-in-Some-clause-left : goal.returns-in-Some-clause-left
-returns-in-Some-clause-left g c = λ _.
-    left_all _ _ _ c.index-seats-first.result _ (first_below _ _ c.index-seats-first.result c.in-Some.ensures) c.fetch-run.ensures.seat c.leave_all.ensures
+pub returns-clause-run : goal.returns-clause-run
+returns-clause-run g c = ?
+
+pub returns-clause-left : goal.returns-clause-left
+returns-clause-left g c = ?
+
+pub returns-clause-spans : goal.returns-clause-spans
+returns-clause-spans g c = ?
