@@ -34,7 +34,7 @@ changed_set f (suc n) [] y lt is = absurd (omega arith)
 changed_set f (suc n) (x ∷ xs) y lt is = ap (λ ys. f x ∷ ys) (changed_set f n xs y (omega arith) is)
 
 -- which was as it had been
-changed_next : {X : Type 0} (f : X → X) (n : ℕ) (xs : List X) (d : X) → slice_index_or (changed f n xs) n d ≡ slice_index_or xs n d
+pub changed_next : {X : Type 0} (f : X → X) (n : ℕ) (xs : List X) (d : X) → slice_index_or (changed f n xs) n d ≡ slice_index_or xs n d
 changed_next f zero xs d = refl
 changed_next f (suc n) [] d = refl
 changed_next f (suc n) (x ∷ xs) d = changed_next f n xs d

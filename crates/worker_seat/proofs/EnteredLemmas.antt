@@ -3,13 +3,15 @@ use Rattle.std.proofs.Common.{◌≡◌, ◌<◌, ◌≤◌, ◌+◌, ◌++◌, 
 use Rattle.std.proofs.lemmas.List.Elements.{All-map}
 use Rattle.std.proofs.Math.Seq.{take-append_seam}
 use Rattle.std.proofs.lemmas.List.{length-map}
-use Rattle.std.specs.Prelude.{◌-◌, ◌^◌, min, sum_by, slice_index_or, Option, IfSome, IsSome, IsNone}
+use Rattle.std.proofs.lemmas.List.Sums.{sum_by-cons}
+use Rattle.std.specs.Prelude.{◌-◌, ◌^◌, min, sum_by, slice_index_or, Option, IfSome, IsSome, IsNone, Result, Ok, Err, OnOk}
 use Rattle.run_frame.specs.declared.run.FrameRun.{FrameRun}
 use Rattle.run_frame.specs.Meaning.{Meaning}
 use Rattle.run_frame.specs.NestedRule.{job_of}
 use Rattle.worker_seat.specs.declared.crew.Crew.{Crew}
 use Rattle.worker_seat.specs.declared.seat.WorkerSeat.{WorkerSeat}
 use Rattle.worker_seat.specs.Seats.{RunBook, SeatState, IsClosedWith, at_job, away, found_closed, left_refused, refused_seat}
+use Rattle.worker_seat.specs.inside.Runs.{RunView}
 use Rattle.worker_seat.specs.Crews.{moved, state_of, watcher_of, crew_of, told_in_run, AreAtOneRun, AreEntered, AreSeatsOf, AreSent, AreSpansOf, AreWatched, HasFound, HasWatched, IsEntered, IsFoundRunOf, IsKeptOf, IsOpen, IsSeatOf, IsServed, IsToldMore, MayEnter, MayHaveBook}
 
 abbrev some_or : {Y : Type 0} → Y → Option Y → Y
@@ -27,6 +29,17 @@ map_at f (x ∷ xs) zero d e lt = refl
 map_at f (x ∷ xs) (suc k) d e lt = map_at f xs k d e (omega arith)
 
 module _ {J V X : Type 0} where
+  -- all seats were sent to a run of which there is a teller for each
+  pub sent_to : {A E : Type 0} (o : Result A E) (crew : Crew J V) (run : RunView J) (job : J) (old lent new : List (WorkerSeat J X V)) (len : ℕ) → run.book.tellers ≡ (crew_of crew).seats → run.job ≡ job → lent ≡ old
+      → length lent ≡ len → OnOk o (new ≡ map (moved (at_job run.job run.book)) lent) → OnOk o (AreSent (crew_of crew).seats job old (take len (new ++ drop (length new) old)))
+  sent_to (Ok a) crew run job old lent new len tellers of_job same long sent = record {
+    book = run.book;
+    count = tellers;
+    seats_are = all_written old new len (ap length sent ∙ length-map lent (moved (at_job run.job run.book)) ∙ long) ∙ sent
+        ∙ ap (λ (j : J). map (moved (at_job j run.book)) lent) of_job ∙ ap (λ (zs : List (WorkerSeat J X V)). map (moved (at_job job run.book)) zs) same;
+  }
+  sent_to (Err e) crew run job old lent new len tellers of_job same long sent = tt
+
   -- seats that were sent to a run may be entered
   pub may_enter : (crew : Crew J V) (count : ℕ) (job : J) (xs sent ys : List (WorkerSeat J X V)) → All (IsSeatOf crew) xs → AreSent count job xs sent → ys ≡ sent → All (MayEnter crew) ys
   may_enter crew count job xs sent ys all are e =
@@ -90,7 +103,7 @@ module _ {J V X : Type 0} where
   -- leaving a run changes no count
   away_told : (xs : List (WorkerSeat J X V)) → sum_by told_in_run (map (moved away) xs) ≡ sum_by told_in_run xs
   away_told [] = refl
-  away_told (x ∷ xs) = ap (λ (n : ℕ). told_in_run x + n) (away_told xs)
+  away_told (x ∷ xs) = sum_by-cons told_in_run (moved away x) (map (moved away) xs) ∙ ap (λ (n : ℕ). told_in_run x + n) (away_told xs) ∙ sym (sum_by-cons told_in_run x xs)
 
   -- all seats of a crew after they were sent to a run and entered
   module _ (told : X → ℕ) (crew : Crew J V) (job : J) (xs sent lent new : List (WorkerSeat J X V)) (len : ℕ) (are : AreSeatsOf crew xs)
@@ -149,7 +162,9 @@ module _ {J V X : Type 0} where
     told_at : (k : ℕ) (d : WorkerSeat J X V) → k < length xs → IsServed (slice_index_or new k d) → IsToldMore told (told_in_run (slice_index_or new k d)) (watcher_of (slice_index_or xs k d)) (watcher_of (slice_index_or new k d))
     told_at k d lt served =
         let watched = watched_at k d lt served in
-        watched.watcher_told ∙ ap (λ (n : ℕ). min (told (watcher_of (slice_index_or xs k d)) + n) (2 ^ 64 - 1)) (sym (ap (λ (s : SeatState J). s.told) watched.state))
+        let counted : told_in_run (slice_index_or new k d) ≡ 0 + watched.count = ap (λ (s : SeatState J). s.told) watched.state in
+        let same_count : watched.count ≡ told_in_run (slice_index_or new k d) = omega (arith, counted) in
+        watched.watcher_told ∙ ap (λ (n : ℕ). min (told (watcher_of (slice_index_or xs k d)) + n) (2 ^ 64 - 1)) same_count
 
     -- what was told once the seats have left the run, or none has found it closed
     pub watched_after : (last : List (WorkerSeat J X V)) (o : Option (FrameRun J V)) → (IsSome o → last ≡ map (moved away) after) → (IsNone o → All IsOpen after × (last ≡ after)) → AreWatched told xs last

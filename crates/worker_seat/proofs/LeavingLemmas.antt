@@ -1,6 +1,6 @@
 -- The tally of a run as seats leave it, one after the other.
 use Rattle.std.proofs.Common.{◌≡◌, ℕ, zero, suc, ◌+◌, ◌<◌, ◌≤◌, Bool, true, false, List, [], ◌∷◌, All, length, map, refl, ap, sym, subst, ◌∙◌, Some, None, arith, add-one}
-use Rattle.std.proofs.lemmas.List.Sums.{sum_by-set}
+use Rattle.std.proofs.lemmas.List.Sums.{sum_by-cons, sum_by-set}
 use Rattle.std.specs.Prelude.{if◌then◌else◌, sum_by, slice_set, slice_index_or, Option, IfSome}
 use Rattle.span_book.specs.SpanBooks.{TallyState, tally_state}
 use Rattle.worker_seat.specs.declared.seat.WorkerSeat.{WorkerSeat}
@@ -66,7 +66,7 @@ module _ {J V X : Type 0} where
   tellers_from zero (x ∷ xs) t le = absurd (omega arith)
   tellers_from (suc n) [] t le = omega arith
   tellers_from (suc n) (x ∷ xs) t le =
-      let more : sum_by teller_count (x ∷ xs) ≡ teller_count x + sum_by teller_count xs = refl in
+      let more : sum_by teller_count (x ∷ xs) ≡ teller_count x + sum_by teller_count xs = sum_by-cons teller_count x xs in
       let rest : (collected_from (suc n) (x ∷ xs) t).tellers ≡ (collected (state_of x).closed (told_in_run x) t).tellers + sum_by teller_count xs =
           tellers_from n xs (collected (state_of x).closed (told_in_run x) t) (omega arith) in
       let one : (collected (state_of x).closed (told_in_run x) t).tellers ≡ t.tellers + teller_count x = tellers_more (state_of x).closed (told_in_run x) t in
@@ -77,7 +77,7 @@ module _ {J V X : Type 0} where
   told_from zero (x ∷ xs) t le = absurd (omega arith)
   told_from (suc n) [] t le = omega arith
   told_from (suc n) (x ∷ xs) t le =
-      let more : sum_by teller_told (x ∷ xs) ≡ teller_told x + sum_by teller_told xs = refl in
+      let more : sum_by teller_told (x ∷ xs) ≡ teller_told x + sum_by teller_told xs = sum_by-cons teller_told x xs in
       let rest : (collected_from (suc n) (x ∷ xs) t).told ≡ (collected (state_of x).closed (told_in_run x) t).told + sum_by teller_told xs =
           told_from n xs (collected (state_of x).closed (told_in_run x) t) (omega arith) in
       let one : (collected (state_of x).closed (told_in_run x) t).told ≡ t.told + teller_told x = told_more (state_of x).closed (told_in_run x) t in
@@ -88,7 +88,7 @@ module _ {J V X : Type 0} where
   all_counted [] all = refl
   all_counted (x ∷ xs) all =
       let one : teller_count x ≡ 1 = ap (λ (b : Bool). if b then 1 else 0) (all 0 x (omega arith)) in
-      let more : sum_by teller_count (x ∷ xs) ≡ teller_count x + sum_by teller_count xs = refl in
+      let more : sum_by teller_count (x ∷ xs) ≡ teller_count x + sum_by teller_count xs = sum_by-cons teller_count x xs in
       let rest = all_counted xs (λ k d lt. all (suc k) d (omega (arith, lt))) in
       omega (arith, one, rest, more)
 
@@ -96,8 +96,8 @@ module _ {J V X : Type 0} where
   all_told [] all = refl
   all_told (x ∷ xs) all =
       let one : teller_told x ≡ told_in_run x = ap (λ (b : Bool). if b then told_in_run x else 0) (all 0 x (omega arith)) in
-      let more : sum_by teller_told (x ∷ xs) ≡ teller_told x + sum_by teller_told xs = refl in
-      let all_more : sum_by told_in_run (x ∷ xs) ≡ told_in_run x + sum_by told_in_run xs = refl in
+      let more : sum_by teller_told (x ∷ xs) ≡ teller_told x + sum_by teller_told xs = sum_by-cons teller_told x xs in
+      let all_more : sum_by told_in_run (x ∷ xs) ≡ told_in_run x + sum_by told_in_run xs = sum_by-cons told_in_run x xs in
       let rest = all_told xs (λ k d lt. all (suc k) d (omega (arith, lt))) in
       omega (arith, one, rest, more, all_more)
 

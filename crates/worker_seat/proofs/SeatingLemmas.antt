@@ -2,7 +2,7 @@
 use Rattle.std.proofs.Common.{◌≡◌, ℕ, ◌<◌, List, [], ◌∷◌, ◌++◌, All, length, map, refl, ap, sym, subst, ◌∙◌, arith}
 use Rattle.std.proofs.lemmas.Grind.{common_steps}
 use Rattle.std.proofs.lemmas.List.Elements.{All-push}
-use Rattle.std.specs.Prelude.{slice_index_or, IfSome, Option, Some, None, Result, Ok, Err, OnOk}
+use Rattle.std.specs.Prelude.{slice_index_or, IfSome, Option, Some, None}
 use Rattle.std.specs.List.{remove}
 use Rattle.atomic_table.specs.Seated.{TableId}
 use Rattle.ready_deques.specs.Lists.{OwnerState, IsOwnerOf, tag_of}
@@ -15,8 +15,8 @@ use Rattle.table_frames.specs.declared.step_results.Stepped.{Stepped}
 use Rattle.table_runs.specs.RunKeys.{FrameKey}
 use Rattle.worker_seat.specs.declared.crew.Crew.{Crew}
 use Rattle.worker_seat.specs.declared.seat.WorkerSeat.{WorkerSeat}
-use Rattle.worker_seat.specs.Seats.{ListName, RunBook, SeatState, at_job, new_seat, run_book}
-use Rattle.worker_seat.specs.Crews.{AreAtOneRun, AreSent, IsSeatOf, MayBegin, crew_of, moved, state_of}
+use Rattle.worker_seat.specs.Seats.{ListName, RunBook, SeatState, new_seat, run_book}
+use Rattle.worker_seat.specs.Crews.{AreAtOneRun, IsSeatOf, MayBegin, crew_of, state_of}
 use Rattle.worker_seat.specs.inside.Runs.{AreOfRun, IsClosedOf, RunView}
 use Rattle.worker_seat.specs.inside.SeatPlaces.{IsRunOn, list_name, owner_list}
 
@@ -99,16 +99,6 @@ module _ {J V X : Type 0} where
       let P : WorkerSeat J X V → Type 0 = λ s. IsRunOn (state_of s).list run in
       let each : All P seats = λ k d lt. subst (λ (l : ListName). IsRunOn l run) (sym (all k d lt)) on in
       subst (λ (zs : List (WorkerSeat J X V)). All P zs) (sym same) each
-
-  -- all seats were sent to a run of which there is a teller for each
-  pub sent_to : {A E : Type 0} (o : Result A E) (crew : Crew J V) (run : RunView J) (job : J) (old lent new : List (WorkerSeat J X V)) → run.book.tellers ≡ (crew_of crew).seats → run.job ≡ job → lent ≡ old
-      → OnOk o (new ≡ map (moved (at_job run.job run.book)) lent) → OnOk o (AreSent (crew_of crew).seats job old new)
-  sent_to (Ok a) crew run job old lent new tellers of_job same sent = record {
-    book = run.book;
-    count = tellers;
-    seats_are = sent ∙ ap (λ (j : J). map (moved (at_job j run.book)) lent) of_job ∙ ap (λ (zs : List (WorkerSeat J X V)). map (moved (at_job job run.book)) zs) same;
-  }
-  sent_to (Err e) crew run job old lent new tellers of_job same sent = tt
 
 abbrev some_or : {Y : Type 0} → Y → Option Y → Y
 some_or y None = y

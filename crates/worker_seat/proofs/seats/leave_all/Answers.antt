@@ -20,11 +20,11 @@ leave-requires-clause-book g c κs within =
 
 pub leave-requires-clause-spans : goal.leave-requires-clause-spans
 leave-requires-clause-spans g c κs within =
-    ap (λ tally. tally.book) c.loop-seat.invariant.spans ∙ book_from _ _ _ ∙ c.requires.spans ∙ ap (λ run. run.book.name) (sym c.deref.ensures)
+    ap (λ tally. tally.book) c.loop-seat.invariant.spans ∙ book_from c.loop-seat.seat-index c.args.seats.now c.args.fetched.closed.spans ∙ c.requires.spans ∙ ap (λ run. run.book.name) (sym c.deref.ensures)
 
 pub settle-requires-after_bounds : goal.settle-requires-after_bounds
 settle-requires-after_bounds g c κs within =
-    ap (λ tally. tally.book) c.loop-seat.invariant.spans ∙ book_from _ _ _ ∙ c.requires.spans ∙ ap (λ run. run.book.name) (sym c.deref-2.ensures)
+    ap (λ tally. tally.book) c.loop-seat.invariant.spans ∙ book_from c.loop-seat.seat-index c.args.seats.now c.args.fetched.closed.spans ∙ c.requires.spans ∙ ap (λ run. run.book.name) (sym c.deref-2.ensures)
 
 pub returns-clause-seats : goal.returns-clause-seats
 returns-clause-seats g c = moved_all _ _ _ _ c.loop-seat.invariant.seats c.loop-seat-test.false

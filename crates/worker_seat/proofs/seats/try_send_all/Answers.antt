@@ -14,8 +14,8 @@ loop-seat-preserved g c =
     let sent = rw c.in_ok-run.ensures at c.attend.ensures in
     record {
       seats = moved_next _ _ _ _ _ _ c.loop-seat.invariant.seats c.loop-seat-test.true c.seat-item.is sent;
-      tellers = ?;
-      count = ?;
+      tellers = front_is (λ teller. teller ≡ teller_state (arc_value c.args.run.now).book.name 0) _ _ c.in-Some.teller c.loop-seat.invariant.tellers c.in-Some.ensures.items;
+      count = grind (arith, common_steps);
     }
 
 pub returns-clause-ok : goal.returns-clause-ok
@@ -30,4 +30,6 @@ attend-requires-clause-run g c κs within =
     subst (λ run. IsRunOn (state_of (slice_index_or c.loop-seat.seats c.loop-seat.seat-index c.seat-item.result)).list run) (sym c.in_ok-run.ensures) old
 
 pub attend-requires-clause-teller : goal.attend-requires-clause-teller
-attend-requires-clause-teller g c κs within = ?
+attend-requires-clause-teller g c κs within =
+    last_is (λ teller. teller ≡ teller_state (arc_value c.args.run.now).book.name 0) _ _ c.in-Some.teller c.loop-seat.invariant.tellers c.in-Some.ensures.items
+    ∙ ap (λ run. teller_state run.book.name 0) (sym c.in_ok-run.ensures)
