@@ -20,7 +20,7 @@ use Rattle.run_frame.specs.declared.run.ValueRow.{ValueRow}
 use Rattle.run_frame.specs.Runs.{value_at, found_at, found_by}
 use Rattle.run_laws.specs.OneThreadValue.{TaskEnd, OneAnswer, source_of}
 use Rattle.run_laws.specs.Ends.{gather, is_task}
-use Rattle.run_laws.specs.PipeNet.{next}
+use Rattle.pipe_lines.specs.PipeNet.{next}
 use Rattle.run_laws.specs.Cycles.{CycleEdge, LiesAt, IsCycle, uses_some, turn}
 use Rattle.run_laws.proofs.Along.{Told, gather_push}
 use Rattle.run_laws.proofs.Phases.{Phase, begins, ends_one, closed_few, idle, busy, and_both}

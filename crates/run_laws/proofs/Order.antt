@@ -18,7 +18,7 @@ use Rattle.journal_rules.proofs.Snoc.{count_by_push}
 use Rattle.journal_rules.proofs.Tallying.{count_by_push_no, count_by_push_yes}
 use Rattle.run_laws.specs.OneThreadValue.{source_of, target_of}
 use Rattle.run_laws.specs.Rings.{IsRinged}
-use Rattle.run_laws.specs.PipeNet.{next}
+use Rattle.pipe_lines.specs.PipeNet.{next}
 use Rattle.run_laws.specs.Cycles.{CycleEdge, LiesAt, IsCycle, uses_some, turn, GoesRound}
 use Rattle.run_laws.proofs.Along.{along, weaker, Told, told_before}
 use Rattle.run_laws.proofs.Phases.{begins, ends_one, ends_few}

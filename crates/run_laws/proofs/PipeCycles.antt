@@ -8,7 +8,7 @@ use Rattle.std.proofs.lemmas.Bool.{cases_eq, cases_lt}
 use Rattle.std.proofs.lemmas.Option.{slice_get_within, slice_get-map}
 use Rattle.task_graph.specs.NetRows.{NetRows}
 use Rattle.task_graph.specs.declared.net.EdgeRow.{EdgeRow}
-use Rattle.run_laws.specs.PipeNet.{PipeEdge, next, cell, line_edge, serial_edge, cell_edges, edges_from, line_edges, pipe_edges, pipe_net}
+use Rattle.pipe_lines.specs.PipeNet.{PipeEdge, next, cell, line_edge, serial_edge, cell_edges, edges_from, line_edges, pipe_edges, pipe_net}
 use Rattle.run_laws.specs.Cycles.{CycleEdge, LiesAt, IsCycle, is_one_of}
 use Rattle.run_laws.specs.Laws.{PipesGoRound}
 use Rattle.run_laws.proofs.Lists.{get_append}

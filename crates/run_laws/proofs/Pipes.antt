@@ -1,26 +1,25 @@
 -- The net of lines and pipes is one of rings: one for each line and one for each serial pipe.
 use Rattle.std.proofs.Common.{◌≡◌, ◌≢◌, ◌⊎◌, inl, inr, ℕ, zero, suc, ◌+◌, ◌*◌, ◌-◌, ◌<◌, ◌≤◌, Bool, true, false, not, ◌&&◌, cond, eqb, List, [], ◌∷◌, ◌++◌, length, map, Option, Some, None, sym, refl, ap, ◌∙◌, subst, arith}
-use Rattle.std.specs.Prelude.{slice_get, count_by, sum_by, ◌==◌}
+use Rattle.std.specs.Prelude.{slice_get, count_by, replicate, sum_by, ◌==◌}
 use Rattle.std.specs.Option.{option_map_or, option_map}
 use Rattle.std.specs.List.{range_with_len}
 use Rattle.std.proofs.lemmas.Bool.Decides.{nat_tests}
 use Rattle.std.proofs.lemmas.Bool.{cases_eq, cases_lt}
 use Rattle.std.proofs.lemmas.List.Sums.{sum_by-cons}
-use Rattle.std.proofs.lemmas.List.FromFn.{length-map-range_with_len}
+use Rattle.std.proofs.lemmas.List.{length-replicate}
 use Rattle.journal_rules.specs.declared.entry.Entry.{Entry}
 use Rattle.journal_rules.specs.ShapeLegal.{ShapeLegal}
 use Rattle.std.proofs.lemmas.Option.{slice_get_within, slice_get-get_or, slice_get-map}
 use Rattle.task_graph.specs.NetRows.{NetRows}
 use Rattle.task_graph.specs.Places.{places, places_from}
 use Rattle.task_graph.specs.Net.{is_weak, is_weak_row, task_chooses, chooses, strong_in}
-use Rattle.task_graph.specs.declared.net.Shape.TheVariants.{Plain}
 use Rattle.task_graph.specs.declared.net.TaskRow.{TaskRow}
 use Rattle.task_graph.specs.declared.net.EdgeRow.{EdgeRow}
 use Rattle.journal_rules.specs.Counts.{first_tokens}
 use Rattle.journal_rules.proofs.NetLemmas.{any_place}
 use Rattle.run_laws.specs.OneThreadValue.{source_of, target_of}
 use Rattle.run_laws.specs.Rings.{IsRing, RingOf, IsRinged}
-use Rattle.run_laws.specs.PipeNet.{PipeEdge, next, line_edge, serial_edge, cell_edges, edges_from, line_edges, pipe_edges, pipe_net}
+use Rattle.pipe_lines.specs.PipeNet.{PipeEdge, cell_row, next, line_edge, serial_edge, cell_edges, edges_from, line_edges, pipe_edges, pipe_net}
 use Rattle.run_laws.specs.Steady.{Steady}
 use Rattle.run_laws.proofs.Lists.{all_places}
 use Rattle.run_laws.proofs.Phases.{and_both}
@@ -375,11 +374,12 @@ module _ (lines : ℕ) (serials : List Bool) where
           }
 
   plain : (t : ℕ) → task_chooses net t ≡ false
-  plain t = ap (λ o. option_map_or (λ (r : TaskRow). chooses r.shape) o false) (slice_get-map (λ (i : ℕ). record { shape = Plain; takes = []; puts = [] }) (range_with_len 0 (lines * length serials)) t) ∙ by_place (slice_get (range_with_len 0 (lines * length serials)) t)
+  plain t = all_plain (lines * length serials) t
     where
-      by_place : (o : Option ℕ) → option_map_or (λ (r : TaskRow). chooses r.shape) (option_map (λ (i : ℕ). record { shape = Plain; takes = []; puts = [] }) o) false ≡ false
-      by_place None = refl
-      by_place (Some i) = refl
+      all_plain : (n k : ℕ) → option_map_or (λ (r : TaskRow). chooses r.shape) (slice_get (replicate n cell_row) k) false ≡ false
+      all_plain zero k = refl
+      all_plain (suc n) zero = refl
+      all_plain (suc n) (suc k) = all_plain n k
 
   no_weak : (e : ℕ) → is_weak net e ≡ false
   no_weak e = by_row (slice_get net.edges e)
@@ -429,7 +429,7 @@ module _ (lines : ℕ) (serials : List Bool) where
   -- so it has a strong in-edge
   fed : (t : ℕ) → t < length net.tasks → strong_in net t ≢ []
   fed t below none =
-      let tasks : length net.tasks ≡ lines * length serials = length-map-range_with_len (λ (i : ℕ). record { shape = Plain; takes = []; puts = [] }) 0 (lines * length serials) in
+      let tasks : length net.tasks ≡ lines * length serials = length-replicate (lines * length serials) cell_row in
       not_none net t 0 all plain (line_into t (omega (arith, below, tasks))) none
 
   pub pipes_ringed : IsRinged net

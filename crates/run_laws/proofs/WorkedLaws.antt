@@ -30,7 +30,7 @@ use Rattle.run_laws.specs.Ends.{is_task, ends}
 use Rattle.run_laws.specs.Steady.{runs_at, stops, MayStart, StartRule, Steady}
 use Rattle.run_laws.specs.Graphs.{Returns, IsGraph}
 use Rattle.run_laws.specs.Rings.{IsRing, IsRinged, RingOf}
-use Rattle.run_laws.specs.PipeNet.{next, cell, pipe_net}
+use Rattle.pipe_lines.specs.PipeNet.{cell, pipe_net}
 use Rattle.run_laws.specs.Cycles.{CycleEdge, LiesAt, IsCycle, is_one_of, uses_some, turn, GoesRound}
 use Rattle.run_laws.specs.Laws.{IsInTurn, KeepsSteady, RunsThrough}
 use Rattle.run_laws.specs.SmallNets.{four_tasks, two_in_a_ring, adding, failing_on_2, end}
@@ -217,33 +217,11 @@ given_twice_at_edge_1 is = absurd (omega (arith, is.calm.1.0.1.1.0))
 
 -- ---- lines, pipes and rings
 
-nexts : (next 3 0 ≡ 1) × (next 3 1 ≡ 2) × (next 3 2 ≡ 0) × (next 1 0 ≡ 0)
-nexts = (refl, refl, refl, refl)
-
 abbrev free : TaskRow
 free = record { shape = Plain; takes = []; puts = [] }
 
 abbrev from_to : ℕ → ℕ → Bool → EdgeRow
 from_to from to start = record { from = from; to = to; start = start }
-
-cells : (cell 3 0 2 ≡ 2) × (cell 3 2 1 ≡ 7)
-cells = (refl, refl)
-
--- Two lines, and of two pipes the second parallel: cells (0,0), (0,1), (1,0) and (1,1) are the tasks 0 to 3.
-two_by_two : pipe_net 2 (true ∷ false ∷ []) ≡ record {
-  tasks = free ∷ free ∷ free ∷ free ∷ [];
-  edges = from_to 0 1 false ∷ from_to 0 2 false ∷ from_to 1 0 true ∷ from_to 2 3 false ∷ from_to 2 0 true ∷ from_to 3 2 true ∷ [];
-  sems = [];
-}
-two_by_two = refl
-
--- one line of a serial pipe alone: both edges lead from its task to itself
-one_by_one : pipe_net 1 (true ∷ []) ≡ record { tasks = free ∷ []; edges = from_to 0 0 true ∷ from_to 0 0 true ∷ []; sems = [] }
-one_by_one = refl
-
--- one line of two pipes
-one_by_two : pipe_net 1 (true ∷ false ∷ []) ≡ record { tasks = free ∷ free ∷ []; edges = from_to 0 1 false ∷ from_to 0 0 true ∷ from_to 1 0 true ∷ []; sems = [] }
-one_by_two = refl
 
 ring_of_two : IsRing two_in_a_ring (0 ∷ 1 ∷ [])
 ring_of_two = record { balanced = balances; one_token = omega arith; in_range = (omega arith, (omega arith, tt)) }

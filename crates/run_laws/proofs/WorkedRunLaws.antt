@@ -31,7 +31,7 @@ use Rattle.run_laws.specs.OneThreadValue.{TaskEnd, OneAnswer, one_thread_value}
 use Rattle.run_laws.specs.Starts.{HasFault}
 use Rattle.run_laws.specs.Prefixes.{IsPrefixOf}
 use Rattle.run_laws.specs.Steady.{Steady}
-use Rattle.run_laws.specs.PipeNet.{pipe_net}
+use Rattle.pipe_lines.specs.PipeNet.{pipe_net}
 use Rattle.run_laws.specs.Cycles.{GoesRound}
 use Rattle.run_laws.specs.Laws.{HasNoOtherValues, HasOneThreadValues, IsDecided, IsGraphRun, IsInTurn, IsSteadyRun, PipesGoRound, RingsGoRound, ValuesGrow, run_ends}
 use Rattle.run_laws.specs.SmallNets.{adding, end, two_in_a_ring}

@@ -6,7 +6,7 @@ use Rattle.journal_rules.specs.declared.entry.Entry.{Entry}
 use Rattle.journal_rules.specs.declared.entry.Entry.TheVariants.{Start, End, Fault, Drop}
 use Rattle.journal_rules.specs.Counts.{first_tokens}
 use Rattle.run_laws.specs.OneThreadValue.{source_of, target_of}
-use Rattle.run_laws.specs.PipeNet.{next}
+use Rattle.pipe_lines.specs.PipeNet.{next}
 
 -- an edge from a task of the ring to the next
 pub record CycleEdge (net : NetRows) (n : ℕ) (cell : ℕ → ℕ) (l : ℕ) (edge : ℕ) : Type 0 where

@@ -19,7 +19,7 @@ use Rattle.run_laws.specs.Ends.{ends}
 use Rattle.run_laws.specs.Steady.{Steady}
 use Rattle.run_laws.specs.OneAnswer.{AllowsOne}
 use Rattle.run_laws.specs.Rings.{IsRinged}
-use Rattle.run_laws.specs.PipeNet.{cell, pipe_net}
+use Rattle.pipe_lines.specs.PipeNet.{cell, pipe_net}
 use Rattle.run_laws.specs.Cycles.{IsCycle, GoesRound, is_one_of}
 
 -- ---- steady runs

@@ -6,7 +6,6 @@ pub mod Steady
 pub mod OneAnswer
 pub mod Graphs
 pub mod Rings
-pub mod PipeNet
 pub mod Cycles
 pub mod Laws
 pub mod SmallNets

@@ -5,7 +5,7 @@ ghost use Rattle.journal_rules.specs.OnceNets.{IsOnceNet};
 ghost use Rattle.run_laws.specs.OneThreadValue.{OneAnswer};
 ghost use Rattle.run_laws.specs.Rings.{IsRinged};
 ghost use Rattle.run_laws.specs.Laws.{HasNoOtherValues, HasOneThreadValues, IsDecided, IsGraphRun, KeepsSteady, PipesGoRound, RingsGoRound, ValuesGrow};
-ghost use Rattle.run_laws.specs.PipeNet.{pipe_net};
+ghost use Rattle.pipe_lines.specs.PipeNet.{pipe_net};
 
 use run_frame::{FrameRun, Job};
 

@@ -5,9 +5,9 @@
 //!
 //! - Runs (`laws.rt`): `one_thread_value` works the values of a net's tasks out by a recursion over the net, with no
 //!   journal and no order of tasks. The laws say when the values in a run's journal are these. A journal is steady
-//!   where no token is overtaken (`specs/Steady.antt`), and each journal of some nets is. The definitions are in
-//!   `specs/`, in this order: `OneThreadValue`, `Starts`, `OneAnswer`, `Ends`, `Steady`, `Graphs`, `Rings`, `PipeNet`,
-//!   `Cycles`, `Laws`.
+//!   where no token is overtaken (`specs/Steady.antt`), and each journal of some nets is, that of a pipeline
+//!   (`pipe_lines`) among them. The definitions are in `specs/`, in this order: `OneThreadValue`, `Starts`, `OneAnswer`,
+//!   `Ends`, `Steady`, `Graphs`, `Rings`, `Cycles`, `Laws`.
 //! - Reports (`reports.rt`): `plain_report` works the report of a plan out by a recursion over its net. `same_report`
 //!   says that each kept run of such a plan comes to its end fine exactly where that recursion runs through, and then
 //!   reports just that. The definitions, in this order: `Output` (the report of a run), `PlainJobs` (what jobs come to

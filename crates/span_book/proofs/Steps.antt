@@ -28,39 +28,39 @@ splits : (tellers id : ℕ) (v left right : SpanView) → Balances (λ f. f v) (
 splits tellers id v left right balances mine theirs s kept e =
     let own = kept.each id v e in
     keeps tellers s.views (set s.views id left ++ right ∷ []) (λ f. f v) (λ f. f left + f right) kept balances
-        (λ f. omega (arith, total_set f s.views id v left e, total_push f (set s.views id left) right))
-        (backed_push (set s.views id left) right (backed_set s.views id left kept.each (mine own)) (theirs own))
+    (λ f. omega (arith, total_set f s.views id v left e, total_push f (set s.views id left) right))
+    (backed_push (set s.views id left) right (backed_set s.views id left kept.each (mine own)) (theirs own))
 
 joins : (tellers id : ℕ) (v : SpanView) (other : ℕ) (w both : SpanView) → Balances (λ f. f v + f w) (λ f. f both + f nothing) → (IsBacked v → IsBacked w → IsBacked both) → Joins (holds tellers) id v other w both nothing
 joins tellers id v other w both balances mine s kept e apart there =
     let was : get_elem? s.views other ≡ some w = ⊎_elim (λ (t : (other ≡ id) × (both ≡ w)). absurd (apart t.0)) (λ (t : (other ≢ id) × (get_elem? s.views other ≡ some w)). t.1) (at_set s.views id other both w there) in
     keeps tellers s.views (set (set s.views id both) other nothing) (λ f. f v + f w) (λ f. f both + f nothing) kept balances
-        (λ f. omega (arith, total_set f s.views id v both e, total_set f (set s.views id both) other w nothing there))
-        (backed_set (set s.views id both) other nothing (backed_set s.views id both kept.each (mine (kept.each id v e) (kept.each other w was)))
-        record { by_run = λ h. refl; by_teller = λ h. refl })
+    (λ f. omega (arith, total_set f s.views id v both e, total_set f (set s.views id both) other w nothing there))
+    (backed_set (set s.views id both) other nothing (backed_set s.views id both kept.each (mine (kept.each id v e) (kept.each other w was)))
+    record { by_run = λ h. refl; by_teller = λ h. refl })
 
 -- a teller leaves
 pub deals : (all id : ℕ) (v : SpanView) → 1 ≤ v.tellers → v.told ≡ 0 → Splits (holds all) id v (without_one v) one_teller
 deals all id v enough untold =
     splits all id v (without_one v) one_teller
-        record { tellers = omega arith; outermost = omega arith; spans = omega arith; inside = λ d. omega (arith, at_none d 0) }
-        (λ own. record { by_run = own.by_run; by_teller = λ h. untold })
-        (λ own. record { by_run = λ h. refl; by_teller = λ h. refl })
+    record { tellers = omega arith; outermost = omega arith; spans = omega arith; inside = λ d. omega (arith, at_none d 0) }
+    (λ own. record { by_run = own.by_run; by_teller = λ h. untold })
+    (λ own. record { by_run = λ h. refl; by_teller = λ h. refl })
 
 -- tellers come, and leave
 pub comes : (all id : ℕ) (v : SpanView) (other : ℕ) (w : SpanView) → w ≡ only_tellers w → Joins (holds all) id v other w (with_teller v w) nothing
 comes all id v other w is =
     joins all id v other w (with_teller v w)
-        record {
-          tellers = omega arith;
-          outermost = omega (arith, none_at 0 w.runs runs);
-          spans = omega (arith, noted);
-          inside = λ d. omega (arith, none_at (suc d) w.runs runs, none_at d w.back back, none_at d w.opened opened, at_none d 0);
-        }
-        (λ own theirs. record {
-          by_run = own.by_run;
-          by_teller = λ h. omega (arith, own.by_teller (omega arith), theirs.by_teller (omega arith));
-        })
+    record {
+      tellers = omega arith;
+      outermost = omega (arith, none_at 0 w.runs runs);
+      spans = omega (arith, noted);
+      inside = λ d. omega (arith, none_at (suc d) w.runs runs, none_at d w.back back, none_at d w.opened opened, at_none d 0);
+    }
+    (λ own theirs. record {
+      by_run = own.by_run;
+      by_teller = λ h. omega (arith, own.by_teller (omega arith), theirs.by_teller (omega arith));
+    })
   where
     runs : w.runs ≡ 0
     runs = ap (λ (u : SpanView). u.runs) is
@@ -80,9 +80,9 @@ comes all id v other w is =
 pub goes : (all id : ℕ) (v : SpanView) → Splits (holds all) id v (without_tellers v) (only_tellers v)
 goes all id v =
     splits all id v (without_tellers v) (only_tellers v)
-        record { tellers = omega arith; outermost = omega arith; spans = omega arith; inside = λ d. omega (arith, at_none d 0) }
-        (λ own. record { by_run = own.by_run; by_teller = λ h. refl })
-        (λ own. record { by_run = λ h. refl; by_teller = own.by_teller })
+    record { tellers = omega arith; outermost = omega arith; spans = omega arith; inside = λ d. omega (arith, at_none d 0) }
+    (λ own. record { by_run = own.by_run; by_teller = λ h. refl })
+    (λ own. record { by_run = λ h. refl; by_teller = own.by_teller })
 
 -- spans are noted
 pub notes : (all slots id i n : ℕ) (me : Me (Unit {0}) SpanView) → 1 ≤ me.0.tellers → 1 ≤ me.0.runs → Allows (holds all) slots id me i (λ k. k) (λ k me'. me' ≡ (with_noted n me.0, me.1))
@@ -101,26 +101,26 @@ notes all slots id i n me telling running s kept len e small = (
 pub opens : (all id : ℕ) (v : SpanView) → v.runs ≡ 1 → Splits (holds all) id v (with_opened v) (opened_inside v)
 opens all id v one =
     splits all id v (with_opened v) (opened_inside v)
-        record {
-          tellers = omega arith;
-          outermost = omega arith;
-          spans = omega arith;
-          inside = λ d. omega (arith, at_sum d v.depth v.opened 1, at_none d (suc v.depth));
-        }
-        (λ own. record { by_run = λ h. absurd (omega arith); by_teller = own.by_teller })
-        (λ own. record { by_run = λ h. absurd (omega arith); by_teller = λ h. refl })
+    record {
+      tellers = omega arith;
+      outermost = omega arith;
+      spans = omega arith;
+      inside = λ d. omega (arith, at_sum d v.depth v.opened 1, at_none d (suc v.depth));
+    }
+    (λ own. record { by_run = λ h. absurd (omega arith); by_teller = own.by_teller })
+    (λ own. record { by_run = λ h. absurd (omega arith); by_teller = λ h. refl })
 
 -- and comes back
 pub comes_back : (all id : ℕ) (v : SpanView) (other : ℕ) (w : SpanView) → MayComeBack v w → Joins (holds all) id v other w (with_back v w) nothing
 comes_back all id v other w may =
     joins all id v other w (with_back v w)
-        record {
-          tellers = omega (arith, may.tellers);
-          outermost = omega (arith, outermost);
-          spans = omega (arith, may.told);
-          inside = λ d. omega (arith, run d, same d, at_sum d v.depth v.back 1, at_none d 0);
-        }
-        (λ own also. record { by_run = λ h. absurd (omega (arith, may.around)); by_teller = own.by_teller })
+    record {
+      tellers = omega (arith, may.tellers);
+      outermost = omega (arith, outermost);
+      spans = omega (arith, may.told);
+      inside = λ d. omega (arith, run d, same d, at_sum d v.depth v.back 1, at_none d 0);
+    }
+    (λ own also. record { by_run = λ h. absurd (omega (arith, may.around)); by_teller = own.by_teller })
   where
     run : (d : ℕ) → at (suc d) w.depth w.runs ≡ at d v.depth 1
     run d = ap (λ (x : ℕ × ℕ). at (suc d) x.0 x.1) (λ i. (may.depth i, may.inner i))

@@ -81,8 +81,11 @@ impl Model for Tally {
         t.seat.me.0.noted t.seat.me.0.opened };
 
     ghost invariant = { λ t. t.seat.me
-        ≡ (tally_view t.seat.me.0.tellers t.seat.me.0.told t.seat.me.0.noted
-        t.seat.me.0.opened, []) };
+        ≡ (
+          tally_view t.seat.me.0.tellers t.seat.me.0.told t.seat.me.0.noted
+              t.seat.me.0.opened,
+          [],
+        ) };
 }
 
 impl Tally {

@@ -82,7 +82,7 @@ impl<J: Job + Drop> Frame<J> {
     ghost use Rattle.table_frames.specs.inside.FrameBatches.{HasBack, HasSpaceIn, AreDoneAt, IsBackOf};
     ghost use Rattle.table_frames.specs.inside.Overs.{IsEnd, IsOverOf, KeepsFates};
     ghost use Rattle.table_frames.specs.inside.LockedRuns.{IsLockedAt, IsWhole, lock_key_of, lock_key_in};
-    ghost use Rattle.table_frames.specs.inside.Books.{HasOneBook};
+    ghost use Rattle.table_frames.specs.inside.Books.{HasOneBook, IsOneBook};
     ghost use Rattle.table_runs.specs.OpenStarts.{IsStartOf};
     ghost use Rattle.table_frames.specs.inside.AttemptEnds.{Concludes};
     ghost use Rattle.table_runs.specs.DoneTurns.{HasSame, HasSpace, IsNoTurn};
@@ -358,7 +358,10 @@ impl<J: Job + Drop> Frame<J> {
         ensures end { IfOk result IsEnd }
     {
         let LockedRun {
-            kept, spans, start, ..
+            kept,
+            spans,
+            start,
+            ..
         } = locked;
         let run = kept.finish()?;
         let Some(start) = start else {
@@ -379,6 +382,7 @@ impl<J: Job + Drop> Frame<J> {
 
     /// Opens a run inside the frame, in the book of their spans.
     pub(crate) fn open_inside<R: Wait>(&self, rt: &R) -> RunSpans
+        ensures one { IsOneBook self.now }
         ensures book { book_of self.now ≡ Some result.book }
         ensures new { result ≡ no_spans result.book (length self.now) }
     {

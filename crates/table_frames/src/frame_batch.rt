@@ -113,9 +113,7 @@ impl<J: Job + Drop> FrameBatch<J> {
             (self.old.backlog.fates ++ turn.spent.fate ∷ []) }
     {
         run.gather(&mut self.done, turn);
-        if returned.is_some() {
-            self.returned = returned;
-        }
+        self.returned = returned.or(self.returned.take());
     }
 
     /// Gives the turns to their frame, whose spans a teller told. With the last turn of the frame its run is given out.

@@ -6,7 +6,7 @@ ghost use Rattle.table_runs.specs.OpenStarts.{IsStartOf};
 ghost use Rattle.table_runs.specs.RunKeys.{key_of};
 ghost use Rattle.table_runs.specs.Runs.{AreDoneIn};
 ghost use Rattle.table_runs.specs.Spans.{spans_in, spans_inside, spans_kept};
-ghost use Rattle.table_frames.specs.inside.LockedRuns.{ComesBack, TakesTurns, lock_key_of, locked_run};
+ghost use Rattle.table_frames.specs.inside.LockedRuns.{ComesInto, TakesTurns, lock_key_of, locked_run, noted_by};
 
 use join_tables::{Keeper, Remaining};
 use keyed_lock::Keyed;
@@ -89,9 +89,9 @@ impl<J: Job + Drop> LockedRun<J> {
 
     /// Opens a run inside it.
     pub fn open_inside(&mut self, book: &SpanBook) -> RunSpans
-        requires { self.old.spans.book ≡ name_of book.now }
+        requires { self.old.kept.book ≡ Some (name_of book.now) }
         ensures key { lock_key_of self.new ≡ lock_key_of self.old }
-        ensures spans { result ≡ no_spans self.old.spans.book (1 + self.old.spans.depth) }
+        ensures spans { result ≡ no_spans (name_of book.now) (1 + self.old.spans.depth) }
     {
         book.open(&mut self.spans)
     }
@@ -107,10 +107,13 @@ impl<J: Job + Drop> LockedRun<J> {
         teller: &mut Teller,
     ) -> Result<Taken, NoMemory>
         requires run { key_of self.old.kept ≡ run.now }
-        requires book { (self.old.spans.book ≡ name_of book.now) × (teller.old.book ≡ name_of book.now) }
+        requires book { run.now.book ≡ Some (name_of book.now) }
+        requires teller { teller.old.book ≡ name_of book.now }
         requires done { AreDoneIn J.meaning run.now done.old }
         requires some { done.old.batch.table ≡ Some run.now.table }
-        requires returned { ComesBack self.old.spans (spans_inside done.old) returned.old }
+        requires returned { IfSome returned.old
+            (ComesInto (name_of book.now) self.old.spans.depth) }
+        requires spans { noted_by returned.old ≡ spans_inside done.old }
         ensures key { lock_key_of self.new ≡ lock_key_of self.old }
         ensures takes { IfOk result (TakesTurns J.meaning done.old.batch.fates self.old self.new) }
         ensures told { OnOk result (teller.new ≡ teller_state teller.old.book (teller.old.told + spans_in done.old.batch.fates)) }
@@ -122,10 +125,7 @@ impl<J: Job + Drop> LockedRun<J> {
     {
         let count = count_spans(done.batch.fates());
         run.gather_all(&mut self.aside, done)?;
-        book.note(&mut self.spans, teller, count);
-        if let Some(inner) = returned.take() {
-            book.take_back(&mut self.spans, inner);
-        }
+        note_all(book, &mut self.spans, teller, count, returned.take());
         if !self.spans.has_all_back() {
             return Ok(Taken::Aside);
         }
@@ -138,5 +138,27 @@ impl<J: Job + Drop> LockedRun<J> {
         ensures { result.value ≡ self.now.kept.keeper }
     {
         self.kept.keeper_now()
+    }
+}
+
+// Notes so many spans, which a teller told, and takes a run back that was opened inside this one, if one has come back.
+fn note_all(
+    book: &SpanBook,
+    spans: &mut RunSpans,
+    teller: &mut Teller,
+    count: u64,
+    returned: Option<RunSpans>,
+)
+    requires spans { spans.old.book ≡ name_of book.now }
+    requires teller { teller.old.book ≡ name_of book.now }
+    requires returned { IfSome returned (ComesInto (name_of book.now) spans.old.depth) }
+    ensures book { spans.new.book ≡ spans.old.book }
+    ensures depth { spans.new.depth ≡ spans.old.depth }
+    ensures noted { spans.new.noted ≡ spans.old.noted + count + noted_by returned }
+    ensures teller { teller.new ≡ teller_state teller.old.book (teller.old.told + count) }
+{
+    book.note(spans, teller, count);
+    if let Some(inner) = returned {
+        book.take_back(spans, inner);
     }
 }

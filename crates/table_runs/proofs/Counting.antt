@@ -16,7 +16,7 @@ use Rattle.run_frame.specs.declared.run.FrameRun.{FrameRun}
 use Rattle.run_frame.specs.declared.run.FrameRun.TheFolds.{fold_out-FrameRun, fold_out-InnerRow}
 use Rattle.run_frame.specs.declared.run.InnerRow.{InnerRow, out-InnerRow}
 use Rattle.table_runs.specs.Spans.{ends_span, spans_in, spans_made}
-use Rattle.table_runs.specs.inside.FateRuns.{in_row, in_rows, run_at}
+use Rattle.table_runs.specs.inside.FateRuns.{PlacedRun, in_row, in_rows, run_at}
 
 abbrev one : Bool → ℕ
 one b = cond b 1 0
@@ -92,20 +92,20 @@ counted : (entries : List Recorded) (journal : List Entry) → AllByRecursion (�
 counted [] journal stand = no_weight journal
 counted (r ∷ rs) journal stand =
     let first : weighted (λ m. count_by (λ (q : Recorded). q.place == m) (r ∷ rs)) journal ≡ weighted (λ m. one (r.place == m) + count_by (λ (q : Recorded). q.place == m) rs) journal =
-        same_weights (λ m. count_by (λ (q : Recorded). q.place == m) (r ∷ rs)) (λ m. one (r.place == m) + count_by (λ (q : Recorded). q.place == m) rs) journal (λ m. sum_by-cons (λ (q : Recorded). one (q.place == m)) r rs) in
+    same_weights (λ m. count_by (λ (q : Recorded). q.place == m) (r ∷ rs)) (λ m. one (r.place == m) + count_by (λ (q : Recorded). q.place == m) rs) journal (λ m. sum_by-cons (λ (q : Recorded). one (q.place == m)) r rs) in
     let more = once_more (λ m. count_by (λ (q : Recorded). q.place == m) rs) journal r.place r.entry stand.0 in
     let others = counted rs journal stand.1 in
     let count : count_by is_end (r ∷ rs) ≡ one (is_end r) + count_by is_end rs = sum_by-cons (λ (q : Recorded). one (is_end q)) r rs in
     omega arith
 
 -- IN FATES
-module _ {V : Type 0} where
-  none_dropped : (drops : List Dropping) → count_by is_end (map drop_of drops) ≡ 0
-  none_dropped [] = refl
-  none_dropped (d ∷ ds) =
-      let first : count_by is_end (drop_of d ∷ map drop_of ds) ≡ 0 + count_by is_end (map drop_of ds) = sum_by-cons (λ (r : Recorded). one (is_end r)) (drop_of d) (map drop_of ds) in
-      omega (arith, none_dropped ds)
+none_dropped : (drops : List Dropping) → count_by is_end (map drop_of drops) ≡ 0
+none_dropped [] = refl
+none_dropped (d ∷ ds) =
+    let first : count_by is_end (drop_of d ∷ map drop_of ds) ≡ 0 + count_by is_end (map drop_of ds) = sum_by-cons (λ (r : Recorded). one (is_end r)) (drop_of d) (map drop_of ds) in
+    omega (arith, none_dropped ds)
 
+module _ {V : Type 0} where
   told_of : (fate : Fate V) → count_by is_end (entries_of fate) ≡ one (ends_span fate)
   told_of (Ended e) = refl
   told_of (Faulted f) = refl
@@ -135,13 +135,16 @@ module _ {J V : Type 0} where
   pub rows_append : (rows more : List (InnerRow J V)) → sum (map spans_of_row (rows ++ more)) ≡ sum (map spans_of_row rows) + sum (map spans_of_row more)
   rows_append rows more = ap sum (map-append spans_of_row rows more) ∙ sum_by-append (λ (n : ℕ). n) (map spans_of_row rows) (map spans_of_row more)
 
+  same_run : (p q : PlacedRun J V) → p ∷ [] ≡ q ∷ [] → p.run ≡ q.run
+  same_run p q is = cc
+
   -- the row of a run has its spans
   pub row_made : (own : List (InnerRow J V)) (place : ℕ) (run : Option (FrameRun J V)) → in_rows own ≡ run_at place run → sum (map spans_of_row own) ≡ spans_made run
   row_made [] place None is = refl
   row_made [] place (Some run) is = absurd (cc)
   row_made (row ∷ own) place None is = absurd (cc)
   row_made (row ∷ []) place (Some run) is =
-      let same : (out-InnerRow J V row).run ≡ run = cc in
+      let same : (out-InnerRow J V row).run ≡ run = same_run (in_row row) (record { place = place; run = run }) is in
       let own : sum (map spans_of_row (row ∷ [])) ≡ 0 + spans_of_row row = refl in
       omega (arith, row_spans row, ap all_spans same)
   row_made (row ∷ other ∷ own) place (Some run) is = absurd (cc)

@@ -124,6 +124,7 @@ impl<J: Job + Drop> RunKeeper<J> {
         ensures found { IfOk result
             (λ left. FindsOne (λ n. LeavesOf n left) self.old.keeper.found self.new.keeper.found) }
         ensures err { OnErr result (HasSame done.old done.new) }
+        ensures err_kept { OnErr result (self.new ≡ self.old) }
         ensures all { IsLast result
             → TellsRun table.now.net table.now.limit (entries_told self.new.keeper.fates) }
     {

@@ -314,6 +314,7 @@ impl<J: Job + Drop> TableRun<J> {
         ensures found { IfOk result
             (λ left. FindsOne (λ n. LeavesOf n left) kept.old.keeper.found kept.new.keeper.found) }
         ensures err { OnErr result (HasSame done.old done.new) }
+        ensures err_kept { OnErr result (kept.new ≡ kept.old) }
         ensures all { IsLast result
             → TellsRun (J.meaning.net kept.new.job) (J.meaning.limit kept.new.job)
             (entries_told kept.new.keeper.fates) }

@@ -1,6 +1,6 @@
 // The rule on inputs, decided in one walk over a journal. No clause says what is decided: this is the rule in other
 // words than the definition, which the journals of runs are proved to meet.
-use crate::nets::{EMPTY, NetCase};
+use crate::nets::net_of;
 use journal_rules::{Cause, Entry, Part};
 use outside_io::{List, NoMemory};
 use std::alloc::Global;
@@ -203,17 +203,16 @@ enum Line {
     Second(&'static [Part]),
 }
 
-// Edges from the first task to itself that begin with a token, the first lines of a journal, and last ones, which the
-// rule allows after them or not.
+// A net, the first lines of a journal, and last ones, which the rule allows after them or not.
 struct Lines {
-    rings: &'static str,
+    net: &'static str,
     front: &'static [Line],
     last: &'static [(&'static [Line], bool)],
 }
 
 // The edge is given one token, by the End at place 1.
 const CALM: Lines = Lines {
-    rings: "",
+    net: "pp ab",
     front: &[Line::First(Cause::Source, &[]), Line::Ends(0, &[0])],
     last: &[
         (&[Line::Second(&[Part::From(1)])], true),
@@ -227,7 +226,7 @@ const CALM: Lines = Lines {
 
 // The edge is given two tokens, by the Ends at places 1 and 3, and both are used.
 const QUEUED: Lines = Lines {
-    rings: "aa",
+    net: "pp ab aa*",
     front: &[
         Line::First(Cause::Strong, &[Part::First]),
         Line::Ends(0, &[0, 1]),
@@ -325,13 +324,7 @@ fn starts_find_what_they_may(rt: HostRuntime) -> Result<(), Fail> {
 }
 
 fn check_lines(rt: &impl Abort, alloc: Global, lines: &Lines) -> Result<(), Fail> {
-    let case = NetCase {
-        tasks: "pp",
-        edges: "ab",
-        rings: lines.rings,
-        ..EMPTY
-    };
-    let net = case.built(alloc)?;
+    let net = net_of(alloc, lines.net)?;
     for (number, (last, may)) in lines.last.iter().enumerate() {
         let journal = journal_of(alloc, lines.front, last)?;
         let meets = meets_data_rule(alloc, &net, journal.as_slice())?;

@@ -2,12 +2,10 @@
 ghost use Rattle.std.specs.Prelude.{◌<◌, ◌≤◌};
 ghost use Rattle.ready_deques.specs.Limits.{max_workers};
 
-use crate::inner_cases::inner_cases;
-use crate::job_cases::JobCase;
+use crate::job_cases::{JobCase, case_of};
 use crate::orders::{Order, run_in_order};
-use crate::plain_cases::plain_cases;
 use crate::run_checks::{By, check_whole};
-use crate::unit_cases::unit_cases;
+use crate::{inner_cases, plain_cases, unit_cases};
 use ready_deques::MAX_WORKERS;
 use std::alloc::Global;
 use std::process::Abort;
@@ -34,7 +32,7 @@ const CREWS: [usize; 4] = [1, 2, 4, 16];
 
 /// How cases are run.
 #[derive(Clone, Copy)]
-pub(crate) enum Way {
+enum Way {
     /// By one thread.
     OneThread,
     /// By each crew, so often.
@@ -43,44 +41,57 @@ pub(crate) enum Way {
 
 #[test]
 fn jobs_are_run_by_one_thread(rt: HostRuntime) -> Result<(), Fail> {
-    plain_cases(&rt, rt.alloc(), Way::OneThread)?;
-    unit_cases(&rt, rt.alloc(), Way::OneThread)?;
-    inner_cases(&rt, rt.alloc(), Way::OneThread)
+    run_each(&rt, rt.alloc(), Way::OneThread, &plain_cases::TABLES)?;
+    run_each(&rt, rt.alloc(), Way::OneThread, &unit_cases::TABLES)?;
+    run_each(&rt, rt.alloc(), Way::OneThread, &inner_cases::TABLES)
 }
 
 #[test]
 fn plain_jobs_are_run_by_crews(rt: HostRuntime) -> Result<(), Fail> {
-    plain_cases(&rt, rt.alloc(), Way::Crews(5))
+    run_each(&rt, rt.alloc(), Way::Crews(5), &plain_cases::TABLES)
 }
 
 #[test]
 fn jobs_with_units_are_run_by_crews(rt: HostRuntime) -> Result<(), Fail> {
-    unit_cases(&rt, rt.alloc(), Way::Crews(10))
+    run_each(&rt, rt.alloc(), Way::Crews(10), &unit_cases::TABLES)
 }
 
 #[test]
 fn jobs_with_runs_inside_are_run_by_crews(rt: HostRuntime) -> Result<(), Fail> {
-    inner_cases(&rt, rt.alloc(), Way::Crews(20))
+    run_each(&rt, rt.alloc(), Way::Crews(20), &inner_cases::TABLES)
 }
 
-/// Runs each of these cases.
-pub(crate) fn run_each<R: Threads + Wait + Abort + Sync>(
+// Runs each case of these tables.
+fn run_each<R: Threads + Wait + Abort + Sync>(
     rt: &R,
     alloc: Global,
     way: Way,
-    cases: &[JobCase],
+    tables: &[&str],
 ) -> Result<(), Fail> {
-    for case in cases {
+    for table in tables {
+        run_table(rt, alloc, way, table)?;
+    }
+    Ok(())
+}
+
+fn run_table<R: Threads + Wait + Abort + Sync>(
+    rt: &R,
+    alloc: Global,
+    way: Way,
+    table: &str,
+) -> Result<(), Fail> {
+    for line in table.split('\n') {
+        let case = case_of(line)?;
         match way {
-            Way::OneThread => run_unless_met(rt, alloc, case)?,
-            Way::Crews(times) => run_by_crews(rt, alloc, case, times)?,
+            Way::OneThread => run_unless_met(rt, alloc, &case)?,
+            Way::Crews(times) => run_by_crews(rt, alloc, &case, times)?,
         }
     }
     Ok(())
 }
 
 // By one thread, where no tasks have to meet.
-fn run_unless_met(rt: &(impl Wait + Abort), alloc: Global, case: &JobCase) -> Result<(), Fail> {
+fn run_unless_met(rt: &(impl Wait + Abort), alloc: Global, case: &JobCase<'_>) -> Result<(), Fail> {
     if case.meeting == 0 {
         run_by_one(rt, alloc, case)
     } else {
@@ -88,14 +99,14 @@ fn run_unless_met(rt: &(impl Wait + Abort), alloc: Global, case: &JobCase) -> Re
     }
 }
 
-fn run_by_one(rt: &(impl Wait + Abort), alloc: Global, case: &JobCase) -> Result<(), Fail> {
+fn run_by_one(rt: &(impl Wait + Abort), alloc: Global, case: &JobCase<'_>) -> Result<(), Fail> {
     for order in ORDERS {
-        let Some(run) = run_in_order(rt, alloc, case.job(rt, alloc)?, order)? else {
+        let Some(run) = run_in_order(rt, alloc, case.job(alloc)?, order)? else {
             panic!(rt; "{} doesn't end", case.name);
         };
         check_whole(rt, alloc, case, By::OneThread, &run)?;
     }
-    let run = run_alone(rt, alloc, Arc::new(alloc, case.job(rt, alloc)?)?)?;
+    let run = run_alone(rt, alloc, Arc::new(alloc, case.job(alloc)?)?)?;
     check_whole(rt, alloc, case, By::OneThread, &run)
 }
 
@@ -103,7 +114,7 @@ fn run_by_one(rt: &(impl Wait + Abort), alloc: Global, case: &JobCase) -> Result
 fn run_by_crews<R: Threads + Wait + Abort + Sync>(
     rt: &R,
     alloc: Global,
-    case: &JobCase,
+    case: &JobCase<'_>,
     times: u32,
 ) -> Result<(), Fail> {
     for workers in CREWS {
@@ -118,14 +129,14 @@ fn run_by_crews<R: Threads + Wait + Abort + Sync>(
 fn run_by_crew<R: Threads + Wait + Abort + Sync>(
     rt: &R,
     alloc: Global,
-    case: &JobCase,
+    case: &JobCase<'_>,
     workers: usize,
     times: u32,
 ) -> Result<(), Fail>
     requires { (0 < workers) × (workers ≤ max_workers) }
 {
     for _ in 0..times {
-        let run = run_by_workers(rt, alloc, case.job(rt, alloc)?, workers)?;
+        let run = run_by_workers(rt, alloc, case.job(alloc)?, workers)?;
         check_whole(rt, alloc, case, By::Crew, &run)?;
     }
     Ok(())

@@ -21,14 +21,13 @@ pub(crate) enum By {
 pub(crate) fn check_whole(
     rt: &impl Abort,
     alloc: Global,
-    case: &JobCase,
+    case: &JobCase<'_>,
     by: By,
     run: &FrameRun<NumberJob>,
 ) -> Result<(), Fail> {
     let starts = check_run(rt, alloc, case, by, run)?;
-    let (least, most) = case.starts;
     assert!(rt;
-        least <= starts && starts <= most,
+        case.least <= starts && starts <= case.most,
         "{}: {starts}",
         case.name
     );
@@ -43,10 +42,10 @@ pub(crate) fn check_whole(
 fn check_run(
     rt: &impl Abort,
     alloc: Global,
-    case: &JobCase,
+    case: &JobCase<'_>,
     by: By,
     run: &FrameRun<NumberJob>,
-) -> Result<usize, Fail> {
+) -> Result<u64, Fail> {
     check_journal(rt, alloc, case, by, run)?;
     let mut starts = check_entries(rt, case, run);
     if run.inner.is_empty() {
@@ -63,7 +62,7 @@ fn check_run(
 fn check_journal(
     rt: &impl Abort,
     alloc: Global,
-    case: &JobCase,
+    case: &JobCase<'_>,
     by: By,
     run: &FrameRun<NumberJob>,
 ) -> Result<(), Fail> {
@@ -80,8 +79,8 @@ fn check_journal(
 }
 
 // Runs are where they may be, and what they come to is that with which their starts ended. How many starts there are.
-fn check_entries(rt: &impl Abort, case: &JobCase, run: &FrameRun<NumberJob>) -> usize {
-    let mut starts: usize = 0;
+fn check_entries(rt: &impl Abort, case: &JobCase<'_>, run: &FrameRun<NumberJob>) -> u64 {
+    let mut starts: u64 = 0;
     for (place, entry) in run.journal.as_slice().iter().enumerate() {
         if matches!(entry, Entry::Start { .. }) {
             starts = starts.saturating_add(1);
@@ -94,7 +93,7 @@ fn check_entries(rt: &impl Abort, case: &JobCase, run: &FrameRun<NumberJob>) -> 
 // What is at an entry.
 fn check_entry(
     rt: &impl Abort,
-    case: &JobCase,
+    case: &JobCase<'_>,
     run: &FrameRun<NumberJob>,
     place: u64,
     entry: &Entry,
@@ -131,7 +130,10 @@ fn check_entry(
 
 // Whether a run was fine, and the End at a place has what it was gathered to.
 fn is_gathered(run: &FrameRun<NumberJob>, place: u64, inner: &FrameRun<NumberJob>) -> bool {
-    inner.is_fine() && run.value(place) == Some(&(inner.journal.len() as u64))
+    match run.value(place) {
+        Some(number) => *number == inner.journal.len() as u64 && inner.is_fine(),
+        None => false,
+    }
 }
 
 // Why a journal's last Fault came, if it has one.

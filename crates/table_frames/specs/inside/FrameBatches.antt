@@ -8,6 +8,7 @@ use Rattle.table_runs.specs.Runs.{AreDoneIn}
 use Rattle.table_runs.specs.Spans.{spans_inside}
 use Rattle.table_runs.specs.declared.done_turns.DoneTurns.{DoneTurns}
 use Rattle.table_frames.specs.Frames.{BacklogView, book_of}
+use Rattle.table_frames.specs.inside.LockedRuns.{noted_by}
 
 -- these turns, for how many there is room, how many runs they made, and for how many of those there is room
 pub record FrameBatchView (J V : Type 0) : Type 0 where
@@ -26,20 +27,19 @@ abbrev pub AreDoneAt : {J V : Type 0} → Meaning J V → List (FrameKey J) → 
 AreDoneAt meaning [] done = IsNoTurn done
 AreDoneAt meaning (frame ∷ around) done = AreDoneIn meaning frame done
 
--- A run inside these frames is over and has so many spans. All that was opened in it came back.
-pub record IsBackWith {J : Type 0} (frames : List (FrameKey J)) (n : ℕ) (inner : SpansState) : Type 0 where
+-- A run inside these frames is over, and all that was opened in it came back.
+pub record IsBackIn {J : Type 0} (frames : List (FrameKey J)) (inner : SpansState) : Type 0 where
   pub book : book_of frames ≡ Some inner.book
   pub depth : inner.depth ≡ length frames
   pub all : inner.back ≡ inner.opened
-  pub spans : inner.noted ≡ n
 
 -- so many spans are of a run that is over inside these frames, or of none
-abbrev pub HasBack : {J : Type 0} → List (FrameKey J) → ℕ → Option SpansState → Type 0
-HasBack frames n None = n ≡ 0
-HasBack frames n (Some inner) = IsBackWith frames n inner
+pub record HasBack {J : Type 0} (frames : List (FrameKey J)) (n : ℕ) (returned : Option SpansState) : Type 0 where
+  pub is : IfSome returned (IsBackIn frames)
+  pub spans : noted_by returned ≡ n
 
 -- The spans of the runs that were made in place of the work of turns of these frames are those of one run that is over, if there is
 -- one.
-pub record IsBackOf {J V : Type 0} (frames : List (FrameKey J)) (done : DoneTurns J V) (back : Option SpansState) : Type 0 where
-  pub spans : HasBack frames (spans_inside done) back
-  pub some : IfSome back (λ inner. done.batch.fates ≢ [])
+pub record IsBackOf {J V : Type 0} (frames : List (FrameKey J)) (done : DoneTurns J V) (returned : Option SpansState) : Type 0 where
+  pub back : HasBack frames (spans_inside done) returned
+  pub some : IfSome returned (λ inner. done.batch.fates ≢ [])

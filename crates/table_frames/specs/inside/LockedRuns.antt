@@ -5,6 +5,7 @@ use Rattle.join_tables.specs.Keeping.{LeavesOf, TellsRun, entries_told}
 use Rattle.join_tables.specs.declared.fates.Fate.{Fate}
 use Rattle.join_tables.specs.declared.keeper.Remaining.{Remaining}
 use Rattle.join_tables.specs.declared.keeper.Remaining.TheVariants.{More, All as AllTaken}
+use Rattle.atomic_table.specs.Seated.{TableId}
 use Rattle.run_frame.specs.Meaning.{Meaning}
 use Rattle.span_book.specs.SpanBooks.{SpansState}
 use Rattle.table_runs.specs.OpenStarts.{OpenStartView}
@@ -50,17 +51,16 @@ abbrev pub IsLockedAt : {J V : Type 0} → List (FrameKey J) → LockedRunView J
 IsLockedAt [] locked = ⊥
 IsLockedAt (frame ∷ around) locked = lock_key_of locked ≡ lock_key_in frame around
 
--- A run that is inside one with this account came back with all that was opened in it, and has so many spans.
-pub record ComesInto (around : SpansState) (n : ℕ) (inner : SpansState) : Type 0 where
-  pub book : inner.book ≡ around.book
-  pub depth : inner.depth ≡ 1 + around.depth
+-- A run inside one of this book and depth is over, and all that was opened in it came back.
+pub record ComesInto (book : TableId) (depth : ℕ) (inner : SpansState) : Type 0 where
+  pub same : inner.book ≡ book
+  pub below : inner.depth ≡ 1 + depth
   pub all : inner.back ≡ inner.opened
-  pub spans : inner.noted ≡ n
 
--- so many spans are of the run that comes back, or of none
-abbrev pub ComesBack : SpansState → ℕ → Option SpansState → Type 0
-ComesBack around n None = n ≡ 0
-ComesBack around n (Some inner) = ComesInto around n inner
+-- the spans of a run, if there is one
+abbrev pub noted_by : Option SpansState → ℕ
+noted_by None = 0
+noted_by (Some spans) = spans.noted
 
 -- The keeper has taken in turns, of which these fates are last, and found one live turn at last, or several.
 pub record KeepsLast {J V : Type 0} (fates : List (Fate V)) (old new : LockedRunView J V) (left : Remaining) : Type 0 where

@@ -15,7 +15,7 @@ use Rattle.table_runs.specs.JournalFacts.{HasEntries}
 use Rattle.table_runs.specs.StepReleases.{GivesEdges, given_by}
 use Rattle.table_frames.specs.Steps.{UsesRelease}
 use Rattle.table_runs.specs.OpenStarts.{IsStartOf}
-use Rattle.table_frames.specs.inside.FrameBatches.{IsBackWith}
+use Rattle.table_frames.specs.inside.FrameBatches.{HasBack}
 use Rattle.table_frames.specs.declared.over.InnerOver.{InnerOver}
 use Rattle.table_frames.specs.declared.over.Kept.{Kept}
 use Rattle.table_frames.specs.declared.over.Over.{Over}
@@ -26,7 +26,7 @@ pub record IsInnerOver {J V : Type 0} (meaning : Meaning J V) (inner : InnerOver
   pub frame : AtFrame (arc_value inner.parent) (λ key. inner.start.frame ≡ key)
   pub start : IsStartOf meaning (job_of inner.run) inner.start
   pub kept : IsKept meaning inner.run
-  pub back : IsBackWith (arc_value inner.parent) (all_spans inner.run) inner.spans
+  pub back : HasBack (arc_value inner.parent) (all_spans inner.run) (Some inner.spans)
 
 -- It is the run of the first of these frames, and has the entries of these fates.
 pub record IsInnerRunOf {J V : Type 0} (meaning : Meaning J V) (frames : List (FrameKey J)) (fates : List (Fate V)) (inner : InnerOver J V) : Type 0 where

@@ -48,7 +48,7 @@ returns-clause-spans g c =
     let told = c.self.inside.inner.items in
     let sorted = c.sort_rows.new.rows.items in
     let all : all_spans (roll-FrameRun J V layer) ≡ count_by is_span layer.journal + sum (map spans_of_row sorted) =
-        ap (λ (r : FrameRun-F J V (FrameRun J V) (InnerRow J V)). count_by is_span r.journal + sum (map spans_of_row r.inner.items)) (out-roll-FrameRun J V layer) in
+    ap (λ (r : FrameRun-F J V (FrameRun J V) (InnerRow J V)). count_by is_span r.journal + sum (map spans_of_row r.inner.items)) (out-roll-FrameRun J V layer) in
     let own : count_by is_span layer.journal ≡ spans_in fates = spans_merged fates layer.journal c.in_ok-journal.ensures.merges in
     let rows : sum (map spans_of_row sorted) ≡ sum (map spans_of_row told) = sum_by-IsPermutation (λ x. x) (map spans_of_row told) (map spans_of_row sorted) (IsPermutation-map spans_of_row told sorted c.in_ok-sort_rows.ensures.same) in
     let whole : all_spans (roll-FrameRun J V layer) ≡ spans_in fates + sum (map spans_of_row told) = omega arith in
