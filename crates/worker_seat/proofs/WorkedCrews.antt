@@ -179,7 +179,11 @@ module _ (V : Type 0) {X : Type 0} (watcher : X) where
   both_sent = record { book = book; count = refl; seats_are = refl }
 
   one_not_sent : ¬ AreSent 2 7 (seat fresh ∷ seat fresh ∷ []) (seat at_seven ∷ seat fresh ∷ [])
-  one_not_sent are = let second : None ≡ Some 7 = ap (λ (seats : List (WorkerSeat ℕ X V)). (state_of (slice_index_or seats 1 (seat fresh))).job) are.seats_are in cc
+  one_not_sent are = absurd (omega (arith, ap (λ (seats : List (WorkerSeat ℕ X V)). job_or_none (state_of (slice_index_or seats 1 (seat fresh))).job) are.seats_are))
+    where
+      job_or_none : Option ℕ → ℕ
+      job_or_none None = 0
+      job_or_none (Some j) = j
 
 -- Watchers are the numbers of spans that they were told.
 abbrev itself : ℕ → ℕ
