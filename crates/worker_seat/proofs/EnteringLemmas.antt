@@ -7,13 +7,13 @@ use Rattle.std.proofs.Math.Nat.{min-eq_left}
 use Rattle.run_frame.specs.Meaning.{Meaning}
 use Rattle.run_frame.specs.NestedRule.{job_of}
 use Rattle.span_book.specs.SpanBooks.{TellerState}
+use Rattle.span_profile.specs.Watch.{TellsOn}
 use Rattle.ready_deques.specs.Lists.{OwnerState}
 use Rattle.worker_seat.specs.Crews.{HasWorked, IsToldMore}
 use Rattle.worker_seat.specs.Seats.{ListName, SeatState, found_closed}
 use Rattle.worker_seat.specs.inside.Attendances.{IsFetched, IsFetchedFrom, TellsMore}
 use Rattle.worker_seat.specs.inside.Runs.{RunView}
 use Rattle.worker_seat.specs.inside.SeatPlaces.{HasEntered, HasTold, IsAtRunOn, IsRunOn, IsSameOwner, book_at, found_teller, has_found, job_at, owner_list, run_at}
-use Rattle.worker_seat.specs.inside.Works.{IsToldSince}
 use Rattle.worker_seat.specs.declared.attendance.Attendance.{Attendance}
 use Rattle.worker_seat.specs.declared.attendance.Attendance.TheVariants.{Away, At, Found, Lost}
 use Rattle.worker_seat.specs.declared.attendance.FetchedRun.{FetchedRun}
@@ -36,7 +36,7 @@ teller_or n (Some t) = t.told
 module _ {J V X : Type 0} (told_to : X → ℕ) where
   -- what the teller of a seat told that was entered is what the watcher was told more
   pub entered_told : (a : Attendance J V) (teller : TellerState) (told : ℕ) (old new : X) → told_to old ≤ 2 ^ 64 - 1 → (teller.told ≡ 0) × (told ≡ 0)
-      → IfSome (found_teller a) (λ t. (before : ℕ) → IsToldSince told_to before teller.told old → IsToldSince told_to before t.told new) → has_found a ≡ true → TellsMore told_to told old a new
+      → IfSome (found_teller a) (λ t. TellsOn told_to teller.told t.told old new) → has_found a ≡ true → TellsMore told_to told old a new
   entered_told Away teller told old new fits none tells found = absurd (cc)
   entered_told (At run t) teller told old new fits none tells found = absurd (cc)
   entered_told (Lost run) teller told old new fits none tells found = absurd (cc)

@@ -19,7 +19,7 @@ use Rattle.table_frames.specs.declared.step_results.Stepped.{Stepped}
 use Rattle.table_runs.specs.RunKeys.{FrameKey}
 use Rattle.table_runs.specs.Spans.{ends_span, spans_in}
 use Rattle.worker_seat.specs.declared.work.FrameWork.{FrameWork}
-use Rattle.worker_seat.specs.inside.Works.{IsToldSince, KeepsTold, TellsBringing, TellsNewest, TellsStep, spans_ended}
+use Rattle.worker_seat.specs.inside.Works.{KeepsTold, TellsBringing, TellsNewest, TellsStep, spans_ended}
 
 module _ {V : Type 0} where
   -- the spans of one fate more
@@ -66,7 +66,7 @@ module _ {J V X : Type 0} (told : X → ℕ) where
   told_newest : (old new : FrameWork J V) (earlier : List (Fate V)) (fate : Fate V) (before_it after_it : X) → new.backlog.fates ≡ earlier ++ fate ∷ []
       → spans_ended new ≡ spans_ended old + spans_in (fate ∷ []) → TellsNewest told new.backlog before_it after_it → KeepsTold told old before_it new after_it
   told_newest old new earlier fate before_it after_it are more tells before was =
-      tells before (spans_ended old) earlier fate are was ∙ ap (λ (n : ℕ). min (before + n) (2 ^ 64 - 1)) (sym more)
+      tells (spans_ended old) earlier fate are before was ∙ ap (λ (n : ℕ). min (before + n) (2 ^ 64 - 1)) (sym more)
 
   same_told : (old new : FrameWork J V) (before_it after_it : X) → spans_ended new ≡ spans_ended old → after_it ≡ before_it → KeepsTold told old before_it new after_it
   same_told old new before_it after_it same is = subst (λ (x : X). KeepsTold told old before_it new x) (sym is) (told_same old new before_it same)

@@ -1,10 +1,11 @@
 -- Crews and their seats, as contracts see them.
-use Rattle.std.specs.Prelude.{◌≡◌, ◌<◌, ◌⊎◌, ◌+◌, ◌-◌, ◌^◌, ℕ, min, true, false, List, All, Any, IfSome, length, map, sum_by, slice_index_or, None}
+use Rattle.std.specs.Prelude.{◌≡◌, ◌<◌, ◌⊎◌, ℕ, true, false, List, All, Any, IfSome, length, map, sum_by, slice_index_or, None}
 use Rattle.nested_runs.specs.Totals.{all_spans}
 use Rattle.run_frame.specs.declared.run.FrameRun.{FrameRun}
 use Rattle.run_frame.specs.Meaning.{Meaning}
 use Rattle.run_frame.specs.Legal.{IsKept}
 use Rattle.run_frame.specs.NestedRule.{job_of}
+use Rattle.span_profile.specs.Watch.{IsToldSince}
 use Rattle.worker_seat.specs.declared.crew.Crew.{Crew}
 use Rattle.worker_seat.specs.declared.seat.WorkerSeat.{WorkerSeat}
 use Rattle.worker_seat.specs.Seats.{CrewState, RunBook, SeatState, IsBusy, IsClosedWith, at_job, found_closed, refused_seat}
@@ -65,9 +66,9 @@ pub record MayEnter {J V X : Type 0} (crew : Crew J V) (seat : WorkerSeat J X V)
   pub of_crew : IsSeatOf crew seat
   pub busy : IsBusy (state_of seat).job
 
--- a watcher that was told so many spans was told so many more, by what it says of itself; it counts up to the greatest u64
+-- a watcher, and the same after it was told so many spans more
 abbrev pub IsToldMore : {X : Type 0} → (X → ℕ) → ℕ → X → X → Type 0
-IsToldMore told n old new = told new ≡ min (told old + n) (2 ^ 64 - 1)
+IsToldMore told n old new = IsToldSince told (told old) n new
 
 -- a seat that has found its run closed, in which its steps ended so many spans more, and its watcher, which was told as many
 pub record HasWorked {J X : Type 0} (told : X → ℕ) (old : SeatState J) (watcher : X) (new : SeatState J) (now : X) : Type 0 where

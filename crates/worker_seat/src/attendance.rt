@@ -2,9 +2,9 @@
 ghost use Rattle.std.specs.Prelude.{◌≡◌, ◌↔◌, ℕ, true, Some, IfOk, IfSome, IsSome, IsTrue};
 ghost use Rattle.std.specs.Arc.{arc_value};
 ghost use Rattle.std.specs.Option.{option_map};
+ghost use Rattle.span_profile.specs.Watch.{TellsOn};
 ghost use Rattle.worker_seat.specs.Seats.{IsBusy};
 ghost use Rattle.worker_seat.specs.inside.SeatPlaces.{HasEntered, HasTold, IsSameOwner, book_at, found_teller, has_found, job_at, owner_list, run_at, FitsRun, IsAtRunOn, IsRunOn};
-ghost use Rattle.worker_seat.specs.inside.Works.{IsToldSince};
 
 use crate::crew_run::CrewRun;
 use crate::item::CrewItem;
@@ -160,9 +160,8 @@ fn enter_run<J: Job + Drop, X: Watch, R: Wait>(
     ensures owner { IsSameOwner owner.old owner.new }
     ensures run { run_at result ≡ Some (arc_value run) }
     ensures entered { HasEntered result }
-    ensures told { IfSome (found_teller result) (λ new. (before : ℕ)
-        → IsToldSince X.told before teller.told watcher.old
-        → IsToldSince X.told before new.told watcher.new) }
+    ensures told { IfSome (found_teller result)
+        (λ new. TellsOn X.told teller.told new.told watcher.old watcher.new) }
 {
     let Ok(teller) = work_at(rt, alloc, list, &run, owner, teller, watcher) else {
         return Attendance::Lost(run);
@@ -188,9 +187,8 @@ fn work_at<J: Job + Drop, X: Watch, R: Wait>(
     requires on_list { IsRunOn list.now.list run.now }
     ensures owner { IsSameOwner owner.old owner.new }
     ensures book { IfOk result (λ new. new.book ≡ teller.book) }
-    ensures told { IfOk result (λ new. (before : ℕ)
-        → IsToldSince X.told before teller.told watcher.old
-        → IsToldSince X.told before new.told watcher.new) }
+    ensures told { IfOk result
+        (λ new. TellsOn X.told teller.told new.told watcher.old watcher.new) }
 {
     match run.number() {
         Some(number) => Shift { list, run, number }.work(rt, alloc, owner, teller, watcher),

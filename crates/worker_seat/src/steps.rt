@@ -1,9 +1,10 @@
 // What a worker does.
-ghost use Rattle.std.specs.Prelude.{◌≡◌, ◌≢◌, ℕ, [], IfOk, IfSome, IsTrue, OnOk};
+ghost use Rattle.std.specs.Prelude.{◌≡◌, ◌≢◌, [], IfOk, IfSome, IsTrue, OnOk};
+ghost use Rattle.span_profile.specs.Watch.{TellsOn};
 ghost use Rattle.table_frames.specs.Frames.{IsTellerOf};
 ghost use Rattle.worker_seat.specs.inside.Runs.{AreIn, AreOfFrame, IsItemOf, IsNumberOf, IsWithin};
 ghost use Rattle.worker_seat.specs.inside.SeatPlaces.{IsSameOwner};
-ghost use Rattle.worker_seat.specs.inside.Works.{GoesOnAt, IsAt, IsToldSince, IsTurnedTo, IsWorkOf, KeepsTold, LeavesWork, OpensIn, spans_ended};
+ghost use Rattle.worker_seat.specs.inside.Works.{GoesOnAt, IsAt, IsTurnedTo, IsWorkOf, KeepsTold, LeavesWork, OpensIn, spans_ended};
 
 use crate::crew_run::CrewRun;
 use crate::frame_numbers::FrameNumber;
@@ -44,9 +45,8 @@ impl<J: Job + Drop> Shift<'_, J> {
         requires teller { teller.book ≡ self.now.run.now.book.name }
         ensures owner { IsSameOwner owner.old owner.new }
         ensures book { IfOk result (λ new. new.book ≡ teller.book) }
-        ensures told { IfOk result (λ new. (before : ℕ)
-            → IsToldSince X.told before teller.told watcher.old
-            → IsToldSince X.told before new.told watcher.new) }
+        ensures told { IfOk result
+            (λ new. TellsOn X.told teller.told new.told watcher.old watcher.new) }
     {
         let mut work = FrameWork::new(alloc, teller);
         for _ in rt.forever() {

@@ -1,8 +1,9 @@
 -- What a worker has done and not brought yet.
-use Rattle.std.specs.Prelude.{◌≡◌, ◌≢◌, ◌⊎◌, ◌+◌, ◌-◌, ◌^◌, ℕ, min, List, [], ◌∷◌, ◌++◌, IfSome}
+use Rattle.std.specs.Prelude.{◌≡◌, ◌≢◌, ◌⊎◌, ◌+◌, ℕ, List, [], ◌∷◌, ◌++◌, IfSome}
 use Rattle.join_tables.specs.declared.fates.Fate.{Fate}
 use Rattle.atomic_table.specs.Seated.{TableId}
 use Rattle.run_frame.specs.Meaning.{Meaning}
+use Rattle.span_profile.specs.Watch.{TellsOn}
 use Rattle.table_runs.specs.RunKeys.{FrameKey}
 use Rattle.table_runs.specs.Spans.{spans_in}
 use Rattle.table_frames.specs.Frames.{BacklogView, IsTellerOf, MayTake, ReleaseView}
@@ -29,18 +30,13 @@ pub record IsWorkOf {J V : Type 0} (number : NumberView J) (work : FrameWork J V
 abbrev pub spans_ended : {J V : Type 0} → FrameWork J V → ℕ
 spans_ended work = work.teller.told + spans_in work.backlog.fates
 
--- a watcher was told so many spans more than a number
-abbrev pub IsToldSince : {X : Type 0} → (X → ℕ) → ℕ → ℕ → X → Type 0
-IsToldSince told before n watcher = told watcher ≡ min (before + n) (2 ^ 64 - 1)
-
 -- Where the watcher was told the spans that the steps had ended, it was told those that they have ended now.
 abbrev pub KeepsTold : {J V X : Type 0} → (X → ℕ) → FrameWork J V → X → FrameWork J V → X → Type 0
-KeepsTold told old_work old new_work new = (before : ℕ) → IsToldSince told before (spans_ended old_work) old → IsToldSince told before (spans_ended new_work) new
+KeepsTold told old_work old new_work new = TellsOn told (spans_ended old_work) (spans_ended new_work) old new
 
 -- Where the newest of a backlog ended a span, the watcher was told that one.
 abbrev pub TellsNewest : {J V X : Type 0} → (X → ℕ) → BacklogView J V → X → X → Type 0
-TellsNewest {J} {V} told backlog old new = (before n : ℕ) (earlier : List (Fate V)) (fate : Fate V) → backlog.fates ≡ earlier ++ fate ∷ []
-    → IsToldSince told before n old → IsToldSince told before (n + spans_in (fate ∷ [])) new
+TellsNewest {J} {V} told backlog old new = (n : ℕ) (earlier : List (Fate V)) (fate : Fate V) → backlog.fates ≡ earlier ++ fate ∷ [] → TellsOn told n (n + spans_in (fate ∷ [])) old new
 
 -- after a step, by what is with the run then: where it used its release up, a watcher was told the span that it ended, if it ended one
 abbrev pub TellsStep : {J V X : Type 0} → (X → ℕ) → State J V → BacklogView J V → X → X → Type 0
