@@ -3,6 +3,7 @@ use crate::clock::nanos_since;
 use crate::nets::{NetKind, net_of};
 use outside_io::NoMemory;
 use ready_deques::MAX_WORKERS;
+use span_profile::SpanCount;
 use std::alloc::{AllocError, Global};
 use std::io;
 use std::sync::{Arc, Wait};
@@ -78,7 +79,7 @@ fn starts_made<R: Threads + Wait + Sync>(
     workers: usize,
 ) -> Result<u64, NoMemory> {
     let run = if workers == 0 || workers > MAX_WORKERS {
-        run_alone(rt, alloc, Arc::new(alloc, job)?)?
+        run_alone(rt, alloc, Arc::new(alloc, job)?, &mut SpanCount::new())?
     } else {
         run_by_workers(rt, alloc, job, workers)?
     };

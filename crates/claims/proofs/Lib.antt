@@ -3,6 +3,7 @@ pub mod WorkedBuilder
 pub mod WorkedSteps
 pub mod WorkedRuns
 pub mod WorkedFrames
+pub mod WorkedSpans
 pub mod WorkedSources
 pub mod WorkedRows
 pub mod WorkedGraphFiles

@@ -9,6 +9,7 @@ use Rattle.std.specs.declared.vec.Vec.{Vec}
 use Rattle.std.specs.Prelude.{◌⊎◌, min, All, slice_get}
 use Rattle.std.proofs.lemmas.List.{length-append, length-map}
 use Rattle.std.proofs.lemmas.List.Elements.{All-from_recursion, All-head}
+use Rattle.std.proofs.lemmas.Option.{none-some}
 use Rattle.atomic_table.specs.Seated.{TableId}
 use Rattle.task_graph.specs.NetRows.{NetRows}
 use Rattle.task_graph.specs.declared.net.Shape.{Shape}
@@ -50,15 +51,18 @@ use Rattle.run_frame.specs.LastEnds.{last_before, last_value}
 use Rattle.run_frame.specs.WorkRule.{WorkRule, gives_of}
 use Rattle.run_frame.specs.NestedRule.{NestedRule, job_of, journal_of}
 use Rattle.run_frame.specs.Legal.{IsKept}
+use Rattle.nested_runs.specs.Totals.{all_spans}
+use Rattle.span_book.specs.SpanBooks.{TallyState, tally_state, teller_state}
 use Rattle.table_runs.specs.AllowedFates.{IsAllowed, work_with}
 use Rattle.table_runs.specs.RunKeys.{FrameKey, key_of, table_in}
-use Rattle.table_frames.specs.Frames.{ReleaseView, BacklogView, release_in, root_frame, root_job, depth_of, frames_around, IsInnermost, AtFrame, HasTable, backlog_view, MayTake}
+use Rattle.table_frames.specs.Frames.{ReleaseView, BacklogView, release_in, root_frame, root_job, depth_of, book_of, IsTellerOf, IsAccounted, frames_around, IsInnermost, AtFrame, HasTable, backlog_view, MayTake}
 use Rattle.table_frames.specs.Holders.{HoldsRelease}
 use Rattle.table_runs.specs.StepReleases.{IsFateOf, given_by, release_of, AreMadeBy, GivesEdges, MayRelease, Uses}
 use Rattle.table_runs.specs.JournalFacts.{IsInJournal, HasEntries}
 use Rattle.table_frames.specs.Steps.{IsRootRun, IsStateOf, IsClosed, BeginsFrame, units_of, UsesRelease, UsesAtOnce, ParksRelease, OpensInner, StepsTo, StepsRelease}
 use Rattle.table_runs.specs.Openings.{HasNoFirst, IsOverAtOnce}
 use Rattle.table_frames.specs.BacklogResults.{TakesIn, MayTakeIn, ResumesStart, ClosesRun, IsFrameOf, BringsTo, IsOver, BringsFates, IsLeftOf, DropsParked, SettlesFrame}
+use Rattle.table_frames.specs.declared.closed_run.ClosedRun.{ClosedRun}
 use Rattle.table_frames.specs.declared.release.HeldBy.TheVariants as held
 use Rattle.table_frames.specs.declared.step_results.Brought.{Brought}
 use Rattle.table_frames.specs.declared.step_results.State.TheVariants.{Went, Parked, Inner as HasInner, Resumed, Closed}
@@ -247,16 +251,16 @@ share_sums = record flat_sums { net = λ j. shares }
 abbrev fork : NetRows
 fork = record { tasks = free Choice ∷ free Plain ∷ free Plain ∷ []; edges = edge 0 1 ∷ edge 0 2 ∷ edge 1 2 ∷ []; sems = [] }
 
--- Frames of two tables: one in no other, and one of another job inside it.
-module _ (n m : TableId) (other : m ≢ n) where
+-- Frames of two tables, with a book of spans: one in no other, and one of another job inside it. There is another book.
+module _ (n m b c : TableId) (other : m ≢ n) (foreign : c ≢ b) where
   abbrev key : FrameKey ℕ
-  key = record { table = n; job = 2 }
+  key = record { table = n; job = 2; book = Some b }
 
   abbrev own : List (FrameKey ℕ)
   own = key ∷ []
 
   abbrev inside : List (FrameKey ℕ)
-  inside = record { table = m; job = 9 } ∷ own
+  inside = record { table = m; job = 9; book = Some b } ∷ own
 
   outermost_frame : (root_frame inside ≡ Some key) × (root_frame own ≡ Some key) × (root_frame {J = ℕ} [] ≡ None)
   outermost_frame = (refl, refl, refl)
@@ -269,6 +273,24 @@ module _ (n m : TableId) (other : m ≢ n) where
 
   deepest : (around : List (FrameKey ℕ)) → length around ≡ 4294967296 → depth_of (key ∷ around) ≡ 4294967295
   deepest around long = ap (λ k. min k 4294967295) long
+
+  -- the book is that of the outermost, whatever the inmost has
+  abbrev bookless : FrameKey ℕ → FrameKey ℕ
+  bookless frame = record frame { book = None }
+
+  -- the name in an option, or another
+  abbrev name_in : TableId → Option TableId → TableId
+  name_in k None = k
+  name_in k (Some name) = name
+
+  named : (k : TableId) {x y : TableId} → ◌≡◌ {A = Option TableId} (Some x) (Some y) → x ≡ y
+  named k same = ap (name_in k) same
+
+  book_of_the_outermost : (book_of own ≡ Some b) × (book_of (bookless key ∷ own) ≡ Some b) × (book_of (key ∷ bookless key ∷ []) ≡ None) × (book_of {J = ℕ} [] ≡ None)
+  book_of_the_outermost = (refl, refl, refl, refl)
+
+  teller_of_the_book : IsTellerOf inside (teller_state b 4) × ¬ IsTellerOf inside (teller_state c 4) × IsTellerOf {J = ℕ} [] (teller_state c 4)
+  teller_of_the_book = (refl, foreign, tt)
 
   no_frame_around : frames_around {J = ℕ} None ≡ []
   no_frame_around = refl
@@ -291,7 +313,7 @@ module _ (n m : TableId) (other : m ≢ n) where
   release_of_a_frame : release_in own (fresh_state n 1 Strong) ≡ record { frames = own; task = 1; cause = Strong }
   release_of_a_frame = refl
 
-  key_of_a_keeper : (keeper : KeeperState ℕ) → keeper.table ≡ n → key_of record { job = 2; keeper = keeper } ≡ key
+  key_of_a_keeper : (keeper : KeeperState ℕ) → keeper.table ≡ n → key_of record { job = 2; keeper = keeper; inside = 5; book = Some b } ≡ key
   key_of_a_keeper keeper is = ap (λ (t : TableId). record key { table = t }) is
 
   -- What holds a release is a turn of its frame's own table, with its task and its cause.
@@ -470,78 +492,128 @@ module _ (n m : TableId) (other : m ≢ n) where
       never again after (inr (cause, same)) = absurd (cc)
 
   -- ---- Runs that are over as they begin, and those that aren't.
-  nothing_to_begin : HasNoFirst (record { tasks = []; edges = []; sems = [] })
+  abbrev no_tasks : NetRows
+  no_tasks = record { tasks = []; edges = []; sems = [] }
+
+  nothing_to_begin : HasNoFirst no_tasks
   nothing_to_begin table = refl
+
+  over_as_it_began : (run : FrameRun ℕ ℕ) → all_spans run ≡ 0 → IsOverAtOnce (record flat_sums { net = λ j. no_tasks }) (Some run)
+  over_as_it_began run none = record { no_first = λ table. refl; no_spans = none }
+
+  over_with_a_span : (run : FrameRun ℕ ℕ) → all_spans run ≡ 1 → ¬ IsOverAtOnce (record flat_sums { net = λ j. no_tasks }) (Some run)
+  over_with_a_span run one is = absurd (omega (arith, one, is.no_spans))
 
   over_at_once : IsOverAtOnce {V = ℕ} flat_sums None
   over_at_once = tt
 
   goes_on_inside_the_step : (run : FrameRun ℕ ℕ) → ¬ IsOverAtOnce flat_sums (Some run)
-  goes_on_inside_the_step run is = absurd (omega (arith, ap length (is n)))
+  goes_on_inside_the_step run is = absurd (omega (arith, ap length (is.no_first n)))
 
-  -- ---- Runs that are given out.
-  closes_run : (run : FrameRun ℕ ℕ) → IsKept flat_sums run → job_of run ≡ 2 → IsRootRun flat_sums inside run
-  closes_run run kept job = record { kept = kept; job = ap Some (sym job) }
+  -- ---- Runs that are given out, with the account of their book.
+  module _ (run : FrameRun ℕ ℕ) (parked : Snapshot TurnState) (releases : Vec (ReleaseView ℕ) Global) where
+    abbrev closed : TallyState → ClosedRun ℕ ℕ
+    closed spans = record { run = run; spans = spans }
 
-  closes_an_illegal_run : (run : FrameRun ℕ ℕ) → ¬ IsKept flat_sums run → ¬ IsRootRun flat_sums own run
-  closes_an_illegal_run run never is = never is.kept
+    abbrev closed_in : TableId → ClosedRun ℕ ℕ
+    closed_in book = closed (tally_state book 0 0 7 3)
 
-  closes_the_inner_job : (run : FrameRun ℕ ℕ) → job_of run ≡ 9 → ¬ IsRootRun flat_sums inside run
-  closes_the_inner_job run job is = let same : ◌≡◌ {A = Option ℕ} (Some 2) (Some 9) = is.job ∙ ap Some job in absurd (cc)
+    is_accounted : all_spans run ≡ 7 → IsAccounted (closed_in b)
+    is_accounted seven = record { tellers = refl; told = refl; noted = sym seven }
 
-  closes_the_run_alone : (run : FrameRun ℕ ℕ) (fates : List (Fate ℕ)) → IsKept flat_sums run → job_of run ≡ 2 → HasEntries run fates → ClosesRun flat_sums own fates run
-  closes_the_run_alone run fates kept job entries = record { frame = key; frames_are = refl; job = job; kept = kept; entries = entries }
+    accounted_with_a_teller : ¬ IsAccounted (closed (tally_state b 1 0 7 3))
+    accounted_with_a_teller is = absurd (omega (arith, is.tellers))
 
-  closes_a_run_inside : (run : FrameRun ℕ ℕ) (fates : List (Fate ℕ)) → ¬ ClosesRun flat_sums inside fates run
-  closes_a_run_inside run fates is = absurd (omega (arith, ap length is.frames_are))
+    accounted_with_what_one_told : ¬ IsAccounted (closed (tally_state b 0 7 7 3))
+    accounted_with_what_one_told is = absurd (omega (arith, is.told))
 
-  closes_a_run_of_another_job : (run : FrameRun ℕ ℕ) (fates : List (Fate ℕ)) → job_of run ≡ 9 → ¬ ClosesRun flat_sums own fates run
-  closes_a_run_of_another_job run fates job is = absurd (omega (arith, ap job_of_first is.frames_are, is.job, job))
-    where
-      job_of_first : List (FrameKey ℕ) → ℕ
-      job_of_first [] = 0
-      job_of_first (frame ∷ around) = frame.job
+    accounted_without_a_span : all_spans run ≡ 8 → ¬ IsAccounted (closed_in b)
+    accounted_without_a_span eight is = absurd (omega (arith, eight, is.noted))
 
-  goes_on : (parked : Snapshot TurnState) (releases : Vec (ReleaseView ℕ) Global) → IsStateOf flat_sums own Went × ¬ IsStateOf flat_sums own (Parked parked) × ¬ IsStateOf flat_sums own (HasInner releases) × ¬ IsStateOf flat_sums own (Resumed releases)
-  goes_on parked releases = (tt, (λ is. is), (λ is. is), λ is. is)
+    closes_run : IsKept flat_sums run → job_of run ≡ 2 → all_spans run ≡ 7 → IsRootRun flat_sums inside (closed_in b)
+    closes_run kept job seven = record { kept = kept; job = ap Some (sym job); book = refl; account = is_accounted seven }
 
-  gives_its_run_out : (run : FrameRun ℕ ℕ) → IsKept flat_sums run → job_of run ≡ 2 → IsStateOf flat_sums own (Closed run)
-  gives_its_run_out run kept job = record { kept = kept; job = ap Some (sym job) }
+    closes_an_illegal_run : ¬ IsKept flat_sums run → ¬ IsRootRun flat_sums own (closed_in b)
+    closes_an_illegal_run never is = never is.kept
 
-  closed_alone : (run : FrameRun ℕ ℕ) (parked : Snapshot TurnState) (releases : Vec (ReleaseView ℕ) Global) → IsClosed (Closed run) × ¬ IsClosed {J = ℕ} {V = ℕ} Went × ¬ IsClosed {J = ℕ} {V = ℕ} (Parked parked) × ¬ IsClosed {J = ℕ} {V = ℕ} (HasInner releases)
-  closed_alone run parked releases = (tt, (λ is. is), (λ is. is), λ is. is)
+    closes_the_inner_job : job_of run ≡ 9 → ¬ IsRootRun flat_sums inside (closed_in b)
+    closes_the_inner_job job is = let same : ◌≡◌ {A = Option ℕ} (Some 2) (Some 9) = is.job ∙ ap Some job in absurd (cc)
 
-  -- A run is over where it is given out, and where its start is resumed.
-  over_and_not : (run : FrameRun ℕ ℕ) (parked : Snapshot TurnState) (releases : Vec (ReleaseView ℕ) Global) → IsOver (Closed run) × IsOver {J = ℕ} {V = ℕ} (Resumed releases) × ¬ IsOver {J = ℕ} {V = ℕ} Went × ¬ IsOver {J = ℕ} {V = ℕ} (Parked parked) × ¬ IsOver {J = ℕ} {V = ℕ} (HasInner releases)
-  over_and_not run parked releases = (tt, tt, (λ is. is), (λ is. is), λ is. is)
+    closes_in_another_book : ¬ IsRootRun flat_sums inside (closed_in c)
+    closes_in_another_book is = foreign (named b (sym is.book))
+
+    closes_unaccounted : all_spans run ≡ 8 → ¬ IsRootRun flat_sums inside (closed_in b)
+    closes_unaccounted eight is = accounted_without_a_span eight is.account
+
+    closes_the_run_alone : (fates : List (Fate ℕ)) → IsKept flat_sums run → job_of run ≡ 2 → HasEntries run fates → all_spans run ≡ 7 → ClosesRun flat_sums own fates (closed_in b)
+    closes_the_run_alone fates kept job entries seven = record { frame = key; frames_are = refl; job = job; kept = kept; entries = entries; book = refl; account = is_accounted seven }
+
+    closes_a_run_inside : (spans : TallyState) (fates : List (Fate ℕ)) → ¬ ClosesRun flat_sums inside fates (closed spans)
+    closes_a_run_inside spans fates is = absurd (omega (arith, ap length is.frames_are))
+
+    closes_a_run_of_another_job : (fates : List (Fate ℕ)) → job_of run ≡ 9 → ¬ ClosesRun flat_sums own fates (closed_in b)
+    closes_a_run_of_another_job fates job is = absurd (omega (arith, ap job_of_first is.frames_are, is.job, job))
+      where
+        job_of_first : List (FrameKey ℕ) → ℕ
+        job_of_first [] = 0
+        job_of_first (frame ∷ around) = frame.job
+
+    closes_the_run_in_another_book : (fates : List (Fate ℕ)) → ¬ ClosesRun flat_sums own fates (closed_in c)
+    closes_the_run_in_another_book fates is = foreign (named b (sym (ap book_of is.frames_are ∙ is.book)))
+
+    closes_the_run_unaccounted : (fates : List (Fate ℕ)) → all_spans run ≡ 8 → ¬ ClosesRun flat_sums own fates (closed_in b)
+    closes_the_run_unaccounted fates eight is = accounted_without_a_span eight is.account
+
+    brings_a_closed_run : (fates : List (Fate ℕ)) → ClosesRun flat_sums own fates (closed_in b) → BringsTo flat_sums own fates (backlog_view own []) (Closed (closed_in b)) × ¬ BringsTo flat_sums own fates (backlog_view [] []) (Closed (closed_in b))
+    brings_a_closed_run fates closes = ((closes, refl), λ is. absurd (omega (arith, ap (λ (left : BacklogView ℕ ℕ). length left.frames) is.1)))
+
+    goes_on : IsStateOf flat_sums own Went × ¬ IsStateOf flat_sums own (Parked parked) × ¬ IsStateOf flat_sums own (HasInner releases) × ¬ IsStateOf flat_sums own (Resumed releases)
+    goes_on = (tt, (λ is. is), (λ is. is), λ is. is)
+
+    gives_its_run_out : IsKept flat_sums run → job_of run ≡ 2 → all_spans run ≡ 7 → IsStateOf flat_sums own (Closed (closed_in b)) × ¬ IsStateOf flat_sums own (Closed (closed_in c))
+    gives_its_run_out kept job seven = (record { kept = kept; job = ap Some (sym job); book = refl; account = is_accounted seven }, λ is. foreign (named b (sym is.book)))
+
+    closed_alone : IsClosed (Closed (closed_in b)) × ¬ IsClosed {J = ℕ} {V = ℕ} Went × ¬ IsClosed {J = ℕ} {V = ℕ} (Parked parked) × ¬ IsClosed {J = ℕ} {V = ℕ} (HasInner releases)
+    closed_alone = (tt, (λ is. is), (λ is. is), λ is. is)
+
+    -- A run is over where it is given out, and where its start is resumed.
+    over_and_not : IsOver (Closed (closed_in b)) × IsOver {J = ℕ} {V = ℕ} (Resumed releases) × ¬ IsOver {J = ℕ} {V = ℕ} Went × ¬ IsOver {J = ℕ} {V = ℕ} (Parked parked) × ¬ IsOver {J = ℕ} {V = ℕ} (HasInner releases)
+    over_and_not = (tt, tt, (λ is. is), (λ is. is), λ is. is)
 
   -- ---- A beginning, a step and a bringing as a whole.
   abbrev both_released : List (FrameKey ℕ) → List (ReleaseView ℕ)
   both_released frames = release_in frames zeroth ∷ release_in frames second ∷ []
 
-  begins_frame : (stepped : Stepped ℕ ℕ) → stepped.released.items ≡ both_released own → stepped.state ≡ Went → BeginsFrame flat_sums 2 stepped
+  begins_frame : (stepped : Stepped ℕ ℕ) → stepped.released.items ≡ both_released own → stepped.state ≡ Went → BeginsFrame flat_sums 2 b stepped
   begins_frame stepped released went = record {
     frame = key;
     job_is = refl;
+    book_is = refl;
     released = released;
     frames = subst (All (λ (release : ReleaseView ℕ). release.frames ≡ own)) (sym released) (All-from_recursion (λ (release : ReleaseView ℕ). release.frames ≡ own) (both_released own) (refl, (refl, tt)));
     state = subst (IsStateOf flat_sums own) (sym went) tt;
   }
 
-  begins_without_the_second_source : (stepped : Stepped ℕ ℕ) → stepped.released.items ≡ release_in own zeroth ∷ [] → ¬ BeginsFrame flat_sums 2 stepped
+  begins_without_the_second_source : (stepped : Stepped ℕ ℕ) → stepped.released.items ≡ release_in own zeroth ∷ [] → ¬ BeginsFrame flat_sums 2 b stepped
   begins_without_the_second_source stepped released is = absurd (omega (arith, ap length released, ap length is.released))
 
-  begins_the_frame_of_another_job : (stepped : Stepped ℕ ℕ) → stepped.released.items ≡ both_released own → ¬ BeginsFrame flat_sums 3 stepped
-  begins_the_frame_of_another_job stepped released is =
+  frame_begun : (job : ℕ) (book : TableId) (stepped : Stepped ℕ ℕ) → stepped.released.items ≡ both_released own → (is : BeginsFrame flat_sums job book stepped) → own ≡ is.frame ∷ []
+  frame_begun job book stepped released is =
       let frames = subst (All (λ (release : ReleaseView ℕ). release.frames ≡ is.frame ∷ [])) released is.frames in
-      let same : own ≡ is.frame ∷ [] = All-head (λ (release : ReleaseView ℕ). release.frames ≡ is.frame ∷ []) (release_in own zeroth) (release_in own second ∷ []) frames in
-      absurd (omega (arith, ap root_job_number same, is.job_is))
+      All-head (λ (release : ReleaseView ℕ). release.frames ≡ is.frame ∷ []) (release_in own zeroth) (release_in own second ∷ []) frames
+
+  begins_in_another_book : (stepped : Stepped ℕ ℕ) → stepped.released.items ≡ both_released own → ¬ BeginsFrame flat_sums 2 c stepped
+  begins_in_another_book stepped released is = foreign (named b (sym (ap book_of (frame_begun 2 c stepped released is) ∙ is.book_is)))
+
+  begins_the_frame_of_another_job : (stepped : Stepped ℕ ℕ) → stepped.released.items ≡ both_released own → ¬ BeginsFrame flat_sums 3 b stepped
+  begins_the_frame_of_another_job stepped released is =
+      absurd (omega (arith, ap root_job_number (frame_begun 3 b stepped released is), is.job_is))
     where
       root_job_number : List (FrameKey ℕ) → ℕ
       root_job_number [] = 0
       root_job_number (frame ∷ around) = frame.job
 
-  begins_parked : (stepped : Stepped ℕ ℕ) (turn : Snapshot TurnState) → stepped.state ≡ Parked turn → ¬ BeginsFrame flat_sums 2 stepped
+  begins_parked : (stepped : Stepped ℕ ℕ) (turn : Snapshot TurnState) → stepped.state ≡ Parked turn → ¬ BeginsFrame flat_sums 2 b stepped
   begins_parked stepped turn parked is = subst (IsStateOf flat_sums (is.frame ∷ [])) parked is.state
 
   -- The first task starts without inputs, ends with the value 2 and gives its edge.
@@ -607,8 +679,8 @@ module _ (n m : TableId) (other : m ≢ n) where
     uses_it_and_keeps_no_fate : (made : List FreshState) → ¬ UsesRelease flat_sums key (release_in own zeroth) none_done (backlog_view own []) made
     uses_it_and_keeps_no_fate made is = absurd (omega (arith, ap (λ (b : BacklogView ℕ ℕ). length b.fates) is.backlog))
 
-    steps_to_nothing_else : (made : List FreshState) (run : FrameRun ℕ ℕ) (releases : Vec (ReleaseView ℕ) Global) → ¬ StepsTo flat_sums key (release_in own zeroth) none_done first_done made (Resumed releases) × ¬ StepsTo flat_sums key (release_in own zeroth) none_done first_done made (Closed run)
-    steps_to_nothing_else made run releases = ((λ is. is), λ is. is)
+    steps_to_nothing_else : (made : List FreshState) (closed : ClosedRun ℕ ℕ) (releases : Vec (ReleaseView ℕ) Global) → ¬ StepsTo flat_sums key (release_in own zeroth) none_done first_done made (Resumed releases) × ¬ StepsTo flat_sums key (release_in own zeroth) none_done first_done made (Closed closed)
+    steps_to_nothing_else made closed releases = ((λ is. is), λ is. is)
 
     steps_on : IsInJournal flat_sums 2 end_of_the_first → StepsTo flat_sums key (release_in own zeroth) none_done first_done (first ∷ []) Went
     steps_on within = uses_at_once within
@@ -652,7 +724,7 @@ module _ (n m : TableId) (other : m ≢ n) where
   -- ---- A run in place of a task's work. Task 1 found the value 7 and answers the job 10, whose one source is task 0.
   module _ (seven : Arc ℕ Global) (ins : Ins ℕ) (found : parts_of ins ≡ given.Value 1 (arc_with_value seven 7) ∷ []) where
     abbrev opened : FrameKey ℕ
-    opened = record { table = m; job = 10 }
+    opened = record { table = m; job = 10; book = Some b }
 
     abbrev first_inside : List (ReleaseView ℕ)
     first_inside = release_in (opened ∷ own) (fresh_state m 0 Source) ∷ []
@@ -669,6 +741,7 @@ module _ (n m : TableId) (other : m ≢ n) where
       ins = ins;
       journal = stands;
       inner = opened;
+      book = refl;
       answered = ten_answered;
       first_are = refl;
       some = λ none. absurd (omega (arith, ap length none));
@@ -681,6 +754,17 @@ module _ (n m : TableId) (other : m ≢ n) where
 
     opens_a_run_and_adds_a_fate : (fate : Fate ℕ) → ¬ opens (backlog_view own (fate ∷ [])) first_inside
     opens_a_run_and_adds_a_fate fate is = absurd (omega (arith, ap (λ (b : BacklogView ℕ ℕ). length b.fates) is.backlog))
+
+    opens_a_run_in_another_book : (new : BacklogView ℕ ℕ) → ¬ opens new (release_in (bookless opened ∷ own) (fresh_state m 0 Source) ∷ [])
+    opens_a_run_in_another_book new is = none-some b (ap first_book is.first_are ∙ is.book)
+      where
+        book_of_first : List (FrameKey ℕ) → Option TableId
+        book_of_first [] = Some b
+        book_of_first (frame ∷ around) = frame.book
+
+        first_book : List (ReleaseView ℕ) → Option TableId
+        first_book [] = Some b
+        first_book (r ∷ more) = book_of_first r.frames
 
     opens_a_run_without_its_source : (new : BacklogView ℕ ℕ) → ¬ opens new (release_in (opened ∷ own) (fresh_state m 1 Source) ∷ [])
     opens_a_run_without_its_source new is = absurd (omega (arith, ap first_task is.first_are))
@@ -892,8 +976,12 @@ module _ (n m : TableId) (other : m ≢ n) where
         by_earlier [] same = absurd (cc)
         by_earlier (first_of ∷ more) same = absurd (cc)
 
-    nothing_to_take_in : MayTakeIn {J = ℕ} {V = ℕ} own [] ⊥ None × ¬ MayTakeIn {J = ℕ} {V = ℕ} own (fate ∷ []) ⊥ None × ¬ MayTakeIn {J = ℕ} {V = ℕ} own [] (Unit {0}) None
-    nothing_to_take_in = ((refl, λ over. over), (λ is. let none = is.0 in absurd (cc)), λ is. is.1 tt)
+    -- where it took in nothing the run goes on, also while fates are laid aside
+    none_taken_in : MayTakeIn {J = ℕ} {V = ℕ} own [] ⊥ None × MayTakeIn {J = ℕ} {V = ℕ} own (fate ∷ []) ⊥ None × ¬ MayTakeIn {J = ℕ} {V = ℕ} own (fate ∷ []) (Unit {0}) None
+    none_taken_in = ((λ over. over), (λ over. over), λ is. is tt)
+
+    some_taken_in : MayTakeIn own (fate ∷ []) ⊥ (Some (keeper_that_found 2)) × ¬ MayTakeIn own (fate ∷ []) ⊥ (Some (keeper_that_found 1))
+    some_taken_in = (goes_on_before_the_last, goes_on_after_the_last)
 
     -- A bringing that failed leaves the backlog as it was, or empty: then it is of its frame, of the one around, or of none.
     leaves_what_was : IsLeftOf {J = ℕ} {V = ℕ} (backlog_view inside (fate ∷ [])) (backlog_view inside (fate ∷ []))
@@ -922,8 +1010,8 @@ module _ (n m : TableId) (other : m ≢ n) where
       × ¬ BringsTo {V = ℕ} flat_sums own [] (backlog_view own []) (Parked parked) × ¬ BringsTo {V = ℕ} flat_sums own [] (backlog_view own []) (HasInner releases)
   brings_to parked releases = (refl, (λ is. absurd (omega (arith, ap (λ (b : BacklogView ℕ ℕ). length b.frames) is))), (λ is. is), λ is. is)
 
-  brings_and_closes_a_run_inside : (brought : Brought ℕ ℕ) (new : BacklogView ℕ ℕ) (run : FrameRun ℕ ℕ) → brought.state ≡ Closed run → ¬ BringsFates flat_sums inside [] new brought
-  brings_and_closes_a_run_inside brought new run closed is = closes_a_run_inside run [] (subst (BringsTo flat_sums inside [] new) closed is.to).0
+  brings_and_closes_a_run_inside : (brought : Brought ℕ ℕ) (new : BacklogView ℕ ℕ) (closed : ClosedRun ℕ ℕ) → brought.state ≡ Closed closed → ¬ BringsFates flat_sums inside [] new brought
+  brings_and_closes_a_run_inside brought new closed to is = absurd (omega (arith, ap length (subst (BringsTo flat_sums inside [] new) to is.to).0.frames_are))
 
   -- No start is resumed of a frame that is in no other, nor of one whose run has another job.
   resumes_outermost : (released : List (ReleaseView ℕ)) (new : BacklogView ℕ ℕ) → ¬ ResumesStart flat_sums own [] released new

@@ -5,6 +5,7 @@ use Rattle.std.specs.Global.{Global}
 use Rattle.std.specs.Vec.{vec_capacity, vec_len}
 use Rattle.std.specs.declared.vec.Vec.{Vec}
 use Rattle.std.proofs.lemmas.List.Elements.{All-from_recursion, All-head}
+use Rattle.std.proofs.lemmas.Option.{none-some}
 use Rattle.atomic_table.specs.Seated.{TableId}
 use Rattle.task_graph.specs.NetRows.{NetRows}
 use Rattle.task_graph.specs.declared.net.Shape.{Shape}
@@ -43,6 +44,7 @@ use Rattle.table_runs.specs.OpenStarts.{OpenStartView, StartStands, IsOpenFor, I
 use Rattle.table_runs.specs.Openings.{IsInnerIn, Tries}
 use Rattle.table_runs.specs.RunKeys.{FrameKey, key_of}
 use Rattle.table_runs.specs.Runs.{AreOf, MayWork, IsDone, AreDoneIn}
+use Rattle.table_runs.specs.Spans.{spans_kept}
 use Rattle.table_runs.specs.inside.FateRuns.{FateWithRun, in_rows, placed_runs}
 use Rattle.table_runs.specs.declared.attempt.Attempt.{Attempt}
 use Rattle.table_runs.specs.declared.attempt.Ending.{Ending}
@@ -107,10 +109,10 @@ owing_units = record no_units { to_credit = 0 ∷ [] }
 abbrev claiming_units : StartUnits
 claiming_units = record no_units { to_claim = 0 ∷ [] }
 
--- A run of job 2 over one table; and another table.
-module _ (n m : TableId) (other : m ≢ n) (ins : Ins ℕ) where
+-- A run of job 2 over one table, with a book of its spans; and another table.
+module _ (n m b : TableId) (other : m ≢ n) (ins : Ins ℕ) where
   abbrev key : FrameKey ℕ
-  key = record { table = n; job = 2 }
+  key = record { table = n; job = 2; book = Some b }
 
   abbrev running_in : TableId → ℕ → StartUnits → RunningState ℕ
   running_in k t units = running_state k t Source 4 ins units []
@@ -341,12 +343,13 @@ module _ (n m : TableId) (other : m ≢ n) (ins : Ins ℕ) where
   source = fresh_state n 0 Source
 
   module _ (begun : Begun ℕ ℕ) (run_is : begun.run ≡ key) where
-    begins : begun.fresh.items ≡ source ∷ [] → key_of begun.kept ≡ key → Begins adds 2 begun
-    begins first kept = record {
+    begins : begun.fresh.items ≡ source ∷ [] → key_of begun.kept ≡ key → spans_kept begun.kept ≡ 0 → Begins adds 2 begun
+    begins first kept no_spans = record {
       job_is = ap (λ (k : FrameKey ℕ). k.job) run_is;
       first = first ∙ ap (λ (k : FrameKey ℕ). fresh_state k.table 0 Source ∷ []) (sym run_is);
       fresh = subst (AreOf begun.run.table) (sym first) (All-from_recursion (λ (f : FreshState). f.table ≡ begun.run.table) (source ∷ []) (sym (ap (λ (k : FrameKey ℕ). k.table) run_is), tt));
       kept = kept ∙ sym run_is;
+      no_spans = no_spans;
       nothing = λ none. absurd (omega (arith, ap length (sym first ∙ none)));
     }
 
@@ -356,8 +359,11 @@ module _ (n m : TableId) (other : m ≢ n) (ins : Ins ℕ) where
     begins_without_its_source : begun.fresh.items ≡ [] → ¬ Begins adds 2 begun
     begins_without_its_source none is = absurd (omega (arith, ap length (sym none ∙ is.first)))
 
-    begins_with_another_keeper : key_of begun.kept ≡ record { table = m; job = 2 } → ¬ Begins adds 2 begun
+    begins_with_another_keeper : key_of begun.kept ≡ record key { table = m } → ¬ Begins adds 2 begun
     begins_with_another_keeper kept is = other (ap (λ (k : FrameKey ℕ). k.table) (sym kept ∙ is.kept ∙ run_is))
+
+    begins_with_a_span : spans_kept begun.kept ≡ 1 → ¬ Begins adds 2 begun
+    begins_with_a_span one is = absurd (omega (arith, one, is.no_spans))
 
     finished_without_a_task : begun.fresh.items ≡ [] → Begins (record adds { net = λ j. no_tasks }) 2 begun → TellsRun no_tasks 3 (entries_told begun.kept.keeper.fates)
     finished_without_a_task none is = is.nothing none
@@ -399,7 +405,7 @@ module _ (n m : TableId) (other : m ≢ n) (ins : Ins ℕ) where
     start_of_its_job stands = (is_open stands, open_for_another_job)
 
     -- In its place a run has begun over the other table.
-    module _ (begun : Begun ℕ ℕ) (run_is : begun.run ≡ record { table = m; job = 3 }) (begins : Begins adds begun.run.job begun) where
+    module _ (begun : Begun ℕ ℕ) (run_is : begun.run ≡ record { table = m; job = 3; book = Some b }) (begins : Begins adds begun.run.job begun) where
       abbrev inner_begun : OpenStartView ℕ ℕ → Option FreshState → InnerBegun ℕ ℕ
       inner_begun start again = record { begun = begun; start = start; again = again }
 
@@ -408,6 +414,7 @@ module _ (n m : TableId) (other : m ≢ n) (ins : Ins ℕ) where
         frame_is = refl;
         start = subst (λ (k : FrameKey ℕ). IsStartOf adds k.job open_start) (sym run_is) (is_open stands);
         begins = begins;
+        book = ap (λ (k : FrameKey ℕ). k.book) run_is;
         some = some;
         again = (refl, refl);
       }
@@ -415,20 +422,23 @@ module _ (n m : TableId) (other : m ≢ n) (ins : Ins ℕ) where
       begun_with_nothing_to_do : begun.fresh.items ≡ [] → ¬ IsInnerIn adds key (inner_begun open_start None)
       begun_with_nothing_to_do none is = is.some none
 
-      begun_in_another_run : ¬ IsInnerIn adds key (inner_begun (record open_start { frame = record { table = m; job = 2 } }) None)
+      begun_in_another_run : ¬ IsInnerIn adds key (inner_begun (record open_start { frame = record key { table = m } }) None)
       begun_in_another_run is = other (ap (λ (k : FrameKey ℕ). k.table) is.frame_is)
 
       begun_and_releases_another : ¬ IsInnerIn adds key (inner_begun open_start (Some source))
       begun_and_releases_another is = absurd (omega (arith, ap (λ (f : FreshState). f.task) is.again.1))
 
       tries_and_begins : StartStands adds 2 nested → begun.fresh.items ≢ [] → Tries adds key next (tried.Inner (inner_begun open_start None))
-      tries_and_begins stands some = (record { frame_is = refl; start = subst (λ (k : FrameKey ℕ). IsStartOf adds k.job open_start) (sym run_is) (is_open stands); begins = begins; some = some; again = tt }, refl)
+      tries_and_begins stands some = (record { frame_is = refl; start = subst (λ (k : FrameKey ℕ). IsStartOf adds k.job open_start) (sym run_is) (is_open stands); begins = begins; book = ap (λ (k : FrameKey ℕ). k.book) run_is; some = some; again = tt }, refl)
 
       tries_another_and_begins : ¬ Tries adds key source (tried.Inner (inner_begun open_start None))
       tries_another_and_begins is = absurd (omega (arith, ap (λ (f : FreshState). f.task) is.1))
 
     begun_for_another_job : (begun : Begun ℕ ℕ) → begun.run.job ≡ 4 → ¬ IsInnerIn adds key (record { begun = begun; start = open_start; again = None })
     begun_for_another_job begun job is = absurd (omega (arith, job, is.start.answered))
+
+    begun_with_another_book : (begun : Begun ℕ ℕ) → begun.run.book ≡ None → ¬ IsInnerIn adds key (record { begun = begun; start = open_start; again = None })
+    begun_with_another_book begun none is = none-some b (sym none ∙ is.book)
 
   tries_and_ends : Tries adds key source (tried.Done (attempt (Ends (ending (running 0) 2)) None None))
   tries_and_ends = (is_attempt, refl, tt)
@@ -455,4 +465,4 @@ module _ (n m : TableId) (other : m ≢ n) (ins : Ins ℕ) where
 
     -- a run in which something is to be done isn't over in the same call
     tries_and_runs_inside : ¬ Tries adds key (fresh_state n 1 Source) (tried.Done cut_short)
-    tries_and_runs_inside is = absurd (omega (arith, ap length (is.2 n)))
+    tries_and_runs_inside is = absurd (omega (arith, ap length (is.2.no_first n)))

@@ -1,5 +1,5 @@
--- What a read finds and how sources in memory count, what a start's inputs hold, and how a watcher counts, computed on
--- small ones.
+-- What a read finds and how sources in memory count, what a start's inputs hold, and what a watcher was told, computed
+-- on small ones.
 use Rattle.std.proofs.Common.{◌≡◌, ℕ, zero, suc, ◌<◌, List, [], ◌∷◌, length, Some, None, Ok, Err, refl, ap, arith}
 use Rattle.std.specs.Prelude.{Contains, slice_index_or, if◌then◌else◌, bytes_eq}
 use Rattle.std.specs.Arc.{arc_value}
@@ -13,7 +13,10 @@ use Rattle.outside_io.specs.MemoryTexts.{HeldTexts, AreNamed, text_under, Counts
 use Rattle.join_words.specs.declared.ins.Given.TheVariants.{Value, First, Nothing}
 use Rattle.join_words.specs.declared.ins.Ins.{Ins}
 use Rattle.join_words.specs.Ins.{value, first, nothing, found_of, parts_of, room_of}
-use Rattle.span_profile.specs.Watch.{one_more, counted}
+use Rattle.std.specs.declared.vec.Vec.{Vec}
+use Rattle.journal_rules.specs.declared.span.Span.{Span}
+use Rattle.span_profile.specs.Watch.{IsToldSince, TellsOn, one_more, counted, listed}
+use Rattle.span_profile.specs.declared.span_count.SpanCount.{SpanCount}
 
 -- A text of just the most bytes is found whole, and one of more is longer.
 found_whole : Finds (Some (1 ∷ 2 ∷ [])) 2 (Text (1 ∷ 2 ∷ []))
@@ -151,3 +154,19 @@ counts_on = (refl, refl, refl)
 
 told_so_far : counted (record { count = 7 }) ≡ 7
 told_so_far = refl
+
+told_in_order : (one two : Span) (spans : Vec Span Global) → spans.items ≡ one ∷ two ∷ [] → listed (record { spans = spans }) ≡ one ∷ two ∷ []
+told_in_order one two spans is = is
+
+-- A watcher that counts 5, and stays at the greatest number.
+abbrev at_count : ℕ → SpanCount
+at_count n = record { count = n }
+
+told_since : IsToldSince counted 2 3 (at_count 5) × ¬ IsToldSince counted 2 3 (at_count 6) × IsToldSince counted 18446744073709551614 3 (at_count 18446744073709551615)
+told_since = (refl, (λ is. absurd (omega (arith, is))), refl)
+
+tells_on : TellsOn counted 1 2 (at_count 5) (at_count 6)
+tells_on before since = omega (arith, since)
+
+tells_on_too_far : ¬ TellsOn counted 1 2 (at_count 5) (at_count 7)
+tells_on_too_far is = absurd (omega (arith, is 4 refl))

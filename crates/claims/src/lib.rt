@@ -7,12 +7,13 @@
 //! has an empty body. Its contract says that journals are legal and finished, or which rule an entry breaks, and that it
 //! breaks no other. The other claims are lemmas in `proofs/`:
 //!
-//! - `WorkedSinks`, `WorkedSources`: sinks, sources of texts, streams, the inputs of a start, a watcher's count;
+//! - `WorkedSinks`, `WorkedSources`: sinks, sources of texts, streams, the inputs of a start, what a watcher was told;
 //! - `WorkedBuilder`: what the builder of nets answers, and which nets are well formed;
 //! - `WorkedMachine`, `WorkedSteps`: what waits, what a machine's steps do, the break of each rule, the verdict;
 //! - `WorkedFrames`, `WorkedRows`: what a job's works may come to, where its inner runs are, and what the beginning and the
 //!   steps of a frame come to;
 //! - `WorkedRuns`: how a run over a table begins, what a release comes to there, and which turns are done;
+//! - `WorkedSpans`: the spans that outcomes end, what books of spans, tellers and runs say, and the rule of a book;
 //! - `WorkedSeats`: which lock, register or list a pass, a book, a ticket or an owner is of;
 //! - `WorkedYards`: what is parked in a yard, before and after one list changed, and which yard a pass is of;
 //! - `WorkedSlots`: in which order the parcels of a slot are taken, and what a seat that took a slot gives back;

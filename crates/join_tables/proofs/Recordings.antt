@@ -1,5 +1,5 @@
 -- What the keeper's seat knows is what the keeper has.
-use Rattle.std.proofs.Common.{◌≡◌, ℕ, ◌+◌, List, [], ◌∷◌, ◌++◌, Option, Some, None, IfSome, IfNone, sym, refl, ap, ◌∙◌, subst, arith}
+use Rattle.std.proofs.Common.{◌≡◌, ◌≢◌, ℕ, ◌+◌, List, [], ◌∷◌, ◌++◌, length, Option, Some, None, IfSome, IfNone, sym, refl, ap, ◌∙◌, subst, arith}
 use Rattle.std.specs.Prelude.{◌==◌, slice_get, count_by}
 use Rattle.std.specs.Option.{option_map_or}
 use Rattle.std.specs.List.{AllByRecursion}
@@ -80,6 +80,16 @@ pub spent_more : {V S : Type 0} (me : S → List Note) (seat : Option S) (fates 
     → IsSpent (entries_told (fates ++ fate ∷ [])) (w ++ option_map_or (λ s. left_by (me s)) seat [])
 spent_more me None fates fate w before none new = subst (λ fs. IsSpent (entries_told (fs ++ fate ∷ [])) (w ++ [])) (sym none) (subst (λ es. IsSpent es (w ++ [])) (sym (append-nil (entries_of fate))) (subst (IsSpent (entries_of fate)) (sym (append-nil w)) new))
 spent_more me (Some s) fates fate w before none new = subst (λ es. IsSpent es (w ++ left_by (me s))) (sym (entries_more fates fate)) (spent_both (entries_told fates) (entries_of fate) (me s) w before new)
+
+-- where a batch is added to one that may have none yet
+pub spent_all : {V S : Type 0} (me : S → List Note) (seat : Option S) (fates more : List (Fate V)) (w : List Note) → IfSome seat (λ s. IsSpent (entries_told fates) (me s)) → IfNone seat (fates ≡ []) → IsSpent (entries_told more) w
+    → IsSpent (entries_told (fates ++ more)) (w ++ option_map_or (λ s. left_by (me s)) seat [])
+spent_all me None fates more w before none new = subst (λ fs. IsSpent (entries_told (fs ++ more)) (w ++ [])) (sym none) (subst (IsSpent (entries_told more)) (sym (append-nil w)) new)
+spent_all me (Some s) fates more w before none new = subst (λ es. IsSpent es (w ++ left_by (me s))) (sym (flat_map-append entries_of fates more)) (spent_both (entries_told fates) (entries_told more) (me s) w before new)
+
+pub not_empty : {X : Type 0} (xs ys : List X) → ys ≢ [] → xs ++ ys ≢ []
+not_empty [] ys some = some
+not_empty (x ∷ xs) ys some = λ e. absurd (omega (arith, ap length e))
 
 -- what else a seat knows tells no entry
 place_told : (m : ℕ) (v : List Note) → weigh (duty (place m)) v ≡ weigh (duty (place m)) (tellings v)

@@ -81,6 +81,13 @@ impl<V: Drop> SpentBatch<V> {
         Ok(())
     }
 
+    /// What became of its turns, in the order in which they were gathered.
+    pub fn fates(&self) -> &[Fate<V>]
+        ensures { result.now ≡ self.now.fates }
+    {
+        self.fates.as_slice()
+    }
+
     /// Whether it has no turn.
     pub fn is_empty(&self) -> bool
         ensures table { IsTrue result ↔ (self.now.table ≡ None) }
@@ -104,6 +111,33 @@ impl<V: Drop> NetTable<V> {
         batch.fates.push_reserved(fate);
         let seat = self.join_batch(batch.seat.take(), own);
         batch.seat = Some(seat);
+    }
+
+    /// Adds the turns of a batch to another, and takes one of the two live turns off. The other stays live, so this is
+    /// never the last. If an allocation fails, both stay as they were.
+    pub fn gather_all(
+        &self,
+        batch: &mut SpentBatch<V>,
+        more: &mut SpentBatch<V>,
+    ) -> Result<(), NoMemory>
+        requires batch { IsOfTable self.now.table batch.old.table }
+        requires more { more.old.table ≡ Some self.now.table }
+        ensures ok { OnOk result (batch.new ≡ batch_state (Some self.now.table)
+            (batch.old.fates ++ more.old.fates) batch.new.room) }
+        ensures taken { OnOk result (more.new ≡ batch_state None [] more.old.room) }
+        ensures err { OnErr result
+            (batch.new ≡ batch_state batch.old.table batch.old.fates batch.new.room) }
+        ensures err_more { OnErr result (more.new ≡ more.old) }
+    {
+        if batch.fates.append(&mut more.fates).is_err() {
+            return Err(NoMemory);
+        }
+        let Some(own) = more.seat.take() else {
+            unreachable!()
+        };
+        let seat = self.join_batch(batch.seat.take(), own);
+        batch.seat = Some(seat);
+        Ok(())
     }
 
     // Gives what a turn knows to the seat of a batch, which is the turn's own where the batch has none.

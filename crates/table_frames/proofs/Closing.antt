@@ -1,5 +1,5 @@
 -- A run that is over, and the start whose work it was.
-use Rattle.std.proofs.Common.{◌≡◌, ℕ, List, [], ◌∷◌, ◌++◌, Option, Some, None, refl, sym, ap, ◌∙◌, subst}
+use Rattle.std.proofs.Common.{◌≡◌, ℕ, ◌+◌, List, [], ◌∷◌, ◌++◌, Option, Some, None, length, refl, sym, ap, ◌∙◌, subst}
 use Rattle.std.specs.Prelude.{◌↔◌, IfSome, slice_get}
 use Rattle.std.specs.Arc.{arc_value}
 use Rattle.std.specs.Global.{Vec}
@@ -17,12 +17,16 @@ use Rattle.run_frame.specs.Meaning.{Meaning}
 use Rattle.run_frame.specs.NestedRule.{job_of, journal_of}
 use Rattle.run_frame.specs.declared.run.FrameRun.{FrameRun}
 use Rattle.table_frames.specs.BacklogResults.{BringsFates, MayTakeIn, ResumesStart, TakesIn}
-use Rattle.table_frames.specs.Frames.{AtFrame, BacklogView, HasTable, ReleaseView, backlog_view, release_in}
+use Rattle.nested_runs.specs.Totals.{all_spans}
+use Rattle.span_book.specs.SpanBooks.{SpansState}
+use Rattle.table_frames.specs.Frames.{AtFrame, BacklogView, HasTable, IsAccounted, ReleaseView, backlog_view, book_of, release_in}
+use Rattle.table_frames.specs.declared.closed_run.ClosedRun.{ClosedRun}
 use Rattle.table_runs.specs.RunKeys.{FrameKey, RunKeeperView, key_of}
 use Rattle.table_runs.specs.JournalFacts.{HasEntries}
 use Rattle.table_frames.specs.inside.AttemptEnds.{HandsOn}
 use Rattle.table_runs.specs.Attempts.{release_tried}
-use Rattle.table_frames.specs.inside.LockedRuns.{IsLockedAt, LockKey, LockedRunView, first_frame, frame_of, lock_key_in, lock_key_of, locked_run}
+use Rattle.table_frames.specs.inside.FrameBatches.{IsBackIn}
+use Rattle.table_frames.specs.inside.LockedRuns.{ComesInto, IsLockedAt, KeepsLast, LockKey, LockedRunView, first_frame, frame_of, lock_key_in, lock_key_of}
 use Rattle.table_runs.specs.OpenStarts.{IsStartOf, OpenStartView}
 use Rattle.table_frames.specs.inside.Overs.{IsEnd, IsInnerRunOf, IsOverOf, KeepsFates, Resumes}
 use Rattle.table_runs.specs.declared.attempt.Attempt.{Attempt}
@@ -60,15 +64,23 @@ not_outermost {J} key around locked start is some none =
     let told : ◌≡◌ {A = Option (FrameKey J)} (Some start.frame) None = sym (ap frame_of some) ∙ ap (λ (k : LockKey J). k.around) is ∙ ap first_frame none in
     absurd (cc)
 
--- what was taken out of the lock of a frame, and the same with another keeper of the frame
-pub locked_key : {J V : Type 0} (key : FrameKey J) (around : List (FrameKey J)) (inside taken made : LockedRunView J V) → inside ≡ taken → lock_key_of taken ≡ lock_key_of made → lock_key_of made ≡ lock_key_in key around → lock_key_of inside ≡ lock_key_in key around
-locked_key key around inside taken made is same of = ap lock_key_of is ∙ same ∙ of
+-- it is inside none
+pub is_outermost : {J V : Type 0} (frames : List (FrameKey J)) (locked : LockedRunView J V) → IsLockedAt frames locked → locked.start ≡ None → locked.spans.depth ≡ 0
+is_outermost [] locked is none = absurd is
+is_outermost {J} (key ∷ around) locked is none = ap (λ (k : LockKey J). k.depth) is ∙ ap length (no_around around (sym (ap frame_of none) ∙ ap (λ (k : LockKey J). k.around) is))
 
-pub locked_again : {J V : Type 0} (key : FrameKey J) (around : List (FrameKey J)) (kept kept' : RunKeeperView J V) (start : Option (OpenStartView J V)) → lock_key_of (locked_run kept start) ≡ lock_key_in key around → key_of kept' ≡ key → lock_key_of (locked_run kept' start) ≡ lock_key_in key around
-locked_again {J} key around kept kept' start is same = λ i. record { frame = same i; around = ap (λ (k : LockKey J). k.around) is i }
+-- the book of the frames around is that of all
+pub book_around : {J : Type 0} (key : FrameKey J) (around : List (FrameKey J)) (p : FrameKey J → Type 0) → AtFrame around p → book_of around ≡ book_of (key ∷ around)
+book_around key [] p at = absurd at
+book_around key (frame ∷ more) p at = refl
 
-pub same_start : {J V : Type 0} (meaning : Meaning J V) (kept kept' : RunKeeperView J V) (start : Option (OpenStartView J V)) → key_of kept' ≡ key_of kept → IfSome start (IsStartOf meaning kept.job) → IfSome start (IsStartOf meaning kept'.job)
-same_start {J} meaning kept kept' start same is = subst (λ (j : J). IfSome start (IsStartOf meaning j)) (sym (ap (λ (k : FrameKey J). k.job) same)) is
+-- a run inside these frames came back to the one with this book and depth
+pub comes_into : {J : Type 0} (frames : List (FrameKey J)) (book : TableId) (depth : ℕ) (returned : Option SpansState) → book_of frames ≡ Some book → length frames ≡ 1 + depth → IfSome returned (IsBackIn frames) → IfSome returned (ComesInto book depth)
+comes_into frames book depth None of deep is = tt
+comes_into frames book depth (Some inner) of deep is = record { same = some_same inner.book book (sym is.book ∙ of); below = is.depth ∙ deep; all = is.all }
+  where
+    some_same : (n m : TableId) → ◌≡◌ {A = Option TableId} (Some n) (Some m) → n ≡ m
+    some_same n m is = cc
 
 -- there are turns of the frame
 pub some_table : (n : TableId) (t : Option TableId) → IsOfTable n t → (t ≡ None → ⊥) → t ≡ Some n
@@ -81,29 +93,29 @@ finds_so p q before [] so finds = absurd finds
 finds_so p q before (n ∷ rest) so finds = (finds.0, so n finds.1)
 
 -- A keeper has taken in turns, of which the last one was live alone, or one of several.
-pub takes_last : {J V : Type 0} (frames : List (FrameKey J)) (fates : List (Fate V)) (over : Type 0) (old new : KeeperState V) → over → HasTable frames new.table → new.fates ≡ old.fates ++ fates → FindsOne (λ n. LeavesOf n AllTaken) old.found new.found → TakesIn frames fates over new
-takes_last frames fates over old new is table fates_are found = record {
+pub takes_last : {J V : Type 0} (frames : List (FrameKey J)) (fates : List (Fate V)) (over : Type 0) (old new : LockedRunView J V) → over → HasTable frames new.kept.keeper.table → KeepsLast fates old new AllTaken → TakesIn frames fates over new.kept.keeper
+takes_last frames fates over old new is table keeps = record {
   table = table;
-  earlier = old.fates;
-  fates_are = fates_are;
-  before = old.found;
-  found = finds_so (λ n. LeavesOf n AllTaken) (λ n. over ↔ (n ≡ 1)) old.found new.found (λ n left. (λ o. left, λ one. is)) found;
+  earlier = keeps.earlier;
+  fates_are = keeps.fates_are;
+  before = old.kept.keeper.found;
+  found = finds_so (λ n. LeavesOf n AllTaken) (λ n. over ↔ (n ≡ 1)) old.kept.keeper.found new.kept.keeper.found (λ n left. (λ o. left, λ one. is)) keeps.found;
 }
 
-pub takes_more : {J V : Type 0} (frames : List (FrameKey J)) (fates : List (Fate V)) (over : Type 0) (old new : KeeperState V) → ¬ over → HasTable frames new.table → new.fates ≡ old.fates ++ fates → FindsOne (λ n. LeavesOf n More) old.found new.found → TakesIn frames fates over new
-takes_more frames fates over old new is table fates_are found = record {
+pub takes_more : {J V : Type 0} (frames : List (FrameKey J)) (fates : List (Fate V)) (over : Type 0) (old new : LockedRunView J V) → ¬ over → HasTable frames new.kept.keeper.table → KeepsLast fates old new More → TakesIn frames fates over new.kept.keeper
+takes_more frames fates over old new is table keeps = record {
   table = table;
-  earlier = old.fates;
-  fates_are = fates_are;
-  before = old.found;
-  found = finds_so (λ n. LeavesOf n More) (λ n. over ↔ (n ≡ 1)) old.found new.found (λ n left. (λ o. absurd (is o), λ one. absurd (left one))) found;
+  earlier = keeps.earlier;
+  fates_are = keeps.fates_are;
+  before = old.kept.keeper.found;
+  found = finds_so (λ n. LeavesOf n More) (λ n. over ↔ (n ≡ 1)) old.kept.keeper.found new.kept.keeper.found (λ n left. (λ o. absurd (is o), λ one. absurd (left one))) keeps.found;
 }
 
 module _ {J V : Type 0} (meaning : Meaning J V) where
   -- what has the entries of fates has those of the later ones
   pub over_of : (frames : List (FrameKey J)) (earlier later all : List (Fate V)) (over : Over J V) → all ≡ earlier ++ later → IsOverOf meaning frames all over → IsOverOf meaning frames later over
   over_of frames earlier later all No same is = tt
-  over_of frames earlier later all (Alone run) same is = record { frame = is.frame; frames_are = is.frames_are; job = is.job; kept = is.kept; entries = later_entries earlier later all run same is.entries }
+  over_of frames earlier later all (Alone closed) same is = record { frame = is.frame; frames_are = is.frames_are; job = is.job; kept = is.kept; entries = later_entries earlier later all closed.run same is.entries; book = is.book; account = is.account }
   over_of frames earlier later all (Inside inner) same is = record { key = is.key; frames_are = is.frames_are; job = is.job; over = is.over; entries = later_entries earlier later all inner.run same is.entries }
 
   -- a run inside another that is over, whose start goes on
@@ -135,20 +147,23 @@ module _ {J V : Type 0} (meaning : Meaning J V) where
       }
 
   -- the run of a frame in no other
-  pub over_alone : (frames : List (FrameKey J)) (locked : LockedRunView J V) (run : FrameRun J V) → IsLockedAt frames locked → locked.start ≡ None → IsKept meaning run → job_of run ≡ locked.kept.job → HasEntries run locked.kept.keeper.fates → IsOverOf meaning frames locked.kept.keeper.fates (Alone run)
-  over_alone [] locked run is none kept job entries = absurd is
-  over_alone (key ∷ around) locked run is none kept job entries = record {
+  pub over_alone : (frames : List (FrameKey J)) (locked : LockedRunView J V) (closed : ClosedRun J V) → IsLockedAt frames locked → locked.start ≡ None → IsKept meaning closed.run → job_of closed.run ≡ locked.kept.job → HasEntries closed.run locked.kept.keeper.fates
+      → locked.kept.book ≡ Some closed.spans.book → IsAccounted closed → IsOverOf meaning frames locked.kept.keeper.fates (Alone closed)
+  over_alone [] locked closed is none kept job entries book account = absurd is
+  over_alone (key ∷ around) locked closed is none kept job entries book account = record {
     frame = key;
     frames_are = ap (λ fs. key ∷ fs) (no_around around (sym (ap frame_of none) ∙ ap (λ (k : LockKey J). k.around) is));
     job = job ∙ ap (λ (k : LockKey J). k.frame.job) is;
     kept = kept;
     entries = entries;
+    book = sym (ap (λ (k : LockKey J). k.frame.book) is) ∙ book;
+    account = account;
   }
 
   -- the run of a frame inside another
   pub over_inside : (key : FrameKey J) (around : List (FrameKey J)) (locked : LockedRunView J V) (inner : InnerOver J V) → lock_key_of locked ≡ lock_key_in key around → locked.start ≡ Some inner.start → IfSome locked.start (IsStartOf meaning locked.kept.job) → arc_value inner.parent ≡ around
-      → IsKept meaning inner.run → job_of inner.run ≡ locked.kept.job → HasEntries inner.run locked.kept.keeper.fates → IsOverOf meaning (key ∷ around) locked.kept.keeper.fates (Inside inner)
-  over_inside key around locked inner is some start parent kept job entries =
+      → IsKept meaning inner.run → job_of inner.run ≡ locked.kept.job → HasEntries inner.run locked.kept.keeper.fates → locked.spans ≡ inner.spans → book_of around ≡ Some inner.spans.book → inner.spans.back ≡ inner.spans.opened → inner.spans.noted ≡ all_spans inner.run → IsOverOf meaning (key ∷ around) locked.kept.keeper.fates (Inside inner)
+  over_inside key around locked inner is some start parent kept job entries same book back noted =
       let at = start_at inner.start.frame around (sym (ap frame_of some) ∙ ap (λ (k : LockKey J). k.around) is) in
       record {
         key = key;
@@ -158,6 +173,14 @@ module _ {J V : Type 0} (meaning : Meaning J V) where
           frame = subst (λ (fs : List (FrameKey J)). AtFrame fs (λ k. inner.start.frame ≡ k)) (sym parent) at;
           start = subst (λ (j : J). IsStartOf meaning j inner.start) (sym job) (subst (λ (s : Option (OpenStartView J V)). IfSome s (IsStartOf meaning locked.kept.job)) some start);
           kept = kept;
+          back = record {
+            is = record {
+              book = ap book_of parent ∙ book;
+              depth = sym (ap (λ (s : SpansState). s.depth) same) ∙ ap (λ (k : LockKey J). k.depth) is ∙ ap length (sym parent);
+              all = back;
+            };
+            spans = noted;
+          };
         };
         entries = entries;
       }

@@ -153,6 +153,7 @@ opens_release {J} {V} meaning (frame ∷ around) fresh inner old new stepped tri
         ins = r.ins;
         journal = subst (λ (f : FreshState). StandsAs meaning r frame.job f) of (subst (λ (k : FrameKey J). StandsAs meaning r k.job (fresh_state frame.table r.task r.cause)) is.frame_is is.start.journal);
         inner = inner.begun.run;
+        book = is.book;
         answered = subst (λ (t : ℕ). meaning.answers frame.job t (map found_of (parts_of r.ins)) (InnerJob inner.begun.run.job)) task
             (subst (λ (k : FrameKey J). meaning.answers k.job r.task (map found_of (parts_of r.ins)) (InnerJob inner.begun.run.job)) is.frame_is is.start.answered);
         first_are = opens.first_are ∙ ap (map (release_in (inner.begun.run ∷ frame ∷ around))) is.begins.first;
@@ -218,7 +219,7 @@ steps_from {J} {V} meaning release old mid new stepped same steps = record {
     by_state : (state : State J V) → StepsTo meaning steps.frame release mid new steps.made state → StepsTo meaning steps.frame release old new steps.made state
     by_state Went w = let u = w.uses in record { uses = record { fate = u.fate; run = u.run; by_end = u.by_end; allowed = u.allowed; journal = u.journal; uses = u.uses; wakes = u.wakes; backlog = u.backlog ∙ ap (λ fs. backlog_view release.frames (fs ++ u.fate ∷ [])) same }; inner = w.inner }
     by_state (ParkedState turn) p = record { is = p.is; sem = p.sem; waits = p.waits; none = p.none; woken = p.woken; wakes = p.wakes; again = p.again; backlog = p.backlog ∙ ap (backlog_view release.frames) same }
-    by_state (InnerState first) o = record { place = o.place; ins = o.ins; journal = o.journal; inner = o.inner; answered = o.answered; first_are = o.first_are; some = o.some; again = o.again; backlog = o.backlog ∙ ap (backlog_view release.frames) same }
+    by_state (InnerState first) o = record { place = o.place; ins = o.ins; journal = o.journal; inner = o.inner; book = o.book; answered = o.answered; first_are = o.first_are; some = o.some; again = o.again; backlog = o.backlog ∙ ap (backlog_view release.frames) same }
     by_state (ResumedState releases) u = absurd u
     by_state (ClosedState run) u = absurd u
 
@@ -231,10 +232,11 @@ has_table [] taken is = absurd is
 has_table (frame ∷ around) taken is = is.table
 
 -- a beginning
-pub begins_frame : {J V : Type 0} (meaning : Meaning J V) (job : J) (begun : Begun J V) (stepped : Stepped J V) → Begins meaning job begun → stepped.released.items ≡ map (release_in (begun.run ∷ [])) begun.fresh.items → IsStateOf meaning (begun.run ∷ []) stepped.state → BeginsFrame meaning job stepped
-begins_frame {J} meaning job begun stepped begins released state = record {
+pub begins_frame : {J V : Type 0} (meaning : Meaning J V) (job : J) (book : TableId) (begun : Begun J V) (stepped : Stepped J V) → Begins meaning job begun → begun.run.book ≡ Some book → stepped.released.items ≡ map (release_in (begun.run ∷ [])) begun.fresh.items → IsStateOf meaning (begun.run ∷ []) stepped.state → BeginsFrame meaning job book stepped
+begins_frame {J} meaning job book begun stepped begins of released state = record {
   frame = begun.run;
   job_is = begins.job_is;
+  book_is = of;
   released = released ∙ ap (map (release_in (begun.run ∷ []))) begins.first;
   frames = subst (All (λ (release : ReleaseView J). release.frames ≡ begun.run ∷ [])) (sym released) (all_in (begun.run ∷ []) begun.fresh.items);
   state = state;

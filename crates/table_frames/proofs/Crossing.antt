@@ -21,11 +21,13 @@ use Rattle.semaphore_turns.proofs.Crossing as units
 use Rattle.semaphore_turns.specs.contracts.parked_turn.ParkedTurn as parked_turn
 use Rattle.semaphore_turns.specs.contracts.parked_turn.ParkedTurnParkable.TheImpl as parkable
 use Rattle.semaphore_turns.specs.contracts.ready_turn.ReadyTurn as ready_turn
+use Rattle.span_book.proofs.Crossing as spans
 use Rattle.table_runs.proofs.Crossing as runs
 use Rattle.table_runs.specs.contracts.table_run.TableRun as table_run
 use Rattle.table_runs.specs.contracts.run_keeper.RunKeeper as run_keeper
 use Rattle.table_runs.specs.contracts.open_start.OpenStart as open_start
 use Rattle.table_frames.specs.contracts.locked_run.LockedRun as locked_run
+use Rattle.table_frames.specs.contracts.locked_run.LockedRun.TheInside as locked_inside
 use Rattle.table_runs.specs.contracts.done_turns.DoneTurns as done_turns
 use Rattle.table_frames.specs.contracts.frame.Frame as frame
 use Rattle.table_frames.specs.contracts.frame_batch.FrameBatch as frame_batch
@@ -56,8 +58,14 @@ module _ (T V : RattleType) (J : Job.Ghosts T.Denot V.Denot) (W : Valued.Ghosts 
   open_start_send : IsSend (open_start.the_row T V J)
   open_start_send = runs.open_start_send T V J s y sv yv
 
+  done_send : IsSend (done_turns.the_row T V)
+  done_send = runs.done_send T V J s y sv yv
+
+  locked_fields : IsSend (locked_inside.the_row T V J)
+  locked_fields = declared_send (locked_inside.the_type T V J) (search (run_keeper_send, tables) depth 60 fits 20000, (search (done_send, tables) depth 60 fits 20000, (search (spans.spans_send, tables) depth 60 fits 20000, (search (open_start_send, tables) depth 60 fits 20000, tt))))
+
   locked_send : IsSend (locked_run.the_row T V J)
-  locked_send = search (run_keeper_send, open_start_send, tables) depth 60 fits 20000
+  locked_send = search (locked_fields, sendable)
 
   run_send : IsSend (table_run.the_row T V J)
   run_send = runs.run_send T V J s y sv yv
@@ -74,11 +82,8 @@ module _ (T V : RattleType) (J : Job.Ghosts T.Denot V.Denot) (W : Valued.Ghosts 
   pub release_send : IsSend (release.the_row T V J W)
   release_send = search (frame_send, frame_sync, ready_send, tables) depth 60 fits 20000
 
-  done_send : IsSend (done_turns.the_row T V)
-  done_send = runs.done_send T V J s y sv yv
-
   frame_batch_fields : IsSend (frame_batch_inside.the_row T V J W)
-  frame_batch_fields = declared_send (frame_batch_inside.the_type T V J W) (search (frame_send, frame_sync, tables) depth 60 fits 20000, (search (done_send, tables) depth 60 fits 20000, tt))
+  frame_batch_fields = declared_send (frame_batch_inside.the_type T V J W) (search (frame_send, frame_sync, tables) depth 60 fits 20000, (search (done_send, tables) depth 60 fits 20000, (search (spans.spans_send, tables) depth 60 fits 20000, tt)))
 
   frame_batch_send : IsSend (frame_batch.the_row T V J W)
   frame_batch_send = search (frame_batch_fields, sendable)

@@ -1,4 +1,5 @@
 pub mod Handing
+pub mod Taking
 pub mod Batches
 pub mod Concluding
 pub mod Settling

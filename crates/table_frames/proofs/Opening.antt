@@ -1,11 +1,17 @@
 -- What the work of a release comes to in the frames of a step, and how a run begins inside them.
-use Rattle.std.proofs.Common.{◌≡◌, ◌≢◌, ℕ, List, [], ◌∷◌, ◌++◌, Option, Some, None, append-nil, refl, sym, ap, ◌∙◌, subst}
+use Rattle.std.proofs.Common.{◌≡◌, ◌≢◌, ℕ, List, [], ◌∷◌, ◌++◌, length, Option, Some, None, append-nil, refl, sym, ap, ◌∙◌, subst}
+use Rattle.std.specs.Prelude.{IsSome}
 use Rattle.std.proofs.lemmas.List.Elements.{All-push}
 use Rattle.atomic_table.specs.Seated.{TableId}
 use Rattle.journal_rules.specs.declared.entry.Cause.{Cause}
 use Rattle.join_tables.specs.States.{FreshState}
 use Rattle.run_frame.specs.Meaning.{Meaning}
-use Rattle.table_frames.specs.Frames.{AtFrame, HasTable, root_job}
+use Rattle.span_book.specs.SpanBooks.{SpansState}
+use Rattle.table_frames.specs.Frames.{AtFrame, HasTable, book_of, root_job}
+use Rattle.run_frame.specs.declared.run.FrameRun.{FrameRun}
+use Rattle.table_runs.specs.Spans.{spans_made}
+use Rattle.table_frames.specs.inside.Books.{HasOneBook, IsOneBook}
+use Rattle.table_frames.specs.inside.FrameBatches.{HasBack}
 use Rattle.table_runs.specs.RunKeys.{FrameKey}
 use Rattle.table_runs.specs.Openings.{IsOverAtOnce}
 use Rattle.table_runs.specs.Attempts.{IsAgain, again_list}
@@ -49,6 +55,11 @@ module _ {J V : Type 0} (meaning : Meaning J V) where
       by_frames [] a = absurd a
       by_frames (frame ∷ around) a = a
 
+  -- a run that was over as it began has no span
+  pub none_made : (frames : List (FrameKey J)) (run : Option (FrameRun J V)) → IsOverAtOnce meaning run → HasBack frames (spans_made run) None
+  none_made frames None over = record { is = tt; spans = refl }
+  none_made frames (Some run) over = record { is = tt; spans = sym over.no_spans }
+
   -- a run that has begun in its place
   pub tries_inner : (frames frames' : List (FrameKey J)) (release : FreshState) (tried : Tried J V) (inner : InnerBegun J V) → frames' ≡ frames → tried ≡ Inner inner → TriesAt meaning frames' release tried → TriesAt meaning frames release (Inner inner)
   tries_inner frames frames' release tried inner same is tries = subst (λ fs. TriesAt meaning fs release (Inner inner)) same (subst (TriesAt meaning frames' release) is tries)
@@ -66,14 +77,26 @@ module _ {J V : Type 0} (meaning : Meaning J V) where
     pub start : IsStartOf meaning inner.begun.run.job inner.start
     pub frame : AtFrame frames (λ key. inner.start.frame ≡ key)
     pub begins : Begins meaning inner.begun.run.job inner.begun
+    pub book : inner.begun.run.book ≡ inner.start.frame.book
 
   pub begins_at : (frames : List (FrameKey J)) (inner : InnerBegun J V) → IsInnerAt meaning frames inner → BeginsAt frames inner
   begins_at [] inner is = absurd is
-  begins_at (frame ∷ around) inner is = record { start = is.start; frame = is.frame_is; begins = is.begins }
+  begins_at (frame ∷ around) inner is = record { start = is.start; frame = is.frame_is; begins = is.begins; book = is.book ∙ sym (ap (λ (k : FrameKey J). k.book) is.frame_is) }
 
   -- the key of the lock of a frame made inside these, and the start that is under it
-  pub inner_key : (frames around : List (FrameKey J)) (begun : Begun J V) (start : OpenStartView J V) → around ≡ frames → Begins meaning begun.run.job begun → AtFrame frames (λ key. start.frame ≡ key) → lock_key_of (locked_run begun.kept (Some start)) ≡ lock_key_in begun.run around
-  inner_key frames around begun start same begins at = λ i. record { frame = begins.kept i; around = (first_is frames start.frame at ∙ ap first_frame (sym same)) i }
+  pub inner_key : (frames around : List (FrameKey J)) (begun : Begun J V) (spans : SpansState) (start : OpenStartView J V) → around ≡ frames → Begins meaning begun.run.job begun → spans.depth ≡ length frames → AtFrame frames (λ key. start.frame ≡ key) → lock_key_of (locked_run begun.kept spans (Some start)) ≡ lock_key_in begun.run around
+  inner_key frames around begun spans start same begins depth at = λ i. record { frame = begins.kept i; around = (first_is frames start.frame at ∙ ap first_frame (sym same)) i; depth = (depth ∙ ap length (sym same)) i }
+
+  -- its book is that of the frames around it
+  pub own_book : (frames : List (FrameKey J)) (run : FrameKey J) (start : FrameKey J) (book : TableId) → run.book ≡ start.book → AtFrame frames (λ key. start ≡ key) → book_of frames ≡ Some book → IsOneBook frames → run.book ≡ Some book
+  own_book [] run start book same at is one = absurd at
+  own_book (frame ∷ around) run start book same at is one = same ∙ ap (λ (k : FrameKey J). k.book) at ∙ sym one ∙ is
+
+  pub inner_book : (frames : List (FrameKey J)) (run : FrameKey J) (start : FrameKey J) (book : TableId) → run.book ≡ start.book → AtFrame frames (λ key. start ≡ key) → book_of frames ≡ Some book → IsOneBook frames → HasOneBook run frames
+  inner_book [] run start book same at is one = absurd at
+  inner_book (frame ∷ around) run start book same at is one =
+      let own = own_book (frame ∷ around) run start book same at is one in
+      record { some = subst IsSome (sym own) refl; same = is ∙ sym own }
 
   pub inner_start : (begun : Begun J V) (start : OpenStartView J V) → Begins meaning begun.run.job begun → IsStartOf meaning begun.run.job start → IsStartOf meaning begun.kept.job start
   inner_start begun start begins is = subst (λ (j : J). IsStartOf meaning j start) (sym (ap (λ (k : FrameKey J). k.job) begins.kept)) is

@@ -10,11 +10,12 @@ use Rattle.run_frame.specs.Meaning.{Meaning}
 use Rattle.run_frame.specs.NestedRule.{job_of}
 use Rattle.run_frame.specs.declared.run.FrameRun.{FrameRun}
 use Rattle.semaphore_turns.specs.Settlements.{AreDrops}
-use Rattle.table_frames.specs.Frames.{BacklogView, HasTable, ReleaseView, backlog_view, release_in}
+use Rattle.table_frames.specs.Frames.{BacklogView, HasTable, IsAccounted, ReleaseView, backlog_view, release_in}
 use Rattle.table_runs.specs.RunKeys.{FrameKey}
 use Rattle.table_runs.specs.StepReleases.{GivesEdges, given_by}
 use Rattle.table_frames.specs.Steps.{UsesRelease}
 use Rattle.table_runs.specs.JournalFacts.{HasEntries}
+use Rattle.table_frames.specs.declared.closed_run.ClosedRun.{ClosedRun}
 use Rattle.table_frames.specs.declared.step_results.Brought.{Brought}
 use Rattle.table_frames.specs.declared.step_results.State.{State}
 use Rattle.table_frames.specs.declared.step_results.State.TheVariants.{Went, Parked, Inner, Resumed, Closed}
@@ -28,9 +29,9 @@ pub record TakesIn {J V : Type 0} (frames : List (FrameKey J)) (fates : List (Fa
   pub before : List ℕ
   pub found : FindsOne (λ n. over ↔ (n ≡ 1)) before keeper.found
 
--- It has, unless there was nothing to take in. Then the run goes on.
+-- It has, unless there was nothing to take in, or a run is open inside the frame. Then the run goes on.
 abbrev pub MayTakeIn : {J V : Type 0} → List (FrameKey J) → List (Fate V) → Type 0 → Option (KeeperState V) → Type 0
-MayTakeIn frames fates over None = (fates ≡ []) × ¬ over
+MayTakeIn frames fates over None = ¬ over
 MayTakeIn frames fates over (Some keeper) = TakesIn frames fates over keeper
 
 -- The run of a frame is over that was inside another, and has the entries of these fates. So the start whose work it was is used up
@@ -52,13 +53,16 @@ pub record ResumesStart {J V : Type 0} (meaning : Meaning J V) (frames : List (F
   pub edges : GivesEdges (meaning.net frame.job) frame.table (given_by uses.fate) [] uses.by_end
   pub released_are : released ≡ map (release_in release.frames) made
 
--- The run of a frame that is in no other is over. It is given out, may be kept, and has the entries of these fates.
-pub record ClosesRun {J V : Type 0} (meaning : Meaning J V) (frames : List (FrameKey J)) (fates : List (Fate V)) (run : FrameRun J V) : Type 0 where
+-- The run of a frame that is in no other is over. It is given out with the account of its book, may be kept, and has the entries of
+-- these fates.
+pub record ClosesRun {J V : Type 0} (meaning : Meaning J V) (frames : List (FrameKey J)) (fates : List (Fate V)) (closed : ClosedRun J V) : Type 0 where
   pub frame : FrameKey J
   pub frames_are : frames ≡ frame ∷ []
-  pub job : job_of run ≡ frame.job
-  pub kept : IsKept meaning run
-  pub entries : HasEntries run fates
+  pub job : job_of closed.run ≡ frame.job
+  pub kept : IsKept meaning closed.run
+  pub entries : HasEntries closed.run fates
+  pub book : frame.book ≡ Some closed.spans.book
+  pub account : IsAccounted closed
 
 -- these frames, those around the first of them, or none
 abbrev pub IsFrameOf : {J : Type 0} → List (FrameKey J) → List (FrameKey J) → Type 0
@@ -71,12 +75,12 @@ BringsTo meaning frames fates new Went = new ≡ backlog_view frames []
 BringsTo meaning frames fates new (Parked turn) = ⊥
 BringsTo meaning frames fates new (Inner first) = ⊥
 BringsTo meaning frames fates new (Resumed released) = ResumesStart meaning frames fates released.items new
-BringsTo meaning frames fates new (Closed run) = ClosesRun meaning frames fates run × (new ≡ backlog_view frames [])
+BringsTo meaning frames fates new (Closed closed) = ClosesRun meaning frames fates closed × (new ≡ backlog_view frames [])
 
 -- the run of the frame is over
 abbrev pub IsOver : {J V : Type 0} → State J V → Type 0
 IsOver (Resumed released) = Unit {0}
-IsOver (Closed run) = Unit {0}
+IsOver (Closed closed) = Unit {0}
 IsOver _ = ⊥
 
 -- What was done in a frame was brought to its keeper. With the last turn of the frame its run is over.

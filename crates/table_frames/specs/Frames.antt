@@ -1,5 +1,5 @@
 -- Frames, their releases and what was done in them, as contracts see them.
-use Rattle.std.specs.Prelude.{◌≡◌, ◌⊎◌, ℕ, min, List, [], ◌∷◌, length, Option, Some, None}
+use Rattle.std.specs.Prelude.{◌≡◌, ◌⊎◌, ℕ, min, List, [], ◌∷◌, length, IfSome, Option, Some, None}
 use Rattle.std.specs.Arc.{arc_value}
 use Rattle.std.specs.Global.{Global}
 use Rattle.std.specs.declared.sync.Arc.{Arc}
@@ -7,6 +7,9 @@ use Rattle.atomic_table.specs.Seated.{TableId}
 use Rattle.journal_rules.specs.declared.entry.Cause.{Cause}
 use Rattle.join_tables.specs.States.{FreshState}
 use Rattle.join_tables.specs.declared.fates.Fate.{Fate}
+use Rattle.nested_runs.specs.Totals.{all_spans}
+use Rattle.span_book.specs.SpanBooks.{TellerState}
+use Rattle.table_frames.specs.declared.closed_run.ClosedRun.{ClosedRun}
 use Rattle.table_runs.specs.RunKeys.{FrameKey}
 
 -- a release: the keys of its frame and of the frames around that one, its task, and what released it
@@ -38,6 +41,25 @@ depth_inside around = min (length around) 4294967295
 abbrev pub depth_of : {J : Type 0} → List (FrameKey J) → ℕ
 depth_of [] = 0
 depth_of (frame ∷ around) = depth_inside around
+
+-- the name of the book of the spans of frames inside one another, which is that of the outermost
+abbrev pub book_at : {J : Type 0} → Option (FrameKey J) → Option TableId
+book_at None = None
+book_at (Some frame) = frame.book
+
+abbrev pub book_of : {J : Type 0} → List (FrameKey J) → Option TableId
+book_of frames = book_at (root_frame frames)
+
+-- the teller is of the book of these frames
+abbrev pub IsTellerOf : {J : Type 0} → List (FrameKey J) → TellerState → Type 0
+IsTellerOf frames teller = IfSome (book_of frames) (λ book. teller.book ≡ book)
+
+-- The account of an outermost run that is over is without tellers, and has noted as many spans as the run has, with those of the
+-- runs inside it.
+pub record IsAccounted {J V : Type 0} (closed : ClosedRun J V) : Type 0 where
+  pub tellers : closed.spans.tellers ≡ 0
+  pub told : closed.spans.told ≡ 0
+  pub noted : closed.spans.noted ≡ all_spans closed.run
 
 -- the keys of a frame and of the frames around it
 abbrev pub frames_around : {J : Type 0} → Option (Arc (List (FrameKey J)) Global) → List (FrameKey J)

@@ -7,6 +7,7 @@ use Rattle.semaphore_turns.specs.HeldUnits.{FoundNone}
 use Rattle.semaphore_turns.specs.WaitingTurns.{WaitsAt, release_of}
 use Rattle.semaphore_turns.specs.WokenTurns.{Wakes}
 use Rattle.table_steps.specs.OneJournal.{AreInOneJournal}
+use Rattle.atomic_table.specs.Seated.{TableId}
 use Rattle.join_words.specs.Ins.{found_of, parts_of}
 use Rattle.join_words.specs.declared.ins.Ins.{Ins}
 use Rattle.join_tables.specs.Keeping.{start_of, with_places}
@@ -23,30 +24,34 @@ use Rattle.table_runs.specs.Openings.{IsOverAtOnce}
 use Rattle.table_runs.specs.StepReleases.{MayRelease, Uses}
 use Rattle.table_runs.specs.JournalFacts.{IsInJournal}
 use Rattle.table_runs.specs.RunKeys.{FrameKey, table_in}
-use Rattle.table_frames.specs.Frames.{ReleaseView, BacklogView, backlog_view, root_job, release_in}
+use Rattle.table_frames.specs.Frames.{ReleaseView, BacklogView, IsAccounted, backlog_view, book_of, root_job, release_in}
+use Rattle.table_frames.specs.declared.closed_run.ClosedRun.{ClosedRun}
 use Rattle.table_frames.specs.declared.step_results.State.{State}
 use Rattle.table_frames.specs.declared.step_results.State.TheVariants.{Went, Parked, Inner, Resumed, Closed}
 use Rattle.table_frames.specs.declared.step_results.Stepped.{Stepped}
 
--- A run that may be kept, of the job of the frame that is in no other.
-pub record IsRootRun {J V : Type 0} (meaning : Meaning J V) (frames : List (FrameKey J)) (run : FrameRun J V) : Type 0 where
-  pub kept : IsKept meaning run
-  pub job : root_job frames ≡ Some (job_of run)
+-- A run that may be kept, of the job of the frame that is in no other, with the account of its book.
+pub record IsRootRun {J V : Type 0} (meaning : Meaning J V) (frames : List (FrameKey J)) (closed : ClosedRun J V) : Type 0 where
+  pub kept : IsKept meaning closed.run
+  pub job : root_job frames ≡ Some (job_of closed.run)
+  pub book : book_of frames ≡ Some closed.spans.book
+  pub account : IsAccounted closed
 
 -- What is with the run of a frame that has begun. Where nothing is to be done the run is given out.
 abbrev pub IsStateOf : {J V : Type 0} → Meaning J V → List (FrameKey J) → State J V → Type 0
 IsStateOf meaning frames Went = Unit {0}
-IsStateOf meaning frames (Closed run) = IsRootRun meaning frames run
+IsStateOf meaning frames (Closed closed) = IsRootRun meaning frames closed
 IsStateOf meaning frames _ = ⊥
 
 abbrev pub IsClosed : {J V : Type 0} → State J V → Type 0
-IsClosed (Closed run) = Unit {0}
+IsClosed (Closed closed) = Unit {0}
 IsClosed _ = ⊥
 
--- A frame has begun, which is in no other: its first releases are these, by rising task.
-pub record BeginsFrame {J V : Type 0} (meaning : Meaning J V) (job : J) (stepped : Stepped J V) : Type 0 where
+-- A frame has begun, which is in no other and has this book of spans: its first releases are these, by rising task.
+pub record BeginsFrame {J V : Type 0} (meaning : Meaning J V) (job : J) (book : TableId) (stepped : Stepped J V) : Type 0 where
   pub frame : FrameKey J
   pub job_is : frame.job ≡ job
+  pub book_is : frame.book ≡ Some book
   pub released : stepped.released.items ≡ map (release_in (frame ∷ [])) (first_fresh frame.table (meaning.net job) 0 (length (meaning.net job).tasks))
   pub frames : All (λ (release : ReleaseView J). release.frames ≡ frame ∷ []) stepped.released.items
   pub state : IsStateOf meaning (frame ∷ []) stepped.state
@@ -87,13 +92,14 @@ pub record ParksRelease {J V : Type 0} (meaning : Meaning J V) (frame : FrameKey
   pub backlog : new ≡ backlog_view release.frames old.fates
 
 -- A step opened a run of a job that the job of its frame answers in place of the work of its release. The run has these first
--- releases, by rising task, at least one. The start of the release stays open, and the task was perhaps released again. The
--- Start's entry is in one legal journal, with the inputs on which the job answers.
+-- releases, by rising task, at least one, and the same book of spans. The start of the release stays open, and the task was perhaps
+-- released again. The Start's entry is in one legal journal, with the inputs on which the job answers.
 pub record OpensInner {J V : Type 0} (meaning : Meaning J V) (frame : FrameKey J) (release : ReleaseView J) (old new : BacklogView J V) (made : List FreshState) (first : List (ReleaseView J)) : Type 0 where
   pub place : ℕ
   pub ins : Ins V
   pub journal : AreInOneJournal (meaning.net frame.job) (meaning.limit frame.job) (with_places (start_of place release.task release.cause (parts_in ins) ∷ []))
   pub inner : FrameKey J
+  pub book : inner.book ≡ frame.book
   pub answered : meaning.answers frame.job release.task (map found_of (parts_of ins)) (InnerJob inner.job)
   pub first_are : first ≡ map (release_in (inner ∷ release.frames)) (first_fresh inner.table (meaning.net inner.job) 0 (length (meaning.net inner.job).tasks))
   pub some : first ≢ []
@@ -106,7 +112,7 @@ StepsTo meaning frame release old new made Went = UsesAtOnce meaning frame relea
 StepsTo meaning frame release old new made (Parked turn) = ParksRelease meaning frame release old new made turn.value
 StepsTo meaning frame release old new made (Inner first) = OpensInner meaning frame release old new made first.items
 StepsTo meaning frame release old new made (Resumed releases) = ⊥
-StepsTo meaning frame release old new made (Closed run) = ⊥
+StepsTo meaning frame release old new made (Closed closed) = ⊥
 
 -- A step was taken: its release was used up or parked, or a run was opened for it. It handed out these releases, which are of the
 -- same frame.

@@ -3,6 +3,7 @@ pub mod TriedReleases
 pub mod FrameBatches
 pub mod ReleaseRooms
 pub mod AttemptEnds
+pub mod Books
 pub mod LockedRuns
 pub mod Openings
 pub mod Overs

@@ -1,7 +1,8 @@
 // Runs by one thread.
-ghost use Rattle.std.specs.Prelude.{◌≡◌, ◌≤◌, ◌+◌, ◌++◌, [], reverse, IfOk, IfSome, OnOk, Some};
+ghost use Rattle.std.specs.Prelude.{◌≡◌, ◌≤◌, ◌+◌, ◌++◌, ◌∷◌, [], ℕ, reverse, IfOk, IfSome, OnOk, Some};
 ghost use Rattle.std.specs.Vec.{vec_capacity, vec_len};
 ghost use Rattle.std.specs.Arc.{arc_value};
+ghost use Rattle.nested_runs.specs.Totals.{all_spans};
 ghost use Rattle.run_frame.specs.Legal.{IsKept};
 ghost use Rattle.run_frame.specs.NestedRule.{job_of};
 ghost use Rattle.table_frames.specs.Frames.{root_job};
@@ -11,39 +12,57 @@ ghost use Rattle.table_frames.specs.inside.TriedReleases.{IsTakenIn};
 ghost use Rattle.table_runs.specs.Attempts.{IsAttemptIn};
 ghost use Rattle.table_runs.specs.Openings.{IsInnerIn};
 ghost use Rattle.table_runs.specs.Runs.{AreOf};
+ghost use Rattle.table_runs.specs.Spans.{spans_done, spans_in, spans_made};
+ghost use Rattle.span_profile.specs.Watch.{IsToldSince, TellsOn};
 
 use super::level::{Level, Next};
+use join_tables::Fate;
 use outside_io::NoMemory;
 use run_frame::{FrameRun, Job};
 use semaphore_turns::{Parking, ReadyTurn, Settled, TakenUnits, TurnYard, wake_turns};
+use span_profile::Watch;
 use std::alloc::Global;
 use std::sync::{Arc, Wait};
-use table_runs::{Attempt, DoneTurn, DoneTurns, InnerBegun, TableRun, TakenUp, Tried, add_again};
+use table_runs::{
+    Attempt, DoneTurn, DoneTurns, InnerBegun, TableRun, TakenUp, Tried, add_again, span_of,
+};
 
-/// Runs a job to its end on the caller's thread. What became ready last is started first, and of what one End released
-/// that of its first edge. It waits for nobody, but no clause says that it returns.
-pub fn run_alone<J: Job + Drop, R: Wait>(
+/// Runs a job to its end on the caller's thread, and tells a watcher each span as it ends, also those of the runs
+/// inside. What became ready last is started first, and of what one End released that of its first edge. It waits for
+/// nobody, but no clause says that it returns. `Err` comes only if an allocation fails, here or in the watcher.
+pub fn run_alone<J: Job + Drop, X: Watch, R: Wait>(
     rt: &R,
     alloc: Global,
     job: Arc<J>,
+    watcher: &mut X,
 ) -> Result<FrameRun<J>, NoMemory>
     ensures job { IfOk result (λ run. job_of run ≡ arc_value job) }
     ensures kept { IfOk result (IsKept J.meaning) }
+    ensures told { IfOk result
+        (λ run. IsToldSince X.told (X.told watcher.old) (all_spans run) watcher.new) }
 {
-    let begun = TableRun::begin(alloc, job)?;
+    let _ = watcher.count(); // at most the greatest u64
+    let begun = TableRun::begin(alloc, job, None)?;
     if begun.fresh.is_empty() {
         return begun.kept.finish();
     }
-    step_all(rt, Level::new(alloc, begun, None, None)?)
+    step_all(rt, Level::new(alloc, begun, 0, None, None)?, watcher)
 }
 
 // Goes on with the innermost run, until the outermost is over.
-fn step_all<J: Job + Drop, R: Wait>(rt: &R, level: Level<J>) -> Result<FrameRun<J>, NoMemory>
-    ensures { IfOk result (λ run. IsKept J.meaning run × (root_job level ≡ Some (job_of run))) }
+fn step_all<J: Job + Drop, X: Watch, R: Wait>(
+    rt: &R,
+    level: Level<J>,
+    watcher: &mut X,
+) -> Result<FrameRun<J>, NoMemory>
+    ensures run { IfOk result
+        (λ run. IsKept J.meaning run × (root_job level.frames ≡ Some (job_of run))) }
+    ensures told { IfOk result
+        (λ run. TellsOn X.told level.spans (all_spans run) watcher.old watcher.new) }
 {
     let mut level = level;
     for _ in rt.forever() {
-        match level.advance(rt)? {
+        match level.advance(rt, watcher)? {
             Next::Level(next) => level = next,
             Next::Run(run) => return Ok(run),
         }
@@ -60,6 +79,8 @@ pub(crate) struct Bench<J: Job> {
     made: Vec<ReadyTurn<J::V>>,
     pub(crate) done: DoneTurns<J>,
     yard: TurnYard<J::V>,
+    // How many runs its run is inside, up to the greatest `u32`.
+    pub(crate) depth: u32,
 }
 
 impl<J: Job + Drop> Bench<J> {
@@ -68,9 +89,11 @@ impl<J: Job + Drop> Bench<J> {
         alloc: Global,
         run: &TableRun<J>,
         ready: Vec<ReadyTurn<J::V>>,
+        depth: u32,
     ) -> Result<Bench<J>, NoMemory>
         requires { AreOf run.now.table ready.items }
-        ensures { IfOk result (IsBenchOf J.meaning run.now) }
+        ensures bench { IfOk result (IsBenchOf J.meaning run.now) }
+        ensures no_spans { IfOk result (λ bench. spans_done bench.done ≡ 0) }
     {
         let yard = run.own_yard()?;
         Ok(Bench {
@@ -78,48 +101,57 @@ impl<J: Job + Drop> Bench<J> {
             made: Vec::new(alloc),
             done: DoneTurns::new(alloc),
             yard,
+            depth,
         })
     }
 }
 
 /// Takes the step of a release. Where it isn't parked and no run begins in place of its work, its turn is done then,
-/// and what it made is ready.
-pub(crate) fn step<J: Job + Drop>(
+/// the watcher is told the span that it ended, if it ended one, and what it made is ready.
+pub(crate) fn step<J: Job + Drop, X: Watch>(
     run: &TableRun<J>,
     bench: &mut Bench<J>,
     ready: ReadyTurn<J::V>,
+    watcher: &mut X,
 ) -> Result<Option<InnerBegun<J>>, NoMemory>
     requires ready { ready.table ≡ run.now.table }
     requires bench { IsBenchOf J.meaning run.now bench.old }
     ensures bench { OnOk result (IsBenchOf J.meaning run.now bench.new) }
     ensures inner { IfOk result (λ inner. IfSome inner (IsInnerIn J.meaning run.now)) }
+    ensures told { OnOk result (TellsOn X.told (spans_done bench.old.done)
+        (spans_done bench.new.done) watcher.old watcher.new) }
 {
     let TakenUp { turn, again, woken } = run.take_up(ready)?;
     match run.take_units(turn) {
-        TakenUnits::All(turn) => work(run, bench, TakenUp { turn, again, woken }),
-        TakenUnits::Lacks(turn, place) => park(run, bench, TakenUp { turn, again, woken }, place),
+        TakenUnits::All(turn) => work(run, bench, TakenUp { turn, again, woken }, watcher),
+        TakenUnits::Lacks(turn, place) => {
+            park(run, bench, TakenUp { turn, again, woken }, place, watcher)
+        }
     }
 }
 
 // Goes on with a release that has its units, or parks it.
-fn park<J: Job + Drop>(
+fn park<J: Job + Drop, X: Watch>(
     run: &TableRun<J>,
     bench: &mut Bench<J>,
     taken: TakenUp<J::V>,
     place: usize,
+    watcher: &mut X,
 ) -> Result<Option<InnerBegun<J>>, NoMemory>
     requires taken { IsTakenIn run.now taken }
     requires lacks { LacksUnit (J.meaning.net run.now.job) place taken.turn }
     requires bench { IsBenchOf J.meaning run.now bench.old }
     ensures bench { OnOk result (IsBenchOf J.meaning run.now bench.new) }
     ensures inner { IfOk result (λ inner. IfSome inner (IsInnerIn J.meaning run.now)) }
+    ensures told { OnOk result (TellsOn X.told (spans_done bench.old.done)
+        (spans_done bench.new.done) watcher.old watcher.new) }
 {
     let TakenUp { turn, again, woken } = taken;
     let count = run.count_takes(&turn) + 1;
     bench.made.reserve(count)?;
     bench.ready.reserve(count)?;
     match run.park(&mut bench.yard, turn, place, woken, &mut bench.made)? {
-        Parking::Taken(turn) => work(run, bench, TakenUp { turn, again, woken }),
+        Parking::Taken(turn) => work(run, bench, TakenUp { turn, again, woken }, watcher),
         Parking::Parked(_) => {
             add_again(&mut bench.made, again);
             add_all(&mut bench.ready, &mut bench.made);
@@ -129,35 +161,42 @@ fn park<J: Job + Drop>(
 }
 
 // Does the work of a release that has its units, and concludes it unless a run has begun in place of the work.
-fn work<J: Job + Drop>(
+fn work<J: Job + Drop, X: Watch>(
     run: &TableRun<J>,
     bench: &mut Bench<J>,
     taken: TakenUp<J::V>,
+    watcher: &mut X,
 ) -> Result<Option<InnerBegun<J>>, NoMemory>
     requires taken { IsTakenIn run.now taken }
     requires holds { HoldsAll (J.meaning.net run.now.job) taken.turn }
     requires bench { IsBenchOf J.meaning run.now bench.old }
     ensures bench { OnOk result (IsBenchOf J.meaning run.now bench.new) }
     ensures inner { IfOk result (λ inner. IfSome inner (IsInnerIn J.meaning run.now)) }
+    ensures told { OnOk result (TellsOn X.told (spans_done bench.old.done)
+        (spans_done bench.new.done) watcher.old watcher.new) }
 {
     match run.attempt(taken)? {
         Tried::Done(attempt) => {
-            conclude(run, bench, attempt)?;
+            conclude(run, bench, attempt, watcher)?;
             Ok(None)
         }
         Tried::Inner(inner) => Ok(Some(inner)),
     }
 }
 
-/// Concludes an attempt. Its turn is done then, and what it made is ready.
-pub(crate) fn conclude<J: Job + Drop>(
+/// Concludes an attempt. Its turn is done then, the watcher is told the span that it ended, if it ended one, and what it
+/// made is ready. The spans of a run that was made in place of the work it was told before.
+pub(crate) fn conclude<J: Job + Drop, X: Watch>(
     run: &TableRun<J>,
     bench: &mut Bench<J>,
     attempt: Attempt<J>,
+    watcher: &mut X,
 ) -> Result<(), NoMemory>
     requires attempt { IsAttemptIn J.meaning run.now attempt }
     requires bench { IsBenchOf J.meaning run.now bench.old }
-    ensures { OnOk result (IsBenchOf J.meaning run.now bench.new) }
+    ensures bench { OnOk result (IsBenchOf J.meaning run.now bench.new) }
+    ensures told { OnOk result (TellsOn X.told (spans_done bench.old.done + spans_made attempt.inner)
+        (spans_done bench.new.done) watcher.old watcher.new) }
 {
     bench.done.make_room()?;
     let back = run.units_back(&attempt.outcome);
@@ -165,16 +204,29 @@ pub(crate) fn conclude<J: Job + Drop>(
     bench.made.reserve(room)?;
     bench.ready.reserve(room)?;
     let turn = run.conclude(attempt, &mut bench.made);
+    tell(watcher, turn.spent.fate(), bench.depth)?;
     run.gather(&mut bench.done, turn);
     wake_turns(&mut bench.yard, back, &mut bench.made);
     add_all(&mut bench.ready, &mut bench.made);
     Ok(())
 }
 
+// Tells a watcher the span that a fate ends, if it ends one, in a run that is inside so many.
+fn tell<V, X: Watch>(watcher: &mut X, fate: &Fate<V>, depth: u32) -> Result<(), NoMemory>
+    ensures { OnOk result ((n : ℕ)
+        → TellsOn X.told n (n + spans_in (fate.now ∷ [])) watcher.old watcher.new) }
+{
+    match span_of(fate, depth) {
+        Some(span) => watcher.span(span),
+        None => Ok(()),
+    }
+}
+
 /// Decides what becomes of parked releases where nothing is ready. No run begins.
 pub(crate) fn settle<J: Job + Drop>(run: &TableRun<J>, bench: &mut Bench<J>) -> Result<(), NoMemory>
     requires bench { IsBenchOf J.meaning run.now bench.old }
-    ensures { OnOk result (IsBenchOf J.meaning run.now bench.new) }
+    ensures bench { OnOk result (IsBenchOf J.meaning run.now bench.new) }
+    ensures spans { OnOk result (spans_done bench.new.done ≡ spans_done bench.old.done) }
 {
     bench.ready.reserve(1)?;
     bench.done.make_room()?;

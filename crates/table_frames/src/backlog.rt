@@ -1,7 +1,9 @@
 // What a worker's steps have done and no keeper has recorded yet.
-ghost use Rattle.std.specs.Prelude.{◌≡◌, ◌↔◌, [], IsTrue};
+ghost use Rattle.std.specs.Prelude.{◌≡◌, ◌↔◌, ◌++◌, ◌∷◌, [], List, IsTrue};
+ghost use Rattle.join_tables.specs.declared.fates.Fate.{Fate};
 
 use super::frame_batch::FrameBatch;
+use journal_rules::Span;
 use run_frame::Job;
 use semaphore_turns::ReadyTurn;
 use std::alloc::Global;
@@ -41,7 +43,8 @@ impl<J: Job> Model for Backlog<J> {
 }
 
 impl<J: Job + Drop> Backlog<J> {
-    ghost use Rattle.table_frames.specs.Frames.{backlog_view};
+    ghost use Rattle.table_runs.specs.Spans.{span_of};
+    ghost use Rattle.table_frames.specs.Frames.{backlog_view, depth_of};
 
     /// An empty backlog, of no frame. It takes no memory.
     pub fn new(alloc: Global) -> Backlog<J>
@@ -54,10 +57,25 @@ impl<J: Job + Drop> Backlog<J> {
         }
     }
 
+    /// The span that the newest of it ended, if it ended one.
+    pub fn newest_span(&self) -> Option<Span>
+        ensures { (earlier : List (Fate J.V)) (fate : Fate J.V) → self.now.fates ≡ earlier ++ fate ∷ []
+            → result ≡ span_of (depth_of self.now.frames) fate }
+    {
+        self.batch.newest_span()
+    }
+
     /// Whether it is of no frame: no step was taken since it was brought.
     pub fn is_empty(&self) -> bool
         ensures { IsTrue result ↔ (self.now.frames ≡ []) }
     {
         self.batch.is_empty()
+    }
+
+    /// Whether nothing of it is still to be recorded by its frame.
+    pub fn is_brought(&self) -> bool
+        ensures { IsTrue result ↔ (self.now.fates ≡ []) }
+    {
+        self.batch.is_brought()
     }
 }

@@ -10,8 +10,9 @@ ghost use Rattle.run_frame.specs.NestedRule.{job_of};
 ghost use Rattle.table_frames.specs.Frames.{depth_inside, frames_around};
 ghost use Rattle.keyed_lock.specs.Locks.{made_with};
 
+use super::closed_run::ClosedRun;
 use super::frame_batch::FrameBatch;
-use super::locked_run::LockedRun;
+use super::locked_run::{LockedRun, Taken};
 use super::over::{InnerOver, Kept, Over};
 use join_tables::{Remaining, Spent, Turn};
 use keyed_lock::{Held, KeyedLock};
@@ -19,6 +20,7 @@ use outside_io::NoMemory;
 use run_frame::{FrameRun, Job};
 use semaphore_park::ParkYard;
 use semaphore_turns::{ParkedTurn, Parking, ReadyTurn, Settled, TakenUnits, wake_turns};
+use span_book::{RunSpans, SpanBook, Teller};
 use std::alloc::Global;
 use std::marker::Model;
 use std::sync::{Arc, Wait};
@@ -50,6 +52,7 @@ impl<J: Job> Model for Frame<J> {
     ghost use Rattle.semaphore_turns.specs.WaitingTurns.{yard_of};
     ghost use Rattle.table_frames.specs.Frames.{depth_of, frames_around};
     ghost use Rattle.table_runs.specs.RunKeys.{table_in};
+    ghost use Rattle.table_frames.specs.inside.Books.{HasOneBook};
     ghost use Rattle.table_frames.specs.inside.LockedRuns.{lock_key_of, lock_key_in};
 
     ghost view = { λ frame. frame.run ∷ frames_around frame.parent };
@@ -58,7 +61,8 @@ impl<J: Job> Model for Frame<J> {
         ≡ lock_key_in frame.run (frames_around frame.parent))
         × (yard_key (opened_as frame.yard) ≡ yard_of (table_in J.meaning frame.run))
         × (frame.depth ≡ depth_of (frame.run ∷ frames_around frame.parent))
-        × IfSome frame.parent (λ parent. arc_value parent ≢ []) };
+        × IfSome frame.parent (λ parent. arc_value parent ≢ [])
+        × HasOneBook frame.run (frames_around frame.parent) };
 
     ghost size = { length };
 }
@@ -69,13 +73,16 @@ impl<J: Job + Drop> Frame<J> {
     ghost use Rattle.semaphore_turns.specs.WaitingTurns.{release_of};
     ghost use Rattle.semaphore_turns.specs.WokenTurns.{ParksTurn, Wakes};
     ghost use Rattle.semaphore_turns.specs.Settlements.{AreDrops, Settles};
-    ghost use Rattle.table_frames.specs.Frames.{AtFrame, HasTable, frames_around};
+    ghost use Rattle.span_book.specs.SpanBooks.{name_of, no_spans, teller_state};
+    ghost use Rattle.table_runs.specs.Spans.{spans_in, spans_inside, spans_made};
+    ghost use Rattle.table_frames.specs.Frames.{AtFrame, HasTable, IsTellerOf, book_of, frames_around};
     ghost use Rattle.table_runs.specs.RunKeys.{table_in};
     ghost use Rattle.table_frames.specs.inside.TriedReleases.{IsAttemptAt, TriesRelease, TriesAt, IsTakenIn};
     ghost use Rattle.table_runs.specs.Attempts.{room_due, units_due};
-    ghost use Rattle.table_frames.specs.inside.FrameBatches.{HasSpaceIn, AreDoneAt};
+    ghost use Rattle.table_frames.specs.inside.FrameBatches.{HasBack, HasSpaceIn, AreDoneAt, IsBackOf};
     ghost use Rattle.table_frames.specs.inside.Overs.{IsEnd, IsOverOf, KeepsFates};
-    ghost use Rattle.table_frames.specs.inside.LockedRuns.{IsLockedAt, lock_key_of, lock_key_in};
+    ghost use Rattle.table_frames.specs.inside.LockedRuns.{IsLockedAt, IsWhole, lock_key_of, lock_key_in};
+    ghost use Rattle.table_frames.specs.inside.Books.{HasOneBook, IsOneBook};
     ghost use Rattle.table_runs.specs.OpenStarts.{IsStartOf};
     ghost use Rattle.table_frames.specs.inside.AttemptEnds.{Concludes};
     ghost use Rattle.table_runs.specs.DoneTurns.{HasSame, HasSpace, IsNoTurn};
@@ -107,6 +114,7 @@ impl<J: Job + Drop> Frame<J> {
     ) -> Result<Arc<Frame<J>>, NoMemory>
         requires key { lock_key_of locked ≡ lock_key_in run (frames_around parent) }
         requires some { IfSome parent (λ parent. arc_value parent ≢ []) }
+        requires book { HasOneBook run (frames_around parent) }
         ensures { IfOk result (λ frame. arc_value frame ≡ run ∷ frames_around parent) }
     {
         let lock = KeyedLock::new(alloc, locked)?;
@@ -203,16 +211,19 @@ impl<J: Job + Drop> Frame<J> {
         attempt.room() + self.run.units_back(&attempt.outcome).len()
     }
 
-    /// Ends the start, or records its Fault or the Drop, gathers the turn, and adds what it released to an empty list,
-    /// at last what it woke.
+    /// Ends the start, or records its Fault or the Drop, gathers the turn, with the run in place of its work that has
+    /// come back, and adds what it released to an empty list, at last what it woke.
     pub(crate) fn conclude<R: Wait>(
         &self,
         rt: &R,
         attempt: Attempt<J>,
+        returned: Option<RunSpans>,
         batch: &mut FrameBatch<J>,
         made: &mut Vec<ReadyTurn<J::V>>,
     )
         requires attempt { IsAttemptAt J.meaning self.now attempt }
+        requires returned { HasBack self.now (spans_made attempt.inner) returned }
+        requires one { IfSome returned (λ inner. batch.old.backlog.fates ≡ []) }
         requires frames { batch.old.backlog.frames ≡ self.now }
         requires room { HasSpaceIn batch.old }
         requires none { made.old.items ≡ [] }
@@ -227,7 +238,7 @@ impl<J: Job + Drop> Frame<J> {
     {
         let back = self.run.units_back(&attempt.outcome);
         let turn = self.run.conclude(attempt, made);
-        batch.add(&self.run, turn);
+        batch.add(&self.run, turn, returned);
         self.wake(rt, back, made);
     }
 
@@ -275,17 +286,32 @@ impl<J: Job + Drop> Frame<J> {
         requires room { HasSpace done.old }
         ensures done { AreDoneAt J.meaning self.now done.new }
         ensures fates { done.new.batch.fates ≡ done.old.batch.fates ++ spent.fate ∷ [] }
+        ensures inside { spans_inside done.new ≡ spans_inside done.old }
     {
         self.run.gather(done, DoneTurn { spent, inner: None });
     }
 
-    // Gives turns of the frame to the keeper. With the last turn the run is given out, and the lock is left without a
-    // value: nobody has a turn by which to take it.
-    pub(crate) fn keep<R: Wait>(&self, rt: &R, done: &mut DoneTurns<J>) -> Result<Kept<J>, NoMemory>
-        requires { AreDoneAt J.meaning self.now done.old }
+    // Takes turns of the frame in, with the run inside it that has come back, if one of them is of its start. A teller
+    // told their spans. With the last turn the run is given out, and the lock is left without a value: nobody has a turn
+    // by which to take it.
+    pub(crate) fn keep<R: Wait>(
+        &self,
+        rt: &R,
+        done: &mut DoneTurns<J>,
+        returned: &mut Option<RunSpans>,
+        teller: &mut Teller,
+    ) -> Result<Kept<J>, NoMemory>
+        requires done { AreDoneAt J.meaning self.now done.old }
+        requires returned { IsBackOf self.now done.old returned.old }
+        requires teller { IsTellerOf self.now teller.old }
         ensures keeps { IfOk result (KeepsFates J.meaning self.now done.old.batch.fates) }
-        ensures taken { OnOk result (IsNoTurn done.new) }
-        ensures err { OnErr result (HasSame done.old done.new ⊎ IsNoTurn done.new) }
+        ensures told { OnOk result (teller.new ≡ teller_state teller.old.book
+            (teller.old.told + spans_in done.old.batch.fates)) }
+        ensures taken { OnOk result (IsNoTurn done.new × (returned.new ≡ None)) }
+        ensures err { OnErr result
+            ((HasSame done.old done.new × (returned.new ≡ returned.old))
+            ⊎ (IsNoTurn done.new × (returned.new ≡ None))) }
+        ensures teller { teller.new.book ≡ teller.old.book }
     {
         if done.is_empty() {
             return Ok(Kept {
@@ -293,31 +319,31 @@ impl<J: Job + Drop> Frame<J> {
                 keeper: None,
             });
         }
-        let Held {
-            value: locked,
-            pass,
-        } = self.lock.take(rt);
-        let LockedRun { mut kept, start } = locked;
-        match self.run.keep(&mut kept, done) {
-            Ok(Remaining::All) => {
-                let keeper = Some(kept.keeper_now());
-                let value = LockedRun { kept, start };
+        let Held { mut value, pass } = self.lock.take(rt);
+        match value.take_in(&self.run, self.book(), done, returned, teller) {
+            Ok(Taken::Kept(Remaining::All)) => {
+                let keeper = Some(value.keeper_now());
                 Ok(Kept {
                     over: self.finish(value)?,
                     keeper,
                 })
             }
-            Ok(Remaining::More) => {
-                let keeper = Some(kept.keeper_now());
-                let value = LockedRun { kept, start };
+            Ok(Taken::Kept(Remaining::More)) => {
+                let keeper = Some(value.keeper_now());
                 self.lock.put(Held { value, pass });
                 Ok(Kept {
                     over: Over::No,
                     keeper,
                 })
             }
+            Ok(Taken::Aside) => {
+                self.lock.put(Held { value, pass });
+                Ok(Kept {
+                    over: Over::No,
+                    keeper: None,
+                })
+            }
             Err(NoMemory) => {
-                let value = LockedRun { kept, start };
                 self.lock.put(Held { value, pass });
                 Err(NoMemory)
             }
@@ -327,21 +353,53 @@ impl<J: Job + Drop> Frame<J> {
     // The run of the frame, which is over, and the start whose work it was.
     fn finish(&self, locked: LockedRun<J>) -> Result<Over<J>, NoMemory>
         requires key { IsLockedAt self.now locked }
-        requires all { TellsRun (J.meaning.net locked.kept.job) (J.meaning.limit locked.kept.job)
-            (entries_told locked.kept.keeper.fates) }
+        requires whole { IsWhole J.meaning locked }
         ensures over { IfOk result (IsOverOf J.meaning self.now locked.kept.keeper.fates) }
         ensures end { IfOk result IsEnd }
     {
-        let LockedRun { kept, start } = locked;
+        let LockedRun {
+            kept,
+            spans,
+            start,
+            ..
+        } = locked;
         let run = kept.finish()?;
         let Some(start) = start else {
-            return Ok(Over::Alone(run));
+            let spans = spans.end();
+            return Ok(Over::Alone(ClosedRun { run, spans }));
         };
         let Some(parent) = &self.parent else {
             unreachable!()
         };
         let parent = Arc::try_clone(parent)?;
-        Ok(Over::Inside(InnerOver { parent, start, run }))
+        Ok(Over::Inside(InnerOver {
+            parent,
+            start,
+            run,
+            spans,
+        }))
+    }
+
+    /// Opens a run inside the frame, in the book of their spans.
+    pub(crate) fn open_inside<R: Wait>(&self, rt: &R) -> RunSpans
+        ensures one { IsOneBook self.now }
+        ensures book { book_of self.now ≡ Some result.book }
+        ensures new { result ≡ no_spans result.book (length self.now) }
+    {
+        let Held { mut value, pass } = self.lock.take(rt);
+        let spans = value.open_inside(self.book());
+        self.lock.put(Held { value, pass });
+        spans
+    }
+
+    // The book of the spans of the frame, and of those around it.
+    fn book(&self) -> &SpanBook
+        ensures { book_of self.now ≡ Some (name_of result.now) }
+    {
+        match self.run.book() {
+            Some(book) => book,
+            None => unreachable!(),
+        }
     }
 }
 

@@ -23,14 +23,24 @@
 //! in the frame around, and its backlog is brought in turn; so runs that are over at several levels are closed one by
 //! one, and a caller has one lock at a time. A limit, a fault or a want of units ends the inner run alone.
 //!
-//! `run_alone` runs a job on the caller's thread by the same steps, with the keepers in hand: it goes on with the
-//! innermost run.
+//! # The spans
+//!
+//! A frame and all inside it have one book of spans (`span_book`). Whoever takes steps is a `Teller` of the book, and may
+//! tell each span, a start with its End or Fault, as soon as a step has ended it (`Backlog::newest_span`). A bringing
+//! notes the spans of the backlog: the teller's number and that of the frame rise by as many. Under the frame's lock it
+//! is known how many runs were opened inside it and came back, with what they noted. While one is open, what is brought
+//! is laid aside there (`LockedRun`). So when the outermost run is over, its frame has noted as many spans as the run
+//! has, with those of the runs inside it, and nothing is noted elsewhere: together the tellers told as many.
+//!
+//! `run_alone` runs a job on the caller's thread by the same steps, with the keepers in hand and without a book: it goes
+//! on with the innermost run.
 //!
 //! # The parts
 //!
 //! A frame has a `TableRun`, which is a job with the table of its net; what becomes of one release there is the affair
-//! of `table_runs`. A `FrameBatch` is the part of a backlog that is brought: turns of a frame that are done. A
-//! `LockedRun` is what is under a frame's lock, its `RunKeeper` with the start whose work it is. A `Level` is a run of
+//! of `table_runs`. A `FrameBatch` is the part of a backlog that is brought: turns of a frame that are done, with the
+//! account of the run inside it that has come back, if one has. A `LockedRun` is what is under a frame's lock, its
+//! `RunKeeper` with the account of its spans and the start whose work it is. A `Level` is a run of
 //! `run_alone` with those around it.
 //!
 //! # What the layer above may know
@@ -39,12 +49,13 @@
 //! (`specs/Frames.antt`). The last of these frames has the job of the whole run. What a beginning and a step come to is
 //! in `specs/Steps.antt`: which fate a release came to, that its job allows it, and which releases it made, or that it
 //! is parked. Which edges made none is known to the table alone. What a bringing and a settling come to is in
-//! `specs/BacklogResults.antt`: the run is over exactly where the keeper found one live turn, and it is given out where
-//! its frame is in no other.
+//! `specs/BacklogResults.antt`: the run is over exactly where the keeper found one live turn, and it is given out, with
+//! the account of its spans, where its frame is in no other.
 #![tactic(auto)]
 
 mod alone;
 mod backlog;
+mod closed_run;
 mod frame;
 mod frame_batch;
 mod frame_opening;
@@ -57,6 +68,7 @@ mod step_results;
 
 pub use alone::run_alone;
 pub use backlog::Backlog;
+pub use closed_run::ClosedRun;
 pub use frame::Frame;
 pub use release::{HeldBy, Release};
 pub use step_results::{Brought, State, Stepped};

@@ -1,7 +1,8 @@
 // What a beginning, a step and a bringing come to.
+use super::closed_run::ClosedRun;
 use super::release::Release;
 use join_tables::{Keeper, Turn};
-use run_frame::{FrameRun, Job};
+use run_frame::Job;
 use std::snapshot::Snapshot;
 
 /// The releases that a beginning or a step has made in its frame, and what is now with the run.
@@ -15,8 +16,8 @@ pub struct Stepped<J: Job> {
 #[derive(Drop)]
 pub struct Brought<J: Job> {
     pub state: State<J>,
-    /// For clauses alone: the keeper of the run when it had taken the backlog in, or `None` where nothing was in the
-    /// backlog.
+    /// For clauses alone: the keeper of the run when it had taken the backlog in. `None` where nothing was in it, or
+    /// where it is laid aside since a run is open inside the frame.
     pub keeper: Option<Snapshot<Keeper<J::V>>>,
 }
 
@@ -33,5 +34,5 @@ pub enum State<J: Job> {
     /// It is over. The start whose work it was has ended or faulted, and these releases were made in the run around it.
     Resumed(Vec<Release<J>>),
     /// Nothing is left to do. The run is complete.
-    Closed(FrameRun<J>),
+    Closed(ClosedRun<J>),
 }

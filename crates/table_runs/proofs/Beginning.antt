@@ -10,7 +10,9 @@ use Rattle.run_frame.specs.NestedRule.{job_of}
 use Rattle.run_frame.specs.declared.run.FrameRun.{FrameRun}
 use Rattle.table_runs.specs.Begins.{Begins}
 use Rattle.table_runs.specs.Openings.{HasNoFirst, IsOverAtOnce}
+use Rattle.nested_runs.specs.Totals.{all_spans}
 use Rattle.table_runs.specs.RunKeys.{FrameKey}
+use Rattle.table_runs.specs.Spans.{spans_kept}
 use Rattle.table_runs.specs.declared.table_run.Begun.{Begun}
 
 -- a list that has no length
@@ -28,7 +30,10 @@ no_first n m net t (suc k) none = by_causes (first_causes net t) (no_first n m n
     by_causes (cause ∷ more) rest is = absurd (cc)
 
 -- a run that begins with no release is over at once
-pub over_at_once : {J V : Type 0} (meaning : Meaning J V) (job : J) (begun : Begun J V) (run : FrameRun J V) → Begins meaning job begun → begun.fresh.items ≡ [] → job_of run ≡ begun.kept.job → IsOverAtOnce meaning (Some run)
-over_at_once {J} meaning job begun run begins none same =
+pub over_at_once : {J V : Type 0} (meaning : Meaning J V) (job : J) (begun : Begun J V) (run : FrameRun J V) → Begins meaning job begun → begun.fresh.items ≡ [] → job_of run ≡ begun.kept.job → all_spans run ≡ spans_kept begun.kept → IsOverAtOnce meaning (Some run)
+over_at_once {J} meaning job begun run begins none same spans =
     let own : job_of run ≡ job = same ∙ ap (λ (k : FrameKey J). k.job) begins.kept ∙ begins.job_is in
-    subst (λ (j : J). HasNoFirst (meaning.net j)) (sym own) (λ n. no_first begun.run.table n (meaning.net job) 0 (length (meaning.net job).tasks) (sym begins.first ∙ none))
+    record {
+      no_first = subst (λ (j : J). HasNoFirst (meaning.net j)) (sym own) (λ n. no_first begun.run.table n (meaning.net job) 0 (length (meaning.net job).tasks) (sym begins.first ∙ none));
+      no_spans = spans ∙ begins.no_spans;
+    }

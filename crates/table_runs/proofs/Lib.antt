@@ -7,3 +7,4 @@ pub mod Keeping
 mod Making
 pub mod Beginning
 pub mod Crossing
+pub mod Counting

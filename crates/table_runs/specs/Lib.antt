@@ -1,4 +1,5 @@
 pub mod RunKeys
+pub mod Spans
 pub mod AllowedFates
 pub mod JournalFacts
 pub mod StepReleases

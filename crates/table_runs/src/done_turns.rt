@@ -1,5 +1,5 @@
 // Turns that are done and not yet with their keeper, and the runs that were made in place of the work of some.
-ghost use Rattle.std.specs.Prelude.{◌≡◌, ◌<◌, ◌↔◌, [], None, IsTrue, OnOk, OnErr, length};
+ghost use Rattle.std.specs.Prelude.{◌≡◌, ◌<◌, ◌≤◌, ◌+◌, ◌++◌, ◌↔◌, [], None, IsTrue, OnOk, OnErr, length};
 ghost use Rattle.std.specs.Vec.{vec_capacity, vec_len};
 ghost use Rattle.join_tables.specs.Batches.{batch_state};
 ghost use Rattle.table_runs.specs.inside.FateRuns.{closing_place, AddsRow};
@@ -67,6 +67,17 @@ pub fn add_row<J: Job + Drop>(
     if let Some(run) = inner {
         let place = closing_place(fate);
         rows.push_reserved(InnerRow { place, run });
+    }
+}
+
+/// Adds rows to others, among which there is room for them.
+pub(crate) fn move_rows<J: Job + Drop>(rows: &mut Vec<InnerRow<J>>, more: &mut Vec<InnerRow<J>>)
+    requires { vec_len rows.old + vec_len more.old ≤ vec_capacity rows.old }
+    ensures rows { rows.new.items ≡ rows.old.items ++ more.old.items }
+    ensures none_left { more.new.items ≡ [] }
+{
+    if rows.append(more).is_err() {
+        unreachable!()
     }
 }
 

@@ -25,6 +25,10 @@
 //! A `RunKeeper` has the keeper of a run, and the runs that were made inside it. All that it took in is allowed by the
 //! job, so that the run that it hands out may be kept (`finish`).
 //!
+//! A start with its End or Fault is a span (`count_spans`, `span_of`). A run that is handed out has as many spans as its
+//! keeper took in, with those of the runs inside it. A run may have a book of spans (`span_book`), which the runs inside
+//! it share; here it is only known by its name.
+//!
 //! # Where its definitions are
 //!
 //! The layer above knows a run by the name of its table and its job (`specs/RunKeys.antt`). What the job allows to
@@ -32,8 +36,8 @@
 //! known of the journal in `specs/JournalFacts.antt`. `specs/Begins.antt` says how a run begins,
 //! `specs/CollectedRelease.antt` what is taken up, `specs/Attempts.antt` what a release has come to before it is
 //! concluded, `specs/Openings.antt` what `attempt` answers, `specs/OpenStarts.antt` for which run a start is open, and
-//! `specs/Runs.antt` and `specs/DoneTurns.antt` which turns are done. Which edges made no release is known to the table
-//! alone.
+//! `specs/Runs.antt` and `specs/DoneTurns.antt` which turns are done, and `specs/Spans.antt` counts their spans. Which
+//! edges made no release is known to the table alone.
 #![tactic(auto)]
 
 mod attempt;
@@ -43,10 +47,12 @@ mod open_start;
 mod run_closing;
 mod run_keeper;
 mod run_work;
+mod spans;
 mod table_run;
 
 pub use attempt::{Attempt, Ending, InnerBegun, Outcome, Tried};
 pub use done_turns::{DoneTurn, DoneTurns};
 pub use open_start::OpenStart;
 pub use run_keeper::RunKeeper;
+pub use spans::{count_spans, span_of};
 pub use table_run::{Begun, TableRun, TakenUp, add_again};

@@ -1,5 +1,7 @@
 // What has the keeper of a run.
 ghost use Rattle.std.specs.Prelude.{◌≡◌, ◌+◌, ◌≤◌, ◌++◌, [], IfOk, IsPermutation, OnOk, OnErr, Some};
+ghost use Rattle.nested_runs.specs.Totals.{all_spans};
+ghost use Rattle.table_runs.specs.Spans.{spans_done, spans_kept};
 ghost use Rattle.std.specs.Vec.{vec_capacity, vec_len};
 ghost use Rattle.std.specs.List.Sorted.{IsNonDecreasingBy};
 ghost use Rattle.std.specs.Arc.{arc_value};
@@ -8,16 +10,17 @@ ghost use Rattle.join_tables.specs.Keeping.{IsLast, LeavesOf, TellsRun, entries_
 ghost use Rattle.run_frame.specs.Legal.{IsKept};
 ghost use Rattle.run_frame.specs.NestedRule.{job_of};
 ghost use Rattle.table_runs.specs.inside.FateRuns.{AreAllowed};
-ghost use Rattle.table_runs.specs.RunKeys.{key_of};
+ghost use Rattle.table_runs.specs.RunKeys.{book_in, key_of};
 ghost use Rattle.table_runs.specs.JournalFacts.{HasEntries};
 ghost use Rattle.table_runs.specs.DoneTurns.{HasSame, IsNoTurn};
 ghost use Rattle.table_runs.specs.inside.Rows.{place_in_row, rows_of};
 
-use super::done_turns::DoneTurns;
+use super::done_turns::{DoneTurns, move_rows};
 use join_tables::{FinishedRun, Keeper, NetTable, RecordedValue, Remaining};
 use keyed_lock::Keyed;
 use outside_io::{List, NoMemory};
 use run_frame::{FrameRun, InnerRow, Job, ValueRow};
+use span_book::SpanBook;
 use std::alloc::Global;
 use std::marker::Model;
 use std::snapshot::Snapshot;
@@ -30,6 +33,8 @@ pub struct RunKeeper<J: Job> {
     job: Arc<J>,
     keeper: Keeper<J::V>,
     inner: Vec<InnerRow<J>>,
+    // The book of the run's spans.
+    book: Snapshot<Option<Arc<SpanBook>>>,
 }
 
 // Written out, so that it is proved here alone and not in each crate above.
@@ -40,6 +45,7 @@ impl<J: Job + Drop> Drop for RunKeeper<J> {
             job,
             keeper,
             inner,
+            book: _,
         } = self;
         drop((job, keeper, inner));
     }
@@ -50,10 +56,18 @@ impl<J: Job> Model for RunKeeper<J> {
 
     ghost Value = { RunKeeperView J J.V };
 
+    ghost use Rattle.std.specs.Prelude.{map, sum};
     ghost use Rattle.std.specs.Arc.{arc_value};
+    ghost use Rattle.nested_runs.specs.Totals.{spans_of_row};
+    ghost use Rattle.table_runs.specs.RunKeys.{book_in};
     ghost use Rattle.table_runs.specs.inside.FateRuns.{AreAllowed};
 
-    ghost view = { λ kept. record { job = arc_value kept.job; keeper = kept.keeper } };
+    ghost view = { λ kept. record {
+      job = arc_value kept.job;
+      keeper = kept.keeper;
+      inside = sum (map spans_of_row kept.inner.items);
+      book = book_in kept.book.value;
+    } };
 
     ghost invariant = { λ kept. AreAllowed J.meaning (arc_value kept.job) kept.keeper.fates
         kept.inner.items };
@@ -70,16 +84,24 @@ impl<J: Job> Keyed for RunKeeper<J> {
 impl<J: Job + Drop> RunKeeper<J> {
     /// Of a run that has just begun.
     #[tactic(auto, using(crate::proofs::Keeping::none_allowed))]
-    pub(crate) fn new(alloc: Global, job: Arc<J>, keeper: Keeper<J::V>) -> RunKeeper<J>
+    pub(crate) fn new(
+        alloc: Global,
+        job: Arc<J>,
+        book: &Option<Arc<SpanBook>>,
+        keeper: Keeper<J::V>,
+    ) -> RunKeeper<J>
         requires { keeper.fates ≡ [] }
         ensures job { result.job ≡ arc_value job }
         ensures keeper { result.keeper ≡ keeper }
+        ensures book { result.book ≡ book_in book.now }
+        ensures no_spans { spans_kept result ≡ 0 }
     {
         RunKeeper {
             alloc,
             job,
             keeper,
             inner: Vec::new(alloc),
+            book: Snapshot::of(book),
         }
     }
 
@@ -96,10 +118,13 @@ impl<J: Job + Drop> RunKeeper<J> {
         ensures same { key_of self.new ≡ key_of self.old }
         ensures fates { OnOk result
             (self.new.keeper.fates ≡ self.old.keeper.fates ++ done.old.batch.fates) }
+        ensures spans { OnOk result
+            (spans_kept self.new ≡ spans_kept self.old + spans_done done.old) }
         ensures taken { OnOk result (IsNoTurn done.new) }
         ensures found { IfOk result
             (λ left. FindsOne (λ n. LeavesOf n left) self.old.keeper.found self.new.keeper.found) }
         ensures err { OnErr result (HasSame done.old done.new) }
+        ensures err_kept { OnErr result (self.new ≡ self.old) }
         ensures all { IsLast result
             → TellsRun table.now.net table.now.limit (entries_told self.new.keeper.fates) }
     {
@@ -123,12 +148,14 @@ impl<J: Job + Drop> RunKeeper<J> {
         ensures kept { IfOk result (IsKept J.meaning) }
         ensures job { IfOk result (λ run. job_of run ≡ self.job) }
         ensures entries { IfOk result (λ run. HasEntries run self.keeper.fates) }
+        ensures spans { IfOk result (λ run. all_spans run ≡ spans_kept self) }
     {
         let RunKeeper {
             alloc,
             job,
             keeper,
             mut inner,
+            book: _,
         } = self;
         let FinishedRun { journal, values } = keeper.finish()?;
         let values = value_rows(alloc, values)?;
@@ -139,17 +166,6 @@ impl<J: Job + Drop> RunKeeper<J> {
             values,
             inner,
         })
-    }
-}
-
-// Adds rows to others, among which there is room for them.
-fn move_rows<J: Job + Drop>(rows: &mut Vec<InnerRow<J>>, more: &mut Vec<InnerRow<J>>)
-    requires { vec_len rows.old + vec_len more.old ≤ vec_capacity rows.old }
-    ensures rows { rows.new.items ≡ rows.old.items ++ more.old.items }
-    ensures none_left { more.new.items ≡ [] }
-{
-    if rows.append(more).is_err() {
-        unreachable!()
     }
 }
 

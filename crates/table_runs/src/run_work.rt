@@ -13,6 +13,7 @@ ghost use Rattle.semaphore_turns.specs.HeldUnits.{HoldsAll};
 ghost use Rattle.semaphore_turns.specs.WaitingTurns.{release_of};
 ghost use Rattle.table_runs.specs.AllowedFates.{EndAllowed, work_with};
 ghost use Rattle.table_runs.specs.OpenStarts.{IsOpenFor, IsStartOf, StartStands};
+ghost use Rattle.table_runs.specs.RunKeys.{book_in};
 ghost use Rattle.table_runs.specs.Runs.{MayWork};
 
 use super::attempt::{Attempt, Ending, InnerBegun, Outcome, Tried};
@@ -24,6 +25,7 @@ use journal_rules::{DropWhy, Why};
 use outside_io::{List, NoMemory};
 use run_frame::{Answer, Done, FrameRun, Job, JobError};
 use semaphore_turns::{ClaimedUnits, claim_units, credit_units, put_back_units};
+use span_book::SpanBook;
 use std::sync::Arc;
 use task_graph::Net;
 
@@ -98,8 +100,9 @@ impl<J: Job + Drop> TableRun<J> {
         ensures { IfOk result (Tries J.meaning self.now
             (fresh_state self.now.table running.task running.cause)) }
     {
-        let start = OpenStart::new(running, &self.job);
-        let begun = TableRun::begin(self.alloc, Arc::new(self.alloc, job)?)?;
+        let start = OpenStart::new(running, &self.job, &self.book);
+        let book = same_book(&self.book)?;
+        let begun = TableRun::begin(self.alloc, Arc::new(self.alloc, job)?, book)?;
         if begun.fresh.is_empty() {
             let attempt = self.resume(start, begun.kept.finish()?)?;
             return Ok(Tried::Done(Attempt { again, ..attempt }));
@@ -267,5 +270,15 @@ impl<J: Job + Drop> TableRun<J> {
             value,
             inner,
         }))
+    }
+}
+
+// The same book, if there is one.
+fn same_book(book: &Option<Arc<SpanBook>>) -> Result<Option<Arc<SpanBook>>, NoMemory>
+    ensures { IfOk result (λ same. book_in same ≡ book_in book.now) }
+{
+    match book {
+        Some(book) => Ok(Some(Arc::try_clone(book)?)),
+        None => Ok(None),
     }
 }

@@ -1,5 +1,6 @@
 // A job with the table of its net, and how its releases are taken up and recorded. None of it waits or takes a lock.
 ghost use Rattle.std.specs.Prelude.{◌≡◌, ◌<◌, ◌≤◌, ◌+◌, ◌^◌, ◌++◌, ◌∷◌, [], length, None, Some, Option, IfOk, OnOk, OnErr};
+ghost use Rattle.std.specs.Option.{option_copied};
 ghost use Rattle.std.specs.Vec.{vec_capacity, vec_len};
 ghost use Rattle.std.specs.Arc.{arc_value};
 ghost use Rattle.join_tables.specs.Findings.{FindsOne};
@@ -15,8 +16,9 @@ ghost use Rattle.table_runs.specs.AllowedFates.{IsAllowed};
 ghost use Rattle.table_runs.specs.Attempts.{again_list};
 ghost use Rattle.table_runs.specs.DoneTurns.{HasSame, HasSpace, IsNoTurn};
 ghost use Rattle.table_runs.specs.Runs.{AreDoneIn};
+ghost use Rattle.table_runs.specs.Spans.{spans_done, spans_inside, spans_kept, spans_made};
 
-use super::done_turns::{DoneTurn, DoneTurns, add_row};
+use super::done_turns::{DoneTurn, DoneTurns, add_row, move_rows};
 use super::run_keeper::RunKeeper;
 use join_tables::{Collected, Fresh, NetTable, Opening, Remaining, Turn};
 use outside_io::NoMemory;
@@ -26,6 +28,7 @@ use semaphore_turns::{
     ParkedTurn, Parking, ReadyKind, ReadyTurn, Settled, TakenUnits, TurnYard, park_turn, settle,
     take_units, takes_of,
 };
+use span_book::SpanBook;
 use std::alloc::Global;
 use std::marker::Model;
 use std::sync::Arc;
@@ -35,6 +38,8 @@ pub struct TableRun<J: Job> {
     pub(crate) alloc: Global,
     pub(crate) job: Arc<J>,
     pub(crate) table: NetTable<J::V>,
+    // The book of its spans, and of those of the runs inside it.
+    pub(crate) book: Option<Arc<SpanBook>>,
 }
 
 // Written out, so that it is proved here alone and not in each crate above.
@@ -44,8 +49,9 @@ impl<J: Job + Drop> Drop for TableRun<J> {
             alloc: _,
             job,
             table,
+            book,
         } = self;
-        drop((job, table));
+        drop((job, table, book));
     }
 }
 
@@ -55,9 +61,14 @@ impl<J: Job> Model for TableRun<J> {
     ghost Value = { FrameKey J };
 
     ghost use Rattle.std.specs.Arc.{arc_value};
+    ghost use Rattle.table_runs.specs.RunKeys.{book_in};
     ghost use Rattle.table_runs.specs.inside.Tables.{RunsJob};
 
-    ghost view = { λ run. record { table = run.table.table; job = arc_value run.job } };
+    ghost view = { λ run. record {
+      table = run.table.table;
+      job = arc_value run.job;
+      book = book_in run.book;
+    } };
 
     ghost invariant = { λ run. RunsJob J.meaning (arc_value run.job) run.table
         × J.keeps (arc_value run.job) };
@@ -81,13 +92,18 @@ pub struct TakenUp<V> {
 }
 
 impl<J: Job + Drop> TableRun<J> {
-    ghost use Rattle.table_runs.specs.RunKeys.{key_of, table_in};
+    ghost use Rattle.table_runs.specs.RunKeys.{book_in, key_of, table_in};
     ghost use Rattle.table_runs.specs.Begins.{Begins};
     ghost use Rattle.table_runs.specs.CollectedRelease.{TakesUp};
 
-    /// A run that has made no step.
-    pub fn begin(alloc: Global, job: Arc<J>) -> Result<Begun<J>, NoMemory>
-        ensures { IfOk result (Begins J.meaning (arc_value job)) }
+    /// A run that has made no step. If it has a book, its spans are counted there, and those of the runs inside it.
+    pub fn begin(
+        alloc: Global,
+        job: Arc<J>,
+        book: Option<Arc<SpanBook>>,
+    ) -> Result<Begun<J>, NoMemory>
+        ensures begins { IfOk result (Begins J.meaning (arc_value job)) }
+        ensures book { IfOk result (λ begun. begun.run.book ≡ book_in book) }
     {
         let net = Arc::try_clone(job.net())?;
         let limit = job.limit();
@@ -96,9 +112,14 @@ impl<J: Job + Drop> TableRun<J> {
             fresh,
             keeper,
         } = NetTable::new(alloc, net, limit)?;
-        let kept = RunKeeper::new(alloc, Arc::try_clone(&job)?, keeper);
+        let kept = RunKeeper::new(alloc, Arc::try_clone(&job)?, &book, keeper);
         let fresh = ready_turns(alloc, fresh)?;
-        let run = TableRun { alloc, job, table };
+        let run = TableRun {
+            alloc,
+            job,
+            table,
+            book,
+        };
         Ok(Begun { run, fresh, kept })
     }
 
@@ -207,6 +228,13 @@ impl<J: Job + Drop> TableRun<J> {
         settle(&self.table, self.job.net(), self.alloc, yard)
     }
 
+    /// The book of its spans.
+    pub fn book(&self) -> Option<&Arc<SpanBook>>
+        ensures { book_in (option_copied result) ≡ self.now.book }
+    {
+        self.book.as_ref()
+    }
+
     /// Whether the net has a semaphore.
     pub fn has_semaphores(&self) -> bool {
         !self.job.net().sems().is_empty()
@@ -237,10 +265,35 @@ impl<J: Job + Drop> TableRun<J> {
         ensures done { AreDoneIn J.meaning self.now done.new }
         ensures some { done.new.batch.table ≡ Some self.now.table }
         ensures fates { done.new.batch.fates ≡ done.old.batch.fates ++ turn.spent.fate ∷ [] }
+        ensures inside { spans_inside done.new ≡ spans_inside done.old + spans_made turn.inner }
     {
         let DoneTurn { spent, inner } = turn;
         add_row(&mut done.inner, spent.fate(), inner);
         self.table.gather(&mut done.batch, spent);
+    }
+
+    /// Adds turns that are done to others, at least one. If an allocation fails, all stays as it was.
+    pub fn gather_all(
+        &self,
+        done: &mut DoneTurns<J>,
+        more: &mut DoneTurns<J>,
+    ) -> Result<(), NoMemory>
+        requires done { AreDoneIn J.meaning self.now done.old }
+        requires more { AreDoneIn J.meaning self.now more.old }
+        requires some { more.old.batch.table ≡ Some self.now.table }
+        ensures done { AreDoneIn J.meaning self.now done.new }
+        ensures table { OnOk result (done.new.batch.table ≡ Some self.now.table) }
+        ensures fates { OnOk result
+            (done.new.batch.fates ≡ done.old.batch.fates ++ more.old.batch.fates) }
+        ensures spans { OnOk result
+            (spans_done done.new ≡ spans_done done.old + spans_done more.old) }
+        ensures taken { OnOk result (IsNoTurn more.new) }
+        ensures err { OnErr result (HasSame done.old done.new × HasSame more.old more.new) }
+    {
+        done.inner.try_reserve(more.inner.len())?;
+        self.table.gather_all(&mut done.batch, &mut more.batch)?;
+        move_rows(&mut done.inner, &mut more.inner);
+        Ok(())
     }
 
     /// Gives turns that are done to the keeper, at least one.
@@ -255,10 +308,13 @@ impl<J: Job + Drop> TableRun<J> {
         ensures same { key_of kept.new ≡ self.now }
         ensures fates { OnOk result
             (kept.new.keeper.fates ≡ kept.old.keeper.fates ++ done.old.batch.fates) }
+        ensures spans { OnOk result
+            (spans_kept kept.new ≡ spans_kept kept.old + spans_done done.old) }
         ensures taken { OnOk result (IsNoTurn done.new) }
         ensures found { IfOk result
             (λ left. FindsOne (λ n. LeavesOf n left) kept.old.keeper.found kept.new.keeper.found) }
         ensures err { OnErr result (HasSame done.old done.new) }
+        ensures err_kept { OnErr result (kept.new ≡ kept.old) }
         ensures all { IsLast result
             → TellsRun (J.meaning.net kept.new.job) (J.meaning.limit kept.new.job)
             (entries_told kept.new.keeper.fates) }

@@ -4,6 +4,7 @@ use denote.Struct.Field as field
 use Rattle.std.proofs.Crossing.{crosses, frees}
 use Rattle.std.proofs.alloc.Global.TheSendSync as heap
 use Rattle.std.proofs.option.Option.TheSendSync as option
+use Rattle.span_profile.specs.contracts.span_count.SpanCount as span_count
 use Rattle.worker_seat.proofs.Crossing.{seat_send, crew_sync}
 use Rattle.worker_seat.specs.contracts.seat.WorkerSeat as worker_seat
 use Rattle.worker_seat.specs.contracts.crew.Crew as crew
@@ -20,8 +21,11 @@ job_send = search fields depth 60 fits 20000
 job_sync : IsSync number_job.the_row
 job_sync = search fields depth 60 fits 20000
 
-pub seat_crosses : IsSend (worker_seat.the_row number_job.the_row (field.unit-field).row (field.u64-field).row job.ghosts valued.ghosts)
-seat_crosses = seat_send number_job.the_row (field.u64-field).row job.ghosts valued.ghosts job_send job_sync (search sendable) (search sendable) (field.unit-field).row (search sendable)
+count_send : IsSend span_count.the_row
+count_send = search fields depth 60 fits 20000
+
+pub seat_crosses : IsSend (worker_seat.the_row number_job.the_row span_count.the_row (field.u64-field).row job.ghosts valued.ghosts)
+seat_crosses = seat_send number_job.the_row (field.u64-field).row job.ghosts valued.ghosts job_send job_sync (search sendable) (search sendable) span_count.the_row count_send
 
 pub crew_shared : IsSync (crew.the_row number_job.the_row (field.u64-field).row job.ghosts valued.ghosts)
 crew_shared = crew_sync number_job.the_row (field.u64-field).row job.ghosts valued.ghosts job_send job_sync (search sendable) (search sendable)

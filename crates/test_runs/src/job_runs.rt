@@ -6,14 +6,17 @@ use crate::job_cases::{JobCase, case_of};
 use crate::orders::{Order, run_in_order};
 use crate::run_checks::{By, check_whole};
 use crate::{inner_cases, plain_cases, unit_cases};
+use nested_runs::spans;
 use ready_deques::MAX_WORKERS;
+use run_frame::FrameRun;
+use span_profile::{SpanCount, Watch};
 use std::alloc::Global;
 use std::process::Abort;
 use std::sync::{Arc, Wait};
 use std::test::Fail;
 use std::thread::Threads;
 use table_frames::run_alone;
-use test_jobs::run_by_workers;
+use test_jobs::{NumberJob, run_by_workers};
 
 const ORDERS: [Order; 10] = [
     Order::Newest,
@@ -101,13 +104,22 @@ fn run_unless_met(rt: &(impl Wait + Abort), alloc: Global, case: &JobCase<'_>) -
 
 fn run_by_one(rt: &(impl Wait + Abort), alloc: Global, case: &JobCase<'_>) -> Result<(), Fail> {
     for order in ORDERS {
-        let Some(run) = run_in_order(rt, alloc, case.job(alloc)?, order)? else {
+        let Some((run, told)) = run_in_order(rt, alloc, case.job(alloc)?, order)? else {
             panic!(rt; "{} doesn't end", case.name);
         };
         check_whole(rt, alloc, case, By::OneThread, &run)?;
+        check_told(rt, case, &run, told);
     }
-    let run = run_alone(rt, alloc, Arc::new(alloc, case.job(alloc)?)?)?;
-    check_whole(rt, alloc, case, By::OneThread, &run)
+    let mut told = SpanCount::new();
+    let run = run_alone(rt, alloc, Arc::new(alloc, case.job(alloc)?)?, &mut told)?;
+    check_whole(rt, alloc, case, By::OneThread, &run)?;
+    check_told(rt, case, &run, told.count());
+    Ok(())
+}
+
+// So many spans were told as the run has, with those inside it.
+fn check_told(rt: &impl Abort, case: &JobCase<'_>, run: &FrameRun<NumberJob>, told: u64) {
+    assert!(rt; told == spans(run), "{}: {told} spans", case.name);
 }
 
 // By the crews that have as many seats as tasks are to meet.

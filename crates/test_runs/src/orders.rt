@@ -1,11 +1,15 @@
 // Runs by one thread, whose steps are taken in some order. What a step has done is recorded at once.
-ghost use Rattle.std.specs.Prelude.{◌≡◌, ◌<◌, [], IfNone, IfOk};
+ghost use Rattle.std.specs.Prelude.{◌≡◌, ◌<◌, [], IfNone, IfOk, OnOk};
+ghost use Rattle.span_book.specs.SpanBooks.{name_of};
+ghost use Rattle.test_runs.specs.inside.Tellers.{AreIn, GoesOn, IsIn};
 
 use outside_io::NoMemory;
 use run_frame::FrameRun;
+use span_book::{SpanBook, Teller};
+use span_profile::{SpanCount, Watch};
 use std::alloc::Global;
 use std::sync::{Arc, Wait};
-use table_frames::{Backlog, Brought, Frame, Release, State, Stepped};
+use table_frames::{Backlog, Brought, ClosedRun, Frame, Release, State, Stepped};
 use test_jobs::NumberJob;
 
 // The most steps of a run.
@@ -41,51 +45,98 @@ impl Order {
     }
 }
 
-// The steps that may be taken, and what the last one has done.
+// The steps that may be taken, what the last one has done, and who tells the spans that steps end, and counts them.
 #[derive(Drop)]
 struct Pending {
     releases: Vec<Release<NumberJob>>,
     backlog: Backlog<NumberJob>,
+    teller: Teller,
+    told: SpanCount,
 }
 
-/// The run that takes its steps in an order, if it comes to its end.
+/// The run that takes its steps in an order, if it comes to its end, and how many spans its steps ended.
+#[tactic(auto, using(crate::proofs::Tellers::begun, crate::proofs::Tellers::closed_at_once))]
 pub(crate) fn run_in_order<R: Wait>(
     rt: &R,
     alloc: Global,
     job: NumberJob,
     order: Order,
-) -> Result<Option<FrameRun<NumberJob>>, NoMemory> {
-    let Stepped { released, state } = Frame::begin(alloc, Arc::new(alloc, job)?)?;
-    if let State::Closed(run) = state {
-        return Ok(Some(run));
-    }
+) -> Result<Option<(FrameRun<NumberJob>, u64)>, NoMemory> {
+    let (book, mut spans) = SpanBook::new(alloc, 1)?;
+    let book = Arc::new(alloc, book)?;
+    let teller = book.deal(&mut spans);
+    let job = Arc::new(alloc, job)?;
+    let Stepped { released, state } = Frame::begin(alloc, job, Arc::try_clone(&book)?, spans)?;
     let mut pending = Pending {
         releases: released,
         backlog: Backlog::new(alloc),
+        teller,
+        told: SpanCount::new(),
     };
+    if let State::Closed(closed) = state {
+        return Ok(Some(settle(&book, closed, pending)));
+    }
     for step in 1..STEPS {
-        if let Some(run) = take_step(rt, &mut pending, order, step)? {
-            return Ok(Some(run));
+        if let Some(closed) = take_step(rt, &mut pending, order, step)? {
+            return Ok(Some(settle(&book, closed, pending)));
         }
     }
     Ok(None)
 }
 
+// The run, once the account of its spans is settled, and how many were told.
+fn settle(
+    book: &SpanBook,
+    closed: ClosedRun<NumberJob>,
+    pending: Pending,
+) -> (FrameRun<NumberJob>, u64)
+    requires closed { closed.spans.book ≡ name_of book.now }
+    requires teller { pending.teller.book ≡ name_of book.now }
+{
+    let ClosedRun { run, mut spans } = closed;
+    let Pending { teller, told, .. } = pending;
+    book.collect(&mut spans, teller);
+    book.settle(&mut spans);
+    (run, told.count())
+}
+
 // Takes a step, if one is left, and has recorded what it has done. It gives the run if that is closed.
+#[tactic(auto, using(crate::proofs::Tellers::none_left, crate::proofs::Tellers::picked))]
 fn take_step<R: Wait>(
     rt: &R,
     pending: &mut Pending,
     order: Order,
     step: u32,
-) -> Result<Option<FrameRun<NumberJob>>, NoMemory>
-    requires { pending.old.backlog.frames ≡ [] }
-    ensures { IfOk result (λ ran. IfNone ran (pending.new.backlog.frames ≡ [])) }
+) -> Result<Option<ClosedRun<NumberJob>>, NoMemory>
+    requires none { pending.old.backlog.frames ≡ [] }
+    requires book { AreIn pending.old.teller.book pending.old.releases.items [] }
+    ensures on { IfOk result (GoesOn pending.old.teller.book pending.new.releases.items
+        pending.new.backlog.frames) }
+    ensures none { IfOk result (λ ran. IfNone ran (pending.new.backlog.frames ≡ [])) }
+    ensures book { pending.new.teller.book ≡ pending.old.teller.book }
 {
     let count = pending.releases.len();
     if count == 0 {
         return Ok(None);
     }
     let release = pending.releases.remove(order.place(step, count));
+    take_step_of(rt, pending, release)?;
+    record(rt, pending)
+}
+
+// Takes the step of a release.
+#[tactic(auto, using(crate::proofs::Tellers::stepped, crate::proofs::Tellers::opened))]
+fn take_step_of<R: Wait>(
+    rt: &R,
+    pending: &mut Pending,
+    release: Release<NumberJob>,
+) -> Result<(), NoMemory>
+    requires none { pending.old.backlog.frames ≡ [] }
+    requires book { AreIn pending.old.teller.book pending.old.releases.items release.frames }
+    ensures on { OnOk result (AreIn pending.old.teller.book pending.new.releases.items
+        pending.new.backlog.frames) }
+    ensures book { pending.new.teller ≡ pending.old.teller }
+{
     let Stepped {
         mut released,
         state,
@@ -94,29 +145,52 @@ fn take_step<R: Wait>(
     if let State::Inner(mut first) = state {
         pending.releases.append(&mut first)?;
     }
-    record(rt, pending)
+    Ok(())
 }
 
 // Has recorded what was done, level by level. It gives the run if that is closed. What is parked goes on or is dropped
 // where nothing else is left.
-fn record<R: Wait>(rt: &R, pending: &mut Pending) -> Result<Option<FrameRun<NumberJob>>, NoMemory>
-    ensures { IfOk result (λ ran. IfNone ran (pending.new.backlog.frames ≡ [])) }
+fn record<R: Wait>(rt: &R, pending: &mut Pending) -> Result<Option<ClosedRun<NumberJob>>, NoMemory>
+    requires book { AreIn pending.old.teller.book pending.old.releases.items
+        pending.old.backlog.frames }
+    ensures on { IfOk result (GoesOn pending.old.teller.book pending.new.releases.items
+        pending.new.backlog.frames) }
+    ensures none { IfOk result (λ ran. IfNone ran (pending.new.backlog.frames ≡ [])) }
+    ensures book { pending.new.teller.book ≡ pending.old.teller.book }
 {
     for _ in rt.forever() {
         if pending.backlog.is_empty() {
             return Ok(None);
         }
-        let Brought { state, .. } = Frame::bring(rt, &mut pending.backlog)?;
-        match state {
-            State::Closed(run) => return Ok(Some(run)),
-            State::Resumed(mut released) => pending.releases.append(&mut released)?,
-            State::Went => {
-                if let Some(release) = Frame::settle(rt, &mut pending.backlog)? {
-                    pending.releases.push(release)?;
-                }
-            }
-            State::Parked(_) | State::Inner(_) => unreachable!(),
+        if let Some(closed) = bring(rt, pending)? {
+            return Ok(Some(closed));
         }
     }
     unreachable!()
+}
+
+// Tells the span that the newest of the backlog ended, which has one fate at most, and brings it.
+#[tactic(auto, using(crate::proofs::Tellers::closed_last, crate::proofs::Tellers::resumed, crate::proofs::Tellers::went, crate::proofs::Tellers::woken, crate::proofs::Tellers::none_woken))]
+fn bring<R: Wait>(rt: &R, pending: &mut Pending) -> Result<Option<ClosedRun<NumberJob>>, NoMemory>
+    requires book { AreIn pending.old.teller.book pending.old.releases.items
+        pending.old.backlog.frames }
+    ensures on { IfOk result (GoesOn pending.old.teller.book pending.new.releases.items
+        pending.new.backlog.frames) }
+    ensures book { pending.new.teller.book ≡ pending.old.teller.book }
+{
+    if let Some(span) = pending.backlog.newest_span() {
+        pending.told.span(span)?;
+    }
+    let Brought { state, .. } = Frame::bring(rt, &mut pending.backlog, &mut pending.teller)?;
+    match state {
+        State::Closed(closed) => return Ok(Some(closed)),
+        State::Resumed(mut released) => pending.releases.append(&mut released)?,
+        State::Went => {
+            if let Some(release) = Frame::settle(rt, &mut pending.backlog)? {
+                pending.releases.push(release)?;
+            }
+        }
+        State::Parked(_) | State::Inner(_) => unreachable!(),
+    }
+    Ok(None)
 }

@@ -1,2 +1,3 @@
 mod RoundLemmas
+mod ToldLemmas
 mod WorkedTeams

@@ -1,10 +1,10 @@
 // Runs of a job, round after round.
-ghost use Rattle.std.specs.Prelude.{◌≡◌, ◌⊎◌, [], false, true, All, IfOk, IfErr, IsTrue, OnOk, OnErr};
+ghost use Rattle.std.specs.Prelude.{◌≡◌, ◌≢◌, ◌⊎◌, [], false, true, length, All, IfOk, IfErr, IsTrue, OnOk, OnErr};
 ghost use Rattle.std.specs.Arc.{arc_value};
 ghost use Rattle.run_frame.specs.Legal.{IsKept};
 ghost use Rattle.run_frame.specs.NestedRule.{job_of};
 ghost use Rattle.nested_runs.specs.Rounds.{AreAllRounds, AreFirstRounds, LastWasCut, last_run, times};
-ghost use Rattle.topology_runs.specs.Teams.{IsReady, watchers_of};
+ghost use Rattle.topology_runs.specs.Teams.{AreToldRounds, IsReady, watchers_of};
 ghost use Rattle.topology_runs.specs.inside.Nexts.{FollowsLast, IsLastFine};
 
 use super::team::Team;
@@ -12,6 +12,7 @@ use super::until::{Never, Until};
 use nested_runs::Recurs;
 use outside_io::{List, NoMemory};
 use run_frame::FrameRun;
+use span_profile::Watch;
 use std::alloc::Global;
 use std::sync::{Arc, Wait};
 use std::thread::Threads;
@@ -23,8 +24,9 @@ pub struct Short<J: Recurs> {
     pub runs: List<FrameRun<J>>,
 }
 
-/// Runs a job so many times, unless something is cut short in a run. `Err` comes only if an allocation fails.
-pub fn run_times<J: Recurs + Drop, X: Drop, E: EntersEach<J, X>, R: Threads + Wait + Sync>(
+/// Runs a job so many times, unless something is cut short in a run. The watchers, if there are any, are together told
+/// as many spans as the rounds have, with the runs inside them. `Err` comes only if an allocation fails.
+pub fn run_times<J: Recurs + Drop, X: Watch, E: EntersEach<J, X>, R: Threads + Wait + Sync>(
     rt: &R,
     alloc: Global,
     team: &mut Team<J, X>,
@@ -36,16 +38,19 @@ pub fn run_times<J: Recurs + Drop, X: Drop, E: EntersEach<J, X>, R: Threads + Wa
     ensures rounds { IfOk result (AreAllRounds J.Job.meaning (arc_value job.now) (times count)) }
     ensures short { IfErr result
         (λ short. AreFirstRounds J.Job.meaning (arc_value job.now) (times count) short.runs) }
-    ensures watchers { watchers_of team.new ≡ watchers_of team.old }
+    ensures watchers { IfOk result (λ runs. watchers_of team.old ≢ []
+        → AreToldRounds X.told runs (watchers_of team.old) (watchers_of team.new)) }
+    ensures count { length (watchers_of team.new) ≡ length (watchers_of team.old) }
 {
     run_until::<J, X, Never, E, R>(rt, alloc, team, job, &Never, count)
 }
 
-/// Runs a job until a test of the rounds is met, at most so many times, unless something is cut short in a run. `Err`
+/// Runs a job until a test of the rounds is met, at most so many times, unless something is cut short in a run. The
+/// watchers, if there are any, are together told as many spans as the rounds have, with the runs inside them. `Err`
 /// comes only if an allocation fails.
 pub fn run_until<
     J: Recurs + Drop,
-    X: Drop,
+    X: Watch,
     U: Until<J>,
     E: EntersEach<J, X>,
     R: Threads + Wait + Sync,
@@ -64,7 +69,9 @@ pub fn run_until<
     ensures short { IfErr result
         (λ short. AreFirstRounds J.Job.meaning (arc_value job.now)
         (record { most = most; ends = U.ends until.now }) short.runs) }
-    ensures watchers { watchers_of team.new ≡ watchers_of team.old }
+    ensures watchers { IfOk result (λ runs. watchers_of team.old ≢ []
+        → AreToldRounds X.told runs (watchers_of team.old) (watchers_of team.new)) }
+    ensures count { length (watchers_of team.new) ≡ length (watchers_of team.old) }
 {
     let mut runs = Vec::new(alloc);
     match add_rounds::<J, X, U, E, R>(rt, alloc, team, job, until, most, &mut runs) {
@@ -78,7 +85,7 @@ pub fn run_until<
 // Runs the rounds, and puts each where there is room for it before it is run.
 fn add_rounds<
     J: Recurs + Drop,
-    X: Drop,
+    X: Watch,
     U: Until<J>,
     E: EntersEach<J, X>,
     R: Threads + Wait + Sync,
@@ -98,7 +105,9 @@ fn add_rounds<
         (record { most = most; ends = U.ends until.now }) runs.new.items) }
     ensures err { OnErr result (AreFirstRounds J.Job.meaning (arc_value first.now)
         (record { most = most; ends = U.ends until.now }) runs.new.items) }
-    ensures watchers { watchers_of team.new ≡ watchers_of team.old }
+    ensures watchers { OnOk result (watchers_of team.old ≢ []
+        → AreToldRounds X.told runs.new.items (watchers_of team.old) (watchers_of team.new)) }
+    ensures count { length (watchers_of team.new) ≡ length (watchers_of team.old) }
 {
     for _ in 0..most {
         if is_over(until, runs.as_slice()) {

@@ -1,12 +1,15 @@
 // Teams of workers.
-ghost use Rattle.std.specs.Prelude.{◌≡◌, ◌≤◌, [], length, map, vec_capacity, All, IfOk, IfErr, OnOk};
+ghost use Rattle.std.specs.Prelude.{◌≡◌, ◌≢◌, ◌<◌, ◌≤◌, [], length, map, vec_capacity, All, IfOk, IfErr, OnOk};
 ghost use Rattle.std.specs.List.{list_any};
 ghost use Rattle.std.specs.Arc.{arc_value};
+ghost use Rattle.nested_runs.specs.Totals.{all_spans};
 ghost use Rattle.ready_deques.specs.Limits.{max_workers};
+ghost use Rattle.topology_runs.specs.Teams.{AreTold};
 ghost use Rattle.worker_seat.specs.Crews.{AreSeatsOf, IsKeptOf, MayBegin, state_of, watcher_of};
 
 use outside_io::{Back, NoMemory};
 use run_frame::{FrameRun, Job};
+use span_profile::{SpanCount, Watch};
 use std::alloc::Global;
 use std::sync::{Arc, Wait};
 use std::thread::Threads;
@@ -38,7 +41,7 @@ impl<J: Job + Drop, X: Drop> Drop for Team<J, X> {
     }
 }
 
-impl<J: Job + Drop, X: Drop> Team<J, X> {
+impl<J: Job + Drop, X: Watch> Team<J, X> {
     ghost use Rattle.topology_runs.specs.Teams.{IsReady, watchers_of};
 
     /// A team with a worker for each of at most `MAX_WORKERS` watchers, or of one worker without. It may run a job. The
@@ -62,7 +65,8 @@ impl<J: Job + Drop, X: Drop> Team<J, X> {
         }
     }
 
-    /// Runs a job to its end. After an `Err`, which comes only if an allocation fails, the team runs no further job.
+    /// Runs a job to its end. The watchers, if there are any, are together told as many spans as the run has, with the
+    /// runs inside it. After an `Err`, which comes only if an allocation fails, the team runs no further job.
     pub fn run<E: EntersEach<J, X>, R: Threads + Wait + Sync>(
         &mut self,
         rt: &R,
@@ -71,10 +75,12 @@ impl<J: Job + Drop, X: Drop> Team<J, X> {
         requires { IsReady self.old }
         ensures run { IfOk result (IsKeptOf J.meaning (arc_value job)) }
         ensures ready { OnOk result (IsReady self.new) }
-        ensures watchers { watchers_of self.new ≡ watchers_of self.old }
+        ensures watchers { IfOk result (λ run. watchers_of self.old ≢ []
+            → AreTold X.told (all_spans run) (watchers_of self.old) (watchers_of self.new)) }
+        ensures count { length (watchers_of self.new) ≡ length (watchers_of self.old) }
     {
         match &mut self.workers {
-            Workers::Alone(_) => run_alone(rt, self.alloc, job),
+            Workers::Alone(watchers) => run_watched(rt, self.alloc, watchers, job),
             Workers::Seated(crew, seats) => run_seated::<J, X, E, R>(rt, crew, seats, job),
         }
     }
@@ -93,9 +99,28 @@ impl<J: Job + Drop, X: Drop> Team<J, X> {
     }
 }
 
+// Runs a job on the caller's thread, whose watcher is told its spans, if there is one.
+fn run_watched<J: Job + Drop, X: Watch, R: Wait>(
+    rt: &R,
+    alloc: Global,
+    watchers: &mut Vec<X>,
+    job: Arc<J>,
+) -> Result<FrameRun<J>, NoMemory>
+    requires { length watchers.old.items < 2 }
+    ensures run { IfOk result (IsKeptOf J.meaning (arc_value job)) }
+    ensures watchers { IfOk result (λ run. watchers.old.items ≢ []
+        → AreTold X.told (all_spans run) watchers.old.items watchers.new.items) }
+    ensures count { length watchers.new.items ≡ length watchers.old.items }
+{
+    if watchers.is_empty() {
+        return run_alone(rt, alloc, job, &mut SpanCount::new());
+    }
+    run_alone(rt, alloc, job, &mut watchers[0])
+}
+
 // Runs a job by the seats of a crew. If an allocation failed for one of them, none of them is at a run again, and the run
 // is given up, also where others have closed it.
-fn run_seated<J: Job + Drop, X, E: EntersEach<J, X>, R: Threads + Wait + Sync>(
+fn run_seated<J: Job + Drop, X: Watch, E: EntersEach<J, X>, R: Threads + Wait + Sync>(
     rt: &R,
     crew: &Crew<J>,
     seats: &mut Vec<WorkerSeat<J, X>>,
@@ -106,7 +131,9 @@ fn run_seated<J: Job + Drop, X, E: EntersEach<J, X>, R: Threads + Wait + Sync>(
     ensures run { IfOk result (IsKeptOf J.meaning (arc_value job)) }
     ensures seats { OnOk result (AreSeatsOf crew.now seats.new.items) }
     ensures ready { OnOk result (All MayBegin seats.new.items) }
-    ensures watchers { map watcher_of seats.new.items ≡ map watcher_of seats.old.items }
+    ensures watchers { IfOk result (λ run. AreTold X.told (all_spans run)
+        (map watcher_of seats.old.items) (map watcher_of seats.new.items)) }
+    ensures count { length seats.new.items ≡ length seats.old.items }
 {
     let run = run_by_seats::<J, X, E, R>(rt, crew, seats, job);
     if any_refused(seats.as_slice()) {

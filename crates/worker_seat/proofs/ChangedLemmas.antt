@@ -3,7 +3,7 @@ use Rattle.std.proofs.Common.{◌≡◌, ℕ, zero, suc, ◌+◌, ◌<◌, ◌�
 use Rattle.std.proofs.lemmas.List.{set-get_or}
 use Rattle.std.specs.Prelude.{slice_set, slice_index_or, Result, Ok, Err, OnErr}
 use Rattle.worker_seat.specs.declared.seat.WorkerSeat.{WorkerSeat}
-use Rattle.worker_seat.specs.Seats.{SeatState, at_job, left_refused}
+use Rattle.worker_seat.specs.Seats.{RunBook, SeatState, at_job, left_refused}
 use Rattle.worker_seat.specs.Crews.{moved}
 use Rattle.worker_seat.specs.inside.SeatPlaces.{changed}
 
@@ -34,7 +34,7 @@ changed_set f (suc n) [] y lt is = absurd (omega arith)
 changed_set f (suc n) (x ∷ xs) y lt is = ap (λ ys. f x ∷ ys) (changed_set f n xs y (omega arith) is)
 
 -- which was as it had been
-changed_next : {X : Type 0} (f : X → X) (n : ℕ) (xs : List X) (d : X) → slice_index_or (changed f n xs) n d ≡ slice_index_or xs n d
+pub changed_next : {X : Type 0} (f : X → X) (n : ℕ) (xs : List X) (d : X) → slice_index_or (changed f n xs) n d ≡ slice_index_or xs n d
 changed_next f zero xs d = refl
 changed_next f (suc n) [] d = refl
 changed_next f (suc n) (x ∷ xs) d = changed_next f n xs d
@@ -59,7 +59,7 @@ module _ {J V X : Type 0} where
   moved_all to n xs ys e le = e ∙ changed_all (moved to) n xs le
 
   -- seats that were sent to a run leave it as those that were not
-  pub sent_refused : (job : J) (n : ℕ) (xs ys : List (WorkerSeat J X V)) (seat : WorkerSeat J X V) → ys ≡ changed (moved (at_job job)) n xs
+  pub sent_refused : (job : J) (book : RunBook) (n : ℕ) (xs ys : List (WorkerSeat J X V)) (seat : WorkerSeat J X V) → ys ≡ changed (moved (at_job job book)) n xs
       → map (moved left_refused) (slice_set ys n (slice_index_or ys n seat)) ≡ map (moved left_refused) xs
-  sent_refused job n xs ys seat e =
-      ap (map (moved left_refused)) (set-get_or ys n seat ∙ e) ∙ changed_unseen (moved (at_job job)) (moved left_refused) (λ x. refl) n xs
+  sent_refused job book n xs ys seat e =
+      ap (map (moved left_refused)) (set-get_or ys n seat ∙ e) ∙ changed_unseen (moved (at_job job book)) (moved left_refused) (λ x. refl) n xs

@@ -16,7 +16,9 @@ use Rattle.run_frame.proofs.run.FrameRun.TheLaws.TheKnot as run_knot
 use Rattle.run_frame.specs.declared.job.Job as Job
 use Rattle.run_frame.specs.declared.job.Valued as Valued
 use Rattle.run_frame.specs.contracts.run.FrameRun as frame_run
+use Rattle.span_book.proofs.Crossing as spans
 use Rattle.table_frames.proofs.Crossing as frames
+use Rattle.table_frames.specs.contracts.closed_run.ClosedRun as closed_run
 use Rattle.table_frames.specs.contracts.release.Release as release
 use Rattle.ready_deques.proofs.owner.Owner.TheSendSync as owner
 use Rattle.ready_deques.specs.contracts.owner.Owner as owner_type
@@ -44,8 +46,11 @@ module _ (T V : RattleType) (J : Job.Ghosts T.Denot V.Denot) (W : Valued.Ghosts 
   run_send : IsSend (frame_run.the_row T V)
   run_send = search (run_knot.crosses, tables) depth 60 fits 20000
 
+  closed_run_send : IsSend (closed_run.the_row T V)
+  closed_run_send = declared_send (closed_run.the_type T V) (search (run_send, tables) depth 60 fits 20000, (search (spans.tally_send, tables) depth 60 fits 20000, tt))
+
   run_slot_send : IsSend (run_slot.the_row T V J)
-  run_slot_send = search (run_send, tables) depth 60 fits 20000
+  run_slot_send = search (closed_run_send, tables) depth 60 fits 20000
 
   release_frames_send : IsSend (release_frames.the_row T V J W)
   release_frames_send = search tables depth 60 fits 20000
@@ -66,19 +71,19 @@ module _ (T V : RattleType) (J : Job.Ghosts T.Denot V.Denot) (W : Valued.Ghosts 
   begun_sync = search (release_frames_send, release_frames_sync, tables) depth 60 fits 20000
 
   crew_run_send : IsSend (crew_run.the_row T V J W)
-  crew_run_send = search (run_slot_send, number_send, tables) depth 60 fits 20000
+  crew_run_send = search (run_slot_send, spans.book_send, spans.book_sync, number_send, tables) depth 60 fits 20000
 
   crew_run_sync : IsSync (crew_run.the_row T V J W)
-  crew_run_sync = search (run_slot_send, number_sync, tables) depth 60 fits 20000
+  crew_run_sync = search (run_slot_send, spans.book_send, spans.book_sync, number_sync, tables) depth 60 fits 20000
 
   item_send : IsSend (item.the_row T V J W)
   item_send = search (number_send, release_send, tables) depth 60 fits 20000
 
   attendance_send : IsSend (attendance.the_row T V J W)
-  attendance_send = search (crew_run_send, crew_run_sync, tables) depth 60 fits 20000
+  attendance_send = search (crew_run_send, crew_run_sync, spans.teller_send, tables) depth 60 fits 20000
 
   station_fields : IsSend (station_inside.the_row T V J W)
-  station_fields = declared_send (station_inside.the_type T V J W) (as_row_send (owner_type.the_field (item.the_row T V J W) (tagged.ghosts T V J tagged.no_dict W tagged.no_dict tagged.no_dict)) (owner.the_send _ _ item_send), (search (attendance_send, tables) depth 60 fits 20000, (search (tables) depth 60 fits 20000, tt)))
+  station_fields = declared_send (station_inside.the_type T V J W) (as_row_send (owner_type.the_field (item.the_row T V J W) (tagged.ghosts T V J tagged.no_dict W tagged.no_dict tagged.no_dict)) (owner.the_send _ _ item_send), (search (attendance_send, tables) depth 60 fits 20000, (search (tables) depth 60 fits 20000, (search (tables) depth 60 fits 20000, tt))))
 
   station_send : IsSend (station.the_row T V J W)
   station_send = search (station_fields, sendable)

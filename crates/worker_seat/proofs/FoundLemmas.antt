@@ -42,17 +42,12 @@ module _ {J V X : Type 0} where
       e ∙ map_set_same (moved away) xs i record { watcher = (slice_index_or xs i d).watcher; station = station } d lt
       (ap (λ (p : SeatState J). moved away record { watcher = (slice_index_or xs i d).watcher; station = p }) went)
 
-  run_found : (meaning : Meaning J V) (xs : List (WorkerSeat J X V)) (i : ℕ) (d : WorkerSeat J X V) (run : FrameRun J V) → i < length xs
+  pub run_found : (meaning : Meaning J V) (xs : List (WorkerSeat J X V)) (i : ℕ) (d : WorkerSeat J X V) (run : FrameRun J V) → i < length xs
       → IsKept meaning run × IsClosedWith (job_of run) (slice_index_or xs i d).station → IsFoundRunOf meaning xs run
   run_found meaning xs i d run lt got = record {
     kept = got.0;
     found = (i, slice_index_or xs i d, lt, get_or_default xs i (slice_index_or xs i d) d lt, got.1);
   }
-
-  pub run_found_if : (meaning : Meaning J V) (xs : List (WorkerSeat J X V)) (i : ℕ) (d : WorkerSeat J X V) (o : Option (FrameRun J V)) → i < length xs
-      → IfSome o (λ run. IsKept meaning run × IsClosedWith (job_of run) (slice_index_or xs i d).station) → IfSome o (IsFoundRunOf meaning xs)
-  run_found_if meaning xs i d None lt got = tt
-  run_found_if meaning xs i d (Some run) lt got = run_found meaning xs i d run lt got
 
 pub some_not_none : {X : Type 0} (o : Option X) → IsSome o → IsNone o → ⊥
 some_not_none None some none = cc

@@ -2,17 +2,22 @@
 use Rattle.std.proofs.Common.{◌≡◌, ℕ, ◌<◌, List, [], ◌∷◌, ◌++◌, All, length, map, refl, ap, sym, subst, ◌∙◌, arith}
 use Rattle.std.proofs.lemmas.Grind.{common_steps}
 use Rattle.std.proofs.lemmas.List.Elements.{All-push}
-use Rattle.std.specs.Prelude.{slice_index_or}
+use Rattle.std.specs.Prelude.{slice_index_or, IfSome, Option, Some, None}
 use Rattle.std.specs.List.{remove}
 use Rattle.atomic_table.specs.Seated.{TableId}
 use Rattle.ready_deques.specs.Lists.{OwnerState, IsOwnerOf, tag_of}
 use Rattle.ready_deques.specs.declared.ready.Ready.{Ready}
 use Rattle.ready_deques.specs.declared.tagged.Tagged.{Ghosts}
+use Rattle.run_frame.specs.Meaning.{Meaning}
+use Rattle.table_frames.specs.Steps.{BeginsFrame, IsRootRun}
+use Rattle.table_frames.specs.declared.closed_run.ClosedRun.{ClosedRun}
+use Rattle.table_frames.specs.declared.step_results.Stepped.{Stepped}
+use Rattle.table_runs.specs.RunKeys.{FrameKey}
 use Rattle.worker_seat.specs.declared.crew.Crew.{Crew}
 use Rattle.worker_seat.specs.declared.seat.WorkerSeat.{WorkerSeat}
-use Rattle.worker_seat.specs.Seats.{ListName, SeatState, new_seat}
-use Rattle.worker_seat.specs.Crews.{IsSeatOf, MayBegin, crew_of, state_of}
-use Rattle.worker_seat.specs.inside.Runs.{RunView}
+use Rattle.worker_seat.specs.Seats.{ListName, RunBook, SeatState, new_seat, run_book}
+use Rattle.worker_seat.specs.Crews.{AreAtOneRun, IsSeatOf, MayBegin, crew_of, state_of}
+use Rattle.worker_seat.specs.inside.Runs.{AreOfRun, IsClosedOf, RunView}
 use Rattle.worker_seat.specs.inside.SeatPlaces.{IsRunOn, list_name, owner_list}
 
 module _ {X : Type 0} (P : X → Type 0) where
@@ -48,7 +53,7 @@ module _ {X Y : Type 0} (f : X → Y) where
   watchers_end seats [] all were none = sym (none_left (map f seats)) ∙ were
   watchers_end seats (w ∷ ws) all were none = absurd (omega arith)
 
-abbrev named : List ℕ → TableId → ListName
+abbrev pub named : List ℕ → TableId → ListName
 named begun counts = record { begun = begun; counts = counts }
 
 -- an owner of a list is of the list of its name
@@ -71,6 +76,22 @@ module _ {J V X : Type 0} where
       let one : MayBegin seat = record { free = ap (λ (s : SeatState J). s.job) state; served = ap (λ (s : SeatState J). s.refused) state } in
       subst (λ (zs : List (WorkerSeat J X V)). All MayBegin zs) (sym now) (All-push MayBegin seats seat all one)
 
+  -- and is at no run
+  pub none_more : (owner : OwnerState) (seats new : List (WorkerSeat J X V)) (seat : WorkerSeat J X V) → All (λ (s : WorkerSeat J X V). (state_of s).book ≡ None) seats
+      → new ≡ seats ++ seat ∷ [] → state_of seat ≡ new_seat (owner_list owner) → All (λ (s : WorkerSeat J X V). (state_of s).book ≡ None) new
+  none_more owner seats new seat all now state =
+      let P : WorkerSeat J X V → Type 0 = λ s. (state_of s).book ≡ None in
+      let one : P seat = ap (λ (s : SeatState J). s.book) state in
+      subst (λ (zs : List (WorkerSeat J X V)). All P zs) (sym now) (All-push P seats seat all one)
+
+  -- seats at no run are at one run at most
+  pub at_none : (count : ℕ) (book : TableId) (seats : List (WorkerSeat J X V)) → All (λ (s : WorkerSeat J X V). (state_of s).book ≡ None) seats → AreAtOneRun count seats
+  at_none count book seats all = record {
+    book = run_book book count;
+    count = refl;
+    each = λ k d lt. subst (λ (o : Option RunBook). IfSome o (λ own. own ≡ run_book book count)) (sym (all k d lt)) tt;
+  }
+
   -- a run of the crew's list is one of the list of each of its seats
   pub all_on : (crew : Crew J V) (run : RunView J) (seats lent : List (WorkerSeat J X V)) → All (IsSeatOf crew) seats → IsRunOn (crew_of crew).list run
       → lent ≡ seats → All (λ (s : WorkerSeat J X V). IsRunOn (state_of s).list run) lent
@@ -78,3 +99,27 @@ module _ {J V X : Type 0} where
       let P : WorkerSeat J X V → Type 0 = λ s. IsRunOn (state_of s).list run in
       let each : All P seats = λ k d lt. subst (λ (l : ListName). IsRunOn l run) (sym (all k d lt)) on in
       subst (λ (zs : List (WorkerSeat J X V)). All P zs) (sym same) each
+
+abbrev some_or : {Y : Type 0} → Y → Option Y → Y
+some_or y None = y
+some_or y (Some z) = z
+
+-- a run that was closed as it began, with its book
+pub closed_of : {J V : Type 0} (meaning : Meaning J V) (job began : J) (book named : TableId) (frame : FrameKey J) (closed : ClosedRun J V) → frame.job ≡ began → began ≡ job → frame.book ≡ Some named → named ≡ book
+    → IsRootRun meaning (frame ∷ []) closed → IsClosedOf meaning job book closed
+closed_of meaning job began book named frame closed of_job same in_book same_book is = record {
+  kept = is.kept;
+  of_job = ap (some_or job) (sym is.job) ∙ of_job ∙ same;
+  in_book = ap (some_or book) (sym is.book ∙ in_book) ∙ same_book;
+  account = is.account;
+}
+
+-- the first releases of one that goes on
+pub run_of : {J V : Type 0} (meaning : Meaning J V) (job began : J) (book named : TableId) (stepped : Stepped J V) → began ≡ job → named ≡ book → BeginsFrame meaning began named stepped
+    → AreOfRun job book stepped.released.items
+run_of meaning job began book named stepped same same_book begins = record {
+  frames = begins.frame ∷ [];
+  root = ap Some (begins.job_is ∙ same);
+  in_book = begins.book_is ∙ ap Some same_book;
+  each = begins.frames;
+}

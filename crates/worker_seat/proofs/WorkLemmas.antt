@@ -2,12 +2,14 @@
 use Rattle.std.proofs.Common.{◌≡◌, ◌<◌, ◌++◌, List, [], ◌∷◌, length, map, Some, None, inl, inr, refl, sym, ap, subst, ◌∙◌, arith}
 use Rattle.std.proofs.lemmas.List.Elements.{All-map}
 use Rattle.std.specs.Prelude.{◌≢◌, ◌⊎◌, Option, IfSome, Result, Ok, Err, IfOk, OnOk, slice_index_or}
+use Rattle.atomic_table.specs.Seated.{TableId}
 use Rattle.join_tables.specs.States.{FreshState}
 use Rattle.join_tables.specs.declared.fates.Fate.{Fate}
 use Rattle.run_frame.specs.Meaning.{Meaning}
 use Rattle.run_frame.specs.NestedRule.{job_of}
 use Rattle.table_frames.specs.BacklogResults.{BringsFates, BringsTo, ResumesStart, SettlesFrame}
-use Rattle.table_frames.specs.Frames.{BacklogView, ReleaseView, release_in, root_frame, root_job}
+use Rattle.span_book.specs.SpanBooks.{TellerState}
+use Rattle.table_frames.specs.Frames.{BacklogView, IsTellerOf, ReleaseView, book_at, book_of, release_in, root_frame, root_job}
 use Rattle.table_runs.specs.RunKeys.{FrameKey}
 use Rattle.table_frames.specs.Steps.{StepsRelease, StepsTo}
 use Rattle.table_frames.specs.declared.step_results.Brought.{Brought}
@@ -17,9 +19,13 @@ use Rattle.table_frames.specs.declared.step_results.Stepped.{Stepped}
 use Rattle.worker_seat.specs.declared.item.NumberedRelease.{NumberedRelease}
 use Rattle.worker_seat.specs.declared.work.FrameWork.{FrameWork}
 use Rattle.worker_seat.specs.inside.Numbers.{NumberView}
-use Rattle.worker_seat.specs.inside.Runs.{AreIn, IsItemOf, IsWithin}
+use Rattle.worker_seat.specs.inside.Runs.{AreIn, IsItemOf, IsNumberOf, IsWithin}
 use Rattle.worker_seat.proofs.SeatingLemmas.{last_is}
 use Rattle.worker_seat.specs.inside.Works.{GoesOnAt, IsAt, IsTurnedTo, IsWorkOf, LeavesWork, OpensIn}
+
+abbrev some_or : {Y : Type 0} → Y → Option Y → Y
+some_or y None = y
+some_or y (Some other) = other
 
 module _ {J : Type 0} where
   abbrev job_in : Option (FrameKey J) → Option J
@@ -30,10 +36,6 @@ module _ {J : Type 0} where
   job_of_root [] = refl
   job_of_root (frame ∷ []) = refl
   job_of_root (frame ∷ around ∷ more) = job_of_root (around ∷ more)
-
-  abbrev some_or : J → Option J → J
-  some_or job None = job
-  some_or job (Some other) = other
 
   -- a run of the outermost frame is of the job of the worker's run
   pub same_job : (run frames : List (FrameKey J)) (job closed : J) → root_job run ≡ Some job → IsWithin run frames → root_job frames ≡ Some closed → closed ≡ job
@@ -51,6 +53,25 @@ module _ {J : Type 0} where
   -- and so is one inside it
   pub within_inside : (run : List (FrameKey J)) (inner : FrameKey J) (frames : List (FrameKey J)) (frame : FrameKey J) (around : List (FrameKey J)) → frames ≡ frame ∷ around → IsWithin run frames → IsWithin run (inner ∷ frames)
   within_inside run inner frames frame around is within = ap (λ (fs : List (FrameKey J)). root_frame (inner ∷ fs)) is ∙ sym (ap root_frame is) ∙ within
+
+  -- a teller of the book of a run is of that of its frames
+  pub teller_within : (run frames : List (FrameKey J)) (teller : TellerState) → IsWithin run frames → IsTellerOf run teller → IsTellerOf frames teller
+  teller_within run frames teller within is = subst (λ (root : Option (FrameKey J)). IfSome (book_at root) (λ book. teller.book ≡ book)) (sym within) is
+
+  -- and stays so while its book is the same
+  pub same_teller : (run : List (FrameKey J)) (old new : TellerState) → IsTellerOf run old → new.book ≡ old.book → IsTellerOf run new
+  same_teller run old new is same = subst (λ (own : TableId). IfSome (book_of run) (λ book. own ≡ book)) (sym same) is
+
+  -- a run of the outermost frame has the book of the worker's run
+  pub same_book : (run frames : List (FrameKey J)) (book closed : TableId) → book_of run ≡ Some book → IsWithin run frames → book_of frames ≡ Some closed → closed ≡ book
+  same_book run frames book closed of_run within of_frames = ap (some_or book) (sym of_frames ∙ ap book_at within ∙ of_run)
+
+  -- the teller of a run's book is one of its number
+  pub new_teller : (run : List (FrameKey J)) (book : TableId) (teller : TellerState) → book_of run ≡ Some book → teller.book ≡ book → IsTellerOf run teller
+  new_teller run book teller of_run is = subst (λ (o : Option TableId). IfSome o (λ b. teller.book ≡ b)) (sym of_run) is
+
+  pub teller_of : (run : List (FrameKey J)) (book : TableId) (teller : TellerState) → book_of run ≡ Some book → IsTellerOf run teller → teller.book ≡ book
+  teller_of run book teller of_run is = subst (λ (o : Option TableId). IfSome o (λ b. teller.book ≡ b)) of_run is
 
   -- releases that a frame made are of that frame
   pub made_in : (frames : List (FrameKey J)) (made : List FreshState) → AreIn frames (map (release_in frames) made)
@@ -119,41 +140,45 @@ module _ {J V : Type 0} (number : NumberView J) where
       by (inr within) = within
 
   -- the backlog is of the frame of which it was
-  pub stays_of : (old new : FrameWork J V) → IsWorkOf number old → new.backlog.frames ≡ old.backlog.frames → new.frame ≡ old.frame → IsWorkOf number new
-  stays_of old new is frames frame = record {
+  pub stays_of : (old new : FrameWork J V) → IsWorkOf number old → new.backlog.frames ≡ old.backlog.frames → new.frame ≡ old.frame → new.teller.book ≡ old.teller.book → IsWorkOf number new
+  stays_of old new is frames frame book = record {
     within = subst (λ (fs : List (FrameKey J)). (fs ≡ []) ⊎ IsWithin number.frames fs) (sym frames) is.within;
     at = subst (IsNumbered number new.backlog.frames) (sym frame) (subst (λ (fs : List (FrameKey J)). IsNumbered number fs old.frame) (sym frames) is.at);
+    teller = same_teller number.frames old.teller new.teller is.teller book;
   }
 
   -- the backlog is of no frame now
-  pub none_of : (old new : FrameWork J V) → IsWorkOf number old → new.backlog.frames ≡ [] → new.frame ≡ old.frame → IsWorkOf number new
-  none_of old new is none frame = record {
+  pub none_of : (old new : FrameWork J V) → IsWorkOf number old → new.backlog.frames ≡ [] → new.frame ≡ old.frame → new.teller.book ≡ old.teller.book → IsWorkOf number new
+  none_of old new is none frame book = record {
     within = inl none;
     at = subst (IsNumbered number new.backlog.frames) (sym frame) (none_at number old.backlog.frames new.backlog.frames old.frame is.at none);
+    teller = same_teller number.frames old.teller new.teller is.teller book;
   }
 
   -- the backlog has what a step did in the frame to which the worker had turned
   pub steps_of : (old new : FrameWork J V) (frames : List (FrameKey J)) → IsWorkOf number old → IsTurnedTo frames old → IsWithin number.frames frames
-      → new.backlog.frames ≡ frames → new.frame ≡ old.frame → IsWorkOf number new
-  steps_of old new frames is turned within same frame = record {
+      → new.backlog.frames ≡ frames → new.frame ≡ old.frame → new.teller.book ≡ old.teller.book → IsWorkOf number new
+  steps_of old new frames is turned within same frame book = record {
     within = inr (within_same number.frames frames new.backlog.frames within same);
     at = subst (IsNumbered number new.backlog.frames) (sym frame) (same_at number old.backlog.frames new.backlog.frames frames old.frame is.at turned.at same);
+    teller = same_teller number.frames old.teller new.teller is.teller book;
   }
 
   -- no number is there
-  pub unnumbered : (new : FrameWork J V) → IsWithin number.frames new.backlog.frames → new.frame ≡ None → IsWorkOf number new
-  unnumbered new within none = record { within = inr within; at = subst (IsNumbered number new.backlog.frames) (sym none) tt }
+  pub unnumbered : (new : FrameWork J V) → IsWithin number.frames new.backlog.frames → new.frame ≡ None → IsTellerOf number.frames new.teller → IsWorkOf number new
+  unnumbered new within none teller = record { within = inr within; at = subst (IsNumbered number new.backlog.frames) (sym none) tt; teller = teller }
 
   -- this number is there, of the frame of the backlog
-  pub numbered : (new : FrameWork J V) (frames : List (FrameKey J)) (at : NumberView J) → IsAt number frames at → new.backlog.frames ≡ frames → new.frame ≡ Some at → IsWorkOf number new
-  numbered new frames at is same frame = record {
+  pub numbered : (new : FrameWork J V) (frames : List (FrameKey J)) (at : NumberView J) → IsAt number frames at → new.backlog.frames ≡ frames → new.frame ≡ Some at → IsTellerOf number.frames new.teller → IsWorkOf number new
+  numbered new frames at is same frame teller = record {
     within = inr (within_same number.frames frames new.backlog.frames is.within same);
     at = subst (IsNumbered number new.backlog.frames) (sym frame) (is.begun, inr (same ∙ sym is.frames_are));
+    teller = teller;
   }
 
   -- nothing is in the backlog, and this number is there
-  pub turned_of : (new : FrameWork J V) (at : NumberView J) → at.begun ≡ number.begun → new.backlog.frames ≡ [] → new.frame ≡ Some at → IsWorkOf number new
-  turned_of new at begun none frame = record { within = inl none; at = subst (IsNumbered number new.backlog.frames) (sym frame) (begun, inl none) }
+  pub turned_of : (new : FrameWork J V) (at : NumberView J) → at.begun ≡ number.begun → new.backlog.frames ≡ [] → new.frame ≡ Some at → IsTellerOf number.frames new.teller → IsWorkOf number new
+  turned_of new at begun none frame teller = record { within = inl none; at = subst (IsNumbered number new.backlog.frames) (sym frame) (begun, inl none); teller = teller }
 
   -- a release of the frame of a number, with it, is an item of the run
   pub item_of : (release : ReleaseView J) (at : NumberView J) → IsAt number at.frames at → release.frames ≡ at.frames → IsItemOf {V = V} number record { release = release; frame = at }
@@ -167,15 +192,9 @@ module _ {J V : Type 0} (number : NumberView J) where
   released_of_item item released is are = subst (λ (fs : List (FrameKey J)). AreIn fs released) (sym is.frame) are
 
   -- a step of the frame to which the worker had turned
-  pub after_step : {E : Type 0} (meaning : Meaning J V) (release : ReleaseView J) (old new : FrameWork J V) (o : Result (Stepped J V) E) → IsWorkOf number old → IsTurnedTo release.frames old
-      → IsWithin number.frames release.frames → new.frame ≡ old.frame → IfOk o (StepsRelease meaning release old.backlog new.backlog) → OnOk o (IsWorkOf number new)
-  after_step meaning release old new (Ok stepped) is turned within frame steps = steps_of old new release.frames is turned within steps.backlog frame
-  after_step meaning release old new (Err e) is turned within frame steps = tt
-
-  pub made_by_step : {E : Type 0} (meaning : Meaning J V) (release : ReleaseView J) (old new : BacklogView J V) (o : Result (Stepped J V) E) → IfOk o (StepsRelease meaning release old new)
-      → IfOk o (λ stepped. AreIn release.frames stepped.released.items)
-  made_by_step meaning release old new (Ok stepped) steps = steps.frames
-  made_by_step meaning release old new (Err e) steps = tt
+  pub after_step : (meaning : Meaning J V) (release : ReleaseView J) (old new : FrameWork J V) (stepped : Stepped J V) → IsWorkOf number old → IsTurnedTo release.frames old
+      → IsWithin number.frames release.frames → new.frame ≡ old.frame → new.teller.book ≡ old.teller.book → StepsRelease meaning release old.backlog new.backlog stepped → IsWorkOf number new
+  after_step meaning release old new stepped is turned within frame book steps = steps_of old new release.frames is turned within steps.backlog frame book
 
   opens_in : (meaning : Meaning J V) (release : ReleaseView J) (old new : BacklogView J V) (frame : FrameKey J) (around : List (FrameKey J)) (made : List FreshState) (state : State J V)
       → release.frames ≡ frame ∷ around → IsWithin number.frames release.frames → StepsTo meaning frame release old new made state → OpensIn number state
@@ -193,10 +212,9 @@ module _ {J V : Type 0} (number : NumberView J) where
   opens_in meaning release old new frame around made (Resumed released) are within to = tt
   opens_in meaning release old new frame around made (Closed run) are within to = tt
 
-  pub opened_by_step : {E : Type 0} (meaning : Meaning J V) (release : ReleaseView J) (old new : BacklogView J V) (o : Result (Stepped J V) E) → IsWithin number.frames release.frames
-      → IfOk o (StepsRelease meaning release old new) → IfOk o (λ stepped. OpensIn number stepped.state)
-  opened_by_step meaning release old new (Ok stepped) within steps = opens_in meaning release old new steps.frame steps.around steps.made stepped.state steps.frames_are within steps.to
-  opened_by_step meaning release old new (Err e) within steps = tt
+  pub opened_by_step : (meaning : Meaning J V) (release : ReleaseView J) (old new : BacklogView J V) (stepped : Stepped J V) → IsWithin number.frames release.frames
+      → StepsRelease meaning release old new stepped → OpensIn number stepped.state
+  opened_by_step meaning release old new stepped within steps = opens_in meaning release old new steps.frame steps.around steps.made stepped.state steps.frames_are within steps.to
 
   abbrev frames_of : BacklogView J V → List (FrameKey J)
   frames_of backlog = backlog.frames
@@ -211,35 +229,45 @@ module _ {J V : Type 0} (number : NumberView J) where
         subst (AreIn new.frames) (sym resumes.released_are) (subst (λ (fs : List (FrameKey J)). AreIn fs (map (release_in resumes.release.frames) resumes.made)) (sym here) (made_in resumes.release.frames resumes.made)),
       )
 
-  brought_to : (meaning : Meaning J V) (job : J) (old new : FrameWork J V) (fates : List (Fate V)) (state : State J V) → root_job number.frames ≡ Some job → IsWorkOf number old → old.backlog.frames ≢ []
-      → new.frame ≡ old.frame → BringsTo meaning old.backlog.frames fates new.backlog state → LeavesWork meaning job number new state
-  brought_to meaning job old new fates Went of_job is some frame to =
+  brought_to : (meaning : Meaning J V) (job : J) (book : TableId) (old new : FrameWork J V) (fates : List (Fate V)) (state : State J V) → IsNumberOf job book number → IsWorkOf number old
+      → old.backlog.frames ≢ [] → new.frame ≡ old.frame → new.teller.book ≡ old.teller.book → BringsTo meaning old.backlog.frames fates new.backlog state → LeavesWork meaning job book number new state
+  brought_to meaning job book old new fates Went of_run is some frame teller to =
       let same : new.backlog.frames ≡ old.backlog.frames = ap frames_of to in
-      (stays_of old new is same frame, ap (λ (b : BacklogView J V). b.fates) to, λ none. some (sym same ∙ none))
-  brought_to meaning job old new fates (Parked turn) of_job is some frame to = absurd to
-  brought_to meaning job old new fates (Inner first) of_job is some frame to = absurd to
-  brought_to meaning job old new fates (Resumed released) of_job is some frame to =
-      goes_on meaning old.backlog.frames fates released.items new.backlog (one_run old is some) to
-  brought_to meaning job old new fates (Closed run) of_job is some frame to =
+      (stays_of old new is same frame teller, ap (λ (b : BacklogView J V). b.fates) to, λ none. some (sym same ∙ none))
+  brought_to meaning job book old new fates (Parked turn) of_run is some frame teller to = absurd to
+  brought_to meaning job book old new fates (Inner first) of_run is some frame teller to = absurd to
+  brought_to meaning job book old new fates (Resumed released) of_run is some frame teller to =
+      let on = goes_on meaning old.backlog.frames fates released.items new.backlog (one_run old is some) to in
+      (on.0, on.1, same_teller number.frames old.teller new.teller is.teller teller)
+  brought_to meaning job book old new fates (Closed closed) of_run is some frame teller to =
       let closes = to.0 in
-      let root : root_job old.backlog.frames ≡ Some (job_of run) = ap root_job closes.frames_are ∙ ap Some (sym closes.job) in
-      (closes.kept, same_job number.frames old.backlog.frames job (job_of run) of_job (one_run old is some) root, stays_of old new is (ap frames_of to.1) frame)
+      let within = one_run old is some in
+      let root : root_job old.backlog.frames ≡ Some (job_of closed.run) = ap root_job closes.frames_are ∙ ap Some (sym closes.job) in
+      let named : book_of old.backlog.frames ≡ Some closed.spans.book = ap book_of closes.frames_are ∙ closes.book in (
+        record {
+          kept = closes.kept;
+          of_job = same_job number.frames old.backlog.frames job (job_of closed.run) of_run.of_job within root;
+          in_book = same_book number.frames old.backlog.frames book closed.spans.book of_run.in_book within named;
+          account = closes.account;
+        },
+        stays_of old new is (ap frames_of to.1) frame teller,
+      )
 
   -- what a bringing leaves
-  pub leaves_work : (meaning : Meaning J V) (job : J) (old new : FrameWork J V) (brought : Brought J V) → root_job number.frames ≡ Some job → IsWorkOf number old → old.backlog.frames ≢ []
-      → new.frame ≡ old.frame → BringsFates meaning old.backlog.frames old.backlog.fates new.backlog brought → LeavesWork meaning job number new brought.state
-  leaves_work meaning job old new brought of_job is some frame brings = brought_to meaning job old new old.backlog.fates brought.state of_job is some frame brings.to
+  pub leaves_work : (meaning : Meaning J V) (job : J) (book : TableId) (old new : FrameWork J V) (brought : Brought J V) → IsNumberOf job book number → IsWorkOf number old → old.backlog.frames ≢ []
+      → new.frame ≡ old.frame → new.teller.book ≡ old.teller.book → BringsFates meaning old.backlog.frames old.backlog.fates new.backlog brought → LeavesWork meaning job book number new brought.state
+  leaves_work meaning job book old new brought of_run is some frame teller brings = brought_to meaning job book old new old.backlog.fates brought.state of_run is some frame teller brings.to
 
-  settled : (old new : FrameWork J V) (goes : Option (ReleaseView J)) → IsWorkOf number old → new.frame ≡ old.frame → SettlesFrame old.backlog.frames new.backlog goes → IsWorkOf number new
-  settled old new (Some release) is frame (same, none) = none_of old new is (ap frames_of none) frame
-  settled old new None is frame (inl none) = none_of old new is (ap frames_of none) frame
-  settled old new None is frame (inr drops) = stays_of old new is (ap frames_of drops.backlog) frame
+  settled : (old new : FrameWork J V) (goes : Option (ReleaseView J)) → IsWorkOf number old → new.frame ≡ old.frame → new.teller.book ≡ old.teller.book → SettlesFrame old.backlog.frames new.backlog goes → IsWorkOf number new
+  settled old new (Some release) is frame book (same, none) = none_of old new is (ap frames_of none) frame book
+  settled old new None is frame book (inl none) = none_of old new is (ap frames_of none) frame book
+  settled old new None is frame book (inr drops) = stays_of old new is (ap frames_of drops.backlog) frame book
 
   -- what a settling leaves
-  pub after_settling : {E : Type 0} (old new : FrameWork J V) (o : Result (Option (ReleaseView J)) E) → IsWorkOf number old → new.frame ≡ old.frame
+  pub after_settling : {E : Type 0} (old new : FrameWork J V) (o : Result (Option (ReleaseView J)) E) → IsWorkOf number old → new.frame ≡ old.frame → new.teller.book ≡ old.teller.book
       → IfOk o (SettlesFrame old.backlog.frames new.backlog) → OnOk o (IsWorkOf number new)
-  after_settling old new (Ok goes) is frame settles = settled old new goes is frame settles
-  after_settling old new (Err e) is frame settles = tt
+  after_settling old new (Ok goes) is frame book settles = settled old new goes is frame book settles
+  after_settling old new (Err e) is frame book settles = tt
 
   goes_at : (old new : FrameWork J V) (goes : Option (ReleaseView J)) → IsWorkOf number old → old.backlog.frames ≢ [] → new.frame ≡ old.frame → SettlesFrame old.backlog.frames new.backlog goes
       → IfSome goes (GoesOnAt number new)

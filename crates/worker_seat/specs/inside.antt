@@ -3,3 +3,5 @@ pub mod Numbers
 pub mod Runs
 pub mod SeatPlaces
 pub mod Works
+pub mod Attendances
+pub mod NewRuns

@@ -35,14 +35,24 @@
 //! puts it back.
 //!
 //! If an allocation fails in one seat, a release may be lost, and the run is never closed. That seat closes the list,
-//! and all seats answer `NoMemory`, since none finds the run. Such a crew takes no further run.
+//! and all seats answer `NoMemory`, since none finds the run. Such a crew takes no further run. If the run is closed all
+//! the same, only the seat in which the allocation failed answers so.
+//!
+//! # The spans that watchers are told
+//!
+//! A worker tells its seat's watcher each span as soon as it has ended: after the step that ended it, or after the
+//! bringing by which a run inside a frame is over. A run has a book of its spans (`span_book`), and each seat at it has
+//! one of the book's tellers. As a worker brings what it has gathered its teller counts the spans of it. So the watcher
+//! was told the spans that the teller counted and those of what is gathered and not brought yet, and in the end nothing
+//! is left to be brought. The closed run comes with the book's tally. `finish` collects the tellers of the seats that
+//! have found the run closed, and where these are all, they counted as many spans as the run has.
 //!
 //! # What the layer above may know
 //!
 //! A seat is its watcher and a `SeatState`, a crew a `CrewState` (`specs/Seats.antt`, `specs/Crews.antt`). Each call
-//! says what becomes of the state of each seat, and `finish` that the run may be kept and that a seat was at it. The
-//! seats keep their watchers and don't tell them anything yet. It is not proved that a run is ever closed, or that
-//! workers wake or work side by side.
+//! says what becomes of the state of each seat, `enter` how many spans its watcher was told, and `finish` that the run
+//! may be kept, that a seat was at it, and that the seats' spans are all of it. It is not proved that a run is ever
+//! closed, or that workers wake or work side by side.
 #![tactic(auto)]
 
 mod attendance;
@@ -60,5 +70,5 @@ mod steps;
 mod work;
 
 pub use crew::{Crew, CrewParts};
-pub use crew_runner::{CrewRan, EntersEach, run_by_crew, run_by_seats, watchers_of};
+pub use crew_runner::{EntersEach, run_by_seats, watchers_of};
 pub use seat::WorkerSeat;

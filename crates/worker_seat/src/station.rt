@@ -1,21 +1,22 @@
 // Where a worker is, and what it takes its work from.
 ghost use Rattle.std.specs.Prelude.{◌≡◌, ◌↔◌, true, false, IsTrue, IfSome, IsSome, OnOk, OnErr};
 ghost use Rattle.std.specs.Arc.{arc_value};
-ghost use Rattle.run_frame.specs.Legal.{IsKept};
-ghost use Rattle.run_frame.specs.NestedRule.{job_of};
+ghost use Rattle.span_book.specs.SpanBooks.{teller_state};
 ghost use Rattle.worker_seat.specs.inside.SeatPlaces.{owner_list, IsRunOn};
 
-use crate::attendance::Attendance;
+use crate::attendance::{Attendance, FetchedRun};
 use crate::crew_run::CrewRun;
 use crate::item::CrewItem;
 use crate::list::RunsList;
-use crate::steps::Shift;
 use outside_io::NoMemory;
 use ready_deques::Owner;
-use run_frame::{FrameRun, Job};
+use run_frame::Job;
+use span_book::{Tally, Teller};
+use span_profile::Watch;
 use std::alloc::Global;
 use std::marker::Model;
 use std::mem;
+use std::snapshot::Snapshot;
 use std::sync::{Arc, Wait};
 
 /// A seat without its watcher.
@@ -24,6 +25,8 @@ pub struct Station<J: Job + Drop> {
     owner: Owner<CrewItem<J>>,
     attendance: Attendance<J>,
     refused: bool,
+    // The teller with which it last found a run closed, since it last went to one.
+    told: Option<Snapshot<Teller>>,
 }
 
 impl<J: Job + Drop> Model for Station<J> {
@@ -32,22 +35,27 @@ impl<J: Job + Drop> Model for Station<J> {
 
     ghost Value = { SeatState J };
 
-    ghost use Rattle.worker_seat.specs.inside.SeatPlaces.{job_at, has_found, owner_list, FitsRun, IsAtRunOn};
+    ghost use Rattle.worker_seat.specs.inside.SeatPlaces.{book_at, job_at, has_found, owner_list, told_by, FitsRun, HasTold, IsAtRunOn};
 
     ghost view = { λ station. record {
       list = owner_list station.owner;
       job = job_at station.attendance;
+      book = book_at station.attendance;
       closed = has_found
           station.attendance;
       refused = station.refused;
+      told = told_by station.told;
     } };
 
     ghost invariant = { λ station. FitsRun station.attendance
-        × IsAtRunOn (owner_list station.owner) station.attendance };
+        × IsAtRunOn (owner_list station.owner) station.attendance
+        × HasTold (told_by station.told) station.attendance };
 }
 
 impl<J: Job + Drop> Station<J> {
-    ghost use Rattle.worker_seat.specs.Seats.{IsBusy, IsClosedWith, at_job, found_closed, away, refused_seat, left_refused, new_seat};
+    ghost use Rattle.worker_seat.specs.Seats.{IsBusy, at_job, away, refused_seat, left_refused, new_seat};
+    ghost use Rattle.worker_seat.specs.Crews.{HasWorked};
+    ghost use Rattle.worker_seat.specs.inside.Attendances.{IsFetchedFrom, collected};
 
     /// At no run.
     pub fn new(owner: Owner<CrewItem<J>>) -> Station<J>
@@ -57,6 +65,7 @@ impl<J: Job + Drop> Station<J> {
             owner,
             attendance: Attendance::Away,
             refused: false,
+            told: None,
         }
     }
 
@@ -81,19 +90,24 @@ impl<J: Job + Drop> Station<J> {
         self.refused
     }
 
-    /// Goes to a run of its list.
-    pub fn attend(&mut self, run: Arc<CrewRun<J>>)
-        requires { IsRunOn self.old.list (arc_value run) }
-        ensures { self.new ≡ at_job (arc_value run).job self.old }
+    /// Goes to a run of its list, with a new teller.
+    pub fn attend(&mut self, run: Arc<CrewRun<J>>, teller: Teller)
+        requires run { IsRunOn self.old.list (arc_value run) }
+        requires teller { teller ≡ teller_state (arc_value run).book.name 0 }
+        ensures { self.new ≡ at_job (arc_value run).job (arc_value run).book self.old }
     {
-        self.attendance = Attendance::At(run);
+        self.attendance = Attendance::At(run, teller);
+        self.told = None;
     }
 
-    /// Leaves its run.
-    pub fn leave(&mut self)
-        ensures { self.new ≡ away self.old }
+    /// Leaves its run, whose tally collects its teller if it has found the run closed.
+    pub fn leave(&mut self, run: &CrewRun<J>, spans: &mut Tally)
+        requires book { IfSome self.old.book (λ own. own ≡ run.now.book) }
+        requires spans { spans.old.book ≡ run.now.book.name }
+        ensures seat { self.new ≡ away self.old }
+        ensures spans { spans.new ≡ collected self.old.closed self.old.told spans.old }
     {
-        self.attendance = Attendance::Away;
+        mem::replace(&mut self.attendance, Attendance::Away).leave(run, spans);
     }
 
     /// Leaves its run, since an allocation failed.
@@ -102,47 +116,41 @@ impl<J: Job + Drop> Station<J> {
     {
         self.attendance = Attendance::Away;
         self.refused = true;
+        self.told = None;
     }
 
-    /// Works until its list is closed.
-    pub fn work<R: Wait>(
+    /// Works until its list is closed, and looks then whether its run is closed. The watcher is told each span that a
+    /// step here ends. It answers `Err` if the run isn't closed, or if an allocation failed here.
+    pub fn enter<X: Watch, R: Wait>(
         &mut self,
         rt: &R,
         alloc: Global,
         list: &RunsList<J>,
+        watcher: &mut X,
     ) -> Result<(), NoMemory>
         requires { self.old.list ≡ list.now.list }
-        ensures { self.new ≡ self.old }
-    {
-        let Some(run) = self.attendance.open_run() else {
-            return Ok(());
-        };
-        match run.number() {
-            Some(number) => Shift { list, run, number }.work(rt, alloc, &mut self.owner),
-            None => Ok(()), // it was closed as it began
-        }
-    }
-
-    /// Looks whether its run is closed. It answers `Err` if it isn't.
-    pub fn conclude<R: Wait>(&mut self, rt: &R) -> Result<(), NoMemory>
-        ensures ok { OnOk result (self.new ≡ found_closed self.old) }
+        ensures ok { OnOk result (HasWorked X.told self.old watcher.old self.new watcher.new) }
         ensures err { OnErr result (self.new ≡ refused_seat self.old) }
     {
         let attendance = mem::replace(&mut self.attendance, Attendance::Away);
-        self.attendance = attendance.look(rt);
-        if self.attendance.has_found() {
-            return Ok(());
+        self.attendance = attendance.enter(rt, alloc, list, &mut self.owner, watcher);
+        match self.attendance.found_teller() {
+            Some(teller) => {
+                self.told = Some(Snapshot::of(teller));
+                Ok(())
+            }
+            None => {
+                self.refused = true;
+                Err(NoMemory)
+            }
         }
-        self.refused = true;
-        Err(NoMemory)
     }
 
-    /// Leaves its run, and takes it along if it has found it closed.
-    pub fn fetch<R: Wait>(&mut self, rt: &R) -> Option<FrameRun<J>>
+    /// Leaves its run, and takes it along if it has found it closed. Its tally has collected the teller then.
+    pub fn fetch<R: Wait>(&mut self, rt: &R) -> Option<FetchedRun<J>>
         ensures seat { self.new ≡ away self.old }
         ensures found { self.old.closed ≡ true → IsSome result }
-        ensures run { IfSome result
-            (λ run. IsKept J.meaning run × IsClosedWith (job_of run) self.old) }
+        ensures run { IfSome result (IsFetchedFrom J.meaning self.old) }
     {
         mem::replace(&mut self.attendance, Attendance::Away).fetch(rt)
     }

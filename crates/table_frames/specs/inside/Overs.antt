@@ -4,6 +4,7 @@ use Rattle.std.specs.Arc.{arc_value}
 use Rattle.std.specs.Option.{option_map}
 use Rattle.join_tables.specs.States.{FreshState}
 use Rattle.join_tables.specs.declared.fates.Fate.{Fate}
+use Rattle.nested_runs.specs.Totals.{all_spans}
 use Rattle.run_frame.specs.Legal.{IsKept}
 use Rattle.run_frame.specs.Meaning.{Meaning}
 use Rattle.run_frame.specs.NestedRule.{job_of}
@@ -14,16 +15,18 @@ use Rattle.table_runs.specs.JournalFacts.{HasEntries}
 use Rattle.table_runs.specs.StepReleases.{GivesEdges, given_by}
 use Rattle.table_frames.specs.Steps.{UsesRelease}
 use Rattle.table_runs.specs.OpenStarts.{IsStartOf}
+use Rattle.table_frames.specs.inside.FrameBatches.{HasBack}
 use Rattle.table_frames.specs.declared.over.InnerOver.{InnerOver}
 use Rattle.table_frames.specs.declared.over.Kept.{Kept}
 use Rattle.table_frames.specs.declared.over.Over.{Over}
 use Rattle.table_frames.specs.declared.over.Over.TheVariants.{No, Alone, Inside}
 
--- A run that may be kept was inside the frame around, in place of the work of a start there.
+-- A run that may be kept was inside the frame around, in place of the work of a start there, with this account of its spans.
 pub record IsInnerOver {J V : Type 0} (meaning : Meaning J V) (inner : InnerOver J V) : Type 0 where
   pub frame : AtFrame (arc_value inner.parent) (λ key. inner.start.frame ≡ key)
   pub start : IsStartOf meaning (job_of inner.run) inner.start
   pub kept : IsKept meaning inner.run
+  pub back : HasBack (arc_value inner.parent) (all_spans inner.run) (Some inner.spans)
 
 -- It is the run of the first of these frames, and has the entries of these fates.
 pub record IsInnerRunOf {J V : Type 0} (meaning : Meaning J V) (frames : List (FrameKey J)) (fates : List (Fate V)) (inner : InnerOver J V) : Type 0 where
@@ -36,12 +39,12 @@ pub record IsInnerRunOf {J V : Type 0} (meaning : Meaning J V) (frames : List (F
 -- what is given out of the first of these frames
 abbrev pub IsOverOf : {J V : Type 0} → Meaning J V → List (FrameKey J) → List (Fate V) → Over J V → Type 0
 IsOverOf meaning frames fates No = Unit {0}
-IsOverOf meaning frames fates (Alone run) = ClosesRun meaning frames fates run
+IsOverOf meaning frames fates (Alone closed) = ClosesRun meaning frames fates closed
 IsOverOf meaning frames fates (Inside inner) = IsInnerRunOf meaning frames fates inner
 
 abbrev pub IsEnd : {J V : Type 0} → Over J V → Type 0
 IsEnd No = ⊥
-IsEnd (Alone run) = Unit {0}
+IsEnd (Alone closed) = Unit {0}
 IsEnd (Inside inner) = Unit {0}
 
 -- A frame's keeper took in these fates, unless there were none, and its run is over or goes on.
@@ -52,7 +55,7 @@ pub record KeepsFates {J V : Type 0} (meaning : Meaning J V) (frames : List (Fra
 -- the frames of the batch then
 abbrev pub frames_after : {J V : Type 0} → List (FrameKey J) → Over J V → List (FrameKey J)
 frames_after frames No = frames
-frames_after frames (Alone run) = frames
+frames_after frames (Alone closed) = frames
 frames_after frames (Inside inner) = []
 
 -- Its start is used up in the frame around by one fate, which the job there allows with the run. That alone is in the backlog

@@ -11,7 +11,8 @@ loop-preserved g c = record {
       (c.is_over.ensures.goes_on c.if-is_over.false) c.in_ok-job.ensures.follows c.in_ok-run.ensures.run;
   count = grind (arith, common_steps);
   ready = c.in_ok-run.ensures.ready;
-  watchers = grind (arith, common_steps);
+  watchers = ?;
+  same = ?;
   recurs = recurs_next g.J.Recurs.may_recur c.loop.runs.items _ _ c.in_ok-run.run' (arc_value c.in_ok-job.job) c.reserve.ensures.items c.push_reserved.ensures.items
       c.loop.invariant.recurs c.in_ok-run.ensures.run.same c.in_ok-job.ensures.recurs;
 }

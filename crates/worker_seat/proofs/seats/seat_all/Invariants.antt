@@ -1,4 +1,4 @@
-use Rattle.std.proofs.Common.{◌≡◌, ◌+◌, ◌++◌, All, length, map, vec_capacity}
+use Rattle.std.proofs.Common.{◌≡◌, ◌+◌, ◌++◌, All, None, length, map, vec_capacity}
 use Rattle.ready_deques.specs.Lists.{IsOwnerOf}
 use Rattle.worker_seat.specs.Crews.{MayBegin, state_of, watcher_of}
 use Rattle.worker_seat.specs.inside.SeatPlaces.{list_name}
@@ -12,6 +12,7 @@ invariant-loop-owner g l = record {
   count : length l.owners.items ≡ length l.watchers.items;
   list : All (λ seat. (state_of seat).list ≡ list_name l.ready) l.seats.items;
   ready : All MayBegin l.seats.items;
+  away : All (λ seat. (state_of seat).book ≡ None) l.seats.items;
 }
 
 abbrev pub decreases-loop-owner : goal.decreases-loop-owner

@@ -1,6 +1,9 @@
 use Rattle.std.proofs.Common.{◌≡◌, ◌+◌, ◌≤◌, [], ◌∷◌, ◌++◌, length, vec_capacity, vec_len, refl, sym, ap, ◌∙◌, subst, arith}
 use Rattle.task_graph.specs.Net.{AreSemaphoresOf}
-use Rattle.std.specs.Prelude.{All}
+use Rattle.std.specs.Prelude.{All, Option}
+use Rattle.run_frame.specs.declared.run.FrameRun.{FrameRun}
+use Rattle.table_runs.specs.Spans.{spans_made}
+use Rattle.table_frames.specs.inside.FrameBatches.{HasBack}
 use Rattle.std.proofs.lemmas.List.Elements.{All-nil}
 use Rattle.join_tables.specs.States.{FreshState}
 use Rattle.table_runs.specs.AllowedFates.{IsAllowed}
@@ -72,3 +75,11 @@ returns-clause-concludes g c =
       wakes = subst (λ sems. Wakes (table_in g.J.Job.meaning frame) sems c.conclude-turn.new.made.items c.wake.new.made.items) c.units_back-back.ensures.back (subst (λ fs. AtFrame fs (λ key. Wakes (table_in g.J.Job.meaning key) c.units_back-back.result.now c.conclude-turn.new.made.items c.wake.new.made.items)) (sym c.self.view_is) c.wake.ensures.wakes);
       backlog = c.add.ensures ∙ ap (λ fs. backlog_view fs (c.args.batch.now.backlog.fates ++ fate ∷ [])) c.requires.frames;
     }
+
+pub add-requires-clause-returned : goal.add-requires-clause-returned
+add-requires-clause-returned g c κs within =
+    subst (λ fs. HasBack fs (spans_made c.conclude-turn.result.inner) c.args.returned) (sym c.requires.frames)
+    (subst (λ (r : Option (FrameRun g.row.J.Denot g.row.J-V.Denot)). HasBack c.args.self.now (spans_made r) c.args.returned) (sym c.conclude-turn.ensures.inner) c.requires.returned)
+
+pub add-requires-clause-one : goal.add-requires-clause-one
+add-requires-clause-one g c κs within = c.requires.one

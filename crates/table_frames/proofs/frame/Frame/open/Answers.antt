@@ -15,6 +15,9 @@ first_inside-requires-clause-start g c κs within = (begins_at g.J.Job.meaning (
 pub first_inside-requires-clause-frame : goal.first_inside-requires-clause-frame
 first_inside-requires-clause-frame g c κs within = (begins_at g.J.Job.meaning (arc_value c.args.frame) c.args.inner c.requires).frame
 
+pub first_inside-requires-clause-book : goal.first_inside-requires-clause-book
+first_inside-requires-clause-book g c κs within = (begins_at g.J.Job.meaning (arc_value c.args.frame) c.args.inner c.requires).book
+
 pub first_inside-requires-clause-begins : goal.first_inside-requires-clause-begins
 first_inside-requires-clause-begins g c κs within = (begins_at g.J.Job.meaning (arc_value c.args.frame) c.args.inner c.requires).begins
 

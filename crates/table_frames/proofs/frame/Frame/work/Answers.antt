@@ -5,7 +5,7 @@ use Rattle.semaphore_turns.specs.WaitingTurns.{release_of}
 use Rattle.table_frames.specs.Frames.{BacklogView, backlog_view}
 use Rattle.table_frames.specs.declared.step_results.State.TheVariants.{Went}
 use Rattle.table_frames.proofs.Concluding.{has_table, opens_release, steps_release}
-use Rattle.table_frames.proofs.Opening.{opened_at, tries_done, tries_inner}
+use Rattle.table_frames.proofs.Opening.{none_made, opened_at, tries_done, tries_inner}
 use Rattle.table_frames.proofs.frame.Frame.work.Goals as goal
 
 pub hand_on-requires-clause-attempt : goal.hand_on-requires-clause-attempt
@@ -13,6 +13,12 @@ hand_on-requires-clause-attempt g c κs within =
     let frames = arc_value c.args.frame in
     let here : c.deref.result.now ≡ frames = search rules in
     (tries_done g.J.Job.meaning frames c.deref.result.now (release_of c.args.taken.turn) c.in_ok-attempt.field-0 c.in-Done.attempt here c.in-Done.is c.in_ok-attempt.ensures).0
+
+pub hand_on-requires-clause-returned : goal.hand_on-requires-clause-returned
+hand_on-requires-clause-returned g c κs within =
+    let frames = arc_value c.args.frame in
+    let here : c.deref.result.now ≡ frames = search rules in
+    none_made g.J.Job.meaning frames c.in-Done.attempt.inner (tries_done g.J.Job.meaning frames c.deref.result.now (release_of c.args.taken.turn) c.in_ok-attempt.field-0 c.in-Done.attempt here c.in-Done.is c.in_ok-attempt.ensures).2
 
 pub open-requires-after_bounds : goal.open-requires-after_bounds
 open-requires-after_bounds g c κs within =

@@ -1,5 +1,9 @@
-use Rattle.std.proofs.Common.{◌≡◌, List, Some, sym, ap, subst}
-use Rattle.std.specs.Prelude.{slice_get}
+use Rattle.std.proofs.Common.{◌≡◌, ◌+◌, List, Some, arith, sym, ap, subst}
+use Rattle.std.specs.Prelude.{count_by, map, slice_get, sum}
+use Rattle.std.proofs.lemmas.List.Sorted.{IsPermutation-map, sum_by-IsPermutation}
+use Rattle.nested_runs.specs.Totals.{all_spans, is_span, spans_of_row}
+use Rattle.table_runs.specs.Spans.{spans_in, spans_kept}
+use Rattle.table_runs.proofs.Counting.{spans_merged}
 use Rattle.std.specs.List.{AllByRecursion}
 use Rattle.std.specs.Arc.{arc_value}
 use Rattle.journal_rules.specs.declared.entry.Entry.{Entry}
@@ -34,3 +38,18 @@ returns-clause-entries g c =
     let fates = c.self.inside.keeper.fates in
     let told : HasEntries (roll-FrameRun J V layer) fates = subst (λ (journal : List Entry). AllByRecursion (λ (r : Recorded). slice_get journal r.place ≡ Some r.entry) (entries_told fates)) (sym (ap (λ r. r.journal) (out-roll-FrameRun J V layer))) c.in_ok-journal.ensures.merges.stand in
     subst (λ (v : RunKeeperView J V). HasEntries (roll-FrameRun J V layer) v.keeper.fates) c.self.view_is told
+
+pub returns-clause-spans : goal.returns-clause-spans
+returns-clause-spans g c =
+    let J = g.row.J.Denot in
+    let V = g.row.J-V.Denot in
+    let layer : FrameRun-F J V (FrameRun J V) (InnerRow J V) = record { job = c.self.inside.job; journal = c.in_ok-journal.field-0.journal; values = c.in_ok-values.values; inner = c.sort_rows.new.rows } in
+    let fates = c.self.inside.keeper.fates in
+    let told = c.self.inside.inner.items in
+    let sorted = c.sort_rows.new.rows.items in
+    let all : all_spans (roll-FrameRun J V layer) ≡ count_by is_span layer.journal + sum (map spans_of_row sorted) =
+    ap (λ (r : FrameRun-F J V (FrameRun J V) (InnerRow J V)). count_by is_span r.journal + sum (map spans_of_row r.inner.items)) (out-roll-FrameRun J V layer) in
+    let own : count_by is_span layer.journal ≡ spans_in fates = spans_merged fates layer.journal c.in_ok-journal.ensures.merges in
+    let rows : sum (map spans_of_row sorted) ≡ sum (map spans_of_row told) = sum_by-IsPermutation (λ x. x) (map spans_of_row told) (map spans_of_row sorted) (IsPermutation-map spans_of_row told sorted c.in_ok-sort_rows.ensures.same) in
+    let whole : all_spans (roll-FrameRun J V layer) ≡ spans_in fates + sum (map spans_of_row told) = omega arith in
+    subst (λ (v : RunKeeperView J V). all_spans (roll-FrameRun J V layer) ≡ spans_kept v) c.self.view_is whole

@@ -24,7 +24,7 @@ returns-then-is_empty g c =
         again = subst (λ (f : FreshState). IsAgain n f.task f.cause c.args.again) (sym release) c.requires.again;
       },
       release,
-      subst (IsOverAtOnce g.J.Job.meaning) (sym over.inner) (over_at_once g.J.Job.meaning _ begun _ c.in_ok-begun.ensures none c.in_ok-finish.ensures.job),
+      subst (IsOverAtOnce g.J.Job.meaning) (sym over.inner) (over_at_once g.J.Job.meaning _ begun _ c.in_ok-begun.ensures.begins none c.in_ok-finish.ensures.job c.in_ok-finish.ensures.spans),
     )
   where
     none_if : {X : Type 0} (xs : List X) (n : ℕ) (b : Bool) → b ≡ true → b ≡ (n == 0) → length xs ≡ n → xs ≡ []

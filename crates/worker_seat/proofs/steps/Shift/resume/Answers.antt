@@ -24,4 +24,4 @@ returns-clause-work g c =
     let frames = c.args.work.now.backlog.frames in
     let here = first_in frames c.args.released.items c.index.result.now c.requires.released c.index.ensures (grind (arith, common_steps)) in
     let at = number_in c.args.self.now.number.now frames c.index.result.now c.in_ok-number.number c.in_ok-number.ensures here in
-    numbered c.args.self.now.number.now _ frames c.in_ok-number.number at refl refl
+    numbered c.args.self.now.number.now _ frames c.in_ok-number.number at refl refl c.requires.teller

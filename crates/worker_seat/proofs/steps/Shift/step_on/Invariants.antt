@@ -1,7 +1,12 @@
 use Rattle.worker_seat.specs.inside.Runs.{IsItemOf}
 use Rattle.worker_seat.specs.inside.SeatPlaces.{IsSameOwner}
-use Rattle.worker_seat.specs.inside.Works.{IsWorkOf}
+use Rattle.worker_seat.specs.inside.Works.{IsWorkOf, KeepsTold}
 use Rattle.worker_seat.proofs.steps.Shift.step_on.Given as goal
 
 abbrev pub invariant-loop : goal.invariant-loop
-invariant-loop g l = IsSameOwner l.initial.owner l.owner × IsItemOf l.self.number.now l.next × IsWorkOf l.self.number.now l.work
+invariant-loop g l = record {
+  owner : IsSameOwner l.initial.owner l.owner;
+  item : IsItemOf l.self.number.now l.next;
+  work : IsWorkOf l.self.number.now l.work;
+  told : KeepsTold g.X.Watch.told l.initial.work l.initial.watcher l.work l.watcher;
+}

@@ -1,7 +1,7 @@
 use denote.Exit.{no}
 use denote.Param.Send.{IsSync, param_send, arg_send, param_sync}
 use Rattle.test_jobs.proofs.NumberCrossing.{seat_crosses, crew_shared}
-use Rattle.test_jobs.proofs.crews.ByThreadsEntersEachNumberJobUnit.enter_each.Goals as goal
+use Rattle.test_jobs.proofs.crews.ByThreadsEntersEachNumberJobSpanCount.enter_each.Goals as goal
 
 pub for_each_mut-requires-send-T : goal.for_each_mut-requires-send-T
 for_each_mut-requires-send-T g c κs within = param_send 1 _ (arg_send _ no _ seat_crosses)

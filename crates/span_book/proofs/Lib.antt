@@ -1,0 +1,3 @@
+pub mod Crossing
+mod Totals
+pub mod Steps

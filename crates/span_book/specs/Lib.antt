@@ -1,0 +1,2 @@
+pub mod SpanBooks
+pub mod inside

@@ -1,0 +1,2 @@
+-- Internal: what a run by one thread keeps to.
+pub mod Tellers
