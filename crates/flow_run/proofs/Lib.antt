@@ -1,5 +1,5 @@
 mod Crossing
-pub mod RoomLemmas
+mod WatchLemmas
 pub mod Preparing
 pub mod ReportLemmas
 pub mod ValueSearch

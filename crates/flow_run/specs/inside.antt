@@ -1,3 +1,2 @@
 -- Internal: what private functions need of their arguments, and what they do with them.
-pub mod Rooms
 pub mod RisingValues

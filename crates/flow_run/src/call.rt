@@ -1,5 +1,5 @@
 // The top call of the program.
-ghost use Rattle.std.specs.Prelude.{◌≡◌, ◌⊎◌, ℕ, [], true, List, Some, None, map, All};
+ghost use Rattle.std.specs.Prelude.{◌≡◌, ◌≢◌, ◌⊎◌, ℕ, [], true, List, Some, None, map, All};
 ghost use Rattle.std.specs.Option.{option_copied, option_map};
 ghost use Rattle.std.specs.String.{string_bytes};
 ghost use Rattle.graph_plans.specs.PlanRows.{plan_rows};
@@ -15,6 +15,7 @@ ghost use Rattle.flow_run.specs.Plainly.{AsksPlainly, IsReportedPlainly, EndsPla
 ghost use Rattle.flow_run.specs.Profiles.{plan_run};
 ghost use Rattle.flow_run.specs.Reads.{HaveRead};
 ghost use Rattle.flow_run.specs.Upgrades.{TakesSamePlan};
+ghost use Rattle.flow_run.specs.Watched.{HaveSeen, asked_workers};
 ghost use Rattle.text_tasks.specs.declared.job.TextJob.{TextJob};
 
 use super::check_command::check_file;
@@ -44,7 +45,7 @@ pub struct CallResult {
     pub runs: List<FrameRun<TextJob>>,
     /// What was concluded: the judge's verdict, the findings on a graph, its new file, or the profile of the runs.
     pub conclusion: Option<Conclusion>,
-    /// The watchers, as they were handed in.
+    /// The watchers, in the order in which they were handed in. Those of the workers were told the spans of the runs.
     pub watchers: Vec<Box<dyn Watch + Send>>,
     /// Whether all that was to be written was written, or nothing was. Else the output has a prefix of it.
     pub written: bool,
@@ -68,8 +69,9 @@ impl CallResult {
 /// would of each; `profile FILE` runs it so too, and writes a table of what each task did; `judge FILE JOURNAL` reads the
 /// journal file of that name besides, and writes the judge's verdict; `check FILE` writes how the graph can go wrong;
 /// `upgrade FILE` writes the graph as a file of the newest version. The line of the status goes to `notes`, the
-/// diagnostics sink. Of several workers each has a watcher, and there are no more of them than watchers. `rt` makes the
-/// threads of several workers and waits for them, so it isn't proved that the call returns.
+/// diagnostics sink. Each worker tells a watcher the spans that end in its steps, the first worker the first watcher; there
+/// are no more workers than watchers, but for one where there is none. A watcher that answers `NoMemory` ends the call
+/// so. `rt` makes the threads of several workers and waits for them, so it isn't proved that the call returns.
 pub fn flow_main<F: Texts, S: Sink, N: Sink, R: Threads + Wait + Sync>(
     rt: &R,
     alloc: Global,
@@ -117,7 +119,11 @@ pub fn flow_main<F: Texts, S: Sink, N: Sink, R: Threads + Wait + Sync>(
     // The diagnostics sink took the line of the status, or a prefix of it where it failed, or nothing.
     ensures noted { HasNoted N.state notes.old notes.new
         (note_line (plan_run result.runs) result.status) result.status result.noted }
-    ensures watchers { result.watchers ≡ watchers }
+    // Unless memory ran out, the watchers of the workers, one a worker, were together told as many spans as the kept runs
+    // have, with the runs inside them; a count that reaches the greatest u64 stays there. The other watchers are as they
+    // were.
+    ensures watchers { HaveSeen told (asked_workers (asked_by (map string_bytes words.now)))
+        (result.status ≢ Status.NoMemory) result.runs watchers.items result.watchers.items }
 {
     let Ended {
         status,
@@ -160,7 +166,8 @@ fn answer<F: Texts, S: Sink, R: Threads + Wait + Sync>(
         ((result.runs ≡ []) × (result.conclusion ≡ None))
         (output_of (map string_bytes words.now) result.runs result.conclusion) result.written }
     ensures read { HaveRead F.held F.failed texts.old texts.new result.status }
-    ensures watchers { watchers.new ≡ watchers.old }
+    ensures watchers { HaveSeen told (asked_workers (asked_by (map string_bytes words.now)))
+        (result.status ≢ Status.NoMemory) result.runs watchers.old.items watchers.new.items }
 {
     match read_arguments(alloc, words) {
         Ok(Request::Run(run)) => run_file(rt, alloc, run, texts, out, watchers),

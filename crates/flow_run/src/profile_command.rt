@@ -1,5 +1,5 @@
 // The command `profile`.
-ghost use Rattle.std.specs.Prelude.{◌≡◌, [], None, Some, IfOk, length, map};
+ghost use Rattle.std.specs.Prelude.{◌≡◌, ◌≢◌, [], None, Some, IfOk, length, map};
 ghost use Rattle.outside_io.specs.Sink.{Writes};
 ghost use Rattle.call_status.specs.Delivery.{Delivers};
 ghost use Rattle.call_status.specs.Reasons.{reason_line};
@@ -11,6 +11,7 @@ ghost use Rattle.flow_run.specs.Answers.{HasWritten, ProfileEnds, RanProfile, co
 ghost use Rattle.flow_run.specs.Profiles.{IsProfileOf, graph_profile_text, plan_run, spans_of_all};
 ghost use Rattle.flow_run.specs.Reads.{HaveRead};
 ghost use Rattle.flow_run.specs.RoundTexts.{last_reason};
+ghost use Rattle.flow_run.specs.Watched.{HaveSeen};
 
 use super::call::{Ended, plan_run, stopped};
 use super::check_command::copies;
@@ -47,7 +48,8 @@ pub(crate) fn profile_file<F: Texts, S: Sink, R: Threads + Wait + Sync>(
         ((result.runs ≡ []) × (result.conclusion ≡ None)) (conclusion_text result.conclusion)
         result.written }
     ensures read { HaveRead F.held F.failed texts.old texts.new result.status }
-    ensures watchers { watchers.new ≡ watchers.old }
+    ensures watchers { HaveSeen told asked.entry.options.workers (result.status ≢ Status.NoMemory)
+        result.runs watchers.old.items watchers.new.items }
 {
     match prepare(rt, alloc, texts, asked.options) {
         Ok(job) => run_and_count(rt, alloc, asked.options, job, out, watchers),
@@ -71,12 +73,16 @@ fn run_and_count<S: Sink, R: Threads + Wait + Sync>(
     ensures output { HasWritten S.state out.old out.new result.status
         ((result.runs ≡ []) × (result.conclusion ≡ None)) (conclusion_text result.conclusion)
         result.written }
-    ensures watchers { watchers.new ≡ watchers.old }
+    ensures watchers { HaveSeen told asked.entry.workers (result.status ≢ Status.NoMemory) result.runs
+        watchers.old.items watchers.new.items }
 {
     let Ok(names) = copies(alloc, job.names()) else {
         return stopped(alloc, Status::NoMemory);
     };
     let RoundsRun { runs, whole } = run_rounds(rt, alloc, asked, job, watchers);
+    if runs.is_empty() && !whole {
+        return after_runs(runs, Status::NoMemory, true);
+    }
     let Ok(reason) = last_reason(alloc, runs.as_slice()) else {
         return after_runs(runs, Status::NoMemory, true);
     };

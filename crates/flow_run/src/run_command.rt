@@ -1,5 +1,5 @@
 // The command `run`.
-ghost use Rattle.std.specs.Prelude.{◌≡◌, [], None, All, IfOk, IsOk};
+ghost use Rattle.std.specs.Prelude.{◌≡◌, ◌≢◌, [], None, All, IfOk, IsOk};
 ghost use Rattle.outside_io.specs.Sink.{Writes};
 ghost use Rattle.call_status.specs.Delivery.{Delivers};
 ghost use Rattle.command_line.specs.Rounds.{asked_rounds};
@@ -8,6 +8,7 @@ ghost use Rattle.text_tasks.specs.JobMeaning.{text_job, IsGraphJob};
 ghost use Rattle.flow_run.specs.Answers.{JobEnds, Reported, RunEnds};
 ghost use Rattle.flow_run.specs.Reads.{HaveRead};
 ghost use Rattle.flow_run.specs.RoundTexts.{line_before, round_line, round_text, rounds_text, run_text};
+ghost use Rattle.flow_run.specs.Watched.{HaveSeen};
 
 use super::call::{Ended, stopped};
 use super::inputs::prepare;
@@ -42,7 +43,8 @@ pub(crate) fn run_file<F: Texts, S: Sink, R: Threads + Wait + Sync>(
         (asked_rounds asked.entry.options.rounds) asked.entry.journal result.runs result.written }
     ensures no_conclusion { result.conclusion ≡ None }
     ensures read { HaveRead F.held F.failed texts.old texts.new result.status }
-    ensures watchers { watchers.new ≡ watchers.old }
+    ensures watchers { HaveSeen told asked.entry.options.workers (result.status ≢ Status.NoMemory)
+        result.runs watchers.old.items watchers.new.items }
 {
     match prepare(rt, alloc, texts, asked.options) {
         Ok(job) => run_and_report(rt, alloc, asked, job, out, watchers),
@@ -65,7 +67,8 @@ fn run_and_report<S: Sink, R: Threads + Wait + Sync>(
     ensures reported { Reported S.state out.old out.new result.status
         (asked_rounds asked.entry.options.rounds) asked.entry.journal result.runs result.written }
     ensures no_conclusion { result.conclusion ≡ None }
-    ensures watchers { watchers.new ≡ watchers.old }
+    ensures watchers { HaveSeen told asked.entry.options.workers (result.status ≢ Status.NoMemory)
+        result.runs watchers.old.items watchers.new.items }
 {
     let RoundsRun { runs, whole } = run_rounds(rt, alloc, asked.options, job, watchers);
     let Ok(reason) = last_reason(alloc, runs.as_slice()) else {

@@ -1,12 +1,13 @@
 // Rounds by so many workers.
-ghost use Rattle.std.specs.Prelude.{◌≡◌, [], false, IsTrue};
+ghost use Rattle.std.specs.Prelude.{◌≡◌, ◌≢◌, [], false, length, IsTrue};
 ghost use Rattle.std.specs.Arc.{arc_value};
 ghost use Rattle.command_line.specs.Rounds.{asked_rounds};
 ghost use Rattle.nested_runs.specs.Rounds.{AreAllRounds, AreFirstRounds};
 ghost use Rattle.text_tasks.specs.JobMeaning.{text_job, IsGraphJob};
-ghost use Rattle.topology_runs.specs.Teams.{IsReady, watchers_of};
+ghost use Rattle.topology_runs.specs.Teams.{AreToldRounds, IsReady, watchers_of};
 ghost use Rattle.worker_seat.specs.Crews.{IsEntered, MayEnter};
 ghost use Rattle.flow_run.specs.RoundTexts.{last_has, round_rule};
+ghost use Rattle.flow_run.specs.Watched.{HaveSeen};
 
 use super::fronts::{put_front, take_front};
 use command_line::{GREATEST_TIMES, Rounds, RunOptions};
@@ -30,7 +31,8 @@ pub(crate) struct RoundsRun {
 
 /// Runs the rounds of a job that are asked for, by as many workers as are asked for, or by as many as there are watchers,
 /// where these are fewer. A single worker is the caller's thread, which needs no lock; several are a crew, whose seats
-/// are entered by threads. Each seat holds a watcher, the first one the first, and in the end they are where they were.
+/// are entered by threads. Each worker tells its watcher, the first one the first, and in the end they are where they
+/// were.
 #[tactic(auto, using(crate::proofs::RoundLemmas::no_round))]
 pub(crate) fn run_rounds<R: Threads + Wait + Sync>(
     rt: &R,
@@ -43,7 +45,8 @@ pub(crate) fn run_rounds<R: Threads + Wait + Sync>(
     ensures first { AreFirstRounds text_job job (round_rule (asked_rounds asked.entry.rounds)) result.runs }
     ensures all { IsTrue result.whole
         → AreAllRounds text_job job (round_rule (asked_rounds asked.entry.rounds)) result.runs }
-    ensures watchers { watchers.new ≡ watchers.old }
+    ensures watchers { HaveSeen told asked.entry.workers (IsTrue result.whole) result.runs
+        watchers.old.items watchers.new.items }
 {
     let seats = watchers.len().min(asked.workers as usize);
     let Ok(job) = Arc::new(alloc, job) else {
@@ -91,7 +94,9 @@ fn rounds_by<R: Threads + Wait + Sync>(
     ensures first { AreFirstRounds text_job (arc_value job.now) (round_rule (asked_rounds asked.entry)) result.runs }
     ensures all { IsTrue result.whole
         → AreAllRounds text_job (arc_value job.now) (round_rule (asked_rounds asked.entry)) result.runs }
-    ensures watchers { watchers_of team.new ≡ watchers_of team.old }
+    ensures watchers { IsTrue result.whole → watchers_of team.old ≢ []
+        → AreToldRounds told result.runs (watchers_of team.old) (watchers_of team.new) }
+    ensures count { length (watchers_of team.new) ≡ length (watchers_of team.old) }
 {
     let ran = match asked {
         Rounds::Once => run_times::<TextJob, _, ByThreads, R>(rt, alloc, team, job, 1),
@@ -147,7 +152,7 @@ impl EntersEach<TextJob, Box<dyn Watch + Send>> for ByThreads {
             threads,
             &|_, seat: &mut WorkerSeat<TextJob, Box<dyn Watch + Send>>|
                 requires { MayEnter crew.now seat.old }
-                ensures { IsEntered seat.old seat.new }
+                ensures { IsEntered told seat.old seat.new }
             { crew.work_at(rt, seat) },
         );
     }

@@ -3,6 +3,7 @@ pub mod Taking
 pub mod Batches
 pub mod Concluding
 pub mod Settling
+pub mod Telling
 pub mod Opening
 pub mod Closing
 pub mod Crossing

@@ -1,0 +1,46 @@
+-- What watchers were told whose first ones were away for a while.
+use Rattle.std.proofs.Common.{◌≡◌, ◌≢◌, ℕ, ◌≤◌, ◌++◌, List, [], length, min, take, drop, inl, inr, sym, ap, ◌∙◌, subst, arith}
+use Rattle.std.proofs.lemmas.Bool.{cases_lt}
+use Rattle.std.proofs.lemmas.List.{append-nil, drop_all, drop_at, length-append, nil_from_length, take_all, take_at}
+use Rattle.topology_runs.specs.Teams.{AreToldRounds}
+use Rattle.flow_run.specs.RoundTexts.{TextRun}
+use Rattle.flow_run.specs.Watched.{HaveSeen}
+
+-- Where nothing was run they are as they were.
+pub unseen : {X : Type 0} (told : X → ℕ) (workers : ℕ) (AreAll : Type 0) (old new : List X) → new ≡ old → HaveSeen told workers AreAll [] old new
+unseen told workers AreAll old new same = record { seen = λ all some. ap (take workers) same; others = ap (drop workers) same; count = ap length same }
+
+-- what was seen where the rounds are all, where another fact says so
+pub seen_where : {X : Type 0} (told : X → ℕ) (workers : ℕ) (AreAll These : Type 0) (runs : List TextRun) (old new : List X) → (These → AreAll)
+    → HaveSeen told workers AreAll runs old new → HaveSeen told workers These runs old new
+seen_where told workers AreAll These runs old new so have = record { seen = λ these. have.seen (so these); others = have.others; count = have.count }
+
+-- as many items at the front as there are, or as were asked for
+front_parts : {X : Type 0} (front rest : List X) (n : ℕ) → length front ≡ min (length (front ++ rest)) n → (take n (front ++ rest) ≡ front) × (drop n (front ++ rest) ≡ rest)
+front_parts front rest n few = elim (cases_lt (length (front ++ rest)) n) [
+  | inl all ↦
+      let none : rest ≡ [] = nil_from_length rest (omega (arith, all, few, length-append front rest)) in
+      ( take_all n (front ++ rest) (omega (arith, all)) ∙ ap (λ xs. front ++ xs) none ∙ append-nil front
+      , drop_all n (front ++ rest) (omega (arith, all)) ∙ sym none)
+  | inr enough ↦
+      let same : length front ≡ n = omega (arith, enough, few) in
+      (take_at front rest n same, drop_at front rest n same)
+]
+
+-- Watchers that were taken off the front and told rounds, and put back.
+pub seen_in_front : {X : Type 0} (told : X → ℕ) (workers : ℕ) (AreAll : Type 0) (runs : List TextRun) (old new front rest after : List X)
+    → front ++ rest ≡ old → length front ≡ min (length old) workers → new ≡ after ++ rest → length after ≡ length front
+    → (AreAll → front ≢ [] → AreToldRounds told runs front after) → HaveSeen told workers AreAll runs old new
+seen_in_front told workers AreAll runs old new front rest after were few are same rounds =
+    let before = front_parts front rest workers (few ∙ ap (λ xs. min (length xs) workers) (sym were)) in
+    let count : length (after ++ rest) ≡ length (front ++ rest) = length-append after rest ∙ ap (λ n. n + length rest) same ∙ sym (length-append front rest) in
+    let now = front_parts after rest workers (same ∙ few ∙ ap (λ n. min n workers) (ap length (sym were) ∙ sym count)) in
+    let first : take workers old ≡ front = ap (take workers) (sym were) ∙ before.0 in
+    let first_now : take workers new ≡ after = ap (take workers) are ∙ now.0 in
+    record {
+      seen = λ all some.
+          subst (λ xs. AreToldRounds told runs xs (take workers new)) (sym first)
+          (subst (AreToldRounds told runs front) (sym first_now) (rounds all (λ none. some (first ∙ none))));
+      others = ap (drop workers) are ∙ now.1 ∙ sym before.1 ∙ ap (drop workers) were;
+      count = ap length are ∙ count ∙ ap length were;
+    }
