@@ -19,5 +19,6 @@ pub mod UpgradeExamples
 pub mod EndExamples
 pub mod RoundExamples
 pub mod ProfileExamples
+pub mod WatchExamples
 pub mod ReadExamples
 pub mod PlainExamples

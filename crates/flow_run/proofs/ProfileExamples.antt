@@ -190,13 +190,22 @@ module _ (job : TextJob) where
   ran_none = record { job = job; is = refl; first = no_round job (round_rule (times 0)); all = λ memory. record { first = no_round job (round_rule (times 0)); over = inl refl }; after = inl refl }
 
   counted_without_a_round : (counts : GraphProfile) → IsProfileOf (names_of job) [] counts → RanProfile (λ of. of ≡ job) (times 0) Done [] (Some (conclusion.Profile counts))
-  counted_without_a_round counts is = record { ran = ran_none; counted = inr (counts, refl, is) }
+  counted_without_a_round counts is = record { ran = ran_none; counted = inr (counts, refl, is); none_asked = λ some none. ran_none.all (λ (memory : Done ≡ NoMemory). absurd (cc)) }
 
   no_memory_to_count : (rounds : AskedRounds) → RanProfile (λ of. of ≡ job) rounds NoMemory [] None
   no_memory_to_count rounds = record {
     ran = record { job = job; is = refl; first = no_round job (round_rule rounds); all = λ some. absurd (some refl); after = inr (inr refl) };
     counted = inl (refl, refl);
+    none_asked = λ some none. absurd (some refl);
   }
+
+  -- no table of zeros where memory ran out in the first round
+  counted_before_a_round : (counts : GraphProfile) → ¬ RanProfile (λ of. of ≡ job) once NoMemory [] (Some (conclusion.Profile counts))
+  counted_before_a_round counts is = elim (is.none_asked (λ (none : Some (conclusion.Profile counts) ≡ None). absurd (cc)) refl).over [
+    | inl same ↦ omega (arith, same)
+    | inr (inl ends) ↦ false≢true ends
+    | inr (inr cut) ↦ cut
+  ]
 
   done_without_a_table : (rounds : AskedRounds) (runs : List TextRun) → ¬ RanProfile (λ of. of ≡ job) rounds Done runs None
   done_without_a_table rounds runs is = done_and_uncounted (names_of is.ran.job) runs is.counted
@@ -263,7 +272,7 @@ round_beside_a_stop run (inr ended) = missing_and_uncounted (names_of ended.ran.
 profile_as_the_file_asks : (job : TextJob) (counts : GraphProfile) → IsRequestedJob held g 77 job → IsProfileOf (names_of job) [] counts → ProfileEnds held g 77 (times 0) Done [] (Some (conclusion.Profile counts))
 profile_as_the_file_asks job counts asked is =
     let ran = ran_none job in
-    inr (record { ran = record { job = job; is = asked; first = ran.first; all = ran.all; after = ran.after }; counted = inr (counts, refl, is) })
+    inr (record { ran = record { job = job; is = asked; first = ran.first; all = ran.all; after = ran.after }; counted = inr (counts, refl, is); none_asked = λ some none. ran.all (λ (memory : Done ≡ NoMemory). absurd (cc)) })
 
 profile_of_another_limit : (run : TextRun) (concluded : Option Conclusion) → limit_of (job_of run) ≡ 76 → ¬ ProfileEnds held g 77 once Done (run ∷ []) concluded
 profile_of_another_limit run concluded limit (inl stopped) = let none : run ∷ [] ≡ [] = stopped.none.0 in absurd (cc)

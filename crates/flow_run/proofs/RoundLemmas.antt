@@ -87,8 +87,12 @@ run_of_profile held file limit rounds status runs concluded (inr ended) = inr en
 
 -- how the rounds of a job end that were counted
 pub profile_ends : (job : TextJob) (rounds : AskedRounds) (status : Status) (runs : List TextRun) (counts : GraphProfile) → JobEnds job rounds status runs → IsProfileOf (names_of job) runs counts
-    → RanProfile (λ of. of ≡ job) rounds status runs (Some (Profile counts))
-profile_ends job rounds status runs counts ran is = record { ran = ran; counted = inr (counts, refl, subst (λ (of : TextJob). IsProfileOf (names_of of) runs counts) (sym ran.is) is) }
+    → (runs ≡ [] → AreAllRounds text_job job (round_rule rounds) []) → RanProfile (λ of. of ≡ job) rounds status runs (Some (Profile counts))
+profile_ends job rounds status runs counts ran is none_asked = record {
+  ran = ran;
+  counted = inr (counts, refl, subst (λ (of : TextJob). IsProfileOf (names_of of) runs counts) (sym ran.is) is);
+  none_asked = λ some none. subst (λ (of : TextJob). AreAllRounds text_job of (round_rule rounds) []) (sym ran.is) (none_asked none);
+}
 
 -- a profile has as many names as rows
 pub rows_named : (names : List (List ℕ)) (runs : List TextRun) (counts : GraphProfile) → IsProfileOf names runs counts → length counts.names ≡ length counts.table.rows
@@ -102,6 +106,7 @@ requested_profile held file limit job rounds status runs concluded requested end
     inr (record {
       ran = record { job = ran.job; is = subst (IsRequestedJob held file limit) (sym ran.is) requested; first = ran.first; all = ran.all; after = ran.after };
       counted = ended.counted;
+      none_asked = ended.none_asked;
     })
 
 -- ---- what is written of no runs

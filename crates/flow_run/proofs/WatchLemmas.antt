@@ -2,7 +2,7 @@
 use Rattle.std.proofs.Common.{◌≡◌, ◌≢◌, ℕ, ◌≤◌, ◌++◌, List, [], length, min, take, drop, inl, inr, sym, ap, ◌∙◌, subst, arith}
 use Rattle.std.proofs.lemmas.Bool.{cases_lt}
 use Rattle.std.proofs.lemmas.List.{append-nil, drop_all, drop_at, length-append, nil_from_length, take_all, take_at}
-use Rattle.topology_runs.specs.Teams.{AreToldRounds}
+use Rattle.topology_runs.specs.Told.{AreToldRounds}
 use Rattle.flow_run.specs.RoundTexts.{TextRun}
 use Rattle.flow_run.specs.Watched.{HaveSeen}
 

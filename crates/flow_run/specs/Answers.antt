@@ -45,10 +45,11 @@ RunEnds held file limit rounds status runs = StoppedBefore (StopsBefore held fil
 abbrev pub JobEnds : TextJob → AskedRounds → Status → List TextRun → Type 0
 JobEnds job rounds status runs = RanRounds (λ of. of ≡ job) rounds status runs
 
--- Rounds of such a job were run, and counted unless memory ran out.
+-- Rounds of such a job were run, and counted unless memory ran out. No round is counted only where none was to be run.
 pub record RanProfile (IsJob : TextJob → Type 0) (rounds : AskedRounds) (status : Status) (runs : List TextRun) (concluded : Option Conclusion) : Type 0 where
   pub ran : RanRounds IsJob rounds status runs
   pub counted : ((status ≡ NoMemory) × (concluded ≡ None)) ⊎ ((counts : GraphProfile) × (concluded ≡ Some (Profile counts)) × IsProfileOf (names_of ran.job) runs counts)
+  pub none_asked : concluded ≢ None → runs ≡ [] → AreAllRounds text_job ran.job (round_rule rounds) []
 
 -- How a call ends that is to write the profile of a file: before a run, for a reason that the status has, or after the rounds
 -- that the file is asked for.

@@ -1,7 +1,7 @@
 -- What the watchers of a call were told.
 use Rattle.std.specs.Prelude.{◌≡◌, ◌≢◌, ℕ, List, [], take, drop, length, Option, Some}
 use Rattle.command_line.specs.Requests.{Asked, run, profile}
-use Rattle.topology_runs.specs.Teams.{AreToldRounds}
+use Rattle.topology_runs.specs.Told.{AreToldRounds}
 use Rattle.flow_run.specs.RoundTexts.{TextRun}
 
 -- how many workers are asked for, where a graph is to be run

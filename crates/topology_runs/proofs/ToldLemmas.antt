@@ -9,7 +9,7 @@ use Rattle.nested_runs.specs.Totals.{all_spans}
 use Rattle.run_frame.specs.declared.run.FrameRun.{FrameRun}
 use Rattle.worker_seat.specs.declared.seat.WorkerSeat.{WorkerSeat}
 use Rattle.worker_seat.specs.Crews.{AreSpansOf, AreWatched, IsServed, IsToldMore, state_of, told_in_run, watcher_of}
-use Rattle.topology_runs.specs.Teams.{AreTold, AreToldEach, AreToldRounds}
+use Rattle.topology_runs.specs.Told.{AreTold, AreToldEach, AreToldRounds}
 
 -- one number after the other, each up to the greatest
 abbrev most : ℕ

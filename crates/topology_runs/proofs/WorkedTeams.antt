@@ -10,7 +10,8 @@ use Rattle.run_frame.specs.Runs.{IsFine}
 use Rattle.worker_seat.specs.declared.crew.Crew.{Crew}
 use Rattle.worker_seat.specs.declared.seat.WorkerSeat.{WorkerSeat}
 use Rattle.worker_seat.specs.Crews.{AreSeatsOf, MayBegin, watcher_of}
-use Rattle.topology_runs.specs.Teams.{AreTold, AreToldEach, AreToldRounds, IsReady, watchers_of}
+use Rattle.topology_runs.specs.Teams.{IsReady, watchers_of}
+use Rattle.topology_runs.specs.Told.{AreTold, AreToldEach, AreToldRounds}
 use Rattle.topology_runs.specs.declared.team.Team.{Team}
 use Rattle.topology_runs.specs.declared.team.Workers.TheVariants.{Alone, Seated}
 use Rattle.topology_runs.specs.inside.Nexts.{FollowsLast, IsLastFine}

@@ -1,2 +1,3 @@
 pub mod Teams
+pub mod Told
 pub mod inside

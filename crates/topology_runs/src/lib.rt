@@ -5,8 +5,9 @@
 //! an `Until` is met, or something was cut short in a run. A round that was run to its end is kept, also where an
 //! allocation fails later.
 //!
-//! The layer above sees the rounds as a list of runs, by `AreAllRounds` and `AreFirstRounds` of `nested_runs`, and of a team
-//! its watchers and whether it may run a job (`specs/Teams.antt`). It is not proved that a run is ever closed.
+//! The layer above sees the rounds as a list of runs, by `AreAllRounds` and `AreFirstRounds` of `nested_runs`; of a team
+//! its watchers and whether it may run a job (`specs/Teams.antt`); and what watchers were told (`specs/Told.antt`). It is
+//! not proved that a run is ever closed.
 #![tactic(auto)]
 
 mod rounds;

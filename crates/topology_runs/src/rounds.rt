@@ -4,7 +4,8 @@ ghost use Rattle.std.specs.Arc.{arc_value};
 ghost use Rattle.run_frame.specs.Legal.{IsKept};
 ghost use Rattle.run_frame.specs.NestedRule.{job_of};
 ghost use Rattle.nested_runs.specs.Rounds.{AreAllRounds, AreFirstRounds, LastWasCut, last_run, times};
-ghost use Rattle.topology_runs.specs.Teams.{AreToldRounds, IsReady, watchers_of};
+ghost use Rattle.topology_runs.specs.Teams.{IsReady, watchers_of};
+ghost use Rattle.topology_runs.specs.Told.{AreToldRounds};
 ghost use Rattle.topology_runs.specs.inside.Nexts.{FollowsLast, IsLastFine};
 
 use super::team::Team;

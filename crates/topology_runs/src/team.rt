@@ -4,7 +4,7 @@ ghost use Rattle.std.specs.List.{list_any};
 ghost use Rattle.std.specs.Arc.{arc_value};
 ghost use Rattle.nested_runs.specs.Totals.{all_spans};
 ghost use Rattle.ready_deques.specs.Limits.{max_workers};
-ghost use Rattle.topology_runs.specs.Teams.{AreTold};
+ghost use Rattle.topology_runs.specs.Told.{AreTold};
 ghost use Rattle.worker_seat.specs.Crews.{AreSeatsOf, IsKeptOf, MayBegin, state_of, watcher_of};
 
 use outside_io::{Back, NoMemory};

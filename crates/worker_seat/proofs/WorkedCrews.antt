@@ -50,6 +50,9 @@ a_new_seat_is_at_no_run = refl
 a_crew_has_a_list_and_seats : crew_state here 2 ≡ record { list = here; seats = 2 }
 a_crew_has_a_list_and_seats = refl
 
+a_book_has_a_name_and_tellers : run_book (table 5) 2 ≡ record { name = table 5; tellers = 2 }
+a_book_has_a_name_and_tellers = refl
+
 a_seat_goes_to_a_run : at_job 7 book fresh ≡ at_seven
 a_seat_goes_to_a_run = refl
 

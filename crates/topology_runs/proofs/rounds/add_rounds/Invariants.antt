@@ -2,7 +2,8 @@ use Rattle.std.proofs.Common.{◌≡◌, ◌≢◌, [], All, length}
 use Rattle.std.specs.Arc.{arc_value}
 use Rattle.run_frame.specs.NestedRule.{job_of}
 use Rattle.nested_runs.specs.Rounds.{AreFirstRounds}
-use Rattle.topology_runs.specs.Teams.{AreToldRounds, IsReady, watchers_of}
+use Rattle.topology_runs.specs.Teams.{IsReady, watchers_of}
+use Rattle.topology_runs.specs.Told.{AreToldRounds}
 use Rattle.topology_runs.proofs.rounds.add_rounds.Given as goal
 
 abbrev pub invariant-loop : goal.invariant-loop
