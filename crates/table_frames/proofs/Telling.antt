@@ -1,15 +1,23 @@
 -- What a watcher is told where a run by one thread goes on.
-use Rattle.std.proofs.Common.{◌≡◌, ℕ, ◌+◌, ◌-◌, ◌^◌, ◌++◌, ◌∷◌, [], Option, min, ap, ◌∙◌, arith}
+use Rattle.std.proofs.Common.{◌≡◌, ℕ, ◌+◌, ◌-◌, ◌^◌, ◌<◌, ◌≤◌, ◌++◌, ◌∷◌, [], Option, Some, None, min, refl, sym, ap, ◌∙◌, arith}
+use Rattle.std.specs.Prelude.{Result, Ok, Err, IfOk}
+use Rattle.std.proofs.Math.Nat.{min-eq_left}
 use Rattle.join_tables.specs.declared.fates.Fate.{Fate}
+use Rattle.run_frame.specs.Meaning.{Meaning}
 use Rattle.run_frame.specs.declared.run.FrameRun.{FrameRun}
-use Rattle.span_profile.specs.Watch.{TellsOn}
+use Rattle.span_profile.specs.Watch.{IsToldSince, TellsOn}
+use Rattle.table_runs.specs.Openings.{IsOverAtOnce}
 use Rattle.table_runs.specs.Spans.{spans_done, spans_in, spans_inside, spans_made}
 use Rattle.table_runs.specs.declared.done_turns.DoneTurns.{DoneTurns}
 use Rattle.table_runs.proofs.Counting.{spans_append}
 
+-- a count goes up to this number
+abbrev most : ℕ
+most = 2 ^ 64 - 1
+
 -- where as many spans are there as before, it need be told none
 pub tells_same : {X : Type 0} (told : X → ℕ) (m n : ℕ) (watcher : X) → m ≡ n → TellsOn told m n watcher watcher
-tells_same told m n watcher same before is = is ∙ ap (λ k. min (before + k) (2 ^ 64 - 1)) same
+tells_same told m n watcher same before is = is ∙ ap (λ (k : ℕ). min (before + k) most) same
 
 -- one after another
 pub tells_then : {X : Type 0} (told : X → ℕ) (m n p : ℕ) (first second third : X) → TellsOn told m n first second → TellsOn told n p second third → TellsOn told m p first third
@@ -18,9 +26,29 @@ tells_then told m n p first second third tells then before is = then before (tel
 -- beside spans that were told before
 pub tells_beside : {X : Type 0} (told : X → ℕ) (m n k p q : ℕ) (old new : X) → p ≡ m + k → q ≡ n + k → TellsOn told m n old new → TellsOn told p q old new
 tells_beside told m n k p q old new from to tells before is =
-    let cap = λ s. min s (2 ^ 64 - 1) in
-    tells (before + k) (is ∙ ap cap (let same : before + p ≡ before + k + m = omega (arith, from) in same))
-    ∙ ap cap (let same : before + k + n ≡ before + q = omega (arith, to) in same)
+    let first : before + p ≡ before + k + m = omega (arith, from) in
+    let last : before + k + n ≡ before + q = omega (arith, to) in
+    tells (before + k) (is ∙ ap (λ (s : ℕ). min s most) first) ∙ ap (λ (s : ℕ). min s most) last
+
+-- where it ends well
+pub tells_then_ok : {A E X : Type 0} (told : X → ℕ) (spans : A → ℕ) (m n : ℕ) (r : Result A E) (first second third : X) → TellsOn told m n first second
+    → IfOk r (λ a. TellsOn told n (spans a) second third) → IfOk r (λ a. TellsOn told m (spans a) first third)
+tells_then_ok told spans m n (Ok a) first second third tells then = tells_then told m n (spans a) first second third tells then
+tells_then_ok told spans m n (Err e) first second third tells then = tt
+
+-- from the beginning
+pub tells_all : {A E X : Type 0} (told : X → ℕ) (spans : A → ℕ) (m : ℕ) (r : Result A E) (old new : X) → m ≡ 0 → told old < 2 ^ 64
+    → IfOk r (λ a. TellsOn told m (spans a) old new) → IfOk r (λ a. IsToldSince told (told old) (spans a) new)
+tells_all told spans m (Ok a) old new none small tells =
+    let same : told old + m ≡ told old = omega (arith, none) in
+    let few : told old ≤ most = omega (arith, small) in
+    tells (told old) (sym (ap (λ (k : ℕ). min k most) same ∙ min-eq_left few))
+tells_all told spans m (Err e) old new none small tells = tt
+
+-- a run that was over at once has no spans
+pub none_over_at_once : {J V : Type 0} (meaning : Meaning J V) (run : Option (FrameRun J V)) → IsOverAtOnce meaning run → spans_made run ≡ 0
+none_over_at_once meaning None over = refl
+none_over_at_once meaning (Some run) over = over.no_spans
 
 -- the spans of turns that are done, once one more is
 pub spans_more : {J V : Type 0} (old new : DoneTurns J V) (fate : Fate V) (inner : Option (FrameRun J V)) → new.batch.fates ≡ old.batch.fates ++ fate ∷ []

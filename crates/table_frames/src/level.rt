@@ -46,7 +46,7 @@ impl<J: Job> Model for Level<J> {
 
     ghost Value = { LevelView J };
 
-    ghost use Rattle.std.specs.Prelude.{◌≡◌, ◌+◌, ◌∷◌, IfSome};
+    ghost use Rattle.std.specs.Prelude.{◌≡◌, ◌+◌, ◌∷◌, IfNone, IfSome};
     ghost use Rattle.table_runs.specs.RunKeys.{key_of};
     ghost use Rattle.table_runs.specs.Spans.{spans_done, spans_kept};
     ghost use Rattle.table_frames.specs.inside.Benches.{IsBenchOf};
@@ -62,7 +62,8 @@ impl<J: Job> Model for Level<J> {
     ghost invariant = { λ level. (key_of level.kept ≡ level.run)
         × IsBenchOf J.meaning level.run level.bench
         × (frame_of level.start ≡ first_frame (levels_around level.around))
-        × IfSome level.start (IsStartOf J.meaning level.run.job) };
+        × IfSome level.start (IsStartOf J.meaning level.run.job)
+        × IfNone level.start (spans_around level.around ≡ 0) };
 
     ghost size = { λ level. length level.frames };
 }
@@ -88,6 +89,7 @@ impl<J: Job + Drop> Level<J> {
         requires begins { Begins J.meaning begun.run.job begun }
         requires frame { frame_of start ≡ first_frame (levels_around around) }
         requires start { IfSome start (IsStartOf J.meaning begun.run.job) }
+        requires outermost { IfNone start (spans_around around ≡ 0) }
         ensures frames { IfOk result
             (λ level. level.frames ≡ begun.run ∷ levels_around around) }
         ensures spans { IfOk result (λ level. level.spans ≡ spans_around around) }
@@ -290,6 +292,7 @@ fn leave<J: Job + Drop, X: Watch>(
         (entries_told kept.keeper.fates) }
     requires frame { frame_of start ≡ first_frame (levels_around around) }
     requires start { IfSome start (IsStartOf J.meaning kept.job) }
+    requires outermost { IfNone start (spans_around around ≡ 0) }
     ensures next { IfOk result
         (IsNext J.meaning (root_job (key_of kept ∷ levels_around around))) }
     ensures told { IfOk result (λ next. TellsOn X.told (spans_kept kept + spans_around around)

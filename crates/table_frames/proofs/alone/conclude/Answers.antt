@@ -1,10 +1,15 @@
-use Rattle.std.proofs.Common.{rules, ◌+◌, ◌≤◌, length, vec_capacity, vec_len, sym, ap, ◌∙◌, subst, arith}
+use Rattle.std.proofs.Common.{rules, ◌≡◌, ◌+◌, ◌-◌, ◌^◌, ◌≤◌, [], ◌∷◌, Option, min, length, vec_capacity, vec_len, sym, ap, ◌∙◌, subst, arith}
 use Rattle.join_tables.specs.States.{TableState}
 use Rattle.semaphore_park.specs.Parking.{YardKey}
 use Rattle.semaphore_turns.specs.WokenTurns.{Wakes}
 use Rattle.table_runs.specs.RunKeys.{table_in}
 use Rattle.table_runs.specs.Runs.{AreOf}
 use Rattle.table_frames.proofs.Settling.{added_of, woken_of}
+use Rattle.table_frames.proofs.Taking.{same_spans}
+use Rattle.table_frames.proofs.Telling.{spans_more}
+use Rattle.table_runs.specs.Spans.{spans_done, spans_in, spans_made}
+use Rattle.join_tables.specs.declared.fates.Fate.{Fate}
+use Rattle.run_frame.specs.declared.run.FrameRun.{FrameRun}
 use Rattle.table_frames.proofs.alone.conclude.Goals as goal
 
 pub wake_turns-requires-clause-room : goal.wake_turns-requires-clause-room
@@ -12,8 +17,8 @@ wake_turns-requires-clause-room g c =
     let room : vec_len c.reserve.new.self + (c.room.result + length c.units_back-back.result.now) ≤ vec_capacity c.reserve.new.self = search rules in
     omega (arith, room, c.conclude-turn.ensures.few, c.conclude-turn.ensures.capacity, c.room.ensures.room)
 
-pub returns : goal.returns
-returns g c =
+pub returns-clause-bench : goal.returns-clause-bench
+returns-clause-bench g c =
     let table = table_in g.J.Job.meaning c.args.run.now in
     let home = ap (λ (k : YardKey TableState). k.home) c.requires.bench.yard in
     let wakes = subst (λ (h : TableState). Wakes h c.units_back-back.result.now c.conclude-turn.new.made.items c.wake_turns.new.ready.items) home c.wake_turns.ensures.wakes in
@@ -25,3 +30,16 @@ returns g c =
       done = c.gather.ensures.done;
       yard = c.wake_turns.ensures.yard ∙ c.requires.bench.yard;
     }
+
+pub returns-clause-told : goal.returns-clause-told
+returns-clause-told g c = λ before is.
+    let turn = c.conclude-turn.result in
+    let old = spans_done c.args.bench.now.done in
+    let inner = c.args.attempt.inner in
+    let fate = c.fate.result.now in
+    let room : spans_done c.make_room.new.self ≡ old = same_spans c.args.bench.now.done c.make_room.new.self c.in_ok-make_room.ensures.same in
+    let more = spans_more c.make_room.new.self c.gather.new.done turn.spent.fate turn.inner c.gather.ensures.fates c.gather.ensures.inside in
+    let made = ap (λ (run : Option (FrameRun g.row.J.Denot g.row.J-V.Denot)). spans_made run) c.conclude-turn.ensures.inner in
+    let ended : spans_in (turn.spent.fate ∷ []) ≡ spans_in (fate ∷ []) = ap (λ (f : Fate g.row.J-V.Denot). spans_in (f ∷ [])) (sym c.fate.ensures) in
+    let all : spans_done c.gather.new.done ≡ old + spans_made inner + spans_in (fate ∷ []) = omega (arith, more, room, made, ended) in
+    c.in_ok-tell.ensures (old + spans_made inner) before is ∙ ap (λ k. min (before + k) (2 ^ 64 - 1)) (sym all)

@@ -1,5 +1,6 @@
 use Rattle.std.proofs.Common.{◌++◌, sym, ap, ◌∙◌, subst}
 use Rattle.table_runs.specs.Attempts.{again_list}
+use Rattle.table_frames.specs.inside.Around.{LevelView}
 use Rattle.table_frames.specs.inside.TriedReleases.{IsInnerAt}
 use Rattle.table_frames.proofs.Opening.{with_again}
 use Rattle.table_frames.proofs.level.Level.open.Goals as goal
@@ -10,7 +11,7 @@ invariant_of-level g c =
     let running = inner.start.running in
     let bench = c.self.inside.bench in
     let of = c.self.invariant in
-    let is = subst (λ fs. IsInnerAt g.J.Job.meaning fs inner) (sym c.self.view_is) c.requires in
+    let is = subst (λ (v : LevelView g.row.J.Denot). IsInnerAt g.J.Job.meaning v.frames inner) (sym c.self.view_is) c.requires in
     let added = c.add_again.ensures.made ∙ ap (λ xs. xs ++ again_list inner.again) c.reserve.ensures.items in (
       of.0,
       record {
@@ -21,4 +22,5 @@ invariant_of-level g c =
       },
       of.2,
       of.3,
+      of.4,
     )
