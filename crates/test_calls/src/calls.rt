@@ -1,12 +1,12 @@
 // Calls of the program over texts and sinks in memory, each a row of a table.
+use crate::inputs::{CallInputs, inputs_of};
 use crate::seen_runs::shown_run;
-use crate::texts::{graph_of, text_of};
 use crate::wanted::wanted_of;
-use crate::watchers::{are_in_order, span_count_of};
+use crate::watchers::{Handed, shown_watchers, watchers_of};
 use call_status::Noted;
 use flow_run::{CallResult, flow_main};
-use outside_io::for_tests::{FailAt, MemorySink, MemoryTexts};
-use outside_io::{List, NoMemory};
+use outside_io::NoMemory;
+use outside_io::for_tests::MemorySink;
 use span_profile::Watch;
 use std::alloc::{AllocError, Global};
 use std::str;
@@ -20,9 +20,10 @@ pub const COUNT: &str = r#"{"tasks":[
 
 // A call: its words, with a space between two, or `-` for none, where `''` is the empty word and `_` a space in a word;
 // the texts `t`, `u` and `v` that it finds, with ` / ` between two, where `-` is none; what fails in it (`read CALL`,
-// `put CALL TAKEN`, `note CALL TAKEN`), how many watchers it has in place of 16 (`watchers COUNT`), that the totals of
-// its runs are seen too (`totals`), or `-`; and what is seen of it: the exit code, whether all was written and noted, the
-// entries of each run, then what the output took, then what standard error took. `|` ends a line of a text.
+// `put CALL TAKEN`, `note CALL TAKEN`, or `span PLACE` among all spans that its watchers are told), how many watchers it
+// has in place of 16 (`watchers COUNT`), that the totals of its runs are seen too (`totals`), or `-`; and what is seen of
+// it: the exit code, whether all was written and noted, the entries of each run, then what the output took, then what
+// standard error took. `|` ends a line of a text.
 #[derive(Clone, Copy)]
 pub struct Row<'r> {
     pub words: &'r str,
@@ -140,123 +141,27 @@ fn difference<R: Threads + Wait + Sync>(
     )?)
 }
 
-fn words_of(alloc: Global, words: &str) -> Result<Vec<String>, AllocError> {
-    let mut strings = Vec::new(alloc);
-    if words == "-" {
-        return Ok(strings);
-    }
-    for word in words.split(' ') {
-        let word = if word == "''" { "" } else { word };
-        strings.push(word.replace(alloc, "_", " ")?)?;
-    }
-    Ok(strings)
-}
-
-// The texts that a call finds, of which these reads fail.
-fn texts_of(
-    alloc: Global,
-    graph: &str,
-    texts: &str,
-    failing: List<u64>,
-) -> Result<MemoryTexts, NoMemory> {
-    let mut names = List::new(alloc);
-    let mut held = List::new(alloc);
-    names.push(List::from_slice(alloc, b"g")?)?;
-    held.push(graph_of(alloc, graph)?)?;
-    for (name, text) in ["t", "u", "v"].iter().zip(texts.split(" / ")) {
-        if text != "-" {
-            names.push(List::from_slice(alloc, name.as_bytes())?)?;
-            held.push(text_of(alloc, text)?)?;
-        }
-    }
-    if !MemoryTexts::are_named(&names, &held) {
-        return Err(NoMemory);
-    }
-    Ok(MemoryTexts::new(alloc, names, held, failing))
-}
-
-// The calls of texts and sinks that fail, and how many watchers there are.
+// How a call ended, and its sinks.
 #[derive(Drop)]
-struct Failing {
-    reads: List<u64>,
-    puts: List<FailAt>,
-    notes: List<FailAt>,
-    watchers: u64,
-}
-
-fn failing_of(alloc: Global, text: &str) -> Result<Failing, NoMemory> {
-    let (what, numbers) = text.split_once(' ').unwrap_or((text, ""));
-    let (call, taken) = numbers.split_once(' ').unwrap_or((numbers, ""));
-    let at = FailAt {
-        call: number_of(call),
-        taken: number_of(taken),
-    };
-    let mut failing = Failing {
-        reads: List::new(alloc),
-        puts: List::new(alloc),
-        notes: List::new(alloc),
-        watchers: 16,
-    };
-    match what {
-        "read" => failing.reads.push(at.call)?,
-        "put" => failing.puts.push(at)?,
-        "note" => failing.notes.push(at)?,
-        "watchers" => failing.watchers = at.call,
-        _ => (),
-    }
-    Ok(failing)
-}
-
-fn number_of(text: &str) -> u64 {
-    text.parse::<u64>().unwrap_or(0)
-}
-
-// The inputs of a call, and how many watchers it has.
-#[derive(Drop)]
-struct CallInputs {
-    words: Vec<String>,
-    texts: MemoryTexts,
+struct Called {
+    outcome: CallResult,
     out: MemorySink,
     notes: MemorySink,
-    watchers: Vec<Box<dyn Watch + Send>>,
-    count: u64,
 }
 
-fn inputs_of(alloc: Global, graph: &str, row: Row<'_>) -> Result<CallInputs, NoMemory> {
-    let words = words_of(alloc, row.words)?;
-    let Failing {
-        reads,
-        puts,
-        notes,
-        watchers: count,
-    } = failing_of(alloc, row.failing)?;
-    let texts = texts_of(alloc, graph, row.texts, reads)?;
-    let watchers = watchers_of(alloc, count)?;
-    Ok(CallInputs {
-        words,
-        texts,
-        out: MemorySink::new(alloc, puts),
-        notes: MemorySink::new(alloc, notes),
-        watchers,
-        count,
-    })
-}
-
-// What is seen of a call.
-fn shown<R: Threads + Wait + Sync>(
+fn call<R: Threads + Wait + Sync>(
     rt: &R,
     alloc: Global,
-    graph: &str,
-    row: Row<'_>,
-) -> Result<String, NoMemory> {
+    inputs: CallInputs,
+    watchers: Vec<Box<dyn Watch + Send>>,
+) -> Called {
     let CallInputs {
         words,
         mut texts,
         mut out,
         mut notes,
-        watchers,
-        count,
-    } = inputs_of(alloc, graph, row)?;
+        handed: _,
+    } = inputs;
     let outcome = flow_main(
         rt,
         alloc,
@@ -266,7 +171,49 @@ fn shown<R: Threads + Wait + Sync>(
         &mut notes,
         watchers,
     );
-    let end = shown_outcome(alloc, &outcome, count, row.failing == "totals");
+    Called {
+        outcome,
+        out,
+        notes,
+    }
+}
+
+/// How a call of these words ended that finds the graph as `g`, and these texts, with these watchers.
+pub fn outcome_of<R: Threads + Wait + Sync>(
+    rt: &R,
+    alloc: Global,
+    graph: &str,
+    words: &str,
+    texts: &str,
+    watchers: Vec<Box<dyn Watch + Send>>,
+) -> Result<CallResult, NoMemory> {
+    let row = Row {
+        words,
+        texts,
+        failing: "-",
+        seen: "",
+    };
+    let inputs = inputs_of(alloc, graph, row)?;
+    let Called { outcome, .. } = call(rt, alloc, inputs, watchers);
+    Ok(outcome)
+}
+
+// What is seen of a call.
+fn shown<R: Threads + Wait + Sync>(
+    rt: &R,
+    alloc: Global,
+    graph: &str,
+    row: Row<'_>,
+) -> Result<String, NoMemory> {
+    let inputs = inputs_of(alloc, graph, row)?;
+    let handed = inputs.handed;
+    let watchers = watchers_of(alloc, handed)?;
+    let Called {
+        outcome,
+        out,
+        notes,
+    } = call(rt, alloc, inputs, watchers);
+    let end = shown_outcome(alloc, &outcome, handed, row.failing == "totals");
     let _code = outcome.into_code();
     shown_end(alloc, end, &out, &notes)
 }
@@ -286,26 +233,17 @@ fn shown_end(
     )?)
 }
 
-// So many watchers, each of which was told as many spans as there are watchers before it.
-fn watchers_of(alloc: Global, count: u64) -> Result<Vec<Box<dyn Watch + Send>>, NoMemory> {
-    let mut watchers: Vec<Box<dyn Watch + Send>> = Vec::new(alloc);
-    for spans in 0..count {
-        watchers.push(Box::new(alloc, span_count_of(spans)?)?)?;
-    }
-    Ok(watchers)
-}
-
 // What the sink took, or a question mark where that is no text.
 fn shown_bytes(sink: &MemorySink) -> &str {
     str::from_utf8(sink.bytes()).unwrap_or("?")
 }
 
-// The exit code, whether all was written and noted, each run, with its totals if they are asked for, and whether the
-// watchers are out of order.
+// The exit code, whether all was written and noted, each run, with its totals if they are asked for, and what is wrong
+// with the watchers.
 fn shown_outcome(
     alloc: Global,
     outcome: &CallResult,
-    watchers: u64,
+    handed: Handed,
     totals: bool,
 ) -> Result<String, NoMemory> {
     let written = if outcome.written { "written" } else { "cut" };
@@ -319,8 +257,6 @@ fn shown_outcome(
         shown.push_str(", ")?;
         shown.push_str(shown_run(alloc, run, totals)?.as_str())?;
     }
-    if !are_in_order(outcome.watchers.as_slice(), watchers) {
-        shown.push_str(", watchers out of order")?;
-    }
+    shown.push_str(shown_watchers(handed, outcome))?;
     Ok(shown)
 }

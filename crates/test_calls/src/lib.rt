@@ -16,6 +16,10 @@ mod check_calls;
 #[cfg(test)]
 mod faults;
 #[cfg(test)]
+mod gates;
+#[cfg(test)]
+mod inputs;
+#[cfg(test)]
 mod judge_calls;
 #[cfg(test)]
 mod lengths;
@@ -28,7 +32,11 @@ mod operations;
 #[cfg(test)]
 mod profile_calls;
 #[cfg(test)]
+mod refused_spans;
+#[cfg(test)]
 mod round_calls;
+#[cfg(test)]
+mod run_spans;
 #[cfg(test)]
 mod runs;
 #[cfg(test)]
@@ -39,6 +47,8 @@ mod semaphore_calls;
 mod tables;
 #[cfg(test)]
 mod texts;
+#[cfg(test)]
+mod told_spans;
 #[cfg(test)]
 mod upgrade_calls;
 #[cfg(test)]

@@ -2,7 +2,7 @@
 use crate::calls::{Table, first_difference};
 use crate::{
     bad_graphs, check_calls, faults, judge_calls, lengths, module_calls, operations, profile_calls,
-    round_calls, runs, semaphore_calls, upgrade_calls, words,
+    refused_spans, round_calls, runs, semaphore_calls, upgrade_calls, words,
 };
 use std::test::Fail;
 
@@ -31,8 +31,10 @@ fn calls_with_modules_and_spreads_answer_as_their_tables_say(rt: HostRuntime) ->
 
 #[test]
 fn rounds_answer_as_their_tables_say(rt: HostRuntime) -> Result<(), Fail> {
-    let difference = first_difference(&rt, rt.alloc(), &round_calls::TABLES)?;
-    assert_eq!(rt; difference.as_str(), "");
+    let tables: [&[Table]; 2] = [&round_calls::TABLES, &refused_spans::TABLES];
+    for table in tables {
+        assert_eq!(rt; first_difference(&rt, rt.alloc(), table)?.as_str(), "");
+    }
     Ok(())
 }
 

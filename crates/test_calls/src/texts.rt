@@ -26,7 +26,8 @@ pub fn text_of(alloc: Global, text: &str) -> Result<Bytes, NoMemory> {
 }
 
 // The graph file that a table names: one of the greatest length, one that is longer by a byte, one of brackets, two
-// with bytes that are no UTF-8, two of as many modules as there may be and of one more; or what it is.
+// with bytes that are no UTF-8, two of as many modules as there may be and of one more, one of 300 tasks without edges;
+// or what it is.
 pub fn graph_of(alloc: Global, graph: &str) -> Result<Bytes, NoMemory> {
     match graph {
         "MOST" => padded(alloc, COUNT.as_bytes(), FILE_LIMIT),
@@ -36,6 +37,7 @@ pub fn graph_of(alloc: Global, graph: &str) -> Result<Bytes, NoMemory> {
         "NO UTF-8 IN A WORD" => List::from_slice(alloc, &[b'"', 192, b'"']),
         "64 MODULES" => modules(alloc, 64),
         "65 MODULES" => modules(alloc, 65),
+        "300 TASKS" => single_tasks(alloc, 300),
         graph => List::from_slice(alloc, graph.as_bytes()),
     }
 }
@@ -46,6 +48,18 @@ fn modules(alloc: Global, count: usize) -> Result<Bytes, NoMemory> {
     for number in 0..count {
         let link = if number == 0 { "" } else { "," };
         let row = format!(in alloc; "{link}{{\"name\":\"m{number}\",\"tasks\":[]}}")?;
+        file.add_all(row.as_bytes())?;
+    }
+    file.add_all(b"]}")?;
+    Ok(file)
+}
+
+// A graph file of so many tasks without edges.
+fn single_tasks(alloc: Global, count: usize) -> Result<Bytes, NoMemory> {
+    let mut file = List::from_slice(alloc, b"{\"tasks\":[")?;
+    for number in 0..count {
+        let link = if number == 0 { "" } else { "," };
+        let row = format!(in alloc; "{link}{{\"name\":\"t{number}\",\"op\":\"input\"}}")?;
         file.add_all(row.as_bytes())?;
     }
     file.add_all(b"]}")?;
