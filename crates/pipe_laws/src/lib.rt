@@ -1,0 +1,2 @@
+//! laws
+#![tactic(auto)]
