@@ -60,7 +60,7 @@ count_same : {X : Type 0} (p q : X → Bool) → ((x : X) → p x ≡ q x) → (
 count_same p q same [] = refl
 count_same p q same (x ∷ xs) = omega (arith, sum_by-cons (λ y. cond (p y) 1 0) x xs, sum_by-cons (λ y. cond (q y) 1 0) x xs, ap {B = ℕ} (λ b. cond b 1 0) (same x), count_same p q same xs)
 
-pub begins_same : (t : ℕ) (b : List Entry) → count_by (starts_one_of (λ s. s == t)) b ≡ count_by (begins t) b
+begins_same : (t : ℕ) (b : List Entry) → count_by (starts_one_of (λ s. s == t)) b ≡ count_by (begins t) b
 begins_same t b = count_same (starts_one_of (λ s. s == t)) (begins t) each b
   where
     each : (x : Entry) → starts_one_of (λ s. s == t) x ≡ begins t x
@@ -115,26 +115,24 @@ module _ {V : Type 0} (pipeline : Pipeline V) (one : OneAnswer V) (limit : ℕ) 
           ∙ slice_get_push_last (starts_in values (task l p) b) (found_ins values ins)
 
   -- At each pipe the lines take turns.
-  pub takes_turns : (l p : ℕ) → l < pipeline.lines → p < length pipeline.serials → TakesTurns pipeline values l p h
-  takes_turns l p in_l in_p = weaker AtEntry _ each [] h at_entries
-    where
-      Turn : List Entry → Entry → Type 0
-      Turn b x = MeetsAtTurn pipeline values p (λ t. t == task l p) (λ k. place_at pipeline l k) b x
+  abbrev pub AtTurn : ℕ → ℕ → List Entry → Entry → Type 0
+  AtTurn l p = MeetsAtTurn pipeline values p (λ t. t == task l p) (λ k. place_at pipeline l k)
 
-      start_turn : (b : List Entry) (t : ℕ) (cause : Cause) (ins : List Part) → AtEntry b (Start t cause ins) → eqb t (task l p) ≡ true → meets pipeline p t (found_ins values ins) ≡ passed_at pipeline.order (place_at pipeline l (count_by (starts_one_of (λ s. s == task l p)) b))
-      start_turn b t cause ins known hit =
+  pub turn_at : (l p : ℕ) → l < pipeline.lines → p < length pipeline.serials → (b : List Entry) (x : Entry) → AtEntry b x → AtTurn l p b x
+  turn_at l p in_l in_p b (End start gives inner) known = tt
+  turn_at l p in_l in_p b (Fault start why) known = tt
+  turn_at l p in_l in_p b (Drop t cause why) known = tt
+  turn_at l p in_l in_p b (Start t cause ins) known = each
+    where
+      each : eqb t (task l p) ≡ true → meets pipeline p t (found_ins values ins) ≡ passed_at pipeline.order (place_at pipeline l (count_by (starts_one_of (λ s. s == task l p)) b))
+      each hit =
+          let task_is : t ≡ task l p = grind (arith, nat_tests) in
           ap (λ s. meets pipeline p s (found_ins values ins)) task_is
           ∙ start_meets b l p cause ins (subst (λ s. AtEntry b (Start s cause ins)) task_is known) in_l in_p
           ∙ ap (λ k. passed_at pipeline.order (place_at pipeline l k)) ((known.1.0.ran (task l p)).begun ∙ sym (begins_same (task l p) b))
-        where
-          task_is : t ≡ task l p
-          task_is = grind (arith, nat_tests)
 
-      each : (b : List Entry) (x : Entry) → AtEntry b x → Turn b x
-      each b (Start t cause ins) known = start_turn b t cause ins known
-      each b (End start gives inner) known = tt
-      each b (Fault start why) known = tt
-      each b (Drop t cause why) known = tt
+  pub takes_turns : (l p : ℕ) → l < pipeline.lines → p < length pipeline.serials → TakesTurns pipeline values l p h
+  takes_turns l p in_l in_p = weaker AtEntry (AtTurn l p) (turn_at l p in_l in_p) [] h at_entries
 
 pub lines_take_turns : {J V : Type 0} (meaning : Meaning J V) (run : FrameRun J V) → LinesTakeTurns meaning run
 lines_take_turns meaning run pipeline one is l p in_l in_p = takes_turns pipeline one (meaning.limit (job_of run)) (values_of run) (journal_of run) (is_cell_run meaning run pipeline one is) l p in_l in_p

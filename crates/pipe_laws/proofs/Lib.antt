@@ -4,3 +4,6 @@ pub mod Inputs
 pub mod CellTurns
 pub mod CellRuns
 pub mod Through
+pub mod Ordered
+pub mod Passed
+pub mod Lines

@@ -1,5 +1,5 @@
 -- Which tokens the cells of a pipeline start, and when.
-use Rattle.std.specs.Prelude.{◌≡◌, ℕ, ◌+◌, ◌*◌, ◌<◌, ◌==◌, Bool, true, false, List, [], ◌∷◌, length, take, count_by, if◌then◌else◌}
+use Rattle.std.specs.Prelude.{◌≡◌, ℕ, ◌+◌, ◌*◌, ◌<◌, ◌==◌, Bool, true, false, List, [], ◌∷◌, take, count_by, if◌then◌else◌}
 use Rattle.journal_rules.specs.declared.entry.Entry.{Entry}
 use Rattle.journal_rules.specs.declared.entry.Entry.TheVariants.{Start, End, Fault, Drop}
 use Rattle.journal_rules.specs.Entries.{EachAfter}
@@ -8,17 +8,15 @@ use Rattle.run_frame.specs.Runs.{found_ins}
 use Rattle.pipe_lines.specs.declared.order.Passed.{Passed}
 use Rattle.pipe_lines.specs.declared.order.Passed.TheVariants.{Token, Stop, Unmet}
 use Rattle.pipe_lines.specs.Orders.{passed_at}
+use Rattle.pipe_lines.specs.PipeNet.{cell}
 use Rattle.run_laws.specs.Ends.{gather}
 use Rattle.run_laws.specs.Steady.{runs_at}
 use Rattle.run_laws.specs.Cycles.{is_one_of}
 use Rattle.pipe_laws.specs.Cells.{Pipeline, cell_task, meets}
 
--- whether a task is a cell of pipe p, and whether it is one of line l
+-- whether a task is a cell of pipe p
 abbrev pub in_pipe : {V : Type 0} → Pipeline V → ℕ → ℕ → Bool
 in_pipe pipeline p = is_one_of pipeline.lines (λ l. cell_task pipeline l p)
-
-abbrev pub in_line : {V : Type 0} → Pipeline V → ℕ → ℕ → Bool
-in_line pipeline l = is_one_of (length pipeline.serials) (cell_task pipeline l)
 
 -- whether an entry is a start of one of these tasks
 abbrev pub starts_one_of : (ℕ → Bool) → Entry → Bool
@@ -63,9 +61,13 @@ pub record IsInOrder {V : Type 0} (pipeline : Pipeline V) (values : List (ValueR
 abbrev pub TakesTurns : {V : Type 0} → Pipeline V → List (ValueRow V) → ℕ → ℕ → List Entry → Type 0
 TakesTurns pipeline values l p journal = EachAfter (MeetsAtTurn pipeline values p (λ t. t == cell_task pipeline l p) (λ k. k * pipeline.lines + l)) journal
 
--- At a start of one of the cells of line l no start of them is open.
-abbrev pub StartsAlone : {V : Type 0} → Pipeline V → ℕ → List Entry → Entry → Type 0
-StartsAlone pipeline l journal (Start task cause ins) = in_line pipeline l task ≡ true → (p n : ℕ) → p < length pipeline.serials → runs_at (cell_task pipeline l p) journal n ≡ false
-StartsAlone pipeline l journal (End start gives inner) = Unit {0}
-StartsAlone pipeline l journal (Fault start why) = Unit {0}
-StartsAlone pipeline l journal (Drop task cause why) = Unit {0}
+-- whether a task is a cell of line l, where there are so many pipes
+abbrev pub in_line : ℕ → ℕ → ℕ → Bool
+in_line pipes l = is_one_of pipes (cell pipes l)
+
+-- At a start of a cell of line l no start of a cell of the line is open.
+abbrev pub StartsAlone : ℕ → ℕ → List Entry → Entry → Type 0
+StartsAlone pipes l journal (Start task cause ins) = in_line pipes l task ≡ true → (p n : ℕ) → p < pipes → runs_at (cell pipes l p) journal n ≡ false
+StartsAlone pipes l journal (End start gives inner) = Unit {0}
+StartsAlone pipes l journal (Fault start why) = Unit {0}
+StartsAlone pipes l journal (Drop task cause why) = Unit {0}
