@@ -7,3 +7,6 @@ pub mod Through
 pub mod Ordered
 pub mod Passed
 pub mod Lines
+pub mod WorkedCells
+pub mod WorkedPipeRuns
+pub mod WorkedTurns
