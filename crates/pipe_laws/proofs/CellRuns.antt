@@ -1,5 +1,5 @@
 -- A legal journal of a pipeline's cells: at each of its entries the starts before it met what the order has at their turns.
-use Rattle.std.proofs.Common.{◌≡◌, ℕ, ◌+◌, ◌<◌, ◌≤◌, Bool, true, false, cond, eqb, List, [], ◌∷◌, ◌++◌, length, Some, sym, refl, ap, subst, ◌∙◌, arith}
+use Rattle.std.proofs.Common.{◌≡◌, ℕ, ◌<◌, ◌≤◌, Bool, true, cond, eqb, List, [], ◌∷◌, ◌++◌, length, Some, sym, refl, ap, subst, ◌∙◌, arith}
 use Rattle.std.specs.Prelude.{count_by, slice_get, ◌==◌}
 use Rattle.std.proofs.lemmas.Bool.Decides.{nat_tests}
 use Rattle.std.proofs.lemmas.List.Sums.{sum_by-cons}
@@ -8,10 +8,9 @@ use Rattle.journal_rules.specs.declared.entry.Entry.TheVariants.{Start, End, Fau
 use Rattle.journal_rules.specs.declared.entry.Cause.{Cause}
 use Rattle.journal_rules.specs.declared.entry.Part.{Part}
 use Rattle.journal_rules.specs.Counts.{start_at}
-use Rattle.journal_rules.specs.Entries.{EachAfter, EachAfterThese}
+use Rattle.journal_rules.specs.Entries.{EachAfterThese}
 use Rattle.journal_rules.specs.ShapeLegal.{ShapeLegal, MeetsDataRule}
 use Rattle.journal_rules.proofs.Snoc.{slice_get_push_last}
-use Rattle.join_words.specs.Ins.{InputValue}
 use Rattle.run_frame.specs.declared.run.ValueRow.{ValueRow}
 use Rattle.run_frame.specs.declared.run.FrameRun.{FrameRun}
 use Rattle.run_frame.specs.Meaning.{Meaning}
@@ -30,7 +29,7 @@ use Rattle.pipe_laws.specs.Cells.{AreCells, Pipeline, cell_task, meets, pipeline
 use Rattle.pipe_laws.specs.PipeRuns.{IsPipeRun}
 use Rattle.pipe_laws.specs.Turns.{MeetsAtTurn, TakesTurns, starts_one_of}
 use Rattle.pipe_laws.specs.Laws.{LinesTakeTurns}
-use Rattle.pipe_laws.proofs.CellTurns.{AllEnds, AllStarts, StartAtTurn, ends_by_starts, meets_turn, no_starts, place_at, starts_step}
+use Rattle.pipe_laws.proofs.CellTurns.{AllEnds, AllStarts, ends_by_starts, meets_turn, no_starts, place_at, starts_step}
 
 pub record IsCellRun {V : Type 0} (pipeline : Pipeline V) (one : OneAnswer V) (limit : ℕ) (values : List (ValueRow V)) (h : List Entry) : Type 0 where
   pub some_lines : 1 ≤ pipeline.lines

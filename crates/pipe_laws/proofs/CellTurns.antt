@@ -1,5 +1,5 @@
 -- Each start of a cell meets what the order has at its turn, and each end is of the token that passed there.
-use Rattle.std.proofs.Common.{◌≡◌, ◌⊎◌, inl, inr, ℕ, zero, suc, ◌+◌, ◌*◌, ◌<◌, ◌≤◌, Bool, true, false, not, cond, List, [], ◌∷◌, ◌++◌, length, map, get_or, Option, Some, None, sym, refl, ap, ◌∙◌, arith}
+use Rattle.std.proofs.Common.{◌≡◌, ℕ, zero, suc, ◌+◌, ◌*◌, ◌<◌, ◌≤◌, Bool, true, false, not, cond, List, [], ◌∷◌, ◌++◌, length, map, get_or, Option, Some, None, sym, refl, ap, ◌∙◌, arith}
 use Rattle.std.specs.Prelude.{slice_get, filter, ◌==◌}
 use Rattle.std.specs.Option.{option_map_or, option_map}
 use Rattle.std.specs.List.{list_any, AllZip}
@@ -16,7 +16,7 @@ use Rattle.pipe_lines.specs.declared.order.Order.{Order}
 use Rattle.pipe_lines.specs.declared.order.Passed.{Passed}
 use Rattle.pipe_lines.specs.declared.order.Passed.TheVariants.{Token, Stop, Unmet}
 use Rattle.pipe_lines.specs.Orders.{passed_or, passed_at}
-use Rattle.pipe_lines.specs.PipeNet.{PipeEdge, cell, pipe_edges}
+use Rattle.pipe_lines.specs.PipeNet.{PipeEdge, pipe_edges}
 use Rattle.pipe_lines.proofs.StepLemmas.{token_within}
 use Rattle.run_laws.specs.OneThreadValue.{TaskEnd, OneAnswer, tokens, begun}
 use Rattle.run_laws.proofs.Phases.{Phase, ends_few}

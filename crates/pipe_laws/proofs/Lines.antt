@@ -1,12 +1,10 @@
 -- A line has at most one open start.
-use Rattle.std.proofs.Common.{◌≡◌, ℕ, ◌<◌, ◌≤◌, Bool, true, false, List, [], ◌∷◌, ◌++◌, length, refl, subst, arith}
+use Rattle.std.proofs.Common.{◌≡◌, ℕ, ◌<◌, Bool, true, false, List, [], ◌∷◌, ◌++◌, length, refl, subst}
 use Rattle.task_graph.specs.Places.{places}
 use Rattle.task_graph.specs.NetRows.{NetRows}
 use Rattle.journal_rules.specs.declared.entry.Entry.{Entry}
 use Rattle.journal_rules.specs.declared.entry.Entry.TheVariants.{Start, End, Fault, Drop}
-use Rattle.journal_rules.specs.declared.entry.Cause.{Cause}
 use Rattle.journal_rules.specs.declared.entry.Cause.TheVariants.{Strong}
-use Rattle.journal_rules.specs.declared.entry.Part.{Part}
 use Rattle.journal_rules.specs.Counts.{start_at}
 use Rattle.journal_rules.specs.ReleaseRule.{IsReleased}
 use Rattle.journal_rules.specs.ShapeLegal.{MayFollow}

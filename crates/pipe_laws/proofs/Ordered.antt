@@ -1,6 +1,6 @@
 -- The starts of each serial pipe come in the order of the tokens.
 use Rattle.std.proofs.Common.{◌≡◌, ◌⊎◌, inl, inr, ℕ, zero, suc, ◌+◌, ◌*◌, ◌<◌, ◌≤◌, Bool, true, false, cond, eqb, ltb, List, [], ◌∷◌, ◌++◌, length, take, get_or, Option, Some, None, sym, refl, ap, subst, ◌∙◌, arith}
-use Rattle.std.specs.Prelude.{slice_get, count_by, ◌==◌}
+use Rattle.std.specs.Prelude.{slice_get, count_by}
 use Rattle.std.proofs.lemmas.Bool.Decides.{nat_tests}
 use Rattle.std.proofs.Math.Seq.{take-suc}
 use Rattle.std.proofs.lemmas.Bool.{cases_lt}
@@ -13,7 +13,7 @@ use Rattle.journal_rules.specs.declared.entry.Entry.TheVariants.{Start, End, Fau
 use Rattle.journal_rules.specs.declared.entry.Cause.{Cause}
 use Rattle.journal_rules.specs.declared.entry.Cause.TheVariants.{Strong}
 use Rattle.journal_rules.specs.declared.entry.Part.{Part}
-use Rattle.journal_rules.specs.Counts.{used, start_at}
+use Rattle.journal_rules.specs.Counts.{start_at}
 use Rattle.journal_rules.specs.ReleaseRule.{IsReleased}
 use Rattle.journal_rules.specs.Entries.{EachAfter, EachAfterThese}
 use Rattle.journal_rules.proofs.Snoc.{count_by_push}

@@ -1,7 +1,6 @@
 -- In a complete run in which nothing was cut short all tokens pass all pipes.
-use Rattle.std.proofs.Common.{◌≡◌, ◌⊎◌, inl, inr, ℕ, zero, suc, ◌+◌, ◌*◌, ◌%◌, ◌/◌, ◌<◌, ◌≤◌, Bool, true, false, ◌||◌, cond, eqb, ltb, List, [], ◌∷◌, ◌++◌, length, take, get_or, Option, Some, None, sym, refl, ap, subst, ◌∙◌, arith}
+use Rattle.std.proofs.Common.{◌≡◌, ◌⊎◌, inl, inr, ℕ, zero, suc, ◌+◌, ◌*◌, ◌%◌, ◌/◌, ◌<◌, ◌≤◌, Bool, true, false, ◌||◌, cond, eqb, ltb, List, [], ◌∷◌, ◌++◌, length, get_or, Option, Some, None, sym, refl, ap, subst, ◌∙◌, arith}
 use Rattle.std.specs.Prelude.{slice_get, count_by, ◌==◌}
-use Rattle.std.specs.List.{list_any}
 use Rattle.std.proofs.Math.Nat.{mod-add-div', mod-lt}
 use Rattle.std.proofs.lemmas.Bool.Decides.{nat_tests}
 use Rattle.std.proofs.lemmas.Bool.{cases_lt, false≢true}
@@ -11,7 +10,7 @@ use Rattle.std.proofs.lemmas.Option.{slice_get_within, slice_get_past, slice_get
 use Rattle.task_graph.specs.NetRows.{NetRows}
 use Rattle.journal_rules.specs.declared.entry.Entry.{Entry}
 use Rattle.journal_rules.specs.declared.entry.Entry.TheVariants.{Start, End, Fault, Drop}
-use Rattle.journal_rules.specs.Counts.{used, start_at}
+use Rattle.journal_rules.specs.Counts.{start_at}
 use Rattle.journal_rules.specs.Complete.{Complete}
 use Rattle.join_words.specs.Ins.{InputValue}
 use Rattle.run_frame.specs.declared.run.ValueRow.{ValueRow}
@@ -20,13 +19,12 @@ use Rattle.run_frame.specs.Meaning.{Meaning}
 use Rattle.run_frame.specs.Runs.{IsFine, found_ins, values_of}
 use Rattle.run_frame.specs.NestedRule.{job_of, journal_of}
 use Rattle.pipe_lines.specs.declared.order.Order.{Order}
-use Rattle.pipe_lines.specs.declared.order.Passed.{Passed as PassedAt}
-use Rattle.pipe_lines.specs.declared.order.Passed.TheVariants.{Token, Stop, Unmet}
+use Rattle.pipe_lines.specs.declared.order.Passed.TheVariants.{Token, Unmet}
 use Rattle.pipe_lines.specs.Orders.{end_of, passed_or, passed_at}
 use Rattle.pipe_lines.specs.PassOrder.{has_passed}
 use Rattle.run_laws.specs.OneThreadValue.{TaskEnd, OneAnswer}
 use Rattle.run_laws.specs.Ends.{gather}
-use Rattle.run_laws.specs.Cycles.{LiesAt, is_one_of, turn, uses_some}
+use Rattle.run_laws.specs.Cycles.{LiesAt, turn, uses_some}
 use Rattle.run_laws.proofs.Along.{along}
 use Rattle.run_laws.proofs.Order.{Going, rounds_along}
 use Rattle.run_laws.proofs.Pipes.{pipes_ringed}
@@ -36,8 +34,8 @@ use Rattle.run_laws.proofs.Through.{Passing, any_at, any_passes}
 use Rattle.run_laws.proofs.Whole.{all_ended, unstopped}
 use Rattle.pipe_laws.specs.Cells.{Pipeline, cell_task, meets, pipeline_net}
 use Rattle.pipe_laws.specs.Turns.{in_pipe, starts_one_of, token_passed, token_started, tokens_started}
-use Rattle.pipe_laws.specs.Laws.{PassAllPipes, StartsAll}
-use Rattle.pipe_laws.proofs.CellTurns.{meets_turn, place_at}
+use Rattle.pipe_laws.specs.Laws.{PassAllPipes}
+use Rattle.pipe_laws.proofs.CellTurns.{meets_turn}
 use Rattle.pipe_laws.proofs.CellRuns.{AtEntry, IsCellRun, all_starts, at_entries, is_cell_run, kept, turn_at}
 use Rattle.pipe_laws.proofs.Through.{end_place, finished, in_net, some_pipes, starts_at_place}
 use Rattle.pipe_laws.proofs.Ordered.{Stands, cycle, in_order, standing, started_more}

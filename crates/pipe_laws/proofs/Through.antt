@@ -1,8 +1,7 @@
 -- In a complete run in which nothing was cut short each cell starts at each place before the end.
-use Rattle.std.proofs.Common.{◌≡◌, ◌≢◌, ℕ, zero, suc, ◌+◌, ◌*◌, ◌<◌, ◌≤◌, Bool, true, false, cond, List, [], ◌∷◌, ◌++◌, length, map, Option, Some, sym, refl, ap, ◌∙◌, arith, length-append}
-use Rattle.std.specs.Prelude.{slice_get, filter, ◌==◌}
+use Rattle.std.proofs.Common.{◌≡◌, ◌≢◌, ℕ, zero, suc, ◌+◌, ◌*◌, ◌<◌, ◌≤◌, Bool, true, false, cond, List, [], ◌∷◌, length, map, Some, sym, refl, ap, ◌∙◌, arith, length-append}
+use Rattle.std.specs.Prelude.{slice_get, filter}
 use Rattle.std.specs.Option.{option_map_or}
-use Rattle.std.specs.List.{list_any, AllByRecursion}
 use Rattle.std.proofs.lemmas.List.{length-map, length-replicate}
 use Rattle.std.proofs.lemmas.Option.{slice_get_within}
 use Rattle.task_graph.specs.NetRows.{NetRows}
@@ -12,10 +11,10 @@ use Rattle.journal_rules.specs.declared.entry.Entry.{Entry}
 use Rattle.journal_rules.specs.Counts.{given, used, start_at}
 use Rattle.journal_rules.specs.Complete.{Complete, least}
 use Rattle.journal_rules.proofs.Reaching.{at_below}
-use Rattle.join_words.specs.Ins.{InputValue, value, first}
+use Rattle.join_words.specs.Ins.{value, first}
 use Rattle.run_frame.specs.declared.run.ValueRow.{ValueRow}
 use Rattle.run_frame.specs.Runs.{IsFine}
-use Rattle.pipe_lines.specs.PipeNet.{PipeEdge, cell, cell_row, pipe_edges}
+use Rattle.pipe_lines.specs.PipeNet.{PipeEdge, cell_row, pipe_edges}
 use Rattle.run_laws.specs.OneThreadValue.{TaskEnd, OneAnswer, begun, tokens}
 use Rattle.run_laws.proofs.Lists.{all_weaken}
 use Rattle.run_laws.proofs.Steps.{starts_in, ends_in}
@@ -183,7 +182,7 @@ module _ {V : Type 0} (pipeline : Pipeline V) where
             all_used,
             used_is,
             least_above (k + 1) (λ e. given net e h) (strong_in net (task l p)) some
-            (all_weaken (EdgeInto lines pipeline.serials (task l p)) (λ e. k + 1 ≤ given net e h) each_given (strong_in net (task l p)) (edges_into lines pipeline.serials (task l p))),
+                (all_weaken (EdgeInto lines pipeline.serials (task l p)) (λ e. k + 1 ≤ given net e h) each_given (strong_in net (task l p)) (edges_into lines pipeline.serials (task l p))),
           )
 
     starts_below : (m : ℕ) → StartsBelow m

@@ -1,5 +1,5 @@
 -- What cells find, meet and answer, computed on two lines and two pipes.
-use Rattle.std.proofs.Common.{◌≡◌, ℕ, zero, suc, ◌*◌, ◌<◌, ◌==◌, Bool, true, false, List, [], ◌∷◌, length, replicate, Option, Some, None, if◌then◌else◌, refl, ap, sym, ◌∙◌, arith}
+use Rattle.std.proofs.Common.{◌≡◌, ℕ, zero, suc, ◌<◌, ◌≤◌, ◌==◌, true, false, List, [], ◌∷◌, length, replicate, Option, Some, None, if◌then◌else◌, refl, ap, sym, ◌∙◌, arith}
 use Rattle.std.proofs.lemmas.List.{length-replicate}
 use Rattle.std.proofs.lemmas.Option.{none-some, same_Some}
 use Rattle.task_graph.specs.Net.{out_edges, strong_in}
@@ -127,7 +127,7 @@ of_four P a b c d (suc zero) (suc zero) in_l in_p = d
 of_four P a b c d (suc (suc l)) p in_l in_p = absurd (omega (arith, in_l))
 of_four P a b c d l (suc (suc p)) in_l in_p = absurd (omega (arith, in_p))
 
-are_cells : (order : Order) (one : OneAnswer Pair) → length order.passed < 9 → ((l p : ℕ) → l < 2 → p < 2 → AnswersAt order one l p) → AreCells (two_by_two order) one
+are_cells : (order : Order) (one : OneAnswer Pair) → length order.passed ≤ 65536 → ((l p : ℕ) → l < 2 → p < 2 → AnswersAt order one l p) → AreCells (two_by_two order) one
 are_cells order one short same = record {
   few = omega (arith, short);
   place = λ l found end in_l is. (gives_and_place _ _ _ end (sym (same l 0 in_l (omega arith) found) ∙ is)).1;
@@ -178,5 +178,11 @@ token_behind_the_end are = absurd (omega (arith, ap count (are.gives 1 0 (pair 0
 answer_without_a_token : ¬ AreCells leaving (but_at 0 (ends 0 2 []) leaving)
 answer_without_a_token are = let none : Some (record { value = (0, 2); gives = [] }) ≡ None = are.unmet 0 2 (first ∷ pair 0 1 ∷ []) (omega arith) refl in absurd (none-some _ (sym none))
 
-too_many_tokens : ¬ AreCells (two_by_two (record { passed = replicate 65537 0; unmet = None })) (pairs (two_by_two (record { passed = replicate 65537 0; unmet = None })))
+abbrev so_many : ℕ → Order
+so_many n = record { passed = replicate n 0; unmet = None }
+
+most_tokens : AreCells (two_by_two (so_many 65536)) (pairs (two_by_two (so_many 65536)))
+most_tokens = are_cells (so_many 65536) (pairs (two_by_two (so_many 65536))) (omega (arith, length-replicate {A = ℕ} 65536 0)) (of_four (AnswersAt (so_many 65536) (pairs (two_by_two (so_many 65536)))) (λ f. refl) (λ f. refl) (λ f. refl) (λ f. refl))
+
+too_many_tokens : ¬ AreCells (two_by_two (so_many 65537)) (pairs (two_by_two (so_many 65537)))
 too_many_tokens are = absurd (omega (arith, are.few, length-replicate {A = ℕ} 65537 0))

@@ -1,10 +1,9 @@
 -- A run of two lines and two pipes, of whose two tokens the first waits for the second: a run as the laws ask for.
-use Rattle.std.proofs.Common.{◌≡◌, ◌≢◌, ℕ, zero, suc, ◌+◌, ◌<◌, ◌≤◌, true, false, List, [], ◌∷◌, ◌++◌, length, Some, None, Vec, refl, inl, inr, ap, sym, arith}
+use Rattle.std.proofs.Common.{◌≡◌, ℕ, ◌<◌, true, false, List, [], ◌∷◌, ◌++◌, length, Some, None, Vec, refl, inl, inr, ap, sym, arith}
 use Rattle.std.specs.Prelude.{count_by, take}
 use Rattle.std.proofs.lemmas.Bool.{false≢true}
 use Rattle.std.proofs.lemmas.Option.{none-some}
 use Rattle.std.specs.Global.{Global}
-use Rattle.std.specs.declared.sync.Arc.{Arc}
 use Rattle.std.specs.declared.vec.Vec.{ok-type, small-type}
 use denote.RawPtr.{Ptr}
 use denote.Hole.Carrier.{out, shown}
@@ -13,7 +12,6 @@ use Rattle.task_graph.specs.Net.{out_edges}
 use Rattle.journal_rules.specs.declared.entry.Cause.TheVariants.{Strong}
 use Rattle.journal_rules.specs.declared.entry.Part.{Part}
 use Rattle.journal_rules.specs.declared.entry.Part.TheVariants.{From, First}
-use Rattle.journal_rules.specs.declared.entry.Why.{Why}
 use Rattle.journal_rules.specs.declared.entry.Entry.{Entry}
 use Rattle.journal_rules.specs.declared.entry.Entry.TheVariants.{Start, End}
 use Rattle.journal_rules.specs.Counts.{starts}
@@ -34,7 +32,7 @@ use Rattle.run_frame.specs.declared.run.InnerRow.{out-InnerRow}
 use Rattle.run_frame.specs.declared.run.ValueRow.{ValueRow}
 use Rattle.run_frame.specs.Meaning.{Meaning}
 use Rattle.run_frame.specs.Runs.{IsFine, values_of}
-use Rattle.run_frame.specs.NestedRule.{job_of, journal_of}
+use Rattle.run_frame.specs.NestedRule.{journal_of}
 use Rattle.run_frame.specs.WorkRule.{gives_of}
 use Rattle.run_frame.specs.Legal.{CompleteRun, Legal}
 use Rattle.pipe_lines.specs.PassOrder.{has_passed}

@@ -1,5 +1,5 @@
 -- Which tokens cells start, and when, computed on two lines and two pipes: token 1 passes before token 0.
-use Rattle.std.proofs.Common.{◌≡◌, ℕ, zero, suc, ◌+◌, ◌*◌, ◌<◌, ◌==◌, true, false, List, [], ◌∷◌, ◌++◌, Some, refl, sym, ap, arith}
+use Rattle.std.proofs.Common.{◌≡◌, ℕ, zero, suc, ◌+◌, ◌<◌, true, false, List, [], ◌∷◌, ◌++◌, refl, sym, ap, arith}
 use Rattle.std.specs.Prelude.{count_by, take}
 use Rattle.std.proofs.lemmas.Bool.{false≢true}
 use denote.RawPtr.{Ptr}

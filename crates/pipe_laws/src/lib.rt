@@ -9,4 +9,4 @@
 
 mod laws;
 
-pub use laws::{tokens_pass_all_pipes, lines_start_alone, lines_take_turns, pipes_keep_order};
+pub use laws::{lines_start_alone, lines_take_turns, pipes_keep_order, tokens_pass_all_pipes};
