@@ -1,5 +1,5 @@
 -- The tasks of a ring with one token start in turn.
-use Rattle.std.proofs.Common.{◌≡◌, ◌≢◌, ◌⊎◌, inl, inr, ℕ, zero, suc, ◌+◌, ◌-◌, ◌<◌, ◌≤◌, Bool, true, false, ◌&&◌, cond, eqb, ltb, List, [], ◌∷◌, ◌++◌, length, Option, sym, refl, ap, ◌∙◌, subst, arith}
+use Rattle.std.proofs.Common.{◌≡◌, ◌≢◌, ◌⊎◌, inl, inr, ℕ, zero, suc, ◌+◌, ◌-◌, ◌*◌, ◌<◌, ◌≤◌, Bool, true, false, ◌&&◌, cond, eqb, ltb, List, [], ◌∷◌, ◌++◌, length, Option, sym, refl, ap, ◌∙◌, subst, arith}
 use Rattle.std.specs.Prelude.{count_by, ◌==◌}
 use Rattle.std.specs.List.{list_any}
 use Rattle.std.proofs.lemmas.Bool.Decides.{nat_tests}
@@ -12,7 +12,7 @@ use Rattle.journal_rules.specs.declared.entry.Cause.{Cause}
 use Rattle.journal_rules.specs.declared.entry.Cause.TheVariants.{Strong}
 use Rattle.journal_rules.specs.Counts.{given, gives_edge, first_tokens, used, uses, is_strong, start_at}
 use Rattle.journal_rules.specs.ReleaseRule.{IsReleased}
-use Rattle.journal_rules.specs.Entries.{EachAfter}
+use Rattle.journal_rules.specs.Entries.{EachAfter, EachAfterThese}
 use Rattle.journal_rules.specs.ShapeLegal.{ShapeLegal, MayFollow}
 use Rattle.journal_rules.proofs.Snoc.{count_by_push}
 use Rattle.journal_rules.proofs.Tallying.{count_by_push_no, count_by_push_yes}
@@ -38,6 +38,7 @@ pub record Going (n : ℕ) (cell : ℕ → ℕ) (among : ℕ → Bool) (b : List
   pub cycles : ℕ
   pub in_ring : turn n (count_by (uses_some among) b) < n
   pub each : (l : ℕ) → l < n → used (cell l) b ≡ cycles + one_if (ltb l (turn n (count_by (uses_some among) b)))
+  pub total : count_by (uses_some among) b ≡ cycles * n + turn n (count_by (uses_some among) b)
 
 -- an edge was given no more than its source was used, and its first token
 given_most : (net : NetRows) (at : ℕ → Option ℕ) (b : List Entry) → Turning net at b → Passing net at b → (e : ℕ) → given net e b ≤ used (source_of net e) b + first_tokens net e
@@ -156,10 +157,14 @@ going_use n cell among net b x l cycle uses_it below its uses_is going = by_end 
           cycles = going.cycles + 1;
           in_ring = omega (arith, round, cycle.some);
           each = λ m m_below. used_now m m_below ∙ ap (λ u. u + one_if (eqb m r)) (going.each m m_below) ∙ full m m_below ∙ sym (ap (λ k. going.cycles + 1 + one_if (ltb m k)) round);
+          total = omega (arith, one_more, going.total, round, at_end, cycle_more);
         }
       where
         at_end : r + 1 ≡ n
         at_end = grind (arith, nat_tests)
+
+        cycle_more : (going.cycles + 1) * n ≡ going.cycles * n + n
+        cycle_more = omega arith
 
         full : (m : ℕ) → m < n → going.cycles + one_if (ltb m r) + one_if (eqb m r) ≡ going.cycles + 1 + one_if (ltb m 0)
         full m m_below = by_place (cases_lt m r)
@@ -191,6 +196,7 @@ going_use n cell among net b x l cycle uses_it below its uses_is going = by_end 
           cycles = going.cycles;
           in_ring = omega (arith, on, going.in_ring, not_end);
           each = λ m m_below. used_now m m_below ∙ ap (λ u. u + one_if (eqb m r)) (going.each m m_below) ∙ one_on m ∙ sym (ap (λ k. going.cycles + one_if (ltb m k)) on);
+          total = omega (arith, one_more, going.total, on);
         }
       where
         one_on : (m : ℕ) → going.cycles + one_if (ltb m r) + one_if (eqb m r) ≡ going.cycles + one_if (ltb m (r + 1))
@@ -229,6 +235,7 @@ going_still n cell among b x no_use no_strong going =
       cycles = going.cycles;
       in_ring = subst (λ k. turn n k < n) (sym same) going.in_ring;
       each = λ l below. count_by_push_no (uses is_strong (cell l)) b x (no_strong l below) ∙ going.each l below ∙ ap (λ k. going.cycles + one_if (ltb l (turn n k))) (sym same);
+      total = subst (λ k. k ≡ going.cycles * n + turn n k) (sym same) going.total;
     }
 
 -- an entry of another task
@@ -271,9 +278,9 @@ passing_step net limit at b (End start gives inner) ringed told may passing = re
     by_gift e true gift = omega (arith, passing.gifts e, count_by_push_yes (gives_edge e) b x gift, count_by_push_yes (ends_one at (source_of net e)) b x (gift_source net at b start gives inner e ringed.strong (told_before at b x told) may.closing may.choice gift))
     by_gift e false none = omega (arith, passing.gifts e, count_by_push_no (gives_edge e) b x none, count_by_push (ends_one at (source_of net e)) b x)
 
-record Round (net : NetRows) (n : ℕ) (cell : ℕ → ℕ) (among : ℕ → Bool) (at : ℕ → Option ℕ) (b : List Entry) : Type 0 where
-  passing : Passing net at b
-  going : Going n cell among b
+pub record Round (net : NetRows) (n : ℕ) (cell : ℕ → ℕ) (among : ℕ → Bool) (at : ℕ → Option ℕ) (b : List Entry) : Type 0 where
+  pub passing : Passing net at b
+  pub going : Going n cell among b
 
 -- a use of a task of the ring is in turn
 in_turn : (net : NetRows) (at : ℕ → Option ℕ) (n : ℕ) (cell : ℕ → ℕ) (among : ℕ → Bool) (b : List Entry) (t : ℕ) (cause : Cause) → IsRinged net → IsCycle net n cell among → Turning net at b → Round net n cell among at b
@@ -311,22 +318,27 @@ round_step net limit at n cell among b x ringed cycle turning told may round = r
 round_first : (net : NetRows) (n : ℕ) (cell : ℕ → ℕ) (among : ℕ → Bool) (at : ℕ → Option ℕ) → IsCycle net n cell among → Round net n cell among at []
 round_first net n cell among at cycle = record {
   passing = record { gifts = λ e. omega arith; begun = λ t. omega arith };
-  going = record { cycles = 0; in_ring = cycle.some; each = λ l below. let never : ltb l 0 ≡ false = grind (arith, nat_tests) in let none : one_if (ltb l 0) ≡ 0 = ap one_if never in omega (arith, none) };
+  going = record { cycles = 0; in_ring = cycle.some; each = λ l below. let never : ltb l 0 ≡ false = grind (arith, nat_tests) in let none : one_if (ltb l 0) ≡ 0 = ap one_if never in omega (arith, none); total = omega arith };
 }
+
+-- what is known at each entry
+abbrev pub InRound : NetRows → ℕ → ℕ → (ℕ → ℕ) → (ℕ → Bool) → (ℕ → Option ℕ) → List Entry → Entry → Type 0
+InRound net limit n cell among at b x = Round net n cell among at b × (Turning net at b × (Told at (b ++ x ∷ []) × MayFollow net limit b x))
+
+pub rounds_along : (net : NetRows) (limit : ℕ) (n : ℕ) (cell : ℕ → ℕ) (among : ℕ → Bool) (h : List Entry) → IsRinged net → IsCycle net n cell among → ShapeLegal net limit h
+    → EachAfterThese (InRound net limit n cell among (start_at h)) [] h × Round net n cell among (start_at h) h
+rounds_along net limit n cell among h ringed cycle shape =
+    along _ (Round net n cell among (start_at h)) (λ b x rule round. round_step net limit (start_at h) n cell among b x ringed cycle rule.0 rule.1.0 rule.1.1 round) [] h (round_first net n cell among (start_at h) cycle) (turning_along net limit h ringed shape).0
 
 -- The Starts and Drops of a ring's tasks go round.
 pub goes_round : (net : NetRows) (limit : ℕ) (n : ℕ) (cell : ℕ → ℕ) (among : ℕ → Bool) (h : List Entry) → IsRinged net → IsCycle net n cell among → ShapeLegal net limit h → EachAfter (GoesRound n cell among) h
 goes_round net limit n cell among h ringed cycle shape =
-    weaker _ (GoesRound n cell among) each [] h
-    (along Rule (Round net n cell among at) (λ b x rule round. round_step net limit at n cell among b x ringed cycle rule.0 rule.1.0 rule.1.1 round) [] h (round_first net n cell among at cycle) (turning_along net limit h ringed shape).0).0
+    weaker _ (GoesRound n cell among) each [] h (rounds_along net limit n cell among h ringed cycle shape).0
   where
     at : ℕ → Option ℕ
     at = start_at h
 
-    Rule : List Entry → Entry → Type 0
-    Rule b x = Turning net at b × (Told at (b ++ x ∷ []) × MayFollow net limit b x)
-
-    each : (b : List Entry) (x : Entry) → Round net n cell among at b × Rule b x → GoesRound n cell among b x
+    each : (b : List Entry) (x : Entry) → InRound net limit n cell among at b x → GoesRound n cell among b x
     each b (Start task cause ins) known = λ inside. let l : LiesAt n cell task = cycle.lies task inside in l.is ∙ ap cell (in_turn net at n cell among b task cause ringed cycle known.1.0 known.0 known.1.1.1.in_range.0 known.1.1.1.release l)
     each b (Drop task cause why) known = λ inside. let l : LiesAt n cell task = cycle.lies task inside in l.is ∙ ap cell (in_turn net at n cell among b task cause ringed cycle known.1.0 known.0 known.1.1.1.in_range.0 known.1.1.1.release l)
     each b (End start gives inner) known = tt

@@ -17,9 +17,9 @@ use Rattle.run_laws.proofs.Pipes.{pipes_ringed}
 
 -- ---- where an edge stands
 
-record HasEdge (edges : List PipeEdge) (edge : PipeEdge) : Type 0 where
-  place : ℕ
-  at : slice_get edges place ≡ Some edge
+pub record HasEdge (edges : List PipeEdge) (edge : PipeEdge) : Type 0 where
+  pub place : ℕ
+  pub at : slice_get edges place ≡ Some edge
 
 in_front : (xs ys : List PipeEdge) (edge : PipeEdge) → HasEdge xs edge → HasEdge (xs ++ ys) edge
 in_front xs ys edge has = record { place = has.place; at = get_append xs ys has.place edge has.at }
@@ -29,7 +29,7 @@ behind [] ys edge has = has
 behind (x ∷ xs) ys edge has = let later : HasEdge (xs ++ ys) edge = behind xs ys edge has in record { place = suc later.place; at = later.at }
 
 -- the edge of a line out of pipe q
-has_line_edge : (lines pipes l p q : ℕ) (serials : List Bool) → p ≤ q → q < p + length serials → HasEdge (edges_from lines pipes l p serials) (line_edge pipes l q)
+pub has_line_edge : (lines pipes l p q : ℕ) (serials : List Bool) → p ≤ q → q < p + length serials → HasEdge (edges_from lines pipes l p serials) (line_edge pipes l q)
 has_line_edge lines pipes l p q [] from below = absurd (omega (arith, from, below))
 has_line_edge lines pipes l p q (is_serial ∷ rest) from below = by_place (cases_eq p q) (λ other. has_line_edge lines pipes l (p + 1) q rest (omega (arith, other, from)) (omega (arith, below)))
   where
@@ -38,7 +38,7 @@ has_line_edge lines pipes l p q (is_serial ∷ rest) from below = by_place (case
     by_place (inr other) more = behind (cell_edges lines pipes l p is_serial) (edges_from lines pipes l (p + 1) rest) (line_edge pipes l q) (more other)
 
 -- the edge of a serial pipe out of a line
-has_serial_edge : (lines pipes l p q : ℕ) (serials : List Bool) → slice_get serials q ≡ Some true → HasEdge (edges_from lines pipes l p serials) (serial_edge lines pipes l (q + p))
+pub has_serial_edge : (lines pipes l p q : ℕ) (serials : List Bool) → slice_get serials q ≡ Some true → HasEdge (edges_from lines pipes l p serials) (serial_edge lines pipes l (q + p))
 has_serial_edge lines pipes l p q [] is = absurd (cc)
 has_serial_edge lines pipes l p zero (true ∷ rest) is = record { place = 1; at = ap (λ k. Some (serial_edge lines pipes l k)) (omega arith) }
 has_serial_edge lines pipes l p zero (false ∷ rest) is = absurd (cc)
@@ -48,7 +48,7 @@ has_serial_edge lines pipes l p (suc q) (is_serial ∷ rest) is =
     (subst (λ k. HasEdge (edges_from lines pipes l (p + 1) rest) (serial_edge lines pipes l k)) (omega arith) later)
 
 -- what stands among the edges of one line stands among all
-has_in_line : (lines : ℕ) (serials : List Bool) (k l n : ℕ) (edge : PipeEdge) → l ≤ k → k < l + n → HasEdge (edges_from lines (length serials) k 0 serials) edge → HasEdge (line_edges lines serials l n) edge
+pub has_in_line : (lines : ℕ) (serials : List Bool) (k l n : ℕ) (edge : PipeEdge) → l ≤ k → k < l + n → HasEdge (edges_from lines (length serials) k 0 serials) edge → HasEdge (line_edges lines serials l n) edge
 has_in_line lines serials k l zero edge from below has = absurd (omega (arith, from, below))
 has_in_line lines serials k l (suc n) edge from below has = by_place (cases_eq l k) (λ other. has_in_line lines serials k (l + 1) n edge (omega (arith, other, from)) (omega (arith, below)) has)
   where
@@ -63,7 +63,7 @@ has_in_line lines serials k l (suc n) edge from below has = by_place (cases_eq l
 eqb_same : (n : ℕ) → (n == n) ≡ true
 eqb_same n = let hit : eqb n n ≡ true = grind (arith, nat_tests) in hit
 
-found_from : (at : ℕ → ℕ) (t a k m : ℕ) → a ≤ m → m < a + k → at m ≡ t → list_any (λ l. at l == t) (range_with_len a k) ≡ true
+pub found_from : (at : ℕ → ℕ) (t a k m : ℕ) → a ≤ m → m < a + k → at m ≡ t → list_any (λ l. at l == t) (range_with_len a k) ≡ true
 found_from at t a zero m from below is = absurd (omega (arith, from, below))
 found_from at t a (suc k) m from below is = by_place (cases_eq a m) (λ other. found_from at t (a + 1) k m (omega (arith, other, from)) (omega (arith, below)) is)
   where
@@ -93,7 +93,7 @@ place_from at t a (suc k) is = by_place (cases_eq (at a) t) is (place_from at t 
         let later : Placed at t (a + 1) k = more (sym (ap (λ b. b || list_any (λ l. at l == t) (range_with_len (a + 1) k)) miss) ∙ any) in
         record { place = later.place; from = omega (arith, later.from); below = omega (arith, later.below); is = later.is }
 
-lies_at : (n : ℕ) (at : ℕ → ℕ) (t : ℕ) → is_one_of n at t ≡ true → LiesAt n at t
+pub lies_at : (n : ℕ) (at : ℕ → ℕ) (t : ℕ) → is_one_of n at t ≡ true → LiesAt n at t
 lies_at n at t is = let placed : Placed at t 0 n = place_from at t 0 n is in record { place = placed.place; below = omega (arith, placed.below); is = placed.is }
 
 -- ---- the cycles
@@ -150,7 +150,7 @@ module _ (lines : ℕ) (serials : List Bool) where
   same_lines k (suc l) zero some is = absurd (omega (arith, some, is))
   same_lines k (suc l) (suc m) some is = ap suc (same_lines k l m some (omega (arith, is)))
 
-  pipe_cycle : (p : ℕ) → slice_get serials p ≡ Some true → 1 ≤ lines → 1 ≤ pipes → IsCycle net lines (λ l. cell pipes l p) (is_one_of lines (λ l. cell pipes l p))
+  pub pipe_cycle : (p : ℕ) → slice_get serials p ≡ Some true → 1 ≤ lines → 1 ≤ pipes → IsCycle net lines (λ l. cell pipes l p) (is_one_of lines (λ l. cell pipes l p))
   pipe_cycle p serial some some_pipes = cycle lines (λ l. cell pipes l p) (λ l. serial_edge lines pipes l p) some
       (λ l m in_l in_m same. same_lines pipes l m some_pipes (omega (arith, same)))
       (λ l below. has_in_line lines serials l 0 lines (serial_edge lines pipes l p) (omega arith) (omega (arith, below)) (from_first l (has_serial_edge lines pipes l 0 p serials serial)))

@@ -83,11 +83,11 @@ one_last n a (suc (suc k)) is =
     omega (arith, sum_by-cons (λ i. one_if (i + 1 == n)) a (range_with_len (a + 1) (suc k)), none, one_last n (a + 1) (suc k) (omega arith))
 
 -- whether an edge is one of a line
-abbrev of_line : ℕ → PipeEdge → Bool
+abbrev pub of_line : ℕ → PipeEdge → Bool
 of_line l edge = not edge.serial && (edge.of == l)
 
 -- whether it is one of a serial pipe
-abbrev of_pipe : ℕ → PipeEdge → Bool
+abbrev pub of_pipe : ℕ → PipeEdge → Bool
 of_pipe p edge = edge.serial && (edge.of == p)
 
 -- the sum over a line, from pipe p on
@@ -311,7 +311,7 @@ module _ (lines : ℕ) (serials : List Bool) where
   abbrev all : List PipeEdge
   all = pipe_edges lines serials
 
-  row_at : (e : ℕ) (edge : PipeEdge) → slice_get all e ≡ Some edge → slice_get net.edges e ≡ Some edge.row
+  pub row_at : (e : ℕ) (edge : PipeEdge) → slice_get all e ≡ Some edge → slice_get net.edges e ≡ Some edge.row
   row_at e edge is = slice_get-map (λ (d : PipeEdge). d.row) all e ∙ ap (option_map (λ (d : PipeEdge). d.row)) is
 
   places_of : (q : PipeEdge → Bool) (g : EdgeRow → ℕ) (f : ℕ → ℕ) → ((e : ℕ) (edge : PipeEdge) → slice_get all e ≡ Some edge → f e ≡ g edge.row) → sum_by f (places q all) ≡ ring_sum q g all
@@ -332,12 +332,12 @@ module _ (lines : ℕ) (serials : List Bool) where
     in_range = all_places q (λ e. e < length net.edges) all (λ e edge is passes. slice_get_within net.edges e edge.row (row_at e edge is));
   }
 
-  line_ring : (k : ℕ) → IsRing net (places (of_line k) all)
+  pub line_ring : (k : ℕ) → IsRing net (places (of_line k) all)
   line_ring k = ring_is (of_line k)
       (λ t. line_sum lines serials k (λ row. one_if (t == row.from)) (λ row. one_if (t == row.to)) (omega (arith, round_same (λ i. one_if (t == k * length serials + i)) (length serials))) 0 lines)
       (omega (arith, line_once lines serials k (λ row. one_if row.start) 0 lines, one_last (length serials) 0 (length serials) (omega arith)))
 
-  pipe_ring : (k : ℕ) → IsRing net (places (of_pipe k) all)
+  pub pipe_ring : (k : ℕ) → IsRing net (places (of_pipe k) all)
   pipe_ring k = by_serial (serial_at k 0 serials) (λ g. pipe_sum lines serials k g 0 lines)
     where
       by_serial : (b : Bool) → ((g : EdgeRow → ℕ) → ring_sum (of_pipe k) g all ≡ cond b (sum_by (λ j. g (serial_edge lines (length serials) j k).row) (range_with_len 0 lines)) 0) → IsRing net (places (of_pipe k) all)

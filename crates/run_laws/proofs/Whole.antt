@@ -68,13 +68,13 @@ unstopped_step net limit at b x may kept no_fault no_limit no_stuck t =
     by_entry (Drop task cause Limit) m f l s = absurd (false≢true (sym l))
     by_entry (Drop task cause (Stuck u)) m f l s = absurd (false≢true (sym s))
 
-unstopped : (net : NetRows) (limit : ℕ) (h : List Entry) → ShapeLegal net limit h → IsFine h → (t : ℕ) → count_by (stops_one (start_at h) t) h ≡ 0
+pub unstopped : (net : NetRows) (limit : ℕ) (h : List Entry) → ShapeLegal net limit h → IsFine h → (t : ℕ) → count_by (stops_one (start_at h) t) h ≡ 0
 unfolding Unstopped
 unstopped net limit h shape fine =
     (along (MayFollow net limit) (Unstopped (start_at h)) (λ b x may kept. unstopped_step net limit (start_at h) b x may kept) [] h (λ f l s t. refl) shape).1 fine.no_fault fine.none_limited fine.none_stuck
 
 -- what isn't above any is not above the least
-least_above : (m : ℕ) (g : ℕ → ℕ) (es : List ℕ) → es ≢ [] → AllByRecursion (λ e. m ≤ g e) es → m ≤ least (map g es)
+pub least_above : (m : ℕ) (g : ℕ → ℕ) (es : List ℕ) → es ≢ [] → AllByRecursion (λ e. m ≤ g e) es → m ≤ least (map g es)
 least_above m g [] has each = absurd (has refl)
 least_above m g (e ∷ es) has each = fold_above (g e) es each.0 each.1
   where
@@ -107,7 +107,7 @@ pub record Finished (net : NetRows) (limit : ℕ) (h : List Entry) : Type 0 wher
   pub fine : IsFine h
   pub sources_in : (e : ℕ) → source_of net e < length net.tasks
 
-all_ended : {V : Type 0} (net : NetRows) (limit : ℕ) (one : OneAnswer V) (values : List (ValueRow V)) (h : List Entry) → Given net limit one values h → Finished net limit h → (t : ℕ) → length (ends_in values (start_at h) t h) ≡ length (starts_in values t h)
+pub all_ended : {V : Type 0} (net : NetRows) (limit : ℕ) (one : OneAnswer V) (values : List (ValueRow V)) (h : List Entry) → Given net limit one values h → Finished net limit h → (t : ℕ) → length (ends_in values (start_at h) t h) ≡ length (starts_in values t h)
 all_ended net limit one values h is done t = by_phase ((placed_along net limit h is.shape is.steady.single).1.phases t)
   where
     at : ℕ → Option ℕ

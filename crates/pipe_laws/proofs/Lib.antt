@@ -1,0 +1,12 @@
+pub mod Held
+pub mod Edges
+pub mod Inputs
+pub mod CellTurns
+pub mod CellRuns
+pub mod Through
+pub mod Ordered
+pub mod Passed
+pub mod Lines
+pub mod WorkedCells
+pub mod WorkedPipeRuns
+pub mod WorkedTurns

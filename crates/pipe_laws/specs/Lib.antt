@@ -1,0 +1,4 @@
+pub mod Cells
+pub mod PipeRuns
+pub mod Turns
+pub mod Laws
