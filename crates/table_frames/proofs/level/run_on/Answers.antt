@@ -10,12 +10,13 @@ loop-preserved g c =
     let before = spans_kept c.loop.kept + spans_done c.loop.bench.done in
     let kept = spans_kept c.keep_done.new.kept in
     let done = spans_done c.keep_done.new.bench.done in
-    let stepped = spans_done c.step_newest.new.bench.done in
-    ( search rules
-    , search rules
-    , search rules
-    , tells_then told start before (kept + stepped) c.args.watcher.now c.loop.watcher c.step_newest.new.watcher c.loop.invariant.3
-      (tells_beside told done stepped kept before (kept + stepped) c.loop.watcher c.step_newest.new.watcher (let same : kept + done ≡ before = c.in_ok-keep_done.ensures.spans in omega (arith, same)) (omega arith) c.in_ok-inner.ensures.told))
+    let stepped = spans_done c.step_newest.new.bench.done in (
+      search rules,
+      search rules,
+      search rules,
+      tells_then told start before (kept + stepped) c.args.watcher.now c.loop.watcher c.step_newest.new.watcher c.loop.invariant.3
+          (tells_beside told done stepped kept before (kept + stepped) c.loop.watcher c.step_newest.new.watcher (let same : kept + done ≡ before = c.in_ok-keep_done.ensures.spans in omega (arith, same)) (omega arith) c.in_ok-inner.ensures.told),
+    )
 
 pub returns-then-branch-clause-told : goal.returns-then-branch-clause-told
 returns-then-branch-clause-told g c =

@@ -46,7 +46,7 @@ returns-in_ok-open-in-Some-clause-told g c =
     let new = c.run_on.new in
     let view : spans_kept level.kept + spans_done level.bench.done + spans_around level.around ≡ c.args.self.spans = ap (λ (v : LevelView g.row.J.Denot). v.spans) c.self.view_is in
     tells_beside g.X.Watch.told (spans_kept level.kept + spans_done level.bench.done) (spans_kept new.kept + spans_done new.bench.done) (spans_around level.around)
-    c.args.self.spans c.in_ok-open.field-0.spans c.args.watcher.now new.watcher (sym view) c.in_ok-open.ensures.spans c.in_ok-inner.ensures.told
+    c.args.self.spans c.in_ok-open-in-Some.field-0.spans c.args.watcher.now new.watcher (sym view) c.in_ok-open-in-Some.ensures.spans c.in_ok-inner.ensures.told
 
 pub returns-in-None-clause-told : goal.returns-in-None-clause-told
 returns-in-None-clause-told g c =
