@@ -19,9 +19,10 @@ seen_where told workers AreAll These runs old new so have = record { seen = λ t
 front_parts : {X : Type 0} (front rest : List X) (n : ℕ) → length front ≡ min (length (front ++ rest)) n → (take n (front ++ rest) ≡ front) × (drop n (front ++ rest) ≡ rest)
 front_parts front rest n few = elim (cases_lt (length (front ++ rest)) n) [
   | inl all ↦
-      let none : rest ≡ [] = nil_from_length rest (omega (arith, all, few, length-append front rest)) in
-      ( take_all n (front ++ rest) (omega (arith, all)) ∙ ap (λ xs. front ++ xs) none ∙ append-nil front
-      , drop_all n (front ++ rest) (omega (arith, all)) ∙ sym none)
+      let none : rest ≡ [] = nil_from_length rest (omega (arith, all, few, length-append front rest)) in (
+        take_all n (front ++ rest) (omega (arith, all)) ∙ ap (λ xs. front ++ xs) none ∙ append-nil front,
+        drop_all n (front ++ rest) (omega (arith, all)) ∙ sym none,
+      )
   | inr enough ↦
       let same : length front ≡ n = omega (arith, enough, few) in
       (take_at front rest n same, drop_at front rest n same)

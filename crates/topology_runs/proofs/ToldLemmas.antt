@@ -79,7 +79,7 @@ module _ {J V X : Type 0} (told : X → ℕ) where
   told_round (first ∷ rest) run old mid new before one =
       let alone : sum_by all_spans (run ∷ []) ≡ all_spans run = omega arith in
       let all : sum_by all_spans ((first ∷ rest) ++ run ∷ []) ≡ sum_by all_spans (first ∷ rest) + all_spans run =
-          sum_by-append all_spans (first ∷ rest) (run ∷ []) ∙ ap (λ (n : ℕ). sum_by all_spans (first ∷ rest) + n) alone in
+      sum_by-append all_spans (first ∷ rest) (run ∷ []) ∙ ap (λ (n : ℕ). sum_by all_spans (first ∷ rest) + n) alone in
       subst (λ (n : ℕ). AreTold told n old new) (sym all) (together told _ _ old mid new before one)
 
   -- the watchers of seats

@@ -175,15 +175,15 @@ module _ {J V X : Type 0} where
         absurd (let both : true ≡ false = sym (found_at k d lt one) ∙ open_seat in cc)
     watched_after last (Some run) left stay k d lt served =
         let here : slice_index_or last k d ≡ moved away (slice_index_or new k d) =
-            ap (λ (zs : List (WorkerSeat J X V)). slice_index_or zs k d) (left refl ∙ ap (map (moved away)) after_is) ∙ map_at (moved away) new k d d (omega (arith, lt, same, as_long)) in
+        ap (λ (zs : List (WorkerSeat J X V)). slice_index_or zs k d) (left refl ∙ ap (map (moved away)) after_is) ∙ map_at (moved away) new k d d (omega (arith, lt, same, as_long)) in
         subst (λ (s : WorkerSeat J X V). IsServed s → IsToldMore told (told_in_run s) (watcher_of (slice_index_or xs k d)) (watcher_of s)) (sym here) (λ one. told_at k d lt one) served
 
     served_all : (last : List (WorkerSeat J X V)) → last ≡ map (moved away) after → All IsServed last → All HasFound after
     served_all last is all =
         let away_new : last ≡ map (moved away) new = is ∙ ap (map (moved away)) after_is in
         let one : (k : ℕ) (d : WorkerSeat J X V) → k < length new → IsServed (slice_index_or new k d) = λ k d lt.
-            sym (ap (λ (s : WorkerSeat J X V). (state_of s).refused) (ap (λ (zs : List (WorkerSeat J X V)). slice_index_or zs k d) away_new ∙ map_at (moved away) new k d d lt))
-            ∙ all k d (let long_as : length last ≡ length new = ap length away_new ∙ length-map new (moved away) in omega (arith, lt, long_as)) in
+        sym (ap (λ (s : WorkerSeat J X V). (state_of s).refused) (ap (λ (zs : List (WorkerSeat J X V)). slice_index_or zs k d) away_new ∙ map_at (moved away) new k d d lt))
+        ∙ all k d (let long_as : length last ≡ length new = ap length away_new ∙ length-map new (moved away) in omega (arith, lt, long_as)) in
         subst (λ (zs : List (WorkerSeat J X V)). All HasFound zs) (sym after_is) (λ k d lt. found_at k d (below k lt) (one k d lt))
 
     spans_of : (last : List (WorkerSeat J X V)) (run : FrameRun J V) → last ≡ map (moved away) after → (All HasFound after → AreSpansOf after run) → All IsServed last → AreSpansOf last run

@@ -68,7 +68,7 @@ module _ {J V X : Type 0} where
   tellers_from (suc n) (x ∷ xs) t le =
       let more : sum_by teller_count (x ∷ xs) ≡ teller_count x + sum_by teller_count xs = sum_by-cons teller_count x xs in
       let rest : (collected_from (suc n) (x ∷ xs) t).tellers ≡ (collected (state_of x).closed (told_in_run x) t).tellers + sum_by teller_count xs =
-          tellers_from n xs (collected (state_of x).closed (told_in_run x) t) (omega arith) in
+      tellers_from n xs (collected (state_of x).closed (told_in_run x) t) (omega arith) in
       let one : (collected (state_of x).closed (told_in_run x) t).tellers ≡ t.tellers + teller_count x = tellers_more (state_of x).closed (told_in_run x) t in
       omega (arith, rest, one, more)
 
@@ -79,7 +79,7 @@ module _ {J V X : Type 0} where
   told_from (suc n) (x ∷ xs) t le =
       let more : sum_by teller_told (x ∷ xs) ≡ teller_told x + sum_by teller_told xs = sum_by-cons teller_told x xs in
       let rest : (collected_from (suc n) (x ∷ xs) t).told ≡ (collected (state_of x).closed (told_in_run x) t).told + sum_by teller_told xs =
-          told_from n xs (collected (state_of x).closed (told_in_run x) t) (omega arith) in
+      told_from n xs (collected (state_of x).closed (told_in_run x) t) (omega arith) in
       let one : (collected (state_of x).closed (told_in_run x) t).told ≡ t.told + teller_told x = told_more (state_of x).closed (told_in_run x) t in
       omega (arith, rest, one, more)
 
@@ -133,7 +133,7 @@ module _ {J V X : Type 0} where
   pub all_spans_told : (xs : List (WorkerSeat J X V)) (i : ℕ) (d : WorkerSeat J X V) (station : SeatState J) (tellers told noted spans count : ℕ) → i < length xs → station ≡ away (state_of (slice_index_or xs i d))
       → tellers ≡ 1 → told ≡ told_in_run (slice_index_or xs i d) → noted ≡ spans → count ≡ length xs
       → (tellers + sum_by teller_count (slice_set xs i record { watcher = (slice_index_or xs i d).watcher; station = station }) ≡ count
-          → told + sum_by teller_told (slice_set xs i record { watcher = (slice_index_or xs i d).watcher; station = station }) ≡ noted)
+      → told + sum_by teller_told (slice_set xs i record { watcher = (slice_index_or xs i d).watcher; station = station }) ≡ noted)
       → All HasFound xs → sum_by told_in_run xs ≡ spans
   all_spans_told xs i d station tellers told noted spans count lt went one its all_noted counted even all =
       let seat : WorkerSeat J X V = record { watcher = (slice_index_or xs i d).watcher; station = station } in

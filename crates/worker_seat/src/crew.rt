@@ -115,7 +115,10 @@ impl<J: Job + Drop> Crew<J> {
         ensures ok { OnOk result (HasWatched X.told seat.old seat.new) }
         ensures err { OnErr result (state_of seat.new ≡ refused_seat (state_of seat.old)) }
     {
-        match seat.station.enter(rt, self.alloc, &self.list, &mut seat.watcher) {
+        match seat
+            .station
+            .enter(rt, self.alloc, &self.list, &mut seat.watcher)
+        {
             Ok(()) => Ok(()),
             Err(NoMemory) => {
                 self.list.close(); // if the run isn't closed it never is, so nobody has to wait for it

@@ -48,11 +48,7 @@ impl<J: Job + Drop> FrameWork<J> {
 
     /// Tells a watcher the span that ended in the frame around as a run inside it was brought, if that is over, by what is
     /// with the run then.
-    pub fn tell_bringing<X: Watch>(
-        &self,
-        state: &State<J>,
-        watcher: &mut X,
-    ) -> Result<(), NoMemory>
+    pub fn tell_bringing<X: Watch>(&self, state: &State<J>, watcher: &mut X) -> Result<(), NoMemory>
         ensures { OnOk result
             (TellsBringing X.told state.now self.now.backlog watcher.old watcher.new) }
     {
@@ -79,7 +75,9 @@ impl<J: Job + Drop> FrameWork<J> {
         ensures none { OnOk result (self.backlog.fates ≡ []) }
     {
         let FrameWork {
-            backlog, teller, ..
+            backlog,
+            teller,
+            ..
         } = self;
         if backlog.is_brought() {
             return Ok(teller);

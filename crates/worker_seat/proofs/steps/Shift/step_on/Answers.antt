@@ -25,5 +25,5 @@ loop-preserved g c = record {
   item = subst (λ made. IfSome made (IsItemOf c.args.self.now.number.now)) c.in-Some-2.is c.in_ok-made.ensures.made;
   work = c.in_ok-made.ensures.work;
   told = told_then g.X.Watch.told c.args.work.now c.turn_to.new.work c.step.new.work _ _ _
-    (told_then g.X.Watch.told c.args.work.now c.loop.work c.turn_to.new.work _ _ _ c.loop.invariant.told c.in_ok-turn_to.ensures.told) c.in_ok-made.ensures.told;
+      (told_then g.X.Watch.told c.args.work.now c.loop.work c.turn_to.new.work _ _ _ c.loop.invariant.told c.in_ok-turn_to.ensures.told) c.in_ok-made.ensures.told;
 }
