@@ -1,8 +1,11 @@
 -- What watchers were told whose first ones were away for a while.
-use Rattle.std.proofs.Common.{◌≡◌, ◌≢◌, ℕ, ◌≤◌, ◌++◌, List, [], length, min, take, drop, inl, inr, sym, ap, ◌∙◌, subst, arith}
+use Rattle.std.proofs.Common.{◌≡◌, ◌≢◌, ℕ, ◌+◌, ◌≤◌, ◌++◌, List, [], length, min, take, drop, inl, inr, sym, ap, ◌∙◌, subst, arith}
 use Rattle.std.proofs.lemmas.Bool.{cases_lt}
 use Rattle.std.proofs.lemmas.List.{append-nil, drop_all, drop_at, length-append, nil_from_length, take_all, take_at}
+use Rattle.call_status.specs.declared.status.Status.{Status}
+use Rattle.call_status.specs.declared.status.Status.TheVariants.{NoMemory}
 use Rattle.topology_runs.specs.Told.{AreToldRounds}
+use Rattle.flow_run.specs.declared.call.Ended.{Ended}
 use Rattle.flow_run.specs.RoundTexts.{TextRun}
 use Rattle.flow_run.specs.Watched.{HaveSeen}
 
@@ -10,10 +13,16 @@ use Rattle.flow_run.specs.Watched.{HaveSeen}
 pub unseen : {X : Type 0} (told : X → ℕ) (workers : ℕ) (AreAll : Type 0) (old new : List X) → new ≡ old → HaveSeen told workers AreAll [] old new
 unseen told workers AreAll old new same = record { seen = λ all some. ap (take workers) same; others = ap (drop workers) same; count = ap length same }
 
--- what was seen where the rounds are all, where another fact says so
-pub seen_where : {X : Type 0} (told : X → ℕ) (workers : ℕ) (AreAll These : Type 0) (runs : List TextRun) (old new : List X) → (These → AreAll)
-    → HaveSeen told workers AreAll runs old new → HaveSeen told workers These runs old new
-seen_where told workers AreAll These runs old new so have = record { seen = λ these. have.seen (so these); others = have.others; count = have.count }
+-- So it is where a call ends without a run.
+pub unseen_end : {X : Type 0} (told : X → ℕ) (workers : ℕ) (AreAll : Type 0) (end : Ended) (old new : List X) → end.runs ≡ [] → new ≡ old → HaveSeen told workers AreAll end.runs old new
+unseen_end told workers AreAll end old new none same = subst (λ runs. HaveSeen told workers AreAll runs old new) (sym none) (unseen told workers AreAll old new same)
+
+-- What rounds have told, where a call ends with them: unless memory ran out they are all.
+pub seen_end : {X : Type 0} (told : X → ℕ) (workers : ℕ) (AreAll : Type 0) (status : Status) (runs : List TextRun) (end : Ended) (old new : List X)
+    → end.status ≡ status → end.runs ≡ runs → (status ≢ NoMemory → AreAll) → HaveSeen told workers AreAll runs old new → HaveSeen told workers (end.status ≢ NoMemory) end.runs old new
+seen_end told workers AreAll status runs end old new status_is runs_are all have =
+    subst (λ these. HaveSeen told workers (end.status ≢ NoMemory) these old new) (sym runs_are)
+    (record { seen = λ some. have.seen (all (λ same. some (status_is ∙ same))); others = have.others; count = have.count })
 
 -- as many items at the front as there are, or as were asked for
 front_parts : {X : Type 0} (front rest : List X) (n : ℕ) → length front ≡ min (length (front ++ rest)) n → (take n (front ++ rest) ≡ front) × (drop n (front ++ rest) ≡ rest)

@@ -1,5 +1,5 @@
 // The command `profile`.
-ghost use Rattle.std.specs.Prelude.{◌≡◌, ◌≢◌, [], None, Some, IfOk, length, map};
+ghost use Rattle.std.specs.Prelude.{◌≡◌, ◌≢◌, [], false, true, None, Some, IfOk, length, map};
 ghost use Rattle.outside_io.specs.Sink.{Writes};
 ghost use Rattle.call_status.specs.Delivery.{Delivers};
 ghost use Rattle.call_status.specs.Reasons.{reason_line};
@@ -79,10 +79,11 @@ fn run_and_count<S: Sink, R: Threads + Wait + Sync>(
     let Ok(names) = copies(alloc, job.names()) else {
         return stopped(alloc, Status::NoMemory);
     };
-    let RoundsRun { runs, whole } = run_rounds(rt, alloc, asked, job, watchers);
-    if runs.is_empty() && !whole {
-        return after_runs(runs, Status::NoMemory, true);
+    let ran = run_rounds(rt, alloc, asked, job, watchers);
+    if failed_at_once(&ran) {
+        return after_runs(ran.runs, Status::NoMemory, true);
     }
+    let RoundsRun { runs, whole } = ran;
     let Ok(reason) = last_reason(alloc, runs.as_slice()) else {
         return after_runs(runs, Status::NoMemory, true);
     };
@@ -96,6 +97,13 @@ fn run_and_count<S: Sink, R: Threads + Wait + Sync>(
         conclusion: Some(Conclusion::Profile(counts)),
         written: written.is_ok(),
     }
+}
+
+// Whether an allocation failed before a round was run to its end.
+fn failed_at_once(ran: &RoundsRun) -> bool
+    ensures { result ≡ false → ran.now.runs ≡ [] → ran.now.whole ≡ true }
+{
+    ran.runs.is_empty() && !ran.whole
 }
 
 // The profile of these rounds of a graph whose tasks have these names, the last of which came to its end for this reason.

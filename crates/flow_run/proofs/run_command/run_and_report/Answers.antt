@@ -1,4 +1,4 @@
-use Rattle.std.proofs.Common.{◌≡◌, [], sym, ap, ◌∙◌, subst}
+use Rattle.std.proofs.Common.{◌≡◌, [], refl, sym, ap, ◌∙◌, subst}
 use Rattle.call_status.specs.Delivery.{Delivers}
 use Rattle.command_line.specs.Rounds.{asked_rounds}
 use Rattle.flow_run.specs.declared.call.Ended.{Ended}
@@ -6,6 +6,8 @@ use Rattle.flow_run.specs.Answers.{HasWritten, IsAfterRun, JobEnds}
 use Rattle.flow_run.specs.RoundTexts.{last_reason, rounds_text}
 use Rattle.flow_run.proofs.RoundLemmas.{job_ends}
 use Rattle.flow_run.proofs.RoundReports.{has_written, none_reported}
+use Rattle.call_status.specs.declared.status.Status.TheVariants.{NoMemory}
+use Rattle.flow_run.proofs.WatchLemmas.{seen_end}
 use Rattle.flow_run.proofs.run_command.run_and_report.Goals as goal
 
 pub returns-in_default-clause-reported : goal.returns-in_default-clause-reported
@@ -34,3 +36,16 @@ returns-clause-reported g c =
     (has_written state c.args.out.now did.new.out _ (text c.run_rounds-runs.result.runs) c.is_ok.result status.result did.result c.is_ok.ensures.value
     (subst (λ runs. Delivers (state c.args.out.now) (state did.new.out) (text runs) did.result) c.as_slice-2.ensures did.ensures.delivers)
     (λ none. did.ensures.none (c.as_slice-2.ensures ∙ none)) status.ensures.done status.ensures.write_fault status.ensures.no_memory)
+
+pub returns-in_default-clause-watchers : goal.returns-in_default-clause-watchers
+returns-in_default-clause-watchers g c =
+    let ran = c.run_rounds-runs in
+    seen_end _ c.args.asked.options.workers _ NoMemory ran.result.runs c.after_runs.result c.args.watchers.now.items ran.new.watchers.items
+    (ap (λ (e : Ended). e.status) c.after_runs.ensures) (ap (λ (e : Ended). e.runs) c.after_runs.ensures) (λ some. absurd (some refl)) ran.ensures.watchers
+
+pub returns-clause-watchers : goal.returns-clause-watchers
+returns-clause-watchers g c =
+    let ran = c.run_rounds-runs in
+    let status = c.status_of_rounds-status in
+    seen_end _ c.args.asked.options.workers _ status.result ran.result.runs c.after_runs-2.result c.args.watchers.now.items ran.new.watchers.items
+    (ap (λ (e : Ended). e.status) c.after_runs-2.ensures) (ap (λ (e : Ended). e.runs) c.after_runs-2.ensures) status.ensures.all ran.ensures.watchers

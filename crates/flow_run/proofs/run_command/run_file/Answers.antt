@@ -1,7 +1,8 @@
-use Rattle.std.proofs.Common.{inl, ◌∙◌, ap}
+use Rattle.std.proofs.Common.{inl, refl, ◌∙◌, ap}
 use Rattle.flow_run.specs.declared.call.Ended.{Ended}
 use Rattle.flow_run.proofs.Ending.{read_stopped}
 use Rattle.flow_run.proofs.RoundLemmas.{requested_rounds}
+use Rattle.flow_run.proofs.WatchLemmas.{unseen_end}
 use Rattle.flow_run.proofs.run_command.run_file.Goals as goal
 
 pub returns-in-Err-clause-ends : goal.returns-in-Err-clause-ends
@@ -14,3 +15,6 @@ returns-in-Err-clause-read g c =
 
 pub returns-in-Ok-clause-ends : goal.returns-in-Ok-clause-ends
 returns-in-Ok-clause-ends g c = requested_rounds _ _ _ c.in-Ok.job _ _ _ c.in-Ok.ensures.requested c.run_and_report.ensures.ends
+
+pub returns-in-Err-clause-watchers : goal.returns-in-Err-clause-watchers
+returns-in-Err-clause-watchers g c = unseen_end _ c.args.asked.options.workers _ c.stopped.result c.args.watchers.now.items c.args.watchers.now.items (ap (λ (e : Ended). e.runs) c.stopped.ensures) refl

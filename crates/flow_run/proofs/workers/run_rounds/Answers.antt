@@ -1,15 +1,23 @@
-use Rattle.std.proofs.Common.{rules, ◌∙◌}
-use Rattle.flow_run.proofs.RoomLemmas.{put_as_taken}
+use Rattle.std.proofs.Common.{◌≡◌, ◌≢◌, List, [], length, min, sym, ap, ◌∙◌, subst}
+use Rattle.std.specs.Prelude.{IsTrue}
+use Rattle.topology_runs.specs.Told.{AreToldRounds}
+use Rattle.flow_run.proofs.WatchLemmas.{seen_in_front, unseen}
 use Rattle.flow_run.proofs.workers.run_rounds.Goals as goal
 
 pub returns-in-Ok-new-clause-watchers : goal.returns-in-Ok-new-clause-watchers
 returns-in-Ok-new-clause-watchers g c =
     let taken = c.take_front.ensures in
-    put_as_taken c.args.watchers.now c.take_front.new.items c.put_front.new.items _ _ taken.room c.put_front.ensures.room taken.items
-    (c.into_watchers.ensures ∙ c.rounds_by-ran.ensures.watchers ∙ c.in-Ok-new.ensures.watchers) c.put_front.ensures.items
+    let front = c.take_front.result.items in
+    let after = c.into_watchers.result.items in
+    let ran = c.rounds_by-ran in
+    let before = c.in-Ok-new.ensures.watchers in
+    seen_in_front _ c.args.asked.workers (IsTrue ran.result.whole) ran.result.runs c.args.watchers.now.items c.put_front.new.items.items front c.take_front.new.items.items after
+    taken.items (taken.count ∙ c.min-seats.ensures) c.put_front.ensures (ap length c.into_watchers.ensures ∙ ran.ensures.count ∙ ap length before)
+    (λ all some.
+    subst (λ xs. AreToldRounds _ ran.result.runs xs after) before
+    (subst (λ ys. AreToldRounds _ ran.result.runs _ ys) (sym c.into_watchers.ensures) (ran.ensures.watchers all (λ none. some (sym before ∙ none)))))
 
 pub returns-clause-watchers : goal.returns-clause-watchers
 returns-clause-watchers g c =
     let taken = c.take_front.ensures in
-    put_as_taken c.args.watchers.now c.take_front.new.items c.put_front-in-Err.new.items c.take_front.result.items c.in-Err.field-0.item.items taken.room c.put_front-in-Err.ensures.room taken.items
-    (search rules) c.put_front-in-Err.ensures.items
+    unseen _ c.args.asked.workers _ c.args.watchers.now.items c.put_front-in-Err.new.items.items (c.put_front-in-Err.ensures ∙ taken.items)
