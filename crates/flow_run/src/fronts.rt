@@ -19,7 +19,7 @@ pub(crate) fn take_front<X>(items: &mut Vec<X>, count: usize, mut front: Vec<X>)
 /// Puts items back at the front of a list, which has room for them.
 pub(crate) fn put_front<X: Drop>(items: &mut Vec<X>, mut front: Vec<X>)
     requires room { length front.items + length items.old.items ≤ vec_capacity items.old }
-    ensures items { items.new.items ≡ front.items ++ items.old.items }
+    ensures { items.new.items ≡ front.items ++ items.old.items }
 {
     while let Some(item) = front.pop() {
         let Ok(()) = items.insert(0, item) else {

@@ -1,4 +1,4 @@
-use Rattle.std.proofs.Common.{◌≡◌, ◌≢◌, List, [], length, min, sym, ap, ◌∙◌, subst}
+use Rattle.std.proofs.Common.{rules, ◌≡◌, ◌≢◌, List, [], length, min, sym, ap, ◌∙◌, subst}
 use Rattle.std.specs.Prelude.{IsTrue}
 use Rattle.topology_runs.specs.Told.{AreToldRounds}
 use Rattle.flow_run.proofs.WatchLemmas.{seen_in_front, unseen}
@@ -12,7 +12,7 @@ returns-in-Ok-new-clause-watchers g c =
     let ran = c.rounds_by-ran in
     let before = c.in-Ok-new.ensures.watchers in
     seen_in_front _ c.args.asked.workers (IsTrue ran.result.whole) ran.result.runs c.args.watchers.now.items c.put_front.new.items.items front c.take_front.new.items.items after
-    taken.items (taken.count ∙ c.min-seats.ensures) c.put_front.ensures (ap length c.into_watchers.ensures ∙ ran.ensures.count ∙ ap length before)
+    taken.items (let few : length front ≡ min (length c.args.watchers.now.items) c.args.asked.workers = search rules in few) c.put_front.ensures (ap length c.into_watchers.ensures ∙ ran.ensures.count ∙ ap length before)
     (λ all some.
     subst (λ xs. AreToldRounds _ ran.result.runs xs after) before
     (subst (λ ys. AreToldRounds _ ran.result.runs _ ys) (sym c.into_watchers.ensures) (ran.ensures.watchers all (λ none. some (sym before ∙ none)))))
