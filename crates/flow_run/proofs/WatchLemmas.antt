@@ -1,11 +1,13 @@
 -- What watchers were told whose first ones were away for a while.
 use Rattle.std.proofs.Common.{◌≡◌, ◌≢◌, ℕ, ◌+◌, ◌≤◌, ◌++◌, List, [], length, min, take, drop, inl, inr, sym, ap, ◌∙◌, subst, arith}
+use Rattle.std.specs.Prelude.{IsTrue, false}
 use Rattle.std.proofs.lemmas.Bool.{cases_lt}
 use Rattle.std.proofs.lemmas.List.{append-nil, drop_all, drop_at, length-append, nil_from_length, take_all, take_at}
 use Rattle.call_status.specs.declared.status.Status.{Status}
 use Rattle.call_status.specs.declared.status.Status.TheVariants.{NoMemory}
 use Rattle.topology_runs.specs.Told.{AreToldRounds}
 use Rattle.flow_run.specs.declared.call.Ended.{Ended}
+use Rattle.flow_run.specs.declared.workers.RoundsRun.{RoundsRun}
 use Rattle.flow_run.specs.RoundTexts.{TextRun}
 use Rattle.flow_run.specs.Watched.{HaveSeen}
 
@@ -13,7 +15,12 @@ use Rattle.flow_run.specs.Watched.{HaveSeen}
 pub unseen : {X : Type 0} (told : X → ℕ) (workers : ℕ) (AreAll : Type 0) (old new : List X) → new ≡ old → HaveSeen told workers AreAll [] old new
 unseen told workers AreAll old new same = record { seen = λ all some. ap (take workers) same; others = ap (drop workers) same; count = ap length same }
 
--- So it is where a call ends without a run.
+-- So it is where no round was run,
+pub unseen_rounds : {X : Type 0} (told : X → ℕ) (workers : ℕ) (ran : RoundsRun) (old new : List X) → ran ≡ record { runs = []; whole = false } → new ≡ old
+    → HaveSeen told workers (IsTrue ran.whole) ran.runs old new
+unseen_rounds told workers ran old new none same = subst (λ (these : RoundsRun). HaveSeen told workers (IsTrue these.whole) these.runs old new) (sym none) (unseen told workers _ old new same)
+
+-- and where a call ends without a run.
 pub unseen_end : {X : Type 0} (told : X → ℕ) (workers : ℕ) (AreAll : Type 0) (end : Ended) (old new : List X) → end.runs ≡ [] → new ≡ old → HaveSeen told workers AreAll end.runs old new
 unseen_end told workers AreAll end old new none same = subst (λ runs. HaveSeen told workers AreAll runs old new) (sym none) (unseen told workers AreAll old new same)
 

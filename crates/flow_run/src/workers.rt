@@ -34,7 +34,7 @@ pub(crate) struct RoundsRun {
 /// where these are fewer. A single worker is the caller's thread, which needs no lock; several are a crew, whose seats
 /// are entered by threads. Each worker tells its watcher, the first one the first, and in the end they are where they
 /// were.
-#[tactic(auto, using(crate::proofs::RoundLemmas::no_round, crate::proofs::WatchLemmas::unseen))]
+#[tactic(auto, using(crate::proofs::RoundLemmas::no_round, crate::proofs::WatchLemmas::unseen_rounds))]
 pub(crate) fn run_rounds<R: Threads + Wait + Sync>(
     rt: &R,
     alloc: Global,

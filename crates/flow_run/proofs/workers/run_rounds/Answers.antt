@@ -1,7 +1,7 @@
-use Rattle.std.proofs.Common.{rules, ◌≡◌, ◌≢◌, List, [], length, min, sym, ap, ◌∙◌, subst}
+use Rattle.std.proofs.Common.{rules, ◌≡◌, ◌≢◌, ◌++◌, List, [], length, min, sym, ap, ◌∙◌, subst}
 use Rattle.std.specs.Prelude.{IsTrue}
 use Rattle.topology_runs.specs.Told.{AreToldRounds}
-use Rattle.flow_run.proofs.WatchLemmas.{seen_in_front, unseen}
+use Rattle.flow_run.proofs.WatchLemmas.{seen_in_front, unseen_rounds}
 use Rattle.flow_run.proofs.workers.run_rounds.Goals as goal
 
 pub returns-in-Ok-new-clause-watchers : goal.returns-in-Ok-new-clause-watchers
@@ -19,5 +19,7 @@ returns-in-Ok-new-clause-watchers g c =
 
 pub returns-clause-watchers : goal.returns-clause-watchers
 returns-clause-watchers g c =
-    let taken = c.take_front.ensures in
-    unseen _ c.args.asked.workers _ c.args.watchers.now.items c.put_front-in-Err.new.items.items (c.put_front-in-Err.ensures ∙ taken.items)
+    let left = c.take_front.new.items.items in
+    let back : c.in-Err.field-0.item.items ≡ c.take_front.result.items = search rules in
+    unseen_rounds _ c.args.asked.workers c.no_rounds-in-Err.result c.args.watchers.now.items c.put_front-in-Err.new.items.items c.no_rounds-in-Err.ensures
+    (c.put_front-in-Err.ensures ∙ ap (λ xs. xs ++ left) back ∙ c.take_front.ensures.items)
