@@ -3,7 +3,7 @@ use Rattle.std.proofs.Common.{◌≡◌, ◌≢◌, ◌<◌, ◌≤◌, ◌+◌,
 use Rattle.std.specs.Prelude.{◌-◌, ◌^◌, ◌⊎◌, ◌||◌, min, sum, sum_by, slice_index_or, slice_set, Option, Some, None, Result, Ok, Err, IfOk, IfSome, ok_or}
 use Rattle.std.specs.List.{list_any}
 use Rattle.std.proofs.lemmas.Bool.{cases_order}
-use Rattle.std.proofs.lemmas.List.Sums.{sum_by-append}
+use Rattle.std.proofs.lemmas.List.Sums.{sum-map, sum_by-append, sum_by-cons}
 use Rattle.std.proofs.Math.Nat.{min-eq_left, min-eq_right}
 use Rattle.nested_runs.specs.Totals.{all_spans}
 use Rattle.run_frame.specs.declared.run.FrameRun.{FrameRun}
@@ -14,10 +14,6 @@ use Rattle.topology_runs.specs.Told.{AreTold, AreToldEach, AreToldRounds}
 -- one number after the other, each up to the greatest
 abbrev most : ℕ
 most = 2 ^ 64 - 1
-
-sum_of : {A : Type 0} (f : A → ℕ) (xs : List A) → sum (map f xs) ≡ sum_by f xs
-sum_of f [] = refl
-sum_of f (x ∷ xs) = ap (λ (n : ℕ). f x + n) (sum_of f xs)
 
 module _ {X : Type 0} (told : X → ℕ) where
   told_twice : (n m : ℕ) (first second third : X) → IsToldMore told n first second → IsToldMore told m second third → IsToldMore told (n + m) first third
@@ -48,9 +44,9 @@ module _ {X : Type 0} (told : X → ℕ) where
   each_twice (n ∷ ns) (m ∷ ms) (x ∷ xs) (y ∷ ys) (z ∷ zs) once again =
       let rest = each_twice ns ms xs ys zs once.1 again.1 in
       let sums : sum (plus ns ms) ≡ sum ns + sum ms = rest.1 in
-      let all : sum (plus (n ∷ ns) (m ∷ ms)) ≡ (n + m) + sum (plus ns ms) = refl in
-      let ones : sum (n ∷ ns) ≡ n + sum ns = refl in
-      let others : sum (m ∷ ms) ≡ m + sum ms = refl in
+      let all : sum (plus (n ∷ ns) (m ∷ ms)) ≡ (n + m) + sum (plus ns ms) = sum_by-cons (λ (k : ℕ). k) (n + m) (plus ns ms) in
+      let ones : sum (n ∷ ns) ≡ n + sum ns = sum_by-cons (λ (k : ℕ). k) n ns in
+      let others : sum (m ∷ ms) ≡ m + sum ms = sum_by-cons (λ (k : ℕ). k) m ms in
       ((told_twice n m x y z once.0 again.0, rest.0), omega (arith, sums, all, ones, others))
   each_twice [] [] [] [] (z ∷ zs) once again = absurd again
   each_twice [] (m ∷ ms) [] [] zs once again = absurd again
@@ -94,7 +90,7 @@ module _ {J V X : Type 0} (told : X → ℕ) where
 
   pub seats_told : (spans : ℕ) (old new : List (WorkerSeat J X V)) → length new ≡ length old → AreWatched told old new → All IsServed new → sum_by told_in_run new ≡ spans
       → AreTold told spans (map watcher_of old) (map watcher_of new)
-  seats_told spans old new long watched served all = record { numbers = map told_in_run new; all = sum_of told_in_run new ∙ all; each = seats_each old new long watched served }
+  seats_told spans old new long watched served all = record { numbers = map told_in_run new; all = sum-map told_in_run new ∙ all; each = seats_each old new long watched served }
 
 -- no seat is refused
 none_passes : (a b : Bool) → (a || b) ≡ false → (a ≡ false) × (b ≡ false)

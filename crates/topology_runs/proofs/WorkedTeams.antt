@@ -70,7 +70,7 @@ told_too_few are = by are.numbers are.all are.each
     by (n ∷ []) all each = absurd (omega (arith, all, each.0))
     by (n ∷ m ∷ more) all each = each.1
 
-module _ {J V : Type 0} where
+module _ (J V : Type 0) where
   before_any_round : AreToldRounds {J = J} {V = V} itself [] (4 ∷ []) (4 ∷ [])
   before_any_round = refl
 
