@@ -18,14 +18,14 @@ use Rattle.std.specs.declared.vec.Vec.{Vec}
 use Rattle.table_runs.specs.RunKeys.{FrameKey}
 use Rattle.test_runs.specs.inside.Tellers.{AreIn, IsIn}
 
+-- the name in an option, or this
+abbrev name_in : TableId → Option TableId → TableId
+name_in book None = book
+name_in book (Some name) = name
+
 module _ {J : Type 0} (book : TableId) where
   abbrev IsOf : ReleaseView J → Type 0
   IsOf release = IsIn book release.frames
-
-  -- the name in an option, or this
-  abbrev name_in : Option TableId → TableId
-  name_in None = book
-  name_in (Some name) = name
 
   -- frames that have a book have this one
   pub in_book : (frames : List (FrameKey J)) (own : TableId) → book_of frames ≡ Some own → IsIn book frames → book ≡ own
@@ -64,10 +64,10 @@ module _ {J : Type 0} (book : TableId) where
     pub closed_at_once : (job : J) (stepped : Stepped J V) (closed : ClosedRun J V) → BeginsFrame meaning job book stepped → stepped.state ≡ Closed closed → closed.spans.book ≡ book
     closed_at_once job stepped closed begins is =
         let root = subst (IsStateOf meaning (begins.frame ∷ [])) is begins.state in
-        ap name_in (sym root.book ∙ begins.book_is)
+        ap (name_in book) (sym root.book ∙ begins.book_is)
 
-    pub stepped : (releases : List (ReleaseView J)) (release : ReleaseView J) (old new : BacklogView J V) (stepped : Stepped J V) → AreIn book releases release.frames → StepsRelease meaning release old new stepped → AreIn book (releases ++ stepped.released.items) new.frames
-    stepped releases release old new stepped are steps = record {
+    pub after_step : (releases : List (ReleaseView J)) (release : ReleaseView J) (old new : BacklogView J V) (stepped : Stepped J V) → AreIn book releases release.frames → StepsRelease meaning release old new stepped → AreIn book (releases ++ stepped.released.items) new.frames
+    after_step releases release old new stepped are steps = record {
       each = All-append IsOf releases stepped.released.items are.each (all_of release.frames stepped.released.items are.backlog steps.frames);
       backlog = same_in release.frames new.frames steps.backlog are.backlog;
     }

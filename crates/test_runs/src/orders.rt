@@ -125,7 +125,7 @@ fn take_step<R: Wait>(
 }
 
 // Takes the step of a release.
-#[tactic(auto, using(crate::proofs::Tellers::stepped, crate::proofs::Tellers::opened))]
+#[tactic(auto, using(crate::proofs::Tellers::after_step, crate::proofs::Tellers::opened))]
 fn take_step_of<R: Wait>(
     rt: &R,
     pending: &mut Pending,
