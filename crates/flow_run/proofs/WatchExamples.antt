@@ -24,7 +24,7 @@ itself n = n
 module _ (run : TextRun) (three : all_spans run ≡ 3) where
   told_by_two : HaveSeen itself 2 (Unit {0}) (run ∷ []) (0 ∷ 5 ∷ 8 ∷ []) (1 ∷ 7 ∷ 8 ∷ [])
   told_by_two = record {
-    seen = λ all some. subst (λ n. AreTold itself n (0 ∷ 5 ∷ []) (1 ∷ 7 ∷ [])) (sym (omega (arith, three))) (record { numbers = 1 ∷ 2 ∷ []; all = refl; each = (refl, refl, tt) });
+    seen = λ all some. subst (λ n. AreTold itself n (0 ∷ 5 ∷ []) (1 ∷ 7 ∷ [])) (sym (omega (arith, three))) (record { numbers = 1 ∷ 2 ∷ []; all = refl; each = (refl, (refl, tt)) });
     others = refl;
     count = refl;
   }
@@ -44,10 +44,10 @@ module _ (run : TextRun) (three : all_spans run ≡ 3) where
   told_one_too_few : ¬ HaveSeen itself 1 (Unit {0}) (run ∷ []) (4 ∷ []) (6 ∷ [])
   told_one_too_few have = by (have.seen tt (λ none. absurd (omega (arith, ap sum none))))
     where
-      by : ¬ AreTold itself (all_spans run + 0) (4 ∷ []) (6 ∷ [])
+      by : ¬ AreTold itself (0 + all_spans run) (4 ∷ []) (6 ∷ [])
       by told = by_numbers told.numbers told.all told.each
         where
-          by_numbers : (numbers : List ℕ) → sum numbers ≡ all_spans run + 0 → AreToldEach itself numbers (4 ∷ []) (6 ∷ []) → ⊥
+          by_numbers : (numbers : List ℕ) → sum numbers ≡ 0 + all_spans run → AreToldEach itself numbers (4 ∷ []) (6 ∷ []) → ⊥
           by_numbers [] all each = each
           by_numbers (n ∷ []) all each = absurd (omega (arith, all, each.0, three))
           by_numbers (n ∷ m ∷ more) all each = each.1

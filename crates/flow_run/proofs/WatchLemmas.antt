@@ -45,7 +45,7 @@ front_parts front rest n few = elim (cases_lt (length (front ++ rest)) n) [
 ]
 
 -- Watchers that were taken off the front and told rounds, and put back.
-pub seen_in_front : {X : Type 0} (told : X → ℕ) (workers : ℕ) (AreAll : Type 0) (runs : List TextRun) (old new front rest after : List X)
+seen_in_front : {X : Type 0} (told : X → ℕ) (workers : ℕ) (AreAll : Type 0) (runs : List TextRun) (old new front rest after : List X)
     → front ++ rest ≡ old → length front ≡ min (length old) workers → new ≡ after ++ rest → length after ≡ length front
     → (AreAll → front ≢ [] → AreToldRounds told runs front after) → HaveSeen told workers AreAll runs old new
 seen_in_front told workers AreAll runs old new front rest after were few are same rounds =
@@ -61,3 +61,13 @@ seen_in_front told workers AreAll runs old new front rest after were few are sam
       others = ap (drop workers) are ∙ now.1 ∙ sym before.1 ∙ ap (drop workers) were;
       count = ap length are ∙ count ∙ ap length were;
     }
+
+-- So it is where a team had them, the first ones before and the last ones after the rounds.
+pub seen_by_team : {X : Type 0} (told : X → ℕ) (workers : ℕ) (AreAll : Type 0) (runs : List TextRun) (old new front rest after first last : List X)
+    → front ++ rest ≡ old → length front ≡ min (length old) workers → new ≡ after ++ rest → first ≡ front → after ≡ last → length last ≡ length first
+    → (AreAll → first ≢ [] → AreToldRounds told runs first last) → HaveSeen told workers AreAll runs old new
+seen_by_team told workers AreAll runs old new front rest after first last were few are first_is after_is same rounds =
+    seen_in_front told workers AreAll runs old new front rest after were few are (ap length after_is ∙ same ∙ ap length first_is)
+    (λ all some.
+    subst (λ xs. AreToldRounds told runs xs after) first_is
+    (subst (λ ys. AreToldRounds told runs first ys) (sym after_is) (rounds all (λ none. some (sym first_is ∙ none)))))
