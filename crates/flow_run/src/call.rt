@@ -45,7 +45,7 @@ pub struct CallResult {
     pub runs: List<FrameRun<TextJob>>,
     /// What was concluded: the judge's verdict, the findings on a graph, its new file, or the profile of the runs.
     pub conclusion: Option<Conclusion>,
-    /// The watchers, in the order in which they were handed in. Those of the workers were told the spans of the runs.
+    /// The watchers that were handed in. Those of the workers were told the spans of the runs.
     pub watchers: Vec<Box<dyn Watch + Send>>,
     /// Whether all that was to be written was written, or nothing was. Else the output has a prefix of it.
     pub written: bool,
@@ -69,9 +69,9 @@ impl CallResult {
 /// would of each; `profile FILE` runs it so too, and writes a table of what each task did; `judge FILE JOURNAL` reads the
 /// journal file of that name besides, and writes the judge's verdict; `check FILE` writes how the graph can go wrong;
 /// `upgrade FILE` writes the graph as a file of the newest version. The line of the status goes to `notes`, the
-/// diagnostics sink. Each worker tells a watcher the spans that end in its steps, the first worker the first watcher; there
-/// are no more workers than watchers, but for one where there is none. A watcher that answers `NoMemory` ends the call
-/// so. `rt` makes the threads of several workers and waits for them, so it isn't proved that the call returns.
+/// diagnostics sink. Each worker tells a watcher the spans that end in its steps, the first worker the first watcher. There
+/// are no more workers than watchers, but for one where there is none. A watcher that answers `NoMemory` ends the call so.
+/// `rt` makes the threads of several workers and waits for them, so it isn't proved that the call returns.
 pub fn flow_main<F: Texts, S: Sink, N: Sink, R: Threads + Wait + Sync>(
     rt: &R,
     alloc: Global,
