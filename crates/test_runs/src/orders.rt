@@ -1,5 +1,5 @@
 // Runs by one thread, whose steps are taken in some order. What a step has done is recorded at once.
-ghost use Rattle.std.specs.Prelude.{◌≡◌, ◌<◌, [], IfNone, IfOk, OnOk};
+ghost use Rattle.std.specs.Prelude.{◌≡◌, ◌<◌, ◌++◌, [], IfNone, IfOk, OnOk};
 ghost use Rattle.span_book.specs.SpanBooks.{name_of};
 ghost use Rattle.test_runs.specs.inside.Tellers.{AreIn, GoesOn, IsIn};
 
@@ -137,14 +137,22 @@ fn take_step_of<R: Wait>(
         pending.new.backlog.frames) }
     ensures book { pending.new.teller ≡ pending.old.teller }
 {
-    let Stepped {
-        mut released,
-        state,
-    } = Frame::step(rt, release, &mut pending.backlog)?;
-    pending.releases.append(&mut released)?;
-    if let State::Inner(mut first) = state {
-        pending.releases.append(&mut first)?;
+    let Stepped { released, state } = Frame::step(rt, release, &mut pending.backlog)?;
+    add(&mut pending.releases, released)?;
+    match state {
+        State::Inner(first) => add(&mut pending.releases, first),
+        _ => Ok(()),
     }
+}
+
+// Adds the releases that were made.
+fn add(
+    releases: &mut Vec<Release<NumberJob>>,
+    mut made: Vec<Release<NumberJob>>,
+) -> Result<(), NoMemory>
+    ensures { OnOk result (releases.new.items ≡ releases.old.items ++ made.items) }
+{
+    releases.append(&mut made)?;
     Ok(())
 }
 
@@ -170,7 +178,7 @@ fn record<R: Wait>(rt: &R, pending: &mut Pending) -> Result<Option<ClosedRun<Num
 }
 
 // Tells the span that the newest of the backlog ended, which has one fate at most, and brings it.
-#[tactic(auto, using(crate::proofs::Tellers::closed_last, crate::proofs::Tellers::resumed, crate::proofs::Tellers::went, crate::proofs::Tellers::woken, crate::proofs::Tellers::none_woken))]
+#[tactic(auto, using(crate::proofs::Tellers::closed_last, crate::proofs::Tellers::resumed, crate::proofs::Tellers::went))]
 fn bring<R: Wait>(rt: &R, pending: &mut Pending) -> Result<Option<ClosedRun<NumberJob>>, NoMemory>
     requires book { AreIn pending.old.teller.book pending.old.releases.items
         pending.old.backlog.frames }
@@ -178,19 +186,45 @@ fn bring<R: Wait>(rt: &R, pending: &mut Pending) -> Result<Option<ClosedRun<Numb
         pending.new.backlog.frames) }
     ensures book { pending.new.teller.book ≡ pending.old.teller.book }
 {
-    if let Some(span) = pending.backlog.newest_span() {
-        pending.told.span(span)?;
-    }
+    tell_newest(&pending.backlog, &mut pending.told)?;
     let Brought { state, .. } = Frame::bring(rt, &mut pending.backlog, &mut pending.teller)?;
     match state {
-        State::Closed(closed) => return Ok(Some(closed)),
-        State::Resumed(mut released) => pending.releases.append(&mut released)?,
+        State::Closed(closed) => Ok(Some(closed)),
+        State::Resumed(released) => {
+            add(&mut pending.releases, released)?;
+            Ok(None)
+        }
         State::Went => {
-            if let Some(release) = Frame::settle(rt, &mut pending.backlog)? {
-                pending.releases.push(release)?;
-            }
+            settle_parked(rt, pending)?;
+            Ok(None)
         }
         State::Parked(_) | State::Inner(_) => unreachable!(),
     }
-    Ok(None)
+}
+
+// Tells the span that the newest of a backlog ended, if it ended one.
+fn tell_newest(backlog: &Backlog<NumberJob>, told: &mut SpanCount) -> Result<(), NoMemory> {
+    match backlog.newest_span() {
+        Some(span) => told.span(span),
+        None => Ok(()),
+    }
+}
+
+// Decides what becomes of what is parked in the frame of the backlog, whose run goes on.
+#[tactic(auto, using(crate::proofs::Tellers::woken, crate::proofs::Tellers::none_woken))]
+fn settle_parked<R: Wait>(rt: &R, pending: &mut Pending) -> Result<(), NoMemory>
+    requires brought { pending.old.backlog.fates ≡ [] }
+    requires book { AreIn pending.old.teller.book pending.old.releases.items
+        pending.old.backlog.frames }
+    ensures on { OnOk result (AreIn pending.old.teller.book pending.new.releases.items
+        pending.new.backlog.frames) }
+    ensures book { pending.new.teller ≡ pending.old.teller }
+{
+    match Frame::settle(rt, &mut pending.backlog)? {
+        Some(release) => {
+            pending.releases.push(release)?;
+            Ok(())
+        }
+        None => Ok(()),
+    }
 }
