@@ -1,5 +1,5 @@
 -- The releases of a run by one thread stay in its book.
-use Rattle.std.proofs.Common.{◌≡◌, ◌<◌, ◌+◌, ◌++◌, ℕ, List, [], ◌∷◌, length, map, Option, Some, None, inl, inr, refl, sym, ap, subst, ◌∙◌, arith}
+use Rattle.std.proofs.Common.{◌≡◌, ◌<◌, ◌+◌, ◌++◌, ℕ, List, [], ◌∷◌, length, map, Option, Some, None, Result, Ok, Err, OnOk, inl, inr, refl, sym, ap, subst, ◌∙◌}
 use Rattle.std.specs.Prelude.{All, IfSome, drop, slice_index_or, take}
 use Rattle.std.proofs.lemmas.List.Elements.{All-append, All-drop, All-map, All-push, All-take, All-weaker}
 use Rattle.atomic_table.specs.Seated.{TableId}
@@ -56,6 +56,10 @@ module _ {J : Type 0} (book : TableId) where
     each = subst (All IsOf) (sym left) (All-append IsOf (take i releases) (drop (i + 1) releases) (All-take IsOf i releases are.each) (All-drop IsOf (i + 1) releases are.each));
     backlog = subst IsOf (sym is) (are.each i release below);
   }
+
+  pub added : {A E : Type 0} (result : Result A E) (releases new : List (ReleaseView J)) (frames : List (FrameKey J)) → AreIn book releases frames → OnOk result (new ≡ releases) → OnOk result (AreIn book new frames)
+  added (Ok _) releases new frames are is = subst (λ (rs : List (ReleaseView J)). AreIn book rs frames) (sym is) are
+  added (Err _) releases new frames are is = tt
 
   module _ {V : Type 0} (meaning : Meaning J V) where
     pub begun : (job : J) (stepped : Stepped J V) → BeginsFrame meaning job book stepped → AreIn book stepped.released.items []

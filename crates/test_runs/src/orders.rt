@@ -1,7 +1,7 @@
 // Runs by one thread, whose steps are taken in some order. What a step has done is recorded at once.
 ghost use Rattle.std.specs.Prelude.{◌≡◌, ◌<◌, ◌++◌, [], IfNone, IfOk, OnOk};
 ghost use Rattle.span_book.specs.SpanBooks.{name_of};
-ghost use Rattle.test_runs.specs.inside.Tellers.{AreIn, GoesOn, IsIn};
+ghost use Rattle.test_runs.specs.inside.Tellers.{AreIn, GoesOn};
 
 use outside_io::NoMemory;
 use run_frame::FrameRun;
@@ -67,7 +67,7 @@ pub(crate) fn run_in_order<R: Wait>(
     let teller = book.deal(&mut spans);
     let job = Arc::new(alloc, job)?;
     let Stepped { released, state } = Frame::begin(alloc, job, Arc::try_clone(&book)?, spans)?;
-    let mut pending = Pending {
+    let pending = Pending {
         releases: released,
         backlog: Backlog::new(alloc),
         teller,
@@ -76,9 +76,23 @@ pub(crate) fn run_in_order<R: Wait>(
     if let State::Closed(closed) = state {
         return Ok(Some(settle(&book, closed, pending)));
     }
+    go_on(rt, &book, pending, order)
+}
+
+// Takes the steps that are left, and gives the run if it comes to its end.
+fn go_on<R: Wait>(
+    rt: &R,
+    book: &SpanBook,
+    mut pending: Pending,
+    order: Order,
+) -> Result<Option<(FrameRun<NumberJob>, u64)>, NoMemory>
+    requires none { pending.backlog.frames ≡ [] }
+    requires book { pending.teller.book ≡ name_of book.now }
+    requires releases { AreIn pending.teller.book pending.releases.items [] }
+{
     for step in 1..STEPS {
         if let Some(closed) = take_step(rt, &mut pending, order, step)? {
-            return Ok(Some(settle(&book, closed, pending)));
+            return Ok(Some(settle(book, closed, pending)));
         }
     }
     Ok(None)
@@ -125,7 +139,7 @@ fn take_step<R: Wait>(
 }
 
 // Takes the step of a release.
-#[tactic(auto, using(crate::proofs::Tellers::after_step, crate::proofs::Tellers::opened))]
+#[tactic(auto, using(crate::proofs::Tellers::after_step))]
 fn take_step_of<R: Wait>(
     rt: &R,
     pending: &mut Pending,
@@ -178,7 +192,7 @@ fn record<R: Wait>(rt: &R, pending: &mut Pending) -> Result<Option<ClosedRun<Num
 }
 
 // Tells the span that the newest of the backlog ended, which has one fate at most, and brings it.
-#[tactic(auto, using(crate::proofs::Tellers::closed_last, crate::proofs::Tellers::resumed, crate::proofs::Tellers::went))]
+#[tactic(auto, using(crate::proofs::Tellers::closed_last, crate::proofs::Tellers::went))]
 fn bring<R: Wait>(rt: &R, pending: &mut Pending) -> Result<Option<ClosedRun<NumberJob>>, NoMemory>
     requires book { AreIn pending.old.teller.book pending.old.releases.items
         pending.old.backlog.frames }
