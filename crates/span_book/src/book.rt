@@ -8,8 +8,8 @@ use outside_io::NoMemory;
 use std::alloc::Global;
 use std::marker::{Brand, Model};
 
-// The words of a book's table. Only the one in the middle is read, so that no other data is on its cache line. None
-// ever changes.
+// The words of a book's table. None ever changes. Tellers and runs load the one in the middle, so that no other data
+// is on its cache line.
 const WORDS: usize = 16;
 
 const WORD: usize = 8;
