@@ -1,25 +1,30 @@
 -- What holds of the graphs of each file.
-use Rattle.std.proofs.Common.{◌≡◌, ◌≢◌, ℕ, suc, ◌<◌, ◌≤◌, List, [], ◌∷◌, ◌++◌, length, get_or, Bool, true, false, leb, cond, Some, is_some, position, All, refl, sym, ap, subst, ◌∙◌, bytes_eq, arith}
-use Rattle.std.proofs.lemmas.Bool.{and_parts, leb-true, true≢false}
+use Rattle.std.proofs.Common.{◌≡◌, ◌≢◌, ◌==◌, ℕ, zero, suc, ◌<◌, ◌≤◌, List, [], ◌∷◌, ◌++◌, length, get_or, Bool, true, false, not, ◌&&◌, ◌||◌, leb, cond, Some, slice_get, is_some, position, All, AllPairs, refl, sym, ap, subst, ◌∙◌, append_assoc, bytes_eq, arith}
+use Rattle.std.proofs.lemmas.Bool.{and_parts, eq-eqb, leb-true, true≢false}
 use Rattle.std.proofs.lemmas.Cmp.{nat_list_eq_equiv}
-use Rattle.std.proofs.lemmas.List.{get_or_default, length-map}
-use Rattle.std.proofs.lemmas.List.Elements.{All-append, All-cons, All-head, All-push, All-tail}
+use Rattle.std.proofs.lemmas.List.{append-nil, get_or_default, length-map}
+use Rattle.std.proofs.lemmas.List.Elements.{All-append, All-cons, All-head, All-nil, All-push, All-tail}
 use Rattle.std.proofs.lemmas.List.Quantifiers.{all_pairs_push, position-Some}
 use Rattle.std.proofs.lemmas.Map.Views.{list_any-from_Contains}
 use Rattle.std.specs.List.{list_all, list_any}
 use Rattle.graph_plans.specs.declared.ops.Op.{Op}
-use Rattle.graph_plans.specs.declared.ops.Op.TheVariants.{Input, Read, Text, Match, Back, IfMore, IfHas, Route, Spread, Module}
+use Rattle.graph_plans.specs.declared.ops.Op.TheVariants.{Input, Read, Text, Match, Back, IfMore, IfHas, Route, Spread, Module, Pipe}
 use Rattle.graph_plans.specs.declared.ops.TextOp.{TextOp}
 use Rattle.graph_plans.specs.declared.ops.TextOp.TheVariants.{Pass, Keep, Without, Head, Tail, Skip, Sort, Uniq, Count, Tally}
-use Rattle.graph_plans.specs.Operations.{IsOp, IsPartSize, IsTextOp, IsWord, line_limit, route_limit, word_limit}
+use Rattle.graph_plans.specs.declared.pipes.LineOp.{LineOp}
+use Rattle.graph_plans.specs.declared.pipes.LineOp.TheVariants.{Text as LineText, Number, Stamp}
+use Rattle.graph_plans.specs.declared.pipes.PipePlan.{PipePlan}
+use Rattle.pipe_lines.specs.declared.deferral.DeferRow.{DeferRow}
+use Rattle.pipe_lines.specs.DeferRows.{IsDeferRow, is_deferred}
+use Rattle.graph_plans.specs.Operations.{IsLineOp, IsOp, IsPartSize, IsPipePlan, IsTextOp, IsWord, line_limit, route_limit, word_limit}
 use Rattle.graph_plans.specs.PlanRows.{AllDiffer, IsTextName, maximum_limit}
 use Rattle.graph_file.specs.declared.scopes.Scope.{Scope}
 use Rattle.graph_file.specs.declared.scopes.Scope.TheVariants.{Top, Module as OfModule}
 use Rattle.graph_file.specs.Contents.{is_text}
-use Rattle.graph_file.specs.OpRows.{FileOpRow, reads, runs, does}
+use Rattle.graph_file.specs.OpRows.{FileOpRow, reads, runs, does, may_have}
 use Rattle.graph_file.specs.PlanText.{DraftRows, FileRows, TaskText, file_texts, mentioned, mentioned_by_graphs, mentioned_by_tasks}
 use Rattle.graph_file.specs.inside.Drafts.{IsDraft, IsFile, IsFileOp, IsMaximum}
-use Rattle.graph_file.specs.inside.Fine.{AreFine, AreMade, AreValidSems, IsMade, IsMadeFile, SemText, fits, fits_lines, fits_max, fits_op, fits_part, fits_text_op, fits_words, maxima_of}
+use Rattle.graph_file.specs.inside.Fine.{AreFine, AreMade, AreValidSems, IsMade, IsMadeFile, SemText, fits, fits_defers, fits_line_op, fits_lines, fits_max, fits_op, fits_part, fits_pipe, fits_pipe_lines, fits_pipes, fits_target, fits_targets, fits_text_op, fits_token, fits_words, maxima_of}
 use Rattle.graph_file.proofs.NameLemmas.{some_place}
 
 -- ---- operations
@@ -59,6 +64,90 @@ part-from n fine =
 spread-from : (n : ℕ) (op : TextOp) → fits_op (Spread n op) ≡ true → IsPartSize n × IsTextOp op
 spread-from n op fine = let parts = and_parts (fits_part n) (fits_text_op op) fine in (part-from n parts.0, IsTextOp-fits op parts.1)
 
+-- ---- pipelines
+
+line_op-from : (op : LineOp) → fits_line_op op ≡ true → IsLineOp op
+line_op-from (LineText op) fine = IsTextOp-fits op fine
+line_op-from Number fine = tt
+line_op-from Stamp fine = tt
+
+-- what each pipe's fitting says
+record FitPipes (serial : List Bool) (ops : List LineOp) : Type 0 where
+  count : length ops ≡ length serial
+  each : All IsLineOp ops
+  stamps : (p : ℕ) → slice_get ops p ≡ Some Stamp → slice_get serial p ≡ Some true
+
+pipes-from : (serial : List Bool) (ops : List LineOp) → fits_pipes serial ops ≡ true → FitPipes serial ops
+pipes-from [] [] fine = record { count = refl; each = All-nil IsLineOp; stamps = λ p at. cc }
+pipes-from [] (op ∷ ops) fine = cc
+pipes-from (s ∷ rest) [] fine = cc
+pipes-from (s ∷ rest) (op ∷ ops) fine =
+    let first = and_parts (may_have s op) (fits_line_op op && fits_pipes rest ops) fine in
+    let second = and_parts (fits_line_op op) (fits_pipes rest ops) first.1 in
+    let others : FitPipes rest ops = pipes-from rest ops second.1 in
+    record { count = ap suc others.count; each = All-cons IsLineOp op ops (line_op-from op second.0) others.each; stamps = λ p at. by_place p at first.0 others.stamps }
+  where
+    by_place : (p : ℕ) → slice_get (op ∷ ops) p ≡ Some Stamp → may_have s op ≡ true → ((q : ℕ) → slice_get ops q ≡ Some Stamp → slice_get rest q ≡ Some true) → slice_get (s ∷ rest) p ≡ Some true
+    by_place zero at may more = let is : op ≡ Stamp = cc in let serial : may_have s Stamp ≡ true = ap (may_have s) (sym is) ∙ may in ap Some serial
+    by_place (suc q) at may more = more q at
+
+targets-from : (to : List ℕ) → fits_targets to ≡ true → (1 ≤ length to) × (length to ≤ 8) × All (λ target. target ≤ 1000000) to
+targets-from to fine =
+    let parts = and_parts (leb 1 (length to) && leb (length to) 8) (list_all fits_target to) fine in
+    let counts = and_parts (leb 1 (length to)) (leb (length to) 8) parts.0 in
+    (leb-true 1 (length to) counts.0, leb-true (length to) 8 counts.1, λ k d within. leb-true (get_or to k d) 1000000 (and_parts (leb 0 (get_or to k d)) (leb (get_or to k d) 1000000) (All-true fits_target to parts.1 k d within)).1)
+
+row-from : (row : DeferRow) → fits_token row.token ≡ true → fits_targets row.to ≡ true → IsDeferRow row
+row-from row token to =
+    let targets = targets-from row.to to in
+    record { may_come = omega (arith, leb-true row.token 65535 (and_parts (leb 0 row.token) (leb row.token 65535) token).1); some = targets.0; few = targets.1; in_range = targets.2 }
+
+-- a token without a row differs from those that have one
+none_deferred : (rows : List DeferRow) (token : ℕ) → is_deferred rows token ≡ false → All (λ (row : DeferRow). row.token ≢ token) rows
+none_deferred [] token absent = All-nil (λ (row : DeferRow). row.token ≢ token)
+none_deferred (row ∷ rows) token absent = All-cons (λ (r : DeferRow). r.token ≢ token) row rows (by_test (row.token == token) refl absent) (none_deferred rows token (later (row.token == token) absent))
+  where
+    later : (b : Bool) → b || is_deferred rows token ≡ false → is_deferred rows token ≡ false
+    later true h = absurd (true≢false h)
+    later false h = h
+
+    by_test : (b : Bool) → (row.token == token) ≡ b → b || is_deferred rows token ≡ false → row.token ≢ token
+    by_test true is h same = true≢false h
+    by_test false is h same = true≢false (sym (eq-eqb row.token token same) ∙ is)
+
+abbrev ApartRows : DeferRow → DeferRow → Type 0
+ApartRows a b = a.token ≢ b.token
+
+rows-from : (before rows : List DeferRow) → All IsDeferRow before → AllPairs ApartRows before → fits_defers before rows ≡ true → All IsDeferRow (before ++ rows) × AllPairs ApartRows (before ++ rows)
+rows-from before [] all apart_ fine = (rw append-nil all, rw append-nil apart_)
+rows-from before (row ∷ rows) all apart_ fine =
+    let first = and_parts (fits_token row.token) (fits_targets row.to && (not (is_deferred before row.token) && fits_defers (before ++ row ∷ []) rows)) fine in
+    let second = and_parts (fits_targets row.to) (not (is_deferred before row.token) && fits_defers (before ++ row ∷ []) rows) first.1 in
+    let third = and_parts (not (is_deferred before row.token)) (fits_defers (before ++ row ∷ []) rows) second.1 in
+    let more = rows-from (before ++ row ∷ []) rows (All-push IsDeferRow before row all (row-from row first.0 second.0)) (all_pairs_push ApartRows before row apart_ (none_deferred before row.token (not_true (is_deferred before row.token) third.0))) third.1 in
+    let joined : (before ++ row ∷ []) ++ rows ≡ before ++ row ∷ rows = append_assoc before (row ∷ []) rows in
+    (subst (All IsDeferRow) joined more.0, subst (AllPairs ApartRows) joined more.1)
+  where
+    not_true : (b : Bool) → not b ≡ true → b ≡ false
+    not_true true h = absurd (true≢false (sym h))
+    not_true false h = refl
+
+pipe-from : (plan : PipePlan) → fits_pipe plan ≡ true → IsPipePlan plan
+pipe-from plan fine =
+    let lines = and_parts (fits_pipe_lines plan.spec.lines) (fits_part plan.chunk && (fits_pipes plan.spec.serial plan.ops && (leb (length plan.defers) 256 && fits_defers [] plan.defers))) fine in
+    let chunk = and_parts (fits_part plan.chunk) (fits_pipes plan.spec.serial plan.ops && (leb (length plan.defers) 256 && fits_defers [] plan.defers)) lines.1 in
+    let pipes = and_parts (fits_pipes plan.spec.serial plan.ops) (leb (length plan.defers) 256 && fits_defers [] plan.defers) chunk.1 in
+    let defers = and_parts (leb (length plan.defers) 256) (fits_defers [] plan.defers) pipes.1 in
+    let fit : FitPipes plan.spec.serial plan.ops = pipes-from plan.spec.serial plan.ops pipes.0 in
+    let rows = rows-from [] plan.defers (All-nil IsDeferRow) (λ i j d less within. absurd (omega (arith, within))) defers.1 in
+    record {
+      op_count = fit.count;
+      ops = fit.each;
+      stamps = fit.stamps;
+      chunk = part-from plan.chunk chunk.0;
+      defers = record { few = leb-true (length plan.defers) 256 defers.0; each = rows.0; apart = rows.1 };
+    }
+
 IsOp-fits : (op : Op) → fits_op op ≡ true → IsOp 0 0 op
 IsOp-fits Input fine = tt
 IsOp-fits (Read text) fine = cc
@@ -69,6 +158,7 @@ IsOp-fits (IfMore n) fine = lines-from n fine
 IsOp-fits (IfHas word) fine = word-from word fine
 IsOp-fits (Route words) fine = words-from words fine
 IsOp-fits (Spread n op) fine = spread-from n op fine
+IsOp-fits (Pipe plan) fine = pipe-from plan fine
 IsOp-fits (Module m) fine = cc
 
 -- an operation that names no text and no module may do so among any
@@ -82,6 +172,7 @@ IsOp-any texts modules (IfMore n) is = is
 IsOp-any texts modules (IfHas word) is = is
 IsOp-any texts modules (Route words) is = is
 IsOp-any texts modules (Spread n op) is = is
+IsOp-any texts modules (Pipe plan) is = is
 IsOp-any texts modules (Module m) is = absurd (omega (arith, is))
 
 -- ---- texts

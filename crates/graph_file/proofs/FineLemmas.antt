@@ -1,14 +1,18 @@
 -- The graphs that were read may stand in a file.
-use Rattle.std.proofs.Common.{◌≡◌, ℕ, suc, ◌+◌, List, [], ◌∷◌, ◌++◌, map, length, Bool, true, false, leb, cond, Option, Some, None, Result, Ok, Err, ok_or, option_and_then, codes, bytes_eq, refl, sym, ap, subst, ◌∙◌, append_assoc, arith}
+use Rattle.std.proofs.Common.{◌≡◌, ℕ, suc, ◌+◌, List, [], ◌∷◌, ◌++◌, map, length, Bool, true, false, not, ◌&&◌, leb, cond, Option, Some, None, Result, Ok, Err, ok_or, option_and_then, codes, bytes_eq, refl, sym, ap, subst, ◌∙◌, append_assoc, arith}
 use Rattle.std.proofs.lemmas.List.{append-nil}
 use Rattle.std.proofs.lemmas.Option.{option_and_then_some}
 use Rattle.std.specs.Bool.{⊤}
 use Rattle.std.specs.Option.{option_map_or}
 use Rattle.std.specs.List.{list_all}
 use Rattle.serde_json.specs.Data.{Data}
-use Rattle.serde_json.specs.Find.{as_number, as_str, as_u64, get}
+use Rattle.serde_json.specs.Find.{as_bool, as_number, as_str, as_u64, get}
 use Rattle.graph_plans.specs.declared.ops.Op.{Op}
-use Rattle.graph_plans.specs.declared.ops.Op.TheVariants.{Input, Text, Match, Back, IfMore, IfHas, Route, Spread}
+use Rattle.graph_plans.specs.declared.ops.Op.TheVariants.{Input, Text, Match, Back, IfMore, IfHas, Route, Spread, Pipe}
+use Rattle.graph_plans.specs.declared.pipes.LineOp.{LineOp}
+use Rattle.graph_plans.specs.declared.pipes.LineOp.TheVariants.{Text as LineText, Number, Stamp}
+use Rattle.pipe_lines.specs.declared.deferral.DeferRow.{DeferRow}
+use Rattle.pipe_lines.specs.DeferRows.{is_deferred}
 use Rattle.graph_plans.specs.declared.ops.TextOp.{TextOp}
 use Rattle.graph_plans.specs.declared.ops.TextOp.TheVariants.{Pass, Keep, Without, Head, Tail, Skip, Sort, Uniq, Count, Tally}
 use Rattle.graph_plans.specs.declared.spots.Spot.{Spot}
@@ -19,13 +23,13 @@ use Rattle.graph_file.specs.declared.refusals.GraphError.{GraphError}
 use Rattle.graph_file.specs.declared.refusals.GraphError.TheVariants.{BadField}
 use Rattle.graph_file.specs.declared.scopes.Scope.{Scope}
 use Rattle.graph_file.specs.declared.scopes.Scope.TheVariants.{Top, Module as OfModule}
-use Rattle.graph_file.specs.Contents.{each, is_name, is_text, line_count_of, list_of, name_of, name_list_of, objects_of, part_size_of, passing, text_name_of, whole_of, word_of, words_of}
+use Rattle.graph_file.specs.Contents.{defer_objects_of, each, is_name, is_text, line_count_of, list_of, name_of, name_list_of, objects_of, part_size_of, passing, pipe_lines_of, targets_of, text_name_of, token_number_of, whole_of, word_of, words_of}
 use Rattle.graph_file.specs.Fields.{allowed, graph_spot, needed, only, sem_spot, task_spot}
-use Rattle.graph_file.specs.OpRows.{FileOpRow, reads, runs, does, OpRow, WithFields, bare, single, used_by, text_rows, op_rows, row_called, op_called, op_in, each_in, spread_in, spread_row, text_op_in}
+use Rattle.graph_file.specs.OpRows.{FileOpRow, reads, runs, does, OpRow, WithFields, bare, single, used_by, text_rows, op_rows, row_called, op_called, op_in, each_in, spread_in, spread_row, text_op_in, PipeRows, add_defer, add_pipe, defers_in, line_rows, may_have, pipe_in, pipe_row, pipes_in}
 use Rattle.graph_file.specs.PlanText.{DraftRows, FileRows, TaskText, add_module, add_semaphore, add_task, empty_draft, file_fields, file_in, graph_in, module_in, puts_field, takes_field, task_fields, with_semaphore, with_task_text}
 use Rattle.graph_file.specs.Steps.{otherwise, walk}
-use Rattle.graph_file.specs.inside.Fine.{AreFine, AreMade, AreValidSems, IsMade, IsMadeFile, IsValidSem, IsValidTask, SemText, fits, fits_lines, fits_max, fits_op, fits_part, fits_text_op, fits_words, maxima_of, names_of_sems}
-use Rattle.graph_file.proofs.BindLemmas.{bind_ok, each-all, each-length, ok_or_ok, passing-ok}
+use Rattle.graph_file.specs.inside.Fine.{AreFine, AreMade, AreValidSems, IsMade, IsMadeFile, IsValidSem, IsValidTask, SemText, fits, fits_defers, fits_line_op, fits_lines, fits_max, fits_op, fits_part, fits_pipe_lines, fits_pipes, fits_target, fits_targets, fits_text_op, fits_token, fits_words, maxima_of, names_of_sems}
+use Rattle.graph_file.proofs.BindLemmas.{bind_ok, each-all, each-length, ok_or_ok, passed-ok, passing-ok}
 
 -- ---- contents
 
@@ -45,6 +49,15 @@ finds-lines d n is = passing-ok fits_lines (option_and_then as_u64 (as_number d)
 finds-part : Finds part_size_of fits_part
 finds-part d n is = passing-ok fits_part (option_and_then as_u64 (as_number d)) n is
 
+finds-pipe_lines : Finds pipe_lines_of fits_pipe_lines
+finds-pipe_lines d n is = passing-ok fits_pipe_lines (option_and_then as_u64 (as_number d)) n is
+
+finds-token : Finds token_number_of fits_token
+finds-token d n is = passing-ok fits_token (option_and_then as_u64 (as_number d)) n is
+
+finds-target : Finds (whole_of 0 1000000) fits_target
+finds-target d n is = passing-ok fits_target (option_and_then as_u64 (as_number d)) n is
+
 finds-string : Finds as_str (λ name. fits (runs name))
 finds-string d name is = refl
 
@@ -57,6 +70,13 @@ finds-words d words is =
     let few : leb (length items) route_limit ≡ true = passing-ok (λ items. leb (length items) route_limit) (list_of d) items here in
     let all : list_all (is_text 0 word_limit) words ≡ true = each-all word_of (is_text 0 word_limit) items words finds-word each_ in
     rw (each-length word_of items words each_, few) all)
+
+finds-targets : Finds targets_of fits_targets
+finds-targets d to is =
+    option_and_then_some (each (whole_of 0 1000000)) (option_and_then (passing (λ items. leb 1 (length items) && leb (length items) 8)) (list_of d)) to is (λ items here each_.
+    let count : leb 1 (length items) && leb (length items) 8 ≡ true = passing-ok (λ items. leb 1 (length items) && leb (length items) 8) (list_of d) items here in
+    let all : list_all fits_target to ≡ true = each-all (whole_of 0 1000000) fits_target items to finds-target each_ in
+    rw (each-length (whole_of 0 1000000) items to each_, count) all)
 
 finds-names : Finds name_list_of (list_all is_name)
 finds-names d names is = option_and_then_some (each name_of) (list_of d) names is (λ items here each_. each-all name_of is_name items names finds-name each_)
@@ -149,6 +169,111 @@ spread-fits spot d op is =
     let both : fits_op (Spread n each) ≡ true = rw first (each-fits spot d each there) in
     subst (λ o. fits_op o ≡ true) same both))
 
+-- ---- pipelines
+
+all-line_rows : AllMake fits_line_op line_rows
+unfolding line_rows
+all-line_rows = makes-bare fits_line_op (codes "number") Number refl & makes-bare fits_line_op (codes "stamp") Stamp refl & all-used fits_line_op LineText text_rows all-text_rows
+
+line_op-fits : (spot : Spot) (d : Data) (found : WithFields LineOp) → op_in line_rows spot d ≡ Ok found → fits_line_op found.op ≡ true
+line_op-fits spot d found is =
+    bind_ok (needed as_str spot (codes "op") d) (λ name. op_called line_rows name spot d) found is (λ name here called.
+    bind_ok (ok_or (row_called line_rows name) (BadField spot (codes "op"))) _ found called (λ row at_row rest.
+    bind_ok (row.made spot d) _ found rest (λ op made last.
+    let same : record { op = op; fields = row.fields } ≡ found = cc in
+    let fine : fits_line_op op ≡ true = called-makes fits_line_op line_rows name row all-line_rows (ok_or_ok _ _ row at_row) spot d op made in
+    subst (λ (f : WithFields LineOp). fits_line_op f.op ≡ true) same fine)))
+
+-- what was read of pipes
+record ReadPipes (before after : PipeRows) : Type 0 where
+  serial : List Bool
+  ops : List LineOp
+  fine : fits_pipes serial ops ≡ true
+  serial_is : before.serial ++ serial ≡ after.serial
+  ops_are : before.ops ++ ops ≡ after.ops
+
+pipes-fit : (spot : Spot) (before : PipeRows) (items : List Data) (r : PipeRows) → walk (add_pipe spot) before items ≡ Ok r → ReadPipes before r
+pipes-fit spot before [] r is = let same : before ≡ r = cc in record { serial = []; ops = []; fine = refl; serial_is = append-nil before.serial ∙ ap (λ (p : PipeRows). p.serial) same; ops_are = append-nil before.ops ∙ ap (λ (p : PipeRows). p.ops) same }
+pipes-fit spot before (d ∷ ds) r is =
+    bind_ok (add_pipe spot before d) (λ next. walk (add_pipe spot) next ds) r is (λ next here rest.
+    bind_ok (needed as_bool spot (codes "serial") d) _ next here (λ s read_ after_serial.
+    bind_ok (op_in line_rows spot d) _ next after_serial (λ found in_ after_op.
+    let may = passed-ok (may_have s found.op) (BadField spot (codes "op")) _ next after_op in
+    bind_ok (only (codes "serial" ∷ codes "op" ∷ found.fields) spot d) _ next may.1 (λ done none last.
+    let same : record { serial = before.serial ++ s ∷ []; ops = before.ops ++ found.op ∷ [] } ≡ next = cc in
+    let others : ReadPipes next r = pipes-fit spot next ds r rest in
+    record {
+      serial = s ∷ others.serial;
+      ops = found.op ∷ others.ops;
+      fine = rw (may.0, line_op-fits spot d found in_) others.fine;
+      serial_is = sym (append_assoc before.serial (s ∷ []) others.serial) ∙ ap (λ (p : PipeRows). p.serial ++ others.serial) same ∙ others.serial_is;
+      ops_are = sym (append_assoc before.ops (found.op ∷ []) others.ops) ∙ ap (λ (p : PipeRows). p.ops ++ others.ops) same ∙ others.ops_are;
+    }))))
+
+-- what was read of the rows that defer tokens
+record ReadDefers (before after : List DeferRow) (items : ℕ) : Type 0 where
+  rows : List DeferRow
+  count : length rows ≡ items
+  fine : fits_defers before rows ≡ true
+  are : before ++ rows ≡ after
+
+defers-fit : (spot : Spot) (before : List DeferRow) (items : List Data) (r : List DeferRow) → walk (add_defer spot) before items ≡ Ok r → ReadDefers before r (length items)
+defers-fit spot before [] r is = let same : before ≡ r = cc in record { rows = []; count = refl; fine = refl; are = append-nil before ∙ same }
+defers-fit spot before (d ∷ ds) r is =
+    bind_ok (add_defer spot before d) (λ next. walk (add_defer spot) next ds) r is (λ next here rest.
+    bind_ok (needed token_number_of spot (codes "token") d) _ next here (λ token read_ after_token.
+    bind_ok (needed targets_of spot (codes "to") d) _ next after_token (λ to waited after_to.
+    let new = passed-ok (not (is_deferred before token)) (BadField spot (codes "token")) _ next after_to in
+    bind_ok (only (codes "token" ∷ codes "to" ∷ []) spot d) _ next new.1 (λ done none last.
+    let row : DeferRow = record { token = token; to = to } in
+    let same : before ++ row ∷ [] ≡ next = cc in
+    let others : ReadDefers next r (length ds) = defers-fit spot next ds r rest in
+    let later : fits_defers (before ++ row ∷ []) others.rows ≡ true = ap (λ rows. fits_defers rows others.rows) same ∙ others.fine in
+    record {
+      rows = row ∷ others.rows;
+      count = ap suc others.count;
+      fine = rw (found-passes token_number_of fits_token (get (codes "token") d) (BadField spot (codes "token")) token finds-token read_, found-passes targets_of fits_targets (get (codes "to") d) (BadField spot (codes "to")) to finds-targets waited, new.0) later;
+      are = sym (append_assoc before (row ∷ []) others.rows) ∙ ap (λ rows. rows ++ others.rows) same ∙ others.are;
+    }))))
+
+allowed-part : (spot : Spot) (field : List ℕ) (found : Option Data) (n : ℕ) → ok_or (option_map_or part_size_of found (Some 1)) (BadField spot field) ≡ Ok n → fits_part n ≡ true
+allowed-part spot field None n is = let same : 1 ≡ n = cc in subst (λ m. fits_part m ≡ true) same refl
+allowed-part spot field (Some d) n is = finds-part d n (ok_or_ok _ _ n is)
+
+few-defers : (spot : Spot) (field : List ℕ) (found : Option Data) (items : List Data) → ok_or (option_map_or defer_objects_of found (Some [])) (BadField spot field) ≡ Ok items → leb (length items) 256 ≡ true
+few-defers spot field None items is = let same : [] ≡ items = cc in subst (λ ds. leb (length ds) 256 ≡ true) same refl
+few-defers spot field (Some d) items is = passing-ok (λ ds. leb (length ds) 256) (objects_of d) items (ok_or_ok _ _ items is)
+
+pipes_in-fit : (spot : Spot) (d : Data) (r : PipeRows) → pipes_in spot d ≡ Ok r → fits_pipes r.serial r.ops ≡ true
+pipes_in-fit spot d r is =
+    bind_ok (needed objects_of spot (codes "pipes") d) _ r is (λ items here after.
+    let read_ : ReadPipes (record { serial = []; ops = [] }) r = pipes-fit spot (record { serial = []; ops = [] }) items r (otherwise_ok (walk (add_pipe spot) (record { serial = []; ops = [] }) items) _ r after) in
+    ap (λ s. fits_pipes s r.ops) (sym read_.serial_is) ∙ ap (λ o. fits_pipes read_.serial o) (sym read_.ops_are) ∙ read_.fine)
+
+defers_in-fit : (spot : Spot) (d : Data) (r : List DeferRow) → defers_in spot d ≡ Ok r → leb (length r) 256 && fits_defers [] r ≡ true
+defers_in-fit spot d r is =
+    bind_ok (allowed [] defer_objects_of spot (codes "defer") d) _ r is (λ items here after.
+    let read_ : ReadDefers [] r (length items) = defers-fit spot [] items r (otherwise_ok (walk (add_defer spot) [] items) _ r after) in
+    let few : leb (length r) 256 ≡ true = ap (λ rows. leb (length rows) 256) (sym read_.are) ∙ ap (λ n. leb n 256) read_.count ∙ few-defers spot (codes "defer") (get (codes "defer") d) items here in
+    rw few (ap (fits_defers []) (sym read_.are) ∙ read_.fine))
+
+pipe-fits : (spot : Spot) (d : Data) (op : Op) → pipe_in spot d ≡ Ok op → fits_op op ≡ true
+pipe-fits spot d op is =
+    bind_ok (needed pipe_lines_of spot (codes "lines") d) _ op is (λ lines counted after_lines.
+    bind_ok (allowed 1 part_size_of spot (codes "n") d) _ op after_lines (λ chunk sized after_chunk.
+    bind_ok (pipes_in spot d) _ op after_chunk (λ pipes piped after_pipes.
+    bind_ok (defers_in spot d) _ op after_pipes (λ defers deferred last.
+    let same : Pipe (record { spec = record { lines = lines; serial = pipes.serial }; ops = pipes.ops; chunk = chunk; defers = defers }) ≡ op = cc in
+    let all : fits_op (Pipe (record { spec = record { lines = lines; serial = pipes.serial }; ops = pipes.ops; chunk = chunk; defers = defers })) ≡ true =
+    rw (found-passes pipe_lines_of fits_pipe_lines (get (codes "lines") d) (BadField spot (codes "lines")) lines finds-pipe_lines counted, allowed-part spot (codes "n") (get (codes "n") d) chunk sized, pipes_in-fit spot d pipes piped) (defers_in-fit spot d defers deferred) in
+    subst (λ o. fits_op o ≡ true) same all))))
+
+makes-pipe : Makes fits pipe_row
+makes-pipe spot d made is =
+    bind_ok (pipe_in spot d) (λ op. Ok (does op)) made is (λ op here last.
+    let same : does op ≡ made = cc in
+    subst (λ o. fits o ≡ true) same (pipe-fits spot d op here))
+
 makes-spread : Makes fits spread_row
 makes-spread spot d made is =
     bind_ok (spread_in spot d) (λ op. Ok (does op)) made is (λ op here last.
@@ -167,6 +292,7 @@ all-op_rows =
     & makes-single fits (codes "route") (codes "words") words_of (λ words. does (Route words)) finds-words
     & makes-spread
     & makes-single fits (codes "module") (codes "module") as_str runs finds-string
+    & makes-pipe
     & all-used fits (λ op. does (Text op)) text_rows all-text_rows
 
 -- the operation that an object names may stand in a file

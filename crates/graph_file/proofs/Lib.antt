@@ -17,6 +17,7 @@ pub mod WordLemmas
 pub mod DraftLemmas
 pub mod FineLemmas
 pub mod TextLemmas
+pub mod PipeLemmas
 pub mod PlanLemmas
 pub mod UseLemmas
 pub mod MentionLemmas

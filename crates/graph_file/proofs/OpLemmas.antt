@@ -5,8 +5,9 @@ use Rattle.serde_json.specs.Data.{Data}
 use Rattle.graph_plans.specs.declared.spots.Spot.{Spot}
 use Rattle.graph_file.specs.declared.refusals.GraphError.{GraphError}
 use Rattle.graph_plans.specs.declared.ops.Op.TheVariants.{Text}
+use Rattle.graph_plans.specs.declared.pipes.LineOp.TheVariants.{Text as LineText}
 use Rattle.graph_file.specs.declared.refusals.GraphError.TheVariants.{BadField}
-use Rattle.graph_file.specs.OpRows.{OpRow, WithFields, does, op_called, op_rows, row_called, text_rows, used_by}
+use Rattle.graph_file.specs.OpRows.{OpRow, WithFields, does, line_rows, op_called, op_rows, row_called, text_rows, used_by}
 use Rattle.graph_file.specs.Steps.{◌>>=◌}
 
 row_step : {A B : Type 0} (f : A → B) (here : Bool) (row : OpRow A) (rest : Option (OpRow A)) (later : Option (OpRow B)) → later ≡ option_map (used_by f) rest
@@ -70,13 +71,18 @@ no_text_op name spot d pass_ keep_ without_ head_ tail_ skip_ sort_ uniq_ count_
       differs (codes "tally") name tally_,
     ) refl
 
+-- a name that only an operation on one text may have, of a pipe
+pub no_line_op : (name : List ℕ) (spot : Spot) (d : Data) → Is-not name (codes "number") → Is-not name (codes "stamp") → op_called line_rows name spot d ≡ op_called (map (used_by LineText) text_rows) name spot d
+unfolding line_rows
+no_line_op name spot d number_ stamp_ = rw (differs (codes "number") name number_, differs (codes "stamp") name stamp_) refl
+
 -- a name that only an operation on one text may have
 pub no_own_op : (name : List ℕ) (spot : Spot) (d : Data)
     → Is-not name (codes "input") → Is-not name (codes "read") → Is-not name (codes "match") → Is-not name (codes "back") → Is-not name (codes "ifmore")
-    → Is-not name (codes "ifhas") → Is-not name (codes "route") → Is-not name (codes "spread") → Is-not name (codes "module")
+    → Is-not name (codes "ifhas") → Is-not name (codes "route") → Is-not name (codes "spread") → Is-not name (codes "module") → Is-not name (codes "pipe")
     → op_called op_rows name spot d ≡ op_called (map (used_by (λ op. does (Text op))) text_rows) name spot d
 unfolding op_rows
-no_own_op name spot d input_ read_ match_ back_ more_ has_ route_ spread_ module_ =
+no_own_op name spot d input_ read_ match_ back_ more_ has_ route_ spread_ module_ pipe_ =
     rw (
       differs (codes "input") name input_,
       differs (codes "read") name read_,
@@ -87,4 +93,5 @@ no_own_op name spot d input_ read_ match_ back_ more_ has_ route_ spread_ module
       differs (codes "route") name route_,
       differs (codes "spread") name spread_,
       differs (codes "module") name module_,
+      differs (codes "pipe") name pipe_,
     ) refl

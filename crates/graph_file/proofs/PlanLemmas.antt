@@ -14,7 +14,7 @@ use Rattle.task_graph.specs.declared.net.EdgeRow.{EdgeRow}
 use Rattle.task_graph.specs.declared.net.TaskRow.{TaskRow}
 use Rattle.task_graph.proofs.SemaphoreLemmas.{settled-fits}
 use Rattle.graph_plans.specs.declared.ops.Op.{Op}
-use Rattle.graph_plans.specs.declared.ops.Op.TheVariants.{Input, Read, Text, Match, Back, IfMore, IfHas, Route, Spread, Module}
+use Rattle.graph_plans.specs.declared.ops.Op.TheVariants.{Input, Read, Text, Match, Back, IfMore, IfHas, Route, Spread, Module, Pipe}
 use Rattle.graph_plans.specs.ModuleUses.{first_on_cycle, modules_run, run_before}
 use Rattle.graph_plans.specs.Operations.{IsOp, shape_of}
 use Rattle.graph_plans.specs.PlanRows.{AllDiffer, GraphRows, IsGraph, IsPlan, PlanRows, file_edge_limit, file_semaphore_limit, file_task_limit, graphs_of, module_limit, module_uses, text_count_limit}
@@ -27,7 +27,7 @@ use Rattle.graph_file.specs.declared.scopes.Scope.TheVariants.{Module as OfModul
 use Rattle.graph_file.specs.Contents.{each}
 use Rattle.graph_file.specs.Fields.{graph_spot, sem_spot, task_spot}
 use Rattle.graph_file.specs.OpRows.{FileOpRow, reads, runs, does}
-use Rattle.graph_file.specs.PlanText.{DraftRows, FileNumbers, FileRows, PlanText, TaskNames, TaskText, add_graph_numbers, add_module_name, add_name, add_numbers, add_task_name, edge_to, edge_total, edges_from, file_counts, file_in, file_names, file_numbers, file_texts, file_uses, graph_names, graph_numbers, graph_with, graphs_with, json_in, names_of_modules, names_of_tasks, nests_too_deep, numbered, numbers_in, ops_of, plan_in, plan_of, plan_with, puts_field, runs_one_of, takes_field, task_names, task_row, task_rows, used_before, used_by_tasks, within_counts, within_limits}
+use Rattle.graph_file.specs.PlanText.{DraftRows, FileNumbers, FileRows, PlanText, TaskNames, TaskText, add_graph_numbers, add_module_name, add_name, add_numbers, add_task_name, edge_to, edge_total, edges_from, file_counts, file_in, file_names, file_numbers, file_pipelines, file_texts, file_uses, graph_names, graph_numbers, graph_with, graphs_with, json_in, names_of_modules, names_of_tasks, nests_too_deep, numbered, numbers_in, ops_of, plan_in, plan_of, plan_with, puts_field, runs_one_of, takes_field, task_names, task_row, task_rows, used_before, used_by_tasks, within_counts, within_limits}
 use Rattle.graph_file.specs.Steps.{passed, unless, walk}
 use Rattle.graph_file.specs.inside.Drafts.{AreReady, IsAmong, IsDraft, IsFile, IsFileOp, IsMaximum, IsReady, IsReadyFile, NamesOnce, net_with}
 use Rattle.graph_file.proofs.BindLemmas.{bind_ok, ok_or_ok, passed-ok}
@@ -35,6 +35,7 @@ use Rattle.graph_file.proofs.DraftLemmas.{AllDiffer-push, IsFile-of, IsOp-any, t
 use Rattle.graph_file.proofs.FineLemmas.{file_in-made}
 use Rattle.graph_file.proofs.NetLemmas.{task_rows-length}
 use Rattle.graph_file.proofs.NumberLemmas.{AreIds-of, numbers-within, place}
+use Rattle.graph_file.proofs.PipeLemmas.{pipelines-of}
 use Rattle.graph_file.proofs.TextLemmas.{AllKnow, AllKnowIn, Knows, graphs-know, number-known}
 
 -- ---- numbers
@@ -437,6 +438,7 @@ op-runs (IfMore n) ms is = refl
 op-runs (IfHas word) ms is = refl
 op-runs (Route words) ms is = refl
 op-runs (Spread n op) ms is = refl
+op-runs (Pipe plan) ms is = refl
 op-runs (Module m) ms is = absurd (omega (arith, is))
 
 op-used : (modules texts : List (List ℕ)) (op : FileOpRow) (ms : List ℕ) → IsFileOp op → runs_one_of modules op ≡ true → length modules ≤ module_limit → run_before ms (numbered modules texts op) ≡ used_before modules ms op
@@ -499,13 +501,15 @@ pub record IsPlanned (file : FileRows) (plan : PlanRows) : Type 0 where
   pub named : IsNamedFile file
   pub limits : IsWithinLimits file numbers
   pub passes : within_limits file numbers ≡ Ok tt
+  pub pipelines : file_pipelines file ≡ Ok tt
   pub is : plan_with file numbers ≡ plan
 
 pub IsPlanned-of : (file : FileRows) (plan : PlanRows) → plan_of file ≡ Ok plan → IsPlanned file plan
 IsPlanned-of file plan planned =
     bind_ok (file_numbers file) _ plan planned (λ numbers walked after_numbers.
     bind_ok (file_names file) _ plan after_numbers (λ names named after_names.
-    bind_ok (within_limits file numbers) _ plan after_names (λ done limits last.
+    bind_ok (within_limits file numbers) _ plan after_names (λ done limits after_limits.
+    bind_ok (file_pipelines file) _ plan after_limits (λ piped pipelines last.
     let same : plan_with file numbers ≡ plan = cc in
     record {
       numbers = numbers;
@@ -514,8 +518,9 @@ IsPlanned-of file plan planned =
       named = IsNamedFile-of file names named;
       limits = IsWithinLimits-of file numbers limits;
       passes = limits;
+      pipelines = pipelines;
       is = same;
-    })))
+    }))))
 
 IsPlan-with : (file : FileRows) (plan : PlanRows) → IsFile file → (planned : IsPlanned file plan) → IsPlan (plan_with file planned.numbers)
 IsPlan-with file plan is planned =
@@ -545,6 +550,7 @@ IsPlan-with file plan is planned =
       texts = fine.0;
       texts_differ = fine.1;
       text_count = planned.limits.texts;
+      pipelines = pipelines-of file numbers tt planned.pipelines;
     }
 
 pub IsFile-read : (d : Data) (file : FileRows) → file_in d ≡ Ok file → IsFile file
@@ -561,8 +567,8 @@ IsPlan-read bytes plan is =
 -- ---- the code's way to the plan
 
 -- each class of refusals was passed
-pub plan-found : (file : FileRows) (numbers : FileNumbers) (names : List (List ℕ)) → file_numbers file ≡ Ok numbers → file_names file ≡ Ok names → within_limits file numbers ≡ Ok tt → plan_of file ≡ Ok (plan_with file numbers)
-plan-found file numbers names numbered named few = rw (numbered, named, few) refl
+pub plan-found : (file : FileRows) (numbers : FileNumbers) (names : List (List ℕ)) → file_numbers file ≡ Ok numbers → file_names file ≡ Ok names → within_limits file numbers ≡ Ok tt → file_pipelines file ≡ Ok tt → plan_of file ≡ Ok (plan_with file numbers)
+plan-found file numbers names numbered named few pipelines = rw (numbered, named, few, pipelines) refl
 
 pub ready-file : (file : FileRows) (numbers : FileNumbers) (names : List (List ℕ)) → IsFile file → file_numbers file ≡ Ok numbers → file_names file ≡ Ok names → within_limits file numbers ≡ Ok tt → IsReadyFile file numbers
 ready-file file numbers names is numbered named few = IsReadyFile-of file numbers is (IsNumberedFile-of file numbers numbered) (IsNamedFile-of file names named) (IsWithinLimits-of file numbers few)
@@ -576,3 +582,6 @@ names-refused file numbers e numbered refused = rw (numbered, refused) refl
 
 pub limits-refused : (file : FileRows) (numbers : FileNumbers) (names : List (List ℕ)) (e : GraphError) → file_numbers file ≡ Ok numbers → file_names file ≡ Ok names → within_limits file numbers ≡ Err e → plan_of file ≡ Err e
 limits-refused file numbers names e numbered named refused = rw (numbered, named, refused) refl
+
+pub pipelines-refused : (file : FileRows) (numbers : FileNumbers) (names : List (List ℕ)) (e : GraphError) → file_numbers file ≡ Ok numbers → file_names file ≡ Ok names → within_limits file numbers ≡ Ok tt → file_pipelines file ≡ Err e → plan_of file ≡ Err e
+pipelines-refused file numbers names e numbered named few refused = rw (numbered, named, few, refused) refl

@@ -1,9 +1,10 @@
 -- A file of version 2 with each list of semaphores in order has the same plan.
-use Rattle.std.proofs.Common.{◌≡◌, ℕ, suc, ◌+◌, ◌<◌, List, [], ◌∷◌, ◌++◌, map, length, get_or, sum_by, true, false, Ok, Some, All, codes, refl, sym, ap, subst, ◌∙◌, append_assoc, bytes_eq, arith}
+use Rattle.std.proofs.Common.{◌≡◌, ℕ, suc, ◌+◌, ◌<◌, List, [], ◌∷◌, ◌++◌, map, length, get_or, sum_by, true, false, Result, Ok, Err, Some, All, codes, refl, sym, ap, subst, ◌∙◌, append_assoc, bytes_eq, arith}
 use Rattle.std.proofs.lemmas.List.{append-nil, get_or_append_left, length-append}
 use Rattle.std.proofs.Math.Seq.{get_or-append_seam}
 use Rattle.std.proofs.lemmas.List.Folds.{list_any_none}
 use Rattle.std.proofs.lemmas.List.Sums.{sum_by-cons}
+use Rattle.std.specs.Bool.{⊤}
 use Rattle.std.specs.List.{list_all, list_any}
 use Rattle.task_graph.specs.NetBuilder.{rising}
 use Rattle.graph_plans.specs.declared.ops.Op.{Op}
@@ -15,8 +16,8 @@ use Rattle.graph_file.specs.declared.scopes.Scope.{Scope}
 use Rattle.graph_file.specs.declared.scopes.Scope.TheVariants.{Top, Module as OfModule}
 use Rattle.graph_file.specs.Contents.{each, is_name}
 use Rattle.graph_file.specs.Fields.{sem_spot, task_spot}
-use Rattle.graph_file.specs.PlanText.{DraftRows, FileNumbers, FileRows, TaskNames, TaskText, add_graph_numbers, add_module_name, add_name, add_numbers, add_task_name, edge_to, edge_total, edges_from, file_names, file_numbers, file_texts, file_uses, graph_names, graph_numbers, graph_with, graphs_with, mentioned, mentioned_by_graphs, mentioned_by_tasks, names_of_modules, names_of_tasks, ops_of, numbered, plan_of, plan_with, task_names, task_rows, used_before, used_by_tasks, within_counts, within_limits}
-use Rattle.graph_file.specs.Steps.{walk}
+use Rattle.graph_file.specs.PlanText.{DraftRows, FileNumbers, FileRows, TaskNames, TaskText, add_graph_numbers, add_module_name, add_name, add_numbers, add_task_name, edge_to, edge_total, edges_from, add_graph_pipelines, add_pipeline, file_names, file_numbers, file_pipelines, file_texts, file_uses, graph_names, graph_pipelines, graph_numbers, graph_with, graphs_with, mentioned, mentioned_by_graphs, mentioned_by_tasks, names_of_modules, names_of_tasks, ops_of, numbered, plan_of, plan_with, task_names, task_rows, used_before, used_by_tasks, within_counts, within_limits}
+use Rattle.graph_file.specs.Steps.{◌>>=◌, walk}
 use Rattle.graph_file.specs.inside.Drafts.{AreIds}
 use Rattle.graph_file.specs.inside.Fine.{AreFine, AreMade, AreValidSems, IsMade, IsMadeFile, SemText, names_of_sems}
 use Rattle.graph_file.proofs.DraftLemmas.{All-true, IsDraft-of}
@@ -293,9 +294,32 @@ module _ (modules : List (List ℕ)) where
       let inner = graph-names-kept modules draft count kept.sems n (numbered-draft modules draft n all.0) kept.tasks in
       rw (not-among before names draft.name differ) (rw inner (graphs-names-kept (suc m) (before ++ draft.name ∷ []) drafts numbers made.2 all.1 named.1 (subst AllDiffer (sym longer) differ) ∙ ap Ok longer))
 
+-- ---- pipelines
+
+tasks-piped : (modules : List (List ℕ)) (draft : DraftRows) (scope : Scope) (t : ℕ) (tasks : List TaskText) (numbers : List TaskNumbers) → AreNumbered modules draft tasks numbers → walk (add_pipeline scope) t (settled_tasks draft tasks numbers) ≡ walk (add_pipeline scope) t tasks
+tasks-piped modules draft scope t [] numbers all = refl
+tasks-piped modules draft scope t (task ∷ tasks) [] all = absurd all
+tasks-piped modules draft scope t (task ∷ tasks) (n ∷ numbers) all = goes_on (add_pipeline scope t task) (λ next. tasks-piped modules draft scope next tasks numbers all.1)
+  where
+    goes_on : (r : Result ℕ GraphError) → ((next : ℕ) → walk (add_pipeline scope) next (settled_tasks draft tasks numbers) ≡ walk (add_pipeline scope) next tasks)
+        → (r >>= λ next. walk (add_pipeline scope) next (settled_tasks draft tasks numbers)) ≡ (r >>= λ next. walk (add_pipeline scope) next tasks)
+    goes_on (Ok next) more = more next
+    goes_on (Err e) more = refl
+
+graphs-piped : (modules : List (List ℕ)) (drafts : List DraftRows) (numbers : List (List TaskNumbers)) (done : ⊤) → AreGraphNumbers modules drafts numbers → walk add_graph_pipelines done (settled_graphs drafts numbers) ≡ walk add_graph_pipelines done drafts
+graphs-piped modules [] numbers done all = refl
+graphs-piped modules (draft ∷ drafts) [] done all = absurd all
+graphs-piped modules (draft ∷ drafts) (n ∷ numbers) done all =
+    rw (tasks-piped modules draft draft.scope 0 draft.tasks n (numbered-draft modules draft n all.0)) (goes_on (graph_pipelines draft) (λ next. graphs-piped modules drafts numbers next all.1))
+  where
+    goes_on : (r : Result ℕ GraphError) → ((next : ⊤) → walk add_graph_pipelines next (settled_graphs drafts numbers) ≡ walk add_graph_pipelines next drafts)
+        → ((r >>= λ tasks. Ok tt) >>= λ next. walk add_graph_pipelines next (settled_graphs drafts numbers)) ≡ ((r >>= λ tasks. Ok tt) >>= λ next. walk add_graph_pipelines next drafts)
+    goes_on (Ok tasks) more = more tt
+    goes_on (Err e) more = refl
+
 -- ---- the file
 
-module _ (file : FileRows) (numbers : FileNumbers) (made : IsMadeFile file) (all : IsNumberedFile file numbers) (named : IsNamedFile file) (passes : within_limits file numbers ≡ Ok tt) where
+module _ (file : FileRows) (numbers : FileNumbers) (made : IsMadeFile file) (all : IsNumberedFile file numbers) (named : IsNamedFile file) (passes : within_limits file numbers ≡ Ok tt) (piped : file_pipelines file ≡ Ok tt) where
   abbrev now : FileRows
   now = settled_file file numbers
 
@@ -342,6 +366,9 @@ module _ (file : FileRows) (numbers : FileNumbers) (made : IsMadeFile file) (all
   limits-again : within_limits now numbers_now ≡ Ok tt
   limits-again = rw (uses-again, counts-again, modules_now, used-same (names_of_modules file) file.top file.top.tasks numbers.top top_numbered, texts-again) passes
 
+  pipelines-again : file_pipelines now ≡ Ok tt
+  pipelines-again = graphs-piped (names_of_modules file) (file.top ∷ file.modules) (numbers.top ∷ numbers.modules) tt (all.top, all.modules) ∙ piped
+
   plan-again : plan_with now numbers_now ≡ plan_with file numbers
   plan-again =
       rw (
@@ -353,4 +380,4 @@ module _ (file : FileRows) (numbers : FileNumbers) (made : IsMadeFile file) (all
 
   -- the file with each list in order has the same plan
   pub settled-planned : plan_of now ≡ Ok (plan_with file numbers)
-  settled-planned = rw (numbers-again, names-again, limits-again) (ap Ok plan-again)
+  settled-planned = rw (numbers-again, names-again, limits-again, pipelines-again) (ap Ok plan-again)

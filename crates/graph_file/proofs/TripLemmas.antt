@@ -3,7 +3,7 @@ use Rattle.std.proofs.Common.{◌≡◌, ◌==◌, ℕ, suc, ◌<◌, ◌≤◌,
 use Rattle.std.proofs.lemmas.Bool.{eq-eqb, ne_eqb}
 use Rattle.std.proofs.lemmas.List.{append-nil, length-map}
 use Rattle.task_graph.specs.declared.net.EdgeRow.{EdgeRow}
-use Rattle.graph_plans.specs.declared.ops.Op.TheVariants.{Input, Read, Text, Match, Back, IfMore, IfHas, Route, Spread, Module}
+use Rattle.graph_plans.specs.declared.ops.Op.TheVariants.{Input, Read, Text, Match, Back, IfMore, IfHas, Route, Spread, Module, Pipe}
 use Rattle.graph_plans.specs.PlanRows.{GraphRows, PlanRows, module_limit, module_names, text_count_limit}
 use Rattle.graph_file.specs.declared.numbers.TaskNumbers.{TaskNumbers}
 use Rattle.graph_file.specs.declared.scopes.Scope.{Scope}
@@ -59,6 +59,7 @@ op-kept modules texts (does (IfMore n)) fine runs_one known few_modules few_text
 op-kept modules texts (does (IfHas word)) fine runs_one known few_modules few_texts = refl
 op-kept modules texts (does (Route words)) fine runs_one known few_modules few_texts = refl
 op-kept modules texts (does (Spread n op)) fine runs_one known few_modules few_texts = refl
+op-kept modules texts (does (Pipe plan)) fine runs_one known few_modules few_texts = refl
 op-kept modules texts (does (Module m)) fine runs_one known few_modules few_texts = cc
 
 -- ---- what is written are the tasks that were read, each list in order
@@ -179,7 +180,7 @@ module _ (file : FileRows) (plan : PlanRows) (made : IsMadeFile file) (planned :
   pub written-again : plan_in (plan_data plan) ≡ Ok plan
   written-again =
       subst (λ p. plan_in (plan_data p) ≡ Ok p) planned.is
-      (ap (λ r. r >>= plan_of) read-again ∙ settled-planned file numbers made planned.numbered planned.named planned.passes)
+      (ap (λ r. r >>= plan_of) read-again ∙ settled-planned file numbers made planned.numbered planned.named planned.passes planned.pipelines)
 
 -- What is written for a plan that some file stands for is read as that plan.
 pub plan-written : (bytes : List ℕ) (plan : PlanRows) → PlanText bytes plan → plan_in (plan_data plan) ≡ Ok plan

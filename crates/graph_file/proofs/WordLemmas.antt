@@ -9,7 +9,7 @@ use Rattle.serde_json.specs.declared.value.Value.{Value}
 use Rattle.graph_plans.specs.declared.spots.Spot.{Spot}
 use Rattle.graph_file.specs.declared.refusals.GraphError.{GraphError}
 use Rattle.graph_file.specs.declared.refusals.GraphError.TheVariants.{BadField}
-use Rattle.graph_file.specs.Contents.{list_of, name_of, name_list_of, word_of, words_of}
+use Rattle.graph_file.specs.Contents.{list_of, name_of, name_list_of, target_items_of, targets_of, whole_of, word_of, words_of}
 use Rattle.graph_file.specs.Fields.{allowed}
 use Rattle.graph_file.specs.Steps.{walk}
 use Rattle.graph_file.specs.inside.Reader.{Reads, ReadsAs, put_each, strings}
@@ -27,6 +27,16 @@ pub Reads-words : (found : Option Data) (values : List Value) (spot : Spot) (r :
 Reads-words found values spot r is few reads =
     let few_items : length (map view values) ≤ 256 = rw (length-map values view) few in
     rw (words-read found (map view values) (BadField spot (codes "words")) is few_items) reads
+
+-- ---- the tokens for which one waits
+
+targets-read : (found : Option Data) (items : List Data) (e : GraphError) → Some items ≡ option_and_then target_items_of found → ok_or (option_and_then targets_of found) e ≡ walk (put_each (whole_of 0 1000000) (λ target. target) e) [] items
+targets-read None items e is = cc
+targets-read (Some d) items e is = rw (← is) (sym (walk-put_same (whole_of 0 1000000) e items))
+
+pub Reads-targets : (found : Option Data) (items : List Data) (spot : Spot) (r : Result (List ℕ) GraphError) → Some items ≡ option_and_then target_items_of found
+    → Reads r (walk (put_each (whole_of 0 1000000) (λ target. target) (BadField spot (codes "to"))) [] items) → Reads r (ok_or (option_and_then targets_of found) (BadField spot (codes "to")))
+Reads-targets found items spot r is reads = rw (targets-read found items (BadField spot (codes "to")) is) reads
 
 -- ---- names
 

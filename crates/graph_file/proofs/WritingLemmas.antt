@@ -8,9 +8,10 @@ use Rattle.task_graph.specs.declared.net.EdgeRow.{EdgeRow}
 use Rattle.task_graph.specs.declared.net.TaskRow.{TaskRow}
 use Rattle.serde_json.specs.Data.{Data}
 use Rattle.graph_plans.specs.declared.ops.Op.{Op}
+use Rattle.graph_plans.specs.declared.pipes.LineOp.{LineOp}
 use Rattle.graph_plans.specs.declared.plans.Graph.{Graph}
 use Rattle.graph_plans.specs.PlanRows.{GraphRows, PlanRows, graph_rows, names_of_graphs}
-use Rattle.graph_file.specs.WrittenPlan.{module_data, op_text, sem_data, sems_from, sems_named, task_data, tasks_from, to_of}
+use Rattle.graph_file.specs.WrittenPlan.{module_data, op_text, pipe_data, pipes_from, sem_data, sems_from, sems_named, task_data, tasks_from, to_of}
 use Rattle.graph_file.specs.PlanText.{TaskNames}
 use Rattle.graph_file.specs.inside.Writer.{HasSems, IsString, IsWritableGraph, end_name, names_at, no_row}
 
@@ -106,6 +107,23 @@ pub sems-more : (names : List (List ℕ)) (maxima : List ℕ) (i : ℕ) (old : L
 sems-more names maxima i old new within count written so_far =
     let number : i + 1 ≡ suc i = omega arith in
     rw (number, sems-snoc names maxima i within (omega (arith, within, count)), so_far, written) refl
+
+-- ---- pipes
+
+pipes-snoc : (serial : List Bool) (ops : List LineOp) (i : ℕ) (op : LineOp) → i < length serial → i < length ops
+    → pipes_from (take (suc i) serial) (take (suc i) ops) ≡ pipes_from (take i serial) (take i ops) ++ pipe_data (get_or serial i false) (get_or ops i op) ∷ []
+pipes-snoc [] ops i op in_serial in_ops = absurd (omega (arith, in_serial))
+pipes-snoc (s ∷ serial) [] i op in_serial in_ops = absurd (omega (arith, in_ops))
+pipes-snoc (s ∷ serial) (o ∷ ops) zero op in_serial in_ops = refl
+pipes-snoc (s ∷ serial) (o ∷ ops) (suc i) op in_serial in_ops = ap (λ ds. pipe_data s o ∷ ds) (pipes-snoc serial ops i op (omega (arith, in_serial)) (omega (arith, in_ops)))
+
+-- one pipe more was written
+pub pipes-more : (serial : List Bool) (ops : List LineOp) (i : ℕ) (op : LineOp) (old : List Data) (new : Data) → i < length ops → length ops ≡ length serial → op ≡ get_or ops i op → new ≡ pipe_data (get_or serial i false) op
+    → old ≡ pipes_from (take i serial) (take i ops) → old ++ new ∷ [] ≡ pipes_from (take (i + 1) serial) (take (i + 1) ops)
+pipes-more serial ops i op old new within count is written so_far =
+    let number : i + 1 ≡ suc i = omega arith in
+    let at_op : get_or ops i op ≡ op = sym is in
+    rw (number, pipes-snoc serial ops i op (omega (arith, within, count)) within, at_op, so_far, written) refl
 
 -- ---- modules
 

@@ -1,26 +1,30 @@
 -- A file that was written is read again.
-use Rattle.std.proofs.Common.{◌≡◌, ℕ, suc, List, [], ◌∷◌, ◌++◌, map, length, true, leb, Some, Ok, codes, refl, sym, ap, ◌∙◌, append_assoc, arith}
+use Rattle.std.proofs.Common.{◌≡◌, ℕ, suc, List, [], ◌∷◌, ◌++◌, map, length, Bool, true, not, ◌&&◌, leb, Some, Ok, codes, refl, sym, ap, ◌∙◌, append_assoc, arith}
 use Rattle.std.proofs.lemmas.Bool.{and_parts}
 use Rattle.std.proofs.lemmas.List.{append-nil, length-append, length-map}
 use Rattle.std.specs.Bool.{⊤}
 use Rattle.std.specs.List.{list_all}
-use Rattle.serde_json.specs.Data.{Data, string}
+use Rattle.serde_json.specs.Data.{Data, array, string}
 use Rattle.serde_json.specs.View.{items_of}
 use Rattle.graph_plans.specs.declared.ops.Op.{Op}
-use Rattle.graph_plans.specs.declared.ops.Op.TheVariants.{Input, Read, Text, Match, Back, IfMore, IfHas, Route, Spread, Module}
+use Rattle.graph_plans.specs.declared.ops.Op.TheVariants.{Input, Read, Text, Match, Back, IfMore, IfHas, Route, Spread, Module, Pipe}
+use Rattle.graph_plans.specs.declared.pipes.LineOp.{LineOp}
+use Rattle.graph_plans.specs.declared.pipes.LineOp.TheVariants.{Text as LineText, Number, Stamp}
+use Rattle.pipe_lines.specs.declared.deferral.DeferRow.{DeferRow}
+use Rattle.pipe_lines.specs.DeferRows.{is_deferred}
 use Rattle.graph_plans.specs.declared.ops.TextOp.{TextOp}
 use Rattle.graph_plans.specs.declared.ops.TextOp.TheVariants.{Pass, Keep, Without, Head, Tail, Skip, Sort, Uniq, Count, Tally}
 use Rattle.graph_plans.specs.declared.spots.Spot.{Spot}
 use Rattle.graph_plans.specs.Operations.{route_limit, word_limit}
 use Rattle.graph_file.specs.declared.scopes.Scope.{Scope}
 use Rattle.graph_file.specs.declared.scopes.Scope.TheVariants.{Top, Module as OfModule}
-use Rattle.graph_file.specs.Contents.{each, is_name, is_object, is_text, listed, name_of, name_list_of, word_of, words_of}
+use Rattle.graph_file.specs.Contents.{each, is_name, is_object, is_text, listed, name_of, name_list_of, targets_of, whole_of, word_of, words_of}
 use Rattle.graph_file.specs.Fields.{task_spot}
-use Rattle.graph_file.specs.OpRows.{FileOpRow, reads, runs, does, op_rows, text_op_in, text_rows}
+use Rattle.graph_file.specs.OpRows.{FileOpRow, reads, runs, does, PipeRows, add_defer, add_pipe, line_rows, may_have, op_rows, text_op_in, text_rows}
 use Rattle.graph_file.specs.PlanText.{DraftRows, FileRows, TaskNames, TaskText, add_module, add_semaphore, add_task, empty_draft, file_in, graph_in, module_in, with_semaphore, with_task_text}
 use Rattle.graph_file.specs.Steps.{◌>>=◌, walk}
-use Rattle.graph_file.specs.WrittenPlan.{OpText, each_data, file_data, module_with, op_text, sem_data, strings_data, task_data, text_op_text, with_field}
-use Rattle.graph_file.specs.inside.Fine.{AreFine, AreMade, AreValidSems, IsMade, IsMadeFile, IsValidSem, SemText, fits, fits_op, fits_part, fits_text_op, fits_words, maxima_of, names_of_sems}
+use Rattle.graph_file.specs.WrittenPlan.{OpText, defer_data, each_data, file_data, lines_data, pipe_data, pipes_from, module_with, op_text, sem_data, strings_data, task_data, text_op_text, with_field}
+use Rattle.graph_file.specs.inside.Fine.{AreFine, AreMade, AreValidSems, IsMade, IsMadeFile, IsValidSem, SemText, fits, fits_defers, fits_line_op, fits_op, fits_part, fits_pipe_lines, fits_pipes, fits_target, fits_targets, fits_text_op, fits_token, fits_words, maxima_of, names_of_sems}
 use Rattle.graph_file.proofs.FineLemmas.{with_sems_more, with_tasks}
 
 listed-items_of : (ds : List Data) → listed (items_of ds) ≡ ds
@@ -93,6 +97,70 @@ each-written spot Uniq fine = refl
 each-written spot Count fine = refl
 each-written spot Tally fine = refl
 
+-- ---- pipelines
+
+each-target : (to : List ℕ) → list_all fits_target to ≡ true → each (whole_of 0 1000000) (map lines_data to) ≡ Some to
+each-target [] fine = refl
+each-target (n ∷ to) fine = let parts = and_parts (fits_target n) (list_all fits_target to) fine in rw (parts.0, each-target to parts.1) refl
+
+targets-written : (to : List ℕ) → fits_targets to ≡ true → targets_of (array (items_of (map lines_data to))) ≡ Some to
+targets-written to fine =
+    let parts = and_parts (leb 1 (length to) && leb (length to) 8) (list_all fits_target to) fine in
+    rw (listed-items_of (map lines_data to), length-map to lines_data, parts.0) (each-target to parts.1)
+
+-- a row is read again
+defer-written : (spot : Spot) (before : List DeferRow) (row : DeferRow) → fits_token row.token ≡ true → fits_targets row.to ≡ true → not (is_deferred before row.token) ≡ true → add_defer spot before (defer_data row) ≡ Ok (before ++ row ∷ [])
+defer-written spot before row token to new = rw (token, targets-written row.to to, new) refl
+
+defers-written : (spot : Spot) (before rows : List DeferRow) → fits_defers before rows ≡ true → walk (add_defer spot) before (map defer_data rows) ≡ Ok (before ++ rows)
+defers-written spot before [] fine = ap Ok (sym (append-nil before))
+defers-written spot before (row ∷ rows) fine =
+    let first = and_parts (fits_token row.token) (fits_targets row.to && (not (is_deferred before row.token) && fits_defers (before ++ row ∷ []) rows)) fine in
+    let second = and_parts (fits_targets row.to) (not (is_deferred before row.token) && fits_defers (before ++ row ∷ []) rows) first.1 in
+    let third = and_parts (not (is_deferred before row.token)) (fits_defers (before ++ row ∷ []) rows) second.1 in
+    rw (defer-written spot before row first.0 second.0 third.0) (defers-written spot (before ++ row ∷ []) rows third.1 ∙ ap Ok (append_assoc before (row ∷ []) rows))
+
+defer_objects-written : (rows : List DeferRow) → list_all is_object (map defer_data rows) ≡ true
+defer_objects-written [] = refl
+defer_objects-written (row ∷ rows) = defer_objects-written rows
+
+-- pipes with one more
+abbrev with_pipe : PipeRows → Bool → LineOp → PipeRows
+with_pipe before serial op = record { serial = before.serial ++ serial ∷ []; ops = before.ops ++ op ∷ [] }
+
+-- a pipe is read again
+pipe-written : (spot : Spot) (before : PipeRows) (serial : Bool) (op : LineOp) → may_have serial op ≡ true → fits_line_op op ≡ true → add_pipe spot before (pipe_data serial op) ≡ Ok (with_pipe before serial op)
+unfolding line_rows text_rows
+pipe-written spot before serial Number may fine = refl
+pipe-written spot before serial Stamp may fine = rw may refl
+pipe-written spot before serial (LineText Pass) may fine = refl
+pipe-written spot before serial (LineText (Keep word)) may fine = rw fine refl
+pipe-written spot before serial (LineText (Without word)) may fine = rw fine refl
+pipe-written spot before serial (LineText (Head n)) may fine = rw fine refl
+pipe-written spot before serial (LineText (Tail n)) may fine = rw fine refl
+pipe-written spot before serial (LineText (Skip n)) may fine = rw fine refl
+pipe-written spot before serial (LineText Sort) may fine = refl
+pipe-written spot before serial (LineText Uniq) may fine = refl
+pipe-written spot before serial (LineText Count) may fine = refl
+pipe-written spot before serial (LineText Tally) may fine = refl
+
+pipes-written : (spot : Spot) (before : PipeRows) (serial : List Bool) (ops : List LineOp) → fits_pipes serial ops ≡ true → walk (add_pipe spot) before (pipes_from serial ops) ≡ Ok (record { serial = before.serial ++ serial; ops = before.ops ++ ops })
+pipes-written spot before [] [] fine = ap (λ s. Ok (record { serial = s; ops = before.ops })) (sym (append-nil before.serial)) ∙ ap (λ o. Ok (record { serial = before.serial ++ []; ops = o })) (sym (append-nil before.ops))
+pipes-written spot before [] (op ∷ ops) fine = cc
+pipes-written spot before (s ∷ rest) [] fine = cc
+pipes-written spot before (s ∷ rest) (op ∷ ops) fine =
+    let first = and_parts (may_have s op) (fits_line_op op && fits_pipes rest ops) fine in
+    let second = and_parts (fits_line_op op) (fits_pipes rest ops) first.1 in
+    rw (pipe-written spot before s op first.0 second.0)
+    (pipes-written spot (with_pipe before s op) rest ops second.1
+    ∙ ap (λ serial. Ok (record { serial = serial; ops = (before.ops ++ op ∷ []) ++ ops })) (append_assoc before.serial (s ∷ []) rest)
+    ∙ ap (λ all. Ok (record { serial = before.serial ++ s ∷ rest; ops = all })) (append_assoc before.ops (op ∷ []) ops))
+
+pipe_objects-written : (serial : List Bool) (ops : List LineOp) → list_all is_object (pipes_from serial ops) ≡ true
+pipe_objects-written [] ops = refl
+pipe_objects-written (s ∷ rest) [] = refl
+pipe_objects-written (s ∷ rest) (op ∷ ops) = pipe_objects-written rest ops
+
 op-written : (draft : DraftRows) (task : TaskNames) (op : Op) → draft.version ≡ 2 → IsNamed task → fits_op op ≡ true → IsWritten draft task (op_text [] [] op) (does op)
 unfolding op_rows text_rows
 op-written draft task Input second is fine = rw (second, is.name, names-written task.to is.to, names-written task.takes is.takes, names-written task.puts is.puts) refl
@@ -106,6 +174,29 @@ op-written draft task (Route words) second is fine = rw (second, is.name, words-
 op-written draft task (Spread n op) second is fine =
     let parts = and_parts (fits_part n) (fits_text_op op) fine in
     rw (second, is.name, parts.0, each-written (task_spot draft.scope (length draft.tasks)) op parts.1, names-written task.to is.to, names-written task.takes is.takes, names-written task.puts is.puts) refl
+op-written draft task (Pipe plan) second is fine =
+    let lines = and_parts (fits_pipe_lines plan.spec.lines) (fits_part plan.chunk && (fits_pipes plan.spec.serial plan.ops && (leb (length plan.defers) 256 && fits_defers [] plan.defers))) fine in
+    let chunk = and_parts (fits_part plan.chunk) (fits_pipes plan.spec.serial plan.ops && (leb (length plan.defers) 256 && fits_defers [] plan.defers)) lines.1 in
+    let pipes = and_parts (fits_pipes plan.spec.serial plan.ops) (leb (length plan.defers) 256 && fits_defers [] plan.defers) chunk.1 in
+    let defers = and_parts (leb (length plan.defers) 256) (fits_defers [] plan.defers) pipes.1 in
+    let spot = task_spot draft.scope (length draft.tasks) in
+    rw (
+      second,
+      is.name,
+      lines.0,
+      chunk.0,
+      listed-items_of (pipes_from plan.spec.serial plan.ops),
+      pipe_objects-written plan.spec.serial plan.ops,
+      pipes-written spot (record { serial = []; ops = [] }) plan.spec.serial plan.ops pipes.0,
+      listed-items_of (map defer_data plan.defers),
+      defer_objects-written plan.defers,
+      length-map plan.defers defer_data,
+      defers.0,
+      defers-written spot [] plan.defers defers.1,
+      names-written task.to is.to,
+      names-written task.takes is.takes,
+      names-written task.puts is.puts,
+    ) refl
 op-written draft task (Module m) second is fine = cc
 
 file_op-written : (draft : DraftRows) (task : TaskNames) (op : FileOpRow) → draft.version ≡ 2 → IsNamed task → fits op ≡ true → IsWritten draft task (file_op_text op) op

@@ -79,3 +79,24 @@ line_count_of d = whole_of 0 line_limit d
 -- the lines of a part: 1 to 1,000,000,000
 abbrev pub part_size_of : Data → Option ℕ
 part_size_of d = whole_of 1 line_limit d
+
+-- ---- pipelines
+
+-- a number of lines of a pipeline: below 2^32
+abbrev pub pipe_lines_of : Data → Option ℕ
+pipe_lines_of d = whole_of 0 4294967295 d
+
+-- the number of a token that waits: at most 65,535
+abbrev pub token_number_of : Data → Option ℕ
+token_number_of d = whole_of 0 65535 d
+
+-- the tokens for which one waits: 1 to 8 numbers of at most 1,000,000
+abbrev pub target_items_of : Data → Option (List Data)
+target_items_of d = option_and_then (passing (λ items. nat_le 1 (length items) && nat_le (length items) 8)) (list_of d)
+
+abbrev pub targets_of : Data → Option (List ℕ)
+targets_of d = option_and_then (each (whole_of 0 1000000)) (target_items_of d)
+
+-- at most 256 objects
+abbrev pub defer_objects_of : Data → Option (List Data)
+defer_objects_of d = option_and_then (passing (λ items. nat_le (length items) 256)) (objects_of d)

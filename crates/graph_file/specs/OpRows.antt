@@ -1,19 +1,23 @@
 -- The operations of a graph file: a row for each.
-use Rattle.std.specs.Prelude.{ℕ, List, [], ◌∷◌, map, Option, Result, Ok, ok_or, codes}
+use Rattle.std.specs.Prelude.{ℕ, List, [], ◌∷◌, ◌++◌, map, Bool, true, not, Option, Result, Ok, ok_or, codes}
 use Rattle.std.specs.List.{find}
 use Rattle.std.specs.Str.{bytes_eq}
 use Rattle.serde_json.specs.Data.{Data}
-use Rattle.serde_json.specs.Find.{as_str, get}
+use Rattle.serde_json.specs.Find.{as_bool, as_str, get}
+use Rattle.pipe_lines.specs.declared.deferral.DeferRow.{DeferRow}
+use Rattle.pipe_lines.specs.DeferRows.{is_deferred}
 use Rattle.graph_plans.specs.declared.ops.Op.{Op}
-use Rattle.graph_plans.specs.declared.ops.Op.TheVariants.{Input, Text, Match, Back, IfMore, IfHas, Route, Spread}
+use Rattle.graph_plans.specs.declared.ops.Op.TheVariants.{Input, Text, Match, Back, IfMore, IfHas, Route, Spread, Pipe}
 use Rattle.graph_plans.specs.declared.ops.TextOp.{TextOp}
 use Rattle.graph_plans.specs.declared.ops.TextOp.TheVariants.{Pass, Keep, Without, Head, Tail, Skip, Sort, Uniq, Count, Tally}
+use Rattle.graph_plans.specs.declared.pipes.LineOp.{LineOp}
+use Rattle.graph_plans.specs.declared.pipes.LineOp.TheVariants.{Text as LineText, Number, Stamp}
 use Rattle.graph_plans.specs.declared.spots.Spot.{Spot}
 use Rattle.graph_file.specs.declared.refusals.GraphError.{GraphError}
 use Rattle.graph_file.specs.declared.refusals.GraphError.TheVariants.{BadField}
-use Rattle.graph_file.specs.Contents.{line_count_of, part_size_of, text_name_of, word_of, words_of}
-use Rattle.graph_file.specs.Fields.{needed, only}
-use Rattle.graph_file.specs.Steps.{◌>>=◌, otherwise}
+use Rattle.graph_file.specs.Contents.{defer_objects_of, line_count_of, objects_of, part_size_of, pipe_lines_of, targets_of, text_name_of, token_number_of, word_of, words_of}
+use Rattle.graph_file.specs.Fields.{allowed, needed, only}
+use Rattle.graph_file.specs.Steps.{◌>>=◌, otherwise, passed, walk}
 
 -- an operation as a file has it: the text that it reads and the module that it runs have names and no numbers yet, and
 -- any other is as in a plan
@@ -102,6 +106,65 @@ spread_in spot d = do
 abbrev pub spread_row : OpRow FileOpRow
 spread_row = record { name = codes "spread"; fields = codes "n" ∷ codes "each" ∷ []; made = λ spot d. spread_in spot d >>= λ op. Ok (does op) }
 
+-- ---- pipelines
+
+-- the operations of pipes
+unfoldable pub line_rows : List (OpRow LineOp)
+line_rows = bare (codes "number") Number ∷ bare (codes "stamp") Stamp ∷ map (used_by LineText) text_rows
+
+-- whether a pipe may have an operation: places are written by serial pipes alone
+abbrev pub may_have : Bool → LineOp → Bool
+may_have serial (LineText op) = true
+may_have serial Number = true
+may_have serial Stamp = serial
+
+-- pipes: of each whether it is serial, and what it does
+pub record PipeRows : Type 0 where
+  pub serial : List Bool
+  pub ops : List LineOp
+
+-- an object more as a pipe
+abbrev pub add_pipe : Spot → PipeRows → Data → Result PipeRows GraphError
+add_pipe spot before d = do
+  serial ← needed as_bool spot (codes "serial") d
+  found ← op_in line_rows spot d
+  fits ← passed (may_have serial found.op) (BadField spot (codes "op"))
+  done ← only (codes "serial" ∷ codes "op" ∷ found.fields) spot d
+  Ok (record { serial = before.serial ++ serial ∷ []; ops = before.ops ++ found.op ∷ [] })
+
+-- the pipes in a list; whatever is wrong with one is wrong with the field that holds it
+abbrev pub pipes_in : Spot → Data → Result PipeRows GraphError
+pipes_in spot d = do
+  items ← needed objects_of spot (codes "pipes") d
+  otherwise (walk (add_pipe spot) (record { serial = []; ops = [] }) items) (BadField spot (codes "pipes"))
+
+-- an object more that defers a token, another than those before it
+abbrev pub add_defer : Spot → List DeferRow → Data → Result (List DeferRow) GraphError
+add_defer spot before d = do
+  token ← needed token_number_of spot (codes "token") d
+  to ← needed targets_of spot (codes "to") d
+  new ← passed (not (is_deferred before token)) (BadField spot (codes "token"))
+  done ← only (codes "token" ∷ codes "to" ∷ []) spot d
+  Ok (before ++ record { token = token; to = to } ∷ [])
+
+-- those in a list, which may be missing
+abbrev pub defers_in : Spot → Data → Result (List DeferRow) GraphError
+defers_in spot d = do
+  items ← allowed [] defer_objects_of spot (codes "defer") d
+  otherwise (walk (add_defer spot) [] items) (BadField spot (codes "defer"))
+
+-- lines and pipes, how many lines of text a token has, one where that is missing, and which tokens wait
+abbrev pub pipe_in : Spot → Data → Result Op GraphError
+pipe_in spot d = do
+  lines ← needed pipe_lines_of spot (codes "lines") d
+  chunk ← allowed 1 part_size_of spot (codes "n") d
+  pipes ← pipes_in spot d
+  defers ← defers_in spot d
+  Ok (Pipe (record { spec = record { lines = lines; serial = pipes.serial }; ops = pipes.ops; chunk = chunk; defers = defers }))
+
+abbrev pub pipe_row : OpRow FileOpRow
+pipe_row = record { name = codes "pipe"; fields = codes "lines" ∷ codes "n" ∷ codes "pipes" ∷ codes "defer" ∷ []; made = λ spot d. pipe_in spot d >>= λ op. Ok (does op) }
+
 -- all of them
 unfoldable pub op_rows : List (OpRow FileOpRow)
 op_rows =
@@ -114,4 +177,5 @@ op_rows =
     ∷ single (codes "route") (codes "words") words_of (λ words. does (Route words))
     ∷ spread_row
     ∷ single (codes "module") (codes "module") as_str runs
+    ∷ pipe_row
     ∷ map (used_by (λ op. does (Text op))) text_rows

@@ -1,5 +1,5 @@
 -- Which bytes are a graph file for which plan, and else the first refusal.
-use Rattle.std.specs.Prelude.{◌≡◌, ℕ, suc, ◌+◌, false, List, [], ◌∷◌, ◌++◌, length, map, sum_by, not, ◌==◌, unwrap_or, is_some, position, Bool, true, Result, Ok, Err, ok_or, if◌then◌else◌, nat_le, codes, slice_index_or, ⊤}
+use Rattle.std.specs.Prelude.{◌≡◌, ℕ, suc, ◌+◌, false, List, [], ◌∷◌, ◌++◌, length, map, sum_by, not, ◌==◌, unwrap_or, is_some, position, Bool, true, Option, Some, None, Result, Ok, Err, ok_or, if◌then◌else◌, nat_le, codes, slice_index_or, ⊤}
 use Rattle.std.specs.List.{list_any}
 use Rattle.std.specs.Str.{bytes_eq, is_utf8}
 use Rattle.serde_json.specs.Data.{Data}
@@ -8,14 +8,18 @@ use Rattle.task_graph.specs.declared.net.EdgeRow.{EdgeRow}
 use Rattle.task_graph.specs.declared.net.TaskRow.{TaskRow}
 use Rattle.task_graph.specs.NetBuilder.{rising}
 use Rattle.graph_plans.specs.declared.ops.Op.{Op}
-use Rattle.graph_plans.specs.declared.ops.Op.TheVariants.{Read, Module}
+use Rattle.graph_plans.specs.declared.ops.Op.TheVariants.{Input, Read, Text, Match, Back, IfMore, IfHas, Route, Spread, Module, Pipe}
 use Rattle.graph_plans.specs.declared.spots.Spot.TheVariants.{File}
 use Rattle.graph_plans.specs.Operations.{shape_of}
 use Rattle.graph_plans.specs.ModuleUses.{first_on_cycle, has_chain}
 use Rattle.graph_plans.specs.PlanRows.{GraphRows, PlanRows, depth_limit, file_edge_limit, file_semaphore_limit, file_task_limit, maximum_limit, module_limit, text_count_limit}
+use Rattle.pipe_lines.specs.declared.pipeline.PipeError.{PipeError}
+use Rattle.pipe_lines.specs.declared.pipeline.PipeError.TheVariants.{NoLines, NoPipes, FirstParallel, TooManyLines, TooManyPipes}
+use Rattle.pipe_lines.specs.declared.pipeline.PipeSpec.{PipeSpec}
+use Rattle.pipe_lines.specs.Pipelines.{line_limit, pipe_limit}
 use Rattle.graph_file.specs.declared.numbers.TaskNumbers.{TaskNumbers}
 use Rattle.graph_file.specs.declared.refusals.GraphError.{GraphError}
-use Rattle.graph_file.specs.declared.refusals.GraphError.TheVariants.{NotJson, NoSuchName, Repeated, ModuleCycle, TooMany}
+use Rattle.graph_file.specs.declared.refusals.GraphError.TheVariants.{NotJson, NoSuchName, Repeated, ModuleCycle, TooMany, BadPipe}
 use Rattle.graph_file.specs.declared.refusals.Kind.TheVariants.{Tasks, Edges, Semaphores, Modules, Depth, Texts}
 use Rattle.graph_file.specs.declared.scopes.Scope.{Scope}
 use Rattle.graph_file.specs.declared.scopes.Scope.TheVariants.{Top, Module as OfModule}
@@ -298,6 +302,58 @@ within_limits file numbers = do
   shallow ← passed (not (nests_too_deep file)) (TooMany Depth)
   passed (nat_le (length (file_texts file)) text_count_limit) (TooMany Texts)
 
+-- ---- pipelines
+
+-- why pipes of which the first is serial or not are none of a pipeline with so many lines, if they are none
+abbrev pub limit_fault : Bool → ℕ → ℕ → Option PipeError
+limit_fault false lines pipes = Some FirstParallel
+limit_fault true lines pipes = if nat_le lines line_limit then (if nat_le pipes pipe_limit then None else Some TooManyPipes) else Some TooManyLines
+
+abbrev pub pipes_fault : ℕ → List Bool → Option PipeError
+pipes_fault lines [] = Some NoPipes
+pipes_fault lines (first ∷ rest) = limit_fault first lines (suc (length rest))
+
+-- why a specification is none of a pipeline, if it is none: the first reason
+abbrev pub spec_fault : PipeSpec → Option PipeError
+spec_fault spec = if spec.lines == 0 then Some NoLines else pipes_fault spec.lines spec.serial
+
+-- the same of the pipes of an operation, if it has some
+abbrev pub pipe_fault : Op → Option PipeError
+pipe_fault Input = None
+pipe_fault (Read text) = None
+pipe_fault (Text op) = None
+pipe_fault Match = None
+pipe_fault Back = None
+pipe_fault (IfMore n) = None
+pipe_fault (IfHas word) = None
+pipe_fault (Route words) = None
+pipe_fault (Spread n op) = None
+pipe_fault (Module m) = None
+pipe_fault (Pipe plan) = spec_fault plan.spec
+
+abbrev pub file_op_fault : FileOpRow → Option PipeError
+file_op_fault (reads text) = None
+file_op_fault (runs name) = None
+file_op_fault (does op) = pipe_fault op
+
+-- a task more, whose pipes are a pipeline, if it has some
+abbrev pub add_pipeline : Scope → ℕ → TaskText → Result ℕ GraphError
+add_pipeline scope t task = do
+  done ← unless (file_op_fault task.op) (λ error. BadPipe (task_spot scope t) error)
+  Ok (suc t)
+
+-- so are those of all tasks of a graph, of which there are so many
+abbrev pub graph_pipelines : DraftRows → Result ℕ GraphError
+graph_pipelines draft = walk (add_pipeline draft.scope) 0 draft.tasks
+
+-- of one graph more
+abbrev pub add_graph_pipelines : ⊤ → DraftRows → Result ⊤ GraphError
+add_graph_pipelines before draft = graph_pipelines draft >>= λ tasks. Ok tt
+
+-- of all graphs
+abbrev pub file_pipelines : FileRows → Result ⊤ GraphError
+file_pipelines file = walk add_graph_pipelines tt (file.top ∷ file.modules)
+
 -- ---- the plan
 
 -- an edge of the task of this number
@@ -359,6 +415,7 @@ plan_of file = do
   numbers ← file_numbers file
   names ← file_names file
   few ← within_limits file numbers
+  pipelines ← file_pipelines file
   Ok (plan_with file numbers)
 
 -- ---- the bytes

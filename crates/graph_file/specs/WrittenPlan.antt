@@ -1,15 +1,19 @@
 -- How a plan is written.
-use Rattle.std.specs.Prelude.{ℕ, suc, List, [], ◌∷◌, map, filter, ◌==◌, slice_index_or, codes}
-use Rattle.serde_json.specs.Data.{Data, string, number, unsigned, array, object, Members, no_members, member, put}
+use Rattle.std.specs.Prelude.{ℕ, suc, Bool, List, [], ◌∷◌, map, filter, ◌==◌, slice_index_or, codes}
+use Rattle.serde_json.specs.Data.{Data, boolean, string, number, unsigned, array, object, Members, no_members, member, put}
 use Rattle.serde_json.specs.View.{items_of}
 use Rattle.serde_json.specs.Written.{compact_text}
 use Rattle.task_graph.specs.declared.net.EdgeRow.{EdgeRow}
 use Rattle.task_graph.specs.declared.net.TaskRow.{TaskRow}
 use Rattle.graph_plans.specs.declared.ops.Op.{Op}
-use Rattle.graph_plans.specs.declared.ops.Op.TheVariants.{Input, Read, Text, Match, Back, IfMore, IfHas, Route, Spread, Module}
+use Rattle.graph_plans.specs.declared.ops.Op.TheVariants.{Input, Read, Text, Match, Back, IfMore, IfHas, Route, Spread, Module, Pipe}
 use Rattle.graph_plans.specs.declared.ops.TextOp.{TextOp}
 use Rattle.graph_plans.specs.declared.ops.TextOp.TheVariants.{Pass, Keep, Without, Head, Tail, Skip, Sort, Uniq, Count, Tally}
+use Rattle.graph_plans.specs.declared.pipes.LineOp.{LineOp}
+use Rattle.graph_plans.specs.declared.pipes.LineOp.TheVariants.{Text as LineText, Number, Stamp}
+use Rattle.graph_plans.specs.declared.pipes.PipePlan.{PipePlan}
 use Rattle.graph_plans.specs.PlanRows.{GraphRows, PlanRows, module_names}
+use Rattle.pipe_lines.specs.declared.deferral.DeferRow.{DeferRow}
 use Rattle.graph_file.specs.PlanText.{TaskNames}
 
 -- the name of an operation, and its own fields
@@ -48,6 +52,35 @@ each_data op = object (put (codes "op") (string (text_op_text op).name) (text_op
 abbrev pub spread_text : ℕ → TextOp → OpText
 spread_text n op = record { name = codes "spread"; own = put (codes "each") (each_data op) (member (codes "n") (lines_data n) no_members) }
 
+-- ---- pipelines
+
+abbrev pub line_op_text : LineOp → OpText
+line_op_text (LineText op) = text_op_text op
+line_op_text Number = without_field (codes "number")
+line_op_text Stamp = without_field (codes "stamp")
+
+-- a pipe
+abbrev pub pipe_data : Bool → LineOp → Data
+pipe_data serial op = object (put (codes "op") (string (line_op_text op).name) (put (codes "serial") (boolean serial) (line_op_text op).own))
+
+-- the pipes with these operations
+abbrev pub pipes_from : List Bool → List LineOp → List Data
+pipes_from [] ops = []
+pipes_from (serial ∷ rest) [] = []
+pipes_from (serial ∷ rest) (op ∷ ops) = pipe_data serial op ∷ pipes_from rest ops
+
+-- a token that waits for others
+abbrev pub defer_data : DeferRow → Data
+defer_data row = object (member (codes "to") (array (items_of (map lines_data row.to))) (member (codes "token") (lines_data row.token) no_members))
+
+abbrev pub pipe_text : PipePlan → OpText
+pipe_text plan = record {
+  name = codes "pipe";
+  own = put (codes "defer") (array (items_of (map defer_data plan.defers))) (put (codes "lines") (lines_data plan.spec.lines) (put (codes "n") (lines_data plan.chunk) (member (codes "pipes") (array (items_of (pipes_from plan.spec.serial plan.ops))) no_members)));
+}
+
+-- ---- tasks
+
 -- the same of a task's operation, where these are the names of the texts and of the modules
 abbrev pub op_text : List (List ℕ) → List (List ℕ) → Op → OpText
 op_text texts modules Input = without_field (codes "input")
@@ -59,6 +92,7 @@ op_text texts modules (IfMore n) = with_field (codes "ifmore") (codes "n") (line
 op_text texts modules (IfHas word) = with_field (codes "ifhas") (codes "word") (string word)
 op_text texts modules (Route words) = with_field (codes "route") (codes "words") (strings_data words)
 op_text texts modules (Spread n op) = spread_text n op
+op_text texts modules (Pipe plan) = pipe_text plan
 op_text texts modules (Module m) = with_field (codes "module") (codes "module") (string (slice_index_or modules m []))
 
 -- a semaphore

@@ -184,7 +184,8 @@ pub(crate) fn read_part_lines(alloc: Global, spot: Spot, object: &Value) -> Resu
     Ok(lines)
 }
 
-fn part_size_of(value: &Value) -> Option<u64>
+/// A number of lines in a part.
+pub(crate) fn part_size_of(value: &Value) -> Option<u64>
     ensures { result ≡ part_size_of (view value.now) }
 {
     whole_of(value, 1, MAX_LINES)

@@ -150,7 +150,7 @@ fn shape_of(op: &Op) -> Shape
         Op::Input | Op::Read(_) | Op::Text(_) | Op::Match => Shape::Plain,
         Op::Back | Op::IfMore(_) | Op::IfHas(_) => Shape::Choice,
         Op::Route(_) => Shape::Many,
-        Op::Spread(_, _) | Op::Module(_) => Shape::Nested,
+        Op::Spread(_, _) | Op::Module(_) | Op::Pipe(_) => Shape::Nested,
     }
 }
 

@@ -6,6 +6,7 @@ ghost use Rattle.graph_plans.specs.PlanRows.{graph_rows, names_of_graphs};
 ghost use Rattle.graph_file.specs.WrittenPlan.{each_data, lines_data, op_text, spread_text, strings_data, text_op_text, with_field, without_field};
 ghost use Rattle.graph_file.specs.inside.Writer.{HasUtf8, HasUtf8Word, IsString, op_text_of};
 
+use crate::pipe_writer::written_pipe;
 use graph_plans::{Graph, Op, TextOp};
 use outside_io::Bytes;
 use serde_json::{Map, Value, put};
@@ -50,6 +51,7 @@ pub(crate) fn written_op(
             strings_value(alloc, words.as_slice())?,
         ),
         Op::Spread(lines, each) => written_spread(alloc, *lines, each),
+        Op::Pipe(plan) => written_pipe(alloc, plan),
         Op::Module(module) => having(
             alloc,
             "module",
@@ -105,8 +107,8 @@ pub(crate) fn written_text_op(alloc: Global, op: &TextOp) -> Result<WrittenOp, A
     }
 }
 
-// An operation without a field of its own.
-fn bare(alloc: Global, name: &'static str) -> WrittenOp
+/// An operation without a field of its own.
+pub(crate) fn bare(alloc: Global, name: &'static str) -> WrittenOp
     ensures { op_text_of result ≡ without_field name.now }
 {
     WrittenOp {
@@ -115,8 +117,8 @@ fn bare(alloc: Global, name: &'static str) -> WrittenOp
     }
 }
 
-// An operation with one field of its own.
-fn having(
+/// An operation with one field of its own.
+pub(crate) fn having(
     alloc: Global,
     name: &'static str,
     field: &str,

@@ -10,6 +10,7 @@ use crate::fields::{
     read_lines, read_module_name, read_part_lines, read_text_name, read_word, read_words,
 };
 use crate::file_op::{FileOp, FoundOp, with};
+use crate::pipes::read_pipe;
 use crate::refusals::GraphError;
 use crate::unknown::check_fields;
 use graph_plans::{Op, Spot, TextOp};
@@ -30,7 +31,8 @@ pub(crate) fn read_op<'v>(
     read_op_called(alloc, name, spot, task)
 }
 
-fn op_name(object: &Value) -> Option<&str>
+/// The name in an object's field `op`.
+pub(crate) fn op_name(object: &Value) -> Option<&str>
     ensures { option_map (λ s. s.now) result
         ≡ option_and_then as_str (get (codes "op") (view object.now)) }
 {
@@ -74,6 +76,10 @@ fn read_op_called<'v>(
         "module" => with(
             &["module"],
             FileOp::Runs(read_module_name(alloc, spot, object)?),
+        ),
+        "pipe" => with(
+            &["lines", "n", "pipes", "defer"],
+            FileOp::Does(read_pipe(alloc, spot, object)?),
         ),
         _ => return read_used_text_op(alloc, name, spot, object),
     })

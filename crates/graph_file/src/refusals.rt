@@ -3,6 +3,7 @@ ghost use Rattle.graph_file.specs.declared.refusals.GraphError.TheVariants.{NoMe
 
 use graph_plans::Spot;
 use outside_io::{Back, Bytes, NoMemory};
+use pipe_lines::PipeError;
 
 /// What there may be too many of.
 #[derive(Clone, Copy, Debug, PartialEq, Eq)]
@@ -36,6 +37,8 @@ pub enum GraphError {
     ModuleCycle(Bytes),
     /// There are more of these than a graph file may have.
     TooMany(Kind),
+    /// The pipes of a task are no pipeline.
+    BadPipe(Spot, PipeError),
     /// Memory was refused. It says nothing of the bytes.
     NoMemory,
 }

@@ -9,6 +9,7 @@ use crate::graphs::plan_with;
 use crate::limits::check_limits;
 use crate::lookups::{index_of, names_of_graphs};
 use crate::numbers::numbers_of;
+use crate::pipelines::check_pipelines;
 use crate::refusals::GraphError;
 use crate::repeats::check_names;
 use crate::texts::texts_of;
@@ -26,5 +27,6 @@ pub(crate) fn plan_of(alloc: Global, file: FileDraft<'_>) -> Result<Plan, GraphE
     check_names(alloc, &file)?;
     let texts = texts_of(alloc, &file)?;
     check_limits(alloc, &file, &numbers, &modules, texts.names.len())?;
+    check_pipelines(&file)?;
     Ok(plan_with(alloc, file, &numbers, &modules, &texts)?)
 }

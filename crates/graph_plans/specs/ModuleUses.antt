@@ -2,7 +2,7 @@
 use Rattle.std.specs.Prelude.{ℕ, zero, suc, ◌||◌, ◌==◌, List, [], ◌∷◌, length, Bool, true, Option, slice_index_or}
 use Rattle.std.specs.List.{find, list_any, range_with_len}
 use Rattle.graph_plans.specs.declared.ops.Op.{Op}
-use Rattle.graph_plans.specs.declared.ops.Op.TheVariants.{Input, Read, Text, Match, Back, IfMore, IfHas, Route, Spread, Module}
+use Rattle.graph_plans.specs.declared.ops.Op.TheVariants.{Input, Read, Text, Match, Back, IfMore, IfHas, Route, Spread, Module, Pipe}
 
 -- the module that the task of an operation runs, before these
 abbrev pub run_before : List ℕ → Op → List ℕ
@@ -16,6 +16,7 @@ run_before ms (IfHas word) = ms
 run_before ms (Route words) = ms
 run_before ms (Spread n each) = ms
 run_before ms (Module m) = m ∷ ms
+run_before ms (Pipe plan) = ms
 
 -- the modules that the tasks of these operations run
 abbrev pub modules_run : List Op → List ℕ

@@ -8,7 +8,7 @@ use Rattle.task_graph.specs.declared.net.TaskRow.{TaskRow}
 use Rattle.graph_plans.specs.declared.ops.Op.{Op}
 use Rattle.graph_plans.specs.declared.plans.Graph.{Graph}
 use Rattle.graph_plans.specs.declared.plans.Plan.{Plan}
-use Rattle.graph_plans.specs.Operations.{IsOp, shape_of}
+use Rattle.graph_plans.specs.Operations.{HasPipeline, IsOp, shape_of}
 use Rattle.graph_plans.specs.ModuleUses.{first_on_cycle, has_chain, modules_run}
 
 -- a graph, apart from where it lies in memory
@@ -114,6 +114,10 @@ pub record IsGraph (texts modules : ℕ) (graph : GraphRows) : Type 0 where
   pub sem_names_differ : AllDiffer graph.sem_names
   pub maxima : All (λ max. max ≤ maximum_limit) graph.net.sems
 
+-- the pipes of each task of a graph are a pipeline
+abbrev pub HasPipelines : GraphRows → Type 0
+HasPipelines graph = All HasPipeline graph.ops
+
 -- the rules of a plan; no module runs itself, directly or through others, and modules nest at most 8 deep
 pub record IsPlan (plan : PlanRows) : Type 0 where
   pub name : plan.top.name ≡ []
@@ -128,3 +132,4 @@ pub record IsPlan (plan : PlanRows) : Type 0 where
   pub texts : All IsTextName plan.texts
   pub texts_differ : AllDiffer plan.texts
   pub text_count : length plan.texts ≤ text_count_limit
+  pub pipelines : All HasPipelines (graphs_of plan)

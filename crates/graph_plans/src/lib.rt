@@ -8,11 +8,13 @@
 #![tactic(auto)]
 
 mod ops;
+mod pipes;
 mod plans;
 mod sources;
 mod spots;
 
 pub use ops::{Op, TextOp};
+pub use pipes::{LineOp, PipePlan};
 pub use plans::{Graph, Plan};
 pub use sources::no_source;
 pub use spots::Spot;

@@ -1,4 +1,5 @@
 // The operations of tasks.
+use crate::pipes::PipePlan;
 use outside_io::{Bytes, List};
 
 /// An operation on one text. A number of lines is at most 1,000,000,000, a word has at most 4,096 bytes.
@@ -50,4 +51,6 @@ pub enum Op {
     Spread(u64, TextOp),
     /// What a run of the module of this number makes of the task's text.
     Module(u32),
+    /// The task's text in parts of so many lines, each put through the pipes, and then one after another.
+    Pipe(PipePlan),
 }

@@ -184,11 +184,11 @@ module _ {V : Type 0} (pipeline : Pipeline V) (one : OneAnswer V) (cells : AreCe
           at_start = slice_get-get_or (starts_in values (task l p) b) k [] (omega (arith, slice_get_within _ k end at_k, ran.ended, ran.begun, ends_few at (task l p) b (phases (task l p))))
 
   -- the k-th end that signalled an edge is the k-th end, and its place has a token
-  record SignalsAtTurn (l p k : ℕ) (end : TaskEnd V) : Type 0 where
-    has : HasToken (passes l k)
-    turn : EndAtTurn pipeline l p k end
+  pub record SignalsAtTurn (l p k : ℕ) (end : TaskEnd V) : Type 0 where
+    pub has : HasToken (passes l k)
+    pub turn : EndAtTurn pipeline l p k end
 
-  signals_at_turn : (b : List Entry) (l p k e : ℕ) (edge : PipeEdge) (end : TaskEnd V) → AllEnds pipeline values at b → l < lines → p < length serials → slice_get (pipe_edges lines serials) e ≡ Some edge → edge.row.from ≡ task l p
+  pub signals_at_turn : (b : List Entry) (l p k e : ℕ) (edge : PipeEdge) (end : TaskEnd V) → AllEnds pipeline values at b → l < lines → p < length serials → slice_get (pipe_edges lines serials) e ≡ Some edge → edge.row.from ≡ task l p
       → slice_get (filter (signals e) (ends_in values at (task l p) b)) k ≡ Some end → SignalsAtTurn l p k end
   signals_at_turn b l p k e edge end all in_l in_p at_e from at_k =
       let kept : (slice_get (ends_in values at (task l p) b) k ≡ Some end) × (signals e end ≡ true) = filter_front (signals e) (ends_in values at (task l p) b) front k end at_k in

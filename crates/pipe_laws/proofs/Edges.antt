@@ -136,10 +136,10 @@ module _ (lines : ℕ) (serials : List Bool) where
   pub source_is : (e : ℕ) (edge : PipeEdge) → slice_get all e ≡ Some edge → source_of net e ≡ edge.row.from
   source_is e edge is = ap (λ o. option_map_or (λ (r : EdgeRow). r.from) o 0) (row_at lines serials e edge is)
 
-  target_is : (e : ℕ) (edge : PipeEdge) → slice_get all e ≡ Some edge → target_of net e ≡ edge.row.to
+  pub target_is : (e : ℕ) (edge : PipeEdge) → slice_get all e ≡ Some edge → target_of net e ≡ edge.row.to
   target_is e edge is = ap (λ o. option_map_or (λ (r : EdgeRow). r.to) o 0) (row_at lines serials e edge is)
 
-  tag_is : (e : ℕ) (edge : PipeEdge) → slice_get all e ≡ Some edge → tag e ≡ edge.serial
+  pub tag_is : (e : ℕ) (edge : PipeEdge) → slice_get all e ≡ Some edge → tag e ≡ edge.serial
   tag_is e edge is = get_or_from_slice_get (along_pipes lines serials) e edge.serial false (slice_get-map (λ (d : PipeEdge). d.serial) all e ∙ ap (option_map (λ (d : PipeEdge). d.serial)) is)
 
   -- ---- an edge into a cell
@@ -253,7 +253,7 @@ module _ (lines : ℕ) (serials : List Bool) where
         is_of = refl;
       }
 
-  in_edge_below : (edge : PipeEdge) (has : HasEdge all edge) → has.place < length net.edges
+  pub in_edge_below : (edge : PipeEdge) (has : HasEdge all edge) → has.place < length net.edges
   in_edge_below edge has = slice_get_within net.edges has.place edge.row (row_at lines serials has.place edge has.at)
 
   -- it is among the strong edges into the cell

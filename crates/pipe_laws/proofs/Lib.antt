@@ -5,6 +5,7 @@ pub mod CellTurns
 pub mod CellRuns
 pub mod Through
 pub mod Ordered
+pub mod Counted
 pub mod Passed
 pub mod Lines
 pub mod WorkedCells

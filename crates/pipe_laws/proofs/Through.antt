@@ -11,7 +11,7 @@ use Rattle.journal_rules.specs.declared.entry.Entry.{Entry}
 use Rattle.journal_rules.specs.Counts.{given, used, start_at}
 use Rattle.journal_rules.specs.Complete.{Complete, least}
 use Rattle.journal_rules.proofs.Reaching.{at_below}
-use Rattle.join_words.specs.Ins.{value, first}
+use Rattle.join_words.specs.Ins.{InputValue, value, first}
 use Rattle.run_frame.specs.declared.run.ValueRow.{ValueRow}
 use Rattle.run_frame.specs.Runs.{IsFine}
 use Rattle.pipe_lines.specs.PipeNet.{PipeEdge, cell_row, pipe_edges}
@@ -57,25 +57,16 @@ module _ {V : Type 0} (pipeline : Pipeline V) where
   pub some_pipes : slice_get pipeline.serials 0 ≡ Some true → 1 ≤ pipes
   some_pipes is = omega (arith, slice_get_within pipeline.serials 0 true is)
 
-  module _ (one : OneAnswer V) (limit : ℕ) (values : List (ValueRow V)) (h : List Entry) (is : IsCellRun pipeline one limit values h) (complete : Complete (pipeline_net pipeline) limit h) (fine : IsFine h) where
-    abbrev started : ℕ → ℕ → ℕ
+  module _ (one : OneAnswer V) (limit : ℕ) (values : List (ValueRow V)) (h : List Entry) (is : IsCellRun pipeline one limit values h) where
+    abbrev pub started : ℕ → ℕ → ℕ
     started l p = length (starts_in values (task l p) h)
 
-    pub finished : Finished net limit h
-    finished = record { complete = complete; fine = fine; sources_in = λ e. omega (arith, source_below pipeline.lines pipeline.serials e is.some_lines (some_pipes is.first_serial), length-replicate (lines * pipes) cell_row) }
-
     -- how many of its ends signalled an edge
-    abbrev signalled : ℕ → ℕ → ℕ → ℕ
+    abbrev pub signalled : ℕ → ℕ → ℕ → ℕ
     signalled e l p = length (filter (signals e) (ends_in values (start_at h) (task l p) h))
 
-    -- At places with tokens they all did.
-    all_signal : (e l p k : ℕ) (edge : PipeEdge) → l < lines → p < pipes → slice_get all e ≡ Some edge → edge.row.from ≡ task l p → place_at pipeline l k < length pipeline.order.passed → k + 1 ≤ started l p → k + 1 ≤ signalled e l p
-    all_signal e l p k edge in_l in_p at from short enough =
-        filter_long (signals e) (ends_in values (start_at h) (task l p) h) (k + 1) (omega (arith, enough, all_ended net limit one values h is.given finished (task l p)))
-        (λ j end less at_j. end_signals pipeline l p j k e edge end ((all_ends pipeline one limit values h is).ends l p j end in_l in_p at_j) (omega (arith, less)) (token_there pipeline.order (place_at pipeline l k) short) at from)
-
     -- the tokens that an edge was given
-    given_is : (e l p : ℕ) (edge : PipeEdge) → slice_get all e ≡ Some edge → edge.row.from ≡ task l p → given net e h ≡ length (begun {V = V} net e) + signalled e l p
+    pub given_is : (e l p : ℕ) (edge : PipeEdge) → slice_get all e ≡ Some edge → edge.row.from ≡ task l p → given net e h ≡ length (begun {V = V} net e) + signalled e l p
     given_is e l p edge at from =
         sym (((kept pipeline one limit values h is).held e).count) ∙ ap (λ r. length (tokens net e (ends_in values (start_at h) r h))) (source_is lines pipeline.serials e edge at ∙ from)
         ∙ length-append (begun {V = V} net e) (map (λ (end : TaskEnd V). value end.value) kept_ends)
@@ -84,11 +75,32 @@ module _ {V : Type 0} (pipeline : Pipeline V) where
         kept_ends : List (TaskEnd V)
         kept_ends = filter (signals e) (ends_in values (start_at h) (task l p) h)
 
-    begins_with_one : (e : ℕ) (edge : PipeEdge) → slice_get all e ≡ Some edge → edge.row.start ≡ true → length (begun {V = V} net e) ≡ 1
-    begins_with_one e edge at starts = ap length is_begun
+    -- among them the one with which it begins
+    pub first_counts : (e : ℕ) (edge : PipeEdge) (starts : Bool) → slice_get all e ≡ Some edge → edge.row.start ≡ starts → length (begun {V = V} net e) ≡ cond starts 1 0
+    first_counts e edge starts at is_start = ap length is_begun ∙ by_start starts
       where
-        is_begun : begun {V = V} net e ≡ first ∷ []
-        is_begun = ap (λ o. option_map_or (λ (r : EdgeRow). cond r.start (first ∷ []) []) o []) (row_at lines pipeline.serials e edge at) ∙ ap (λ s. cond s (first ∷ []) []) starts
+        is_begun : begun {V = V} net e ≡ cond starts (first ∷ []) []
+        is_begun = ap (λ o. option_map_or (λ (r : EdgeRow). cond r.start (first ∷ []) []) o []) (row_at lines pipeline.serials e edge at) ∙ ap (λ s. cond s (first ∷ []) []) is_start
+
+        by_start : (s : Bool) → length {A = InputValue V} (cond s (first ∷ []) []) ≡ cond s 1 0
+        by_start true = refl
+        by_start false = refl
+
+  module _ (one : OneAnswer V) (limit : ℕ) (values : List (ValueRow V)) (h : List Entry) (is : IsCellRun pipeline one limit values h) (complete : Complete (pipeline_net pipeline) limit h) (fine : IsFine h) where
+    abbrev begun_at : ℕ → ℕ → ℕ
+    begun_at l p = started one limit values h is l p
+
+    abbrev signalled_at : ℕ → ℕ → ℕ → ℕ
+    signalled_at e l p = signalled one limit values h is e l p
+
+    pub finished : Finished net limit h
+    finished = record { complete = complete; fine = fine; sources_in = λ e. omega (arith, source_below pipeline.lines pipeline.serials e is.some_lines (some_pipes is.first_serial), length-replicate (lines * pipes) cell_row) }
+
+    -- At places with tokens all ends signal.
+    all_signal : (e l p k : ℕ) (edge : PipeEdge) → l < lines → p < pipes → slice_get all e ≡ Some edge → edge.row.from ≡ task l p → place_at pipeline l k < length pipeline.order.passed → k + 1 ≤ begun_at l p → k + 1 ≤ signalled_at e l p
+    all_signal e l p k edge in_l in_p at from short enough =
+        filter_long (signals e) (ends_in values (start_at h) (task l p) h) (k + 1) (omega (arith, enough, all_ended net limit one values h is.given finished (task l p)))
+        (λ j end less at_j. end_signals pipeline l p j k e edge end ((all_ends pipeline one limit values h is).ends l p j end in_l in_p at_j) (omega (arith, less)) (token_there pipeline.order (place_at pipeline l k) short) at from)
 
     -- ---- by the number of cells that come before
 
@@ -97,21 +109,21 @@ module _ {V : Type 0} (pipeline : Pipeline V) where
     number l p k = place_at pipeline l k * pipes + p
 
     abbrev StartsBelow : ℕ → Type 0
-    StartsBelow m = (l p k : ℕ) → l < lines → p < pipes → place_at pipeline l k < length pipeline.order.passed + end_place p → number l p k < m → k + 1 ≤ started l p
+    StartsBelow m = (l p k : ℕ) → l < lines → p < pipes → place_at pipeline l k < length pipeline.order.passed + end_place p → number l p k < m → k + 1 ≤ begun_at l p
 
     module _ (m : ℕ) (below : StartsBelow m) (l p k : ℕ) (in_l : l < lines) (in_p : p < pipes) (short : place_at pipeline l k < length pipeline.order.passed + end_place p) (small : number l p k < suc m) where
       -- a cell whose place and pipe come before gave its edge as often
-      signalled_by : (e line pipe j : ℕ) (edge : PipeEdge) → slice_get all e ≡ Some edge → edge.row.from ≡ task line pipe → line < lines → pipe < pipes → place_at pipeline line j < length pipeline.order.passed → number line pipe j < m → j + 1 ≤ signalled e line pipe
+      signalled_by : (e line pipe j : ℕ) (edge : PipeEdge) → slice_get all e ≡ Some edge → edge.row.from ≡ task line pipe → line < lines → pipe < pipes → place_at pipeline line j < length pipeline.order.passed → number line pipe j < m → j + 1 ≤ signalled_at e line pipe
       signalled_by e line pipe j edge at from in_line in_pipe there smaller = all_signal e line pipe j edge in_line in_pipe at from there (below line pipe j in_line in_pipe (omega (arith, there)) smaller)
 
       along_pipe_given : (e : ℕ) → ComesFrom lines pipeline.serials lines (λ r. task r p) l e → k + 1 ≤ given net e h
       along_pipe_given e from = by_round from.round
         where
-          has : given net e h ≡ length (begun {V = V} net e) + signalled e from.before p
-          has = given_is e from.before p from.edge from.at from.from
+          has : given net e h ≡ length (begun {V = V} net e) + signalled_at e from.before p
+          has = given_is one limit values h is e from.before p from.edge from.at from.from
 
           -- at the place before
-          earlier : (j : ℕ) → place_at pipeline from.before j + 1 ≡ place_at pipeline l k → j + 1 ≤ signalled e from.before p
+          earlier : (j : ℕ) → place_at pipeline from.before j + 1 ≡ place_at pipeline l k → j + 1 ≤ signalled_at e from.before p
           earlier j next = signalled_by e from.before p j from.edge from.at from.from from.below in_p (omega (arith, next, short, few_more p)) (omega (arith, wider (place_at pipeline from.before j) (place_at pipeline l k) pipes next, small, in_p))
             where
               wider : (a b c : ℕ) → a + 1 ≡ b → a * c + c ≡ b * c
@@ -125,8 +137,8 @@ module _ {V : Type 0} (pipeline : Pipeline V) where
           by_round (goes_round starts l_is last) = by_place k refl
             where
               by_place : (i : ℕ) → k ≡ i → k + 1 ≤ given net e h
-              by_place zero k_is = omega (arith, has, begins_with_one e from.edge from.at starts, k_is)
-              by_place (suc j) k_is = omega (arith, has, begins_with_one e from.edge from.at starts, k_is, earlier j (omega (arith, last, l_is, more) ∙ sym (ap (λ i. i * lines + l) k_is)))
+              by_place zero k_is = omega (arith, has, first_counts one limit values h is e from.edge true from.at starts, k_is)
+              by_place (suc j) k_is = omega (arith, has, first_counts one limit values h is e from.edge true from.at starts, k_is, earlier j (omega (arith, last, l_is, more) ∙ sym (ap (λ i. i * lines + l) k_is)))
                 where
                   more : suc j * lines ≡ j * lines + lines
                   more = omega arith
@@ -134,8 +146,8 @@ module _ {V : Type 0} (pipeline : Pipeline V) where
       along_line_given : (e : ℕ) → ComesFrom lines pipeline.serials pipes (task l) p e → k + 1 ≤ given net e h
       along_line_given e from = by_round from.round
         where
-          has : given net e h ≡ length (begun {V = V} net e) + signalled e l from.before
-          has = given_is e l from.before from.edge from.at from.from
+          has : given net e h ≡ length (begun {V = V} net e) + signalled_at e l from.before
+          has = given_is one limit values h is e l from.before from.edge from.at from.from
 
           by_round : GoesOn pipes from.before p from.edge.row.start → k + 1 ≤ given net e h
           by_round (goes_up starts p_is) = omega (arith, has, signalled_by e l from.before k from.edge from.at from.from in_l from.below (omega (arith, short, later)) (omega (arith, small, p_is)))
@@ -148,12 +160,12 @@ module _ {V : Type 0} (pipeline : Pipeline V) where
           by_round (goes_round starts p_is last) = by_place k refl
             where
               by_place : (i : ℕ) → k ≡ i → k + 1 ≤ given net e h
-              by_place zero k_is = omega (arith, has, begins_with_one e from.edge from.at starts, k_is)
+              by_place zero k_is = omega (arith, has, first_counts one limit values h is e from.edge true from.at starts, k_is)
               by_place (suc j) k_is =
                   let round : place_at pipeline l k ≡ place_at pipeline l j + lines = ap (λ i. i * lines + l) k_is ∙ omega (arith, more) in
                   let there : place_at pipeline l j < length pipeline.order.passed = omega (arith, round, short, few_more p, is.some_lines) in
                   let smaller : number l from.before j < m = omega (arith, last, small, ap (λ n. n * pipes) round, spread (place_at pipeline l j) lines pipes, wide lines pipes is.some_lines) in
-                  omega (arith, has, begins_with_one e from.edge from.at starts, k_is, signalled_by e l from.before j from.edge from.at from.from in_l from.below there smaller)
+                  omega (arith, has, first_counts one limit values h is e from.edge true from.at starts, k_is, signalled_by e l from.before j from.edge from.at from.from in_l from.below there smaller)
                 where
                   more : suc j * lines ≡ j * lines + lines
                   more = omega arith
@@ -172,11 +184,11 @@ module _ {V : Type 0} (pipeline : Pipeline V) where
           by_tag true tag = along_pipe_given e (along_pipe_into lines pipeline.serials l p e in_p into tag)
           by_tag false tag = along_line_given e (along_line_into lines pipeline.serials l p e in_p into tag)
 
-      starts_here : k + 1 ≤ started l p
+      starts_here : k + 1 ≤ begun_at l p
       starts_here =
           let some : strong_in net (task l p) ≢ [] = (pipes_ringed lines pipeline.serials).fed (task l p) (in_net l p in_l in_p) in
           let all_used : used (task l p) h ≡ least (map (λ e. given net e h) (strong_in net (task l p))) = at_below (λ s. strong_in net s ≢ [] → used s h ≡ least (map (λ f. given net f h) (strong_in net s))) (length net.tasks) complete.strong (task l p) (in_net l p in_l in_p) some in
-          let used_is : started l p ≡ used (task l p) h = ((kept pipeline one limit values h is).ran (task l p)).used_up (unstopped net limit h is.given.shape fine (task l p)) some in
+          let used_is : begun_at l p ≡ used (task l p) h = ((kept pipeline one limit values h is).ran (task l p)).used_up (unstopped net limit h is.given.shape fine (task l p)) some in
           omega (
             arith,
             all_used,
@@ -190,5 +202,5 @@ module _ {V : Type 0} (pipeline : Pipeline V) where
     starts_below (suc m) l p k in_l in_p short small = starts_here m (starts_below m) l p k in_l in_p short small
 
     -- Each cell starts at its places with tokens, and the first pipe once more.
-    pub starts_at_place : (l p k : ℕ) → l < lines → p < pipes → place_at pipeline l k < length pipeline.order.passed + end_place p → k + 1 ≤ started l p
+    pub starts_at_place : (l p k : ℕ) → l < lines → p < pipes → place_at pipeline l k < length pipeline.order.passed + end_place p → k + 1 ≤ begun_at l p
     starts_at_place l p k in_l in_p short = starts_below (suc (number l p k)) l p k in_l in_p short (omega arith)

@@ -1,16 +1,21 @@
 -- Graphs that may stand in a file.
-use Rattle.std.specs.Prelude.{◌≡◌, ℕ, suc, ◌&&◌, List, [], ◌∷◌, length, map, Bool, true, false, nat_le, ⊤}
+use Rattle.std.specs.Prelude.{◌≡◌, ℕ, suc, ◌&&◌, List, [], ◌∷◌, ◌++◌, length, map, Bool, true, false, not, nat_le, ⊤}
 use Rattle.std.specs.List.{list_all}
 use Rattle.graph_plans.specs.declared.ops.Op.{Op}
-use Rattle.graph_plans.specs.declared.ops.Op.TheVariants.{Input, Read, Text, Match, Back, IfMore, IfHas, Route, Spread, Module}
+use Rattle.graph_plans.specs.declared.ops.Op.TheVariants.{Input, Read, Text, Match, Back, IfMore, IfHas, Route, Spread, Module, Pipe}
 use Rattle.graph_plans.specs.declared.ops.TextOp.{TextOp}
 use Rattle.graph_plans.specs.declared.ops.TextOp.TheVariants.{Pass, Keep, Without, Head, Tail, Skip, Sort, Uniq, Count, Tally}
+use Rattle.graph_plans.specs.declared.pipes.LineOp.{LineOp}
+use Rattle.graph_plans.specs.declared.pipes.LineOp.TheVariants.{Text as LineText, Number, Stamp}
+use Rattle.graph_plans.specs.declared.pipes.PipePlan.{PipePlan}
+use Rattle.pipe_lines.specs.declared.deferral.DeferRow.{DeferRow}
+use Rattle.pipe_lines.specs.DeferRows.{is_deferred}
 use Rattle.graph_plans.specs.Operations.{line_limit, route_limit, word_limit}
 use Rattle.graph_plans.specs.PlanRows.{maximum_limit}
 use Rattle.graph_file.specs.declared.scopes.Scope.{Scope}
 use Rattle.graph_file.specs.declared.scopes.Scope.TheVariants.{Top, Module as OfModule}
 use Rattle.graph_file.specs.Contents.{is_name, is_text}
-use Rattle.graph_file.specs.OpRows.{FileOpRow, reads, runs, does}
+use Rattle.graph_file.specs.OpRows.{FileOpRow, reads, runs, does, may_have}
 use Rattle.graph_file.specs.PlanText.{DraftRows, FileRows, TaskText}
 
 abbrev pub fits_lines : ℕ → Bool
@@ -35,6 +40,38 @@ fits_text_op Uniq = true
 fits_text_op Count = true
 fits_text_op Tally = true
 
+abbrev pub fits_line_op : LineOp → Bool
+fits_line_op (LineText op) = fits_text_op op
+fits_line_op Number = true
+fits_line_op Stamp = true
+
+-- pipes with these operations
+abbrev pub fits_pipes : List Bool → List LineOp → Bool
+fits_pipes [] [] = true
+fits_pipes [] (op ∷ ops) = false
+fits_pipes (serial ∷ rest) [] = false
+fits_pipes (serial ∷ rest) (op ∷ ops) = may_have serial op && (fits_line_op op && fits_pipes rest ops)
+
+abbrev pub fits_pipe_lines : ℕ → Bool
+fits_pipe_lines n = nat_le 0 n && nat_le n 4294967295
+
+abbrev pub fits_token : ℕ → Bool
+fits_token n = nat_le 0 n && nat_le n 65535
+
+abbrev pub fits_target : ℕ → Bool
+fits_target n = nat_le 0 n && nat_le n 1000000
+
+abbrev pub fits_targets : List ℕ → Bool
+fits_targets to = (nat_le 1 (length to) && nat_le (length to) 8) && list_all fits_target to
+
+-- rows that defer tokens, behind these
+abbrev pub fits_defers : List DeferRow → List DeferRow → Bool
+fits_defers before [] = true
+fits_defers before (row ∷ rows) = fits_token row.token && (fits_targets row.to && (not (is_deferred before row.token) && fits_defers (before ++ row ∷ []) rows))
+
+abbrev pub fits_pipe : PipePlan → Bool
+fits_pipe plan = fits_pipe_lines plan.spec.lines && (fits_part plan.chunk && (fits_pipes plan.spec.serial plan.ops && (nat_le (length plan.defers) 256 && fits_defers [] plan.defers)))
+
 -- a file has the names of a text that is read and of a module that is run, and not their numbers
 abbrev pub fits_op : Op → Bool
 fits_op Input = true
@@ -47,6 +84,7 @@ fits_op (IfHas word) = is_text 0 word_limit word
 fits_op (Route words) = fits_words words
 fits_op (Spread n op) = fits_part n && fits_text_op op
 fits_op (Module m) = false
+fits_op (Pipe plan) = fits_pipe plan
 
 abbrev pub fits : FileOpRow → Bool
 fits (reads text) = is_text 1 4096 text

@@ -12,12 +12,14 @@ use Rattle.graph_file.specs.declared.numbers.Numbers.{Numbers}
 use Rattle.graph_file.specs.declared.scopes.Scope.{Scope}
 use Rattle.graph_file.specs.declared.scopes.Scope.TheVariants.{Module as OfModule}
 use Rattle.graph_plans.specs.declared.ops.TextOp.{TextOp}
+use Rattle.graph_plans.specs.declared.pipes.LineOp.{LineOp}
+use Rattle.graph_file.specs.declared.pipes.Pipes.{Pipes}
 use Rattle.graph_file.specs.declared.file_op.FileOp.{FileOp}
 use Rattle.graph_file.specs.declared.file_op.FileOp.TheVariants.{Reads as ReadsOf, Runs as RunsOf, Does}
 use Rattle.graph_file.specs.declared.file_op.FoundOp.{FoundOp}
 use Rattle.graph_file.specs.declared.refusals.GraphError.{GraphError}
 use Rattle.graph_file.specs.declared.refusals.GraphError.TheVariants.{NoMemory, Repeated}
-use Rattle.graph_file.specs.OpRows.{FileOpRow, reads, runs, does, WithFields, op_in, op_rows}
+use Rattle.graph_file.specs.OpRows.{FileOpRow, reads, runs, does, PipeRows, WithFields, op_in, op_rows}
 use Rattle.graph_file.specs.Contents.{name_of, name_list_of}
 use Rattle.graph_file.specs.Fields.{allowed, graph_spot, needed, only, task_spot}
 use Rattle.graph_file.specs.PlanText.{DraftRows, FileNumbers, FileRows, TaskNames, TaskText, add_name, graph_names, puts_field, takes_field, task_fields, with_task_text}
@@ -71,6 +73,12 @@ found_op found = record { op = file_op_row found.op; fields = map (λ s. s.now) 
 
 abbrev pub found_text_op : FoundOp TextOp → WithFields TextOp
 found_text_op found = record { op = found.op; fields = map (λ s. s.now) found.fields.now }
+
+abbrev pub found_line_op : FoundOp LineOp → WithFields LineOp
+found_line_op found = record { op = found.op; fields = map (λ s. s.now) found.fields.now }
+
+abbrev pub pipe_rows : Pipes → PipeRows
+pipe_rows pipes = record { serial = pipes.serial; ops = pipes.ops }
 
 -- ---- a task, by the steps in which it is read
 

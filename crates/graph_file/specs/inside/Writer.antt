@@ -6,9 +6,12 @@ use Rattle.serde_json.specs.View.{members_view}
 use Rattle.task_graph.specs.declared.net.Shape.TheVariants.{Plain}
 use Rattle.task_graph.specs.declared.net.TaskRow.{TaskRow}
 use Rattle.graph_plans.specs.declared.ops.Op.{Op}
-use Rattle.graph_plans.specs.declared.ops.Op.TheVariants.{Input, Read, Text, Match, Back, IfMore, IfHas, Route, Spread, Module}
+use Rattle.graph_plans.specs.declared.ops.Op.TheVariants.{Input, Read, Text, Match, Back, IfMore, IfHas, Route, Spread, Module, Pipe}
 use Rattle.graph_plans.specs.declared.ops.TextOp.{TextOp}
 use Rattle.graph_plans.specs.declared.ops.TextOp.TheVariants.{Pass, Keep, Without, Head, Tail, Skip, Sort, Uniq, Count, Tally}
+use Rattle.graph_plans.specs.declared.pipes.LineOp.{LineOp}
+use Rattle.graph_plans.specs.declared.pipes.LineOp.TheVariants.{Text as LineText, Number, Stamp}
+use Rattle.graph_plans.specs.declared.pipes.PipePlan.{PipePlan}
 use Rattle.graph_plans.specs.PlanRows.{GraphRows, PlanRows, file_task_limit, module_names}
 use Rattle.graph_file.specs.declared.op_writer.WrittenOp.{WrittenOp}
 use Rattle.graph_file.specs.PlanText.{TaskNames}
@@ -32,6 +35,16 @@ HasUtf8Word Uniq = ⊤
 HasUtf8Word Count = ⊤
 HasUtf8Word Tally = ⊤
 
+abbrev pub HasUtf8Line : LineOp → Type 0
+HasUtf8Line (LineText op) = HasUtf8Word op
+HasUtf8Line Number = ⊤
+HasUtf8Line Stamp = ⊤
+
+-- each pipe has an operation, with such words
+pub record HasUtf8Pipes (plan : PipePlan) : Type 0 where
+  pub count : length plan.ops ≡ length plan.spec.serial
+  pub ops : All HasUtf8Line plan.ops
+
 -- what an operation names is UTF-8, where these are the names of the texts and of the modules
 abbrev pub HasUtf8 : List (List ℕ) → List (List ℕ) → Op → Type 0
 HasUtf8 texts modules Input = ⊤
@@ -43,6 +56,7 @@ HasUtf8 texts modules (IfMore n) = ⊤
 HasUtf8 texts modules (IfHas word) = IsString word
 HasUtf8 texts modules (Route words) = All IsString words
 HasUtf8 texts modules (Spread n each) = HasUtf8Word each
+HasUtf8 texts modules (Pipe plan) = HasUtf8Pipes plan
 HasUtf8 texts modules (Module m) = (m < length modules) × IsString (slice_index_or modules m [])
 
 -- a semaphore that has a name

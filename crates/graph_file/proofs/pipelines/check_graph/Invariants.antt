@@ -1,0 +1,7 @@
+use Rattle.graph_file.specs.PlanText.{add_pipeline}
+use Rattle.graph_file.specs.inside.Reader.{task_text}
+use Rattle.graph_file.proofs.WalkLemmas.{GoesOn}
+use Rattle.graph_file.proofs.pipelines.check_graph.Given as goal
+
+abbrev pub invariant-loop-task : goal.invariant-loop-task
+invariant-loop-task l = GoesOn task_text (add_pipeline l.draft.scope) 0 l.draft.tasks.items l.task l.task

@@ -1,0 +1,7 @@
+use Rattle.graph_file.specs.PlanText.{add_graph_pipelines}
+use Rattle.graph_file.specs.inside.Reader.{draft_rows}
+use Rattle.graph_file.proofs.WalkLemmas.{GoesOn}
+use Rattle.graph_file.proofs.pipelines.check_graphs.Given as goal
+
+abbrev pub invariant-loop-draft : goal.invariant-loop-draft
+invariant-loop-draft l = GoesOn draft_rows add_graph_pipelines tt l.drafts l.draft-index tt

@@ -1,0 +1,82 @@
+// Whether the pipes of tasks are pipelines.
+ghost use Rattle.std.specs.Prelude.{◌≡◌, map};
+ghost use Rattle.graph_file.specs.Steps.{walk};
+ghost use Rattle.graph_file.specs.PlanText.{add_graph_pipelines, file_op_fault, file_pipelines, pipe_fault, spec_fault};
+ghost use Rattle.graph_file.specs.inside.Reader.{Reads, draft_rows, file_op_row, file_rows};
+
+use crate::draft::{Draft, FileDraft};
+use crate::file_op::FileOp;
+use crate::refusals::GraphError;
+use crate::scopes::task_spot;
+use graph_plans::Op;
+use pipe_lines::{MAX_LINES, MAX_PIPES, PipeError, PipeSpec};
+
+/// That the pipes of each task of a file are a pipeline.
+pub(crate) fn check_pipelines(file: &FileDraft<'_>) -> Result<(), GraphError>
+    ensures { Reads result (file_pipelines (file_rows file.now)) }
+{
+    check_graph(&file.top)?;
+    check_graphs(file.modules.as_slice())
+}
+
+fn check_graphs(drafts: &[Draft<'_>]) -> Result<(), GraphError>
+    ensures { Reads result (walk add_graph_pipelines tt (map draft_rows drafts.now)) }
+{
+    for draft in drafts {
+        check_graph(draft)?;
+    }
+    Ok(())
+}
+
+// That those of each task of a graph are.
+fn check_graph(draft: &Draft<'_>) -> Result<(), GraphError>
+    ensures { Reads result (add_graph_pipelines tt (draft_rows draft.now)) }
+{
+    for (task, found) in draft.tasks.iter().enumerate() {
+        if let Some(error) = file_op_fault(&found.op) {
+            return Err(GraphError::BadPipe(task_spot(draft.scope, task), error));
+        }
+    }
+    Ok(())
+}
+
+// Why the pipes of an operation are no pipeline.
+fn file_op_fault(op: &FileOp<'_>) -> Option<PipeError>
+    ensures { result ≡ file_op_fault (file_op_row op.now) }
+{
+    match op {
+        FileOp::Does(op) => pipe_fault(op),
+        _ => None,
+    }
+}
+
+fn pipe_fault(op: &Op) -> Option<PipeError>
+    ensures { result ≡ pipe_fault op.now }
+{
+    match op {
+        Op::Pipe(plan) => spec_fault(&plan.spec),
+        _ => None,
+    }
+}
+
+fn spec_fault(spec: &PipeSpec) -> Option<PipeError>
+    ensures { result ≡ spec_fault spec.now }
+{
+    let serial = spec.serial.as_slice();
+    if spec.lines == 0 {
+        return Some(PipeError::NoLines);
+    }
+    if serial.is_empty() {
+        return Some(PipeError::NoPipes);
+    }
+    if !serial[0] {
+        return Some(PipeError::FirstParallel);
+    }
+    if spec.lines > MAX_LINES {
+        return Some(PipeError::TooManyLines);
+    }
+    if serial.len() > MAX_PIPES {
+        return Some(PipeError::TooManyPipes);
+    }
+    None
+}
