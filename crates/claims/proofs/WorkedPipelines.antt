@@ -10,7 +10,7 @@ use Rattle.pipe_lines.specs.declared.pipeline.PipeError.TheVariants.{NoLines, No
 use Rattle.pipe_lines.specs.declared.pipeline.PipeSpec.{PipeSpec}
 use Rattle.graph_plans.specs.declared.ops.Op.{Op}
 use Rattle.graph_plans.specs.declared.ops.Op.TheVariants.{Input, Match, Module as Runs, Pipe}
-use Rattle.graph_plans.specs.declared.ops.TextOp.TheVariants.{Pass, Keep, Sort}
+use Rattle.graph_plans.specs.declared.ops.TextOp.TheVariants.{Pass, Keep, Head, Sort}
 use Rattle.graph_plans.specs.declared.pipes.LineOp.{LineOp}
 use Rattle.graph_plans.specs.declared.pipes.LineOp.TheVariants.{Text as LineText, Number, Stamp}
 use Rattle.graph_plans.specs.declared.pipes.PipePlan.{PipePlan}
@@ -58,7 +58,7 @@ rows_in_their_limits = (refl, refl, refl)
 
 operations_of_pipes : (op_in line_rows (Task 4) (object (member (codes "op") (string (codes "number")) no_members)) ≡ Ok (record { op = Number; fields = [] }))
     × (op_in line_rows (Task 4) (object (member (codes "op") (string (codes "stamp")) no_members)) ≡ Ok (record { op = Stamp; fields = [] }))
-    × (op_in line_rows (Task 4) (object (member (codes "op") (string (codes "keep")) (member (codes "word") (string x) no_members))) ≡ Ok (record { op = LineText (Keep x); fields = codes "word" ∷ [] }))
+    × (op_in line_rows (Task 4) (object (member (codes "n") (whole 7) (member (codes "op") (string (codes "head")) no_members))) ≡ Ok (record { op = LineText (Head 7); fields = codes "n" ∷ [] }))
     × (op_in line_rows (Task 4) (object (member (codes "op") (string (codes "back")) no_members)) ≡ Err (BadField (Task 4) (codes "op")))
 unfolding line_rows text_rows
 operations_of_pipes = (refl, refl, refl, refl)
