@@ -14,6 +14,7 @@ use crate::item::Item;
 use crate::job::TextJob;
 use crate::one_by_one::{filtered, first_lines, found_lines, last_lines, later_lines};
 use crate::parts_job::parts_job;
+use crate::pipe_job::pipe_job;
 use crate::task_error::TaskError;
 use graph_plans::{Op, TextOp};
 use join_words::Ins;
@@ -62,6 +63,7 @@ impl GraphJob {
             }
             Op::Spread(lines, each) => Ok(Done::Inner(parts_job(alloc, *lines, each, ins)?)),
             Op::Module(module) => Ok(Done::Inner(self.module_job(alloc, *module, ins)?)),
+            Op::Pipe(plan) => Ok(Done::Inner(pipe_job(alloc, plan, ins)?)),
         }
     }
 

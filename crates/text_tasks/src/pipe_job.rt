@@ -1,0 +1,188 @@
+// Jobs of pipelines.
+ghost use Rattle.std.specs.Prelude.{◌≡◌, ◌<◌, ◌*◌, ◌%◌, [], IfOk, length};
+ghost use Rattle.graph_plans.specs.Operations.{IsPipePlan};
+ghost use Rattle.pipe_lines.specs.Pipelines.{IsPipeline};
+ghost use Rattle.run_frame.specs.Meaning.{IsRelease};
+ghost use Rattle.join_words.specs.Ins.{parts_of};
+ghost use Rattle.text_tasks.specs.OpMeaning.{pipe_meaning};
+ghost use Rattle.text_tasks.specs.JobMeaning.{net_of};
+ghost use Rattle.text_tasks.specs.inside.Finding.{founds, text_from};
+ghost use Rattle.text_tasks.specs.inside.Working.{OpensAs};
+
+use crate::cell_inputs::{input_along, next_place};
+use crate::found::text_from;
+use crate::item::{CellItem, Item};
+use crate::job::TextJob;
+use crate::line_ops::{apply_line_op, copy_of_line_ops};
+use crate::task_error::TaskError;
+use graph_plans::{LineOp, PipePlan};
+use join_words::{Given, Ins};
+use outside_io::{Bytes, List};
+use pipe_lines::{MAX_TOKENS, Order, Passed, PipeSpec, along_pipes, pass_order, pipe_net};
+use run_frame::{Answer, Done};
+use std::alloc::Global;
+use std::marker::Model;
+use std::sync::Arc;
+use task_graph::Net;
+use text_ops::{Text, line_parts, part_count};
+
+/// The parts of a text, which go through pipes as tokens. Contracts see it as a `PipeWork`.
+///
+/// The order in which the tokens pass the first pipe is computed with the job. Of each edge of the net the job has
+/// whether it leads along a pipe.
+#[derive(Drop)]
+pub struct PipeJob {
+    pub(crate) net: Arc<Net>,
+    pub(crate) along_pipe: List<bool>,
+    pub(crate) spec: PipeSpec,
+    pub(crate) ops: List<LineOp>,
+    pub(crate) parts: List<Text>,
+    pub(crate) order: Order,
+}
+
+impl Model for PipeJob {
+    ghost use Rattle.text_tasks.specs.PipeWork.{PipeWork};
+
+    ghost Value = { PipeWork };
+
+    ghost use Rattle.text_tasks.specs.inside.Works.{IsPipeInside, pipe_work_of};
+
+    ghost view = { pipe_work_of };
+
+    ghost invariant = { IsPipeInside };
+}
+
+impl PipeJob {
+    ghost use Rattle.text_tasks.specs.PipeWork.{IsPipeWork};
+    ghost use Rattle.text_tasks.specs.CellMeaning.{pipe_of};
+    ghost use Rattle.text_tasks.specs.inside.Working.{TaskDoes};
+
+    // The names of the tasks, which cells have none of.
+    pub(crate) fn names(&self) -> &[Bytes]
+        ensures none { result.now ≡ [] }
+        ensures work { IsPipeWork self.now }
+    {
+        let _parts = &self.parts;
+        &[]
+    }
+
+    // What a cell answers on what it finds.
+    pub(crate) fn answer(
+        &self,
+        alloc: Global,
+        task: u32,
+        ins: &Ins<Item>,
+    ) -> Result<Done<TextJob>, TaskError>
+        requires { IsRelease (net_of (TextJob.Pipe self.now)) task (length (parts_of ins.now)) }
+        ensures { TaskDoes (TextJob.Pipe self.now) task (founds ins.now) result }
+    {
+        let edges = self.net.strong_in(task);
+        let pipe = self.pipe_of(task);
+        let op = &self.ops.as_slice()[pipe];
+        if pipe == 0 {
+            let place = next_place(input_along(self.along_pipe.as_slice(), edges, ins, true));
+            return self.enter(alloc, op, place);
+        }
+        go_on(
+            alloc,
+            op,
+            input_along(self.along_pipe.as_slice(), edges, ins, false),
+        )
+    }
+
+    // The pipe of a cell.
+    fn pipe_of(&self, task: u32) -> usize
+        ensures pipe { result ≡ pipe_of self.now task }
+        ensures below { result < length self.now.ops }
+    {
+        task as usize % self.ops.len()
+    }
+
+    // What a cell of the first pipe answers at a place of the order.
+    fn enter(
+        &self,
+        alloc: Global,
+        op: &LineOp,
+        place: u64,
+    ) -> Result<Done<TextJob>, TaskError>
+        ensures { DoesAs (enters self.now op.now place (passed_at self.now.order place)) result }
+    {
+        match self.order.at(place) {
+            Passed::Token(token) => {
+                let text = apply_line_op(alloc, op, token, place, &self.part(token)?)?;
+                Ok(moves_on(CellItem { text, token, place }, Answer::All))
+            }
+            Passed::Stop => Ok(moves_on(
+                CellItem {
+                    text: Text::new(),
+                    token: 0,
+                    place,
+                },
+                Answer::None,
+            )),
+            Passed::Unmet(token) => Err(TaskError::Unmet(token)),
+        }
+    }
+
+    // The part of a number, of which there may be none.
+    fn part(&self, number: u64) -> Result<Text, NoMemory>
+        ensures { IfOk result (λ text. text ≡ slice_index_or self.now.parts number []) }
+    {
+        match self.parts.get(number as usize) {
+            Some(part) => part.share(),
+            None => Ok(Text::new()),
+        }
+    }
+}
+
+// What a cell of another pipe answers on what came along its line.
+fn go_on(
+    alloc: Global,
+    op: &LineOp,
+    input: Option<&Given<Item>>,
+) -> Result<Done<TextJob>, TaskError>
+    ensures { DoesAs (goes_on op.now (token_of (found_or input.entry)) (place_in (found_or input.entry))
+        (found_text (found_or input.entry))) result }
+{
+    let Some(Given::Value(_, item)) = input else {
+        let text = apply_line_op(alloc, op, 0, 0, &Text::new())?;
+        return Ok(moves_on(CellItem { text, token: 0, place: 0 }, Answer::All));
+    };
+    let (token, place) = (item.token(), item.place());
+    let text = apply_line_op(alloc, op, token, place, item.text())?;
+    Ok(moves_on(CellItem { text, token, place }, Answer::All))
+}
+
+// A cell ends with a token.
+fn moves_on(cell: CellItem, answer: Answer) -> Done<TextJob>
+    ensures { result ≡ Done.Value (Item.Cell cell) answer }
+{
+    Done::Value(Item::Cell(cell), answer)
+}
+
+// The job of a plan's pipeline on the text that is found. No part is copied.
+pub(crate) fn pipe_job(
+    alloc: Global,
+    plan: &PipePlan,
+    ins: &Ins<Item>,
+) -> Result<TextJob, TaskError>
+    requires plan { IsPipePlan plan.now }
+    requires pipeline { IsPipeline plan.now.spec }
+    ensures { OpensAs (pipe_meaning plan.now (text_from ins.now 0)) result }
+{
+    let text = text_from(alloc, ins, 0)?;
+    let tokens = part_count(&text, plan.chunk);
+    if tokens > MAX_TOKENS {
+        return Err(TaskError::Wide(tokens));
+    }
+    let spec = copy_of_spec(&plan.spec)?;
+    let net = pipe_net(alloc, &spec)?;
+    Ok(TextJob::Pipe(PipeJob {
+        net: Arc::new(alloc, net)?,
+        along_pipe: along_pipes(alloc, &spec)?,
+        ops: copy_of_line_ops(alloc, plan.ops.as_slice())?,
+        parts: line_parts(alloc, &text, plan.chunk)?,
+        order: pass_order(alloc, tokens, plan.defers.as_slice())?,
+        spec,
+    }))
+}
