@@ -2,7 +2,7 @@
 ghost use Rattle.std.specs.Prelude.{◌≡◌, ◌++◌, [], List, ℕ, codes, decimal, IfOk, OnOk};
 ghost use Rattle.std.specs.Option.{option_copied, option_map};
 ghost use Rattle.graph_plans.specs.PlanRows.{plan_rows};
-ghost use Rattle.call_status.specs.Notes.{graph_error_text, kind_text, note_line, spot_text, within_text};
+ghost use Rattle.call_status.specs.Notes.{graph_error_text, kind_text, note_line, pipe_error_text, spot_text, within_text};
 ghost use Rattle.call_status.specs.Noting.{HasNoted, TakesLine};
 ghost use Rattle.call_status.specs.Reasons.{fault_text, limit_text, stuck_text};
 
@@ -13,6 +13,7 @@ use graph_file::{GraphError, Kind};
 use graph_plans::{Plan, Spot};
 use journal_rules::Why;
 use outside_io::{Bytes, List, NoMemory, Sink, SinkFault, add_numbered};
+use pipe_lines::PipeError;
 use std::alloc::Global;
 
 /// Writes the line of a status to `notes`, the diagnostics sink, and flushes it. With `Done` there is no line, and the
@@ -196,8 +197,19 @@ fn add_graph_error(line: &mut Bytes, error: &GraphError) -> Result<(), NoMemory>
             line.add_all(b"too many ")?;
             line.add_all(plural_of(*kind))
         }
+        GraphError::BadPipe(spot, why) => add_pipe_error(line, *spot, *why),
         GraphError::NoMemory => line.add_all(b"no memory"),
     }
+}
+
+// Adds of which task the pipes are no pipeline, and why.
+fn add_pipe_error(line: &mut Bytes, spot: Spot, why: PipeError) -> Result<(), NoMemory>
+    ensures { OnOk result (line.new ≡ line.old ++ (codes "bad pipe in " ++ spot_text spot ++ codes ": " ++ pipe_error_text why)) }
+{
+    line.add_all(b"bad pipe in ")?;
+    add_spot(line, spot)?;
+    line.add_all(b": ")?;
+    line.add_all(pipe_error(why))
 }
 
 // Adds a name as it is, behind a text.
@@ -248,6 +260,19 @@ fn add_spot(line: &mut Bytes, spot: Spot) -> Result<(), NoMemory>
             add_numbered(line, b"module ", u64::from(module))?;
             add_numbered(line, b" task ", u64::from(task))
         }
+    }
+}
+
+fn pipe_error(why: PipeError) -> &'static [u8]
+    ensures { result.now ≡ pipe_error_text why }
+{
+    match why {
+        PipeError::NoLines => b"no lines",
+        PipeError::NoPipes => b"no pipes",
+        PipeError::FirstParallel => b"first pipe is parallel",
+        PipeError::TooManyLines => b"too many lines",
+        PipeError::TooManyPipes => b"too many pipes",
+        PipeError::NoMemory => b"no memory",
     }
 }
 
