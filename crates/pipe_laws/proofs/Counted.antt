@@ -26,7 +26,7 @@ use Rattle.run_laws.proofs.Phases.{begins}
 use Rattle.run_laws.proofs.Pipes.{pipes_ringed}
 use Rattle.run_laws.proofs.Rings.{turning_along}
 use Rattle.run_laws.proofs.Steps.{ends_in}
-use Rattle.pipe_laws.specs.Cells.{Pipeline, along_pipe, cell_task, pipeline_net}
+use Rattle.text_tasks.specs.Cells.{Pipeline, along_pipe, cell_task, pipeline_net}
 use Rattle.pipe_laws.specs.Turns.{in_pipe}
 use Rattle.pipe_laws.proofs.Edges.{ComesFrom, GoesOn, InEdge, along_line_into, along_pipe_into, goes_round, goes_up, in_edge_below, line_in_edge, pipe_in_edge, tag_is, target_is}
 use Rattle.pipe_laws.proofs.CellTurns.{SignalsAtTurn, place_at, places_rise, signals, signals_at_turn}

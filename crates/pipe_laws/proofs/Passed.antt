@@ -32,7 +32,7 @@ use Rattle.run_laws.proofs.PipeCycles.{found_from, lies_at}
 use Rattle.run_laws.proofs.Steps.{start_of, starts_in, ends_in}
 use Rattle.run_laws.proofs.Through.{Passing, any_at, any_passes}
 use Rattle.run_laws.proofs.Whole.{all_ended, unstopped}
-use Rattle.pipe_laws.specs.Cells.{Pipeline, cell_task, meets, pipeline_net}
+use Rattle.text_tasks.specs.Cells.{Pipeline, cell_task, meets, pipeline_net}
 use Rattle.pipe_laws.specs.Turns.{in_pipe, starts_one_of, token_passed, token_started, tokens_started}
 use Rattle.pipe_laws.specs.Laws.{PassAllPipes}
 use Rattle.pipe_laws.proofs.CellTurns.{meets_turn}

@@ -11,7 +11,7 @@ use Rattle.run_frame.specs.Legal.{CompleteRun}
 use Rattle.pipe_lines.specs.PassOrder.{has_passed}
 use Rattle.pipe_lines.specs.PipeNet.{pipe_net}
 use Rattle.run_laws.specs.OneThreadValue.{OneAnswer}
-use Rattle.pipe_laws.specs.Cells.{Pipeline}
+use Rattle.text_tasks.specs.Cells.{Pipeline}
 use Rattle.pipe_laws.specs.PipeRuns.{IsPipeRun}
 use Rattle.pipe_laws.specs.Turns.{IsInOrder, StartsAlone, TakesTurns, tokens_started}
 
