@@ -1,7 +1,7 @@
 // What a cell of a pipeline finds along its line and along its pipe.
 ghost use Rattle.std.specs.Prelude.{◌≡◌, false, slice_index_or};
 ghost use Rattle.text_tasks.specs.inside.Finding.{founds};
-ghost use Rattle.text_tasks.specs.inside.CellInputs.{HasTag, found_or, input_tagged, next_place_of};
+ghost use Rattle.text_tasks.specs.inside.CellInputs.{has_tag, found_or, input_tagged, next_place_of};
 
 use crate::item::Item;
 use join_words::{Given, Ins};
@@ -25,7 +25,7 @@ pub(crate) fn input_along<'i>(
 
 // Whether an edge leads along a pipe, or else along a line.
 fn leads_along(along_pipe: &[bool], edge: u32, pipe: bool) -> bool
-    ensures { result ≡ HasTag along_pipe.now pipe edge }
+    ensures { result ≡ has_tag along_pipe.now pipe edge }
 {
     is_along_pipe(along_pipe, edge) == pipe
 }

