@@ -13,3 +13,4 @@ pub mod TextInside
 pub mod WorkedCells
 pub mod WorkedPipeRuns
 pub mod WorkedTurns
+pub mod WorkedTextPipes
