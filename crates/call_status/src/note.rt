@@ -192,7 +192,7 @@ fn add_graph_error(line: &mut Bytes, error: &GraphError) -> Result<(), NoMemory>
             b" of ",
             *spot,
         ),
-        GraphError::ModuleCycle(name) => add_behind(line, b"module cycle at ", name),
+        GraphError::ModuleCycle(name) => add_behind(line, b"module cycle at ", name.as_slice()),
         GraphError::TooMany(kind) => {
             line.add_all(b"too many ")?;
             line.add_all(plural_of(*kind))
@@ -204,20 +204,26 @@ fn add_graph_error(line: &mut Bytes, error: &GraphError) -> Result<(), NoMemory>
 
 // Adds of which task the pipes are no pipeline, and why.
 fn add_pipe_error(line: &mut Bytes, spot: Spot, why: PipeError) -> Result<(), NoMemory>
-    ensures { OnOk result (line.new ≡ line.old ++ (codes "bad pipe in " ++ spot_text spot ++ codes ": " ++ pipe_error_text why)) }
+    ensures { OnOk result (line.new
+        ≡ line.old ++ (codes "bad pipe in " ++ spot_text spot ++ codes ": " ++ pipe_error_text why)) }
 {
-    line.add_all(b"bad pipe in ")?;
-    add_spot(line, spot)?;
-    line.add_all(b": ")?;
-    line.add_all(pipe_error(why))
+    add_pipe_spot(line, spot)?;
+    add_behind(line, b": ", pipe_error(why))
 }
 
-// Adds a name as it is, behind a text.
-fn add_behind(line: &mut Bytes, before: &[u8], name: &Bytes) -> Result<(), NoMemory>
-    ensures { OnOk result (line.new ≡ line.old ++ (before.now ++ name.now)) }
+fn add_pipe_spot(line: &mut Bytes, spot: Spot) -> Result<(), NoMemory>
+    ensures { OnOk result (line.new ≡ line.old ++ (codes "bad pipe in " ++ spot_text spot)) }
+{
+    line.add_all(b"bad pipe in ")?;
+    add_spot(line, spot)
+}
+
+// Adds a text, and another behind it.
+fn add_behind(line: &mut Bytes, before: &[u8], text: &[u8]) -> Result<(), NoMemory>
+    ensures { OnOk result (line.new ≡ line.old ++ (before.now ++ text.now)) }
 {
     line.add_all(before)?;
-    line.add_all(name.as_slice())
+    line.add_all(text)
 }
 
 // Adds what is wrong with a field, and which field of the file it is.

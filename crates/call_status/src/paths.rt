@@ -40,7 +40,7 @@ fn add_path_from(
     path: &[u32],
 ) -> Result<(), NoMemory>
     ensures { OnOk result (line.new
-        ≡ line.old ++ path_from (map graph_rows modules.now) (among_of among) path.now) }
+        ≡ line.old ++ path_from (map graph_rows modules.now) (among_of among.entry) path.now) }
 {
     match path {
         [] => Ok(()),
@@ -55,7 +55,7 @@ fn add_path_from(
 
 // Adds a task by what it goes by.
 fn add_task(line: &mut Bytes, among: Among<'_>, task: u32) -> Result<(), NoMemory>
-    ensures { OnOk result (line.new ≡ line.old ++ task_text (among_of among) task) }
+    ensures { OnOk result (line.new ≡ line.old ++ task_text (among_of among.entry) task) }
 {
     match among {
         Among::Tasks(graph) => line.add_all(name_of(graph, task)),
@@ -88,7 +88,7 @@ fn name_of(graph: &Graph, task: u32) -> &[u8]
 
 // What a path goes on among behind a task.
 fn among_behind<'p>(modules: &'p [Graph], among: Among<'p>, task: u32) -> Among<'p>
-    ensures { among_of result ≡ among_behind (map graph_rows modules.now) (among_of among) task }
+    ensures { among_of result ≡ among_behind (map graph_rows modules.now) (among_of among.entry) task }
 {
     match among {
         Among::Tasks(graph) => match graph.ops.get(task as usize) {
