@@ -207,14 +207,15 @@ fn add_pipe_error(line: &mut Bytes, spot: Spot, why: PipeError) -> Result<(), No
     ensures { OnOk result (line.new
         ≡ line.old ++ (codes "bad pipe in " ++ spot_text spot ++ codes ": " ++ pipe_error_text why)) }
 {
-    add_pipe_spot(line, spot)?;
+    add_before_spot(line, b"bad pipe in ", spot)?;
     add_behind(line, b": ", pipe_error(why))
 }
 
-fn add_pipe_spot(line: &mut Bytes, spot: Spot) -> Result<(), NoMemory>
-    ensures { OnOk result (line.new ≡ line.old ++ (codes "bad pipe in " ++ spot_text spot)) }
+// Adds a text, and a place in a graph file behind it.
+fn add_before_spot(line: &mut Bytes, before: &[u8], spot: Spot) -> Result<(), NoMemory>
+    ensures { OnOk result (line.new ≡ line.old ++ (before.now ++ spot_text spot)) }
 {
-    line.add_all(b"bad pipe in ")?;
+    line.add_all(before)?;
     add_spot(line, spot)
 }
 
