@@ -57,17 +57,11 @@ enters_runs work op place (Unmet k) inner same = cc
 
 pub cell_runs : (work : PipeWork) (t : ℕ) (found : List (InputValue Item)) (op : Option LineOp) (inner : TextJob) → option_map (cell_meaning work t found) op ≡ Some (runs inner) → ⊥
 cell_runs work t found None inner same = none-some _ same
-cell_runs work t found (Some op) inner same = by_pipe (pipe_of work t == 0) (same_Some _ _ same)
+cell_runs work t found (Some op) inner same = by_pipe (pipe_of work t == 0) _ _ _ _ _ (same_Some _ _ same)
   where
-    abbrev place : ℕ
-    place = next_place (pipeline_of work) (pipe_input (pipeline_of work) t found)
-
-    abbrev along : InputValue Item
-    along = line_input (pipeline_of work) t found
-
-    by_pipe : (b : Bool) → cond b (enters work op place (passed_at work.order place)) (goes_on op (token_in (pipeline_of work) along) (place_in along) (found_text along)) ≡ runs inner → ⊥
-    by_pipe true is = enters_runs work op place (passed_at work.order place) inner is
-    by_pipe false is = cc
+    by_pipe : (b : Bool) (place : ℕ) (passed : Passed) (token before : ℕ) (text : List ℕ) → cond b (enters work op place passed) (goes_on op token before text) ≡ runs inner → ⊥
+    by_pipe true place passed token before text is = enters_runs work op place passed inner is
+    by_pipe false place passed token before text is = cc
 
 -- the meaning of a pipeline's job allows that answer alone
 pub allows_cells : (work : PipeWork) → AllowsOne text_job (Pipe work) (cell_answer work)

@@ -21,6 +21,7 @@ use Rattle.journal_rules.specs.declared.entry.Why.TheVariants.{Long, Wide, Unmet
 use Rattle.join_words.specs.Ins.{InputValue}
 use Rattle.run_frame.specs.declared.job.Answer.{Answer}
 use Rattle.run_frame.specs.declared.job.Answer.TheVariants.{All as Each}
+use Rattle.run_frame.specs.declared.job.Done.{Done}
 use Rattle.run_frame.specs.declared.job.Done.TheVariants.{Value, Inner as InnerJob}
 use Rattle.run_frame.specs.declared.run.FrameRun.{FrameRun}
 use Rattle.run_frame.specs.LastEnds.{last_value}
@@ -117,8 +118,12 @@ value_done (runs inner) item answer is = absurd is
 value_done (too_wide parts) item answer is = absurd is
 value_done (never_passes token) item answer is = absurd is
 
-long_done : (text : List ℕ) (item : Item) (chosen : Answer) (why : Why) → FaultsLong text why → cond (nat_le (length text) value_limit) (Some (Value {J = TextJob} item chosen)) None ≡ None
-long_done text item chosen (Long n) is = ap (λ b. cond b (Some (Value item chosen)) None) (long_test text n is.0 is.1)
+-- a value, where its text isn't too long
+abbrev finished : List ℕ → Item → Answer → Option (Done TextJob Item)
+finished text item chosen = cond (nat_le (length text) value_limit) (Some (Value item chosen)) None
+
+long_done : (text : List ℕ) (item : Item) (chosen : Answer) (why : Why) → FaultsLong text why → finished text item chosen ≡ None
+long_done text item chosen (Long n) is = ap (λ b. cond {A = Option (Done TextJob Item)} b (Some (Value item chosen)) None) (long_test text n is.0 is.1)
 long_done text item chosen (Wide n) is = absurd is
 long_done text item chosen (Unmet k) is = absurd is
 long_done text item chosen Inner is = absurd is
