@@ -2,6 +2,7 @@
 use Rattle.std.proofs.Common.{◌≡◌, ℕ, zero, suc, ◌+◌, ◌*◌, ◌%◌, ◌<◌, ◌≤◌, ◌==◌, Bool, true, false, cond, List, [], length, Option, Some, None, sym, refl, ap, ◌∙◌, subst, arith}
 use Rattle.std.specs.Prelude.{nat_le, slice_get, slice_index_or}
 use Rattle.std.specs.Option.{option_and_then, option_map}
+use Rattle.std.proofs.lemmas.Bool.Decides.{nat_tests}
 use Rattle.std.proofs.lemmas.Nat.{mod-mul-add}
 use Rattle.std.proofs.lemmas.Option.{none-some, same_Some, slice_get-get_or, slice_get_within}
 use Rattle.task_graph.specs.NetRows.{NetRows}
@@ -130,10 +131,12 @@ module _ (work : PipeWork) (is : IsPipeWork work) (l p : ℕ) (low : p < length 
   going = goes_on op (token_in (pipeline_of work) along) (place_in along) (found_text along)
 
   at_first : pipe_of work t ≡ 0 → cell_meaning work t found op ≡ entering (passed_at work.order place)
-  at_first first = ap (λ q. cond (q == 0) (entering (passed_at work.order place)) going) first
+  at_first first = ap (λ q. cond {A = OpMeaning} (q == 0) (entering (passed_at work.order place)) going) first
 
   further : (q : ℕ) → pipe_of work t ≡ suc q → cell_meaning work t found op ≡ going
-  further q more = ap (λ r. cond (r == 0) (entering (passed_at work.order place)) going) more
+  further q more =
+      let no : (suc q == 0) ≡ false = grind (arith, nat_tests) in
+      ap (λ r. cond {A = OpMeaning} (r == 0) (entering (passed_at work.order place)) going) more ∙ ap (λ b. cond {A = OpMeaning} b (entering (passed_at work.order place)) going) no
 
   -- a cell that enters has its place, and gives what goes with what passes
   record Entered (passed : Passed) (end : TaskEnd Item) : Type 0 where
