@@ -107,7 +107,7 @@ module _ (work : PipeWork) (is : IsPipeWork work) (l p : ℕ) (low : p < length 
   along = line_input (pipeline_of work) t found
 
   its_pipe : pipe_of work t ≡ p
-  its_pipe = mod-mul-add (length work.spec.serial) l p low
+  its_pipe = mod-mul-add l (length work.spec.serial) p low
 
   -- the operation of its pipe, and what the cell does
   abbrev op : LineOp
@@ -139,10 +139,10 @@ module _ (work : PipeWork) (is : IsPipeWork work) (l p : ℕ) (low : p < length 
       ap (λ r. cond {A = OpMeaning} (r == 0) (entering (passed_at work.order place)) going) more ∙ ap (λ b. cond {A = OpMeaning} b (entering (passed_at work.order place)) going) no
 
   -- a cell that enters has its place, and gives what goes with what passes
-  record Entered (passed : Passed) (end : TaskEnd Item) : Type 0 where
-    place_is : item_place end.value ≡ place
-    token_is : (k : ℕ) → passed ≡ Token k → item_token end.value ≡ k
-    gives_is : end.gives ≡ edges_for passed (out_edges net t)
+  pub record Entered (passed : Passed) (end : TaskEnd Item) : Type 0 where
+    pub place_is : item_place end.value ≡ place
+    pub token_is : (k : ℕ) → passed ≡ Token k → item_token end.value ≡ k
+    pub gives_is : end.gives ≡ edges_for passed (out_edges net t)
 
   entered : (passed : Passed) (end : TaskEnd Item) → Answers (entering passed) end → Entered passed end
   entered (Token k) end given =

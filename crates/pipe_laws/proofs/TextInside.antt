@@ -60,11 +60,11 @@ use Rattle.pipe_laws.proofs.TextCells.{allows_cells, are_cells, cell_answer, cel
 -- no more tokens pass than there are
 pub passes_few : (tokens : ℕ) (rows : List DeferRow) (n : ℕ) (passed : List ℕ) → length (passes tokens rows n passed) ≤ length passed + n
 passes_few tokens rows zero passed = omega arith
-passes_few tokens rows (suc n) passed = by_next (next_token tokens rows passed)
+passes_few tokens rows (suc n) passed = by_next (passes_few tokens rows n) (next_token tokens rows passed)
   where
-    by_next : (o : Option ℕ) → length (elim o [ None ↦ passed | Some k ↦ passes tokens rows n (passed ++ k ∷ []) ]) ≤ length passed + suc n
-    by_next None = omega arith
-    by_next (Some k) = omega (arith, passes_few tokens rows n (passed ++ k ∷ []), length_push passed k)
+    by_next : ((ks : List ℕ) → length (passes tokens rows n ks) ≤ length ks + n) → (o : Option ℕ) → length (elim o [ None ↦ passed | Some k ↦ passes tokens rows n (passed ++ k ∷ []) ]) ≤ length passed + suc n
+    by_next later None = omega arith
+    by_next later (Some k) = omega (arith, later (passed ++ k ∷ []), length_push passed k)
 
 -- A graph is one of a plan's, and a pipeline is one.
 abbrev IsOfPlan : TextJob → Type 0
@@ -135,22 +135,22 @@ legal_rows_fit meaning (FrameRun' job journal values shape rows) legal = legal.1
 -- a run inside stands at one of the places of such runs
 has_place : {J V : Type 0} (rows : List (InnerRow J V)) (n : ℕ) (inner : FrameRun J V) → inner_in rows n ≡ Some inner → (k : ℕ) × (slice_get (map (λ row. (out-InnerRow J V row).place) rows) k ≡ Some n)
 has_place [] n inner is = absurd (none-some _ is)
-has_place {J} {V} (row ∷ rows) n inner is = by_place ((out-InnerRow J V row).place == n) refl is
+has_place {J} {V} (row ∷ rows) n inner is = by_place (has_place rows n inner) ((out-InnerRow J V row).place == n) refl is
   where
-    by_place : (b : Bool) → ((out-InnerRow J V row).place == n) ≡ b → cond b (Some (out-InnerRow J V row).run) (inner_in rows n) ≡ Some inner
-        → (k : ℕ) × (slice_get (map (λ r. (out-InnerRow J V r).place) (row ∷ rows)) k ≡ Some n)
-    by_place true same is2 = let here : (out-InnerRow J V row).place ≡ n = grind (arith, nat_tests) in (0, ap Some here)
-    by_place false same is2 = let rest = has_place rows n inner is2 in (suc rest.0, rest.1)
+    by_place : (inner_in rows n ≡ Some inner → (k : ℕ) × (slice_get (map (λ r. (out-InnerRow J V r).place) rows) k ≡ Some n)) → (b : Bool) → ((out-InnerRow J V row).place == n) ≡ b
+        → cond b (Some (out-InnerRow J V row).run) (inner_in rows n) ≡ Some inner → (k : ℕ) × (slice_get (map (λ r. (out-InnerRow J V r).place) (row ∷ rows)) k ≡ Some n)
+    by_place later true same is2 = let here : (out-InnerRow J V row).place ≡ n = grind (arith, nat_tests) in (0, ap Some here)
+    by_place later false same is2 = let rest = later is2 in (suc rest.0, rest.1)
 
 module _ {J V : Type 0} (meaning : Meaning J V) (run : FrameRun J V) (legal : Legal meaning run) where
   abbrev values : List (ValueRow V)
   values = values_of run
 
   -- the run is of a job that some task answered
-  record Answered (inner : FrameRun J V) : Type 0 where
-    task : ℕ
-    found : List (InputValue V)
-    answered : meaning.answers (job_of run) task found (InnerJob (job_of inner))
+  pub record Answered (inner : FrameRun J V) : Type 0 where
+    pub task : ℕ
+    pub found : List (InputValue V)
+    pub answered : meaning.answers (job_of run) task found (InnerJob (job_of inner))
 
   some_work : (inner : FrameRun J V) (o : Option (Work V)) → IsSomeAnd o (λ w. IsInnerOf meaning (job_of run) w inner) → Answered inner
   some_work inner None is = absurd is
@@ -220,15 +220,16 @@ inside : (run : FrameRun TextJob Item) → IsOfPlan (job_of run) → Sound run �
 inside run of sound [] inner at =
     let same : run ≡ inner = same_Some _ _ at in
     subst (λ r. KeepsOrder (job_of r) r) same (keeps_here run (job_of run) refl of sound)
-inside run of sound (n ∷ path) inner at = by_run (inner_at run n) refl at
+inside run of sound (n ∷ path) inner at = by_run (λ next of_next sound_next is. inside next of_next sound_next path inner is) (inner_at run n) refl at
   where
-    by_run : (o : Option (FrameRun TextJob Item)) → inner_at run n ≡ o → option_and_then (λ r. run_at r path) o ≡ Some inner → KeepsOrder (job_of inner) inner
-    by_run None here is = absurd (none-some _ is)
-    by_run (Some next) here is =
+    by_run : ((next : FrameRun TextJob Item) → IsOfPlan (job_of next) → Sound next → run_at next path ≡ Some inner → KeepsOrder (job_of inner) inner)
+        → (o : Option (FrameRun TextJob Item)) → inner_at run n ≡ o → option_and_then (λ r. run_at r path) o ≡ Some inner → KeepsOrder (job_of inner) inner
+    by_run later None here is = absurd (none-some _ is)
+    by_run later (Some next) here is =
         let answered = inner_answered text_job run sound.0 n next here in
         let of_next : IsOfPlan (job_of next) =
         runs_of_plan (job_of run) answered.task answered.found (job_of next) of (inner_at_task (task_meaning (job_of run) answered.task answered.found) (job_of next) answered.answered) in
-        inside next of_next (inner_sound text_job run sound.0 n next here) path inner is
+        later next of_next (inner_sound text_job run sound.0 n next here) is
 
 -- a job of a plan's top graph is one of a plan
 planned_of : (job : TextJob) → IsPlanned job → IsOfPlan job
