@@ -62,7 +62,7 @@ pub passes_few : (tokens : ℕ) (rows : List DeferRow) (n : ℕ) (passed : List 
 passes_few tokens rows zero passed = omega arith
 passes_few tokens rows (suc n) passed = by_next (passes_few tokens rows n) (next_token tokens rows passed)
   where
-    by_next : ((ks : List ℕ) → length (passes tokens rows n ks) ≤ length ks + n) → (o : Option ℕ) → length (elim o [ None ↦ passed | Some k ↦ passes tokens rows n (passed ++ k ∷ []) ]) ≤ length passed + suc n
+    by_next : ((ks : List ℕ) → length (passes tokens rows n ks) ≤ length ks + n) → (o : Option ℕ) → length {A = ℕ} (elim o [ None ↦ passed | Some k ↦ passes tokens rows n (passed ++ k ∷ []) ]) ≤ length passed + suc n
     by_next later None = omega arith
     by_next later (Some k) = omega (arith, later (passed ++ k ∷ []), length_push passed k)
 
