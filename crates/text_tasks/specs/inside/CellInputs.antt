@@ -5,7 +5,7 @@ use Rattle.join_words.specs.declared.ins.Given.{Given}
 use Rattle.join_words.specs.Ins.{InputValue, value, first, nothing, found_of}
 use Rattle.text_tasks.specs.declared.item.Item.{Item}
 use Rattle.text_tasks.specs.Cells.{input_where}
-use Rattle.text_tasks.specs.Items.{item_place}
+use Rattle.text_tasks.specs.Items.{item_place, item_token}
 
 -- what an input holds, if there is one
 abbrev pub found_or : Option (Given Item) → InputValue Item
@@ -24,3 +24,9 @@ abbrev pub next_place_of : InputValue Item → ℕ
 next_place_of (value item) = min (item_place item + 1) 18446744073709551615
 next_place_of first = 0
 next_place_of nothing = 0
+
+-- the token of an input; without a value token 0
+abbrev pub token_of : InputValue Item → ℕ
+token_of (value item) = item_token item
+token_of first = 0
+token_of nothing = 0
