@@ -1,18 +1,31 @@
 -- What cells find by the tags of the edges.
-use Rattle.std.proofs.Common.{◌≡◌, ℕ, zero, suc, ◌+◌, ◌<◌, Bool, true, false, cond, List, [], ◌∷◌, length, map, drop, get_or, Option, Some, None, refl, sym, ap, ◌∙◌, arith, drop-cons}
-use Rattle.std.specs.Prelude.{slice_get}
+use Rattle.std.proofs.Common.{◌≡◌, ◌≢◌, ℕ, zero, suc, ◌+◌, ◌<◌, Bool, true, false, cond, List, [], ◌∷◌, length, map, drop, get_or, Some, None, refl, sym, ap, subst, ◌∙◌, arith, drop-cons}
+use Rattle.std.specs.Prelude.{◌==◌, Result, IsSomeAnd, slice_get}
+use Rattle.std.specs.Option.{option_map}
+use Rattle.std.proofs.lemmas.Bool.{eqb-true, false_from_ne_true}
+use Rattle.std.proofs.lemmas.Option.{slice_get-get_or}
 use Rattle.task_graph.specs.Net.{strong_in}
 use Rattle.join_words.specs.Ins.{InputValue, value, first, nothing, found_of}
 use Rattle.join_words.specs.declared.ins.Given.{Given}
+use Rattle.run_frame.specs.declared.job.Done.{Done}
+use Rattle.graph_plans.specs.declared.pipes.LineOp.{LineOp}
+use Rattle.pipe_lines.specs.Orders.{passed_at}
 use Rattle.pipe_lines.specs.PipeNet.{along_pipes, pipe_net}
 use Rattle.text_tasks.specs.declared.item.Item.{Item}
+use Rattle.text_tasks.specs.declared.job.TextJob.{TextJob}
+use Rattle.text_tasks.specs.declared.job.TextJob.TheVariants.{Pipe}
+use Rattle.text_tasks.specs.declared.task_error.TaskError.{TaskError}
+use Rattle.text_tasks.specs.CellMeaning.{cell_meaning, enters, goes_on, pipe_of, place_in}
+use Rattle.text_tasks.specs.FoundTexts.{found_text}
+use Rattle.text_tasks.specs.OpMeaning.{OpMeaning}
 use Rattle.text_tasks.specs.Cells.{along_pipe, input_where, line_input, next_place, pipe_input, token_in}
 use Rattle.text_tasks.specs.PipeWork.{PipeWork, pipeline_of}
-use Rattle.text_tasks.specs.inside.CellInputs.{found_or, has_tag, input_tagged, next_place_of, token_of}
+use Rattle.text_tasks.specs.inside.CellInputs.{found_or, input_tagged, next_place_of, token_of}
+use Rattle.text_tasks.specs.inside.Working.{DoesAs, TaskDoes}
 
 -- The first input at an edge that passes is at hand, or the walk goes on.
 module _ (p : ℕ → Bool) (edges : List ℕ) (inputs : List (Given Item)) (i : ℕ) (below : i < length edges) where
-  edge : ℕ
+  abbrev edge : ℕ
   edge = get_or edges i 0
 
   split : drop i edges ≡ edge ∷ drop (suc i) edges
@@ -65,3 +78,51 @@ pub token_is : (work : PipeWork) (input : InputValue Item) → token_of input �
 token_is work (value item) = refl
 token_is work first = refl
 token_is work nothing = refl
+
+-- ---- what cells do
+
+-- where there is no part there is the empty text
+pub missing_part : (parts : List (List ℕ)) (number : ℕ) → slice_get parts number ≡ None → get_or parts number [] ≡ []
+missing_part [] number none = refl
+missing_part (part ∷ parts) zero none = cc
+missing_part (part ∷ parts) (suc number) none = missing_part parts number none
+
+is_later : (pipe : ℕ) → pipe ≢ 0 → (pipe == 0) ≡ false
+is_later pipe later = false_from_ne_true (pipe == 0) (λ is. later (eqb-true pipe 0 is))
+
+-- the operation that stands at a cell's pipe
+pub op_at : (work : PipeWork) (task : ℕ) (ops : List LineOp) (pipe : ℕ) (op : LineOp) → ops ≡ work.ops → pipe ≡ pipe_of work task → pipe < length work.ops → op ≡ get_or ops pipe op → slice_get work.ops (pipe_of work task) ≡ Some op
+op_at work task ops pipe op are at below is =
+    subst (λ p. slice_get work.ops p ≡ Some op) at
+    (slice_get-get_or work.ops pipe op below ∙ ap Some (sym (is ∙ ap (λ l. get_or l pipe op) are)))
+
+of_first : (test : Bool) (m n : OpMeaning) (result : Result (Done TextJob Item) TaskError) → test ≡ true → DoesAs m result → DoesAs (cond test m n) result
+of_first test m n result is does = subst (λ b. DoesAs (cond b m n) result) (sym is) does
+
+of_later : (test : Bool) (m n : OpMeaning) (result : Result (Done TextJob Item) TaskError) → test ≡ false → DoesAs n result → DoesAs (cond test m n) result
+of_later test m n result is does = subst (λ b. DoesAs (cond b m n) result) (sym is) does
+
+-- A cell does what its pipe's operation says.
+module _ (work : PipeWork) (task : ℕ) (found : List (InputValue Item)) (op : LineOp) (result : Result (Done TextJob Item) TaskError) (there : slice_get work.ops (pipe_of work task) ≡ Some op) where
+  by_cell : DoesAs (cell_meaning work task found op) result → TaskDoes (Pipe work) task found result
+  by_cell does = subst (λ o. IsSomeAnd (option_map (cell_meaning work task found) o) (λ meaning. DoesAs meaning result)) (sym there) does
+
+  entering : ℕ → OpMeaning
+  entering place = enters work op place (passed_at work.order place)
+
+  going_on : InputValue Item → OpMeaning
+  going_on input = goes_on op (token_in (pipeline_of work) input) (place_in input) (found_text input)
+
+  -- in the first pipe it meets what the order has at its place
+  pub first_cell_does : (place : ℕ) → pipe_of work task ≡ 0 → place ≡ next_place (pipeline_of work) (pipe_input (pipeline_of work) task found) → DoesAs (enters work op place (passed_at work.order place)) result → TaskDoes (Pipe work) task found result
+  unfolding entering going_on
+  first_cell_does place is_first at does =
+      by_cell (of_first (pipe_of work task == 0) (entering (next_place (pipeline_of work) (pipe_input (pipeline_of work) task found))) (going_on (line_input (pipeline_of work) task found)) result (ap (λ pipe. pipe == 0) is_first)
+      (subst (λ n. DoesAs (entering n) result) at does))
+
+  -- in the others it goes on with what came along its line
+  pub later_cell_does : (input : InputValue Item) → pipe_of work task ≢ 0 → input ≡ line_input (pipeline_of work) task found → DoesAs (goes_on op (token_of input) (place_in input) (found_text input)) result → TaskDoes (Pipe work) task found result
+  unfolding entering going_on
+  later_cell_does input later is does =
+      by_cell (of_later (pipe_of work task == 0) (entering (next_place (pipeline_of work) (pipe_input (pipeline_of work) task found))) (going_on (line_input (pipeline_of work) task found)) result (is_later (pipe_of work task) later)
+      (subst (λ i. DoesAs (going_on i) result) is (subst (λ token. DoesAs (goes_on op token (place_in input) (found_text input)) result) (token_is work input) does)))

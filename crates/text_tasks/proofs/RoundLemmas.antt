@@ -1,5 +1,5 @@
 -- What a run hands to the next round may be a value.
-use Rattle.std.proofs.Common.{◌≡◌, ℕ, ◌≤◌, List, [], length, Option, Some, None, arith, refl, subst, sym}
+use Rattle.std.proofs.Common.{ℕ, ◌≤◌, List, [], length, Option, Some, None, arith, subst, sym}
 use Rattle.std.specs.Prelude.{IfSome, IsSomeAnd}
 use Rattle.std.specs.Option.{option_map_or, option_and_then}
 use Rattle.join_words.specs.Ins.{InputValue}

@@ -1,6 +1,6 @@
 -- What operations make of what is found.
-use Rattle.std.proofs.Common.{◌≡◌, ℕ, suc, ◌+◌, ◌<◌, ℤ, pos, Bool, true, false, cond, List, [], ◌∷◌, ◌++◌, length, map, drop, get_or, Some, None, sym, ap, ◌∙◌, arith, drop-cons, append_assoc}
-use Rattle.std.specs.Prelude.{◌≢◌, if◌then◌else◌, filter}
+use Rattle.std.proofs.Common.{◌≡◌, ℕ, suc, ◌+◌, ◌<◌, ℤ, pos, Bool, true, false, cond, List, [], ◌∷◌, ◌++◌, length, map, drop, get_or, Some, sym, ap, ◌∙◌, arith, drop-cons, append_assoc}
+use Rattle.std.specs.Prelude.{◌≢◌, if◌then◌else◌}
 use Rattle.task_graph.specs.NetRows.{NetRows}
 use Rattle.task_graph.specs.Places.{places_from}
 use Rattle.text_ops.specs.declared.gathered.ApplyError.{ApplyError}

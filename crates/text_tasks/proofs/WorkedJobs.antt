@@ -32,7 +32,7 @@ use Rattle.text_tasks.specs.GraphWork.{GraphWork, IsWork, first_work, graph_in, 
 use Rattle.text_tasks.specs.PartsWork.{IsPartsWork, PartsWork}
 use Rattle.text_tasks.specs.FoundTexts.{found_text, text_found, left_found, right_found}
 use Rattle.text_tasks.specs.OpMeaning.{hands_over, has_more, module_meaning, occurring, op_meaning, runs, spread_meaning, text_op_value, too_wide}
-use Rattle.text_tasks.specs.JobMeaning.{AnswersAs, FaultsAs, FaultsLong, FaultsWide, JobAnswers, JobFaults, JobFollows, IsTextJob, feedback_of, gathered_text, job_plan, limit_of, names_of, net_of, task_meaning, text_gathered, text_job}
+use Rattle.text_tasks.specs.JobMeaning.{AnswersAs, FaultsAs, FaultsWide, JobAnswers, JobFaults, JobFollows, IsTextJob, feedback_of, gathered_text, job_plan, limit_of, names_of, net_of, task_meaning, text_gathered, text_job}
 use Rattle.text_tasks.specs.Sinks.{is_sink, last_sink, last_sink_below, sink_text, sink_texts, task_values}
 use Rattle.text_tasks.specs.inside.WorkedPlans.{worked_module, worked_modules, worked_net, worked_plan, worked_texts, worked_work}
 use Rattle.text_tasks.proofs.PlanLemmas.{worked_is_work}

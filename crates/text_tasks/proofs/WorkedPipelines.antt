@@ -1,41 +1,38 @@
 -- The definitions of jobs of pipelines, computed on a small one.
-use Rattle.std.proofs.Common.{◌≡◌, ℕ, true, false, List, [], ◌∷◌, length, Option, Some, None, refl, arith, codes, ap}
-use Rattle.std.specs.Prelude.{nat_le, if◌then◌else◌, replicate}
+use Rattle.std.proofs.Common.{◌≡◌, ℕ, true, false, List, [], ◌∷◌, length, Some, None, refl, arith, codes, ap}
+use Rattle.std.specs.Prelude.{nat_le, if◌then◌else◌}
 use Rattle.std.specs.Int.{div_ceil}
 use Rattle.std.specs.Fmt.{digits}
 use Rattle.std.specs.Ptr.{Ptr}
 use Rattle.task_graph.specs.Net.{strong_in}
 use Rattle.journal_rules.specs.declared.entry.Cause.TheVariants.{Strong}
 use Rattle.journal_rules.specs.declared.entry.Entry.{Entry}
-use Rattle.journal_rules.specs.declared.entry.Entry.TheVariants.{Start, End, Fault}
+use Rattle.journal_rules.specs.declared.entry.Entry.TheVariants.{Start, End}
 use Rattle.journal_rules.specs.declared.entry.Why.TheVariants.{Long, Wide, Unmet as UnmetWhy, Inner, OverRelease}
 use Rattle.join_words.specs.Ins.{InputValue, value, first, nothing}
 use Rattle.run_frame.specs.declared.job.Answer.TheVariants.{All as Each, None as NoneOf}
 use Rattle.run_frame.specs.declared.job.Done.TheVariants.{Value, Inner as InnerJob}
 use Rattle.run_frame.specs.declared.run.ValueRow.{ValueRow}
 use Rattle.run_frame.specs.declared.run.FrameRun.{FrameRun}
-use Rattle.run_frame.specs.NestedRule.{job_of, journal_of}
+use Rattle.run_frame.specs.NestedRule.{journal_of}
 use Rattle.run_frame.specs.Runs.{values_of}
 use Rattle.graph_plans.specs.declared.ops.Op.TheVariants.{Match, Pipe as PipeOp}
 use Rattle.graph_plans.specs.declared.ops.TextOp.TheVariants.{Pass, Without}
-use Rattle.graph_plans.specs.declared.pipes.LineOp.{LineOp}
 use Rattle.graph_plans.specs.declared.pipes.LineOp.TheVariants.{Text as LineText, Number, Stamp}
 use Rattle.graph_plans.specs.declared.pipes.PipePlan.{PipePlan}
-use Rattle.pipe_lines.specs.declared.order.Order.{Order}
 use Rattle.pipe_lines.specs.declared.order.Passed.TheVariants.{Token, Stop, Unmet}
 use Rattle.pipe_lines.specs.declared.pipeline.PipeSpec.{PipeSpec}
 use Rattle.pipe_lines.specs.PipeNet.{pipe_net}
-use Rattle.text_ops.specs.LineParts.{line_parts}
 use Rattle.text_ops.specs.Lines.{lines_of}
 use Rattle.text_tasks.specs.declared.item.CellItem.{CellItem}
 use Rattle.text_tasks.specs.declared.item.Item.{Item}
 use Rattle.text_tasks.specs.declared.item.Item.TheVariants.{Text, Cell}
 use Rattle.text_tasks.specs.declared.job.TextJob.{TextJob}
-use Rattle.text_tasks.specs.declared.job.TextJob.TheVariants.{Graph, Pipe}
+use Rattle.text_tasks.specs.declared.job.TextJob.TheVariants.{Pipe}
 use Rattle.text_tasks.specs.Items.{item_place, item_text, item_token}
 use Rattle.text_tasks.specs.Cells.{along_pipe, cell_task, edges_for, input_where, line_input, meets, next_place, pipe_input, pipeline_net, token_in}
 use Rattle.text_tasks.specs.PipeWork.{IsPipeWork, PipeWork, order_of, pipe_work, pipeline_of}
-use Rattle.text_tasks.specs.OpMeaning.{hands_over, moves_on, never_passes, op_meaning, pipe_meaning, runs, too_wide}
+use Rattle.text_tasks.specs.OpMeaning.{moves_on, never_passes, op_meaning, pipe_meaning, runs, too_wide}
 use Rattle.text_tasks.specs.CellMeaning.{cell_meaning, enters, goes_on, line_op_value, pipe_of, place_in}
 use Rattle.text_tasks.specs.PipeEnds.{ends_token, in_last_pipe, pipe_text, text_at_place, token_end_before}
 use Rattle.text_tasks.specs.JobMeaning.{AnswersAs, FaultsAs, FaultsUnmet, IsGraphJob, IsTextJob, JobAnswers, JobFaults, JobFollows, job_plan, limit_of, names_of, net_of, task_meaning, text_gathered, text_job}

@@ -20,12 +20,11 @@ use Rattle.graph_plans.specs.declared.ops.Op.{Op}
 use Rattle.graph_plans.specs.declared.ops.Op.TheVariants.{Input, Read, Text, Match, Back, IfMore, IfHas, Route, Spread, Module, Pipe as PipeOp}
 use Rattle.graph_plans.specs.declared.pipes.LineOp.{LineOp}
 use Rattle.graph_plans.specs.Operations.{shape_of}
-use Rattle.graph_plans.specs.PlanRows.{GraphRows, IsGraph, IsPlan, PlanRows}
+use Rattle.graph_plans.specs.PlanRows.{IsGraph, IsPlan, PlanRows}
 use Rattle.nested_runs.specs.Spreads.{part_limit, part_row}
 use Rattle.pipe_lines.specs.declared.order.Passed.{Passed}
 use Rattle.pipe_lines.specs.declared.order.Passed.TheVariants.{Token, Stop, Unmet as UnmetToken}
 use Rattle.pipe_lines.specs.DeferRows.{token_limit}
-use Rattle.pipe_lines.specs.Orders.{passed_at}
 use Rattle.pipe_lines.specs.PipeNet.{cell_row}
 use Rattle.text_ops.specs.LineParts.{part_count}
 use Rattle.text_ops.specs.TextMeaning.{has_word}
@@ -37,9 +36,8 @@ use Rattle.text_tasks.specs.declared.job.TextJob.TheVariants.{Graph, Parts, Pipe
 use Rattle.text_tasks.specs.GraphWork.{GraphWork, IsWork, graph_in, graph_of}
 use Rattle.text_tasks.specs.PartsWork.{PartsWork}
 use Rattle.text_tasks.specs.PipeWork.{PipeWork}
-use Rattle.text_tasks.specs.Cells.{line_input, next_place, pipe_input, token_in}
-use Rattle.text_tasks.specs.CellMeaning.{cell_meaning, enters, goes_on, pipe_of, place_in}
-use Rattle.text_tasks.specs.FoundTexts.{found_text, text_found}
+use Rattle.text_tasks.specs.CellMeaning.{cell_meaning, enters, goes_on, pipe_of}
+use Rattle.text_tasks.specs.FoundTexts.{text_found}
 use Rattle.text_tasks.specs.OpMeaning.{OpMeaning, hands_over, moves_on, never_passes, runs, too_wide, op_meaning, first_one, second_one, has_more, text_op_value}
 use Rattle.text_tasks.specs.JobMeaning.{AnswersAs, FaultsAs, FaultsLong, FaultsUnmet, FaultsWide, JobAnswers, JobFaults, IsTextJob, net_of, task_meaning, text_job}
 

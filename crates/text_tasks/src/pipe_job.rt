@@ -60,7 +60,8 @@ impl Model for PipeJob {
 }
 
 impl PipeJob {
-    ghost use Rattle.text_tasks.specs.PipeWork.{IsPipeWork};
+    ghost use Rattle.text_tasks.specs.PipeWork.{IsPipeWork, pipeline_of};
+    ghost use Rattle.text_tasks.specs.Cells.{line_input, pipe_input};
     ghost use Rattle.text_tasks.specs.CellMeaning.{pipe_of};
     ghost use Rattle.text_tasks.specs.inside.Working.{TaskDoes};
 
@@ -91,16 +92,41 @@ impl PipeJob {
         requires { IsRelease (net_of (TextJob.Pipe self.now)) task (length (parts_of ins.now)) }
         ensures { TaskDoes (TextJob.Pipe self.now) task (founds ins.now) result }
     {
-        let along_pipe = self.along_pipe.as_slice();
-        let edges = self.net.strong_in(task);
         let pipe = self.pipe_of(task);
         let op = &self.ops.as_slice()[pipe];
         if pipe == 0 {
-            let place = next_place(input_along(along_pipe, edges, ins, true));
-            self.enter(alloc, op, place)
+            self.enter(alloc, op, next_place(self.pipe_input(task, ins)))
         } else {
-            go_along(alloc, op, input_along(along_pipe, edges, ins, false))
+            go_along(alloc, op, self.line_input(task, ins))
         }
+    }
+
+    // What a cell finds along its pipe.
+    fn pipe_input<'i>(&self, task: u32, ins: &'i Ins<Item>) -> Option<&'i Given<Item>>
+        requires { task < length (net_of (TextJob.Pipe self.now)).tasks }
+        ensures { found_or (option_copied result)
+            ≡ pipe_input (pipeline_of self.now) task (founds ins.now) }
+    {
+        input_along(
+            self.along_pipe.as_slice(),
+            self.net.strong_in(task),
+            ins,
+            true,
+        )
+    }
+
+    // What it finds along its line.
+    fn line_input<'i>(&self, task: u32, ins: &'i Ins<Item>) -> Option<&'i Given<Item>>
+        requires { task < length (net_of (TextJob.Pipe self.now)).tasks }
+        ensures { found_or (option_copied result)
+            ≡ line_input (pipeline_of self.now) task (founds ins.now) }
+    {
+        input_along(
+            self.along_pipe.as_slice(),
+            self.net.strong_in(task),
+            ins,
+            false,
+        )
     }
 
     // The pipe of a cell.

@@ -1,4 +1,4 @@
-use Rattle.std.proofs.Common.{◌≡◌, ◌+◌, ℕ, List, ◌++◌, drop, get_or, sym, ap, ◌∙◌}
+use Rattle.std.proofs.Common.{◌+◌, ℕ, List, ◌++◌, drop, sym, ap, ◌∙◌}
 use Rattle.text_tasks.specs.inside.Gathering.{all_of}
 use Rattle.text_tasks.proofs.GatherLemmas.{all_of-next}
 use Rattle.text_tasks.proofs.OneByOneLemmas.{JoinedSoFar-step}
