@@ -271,8 +271,8 @@ cells_of_the_last_pipe = (refl, refl, refl, refl)
 abbrev at : Ptr → ℕ → ℕ → List ℕ → ValueRow Item
 at ptr place token_place text = record { place = place; value = record { ptr = ptr; value = Cell (item 0 token_place text) } }
 
--- The last pipe's cells end with the tokens at the places 1, 0 and 2; the last End, of another pipe, doesn't count, nor does one
--- without a value.
+-- The last pipe's cells end with the tokens at the places 1, 0 and 2. The End of another pipe doesn't count, nor does
+-- one without a value.
 abbrev ends : List Entry
 ends = Start 5 Strong [] ∷ End 0 [] false ∷ Start 2 Strong [] ∷ End 2 [] false ∷ Start 5 Strong [] ∷ End 4 [] false ∷ Start 1 Strong [] ∷ End 6 [] false ∷ Start 2 Strong [] ∷ End 8 [] false ∷ []
 
