@@ -1,7 +1,8 @@
 // What a cell of a pipeline finds along its line and along its pipe.
 ghost use Rattle.std.specs.Prelude.{◌≡◌, false, slice_index_or};
+ghost use Rattle.std.specs.Option.{option_copied};
 ghost use Rattle.text_tasks.specs.inside.Finding.{founds};
-ghost use Rattle.text_tasks.specs.inside.CellInputs.{has_tag, found_or, input_tagged, next_place_of};
+ghost use Rattle.text_tasks.specs.inside.CellInputs.{found_or, has_tag, input_tagged, next_place_of};
 
 use crate::item::Item;
 use join_words::{Given, Ins};
@@ -13,7 +14,8 @@ pub(crate) fn input_along<'i>(
     ins: &'i Ins<Item>,
     pipe: bool,
 ) -> Option<&'i Given<Item>>
-    ensures { found_or result ≡ input_tagged along_pipe.now pipe edges.now (founds ins.now) }
+    ensures { found_or (option_copied result)
+        ≡ input_tagged along_pipe.now pipe edges.now (founds ins.now) }
 {
     for place in 0..edges.len() {
         if leads_along(along_pipe, edges[place], pipe) {
@@ -42,7 +44,7 @@ fn is_along_pipe(along_pipe: &[bool], edge: u32) -> bool
 
 // The place after that of an input, the first one without a value. It stays at the greatest u64.
 pub(crate) fn next_place(input: Option<&Given<Item>>) -> u64
-    ensures { result ≡ next_place_of (found_or input.entry) }
+    ensures { result ≡ next_place_of (found_or (option_copied input.entry)) }
 {
     match input {
         Some(Given::Value(_, item)) => item.place().saturating_add(1),

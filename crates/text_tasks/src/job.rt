@@ -35,8 +35,7 @@ pub enum TextJob {
 impl TextJob {
     ghost use Rattle.text_tasks.specs.JobMeaning.{names_of, IsTextJob};
 
-    /// The names of the tasks, by their numbers in the net. Those of parts and of cells have
-    /// none.
+    /// The names of the tasks, by their numbers in the net. Those of parts and of cells have none.
     pub fn names(&self) -> &[Bytes]
         ensures names { result.now ≡ names_of self.now }
         ensures work { IsTextJob self.now }
@@ -109,9 +108,9 @@ impl Job for TextJob {
     }
 
     /// Does the work of a task's operation. It waits for nothing: a module, a spread and a pipeline are answered with
-    /// the job that is to be run in the task's place. It faults with `Long` where the value, or the text with which a module is
-    /// started, would have more than 16,777,216 bytes, and with `Wide` where a text would have more than 65,536 parts.
-    /// `Long` is found without putting the text together where that is the task's whole text, and `Wide` without
+    /// the job that is to be run in the task's place. It faults with `Long` where the value, or the text with which a
+    /// module is started, would have more than 16,777,216 bytes, and with `Wide` where a text would have more than 65,536
+    /// parts. `Long` is found without putting the text together where that is the task's whole text, and `Wide` without
     /// cutting any part. A cell of the first pipe faults with `Unmet` where no token passes any more and some are left.
     fn run(&self, alloc: Global, task: u32, ins: &Ins<Item>) -> Result<Done<TextJob>, JobError> {
         let done = match self {

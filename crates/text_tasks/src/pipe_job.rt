@@ -1,19 +1,19 @@
 // Jobs of pipelines.
 ghost use Rattle.std.specs.Prelude.{◌≡◌, ◌<◌, ◌≤◌, [], IfOk, length, slice_index_or};
-ghost use Rattle.std.specs.Arc.{arc_value};
+ghost use Rattle.std.specs.Option.{option_copied};
 ghost use Rattle.graph_plans.specs.Operations.{IsPipePlan};
+ghost use Rattle.join_words.specs.Ins.{parts_of};
+ghost use Rattle.journal_rules.specs.Limits.{max_limit};
+ghost use Rattle.pipe_lines.specs.Orders.{passed_at};
+ghost use Rattle.pipe_lines.specs.PipeNet.{pipe_net};
 ghost use Rattle.pipe_lines.specs.Pipelines.{IsPipeline};
 ghost use Rattle.run_frame.specs.Meaning.{IsRelease};
-ghost use Rattle.join_words.specs.Ins.{parts_of};
-ghost use Rattle.text_tasks.specs.OpMeaning.{pipe_meaning};
-ghost use Rattle.journal_rules.specs.Limits.{max_limit};
-ghost use Rattle.text_tasks.specs.JobMeaning.{limit_of, net_of};
-ghost use Rattle.text_tasks.specs.inside.Finding.{founds, text_from};
-ghost use Rattle.pipe_lines.specs.PipeNet.{pipe_net};
-ghost use Rattle.pipe_lines.specs.Orders.{passed_at};
 ghost use Rattle.text_tasks.specs.CellMeaning.{enters, goes_on, place_in};
 ghost use Rattle.text_tasks.specs.FoundTexts.{found_text};
+ghost use Rattle.text_tasks.specs.JobMeaning.{limit_of, net_of};
+ghost use Rattle.text_tasks.specs.OpMeaning.{pipe_meaning};
 ghost use Rattle.text_tasks.specs.inside.CellInputs.{found_or, token_of};
+ghost use Rattle.text_tasks.specs.inside.Finding.{founds, text_from};
 ghost use Rattle.text_tasks.specs.inside.Working.{DoesAs, OpensAs};
 
 use crate::cell_inputs::{input_along, next_place};
@@ -60,7 +60,8 @@ impl Model for PipeJob {
 }
 
 impl PipeJob {
-    ghost use Rattle.text_tasks.specs.PipeWork.{IsPipeWork};
+    ghost use Rattle.text_tasks.specs.PipeWork.{IsPipeWork, pipeline_of};
+    ghost use Rattle.text_tasks.specs.Cells.{line_input, pipe_input};
     ghost use Rattle.text_tasks.specs.CellMeaning.{pipe_of};
     ghost use Rattle.text_tasks.specs.inside.Working.{TaskDoes};
 
@@ -73,6 +74,14 @@ impl PipeJob {
         &[]
     }
 
+    // How many starts a run may have: one for each token at each pipe, and one behind the last token.
+    pub(crate) fn limit(&self) -> u64
+        ensures value { result ≡ limit_of (TextJob.Pipe self.now) }
+        ensures small { result ≤ max_limit }
+    {
+        self.parts.len() as u64 * self.spec.serial.len() as u64 + 1
+    }
+
     // What a cell answers on what it finds.
     pub(crate) fn answer(
         &self,
@@ -83,26 +92,41 @@ impl PipeJob {
         requires { IsRelease (net_of (TextJob.Pipe self.now)) task (length (parts_of ins.now)) }
         ensures { TaskDoes (TextJob.Pipe self.now) task (founds ins.now) result }
     {
-        let edges = self.net.strong_in(task);
         let pipe = self.pipe_of(task);
         let op = &self.ops.as_slice()[pipe];
         if pipe == 0 {
-            let place = next_place(input_along(self.along_pipe.as_slice(), edges, ins, true));
-            return self.enter(alloc, op, place);
+            self.enter(alloc, op, next_place(self.pipe_input(task, ins)))
+        } else {
+            go_along(alloc, op, self.line_input(task, ins))
         }
-        go_on(
-            alloc,
-            op,
-            input_along(self.along_pipe.as_slice(), edges, ins, false),
+    }
+
+    // What a cell finds along its pipe.
+    fn pipe_input<'i>(&self, task: u32, ins: &'i Ins<Item>) -> Option<&'i Given<Item>>
+        requires { task < length (net_of (TextJob.Pipe self.now)).tasks }
+        ensures { found_or (option_copied result)
+            ≡ pipe_input (pipeline_of self.now) task (founds ins.now) }
+    {
+        input_along(
+            self.along_pipe.as_slice(),
+            self.net.strong_in(task),
+            ins,
+            true,
         )
     }
 
-    // How many starts a run may have: one for each token at each pipe, and the one behind the last token.
-    pub(crate) fn limit(&self) -> u64
-        ensures value { result ≡ limit_of (TextJob.Pipe self.now) }
-        ensures small { result ≤ max_limit }
+    // What it finds along its line.
+    fn line_input<'i>(&self, task: u32, ins: &'i Ins<Item>) -> Option<&'i Given<Item>>
+        requires { task < length (net_of (TextJob.Pipe self.now)).tasks }
+        ensures { found_or (option_copied result)
+            ≡ line_input (pipeline_of self.now) task (founds ins.now) }
     {
-        self.parts.len() as u64 * self.spec.serial.len() as u64 + 1
+        input_along(
+            self.along_pipe.as_slice(),
+            self.net.strong_in(task),
+            ins,
+            false,
+        )
     }
 
     // The pipe of a cell.
@@ -114,32 +138,17 @@ impl PipeJob {
     }
 
     // What a cell of the first pipe answers at a place of the order.
-    fn enter(
-        &self,
-        alloc: Global,
-        op: &LineOp,
-        place: u64,
-    ) -> Result<Done<TextJob>, TaskError>
+    fn enter(&self, alloc: Global, op: &LineOp, place: u64) -> Result<Done<TextJob>, TaskError>
         ensures { DoesAs (enters self.now op.now place (passed_at self.now.order place)) result }
     {
         match self.order.at(place) {
-            Passed::Token(token) => {
-                let text = apply_line_op(alloc, op, token, place, &self.part(token)?)?;
-                Ok(moves_on(CellItem { text, token, place }, Answer::All))
-            }
-            Passed::Stop => Ok(moves_on(
-                CellItem {
-                    text: Text::new(),
-                    token: 0,
-                    place,
-                },
-                Answer::None,
-            )),
+            Passed::Token(token) => go_on(alloc, op, token, place, &self.part(token)?),
+            Passed::Stop => Ok(end_at(place)),
             Passed::Unmet(token) => Err(TaskError::Unmet(token)),
         }
     }
 
-    // The part of a number, of which there may be none.
+    // The part of a number, or the empty text where there is none.
     fn part(&self, number: u64) -> Result<Text, NoMemory>
         ensures { IfOk result (λ text. text ≡ slice_index_or self.now.parts number []) }
     {
@@ -151,24 +160,50 @@ impl PipeJob {
 }
 
 // What a cell of another pipe answers on what came along its line.
-fn go_on(
+fn go_along(
     alloc: Global,
     op: &LineOp,
     input: Option<&Given<Item>>,
 ) -> Result<Done<TextJob>, TaskError>
-    ensures { DoesAs (goes_on op.now (token_of (found_or input.entry)) (place_in (found_or input.entry))
-        (found_text (found_or input.entry))) result }
+    ensures { DoesAs
+        (goes_on op.now (token_of (found_or (option_copied input.entry)))
+        (place_in (found_or (option_copied input.entry)))
+        (found_text (found_or (option_copied input.entry)))) result }
 {
-    let Some(Given::Value(_, item)) = input else {
-        let text = apply_line_op(alloc, op, 0, 0, &Text::new())?;
-        return Ok(moves_on(CellItem { text, token: 0, place: 0 }, Answer::All));
-    };
-    let (token, place) = (item.token(), item.place());
-    let text = apply_line_op(alloc, op, token, place, item.text())?;
+    match input {
+        Some(Given::Value(_, item)) => { go_on(alloc, op, item.token(), item.place(), item.text()) }
+        _ => go_on(alloc, op, 0, 0, &Text::new()),
+    }
+}
+
+// A token goes on with what the operation of its cell makes of its text.
+fn go_on(
+    alloc: Global,
+    op: &LineOp,
+    token: u64,
+    place: u64,
+    text: &Text,
+) -> Result<Done<TextJob>, TaskError>
+    ensures { DoesAs (goes_on op.now token place text.now) result }
+{
+    let text = apply_line_op(alloc, op, token, place, text)?;
     Ok(moves_on(CellItem { text, token, place }, Answer::All))
 }
 
-// A cell ends with a token.
+// Behind the last token nothing goes on.
+fn end_at(place: u64) -> Done<TextJob>
+    ensures { result ≡ Done.Value
+        (Item.Cell (record { text = []; token = 0; place = place })) Answer.None }
+{
+    let cell = CellItem {
+        text: Text::new(),
+        token: 0,
+        place,
+    };
+    moves_on(cell, Answer::None)
+}
+
+// A cell ends with a token, for those of its successors that the answer names.
 fn moves_on(cell: CellItem, answer: Answer) -> Done<TextJob>
     ensures { result ≡ Done.Value (Item.Cell cell) answer }
 {
@@ -191,23 +226,28 @@ pub(crate) fn pipe_job(
         return Err(TaskError::Wide(tokens));
     }
     let spec = copy_of_spec(&plan.spec)?;
+    let net = Arc::new(alloc, net_of_pipes(alloc, &spec)?)?;
+    let along_pipe = along_pipes(alloc, &spec)?;
+    let ops = copy_of_line_ops(alloc, plan.ops.as_slice())?;
+    let parts = line_parts(alloc, &text, plan.chunk)?;
+    let order = pass_order(alloc, tokens, plan.defers.as_slice())?;
     Ok(TextJob::Pipe(PipeJob {
-        net: net_of_pipes(alloc, &spec)?,
-        along_pipe: along_pipes(alloc, &spec)?,
-        ops: copy_of_line_ops(alloc, plan.ops.as_slice())?,
-        parts: line_parts(alloc, &text, plan.chunk)?,
-        order: pass_order(alloc, tokens, plan.defers.as_slice())?,
+        net,
+        along_pipe,
         spec,
+        ops,
+        parts,
+        order,
     }))
 }
 
 // The net of a pipeline.
-fn net_of_pipes(alloc: Global, spec: &PipeSpec) -> Result<Arc<Net>, NoMemory>
+fn net_of_pipes(alloc: Global, spec: &PipeSpec) -> Result<Net, NoMemory>
     requires { IsPipeline spec.now }
-    ensures { IfOk result (λ net. arc_value net ≡ pipe_net spec.now.lines spec.now.serial) }
+    ensures { IfOk result (λ net. net ≡ pipe_net spec.now.lines spec.now.serial) }
 {
     match pipe_net(alloc, spec) {
-        Ok(net) => Ok(Arc::new(alloc, net)?),
+        Ok(net) => Ok(net),
         Err(_) => Err(NoMemory),
     }
 }

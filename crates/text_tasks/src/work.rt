@@ -1,6 +1,6 @@
 // The work of each operation.
 ghost use Rattle.std.specs.Prelude.{◌≡◌, ◌<◌, ◌≤◌, [], length, if◌then◌else◌, slice_index_or, IfOk};
-ghost use Rattle.graph_plans.specs.Operations.{IsOp};
+ghost use Rattle.graph_plans.specs.Operations.{HasPipeline, IsOp};
 ghost use Rattle.text_ops.specs.TextMeaning.{match_meaning, sort_meaning};
 ghost use Rattle.text_ops.specs.Values.{Makes};
 ghost use Rattle.text_tasks.specs.FoundTexts.{left_found, right_found};
@@ -34,7 +34,8 @@ impl GraphJob {
         op: &Op,
         ins: &Ins<Item>,
     ) -> Result<Done<TextJob>, TaskError>
-        requires { IsOp (length self.now.texts) (length self.now.plan.modules) op.now }
+        requires op { IsOp (length self.now.texts) (length self.now.plan.modules) op.now }
+        requires pipeline { HasPipeline op.now }
         ensures { DoesAs (op_meaning self.now (founds ins.now) op.now) result }
     {
         match op {

@@ -1,5 +1,5 @@
 -- What a cell finds, by the tags of the edges.
-use Rattle.std.specs.Prelude.{ℕ, ◌+◌, ◌==◌, min, Bool, false, not, if◌then◌else◌, List, Option, slice_index_or}
+use Rattle.std.specs.Prelude.{ℕ, ◌+◌, min, Bool, false, not, if◌then◌else◌, List, Option, slice_index_or}
 use Rattle.std.specs.Option.{option_map_or}
 use Rattle.join_words.specs.declared.ins.Given.{Given}
 use Rattle.join_words.specs.Ins.{InputValue, value, first, nothing, found_of}
