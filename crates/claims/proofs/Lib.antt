@@ -8,6 +8,7 @@ pub mod WorkedSources
 pub mod WorkedRows
 pub mod WorkedGraphFiles
 pub mod WorkedGraphJson
+pub mod WorkedPipelines
 pub mod WorkedLines
 pub mod WorkedProfiles
 pub mod WorkedSeats

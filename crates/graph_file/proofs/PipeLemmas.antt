@@ -1,5 +1,5 @@
 -- The pipes of a file's tasks are pipelines.
-use Rattle.std.proofs.Common.{◌≡◌, ◌==◌, ℕ, zero, suc, ◌≤◌, List, [], ◌∷◌, length, slice_get, Bool, true, false, leb, cond, Option, Some, None, Ok, Err, All, refl, ap, subst, ◌∙◌, arith}
+use Rattle.std.proofs.Common.{◌≡◌, ◌==◌, ℕ, suc, ◌≤◌, List, [], ◌∷◌, length, slice_get, Bool, true, false, leb, cond, Option, Some, None, Ok, All, refl, ap, arith}
 use Rattle.std.specs.Bool.{⊤}
 use Rattle.std.proofs.lemmas.Bool.{leb-true}
 use Rattle.std.proofs.lemmas.Bool.Decides.{nat_tests}
@@ -10,7 +10,7 @@ use Rattle.pipe_lines.specs.Pipelines.{IsPipeline, line_limit, pipe_limit}
 use Rattle.graph_plans.specs.declared.ops.Op.{Op}
 use Rattle.graph_plans.specs.declared.ops.Op.TheVariants.{Input, Read, Text, Match, Back, IfMore, IfHas, Route, Spread, Module, Pipe}
 use Rattle.graph_plans.specs.Operations.{HasPipeline}
-use Rattle.graph_plans.specs.PlanRows.{GraphRows, HasPipelines, graphs_of}
+use Rattle.graph_plans.specs.PlanRows.{HasPipelines, graphs_of}
 use Rattle.graph_file.specs.declared.numbers.TaskNumbers.{TaskNumbers}
 use Rattle.graph_file.specs.declared.refusals.GraphError.{GraphError}
 use Rattle.graph_file.specs.declared.refusals.GraphError.TheVariants.{BadPipe}
@@ -18,7 +18,7 @@ use Rattle.graph_file.specs.declared.scopes.Scope.{Scope}
 use Rattle.graph_file.specs.Fields.{task_spot}
 use Rattle.graph_file.specs.OpRows.{FileOpRow, reads, runs, does}
 use Rattle.graph_file.specs.PlanText.{DraftRows, FileNumbers, FileRows, TaskText, add_graph_pipelines, add_pipeline, file_op_fault, file_pipelines, file_texts, graph_pipelines, graph_with, graphs_with, limit_fault, names_of_modules, numbered, ops_of, pipe_fault, pipes_fault, plan_with, spec_fault}
-use Rattle.graph_file.specs.Steps.{◌>>=◌, unless, walk}
+use Rattle.graph_file.specs.Steps.{unless, walk}
 use Rattle.graph_file.proofs.BindLemmas.{bind_ok}
 
 -- ---- specifications

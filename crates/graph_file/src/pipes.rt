@@ -1,6 +1,6 @@
 // The pipelines in a graph file.
-ghost use Rattle.std.specs.Prelude.{◌≡◌, [], codes, map, option_map};
-ghost use Rattle.serde_json.specs.Find.{as_bool};
+ghost use Rattle.std.specs.Prelude.{◌≡◌, [], codes, map, option_and_then, option_map};
+ghost use Rattle.serde_json.specs.Find.{as_bool, get};
 ghost use Rattle.serde_json.specs.View.{view};
 ghost use Rattle.pipe_lines.specs.DeferRows.{is_deferred};
 ghost use Rattle.graph_file.specs.Contents.{defer_objects_of, part_size_of, pipe_lines_of, target_items_of, targets_of, token_number_of, whole_of};
@@ -105,12 +105,7 @@ fn listed_pipes(alloc: Global, spot: Spot, items: &[Value]) -> Result<Pipes, Gra
 }
 
 // Puts a pipe at the end.
-fn add_pipe(
-    alloc: Global,
-    spot: Spot,
-    item: &Value,
-    pipes: &mut Pipes,
-) -> Result<(), GraphError>
+fn add_pipe(alloc: Global, spot: Spot, item: &Value, pipes: &mut Pipes) -> Result<(), GraphError>
     ensures { Leads result (pipe_rows pipes.new)
         (add_pipe spot (pipe_rows pipes.old) (view item.now)) }
 {
@@ -145,11 +140,7 @@ fn may_have(serial: bool, op: &LineOp) -> bool
 }
 
 // The operation of a pipe, with its own fields.
-fn read_line_op(
-    alloc: Global,
-    spot: Spot,
-    object: &Value,
-) -> Result<FoundOp<LineOp>, GraphError>
+fn read_line_op(alloc: Global, spot: Spot, object: &Value) -> Result<FoundOp<LineOp>, GraphError>
     ensures { ReadsAs found_line_op result (op_in line_rows spot (view object.now)) }
 {
     let Some(name) = op_name(object) else {
@@ -233,11 +224,7 @@ fn defer_objects_of(value: &Value) -> Option<&[Value]>
     }
 }
 
-fn listed_defers(
-    alloc: Global,
-    spot: Spot,
-    items: &[Value],
-) -> Result<List<DeferRow>, GraphError>
+fn listed_defers(alloc: Global, spot: Spot, items: &[Value]) -> Result<List<DeferRow>, GraphError>
     ensures { Reads result (walk (add_defer spot) [] (map view items.now)) }
 {
     let mut rows = List::new(alloc);
@@ -291,10 +278,19 @@ fn is_deferred(rows: &[DeferRow], token: u64) -> bool
 fn read_targets(alloc: Global, spot: Spot, object: &Value) -> Result<List<u64>, GraphError>
     ensures { Reads result (needed targets_of spot (codes "to") (view object.now)) }
 {
-    let Some(items) = object.get("to").and_then(target_items_of) else {
+    let Some(items) = target_items_in(object) else {
         return Err(bad_field(alloc, spot, "to"));
     };
     listed_targets(alloc, spot, items)
+}
+
+// The items of the field `to`, if it holds as many as there may be targets.
+fn target_items_in(object: &Value) -> Option<&[Value]>
+    ensures { option_map (λ items. map view items.now) result
+        ≡ option_and_then target_items_of (get (codes "to") (view object.now)) }
+{
+    let targets = object.get("to")?;
+    target_items_of(targets)
 }
 
 fn target_items_of(value: &Value) -> Option<&[Value]>

@@ -11,5 +11,6 @@
 mod laws;
 
 pub use laws::{
-    lines_start_alone, lines_take_turns, pipes_keep_order, text_pipes_keep_order, tokens_pass_all_pipes,
+    lines_start_alone, lines_take_turns, pipes_keep_order, text_pipes_keep_order,
+    tokens_pass_all_pipes,
 };

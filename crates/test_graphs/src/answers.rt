@@ -2,6 +2,7 @@
 use graph_file::{GraphError, Kind, read_graph, write_graph};
 use graph_plans::Spot;
 use outside_io::{Bytes, NoMemory};
+use pipe_lines::PipeError;
 use std::alloc::{AllocError, Global};
 use std::str;
 
@@ -30,20 +31,36 @@ fn refusal_text(alloc: Global, refusal: &GraphError) -> Result<String, AllocErro
             return format!(in alloc; "module cycle at {}", text_of(name));
         }
         GraphError::TooMany(kind) => return format!(in alloc; "too many {}", kind_text(*kind)),
+        GraphError::BadPipe(spot, error) => {
+            let spot = spot_text(alloc, spot)?;
+            return format!(in alloc; "bad pipe in {spot}: {}", pipe_text(*error));
+        }
         GraphError::NoMemory => return format!(in alloc; "no memory"),
     };
     let field = text_of(field);
+    let spot = spot_text(alloc, spot)?;
+    format!(in alloc; "{what} {field} {at} {spot}")
+}
+
+fn spot_text(alloc: Global, spot: &Spot) -> Result<String, AllocError> {
     match spot {
-        Spot::File => format!(in alloc; "{what} {field} {at} file"),
-        Spot::Sem(sem) => format!(in alloc; "{what} {field} {at} semaphore {sem}"),
-        Spot::Task(task) => format!(in alloc; "{what} {field} {at} task {task}"),
-        Spot::Module(module) => format!(in alloc; "{what} {field} {at} module {module}"),
-        Spot::ModuleSem(module, sem) => {
-            format!(in alloc; "{what} {field} {at} module {module} semaphore {sem}")
-        }
-        Spot::ModuleTask(module, task) => {
-            format!(in alloc; "{what} {field} {at} module {module} task {task}")
-        }
+        Spot::File => format!(in alloc; "file"),
+        Spot::Sem(sem) => format!(in alloc; "semaphore {sem}"),
+        Spot::Task(task) => format!(in alloc; "task {task}"),
+        Spot::Module(module) => format!(in alloc; "module {module}"),
+        Spot::ModuleSem(module, sem) => { format!(in alloc; "module {module} semaphore {sem}") }
+        Spot::ModuleTask(module, task) => { format!(in alloc; "module {module} task {task}") }
+    }
+}
+
+fn pipe_text(error: PipeError) -> &'static str {
+    match error {
+        PipeError::NoLines => "no lines",
+        PipeError::NoPipes => "no pipes",
+        PipeError::FirstParallel => "first pipe is parallel",
+        PipeError::TooManyLines => "too many lines",
+        PipeError::TooManyPipes => "too many pipes",
+        PipeError::NoMemory => "no memory",
     }
 }
 

@@ -100,12 +100,31 @@ const MODULES: MadeFile = MadeFile {
     ..BYTES
 };
 
+// A pipeline of so many pipes before a last one.
+const PIPES: MadeFile = MadeFile {
+    front: b"{\"tasks\":[{\"name\":\"a\",\"op\":\"pipe\",\"lines\":64,\"pipes\":[",
+    piece: "{\"serial\":true,\"op\":\"pass\"},",
+    back: b"{\"serial\":true,\"op\":\"stamp\"}]}]}",
+    ..BYTES
+};
+
+// A pipeline with so many rows that defer tokens before a last one.
+const DEFERS: MadeFile = MadeFile {
+    front: b"{\"tasks\":[{\"name\":\"a\",\"op\":\"pipe\",\"lines\":1,\"pipes\":[{\"serial\":true,\"op\":\"pass\"}],\"defer\":[",
+    piece: "{\"token\":#,\"to\":[#]},",
+    back: b"{\"token\":65535,\"to\":[0]}]}]}",
+    ..BYTES
+};
+
+// How a file begins whose first task is a pipeline without a line.
+const NO_LINES: &[u8] = b"{\"tasks\":[{\"name\":\"a\",\"op\":\"pipe\",\"lines\":0,\"pipes\":[]},";
+
 // How a file begins that has a module with a semaphore, an edge, and a task that reads a text, beside its tasks.
 const BESIDE: &[u8] =
     b"{\"modules\":[{\"name\":\"m\",\"semaphores\":[{\"name\":\"s\",\"max\":1}],\"tasks\":[{\"name\":\"a\",\"op\":\"read\",\"text\":\"m\",\"to\":[\"a\"]}]}],\"tasks\":[";
 
 /// The files.
-pub(crate) const FILES: [MadeFile; 50] = [
+pub(crate) const FILES: [MadeFile; 63] = [
     MadeFile {
         has: "a byte order mark",
         front: b"\xef\xbb\xbf{\"tasks\":[]}",
@@ -354,6 +373,79 @@ pub(crate) const FILES: [MadeFile; 50] = [
         has: "1,025 texts in two graphs",
         front: BESIDE,
         times: 1_023,
+        ..READS
+    },
+    MadeFile {
+        has: "32 pipes",
+        times: 31,
+        ..PIPES
+    },
+    MadeFile {
+        has: "33 pipes",
+        times: 32,
+        ..PIPES
+    },
+    MadeFile {
+        has: "33 pipes and 65 lines",
+        front: b"{\"tasks\":[{\"name\":\"a\",\"op\":\"pipe\",\"lines\":65,\"pipes\":[",
+        times: 32,
+        ..PIPES
+    },
+    MadeFile {
+        has: "33 pipes of which the first is parallel",
+        piece: "{\"serial\":false,\"op\":\"pass\"},",
+        times: 32,
+        ..PIPES
+    },
+    MadeFile {
+        has: "33 pipes and no line",
+        front: b"{\"tasks\":[{\"name\":\"a\",\"op\":\"pipe\",\"lines\":0,\"pipes\":[",
+        times: 32,
+        ..PIPES
+    },
+    MadeFile {
+        has: "100,000 pipes",
+        times: 99_999,
+        ..PIPES
+    },
+    MadeFile {
+        has: "256 rows that defer tokens",
+        times: 255,
+        ..DEFERS
+    },
+    MadeFile {
+        has: "257 rows that defer tokens",
+        times: 256,
+        ..DEFERS
+    },
+    MadeFile {
+        has: "256 rows that defer tokens, two of one token",
+        times: 255,
+        back: b"{\"token\":0,\"to\":[1]}]}]}",
+        ..DEFERS
+    },
+    MadeFile {
+        has: "100,000 rows that defer one token",
+        piece: "{\"token\":1,\"to\":[0]},",
+        times: 99_999,
+        ..DEFERS
+    },
+    MadeFile {
+        has: "10,000 tasks, of which one is a pipeline without a line",
+        front: NO_LINES,
+        times: 9_998,
+        ..TASKS
+    },
+    MadeFile {
+        has: "10,001 tasks, of which one is a pipeline without a line",
+        front: NO_LINES,
+        times: 9_999,
+        ..TASKS
+    },
+    MadeFile {
+        has: "1,025 texts and a pipeline without a line",
+        front: NO_LINES,
+        times: 1_024,
         ..READS
     },
     MadeFile {

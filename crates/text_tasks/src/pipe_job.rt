@@ -65,6 +65,13 @@ impl PipeJob {
     ghost use Rattle.text_tasks.specs.CellMeaning.{pipe_of};
     ghost use Rattle.text_tasks.specs.inside.Working.{TaskDoes};
 
+    /// The lines, and of each pipe whether it is serial.
+    pub fn spec(&self) -> &PipeSpec
+        ensures { result.now ≡ self.now.spec }
+    {
+        &self.spec
+    }
+
     // The names of the tasks, which cells have none of.
     pub(crate) fn names(&self) -> &[Bytes]
         ensures none { result.now ≡ [] }

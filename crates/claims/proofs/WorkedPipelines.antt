@@ -1,17 +1,15 @@
 -- Pipelines in graph files, computed on small ones: what their fields hold, why they are refused, and how they are written.
-use Rattle.std.proofs.Common.{◌≡◌, ℕ, zero, suc, ◌<◌, ◌≤◌, Bool, true, false, List, [], ◌∷◌, ◌++◌, length, map, replicate, slice_get, All, AllPairs, Option, Some, None, Result, Ok, Err, refl, sym, ap, codes, arith}
+use Rattle.std.proofs.Common.{◌≡◌, ℕ, zero, suc, ◌≤◌, Bool, true, false, List, [], ◌∷◌, map, replicate, slice_get, All, Some, None, Ok, Err, refl, codes, arith}
 use Rattle.std.proofs.lemmas.List.{length-replicate}
-use Rattle.serde_json.specs.Data.{Data, boolean, string, number, unsigned, array, object, Members, no_members, member}
+use Rattle.serde_json.specs.Data.{Data, boolean, string, number, unsigned, array, object, no_members, member}
 use Rattle.serde_json.specs.View.{items_of}
 use Rattle.task_graph.specs.declared.net.Shape.TheVariants.{Nested}
 use Rattle.pipe_lines.specs.declared.deferral.DeferRow.{DeferRow}
 use Rattle.pipe_lines.specs.DeferRows.{IsDeferRow}
 use Rattle.pipe_lines.specs.declared.pipeline.PipeError.TheVariants.{NoLines, NoPipes, FirstParallel, TooManyLines, TooManyPipes}
 use Rattle.pipe_lines.specs.declared.pipeline.PipeSpec.{PipeSpec}
-use Rattle.graph_plans.specs.declared.ops.Op.{Op}
-use Rattle.graph_plans.specs.declared.ops.Op.TheVariants.{Input, Match, Module as Runs, Pipe}
-use Rattle.graph_plans.specs.declared.ops.TextOp.TheVariants.{Pass, Keep, Sort}
-use Rattle.graph_plans.specs.declared.pipes.LineOp.{LineOp}
+use Rattle.graph_plans.specs.declared.ops.Op.TheVariants.{Match, Module as Runs, Pipe}
+use Rattle.graph_plans.specs.declared.ops.TextOp.TheVariants.{Pass, Keep, Head, Sort}
 use Rattle.graph_plans.specs.declared.pipes.LineOp.TheVariants.{Text as LineText, Number, Stamp}
 use Rattle.graph_plans.specs.declared.pipes.PipePlan.{PipePlan}
 use Rattle.graph_plans.specs.declared.spots.Spot.TheVariants.{Task, ModuleTask}
@@ -22,7 +20,7 @@ use Rattle.graph_file.specs.declared.refusals.GraphError.TheVariants.{BadField, 
 use Rattle.graph_file.specs.declared.scopes.Scope.TheVariants.{Top, Module as OfModule}
 use Rattle.graph_file.specs.Contents.{defer_objects_of, pipe_lines_of, targets_of, token_number_of}
 use Rattle.graph_file.specs.OpRows.{FileOpRow, PipeRows, add_defer, add_pipe, defers_in, does, line_rows, may_have, op_in, op_rows, pipe_in, pipes_in, reads, runs, text_rows}
-use Rattle.graph_file.specs.PlanText.{DraftRows, FileRows, TaskText, add_pipeline, empty_draft, file_op_fault, file_pipelines, graph_pipelines, pipe_fault, plan_of, spec_fault, with_task_text}
+use Rattle.graph_file.specs.PlanText.{DraftRows, TaskText, add_pipeline, empty_draft, file_op_fault, file_pipelines, graph_pipelines, pipe_fault, plan_of, spec_fault}
 use Rattle.graph_file.specs.WrittenPlan.{defer_data, op_text, pipe_data}
 
 abbrev whole : ℕ → Data
@@ -58,7 +56,7 @@ rows_in_their_limits = (refl, refl, refl)
 
 operations_of_pipes : (op_in line_rows (Task 4) (object (member (codes "op") (string (codes "number")) no_members)) ≡ Ok (record { op = Number; fields = [] }))
     × (op_in line_rows (Task 4) (object (member (codes "op") (string (codes "stamp")) no_members)) ≡ Ok (record { op = Stamp; fields = [] }))
-    × (op_in line_rows (Task 4) (object (member (codes "op") (string (codes "keep")) (member (codes "word") (string x) no_members))) ≡ Ok (record { op = LineText (Keep x); fields = codes "word" ∷ [] }))
+    × (op_in line_rows (Task 4) (object (member (codes "n") (whole 7) (member (codes "op") (string (codes "head")) no_members))) ≡ Ok (record { op = LineText (Head 7); fields = codes "n" ∷ [] }))
     × (op_in line_rows (Task 4) (object (member (codes "op") (string (codes "back")) no_members)) ≡ Err (BadField (Task 4) (codes "op")))
 unfolding line_rows text_rows
 operations_of_pipes = (refl, refl, refl, refl)
