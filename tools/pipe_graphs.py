@@ -6,14 +6,13 @@
 Pipelines of 1 to 8 lines and 1 to 5 pipes stand in the top graph and in its modules, several in one graph, some beside
 spreads, and some in tasks that hold units. Tokens are deferred: behind later ones, one behind the other, in circles, and
 behind tokens that never come. In three of four files no graph has conditions: a slow evaluation makes what these print.
-It looks at all tokens afresh at each place of the order. If each token passes, the report has to be that of the
-evaluation for each number of workers, and a profile has to count as many spans. Else the run has to end with a fault of
-a pipeline that the evaluation finds, and each value that is printed has to be the evaluation's. A run that the limit of
-starts may cut short, and a file with conditions, is looked at as by `nested_graphs.py`. The journal of each run is judged
-by the program, and one file in three is run as the program upgrades it. With `--seconds` files are made until so many
-seconds have passed or there is a difference. A call that takes longer than a minute counts as one that doesn't end.
-Prints a line for each difference and how many runs ended with which code, and ends with status 1 where there was a
-difference.
+At each place of a pipeline's order it looks at all tokens that wait. If each token passes, the report has to be that of
+the evaluation for each number of workers, and a profile has to count as many spans. Else the run has to end with a fault
+that the evaluation finds, and each value that is printed has to be the evaluation's. A run that the limit of starts may
+cut short, and a file with conditions, is looked at as by `nested_graphs.py`. The journal of each run is judged by the
+program, and one file in three is run as the program upgrades it. With `--seconds` files are made until so many seconds
+have passed or there is a difference. A call that takes longer than a minute counts as one that doesn't end. Prints a line
+for each difference and how many runs ended with which code, and ends with status 1 where there was a difference.
 """
 import argparse
 import collections
