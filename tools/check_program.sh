@@ -594,7 +594,7 @@ runs_pipeline 'a pipeline of 65537 parts' "\"lines\":4,\"pipes\":[$(serial stamp
 printf '== p\n32769\n32768\n' >"$seen/wanted_out"
 : >"$seen/wanted_notes"
 runs_pipeline 'a pipeline of two large parts' "\"lines\":4,\"n\":32769,\"pipes\":[$(serial count)]" 0
-# What a cell makes of a token, and what all make together, that would be two and four bytes too long.
+# What a cell makes of a token, and what all make together, that would be one and three bytes too long.
 { head -c 16777214 /dev/zero | tr '\0' x; echo; } >t.txt
 printf -- '-- p\n!! fault p/0.0: long 16777217\n' >"$seen/wanted_out"
 echo 'flow: fault p/0.0: long 16777217' >"$seen/wanted_notes"

@@ -51,6 +51,7 @@ use Rattle.run_laws.proofs.Runs.{inner_sound, legal_journal}
 use Rattle.run_laws.proofs.TextPlain.{inner_at_task, item_meets, module_runs, parts_none, spread_runs}
 use Rattle.pipe_laws.specs.PipeRuns.{IsPipeRun}
 use Rattle.pipe_laws.specs.TextPipes.{KeepsOrder, PipesInOrder, StartsInOrder, run_at}
+use Rattle.pipe_laws.proofs.CellRuns.{lines_take_turns}
 use Rattle.pipe_laws.proofs.Ordered.{pipes_keep_order}
 use Rattle.pipe_laws.proofs.Passed.{tokens_pass_all_pipes}
 use Rattle.pipe_laws.proofs.TextCells.{allows_cells, are_cells, cell_answer, cell_runs}
@@ -203,6 +204,7 @@ keeps_here run (Graph work) same of sound = tt
 keeps_here run (Parts work) same of sound = tt
 keeps_here run (Pipe work) same of sound = record {
   serial = pipes_keep_order text_job run (pipeline_of work) (cell_answer work) is;
+  turns = lines_take_turns text_job run (pipeline_of work) (cell_answer work) is;
   all = tokens_pass_all_pipes text_job run (pipeline_of work) (cell_answer work) is sound.1;
 }
   where
