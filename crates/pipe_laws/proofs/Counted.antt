@@ -340,8 +340,12 @@ module _ {V : Type 0} (pipeline : Pipeline V) (one : OneAnswer V) (limit : ℕ) 
               total-same n (λ p. count_by (begins (task l (suc p))) h) (λ p. turns_of l (length pipeline.order.passed + 0)) (λ p below. cell_counted (suc p) (omega (arith, count, below))),
               total-const n (turns_of l (length pipeline.order.passed + 0)),
               ap (λ m. n * turns_of l m) no_more,
+              ap (λ m. m * turns_of l (length pipeline.order.passed)) one_less,
             )
           where
+            one_less : suc n - 1 ≡ n
+            one_less = omega arith
+
             no_more : length pipeline.order.passed + 0 ≡ length pipeline.order.passed
             no_more = omega arith
 
