@@ -6,5 +6,6 @@ returns-in-NoSuchName c = rw c.in-NoSuchName.is c.add_field-in-NoSuchName.ensure
 
 pub returns-in-ModuleCycle : goal.returns-in-ModuleCycle
 returns-in-ModuleCycle c =
-    rw c.in-ModuleCycle.is
-    subst (λ name. OnOk c.add_behind.result (c.add_behind.new.line ≡ c.args.line.now ++ (codes "module cycle at " ++ name))) c.as_slice.ensures c.add_behind.ensures
+    let added : OnOk c.add_behind.result (c.add_behind.new.line ≡ c.args.line.now ++ (codes "module cycle at " ++ c.in-ModuleCycle.name)) =
+    subst (λ name. OnOk c.add_behind.result (c.add_behind.new.line ≡ c.args.line.now ++ (codes "module cycle at " ++ name))) c.as_slice.ensures c.add_behind.ensures in
+    rw c.in-ModuleCycle.is added
