@@ -10,6 +10,7 @@ use Rattle.boxcar.proofs.tag.Tag.TheSendSync as tag
 use Rattle.worker_seat.proofs.Crossing.{seat_send, crew_sync}
 use Rattle.worker_seat.specs.contracts.seat.WorkerSeat as worker_seat
 use Rattle.worker_seat.specs.contracts.crew.Crew as crew
+use Rattle.outside_io.specs.contracts.list.List as list
 use Rattle.pipe_lines.specs.contracts.deferral.DeferRow as defer_row
 use Rattle.pipe_lines.specs.contracts.order.Order as order
 use Rattle.pipe_lines.specs.contracts.pipeline.PipeSpec as pipe_spec
@@ -88,11 +89,17 @@ graph_send = search (op_send, op_sync, crosses, frees, sendable) depth 60 fits 2
 graph_sync : IsSync graph.the_row
 graph_sync = search (op_send, op_sync, crosses, frees, sendable) depth 60 fits 20000
 
+graphs_send : IsSend (list.the_row graph.the_row)
+graphs_send = search (graph_send, graph_sync, crosses, frees, sendable) depth 60 fits 20000
+
+graphs_sync : IsSync (list.the_row graph.the_row)
+graphs_sync = search (graph_send, graph_sync, crosses, frees, sendable) depth 60 fits 20000
+
 plan_send : IsSend plan.the_row
-plan_send = search (graph_send, graph_sync, crosses, frees, sendable) depth 60 fits 20000
+plan_send = search (graphs_send, graph_send, crosses, frees, sendable) depth 60 fits 20000
 
 plan_sync : IsSync plan.the_row
-plan_sync = search (graph_send, graph_sync, crosses, frees, sendable) depth 60 fits 20000
+plan_sync = search (graphs_sync, graph_sync, crosses, frees, sendable) depth 60 fits 20000
 
 graph_job_send : IsSend graph_job.the_row
 graph_job_send = search (table_send, table_sync, plan_send, plan_sync, texts) depth 60 fits 20000
