@@ -1,6 +1,7 @@
 -- What goes to the threads that enter the seats of a crew of text jobs.
 use denote.RattleType.{RattleType}
-use denote.Param.Send.{IsSend, IsSync, sendable}
+use denote.Param.Send.{IsSend, IsSync, recorded_send, recorded_sync, sendable, struct_send, struct_sync}
+use denote.Struct.Declared.{shape}
 use Rattle.std.proofs.Crossing.{crosses, frees}
 use Rattle.std.proofs.alloc.Global.TheSendSync as heap
 use Rattle.std.proofs.option.Option.TheSendSync as option
@@ -10,7 +11,6 @@ use Rattle.boxcar.proofs.tag.Tag.TheSendSync as tag
 use Rattle.worker_seat.proofs.Crossing.{seat_send, crew_sync}
 use Rattle.worker_seat.specs.contracts.seat.WorkerSeat as worker_seat
 use Rattle.worker_seat.specs.contracts.crew.Crew as crew
-use Rattle.outside_io.specs.contracts.list.List as list
 use Rattle.pipe_lines.specs.contracts.deferral.DeferRow as defer_row
 use Rattle.pipe_lines.specs.contracts.order.Order as order
 use Rattle.pipe_lines.specs.contracts.pipeline.PipeSpec as pipe_spec
@@ -83,23 +83,21 @@ op_send = search (text_op_send, text_op_sync, pipe_plan_send, crosses, frees, se
 op_sync : IsSync op.the_row
 op_sync = search (text_op_send, text_op_sync, pipe_plan_sync, crosses, frees, sendable) depth 60 fits 20000
 
-graph_send : IsSend graph.the_row
-graph_send = search (op_send, op_sync, crosses, frees, sendable) depth 60 fits 20000
+graph_field_send : IsSend graph.the_field.row
+graph_field_send = search (op_send, op_sync, crosses, frees, sendable) depth 60 fits 20000
 
-graph_sync : IsSync graph.the_row
-graph_sync = search (op_send, op_sync, crosses, frees, sendable) depth 60 fits 20000
-
-graphs_send : IsSend (list.the_row graph.the_row)
-graphs_send = search (graph_send, graph_sync, crosses, frees, sendable) depth 60 fits 20000
-
-graphs_sync : IsSync (list.the_row graph.the_row)
-graphs_sync = search (graph_send, graph_sync, crosses, frees, sendable) depth 60 fits 20000
+graph_field_sync : IsSync graph.the_field.row
+graph_field_sync = search (op_send, op_sync, crosses, frees, sendable) depth 60 fits 20000
 
 plan_send : IsSend plan.the_row
-plan_send = search (graphs_send, graph_send, crosses, frees, sendable) depth 60 fits 20000
+plan_send =
+    recorded_send plan.the_field.row _ _ plan.the_type.to_one
+    (struct_send (shape plan.the_type) (graph_field_send, (search (graph_field_send, graph_field_sync, crosses, frees, sendable) depth 60 fits 20000, (search (crosses, frees, sendable) depth 60 fits 20000, tt))))
 
 plan_sync : IsSync plan.the_row
-plan_sync = search (graphs_sync, graph_sync, crosses, frees, sendable) depth 60 fits 20000
+plan_sync =
+    recorded_sync plan.the_field.row _ _ plan.the_type.to_one
+    (struct_sync (shape plan.the_type) (graph_field_sync, (search (graph_field_send, graph_field_sync, crosses, frees, sendable) depth 60 fits 20000, (search (crosses, frees, sendable) depth 60 fits 20000, tt))))
 
 graph_job_send : IsSend graph_job.the_row
 graph_job_send = search (table_send, table_sync, plan_send, plan_sync, texts) depth 60 fits 20000
