@@ -40,7 +40,7 @@ gate-times:
 	python3 -B tools/gate_times.py rt ci
 	python3 -B tools/gate_times.py --table --write docs/TESTING.md
 
-# Random graphs, journals and failing allocations on the built program, five minutes of each of seven tools; no part of
+# Random graphs, journals and failing allocations on the built program, five minutes of each of eight tools; no part of
 # the gate. `make fuzz SEED=N` makes the cases of an earlier call again.
 fuzz: program
 	@bash tools/fuzz.sh $(SEED)

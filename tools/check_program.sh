@@ -1,6 +1,6 @@
 #!/usr/bin/env bash
 # Runs the built program on each of the examples, also by 1, 4 and 16 workers and in version 2 of its graph file, on graphs
-# with semaphores, for rounds and profiles, on command lines and files that it refuses, on texts of which one can't be read,
+# with semaphores and pipelines, for rounds and profiles, on command lines and files that it refuses, on texts of which one can't be read,
 # on outputs that fail and without memory, and compares its exit code, standard output and standard error; and counts the
 # threads of runs by several workers. Prints a line for each difference, and ends with status 1 where there is one. Its one
 # argument is the program; without it that of the last build is run.
@@ -312,6 +312,12 @@ upgrades 'a circle' '{"version":1,"tasks":[{"name":"a","op":"pass","to":["a"]}]}
     "$(upgraded '' '{"acquire":[],"name":"a","op":"pass","release":[],"to":["a"]}')"
 upgrades 'a task that holds units' '{"tasks":[{"name":"a","op":"input","holds":["u","s"]}],"semaphores":[{"name":"s","max":1},{"max":1000000,"name":"u"}]}' \
     "$(upgraded '{"max":1,"name":"s"},{"max":1000000,"name":"u"}' '{"acquire":["s","u"],"name":"a","op":"input","release":["s","u"],"to":[]}')"
+upgrades 'a pipeline without n and defer' \
+    '{"tasks":[{"name":"p","op":"pipe","lines":2,"pipes":[{"serial":true,"op":"keep","word":"x"},{"op":"number","serial":false}]}]}' \
+    "$(upgraded '' '{"acquire":[],"defer":[],"lines":2,"n":1,"name":"p","op":"pipe","pipes":[{"op":"keep","serial":true,"word":"x"},{"op":"number","serial":false}],"release":[],"to":[]}')"
+upgrades 'a pipeline with tokens that wait' \
+    '{"tasks":[{"name":"p","op":"pipe","defer":[{"token":4,"to":[9,2,9]},{"to":[4],"token":1}],"pipes":[{"serial":true,"op":"stamp"}],"n":1000000000,"lines":64}]}' \
+    "$(upgraded '' '{"acquire":[],"defer":[{"to":[9,2,9],"token":4},{"to":[4],"token":1}],"lines":64,"n":1000000000,"name":"p","op":"pipe","pipes":[{"op":"stamp","serial":true}],"release":[],"to":[]}')"
 refused 3 'flow: bad graph: not JSON' upgrade "$top/examples/count-lines/t.txt"
 refused 3 'flow: bad graph: bad field op in task 0' upgrade "$top/examples/unknown-operation/graph.json"
 echo '{"tasks":[],"version":3}' >graph.json
@@ -498,6 +504,139 @@ refused 3 'flow: bad graph: module cycle at m' run graph.json
 refused 3 'flow: bad graph: module cycle at m' check graph.json
 echo '{"tasks":[{"name":"a","op":"input"}],"modules":[{"name":"m","tasks":[{"name":"a","op":"pass","to":["a"]}]}]}' >graph.json
 refused 4 'flow: no source in module 0' run graph.json
+cd "$top"
+
+# Pipelines over the text t.txt: the fields of the task `p`, the code and what is printed, by 1, 4 and 16 workers.
+mkdir "$seen/pipes"
+cd "$seen/pipes"
+serial() {
+    echo "{\"serial\":true,\"op\":\"$1\"}"
+}
+parallel() {
+    echo "{\"serial\":false,\"op\":\"$1\"}"
+}
+pipeline_of() {
+    echo "{\"tasks\":[$(read_to r '"p"'),$(task p pipe "$1")]}" >graph.json
+}
+# The same with t.txt and what is wanted as they stand.
+runs_pipeline() {
+    local what=$1 fields=$2 code=$3 workers
+    shift 3
+    pipeline_of "$fields"
+    for workers in 1 4 16; do
+        call run graph.json --workers "$workers" "$@"
+        compare "$what by $workers workers" "$code" "$seen/wanted_out" "$seen/wanted_notes"
+    done
+}
+pipes() {
+    local what=$1 text=$2 fields=$3 code=$4 out=$5 notes=$6
+    shift 6
+    printf "$text" >t.txt
+    printf -- "$out" >"$seen/wanted_out"
+    printf -- "$notes" >"$seen/wanted_notes"
+    runs_pipeline "$what" "$fields" "$code" "$@"
+}
+three="\"lines\":3,\"pipes\":[$(serial pass),$(parallel number),$(serial stamp)]"
+two="\"lines\":2,\"pipes\":[$(serial pass),$(serial number),$(serial stamp)]"
+seven='p\nq\nr\ns\nt\nu\nv\n'
+numbered='== p\n0 0 p\n1 1 q\n2 2 r\n3 3 s\n4 4 t\n5 5 u\n6 6 v\n'
+pipes 'a pipeline' "$seven" "$three" 0 "$numbered" ''
+pipes 'a pipeline of more starts than the limit' "$seven" "$three" 0 "$numbered" '' --limit 2
+pipes 'a pipeline of no text' '' "$three" 0 '== p\n' ''
+pipes 'a pipeline of one line and one pipe' "$seven" "\"lines\":1,\"pipes\":[$(serial stamp)]" 0 '== p\n0 p\n1 q\n2 r\n3 s\n4 t\n5 u\n6 v\n' ''
+pipes 'a pipeline of more lines than tokens' 'x\n' "\"lines\":8,\"pipes\":[$(serial number),$(parallel pass)]" 0 '== p\n0 x\n' ''
+pipes 'parts of three lines' "$seven" "\"lines\":2,\"n\":3,\"pipes\":[$(serial count),$(parallel number)]" 0 '== p\n0 3\n1 3\n2 1\n' ''
+pipes 'tokens that wait' 'a\nb\nc\nd\ne\n' "$two,\"defer\":[{\"token\":1,\"to\":[3]},{\"token\":2,\"to\":[1]}]" \
+    0 '== p\n0 0 a\n1 3 d\n2 1 b\n3 2 c\n4 4 e\n' ''
+pipes 'a token that is freed before a smaller one' 'a\nb\nc\nd\n' "$two,\"defer\":[{\"token\":0,\"to\":[1]},{\"token\":1,\"to\":[3]},{\"token\":2,\"to\":[3]}]" \
+    0 '== p\n0 3 d\n1 1 b\n2 2 c\n3 0 a\n' ''
+pipes 'two tokens that are freed at once' 'a\nb\nc\n' "$two,\"defer\":[{\"token\":1,\"to\":[2]},{\"token\":0,\"to\":[2]}]" \
+    0 '== p\n0 2 c\n1 0 a\n2 1 b\n' ''
+pipes 'a token that waits for one before it' 'a\nb\n' "$two,\"defer\":[{\"token\":1,\"to\":[0,0]},{\"token\":65535,\"to\":[1000000]}]" \
+    0 '== p\n0 0 a\n1 1 b\n' ''
+pipes 'a token that waits for one that never comes' 'a\nb\nc\nd\ne\n' "$two,\"defer\":[{\"token\":1,\"to\":[3]},{\"token\":2,\"to\":[1]},{\"token\":4,\"to\":[9]}]" \
+    9 '-- p\n!! fault p/0.0: unmet 4\n' 'flow: fault p/0.0: unmet 4\n'
+pipes 'two tokens that wait for each other' 'a\nb\nc\nd\ne\n' "$two,\"defer\":[{\"token\":2,\"to\":[1]},{\"token\":1,\"to\":[2]}]" \
+    9 '-- p\n!! fault p/1.0: unmet 1\n' 'flow: fault p/1.0: unmet 1\n'
+pipes 'a token that waits for itself' 'a\nb\nc\nd\ne\nf\n' "$three,\"defer\":[{\"token\":0,\"to\":[0]}]" \
+    9 '-- p\n!! fault p/2.0: unmet 0\n' 'flow: fault p/2.0: unmet 0\n'
+pipes 'as many lines and pipes as there may be' 'a\nb\nc\n' \
+    "\"lines\":64,\"pipes\":[$(serial number)$(for _ in {1..15}; do printf ',%s,%s' "$(parallel pass)" "$(serial pass)"; done),$(parallel number)]" \
+    0 '== p\n0 0 a\n1 1 b\n2 2 c\n' ''
+# A pipeline in a module, with its path.
+echo "{\"tasks\":[$(task m module '"module":"k"')],\"modules\":[{\"name\":\"k\",\"tasks\":[$(read_to r '"p"'),$(task p pipe "$two,\"defer\":[{\"token\":1,\"to\":[1]}]")]}]}" >graph.json
+printf 'a\nb\n' >t.txt
+printf -- '-- m\n!! fault m/p/1.0: unmet 1\n' >"$seen/wanted_out"
+echo 'flow: fault m/p/1.0: unmet 1' >"$seen/wanted_notes"
+for workers in 1 4 16; do
+    call run graph.json --workers "$workers"
+    compare "a token that waits for itself in a module by $workers workers" 9 "$seen/wanted_out" "$seen/wanted_notes"
+done
+# As many rows as there may be, each with as many targets: token k waits for the eight behind it.
+rows_of() {
+    local k
+    for ((k = 0; k < $1; k++)); do echo "{\"token\":$k,\"to\":[$(seq -s , $((k + 1)) $((k + 8)))]}"; done | paste -sd ,
+}
+(yes x || true) | head -n 300 >t.txt
+{ echo '== p'; (seq 256 263 && seq 255 -1 0 && seq 264 299) | sed 's/$/ x/'; } >"$seen/wanted_out"
+: >"$seen/wanted_notes"
+runs_pipeline 'as many tokens that wait as there may be' "\"lines\":4,\"pipes\":[$(serial number)],\"defer\":[$(rows_of 256)]" 0
+# As many parts as there may be, and one more.
+(yes x || true) | head -n 65536 >t.txt
+{ echo '== p'; seq 0 65535 | sed 's/$/ x/'; } >"$seen/wanted_out"
+runs_pipeline 'a pipeline of 65536 parts' "\"lines\":4,\"pipes\":[$(serial stamp)]" 0
+{ echo '== p'; (seq 1 65535 && echo 0) | sed 's/$/ x/'; } >"$seen/wanted_out"
+runs_pipeline 'a pipeline whose last token frees the first' "\"lines\":64,\"pipes\":[$(serial number)],\"defer\":[{\"token\":0,\"to\":[65535]}]" 0
+echo x >>t.txt
+printf -- '-- p\n!! fault p: wide 65537\n' >"$seen/wanted_out"
+echo 'flow: fault p: wide 65537' >"$seen/wanted_notes"
+runs_pipeline 'a pipeline of 65537 parts' "\"lines\":4,\"pipes\":[$(serial stamp)]" 9
+printf '== p\n32769\n32768\n' >"$seen/wanted_out"
+: >"$seen/wanted_notes"
+runs_pipeline 'a pipeline of two large parts' "\"lines\":4,\"n\":32769,\"pipes\":[$(serial count)]" 0
+# What a cell makes of a token, and what all make together, that would be one and three bytes too long.
+{ head -c 16777214 /dev/zero | tr '\0' x; echo; } >t.txt
+printf -- '-- p\n!! fault p/0.0: long 16777217\n' >"$seen/wanted_out"
+echo 'flow: fault p/0.0: long 16777217' >"$seen/wanted_notes"
+runs_pipeline 'a token that becomes too long' "\"lines\":2,\"pipes\":[$(serial number),$(serial pass)]" 9
+{ head -c 8388607 /dev/zero | tr '\0' x; echo; head -c 8388606 /dev/zero | tr '\0' x; echo; } >t.txt
+printf -- '-- p\n!! fault p: long 16777219\n' >"$seen/wanted_out"
+echo 'flow: fault p: long 16777219' >"$seen/wanted_notes"
+runs_pipeline 'tokens that are too long together' "\"lines\":2,\"pipes\":[$(serial number),$(serial pass)]" 9
+# What is refused: the reason, and the fields of task 1.
+refuses_pipeline() {
+    pipeline_of "$2"
+    refused 3 "flow: bad graph: $1" run graph.json
+    refused 3 "flow: bad graph: $1" check graph.json
+}
+pass="\"pipes\":[$(serial pass)]"
+refuses_pipeline 'bad pipe in task 1: no lines' "\"lines\":0,\"pipes\":[]"
+refuses_pipeline 'bad pipe in task 1: no pipes' '"lines":65,"pipes":[]'
+refuses_pipeline 'bad pipe in task 1: first pipe is parallel' "\"lines\":65,\"pipes\":[$(parallel pass),$(serial pass)]"
+refuses_pipeline 'bad pipe in task 1: too many lines' "\"lines\":4294967295,\"pipes\":[$(for _ in {1..32}; do printf '%s,' "$(serial pass)"; done)$(serial pass)]"
+refuses_pipeline 'bad pipe in task 1: too many lines' "\"lines\":65,$pass"
+refuses_pipeline 'bad pipe in task 1: too many pipes' "\"lines\":64,\"pipes\":[$(for _ in {1..32}; do printf '%s,' "$(serial pass)"; done)$(serial pass)]"
+refuses_pipeline 'bad field lines in task 1' "\"lines\":4294967296,$pass"
+refuses_pipeline 'bad field lines in task 1' "$pass,\"n\":0"
+refuses_pipeline 'bad field n in task 1' "\"lines\":1,\"n\":0,\"pipes\":0"
+refuses_pipeline 'bad field pipes in task 1' '"lines":1,"defer":0'
+refuses_pipeline 'bad field pipes in task 1' "\"lines\":1,\"pipes\":[$(serial pass),$(parallel stamp)]"
+refuses_pipeline 'bad field pipes in task 1' "\"lines\":1,\"pipes\":[$(serial match)]"
+refuses_pipeline 'bad field pipes in task 1' '"lines":1,"pipes":[{"op":"pass"}]'
+refuses_pipeline 'bad field pipes in task 1' '"lines":1,"pipes":[{"serial":1,"op":"pass"}]'
+refuses_pipeline 'bad field pipes in task 1' '"lines":1,"pipes":[{"serial":true,"op":"number","n":1}]'
+refuses_pipeline 'bad field defer in task 1' "\"lines\":1,$pass,\"defer\":[{\"token\":65536,\"to\":[0]}]"
+refuses_pipeline 'bad field defer in task 1' "\"lines\":1,$pass,\"defer\":[{\"token\":0,\"to\":[1000001]}]"
+refuses_pipeline 'bad field defer in task 1' "\"lines\":1,$pass,\"defer\":[{\"token\":0,\"to\":[]}]"
+refuses_pipeline 'bad field defer in task 1' "\"lines\":1,$pass,\"defer\":[{\"token\":0,\"to\":[1,2,3,4,5,6,7,8,9]}]"
+refuses_pipeline 'bad field defer in task 1' "\"lines\":1,$pass,\"defer\":[{\"token\":0,\"to\":[1]},{\"token\":0,\"to\":[2]}]"
+refuses_pipeline 'bad field defer in task 1' "\"lines\":1,$pass,\"defer\":[$(rows_of 257)]"
+refuses_pipeline 'bad field each in task 1' "\"lines\":1,$pass,\"each\":$(serial pass)"
+refuses_pipeline 'no such name in to of task 1' "\"lines\":0,\"pipes\":[],\"to\":[\"q\"]"
+echo "{\"tasks\":[],\"modules\":[{\"name\":\"k\",\"tasks\":[$(task p pipe '"lines":1,"pipes":[]')]},{\"name\":\"m\",\"tasks\":[$(task p pipe '"lines":0,"pipes":[]')]}]}" >graph.json
+refused 3 'flow: bad graph: bad pipe in module 0 task 0: no pipes' run graph.json
+echo "{\"tasks\":[],\"modules\":[{\"name\":\"k\",\"tasks\":[$(task p pipe '"lines":1,"pipes":[]'),$(task m module '"module":"k"')]}]}" >graph.json
+refused 3 'flow: bad graph: module cycle at k' run graph.json
 cd "$top"
 
 # Files and texts past their limits, and texts that can't be read.

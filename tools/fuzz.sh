@@ -9,7 +9,7 @@ flow=crates/flow/out/flow
 seed=${1:-$((RANDOM * 32768 + RANDOM))}
 seconds=${2:-300}
 
-for tool in random_graphs many_workers semaphore_graphs nested_graphs found_values judged_journals failing_memory; do
+for tool in random_graphs many_workers semaphore_graphs nested_graphs pipe_graphs found_values judged_journals failing_memory; do
     echo "== tools/$tool.py, $seconds seconds, seed $seed"
     if ! python3 -B "tools/$tool.py" "$flow" --seed "$seed" --seconds "$seconds"; then
         echo "fuzz: tools/$tool.py found a fault or broke off; again with: make fuzz SEED=$seed" >&2

@@ -1,17 +1,20 @@
 -- The line of each status, written out.
-use Rattle.std.proofs.Common.{List, ℕ, ◌≡◌, [], ◌∷◌, None, Some, refl, codes}
+use Rattle.std.proofs.Common.{List, ℕ, ◌≡◌, [], ◌∷◌, None, Some, true, false, refl, codes}
 use Rattle.std.specs.Fmt.{digits}
 use Rattle.task_graph.specs.NetRows.{NetRows}
+use Rattle.graph_plans.specs.declared.ops.Op.{Op}
 use Rattle.graph_plans.specs.declared.ops.Op.TheVariants as op
 use Rattle.graph_plans.specs.declared.ops.TextOp.TheVariants.{Sort}
 use Rattle.graph_plans.specs.PlanRows.{GraphRows, PlanRows}
+use Rattle.graph_plans.specs.declared.pipes.LineOp.TheVariants.{Number, Stamp}
+use Rattle.pipe_lines.specs.declared.pipeline.PipeError.TheVariants as pipes
 use Rattle.graph_plans.specs.declared.spots.Spot.TheVariants.{File, Sem, Task, Module, ModuleSem, ModuleTask}
 use Rattle.graph_file.specs.declared.refusals.Kind.TheVariants as kind
 use Rattle.graph_file.specs.declared.refusals.GraphError.TheVariants as error
 use Rattle.journal_rules.specs.declared.entry.Why.TheVariants.{Long as TooLong, Wide, Unmet, Inner, OverRelease}
 use Rattle.legal_run.specs.declared.verdict.Break.TheVariants.{NotReleased}
 use Rattle.nested_runs.specs.declared.reasons.Reason.TheVariants as reason
-use Rattle.call_status.specs.Paths.{graph_behind, graph_run, path_from, path_text, task_text}
+use Rattle.call_status.specs.Paths.{among_behind, among_run, cell_text, cells, parts, path_from, path_text, task_text, tasks}
 use Rattle.call_status.specs.Reasons.{reason_line}
 use Rattle.call_status.specs.declared.status.Status.{Status}
 use Rattle.call_status.specs.declared.status.Status.TheVariants.{Done, BadWords, BadGraph, NoSource, NoText, LongText, ReadFault, WriteFault, Limit, TaskFault, Stuck, NotLegal, BadJournal, NoMemory}
@@ -63,6 +66,26 @@ too_much_depth = refl
 too_many_texts : line (BadGraph (error.TooMany kind.Texts)) ≡ codes "flow: bad graph: too many texts\n"
 too_many_texts = refl
 
+no_lines : line (BadGraph (error.BadPipe (Task 1) pipes.NoLines)) ≡ codes "flow: bad graph: bad pipe in task 1: no lines\n"
+unfolding digits
+no_lines = refl
+
+no_pipes : line (BadGraph (error.BadPipe (ModuleTask 0 2) pipes.NoPipes)) ≡ codes "flow: bad graph: bad pipe in module 0 task 2: no pipes\n"
+unfolding digits
+no_pipes = refl
+
+first_parallel : line (BadGraph (error.BadPipe (Task 1) pipes.FirstParallel)) ≡ codes "flow: bad graph: bad pipe in task 1: first pipe is parallel\n"
+unfolding digits
+first_parallel = refl
+
+too_many_lines : line (BadGraph (error.BadPipe (Task 0) pipes.TooManyLines)) ≡ codes "flow: bad graph: bad pipe in task 0: too many lines\n"
+unfolding digits
+too_many_lines = refl
+
+too_many_pipes : line (BadGraph (error.BadPipe (Task 0) pipes.TooManyPipes)) ≡ codes "flow: bad graph: bad pipe in task 0: too many pipes\n"
+unfolding digits
+too_many_pipes = refl
+
 no_memory_for_graph : line (BadGraph error.NoMemory) ≡ codes "flow: bad graph: no memory\n"
 no_memory_for_graph = refl
 
@@ -101,13 +124,16 @@ a_semaphore_in_a_module : spot_text (ModuleSem 0 70) ≡ codes "module 0 semapho
 unfolding digits
 a_semaphore_in_a_module = refl
 
--- A plan: tasks 0, 1 and 2 of its top graph are `a`, which runs a module, `b`, which is a spread, and `c`. The module's task
--- 0 is `x` and runs that module; its task 1 is `y`, a spread.
+-- A plan: tasks 0, 1 and 2 of its top graph are `a`, which runs a module, `b`, which is a spread, and `c`; task 3 is `d`, a
+-- pipeline of three pipes. The module's task 0 is `x` and runs that module; its task 1 is `y`, a spread.
 abbrev no_net : NetRows
 no_net = record { tasks = []; edges = []; sems = [] }
 
+abbrev piped : Op
+piped = op.Pipe (record { spec = record { lines = 2; serial = true ∷ false ∷ true ∷ [] }; ops = Number ∷ Number ∷ Stamp ∷ []; chunk = 1; defers = [] })
+
 abbrev top : GraphRows
-top = record { name = []; names = codes "a" ∷ codes "b" ∷ codes "c" ∷ []; ops = op.Module 0 ∷ op.Spread 1 Sort ∷ op.Match ∷ []; sem_names = []; net = no_net }
+top = record { name = []; names = codes "a" ∷ codes "b" ∷ codes "c" ∷ codes "d" ∷ []; ops = op.Module 0 ∷ op.Spread 1 Sort ∷ op.Match ∷ piped ∷ []; sem_names = []; net = no_net }
 
 abbrev inside : GraphRows
 inside = record { name = codes "m"; names = codes "x" ∷ codes "y" ∷ []; ops = op.Module 0 ∷ op.Spread 1 Sort ∷ []; sem_names = []; net = no_net }
@@ -115,44 +141,62 @@ inside = record { name = codes "m"; names = codes "x" ∷ codes "y" ∷ []; ops 
 abbrev plan : PlanRows
 plan = record { top = top; modules = inside ∷ []; texts = [] }
 
-module_is_run : graph_run (inside ∷ []) (op.Module 0) ≡ Some inside
+module_is_run : among_run (inside ∷ []) (op.Module 0) ≡ tasks inside
 module_is_run = refl
 
-no_such_module_is_run : graph_run (inside ∷ []) (op.Module 1) ≡ None
+no_such_module_is_run : among_run (inside ∷ []) (op.Module 1) ≡ parts
 no_such_module_is_run = refl
 
-parts_are_run : graph_run (inside ∷ []) (op.Spread 1 Sort) ≡ None
+parts_are_run : among_run (inside ∷ []) (op.Spread 1 Sort) ≡ parts
 parts_are_run = refl
 
-behind_a_task : graph_behind (inside ∷ []) (Some top) 0 ≡ Some inside
+cells_are_run : among_run (inside ∷ []) piped ≡ cells 3
+cells_are_run = refl
+
+behind_a_task : among_behind (inside ∷ []) (tasks top) 0 ≡ tasks inside
 behind_a_task = refl
 
-behind_no_task : graph_behind (inside ∷ []) (Some top) 3 ≡ None
+behind_no_task : among_behind (inside ∷ []) (tasks top) 4 ≡ parts
 behind_no_task = refl
 
-behind_a_part : graph_behind (inside ∷ []) None 0 ≡ None
+behind_a_part : among_behind (inside ∷ []) parts 0 ≡ parts
 behind_a_part = refl
 
-named_task : task_text (Some inside) 1 ≡ codes "y"
+behind_a_cell : among_behind (inside ∷ []) (cells 3) 0 ≡ parts
+behind_a_cell = refl
+
+named_task : task_text (tasks inside) 1 ≡ codes "y"
 named_task = refl
 
-unnamed_task : task_text (Some inside) 2 ≡ []
+unnamed_task : task_text (tasks inside) 2 ≡ []
 unnamed_task = refl
 
-numbered_part : task_text None 65535 ≡ codes "65535"
+numbered_part : task_text parts 65535 ≡ codes "65535"
 unfolding digits
 numbered_part = refl
 
-path_of_no_task : path_from (inside ∷ []) (Some inside) [] ≡ []
+numbered_cell : (task_text (cells 3) 5 ≡ codes "1.2") × (task_text (cells 1) 12 ≡ codes "12.0")
+unfolding digits
+numbered_cell = (refl, refl)
+
+cell_of_no_pipe : cell_text 0 7 ≡ codes "7"
+unfolding digits
+cell_of_no_pipe = refl
+
+path_of_no_task : path_from (inside ∷ []) (tasks inside) [] ≡ []
 path_of_no_task = refl
 
-path_among_parts : path_from (inside ∷ []) None (7 ∷ 0 ∷ []) ≡ codes "7/0"
+path_among_parts : path_from (inside ∷ []) parts (7 ∷ 0 ∷ []) ≡ codes "7/0"
 unfolding digits
 path_among_parts = refl
 
 path_through_modules : path_text (Some plan) (0 ∷ 0 ∷ 0 ∷ 1 ∷ 12 ∷ []) ≡ codes "a/x/x/y/12"
 unfolding digits
 path_through_modules = refl
+
+path_to_a_cell : path_text (Some plan) (3 ∷ 4 ∷ []) ≡ codes "d/1.1"
+unfolding digits
+path_to_a_cell = refl
 
 path_without_a_plan : path_text None (1 ∷ 20 ∷ []) ≡ codes "1/20"
 unfolding digits
@@ -171,6 +215,10 @@ fault_of_a_part : note_line (Some plan) (TaskFault (1 ∷ 30 ∷ []) (TooLong 16
 unfolding digits
 fault_of_a_part = refl
 
+unmet_token : note_line (Some plan) (TaskFault (3 ∷ 0 ∷ []) (Unmet 4)) ≡ codes "flow: fault d/0.0: unmet 4\n"
+unfolding digits
+unmet_token = refl
+
 whys : (note_line (Some plan) (TaskFault (0 ∷ []) (Unmet 4)) ≡ codes "flow: fault a: unmet 4\n") × (note_line (Some plan) (TaskFault (0 ∷ []) (OverRelease 0)) ≡ codes "flow: fault a: over 0\n")
 unfolding digits
 whys = (refl, refl)
@@ -179,7 +227,7 @@ run_inside : note_line (Some plan) (TaskFault (0 ∷ []) Inner) ≡ codes "flow:
 run_inside = refl
 
 -- a task without a name, and no task
-nobody : (note_line (Some plan) (TaskFault (3 ∷ []) Inner) ≡ codes "flow: fault : inner\n") × (note_line (Some plan) (Stuck []) ≡ codes "flow: stuck \n")
+nobody : (note_line (Some plan) (TaskFault (4 ∷ []) Inner) ≡ codes "flow: fault : inner\n") × (note_line (Some plan) (Stuck []) ≡ codes "flow: stuck \n")
 nobody = (refl, refl)
 
 limit : note_line (Some plan) (Limit [] 10) ≡ codes "flow: limit 10\n"

@@ -6,3 +6,4 @@ pub mod Reasons
 pub mod Notes
 pub mod Delivery
 pub mod Noting
+pub mod inside

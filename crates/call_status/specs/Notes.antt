@@ -7,6 +7,8 @@ use Rattle.graph_file.specs.declared.refusals.Kind.{Kind}
 use Rattle.graph_file.specs.declared.refusals.Kind.TheVariants as kind
 use Rattle.graph_file.specs.declared.refusals.GraphError.{GraphError}
 use Rattle.graph_file.specs.declared.refusals.GraphError.TheVariants as error
+use Rattle.pipe_lines.specs.declared.pipeline.PipeError.{PipeError}
+use Rattle.pipe_lines.specs.declared.pipeline.PipeError.TheVariants as pipes
 use Rattle.call_status.specs.Reasons.{fault_text, limit_text, stuck_text}
 use Rattle.call_status.specs.declared.status.Status.{Status}
 use Rattle.call_status.specs.declared.status.Status.TheVariants.{Done, BadWords, BadGraph, NoSource, NoText, LongText, ReadFault, WriteFault, Limit, TaskFault, Stuck, NotLegal, BadJournal, NoMemory}
@@ -29,6 +31,15 @@ kind_text kind.Modules = codes "modules"
 kind_text kind.Depth = codes "depth"
 kind_text kind.Texts = codes "texts"
 
+-- Why pipes are no pipeline.
+abbrev pub pipe_error_text : PipeError → List ℕ
+pipe_error_text pipes.NoLines = codes "no lines"
+pipe_error_text pipes.NoPipes = codes "no pipes"
+pipe_error_text pipes.FirstParallel = codes "first pipe is parallel"
+pipe_error_text pipes.TooManyLines = codes "too many lines"
+pipe_error_text pipes.TooManyPipes = codes "too many pipes"
+pipe_error_text pipes.NoMemory = codes "no memory"
+
 -- Why the bytes are no graph file. The names of fields and modules are written as they are.
 abbrev pub graph_error_text : GraphError → List ℕ
 graph_error_text error.NotJson = codes "not JSON"
@@ -37,6 +48,7 @@ graph_error_text (error.NoSuchName spot field) = codes "no such name in " ++ fie
 graph_error_text (error.Repeated spot field) = codes "repeated name in " ++ field ++ codes " of " ++ spot_text spot
 graph_error_text (error.ModuleCycle name) = codes "module cycle at " ++ name
 graph_error_text (error.TooMany much) = codes "too many " ++ kind_text much
+graph_error_text (error.BadPipe spot why) = codes "bad pipe in " ++ spot_text spot ++ codes ": " ++ pipe_error_text why
 graph_error_text error.NoMemory = codes "no memory"
 
 -- Where a source is missing. The graph itself needs no word.

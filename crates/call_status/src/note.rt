@@ -2,7 +2,7 @@
 ghost use Rattle.std.specs.Prelude.{◌≡◌, ◌++◌, [], List, ℕ, codes, decimal, IfOk, OnOk};
 ghost use Rattle.std.specs.Option.{option_copied, option_map};
 ghost use Rattle.graph_plans.specs.PlanRows.{plan_rows};
-ghost use Rattle.call_status.specs.Notes.{graph_error_text, kind_text, note_line, spot_text, within_text};
+ghost use Rattle.call_status.specs.Notes.{graph_error_text, kind_text, note_line, pipe_error_text, spot_text, within_text};
 ghost use Rattle.call_status.specs.Noting.{HasNoted, TakesLine};
 ghost use Rattle.call_status.specs.Reasons.{fault_text, limit_text, stuck_text};
 
@@ -13,6 +13,7 @@ use graph_file::{GraphError, Kind};
 use graph_plans::{Plan, Spot};
 use journal_rules::Why;
 use outside_io::{Bytes, List, NoMemory, Sink, SinkFault, add_numbered};
+use pipe_lines::PipeError;
 use std::alloc::Global;
 
 /// Writes the line of a status to `notes`, the diagnostics sink, and flushes it. With `Done` there is no line, and the
@@ -191,21 +192,39 @@ fn add_graph_error(line: &mut Bytes, error: &GraphError) -> Result<(), NoMemory>
             b" of ",
             *spot,
         ),
-        GraphError::ModuleCycle(name) => add_behind(line, b"module cycle at ", name),
+        GraphError::ModuleCycle(name) => add_behind(line, b"module cycle at ", name.as_slice()),
         GraphError::TooMany(kind) => {
             line.add_all(b"too many ")?;
             line.add_all(plural_of(*kind))
         }
+        GraphError::BadPipe(spot, why) => add_pipe_error(line, *spot, *why),
         GraphError::NoMemory => line.add_all(b"no memory"),
     }
 }
 
-// Adds a name as it is, behind a text.
-fn add_behind(line: &mut Bytes, before: &[u8], name: &Bytes) -> Result<(), NoMemory>
-    ensures { OnOk result (line.new ≡ line.old ++ (before.now ++ name.now)) }
+// Adds of which task the pipes are no pipeline, and why.
+fn add_pipe_error(line: &mut Bytes, spot: Spot, why: PipeError) -> Result<(), NoMemory>
+    ensures { OnOk result (line.new
+        ≡ line.old ++ (codes "bad pipe in " ++ spot_text spot ++ codes ": " ++ pipe_error_text why)) }
+{
+    add_before_spot(line, b"bad pipe in ", spot)?;
+    add_behind(line, b": ", pipe_error(why))
+}
+
+// Adds a text, and a place in a graph file behind it.
+fn add_before_spot(line: &mut Bytes, before: &[u8], spot: Spot) -> Result<(), NoMemory>
+    ensures { OnOk result (line.new ≡ line.old ++ (before.now ++ spot_text spot)) }
 {
     line.add_all(before)?;
-    line.add_all(name.as_slice())
+    add_spot(line, spot)
+}
+
+// Adds a text, and another behind it.
+fn add_behind(line: &mut Bytes, before: &[u8], text: &[u8]) -> Result<(), NoMemory>
+    ensures { OnOk result (line.new ≡ line.old ++ (before.now ++ text.now)) }
+{
+    line.add_all(before)?;
+    line.add_all(text)
 }
 
 // Adds what is wrong with a field, and which field of the file it is.
@@ -248,6 +267,19 @@ fn add_spot(line: &mut Bytes, spot: Spot) -> Result<(), NoMemory>
             add_numbered(line, b"module ", u64::from(module))?;
             add_numbered(line, b" task ", u64::from(task))
         }
+    }
+}
+
+fn pipe_error(why: PipeError) -> &'static [u8]
+    ensures { result.now ≡ pipe_error_text why }
+{
+    match why {
+        PipeError::NoLines => b"no lines",
+        PipeError::NoPipes => b"no pipes",
+        PipeError::FirstParallel => b"first pipe is parallel",
+        PipeError::TooManyLines => b"too many lines",
+        PipeError::TooManyPipes => b"too many pipes",
+        PipeError::NoMemory => b"no memory",
     }
 }
 

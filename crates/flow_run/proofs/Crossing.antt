@@ -1,6 +1,7 @@
 -- What goes to the threads that enter the seats of a crew of text jobs.
 use denote.RattleType.{RattleType}
-use denote.Param.Send.{IsSend, IsSync, sendable}
+use denote.Param.Send.{IsSend, IsSync, recorded_send, recorded_sync, sendable, struct_send, struct_sync}
+use denote.Struct.Declared.{shape}
 use Rattle.std.proofs.Crossing.{crosses, frees}
 use Rattle.std.proofs.alloc.Global.TheSendSync as heap
 use Rattle.std.proofs.option.Option.TheSendSync as option
@@ -10,6 +11,11 @@ use Rattle.boxcar.proofs.tag.Tag.TheSendSync as tag
 use Rattle.worker_seat.proofs.Crossing.{seat_send, crew_sync}
 use Rattle.worker_seat.specs.contracts.seat.WorkerSeat as worker_seat
 use Rattle.worker_seat.specs.contracts.crew.Crew as crew
+use Rattle.pipe_lines.specs.contracts.deferral.DeferRow as defer_row
+use Rattle.pipe_lines.specs.contracts.order.Order as order
+use Rattle.pipe_lines.specs.contracts.pipeline.PipeSpec as pipe_spec
+use Rattle.graph_plans.specs.contracts.pipes.LineOp as line_op
+use Rattle.graph_plans.specs.contracts.pipes.PipePlan as pipe_plan
 use Rattle.graph_plans.specs.contracts.ops.Op as op
 use Rattle.graph_plans.specs.contracts.ops.TextOp as text_op
 use Rattle.graph_plans.specs.contracts.plans.Graph as graph
@@ -17,7 +23,9 @@ use Rattle.graph_plans.specs.contracts.plans.Plan as plan
 use Rattle.text_tasks.specs.contracts.table.TextTable as text_table
 use Rattle.text_tasks.specs.contracts.graph_job.GraphJob as graph_job
 use Rattle.text_tasks.specs.contracts.parts_job.PartsJob as parts_job
+use Rattle.text_tasks.specs.contracts.pipe_job.PipeJob as pipe_job
 use Rattle.text_tasks.specs.contracts.job.TextJob as text_job
+use Rattle.text_tasks.specs.contracts.item.CellItem as cell_item
 use Rattle.text_tasks.specs.contracts.item.Item as item
 use Rattle.text_tasks.specs.contracts.job.TextJobJob.TheImpl as job
 use Rattle.text_tasks.specs.contracts.job.TextJobValued.TheImpl as valued
@@ -38,23 +46,58 @@ text_op_send = search (crosses, frees, sendable) depth 60 fits 20000
 text_op_sync : IsSync text_op.the_row
 text_op_sync = search (crosses, frees, sendable) depth 60 fits 20000
 
+-- a pipeline, by what it is made of
+defer_row_send : IsSend defer_row.the_row
+defer_row_send = search (crosses, frees, sendable) depth 60 fits 20000
+
+defer_row_sync : IsSync defer_row.the_row
+defer_row_sync = search (crosses, frees, sendable) depth 60 fits 20000
+
+order_send : IsSend order.the_row
+order_send = search (crosses, frees, sendable) depth 60 fits 20000
+
+order_sync : IsSync order.the_row
+order_sync = search (crosses, frees, sendable) depth 60 fits 20000
+
+pipe_spec_send : IsSend pipe_spec.the_row
+pipe_spec_send = search (crosses, frees, sendable) depth 60 fits 20000
+
+pipe_spec_sync : IsSync pipe_spec.the_row
+pipe_spec_sync = search (crosses, frees, sendable) depth 60 fits 20000
+
+line_op_send : IsSend line_op.the_row
+line_op_send = search (text_op_send, text_op_sync, crosses, frees, sendable) depth 60 fits 20000
+
+line_op_sync : IsSync line_op.the_row
+line_op_sync = search (text_op_send, text_op_sync, crosses, frees, sendable) depth 60 fits 20000
+
+pipe_plan_send : IsSend pipe_plan.the_row
+pipe_plan_send = search (defer_row_send, defer_row_sync, pipe_spec_send, line_op_send, line_op_sync, crosses, frees, sendable) depth 60 fits 20000
+
+pipe_plan_sync : IsSync pipe_plan.the_row
+pipe_plan_sync = search (defer_row_send, defer_row_sync, pipe_spec_sync, line_op_send, line_op_sync, crosses, frees, sendable) depth 60 fits 20000
+
 op_send : IsSend op.the_row
-op_send = search (text_op_send, text_op_sync, crosses, frees, sendable) depth 60 fits 20000
+op_send = search (text_op_send, text_op_sync, pipe_plan_send, crosses, frees, sendable) depth 60 fits 20000
 
 op_sync : IsSync op.the_row
-op_sync = search (text_op_send, text_op_sync, crosses, frees, sendable) depth 60 fits 20000
+op_sync = search (text_op_send, text_op_sync, pipe_plan_sync, crosses, frees, sendable) depth 60 fits 20000
 
-graph_send : IsSend graph.the_row
-graph_send = search (op_send, op_sync, crosses, frees, sendable) depth 60 fits 20000
+graph_field_send : IsSend graph.the_field.row
+graph_field_send = search (op_send, op_sync, crosses, frees, sendable) depth 60 fits 20000
 
-graph_sync : IsSync graph.the_row
-graph_sync = search (op_send, op_sync, crosses, frees, sendable) depth 60 fits 20000
+graph_field_sync : IsSync graph.the_field.row
+graph_field_sync = search (op_send, op_sync, crosses, frees, sendable) depth 60 fits 20000
 
 plan_send : IsSend plan.the_row
-plan_send = search (graph_send, graph_sync, crosses, frees, sendable) depth 60 fits 20000
+plan_send =
+    recorded_send plan.the_field.row _ _ plan.the_type.to_one
+    (struct_send (shape plan.the_type) (graph_field_send, (search (graph_field_send, graph_field_sync, crosses, frees, sendable) depth 60 fits 20000, (search (crosses, frees, sendable) depth 60 fits 20000, tt))))
 
 plan_sync : IsSync plan.the_row
-plan_sync = search (graph_send, graph_sync, crosses, frees, sendable) depth 60 fits 20000
+plan_sync =
+    recorded_sync plan.the_field.row _ _ plan.the_type.to_one
+    (struct_sync (shape plan.the_type) (graph_field_sync, (search (graph_field_send, graph_field_sync, crosses, frees, sendable) depth 60 fits 20000, (search (crosses, frees, sendable) depth 60 fits 20000, tt))))
 
 graph_job_send : IsSend graph_job.the_row
 graph_job_send = search (table_send, table_sync, plan_send, plan_sync, texts) depth 60 fits 20000
@@ -68,17 +111,29 @@ parts_job_send = search (text_op_send, text_op_sync, texts) depth 60 fits 20000
 parts_job_sync : IsSync parts_job.the_row
 parts_job_sync = search (text_op_send, text_op_sync, texts) depth 60 fits 20000
 
+pipe_job_send : IsSend pipe_job.the_row
+pipe_job_send = search (line_op_send, line_op_sync, pipe_spec_send, order_send, texts) depth 60 fits 20000
+
+pipe_job_sync : IsSync pipe_job.the_row
+pipe_job_sync = search (line_op_send, line_op_sync, pipe_spec_sync, order_sync, texts) depth 60 fits 20000
+
 job_send : IsSend text_job.the_row
-job_send = search (graph_job_send, parts_job_send, texts) depth 60 fits 20000
+job_send = search (graph_job_send, parts_job_send, pipe_job_send, texts) depth 60 fits 20000
 
 job_sync : IsSync text_job.the_row
-job_sync = search (graph_job_sync, parts_job_sync, texts) depth 60 fits 20000
+job_sync = search (graph_job_sync, parts_job_sync, pipe_job_sync, texts) depth 60 fits 20000
+
+cell_item_send : IsSend cell_item.the_row
+cell_item_send = search (crosses, frees, sendable) depth 60 fits 20000
+
+cell_item_sync : IsSync cell_item.the_row
+cell_item_sync = search (crosses, frees, sendable) depth 60 fits 20000
 
 item_send : IsSend item.the_row
-item_send = search (crosses, frees, sendable) depth 60 fits 20000
+item_send = search (cell_item_send, crosses, frees, sendable) depth 60 fits 20000
 
 item_sync : IsSync item.the_row
-item_sync = search (crosses, frees, sendable) depth 60 fits 20000
+item_sync = search (cell_item_sync, crosses, frees, sendable) depth 60 fits 20000
 
 -- a seat with a watcher that may be sent
 pub seat_crosses : (X : RattleType) → IsSend X → IsSend (worker_seat.the_row text_job.the_row X item.the_row job.ghosts valued.ghosts)

@@ -16,11 +16,14 @@ use Rattle.nested_runs.specs.Reasons.{run_reason}
 use Rattle.nested_runs.specs.declared.reasons.Reason.{Reason}
 use Rattle.nested_runs.specs.declared.reasons.Reason.TheVariants.{Fine, Fault, Limit, Stuck}
 use Rattle.run_frame.specs.NestedRule.{job_of}
+use Rattle.run_frame.specs.Legal.{IsKept}
 use Rattle.text_ops.specs.Lines.{normal}
 use Rattle.text_tasks.specs.declared.job.TextJob.{TextJob}
-use Rattle.text_tasks.specs.declared.job.TextJob.TheVariants.{Graph, Parts}
+use Rattle.text_tasks.specs.declared.job.TextJob.TheVariants.{Graph, Parts, Pipe}
 use Rattle.text_tasks.specs.JobMeaning.{text_job}
 use Rattle.run_laws.specs.PlainReport.{HasSameReport, IsPlainJob, IsPlanned, RunsWell, plain_report}
+use Rattle.pipe_laws.specs.TextPipes.{PipesInOrder}
+use Rattle.pipe_laws.proofs.TextInside.{pipes_in_order}
 use Rattle.run_laws.proofs.TextPlain.{same_report}
 use Rattle.flow_run.specs.declared.conclusion.Conclusion.{Conclusion}
 use Rattle.flow_run.specs.Requests.{SourceTexts, CanBeRun, IsHeld, IsRequestedJob, IsTextOf, TextsAre, file_limit, text_limit}
@@ -60,7 +63,9 @@ one_job text file limit (Graph one) (Graph two) is also =
     ∙ ap (λ i. Graph (record two { input = i; limit = one.limit })) (is.input ∙ sym also.input)
     ∙ ap (λ l. Graph (record two { limit = l })) (is.starts ∙ sym also.starts)
 one_job text file limit (Graph one) (Parts two) is also = absurd also
+one_job text file limit (Graph one) (Pipe two) is also = absurd also
 one_job text file limit (Parts one) other is also = absurd is
+one_job text file limit (Pipe one) other is also = absurd is
 
 -- ---- what is at hand
 
@@ -82,6 +87,7 @@ at_hand held asked (Graph work) asks =
     } in
     subst (λ h. IsAtHand h asked) (sym asks.specified) (subst (λ a. IsAtHand (Some asks.text) a) (sym asks.asks) can)
 at_hand held asked (Parts work) asks = absurd asks.requested
+at_hand held asked (Pipe work) asks = absurd asks.requested
 
 -- ---- how the call ends
 
@@ -108,6 +114,7 @@ never_done stop.NoMemory same = cc
 planned : (held : SourceTexts) (file : List ℕ) (limit : ℕ) (job : TextJob) → IsRequestedJob held file limit job → IsPlanned job
 planned held file limit (Graph work) is = (IsPlan-read is.plan.bytes work.plan is.plan.stands, is.top)
 planned held file limit (Parts work) is = absurd is
+planned held file limit (Pipe work) is = absurd is
 
 no_run_and_judgement : (file other name : List ℕ) (limit most workers : ℕ) (rounds : AskedRounds) (journal : Bool) → Some (run file limit workers rounds journal) ≡ Some (judge other name most) → ⊥
 no_run_and_judgement file other name limit most workers rounds journal same = cc
@@ -124,22 +131,37 @@ no_run_and_upgrade file other limit workers rounds journal same = cc
 same_request : (file other : List ℕ) (limit most workers hands : ℕ) (rounds often : AskedRounds) (journal instead : Bool) → Some (run file limit workers rounds journal) ≡ Some (run other most hands often instead) → (file ≡ other) × (limit ≡ most) × (rounds ≡ often)
 same_request file other limit most workers hands rounds often journal instead same = (cc, cc, cc)
 
--- Each round of a file reports what one thread does, also where the source doesn't specify the texts that it holds.
-run_plainly : (held : SourceTexts) (file : List ℕ) (limit : ℕ) (rounds : AskedRounds) (status : Status) (runs : List TextRun) → RunEnds held file limit rounds status runs → All IsReportedPlainly runs
-run_plainly held file limit rounds status runs (inl stopped) = subst (All IsReportedPlainly) (sym stopped.none) (All-nil _)
-run_plainly held file limit rounds status runs (inr ran) =
-    let all = rounds_planned ran.job runs ran.first.rounds (planned held file limit ran.job ran.is) in
-    λ k d below plain. same_report (slice_index_or runs k d) plain (all k d below) (ran.first.rounds.kept k d below)
+-- What holds of each kept run of a plan's top graph.
+abbrev EachKept : (TextRun → Type 0) → Type 0
+EachKept Holds = (run : TextRun) → IsPlanned (job_of run) → IsKept text_job run → Holds run
 
--- So does each run that is kept.
+-- So it does of each round of a file, also where the source doesn't specify the texts that it holds.
+each_round : (Holds : TextRun → Type 0) → EachKept Holds
+    → (held : SourceTexts) (file : List ℕ) (limit : ℕ) (rounds : AskedRounds) (status : Status) (runs : List TextRun) → RunEnds held file limit rounds status runs → All Holds runs
+each_round Holds law held file limit rounds status runs (inl stopped) = subst (All Holds) (sym stopped.none) (All-nil _)
+each_round Holds law held file limit rounds status runs (inr ran) =
+    let all = rounds_planned ran.job runs ran.first.rounds (planned held file limit ran.job ran.is) in
+    λ k d below. law (slice_index_or runs k d) (all k d below) (ran.first.rounds.kept k d below)
+
+-- and of each run that a call keeps
+each_kept : (Holds : TextRun → Type 0) → EachKept Holds
+    → (held : SourceTexts) (arguments : List (List ℕ)) (status : Status) (runs : List TextRun) (concluded : Option Conclusion) → CallEnds held arguments status runs concluded → All Holds runs
+each_kept Holds law held arguments status runs concluded (inl (file, limit, workers, rounds, journal, asked, ends, none)) = each_round Holds law held file limit rounds status runs ends
+each_kept Holds law held arguments status runs concluded (inr (inl (file, limit, workers, rounds, asked, ends))) =
+    each_round Holds law held file limit rounds status runs (run_of_profile held file limit rounds status runs concluded ends)
+each_kept Holds law held arguments status runs concluded (inr (inr (inl (file, name, limit, asked, ends, none)))) = subst (All Holds) (sym none) (All-nil _)
+each_kept Holds law held arguments status runs concluded (inr (inr (inr (inl (file, asked, ends, none))))) = subst (All Holds) (sym none) (All-nil _)
+each_kept Holds law held arguments status runs concluded (inr (inr (inr (inr (inl (file, asked, ends, none)))))) = subst (All Holds) (sym none) (All-nil _)
+each_kept Holds law held arguments status runs concluded (inr (inr (inr (inr (inr (inl (same, none, nothing, never))))))) = subst (All Holds) (sym none) (All-nil _)
+each_kept Holds law held arguments status runs concluded (inr (inr (inr (inr (inr (inr (same, none, nothing))))))) = subst (All Holds) (sym none) (All-nil _)
+
+-- Each run that is kept reports what one thread does.
 pub kept_plainly : (held : SourceTexts) (arguments : List (List ℕ)) (status : Status) (runs : List TextRun) (concluded : Option Conclusion) → CallEnds held arguments status runs concluded → All IsReportedPlainly runs
-kept_plainly held arguments status runs concluded (inl (file, limit, workers, rounds, journal, asked, ends, none)) = run_plainly held file limit rounds status runs ends
-kept_plainly held arguments status runs concluded (inr (inl (file, limit, workers, rounds, asked, ends))) = run_plainly held file limit rounds status runs (run_of_profile held file limit rounds status runs concluded ends)
-kept_plainly held arguments status runs concluded (inr (inr (inl (file, name, limit, asked, ends, none)))) = subst (All IsReportedPlainly) (sym none) (All-nil _)
-kept_plainly held arguments status runs concluded (inr (inr (inr (inl (file, asked, ends, none))))) = subst (All IsReportedPlainly) (sym none) (All-nil _)
-kept_plainly held arguments status runs concluded (inr (inr (inr (inr (inl (file, asked, ends, none)))))) = subst (All IsReportedPlainly) (sym none) (All-nil _)
-kept_plainly held arguments status runs concluded (inr (inr (inr (inr (inr (inl (same, none, nothing, never))))))) = subst (All IsReportedPlainly) (sym none) (All-nil _)
-kept_plainly held arguments status runs concluded (inr (inr (inr (inr (inr (inr (same, none, nothing))))))) = subst (All IsReportedPlainly) (sym none) (All-nil _)
+kept_plainly = each_kept IsReportedPlainly (λ run planned kept plain. same_report run plain planned kept)
+
+-- In each of them pipelines keep the order of their tokens.
+pub kept_in_order : (held : SourceTexts) (arguments : List (List ℕ)) (status : Status) (runs : List TextRun) (concluded : Option Conclusion) → CallEnds held arguments status runs concluded → All PipesInOrder runs
+kept_in_order = each_kept PipesInOrder pipes_in_order
 
 module _ (held : SourceTexts) (arguments : List (List ℕ)) (status : Status) (job : TextJob) (asks : AsksPlainly held (asked_by arguments) job) where
   -- the job whose rounds are run is this one

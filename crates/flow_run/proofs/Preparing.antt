@@ -4,7 +4,7 @@ use Rattle.std.specs.Prelude.{All, IfErr, IsErrAnd, Result, Ok, Err}
 use Rattle.std.proofs.lemmas.List.{take_more}
 use Rattle.std.proofs.lemmas.List.Elements.{All-nil, All-cons}
 use Rattle.graph_file.specs.declared.refusals.GraphError.{GraphError}
-use Rattle.graph_file.specs.declared.refusals.GraphError.TheVariants.{NotJson, BadField, NoSuchName, Repeated, ModuleCycle, TooMany, NoMemory as NoMemoryToRead}
+use Rattle.graph_file.specs.declared.refusals.GraphError.TheVariants.{NotJson, BadField, NoSuchName, Repeated, ModuleCycle, TooMany, NoMemory as NoMemoryToRead, BadPipe}
 use Rattle.graph_plans.specs.PlanRows.{PlanRows, IsPlan}
 use Rattle.graph_file.specs.PlanText.{PlanText, IsRefused}
 use Rattle.text_ops.specs.Lines.{normal, is_normal, line_end}
@@ -88,6 +88,7 @@ refused_bytes bytes error why memory bad refused = by_error error refl
     by_error (Repeated spot field) is = other (λ out. cc)
     by_error (ModuleCycle name) is = other (λ out. cc)
     by_error (TooMany kind) is = other (λ out. cc)
+    by_error (BadPipe spot why) is = other (λ out. cc)
     by_error NoMemoryToRead is = subst (StopsAtPlan bytes) (sym (memory is)) tt
 
 -- what stands for no plan stops a run too

@@ -26,7 +26,7 @@ use Rattle.profile_table.specs.declared.row.TableRow.{TableRow}
 use Rattle.run_frame.specs.NestedRule.{job_of, journal_of}
 use Rattle.text_tasks.specs.GraphWork.{first_work}
 use Rattle.text_tasks.specs.declared.job.TextJob.{TextJob}
-use Rattle.text_tasks.specs.declared.job.TextJob.TheVariants.{Graph, Parts}
+use Rattle.text_tasks.specs.declared.job.TextJob.TheVariants.{Graph, Parts, Pipe}
 use Rattle.text_tasks.specs.JobMeaning.{job_plan, limit_of, names_of, text_job}
 use Rattle.flow_run.specs.declared.conclusion.Conclusion.{Conclusion}
 use Rattle.flow_run.specs.declared.conclusion.Conclusion.TheVariants as conclusion
@@ -281,6 +281,7 @@ profile_of_another_limit run concluded limit (inr ended) = absurd (omega (arith,
     starts : (job : TextJob) → IsRequestedJob held g 77 job → limit_of job ≡ 77
     starts (Graph work) is = is.starts
     starts (Parts work) is = absurd is
+    starts (Pipe work) is = absurd is
 
 module _ (arguments : List (List ℕ)) (asks : asked_by arguments ≡ Some (profile_asked g 77 4 once)) where
   call_of_a_profile : (status : Status) (runs : List TextRun) (concluded : Option Conclusion) → ProfileEnds held g 77 once status runs concluded → CallEnds held arguments status runs concluded

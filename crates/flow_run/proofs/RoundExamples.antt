@@ -19,8 +19,9 @@ use Rattle.run_laws.specs.Output.{report_of}
 use Rattle.text_ops.specs.TextMeaning.{has_word}
 use Rattle.text_tasks.specs.GraphWork.{GraphWork}
 use Rattle.text_tasks.specs.PartsWork.{PartsWork}
+use Rattle.text_tasks.specs.PipeWork.{PipeWork}
 use Rattle.text_tasks.specs.declared.job.TextJob.{TextJob}
-use Rattle.text_tasks.specs.declared.job.TextJob.TheVariants.{Graph, Parts}
+use Rattle.text_tasks.specs.declared.job.TextJob.TheVariants.{Graph, Parts, Pipe}
 use Rattle.text_tasks.specs.JobMeaning.{IsGraphJob, feedback_of, limit_of, text_job}
 use Rattle.flow_run.specs.Requests.{SourceTexts, IsRequestedJob}
 use Rattle.flow_run.specs.Answers.{IsAfterRun, JobEnds, RanRounds, RunEnds}
@@ -83,8 +84,8 @@ module _ (run other : TextRun) where
 
 -- ---- the rounds of a job
 
-of_graphs_alone : (work : GraphWork) (parts : PartsWork) → IsGraphJob (Graph work) × ¬ IsGraphJob (Parts parts)
-of_graphs_alone work parts = (tt, λ is. is)
+of_graphs_alone : (work : GraphWork) (parts : PartsWork) (pipes : PipeWork) → IsGraphJob (Graph work) × ¬ IsGraphJob (Parts parts) × ¬ IsGraphJob (Pipe pipes)
+of_graphs_alone work parts pipes = (tt, (λ is. is), (λ is. is))
 
 module _ (job : TextJob) where
   no_rounds : (rounds : AskedRounds) → AreFirstRounds text_job job (round_rule rounds) []
@@ -145,6 +146,7 @@ run_of_another_limit held file run limit (inr ran) = absurd (omega (arith, limit
     starts : (job : TextJob) → IsRequestedJob held file 77 job → limit_of job ≡ 77
     starts (Graph work) is = is.starts
     starts (Parts work) is = absurd is
+    starts (Pipe work) is = absurd is
 
 -- ---- a first round
 

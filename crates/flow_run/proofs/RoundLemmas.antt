@@ -14,7 +14,7 @@ use Rattle.nested_runs.specs.declared.reasons.Reason.TheVariants.{Fine}
 use Rattle.run_frame.specs.NestedRule.{job_of, journal_of}
 use Rattle.text_tasks.specs.declared.item.Item.{Item}
 use Rattle.text_tasks.specs.declared.job.TextJob.{TextJob}
-use Rattle.text_tasks.specs.declared.job.TextJob.TheVariants.{Graph, Parts}
+use Rattle.text_tasks.specs.declared.job.TextJob.TheVariants.{Graph, Parts, Pipe}
 use Rattle.text_tasks.specs.JobMeaning.{names_of, text_job}
 use Rattle.profile_table.proofs.ProfileLemmas.{row_for_each_task}
 use Rattle.run_laws.specs.PlainReport.{IsPlanned}
@@ -30,6 +30,7 @@ use Rattle.flow_run.specs.RoundTexts.{TextRun, last_reason, round_rule}
 follows_planned : (job next : TextJob) (run : TextRun) → text_job.follows job run next → IsPlanned job → IsPlanned next
 follows_planned (Graph work) next run follows planned = subst IsPlanned (sym follows) planned
 follows_planned (Parts work) next run follows planned = absurd follows
+follows_planned (Pipe work) next run follows planned = absurd follows
 
 -- So each round of a plan's job is of its top graph.
 pub rounds_planned : (job : TextJob) (runs : List TextRun) → AreRounds text_job job runs → IsPlanned job → All (λ run. IsPlanned (job_of run)) runs

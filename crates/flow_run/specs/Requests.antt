@@ -5,7 +5,7 @@ use Rattle.graph_file.specs.PlanText.{PlanText, IsRefused}
 use Rattle.graph_plans.specs.Sources.{NoSourceAnswer}
 use Rattle.text_ops.specs.Lines.{normal}
 use Rattle.text_tasks.specs.declared.job.TextJob.{TextJob}
-use Rattle.text_tasks.specs.declared.job.TextJob.TheVariants.{Graph, Parts}
+use Rattle.text_tasks.specs.declared.job.TextJob.TheVariants.{Graph, Parts, Pipe}
 use Rattle.text_tasks.specs.GraphWork.{GraphWork}
 use Rattle.call_status.specs.declared.stop.Stop.{Stop}
 use Rattle.call_status.specs.declared.stop.Stop.TheVariants.{BadGraph, NoSource, NoText, LongText, ReadFault, NoMemory}
@@ -105,6 +105,7 @@ pub record IsRequested (held : SourceTexts) (file : List ℕ) (limit : ℕ) (wor
 abbrev pub IsRequestedJob : SourceTexts → List ℕ → ℕ → TextJob → Type 0
 IsRequestedJob held file limit (Graph work) = IsRequested held file limit work
 IsRequestedJob held file limit (Parts work) = ⊥
+IsRequestedJob held file limit (Pipe work) = ⊥
 
 -- What the run of a file needs is held: the file has no more bytes than may be read, and stands for a plan each of whose graphs
 -- has a task to begin with or none at all; and each text that the plan names is held, with no more bytes than may be read.

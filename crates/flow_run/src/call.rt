@@ -9,6 +9,7 @@ ghost use Rattle.call_status.specs.Noting.{HasNoted};
 ghost use Rattle.command_line.specs.Requests.{asked_by, upgrade};
 ghost use Rattle.nested_runs.specs.Reasons.{run_reason};
 ghost use Rattle.text_tasks.specs.JobMeaning.{text_job};
+ghost use Rattle.pipe_laws.specs.TextPipes.{PipesInOrder};
 ghost use Rattle.flow_run.specs.Answers.{CallEnds, HasWritten, output_of};
 ghost use Rattle.flow_run.specs.Completion.{IsAtHand, NothingFails};
 ghost use Rattle.flow_run.specs.Plainly.{AsksPlainly, IsReportedPlainly, EndsPlainly};
@@ -97,6 +98,9 @@ pub fn flow_main<F: Texts, S: Sink, N: Sink, R: Threads + Wait + Sync>(
     // Whatever the number of workers: the kept run of a plan without conditions is fine exactly where its values by one
     // thread run through, and its report is then theirs.
     ensures kept_plainly { All IsReportedPlainly result.runs }
+    // Whatever the number of workers: in each pipeline's run inside the kept runs the serial pipes start the tokens in the
+    // order in which they pass, those that wait for others included; where nothing is cut short, all pass all pipes.
+    ensures pipes { All PipesInOrder result.runs }
     // Where the report of such a plan is asked for, and the source specifies the file and the texts, and holds them
     // within their limits, the call is done exactly then, unless something fails, and the output has taken just that
     // report.

@@ -25,7 +25,8 @@ use Rattle.run_laws.proofs.Runs.{legal_journal, one_end}
 use Rattle.run_laws.proofs.Steps.{start_of, starts_in}
 use Rattle.run_laws.proofs.Values.{Kept, kept_step}
 use Rattle.run_laws.proofs.Legally.{Given, Known, kept_all, placed_along}
-use Rattle.pipe_laws.specs.Cells.{AreCells, Pipeline, cell_task, meets, pipeline_net}
+use Rattle.text_tasks.specs.Cells.{Pipeline, cell_task, meets, pipeline_net}
+use Rattle.pipe_laws.specs.Cells.{AreCells}
 use Rattle.pipe_laws.specs.PipeRuns.{IsPipeRun}
 use Rattle.pipe_laws.specs.Turns.{MeetsAtTurn, TakesTurns, starts_one_of}
 use Rattle.pipe_laws.specs.Laws.{LinesTakeTurns}

@@ -22,7 +22,8 @@ use Rattle.run_laws.specs.OneThreadValue.{TaskEnd, OneAnswer, tokens, begun}
 use Rattle.run_laws.proofs.Phases.{Phase, ends_few}
 use Rattle.run_laws.proofs.Steps.{starts_in, ends_in, tokens_in}
 use Rattle.run_laws.proofs.Values.{Ran, Kept, starts_same, ends_same}
-use Rattle.pipe_laws.specs.Cells.{AreCells, Pipeline, along_pipe, cell_task, edges_for, line_input, meets, next_place, pipe_input, pipeline_net, token_in}
+use Rattle.text_tasks.specs.Cells.{Pipeline, along_pipe, cell_task, edges_for, line_input, meets, next_place, pipe_input, pipeline_net, token_in}
+use Rattle.pipe_laws.specs.Cells.{AreCells}
 use Rattle.pipe_laws.proofs.Edges.{ComesFrom, EdgeInto, GoesOn, along_line_into, along_pipe_into, among_out, edges_into, goes_round, goes_up, has_along_line, has_along_pipe, source_is}
 use Rattle.run_laws.proofs.Pipes.{row_at}
 use Rattle.pipe_laws.proofs.Inputs.{InputAt, filter_front, input_at}

@@ -26,7 +26,7 @@ use Rattle.run_laws.proofs.Phases.{begins}
 use Rattle.run_laws.proofs.Pipes.{pipes_ringed}
 use Rattle.run_laws.proofs.Rings.{turning_along}
 use Rattle.run_laws.proofs.Steps.{ends_in}
-use Rattle.pipe_laws.specs.Cells.{Pipeline, along_pipe, cell_task, pipeline_net}
+use Rattle.text_tasks.specs.Cells.{Pipeline, along_pipe, cell_task, pipeline_net}
 use Rattle.pipe_laws.specs.Turns.{in_pipe}
 use Rattle.pipe_laws.proofs.Edges.{ComesFrom, GoesOn, InEdge, along_line_into, along_pipe_into, goes_round, goes_up, in_edge_below, line_in_edge, pipe_in_edge, tag_is, target_is}
 use Rattle.pipe_laws.proofs.CellTurns.{SignalsAtTurn, place_at, places_rise, signals, signals_at_turn}
@@ -340,8 +340,12 @@ module _ {V : Type 0} (pipeline : Pipeline V) (one : OneAnswer V) (limit : ℕ) 
               total-same n (λ p. count_by (begins (task l (suc p))) h) (λ p. turns_of l (length pipeline.order.passed + 0)) (λ p below. cell_counted (suc p) (omega (arith, count, below))),
               total-const n (turns_of l (length pipeline.order.passed + 0)),
               ap (λ m. n * turns_of l m) no_more,
+              ap (λ m. m * turns_of l (length pipeline.order.passed)) one_less,
             )
           where
+            one_less : suc n - 1 ≡ n
+            one_less = omega arith
+
             no_more : length pipeline.order.passed + 0 ≡ length pipeline.order.passed
             no_more = omega arith
 

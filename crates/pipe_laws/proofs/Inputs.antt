@@ -4,7 +4,7 @@ use Rattle.std.specs.Prelude.{slice_get, filter}
 use Rattle.std.specs.List.{list_any, AllByRecursion, AllZip}
 use Rattle.std.proofs.lemmas.Bool.{false≢true}
 use Rattle.join_words.specs.Ins.{InputValue}
-use Rattle.pipe_laws.specs.Cells.{input_where}
+use Rattle.text_tasks.specs.Cells.{input_where}
 
 -- the input at the first edge that passes, with what is known of that edge and of both
 pub record InputAt {V : Type 0} (test : ℕ → Bool) (P : ℕ → Type 0) (R : ℕ → InputValue V → Type 0) (input : InputValue V) : Type 0 where

@@ -8,6 +8,9 @@ pub mod Ordered
 pub mod Counted
 pub mod Passed
 pub mod Lines
+pub mod TextCells
+pub mod TextInside
 pub mod WorkedCells
 pub mod WorkedPipeRuns
 pub mod WorkedTurns
+pub mod WorkedTextPipes

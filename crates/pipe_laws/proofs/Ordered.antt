@@ -36,7 +36,7 @@ use Rattle.run_laws.proofs.Pipes.{of_pipe as is_of_pipe, pipe_ring, pipes_ringed
 use Rattle.run_laws.proofs.PipeCycles.{pipe_cycle}
 use Rattle.run_laws.proofs.Order.{Going, InRound, goes_round, rounds_along}
 use Rattle.run_laws.proofs.Steps.{starts_in}
-use Rattle.pipe_laws.specs.Cells.{Pipeline, cell_task, meets, pipeline_net}
+use Rattle.text_tasks.specs.Cells.{Pipeline, cell_task, meets, pipeline_net}
 use Rattle.pipe_laws.specs.Turns.{IsInOrder, MeetsAtTurn, in_pipe, starts_one_of, token_passed, token_started, tokens_started}
 use Rattle.pipe_laws.specs.Laws.{PipesKeepOrder}
 use Rattle.pipe_laws.proofs.Held.{EdgeOfRing, none_behind}

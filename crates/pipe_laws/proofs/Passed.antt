@@ -32,11 +32,12 @@ use Rattle.run_laws.proofs.PipeCycles.{found_from, lies_at}
 use Rattle.run_laws.proofs.Steps.{start_of, starts_in, ends_in}
 use Rattle.run_laws.proofs.Through.{Passing, any_at, any_passes}
 use Rattle.run_laws.proofs.Whole.{all_ended, unstopped}
-use Rattle.pipe_laws.specs.Cells.{Pipeline, cell_task, meets, pipeline_net}
+use Rattle.text_tasks.specs.Cells.{Pipeline, cell_task, meets, pipeline_net}
 use Rattle.pipe_laws.specs.Turns.{in_pipe, starts_one_of, token_passed, token_started, tokens_started}
 use Rattle.pipe_laws.specs.Laws.{PassAllPipes}
 use Rattle.pipe_laws.proofs.CellTurns.{meets_turn}
 use Rattle.pipe_laws.proofs.CellRuns.{AtEntry, IsCellRun, all_starts, at_entries, is_cell_run, kept, turn_at}
+use Rattle.pipe_laws.proofs.Counted.{all_counted}
 use Rattle.pipe_laws.proofs.Through.{end_place, finished, in_net, some_pipes, starts_at_place}
 use Rattle.pipe_laws.proofs.Ordered.{Stands, cycle, in_order, standing, started_more}
 
@@ -269,6 +270,7 @@ tokens_pass_all_pipes {J} {V} meaning run pipeline one is complete fine = record
   none_left = none_left pipeline one (meaning.limit (job_of run)) (values_of run) (journal_of run) cell_run done fine;
   in_order = λ p serial. all_in_order pipeline one (meaning.limit (job_of run)) (values_of run) (journal_of run) cell_run done fine p serial;
   each_pipe = λ p k in_p. both_ways _ _ (of_order pipeline one (meaning.limit (job_of run)) (values_of run) (journal_of run) cell_run p in_p k) (each_started pipeline one (meaning.limit (job_of run)) (values_of run) (journal_of run) cell_run done fine p k in_p);
+  count = all_counted pipeline one (meaning.limit (job_of run)) (values_of run) (journal_of run) cell_run done fine;
 }
   where
     cell_run : IsCellRun pipeline one (meaning.limit (job_of run)) (values_of run) (journal_of run)

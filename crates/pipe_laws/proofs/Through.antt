@@ -20,7 +20,7 @@ use Rattle.run_laws.proofs.Lists.{all_weaken}
 use Rattle.run_laws.proofs.Steps.{starts_in, ends_in}
 use Rattle.run_laws.proofs.Pipes.{pipes_ringed, row_at}
 use Rattle.run_laws.proofs.Whole.{Finished, all_ended, least_above, unstopped}
-use Rattle.pipe_laws.specs.Cells.{Pipeline, along_pipe, cell_task, pipeline_net}
+use Rattle.text_tasks.specs.Cells.{Pipeline, along_pipe, cell_task, pipeline_net}
 use Rattle.pipe_laws.proofs.Edges.{ComesFrom, EdgeInto, GoesOn, along_line_into, along_pipe_into, cell_below, edges_into, goes_round, goes_up, source_below, source_is}
 use Rattle.pipe_laws.proofs.Inputs.{filter_long}
 use Rattle.pipe_laws.proofs.CellTurns.{end_signals, place_at, signals, token_there}

@@ -11,7 +11,8 @@ use Rattle.pipe_lines.specs.declared.order.Passed.TheVariants.{Token, Stop, Unme
 use Rattle.pipe_lines.specs.Orders.{IsOrder}
 use Rattle.pipe_lines.specs.PipeNet.{pipe_net}
 use Rattle.run_laws.specs.OneThreadValue.{TaskEnd, OneAnswer}
-use Rattle.pipe_laws.specs.Cells.{AreCells, Pipeline, along_pipe, cell_task, edges_for, input_where, line_input, meets, next_place, pipe_input, pipeline_net, token_in}
+use Rattle.text_tasks.specs.Cells.{Pipeline, along_pipe, cell_task, edges_for, input_where, line_input, meets, next_place, pipe_input, pipeline_net, token_in}
+use Rattle.pipe_laws.specs.Cells.{AreCells}
 
 -- a token with its place
 abbrev pub Pair : Type 0

@@ -37,7 +37,7 @@ use Rattle.run_frame.specs.WorkRule.{gives_of}
 use Rattle.run_frame.specs.Legal.{CompleteRun, Legal}
 use Rattle.pipe_lines.specs.PassOrder.{has_passed}
 use Rattle.run_laws.specs.OneAnswer.{AllowsOne}
-use Rattle.pipe_laws.specs.Cells.{Pipeline, pipeline_net}
+use Rattle.text_tasks.specs.Cells.{Pipeline, pipeline_net}
 use Rattle.pipe_laws.specs.PipeRuns.{IsPipeRun}
 use Rattle.pipe_laws.specs.Turns.{StartsAlone, TakesTurns, in_pipe, starts_one_of, tokens_started}
 use Rattle.pipe_laws.specs.Laws.{LinesStartAlone, LinesTakeTurns, PassAllPipes, PipesKeepOrder, StartsAll}

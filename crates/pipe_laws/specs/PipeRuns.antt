@@ -6,7 +6,8 @@ use Rattle.run_frame.specs.NestedRule.{job_of}
 use Rattle.run_frame.specs.Legal.{Legal}
 use Rattle.run_laws.specs.OneThreadValue.{OneAnswer}
 use Rattle.run_laws.specs.OneAnswer.{AllowsOne}
-use Rattle.pipe_laws.specs.Cells.{Pipeline, AreCells, pipeline_net}
+use Rattle.text_tasks.specs.Cells.{Pipeline, pipeline_net}
+use Rattle.pipe_laws.specs.Cells.{AreCells}
 
 -- A legal run of the net of a pipeline with a line and a serial first pipe, whose job's meaning allows this one answer,
 -- that of cells.

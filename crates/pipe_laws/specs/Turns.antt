@@ -12,7 +12,7 @@ use Rattle.pipe_lines.specs.PipeNet.{cell}
 use Rattle.run_laws.specs.Ends.{gather}
 use Rattle.run_laws.specs.Steady.{runs_at}
 use Rattle.run_laws.specs.Cycles.{is_one_of}
-use Rattle.pipe_laws.specs.Cells.{Pipeline, cell_task, meets}
+use Rattle.text_tasks.specs.Cells.{Pipeline, cell_task, meets}
 
 -- whether a task is a cell of pipe p
 abbrev pub in_pipe : {V : Type 0} → Pipeline V → ℕ → ℕ → Bool

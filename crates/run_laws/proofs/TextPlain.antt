@@ -21,6 +21,7 @@ use Rattle.journal_rules.specs.declared.entry.Why.TheVariants.{Long, Wide, Unmet
 use Rattle.join_words.specs.Ins.{InputValue}
 use Rattle.run_frame.specs.declared.job.Answer.{Answer}
 use Rattle.run_frame.specs.declared.job.Answer.TheVariants.{All as Each}
+use Rattle.run_frame.specs.declared.job.Done.{Done}
 use Rattle.run_frame.specs.declared.job.Done.TheVariants.{Value, Inner as InnerJob}
 use Rattle.run_frame.specs.declared.run.FrameRun.{FrameRun}
 use Rattle.run_frame.specs.LastEnds.{last_value}
@@ -34,25 +35,27 @@ use Rattle.graph_plans.specs.Operations.{IsOp}
 use Rattle.graph_plans.specs.PlanRows.{GraphRows, IsGraph, IsPlan, PlanRows, depth_limit, module_uses}
 use Rattle.graph_plans.specs.declared.ops.TextOp.{TextOp}
 use Rattle.graph_plans.specs.declared.ops.Op.{Op}
-use Rattle.graph_plans.specs.declared.ops.Op.TheVariants.{Input, Read, Text as OnText, Match, Back, IfMore, IfHas, Route, Spread, Module}
+use Rattle.graph_plans.specs.declared.ops.Op.TheVariants.{Input, Read, Text as OnText, Match, Back, IfMore, IfHas, Route, Spread, Module, Pipe as PipeOp}
+use Rattle.text_tasks.specs.declared.item.CellItem.{CellItem}
 use Rattle.text_tasks.specs.declared.item.Item.{Item}
-use Rattle.text_tasks.specs.declared.item.Item.TheVariants.{Text}
+use Rattle.text_tasks.specs.declared.item.Item.TheVariants.{Text, Cell}
 use Rattle.text_tasks.specs.declared.job.TextJob.{TextJob}
-use Rattle.text_tasks.specs.declared.job.TextJob.TheVariants.{Graph, Parts}
+use Rattle.text_tasks.specs.declared.job.TextJob.TheVariants.{Graph, Parts, Pipe}
 use Rattle.text_tasks.specs.FoundTexts.{text_found}
 use Rattle.text_tasks.specs.GraphWork.{GraphWork, graph_in, graph_of, module_work}
 use Rattle.text_tasks.specs.PartsWork.{PartsWork}
 use Rattle.text_tasks.specs.Items.{item_text}
-use Rattle.text_tasks.specs.JobMeaning.{AnswersAs, FaultsAs, FaultsLong, JobAnswers, JobFollows, feedback_of, job_plan, net_of, names_of, task_meaning, text_gathered, text_job}
-use Rattle.text_tasks.specs.Sinks.{is_sink, last_sink}
-use Rattle.text_tasks.specs.OpMeaning.{OpMeaning, hands_over, op_meaning, runs, text_op_value, too_wide}
+use Rattle.text_tasks.specs.JobMeaning.{AnswersAs, FaultsAs, FaultsLong, JobAnswers, JobFollows, feedback_of, gathered_text, job_plan, net_of, names_of, task_meaning, text_gathered, text_job}
+use Rattle.text_tasks.specs.PipeWork.{pipe_work}
+use Rattle.text_tasks.specs.Sinks.{is_sink, last_sink, task_values}
+use Rattle.text_tasks.specs.OpMeaning.{OpMeaning, hands_over, moves_on, never_passes, op_meaning, runs, text_op_value, too_wide}
 use Rattle.call_status.specs.Reasons.{reason_line}
 use Rattle.nested_runs.specs.Reasons.{run_reason}
 use Rattle.nested_runs.specs.declared.reasons.Reason.TheVariants.{Fine}
 use Rattle.run_laws.specs.Output.{report, task_report}
 use Rattle.run_laws.specs.PlainJobs.{IsInside, IsPlainly, plain_value}
 use Rattle.run_laws.specs.PlainLaws.{IsPlainRun}
-use Rattle.run_laws.specs.PlainReport.{HasSameReport, IsPlainGraph, IsPlainJob, IsPlainTo, IsPlanned, IsSoundGraph, NestsPlainly, OfModule, OpensNone, ReportsAlike, ReportsPlainly, RunsWell, UsesPlain, as_value, done_by, greatest_depth, plain_feedback, plain_next, plain_report, text_answer, text_does, text_plain}
+use Rattle.run_laws.specs.PlainReport.{HasSameReport, IsNoPipe, IsPlainGraph, IsPlainJob, IsPlainTo, IsPlanned, IsSoundGraph, NestsPlainly, OfModule, OpensNone, ReportsAlike, ReportsPlainly, RunsWell, UsesPlain, as_value, done_by, greatest_depth, plain_feedback, plain_next, plain_report, text_answer, text_does, text_plain}
 use Rattle.run_laws.proofs.Depth.{runs_plainly}
 use Rattle.run_laws.proofs.LastEnds.{flat_map_below}
 
@@ -95,9 +98,6 @@ same_units net same s t = by_task (slice_get net.tasks t) refl
 
 -- ---- what text jobs do
 
-pub text_of : (item : Item) (text : List ℕ) → item_text item ≡ text → item ≡ Text text
-text_of (Text own) text is = ap Text is
-
 short_test : (text : List ℕ) → length text ≤ value_limit → nat_le (length text) value_limit ≡ true
 short_test text few = grind (arith, nat_tests)
 
@@ -108,37 +108,50 @@ long_test text n is over = let longer : value_limit < length text = omega (arith
 value_done : (meaning : OpMeaning) (item : Item) (answer : Answer) → AnswersAs meaning (Value item answer) → done_by meaning ≡ Some (Value item answer)
 value_done (hands_over text chosen) item answer is =
     ap (λ b. cond b (Some (Value (Text text) chosen)) None) (short_test text is.2)
-    ∙ ap (λ i. Some (Value i chosen)) (sym (text_of item text is.0))
+    ∙ ap (λ i. Some (Value i chosen)) (sym is.0)
+    ∙ ap (λ a. Some (Value item a)) (sym is.1)
+value_done (moves_on cell chosen) item answer is =
+    ap (λ b. cond b (Some (Value (Cell cell) chosen)) None) (short_test cell.text is.2)
+    ∙ ap (λ i. Some (Value i chosen)) (sym is.0)
     ∙ ap (λ a. Some (Value item a)) (sym is.1)
 value_done (runs inner) item answer is = absurd is
 value_done (too_wide parts) item answer is = absurd is
+value_done (never_passes token) item answer is = absurd is
 
-long_done : (text : List ℕ) (chosen : Answer) (why : Why) → FaultsLong text why → done_by (hands_over text chosen) ≡ None
-long_done text chosen (Long n) is = ap (λ b. cond b (Some (Value (Text text) chosen)) None) (long_test text n is.0 is.1)
-long_done text chosen (Wide n) is = absurd is
-long_done text chosen (Unmet k) is = absurd is
-long_done text chosen Inner is = absurd is
-long_done text chosen (OverRelease s) is = absurd is
+-- a value, where its text isn't too long
+abbrev finished : List ℕ → Item → Answer → Option (Done TextJob Item)
+finished text item chosen = cond (nat_le (length text) value_limit) (Some (Value item chosen)) None
+
+long_done : (text : List ℕ) (item : Item) (chosen : Answer) (why : Why) → FaultsLong text why → finished text item chosen ≡ None
+long_done text item chosen (Long n) is = ap (λ b. cond {A = Option (Done TextJob Item)} b (Some (Value item chosen)) None) (long_test text n is.0 is.1)
+long_done text item chosen (Wide n) is = absurd is
+long_done text item chosen (Unmet k) is = absurd is
+long_done text item chosen Inner is = absurd is
+long_done text item chosen (OverRelease s) is = absurd is
 
 fault_done : (meaning : OpMeaning) (why : Why) → FaultsAs meaning why → done_by meaning ≡ None
-fault_done (hands_over text chosen) why is = long_done text chosen why is
+fault_done (hands_over text chosen) why is = long_done text (Text text) chosen why is
+fault_done (moves_on cell chosen) why is = long_done cell.text (Cell cell) chosen why is
 fault_done (runs inner) why is = absurd is
 fault_done (too_wide parts) why is = refl
+fault_done (never_passes token) why is = refl
 
 inner_done : (meaning : OpMeaning) (inner : TextJob) → AnswersAs meaning (InnerJob inner) → meaning ≡ runs inner
 inner_done (hands_over text chosen) inner is = absurd is
+inner_done (moves_on cell chosen) inner is = absurd is
 inner_done (runs job) inner is = ap runs (sym is)
 inner_done (too_wide parts) inner is = absurd is
+inner_done (never_passes token) inner is = absurd is
 
-value_at_task : (o : Option OpMeaning) (item : Item) (answer : Answer) → IsSomeAnd o (λ m. AnswersAs m (Value item answer)) → option_and_then done_by o ≡ Some (Value item answer)
+pub value_at_task : (o : Option OpMeaning) (item : Item) (answer : Answer) → IsSomeAnd o (λ m. AnswersAs m (Value item answer)) → option_and_then done_by o ≡ Some (Value item answer)
 value_at_task None item answer is = absurd is
 value_at_task (Some m) item answer is = value_done m item answer is
 
-fault_at_task : (o : Option OpMeaning) (why : Why) → IsSomeAnd o (λ m. FaultsAs m why) → option_and_then done_by o ≡ None
+pub fault_at_task : (o : Option OpMeaning) (why : Why) → IsSomeAnd o (λ m. FaultsAs m why) → option_and_then done_by o ≡ None
 fault_at_task None why is = absurd is
 fault_at_task (Some m) why is = fault_done m why is
 
-inner_at_task : (o : Option OpMeaning) (inner : TextJob) → IsSomeAnd o (λ m. AnswersAs m (InnerJob inner)) → o ≡ Some (runs inner)
+pub inner_at_task : (o : Option OpMeaning) (inner : TextJob) → IsSomeAnd o (λ m. AnswersAs m (InnerJob inner)) → o ≡ Some (runs inner)
 inner_at_task None inner is = absurd is
 inner_at_task (Some m) inner is = ap Some (inner_done m inner is)
 
@@ -150,11 +163,11 @@ pub record Below (d : ℕ) (job : TextJob) : Type 0 where
   pub less : d ≡ suc below
   pub plain : IsPlainTo below job
 
-spread_runs : (few : Bool) (parts : PartsWork) (count : ℕ) (inner : TextJob) → cond few (runs (Parts parts)) (too_wide count) ≡ runs inner → (inner ≡ Parts parts) × (few ≡ true)
+pub spread_runs : (few : Bool) (parts : PartsWork) (count : ℕ) (inner : TextJob) → cond few (runs (Parts parts)) (too_wide count) ≡ runs inner → (inner ≡ Parts parts) × (few ≡ true)
 spread_runs true parts count inner same = (cc, refl)
 spread_runs false parts count inner same = absurd (cc)
 
-module_runs : (short : Bool) (work : GraphWork) (text : List ℕ) (inner : TextJob) → cond short (runs (Graph work)) (hands_over text Each) ≡ runs inner → inner ≡ Graph work
+pub module_runs : (short : Bool) (work : GraphWork) (text : List ℕ) (inner : TextJob) → cond short (runs (Graph work)) (hands_over text Each) ≡ runs inner → inner ≡ Graph work
 module_runs true work text inner same = cc
 module_runs false work text inner same = absurd (cc)
 
@@ -162,16 +175,16 @@ abbrev Inside : ℕ → PlanRows → Option GraphRows → Type 0
 Inside d plan used = IsSomeAnd used (λ g. IsSoundGraph g × NestsPlainly d plan g)
 
 module _ (work : GraphWork) (found : List (InputValue Item)) (inner : TextJob) where
-  op_below : (d : ℕ) (op : Op) → OfModule (Inside d work.plan) work.plan.modules op → op_meaning work found op ≡ runs inner → Below (suc d) inner
-  op_below d Input uses same = absurd (cc)
-  op_below d (Read number) uses same = absurd (cc)
-  op_below d (OnText op) uses same = absurd (cc)
-  op_below d Match uses same = absurd (cc)
-  op_below d Back uses same = absurd (cc)
-  op_below d (IfMore n) uses same = absurd (cc)
-  op_below d (IfHas word) uses same = absurd (cc)
-  op_below d (Route words) uses same = absurd (cc)
-  op_below d (Spread n each) uses same =
+  op_below : (d : ℕ) (op : Op) → IsNoPipe op → OfModule (Inside d work.plan) work.plan.modules op → op_meaning work found op ≡ runs inner → Below (suc d) inner
+  op_below d Input no_pipe uses same = absurd (cc)
+  op_below d (Read number) no_pipe uses same = absurd (cc)
+  op_below d (OnText op) no_pipe uses same = absurd (cc)
+  op_below d Match no_pipe uses same = absurd (cc)
+  op_below d Back no_pipe uses same = absurd (cc)
+  op_below d (IfMore n) no_pipe uses same = absurd (cc)
+  op_below d (IfHas word) no_pipe uses same = absurd (cc)
+  op_below d (Route words) no_pipe uses same = absurd (cc)
+  op_below d (Spread n each) no_pipe uses same =
       let text : List ℕ = text_found found in
       let is = spread_runs (nat_le (part_count n text) part_limit) (record { parts = line_parts n text; op = each }) (part_count n text) inner same in
       let few : part_count n text ≤ part_limit = le_of (part_count n text) part_limit is.1 in
@@ -181,7 +194,7 @@ module _ (work : GraphWork) (found : List (InputValue Item)) (inner : TextJob) w
     where
       le_of : (a b : ℕ) → nat_le a b ≡ true → a ≤ b
       le_of a b is = grind (arith, nat_tests)
-  op_below d (Module m) uses same =
+  op_below d (Module m) no_pipe uses same =
       let text : List ℕ = text_found found in
       let is = module_runs (nat_le (length text) value_limit) (module_work work m text) text inner same in
       record { below = d; less = refl; plain = subst (IsPlainTo d) (sym is) (by_graph (slice_get work.plan.modules m) refl uses) }
@@ -190,6 +203,7 @@ module _ (work : GraphWork) (found : List (InputValue Item)) (inner : TextJob) w
           → IsSoundGraph (slice_index_or work.plan.modules m work.plan.top) × NestsPlainly d work.plan (slice_index_or work.plan.modules m work.plan.top)
       by_graph None at is = absurd is
       by_graph (Some g) at is = subst (λ h. IsSoundGraph h × NestsPlainly d work.plan h) (sym (get_or_from_slice_get work.plan.modules m g work.plan.top at)) is
+  op_below d (PipeOp plan) no_pipe uses same = absurd no_pipe
 
   op_none : (op : Op) → OpensNone op → op_meaning work found op ≡ runs inner → ⊥
   op_none Input none same = cc
@@ -202,20 +216,22 @@ module _ (work : GraphWork) (found : List (InputValue Item)) (inner : TextJob) w
   op_none (Route words) none same = cc
   op_none (Spread n each) none same = none
   op_none (Module m) none same = none
+  op_none (PipeOp plan) none same = none
 
-  by_depth : (d : ℕ) (t : ℕ) → NestsPlainly d work.plan (graph_of work) → (o : Option Op) → slice_get (graph_of work).ops t ≡ o → option_map (op_meaning work found) o ≡ Some (runs inner) → Below d inner
-  by_depth d t nests None at same = absurd (none-some _ same)
-  by_depth zero t nests (Some op) at same = absurd (op_none op (item_meets OpensNone (graph_of work).ops t op nests at) (same_Some _ _ same))
-  by_depth (suc d) t nests (Some op) at same =
-      op_below d op (item_meets (OfModule (Inside d work.plan) work.plan.modules) (graph_of work).ops t op nests at) (same_Some _ _ same)
+  by_depth : (d : ℕ) (t : ℕ) → IsSoundGraph (graph_of work) → NestsPlainly d work.plan (graph_of work) → (o : Option Op) → slice_get (graph_of work).ops t ≡ o → option_map (op_meaning work found) o ≡ Some (runs inner) → Below d inner
+  by_depth d t sound nests None at same = absurd (none-some _ same)
+  by_depth zero t sound nests (Some op) at same = absurd (op_none op (item_meets OpensNone (graph_of work).ops t op nests at) (same_Some _ _ same))
+  by_depth (suc d) t sound nests (Some op) at same =
+      op_below d op (item_meets IsNoPipe (graph_of work).ops t op sound.plain.no_pipeline at) (item_meets (OfModule (Inside d work.plan) work.plan.modules) (graph_of work).ops t op nests at) (same_Some _ _ same)
 
-parts_none : (o : Option (List ℕ)) (op : TextOp) (inner : TextJob) → option_map (λ part. hands_over (text_op_value op part) Each) o ≡ Some (runs inner) → ⊥
+pub parts_none : (o : Option (List ℕ)) (op : TextOp) (inner : TextJob) → option_map (λ part. hands_over (text_op_value op part) Each) o ≡ Some (runs inner) → ⊥
 parts_none None op inner same = none-some _ same
 parts_none (Some part) op inner same = let is : hands_over (text_op_value op part) Each ≡ runs inner = same_Some _ _ same in cc
 
 text_below : (d : ℕ) (job : TextJob) (t : ℕ) (found : List (InputValue Item)) (inner : TextJob) → IsPlainTo d job → task_meaning job t found ≡ Some (runs inner) → Below d inner
-text_below d (Graph work) t found inner is same = by_depth work found inner d t is.1 (slice_get (graph_of work).ops t) refl same
+text_below d (Graph work) t found inner is same = by_depth work found inner d t is.0 is.1 (slice_get (graph_of work).ops t) refl same
 text_below d (Parts work) t found inner is same = absurd (parts_none (slice_get work.parts t) work.op inner same)
+text_below d (Pipe work) t found inner is same = absurd is
 
 text_inner : (d : ℕ) (job : TextJob) (t : ℕ) (found : List (InputValue Item)) (inner : TextJob) → IsPlainTo d job → JobAnswers job t found (InnerJob inner) → IsInside text_plain d job t found inner
 text_inner d job t found inner is answers =
@@ -225,8 +241,8 @@ text_inner d job t found inner is answers =
 
 -- ---- gathering
 
-gather_value : (text : List ℕ) (item : Item) → item_text item ≡ text → length text ≤ value_limit → as_value text ≡ Some item
-gather_value text item is short = ap (λ b. cond b (Some (Text text)) None) (short_test text short) ∙ ap Some (sym (text_of item text is))
+gather_value : (text : List ℕ) (item : Item) → item ≡ Text text → length text ≤ value_limit → as_value text ≡ Some item
+gather_value text item is short = ap (λ b. cond b (Some (Text text)) None) (short_test text short) ∙ ap Some (sym is)
 
 gather_long : (text : List ℕ) (why : Why) → FaultsLong text why → as_value text ≡ None
 gather_long text (Long n) is = ap (λ b. cond b (Some (Text text)) None) (long_test text n is.0 is.1)
@@ -234,6 +250,12 @@ gather_long text (Wide n) is = absurd is
 gather_long text (Unmet k) is = absurd is
 gather_long text Inner is = absurd is
 gather_long text (OverRelease s) is = absurd is
+
+-- a plain job's run is gathered by what its tasks ended with
+gathered_is : (d : ℕ) (run : FrameRun TextJob Item) (job : TextJob) → IsPlainTo d job → text_gathered job run ≡ gathered_text job (task_values (net_of job) run)
+gathered_is d run (Graph work) is = refl
+gathered_is d run (Parts work) is = refl
+gathered_is d run (Pipe work) is = absurd is
 
 -- ---- text jobs
 
@@ -256,12 +278,13 @@ parts_sound n few = record {
     sem_count = omega arith;
   };
   no_first_tokens = All-nil _;
-  plain = record { no_condition = all_parts (λ row. chooses row.shape ≡ false) n refl; returns = all_parts (λ row. row.takes ≡ row.puts) n refl };
+  plain = record { no_condition = all_parts (λ row. chooses row.shape ≡ false) n refl; returns = all_parts (λ row. row.takes ≡ row.puts) n refl; no_pipeline = All-nil _ };
 }
 
 sound_graph : (d : ℕ) (job : TextJob) → IsPlainTo d job → (g : GraphRows) × (g.net ≡ net_of job) × IsSoundGraph g
 sound_graph d (Graph work) is = (graph_of work, refl, is.0)
 sound_graph d (Parts work) is = (record { name = []; names = []; ops = []; sem_names = []; net = spread_net (length work.parts) }, refl, parts_sound (length work.parts) is)
+sound_graph d (Pipe work) is = absurd is
 
 text_net : (d : ℕ) (job : TextJob) → IsPlainTo d job → IsNet (net_of job)
 text_net d job is = let of = sound_graph d job is in subst IsNet of.1 of.2.is_net
@@ -283,8 +306,8 @@ text_plainly = record {
   value = λ d job t found item answer is allowed. value_at_task (task_meaning job t found) item answer allowed;
   fault = λ d job t found why is allowed. fault_at_task (task_meaning job t found) why allowed;
   inner = λ d job t found inner is allowed. text_inner d job t found inner is.such allowed;
-  gathers = λ d run item is gathered. gather_value (text_gathered (job_of run) run) item gathered.0 gathered.1;
-  gather_fault = λ d run why is fault. gather_long (text_gathered (job_of run) run) why fault;
+  gathers = λ d run item is gathered. ap as_value (sym (gathered_is d run (job_of run) is.such)) ∙ gather_value (text_gathered (job_of run) run) item gathered.0 gathered.1;
+  gather_fault = λ d run why is fault. ap as_value (sym (gathered_is d run (job_of run) is.such)) ∙ gather_long (text_gathered (job_of run) run) why fault;
   by_itself = λ d run result is known kept. absurd (cc);
 }
 
@@ -309,6 +332,7 @@ rest_run test (IfHas word) ms none = none
 rest_run test (Route words) ms none = none
 rest_run test (Spread n each) ms none = none
 rest_run test (Module m) ms none = or_right (test m) (list_any test ms) none
+rest_run test (PipeOp plan) ms none = none
 
 -- a module that a task runs passes no test that none of those passes which tasks run
 run_fails : (test : ℕ → Bool) (ops : List Op) (k m : ℕ) → slice_get ops k ≡ Some (Module m) → list_any test (modules_run ops) ≡ false → test m ≡ false
@@ -318,7 +342,7 @@ run_fails test (op ∷ ops) zero m at none =
     or_left (test m) (list_any test (modules_run ops)) (subst (λ o. list_any test (run_before (modules_run ops) o) ≡ false) is none)
 run_fails test (op ∷ ops) (suc k) m at none = run_fails test ops k m at (rest_run test op (modules_run ops) none)
 
-plain_here : (plan : PlanRows) (d : ℕ) (g : GraphRows) → UsesPlain d plan g → IsPlainGraph g.net
+plain_here : (plan : PlanRows) (d : ℕ) (g : GraphRows) → UsesPlain d plan g → IsPlainGraph g
 plain_here plan zero g uses = uses
 plain_here plan (suc d) g uses = uses.0
 
@@ -352,6 +376,7 @@ module _ (plan : PlanRows) (rules : IsPlan plan) where
       by_op k (Route words) at fits = tt
       by_op k (Spread n each) at fits = tt
       by_op k (Module m) at fits = inside k m at fits
+      by_op k (PipeOp plan) at fits = tt
 
   -- by the rule of depth and what is used, modules are in modules to a depth, and a spread in the last
   nests : (d : ℕ) (g : GraphRows) → Rules g → has_chain (suc d) (module_uses plan) (modules_run g.ops) ≡ false → UsesPlain d plan g → NestsPlainly (suc d) plan g
@@ -374,6 +399,7 @@ plain_to (Graph work) is plain =
     subst (λ g. IsSoundGraph g × NestsPlainly greatest_depth work.plan g) (sym top)
     (sound_by work.plan is.0 depth_limit work.plan.top keeps uses, nests work.plan is.0 depth_limit work.plan.top keeps is.0.depth uses)
 plain_to (Parts work) is plain = absurd plain
+plain_to (Pipe work) is plain = absurd plain
 
 -- the last number that passes is one of them
 last_passing : (test : ℕ → Bool) (a n : ℕ) (o : Option ℕ) (t : ℕ) → last_or o (filter test (range_with_len a n)) ≡ Some t → (o ≡ Some t) ⊎ (t < a + n)
@@ -391,6 +417,7 @@ sink_below net t is = elim (last_passing (is_sink net) 0 (length net.tasks) None
 next_same : (run : FrameRun TextJob Item) (job next : TextJob) → feedback_of run ≡ plain_feedback job → JobFollows job run next → next ≡ plain_next job
 next_same run (Graph work) next same follows = follows ∙ ap (λ text. Graph (record work { input = text })) same
 next_same run (Parts work) next same follows = absurd follows
+next_same run (Pipe work) next same follows = absurd follows
 
 -- a run that is kept of such a job reports what one thread does
 pub same_report : (run : FrameRun TextJob Item) → ReportsPlainly run

@@ -18,15 +18,15 @@ use Rattle.run_laws.specs.OneThreadValue.{OneAnswer}
 use Rattle.text_ops.specs.Values.{value_limit}
 use Rattle.graph_plans.specs.PlanRows.{GraphRows, IsPlan, PlanRows, depth_limit}
 use Rattle.graph_plans.specs.declared.ops.Op.{Op}
-use Rattle.graph_plans.specs.declared.ops.Op.TheVariants.{Module, Spread}
+use Rattle.graph_plans.specs.declared.ops.Op.TheVariants.{Module, Spread, Pipe as PipeOp}
 use Rattle.text_tasks.specs.declared.item.Item.{Item}
-use Rattle.text_tasks.specs.declared.item.Item.TheVariants.{Text}
+use Rattle.text_tasks.specs.declared.item.Item.TheVariants.{Text, Cell}
 use Rattle.text_tasks.specs.declared.job.TextJob.{TextJob}
-use Rattle.text_tasks.specs.declared.job.TextJob.TheVariants.{Graph, Parts}
+use Rattle.text_tasks.specs.declared.job.TextJob.TheVariants.{Graph, Parts, Pipe}
 use Rattle.text_tasks.specs.GraphWork.{graph_of}
 use Rattle.text_tasks.specs.Items.{item_text}
 use Rattle.text_tasks.specs.JobMeaning.{JobFollows, gathered_text, net_of, names_of, limit_of, task_meaning, text_job}
-use Rattle.text_tasks.specs.OpMeaning.{OpMeaning, hands_over, runs, too_wide}
+use Rattle.text_tasks.specs.OpMeaning.{OpMeaning, hands_over, moves_on, never_passes, runs, too_wide}
 use Rattle.text_tasks.specs.PartsWork.{IsPartsWork}
 use Rattle.text_tasks.specs.Sinks.{last_sink}
 use Rattle.run_laws.specs.Output.{report_of, task_report}
@@ -35,8 +35,10 @@ use Rattle.run_laws.specs.PlainJobs.{PlainJobs, plain_answer, plain_value, runs_
 -- what is done by a meaning: a value that isn't too long, or a job in the task's place; else nothing, and the task faults
 abbrev pub done_by : OpMeaning → Option (Done TextJob Item)
 done_by (hands_over text chosen) = if nat_le (length text) value_limit then Some (Value (Text text) chosen) else None
+done_by (moves_on cell chosen) = if nat_le (length cell.text) value_limit then Some (Value (Cell cell) chosen) else None
 done_by (runs inner) = Some (InnerJob inner)
 done_by (too_wide parts) = None
+done_by (never_passes token) = None
 
 -- what a task does on what it finds
 abbrev pub text_does : TextJob → ℕ → List (InputValue Item) → Option (Done TextJob Item)
@@ -50,12 +52,19 @@ as_value text = if nat_le (length text) value_limit then Some (Text text) else N
 abbrev pub IsPlanned : TextJob → Type 0
 IsPlanned (Graph work) = IsPlan work.plan × (work.«module» ≡ None)
 IsPlanned (Parts work) = ⊥
+IsPlanned (Pipe work) = ⊥
+
+-- an operation that is no pipeline
+abbrev pub IsNoPipe : Op → Type 0
+IsNoPipe (PipeOp plan) = ⊥
+IsNoPipe op = Unit {0}
 
 -- Nothing in a graph leaves open what its tasks hand on: none chooses among its successors, and each puts just the
--- semaphores that it takes.
-pub record IsPlainGraph (net : NetRows) : Type 0 where
-  pub no_condition : All (λ (row : TaskRow). chooses row.shape ≡ false) net.tasks
-  pub returns : All (λ (row : TaskRow). row.takes ≡ row.puts) net.tasks
+-- semaphores that it takes. None is a pipeline: of those the recursion doesn't speak.
+pub record IsPlainGraph (graph : GraphRows) : Type 0 where
+  pub no_condition : All (λ (row : TaskRow). chooses row.shape ≡ false) graph.net.tasks
+  pub returns : All (λ (row : TaskRow). row.takes ≡ row.puts) graph.net.tasks
+  pub no_pipeline : All IsNoPipe graph.ops
 
 -- what holds of the graph of the module, among these, that the task of an operation runs
 abbrev pub OfModule : (Option GraphRows → Type 0) → List GraphRows → Op → Type 0
@@ -64,13 +73,14 @@ OfModule Holds modules op = Unit {0}
 
 -- So it is in the graph and in each module that it uses, directly or through others, to a depth.
 abbrev pub UsesPlain : ℕ → PlanRows → GraphRows → Type 0
-UsesPlain zero plan graph = IsPlainGraph graph.net
-UsesPlain (suc d) plan graph = IsPlainGraph graph.net × All (OfModule (λ used. IfSome used (UsesPlain d plan)) plan.modules) graph.ops
+UsesPlain zero plan graph = IsPlainGraph graph
+UsesPlain (suc d) plan graph = IsPlainGraph graph × All (OfModule (λ used. IfSome used (UsesPlain d plan)) plan.modules) graph.ops
 
--- a job without conditions, also in the modules that it uses
+-- a job without conditions and pipelines, also in the modules that it uses
 abbrev pub IsPlainJob : TextJob → Type 0
 IsPlainJob (Graph work) = UsesPlain depth_limit work.plan (graph_of work)
 IsPlainJob (Parts work) = ⊥
+IsPlainJob (Pipe work) = ⊥
 
 -- ---- jobs inside jobs
 
@@ -78,12 +88,13 @@ IsPlainJob (Parts work) = ⊥
 pub record IsSoundGraph (graph : GraphRows) : Type 0 where
   pub is_net : IsNet graph.net
   pub no_first_tokens : All (λ (row : EdgeRow). row.start ≡ false) graph.net.edges
-  pub plain : IsPlainGraph graph.net
+  pub plain : IsPlainGraph graph
 
 -- an operation whose task opens no run inside its own
 abbrev pub OpensNone : Op → Type 0
 OpensNone (Spread n each) = ⊥
 OpensNone (Module m) = ⊥
+OpensNone (PipeOp plan) = ⊥
 OpensNone op = Unit {0}
 
 -- The graphs that a graph's tasks run are there and are such ones, and so are those inside these, to a depth.
@@ -95,6 +106,7 @@ NestsPlainly (suc d) plan graph = All (OfModule (λ used. IsSomeAnd used (λ g. 
 abbrev pub IsPlainTo : ℕ → TextJob → Type 0
 IsPlainTo d (Graph work) = IsSoundGraph (graph_of work) × NestsPlainly d work.plan (graph_of work)
 IsPlainTo d (Parts work) = IsPartsWork work
+IsPlainTo d (Pipe work) = ⊥
 
 -- What text jobs come to.
 abbrev pub text_plain : PlainJobs TextJob Item
@@ -125,6 +137,7 @@ plain_feedback job = option_map_or item_text (option_and_then (plain_value (net_
 abbrev pub plain_next : TextJob → TextJob
 plain_next (Graph work) = Graph (record work { input = plain_feedback (Graph work) })
 plain_next (Parts work) = Parts work
+plain_next (Pipe work) = Pipe work
 
 -- no task faults by one thread, and no more tasks start than the limit
 abbrev pub RunsWell : TextJob → Type 0

@@ -1,13 +1,14 @@
 -- Small plans, to be worked out.
-use Rattle.std.specs.Prelude.{ℕ, false, List, [], ◌∷◌, codes}
+use Rattle.std.specs.Prelude.{ℕ, true, false, List, [], ◌∷◌, codes}
 use Rattle.task_graph.specs.NetRows.{NetRows}
 use Rattle.task_graph.specs.declared.net.EdgeRow.{EdgeRow}
 use Rattle.task_graph.specs.declared.net.Shape.{Shape}
 use Rattle.task_graph.specs.declared.net.Shape.TheVariants.{Plain, Choice, Nested}
 use Rattle.task_graph.specs.declared.net.TaskRow.{TaskRow}
 use Rattle.graph_plans.specs.declared.ops.Op.{Op}
-use Rattle.graph_plans.specs.declared.ops.Op.TheVariants.{Input, Read, IfMore, Spread, Module, Text as OnText}
+use Rattle.graph_plans.specs.declared.ops.Op.TheVariants.{Input, Read, IfMore, Spread, Module, Pipe, Text as OnText}
 use Rattle.graph_plans.specs.declared.ops.TextOp.TheVariants.{Head, Keep, Pass}
+use Rattle.graph_plans.specs.declared.pipes.LineOp.TheVariants.{Number}
 use Rattle.graph_plans.specs.PlanRows.{GraphRows, PlanRows}
 use Rattle.text_tasks.specs.declared.job.TextJob.{TextJob}
 use Rattle.text_tasks.specs.declared.job.TextJob.TheVariants.{Graph}
@@ -53,6 +54,12 @@ takes_and_keeps = plan_of (codes "p" ∷ []) (Read 0 ∷ [])
 -- the lines of a text are passed on one by one
 abbrev pub spreads_a_text : PlanRows
 spreads_a_text = plan_of (codes "p" ∷ codes "s" ∷ []) (Read 0 ∷ Spread 1 Pass ∷ [])
+    (record { tasks = task Plain ∷ task Nested ∷ []; edges = edge 0 1 ∷ []; sems = [] })
+
+-- the lines of a text go through a pipe, which numbers them
+abbrev pub pipes_a_text : PlanRows
+pipes_a_text = plan_of (codes "p" ∷ codes "s" ∷ [])
+    (Read 0 ∷ Pipe (record { spec = record { lines = 1; serial = true ∷ [] }; ops = Number ∷ []; chunk = 1; defers = [] }) ∷ [])
     (record { tasks = task Plain ∷ task Nested ∷ []; edges = edge 0 1 ∷ []; sems = [] })
 
 -- a module of two tasks, of which the second does this

@@ -4,7 +4,7 @@ ghost use Rattle.run_laws.specs.OneThreadValue.{one_thread_value};
 ghost use Rattle.run_laws.specs.Steady.{Steady};
 ghost use Rattle.run_laws.specs.SmallNets.{four_tasks, two_in_a_ring, adding, adding_to_3, failing_on_2, end, run_of_the_ring, run_of_four, open_twice, after_drop, given_twice};
 ghost use Rattle.run_laws.specs.PlainReport.{IsPlainJob, RunsWell, plain_feedback, plain_report};
-ghost use Rattle.run_laws.specs.SmallPlans.{behind_a_circle, chooses_a_branch, kept_together, runs_a_choice, runs_modules, runs_one_module, spreads_a_text, takes_and_keeps, worked_job};
+ghost use Rattle.run_laws.specs.SmallPlans.{behind_a_circle, chooses_a_branch, kept_together, pipes_a_text, runs_a_choice, runs_modules, runs_one_module, spreads_a_text, takes_and_keeps, worked_job};
 
 /// The values of tasks.
 pub fn small_values()
@@ -61,7 +61,8 @@ pub fn nested_reports()
 {}
 
 /// Of these jobs those that keep lines together, spread a text and run a module are plain; one with a condition isn't,
-/// nor is one that runs a module with one, nor one of whose tasks one takes a unit that it doesn't put.
+/// nor is one that runs a module with one, nor one of whose tasks one takes a unit that it doesn't put, nor one with a
+/// pipeline.
 pub fn plain_plans()
     ensures plain { IsPlainJob (worked_job kept_together 4) }
     ensures condition { ¬ IsPlainJob (worked_job chooses_a_branch 4) }
@@ -69,4 +70,5 @@ pub fn plain_plans()
     ensures spreads { IsPlainJob (worked_job spreads_a_text 4) }
     ensures runs { IsPlainJob (worked_job runs_one_module 4) }
     ensures chooses_inside { ¬ IsPlainJob (worked_job runs_a_choice 4) }
+    ensures pipeline { ¬ IsPlainJob (worked_job pipes_a_text 4) }
 {}

@@ -44,6 +44,12 @@ pub const TABLES: [Table; 1] = [Table {
 {"tasks":[{"name":"a","op":"spread","n":0,"each":{"op":"pass"}}]} -> bad field n in task 0
 {"tasks":[{"name":"a","op":"spread","n":1,"each":{"op":"spread"}}]} -> bad field each in task 0
 {"tasks":[{"name":"a","op":"spread","n":1,"each":{"op":"head"}}]} -> bad field each in task 0
+{"tasks":[{"name":"a","op":"pipe","lines":0,"pipes":[]}]} -> bad pipe in task 0: no lines
+{"tasks":[{"name":"a","op":"pipe","lines":1,"pipes":[]}]} -> bad pipe in task 0: no pipes
+{"tasks":[{"name":"a","op":"input"},{"name":"p","op":"pipe","lines":1,"pipes":[{"serial":false,"op":"pass"}]}]} -> bad pipe in task 1: first pipe is parallel
+{"tasks":[],"modules":[{"name":"m","tasks":[{"name":"p","op":"pipe","lines":65,"pipes":[{"serial":true,"op":"pass"}]}]}]} -> bad pipe in module 0 task 0: too many lines
+{"tasks":[{"name":"a","op":"pipe","lines":1,"pipes":[{"serial":true,"op":"pass"},{"serial":false,"op":"stamp"}]}]} -> bad field pipes in task 0
+{"tasks":[{"name":"a","op":"pipe","lines":1,"pipes":[{"serial":true,"op":"pass"}],"defer":[{"token":0,"to":[]}]}]} -> bad field defer in task 0
 65 MODULES -> too many modules
 NO UTF-8 -> not JSON
 NO UTF-8 IN A WORD -> not JSON

@@ -1,6 +1,6 @@
 // Calls of the program over texts and sinks in memory, each a row of a table.
 use crate::inputs::{CallInputs, inputs_of};
-use crate::seen_runs::shown_run;
+use crate::seen_runs::{Sight, shown_run};
 use crate::wanted::wanted_of;
 use crate::watchers::{Handed, shown_watchers, watchers_of};
 use call_status::Noted;
@@ -21,9 +21,9 @@ pub const COUNT: &str = r#"{"tasks":[
 // A call: its words, with a space between two, or `-` for none, where `''` is the empty word and `_` a space in a word;
 // the texts `t`, `u` and `v` that it finds, with ` / ` between two, where `-` is none; what fails in it (`read CALL`,
 // `put CALL TAKEN`, `note CALL TAKEN`, or `span PLACE` among all spans that its watchers are told), how many watchers it
-// has in place of 16 (`watchers COUNT`), that the totals of its runs are seen too (`totals`), or `-`; and what is seen of
-// it: the exit code, whether all was written and noted, the entries of each run, then what the output took, then what
-// standard error took. `|` ends a line of a text.
+// has in place of 16 (`watchers COUNT`), that the totals of its runs are seen too (`totals`), or what their pipelines
+// started (`tokens`), or `-`; and what is seen of it: the exit code, whether all was written and noted, the entries of
+// each run, then what the output took, then what standard error took. `|` ends a line of a text.
 #[derive(Clone, Copy)]
 pub struct Row<'r> {
     pub words: &'r str,
@@ -213,7 +213,7 @@ fn shown<R: Threads + Wait + Sync>(
         out,
         notes,
     } = call(rt, alloc, inputs, watchers);
-    let end = shown_outcome(alloc, &outcome, handed, row.failing == "totals");
+    let end = shown_outcome(alloc, &outcome, handed, sight_of(row.failing));
     let _code = outcome.into_code();
     shown_end(alloc, end, &out, &notes)
 }
@@ -238,13 +238,21 @@ fn shown_bytes(sink: &MemorySink) -> &str {
     str::from_utf8(sink.bytes()).unwrap_or("?")
 }
 
-// The exit code, whether all was written and noted, each run, with its totals if they are asked for, and what is wrong
-// with the watchers.
+// What is to be seen of each run.
+fn sight_of(failing: &str) -> Sight {
+    match failing {
+        "totals" => Sight::Totals,
+        "tokens" => Sight::Tokens,
+        _ => Sight::Length,
+    }
+}
+
+// The exit code, whether all was written and noted, each run, and what is wrong with the watchers.
 fn shown_outcome(
     alloc: Global,
     outcome: &CallResult,
     handed: Handed,
-    totals: bool,
+    sight: Sight,
 ) -> Result<String, NoMemory> {
     let written = if outcome.written { "written" } else { "cut" };
     let mut shown = format!(in alloc; "{} {written}", outcome.status.code())?;
@@ -255,7 +263,7 @@ fn shown_outcome(
     }
     for run in &outcome.runs {
         shown.push_str(", ")?;
-        shown.push_str(shown_run(alloc, run, totals)?.as_str())?;
+        shown.push_str(shown_run(alloc, run, sight)?.as_str())?;
     }
     shown.push_str(shown_watchers(handed, outcome))?;
     Ok(shown)

@@ -32,6 +32,10 @@ mod notes;
 #[cfg(test)]
 mod operations;
 #[cfg(test)]
+mod pipe_calls;
+#[cfg(test)]
+mod pipe_starts;
+#[cfg(test)]
 mod profile_calls;
 #[cfg(test)]
 mod refused_spans;

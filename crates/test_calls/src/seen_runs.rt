@@ -1,4 +1,5 @@
-// What is seen of a run: how many entries its journal has, and what the judge and the totals say.
+// What is seen of a run: how many entries its journal has, what the judge says, and what else is asked for.
+use crate::pipe_starts::shown_tokens;
 use legal_run::{Verdict, judge};
 use nested_runs::{inner_starts, spans, starts};
 use outside_io::NoMemory;
@@ -6,12 +7,25 @@ use run_frame::{FrameRun, Job};
 use std::alloc::Global;
 use text_tasks::TextJob;
 
-/// How many entries a run's journal has, its totals if they are asked for, and whether it isn't complete, or a run
-/// inside it isn't.
-pub fn shown_run(alloc: Global, run: &FrameRun<TextJob>, totals: bool) -> Result<String, NoMemory> {
+/// What is to be seen of a run.
+#[derive(Clone, Copy)]
+pub enum Sight {
+    /// How long its journal is.
+    Length,
+    /// Its totals besides.
+    Totals,
+    /// Besides its length what the pipelines inside it started.
+    Tokens,
+}
+
+/// How many entries a run's journal has, what else is to be seen of it, and whether it isn't complete, or a run inside it
+/// isn't.
+pub fn shown_run(alloc: Global, run: &FrameRun<TextJob>, sight: Sight) -> Result<String, NoMemory> {
     let mut shown = format!(in alloc; "run of {}", run.journal.len())?;
-    if totals {
-        shown.push_str(shown_totals(alloc, run)?.as_str())?;
+    match sight {
+        Sight::Length => (),
+        Sight::Totals => shown.push_str(shown_totals(alloc, run)?.as_str())?,
+        Sight::Tokens => shown.push_str(shown_tokens(alloc, run)?.as_str())?,
     }
     if !is_complete(alloc, run)? {
         shown.push_str(" that isn't complete")?;

@@ -1,8 +1,8 @@
 // The calls of all tables.
 use crate::calls::{Table, first_difference};
 use crate::{
-    bad_graphs, check_calls, faults, judge_calls, lengths, module_calls, operations, profile_calls,
-    refused_spans, round_calls, runs, semaphore_calls, upgrade_calls, words,
+    bad_graphs, check_calls, faults, judge_calls, lengths, module_calls, operations, pipe_calls,
+    profile_calls, refused_spans, round_calls, runs, semaphore_calls, upgrade_calls, words,
 };
 use std::test::Fail;
 
@@ -25,6 +25,13 @@ fn calls_with_semaphores_answer_as_their_tables_say(rt: HostRuntime) -> Result<(
 #[test]
 fn calls_with_modules_and_spreads_answer_as_their_tables_say(rt: HostRuntime) -> Result<(), Fail> {
     let difference = first_difference(&rt, rt.alloc(), &module_calls::TABLES)?;
+    assert_eq!(rt; difference.as_str(), "");
+    Ok(())
+}
+
+#[test]
+fn calls_with_pipelines_answer_as_their_tables_say(rt: HostRuntime) -> Result<(), Fail> {
+    let difference = first_difference(&rt, rt.alloc(), &pipe_calls::TABLES)?;
     assert_eq!(rt; difference.as_str(), "");
     Ok(())
 }

@@ -8,7 +8,7 @@ use Rattle.text_ops.specs.LineOrder.{line_cmp, IsUpTo, insert_line, in_order}
 use Rattle.text_ops.specs.LineParts.{line_part, line_parts, part_count}
 use Rattle.text_ops.specs.MatchKeys.{match_key, behind_key, first_with, joined, matched}
 use Rattle.text_ops.specs.Repeats.{changes, without_repeats, count_of, NeighboursDiffer}
-use Rattle.text_ops.specs.TextMeaning.{keep_meaning, without_meaning, head_meaning, tail_meaning, skip_meaning, sort_meaning, uniq_meaning, count_meaning, tally_line, tally_meaning, match_meaning, has_word}
+use Rattle.text_ops.specs.TextMeaning.{keep_meaning, without_meaning, head_meaning, tail_meaning, skip_meaning, sort_meaning, uniq_meaning, count_meaning, tally_line, tally_meaning, numbered_line, numbered_meaning, match_meaning, has_word}
 use Rattle.text_ops.specs.Values.{MayRefuse, Makes}
 
 apart : (a b : ℕ) → a < b → a ≢ b
@@ -153,6 +153,21 @@ line_of_a_tally = refl
 tallied : tally_meaning (codes "b\na\nb\n\n") ≡ codes "1 \n1 a\n2 b\n"
 unfolding digits
 tallied = refl
+
+line_behind_a_number : numbered_line 12 (codes "b c") ≡ codes "12 b c"
+unfolding digits
+line_behind_a_number = refl
+
+numbered_lines : numbered_meaning 3 (codes "b\n\na\n") ≡ codes "3 b\n3 \n3 a\n"
+unfolding digits
+numbered_lines = refl
+
+lines_behind_zero : numbered_meaning 0 (codes "a\n") ≡ codes "0 a\n"
+unfolding digits
+lines_behind_zero = refl
+
+no_line_numbered : numbered_meaning 7 [] ≡ []
+no_line_numbered = refl
 
 key_before_a_space : match_key (codes "10 a b") ≡ codes "10"
 key_before_a_space = refl

@@ -18,6 +18,7 @@ pub mod ShortLines
 pub mod SortLemmas
 pub mod TallyLemmas
 pub mod TallySteps
+pub mod NumberLemmas
 pub mod MatchLemmas
 pub mod FoundKeys
 pub mod MatchSteps

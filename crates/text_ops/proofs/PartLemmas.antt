@@ -11,7 +11,7 @@ use Rattle.text_ops.specs.LineParts.{line_part, line_parts, part_count}
 use Rattle.text_ops.specs.inside.Cuts.{IsCut}
 use Rattle.text_ops.specs.inside.Parting.{PartsSoFar}
 use Rattle.text_ops.proofs.CutLemmas.{text_before}
-use Rattle.text_ops.proofs.LineLemmas.{IsNormal-drop, text_of-lines_of}
+use Rattle.text_ops.proofs.LineLemmas.{text_of-lines_of}
 
 times_next : (a b : ℕ) → a * b + b ≡ (a + 1) * b
 times_next a b = omega arith

@@ -42,6 +42,14 @@ count_meaning text = text_of (decimal (length (lines_of text)) ∷ [])
 abbrev pub tally_line : List (List ℕ) → List ℕ → List ℕ
 tally_line lines line = decimal (count_of line lines) ++ space ∷ line
 
+-- a number in decimal, a space and a line
+abbrev pub numbered_line : ℕ → List ℕ → List ℕ
+numbered_line number line = decimal number ++ space ∷ line
+
+-- The lines, each behind the number and a space.
+abbrev pub numbered_meaning : ℕ → List ℕ → List ℕ
+numbered_meaning number text = text_of (map (numbered_line number) (lines_of text))
+
 -- For each different line, in the order of their bytes, a line with its count, a space and the line.
 abbrev pub tally_meaning : List ℕ → List ℕ
 tally_meaning text = text_of (map (tally_line (lines_of text)) (without_repeats (in_order (lines_of text))))

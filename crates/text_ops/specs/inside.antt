@@ -6,6 +6,7 @@ pub mod SortKeys
 pub mod Matching
 pub mod Tallying
 pub mod Repeating
+pub mod Numbering
 pub mod Cuts
 pub mod Parting
 pub mod KeptSoFar

@@ -1,45 +1,36 @@
 -- What a run is gathered to, task by task.
-use Rattle.std.proofs.Common.{◌≡◌, ℕ, zero, suc, ◌+◌, ◌<◌, Bool, true, false, cond, List, [], ◌∷◌, ◌++◌, ◌≤◌, length, map, drop, get_or, Option, Some, None, refl, sym, ap, ◌∙◌, arith, append_assoc, append-nil, drop-cons}
-use Rattle.std.specs.Prelude.{if◌then◌else◌}
-use Rattle.std.specs.List.{range_with_len, flat_map, last_or}
-use Rattle.std.specs.Option.{option_map_or}
+use Rattle.std.proofs.Common.{◌≡◌, ℕ, suc, ◌+◌, ◌<◌, true, cond, List, [], ◌∷◌, ◌++◌, ◌≤◌, length, drop, get_or, Option, Some, None, refl, sym, ap, ◌∙◌, arith, append-nil, drop-cons}
+use Rattle.std.specs.Global.{Global}
+use Rattle.std.specs.declared.sync.Arc.{Arc}
+use Rattle.std.specs.Option.{option_and_then, option_map_or}
 use Rattle.std.proofs.lemmas.List.Concat.{flat_map-append}
 use Rattle.std.proofs.lemmas.List.FromFn.{get_or-map-range_with_len, length-map-range_with_len}
 use Rattle.std.proofs.lemmas.List.{drop_all}
-use Rattle.std.proofs.lemmas.Option.{none-some, same_Some}
 use Rattle.task_graph.specs.NetRows.{NetRows}
-use Rattle.journal_rules.specs.declared.entry.Entry.{Entry}
-use Rattle.run_frame.specs.LastEnds.{is_end_of, last_before, last_end, last_value}
+use Rattle.run_frame.specs.LastEnds.{is_end_of, last_end, last_value}
 use Rattle.run_frame.specs.NestedRule.{journal_of}
-use Rattle.run_frame.specs.Runs.{values_of}
+use Rattle.run_frame.specs.Runs.{value_at, values_of}
 use Rattle.run_frame.specs.declared.run.FrameRun.{FrameRun}
-use Rattle.run_frame.proofs.EndsLemmas.{last_before_at}
 use Rattle.text_tasks.specs.declared.gathered.LastValues.{LastValues}
 use Rattle.text_tasks.specs.declared.item.Item.{Item}
 use Rattle.text_tasks.specs.declared.job.TextJob.{TextJob}
 use Rattle.text_tasks.specs.Items.{item_text}
 use Rattle.text_tasks.specs.Sinks.{is_sink, sink_text, sink_texts, task_values}
-use Rattle.text_tasks.specs.inside.Gathering.{AreLastValues, all_of}
+use Rattle.text_tasks.specs.inside.Gathering.{AreLastValues, AreValuesOf, all_of, last_held, value_held}
+use Rattle.text_tasks.proofs.LastLemmas.{last_within}
 
 -- ---- the last value of a task
 
-last_in_front : (n place : ℕ) (here : Bool) (before : Option ℕ) → (before ≡ Some place → place < n) → (if here then Some n else before) ≡ Some place → place < suc n
-last_in_front n place true before earlier is = let same : n ≡ place = same_Some _ _ is in omega (arith, same)
-last_in_front n place false before earlier is = omega (arith, earlier is)
-
-last_before_below : (journal : List Entry) (t n place : ℕ) → last_before journal t n ≡ Some place → place < n
-last_before_below journal t zero place is = absurd (none-some place is)
-last_before_below journal t (suc n) place is =
-    let next : suc n ≡ n + 1 = omega arith in
-    last_in_front n place (is_end_of journal t n) (last_before journal t n) (last_before_below journal t n place)
-    (sym (last_before_at journal t n) ∙ ap (last_before journal t) (sym next) ∙ is)
+-- where the values are put down an End's is found at its place
+pub value_is_held : (run : FrameRun TextJob Item) (values : List (Option (Arc Item Global))) (end : Option ℕ) → AreValuesOf run values → ((n : ℕ) → end ≡ Some n → n < length (journal_of run)) → option_and_then (value_held values) end ≡ option_and_then (value_at (values_of run)) end
+value_is_held run values None are within = refl
+value_is_held run values (Some n) are within = are.each n (within n refl)
 
 -- the value of a task's last End is put down
-pub value_kept : (run : FrameRun TextJob Item) (tasks : ℕ) (last : LastValues) (t place : ℕ) → AreLastValues run tasks last → t < tasks → get_or last.ends.items t None ≡ Some place → place < length last.values.items
-value_kept run tasks last t place are below at =
-    let end : last_end (journal_of run) t ≡ Some place = sym (are.ends t below) ∙ at in
-    let within : place < length (journal_of run) = last_before_below (journal_of run) t (length (journal_of run)) place end in
-    omega (arith, within, are.value_count)
+pub last_value_held : (run : FrameRun TextJob Item) (tasks : ℕ) (last : LastValues) (t : ℕ) → AreLastValues run tasks last → t < tasks → last_held last t ≡ last_value (journal_of run) (values_of run) t
+last_value_held run tasks last t are below =
+    ap (option_and_then (value_held last.values.items)) (are.ends t below)
+    ∙ value_is_held run last.values.items (last_end (journal_of run) t) are.values (last_within (is_end_of (journal_of run) t) (length (journal_of run)))
 
 -- ---- what tasks add
 

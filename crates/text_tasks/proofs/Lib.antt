@@ -1,7 +1,11 @@
 pub mod FoundLemmas
 pub mod OneByOneLemmas
+pub mod LastLemmas
 pub mod WorkLemmas
 pub mod GatherLemmas
+pub mod PipeTextLemmas
+pub mod CellLemmas
 pub mod RoundLemmas
 pub mod PlanLemmas
 pub mod WorkedJobs
+pub mod WorkedPipelines

@@ -1,5 +1,6 @@
--- The small plan keeps the rules of plans.
-use Rattle.std.proofs.Common.{◌≡◌, ℕ, ◌<◌, false, List, [], ◌∷◌, All, refl, arith}
+-- What holds of plans, and that the small one keeps their rules.
+use Rattle.std.proofs.Common.{◌≡◌, ℕ, suc, ◌<◌, false, List, [], ◌∷◌, length, All, Option, Some, None, refl, arith}
+use Rattle.std.specs.Prelude.{IfSome}
 use Rattle.std.proofs.lemmas.List.Elements.{All-from_recursion}
 use Rattle.std.proofs.lemmas.Map.Made.{AllPairs-from_IsDistinct}
 use Rattle.std.proofs.lemmas.Slice.Eq.{bytes_eq-Decides}
@@ -13,11 +14,11 @@ use Rattle.task_graph.specs.declared.net.EdgeRow.{EdgeRow}
 use Rattle.journal_rules.specs.declared.entry.Cause.TheVariants.{Strong}
 use Rattle.run_frame.specs.Meaning.{IsRelease}
 use Rattle.graph_plans.specs.declared.ops.Op.{Op}
-use Rattle.graph_plans.specs.declared.ops.Op.TheVariants.{Input, Read, Text, Match, Back, IfMore, IfHas, Route, Spread, Module}
+use Rattle.graph_plans.specs.declared.ops.Op.TheVariants.{Input, Read, Text, Match, Back, IfMore, IfHas, Route, Spread, Module, Pipe}
 use Rattle.graph_plans.specs.ModuleUses.{has_chain, modules_run}
-use Rattle.graph_plans.specs.Operations.{IsOp, shape_of}
-use Rattle.graph_plans.specs.PlanRows.{IsGraph, IsPlan, IsTextName, AllDiffer}
-use Rattle.text_tasks.specs.GraphWork.{IsWork}
+use Rattle.graph_plans.specs.Operations.{HasPipeline, IsOp, shape_of}
+use Rattle.graph_plans.specs.PlanRows.{HasPipelines, IsGraph, IsPlan, IsTextName, AllDiffer}
+use Rattle.text_tasks.specs.GraphWork.{GraphWork, IsWork, graph_in, graph_of}
 use Rattle.text_tasks.specs.ValueTexts.{IsValueText}
 use Rattle.text_tasks.specs.inside.WorkedPlans.{worked_task, worked_edge, worked_net, worked_plan, worked_texts, worked_work}
 
@@ -60,10 +61,13 @@ worked_is_graph op fits = record {
   maxima = λ k d below. absurd (omega (arith, below));
 }
 
+worked_pipelines : (op : Op) → HasPipeline op → HasPipelines (worked_plan op).top
+worked_pipelines op pipes = All-from_recursion HasPipeline (worked_plan op).top.ops (tt, (tt, (tt, (pipes, tt))))
+
 -- no task runs a module, where the operation doesn't
-pub worked_is_plan : (op : Op) → IsOp 2 0 op → IsPlan (worked_plan op)
+pub worked_is_plan : (op : Op) → IsOp 2 0 op → HasPipeline op → IsPlan (worked_plan op)
 unfolding IsDistinct
-worked_is_plan op fits = record {
+worked_is_plan op fits pipes = record {
   name = refl;
   graphs = All-from_recursion (IsGraph 2 0) ((worked_plan op).top ∷ []) (worked_is_graph op fits, tt);
   module_names_differ = apart [] tt;
@@ -76,6 +80,7 @@ worked_is_plan op fits = record {
   texts = All-from_recursion IsTextName (worked_plan op).texts (text_name 101, (text_name 102, tt));
   texts_differ = apart (worked_plan op).texts ((refl, tt), (tt, tt));
   text_count = omega arith;
+  pipelines = All-from_recursion HasPipelines ((worked_plan op).top ∷ []) (worked_pipelines op pipes, tt);
 }
   where
     no_chain : (op : Op) → IsOp 2 0 op → has_chain 9 [] (modules_run (Read 0 ∷ Read 0 ∷ Read 0 ∷ op ∷ [])) ≡ false
@@ -89,13 +94,14 @@ worked_is_plan op fits = record {
     no_chain (Route words) fits = refl
     no_chain (Spread n each) fits = refl
     no_chain (Module m) fits = absurd (omega (arith, fits))
+    no_chain (Pipe plan) fits = refl
 
 value_texts : All IsValueText worked_texts
 value_texts = All-from_recursion IsValueText worked_texts (record { normal = refl; short = omega arith }, (record { normal = refl; short = omega arith }, tt))
 
-pub worked_is_work : (op : Op) → IsOp 2 0 op → IsWork (worked_work op)
-worked_is_work op fits = record {
-  plan = worked_is_plan op fits;
+pub worked_is_work : (op : Op) → IsOp 2 0 op → HasPipeline op → IsWork (worked_work op)
+worked_is_work op fits pipes = record {
+  plan = worked_is_plan op fits pipes;
   text_count = refl;
   texts = value_texts;
   input = record { normal = refl; short = omega arith };
@@ -106,3 +112,11 @@ worked_is_work op fits = record {
 -- a start of the last task finds three parts
 pub worked_release : (shape : Shape) → IsRelease (worked_net shape) 3 3
 worked_release shape = record { in_range = omega arith; cause = Strong; can_release = λ none. absurd (cc); size = refl }
+
+-- the pipes of each task of the graph that is run are a pipeline
+pub pipelines_of_work : (work : GraphWork) → IsWork work → HasPipelines (graph_of work)
+pipelines_of_work work keeps = of_graph work.«module» keeps.in_plan
+  where
+    of_graph : (g : Option ℕ) → IfSome g (λ m. m < length work.plan.modules) → HasPipelines (graph_in work.plan g)
+    of_graph None there = keeps.plan.pipelines 0 work.plan.top (omega arith)
+    of_graph (Some m) there = keeps.plan.pipelines (suc m) work.plan.top (omega (arith, there))

@@ -1,5 +1,5 @@
 -- What a run hands to the next round may be a value.
-use Rattle.std.proofs.Common.{◌≡◌, ℕ, ◌≤◌, List, [], length, Option, Some, None, arith, refl, subst, sym}
+use Rattle.std.proofs.Common.{ℕ, ◌≤◌, List, [], length, Option, Some, None, arith, subst, sym}
 use Rattle.std.specs.Prelude.{IfSome, IsSomeAnd}
 use Rattle.std.specs.Option.{option_map_or, option_and_then}
 use Rattle.join_words.specs.Ins.{InputValue}
@@ -17,7 +17,7 @@ use Rattle.text_tasks.specs.declared.item.Item.{Item}
 use Rattle.text_tasks.specs.declared.job.TextJob.{TextJob}
 use Rattle.text_tasks.specs.Items.{item_text}
 use Rattle.text_tasks.specs.JobMeaning.{AnswersAs, JobAnswers, feedback_of, net_of, task_meaning, text_job}
-use Rattle.text_tasks.specs.OpMeaning.{OpMeaning, hands_over, runs, too_wide}
+use Rattle.text_tasks.specs.OpMeaning.{OpMeaning, hands_over, moves_on, never_passes, runs, too_wide}
 use Rattle.text_tasks.specs.Sinks.{last_sink}
 use Rattle.text_tasks.specs.ValueTexts.{IsValueText}
 
@@ -26,15 +26,17 @@ IsShort item = length (item_text item) ≤ value_limit
 
 by_meaning : (o : Option OpMeaning) (item : Item) (answer : Answer) → IsSomeAnd o (λ meaning. AnswersAs meaning (Value item answer)) → IsShort item
 by_meaning None item answer meets = absurd meets
-by_meaning (Some (hands_over text chosen)) item answer meets = subst (λ t. length t ≤ value_limit) (sym meets.0) meets.2
+by_meaning (Some (hands_over text chosen)) item answer meets = subst IsShort (sym meets.0) meets.2
+by_meaning (Some (moves_on cell chosen)) item answer meets = subst IsShort (sym meets.0) meets.2
 by_meaning (Some (runs inner)) item answer meets = absurd meets
 by_meaning (Some (too_wide parts)) item answer meets = absurd meets
+by_meaning (Some (never_passes token)) item answer meets = absurd meets
 
 answer_short : (job : TextJob) (task : ℕ) (found : List (InputValue Item)) (item : Item) (answer : Answer) → JobAnswers job task found (Value item answer) → IsShort item
 answer_short job task found item answer allowed = by_meaning (task_meaning job task found) item answer allowed
 
 gathered_short : (job : TextJob) (inner : FrameRun TextJob Item) (item : Item) → text_job.gathers job inner item → IsShort item
-gathered_short job inner item gathered = subst (λ t. length t ≤ value_limit) (sym gathered.0) gathered.1
+gathered_short job inner item gathered = subst IsShort (sym gathered.0) gathered.1
 
 short_text : (o : Option Item) → IfSome o IsShort → length (option_map_or item_text o []) ≤ value_limit
 short_text None holds = omega arith

@@ -1,12 +1,8 @@
 -- What operations make of what is found.
-use Rattle.std.proofs.Common.{◌≡◌, ℕ, suc, ◌+◌, ◌<◌, ℤ, pos, Bool, true, false, cond, List, [], ◌∷◌, ◌++◌, length, map, drop, get_or, Some, None, sym, ap, ◌∙◌, arith, drop-cons, append_assoc}
-use Rattle.std.specs.Prelude.{◌≢◌, if◌then◌else◌, filter}
-use Rattle.std.specs.List.{range_with_len, last_or}
-use Rattle.std.proofs.lemmas.List.Elements.{filter-append}
+use Rattle.std.proofs.Common.{◌≡◌, ℕ, suc, ◌+◌, ◌<◌, ℤ, pos, Bool, true, false, cond, List, [], ◌∷◌, ◌++◌, length, map, drop, get_or, Some, sym, ap, ◌∙◌, arith, drop-cons, append_assoc}
+use Rattle.std.specs.Prelude.{◌≢◌, if◌then◌else◌}
 use Rattle.task_graph.specs.NetRows.{NetRows}
 use Rattle.task_graph.specs.Places.{places_from}
-use Rattle.run_frame.proofs.EndsLemmas.{counting_more, last_put}
-use Rattle.std.proofs.lemmas.List.{append-nil}
 use Rattle.text_ops.specs.declared.gathered.ApplyError.{ApplyError}
 use Rattle.text_ops.specs.declared.gathered.ApplyError.TheVariants.{Long, NoMemory}
 use Rattle.text_ops.specs.Lines.{IsNormal}
@@ -14,17 +10,11 @@ use Rattle.text_ops.specs.TextMeaning.{has_word, sort_meaning}
 use Rattle.text_ops.specs.Values.{MayRefuse}
 use Rattle.text_ops.proofs.SortLemmas.{length-sort_meaning}
 use Rattle.text_tasks.specs.Sinks.{is_sink, last_sink_below}
-
-last_kept : (ts : List ℕ) (n : ℕ) (is : Bool) → last_or None (ts ++ cond is (n ∷ []) []) ≡ (if is then Some n else last_or None ts)
-last_kept ts n true = last_put None ts n
-last_kept ts n false = ap (last_or None) (append-nil ts)
+use Rattle.text_tasks.proofs.LastLemmas.{last_next}
 
 -- The last task without an out-edge, with one task more.
 pub last_sink_next : (net : NetRows) (n : ℕ) → last_sink_below net (n + 1) ≡ (if is_sink net n then Some n else last_sink_below net n)
-last_sink_next net n =
-    ap (λ ts. last_or None (filter (is_sink net) ts)) (counting_more 0 n n (omega arith))
-    ∙ ap (last_or None) (filter-append (is_sink net) (range_with_len 0 n) (n ∷ []))
-    ∙ last_kept (filter (is_sink net) (range_with_len 0 n)) n (is_sink net n)
+last_sink_next net n = last_next (is_sink net) n
 
 -- the places of the items that pass, behind those that were looked at
 pub places_next : {X : Type 0} (p : X → Bool) (xs : List X) (i : ℕ) (d : X) → i < length xs → places_from p i (drop i xs) ≡ cond (p (get_or xs i d)) (i ∷ places_from p (i + 1) (drop (i + 1) xs)) (places_from p (i + 1) (drop (i + 1) xs))

@@ -25,14 +25,14 @@ use Rattle.text_ops.specs.Lines.{IsNormal, lines_of}
 use Rattle.text_tasks.specs.declared.item.Item.{Item}
 use Rattle.text_tasks.specs.declared.item.Item.TheVariants.{Text}
 use Rattle.text_tasks.specs.declared.job.TextJob.{TextJob}
-use Rattle.text_tasks.specs.declared.job.TextJob.TheVariants.{Graph, Parts}
+use Rattle.text_tasks.specs.declared.job.TextJob.TheVariants.{Graph, Parts, Pipe}
 use Rattle.text_tasks.specs.Items.{item_text}
 use Rattle.text_tasks.specs.ValueTexts.{IsValueText}
 use Rattle.text_tasks.specs.GraphWork.{GraphWork, IsWork, first_work, graph_in, graph_of, module_work}
 use Rattle.text_tasks.specs.PartsWork.{IsPartsWork, PartsWork}
 use Rattle.text_tasks.specs.FoundTexts.{found_text, text_found, left_found, right_found}
 use Rattle.text_tasks.specs.OpMeaning.{hands_over, has_more, module_meaning, occurring, op_meaning, runs, spread_meaning, text_op_value, too_wide}
-use Rattle.text_tasks.specs.JobMeaning.{AnswersAs, FaultsAs, FaultsLong, FaultsWide, JobAnswers, JobFaults, JobFollows, IsTextJob, feedback_of, gathered_text, job_plan, limit_of, names_of, net_of, task_meaning, text_gathered, text_job}
+use Rattle.text_tasks.specs.JobMeaning.{AnswersAs, FaultsAs, FaultsWide, JobAnswers, JobFaults, JobFollows, IsTextJob, feedback_of, gathered_text, job_plan, limit_of, names_of, net_of, task_meaning, text_gathered, text_job}
 use Rattle.text_tasks.specs.Sinks.{is_sink, last_sink, last_sink_below, sink_text, sink_texts, task_values}
 use Rattle.text_tasks.specs.inside.WorkedPlans.{worked_module, worked_modules, worked_net, worked_plan, worked_texts, worked_work}
 use Rattle.text_tasks.proofs.PlanLemmas.{worked_is_work}
@@ -73,7 +73,7 @@ graph_is_the_top_one : graph_of (record work { plan = record (worked_plan Match)
 graph_is_the_top_one = refl
 
 small_work : IsWork work
-small_work = worked_is_work Match tt
+small_work = worked_is_work Match tt tt
 
 work_at_its_limit : IsWork (record work { limit = 1000000 })
 work_at_its_limit = record {
@@ -367,7 +367,7 @@ answered_at_the_limit : (text : List ℕ) → length text ≡ 16777216 → Answe
 answered_at_the_limit text long = (refl, refl, omega arith)
 
 another_value : ¬ AnswersAs (hands_over (codes "x\n") Each) (Value (Text []) Each)
-another_value is = let lengths : 0 ≡ 2 = ap length is.0 in absurd (omega (arith, lengths))
+another_value is = let lengths : 0 ≡ 2 = ap (λ item. length (item_text item)) is.0 in absurd (omega (arith, lengths))
 
 another_answer : ¬ AnswersAs (hands_over (codes "x\n") Each) (Value (Text (codes "x\n")) NoneOf)
 another_answer is = let same : NoneOf ≡ Each = is.1 in absurd (cc)
@@ -407,7 +407,7 @@ first_task_answers : JobAnswers (Graph (worked_work Back)) 0 [] (Value (Text (co
 first_task_answers = (refl, refl, omega arith)
 
 another_text_answered : ¬ JobAnswers (Graph (worked_work Back)) 0 [] (Value (Text (codes "y\nz\n")) Each)
-another_text_answered is = let lengths : 4 ≡ 2 = ap length is.0 in absurd (omega (arith, lengths))
+another_text_answered is = let lengths : 4 ≡ 2 = ap (λ item. length (item_text item)) is.0 in absurd (omega (arith, lengths))
 
 no_task_answers : ¬ JobAnswers (Graph (worked_work Back)) 4 (x ∷ []) (Value (Text (codes "x\n")) Each)
 no_task_answers is = is
@@ -483,6 +483,7 @@ next_round_of_another_text run is next = absurd (omega (arith, lengths))
     input_of : TextJob → List ℕ
     input_of (Graph job) = job.input
     input_of (Parts job) = []
+    input_of (Pipe job) = []
 
     lengths : ◌≡◌ {A = ℕ} 0 2
     lengths = ap (λ job. length (input_of job)) next ∙ ap length is
@@ -532,7 +533,7 @@ gathered_of_a_job : (run : FrameRun TextJob Item) (ptr : Ptr) → journal_of run
 gathered_of_a_job run ptr journal held = rw (journal, held) (refl, omega arith)
 
 another_text_gathered : (run : FrameRun TextJob Item) (ptr : Ptr) → journal_of run ≡ ends → values_of run ≡ values ptr → ¬ text_job.gathers (Graph work) run (Text [])
-another_text_gathered run ptr journal held is = let lengths : 0 ≡ 2 = ap length (rw (journal, held) at is.0) in absurd (omega (arith, lengths))
+another_text_gathered run ptr journal held is = let lengths : 0 ≡ 2 = ap (λ item. length (item_text item)) (rw (journal, held) at is.0) in absurd (omega (arith, lengths))
 
 long_text_gathered : (run : FrameRun TextJob Item) (item : Item) → length (text_gathered (Graph work) run) ≡ 16777217 → ¬ text_job.gathers (Graph work) run item
 long_text_gathered run item long is = absurd (omega (arith, long, is.1))

@@ -1,5 +1,5 @@
 -- The laws that text jobs keep.
-use Rattle.std.specs.Prelude.{◌≡◌, ℕ, zero, suc, ◌<◌, Bool, true, false, cond, List, length, replicate, Option, Some, None, slice_get, IfSome, IsSomeAnd, nat_le, refl}
+use Rattle.std.specs.Prelude.{◌≡◌, ℕ, zero, suc, ◌*◌, ◌<◌, ◌==◌, Bool, true, false, cond, List, length, replicate, Option, Some, None, slice_get, IfSome, IsSomeAnd, nat_le, refl}
 use Rattle.std.specs.Option.{option_map}
 use Rattle.std.proofs.Common.{subst, sym, ◌∙◌, ap, arith}
 use Rattle.std.proofs.lemmas.List.{length-map}
@@ -11,27 +11,35 @@ use Rattle.journal_rules.specs.declared.entry.Why.{Why}
 use Rattle.journal_rules.specs.declared.entry.Why.TheVariants.{Long, Wide, Unmet, Inner, OverRelease}
 use Rattle.join_words.specs.Ins.{InputValue}
 use Rattle.run_frame.specs.declared.job.Answer.{Answer}
-use Rattle.run_frame.specs.declared.job.Answer.TheVariants.{All as Each}
+use Rattle.run_frame.specs.declared.job.Answer.TheVariants.{All as Each, None as NoneOf}
 use Rattle.run_frame.specs.declared.job.Done.{Done}
 use Rattle.run_frame.specs.declared.job.Done.TheVariants.{Value, Inner as InnerJob}
 use Rattle.run_frame.specs.declared.run.FrameRun.{FrameRun}
 use Rattle.run_frame.specs.Meaning.{AnswerFits, DoneFits, FitsShape, IsOwnWhy}
 use Rattle.graph_plans.specs.declared.ops.Op.{Op}
-use Rattle.graph_plans.specs.declared.ops.Op.TheVariants.{Input, Read, Text, Match, Back, IfMore, IfHas, Route, Spread, Module}
+use Rattle.graph_plans.specs.declared.ops.Op.TheVariants.{Input, Read, Text, Match, Back, IfMore, IfHas, Route, Spread, Module, Pipe as PipeOp}
+use Rattle.graph_plans.specs.declared.pipes.LineOp.{LineOp}
 use Rattle.graph_plans.specs.Operations.{shape_of}
-use Rattle.graph_plans.specs.PlanRows.{GraphRows, IsGraph, IsPlan, PlanRows}
+use Rattle.graph_plans.specs.PlanRows.{IsGraph, IsPlan, PlanRows}
 use Rattle.nested_runs.specs.Spreads.{part_limit, part_row}
+use Rattle.pipe_lines.specs.declared.order.Passed.{Passed}
+use Rattle.pipe_lines.specs.declared.order.Passed.TheVariants.{Token, Stop, Unmet as UnmetToken}
+use Rattle.pipe_lines.specs.DeferRows.{token_limit}
+use Rattle.pipe_lines.specs.PipeNet.{cell_row}
 use Rattle.text_ops.specs.LineParts.{part_count}
 use Rattle.text_ops.specs.TextMeaning.{has_word}
 use Rattle.text_ops.specs.Values.{value_limit}
+use Rattle.text_tasks.specs.declared.item.CellItem.{CellItem}
 use Rattle.text_tasks.specs.declared.item.Item.{Item}
 use Rattle.text_tasks.specs.declared.job.TextJob.{TextJob}
-use Rattle.text_tasks.specs.declared.job.TextJob.TheVariants.{Graph, Parts}
+use Rattle.text_tasks.specs.declared.job.TextJob.TheVariants.{Graph, Parts, Pipe}
 use Rattle.text_tasks.specs.GraphWork.{GraphWork, IsWork, graph_in, graph_of}
 use Rattle.text_tasks.specs.PartsWork.{PartsWork}
+use Rattle.text_tasks.specs.PipeWork.{PipeWork}
+use Rattle.text_tasks.specs.CellMeaning.{cell_meaning, enters, goes_on, pipe_of}
 use Rattle.text_tasks.specs.FoundTexts.{text_found}
-use Rattle.text_tasks.specs.OpMeaning.{OpMeaning, hands_over, runs, too_wide, op_meaning, first_one, second_one, has_more, text_op_value}
-use Rattle.text_tasks.specs.JobMeaning.{AnswersAs, FaultsAs, FaultsLong, FaultsWide, JobAnswers, JobFaults, IsTextJob, net_of, task_meaning, text_job}
+use Rattle.text_tasks.specs.OpMeaning.{OpMeaning, hands_over, moves_on, never_passes, runs, too_wide, op_meaning, first_one, second_one, has_more, text_op_value}
+use Rattle.text_tasks.specs.JobMeaning.{AnswersAs, FaultsAs, FaultsLong, FaultsUnmet, FaultsWide, JobAnswers, JobFaults, IsTextJob, net_of, task_meaning, text_job}
 
 -- each graph of a plan keeps the rules of graphs
 pub graph_in_plan : (plan : PlanRows) (g : Option ℕ) → IsPlan plan → IfSome g (λ m. m < length plan.modules) → IsGraph (length plan.texts) (length plan.modules) (graph_in plan g)
@@ -65,6 +73,11 @@ value_fits : (shape : Shape) (text : List ℕ) (chosen : Answer) (done : Done Te
 value_fits shape text chosen (Value item answer) fits answers = subst (FitsShape shape) (sym answers.1) fits
 value_fits shape text chosen (InnerJob job) fits answers = absurd answers
 
+-- so does a cell's
+cell_fits : (shape : Shape) (cell : CellItem) (chosen : Answer) (done : Done TextJob Item) → FitsShape shape chosen → AnswersAs (moves_on cell chosen) done → DoneFits shape done
+cell_fits shape cell chosen (Value item answer) fits answers = subst (FitsShape shape) (sym answers.1) fits
+cell_fits shape cell chosen (InnerJob job) fits answers = absurd answers
+
 -- a job fits a task that may have one
 job_fits : (inner : TextJob) (done : Done TextJob Item) → AnswersAs (runs inner) done → DoneFits Nested done
 job_fits inner (Value item answer) answers = absurd answers
@@ -94,27 +107,46 @@ op_fits work found (IfHas word) done answers = value_fits Choice _ _ done (one_f
 op_fits work found (Route words) done answers = value_fits Many _ _ done tt answers
 op_fits work found (Spread n each) done answers = spread_fits (nat_le (part_count n (text_found found)) part_limit) _ _ done answers
 op_fits work found (Module m) done answers = module_fits (nat_le (length (text_found found)) value_limit) _ _ done answers
+op_fits work found (PipeOp plan) done answers = spread_fits (nat_le (part_count plan.chunk (text_found found)) token_limit) _ _ done answers
 
 task_fits : (work : GraphWork) (task : ℕ) (found : List (InputValue Item)) (done : Done TextJob Item) → IsWork work → (row : Option TaskRow) (op : Option Op) → slice_get (graph_of work).net.tasks task ≡ row → slice_get (graph_of work).ops task ≡ op → IsSomeAnd (option_map (op_meaning work found) op) (λ meaning. AnswersAs meaning done) → IfSome row (λ (r : TaskRow). DoneFits r.shape done)
 task_fits work task found done keeps None op row_is op_is answers = tt
 task_fits work task found done keeps (Some row) None row_is op_is answers = absurd answers
 task_fits work task found done keeps (Some row) (Some op) row_is op_is answers = subst (λ shape. DoneFits shape done) (sym (op_shape work task row op keeps row_is op_is)) (op_fits work found op done answers)
 
--- each task of a run of parts is that of a part
-part_row_at : (parts task : ℕ) (row : TaskRow) → slice_get (replicate parts part_row) task ≡ Some row → row ≡ part_row
-part_row_at zero task row is = absurd (cc)
-part_row_at (suc parts) zero row is = sym (same_Some _ _ is)
-part_row_at (suc parts) (suc task) row is = part_row_at parts task row is
+-- each of so many rows that are the same is that one
+row_at : (each : TaskRow) (count task : ℕ) (row : TaskRow) → slice_get (replicate count each) task ≡ Some row → row ≡ each
+row_at each zero task row is = absurd (cc)
+row_at each (suc count) zero row is = sym (same_Some _ _ is)
+row_at each (suc count) (suc task) row is = row_at each count task row is
 
 part_fits : (work : PartsWork) (task : ℕ) (done : Done TextJob Item) (row : Option TaskRow) (part : Option (List ℕ)) → slice_get (replicate (length work.parts) part_row) task ≡ row → IsSomeAnd (option_map (λ p. hands_over (text_op_value work.op p) Each) part) (λ meaning. AnswersAs meaning done) → IfSome row (λ (r : TaskRow). DoneFits r.shape done)
 part_fits work task done None part row_is answers = tt
 part_fits work task done (Some row) None row_is answers = absurd answers
-part_fits work task done (Some row) (Some part) row_is answers = subst (λ (r : TaskRow). DoneFits r.shape done) (sym (part_row_at (length work.parts) task row row_is)) (value_fits Plain _ _ done tt answers)
+part_fits work task done (Some row) (Some part) row_is answers = subst (λ (r : TaskRow). DoneFits r.shape done) (sym (row_at part_row (length work.parts) task row row_is)) (value_fits Plain _ _ done tt answers)
+
+-- what a cell answers fits a plain task
+entering_fits : (work : PipeWork) (op : LineOp) (place : ℕ) (passed : Passed) (done : Done TextJob Item) → AnswersAs (enters work op place passed) done → DoneFits Plain done
+entering_fits work op place (Token k) done answers = cell_fits Plain _ Each done tt answers
+entering_fits work op place Stop done answers = cell_fits Plain _ NoneOf done tt answers
+entering_fits work op place (UnmetToken k) done answers = absurd answers
+
+at_pipe_fits : (work : PipeWork) (op : LineOp) (place token before : ℕ) (passed : Passed) (text : List ℕ) (is_first : Bool) (done : Done TextJob Item) → AnswersAs (cond is_first (enters work op place passed) (goes_on op token before text)) done → DoneFits Plain done
+at_pipe_fits work op place token before passed text true done answers = entering_fits work op place passed done answers
+at_pipe_fits work op place token before passed text false done answers = cell_fits Plain _ Each done tt answers
+
+pipe_fits : (work : PipeWork) (task : ℕ) (found : List (InputValue Item)) (done : Done TextJob Item) (row : Option TaskRow) (op : Option LineOp) → slice_get (net_of (Pipe work)).tasks task ≡ row → IsSomeAnd (option_map (cell_meaning work task found) op) (λ meaning. AnswersAs meaning done) → IfSome row (λ (r : TaskRow). DoneFits r.shape done)
+pipe_fits work task found done None op row_is answers = tt
+pipe_fits work task found done (Some row) None row_is answers = absurd answers
+pipe_fits work task found done (Some row) (Some op) row_is answers =
+    subst (λ (r : TaskRow). DoneFits r.shape done) (sym (row_at cell_row (work.spec.lines * length work.spec.serial) task row row_is))
+    (at_pipe_fits work op _ _ _ _ _ (pipe_of work task == 0) done answers)
 
 -- an answer fits its task
 pub text_answers_fit : (job : TextJob) (task : ℕ) (found : List (InputValue Item)) (done : Done TextJob Item) → IsTextJob job → JobAnswers job task found done → AnswerFits (net_of job) task done
 text_answers_fit (Graph work) task found done keeps answers = task_fits work task found done keeps _ _ refl refl answers
 text_answers_fit (Parts work) task found done keeps answers = part_fits work task done _ _ refl answers
+text_answers_fit (Pipe work) task found done keeps answers = pipe_fits work task found done _ _ refl answers
 
 long_why : (text : List ℕ) (why : Why) → FaultsLong text why → IsOwnWhy why
 long_why text (Long n) faults = tt
@@ -130,10 +162,19 @@ wide_why parts (Unmet k) faults = tt
 wide_why parts Inner faults = faults
 wide_why parts (OverRelease s) faults = faults
 
+unmet_why : (token : ℕ) (why : Why) → FaultsUnmet token why → IsOwnWhy why
+unmet_why token (Long n) faults = tt
+unmet_why token (Wide n) faults = tt
+unmet_why token (Unmet k) faults = tt
+unmet_why token Inner faults = faults
+unmet_why token (OverRelease s) faults = faults
+
 meaning_why : (meaning : OpMeaning) (why : Why) → FaultsAs meaning why → IsOwnWhy why
 meaning_why (hands_over text chosen) why faults = long_why text why faults
+meaning_why (moves_on cell chosen) why faults = long_why cell.text why faults
 meaning_why (runs inner) why faults = absurd faults
 meaning_why (too_wide parts) why faults = wide_why parts why faults
+meaning_why (never_passes token) why faults = unmet_why token why faults
 
 task_why : (meaning : Option OpMeaning) (why : Why) → IsSomeAnd meaning (λ m. FaultsAs m why) → IsOwnWhy why
 task_why None why faults = absurd faults

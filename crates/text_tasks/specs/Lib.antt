@@ -4,7 +4,11 @@ pub mod GraphWork
 pub mod PartsWork
 pub mod FoundTexts
 pub mod Sinks
+pub mod Cells
+pub mod PipeWork
 pub mod OpMeaning
+pub mod CellMeaning
+pub mod PipeEnds
 pub mod JobMeaning
 pub mod JobLaws
 pub mod inside

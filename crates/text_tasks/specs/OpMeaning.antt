@@ -5,19 +5,23 @@ use Rattle.join_words.specs.Ins.{InputValue}
 use Rattle.run_frame.specs.declared.job.Answer.{Answer}
 use Rattle.run_frame.specs.declared.job.Answer.TheVariants.{All as Each, Indices}
 use Rattle.graph_plans.specs.declared.ops.Op.{Op}
-use Rattle.graph_plans.specs.declared.ops.Op.TheVariants.{Input, Read, Text, Match, Back, IfMore, IfHas, Route, Spread, Module}
+use Rattle.graph_plans.specs.declared.ops.Op.TheVariants.{Input, Read, Text, Match, Back, IfMore, IfHas, Route, Spread, Module, Pipe as PipeOp}
 use Rattle.graph_plans.specs.declared.ops.TextOp.{TextOp}
 use Rattle.graph_plans.specs.declared.ops.TextOp.TheVariants.{Pass, Keep, Without, Head, Tail, Skip, Sort, Uniq, Count, Tally}
+use Rattle.graph_plans.specs.declared.pipes.PipePlan.{PipePlan}
 use Rattle.nested_runs.specs.Spreads.{part_limit}
+use Rattle.pipe_lines.specs.DeferRows.{token_limit}
 use Rattle.text_ops.specs.LineParts.{line_parts, part_count}
 use Rattle.text_ops.specs.Lines.{lines_of}
 use Rattle.text_ops.specs.TextMeaning.{keep_meaning, without_meaning, head_meaning, tail_meaning, skip_meaning, sort_meaning, uniq_meaning, count_meaning, tally_meaning, match_meaning, has_word}
 use Rattle.text_ops.specs.Values.{value_limit}
+use Rattle.text_tasks.specs.declared.item.CellItem.{CellItem}
 use Rattle.text_tasks.specs.declared.item.Item.{Item}
 use Rattle.text_tasks.specs.declared.job.TextJob.{TextJob}
-use Rattle.text_tasks.specs.declared.job.TextJob.TheVariants.{Graph, Parts}
+use Rattle.text_tasks.specs.declared.job.TextJob.TheVariants.{Graph, Parts, Pipe}
 use Rattle.text_tasks.specs.GraphWork.{GraphWork, module_work}
 use Rattle.text_tasks.specs.FoundTexts.{text_found, left_found, right_found}
+use Rattle.text_tasks.specs.PipeWork.{pipe_work}
 
 -- the text that an operation on one text makes of a text
 abbrev pub text_op_value : TextOp → List ℕ → List ℕ
@@ -48,12 +52,15 @@ has_more n text = nat_lt n (length (lines_of text))
 abbrev pub occurring : List (List ℕ) → List ℕ → List ℤ
 occurring words text = map pos (places (λ word. has_word word text) words)
 
--- What a task does on what it finds: it hands a value on, to those of its successors that the answer names; or it has a job
--- run in its place; or it comes to nothing, since that job would have so many parts.
+-- What a task does on what it finds: it hands a text on, to those of its successors that the answer names; or, as a cell
+-- of a pipeline, a token with its text; or it has a job run in its place; or it comes to nothing, since that job would
+-- have so many parts, or since the least token that never passes is this one.
 pub data OpMeaning : Type 0 where
   hands_over : List ℕ → Answer → OpMeaning
+  moves_on : CellItem → Answer → OpMeaning
   runs : TextJob → OpMeaning
   too_wide : ℕ → OpMeaning
+  never_passes : ℕ → OpMeaning
 
 -- The parts of a text are run, where they aren't too many.
 abbrev pub spread_meaning : ℕ → TextOp → List ℕ → OpMeaning
@@ -63,6 +70,11 @@ spread_meaning n each text =
 -- A module's graph is started with a text that may be a value. One that is too long is a fault as if it were handed on.
 abbrev pub module_meaning : GraphWork → ℕ → List ℕ → OpMeaning
 module_meaning work m text = if nat_le (length text) value_limit then runs (Graph (module_work work m text)) else hands_over text Each
+
+-- The parts of a text go through the pipes, where they aren't too many.
+abbrev pub pipe_meaning : PipePlan → List ℕ → OpMeaning
+pipe_meaning plan text =
+    if nat_le (part_count plan.chunk text) token_limit then runs (Pipe (pipe_work plan text)) else too_wide (part_count plan.chunk text)
 
 -- One row for each operation.
 abbrev pub op_meaning : GraphWork → List (InputValue Item) → Op → OpMeaning
@@ -76,3 +88,4 @@ op_meaning work found (IfHas word) = hands_over (text_found found) (if has_word 
 op_meaning work found (Route words) = hands_over (text_found found) (Indices (occurring words (text_found found)))
 op_meaning work found (Spread n each) = spread_meaning n each (text_found found)
 op_meaning work found (Module m) = module_meaning work m (text_found found)
+op_meaning work found (PipeOp plan) = pipe_meaning plan (text_found found)

@@ -2,6 +2,7 @@
 pub mod Works
 pub mod Finding
 pub mod Working
+pub mod CellInputs
 pub mod Gathering
 pub mod WorkedPlans
 pub mod OneByOne

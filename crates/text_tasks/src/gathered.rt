@@ -31,17 +31,16 @@ pub(crate) fn gathered_text(
 ) -> Result<Text, ApplyError>
     ensures { Makes (sink_texts net.now 0 (task_values net.now run.now)) result }
 {
-    let texts = texts_of_sinks(alloc, net, run)?;
-    match texts.as_slice() {
-        [text] => pass(text),
-        texts => joined(alloc, texts),
-    }
+    joined(alloc, texts_of_sinks(alloc, net, run)?.as_slice())
 }
 
-// These texts, one behind the other.
-fn joined(alloc: Global, texts: &[Text]) -> Result<Text, ApplyError>
+// These texts, one behind the other. Where there is just one its bytes are shared.
+pub(crate) fn joined(alloc: Global, texts: &[Text]) -> Result<Text, ApplyError>
     ensures { Makes (all_of texts.now) result }
 {
+    if let [text] = texts {
+        return pass(text);
+    }
     let mut made = Joined::new(alloc);
     for text in texts {
         made.add(pass(text))?;
@@ -77,14 +76,14 @@ fn add_sink(
         ≡ all_of texts.old ++ sink_text net.now task (last_value (journal_of run) (values_of run) task)) }
 {
     if net.out_edges(task).is_empty() {
-        add_value(texts, values.get(task))
+        add_value(texts, values.get(task as usize))
     } else {
         Ok(())
     }
 }
 
 // Adds the text of a value, if there is one and its text isn't empty.
-fn add_value(texts: &mut List<Text>, value: Option<&Item>) -> Result<(), NoMemory>
+pub(crate) fn add_value(texts: &mut List<Text>, value: Option<&Item>) -> Result<(), NoMemory>
     ensures { OnOk result (all_of texts.new
         ≡ all_of texts.old ++ option_map_or item_text (option_copied value.entry) []) }
 {
@@ -106,15 +105,18 @@ fn add_text(texts: &mut List<Text>, text: &Text) -> Result<(), NoMemory>
     Ok(())
 }
 
-// What the tasks of a run ended with: the place of each task's last End, and the value of the End at each place.
+// What a run ended with, by the numbers of tasks or by the places of tokens: where the last End of each is, and the value
+// of the End at each place of the journal.
 #[derive(Drop)]
-struct LastValues {
-    ends: Vec<Option<u64>>,
-    values: Vec<Option<Arc<Item>>>,
+pub(crate) struct LastValues {
+    pub(crate) ends: Vec<Option<u64>>,
+    pub(crate) values: Vec<Option<Arc<Item>>>,
 }
 
 impl LastValues {
-    // Of so many tasks. It walks over the journal once and over the values once.
+    ghost use Rattle.text_tasks.specs.inside.Gathering.{last_held};
+
+    // What so many tasks ended with, by their numbers. It walks over the journal once and over the values once.
     fn of(alloc: Global, run: &FrameRun<TextJob>, tasks: usize) -> Result<LastValues, NoMemory>
         ensures { IfOk result (AreLastValues run.now tasks) }
     {
@@ -123,12 +125,11 @@ impl LastValues {
         Ok(LastValues { ends, values })
     }
 
-    // The value of a task's last End.
-    fn get(&self, task: u32) -> Option<&Item>
-        ensures { (run : FrameRun TextJob Item) (tasks : ℕ) → AreLastValues run tasks self.now → task < tasks
-            → option_copied result ≡ last_value (journal_of run) (values_of run) task }
+    // The value of a number's last End.
+    pub(crate) fn get(&self, number: usize) -> Option<&Item>
+        ensures { option_copied result ≡ last_held self.now number }
     {
-        let place = (*self.ends.get(task as usize)?)?;
+        let place = (*self.ends.get(number)?)?;
         match self.values.get(place as usize)? {
             Some(value) => Some(value),
             None => None,

@@ -17,7 +17,7 @@ impl Recurs for TextJob {
     fn next(&self, _: Global, run: &FrameRun<TextJob>) -> Result<TextJob, NoMemory> {
         match self {
             TextJob::Graph(job) => Ok(TextJob::Graph(job.again(shared_feedback(run)?)?)),
-            TextJob::Parts(_) => unreachable!(),
+            TextJob::Parts(_) | TextJob::Pipe(_) => unreachable!(),
         }
     }
 }

@@ -82,7 +82,7 @@ pub(crate) fn parts_job(
 }
 
 // The same operation once more.
-fn copy_of(op: &TextOp) -> Result<TextOp, NoMemory>
+pub(crate) fn copy_of(op: &TextOp) -> Result<TextOp, NoMemory>
     ensures { IfOk result (λ copy. copy ≡ op.now) }
 {
     Ok(match op {

@@ -15,6 +15,8 @@ pub(crate) enum TaskError {
     Long(u64),
     // The run in its place would have so many parts, which are too many.
     Wide(u64),
+    // The token, the least of those that are left, never passes.
+    Unmet(u64),
     // An allocation failed.
     NoMemory,
 }
@@ -84,6 +86,7 @@ impl From<TaskError> for JobError {
         match error {
             TaskError::Long(bytes) => JobError::Fault(Why::Long(bytes)),
             TaskError::Wide(parts) => JobError::Fault(Why::Wide(parts)),
+            TaskError::Unmet(token) => JobError::Fault(Why::Unmet(token)),
             TaskError::NoMemory => JobError::NoMemory,
         }
     }

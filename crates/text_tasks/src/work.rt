@@ -1,6 +1,6 @@
 // The work of each operation.
 ghost use Rattle.std.specs.Prelude.{◌≡◌, ◌<◌, ◌≤◌, [], length, if◌then◌else◌, slice_index_or, IfOk};
-ghost use Rattle.graph_plans.specs.Operations.{IsOp};
+ghost use Rattle.graph_plans.specs.Operations.{HasPipeline, IsOp};
 ghost use Rattle.text_ops.specs.TextMeaning.{match_meaning, sort_meaning};
 ghost use Rattle.text_ops.specs.Values.{Makes};
 ghost use Rattle.text_tasks.specs.FoundTexts.{left_found, right_found};
@@ -14,6 +14,7 @@ use crate::item::Item;
 use crate::job::TextJob;
 use crate::one_by_one::{filtered, first_lines, found_lines, last_lines, later_lines};
 use crate::parts_job::parts_job;
+use crate::pipe_job::pipe_job;
 use crate::task_error::TaskError;
 use graph_plans::{Op, TextOp};
 use join_words::Ins;
@@ -33,7 +34,8 @@ impl GraphJob {
         op: &Op,
         ins: &Ins<Item>,
     ) -> Result<Done<TextJob>, TaskError>
-        requires { IsOp (length self.now.texts) (length self.now.plan.modules) op.now }
+        requires op { IsOp (length self.now.texts) (length self.now.plan.modules) op.now }
+        requires pipeline { HasPipeline op.now }
         ensures { DoesAs (op_meaning self.now (founds ins.now) op.now) result }
     {
         match op {
@@ -62,6 +64,7 @@ impl GraphJob {
             }
             Op::Spread(lines, each) => Ok(Done::Inner(parts_job(alloc, *lines, each, ins)?)),
             Op::Module(module) => Ok(Done::Inner(self.module_job(alloc, *module, ins)?)),
+            Op::Pipe(plan) => Ok(Done::Inner(pipe_job(alloc, plan, ins)?)),
         }
     }
 

@@ -13,7 +13,7 @@ use Rattle.text_ops.specs.declared.gathered.ApplyError.TheVariants as apply
 use Rattle.text_tasks.specs.declared.item.Item.{Item}
 use Rattle.text_tasks.specs.declared.job.TextJob.{TextJob}
 use Rattle.text_tasks.specs.declared.task_error.TaskError.{TaskError}
-use Rattle.text_tasks.specs.declared.task_error.TaskError.TheVariants.{Long, Wide, NoMemory}
+use Rattle.text_tasks.specs.declared.task_error.TaskError.TheVariants.{Long, Wide, Unmet, NoMemory}
 use Rattle.text_tasks.specs.JobMeaning.{AnswersAs, FaultsAs, task_meaning}
 use Rattle.text_tasks.specs.OpMeaning.{OpMeaning}
 
@@ -30,12 +30,14 @@ error_of_spread spread.NoMemory = NoMemory
 abbrev pub job_error : TaskError → JobError
 job_error (Long bytes) = job.Fault (why.Long bytes)
 job_error (Wide parts) = job.Fault (why.Wide parts)
+job_error (Unmet token) = job.Fault (why.Unmet token)
 job_error NoMemory = job.NoMemory
 
 -- why work comes to nothing; an allocation may always fail
 abbrev pub RefusesAs : OpMeaning → TaskError → Type 0
 RefusesAs meaning (Long bytes) = FaultsAs meaning (why.Long bytes)
 RefusesAs meaning (Wide parts) = FaultsAs meaning (why.Wide parts)
+RefusesAs meaning (Unmet token) = FaultsAs meaning (why.Unmet token)
 RefusesAs meaning NoMemory = Unit {0}
 
 -- what work comes to, or why to nothing

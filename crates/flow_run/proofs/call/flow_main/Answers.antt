@@ -3,7 +3,7 @@ use Rattle.call_status.specs.declared.status.Status.TheVariants.{WriteFault, NoM
 use Rattle.std.specs.Prelude.{map}
 use Rattle.std.specs.String.{string_bytes}
 use Rattle.flow_run.proofs.Completing.{completes}
-use Rattle.flow_run.proofs.Plainly.{kept_plainly, plain_completes, plain_done}
+use Rattle.flow_run.proofs.Plainly.{kept_in_order, kept_plainly, plain_completes, plain_done}
 use Rattle.outside_io.specs.Sink.{Took}
 use Rattle.flow_run.proofs.Ending.{no_read_fault}
 use Rattle.flow_run.proofs.Upgrading.{upgrade_done}
@@ -46,3 +46,7 @@ returns-clause-upgrades g c = λ file asks done.
     let did = c.answer-status.ensures in
     upgrade_done (g.F.Texts.held c.args.texts.now) file _ _ (map string_bytes c.args.words.now) c.answer-status.result.status c.answer-status.result.runs _ did.ends asks done
     (did.output.whole (did.output.done done))
+
+pub returns-clause-pipes : goal.returns-clause-pipes
+returns-clause-pipes g c =
+    kept_in_order (g.F.Texts.held c.args.texts.now) (map string_bytes c.args.words.now) c.answer-status.result.status c.answer-status.result.runs _ c.answer-status.ensures.ends

@@ -5,7 +5,7 @@ use Rattle.text_ops.specs.Lines.{IsNormal}
 use Rattle.text_ops.specs.inside.Cuts.{IsCut}
 use Rattle.text_ops.specs.inside.Parting.{PartsSoFar}
 use Rattle.text_ops.proofs.CutLemmas.{IsNormal-behind}
-use Rattle.text_ops.proofs.PartLemmas.{PartsSoFar-next, piece_normal, piece_within}
+use Rattle.text_ops.proofs.PartLemmas.{PartsSoFar-next}
 use Rattle.text_ops.proofs.text_parts.line_parts.Goals as goal
 
 pub first_lines-requires : goal.first_lines-requires

@@ -1,5 +1,4 @@
-use Rattle.std.proofs.Common.{◌≡◌, ◌+◌, ◌<◌, ℕ, List, [], ◌++◌, length, drop, sym, ap, subst, ◌∙◌, append-nil, append_assoc, arith}
-use Rattle.run_frame.specs.declared.run.FrameRun.{FrameRun}
+use Rattle.std.proofs.Common.{◌+◌, ℕ, List, ◌++◌, length, drop, sym, ap, subst, ◌∙◌, append-nil, append_assoc, arith}
 use Rattle.text_tasks.specs.Sinks.{sink_texts, task_values}
 use Rattle.text_tasks.specs.inside.Gathering.{AreLastValues, all_of}
 use Rattle.text_tasks.proofs.GatherLemmas.{sink_texts-end, sink_texts-next}

@@ -1,0 +1,2 @@
+-- Internal: what the private functions say to one another.
+pub mod Amongs
