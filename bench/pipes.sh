@@ -1,6 +1,6 @@
 #!/usr/bin/env bash
 # Measures pipelines. By instructions, one worker: a start in 65,000 tokens that go through three pipes, beside a start
-# of a graph of 10,000 tasks in a row, both without what reading the file and the text takes; and the order of tokens of
+# of a graph of 10,000 tasks in a row, of whole calls, and without what reading the files takes; and the order of tokens of
 # which 256 wait for others, for 8,192, 16,384 and 65,536 of them. By the clock: 254 parts of 5,000 lines that a
 # parallel pipe sorts, by four workers, beside four programs at once that each do a quarter of it. All timed calls
 # are made in turn, nine of each or as many as the argument says. It needs python3 and valgrind, says the load before and
@@ -60,10 +60,12 @@ open("line.txt", "w").write("x\n")
 names = ["r", "t"] + [f"k{k}" for k in range(TASKS - 2)]
 write("row", [{"name": "r", "op": "read", "text": "line.txt", "to": ["t"]}]
       + [{"name": name, "op": "pass", "to": [after]} for name, after in zip(names[1:], names[2:])] + [{"name": names[-1], "op": "pass"}])
-piped = (instructions("run", "pipes.json", *one) - instructions("run", "no-pipes.json", *one)) / (3 * TOKENS + 1)
-plain = (instructions("run", "row.json", *one) - instructions("check", "row.json")) / TASKS
-print(f"{TOKENS:,} tokens through three pipes, one worker: {piped:,.0f} instructions a start; a task of {TASKS:,} in a row, without reading its file: "
-      f"{plain:,.0f}; ratio {piped / plain:.2f}")
+pipes, row = instructions("run", "pipes.json", *one), instructions("run", "row.json", *one)
+print(f"{TOKENS:,} tokens through three pipes, one worker: {pipes / (3 * TOKENS + 1):,.0f} instructions a start; {TASKS:,} tasks in a row: {row / TASKS:,.0f}; "
+      f"ratio {pipes / (3 * TOKENS + 1) / (row / TASKS):.2f}")
+piped = (pipes - instructions("run", "no-pipes.json", *one)) / (3 * TOKENS + 1)
+plain = (row - instructions("check", "row.json")) / TASKS
+print(f"  without reading files: {piped:,.0f} and {plain:,.0f}; ratio {piped / plain:.2f}")
 
 # ---- the order of tokens
 for tokens in (8_192, 16_384, 65_536):

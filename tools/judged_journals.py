@@ -87,7 +87,7 @@ def read_slowly(text):
 # ---- a slow judge
 
 # What an operation makes of its task; the others make a plain task.
-SHAPES = {"back": "choice", "ifmore": "choice", "ifhas": "choice", "route": "many", "spread": "nested", "module": "nested"}
+SHAPES = {"back": "choice", "ifmore": "choice", "ifhas": "choice", "route": "many", "spread": "nested", "module": "nested", "pipe": "nested"}
 
 
 class Net:
